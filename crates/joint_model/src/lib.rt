@@ -1,0 +1,19 @@
+// The joint model of a garbage collector bridge: the types that all other crates share, and the
+// definitions of the one machine whose graph joins the managed heap, the peer heap and the handles.
+//
+// A history is a list of entries. Each entry is one atomic step of a thread, with its reply. `specs/`
+// says which histories are lawful, and what the joint machine does at each entry.
+#![tactic(auto)]
+
+mod events;
+mod lines;
+mod lists;
+mod names;
+
+pub use events::{Entry, Made, Op, Reply};
+pub use lines::Act;
+pub use lists::{Alive, Entries};
+pub use names::{
+    Cell, Cycle, GName, HNum, Kind, MNum, Marking, PNum, Phase, PhaseWord, Sort, Span, StaticNo,
+    Thread, Var,
+};

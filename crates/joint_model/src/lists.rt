@@ -1,0 +1,155 @@
+// Lists with room that is known: the entries of one side or one reader, and the answers of a cycle's
+// candidates.
+
+ghost use Rattle.std.specs.Prelude.{◌≡◌, ◌+◌, ◌≤◌, ◌<◌, ◌-◌, ◌==◌, [], ◌∷◌, ◌++◌, length, slice_get, IfOk, OnErr};
+
+use crate::events::Entry;
+use std::alloc::{AllocError, Global};
+use std::marker::Model;
+
+/// The most entries that an [`Entries`] holds.
+const MOST: usize = 4_294_967_295;
+
+/// The entries of one side or one reader, in the order in which they were made. It holds at most
+/// 4,294,967,295; a growth past that is refused as a growth.
+#[derive(Drop)]
+pub struct Entries {
+    list: Vec<Entry>,
+}
+
+impl Model for Entries {
+    ghost use Rattle.std.specs.Prelude.{◌-◌, ◌≤◌, vec_len, vec_capacity, min};
+    ghost use Rattle.joint_model.specs.Listed.{Stock};
+
+    ghost Value = { Stock };
+
+    ghost view = { λ s. record { entries = s.list.items; spare = min (vec_capacity s.list) 4294967295 - vec_len s.list } };
+
+    ghost invariant = { λ s. vec_len s.list ≤ 4294967295 };
+}
+
+impl Entries {
+    /// The empty list, which keeps the allocator.
+    pub fn new(alloc: Global) -> Entries
+        ensures entries { result.entries ≡ [] }
+        ensures spare { result.spare ≤ 4294967295 }
+    {
+        Entries {
+            list: Vec::new(alloc),
+        }
+    }
+
+    /// Makes room: afterwards `spare` is at least `n`, and never less than it was. Answers `AllocError`
+    /// where there is no memory, or where the list would hold more than 4,294,967,295 entries; the list
+    /// is then as before.
+    pub fn reserve(&mut self, n: u32) -> Result<(), AllocError>
+        ensures room { IfOk result (λ _. n ≤ self.new.spare) }
+        ensures kept { self.old.spare ≤ self.new.spare }
+        ensures entries { self.new.entries ≡ self.old.entries }
+        ensures limit { length self.new.entries + self.new.spare ≤ 4294967295 }
+        ensures err { OnErr result (self.new ≡ self.old) }
+    {
+        if n as usize > MOST - self.list.len() {
+            return Err(AllocError);
+        }
+        self.list.reserve(n as usize)
+    }
+
+    /// Puts an entry last. It takes no memory.
+    pub fn push(&mut self, entry: Entry)
+        requires { 1 ≤ self.old.spare }
+        ensures entries { self.new.entries ≡ self.old.entries ++ entry ∷ [] }
+        ensures spare { self.new.spare + 1 ≡ self.old.spare }
+    {
+        self.list.push_reserved(entry);
+    }
+
+    /// For how many more entries there is room.
+    pub fn spare(&self) -> u32
+        ensures spare { result ≡ self.now.spare }
+        ensures limit { length self.now.entries + result ≤ 4294967295 }
+    {
+        (self.list.capacity().min(MOST) - self.list.len()) as u32
+    }
+
+    /// The number of entries.
+    pub fn len(&self) -> u32
+        ensures { result ≡ length self.now.entries }
+    {
+        self.list.len() as u32
+    }
+
+    /// Whether there is no entry.
+    pub fn is_empty(&self) -> bool
+        ensures { result ≡ (length self.now.entries == 0) }
+    {
+        self.list.is_empty()
+    }
+
+    /// The entry at place `i`, from 0; None exactly where `i` isn't below the length.
+    pub fn at(&self, i: u32) -> Option<Entry>
+        ensures { result ≡ slice_get self.now.entries i }
+    {
+        self.list.as_slice().get(i as usize).copied()
+    }
+}
+
+/// One truth value for each candidate of a cycle, in rising managed number: whether its restore answered
+/// alive.
+#[derive(Drop)]
+pub struct Alive {
+    list: Vec<bool>,
+}
+
+impl Model for Alive {
+    ghost use Rattle.std.specs.Prelude.{◌-◌, ◌≤◌, vec_len, vec_capacity};
+    ghost use Rattle.joint_model.specs.Listed.{Answers};
+
+    ghost Value = { Answers };
+
+    ghost view = { λ s. record { values = s.list.items; room = vec_capacity s.list - vec_len s.list } };
+
+    ghost invariant = { λ s. vec_capacity s.list ≤ 4294967295 };
+}
+
+impl Alive {
+    /// The empty list with room for `room` values; `AllocError` where there is no memory for it.
+    pub fn new(alloc: Global, room: u32) -> Result<Alive, AllocError>
+        ensures values { IfOk result (λ a. a.values ≡ []) }
+        ensures room { IfOk result (λ a. a.room ≡ room) }
+    {
+        Ok(Alive {
+            list: Vec::with_capacity(alloc, room as usize)?,
+        })
+    }
+
+    /// Puts a value last. It takes no memory.
+    pub fn push(&mut self, alive: bool)
+        requires { 1 ≤ self.old.room }
+        ensures values { self.new.values ≡ self.old.values ++ alive ∷ [] }
+        ensures room { self.new.room + 1 ≡ self.old.room }
+    {
+        self.list.push_reserved(alive);
+    }
+
+    /// The value at place `i`, from 0; None exactly where `i` isn't below the length.
+    pub fn at(&self, i: u32) -> Option<bool>
+        ensures { result ≡ slice_get self.now.values i }
+    {
+        self.list.as_slice().get(i as usize).copied()
+    }
+
+    /// The number of values.
+    pub fn len(&self) -> u32
+        ensures { result ≡ length self.now.values }
+    {
+        self.list.len() as u32
+    }
+
+    /// Whether there is no value.
+    pub fn is_empty(&self) -> bool
+        ensures { result ≡ (length self.now.values == 0) }
+    {
+        self.list.is_empty()
+    }
+}
