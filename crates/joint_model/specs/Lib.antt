@@ -1,3 +1,6 @@
 pub mod Walks
 pub mod Components
 pub mod Listed
+pub mod Lines
+pub mod Draws
+pub mod Histories

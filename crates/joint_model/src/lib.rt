@@ -5,12 +5,16 @@
 // says which histories are lawful, and what the joint machine does at each entry.
 #![tactic(auto)]
 
+mod draws;
 mod events;
+mod finished;
 mod lines;
 mod lists;
 mod names;
 
+pub use draws::{Counter, Draw, counted_in_turn, drawn_in_turn};
 pub use events::{Entry, Made, Op, Reply};
+pub use finished::History;
 pub use lines::Act;
 pub use lists::{Alive, Entries};
 pub use names::{

@@ -1,0 +1,61 @@
+-- A finished history: its entries by number, and the lists that the spans of its replies name.
+use Rattle.std.specs.Prelude.{◌≡◌, ℕ, ◌+◌, ◌<◌, ◌≤◌, List, [], ◌∷◌, length, take, drop, map, All, Contains, Some, slice_get, sum_by}
+use Rattle.joint_model.specs.declared.names.MNum.{MNum}
+use Rattle.joint_model.specs.declared.names.PNum.{PNum}
+use Rattle.joint_model.specs.declared.names.Span.{Span}
+use Rattle.joint_model.specs.declared.events.Entry.{Entry}
+use Rattle.joint_model.specs.declared.events.Reply.{Reply}
+use Rattle.joint_model.specs.declared.events.Reply.TheVariants as reply
+use Rattle.joint_model.specs.Components.{Rises}
+use Rattle.joint_model.specs.Draws.{NumberedFrom}
+use Rattle.joint_model.specs.Lines.{IsEvent}
+
+-- a history as a value: entry i has number i
+pub record Finished : Type 0 where
+  pub entries : List Entry
+  pub freed_managed : List MNum
+  pub freed_peers : List PNum
+  pub notices : List MNum
+
+-- the numbers of managed objects, as numbers
+abbrev pub managed_numbers : List MNum → List ℕ
+managed_numbers ms = map (λ m. m.0) ms
+
+-- the numbers of peers, as numbers
+abbrev pub peer_numbers : List PNum → List ℕ
+peer_numbers ps = map (λ p. p.0) ps
+
+-- the stretch of a list that a span names
+abbrev pub stretch : {A : Type 0} → List A → Span → List A
+stretch xs s = take s.count (drop s.first xs)
+
+-- the span ends within a list of that many
+abbrev pub IsWithin : Span → ℕ → Type 0
+IsWithin s n = s.first + s.count ≤ n
+
+-- a span in the reply lies in its list and, but for notices, rises there
+abbrev pub HasSpans : List MNum → List PNum → List MNum → Reply → Type 0
+HasSpans ms ps ns (reply.Snapped n s) = IsWithin s (length ms) × Rises (managed_numbers (stretch ms s))
+HasSpans ms ps ns (reply.Swept j s) = IsWithin s (length ps) × Rises (peer_numbers (stretch ps s))
+HasSpans ms ps ns (reply.Freed s) = IsWithin s (length ms) × Rises (managed_numbers (stretch ms s))
+HasSpans ms ps ns (reply.Took s) = IsWithin s (length ns)
+HasSpans ms ps ns _ = Unit {0}
+
+-- the entry's event is one that a history can have, and the spans of its reply lie in the lists
+pub record IsSound (ms : List MNum) (ps : List PNum) (ns : List MNum) (e : Entry) : Type 0 where
+  pub event : IsEvent e.made.caller e.made.op
+  pub spans : HasSpans ms ps ns e.made.reply
+
+-- what every history keeps: the numbers are those from 0 on, each event is one, each span lies in its list
+pub record IsHistory (h : Finished) : Type 0 where
+  pub numbers : NumberedFrom 0 h.entries
+  pub sound : All (IsSound h.freed_managed h.freed_peers h.notices) h.entries
+
+-- the lists hold together the entries of the whole, each once, and each list rises: every entry of a list
+-- stands in the whole at its number, every entry of the whole stands in a list, and there are as many
+pub record IsShuffle (lists : List (List Entry)) (whole : List Entry) : Type 0 where
+  pub numbers : NumberedFrom 0 whole
+  pub rise : All (λ list. Rises (map (λ e. e.number) list)) lists
+  pub placed : All (λ list. All (λ e. slice_get whole e.number ≡ Some e) list) lists
+  pub covered : All (λ e. (list : List Entry) × Contains lists list × Contains list e) whole
+  pub count : length whole ≡ sum_by length lists
