@@ -1,0 +1,40 @@
+-- The joint machine's state as a function of both sides' replays. The one thing in which both meet is whether a handle is
+-- removed: a candidate's handle that was cleared leaves the table at its restore, while its row holds it until the
+-- resolution.
+use Rattle.std.specs.Prelude.{ℕ, ◌+◌, Bool, true, false, ◌||◌, ◌&&◌, not, nat_eq, List, [], ◌∷◌, Option, Some, None}
+use Rattle.joint_model.specs.Joint.{Joint, JointMarking}
+use Rattle.joint_model.specs.Managed.{Managed, handle_of}
+use Rattle.joint_model.specs.PeerReplay.{PeerReplay, TableRow, Marking}
+
+-- whether the handle that an object holds is this one
+abbrev pub is_that_handle : Option ℕ → ℕ → Bool
+is_that_handle None h = false
+is_that_handle (Some g) h = nat_eq g h
+
+-- whether an unfreed object from number x on holds the handle, with a list as long as the objects that are left
+abbrev pub is_owned_from : Managed → ℕ → ℕ → List (Option ℕ) → Bool
+is_owned_from s h x [] = false
+is_owned_from s h x (o ∷ os) = is_that_handle (handle_of s x) h || is_owned_from s h (x + 1) os
+
+-- whether some unfreed object holds the handle
+abbrev pub is_owned : Managed → ℕ → Bool
+is_owned s h = is_owned_from s h 1 s.held
+
+-- whether a place of the table is empty
+abbrev pub is_untabled : Option TableRow → Bool
+is_untabled None = true
+is_untabled (Some row) = false
+
+-- of each handle from number h on whether it is removed: it isn't in the table, and no unfreed object holds it
+abbrev pub removed_from : Managed → ℕ → List (Option TableRow) → List Bool
+removed_from s h [] = []
+removed_from s h (row ∷ rows) = (is_untabled row && not (is_owned s h)) ∷ removed_from s (h + 1) rows
+
+-- the open marking, with the peers that were unreached at its begin
+abbrev pub joint_marking : Option Marking → List ℕ → Option JointMarking
+joint_marking None unreached = None
+joint_marking (Some mk) unreached = Some record { number = mk.number; by = mk.by; unreached = unreached }
+
+-- the joint state of a managed and a peer state, with the peers that were unreached at the open marking's begin
+abbrev pub joint_of : Managed → PeerReplay → List ℕ → Joint
+joint_of s p unreached = record { managed = s; peers = p.peers; removed = removed_from s 1 p.table; marking = joint_marking p.marking unreached; markings = p.markings }

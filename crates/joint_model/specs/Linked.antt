@@ -1,0 +1,111 @@
+-- Linked histories: the one list of entries in which both sides' own lists are lawful, the citations agree, and each
+-- caller's events come in their order. And the joint projection: the entries that are steps of the joint machine.
+use Rattle.std.specs.Prelude.{◌≡◌, ℕ, ◌+◌, ◌≤◌, Bool, true, false, if◌then◌else◌, MatchBool, List, [], ◌∷◌, length, map, filter, Option, Some, None}
+use Rattle.joint_model.specs.declared.names.Thread.{Thread}
+use Rattle.joint_model.specs.declared.lines.Act.TheVariants as act
+use Rattle.joint_model.specs.declared.events.Op.{Op}
+use Rattle.joint_model.specs.declared.events.Op.TheVariants as op
+use Rattle.joint_model.specs.declared.events.Made.{Made}
+use Rattle.joint_model.specs.Control.{Control, opening_control, CallerAllows, control_after, last_line, candidates_of, doing_at, IsDone, IsAtRest}
+use Rattle.joint_model.specs.Heaps.{Answered}
+use Rattle.joint_model.specs.Histories.{Finished, managed_numbers, peer_numbers}
+use Rattle.joint_model.specs.Lines.{IsEvent, is_peer_event}
+use Rattle.joint_model.specs.ManagedReplay.{ManagedReplay, opening_replay, managed_answer, ManagedAllows}
+use Rattle.joint_model.specs.PeerReplay.{PeerReplay, opening_peer_replay, peer_answer, PeerAllows}
+use Rattle.joint_model.specs.Told.{Told, Noted}
+
+-- both sides' replays, the callers' control, and the number of entries so far
+pub record Linkage : Type 0 where
+  pub managed : ManagedReplay
+  pub peer : PeerReplay
+  pub control : Control
+  pub count : ℕ
+
+-- before the first entry
+abbrev pub opening_linkage : Linkage
+opening_linkage = record { managed = opening_replay; peer = opening_peer_replay; control = opening_control; count = 0 }
+
+-- a managed entry is lawful: what it asks for holds, and its reply is the replay's
+pub record ManagedLawful (s : ManagedReplay) (m : Made) (told : Told) : Type 0 where
+  pub allowed : ManagedAllows s m.op told
+  pub replies : m.reply ≡ (managed_answer s m.caller m.op told).reply
+
+-- a peer entry is lawful: what it asks for holds, and its reply is the replay's
+pub record PeerLawful (s : PeerReplay) (m : Made) (told : Told) : Type 0 where
+  pub allowed : PeerAllows s m.caller m.op m.cites told
+  pub replies : m.reply ≡ (peer_answer s m.caller m.op m.cites told).reply
+
+-- the entry's own side finds it lawful
+abbrev pub SideLawful : Bool → Linkage → Made → Told → Type 0
+SideLawful true s m told = PeerLawful s.peer m told
+SideLawful false s m told = ManagedLawful s.managed m told
+
+-- the entry may come next
+pub record MayCome (s : Linkage) (n : Noted) : Type 0 where
+  pub number : n.entry.number ≡ s.count
+  pub event : IsEvent n.entry.made.caller n.entry.made.op
+  pub line : last_line s.control n.entry.made.caller ≤ n.entry.made.index
+  pub lawful : SideLawful (is_peer_event n.entry.made.caller n.entry.made.op) s n.entry.made n.told
+  pub order : CallerAllows s.control s.managed.managed s.peer.peers.issued n.entry.made.caller n.entry.made.index n.entry.made.op n.entry.made.reply n.entry.made.cites n.told
+
+-- the sides after an entry: its own side moves, the other stays
+abbrev pub managed_after : ManagedReplay → Made → Told → Bool → ManagedReplay
+managed_after s m told true = s
+managed_after s m told false = (managed_answer s m.caller m.op told).state
+
+abbrev pub peer_after : PeerReplay → Made → Told → Bool → PeerReplay
+peer_after s m told true = (peer_answer s m.caller m.op m.cites told).state
+peer_after s m told false = s
+
+-- the state after an entry
+abbrev pub linkage_after : Linkage → Noted → Linkage
+linkage_after s n = record {
+    managed = managed_after s.managed n.entry.made n.told (is_peer_event n.entry.made.caller n.entry.made.op);
+    peer = peer_after s.peer n.entry.made n.told (is_peer_event n.entry.made.caller n.entry.made.op);
+    control = control_after s.control n.entry.made.caller n.entry.number n.entry.made.index n.entry.made.op n.entry.made.reply n.told;
+    count = s.count + 1 }
+
+-- the state after all entries of a list
+abbrev pub replayed : Linkage → List Noted → Linkage
+replayed s [] = s
+replayed s (n ∷ ns) = replayed (linkage_after s n) ns
+
+-- each entry of the list may come when it comes
+abbrev pub AllMayCome : Linkage → List Noted → Type 0
+AllMayCome s [] = Unit {0}
+AllMayCome s (n ∷ ns) = MayCome s n × AllMayCome (linkage_after s n) ns
+
+-- every operation and phase that has begun has all its events
+pub record IsWhole (s : Linkage) : Type 0 where
+  pub threads : (t : ℕ) → IsDone (doing_at s.control t)
+  pub driver : IsAtRest s.control.stand (length (candidates_of s.managed.managed))
+
+-- a history is linked by these notes, which are its entries with what is told beside them: each may come when it comes,
+-- the last state is whole, and the lists that its spans name are what was freed and what was queued
+pub record IsLinkedBy (h : Finished) (noted : List Noted) : Type 0 where
+  pub same : map (λ n. n.entry) noted ≡ h.entries
+  pub lawful : AllMayCome opening_linkage noted
+  pub whole : IsWhole (replayed opening_linkage noted)
+  pub freed_managed : managed_numbers h.freed_managed ≡ (replayed opening_linkage noted).managed.managed.heap.freed
+  pub freed_peers : peer_numbers h.freed_peers ≡ (replayed opening_linkage noted).peer.peers.heap.freed
+  pub notices : managed_numbers h.notices ≡ (replayed opening_linkage noted).managed.managed.notices
+
+-- a history is linked
+pub record IsLinked (h : Finished) : Type 0 where
+  pub noted : List Noted
+  pub linked : IsLinkedBy h noted
+
+-- whether the event is a step of the joint machine
+abbrev pub is_joint : Op → Bool
+is_joint (op.Line (act.Slice n)) = false
+is_joint (op.Contract k) = false
+is_joint (op.Mirror k) = false
+is_joint (op.Weaken h) = false
+is_joint (op.Restore h) = false
+is_joint (op.Clear k) = false
+is_joint (op.Refused w) = false
+is_joint _ = true
+
+-- the entries that are steps of the joint machine; their numbers stay
+abbrev pub joint_projection : List Noted → List Noted
+joint_projection ns = filter (λ n. is_joint n.entry.made.op) ns

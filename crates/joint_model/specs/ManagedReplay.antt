@@ -1,0 +1,140 @@
+-- The managed side by itself: its entries, by rising number, replayed. Nothing of the peer heap enters but what the
+-- entries say of it. (The registry of peers' twins is that of the Xamarin.Android documentation.)
+use Rattle.std.specs.Prelude.{◌≡◌, ℕ, ◌+◌, ◌↔◌, Bool, true, false, not, nat_eq, if◌then◌else◌, List, [], ◌∷◌, ◌++◌, length, filter, Contains, Option, Some, None}
+use Rattle.std.specs.List.{list_any}
+use Rattle.joint_model.specs.declared.names.Thread.{Thread}
+use Rattle.joint_model.specs.declared.names.Phase.{Phase}
+use Rattle.joint_model.specs.declared.names.Phase.TheVariants as at
+use Rattle.joint_model.specs.declared.names.PhaseWord.{PhaseWord}
+use Rattle.joint_model.specs.declared.names.PhaseWord.TheVariants as word
+use Rattle.joint_model.specs.declared.lines.Act.{Act}
+use Rattle.joint_model.specs.declared.events.Op.{Op}
+use Rattle.joint_model.specs.declared.events.Op.TheVariants as op
+use Rattle.joint_model.specs.declared.events.Reply.{Reply}
+use Rattle.joint_model.specs.declared.events.Reply.TheVariants as says
+use Rattle.joint_model.specs.Cycles.{IsSnapshot, snap_reply, IsResolution, resolve_reply, IsOpen, IsDeadContraction, IsAnsweredAlive}
+use Rattle.joint_model.specs.Heaps.{Answered, answer, slot, place}
+use Rattle.joint_model.specs.Managed.{Managed, OpenCycle, opening_managed, managed_line, adopted, met, given_up, handle_reply, snapped, resolved, abandoned}
+use Rattle.joint_model.specs.Run.{thread_number}
+use Rattle.joint_model.specs.Told.{Told, nothing, snap_of, contraction_of, resolution_of, phase_of}
+
+-- beside the managed objects: the pairs of a peer and its twin, the handles that were ever adopted, and whether the
+-- open cycle's contraction was made
+pub record ManagedReplay : Type 0 where
+  pub managed : Managed
+  pub registry : List (ℕ × ℕ)
+  pub adopted : List ℕ
+  pub contracted : Bool
+
+-- nothing is there
+abbrev pub opening_replay : ManagedReplay
+opening_replay = record { managed = opening_managed; registry = []; adopted = []; contracted = false }
+
+-- the twin that the registry has for a peer
+abbrev pub registered : List (ℕ × ℕ) → ℕ → Option ℕ
+registered [] p = None
+registered (pair ∷ pairs) p = if nat_eq pair.0 p then Some pair.1 else registered pairs p
+
+-- the pair is registered, unless the peer has a twin
+abbrev pub with_twin : List (ℕ × ℕ) → ℕ → ℕ → Option ℕ → List (ℕ × ℕ)
+with_twin pairs p m None = pairs ++ (p, m) ∷ []
+with_twin pairs p m (Some twin) = pairs
+
+-- the pairs whose twin isn't in the list
+abbrev pub without_twins : List (ℕ × ℕ) → List ℕ → List (ℕ × ℕ)
+without_twins pairs ms = filter (λ pair. not (list_any (nat_eq pair.1) ms)) pairs
+
+-- an event of the managed objects that leaves the registry alone
+abbrev pub plainly : ManagedReplay → Answered Managed → Answered ManagedReplay
+plainly s a = answer a.reply (record s { managed = a.state })
+
+-- a handle was adopted by a new row on its peer
+abbrev pub took_handle : ManagedReplay → ℕ → ℕ → ℕ → Managed → ManagedReplay
+took_handle s p h m after = record s { managed = after; registry = with_twin s.registry p m (registered s.registry p); adopted = s.adopted ++ h ∷ [] }
+
+-- an `adopt` by its answer: a new row is registered as the twin of its peer
+abbrev pub adopt_by : ManagedReplay → ℕ → ℕ → Managed → Reply → Answered ManagedReplay
+adopt_by s p h after (says.M m) = answer (says.M m) (took_handle s p h m.0 after)
+adopt_by s p h after r = answer r (record s { managed = after })
+
+-- a `meet` by its answer: a new row is registered as the twin of its peer
+abbrev pub meet_by : ManagedReplay → ℕ → ℕ → Managed → Reply → Answered ManagedReplay
+meet_by s p h after (says.New m) = answer (says.New m) (took_handle s p h m.0 after)
+meet_by s p h after r = answer r (record s { managed = after })
+
+-- a `give`: the registry forgets the pair of the row
+abbrev pub give_by : ManagedReplay → Option ℕ → Answered Managed → Answered ManagedReplay
+give_by s None a = plainly s a
+give_by s (Some m) a = answer a.reply (record s { managed = a.state; registry = without_twins s.registry (m ∷ []) })
+
+-- the reply that names the open cycle; idle where none is open
+abbrev pub open_reply : Option OpenCycle → Reply
+open_reply None = says.At at.Idle
+open_reply (Some c) = says.CycleOpen record { 0 = c.number }
+
+-- the reply of a refused phase: the open cycle's number for `cycle` and `snap`, else the driver's phase
+abbrev pub refusal_to : Managed → Phase → PhaseWord → Reply
+refusal_to s phase word.Cycle = open_reply s.cycle
+refusal_to s phase word.Snap = open_reply s.cycle
+refusal_to s phase _ = says.At phase
+
+-- the reply to each managed event, and the state after it, given what is told beside it
+abbrev pub managed_answer : ManagedReplay → Thread → Op → Told → Answered ManagedReplay
+managed_answer s t (op.Line a) told = plainly s (managed_line s.managed (thread_number t) a)
+managed_answer s t (op.Adopt v kind n p h) told = let a = adopted s.managed (place (thread_number t) v.0) kind n h.0 in adopt_by s p.0 h.0 a.state a.reply
+managed_answer s t (op.Lend v x) told = answer (handle_reply s.managed (place (thread_number t) v.0)) s
+managed_answer s t (op.Meet v p h sort n) told = let a = met s.managed (place (thread_number t) v.0) h.0 sort n (registered s.registry p.0) in meet_by s p.0 h.0 a.state a.reply
+managed_answer s t (op.Give v) told = let v' = place (thread_number t) v.0 in give_by s (slot s.managed.heap.vars v') (given_up s.managed v')
+managed_answer s t (op.Snap k) (snap_of freed candidates dead) = answer (snap_reply s.managed freed candidates) (record s { managed = snapped s.managed freed candidates dead; contracted = false })
+managed_answer s t (op.Contract k) (contraction_of comps xrefs) = answer (says.Sccs (length comps) (length xrefs)) (record s { contracted = true })
+managed_answer s t (op.Resolve k) (resolution_of alive freed) = answer (resolve_reply s.managed freed) (record s { managed = resolved s.managed freed; registry = without_twins s.registry freed })
+managed_answer s t (op.Abandon k) told = answer says.Ok (record s { managed = abandoned s.managed })
+managed_answer s t (op.Refused w) (phase_of phase) = answer (refusal_to s.managed phase w) s
+managed_answer s t _ told = answer says.Ok s
+
+-- cycle k is open, its contraction isn't made, and these are the components and cross-references of its dead part
+pub record MayContract (s : ManagedReplay) (k : ℕ) (comps : List (List ℕ)) (xrefs : List (ℕ × ℕ)) : Type 0 where
+  pub cycle : OpenCycle
+  pub open_cycle : IsOpen s.managed k cycle
+  pub once : s.contracted ≡ false
+  pub exact : IsDeadContraction s.managed cycle.dead comps xrefs
+
+-- cycle k is open, there is one answer for each candidate, and these are the rows that no candidate that was answered
+-- alive reaches
+pub record MayResolve (s : ManagedReplay) (k : ℕ) (alive : List Bool) (freed : List ℕ) : Type 0 where
+  pub cycle : OpenCycle
+  pub open_cycle : IsOpen s.managed k cycle
+  pub answers : length alive ≡ length cycle.candidates
+  pub resolution : IsResolution s.managed cycle.dead (IsAnsweredAlive cycle.candidates alive) freed
+
+-- a word is refused in a phase: `cycle` and `snap` where the driver isn't idle, each other word where the driver's
+-- phase isn't the one before its own
+abbrev pub IsRefusedIn : PhaseWord → Phase → Type 0
+IsRefusedIn word.Cycle phase = phase ≡ at.Idle → ⊥
+IsRefusedIn word.Snap phase = phase ≡ at.Idle → ⊥
+IsRefusedIn word.Contract phase = phase ≡ at.Snapped → ⊥
+IsRefusedIn word.Mirror phase = phase ≡ at.Contracted → ⊥
+IsRefusedIn word.Weaken phase = phase ≡ at.Mirrored → ⊥
+IsRefusedIn word.Mark phase = phase ≡ at.Weakened → ⊥
+IsRefusedIn word.Sweep phase = phase ≡ at.Marked → ⊥
+IsRefusedIn word.Restore phase = phase ≡ at.Swept → ⊥
+IsRefusedIn word.Resolve phase = phase ≡ at.Restored → ⊥
+
+-- a refusal: its word is refused in the driver's phase, which is idle exactly where no cycle is open
+pub record MayRefuse (s : ManagedReplay) (w : PhaseWord) (phase : Phase) : Type 0 where
+  pub refused : IsRefusedIn w phase
+  pub idle : (phase ≡ at.Idle) ↔ (s.managed.cycle ≡ None)
+
+-- what an event asks for, beside its reply
+abbrev pub ManagedAllows : ManagedReplay → Op → Told → Type 0
+ManagedAllows s (op.Line a) nothing = Unit {0}
+ManagedAllows s (op.Adopt v kind n p h) nothing = Contains s.adopted h.0 → ⊥
+ManagedAllows s (op.Lend v x) nothing = Unit {0}
+ManagedAllows s (op.Meet v p h sort n) nothing = Contains s.adopted h.0 → ⊥
+ManagedAllows s (op.Give v) nothing = Unit {0}
+ManagedAllows s (op.Snap k) (snap_of freed candidates dead) = IsSnapshot s.managed k.0 freed candidates dead
+ManagedAllows s (op.Contract k) (contraction_of comps xrefs) = MayContract s k.0 comps xrefs
+ManagedAllows s (op.Resolve k) (resolution_of alive freed) = MayResolve s k.0 alive freed
+ManagedAllows s (op.Abandon k) nothing = (c : OpenCycle) × IsOpen s.managed k.0 c
+ManagedAllows s (op.Refused w) (phase_of phase) = MayRefuse s w phase
+ManagedAllows s _ _ = ⊥

@@ -1,0 +1,189 @@
+-- The joint machine: one step for each entry, and its runs.
+use Rattle.std.specs.Prelude.{◌≡◌, ℕ, ◌+◌, ◌⊎◌, ◌↔◌, Bool, true, false, List, [], ◌∷◌, ◌++◌, length, map, filter, filter_map, All, Contains, Option, Some, None}
+use Rattle.joint_model.specs.declared.names.Thread.{Thread}
+use Rattle.joint_model.specs.declared.names.Thread.TheVariants.{M, P, C}
+use Rattle.joint_model.specs.declared.lines.Act.{Act}
+use Rattle.joint_model.specs.declared.lines.Act.TheVariants as act
+use Rattle.joint_model.specs.declared.events.Op.{Op}
+use Rattle.joint_model.specs.declared.events.Op.TheVariants as op
+use Rattle.joint_model.specs.declared.events.Reply.{Reply}
+use Rattle.joint_model.specs.declared.events.Reply.TheVariants as says
+use Rattle.joint_model.specs.Components.{Rises}
+use Rattle.joint_model.specs.Cycles.{IsSnapshot, snap_reply, IsResolution, resolve_reply, IsOpen}
+use Rattle.joint_model.specs.Heaps.{Answered, answer, slot, numbered_set, place, IsLive, with_freed}
+use Rattle.joint_model.specs.Joint.{Joint, JointMarking, opening, IsReached, peer, joint_target, twin_of}
+use Rattle.joint_model.specs.Lines.{IsEvent, IsPeerThread}
+use Rattle.joint_model.specs.Managed.{Managed, OpenCycle, managed_line, adopted, met, given_up, handle_reply, handle_of, Holds, snapped, resolved, abandoned}
+use Rattle.joint_model.specs.Peers.{Peers, peer_line, pair_made, gripped, landed, issued_since, peer_of}
+use Rattle.joint_model.specs.Told.{Told, snap_of, sweep_of, resolution_of, Noted}
+
+-- the number of a managed or a peer thread
+abbrev pub thread_number : Thread → ℕ
+thread_number (M n) = n
+thread_number (P n) = n
+thread_number C = 0
+
+-- an event of the managed part, as one of the joint machine
+abbrev pub on_managed : Joint → Answered Managed → Answered Joint
+on_managed j a = answer a.reply (record j { managed = a.state })
+
+-- an event of the peers, as one of the joint machine: the handles that it issues aren't removed
+abbrev pub on_peers : Joint → Answered Peers → Answered Joint
+on_peers j a = answer a.reply (record j { peers = a.state; removed = j.removed ++ map (λ i. false) (issued_since j.peers a.state) })
+
+-- the handle is removed
+abbrev pub without : Joint → Option ℕ → Joint
+without j None = j
+without j (Some h) = record j { removed = numbered_set j.removed h true }
+
+-- an event of a peer thread's line; `unglobal` removes the handle that its name had
+abbrev pub joint_peer_line : Joint → ℕ → Act → Answered Joint
+joint_peer_line j t (act.UnGlobal g) = on_peers (without j (slot j.peers.names g.0)) (peer_line (joint_target j) j.peers t (act.UnGlobal g))
+joint_peer_line j t a = on_peers j (peer_line (joint_target j) j.peers t a)
+
+-- an event of one line
+abbrev pub joint_line : Joint → Thread → Act → Answered Joint
+joint_line j (M t) a = on_managed j (managed_line j.managed t a)
+joint_line j (P t) a = joint_peer_line j t a
+joint_line j C a = on_managed j (managed_line j.managed 0 a)
+
+-- the events that aren't computed: they come as relations below, or are no step of the joint machine
+abbrev pub IsComputed : Op → Type 0
+IsComputed (op.Line (act.Slice n)) = ⊥
+IsComputed (op.Snap k) = ⊥
+IsComputed (op.Contract k) = ⊥
+IsComputed (op.Mirror k) = ⊥
+IsComputed (op.Weaken h) = ⊥
+IsComputed op.Begin = ⊥
+IsComputed op.Sweep = ⊥
+IsComputed (op.Restore h) = ⊥
+IsComputed (op.Clear k) = ⊥
+IsComputed (op.Resolve k) = ⊥
+IsComputed (op.Abandon k) = ⊥
+IsComputed (op.Refused w) = ⊥
+IsComputed _ = Unit {0}
+
+-- the reply to an event that is computed, and the state after it
+abbrev pub joint_answer : Joint → Thread → Op → Answered Joint
+joint_answer j t (op.Line a) = joint_line j t a
+joint_answer j t (op.Make sort n) = on_peers j (pair_made j.peers sort n)
+joint_answer j t (op.Adopt v kind n p h) = on_managed j (adopted j.managed (place (thread_number t) v.0) kind n h.0)
+joint_answer j t (op.Lend v x) = answer (handle_reply j.managed (place (thread_number t) v.0)) j
+joint_answer j t (op.Land h x) = on_peers j (landed j.peers x.0 (joint_target j h.0))
+joint_answer j t (op.Grip x) = on_peers j (gripped j.peers x.0)
+joint_answer j t (op.Meet v p h sort n) = on_managed j (met j.managed (place (thread_number t) v.0) h.0 sort n (twin_of j p.0))
+joint_answer j t (op.Give v) = on_managed j (given_up j.managed (place (thread_number t) v.0))
+joint_answer j t (op.Release h) = answer says.Ok (without j (Some h.0))
+joint_answer j t _ = answer says.Ok j
+
+-- a snapshot
+pub record JointSnap (j : Joint) (k : ℕ) (freed candidates dead : List ℕ) (reply : Reply) (next : Joint) : Type 0 where
+  pub snapshot : IsSnapshot j.managed k freed candidates dead
+  pub replies : reply ≡ snap_reply j.managed freed candidates
+  pub state : next ≡ record j { managed = snapped j.managed freed candidates dead }
+
+-- the peers of a list are exactly the unfreed ones that aren't reached
+pub record AreUnreached (j : Joint) (peers : List ℕ) : Type 0 where
+  pub rise : Rises peers
+  pub exact : (p : ℕ) → Contains peers p ↔ (IsLive j.peers.heap p × (IsReached j (peer p) → ⊥))
+
+-- a further marking by the thread, which keeps the peers that are unreached now
+pub record OpensMarking (j : Joint) (t : Thread) (reply : Reply) (next : Joint) : Type 0 where
+  pub unreached : List ℕ
+  pub are : AreUnreached j unreached
+  pub replies : reply ≡ says.Mark record { 0 = j.markings + 1 }
+  pub state : next ≡ record j { marking = Some record { number = j.markings + 1; by = t; unreached = unreached }; markings = j.markings + 1 }
+
+-- a begin: where a marking is open its number is answered, else the next one is opened
+abbrev pub JointBegin : Joint → Option JointMarking → Thread → Reply → Joint → Type 0
+JointBegin j None t reply next = OpensMarking j t reply next
+JointBegin j (Some m) t reply next = (reply ≡ says.MarkOpen record { 0 = m.number }) × (next ≡ j)
+
+-- a sweep ends the marking: each peer that it frees was unreached at the begin and isn't reached just before
+pub record EndsMarking (j : Joint) (m : JointMarking) (t : Thread) (freed : List ℕ) (reply : Reply) (next : Joint) : Type 0 where
+  pub allowed : (t ≡ C) ⊎ (t ≡ m.by)
+  pub rise : Rises freed
+  pub stored : All (Contains m.unreached) freed
+  pub unreached : All (λ p. IsReached j (peer p) → ⊥) freed
+  pub replies : reply ≡ says.Swept record { 0 = m.number } record { first = length j.peers.heap.freed; count = length freed }
+  pub state : next ≡ record j { peers = record j.peers { heap = with_freed j.peers.heap freed }; marking = None }
+
+-- a peer thread's sweep during another thread's marking frees nothing
+pub record RefusesSweep (j : Joint) (m : JointMarking) (t : Thread) (reply : Reply) (next : Joint) : Type 0 where
+  pub thread : IsPeerThread t
+  pub other : t ≡ m.by → ⊥
+  pub replies : reply ≡ says.MarkOpen record { 0 = m.number }
+  pub state : next ≡ j
+
+-- a sweep with the freed peers that are told beside it
+abbrev pub JointSweep : Joint → Option JointMarking → Thread → Reply → Told → Joint → Type 0
+JointSweep j None t reply told next = IsPeerThread t × (reply ≡ says.NoMark) × (next ≡ j)
+JointSweep j (Some m) t reply (sweep_of freed) next = EndsMarking j m t freed reply next ⊎ RefusesSweep j m t reply next
+JointSweep j (Some m) t reply _ next = RefusesSweep j m t reply next
+
+-- a candidate is kept exactly where the peer of its handle isn't freed
+pub record IsKept (j : Joint) (c : OpenCycle) (m : ℕ) : Type 0 where
+  pub candidate : Contains c.candidates m
+  pub handle : ℕ
+  pub holds : Holds j.managed m handle
+  pub peer : ℕ
+  pub leads : peer_of j.peers.issued handle ≡ Some peer
+  pub unfreed : Contains j.peers.heap.freed peer → ⊥
+
+-- the flags with the handles of a list marked as removed
+abbrev pub removed_all : List Bool → List ℕ → List Bool
+removed_all flags [] = flags
+removed_all flags (h ∷ hs) = removed_all (numbered_set flags h true) hs
+
+-- a resolution: the handles of the freed rows are removed
+pub record JointResolve (j : Joint) (k : ℕ) (freed : List ℕ) (reply : Reply) (next : Joint) : Type 0 where
+  pub cycle : OpenCycle
+  pub open_cycle : IsOpen j.managed k cycle
+  pub resolution : IsResolution j.managed cycle.dead (IsKept j cycle) freed
+  pub replies : reply ≡ resolve_reply j.managed freed
+  pub state : next ≡ record j { managed = resolved j.managed freed; removed = removed_all j.removed (filter_map (handle_of j.managed) freed) }
+
+-- an abandonment frees nothing
+pub record JointAbandon (j : Joint) (k : ℕ) (reply : Reply) (next : Joint) : Type 0 where
+  pub cycle : OpenCycle
+  pub open_cycle : IsOpen j.managed k cycle
+  pub replies : reply ≡ says.Ok
+  pub state : next ≡ record j { managed = abandoned j.managed }
+
+-- an event that is computed
+pub record JointComputed (j : Joint) (t : Thread) (o : Op) (reply : Reply) (next : Joint) : Type 0 where
+  pub computed : IsComputed o
+  pub replies : reply ≡ (joint_answer j t o).reply
+  pub state : next ≡ (joint_answer j t o).state
+
+-- the event's own step, with its reply and what is told beside it
+abbrev pub JointEvent : Joint → Thread → Op → Reply → Told → Joint → Type 0
+JointEvent j t (op.Snap k) reply (snap_of freed candidates dead) next = JointSnap j k.0 freed candidates dead reply next
+JointEvent j t (op.Snap k) reply _ next = ⊥
+JointEvent j t op.Begin reply told next = JointBegin j j.marking t reply next
+JointEvent j t op.Sweep reply told next = JointSweep j j.marking t reply told next
+JointEvent j t (op.Resolve k) reply (resolution_of alive freed) next = JointResolve j k.0 freed reply next
+JointEvent j t (op.Resolve k) reply _ next = ⊥
+JointEvent j t (op.Abandon k) reply told next = JointAbandon j k.0 reply next
+JointEvent j t o reply told next = JointComputed j t o reply next
+
+-- the entry is a step of the joint machine from one state to the next
+pub record JointStep (j : Joint) (n : Noted) (next : Joint) : Type 0 where
+  pub event : IsEvent n.entry.made.caller n.entry.made.op
+  pub step : JointEvent j n.entry.made.caller n.entry.made.op n.entry.made.reply n.told next
+
+-- one entry of a run, with the states before and after it
+pub record Moment : Type 0 where
+  pub before : Joint
+  pub noted : Noted
+  pub after : Joint
+
+-- the entries are a run from a state on: each is a step from the state that the one before it left
+abbrev pub IsRunFrom : Joint → List Moment → Type 0
+IsRunFrom j [] = Unit {0}
+IsRunFrom j (m ∷ ms) = (m.before ≡ j) × JointStep m.before m.noted m.after × IsRunFrom m.after ms
+
+-- the moments are a run of the joint machine over these entries
+pub record IsRun (entries : List Noted) (moments : List Moment) : Type 0 where
+  pub same : map (λ m. m.noted) moments ≡ entries
+  pub steps : IsRunFrom opening moments

@@ -1,0 +1,25 @@
+-- What is told beside an entry: the data that decides it and that its line in the report doesn't have in full.
+use Rattle.std.specs.Prelude.{ℕ, Bool, List, [], ◌∷◌}
+use Rattle.joint_model.specs.declared.names.Phase.{Phase}
+use Rattle.joint_model.specs.declared.events.Entry.{Entry}
+
+-- a snap has the rows that it frees, its candidates and its dead part, all rising; a contract has the
+-- components and cross-references; a mirror has the references that it adds; a begin, in the form of the joint
+-- marking alone, has the peers that nothing reached; a slice has the peers that the marking reaches so far; a
+-- sweep has the peers that it frees; a resolve has the candidates' answers and the rows that it frees; a
+-- refusal has the driver's phase
+pub data Told : Type 0 where
+  nothing : Told
+  snap_of : (freed candidates dead : List ℕ) → Told
+  contraction_of : (comps : List (List ℕ)) (xrefs : List (ℕ × ℕ)) → Told
+  references_of : (refs : List (ℕ × ℕ)) → Told
+  begin_of : (unreached : List ℕ) → Told
+  slice_of : (closure : List ℕ) → Told
+  sweep_of : (freed : List ℕ) → Told
+  resolution_of : (alive : List Bool) (freed : List ℕ) → Told
+  phase_of : (phase : Phase) → Told
+
+-- an entry with what is told beside it
+pub record Noted : Type 0 where
+  pub entry : Entry
+  pub told : Told
