@@ -1,7 +1,7 @@
 -- The form of the first steps, which goes as a whole when the cycle of eight phases comes: a cycle makes the four entries
 -- snap, begin, sweep and resolve; its sweep goes by joint reachability; its resolve cites nothing and keeps the
 -- candidates whose peers weren't swept. Everything else is as in the final definitions.
-use Rattle.std.specs.Prelude.{◌≡◌, ℕ, ◌+◌, ◌≤◌, Bool, true, false, not, nat_eq, if◌then◌else◌, List, [], ◌∷◌, length, map, Option, Some, None}
+use Rattle.std.specs.Prelude.{◌≡◌, ℕ, ◌+◌, ◌≤◌, ◌↔◌, Contains, Bool, true, false, not, nat_eq, if◌then◌else◌, List, [], ◌∷◌, length, map, Option, Some, None}
 use Rattle.std.specs.List.{list_any}
 use Rattle.joint_model.specs.declared.names.Thread.{Thread}
 use Rattle.joint_model.specs.declared.names.Thread.TheVariants.{M, P, C}
@@ -11,15 +11,16 @@ use Rattle.joint_model.specs.declared.events.Reply.{Reply}
 use Rattle.joint_model.specs.declared.events.Reply.TheVariants as says
 use Rattle.joint_model.specs.declared.events.Made.{Made}
 use Rattle.joint_model.specs.Control.{Control, Stand, idle, snapped, marked, restoring, ThreadAllows, doing_at, doing_after, caller_place, last_line, peer_of_row, candidates_of, IsDone, MaySnap, MayAbandonNow}
-use Rattle.joint_model.specs.Heaps.{Answered, answer, is_freed, with_freed}
+use Rattle.joint_model.specs.Heaps.{Answered, answer, is_freed, with_freed, IsLive}
 use Rattle.joint_model.specs.Histories.{Finished, managed_numbers, peer_numbers}
-use Rattle.joint_model.specs.Joined.{joint_of}
+use Rattle.joint_model.specs.Components.{Rises}
+use Rattle.joint_model.specs.Joint.{Graph, IsReachedIn, peer}
+use Rattle.joint_model.specs.Joined.{graph_at}
 use Rattle.joint_model.specs.Lines.{IsEvent, is_peer_event}
 use Rattle.joint_model.specs.Linked.{Linkage, opening_linkage, ManagedLawful, managed_after}
 use Rattle.joint_model.specs.Managed.{Managed}
 use Rattle.joint_model.specs.PeerReplay.{PeerReplay, Marking, TableRow, peer_answer, PeerAllows, begun}
 use Rattle.joint_model.specs.Peers.{Issued, Hold, held, raw}
-use Rattle.joint_model.specs.Run.{AreUnreached}
 use Rattle.joint_model.specs.Told.{Told, nothing, begin_of, sweep_of, resolution_of, Noted}
 use Rattle.std.specs.Prelude.{slice_set}
 
@@ -48,9 +49,15 @@ swept_rows freed (i ∷ is) (Some row ∷ rows) = (if list_any (nat_eq i.peer) f
 abbrev pub joint_swept : PeerReplay → Option Marking → List ℕ → Answered PeerReplay
 joint_swept s None freed = answer says.NoMark s
 joint_swept s (Some mk) freed = answer (says.Swept record { 0 = mk.number } record { first = length s.peers.heap.freed; count = length freed }) (record s {
-    peers = record s.peers { heap = with_freed s.peers.heap freed };
-    table = swept_rows freed s.peers.issued s.table;
-    marking = None })
+  peers = record s.peers { heap = with_freed s.peers.heap freed };
+  table = swept_rows freed s.peers.issued s.table;
+  marking = None;
+})
+
+-- the peers of a list are exactly the unfreed ones that aren't reached
+pub record AreUnreached (g : Graph) (peers : List ℕ) : Type 0 where
+  pub rise : Rises peers
+  pub exact : (p : ℕ) → Contains peers p ↔ (IsLive g.peers.heap p × (IsReachedIn g (peer p) → ⊥))
 
 -- the reply to each peer event, and the state after it
 abbrev pub first_peer_answer : PeerReplay → Thread → Op → Option ℕ → Told → Answered PeerReplay
@@ -60,7 +67,7 @@ first_peer_answer s t o cites told = peer_answer s t o cites told
 
 -- what a peer event asks for: the driver's begin is told the peers that are unreached, and its sweep frees exactly these
 abbrev pub FirstPeerAllows : FirstLinkage → Thread → Op → Option ℕ → Told → Type 0
-FirstPeerAllows s C op.Begin cites (begin_of unreached) = AreUnreached (joint_of s.base.managed.managed s.base.peer s.unreached) unreached
+FirstPeerAllows s C op.Begin cites (begin_of unreached) = AreUnreached (graph_at s.base.managed.managed s.base.peer) unreached
 FirstPeerAllows s C op.Begin cites _ = ⊥
 FirstPeerAllows s C op.Sweep cites (sweep_of freed) = freed ≡ s.unreached
 FirstPeerAllows s C op.Sweep cites _ = ⊥
@@ -122,6 +129,12 @@ abbrev pub FirstSideLawful : Bool → FirstLinkage → Made → Told → Type 0
 FirstSideLawful true s m told = FirstPeerLawful s m told
 FirstSideLawful false s m told = ManagedLawful s.base.managed m told
 
+-- no other caller's entry stands within a cycle
+abbrev pub IsCycleAlone : Stand → Thread → Type 0
+IsCycleAlone idle t = Unit {0}
+IsCycleAlone _ C = Unit {0}
+IsCycleAlone _ t = ⊥
+
 -- the entry may come next
 pub record FirstMayCome (s : FirstLinkage) (n : Noted) : Type 0 where
   pub number : n.entry.number ≡ s.base.count
@@ -129,6 +142,7 @@ pub record FirstMayCome (s : FirstLinkage) (n : Noted) : Type 0 where
   pub line : last_line s.base.control n.entry.made.caller ≤ n.entry.made.index
   pub lawful : FirstSideLawful (is_peer_event n.entry.made.caller n.entry.made.op) s n.entry.made n.told
   pub order : FirstCallerAllows s n.entry.made.caller n.entry.made.index n.entry.made.op n.entry.made.reply n.entry.made.cites n.told
+  pub alone : IsCycleAlone s.base.control.stand n.entry.made.caller
 
 -- the peer side after an entry
 abbrev pub first_peer_after : PeerReplay → Made → Told → Bool → PeerReplay
@@ -144,12 +158,14 @@ unreached_after unreached _ = unreached
 -- the state after an entry
 abbrev pub first_after : FirstLinkage → Noted → FirstLinkage
 first_after s n = record {
-    base = record {
-      managed = managed_after s.base.managed n.entry.made n.told (is_peer_event n.entry.made.caller n.entry.made.op);
-      peer = first_peer_after s.base.peer n.entry.made n.told (is_peer_event n.entry.made.caller n.entry.made.op);
-      control = first_control_after s.base.control n.entry.made.caller n.entry.number n.entry.made.index n.entry.made.op n.entry.made.reply;
-      count = s.base.count + 1 };
-    unreached = unreached_after s.unreached n.told }
+  base = record {
+    managed = managed_after s.base.managed n.entry.made n.told (is_peer_event n.entry.made.caller n.entry.made.op);
+    peer = first_peer_after s.base.peer n.entry.made n.told (is_peer_event n.entry.made.caller n.entry.made.op);
+    control = first_control_after s.base.control n.entry.made.caller n.entry.number n.entry.made.index n.entry.made.op n.entry.made.reply;
+    count = s.base.count + 1;
+  };
+  unreached = unreached_after s.unreached n.told;
+}
 
 -- the state after all entries of a list
 abbrev pub first_replayed : FirstLinkage → List Noted → FirstLinkage

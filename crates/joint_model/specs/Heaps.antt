@@ -116,8 +116,9 @@ field_stored h x i (Some w) = elim (slot h.vars w) [ None ↦ answer says.Empty 
 -- `set V I W`: field I of V's object holds W's object, or nothing
 abbrev pub field_set : Heap → ℕ → ℕ → Option ℕ → Answered Heap
 field_set h v i w = elim (slot h.vars v) [
-    None ↦ answer says.Empty h
-  | Some x ↦ if nat_le (length (fields_of h x)) i then answer says.Range h else field_stored h x i w ]
+  | None ↦ answer says.Empty h
+  | Some x ↦ if nat_le (length (fields_of h x)) i then answer says.Range h else field_stored h x i w
+]
 
 -- V names the object that was read, or is emptied where there was none
 abbrev pub read_into : (ℕ → Reply) → Heap → ℕ → Option ℕ → Answered Heap
@@ -127,8 +128,9 @@ read_into name h v (Some y) = answer (name y) (with_var h v (Some y))
 -- `get V W I`: V names the object in field I of W's object
 abbrev pub field_got : (ℕ → Reply) → Heap → ℕ → ℕ → ℕ → Answered Heap
 field_got name h v w i = elim (slot h.vars w) [
-    None ↦ answer says.Empty h
-  | Some x ↦ if nat_le (length (fields_of h x)) i then answer says.Range h else read_into name h v (slot (fields_of h x) i) ]
+  | None ↦ answer says.Empty h
+  | Some x ↦ if nat_le (length (fields_of h x)) i then answer says.Range h else read_into name h v (slot (fields_of h x) i)
+]
 
 -- `drop V`: V is emptied
 abbrev pub dropped : Heap → ℕ → Answered Heap

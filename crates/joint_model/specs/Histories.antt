@@ -8,7 +8,8 @@ use Rattle.joint_model.specs.declared.events.Reply.{Reply}
 use Rattle.joint_model.specs.declared.events.Reply.TheVariants as reply
 use Rattle.joint_model.specs.Components.{Rises}
 use Rattle.joint_model.specs.Draws.{NumberedFrom}
-use Rattle.joint_model.specs.Lines.{IsEvent}
+use Rattle.joint_model.specs.Lines.{IsNamed}
+use Rattle.joint_model.specs.Listed.{Stock}
 
 -- a history as a value: entry i has number i
 pub record Finished : Type 0 where
@@ -41,21 +42,43 @@ HasSpans ms ps ns (reply.Freed s) = IsWithin s (length ms) × Rises (managed_num
 HasSpans ms ps ns (reply.Took s) = IsWithin s (length ns)
 HasSpans ms ps ns _ = Unit {0}
 
--- the entry's event is one that a history can have, and the spans of its reply lie in the lists
+-- the entry's caller and event are ones that an entry can name, and the spans of its reply lie in the lists
 pub record IsSound (ms : List MNum) (ps : List PNum) (ns : List MNum) (e : Entry) : Type 0 where
-  pub event : IsEvent e.made.caller e.made.op
+  pub event : IsNamed e.made.caller e.made.op
   pub spans : HasSpans ms ps ns e.made.reply
 
--- what every history keeps: the numbers are those from 0 on, each event is one, each span lies in its list
+-- what every history keeps: the numbers are those from 0 on, each event can be named, each span lies in its list
 pub record IsHistory (h : Finished) : Type 0 where
   pub numbers : NumberedFrom 0 h.entries
   pub sound : All (IsSound h.freed_managed h.freed_peers h.notices) h.entries
+
+-- the entry stands in the whole list at its number
+abbrev pub IsPlaced : List Entry → Entry → Type 0
+IsPlaced whole e = slice_get whole e.number ≡ Some e
+
+-- at the entry's number a list has what the target has there
+abbrev pub IsSameThere : List Entry → List Entry → Entry → Type 0
+IsSameThere target list e = slice_get list e.number ≡ slice_get target e.number
+
+-- wherever the old list had what the target has, the new list has it too
+abbrev pub KeepsPlaces : List Entry → List Entry → List Entry → Type 0
+KeepsPlaces target old new = (k : ℕ) → slice_get old k ≡ slice_get target k → slice_get new k ≡ slice_get target k
 
 -- the lists hold together the entries of the whole, each once, and each list rises: every entry of a list
 -- stands in the whole at its number, every entry of the whole stands in a list, and there are as many
 pub record IsShuffle (lists : List (List Entry)) (whole : List Entry) : Type 0 where
   pub numbers : NumberedFrom 0 whole
   pub rise : All (λ list. Rises (map (λ e. e.number) list)) lists
-  pub placed : All (λ list. All (λ e. slice_get whole e.number ≡ Some e) list) lists
+  pub placed : All (λ list. All (IsPlaced whole) list) lists
   pub covered : All (λ e. (list : List Entry) × Contains lists list × Contains list e) whole
   pub count : length whole ≡ sum_by length lists
+
+-- the lists of the sides and readers, as lists of entries
+abbrev pub entry_lists : List Stock → List (List Entry)
+entry_lists stocks = map (λ s. s.entries) stocks
+
+-- the lists can be joined: they are a shuffle of one whole, whose entries are sound
+pub record IsJoinable (lists : List (List Entry)) (ms : List MNum) (ps : List PNum) (ns : List MNum) : Type 0 where
+  pub whole : List Entry
+  pub shuffle : IsShuffle lists whole
+  pub sound : All (IsSound ms ps ns) whole

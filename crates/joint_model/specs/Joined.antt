@@ -2,7 +2,7 @@
 -- removed: a candidate's handle that was cleared leaves the table at its restore, while its row holds it until the
 -- resolution.
 use Rattle.std.specs.Prelude.{ℕ, ◌+◌, Bool, true, false, ◌||◌, ◌&&◌, not, nat_eq, List, [], ◌∷◌, Option, Some, None}
-use Rattle.joint_model.specs.Joint.{Joint, JointMarking}
+use Rattle.joint_model.specs.Joint.{Joint, JointMarking, Graph}
 use Rattle.joint_model.specs.Managed.{Managed, handle_of}
 use Rattle.joint_model.specs.PeerReplay.{PeerReplay, TableRow, Marking}
 
@@ -30,11 +30,15 @@ abbrev pub removed_from : Managed → ℕ → List (Option TableRow) → List Bo
 removed_from s h [] = []
 removed_from s h (row ∷ rows) = (is_untabled row && not (is_owned s h)) ∷ removed_from s (h + 1) rows
 
--- the open marking, with the peers that were unreached at its begin
-abbrev pub joint_marking : Option Marking → List ℕ → Option JointMarking
-joint_marking None unreached = None
-joint_marking (Some mk) unreached = Some record { number = mk.number; by = mk.by; unreached = unreached }
+-- the one graph of a managed and a peer state
+abbrev pub graph_at : Managed → PeerReplay → Graph
+graph_at s p = record { managed = s; peers = p.peers; removed = removed_from s 1 p.table }
 
--- the joint state of a managed and a peer state, with the peers that were unreached at the open marking's begin
-abbrev pub joint_of : Managed → PeerReplay → List ℕ → Joint
-joint_of s p unreached = record { managed = s; peers = p.peers; removed = removed_from s 1 p.table; marking = joint_marking p.marking unreached; markings = p.markings }
+-- the open marking, with the graph that stood at its begin
+abbrev pub joint_marking : Option Marking → Graph → Option JointMarking
+joint_marking None begun = None
+joint_marking (Some mk) begun = Some record { number = mk.number; by = mk.by; begun = begun }
+
+-- the joint state of a managed and a peer state, with the graph that stood at the open marking's begin
+abbrev pub joint_of : Managed → PeerReplay → Graph → Joint
+joint_of s p begun = record { managed = s; peers = p.peers; removed = removed_from s 1 p.table; marking = joint_marking p.marking begun; markings = p.markings }

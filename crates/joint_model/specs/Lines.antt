@@ -162,6 +162,29 @@ IsEvent t (op.Resolve k) = IsDriver t
 IsEvent t (op.Abandon k) = IsDriver t
 IsEvent t (op.Refused w) = IsDriver t
 
+-- a thread is one of those that a script can have
+abbrev pub IsThread : Thread → Type 0
+IsThread (M n) = (1 ≤ n) × (n ≤ 8)
+IsThread (P n) = (1 ≤ n) × (n ≤ 8)
+IsThread C = Unit {0}
+
+-- a number of fields that an adopted row can have
+abbrev pub IsAdoptable : Kind → ℕ → Type 0
+IsAdoptable kind.LeafBridge n = n ≡ 0
+IsAdoptable _ n = n ≤ 16
+
+-- a caller and an event that an entry can name, lawful or not
+abbrev pub IsNamed : Thread → Op → Type 0
+IsNamed t (op.Line a) = IsLine t a × IsOneEvent a
+IsNamed t (op.Make s n) = IsThread t × (n ≤ 16)
+IsNamed t (op.Adopt v k n p h) = IsThread t × IsVar v × IsAdoptable k n
+IsNamed t (op.Lend v x) = IsThread t × IsVar v × (x.0 < 16)
+IsNamed t (op.Land h x) = IsThread t × (x.0 < 16)
+IsNamed t (op.Grip x) = IsThread t × (x.0 < 16)
+IsNamed t (op.Meet v p h s n) = IsThread t × IsVar v × (n ≤ 16)
+IsNamed t (op.Give v) = IsThread t × IsVar v
+IsNamed t _ = IsThread t
+
 -- whether a thread's line is made on the peer side
 abbrev pub is_peer_thread : Thread → Bool
 is_peer_thread (M n) = false

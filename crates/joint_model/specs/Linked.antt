@@ -1,6 +1,6 @@
 -- Linked histories: the one list of entries in which both sides' own lists are lawful, the citations agree, and each
 -- caller's events come in their order. And the joint projection: the entries that are steps of the joint machine.
-use Rattle.std.specs.Prelude.{◌≡◌, ℕ, ◌+◌, ◌≤◌, Bool, true, false, if◌then◌else◌, MatchBool, List, [], ◌∷◌, length, map, filter, Option, Some, None}
+use Rattle.std.specs.Prelude.{◌≡◌, ℕ, ◌+◌, ◌≤◌, Bool, true, false, if◌then◌else◌, MatchBool, List, [], ◌∷◌, length, map, filter, take, Option, Some, None}
 use Rattle.joint_model.specs.declared.names.Thread.{Thread}
 use Rattle.joint_model.specs.declared.lines.Act.TheVariants as act
 use Rattle.joint_model.specs.declared.events.Op.{Op}
@@ -10,6 +10,7 @@ use Rattle.joint_model.specs.Control.{Control, opening_control, CallerAllows, co
 use Rattle.joint_model.specs.Heaps.{Answered}
 use Rattle.joint_model.specs.Histories.{Finished, managed_numbers, peer_numbers}
 use Rattle.joint_model.specs.Lines.{IsEvent, is_peer_event}
+use Rattle.joint_model.specs.Managed.{Managed}
 use Rattle.joint_model.specs.ManagedReplay.{ManagedReplay, opening_replay, managed_answer, ManagedAllows}
 use Rattle.joint_model.specs.PeerReplay.{PeerReplay, opening_peer_replay, peer_answer, PeerAllows}
 use Rattle.joint_model.specs.Told.{Told, Noted}
@@ -60,10 +61,11 @@ peer_after s m told false = s
 -- the state after an entry
 abbrev pub linkage_after : Linkage → Noted → Linkage
 linkage_after s n = record {
-    managed = managed_after s.managed n.entry.made n.told (is_peer_event n.entry.made.caller n.entry.made.op);
-    peer = peer_after s.peer n.entry.made n.told (is_peer_event n.entry.made.caller n.entry.made.op);
-    control = control_after s.control n.entry.made.caller n.entry.number n.entry.made.index n.entry.made.op n.entry.made.reply n.told;
-    count = s.count + 1 }
+  managed = managed_after s.managed n.entry.made n.told (is_peer_event n.entry.made.caller n.entry.made.op);
+  peer = peer_after s.peer n.entry.made n.told (is_peer_event n.entry.made.caller n.entry.made.op);
+  control = control_after s.control n.entry.made.caller n.entry.number n.entry.made.index n.entry.made.op n.entry.made.reply n.told;
+  count = s.count + 1;
+}
 
 -- the state after all entries of a list
 abbrev pub replayed : Linkage → List Noted → Linkage
@@ -80,20 +82,28 @@ pub record IsWhole (s : Linkage) : Type 0 where
   pub threads : (t : ℕ) → IsDone (doing_at s.control t)
   pub driver : IsAtRest s.control.stand (length (candidates_of s.managed.managed))
 
+-- the managed objects at the end of a list of entries
+abbrev pub managed_end : List Noted → Managed
+managed_end ns = (replayed opening_linkage ns).managed.managed
+
 -- a history is linked by these notes, which are its entries with what is told beside them: each may come when it comes,
--- the last state is whole, and the lists that its spans name are what was freed and what was queued
+-- the last state is whole, the freed lists are what was freed, and the notices that were taken are the first of its list
 pub record IsLinkedBy (h : Finished) (noted : List Noted) : Type 0 where
   pub same : map (λ n. n.entry) noted ≡ h.entries
   pub lawful : AllMayCome opening_linkage noted
   pub whole : IsWhole (replayed opening_linkage noted)
   pub freed_managed : managed_numbers h.freed_managed ≡ (replayed opening_linkage noted).managed.managed.heap.freed
   pub freed_peers : peer_numbers h.freed_peers ≡ (replayed opening_linkage noted).peer.peers.heap.freed
-  pub notices : managed_numbers h.notices ≡ (replayed opening_linkage noted).managed.managed.notices
+  pub notices : take (managed_end noted).taken (managed_numbers h.notices) ≡ take (managed_end noted).taken (managed_end noted).notices
 
 -- a history is linked
 pub record IsLinked (h : Finished) : Type 0 where
   pub noted : List Noted
   pub linked : IsLinkedBy h noted
+
+-- every notice that was ever queued is in the history's list
+abbrev pub HasQueued : Finished → List Noted → Type 0
+HasQueued h noted = managed_numbers h.notices ≡ (managed_end noted).notices
 
 -- whether the event is a step of the joint machine
 abbrev pub is_joint : Op → Bool

@@ -112,14 +112,16 @@ read_cell s t k = elim (slot s.pins t) [ None ↦ cell_read s t k s.cycle | Some
 -- `take V`: V names the pin's object, and the pin is emptied
 abbrev pub pin_taken : Managed → ℕ → ℕ → Answered Managed
 pin_taken s t v = elim (slot s.pins t) [
-    None ↦ answer says.Empty s
-  | Some x ↦ answer (managed_name x) (record s { heap = with_var s.heap v (Some x); pins = slice_set s.pins t None }) ]
+  | None ↦ answer says.Empty s
+  | Some x ↦ answer (managed_name x) (record s { heap = with_var s.heap v (Some x); pins = slice_set s.pins t None })
+]
 
 -- the reply that names the handle of V's object
 abbrev pub handle_reply : Managed → ℕ → Reply
 handle_reply s v = elim (slot s.heap.vars v) [
-    None ↦ says.Empty
-  | Some x ↦ elim (handle_of s x) [ None ↦ says.Plain | Some h ↦ says.H record { 0 = h } ] ]
+  | None ↦ says.Empty
+  | Some x ↦ elim (handle_of s x) [ None ↦ says.Plain | Some h ↦ says.H record { 0 = h } ]
+]
 
 -- the object holds no handle any more
 abbrev pub without_handle : Managed → Option ℕ → Managed

@@ -145,22 +145,24 @@ abbrev pub sliced : PeerReplay → Option Marking → Thread → ℕ → List �
 sliced s None t n closure = answer says.NoMark s
 sliced s (Some mk) t n closure = if is_thread t mk.by
     then (let black = mk.blackened + min n (length closure - mk.blackened) in
-        answer (if nat_lt black (length closure) then says.More else says.Done) (record s { marking = Some (record mk { blackened = black }) }))
+    answer (if nat_lt black (length closure) then says.More else says.Done) (record s { marking = Some (record mk { blackened = black }) }))
     else answer (says.MarkOpen record { 0 = mk.number }) s
 
 -- a begin: the next marking is opened, unless one is open
 abbrev pub begun : PeerReplay → Option Marking → Thread → Answered PeerReplay
 begun s None t = answer (says.Mark record { 0 = s.markings + 1 }) (record s {
-    marking = Some record { number = s.markings + 1; by = t; heap = s.peers.heap; refs = s.refs; strong_peers = strong_peers s.peers.issued s.table; brought = []; blackened = 0 };
-    markings = s.markings + 1 })
+  marking = Some record { number = s.markings + 1; by = t; heap = s.peers.heap; refs = s.refs; strong_peers = strong_peers s.peers.issued s.table; brought = []; blackened = 0 };
+  markings = s.markings + 1;
+})
 begun s (Some mk) t = answer (says.MarkOpen record { 0 = mk.number }) s
 
 -- peers are freed: the handles on them are cleared, and the marking ends
 abbrev pub swept_of : PeerReplay → Marking → List ℕ → Answered PeerReplay
 swept_of s mk freed = answer (says.Swept record { 0 = mk.number } record { first = length s.peers.heap.freed; count = length freed }) (record s {
-    peers = record s.peers { heap = with_freed s.peers.heap freed };
-    table = cleared_rows freed s.peers.issued s.table;
-    marking = None })
+  peers = record s.peers { heap = with_freed s.peers.heap freed };
+  table = cleared_rows freed s.peers.issued s.table;
+  marking = None;
+})
 
 -- a sweep, which a peer thread is refused without a marking or during another thread's
 abbrev pub swept : PeerReplay → Option Marking → Thread → List ℕ → Answered PeerReplay
@@ -230,12 +232,14 @@ pub record MayWeaken (s : PeerReplay) (h : ℕ) (cites : Option ℕ) : Type 0 wh
   pub is_held : IsHeld s h
   pub strong_now : row_of s h ≡ Some record { strength = strong; cleared = false }
 
--- the handle was weakened in the mirrored cycle and isn't restored
+-- the handle was weakened in the mirrored cycle, isn't restored, and is in the table
 pub record MayRestore (s : PeerReplay) (h : ℕ) : Type 0 where
   pub mirror : Mirror
   pub stands : s.mirror ≡ Some mirror
   pub weakened : Contains mirror.weakened h
   pub waiting : Contains mirror.restored h → ⊥
+  pub row : TableRow
+  pub tabled : row_of s h ≡ Some row
 
 -- cycle k is mirrored, and each handle weakened in it is restored
 pub record MayClear (s : PeerReplay) (k : ℕ) : Type 0 where

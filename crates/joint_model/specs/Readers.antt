@@ -1,7 +1,7 @@
 -- Reads that take no lock: a reader's `read` or `wait` is an entry of the reader's own list, made at any moment. Here is what
 -- such an entry may answer, over a whole history, and how linked histories have them. (SGen's bridge header: while bridge
 -- processing is in progress, the reading of a weak link to a bridge object waits.)
-use Rattle.std.specs.Prelude.{◌≡◌, ℕ, ◌+◌, ◌<◌, ◌≤◌, ◌⊎◌, Bool, true, false, not, ◌&&◌, if◌then◌else◌, List, [], ◌∷◌, length, map, filter, Contains, Option, Some, None, slice_get, slice_set}
+use Rattle.std.specs.Prelude.{◌≡◌, ℕ, ◌+◌, ◌<◌, ◌≤◌, ◌⊎◌, Bool, true, false, not, ◌&&◌, if◌then◌else◌, List, [], ◌∷◌, length, map, filter, take, Contains, Option, Some, None, slice_get, slice_set}
 use Rattle.joint_model.specs.declared.names.Thread.{Thread}
 use Rattle.joint_model.specs.declared.names.Thread.TheVariants.{M, P, C}
 use Rattle.joint_model.specs.declared.lines.Act.TheVariants as act
@@ -14,9 +14,11 @@ use Rattle.joint_model.specs.Control.{CallerAllows, control_after, last_line}
 use Rattle.joint_model.specs.Heaps.{slot}
 use Rattle.joint_model.specs.Histories.{Finished, managed_numbers, peer_numbers}
 use Rattle.joint_model.specs.Lines.{IsEvent, is_peer_event}
-use Rattle.joint_model.specs.Linked.{Linkage, opening_linkage, linkage_after, MayCome, IsWhole, joint_projection}
+use Rattle.joint_model.specs.Linked.{Linkage, opening_linkage, linkage_after, managed_after, ManagedLawful, MayCome, IsWhole, joint_projection}
 use Rattle.joint_model.specs.Managed.{Managed, read_cell}
-use Rattle.joint_model.specs.Run.{thread_number}
+use Rattle.joint_model.specs.Joint.{Joint}
+use Rattle.joint_model.specs.ManagedReplay.{ManagedReplay}
+use Rattle.joint_model.specs.Run.{thread_number, JointStep}
 use Rattle.joint_model.specs.Told.{Told, nothing, snap_of, resolution_of, Noted}
 
 -- whether the event is a read of a cell
@@ -29,12 +31,13 @@ is_read _ = false
 abbrev pub is_managed_entry : Noted → Bool
 is_managed_entry n = not (is_peer_event n.entry.made.caller n.entry.made.op) && not (is_read n.entry.made.op)
 
--- the event sets, or reads, the cell
+-- the event reads the cell
 abbrev pub ReadsCell : Op → ℕ → Type 0
 ReadsCell (op.Line (act.Read c)) k = c.0 ≡ k
 ReadsCell (op.Line (act.Await c)) k = c.0 ≡ k
 ReadsCell _ k = ⊥
 
+-- the event sets the cell
 abbrev pub SetsCell : Op → ℕ → Type 0
 SetsCell (op.Line (act.Weak c v)) k = c.0 ≡ k
 SetsCell _ k = ⊥
@@ -111,11 +114,11 @@ pub record MayBeUnset (ns : List Noted) (cells : List (Option ℕ)) (i : ℕ) (t
   pub not_own : (set : ℕ) → SetsCellAt ns set k → set < i → IsCallersAt ns set t → ⊥
   pub target_unfreed : (m j : ℕ) → slot cells k ≡ Some m → FreesObjectAt ns j m → j < i → ⊥
 
--- a read's reply, by what it is: `pending` and `unset` have their rules, every other reply is the one that the managed
--- state at its number gives
+-- a read's reply, by what it is: `pending` and `unset` come with an empty pin and have their rules, every other reply is the
+-- one that the managed state at its number gives
 abbrev pub IsReadReply : List Noted → List (Option ℕ) → Managed → ℕ → Thread → ℕ → Reply → Type 0
-IsReadReply ns cells s i t k (says.Pending c) = MayBePending ns i t c.0
-IsReadReply ns cells s i t k says.Unset = MayBeUnset ns cells i t k
+IsReadReply ns cells s i t k (says.Pending c) = (slot s.pins (thread_number t) ≡ None) × MayBePending ns i t c.0
+IsReadReply ns cells s i t k says.Unset = (slot s.pins (thread_number t) ≡ None) × MayBeUnset ns cells i t k
 IsReadReply ns cells s i t k reply = reply ≡ (read_cell s (thread_number t) k).reply
 
 -- a read that names an object fills its caller's pin
@@ -126,9 +129,10 @@ pins_after pins t _ = pins
 -- the state after a reader's entry: a pin may be filled, and the caller's line is known
 abbrev pub reader_after : Linkage → Noted → Linkage
 reader_after s n = record s {
-    managed = record s.managed { managed = record s.managed.managed { pins = pins_after s.managed.managed.pins (thread_number n.entry.made.caller) n.entry.made.reply } };
-    control = control_after s.control n.entry.made.caller n.entry.number n.entry.made.index n.entry.made.op n.entry.made.reply n.told;
-    count = s.count + 1 }
+  managed = record s.managed { managed = record s.managed.managed { pins = pins_after s.managed.managed.pins (thread_number n.entry.made.caller) n.entry.made.reply } };
+  control = control_after s.control n.entry.made.caller n.entry.number n.entry.made.index n.entry.made.op n.entry.made.reply n.told;
+  count = s.count + 1;
+}
 
 -- a reader's entry may come next, but for its reply
 pub record ReaderMayCome (s : Linkage) (n : Noted) : Type 0 where
@@ -136,6 +140,7 @@ pub record ReaderMayCome (s : Linkage) (n : Noted) : Type 0 where
   pub event : IsEvent n.entry.made.caller n.entry.made.op
   pub line : last_line s.control n.entry.made.caller ≤ n.entry.made.index
   pub order : CallerAllows s.control s.managed.managed s.peer.peers.issued n.entry.made.caller n.entry.made.index n.entry.made.op n.entry.made.reply n.entry.made.cites n.told
+  pub bare : n.told ≡ nothing
 
 -- an entry of any list may come next, given the whole history and the cells at its end
 abbrev pub EntryMayCome : Bool → List Noted → List (Option ℕ) → Linkage → Noted → Type 0
@@ -162,9 +167,33 @@ pub record IsLinkedReadingBy (h : Finished) (noted : List Noted) : Type 0 where
   pub whole : IsWhole (replayed_reading opening_linkage noted)
   pub freed_managed : managed_numbers h.freed_managed ≡ (replayed_reading opening_linkage noted).managed.managed.heap.freed
   pub freed_peers : peer_numbers h.freed_peers ≡ (replayed_reading opening_linkage noted).peer.peers.heap.freed
-  pub notices : managed_numbers h.notices ≡ (replayed_reading opening_linkage noted).managed.managed.notices
+  pub notices : take (replayed_reading opening_linkage noted).managed.managed.taken (managed_numbers h.notices) ≡ take (replayed_reading opening_linkage noted).managed.managed.taken (replayed_reading opening_linkage noted).managed.managed.notices
+
+-- a history with readers is linked
+pub record IsLinkedReading (h : Finished) : Type 0 where
+  pub noted : List Noted
+  pub linked : IsLinkedReadingBy h noted
 
 -- the joint projection of a history with readers: without the entries that are no steps of the joint machine, and without
 -- the reads that answered `pending` or `unset`
 abbrev pub reading_projection : List Noted → List Noted
 reading_projection ns = filter (λ n. not (is_read n.entry.made.op && is_set_aside n.entry.made.reply)) (joint_projection ns)
+
+-- a step of the joint machine in a history with readers: a read that answers `pending` or `unset` is none
+pub record ReadingStep (j : Joint) (n : Noted) (next : Joint) : Type 0 where
+  pub step : JointStep j n next
+  pub counts : (is_read n.entry.made.op && is_set_aside n.entry.made.reply) ≡ false
+
+-- a managed entry with the pins that are kept with it: those that the readers' entries and the takes before it leave
+pub record Kept : Type 0 where
+  pub noted : Noted
+  pub pins : List (Option ℕ)
+
+-- the managed side's replay with other pins
+abbrev pub with_pins : ManagedReplay → List (Option ℕ) → ManagedReplay
+with_pins s pins = record s { managed = record s.managed { pins = pins } }
+
+-- the managed side's own list in a history with readers: each entry is lawful with the pins that are kept with it
+abbrev pub AllKeptLawful : ManagedReplay → List Kept → Type 0
+AllKeptLawful s [] = Unit {0}
+AllKeptLawful s (k ∷ ks) = ManagedLawful (with_pins s k.pins) k.noted.entry.made k.noted.told × AllKeptLawful (managed_after (with_pins s k.pins) k.noted.entry.made k.noted.told false) ks

@@ -11,7 +11,7 @@ use Rattle.joint_model.specs.declared.events.Reply.TheVariants as says
 use Rattle.joint_model.specs.Components.{Rises}
 use Rattle.joint_model.specs.Cycles.{IsSnapshot, snap_reply, IsResolution, resolve_reply, IsOpen}
 use Rattle.joint_model.specs.Heaps.{Answered, answer, slot, numbered_set, place, IsLive, with_freed}
-use Rattle.joint_model.specs.Joint.{Joint, JointMarking, opening, IsReached, peer, joint_target, twin_of}
+use Rattle.joint_model.specs.Joint.{Joint, JointMarking, opening, IsReached, IsReachedIn, graph_of, peer, joint_target, twin_of}
 use Rattle.joint_model.specs.Lines.{IsEvent, IsPeerThread}
 use Rattle.joint_model.specs.Managed.{Managed, OpenCycle, managed_line, adopted, met, given_up, handle_reply, handle_of, Holds, snapped, resolved, abandoned}
 use Rattle.joint_model.specs.Peers.{Peers, peer_line, pair_made, gripped, landed, issued_since, peer_of}
@@ -82,17 +82,15 @@ pub record JointSnap (j : Joint) (k : ℕ) (freed candidates dead : List ℕ) (r
   pub replies : reply ≡ snap_reply j.managed freed candidates
   pub state : next ≡ record j { managed = snapped j.managed freed candidates dead }
 
--- the peers of a list are exactly the unfreed ones that aren't reached
-pub record AreUnreached (j : Joint) (peers : List ℕ) : Type 0 where
-  pub rise : Rises peers
-  pub exact : (p : ℕ) → Contains peers p ↔ (IsLive j.peers.heap p × (IsReached j (peer p) → ⊥))
-
--- a further marking by the thread, which keeps the peers that are unreached now
+-- a further marking by the thread, which keeps the graph of now
 pub record OpensMarking (j : Joint) (t : Thread) (reply : Reply) (next : Joint) : Type 0 where
-  pub unreached : List ℕ
-  pub are : AreUnreached j unreached
   pub replies : reply ≡ says.Mark record { 0 = j.markings + 1 }
-  pub state : next ≡ record j { marking = Some record { number = j.markings + 1; by = t; unreached = unreached }; markings = j.markings + 1 }
+  pub state : next ≡ record j { marking = Some record { number = j.markings + 1; by = t; begun = graph_of j }; markings = j.markings + 1 }
+
+-- the peer is one of those that a marking may free: it existed unfreed and unreached at the begin
+pub record IsStored (m : JointMarking) (p : ℕ) : Type 0 where
+  pub existed : IsLive m.begun.peers.heap p
+  pub unreached : IsReachedIn m.begun (peer p) → ⊥
 
 -- a begin: where a marking is open its number is answered, else the next one is opened
 abbrev pub JointBegin : Joint → Option JointMarking → Thread → Reply → Joint → Type 0
@@ -103,7 +101,7 @@ JointBegin j (Some m) t reply next = (reply ≡ says.MarkOpen record { 0 = m.num
 pub record EndsMarking (j : Joint) (m : JointMarking) (t : Thread) (freed : List ℕ) (reply : Reply) (next : Joint) : Type 0 where
   pub allowed : (t ≡ C) ⊎ (t ≡ m.by)
   pub rise : Rises freed
-  pub stored : All (Contains m.unreached) freed
+  pub stored : All (IsStored m) freed
   pub unreached : All (λ p. IsReached j (peer p) → ⊥) freed
   pub replies : reply ≡ says.Swept record { 0 = m.number } record { first = length j.peers.heap.freed; count = length freed }
   pub state : next ≡ record j { peers = record j.peers { heap = with_freed j.peers.heap freed }; marking = None }

@@ -1,6 +1,6 @@
 // Where the numbers of entries come from.
 
-ghost use Rattle.std.specs.Prelude.{◌≡◌, ℕ, ◌+◌, ◌-◌, ◌^◌, ◌≤◌, ◌<◌, ◌++◌, List, Option, None, IsTrue, map, length, ⊤};
+ghost use Rattle.std.specs.Prelude.{◌≡◌, ℕ, ◌+◌, ◌-◌, ◌^◌, ◌≤◌, ◌<◌, ◌++◌, ◌↔◌, List, Option, None, IsTrue, map, length, ⊤};
 ghost use Rattle.joint_model.specs.declared.names.MNum.{MNum};
 ghost use Rattle.joint_model.specs.declared.names.Thread.{Thread};
 ghost use Rattle.joint_model.specs.declared.events.Entry.{Entry};
@@ -35,7 +35,7 @@ pub trait Draw {
         ensures low { floor self.old ≤ result }
         ensures high { result < floor self.new }
         ensures left { left self.old ≤ left self.new + 1 }
-        ensures may { (t : Thread) (o : Op) → IsTrue (is_peer_event t o) → may self.old t o None → may self.new t o None }
+        ensures may { (t : Thread) (o : Op) → IsTrue (is_peer_event t o) → (may self.old t o None ↔ may self.new t o None) }
         ensures drew { drew self.old (numbered result made.now) target freed.now self.new };
 }
 
