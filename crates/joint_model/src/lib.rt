@@ -21,3 +21,6 @@ pub use names::{
     Cell, Cycle, GName, HNum, Kind, MNum, Marking, PNum, Phase, PhaseWord, Sort, Span, StaticNo,
     Thread, Var,
 };
+
+#[cfg(test)]
+mod tests;

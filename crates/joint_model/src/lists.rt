@@ -98,7 +98,7 @@ impl Entries {
 /// alive.
 #[derive(Drop)]
 pub struct Alive {
-    list: Vec<bool>,
+    values: Vec<bool>,
 }
 
 impl Model for Alive {
@@ -107,9 +107,9 @@ impl Model for Alive {
 
     ghost Value = { Answers };
 
-    ghost view = { λ s. record { values = s.list.items; room = vec_capacity s.list - vec_len s.list } };
+    ghost view = { λ s. record { values = s.values.items; room = vec_capacity s.values - vec_len s.values } };
 
-    ghost invariant = { λ s. vec_capacity s.list ≤ 4294967295 };
+    ghost invariant = { λ s. vec_capacity s.values ≤ 4294967295 };
 }
 
 impl Alive {
@@ -119,7 +119,7 @@ impl Alive {
         ensures room { IfOk result (λ a. a.room ≡ room) }
     {
         Ok(Alive {
-            list: Vec::with_capacity(alloc, room as usize)?,
+            values: Vec::with_capacity(alloc, room as usize)?,
         })
     }
 
@@ -129,27 +129,27 @@ impl Alive {
         ensures values { self.new.values ≡ self.old.values ++ alive ∷ [] }
         ensures room { self.new.room + 1 ≡ self.old.room }
     {
-        self.list.push_reserved(alive);
+        self.values.push_reserved(alive);
     }
 
     /// The value at place `i`, from 0; None exactly where `i` isn't below the length.
     pub fn at(&self, i: u32) -> Option<bool>
         ensures { result ≡ slice_get self.now.values i }
     {
-        self.list.as_slice().get(i as usize).copied()
+        self.values.as_slice().get(i as usize).copied()
     }
 
     /// The number of values.
     pub fn len(&self) -> u32
         ensures { result ≡ length self.now.values }
     {
-        self.list.len() as u32
+        self.values.len() as u32
     }
 
     /// Whether there is no value.
     pub fn is_empty(&self) -> bool
         ensures { result ≡ (length self.now.values == 0) }
     {
-        self.list.is_empty()
+        self.values.is_empty()
     }
 }
