@@ -1,1 +1,2 @@
 pub mod DrawnInTurn
+pub mod WalkLemmas
