@@ -1,2 +1,3 @@
 pub mod DrawnInTurn
 pub mod Joining
+pub mod WalkLemmas
