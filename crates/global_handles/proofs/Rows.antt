@@ -1,0 +1,52 @@
+-- A number at or below the first of rising rows is in none of them: each row's number is above the one before.
+-- So no row has it, a change to its row changes nothing, and to leave it out leaves all rows. By this a look-up,
+-- a change and a removal each find their one row, and pass over all others.
+use Rattle.std.proofs.Common.{◌≡◌, ◌≢◌, ℕ, ◌≤◌, eqb, Bool, true, false, List, [], ◌∷◌, None, Some, refl, sym, ap, ◌∙◌, arith}
+use Rattle.std.proofs.lemmas.Option.{none-some}
+use Rattle.std.proofs.lemmas.Grind.{common_steps}
+use Rattle.joint_model.specs.declared.names.HNum.{HNum}
+use Rattle.global_handles.specs.declared.HandleRow.{HandleRow}
+use Rattle.global_handles.specs.Rows.{row_in, changed, without, RisesBetween}
+
+-- two numbers that differ are told apart
+pub eqb-apart : (m n : ℕ) → m ≢ n → eqb m n ≡ false
+eqb-apart m n apart = grind (arith, common_steps)
+
+-- what rises above a number rises above each smaller one
+pub RisesBetween-low : (a b c : ℕ) (rows : List HandleRow) → a ≤ b → RisesBetween b c rows → RisesBetween a c rows
+RisesBetween-low a b c [] le rises = omega arith
+RisesBetween-low a b c (r ∷ rs) le rises = (omega arith, rises.1)
+
+-- no row has a number that isn't above the first
+pub row_in-below : (low high : ℕ) (rows : List HandleRow) (h : HNum) → h.0 ≤ low → RisesBetween low high rows → row_in rows h ≡ None
+row_in-below low high [] h le rises = refl
+row_in-below low high (r ∷ rs) h le rises =
+    let apart : h.0 ≢ r.number.0 = omega arith in
+    rw (eqb-apart h.0 r.number.0 apart) (row_in-below r.number.0 high rs h (omega arith) rises.1)
+
+-- a change to the row of such a number changes nothing
+pub changed-below : (f : HandleRow → HandleRow) (low high : ℕ) (rows : List HandleRow) (h : HNum) → h.0 ≤ low → RisesBetween low high rows → changed f h rows ≡ rows
+changed-below f low high [] h le rises = refl
+changed-below f low high (r ∷ rs) h le rises =
+    let apart : h.0 ≢ r.number.0 = omega arith in
+    rw (eqb-apart h.0 r.number.0 apart) (ap (λ t. r ∷ t) (changed-below f r.number.0 high rs h (omega arith) rises.1))
+
+-- to leave such a number out leaves all rows
+pub without-below : (low high : ℕ) (rows : List HandleRow) (h : HNum) → h.0 ≤ low → RisesBetween low high rows → without h rows ≡ rows
+without-below low high [] h le rises = refl
+without-below low high (r ∷ rs) h le rises =
+    let apart : h.0 ≢ r.number.0 = omega arith in
+    rw (eqb-apart h.0 r.number.0 apart) (ap (λ t. r ∷ t) (without-below r.number.0 high rs h (omega arith) rises.1))
+
+-- where no row has a number, to leave it out leaves all rows
+pub without-absent : (rows : List HandleRow) (h : HNum) → row_in rows h ≡ None → without h rows ≡ rows
+without-absent [] h none = refl
+without-absent (r ∷ rs) h none = by (eqb h.0 r.number.0) refl (without-absent rs h)
+  where
+    by : (b : Bool) → eqb h.0 r.number.0 ≡ b → (row_in rs h ≡ None → without h rs ≡ rs) → without h (r ∷ rs) ≡ r ∷ rs
+    by true is rest =
+        let found : row_in (r ∷ rs) h ≡ Some r = rw is refl in
+        absurd (none-some r (sym none ∙ found))
+    by false is rest =
+        let left : row_in rs h ≡ None = rw is at none in
+        rw is (ap (λ t. r ∷ t) (rest left))

@@ -1,0 +1,14 @@
+use Rattle.std.proofs.Common.{◌≡◌, ℕ, ◌≤◌, suc, length, slice_get, Some}
+use Rattle.global_handles.specs.declared.Slot.{Slot}
+use Rattle.global_handles.proofs.Chains.{cleared_above}
+use Rattle.global_handles.proofs.clear_chain.Given as goal
+
+abbrev pub invariant-loop-at : goal.invariant-loop-at
+invariant-loop-at l = record {
+  cleared : l.slots.items ≡ cleared_above l.fn.p l.at l.initial.slots.items;
+  within : l.at ≤ length l.initial.slots.items;
+  own : (j : ℕ) (s : Slot) → l.at ≡ suc j → slice_get l.initial.slots.items j ≡ Some s → s.peer ≡ l.fn.p;
+}
+
+abbrev pub decreases-loop-at : goal.decreases-loop-at
+decreases-loop-at l = l.at

@@ -1,0 +1,363 @@
+// The global handles: the table through which one heap names objects of the other, as in the Java Native
+// Interface's global and weak global references.
+//
+// A row has a number, the peer that it names, whether a managed object holds it or a raw global name does,
+// and whether it is strong or weak. A strong row keeps its peer alive; a weak one doesn't, and is cleared when
+// its peer is freed.
+//
+// The life of a row: `make` puts it into the table under the next number; numbers are never used again.
+// `target` reads the peer. While a bridge cycle asks the peer heap which objects live, `weaken` makes the
+// strong rows of the cycle weak; the peer heap marks and sweeps, and calls `clear_target` for each peer that
+// it frees; `restore` then makes a row strong again, or removes it where it was cleared. `release` removes a
+// row. None of these but `make` takes memory.
+#![tactic(auto)]
+
+ghost use Rattle.std.specs.Prelude.{◌≡◌, ◌==◌, ◌+◌, ◌≤◌, ◌↔◌, [], ◌∷◌, ◌++◌, true, length, map, All, ok_or, ℕ, ◌-◌, ◌≢◌, if◌then◌else◌, Ok, Err, None, Some, OnOk, OnErr, IfOk};
+ghost use Rattle.std.specs.Option.{option_map};
+ghost use Rattle.global_handles.specs.Slots.{slot_of, with_row, head_in, cleared_slot, IsLinked, Leads};
+ghost use Rattle.global_handles.specs.Rows.{row_in, target_in, strength_in, cleared_in, fresh_row, with_strength, changed, cleared_for, without, not_live, IsWeakFor, IsRising};
+
+use joint_model::{HNum, PNum};
+use std::alloc::{AllocError, Global};
+use std::collections::HashMap;
+use std::marker::Model;
+
+/// The most handles that are ever made in one [`HandleTable`].
+const MOST: usize = 65_535;
+
+/// Who names the peer by a row: a managed object that holds it, or a raw global name.
+#[derive(Clone, Copy, PartialEq, Eq, Debug)]
+pub enum Hold {
+    Held,
+    Raw,
+}
+
+/// Whether a row keeps its peer alive.
+#[derive(Clone, Copy, PartialEq, Eq, Debug)]
+pub enum Strength {
+    Strong,
+    Weak,
+}
+
+/// A row of the table. A row that is cleared leads to no peer any more, but still tells which one it named.
+#[derive(Clone, Copy, PartialEq, Eq, Debug)]
+pub struct HandleRow {
+    pub number: HNum,
+    pub peer: PNum,
+    pub hold: Hold,
+    pub strength: Strength,
+    pub cleared: bool,
+}
+
+/// What a weak row came back as: its peer lives, or the row was cleared.
+#[derive(Clone, Copy, PartialEq, Eq, Debug)]
+pub enum Back {
+    Alive,
+    Cleared,
+}
+
+/// Why a handle wasn't made.
+#[derive(Clone, Copy, PartialEq, Eq, Debug)]
+pub enum HandleFault {
+    /// There is no memory for one more row.
+    OutOfMemory,
+    /// 65,535 handles were made, and numbers are never used again.
+    HandlesFull,
+}
+
+impl From<AllocError> for HandleFault {
+    ghost use Rattle.std.specs.Prelude.{◌≡◌};
+    ghost use Rattle.global_handles.specs.declared.HandleFault.TheVariants.{OutOfMemory};
+
+    ghost from_gives = { λ _ fault. fault ≡ OutOfMemory };
+
+    fn from(_: AllocError) -> HandleFault {
+        HandleFault::OutOfMemory
+    }
+}
+
+/// The handle `h` isn't in the table.
+#[derive(Clone, Copy, PartialEq, Eq, Debug)]
+pub struct NotLive {
+    pub h: HNum,
+}
+
+// What is kept of a row: all but its number, which is told by its place, and its peer.
+#[derive(Clone, Copy)]
+struct Kept {
+    hold: Hold,
+    strength: Strength,
+    cleared: bool,
+}
+
+// The place of one number: the peer that the handle was made on, its row until that is removed, and the number
+// of the handle before it that was made on the same peer. That number is 0 where there is none, and where the
+// handles before were cleared already.
+#[derive(Clone, Copy)]
+struct Slot {
+    peer: PNum,
+    next: u32,
+    row: Option<Kept>,
+}
+
+impl Slot {
+    ghost use Rattle.global_handles.specs.Slots.{row_of, cleared_kept};
+
+    // The slot's row, under its number.
+    fn row(self, h: HNum) -> Option<HandleRow>
+        ensures { result ≡ row_of h.0 self }
+    {
+        let kept = self.row?;
+        Some(HandleRow {
+            number: h,
+            peer: self.peer,
+            hold: kept.hold,
+            strength: kept.strength,
+            cleared: kept.cleared,
+        })
+    }
+
+    // The slot, with its row cleared.
+    fn cleared(self) -> Slot
+        ensures { result ≡ record { peer = self.peer; next = self.next; row = option_map cleared_kept self.row } }
+    {
+        let row = match self.row {
+            Some(kept) => Some(Kept {
+                cleared: true,
+                ..kept
+            }),
+            None => None,
+        };
+        Slot { row, ..self }
+    }
+}
+
+/// The handles from one heap into the other: rows in rising number. At most 65,535 are ever made.
+#[derive(Drop)]
+pub struct HandleTable {
+    slots: Vec<Slot>,
+    heads: HashMap<PNum, u32>,
+    live: u32,
+}
+
+impl Model for HandleTable {
+    ghost use Rattle.global_handles.specs.Rows.{Table};
+
+    ghost Value = { Table };
+
+    ghost use Rattle.global_handles.specs.Slots.{table_of, IsTable};
+
+    ghost view = { table_of };
+
+    ghost invariant = { IsTable };
+}
+
+impl HandleTable {
+    /// An empty table. It keeps the allocator, and takes no memory.
+    pub fn new(alloc: Global) -> HandleTable
+        ensures rows { result.rows ≡ [] }
+        ensures made { result.made ≡ 0 }
+    {
+        HandleTable {
+            slots: Vec::new(alloc),
+            heads: HashMap::new(alloc),
+            live: 0,
+        }
+    }
+
+    /// Makes a handle on `p`, whose number is the count made plus 1. The new row isn't cleared.
+    ///
+    /// Answers `HandlesFull` exactly where 65,535 were made by this call, which is tested before memory is asked
+    /// for, and `OutOfMemory` where there is no memory for the row. After either the table is as before.
+    pub fn make(&mut self, p: PNum, hold: Hold, strength: Strength) -> Result<HNum, HandleFault>
+        ensures number { IfOk result (λ h. h.0 ≡ self.old.made + 1) }
+        ensures rows { IfOk result (λ h. self.new.rows ≡ self.old.rows ++ fresh_row h p hold strength ∷ []) }
+        ensures made { OnOk result (self.new.made ≡ self.old.made + 1) }
+        ensures full { (result ≡ Err HandleFault.HandlesFull) ↔ (self.old.made ≡ 65535) }
+        ensures err { OnErr result (self.new ≡ self.old) }
+        ensures rising { IsRising self.new }
+    {
+        if self.slots.len() == MOST {
+            return Err(HandleFault::HandlesFull);
+        }
+        self.slots.reserve(1)?;
+        let number = self.slots.len() as u32 + 1;
+        let next = set_head(&mut self.heads, p, number)?;
+        let kept = Kept {
+            hold,
+            strength,
+            cleared: false,
+        };
+        self.slots.push_reserved(Slot {
+            peer: p,
+            next,
+            row: Some(kept),
+        });
+        self.live += 1;
+        Ok(HNum(number))
+    }
+
+    /// The peer that `h` leads to; None exactly where `h` isn't in the table or is cleared.
+    pub fn target(&self, h: HNum) -> Option<PNum>
+        ensures { result ≡ target_in self.now.rows h }
+    {
+        let row = self.row(h)?;
+        if row.cleared { None } else { Some(row.peer) }
+    }
+
+    /// The row of `h`; None exactly where `h` isn't in the table.
+    pub fn row(&self, h: HNum) -> Option<HandleRow>
+        ensures row { result ≡ row_in self.now.rows h }
+        ensures rising { IsRising self.now }
+    {
+        find(self.slots.as_slice(), h)?.row(h)
+    }
+
+    /// Makes a strong row weak. It takes no memory.
+    pub fn weaken(&mut self, h: HNum)
+        requires { strength_in self.old.rows h ≡ Some Strength.Strong }
+        ensures rows { self.new.rows ≡ changed (with_strength Strength.Weak) h self.old.rows }
+        ensures made { self.new.made ≡ self.old.made }
+        ensures rising { IsRising self.new }
+    {
+        self.set_strength(h, Strength::Weak);
+    }
+
+    /// Makes a weak row strong again, and answers `Alive`; or removes it and answers `Cleared`, exactly where it
+    /// is cleared. It takes no memory.
+    pub fn restore(&mut self, h: HNum) -> Back
+        requires { strength_in self.old.rows h ≡ Some Strength.Weak }
+        ensures cleared { (result ≡ Back.Cleared) ↔ (cleared_in self.old.rows h ≡ Some true) }
+        ensures removed { result ≡ Back.Cleared → self.new.rows ≡ without h self.old.rows }
+        ensures strong { result ≡ Back.Alive → self.new.rows ≡ changed (with_strength Strength.Strong) h self.old.rows }
+        ensures made { self.new.made ≡ self.old.made }
+        ensures rising { IsRising self.new }
+    {
+        if self.target(h).is_none() {
+            let _ = self.release(h);
+            return Back::Cleared;
+        }
+        self.set_strength(h, Strength::Strong);
+        Back::Alive
+    }
+
+    // Changes the strength of a row.
+    fn set_strength(&mut self, h: HNum, strength: Strength)
+        requires { row_in self.old.rows h ≢ None }
+        ensures rows { self.new.rows ≡ changed (with_strength strength) h self.old.rows }
+        ensures made { self.new.made ≡ self.old.made }
+        ensures rising { IsRising self.new }
+    {
+        let Some(row) = self.row(h) else {
+            unreachable!();
+        };
+        let kept = Kept {
+            hold: row.hold,
+            strength,
+            cleared: row.cleared,
+        };
+        set_row(&mut self.slots, h, Some(kept));
+    }
+
+    /// Clears each row of `p`, whose object is freed. It takes no memory. It costs what the handles cost that
+    /// were made on `p` since it was last cleared, those that were released among them, and no scan of the
+    /// table.
+    pub fn clear_target(&mut self, p: PNum)
+        requires { All (IsWeakFor p) self.old.rows }
+        ensures rows { self.new.rows ≡ cleared_for p self.old.rows }
+        ensures made { self.new.made ≡ self.old.made }
+        ensures rising { IsRising self.new }
+    {
+        let from = self.heads.remove(&p).unwrap_or(0);
+        clear_chain(&mut self.slots, p, from);
+    }
+
+    /// Removes the row of `h` and answers it, as it stood. It takes no memory.
+    ///
+    /// Answers `NotLive`, with nothing changed, exactly where `h` isn't in the table.
+    pub fn release(&mut self, h: HNum) -> Result<HandleRow, NotLive>
+        ensures row { result ≡ ok_or (row_in self.old.rows h) (not_live h) }
+        ensures rows { self.new.rows ≡ without h self.old.rows }
+        ensures made { self.new.made ≡ self.old.made }
+        ensures err { OnErr result (self.new ≡ self.old) }
+        ensures rising { IsRising self.new }
+    {
+        let Some(row) = self.row(h) else {
+            return Err(NotLive { h });
+        };
+        set_row(&mut self.slots, h, None);
+        self.live -= 1;
+        Ok(row)
+    }
+
+    /// The number of rows in the table.
+    pub fn len(&self) -> u32
+        ensures { result ≡ length self.now.rows }
+    {
+        self.live
+    }
+
+    /// Whether the table has no row.
+    pub fn is_empty(&self) -> bool
+        ensures { result ≡ (length self.now.rows == 0) }
+    {
+        self.live == 0
+    }
+
+    /// How many handles were ever made: the number of the last one. At most 65,535.
+    pub fn made(&self) -> u32
+        ensures made { result ≡ self.now.made }
+        ensures most { result ≤ 65535 }
+        ensures rising { IsRising self.now }
+    {
+        self.slots.len() as u32
+    }
+}
+
+// The slot of a handle, if one was made under this number.
+fn find(slots: &[Slot], h: HNum) -> Option<Slot>
+    ensures { result ≡ slot_of slots.now h }
+{
+    if h.0 == 0 {
+        return None;
+    }
+    slots.get(h.0 as usize - 1).copied()
+}
+
+// Changes or removes the row in the slot of a handle.
+fn set_row(slots: &mut Vec<Slot>, h: HNum, row: Option<Kept>)
+    requires one { 1 ≤ h.0 }
+    requires within { h.0 ≤ length slots.old.items }
+    ensures { slots.new.items ≡ with_row slots.old.items (h.0 - 1) row }
+{
+    slots[h.0 as usize - 1].row = row;
+}
+
+// Lets the slots of a peer begin at this number, and answers where they began before; 0 where there were none.
+fn set_head(heads: &mut HashMap<PNum, u32>, p: PNum, number: u32) -> Result<u32, AllocError>
+    ensures before { IfOk result (λ n. n ≡ head_in heads.old.entries p) }
+    ensures head { OnOk result ((q : PNum) → head_in heads.new.entries q ≡ (if p.0 == q.0 then number else head_in heads.old.entries q)) }
+    ensures err { OnErr result (heads.new.entries ≡ heads.old.entries) }
+{
+    match heads.insert(p, number) {
+        Ok(before) => Ok(before.unwrap_or(0)),
+        Err(_) => Err(AllocError),
+    }
+}
+
+// Clears each row of a peer, from the slot of this number on to the earlier ones.
+fn clear_chain(slots: &mut Vec<Slot>, p: PNum, from: u32)
+    requires linked { IsLinked slots.old.items }
+    requires leads { Leads slots.old.items p from (length slots.old.items) }
+    ensures { slots.new.items ≡ map (cleared_slot p) slots.old.items }
+{
+    let mut at = from;
+    while at > 0 {
+        let slot = slots[at as usize - 1];
+        slots[at as usize - 1] = slot.cleared();
+        at = slot.next;
+    }
+}
+
+#[cfg(test)]
+mod tests;

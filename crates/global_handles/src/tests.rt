@@ -1,0 +1,58 @@
+use super::*;
+use std::test::Fail;
+
+#[test]
+fn clears_and_removes_the_rows_of_a_peer(rt: HostRuntime) -> Result<(), Fail> {
+    let mut table = HandleTable::new(rt.alloc());
+    let first = table.make(PNum(1), Hold::Held, Strength::Strong)?;
+    assert_eq!(rt; first, HNum(1));
+    let second = table.make(PNum(1), Hold::Raw, Strength::Weak)?;
+    assert_eq!(rt; second, HNum(2));
+    table.weaken(first);
+    table.clear_target(PNum(1));
+    assert_eq!(rt; table.target(second), None);
+    assert_eq!(rt; table.restore(first), Back::Cleared);
+    assert_eq!(rt; table.release(first), Err(NotLive { h: first }));
+    let cleared = HandleRow {
+        number: HNum(2),
+        peer: PNum(1),
+        hold: Hold::Raw,
+        strength: Strength::Weak,
+        cleared: true,
+    };
+    assert_eq!(rt; table.release(second), Ok(cleared));
+    assert_eq!(rt; table.len(), 0);
+    Ok(())
+}
+
+#[test]
+fn is_full_once_all_numbers_were_given(rt: HostRuntime) -> Result<(), Fail> {
+    let mut table = HandleTable::new(rt.alloc());
+    let mut last = HNum(0);
+    for n in 0..65_535u32 {
+        last = table.make(PNum(n / 7), Hold::Held, Strength::Strong)?;
+    }
+    assert_eq!(rt; last, HNum(65_535));
+    assert_eq!(rt;
+        table.make(PNum(1), Hold::Held, Strength::Strong),
+        Err(HandleFault::HandlesFull)
+    );
+    assert_eq!(rt; table.made(), 65_535);
+    Ok(())
+}
+
+#[test]
+fn restores_a_row_that_was_not_cleared(rt: HostRuntime) -> Result<(), Fail> {
+    let mut table = HandleTable::new(rt.alloc());
+    let first = table.make(PNum(4), Hold::Held, Strength::Strong)?;
+    let second = table.make(PNum(5), Hold::Held, Strength::Strong)?;
+    table.weaken(first);
+    table.clear_target(PNum(6));
+    assert_eq!(rt; table.restore(first), Back::Alive);
+    assert_eq!(rt;
+        (table.target(first), table.target(second)),
+        (Some(PNum(4)), Some(PNum(5)))
+    );
+    assert_eq!(rt; (table.len(), table.made()), (2, 2));
+    Ok(())
+}

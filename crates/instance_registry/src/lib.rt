@@ -1,0 +1,141 @@
+// The instance registry: which managed object stands for which peer.
+//
+// A bridge object and its peer are twins: two halves of one instance, one in each heap. When a peer comes to
+// the managed side, the registry tells whether a managed object stands for it already, so that no second one
+// is made.
+//
+// The life of a pair: `register` puts it last, when the managed half is made; it is refused where the peer has
+// a twin. `twin` finds the managed half by a hash of the peer's number. `forget` takes the pair out, when the
+// managed half is freed or disposed of. `len` and `entry` walk the pairs in the order of their registration.
+// No peer ever stands in two pairs.
+#![tactic(auto)]
+
+ghost use Rattle.std.specs.Prelude.{◌≡◌, ◌==◌, ◌↔◌, [], ◌∷◌, ◌++◌, length, slice_get, Ok, Err, None, Some, OnOk, OnErr, IfErr};
+ghost use Rattle.instance_registry.specs.Pairs.{twin_in, without, PeersDistinct};
+
+use indexmap::IndexMap;
+use joint_model::{MNum, PNum};
+use std::alloc::Global;
+use std::marker::Model;
+
+/// The most pairs that a [`Registry`] holds.
+const MOST: usize = 4_294_967_295;
+
+/// Why a pair wasn't registered.
+#[derive(Clone, Copy, PartialEq, Eq, Debug)]
+pub enum RegisterFault {
+    /// There is no memory for one more pair.
+    OutOfMemory,
+    /// The peer has a twin already: `m`.
+    Taken { m: MNum },
+}
+
+/// Pairs of a peer and the managed object that stands for it, in the order of their registration. No peer
+/// stands in two pairs. It holds at most 4,294,967,295; a growth past that is refused as a growth.
+#[derive(Drop)]
+pub struct Registry {
+    pairs: IndexMap<PNum, MNum>,
+}
+
+impl Model for Registry {
+    ghost use Rattle.std.specs.Prelude.{List, ◌≤◌, length};
+    ghost use Rattle.joint_model.specs.declared.names.MNum.{MNum};
+    ghost use Rattle.joint_model.specs.declared.names.PNum.{PNum};
+
+    ghost Value = { List (PNum × MNum) };
+
+    ghost view = { λ s. s.pairs.entries };
+
+    ghost invariant = { λ s. length s.pairs.entries ≤ 4294967295 };
+}
+
+impl Registry {
+    /// A registry with no pair. It keeps the allocator, and takes no memory.
+    pub fn new(alloc: Global) -> Registry
+        ensures { result ≡ [] }
+    {
+        Registry {
+            pairs: IndexMap::new(alloc),
+        }
+    }
+
+    /// Puts the pair of `p` and `m` last.
+    ///
+    /// Answers `Taken` exactly where `p` has a twin, with that twin, whatever `m` is; this is tested before
+    /// memory is asked for. Answers `OutOfMemory` where there is no memory for the pair, or where there are
+    /// 4,294,967,295 pairs. After either the registry is as before.
+    pub fn register(&mut self, p: PNum, m: MNum) -> Result<(), RegisterFault>
+        ensures ok { OnOk result (self.new ≡ self.old ++ (p, m) ∷ []) }
+        ensures taken { (twin : MNum) → (result ≡ Err (RegisterFault.Taken twin)) ↔ (twin_in self.old p ≡ Some twin) }
+        ensures err { OnErr result (self.new ≡ self.old) }
+        ensures distinct { PeersDistinct self.new }
+    {
+        if let Some(twin) = self.twin(p) {
+            return Err(RegisterFault::Taken { m: twin });
+        }
+        self.add(p, m)
+    }
+
+    // Puts the pair of a peer without a twin last.
+    fn add(&mut self, p: PNum, m: MNum) -> Result<(), RegisterFault>
+        requires { twin_in self.old p ≡ None }
+        ensures ok { OnOk result (self.new ≡ self.old ++ (p, m) ∷ []) }
+        ensures cause { IfErr result (λ fault. fault ≡ RegisterFault.OutOfMemory) }
+        ensures err { OnErr result (self.new ≡ self.old) }
+        ensures distinct { PeersDistinct self.new }
+    {
+        if self.pairs.len() == MOST {
+            return Err(RegisterFault::OutOfMemory);
+        }
+        match self.pairs.insert(p, m) {
+            Ok(_) => Ok(()),
+            Err(_) => Err(RegisterFault::OutOfMemory),
+        }
+    }
+
+    /// The managed object that stands for `p`; None exactly where `p` has no twin. The look-up is by hash.
+    pub fn twin(&self, p: PNum) -> Option<MNum>
+        ensures twin { result ≡ twin_in self.now p }
+        ensures distinct { PeersDistinct self.now }
+    {
+        let _unique = self.pairs.len();
+        self.pairs.get(&p).copied()
+    }
+
+    /// Takes out the pair of `p` and answers its managed number; None, with nothing changed, exactly where `p`
+    /// has no twin. It takes no memory. The other pairs keep their order, so each later pair moves down by one
+    /// place: emptying a registry of 20,000 pairs from the front takes about half a second.
+    pub fn forget(&mut self, p: PNum) -> Option<MNum>
+        ensures twin { result ≡ twin_in self.old p }
+        ensures pairs { self.new ≡ without self.old p }
+        ensures distinct { PeersDistinct self.new }
+    {
+        self.pairs.shift_remove(&p)
+    }
+
+    /// The number of pairs.
+    pub fn len(&self) -> u32
+        ensures { result ≡ length self.now }
+    {
+        self.pairs.len() as u32
+    }
+
+    /// Whether there is no pair.
+    pub fn is_empty(&self) -> bool
+        ensures { result ≡ (length self.now == 0) }
+    {
+        self.pairs.len() == 0
+    }
+
+    /// The pair at place `i`, from 0, in the order of registration; None exactly where `i` isn't below the
+    /// number of pairs.
+    pub fn entry(&self, i: u32) -> Option<(PNum, MNum)>
+        ensures { result ≡ slice_get self.now i }
+    {
+        let (p, m) = self.pairs.get_index(i as usize)?;
+        Some((*p, *m))
+    }
+}
+
+#[cfg(test)]
+mod tests;
