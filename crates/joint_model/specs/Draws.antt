@@ -1,5 +1,5 @@
 -- How the entries of a history get their numbers.
-use Rattle.std.specs.Prelude.{◌≡◌, ℕ, ◌+◌, List, [], ◌∷◌, Option, None}
+use Rattle.std.specs.Prelude.{◌≡◌, ℕ, ◌+◌, ◌<◌, List, [], ◌∷◌, ◌++◌, All, Option, None}
 use Rattle.joint_model.specs.declared.names.MNum.{MNum}
 use Rattle.joint_model.specs.declared.events.Entry.{Entry}
 use Rattle.joint_model.specs.declared.events.Made.{Made}
@@ -31,3 +31,13 @@ NumberedFrom n (e ∷ es) = (e.number ≡ n) × NumberedFrom (n + 1) es
 -- a plain count drew the entry: its number is the count, which rose by one
 abbrev pub CountDrew : ℕ → Entry → Option MNum → List MNum → ℕ → Type 0
 CountDrew count e target freed after = (e.number ≡ count) × (after ≡ count + 1)
+
+-- one entry was drawn and put last: what was made, with its number, its target and what it frees
+pub record Adds {D : Type 0} (drew : D → Entry → Option MNum → List MNum → D → Type 0) (before after : D) (old new : List Entry) (m : Made) (target : Option MNum) (freed : List MNum) : Type 0 where
+  pub number : ℕ
+  pub drawn : drew before (numbered number m) target freed after
+  pub added : new ≡ old ++ numbered number m ∷ []
+
+-- each number in the list lies below the floor
+abbrev pub AllBelow : List Entry → ℕ → Type 0
+AllBelow entries floor = All (λ e. e.number < floor) entries
