@@ -3,6 +3,7 @@
 ghost use Rattle.std.specs.Prelude.{◌≡◌, ℕ, ◌<◌, length, slice_get, slice_index, slice_index_or, IfSome, Some, map};
 ghost use Rattle.bridge_graph.specs.Parts.{Part, IsPart, row_at, opaque_at, HasNode};
 
+use crate::packing::packed_row;
 use joint_model::{HNum, MNum};
 use std::marker::Model;
 
@@ -91,13 +92,6 @@ impl DeadGraph {
         ensures few { length result.now < 4294967296 }
         ensures part { IsPart self.now.nodes self.now.edges }
     {
-        let at = i as usize;
-        let start = self.starts[at] as usize;
-        let end = if at + 1 < self.starts.len() {
-            self.starts[at + 1] as usize
-        } else {
-            self.targets.len()
-        };
-        &self.targets[start..end]
+        packed_row(&self.starts, &self.targets, i as usize)
     }
 }

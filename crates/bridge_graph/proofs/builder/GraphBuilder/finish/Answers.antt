@@ -18,8 +18,7 @@ packed_part : (nodes : List Node) (heads : List ℕ) (links : List Link) (follow
     → IsBuilding nodes heads links follows targets space → length starts ≡ length nodes → length made < 4294967296 → IsPacked starts made links → IsPackedPart nodes starts made
 packed_part nodes heads links follows targets starts made space b e m p = record {
   count = e;
-  order = p.order;
-  within = p.within;
+  cut = p.cut;
   most = m;
   part = rw (packed-rows links starts made (length nodes) e p) (part_of nodes heads links follows targets space b) }
 
