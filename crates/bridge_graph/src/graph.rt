@@ -1,7 +1,7 @@
 // The finished part, which is only read.
 
-ghost use Rattle.std.specs.Prelude.{◌≡◌, ℕ, ◌<◌, length, slice_get, slice_index, slice_index_or, IfSome, Some, map};
-ghost use Rattle.bridge_graph.specs.Parts.{Part, IsPart, row_at, opaque_at, HasNode};
+ghost use Rattle.std.specs.Prelude.{◌≡◌, ℕ, ◌<◌, length, slice_get, slice_index, slice_index_or, IfSome, Some, map, All, MatchBool};
+ghost use Rattle.bridge_graph.specs.Parts.{Part, IsPart, IsBridge, row_at, opaque_at, HasNode};
 
 use crate::packing::packed_row;
 use joint_model::{HNum, MNum};
@@ -67,6 +67,14 @@ impl DeadGraph {
         self.nodes[i as usize].handle
     }
 
+    /// Whether node `i` is a bridge node.
+    pub fn is_bridge(&self, i: u32) -> bool
+        requires { i < length self.now.nodes }
+        ensures { MatchBool result (IsBridge self.now.nodes i) (¬ IsBridge self.now.nodes i) }
+    {
+        self.nodes[i as usize].handle.is_some()
+    }
+
     /// How many edges node `i` has.
     pub fn degree(&self, i: u32) -> u32
         requires { i < length self.now.nodes }
@@ -90,6 +98,7 @@ impl DeadGraph {
         requires { i < length self.now.nodes }
         ensures row { result.now ≡ row_at self.now.edges i }
         ensures few { length result.now < 4294967296 }
+        ensures in_range { All (λ y. y < length self.now.nodes) result.now }
         ensures part { IsPart self.now.nodes self.now.edges }
     {
         packed_row(&self.starts, &self.targets, i as usize)

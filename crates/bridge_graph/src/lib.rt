@@ -15,7 +15,7 @@ mod packing;
 
 pub use builder::GraphBuilder;
 pub use graph::{DeadGraph, Node};
-pub use packing::packed_row;
+pub use packing::{Link, PackedRows, pack_rows, packed_row};
 
 #[cfg(test)]
 mod tests {
