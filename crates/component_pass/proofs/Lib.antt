@@ -1,0 +1,5 @@
+pub mod Finding
+pub mod Least
+pub mod Grouped
+pub mod Listed
+pub mod Crossing
