@@ -1,1 +1,4 @@
 pub mod Outside
+pub mod Words
+pub mod Scripts
+pub mod Causes

@@ -2,8 +2,11 @@
 // history is written as a report.
 #![tactic(auto)]
 
+mod faults;
 mod memory;
 mod outside;
+mod words;
 
+pub use faults::{Cause, ScriptError, ScriptFault};
 pub use memory::{ByteSink, ByteSource, CountSink, PlainSource};
 pub use outside::{Failed, FreeTurn, Sink, Source, Turnstile};

@@ -1,0 +1,67 @@
+-- Which bytes are a script, and which of their lines is the first that is none.
+use Rattle.std.specs.Prelude.{◌≡◌, ◌≢◌, ℕ, ◌+◌, ◌≤◌, ◌<◌, ◌⊎◌, min, Bool, true, false, List, [], ◌∷◌, ◌++◌, length, Option, Some, None, All, flat_map, count_by}
+use Rattle.joint_model.specs.declared.names.Thread.{Thread}
+use Rattle.joint_model.specs.declared.names.Thread.TheVariants.{M, P, C}
+use Rattle.joint_model.specs.declared.names.Kind.TheVariants as kind
+use Rattle.joint_model.specs.declared.names.Sort.TheVariants as sort
+use Rattle.joint_model.specs.declared.names.PhaseWord.TheVariants as phase
+use Rattle.joint_model.specs.declared.lines.Act.{Act}
+use Rattle.joint_model.specs.declared.lines.Act.TheVariants as act
+use Rattle.bridge_script.specs.declared.faults.ScriptFault.{ScriptFault}
+use Rattle.bridge_script.specs.declared.faults.Cause.TheVariants.{Unknown}
+use Rattle.bridge_script.specs.Words.{IsVar, IsOptional, line_text}
+
+-- the line is one of those that are built, and each of its places is within its limits:
+-- `m1 bridge V bridge N user F`, `m1 set V I W|-`, `m1 drop V`, `c cycle`
+abbrev pub IsBuilt : Thread × Act → Type 0
+IsBuilt (M n, act.Bridge v kind.Bridge fields sort.User peer_fields) = (n ≡ 1) × IsVar v × (fields ≤ 16) × (peer_fields ≤ 16)
+IsBuilt (M n, act.Set v i w) = (n ≡ 1) × IsVar v × (i ≤ 255) × IsOptional w
+IsBuilt (M n, act.Drop v) = (n ≡ 1) × IsVar v
+IsBuilt (C, act.PhaseLine phase.Cycle) = Unit {0}
+IsBuilt _ = ⊥
+
+-- whether a line is `c cycle`
+abbrev pub is_cycle : Thread × Act → Bool
+is_cycle (C, act.PhaseLine phase.Cycle) = true
+is_cycle _ = false
+
+-- how many lines are `c cycle`
+abbrev pub cycles_of : List (Thread × Act) → ℕ
+cycles_of lines = count_by is_cycle lines
+
+-- the lines of a script one after another, each with its newline
+abbrev pub script_text_of : List (Thread × Act) → List ℕ
+script_text_of lines = flat_map (λ line. line_text line ++ 10 ∷ []) lines
+
+-- the lines are lines of a script: each is built, at most 20,000, of which at most 256 are `c cycle`
+pub record IsScript (script : List (Thread × Act)) : Type 0 where
+  pub built : All IsBuilt script
+  pub lines : length script ≤ 20000
+  pub cycles : cycles_of script ≤ 256
+
+-- the bytes are the script's text, or that text without its last newline where there is a line; and they
+-- are at most 8,388,608
+pub record IsText (bytes : List ℕ) (script : List (Thread × Act)) : Type 0 where
+  pub lawful : IsScript script
+  pub text : (bytes ≡ script_text_of script) ⊎ ((0 < length script) × (bytes ++ 10 ∷ [] ≡ script_text_of script))
+  pub size : length bytes ≤ 8388608
+
+-- how many bytes there are up to the end of a line that stands behind the text `before`, its newline counted
+-- where it has one
+abbrev pub end_of : List ℕ → List ℕ → List ℕ → ℕ
+end_of bytes before line = min (length before + length line + 1) (length bytes)
+
+-- the fault names the first line that is no line of a script, and why: the lines `before` it are a script's,
+-- it has at least one byte, its newline counted, and no script within the limits goes on with it
+pub record IsFault (bytes : List ℕ) (fault : ScriptFault) : Type 0 where
+  pub before : List (Thread × Act)
+  pub line : List ℕ
+  pub rest : List ℕ
+  pub stands : bytes ++ 10 ∷ [] ≡ script_text_of before ++ (line ++ 10 ∷ rest)
+  pub some : length (script_text_of before) < length bytes
+  pub whole : All (λ b. b ≢ 10) line
+  pub lawful : IsScript before
+  pub size : length (script_text_of before) ≤ 8388608
+  pub number : fault.line ≡ length before + 1
+  pub faulty : (next : Thread × Act) → line_text next ≡ line → IsScript (before ++ next ∷ []) → end_of bytes (script_text_of before) line ≤ 8388608 → ⊥
+  pub cause : fault.cause ≡ Unknown
