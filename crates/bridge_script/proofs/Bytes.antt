@@ -1,7 +1,7 @@
 -- A source that has the bytes xs from place `at` on, and gives n of them, as many as there is room for, has
 -- those from place `at + n` on: what it had is what it gave and what it has left. It gives none only where
 -- there is no room or where it has none.
-use Rattle.std.proofs.Common.{◌≡◌, ℕ, ◌+◌, ◌-◌, ◌<◌, ◌≤◌, min, List, [], ◌++◌, length, take, drop, sym, ◌∙◌, ap, refl, arith, length-drop}
+use Rattle.std.proofs.Common.{◌≡◌, ℕ, ◌+◌, ◌-◌, ◌<◌, min, List, [], ◌++◌, length, take, drop, refl, arith, length-drop}
 use Rattle.std.proofs.lemmas.List.{take-append-drop, drop-drop, take_all, nil_from_length}
 
 -- the part of a list from a place on, as code cuts it, is the rest of the list

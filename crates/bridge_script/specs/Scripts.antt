@@ -1,5 +1,5 @@
 -- Which bytes are a script, and which of their lines is the first that is none.
-use Rattle.std.specs.Prelude.{◌≡◌, ◌≢◌, ℕ, ◌+◌, ◌≤◌, ◌<◌, ◌⊎◌, min, Bool, true, false, List, [], ◌∷◌, ◌++◌, length, Option, Some, None, All, flat_map, count_by}
+use Rattle.std.specs.Prelude.{◌≡◌, ◌≢◌, ℕ, ◌+◌, ◌≤◌, ◌<◌, ◌⊎◌, min, Bool, true, false, List, [], ◌∷◌, ◌++◌, length, Option, MatchOption, All, flat_map, count_by}
 use Rattle.joint_model.specs.declared.names.Thread.{Thread}
 use Rattle.joint_model.specs.declared.names.Thread.TheVariants.{M, P, C}
 use Rattle.joint_model.specs.declared.names.Kind.TheVariants as kind
@@ -9,16 +9,42 @@ use Rattle.joint_model.specs.declared.lines.Act.{Act}
 use Rattle.joint_model.specs.declared.lines.Act.TheVariants as act
 use Rattle.bridge_script.specs.declared.faults.ScriptFault.{ScriptFault}
 use Rattle.bridge_script.specs.declared.faults.Cause.TheVariants.{Unknown}
-use Rattle.bridge_script.specs.Words.{IsVar, IsOptional, line_text}
+use Rattle.bridge_script.specs.Words.{IsVar, IsOptional, act_words, line_words, line_text}
 
--- the line is one of those that are built, and each of its places is within its limits:
--- `m1 bridge V bridge N user F`, `m1 set V I W|-`, `m1 drop V`, `c cycle`
+-- the act of a line of a managed thread that is built, with each place within its limits:
+-- `bridge V bridge N user F`, `set V I W|-`, `drop V`
+abbrev pub IsManagedAct : Act → Type 0
+IsManagedAct (act.Bridge v kind.Bridge fields sort.User peer_fields) = IsVar v × (fields ≤ 16) × (peer_fields ≤ 16)
+IsManagedAct (act.Set v i w) = IsVar v × (i ≤ 255) × IsOptional w
+IsManagedAct (act.Drop v) = IsVar v
+IsManagedAct _ = ⊥
+
+-- the act of a line of the driver that is built: `cycle`
+abbrev pub IsDriverAct : Act → Type 0
+IsDriverAct (act.PhaseLine phase.Cycle) = Unit {0}
+IsDriverAct _ = ⊥
+
+-- the line is one of those that are built: of thread m1 or of c
 abbrev pub IsBuilt : Thread × Act → Type 0
-IsBuilt (M n, act.Bridge v kind.Bridge fields sort.User peer_fields) = (n ≡ 1) × IsVar v × (fields ≤ 16) × (peer_fields ≤ 16)
-IsBuilt (M n, act.Set v i w) = (n ≡ 1) × IsVar v × (i ≤ 255) × IsOptional w
-IsBuilt (M n, act.Drop v) = (n ≡ 1) × IsVar v
-IsBuilt (C, act.PhaseLine phase.Cycle) = Unit {0}
-IsBuilt _ = ⊥
+IsBuilt (M n, a) = (n ≡ 1) × IsManagedAct a
+IsBuilt (P n, a) = ⊥
+IsBuilt (C, a) = IsDriverAct a
+
+-- what a reader of a line's text answers: the line that has the text, or none where no line has it
+abbrev pub ReadsLine : List ℕ → Option (Thread × Act) → Type 0
+ReadsLine text result = MatchOption result ((line : Thread × Act) → IsBuilt line → line_text line ≢ text) (λ line. IsBuilt line × (line_text line ≡ text))
+
+-- the same of a line's words
+abbrev pub ReadsWords : List (List ℕ) → Option (Thread × Act) → Type 0
+ReadsWords words result = MatchOption result ((line : Thread × Act) → IsBuilt line → line_words line ≢ words) (λ line. IsBuilt line × (line_words line ≡ words))
+
+-- the same of the words after the driver
+abbrev pub ReadsDriver : List (List ℕ) → Option Act → Type 0
+ReadsDriver words result = MatchOption result ((a : Act) → IsDriverAct a → act_words C a ≢ words) (λ a. IsDriverAct a × (act_words C a ≡ words))
+
+-- the same of the words after a managed thread
+abbrev pub ReadsAct : List (List ℕ) → Option Act → Type 0
+ReadsAct words result = MatchOption result ((a : Act) → IsManagedAct a → act_words (M 1) a ≢ words) (λ a. IsManagedAct a × (act_words (M 1) a ≡ words))
 
 -- whether a line is `c cycle`
 abbrev pub is_cycle : Thread × Act → Bool

@@ -3,6 +3,7 @@
 #![tactic(auto)]
 
 mod faults;
+mod lines;
 mod memory;
 mod outside;
 mod words;

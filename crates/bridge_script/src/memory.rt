@@ -68,6 +68,7 @@ impl ByteSource {
 
 impl Source for ByteSource {
     ghost left = { λ s. Some s.left };
+
     ghost faults = { λ s. s.faults };
 
     fn read(&mut self, buf: &mut [u8]) -> Result<usize, Failed>
@@ -118,6 +119,7 @@ impl PlainSource {
 
 impl Source for PlainSource {
     ghost left = { λ s. Some s };
+
     ghost faults = { λ s. 0 };
 
     fn read(&mut self, buf: &mut [u8]) -> Result<usize, Failed>
@@ -184,6 +186,7 @@ impl ByteSink {
 
 impl Sink for ByteSink {
     ghost held = { λ s. Some s.held };
+
     ghost faults = { λ s. s.faults };
 
     fn write(&mut self, piece: &[u8]) -> Result<usize, Failed>
@@ -199,7 +202,8 @@ impl Sink for ByteSink {
     {
         self.calls = self.calls.saturating_add(1);
         let count = self.most.min(piece.len());
-        if is_listed(&self.fails, self.calls) || self.held.extend_from_slice(&piece[..count]).is_err()
+        if is_listed(&self.fails, self.calls)
+            || self.held.extend_from_slice(&piece[..count]).is_err()
         {
             self.faults = self.faults.saturating_add(1);
             return Err(Failed);
@@ -240,6 +244,7 @@ impl CountSink {
 
 impl Sink for CountSink {
     ghost held = { λ s. None };
+
     ghost faults = { λ s. 0 };
 
     fn write(&mut self, piece: &[u8]) -> Result<usize, Failed>

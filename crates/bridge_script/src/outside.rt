@@ -17,6 +17,7 @@ pub struct Failed;
 /// `left` are the bytes that are left, where the source tells them, and `faults` counts its faults.
 pub trait Source {
     ghost left: { Self → Option (List ℕ) };
+
     ghost faults: { Self → ℕ };
 
     /// Takes the next bytes into the front of `buf` and answers how many. 0 for a buffer that isn't empty is
@@ -32,6 +33,7 @@ pub trait Source {
 /// `held` are the bytes that it holds, where the sink tells them, and `faults` counts its faults.
 pub trait Sink {
     ghost held: { Self → Option (List ℕ) };
+
     ghost faults: { Self → ℕ };
 
     /// Appends the first bytes of `piece` and answers how many, at least 1 of a piece that isn't empty.

@@ -11,6 +11,7 @@ use std::marker::Model;
 
 /// The words of a line that are left: it is cut at each single space, so two spaces in a row give an empty
 /// word, and an empty line is one empty word.
+#[derive(Drop)]
 pub struct Words<'a> {
     left: &'a [u8],
     done: bool,
@@ -80,7 +81,7 @@ fn var(word: &[u8]) -> Option<Var>
 }
 
 /// Whether two texts are the same.
-fn is_same(a: &[u8], b: &[u8]) -> bool
+pub fn is_same(a: &[u8], b: &[u8]) -> bool
     ensures { MatchBool result (a.now ≡ b.now) (a.now ≢ b.now) }
 {
     a == b
@@ -118,7 +119,11 @@ fn small_number(word: &[u8], most: u8) -> Option<u8>
     ensures { MatchOption result ((n : ℕ) → n ≤ most → decimal n ≢ word.now) (λ n. (n ≤ most) × (decimal n ≡ word.now)) }
 {
     let n = number(word)?;
-    if n <= most as u64 { Some(n as u8) } else { None }
+    if n <= most as u64 {
+        Some(n as u8)
+    } else {
+        None
+    }
 }
 
 impl<'a> Words<'a> {

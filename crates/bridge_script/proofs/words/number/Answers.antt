@@ -1,7 +1,6 @@
-use Rattle.std.proofs.Common.{◌≡◌, ◌<◌, sym, ap, ◌∙◌, decimal, arith}
+use Rattle.std.proofs.Common.{◌≡◌, sym, ap, ◌∙◌, decimal}
 use Rattle.std.proofs.lemmas.Str.{IsUtf8-from_ascii}
 use Rattle.std.proofs.lemmas.Fmt.{parse-decimal, IsAscii-decimal}
-use Rattle.std.specs.Str.{IsAscii, IsUtf8}
 use Rattle.bridge_script.proofs.words.number.Goals as goal
 
 pub returns-in_default : goal.returns-in_default

@@ -1,7 +1,5 @@
-use Rattle.std.proofs.Common.{◌≡◌, ◌≢◌, ◌<◌, ◌≤◌, ◌+◌, length, take, arith, get_or}
-use Rattle.std.specs.List.{All}
+use Rattle.std.proofs.Common.{◌<◌, ◌+◌, length, arith}
 use Rattle.std.proofs.lemmas.List.{take_all}
-use Rattle.std.proofs.lemmas.Slice.{between_to_end}
 use Rattle.bridge_script.proofs.Bytes.{rest_of}
 use Rattle.bridge_script.proofs.Cuts.{one_part, first_part, free_before}
 use Rattle.bridge_script.proofs.words.Words.next.Goals as goal
