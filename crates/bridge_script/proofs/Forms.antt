@@ -1,12 +1,12 @@
 -- An act of a managed line that is built has one of three forms, and one of a driver's line has one. So a
 -- fact about all such acts is shown form by form. Two lines that are built and have the same text are the
 -- same line: their words are the same, since no word has a space, and each place is known from its word.
-use Rattle.std.proofs.Common.{◌≡◌, ◌≢◌, ℕ, ◌+◌, ◌<◌, ◌≤◌, ◌^◌, List, [], ◌∷◌, Option, Some, None, codes, decimal, sym, ◌∙◌, ap, refl, arith, subst, ◌%◌, true, lit<}
+use Rattle.std.proofs.Common.{◌≡◌, ◌≢◌, ℕ, ◌+◌, ◌<◌, ◌≤◌, ◌^◌, List, [], ◌∷◌, Option, Some, None, codes, decimal, sym, ◌∙◌, ap, refl, arith, subst, ◌%◌, true, lit<, get_or, length, length-append}
 use Rattle.std.specs.List.{All, AllByRecursion, list_all, slice_split}
 use Rattle.std.proofs.Math.Dec.{eqb, ltb}
 use borrow.Author.Tests.{ltb-true}
-use Rattle.std.proofs.lemmas.Fmt.{decimal_by_steps, decimal_digit}
-use Rattle.std.proofs.lemmas.List.Elements.{All-from_recursion, All-cons, All-nil, All-push, All-weaker}
+use Rattle.std.proofs.lemmas.Fmt.{decimal_injective, decimal_by_steps, decimal_digit}
+use Rattle.std.proofs.lemmas.List.Elements.{All-from_recursion, All-append, All-cons, All-nil, All-push, All-weaker}
 use Rattle.std.proofs.lemmas.List.Sums.{AllPass-from_list_all}
 use Rattle.std.proofs.lemmas.List.Splits.{join_with_byte-slice_split}
 use Rattle.bridge_script.proofs.Cuts.{split-join}
@@ -149,3 +149,69 @@ words_of_built line h = split-join 32 (line_words line) (omega arith) (All-weake
 pub reads_text : (text : List ℕ) (result : Option (Thread × Act)) → ReadsWords (slice_split (λ b. eqb b 32) text) result → ReadsLine text result
 reads_text text None h = λ line b e. h line b (sym (words_of_built line b) ∙ ap (slice_split (λ b. eqb b 32)) e)
 reads_text text (Some line) h = (h.0, ap spaced h.1 ∙ join_with_byte-slice_split 32 text)
+
+same_var : (v w : Var) → var_text v ≡ var_text w → v ≡ w
+same_var v w e = let k : v.0 ≡ w.0 = omega (arith, ap (λ t. get_or t 0 0) e) in ap (λ n. let u : Var = record { 0 = n } in u) k
+
+same_optional : (v w : Option Var) → IsOptional v → IsOptional w → optional_text v ≡ optional_text w → v ≡ w
+same_optional None None p q e = refl
+same_optional None (Some w) p q e = absurd (omega (arith, ap (λ t. get_or t 0 0) e))
+same_optional (Some v) None p q e = absurd (omega (arith, ap (λ t. get_or t 0 0) e))
+same_optional (Some v) (Some w) p q e = ap Some (same_var v w e)
+
+same_number : (m n : ℕ) → m ≤ 255 → n ≤ 255 → decimal m ≡ decimal n → m ≡ n
+same_number m n p q e = decimal_injective m n (omega arith) (omega arith) e
+
+-- two acts of managed lines with the same words are the same
+same_managed : (a : Act) → IsManagedAct a → (b : Act) → IsManagedAct b → act_words (M 1) a ≡ act_words (M 1) b → a ≡ b
+same_managed = managed_case (λ a. (b : Act) → IsManagedAct b → act_words (M 1) a ≡ act_words (M 1) b → a ≡ b)
+    (λ v n f bv bn bf. managed_case (λ b. act_words (M 1) (act.Bridge v kind.Bridge n sort.User f) ≡ act_words (M 1) b → act.Bridge v kind.Bridge n sort.User f ≡ b)
+        (λ v' n' f' bv' bn' bf' e.
+            let ev : v ≡ v' = same_var v v' (cc) in
+            let en : n ≡ n' = same_number n n' (omega arith) (omega arith) (cc) in
+            let ef : f ≡ f' = same_number f f' (omega arith) (omega arith) (cc) in
+            cc)
+        (λ v' i w bv' bi bw e. absurd (cc))
+        (λ v' bv' e. absurd (cc)))
+    (λ v i w bv bi bw. managed_case (λ b. act_words (M 1) (act.Set v i w) ≡ act_words (M 1) b → act.Set v i w ≡ b)
+        (λ v' n f bv' bn bf e. absurd (cc))
+        (λ v' i' w' bv' bi' bw' e.
+            let ev : v ≡ v' = same_var v v' (cc) in
+            let ei : i ≡ i' = same_number i i' bi bi' (cc) in
+            let ew : w ≡ w' = same_optional w w' bw bw' (cc) in
+            cc)
+        (λ v' bv' e. absurd (cc)))
+    (λ v bv. managed_case (λ b. act_words (M 1) (act.Drop v) ≡ act_words (M 1) b → act.Drop v ≡ b)
+        (λ v' n f bv' bn bf e. absurd (cc))
+        (λ v' i w bv' bi bw e. absurd (cc))
+        (λ v' bv' e. let ev : v ≡ v' = same_var v v' (cc) in cc))
+
+same_words : (a : Thread × Act) → IsBuilt a → (b : Thread × Act) → IsBuilt b → line_words a ≡ line_words b → a ≡ b
+same_words = built_case (λ a. (b : Thread × Act) → IsBuilt b → line_words a ≡ line_words b → a ≡ b)
+    (λ x hx. built_case (λ b. line_words (M 1, x) ≡ line_words b → (M 1, x) ≡ b)
+        (λ y hy e. ap (λ z. (M 1, z)) (same_managed x hx y hy (cc)))
+        (λ e. absurd (let f = first_thread in cc)))
+    (built_case (λ b. line_words (C, act.PhaseLine phase.Cycle) ≡ line_words b → (C, act.PhaseLine phase.Cycle) ≡ b)
+        (λ y hy e. absurd (let f = first_thread in cc))
+        (λ e. refl))
+
+-- a text is the text of one line
+pub same_line : (a b : Thread × Act) → IsBuilt a → IsBuilt b → line_text a ≡ line_text b → a ≡ b
+same_line a b p q e = same_words a p b q (sym (words_of_built a p) ∙ (ap (slice_split (λ x. eqb x 32)) e ∙ words_of_built b q))
+
+-- words above the space, joined by spaces, have no newline
+spaced_free : (words : List (List ℕ)) → AllByRecursion Above words → All (λ b. b ≢ 10) (spaced words)
+spaced_free [] h = All-nil (λ b. b ≢ 10)
+spaced_free (w ∷ []) h = All-weaker (λ b. 32 < b) (λ b. b ≢ 10) (λ b l e. omega arith) w h.0
+spaced_free (w ∷ x ∷ ws) h = All-append (λ b. b ≢ 10) w (32 ∷ spaced (x ∷ ws)) (All-weaker (λ b. 32 < b) (λ b. b ≢ 10) (λ b l e. omega arith) w h.0) (All-cons (λ b. b ≢ 10) 32 (spaced (x ∷ ws)) (λ e. omega arith) (spaced_free (x ∷ ws) h.1))
+
+pub line_free : (line : Thread × Act) → IsBuilt line → All (λ b. b ≢ 10) (line_text line)
+line_free line h = spaced_free (line_words line) (above_built line h)
+
+spaced_some : (w : List ℕ) (ws : List (List ℕ)) → 0 < length w → 0 < length (spaced (w ∷ ws))
+spaced_some w [] h = h
+spaced_some w (x ∷ ws) h = omega (arith, length-append w (32 ∷ spaced (x ∷ ws)))
+
+-- the text of a line isn't empty
+pub line_some : (line : Thread × Act) → IsBuilt line → 0 < length (line_text line)
+line_some = built_case (λ line. 0 < length (line_text line)) (λ a h. spaced_some (109 ∷ decimal 1) (act_words (M 1) a) (omega arith)) (lit< tt)

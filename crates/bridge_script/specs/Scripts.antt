@@ -1,5 +1,5 @@
 -- Which bytes are a script, and which of their lines is the first that is none.
-use Rattle.std.specs.Prelude.{◌≡◌, ◌≢◌, ℕ, ◌+◌, ◌≤◌, ◌<◌, ◌⊎◌, min, Bool, true, false, List, [], ◌∷◌, ◌++◌, length, Option, MatchOption, All, flat_map, count_by}
+use Rattle.std.specs.Prelude.{None, zero, suc, take, drop, slice_range, slice_get, ◌≡◌, ◌≢◌, ℕ, ◌+◌, ◌≤◌, ◌<◌, ◌⊎◌, min, Bool, true, false, List, [], ◌∷◌, ◌++◌, length, Option, MatchOption, All, count_by}
 use Rattle.joint_model.specs.declared.names.Thread.{Thread}
 use Rattle.joint_model.specs.declared.names.Thread.TheVariants.{M, P, C}
 use Rattle.joint_model.specs.declared.names.Kind.TheVariants as kind
@@ -8,6 +8,8 @@ use Rattle.joint_model.specs.declared.names.PhaseWord.TheVariants as phase
 use Rattle.joint_model.specs.declared.lines.Act.{Act}
 use Rattle.joint_model.specs.declared.lines.Act.TheVariants as act
 use Rattle.bridge_script.specs.declared.faults.ScriptFault.{ScriptFault}
+use Rattle.bridge_script.specs.declared.faults.ScriptError.{ScriptError}
+use Rattle.bridge_script.specs.declared.faults.ScriptError.TheVariants.{OutOfMemory, ReadFault, Refused}
 use Rattle.bridge_script.specs.declared.faults.Cause.TheVariants.{Unknown}
 use Rattle.bridge_script.specs.Words.{IsVar, IsOptional, act_words, line_words, line_text}
 
@@ -57,7 +59,8 @@ cycles_of lines = count_by is_cycle lines
 
 -- the lines of a script one after another, each with its newline
 abbrev pub script_text_of : List (Thread × Act) → List ℕ
-script_text_of lines = flat_map (λ line. line_text line ++ 10 ∷ []) lines
+script_text_of [] = []
+script_text_of (line ∷ lines) = line_text line ++ (10 ∷ script_text_of lines)
 
 -- the lines are lines of a script: each is built, at most 20,000, of which at most 256 are `c cycle`
 pub record IsScript (script : List (Thread × Act)) : Type 0 where
@@ -91,3 +94,38 @@ pub record IsFault (bytes : List ℕ) (fault : ScriptFault) : Type 0 where
   pub number : fault.line ≡ length before + 1
   pub faulty : (next : Thread × Act) → line_text next ≡ line → IsScript (before ++ next ∷ []) → end_of bytes (script_text_of before) line ≤ 8388608 → ⊥
   pub cause : fault.cause ≡ Unknown
+
+-- no script has these bytes as its text
+abbrev pub IsNoText : List ℕ → Type 0
+IsNoText bytes = (script : List (Thread × Act)) → IsText bytes script → ⊥
+
+-- what `parse` may answer in place of a script: the first faulty line where there is no script; never a read
+-- fault
+abbrev pub IsRefusal : List ℕ → ScriptError → Type 0
+IsRefusal bytes OutOfMemory = Unit {0}
+IsRefusal bytes ReadFault = ⊥
+IsRefusal bytes (Refused fault) = IsFault bytes fault × IsNoText bytes
+
+-- a list of lines grew by one line, which has that text and ends at a byte within the limit
+pub record Grows (old new : List (Thread × Act)) (text : List ℕ) (end : ℕ) : Type 0 where
+  pub line : Thread × Act
+  pub grown : new ≡ old ++ line ∷ []
+  pub lawful : IsScript new
+  pub read : line_text line ≡ text
+  pub size : end ≤ 8388608
+
+-- no script goes on with a line that has that text and ends there
+abbrev pub NoneFits : List (Thread × Act) → List ℕ → ℕ → Type 0
+NoneFits old text end = (next : Thread × Act) → line_text next ≡ text → IsScript (old ++ next ∷ []) → end ≤ 8388608 → ⊥
+
+-- the line of `bytes` from place `at` on, with a newline put behind the bytes, ends at place `end`
+pub record EndsLine (bytes : List ℕ) (at end : ℕ) : Type 0 where
+  pub from : at ≤ end
+  pub within : end ≤ length bytes
+  pub whole : All (λ b. b ≢ 10) (slice_range bytes at end)
+  pub stands : bytes ++ 10 ∷ [] ≡ take at (bytes ++ 10 ∷ []) ++ (slice_range bytes at end ++ 10 ∷ drop (end + 1) (bytes ++ 10 ∷ []))
+
+-- the line of that number, counted from 1
+abbrev pub line_at : List (Thread × Act) → ℕ → Option (Thread × Act)
+line_at script zero = None
+line_at script (suc i) = slice_get script i

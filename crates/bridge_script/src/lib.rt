@@ -6,8 +6,10 @@ mod faults;
 mod lines;
 mod memory;
 mod outside;
+mod scripts;
 mod words;
 
 pub use faults::{Cause, ScriptError, ScriptFault};
 pub use memory::{ByteSink, ByteSource, CountSink, PlainSource};
+pub use scripts::{Script, parse};
 pub use outside::{Failed, FreeTurn, Sink, Source, Turnstile};

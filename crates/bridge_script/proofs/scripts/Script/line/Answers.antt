@@ -1,0 +1,6 @@
+use Rattle.std.proofs.Common.{arith}
+use Rattle.bridge_script.proofs.Texts.{line_at_from}
+use Rattle.bridge_script.proofs.scripts.Script.line.Goals as goal
+
+pub returns-clause-line : goal.returns-clause-line
+returns-clause-line c = rw (line_at_from c.args.self.now c.args.i (omega arith)) (rw (← c.self.view_is, ← c.deref.ensures.value) c.place_of.ensures)
