@@ -1,7 +1,7 @@
 -- A text falls into lines in one way: no line has a newline, so the first newline ends the first line, and
 -- what stands behind it is the text of the other lines. So two scripts with one text are the same, and a line
 -- that no script goes on with, behind the lines of a script, excludes every script with that text.
-use Rattle.std.proofs.Common.{zero, suc, slice_get, slice_range, ◌-◌, ◌≡◌, ◌≢◌, ℕ, ◌+◌, ◌<◌, ◌≤◌, cond, List, [], ◌∷◌, ◌++◌, length, take, drop, get_or, sym, ◌∙◌, ap, refl, inl, inr, arith, append_assoc, append-nil, length-append, length-drop}
+use Rattle.std.proofs.Common.{zero, suc, slice_get, slice_range, ◌-◌, ◌≡◌, ◌≢◌, ℕ, ◌+◌, ◌<◌, ◌≤◌, cond, List, [], ◌∷◌, ◌++◌, length, take, drop, get_or, sym, ◌∙◌, ap, refl, inl, inr, ◌⊎◌, arith, append_assoc, append-nil, length-append, length-drop}
 use Rattle.std.specs.List.{All}
 use Rattle.std.proofs.lemmas.List.{get_or-drop, drop-append-le, take-append-le, length-take-le}
 use Rattle.std.proofs.lemmas.Bool.{cases_lt}
@@ -164,3 +164,9 @@ length_so_far bytes at l = length-take-le at (bytes ++ 10 ∷ []) (omega (arith,
 pub line_at_from : (script : List (Thread × Act)) (i : ℕ) → 0 < i → line_at script i ≡ slice_get script (i - 1)
 line_at_from script zero l = absurd (omega arith)
 line_at_from script (suc i) l = let e : suc i - 1 ≡ i = omega arith in rw e refl
+
+pub full_text : (script : List (Thread × Act)) → IsScript script → length (script_text_of script) ≤ 8388608 → IsText (script_text_of script) script
+full_text script h l = record { lawful = h; text = inl refl; size = l }
+
+pub one_more : (bytes : List ℕ) (script : List (Thread × Act)) → IsText bytes script → (bytes ≡ script_text_of script) ⊎ (bytes ++ 10 ∷ [] ≡ script_text_of script)
+one_more bytes script t = elim t.text [ inl e ↦ inl e | inr h ↦ inr h.1 ]

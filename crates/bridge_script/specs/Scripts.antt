@@ -11,26 +11,27 @@ use Rattle.bridge_script.specs.declared.faults.ScriptFault.{ScriptFault}
 use Rattle.bridge_script.specs.declared.faults.ScriptError.{ScriptError}
 use Rattle.bridge_script.specs.declared.faults.ScriptError.TheVariants.{OutOfMemory, ReadFault, Refused}
 use Rattle.bridge_script.specs.declared.faults.Cause.TheVariants.{Unknown}
-use Rattle.bridge_script.specs.Words.{IsVar, IsOptional, act_words, line_words, line_text}
+use Rattle.joint_model.specs.Lines.{IsVar, IsVarOrNone}
+use Rattle.bridge_script.specs.Words.{act_words, line_words, line_text}
 
 -- the act of a line of a managed thread that is built, with each place within its limits:
 -- `bridge V bridge N user F`, `set V I W|-`, `drop V`
-abbrev pub IsManagedAct : Act → Type 0
-IsManagedAct (act.Bridge v kind.Bridge fields sort.User peer_fields) = IsVar v × (fields ≤ 16) × (peer_fields ≤ 16)
-IsManagedAct (act.Set v i w) = IsVar v × (i ≤ 255) × IsOptional w
-IsManagedAct (act.Drop v) = IsVar v
-IsManagedAct _ = ⊥
+abbrev pub IsBuiltManaged : Act → Type 0
+IsBuiltManaged (act.Bridge v kind.Bridge fields sort.User peer_fields) = IsVar v × (fields ≤ 16) × (peer_fields ≤ 16)
+IsBuiltManaged (act.Set v i w) = IsVar v × (i ≤ 255) × IsVarOrNone w
+IsBuiltManaged (act.Drop v) = IsVar v
+IsBuiltManaged _ = ⊥
 
 -- the act of a line of the driver that is built: `cycle`
-abbrev pub IsDriverAct : Act → Type 0
-IsDriverAct (act.PhaseLine phase.Cycle) = Unit {0}
-IsDriverAct _ = ⊥
+abbrev pub IsBuiltDriver : Act → Type 0
+IsBuiltDriver (act.PhaseLine phase.Cycle) = Unit {0}
+IsBuiltDriver _ = ⊥
 
 -- the line is one of those that are built: of thread m1 or of c
 abbrev pub IsBuilt : Thread × Act → Type 0
-IsBuilt (M n, a) = (n ≡ 1) × IsManagedAct a
+IsBuilt (M n, a) = (n ≡ 1) × IsBuiltManaged a
 IsBuilt (P n, a) = ⊥
-IsBuilt (C, a) = IsDriverAct a
+IsBuilt (C, a) = IsBuiltDriver a
 
 -- what a reader of a line's text answers: the line that has the text, or none where no line has it
 abbrev pub ReadsLine : List ℕ → Option (Thread × Act) → Type 0
@@ -42,11 +43,11 @@ ReadsWords words result = MatchOption result ((line : Thread × Act) → IsBuilt
 
 -- the same of the words after the driver
 abbrev pub ReadsDriver : List (List ℕ) → Option Act → Type 0
-ReadsDriver words result = MatchOption result ((a : Act) → IsDriverAct a → act_words C a ≢ words) (λ a. IsDriverAct a × (act_words C a ≡ words))
+ReadsDriver words result = MatchOption result ((a : Act) → IsBuiltDriver a → act_words C a ≢ words) (λ a. IsBuiltDriver a × (act_words C a ≡ words))
 
 -- the same of the words after a managed thread
 abbrev pub ReadsAct : List (List ℕ) → Option Act → Type 0
-ReadsAct words result = MatchOption result ((a : Act) → IsManagedAct a → act_words (M 1) a ≢ words) (λ a. IsManagedAct a × (act_words (M 1) a ≡ words))
+ReadsAct words result = MatchOption result ((a : Act) → IsBuiltManaged a → act_words (M 1) a ≢ words) (λ a. IsBuiltManaged a × (act_words (M 1) a ≡ words))
 
 -- whether a line is `c cycle`
 abbrev pub is_cycle : Thread × Act → Bool

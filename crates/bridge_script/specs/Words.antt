@@ -1,5 +1,5 @@
 -- The words of a script's lines, and what text a line has.
-use Rattle.std.specs.Prelude.{ℕ, ◌+◌, ◌<◌, List, [], ◌∷◌, ◌++◌, Option, Some, None, codes, decimal}
+use Rattle.std.specs.Prelude.{ℕ, min, ◌+◌, List, [], ◌∷◌, ◌++◌, Option, Some, None, codes, decimal}
 use Rattle.std.specs.List.{join_with_byte}
 use Rattle.joint_model.specs.declared.names.Var.{Var}
 use Rattle.joint_model.specs.declared.names.StaticNo.{StaticNo}
@@ -22,18 +22,9 @@ thread_text (M n) = codes "m" ++ decimal n
 thread_text (P n) = codes "p" ++ decimal n
 thread_text C = codes "c"
 
--- there is such a variable
-abbrev pub IsVar : Var → Type 0
-IsVar v = v.0 < 8
-
--- there is such a variable, or none is given
-abbrev pub IsOptional : Option Var → Type 0
-IsOptional None = Unit {0}
-IsOptional (Some v) = IsVar v
-
--- a variable: a to h
+-- a variable: a to h (a number past these, which no line has, stays a byte)
 abbrev pub var_text : Var → List ℕ
-var_text v = (97 + v.0) ∷ []
+var_text v = min (97 + v.0) 255 ∷ []
 
 -- a variable, or - where none is given
 abbrev pub optional_text : Option Var → List ℕ

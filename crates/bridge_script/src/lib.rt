@@ -3,13 +3,17 @@
 #![tactic(auto)]
 
 mod faults;
+mod laws;
 mod lines;
 mod memory;
 mod outside;
+mod reading;
 mod scripts;
 mod words;
 
 pub use faults::{Cause, ScriptError, ScriptFault};
 pub use memory::{ByteSink, ByteSource, CountSink, PlainSource};
+pub use laws::texts_tell_scripts;
+pub use reading::read_script;
 pub use scripts::{Script, parse};
 pub use outside::{Failed, FreeTurn, Sink, Source, Turnstile};

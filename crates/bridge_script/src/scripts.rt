@@ -1,6 +1,7 @@
 // A script: its lines, and which bytes are one.
 
 ghost use Rattle.std.specs.Prelude.{◌≡◌, ◌+◌, ◌≤◌, ◌<◌, ◌==◌, [], cond, slice_get, length, IfOk, IfErr, OnErr, IfSome, MatchBool};
+ghost use Rattle.joint_model.specs.Lines.{IsLine};
 ghost use Rattle.bridge_script.specs.Scripts.{IsBuilt, IsScript, IsText, IsRefusal, Grows, NoneFits, EndsLine, is_cycle, line_at};
 
 use crate::faults::{Cause, ScriptError, ScriptFault};
@@ -61,6 +62,7 @@ impl Script {
     pub fn line(&self, i: u32) -> Option<(Thread, Act)>
         ensures line { result ≡ line_at self.now i }
         ensures built { IfSome result IsBuilt }
+        ensures lawful { IfSome result (λ line. IsLine line.0 line.1) }
     {
         if i == 0 {
             return None;

@@ -2,7 +2,8 @@
 
 ghost use Rattle.std.specs.Prelude.{◌≡◌, ◌≢◌, ℕ, ◌+◌, ◌<◌, ◌≤◌, ◌^◌, ◌==◌, ◌↔◌, List, [], ◌∷◌, length, slice_index, Option, MatchOption, MatchBool, IsTrue, decimal};
 ghost use Rattle.std.specs.List.{slice_split};
-ghost use Rattle.bridge_script.specs.Words.{var_text, optional_text, IsVar, IsOptional};
+ghost use Rattle.joint_model.specs.Lines.{IsVar, IsVarOrNone};
+ghost use Rattle.bridge_script.specs.Words.{var_text, optional_text};
 ghost use Rattle.joint_model.specs.declared.names.Var.{Var};
 
 use itoa::Buffer;
@@ -89,7 +90,7 @@ pub fn is_same(a: &[u8], b: &[u8]) -> bool
 
 /// The variable that a word names, or none for the word `-`.
 fn optional(word: &[u8]) -> Option<Option<Var>>
-    ensures { MatchOption result ((v : Option Var) → IsOptional v → optional_text v ≢ word.now) (λ v. IsOptional v × (optional_text v ≡ word.now)) }
+    ensures { MatchOption result ((v : Option Var) → IsVarOrNone v → optional_text v ≢ word.now) (λ v. IsVarOrNone v × (optional_text v ≡ word.now)) }
 {
     if is_same(word, b"-") {
         return Some(None);
@@ -149,7 +150,7 @@ impl<'a> Words<'a> {
 
     /// Takes a variable or `-`; None where the next word is neither.
     pub fn take_optional(&mut self) -> Option<Option<Var>>
-        ensures { MatchOption result ((v : Option Var) (rest : List (List ℕ)) → IsOptional v → self.old ≢ optional_text v ∷ rest) (λ v. IsOptional v × (self.old ≡ optional_text v ∷ self.new)) }
+        ensures { MatchOption result ((v : Option Var) (rest : List (List ℕ)) → IsVarOrNone v → self.old ≢ optional_text v ∷ rest) (λ v. IsVarOrNone v × (self.old ≡ optional_text v ∷ self.new)) }
     {
         match self.next() {
             Some(word) => optional(word),
