@@ -157,8 +157,8 @@ same_var v w p q e = let k : v.0 ≡ w.0 = omega (arith, ap (λ t. get_or t 0 0)
 
 same_optional : (v w : Option Var) → IsVarOrNone v → IsVarOrNone w → optional_text v ≡ optional_text w → v ≡ w
 same_optional None None p q e = refl
-same_optional None (Some w) p q e = absurd (omega (arith, p, q, ap (λ t. get_or t 0 0) e))
-same_optional (Some v) None p q e = absurd (omega (arith, p, q, ap (λ t. get_or t 0 0) e))
+same_optional None (Some w) p q e = absurd (omega (arith, ap (λ t. get_or t 0 0) e))
+same_optional (Some v) None p q e = absurd (omega (arith, ap (λ t. get_or t 0 0) e))
 same_optional (Some v) (Some w) p q e = ap Some (same_var v w p q e)
 
 same_number : (m n : ℕ) → m ≤ 255 → n ≤ 255 → decimal m ≡ decimal n → m ≡ n

@@ -4,3 +4,6 @@ pub mod Scripts
 pub mod Causes
 pub mod Reading
 pub mod Laws
+pub mod Lists
+pub mod Report
+pub mod Drafts

@@ -2,9 +2,12 @@
 // history is written as a report.
 #![tactic(auto)]
 
+mod drafts;
+mod entries;
 mod faults;
 mod laws;
 mod lines;
+mod lists;
 mod memory;
 mod outside;
 mod reading;
