@@ -12,6 +12,8 @@ use Rattle.joint_model.specs.declared.events.Reply.{Reply}
 use Rattle.joint_model.specs.declared.events.Reply.TheVariants as reply
 use Rattle.joint_model.specs.declared.events.Entry.{Entry}
 use Rattle.joint_model.specs.Histories.{Finished}
+use Rattle.joint_model.specs.declared.names.Span.{Span}
+use Rattle.bridge_script.specs.declared.lists.Numbers.{Numbers}
 use Rattle.bridge_script.specs.declared.lists.Numbers.TheVariants.{Freed, FreedPeers, Notices}
 use Rattle.bridge_script.specs.Words.{thread_text, var_text, peer_static, kind_text, sort_text, phase_word_text, act_words}
 use Rattle.bridge_script.specs.Lists.{after_spaces, list_words}
@@ -98,13 +100,19 @@ reply_words (reply.Swept j s) = decimal j.0 ∷ codes "freed" ∷ []
 reply_words (reply.Freed s) = codes "freed" ∷ []
 reply_words (reply.Took s) = []
 
--- the words of a reply's list: what a snap, a sweep and a resolve freed, and what a `finalise` took
-abbrev pub reply_list : Finished → Reply → List (List ℕ)
-reply_list h (reply.Snapped n s) = list_words h Freed s
-reply_list h (reply.Swept j s) = list_words h FreedPeers s
-reply_list h (reply.Freed s) = list_words h Freed s
-reply_list h (reply.Took s) = list_words h Notices s
-reply_list h _ = []
+-- which list a reply shows, and which stretch of it: what a snap, a sweep and a resolve freed, and what a
+-- `finalise` took
+abbrev pub list_of : Reply → Option (Numbers × Span)
+list_of (reply.Snapped n s) = Some (Freed, s)
+list_of (reply.Swept j s) = Some (FreedPeers, s)
+list_of (reply.Freed s) = Some (Freed, s)
+list_of (reply.Took s) = Some (Notices, s)
+list_of _ = None
+
+-- the words of a list that is shown
+abbrev pub shown : Finished → Option (Numbers × Span) → List (List ℕ)
+shown h None = []
+shown h (Some l) = list_words h l.0 l.1
 
 -- the word for the entry that is cited, where one is
 abbrev pub cite_words : Option ℕ → List (List ℕ)
@@ -119,9 +127,17 @@ place_text t line = thread_text t ++ (codes "." ++ decimal line)
 abbrev pub head_words : Entry → List (List ℕ)
 head_words e = place_text e.made.caller e.made.index ∷ (event_words e.made.caller e.made.op ++ (codes "=" ∷ reply_words e.made.reply))
 
+-- the text of an entry up to its list
+abbrev pub head_text : Entry → List ℕ
+head_text e = decimal e.number ++ after_spaces (head_words e)
+
+-- the text behind it
+abbrev pub tail_text : Option ℕ → List ℕ
+tail_text cites = after_spaces (cite_words cites) ++ 10 ∷ []
+
 -- an entry's line: NUMBER THREAD.LINE EVENT = REPLY, and @NUMBER where it cites an entry, with its newline
 abbrev pub entry_text : Finished → Entry → List ℕ
-entry_text h e = decimal e.number ++ (after_spaces (head_words e) ++ (after_spaces (reply_list h e.made.reply) ++ (after_spaces (cite_words e.made.cites) ++ 10 ∷ [])))
+entry_text h e = head_text e ++ (after_spaces (shown h (list_of e.made.reply)) ++ tail_text e.made.cites)
 
 -- the lines of entries
 abbrev pub entries_text : Finished → List Entry → List ℕ

@@ -1,13 +1,14 @@
 // The words of an entry's event and of its reply.
 
-ghost use Rattle.std.specs.Prelude.{◌+◌, ◌≤◌, [], ◌∷◌, codes, decimal, length};
-ghost use Rattle.bridge_script.specs.Drafts.{AddsWords};
+ghost use Rattle.std.specs.Prelude.{◌≡◌, ◌+◌, ◌≤◌, [], ◌∷◌, codes, decimal, length};
+ghost use Rattle.bridge_script.specs.Drafts.{Adds, AddsWords};
 ghost use Rattle.bridge_script.specs.Words.{act_words, var_text, optional_text, kind_text, sort_text, cell_text, global_text, own_static, peer_static};
-ghost use Rattle.bridge_script.specs.Report.{event_words, reply_words, managed_text, peer_text, handle_text};
+ghost use Rattle.bridge_script.specs.Report.{event_words, reply_words, managed_text, peer_text, handle_text, list_of, head_text, tail_text, place_text};
 
 use crate::drafts::Line;
+use crate::lists::Numbers;
 use joint_model::{
-    Act, Cell, GName, HNum, Kind, MNum, Op, PNum, Reply, Sort, StaticNo, Thread, Var,
+    Act, Cell, Entry, GName, HNum, Kind, MNum, Op, PNum, Reply, Sort, Span, StaticNo, Thread, Var,
 };
 
 /// A word and a variable.
@@ -409,4 +410,53 @@ pub fn add_reply(line: &mut Line, reply: &Reply)
         Reply::Freed(_) => line.word(b"freed"),
         Reply::Took(_) => {}
     }
+}
+
+/// Which list a reply shows, and which stretch of it.
+pub fn list_of(reply: &Reply) -> Option<(Numbers, Span)>
+    ensures { result ≡ list_of reply.now }
+{
+    match *reply {
+        Reply::Snapped(_, span) | Reply::Freed(span) => Some((Numbers::Freed, span)),
+        Reply::Swept(_, span) => Some((Numbers::FreedPeers, span)),
+        Reply::Took(span) => Some((Numbers::Notices, span)),
+        _ => None,
+    }
+}
+
+/// The line of an entry up to its list: its number, who made it on which line, its event and its reply.
+pub fn add_head(line: &mut Line, entry: &Entry)
+    requires { 300 ≤ line.old.room }
+    ensures { Adds line.old line.new (head_text entry.now) 300 }
+{
+    line.number(entry.number);
+    add_place(line, entry.made.caller, entry.made.index);
+    add_event(line, entry.made.caller, &entry.made.op);
+    line.word(b"=");
+    add_reply(line, &entry.made.reply);
+}
+
+/// Who made an entry, and on which line of the script.
+fn add_place(line: &mut Line, thread: Thread, index: u32)
+    requires { 50 ≤ line.old.room }
+    ensures { AddsWords line.old line.new (place_text thread index ∷ []) 50 }
+{
+    match thread {
+        Thread::M(n) => line.lettered(b'm', n as u64),
+        Thread::P(n) => line.lettered(b'p', n as u64),
+        Thread::C => line.word(b"c"),
+    }
+    line.text(b".");
+    line.number(index as u64);
+}
+
+/// The end of an entry's line: the entry that it cites, where it cites one, and the newline.
+pub fn add_tail(line: &mut Line, cites: Option<u64>)
+    requires { 30 ≤ line.old.room }
+    ensures { Adds line.old line.new (tail_text cites) 30 }
+{
+    if let Some(number) = cites {
+        line.lettered(b'@', number);
+    }
+    line.text(b"\n");
 }

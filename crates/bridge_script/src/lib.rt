@@ -11,6 +11,7 @@ mod lists;
 mod memory;
 mod outside;
 mod reading;
+mod reports;
 mod scripts;
 mod words;
 
@@ -18,5 +19,6 @@ pub use faults::{Cause, ScriptError, ScriptFault};
 pub use memory::{ByteSink, ByteSource, CountSink, PlainSource};
 pub use laws::texts_tell_scripts;
 pub use reading::read_script;
+pub use reports::write_report;
 pub use scripts::{Script, parse};
 pub use outside::{Failed, FreeTurn, Sink, Source, Turnstile};
