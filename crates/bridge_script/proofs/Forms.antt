@@ -168,34 +168,34 @@ same_number m n p q e = decimal_injective m n (omega arith) (omega arith) e
 same_managed : (a : Act) → IsBuiltManaged a → (b : Act) → IsBuiltManaged b → act_words (M 1) a ≡ act_words (M 1) b → a ≡ b
 same_managed = managed_case (λ a. (b : Act) → IsBuiltManaged b → act_words (M 1) a ≡ act_words (M 1) b → a ≡ b)
     (λ v n f bv bn bf. managed_case (λ b. act_words (M 1) (act.Bridge v kind.Bridge n sort.User f) ≡ act_words (M 1) b → act.Bridge v kind.Bridge n sort.User f ≡ b)
-        (λ v' n' f' bv' bn' bf' e.
-            let ev : v ≡ v' = same_var v v' bv bv' (cc) in
-            let en : n ≡ n' = same_number n n' (omega arith) (omega arith) (cc) in
-            let ef : f ≡ f' = same_number f f' (omega arith) (omega arith) (cc) in
-            cc)
-        (λ v' i w bv' bi bw e. absurd (cc))
-        (λ v' bv' e. absurd (cc)))
+    (λ v' n' f' bv' bn' bf' e.
+    let ev : v ≡ v' = same_var v v' bv bv' (cc) in
+    let en : n ≡ n' = same_number n n' (omega arith) (omega arith) (cc) in
+    let ef : f ≡ f' = same_number f f' (omega arith) (omega arith) (cc) in
+    cc)
+    (λ v' i w bv' bi bw e. absurd (cc))
+    (λ v' bv' e. absurd (cc)))
     (λ v i w bv bi bw. managed_case (λ b. act_words (M 1) (act.Set v i w) ≡ act_words (M 1) b → act.Set v i w ≡ b)
-        (λ v' n f bv' bn bf e. absurd (cc))
-        (λ v' i' w' bv' bi' bw' e.
-            let ev : v ≡ v' = same_var v v' bv bv' (cc) in
-            let ei : i ≡ i' = same_number i i' bi bi' (cc) in
-            let ew : w ≡ w' = same_optional w w' bw bw' (cc) in
-            cc)
-        (λ v' bv' e. absurd (cc)))
+    (λ v' n f bv' bn bf e. absurd (cc))
+    (λ v' i' w' bv' bi' bw' e.
+    let ev : v ≡ v' = same_var v v' bv bv' (cc) in
+    let ei : i ≡ i' = same_number i i' bi bi' (cc) in
+    let ew : w ≡ w' = same_optional w w' bw bw' (cc) in
+    cc)
+    (λ v' bv' e. absurd (cc)))
     (λ v bv. managed_case (λ b. act_words (M 1) (act.Drop v) ≡ act_words (M 1) b → act.Drop v ≡ b)
-        (λ v' n f bv' bn bf e. absurd (cc))
-        (λ v' i w bv' bi bw e. absurd (cc))
-        (λ v' bv' e. let ev : v ≡ v' = same_var v v' bv bv' (cc) in cc))
+    (λ v' n f bv' bn bf e. absurd (cc))
+    (λ v' i w bv' bi bw e. absurd (cc))
+    (λ v' bv' e. let ev : v ≡ v' = same_var v v' bv bv' (cc) in cc))
 
 same_words : (a : Thread × Act) → IsBuilt a → (b : Thread × Act) → IsBuilt b → line_words a ≡ line_words b → a ≡ b
 same_words = built_case (λ a. (b : Thread × Act) → IsBuilt b → line_words a ≡ line_words b → a ≡ b)
     (λ x hx. built_case (λ b. line_words (M 1, x) ≡ line_words b → (M 1, x) ≡ b)
-        (λ y hy e. ap (λ z. (M 1, z)) (same_managed x hx y hy (cc)))
-        (λ e. absurd (let f = first_thread in cc)))
+    (λ y hy e. ap (λ z. (M 1, z)) (same_managed x hx y hy (cc)))
+    (λ e. absurd (let f = first_thread in cc)))
     (built_case (λ b. line_words (C, act.PhaseLine phase.Cycle) ≡ line_words b → (C, act.PhaseLine phase.Cycle) ≡ b)
-        (λ y hy e. absurd (let f = first_thread in cc))
-        (λ e. refl))
+    (λ y hy e. absurd (let f = first_thread in cc))
+    (λ e. refl))
 
 -- a text is the text of one line
 pub same_line : (a b : Thread × Act) → IsBuilt a → IsBuilt b → line_text a ≡ line_text b → a ≡ b
@@ -226,5 +226,6 @@ line_of_built = built_case (λ line. IsLine line.0 line.1)
 
 pub line_in_script : (lines : List (Thread × Act)) (i : ℕ) → All IsBuilt lines → IfSome (slice_get lines i) (λ line. IsLine line.0 line.1)
 line_in_script lines i h = elim (slice_get_cases lines i).1 [
-    inl p ↦ rw (p.2) (line_of_built p.0 (rw (p.3) at (h i p.0 p.1)))
-  | inr p ↦ rw (p.1) tt ]
+  | inl p ↦ rw (p.2) (line_of_built p.0 (rw (p.3) at (h i p.0 p.1)))
+  | inr p ↦ rw (p.1) tt
+]

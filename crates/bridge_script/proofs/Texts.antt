@@ -37,9 +37,9 @@ text_push (x ∷ script) line = ap (λ t. line_text x ++ (10 ∷ t)) (text_push 
 -- the first lines of a script are a script
 pub script_part : (front more : List (Thread × Act)) → IsScript (front ++ more) → IsScript front
 script_part front more s = record {
-    built = rw take-append_seam at (All-take IsBuilt (length front) (front ++ more) s.built);
-    lines = omega (arith, length-append front more, s.lines);
-    cycles = omega (arith, sum_by-append (λ l. cond (is_cycle l) 1 0) front more, s.cycles)
+  built = rw take-append_seam at (All-take IsBuilt (length front) (front ++ more) s.built);
+  lines = omega (arith, length-append front more, s.lines);
+  cycles = omega (arith, sum_by-append (λ l. cond (is_cycle l) 1 0) front more, s.cycles);
 }
 
 pub last_built : (front : List (Thread × Act)) (line : Thread × Act) → IsScript (front ++ line ∷ []) → IsBuilt line
@@ -48,9 +48,9 @@ last_built front line s = rw get_or-append_seam at (All-get_or IsBuilt (front ++
 -- a script grows by a built line within the limits
 pub script_grown : (old : List (Thread × Act)) (line : Thread × Act) → IsScript old → IsBuilt line → length old < 20000 → cycles_of old + cond (is_cycle line) 1 0 ≤ 256 → IsScript (old ++ line ∷ [])
 script_grown old line s b l c = record {
-    built = All-push IsBuilt old line s.built b;
-    lines = omega (arith, length-append old (line ∷ []));
-    cycles = omega (arith, sum_by_push (λ l. cond (is_cycle l) 1 0) old line)
+  built = All-push IsBuilt old line s.built b;
+  lines = omega (arith, length-append old (line ∷ []));
+  cycles = omega (arith, sum_by_push (λ l. cond (is_cycle l) 1 0) old line);
 }
 
 -- one cycle too many
@@ -75,7 +75,7 @@ goes_on (x ∷ script) [] extra line rest hs hb hl e l =
     record { next = x; more = script; whole = refl; read = r.0 }
 goes_on (x ∷ script) (y ∷ before) extra line rest hs hb hl e l =
     let r = cut_once 10 (line_text x) (line_text y) (script_text_of script ++ extra) (script_text_of before ++ (line ++ (10 ∷ rest))) (line_free x (All-head IsBuilt x script hs)) (line_free y (All-head IsBuilt y before hb))
-        (sym (append_assoc (line_text x) (10 ∷ script_text_of script) extra) ∙ (e ∙ append_assoc (line_text y) (10 ∷ script_text_of before) (line ++ (10 ∷ rest)))) in
+    (sym (append_assoc (line_text x) (10 ∷ script_text_of script) extra) ∙ (e ∙ append_assoc (line_text y) (10 ∷ script_text_of before) (line ++ (10 ∷ rest)))) in
     let same = same_line x y (All-head IsBuilt x script hs) (All-head IsBuilt y before hb) r.0 in
     let shorter : length (script_text_of before) < length (script_text_of script) = omega (arith, l, ap length r.0, length-append (line_text x) (10 ∷ script_text_of script), length-append (line_text y) (10 ∷ script_text_of before)) in
     let g = goes_on script before extra line rest (All-tail IsBuilt x script hs) (All-tail IsBuilt y before hb) hl r.1 shorter in
@@ -85,9 +85,9 @@ goes_on (x ∷ script) (y ∷ before) extra line rest hs hb hl e l =
 pub no_text : (bytes : List ℕ) (fault : ScriptFault) → IsFault bytes fault → IsNoText bytes
 no_text bytes fault f script t =
     let finish : GoesOn script f.before f.line → ⊥ = λ g.
-        f.faulty g.next g.read (script_part (f.before ++ g.next ∷ []) g.more (rw (g.whole) at t.lawful)) (omega (arith, t.size)) in
+    f.faulty g.next g.read (script_part (f.before ++ g.next ∷ []) g.more (rw (g.whole) at t.lawful)) (omega (arith, t.size)) in
     elim t.text [
-        inl e ↦ finish (goes_on script f.before (10 ∷ []) f.line f.rest t.lawful.built f.lawful.built f.whole (ap (λ b. b ++ 10 ∷ []) (sym e) ∙ f.stands) (omega (arith, f.some, ap length e)))
+      | inl e ↦ finish (goes_on script f.before (10 ∷ []) f.line f.rest t.lawful.built f.lawful.built f.whole (ap (λ b. b ++ 10 ∷ []) (sym e) ∙ f.stands) (omega (arith, f.some, ap length e)))
       | inr h ↦ finish (goes_on script f.before [] f.line f.rest t.lawful.built f.lawful.built f.whole (append-nil (script_text_of script) ∙ (sym h.1 ∙ f.stands)) (omega (arith, f.some, ap length h.1, length-append bytes (10 ∷ []))))
     ]
 
@@ -112,12 +112,15 @@ same_lines (x ∷ s) (y ∷ t) p q e =
 -- a text is a text of one script
 pub one_script : (bytes : List ℕ) (s t : List (Thread × Act)) → IsText bytes s → IsText bytes t → s ≡ t
 one_script bytes s t a b = elim a.text [
-    inl e ↦ elim b.text [
-        inl f ↦ same_lines s t a.lawful.built b.lawful.built (sym e ∙ f)
-      | inr f ↦ absurd (not_both s t a.lawful.built b.lawful.built (sym f.1 ∙ ap (λ x. x ++ 10 ∷ []) e)) ]
+  | inl e ↦ elim b.text [
+    | inl f ↦ same_lines s t a.lawful.built b.lawful.built (sym e ∙ f)
+    | inr f ↦ absurd (not_both s t a.lawful.built b.lawful.built (sym f.1 ∙ ap (λ x. x ++ 10 ∷ []) e))
+  ]
   | inr e ↦ elim b.text [
-        inl f ↦ absurd (not_both t s b.lawful.built a.lawful.built (sym e.1 ∙ ap (λ x. x ++ 10 ∷ []) f))
-      | inr f ↦ same_lines s t a.lawful.built b.lawful.built (sym e.1 ∙ f.1) ] ]
+    | inl f ↦ absurd (not_both t s b.lawful.built a.lawful.built (sym e.1 ∙ ap (λ x. x ++ 10 ∷ []) f))
+    | inr f ↦ same_lines s t a.lawful.built b.lawful.built (sym e.1 ∙ f.1)
+  ]
+]
 
 -- the line of a text from a place on ends at the first newline from there on
 pub ends_line : (bytes : List ℕ) (at n : ℕ) → at < length bytes → n ≤ length (take (length bytes - at) (drop at bytes)) → ((k : ℕ) → k < n → get_or (take (length bytes - at) (drop at bytes)) k 0 ≡ 10 → ⊥)
@@ -128,17 +131,18 @@ ends_line bytes at n l w before found =
     let inner : at + n ≤ length bytes = omega (arith, w', length-drop at bytes) in
     let cut : at + n - at ≡ n = omega arith in
     let newline : get_or (bytes ++ 10 ∷ []) (at + n) 0 ≡ 10 = elim (cases_lt n (length (drop at bytes))) [
-        inl h ↦ (let f = rw e at found in get_or-append bytes (10 ∷ []) 0 (at + n) (omega (arith, length-drop at bytes)) ∙ (sym (get_or-drop at bytes n 0) ∙ f h))
-      | inr h ↦ (let last : length bytes ≡ at + n = omega (arith, length-drop at bytes) in rw (← last) (get_or-append_seam bytes 10 [] 0)) ] in
+      | inl h ↦ (let f = rw e at found in get_or-append bytes (10 ∷ []) 0 (at + n) (omega (arith, length-drop at bytes)) ∙ (sym (get_or-drop at bytes n 0) ∙ f h))
+      | inr h ↦ (let last : length bytes ≡ at + n = omega (arith, length-drop at bytes) in rw (← last) (get_or-append_seam bytes 10 [] 0))
+    ] in
     let behind : drop at (bytes ++ 10 ∷ []) ≡ drop at bytes ++ 10 ∷ [] = drop-append-le at bytes (10 ∷ []) (omega arith) in
     let line : take n (drop at (bytes ++ 10 ∷ [])) ≡ take n (drop at bytes) = ap (take n) behind ∙ take-append-le n (drop at bytes) (10 ∷ []) w' in
     let front : take (at + n) (bytes ++ 10 ∷ []) ≡ take at (bytes ++ 10 ∷ []) ++ take n (drop at bytes) = take-add at n (bytes ++ 10 ∷ []) ∙ ap (λ t. take at (bytes ++ 10 ∷ []) ++ t) line in
     let split = cut_at 10 (at + n) (bytes ++ 10 ∷ []) (omega (arith, length-append bytes (10 ∷ []))) newline in
     record {
-        from = omega arith;
-        within = inner;
-        whole = rw cut (free_before 10 n (drop at bytes) w' (rw e at before));
-        stands = rw cut (split ∙ (ap (λ t. t ++ 10 ∷ drop (at + n + 1) (bytes ++ 10 ∷ [])) front ∙ append_assoc (take at (bytes ++ 10 ∷ [])) (take n (drop at bytes)) (10 ∷ drop (at + n + 1) (bytes ++ 10 ∷ []))))
+      from = omega arith;
+      within = inner;
+      whole = rw cut (free_before 10 n (drop at bytes) w' (rw e at before));
+      stands = rw cut (split ∙ (ap (λ t. t ++ 10 ∷ drop (at + n + 1) (bytes ++ 10 ∷ [])) front ∙ append_assoc (take at (bytes ++ 10 ∷ [])) (take n (drop at bytes)) (10 ∷ drop (at + n + 1) (bytes ++ 10 ∷ []))));
     }
 
 take_front : (n : ℕ) (front more : List ℕ) → length front ≡ n → take n (front ++ more) ≡ front

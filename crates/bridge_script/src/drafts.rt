@@ -6,7 +6,9 @@ ghost use Rattle.bridge_script.specs.Words.{var_text, optional_text, kind_text, 
 ghost use Rattle.bridge_script.specs.Report.{managed_text, peer_text, handle_text, phase_text};
 
 use itoa::Buffer;
-use joint_model::{Cell, GName, HNum, Kind, MNum, PNum, Phase, PhaseWord, Sort, StaticNo, Thread, Var};
+use joint_model::{
+    Cell, GName, HNum, Kind, MNum, PNum, Phase, PhaseWord, Sort, StaticNo, Thread, Var,
+};
 use std::marker::Model;
 
 /// The bytes of the buffer: more than a line without its list has.

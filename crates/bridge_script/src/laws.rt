@@ -9,5 +9,4 @@ pub fn texts_tell_scripts()
     ensures full_text { HasFullText }
     ensures one_more { HasAtMostOneMore }
     ensures fault { HasFaultOrScript }
-{
-}
+{}

@@ -50,12 +50,7 @@ fn write_numbers<K: Sink>(
 }
 
 /// Writes a list: the numbers that a span names, or `-` where it names none, with a space before each word.
-fn write_list<K: Sink>(
-    h: &History,
-    numbers: Numbers,
-    span: Span,
-    out: &mut K,
-) -> Result<(), Failed>
+fn write_list<K: Sink>(h: &History, numbers: Numbers, span: Span, out: &mut K) -> Result<(), Failed>
     ensures { Writes (K.held out.old) (K.held out.new) (K.faults out.old) (K.faults out.new) result (after_spaces (list_words h.now numbers span)) }
 {
     if span.count == 0 {
@@ -89,7 +84,7 @@ fn write_listed<K: Sink>(
 }
 
 /// Writes the line of an entry.
-fn write_entry<K: Sink>(h: &History, entry: &Entry, out: &mut K) -> Result<(), Failed>
+pub fn write_entry<K: Sink>(h: &History, entry: &Entry, out: &mut K) -> Result<(), Failed>
     ensures { Writes (K.held out.old) (K.held out.new) (K.faults out.old) (K.faults out.new) result (entry_text h.now entry.now) }
 {
     let mut line = Line::new();

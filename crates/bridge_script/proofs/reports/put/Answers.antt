@@ -9,9 +9,9 @@ loop-at-preserved g c =
     let e = rest_of c.loop-at.at c.args.text.now in
     let w = rw e at c.in-Ok.ensures in
     record {
-        within = omega (arith, w.bound, length-drop c.loop-at.at c.args.text.now);
-        so_far = rw (take-add c.loop-at.at c.in-Ok.count c.args.text.now) (Appends-then (g.K.Sink.held c.args.out.now) (g.K.Sink.held c.loop-at.out) (g.K.Sink.held c.write.new.self) (take c.loop-at.at c.args.text.now) (take c.in-Ok.count (drop c.loop-at.at c.args.text.now)) i.so_far w.bytes);
-        later = omega (arith, w.cause.later)
+      within = omega (arith, w.bound, length-drop c.loop-at.at c.args.text.now);
+      so_far = rw (take-add c.loop-at.at c.in-Ok.count c.args.text.now) (Appends-then (g.K.Sink.held c.args.out.now) (g.K.Sink.held c.loop-at.out) (g.K.Sink.held c.write.new.self) (take c.loop-at.at c.args.text.now) (take c.in-Ok.count (drop c.loop-at.at c.args.text.now)) i.so_far w.bytes);
+      later = omega (arith, w.cause.later);
     }
 
 pub returns-in-Err : goal.returns-in-Err
@@ -19,12 +19,12 @@ returns-in-Err g c =
     let i = c.loop-at.invariant in
     let w = c.in-Err.ensures in
     record {
-        whole = tt;
-        part = record {
-            part = take c.loop-at.at c.args.text.now;
-            rest = drop c.loop-at.at c.args.text.now;
-            whole = sym (take-append-drop c.loop-at.at c.args.text.now);
-            appends = Appends-kept (g.K.Sink.held c.args.out.now) (g.K.Sink.held c.loop-at.out) (g.K.Sink.held c.write.new.self) (take c.loop-at.at c.args.text.now) i.so_far w.bytes
-        };
-        cause = record { later = omega (arith, w.cause.later); failed = omega (arith, w.cause.failed) }
+      whole = tt;
+      part = record {
+        part = take c.loop-at.at c.args.text.now;
+        rest = drop c.loop-at.at c.args.text.now;
+        whole = sym (take-append-drop c.loop-at.at c.args.text.now);
+        appends = Appends-kept (g.K.Sink.held c.args.out.now) (g.K.Sink.held c.loop-at.out) (g.K.Sink.held c.write.new.self) (take c.loop-at.at c.args.text.now) i.so_far w.bytes;
+      };
+      cause = record { later = omega (arith, w.cause.later); failed = omega (arith, w.cause.failed) };
     }

@@ -4,9 +4,9 @@ use Rattle.bridge_script.proofs.reports.put.Given as goal
 
 abbrev pub invariant-loop-at : goal.invariant-loop-at
 invariant-loop-at g l = record {
-    within : l.at ≤ length l.text;
-    so_far : Appends (g.K.Sink.held l.fn.out) (g.K.Sink.held l.out) (take l.at l.text);
-    later : g.K.Sink.faults l.fn.out ≤ g.K.Sink.faults l.out
+  within : l.at ≤ length l.text;
+  so_far : Appends (g.K.Sink.held l.fn.out) (g.K.Sink.held l.out) (take l.at l.text);
+  later : g.K.Sink.faults l.fn.out ≤ g.K.Sink.faults l.out;
 }
 
 abbrev pub decreases-loop-at : goal.decreases-loop-at

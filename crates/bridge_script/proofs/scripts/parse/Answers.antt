@@ -11,19 +11,19 @@ returns-then-not-branch-clause-err c =
     let e = c.line_end-end.ensures in
     let read : length (script_text_of c.loop-at.script) ≡ c.loop-at.at = ap length i.so_far ∙ length_so_far c.args.bytes.now c.loop-at.at (omega arith) in
     let line : length (slice_range c.args.bytes.now c.loop-at.at c.line_end-end.result) ≡ c.line_end-end.result - c.loop-at.at
-        = length-take-le (c.line_end-end.result - c.loop-at.at) (drop c.loop-at.at c.args.bytes.now) (omega (arith, e.from, e.within, length-drop c.loop-at.at c.args.bytes.now)) in
+    = length-take-le (c.line_end-end.result - c.loop-at.at) (drop c.loop-at.at c.args.bytes.now) (omega (arith, e.from, e.within, length-drop c.loop-at.at c.args.bytes.now)) in
     let fault : IsFault c.args.bytes.now _ = record {
-        before = c.loop-at.script;
-        line = slice_range c.args.bytes.now c.loop-at.at c.line_end-end.result;
-        rest = drop (c.line_end-end.result + 1) (c.args.bytes.now ++ 10 ∷ []);
-        stands = rw (i.so_far) e.stands;
-        some = omega arith;
-        whole = e.whole;
-        lawful = i.lawful;
-        size = omega arith;
-        number = ap (λ n. n + 1) (c.len.ensures.len ∙ ap length g.1);
-        faulty = λ next t s b. g.0 next t s (omega (arith, e.from, c.min.ensures));
-        cause = refl
+      before = c.loop-at.script;
+      line = slice_range c.args.bytes.now c.loop-at.at c.line_end-end.result;
+      rest = drop (c.line_end-end.result + 1) (c.args.bytes.now ++ 10 ∷ []);
+      stands = rw (i.so_far) e.stands;
+      some = omega arith;
+      whole = e.whole;
+      lawful = i.lawful;
+      size = omega arith;
+      number = ap (λ n. n + 1) (c.len.ensures.len ∙ ap length g.1);
+      faulty = λ next t s b. g.0 next t s (omega (arith, e.from, c.min.ensures));
+      cause = refl;
     } in
     (fault, no_text c.args.bytes.now _ fault)
 
@@ -34,8 +34,8 @@ loop-at-preserved c =
     let e = c.line_end-end.ensures in
     let read = reads_on c.args.bytes.now c.loop-at.at c.line_end-end.result e c.loop-at-test.true in
     record {
-        lawful = g.lawful;
-        so_far = rw (g.grown, text_push c.loop-at.script g.line, g.read, i.so_far) (sym read);
-        within = omega (arith, e.within);
-        size = omega (arith, c.min.ensures, g.size)
+      lawful = g.lawful;
+      so_far = rw (g.grown, text_push c.loop-at.script g.line, g.read, i.so_far) (sym read);
+      within = omega (arith, e.within);
+      size = omega (arith, c.min.ensures, g.size);
     }
