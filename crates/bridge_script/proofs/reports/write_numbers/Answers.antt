@@ -16,7 +16,7 @@ returns-in-Err g c =
     let xs = take 4294967296 (numbers_of c.args.h.now c.args.numbers) in
     let letter = letter_of c.args.numbers in
     let ys = drop c.args.span.first xs in
-    let piece : c.bytes.result.now ≡ 32 ∷ letter ∷ decimal c.in-Some.n = c.bytes.ensures ∙ (c.lettered.ensures.added ∙ (ap (λ t. t ++ (32 ∷ c.letter.result ∷ decimal c.in-Some.n)) c.new-line.ensures.text ∙ ap (λ t. 32 ∷ t ∷ decimal c.in-Some.n) c.letter.ensures)) in
+    let piece : c.bytes.result.now ≡ 32 ∷ letter ∷ decimal c.in-Some.n = rw (c.bytes.ensures, c.lettered.ensures.added, c.new-line.ensures.text, c.letter.ensures) refl in
     let w = rw piece at c.in-Err.ensures in
     Writes-into (g.K.Sink.held c.args.out.now) (g.K.Sink.held c.loop-k.out) (g.K.Sink.held c.put.new.out) (g.K.Sink.faults c.args.out.now) (g.K.Sink.faults c.loop-k.out) (g.K.Sink.faults c.put.new.out) c.in-Err.failed
     (after_spaces (lettered letter (take c.loop-k.k ys))) (32 ∷ letter ∷ decimal c.in-Some.n) (after_spaces (lettered letter (drop (c.loop-k.k + 1) (take c.args.span.count ys)))) (after_spaces (lettered letter (take c.args.span.count ys)))
@@ -28,7 +28,7 @@ loop-k-preserved g c =
     let xs = take 4294967296 (numbers_of c.args.h.now c.args.numbers) in
     let letter = letter_of c.args.numbers in
     let ys = drop c.args.span.first xs in
-    let piece : c.bytes.result.now ≡ 32 ∷ letter ∷ decimal c.in-Some.n = c.bytes.ensures ∙ (c.lettered.ensures.added ∙ (ap (λ t. t ++ (32 ∷ c.letter.result ∷ decimal c.in-Some.n)) c.new-line.ensures.text ∙ ap (λ t. 32 ∷ t ∷ decimal c.in-Some.n) c.letter.ensures)) in
+    let piece : c.bytes.result.now ≡ 32 ∷ letter ∷ decimal c.in-Some.n = rw (c.bytes.ensures, c.lettered.ensures.added, c.new-line.ensures.text, c.letter.ensures) refl in
     let w = rw piece at c.in-Ok.ensures in
     record {
       so_far = Appends-into (g.K.Sink.held c.args.out.now) (g.K.Sink.held c.loop-k.out) (g.K.Sink.held c.put.new.out)
