@@ -1,0 +1,9 @@
+pub mod Outside
+pub mod Words
+pub mod Scripts
+pub mod Causes
+pub mod Reading
+pub mod Laws
+pub mod Lists
+pub mod Report
+pub mod Drafts
