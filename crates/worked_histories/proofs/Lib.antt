@@ -1,3 +1,9 @@
 pub mod Decided
 pub mod Contractions
 pub mod PairGraphs
+pub mod HeapRows
+pub mod ManagedRows
+pub mod PeerRows
+pub mod JointRows
+pub mod Entries
+pub mod TwoLinked

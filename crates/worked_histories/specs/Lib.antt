@@ -1,1 +1,3 @@
 pub mod Graphs
+pub mod Notes
+pub mod FirstSteps

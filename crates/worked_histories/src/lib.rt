@@ -4,6 +4,8 @@
 // could not be proved would show a mistake in a definition, so they are checked before anything stands on them.
 #![tactic(auto)]
 
+mod first_steps;
 mod graphs;
 
+pub use first_steps::two_linked_objects;
 pub use graphs::{components_of_a_circle, components_of_a_diamond, components_without_detours};
