@@ -1,12 +1,11 @@
 -- Which objects of a heap are live, what a field leads to, and what a list of slots names are computed.
-use Rattle.std.proofs.Common.{◌≡◌, ℕ, zero, suc, ◌+◌, ◌<◌, ◌≤◌, ◌⊎◌, ◌↔◌, inl, inr, ⊎_elim, Bool, true, false, not, ◌&&◌, ◌||◌, cond, ltb, leb, eqb, List, [], ◌∷◌, ◌++◌, map, length, get_or, refl, sym, ap, subst, ◌∙◌, arith, not-suc-le-zero, suc-le-suc, le_of_suc-le-suc, nat_eq, nat_le, true≢false, Some, None, Option}
+use Rattle.std.proofs.Common.{◌≡◌, ℕ, zero, suc, ◌<◌, ◌≤◌, ◌⊎◌, inl, inr, ⊎_elim, Bool, true, false, not, ◌&&◌, cond, leb, List, [], ◌∷◌, ◌++◌, length, get_or, refl, subst, arith, not-suc-le-zero, le_of_suc-le-suc, nat_eq, Some, None, Option}
 use Rattle.std.specs.Bool.{Decides}
-use Rattle.std.specs.List.{All, Contains, filter, list_any, list_all, flat_map}
-use Rattle.std.proofs.lemmas.Bool.{false≢true, or_cases, and_parts, and_from, not-true, leb-true, le-leb}
-use Rattle.std.proofs.lemmas.Bool.Decides.{Decides-eqb, Decides-and, Decides-not, Decides-or, Decides-like}
+use Rattle.std.specs.List.{Contains, filter}
+use Rattle.std.proofs.lemmas.Bool.{false≢true, or_cases, leb-true, le-leb}
+use Rattle.std.proofs.lemmas.Bool.Decides.{Decides-eqb, Decides-and, Decides-not, Decides-like}
 use Rattle.joint_model.specs.Heaps.{Heap, IsLive, IsMade, HasField, InSlot, is_freed, fields_of}
-use Rattle.joint_model.specs.Walks.{Walks, Reaches, Reached}
-use Rattle.worked_histories.proofs.Decided.{mem, or_left, or_right, Contains-here, Contains-there, reach, is_closed, Decides-mem, Decides-Reached, filter_holds, filter_keeps, mem-append_cases, mem-append_left, mem-append_right, exact_from, count_from, counted, into_count}
+use Rattle.worked_histories.proofs.Decided.{mem, or_left, or_right, Contains-here, Contains-there, Decides-mem, filter_holds, filter_keeps, mem-append_cases, mem-append_left, mem-append_right, count_from, into_count}
 
 -- the objects that slots name
 abbrev pub somes : List (Option ℕ) → List ℕ

@@ -1,16 +1,16 @@
 -- What the one graph of both heaps reaches from its roots is computed, and so are the peers that nothing reaches.
-use Rattle.std.proofs.Common.{◌≡◌, ℕ, zero, suc, ◌+◌, ◌<◌, ◌≤◌, ◌⊎◌, ◌↔◌, inl, inr, ⊎_elim, Bool, true, false, not, ◌&&◌, ◌||◌, cond, List, [], ◌∷◌, ◌++◌, map, length, get_or, refl, sym, ap, subst, ◌∙◌, arith, not-suc-le-zero, suc-le-suc, le_of_suc-le-suc, nat_eq, true≢false, Some, None, Option, slice_get}
+use Rattle.std.proofs.Common.{◌≡◌, ℕ, zero, suc, ◌+◌, ◌<◌, ◌≤◌, ◌⊎◌, inl, inr, ⊎_elim, Bool, true, false, not, ◌&&◌, ◌||◌, List, [], ◌∷◌, ◌++◌, map, length, refl, sym, ap, subst, ◌∙◌, arith, suc-le-suc, nat_eq, true≢false, Some, None, Option, slice_get}
 use Rattle.std.specs.Bool.{Decides}
-use Rattle.std.specs.List.{All, Contains, filter, list_any, list_all, flat_map}
-use Rattle.std.proofs.lemmas.Bool.{false≢true, or_cases, and_parts, and_from}
-use Rattle.std.proofs.lemmas.Bool.Decides.{Decides-eqb, Decides-and, Decides-not, Decides-or, Decides-like}
+use Rattle.std.specs.List.{filter, list_any, flat_map}
+use Rattle.std.proofs.lemmas.Bool.{false≢true, or_cases}
+use Rattle.std.proofs.lemmas.Bool.Decides.{Decides-eqb, Decides-and, Decides-not, Decides-like}
 use Rattle.joint_model.specs.Heaps.{Heap, IsLive, HasField, InSlot, numbered_at}
 use Rattle.joint_model.specs.Joint.{Joint, Row, object, peer, IsJoined, JointEdge, IsHandle, IsRawRoot, IsLooseRoot, IsJointRoot, IsReached}
 use Rattle.joint_model.specs.Managed.{Managed, Holds, IsManagedRoot}
 use Rattle.joint_model.specs.Peers.{Issued, Hold, Strength, held, raw, strong, weak, peer_of, is_held, is_strong}
 use Rattle.joint_model.specs.Run.{AreUnreached}
-use Rattle.worked_histories.proofs.Decided.{mem, or_left, or_right, Contains-here, Contains-there, reach, is_closed, Decides-mem, Decides-Reached, exact_from, rises, Rises-from_test, count_from, into_count, filter_holds, filter_keeps, mem-flat_map, mem-into_flat_map, Contains-from_mem, mem_from_Contains, list_any_found, list_any_from}
-use Rattle.worked_histories.proofs.HeapRows.{Decides-joined, is_live, Decides-live, all_rows, row_from_live, heap_next, Decides-field, slot_rows, Decides-slot, where_true, Decides-where_true, Decides-filter}
+use Rattle.worked_histories.proofs.Decided.{mem, or_left, reach, is_closed, Decides-Reached, exact_from, rises, Rises-from_test, count_from, into_count, filter_holds, filter_keeps, mem-flat_map, mem-into_flat_map, Contains-from_mem, list_any_found, list_any_from}
+use Rattle.worked_histories.proofs.HeapRows.{Decides-joined, is_live, Decides-live, all_rows, row_from_live, heap_next, Decides-field, slot_rows, Decides-slot, where_true, Decides-where_true}
 use Rattle.worked_histories.proofs.ManagedRows.{managed_roots, Decides-managed_root}
 
 -- equality of rows

@@ -7,3 +7,8 @@ pub mod PeerRows
 pub mod JointRows
 pub mod Entries
 pub mod TwoLinked
+pub mod TwoPhased
+pub mod CrossHeaps
+pub mod Surfacing
+pub mod Pinned
+pub mod Deleted

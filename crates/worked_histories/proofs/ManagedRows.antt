@@ -1,15 +1,14 @@
 -- What a snapshot frees and leaves, what a resolution frees, and the components of a dead part are computed.
-use Rattle.std.proofs.Common.{◌≡◌, ℕ, zero, suc, ◌+◌, ◌<◌, ◌≤◌, ◌⊎◌, ◌↔◌, inl, inr, ⊎_elim, Bool, true, false, not, ◌&&◌, ◌||◌, cond, List, [], ◌∷◌, ◌++◌, map, length, refl, sym, ap, subst, ◌∙◌, nat_eq, true≢false, Some, None, Option, slice_get}
+use Rattle.std.proofs.Common.{◌≡◌, ℕ, zero, suc, ◌+◌, ⊎_elim, Bool, true, false, not, ◌&&◌, List, [], ◌∷◌, ◌++◌, map, refl, sym, ap, nat_eq, Some, None, Option, slice_get}
 use Rattle.std.specs.Bool.{Decides}
-use Rattle.std.specs.List.{All, Contains, filter, list_any, list_all, flat_map}
-use Rattle.std.proofs.lemmas.Bool.{false≢true, or_cases, and_parts, and_from, not-true}
-use Rattle.std.proofs.lemmas.Bool.Decides.{Decides-eqb, Decides-and, Decides-not, Decides-or, Decides-like}
-use Rattle.joint_model.specs.Components.{Rises, IsContraction}
+use Rattle.std.specs.List.{Contains, filter}
+use Rattle.std.proofs.lemmas.Bool.{false≢true, or_cases, and_parts}
+use Rattle.std.proofs.lemmas.Bool.Decides.{Decides-eqb, Decides-and, Decides-not, Decides-like}
 use Rattle.joint_model.specs.Cycles.{IsSnapshot, IsResolution, IsAnsweredAlive, IsDeadContraction, DeadEdge}
-use Rattle.joint_model.specs.Heaps.{Heap, IsLive, HasField, InSlot, is_freed, fields_of, numbered_at}
-use Rattle.joint_model.specs.Managed.{Managed, Holds, IsBridge, IsManagedRoot, ManagedEdge, IsManagedReached, IsBridgeReached}
-use Rattle.joint_model.specs.Walks.{Walks, Reaches, Reached}
-use Rattle.worked_histories.proofs.Decided.{mem, or_left, or_right, covers, Contains-here, Contains-there, reach, is_closed, Decides-mem, Decides-Reached, filter_holds, filter_keeps, exact_from, rises, Rises-from_test, Contains-from_mem, mem_from_Contains, covered}
+use Rattle.joint_model.specs.Heaps.{IsLive, HasField, InSlot, numbered_at}
+use Rattle.joint_model.specs.Managed.{Managed, IsBridge, IsManagedRoot, ManagedEdge, IsManagedReached, IsBridgeReached}
+use Rattle.joint_model.specs.Walks.{Reaches}
+use Rattle.worked_histories.proofs.Decided.{mem, or_left, or_right, covers, reach, is_closed, Decides-mem, Decides-Reached, filter_holds, filter_keeps, exact_from, rises, Rises-from_test, Contains-from_mem, mem_from_Contains}
 use Rattle.worked_histories.proofs.Contractions.{IsFinite, is_complete, contraction, is_in_order, members_of, is_split, places_from, references_of}
 use Rattle.joint_model.specs.Components.{first_of}
 use Rattle.worked_histories.proofs.HeapRows.{somes, Decides-somes, Decides-joined, is_live, Decides-live, all_rows, row_from_live, heap_next, Decides-field, slot_rows, Decides-slot, where_true, Decides-where_true, Decides-filter}

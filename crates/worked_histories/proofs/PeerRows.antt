@@ -1,8 +1,8 @@
 -- What a marking reaches, and what its sweep frees, are computed.
-use Rattle.std.proofs.Common.{◌≡◌, ℕ, zero, suc, ◌⊎◌, inl, inr, ⊎_elim, Bool, true, false, not, ◌&&◌, ◌||◌, cond, List, [], ◌∷◌, ◌++◌, map, length, refl, sym, ap, subst, nat_eq, Some, None, Option}
+use Rattle.std.proofs.Common.{◌≡◌, ℕ, ◌⊎◌, Bool, true, not, ◌&&◌, List, ◌++◌, nat_eq}
 use Rattle.std.specs.Bool.{Decides}
-use Rattle.std.specs.List.{All, Contains, filter, list_any, list_all}
-use Rattle.std.proofs.lemmas.Bool.Decides.{Decides-eqb, Decides-and, Decides-not, Decides-or, Decides-like}
+use Rattle.std.specs.List.{Contains, filter}
+use Rattle.std.proofs.lemmas.Bool.Decides.{Decides-eqb, Decides-and, Decides-not, Decides-like}
 use Rattle.joint_model.specs.Heaps.{Heap, IsLive, HasField, InSlot}
 use Rattle.joint_model.specs.PeerReplay.{PeerReplay, Marking, IsMarkingRoot, HasReference, MarkingEdge, IsMarked, IsClosure, IsSweep}
 use Rattle.joint_model.specs.Walks.{Reached}

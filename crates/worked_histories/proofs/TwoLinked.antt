@@ -1,6 +1,6 @@
 -- The entries of the history of two linked objects may come when they come, part by part.
-use Rattle.std.proofs.Common.{◌≡◌, ℕ, List, [], ◌∷◌, ◌++◌, refl, arith, Some, None, true, false, inr}
-use Rattle.joint_model.specs.First.{FirstLinkage, opening_first, first_replayed, FirstMayCome, AllFirstMayCome}
+use Rattle.std.proofs.Common.{[], ◌∷◌, ◌++◌, refl, arith, false, inr}
+use Rattle.joint_model.specs.First.{opening_first, AllFirstMayCome}
 use Rattle.worked_histories.specs.FirstSteps.{two_made, first_cycle, second_cycle, two_linked, after_making, after_first_cycle}
 use Rattle.worked_histories.proofs.Entries.{absent, AllFirstMayCome-append}
 use Rattle.worked_histories.proofs.JointRows.{unreached}

@@ -1,14 +1,15 @@
 -- Two bridge objects, of which the first has the second in a field, in the form of the first steps: the first cycle finds
 -- both reached, and the second frees both with their peers.
-use Rattle.std.specs.Prelude.{◌≡◌, ℕ, false, List, [], ◌∷◌, ◌++◌, Some, None}
-use Rattle.joint_model.specs.declared.names.Thread.TheVariants.{M, P, C}
-use Rattle.joint_model.specs.declared.names.Sort.TheVariants.{User, Framework}
+use Rattle.std.specs.Prelude.{◌≡◌, ℕ, false, List, [], ◌∷◌, ◌++◌, take, Contains, Some, None}
+use Rattle.joint_model.specs.declared.names.Thread.TheVariants.{M, C}
+use Rattle.joint_model.specs.declared.names.Sort.TheVariants.{User}
 use Rattle.joint_model.specs.declared.names.Kind.TheVariants as kind
 use Rattle.joint_model.specs.declared.lines.Act.TheVariants as act
 use Rattle.joint_model.specs.declared.events.Op.TheVariants as op
+use Rattle.joint_model.specs.declared.events.Reply.{Reply}
 use Rattle.joint_model.specs.declared.events.Reply.TheVariants as says
-use Rattle.joint_model.specs.First.{FirstLinkage, opening_first, first_after, first_replayed, FirstMayCome, AllFirstMayCome}
-use Rattle.joint_model.specs.Told.{Told, nothing, snap_of, begin_of, sweep_of, resolution_of, Noted}
+use Rattle.joint_model.specs.First.{FirstLinkage, opening_first, first_replayed, FirstMayCome}
+use Rattle.joint_model.specs.Told.{nothing, snap_of, begin_of, sweep_of, resolution_of, Noted}
 use Rattle.worked_histories.specs.Notes.{note, var, object_no, peer_no, handle_no, cycle_no, marking_no, span}
 
 -- both objects are made, the first gets the second into its field, and the second's variable is emptied
@@ -51,3 +52,15 @@ after_making = first_replayed opening_first two_made
 
 abbrev pub after_first_cycle : FirstLinkage
 after_first_cycle = first_replayed after_making first_cycle
+
+-- the state before the set
+abbrev pub before_set : FirstLinkage
+before_set = first_replayed opening_first (take 4 two_made)
+
+-- no snap that frees the first object may come after the making
+abbrev pub KeepsReached : Type 0
+KeepsReached = (freed candidates dead : List ℕ) (reply : Reply) → Contains freed 1 → FirstMayCome after_making (note 6 C 5 (op.Snap (cycle_no 1)) reply None (snap_of freed candidates dead)) → ⊥
+
+-- the set that may come there answers ok, and nothing else
+abbrev pub SetsField : Type 0
+SetsField = (reply : Reply) → FirstMayCome before_set (note 4 (M 1) 3 (op.Line (act.Set (var 0) 0 (Some (var 1)))) reply None nothing) → reply ≡ says.Ok
