@@ -12,3 +12,10 @@ pub mod CrossHeaps
 pub mod Surfacing
 pub mod Pinned
 pub mod Deleted
+pub mod RunSteps
+pub mod TwoLinkedRuns
+pub mod TwoPhasedRuns
+pub mod CrossHeapRuns
+pub mod SurfacedRuns
+pub mod PinnedRuns
+pub mod DeletionRuns

@@ -6,3 +6,4 @@ pub mod CrossHeap
 pub mod Surfaced
 pub mod Pins
 pub mod Deletion
+pub mod Runs

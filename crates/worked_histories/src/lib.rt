@@ -7,6 +7,7 @@
 mod first_steps;
 mod graphs;
 mod histories;
+mod runs;
 
 pub use first_steps::{reached_object_stays, set_answers_ok, two_linked_objects};
 pub use graphs::{components_of_a_circle, components_of_a_diamond, components_without_detours};
@@ -14,4 +15,8 @@ pub use histories::{
     cycle_across_both_heaps, deleted_reference_holds, disposed_and_surfaced_object,
     field_emptied_in_a_marking, filled_pin_is_told, mirror_leaves_nothing_out, object_in_a_pin,
     resolution_keeps_the_answered, two_linked_objects_by_phases,
+};
+pub use runs::{
+    cycle_across_both_heaps_run, disposed_and_surfaced_object_run, field_emptied_in_a_marking_run,
+    object_in_a_pin_run, two_linked_objects_by_phases_run, two_linked_objects_run,
 };
