@@ -19,3 +19,14 @@ pub mod CrossHeapRuns
 pub mod SurfacedRuns
 pub mod PinnedRuns
 pub mod DeletionRuns
+pub mod Refusalss
+pub mod PlainObjects
+pub mod PendingReads
+pub mod PeerMarkings
+pub mod GlobalNamess
+pub mod Resurrecteds
+pub mod MovedPeers
+pub mod EndedMarkings
+pub mod PlainBetweens
+pub mod HeldPeers
+pub mod Abandoneds

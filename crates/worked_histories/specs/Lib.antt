@@ -7,3 +7,15 @@ pub mod Surfaced
 pub mod Pins
 pub mod Deletion
 pub mod Runs
+pub mod Moments
+pub mod Refusals
+pub mod PlainObject
+pub mod PendingRead
+pub mod PeerMarking
+pub mod GlobalNames
+pub mod Resurrected
+pub mod MovedPeer
+pub mod EndedMarking
+pub mod PlainBetween
+pub mod HeldPeer
+pub mod Abandoned

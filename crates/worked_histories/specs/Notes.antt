@@ -8,6 +8,7 @@ use Rattle.joint_model.specs.declared.names.Cycle.{Cycle}
 use Rattle.joint_model.specs.declared.names.Marking.{Marking}
 use Rattle.joint_model.specs.declared.names.StaticNo.{StaticNo}
 use Rattle.joint_model.specs.declared.names.Cell.{Cell}
+use Rattle.joint_model.specs.declared.names.GName.{GName}
 use Rattle.joint_model.specs.declared.names.Span.{Span}
 use Rattle.joint_model.specs.declared.names.Thread.{Thread}
 use Rattle.joint_model.specs.declared.events.Op.{Op}
@@ -18,12 +19,15 @@ use Rattle.joint_model.specs.Told.{Told, Noted}
 abbrev pub note : ℕ → Thread → ℕ → Op → Reply → Option ℕ → Told → Noted
 note number caller line o reply cites told = record { entry = record { number = number; made = record { caller = caller; index = line; op = o; reply = reply; cites = cites } }; told = told }
 
--- a variable, a static and a cell by their places
+-- a variable, a static, a global name and a cell by their places
 abbrev pub var : ℕ → Var
 var v = record { 0 = v }
 
 abbrev pub static_no : ℕ → StaticNo
 static_no x = record { 0 = x }
+
+abbrev pub name_no : ℕ → GName
+name_no g = record { 0 = g }
 
 abbrev pub cell_no : ℕ → Cell
 cell_no k = record { 0 = k }
