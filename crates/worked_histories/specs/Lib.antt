@@ -19,3 +19,5 @@ pub mod EndedMarking
 pub mod PlainBetween
 pub mod HeldPeer
 pub mod Abandoned
+pub mod OneObject
+pub mod Freeing

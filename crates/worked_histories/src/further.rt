@@ -2,9 +2,11 @@
 
 ghost use Rattle.worked_histories.specs.Abandoned.{AbandonedHolds};
 ghost use Rattle.worked_histories.specs.EndedMarking.{EndedMarkingHolds};
+ghost use Rattle.worked_histories.specs.Freeing.{FreesOneObject};
 ghost use Rattle.worked_histories.specs.GlobalNames.{GlobalNamesHold};
 ghost use Rattle.worked_histories.specs.HeldPeer.{HeldPeerHolds};
 ghost use Rattle.worked_histories.specs.MovedPeer.{MovedPeerHolds};
+ghost use Rattle.worked_histories.specs.OneObject.{OneObjectHolds};
 ghost use Rattle.worked_histories.specs.PeerMarking.{PeerMarkingHolds};
 ghost use Rattle.worked_histories.specs.PendingRead.{PendingReadHolds};
 ghost use Rattle.worked_histories.specs.PlainBetween.{PlainBetweenHolds};
@@ -65,4 +67,14 @@ pub fn held_peer_is_lawful()
 /// Two cycles that are abandoned.
 pub fn abandoned_is_lawful()
     ensures { AbandonedHolds }
+{}
+
+/// One bridge object that is let go.
+pub fn one_object_is_lawful()
+    ensures { OneObjectHolds }
+{}
+
+/// The run of the one object frees nothing too early, and everything that stays unreached.
+pub fn one_object_is_freed_in_time()
+    ensures { FreesOneObject }
 {}
