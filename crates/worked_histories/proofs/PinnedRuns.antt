@@ -1,0 +1,74 @@
+-- The history of the pinned object is a run.
+use Rattle.std.proofs.Common.{[], refl, arith, inl, inr}
+use Rattle.joint_model.specs.Joint.{opening}
+use Rattle.joint_model.specs.Linked.{opening_linkage}
+use Rattle.joint_model.specs.Run.{IsRunFrom}
+use Rattle.worked_histories.specs.Runs.{linked_moments, PinnedRun}
+use Rattle.worked_histories.specs.Pins.{pinned_object}
+use Rattle.worked_histories.proofs.Decided.{Rises-from_test}
+use Rattle.worked_histories.proofs.Entries.{all_found}
+use Rattle.worked_histories.proofs.JointRows.{unreached}
+use Rattle.worked_histories.proofs.ManagedRows.{snapshot, resolution}
+use Rattle.worked_histories.proofs.RunSteps.{Decides-kept_row, none_reached}
+
+pub pinned-runs : IsRunFrom opening (linked_moments [] opening_linkage pinned_object)
+pinned-runs = (
+  refl,
+  record { event = omega arith; step = record { computed = tt; replies = refl; state = refl } },
+  (
+    refl,
+    record { event = omega arith; step = record { computed = tt; replies = refl; state = refl } },
+    (
+      refl,
+      record { event = (omega arith, omega arith, (_, (omega arith, refl))); step = record { computed = tt; replies = refl; state = refl } },
+      (
+        refl,
+        record { event = omega arith; step = record { computed = tt; replies = refl; state = refl } },
+        (
+          refl,
+          record { event = omega arith; step = record { computed = tt; replies = refl; state = refl } },
+          (
+            refl,
+            record { event = omega arith; step = record { computed = tt; replies = refl; state = refl } },
+            (
+              refl,
+              record { event = omega arith; step = record { computed = tt; replies = refl; state = refl } },
+              (
+                refl,
+                record { event = tt; step = record { snapshot = snapshot _ 2 1 [] [] [] (record { slots = refl; bridges = refl }) refl refl refl refl refl refl; replies = refl; state = refl } },
+                (
+                  refl,
+                  record { event = inr tt; step = record { unreached = []; are = unreached _ 4 [] refl refl refl; replies = refl; state = refl } },
+                  (
+                    refl,
+                    record { event = inr tt; step = inl (record { allowed = inl refl; rise = Rises-from_test [] refl; stored = all_found [] [] refl; unreached = none_reached _ 4 [] refl refl; replies = refl; state = refl }) },
+                    (
+                      refl,
+                      record { event = tt; step = record { cycle = record { number = 1; candidates = []; dead = [] }; open_cycle = (refl, refl); resolution = resolution _ 1 [] _ [] [] (Decides-kept_row _ (record { number = 1; candidates = []; dead = [] })) refl refl refl; replies = refl; state = refl } },
+                      (
+                        refl,
+                        record { event = omega arith; step = record { computed = tt; replies = refl; state = refl } },
+                        (
+                          refl,
+                          record { event = omega arith; step = record { computed = tt; replies = refl; state = refl } },
+                          (
+                            refl,
+                            record { event = omega arith; step = record { computed = tt; replies = refl; state = refl } },
+                            tt,
+                          ),
+                        ),
+                      ),
+                    ),
+                  ),
+                ),
+              ),
+            ),
+          ),
+        ),
+      ),
+    ),
+  ),
+)
+
+pub pinned-run : PinnedRun
+pinned-run = record { same = refl; steps = pinned-runs }

@@ -1,0 +1,69 @@
+-- The history of the disposed and surfaced object is a run.
+use Rattle.std.proofs.Common.{[], refl, arith}
+use Rattle.joint_model.specs.Joint.{opening}
+use Rattle.joint_model.specs.Linked.{opening_linkage}
+use Rattle.joint_model.specs.Run.{IsRunFrom}
+use Rattle.worked_histories.specs.Runs.{linked_moments, SurfacedRun}
+use Rattle.worked_histories.specs.Surfaced.{disposed_and_surfaced}
+
+pub surfaced-runs : IsRunFrom opening (linked_moments [] opening_linkage disposed_and_surfaced)
+surfaced-runs = (
+  refl,
+  record { event = omega arith; step = record { computed = tt; replies = refl; state = refl } },
+  (
+    refl,
+    record { event = (omega arith, omega arith, (_, (omega arith, refl))); step = record { computed = tt; replies = refl; state = refl } },
+    (
+      refl,
+      record { event = omega arith; step = record { computed = tt; replies = refl; state = refl } },
+      (
+        refl,
+        record { event = omega arith; step = record { computed = tt; replies = refl; state = refl } },
+        (
+          refl,
+          record { event = omega arith; step = record { computed = tt; replies = refl; state = refl } },
+          (
+            refl,
+            record { event = omega arith; step = record { computed = tt; replies = refl; state = refl } },
+            (
+              refl,
+              record { event = omega arith; step = record { computed = tt; replies = refl; state = refl } },
+              (
+                refl,
+                record { event = omega arith; step = record { computed = tt; replies = refl; state = refl } },
+                (
+                  refl,
+                  record { event = omega arith; step = record { computed = tt; replies = refl; state = refl } },
+                  (
+                    refl,
+                    record { event = omega arith; step = record { computed = tt; replies = refl; state = refl } },
+                    (
+                      refl,
+                      record { event = omega arith; step = record { computed = tt; replies = refl; state = refl } },
+                      (
+                        refl,
+                        record { event = omega arith; step = record { computed = tt; replies = refl; state = refl } },
+                        (
+                          refl,
+                          record { event = omega arith; step = record { computed = tt; replies = refl; state = refl } },
+                          (
+                            refl,
+                            record { event = omega arith; step = record { computed = tt; replies = refl; state = refl } },
+                            tt,
+                          ),
+                        ),
+                      ),
+                    ),
+                  ),
+                ),
+              ),
+            ),
+          ),
+        ),
+      ),
+    ),
+  ),
+)
+
+pub surfaced-run : SurfacedRun
+surfaced-run = record { same = refl; steps = surfaced-runs }
