@@ -59,6 +59,10 @@ lettered-append letter (n ∷ a) b = ap (λ t. (letter ∷ decimal n) ∷ t) (le
 one_word : (letter n : ℕ) → after_spaces (lettered letter (n ∷ [])) ≡ 32 ∷ letter ∷ decimal n
 one_word letter n = ap (λ t. 32 ∷ letter ∷ t) (append-nil (decimal n))
 
+-- a number's word, as it is put together behind an empty line
+pub piece_of : (bytes line none : List ℕ) (letter own n : ℕ) → bytes ≡ line → line ≡ none ++ 32 ∷ letter ∷ decimal n → none ≡ [] → letter ≡ own → bytes ≡ 32 ∷ own ∷ decimal n
+piece_of bytes line none letter own n e f g h = e ∙ (f ∙ (ap (λ t. t ++ 32 ∷ letter ∷ decimal n) g ∙ ap (λ t. 32 ∷ t ∷ decimal n) h))
+
 -- one more number of a list
 pub numbers_more : (letter : ℕ) (xs : List ℕ) (first k n : ℕ) → Some n ≡ slice_get xs (first + k)
     → after_spaces (lettered letter (take (k + 1) (drop first xs))) ≡ after_spaces (lettered letter (take k (drop first xs))) ++ 32 ∷ letter ∷ decimal n
