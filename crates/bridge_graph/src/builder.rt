@@ -1,6 +1,7 @@
 // A part that is being built.
 
 ghost use Rattle.std.specs.Prelude.{◌≡◌, ℕ, ◌+◌, ◌-◌, ◌<◌, ◌≤◌, ◌++◌, [], ◌∷◌, length, slice_set, All, IfOk, OnOk, OnErr, false};
+ghost use Rattle.std.specs.Bool.{OnTrue};
 ghost use Rattle.bridge_graph.specs.Parts.{Part, Building, IsPart, row_at, opaque_at};
 
 use crate::graph::{DeadGraph, Node};
@@ -134,6 +135,26 @@ impl GraphBuilder {
         ensures part { IsPart self.now.nodes self.now.edges }
     {
         self.nodes.len() as u32
+    }
+
+    /// Whether a node with that number may be added: there is room for its index, and its number is greater
+    /// than those before.
+    pub fn next_is(&self, number: MNum) -> bool
+        ensures few { OnTrue result (length self.now.nodes < 65535) }
+        ensures rising { OnTrue result (All (λ n. n.number.0 < number.0) self.now.nodes) }
+    {
+        self.nodes.len() < 65535 && self.nodes.iter().all(|n| n.number.0 < number.0)
+    }
+
+    /// Whether an edge may be added between two indexes: both are nodes, and the first is not opaque.
+    pub fn may_lead(&self, from: u32, to: u32) -> bool
+        ensures from { OnTrue result (from < length self.now.nodes) }
+        ensures to { OnTrue result (to < length self.now.nodes) }
+        ensures open { OnTrue result (opaque_at self.now.nodes from ≡ false) }
+    {
+        (from as usize) < self.nodes.len()
+            && (to as usize) < self.nodes.len()
+            && !self.nodes[from as usize].opaque
     }
 
     /// The finished part. It takes no memory.

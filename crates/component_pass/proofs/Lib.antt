@@ -3,3 +3,4 @@ pub mod Least
 pub mod Grouped
 pub mod Listed
 pub mod Crossing
+pub mod Strong

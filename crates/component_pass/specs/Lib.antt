@@ -3,3 +3,4 @@ pub mod Classes
 pub mod Grouping
 pub mod Groups
 pub mod Referring
+pub mod Tarjan

@@ -8,6 +8,7 @@ ghost use Rattle.component_pass.specs.Classes.{AreClasses};
 use crate::groups::{group_bridges, list_components, plain_nodes};
 use crate::plain::plain_classes;
 use crate::references::list_references;
+use crate::tarjan::classes;
 use bridge_graph::DeadGraph;
 use std::alloc::{AllocError, Global};
 use xref_list::{Components, ComponentsBuilder};
@@ -19,6 +20,14 @@ use xref_list::{Components, ComponentsBuilder};
 /// second whose nodes between lie in classes without a bridge node. Answers `AllocError` only where there
 /// is no memory.
 pub fn contract(alloc: Global, graph: &DeadGraph) -> Result<Components, AllocError>
+    ensures { IfOk result (λ c. IsContraction (IsBridge graph.now.nodes) (Leads graph.now.edges) c.comps c.pairs) }
+{
+    let labels = classes(alloc, graph)?;
+    from_classes(alloc, graph, &labels)
+}
+
+/// The same by a search from every node, as the definition has it: slow, and there for comparison.
+pub fn plain_contract(alloc: Global, graph: &DeadGraph) -> Result<Components, AllocError>
     ensures { IfOk result (λ c. IsContraction (IsBridge graph.now.nodes) (Leads graph.now.edges) c.comps c.pairs) }
 {
     let labels = plain_classes(alloc, graph)?;
