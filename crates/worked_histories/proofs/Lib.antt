@@ -33,3 +33,4 @@ pub mod AbandonedSteps
 pub mod OneObjectSteps
 pub mod Places
 pub mod FreeingOne
+pub mod ReadersOwn

@@ -21,3 +21,4 @@ pub mod HeldPeer
 pub mod Abandoned
 pub mod OneObject
 pub mod Freeing
+pub mod Readings

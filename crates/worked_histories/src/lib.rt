@@ -8,6 +8,7 @@ mod first_steps;
 mod further;
 mod graphs;
 mod histories;
+mod readings;
 mod runs;
 
 pub use first_steps::{reached_object_stays, set_answers_ok, two_linked_objects};
@@ -20,6 +21,7 @@ pub use histories::{
     field_emptied_in_a_marking, filled_pin_is_told, mirror_leaves_nothing_out, object_in_a_pin,
     resolution_keeps_the_answered, two_linked_objects_by_phases,
 };
+pub use readings::{pending_reads_by_readers, pinned_reads_by_readers};
 pub use runs::{
     cycle_across_both_heaps_run, disposed_and_surfaced_object_run, field_emptied_in_a_marking_run,
     object_in_a_pin_run, two_linked_objects_by_phases_run, two_linked_objects_run,
