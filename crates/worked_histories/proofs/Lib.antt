@@ -34,3 +34,5 @@ pub mod OneObjectSteps
 pub mod Places
 pub mod FreeingOne
 pub mod ReadersOwn
+pub mod TwoMarkingsSteps
+pub mod FirstNamesSteps

@@ -46,8 +46,8 @@ sets_op _ k = false
 
 pub end_there : (ns : List Noted) (e i k : ℕ) → only_at is_end e 0 ns ≡ true → EndsCycleAt ns i k → i ≡ e
 end_there ns e i k h r = place is_end e ns i r.entry h r.there (⊎_elim
-  (λ q. subst (λ o. is_end_op o ≡ true) (sym q) refl)
-  (λ q. subst (λ o. is_end_op o ≡ true) (sym q) refl) r.event)
+    (λ q. subst (λ o. is_end_op o ≡ true) (sym q) refl)
+    (λ q. subst (λ o. is_end_op o ≡ true) (sym q) refl) r.event)
 
 pub sets_from : (o : Op) (k : ℕ) → SetsCell o k → sets_op o k ≡ true
 sets_from (op.Line (act.Weak c v)) k s = (Decides-eqb c.0 k).1 s
@@ -56,11 +56,15 @@ sets_from _ k s = absurd s
 -- a pending read of the one cycle, which ends after it
 pub pending_there : (ns : List Noted) (snap e i : ℕ) (t : Thread) (k : ℕ) → SnapsCycleAt ns snap k → snap < i → i ≤ e → only_at is_end e 0 ns ≡ true → MayBePending ns i t k
 pending_there ns snap e i t k s l u h = record {
-  snap = snap; snaps = s; early = λ j below m. early j below;
-  unknown = λ end j r later m known. never end j known.0 (end_there ns e end k h r) later known.1 known.2 }
+  snap = snap;
+  snaps = s;
+  early = λ j below m. early j below;
+  unknown = λ end j r later m known. never end j known.0 (end_there ns e end k h r) later known.1 known.2;
+}
   where
     early : (j : ℕ) → j < snap → j < i
     early j b = omega arith
+
     never : (end j x : ℕ) → end ≡ e → end < j → j ≤ x → x < i → ⊥
     never end j x a b c d = omega arith
 
@@ -70,6 +74,7 @@ set_nowhere ns k i h r = absurd (impossible i (place_one i r))
   where
     impossible : (i : ℕ) → i + 1 ≡ 0 → ⊥
     impossible i e = omega arith
+
     place_one : (i : ℕ) → SetsCellAt ns i k → i + 1 ≡ 0
     place_one i r = place_from (λ n. sets_op n.entry.made.op k) 0 1 ns i r.entry h r.there (sets_from r.entry.entry.made.op k r.event)
 
@@ -77,48 +82,113 @@ pub never_set : (ns : List Noted) (cells : List (Option ℕ)) (i : ℕ) (t : Thr
 never_set ns cells i t k h none = record {
   unknown = λ set j s l m known. set_nowhere ns k set h s;
   not_own = λ set s l c. set_nowhere ns k set h s;
-  target_unfreed = λ m j e f l. no_target m e }
+  target_unfreed = λ m j e f l. no_target m e;
+}
   where
     no_target : (m : ℕ) → slot cells k ≡ Some m → ⊥
     no_target m e = cc
 
 pub pending-readings : PendingReadings
-pending-readings =
-    (record { number = refl; event = omega arith; line = omega arith; lawful = record { allowed = tt; replies = refl }; order = refl }
-  , (record { number = refl; event = (omega arith, omega arith, (User, (omega arith, refl))); line = omega arith; lawful = record { allowed = absent [] 1 refl; replies = refl }; order = (refl, refl, refl, refl, (omega arith, (omega arith, (omega arith, refl), omega arith))) }
-  , (record { number = refl; event = omega arith; line = omega arith; lawful = record { allowed = tt; replies = refl }; order = refl }
-  , (record { number = refl; event = omega arith; line = omega arith; lawful = record { allowed = tt; replies = refl }; order = refl }
-  , (record { number = refl; event = tt; line = omega arith; lawful = record { allowed = snapshot _ 2 1 [] (1 ∷ []) (1 ∷ []) (record { slots = refl; bridges = refl }) refl refl refl refl refl refl; replies = refl }; order = refl }
-  , ((record { number = refl; event = omega arith; line = omega arith; order = refl }, λ k e. pending_there pending_read 4 14 5 (M 1) 1 (record { entry = _; there = refl; event = refl }) (omega arith) (omega arith) refl)
-  , (record { number = refl; event = tt; line = omega arith; lawful = record { allowed = record { cycle = record { number = 1; candidates = (1 ∷ []); dead = (1 ∷ []) }; open_cycle = (refl, refl); once = refl; exact = dead_contraction _ 2 (1 ∷ []) ((1 ∷ []) ∷ []) [] (record { inside = refl; complete = refl; order = refl; same = refl; firsts = refl; split = refl; refs = refl }) }; replies = refl }; order = (refl, refl) }
-  , (record { number = refl; event = tt; line = omega arith; lawful = record { allowed = record { none_stands = refl; once = absent [] 1 refl; snap = 4; cited = refl }; replies = refl }; order = (refl, refl, refl) }
-  , (record { number = refl; event = tt; line = omega arith; lawful = record { allowed = record { mirror = record { cycle = 1; snap = 4; weakened = []; restored = [] }; stands = refl; cited = refl; is_held = (record { peer = 1; hold = held; strength = strong }, refl, refl); strong_now = refl }; replies = refl }; order = (refl, refl, (_, refl, refl)) }
-  , (record { number = refl; event = inr tt; line = omega arith; lawful = record { allowed = tt; replies = refl }; order = (refl, refl) }
-  , (record { number = refl; event = inr tt; line = omega arith; lawful = record { allowed = (inl refl, sweep _ _ 2 (1 ∷ []) refl refl refl); replies = refl }; order = refl }
-  , (record { number = refl; event = tt; line = omega arith; lawful = record { allowed = record { mirror = record { cycle = 1; snap = 4; weakened = (1 ∷ []); restored = [] }; stands = refl; weakened = present (1 ∷ []) 1 refl; waiting = absent [] 1 refl }; replies = refl }; order = (refl, (_, refl, refl)) }
-  , (record { number = refl; event = tt; line = omega arith; lawful = record { allowed = record { mirror = record { cycle = 1; snap = 4; weakened = (1 ∷ []); restored = (1 ∷ []) }; stands = refl; same = refl; all = All-contains_itself (1 ∷ []) }; replies = refl }; order = (refl, refl, refl) }
-  , ((record { number = refl; event = omega arith; line = omega arith; order = refl }, λ k e. pending_there pending_read 4 14 13 (M 1) 1 (record { entry = _; there = refl; event = refl }) (omega arith) (omega arith) refl)
-  , (record { number = refl; event = tt; line = omega arith; lawful = record { allowed = record { cycle = record { number = 1; candidates = (1 ∷ []); dead = (1 ∷ []) }; open_cycle = (refl, refl); answers = refl; resolution = resolution _ 2 (1 ∷ []) _ [] (1 ∷ []) (Decides-answered (1 ∷ []) (false ∷ [])) refl refl refl }; replies = refl }; order = (refl, refl, refl) }
-  , ((record { number = refl; event = omega arith; line = omega arith; order = refl }, λ k e. rw (← e) refl)
-  , tt))))))))))))))))
+pending-readings = (
+  record { number = refl; event = omega arith; line = omega arith; lawful = record { allowed = tt; replies = refl }; order = refl },
+  (
+    record { number = refl; event = (omega arith, omega arith, (User, (omega arith, refl))); line = omega arith; lawful = record { allowed = absent [] 1 refl; replies = refl }; order = (refl, refl, refl, refl, (omega arith, (omega arith, (omega arith, refl), omega arith))) },
+    (
+      record { number = refl; event = omega arith; line = omega arith; lawful = record { allowed = tt; replies = refl }; order = refl },
+      (
+        record { number = refl; event = omega arith; line = omega arith; lawful = record { allowed = tt; replies = refl }; order = refl },
+        (
+          record { number = refl; event = tt; line = omega arith; lawful = record { allowed = snapshot _ 2 1 [] (1 ∷ []) (1 ∷ []) (record { slots = refl; bridges = refl }) refl refl refl refl refl refl; replies = refl }; order = refl },
+          (
+            (record { number = refl; event = omega arith; line = omega arith; order = refl }, λ k e. pending_there pending_read 4 14 5 (M 1) 1 (record { entry = _; there = refl; event = refl }) (omega arith) (omega arith) refl),
+            (
+              record { number = refl; event = tt; line = omega arith; lawful = record { allowed = record { cycle = record { number = 1; candidates = (1 ∷ []); dead = (1 ∷ []) }; open_cycle = (refl, refl); once = refl; exact = dead_contraction _ 2 (1 ∷ []) ((1 ∷ []) ∷ []) [] (record { inside = refl; complete = refl; order = refl; same = refl; firsts = refl; split = refl; refs = refl }) }; replies = refl }; order = (refl, refl) },
+              (
+                record { number = refl; event = tt; line = omega arith; lawful = record { allowed = record { none_stands = refl; once = absent [] 1 refl; snap = 4; cited = refl }; replies = refl }; order = (refl, refl, refl) },
+                (
+                  record { number = refl; event = tt; line = omega arith; lawful = record { allowed = record { mirror = record { cycle = 1; snap = 4; weakened = []; restored = [] }; stands = refl; cited = refl; is_held = (record { peer = 1; hold = held; strength = strong }, refl, refl); strong_now = refl }; replies = refl }; order = (refl, refl, (_, refl, refl)) },
+                  (
+                    record { number = refl; event = inr tt; line = omega arith; lawful = record { allowed = tt; replies = refl }; order = (refl, refl) },
+                    (
+                      record { number = refl; event = inr tt; line = omega arith; lawful = record { allowed = (inl refl, sweep _ _ 2 (1 ∷ []) refl refl refl); replies = refl }; order = refl },
+                      (
+                        record { number = refl; event = tt; line = omega arith; lawful = record { allowed = record { mirror = record { cycle = 1; snap = 4; weakened = (1 ∷ []); restored = [] }; stands = refl; weakened = present (1 ∷ []) 1 refl; waiting = absent [] 1 refl }; replies = refl }; order = (refl, (_, refl, refl)) },
+                        (
+                          record { number = refl; event = tt; line = omega arith; lawful = record { allowed = record { mirror = record { cycle = 1; snap = 4; weakened = (1 ∷ []); restored = (1 ∷ []) }; stands = refl; same = refl; all = All-contains_itself (1 ∷ []) }; replies = refl }; order = (refl, refl, refl) },
+                          (
+                            (record { number = refl; event = omega arith; line = omega arith; order = refl }, λ k e. pending_there pending_read 4 14 13 (M 1) 1 (record { entry = _; there = refl; event = refl }) (omega arith) (omega arith) refl),
+                            (
+                              record { number = refl; event = tt; line = omega arith; lawful = record { allowed = record { cycle = record { number = 1; candidates = (1 ∷ []); dead = (1 ∷ []) }; open_cycle = (refl, refl); answers = refl; resolution = resolution _ 2 (1 ∷ []) _ [] (1 ∷ []) (Decides-answered (1 ∷ []) (false ∷ [])) refl refl refl }; replies = refl }; order = (refl, refl, refl) },
+                              (
+                                (record { number = refl; event = omega arith; line = omega arith; order = refl }, λ k e. rw (← e) refl),
+                                tt,
+                              ),
+                            ),
+                          ),
+                        ),
+                      ),
+                    ),
+                  ),
+                ),
+              ),
+            ),
+          ),
+        ),
+      ),
+    ),
+  ),
+)
 
 pub pinned-readings : PinnedReadings
-pinned-readings =
-    (record { number = refl; event = omega arith; line = omega arith; lawful = record { allowed = tt; replies = refl }; order = refl }
-  , (record { number = refl; event = omega arith; line = omega arith; lawful = record { allowed = tt; replies = refl }; order = refl }
-  , (record { number = refl; event = (omega arith, omega arith, (User, (omega arith, refl))); line = omega arith; lawful = record { allowed = absent [] 1 refl; replies = refl }; order = (refl, refl, refl, refl, (omega arith, (omega arith, (omega arith, refl), omega arith))) }
-  , (record { number = refl; event = omega arith; line = omega arith; lawful = record { allowed = tt; replies = refl }; order = refl }
-  , (record { number = refl; event = omega arith; line = omega arith; lawful = record { allowed = tt; replies = refl }; order = refl }
-  , ((record { number = refl; event = omega arith; line = omega arith; order = refl }, λ k e. rw (← e) refl)
-  , ((record { number = refl; event = omega arith; line = omega arith; order = refl }, λ k e. refl)
-  , (record { number = refl; event = tt; line = omega arith; lawful = record { allowed = snapshot _ 2 1 [] [] [] (record { slots = refl; bridges = refl }) refl refl refl refl refl refl; replies = refl }; order = refl }
-  , (record { number = refl; event = tt; line = omega arith; lawful = record { allowed = record { cycle = record { number = 1; candidates = []; dead = [] }; open_cycle = (refl, refl); once = refl; exact = dead_contraction _ 2 [] [] [] (record { inside = refl; complete = refl; order = refl; same = refl; firsts = refl; split = refl; refs = refl }) }; replies = refl }; order = (refl, refl) }
-  , (record { number = refl; event = tt; line = omega arith; lawful = record { allowed = record { none_stands = refl; once = absent [] 1 refl; snap = 7; cited = refl }; replies = refl }; order = (refl, refl, refl) }
-  , (record { number = refl; event = inr tt; line = omega arith; lawful = record { allowed = tt; replies = refl }; order = (refl, refl) }
-  , (record { number = refl; event = inr tt; line = omega arith; lawful = record { allowed = (inl refl, sweep _ _ 2 [] refl refl refl); replies = refl }; order = refl }
-  , (record { number = refl; event = tt; line = omega arith; lawful = record { allowed = record { mirror = record { cycle = 1; snap = 7; weakened = []; restored = [] }; stands = refl; same = refl; all = All-contains_itself [] }; replies = refl }; order = (refl, refl, refl) }
-  , (record { number = refl; event = tt; line = omega arith; lawful = record { allowed = record { cycle = record { number = 1; candidates = []; dead = [] }; open_cycle = (refl, refl); answers = refl; resolution = resolution _ 2 [] _ [] [] (Decides-answered [] []) refl refl refl }; replies = refl }; order = (refl, refl, refl) }
-  , (record { number = refl; event = omega arith; line = omega arith; lawful = record { allowed = tt; replies = refl }; order = refl }
-  , ((record { number = refl; event = omega arith; line = omega arith; order = refl }, λ k e. subst (λ k. MayBeUnset pinned_object (cells_of pinned_object) 15 (M 1) k) e (never_set pinned_object (cells_of pinned_object) 15 (M 1) 6 refl refl))
-  , (record { number = refl; event = omega arith; line = omega arith; lawful = record { allowed = tt; replies = refl }; order = refl }
-  , tt)))))))))))))))))
+pinned-readings = (
+  record { number = refl; event = omega arith; line = omega arith; lawful = record { allowed = tt; replies = refl }; order = refl },
+  (
+    record { number = refl; event = omega arith; line = omega arith; lawful = record { allowed = tt; replies = refl }; order = refl },
+    (
+      record { number = refl; event = (omega arith, omega arith, (User, (omega arith, refl))); line = omega arith; lawful = record { allowed = absent [] 1 refl; replies = refl }; order = (refl, refl, refl, refl, (omega arith, (omega arith, (omega arith, refl), omega arith))) },
+      (
+        record { number = refl; event = omega arith; line = omega arith; lawful = record { allowed = tt; replies = refl }; order = refl },
+        (
+          record { number = refl; event = omega arith; line = omega arith; lawful = record { allowed = tt; replies = refl }; order = refl },
+          (
+            (record { number = refl; event = omega arith; line = omega arith; order = refl }, λ k e. rw (← e) refl),
+            (
+              (record { number = refl; event = omega arith; line = omega arith; order = refl }, λ k e. refl),
+              (
+                record { number = refl; event = tt; line = omega arith; lawful = record { allowed = snapshot _ 2 1 [] [] [] (record { slots = refl; bridges = refl }) refl refl refl refl refl refl; replies = refl }; order = refl },
+                (
+                  record { number = refl; event = tt; line = omega arith; lawful = record { allowed = record { cycle = record { number = 1; candidates = []; dead = [] }; open_cycle = (refl, refl); once = refl; exact = dead_contraction _ 2 [] [] [] (record { inside = refl; complete = refl; order = refl; same = refl; firsts = refl; split = refl; refs = refl }) }; replies = refl }; order = (refl, refl) },
+                  (
+                    record { number = refl; event = tt; line = omega arith; lawful = record { allowed = record { none_stands = refl; once = absent [] 1 refl; snap = 7; cited = refl }; replies = refl }; order = (refl, refl, refl) },
+                    (
+                      record { number = refl; event = inr tt; line = omega arith; lawful = record { allowed = tt; replies = refl }; order = (refl, refl) },
+                      (
+                        record { number = refl; event = inr tt; line = omega arith; lawful = record { allowed = (inl refl, sweep _ _ 2 [] refl refl refl); replies = refl }; order = refl },
+                        (
+                          record { number = refl; event = tt; line = omega arith; lawful = record { allowed = record { mirror = record { cycle = 1; snap = 7; weakened = []; restored = [] }; stands = refl; same = refl; all = All-contains_itself [] }; replies = refl }; order = (refl, refl, refl) },
+                          (
+                            record { number = refl; event = tt; line = omega arith; lawful = record { allowed = record { cycle = record { number = 1; candidates = []; dead = [] }; open_cycle = (refl, refl); answers = refl; resolution = resolution _ 2 [] _ [] [] (Decides-answered [] []) refl refl refl }; replies = refl }; order = (refl, refl, refl) },
+                            (
+                              record { number = refl; event = omega arith; line = omega arith; lawful = record { allowed = tt; replies = refl }; order = refl },
+                              (
+                                (record { number = refl; event = omega arith; line = omega arith; order = refl }, λ k e. subst (λ k. MayBeUnset pinned_object (cells_of pinned_object) 15 (M 1) k) e (never_set pinned_object (cells_of pinned_object) 15 (M 1) 6 refl refl)),
+                                (
+                                  record { number = refl; event = omega arith; line = omega arith; lawful = record { allowed = tt; replies = refl }; order = refl },
+                                  tt,
+                                ),
+                              ),
+                            ),
+                          ),
+                        ),
+                      ),
+                    ),
+                  ),
+                ),
+              ),
+            ),
+          ),
+        ),
+      ),
+    ),
+  ),
+)

@@ -22,3 +22,5 @@ pub mod Abandoned
 pub mod OneObject
 pub mod Freeing
 pub mod Readings
+pub mod TwoMarkings
+pub mod FirstNames
