@@ -36,3 +36,4 @@ pub mod FreeingOne
 pub mod ReadersOwn
 pub mod TwoMarkingsSteps
 pub mod FirstNamesSteps
+pub mod WholeHistories

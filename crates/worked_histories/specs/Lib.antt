@@ -24,3 +24,4 @@ pub mod Freeing
 pub mod Readings
 pub mod TwoMarkings
 pub mod FirstNames
+pub mod Wholes

@@ -21,8 +21,9 @@ pub use further::{
 pub use graphs::{components_of_a_circle, components_of_a_diamond, components_without_detours};
 pub use histories::{
     cycle_across_both_heaps, deleted_reference_holds, disposed_and_surfaced_object,
-    field_emptied_in_a_marking, filled_pin_is_told, mirror_leaves_nothing_out, object_in_a_pin,
-    resolution_keeps_the_answered, two_linked_objects_by_phases,
+    field_emptied_in_a_marking, filled_pin_is_told, finished_histories_are_linked,
+    mirror_leaves_nothing_out, object_in_a_pin, resolution_keeps_the_answered,
+    two_linked_objects_by_phases,
 };
 pub use readings::{pending_reads_by_readers, pinned_reads_by_readers};
 pub use runs::{
