@@ -1,20 +1,12 @@
 -- A bridge object in the form of the first steps: its entries may come when they come.
-use Rattle.std.proofs.Common.{◌≡◌, ℕ, List, [], ◌∷◌, ◌++◌, refl, arith, Some, None, true, false, inl, inr}
-use Rattle.std.proofs.lemmas.List.Elements.{All-contains_itself}
-use Rattle.joint_model.specs.declared.names.Sort.TheVariants.{User, Framework}
-use Rattle.joint_model.specs.Joint.{opening}
-use Rattle.joint_model.specs.Linked.{opening_linkage, replayed, AllMayCome}
-use Rattle.joint_model.specs.Peers.{held, strong, weak}
-use Rattle.joint_model.specs.Run.{IsRunFrom}
-use Rattle.worked_histories.specs.Moments.{moments_of}
-use Rattle.worked_histories.proofs.Decided.{Rises-from_test}
-use Rattle.worked_histories.proofs.Entries.{absent, present, all_found, different, AllMayCome-append, AllFirstMayCome-append}
+use Rattle.std.proofs.Common.{[], ◌∷◌, ◌++◌, refl, arith, true, false, inl, inr}
+use Rattle.joint_model.specs.declared.names.Sort.TheVariants.{User}
+use Rattle.worked_histories.proofs.Entries.{absent, AllFirstMayCome-append}
 use Rattle.worked_histories.proofs.JointRows.{unreached}
-use Rattle.worked_histories.proofs.ManagedRows.{snapshot, resolution, Decides-answered, dead_contraction}
-use Rattle.worked_histories.proofs.PeerRows.{sweep, closure}
-use Rattle.worked_histories.proofs.RunSteps.{Decides-kept_row, none_reached, IsRunFrom-append}
+use Rattle.worked_histories.proofs.ManagedRows.{snapshot, resolution, Decides-answered}
+use Rattle.worked_histories.proofs.PeerRows.{sweep}
 use Rattle.joint_model.specs.First.{opening_first, AllFirstMayCome}
-use Rattle.worked_histories.specs.FirstNames.{first_names, FirstNamesHold, names_given, kept_cycle, freed_cycle, after_names_given, after_kept_cycle}
+use Rattle.worked_histories.specs.FirstNames.{FirstNamesHold, names_given, kept_cycle, freed_cycle, after_names_given, after_kept_cycle}
 
 pub names_given-lawful : AllFirstMayCome opening_first names_given
 names_given-lawful = (

@@ -1,6 +1,6 @@
 -- The run of the one object is sound and complete: the places of its snap, begin, sweep and resolution are the only ones,
 -- and neither the object nor its peer is reached from the snap on.
-use Rattle.std.proofs.Common.{◌≡◌, ℕ, ◌+◌, ◌<◌, ◌≤◌, ◌⊎◌, ◌∙◌, Bool, true, false, List, [], ◌∷◌, Some, None, Option, slice_get, get_or, refl, sym, subst, ap, nat_eq, arith, ⊎_elim, true≢false}
+use Rattle.std.proofs.Common.{◌≡◌, ℕ, ◌<◌, ◌≤◌, ◌∙◌, Bool, true, false, List, [], ◌∷◌, Some, None, slice_get, get_or, refl, sym, subst, ap, nat_eq, arith, ⊎_elim, true≢false}
 use Rattle.std.specs.List.{Contains}
 use Rattle.std.proofs.lemmas.Bool.{false≢true, or_cases}
 use Rattle.std.proofs.lemmas.Bool.Decides.{Decides-eqb}
@@ -10,16 +10,16 @@ use Rattle.joint_model.specs.declared.events.Reply.{Reply}
 use Rattle.joint_model.specs.declared.events.Reply.TheVariants as says
 use Rattle.joint_model.specs.declared.names.Thread.TheVariants.{C}
 use Rattle.joint_model.specs.Heaps.{IsMade}
-use Rattle.joint_model.specs.Headline.{IsSoundRun, IsCompleteRun, IsCompleteCycle, IsFreedWithPeer, IsUnreachedAt, IsUnreachedBefore, WasUnreached, ResolvesAt, SweepsAt, SnapsAt, IsMadeBefore, IsPeerFreedAt}
+use Rattle.joint_model.specs.Headline.{IsSoundRun, IsCompleteRun, IsCompleteCycle, IsFreedWithPeer, IsUnreachedAt, IsUnreachedBefore, WasUnreached, ResolvesAt, SweepsAt, SnapsAt, IsPeerFreedAt}
 use Rattle.joint_model.specs.Joint.{Joint, opening, Row, object, peer, IsReached}
 use Rattle.joint_model.specs.Run.{Moment}
-use Rattle.joint_model.specs.Told.{Told, snap_of, sweep_of, resolution_of, nothing}
+use Rattle.joint_model.specs.Told.{snap_of, sweep_of, resolution_of, nothing}
 use Rattle.worked_histories.specs.Freeing.{one_run, FreesOneObject}
 use Rattle.worked_histories.specs.Notes.{note, span}
 use Rattle.worked_histories.proofs.Decided.{mem, is_closed, mem_from_Contains}
 use Rattle.worked_histories.proofs.Entries.{absent, present}
 use Rattle.worked_histories.proofs.JointRows.{row_eq, joint_next, joint_roots, joint_reach, Decides-joint_reached}
-use Rattle.worked_histories.proofs.Places.{only_at, place, same_place}
+use Rattle.worked_histories.proofs.Places.{place, same_place}
 
 -- the moment at a place
 abbrev pub moment_at : ℕ → Moment

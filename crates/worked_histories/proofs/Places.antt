@@ -1,6 +1,6 @@
 -- Where in a list an element with some property stands is computed by a test.
-use Rattle.std.proofs.Common.{◌≡◌, ℕ, zero, suc, ◌+◌, Bool, true, false, not, ◌||◌, ◌&&◌, List, [], ◌∷◌, Some, None, Option, slice_get, refl, sym, subst, nat_eq, arith, ⊎_elim, ◌∙◌, true≢false}
-use Rattle.std.proofs.lemmas.Bool.{false≢true, or_cases, and_parts, not-true}
+use Rattle.std.proofs.Common.{◌≡◌, ℕ, zero, suc, ◌+◌, Bool, true, not, ◌||◌, ◌&&◌, List, [], ◌∷◌, Some, slice_get, sym, subst, nat_eq, arith, ⊎_elim, ◌∙◌, true≢false}
+use Rattle.std.proofs.lemmas.Bool.{or_cases, and_parts, not-true}
 use Rattle.std.proofs.lemmas.Bool.Decides.{Decides-eqb}
 
 -- whether only the element at place e passes the test, where the places are counted from k on

@@ -1,30 +1,20 @@
 -- The histories with reads of weak cells are lawful too where a read is an entry of a reader of its own.
-use Rattle.std.proofs.Common.{◌≡◌, ℕ, List, [], ◌∷◌, ◌++◌, refl, arith, Some, None, true, false, inl, inr}
+use Rattle.std.proofs.Common.{◌≡◌, ℕ, List, [], ◌∷◌, refl, arith, Some, None, true, false, inl, inr}
 use Rattle.std.proofs.lemmas.List.Elements.{All-contains_itself}
-use Rattle.joint_model.specs.declared.names.Sort.TheVariants.{User, Framework}
-use Rattle.joint_model.specs.Joint.{opening}
-use Rattle.joint_model.specs.Linked.{opening_linkage, replayed, AllMayCome}
-use Rattle.joint_model.specs.Peers.{held, strong, weak}
-use Rattle.joint_model.specs.Run.{IsRunFrom}
-use Rattle.worked_histories.specs.Moments.{moments_of}
-use Rattle.worked_histories.proofs.Decided.{Rises-from_test}
-use Rattle.worked_histories.proofs.Entries.{absent, present, all_found, AllMayCome-append}
-use Rattle.worked_histories.proofs.JointRows.{unreached}
+use Rattle.joint_model.specs.declared.names.Sort.TheVariants.{User}
+use Rattle.joint_model.specs.Peers.{held, strong}
+use Rattle.worked_histories.proofs.Entries.{absent, present}
 use Rattle.worked_histories.proofs.ManagedRows.{snapshot, resolution, Decides-answered, dead_contraction}
 use Rattle.worked_histories.proofs.PeerRows.{sweep}
-use Rattle.worked_histories.proofs.RunSteps.{Decides-kept_row, none_reached, IsRunFrom-append}
 use Rattle.std.proofs.lemmas.Bool.Decides.{Decides-eqb}
 use Rattle.joint_model.specs.Heaps.{slot}
-use Rattle.joint_model.specs.Managed.{read_cell}
-use Rattle.worked_histories.specs.Notes.{object_no}
-use Rattle.std.proofs.Common.{◌+◌, ◌<◌, ◌≤◌, ◌⊎◌, Bool, Option, subst, sym, slice_get, nat_eq, ⊎_elim}
+use Rattle.std.proofs.Common.{◌+◌, ◌<◌, ◌≤◌, Bool, Option, subst, sym, nat_eq, ⊎_elim}
 use Rattle.joint_model.specs.declared.names.Thread.{Thread}
-use Rattle.joint_model.specs.declared.names.Thread.TheVariants.{M, P, C}
+use Rattle.joint_model.specs.declared.names.Thread.TheVariants.{M}
 use Rattle.joint_model.specs.declared.lines.Act.TheVariants as act
 use Rattle.joint_model.specs.declared.events.Op.{Op}
 use Rattle.joint_model.specs.declared.events.Op.TheVariants as op
-use Rattle.joint_model.specs.declared.events.Reply.TheVariants as says
-use Rattle.joint_model.specs.Readers.{MayBePending, MayBeUnset, SnapsCycleAt, EndsCycleAt, SetsCellAt, SetsCell, FreesObjectAt, IsManagedAt, HasKnownFrom, AllMayComeReading, replayed_reading}
+use Rattle.joint_model.specs.Readers.{MayBePending, MayBeUnset, SnapsCycleAt, EndsCycleAt, SetsCellAt, SetsCell}
 use Rattle.joint_model.specs.Told.{Noted}
 use Rattle.worked_histories.specs.PendingRead.{pending_read}
 use Rattle.worked_histories.specs.Pins.{pinned_object}

@@ -1,18 +1,18 @@
 -- While a cycle is open a peer surfaces and its twin has to wait, and other threads meet the marking of one: its entries may come when they come, and it is a run.
-use Rattle.std.proofs.Common.{◌≡◌, ℕ, List, [], ◌∷◌, ◌++◌, refl, arith, Some, None, true, false, inl, inr}
+use Rattle.std.proofs.Common.{[], ◌∷◌, refl, arith, false, inl, inr}
 use Rattle.std.proofs.lemmas.List.Elements.{All-contains_itself}
-use Rattle.joint_model.specs.declared.names.Sort.TheVariants.{User, Framework}
+use Rattle.joint_model.specs.declared.names.Sort.TheVariants.{User}
 use Rattle.joint_model.specs.Joint.{opening}
-use Rattle.joint_model.specs.Linked.{opening_linkage, replayed, AllMayCome}
-use Rattle.joint_model.specs.Peers.{held, strong, weak}
+use Rattle.joint_model.specs.Linked.{opening_linkage, AllMayCome}
+use Rattle.joint_model.specs.Peers.{held, strong}
 use Rattle.joint_model.specs.Run.{IsRunFrom}
 use Rattle.worked_histories.specs.Moments.{moments_of}
 use Rattle.worked_histories.proofs.Decided.{Rises-from_test}
-use Rattle.worked_histories.proofs.Entries.{absent, present, all_found, different, AllMayCome-append, AllFirstMayCome-append}
+use Rattle.worked_histories.proofs.Entries.{absent, all_found, different}
 use Rattle.worked_histories.proofs.JointRows.{unreached}
 use Rattle.worked_histories.proofs.ManagedRows.{snapshot, resolution, Decides-answered, dead_contraction}
 use Rattle.worked_histories.proofs.PeerRows.{sweep, closure}
-use Rattle.worked_histories.proofs.RunSteps.{Decides-kept_row, none_reached, IsRunFrom-append}
+use Rattle.worked_histories.proofs.RunSteps.{Decides-kept_row, none_reached}
 use Rattle.worked_histories.specs.TwoMarkings.{two_markings, TwoMarkingsHold}
 
 pub two_markings-lawful : AllMayCome opening_linkage two_markings

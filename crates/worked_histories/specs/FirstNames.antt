@@ -1,17 +1,14 @@
 -- A bridge object in the form of the first steps: a strong global name keeps it with its peer, and a weak one does not
-use Rattle.std.specs.Prelude.{ℕ, true, false, List, [], ◌∷◌, ◌++◌, Some, None}
+use Rattle.std.specs.Prelude.{true, false, List, [], ◌∷◌, ◌++◌, Some, None}
 use Rattle.joint_model.specs.declared.names.Thread.TheVariants.{M, P, C}
-use Rattle.joint_model.specs.declared.names.Sort.TheVariants.{User, Framework}
+use Rattle.joint_model.specs.declared.names.Sort.TheVariants.{User}
 use Rattle.joint_model.specs.declared.names.Kind.TheVariants as kind
-use Rattle.joint_model.specs.declared.names.Phase.TheVariants as at
-use Rattle.joint_model.specs.declared.names.PhaseWord.TheVariants as word
 use Rattle.joint_model.specs.declared.lines.Act.TheVariants as act
 use Rattle.joint_model.specs.declared.events.Op.TheVariants as op
 use Rattle.joint_model.specs.declared.events.Reply.TheVariants as says
-use Rattle.joint_model.specs.Linked.{Linkage, opening_linkage, replayed, AllMayCome, joint_projection}
 use Rattle.joint_model.specs.First.{FirstLinkage, opening_first, first_replayed, AllFirstMayCome}
-use Rattle.joint_model.specs.Told.{Told, nothing, snap_of, contraction_of, references_of, begin_of, slice_of, sweep_of, resolution_of, phase_of, Noted}
-use Rattle.worked_histories.specs.Notes.{note, var, static_no, cell_no, name_no, object_no, peer_no, handle_no, cycle_no, marking_no, span}
+use Rattle.joint_model.specs.Told.{nothing, snap_of, begin_of, sweep_of, resolution_of, Noted}
+use Rattle.worked_histories.specs.Notes.{note, var, static_no, name_no, object_no, peer_no, handle_no, cycle_no, marking_no, span}
 
 -- the peer gets a weak and a strong global name, and everything else lets go
 abbrev pub names_given : List Noted

@@ -1,6 +1,5 @@
 -- The histories with reads of weak cells, where each read is an entry of a reader of its own.
-use Rattle.std.specs.Prelude.{◌≡◌, ℕ, List, Option, Some, None}
-use Rattle.joint_model.specs.declared.names.Thread.TheVariants.{M, P, C}
+use Rattle.std.specs.Prelude.{ℕ, List, Option}
 use Rattle.joint_model.specs.Linked.{opening_linkage}
 use Rattle.joint_model.specs.Readers.{AllMayComeReading, replayed_reading}
 use Rattle.joint_model.specs.Told.{Noted}

@@ -1,18 +1,16 @@
 -- While a cycle is open a peer surfaces and its twin has to wait, and other threads meet the marking of one
-use Rattle.std.specs.Prelude.{ℕ, true, false, List, [], ◌∷◌, ◌++◌, Some, None}
+use Rattle.std.specs.Prelude.{List, [], ◌∷◌, Some, None}
 use Rattle.joint_model.specs.declared.names.Thread.TheVariants.{M, P, C}
-use Rattle.joint_model.specs.declared.names.Sort.TheVariants.{User, Framework}
+use Rattle.joint_model.specs.declared.names.Sort.TheVariants.{User}
 use Rattle.joint_model.specs.declared.names.Kind.TheVariants as kind
-use Rattle.joint_model.specs.declared.names.Phase.TheVariants as at
-use Rattle.joint_model.specs.declared.names.PhaseWord.TheVariants as word
 use Rattle.joint_model.specs.declared.lines.Act.TheVariants as act
 use Rattle.joint_model.specs.declared.events.Op.TheVariants as op
 use Rattle.joint_model.specs.declared.events.Reply.TheVariants as says
-use Rattle.joint_model.specs.Linked.{Linkage, opening_linkage, replayed, AllMayCome, joint_projection}
+use Rattle.joint_model.specs.Linked.{opening_linkage, AllMayCome, joint_projection}
 use Rattle.joint_model.specs.Run.{IsRun}
-use Rattle.joint_model.specs.Told.{Told, nothing, snap_of, contraction_of, references_of, begin_of, slice_of, sweep_of, resolution_of, phase_of, Noted}
+use Rattle.joint_model.specs.Told.{nothing, snap_of, contraction_of, references_of, slice_of, sweep_of, resolution_of, Noted}
 use Rattle.worked_histories.specs.Moments.{moments_of}
-use Rattle.worked_histories.specs.Notes.{note, var, static_no, cell_no, name_no, object_no, peer_no, handle_no, cycle_no, marking_no, span}
+use Rattle.worked_histories.specs.Notes.{note, var, static_no, object_no, peer_no, handle_no, cycle_no, marking_no, span}
 
 -- the whole history
 abbrev pub two_markings : List Noted

@@ -1,10 +1,9 @@
 -- Finished histories that are linked by their notes: nothing is left half done, and the lists that spans name are what was
 -- freed and queued.
-use Rattle.std.specs.Prelude.{ℕ, List, [], ◌∷◌, map}
+use Rattle.std.specs.Prelude.{[], ◌∷◌, map}
 use Rattle.joint_model.specs.First.{IsFirstLinkedBy}
 use Rattle.joint_model.specs.Histories.{Finished}
 use Rattle.joint_model.specs.Linked.{IsLinkedBy}
-use Rattle.joint_model.specs.Told.{Noted}
 use Rattle.worked_histories.specs.CrossHeap.{cross_heap_cycle}
 use Rattle.worked_histories.specs.FirstSteps.{two_linked}
 use Rattle.worked_histories.specs.Notes.{object_no, peer_no}
