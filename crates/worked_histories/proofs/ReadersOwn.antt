@@ -18,7 +18,7 @@ use Rattle.joint_model.specs.Readers.{MayBePending, MayBeUnset, SnapsCycleAt, En
 use Rattle.joint_model.specs.Told.{Noted}
 use Rattle.worked_histories.specs.PendingRead.{pending_read}
 use Rattle.worked_histories.specs.Pins.{pinned_object}
-use Rattle.worked_histories.specs.Readings.{cells_of, PendingReadings, PinnedReadings}
+use Rattle.worked_histories.specs.Readings.{pending_after_end, pending_too_late, PendingEnds, OwnCellIsSet, cells_of, PendingReadings, PinnedReadings}
 use Rattle.worked_histories.proofs.Places.{only_at, place, place_from}
 
 -- whether the event ends a cycle, or sets a cell
@@ -44,7 +44,7 @@ sets_from (op.Line (act.Weak c v)) k s = (Decides-eqb c.0 k).1 s
 sets_from _ k s = absurd s
 
 -- a pending read of the one cycle, which ends after it
-pub pending_there : (ns : List Noted) (snap e i : ℕ) (t : Thread) (k : ℕ) → SnapsCycleAt ns snap k → snap < i → i ≤ e → only_at is_end e 0 ns ≡ true → MayBePending ns i t k
+pub pending_there : (ns : List Noted) (snap e i : ℕ) (t : Thread) (k : ℕ) → SnapsCycleAt ns snap k → snap < i → i ≤ e + 1 → only_at is_end e 0 ns ≡ true → MayBePending ns i t k
 pending_there ns snap e i t k s l u h = record {
   snap = snap;
   snaps = s;
@@ -182,3 +182,12 @@ pinned-readings = (
     ),
   ),
 )
+
+pub pending-ends : PendingEnds
+pending-ends = record {
+  late = pending_there pending_after_end 4 14 15 (M 1) 1 (record { entry = _; there = refl; event = refl }) (omega arith) (omega arith) refl;
+  too_late = λ h. h.unknown 14 15 (record { entry = _; there = refl; event = inl refl }) (omega arith) (record { entry = _; there = refl; managed = refl }) (15, omega arith, omega arith, record { entry = _; there = refl; caller = refl });
+}
+
+pub own-cell : OwnCellIsSet
+own-cell h = h.not_own 3 (record { entry = _; there = refl; event = refl; set = refl }) (omega arith) (record { entry = _; there = refl; caller = refl })

@@ -25,7 +25,9 @@ pub use histories::{
     mirror_leaves_nothing_out, object_in_a_pin, resolution_keeps_the_answered,
     two_linked_objects_by_phases,
 };
-pub use readings::{pending_reads_by_readers, pinned_reads_by_readers};
+pub use readings::{
+    own_cell_is_set, pending_reads_by_readers, pending_reads_end, pinned_reads_by_readers,
+};
 pub use runs::{
     cycle_across_both_heaps_run, disposed_and_surfaced_object_run, field_emptied_in_a_marking_run,
     object_in_a_pin_run, two_linked_objects_by_phases_run, two_linked_objects_run,
