@@ -18,7 +18,7 @@ use Rattle.joint_model.specs.Readers.{MayBePending, MayBeUnset, SnapsCycleAt, En
 use Rattle.joint_model.specs.Told.{Noted}
 use Rattle.worked_histories.specs.PendingRead.{pending_read}
 use Rattle.worked_histories.specs.Pins.{pinned_object}
-use Rattle.worked_histories.specs.Readings.{pending_after_end, pending_too_late, PendingEnds, OwnCellIsSet, cells_of, PendingReadings, PinnedReadings}
+use Rattle.worked_histories.specs.Readings.{pending_after_end, PendingEnds, OwnCellIsSet, cells_of, PendingReadings, PinnedReadings}
 use Rattle.worked_histories.proofs.Places.{only_at, place, place_from}
 
 -- whether the event ends a cycle, or sets a cell

@@ -1,4 +1,4 @@
--- A bridge object in the form of the first steps: a strong global name keeps it with its peer, and a weak one does not
+-- A bridge object in the form of the first steps: a strong global name keeps it with its peer, and a weak one does not.
 use Rattle.std.specs.Prelude.{true, false, List, [], ◌∷◌, ◌++◌, Some, None}
 use Rattle.joint_model.specs.declared.names.Thread.TheVariants.{M, P, C}
 use Rattle.joint_model.specs.declared.names.Sort.TheVariants.{User}

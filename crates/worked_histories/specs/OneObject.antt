@@ -1,4 +1,4 @@
--- One bridge object that is let go: a cycle frees it with its peer, and its notice is taken
+-- One bridge object that is let go: a cycle frees it with its peer, and its notice is taken.
 use Rattle.std.specs.Prelude.{false, List, [], ◌∷◌, Some, None}
 use Rattle.joint_model.specs.declared.names.Thread.TheVariants.{M, C}
 use Rattle.joint_model.specs.declared.names.Sort.TheVariants.{User}

@@ -1,4 +1,4 @@
--- While a cycle is open a peer surfaces and its twin has to wait, and other threads meet the marking of one
+-- While a cycle is open a peer surfaces and its twin has to wait, and other threads meet the marking of one.
 use Rattle.std.specs.Prelude.{List, [], ◌∷◌, Some, None}
 use Rattle.joint_model.specs.declared.names.Thread.TheVariants.{M, P, C}
 use Rattle.joint_model.specs.declared.names.Sort.TheVariants.{User}
