@@ -3,7 +3,8 @@ use Rattle.std.proofs.Common.{[], ◌∷◌, refl, arith, inl, inr}
 use Rattle.joint_model.specs.Joint.{opening}
 use Rattle.joint_model.specs.Linked.{opening_linkage}
 use Rattle.joint_model.specs.Run.{IsRunFrom}
-use Rattle.worked_histories.specs.Runs.{linked_moments, CrossHeapRun}
+use Rattle.worked_histories.specs.Runs.{CrossHeapRun}
+use Rattle.worked_histories.specs.Moments.{moments_of}
 use Rattle.worked_histories.specs.CrossHeap.{cross_heap_cycle}
 use Rattle.worked_histories.proofs.Decided.{Rises-from_test}
 use Rattle.worked_histories.proofs.Entries.{all_found}
@@ -11,7 +12,7 @@ use Rattle.worked_histories.proofs.JointRows.{unreached}
 use Rattle.worked_histories.proofs.ManagedRows.{snapshot, resolution}
 use Rattle.worked_histories.proofs.RunSteps.{Decides-kept_row, none_reached}
 
-pub cross_heap-runs : IsRunFrom opening (linked_moments (1 ∷ 2 ∷ []) opening_linkage cross_heap_cycle)
+pub cross_heap-runs : IsRunFrom opening (moments_of ((1 ∷ 2 ∷ []) ∷ []) [] opening_linkage cross_heap_cycle)
 cross_heap-runs = (
   refl,
   record { event = omega arith; step = record { computed = tt; replies = refl; state = refl } },

@@ -1,16 +1,17 @@
 -- The history of the field that is emptied in a marking is a run.
-use Rattle.std.proofs.Common.{[], refl, arith, inl, inr}
+use Rattle.std.proofs.Common.{[], ◌∷◌, refl, arith, inl, inr}
 use Rattle.joint_model.specs.Joint.{opening}
 use Rattle.joint_model.specs.Linked.{opening_linkage}
 use Rattle.joint_model.specs.Run.{IsRunFrom}
-use Rattle.worked_histories.specs.Runs.{linked_moments, DeletionRun}
+use Rattle.worked_histories.specs.Runs.{DeletionRun}
+use Rattle.worked_histories.specs.Moments.{moments_of}
 use Rattle.worked_histories.specs.Deletion.{deletion}
 use Rattle.worked_histories.proofs.Decided.{Rises-from_test}
 use Rattle.worked_histories.proofs.Entries.{all_found}
 use Rattle.worked_histories.proofs.JointRows.{unreached}
 use Rattle.worked_histories.proofs.RunSteps.{none_reached}
 
-pub deletion-runs : IsRunFrom opening (linked_moments [] opening_linkage deletion)
+pub deletion-runs : IsRunFrom opening (moments_of ([] ∷ []) [] opening_linkage deletion)
 deletion-runs = (
   refl,
   record { event = omega arith; step = record { computed = tt; replies = refl; state = refl } },

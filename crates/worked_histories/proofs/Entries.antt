@@ -6,6 +6,7 @@ use Rattle.std.proofs.lemmas.Bool.Decides.{Decides-eqb}
 use Rattle.joint_model.specs.First.{FirstLinkage, first_after, first_replayed, AllFirstMayCome}
 use Rattle.joint_model.specs.Linked.{Linkage, linkage_after, replayed, AllMayCome}
 use Rattle.joint_model.specs.Told.{Noted}
+use Rattle.joint_model.specs.declared.names.Thread.TheVariants.{P}
 use Rattle.worked_histories.proofs.Decided.{mem, mem_from_Contains, Contains-from_mem, All-from_test}
 
 pub absent : (xs : List ℕ) (x : ℕ) → mem nat_eq xs x ≡ false → Contains xs x → ⊥
@@ -24,3 +25,7 @@ AllFirstMayCome-append s (x ∷ xs) ys p q = (p.0, AllFirstMayCome-append (first
 pub AllMayCome-append : (s : Linkage) (xs ys : List Noted) → AllMayCome s xs → AllMayCome (replayed s xs) ys → AllMayCome s (xs ++ ys)
 AllMayCome-append s [] ys p q = q
 AllMayCome-append s (x ∷ xs) ys p q = (p.0, AllMayCome-append (linkage_after s x) xs ys p.1 q)
+
+-- two peer threads are different
+pub different : (a b : ℕ) → nat_eq a b ≡ false → P a ≡ P b → ⊥
+different a b h e = let same : a ≡ b = cc in true≢false (sym ((Decides-eqb a b).1 same) ∙ h)

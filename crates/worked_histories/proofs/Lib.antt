@@ -33,3 +33,7 @@ pub mod AbandonedSteps
 pub mod OneObjectSteps
 pub mod Places
 pub mod FreeingOne
+pub mod ReadersOwn
+pub mod TwoMarkingsSteps
+pub mod FirstNamesSteps
+pub mod WholeHistories

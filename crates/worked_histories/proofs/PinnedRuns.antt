@@ -1,9 +1,10 @@
 -- The history of the pinned object is a run.
-use Rattle.std.proofs.Common.{[], refl, arith, inl, inr}
+use Rattle.std.proofs.Common.{[], ◌∷◌, refl, arith, inl, inr}
 use Rattle.joint_model.specs.Joint.{opening}
 use Rattle.joint_model.specs.Linked.{opening_linkage}
 use Rattle.joint_model.specs.Run.{IsRunFrom}
-use Rattle.worked_histories.specs.Runs.{linked_moments, PinnedRun}
+use Rattle.worked_histories.specs.Runs.{PinnedRun}
+use Rattle.worked_histories.specs.Moments.{moments_of}
 use Rattle.worked_histories.specs.Pins.{pinned_object}
 use Rattle.worked_histories.proofs.Decided.{Rises-from_test}
 use Rattle.worked_histories.proofs.Entries.{all_found}
@@ -11,7 +12,7 @@ use Rattle.worked_histories.proofs.JointRows.{unreached}
 use Rattle.worked_histories.proofs.ManagedRows.{snapshot, resolution}
 use Rattle.worked_histories.proofs.RunSteps.{Decides-kept_row, none_reached}
 
-pub pinned-runs : IsRunFrom opening (linked_moments [] opening_linkage pinned_object)
+pub pinned-runs : IsRunFrom opening (moments_of ([] ∷ []) [] opening_linkage pinned_object)
 pinned-runs = (
   refl,
   record { event = omega arith; step = record { computed = tt; replies = refl; state = refl } },

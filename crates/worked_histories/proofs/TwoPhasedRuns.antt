@@ -1,19 +1,19 @@
 -- The history of two linked objects with cycles of eight phases is a run.
-use Rattle.std.proofs.Common.{[], ◌∷◌, ◌++◌, refl, arith, inl, inr}
+use Rattle.std.proofs.Common.{[], ◌∷◌, refl, arith, inl, inr}
 use Rattle.joint_model.specs.Joint.{opening}
 use Rattle.joint_model.specs.Linked.{opening_linkage}
 use Rattle.joint_model.specs.Run.{IsRunFrom}
-use Rattle.worked_histories.specs.Runs.{linked_moments, linked_joint, TwoPhasedRun}
-use Rattle.worked_histories.specs.Phases.{reached_cycle, dead_snap, dead_peers, dead_end, after_reached}
-use Rattle.worked_histories.specs.FirstSteps.{two_made}
+use Rattle.worked_histories.specs.Runs.{TwoPhasedRun}
+use Rattle.worked_histories.specs.Moments.{moments_of}
+use Rattle.worked_histories.specs.Phases.{two_phased}
 use Rattle.worked_histories.proofs.Decided.{Rises-from_test}
 use Rattle.worked_histories.proofs.Entries.{all_found}
 use Rattle.worked_histories.proofs.JointRows.{unreached}
 use Rattle.worked_histories.proofs.ManagedRows.{snapshot, resolution}
-use Rattle.worked_histories.proofs.RunSteps.{Decides-kept_row, none_reached, IsRunFrom-append}
+use Rattle.worked_histories.proofs.RunSteps.{Decides-kept_row, none_reached}
 
-pub reached-runs : IsRunFrom opening (linked_moments [] opening_linkage (two_made ++ reached_cycle))
-reached-runs = (
+pub two_phased-runs : IsRunFrom opening (moments_of ([] ∷ (1 ∷ 2 ∷ []) ∷ []) [] opening_linkage two_phased)
+two_phased-runs = (
   refl,
   record { event = omega arith; step = record { computed = tt; replies = refl; state = refl } },
   (
@@ -43,7 +43,27 @@ reached-runs = (
                   (
                     refl,
                     record { event = tt; step = record { cycle = record { number = 1; candidates = []; dead = [] }; open_cycle = (refl, refl); resolution = resolution _ 1 [] _ [] [] (Decides-kept_row _ (record { number = 1; candidates = []; dead = [] })) refl refl refl; replies = refl; state = refl } },
-                    tt,
+                    (
+                      refl,
+                      record { event = omega arith; step = record { computed = tt; replies = refl; state = refl } },
+                      (
+                        refl,
+                        record { event = tt; step = record { snapshot = snapshot _ 2 2 [] (1 ∷ 2 ∷ []) (1 ∷ 2 ∷ []) (record { slots = refl; bridges = refl }) refl refl refl refl refl refl; replies = refl; state = refl } },
+                        (
+                          refl,
+                          record { event = inr tt; step = record { unreached = (1 ∷ 2 ∷ []); are = unreached _ 4 (1 ∷ 2 ∷ []) refl refl refl; replies = refl; state = refl } },
+                          (
+                            refl,
+                            record { event = inr tt; step = inl (record { allowed = inl refl; rise = Rises-from_test (1 ∷ 2 ∷ []) refl; stored = all_found (1 ∷ 2 ∷ []) (1 ∷ 2 ∷ []) refl; unreached = none_reached _ 4 (1 ∷ 2 ∷ []) refl refl; replies = refl; state = refl }) },
+                            (
+                              refl,
+                              record { event = tt; step = record { cycle = record { number = 2; candidates = (1 ∷ 2 ∷ []); dead = (1 ∷ 2 ∷ []) }; open_cycle = (refl, refl); resolution = resolution _ 1 (1 ∷ 2 ∷ []) _ [] (1 ∷ 2 ∷ []) (Decides-kept_row _ (record { number = 2; candidates = (1 ∷ 2 ∷ []); dead = (1 ∷ 2 ∷ []) })) refl refl refl; replies = refl; state = refl } },
+                              tt,
+                            ),
+                          ),
+                        ),
+                      ),
+                    ),
                   ),
                 ),
               ),
@@ -55,28 +75,5 @@ reached-runs = (
   ),
 )
 
-pub dead-runs : IsRunFrom (linked_joint after_reached (1 ∷ 2 ∷ [])) (linked_moments (1 ∷ 2 ∷ []) after_reached (dead_snap ++ (dead_peers ++ dead_end)))
-dead-runs = (
-  refl,
-  record { event = omega arith; step = record { computed = tt; replies = refl; state = refl } },
-  (
-    refl,
-    record { event = tt; step = record { snapshot = snapshot _ 2 2 [] (1 ∷ 2 ∷ []) (1 ∷ 2 ∷ []) (record { slots = refl; bridges = refl }) refl refl refl refl refl refl; replies = refl; state = refl } },
-    (
-      refl,
-      record { event = inr tt; step = record { unreached = (1 ∷ 2 ∷ []); are = unreached _ 4 (1 ∷ 2 ∷ []) refl refl refl; replies = refl; state = refl } },
-      (
-        refl,
-        record { event = inr tt; step = inl (record { allowed = inl refl; rise = Rises-from_test (1 ∷ 2 ∷ []) refl; stored = all_found (1 ∷ 2 ∷ []) (1 ∷ 2 ∷ []) refl; unreached = none_reached _ 4 (1 ∷ 2 ∷ []) refl refl; replies = refl; state = refl }) },
-        (
-          refl,
-          record { event = tt; step = record { cycle = record { number = 2; candidates = (1 ∷ 2 ∷ []); dead = (1 ∷ 2 ∷ []) }; open_cycle = (refl, refl); resolution = resolution _ 1 (1 ∷ 2 ∷ []) _ [] (1 ∷ 2 ∷ []) (Decides-kept_row _ (record { number = 2; candidates = (1 ∷ 2 ∷ []); dead = (1 ∷ 2 ∷ []) })) refl refl refl; replies = refl; state = refl } },
-          tt,
-        ),
-      ),
-    ),
-  ),
-)
-
 pub two_phased-run : TwoPhasedRun
-two_phased-run = record { same = refl; steps = IsRunFrom-append opening (linked_moments [] opening_linkage (two_made ++ reached_cycle)) (linked_moments (1 ∷ 2 ∷ []) after_reached (dead_snap ++ (dead_peers ++ dead_end))) reached-runs dead-runs }
+two_phased-run = record { same = refl; steps = two_phased-runs }

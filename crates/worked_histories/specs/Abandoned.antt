@@ -1,4 +1,4 @@
--- Two cycles are abandoned, one before and one after its contraction: nothing is freed
+-- Two cycles are abandoned, one before and one after its contraction: nothing is freed.
 use Rattle.std.specs.Prelude.{List, [], ◌∷◌, Some, None}
 use Rattle.joint_model.specs.declared.names.Thread.TheVariants.{M, C}
 use Rattle.joint_model.specs.declared.names.Sort.TheVariants.{User}

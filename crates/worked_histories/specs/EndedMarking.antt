@@ -1,4 +1,4 @@
--- The driver ends the open marking of a peer thread before it begins its own
+-- The driver ends the open marking of a peer thread before it begins its own.
 use Rattle.std.specs.Prelude.{false, List, [], ◌∷◌, Some, None}
 use Rattle.joint_model.specs.declared.names.Thread.TheVariants.{M, P, C}
 use Rattle.joint_model.specs.declared.names.Sort.TheVariants.{User}

@@ -1,4 +1,4 @@
--- A strong global name holds a peer, and a weak one does not
+-- A strong global name holds a peer, and a weak one does not.
 use Rattle.std.specs.Prelude.{List, [], ◌∷◌, None}
 use Rattle.joint_model.specs.declared.names.Thread.TheVariants.{P}
 use Rattle.joint_model.specs.declared.lines.Act.TheVariants as act

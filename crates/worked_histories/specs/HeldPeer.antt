@@ -1,4 +1,4 @@
--- A cycle across both heaps with one peer in a static: nothing is freed
+-- A cycle across both heaps with one peer in a static: nothing is freed.
 use Rattle.std.specs.Prelude.{true, List, [], ◌∷◌, Some, None}
 use Rattle.joint_model.specs.declared.names.Thread.TheVariants.{M, P, C}
 use Rattle.joint_model.specs.declared.names.Sort.TheVariants.{User}

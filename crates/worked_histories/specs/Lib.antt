@@ -21,3 +21,7 @@ pub mod HeldPeer
 pub mod Abandoned
 pub mod OneObject
 pub mod Freeing
+pub mod Readings
+pub mod TwoMarkings
+pub mod FirstNames
+pub mod Wholes

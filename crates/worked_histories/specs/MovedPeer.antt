@@ -1,4 +1,4 @@
--- A candidate whose peer moves from a field to a static between the phases is kept
+-- A candidate whose peer moves from a field to a static between the phases is kept.
 use Rattle.std.specs.Prelude.{true, List, [], ◌∷◌, Some, None}
 use Rattle.joint_model.specs.declared.names.Thread.TheVariants.{M, P, C}
 use Rattle.joint_model.specs.declared.names.Sort.TheVariants.{User}

@@ -1,4 +1,4 @@
--- A peer thread collects while the handles are weakened: it frees the peers before the own marking of the cycle begins
+-- A peer thread collects while the handles are weakened: it frees the peers before the own marking of the cycle begins.
 use Rattle.std.specs.Prelude.{false, List, [], ◌∷◌, Some, None}
 use Rattle.joint_model.specs.declared.names.Thread.TheVariants.{M, P, C}
 use Rattle.joint_model.specs.declared.names.Sort.TheVariants.{User}

@@ -1,4 +1,4 @@
--- While a cycle is open a read of a weak cell is pending, and afterwards the object is gone
+-- While a cycle is open a read of a weak cell is pending, and afterwards the object is gone.
 use Rattle.std.specs.Prelude.{false, List, [], ◌∷◌, Some, None}
 use Rattle.joint_model.specs.declared.names.Thread.TheVariants.{M, C}
 use Rattle.joint_model.specs.declared.names.Sort.TheVariants.{User}

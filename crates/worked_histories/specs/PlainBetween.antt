@@ -1,4 +1,4 @@
--- Two bridge objects with two plain ones between them, of which the first one has a peer in a static
+-- Two bridge objects with two plain ones between them, of which the first one has a peer in a static.
 use Rattle.std.specs.Prelude.{true, List, [], ◌∷◌, Some, None}
 use Rattle.joint_model.specs.declared.names.Thread.TheVariants.{M, C}
 use Rattle.joint_model.specs.declared.names.Sort.TheVariants.{User, Framework}

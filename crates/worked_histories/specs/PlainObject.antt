@@ -1,4 +1,4 @@
--- A plain object that nothing names is freed by the snapshot itself
+-- A plain object that nothing names is freed by the snapshot itself.
 use Rattle.std.specs.Prelude.{List, [], ◌∷◌, Some, None}
 use Rattle.joint_model.specs.declared.names.Thread.TheVariants.{M, C}
 use Rattle.joint_model.specs.declared.names.Kind.TheVariants as kind

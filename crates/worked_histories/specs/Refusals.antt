@@ -1,4 +1,4 @@
--- Phases out of their order are refused, and change nothing
+-- Phases out of their order are refused, and change nothing.
 use Rattle.std.specs.Prelude.{List, [], ◌∷◌, Some, None}
 use Rattle.joint_model.specs.declared.names.Thread.TheVariants.{C}
 use Rattle.joint_model.specs.declared.names.Phase.TheVariants as at

@@ -1,4 +1,4 @@
--- A weak name gives the peer of a candidate back after the snapshot: the cycle keeps both
+-- A weak name gives the peer of a candidate back after the snapshot: the cycle keeps both.
 use Rattle.std.specs.Prelude.{true, List, [], ◌∷◌, Some, None}
 use Rattle.joint_model.specs.declared.names.Thread.TheVariants.{M, P, C}
 use Rattle.joint_model.specs.declared.names.Sort.TheVariants.{User}

@@ -1,7 +1,8 @@
-// Further histories: each is lawful entry by entry, and a run of the joint machine.
+// Further histories: each is lawful entry by entry, and but for those of the first steps a run of the joint machine.
 
 ghost use Rattle.worked_histories.specs.Abandoned.{AbandonedHolds};
 ghost use Rattle.worked_histories.specs.EndedMarking.{EndedMarkingHolds};
+ghost use Rattle.worked_histories.specs.FirstNames.{FirstNamesHold};
 ghost use Rattle.worked_histories.specs.Freeing.{FreesOneObject};
 ghost use Rattle.worked_histories.specs.GlobalNames.{GlobalNamesHold};
 ghost use Rattle.worked_histories.specs.HeldPeer.{HeldPeerHolds};
@@ -13,6 +14,7 @@ ghost use Rattle.worked_histories.specs.PlainBetween.{PlainBetweenHolds};
 ghost use Rattle.worked_histories.specs.PlainObject.{PlainObjectHolds};
 ghost use Rattle.worked_histories.specs.Refusals.{RefusalsHold};
 ghost use Rattle.worked_histories.specs.Resurrected.{ResurrectedHolds};
+ghost use Rattle.worked_histories.specs.TwoMarkings.{TwoMarkingsHold};
 
 /// Phases out of their order.
 pub fn refusals_is_lawful()
@@ -77,4 +79,14 @@ pub fn one_object_is_lawful()
 /// The run of the one object frees nothing too early, and everything that stays unreached.
 pub fn one_object_is_freed_in_time()
     ensures { FreesOneObject }
+{}
+
+/// What threads are answered while a marking or a cycle of another is open.
+pub fn two_markings_is_lawful()
+    ensures { TwoMarkingsHold }
+{}
+
+/// Global names in the form of the first steps.
+pub fn first_names_is_lawful()
+    ensures { FirstNamesHold }
 {}

@@ -6,6 +6,7 @@ ghost use Rattle.worked_histories.specs.Deletion.{deletion, KeepsDeleted};
 ghost use Rattle.worked_histories.specs.Phases.{two_phased, MirrorsBoth, ResolvesBoth};
 ghost use Rattle.worked_histories.specs.Pins.{pinned_object, ReadsPinned};
 ghost use Rattle.worked_histories.specs.Surfaced.{disposed_and_surfaced};
+ghost use Rattle.worked_histories.specs.Wholes.{HistoriesAreWhole};
 
 /// Two linked bridge objects: every entry may come when it comes.
 pub fn two_linked_objects_by_phases()
@@ -50,4 +51,9 @@ pub fn field_emptied_in_a_marking()
 /// The sweep of that marking can't free the peer that was in the field when it began.
 pub fn deleted_reference_holds()
     ensures { KeepsDeleted }
+{}
+
+/// Two of the histories as finished ones: nothing is left half done, and their lists are what was freed and queued.
+pub fn finished_histories_are_linked()
+    ensures { HistoriesAreWhole }
 {}
