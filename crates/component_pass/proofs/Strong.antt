@@ -270,7 +270,7 @@ module _ (edges : List (List ℕ)) (count : ℕ) (in_range : (x y : ℕ) → Lea
     | inr ne ↦
         let t = s.back i (omega (arith, a, ne)) b in
         let here = (o.placed i b).1 in
-        let far = Reaches-keeps E (λ v. f.at < get_or marks v 0) (leaves stack marks labels f o s all low) (get_or stack i 0) (get_or stack t.0 0) (omega (arith, here, a)) t.2 in
+        let far = Reaches-keeps E (λ v. f.at < get_or marks v 0) (λ u v e q. leaves stack marks labels f o s all low u v q e) (get_or stack i 0) (get_or stack t.0 0) t.2 (omega (arith, here, a)) in
         let there = (o.placed t.0 (omega (arith, t.1, b))).1 in
         Reaches-trans E (get_or stack i 0) (get_or stack t.0 0) f.node t.2
           (root_back stack marks labels f o s all low m t.0 (omega (arith, t.1, im)) (omega (arith, far, there)) (omega (arith, t.1, b))) ]
@@ -334,9 +334,9 @@ module _ (edges : List (List ℕ)) (count : ℕ) (in_range : (x y : ℕ) → Lea
         same = λ x y d e m. elim (cases x (above x d)).1 [
           inl t ↦ elim (cases y (above y e)).1 [
             inl r ↦ t.0 ∙ sym r.0
-          | inr r ↦ absurd (omega (arith, t.2, o.room, few, Reaches-keeps E (λ v. get_or marks v 0 ≡ done_mark) (λ u v q h. o.closed u v q h) y x r.1 m.back)) ]
+          | inr r ↦ absurd (omega (arith, t.2, o.room, few, Reaches-keeps E (λ v. get_or marks v 0 ≡ done_mark) (λ u v h q. o.closed u v q h) y x m.back r.1)) ]
         | inr t ↦ elim (cases y (above y e)).1 [
-            inl r ↦ absurd (omega (arith, r.2, o.room, few, Reaches-keeps E (λ v. get_or marks v 0 ≡ done_mark) (λ u v q h. o.closed u v q h) x y t.1 m.there))
+            inl r ↦ absurd (omega (arith, r.2, o.room, few, Reaches-keeps E (λ v. get_or marks v 0 ≡ done_mark) (λ u v h q. o.closed u v q h) x y m.there t.1))
           | inr r ↦ t.0 ∙ o.same x y t.1 r.1 m ∙ sym r.0 ] ] };
       segments = subst (λ (end : ℕ). AreSegments edges (take f.at stack) marks' fs end) (sym size)
         (chain-move stack (take f.at stack) marks marks' fs f.at same
