@@ -1,7 +1,8 @@
 -- The numbers and the names of the causes for which a script is refused.
-use Rattle.std.specs.Prelude.{ℕ, List, codes}
+use Rattle.std.specs.Prelude.{ℕ, List, ◌++◌, codes, decimal}
 use Rattle.bridge_script.specs.declared.faults.Cause.{Cause}
 use Rattle.bridge_script.specs.declared.faults.Cause.TheVariants as cause
+use Rattle.bridge_script.specs.declared.faults.ScriptFault.{ScriptFault}
 
 -- the number of a cause, as it is printed
 abbrev pub cause_number : Cause → ℕ
@@ -26,3 +27,7 @@ cause_name cause.Kind = codes "kind"
 cause_name cause.Cycles = codes "cycles"
 cause_name cause.Lines = codes "lines"
 cause_name cause.Bytes = codes "bytes"
+
+-- the line that names a fault: `line N: cause C NAME`, with its newline
+abbrev pub fault_text : ScriptFault → List ℕ
+fault_text f = codes "line " ++ decimal f.line ++ codes ": cause " ++ decimal (cause_number f.cause) ++ codes " " ++ cause_name f.cause ++ codes "\n"

@@ -28,6 +28,7 @@ mod lists;
 mod memory;
 mod outside;
 mod reading;
+mod refusals;
 mod reports;
 mod scripts;
 #[cfg(test)]
@@ -39,5 +40,6 @@ pub use laws::texts_tell_scripts;
 pub use memory::{ByteSink, ByteSource, CountSink, PlainSource};
 pub use outside::{Failed, FreeTurn, Sink, Source, Turnstile};
 pub use reading::read_script;
-pub use reports::write_report;
+pub use refusals::write_refusal;
+pub use reports::{write_report, write_text};
 pub use scripts::{Script, parse};

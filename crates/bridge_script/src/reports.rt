@@ -26,6 +26,14 @@ fn put<K: Sink>(out: &mut K, text: &[u8]) -> Result<(), Failed>
     Ok(())
 }
 
+/// Writes a whole text, in whatever portions the sink takes. [`Failed`] comes only where the sink's count of
+/// faults rose; then a beginning of the text was written.
+pub fn write_text<K: Sink>(out: &mut K, text: &[u8]) -> Result<(), Failed>
+    ensures { Writes (K.held out.old) (K.held out.new) (K.faults out.old) (K.faults out.new) result text.now }
+{
+    put(out, text)
+}
+
 /// Writes the numbers that a span names, each with a space and its letter before it.
 fn write_numbers<K: Sink>(
     h: &History,
