@@ -21,7 +21,8 @@ use Rattle.joint_model.specs.declared.lines.Act.{Act}
 use Rattle.joint_model.specs.declared.lines.Act.TheVariants as act
 use Rattle.joint_model.specs.Lines.{IsVar, IsVarOrNone, IsLine}
 use Rattle.bridge_script.specs.Words.{thread_text, var_text, optional_text, act_words, line_words, line_text, spaced}
-use Rattle.bridge_script.specs.Scripts.{IsBuiltManaged, IsBuiltDriver, IsBuilt, ReadsLine, ReadsWords}
+use Rattle.bridge_script.specs.Scripts.{IsBuiltManaged, IsBuiltDriver, IsBuilt}
+use Rattle.bridge_script.specs.Steps.{ReadsLine, ReadsWords}
 
 pub managed_case : (Q : Act → Type 0)
     → ((v : Var) (n f : ℕ) → IsVar v → n ≤ 16 → f ≤ 16 → Q (act.Bridge v kind.Bridge n sort.User f))

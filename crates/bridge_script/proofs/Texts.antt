@@ -15,7 +15,8 @@ use Rattle.joint_model.specs.declared.names.Thread.{Thread}
 use Rattle.joint_model.specs.declared.lines.Act.{Act}
 use Rattle.bridge_script.specs.declared.faults.ScriptFault.{ScriptFault}
 use Rattle.bridge_script.specs.Words.{line_text}
-use Rattle.bridge_script.specs.Scripts.{line_at, EndsLine, IsBuilt, IsScript, IsText, IsFault, IsNoText, script_text_of, cycles_of, is_cycle}
+use Rattle.bridge_script.specs.Scripts.{line_at, IsBuilt, IsScript, IsText, IsFault, IsNoText, script_text_of, cycles_of, is_cycle}
+use Rattle.bridge_script.specs.Steps.{EndsLine}
 use Rattle.bridge_script.proofs.Forms.{same_line, line_free, line_some}
 
 -- what stands before the first c, and what stands behind it

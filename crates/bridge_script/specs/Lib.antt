@@ -1,6 +1,7 @@
 pub mod Outside
 pub mod Words
 pub mod Scripts
+pub mod Steps
 pub mod Causes
 pub mod Reading
 pub mod Laws

@@ -1,7 +1,7 @@
 // What a line of a script asks for, by its words.
 
 ghost use Rattle.std.specs.Prelude.{◌≡◌, ◌∷◌, codes};
-ghost use Rattle.bridge_script.specs.Scripts.{ReadsLine, ReadsWords, ReadsDriver, ReadsAct};
+ghost use Rattle.bridge_script.specs.Steps.{ReadsLine, ReadsWords, ReadsDriver, ReadsAct};
 
 use crate::words::{Words, is_same};
 use joint_model::{Act, Kind, PhaseWord, Sort, Thread};

@@ -2,7 +2,8 @@
 
 ghost use Rattle.std.specs.Prelude.{◌≡◌, ◌+◌, ◌≤◌, ◌<◌, ◌==◌, [], cond, slice_get, length, IfOk, IfErr, OnErr, IfSome, MatchBool};
 ghost use Rattle.joint_model.specs.Lines.{IsLine};
-ghost use Rattle.bridge_script.specs.Scripts.{IsBuilt, IsScript, IsText, IsRefusal, Grows, NoneFits, EndsLine, is_cycle, line_at};
+ghost use Rattle.bridge_script.specs.Scripts.{IsBuilt, IsScript, IsText, IsRefusal, is_cycle, line_at};
+ghost use Rattle.bridge_script.specs.Steps.{Grows, NoneFits, EndsLine};
 
 use crate::faults::{Cause, ScriptError, ScriptFault};
 use crate::lines::read_line;
