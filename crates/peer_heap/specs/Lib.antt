@@ -1,0 +1,4 @@
+pub mod Sides
+pub mod Handles
+pub mod Answers
+pub mod Kept
