@@ -36,7 +36,7 @@ abandoned-lawful = (
   ),
 )
 
-pub abandoned-runs : IsRunFrom opening (moments_of [] [] opening_linkage abandoned)
+pub abandoned-runs : IsRunFrom opening (moments_of abandoned)
 abandoned-runs = (
   refl,
   record { event = omega arith; step = record { computed = tt; replies = refl; state = refl } },
@@ -68,4 +68,4 @@ abandoned-runs = (
 )
 
 pub abandoned-holds : AbandonedHolds
-abandoned-holds = record { lawful = abandoned-lawful; run = record { same = refl; steps = abandoned-runs } }
+abandoned-holds = record { lawful = abandoned-lawful; run = record { run = record { same = refl; steps = abandoned-runs }; begins = tt } }

@@ -1,22 +1,19 @@
 -- What the entries of a history share: nothing stands in a list that a test doesn't find, and a history goes on from where
 -- its beginning ends.
 use Rattle.std.proofs.Common.{◌≡◌, ℕ, ◌∙◌, true, false, List, [], ◌∷◌, ◌++◌, sym, nat_eq, true≢false}
-use Rattle.std.specs.List.{All, Contains, list_all}
+use Rattle.std.specs.List.{Contains}
 use Rattle.std.proofs.lemmas.Bool.Decides.{Decides-eqb}
 use Rattle.joint_model.specs.First.{FirstLinkage, first_after, first_replayed, AllFirstMayCome}
 use Rattle.joint_model.specs.Linked.{Linkage, linkage_after, replayed, AllMayCome}
 use Rattle.joint_model.specs.Told.{Noted}
 use Rattle.joint_model.specs.declared.names.Thread.TheVariants.{P}
-use Rattle.worked_histories.proofs.Decided.{mem, mem_from_Contains, Contains-from_mem, All-from_test}
+use Rattle.worked_histories.proofs.Decided.{mem, mem_from_Contains, Contains-from_mem}
 
 pub absent : (xs : List ℕ) (x : ℕ) → mem nat_eq xs x ≡ false → Contains xs x → ⊥
 absent xs x h c = true≢false (sym (mem_from_Contains nat_eq Decides-eqb xs x c) ∙ h)
 
 pub present : (xs : List ℕ) (x : ℕ) → mem nat_eq xs x ≡ true → Contains xs x
 present xs x h = Contains-from_mem nat_eq Decides-eqb xs x h
-
-pub all_found : (xs ys : List ℕ) → list_all (mem nat_eq xs) ys ≡ true → All (Contains xs) ys
-all_found xs ys t = All-from_test (Contains xs) (mem nat_eq xs) (λ y e. present xs y e) ys t
 
 pub AllFirstMayCome-append : (s : FirstLinkage) (xs ys : List Noted) → AllFirstMayCome s xs → AllFirstMayCome (first_replayed s xs) ys → AllFirstMayCome s (xs ++ ys)
 AllFirstMayCome-append s [] ys p q = q

@@ -11,7 +11,7 @@ use Rattle.joint_model.specs.declared.events.Reply.TheVariants as says
 use Rattle.joint_model.specs.declared.names.Thread.TheVariants.{C}
 use Rattle.joint_model.specs.Heaps.{IsMade}
 use Rattle.joint_model.specs.Headline.{IsSoundRun, IsCompleteRun, IsCompleteCycle, IsFreedWithPeer, IsUnreachedAt, IsUnreachedBefore, WasUnreached, ResolvesAt, SweepsAt, SnapsAt, IsPeerFreedAt}
-use Rattle.joint_model.specs.Joint.{Joint, opening, Row, object, peer, IsReached}
+use Rattle.joint_model.specs.Joint.{Joint, opening, graph_of, Row, object, peer, IsReached}
 use Rattle.joint_model.specs.Run.{Moment}
 use Rattle.joint_model.specs.Told.{snap_of, sweep_of, resolution_of, nothing}
 use Rattle.worked_histories.specs.Freeing.{one_run, FreesOneObject}
@@ -48,13 +48,13 @@ swept_marking (says.Swept j s) = j.0
 swept_marking _ = 0
 
 -- nothing reaches a row that isn't computed to be reached
-pub not_reached : (j : Joint) (x : Row) → is_closed row_eq (joint_next j) (joint_roots j) (joint_reach j 4) ≡ true → mem row_eq (joint_reach j 4) x ≡ false → IsReached j x → ⊥
-not_reached j x closed out r = true≢false (sym ((Decides-joint_reached j 4 closed x).1 r) ∙ out)
+pub not_reached : (j : Joint) (x : Row) → is_closed row_eq (joint_next (graph_of j)) (joint_roots (graph_of j)) (joint_reach (graph_of j) 4) ≡ true → mem row_eq (joint_reach (graph_of j) 4) x ≡ false → IsReached j x → ⊥
+not_reached j x closed out r = true≢false (sym ((Decides-joint_reached (graph_of j) 4 closed x).1 r) ∙ out)
 
-pub unreached_at : (i : ℕ) (m : Moment) (x : Row) → slice_get one_run i ≡ Some m → is_closed row_eq (joint_next m.after) (joint_roots m.after) (joint_reach m.after 4) ≡ true → mem row_eq (joint_reach m.after 4) x ≡ false → IsUnreachedAt one_run i x
+pub unreached_at : (i : ℕ) (m : Moment) (x : Row) → slice_get one_run i ≡ Some m → is_closed row_eq (joint_next (graph_of m.after)) (joint_roots (graph_of m.after)) (joint_reach (graph_of m.after) 4) ≡ true → mem row_eq (joint_reach (graph_of m.after) 4) x ≡ false → IsUnreachedAt one_run i x
 unreached_at i m x there closed out n e r = let same : m ≡ n = cc in not_reached m.after x closed out (subst (λ (k : Moment). IsReached k.after x) (sym same) r)
 
-pub unreached_before : (i : ℕ) (m : Moment) (x : Row) → slice_get one_run i ≡ Some m → is_closed row_eq (joint_next m.before) (joint_roots m.before) (joint_reach m.before 4) ≡ true → mem row_eq (joint_reach m.before 4) x ≡ false → IsUnreachedBefore one_run i x
+pub unreached_before : (i : ℕ) (m : Moment) (x : Row) → slice_get one_run i ≡ Some m → is_closed row_eq (joint_next (graph_of m.before)) (joint_roots (graph_of m.before)) (joint_reach (graph_of m.before) 4) ≡ true → mem row_eq (joint_reach (graph_of m.before) 4) x ≡ false → IsUnreachedBefore one_run i x
 unreached_before i m x there closed out n e r = let same : m ≡ n = cc in not_reached m.before x closed out (subst (λ (k : Moment). IsReached k.before x) (sym same) r)
 
 -- the object and its peer were unreached at the begin and just before the sweep

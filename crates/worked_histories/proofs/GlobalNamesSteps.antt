@@ -5,10 +5,9 @@ use Rattle.joint_model.specs.Linked.{opening_linkage, AllMayCome}
 use Rattle.joint_model.specs.Run.{IsRunFrom}
 use Rattle.worked_histories.specs.Moments.{moments_of}
 use Rattle.worked_histories.proofs.Decided.{Rises-from_test}
-use Rattle.worked_histories.proofs.Entries.{all_found}
 use Rattle.worked_histories.proofs.JointRows.{unreached}
 use Rattle.worked_histories.proofs.PeerRows.{sweep}
-use Rattle.worked_histories.proofs.RunSteps.{none_reached}
+use Rattle.worked_histories.proofs.RunSteps.{none_reached, all_stored}
 use Rattle.worked_histories.specs.GlobalNames.{global_names, GlobalNamesHold}
 
 pub global_names-lawful : AllMayCome opening_linkage global_names
@@ -50,7 +49,7 @@ global_names-lawful = (
   ),
 )
 
-pub global_names-runs : IsRunFrom opening (moments_of ([] ∷ (1 ∷ []) ∷ []) [] opening_linkage global_names)
+pub global_names-runs : IsRunFrom opening (moments_of global_names)
 global_names-runs = (
   refl,
   record { event = omega arith; step = record { computed = tt; replies = refl; state = refl } },
@@ -65,19 +64,19 @@ global_names-runs = (
         record { event = omega arith; step = record { computed = tt; replies = refl; state = refl } },
         (
           refl,
-          record { event = inl (omega arith); step = record { unreached = []; are = unreached _ 4 [] refl refl refl; replies = refl; state = refl } },
+          record { event = inl (omega arith); step = record { replies = refl; state = refl } },
           (
             refl,
-            record { event = inl (omega arith); step = inl (record { allowed = inr refl; rise = Rises-from_test [] refl; stored = all_found [] [] refl; unreached = none_reached _ 4 [] refl refl; replies = refl; state = refl }) },
+            record { event = inl (omega arith); step = inl (record { allowed = inr refl; rise = Rises-from_test [] refl; stored = all_stored _ 4 [] refl refl; unreached = none_reached _ 4 [] refl refl; replies = refl; state = refl }) },
             (
               refl,
               record { event = omega arith; step = record { computed = tt; replies = refl; state = refl } },
               (
                 refl,
-                record { event = inl (omega arith); step = record { unreached = (1 ∷ []); are = unreached _ 4 (1 ∷ []) refl refl refl; replies = refl; state = refl } },
+                record { event = inl (omega arith); step = record { replies = refl; state = refl } },
                 (
                   refl,
-                  record { event = inl (omega arith); step = inl (record { allowed = inr refl; rise = Rises-from_test (1 ∷ []) refl; stored = all_found (1 ∷ []) (1 ∷ []) refl; unreached = none_reached _ 4 (1 ∷ []) refl refl; replies = refl; state = refl }) },
+                  record { event = inl (omega arith); step = inl (record { allowed = inr refl; rise = Rises-from_test (1 ∷ []) refl; stored = all_stored _ 4 (1 ∷ []) refl refl; unreached = none_reached _ 4 (1 ∷ []) refl refl; replies = refl; state = refl }) },
                   (
                     refl,
                     record { event = omega arith; step = record { computed = tt; replies = refl; state = refl } },
@@ -102,4 +101,4 @@ global_names-runs = (
 )
 
 pub global_names-holds : GlobalNamesHold
-global_names-holds = record { lawful = global_names-lawful; run = record { same = refl; steps = global_names-runs } }
+global_names-holds = record { lawful = global_names-lawful; run = record { run = record { same = refl; steps = global_names-runs }; begins = (unreached _ 4 [] refl refl refl, (unreached _ 4 (1 ∷ []) refl refl refl, tt)) } }

@@ -4,11 +4,11 @@ use Rattle.std.specs.Bool.{Decides}
 use Rattle.std.specs.List.{filter, list_any, flat_map}
 use Rattle.std.proofs.lemmas.Bool.{false≢true, or_cases}
 use Rattle.std.proofs.lemmas.Bool.Decides.{Decides-eqb, Decides-and, Decides-not, Decides-like}
+use Rattle.joint_model.specs.First.{AreUnreached}
 use Rattle.joint_model.specs.Heaps.{Heap, IsLive, HasField, InSlot, numbered_at}
-use Rattle.joint_model.specs.Joint.{Joint, Row, object, peer, IsJoined, JointEdge, IsHandle, IsRawRoot, IsLooseRoot, IsJointRoot, IsReached}
+use Rattle.joint_model.specs.Joint.{Graph, Row, object, peer, IsJoined, JointEdge, IsHandle, IsRawRoot, IsLooseRoot, IsJointRoot, IsReachedIn}
 use Rattle.joint_model.specs.Managed.{Managed, Holds, IsManagedRoot}
 use Rattle.joint_model.specs.Peers.{Issued, Hold, Strength, held, raw, strong, weak, peer_of, is_held, is_strong}
-use Rattle.joint_model.specs.Run.{AreUnreached}
 use Rattle.worked_histories.proofs.Decided.{mem, or_left, reach, is_closed, Decides-Reached, exact_from, rises, Rises-from_test, count_from, into_count, filter_holds, filter_keeps, mem-flat_map, mem-into_flat_map, Contains-from_mem, list_any_found, list_any_from}
 use Rattle.worked_histories.proofs.HeapRows.{Decides-joined, is_live, Decides-live, all_rows, row_from_live, heap_next, Decides-field, slot_rows, Decides-slot, where_true, Decides-where_true}
 use Rattle.worked_histories.proofs.ManagedRows.{managed_roots, Decides-managed_root}
@@ -63,14 +63,14 @@ abbrev pub live_peer : Heap → Option ℕ → List ℕ
 live_peer h None = []
 live_peer h (Some p) = where_true (is_live h p) (p ∷ [])
 
-abbrev pub held_peer : Joint → Option (Option ℕ) → List ℕ
-held_peer j None = []
-held_peer j (Some None) = []
-held_peer j (Some (Some h)) = live_peer j.peers.heap (peer_of j.peers.issued h)
+abbrev pub held_peer : Graph → Option (Option ℕ) → List ℕ
+held_peer g None = []
+held_peer g (Some None) = []
+held_peer g (Some (Some h)) = live_peer g.peers.heap (peer_of g.peers.issued h)
 
 -- the peer of a managed row
-abbrev pub joined_peers : Joint → ℕ → List ℕ
-joined_peers j m = where_true (is_live j.managed.heap m) (held_peer j (numbered_at j.managed.held m))
+abbrev pub joined_peers : Graph → ℕ → List ℕ
+joined_peers g m = where_true (is_live g.managed.heap m) (held_peer g (numbered_at g.managed.held m))
 
 pub Decides-one : (x y : ℕ) → Decides (mem nat_eq (x ∷ []) y) (x ≡ y)
 Decides-one x y = (λ m. ⊎_elim (λ e. sym ((Decides-eqb y x).0 e)) (λ e. absurd (false≢true e)) (or_cases (nat_eq y x) false m), λ e. or_left (nat_eq y x) false ((Decides-eqb y x).1 (sym e)))
@@ -81,43 +81,43 @@ Decides-live_peer h (Some x) p = Decides-like {P = IsLive h x × (x ≡ p)} (mem
     (λ q. (ap (λ z. Some z) q.1, subst (IsLive h) q.1 q.0)) (λ q. let e : Some x ≡ Some p = q.0 in let same : x ≡ p = cc in (subst (IsLive h) (sym same) q.1, same))
     (Decides-where_true nat_eq (is_live h x) (x ∷ []) p (IsLive h x) (x ≡ p) (Decides-live h x) (Decides-one x p))
 
-pub Decides-held_peer : (j : Joint) (o : Option (Option ℕ)) (p : ℕ) → Decides (mem nat_eq (held_peer j o) p) ((h : ℕ) × (o ≡ Some (Some h)) × (peer_of j.peers.issued h ≡ Some p) × IsLive j.peers.heap p)
-Decides-held_peer j None p = (λ m. absurd (false≢true m), λ q. let e = q.1 in cc)
-Decides-held_peer j (Some None) p = (λ m. absurd (false≢true m), λ q. let e = q.1 in cc)
-Decides-held_peer j (Some (Some h)) p =
-    let d = Decides-live_peer j.peers.heap (peer_of j.peers.issued h) p in (
+pub Decides-held_peer : (g : Graph) (o : Option (Option ℕ)) (p : ℕ) → Decides (mem nat_eq (held_peer g o) p) ((h : ℕ) × (o ≡ Some (Some h)) × (peer_of g.peers.issued h ≡ Some p) × IsLive g.peers.heap p)
+Decides-held_peer g None p = (λ m. absurd (false≢true m), λ q. let e = q.1 in cc)
+Decides-held_peer g (Some None) p = (λ m. absurd (false≢true m), λ q. let e = q.1 in cc)
+Decides-held_peer g (Some (Some h)) p =
+    let d = Decides-live_peer g.peers.heap (peer_of g.peers.issued h) p in (
       λ m. let r = d.0 m in (h, refl, r.0, r.1),
-      λ q. let e : Some (Some h) ≡ Some (Some q.0) = q.1 in let same : q.0 ≡ h = cc in d.1 (subst (λ g. peer_of j.peers.issued g ≡ Some p) same q.2, q.3),
+      λ q. let e : Some (Some h) ≡ Some (Some q.0) = q.1 in let same : q.0 ≡ h = cc in d.1 (subst (λ k. peer_of g.peers.issued k ≡ Some p) same q.2, q.3),
     )
 
-pub Decides-joined_peer : (j : Joint) (m p : ℕ) → Decides (mem nat_eq (joined_peers j m) p) (IsJoined j m p)
-Decides-joined_peer j m p = Decides-like {P = IsLive j.managed.heap m × ((h : ℕ) × (numbered_at j.managed.held m ≡ Some (Some h)) × (peer_of j.peers.issued h ≡ Some p) × IsLive j.peers.heap p)} (mem nat_eq (joined_peers j m) p)
+pub Decides-joined_peer : (g : Graph) (m p : ℕ) → Decides (mem nat_eq (joined_peers g m) p) (IsJoined g m p)
+Decides-joined_peer g m p = Decides-like {P = IsLive g.managed.heap m × ((h : ℕ) × (numbered_at g.managed.held m ≡ Some (Some h)) × (peer_of g.peers.issued h ≡ Some p) × IsLive g.peers.heap p)} (mem nat_eq (joined_peers g m) p)
     (λ q. record { handle = q.1.0; holds = record { live = q.0; held = q.1.1 }; leads = q.1.2; live = q.1.3 })
     (λ r. (r.holds.live, (r.handle, r.holds.held, r.leads, r.live)))
-    (Decides-where_true nat_eq (is_live j.managed.heap m) (held_peer j (numbered_at j.managed.held m)) p (IsLive j.managed.heap m)
-    ((h : ℕ) × (numbered_at j.managed.held m ≡ Some (Some h)) × (peer_of j.peers.issued h ≡ Some p) × IsLive j.peers.heap p)
-    (Decides-live j.managed.heap m) (Decides-held_peer j (numbered_at j.managed.held m) p))
+    (Decides-where_true nat_eq (is_live g.managed.heap m) (held_peer g (numbered_at g.managed.held m)) p (IsLive g.managed.heap m)
+    ((h : ℕ) × (numbered_at g.managed.held m ≡ Some (Some h)) × (peer_of g.peers.issued h ≡ Some p) × IsLive g.peers.heap p)
+    (Decides-live g.managed.heap m) (Decides-held_peer g (numbered_at g.managed.held m) p))
 
 -- the managed rows of a peer
-abbrev pub joined_objects : Joint → ℕ → List ℕ
-joined_objects j p = filter (λ m. mem nat_eq (joined_peers j m) p) (all_rows j.managed.heap)
+abbrev pub joined_objects : Graph → ℕ → List ℕ
+joined_objects g p = filter (λ m. mem nat_eq (joined_peers g m) p) (all_rows g.managed.heap)
 
-pub Decides-joined_object : (j : Joint) (m p : ℕ) → Decides (mem nat_eq (joined_objects j p) m) (IsJoined j m p)
-Decides-joined_object j m p = (
-  λ h. (Decides-joined_peer j m p).0 (filter_holds nat_eq Decides-eqb (λ m. mem nat_eq (joined_peers j m) p) (all_rows j.managed.heap) m h).1,
-  λ r. filter_keeps nat_eq Decides-eqb (λ m. mem nat_eq (joined_peers j m) p) (all_rows j.managed.heap) m (row_from_live j.managed.heap m r.holds.live) ((Decides-joined_peer j m p).1 r),
+pub Decides-joined_object : (g : Graph) (m p : ℕ) → Decides (mem nat_eq (joined_objects g p) m) (IsJoined g m p)
+Decides-joined_object g m p = (
+  λ h. (Decides-joined_peer g m p).0 (filter_holds nat_eq Decides-eqb (λ m. mem nat_eq (joined_peers g m) p) (all_rows g.managed.heap) m h).1,
+  λ r. filter_keeps nat_eq Decides-eqb (λ m. mem nat_eq (joined_peers g m) p) (all_rows g.managed.heap) m (row_from_live g.managed.heap m r.holds.live) ((Decides-joined_peer g m p).1 r),
 )
 
 -- where the joint edges of a row lead
-abbrev pub joint_next : Joint → Row → List Row
-joint_next j (object x) = rows_of (heap_next j.managed.heap x) (joined_peers j x)
-joint_next j (peer p) = rows_of (joined_objects j p) (heap_next j.peers.heap p)
+abbrev pub joint_next : Graph → Row → List Row
+joint_next g (object x) = rows_of (heap_next g.managed.heap x) (joined_peers g x)
+joint_next g (peer p) = rows_of (joined_objects g p) (heap_next g.peers.heap p)
 
-pub Decides-joint_edge : (j : Joint) (x y : Row) → Decides (mem row_eq (joint_next j x) y) (JointEdge j x y)
-Decides-joint_edge j (object x) (object y) = Decides-objects (heap_next j.managed.heap x) (joined_peers j x) y (HasField j.managed.heap x y) (Decides-field j.managed.heap x y)
-Decides-joint_edge j (object x) (peer p) = Decides-peers (heap_next j.managed.heap x) (joined_peers j x) p (IsJoined j x p) (Decides-joined_peer j x p)
-Decides-joint_edge j (peer p) (object x) = Decides-objects (joined_objects j p) (heap_next j.peers.heap p) x (IsJoined j x p) (Decides-joined_object j x p)
-Decides-joint_edge j (peer p) (peer q) = Decides-peers (joined_objects j p) (heap_next j.peers.heap p) q (HasField j.peers.heap p q) (Decides-field j.peers.heap p q)
+pub Decides-joint_edge : (g : Graph) (x y : Row) → Decides (mem row_eq (joint_next g x) y) (JointEdge g x y)
+Decides-joint_edge g (object x) (object y) = Decides-objects (heap_next g.managed.heap x) (joined_peers g x) y (HasField g.managed.heap x y) (Decides-field g.managed.heap x y)
+Decides-joint_edge g (object x) (peer p) = Decides-peers (heap_next g.managed.heap x) (joined_peers g x) p (IsJoined g x p) (Decides-joined_peer g x p)
+Decides-joint_edge g (peer p) (object x) = Decides-objects (joined_objects g p) (heap_next g.peers.heap p) x (IsJoined g x p) (Decides-joined_object g x p)
+Decides-joint_edge g (peer p) (peer q) = Decides-peers (joined_objects g p) (heap_next g.peers.heap p) q (HasField g.peers.heap p q) (Decides-field g.peers.heap p q)
 
 -- the raw strong handles, and the held ones without an owner, by their peers
 abbrev pub is_kept : Option Bool → Bool
@@ -184,11 +184,11 @@ Decides-issued_peer (Some i) test P d p =
     )
 
 -- the peers of handles that pass a test, which isn't asked of removed ones
-abbrev pub handle_peers : Joint → (ℕ → Issued → Bool) → ℕ → List ℕ
-handle_peers j test h = where_true (is_kept (numbered_at j.removed h)) (issued_peer (numbered_at j.peers.issued h) (test h))
+abbrev pub handle_peers : Graph → (ℕ → Issued → Bool) → ℕ → List ℕ
+handle_peers g test h = where_true (is_kept (numbered_at g.removed h)) (issued_peer (numbered_at g.peers.issued h) (test h))
 
-abbrev pub rooted_peers : Joint → (ℕ → Issued → Bool) → List ℕ
-rooted_peers j test = flat_map (handle_peers j test) (count_from 1 (length j.peers.issued))
+abbrev pub rooted_peers : Graph → (ℕ → Issued → Bool) → List ℕ
+rooted_peers g test = flat_map (handle_peers g test) (count_from 1 (length g.peers.issued))
 
 -- a number in a list counts from 1
 pub numbered_within : {A : Type 0} (xs : List A) (h : ℕ) (x : A) → numbered_at xs h ≡ Some x → (1 ≤ h) × (h ≤ length xs)
@@ -200,69 +200,69 @@ numbered_within xs (suc h) x e = let l = slice_within xs h x e in (omega arith, 
     slice_within (y ∷ ys) zero x e = omega arith
     slice_within (y ∷ ys) (suc i) x e = suc-le-suc (slice_within ys i x e)
 
-pub Decides-rooted : (j : Joint) (test : ℕ → Issued → Bool) (P : ℕ → Issued → Type 0) → ((h : ℕ) (i : Issued) → Decides (test h i) (P h i)) → (p : ℕ)
-    → Decides (mem nat_eq (rooted_peers j test) p) ((h : ℕ) × (i : Issued) × IsHandle j h i × P h i × (i.peer ≡ p))
-Decides-rooted j test P d p = (
-  λ m. let f = mem-flat_map nat_eq Decides-eqb (handle_peers j test) (count_from 1 (length j.peers.issued)) p m in
+pub Decides-rooted : (g : Graph) (test : ℕ → Issued → Bool) (P : ℕ → Issued → Type 0) → ((h : ℕ) (i : Issued) → Decides (test h i) (P h i)) → (p : ℕ)
+    → Decides (mem nat_eq (rooted_peers g test) p) ((h : ℕ) × (i : Issued) × IsHandle g h i × P h i × (i.peer ≡ p))
+Decides-rooted g test P d p = (
+  λ m. let f = mem-flat_map nat_eq Decides-eqb (handle_peers g test) (count_from 1 (length g.peers.issued)) p m in
       let r = (one f.0).0 f.2 in (f.0, r.1.0, record { issued = r.1.1; kept = r.0 }, r.1.2, r.1.3),
-  λ q. let l = numbered_within j.peers.issued q.0 q.1 q.2.issued in
-      let c = Contains-from_mem nat_eq Decides-eqb (count_from 1 (length j.peers.issued)) q.0 (into_count 1 (length j.peers.issued) q.0 l.0 (within q.0 l.1)) in
-      mem-into_flat_map nat_eq Decides-eqb (handle_peers j test) (count_from 1 (length j.peers.issued)) q.0 p c.0 c.1 c.2 ((one q.0).1 (q.2.kept, (q.1, q.2.issued, q.3, q.4))),
+  λ q. let l = numbered_within g.peers.issued q.0 q.1 q.2.issued in
+      let c = Contains-from_mem nat_eq Decides-eqb (count_from 1 (length g.peers.issued)) q.0 (into_count 1 (length g.peers.issued) q.0 l.0 (within q.0 l.1)) in
+      mem-into_flat_map nat_eq Decides-eqb (handle_peers g test) (count_from 1 (length g.peers.issued)) q.0 p c.0 c.1 c.2 ((one q.0).1 (q.2.kept, (q.1, q.2.issued, q.3, q.4))),
 )
   where
-    one : (h : ℕ) → Decides (mem nat_eq (handle_peers j test h) p) ((numbered_at j.removed h ≡ Some false) × ((i : Issued) × (numbered_at j.peers.issued h ≡ Some i) × P h i × (i.peer ≡ p)))
-    one h = Decides-where_true nat_eq (is_kept (numbered_at j.removed h)) (issued_peer (numbered_at j.peers.issued h) (test h)) p (numbered_at j.removed h ≡ Some false)
-        ((i : Issued) × (numbered_at j.peers.issued h ≡ Some i) × P h i × (i.peer ≡ p)) (Decides-kept (numbered_at j.removed h)) (Decides-issued_peer (numbered_at j.peers.issued h) (test h) (P h) (d h) p)
+    one : (h : ℕ) → Decides (mem nat_eq (handle_peers g test h) p) ((numbered_at g.removed h ≡ Some false) × ((i : Issued) × (numbered_at g.peers.issued h ≡ Some i) × P h i × (i.peer ≡ p)))
+    one h = Decides-where_true nat_eq (is_kept (numbered_at g.removed h)) (issued_peer (numbered_at g.peers.issued h) (test h)) p (numbered_at g.removed h ≡ Some false)
+        ((i : Issued) × (numbered_at g.peers.issued h ≡ Some i) × P h i × (i.peer ≡ p)) (Decides-kept (numbered_at g.removed h)) (Decides-issued_peer (numbered_at g.peers.issued h) (test h) (P h) (d h) p)
 
-    within : (h : ℕ) → h ≤ length j.peers.issued → h < 1 + length j.peers.issued
+    within : (h : ℕ) → h ≤ length g.peers.issued → h < 1 + length g.peers.issued
     within h l = omega arith
 
 -- whether a handle is a raw strong one, or a loose held one
 abbrev pub is_raw_root : ℕ → Issued → Bool
 is_raw_root h i = not (is_held i.hold) && is_strong i.strength
 
-abbrev pub is_loose_root : Joint → ℕ → Issued → Bool
-is_loose_root j h i = is_held i.hold && is_loose j.managed h
+abbrev pub is_loose_root : Graph → ℕ → Issued → Bool
+is_loose_root g h i = is_held i.hold && is_loose g.managed h
 
-abbrev pub peer_roots : Joint → List ℕ
-peer_roots j = slot_rows j.peers.heap ++ (rooted_peers j is_raw_root ++ rooted_peers j (is_loose_root j))
+abbrev pub peer_roots : Graph → List ℕ
+peer_roots g = slot_rows g.peers.heap ++ (rooted_peers g is_raw_root ++ rooted_peers g (is_loose_root g))
 
-pub Decides-peer_root : (j : Joint) (p : ℕ) → Decides (mem nat_eq (peer_roots j) p) (IsJointRoot j (peer p))
-Decides-peer_root j p = Decides-joined nat_eq Decides-eqb (slot_rows j.peers.heap) (rooted_peers j is_raw_root ++ rooted_peers j (is_loose_root j)) p (InSlot j.peers.heap p) (IsRawRoot j p ⊎ IsLooseRoot j p) (Decides-slot j.peers.heap p)
-    (Decides-joined nat_eq Decides-eqb (rooted_peers j is_raw_root) (rooted_peers j (is_loose_root j)) p (IsRawRoot j p) (IsLooseRoot j p)
-    (Decides-like {P = (h : ℕ) × (i : Issued) × IsHandle j h i × ((i.hold ≡ raw) × (i.strength ≡ strong)) × (i.peer ≡ p)} (mem nat_eq (rooted_peers j is_raw_root) p)
+pub Decides-peer_root : (g : Graph) (p : ℕ) → Decides (mem nat_eq (peer_roots g) p) (IsJointRoot g (peer p))
+Decides-peer_root g p = Decides-joined nat_eq Decides-eqb (slot_rows g.peers.heap) (rooted_peers g is_raw_root ++ rooted_peers g (is_loose_root g)) p (InSlot g.peers.heap p) (IsRawRoot g p ⊎ IsLooseRoot g p) (Decides-slot g.peers.heap p)
+    (Decides-joined nat_eq Decides-eqb (rooted_peers g is_raw_root) (rooted_peers g (is_loose_root g)) p (IsRawRoot g p) (IsLooseRoot g p)
+    (Decides-like {P = (h : ℕ) × (i : Issued) × IsHandle g h i × ((i.hold ≡ raw) × (i.strength ≡ strong)) × (i.peer ≡ p)} (mem nat_eq (rooted_peers g is_raw_root) p)
     (λ q. record { handle = q.0; row = q.1; is_handle = q.2; raw_hold = q.3.0; strong_made = q.3.1; leads = q.4 })
     (λ r. (r.handle, r.row, r.is_handle, (r.raw_hold, r.strong_made), r.leads))
-    (Decides-rooted j is_raw_root (λ h i. (i.hold ≡ raw) × (i.strength ≡ strong)) (λ h i. Decides-and (not (is_held i.hold)) (is_strong i.strength) (Decides-is_raw i.hold) (Decides-is_strong i.strength)) p))
-    (Decides-like {P = (h : ℕ) × (i : Issued) × IsHandle j h i × ((i.hold ≡ held) × ((m : ℕ) → Holds j.managed m h → ⊥)) × (i.peer ≡ p)} (mem nat_eq (rooted_peers j (is_loose_root j)) p)
+    (Decides-rooted g is_raw_root (λ h i. (i.hold ≡ raw) × (i.strength ≡ strong)) (λ h i. Decides-and (not (is_held i.hold)) (is_strong i.strength) (Decides-is_raw i.hold) (Decides-is_strong i.strength)) p))
+    (Decides-like {P = (h : ℕ) × (i : Issued) × IsHandle g h i × ((i.hold ≡ held) × ((m : ℕ) → Holds g.managed m h → ⊥)) × (i.peer ≡ p)} (mem nat_eq (rooted_peers g (is_loose_root g)) p)
     (λ q. record { handle = q.0; row = q.1; is_handle = q.2; held_hold = q.3.0; loose = q.3.1; leads = q.4 })
     (λ r. (r.handle, r.row, r.is_handle, (r.held_hold, r.loose), r.leads))
-    (Decides-rooted j (is_loose_root j) (λ h i. (i.hold ≡ held) × ((m : ℕ) → Holds j.managed m h → ⊥)) (λ h i. Decides-and (is_held i.hold) (is_loose j.managed h) (Decides-is_held i.hold) (Decides-loose j.managed h)) p)))
+    (Decides-rooted g (is_loose_root g) (λ h i. (i.hold ≡ held) × ((m : ℕ) → Holds g.managed m h → ⊥)) (λ h i. Decides-and (is_held i.hold) (is_loose g.managed h) (Decides-is_held i.hold) (Decides-loose g.managed h)) p)))
 
 -- the joint roots
-abbrev pub joint_roots : Joint → List Row
-joint_roots j = rows_of (managed_roots j.managed) (peer_roots j)
+abbrev pub joint_roots : Graph → List Row
+joint_roots g = rows_of (managed_roots g.managed) (peer_roots g)
 
-pub Decides-joint_root : (j : Joint) (x : Row) → Decides (mem row_eq (joint_roots j) x) (IsJointRoot j x)
-Decides-joint_root j (object x) = Decides-objects (managed_roots j.managed) (peer_roots j) x (IsManagedRoot j.managed x) (Decides-managed_root j.managed x)
-Decides-joint_root j (peer p) = Decides-peers (managed_roots j.managed) (peer_roots j) p (IsJointRoot j (peer p)) (Decides-peer_root j p)
+pub Decides-joint_root : (g : Graph) (x : Row) → Decides (mem row_eq (joint_roots g) x) (IsJointRoot g x)
+Decides-joint_root g (object x) = Decides-objects (managed_roots g.managed) (peer_roots g) x (IsManagedRoot g.managed x) (Decides-managed_root g.managed x)
+Decides-joint_root g (peer p) = Decides-peers (managed_roots g.managed) (peer_roots g) p (IsJointRoot g (peer p)) (Decides-peer_root g p)
 
 -- what the roots reach
-abbrev pub joint_reach : Joint → ℕ → List Row
-joint_reach j n = reach row_eq (joint_next j) n (joint_roots j)
+abbrev pub joint_reach : Graph → ℕ → List Row
+joint_reach g n = reach row_eq (joint_next g) n (joint_roots g)
 
-pub Decides-joint_reached : (j : Joint) (n : ℕ) → is_closed row_eq (joint_next j) (joint_roots j) (joint_reach j n) ≡ true → (x : Row) → Decides (mem row_eq (joint_reach j n) x) (IsReached j x)
-Decides-joint_reached j n closed x = Decides-Reached row_eq Decides-row_eq (IsJointRoot j) (JointEdge j) (joint_next j) n (joint_roots j) (Decides-joint_root j) (Decides-joint_edge j) closed x
+pub Decides-joint_reached : (g : Graph) (n : ℕ) → is_closed row_eq (joint_next g) (joint_roots g) (joint_reach g n) ≡ true → (x : Row) → Decides (mem row_eq (joint_reach g n) x) (IsReachedIn g x)
+Decides-joint_reached g n closed x = Decides-Reached row_eq Decides-row_eq (IsJointRoot g) (JointEdge g) (joint_next g) n (joint_roots g) (Decides-joint_root g) (Decides-joint_edge g) closed x
 
 -- the peers that nothing reaches
-abbrev pub unreached_peers : Joint → ℕ → List ℕ
-unreached_peers j n = filter (λ p. is_live j.peers.heap p && not (mem row_eq (joint_reach j n) (peer p))) (all_rows j.peers.heap)
+abbrev pub unreached_peers : Graph → ℕ → List ℕ
+unreached_peers g n = filter (λ p. is_live g.peers.heap p && not (mem row_eq (joint_reach g n) (peer p))) (all_rows g.peers.heap)
 
-pub unreached : (j : Joint) (n : ℕ) (peers : List ℕ) → is_closed row_eq (joint_next j) (joint_roots j) (joint_reach j n) ≡ true → rises peers ≡ true → unreached_peers j n ≡ peers → AreUnreached j peers
-unreached j n peers closed order same = record {
+pub unreached : (g : Graph) (n : ℕ) (peers : List ℕ) → is_closed row_eq (joint_next g) (joint_roots g) (joint_reach g n) ≡ true → rises peers ≡ true → unreached_peers g n ≡ peers → AreUnreached g peers
+unreached g n peers closed order same = record {
   rise = Rises-from_test peers order;
-  exact = exact_from nat_eq Decides-eqb peers (all_rows j.peers.heap) (λ p. is_live j.peers.heap p && not (mem row_eq (joint_reach j n) (peer p)))
-      (λ p. IsLive j.peers.heap p × (IsReached j (peer p) → ⊥))
-      (λ p i. Decides-and (is_live j.peers.heap p) (not (mem row_eq (joint_reach j n) (peer p))) (Decides-live j.peers.heap p) (Decides-not (mem row_eq (joint_reach j n) (peer p)) (Decides-joint_reached j n closed (peer p))))
-      (λ p q. row_from_live j.peers.heap p q.0) same;
+  exact = exact_from nat_eq Decides-eqb peers (all_rows g.peers.heap) (λ p. is_live g.peers.heap p && not (mem row_eq (joint_reach g n) (peer p)))
+      (λ p. IsLive g.peers.heap p × (IsReachedIn g (peer p) → ⊥))
+      (λ p i. Decides-and (is_live g.peers.heap p) (not (mem row_eq (joint_reach g n) (peer p))) (Decides-live g.peers.heap p) (Decides-not (mem row_eq (joint_reach g n) (peer p)) (Decides-joint_reached g n closed (peer p))))
+      (λ p q. row_from_live g.peers.heap p q.0) same;
 }

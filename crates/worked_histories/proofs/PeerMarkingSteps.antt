@@ -8,11 +8,11 @@ use Rattle.joint_model.specs.Peers.{held, strong}
 use Rattle.joint_model.specs.Run.{IsRunFrom}
 use Rattle.worked_histories.specs.Moments.{moments_of}
 use Rattle.worked_histories.proofs.Decided.{Rises-from_test}
-use Rattle.worked_histories.proofs.Entries.{absent, present, all_found}
+use Rattle.worked_histories.proofs.Entries.{absent, present}
 use Rattle.worked_histories.proofs.JointRows.{unreached}
 use Rattle.worked_histories.proofs.ManagedRows.{snapshot, resolution, Decides-answered, dead_contraction}
 use Rattle.worked_histories.proofs.PeerRows.{sweep}
-use Rattle.worked_histories.proofs.RunSteps.{Decides-kept_row, none_reached}
+use Rattle.worked_histories.proofs.RunSteps.{Decides-kept_row, none_reached, all_stored}
 use Rattle.worked_histories.specs.PeerMarking.{peer_marking, PeerMarkingHolds}
 
 pub peer_marking-lawful : AllMayCome opening_linkage peer_marking
@@ -51,9 +51,9 @@ peer_marking-lawful = (
                                 (
                                   record { number = refl; event = inr tt; line = omega arith; lawful = record { allowed = (inl refl, sweep _ _ 2 [] refl refl refl); replies = refl }; order = refl },
                                   (
-                                    record { number = refl; event = tt; line = omega arith; lawful = record { allowed = record { mirror = record { cycle = 1; snap = 8; weakened = (1 ∷ 2 ∷ []); restored = [] }; stands = refl; weakened = present (1 ∷ 2 ∷ []) 1 refl; waiting = absent [] 1 refl }; replies = refl }; order = (refl, (_, refl, refl)) },
+                                    record { number = refl; event = tt; line = omega arith; lawful = record { allowed = record { mirror = record { cycle = 1; snap = 8; weakened = (1 ∷ 2 ∷ []); restored = [] }; stands = refl; weakened = present (1 ∷ 2 ∷ []) 1 refl; waiting = absent [] 1 refl; row = _; tabled = refl }; replies = refl }; order = (refl, (_, refl, refl)) },
                                     (
-                                      record { number = refl; event = tt; line = omega arith; lawful = record { allowed = record { mirror = record { cycle = 1; snap = 8; weakened = (1 ∷ 2 ∷ []); restored = (1 ∷ []) }; stands = refl; weakened = present (1 ∷ 2 ∷ []) 2 refl; waiting = absent (1 ∷ []) 2 refl }; replies = refl }; order = (refl, (_, refl, refl)) },
+                                      record { number = refl; event = tt; line = omega arith; lawful = record { allowed = record { mirror = record { cycle = 1; snap = 8; weakened = (1 ∷ 2 ∷ []); restored = (1 ∷ []) }; stands = refl; weakened = present (1 ∷ 2 ∷ []) 2 refl; waiting = absent (1 ∷ []) 2 refl; row = _; tabled = refl }; replies = refl }; order = (refl, (_, refl, refl)) },
                                       (
                                         record { number = refl; event = tt; line = omega arith; lawful = record { allowed = record { mirror = record { cycle = 1; snap = 8; weakened = (1 ∷ 2 ∷ []); restored = (1 ∷ 2 ∷ []) }; stands = refl; same = refl; all = All-contains_itself (1 ∷ 2 ∷ []) }; replies = refl }; order = (refl, refl, refl) },
                                         (
@@ -81,7 +81,7 @@ peer_marking-lawful = (
   ),
 )
 
-pub peer_marking-runs : IsRunFrom opening (moments_of ((1 ∷ 2 ∷ []) ∷ [] ∷ []) [] opening_linkage peer_marking)
+pub peer_marking-runs : IsRunFrom opening (moments_of peer_marking)
 peer_marking-runs = (
   refl,
   record { event = omega arith; step = record { computed = tt; replies = refl; state = refl } },
@@ -111,16 +111,16 @@ peer_marking-runs = (
                   record { event = tt; step = record { snapshot = snapshot _ 2 1 [] (1 ∷ 2 ∷ []) (1 ∷ 2 ∷ []) (record { slots = refl; bridges = refl }) refl refl refl refl refl refl; replies = refl; state = refl } },
                   (
                     refl,
-                    record { event = inl (omega arith); step = record { unreached = (1 ∷ 2 ∷ []); are = unreached _ 4 (1 ∷ 2 ∷ []) refl refl refl; replies = refl; state = refl } },
+                    record { event = inl (omega arith); step = record { replies = refl; state = refl } },
                     (
                       refl,
-                      record { event = inl (omega arith); step = inl (record { allowed = inr refl; rise = Rises-from_test (1 ∷ 2 ∷ []) refl; stored = all_found (1 ∷ 2 ∷ []) (1 ∷ 2 ∷ []) refl; unreached = none_reached _ 4 (1 ∷ 2 ∷ []) refl refl; replies = refl; state = refl }) },
+                      record { event = inl (omega arith); step = inl (record { allowed = inr refl; rise = Rises-from_test (1 ∷ 2 ∷ []) refl; stored = all_stored _ 4 (1 ∷ 2 ∷ []) refl refl; unreached = none_reached _ 4 (1 ∷ 2 ∷ []) refl refl; replies = refl; state = refl }) },
                       (
                         refl,
-                        record { event = inr tt; step = record { unreached = []; are = unreached _ 4 [] refl refl refl; replies = refl; state = refl } },
+                        record { event = inr tt; step = record { replies = refl; state = refl } },
                         (
                           refl,
-                          record { event = inr tt; step = inl (record { allowed = inl refl; rise = Rises-from_test [] refl; stored = all_found [] [] refl; unreached = none_reached _ 4 [] refl refl; replies = refl; state = refl }) },
+                          record { event = inr tt; step = inl (record { allowed = inl refl; rise = Rises-from_test [] refl; stored = all_stored _ 4 [] refl refl; unreached = none_reached _ 4 [] refl refl; replies = refl; state = refl }) },
                           (
                             refl,
                             record { event = tt; step = record { cycle = record { number = 1; candidates = (1 ∷ 2 ∷ []); dead = (1 ∷ 2 ∷ []) }; open_cycle = (refl, refl); resolution = resolution _ 2 (1 ∷ 2 ∷ []) _ [] (1 ∷ 2 ∷ []) (Decides-kept_row _ (record { number = 1; candidates = (1 ∷ 2 ∷ []); dead = (1 ∷ 2 ∷ []) })) refl refl refl; replies = refl; state = refl } },
@@ -141,4 +141,4 @@ peer_marking-runs = (
 )
 
 pub peer_marking-holds : PeerMarkingHolds
-peer_marking-holds = record { lawful = peer_marking-lawful; run = record { same = refl; steps = peer_marking-runs } }
+peer_marking-holds = record { lawful = peer_marking-lawful; run = record { run = record { same = refl; steps = peer_marking-runs }; begins = (unreached _ 4 (1 ∷ 2 ∷ []) refl refl refl, (unreached _ 4 [] refl refl refl, tt)) } }

@@ -8,11 +8,11 @@ use Rattle.joint_model.specs.Peers.{held, strong}
 use Rattle.joint_model.specs.Run.{IsRunFrom}
 use Rattle.worked_histories.specs.Moments.{moments_of}
 use Rattle.worked_histories.proofs.Decided.{Rises-from_test}
-use Rattle.worked_histories.proofs.Entries.{absent, present, all_found}
+use Rattle.worked_histories.proofs.Entries.{absent, present}
 use Rattle.worked_histories.proofs.JointRows.{unreached}
 use Rattle.worked_histories.proofs.ManagedRows.{snapshot, resolution, Decides-answered, dead_contraction}
 use Rattle.worked_histories.proofs.PeerRows.{sweep}
-use Rattle.worked_histories.proofs.RunSteps.{Decides-kept_row, none_reached}
+use Rattle.worked_histories.proofs.RunSteps.{Decides-kept_row, none_reached, all_stored}
 use Rattle.worked_histories.specs.PendingRead.{pending_read, PendingReadHolds}
 
 pub pending_read-lawful : AllMayCome opening_linkage pending_read
@@ -39,7 +39,7 @@ pending_read-lawful = (
                     (
                       record { number = refl; event = inr tt; line = omega arith; lawful = record { allowed = (inl refl, sweep _ _ 2 (1 ∷ []) refl refl refl); replies = refl }; order = refl },
                       (
-                        record { number = refl; event = tt; line = omega arith; lawful = record { allowed = record { mirror = record { cycle = 1; snap = 4; weakened = (1 ∷ []); restored = [] }; stands = refl; weakened = present (1 ∷ []) 1 refl; waiting = absent [] 1 refl }; replies = refl }; order = (refl, (_, refl, refl)) },
+                        record { number = refl; event = tt; line = omega arith; lawful = record { allowed = record { mirror = record { cycle = 1; snap = 4; weakened = (1 ∷ []); restored = [] }; stands = refl; weakened = present (1 ∷ []) 1 refl; waiting = absent [] 1 refl; row = _; tabled = refl }; replies = refl }; order = (refl, (_, refl, refl)) },
                         (
                           record { number = refl; event = tt; line = omega arith; lawful = record { allowed = record { mirror = record { cycle = 1; snap = 4; weakened = (1 ∷ []); restored = (1 ∷ []) }; stands = refl; same = refl; all = All-contains_itself (1 ∷ []) }; replies = refl }; order = (refl, refl, refl) },
                           (
@@ -66,7 +66,7 @@ pending_read-lawful = (
   ),
 )
 
-pub pending_read-runs : IsRunFrom opening (moments_of ((1 ∷ []) ∷ []) [] opening_linkage pending_read)
+pub pending_read-runs : IsRunFrom opening (moments_of pending_read)
 pending_read-runs = (
   refl,
   record { event = omega arith; step = record { computed = tt; replies = refl; state = refl } },
@@ -87,10 +87,10 @@ pending_read-runs = (
             record { event = omega arith; step = record { computed = tt; replies = refl; state = refl } },
             (
               refl,
-              record { event = inr tt; step = record { unreached = (1 ∷ []); are = unreached _ 4 (1 ∷ []) refl refl refl; replies = refl; state = refl } },
+              record { event = inr tt; step = record { replies = refl; state = refl } },
               (
                 refl,
-                record { event = inr tt; step = inl (record { allowed = inl refl; rise = Rises-from_test (1 ∷ []) refl; stored = all_found (1 ∷ []) (1 ∷ []) refl; unreached = none_reached _ 4 (1 ∷ []) refl refl; replies = refl; state = refl }) },
+                record { event = inr tt; step = inl (record { allowed = inl refl; rise = Rises-from_test (1 ∷ []) refl; stored = all_stored _ 4 (1 ∷ []) refl refl; unreached = none_reached _ 4 (1 ∷ []) refl refl; replies = refl; state = refl }) },
                 (
                   refl,
                   record { event = omega arith; step = record { computed = tt; replies = refl; state = refl } },
@@ -114,4 +114,4 @@ pending_read-runs = (
 )
 
 pub pending_read-holds : PendingReadHolds
-pending_read-holds = record { lawful = pending_read-lawful; run = record { same = refl; steps = pending_read-runs } }
+pending_read-holds = record { lawful = pending_read-lawful; run = record { run = record { same = refl; steps = pending_read-runs }; begins = (unreached _ 4 (1 ∷ []) refl refl refl, tt) } }

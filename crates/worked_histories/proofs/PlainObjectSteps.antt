@@ -6,11 +6,11 @@ use Rattle.joint_model.specs.Linked.{opening_linkage, AllMayCome}
 use Rattle.joint_model.specs.Run.{IsRunFrom}
 use Rattle.worked_histories.specs.Moments.{moments_of}
 use Rattle.worked_histories.proofs.Decided.{Rises-from_test}
-use Rattle.worked_histories.proofs.Entries.{absent, all_found}
+use Rattle.worked_histories.proofs.Entries.{absent}
 use Rattle.worked_histories.proofs.JointRows.{unreached}
 use Rattle.worked_histories.proofs.ManagedRows.{snapshot, resolution, Decides-answered, dead_contraction}
 use Rattle.worked_histories.proofs.PeerRows.{sweep}
-use Rattle.worked_histories.proofs.RunSteps.{Decides-kept_row, none_reached}
+use Rattle.worked_histories.proofs.RunSteps.{Decides-kept_row, none_reached, all_stored}
 use Rattle.worked_histories.specs.PlainObject.{plain_object, PlainObjectHolds}
 
 pub plain_object-lawful : AllMayCome opening_linkage plain_object
@@ -43,7 +43,7 @@ plain_object-lawful = (
   ),
 )
 
-pub plain_object-runs : IsRunFrom opening (moments_of ([] ∷ []) [] opening_linkage plain_object)
+pub plain_object-runs : IsRunFrom opening (moments_of plain_object)
 plain_object-runs = (
   refl,
   record { event = omega arith; step = record { computed = tt; replies = refl; state = refl } },
@@ -55,10 +55,10 @@ plain_object-runs = (
       record { event = tt; step = record { snapshot = snapshot _ 2 1 (1 ∷ []) [] [] (record { slots = refl; bridges = refl }) refl refl refl refl refl refl; replies = refl; state = refl } },
       (
         refl,
-        record { event = inr tt; step = record { unreached = []; are = unreached _ 4 [] refl refl refl; replies = refl; state = refl } },
+        record { event = inr tt; step = record { replies = refl; state = refl } },
         (
           refl,
-          record { event = inr tt; step = inl (record { allowed = inl refl; rise = Rises-from_test [] refl; stored = all_found [] [] refl; unreached = none_reached _ 4 [] refl refl; replies = refl; state = refl }) },
+          record { event = inr tt; step = inl (record { allowed = inl refl; rise = Rises-from_test [] refl; stored = all_stored _ 4 [] refl refl; unreached = none_reached _ 4 [] refl refl; replies = refl; state = refl }) },
           (
             refl,
             record { event = tt; step = record { cycle = record { number = 1; candidates = []; dead = [] }; open_cycle = (refl, refl); resolution = resolution _ 2 [] _ [] [] (Decides-kept_row _ (record { number = 1; candidates = []; dead = [] })) refl refl refl; replies = refl; state = refl } },
@@ -71,4 +71,4 @@ plain_object-runs = (
 )
 
 pub plain_object-holds : PlainObjectHolds
-plain_object-holds = record { lawful = plain_object-lawful; run = record { same = refl; steps = plain_object-runs } }
+plain_object-holds = record { lawful = plain_object-lawful; run = record { run = record { same = refl; steps = plain_object-runs }; begins = (unreached _ 4 [] refl refl refl, tt) } }

@@ -1,16 +1,16 @@
 -- Phases out of their order are refused, and change nothing: its entries may come when they come, and it is a run.
-use Rattle.std.proofs.Common.{[], ◌∷◌, refl, arith, inl, inr}
+use Rattle.std.proofs.Common.{[], refl, arith, inl, inr}
 use Rattle.std.proofs.lemmas.List.Elements.{All-contains_itself}
 use Rattle.joint_model.specs.Joint.{opening}
 use Rattle.joint_model.specs.Linked.{opening_linkage, AllMayCome}
 use Rattle.joint_model.specs.Run.{IsRunFrom}
 use Rattle.worked_histories.specs.Moments.{moments_of}
 use Rattle.worked_histories.proofs.Decided.{Rises-from_test}
-use Rattle.worked_histories.proofs.Entries.{absent, all_found}
+use Rattle.worked_histories.proofs.Entries.{absent}
 use Rattle.worked_histories.proofs.JointRows.{unreached}
 use Rattle.worked_histories.proofs.ManagedRows.{snapshot, resolution, Decides-answered, dead_contraction}
 use Rattle.worked_histories.proofs.PeerRows.{sweep}
-use Rattle.worked_histories.proofs.RunSteps.{Decides-kept_row, none_reached}
+use Rattle.worked_histories.proofs.RunSteps.{Decides-kept_row, none_reached, all_stored}
 use Rattle.worked_histories.specs.Refusals.{refusals, RefusalsHold}
 
 pub refusals-lawful : AllMayCome opening_linkage refusals
@@ -46,16 +46,16 @@ refusals-lawful = (
   ),
 )
 
-pub refusals-runs : IsRunFrom opening (moments_of ([] ∷ []) [] opening_linkage refusals)
+pub refusals-runs : IsRunFrom opening (moments_of refusals)
 refusals-runs = (
   refl,
   record { event = tt; step = record { snapshot = snapshot _ 2 1 [] [] [] (record { slots = refl; bridges = refl }) refl refl refl refl refl refl; replies = refl; state = refl } },
   (
     refl,
-    record { event = inr tt; step = record { unreached = []; are = unreached _ 4 [] refl refl refl; replies = refl; state = refl } },
+    record { event = inr tt; step = record { replies = refl; state = refl } },
     (
       refl,
-      record { event = inr tt; step = inl (record { allowed = inl refl; rise = Rises-from_test [] refl; stored = all_found [] [] refl; unreached = none_reached _ 4 [] refl refl; replies = refl; state = refl }) },
+      record { event = inr tt; step = inl (record { allowed = inl refl; rise = Rises-from_test [] refl; stored = all_stored _ 4 [] refl refl; unreached = none_reached _ 4 [] refl refl; replies = refl; state = refl }) },
       (
         refl,
         record { event = tt; step = record { cycle = record { number = 1; candidates = []; dead = [] }; open_cycle = (refl, refl); resolution = resolution _ 2 [] _ [] [] (Decides-kept_row _ (record { number = 1; candidates = []; dead = [] })) refl refl refl; replies = refl; state = refl } },
@@ -66,4 +66,4 @@ refusals-runs = (
 )
 
 pub refusals-holds : RefusalsHold
-refusals-holds = record { lawful = refusals-lawful; run = record { same = refl; steps = refusals-runs } }
+refusals-holds = record { lawful = refusals-lawful; run = record { run = record { same = refl; steps = refusals-runs }; begins = (unreached _ 4 [] refl refl refl, tt) } }

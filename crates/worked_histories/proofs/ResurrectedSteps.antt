@@ -8,11 +8,11 @@ use Rattle.joint_model.specs.Peers.{held, strong}
 use Rattle.joint_model.specs.Run.{IsRunFrom}
 use Rattle.worked_histories.specs.Moments.{moments_of}
 use Rattle.worked_histories.proofs.Decided.{Rises-from_test}
-use Rattle.worked_histories.proofs.Entries.{absent, present, all_found}
+use Rattle.worked_histories.proofs.Entries.{absent, present}
 use Rattle.worked_histories.proofs.JointRows.{unreached}
 use Rattle.worked_histories.proofs.ManagedRows.{snapshot, resolution, Decides-answered, dead_contraction}
 use Rattle.worked_histories.proofs.PeerRows.{sweep}
-use Rattle.worked_histories.proofs.RunSteps.{Decides-kept_row, none_reached}
+use Rattle.worked_histories.proofs.RunSteps.{Decides-kept_row, none_reached, all_stored}
 use Rattle.worked_histories.specs.Resurrected.{resurrected, ResurrectedHolds}
 
 pub resurrected-lawful : AllMayCome opening_linkage resurrected
@@ -49,7 +49,7 @@ resurrected-lawful = (
                               (
                                 record { number = refl; event = inr tt; line = omega arith; lawful = record { allowed = (inl refl, sweep _ _ 2 [] refl refl refl); replies = refl }; order = refl },
                                 (
-                                  record { number = refl; event = tt; line = omega arith; lawful = record { allowed = record { mirror = record { cycle = 1; snap = 9; weakened = (1 ∷ []); restored = [] }; stands = refl; weakened = present (1 ∷ []) 1 refl; waiting = absent [] 1 refl }; replies = refl }; order = (refl, (_, refl, refl)) },
+                                  record { number = refl; event = tt; line = omega arith; lawful = record { allowed = record { mirror = record { cycle = 1; snap = 9; weakened = (1 ∷ []); restored = [] }; stands = refl; weakened = present (1 ∷ []) 1 refl; waiting = absent [] 1 refl; row = _; tabled = refl }; replies = refl }; order = (refl, (_, refl, refl)) },
                                   (
                                     record { number = refl; event = tt; line = omega arith; lawful = record { allowed = record { mirror = record { cycle = 1; snap = 9; weakened = (1 ∷ []); restored = (1 ∷ []) }; stands = refl; same = refl; all = All-contains_itself (1 ∷ []) }; replies = refl }; order = (refl, refl, refl) },
                                     (
@@ -75,7 +75,7 @@ resurrected-lawful = (
   ),
 )
 
-pub resurrected-runs : IsRunFrom opening (moments_of ([] ∷ []) [] opening_linkage resurrected)
+pub resurrected-runs : IsRunFrom opening (moments_of resurrected)
 resurrected-runs = (
   refl,
   record { event = omega arith; step = record { computed = tt; replies = refl; state = refl } },
@@ -111,10 +111,10 @@ resurrected-runs = (
                       record { event = omega arith; step = record { computed = tt; replies = refl; state = refl } },
                       (
                         refl,
-                        record { event = inr tt; step = record { unreached = []; are = unreached _ 4 [] refl refl refl; replies = refl; state = refl } },
+                        record { event = inr tt; step = record { replies = refl; state = refl } },
                         (
                           refl,
-                          record { event = inr tt; step = inl (record { allowed = inl refl; rise = Rises-from_test [] refl; stored = all_found [] [] refl; unreached = none_reached _ 4 [] refl refl; replies = refl; state = refl }) },
+                          record { event = inr tt; step = inl (record { allowed = inl refl; rise = Rises-from_test [] refl; stored = all_stored _ 4 [] refl refl; unreached = none_reached _ 4 [] refl refl; replies = refl; state = refl }) },
                           (
                             refl,
                             record { event = tt; step = record { cycle = record { number = 1; candidates = (1 ∷ []); dead = (1 ∷ []) }; open_cycle = (refl, refl); resolution = resolution _ 2 (1 ∷ []) _ (1 ∷ []) [] (Decides-kept_row _ (record { number = 1; candidates = (1 ∷ []); dead = (1 ∷ []) })) refl refl refl; replies = refl; state = refl } },
@@ -135,4 +135,4 @@ resurrected-runs = (
 )
 
 pub resurrected-holds : ResurrectedHolds
-resurrected-holds = record { lawful = resurrected-lawful; run = record { same = refl; steps = resurrected-runs } }
+resurrected-holds = record { lawful = resurrected-lawful; run = record { run = record { same = refl; steps = resurrected-runs }; begins = (unreached _ 4 [] refl refl refl, tt) } }

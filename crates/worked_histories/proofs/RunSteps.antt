@@ -5,10 +5,10 @@ use Rattle.std.specs.List.{All, Contains, list_all, filter}
 use Rattle.std.proofs.lemmas.Bool.{false≢true}
 use Rattle.std.proofs.lemmas.Bool.Decides.{Decides-eqb, Decides-and, Decides-not}
 use Rattle.joint_model.specs.Heaps.{IsLive, is_freed, numbered_at}
-use Rattle.joint_model.specs.Joint.{Joint, peer, IsReached}
+use Rattle.joint_model.specs.Joint.{Joint, Graph, JointMarking, peer, IsReachedIn}
 use Rattle.joint_model.specs.Managed.{OpenCycle}
 use Rattle.joint_model.specs.Peers.{peer_of}
-use Rattle.joint_model.specs.Run.{IsKept, Moment, IsRunFrom}
+use Rattle.joint_model.specs.Run.{IsKept, IsStored, Moment, IsRunFrom}
 use Rattle.worked_histories.proofs.Decided.{mem, is_closed, Decides-mem, All-from_test, filter_holds, filter_keeps, mem_from_Contains}
 use Rattle.worked_histories.proofs.HeapRows.{is_live, Decides-live}
 use Rattle.worked_histories.proofs.JointRows.{row_eq, joint_next, joint_roots, joint_reach, Decides-joint_reached}
@@ -52,9 +52,21 @@ Decides-kept_row j c m = (
     d : Decides (is_kept_row j m) (IsLive j.managed.heap m × ((h : ℕ) × (numbered_at j.managed.held m ≡ Some (Some h)) × ((p : ℕ) × (peer_of j.peers.issued h ≡ Some p) × (Contains j.peers.heap.freed p → ⊥))))
     d = Decides-and (is_live j.managed.heap m) (holds_unfreed j (numbered_at j.managed.held m)) (Decides-live j.managed.heap m) (Decides-holds_unfreed j (numbered_at j.managed.held m))
 
-pub none_reached : (j : Joint) (n : ℕ) (peers : List ℕ) → is_closed row_eq (joint_next j) (joint_roots j) (joint_reach j n) ≡ true → list_all (λ p. not (mem row_eq (joint_reach j n) (peer p))) peers ≡ true → All (λ p. IsReached j (peer p) → ⊥) peers
-none_reached j n peers closed t = All-from_test (λ p. IsReached j (peer p) → ⊥) (λ p. not (mem row_eq (joint_reach j n) (peer p)))
-    (λ p e. (Decides-not (mem row_eq (joint_reach j n) (peer p)) (Decides-joint_reached j n closed (peer p))).0 e) peers t
+-- nothing reaches the peers that a sweep frees, and each was unfreed and unreached at the begin
+pub none_reached : (g : Graph) (n : ℕ) (peers : List ℕ) → is_closed row_eq (joint_next g) (joint_roots g) (joint_reach g n) ≡ true → list_all (λ p. not (mem row_eq (joint_reach g n) (peer p))) peers ≡ true → All (λ p. IsReachedIn g (peer p) → ⊥) peers
+none_reached g n peers closed t = All-from_test (λ p. IsReachedIn g (peer p) → ⊥) (λ p. not (mem row_eq (joint_reach g n) (peer p)))
+    (λ p e. (Decides-not (mem row_eq (joint_reach g n) (peer p)) (Decides-joint_reached g n closed (peer p))).0 e) peers t
+
+-- whether a peer is unfreed and not among the rows reached
+abbrev pub is_left : Graph → ℕ → ℕ → Bool
+is_left g n p = is_live g.peers.heap p && not (mem row_eq (joint_reach g n) (peer p))
+
+pub all_stored : (m : JointMarking) (n : ℕ) (peers : List ℕ) → is_closed row_eq (joint_next m.begun) (joint_roots m.begun) (joint_reach m.begun n) ≡ true → list_all (is_left m.begun n) peers ≡ true → All (IsStored m) peers
+all_stored m n peers closed t = All-from_test (IsStored m) (is_left m.begun n) (λ p e. let d = (left p).0 e in record { existed = d.0; unreached = d.1 }) peers t
+  where
+    left : (p : ℕ) → Decides (is_left m.begun n p) (IsLive m.begun.peers.heap p × (IsReachedIn m.begun (peer p) → ⊥))
+    left p = Decides-and (is_live m.begun.peers.heap p) (not (mem row_eq (joint_reach m.begun n) (peer p))) (Decides-live m.begun.peers.heap p)
+        (Decides-not (mem row_eq (joint_reach m.begun n) (peer p)) (Decides-joint_reached m.begun n closed (peer p)))
 
 -- the state after the moments of a run
 abbrev pub end_of : Joint → List Moment → Joint

@@ -1,13 +1,12 @@
 -- The history of the disposed and surfaced object is a run.
-use Rattle.std.proofs.Common.{[], ◌∷◌, refl, arith}
+use Rattle.std.proofs.Common.{refl, arith}
 use Rattle.joint_model.specs.Joint.{opening}
-use Rattle.joint_model.specs.Linked.{opening_linkage}
 use Rattle.joint_model.specs.Run.{IsRunFrom}
 use Rattle.worked_histories.specs.Runs.{SurfacedRun}
 use Rattle.worked_histories.specs.Moments.{moments_of}
 use Rattle.worked_histories.specs.Surfaced.{disposed_and_surfaced}
 
-pub surfaced-runs : IsRunFrom opening (moments_of ([] ∷ []) [] opening_linkage disposed_and_surfaced)
+pub surfaced-runs : IsRunFrom opening (moments_of disposed_and_surfaced)
 surfaced-runs = (
   refl,
   record { event = omega arith; step = record { computed = tt; replies = refl; state = refl } },
@@ -67,4 +66,4 @@ surfaced-runs = (
 )
 
 pub surfaced-run : SurfacedRun
-surfaced-run = record { same = refl; steps = surfaced-runs }
+surfaced-run = record { run = record { same = refl; steps = surfaced-runs }; begins = tt }

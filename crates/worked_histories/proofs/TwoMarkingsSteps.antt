@@ -8,11 +8,11 @@ use Rattle.joint_model.specs.Peers.{held, strong}
 use Rattle.joint_model.specs.Run.{IsRunFrom}
 use Rattle.worked_histories.specs.Moments.{moments_of}
 use Rattle.worked_histories.proofs.Decided.{Rises-from_test}
-use Rattle.worked_histories.proofs.Entries.{absent, all_found, different}
+use Rattle.worked_histories.proofs.Entries.{absent, different}
 use Rattle.worked_histories.proofs.JointRows.{unreached}
 use Rattle.worked_histories.proofs.ManagedRows.{snapshot, resolution, Decides-answered, dead_contraction}
 use Rattle.worked_histories.proofs.PeerRows.{sweep, closure}
-use Rattle.worked_histories.proofs.RunSteps.{Decides-kept_row, none_reached}
+use Rattle.worked_histories.proofs.RunSteps.{Decides-kept_row, none_reached, all_stored}
 use Rattle.worked_histories.specs.TwoMarkings.{two_markings, TwoMarkingsHold}
 
 pub two_markings-lawful : AllMayCome opening_linkage two_markings
@@ -90,7 +90,7 @@ two_markings-lawful = (
   ),
 )
 
-pub two_markings-runs : IsRunFrom opening (moments_of ([] ∷ [] ∷ []) [] opening_linkage two_markings)
+pub two_markings-runs : IsRunFrom opening (moments_of two_markings)
 two_markings-runs = (
   refl,
   record { event = omega arith; step = record { computed = tt; replies = refl; state = refl } },
@@ -117,7 +117,7 @@ two_markings-runs = (
                 record { event = omega arith; step = record { computed = tt; replies = refl; state = refl } },
                 (
                   refl,
-                  record { event = inl (omega arith); step = record { unreached = []; are = unreached _ 4 [] refl refl refl; replies = refl; state = refl } },
+                  record { event = inl (omega arith); step = record { replies = refl; state = refl } },
                   (
                     refl,
                     record { event = inl (omega arith); step = (refl, refl) },
@@ -126,16 +126,16 @@ two_markings-runs = (
                       record { event = inl (omega arith); step = record { thread = omega arith; other = λ e. different 2 1 refl e; replies = refl; state = refl } },
                       (
                         refl,
-                        record { event = inr tt; step = inl (record { allowed = inl refl; rise = Rises-from_test [] refl; stored = all_found [] [] refl; unreached = none_reached _ 4 [] refl refl; replies = refl; state = refl }) },
+                        record { event = inr tt; step = inl (record { allowed = inl refl; rise = Rises-from_test [] refl; stored = all_stored _ 4 [] refl refl; unreached = none_reached _ 4 [] refl refl; replies = refl; state = refl }) },
                         (
                           refl,
-                          record { event = inr tt; step = record { unreached = []; are = unreached _ 4 [] refl refl refl; replies = refl; state = refl } },
+                          record { event = inr tt; step = record { replies = refl; state = refl } },
                           (
                             refl,
                             record { event = inl (omega arith); step = record { thread = omega arith; other = λ e. cc; replies = refl; state = refl } },
                             (
                               refl,
-                              record { event = inr tt; step = inl (record { allowed = inl refl; rise = Rises-from_test [] refl; stored = all_found [] [] refl; unreached = none_reached _ 4 [] refl refl; replies = refl; state = refl }) },
+                              record { event = inr tt; step = inl (record { allowed = inl refl; rise = Rises-from_test [] refl; stored = all_stored _ 4 [] refl refl; unreached = none_reached _ 4 [] refl refl; replies = refl; state = refl }) },
                               (
                                 refl,
                                 record { event = inl (omega arith); step = (omega arith, refl, refl) },
@@ -162,4 +162,4 @@ two_markings-runs = (
 )
 
 pub two_markings-holds : TwoMarkingsHold
-two_markings-holds = record { lawful = two_markings-lawful; run = record { same = refl; steps = two_markings-runs } }
+two_markings-holds = record { lawful = two_markings-lawful; run = record { run = record { same = refl; steps = two_markings-runs }; begins = (unreached _ 4 [] refl refl refl, (unreached _ 4 [] refl refl refl, tt)) } }

@@ -78,9 +78,9 @@ swept-lawful = (
         (
           record { number = refl; event = inr tt; line = omega arith; lawful = record { allowed = (inl refl, sweep _ _ 2 (1 ∷ 2 ∷ []) refl refl refl); replies = refl }; order = refl },
           (
-            record { number = refl; event = tt; line = omega arith; lawful = record { allowed = record { mirror = record { cycle = 2; snap = 14; weakened = (1 ∷ 2 ∷ []); restored = [] }; stands = refl; weakened = present (1 ∷ 2 ∷ []) 1 refl; waiting = absent [] 1 refl }; replies = refl }; order = (refl, (_, refl, refl)) },
+            record { number = refl; event = tt; line = omega arith; lawful = record { allowed = record { mirror = record { cycle = 2; snap = 14; weakened = (1 ∷ 2 ∷ []); restored = [] }; stands = refl; weakened = present (1 ∷ 2 ∷ []) 1 refl; waiting = absent [] 1 refl; row = _; tabled = refl }; replies = refl }; order = (refl, (_, refl, refl)) },
             (
-              record { number = refl; event = tt; line = omega arith; lawful = record { allowed = record { mirror = record { cycle = 2; snap = 14; weakened = (1 ∷ 2 ∷ []); restored = (1 ∷ []) }; stands = refl; weakened = present (1 ∷ 2 ∷ []) 2 refl; waiting = absent (1 ∷ []) 2 refl }; replies = refl }; order = (refl, (_, refl, refl)) },
+              record { number = refl; event = tt; line = omega arith; lawful = record { allowed = record { mirror = record { cycle = 2; snap = 14; weakened = (1 ∷ 2 ∷ []); restored = (1 ∷ []) }; stands = refl; weakened = present (1 ∷ 2 ∷ []) 2 refl; waiting = absent (1 ∷ []) 2 refl; row = _; tabled = refl }; replies = refl }; order = (refl, (_, refl, refl)) },
               (
                 record { number = refl; event = tt; line = omega arith; lawful = record { allowed = record { mirror = record { cycle = 2; snap = 14; weakened = (1 ∷ 2 ∷ []); restored = (1 ∷ 2 ∷ []) }; stands = refl; same = refl; all = All-contains_itself (1 ∷ 2 ∷ []) }; replies = refl }; order = (refl, refl, refl) },
                 tt,

@@ -28,5 +28,6 @@ all_done (d ∷ ds) h (suc t) = all_done ds (and_parts (is_done d) (list_all is_
 pub histories-whole : HistoriesAreWhole
 histories-whole = record {
   cross_heap = record { same = refl; lawful = cross_heap_cycle-lawful; whole = record { threads = λ t. all_done (replicate 9 free) refl t; driver = tt }; freed_managed = refl; freed_peers = refl; notices = refl };
+  queued = refl;
   first_steps = record { same = refl; lawful = two_linked-lawful; whole = record { threads = λ t. all_done (replicate 9 free) refl t; driver = refl }; freed_managed = refl; freed_peers = refl; notices = refl };
 }

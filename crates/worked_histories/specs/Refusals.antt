@@ -5,10 +5,9 @@ use Rattle.joint_model.specs.declared.names.Phase.TheVariants as at
 use Rattle.joint_model.specs.declared.names.PhaseWord.TheVariants as word
 use Rattle.joint_model.specs.declared.events.Op.TheVariants as op
 use Rattle.joint_model.specs.declared.events.Reply.TheVariants as says
-use Rattle.joint_model.specs.Linked.{opening_linkage, AllMayCome, joint_projection}
-use Rattle.joint_model.specs.Run.{IsRun}
+use Rattle.joint_model.specs.Linked.{opening_linkage, AllMayCome}
 use Rattle.joint_model.specs.Told.{nothing, snap_of, contraction_of, references_of, sweep_of, resolution_of, phase_of, Noted}
-use Rattle.worked_histories.specs.Moments.{moments_of}
+use Rattle.worked_histories.specs.Moments.{IsRunOf}
 use Rattle.worked_histories.specs.Notes.{note, cycle_no, marking_no, span}
 
 -- the whole history
@@ -29,4 +28,4 @@ refusals =
 -- every entry may come when it comes, and the entries that are steps of the joint machine are a run
 pub record RefusalsHold : Type 0 where
   pub lawful : AllMayCome opening_linkage refusals
-  pub run : IsRun (joint_projection refusals) (moments_of ([] ∷ []) [] opening_linkage refusals)
+  pub run : IsRunOf refusals ([] ∷ [])

@@ -6,10 +6,9 @@ use Rattle.joint_model.specs.declared.names.Kind.TheVariants as kind
 use Rattle.joint_model.specs.declared.lines.Act.TheVariants as act
 use Rattle.joint_model.specs.declared.events.Op.TheVariants as op
 use Rattle.joint_model.specs.declared.events.Reply.TheVariants as says
-use Rattle.joint_model.specs.Linked.{opening_linkage, AllMayCome, joint_projection}
-use Rattle.joint_model.specs.Run.{IsRun}
+use Rattle.joint_model.specs.Linked.{opening_linkage, AllMayCome}
 use Rattle.joint_model.specs.Told.{nothing, snap_of, contraction_of, references_of, sweep_of, resolution_of, Noted}
-use Rattle.worked_histories.specs.Moments.{moments_of}
+use Rattle.worked_histories.specs.Moments.{IsRunOf}
 use Rattle.worked_histories.specs.Notes.{note, var, static_no, name_no, object_no, peer_no, handle_no, cycle_no, marking_no, span}
 
 -- the whole history
@@ -39,4 +38,4 @@ resurrected =
 -- every entry may come when it comes, and the entries that are steps of the joint machine are a run
 pub record ResurrectedHolds : Type 0 where
   pub lawful : AllMayCome opening_linkage resurrected
-  pub run : IsRun (joint_projection resurrected) (moments_of ([] ∷ []) [] opening_linkage resurrected)
+  pub run : IsRunOf resurrected ([] ∷ [])

@@ -3,7 +3,7 @@
 use Rattle.std.specs.Prelude.{[], ◌∷◌, map}
 use Rattle.joint_model.specs.First.{IsFirstLinkedBy}
 use Rattle.joint_model.specs.Histories.{Finished}
-use Rattle.joint_model.specs.Linked.{IsLinkedBy}
+use Rattle.joint_model.specs.Linked.{IsLinkedBy, HasQueued}
 use Rattle.worked_histories.specs.CrossHeap.{cross_heap_cycle}
 use Rattle.worked_histories.specs.FirstSteps.{two_linked}
 use Rattle.worked_histories.specs.Notes.{object_no, peer_no}
@@ -26,7 +26,8 @@ two_linked_finished = record {
   notices = [];
 }
 
--- both are linked
+-- both are linked, and the first one's list has every notice that was queued
 pub record HistoriesAreWhole : Type 0 where
   pub cross_heap : IsLinkedBy cross_heap_finished cross_heap_cycle
+  pub queued : HasQueued cross_heap_finished cross_heap_cycle
   pub first_steps : IsFirstLinkedBy two_linked_finished two_linked
