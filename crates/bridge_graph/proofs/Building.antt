@@ -1,10 +1,10 @@
 -- A part that is being built is a part: its rows lead to nodes, and an opaque node's row is empty, because
 -- each link joins two nodes of which the first is not opaque. A further link, and a further node whose
 -- number is greater than the others, keep what the flat lists keep.
-use Rattle.std.proofs.Common.{◌≡◌, ◌≢◌, ℕ, ◌+◌, ◌<◌, ◌≤◌, Bool, true, false, List, [], ◌∷◌, ◌++◌, Option, length, map, filter, eqb, get_or, refl, sym, ◌∙◌, ap, subst, arith, inl, inr}
+use Rattle.std.proofs.Common.{◌≡◌, ◌≢◌, ℕ, suc, ◌+◌, ◌-◌, ◌<◌, ◌≤◌, Bool, true, false, List, [], ◌∷◌, ◌++◌, Option, length, map, filter, eqb, get_or, refl, sym, ◌∙◌, ap, subst, arith, inl, inr}
 use Rattle.std.proofs.lemmas.List.{get_or_past, map_push, length_push, get_or_append_left, length-map}
 use Rattle.std.proofs.lemmas.List.FromFn.{length-map-range_with_len}
-use Rattle.std.proofs.lemmas.List.Elements.{All-head, All-tail, All-push, All-weaker, All-filter, All-map, All-contains, All-nil}
+use Rattle.std.proofs.lemmas.List.Elements.{All-head, All-tail, All-push, All-weaker, All-filter, All-map, All-contains, All-nil, All-cons}
 use Rattle.std.proofs.lemmas.Bool.{cases_lt}
 use Rattle.std.specs.List.{All, Contains}
 use Rattle.joint_model.specs.Components.{Rises}
@@ -91,3 +91,14 @@ building-link nodes heads links follows targets space more l next b j f r = reco
 -- no link leads from a node that is not there yet
 pub none_new : (nodes : List Node) (links : List Link) → All (Joins nodes) links → All (λ l. l.from ≢ length nodes) links
 none_new nodes links h = All-weaker (Joins nodes) (λ l. l.from ≢ length nodes) (λ l j. λ e. absurd (omega (arith, j.from))) links h
+
+-- what is greater than the last of rising numbers is greater than each
+pub below-last : (xs : List ℕ) (y : ℕ) → Rises xs → (0 < length xs → get_or xs (length xs - 1) 0 < y) → All (λ x. x < y) xs
+below-last [] y r h = All-nil (λ x. x < y)
+below-last (x ∷ []) y r h = All-cons (λ z. z < y) x [] (h (omega arith)) (All-nil (λ z. z < y))
+below-last (x ∷ z ∷ xs) y r h =
+    let last : get_or (z ∷ xs) (length (z ∷ xs) - 1) 0 < y = subst (λ (k : ℕ). get_or (x ∷ z ∷ xs) k 0 < y) (last_at (length xs)) (h (omega arith)) in
+    All-cons (λ v. v < y) x (z ∷ xs) (omega (arith, last, r.0 (length (z ∷ xs) - 1) 0 (omega arith))) (below-last (z ∷ xs) y r.1 (λ _. last))
+  where
+    last_at : (n : ℕ) → suc (suc n) - 1 ≡ suc (suc n - 1)
+    last_at n = omega arith

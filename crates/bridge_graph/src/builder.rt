@@ -143,7 +143,8 @@ impl GraphBuilder {
         ensures few { OnTrue result (length self.now.nodes < 65535) }
         ensures rising { OnTrue result (All (λ n. n.number.0 < number.0) self.now.nodes) }
     {
-        self.nodes.len() < 65535 && self.nodes.iter().all(|n| n.number.0 < number.0)
+        let count = self.nodes.len();
+        count < 65535 && (count == 0 || self.nodes[count - 1].number.0 < number.0)
     }
 
     /// Whether an edge may be added between two indexes: both are nodes, and the first is not opaque.
