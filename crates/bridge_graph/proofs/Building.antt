@@ -28,19 +28,21 @@ rest_in_range nodes links x h =
 rows_in_range : (nodes : List Node) (links : List Link) (x y : ℕ) → All (Joins nodes) links → Leads (rows_of links (length nodes)) x y → y < length nodes
 rows_in_range nodes links x y h t =
     elim (cases_lt x (length nodes)) [
-      inl lt ↦ All-contains (λ z. z < length nodes) (rest_of links x 0) y (rest_in_range nodes links x h)
-        (subst (λ (r : List ℕ). Contains r y) (row-of_map (λ i. rest_of links i 0) (length nodes) x lt) t)
-    | inr ge ↦
-        let past : row_at (rows_of links (length nodes)) x ≡ [] =
+      | inl lt ↦ All-contains (λ z. z < length nodes) (rest_of links x 0) y (rest_in_range nodes links x h)
+          (subst (λ (r : List ℕ). Contains r y) (row-of_map (λ i. rest_of links i 0) (length nodes) x lt) t)
+      | inr ge ↦
+          let past : row_at (rows_of links (length nodes)) x ≡ [] =
           get_or_past (rows_of links (length nodes)) x [] (omega (arith, length-map-range_with_len (λ i. rest_of links i 0) 0 (length nodes))) in
-        let u = subst (λ (r : List ℕ). Contains r y) past t in absurd (omega (arith, u.1)) ]
+          let u = subst (λ (r : List ℕ). Contains r y) past t in absurd (omega (arith, u.1))
+    ]
 
 opaque_row : (nodes : List Node) (links : List Link) (x : ℕ) → All (Joins nodes) links → opaque_at nodes x ≡ true → row_at (rows_of links (length nodes)) x ≡ []
 opaque_row nodes links x h o =
     elim (cases_lt x (length nodes)) [
-      inl lt ↦ row-of_map (λ i. rest_of links i 0) (length nodes) x lt
-        ∙ none_from links x (All-weaker (Joins nodes) (λ l. l.from ≢ x) (λ l j e. let t = j.transparent in let s : opaque_at nodes l.from ≡ opaque_at nodes x = ap (opaque_at nodes) e in cc) links h)
-    | inr ge ↦ get_or_past (rows_of links (length nodes)) x [] (omega (arith, length-map-range_with_len (λ i. rest_of links i 0) 0 (length nodes))) ]
+      | inl lt ↦ row-of_map (λ i. rest_of links i 0) (length nodes) x lt
+          ∙ none_from links x (All-weaker (Joins nodes) (λ l. l.from ≢ x) (λ l j e. let t = j.transparent in let s : opaque_at nodes l.from ≡ opaque_at nodes x = ap (opaque_at nodes) e in cc) links h)
+      | inr ge ↦ get_or_past (rows_of links (length nodes)) x [] (omega (arith, length-map-range_with_len (λ i. rest_of links i 0) 0 (length nodes)))
+    ]
 
 pub part_of : (nodes : List Node) (heads : List ℕ) (links : List Link) (follows targets : List ℕ) (space : ℕ)
     → IsBuilding nodes heads links follows targets space → IsPart nodes (rows_of links (length nodes))
@@ -49,22 +51,24 @@ part_of nodes heads links follows targets space b = record {
   in_range = λ x y t. rows_in_range nodes links x y b.joins t;
   rising = b.rising;
   opaque_rows = λ x o. opaque_row nodes links x b.joins o;
-  few = b.few }
+  few = b.few;
+}
 
 joins_more : (nodes : List Node) (node : Node) (l : Link) → Joins nodes l → Joins (nodes ++ node ∷ []) l
 joins_more nodes node l j = record {
   from = omega (arith, j.from, length_push nodes node);
   to = omega (arith, j.to, length_push nodes node);
   transparent =
-    rw (map_push (λ (n : Node). n.opaque) nodes node)
-    (get_or_append_left (map (λ (n : Node). n.opaque) nodes) (node.opaque ∷ []) true l.from (omega (arith, j.from, length-map nodes (λ (n : Node). n.opaque))) ∙ j.transparent) }
+      rw (map_push (λ (n : Node). n.opaque) nodes node)
+      (get_or_append_left (map (λ (n : Node). n.opaque) nodes) (node.opaque ∷ []) true l.from (omega (arith, j.from, length-map nodes (λ (n : Node). n.opaque))) ∙ j.transparent);
+}
 
 pub building-node : (nodes : List Node) (heads : List ℕ) (links : List Link) (follows targets : List ℕ) (space : ℕ) (node : Node)
     → IsBuilding nodes heads links follows targets space → All (λ n. n.number.0 < node.number.0) nodes → length nodes < 65535
     → IsBuilding (nodes ++ node ∷ []) (heads ++ 4294967295 ∷ []) links follows targets space
 building-node nodes heads links follows targets space node b r f = record {
   rising = rw (map_push (λ (n : Node). n.number.0) nodes node)
-    (Rises-push (numbers_of nodes) node.number.0 b.rising (All-map (λ x. x < node.number.0) (λ (n : Node). n.number.0) nodes r));
+      (Rises-push (numbers_of nodes) node.number.0 b.rising (All-map (λ x. x < node.number.0) (λ (n : Node). n.number.0) nodes r));
   few = omega (arith, length_push nodes node);
   firsts = omega (arith, length_push nodes node, length_push heads 4294967295, b.firsts);
   none = All-push (λ h. h ≡ 4294967295) heads 4294967295 b.none refl;
@@ -72,7 +76,8 @@ building-node nodes heads links follows targets space node b r f = record {
   most = b.most;
   nexts = b.nexts;
   empty = b.empty;
-  room = b.room }
+  room = b.room;
+}
 
 pub building-link : (nodes : List Node) (heads : List ℕ) (links : List Link) (follows targets : List ℕ) (space more : ℕ) (l : Link) (next : ℕ)
     → IsBuilding nodes heads links follows targets space → Joins nodes l → length links < 4294967295 → length links < more
@@ -86,7 +91,8 @@ building-link nodes heads links follows targets space more l next b j f r = reco
   most = omega (arith, length_push links l);
   nexts = omega (arith, length_push links l, length_push follows next, b.nexts);
   empty = b.empty;
-  room = omega (arith, length_push links l) }
+  room = omega (arith, length_push links l);
+}
 
 -- no link leads from a node that is not there yet
 pub none_new : (nodes : List Node) (links : List Link) → All (Joins nodes) links → All (λ l. l.from ≢ length nodes) links

@@ -36,12 +36,13 @@ pub rows-link : (links : List Link) (l : Link) (n : ℕ) → l.from < n
 rows-link links l n h =
     let len = length-map-range_with_len (λ i. rest_of links i 0) 0 n in
     sym (fill_by_all (λ i. rest_of (links ++ l ∷ []) i 0)
-      (set (rows_of links n) l.from (row_at (rows_of links n) l.from ++ l.to ∷ [])) n []
-      (length-set (rows_of links n) l.from (row_at (rows_of links n) l.from ++ l.to ∷ []) ∙ len)
-      (λ k lt. elim (cases_eq k l.from) [
-        inl e ↦ rw e (get_or-set_same (rows_of links n) l.from (row_at (rows_of links n) l.from ++ l.to ∷ []) [] (omega (arith, len))
+    (set (rows_of links n) l.from (row_at (rows_of links n) l.from ++ l.to ∷ [])) n []
+    (length-set (rows_of links n) l.from (row_at (rows_of links n) l.from ++ l.to ∷ []) ∙ len)
+    (λ k lt. elim (cases_eq k l.from) [
+      | inl e ↦ rw e (get_or-set_same (rows_of links n) l.from (row_at (rows_of links n) l.from ++ l.to ∷ []) [] (omega (arith, len))
           ∙ ap (λ r. r ++ l.to ∷ []) (row-of_map (λ i. rest_of links i 0) n l.from h)
           ∙ sym (rest-push links l l.from ∙ ap (λ b. rest_of links l.from 0 ++ cond b (l.to ∷ []) []) (eq-eqb l.from l.from refl)))
       | inr ne ↦ get_or-set_other (rows_of links n) l.from k (row_at (rows_of links n) l.from ++ l.to ∷ []) [] ne
           ∙ row-of_map (λ i. rest_of links i 0) n k lt
-          ∙ sym (rest-push links l k ∙ ap (λ b. rest_of links k 0 ++ cond b (l.to ∷ []) []) (neq-eqb l.from k (λ e. ne (sym e))) ∙ append-nil (rest_of links k 0)) ]))
+          ∙ sym (rest-push links l k ∙ ap (λ b. rest_of links k 0 ++ cond b (l.to ∷ []) []) (neq-eqb l.from k (λ e. ne (sym e))) ∙ append-nil (rest_of links k 0))
+    ]))

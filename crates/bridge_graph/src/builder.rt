@@ -5,7 +5,7 @@ ghost use Rattle.std.specs.Bool.{OnTrue};
 ghost use Rattle.bridge_graph.specs.Parts.{Part, Building, IsPart, row_at, opaque_at};
 
 use crate::graph::{DeadGraph, Node};
-use crate::packing::{link_up, pack, Link, NO_LINK};
+use crate::packing::{Link, NO_LINK, link_up, pack};
 use joint_model::{HNum, MNum};
 use std::alloc::{AllocError, Global};
 use std::marker::Model;
@@ -33,10 +33,10 @@ impl Model for GraphBuilder {
     ghost use Rattle.bridge_graph.specs.Built.{IsBuilding};
 
     ghost view = { λ b. record {
-        nodes = b.nodes.items;
-        edges = rows_of b.links.items (length b.nodes.items);
-        spare_nodes = min (vec_capacity b.nodes) (vec_capacity b.firsts) - vec_len b.nodes;
-        spare_edges = min 4294967295 (min (vec_capacity b.links) (min (vec_capacity b.nexts) (vec_capacity b.targets))) - vec_len b.links
+      nodes = b.nodes.items;
+      edges = rows_of b.links.items (length b.nodes.items);
+      spare_nodes = min (vec_capacity b.nodes) (vec_capacity b.firsts) - vec_len b.nodes;
+      spare_edges = min 4294967295 (min (vec_capacity b.links) (min (vec_capacity b.nexts) (vec_capacity b.targets))) - vec_len b.links;
     } };
 
     ghost invariant = { λ b. IsBuilding b.nodes.items b.firsts.items b.links.items b.nexts.items b.targets.items (vec_capacity b.targets) };
@@ -80,7 +80,12 @@ impl GraphBuilder {
 
     /// Adds a node, whose number is greater than those before, and answers its index. Answers `AllocError`
     /// only where no room is left and there is no memory; nodes and edges are then as before.
-    pub fn node(&mut self, number: MNum, handle: Option<HNum>, opaque: bool) -> Result<u32, AllocError>
+    pub fn node(
+        &mut self,
+        number: MNum,
+        handle: Option<HNum>,
+        opaque: bool,
+    ) -> Result<u32, AllocError>
         requires rising { All (λ n. n.number.0 < number.0) self.old.nodes }
         requires few { length self.old.nodes < 65535 }
         ensures index { IfOk result (λ i. i ≡ length self.old.nodes) }

@@ -44,6 +44,14 @@ fn from_classes(alloc: Global, graph: &DeadGraph, labels: &[u32]) -> Result<Comp
     let mut indexes = vec![in alloc; 0u32; graph.nodes() as usize]?;
     let mut builder = ComponentsBuilder::new(alloc);
     list_components(graph, labels, &groups, &mut indexes, &mut builder)?;
-    list_references(alloc, graph, labels, &groups, &plain, &indexes, &mut builder)?;
+    list_references(
+        alloc,
+        graph,
+        labels,
+        &groups,
+        &plain,
+        &indexes,
+        &mut builder,
+    )?;
     builder.finish()
 }

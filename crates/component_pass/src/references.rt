@@ -10,7 +10,7 @@ ghost use Rattle.component_pass.specs.Groups.{AreGroups};
 ghost use Rattle.component_pass.specs.Referring.{AreDestinations, AreReferences};
 ghost use Rattle.component_pass.specs.Searching.{Opens, Goes, AreMarked};
 
-use crate::groups::{is_first, members, Groups};
+use crate::groups::{Groups, is_first, members};
 use crate::search::{opens, search};
 use bridge_graph::DeadGraph;
 use std::alloc::{AllocError, Global};
@@ -38,7 +38,9 @@ pub(crate) fn list_references(
     let mut marks = vec![in alloc; false; graph.nodes() as usize]?;
     let mut found = Vec::new(alloc);
     let mut outs = Vec::new(alloc);
-    refer_all(graph, labels, groups, plain, indexes, &mut marks, &mut found, &mut outs, builder)
+    refer_all(
+        graph, labels, groups, plain, indexes, &mut marks, &mut found, &mut outs, builder,
+    )
 }
 
 /// Lists the cross-references component by component; nothing is marked between two of them.
@@ -112,7 +114,14 @@ fn destinations(
 }
 
 /// Appends the index of the class of each node that the search doesn't go on from.
-fn collect(found: &[u32], plain: &[bool], labels: &[u32], indexes: &[u32], own: u32, outs: &mut Vec<u32>) -> Result<(), AllocError>
+fn collect(
+    found: &[u32],
+    plain: &[bool],
+    labels: &[u32],
+    indexes: &[u32],
+    own: u32,
+    outs: &mut Vec<u32>,
+) -> Result<(), AllocError>
     requires plain { All (λ y. y < length plain.now) found.now }
     requires labels { All (λ y. y < length labels.now) found.now }
     requires small { All (λ l. l < length indexes.now) labels.now }

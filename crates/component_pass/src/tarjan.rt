@@ -94,7 +94,12 @@ fn walk(
 }
 
 /// Puts an unseen node on the stack and starts its frame.
-fn enter(node: u32, marks: &mut [u32], stack: &mut Vec<u32>, frames: &mut Vec<Frame>) -> Result<(), AllocError>
+fn enter(
+    node: u32,
+    marks: &mut [u32],
+    stack: &mut Vec<u32>,
+    frames: &mut Vec<Frame>,
+) -> Result<(), AllocError>
     requires node { node < length marks.old }
     requires few { length stack.old.items < 65536 }
     ensures marks { OnOk result (marks.new ≡ slice_set marks.old node (length stack.old.items + 1)) }

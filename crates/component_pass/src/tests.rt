@@ -9,13 +9,22 @@ use std::test::Fail;
 use xref_list::Components;
 
 /// A graph of nodes, which are bridge nodes or plain ones, and edges.
-fn graph(rt: &impl Abort, alloc: Global, bridges: &[bool], edges: &[(u32, u32)]) -> Result<DeadGraph, AllocError> {
+fn graph(
+    rt: &impl Abort,
+    alloc: Global,
+    bridges: &[bool],
+    edges: &[(u32, u32)],
+) -> Result<DeadGraph, AllocError> {
     let mut builder = GraphBuilder::new(alloc);
     for (i, bridge) in bridges.iter().enumerate() {
         assert!(rt; i < 1000);
         let number = i as u32 + 1;
         assert!(rt; builder.next_is(MNum(number)));
-        builder.node(MNum(number), if *bridge { Some(HNum(number)) } else { None }, false)?;
+        builder.node(
+            MNum(number),
+            if *bridge { Some(HNum(number)) } else { None },
+            false,
+        )?;
     }
     for edge in edges {
         assert!(rt; builder.may_lead(edge.0, edge.1));
@@ -25,7 +34,13 @@ fn graph(rt: &impl Abort, alloc: Global, bridges: &[bool], edges: &[(u32, u32)])
 }
 
 /// Checks components, pairs and mirror edges.
-fn expect(rt: &impl Abort, found: &Components, components: &[&[u32]], pairs: &[(u32, u32)], mirror: &[(u32, u32)]) {
+fn expect(
+    rt: &impl Abort,
+    found: &Components,
+    components: &[&[u32]],
+    pairs: &[(u32, u32)],
+    mirror: &[(u32, u32)],
+) {
     assert_eq!(rt; found.len() as usize, components.len());
     for (i, members) in components.iter().enumerate() {
         assert!(rt; i < found.len() as usize);
@@ -55,7 +70,13 @@ fn both(
 ) -> Result<(), AllocError> {
     let graph = graph(rt, alloc, bridges, edges)?;
     expect(rt, &contract(alloc, &graph)?, components, pairs, mirror);
-    expect(rt, &plain_contract(alloc, &graph)?, components, pairs, mirror);
+    expect(
+        rt,
+        &plain_contract(alloc, &graph)?,
+        components,
+        pairs,
+        mirror,
+    );
     Ok(())
 }
 
@@ -78,8 +99,24 @@ fn through_plain_nodes(rt: HostRuntime) -> Result<(), Fail> {
 #[test]
 fn circles(rt: HostRuntime) -> Result<(), Fail> {
     let edges = [(0, 1), (1, 2), (2, 0)];
-    both(&rt, rt.alloc(), &[true, true, true], &edges, &[&[0, 1, 2]], &[], &[(0, 1), (1, 2), (2, 0)])?;
-    both(&rt, rt.alloc(), &[true, false, true], &edges, &[&[0, 2]], &[], &[(0, 2), (2, 0)])?;
+    both(
+        &rt,
+        rt.alloc(),
+        &[true, true, true],
+        &edges,
+        &[&[0, 1, 2]],
+        &[],
+        &[(0, 1), (1, 2), (2, 0)],
+    )?;
+    both(
+        &rt,
+        rt.alloc(),
+        &[true, false, true],
+        &edges,
+        &[&[0, 2]],
+        &[],
+        &[(0, 2), (2, 0)],
+    )?;
     both(&rt, rt.alloc(), &[true], &[], &[&[0]], &[], &[])?;
     both(&rt, rt.alloc(), &[], &[], &[], &[], &[])?;
     Ok(())
@@ -107,7 +144,16 @@ fn plain_cycles(rt: HostRuntime) -> Result<(), Fail> {
         &rt,
         rt.alloc(),
         &[true, false, false, true, false, true],
-        &[(0, 1), (1, 2), (2, 1), (2, 4), (4, 3), (3, 4), (4, 5), (0, 0)],
+        &[
+            (0, 1),
+            (1, 2),
+            (2, 1),
+            (2, 4),
+            (4, 3),
+            (3, 4),
+            (4, 5),
+            (0, 0),
+        ],
         &[&[0], &[3], &[5]],
         &[(0, 1), (1, 2)],
         &[(0, 3), (3, 5)],

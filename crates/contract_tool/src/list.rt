@@ -57,7 +57,11 @@ fn read_nodes(builder: &mut GraphBuilder, lines: &mut Lines, nodes: u32) -> Resu
         if i == u32::MAX || !builder.next_is(MNum(i + 1)) {
             return Err(Cause::Nodes);
         }
-        builder.node(MNum(i + 1), if handle { Some(HNum(i + 1)) } else { None }, false)?;
+        builder.node(
+            MNum(i + 1),
+            if handle { Some(HNum(i + 1)) } else { None },
+            false,
+        )?;
     }
     Ok(())
 }

@@ -6,7 +6,7 @@
 mod list;
 
 use component_pass::contract;
-use list::{read_list, Cause};
+use list::{Cause, read_list};
 use std::env;
 use std::io::{self, BufWriter, Write};
 use std::process::ExitCode;
@@ -31,7 +31,13 @@ fn main(rt: HostRuntime) -> io::Result<ExitCode> {
         write_all(BufWriter::new(rt.alloc(), io::writer(&rt))?, &components)?;
     } else {
         let micros = u64::try_from(spent.as_micros()).unwrap_or(u64::MAX);
-        println!(rt; "{} sccs {} xrefs {}.{:03} ms", components.len(), components.xrefs(), micros / 1000, micros % 1000)?;
+        println!(rt;
+            "{} sccs {} xrefs {}.{:03} ms",
+            components.len(),
+            components.xrefs(),
+            micros / 1000,
+            micros % 1000
+        )?;
     }
     Ok(ExitCode::SUCCESS)
 }

@@ -55,4 +55,5 @@ Mutual-sym edge x y m = record { there = m.back; back = m.there }
 pub Mutual-then : {A : Type 0} (edge : A → A → Type 0) (x y z : A) → Mutual edge x y → Mutual edge y z → Mutual edge x z
 Mutual-then edge x y z m n = record {
   there = Reaches-then edge x y z m.there n.there;
-  back = Reaches-then edge z y x n.back m.back }
+  back = Reaches-then edge z y x n.back m.back;
+}

@@ -44,7 +44,8 @@ components_more comps objs a s r b d f = record {
   some = All-push (λ m. 0 < length m) comps objs a.some s;
   order = rw (map_push first_of comps objs) (Rises-push (map first_of comps) (first_of objs) a.order (All-map (λ x. x < first_of objs) first_of comps f));
   below = All-push (λ m. All (λ x. x < 65535) m) comps objs a.below b;
-  apart = all_pairs_push AreDisjoint comps objs a.apart d }
+  apart = all_pairs_push AreDisjoint comps objs a.apart d;
+}
 
 length-circle_from : (first x : ℕ) (xs : List ℕ) → length (circle_from first x xs) ≡ length xs + 1
 length-circle_from first x [] = refl
@@ -60,10 +61,11 @@ pub flat_more : (members starts : List ℕ) (circles : List (ℕ × ℕ)) (objs 
 flat_more members starts circles objs a few most = record {
   cut = cut-more starts members objs a.cut;
   circle = rw (length_push starts (length members), packed_rows-more starts members objs (length starts) refl a.cut)
-    (ap (λ cs. cs ++ circle objs) a.circle ∙ flat_map_more circle [] (packed_rows starts members (length starts)) objs);
+      (ap (λ cs. cs ++ circle objs) a.circle ∙ flat_map_more circle [] (packed_rows starts members (length starts)) objs);
   few = omega (arith, length_push starts (length members));
   most = omega (arith, length-append members objs);
-  edges = omega (arith, a.edges, length-append members objs, length-append circles (circle objs), length-circle objs) }
+  edges = omega (arith, a.edges, length-append members objs, length-append circles (circle objs), length-circle objs);
+}
 
 between_more : (n : ℕ) (pairs : List (ℕ × ℕ)) → All (IsBetween n) pairs → All (IsBetween (n + 1)) pairs
 between_more n pairs h = All-weaker (IsBetween n) (IsBetween (n + 1)) (λ p b. record { source = omega (arith, b.source); destination = omega (arith, b.destination); apart = b.apart }) pairs h
@@ -81,7 +83,8 @@ building_more members starts circles pairs sorted objs b most s r l d f =
       components = rw (length_push starts (length members), packed_rows-more starts members objs (length starts) refl b.flat.cut) more;
       ends = rw (length_push starts (length members)) (between_more (length starts) pairs b.ends);
       rising = b.rising;
-      count = b.count }
+      count = b.count;
+    }
 
 pub between_push : (n : ℕ) (pairs : List (ℕ × ℕ)) (p : ℕ × ℕ) → All (IsBetween n) pairs → p.0 < n → p.1 < n → p.0 ≢ p.1 → All (IsBetween n) (pairs ++ p ∷ [])
 between_push n pairs p h a b c = All-push (IsBetween n) pairs p h (record { source = a; destination = b; apart = c })
@@ -90,7 +93,8 @@ pub listing_of : (comps : List (List ℕ)) (pairs : List (ℕ × ℕ)) → AreCo
 listing_of comps pairs a r e = record {
   canonical = record { members = a.members; some = a.some; order = a.order; rising = r };
   components = a;
-  ends = e }
+  ends = e;
+}
 
 -- what adding one pair left: the pairs as they were, or with the new one
 pub one_added : (r : Result Added AllocError) (before after : List (ℕ × ℕ)) (p : ℕ × ℕ) → IfOk r (λ a. Adds a before after p) → OnErr r (after ≡ before)

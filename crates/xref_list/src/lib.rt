@@ -55,7 +55,15 @@ mod tests {
         assert_eq!(rt; components.xref(3), (2, 1));
         assert_eq!(rt; components.refs(), 9);
         let expected = [
-            (0, 2), (2, 5), (5, 0), (3, 4), (4, 3), (0, 1), (0, 3), (1, 0), (3, 1),
+            (0, 2),
+            (2, 5),
+            (5, 0),
+            (3, 4),
+            (4, 3),
+            (0, 1),
+            (0, 3),
+            (1, 0),
+            (3, 1),
         ];
         for (i, edge) in expected.iter().enumerate() {
             assert!(rt; i < 9);

@@ -88,7 +88,11 @@ impl PairList {
         ensures rising { IfOk result (λ v. PairsRise v.items) }
         ensures same { IfOk result (λ v. IsPermutation self v.items) }
     {
-        let PairList { mut pairs, known: _, count: _ } = self;
+        let PairList {
+            mut pairs,
+            known: _,
+            count: _,
+        } = self;
         if !sorted {
             pairs.sort()?;
         }
@@ -97,7 +101,11 @@ impl PairList {
 }
 
 /// Puts the pairs that are not yet known into the set.
-fn catch_up(pairs: &[(u32, u32)], known: &mut HashSet<(u32, u32)>, count: &mut usize) -> Result<(), AllocError>
+fn catch_up(
+    pairs: &[(u32, u32)],
+    known: &mut HashSet<(u32, u32)>,
+    count: &mut usize,
+) -> Result<(), AllocError>
     requires count { count.old ≤ length pairs.now }
     requires known { IsPermutation (take count.old pairs.now) known.old.keys }
     requires apart { AllPairs (λ p q. p ≢ q) pairs.now }

@@ -13,10 +13,12 @@ loop-x-preserved c =
     rw c.in_ok-push.ensures.items record {
       count = omega (arith, length_push labels l, i.count);
       least = λ k lt. elim (cases_lt k c.loop-x.x) [
-        inl kl ↦ rw (get_or_append_left labels _ 0 k (omega (arith, i.count))) (i.least k kl)
-      | inr ge ↦
-          let e : k ≡ c.loop-x.x = omega (arith, lt) in
-          rw (e, get_or_push labels l 0 c.loop-x.x i.count) c.in_ok-least.ensures ] }
+        | inl kl ↦ rw (get_or_append_left labels _ 0 k (omega (arith, i.count))) (i.least k kl)
+        | inr ge ↦
+            let e : k ≡ c.loop-x.x = omega (arith, lt) in
+            rw (e, get_or_push labels l 0 c.loop-x.x i.count) c.in_ok-least.ensures
+      ];
+    }
 
 pub returns : goal.returns
 returns c =

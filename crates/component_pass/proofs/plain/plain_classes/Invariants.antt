@@ -5,4 +5,5 @@ use Rattle.component_pass.proofs.plain.plain_classes.Given as goal
 abbrev pub invariant-loop-x : goal.invariant-loop-x
 invariant-loop-x l = record {
   count : length l.labels.items ≡ l.x;
-  least : (k : ℕ) → k < l.x → IsLeast l.graph.edges k (get_or l.labels.items k 0) }
+  least : (k : ℕ) → k < l.x → IsLeast l.graph.edges k (get_or l.labels.items k 0);
+}

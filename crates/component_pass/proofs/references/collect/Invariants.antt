@@ -6,4 +6,5 @@ use Rattle.component_pass.proofs.references.collect.Given as goal
 abbrev pub invariant-loop-y : goal.invariant-loop-y
 invariant-loop-y l = record {
   from : All (λ j. (y : ℕ) × Contains l.found y × (Opens l.plain l.labels l.own y → ⊥) × (get_or l.indexes (get_or l.labels y 0) 0 ≡ j)) l.outs.items;
-  has : (k : ℕ) → k < l.y-index → (Opens l.plain l.labels l.own (get_or l.found k 0) → ⊥) → Contains l.outs.items (get_or l.indexes (get_or l.labels (get_or l.found k 0) 0) 0) }
+  has : (k : ℕ) → k < l.y-index → (Opens l.plain l.labels l.own (get_or l.found k 0) → ⊥) → Contains l.outs.items (get_or l.indexes (get_or l.labels (get_or l.found k 0) 0) 0);
+}

@@ -27,19 +27,21 @@ collected edges plain labels indexes own x marks found outs sorted out f from ha
   rising = rw is (rises_from_pairs (dedup eqb sorted) (AllPairs-from_increasing (dedup eqb sorted) (IsStrictlyIncreasing-dedup sorted sort)));
   exact = λ j. (
     (λ c.
-      let d = subst (λ (xs : List ℕ). Contains xs j) is c in
-      let e = Contains-permutation sorted outs j (IsPermutation-sym outs sorted perm) (Contains-from_dedup eqb sorted j d) in
-      let t = All-contains (λ k. (y : ℕ) × Contains found y × (Opens plain labels own y → ⊥) × (get_or indexes (get_or labels y 0) 0 ≡ k)) outs j from e in
-      (t.0, (f.exact t.0).0 t.1, t.2, t.3)),
+        let d = subst (λ (xs : List ℕ). Contains xs j) is c in
+        let e = Contains-permutation sorted outs j (IsPermutation-sym outs sorted perm) (Contains-from_dedup eqb sorted j d) in
+        let t = All-contains (λ k. (y : ℕ) × Contains found y × (Opens plain labels own y → ⊥) × (get_or indexes (get_or labels y 0) 0 ≡ k)) outs j from e in
+        (t.0, (f.exact t.0).0 t.1, t.2, t.3)),
     (λ t.
-      let e = All-contains (λ y. (Opens plain labels own y → ⊥) → Contains outs (get_or indexes (get_or labels y 0) 0)) found t.0 has ((f.exact t.0).1 t.1) t.2 in
-      let k : ℕ = get_or indexes (get_or labels t.0 0) 0 in
-      let d = Contains-dedup_nat sorted k (Contains-permutation outs sorted k perm e) in
-      subst (λ (z : ℕ). Contains out z) t.3 (subst (λ (xs : List ℕ). Contains xs k) (sym is) d))) }
+        let e = All-contains (λ y. (Opens plain labels own y → ⊥) → Contains outs (get_or indexes (get_or labels y 0) 0)) found t.0 has ((f.exact t.0).1 t.1) t.2 in
+        let k : ℕ = get_or indexes (get_or labels t.0 0) 0 in
+        let d = Contains-dedup_nat sorted k (Contains-permutation outs sorted k perm e) in
+        subst (λ (z : ℕ). Contains out z) t.3 (subst (λ (xs : List ℕ). Contains xs k) (sym is) d)),
+  );
+}
 
 pub returns-clause-outs : goal.returns-clause-outs
 returns-clause-outs c =
     let v = c.deref.ensures.value in
     let col = rw v at c.in_ok-collect.ensures in
     collected _ _ _ _ _ _ c.search.new.marks c.search.new.found.items c.collect.new.outs.items c.sort_unstable.new.self.items c.dedup.new.self.items
-      c.in_ok-search.ensures col.from col.has c.sort_unstable.ensures.permutation c.sort_unstable.ensures.sorted (dedup_is eqb _ _ c.dedup.ensures.filtered)
+    c.in_ok-search.ensures col.from col.has c.sort_unstable.ensures.permutation c.sort_unstable.ensures.sorted (dedup_is eqb _ _ c.dedup.ensures.filtered)

@@ -10,4 +10,5 @@ invariant-loop-x l = record {
   found : l.found.items ≡ [];
   outs : l.outs.items ≡ [];
   comps : l.builder.comps ≡ l.initial.builder.comps;
-  pairs : AreReferences (IsBridge l.graph.nodes) (Leads l.graph.edges) l.builder.comps l.x l.builder.pairs }
+  pairs : AreReferences (IsBridge l.graph.nodes) (Leads l.graph.edges) l.builder.comps l.x l.builder.pairs;
+}

@@ -24,10 +24,11 @@ loop-at-preserved c =
     let lt : c.loop-at.at < length found = omega arith in
     let is : x ≡ get_or found c.loop-at.at 0 = c.index-x.ensures ∙ get_or_default found c.loop-at.at x 0 lt in
     elim c.if-opens.branch [
-      then-opens+in_ok-visit w ↦
-        rw (w.marks-is, w.found-is) (search-more step c.args.start c.loop-at.marks w.visit.new.marks found w.visit.new.found.items (row_at c.args.graph.now.edges x) c.loop-at.at x lt is
+      | then-opens+in_ok-visit w ↦
+          rw (w.marks-is, w.found-is) (search-more step c.args.start c.loop-at.marks w.visit.new.marks found w.visit.new.found.items (row_at c.args.graph.now.edges x) c.loop-at.at x lt is
           (λ y h. (w.if-opens.ensures, h)) (λ y h. h.1) w.in_ok-visit.ensures.marking (rw w.row.ensures.row at w.in_ok-visit.ensures.visits) c.loop-at.invariant)
-    | else-opens w ↦ rw (w.marks-is, w.found-is) (search-passed step c.args.start c.loop-at.marks found c.loop-at.at x lt is (λ y h. w.if-opens.ensures h.0) c.loop-at.invariant) ]
+      | else-opens w ↦ rw (w.marks-is, w.found-is) (search-passed step c.args.start c.loop-at.marks found c.loop-at.at x lt is (λ y h. w.if-opens.ensures h.0) c.loop-at.invariant)
+    ]
 
 pub returns : goal.returns
 returns c = search-found (Goes c.args.graph.now.edges c.args.plain.now c.args.labels.now c.args.own) c.args.start c.loop-at.marks c.loop-at.found.items c.loop-at.at (omega arith) c.loop-at.invariant

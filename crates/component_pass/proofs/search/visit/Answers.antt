@@ -14,11 +14,14 @@ loop-y-preserved c =
     let y : ℕ = get_or c.args.row.now c.loop-y.y-index 0 in
     let lt : y < length c.loop-y.marks = omega (arith, c.requires.in_range c.loop-y.y-index 0 c.loop-y-test.true) in
     rw (take_more c.args.row.now c.loop-y.y-index 0 c.loop-y-test.true) (elim c.if-not-marks-y.branch [
-      then-not-marks-y+in_ok-push w ↦
-        let items : c.if-not-marks-y.found.items ≡ c.loop-y.found.items ++ y ∷ [] = ap (λ v. v.items) w.found-is ∙ w.in_ok-push.ensures.items in
-        rw (w.marks-is, items) record {
-          marking = marked_more c.loop-y.marks c.loop-y.found.items y lt w.if-not-marks-y.true i.marking;
-          visits = visits_new _ _ c.loop-y.found.items y i.visits }
-    | else-not-marks-y w ↦ rw (w.marks-is, w.found-is) record {
+      | then-not-marks-y+in_ok-push w ↦
+          let items : c.if-not-marks-y.found.items ≡ c.loop-y.found.items ++ y ∷ [] = ap (λ v. v.items) w.found-is ∙ w.in_ok-push.ensures.items in
+          rw (w.marks-is, items) record {
+            marking = marked_more c.loop-y.marks c.loop-y.found.items y lt w.if-not-marks-y.true i.marking;
+            visits = visits_new _ _ c.loop-y.found.items y i.visits;
+          }
+      | else-not-marks-y w ↦ rw (w.marks-is, w.found-is) record {
         marking = i.marking;
-        visits = visits_old _ _ c.loop-y.found.items y (i.marking.listed y w.if-not-marks-y.false) i.visits } ])
+        visits = visits_old _ _ c.loop-y.found.items y (i.marking.listed y w.if-not-marks-y.false) i.visits;
+      }
+    ])

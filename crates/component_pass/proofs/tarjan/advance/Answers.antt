@@ -18,12 +18,12 @@ returns-then-scan-row-clause-going c =
     let w : ℕ = get_or c.row-row.result.now c.scan_row-scan.result.next 0 in
     let upper : Frame = record { node = w; at = length c.args.stack.now.items; next = 0; low = length c.args.stack.now.items } in
     let frames : c.enter.new.frames.items ≡ (c.args.frames.now.items ++ lower ∷ []) ++ upper ∷ [] =
-      c.in_ok-enter.ensures.frames ∙ ap (λ (xs : List Frame). xs ++ upper ∷ []) c.in_ok-push.ensures.items in
+    c.in_ok-enter.ensures.frames ∙ ap (λ (xs : List Frame). xs ++ upper ∷ []) c.in_ok-push.ensures.items in
     let next : c.scan_row-scan.result.next < length (row_at c.args.graph.now.edges f.node) = omega (arith, c.if-scan-row.true, ap length c.row-row.ensures.row) in
     let is : w ≡ get_or (row_at c.args.graph.now.edges f.node) c.scan_row-scan.result.next 0 = ap (λ (r : List ℕ). get_or r c.scan_row-scan.result.next 0) c.row-row.ensures.row in
     rw (frames, reverse-push (c.args.frames.now.items ++ lower ∷ []) upper, reverse-push c.args.frames.now.items lower, c.in_ok-enter.ensures.stack, c.in_ok-enter.ensures.marks)
     (descended c.args.graph.now.edges (length c.args.graph.now.nodes) part.in_range part.few c.args.stack.now.items c.args.marks.now c.args.labels.now f (reverse c.args.frames.now.items)
-      c.scan_row-scan.result.next c.scan_row-scan.result.low w c.requires.going scan next is)
+    c.scan_row-scan.result.next c.scan_row-scan.result.low w c.requires.going scan next is)
 
 pub returns-then-scan-row-clause-less : goal.returns-then-scan-row-clause-less
 returns-then-scan-row-clause-less c =
@@ -36,8 +36,15 @@ returns-then-scan-row-clause-less c =
     let f : Frame = c.args.frame in
     let lower : Frame = record { node = f.node; at = f.at; next = c.scan_row-scan.result.next + 1; low = c.scan_row-scan.result.low } in
     let upper : Frame = record { node = w; at = length c.args.stack.now.items; next = 0; low = length c.args.stack.now.items } in
-    omega (arith, fewer, ap unseen c.in_ok-enter.ensures.marks, ap length c.in_ok-enter.ensures.frames, length_push c.push.new.self.items upper,
-      ap length c.in_ok-push.ensures.items, length_push c.args.frames.now.items lower)
+    omega (
+      arith,
+      fewer,
+      ap unseen c.in_ok-enter.ensures.marks,
+      ap length c.in_ok-enter.ensures.frames,
+      length_push c.push.new.self.items upper,
+      ap length c.in_ok-push.ensures.items,
+      length_push c.args.frames.now.items lower,
+    )
 
 pub returns-then-scan-frame-clause-going : goal.returns-then-scan-frame-clause-going
 returns-then-scan-frame-clause-going c =
@@ -48,7 +55,7 @@ returns-then-scan-frame-clause-going c =
     let going = rw (m.2, reverse-push m.1 m.0) at c.requires.going in
     rw (m.3, reverse-push)
     (merged c.args.graph.now.edges (length c.args.graph.now.nodes) part.in_range part.few c.args.stack.now.items c.args.marks.now c.args.labels.now f m.0 (reverse m.1)
-      c.scan_row-scan.result.next c.scan_row-scan.result.low going scan (omega (arith, c.if-scan-row.false, ap length c.row-row.ensures.row)) (omega arith))
+    c.scan_row-scan.result.next c.scan_row-scan.result.low going scan (omega (arith, c.if-scan-row.false, ap length c.row-row.ensures.row)) (omega arith))
 
 pub close-requires-clause-marks : goal.close-requires-clause-marks
 close-requires-clause-marks c = λ k d lt.
@@ -66,14 +73,14 @@ returns-clause-going c =
     let scan = rw c.row-row.ensures.row at c.scan_row-scan.ensures in
     rw c.close.ensures.stack
     (completed c.args.graph.now.edges (length c.args.graph.now.nodes) part.in_range part.few c.args.stack.now.items c.args.marks.now c.args.labels.now c.close.new.marks c.close.new.labels
-      c.args.frame (reverse c.args.frames.now.items) c.scan_row-scan.result.next c.scan_row-scan.result.low c.requires.going scan
-      (omega (arith, c.if-scan-row.false, ap length c.row-row.ensures.row)) c.if-scan-frame.false (omega arith) (omega arith) c.close.ensures.taken c.close.ensures.others).0
+    c.args.frame (reverse c.args.frames.now.items) c.scan_row-scan.result.next c.scan_row-scan.result.low c.requires.going scan
+    (omega (arith, c.if-scan-row.false, ap length c.row-row.ensures.row)) c.if-scan-frame.false (omega arith) (omega arith) c.close.ensures.taken c.close.ensures.others).0
 
 pub returns-clause-less : goal.returns-clause-less
 returns-clause-less c =
     let part = c.row-row.ensures.part in
     let scan = rw c.row-row.ensures.row at c.scan_row-scan.ensures in
     let fewer = (completed c.args.graph.now.edges (length c.args.graph.now.nodes) part.in_range part.few c.args.stack.now.items c.args.marks.now c.args.labels.now c.close.new.marks c.close.new.labels
-      c.args.frame (reverse c.args.frames.now.items) c.scan_row-scan.result.next c.scan_row-scan.result.low c.requires.going scan
-      (omega (arith, c.if-scan-row.false, ap length c.row-row.ensures.row)) c.if-scan-frame.false (omega arith) (omega arith) c.close.ensures.taken c.close.ensures.others).1 in
+    c.args.frame (reverse c.args.frames.now.items) c.scan_row-scan.result.next c.scan_row-scan.result.low c.requires.going scan
+    (omega (arith, c.if-scan-row.false, ap length c.row-row.ensures.row)) c.if-scan-frame.false (omega arith) (omega arith) c.close.ensures.taken c.close.ensures.others).1 in
     omega (arith, fewer)

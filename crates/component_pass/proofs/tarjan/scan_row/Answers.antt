@@ -7,10 +7,12 @@ least : (row marks : List ℕ) (low lowest next mark : ℕ) → next < length ro
     → (min lowest (mark - 1) ≡ low) ⊎ ((k : ℕ) × (k < length row) × (get_or marks (get_or row k 0) 0 ≡ min lowest (mark - 1) + 1))
 least row marks low lowest next mark lt is p old =
     elim (cases_lt (mark - 1) lowest) [
-      inl l ↦ inr (next, lt, omega (arith, is, l, p))
-    | inr ge ↦ elim old [
-        inl e ↦ inl (omega (arith, ge, e))
-      | inr t ↦ inr (t.0, t.1, omega (arith, t.2, ge)) ] ]
+      | inl l ↦ inr (next, lt, omega (arith, is, l, p))
+      | inr ge ↦ elim old [
+        | inl e ↦ inl (omega (arith, ge, e))
+        | inr t ↦ inr (t.0, t.1, omega (arith, t.2, ge))
+      ]
+    ]
 
 pub loop-next-preserved : goal.loop-next-preserved
 loop-next-preserved c =
@@ -26,6 +28,8 @@ loop-next-preserved c =
       within = omega arith;
       lowest = omega (arith, e, i.lowest);
       seen = λ k a b. elim (cases_lt k next) [
-        inl l ↦ omega (arith, i.seen k a l, e)
-      | inr ge ↦ let k_is : k ≡ next = omega (arith, b, ge) in omega (arith, e, p, ap (λ (j : ℕ). get_or marks (get_or row j 0) 0) k_is) ];
-      from_row = rw e (least row marks c.args.low c.loop-next.lowest next mark (omega arith) refl p i.from_row) }
+        | inl l ↦ omega (arith, i.seen k a l, e)
+        | inr ge ↦ let k_is : k ≡ next = omega (arith, b, ge) in omega (arith, e, p, ap (λ (j : ℕ). get_or marks (get_or row j 0) 0) k_is)
+      ];
+      from_row = rw e (least row marks c.args.low c.loop-next.lowest next mark (omega arith) refl p i.from_row);
+    }

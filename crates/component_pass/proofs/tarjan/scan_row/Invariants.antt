@@ -7,7 +7,8 @@ invariant-loop-next l = record {
   within : l.next ≤ length l.row;
   lowest : l.lowest ≤ l.low;
   seen : (k : ℕ) → l.from ≤ k → k < l.next → l.lowest < get_or l.marks (get_or l.row k 0) 0;
-  from_row : (l.lowest ≡ l.low) ⊎ ((k : ℕ) × (k < length l.row) × (get_or l.marks (get_or l.row k 0) 0 ≡ l.lowest + 1)) }
+  from_row : (l.lowest ≡ l.low) ⊎ ((k : ℕ) × (k < length l.row) × (get_or l.marks (get_or l.row k 0) 0 ≡ l.lowest + 1));
+}
 
 abbrev pub decreases-loop-next : goal.decreases-loop-next
 decreases-loop-next l = length l.row - l.next

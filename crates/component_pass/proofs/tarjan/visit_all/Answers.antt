@@ -9,7 +9,8 @@ loop-root-init c =
     record {
       going = rw c.requires.stack (nothing-seen c.args.graph.now.edges (length c.args.graph.now.nodes) part.in_range part.few c.args.marks.now c.args.labels.now c.requires.marks c.requires.labels c.requires.unseen);
       frames = c.requires.frames;
-      seen = λ x lt. absurd (omega (arith, lt)) }
+      seen = λ x lt. absurd (omega (arith, lt));
+    }
 
 pub returns : goal.returns
 returns c =

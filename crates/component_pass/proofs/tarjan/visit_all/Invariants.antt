@@ -6,4 +6,5 @@ abbrev pub invariant-loop-root : goal.invariant-loop-root
 invariant-loop-root l = record {
   going : IsGoing l.graph.edges (length l.graph.nodes) l.stack.items l.marks l.labels [];
   frames : l.frames.items ≡ [];
-  seen : (x : ℕ) → x < l.root → get_or l.marks x 0 ≢ 0 }
+  seen : (x : ℕ) → x < l.root → get_or l.marks x 0 ≢ 0;
+}

@@ -16,4 +16,5 @@ loop-count-preserved c =
     record {
       count = omega arith;
       known = rw (take_more c.args.pairs.now c.loop-count.count d c.loop-count-test.true)
-        (IsPermutation-push_more _ _ _ _ c.loop-count.invariant.known puts) }
+          (IsPermutation-push_more _ _ _ _ c.loop-count.invariant.known puts);
+    }

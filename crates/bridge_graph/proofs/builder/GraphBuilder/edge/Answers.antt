@@ -15,7 +15,7 @@ invariant_of-self-2 c =
     let joins : Joins c.self.inside.nodes.items link = record { from = r.from; to = r.to; transparent = r.open } in
     rw (c.push_reserved.ensures.items, c.push_reserved-2.ensures.items, c.reserve.ensures.items, c.reserve-2.ensures.items, c.reserve-3.ensures.items)
     (building-link c.self.inside.nodes.items c.self.inside.firsts.items c.self.inside.links.items c.self.inside.nexts.items c.self.inside.targets.items
-      _ _ link 0 i joins (omega arith) (omega (arith, c.in_ok-reserve-3.ensures.ok)))
+    _ _ link 0 i joins (omega arith) (omega (arith, c.in_ok-reserve-3.ensures.ok)))
 
 pub returns-clause-edges : goal.returns-clause-edges
 returns-clause-edges c =

@@ -20,7 +20,8 @@ packed_part nodes heads links follows targets starts made space b e m p = record
   count = e;
   cut = p.cut;
   most = m;
-  part = rw (packed-rows links starts made (length nodes) e p) (part_of nodes heads links follows targets space b) }
+  part = rw (packed-rows links starts made (length nodes) e p) (part_of nodes heads links follows targets space b);
+}
 
 pub invariant_of-result : goal.invariant_of-result
 invariant_of-result c =
@@ -28,7 +29,7 @@ invariant_of-result c =
     let len : length c.pack.new.firsts ≡ c.self.inside.firsts.len = omega arith in
     rw (take_at c.pack.new.firsts _ c.self.inside.firsts.len len)
     (packed_part c.self.inside.nodes.items c.self.inside.firsts.items c.self.inside.links.items c.self.inside.nexts.items c.self.inside.targets.items
-      c.pack.new.firsts c.pack.new.targets.items _ c.self.invariant (omega arith) (omega arith) packed)
+    c.pack.new.firsts c.pack.new.targets.items _ c.self.invariant (omega arith) (omega arith) packed)
 
 pub returns-clause-edges : goal.returns-clause-edges
 returns-clause-edges c =
@@ -41,6 +42,8 @@ pub returns-clause-part : goal.returns-clause-part
 returns-clause-part c =
     let packed = rw c.deref-2.ensures.value at c.pack.ensures.packed in
     let len : length c.pack.new.firsts ≡ c.self.inside.firsts.len = omega arith in
-    rw (take_at c.pack.new.firsts _ c.self.inside.firsts.len len,
-      packed-rows c.self.inside.links.items c.pack.new.firsts c.pack.new.targets.items (length c.self.inside.nodes.items) (omega arith) packed)
+    rw (
+      take_at c.pack.new.firsts _ c.self.inside.firsts.len len,
+      packed-rows c.self.inside.links.items c.pack.new.firsts c.pack.new.targets.items (length c.self.inside.nodes.items) (omega arith) packed,
+    )
     (part_of _ _ _ _ _ _ c.self.invariant)

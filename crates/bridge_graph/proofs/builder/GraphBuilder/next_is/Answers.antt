@@ -22,11 +22,11 @@ returns-else-count-eq0-clause-rising c =
     let nodes = c.self.inside.nodes.items in
     let last = c.index.result.now in
     on _ _ (λ t.
-      let lt = ltb-true last.number.0 c.args.number.0 t in
-      let k : ℕ = length nodes - 1 in
-      let in' : k < length nodes = omega arith in
-      let is : last ≡ get_or nodes k last = c.index.ensures ∙ ap (λ (i : ℕ). get_or nodes i last) (omega arith) in
-      let n = length-map nodes (λ (m : Node). m.number.0) in
-      let at : get_or (numbers_of nodes) (length (numbers_of nodes) - 1) 0 ≡ last.number.0 =
-        ap (λ (i : ℕ). get_or (numbers_of nodes) (i - 1) 0) n ∙ get_or-map (λ (m : Node). m.number.0) nodes k last 0 in' ∙ sym (ap (λ (m : Node). m.number.0) is) in
-      rw (← v) (all_numbers nodes c.args.number.0 (below-last (numbers_of nodes) c.args.number.0 c.self.invariant.rising (λ _. omega (arith, at, lt)))))
+    let lt = ltb-true last.number.0 c.args.number.0 t in
+    let k : ℕ = length nodes - 1 in
+    let in' : k < length nodes = omega arith in
+    let is : last ≡ get_or nodes k last = c.index.ensures ∙ ap (λ (i : ℕ). get_or nodes i last) (omega arith) in
+    let n = length-map nodes (λ (m : Node). m.number.0) in
+    let at : get_or (numbers_of nodes) (length (numbers_of nodes) - 1) 0 ≡ last.number.0 =
+    ap (λ (i : ℕ). get_or (numbers_of nodes) (i - 1) 0) n ∙ get_or-map (λ (m : Node). m.number.0) nodes k last 0 in' ∙ sym (ap (λ (m : Node). m.number.0) is) in
+    rw (← v) (all_numbers nodes c.args.number.0 (below-last (numbers_of nodes) c.args.number.0 c.self.invariant.rising (λ _. omega (arith, at, lt)))))

@@ -21,4 +21,4 @@ returns-clause-in_range c =
     let e = rw (c.deref.ensures.value, c.deref-2.ensures.value) at c.packed_row.ensures in
     let at = row-of_map (packed_row c.self.inside.starts.items c.self.inside.targets.items) (length c.self.inside.nodes.items) c.args.i r in
     rw (← v, e) (λ k d lt. c.self.invariant.part.in_range c.args.i (get_or row k d)
-      (subst (λ (xs : List ℕ). Contains xs (get_or row k d)) (sym at) (Contains-get_or row k d lt)))
+    (subst (λ (xs : List ℕ). Contains xs (get_or row k d)) (sym at) (Contains-get_or row k d lt)))

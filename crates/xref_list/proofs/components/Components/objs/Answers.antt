@@ -20,7 +20,7 @@ returns-clause-members c =
     let lt : c.args.c < length (packed_rows starts members (length starts)) = r in
     let e = rw (c.deref.ensures.value, c.deref-2.ensures.value) at c.packed_row.ensures in
     rw (← v, e) (slice_get-get_or (packed_rows starts members (length starts)) c.args.c [] lt
-      ∙ ap (λ x. Some x) (row-of_map (packed_row starts members) (length starts) c.args.c (omega arith)))
+    ∙ ap (λ x. Some x) (row-of_map (packed_row starts members) (length starts) c.args.c (omega arith)))
 
 pub returns-clause-some : goal.returns-clause-some
 returns-clause-some c =

@@ -14,7 +14,7 @@ invariant_of-self-2 c =
     let most : length c.self.inside.members.items + length c.args.objs.now ≤ 65535 = omega arith in
     rw (c.in_ok-extend_from_slice.ensures.items, c.push_reserved.ensures.items, c.reserve.ensures.items, start, c.push_circle.ensures, c.reserve-2.ensures.items)
     (building_more c.self.inside.members.items c.self.inside.starts.items c.self.inside.circles.items c.self.inside.pairs c.self.inside.sorted c.args.objs.now
-      i most r.some r.rises r.below r.apart r.after)
+    i most r.some r.rises r.below r.apart r.after)
 
 pub returns-clause-index : goal.returns-clause-index
 returns-clause-index c = rw (← c.self.view_is) (omega (arith, length-packed c.self.inside.starts.items c.self.inside.members.items (length c.self.inside.starts.items)))

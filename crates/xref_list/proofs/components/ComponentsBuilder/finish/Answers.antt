@@ -13,7 +13,8 @@ invariant_of-result c =
     record {
       flat = i.flat;
       listing = listing_of _ _ i.components c.in_ok-pairs.ensures.rising (rw (length-packed c.self.inside.starts.items c.self.inside.members.items (length c.self.inside.starts.items)) ends);
-      count = omega (arith, i.count, length_permutation _ _ m) }
+      count = omega (arith, i.count, length_permutation _ _ m);
+    }
 
 pub returns-clause-listing : goal.returns-clause-listing
 returns-clause-listing c =

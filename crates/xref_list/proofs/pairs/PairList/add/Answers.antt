@@ -20,15 +20,17 @@ invariant_of-self-2 c =
     let items = c.push_reserved.ensures.items ∙ ap (λ xs. xs ++ c.args.pair ∷ []) c.reserve.ensures.items in
     rw items record {
       apart = apart-push c.self.inside.pairs.items c.args.pair c.self.invariant.apart
-        (unknown_pair c.self.inside.pairs.items c.catch_up.new.known.keys c.args.pair (all_known _ _ _ n k) (sym c.if-contains.ensures));
+          (unknown_pair c.self.inside.pairs.items c.catch_up.new.known.keys c.args.pair (all_known _ _ _ n k) (sym c.if-contains.ensures));
       count = omega (arith, n, length_push c.self.inside.pairs.items c.args.pair);
-      known = rw (take-append-le c.catch_up.new.count c.self.inside.pairs.items (c.args.pair ∷ []) (omega (arith, n))) k }
+      known = rw (take-append-le c.catch_up.new.count c.self.inside.pairs.items (c.args.pair ∷ []) (omega (arith, n))) k;
+    }
 
 pub returns-clause-added : goal.returns-clause-added
 returns-clause-added c =
     let d = c.deref.ensures.value in
     let k = rw d at c.in_ok-catch_up.ensures.known in
     let n = rw d at c.in_ok-catch_up.ensures.all in
-    rw (← c.self.view_is)
-    (unknown_pair c.self.inside.pairs.items c.catch_up.new.known.keys c.args.pair (all_known _ _ _ n k) (sym c.if-contains.ensures),
-      c.push_reserved.ensures.items ∙ ap (λ xs. xs ++ c.args.pair ∷ []) c.reserve.ensures.items)
+    rw (← c.self.view_is) (
+      unknown_pair c.self.inside.pairs.items c.catch_up.new.known.keys c.args.pair (all_known _ _ _ n k) (sym c.if-contains.ensures),
+      c.push_reserved.ensures.items ∙ ap (λ xs. xs ++ c.args.pair ∷ []) c.reserve.ensures.items,
+    )

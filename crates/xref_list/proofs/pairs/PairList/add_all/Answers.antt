@@ -12,4 +12,5 @@ invariant_of-self-2 c =
     rw items record {
       apart = apart-group c.self.inside.pairs.items c.args.src c.args.dsts.now i.apart r.fresh r.rises;
       count = omega (arith, i.count, length-append c.self.inside.pairs.items (map (λ d. (c.args.src, d)) c.args.dsts.now));
-      known = rw (take-append-le c.self.inside.count c.self.inside.pairs.items (map (λ d. (c.args.src, d)) c.args.dsts.now) i.count) i.known }
+      known = rw (take-append-le c.self.inside.count c.self.inside.pairs.items (map (λ d. (c.args.src, d)) c.args.dsts.now) i.count) i.known;
+    }
