@@ -1,0 +1,25 @@
+// The heap that both sides share: objects with their fields, the variables of the threads, the statics,
+// and the list of freed objects. It is seen as the joint model's `Heap`, and each call is one of its
+// definitions.
+//
+// A side makes an [`ObjectHeap`] once. `add_object` makes an object, which `set_var` then gives a name;
+// `copy`, `set`, `get`, `drop`, `load` and `store` are the operations of a script, and each answers a
+// [`Done`]. A collector walks the heap by [`reachability::Walked`], in which the nodes are the objects'
+// numbers, and hands what it found dead to `free`. At the end `into_freed` gives the list of freed objects.
+//
+// Object x stands at index x - 1. Beside its fields stands a flag that is up while it is live, and the list
+// of freed objects has room for each object, so that `free` takes no memory and one look tells whether an
+// object is live. No slot, and no field of a live object, ever names a freed one.
+#![tactic(auto)]
+
+mod done;
+mod heap;
+mod numbers;
+mod walked;
+
+pub use done::Done;
+pub use heap::ObjectHeap;
+pub use numbers::Number;
+
+#[cfg(test)]
+mod tests;
