@@ -52,43 +52,26 @@ module _ (nodes : List Node) (edges : List (List ℕ)) (labels : List ℕ) (flag
   class_walk : (x u from : ℕ) (rows : List ℕ) → x < length nodes → Reaches (Step x) x u → Mutual E x u → Walks E u rows from → Reaches E from x → Reaches (Step x) x from
   class_walk x u from [] lt r m w back = subst (λ (v : ℕ). Reaches (Step x) x v) w r
   class_walk x u from (z ∷ rows) lt r m w back =
-<<<<<<< HEAD
       class_walk x z from rows lt (Reaches-then (Step x) x u z r (own_opens x u lt m, w.0))
       (record { there = Reaches-then E x u z m.there w.0; back = Reaches-trans E z from x (record { rows = rows; walk = w.1 }) back })
-=======
-      class_walk x z from rows lt (Reaches-step (Step x) x u z r (own_opens x u lt m, w.0))
-      (record { there = Reaches-step E x u z m.there w.0; back = Reaches-then E z from x (record { rows = rows; walk = w.1 }) back })
->>>>>>> 97a573255d1770edc25ccac19e68ae4a7792756d
       w.1 back
 
   through_plain : (x u to : ℕ) (zs : List ℕ) → x < length nodes → u < length nodes → Reaches (Step x) x u → Opens flags labels (get_or labels x 0) u
       → Walks E u (zs ++ to ∷ []) to → All (IsPlainClass (IsBridge nodes) E) zs → Reaches (Step x) x to
-<<<<<<< HEAD
   through_plain x u to [] lt ul r o w a = Reaches-then (Step x) x u to r (o, w.0)
-=======
-  through_plain x u to [] lt ul r o w a = Reaches-step (Step x) x u to r (o, w.0)
->>>>>>> 97a573255d1770edc25ccac19e68ae4a7792756d
   through_plain x u to (z ∷ zs) lt ul r o w a =
       let zl : z < length nodes = s.part.in_range u z w.0 in
       let plain : get_or flags z false ≡ true = elim (cases_Bool (get_or flags z false)) [
         | inl t ↦ t
         | inr f ↦ let b = s.plain.some z zl f in absurd (All-head (IsPlainClass (IsBridge nodes) E) z zs a b.0 b.1 b.2)
       ] in
-<<<<<<< HEAD
       through_plain x z to zs lt zl (Reaches-then (Step x) x u z r (o, w.0)) (inl plain) w.1 (All-tail (IsPlainClass (IsBridge nodes) E) z zs a)
-=======
-      through_plain x z to zs lt zl (Reaches-step (Step x) x u z r (o, w.0)) (inl plain) w.1 (All-tail (IsPlainClass (IsBridge nodes) E) z zs a)
->>>>>>> 97a573255d1770edc25ccac19e68ae4a7792756d
 
   -- a cross-reference is found
   cross_to : (x b : ℕ) → x < length nodes → IsBridge nodes b → IsCrossReference (IsBridge nodes) E x b
       → (y : ℕ) × Reaches (Step x) x y × (Opens flags labels (get_or labels x 0) y → ⊥) × Mutual E b y
   cross_to x b lt bb c =
-<<<<<<< HEAD
       let leave : Reaches (Step x) x c.from = class_walk x x c.from c.leaves.there.rows lt (Reaches-self (Step x) x) (Mutual-self E x) c.leaves.there.walk c.leaves.back in
-=======
-      let leave : Reaches (Step x) x c.from = class_walk x x c.from c.leaves.there.rows lt (Reaches-itself (Step x) x) (Mutual-itself E x) c.leaves.there.walk c.leaves.back in
->>>>>>> 97a573255d1770edc25ccac19e68ae4a7792756d
       let fl = in_range x c.from lt c.leaves.there in
       let r = through_plain x c.from c.to c.between lt fl leave (own_opens x c.from lt c.leaves) c.walk c.plain in
       let tl = in_range b c.to (bridge-below nodes b bb) c.arrives.there in (
@@ -96,11 +79,7 @@ module _ (nodes : List Node) (edges : List (List ℕ)) (labels : List ℕ) (flag
         r,
         (λ o. elim o [
           | inl t ↦ s.plain.none c.to tl t b bb (Mutual-sym E b c.to c.arrives)
-<<<<<<< HEAD
           | inr e ↦ c.apart (Mutual-trans E x c.to b ((s.classes.exact x c.to lt tl).0 (sym e)) (Mutual-sym E b c.to c.arrives))
-=======
-          | inr e ↦ c.apart (Mutual-then E x c.to b ((s.classes.exact x c.to lt tl).0 (sym e)) (Mutual-sym E b c.to c.arrives))
->>>>>>> 97a573255d1770edc25ccac19e68ae4a7792756d
         ]),
         c.arrives,
       )
@@ -122,11 +101,7 @@ module _ (nodes : List Node) (edges : List (List ℕ)) (labels : List ℕ) (flag
               p.0,
               p.1 ++ u ∷ [],
               p.2,
-<<<<<<< HEAD
               Walks-join E p.0 (p.1 ++ u ∷ []) u (v ∷ []) v p.3 (h.1, refl),
-=======
-              Walks-step E p.0 u v (p.1 ++ u ∷ []) p.3 h.1,
->>>>>>> 97a573255d1770edc25ccac19e68ae4a7792756d
               All-push (IsPlainClass (IsBridge nodes) E) p.1 u p.4 (s.plain.none u ul t),
             )
           ]
@@ -136,11 +111,7 @@ module _ (nodes : List Node) (edges : List (List ℕ)) (labels : List ℕ) (flag
   exit_of : (x y : ℕ) → x < length nodes → Reaches (Step x) x y → (y < length nodes) × Exit x y
   unfolding Exit
   exit_of x y lt r =
-<<<<<<< HEAD
       Reaches-keeps (Step x) (λ v. (v < length nodes) × Exit x v) (λ u v h q. (s.part.in_range u v h.1, exit_step x u v lt q.0 q.1 h)) x y r (lt, inl (Mutual-self E x))
-=======
-      Reaches-keep (Step x) (λ v. (v < length nodes) × Exit x v) (λ u v q h. (s.part.in_range u v h.1, exit_step x u v lt q.0 q.1 h)) x y (lt, inl (Mutual-itself E x)) r
->>>>>>> 97a573255d1770edc25ccac19e68ae4a7792756d
 
   -- what is found is a cross-reference
   cross_from : (x y b : ℕ) → x < length nodes → Reaches (Step x) x y → (Opens flags labels (get_or labels x 0) y → ⊥) → Mutual E b y
@@ -152,11 +123,7 @@ module _ (nodes : List Node) (edges : List (List ℕ)) (labels : List ℕ) (flag
       elim e.1 [
         | inl t ↦ absurd (far t)
         | inr p ↦ record {
-<<<<<<< HEAD
           apart = λ t. far (Mutual-trans E x b y t m);
-=======
-          apart = λ t. far (Mutual-then E x b y t m);
->>>>>>> 97a573255d1770edc25ccac19e68ae4a7792756d
           from = p.0;
           between = p.1;
           to = y;
@@ -348,11 +315,7 @@ module _ (nodes : List Node) (edges : List (List ℕ)) (labels : List ℕ) (flag
   outs_apart x outs lt f o = λ k d h e.
       let w = (comes_iff x (get_or outs k d) lt).0 ((o.exact (get_or outs k d)).0 (Contains-get_or outs k d h)) in
       let i = first_index x f in
-<<<<<<< HEAD
       w.1.apart (subst (λ (z : ℕ). Mutual E x z) (sym i.2 ∙ ap (first_at comps) e) (Mutual-self E x))
-=======
-      w.1.apart (subst (λ (z : ℕ). Mutual E x z) (sym i.2 ∙ ap (first_at comps) e) (Mutual-itself E x))
->>>>>>> 97a573255d1770edc25ccac19e68ae4a7792756d
 
   member_at : (i x : ℕ) → IsMember comps i x → (i < length comps) × (x < length nodes) × IsBridge nodes x × (get_or labels x 0 ≡ get_or labels (first_at comps i) 0)
   member_at i x m =

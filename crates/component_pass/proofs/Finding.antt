@@ -75,11 +75,7 @@ pub exact_from_closed : (step : ℕ → ℕ → Type 0) (start : ℕ) (found : L
     → ((k y : ℕ) → k < length found → step (get_or found k 0) y → Contains found y) → (y : ℕ) → Contains found y ↔ Reaches step start y
 exact_from_closed step start found s r c y = (
   λ h. All-contains (Reaches step start) found y r h,
-<<<<<<< HEAD
   λ h. Reaches-keeps step (Contains found) (λ u v e q. c q.0 v q.1 (subst (λ (w : ℕ). step w v) (sym (get_or_default found q.0 0 u q.1 ∙ q.2)) e)) start y h s,
-=======
-  λ h. Reaches-keep step (Contains found) (λ u v q e. c q.0 v q.1 (subst (λ (w : ℕ). step w v) (sym (get_or_default found q.0 0 u q.1 ∙ q.2)) e)) start y s h,
->>>>>>> 97a573255d1770edc25ccac19e68ae4a7792756d
 )
 
 -- what the search keeps: the first nodes of the list are done
@@ -124,11 +120,7 @@ search-more step start marks marks' found found' row at x lt e go row_of m v s =
       marking = m;
       done = omega (arith, len);
       sound = subst (λ (xs : List ℕ). All (Reaches step start) xs) (sym v.appended)
-<<<<<<< HEAD
           (All-append (Reaches step start) found v.more s.sound (All-weaker (Contains row) (Reaches step start) (λ y c. Reaches-then step start x y reached (go y c)) v.more v.from_row));
-=======
-          (All-append (Reaches step start) found v.more s.sound (All-weaker (Contains row) (Reaches step start) (λ y c. Reaches-step step start x y reached (go y c)) v.more v.from_row));
->>>>>>> 97a573255d1770edc25ccac19e68ae4a7792756d
       closed = λ k y h t. elim (cases_lt k at) [
         | inl kl ↦ grown y (s.closed k y kl (subst (λ (u : ℕ). step u y) (same k (omega arith)) t))
         | inr ge ↦

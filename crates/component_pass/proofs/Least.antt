@@ -12,13 +12,8 @@ least-unique edges x y l m a b t =
     elim (cases_order l m) [
       | inl e ↦ e
       | inr o ↦ elim o [
-<<<<<<< HEAD
         | inl lt ↦ absurd (b.least l lt (Mutual-trans (Leads edges) y x l (Mutual-sym (Leads edges) x y t) a.together))
         | inr gt ↦ absurd (a.least m gt (Mutual-trans (Leads edges) x y m t b.together))
-=======
-        | inl lt ↦ absurd (b.least l lt (Mutual-then (Leads edges) y x l (Mutual-sym (Leads edges) x y t) a.together))
-        | inr gt ↦ absurd (a.least m gt (Mutual-then (Leads edges) x y m t b.together))
->>>>>>> 97a573255d1770edc25ccac19e68ae4a7792756d
       ]
     ]
 
@@ -29,11 +24,7 @@ classes_from_least edges count labels n h = record {
   small = λ k d lt. let i = h k (omega arith) in omega (arith, i.below, get_or_default labels k d 0 lt);
   exact = λ x y p q. (
     λ e. let a = h x p in let b = h y q in
-<<<<<<< HEAD
         Mutual-trans (Leads edges) x (get_or labels x 0) y a.together
-=======
-        Mutual-then (Leads edges) x (get_or labels x 0) y a.together
->>>>>>> 97a573255d1770edc25ccac19e68ae4a7792756d
         (subst (λ (l : ℕ). Mutual (Leads edges) l y) (sym e) (Mutual-sym (Leads edges) y (get_or labels y 0) b.together)),
     λ t. least-unique edges x y (get_or labels x 0) (get_or labels y 0) (h x p) (h y q) t,
   );

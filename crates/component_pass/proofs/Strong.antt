@@ -163,17 +163,10 @@ module _ (edges : List (List ℕ)) (count : ℕ) (in_range : (x y : ℕ) → Lea
       record {
         below = omega (arith, len);
         is = get_or_push stack w 0 (length stack) refl;
-<<<<<<< HEAD
         reach = λ i a b. subst (λ (u : ℕ). Reaches E w u) (sym (top i a b)) (Reaches-self E w);
         low = omega arith;
         cursor = omega arith;
         lower = subst (λ (u : ℕ). Reaches E w u) (sym (get_or_push stack w 0 (length stack) refl)) (Reaches-self E w);
-=======
-        reach = λ i a b. subst (λ (u : ℕ). Reaches E w u) (sym (top i a b)) (Reaches-itself E w);
-        low = omega arith;
-        cursor = omega arith;
-        lower = subst (λ (u : ℕ). Reaches E w u) (sym (get_or_push stack w 0 (length stack) refl)) (Reaches-itself E w);
->>>>>>> 97a573255d1770edc25ccac19e68ae4a7792756d
         back = λ i a b. absurd (omega (arith, a, b, len));
         finished = λ i v a b e. absurd (omega (arith, a, b, len));
         scanned = λ k a b. absurd (omega (arith, a));
@@ -212,11 +205,7 @@ module _ (edges : List (List ℕ)) (count : ℕ) (in_range : (x y : ℕ) → Lea
         | inl old ↦ subst (λ (v : ℕ). Reaches E u v) (sym (same i old)) (h i p old)
         | inr ge ↦
             let top : get_or (stack ++ w ∷ []) i 0 ≡ w = get_or_push stack w 0 i (omega (arith, ge, q, len)) in
-<<<<<<< HEAD
             subst (λ (v : ℕ). Reaches E u v) (sym top) (Reaches-then E u f.node w (subst (λ (v : ℕ). Reaches E u v) s.is (h f.at al s.below)) edge)
-=======
-            subst (λ (v : ℕ). Reaches E u v) (sym top) (Reaches-step E u f.node w (subst (λ (v : ℕ). Reaches E u v) s.is (h f.at al s.below)) edge)
->>>>>>> 97a573255d1770edc25ccac19e68ae4a7792756d
       ] in
       let moved = seg-move stack (stack ++ w ∷ []) marks marks' (record { node = f.node; at = f.at; next = next; low = low }) (length stack) same
       (reach f.at f.node (omega arith) s.reach) (λ v. up low v (omega (arith, s.low, s.below))) s in
@@ -267,11 +256,7 @@ module _ (edges : List (List ℕ)) (count : ℕ) (in_range : (x y : ℕ) → Lea
             low = omega (arith, q.low);
             cursor = q.cursor;
             lower = elim (cases_lt low p.low) [
-<<<<<<< HEAD
               | inl l ↦ let e : min p.low low ≡ low = omega (arith, l) in rw e (Reaches-trans E p.node f.node (get_or stack low 0) down s.lower)
-=======
-              | inl l ↦ let e : min p.low low ≡ low = omega (arith, l) in rw e (Reaches-then E p.node f.node (get_or stack low 0) down s.lower)
->>>>>>> 97a573255d1770edc25ccac19e68ae4a7792756d
               | inr ge ↦ let e : min p.low low ≡ p.low = omega (arith, ge) in rw e q.lower
             ];
             back = λ i a b. elim (cases_lt i f.at) [
@@ -325,7 +310,6 @@ module _ (edges : List (List ℕ)) (count : ℕ) (in_range : (x y : ℕ) → Lea
   root_back stack marks labels f o s all low zero i im a b = absurd (omega (arith, im))
   root_back stack marks labels f o s all low (suc m) i im a b =
       elim (cases_eq i f.at) [
-<<<<<<< HEAD
         | inl e ↦ subst (λ (y : ℕ). Reaches E y f.node) (sym s.is ∙ ap (λ (j : ℕ). get_or stack j 0) (sym e)) (Reaches-self E f.node)
         | inr ne ↦
             let t = s.back i (omega (arith, a, ne)) b in
@@ -333,15 +317,6 @@ module _ (edges : List (List ℕ)) (count : ℕ) (in_range : (x y : ℕ) → Lea
             let far = Reaches-keeps E (λ v. f.at < get_or marks v 0) (λ u v e q. leaves stack marks labels f o s all low u v q e) (get_or stack i 0) (get_or stack t.0 0) t.2 (omega (arith, here, a)) in
             let there = (o.placed t.0 (omega (arith, t.1, b))).1 in
             Reaches-trans E (get_or stack i 0) (get_or stack t.0 0) f.node t.2
-=======
-        | inl e ↦ subst (λ (y : ℕ). Reaches E y f.node) (sym s.is ∙ ap (λ (j : ℕ). get_or stack j 0) (sym e)) (Reaches-itself E f.node)
-        | inr ne ↦
-            let t = s.back i (omega (arith, a, ne)) b in
-            let here = (o.placed i b).1 in
-            let far = Reaches-keep E (λ v. f.at < get_or marks v 0) (leaves stack marks labels f o s all low) (get_or stack i 0) (get_or stack t.0 0) (omega (arith, here, a)) t.2 in
-            let there = (o.placed t.0 (omega (arith, t.1, b))).1 in
-            Reaches-then E (get_or stack i 0) (get_or stack t.0 0) f.node t.2
->>>>>>> 97a573255d1770edc25ccac19e68ae4a7792756d
             (root_back stack marks labels f o s all low m t.0 (omega (arith, t.1, im)) (omega (arith, far, there)) (omega (arith, t.1, b)))
       ]
 
@@ -413,17 +388,10 @@ module _ (edges : List (List ℕ)) (count : ℕ) (in_range : (x y : ℕ) → Lea
             same = λ x y d e m. elim (cases x (above x d)).1 [
               | inl t ↦ elim (cases y (above y e)).1 [
                 | inl r ↦ t.0 ∙ sym r.0
-<<<<<<< HEAD
                 | inr r ↦ absurd (omega (arith, t.2, o.room, few, Reaches-keeps E (λ v. get_or marks v 0 ≡ done_mark) (λ u v h q. o.closed u v q h) y x m.back r.1))
               ]
               | inr t ↦ elim (cases y (above y e)).1 [
                 | inl r ↦ absurd (omega (arith, r.2, o.room, few, Reaches-keeps E (λ v. get_or marks v 0 ≡ done_mark) (λ u v h q. o.closed u v q h) x y m.there t.1))
-=======
-                | inr r ↦ absurd (omega (arith, t.2, o.room, few, Reaches-keep E (λ v. get_or marks v 0 ≡ done_mark) (λ u v q h. o.closed u v q h) y x r.1 m.back))
-              ]
-              | inr t ↦ elim (cases y (above y e)).1 [
-                | inl r ↦ absurd (omega (arith, r.2, o.room, few, Reaches-keep E (λ v. get_or marks v 0 ≡ done_mark) (λ u v q h. o.closed u v q h) x y t.1 m.there))
->>>>>>> 97a573255d1770edc25ccac19e68ae4a7792756d
                 | inr r ↦ t.0 ∙ o.same x y t.1 r.1 m ∙ sym r.0
               ]
             ];
@@ -454,11 +422,7 @@ module _ (edges : List (List ℕ)) (count : ℕ) (in_range : (x y : ℕ) → Lea
         whole = o.labels_whole;
         small = λ k d lt. omega (arith, (o.labelled k (done k (omega (arith, lt, o.labels_whole)))).0, get_or_default labels k d 0 lt);
         exact = λ x y p q. (
-<<<<<<< HEAD
           (λ e. Mutual-trans E x (get_or labels x 0) y (o.labelled x (done x p)).1
-=======
-          (λ e. Mutual-then E x (get_or labels x 0) y (o.labelled x (done x p)).1
->>>>>>> 97a573255d1770edc25ccac19e68ae4a7792756d
               (subst (λ (l : ℕ). Mutual E l y) (sym e) (Mutual-sym E y (get_or labels y 0) (o.labelled y (done y q)).1))),
           (λ m. o.same x y (done x p) (done y q) m),
         );

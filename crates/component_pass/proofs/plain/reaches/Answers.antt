@@ -25,13 +25,8 @@ every edges plain labels own n x y p e l =
 marked : (step edge : ℕ → ℕ → Type 0) (x y : ℕ) (marks : List Bool) (found : List ℕ) (b : Bool) → ((u v : ℕ) → step u v → edge u v) → ((u v : ℕ) → edge u v → step u v)
     → Finds step x marks found → b ≡ get_or marks y false → IsTrue b ↔ Reaches edge x y
 marked step edge x y marks found b to from f e = (
-<<<<<<< HEAD
   λ t. Reaches-mono step edge to x y ((f.exact y).0 (f.marking.listed y (sym e ∙ t))),
   λ r. e ∙ All-contains (λ z. get_or marks z false ≡ true) found y f.marking.marked ((f.exact y).1 (Reaches-mono edge step from x y r)),
-=======
-  λ t. Reaches-more step edge to x y ((f.exact y).0 (f.marking.listed y (sym e ∙ t))),
-  λ r. e ∙ All-contains (λ z. get_or marks z false ≡ true) found y f.marking.marked ((f.exact y).1 (Reaches-more edge step from x y r)),
->>>>>>> 97a573255d1770edc25ccac19e68ae4a7792756d
 )
 
 pub returns : goal.returns
