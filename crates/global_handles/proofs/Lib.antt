@@ -1,3 +1,4 @@
 pub mod Rows
+pub mod Lookups
 pub mod Slots
 mod Chains

@@ -259,9 +259,10 @@ impl HandleTable {
         set_row(&mut self.slots, h, Some(kept));
     }
 
-    /// Clears each row of `p`, whose object is freed. It takes no memory. It costs what the handles cost that
-    /// were made on `p` since it was last cleared, those that were released among them, and no scan of the
-    /// table.
+    /// Clears each row of `p`, whose object is freed. It takes no memory.
+    ///
+    /// It visits the handles that were made on `p` since `p` was last cleared, also those that were released, and
+    /// no others. So in the whole life of a table each handle is visited at most once.
     pub fn clear_target(&mut self, p: PNum)
         requires { All (IsWeakFor p) self.old.rows }
         ensures rows { self.new.rows ≡ cleared_for p self.old.rows }

@@ -1,6 +1,6 @@
 -- What is drawn in turn is one chain of draws: two chains that meet make one, and the chain of a plain
 -- count numbers its entries one after another. Each is an induction on the list, from its front.
-use Rattle.std.proofs.Common.{◌≡◌, ℕ, ◌+◌, List, [], ◌∷◌, ◌++◌, map, length, Option, subst, arith, refl}
+use Rattle.std.proofs.Common.{◌≡◌, ℕ, ◌+◌, List, [], ◌∷◌, ◌++◌, map, length, Option, subst, arith}
 use Rattle.joint_model.specs.declared.names.MNum.{MNum}
 use Rattle.joint_model.specs.declared.events.Entry.{Entry}
 use Rattle.joint_model.specs.Draws.{Drawn, DrewInTurn, NumberedFrom, CountDrew}

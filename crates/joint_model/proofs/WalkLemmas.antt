@@ -1,6 +1,6 @@
 -- Walks compose, and what each edge keeps holds at the end of a walk if it holds at the start. Each is an
 -- induction on the rows of the walk, from its front; the node type and the edges are any.
-use Rattle.std.proofs.Common.{◌≡◌, List, [], ◌∷◌, ◌++◌, All, subst, sym, refl}
+use Rattle.std.proofs.Common.{List, [], ◌∷◌, ◌++◌, All, subst, sym, refl}
 use Rattle.std.proofs.lemmas.List.Elements.{All-head, All-tail}
 use Rattle.joint_model.specs.Walks.{Walks, Reaches, Reached, Mutual}
 

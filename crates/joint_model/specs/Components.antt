@@ -1,8 +1,8 @@
 -- The exact components of a graph whose nodes are numbers, some of them bridge nodes, with their
 -- cross-references and mirror edges. (The callbacks of SGen's bridge header get these components and
 -- cross-references; the Xamarin.Android documentation has the references that a collection adds.)
-use Rattle.std.specs.Prelude.{◌≡◌, ℕ, ◌<◌, List, [], ◌∷◌, ◌++◌, ◌↔◌, ◌⊎◌, length, All, Contains, Option, Some, None, map, flat_map, slice_get, slice_index}
-use Rattle.joint_model.specs.Walks.{Walks, Reaches, Mutual}
+use Rattle.std.specs.Prelude.{◌≡◌, ℕ, ◌<◌, List, [], ◌∷◌, ◌++◌, ◌↔◌, ◌⊎◌, length, All, Contains, Some, map, flat_map, slice_get, slice_index}
+use Rattle.joint_model.specs.Walks.{Walks, Mutual}
 
 -- no bridge node is in the strongly connected class of x
 abbrev pub IsPlainClass : (ℕ → Type 0) → (ℕ → ℕ → Type 0) → ℕ → Type 0

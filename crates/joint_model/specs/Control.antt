@@ -1,7 +1,7 @@
 -- The order of each caller's events, and what the later event of an operation cites: for a managed thread which
 -- operation is half done, for the driver which phase it has come to. (The life of a bridge cycle is that of SGen's
 -- bridge header and the Xamarin.Android documentation.)
-use Rattle.std.specs.Prelude.{◌≡◌, ℕ, ◌+◌, ◌≤◌, ◌⊎◌, Bool, true, false, List, [], ◌∷◌, ◌++◌, length, map, replicate, slice_get, slice_set, slice_index, Option, Some, None}
+use Rattle.std.specs.Prelude.{◌≡◌, ℕ, ◌+◌, ◌⊎◌, Bool, true, false, List, [], ◌∷◌, ◌++◌, length, map, replicate, slice_get, slice_set, slice_index, Option, Some, None}
 use Rattle.joint_model.specs.declared.names.Thread.{Thread}
 use Rattle.joint_model.specs.declared.names.Thread.TheVariants.{M, P, C}
 use Rattle.joint_model.specs.declared.names.Sort.{Sort}
@@ -14,9 +14,9 @@ use Rattle.joint_model.specs.declared.events.Reply.{Reply}
 use Rattle.joint_model.specs.declared.events.Reply.TheVariants as says
 use Rattle.joint_model.specs.Components.{mirror_edges}
 use Rattle.joint_model.specs.Lines.{IsLine}
-use Rattle.joint_model.specs.Managed.{Managed, OpenCycle, handle_of}
+use Rattle.joint_model.specs.Managed.{Managed, handle_of}
 use Rattle.joint_model.specs.Peers.{Issued, peer_of}
-use Rattle.joint_model.specs.Told.{Told, nothing, contraction_of, references_of, resolution_of, phase_of}
+use Rattle.joint_model.specs.Told.{Told, contraction_of, references_of, resolution_of, phase_of}
 
 -- what a managed thread is in the midst of, with the number and the line of the entry that the next one cites: it has
 -- made a pair, lent a handle, gripped a peer, given a handle up, or met a peer without taking the handle

@@ -1,7 +1,7 @@
 -- What a snapshot and a resolution free, and the components of a dead part. Both the joint machine and the managed
 -- side's own replay take them from here. (SGen's bridge header: the collector lists the dead bridge objects and
 -- analyses their graph; the client says which stay alive; the rest is freed.)
-use Rattle.std.specs.Prelude.{◌≡◌, ℕ, ◌+◌, ◌↔◌, Bool, true, List, length, Contains, Option, Some, None, slice_get}
+use Rattle.std.specs.Prelude.{◌≡◌, ℕ, ◌+◌, ◌↔◌, Bool, true, List, length, Contains, Some, None, slice_get}
 use Rattle.joint_model.specs.declared.events.Reply.{Reply}
 use Rattle.joint_model.specs.declared.events.Reply.TheVariants as says
 use Rattle.joint_model.specs.Heaps.{IsLive, HasField}

@@ -21,7 +21,7 @@ use Rattle.joint_model.specs.Linked.{Linkage, opening_linkage, ManagedLawful, ma
 use Rattle.joint_model.specs.Managed.{Managed}
 use Rattle.joint_model.specs.PeerReplay.{PeerReplay, Marking, TableRow, peer_answer, PeerAllows, begun}
 use Rattle.joint_model.specs.Peers.{Issued, Hold, held, raw}
-use Rattle.joint_model.specs.Told.{Told, nothing, begin_of, sweep_of, resolution_of, Noted}
+use Rattle.joint_model.specs.Told.{Told, begin_of, sweep_of, resolution_of, Noted}
 use Rattle.std.specs.Prelude.{slice_set}
 
 -- both sides' replays, and the peers that were unreached at the begin of the driver's open marking

@@ -1,12 +1,12 @@
 -- What is freed, and when: a run is sound and complete. These are the two clauses of the headline on freeing, over the
 -- whole run and the one joint graph.
-use Rattle.std.specs.Prelude.{◌≡◌, ℕ, ◌<◌, ◌≤◌, Bool, List, Contains, Option, Some, None, slice_get}
+use Rattle.std.specs.Prelude.{◌≡◌, ℕ, ◌<◌, ◌≤◌, Bool, List, Contains, Some, slice_get}
 use Rattle.joint_model.specs.declared.names.Thread.TheVariants.{C}
 use Rattle.joint_model.specs.declared.names.Span.{Span}
 use Rattle.joint_model.specs.declared.events.Op.TheVariants as op
 use Rattle.joint_model.specs.declared.events.Reply.TheVariants as says
 use Rattle.joint_model.specs.Heaps.{IsMade}
-use Rattle.joint_model.specs.Joint.{Joint, Row, object, peer, IsReached}
+use Rattle.joint_model.specs.Joint.{Row, object, peer, IsReached}
 use Rattle.joint_model.specs.Managed.{OpenCycle, Holds}
 use Rattle.joint_model.specs.Peers.{peer_of}
 use Rattle.joint_model.specs.Run.{Moment}

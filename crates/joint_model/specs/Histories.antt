@@ -1,5 +1,5 @@
 -- A finished history: its entries by number, and the lists that the spans of its replies name.
-use Rattle.std.specs.Prelude.{◌≡◌, ℕ, ◌+◌, ◌<◌, ◌≤◌, List, [], ◌∷◌, length, take, drop, map, All, Contains, Some, slice_get, sum_by}
+use Rattle.std.specs.Prelude.{◌≡◌, ℕ, ◌+◌, ◌≤◌, List, length, take, drop, map, All, Contains, Some, slice_get, sum_by}
 use Rattle.joint_model.specs.declared.names.MNum.{MNum}
 use Rattle.joint_model.specs.declared.names.PNum.{PNum}
 use Rattle.joint_model.specs.declared.names.Span.{Span}

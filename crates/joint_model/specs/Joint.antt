@@ -1,9 +1,9 @@
 -- The joint machine's state, and its one graph that joins managed objects, peers and handles.
-use Rattle.std.specs.Prelude.{◌≡◌, ℕ, ◌⊎◌, ◌+◌, Bool, false, true, ◌&&◌, nat_eq, if◌then◌else◌, List, [], ◌∷◌, Contains, Option, Some, None}
+use Rattle.std.specs.Prelude.{◌≡◌, ℕ, ◌⊎◌, ◌+◌, Bool, false, ◌&&◌, nat_eq, if◌then◌else◌, List, [], ◌∷◌, Option, Some, None}
 use Rattle.joint_model.specs.declared.names.Thread.{Thread}
 use Rattle.joint_model.specs.Heaps.{IsLive, HasField, InSlot, numbered_at, is_freed}
 use Rattle.joint_model.specs.Managed.{Managed, opening_managed, Holds, IsManagedRoot, handle_of}
-use Rattle.joint_model.specs.Peers.{Peers, opening_peers, Hold, Strength, Issued, held, raw, strong, peer_of, is_held}
+use Rattle.joint_model.specs.Peers.{Peers, opening_peers, Issued, held, raw, strong, peer_of, is_held}
 use Rattle.joint_model.specs.Walks.{Reached}
 
 -- what the one graph is made of: the managed objects, the peers, and of each handle issued whether it was removed

@@ -7,7 +7,7 @@ use Rattle.joint_model.specs.declared.names.Thread.TheVariants.{M, P, C}
 use Rattle.joint_model.specs.declared.names.Kind.{Kind}
 use Rattle.joint_model.specs.declared.names.Kind.TheVariants as kind
 use Rattle.joint_model.specs.declared.names.Sort.{Sort}
-use Rattle.joint_model.specs.declared.names.Sort.TheVariants.{User, Framework}
+use Rattle.joint_model.specs.declared.names.Sort.TheVariants.{User}
 use Rattle.joint_model.specs.declared.lines.Act.{Act}
 use Rattle.joint_model.specs.declared.lines.Act.TheVariants as act
 use Rattle.joint_model.specs.declared.events.Op.{Op}

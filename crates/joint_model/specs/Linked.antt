@@ -1,13 +1,11 @@
 -- Linked histories: the one list of entries in which both sides' own lists are lawful, the citations agree, and each
 -- caller's events come in their order. And the joint projection: the entries that are steps of the joint machine.
-use Rattle.std.specs.Prelude.{◌≡◌, ℕ, ◌+◌, ◌≤◌, Bool, true, false, if◌then◌else◌, MatchBool, List, [], ◌∷◌, length, map, filter, take, Option, Some, None}
-use Rattle.joint_model.specs.declared.names.Thread.{Thread}
+use Rattle.std.specs.Prelude.{◌≡◌, ℕ, ◌+◌, ◌≤◌, Bool, true, false, List, [], ◌∷◌, length, map, filter, take}
 use Rattle.joint_model.specs.declared.lines.Act.TheVariants as act
 use Rattle.joint_model.specs.declared.events.Op.{Op}
 use Rattle.joint_model.specs.declared.events.Op.TheVariants as op
 use Rattle.joint_model.specs.declared.events.Made.{Made}
 use Rattle.joint_model.specs.Control.{Control, opening_control, CallerAllows, control_after, last_line, candidates_of, doing_at, IsDone, IsAtRest}
-use Rattle.joint_model.specs.Heaps.{Answered}
 use Rattle.joint_model.specs.Histories.{Finished, managed_numbers, peer_numbers}
 use Rattle.joint_model.specs.Lines.{IsEvent, is_peer_event}
 use Rattle.joint_model.specs.Managed.{Managed}

@@ -2,7 +2,7 @@
 -- cycle: what the joint machine and the managed side's own replay share, and how each event changes it.
 -- (The four kinds of class and the life of a cycle are those of SGen's bridge header; handles and `Dispose`
 -- are those of the Xamarin.Android documentation.)
-use Rattle.std.specs.Prelude.{◌≡◌, ℕ, ◌+◌, ◌-◌, ◌<◌, ◌≤◌, ◌⊎◌, Bool, true, false, min, nat_eq, if◌then◌else◌, List, [], ◌∷◌, ◌++◌, length, filter, map, replicate, slice_get, slice_set, Contains, Option, Some, None}
+use Rattle.std.specs.Prelude.{◌≡◌, ℕ, ◌+◌, ◌-◌, ◌⊎◌, Bool, true, false, min, if◌then◌else◌, List, [], ◌∷◌, ◌++◌, length, filter, replicate, slice_set, Contains, Option, Some, None}
 use Rattle.joint_model.specs.declared.names.Kind.{Kind}
 use Rattle.joint_model.specs.declared.names.Kind.TheVariants.{Bridge, LeafBridge}
 use Rattle.joint_model.specs.declared.names.Sort.{Sort}
@@ -13,7 +13,7 @@ use Rattle.joint_model.specs.declared.lines.Act.TheVariants as act
 use Rattle.joint_model.specs.declared.events.Reply.{Reply}
 use Rattle.joint_model.specs.declared.events.Reply.TheVariants as says
 use Rattle.joint_model.specs.Heaps.{Heap, IsLive, HasField, InSlot, Answered, answer, opening_heap, slot, numbered_at, numbered_set, place, is_freed, is_full, next_number, with_var, with_object, with_freed, copied, field_set, field_got, dropped, loaded, stored}
-use Rattle.joint_model.specs.Walks.{Reaches, Reached}
+use Rattle.joint_model.specs.Walks.{Reached}
 
 -- an open cycle: its number, the candidates of its snapshot and its dead part, both rising
 pub record OpenCycle : Type 0 where

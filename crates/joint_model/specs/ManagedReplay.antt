@@ -1,13 +1,12 @@
 -- The managed side by itself: its entries, by rising number, replayed. Nothing of the peer heap enters but what the
 -- entries say of it. (The registry of peers' twins is that of the Xamarin.Android documentation.)
-use Rattle.std.specs.Prelude.{◌≡◌, ℕ, ◌+◌, ◌↔◌, Bool, true, false, not, nat_eq, if◌then◌else◌, List, [], ◌∷◌, ◌++◌, length, filter, Contains, Option, Some, None}
+use Rattle.std.specs.Prelude.{◌≡◌, ℕ, ◌↔◌, Bool, true, false, not, nat_eq, if◌then◌else◌, List, [], ◌∷◌, ◌++◌, length, filter, Contains, Option, Some, None}
 use Rattle.std.specs.List.{list_any}
 use Rattle.joint_model.specs.declared.names.Thread.{Thread}
 use Rattle.joint_model.specs.declared.names.Phase.{Phase}
 use Rattle.joint_model.specs.declared.names.Phase.TheVariants as at
 use Rattle.joint_model.specs.declared.names.PhaseWord.{PhaseWord}
 use Rattle.joint_model.specs.declared.names.PhaseWord.TheVariants as word
-use Rattle.joint_model.specs.declared.lines.Act.{Act}
 use Rattle.joint_model.specs.declared.events.Op.{Op}
 use Rattle.joint_model.specs.declared.events.Op.TheVariants as op
 use Rattle.joint_model.specs.declared.events.Reply.{Reply}

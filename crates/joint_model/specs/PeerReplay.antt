@@ -2,7 +2,7 @@
 -- mirrored references and the open marking. (The Xamarin.Android documentation: a bridge collection adds references
 -- between peers, makes the global references weak, collects, looks which are left, makes those strong again and
 -- removes the added references. Tri-colour marking is textbook.)
-use Rattle.std.specs.Prelude.{◌≡◌, ℕ, ◌+◌, ◌-◌, ◌<◌, ◌⊎◌, ◌↔◌, Bool, true, false, ◌||◌, ◌&&◌, min, nat_eq, nat_lt, if◌then◌else◌, List, [], ◌∷◌, ◌++◌, length, map, All, Contains, Option, Some, None}
+use Rattle.std.specs.Prelude.{◌≡◌, ℕ, ◌+◌, ◌-◌, ◌⊎◌, ◌↔◌, Bool, true, false, ◌||◌, min, nat_eq, nat_lt, if◌then◌else◌, List, [], ◌∷◌, ◌++◌, length, map, All, Contains, Option, Some, None}
 use Rattle.std.specs.List.{list_any}
 use Rattle.joint_model.specs.declared.names.Thread.{Thread}
 use Rattle.joint_model.specs.declared.names.Thread.TheVariants.{M, P, C}
@@ -14,7 +14,7 @@ use Rattle.joint_model.specs.declared.events.Reply.{Reply}
 use Rattle.joint_model.specs.declared.events.Reply.TheVariants as says
 use Rattle.joint_model.specs.Components.{Rises}
 use Rattle.joint_model.specs.Heaps.{Heap, IsLive, HasField, InSlot, Answered, answer, slot, numbered_at, numbered_set, with_freed}
-use Rattle.joint_model.specs.Peers.{Peers, opening_peers, peer_line, pair_made, gripped, landed, issued_since, peer_of, Issued, Hold, held, Strength, strong, weak, is_strong}
+use Rattle.joint_model.specs.Peers.{Peers, opening_peers, peer_line, pair_made, gripped, landed, issued_since, peer_of, Issued, held, Strength, strong, weak, is_strong}
 use Rattle.joint_model.specs.Run.{thread_number}
 use Rattle.joint_model.specs.Told.{Told, nothing, references_of, slice_of, sweep_of}
 use Rattle.joint_model.specs.Walks.{Reached}

@@ -1,9 +1,9 @@
 -- The peer objects, the global names and the handles as they were issued: what the joint machine and the peer
 -- side's own replay share, and how each event changes it. (Global and weak global references are those that the
 -- Xamarin.Android documentation describes.)
-use Rattle.std.specs.Prelude.{◌≡◌, ℕ, ◌+◌, Bool, true, false, ◌||◌, if◌then◌else◌, List, [], ◌∷◌, ◌++◌, length, drop, replicate, slice_set, Option, Some, None}
+use Rattle.std.specs.Prelude.{ℕ, ◌+◌, Bool, true, false, ◌||◌, if◌then◌else◌, List, [], ◌∷◌, ◌++◌, length, drop, replicate, slice_set, Option, Some, None}
 use Rattle.joint_model.specs.declared.names.Sort.{Sort}
-use Rattle.joint_model.specs.declared.names.Sort.TheVariants.{User, Framework}
+use Rattle.joint_model.specs.declared.names.Sort.TheVariants.{Framework}
 use Rattle.joint_model.specs.declared.lines.Act.{Act}
 use Rattle.joint_model.specs.declared.lines.Act.TheVariants as act
 use Rattle.joint_model.specs.declared.events.Reply.{Reply}

@@ -1,15 +1,13 @@
 -- Reads that take no lock: a reader's `read` or `wait` is an entry of the reader's own list, made at any moment. Here is what
 -- such an entry may answer, over a whole history, and how linked histories have them. (SGen's bridge header: while bridge
 -- processing is in progress, the reading of a weak link to a bridge object waits.)
-use Rattle.std.specs.Prelude.{◌≡◌, ℕ, ◌+◌, ◌<◌, ◌≤◌, ◌⊎◌, Bool, true, false, not, ◌&&◌, if◌then◌else◌, List, [], ◌∷◌, length, map, filter, take, Contains, Option, Some, None, slice_get, slice_set}
+use Rattle.std.specs.Prelude.{◌≡◌, ℕ, ◌+◌, ◌<◌, ◌≤◌, ◌⊎◌, Bool, true, false, not, ◌&&◌, if◌then◌else◌, List, [], ◌∷◌, map, filter, take, Contains, Option, Some, None, slice_get, slice_set}
 use Rattle.joint_model.specs.declared.names.Thread.{Thread}
-use Rattle.joint_model.specs.declared.names.Thread.TheVariants.{M, P, C}
 use Rattle.joint_model.specs.declared.lines.Act.TheVariants as act
 use Rattle.joint_model.specs.declared.events.Op.{Op}
 use Rattle.joint_model.specs.declared.events.Op.TheVariants as op
 use Rattle.joint_model.specs.declared.events.Reply.{Reply}
 use Rattle.joint_model.specs.declared.events.Reply.TheVariants as says
-use Rattle.joint_model.specs.declared.events.Made.{Made}
 use Rattle.joint_model.specs.Control.{CallerAllows, control_after, last_line}
 use Rattle.joint_model.specs.Heaps.{slot}
 use Rattle.joint_model.specs.Histories.{Finished, managed_numbers, peer_numbers}

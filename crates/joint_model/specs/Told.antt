@@ -1,5 +1,5 @@
 -- What is told beside an entry: the data that decides it and that its line in the report doesn't have in full.
-use Rattle.std.specs.Prelude.{ℕ, Bool, List, [], ◌∷◌}
+use Rattle.std.specs.Prelude.{ℕ, Bool, List}
 use Rattle.joint_model.specs.declared.names.Phase.{Phase}
 use Rattle.joint_model.specs.declared.events.Entry.{Entry}
 

@@ -1,11 +1,11 @@
 -- A heap stays sound. What changes only slots or fields, to live objects or nothing, changes no object's
 -- liveness, so all that is named or held stays live. A further object is live and has empty fields. Freed
 -- objects were named by no slot and held by no object that stays live.
-use Rattle.std.proofs.Common.{◌≡◌, ℕ, zero, suc, ◌+◌, ◌-◌, ◌<◌, ◌≤◌, ◌↔◌, ◌⊎◌, ◌≢◌, inl, inr, Bool, true, false, List, [], ◌∷◌, ◌++◌, length, map, Option, Some, None, IsTrue, set, get_or, take, replicate, refl, sym, ap, subst, ◌∙◌, arith, length-append}
+use Rattle.std.proofs.Common.{◌≡◌, ℕ, zero, suc, ◌+◌, ◌-◌, ◌<◌, ◌≤◌, ◌↔◌, ◌⊎◌, inl, inr, Bool, true, false, List, [], ◌∷◌, ◌++◌, length, map, Option, Some, None, IsTrue, set, get_or, take, replicate, refl, sym, ap, subst, ◌∙◌, arith, length-append}
 use Rattle.std.specs.Prelude.{Contains, All, nat_eq, slice_get}
 use Rattle.std.specs.Option.{ForSome, IfSome}
 use Rattle.std.proofs.Math.ListN.{length-set}
-use Rattle.std.proofs.lemmas.List.Elements.{Contains-append_cases, Contains-append_left, Contains-append_right, Contains-push, Contains-push_cases, All-contains}
+use Rattle.std.proofs.lemmas.List.Elements.{Contains-append_cases, Contains-append_left, Contains-append_right, Contains-push, Contains-push_cases, All-contains, All-cons, All-nil}
 use Rattle.std.proofs.lemmas.List.{take-map}
 use Rattle.std.proofs.lemmas.Option.{slice_get_within, same_Some}
 use Rattle.std.proofs.lemmas.Map.Views.{list_any-from_Contains, Contains-from_any}
@@ -13,10 +13,10 @@ use Rattle.std.proofs.lemmas.Cmp.{nat_eq_equiv}
 use Rattle.std.proofs.lemmas.Bool.{eqb-true}
 use Rattle.std.specs.List.{list_any}
 use Rattle.joint_model.specs.Components.{Rises}
-use Rattle.joint_model.specs.Heaps.{Heap, MOST, IsMade, IsLive, InSlot, numbered_at, numbered_set, slot, fields_of, opening_heap, with_object, with_var, with_static, with_field, with_freed}
+use Rattle.joint_model.specs.Heaps.{Heap, MOST, IsLive, InSlot, numbered_at, numbered_set, fields_of, opening_heap, with_object, with_var, with_static, with_field, with_freed}
 use Rattle.object_heap.specs.Tidy.{IsTidy, CanFree}
 use Rattle.object_heap.specs.Flags.{IsUp, AreFlags, IsSound, TakesDown, up_count}
-use Rattle.object_heap.proofs.Numbered.{Contains-at, at-Contains, Contains-set_cases, numbered-within, numbered-made, numbered-push_cases, number-at, map-take_more, numbered_set-index, row-is, row-set_cases, row-there, replicate-none}
+use Rattle.object_heap.proofs.Numbered.{Contains-at, Contains-set_cases, numbered-within, numbered-made, numbered-push_cases, number-at, map-take_more, numbered_set-index, row-is, row-set_cases, row-there, replicate-none}
 
 true_false : true ≡ false → ⊥
 true_false e = cc
@@ -24,14 +24,16 @@ true_false e = cc
 -- a list has a number, or not
 Decides-cases : (xs : List ℕ) (x : ℕ) → Contains xs x ⊎ (Contains xs x → ⊥)
 Decides-cases xs x = elim (list_any (nat_eq x) xs) as (λ b. (list_any (nat_eq x) xs ≡ b) → Contains xs x ⊎ (Contains xs x → ⊥)) [
-    true ↦ λ e. inl (Contains-from_any eqb-true x xs e)
-  | false ↦ λ e. inr (λ c. true_false (sym (list_any-from_Contains nat_eq_equiv x xs c) ∙ e)) ] refl
+  | true ↦ λ e. inl (Contains-from_any eqb-true x xs e)
+  | false ↦ λ e. inr (λ c. true_false (sym (list_any-from_Contains nat_eq_equiv x xs c) ∙ e))
+] refl
 
 -- an element of a list is its first or stands in the rest
 cons-cases : (y : ℕ) (xs : List ℕ) (x : ℕ) → Contains (y ∷ xs) x → (y ≡ x) ⊎ Contains xs x
 cons-cases y xs x c = elim (Contains-append_cases (y ∷ []) xs x c) [
-    inl w ↦ elim (Contains-push_cases [] y x w) [ inl v ↦ absurd (omega (arith, v.1)) | inr v ↦ inl v ]
-  | inr w ↦ inr w ]
+  | inl w ↦ elim (Contains-push_cases [] y x w) [ inl v ↦ absurd (omega (arith, v.1)) | inr v ↦ inl v ]
+  | inr w ↦ inr w
+]
 
 -- liveness depends on how many objects were made and on which were freed alone
 pub IsLive-as : (h k : Heap) → length k.fields ≡ length h.fields → k.freed ≡ h.freed → (x : ℕ) → IsLive h x → IsLive k x
@@ -75,23 +77,26 @@ ForSome-at h o x p e = p x e
 pub IsSound-var : (h : Heap) (ups : List Bool) (room v : ℕ) (o : Option ℕ) → IsSound h ups room → ForSome o (IsLive h) → IsSound (with_var h v o) ups room
 IsSound-var h ups room v o s p = IsSound-as h (with_var h v o) ups room s refl refl (length-set h.vars v o ∙ s.tidy.vars) s.tidy.statics
     (λ x i. elim i [
-        inl c ↦ elim (Contains-set_cases h.vars v o (Some x) c) [ inl w ↦ s.tidy.slots x (inl w) | inr w ↦ ForSome-at h o x p w ]
-      | inr c ↦ s.tidy.slots x (inr c) ])
+      | inl c ↦ elim (Contains-set_cases h.vars v o (Some x) c) [ inl w ↦ s.tidy.slots x (inl w) | inr w ↦ ForSome-at h o x p w ]
+      | inr c ↦ s.tidy.slots x (inr c)
+    ])
     s.tidy.held
 
 pub IsSound-static : (h : Heap) (ups : List Bool) (room i : ℕ) (o : Option ℕ) → IsSound h ups room → ForSome o (IsLive h) → IsSound (with_static h i o) ups room
 IsSound-static h ups room i o s p = IsSound-as h (with_static h i o) ups room s refl refl s.tidy.vars (length-set h.statics i o ∙ s.tidy.statics)
     (λ x j. elim j [
-        inl c ↦ s.tidy.slots x (inl c)
-      | inr c ↦ elim (Contains-set_cases h.statics i o (Some x) c) [ inl w ↦ s.tidy.slots x (inr w) | inr w ↦ ForSome-at h o x p w ] ])
+      | inl c ↦ s.tidy.slots x (inl c)
+      | inr c ↦ elim (Contains-set_cases h.statics i o (Some x) c) [ inl w ↦ s.tidy.slots x (inr w) | inr w ↦ ForSome-at h o x p w ]
+    ])
     s.tidy.held
 
 pub IsSound-field : (h : Heap) (ups : List Bool) (room x i : ℕ) (o : Option ℕ) → IsSound h ups room → IsLive h x → ForSome o (IsLive h) → IsSound (with_field h x i o) ups room
 IsSound-field h ups room x i o s l p = IsSound-as h (with_field h x i o) ups room s (numbered_set-length h.fields x (set (fields_of h x) i o)) refl s.tidy.vars s.tidy.statics
     (λ y j. s.tidy.slots y j)
     (λ a y q c. elim (row-set_cases h.fields x a (set (fields_of h x) i o) (Some y) c) [
-        inl w ↦ s.tidy.held a y q w
-      | inr w ↦ elim (Contains-set_cases (fields_of h x) i o (Some y) w) [ inl v ↦ s.tidy.held x y l v | inr v ↦ ForSome-at h o y p v ] ])
+      | inl w ↦ s.tidy.held a y q w
+      | inr w ↦ elim (Contains-set_cases (fields_of h x) i o (Some y) w) [ inl v ↦ s.tidy.held x y l v | inr v ↦ ForSome-at h o y p v ]
+    ])
 
 -- what is read from slots that name live objects alone is live
 pub read-live : (h : Heap) (os : List (Option ℕ)) (r : Option ℕ) → ((y : ℕ) → Contains os (Some y) → IsLive h y) → Contains os r → IfSome r (IsLive h)
@@ -108,7 +113,7 @@ write-is k h x i o fs rows same e f =
 pub IsSound-write : (k h : Heap) (ups : List Bool) (room x i : ℕ) (o : Option ℕ) (fs : List (Option ℕ)) (rows : List (List (Option ℕ))) → k ≡ h → IsSound k ups room → IsLive h x → ForSome o (IsLive h) → fields_of h x ≡ fs → rows ≡ numbered_set k.fields x (set fs i o) → IsSound (record k { fields = rows }) ups room
 IsSound-write k h ups room x i o fs rows same s l p e f =
     subst (λ (m : Heap). IsSound m ups room) (sym (write-is k h x i o fs rows same e f))
-      (IsSound-field h ups room x i o (subst (λ (m : Heap). IsSound m ups room) same s) l p)
+    (IsSound-field h ups room x i o (subst (λ (m : Heap). IsSound m ups room) same s) l p)
 
 -- a heap without objects
 pub IsSound-empty : (rows : List (List (Option ℕ))) (gone : List ℕ) (ups : List Bool) (vs ss : List (Option ℕ)) (room : ℕ) → rows ≡ [] → gone ≡ [] → ups ≡ [] → vs ≡ replicate 72 None → ss ≡ replicate 16 None
@@ -121,8 +126,9 @@ IsSound-empty rows gone ups vs ss room e f u v t =
         vars = ap length v;
         statics = ap length t;
         slots = λ x i. elim i [
-            inl c ↦ absurd (replicate-none 72 x (subst (λ l. Contains l (Some x)) v c))
-          | inr c ↦ absurd (replicate-none 16 x (subst (λ l. Contains l (Some x)) t c)) ];
+          | inl c ↦ absurd (replicate-none 72 x (subst (λ l. Contains l (Some x)) v c))
+          | inr c ↦ absurd (replicate-none 16 x (subst (λ l. Contains l (Some x)) t c))
+        ];
         held = λ x y l c. absurd (omega (arith, l.made.0, l.made.1, ap length e));
         freed = λ x c. absurd (none x c);
       };
@@ -171,17 +177,19 @@ IsSound-object h ups room n s few space =
         held = λ x y l c. (
             let r = row-there k.fields x (Some y) c in
             elim (numbered-push_cases h.fields (replicate n None) x r.0 r.1) [
-                inl w ↦ (
-                    let q = numbered-within h.fields x r.0 w in
-                    IsLive-later h n y (s.tidy.held x y (record { made = q; kept = l.kept }) (subst (λ f. Contains f (Some y)) (sym (row-is h.fields x r.0 w)) r.2)))
-              | inr w ↦ absurd (replicate-none n y (subst (λ f. Contains f (Some y)) (sym w.1) r.2)) ]);
+              | inl w ↦ (
+                  let q = numbered-within h.fields x r.0 w in
+                  IsLive-later h n y (s.tidy.held x y (record { made = q; kept = l.kept }) (subst (λ f. Contains f (Some y)) (sym (row-is h.fields x r.0 w)) r.2)))
+              | inr w ↦ absurd (replicate-none n y (subst (λ f. Contains f (Some y)) (sym w.1) r.2))
+            ]);
         freed = λ x c. (let m = s.tidy.freed x c in (m.0, omega (arith, m.1, longer)));
       };
       flags = record {
         len = omega (arith, s.flags.len, longer, length-append ups (true ∷ []));
         up = λ x u. elim (numbered-push_cases ups true x true u) [
-            inl w ↦ IsLive-later h n x (s.flags.up x w)
-          | inr w ↦ subst (IsLive k) (let e : length h.fields + 1 ≡ x = omega (arith, w.0, s.flags.len) in e) (IsLive-newest h n s.tidy) ];
+          | inl w ↦ IsLive-later h n x (s.flags.up x w)
+          | inr w ↦ subst (IsLive k) (let e : length h.fields + 1 ≡ x = omega (arith, w.0, s.flags.len) in e) (IsLive-newest h n s.tidy)
+        ];
         down = λ x d. elim (numbered-push_cases ups true x false d) [ inl w ↦ s.flags.down x w | inr w ↦ (let f : ⊥ = cc in absurd f) ];
         count = omega (arith, s.flags.count, longer, up_count-push ups);
       };
@@ -232,8 +240,9 @@ TakesDown-push xs n a b t u new =
     record {
       len = numbered_set-length b n false ∙ t.len;
       down = λ x c. elim (Contains-push_cases xs n x c) [
-          inl w ↦ number-other b n x (λ e. new (subst (Contains xs) e w)) ∙ t.down x w
-        | inr w ↦ subst (λ y. numbered_at (numbered_set b n false) y ≡ Some false) w d.0 ];
+        | inl w ↦ number-other b n x (λ e. new (subst (Contains xs) e w)) ∙ t.down x w
+        | inr w ↦ subst (λ y. numbered_at (numbered_set b n false) y ≡ Some false) w d.0
+      ];
       other = λ x m. number-other b n x (λ e. m (subst (Contains (xs ++ n ∷ [])) (sym e) (Contains-push xs n))) ∙ t.other x (λ c. m (Contains-append_left xs (n ∷ []) x c));
       count = omega (arith, t.count, d.1, length-append xs (n ∷ []));
     }
@@ -243,8 +252,9 @@ pub Rises-before : (xs : List ℕ) (i n : ℕ) → Rises xs → slice_get xs i �
 Rises-before [] i n r e c = (let f : ⊥ = cc in f)
 Rises-before (x ∷ xs) zero n r e c = omega (arith, c.1)
 Rises-before (x ∷ xs) (suc i) n r e c = elim (cons-cases x (take i xs) n c) [
-    inl w ↦ (let b : x < n = All-contains (λ y. x < y) xs n r.0 (Contains-at xs i n e) in omega (arith, b, w))
-  | inr w ↦ Rises-before xs i n r.1 e w ]
+  | inl w ↦ (let b : x < n = All-contains (λ y. x < y) xs n r.0 (Contains-at xs i n e) in omega (arith, b, w))
+  | inr w ↦ Rises-before xs i n r.1 e w
+]
 
 -- the step of a loop over a list of objects
 pub TakesDown-here : {A : Type 0} (f : A → ℕ) (xs : List A) (i : ℕ) (x : A) (n : ℕ) (a b : List Bool) → TakesDown (map f (take i xs)) a b → All (IsUp a) (map f xs) → Rises (map f xs) → i < length xs → x ≡ get_or xs i x → n ≡ f x
@@ -261,8 +271,8 @@ pub TakesDown-next : {A : Type 0} (f : A → ℕ) (xs : List A) (i : ℕ) (x : A
 TakesDown-next f xs i x n a b t up rises l e m =
     let h = TakesDown-here f xs i x n a b t up rises l e m in
     subst (λ (z : List ℕ). TakesDown z a (set b (n - 1) false)) (sym (map-take_more f xs i x n l e m))
-      (subst (λ (z : List Bool). TakesDown (map f (take i xs) ++ n ∷ []) a z) (sym (numbered_set-index b n false h.2))
-        (TakesDown-push (map f (take i xs)) n a b t h.0 h.1))
+    (subst (λ (z : List Bool). TakesDown (map f (take i xs) ++ n ∷ []) a z) (sym (numbered_set-index b n false h.2))
+    (TakesDown-push (map f (take i xs)) n a b t h.0 h.1))
 
 -- a live object's flag is up
 pub IsUp-live : (h : Heap) (ups : List Bool) (x : ℕ) → AreFlags h ups → IsLive h x → IsUp ups x
@@ -298,8 +308,9 @@ IsSound-freed h ups downs room xs s t f = record {
         let out : Contains xs x → ⊥ = λ c. (let g : ⊥ = true_false (same_Some true false (sym u ∙ t.down x c)) in g) in
         IsLive-left h xs x (s.flags.up x (sym (t.other x out) ∙ u)) out);
     down = λ x d. elim (Decides-cases xs x) [
-        inl w ↦ Contains-append_right h.freed xs x w
-      | inr w ↦ Contains-append_left h.freed xs x (s.flags.down x (sym (t.other x w) ∙ d)) ];
+      | inl w ↦ Contains-append_right h.freed xs x w
+      | inr w ↦ Contains-append_left h.freed xs x (s.flags.down x (sym (t.other x w) ∙ d))
+    ];
     count = omega (arith, s.flags.count, t.count, length-append h.freed xs);
   };
   room = s.room;
@@ -309,8 +320,8 @@ IsSound-freed h ups downs room xs s t f = record {
 pub IsSound-gone : (k h : Heap) (ups downs : List Bool) (room space : ℕ) (xs gone : List ℕ) → k ≡ h → IsSound k ups room → TakesDown xs ups downs → CanFree h xs → gone ≡ k.freed ++ xs → space ≡ room → IsSound (record k { freed = gone }) downs space
 IsSound-gone k h ups downs room space xs gone same s t f e r =
     subst (λ (l : List ℕ). IsSound (record k { freed = l }) downs space) (sym e)
-      (subst (λ (m : ℕ). IsSound (with_freed k xs) downs m) (sym r)
-        (IsSound-freed k ups downs room xs s t (subst (λ (m : Heap). CanFree m xs) (sym same) f)))
+    (subst (λ (m : ℕ). IsSound (with_freed k xs) downs m) (sym r)
+    (IsSound-freed k ups downs room xs s t (subst (λ (m : Heap). CanFree m xs) (sym same) f)))
 
 -- and in the form that `add_object` leaves
 pub IsSound-roomy : (h : Heap) (ups : List Bool) (room space : ℕ) → IsSound h ups room → length h.fields ≤ space → IsSound h ups space
@@ -321,5 +332,21 @@ pub IsSound-added : (h : Heap) (ups ups' : List Bool) (room space n : ℕ) (rows
 IsSound-added h ups ups' room space n rows gone s few l e f u =
     let whole : IsSound (with_object h n) (ups ++ true ∷ []) space = IsSound-object h ups space n (IsSound-roomy h ups room space s (omega (arith, l))) few l in
     subst (λ (z : List (List (Option ℕ))). IsSound (record { fields = z; freed = gone; vars = h.vars; statics = h.statics }) ups' space) (sym e)
-      (subst (λ (z : List ℕ). IsSound (record { fields = h.fields ++ replicate n None ∷ []; freed = z; vars = h.vars; statics = h.statics }) ups' space) (sym f)
-        (subst (λ (z : List Bool). IsSound (with_object h n) z space) (sym u) whole))
+    (subst (λ (z : List ℕ). IsSound (record { fields = h.fields ++ replicate n None ∷ []; freed = z; vars = h.vars; statics = h.statics }) ups' space) (sym f)
+    (subst (λ (z : List Bool). IsSound (with_object h n) z space) (sym u) whole))
+
+-- the one object of a heap in which nothing names it may be freed
+pub CanFree-lone : (n : ℕ) → CanFree (with_object opening_heap n) (1 ∷ [])
+CanFree-lone n = record {
+  live = All-cons (IsLive (with_object opening_heap n)) 1 [] (record { made = (omega arith, omega arith); kept = λ c. absurd (omega (arith, c.1)) }) (All-nil (IsLive (with_object opening_heap n)));
+  rises = (All-nil (λ y. 1 < y), tt);
+  unnamed = λ x c i. elim i [ inl v ↦ replicate-none 72 x v | inr v ↦ replicate-none 16 x v ];
+  unheld = λ x y l n c f. n (let e : 1 ≡ x = omega (arith, l.made.0, l.made.1) in subst (Contains (1 ∷ [])) e (0, omega arith, refl));
+}
+
+-- the object that was made last is live: k are the tables after h
+pub IsLive-last : (h k : Heap) (x : ℕ) → IsTidy h → x ≡ length h.fields + 1 → length k.fields ≡ length h.fields + 1 → k.freed ≡ h.freed → IsLive k x
+IsLive-last h k x t e len freed = record {
+  made = (omega (arith, e), omega (arith, e, len));
+  kept = λ c. absurd (omega (arith, (t.freed x (subst (λ f. Contains f x) freed c)).1, e));
+}

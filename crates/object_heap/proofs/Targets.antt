@@ -1,15 +1,15 @@
 -- The targets of a heap's graph: an object that isn't freed leads to what its fields hold, and all else
 -- leads nowhere. So the edges of the graph are exactly the fields between live objects.
-use Rattle.std.proofs.Common.{◌≡◌, ℕ, zero, suc, ◌+◌, ◌<◌, ◌≤◌, ◌↔◌, ◌⊎◌, inl, inr, Bool, true, false, List, [], ◌∷◌, length, Option, Some, None, cond, get_or, refl, sym, ap, subst, ◌∙◌, arith}
-use Rattle.std.specs.Prelude.{Contains, slice_get}
-use Rattle.joint_model.specs.Heaps.{Heap, IsMade, IsLive, HasField, numbered_at, fields_of, is_freed}
+use Rattle.std.proofs.Common.{◌≡◌, ℕ, ◌+◌, ◌<◌, ◌≤◌, ◌↔◌, Bool, true, false, List, [], ◌∷◌, length, Option, Some, None, cond, get_or, refl, sym, ap, subst, ◌∙◌, arith}
+use Rattle.std.specs.Prelude.{Contains}
+use Rattle.joint_model.specs.Heaps.{Heap, IsLive, HasField, fields_of, is_freed}
 use Rattle.std.proofs.lemmas.Map.Views.{list_any-from_Contains, Contains-from_any}
 use Rattle.std.proofs.lemmas.Cmp.{nat_eq_equiv}
 use Rattle.std.proofs.lemmas.Bool.{eqb-true}
 use Rattle.std.proofs.lemmas.List.Elements.{Contains-get_or}
 use Rattle.reachability.specs.Marks.{Leads}
 use Rattle.object_heap.specs.Tidy.{IsTidy, live_fields}
-use Rattle.object_heap.proofs.Numbered.{row-there, row-none, numbered-within}
+use Rattle.object_heap.proofs.Numbered.{row-there, numbered-within}
 
 true_false : true ≡ false → ⊥
 true_false e = cc
@@ -29,8 +29,9 @@ Contains-is_freed h x c = list_any-from_Contains nat_eq_equiv x h.freed c
 -- a live object isn't freed
 is_freed-live : (h : Heap) (x : ℕ) → IsLive h x → is_freed h x ≡ false
 is_freed-live h x l = elim (is_freed h x) as (λ b. (is_freed h x ≡ b) → b ≡ false) [
-    true ↦ λ e. absurd (l.kept (is_freed-Contains h x e))
-  | false ↦ λ e. refl ] refl
+  | true ↦ λ e. absurd (l.kept (is_freed-Contains h x e))
+  | false ↦ λ e. refl
+] refl
 
 -- the places of a live object are its fields
 pub live_fields-live : (h : Heap) (x : ℕ) → IsLive h x → live_fields h x ≡ fields_of h x
@@ -57,11 +58,13 @@ live_fields-some h x i l = (live_fields-held h x (get_or (live_fields h x) i Non
 
 -- the edges of the graph are the fields between live objects
 pub HasField-targets : (h : Heap) → IsTidy h → (x y : ℕ) → HasField h x y ↔ Contains (live_fields h x) (Some y)
-HasField-targets h t x y =
-    ((λ f. subst (λ fs. Contains fs (Some y)) (sym (live_fields-live h x f.live)) f.field)
-    , (λ c. (let p = live_fields-held h x (Some y) c in record { live = p.0; field = p.1; there = t.held x y p.0 p.1 })))
+HasField-targets h t x y = (
+  (λ f. subst (λ fs. Contains fs (Some y)) (sym (live_fields-live h x f.live)) f.field),
+  (λ c. (let p = live_fields-held h x (Some y) c in record { live = p.0; field = p.1; there = t.held x y p.0 p.1 })),
+)
 
 pub HasField-Leads : (h : Heap) → IsTidy h → (x y : ℕ) → HasField h x y ↔ Leads (length h.fields + 1) (live_fields h) x y
-HasField-Leads h t x y =
-    ((λ f. (let m : x ≤ length h.fields = f.live.made.1 in (omega arith, (HasField-targets h t x y).0 f)))
-    , (λ c. (HasField-targets h t x y).1 c.1))
+HasField-Leads h t x y = (
+  (λ f. (let m : x ≤ length h.fields = f.live.made.1 in (omega arith, (HasField-targets h t x y).0 f))),
+  (λ c. (HasField-targets h t x y).1 c.1),
+)

@@ -1,6 +1,6 @@
 -- A flag for each object of a heap, true exactly for the live ones, so that one look tells. (This project's
 -- own.)
-use Rattle.std.specs.Prelude.{◌≡◌, ℕ, ◌+◌, ◌≤◌, Bool, true, false, List, [], ◌∷◌, Contains, Option, Some, length}
+use Rattle.std.specs.Prelude.{◌≡◌, ℕ, ◌+◌, ◌≤◌, Bool, true, false, List, [], ◌∷◌, Contains, Some, length}
 use Rattle.joint_model.specs.Heaps.{Heap, IsLive, numbered_at}
 use Rattle.object_heap.specs.Tidy.{IsTidy}
 

@@ -55,11 +55,17 @@ impl<N: Number> ObjectHeap<N> {
         }
     }
 
+    /// What holds of every heap, for the proofs of callers. It does nothing.
+    pub fn tidy(&self)
+        ensures { IsTidy self.now }
+    {
+        let _ = &self.fields;
+    }
+
     /// How many objects were made: the number of the last one.
     pub fn made(&self) -> u32
         ensures made { result ≡ length self.now.fields }
         ensures most { result ≤ MOST }
-        ensures tidy { IsTidy self.now }
     {
         self.fields.len() as u32
     }
@@ -129,6 +135,7 @@ impl<N: Number> ObjectHeap<N> {
     pub fn add_object(&mut self, fields: u8) -> Result<u32, AllocError>
         requires { length self.old.fields < MOST }
         ensures ok { IfOk result (λ x. (x ≡ next_number self.old) × (self.new ≡ with_object self.old fields)) }
+        ensures live { IfOk result (IsLive self.new) }
         ensures err { OnErr result (self.new ≡ self.old) }
     {
         let row = vec![in self.alloc; None; fields as usize]?;

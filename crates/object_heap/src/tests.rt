@@ -12,10 +12,10 @@ fn describe(heap: &ObjectHeap<MNum>) -> (u32, u32, bool) {
 #[test]
 fn runs_each_operation(rt: HostRuntime) -> Result<(), AllocError> {
     let mut heap: ObjectHeap<MNum> = ObjectHeap::new(rt.alloc());
-    assert_eq!(rt; heap.copy(0, 1), Done::Empty);
-    assert_eq!(rt; heap.load(0, 0), Done::Null);
     let first = heap.add_object(2)?;
     heap.set_var(0, Some(first));
+    assert_eq!(rt; heap.copy(1, 3), Done::Empty);
+    assert_eq!(rt; heap.load(1, 0), Done::Null);
     assert_eq!(rt; heap.copy(1, 0), Done::Object(1));
     assert_eq!(rt; heap.set(0, 1, Some(1)), Done::Ok);
     assert_eq!(rt; heap.set(0, 2, None), Done::Range);

@@ -11,7 +11,7 @@ ghost use Rattle.joint_model.specs.Histories.{peer_numbers};
 ghost use Rattle.joint_model.specs.Lines.{IsManagedThread, IsDriver, is_peer_event};
 ghost use Rattle.joint_model.specs.Peers.{pair_made, issued_since, peer_of};
 ghost use Rattle.joint_model.specs.PeerReplay.{fresh_row};
-ghost use Rattle.object_heap.specs.Tidy.{CanFree};
+ghost use Rattle.object_heap.specs.Tidy.{CanFree, IsTidy};
 ghost use Rattle.peer_heap.specs.Answers.{IsStep, stepped, TellsOf, IsOpen, ExistedAt};
 ghost use Rattle.peer_heap.specs.Handles.{peers_with, row_as, IsTabled, LeadsToLive};
 ghost use Rattle.peer_heap.specs.Sides.{opening_side};
@@ -292,6 +292,7 @@ impl PeerSide {
     pub fn made(&self) -> u32
         ensures made { result ≡ length self.now.peers.heap.fields }
         ensures most { result ≤ MOST }
+        ensures tidy { IsTidy self.now.peers.heap }
     {
         self.heap.made()
     }

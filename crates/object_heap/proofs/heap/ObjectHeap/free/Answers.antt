@@ -1,5 +1,5 @@
 -- The flags of the freed objects are taken down, and the heap stays tidy.
-use Rattle.std.proofs.Common.{◌≡◌, ◌∙◌, ap, map, subst, refl}
+use Rattle.std.proofs.Common.{◌∙◌, ap, map, subst}
 use Rattle.std.proofs.lemmas.List.{map-append}
 use Rattle.joint_model.specs.Heaps.{Heap}
 use Rattle.object_heap.specs.Flags.{AreFlags}
@@ -15,5 +15,5 @@ take_down-requires-clause-up g c =
 pub invariant_of-self : goal.invariant_of-self
 invariant_of-self g c =
     IsSound-gone _ c.args.self.now c.self.inside.live.items c.take_down.new.live.items _ _ (map g.N.Number.number c.args.xs.now) (map g.N.Number.number c.take_down.new.freed.items)
-      c.self.view_is c.self.invariant c.take_down.ensures.live c.requires
-      (ap (map g.N.Number.number) c.take_down.ensures.freed ∙ map-append g.N.Number.number c.self.inside.freed.items c.args.xs.now) c.take_down.ensures.capacity
+    c.self.view_is c.self.invariant c.take_down.ensures.live c.requires
+    (ap (map g.N.Number.number) c.take_down.ensures.freed ∙ map-append g.N.Number.number c.self.inside.freed.items c.args.xs.now) c.take_down.ensures.capacity

@@ -1,5 +1,5 @@
 -- The flag of the object tells.
-use Rattle.std.proofs.Common.{◌≡◌, ◌≤◌, length, arith, subst}
+use Rattle.std.proofs.Common.{◌≤◌, length, arith, subst}
 use Rattle.joint_model.specs.Heaps.{Heap}
 use Rattle.object_heap.specs.Flags.{AreFlags}
 use Rattle.object_heap.proofs.Numbered.{numbered-index}

@@ -1,0 +1,4 @@
+pub mod Parts
+pub mod Packing
+pub mod Packed
+pub mod Built

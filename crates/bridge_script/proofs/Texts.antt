@@ -1,0 +1,177 @@
+-- A text falls into lines in one way: no line has a newline, so the first newline ends the first line, and
+-- what stands behind it is the text of the other lines. So two scripts with one text are the same, and a line
+-- that no script goes on with, behind the lines of a script, excludes every script with that text.
+use Rattle.std.proofs.Common.{zero, suc, slice_get, slice_range, ◌-◌, ◌≡◌, ◌≢◌, ℕ, ◌+◌, ◌<◌, ◌≤◌, cond, List, [], ◌∷◌, ◌++◌, length, take, drop, get_or, sym, ◌∙◌, ap, refl, inl, inr, ◌⊎◌, arith, append_assoc, append-nil, length-append, length-drop}
+use Rattle.std.specs.List.{All}
+use Rattle.std.proofs.lemmas.List.{get_or-drop, drop-append-le, take-append-le, length-take-le}
+use Rattle.std.proofs.lemmas.Bool.{cases_lt}
+use Rattle.std.proofs.Math.ListN.{get_or-append}
+use Rattle.bridge_script.proofs.Bytes.{rest_of}
+use Rattle.bridge_script.proofs.Cuts.{cut_at, free_before}
+use Rattle.std.proofs.lemmas.List.Elements.{All-head, All-tail, All-take, All-get_or, All-push}
+use Rattle.std.proofs.lemmas.List.Sums.{sum_by-append, sum_by_push}
+use Rattle.std.proofs.Math.Seq.{take-add, take-append_seam, get_or-append_seam}
+use Rattle.joint_model.specs.declared.names.Thread.{Thread}
+use Rattle.joint_model.specs.declared.lines.Act.{Act}
+use Rattle.bridge_script.specs.declared.faults.ScriptFault.{ScriptFault}
+use Rattle.bridge_script.specs.Words.{line_text}
+use Rattle.bridge_script.specs.Scripts.{line_at, IsBuilt, IsScript, IsText, IsFault, IsNoText, script_text_of, cycles_of, is_cycle}
+use Rattle.bridge_script.specs.Steps.{EndsLine}
+use Rattle.bridge_script.proofs.Forms.{same_line, line_free, line_some}
+
+-- what stands before the first c, and what stands behind it
+pub cut_once : (c : ℕ) (a b x y : List ℕ) → All (λ k. k ≢ c) a → All (λ k. k ≢ c) b → a ++ (c ∷ x) ≡ b ++ (c ∷ y) → (a ≡ b) × (x ≡ y)
+cut_once c [] [] x y p q e = (refl, cc)
+cut_once c [] (k ∷ b) x y p q e = absurd (All-head (λ z. z ≢ c) k b q (sym cc))
+cut_once c (k ∷ a) [] x y p q e = absurd (All-head (λ z. z ≢ c) k a p (cc))
+cut_once c (k ∷ a) (j ∷ b) x y p q e =
+    let h : k ≡ j = cc in
+    let t : a ++ (c ∷ x) ≡ b ++ (c ∷ y) = cc in
+    let r = cut_once c a b x y (All-tail (λ z. z ≢ c) k a p) (All-tail (λ z. z ≢ c) j b q) t in
+    let u = r.0 in
+    (cc, r.1)
+
+pub text_push : (script : List (Thread × Act)) (line : Thread × Act) → script_text_of (script ++ line ∷ []) ≡ script_text_of script ++ (line_text line ++ 10 ∷ [])
+text_push [] line = refl
+text_push (x ∷ script) line = ap (λ t. line_text x ++ (10 ∷ t)) (text_push script line) ∙ sym (append_assoc (line_text x) (10 ∷ script_text_of script) (line_text line ++ 10 ∷ []))
+
+-- the first lines of a script are a script
+pub script_part : (front more : List (Thread × Act)) → IsScript (front ++ more) → IsScript front
+script_part front more s = record {
+  built = rw take-append_seam at (All-take IsBuilt (length front) (front ++ more) s.built);
+  lines = omega (arith, length-append front more, s.lines);
+  cycles = omega (arith, sum_by-append (λ l. cond (is_cycle l) 1 0) front more, s.cycles);
+}
+
+pub last_built : (front : List (Thread × Act)) (line : Thread × Act) → IsScript (front ++ line ∷ []) → IsBuilt line
+last_built front line s = rw get_or-append_seam at (All-get_or IsBuilt (front ++ line ∷ []) (length front) line (omega (arith, length-append front (line ∷ []))) s.built)
+
+-- a script grows by a built line within the limits
+pub script_grown : (old : List (Thread × Act)) (line : Thread × Act) → IsScript old → IsBuilt line → length old < 20000 → cycles_of old + cond (is_cycle line) 1 0 ≤ 256 → IsScript (old ++ line ∷ [])
+script_grown old line s b l c = record {
+  built = All-push IsBuilt old line s.built b;
+  lines = omega (arith, length-append old (line ∷ []));
+  cycles = omega (arith, sum_by_push (λ l. cond (is_cycle l) 1 0) old line);
+}
+
+-- one cycle too many
+pub no_more_cycles : (old : List (Thread × Act)) (line next : Thread × Act) → IsBuilt line → 256 < cycles_of old + cond (is_cycle line) 1 0 → line_text next ≡ line_text line → IsScript (old ++ next ∷ []) → ⊥
+no_more_cycles old line next b more e s =
+    let same = same_line next line (last_built old next s) b e in
+    let count = sum_by_push (λ l. cond (is_cycle l) 1 0) old next in
+    omega (arith, s.cycles, rw same at count, ap (λ l. cycles_of (old ++ l ∷ [])) same)
+
+-- a script whose text goes on, behind the lines `before`, with a line, goes on with that line
+pub record GoesOn (script before : List (Thread × Act)) (text : List ℕ) : Type 0 where
+  pub next : Thread × Act
+  pub more : List (Thread × Act)
+  pub whole : script ≡ (before ++ next ∷ []) ++ more
+  pub read : line_text next ≡ text
+
+pub goes_on : (script before : List (Thread × Act)) (extra line rest : List ℕ) → All IsBuilt script → All IsBuilt before → All (λ b. b ≢ 10) line
+    → script_text_of script ++ extra ≡ script_text_of before ++ (line ++ (10 ∷ rest)) → length (script_text_of before) < length (script_text_of script) → GoesOn script before line
+goes_on [] before extra line rest hs hb hl e l = absurd (omega arith)
+goes_on (x ∷ script) [] extra line rest hs hb hl e l =
+    let r = cut_once 10 (line_text x) line (script_text_of script ++ extra) rest (line_free x (All-head IsBuilt x script hs)) hl (sym (append_assoc (line_text x) (10 ∷ script_text_of script) extra) ∙ e) in
+    record { next = x; more = script; whole = refl; read = r.0 }
+goes_on (x ∷ script) (y ∷ before) extra line rest hs hb hl e l =
+    let r = cut_once 10 (line_text x) (line_text y) (script_text_of script ++ extra) (script_text_of before ++ (line ++ (10 ∷ rest))) (line_free x (All-head IsBuilt x script hs)) (line_free y (All-head IsBuilt y before hb))
+    (sym (append_assoc (line_text x) (10 ∷ script_text_of script) extra) ∙ (e ∙ append_assoc (line_text y) (10 ∷ script_text_of before) (line ++ (10 ∷ rest)))) in
+    let same = same_line x y (All-head IsBuilt x script hs) (All-head IsBuilt y before hb) r.0 in
+    let shorter : length (script_text_of before) < length (script_text_of script) = omega (arith, l, ap length r.0, length-append (line_text x) (10 ∷ script_text_of script), length-append (line_text y) (10 ∷ script_text_of before)) in
+    let g = goes_on script before extra line rest (All-tail IsBuilt x script hs) (All-tail IsBuilt y before hb) hl r.1 shorter in
+    record { next = g.next; more = g.more; whole = let w = g.whole in cc; read = g.read }
+
+-- a faulty line excludes every script
+pub no_text : (bytes : List ℕ) (fault : ScriptFault) → IsFault bytes fault → IsNoText bytes
+no_text bytes fault f script t =
+    let finish : GoesOn script f.before f.line → ⊥ = λ g.
+    f.faulty g.next g.read (script_part (f.before ++ g.next ∷ []) g.more (rw (g.whole) at t.lawful)) (omega (arith, t.size)) in
+    elim t.text [
+      | inl e ↦ finish (goes_on script f.before (10 ∷ []) f.line f.rest t.lawful.built f.lawful.built f.whole (ap (λ b. b ++ 10 ∷ []) (sym e) ∙ f.stands) (omega (arith, f.some, ap length e)))
+      | inr h ↦ finish (goes_on script f.before [] f.line f.rest t.lawful.built f.lawful.built f.whole (append-nil (script_text_of script) ∙ (sym h.1 ∙ f.stands)) (omega (arith, f.some, ap length h.1, length-append bytes (10 ∷ []))))
+    ]
+
+-- a text and the same text with one more newline aren't both texts of scripts
+not_both : (s t : List (Thread × Act)) → All IsBuilt s → All IsBuilt t → script_text_of t ≡ script_text_of s ++ 10 ∷ [] → ⊥
+not_both s [] p q e = omega (arith, ap length e, length-append (script_text_of s) (10 ∷ []))
+not_both [] (y ∷ t) p q e = omega (arith, ap length e, length-append (line_text y) (10 ∷ script_text_of t), line_some y (All-head IsBuilt y t q))
+not_both (x ∷ s) (y ∷ t) p q e =
+    let r = cut_once 10 (line_text y) (line_text x) (script_text_of t) (script_text_of s ++ 10 ∷ []) (line_free y (All-head IsBuilt y t q)) (line_free x (All-head IsBuilt x s p)) (e ∙ append_assoc (line_text x) (10 ∷ script_text_of s) (10 ∷ [])) in
+    not_both s t (All-tail IsBuilt x s p) (All-tail IsBuilt y t q) r.1
+
+same_lines : (s t : List (Thread × Act)) → All IsBuilt s → All IsBuilt t → script_text_of s ≡ script_text_of t → s ≡ t
+same_lines [] [] p q e = refl
+same_lines [] (y ∷ t) p q e = absurd (omega (arith, ap length e, length-append (line_text y) (10 ∷ script_text_of t)))
+same_lines (x ∷ s) [] p q e = absurd (omega (arith, ap length e, length-append (line_text x) (10 ∷ script_text_of s)))
+same_lines (x ∷ s) (y ∷ t) p q e =
+    let r = cut_once 10 (line_text x) (line_text y) (script_text_of s) (script_text_of t) (line_free x (All-head IsBuilt x s p)) (line_free y (All-head IsBuilt y t q)) e in
+    let first = same_line x y (All-head IsBuilt x s p) (All-head IsBuilt y t q) r.0 in
+    let others = same_lines s t (All-tail IsBuilt x s p) (All-tail IsBuilt y t q) r.1 in
+    cc
+
+-- a text is a text of one script
+pub one_script : (bytes : List ℕ) (s t : List (Thread × Act)) → IsText bytes s → IsText bytes t → s ≡ t
+one_script bytes s t a b = elim a.text [
+  | inl e ↦ elim b.text [
+    | inl f ↦ same_lines s t a.lawful.built b.lawful.built (sym e ∙ f)
+    | inr f ↦ absurd (not_both s t a.lawful.built b.lawful.built (sym f.1 ∙ ap (λ x. x ++ 10 ∷ []) e))
+  ]
+  | inr e ↦ elim b.text [
+    | inl f ↦ absurd (not_both t s b.lawful.built a.lawful.built (sym e.1 ∙ ap (λ x. x ++ 10 ∷ []) f))
+    | inr f ↦ same_lines s t a.lawful.built b.lawful.built (sym e.1 ∙ f.1)
+  ]
+]
+
+-- the line of a text from a place on ends at the first newline from there on
+pub ends_line : (bytes : List ℕ) (at n : ℕ) → at < length bytes → n ≤ length (take (length bytes - at) (drop at bytes)) → ((k : ℕ) → k < n → get_or (take (length bytes - at) (drop at bytes)) k 0 ≡ 10 → ⊥)
+    → (n < length (take (length bytes - at) (drop at bytes)) → get_or (take (length bytes - at) (drop at bytes)) n 0 ≡ 10) → EndsLine bytes at (at + n)
+ends_line bytes at n l w before found =
+    let e = rest_of at bytes in
+    let w' = rw e at w in
+    let inner : at + n ≤ length bytes = omega (arith, w', length-drop at bytes) in
+    let cut : at + n - at ≡ n = omega arith in
+    let newline : get_or (bytes ++ 10 ∷ []) (at + n) 0 ≡ 10 = elim (cases_lt n (length (drop at bytes))) [
+      | inl h ↦ (let f = rw e at found in get_or-append bytes (10 ∷ []) 0 (at + n) (omega (arith, length-drop at bytes)) ∙ (sym (get_or-drop at bytes n 0) ∙ f h))
+      | inr h ↦ (let last : length bytes ≡ at + n = omega (arith, length-drop at bytes) in rw (← last) (get_or-append_seam bytes 10 [] 0))
+    ] in
+    let behind : drop at (bytes ++ 10 ∷ []) ≡ drop at bytes ++ 10 ∷ [] = drop-append-le at bytes (10 ∷ []) (omega arith) in
+    let line : take n (drop at (bytes ++ 10 ∷ [])) ≡ take n (drop at bytes) = ap (take n) behind ∙ take-append-le n (drop at bytes) (10 ∷ []) w' in
+    let front : take (at + n) (bytes ++ 10 ∷ []) ≡ take at (bytes ++ 10 ∷ []) ++ take n (drop at bytes) = take-add at n (bytes ++ 10 ∷ []) ∙ ap (λ t. take at (bytes ++ 10 ∷ []) ++ t) line in
+    let split = cut_at 10 (at + n) (bytes ++ 10 ∷ []) (omega (arith, length-append bytes (10 ∷ []))) newline in
+    record {
+      from = omega arith;
+      within = inner;
+      whole = rw cut (free_before 10 n (drop at bytes) w' (rw e at before));
+      stands = rw cut (split ∙ (ap (λ t. t ++ 10 ∷ drop (at + n + 1) (bytes ++ 10 ∷ [])) front ∙ append_assoc (take at (bytes ++ 10 ∷ [])) (take n (drop at bytes)) (10 ∷ drop (at + n + 1) (bytes ++ 10 ∷ []))));
+    }
+
+take_front : (n : ℕ) (front more : List ℕ) → length front ≡ n → take n (front ++ more) ≡ front
+take_front n front more e = rw (← e) (take-append_seam front more)
+
+-- what was read, up to the end of the line that was read next
+pub reads_on : (bytes : List ℕ) (at end : ℕ) → EndsLine bytes at end → at < length bytes → take (end + 1) (bytes ++ 10 ∷ []) ≡ take at (bytes ++ 10 ∷ []) ++ (slice_range bytes at end ++ 10 ∷ [])
+reads_on bytes at end e l =
+    let a = take at (bytes ++ 10 ∷ []) in
+    let line = slice_range bytes at end in
+    let rest = drop (end + 1) (bytes ++ 10 ∷ []) in
+    let la : length a ≡ at = length-take-le at (bytes ++ 10 ∷ []) (omega (arith, length-append bytes (10 ∷ []))) in
+    let ll : length line ≡ end - at = length-take-le (end - at) (drop at bytes) (omega (arith, e.from, e.within, length-drop at bytes)) in
+    let size : length (a ++ (line ++ 10 ∷ [])) ≡ end + 1 = omega (arith, length-append a (line ++ 10 ∷ []), length-append line (10 ∷ []), la, ll, e.from) in
+    let whole : bytes ++ 10 ∷ [] ≡ (a ++ (line ++ 10 ∷ [])) ++ rest = e.stands ∙ (ap (λ t. a ++ t) (sym (append_assoc line (10 ∷ []) rest)) ∙ sym (append_assoc a (line ++ 10 ∷ []) rest)) in
+    ap (take (end + 1)) whole ∙ take_front (end + 1) (a ++ (line ++ 10 ∷ [])) rest size
+
+-- the length of what was read so far
+pub length_so_far : (bytes : List ℕ) (at : ℕ) → at ≤ length bytes → length (take at (bytes ++ 10 ∷ [])) ≡ at
+length_so_far bytes at l = length-take-le at (bytes ++ 10 ∷ []) (omega (arith, length-append bytes (10 ∷ [])))
+
+-- lines count from 1
+pub line_at_from : (script : List (Thread × Act)) (i : ℕ) → 0 < i → line_at script i ≡ slice_get script (i - 1)
+line_at_from script zero l = absurd (omega arith)
+line_at_from script (suc i) l = let e : suc i - 1 ≡ i = omega arith in rw e refl
+
+pub full_text : (script : List (Thread × Act)) → IsScript script → length (script_text_of script) ≤ 8388608 → IsText (script_text_of script) script
+full_text script h l = record { lawful = h; text = inl refl; size = l }
+
+pub one_more : (bytes : List ℕ) (script : List (Thread × Act)) → IsText bytes script → (bytes ≡ script_text_of script) ⊎ (bytes ++ 10 ∷ [] ≡ script_text_of script)
+one_more bytes script t = elim t.text [ inl e ↦ inl e | inr h ↦ inr h.1 ]

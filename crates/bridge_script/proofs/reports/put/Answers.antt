@@ -1,0 +1,30 @@
+use Rattle.std.proofs.Common.{take, drop, sym, arith, take-add, take-append-drop, length-drop}
+use Rattle.bridge_script.proofs.Bytes.{rest_of}
+use Rattle.bridge_script.proofs.Written.{Appends-then, Appends-kept}
+use Rattle.bridge_script.proofs.reports.put.Goals as goal
+
+pub loop-at-preserved : goal.loop-at-preserved
+loop-at-preserved g c =
+    let i = c.loop-at.invariant in
+    let e = rest_of c.loop-at.at c.args.text.now in
+    let w = rw e at c.in-Ok.ensures in
+    record {
+      within = omega (arith, w.bound, length-drop c.loop-at.at c.args.text.now);
+      so_far = rw (take-add c.loop-at.at c.in-Ok.count c.args.text.now) (Appends-then (g.K.Sink.held c.args.out.now) (g.K.Sink.held c.loop-at.out) (g.K.Sink.held c.write.new.self) (take c.loop-at.at c.args.text.now) (take c.in-Ok.count (drop c.loop-at.at c.args.text.now)) i.so_far w.bytes);
+      later = omega (arith, w.cause.later);
+    }
+
+pub returns-in-Err : goal.returns-in-Err
+returns-in-Err g c =
+    let i = c.loop-at.invariant in
+    let w = c.in-Err.ensures in
+    record {
+      whole = tt;
+      part = record {
+        part = take c.loop-at.at c.args.text.now;
+        rest = drop c.loop-at.at c.args.text.now;
+        whole = sym (take-append-drop c.loop-at.at c.args.text.now);
+        appends = Appends-kept (g.K.Sink.held c.args.out.now) (g.K.Sink.held c.loop-at.out) (g.K.Sink.held c.write.new.self) (take c.loop-at.at c.args.text.now) i.so_far w.bytes;
+      };
+      cause = record { later = omega (arith, w.cause.later); failed = omega (arith, w.cause.failed) };
+    }

@@ -1,0 +1,10 @@
+pub mod Outside
+pub mod Words
+pub mod Scripts
+pub mod Steps
+pub mod Causes
+pub mod Reading
+pub mod Laws
+pub mod Lists
+pub mod Report
+pub mod Drafts

@@ -1,0 +1,43 @@
+-- What reading a script from a source does to it, and what the answer rests on.
+use Rattle.std.specs.Prelude.{◌≡◌, ℕ, ◌≤◌, ◌⊎◌, List, length, Option}
+use Rattle.std.specs.Io.KnownBytes.{Consumes, IsAtEnd}
+use Rattle.joint_model.specs.declared.names.Thread.{Thread}
+use Rattle.joint_model.specs.declared.lines.Act.{Act}
+use Rattle.bridge_script.specs.declared.faults.ScriptFault.{ScriptFault}
+use Rattle.bridge_script.specs.declared.faults.ScriptError.{ScriptError}
+use Rattle.bridge_script.specs.declared.faults.ScriptError.TheVariants.{OutOfMemory, ReadFault, Refused}
+use Rattle.bridge_script.specs.Outside.{Rose}
+use Rattle.bridge_script.specs.Scripts.{IsText, IsFault, IsNoText}
+
+-- these bytes were taken from a source: to its end, or up to one byte past the limit
+pub record Took (left rest : Option (List ℕ)) (input : List ℕ) : Type 0 where
+  pub taken : Consumes left rest input
+  pub stopped : IsAtEnd rest ⊎ (length input ≡ 8388609)
+  pub size : length input ≤ 8388609
+
+-- the source was read to its end, and what was taken is a text of the script
+pub record TookScript (left rest : Option (List ℕ)) (script : List (Thread × Act)) : Type 0 where
+  pub input : List ℕ
+  pub taken : Consumes left rest input
+  pub ended : IsAtEnd rest
+  pub text : IsText input script
+
+-- the source was read to its end or up to one byte past the limit, and what was taken is no text of a
+-- script: the fault names its first faulty line
+pub record TookFault (left rest : Option (List ℕ)) (fault : ScriptFault) : Type 0 where
+  pub input : List ℕ
+  pub took : Took left rest input
+  pub faulty : IsFault input fault
+  pub none : IsNoText input
+
+-- why a source gave no bytes: no memory, or its count of faults rose
+abbrev pub IsReadError : ℕ → ℕ → ScriptError → Type 0
+IsReadError before now OutOfMemory = Unit {0}
+IsReadError before now ReadFault = Rose before now
+IsReadError before now (Refused fault) = ⊥
+
+-- why a source gave no script: no memory, or its count of faults rose, or what it gave is none
+abbrev pub IsNoScript : Option (List ℕ) → Option (List ℕ) → ℕ → ℕ → ScriptError → Type 0
+IsNoScript left rest before now OutOfMemory = Unit {0}
+IsNoScript left rest before now ReadFault = Rose before now
+IsNoScript left rest before now (Refused fault) = TookFault left rest fault

@@ -1,0 +1,97 @@
+-- Which bytes are a script, and which of their lines is the first that is none.
+use Rattle.std.specs.Prelude.{None, zero, suc, slice_get, ◌≡◌, ◌≢◌, ℕ, ◌+◌, ◌≤◌, ◌<◌, ◌⊎◌, min, Bool, true, false, List, [], ◌∷◌, ◌++◌, length, Option, All, count_by}
+use Rattle.joint_model.specs.declared.names.Thread.{Thread}
+use Rattle.joint_model.specs.declared.names.Thread.TheVariants.{M, P, C}
+use Rattle.joint_model.specs.declared.names.Kind.TheVariants as kind
+use Rattle.joint_model.specs.declared.names.Sort.TheVariants as sort
+use Rattle.joint_model.specs.declared.names.PhaseWord.TheVariants as phase
+use Rattle.joint_model.specs.declared.lines.Act.{Act}
+use Rattle.joint_model.specs.declared.lines.Act.TheVariants as act
+use Rattle.bridge_script.specs.declared.faults.ScriptFault.{ScriptFault}
+use Rattle.bridge_script.specs.declared.faults.ScriptError.{ScriptError}
+use Rattle.bridge_script.specs.declared.faults.ScriptError.TheVariants.{OutOfMemory, ReadFault, Refused}
+use Rattle.bridge_script.specs.declared.faults.Cause.TheVariants.{Unknown}
+use Rattle.joint_model.specs.Lines.{IsVar, IsVarOrNone}
+use Rattle.bridge_script.specs.Words.{line_text}
+
+-- the act of a line of a managed thread that is built, with each place within its limits:
+-- `bridge V bridge N user F`, `set V I W|-`, `drop V`
+abbrev pub IsBuiltManaged : Act → Type 0
+IsBuiltManaged (act.Bridge v kind.Bridge fields sort.User peer_fields) = IsVar v × (fields ≤ 16) × (peer_fields ≤ 16)
+IsBuiltManaged (act.Set v i w) = IsVar v × (i ≤ 255) × IsVarOrNone w
+IsBuiltManaged (act.Drop v) = IsVar v
+IsBuiltManaged _ = ⊥
+
+-- the act of a line of the driver that is built: `cycle`
+abbrev pub IsBuiltDriver : Act → Type 0
+IsBuiltDriver (act.PhaseLine phase.Cycle) = Unit {0}
+IsBuiltDriver _ = ⊥
+
+-- the line is one of those that are built: of thread m1 or of c
+abbrev pub IsBuilt : Thread × Act → Type 0
+IsBuilt (M n, a) = (n ≡ 1) × IsBuiltManaged a
+IsBuilt (P n, a) = ⊥
+IsBuilt (C, a) = IsBuiltDriver a
+
+-- whether a line is `c cycle`
+abbrev pub is_cycle : Thread × Act → Bool
+is_cycle (C, act.PhaseLine phase.Cycle) = true
+is_cycle _ = false
+
+-- how many lines are `c cycle`
+abbrev pub cycles_of : List (Thread × Act) → ℕ
+cycles_of lines = count_by is_cycle lines
+
+-- the lines of a script one after another, each with its newline
+abbrev pub script_text_of : List (Thread × Act) → List ℕ
+script_text_of [] = []
+script_text_of (line ∷ lines) = line_text line ++ (10 ∷ script_text_of lines)
+
+-- the lines are lines of a script: each is built, at most 20,000, of which at most 256 are `c cycle`
+pub record IsScript (script : List (Thread × Act)) : Type 0 where
+  pub built : All IsBuilt script
+  pub lines : length script ≤ 20000
+  pub cycles : cycles_of script ≤ 256
+
+-- the bytes are the script's text, or that text without its last newline where there is a line; and they
+-- are at most 8,388,608
+pub record IsText (bytes : List ℕ) (script : List (Thread × Act)) : Type 0 where
+  pub lawful : IsScript script
+  pub text : (bytes ≡ script_text_of script) ⊎ ((0 < length script) × (bytes ++ 10 ∷ [] ≡ script_text_of script))
+  pub size : length bytes ≤ 8388608
+
+-- how many bytes there are up to the end of a line that stands behind the text `before`, its newline counted
+-- where it has one
+abbrev pub end_of : List ℕ → List ℕ → List ℕ → ℕ
+end_of bytes before line = min (length before + length line + 1) (length bytes)
+
+-- the fault names the first line that is no line of a script, and why: the lines `before` it are a script's,
+-- it has at least one byte, its newline counted, and no script within the limits goes on with it
+pub record IsFault (bytes : List ℕ) (fault : ScriptFault) : Type 0 where
+  pub before : List (Thread × Act)
+  pub line : List ℕ
+  pub rest : List ℕ
+  pub stands : bytes ++ 10 ∷ [] ≡ script_text_of before ++ (line ++ 10 ∷ rest)
+  pub some : length (script_text_of before) < length bytes
+  pub whole : All (λ b. b ≢ 10) line
+  pub lawful : IsScript before
+  pub size : length (script_text_of before) ≤ 8388608
+  pub number : fault.line ≡ length before + 1
+  pub faulty : (next : Thread × Act) → line_text next ≡ line → IsScript (before ++ next ∷ []) → end_of bytes (script_text_of before) line ≤ 8388608 → ⊥
+  pub cause : fault.cause ≡ Unknown
+
+-- no script has these bytes as its text
+abbrev pub IsNoText : List ℕ → Type 0
+IsNoText bytes = (script : List (Thread × Act)) → IsText bytes script → ⊥
+
+-- what `parse` may answer in place of a script: the first faulty line where there is no script; never a read
+-- fault
+abbrev pub IsRefusal : List ℕ → ScriptError → Type 0
+IsRefusal bytes OutOfMemory = Unit {0}
+IsRefusal bytes ReadFault = ⊥
+IsRefusal bytes (Refused fault) = IsFault bytes fault × IsNoText bytes
+
+-- the line of that number, counted from 1
+abbrev pub line_at : List (Thread × Act) → ℕ → Option (Thread × Act)
+line_at script zero = None
+line_at script (suc i) = slice_get script i

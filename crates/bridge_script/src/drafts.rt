@@ -1,0 +1,234 @@
+// A line of a report, put together in a fixed buffer: it takes no memory, so it can't fail.
+
+ghost use Rattle.std.specs.Prelude.{◌≡◌, ◌+◌, ◌≤◌, [], ◌∷◌, ◌++◌, length, codes, decimal};
+ghost use Rattle.bridge_script.specs.Drafts.{Adds, AddsWords};
+ghost use Rattle.bridge_script.specs.Words.{var_text, optional_text, kind_text, sort_text, peer_static, managed_static, own_static, global_text, cell_text, phase_word_text};
+ghost use Rattle.bridge_script.specs.Report.{managed_text, peer_text, handle_text, phase_text};
+
+use itoa::Buffer;
+use joint_model::{
+    Cell, GName, HNum, Kind, MNum, PNum, Phase, PhaseWord, Sort, StaticNo, Thread, Var,
+};
+use std::marker::Model;
+
+/// The bytes of the buffer: more than a line without its list has.
+const SIZE: usize = 512;
+
+/// A line that is put together.
+#[derive(Drop)]
+pub struct Line {
+    bytes: [u8; 512],
+    len: usize,
+}
+
+impl Model for Line {
+    ghost use Rattle.std.specs.Prelude.{◌-◌, ◌≤◌, take};
+    ghost use Rattle.bridge_script.specs.Drafts.{Draft};
+
+    ghost Value = { Draft };
+
+    ghost view = { λ l. record { text = take l.len l.bytes; room = 512 - l.len } };
+
+    ghost invariant = { λ l. l.len ≤ 512 };
+}
+
+impl Line {
+    /// The empty line.
+    pub fn new() -> Line
+        ensures text { result.text ≡ [] }
+        ensures room { result.room ≡ 512 }
+    {
+        Line {
+            bytes: [0; 512],
+            len: 0,
+        }
+    }
+
+    /// Its text so far.
+    pub fn bytes(&self) -> &[u8]
+        ensures { result.now ≡ self.now.text }
+    {
+        &self.bytes[..self.len]
+    }
+
+    /// Puts a text behind it.
+    pub fn text(&mut self, piece: &[u8])
+        requires { length piece.now ≤ self.old.room }
+        ensures { Adds self.old self.new piece.now (length piece.now) }
+    {
+        self.bytes[self.len..self.len + piece.len()].copy_from_slice(piece);
+        self.len += piece.len();
+    }
+
+    /// Puts a number behind it, in decimal.
+    pub fn number(&mut self, n: u64)
+        requires { 20 ≤ self.old.room }
+        ensures { Adds self.old self.new (decimal n) 20 }
+    {
+        self.text(Buffer::new().format(n).as_bytes());
+    }
+
+    /// Puts a word behind it, with a space before the word.
+    pub fn word(&mut self, word: &[u8])
+        requires { length word.now + 1 ≤ self.old.room }
+        ensures { Adds self.old self.new (32 ∷ word.now) (length word.now + 1) }
+    {
+        self.text(b" ");
+        self.text(word);
+    }
+
+    /// Puts a number behind it, with a space before it.
+    pub fn decimal(&mut self, n: u64)
+        requires { 21 ≤ self.old.room }
+        ensures { Adds self.old self.new (32 ∷ decimal n) 21 }
+    {
+        self.text(b" ");
+        self.number(n);
+    }
+
+    /// Puts a letter and a number behind it, with a space before them.
+    pub fn lettered(&mut self, letter: u8, n: u64)
+        requires { 22 ≤ self.old.room }
+        ensures { Adds self.old self.new (32 ∷ letter ∷ decimal n) 22 }
+    {
+        self.text(&[b' ', letter]);
+        self.number(n);
+    }
+
+    /// A variable.
+    pub fn var(&mut self, v: Var)
+        requires { 2 ≤ self.old.room }
+        ensures { Adds self.old self.new (32 ∷ var_text v) 2 }
+    {
+        self.text(&[b' ', b'a'.saturating_add(v.0)]);
+    }
+
+    /// A variable, or `-` where none is given.
+    pub fn optional(&mut self, v: Option<Var>)
+        requires { 2 ≤ self.old.room }
+        ensures { Adds self.old self.new (32 ∷ optional_text v) 2 }
+    {
+        match v {
+            Some(v) => self.var(v),
+            None => self.word(b"-"),
+        }
+    }
+
+    /// A kind.
+    pub fn kind(&mut self, kind: Kind)
+        requires { 11 ≤ self.old.room }
+        ensures { Adds self.old self.new (32 ∷ kind_text kind) 11 }
+    {
+        match kind {
+            Kind::Plain => self.word(b"plain"),
+            Kind::Leaf => self.word(b"leaf"),
+            Kind::Bridge => self.word(b"bridge"),
+            Kind::LeafBridge => self.word(b"leafbridge"),
+        }
+    }
+
+    /// A sort.
+    pub fn sort(&mut self, sort: Sort)
+        requires { 10 ≤ self.old.room }
+        ensures { Adds self.old self.new (32 ∷ sort_text sort) 10 }
+    {
+        match sort {
+            Sort::User => self.word(b"user"),
+            Sort::Framework => self.word(b"framework"),
+        }
+    }
+
+    /// A static of the peer heap.
+    pub fn peer_static(&mut self, x: StaticNo)
+        requires { 22 ≤ self.old.room }
+        ensures { Adds self.old self.new (32 ∷ peer_static x) 22 }
+    {
+        self.lettered(b's', x.0 as u64);
+    }
+
+    /// A static of a thread's own heap.
+    pub fn own_static(&mut self, thread: Thread, x: StaticNo)
+        requires { 22 ≤ self.old.room }
+        ensures { Adds self.old self.new (32 ∷ own_static thread x) 22 }
+    {
+        match thread {
+            Thread::M(_) => self.lettered(b'g', x.0 as u64),
+            Thread::P(_) | Thread::C => self.lettered(b's', x.0 as u64),
+        }
+    }
+
+    /// A global name.
+    pub fn global(&mut self, g: GName)
+        requires { 22 ≤ self.old.room }
+        ensures { Adds self.old self.new (32 ∷ global_text g) 22 }
+    {
+        self.lettered(b'G', g.0 as u64);
+    }
+
+    /// A weak cell.
+    pub fn cell(&mut self, k: Cell)
+        requires { 22 ≤ self.old.room }
+        ensures { Adds self.old self.new (32 ∷ cell_text k) 22 }
+    {
+        self.lettered(b'k', k.0 as u64);
+    }
+
+    /// A managed object.
+    pub fn managed(&mut self, m: MNum)
+        requires { 22 ≤ self.old.room }
+        ensures { Adds self.old self.new (32 ∷ managed_text m) 22 }
+    {
+        self.lettered(b'm', m.0 as u64);
+    }
+
+    /// A peer.
+    pub fn peer(&mut self, p: PNum)
+        requires { 22 ≤ self.old.room }
+        ensures { Adds self.old self.new (32 ∷ peer_text p) 22 }
+    {
+        self.lettered(b'p', p.0 as u64);
+    }
+
+    /// A handle.
+    pub fn handle(&mut self, h: HNum)
+        requires { 22 ≤ self.old.room }
+        ensures { Adds self.old self.new (32 ∷ handle_text h) 22 }
+    {
+        self.lettered(b'h', h.0 as u64);
+    }
+
+    /// A word that asks the driver for a phase.
+    pub fn phase_word(&mut self, word: PhaseWord)
+        requires { 9 ≤ self.old.room }
+        ensures { Adds self.old self.new (32 ∷ phase_word_text word) 9 }
+    {
+        match word {
+            PhaseWord::Cycle => self.word(b"cycle"),
+            PhaseWord::Snap => self.word(b"snap"),
+            PhaseWord::Contract => self.word(b"contract"),
+            PhaseWord::Mirror => self.word(b"mirror"),
+            PhaseWord::Weaken => self.word(b"weaken"),
+            PhaseWord::Mark => self.word(b"mark"),
+            PhaseWord::Sweep => self.word(b"sweep"),
+            PhaseWord::Restore => self.word(b"restore"),
+            PhaseWord::Resolve => self.word(b"resolve"),
+        }
+    }
+
+    /// A phase.
+    pub fn phase(&mut self, phase: Phase)
+        requires { 11 ≤ self.old.room }
+        ensures { Adds self.old self.new (32 ∷ phase_text phase) 11 }
+    {
+        match phase {
+            Phase::Idle => self.word(b"idle"),
+            Phase::Snapped => self.word(b"snapped"),
+            Phase::Contracted => self.word(b"contracted"),
+            Phase::Mirrored => self.word(b"mirrored"),
+            Phase::Weakened => self.word(b"weakened"),
+            Phase::Marked => self.word(b"marked"),
+            Phase::Swept => self.word(b"swept"),
+            Phase::Restored => self.word(b"restored"),
+        }
+    }
+}

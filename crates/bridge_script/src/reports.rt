@@ -1,0 +1,144 @@
+// The report of a history, written to a sink piece by piece.
+
+ghost use Rattle.std.specs.Prelude.{◌≡◌, ◌+◌, ◌++◌, take, drop, length};
+ghost use Rattle.joint_model.specs.Histories.{stretch};
+ghost use Rattle.bridge_script.specs.Outside.{Writes};
+ghost use Rattle.bridge_script.specs.Lists.{after_spaces, lettered, list_words, numbers_of, letter_of};
+ghost use Rattle.bridge_script.specs.Report.{entry_text, entries_text, report};
+
+use crate::drafts::Line;
+use crate::entries::{add_head, add_tail, list_of};
+use crate::lists::Numbers;
+use crate::outside::{Failed, Sink};
+use joint_model::{Entry, History, Span};
+
+/// Writes a whole text, in whatever portions the sink takes.
+fn put<K: Sink>(out: &mut K, text: &[u8]) -> Result<(), Failed>
+    ensures { Writes (K.held out.old) (K.held out.new) (K.faults out.old) (K.faults out.new) result text.now }
+{
+    let mut at = 0;
+    while at < text.len() {
+        match out.write(&text[at..]) {
+            Ok(count) => at += count,
+            Err(failed) => return Err(failed),
+        }
+    }
+    Ok(())
+}
+
+/// Writes a whole text, in whatever portions the sink takes. [`Failed`] comes only where the sink's count of
+/// faults rose; then a beginning of the text was written.
+pub fn write_text<K: Sink>(out: &mut K, text: &[u8]) -> Result<(), Failed>
+    ensures { Writes (K.held out.old) (K.held out.new) (K.faults out.old) (K.faults out.new) result text.now }
+{
+    put(out, text)
+}
+
+/// Writes the numbers that a span names, each with a space and its letter before it.
+fn write_numbers<K: Sink>(
+    h: &History,
+    numbers: Numbers,
+    span: Span,
+    out: &mut K,
+) -> Result<(), Failed>
+    ensures { Writes (K.held out.old) (K.held out.new) (K.faults out.old) (K.faults out.new) result (after_spaces (lettered (letter_of numbers) (stretch (take 4294967296 (numbers_of h.now numbers)) span))) }
+{
+    for k in 0..span.count {
+        let Some(n) = numbers.at(h, span.first as u64 + k as u64) else {
+            continue;
+        };
+        let mut line = Line::new();
+        line.lettered(numbers.letter(), n as u64);
+        match put(out, line.bytes()) {
+            Ok(()) => {}
+            Err(failed) => return Err(failed),
+        }
+    }
+    Ok(())
+}
+
+/// Writes a list: the numbers that a span names, or `-` where it names none, with a space before each word.
+fn write_list<K: Sink>(h: &History, numbers: Numbers, span: Span, out: &mut K) -> Result<(), Failed>
+    ensures { Writes (K.held out.old) (K.held out.new) (K.faults out.old) (K.faults out.new) result (after_spaces (list_words h.now numbers span)) }
+{
+    if span.count == 0 {
+        return put(out, b" -");
+    }
+    match numbers.at(h, span.first as u64) {
+        Some(_) => write_numbers(h, numbers, span, out),
+        None => put(out, b" -"),
+    }
+}
+
+/// Writes a line with a list between its head and its tail.
+fn write_listed<K: Sink>(
+    h: &History,
+    head: &[u8],
+    list: (Numbers, Span),
+    tail: &[u8],
+    out: &mut K,
+) -> Result<(), Failed>
+    ensures { Writes (K.held out.old) (K.held out.new) (K.faults out.old) (K.faults out.new) result (head.now ++ (after_spaces (list_words h.now list.0 list.1) ++ tail.now)) }
+{
+    match put(out, head) {
+        Ok(()) => {}
+        Err(failed) => return Err(failed),
+    }
+    match write_list(h, list.0, list.1, out) {
+        Ok(()) => {}
+        Err(failed) => return Err(failed),
+    }
+    put(out, tail)
+}
+
+/// Writes the line of an entry.
+pub fn write_entry<K: Sink>(h: &History, entry: &Entry, out: &mut K) -> Result<(), Failed>
+    ensures { Writes (K.held out.old) (K.held out.new) (K.faults out.old) (K.faults out.new) result (entry_text h.now entry.now) }
+{
+    let mut line = Line::new();
+    add_head(&mut line, entry);
+    match list_of(&entry.made.reply) {
+        Some(list) => {
+            let mut tail = Line::new();
+            add_tail(&mut tail, entry.made.cites);
+            write_listed(h, line.bytes(), list, tail.bytes(), out)
+        }
+        None => {
+            add_tail(&mut line, entry.made.cites);
+            put(out, line.bytes())
+        }
+    }
+}
+
+/// Writes the lines of all entries, in rising number.
+fn write_entries<K: Sink>(h: &History, out: &mut K) -> Result<(), Failed>
+    ensures { Writes (K.held out.old) (K.held out.new) (K.faults out.old) (K.faults out.new) result (entries_text h.now h.now.entries) }
+{
+    for i in 0..h.len() {
+        let Some(entry) = h.entry(i) else {
+            unreachable!();
+        };
+        match write_entry(h, &entry, out) {
+            Ok(()) => {}
+            Err(failed) => return Err(failed),
+        }
+    }
+    Ok(())
+}
+
+/// Writes the report of a history: one line for each entry in rising number, and `end` with the number of
+/// entries. It takes no memory. [`Failed`] only where the sink's count of faults rose, and then a beginning of
+/// the report was written.
+pub fn write_report<K: Sink>(h: &History, out: &mut K) -> Result<(), Failed>
+    ensures { Writes (K.held out.old) (K.held out.new) (K.faults out.old) (K.faults out.new) result (report h.now) }
+{
+    match write_entries(h, out) {
+        Ok(()) => {}
+        Err(failed) => return Err(failed),
+    }
+    let mut line = Line::new();
+    line.text(b"end ");
+    line.number(h.len());
+    line.text(b"\n");
+    put(out, line.bytes())
+}

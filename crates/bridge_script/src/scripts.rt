@@ -1,0 +1,159 @@
+// A script: its lines, and which bytes are one.
+
+ghost use Rattle.std.specs.Prelude.{◌≡◌, ◌+◌, ◌≤◌, ◌<◌, ◌==◌, [], cond, slice_get, length, IfOk, IfErr, OnErr, IfSome, MatchBool};
+ghost use Rattle.joint_model.specs.Lines.{IsLine};
+ghost use Rattle.bridge_script.specs.Scripts.{IsBuilt, IsScript, IsText, IsRefusal, is_cycle, line_at};
+ghost use Rattle.bridge_script.specs.Steps.{Grows, NoneFits, EndsLine};
+
+use crate::faults::{Cause, ScriptError, ScriptFault};
+use crate::lines::read_line;
+use crate::words::first_place;
+use joint_model::{Act, PhaseWord, Thread};
+use std::alloc::{AllocError, Global};
+use std::marker::Model;
+
+/// The most bytes of a script.
+pub const MOST_BYTES: usize = 8_388_608;
+
+/// The most lines of a script.
+const MOST_LINES: usize = 20_000;
+
+/// The most lines `c cycle` of a script.
+const MOST_CYCLES: usize = 256;
+
+/// A script: a list of at most 20,000 lines, each a thread and what it is to do. Each line is one that is
+/// built, with each of its places within its limits, and at most 256 lines are `c cycle`.
+#[derive(Drop)]
+pub struct Script {
+    lines: Vec<(Thread, Act)>,
+    cycles: usize,
+}
+
+impl Model for Script {
+    ghost use Rattle.std.specs.Prelude.{◌≡◌, List};
+    ghost use Rattle.joint_model.specs.declared.names.Thread.{Thread};
+    ghost use Rattle.joint_model.specs.declared.lines.Act.{Act};
+    ghost use Rattle.bridge_script.specs.Scripts.{IsScript, cycles_of};
+
+    ghost Value = { List (Thread × Act) };
+
+    ghost view = { λ s. s.lines.items };
+
+    ghost invariant = { λ s. IsScript s.lines.items × (s.cycles ≡ cycles_of s.lines.items) };
+}
+
+impl Script {
+    /// The number of lines.
+    pub fn len(&self) -> u32
+        ensures len { result ≡ length self.now }
+        ensures script { IsScript self.now }
+    {
+        self.lines.len() as u32
+    }
+
+    /// Whether there is no line.
+    pub fn is_empty(&self) -> bool
+        ensures { result ≡ (length self.now == 0) }
+    {
+        self.lines.is_empty()
+    }
+
+    /// The line of that number, counted from 1: its thread and what it asks for. None exactly where there is
+    /// no such line.
+    pub fn line(&self, i: u32) -> Option<(Thread, Act)>
+        ensures line { result ≡ line_at self.now i }
+        ensures built { IfSome result IsBuilt }
+        ensures lawful { IfSome result (λ line. IsLine line.0 line.1) }
+    {
+        if i == 0 {
+            return None;
+        }
+        place_of(&self.lines, (i - 1) as usize)
+    }
+
+    /// The script of no lines.
+    fn new(alloc: Global) -> Script
+        ensures { result ≡ [] }
+    {
+        Script {
+            lines: Vec::new(alloc),
+            cycles: 0,
+        }
+    }
+
+    /// Puts the line with this text last, where it is a line that a script may go on with: within the limits of
+    /// its lines and of its bytes, of which `end` is the number up to the end of the line. Answers false, with
+    /// nothing changed, where no script goes on with it.
+    fn grow(&mut self, text: &[u8], end: usize) -> Result<bool, AllocError>
+        ensures { IfOk result (λ grown. MatchBool grown (Grows self.old self.new text.now end) (NoneFits self.old text.now end × (self.new ≡ self.old))) }
+    {
+        let Some(line) = read_line(text) else {
+            return Ok(false);
+        };
+        if end > MOST_BYTES || self.lines.len() >= MOST_LINES {
+            return Ok(false);
+        }
+        let cycles = self.cycles + cycle_count(&line);
+        if cycles > MOST_CYCLES {
+            return Ok(false);
+        }
+        self.lines.push(line)?;
+        self.cycles = cycles;
+        Ok(true)
+    }
+}
+
+/// The line at a place, from 0.
+fn place_of(lines: &[(Thread, Act)], i: usize) -> Option<(Thread, Act)>
+    ensures { result ≡ slice_get lines.now i }
+{
+    lines.get(i).copied()
+}
+
+/// 1 for the line `c cycle`, and 0 for every other.
+fn cycle_count(line: &(Thread, Act)) -> usize
+    ensures { result ≡ cond (is_cycle line.now) 1 0 }
+{
+    match line {
+        (
+            Thread::C,
+            Act::PhaseLine {
+                word: PhaseWord::Cycle,
+            },
+        ) => 1,
+        _ => 0,
+    }
+}
+
+/// Where the line that begins at a place ends: the place of its newline, or the length where it has none.
+fn line_end(bytes: &[u8], at: usize) -> usize
+    requires { at < length bytes.now }
+    ensures { EndsLine bytes.now at result }
+{
+    at + first_place(&bytes[at..], b'\n')
+}
+
+/// The script that has these bytes as its text.
+///
+/// A line ends with a newline, which the last line may lack if it has at least one byte. `OutOfMemory` where
+/// there is no memory for the lines. `Refused` exactly where no script has this text, with the first line that
+/// is no line of a script: one that isn't built, that is line 20,001 or the 257th `c cycle`, or that holds byte
+/// 8,388,609.
+pub fn parse(alloc: Global, bytes: &[u8]) -> Result<Script, ScriptError>
+    ensures ok { IfOk result (λ script. IsText bytes.now script) }
+    ensures err { IfErr result (λ error. IsRefusal bytes.now error) }
+{
+    let mut script = Script::new(alloc);
+    let mut at = 0;
+    while at < bytes.len() {
+        let end = line_end(bytes, at);
+        if !script.grow(&bytes[at..end], (end + 1).min(bytes.len()))? {
+            return Err(ScriptError::Refused(ScriptFault {
+                line: script.len() + 1,
+                cause: Cause::Unknown,
+            }));
+        }
+        at = end + 1;
+    }
+    Ok(script)
+}

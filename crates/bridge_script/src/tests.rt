@@ -1,0 +1,421 @@
+// Scripts, sources, sinks and reports by worked examples and at their limits.
+
+use crate::drafts::Line;
+use crate::entries::{add_head, add_tail};
+use crate::reports::write_entry;
+use crate::{
+    ByteSink, ByteSource, Cause, CountSink, Failed, FreeTurn, PlainSource, ScriptError, Sink,
+    Source, Turnstile, parse, read_script, texts_tell_scripts, write_report,
+};
+use joint_model::{
+    Act, Cell, Cycle, Entry, GName, HNum, History, Kind, MNum, Made, Marking, Op, PNum, Phase,
+    PhaseWord, Reply, Sort, Span, StaticNo, Thread, Var,
+};
+use std::alloc::Global;
+use std::process::Abort;
+use std::test::Fail;
+
+const LINKED: &[u8] =
+    b"m1 bridge a bridge 1 user 0\nm1 bridge b bridge 1 user 0\nm1 set a 0 b\nm1 drop b\nc cycle\nm1 drop a\nc cycle\n";
+
+const A: Var = Var(0);
+
+const B: Var = Var(1);
+
+/// The first faulty line of a text, or 0 where it is a script.
+fn faulty_line(alloc: Global, text: &[u8]) -> u32 {
+    match parse(alloc, text) {
+        Ok(_) => 0,
+        Err(ScriptError::Refused(fault)) => fault.line,
+        Err(_) => u32::MAX,
+    }
+}
+
+#[test]
+fn a_script_has_its_lines(rt: HostRuntime) -> Result<(), Fail> {
+    let script = parse(rt.alloc(), LINKED)?;
+    assert_eq!(rt; script.len(), 7);
+    assert!(rt; !script.is_empty());
+    assert!(rt; script.line(0).is_none());
+    assert!(rt; script.line(8).is_none());
+    assert_eq!(rt;
+        script.line(1),
+        Some((
+            Thread::M(1),
+            Act::Bridge {
+                v: A,
+                kind: Kind::Bridge,
+                fields: 1,
+                sort: Sort::User,
+                peer_fields: 0
+            }
+        ))
+    );
+    assert_eq!(rt;
+        script.line(3),
+        Some((
+            Thread::M(1),
+            Act::Set {
+                v: A,
+                i: 0,
+                w: Some(B)
+            }
+        ))
+    );
+    assert_eq!(rt;
+        script.line(7),
+        Some((
+            Thread::C,
+            Act::PhaseLine {
+                word: PhaseWord::Cycle
+            }
+        ))
+    );
+    Ok(())
+}
+
+#[test]
+fn the_first_faulty_line_is_named(rt: HostRuntime) {
+    for (text, line) in [
+        (b"".as_slice(), 0),
+        (b"m1 drop a".as_slice(), 0),
+        (b"m1 drop h\nm1 set a 255 -".as_slice(), 0),
+        (b"m1 bridge a bridge 16 user 16\n".as_slice(), 0),
+        (b"\n".as_slice(), 1),
+        (b"c cycle\n\n".as_slice(), 2),
+        (b"m1 drop i\nm1 drop a\n\n".as_slice(), 1),
+        (b"m1 drop a\nm1 drop  a\nx".as_slice(), 2),
+        (b"m1 drop a ".as_slice(), 1),
+        (b" m1 drop a".as_slice(), 1),
+        (b"m1 drop\n".as_slice(), 1),
+        (b"m2 drop a\n".as_slice(), 1),
+        (b"c snap\n".as_slice(), 1),
+        (b"m1 set a 00 b\n".as_slice(), 1),
+        (b"m1 set a +1 b\n".as_slice(), 1),
+        (b"m1 set a 256 b\n".as_slice(), 1),
+        (b"m1 set a 18446744073709551616 b\n".as_slice(), 1),
+        (b"m1 bridge a bridge 17 user 0\n".as_slice(), 1),
+        (b"m1 bridge a bridge 1 framework 0\n".as_slice(), 1),
+    ] {
+        assert_eq!(rt; faulty_line(rt.alloc(), text), line);
+    }
+}
+
+#[test]
+fn a_script_has_at_most_so_many_lines_and_cycles(rt: HostRuntime) -> Result<(), Fail> {
+    let alloc = rt.alloc();
+    let mut lines = Vec::new(alloc);
+    for _ in 0..20_000 {
+        lines.extend_from_slice(b"m1 drop a\n")?;
+    }
+    assert_eq!(rt; faulty_line(alloc, &lines), 0);
+    lines.extend_from_slice(b"m1 drop a\n")?;
+    assert_eq!(rt; faulty_line(alloc, &lines), 20_001);
+    let mut cycles = Vec::new(alloc);
+    for _ in 0..256 {
+        cycles.extend_from_slice(b"c cycle\n")?;
+    }
+    assert_eq!(rt; faulty_line(alloc, &cycles), 0);
+    cycles.extend_from_slice(b"c cycle")?;
+    assert_eq!(rt; faulty_line(alloc, &cycles), 257);
+    Ok(())
+}
+
+#[test]
+fn a_source_is_read_to_one_byte_past_the_limit(rt: HostRuntime) -> Result<(), Fail> {
+    let alloc = rt.alloc();
+    let mut source = PlainSource::new(vec![in alloc; b'x'; 8_388_700]?);
+    match read_script(alloc, &mut source) {
+        Err(ScriptError::Refused(fault)) => {
+            assert_eq!(rt; fault.line, 1);
+            assert_eq!(rt; fault.cause.name(), "unknown");
+            assert_eq!(rt; fault.cause.number(), 1);
+        }
+        _ => assert!(rt; false),
+    }
+    let mut rest = [0u8; 100];
+    assert_eq!(rt; source.read(&mut rest), Ok(91));
+    Ok(())
+}
+
+#[test]
+fn a_source_that_fails_gives_no_script(rt: HostRuntime) -> Result<(), Fail> {
+    let alloc = rt.alloc();
+    for call in 1..4u32 {
+        let mut source = ByteSource::new(LINKED.to_vec(alloc)?, [call].to_vec(alloc)?);
+        let read = match read_script(alloc, &mut source) {
+            Ok(script) => Ok(script.len()),
+            Err(error) => Err(error),
+        };
+        let wanted = if call < 3 {
+            Err(ScriptError::ReadFault)
+        } else {
+            Ok(7)
+        };
+        assert_eq!(rt; read, wanted);
+    }
+    Ok(())
+}
+
+/// A history without entries that has two objects of each heap in its lists, and a notice.
+fn freed(alloc: Global) -> Result<History, Fail> {
+    Ok(History::join(
+        alloc,
+        Vec::new(alloc),
+        [MNum(1), MNum(2)].to_vec(alloc)?,
+        [PNum(1), PNum(2)].to_vec(alloc)?,
+        [MNum(7)].to_vec(alloc)?,
+    )?)
+}
+
+#[test]
+fn the_empty_report_is_written_up_to_the_fault(rt: HostRuntime) -> Result<(), Fail> {
+    let alloc = rt.alloc();
+    let h = freed(alloc)?;
+    let report = b"end 0\n".as_slice();
+    let mut count = CountSink::new();
+    assert_eq!(rt; write_report(&h, &mut count), Ok(()));
+    assert_eq!(rt; count.count(), 6);
+    for call in 1..8u32 {
+        let mut sink = ByteSink::new(alloc, 1, [call].to_vec(alloc)?);
+        let written = write_report(&h, &mut sink);
+        if call <= 6 {
+            assert_eq!(rt; written, Err(Failed));
+            assert_eq!(rt; sink.bytes(), &report[..call as usize - 1]);
+        } else {
+            assert_eq!(rt; written, Ok(()));
+            assert_eq!(rt; sink.bytes(), report);
+        }
+    }
+    Ok(())
+}
+
+/// The text of an entry, as it is written to a sink that takes three bytes a call.
+fn written(rt: &impl Abort, h: &History, entry: Entry, sink: &mut ByteSink) {
+    assert_eq!(rt; write_entry(h, &entry, sink), Ok(()));
+}
+
+/// An entry.
+fn entry(
+    number: u64,
+    caller: Thread,
+    index: u32,
+    op: Op,
+    reply: Reply,
+    cites: Option<u64>,
+) -> Entry {
+    Entry {
+        number,
+        made: Made {
+            caller,
+            index,
+            op,
+            reply,
+            cites,
+        },
+    }
+}
+
+#[test]
+fn entries_with_lists_are_written_whole(rt: HostRuntime) -> Result<(), Fail> {
+    let alloc = rt.alloc();
+    let h = freed(alloc)?;
+    let mut sink = ByteSink::new(alloc, 3, Vec::new(alloc));
+    let both = Span { first: 0, count: 2 };
+    let none = Span { first: 2, count: 0 };
+    let one = Span { first: 0, count: 1 };
+    let snap = Op::Snap { cycle: Cycle(2) };
+    let finalise = Op::Line(Act::Finalise { n: 5 });
+    written(
+        &rt,
+        &h,
+        entry(11, Thread::C, 7, snap, Reply::Snapped(2, none), None),
+        &mut sink,
+    );
+    written(
+        &rt,
+        &h,
+        entry(
+            13,
+            Thread::C,
+            7,
+            Op::Sweep,
+            Reply::Swept(Marking(2), both),
+            None,
+        ),
+        &mut sink,
+    );
+    let resolve = Op::Resolve { cycle: Cycle(2) };
+    written(
+        &rt,
+        &h,
+        entry(14, Thread::C, 7, resolve, Reply::Freed(both), Some(12)),
+        &mut sink,
+    );
+    written(
+        &rt,
+        &h,
+        entry(15, Thread::C, 8, finalise, Reply::Took(one), None),
+        &mut sink,
+    );
+    written(
+        &rt,
+        &h,
+        entry(16, Thread::C, 9, finalise, Reply::Took(none), None),
+        &mut sink,
+    );
+    let text =
+        b"11 c.7 snap 2 = 2 freed -\n13 c.7 sweep = 2 freed p1 p2\n14 c.7 resolve 2 = freed m1 m2 @12\n15 c.8 finalise 5 = m7\n16 c.9 finalise 5 = -\n";
+    assert_eq!(rt; sink.bytes(), text.as_slice());
+    Ok(())
+}
+
+/// Puts an entry behind a line and compares the line with a text.
+fn expect(rt: &impl Abort, entry: Entry, text: &[u8]) {
+    let mut line = Line::new();
+    add_head(&mut line, &entry);
+    add_tail(&mut line, entry.made.cites);
+    assert_eq!(rt; line.bytes(), text);
+}
+
+#[test]
+fn entries_have_the_words_of_their_event_and_reply(rt: HostRuntime) {
+    let m = Thread::M(1);
+    let make = Op::Make {
+        sort: Sort::User,
+        fields: 0,
+    };
+    expect(
+        &rt,
+        entry(0, m, 1, make, Reply::Made(PNum(1), HNum(1)), None),
+        b"0 m1.1 make user 0 = p1 h1\n",
+    );
+    let adopt = Op::Adopt {
+        v: A,
+        kind: Kind::Bridge,
+        fields: 1,
+        p: PNum(1),
+        h: HNum(1),
+    };
+    expect(
+        &rt,
+        entry(1, m, 1, adopt, Reply::M(MNum(1)), Some(0)),
+        b"1 m1.1 adopt a bridge 1 p1 h1 = m1 @0\n",
+    );
+    let set = Op::Line(Act::Set {
+        v: A,
+        i: 0,
+        w: Some(B),
+    });
+    expect(
+        &rt,
+        entry(4, m, 3, set, Reply::Ok, None),
+        b"4 m1.3 set a 0 b = ok\n",
+    );
+    let meet = Op::Meet {
+        v: B,
+        p: PNum(2),
+        h: HNum(3),
+        sort: Sort::Framework,
+        fields: 1,
+    };
+    expect(
+        &rt,
+        entry(5, m, 4, meet, Reply::New(MNum(4)), Some(3)),
+        b"5 m1.4 meet b p2 h3 framework 1 = m4 new @3\n",
+    );
+    let grip = Op::Grip { x: StaticNo(15) };
+    expect(
+        &rt,
+        entry(
+            6,
+            m,
+            5,
+            grip,
+            Reply::Gripped(PNum(1), HNum(2), Sort::User, 1),
+            None,
+        ),
+        b"6 m1.5 grip s15 = p1 h2 user 1\n",
+    );
+    let refused = Op::Refused {
+        word: PhaseWord::Mirror,
+    };
+    expect(
+        &rt,
+        entry(7, Thread::C, 6, refused, Reply::At(Phase::Idle), None),
+        b"7 c.6 refused mirror = at idle\n",
+    );
+    let store = Op::Line(Act::Store {
+        x: StaticNo(1),
+        v: None,
+    });
+    expect(
+        &rt,
+        entry(8, Thread::P(8), 7, store, Reply::Ok, None),
+        b"8 p8.7 store s1 - = ok\n",
+    );
+    expect(
+        &rt,
+        entry(9, m, 8, store, Reply::Ok, None),
+        b"9 m1.8 store g1 - = ok\n",
+    );
+    let weak = Op::Line(Act::Weak { k: Cell(63), v: A });
+    expect(
+        &rt,
+        entry(10, m, 9, weak, Reply::Pinned(MNum(1)), None),
+        b"10 m1.9 weak k63 a = pinned m1\n",
+    );
+    let wread = Op::Line(Act::WRead { v: A, g: GName(63) });
+    expect(
+        &rt,
+        entry(
+            11,
+            Thread::P(1),
+            9,
+            wread,
+            Reply::MarkOpen(Marking(1)),
+            None,
+        ),
+        b"11 p1.9 wread a G63 = marking 1\n",
+    );
+    let contract = Op::Contract { cycle: Cycle(1) };
+    expect(
+        &rt,
+        entry(12, Thread::C, 9, contract, Reply::Sccs(2, 1), None),
+        b"12 c.9 contract 1 = 2 sccs 1 xrefs\n",
+    );
+}
+
+#[test]
+fn a_turn_is_free(_rt: HostRuntime) {
+    FreeTurn.pass(Thread::C, 1);
+    texts_tell_scripts();
+}
+
+#[test]
+fn each_cause_has_its_number(rt: HostRuntime) {
+    for (number, cause, name) in [
+        (2, Cause::Arity, "arity"),
+        (3, Cause::Name, "name"),
+        (4, Cause::Number, "number"),
+        (5, Cause::Limit, "limit"),
+        (6, Cause::Kind, "kind"),
+        (7, Cause::Cycles, "cycles"),
+        (8, Cause::Lines, "lines"),
+        (9, Cause::Bytes, "bytes"),
+    ] {
+        assert_eq!(rt; cause.number(), number);
+        assert_eq!(rt; cause.name(), name);
+    }
+}
+
+#[test]
+fn a_sink_takes_what_it_has_room_for(rt: HostRuntime) -> Result<(), Fail> {
+    let alloc = rt.alloc();
+    let mut sink = ByteSink::new(alloc, 2, [2].to_vec(alloc)?);
+    assert_eq!(rt; sink.write(b"abc"), Ok(2));
+    assert_eq!(rt; sink.write(b"c"), Err(Failed));
+    assert_eq!(rt; sink.write(b"c"), Ok(1));
+    assert_eq!(rt; sink.bytes(), b"abc".as_slice());
+    Ok(())
+}

@@ -1,0 +1,57 @@
+// From classes to components and cross-references.
+
+ghost use Rattle.std.specs.Prelude.{◌≡◌, length, IfOk};
+ghost use Rattle.joint_model.specs.Components.{IsContraction};
+ghost use Rattle.bridge_graph.specs.Parts.{IsBridge, Leads};
+ghost use Rattle.component_pass.specs.Classes.{AreClasses};
+
+use crate::groups::{group_bridges, list_components, plain_nodes};
+use crate::plain::plain_classes;
+use crate::references::list_references;
+use crate::tarjan::classes;
+use bridge_graph::DeadGraph;
+use std::alloc::{AllocError, Global};
+use xref_list::{Components, ComponentsBuilder};
+
+/// The components of a dead part and the cross-references between them.
+///
+/// Two bridge nodes are in one component exactly where each reaches the other. A pair of different
+/// components is listed exactly where some walk leads from the class of the first to the class of the
+/// second whose nodes between lie in classes without a bridge node. Answers `AllocError` only where there
+/// is no memory.
+pub fn contract(alloc: Global, graph: &DeadGraph) -> Result<Components, AllocError>
+    ensures { IfOk result (λ c. IsContraction (IsBridge graph.now.nodes) (Leads graph.now.edges) c.comps c.pairs) }
+{
+    let labels = classes(alloc, graph)?;
+    from_classes(alloc, graph, &labels)
+}
+
+/// The same by a search from every node, as the definition has it: slow, and there for comparison.
+pub fn plain_contract(alloc: Global, graph: &DeadGraph) -> Result<Components, AllocError>
+    ensures { IfOk result (λ c. IsContraction (IsBridge graph.now.nodes) (Leads graph.now.edges) c.comps c.pairs) }
+{
+    let labels = plain_classes(alloc, graph)?;
+    from_classes(alloc, graph, &labels)
+}
+
+/// The components and cross-references, by a label for each node's class.
+fn from_classes(alloc: Global, graph: &DeadGraph, labels: &[u32]) -> Result<Components, AllocError>
+    requires { AreClasses graph.now.edges (length graph.now.nodes) labels.now }
+    ensures { IfOk result (λ c. IsContraction (IsBridge graph.now.nodes) (Leads graph.now.edges) c.comps c.pairs) }
+{
+    let groups = group_bridges(alloc, graph, labels)?;
+    let plain = plain_nodes(alloc, graph, labels, &groups)?;
+    let mut indexes = vec![in alloc; 0u32; graph.nodes() as usize]?;
+    let mut builder = ComponentsBuilder::new(alloc);
+    list_components(graph, labels, &groups, &mut indexes, &mut builder)?;
+    list_references(
+        alloc,
+        graph,
+        labels,
+        &groups,
+        &plain,
+        &indexes,
+        &mut builder,
+    )?;
+    builder.finish()
+}

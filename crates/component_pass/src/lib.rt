@@ -1,0 +1,37 @@
+// The exact components of a dead part: which bridge nodes are strongly connected, and which components
+// refer to which through nodes that are no bridge nodes. `contract` reads a `DeadGraph` and gives its
+// `Components`; it keeps nothing.
+//
+// Two steps. First Tarjan's algorithm labels each node with its strongly connected class. On this graph,
+//
+//         0 --> 1 --> 2 --> 5
+//               ^     |
+//               |     v
+//               4 <-- 3
+//
+// the search goes 0, 1, 2, 5. Nothing leads on from 5, so 5 is a class. From 2 it goes on to 3 and 4, and
+// finds an edge to 1, which is on the stack at place 1: so 4, 3 and 2 are handed down, each with 1 as the
+// lowest place that is reached from it, and stay on the stack. At 1 the lowest place is its own: what lies
+// from there up, 1, 2, 3 and 4, is a class. The search has no recursion: the nodes that it is in are frames
+// in a list.
+//
+// What is kept all along: the node of each frame reaches all that lies above it on the stack; each
+// finished node on the stack reaches a node below it; no edge of a finished node leads to a place lower than
+// the lowest that its frame knows; and nodes whose class is complete lead only to such nodes.
+//
+// Then the bridge nodes of each class are listed together, which gives the components, and from the first
+// member of each component a search goes through the component's own class and through classes without a
+// bridge node. Each class with a bridge node that it comes to is a cross-reference.
+#![tactic(auto)]
+
+mod contraction;
+mod groups;
+mod plain;
+mod references;
+mod search;
+mod tarjan;
+
+pub use contraction::{contract, plain_contract};
+
+#[cfg(test)]
+mod tests;

@@ -1,0 +1,204 @@
+// Tarjan's algorithm for strongly connected classes, with the search's frames in a list on the heap.
+
+ghost use Rattle.std.specs.Prelude.{◌≡◌, ◌≢◌, ◌⊎◌, ℕ, ◌+◌, ◌*◌, ◌<◌, ◌≤◌, List, [], ◌∷◌, ◌++◌, length, min, take, All, IfOk, OnOk, OnErr, reverse, slice_index, slice_set};
+ghost use Rattle.bridge_graph.specs.Parts.{IsPart, Leads, row_at};
+ghost use Rattle.component_pass.specs.Classes.{AreClasses};
+ghost use Rattle.component_pass.specs.Tarjan.{IsGoing, AreSorted, IsSegment, Scans, unseen, done_mark};
+
+use bridge_graph::DeadGraph;
+use std::alloc::{AllocError, Global};
+
+/// A node that the search is in: its place on the stack, the next of its edges, and the lowest place that
+/// an edge from it or from a node finished under it leads to.
+#[derive(Clone, Copy)]
+pub(crate) struct Frame {
+    pub node: u32,
+    pub at: u32,
+    pub next: u32,
+    pub low: u32,
+}
+
+/// The mark of a node that was not seen.
+const UNSEEN: u32 = 0;
+
+/// The mark of a node whose class is complete; it is above every place.
+const DONE: u32 = u32::MAX;
+
+/// Where a scan of a row stopped, and the lowest place that it came by.
+#[derive(Clone, Copy)]
+struct Scan {
+    next: u32,
+    low: u32,
+}
+
+/// A label for each node: the first node of its class that the search came to.
+pub(crate) fn classes(alloc: Global, graph: &DeadGraph) -> Result<Vec<u32>, AllocError>
+    ensures { IfOk result (λ labels. AreClasses graph.now.edges (length graph.now.nodes) labels.items) }
+{
+    let n = graph.nodes() as usize;
+    let mut marks = vec![in alloc; UNSEEN; n]?;
+    let mut labels = vec![in alloc; 0u32; n]?;
+    let mut stack = Vec::with_capacity(alloc, n)?;
+    let mut frames = Vec::new(alloc);
+    visit_all(graph, &mut marks, &mut labels, &mut stack, &mut frames)?;
+    Ok(labels)
+}
+
+/// Walks from each node that was not seen.
+fn visit_all(
+    graph: &DeadGraph,
+    marks: &mut [u32],
+    labels: &mut [u32],
+    stack: &mut Vec<u32>,
+    frames: &mut Vec<Frame>,
+) -> Result<(), AllocError>
+    requires marks { length marks.old ≡ length graph.now.nodes }
+    requires labels { length labels.old ≡ length graph.now.nodes }
+    requires unseen { All (λ m. m ≡ 0) marks.old }
+    requires stack { stack.old.items ≡ [] }
+    requires frames { frames.old.items ≡ [] }
+    ensures { OnOk result (AreClasses graph.now.edges (length graph.now.nodes) labels.new) }
+{
+    for root in 0..graph.nodes() {
+        if marks[root as usize] == UNSEEN {
+            walk(graph, root, marks, labels, stack, frames)?;
+        }
+    }
+    Ok(())
+}
+
+/// Completes the classes of all nodes that `root` reaches.
+fn walk(
+    graph: &DeadGraph,
+    root: u32,
+    marks: &mut [u32],
+    labels: &mut [u32],
+    stack: &mut Vec<u32>,
+    frames: &mut Vec<Frame>,
+) -> Result<(), AllocError>
+    requires part { IsPart graph.now.nodes graph.now.edges }
+    requires root { root < length graph.now.nodes }
+    requires fresh { slice_index marks.old root ≡ 0 }
+    requires going { IsGoing graph.now.edges (length graph.now.nodes) stack.old.items marks.old labels.old [] }
+    requires frames { frames.old.items ≡ [] }
+    ensures going { OnOk result (IsGoing graph.now.edges (length graph.now.nodes) stack.new.items marks.new labels.new []) }
+    ensures frames { OnOk result (frames.new.items ≡ []) }
+    ensures root { OnOk result (slice_index marks.new root ≢ 0) }
+    ensures kept { (x : ℕ) → slice_index marks.old x ≢ 0 → slice_index marks.new x ≢ 0 }
+{
+    enter(root, marks, stack, frames)?;
+    while let Some(frame) = frames.pop() {
+        advance(graph, frame, marks, labels, stack, frames)?;
+    }
+    Ok(())
+}
+
+/// Puts an unseen node on the stack and starts its frame.
+fn enter(
+    node: u32,
+    marks: &mut [u32],
+    stack: &mut Vec<u32>,
+    frames: &mut Vec<Frame>,
+) -> Result<(), AllocError>
+    requires node { node < length marks.old }
+    requires few { length stack.old.items < 65536 }
+    ensures marks { OnOk result (marks.new ≡ slice_set marks.old node (length stack.old.items + 1)) }
+    ensures stack { OnOk result (stack.new.items ≡ stack.old.items ++ node ∷ []) }
+    ensures frames { OnOk result (frames.new.items ≡ frames.old.items ++ record { node = node; at = length stack.old.items; next = 0; low = length stack.old.items } ∷ []) }
+    ensures err { OnErr result (marks.new ≡ marks.old) }
+{
+    let at = stack.len() as u32;
+    stack.push(node)?;
+    frames.push(Frame {
+        node,
+        at,
+        next: 0,
+        low: at,
+    })?;
+    marks[node as usize] = at + 1;
+    Ok(())
+}
+
+/// Goes on in a frame: into the next unseen node, back to the frame below, or to the end of a class.
+fn advance(
+    graph: &DeadGraph,
+    frame: Frame,
+    marks: &mut [u32],
+    labels: &mut [u32],
+    stack: &mut Vec<u32>,
+    frames: &mut Vec<Frame>,
+) -> Result<(), AllocError>
+    requires going { IsGoing graph.now.edges (length graph.now.nodes) stack.old.items marks.old labels.old (frame ∷ reverse frames.old.items) }
+    ensures going { OnOk result (IsGoing graph.now.edges (length graph.now.nodes) stack.new.items marks.new labels.new (reverse frames.new.items)) }
+    ensures less { OnOk result (2 * unseen marks.new + length frames.new.items ≤ 2 * unseen marks.old + length frames.old.items) }
+    ensures kept { (x : ℕ) → slice_index marks.old x ≢ 0 → slice_index marks.new x ≢ 0 }
+{
+    let row = graph.row(frame.node);
+    let scan = scan_row(row, marks, frame.next, frame.low);
+    if (scan.next as usize) < row.len() {
+        frames.push(Frame {
+            node: frame.node,
+            at: frame.at,
+            next: scan.next + 1,
+            low: scan.low,
+        })?;
+        enter(row[scan.next as usize], marks, stack, frames)?;
+        return Ok(());
+    }
+    if scan.low < frame.at {
+        merge(frames, scan.low);
+        return Ok(());
+    }
+    close(frame.node, frame.at, marks, labels, stack);
+    Ok(())
+}
+
+/// Goes over the seen targets of a row, and keeps the lowest place among them.
+fn scan_row(row: &[u32], marks: &[u32], from: u32, low: u32) -> Scan
+    requires in_range { All (λ y. y < length marks.now) row.now }
+    requires few { length row.now < 4294967296 }
+    requires low { low < 4294967295 }
+    requires from { from ≤ length row.now }
+    ensures { Scans row.now marks.now from low result.next result.low }
+{
+    let mut next = from;
+    let mut lowest = low;
+    while (next as usize) < row.len() {
+        let mark = marks[row[next as usize] as usize];
+        if mark == UNSEEN {
+            break;
+        }
+        lowest = lowest.min(mark - 1);
+        next += 1;
+    }
+    Scan { next, low: lowest }
+}
+
+/// Hands the lowest place on to the frame below.
+fn merge(frames: &mut Vec<Frame>, low: u32)
+    requires { 0 < length frames.old.items }
+    ensures { (f : Frame) × (fs : List Frame) × (frames.old.items ≡ fs ++ f ∷ []) × (frames.new.items ≡ fs ++ record { node = f.node; at = f.at; next = f.next; low = min f.low low } ∷ []) }
+{
+    if let Some(mut frame) = frames.pop() {
+        frame.low = frame.low.min(low);
+        frames.push_reserved(frame);
+    }
+}
+
+/// Takes the nodes of a complete class from the stack, marks them as done and labels them.
+fn close(label: u32, at: u32, marks: &mut [u32], labels: &mut [u32], stack: &mut Vec<u32>)
+    requires at { at ≤ length stack.old.items }
+    requires marks { All (λ x. x < length marks.old) stack.old.items }
+    requires labels { All (λ x. x < length labels.old) stack.old.items }
+    requires placed { (k : ℕ) → k < length stack.old.items → slice_index marks.old (slice_index stack.old.items k) ≡ k + 1 }
+    ensures stack { stack.new.items ≡ take at stack.old.items }
+    ensures taken { (k : ℕ) → at ≤ k → k < length stack.old.items → (slice_index marks.new (slice_index stack.old.items k) ≡ done_mark) × (slice_index labels.new (slice_index stack.old.items k) ≡ label) }
+    ensures others { (x : ℕ) → (slice_index marks.old x ≤ at) ⊎ (length stack.old.items < slice_index marks.old x) → (slice_index marks.new x ≡ slice_index marks.old x) × (slice_index labels.new x ≡ slice_index labels.old x) }
+{
+    while stack.len() > at as usize {
+        if let Some(x) = stack.pop() {
+            marks[x as usize] = DONE;
+            labels[x as usize] = label;
+        }
+    }
+}

@@ -1,0 +1,175 @@
+-- The run of the one object is sound and complete: the places of its snap, begin, sweep and resolution are the only ones,
+-- and neither the object nor its peer is reached from the snap on.
+use Rattle.std.proofs.Common.{◌≡◌, ℕ, ◌<◌, ◌≤◌, ◌∙◌, Bool, true, false, List, [], ◌∷◌, Some, None, slice_get, get_or, refl, sym, subst, ap, nat_eq, arith, ⊎_elim, true≢false}
+use Rattle.std.specs.List.{Contains}
+use Rattle.std.proofs.lemmas.Bool.{false≢true, or_cases}
+use Rattle.std.proofs.lemmas.Bool.Decides.{Decides-eqb}
+use Rattle.joint_model.specs.declared.events.Op.{Op}
+use Rattle.joint_model.specs.declared.events.Op.TheVariants as op
+use Rattle.joint_model.specs.declared.events.Reply.{Reply}
+use Rattle.joint_model.specs.declared.events.Reply.TheVariants as says
+use Rattle.joint_model.specs.declared.names.Thread.TheVariants.{C}
+use Rattle.joint_model.specs.Heaps.{IsMade}
+use Rattle.joint_model.specs.Headline.{IsSoundRun, IsCompleteRun, IsCompleteCycle, IsFreedWithPeer, IsUnreachedAt, IsUnreachedBefore, WasUnreached, ResolvesAt, SweepsAt, SnapsAt, IsPeerFreedAt}
+use Rattle.joint_model.specs.Joint.{Joint, opening, graph_of, Row, object, peer, IsReached}
+use Rattle.joint_model.specs.Run.{Moment}
+use Rattle.joint_model.specs.Told.{snap_of, sweep_of, resolution_of, nothing}
+use Rattle.worked_histories.specs.Freeing.{one_run, FreesOneObject}
+use Rattle.worked_histories.specs.Notes.{note, span}
+use Rattle.worked_histories.proofs.Decided.{mem, is_closed, mem_from_Contains}
+use Rattle.worked_histories.proofs.Entries.{absent, present}
+use Rattle.worked_histories.proofs.JointRows.{row_eq, joint_next, joint_roots, joint_reach, Decides-joint_reached}
+use Rattle.worked_histories.proofs.Places.{place, same_place}
+
+-- the moment at a place
+abbrev pub moment_at : ℕ → Moment
+moment_at k = get_or one_run k (record { before = opening; noted = note 0 C 0 op.Begin says.Ok None nothing; after = opening })
+
+-- whether the event ends a cycle by a resolution, sweeps, or snaps
+abbrev pub is_resolve : Op → Bool
+is_resolve (op.Resolve k) = true
+is_resolve _ = false
+
+abbrev pub is_sweep : Op → Bool
+is_sweep op.Sweep = true
+is_sweep _ = false
+
+abbrev pub is_snap : Op → Bool
+is_snap (op.Snap k) = true
+is_snap _ = false
+
+-- the cycle of a resolution, and the marking of a sweep
+abbrev pub resolve_cycle : Op → ℕ
+resolve_cycle (op.Resolve k) = k.0
+resolve_cycle _ = 0
+
+abbrev pub swept_marking : Reply → ℕ
+swept_marking (says.Swept j s) = j.0
+swept_marking _ = 0
+
+-- nothing reaches a row that isn't computed to be reached
+pub not_reached : (j : Joint) (x : Row) → is_closed row_eq (joint_next (graph_of j)) (joint_roots (graph_of j)) (joint_reach (graph_of j) 4) ≡ true → mem row_eq (joint_reach (graph_of j) 4) x ≡ false → IsReached j x → ⊥
+not_reached j x closed out r = true≢false (sym ((Decides-joint_reached (graph_of j) 4 closed x).1 r) ∙ out)
+
+pub unreached_at : (i : ℕ) (m : Moment) (x : Row) → slice_get one_run i ≡ Some m → is_closed row_eq (joint_next (graph_of m.after)) (joint_roots (graph_of m.after)) (joint_reach (graph_of m.after) 4) ≡ true → mem row_eq (joint_reach (graph_of m.after) 4) x ≡ false → IsUnreachedAt one_run i x
+unreached_at i m x there closed out n e r = let same : m ≡ n = cc in not_reached m.after x closed out (subst (λ (k : Moment). IsReached k.after x) (sym same) r)
+
+pub unreached_before : (i : ℕ) (m : Moment) (x : Row) → slice_get one_run i ≡ Some m → is_closed row_eq (joint_next (graph_of m.before)) (joint_roots (graph_of m.before)) (joint_reach (graph_of m.before) 4) ≡ true → mem row_eq (joint_reach (graph_of m.before) 4) x ≡ false → IsUnreachedBefore one_run i x
+unreached_before i m x there closed out n e r = let same : m ≡ n = cc in not_reached m.before x closed out (subst (λ (k : Moment). IsReached k.before x) (sym same) r)
+
+-- the object and its peer were unreached at the begin and just before the sweep
+pub object_was : WasUnreached one_run 4 5 (object 1)
+object_was = record { at_begin = unreached_at 4 (moment_at 4) (object 1) refl refl refl; before_sweep = unreached_before 5 (moment_at 5) (object 1) refl refl refl }
+
+pub peer_was : WasUnreached one_run 4 5 (peer 1)
+peer_was = record { at_begin = unreached_at 4 (moment_at 4) (peer 1) refl refl refl; before_sweep = unreached_before 5 (moment_at 5) (peer 1) refl refl refl }
+
+pub one : (x : ℕ) → Contains (1 ∷ []) x → x ≡ 1
+one x c = ⊎_elim (λ e. (Decides-eqb x 1).0 e) (λ e. absurd (false≢true e)) (or_cases (nat_eq x 1) false (mem_from_Contains nat_eq Decides-eqb (1 ∷ []) x c))
+
+pub freed_one : IsFreedWithPeer one_run 6 1
+freed_one = record {
+  moment = moment_at 6;
+  there = refl;
+  handle = 1;
+  holds = record { live = record { made = omega arith; kept = absent [] 1 refl }; held = refl };
+  twin = 1;
+  leads = refl;
+  swept = record {
+    marking = 1;
+    begin = 4;
+    sweep = 5;
+    freed = 1 ∷ [];
+    begins = record { moment = moment_at 4; there = refl; event = refl; reply = refl };
+    sweeps = record { moment = moment_at 5; there = refl; event = refl; span = span 0 1; reply = refl; frees = refl };
+    in_order = omega arith;
+    in_time = omega arith;
+    frees = present (1 ∷ []) 1 refl;
+    row = object_was;
+    itself = peer_was;
+  };
+}
+
+-- the place and the data of a resolution, a sweep and a snapshot
+pub resolved_there : (i k : ℕ) (freed : List ℕ) → ResolvesAt one_run i k freed → (i ≡ 6) × (k ≡ 1) × (freed ≡ 1 ∷ [])
+resolved_there i k freed r =
+    let at = place (λ (m : Moment). is_resolve m.noted.entry.made.op) 6 one_run i r.moment refl r.there (subst (λ o. is_resolve o ≡ true) (sym r.event) refl) in
+    let same = same_place one_run i 6 r.moment (moment_at 6) r.there at refl in
+    let event : op.Resolve record { 0 = 1 } ≡ op.Resolve record { 0 = k } = subst (λ (m : Moment). m.noted.entry.made.op ≡ op.Resolve record { 0 = k }) (sym same) r.event in
+    let told : resolution_of (false ∷ []) (1 ∷ []) ≡ resolution_of r.alive freed = subst (λ (m : Moment). m.noted.told ≡ resolution_of r.alive freed) (sym same) r.frees in
+    (at, cycle_from k event, told_from r.alive freed told)
+  where
+    cycle_from : (k : ℕ) → op.Resolve record { 0 = 1 } ≡ op.Resolve record { 0 = k } → k ≡ 1
+    cycle_from k e = sym (ap resolve_cycle e)
+
+    told_from : (alive : List Bool) (freed : List ℕ) → resolution_of (false ∷ []) (1 ∷ []) ≡ resolution_of alive freed → freed ≡ 1 ∷ []
+    told_from alive freed e = cc
+
+pub swept_there : (i j : ℕ) (freed : List ℕ) → SweepsAt one_run i j freed → (i ≡ 5) × (j ≡ 1) × (freed ≡ 1 ∷ [])
+swept_there i j freed r =
+    let at = place (λ (m : Moment). is_sweep m.noted.entry.made.op) 5 one_run i r.moment refl r.there (subst (λ o. is_sweep o ≡ true) (sym r.event) refl) in
+    let same = same_place one_run i 5 r.moment (moment_at 5) r.there at refl in
+    let reply : says.Swept record { 0 = 1 } (span 0 1) ≡ says.Swept record { 0 = j } r.span = subst (λ (m : Moment). m.noted.entry.made.reply ≡ says.Swept record { 0 = j } r.span) (sym same) r.reply in
+    let told : sweep_of (1 ∷ []) ≡ sweep_of freed = subst (λ (m : Moment). m.noted.told ≡ sweep_of freed) (sym same) r.frees in
+    (at, sym (ap swept_marking reply), told_from freed told)
+  where
+    told_from : (freed : List ℕ) → sweep_of (1 ∷ []) ≡ sweep_of freed → freed ≡ 1 ∷ []
+    told_from freed e = cc
+
+pub snapped_there : (i k : ℕ) (freed candidates : List ℕ) → SnapsAt one_run i k freed candidates → freed ≡ []
+snapped_there i k freed candidates r =
+    let at = place (λ (m : Moment). is_snap m.noted.entry.made.op) 3 one_run i r.moment refl r.there (subst (λ o. is_snap o ≡ true) (sym r.event) refl) in
+    let same = same_place one_run i 3 r.moment (moment_at 3) r.there at refl in
+    told_from freed candidates r.dead (subst (λ (m : Moment). m.noted.told ≡ snap_of freed candidates r.dead) (sym same) r.frees)
+  where
+    told_from : (freed candidates dead : List ℕ) → snap_of [] (1 ∷ []) (1 ∷ []) ≡ snap_of freed candidates dead → freed ≡ []
+    told_from freed candidates dead e = cc
+
+pub one_sound : IsSoundRun one_run
+one_sound = record {
+  candidates = λ i k m freed r c b. let t = resolved_there i k freed r in let which = one m (subst (λ l. Contains l m) t.2 c) in
+      subst (λ a. IsFreedWithPeer one_run a m) (sym t.0) (subst (IsFreedWithPeer one_run 6) (sym which) freed_one);
+  peers = λ i j p freed r c. let t = swept_there i j freed r in let which = one p (subst (λ l. Contains l p) t.2 c) in (
+    4,
+    sooner i t.0,
+    record { moment = moment_at 4; there = refl; event = refl; reply = ap (λ (n : ℕ). says.Mark record { 0 = n }) (sym t.1) },
+    subst (λ a. WasUnreached one_run 4 a (peer p)) (sym t.0) (subst (λ q. WasUnreached one_run 4 5 (peer q)) (sym which) peer_was),
+  );
+  snapped = λ i k m freed candidates r c. absurd (absent [] m refl (subst (λ l. Contains l m) (snapped_there i k freed candidates r) c));
+  resolved = λ i k m freed r c. let t = resolved_there i k freed r in let which = one m (subst (λ l. Contains l m) t.2 c) in
+      subst (λ a. IsUnreachedBefore one_run a (object m)) (sym t.0) (subst (λ q. IsUnreachedBefore one_run 6 (object q)) (sym which) (unreached_before 6 (moment_at 6) (object 1) refl refl refl));
+}
+  where
+    sooner : (i : ℕ) → i ≡ 5 → 4 < i
+    sooner i e = omega arith
+
+pub cycle_complete : IsCompleteCycle one_run 6 1 (1 ∷ [])
+cycle_complete = record {
+  snap = 3;
+  begin = 4;
+  sweep = 5;
+  marking = 1;
+  freed = [];
+  candidates = 1 ∷ [];
+  swept = 1 ∷ [];
+  snaps = record { moment = moment_at 3; there = refl; event = refl; dead = 1 ∷ []; frees = refl };
+  begins = record { moment = moment_at 4; there = refl; caller = refl; event = refl; reply = refl };
+  sweeps = record { moment = moment_at 5; there = refl; event = refl; span = span 0 1; reply = refl; frees = refl };
+  begins_later = omega arith;
+  sweeps_later = omega arith;
+  ends_later = omega arith;
+  objects = λ m c u. c;
+  peers = λ p made u. let same = same_place one_run 4 4 made.moment (moment_at 4) made.there refl refl in
+      let which = only_one p (subst (λ (m : Moment). IsMade m.before.peers.heap p) (sym same) made.made) in
+      subst (λ q. IsPeerFreedAt one_run 5 q) (sym which) (record { moment = moment_at 5; there = refl; freed = present (1 ∷ []) 1 refl });
+}
+  where
+    only_one : (p : ℕ) → (1 ≤ p) × (p ≤ 1) → p ≡ 1
+    only_one p made = omega arith
+
+pub one_complete : IsCompleteRun one_run
+one_complete i k freed r = let t = resolved_there i k freed r in
+    subst (λ a. IsCompleteCycle one_run a k freed) (sym t.0) (subst (λ a. IsCompleteCycle one_run 6 a freed) (sym t.1) (subst (IsCompleteCycle one_run 6 1) (sym t.2) cycle_complete))
+
+pub one_object-freed : FreesOneObject
+one_object-freed = record { sound = one_sound; complete = one_complete }

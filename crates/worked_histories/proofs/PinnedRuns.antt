@@ -1,0 +1,73 @@
+-- The history of the pinned object is a run.
+use Rattle.std.proofs.Common.{[], refl, arith, inl, inr}
+use Rattle.joint_model.specs.Joint.{opening}
+use Rattle.joint_model.specs.Run.{IsRunFrom}
+use Rattle.worked_histories.specs.Runs.{PinnedRun}
+use Rattle.worked_histories.specs.Moments.{moments_of}
+use Rattle.worked_histories.specs.Pins.{pinned_object}
+use Rattle.worked_histories.proofs.Decided.{Rises-from_test}
+use Rattle.worked_histories.proofs.JointRows.{unreached}
+use Rattle.worked_histories.proofs.ManagedRows.{snapshot, resolution}
+use Rattle.worked_histories.proofs.RunSteps.{Decides-kept_row, none_reached, all_stored}
+
+pub pinned-runs : IsRunFrom opening (moments_of pinned_object)
+pinned-runs = (
+  refl,
+  record { event = omega arith; step = record { computed = tt; replies = refl; state = refl } },
+  (
+    refl,
+    record { event = omega arith; step = record { computed = tt; replies = refl; state = refl } },
+    (
+      refl,
+      record { event = (omega arith, omega arith, (_, (omega arith, refl))); step = record { computed = tt; replies = refl; state = refl } },
+      (
+        refl,
+        record { event = omega arith; step = record { computed = tt; replies = refl; state = refl } },
+        (
+          refl,
+          record { event = omega arith; step = record { computed = tt; replies = refl; state = refl } },
+          (
+            refl,
+            record { event = omega arith; step = record { computed = tt; replies = refl; state = refl } },
+            (
+              refl,
+              record { event = omega arith; step = record { computed = tt; replies = refl; state = refl } },
+              (
+                refl,
+                record { event = tt; step = record { snapshot = snapshot _ 2 1 [] [] [] (record { slots = refl; bridges = refl }) refl refl refl refl refl refl; replies = refl; state = refl } },
+                (
+                  refl,
+                  record { event = inr tt; step = record { replies = refl; state = refl } },
+                  (
+                    refl,
+                    record { event = inr tt; step = inl (record { allowed = inl refl; rise = Rises-from_test [] refl; stored = all_stored _ 4 [] refl refl; unreached = none_reached _ 4 [] refl refl; replies = refl; state = refl }) },
+                    (
+                      refl,
+                      record { event = tt; step = record { cycle = record { number = 1; candidates = []; dead = [] }; open_cycle = (refl, refl); resolution = resolution _ 1 [] _ [] [] (Decides-kept_row _ (record { number = 1; candidates = []; dead = [] })) refl refl refl; replies = refl; state = refl } },
+                      (
+                        refl,
+                        record { event = omega arith; step = record { computed = tt; replies = refl; state = refl } },
+                        (
+                          refl,
+                          record { event = omega arith; step = record { computed = tt; replies = refl; state = refl } },
+                          (
+                            refl,
+                            record { event = omega arith; step = record { computed = tt; replies = refl; state = refl } },
+                            tt,
+                          ),
+                        ),
+                      ),
+                    ),
+                  ),
+                ),
+              ),
+            ),
+          ),
+        ),
+      ),
+    ),
+  ),
+)
+
+pub pinned-run : PinnedRun
+pinned-run = record { run = record { same = refl; steps = pinned-runs }; begins = (unreached _ 4 [] refl refl refl, tt) }

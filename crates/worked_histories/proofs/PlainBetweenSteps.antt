@@ -1,0 +1,179 @@
+-- Two bridge objects with two plain ones between them, of which the first one has a peer in a static: its entries may come when they come, and it is a run.
+use Rattle.std.proofs.Common.{[], ◌∷◌, refl, arith, true, inl, inr}
+use Rattle.std.proofs.lemmas.List.Elements.{All-contains_itself}
+use Rattle.joint_model.specs.declared.names.Sort.TheVariants.{User, Framework}
+use Rattle.joint_model.specs.Joint.{opening}
+use Rattle.joint_model.specs.Linked.{opening_linkage, AllMayCome}
+use Rattle.joint_model.specs.Peers.{held, strong}
+use Rattle.joint_model.specs.Run.{IsRunFrom}
+use Rattle.worked_histories.specs.Moments.{moments_of}
+use Rattle.worked_histories.proofs.Decided.{Rises-from_test}
+use Rattle.worked_histories.proofs.Entries.{absent, present}
+use Rattle.worked_histories.proofs.JointRows.{unreached}
+use Rattle.worked_histories.proofs.ManagedRows.{snapshot, resolution, Decides-answered, dead_contraction}
+use Rattle.worked_histories.proofs.PeerRows.{sweep}
+use Rattle.worked_histories.proofs.RunSteps.{Decides-kept_row, none_reached, all_stored}
+use Rattle.worked_histories.specs.PlainBetween.{plain_between, PlainBetweenHolds}
+
+pub plain_between-lawful : AllMayCome opening_linkage plain_between
+plain_between-lawful = (
+  record { number = refl; event = omega arith; line = omega arith; lawful = record { allowed = tt; replies = refl }; order = refl },
+  (
+    record { number = refl; event = (omega arith, omega arith, (User, (omega arith, refl))); line = omega arith; lawful = record { allowed = absent [] 1 refl; replies = refl }; order = (refl, refl, refl, refl, (omega arith, (omega arith, (omega arith, refl), omega arith))) },
+    (
+      record { number = refl; event = omega arith; line = omega arith; lawful = record { allowed = tt; replies = refl }; order = refl },
+      (
+        record { number = refl; event = omega arith; line = omega arith; lawful = record { allowed = tt; replies = refl }; order = refl },
+        (
+          record { number = refl; event = omega arith; line = omega arith; lawful = record { allowed = tt; replies = refl }; order = refl },
+          (
+            record { number = refl; event = (omega arith, omega arith, (Framework, refl)); line = omega arith; lawful = record { allowed = absent (1 ∷ []) 2 refl; replies = refl }; order = (refl, refl, refl, refl, (omega arith, (omega arith, refl, omega arith))) },
+            (
+              record { number = refl; event = omega arith; line = omega arith; lawful = record { allowed = tt; replies = refl }; order = refl },
+              (
+                record { number = refl; event = omega arith; line = omega arith; lawful = record { allowed = tt; replies = refl }; order = refl },
+                (
+                  record { number = refl; event = omega arith; line = omega arith; lawful = record { allowed = tt; replies = refl }; order = refl },
+                  (
+                    record { number = refl; event = omega arith; line = omega arith; lawful = record { allowed = tt; replies = refl }; order = refl },
+                    (
+                      record { number = refl; event = omega arith; line = omega arith; lawful = record { allowed = tt; replies = refl }; order = (refl, refl, refl, refl) },
+                      (
+                        record { number = refl; event = omega arith; line = omega arith; lawful = record { allowed = tt; replies = refl }; order = refl },
+                        (
+                          record { number = refl; event = omega arith; line = omega arith; lawful = record { allowed = tt; replies = refl }; order = refl },
+                          (
+                            record { number = refl; event = omega arith; line = omega arith; lawful = record { allowed = tt; replies = refl }; order = refl },
+                            (
+                              record { number = refl; event = omega arith; line = omega arith; lawful = record { allowed = tt; replies = refl }; order = refl },
+                              (
+                                record { number = refl; event = tt; line = omega arith; lawful = record { allowed = snapshot _ 4 1 [] (1 ∷ 4 ∷ []) (1 ∷ 2 ∷ 3 ∷ 4 ∷ []) (record { slots = refl; bridges = refl }) refl refl refl refl refl refl; replies = refl }; order = refl },
+                                (
+                                  record { number = refl; event = tt; line = omega arith; lawful = record { allowed = record { cycle = record { number = 1; candidates = (1 ∷ 4 ∷ []); dead = (1 ∷ 2 ∷ 3 ∷ 4 ∷ []) }; open_cycle = (refl, refl); once = refl; exact = dead_contraction _ 4 (1 ∷ 2 ∷ 3 ∷ 4 ∷ []) ((1 ∷ []) ∷ (4 ∷ []) ∷ []) ((0, 1) ∷ []) (record { inside = refl; complete = refl; order = refl; same = refl; firsts = refl; split = refl; refs = refl }) }; replies = refl }; order = (refl, refl) },
+                                  (
+                                    record { number = refl; event = tt; line = omega arith; lawful = record { allowed = record { none_stands = refl; once = absent [] 1 refl; snap = 15; cited = refl }; replies = refl }; order = (refl, refl, refl) },
+                                    (
+                                      record { number = refl; event = tt; line = omega arith; lawful = record { allowed = record { mirror = record { cycle = 1; snap = 15; weakened = []; restored = [] }; stands = refl; cited = refl; is_held = (record { peer = 1; hold = held; strength = strong }, refl, refl); strong_now = refl }; replies = refl }; order = (refl, refl, (_, refl, refl)) },
+                                      (
+                                        record { number = refl; event = tt; line = omega arith; lawful = record { allowed = record { mirror = record { cycle = 1; snap = 15; weakened = (1 ∷ []); restored = [] }; stands = refl; cited = refl; is_held = (record { peer = 2; hold = held; strength = strong }, refl, refl); strong_now = refl }; replies = refl }; order = (refl, refl, (_, refl, refl)) },
+                                        (
+                                          record { number = refl; event = inr tt; line = omega arith; lawful = record { allowed = tt; replies = refl }; order = (refl, refl) },
+                                          (
+                                            record { number = refl; event = inr tt; line = omega arith; lawful = record { allowed = (inl refl, sweep _ _ 2 [] refl refl refl); replies = refl }; order = refl },
+                                            (
+                                              record { number = refl; event = tt; line = omega arith; lawful = record { allowed = record { mirror = record { cycle = 1; snap = 15; weakened = (1 ∷ 2 ∷ []); restored = [] }; stands = refl; weakened = present (1 ∷ 2 ∷ []) 1 refl; waiting = absent [] 1 refl; row = _; tabled = refl }; replies = refl }; order = (refl, (_, refl, refl)) },
+                                              (
+                                                record { number = refl; event = tt; line = omega arith; lawful = record { allowed = record { mirror = record { cycle = 1; snap = 15; weakened = (1 ∷ 2 ∷ []); restored = (1 ∷ []) }; stands = refl; weakened = present (1 ∷ 2 ∷ []) 2 refl; waiting = absent (1 ∷ []) 2 refl; row = _; tabled = refl }; replies = refl }; order = (refl, (_, refl, refl)) },
+                                                (
+                                                  record { number = refl; event = tt; line = omega arith; lawful = record { allowed = record { mirror = record { cycle = 1; snap = 15; weakened = (1 ∷ 2 ∷ []); restored = (1 ∷ 2 ∷ []) }; stands = refl; same = refl; all = All-contains_itself (1 ∷ 2 ∷ []) }; replies = refl }; order = (refl, refl, refl) },
+                                                  (
+                                                    record { number = refl; event = tt; line = omega arith; lawful = record { allowed = record { cycle = record { number = 1; candidates = (1 ∷ 4 ∷ []); dead = (1 ∷ 2 ∷ 3 ∷ 4 ∷ []) }; open_cycle = (refl, refl); answers = refl; resolution = resolution _ 4 (1 ∷ 2 ∷ 3 ∷ 4 ∷ []) _ (1 ∷ 4 ∷ []) [] (Decides-answered (1 ∷ 4 ∷ []) (true ∷ true ∷ [])) refl refl refl }; replies = refl }; order = (refl, refl, refl) },
+                                                    tt,
+                                                  ),
+                                                ),
+                                              ),
+                                            ),
+                                          ),
+                                        ),
+                                      ),
+                                    ),
+                                  ),
+                                ),
+                              ),
+                            ),
+                          ),
+                        ),
+                      ),
+                    ),
+                  ),
+                ),
+              ),
+            ),
+          ),
+        ),
+      ),
+    ),
+  ),
+)
+
+pub plain_between-runs : IsRunFrom opening (moments_of plain_between)
+plain_between-runs = (
+  refl,
+  record { event = omega arith; step = record { computed = tt; replies = refl; state = refl } },
+  (
+    refl,
+    record { event = (omega arith, omega arith, (User, (omega arith, refl))); step = record { computed = tt; replies = refl; state = refl } },
+    (
+      refl,
+      record { event = omega arith; step = record { computed = tt; replies = refl; state = refl } },
+      (
+        refl,
+        record { event = omega arith; step = record { computed = tt; replies = refl; state = refl } },
+        (
+          refl,
+          record { event = omega arith; step = record { computed = tt; replies = refl; state = refl } },
+          (
+            refl,
+            record { event = (omega arith, omega arith, (Framework, refl)); step = record { computed = tt; replies = refl; state = refl } },
+            (
+              refl,
+              record { event = omega arith; step = record { computed = tt; replies = refl; state = refl } },
+              (
+                refl,
+                record { event = omega arith; step = record { computed = tt; replies = refl; state = refl } },
+                (
+                  refl,
+                  record { event = omega arith; step = record { computed = tt; replies = refl; state = refl } },
+                  (
+                    refl,
+                    record { event = omega arith; step = record { computed = tt; replies = refl; state = refl } },
+                    (
+                      refl,
+                      record { event = omega arith; step = record { computed = tt; replies = refl; state = refl } },
+                      (
+                        refl,
+                        record { event = omega arith; step = record { computed = tt; replies = refl; state = refl } },
+                        (
+                          refl,
+                          record { event = omega arith; step = record { computed = tt; replies = refl; state = refl } },
+                          (
+                            refl,
+                            record { event = omega arith; step = record { computed = tt; replies = refl; state = refl } },
+                            (
+                              refl,
+                              record { event = omega arith; step = record { computed = tt; replies = refl; state = refl } },
+                              (
+                                refl,
+                                record { event = tt; step = record { snapshot = snapshot _ 4 1 [] (1 ∷ 4 ∷ []) (1 ∷ 2 ∷ 3 ∷ 4 ∷ []) (record { slots = refl; bridges = refl }) refl refl refl refl refl refl; replies = refl; state = refl } },
+                                (
+                                  refl,
+                                  record { event = inr tt; step = record { replies = refl; state = refl } },
+                                  (
+                                    refl,
+                                    record { event = inr tt; step = inl (record { allowed = inl refl; rise = Rises-from_test [] refl; stored = all_stored _ 6 [] refl refl; unreached = none_reached _ 6 [] refl refl; replies = refl; state = refl }) },
+                                    (
+                                      refl,
+                                      record { event = tt; step = record { cycle = record { number = 1; candidates = (1 ∷ 4 ∷ []); dead = (1 ∷ 2 ∷ 3 ∷ 4 ∷ []) }; open_cycle = (refl, refl); resolution = resolution _ 4 (1 ∷ 2 ∷ 3 ∷ 4 ∷ []) _ (1 ∷ 4 ∷ []) [] (Decides-kept_row _ (record { number = 1; candidates = (1 ∷ 4 ∷ []); dead = (1 ∷ 2 ∷ 3 ∷ 4 ∷ []) })) refl refl refl; replies = refl; state = refl } },
+                                      tt,
+                                    ),
+                                  ),
+                                ),
+                              ),
+                            ),
+                          ),
+                        ),
+                      ),
+                    ),
+                  ),
+                ),
+              ),
+            ),
+          ),
+        ),
+      ),
+    ),
+  ),
+)
+
+pub plain_between-holds : PlainBetweenHolds
+plain_between-holds = record { lawful = plain_between-lawful; run = record { run = record { same = refl; steps = plain_between-runs }; begins = (unreached _ 6 [] refl refl refl, tt) } }

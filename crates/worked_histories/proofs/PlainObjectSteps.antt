@@ -1,0 +1,74 @@
+-- A plain object that nothing names is freed by the snapshot itself: its entries may come when they come, and it is a run.
+use Rattle.std.proofs.Common.{[], ◌∷◌, refl, arith, inl, inr}
+use Rattle.std.proofs.lemmas.List.Elements.{All-contains_itself}
+use Rattle.joint_model.specs.Joint.{opening}
+use Rattle.joint_model.specs.Linked.{opening_linkage, AllMayCome}
+use Rattle.joint_model.specs.Run.{IsRunFrom}
+use Rattle.worked_histories.specs.Moments.{moments_of}
+use Rattle.worked_histories.proofs.Decided.{Rises-from_test}
+use Rattle.worked_histories.proofs.Entries.{absent}
+use Rattle.worked_histories.proofs.JointRows.{unreached}
+use Rattle.worked_histories.proofs.ManagedRows.{snapshot, resolution, Decides-answered, dead_contraction}
+use Rattle.worked_histories.proofs.PeerRows.{sweep}
+use Rattle.worked_histories.proofs.RunSteps.{Decides-kept_row, none_reached, all_stored}
+use Rattle.worked_histories.specs.PlainObject.{plain_object, PlainObjectHolds}
+
+pub plain_object-lawful : AllMayCome opening_linkage plain_object
+plain_object-lawful = (
+  record { number = refl; event = omega arith; line = omega arith; lawful = record { allowed = tt; replies = refl }; order = refl },
+  (
+    record { number = refl; event = omega arith; line = omega arith; lawful = record { allowed = tt; replies = refl }; order = refl },
+    (
+      record { number = refl; event = tt; line = omega arith; lawful = record { allowed = snapshot _ 2 1 (1 ∷ []) [] [] (record { slots = refl; bridges = refl }) refl refl refl refl refl refl; replies = refl }; order = refl },
+      (
+        record { number = refl; event = tt; line = omega arith; lawful = record { allowed = record { cycle = record { number = 1; candidates = []; dead = [] }; open_cycle = (refl, refl); once = refl; exact = dead_contraction _ 2 [] [] [] (record { inside = refl; complete = refl; order = refl; same = refl; firsts = refl; split = refl; refs = refl }) }; replies = refl }; order = (refl, refl) },
+        (
+          record { number = refl; event = tt; line = omega arith; lawful = record { allowed = record { none_stands = refl; once = absent [] 1 refl; snap = 2; cited = refl }; replies = refl }; order = (refl, refl, refl) },
+          (
+            record { number = refl; event = inr tt; line = omega arith; lawful = record { allowed = tt; replies = refl }; order = (refl, refl) },
+            (
+              record { number = refl; event = inr tt; line = omega arith; lawful = record { allowed = (inl refl, sweep _ _ 2 [] refl refl refl); replies = refl }; order = refl },
+              (
+                record { number = refl; event = tt; line = omega arith; lawful = record { allowed = record { mirror = record { cycle = 1; snap = 2; weakened = []; restored = [] }; stands = refl; same = refl; all = All-contains_itself [] }; replies = refl }; order = (refl, refl, refl) },
+                (
+                  record { number = refl; event = tt; line = omega arith; lawful = record { allowed = record { cycle = record { number = 1; candidates = []; dead = [] }; open_cycle = (refl, refl); answers = refl; resolution = resolution _ 2 [] _ [] [] (Decides-answered [] []) refl refl refl }; replies = refl }; order = (refl, refl, refl) },
+                  tt,
+                ),
+              ),
+            ),
+          ),
+        ),
+      ),
+    ),
+  ),
+)
+
+pub plain_object-runs : IsRunFrom opening (moments_of plain_object)
+plain_object-runs = (
+  refl,
+  record { event = omega arith; step = record { computed = tt; replies = refl; state = refl } },
+  (
+    refl,
+    record { event = omega arith; step = record { computed = tt; replies = refl; state = refl } },
+    (
+      refl,
+      record { event = tt; step = record { snapshot = snapshot _ 2 1 (1 ∷ []) [] [] (record { slots = refl; bridges = refl }) refl refl refl refl refl refl; replies = refl; state = refl } },
+      (
+        refl,
+        record { event = inr tt; step = record { replies = refl; state = refl } },
+        (
+          refl,
+          record { event = inr tt; step = inl (record { allowed = inl refl; rise = Rises-from_test [] refl; stored = all_stored _ 4 [] refl refl; unreached = none_reached _ 4 [] refl refl; replies = refl; state = refl }) },
+          (
+            refl,
+            record { event = tt; step = record { cycle = record { number = 1; candidates = []; dead = [] }; open_cycle = (refl, refl); resolution = resolution _ 2 [] _ [] [] (Decides-kept_row _ (record { number = 1; candidates = []; dead = [] })) refl refl refl; replies = refl; state = refl } },
+            tt,
+          ),
+        ),
+      ),
+    ),
+  ),
+)
+
+pub plain_object-holds : PlainObjectHolds
+plain_object-holds = record { lawful = plain_object-lawful; run = record { run = record { same = refl; steps = plain_object-runs }; begins = (unreached _ 4 [] refl refl refl, tt) } }

@@ -1,0 +1,5 @@
+use Rattle.worked_histories.proofs.OneObjectSteps.{one_object-holds}
+use Rattle.worked_histories.proofs.further.one_object_is_lawful.Goals as goal
+
+pub returns : goal.returns
+returns c = one_object-holds

@@ -1,0 +1,5 @@
+use Rattle.worked_histories.proofs.PeerMarkingSteps.{peer_marking-holds}
+use Rattle.worked_histories.proofs.further.peer_marking_is_lawful.Goals as goal
+
+pub returns : goal.returns
+returns c = peer_marking-holds

@@ -1,0 +1,5 @@
+use Rattle.worked_histories.proofs.PlainObjectSteps.{plain_object-holds}
+use Rattle.worked_histories.proofs.further.plain_object_is_lawful.Goals as goal
+
+pub returns : goal.returns
+returns c = plain_object-holds

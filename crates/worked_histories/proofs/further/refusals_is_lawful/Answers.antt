@@ -1,0 +1,5 @@
+use Rattle.worked_histories.proofs.RefusalsSteps.{refusals-holds}
+use Rattle.worked_histories.proofs.further.refusals_is_lawful.Goals as goal
+
+pub returns : goal.returns
+returns c = refusals-holds

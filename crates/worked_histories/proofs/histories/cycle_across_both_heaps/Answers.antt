@@ -1,0 +1,5 @@
+use Rattle.worked_histories.proofs.CrossHeaps.{cross_heap_cycle-lawful}
+use Rattle.worked_histories.proofs.histories.cycle_across_both_heaps.Goals as goal
+
+pub returns : goal.returns
+returns c = cross_heap_cycle-lawful

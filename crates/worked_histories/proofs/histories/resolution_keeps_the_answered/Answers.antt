@@ -1,0 +1,28 @@
+-- The answers are those of the restores, so no candidate is kept, and both rows of the dead part are freed.
+use Rattle.std.proofs.Common.{◌≡◌, ℕ, Bool, true, false, List, [], ◌∷◌, Some, refl, subst, slice_get}
+use Rattle.std.proofs.lemmas.Bool.{false≢true}
+use Rattle.joint_model.specs.Cycles.{IsAnsweredAlive}
+use Rattle.joint_model.specs.Managed.{OpenCycle}
+use Rattle.std.specs.List.{Contains}
+use Rattle.worked_histories.proofs.Entries.{present}
+use Rattle.worked_histories.proofs.ManagedRows.{answered_at}
+use Rattle.worked_histories.proofs.histories.resolution_keeps_the_answered.Goals as goal
+
+none_kept : (cycle : OpenCycle) (alive : List Bool) → cycle.candidates ≡ 1 ∷ 2 ∷ [] → alive ≡ false ∷ false ∷ [] → (x : ℕ) → IsAnsweredAlive cycle.candidates alive x → ⊥
+none_kept cycle alive p q x a = false≢true (answered_at (1 ∷ 2 ∷ []) (false ∷ false ∷ []) x a.0 (subst (λ l. slice_get l a.0 ≡ Some x) p a.1) (subst (λ l. slice_get l a.0 ≡ Some true) q a.2))
+
+the_cycle : OpenCycle
+the_cycle = record { number = 2; candidates = 1 ∷ 2 ∷ []; dead = 1 ∷ 2 ∷ [] }
+
+pub returns : goal.returns
+unfolding the_cycle
+returns c alive freed reply h =
+    let m = h.lawful.allowed in
+    let e : Some the_cycle ≡ Some m.cycle = m.open_cycle.0 in
+    let same : the_cycle ≡ m.cycle = cc in
+    let none = none_kept m.cycle alive (subst (λ (k : OpenCycle). k.candidates ≡ 1 ∷ 2 ∷ []) same refl) h.order.2 in
+    let dead = λ (x : ℕ) (d : Contains (1 ∷ 2 ∷ []) x). subst (λ (k : OpenCycle). Contains k.dead x) same d in (
+      h.order.2,
+      (m.resolution.frees 1).1 (dead 1 (present (1 ∷ 2 ∷ []) 1 refl), λ k. none k.0 k.1),
+      (m.resolution.frees 2).1 (dead 2 (present (1 ∷ 2 ∷ []) 2 refl), λ k. none k.0 k.1),
+    )

@@ -1,0 +1,5 @@
+use Rattle.worked_histories.proofs.TwoLinkedRuns.{two_linked-run}
+use Rattle.worked_histories.proofs.runs.two_linked_objects_run.Goals as goal
+
+pub returns : goal.returns
+returns c = two_linked-run

@@ -1,0 +1,45 @@
+-- A candidate whose peer moves from a field to a static between the phases is kept.
+use Rattle.std.specs.Prelude.{true, List, [], ◌∷◌, Some, None}
+use Rattle.joint_model.specs.declared.names.Thread.TheVariants.{M, P, C}
+use Rattle.joint_model.specs.declared.names.Sort.TheVariants.{User}
+use Rattle.joint_model.specs.declared.names.Kind.TheVariants as kind
+use Rattle.joint_model.specs.declared.lines.Act.TheVariants as act
+use Rattle.joint_model.specs.declared.events.Op.TheVariants as op
+use Rattle.joint_model.specs.declared.events.Reply.TheVariants as says
+use Rattle.joint_model.specs.Linked.{opening_linkage, AllMayCome}
+use Rattle.joint_model.specs.Told.{nothing, snap_of, contraction_of, references_of, sweep_of, resolution_of, Noted}
+use Rattle.worked_histories.specs.Moments.{IsRunOf}
+use Rattle.worked_histories.specs.Notes.{note, var, static_no, object_no, peer_no, handle_no, cycle_no, marking_no, span}
+
+-- the whole history
+abbrev pub moved_peer : List Noted
+moved_peer =
+    note 0 (M 1) 1 (op.Make User 0) (says.Made (peer_no 1) (handle_no 1)) None nothing
+    ∷ note 1 (M 1) 1 (op.Adopt (var 0) kind.Bridge 0 (peer_no 1) (handle_no 1)) (says.M (object_no 1)) (Some 0) nothing
+    ∷ note 2 (M 1) 2 (op.Lend (var 0) (static_no 0)) (says.H (handle_no 1)) None nothing
+    ∷ note 3 (M 1) 2 (op.Land (handle_no 1) (static_no 0)) (says.P (peer_no 1)) (Some 2) nothing
+    ∷ note 4 (P 1) 3 (op.Line (act.Load (var 0) (static_no 0))) (says.P (peer_no 1)) None nothing
+    ∷ note 5 (P 1) 4 (op.Line (act.NewPeer (var 1) 1)) (says.P (peer_no 2)) None nothing
+    ∷ note 6 (P 1) 5 (op.Line (act.Set (var 1) 0 (Some (var 0)))) says.Ok None nothing
+    ∷ note 7 (P 1) 6 (op.Line (act.Drop (var 0))) says.Ok None nothing
+    ∷ note 8 (P 1) 7 (op.Line (act.Store (static_no 0) None)) says.Ok None nothing
+    ∷ note 9 (M 1) 8 (op.Line (act.Drop (var 0))) says.Ok None nothing
+    ∷ note 10 C 9 (op.Snap (cycle_no 1)) (says.Snapped 1 (span 0 0)) None (snap_of [] (1 ∷ []) (1 ∷ []))
+    ∷ note 11 C 10 (op.Contract (cycle_no 1)) (says.Sccs 1 0) None (contraction_of ((1 ∷ []) ∷ []) [])
+    ∷ note 12 (P 1) 11 (op.Line (act.Get (var 2) (var 1) 0)) (says.P (peer_no 1)) None nothing
+    ∷ note 13 (P 1) 12 (op.Line (act.Store (static_no 1) (Some (var 2)))) says.Ok None nothing
+    ∷ note 14 (P 1) 13 (op.Line (act.Set (var 1) 0 None)) says.Ok None nothing
+    ∷ note 15 (P 1) 14 (op.Line (act.Drop (var 2))) says.Ok None nothing
+    ∷ note 16 C 15 (op.Mirror (cycle_no 1)) (says.Refs 0) (Some 10) (references_of [])
+    ∷ note 17 C 15 (op.Weaken (handle_no 1)) says.Ok (Some 10) nothing
+    ∷ note 18 C 15 op.Begin (says.Mark (marking_no 1)) None nothing
+    ∷ note 19 C 15 op.Sweep (says.Swept (marking_no 1) (span 0 0)) None (sweep_of [])
+    ∷ note 20 C 15 (op.Restore (handle_no 1)) says.Alive None nothing
+    ∷ note 21 C 15 (op.Clear (cycle_no 1)) says.Ok None nothing
+    ∷ note 22 C 15 (op.Resolve (cycle_no 1)) (says.Freed (span 0 0)) (Some 21) (resolution_of (true ∷ []) [])
+    ∷ []
+
+-- every entry may come when it comes, and the entries that are steps of the joint machine are a run
+pub record MovedPeerHolds : Type 0 where
+  pub lawful : AllMayCome opening_linkage moved_peer
+  pub run : IsRunOf moved_peer ([] ∷ [])

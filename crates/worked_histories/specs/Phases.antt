@@ -1,0 +1,75 @@
+-- Two bridge objects, of which the first has the second in a field, with cycles of eight phases: the first cycle finds both
+-- reached, and the second frees both with their peers.
+use Rattle.std.specs.Prelude.{◌≡◌, ℕ, Bool, false, List, [], ◌∷◌, ◌++◌, Contains, Some, None}
+use Rattle.joint_model.specs.declared.names.Thread.TheVariants.{M, C}
+use Rattle.joint_model.specs.declared.lines.Act.TheVariants as act
+use Rattle.joint_model.specs.declared.events.Op.TheVariants as op
+use Rattle.joint_model.specs.declared.events.Reply.{Reply}
+use Rattle.joint_model.specs.declared.events.Reply.TheVariants as says
+use Rattle.joint_model.specs.Linked.{Linkage, opening_linkage, replayed, MayCome}
+use Rattle.joint_model.specs.Told.{nothing, snap_of, contraction_of, references_of, sweep_of, resolution_of, Noted}
+use Rattle.worked_histories.specs.FirstSteps.{two_made}
+use Rattle.worked_histories.specs.Notes.{note, var, handle_no, cycle_no, marking_no, span}
+
+-- the first cycle, while the first object's variable holds it: it has no candidates
+abbrev pub reached_cycle : List Noted
+reached_cycle =
+    note 6 C 5 (op.Snap (cycle_no 1)) (says.Snapped 0 (span 0 0)) None (snap_of [] [] [])
+    ∷ note 7 C 5 (op.Contract (cycle_no 1)) (says.Sccs 0 0) None (contraction_of [] [])
+    ∷ note 8 C 5 (op.Mirror (cycle_no 1)) (says.Refs 0) (Some 6) (references_of [])
+    ∷ note 9 C 5 op.Begin (says.Mark (marking_no 1)) None nothing
+    ∷ note 10 C 5 op.Sweep (says.Swept (marking_no 1) (span 0 0)) None (sweep_of [])
+    ∷ note 11 C 5 (op.Clear (cycle_no 1)) says.Ok None nothing
+    ∷ note 12 C 5 (op.Resolve (cycle_no 1)) (says.Freed (span 0 0)) (Some 11) (resolution_of [] [])
+    ∷ []
+
+-- its variable is emptied, and the second cycle takes both objects as candidates
+abbrev pub dead_snap : List Noted
+dead_snap =
+    note 13 (M 1) 6 (op.Line (act.Drop (var 0))) says.Ok None nothing
+    ∷ note 14 C 7 (op.Snap (cycle_no 2)) (says.Snapped 2 (span 0 0)) None (snap_of [] (1 ∷ 2 ∷ []) (1 ∷ 2 ∷ []))
+    ∷ note 15 C 7 (op.Contract (cycle_no 2)) (says.Sccs 2 1) None (contraction_of ((1 ∷ []) ∷ (2 ∷ []) ∷ []) ((0, 1) ∷ []))
+    ∷ []
+
+-- the phases on the peer heap
+abbrev pub dead_peers : List Noted
+dead_peers =
+    note 16 C 7 (op.Mirror (cycle_no 2)) (says.Refs 1) (Some 14) (references_of ((1, 2) ∷ []))
+    ∷ note 17 C 7 (op.Weaken (handle_no 1)) says.Ok (Some 14) nothing
+    ∷ note 18 C 7 (op.Weaken (handle_no 2)) says.Ok (Some 14) nothing
+    ∷ note 19 C 7 op.Begin (says.Mark (marking_no 2)) None nothing
+    ∷ note 20 C 7 op.Sweep (says.Swept (marking_no 2) (span 0 2)) None (sweep_of (1 ∷ 2 ∷ []))
+    ∷ note 21 C 7 (op.Restore (handle_no 1)) says.Cleared None nothing
+    ∷ note 22 C 7 (op.Restore (handle_no 2)) says.Cleared None nothing
+    ∷ note 23 C 7 (op.Clear (cycle_no 2)) says.Ok None nothing
+    ∷ []
+
+-- both objects are freed
+abbrev pub dead_end : List Noted
+dead_end = note 24 C 7 (op.Resolve (cycle_no 2)) (says.Freed (span 0 2)) (Some 23) (resolution_of (false ∷ false ∷ []) (1 ∷ 2 ∷ [])) ∷ []
+
+-- the whole history
+abbrev pub two_phased : List Noted
+two_phased = two_made ++ (reached_cycle ++ (dead_snap ++ (dead_peers ++ dead_end)))
+
+-- the state once both objects are made, after the first cycle, before the second one's mirror, and before its resolution
+abbrev pub making_phased : Linkage
+making_phased = replayed opening_linkage two_made
+
+abbrev pub after_reached : Linkage
+after_reached = replayed making_phased reached_cycle
+
+abbrev pub before_mirror : Linkage
+before_mirror = replayed after_reached dead_snap
+
+abbrev pub before_resolve : Linkage
+before_resolve = replayed before_mirror dead_peers
+
+-- a mirror that may come there adds the one reference, and no other list
+abbrev pub MirrorsBoth : Type 0
+MirrorsBoth = (refs : List (ℕ × ℕ)) (reply : Reply) → MayCome before_mirror (note 16 C 7 (op.Mirror (cycle_no 2)) reply (Some 14) (references_of refs)) → refs ≡ (1, 2) ∷ []
+
+-- a resolution that may come there keeps neither candidate, and frees both
+abbrev pub ResolvesBoth : Type 0
+ResolvesBoth = (alive : List Bool) (freed : List ℕ) (reply : Reply) → MayCome before_resolve (note 24 C 7 (op.Resolve (cycle_no 2)) reply (Some 23) (resolution_of alive freed))
+    → (alive ≡ false ∷ false ∷ []) × Contains freed 1 × Contains freed 2

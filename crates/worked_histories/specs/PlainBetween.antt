@@ -1,0 +1,48 @@
+-- Two bridge objects with two plain ones between them, of which the first one has a peer in a static.
+use Rattle.std.specs.Prelude.{true, List, [], ◌∷◌, Some, None}
+use Rattle.joint_model.specs.declared.names.Thread.TheVariants.{M, C}
+use Rattle.joint_model.specs.declared.names.Sort.TheVariants.{User, Framework}
+use Rattle.joint_model.specs.declared.names.Kind.TheVariants as kind
+use Rattle.joint_model.specs.declared.lines.Act.TheVariants as act
+use Rattle.joint_model.specs.declared.events.Op.TheVariants as op
+use Rattle.joint_model.specs.declared.events.Reply.TheVariants as says
+use Rattle.joint_model.specs.Linked.{opening_linkage, AllMayCome}
+use Rattle.joint_model.specs.Told.{nothing, snap_of, contraction_of, references_of, sweep_of, resolution_of, Noted}
+use Rattle.worked_histories.specs.Moments.{IsRunOf}
+use Rattle.worked_histories.specs.Notes.{note, var, static_no, object_no, peer_no, handle_no, cycle_no, marking_no, span}
+
+-- the whole history
+abbrev pub plain_between : List Noted
+plain_between =
+    note 0 (M 1) 1 (op.Make User 0) (says.Made (peer_no 1) (handle_no 1)) None nothing
+    ∷ note 1 (M 1) 1 (op.Adopt (var 0) kind.Bridge 1 (peer_no 1) (handle_no 1)) (says.M (object_no 1)) (Some 0) nothing
+    ∷ note 2 (M 1) 2 (op.Line (act.New (var 1) kind.Plain 1)) (says.M (object_no 2)) None nothing
+    ∷ note 3 (M 1) 3 (op.Line (act.New (var 2) kind.Plain 1)) (says.M (object_no 3)) None nothing
+    ∷ note 4 (M 1) 4 (op.Make Framework 0) (says.Made (peer_no 2) (handle_no 2)) None nothing
+    ∷ note 5 (M 1) 4 (op.Adopt (var 3) kind.LeafBridge 0 (peer_no 2) (handle_no 2)) (says.M (object_no 4)) (Some 4) nothing
+    ∷ note 6 (M 1) 5 (op.Line (act.Set (var 0) 0 (Some (var 1)))) says.Ok None nothing
+    ∷ note 7 (M 1) 6 (op.Line (act.Set (var 1) 0 (Some (var 2)))) says.Ok None nothing
+    ∷ note 8 (M 1) 7 (op.Line (act.Set (var 2) 0 (Some (var 3)))) says.Ok None nothing
+    ∷ note 9 (M 1) 8 (op.Lend (var 0) (static_no 0)) (says.H (handle_no 1)) None nothing
+    ∷ note 10 (M 1) 8 (op.Land (handle_no 1) (static_no 0)) (says.P (peer_no 1)) (Some 9) nothing
+    ∷ note 11 (M 1) 9 (op.Line (act.Drop (var 0))) says.Ok None nothing
+    ∷ note 12 (M 1) 10 (op.Line (act.Drop (var 1))) says.Ok None nothing
+    ∷ note 13 (M 1) 11 (op.Line (act.Drop (var 2))) says.Ok None nothing
+    ∷ note 14 (M 1) 12 (op.Line (act.Drop (var 3))) says.Ok None nothing
+    ∷ note 15 C 13 (op.Snap (cycle_no 1)) (says.Snapped 2 (span 0 0)) None (snap_of [] (1 ∷ 4 ∷ []) (1 ∷ 2 ∷ 3 ∷ 4 ∷ []))
+    ∷ note 16 C 13 (op.Contract (cycle_no 1)) (says.Sccs 2 1) None (contraction_of ((1 ∷ []) ∷ (4 ∷ []) ∷ []) ((0, 1) ∷ []))
+    ∷ note 17 C 13 (op.Mirror (cycle_no 1)) (says.Refs 1) (Some 15) (references_of ((1, 2) ∷ []))
+    ∷ note 18 C 13 (op.Weaken (handle_no 1)) says.Ok (Some 15) nothing
+    ∷ note 19 C 13 (op.Weaken (handle_no 2)) says.Ok (Some 15) nothing
+    ∷ note 20 C 13 op.Begin (says.Mark (marking_no 1)) None nothing
+    ∷ note 21 C 13 op.Sweep (says.Swept (marking_no 1) (span 0 0)) None (sweep_of [])
+    ∷ note 22 C 13 (op.Restore (handle_no 1)) says.Alive None nothing
+    ∷ note 23 C 13 (op.Restore (handle_no 2)) says.Alive None nothing
+    ∷ note 24 C 13 (op.Clear (cycle_no 1)) says.Ok None nothing
+    ∷ note 25 C 13 (op.Resolve (cycle_no 1)) (says.Freed (span 0 0)) (Some 24) (resolution_of (true ∷ true ∷ []) [])
+    ∷ []
+
+-- every entry may come when it comes, and the entries that are steps of the joint machine are a run
+pub record PlainBetweenHolds : Type 0 where
+  pub lawful : AllMayCome opening_linkage plain_between
+  pub run : IsRunOf plain_between ([] ∷ [])

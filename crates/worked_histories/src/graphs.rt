@@ -1,0 +1,20 @@
+// The components of two small graphs.
+
+ghost use Rattle.worked_histories.specs.Graphs.{DiamondIsContracted, DiamondHasNoDetour, CircleIsContracted};
+
+/// Two plain nodes between the bridge nodes 0 and 3, and the bridge node 4 after 3: three components of one node each, with
+/// a cross-reference from each to the next, and one mirror edge for each of the two.
+pub fn components_of_a_diamond()
+    ensures { DiamondIsContracted }
+{}
+
+/// No cross-reference leads past a bridge node: with one from node 0 to node 4, which only node 3 leads to, the list isn't
+/// the graph's.
+pub fn components_without_detours()
+    ensures { DiamondHasNoDetour }
+{}
+
+/// Three bridge nodes in a circle are one component without cross-references, and its mirror edges are the circle.
+pub fn components_of_a_circle()
+    ensures { CircleIsContracted }
+{}

@@ -1,0 +1,34 @@
+// Worked histories: the definitions of `joint_model`, computed on histories and graphs whose outcome is known beforehand.
+//
+// Each function is a law about those definitions: its body is empty, and its contract is a statement of `specs/`. A law that
+// could not be proved would show a mistake in a definition, so they are checked before anything stands on them.
+#![tactic(auto)]
+
+mod first_steps;
+mod further;
+mod graphs;
+mod histories;
+mod readings;
+mod runs;
+
+pub use first_steps::{reached_object_stays, set_answers_ok, two_linked_objects};
+pub use further::{
+    abandoned_is_lawful, ended_marking_is_lawful, first_names_is_lawful, global_names_is_lawful,
+    held_peer_is_lawful, moved_peer_is_lawful, one_object_is_freed_in_time, one_object_is_lawful,
+    peer_marking_is_lawful, pending_read_is_lawful, plain_between_is_lawful,
+    plain_object_is_lawful, refusals_is_lawful, resurrected_is_lawful, two_markings_is_lawful,
+};
+pub use graphs::{components_of_a_circle, components_of_a_diamond, components_without_detours};
+pub use histories::{
+    cycle_across_both_heaps, deleted_reference_holds, disposed_and_surfaced_object,
+    field_emptied_in_a_marking, filled_pin_is_told, finished_histories_are_linked,
+    mirror_leaves_nothing_out, object_in_a_pin, resolution_keeps_the_answered,
+    two_linked_objects_by_phases,
+};
+pub use readings::{
+    own_cell_is_set, pending_reads_by_readers, pending_reads_end, pinned_reads_by_readers,
+};
+pub use runs::{
+    cycle_across_both_heaps_run, disposed_and_surfaced_object_run, field_emptied_in_a_marking_run,
+    object_in_a_pin_run, two_linked_objects_by_phases_run, two_linked_objects_run,
+};

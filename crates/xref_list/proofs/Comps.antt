@@ -1,0 +1,113 @@
+-- One component more: the flat lists stay cut into components, and the components stay in their order and
+-- apart. There are never more than 65,535, because first members rise and are below that.
+use Rattle.std.proofs.Common.{◌≡◌, ◌≢◌, ◌⊎◌, ℕ, suc, ◌+◌, ◌-◌, ◌<◌, ◌≤◌, Bool, true, false, List, [], ◌∷◌, ◌++◌, length, map, flat_map, get_or, Result, Ok, Err, IfOk, OnOk, OnErr, refl, sym, ◌∙◌, ap, subst, arith, inl, inr}
+use Rattle.std.proofs.lemmas.List.{length_push, length-append, length-map, map_push, flat_map_more, get_or-map, append_assoc, append-nil}
+use Rattle.std.proofs.lemmas.List.FromFn.{length-map-range_with_len}
+use Rattle.std.proofs.lemmas.List.Elements.{All-nil, All-cons, All-head, All-tail, All-push, All-map, All-weaker, All-get_or}
+use Rattle.std.proofs.lemmas.List.Quantifiers.{all_pairs_push}
+use Rattle.std.specs.List.{All, AllPairs, Contains}
+use Rattle.joint_model.specs.Components.{Rises, first_of, first_at, circle, circle_from, PairsRise, IsCanonical}
+use Rattle.bridge_graph.specs.Packing.{packed_row, packed_rows, IsCut}
+use Rattle.bridge_graph.proofs.Packs.{packed_rows-more, cut-more}
+use Rattle.bridge_graph.proofs.Building.{Rises-push}
+use Rattle.std.specs.declared.alloc.AllocError.{AllocError}
+use Rattle.xref_list.specs.declared.pairs.Added.{Added}
+use Rattle.xref_list.specs.declared.pairs.Added.TheVariants.{New, Old}
+use Rattle.xref_list.specs.Adding.{Adds}
+use Rattle.xref_list.specs.Listing.{AreDisjoint, AreComponents, IsBetween, IsListing}
+use Rattle.xref_list.specs.Kept.{AreFlat, IsBuilding, IsWhole}
+
+pub length-packed : (starts members : List ℕ) (n : ℕ) → length (packed_rows starts members n) ≡ n
+length-packed starts members n = length-map-range_with_len (packed_row starts members) 0 n
+
+-- rising numbers from a on, below n, are at most n - a
+pub few_rising : (xs : List ℕ) (a n : ℕ) → Rises xs → All (λ x. a ≤ x) xs → All (λ x. x < n) xs → length xs ≤ n - a
+few_rising [] a n r h k = omega arith
+few_rising (x ∷ xs) a n r h k =
+    omega (arith, few_rising xs (suc x) n r.1 r.0 (All-tail (λ y. y < n) x xs k), All-head (λ y. a ≤ y) x xs h, All-head (λ y. y < n) x xs k)
+
+first_below : (xs : List ℕ) (n : ℕ) → 0 < length xs → All (λ x. x < n) xs → first_of xs < n
+first_below [] n s h = absurd (omega arith)
+first_below (x ∷ xs) n s h = All-head (λ y. y < n) x xs h
+
+firsts_below : (comps : List (List ℕ)) → All (λ m. 0 < length m) comps → All (λ m. All (λ x. x < 65535) m) comps → All (λ x. x < 65535) (map first_of comps)
+firsts_below comps s b = All-map (λ x. x < 65535) first_of comps (λ k d lt. first_below (get_or comps k d) 65535 (s k d lt) (b k d lt))
+
+pub few_components : (comps : List (List ℕ)) → AreComponents comps → length comps ≤ 65535
+few_components comps a =
+    omega (arith, few_rising (map first_of comps) 0 65535 a.order (λ k d lt. omega arith) (firsts_below comps a.some a.below), length-map comps first_of)
+
+pub components_more : (comps : List (List ℕ)) (objs : List ℕ) → AreComponents comps → 0 < length objs → Rises objs → All (λ x. x < 65535) objs
+    → All (λ members. AreDisjoint members objs) comps → All (λ members. first_of members < first_of objs) comps → AreComponents (comps ++ objs ∷ [])
+components_more comps objs a s r b d f = record {
+  members = All-push Rises comps objs a.members r;
+  some = All-push (λ m. 0 < length m) comps objs a.some s;
+  order = rw (map_push first_of comps objs) (Rises-push (map first_of comps) (first_of objs) a.order (All-map (λ x. x < first_of objs) first_of comps f));
+  below = All-push (λ m. All (λ x. x < 65535) m) comps objs a.below b;
+  apart = all_pairs_push AreDisjoint comps objs a.apart d;
+}
+
+length-circle_from : (first x : ℕ) (xs : List ℕ) → length (circle_from first x xs) ≡ length xs + 1
+length-circle_from first x [] = refl
+length-circle_from first x (y ∷ xs) = omega (arith, length-circle_from first y xs)
+
+pub length-circle : (xs : List ℕ) → length (circle xs) ≤ length xs
+length-circle [] = omega arith
+length-circle (x ∷ []) = omega arith
+length-circle (x ∷ y ∷ xs) = omega (arith, length-circle_from x x (y ∷ xs))
+
+pub flat_more : (members starts : List ℕ) (circles : List (ℕ × ℕ)) (objs : List ℕ) → AreFlat members starts circles → length starts < 65535
+    → length members + length objs ≤ 65535 → AreFlat (members ++ objs) (starts ++ length members ∷ []) (circles ++ circle objs)
+flat_more members starts circles objs a few most = record {
+  cut = cut-more starts members objs a.cut;
+  circle = rw (length_push starts (length members), packed_rows-more starts members objs (length starts) refl a.cut)
+      (ap (λ cs. cs ++ circle objs) a.circle ∙ flat_map_more circle [] (packed_rows starts members (length starts)) objs);
+  few = omega (arith, length_push starts (length members));
+  most = omega (arith, length-append members objs);
+  edges = omega (arith, a.edges, length-append members objs, length-append circles (circle objs), length-circle objs);
+}
+
+between_more : (n : ℕ) (pairs : List (ℕ × ℕ)) → All (IsBetween n) pairs → All (IsBetween (n + 1)) pairs
+between_more n pairs h = All-weaker (IsBetween n) (IsBetween (n + 1)) (λ p b. record { source = omega (arith, b.source); destination = omega (arith, b.destination); apart = b.apart }) pairs h
+
+pub building_more : (members starts : List ℕ) (circles pairs : List (ℕ × ℕ)) (sorted : Bool) (objs : List ℕ) → IsBuilding members starts circles pairs sorted
+    → length members + length objs ≤ 65535 → 0 < length objs → Rises objs → All (λ x. x < 65535) objs
+    → All (λ m. AreDisjoint m objs) (packed_rows starts members (length starts)) → All (λ m. first_of m < first_of objs) (packed_rows starts members (length starts))
+    → IsBuilding (members ++ objs) (starts ++ length members ∷ []) (circles ++ circle objs) pairs sorted
+building_more members starts circles pairs sorted objs b most s r l d f =
+    let comps = packed_rows starts members (length starts) in
+    let more = components_more comps objs b.components s r l d f in
+    let few = few_components (comps ++ objs ∷ []) more in
+    record {
+      flat = flat_more members starts circles objs b.flat (omega (arith, few, length_push comps objs, length-packed starts members (length starts))) most;
+      components = rw (length_push starts (length members), packed_rows-more starts members objs (length starts) refl b.flat.cut) more;
+      ends = rw (length_push starts (length members)) (between_more (length starts) pairs b.ends);
+      rising = b.rising;
+      count = b.count;
+    }
+
+pub between_push : (n : ℕ) (pairs : List (ℕ × ℕ)) (p : ℕ × ℕ) → All (IsBetween n) pairs → p.0 < n → p.1 < n → p.0 ≢ p.1 → All (IsBetween n) (pairs ++ p ∷ [])
+between_push n pairs p h a b c = All-push (IsBetween n) pairs p h (record { source = a; destination = b; apart = c })
+
+pub listing_of : (comps : List (List ℕ)) (pairs : List (ℕ × ℕ)) → AreComponents comps → PairsRise pairs → All (IsBetween (length comps)) pairs → IsListing comps pairs
+listing_of comps pairs a r e = record {
+  canonical = record { members = a.members; some = a.some; order = a.order; rising = r };
+  components = a;
+  ends = e;
+}
+
+-- what adding one pair left: the pairs as they were, or with the new one
+pub one_added : (r : Result Added AllocError) (before after : List (ℕ × ℕ)) (p : ℕ × ℕ) → IfOk r (λ a. Adds a before after p) → OnErr r (after ≡ before)
+    → (after ≡ before) ⊎ (after ≡ before ++ p ∷ [])
+one_added (Ok New) before after p a e = inr a.1
+one_added (Ok Old) before after p a e = inl a.1
+one_added (Err x) before after p a e = inl e
+
+-- what adding many left
+pub many_added : {T : Type 0} (r : Result T AllocError) (before after more : List (ℕ × ℕ)) → OnOk r (after ≡ more) → OnErr r (after ≡ before)
+    → (after ≡ before) ⊎ (after ≡ more)
+many_added (Ok x) before after more a e = inr a
+many_added (Err x) before after more a e = inl e
+
+pub ends_group : (n src : ℕ) (dsts : List ℕ) → src < n → All (λ d. d < n) dsts → All (λ d. src ≢ d) dsts → All (IsBetween n) (map (λ d. (src, d)) dsts)
+ends_group n src dsts s h a = All-map (IsBetween n) (λ d. (src, d)) dsts (λ k d lt. record { source = s; destination = h k d lt; apart = a k d lt })

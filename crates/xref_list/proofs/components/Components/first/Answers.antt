@@ -1,0 +1,16 @@
+-- A component has a first member, which stands first in its list.
+use Rattle.std.proofs.Common.{◌≡◌, ◌<◌, ℕ, List, [], ◌∷◌, length, map, get_or, slice_get, Some, refl, sym, ◌∙◌, ap, arith}
+use Rattle.std.proofs.lemmas.List.{get_or-map}
+use Rattle.std.proofs.lemmas.Option.{get_or_from_slice_get}
+use Rattle.joint_model.specs.Components.{first_of}
+use Rattle.xref_list.proofs.components.Components.first.Goals as goal
+
+head_is : (xs : List ℕ) → get_or xs 0 0 ≡ first_of xs
+head_is [] = refl
+head_is (x ∷ xs) = refl
+
+pub returns : goal.returns
+returns c =
+    let comps = c.args.self.now.comps in
+    let at = get_or_from_slice_get comps c.args.c c.objs.result.now [] c.objs.ensures.members in
+    head_is c.objs.result.now ∙ ap first_of (sym at) ∙ sym (get_or-map first_of comps c.args.c [] 0 c.requires)

@@ -1,0 +1,4 @@
+pub mod Listing
+pub mod Adding
+pub mod Known
+pub mod Kept

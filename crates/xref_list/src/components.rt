@@ -1,0 +1,242 @@
+// Components and cross-references, while they are being listed and afterwards.
+
+ghost use Rattle.std.specs.Prelude.{◌≡◌, ◌≢◌, ℕ, ◌<◌, ◌≤◌, [], ◌∷◌, ◌++◌, length, map, Contains, All, IfOk, OnOk, OnErr, slice_get, Some, IsPermutation};
+ghost use Rattle.joint_model.specs.Components.{Rises, first_of, first_at, mirror_edges};
+ghost use Rattle.xref_list.specs.Adding.{Adds};
+ghost use Rattle.xref_list.specs.Listing.{AreDisjoint, AreComponents, IsListing};
+
+use crate::circles::push_circle;
+use crate::pairs::{Added, PairList};
+use bridge_graph::packed_row;
+use std::alloc::{AllocError, Global};
+use std::marker::Model;
+
+/// The most members of all components together: nodes are numbered below 65,535, and none is in two.
+const MOST_MEMBERS: usize = 65_535;
+
+/// More pairs than 65,535 components can have between them, and few enough to count the mirror edges.
+const MOST_PAIRS: usize = 4_294_901_760;
+
+/// Components and cross-references that are being listed: components in the order of their first members,
+/// pairs in any order.
+#[derive(Drop)]
+pub struct ComponentsBuilder {
+    members: Vec<u32>,
+    starts: Vec<u32>,
+    circles: Vec<(u32, u32)>,
+    pairs: PairList,
+    sorted: bool,
+}
+
+impl Model for ComponentsBuilder {
+    ghost use Rattle.std.specs.Prelude.{length};
+    ghost use Rattle.xref_list.specs.Listing.{Listing};
+
+    ghost Value = { Listing };
+
+    ghost use Rattle.bridge_graph.specs.Packing.{packed_rows};
+    ghost use Rattle.xref_list.specs.Kept.{IsBuilding};
+
+    ghost view = { λ b. record { comps = packed_rows b.starts.items b.members.items (length b.starts.items); pairs = b.pairs } };
+
+    ghost invariant = { λ b. IsBuilding b.members.items b.starts.items b.circles.items b.pairs b.sorted };
+}
+
+impl ComponentsBuilder {
+    /// No component; the builder keeps the allocator.
+    pub fn new(alloc: Global) -> ComponentsBuilder
+        ensures comps { result.comps ≡ [] }
+        ensures pairs { result.pairs ≡ [] }
+    {
+        ComponentsBuilder {
+            members: Vec::new(alloc),
+            starts: Vec::new(alloc),
+            circles: Vec::new(alloc),
+            pairs: PairList::new(alloc),
+            sorted: true,
+        }
+    }
+
+    /// The number of components so far.
+    pub fn len(&self) -> u32
+        ensures count { result ≡ length self.now.comps }
+        ensures components { AreComponents self.now.comps }
+    {
+        self.starts.len() as u32
+    }
+
+    /// Lists a component, whose members are node indexes, and answers its index. Answers `AllocError` where
+    /// there is no memory; the components are then as before.
+    pub fn component(&mut self, objs: &[u32]) -> Result<u32, AllocError>
+        requires some { 0 < length objs.now }
+        requires rises { Rises objs.now }
+        requires below { All (λ x. x < 65535) objs.now }
+        requires apart { All (λ members. AreDisjoint members objs.now) self.old.comps }
+        requires after { All (λ members. first_of members < first_of objs.now) self.old.comps }
+        ensures index { IfOk result (λ i. i ≡ length self.old.comps) }
+        ensures comps { OnOk result (self.new.comps ≡ self.old.comps ++ objs.now ∷ []) }
+        ensures pairs { self.new.pairs ≡ self.old.pairs }
+        ensures err { OnErr result (self.new.comps ≡ self.old.comps) }
+    {
+        if objs.len() > MOST_MEMBERS - self.members.len() {
+            return Err(AllocError);
+        }
+        let index = self.starts.len() as u32;
+        let start = self.members.len() as u32;
+        self.starts.reserve(1)?;
+        self.circles.reserve(objs.len())?;
+        self.members.extend_from_slice(objs)?;
+        self.starts.push_reserved(start);
+        push_circle(objs, &mut self.circles);
+        Ok(index)
+    }
+
+    /// Lists a cross-reference between two components, and answers whether it is new: where it is listed
+    /// already nothing changes. Answers `AllocError` where there is no memory; the pairs are then as before.
+    pub fn add(&mut self, src: u32, dst: u32) -> Result<Added, AllocError>
+        requires source { src < length self.old.comps }
+        requires destination { dst < length self.old.comps }
+        requires apart { src ≢ dst }
+        ensures added { IfOk result (λ a. Adds a self.old.pairs self.new.pairs (src, dst)) }
+        ensures comps { self.new.comps ≡ self.old.comps }
+        ensures err { OnErr result (self.new.pairs ≡ self.old.pairs) }
+    {
+        if self.pairs.len() >= MOST_PAIRS {
+            return Err(AllocError);
+        }
+        self.sorted = false;
+        self.pairs.add((src, dst))
+    }
+
+    /// Lists the cross-references from one component to many. Its index is greater than the source of every
+    /// pair so far, so no pair needs to be looked for. Answers `AllocError` where there is no memory; the
+    /// pairs are then as before.
+    pub fn add_all(&mut self, src: u32, dsts: &[u32]) -> Result<(), AllocError>
+        requires source { src < length self.old.comps }
+        requires rises { Rises dsts.now }
+        requires destinations { All (λ d. d < length self.old.comps) dsts.now }
+        requires apart { All (λ d. src ≢ d) dsts.now }
+        requires fresh { All (λ p. p.0 < src) self.old.pairs }
+        ensures pairs { OnOk result (self.new.pairs ≡ self.old.pairs ++ map (λ d. (src, d)) dsts.now) }
+        ensures comps { self.new.comps ≡ self.old.comps }
+        ensures err { OnErr result (self.new.pairs ≡ self.old.pairs) }
+    {
+        if self.pairs.len() > MOST_PAIRS || dsts.len() > MOST_PAIRS - self.pairs.len() {
+            return Err(AllocError);
+        }
+        self.pairs.add_all(src, dsts)
+    }
+
+    /// The components with their cross-references in order. Answers `AllocError` where the sort has no
+    /// memory.
+    pub fn finish(self) -> Result<Components, AllocError>
+        ensures comps { IfOk result (λ c. c.comps ≡ self.comps) }
+        ensures pairs { IfOk result (λ c. IsPermutation self.pairs c.pairs) }
+        ensures listing { IfOk result (λ c. IsListing c.comps c.pairs) }
+    {
+        let ComponentsBuilder {
+            members,
+            starts,
+            circles,
+            pairs,
+            sorted,
+        } = self;
+        let pairs = pairs.finish(sorted)?;
+        Ok(Components {
+            members,
+            starts,
+            circles,
+            pairs,
+        })
+    }
+}
+
+/// Components of bridge nodes, and the cross-references between them.
+///
+/// The members of a component are node indexes and rise, components stand in the order of their first
+/// members, and no node is in two. Pairs rise by source and then by destination, and none joins a component
+/// with itself.
+#[derive(Drop)]
+pub struct Components {
+    members: Vec<u32>,
+    starts: Vec<u32>,
+    circles: Vec<(u32, u32)>,
+    pairs: Vec<(u32, u32)>,
+}
+
+impl Model for Components {
+    ghost use Rattle.std.specs.Prelude.{length};
+    ghost use Rattle.xref_list.specs.Listing.{Listing};
+
+    ghost Value = { Listing };
+
+    ghost use Rattle.bridge_graph.specs.Packing.{packed_rows};
+    ghost use Rattle.xref_list.specs.Kept.{IsWhole};
+
+    ghost view = { λ b. record { comps = packed_rows b.starts.items b.members.items (length b.starts.items); pairs = b.pairs.items } };
+
+    ghost invariant = { λ b. IsWhole b.members.items b.starts.items b.circles.items b.pairs.items };
+}
+
+impl Components {
+    /// The number of components.
+    pub fn len(&self) -> u32
+        ensures count { result ≡ length self.now.comps }
+        ensures listing { IsListing self.now.comps self.now.pairs }
+    {
+        self.starts.len() as u32
+    }
+
+    /// The members of component `c`, as node indexes.
+    pub fn objs(&self, c: u32) -> &[u32]
+        requires { c < length self.now.comps }
+        ensures members { slice_get self.now.comps c ≡ Some result.now }
+        ensures some { 0 < length result.now }
+    {
+        packed_row(&self.starts, &self.members, c as usize)
+    }
+
+    /// The number of cross-references.
+    pub fn xrefs(&self) -> u32
+        ensures { result ≡ length self.now.pairs }
+    {
+        self.pairs.len() as u32
+    }
+
+    /// The cross-reference with index `i`: its source and its destination, as component indexes.
+    pub fn xref(&self, i: u32) -> (u32, u32)
+        requires { i < length self.now.pairs }
+        ensures { slice_get self.now.pairs i ≡ Some result }
+    {
+        self.pairs[i as usize]
+    }
+
+    /// The number of mirror edges.
+    pub fn refs(&self) -> u32
+        ensures { result ≡ length (mirror_edges self.now.comps self.now.pairs) }
+    {
+        (self.circles.len() + self.pairs.len()) as u32
+    }
+
+    /// The mirror edge with index `i`, as node indexes: first the circles, component by component, then
+    /// for each cross-reference the edge between first members.
+    pub fn mirror_edge(&self, i: u32) -> (u32, u32)
+        requires { i < length (mirror_edges self.now.comps self.now.pairs) }
+        ensures { slice_get (mirror_edges self.now.comps self.now.pairs) i ≡ Some result }
+    {
+        let at = i as usize;
+        if at < self.circles.len() {
+            return self.circles[at];
+        }
+        let (source, destination) = self.pairs[at - self.circles.len()];
+        (self.first(source), self.first(destination))
+    }
+
+    /// The first member of component `c`.
+    fn first(&self, c: u32) -> u32
+        requires { c < length self.now.comps }
+        ensures { result ≡ first_at self.now.comps c }
+    {
+        self.objs(c)[0]
+    }
+}
