@@ -292,9 +292,15 @@ impl PeerSide {
     pub fn made(&self) -> u32
         ensures made { result ≡ length self.now.peers.heap.fields }
         ensures most { result ≤ MOST }
-        ensures tidy { IsTidy self.now.peers.heap }
     {
         self.heap.made()
+    }
+
+    /// What holds of every heap, for the proofs of callers. It does nothing.
+    pub fn tidy(&self)
+        ensures { IsTidy self.now.peers.heap }
+    {
+        self.heap.tidy();
     }
 
     /// How many peers are live.
