@@ -1,14 +1,13 @@
 -- What each handle leads to stays live: a handle that isn't removed leads to a peer that the change didn't free.
-use Rattle.std.proofs.Common.{◌≡◌, ℕ, ◌+◌, ◌≤◌, Bool, true, false, List, [], ◌∷◌, ◌++◌, length, map, refl, sym, ap, ◌∙◌, arith, length-append, replicate, Option, None, Some}
+use Rattle.std.proofs.Common.{◌≡◌, subst, ℕ, ◌+◌, ◌≤◌, Bool, true, false, List, [], ◌∷◌, ◌++◌, length, map, refl, sym, ap, ◌∙◌, arith, length-append, replicate, Option, None, Some}
 use Rattle.std.specs.Prelude.{All}
 use Rattle.std.proofs.lemmas.Cmp.{nat_eq_equiv}
 use Rattle.std.proofs.lemmas.List.Elements.{All-cons, All-head, All-tail, All-nil, All-push, All-weaker}
 use Rattle.std.proofs.lemmas.Map.Views.{list_any-from_Contains}
 use Rattle.joint_model.specs.declared.names.PNum.{PNum}
-use Rattle.joint_model.specs.Heaps.{Heap, IsMade, IsLive, is_freed, with_freed, with_object, next_number}
+use Rattle.joint_model.specs.Heaps.{Heap, IsLive, is_freed, with_freed, with_object}
 use Rattle.peer_heap.specs.declared.sides.Open.{Open}
 use Rattle.peer_heap.specs.Kept.{MarkingOwes}
-use Rattle.object_heap.specs.Tidy.{IsTidy}
 use Rattle.peer_heap.specs.declared.handles.Handle.{Handle}
 use Rattle.peer_heap.specs.Handles.{kept_in, LeadsToLive, LeadsToMade}
 use Rattle.joint_model.specs.declared.events.Entry.{Entry}
@@ -21,19 +20,12 @@ live-later heap n p live = record { made = (live.made.0, omega (arith, length-ap
     replicate_row : ℕ → List (List (Option ℕ))
     replicate_row n = replicate n None ∷ []
 
--- and the new one is live
-live-newest : (heap : Heap) (n p : ℕ) → IsTidy heap → p ≡ next_number heap → IsLive (with_object heap n) p
-live-newest heap n p tidy is = record {
-  made = (omega arith, omega (arith, length-append heap.fields (replicate n None ∷ [])));
-  kept = λ freed. (let m : IsMade heap p = tidy.freed p freed in omega (arith, m.1));
-}
-
 -- a push on the newest peer
-pub lead-push : (heap : Heap) (n : ℕ) (hs : List Handle) (p : PNum) → IsTidy heap → p.0 ≡ next_number heap → All (LeadsToLive heap) hs → All (LeadsToLive (with_object heap n)) (hs ++ handle_on p ∷ [])
-lead-push heap n hs p tidy is leads =
-    All-push (LeadsToLive (with_object heap n)) hs (handle_on p)
-    (All-weaker (LeadsToLive heap) (LeadsToLive (with_object heap n)) (λ h live there. live-later heap n h.peer.0 (live there)) hs leads)
-    (λ there. live-newest heap n p.0 tidy is)
+pub lead-push : (heap now : Heap) (n : ℕ) (hs : List Handle) (p : PNum) → now ≡ with_object heap n → IsLive now p.0 → All (LeadsToLive heap) hs → All (LeadsToLive now) (hs ++ handle_on p ∷ [])
+lead-push heap now n hs p is newest leads =
+    All-push (LeadsToLive now) hs (handle_on p)
+    (All-weaker (LeadsToLive heap) (LeadsToLive now) (λ h live there. subst (λ (k : Heap). IsLive k h.peer.0) (sym is) (live-later heap n h.peer.0 (live there))) hs leads)
+    (λ there. newest)
 
 -- a live peer was made, also after some are freed
 pub lead-made : (heap : Heap) (dead : List ℕ) (hs : List Handle) → All (LeadsToLive heap) hs → All (LeadsToMade (with_freed heap dead)) hs

@@ -2,3 +2,4 @@ pub mod Mapped
 pub mod Rows
 pub mod Kept
 pub mod Fresh
+pub mod Replays

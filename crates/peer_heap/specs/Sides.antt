@@ -1,8 +1,8 @@
 -- What contracts see of the peer side. (The mark and sweep collector of a textbook, with the global references
 -- of the Xamarin.Android documentation.)
-use Rattle.std.specs.Prelude.{ℕ, List, Option}
+use Rattle.std.specs.Prelude.{ℕ, List, [], Option, None}
 use Rattle.joint_model.specs.declared.events.Entry.{Entry}
-use Rattle.joint_model.specs.Peers.{Peers}
+use Rattle.joint_model.specs.Peers.{Peers, opening_peers}
 use Rattle.joint_model.specs.PeerReplay.{TableRow}
 
 -- an open marking: its number, and how many peers were made when it began
@@ -18,3 +18,7 @@ pub record Side : Type 0 where
   pub table : List (Option TableRow)
   pub marking : Option Begun
   pub markings : ℕ
+
+-- nothing was made, and no marking was begun
+abbrev pub opening_side : Side
+opening_side = record { entries = []; peers = opening_peers; table = []; marking = None; markings = 0 }

@@ -17,8 +17,10 @@
 
 mod drawn;
 mod handles;
+mod laws;
 mod sides;
 
+pub use laws::{begin_replays, make_replays, opening_replays, sweep_replays};
 pub use sides::{BeginFault, PeerLists, PeerSide, Swept};
 
 #[cfg(test)]

@@ -9,11 +9,12 @@ ghost use Rattle.joint_model.specs.First.{swept_rows};
 ghost use Rattle.joint_model.specs.Heaps.{MOST, IsLive, IsMade, InSlot, answer, fields_of, slot, with_freed};
 ghost use Rattle.joint_model.specs.Histories.{peer_numbers};
 ghost use Rattle.joint_model.specs.Lines.{IsManagedThread, IsDriver, is_peer_event};
-ghost use Rattle.joint_model.specs.Peers.{opening_peers, pair_made, issued_since, peer_of};
+ghost use Rattle.joint_model.specs.Peers.{pair_made, issued_since, peer_of};
 ghost use Rattle.joint_model.specs.PeerReplay.{fresh_row};
-ghost use Rattle.object_heap.specs.Tidy.{CanFree};
+ghost use Rattle.object_heap.specs.Tidy.{CanFree, IsTidy};
 ghost use Rattle.peer_heap.specs.Answers.{IsStep, stepped, TellsOf, IsOpen, ExistedAt};
 ghost use Rattle.peer_heap.specs.Handles.{peers_with, row_as, IsTabled, LeadsToLive};
+ghost use Rattle.peer_heap.specs.Sides.{opening_side};
 
 use crate::drawn::enter;
 use crate::handles::{Handle, remove_freed};
@@ -95,7 +96,7 @@ impl PeerSide {
     /// steps, so nothing is kept of their number, and no memory is taken.
     pub fn new(alloc: Global, threads: u8) -> Result<PeerSide, AllocError>
         requires { threads ≤ 8 }
-        ensures { IfOk result (λ s. s ≡ record { entries = []; peers = opening_peers; table = []; marking = None; markings = 0 }) }
+        ensures { IfOk result (λ s. s ≡ opening_side) }
     {
         Ok(PeerSide {
             heap: ObjectHeap::new(alloc),
@@ -293,6 +294,13 @@ impl PeerSide {
         ensures most { result ≤ MOST }
     {
         self.heap.made()
+    }
+
+    /// What holds of every heap, for the proofs of callers. It does nothing.
+    pub fn tidy(&self)
+        ensures { IsTidy self.now.peers.heap }
+    {
+        self.heap.tidy();
     }
 
     /// How many peers are live.

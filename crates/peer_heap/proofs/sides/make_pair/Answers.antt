@@ -1,8 +1,6 @@
-use Rattle.std.proofs.Common.{◌≡◌, sym, subst, [], ◌∷◌, ◌++◌}
-use Rattle.std.specs.Prelude.{All}
+use Rattle.std.proofs.Common.{◌≡◌, [], ◌∷◌, ◌++◌}
 use Rattle.std.proofs.lemmas.List.Elements.{All-same}
 use Rattle.joint_model.specs.declared.names.PNum.{PNum}
-use Rattle.joint_model.specs.Heaps.{Heap, with_object}
 use Rattle.peer_heap.specs.Handles.{LeadsToLive}
 use Rattle.peer_heap.proofs.Rows.{handle_on}
 use Rattle.peer_heap.proofs.Kept.{lead-push}
@@ -12,6 +10,6 @@ pub returns-clause-lead : goal.returns-clause-lead
 returns-clause-lead c =
     let p : PNum = record { 0 = c.in_ok-add_object.field-0 } in
     let grown = c.in_ok-add_object.ensures.ok in
-    let leads = lead-push c.args.heap.now c.args.fields c.args.handles.now.items p c.made.ensures.tidy grown.0 c.requires.lead in
     let items : c.push_reserved-2.new.self.items ≡ c.args.handles.now.items ++ handle_on p ∷ [] = rw c.reserve-2.ensures.items at c.push_reserved-2.ensures.items in
-    subst (λ (heap : Heap). All (LeadsToLive heap) c.push_reserved-2.new.self.items) (sym grown.1) (All-same (LeadsToLive (with_object c.args.heap.now c.args.fields)) _ _ items leads)
+    All-same (LeadsToLive c.add_object.new.self) _ _ items
+    (lead-push c.args.heap.now c.add_object.new.self c.args.fields c.args.handles.now.items p grown.1 c.in_ok-add_object.ensures.live c.requires.lead)
