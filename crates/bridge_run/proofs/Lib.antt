@@ -1,3 +1,0 @@
-pub mod Pushed
-pub mod Spans
-pub mod Ran
