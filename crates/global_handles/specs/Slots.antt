@@ -1,6 +1,6 @@
 -- How the table keeps its rows: a slot for each handle that was ever made, at the place one below its number.
-use Rattle.std.specs.Prelude.{◌≡◌, ◌==◌, ◌+◌, ◌-◌, ◌≤◌, ◌<◌, ℕ, zero, suc, true, List, [], ◌∷◌, Option, None, Some, length, slice_get, if◌then◌else◌}
-use Rattle.std.specs.Option.{IfSome, option_map, unwrap_or}
+use Rattle.std.specs.Prelude.{◌≡◌, ◌==◌, ◌+◌, ◌-◌, ◌≤◌, ◌<◌, ℕ, Bool, zero, suc, true, false, not, List, [], ◌∷◌, Option, None, Some, length, slice_get, if◌then◌else◌}
+use Rattle.std.specs.Option.{option_map, unwrap_or}
 use Rattle.std.specs.Map.{lookup}
 use Rattle.joint_model.specs.declared.names.HNum.{HNum}
 use Rattle.joint_model.specs.declared.names.PNum.{PNum}
@@ -35,8 +35,27 @@ row_of n s = option_map (row_at n s.peer) s.row
 -- the slots, with another row in the slot at a place
 abbrev pub with_row : List Slot → ℕ → Option Kept → List Slot
 with_row [] i row = []
-with_row (s ∷ ss) zero row = record { peer = s.peer; next = s.next; row = row } ∷ ss
+with_row (s ∷ ss) zero row = record { peer = s.peer; next = s.next; previous = s.previous; row = row } ∷ ss
 with_row (s ∷ ss) (suc i) row = s ∷ with_row ss i row
+
+-- the slots, each changed by its number; n is the number of the first
+abbrev pub numbered : (ℕ → Slot → Slot) → ℕ → List Slot → List Slot
+numbered f n [] = []
+numbered f n (s ∷ ss) = f n s ∷ numbered f (n + 1) ss
+
+-- the slots, where that of a number leads on to another one; 0 is the number of no slot
+abbrev pub next_at : ℕ → ℕ → ℕ → Slot → Slot
+next_at m next n s = record { peer = s.peer; next = if n == m then next else s.next; previous = s.previous; row = s.row }
+
+abbrev pub with_next : List Slot → ℕ → ℕ → List Slot
+with_next ss m next = numbered (next_at m next) 1 ss
+
+-- the slots, where that of a number leads back to another one
+abbrev pub previous_at : ℕ → ℕ → ℕ → Slot → Slot
+previous_at m previous n s = record { peer = s.peer; next = s.next; previous = if n == m then previous else s.previous; row = s.row }
+
+abbrev pub with_previous : List Slot → ℕ → ℕ → List Slot
+with_previous ss m previous = numbered (previous_at m previous) 1 ss
 
 -- what is kept of a row, once it is cleared
 abbrev pub cleared_kept : Kept → Kept
@@ -44,24 +63,44 @@ cleared_kept k = record { hold = k.hold; strength = k.strength; cleared = true }
 
 -- the slot, with its row cleared where it names the peer
 abbrev pub cleared_slot : PNum → Slot → Slot
-cleared_slot p s = if p.0 == s.peer.0 then record { peer = s.peer; next = s.next; row = option_map cleared_kept s.row } else s
+cleared_slot p s = if p.0 == s.peer.0 then record { peer = s.peer; next = s.next; previous = s.previous; row = option_map cleared_kept s.row } else s
 
--- the slot has nothing to clear for the peer: it names another one, or its row is removed or cleared
-abbrev pub IsSettled : PNum → Slot → Type 0
-IsSettled p s = IfSome s.row (λ k. p.0 ≡ s.peer.0 → k.cleared ≡ true)
+-- there is a row, and it isn't cleared
+abbrev pub is_open : Option Kept → Bool
+is_open None = false
+is_open (Some k) = not k.cleared
 
--- of the slots below a place, the last ones to clear for the peer are those at and before the place of the
--- number n: that slot names the peer, and each slot from there up to the place has nothing to clear for it
+-- the slot has a row of the peer to clear
+abbrev pub opens : PNum → Slot → Bool
+opens p s = if p.0 == s.peer.0 then is_open s.row else false
+
+-- of the slots below a place, the last one with a row to clear for the peer has the number n; 0 where none has one
 pub record Leads (ss : List Slot) (p : PNum) (n high : ℕ) : Type 0 where
   pub within : n ≤ high
-  pub own : (j : ℕ) (s : Slot) → n ≡ suc j → slice_get ss j ≡ Some s → s.peer ≡ p
-  pub settled : (j : ℕ) (s : Slot) → n ≤ j → j < high → slice_get ss j ≡ Some s → IsSettled p s
+  pub own : (j : ℕ) (s : Slot) → n ≡ suc j → slice_get ss j ≡ Some s → opens p s ≡ true
+  pub settled : (j : ℕ) (s : Slot) → n ≤ j → j < high → slice_get ss j ≡ Some s → opens p s ≡ false
 
--- each slot leads on to the earlier ones of its peer
+-- each slot with a row to clear leads on to the one before it of the same peer
 abbrev pub IsLinked : List Slot → Type 0
-IsLinked ss = (i : ℕ) (s : Slot) → slice_get ss i ≡ Some s → Leads ss s.peer s.next i
+IsLinked ss = (i : ℕ) (s : Slot) → slice_get ss i ≡ Some s → (p : PNum) → opens p s ≡ true → Leads ss p s.next i
 
--- the number at which the slots of a peer begin, the last made first; 0 where there is nothing to clear
+-- what the number m leads back to, which is the head of the peer at 0 and else a slot of it with a row to clear,
+-- leads on to the number n
+pub record LeadsBack (ss : List Slot) (head : PNum → ℕ) (p : PNum) (m n : ℕ) : Type 0 where
+  pub first : m ≡ 0 → head p ≡ n
+  pub later : (j : ℕ) → m ≡ suc j → (s : Slot) × (slice_get ss j ≡ Some s) × (opens p s ≡ true) × (s.next ≡ n)
+
+-- each slot with a row to clear leads back to what leads on to it
+abbrev pub IsBacked : List Slot → (PNum → ℕ) → Type 0
+IsBacked ss head = (i : ℕ) (s : Slot) → slice_get ss i ≡ Some s → (p : PNum) → opens p s ≡ true → LeadsBack ss head p s.previous (suc i)
+
+-- from the head of each peer on, just the slots with a row to clear for it are chained, the last made first
+pub record IsChained (ss : List Slot) (head : PNum → ℕ) : Type 0 where
+  pub heads_lead : (p : PNum) → Leads ss p (head p) (length ss)
+  pub linked : IsLinked ss
+  pub backed : IsBacked ss head
+
+-- the number at which the chain of a peer begins; 0 where there is nothing to clear
 abbrev pub head_in : List (PNum × ℕ) → PNum → ℕ
 head_in heads p = unwrap_or (lookup (λ q. p.0 == q.0) heads) 0
 
@@ -69,10 +108,9 @@ head_in heads p = unwrap_or (lookup (λ q. p.0 == q.0) heads) 0
 abbrev pub table_of : Inside → Table
 table_of t = record { rows = rows_from 0 t.slots.items; made = length t.slots.items }
 
--- what holds of a table's fields: at most 65,535 handles were made, the live ones are counted, and from the
--- head of each peer all slots that have something to clear for it are reached
+-- what holds of a table's fields: at most 65,535 handles were made, the live ones are counted, and just the slots
+-- that have something to clear are chained, those of each peer from its head on
 pub record IsTable (t : Inside) : Type 0 where
   pub most : length t.slots.items ≤ 65535
   pub counted : t.live ≡ length (rows_from 0 t.slots.items)
-  pub linked : IsLinked t.slots.items
-  pub heads_lead : (p : PNum) → Leads t.slots.items p (head_in t.heads.entries p) (length t.slots.items)
+  pub chained : IsChained t.slots.items (head_in t.heads.entries)

@@ -9,12 +9,14 @@
 // `target` reads the peer. While a bridge cycle asks the peer heap which objects live, `weaken` makes the
 // strong rows of the cycle weak; the peer heap marks and sweeps, and calls `clear_target` for each peer that
 // it frees; `restore` then makes a row strong again, or removes it where it was cleared. `release` removes a
-// row. None of these but `make` takes memory.
+// row. None of these but `make` takes memory. Each reads and writes a few rows, however many there are, and
+// `clear_target` just those that it clears.
 #![tactic(auto)]
 
 ghost use Rattle.std.specs.Prelude.{◌≡◌, ◌==◌, ◌+◌, ◌≤◌, ◌↔◌, [], ◌∷◌, ◌++◌, true, length, map, All, ok_or, ℕ, ◌-◌, ◌≢◌, if◌then◌else◌, Ok, Err, None, Some, OnOk, OnErr, IfOk};
 ghost use Rattle.std.specs.Option.{option_map};
-ghost use Rattle.global_handles.specs.Slots.{slot_of, with_row, head_in, cleared_slot, IsLinked, Leads};
+ghost use Rattle.std.specs.Vec.{vec_capacity, vec_len};
+ghost use Rattle.global_handles.specs.Slots.{slot_of, with_row, with_next, with_previous, rows_from, head_in, cleared_slot, IsLinked, Leads, IsChained};
 ghost use Rattle.global_handles.specs.Rows.{row_in, target_in, strength_in, cleared_in, fresh_row, with_strength, changed, cleared_for, without, not_live, IsWeakFor, IsRising};
 
 use joint_model::{HNum, PNum};
@@ -90,18 +92,21 @@ struct Kept {
     cleared: bool,
 }
 
-// The place of one number: the peer that the handle was made on, its row until that is removed, and the number
-// of the handle before it that was made on the same peer. That number is 0 where there is none, and where the
-// handles before were cleared already.
+// The place of one number: the peer that the handle was made on, and its row until that is removed.
+//
+// While it has a row that isn't cleared, it is on the chain of its peer, which has just these slots, the last made
+// first: `next` and `previous` are the numbers of the slots after and before it there, 0 where there is none. The
+// links of a slot that has no such row mean nothing, and none leads to it.
 #[derive(Clone, Copy)]
 struct Slot {
     peer: PNum,
     next: u32,
+    previous: u32,
     row: Option<Kept>,
 }
 
 impl Slot {
-    ghost use Rattle.global_handles.specs.Slots.{row_of, cleared_kept};
+    ghost use Rattle.global_handles.specs.Slots.{row_of, cleared_kept, is_open};
 
     // The slot's row, under its number.
     fn row(self, h: HNum) -> Option<HandleRow>
@@ -117,9 +122,19 @@ impl Slot {
         })
     }
 
+    // Whether the slot has a row that isn't cleared.
+    fn is_open(self) -> bool
+        ensures { result ≡ is_open self.row }
+    {
+        match self.row {
+            Some(kept) => !kept.cleared,
+            None => false,
+        }
+    }
+
     // The slot, with its row cleared.
     fn cleared(self) -> Slot
-        ensures { result ≡ record { peer = self.peer; next = self.next; row = option_map cleared_kept self.row } }
+        ensures { result ≡ record { peer = self.peer; next = self.next; previous = self.previous; row = option_map cleared_kept self.row } }
     {
         let row = match self.row {
             Some(kept) => Some(Kept {
@@ -183,6 +198,7 @@ impl HandleTable {
         self.slots.reserve(1)?;
         let number = self.slots.len() as u32 + 1;
         let next = set_head(&mut self.heads, p, number)?;
+        set_previous(&mut self.slots, next, number);
         let kept = Kept {
             hold,
             strength,
@@ -191,6 +207,7 @@ impl HandleTable {
         self.slots.push_reserved(Slot {
             peer: p,
             next,
+            previous: 0,
             row: Some(kept),
         });
         self.live += 1;
@@ -261,8 +278,8 @@ impl HandleTable {
 
     /// Clears each row of `p`, whose object is freed. It takes no memory.
     ///
-    /// It visits the handles that were made on `p` since `p` was last cleared, also those that were released, and
-    /// no others. So in the whole life of a table each handle is visited at most once.
+    /// It visits just the rows of `p` that aren't cleared yet, and no others: neither rows of other peers, nor
+    /// handles that were released. So in the whole life of a table each handle is visited at most once.
     pub fn clear_target(&mut self, p: PNum)
         requires { All (IsWeakFor p) self.old.rows }
         ensures rows { self.new.rows ≡ cleared_for p self.old.rows }
@@ -286,7 +303,7 @@ impl HandleTable {
         let Some(row) = self.row(h) else {
             return Err(NotLive { h });
         };
-        set_row(&mut self.slots, h, None);
+        remove_row(&mut self.slots, &mut self.heads, h);
         self.live -= 1;
         Ok(row)
     }
@@ -334,7 +351,66 @@ fn set_row(slots: &mut Vec<Slot>, h: HNum, row: Option<Kept>)
     slots[h.0 as usize - 1].row = row;
 }
 
-// Lets the slots of a peer begin at this number, and answers where they began before; 0 where there were none.
+// Lets the slot of a number lead on to this one; at 0 there is no slot, and nothing is done.
+fn set_next(slots: &mut Vec<Slot>, at: u32, next: u32)
+    requires { at ≤ length slots.old.items }
+    ensures { slots.new.items ≡ with_next slots.old.items at next }
+{
+    if at == 0 {
+        return;
+    }
+    slots[at as usize - 1].next = next;
+}
+
+// Lets the slot of a number lead back to this one; at 0 there is no slot, and nothing is done.
+fn set_previous(slots: &mut Vec<Slot>, at: u32, previous: u32)
+    requires { at ≤ length slots.old.items }
+    ensures items { slots.new.items ≡ with_previous slots.old.items at previous }
+    ensures len { vec_len slots.new ≡ vec_len slots.old }
+    ensures capacity { vec_capacity slots.new ≡ vec_capacity slots.old }
+{
+    if at == 0 {
+        return;
+    }
+    slots[at as usize - 1].previous = previous;
+}
+
+// Removes the row in the slot of a handle, and takes the slot off its chain, if it is on one. It takes no memory.
+fn remove_row(slots: &mut Vec<Slot>, heads: &mut HashMap<PNum, u32>, h: HNum)
+    requires one { 1 ≤ h.0 }
+    requires within { h.0 ≤ length slots.old.items }
+    requires chained { IsChained slots.old.items (head_in heads.old.entries) }
+    ensures chained { IsChained slots.new.items (head_in heads.new.entries) }
+    ensures rows { rows_from 0 slots.new.items ≡ rows_from 0 (with_row slots.old.items (h.0 - 1) None) }
+    ensures len { length slots.new.items ≡ length slots.old.items }
+{
+    let slot = slots[h.0 as usize - 1];
+    set_row(slots, h, None);
+    if !slot.is_open() {
+        return;
+    }
+    set_next(slots, slot.previous, slot.next);
+    set_previous(slots, slot.next, slot.previous);
+    if slot.previous == 0 {
+        move_head(heads, slot.peer, slot.next);
+    }
+}
+
+// Lets the chain of a peer that has one begin at this number, and end the peer's chain at 0. It takes no memory.
+fn move_head(heads: &mut HashMap<PNum, u32>, p: PNum, number: u32)
+    requires { head_in heads.old.entries p ≢ 0 }
+    ensures { (q : PNum) → head_in heads.new.entries q ≡ (if p.0 == q.0 then number else head_in heads.old.entries q) }
+{
+    if number == 0 {
+        let _ = heads.remove(&p);
+        return;
+    }
+    if let Some(head) = heads.get_mut(&p) {
+        *head = number;
+    }
+}
+
+// Lets the chain of a peer begin at this number, and answers where it began before; 0 where there was none.
 fn set_head(heads: &mut HashMap<PNum, u32>, p: PNum, number: u32) -> Result<u32, AllocError>
     ensures before { IfOk result (λ n. n ≡ head_in heads.old.entries p) }
     ensures head { OnOk result ((q : PNum) → head_in heads.new.entries q ≡ (if p.0 == q.0 then number else head_in heads.old.entries q)) }
@@ -346,7 +422,8 @@ fn set_head(heads: &mut HashMap<PNum, u32>, p: PNum, number: u32) -> Result<u32,
     }
 }
 
-// Clears each row of a peer, from the slot of this number on to the earlier ones.
+// Clears each row of a peer, from the slot of this number on to the earlier ones. Each slot that it visits has a row
+// of the peer that isn't cleared.
 fn clear_chain(slots: &mut Vec<Slot>, p: PNum, from: u32)
     requires linked { IsLinked slots.old.items }
     requires leads { Leads slots.old.items p from (length slots.old.items) }

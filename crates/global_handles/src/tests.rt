@@ -56,3 +56,36 @@ fn restores_a_row_that_was_not_cleared(rt: HostRuntime) -> Result<(), Fail> {
     assert_eq!(rt; (table.len(), table.made()), (2, 2));
     Ok(())
 }
+
+#[test]
+fn clears_what_is_left_of_many_handles(rt: HostRuntime) -> Result<(), Fail> {
+    let mut table = HandleTable::new(rt.alloc());
+    let peer = PNum(9);
+    let lowest = table.make(peer, Hold::Raw, Strength::Weak)?;
+    let other = table.make(PNum(8), Hold::Raw, Strength::Weak)?;
+    let first = table.make(peer, Hold::Raw, Strength::Weak)?;
+    for _ in 0..20_000u32 {
+        let middle = table.make(peer, Hold::Raw, Strength::Weak)?;
+        let last = table.make(peer, Hold::Raw, Strength::Weak)?;
+        let _ = table.release(middle);
+        let _ = table.release(last);
+    }
+    let second = table.make(peer, Hold::Held, Strength::Weak)?;
+    let _ = table.release(lowest);
+    table.clear_target(peer);
+    let later = table.make(peer, Hold::Held, Strength::Weak)?;
+    table.clear_target(peer);
+    let cleared = HandleRow {
+        number: first,
+        peer,
+        hold: Hold::Raw,
+        strength: Strength::Weak,
+        cleared: true,
+    };
+    assert_eq!(rt; table.row(first), Some(cleared));
+    assert_eq!(rt; table.row(lowest), None);
+    assert_eq!(rt; (table.target(second), table.target(later)), (None, None));
+    assert_eq!(rt; table.target(other), Some(PNum(8)));
+    assert_eq!(rt; (table.len(), table.made()), (4, 40_005));
+    Ok(())
+}

@@ -1,5 +1,6 @@
-use Rattle.std.proofs.Common.{◌≡◌, ℕ, ◌≤◌, suc, length, slice_get, Some}
+use Rattle.std.proofs.Common.{◌≡◌, ℕ, ◌≤◌, suc, true, length, slice_get, Some}
 use Rattle.global_handles.specs.declared.Slot.{Slot}
+use Rattle.global_handles.specs.Slots.{opens}
 use Rattle.global_handles.proofs.Chains.{cleared_above}
 use Rattle.global_handles.proofs.clear_chain.Given as goal
 
@@ -7,7 +8,7 @@ abbrev pub invariant-loop-at : goal.invariant-loop-at
 invariant-loop-at l = record {
   cleared : l.slots.items ≡ cleared_above l.fn.p l.at l.initial.slots.items;
   within : l.at ≤ length l.initial.slots.items;
-  own : (j : ℕ) (s : Slot) → l.at ≡ suc j → slice_get l.initial.slots.items j ≡ Some s → s.peer ≡ l.fn.p;
+  own : (j : ℕ) (s : Slot) → l.at ≡ suc j → slice_get l.initial.slots.items j ≡ Some s → opens l.fn.p s ≡ true;
 }
 
 abbrev pub decreases-loop-at : goal.decreases-loop-at

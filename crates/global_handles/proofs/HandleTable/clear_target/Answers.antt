@@ -1,12 +1,12 @@
 use Rattle.std.proofs.Common.{refl, ◌∙◌, sym, arith}
 use Rattle.std.proofs.lemmas.List.{length-map}
-use Rattle.global_handles.specs.Slots.{rows_from, cleared_slot}
+use Rattle.global_handles.specs.Slots.{rows_from, cleared_slot, head_in}
 use Rattle.global_handles.proofs.Slots.{IsRising-table, cleared_for-rows}
-use Rattle.global_handles.proofs.Chains.{IsLinked-cleared, heads_lead-cleared}
+use Rattle.global_handles.proofs.Chains.{IsChained-cleared, heads-removed}
 use Rattle.global_handles.proofs.HandleTable.clear_target.Goals as goal
 
 pub clear_chain-requires-clause-leads : goal.clear_chain-requires-clause-leads
-clear_chain-requires-clause-leads c = rw (c.unwrap_or-from.ensures, c.remove.ensures.value) (c.self.invariant.heads_lead c.args.p)
+clear_chain-requires-clause-leads c = rw (c.unwrap_or-from.ensures, c.remove.ensures.value) (c.self.invariant.chained.heads_lead c.args.p)
 
 pub invariant_of-self : goal.invariant_of-self
 invariant_of-self c =
@@ -15,8 +15,7 @@ invariant_of-self c =
     record {
       most = rw e (omega (arith, length-map all (cleared_slot c.args.p)));
       counted = rw (e, cleared_for-rows c.args.p 0 all) (c.self.invariant.counted ∙ sym (length-map (rows_from 0 all) _));
-      linked = rw e (IsLinked-cleared c.args.p all c.self.invariant.linked);
-      heads_lead = λ q. rw e (heads_lead-cleared c.args.p q all _ _ _ (c.remove.ensures.updates.0 q) (length-map all (cleared_slot c.args.p)) (c.self.invariant.heads_lead q));
+      chained = rw e (IsChained-cleared c.args.p all (head_in c.self.inside.heads.entries) _ (length-map all (cleared_slot c.args.p)) (λ q. heads-removed c.args.p q _ _ (c.remove.ensures.updates.0 q)) c.self.invariant.chained);
     }
 
 pub returns-clause-rows : goal.returns-clause-rows

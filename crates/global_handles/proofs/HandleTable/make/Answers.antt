@@ -1,9 +1,9 @@
 use Rattle.std.proofs.Common.{◌≡◌, ◌+◌, [], ◌∷◌, ◌++◌, Some, false, length, refl, ap, ◌∙◌, arith}
 use Rattle.std.proofs.lemmas.List.{length_push}
 use Rattle.global_handles.specs.declared.Slot.{Slot}
-use Rattle.global_handles.specs.Slots.{Leads}
+use Rattle.global_handles.specs.Slots.{with_previous, head_in}
 use Rattle.global_handles.proofs.Slots.{IsRising-table, rows_from-push, length-rows-le, length-rows-push}
-use Rattle.global_handles.proofs.Chains.{IsLinked-push, heads_lead-pushed}
+use Rattle.global_handles.proofs.Chains.{IsChained-pushed, pushed_slots, length-with_previous, rows_from-with_previous}
 use Rattle.global_handles.proofs.HandleTable.make.Goals as goal
 
 pub returns-then-len-eq-MOST-clause-rising : goal.returns-then-len-eq-MOST-clause-rising
@@ -21,20 +21,31 @@ overflow_add-self c = omega (arith, length-rows-le 0 c.self.inside.slots.items)
 pub returns-clause-rising : goal.returns-clause-rising
 returns-clause-rising c = IsRising-table c.push_reserved.new.self.items _ refl
 
+pub set_previous-requires : goal.set_previous-requires
+set_previous-requires c =
+    let leads = c.self.invariant.chained.heads_lead c.args.p in
+    rw (c.in_ok-next.ensures.before, c.reserve.ensures.items) leads.within
+
 pub invariant_of-self-2 : goal.invariant_of-self-2
 invariant_of-self-2 c =
     let all = c.self.inside.slots.items in
-    let s : Slot = record { peer = c.args.p; next = c.in_ok-next.next; row = Some (record { hold = c.args.hold; strength = c.args.strength; cleared = false }) } in
-    let items : c.push_reserved.new.self.items ≡ all ++ s ∷ [] = c.push_reserved.ensures.items ∙ ap (λ ss. ss ++ s ∷ []) c.reserve.ensures.items in
-    let own : Leads all s.peer s.next (length all) = rw c.in_ok-next.ensures.before (c.self.invariant.heads_lead c.args.p) in
+    let number = c.len-2.result + 1 in
+    let s : Slot = record { peer = c.args.p; next = c.in_ok-next.next; previous = 0; row = Some (record { hold = c.args.hold; strength = c.args.strength; cleared = false }) } in
+    let items : c.push_reserved.new.self.items ≡ pushed_slots all s number = c.push_reserved.ensures.items ∙ ap (λ ss. ss ++ s ∷ []) (c.set_previous.ensures.items ∙ ap (λ ss. with_previous ss s.next number) c.reserve.ensures.items) in
+    let len : length (pushed_slots all s number) ≡ number = omega (arith, length_push (with_previous all s.next number) s, length-with_previous all s.next number) in
     record {
-      most = rw items (omega (arith, length_push all s));
-      counted = rw (items, length-rows-push all s _ refl) (ap (λ n. n + 1) c.self.invariant.counted);
-      linked = rw items (IsLinked-push all s c.self.invariant.linked own);
-      heads_lead = λ q. rw items (heads_lead-pushed all s q (c.len-2.result + 1) _ _ (length (all ++ s ∷ [])) (c.in_ok-next.ensures.head q) (omega arith) (omega (arith, length_push all s)) (c.self.invariant.heads_lead q));
+      most = rw items (omega (arith, len));
+      counted = rw (items, length-rows-push (with_previous all s.next number) s _ refl, rows_from-with_previous all s.next number) (ap (λ n. n + 1) c.self.invariant.counted);
+      chained = rw items (IsChained-pushed all s number (head_in c.self.inside.heads.entries) _ (omega arith) refl refl c.in_ok-next.ensures.before len c.in_ok-next.ensures.head c.self.invariant.chained);
     }
 
 pub returns-clause-rows : goal.returns-clause-rows
 returns-clause-rows c =
-    rw (c.push_reserved.ensures.items, c.reserve.ensures.items, ← c.self.view_is)
-    (rows_from-push 0 (c.len-2.result + 1) c.self.inside.slots.items _ (omega arith))
+    let all = c.self.inside.slots.items in
+    let number = c.len-2.result + 1 in
+    rw (c.push_reserved.ensures.items, c.set_previous.ensures.items, c.reserve.ensures.items, ← c.self.view_is, rows_from-push 0 number (with_previous all c.in_ok-next.next number) _ (omega (arith, length-with_previous all c.in_ok-next.next number)), rows_from-with_previous all c.in_ok-next.next number) refl
+
+pub returns-clause-made : goal.returns-clause-made
+returns-clause-made c =
+    let all = c.self.inside.slots.items in
+    rw (c.push_reserved.ensures.items, c.set_previous.ensures.items, c.reserve.ensures.items, ← c.self.view_is) (length_push (with_previous all c.in_ok-next.next (c.len-2.result + 1)) _ ∙ ap (λ n. n + 1) (length-with_previous all c.in_ok-next.next (c.len-2.result + 1)))

@@ -7,7 +7,7 @@ use Rattle.global_handles.specs.declared.Strength.{Strength}
 use Rattle.global_handles.specs.Rows.{with_strength}
 use Rattle.global_handles.specs.Slots.{row_at, rows_from}
 use Rattle.global_handles.proofs.Slots.{IsRising-table, row_in-kept, changed-rows}
-use Rattle.global_handles.proofs.Chains.{IsLinked-with_row, Leads-with_row, length-with_row, settles-kept}
+use Rattle.global_handles.proofs.Chains.{IsChained-with_row, length-with_row, open-kept}
 use Rattle.global_handles.proofs.HandleTable.set_strength.Goals as goal
 
 -- what is kept of a row gives the row with another strength
@@ -30,8 +30,7 @@ invariant_of-self c =
     record {
       most = rw e (omega (arith, length-with_row all i (Some k')));
       counted = rw (e, changed-rows (with_strength c.args.strength) 0 all c.args.h i kept.0 k' (omega (arith, kept.1)) kept.3 (same kept.0 c.in-Some.row.hold c.args.strength c.in-Some.row.cleared kept.4 kept.5)) (c.self.invariant.counted ∙ sym (length-map (rows_from 0 all) _));
-      linked = rw e (IsLinked-with_row all i (Some k') (settles-kept all i kept.0 k' kept.3 kept.5) c.self.invariant.linked);
-      heads_lead = λ q. rw e (Leads-with_row all i (Some k') q _ _ (settles-kept all i kept.0 k' kept.3 kept.5) (c.self.invariant.heads_lead q) (sym (length-with_row all i (Some k'))));
+      chained = rw e (IsChained-with_row all i (Some k') _ (open-kept all i kept.0 k' kept.3 kept.5) c.self.invariant.chained);
     }
 
 pub returns-clause-rows : goal.returns-clause-rows

@@ -1,0 +1,9 @@
+use Rattle.std.proofs.Common.{◌-◌, arith}
+use Rattle.global_handles.proofs.Chains.{with_previous-zero, with_previous-set}
+use Rattle.global_handles.proofs.set_previous.Goals as goal
+
+pub returns-then-at-eq0-clause-items : goal.returns-then-at-eq0-clause-items
+returns-then-at-eq0-clause-items c = with_previous-zero c.args.slots.now.items c.args.at c.args.previous (omega arith)
+
+pub returns-clause-items : goal.returns-clause-items
+returns-clause-items c = with_previous-set c.args.slots.now.items (c.args.at - 1) c.args.at c.args.previous c.index_mut.result.now (omega arith) c.index_mut.ensures.value
