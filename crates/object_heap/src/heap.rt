@@ -66,6 +66,7 @@ impl<N: Number> ObjectHeap<N> {
     pub fn made(&self) -> u32
         ensures made { result ≡ length self.now.fields }
         ensures most { result ≤ MOST }
+        ensures tidy { IsTidy self.now }
     {
         self.fields.len() as u32
     }
