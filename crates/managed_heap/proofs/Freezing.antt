@@ -1,15 +1,15 @@
 -- A frozen dead part stays frozen. A variable or a field only ever gets an object that a slot names, or a new
 -- one, and only an object that a slot names has a field changed; none of these is in the dead part.
-use Rattle.std.proofs.Common.{◌≡◌, ℕ, zero, suc, ◌+◌, ◌<◌, ◌≤◌, ◌↔◌, ◌⊎◌, inl, inr, Bool, true, false, List, [], ◌∷◌, ◌++◌, length, Option, Some, None, set, replicate, refl, sym, ap, subst, ◌∙◌, arith, length-append, nat_le}
+use Rattle.std.proofs.Common.{◌≡◌, ℕ, ◌+◌, ◌≤◌, inl, inr, true, false, List, [], ◌∷◌, ◌++◌, length, Option, Some, None, set, replicate, refl, sym, ap, subst, ◌∙◌, arith, length-append, nat_le}
 use Rattle.std.specs.Prelude.{Contains, slice_get, if◌then◌else◌}
 use Rattle.joint_model.specs.declared.events.Reply.TheVariants as says
 use Rattle.joint_model.specs.declared.names.Kind.{Kind}
-use Rattle.joint_model.specs.Heaps.{Heap, IsLive, InSlot, Answered, answer, slot, fields_of, field_set, field_stored, with_var, with_field, with_object, next_number}
-use Rattle.joint_model.specs.Managed.{Managed, OpenCycle}
+use Rattle.joint_model.specs.Heaps.{Heap, InSlot, Answered, answer, slot, fields_of, field_set, field_stored, with_var, with_field, with_object, next_number}
+use Rattle.joint_model.specs.Managed.{Managed}
 use Rattle.object_heap.specs.Tidy.{IsTidy}
 use Rattle.object_heap.proofs.Numbered.{Contains-at, Contains-set_cases, row-set_cases, row-there, row-is, numbered-within, numbered-push_cases, replicate-none}
 use Rattle.object_heap.proofs.Sound.{IsLive-as, IsLive-later, numbered_set-length}
-use Rattle.managed_heap.specs.Dues.{IsFrozen, OwesCycle, AreRows}
+use Rattle.managed_heap.specs.Dues.{IsFrozen, AreRows}
 
 -- a slot that names an object
 slot-named : {X : Type 0} (o : Option (Option X)) (x : X) → elim o [ None ↦ None | Some y ↦ y ] ≡ Some x → o ≡ Some (Some x)

@@ -2,8 +2,8 @@
 -- a row that it leaves out is dead, and goes unless a row with a handle reaches it. What goes is held by
 -- nothing that stays: a holder that stayed would be reached, and then what it holds would be too. The same
 -- holds of a resolution inside the dead part.
-use Rattle.std.proofs.Common.{◌≡◌, ℕ, zero, suc, ◌+◌, ◌<◌, ◌≤◌, ◌↔◌, ◌⊎◌, inl, inr, Bool, true, false, List, [], ◌∷◌, ◌++◌, length, map, Option, Some, None, cond, replicate, refl, sym, ap, subst, ◌∙◌, arith}
-use Rattle.std.specs.Prelude.{Contains, All, filter, slice_get, is_some}
+use Rattle.std.proofs.Common.{◌≡◌, ℕ, ◌+◌, ◌<◌, ◌≤◌, ◌↔◌, ◌⊎◌, inl, inr, Bool, true, false, List, [], ◌∷◌, ◌++◌, length, map, Option, Some, None, cond, replicate, refl, sym, ap, subst, ◌∙◌, arith}
+use Rattle.std.specs.Prelude.{Contains, All, filter, is_some}
 use Rattle.std.proofs.lemmas.List.Elements.{Contains-append_cases, Contains-append_left, Contains-append_right}
 use Rattle.std.proofs.lemmas.Map.Views.{Contains-from_any}
 use Rattle.std.proofs.lemmas.Bool.{eqb-true}
@@ -14,18 +14,18 @@ use Rattle.joint_model.specs.declared.names.Kind.{Kind}
 use Rattle.joint_model.specs.Histories.{managed_numbers}
 use Rattle.finaliser_queue.specs.Queue.{Queue}
 use Rattle.joint_model.specs.Components.{Rises}
-use Rattle.joint_model.specs.Cycles.{IsSnapshot, IsResolution, IsAnsweredAlive}
-use Rattle.joint_model.specs.Heaps.{Heap, IsLive, HasField, InSlot, fields_of, is_freed, numbered_at, with_freed}
+use Rattle.joint_model.specs.Cycles.{IsSnapshot, IsAnsweredAlive}
+use Rattle.joint_model.specs.Heaps.{Heap, IsLive, HasField, InSlot, is_freed, numbered_at, with_freed}
 use Rattle.joint_model.specs.Managed.{Managed, OpenCycle, IsBridge, IsManagedRoot, ManagedEdge, IsManagedReached, IsBridgeReached, handle_of, holds_handle, snapped, resolved}
-use Rattle.joint_model.specs.Walks.{Reached, Reaches}
-use Rattle.joint_model.proofs.WalkLemmas.{Reached-mono, Reached-start, Reached-then, Reaches-then, Reaches-self}
+use Rattle.joint_model.specs.Walks.{Reached}
+use Rattle.joint_model.proofs.WalkLemmas.{Reached-mono, Reached-start, Reached-then, Reaches-then}
 use Rattle.reachability.specs.Marks.{Leads, IsMarked}
 use Rattle.object_heap.specs.Tidy.{IsTidy, CanFree, live_fields}
 use Rattle.object_heap.proofs.Numbered.{replicate-none}
 use Rattle.object_heap.proofs.Targets.{HasField-Leads}
 use Rattle.managed_heap.specs.Dues.{IsFrozen, OwesCycle, AreRows}
 use Rattle.managed_heap.specs.Found.{Finds, IsBridgeRow, IsUnreachedRow, IsCandidateRow, IsSlotReached, IsHandleReached, held_at, has_handle}
-use Rattle.managed_heap.specs.Rows.{Settles, TakesSnapshot, TakesResolution, cycle_of, rows_of}
+use Rattle.managed_heap.specs.Rows.{Settles, cycle_of, rows_of}
 use Rattle.joint_model.specs.declared.names.Cycle.{Cycle}
 use Rattle.joint_model.specs.declared.names.Thread.TheVariants.{C}
 use Rattle.joint_model.specs.declared.events.Op.TheVariants as op
@@ -221,7 +221,7 @@ Finds-few h held freed candidates dead handles f = (
 is_freed-live : (h : Heap) (x : ℕ) → IsLive h x → is_freed h x ≡ false
 is_freed-live h x l = false-from (is_freed h x) (λ e. l.kept (Contains-from_any eqb-true x h.freed e))
 
-handle_of-live : (s : Managed) (m : ℕ) → IsLive s.heap m → handle_of s m ≡ held_at s.held m
+pub handle_of-live : (s : Managed) (m : ℕ) → IsLive s.heap m → handle_of s m ≡ held_at s.held m
 handle_of-live s m l = ap (λ b. cond b None (held_at s.held m)) (is_freed-live s.heap m l)
 
 test-some : (o : Option ℕ) → elim o [ None ↦ false | Some h ↦ true ] ≡ is_some o

@@ -1,7 +1,7 @@
 -- What holds of a managed side's rows at any time, and what an open cycle owes. (This project's own; that the
 -- dead part is left alone while a cycle is open is a law of SGen's bridge, where no dead object is reachable
 -- by the program.)
-use Rattle.std.specs.Prelude.{◌≡◌, ℕ, ◌+◌, ◌≤◌, List, length, Contains, Option, Some}
+use Rattle.std.specs.Prelude.{◌≡◌, ℕ, ◌+◌, ◌≤◌, List, length, Contains, Some}
 use Rattle.joint_model.specs.Components.{Rises}
 use Rattle.joint_model.specs.Heaps.{Heap, IsLive, InSlot, fields_of}
 use Rattle.joint_model.specs.Listed.{Stock}

@@ -1,7 +1,7 @@
 -- What a snapshot finds: the rows that go, the rows that wait in the dead part, and the candidates among them.
 -- (SGen's bridge: bridge objects that the program doesn't reach stay with all that they reach, until the other
 -- heap's collector has said which of them live.)
-use Rattle.std.specs.Prelude.{◌≡◌, ℕ, ◌<◌, ◌↔◌, ◌⊎◌, Bool, true, false, List, map, Contains, Option, None, Some, is_some}
+use Rattle.std.specs.Prelude.{◌≡◌, ℕ, ◌↔◌, ◌⊎◌, Bool, true, false, List, map, Contains, Option, None, Some, is_some}
 use Rattle.joint_model.specs.Components.{Rises}
 use Rattle.joint_model.specs.Heaps.{Heap, IsLive, HasField, InSlot, numbered_at}
 use Rattle.joint_model.specs.Walks.{Reached}

@@ -1,5 +1,5 @@
 -- The rows of a list that aren't marked, as a list. (This project's own.)
-use Rattle.std.specs.Prelude.{ℕ, Bool, true, false, not, List, filter, Option, None, Some, slice_get}
+use Rattle.std.specs.Prelude.{ℕ, Bool, false, not, List, filter, None, Some, slice_get}
 
 -- whether the row is marked
 abbrev pub marked : List Bool → ℕ → Bool

@@ -29,4 +29,7 @@ mod open;
 mod rows;
 mod side;
 
-pub use side::{ManagedSide, Opened, Pins, ResolveOut, SnapFault};
+pub use side::{ManagedLists, ManagedSide, Opened, Pins, ResolveOut, SnapFault};
+
+#[cfg(test)]
+mod tests;

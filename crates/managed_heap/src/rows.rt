@@ -1,21 +1,21 @@
 // The managed state of a side: its rows with the handles that they hold, its slots, notices and open cycle.
 
-ghost use Rattle.std.specs.Prelude.{◌≡◌, ℕ, ◌+◌, ◌<◌, ◌≤◌, ◌^◌, Some, None, IsSome, IfOk, OnErr, IsTrue, ◌↔◌, MatchOption, length, map};
+ghost use Rattle.std.specs.Prelude.{◌≡◌, ℕ, ◌+◌, ◌<◌, ◌≤◌, ◌^◌, Some, None, IsSome, IfOk, OnErr, IsTrue, ◌↔◌, IfSome, MatchOption, length, map, replicate};
 ghost use Rattle.std.specs.Option.{ForSome};
 ghost use Rattle.joint_model.specs.Heaps.{answer, dropped, field_set};
-ghost use Rattle.joint_model.specs.Heaps.{IsLive, place};
+ghost use Rattle.joint_model.specs.Heaps.{IsLive, IsMade, fields_of, place, slot};
 ghost use Rattle.joint_model.specs.Lines.{IsManagedThread, IsVar, IsVarOrNone};
 ghost use Rattle.joint_model.specs.Run.{thread_number};
 ghost use Rattle.object_heap.specs.Tidy.{IsTidy};
 ghost use Rattle.managed_heap.specs.Sides.{managed_event, IsFirstManagedStep};
 ghost use Rattle.joint_model.specs.Histories.{managed_numbers};
-ghost use Rattle.joint_model.specs.Managed.{OpenCycle, opening_managed, on_heap, managed_name, adopted, abandoned, place_or_none};
+ghost use Rattle.joint_model.specs.Managed.{OpenCycle, opening_managed, on_heap, managed_name, adopted, abandoned, handle_of, place_or_none};
 ghost use Rattle.object_heap.specs.Done.{say};
 ghost use Rattle.managed_heap.specs.Rows.{TakesSnapshot, TakesResolution};
 
 use crate::found::find;
 use crate::marker::Marker;
-use crate::notes::notify;
+use crate::notes::{handle_at, notify};
 use crate::open::Open;
 use finaliser_queue::Notices;
 use joint_model::{Act, Alive, HNum, Kind, MNum, Op, Reply, Thread, Var};
@@ -64,6 +64,13 @@ pub(crate) struct Resolution {
     pub(crate) freed: Vec<MNum>,
     pub(crate) first: u32,
     pub(crate) kept: u32,
+}
+
+/// The lists that a side ends with.
+#[derive(Drop)]
+pub(crate) struct Lists {
+    pub(crate) freed: Vec<MNum>,
+    pub(crate) notices: Vec<MNum>,
 }
 
 impl ManagedRows {
@@ -281,8 +288,65 @@ impl ManagedRows {
         ensures made { result ≡ length self.now.heap.fields }
         ensures most { result ≤ 65535 }
         ensures tidy { IsTidy self.now.heap }
+        ensures held { length self.now.held ≡ result }
+        ensures pins { self.now.pins ≡ replicate 9 None }
     {
         self.heap.made()
+    }
+
+    /// What the variable at a place names.
+    pub(crate) fn var(&self, place: usize) -> Option<u32>
+        requires { place < 72 }
+        ensures value { slot self.now.heap.vars place ≡ result }
+        ensures live { IfSome result (IsLive self.now.heap) }
+    {
+        self.heap.var(place)
+    }
+
+    /// What a static holds.
+    pub(crate) fn static_at(&self, s: usize) -> Option<u32>
+        requires { s < 16 }
+        ensures value { slot self.now.heap.statics s ≡ result }
+        ensures live { IfSome result (IsLive self.now.heap) }
+    {
+        self.heap.static_at(s)
+    }
+
+    /// How many fields row `m` has.
+    pub(crate) fn fields_len(&self, m: u32) -> usize
+        requires { IsMade self.now.heap m }
+        ensures { result ≡ length (fields_of self.now.heap m) }
+    {
+        self.heap.fields_len(m)
+    }
+
+    /// What field `i` of a live row holds.
+    pub(crate) fn field(&self, m: u32, i: usize) -> Option<u32>
+        requires live { IsLive self.now.heap m }
+        requires index { i < length (fields_of self.now.heap m) }
+        ensures value { slot (fields_of self.now.heap m) i ≡ result }
+        ensures live { IfSome result (IsLive self.now.heap) }
+    {
+        self.heap.field(m, i)
+    }
+
+    /// The handle that a live row holds.
+    pub(crate) fn held(&self, m: u32) -> Option<u32>
+        requires { IsLive self.now.heap m }
+        ensures { handle_of self.now m ≡ result }
+    {
+        handle_at(&self.held, m)
+    }
+
+    /// The freed rows and the notices, in the order in which they came. It takes no memory.
+    pub(crate) fn into_lists(self) -> Lists
+        ensures freed { managed_numbers result.freed.items ≡ self.heap.freed }
+        ensures notices { managed_numbers result.notices.items ≡ self.notices }
+    {
+        Lists {
+            freed: self.heap.into_freed(),
+            notices: self.notices.into_all(),
+        }
     }
 }
 

@@ -1,6 +1,6 @@
 // The managed side of the bridge: its rows with the entries that it has made.
 
-ghost use Rattle.std.specs.Prelude.{◌≡◌, ℕ, ◌+◌, ◌-◌, ◌<◌, ◌≤◌, ◌^◌, ◌↔◌, [], ◌∷◌, ◌++◌, Some, None, IsSome, IsNone, All, IfOk, IfErr, IfSome, OnErr, OnOk, MatchOption, IsTrue, length, slice_get, map, Contains};
+ghost use Rattle.std.specs.Prelude.{◌≡◌, ℕ, ◌+◌, ◌-◌, ◌<◌, ◌≤◌, ◌^◌, ◌↔◌, [], ◌∷◌, ◌++◌, Some, None, IsSome, IfOk, IfErr, IfSome, OnErr, OnOk, MatchOption, IsTrue, length, replicate};
 ghost use Rattle.joint_model.specs.Heaps.{IsLive, IsMade, answer, slot, fields_of};
 ghost use Rattle.joint_model.specs.Draws.{Adds, AllBelow};
 ghost use Rattle.joint_model.specs.Histories.{managed_numbers};
@@ -10,6 +10,7 @@ ghost use Rattle.joint_model.specs.Managed.{OpenCycle, opening_managed, abandone
 ghost use Rattle.joint_model.specs.declared.names.Thread.{Thread};
 ghost use Rattle.joint_model.specs.declared.events.Op.{Op};
 ghost use Rattle.managed_heap.specs.Sides.{managed_event, IsFirstManagedStep, step_made, snap_made, resolve_made, abandon_made};
+ghost use Rattle.object_heap.specs.Tidy.{IsTidy};
 ghost use Rattle.managed_heap.specs.Calls.{Snaps, Resolves, Abandons, AreEmpty};
 
 use crate::notes::note;
@@ -69,6 +70,14 @@ pub enum SnapFault {
 pub struct ResolveOut {
     pub freed: Span,
     pub kept: u32,
+}
+
+/// The lists that a side ends with: its entries, its freed objects and its notices.
+#[derive(Drop)]
+pub struct ManagedLists {
+    pub entries: Entries,
+    pub freed: Vec<MNum>,
+    pub notices: Vec<MNum>,
 }
 
 impl ManagedSide {
@@ -274,8 +283,70 @@ impl ManagedSide {
     pub fn made(&self) -> u32
         ensures made { result ≡ length self.now.managed.heap.fields }
         ensures most { result ≤ 65535 }
+        ensures tidy { IsTidy self.now.managed.heap }
+        ensures held { length self.now.managed.held ≡ result }
+        ensures pins { self.now.managed.pins ≡ replicate 9 None }
     {
         self.rows.made()
+    }
+
+    /// What the variable at a place names; thread `m1`'s `a` has place 8, and so on.
+    pub fn var(&self, place: usize) -> Option<MNum>
+        requires { place < 72 }
+        ensures value { MatchOption result (slot self.now.managed.heap.vars place ≡ None) (λ m. slot self.now.managed.heap.vars place ≡ Some m.0) }
+        ensures live { IfSome result (λ m. IsLive self.now.managed.heap m.0) }
+    {
+        self.rows.var(place).map(|m| MNum(m))
+    }
+
+    /// What a static holds.
+    pub fn static_at(&self, s: usize) -> Option<MNum>
+        requires { s < 16 }
+        ensures value { MatchOption result (slot self.now.managed.heap.statics s ≡ None) (λ m. slot self.now.managed.heap.statics s ≡ Some m.0) }
+        ensures live { IfSome result (λ m. IsLive self.now.managed.heap m.0) }
+    {
+        self.rows.static_at(s).map(|m| MNum(m))
+    }
+
+    /// How many fields object `m` has.
+    pub fn degree(&self, m: MNum) -> usize
+        requires { IsMade self.now.managed.heap m.0 }
+        ensures { result ≡ length (fields_of self.now.managed.heap m.0) }
+    {
+        self.rows.fields_len(m.0)
+    }
+
+    /// What field `i` of a live object holds.
+    pub fn field(&self, m: MNum, i: usize) -> Option<MNum>
+        requires live { IsLive self.now.managed.heap m.0 }
+        requires index { i < length (fields_of self.now.managed.heap m.0) }
+        ensures value { MatchOption result (slot (fields_of self.now.managed.heap m.0) i ≡ None) (λ y. slot (fields_of self.now.managed.heap m.0) i ≡ Some y.0) }
+        ensures live { IfSome result (λ y. IsLive self.now.managed.heap y.0) }
+    {
+        self.rows.field(m.0, i).map(|y| MNum(y))
+    }
+
+    /// The handle that a live object holds.
+    pub fn held(&self, m: MNum) -> Option<HNum>
+        requires { IsLive self.now.managed.heap m.0 }
+        ensures { MatchOption result (handle_of self.now.managed m.0 ≡ None) (λ h. handle_of self.now.managed m.0 ≡ Some h.0) }
+    {
+        self.rows.held(m.0).map(|h| HNum(h))
+    }
+
+    /// Gives up the side for its entries, its freed objects in the order of freeing, and all notices that were
+    /// ever queued, oldest first. It takes no memory.
+    pub fn into_lists(self) -> ManagedLists
+        ensures entries { result.entries.entries ≡ self.entries }
+        ensures freed { managed_numbers result.freed.items ≡ self.managed.heap.freed }
+        ensures notices { managed_numbers result.notices.items ≡ self.managed.notices }
+    {
+        let lists = self.rows.into_lists();
+        ManagedLists {
+            entries: self.entries,
+            freed: lists.freed,
+            notices: lists.notices,
+        }
     }
 
     /// The entries that the side has made.

@@ -1,5 +1,5 @@
 -- Both markings start from live rows, so they mark exactly what is reached.
-use Rattle.std.proofs.Common.{◌≡◌, ◌<◌, ◌+◌, All, length, subst, sym}
+use Rattle.std.proofs.Common.{◌<◌, ◌+◌, All, length, subst, sym}
 use Rattle.joint_model.specs.Heaps.{InSlot}
 use Rattle.managed_heap.specs.Found.{IsBridgeRow}
 use Rattle.managed_heap.proofs.Snapshots.{marks-exact, roots-within, Finds-from, named-numbers}

@@ -1,5 +1,5 @@
 -- What the slots so far name was put.
-use Rattle.std.proofs.Common.{◌↔◌, ◌⊎◌, ℕ, ◌≤◌, take, Some}
+use Rattle.std.proofs.Common.{◌↔◌, ◌⊎◌, ℕ, take, Some}
 use Rattle.std.specs.Prelude.{Contains}
 use Rattle.managed_heap.proofs.found.push_statics.Given as goal
 

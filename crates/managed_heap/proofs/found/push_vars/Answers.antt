@@ -1,5 +1,5 @@
 -- Each turn reads one slot more.
-use Rattle.std.proofs.Common.{arith, take, length, ◌≡◌, ◌<◌, ◌∙◌, sym}
+use Rattle.std.proofs.Common.{arith, length, ◌<◌}
 use Rattle.std.proofs.lemmas.List.{take_all}
 use Rattle.managed_heap.proofs.Gathering.{named-push, named-skip}
 use Rattle.managed_heap.proofs.found.push_vars.Goals as goal

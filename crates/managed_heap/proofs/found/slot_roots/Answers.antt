@@ -1,6 +1,4 @@
 -- Both tables of slots were read.
-use Rattle.std.proofs.Common.{ℕ}
-use Rattle.reachability.proofs.Marking.{Contains-nil}
 use Rattle.managed_heap.proofs.Gathering.{named-both}
 use Rattle.managed_heap.proofs.found.slot_roots.Goals as goal
 

@@ -1,7 +1,5 @@
 -- Each turn reads one answer more.
-use Rattle.std.proofs.Common.{arith, take, length, ◌≡◌, ◌∙◌, ap, sym, true, false, Some, get_or, ◌<◌}
-use Rattle.std.specs.Prelude.{slice_get}
-use Rattle.std.proofs.lemmas.List.{take_all}
+use Rattle.std.proofs.Common.{arith, length, ◌∙◌, ap, true, false, Some, get_or, ◌<◌}
 use Rattle.std.proofs.lemmas.List.Sums.{count_by_more_yes, count_by_more_no}
 use Rattle.std.proofs.lemmas.Option.{get_or_from_slice_get, slice_get-get_or}
 use Rattle.managed_heap.proofs.Gathering.{answers-push, answers-skip, answers-all, not-answered}

@@ -1,9 +1,8 @@
 -- Each turn filters one row more.
-use Rattle.std.proofs.Common.{arith, take, length, ◌≡◌, ◌∙◌, ap}
+use Rattle.std.proofs.Common.{arith, take, ◌≡◌, ◌∙◌}
 use Rattle.std.proofs.lemmas.List.{take_all}
 use Rattle.joint_model.specs.declared.names.MNum.{MNum}
 use Rattle.joint_model.specs.Histories.{managed_numbers}
-use Rattle.managed_heap.specs.Unmarked.{unmarked_of}
 use Rattle.managed_heap.proofs.Gathering.{unmarked-push, unmarked-skip, unmarked_of-exact, Rises-filter, marked-read}
 use Rattle.managed_heap.proofs.open.collect_unmarked.Goals as goal
 use Rattle.managed_heap.proofs.open.collect_unmarked.Goals.{then-not-marks-m, else-not-marks-m}

@@ -1,5 +1,5 @@
 -- What the marking from the kept candidates leaves out of the dead part is what goes.
-use Rattle.std.proofs.Common.{◌≡◌, ◌<◌, ◌+◌, ◌∙◌, ◌↔◌, ℕ, List, All, length, subst, sym, arith, ap}
+use Rattle.std.proofs.Common.{◌≡◌, ◌<◌, ◌+◌, ◌∙◌, ◌↔◌, All, length, subst, sym, arith, ap}
 use Rattle.std.specs.Prelude.{Contains}
 use Rattle.joint_model.specs.Cycles.{IsAnsweredAlive}
 use Rattle.joint_model.specs.Histories.{managed_numbers}

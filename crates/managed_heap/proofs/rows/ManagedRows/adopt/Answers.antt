@@ -1,8 +1,7 @@
 -- The new row is in no dead part, and everything else stands as before.
-use Rattle.std.proofs.Common.{◌≡◌, ◌≤◌, ◌+◌, ◌++◌, ◌∷◌, [], ◌∙◌, length, subst, sym, arith, Some, ap}
+use Rattle.std.proofs.Common.{◌≤◌, ◌+◌, ◌++◌, ◌∷◌, [], ◌∙◌, length, subst, sym, arith, Some, ap}
 use Rattle.joint_model.specs.Heaps.{IsLive, with_var}
 use Rattle.object_heap.proofs.Sound.{IsLive-newest}
-use Rattle.managed_heap.specs.Dues.{AreRows}
 use Rattle.managed_heap.specs.Rows.{rows_of}
 use Rattle.managed_heap.proofs.Freezing.{AreRows-more, AreRows-adopted, some-is}
 use Rattle.managed_heap.proofs.rows.ManagedRows.adopt.Goals as goal

@@ -1,7 +1,6 @@
 -- The heap's operation keeps a dead part frozen.
 use Rattle.std.proofs.Common.{ap, subst}
 use Rattle.joint_model.specs.Managed.{managed_name}
-use Rattle.managed_heap.specs.Dues.{AreRows}
 use Rattle.managed_heap.proofs.Freezing.{KeepsFrozen, KeepsFrozen-set, AreRows-kept}
 use Rattle.managed_heap.proofs.rows.ManagedRows.set.Goals as goal
 

@@ -1,5 +1,5 @@
 -- What was found is a snapshot, and what it frees is named and held by nothing that stays.
-use Rattle.std.proofs.Common.{◌≡◌, ◌∙◌, ◌≤◌, ◌+◌, ◌-◌, length, map, Some, refl, subst, sym, ap, arith}
+use Rattle.std.proofs.Common.{◌∙◌, ◌≤◌, ◌+◌, ◌-◌, length, map, Some, refl, subst, sym, ap, arith}
 use Rattle.std.proofs.lemmas.List.{length-map}
 use Rattle.joint_model.specs.Heaps.{with_freed}
 use Rattle.joint_model.specs.Histories.{managed_numbers}

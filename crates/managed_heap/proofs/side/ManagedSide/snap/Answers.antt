@@ -1,13 +1,12 @@
 -- The entry that was drawn is that of the snapshot.
-use Rattle.std.proofs.Common.{◌≡◌, ◌∙◌, ◌++◌, ◌∷◌, [], ◌+◌, length, map, None, subst, sym, ap, arith}
+use Rattle.std.proofs.Common.{◌≡◌, ◌∙◌, ◌++◌, ◌∷◌, [], ◌+◌, length, None, subst, sym, ap, arith}
 use Rattle.std.proofs.lemmas.List.{length-map}
 use Rattle.joint_model.specs.declared.names.Cycle.{Cycle}
-use Rattle.joint_model.specs.declared.events.Made.{Made}
 use Rattle.joint_model.specs.Cycles.{IsSnapshot}
 use Rattle.joint_model.specs.Draws.{numbered}
 use Rattle.joint_model.specs.Histories.{managed_numbers}
 use Rattle.joint_model.specs.Managed.{Managed}
-use Rattle.managed_heap.specs.Sides.{Side, snap_made}
+use Rattle.managed_heap.specs.Sides.{Side}
 use Rattle.managed_heap.specs.Calls.{Snaps}
 use Rattle.managed_heap.proofs.Snapshots.{snap_made-is, numbers-some}
 use Rattle.managed_heap.proofs.side.ManagedSide.snap.Goals as goal
