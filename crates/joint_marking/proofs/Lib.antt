@@ -1,0 +1,4 @@
+pub mod Edges
+pub mod Gathering
+pub mod Reaching
+pub mod Unreached

@@ -1,0 +1,1 @@
+// The joint marking of a small graph made by hand.
