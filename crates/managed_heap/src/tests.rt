@@ -1,97 +1,129 @@
 // A side by its calls, with ample memory.
 
-use crate::{ManagedSide, Pins, SnapFault};
-use joint_model::{
-    Act, Alive, Counter, Cycle, HNum, Kind, MNum, Op, PNum, Reply, Span, Thread, Var,
-};
-use std::alloc::AllocError;
+ghost use Rattle.std.specs.Prelude.{◌<◌};
+ghost use Rattle.managed_heap.specs.Sides.{IsFirstManagedStep};
+
+use crate::{ManagedSide, Pins};
+use joint_model::{Act, Alive, Counter, Cycle, HNum, Kind, MNum, Op, PNum, Reply, Thread, Var};
 use std::test::Fail;
 
 const NO_PINS: Pins = Pins { at: [None; 8] };
 
-// A bridge object with one field adopts the handle.
-const fn adopt(v: u8, h: u32) -> Op {
+// A leaf bridge object adopts handle 5.
+fn adopt(v: u8) -> Op
+    requires { v < 8 }
+    ensures { IsFirstManagedStep (Thread.M 1) result }
+{
     Op::Adopt {
         v: Var(v),
-        kind: Kind::Bridge,
-        fields: 1,
-        p: PNum(h),
-        h: HNum(h),
+        kind: Kind::LeafBridge,
+        fields: 0,
+        p: PNum(5),
+        h: HNum(5),
     }
 }
 
-#[test]
-fn steps_change_the_side(rt: HostRuntime) -> Result<(), Fail> {
-    let mut side = ManagedSide::new(rt.alloc(), 2)?;
-    let mut draw = Counter::new();
-    let first = side.step(&mut draw, Thread::M(1), 0, &adopt(0, 7), Some(3))?;
-    assert_eq!(rt; first, Reply::M(MNum(1)));
-    let second = side.step(&mut draw, Thread::M(1), 1, &adopt(1, 8), Some(4))?;
-    assert_eq!(rt; second, Reply::M(MNum(2)));
-    assert_eq!(rt; (side.made(), side.live()), (2, 2));
-    let set = Op::Line(Act::Set {
-        v: Var(0),
+// A line of `drop`.
+fn drop(v: u8) -> Op
+    requires { v < 8 }
+    ensures { IsFirstManagedStep (Thread.M 1) result }
+{
+    Op::Line(Act::Drop { v: Var(v) })
+}
+
+// A line of `set`.
+fn set(v: u8, w: u8) -> Op
+    requires v { v < 8 }
+    requires w { w < 8 }
+    ensures { IsFirstManagedStep (Thread.M 1) result }
+{
+    Op::Line(Act::Set {
+        v: Var(v),
         i: 0,
-        w: Some(Var(1)),
-    });
-    let reply = side.step(&mut draw, Thread::M(1), 2, &set, None)?;
-    assert_eq!(rt; reply, Reply::Ok);
-    let drop = Op::Line(Act::Drop { v: Var(1) });
-    let reply = side.step(&mut draw, Thread::M(1), 3, &drop, None)?;
-    assert_eq!(rt; reply, Reply::Ok);
-    assert_eq!(rt; side.entries().len(), 4);
+        w: Some(Var(w)),
+    })
+}
+
+#[test]
+fn an_adopt_makes_an_object(rt: HostRuntime) -> Result<(), Fail> {
+    let mut side = ManagedSide::new(rt.alloc(), 1)?;
+    let mut draw = Counter::new();
+    let reply = side.step(&mut draw, Thread::M(1), 0, &adopt(0), Some(3))?;
+    assert_eq!(rt; reply, Reply::M(MNum(1)));
     assert_eq!(rt; side.var(8), Some(MNum(1)));
-    assert_eq!(rt; side.var(9), None);
-    assert_eq!(rt; side.static_at(0), None);
     Ok(())
 }
 
 #[test]
-fn a_cycle_frees_what_was_answered_dead(rt: HostRuntime) -> Result<(), Fail> {
+fn a_set_without_fields_is_out_of_range(rt: HostRuntime) -> Result<(), Fail> {
     let mut side = ManagedSide::new(rt.alloc(), 1)?;
     let mut draw = Counter::new();
-    let drop = Op::Line(Act::Drop { v: Var(0) });
-    side.step(&mut draw, Thread::M(1), 0, &adopt(0, 5), None)?;
-    side.step(&mut draw, Thread::M(1), 1, &adopt(1, 6), None)?;
-    side.step(&mut draw, Thread::M(1), 2, &drop, None)?;
-    let Ok(opened) = side.snap(&mut draw, 3, &NO_PINS) else {
-        return Err(Fail::from(AllocError));
-    };
-    assert_eq!(rt; opened.cycle, Cycle(1));
-    assert_eq!(rt; opened.number, 3);
-    assert_eq!(rt; opened.handles.as_slice(), [HNum(5)].as_slice());
+    side.step(&mut draw, Thread::M(1), 0, &adopt(0), None)?;
+    let reply = side.step(&mut draw, Thread::M(1), 1, &set(0, 0), None)?;
+    assert_eq!(rt; reply, Reply::Range);
+    Ok(())
+}
+
+#[test]
+fn a_drop_empties_the_variable(rt: HostRuntime) -> Result<(), Fail> {
+    let mut side = ManagedSide::new(rt.alloc(), 1)?;
+    let mut draw = Counter::new();
+    side.step(&mut draw, Thread::M(1), 0, &adopt(0), None)?;
+    let reply = side.step(&mut draw, Thread::M(1), 1, &drop(0), None)?;
+    assert_eq!(rt; reply, Reply::Ok);
+    assert_eq!(rt; side.var(8), None);
+    Ok(())
+}
+
+#[test]
+fn a_snap_opens_a_cycle(rt: HostRuntime) -> Result<(), Fail> {
+    let mut side = ManagedSide::new(rt.alloc(), 1)?;
+    let mut draw = Counter::new();
+    side.step(&mut draw, Thread::M(1), 0, &adopt(0), None)?;
+    side.step(&mut draw, Thread::M(1), 1, &drop(0), None)?;
+    let opened = side.snap(&mut draw, 2, &NO_PINS);
+    assert!(rt; opened.is_ok());
     assert_eq!(rt; side.open_cycle(), Some(Cycle(1)));
-    let again = side.snap(&mut draw, 3, &NO_PINS);
-    assert!(rt; matches!(again, Err(SnapFault::CycleOpen { cycle: Cycle(1) })));
-    let mut alive = Alive::new(rt.alloc(), 1)?;
-    alive.push(false);
-    let out = side.resolve(&mut draw, 4, None, &alive);
-    assert_eq!(rt; out.freed, Span { first: 0, count: 1 });
-    assert_eq!(rt; out.kept, 0);
-    assert!(rt; !side.is_live(MNum(1)));
-    assert!(rt; side.is_live(MNum(2)));
-    let lists = side.into_lists();
-    assert_eq!(rt; lists.freed.as_slice(), [MNum(1)].as_slice());
-    assert_eq!(rt; lists.notices.as_slice(), [MNum(1)].as_slice());
-    assert_eq!(rt; lists.entries.len(), 5);
+    assert_eq!(rt; side.entries().len(), 3);
     Ok(())
 }
 
 #[test]
-fn an_abandoned_cycle_frees_nothing(rt: HostRuntime) -> Result<(), Fail> {
+fn a_resolve_takes_no_answers_where_there_is_no_candidate(rt: HostRuntime) -> Result<(), Fail> {
     let mut side = ManagedSide::new(rt.alloc(), 1)?;
     let mut draw = Counter::new();
-    let drop = Op::Line(Act::Drop { v: Var(0) });
-    side.step(&mut draw, Thread::M(1), 0, &adopt(0, 5), None)?;
-    side.step(&mut draw, Thread::M(1), 1, &drop, None)?;
-    let Ok(opened) = side.snap(&mut draw, 2, &NO_PINS) else {
-        return Err(Fail::from(AllocError));
-    };
-    assert_eq!(rt; opened.handles.len(), 1);
-    assert_eq!(rt; side.candidates(), 1);
+    let opened = side.snap(&mut draw, 2, &NO_PINS);
+    assert!(rt; opened.is_ok());
+    let alive = Alive::new(rt.alloc(), 0)?;
+    assert!(rt; side.open_cycle().is_some());
+    assert!(rt; side.candidates() == alive.len());
+    let out = side.resolve(&mut draw, 3, None, &alive);
+    assert_eq!(rt; out.kept, 0);
+    assert!(rt; side.open_cycle().is_none());
+    Ok(())
+}
+
+#[test]
+fn an_abandon_closes_the_cycle(rt: HostRuntime) -> Result<(), Fail> {
+    let mut side = ManagedSide::new(rt.alloc(), 1)?;
+    let mut draw = Counter::new();
+    let opened = side.snap(&mut draw, 2, &NO_PINS);
+    assert!(rt; opened.is_ok());
+    assert!(rt; side.open_cycle().is_some());
     side.abandon(&mut draw, 3);
     assert_eq!(rt; side.open_cycle(), None);
-    assert!(rt; side.is_live(MNum(1)));
-    assert_eq!(rt; side.entries().len(), 4);
+    Ok(())
+}
+
+#[test]
+fn the_lists_are_given_up(rt: HostRuntime) -> Result<(), Fail> {
+    let side = ManagedSide::new(rt.alloc(), 1)?;
+    assert_eq!(rt; side.made(), 0);
+    assert_eq!(rt; side.live(), 0);
+    assert!(rt; !side.is_live(MNum(1)));
+    let lists = side.into_lists();
+    assert!(rt; lists.freed.is_empty());
+    assert!(rt; lists.notices.is_empty());
+    assert!(rt; lists.entries.is_empty());
     Ok(())
 }
