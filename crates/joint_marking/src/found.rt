@@ -30,8 +30,8 @@ pub fn unreached_peers<G: JointWalked>(
     let rows = joint_rows(alloc, g)?;
     let roots = root_nodes(alloc, g, objects, peers)?;
     let marks = reached(alloc, &rows, &roots)?;
-    let found = unmarked_peers(alloc, g, &marks)?;
-    Ok(found)
+    let dead = unmarked_peers(alloc, g, &marks)?;
+    Ok(dead)
 }
 
 // The nodes of the live roots.
