@@ -12,13 +12,14 @@ pub All-members : {X : Type 0} (P : X → Type 0) (xs : List X) → ((x : X) →
 All-members P [] h = All-nil P
 All-members P (x ∷ xs) h = All-cons P x xs (h x (Contains-append_left (x ∷ []) xs x (Contains-push [] x))) (All-members P xs (λ y c. h y (Contains-append_right (x ∷ []) xs y c)))
 
--- what is mapped from a list comes from a member
-cons-cases : {X : Type 0} (x : X) (xs : List X) (y : X) → Contains (x ∷ xs) y → (x ≡ y) ⊎ Contains xs y
+-- a member of a list is its first or stands in the rest
+pub cons-cases : {X : Type 0} (x : X) (xs : List X) (y : X) → Contains (x ∷ xs) y → (x ≡ y) ⊎ Contains xs y
 cons-cases x xs y c = elim (Contains-append_cases (x ∷ []) xs y c) [
   | inl h ↦ elim (Contains-push_cases [] x y h) [ inl n ↦ absurd (Contains-nil y n) | inr e ↦ inl e ]
   | inr h ↦ inr h
 ]
 
+-- what is mapped from a list has the values of its members, and only these
 pub Contains-map : {X Y : Type 0} (f : X → Y) (xs : List X) (x : X) → Contains xs x → Contains (map f xs) (f x)
 Contains-map f [] x c = absurd (Contains-nil x c)
 Contains-map f (z ∷ xs) x c = elim (cons-cases z xs x c) [

@@ -2,3 +2,4 @@ pub mod Edges
 pub mod Gathering
 pub mod Reaching
 pub mod Unreached
+pub mod Twins

@@ -5,7 +5,7 @@ ghost use Rattle.joint_model.specs.First.{AreUnreached};
 ghost use Rattle.joint_model.specs.Heaps.{IsLive};
 ghost use Rattle.joint_model.specs.Histories.{managed_numbers, peer_numbers};
 ghost use Rattle.joint_model.specs.Joint.{IsReachedIn, object, peer};
-ghost use Rattle.joint_marking.specs.Nodes.{AreLive, IsLiveRoot, IsRootNode, IsUnmarkedPeer, node_count, node_of, objects_in};
+ghost use Rattle.joint_marking.specs.Nodes.{AreLive, IsLiveRoot, IsRootNode, IsUnmarkedPeer, node_count, objects_in};
 ghost use Rattle.joint_marking.specs.Gathered.{RisesWith};
 
 use crate::rows::{joint_rows, peer_node};
@@ -30,8 +30,8 @@ pub fn unreached_peers<G: JointWalked>(
     let rows = joint_rows(alloc, g)?;
     let roots = root_nodes(alloc, g, objects, peers)?;
     let marks = reached(alloc, &rows, &roots)?;
-    let found = unmarked_peers(alloc, g, &marks)?;
-    Ok(found)
+    let dead = unmarked_peers(alloc, g, &marks)?;
+    Ok(dead)
 }
 
 // The nodes of the live roots.

@@ -1,8 +1,7 @@
 // The rows of both heaps as the nodes of one graph, each with the list of the nodes that it leads to.
 
-ghost use Rattle.std.specs.Prelude.{◌≡◌, ℕ, ◌+◌, ◌<◌, ◌≤◌, OnOk, IfOk, length, map, Some};
-ghost use Rattle.joint_model.specs.Heaps.{IsLive, HasField};
-ghost use Rattle.joint_model.specs.Joint.{IsJoined};
+ghost use Rattle.std.specs.Prelude.{◌≡◌, ℕ, ◌+◌, ◌<◌, OnOk, IfOk, length, map, Some};
+ghost use Rattle.joint_model.specs.Heaps.{IsLive};
 ghost use Rattle.joint_marking.specs.Nodes.{Adds, HasEdges, ObjectEdge, PeerEdge, ObjectField, EdgesOfObjects, EdgesOfPeers, IsPair, IsRound, HasNone, node_count, objects_in, targets_at};
 
 use crate::walked::JointWalked;
@@ -87,7 +86,7 @@ pub(crate) fn peer_node<G: JointWalked>(g: &G, p: PNum) -> u32
     ensures node { result ≡ objects_in (G.graph g.now) + p.0 }
     ensures within { result < node_count (G.graph g.now) }
 {
-    // So the sum is small.
+    // Neither number passes 65,535, so the sum doesn't overflow.
     prove!(p.0 <= g.peers());
     g.objects() + p.0
 }

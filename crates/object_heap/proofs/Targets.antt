@@ -27,7 +27,7 @@ Contains-is_freed : (h : Heap) (x : ℕ) → Contains h.freed x → is_freed h x
 Contains-is_freed h x c = list_any-from_Contains nat_eq_equiv x h.freed c
 
 -- a live object isn't freed
-is_freed-live : (h : Heap) (x : ℕ) → IsLive h x → is_freed h x ≡ false
+pub is_freed-live : (h : Heap) (x : ℕ) → IsLive h x → is_freed h x ≡ false
 is_freed-live h x l = elim (is_freed h x) as (λ b. (is_freed h x ≡ b) → b ≡ false) [
   | true ↦ λ e. absurd (l.kept (is_freed-Contains h x e))
   | false ↦ λ e. refl

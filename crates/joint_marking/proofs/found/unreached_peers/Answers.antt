@@ -9,8 +9,8 @@ reached-requires g c = record { roots = subst (λ z. All (λ y. y < length c.in_
 
 pub returns-clause-exact : goal.returns-clause-exact
 returns-clause-exact g c = AreUnreached-from (g.G.JointWalked.graph c.args.g.now) c.in_ok-rows.rows c.in_ok-roots.roots.items c.in_ok-marks.marks.items _ c.in_ok-rows.ensures c.in_ok-roots.ensures
-    (rw c.deref.ensures.value at c.in_ok-marks.ensures.marks) (rw c.deref-2.ensures.value at c.in_ok-found.ensures)
+    (rw c.deref.ensures.value at c.in_ok-marks.ensures.marks) (rw c.deref-2.ensures.value at c.in_ok-dead.ensures)
 
 pub returns-clause-decides : goal.returns-clause-decides
 returns-clause-decides g c = listed-or-reached (g.G.JointWalked.graph c.args.g.now) c.in_ok-rows.rows c.in_ok-roots.roots.items c.in_ok-marks.marks.items _ c.in_ok-rows.ensures c.in_ok-roots.ensures
-    (rw c.deref.ensures.value at c.in_ok-marks.ensures.marks) (rw c.deref-2.ensures.value at c.in_ok-found.ensures)
+    (rw c.deref.ensures.value at c.in_ok-marks.ensures.marks) (rw c.deref-2.ensures.value at c.in_ok-dead.ensures)
