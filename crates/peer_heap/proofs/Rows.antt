@@ -6,7 +6,7 @@ use Rattle.std.specs.Prelude.{All, nat_eq}
 use Rattle.std.specs.List.{list_any}
 use Rattle.std.proofs.lemmas.Bool.{eqb-true}
 use Rattle.std.proofs.lemmas.Cmp.{nat_eq_equiv}
-use Rattle.std.proofs.lemmas.List.Elements.{All-head, All-tail, All-get_or}
+use Rattle.std.proofs.lemmas.List.Elements.{All-nil, All-cons, All-head, All-tail, All-get_or}
 use Rattle.std.proofs.lemmas.List.{length-map}
 use Rattle.std.proofs.lemmas.List.Folds.{list_any-append}
 use Rattle.std.proofs.lemmas.Map.Views.{list_any-from_Contains, Contains-from_any}
@@ -17,7 +17,7 @@ use Rattle.joint_model.specs.Heaps.{Heap, numbered_at, IsMade, IsLive, is_freed,
 use Rattle.joint_model.specs.Peers.{Issued, peer_of}
 use Rattle.joint_model.specs.PeerReplay.{fresh_row}
 use Rattle.peer_heap.specs.declared.handles.Handle.{Handle}
-use Rattle.peer_heap.specs.Handles.{peers_with, issued_as, row_as, row_unless, kept_in, LeadsToLive, LeadsToMade, IsTabled}
+use Rattle.peer_heap.specs.Handles.{peers_with, issued_as, row_as, row_unless, kept_in, LeadsToLive, LeadsToMade, IsTabled, IsHeldStrong, IsPlain}
 
 -- the new handle on a peer
 abbrev pub handle_on : PNum → Handle
@@ -101,6 +101,19 @@ tabled-live heap hs n h one within read at leads tabled =
     unless : (b : Bool) → IsTrue (not b) → b ≡ false
     unless true t = cc
     unless false t = refl
+
+-- each handle was issued as a held strong one, and each row is a strong handle's
+pub issued-strong : (hs : List Handle) → All IsHeldStrong (map issued_as hs)
+issued-strong [] = All-nil IsHeldStrong
+issued-strong (h ∷ hs) = All-cons IsHeldStrong (issued_as h) (map issued_as hs) (refl, refl) (issued-strong hs)
+
+pub rows-plain : (hs : List Handle) → All IsPlain (map row_as hs)
+rows-plain [] = All-nil IsPlain
+rows-plain (h ∷ hs) = All-cons IsPlain (row_as h) (map row_as hs) (here h.removed) (rows-plain hs)
+  where
+    here : (b : Bool) → IsPlain (row_unless b)
+    here true = tt
+    here false = refl
 
 -- the handles as they stand in their list, once a loop has written them
 pub written : (new old : List Handle) (n : ℕ) → length new ≡ n → length old ≡ n → take n (new ++ drop (length new) old) ≡ new

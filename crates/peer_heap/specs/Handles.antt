@@ -23,6 +23,15 @@ row_unless false = Some strong_row
 abbrev pub row_as : Handle → Option TableRow
 row_as h = row_unless h.removed
 
+-- the handle is held and strong
+abbrev pub IsHeldStrong : Issued → Type 0
+IsHeldStrong i = (i.hold ≡ held) × (i.strength ≡ strong)
+
+-- the place is empty, or has the row of a strong handle
+abbrev pub IsPlain : Option TableRow → Type 0
+IsPlain None = Unit {0}
+IsPlain (Some row) = row ≡ strong_row
+
 -- the peers of a heap with these sorts and handles; no global name stands for a handle
 abbrev pub peers_with : Heap → List Sort → List Handle → Peers
 peers_with heap sorts handles = record { heap = heap; sorts = sorts; names = replicate 64 None; issued = map issued_as handles }

@@ -13,7 +13,7 @@ ghost use Rattle.joint_model.specs.Peers.{pair_made, issued_since, peer_of};
 ghost use Rattle.joint_model.specs.PeerReplay.{fresh_row};
 ghost use Rattle.object_heap.specs.Tidy.{CanFree, IsTidy};
 ghost use Rattle.peer_heap.specs.Answers.{IsStep, stepped, TellsOf, IsOpen, ExistedAt};
-ghost use Rattle.peer_heap.specs.Handles.{peers_with, row_as, IsTabled, LeadsToLive};
+ghost use Rattle.peer_heap.specs.Handles.{peers_with, row_as, IsTabled, IsHeldStrong, IsPlain, LeadsToLive};
 ghost use Rattle.peer_heap.specs.Sides.{opening_side};
 
 use crate::drawn::enter;
@@ -353,11 +353,14 @@ impl PeerSide {
         self.heap.field(p.0, i).map(PNum)
     }
 
-    /// How many handles were issued: the number of the last one.
+    /// How many handles were issued: the number of the last one. Each was held and strong, and so is each in the
+    /// table.
     pub fn handles(&self) -> u32
         ensures issued { result ≡ length self.now.peers.issued }
         ensures table { result ≡ length self.now.table }
         ensures most { result ≤ MOST }
+        ensures strong { All IsHeldStrong self.now.peers.issued }
+        ensures plain { All IsPlain self.now.table }
     {
         self.handles.len() as u32
     }

@@ -1,0 +1,7 @@
+-- The peers of the handles so far were put.
+use Rattle.joint_model.specs.Histories.{peer_numbers}
+use Rattle.side_marking.specs.Roots.{Gains, IsBrought, IsLoose}
+use Rattle.side_marking.proofs.roots.push_loose.Given as goal
+
+abbrev pub invariant-loop-h : goal.invariant-loop-h
+invariant-loop-h l = Gains (IsBrought (IsLoose l.peers.peers l.peers.table l.owned) l.h) (peer_numbers l.fn.roots.items) (peer_numbers l.roots.items)
