@@ -1,8 +1,5 @@
 // Both sides as one graph.
 
-ghost use Rattle.std.specs.Prelude.{◌≡◌, ℕ, ◌↔◌, Some, length};
-ghost use Rattle.std.specs.Option.{option_map};
-ghost use Rattle.joint_model.specs.Heaps.{IsLive};
 ghost use Rattle.side_marking.specs.Roots.{graph_of_sides};
 
 use joint_marking::JointWalked;
