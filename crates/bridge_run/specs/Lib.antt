@@ -1,0 +1,3 @@
+pub mod Top
+pub mod Wholes
+pub mod Runs

@@ -1,0 +1,33 @@
+-- What the top call promises: which words are a command, and what each status tells.
+use Rattle.std.specs.Prelude.{◌≡◌, ℕ, List, [], ◌∷◌, Option, codes}
+use Rattle.std.specs.Io.KnownBytes.{Appends}
+use Rattle.joint_model.specs.declared.names.Thread.{Thread}
+use Rattle.joint_model.specs.declared.lines.Act.{Act}
+use Rattle.joint_model.specs.Histories.{Finished, IsHistory}
+use Rattle.bridge_script.specs.declared.faults.ScriptFault.{ScriptFault}
+use Rattle.bridge_script.specs.Causes.{fault_text}
+use Rattle.bridge_script.specs.Reading.{TookScript, TookFault}
+use Rattle.bridge_script.specs.Report.{report}
+
+-- the words, as bytes, are the one command, `serial`
+abbrev pub IsSerial : List (List ℕ) → Type 0
+IsSerial words = words ≡ codes "serial" ∷ []
+
+-- the line that tells how the program is called
+abbrev pub usage_text : List ℕ
+usage_text = codes "usage: bridge_run COMMAND\n"
+
+-- a report was printed: the source was read to its end, what was taken is a text of a script, and the report of a history
+-- was appended to what the sink held
+pub record Printed (left rest held after : Option (List ℕ)) : Type 0 where
+  pub script : List (Thread × Act)
+  pub history : Finished
+  pub took : TookScript left rest script
+  pub kept : IsHistory history
+  pub text : Appends held after (report history)
+
+-- a script was refused: what was taken from the source is no script, and the line that names its first fault was appended
+pub record Refuses (left rest held after : Option (List ℕ)) : Type 0 where
+  pub fault : ScriptFault
+  pub took : TookFault left rest fault
+  pub text : Appends held after (fault_text fault)

@@ -1,0 +1,103 @@
+// The top call by worked examples: printed reports, and each status.
+
+use crate::top::bridge_main;
+use bridge_script::{ByteSink, ByteSource, FreeTurn};
+use std::alloc::{AllocError, Global};
+use std::sync::Wait;
+use std::test::Fail;
+use std::thread::Threads;
+
+const TWO_LINKED: &[u8] =
+    b"m1 bridge a bridge 1 user 0\nm1 bridge b bridge 1 user 0\nm1 set a 0 b\nm1 drop b\nc cycle\nm1 drop a\nc cycle\n";
+
+const TWO_LINKED_REPORT: &[u8] =
+    b"0 m1.1 make user 0 = p1 h1\n1 m1.1 adopt a bridge 1 p1 h1 = m1 @0\n2 m1.2 make user 0 = p2 h2\n3 m1.2 adopt b bridge 1 p2 h2 = m2 @2\n4 m1.3 set a 0 b = ok\n5 m1.4 drop b = ok\n6 c.5 snap 1 = 0 freed -\n7 c.5 begin = 1\n8 c.5 sweep = 1 freed -\n9 c.5 resolve 1 = freed -\n10 m1.6 drop a = ok\n11 c.7 snap 2 = 2 freed -\n12 c.7 begin = 2\n13 c.7 sweep = 2 freed p1 p2\n14 c.7 resolve 2 = freed m1 m2\nend 15\n";
+
+// The words of a command.
+fn words_of(alloc: Global, words: &[&str]) -> Result<Vec<String>, AllocError> {
+    let mut owned = Vec::new(alloc);
+    for word in words {
+        owned.push(String::from_str(alloc, word)?)?;
+    }
+    Ok(owned)
+}
+
+// Runs the command over a text, with a sink that takes so many bytes a call; the calls whose numbers are given fail.
+fn status_of<R: Threads + Wait + Sync>(
+    rt: &R,
+    alloc: Global,
+    words: &[&str],
+    text: &[u8],
+    read_fails: &[u32],
+    out: &mut ByteSink,
+) -> Result<u8, AllocError> {
+    let words = words_of(alloc, words)?;
+    let fails = read_fails.to_vec(alloc)?;
+    let mut source = ByteSource::new(text.to_vec(alloc)?, fails);
+    Ok(bridge_main(rt, alloc, &words, &mut source, out, &FreeTurn))
+}
+
+#[test]
+fn two_linked_objects_are_freed_by_the_second_cycle(rt: HostRuntime) -> Result<(), Fail> {
+    let alloc = rt.alloc();
+    let mut out = ByteSink::new(alloc, 7, Vec::new(alloc));
+    let status = status_of(&rt, alloc, &["serial"], TWO_LINKED, &[], &mut out)?;
+    assert_eq!(rt; status, 0);
+    assert_eq!(rt; out.bytes(), TWO_LINKED_REPORT);
+    Ok(())
+}
+
+#[test]
+fn no_input_is_the_empty_history(rt: HostRuntime) -> Result<(), Fail> {
+    let alloc = rt.alloc();
+    let mut out = ByteSink::new(alloc, 100, Vec::new(alloc));
+    let status = status_of(&rt, alloc, &["serial"], b"", &[], &mut out)?;
+    assert_eq!(rt; status, 0);
+    assert_eq!(rt; out.bytes(), b"end 0\n".as_slice());
+    Ok(())
+}
+
+#[test]
+fn other_words_get_the_usage_line(rt: HostRuntime) -> Result<(), Fail> {
+    let alloc = rt.alloc();
+    let mut out = ByteSink::new(alloc, 100, Vec::new(alloc));
+    let none = status_of(&rt, alloc, &[], b"", &[], &mut out)?;
+    assert_eq!(rt; none, 1);
+    assert_eq!(rt; out.bytes(), b"usage: bridge_run COMMAND\n".as_slice());
+    let mut again = ByteSink::new(alloc, 100, Vec::new(alloc));
+    let more = status_of(&rt, alloc, &["serial", "x"], b"", &[], &mut again)?;
+    assert_eq!(rt; more, 1);
+    Ok(())
+}
+
+#[test]
+fn a_source_that_fails_writes_nothing(rt: HostRuntime) -> Result<(), Fail> {
+    let alloc = rt.alloc();
+    let mut out = ByteSink::new(alloc, 100, Vec::new(alloc));
+    let status = status_of(&rt, alloc, &["serial"], TWO_LINKED, &[2], &mut out)?;
+    assert_eq!(rt; status, 2);
+    assert_eq!(rt; out.bytes(), b"".as_slice());
+    Ok(())
+}
+
+#[test]
+fn a_sink_that_fails_holds_a_beginning(rt: HostRuntime) -> Result<(), Fail> {
+    let alloc = rt.alloc();
+    let fails = [2u32].to_vec(alloc)?;
+    let mut out = ByteSink::new(alloc, 1, fails);
+    let status = status_of(&rt, alloc, &["serial"], b"", &[], &mut out)?;
+    assert_eq!(rt; status, 4);
+    assert_eq!(rt; out.bytes(), b"e".as_slice());
+    Ok(())
+}
+
+#[test]
+fn the_first_faulty_line_is_named(rt: HostRuntime) -> Result<(), Fail> {
+    let alloc = rt.alloc();
+    let mut out = ByteSink::new(alloc, 100, Vec::new(alloc));
+    let text = b"m1 drop a\nm1 drop i\nm1 jump a\n";
+    let status = status_of(&rt, alloc, &["serial"], text, &[], &mut out)?;
+    assert_eq!(rt; status, 3);
+    assert_eq!(rt; out.bytes(), b"line 2: cause 1 unknown\n".as_slice());
+    Ok(())
+}
