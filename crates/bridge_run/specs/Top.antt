@@ -1,11 +1,12 @@
 -- What the top call promises: which words are a command, and what each status tells.
-use Rattle.std.specs.Prelude.{◌≡◌, ℕ, List, [], ◌∷◌, Option, codes}
+use Rattle.std.specs.Prelude.{◌≡◌, ◌⊎◌, ℕ, List, [], ◌∷◌, Option, codes}
 use Rattle.std.specs.Io.KnownBytes.{Appends}
 use Rattle.joint_model.specs.declared.names.Thread.{Thread}
 use Rattle.joint_model.specs.declared.lines.Act.{Act}
 use Rattle.joint_model.specs.Histories.{Finished, IsHistory}
 use Rattle.bridge_script.specs.declared.faults.ScriptFault.{ScriptFault}
 use Rattle.bridge_script.specs.Causes.{fault_text}
+use Rattle.bridge_script.specs.Outside.{AppendsPart}
 use Rattle.bridge_script.specs.Reading.{TookScript, TookFault}
 use Rattle.bridge_script.specs.Report.{report}
 
@@ -31,3 +32,26 @@ pub record Refuses (left rest held after : Option (List ℕ)) : Type 0 where
   pub fault : ScriptFault
   pub took : TookFault left rest fault
   pub text : Appends held after (fault_text fault)
+
+-- the writing of a report broke off: as when it was printed, but only a beginning was appended
+pub record PrintedPart (left rest held after : Option (List ℕ)) : Type 0 where
+  pub script : List (Thread × Act)
+  pub history : Finished
+  pub took : TookScript left rest script
+  pub kept : IsHistory history
+  pub part : AppendsPart held after (report history)
+
+-- the writing of a refusal broke off: only a beginning of its line was appended
+pub record RefusedPart (left rest held after : Option (List ℕ)) : Type 0 where
+  pub fault : ScriptFault
+  pub took : TookFault left rest fault
+  pub part : AppendsPart held after (fault_text fault)
+
+-- the writing of the usage line broke off, which is written only for words that are no command
+pub record UsagePart (words : List (List ℕ)) (held after : Option (List ℕ)) : Type 0 where
+  pub no_command : IsSerial words → ⊥
+  pub part : AppendsPart held after usage_text
+
+-- the writing of one of the three texts broke off
+abbrev pub BrokeOff : List (List ℕ) → Option (List ℕ) → Option (List ℕ) → Option (List ℕ) → Option (List ℕ) → Type 0
+BrokeOff words left rest held after = UsagePart words held after ⊎ (RefusedPart left rest held after ⊎ PrintedPart left rest held after)

@@ -101,3 +101,67 @@ fn the_first_faulty_line_is_named(rt: HostRuntime) -> Result<(), Fail> {
     assert_eq!(rt; out.bytes(), b"line 2: cause 1 unknown\n".as_slice());
     Ok(())
 }
+
+#[test]
+fn sources_that_fail_at_each_of_their_first_calls_write_nothing(
+    rt: HostRuntime,
+) -> Result<(), Fail> {
+    let alloc = rt.alloc();
+    for before in 0..2u32 {
+        let mut out = ByteSink::new(alloc, 100, Vec::new(alloc));
+        let status = status_of(&rt, alloc, &["serial"], TWO_LINKED, &[before + 1], &mut out)?;
+        assert_eq!(rt; status, 2);
+        assert_eq!(rt; out.bytes(), b"".as_slice());
+    }
+    Ok(())
+}
+
+#[test]
+fn sinks_that_fail_at_each_of_their_first_calls_hold_a_beginning(
+    rt: HostRuntime,
+) -> Result<(), Fail> {
+    let alloc = rt.alloc();
+    for before in 0..50u32 {
+        let fails = [before + 1].to_vec(alloc)?;
+        let mut out = ByteSink::new(alloc, 1, fails);
+        let status = status_of(&rt, alloc, &["serial"], TWO_LINKED, &[], &mut out)?;
+        assert_eq!(rt; status, 4);
+        assert_eq!(rt; out.bytes().len(), before as usize);
+        assert!(rt; TWO_LINKED_REPORT.starts_with(out.bytes()));
+    }
+    Ok(())
+}
+
+#[test]
+fn each_text_may_break_off(rt: HostRuntime) -> Result<(), Fail> {
+    let alloc = rt.alloc();
+    let mut usage = ByteSink::new(alloc, 1, [6u32].to_vec(alloc)?);
+    let status = status_of(&rt, alloc, &["threads"], b"", &[], &mut usage)?;
+    assert_eq!(rt; status, 4);
+    assert_eq!(rt; usage.bytes(), b"usage".as_slice());
+    let mut refusal = ByteSink::new(alloc, 1, [7u32].to_vec(alloc)?);
+    let status = status_of(&rt, alloc, &["serial"], b"\n", &[], &mut refusal)?;
+    assert_eq!(rt; status, 4);
+    assert_eq!(rt; refusal.bytes(), b"line 1".as_slice());
+    Ok(())
+}
+
+#[test]
+fn places_are_taken_up_to_their_limits(rt: HostRuntime) -> Result<(), Fail> {
+    let alloc = rt.alloc();
+    for (text, wanted) in [
+        (b"m1 bridge h bridge 16 user 16\n".as_slice(), 0),
+        (b"m1 bridge h bridge 17 user 16\n".as_slice(), 3),
+        (b"m1 bridge h bridge 16 user 17\n".as_slice(), 3),
+        (b"m1 bridge i bridge 16 user 16\n".as_slice(), 3),
+        (b"m1 set h 255 h\n".as_slice(), 0),
+        (b"m1 set h 256 h\n".as_slice(), 3),
+        (b"m1 set h 255 i\n".as_slice(), 3),
+        (b"m2 drop h\n".as_slice(), 3),
+    ] {
+        let mut out = ByteSink::new(alloc, 100, Vec::new(alloc));
+        let status = status_of(&rt, alloc, &["serial"], text, &[], &mut out)?;
+        assert_eq!(rt; status, wanted);
+    }
+    Ok(())
+}

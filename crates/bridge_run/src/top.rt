@@ -5,7 +5,7 @@ ghost use Rattle.std.specs.Io.KnownBytes.{Appends, Keeps};
 ghost use Rattle.bridge_script.specs.Outside.{Rose, AppendsPart};
 ghost use Rattle.bridge_script.specs.Report.{report};
 ghost use Rattle.joint_model.specs.Histories.{Finished, IsHistory};
-ghost use Rattle.bridge_run.specs.Top.{IsSerial, usage_text, Printed, Refuses};
+ghost use Rattle.bridge_run.specs.Top.{IsSerial, usage_text, Printed, Refuses, BrokeOff};
 
 use crate::serial::run;
 use crate::words::is_serial;
@@ -48,6 +48,7 @@ pub fn bridge_main<R: Threads + Wait + Sync, S: Source, K: Sink, T: Turnstile + 
     ensures read { result ≡ 2 → Rose (S.faults src.old) (S.faults src.new) × Keeps (K.held out.old) (K.held out.new) }
     ensures refused { result ≡ 3 → Refuses (S.left src.old) (S.left src.new) (K.held out.old) (K.held out.new) }
     ensures write { result ≡ 4 → Rose (K.faults out.old) (K.faults out.new) }
+    ensures part { result ≡ 4 → BrokeOff (map string_bytes words.now.items) (S.left src.old) (S.left src.new) (K.held out.old) (K.held out.new) }
     ensures memory { result ≡ 5 → Keeps (K.held out.old) (K.held out.new) }
     ensures status { result ≤ 5 }
 {
@@ -72,6 +73,7 @@ pub fn bridge_main<R: Threads + Wait + Sync, S: Source, K: Sink, T: Turnstile + 
 fn print_run<K: Sink>(alloc: Global, script: &Script, out: &mut K) -> u8
     ensures done { result ≡ 0 → (h : Finished) × IsHistory h × Appends (K.held out.old) (K.held out.new) (report h) }
     ensures write { result ≡ 4 → Rose (K.faults out.old) (K.faults out.new) }
+    ensures part { result ≡ 4 → (h : Finished) × IsHistory h × AppendsPart (K.held out.old) (K.held out.new) (report h) }
     ensures memory { result ≡ 5 → Keeps (K.held out.old) (K.held out.new) }
     ensures status { (result ≡ 0) ⊎ (result ≡ 4) ⊎ (result ≡ 5) }
 {
