@@ -18,11 +18,12 @@ use top::bridge_main;
 fn main(rt: HostRuntime) -> ExitCode {
     let alloc = rt.alloc();
     let mut words = Vec::new(alloc);
-    if let Ok(args) = std::env::args(&rt) {
-        for word in args.skip(1) {
-            if words.push(word).is_err() {
-                return ExitCode::from(5);
-            }
+    let Ok(args) = std::env::args(&rt) else {
+        return ExitCode::from(5);
+    };
+    for word in args.skip(1) {
+        if words.push(word).is_err() {
+            return ExitCode::from(5);
         }
     }
     let mut source = StdSource::new(rt.reader());
