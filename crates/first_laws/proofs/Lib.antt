@@ -1,0 +1,14 @@
+pub mod Places
+pub mod Owners
+pub mod Kept
+pub mod Doings
+pub mod Making
+pub mod Adopting
+pub mod Changing
+pub mod Snapping
+pub mod Marking
+pub mod Sweeping
+pub mod Flags
+pub mod Resolving
+pub mod Stepping
+pub mod Histories

@@ -1,0 +1,12 @@
+-- What is proved of every history in the form of the first steps.
+use Rattle.std.specs.Prelude.{List}
+use Rattle.joint_model.specs.First.{AllFirstMayCome, opening_first}
+use Rattle.joint_model.specs.Linked.{joint_projection}
+use Rattle.joint_model.specs.Run.{Moment, IsRun}
+use Rattle.joint_model.specs.Told.{Noted}
+use Rattle.first_laws.specs.Events.{AreFirstEvents}
+
+-- each entry may come when it comes, and has an event of the first steps: then the entries are a run of the joint machine
+abbrev pub FirstHistoriesAreRuns : Type 0
+FirstHistoriesAreRuns = (noted : List Noted) → AllFirstMayCome opening_first noted → AreFirstEvents noted
+    → (moments : List Moment) × IsRun (joint_projection noted) moments
