@@ -24,17 +24,11 @@ use Rattle.first_laws.proofs.Doings.{alone-idle, doing-freed, adopt-waited}
 use Rattle.first_laws.proofs.Kept.{IsIssued, IsTabled, AreHandlesKept, AreOwnersLive, IsStandKept, IsKept, Steps}
 use Rattle.first_laws.proofs.Making.{test-cases, peer-known}
 use Rattle.first_laws.proofs.Owners.{owned-same, removed-same}
-use Rattle.first_laws.proofs.Places.{numbered-within, numbered-push, numbered-push_cases}
+use Rattle.first_laws.proofs.Places.{numbered-within, numbered-push, numbered-push_cases, some-same}
 
 -- the objects with a new one that holds the handle
 abbrev grown : Managed → ℕ → Kind → ℕ → ℕ → Managed
 grown s v kind n h = with_row s v kind n (Some h)
-
-some-same : (a b : ℕ) → Some a ≡ Some b → a ≡ b
-some-same a b e = cc
-
-held-same : (a b : ℕ) → Some (Some a) ≡ Some (Some b) → a ≡ b
-held-same a b e = cc
 
 more-fields : (s : Managed) (n : ℕ) → length (s.heap.fields ++ replicate n None ∷ []) ≡ length s.heap.fields + 1
 more-fields s n = omega (arith, length-append s.heap.fields (replicate n None ∷ []))

@@ -4,6 +4,7 @@ use Rattle.std.proofs.Common.{◌≡◌, ℕ, zero, suc, Bool, true, List, [], �
 use Rattle.std.specs.Prelude.{All, Contains, filter, slice_get}
 use Rattle.std.proofs.lemmas.List.Elements.{All-head, All-tail}
 use Rattle.std.proofs.lemmas.List.{map-append}
+use Rattle.std.proofs.lemmas.List.{append-nil, append_assoc}
 use Rattle.joint_model.specs.declared.names.Sort.{Sort}
 use Rattle.joint_model.specs.declared.names.Thread.{Thread}
 use Rattle.joint_model.specs.declared.events.Op.{Op}
@@ -101,14 +102,6 @@ pub record Ended (Q : List Moment → List Noted → Graph → FirstLinkage → 
   pub begun : Graph
   pub holds : Q past (before ++ ns) begun (first_replayed s ns)
 
-append-nil : {A : Type 0} (xs : List A) → xs ++ [] ≡ xs
-append-nil [] = refl
-append-nil (x ∷ xs) = ap (λ r. x ∷ r) (append-nil xs)
-
-append-later : {A : Type 0} (xs : List A) (y : A) (ys : List A) → (xs ++ y ∷ []) ++ ys ≡ xs ++ y ∷ ys
-append-later [] y ys = refl
-append-later (x ∷ xs) y ys = ap (λ r. x ∷ r) (append-later xs y ys)
-
 pub gone-through : (Q : List Moment → List Noted → Graph → FirstLinkage → Type 0)
     → ((past : List Moment) (before : List Noted) (b : Graph) (s : FirstLinkage) (n : Noted) → Q past before b s → FirstMayCome s n → IsFirstEvent n.entry.made.caller n.entry.made.op → Q (past ++ moment_at b s n ∷ []) (before ++ n ∷ []) (begun_after b s n) (first_after s n))
     → (past : List Moment) (before : List Noted) (b : Graph) (s : FirstLinkage) (ns : List Noted) → Q past before b s → AllFirstMayCome s ns → AreFirstEvents ns → Ended Q before ns s
@@ -117,7 +110,7 @@ gone-through Q push past before b s (n ∷ ns) q may first =
     let r = gone-through Q push (past ++ moment_at b s n ∷ []) (before ++ n ∷ []) (begun_after b s n) (first_after s n) ns
     (push past before b s n q may.0 (All-head (λ (m : Noted). IsFirstEvent m.entry.made.caller m.entry.made.op) n ns first))
     may.1 (All-tail (λ (m : Noted). IsFirstEvent m.entry.made.caller m.entry.made.op) n ns first) in
-    record { past = r.past; begun = r.begun; holds = subst (λ l. Q r.past l r.begun (first_replayed (first_after s n) ns)) (append-later before n ns) r.holds }
+    record { past = r.past; begun = r.begun; holds = subst (λ l. Q r.past l r.begun (first_replayed (first_after s n) ns)) (append_assoc before (n ∷ []) ns) r.holds }
 
 -- every event of the first steps is one of the joint machine
 line-joint : (t : Thread) (a : Act) → IsFirstEvent t (op.Line a) → is_joint (op.Line a) ≡ true

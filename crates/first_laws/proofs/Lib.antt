@@ -12,3 +12,8 @@ pub mod Flags
 pub mod Resolving
 pub mod Stepping
 pub mod Histories
+pub mod Judging
+pub mod Traced
+pub mod Ending
+pub mod OneRun
+pub mod Verdicts

@@ -1,6 +1,8 @@
 -- A make: the peer and its handle are new. The handle is in the table, no object holds it, and its peer isn't freed, since freed
 -- peers were made before.
 use Rattle.std.proofs.Common.{◌≡◌, ℕ, ◌+◌, ◌||◌, ◌&&◌, not, inl, inr, Bool, true, false, List, [], ◌∷◌, ◌++◌, length, map, drop, replicate, Option, Some, None, refl, sym, ap, subst, ◌∙◌, arith, length-append, if◌then◌else◌}
+use Rattle.std.proofs.Math.Seq.{drop-length, drop-append_seam}
+use Rattle.std.proofs.lemmas.List.{append-nil}
 use Rattle.joint_model.specs.declared.names.HNum.{HNum}
 use Rattle.joint_model.specs.declared.names.PNum.{PNum}
 use Rattle.joint_model.specs.declared.names.Sort.{Sort}
@@ -19,7 +21,7 @@ use Rattle.joint_model.specs.Peers.{Peers, Issued, held, strong, pair_made, with
 use Rattle.joint_model.specs.Told.{nothing}
 use Rattle.first_laws.proofs.Doings.{alone-idle, doing-cases, made-answered}
 use Rattle.first_laws.proofs.Kept.{IsIssued, AreHandlesKept, AreOwnersLive, IsStandKept, IsKept, Steps, joint_at}
-use Rattle.first_laws.proofs.Places.{numbered-within, numbered-push, numbered-last, numbered-push_cases}
+use Rattle.first_laws.proofs.Places.{numbered-within, numbered-push, numbered-last, numbered-push_cases, some-same}
 
 -- a fact of an answer that goes by a test
 pub test-cases : {S : Type 0} (P : S → Type 0) (t : Bool) (a b : S) → P a → P b → P (if t then a else b)
@@ -31,19 +33,6 @@ removed-issued : (s : Managed) (h : ℕ) (rows : List (Option TableRow)) (is : L
 removed-issued s h [] [] = refl
 removed-issued s h [] (i ∷ is) = ap (λ r. false ∷ r) (removed-issued s (h + 1) [] is)
 removed-issued s h (row ∷ rows) is = ap (λ r. (is_untabled row && not (is_owned s h)) ∷ r) (removed-issued s (h + 1) rows is)
-
--- what was issued since
-drop-all : {A : Type 0} (xs : List A) → drop (length xs) xs ≡ []
-drop-all [] = refl
-drop-all (x ∷ xs) = drop-all xs
-
-drop-push : {A : Type 0} (xs : List A) (y : A) → drop (length xs) (xs ++ y ∷ []) ≡ y ∷ []
-drop-push [] y = refl
-drop-push (x ∷ xs) y = drop-push xs y
-
-append-nil : {A : Type 0} (xs : List A) → xs ++ [] ≡ xs
-append-nil [] = refl
-append-nil (x ∷ xs) = ap (λ r. x ∷ r) (append-nil xs)
 
 -- the peers and the handles after a make of a pair, and its row
 abbrev grown : Peers → Sort → ℕ → Peers
@@ -112,6 +101,9 @@ peer-known issued h q e = by (numbered_at issued h) refl e
     by None is f = (let g : ⊥ = cc in absurd g)
     by (Some i) is f = (i, is, (let same : i.peer ≡ q = cc in same))
 
+one-issued : (issued : List Issued) (h : ℕ) (i j : Issued) → numbered_at issued h ≡ Some i → numbered_at issued h ≡ Some j → i ≡ j
+one-issued issued h i j e f = some-same i j (sym e ∙ f)
+
 made-well : (s : Managed) (adopted : List ℕ) (p : PeerReplay) (sort : Sort) (n : ℕ) → AreHandlesKept s adopted p → IsMadeWell s adopted p (pair_made p.peers sort n)
 made-well s adopted p sort n k = test-cases (IsMadeWell s adopted p) (is_full p.peers.heap.fields || is_full p.peers.issued) _ _
     (record {
@@ -127,15 +119,15 @@ made-well s adopted p sort n k = test-cases (IsMadeWell s adopted p) (is_full p.
       owners = λ o x h q w e c. (
           let i = peer-known (p.peers.issued ++ new_issued p.peers ∷ []) h q e in
           let old = k.adopted_issued h (k.owner_adopted x h w) in
-          let same : old.0 ≡ i.0 = (let f : Some old.0 ≡ Some i.0 = sym (numbered-push p.peers.issued (new_issued p.peers) h old.0 old.1) ∙ i.1 in cc) in
+          let same : old.0 ≡ i.0 = one-issued (p.peers.issued ++ new_issued p.peers ∷ []) h old.0 i.0 (numbered-push p.peers.issued (new_issued p.peers) h old.0 old.1) i.1 in
           o x h q w (ap (λ o. elim o [ None ↦ None | Some j ↦ Some j.peer ]) old.1 ∙ ap Some (ap (λ (j : Issued). j.peer) same ∙ i.2)) c);
     })
   where
     none : p.table ++ map fresh_row (drop (length p.peers.issued) p.peers.issued) ≡ p.table
-    none = ap (λ is. p.table ++ map fresh_row is) (drop-all p.peers.issued) ∙ append-nil p.table
+    none = ap (λ is. p.table ++ map fresh_row is) (drop-length p.peers.issued) ∙ append-nil p.table
 
     one : p.table ++ map fresh_row (drop (length p.peers.issued) (p.peers.issued ++ new_issued p.peers ∷ [])) ≡ p.table ++ Some new_row ∷ []
-    one = ap (λ is. p.table ++ map fresh_row is) (drop-push p.peers.issued (new_issued p.peers))
+    one = ap (λ is. p.table ++ map fresh_row is) (drop-append_seam p.peers.issued (new_issued p.peers ∷ []))
 
 pub make-steps : (b : Graph) (s : FirstLinkage) (number t index : ℕ) (sort : Sort) (f : ℕ) (reply : Reply) (cites : Option ℕ)
     → FirstMayCome s (record { entry = record { number = number; made = record { caller = M t; index = index; op = op.Make sort f; reply = reply; cites = cites } }; told = nothing }) → IsKept b s

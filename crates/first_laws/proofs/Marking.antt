@@ -23,11 +23,8 @@ use Rattle.joint_model.specs.Told.{begin_of, sweep_of}
 use Rattle.joint_model.proofs.WalkLemmas.{Reached-start}
 use Rattle.first_laws.proofs.Doings.{begin-snapped, sweep-marked}
 use Rattle.first_laws.proofs.Kept.{IsIssued, AreHandlesKept, AreOwnersLive, IsOpenCut, IsStandKept, IsKept, Steps}
-use Rattle.first_laws.proofs.Owners.{HasOwner, owner-test, test-owner, removed-at, flag_at, removed-swept}
+use Rattle.first_laws.proofs.Owners.{HasOwner, owner-test, test-owner, removed-at, flag_at, removed-swept, true-false}
 use Rattle.first_laws.proofs.Places.{All-members}
-
-true-false : true ≡ false → ⊥
-true-false e = cc
 
 -- what a handle's place becomes in a joint sweep
 abbrev swept_place : List ℕ → Issued → Option (Option TableRow) → Option (Option TableRow)

@@ -6,15 +6,16 @@ use Rattle.std.specs.List.{list_any}
 use Rattle.std.proofs.lemmas.Bool.{eqb-true}
 use Rattle.std.proofs.lemmas.Cmp.{nat_eq_equiv}
 use Rattle.std.proofs.lemmas.Map.Views.{list_any-from_Contains, Contains-from_any}
+use Rattle.std.proofs.lemmas.List.Elements.{Contains-append_left, Contains-append_right, Contains-append_cases}
 use Rattle.joint_model.specs.First.{swept_row, swept_rows}
-use Rattle.joint_model.specs.Heaps.{Heap, is_freed, numbered_at}
+use Rattle.joint_model.specs.Heaps.{IsLive, Heap, is_freed, numbered_at, with_freed}
 use Rattle.joint_model.specs.Joined.{is_that_handle, is_owned_from, is_owned, is_untabled, removed_from}
 use Rattle.joint_model.specs.Managed.{Managed, Holds, handle_of}
 use Rattle.joint_model.specs.PeerReplay.{TableRow}
 use Rattle.joint_model.specs.Peers.{Issued, Hold, held, raw}
 use Rattle.first_laws.proofs.Places.{places-same, numbered-within}
 
-true-false : true ≡ false → ⊥
+pub true-false : true ≡ false → ⊥
 true-false e = cc
 
 -- a live object isn't freed, and one that isn't freed is no member of the freed
@@ -41,6 +42,16 @@ listed-or xs x = by (list_any (nat_eq x) xs) refl
     by : (b : Bool) → list_any (nat_eq x) xs ≡ b → Contains xs x ⊎ (Contains xs x → ⊥)
     by true e = inl (Contains-from_any eqb-true x xs e)
     by false e = inr (λ c. true-false (sym (list_any-from_Contains nat_eq_equiv x xs c) ∙ e))
+
+-- a live object was live before further ones were freed, and one that isn't among these stays live
+pub live-before : (h : Heap) (freed : List ℕ) (x : ℕ) → IsLive (with_freed h freed) x → IsLive h x
+live-before h freed x l = record { made = l.made; kept = λ c. l.kept (Contains-append_left h.freed freed x c) }
+
+pub live-after : (h : Heap) (freed : List ℕ) (x : ℕ) → (Contains freed x → ⊥) → IsLive h x → IsLive (with_freed h freed) x
+live-after h freed x n l = record { made = l.made; kept = λ c. elim (Contains-append_cases h.freed freed x c) [ inl w ↦ l.kept w | inr w ↦ n w ] }
+
+pub unfreed-then : (h : Heap) (freed : List ℕ) (x : ℕ) → IsLive (with_freed h freed) x → Contains freed x → ⊥
+unfreed-then h freed x l c = l.kept (Contains-append_right h.freed freed x c)
 
 -- what stands at an object's place of the list of held handles
 abbrev place_of : Option (Option ℕ) → Option ℕ

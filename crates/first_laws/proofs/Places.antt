@@ -6,16 +6,20 @@ use Rattle.std.proofs.lemmas.List.Elements.{All-nil, All-cons, Contains-push, Co
 use Rattle.std.proofs.lemmas.Option.{slice_get_within, slice_get_read, slice_get-get_or, get_or_from_slice_get}
 use Rattle.joint_model.specs.Heaps.{numbered_at}
 
--- lists with the same at each place are the same
-none-some : {A : Type 0} (x : A) → None ≡ Some x → ⊥
+-- what an option holds
+pub none-some : {A : Type 0} (x : A) → None ≡ Some x → ⊥
 none-some x e = cc
 
+pub some-same : {A : Type 0} (x y : A) → Some x ≡ Some y → x ≡ y
+some-same x y e = cc
+
+-- lists with the same at each place are the same
 pub places-same : {A : Type 0} (xs ys : List A) → ((k : ℕ) → slice_get xs k ≡ slice_get ys k) → xs ≡ ys
 places-same [] [] e = refl
 places-same [] (y ∷ ys) e = absurd (none-some y (e zero))
 places-same (x ∷ xs) [] e = absurd (none-some x (sym (e zero)))
 places-same (x ∷ xs) (y ∷ ys) e =
-    let first : x ≡ y = (let f : Some x ≡ Some y = e zero in cc) in
+    let first : x ≡ y = some-same x y (e zero) in
     let rest : xs ≡ ys = places-same xs ys (λ k. e (suc k)) in
     cc
 

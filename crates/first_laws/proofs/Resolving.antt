@@ -4,7 +4,7 @@
 use Rattle.std.proofs.Common.{◌≡◌, ℕ, suc, inl, inr, Bool, true, false, not, List, [], map, filter_map, Option, Some, None, refl, sym, ap, subst, ◌∙◌, arith}
 use Rattle.std.specs.Prelude.{Contains, slice_get}
 use Rattle.std.specs.Option.{option_map}
-use Rattle.std.proofs.lemmas.List.Elements.{Contains-append_left, Contains-append_right, Contains-append_cases}
+use Rattle.std.proofs.lemmas.List.Elements.{Contains-append_cases}
 use Rattle.std.proofs.lemmas.Option.{slice_get-map}
 use Rattle.joint_model.specs.declared.names.Cycle.{Cycle}
 use Rattle.joint_model.specs.declared.names.Thread.TheVariants.{C}
@@ -13,7 +13,7 @@ use Rattle.joint_model.specs.declared.events.Reply.{Reply}
 use Rattle.joint_model.specs.Control.{Stand, Opened, restoring, peer_of_row}
 use Rattle.joint_model.specs.Cycles.{IsResolution, IsAnsweredAlive, IsOpen}
 use Rattle.joint_model.specs.First.{FirstLinkage, FirstMayCome, FirstResolve, first_answers}
-use Rattle.joint_model.specs.Heaps.{Heap, IsLive, is_freed, numbered_at, with_freed}
+use Rattle.joint_model.specs.Heaps.{is_freed, numbered_at}
 use Rattle.joint_model.specs.Joined.{joint_of, removed_from, is_owned}
 use Rattle.joint_model.specs.Joint.{Graph}
 use Rattle.joint_model.specs.Managed.{Managed, OpenCycle, Holds, ManagedEdge, handle_of, resolved}
@@ -25,12 +25,9 @@ use Rattle.joint_model.specs.Told.{resolution_of}
 use Rattle.joint_model.proofs.WalkLemmas.{Reaches-self}
 use Rattle.first_laws.proofs.Flags.{all-out, all-in, handle-listed, listed-handle}
 use Rattle.first_laws.proofs.Kept.{AreHandlesKept, AreOwnersLive, IsCut, IsOpenCut, IsSwept, IsStandKept, IsKept, Steps, joint_at}
-use Rattle.first_laws.proofs.Owners.{Holds-handle, handle-Holds, owned-same, test-owner, removed-at, flag_at, listed-or, test-unfreed, unfreed-live}
-use Rattle.first_laws.proofs.Places.{places-same, Contains-at, at-Contains, numbered-within, numbered-there}
+use Rattle.first_laws.proofs.Owners.{Holds-handle, handle-Holds, owned-same, test-owner, removed-at, flag_at, listed-or, test-unfreed, unfreed-live, live-before, live-after, unfreed-then}
+use Rattle.first_laws.proofs.Places.{places-same, Contains-at, at-Contains, numbered-within, numbered-there, some-same}
 use Rattle.first_laws.proofs.Sweeping.{twin-swept, swept-unreached, kept-apart, unreached-dead}
-
-true-false : true ≡ false → ⊥
-true-false e = cc
 
 -- the driver's stand, and the answers
 pub resolve-restoring : (stand : Stand) (k : ℕ) (answers alive : List Bool) (freed : List ℕ) → FirstResolve stand k answers (resolution_of alive freed) → (o : Opened) × (stand ≡ restoring o []) × (o.cycle ≡ k) × (alive ≡ answers)
@@ -43,7 +40,7 @@ row-peer s issued x h q w e =
     ap (λ o. elim o [ None ↦ 0 | Some g ↦ elim (peer_of issued g) [ None ↦ 0 | Some r ↦ r ] ]) (Holds-handle s x h w)
     ∙ ap (λ o. elim o [ None ↦ 0 | Some r ↦ r ]) e
 
-issued-peer : (issued : List Issued) (h : ℕ) (i : Issued) → numbered_at issued h ≡ Some i → peer_of issued h ≡ Some i.peer
+pub issued-peer : (issued : List Issued) (h : ℕ) (i : Issued) → numbered_at issued h ≡ Some i → peer_of issued h ≡ Some i.peer
 issued-peer issued h i e = ap (λ o. elim o [ None ↦ None | Some j ↦ Some j.peer ]) e
 
 -- whether a row is answered alive
@@ -92,17 +89,11 @@ resolution-kept s taken p b c alive freed k cut e r = record {
 }
 
 -- the objects after the resolution
-live-before : (h : Heap) (freed : List ℕ) (x : ℕ) → IsLive (with_freed h freed) x → IsLive h x
-live-before h freed x l = record { made = l.made; kept = λ c. l.kept (Contains-append_left h.freed freed x c) }
-
-unfreed-then : (h : Heap) (freed : List ℕ) (x : ℕ) → IsLive (with_freed h freed) x → Contains freed x → ⊥
-unfreed-then h freed x l c = l.kept (Contains-append_right h.freed freed x c)
-
 Holds-before : (s : Managed) (freed : List ℕ) (x h : ℕ) → Holds (resolved s freed) x h → Holds s x h
 Holds-before s freed x h w = record { live = live-before s.heap freed x w.live; held = w.held }
 
 Holds-after : (s : Managed) (freed : List ℕ) (x h : ℕ) → (Contains freed x → ⊥) → Holds s x h → Holds (resolved s freed) x h
-Holds-after s freed x h n w = record { live = record { made = w.live.made; kept = λ c. elim (Contains-append_cases s.heap.freed freed x c) [ inl o ↦ w.live.kept o | inr f ↦ n f ] }; held = w.held }
+Holds-after s freed x h n w = record { live = live-after s.heap freed x n w.live; held = w.held }
 
 -- what a resolution is of, with all that holds just before it
 pub record Resolution (b : Graph) (s : Managed) (taken : List ℕ) (p : PeerReplay) (c : OpenCycle) (freed : List ℕ) : Type 0 where
@@ -205,9 +196,6 @@ owners-resolved b s taken p c freed r x h q w l f =
       unreached-dead b s p c r.swept r.cut x before.live unreached,
       kept-apart b s taken p (joint_of s p b) c r.handles r.swept refl refl x unreached,
     ))
-
-some-same : (c d : OpenCycle) → Some c ≡ Some d → c ≡ d
-some-same c d e = cc
 
 pub resolution-here : (b : Graph) (s : Managed) (taken : List ℕ) (p : PeerReplay) (o : Opened) (k : ℕ) (cycle : OpenCycle) (alive : List Bool) (freed : List ℕ) → AreHandlesKept s taken p → IsSwept b s p → IsOpenCut s o → IsOpen s k cycle → alive ≡ first_answers s p
     → IsResolution s cycle.dead (IsAnsweredAlive cycle.candidates alive) freed → Resolution b s taken p cycle freed

@@ -3,7 +3,7 @@
 -- into it would be reached by a slot, and then what it leads to would be too.
 use Rattle.std.proofs.Common.{◌≡◌, ℕ, ◌+◌, inl, inr, List, Option, None, refl, sym, ap, subst}
 use Rattle.std.specs.Prelude.{Contains}
-use Rattle.std.proofs.lemmas.List.Elements.{Contains-append_left, Contains-append_right, Contains-append_cases}
+use Rattle.std.proofs.lemmas.List.Elements.{Contains-append_right, Contains-append_cases}
 use Rattle.joint_model.specs.declared.names.Cycle.{Cycle}
 use Rattle.joint_model.specs.declared.names.Thread.TheVariants.{C}
 use Rattle.joint_model.specs.declared.events.Op.TheVariants as op
@@ -11,7 +11,6 @@ use Rattle.joint_model.specs.declared.events.Reply.{Reply}
 use Rattle.joint_model.specs.Control.{idle, snapped as stands_snapped, contracted, MayAbandonNow, Stand}
 use Rattle.joint_model.specs.Cycles.{IsSnapshot}
 use Rattle.joint_model.specs.First.{FirstLinkage, FirstMayCome}
-use Rattle.joint_model.specs.Heaps.{Heap, IsLive, with_freed}
 use Rattle.joint_model.specs.Joined.{joint_of}
 use Rattle.joint_model.specs.Joint.{Graph}
 use Rattle.joint_model.specs.Managed.{Managed, OpenCycle, Holds, IsBridge, IsManagedRoot, ManagedEdge, IsManagedReached, snapped, abandoned}
@@ -20,17 +19,11 @@ use Rattle.joint_model.specs.Told.{nothing, snap_of}
 use Rattle.joint_model.proofs.WalkLemmas.{Reached-keeps, Reached-start, Reached-then}
 use Rattle.first_laws.proofs.Doings.{snap-idle}
 use Rattle.first_laws.proofs.Kept.{AreHandlesKept, AreOwnersLive, IsCut, IsStandKept, IsKept, Steps}
-use Rattle.first_laws.proofs.Owners.{owned-same, removed-same}
+use Rattle.first_laws.proofs.Owners.{owned-same, removed-same, live-before, live-after}
 
 -- the objects after the snapshot
 abbrev after_snap : Managed → List ℕ → List ℕ → List ℕ → Managed
 after_snap s freed candidates dead = snapped s freed candidates dead
-
-live-before : (h : Heap) (freed : List ℕ) (x : ℕ) → IsLive (with_freed h freed) x → IsLive h x
-live-before h freed x l = record { made = l.made; kept = λ c. l.kept (Contains-append_left h.freed freed x c) }
-
-live-after : (h : Heap) (freed : List ℕ) (x : ℕ) → (Contains freed x → ⊥) → IsLive h x → IsLive (with_freed h freed) x
-live-after h freed x n l = record { made = l.made; kept = λ c. elim (Contains-append_cases h.freed freed x c) [ inl w ↦ l.kept w | inr w ↦ n w ] }
 
 Holds-before : (s : Managed) (freed candidates dead : List ℕ) (x h : ℕ) → Holds (after_snap s freed candidates dead) x h → Holds s x h
 Holds-before s freed candidates dead x h w = record { live = live-before s.heap freed x w.live; held = w.held }

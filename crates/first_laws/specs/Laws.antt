@@ -1,6 +1,7 @@
--- What is proved of every history in the form of the first steps.
+-- What is proved of every history in the form of the first steps: it is a run, and its runs are sound and complete.
 use Rattle.std.specs.Prelude.{List}
 use Rattle.joint_model.specs.First.{AllFirstMayCome, opening_first}
+use Rattle.joint_model.specs.Headline.{IsSoundRun, IsCompleteRun}
 use Rattle.joint_model.specs.Linked.{joint_projection}
 use Rattle.joint_model.specs.Run.{Moment, IsRun}
 use Rattle.joint_model.specs.Told.{Noted}
@@ -10,3 +11,13 @@ use Rattle.first_laws.specs.Events.{AreFirstEvents}
 abbrev pub FirstHistoriesAreRuns : Type 0
 FirstHistoriesAreRuns = (noted : List Noted) → AllFirstMayCome opening_first noted → AreFirstEvents noted
     → (moments : List Moment) × IsRun (joint_projection noted) moments
+
+-- and then every run of them is sound: nothing is freed too early
+abbrev pub FirstRunsAreSound : Type 0
+FirstRunsAreSound = (noted : List Noted) (moments : List Moment) → AllFirstMayCome opening_first noted → AreFirstEvents noted
+    → IsRun (joint_projection noted) moments → IsSoundRun moments
+
+-- and complete: nothing that stays unreached through a cycle is left
+abbrev pub FirstRunsAreComplete : Type 0
+FirstRunsAreComplete = (noted : List Noted) (moments : List Moment) → AllFirstMayCome opening_first noted → AreFirstEvents noted
+    → IsRun (joint_projection noted) moments → IsCompleteRun moments

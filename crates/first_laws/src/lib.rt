@@ -8,9 +8,20 @@
 // The crate goes as a whole when the cycle of eight phases comes.
 #![tactic(auto)]
 
-ghost use Rattle.first_laws.specs.Laws.{FirstHistoriesAreRuns};
+ghost use Rattle.first_laws.specs.Laws.{FirstHistoriesAreRuns, FirstRunsAreSound, FirstRunsAreComplete};
 
 /// Each history in the form of the first steps is a run of the joint machine over its joint projection.
 pub fn first_histories_are_runs()
     ensures { FirstHistoriesAreRuns }
+{}
+
+/// Every run of such a history is sound: what is freed was unreached when the marking that freed it began, and just before it
+/// was freed.
+pub fn first_runs_are_sound()
+    ensures { FirstRunsAreSound }
+{}
+
+/// Every run of such a history is complete: each cycle that ends in a resolution frees what was unreached throughout.
+pub fn first_runs_are_complete()
+    ensures { FirstRunsAreComplete }
 {}
