@@ -110,6 +110,7 @@ handles-marked s taken p mk n a = record {
   tabled_live = a.tabled_live;
 }
 
+-- what a begin does and keeps, by the marking that is open before it
 pub record Begins (b : Graph) (s : Managed) (taken : List ℕ) (p : PeerReplay) (o : Opened) (unreached : List ℕ) (reply : Reply) (mk : Option Marking) : Type 0 where
   pub step : reply ≡ (begun p mk C).reply → JointBegin (joint_of s p b) (joint_marking mk b) C reply (joint_of s (begun p mk C).state (graph_at s p))
   pub handles : AreHandlesKept s taken (begun p mk C).state
@@ -166,6 +167,7 @@ handles-swept s taken p freed k u = record {
       elim (Contains-append_cases p.peers.heap.freed freed i.peer c) [ inl old ↦ k.tabled_live h i w.0 e old | inr new ↦ w.1 new ]);
 }
 
+-- what a sweep does and keeps, by the marking that is open before it
 pub record Sweeps (b : Graph) (s : Managed) (taken : List ℕ) (p : PeerReplay) (o : Opened) (freed : List ℕ) (reply : Reply) (mk : Option Marking) : Type 0 where
   pub step : reply ≡ (joint_swept p mk freed).reply → JointSweep (joint_of s p b) (joint_marking mk b) C reply (sweep_of freed) (joint_of s (joint_swept p mk freed).state b)
   pub handles : AreHandlesKept s taken (joint_swept p mk freed).state

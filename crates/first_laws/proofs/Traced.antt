@@ -56,12 +56,14 @@ pub record HasSwept (past : List Moment) (b : Graph) (now : Peers) (number from 
   pub peers : sweeps.moment.after.peers ≡ now
   pub exact : AreUnreached b swept
 
+-- the snapshot and the begin, where the marking is open
 pub record HasMarked (past : List Moment) (b : Graph) (s : Managed) (p : PeerReplay) (o : Opened) : Type 0 where
   pub snapped : HasSnapped past s o
   pub number : ℕ
   pub begun : HasBegun past b number snapped.at
   pub open_marking : (mk : Marking) → p.marking ≡ Some mk → mk.number ≡ number
 
+-- the snapshot, the begin and the sweep, where the resolution is to come
 pub record HasRestoring (past : List Moment) (b : Graph) (s : Managed) (p : PeerReplay) (o : Opened) : Type 0 where
   pub snapped : HasSnapped past s o
   pub number : ℕ
