@@ -1,0 +1,12 @@
+// Laws on the histories of scripts, each the contract of a function that does nothing.
+
+ghost use Rattle.std.specs.Prelude.{ℕ, List};
+ghost use Rattle.joint_model.specs.declared.names.Thread.{Thread};
+ghost use Rattle.joint_model.specs.declared.lines.Act.{Act};
+ghost use Rattle.joint_model.specs.declared.events.Entry.{Entry};
+ghost use Rattle.script_histories.specs.Holding.{HoldsLines, AllCyclesEnd};
+
+/// A history that holds the lines of a script abandons no cycle, and resolves each that it opens.
+pub fn held_cycles_end()
+    ensures { (number : ℕ) (script : List (Thread × Act)) (entries : List Entry) → HoldsLines number script entries → AllCyclesEnd entries }
+{}

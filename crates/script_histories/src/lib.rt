@@ -1,0 +1,6 @@
+// Laws on the histories of scripts.
+#![tactic(auto)]
+
+mod laws;
+
+pub use laws::held_cycles_end;
