@@ -1,46 +1,43 @@
--- One step of the managed side, and one of the peer side, keep what holds of both sides: the entry goes to the end of its
--- side's list and of the whole history, with the next number; nothing is freed; and a handle that an object gets was issued.
-use Rattle.std.proofs.Common.{◌≡◌, ℕ, ◌+◌, ◌<◌, ◌≤◌, inl, inr, List, [], ◌∷◌, ◌++◌, All, length, Option, Some, None, sym, ◌∙◌, subst, arith, append-nil}
-use Rattle.std.proofs.lemmas.Option.{slice_get_within}
+-- A step of the managed side goes on with each history that is told: the entry may come next, at its side's end and at that
+-- of the whole history, with the next number; it frees nothing; and a handle that an object gets was issued.
+use Rattle.std.proofs.Common.{◌≡◌, ℕ, ◌+◌, ◌<◌, ◌≤◌, inl, inr, List, [], ◌∷◌, ◌++◌, All, length, Option, Some, None, refl, sym, ap, ◌∙◌, subst, arith, append-nil}
+use Rattle.std.proofs.lemmas.List.Elements.{All-push, All-nil, All-cons}
 use Rattle.object_heap.proofs.Numbered.{numbered-push_cases}
 use Rattle.joint_model.specs.declared.names.Thread.{Thread}
 use Rattle.joint_model.specs.declared.names.Thread.TheVariants.{M, P, C}
 use Rattle.joint_model.specs.declared.names.Kind.{Kind}
 use Rattle.joint_model.specs.declared.names.Kind.TheVariants as kind
 use Rattle.joint_model.specs.declared.names.Sort.{Sort}
+use Rattle.joint_model.specs.declared.names.Var.{Var}
 use Rattle.joint_model.specs.declared.names.MNum.{MNum}
 use Rattle.joint_model.specs.declared.names.PNum.{PNum}
+use Rattle.joint_model.specs.declared.names.HNum.{HNum}
 use Rattle.joint_model.specs.declared.lines.Act.{Act}
 use Rattle.joint_model.specs.declared.lines.Act.TheVariants as act
 use Rattle.joint_model.specs.declared.events.Entry.{Entry}
 use Rattle.joint_model.specs.declared.events.Op.{Op}
 use Rattle.joint_model.specs.declared.events.Op.TheVariants as op
 use Rattle.joint_model.specs.declared.events.Reply.{Reply}
+use Rattle.joint_model.specs.declared.events.Reply.TheVariants as says
+use Rattle.joint_model.specs.Control.{Control, free, made, idle, doing_at, doing_after}
 use Rattle.joint_model.specs.Draws.{numbered, Adds, CountDrew}
-use Rattle.joint_model.specs.Heaps.{Answered, answer, numbered_at}
-use Rattle.joint_model.specs.Histories.{IsPlaced, IsSound}
+use Rattle.joint_model.specs.First.{FirstLinkage, first_after, FirstMayCome, IsCycleAlone}
+use Rattle.joint_model.specs.Heaps.{Answered, answer, numbered_at, place, is_full}
+use Rattle.joint_model.specs.Histories.{IsSound}
 use Rattle.joint_model.specs.Lines.{IsManagedThread, IsThread, IsBridgeObject, IsAdoptable, IsEvent, IsNamed, IsOneEvent, IsLine, IsManagedAct}
-use Rattle.joint_model.specs.Managed.{Managed}
+use Rattle.joint_model.specs.Managed.{Managed, adopted, managed_line, managed_name}
+use Rattle.joint_model.specs.ManagedReplay.{ManagedReplay, adopt_by}
 use Rattle.joint_model.specs.Peers.{Issued}
+use Rattle.joint_model.specs.Told.{Noted, nothing}
 use Rattle.managed_heap.specs.Sides.{Side as ManagedShown, managed_event, IsFirstAct, IsFirstOp, IsFirstManagedStep, step_made}
 use Rattle.peer_heap.specs.Sides.{Side as PeerShown}
-use Rattle.bridge_run.specs.Runs.{AreIssued, AreSides}
+use Rattle.script_histories.specs.Holding.{AreLine, AreEvents, IsOnLine}
+use Rattle.bridge_run.specs.Going.{Goes, AtRest}
+use Rattle.bridge_run.specs.Runs.{Both, IsTold, IsAt, AreIssued, entries_of}
 use Rattle.bridge_run.specs.Wholes.{Ran, as_managed, as_peers}
-use Rattle.bridge_run.proofs.ManagedEvents.{IsQuiet, set-quiet, drop-quiet, adopt-quiet, adopt-held}
+use Rattle.bridge_run.proofs.ManagedEvents.{IsQuiet, set-quiet, drop-quiet, adopt-quiet, adopt-held, test-cases}
 use Rattle.bridge_run.proofs.Ran.{Ran-managed}
-
--- every number of a side's list lies below the count
-pub Ran-below_managed : (managed peers : List Entry) (ms ps : List ℕ) (count : ℕ) → Ran managed peers ms ps count → All (λ e. e.number < count) managed
-Ran-below_managed managed peers ms ps count r k d h =
-    let placed : All (IsPlaced r.whole) managed = r.shuffle.placed 0 [] (omega arith) in
-    let within = slice_get_within r.whole _ _ (placed k d h) in
-    omega (arith, within, r.drawn)
-
-pub Ran-below_peers : (managed peers : List Entry) (ms ps : List ℕ) (count : ℕ) → Ran managed peers ms ps count → All (λ e. e.number < count) peers
-Ran-below_peers managed peers ms ps count r k d h =
-    let placed : All (IsPlaced r.whole) peers = r.shuffle.placed 1 [] (omega arith) in
-    let within = slice_get_within r.whole _ _ (placed k d h) in
-    omega (arith, within, r.drawn)
+use Rattle.bridge_run.proofs.Telling.{told-push, IsAt-thread, done-start, doing-now}
 
 -- a managed thread is a thread
 pub thread-is : (t : Thread) → IsManagedThread t → IsThread t
@@ -77,6 +74,12 @@ first-one (act.Set v i w) f = tt
 first-one (act.Drop v) f = tt
 first-one _ f = absurd f
 
+-- the act of a managed thread's line is a managed one
+pub line-act : (t : Thread) (a : Act) → IsManagedThread t → IsLine t a → IsManagedAct a
+line-act (M n) a m l = l.1
+line-act (P n) a m l = absurd m
+line-act C a m l = absurd m
+
 -- the handle that the event gives an object was issued
 abbrev pub GivesIssued : Op → List Issued → Type 0
 GivesIssued (op.Adopt v k n p h) issued = (1 ≤ h.0) × (h.0 ≤ length issued)
@@ -90,7 +93,7 @@ issued-push held held' issued h is ok old x g at =
     ]
 
 -- the first steps' events give objects issued handles alone
-event-issued : (s : Managed) (t : Thread) (o : Op) (issued : List Issued) → IsFirstOp o → GivesIssued o issued → AreIssued s.held issued → AreIssued (managed_event s t o).state.held issued
+pub event-issued : (s : Managed) (t : Thread) (o : Op) (issued : List Issued) → IsFirstOp o → GivesIssued o issued → AreIssued s.held issued → AreIssued (managed_event s t o).state.held issued
 event-issued s (M n) (op.Line (act.Set v i w)) issued f g a = a
 event-issued s (P n) (op.Line (act.Set v i w)) issued f g a = a
 event-issued s C (op.Line (act.Set v i w)) issued f g a = a
@@ -102,33 +105,61 @@ event-issued s t (op.Adopt v k n p h) issued f g a = elim (adopt-held s _ k n h.
 event-issued s t (op.Line _) issued f g a = absurd f
 event-issued s t _ issued f g a = absurd f
 
--- a step of the managed side
-pub managed-stepped : (m m' : ManagedShown) (p : PeerShown) (count count' : ℕ) (t : Thread) (index : ℕ) (o : Op) (r : Reply) (cites : Option ℕ)
-    → AreSides m p count → IsFirstManagedStep t o → GivesIssued o p.peers.issued
+-- the whole history after a step of the managed side
+pub step-ran : (m m' : ManagedShown) (p : PeerShown) (count count' : ℕ) (whole : List Entry) (t : Thread) (index : ℕ) (o : Op) (r : Reply) (cites : Option ℕ)
+    → Ran whole m.entries p.entries m.managed.heap.freed p.peers.heap.freed count → IsFirstManagedStep t o
     → managed_event m.managed t o ≡ answer r m'.managed
-    → Adds CountDrew count count' m.entries m'.entries (step_made t index o r cites) None []
-    → AreSides m' p count' × (m'.managed.cycle ≡ m.managed.cycle) × (count' ≡ count + 1)
-managed-stepped m m' p count count' t index o r cites sides step gives is adds =
+    → (adds : Adds CountDrew count count' m.entries m'.entries (step_made t index o r cites) None [])
+    → Ran (whole ++ numbered adds.number (step_made t index o r cites) ∷ []) m'.entries p.entries m'.managed.heap.freed p.peers.heap.freed count'
+step-ran m m' p count count' whole t index o r cites ran step is adds =
     let ms = as_managed m.managed.heap.freed in
     let ps = as_peers p.peers.heap.freed in
     let quiet : IsQuiet ms ps m.managed (answer r m'.managed) = subst (IsQuiet ms ps m.managed) is (event-quiet ms ps m.managed t o step.1) in
     let e : Entry = numbered adds.number (step_made t index o r cites) in
     let sound : IsSound ms ps [] e = record { event = event-named t o step.1 step.0 step.2; spans = quiet.spans } in
-    let more : Ran (m.entries ++ e ∷ []) p.entries (m.managed.heap.freed ++ []) p.peers.heap.freed (count + 1) =
-    Ran-managed m.entries p.entries m.managed.heap.freed [] p.peers.heap.freed count e sides.ran adds.drawn.0 (subst (λ l. IsSound (as_managed l) ps [] e) (sym (append-nil m.managed.heap.freed)) sound) in
-    let freed : m.managed.heap.freed ++ [] ≡ m'.managed.heap.freed = append-nil m.managed.heap.freed ∙ sym quiet.freed in (
-      record {
-        ran = subst (λ l. Ran m'.entries p.entries l p.peers.heap.freed count') freed
-            (subst (λ n. Ran m'.entries p.entries (m.managed.heap.freed ++ []) p.peers.heap.freed n) (sym adds.drawn.1)
-            (subst (λ es. Ran es p.entries (m.managed.heap.freed ++ []) p.peers.heap.freed (count + 1)) (sym adds.added) more));
-        issued = subst (λ (a : Answered Managed). AreIssued a.state.held p.peers.issued) is (event-issued m.managed t o p.peers.issued step.1 gives sides.issued);
-      },
-      quiet.cycle,
-      adds.drawn.1,
-    )
+    let more : Ran (whole ++ e ∷ []) (m.entries ++ e ∷ []) p.entries (m.managed.heap.freed ++ []) p.peers.heap.freed (count + 1) =
+    Ran-managed whole m.entries p.entries m.managed.heap.freed [] p.peers.heap.freed count e ran adds.drawn.0 (subst (λ l. IsSound (as_managed l) ps [] e) (sym (append-nil m.managed.heap.freed)) sound) in
+    let freed : m.managed.heap.freed ++ [] ≡ m'.managed.heap.freed = append-nil m.managed.heap.freed ∙ sym quiet.freed in
+    subst (λ l. Ran (whole ++ e ∷ []) m'.entries p.entries l p.peers.heap.freed count') freed
+    (subst (λ n. Ran (whole ++ e ∷ []) m'.entries p.entries (m.managed.heap.freed ++ []) p.peers.heap.freed n) (sym adds.drawn.1)
+    (subst (λ es. Ran (whole ++ e ∷ []) es p.entries (m.managed.heap.freed ++ []) p.peers.heap.freed (count + 1)) (sym adds.added) more))
 
--- the act of a managed thread's line is a managed one
-pub line-act : (t : Thread) (a : Act) → IsManagedThread t → IsLine t a → IsManagedAct a
-line-act (M n) a m l = l.1
-line-act (P n) a m l = absurd m
-line-act C a m l = absurd m
+-- a step of the managed side leaves the cycle alone
+pub step-cycle : (m m' : Managed) (t : Thread) (o : Op) (r : Reply) → IsFirstOp o → managed_event m t o ≡ answer r m' → m'.cycle ≡ m.cycle
+step-cycle m m' t o r f is = (subst (IsQuiet [] [] m) is (event-quiet [] [] m t o f)).cycle
+
+-- the entry of a `set` or a `drop` is all that its line makes
+line-events : (a : Act) (e : Entry) → IsFirstAct a → e.made.op ≡ op.Line a → AreEvents a (e ∷ [])
+line-events (act.Set v i w) e f is = ap (λ o. o ∷ []) is
+line-events (act.Drop v) e f is = ap (λ o. o ∷ []) is
+line-events _ e f is = absurd f
+
+-- a `set` or a `drop` goes on with each history of the sides between two lines
+pub line-goes : (m m' : ManagedShown) (p : PeerShown) (count count' : ℕ) (t : Thread) (index : ℕ) (a : Act) (r : Reply)
+    → IsManagedThread t → IsLine t a → IsFirstAct a
+    → managed_event m.managed t (op.Line a) ≡ answer r m'.managed
+    → Adds CountDrew count count' m.entries m'.entries (step_made t index (op.Line a) r None) None []
+    → Goes (AtRest index) (AtRest index) (AreLine index (t, a)) (record { managed = m; peer = p; count = count }) (record { managed = m'; peer = p; count = count' })
+line-goes m m' p count count' (P k) index a r thread line first is adds noted end told at = absurd thread
+line-goes m m' p count count' C index a r thread line first is adds noted end told at = absurd thread
+line-goes m m' p count count' (M k) index a r thread line first is adds noted end told at =
+    let e : Entry = numbered adds.number (step_made (M k) index (op.Line a) r None) in
+    let n : Noted = record { entry = e; told = nothing } in
+    let may : FirstMayCome end n = record {
+      number = adds.drawn.0 ∙ sym told.count;
+      event = (line, first-one a first);
+      line = at.lines (M k);
+      lawful = record { allowed = tt; replies = rw (told.managed) (ap (λ (x : Answered Managed). x.reply) (sym is)) };
+      order = done-start (doing_at end.base.control k) (at.done k);
+      alone = subst (λ s. IsCycleAlone s (M k)) (sym at.stands) tt;
+    } in
+    let grown : Ran (entries_of noted ++ e ∷ []) m'.entries p.entries m'.managed.heap.freed p.peers.heap.freed count' =
+    step-ran m m' p count count' (entries_of noted) (M k) index (op.Line a) r None told.ran (thread, first, (line, first-one a first)) is adds in
+    let held : AreIssued m'.managed.held p.peers.issued = subst (λ (x : Answered Managed). AreIssued x.state.held p.peers.issued) is (event-issued m.managed (M k) (op.Line a) p.peers.issued first tt told.held) in (
+      n ∷ [],
+      first_after end n,
+      told-push noted end _ (record { managed = m'; peer = p; count = count' }) n told may grown
+        (rw (told.managed) (ap (λ (x : Answered Managed). x.state) is)) told.peer adds.drawn.1 told.adopted held told.leads,
+      IsAt-thread index idle end.base.control k free tt at,
+      record { places = All-cons (IsOnLine index (M k)) e [] record { caller = refl; line = refl } (All-nil (IsOnLine index (M k))); events = line-events a e first refl },
+    )

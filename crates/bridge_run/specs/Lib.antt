@@ -1,3 +1,5 @@
 pub mod Top
 pub mod Wholes
 pub mod Runs
+pub mod Going
+pub mod Kept

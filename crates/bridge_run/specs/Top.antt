@@ -3,12 +3,18 @@ use Rattle.std.specs.Prelude.{◌≡◌, ◌⊎◌, ℕ, List, [], ◌∷◌, Op
 use Rattle.std.specs.Io.KnownBytes.{Appends}
 use Rattle.joint_model.specs.declared.names.Thread.{Thread}
 use Rattle.joint_model.specs.declared.lines.Act.{Act}
-use Rattle.joint_model.specs.Histories.{Finished, IsHistory}
+use Rattle.joint_model.specs.First.{IsFirstLinkedBy}
+use Rattle.joint_model.specs.Headline.{IsSoundRun, IsCompleteRun}
+use Rattle.joint_model.specs.Histories.{Finished}
+use Rattle.joint_model.specs.Linked.{joint_projection}
+use Rattle.joint_model.specs.Run.{Moment, IsRun}
+use Rattle.joint_model.specs.Told.{Noted}
 use Rattle.bridge_script.specs.declared.faults.ScriptFault.{ScriptFault}
 use Rattle.bridge_script.specs.Causes.{fault_text}
 use Rattle.bridge_script.specs.Outside.{AppendsPart}
 use Rattle.bridge_script.specs.Reading.{TookScript, TookFault}
 use Rattle.bridge_script.specs.Report.{report}
+use Rattle.script_histories.specs.Holding.{HoldsLines, AllCyclesEnd}
 
 -- the words, as bytes, are the one command, `serial`
 abbrev pub IsSerial : List (List ℕ) → Type 0
@@ -18,13 +24,27 @@ IsSerial words = words ≡ codes "serial" ∷ []
 abbrev pub usage_text : List ℕ
 usage_text = codes "usage: bridge_run COMMAND\n"
 
--- a report was printed: the source was read to its end, what was taken is a text of a script, and the report of a history
+-- the history of a script's run: it is linked, in the form of the first steps; it holds the events of each line of the script,
+-- each once, and those of a line before those of each later line; no cycle in it is abandoned, and each is resolved; and the
+-- one machine whose single graph joins both heaps has a run of its joint entries, which frees nothing too early and leaves
+-- nothing that stayed unreached
+pub record IsRunOf (script : List (Thread × Act)) (history : Finished) : Type 0 where
+  pub noted : List Noted
+  pub linked : IsFirstLinkedBy history noted
+  pub lines : HoldsLines 1 script history.entries
+  pub ends : AllCyclesEnd history.entries
+  pub moments : List Moment
+  pub run : IsRun (joint_projection noted) moments
+  pub sound : IsSoundRun moments
+  pub complete : IsCompleteRun moments
+
+-- a report was printed: the source was read to its end, what was taken is a text of a script, and the report of the history of its run
 -- was appended to what the sink held
 pub record Printed (left rest held after : Option (List ℕ)) : Type 0 where
   pub script : List (Thread × Act)
   pub history : Finished
   pub took : TookScript left rest script
-  pub kept : IsHistory history
+  pub run : IsRunOf script history
   pub text : Appends held after (report history)
 
 -- a script was refused: what was taken from the source is no script, and the line that names its first fault was appended
@@ -38,7 +58,7 @@ pub record PrintedPart (left rest held after : Option (List ℕ)) : Type 0 where
   pub script : List (Thread × Act)
   pub history : Finished
   pub took : TookScript left rest script
-  pub kept : IsHistory history
+  pub run : IsRunOf script history
   pub part : AppendsPart held after (report history)
 
 -- the writing of a refusal broke off: only a beginning of its line was appended

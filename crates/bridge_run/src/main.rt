@@ -1,6 +1,7 @@
 // The program `bridge_run`: the bridge between two heaps, run over a script.
 #![tactic(auto)]
 
+mod answers;
 mod cycle;
 mod serial;
 mod sides;

@@ -4,8 +4,8 @@ ghost use Rattle.std.specs.Prelude.{◌≡◌, ◌≤◌, ◌⊎◌, map, string
 ghost use Rattle.std.specs.Io.KnownBytes.{Appends, Keeps};
 ghost use Rattle.bridge_script.specs.Outside.{Rose, AppendsPart};
 ghost use Rattle.bridge_script.specs.Report.{report};
-ghost use Rattle.joint_model.specs.Histories.{Finished, IsHistory};
-ghost use Rattle.bridge_run.specs.Top.{IsSerial, usage_text, Printed, Refuses, BrokeOff};
+ghost use Rattle.joint_model.specs.Histories.{Finished};
+ghost use Rattle.bridge_run.specs.Top.{IsSerial, IsRunOf, usage_text, Printed, Refuses, BrokeOff};
 
 use crate::serial::run;
 use crate::words::is_serial;
@@ -71,9 +71,9 @@ pub fn bridge_main<R: Threads + Wait + Sync, S: Source, K: Sink, T: Turnstile + 
 
 // Runs the script and writes the report of its history.
 fn print_run<K: Sink>(alloc: Global, script: &Script, out: &mut K) -> u8
-    ensures done { result ≡ 0 → (h : Finished) × IsHistory h × Appends (K.held out.old) (K.held out.new) (report h) }
+    ensures done { result ≡ 0 → (h : Finished) × IsRunOf script.now h × Appends (K.held out.old) (K.held out.new) (report h) }
     ensures write { result ≡ 4 → Rose (K.faults out.old) (K.faults out.new) }
-    ensures part { result ≡ 4 → (h : Finished) × IsHistory h × AppendsPart (K.held out.old) (K.held out.new) (report h) }
+    ensures part { result ≡ 4 → (h : Finished) × IsRunOf script.now h × AppendsPart (K.held out.old) (K.held out.new) (report h) }
     ensures memory { result ≡ 5 → Keeps (K.held out.old) (K.held out.new) }
     ensures status { (result ≡ 0) ⊎ (result ≡ 4) ⊎ (result ≡ 5) }
 {

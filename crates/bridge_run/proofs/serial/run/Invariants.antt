@@ -1,6 +1,7 @@
 use Rattle.std.proofs.Common.{◌≤◌, ◌+◌, ◌*◌}
 use Rattle.bridge_run.specs.Runs.{IsIdle}
+use Rattle.bridge_run.proofs.Running.{IsRunning}
 use Rattle.bridge_run.proofs.serial.run.Given as goal
 
-abbrev pub invariant-loop-line : goal.invariant-loop-line
-invariant-loop-line l = record { count : l.sides.count + 4 ≤ 4 * l.line; idle : IsIdle l.sides }
+abbrev pub invariant-loop-done : goal.invariant-loop-done
+invariant-loop-done l = record { count : l.sides.count ≤ 4 * l.done; idle : IsIdle l.sides; running : IsRunning l.done l.script l.sides }

@@ -1,11 +1,30 @@
-use Rattle.std.proofs.Common.{None}
-use Rattle.bridge_run.proofs.Stepping.{Ran-below_managed}
-use Rattle.bridge_run.proofs.Cycling.{resolve-stepped}
+use Rattle.std.proofs.Common.{ℕ, List, length, ap, ◌∙◌}
+use Rattle.joint_model.specs.Control.{candidates_of}
+use Rattle.bridge_run.proofs.Ran.{below-managed}
+use Rattle.bridge_run.proofs.Cycling.{candidates-is, resolve-goes}
+use Rattle.bridge_run.proofs.Keeping.{handles-sure, answers-same, answers-many}
 use Rattle.bridge_run.proofs.sides.Sides.resolve.Goals as goal
 
-pub resolve-requires-clause-below : goal.resolve-requires-clause-below
-resolve-requires-clause-below c = Ran-below_managed _ _ _ _ _ c.self.invariant.ran
+pub answers-requires : goal.answers-requires
+answers-requires c =
+    let told = rw (← c.self.view_is) at c.requires.told in
+    let handles = rw (← c.self.view_is) at c.requires.handles in
+    handles-sure c.self.inside.managed.managed c.self.inside.peers (candidates_of c.self.inside.managed.managed) c.args.handles.now handles told.2.held told.2.leads
 
-pub invariant_of-self : goal.invariant_of-self
-invariant_of-self c =
-    resolve-stepped c.self.inside.managed c.resolve.new.self c.self.inside.peers c.self.inside.counter c.resolve.new.draw c.args.index None c.args.alive.now.values c.resolve.result c.self.invariant c.resolve.ensures.resolve
+pub resolve-requires-clause-answers : goal.resolve-requires-clause-answers
+resolve-requires-clause-answers c =
+    let handles = rw (← c.self.view_is) at c.requires.handles in
+    λ k is. answers-many c.self.inside.managed.managed c.self.inside.peers (candidates_of c.self.inside.managed.managed) c.args.handles.now c.in_ok-alive.alive.values handles c.in_ok-alive.ensures
+        ∙ ap (λ (l : List ℕ). length l) (candidates-is c.self.inside.managed.managed k is)
+
+pub resolve-requires-clause-below : goal.resolve-requires-clause-below
+resolve-requires-clause-below c =
+    let told = rw (← c.self.view_is) at c.requires.told in
+    below-managed _ _ _ _ _ _ told.2.ran
+
+pub returns-clause-goes : goal.returns-clause-goes
+returns-clause-goes c =
+    let handles = rw (← c.self.view_is) at c.requires.handles in
+    rw (← c.self.view_is)
+    (resolve-goes c.self.inside.managed c.resolve.new.self c.self.inside.peers c.self.inside.counter c.resolve.new.draw c.args.index c.in_ok-alive.alive.values c.resolve.result
+    (c.in_ok-alive.ensures ∙ answers-same c.self.inside.managed.managed c.self.inside.peers (candidates_of c.self.inside.managed.managed) c.args.handles.now handles) c.resolve.ensures.resolve)

@@ -1,15 +1,14 @@
-use Rattle.std.proofs.Common.{◌+◌, length, sym, ap}
-use Rattle.std.proofs.lemmas.List.{length-map}
+use Rattle.std.proofs.Common.{◌+◌, ap}
 use Rattle.joint_model.specs.Managed.{Managed}
-use Rattle.bridge_run.proofs.Stepping.{Ran-below_managed}
-use Rattle.bridge_run.proofs.Cycling.{snap-stepped}
+use Rattle.bridge_run.proofs.Ran.{below-managed}
+use Rattle.bridge_run.proofs.Cycling.{snap-goes}
+use Rattle.bridge_run.proofs.Keeping.{candidate-handles}
 use Rattle.bridge_run.proofs.sides.Sides.snap.Goals as goal
 
 pub snap-requires-clause-below : goal.snap-requires-clause-below
-snap-requires-clause-below c = Ran-below_managed _ _ _ _ _ c.self.invariant.ran
-
-pub invariant_of-self-2 : goal.invariant_of-self-2
-invariant_of-self-2 c = snap-stepped c.self.inside.managed c.snap.new.self c.self.inside.peers c.self.inside.counter c.snap.new.draw c.args.index c.in-Ok.opened c.self.invariant c.in-Ok.ensures.snap
+snap-requires-clause-below c =
+    let told = rw (← c.self.view_is) at c.requires.told in
+    below-managed _ _ _ _ _ _ told.2.ran
 
 pub returns-clause-opens : goal.returns-clause-opens
 returns-clause-opens c =
@@ -18,6 +17,13 @@ returns-clause-opens c =
     record {
       cycle = record { number = c.self.inside.managed.managed.cycles + 1; candidates = s.candidates; dead = s.dead };
       opened = ap (λ (x : Managed). x.cycle) s.state;
-      candidates = sym (simp length-map at (ap length s.handles));
       closed = idle.1;
     }
+
+pub returns-clause-handles : goal.returns-clause-handles
+returns-clause-handles c = candidate-handles c.self.inside.managed c.snap.new.self c.self.inside.counter c.snap.new.draw c.args.index c.in-Ok.opened c.in-Ok.ensures.snap
+
+pub returns-clause-goes : goal.returns-clause-goes
+returns-clause-goes c =
+    rw (← c.self.view_is)
+    (snap-goes c.self.inside.managed c.snap.new.self c.self.inside.peers c.self.inside.counter c.snap.new.draw c.args.index c.in-Ok.opened c.in-Ok.ensures.snap)
