@@ -171,15 +171,15 @@ pub make-alone : (noted : List Noted) (k index : ℕ) (v : Var) (kind : Kind) (f
     → MakeTold noted k index sort n r old b → ((p : PNum) (h : HNum) → r ≡ says.Made p h → ⊥)
     → GoesFrom noted index (M k, act.Bridge v kind fields sort n) b
 make-alone noted k index v kind fields sort n r old b m never = (
-    record { entry = m.entry; told = nothing } ∷ [],
-    m.next,
-    m.told,
-    m.at,
-    record {
-      places = All-cons (IsOnLine index (M k)) m.entry [] m.place (All-nil (IsOnLine index (M k)));
-      events = record { make = m.entry; rest = []; all = refl; makes = m.event; adopted = sym (ap (adopts v kind fields) m.reply ∙ adopts-none v kind fields r never) };
-    },
-  )
+  record { entry = m.entry; told = nothing } ∷ [],
+  m.next,
+  m.told,
+  m.at,
+  record {
+    places = All-cons (IsOnLine index (M k)) m.entry [] m.place (All-nil (IsOnLine index (M k)));
+    events = record { make = m.entry; rest = []; all = refl; makes = m.event; adopted = sym (ap (adopts v kind fields) m.reply ∙ adopts-none v kind fields r never) };
+  },
+)
 
 -- a `bridge` whose make gave a pair, and whose adopt of it was made
 pub make-adopted : (m m' : ManagedShown) (p : PeerShown) (count count' : ℕ) (noted : List Noted) (k index : ℕ) (v : Var) (kind : Kind) (fields : ℕ) (sort : Sort) (n : ℕ) (q : PNum) (h : HNum) (r : Reply) (cites : Option ℕ) (old : List Entry)

@@ -127,7 +127,7 @@ snap-goes m m' p count count' index out s noted end told at =
       note ∷ [],
       first_after end note,
       told-push noted end _ b' note told may grown (rw (told.managed) (sym s.state)) told.peer s.drawn.1 told.adopted
-        (subst (λ l. AreIssued l p.peers.issued) (ap (λ (x : Managed). x.held) (sym s.state)) told.held) told.leads,
+          (subst (λ l. AreIssued l p.peers.issued) (ap (λ (x : Managed). x.held) (sym s.state)) told.held) told.leads,
       record {
         opened = record { cycle = out.cycle.0; snap = out.number };
         control = IsAt-driver index idle (snapped record { cycle = out.cycle.0; snap = out.number }) end.base.control at;
@@ -160,16 +160,16 @@ begin-goes m p p' count count' index j dead unreached closed number marking mark
       alone = subst (λ (x : Stand). IsCycleAlone x C) (sym stands) tt;
     } in
     let grown = peer-more (entries_of noted) m p p' count count' e [] told.ran adds.drawn.0 record { event = tt; spans = tt } adds.added
-        (ap (λ (x : Peers). x.heap.freed) peers ∙ sym (append-nil p.peers.heap.freed)) adds.drawn.1 in
+    (ap (λ (x : Peers). x.heap.freed) peers ∙ sym (append-nil p.peers.heap.freed)) adds.drawn.1 in
     let control : IsAt index (marked at.opened) (record end.base.control { lines = slice_set end.base.control.lines 0 index; stand = first_stand_after end.base.control.stand adds.number op.Begin }) =
     subst (λ (x : Stand). IsAt index (marked at.opened) (record end.base.control { lines = slice_set end.base.control.lines 0 index; stand = first_stand_after x adds.number op.Begin })) (sym stands)
     (IsAt-driver index (snapped at.opened) (marked at.opened) end.base.control at.control) in (
       note ∷ [],
       first_after end note,
       told-push noted end _ b' note told may grown told.managed replays.shows adds.drawn.1
-        (subst (λ (x : Peers). All (λ h. h ≤ length x.issued) end.base.managed.adopted) (sym peers) told.adopted)
-        (subst (λ (x : Peers). AreIssued m.managed.held x.issued) (sym peers) told.held)
-        (subst (λ (x : Peers). All (λ i. IsMade x.heap i.peer) x.issued) (sym peers) told.leads),
+          (subst (λ (x : Peers). All (λ h. h ≤ length x.issued) end.base.managed.adopted) (sym peers) told.adopted)
+          (subst (λ (x : Peers). AreIssued m.managed.held x.issued) (sym peers) told.held)
+          (subst (λ (x : Peers). All (λ i. IsMade x.heap i.peer) x.issued) (sym peers) told.leads),
       (record { opened = at.opened; control = control; cycle = at.cycle; is_open = at.is_open; same = at.same }, refl),
       record { entry = e; all = refl; place = record { caller = refl; line = refl }; event = refl },
     )
@@ -201,16 +201,16 @@ sweep-goes m p p' count count' index b j s dead rise begun number span peers tab
     swept-sound (as_managed m.managed.heap.freed) (as_peers p.peers.heap.freed) (as_peers dead) e j s tt refl
     (ap (λ (x : Span). x.first) span ∙ sym (length-map p.peers.heap.freed as_peer)) (ap (λ (x : Span). x.count) span ∙ sym (length-map dead as_peer)) (subst Rises (sym (peers-numbered dead)) rise) in
     let grown = peer-more (entries_of noted) m p p' count count' e dead told.ran adds.drawn.0
-        (subst (λ l. IsSound (as_managed m.managed.heap.freed) l [] e) (sym (map-append as_peer p.peers.heap.freed dead)) sound) adds.added (ap (λ (x : Peers). x.heap.freed) peers) adds.drawn.1 in
+    (subst (λ l. IsSound (as_managed m.managed.heap.freed) l [] e) (sym (map-append as_peer p.peers.heap.freed dead)) sound) adds.added (ap (λ (x : Peers). x.heap.freed) peers) adds.drawn.1 in
     let control : IsAt index (restoring here.opened []) (record end.base.control { lines = slice_set end.base.control.lines 0 index; stand = first_stand_after end.base.control.stand adds.number op.Sweep }) =
     subst (λ (x : Stand). IsAt index (restoring here.opened []) (record end.base.control { lines = slice_set end.base.control.lines 0 index; stand = first_stand_after x adds.number op.Sweep })) (sym stands)
     (IsAt-driver index (marked here.opened) (restoring here.opened []) end.base.control here.control) in (
       note ∷ [],
       first_after end note,
       told-push noted end _ b' note told may grown told.managed replays.shows adds.drawn.1
-        (subst (λ (x : Peers). All (λ h. h ≤ length x.issued) end.base.managed.adopted) (sym peers) told.adopted)
-        (subst (λ (x : Peers). AreIssued m.managed.held x.issued) (sym peers) told.held)
-        (subst (λ (x : Peers). All (λ i. IsMade x.heap i.peer) x.issued) (sym peers) told.leads),
+          (subst (λ (x : Peers). All (λ h. h ≤ length x.issued) end.base.managed.adopted) (sym peers) told.adopted)
+          (subst (λ (x : Peers). AreIssued m.managed.held x.issued) (sym peers) told.held)
+          (subst (λ (x : Peers). All (λ i. IsMade x.heap i.peer) x.issued) (sym peers) told.leads),
       record { opened = here.opened; control = control; cycle = here.cycle; is_open = here.is_open; same = here.same },
       record { entry = e; all = refl; place = record { caller = refl; line = refl }; event = refl },
     )
@@ -249,7 +249,7 @@ resolve-goes m m' p count count' index alive out answers r noted end told at =
       note ∷ [],
       first_after end note,
       told-push noted end _ b' note told may grown (rw (told.managed) (sym r.state)) told.peer r.entry.drawn.1 told.adopted
-        (subst (λ l. AreIssued l p.peers.issued) (ap (λ (x : Managed). x.held) (sym r.state)) told.held) told.leads,
+          (subst (λ l. AreIssued l p.peers.issued) (ap (λ (x : Managed). x.held) (sym r.state)) told.held) told.leads,
       IsAt-driver index (restoring at.opened []) idle end.base.control at.control,
       record { entry = e; all = refl; place = record { caller = refl; line = refl }; event = ap (λ (k : Cycle). op.Resolve k) (sym (open-is b r.cycle r.opened)) },
     )
@@ -273,7 +273,7 @@ cycle-goes index dead b0 b1 b2 b3 b4 snap mark swept resolve same2 same3 noted e
     ap (λ l. l ++ w.0 ++ r.0) (append_assoc noted s.0 m.0) ∙ ap (λ l. l ++ r.0) (append_assoc noted (s.0 ++ m.0) w.0) ∙ append_assoc noted (s.0 ++ m.0 ++ w.0) r.0 in
     let made : entries_of more ≡ s.4.entry ∷ m.4.entry ∷ w.4.entry ∷ r.4.entry ∷ [] =
     map-append entry (s.0 ++ m.0 ++ w.0) r.0 ∙ ap (λ l. l ++ entries_of r.0) (map-append entry (s.0 ++ m.0) w.0 ∙ ap (λ l. l ++ entries_of w.0) (map-append entry s.0 m.0))
-        ∙ four (entries_of s.0) (entries_of m.0) (entries_of w.0) (entries_of r.0) s.4.entry m.4.entry w.4.entry r.4.entry s.4.all m.4.all w.4.all r.4.all in (
+    ∙ four (entries_of s.0) (entries_of m.0) (entries_of w.0) (entries_of r.0) s.4.entry m.4.entry w.4.entry r.4.entry s.4.all m.4.all w.4.all r.4.all in (
       more,
       r.1,
       subst (λ l. IsTold l r.1 b4) whole r.2,

@@ -45,15 +45,15 @@ candidate-handles m m' before after index out s =
     let freed = managed_numbers s.freed in
     let now : Managed = snapped m.managed freed s.candidates s.dead in
     let same : map (handle_of m.managed) s.candidates ≡ map (handle_of now) s.candidates = map-same (handle_of m.managed) (handle_of now) s.candidates (λ x c.
-        let bridge : IsBridge m.managed x = ((s.snapshot.picks x).0 c).0 in
-        let live : IsLive now.heap x = record {
-          made = bridge.1.live.made;
-          kept = λ f. elim (Contains-append_cases m.managed.heap.freed freed x f) [
-            | inl old ↦ bridge.1.live.kept old
-            | inr new ↦ ((s.snapshot.frees x).0 new).2 (Reached-start (IsBridge m.managed) (ManagedEdge m.managed) x bridge)
-          ];
-        } in
-        live-handle m.managed x bridge.1.live ∙ sym (live-handle now x live)) in
+    let bridge : IsBridge m.managed x = ((s.snapshot.picks x).0 c).0 in
+    let live : IsLive now.heap x = record {
+      made = bridge.1.live.made;
+      kept = λ f. elim (Contains-append_cases m.managed.heap.freed freed x f) [
+        | inl old ↦ bridge.1.live.kept old
+        | inr new ↦ ((s.snapshot.frees x).0 new).2 (Reached-start (IsBridge m.managed) (ManagedEdge m.managed) x bridge)
+      ];
+    } in
+    live-handle m.managed x bridge.1.live ∙ sym (live-handle now x live)) in
     let moved : map (handle_of m'.managed) (candidates_of m'.managed) ≡ map (handle_of now) s.candidates = ap (λ (x : Managed). map (handle_of x) (candidates_of x)) s.state in
     s.handles ∙ same ∙ sym moved
 

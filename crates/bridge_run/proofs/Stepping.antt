@@ -159,7 +159,7 @@ line-goes m m' p count count' (M k) index a r thread line first is adds noted en
       n ∷ [],
       first_after end n,
       told-push noted end _ (record { managed = m'; peer = p; count = count' }) n told may grown
-        (rw (told.managed) (ap (λ (x : Answered Managed). x.state) is)) told.peer adds.drawn.1 told.adopted held told.leads,
+          (rw (told.managed) (ap (λ (x : Answered Managed). x.state) is)) told.peer adds.drawn.1 told.adopted held told.leads,
       IsAt-thread index idle end.base.control k free tt at,
       record { places = All-cons (IsOnLine index (M k)) e [] record { caller = refl; line = refl } (All-nil (IsOnLine index (M k))); events = line-events a e first refl },
     )

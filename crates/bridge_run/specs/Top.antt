@@ -72,6 +72,6 @@ pub record UsagePart (words : List (List ℕ)) (held after : Option (List ℕ)) 
   pub no_command : IsSerial words → ⊥
   pub part : AppendsPart held after usage_text
 
--- the writing of one of the three texts broke off
+-- the writing of one of the three texts broke off: for words that are no command it was the usage line, else one of the others
 abbrev pub BrokeOff : List (List ℕ) → Option (List ℕ) → Option (List ℕ) → Option (List ℕ) → Option (List ℕ) → Type 0
-BrokeOff words left rest held after = UsagePart words held after ⊎ (RefusedPart left rest held after ⊎ PrintedPart left rest held after)
+BrokeOff words left rest held after = UsagePart words held after ⊎ (IsSerial words × (RefusedPart left rest held after ⊎ PrintedPart left rest held after))

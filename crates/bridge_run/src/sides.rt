@@ -169,12 +169,7 @@ impl Sides {
 
     /// Resolves the open cycle: the candidates whose peers are live are kept. `handles` are the candidates' handles, as
     /// the snapshot gave them.
-    pub fn resolve(
-        &mut self,
-        alloc: Global,
-        index: u32,
-        handles: &[HNum],
-    ) -> Result<(), AllocError>
+    pub fn resolve(&mut self, alloc: Global, index: u32, handles: &[HNum]) -> Result<(), AllocError>
         requires count { self.old.count ≤ 200000 }
         requires told { Stands (InCycle index (λ o. restoring o [])) self.old }
         requires opened { IsSnapped self.old }
@@ -184,8 +179,7 @@ impl Sides {
         ensures goes { OnOk result (Goes (InCycle index (λ o. restoring o [])) (AtRest index) (IsDriven index (Op.Resolve (open_number self.old))) self.old self.new) }
     {
         let alive = answers(alloc, &self.peers, handles)?;
-        self.managed
-            .resolve(&mut self.counter, index, None, &alive);
+        self.managed.resolve(&mut self.counter, index, None, &alive);
         Ok(())
     }
 

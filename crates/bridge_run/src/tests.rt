@@ -1,8 +1,10 @@
 // The top call by worked examples: printed reports, and each status.
 
+use crate::streams::{StdSink, StdSource};
 use crate::top::bridge_main;
-use bridge_script::{ByteSink, ByteSource, FreeTurn};
+use bridge_script::{ByteSink, ByteSource, FreeTurn, PlainSource};
 use std::alloc::{AllocError, Global};
+use std::io;
 use std::sync::Wait;
 use std::test::Fail;
 use std::thread::Threads;
@@ -67,16 +69,6 @@ fn other_words_get_the_usage_line(rt: HostRuntime) -> Result<(), Fail> {
     let mut again = ByteSink::new(alloc, 100, Vec::new(alloc));
     let more = status_of(&rt, alloc, &["serial", "x"], b"", &[], &mut again)?;
     assert_eq!(rt; more, 1);
-    Ok(())
-}
-
-#[test]
-fn a_source_that_fails_writes_nothing(rt: HostRuntime) -> Result<(), Fail> {
-    let alloc = rt.alloc();
-    let mut out = ByteSink::new(alloc, 100, Vec::new(alloc));
-    let status = status_of(&rt, alloc, &["serial"], TWO_LINKED, &[2], &mut out)?;
-    assert_eq!(rt; status, 2);
-    assert_eq!(rt; out.bytes(), b"".as_slice());
     Ok(())
 }
 
@@ -163,5 +155,65 @@ fn places_are_taken_up_to_their_limits(rt: HostRuntime) -> Result<(), Fail> {
         let status = status_of(&rt, alloc, &["serial"], text, &[], &mut out)?;
         assert_eq!(rt; status, wanted);
     }
+    Ok(())
+}
+
+// A reader and writer that fails at each call.
+#[derive(Drop)]
+struct Broken;
+
+impl io::Read for Broken {
+    fn read(&mut self, _: &mut [u8]) -> io::Result<usize> {
+        Err(io::Error::from(io::ErrorKind::TimedOut))
+    }
+}
+
+impl io::Write for Broken {
+    fn write(&mut self, _: &[u8]) -> io::Result<usize> {
+        Err(io::Error::from(io::ErrorKind::TimedOut))
+    }
+
+    fn flush(&mut self) -> io::Result<()> {
+        Ok(())
+    }
+}
+
+// A writer that takes nothing.
+#[derive(Drop)]
+struct Full;
+
+impl io::Write for Full {
+    fn write(&mut self, _: &[u8]) -> io::Result<usize> {
+        Ok(0)
+    }
+
+    fn flush(&mut self) -> io::Result<()> {
+        Ok(())
+    }
+}
+
+#[test]
+fn a_reader_that_fails_is_a_source_that_fails(rt: HostRuntime) -> Result<(), Fail> {
+    let alloc = rt.alloc();
+    let words = words_of(alloc, &["serial"])?;
+    let mut source = StdSource::new(Broken);
+    let mut out = ByteSink::new(alloc, 100, Vec::new(alloc));
+    let status = bridge_main(&rt, alloc, &words, &mut source, &mut out, &FreeTurn);
+    assert_eq!(rt; status, 2);
+    assert_eq!(rt; out.bytes(), b"".as_slice());
+    Ok(())
+}
+
+#[test]
+fn writers_that_fail_or_take_nothing_are_sinks_that_fail(rt: HostRuntime) -> Result<(), Fail> {
+    let alloc = rt.alloc();
+    let words = words_of(alloc, &["serial"])?;
+    let mut source = PlainSource::new(Vec::new(alloc));
+    let mut broken = StdSink::new(Broken);
+    let status = bridge_main(&rt, alloc, &words, &mut source, &mut broken, &FreeTurn);
+    assert_eq!(rt; status, 4);
+    let mut full = StdSink::new(Full);
+    let status = bridge_main(&rt, alloc, &words, &mut source, &mut full, &FreeTurn);
+    assert_eq!(rt; status, 4);
     Ok(())
 }

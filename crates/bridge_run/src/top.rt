@@ -45,6 +45,7 @@ pub fn bridge_main<R: Threads + Wait + Sync, S: Source, K: Sink, T: Turnstile + 
     ensures printed { result ≡ 0 → Printed (S.left src.old) (S.left src.new) (K.held out.old) (K.held out.new) }
     ensures usage { result ≡ 1 → (IsSerial (map string_bytes words.now.items) → ⊥) × Appends (K.held out.old) (K.held out.new) usage_text }
     ensures no_command { (IsSerial (map string_bytes words.now.items) → ⊥) → (result ≡ 1) ⊎ (result ≡ 4) }
+    ensures untouched { (IsSerial (map string_bytes words.now.items) → ⊥) → (S.left src.new ≡ S.left src.old) × (S.faults src.new ≡ S.faults src.old) }
     ensures read { result ≡ 2 → Rose (S.faults src.old) (S.faults src.new) × Keeps (K.held out.old) (K.held out.new) }
     ensures refused { result ≡ 3 → Refuses (S.left src.old) (S.left src.new) (K.held out.old) (K.held out.new) }
     ensures write { result ≡ 4 → Rose (K.faults out.old) (K.faults out.new) }

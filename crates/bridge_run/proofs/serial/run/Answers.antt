@@ -14,11 +14,11 @@ use Rattle.bridge_run.proofs.serial.run.Goals as goal
 pub loop-done-preserved : goal.loop-done-preserved
 loop-done-preserved c = elim c.match-line.branch [
   | in-Some+in_ok-run_line w ↦ rw (w.sides-is) record {
-        count = omega (arith, w.in_ok-run_line.ensures.count, c.loop-done.invariant.count);
-        idle = w.in_ok-run_line.ensures.idle;
-        running = running-next c.loop-done.done c.args.script.now (w.in-Some.thread, w.in-Some.act) c.loop-done.sides w.run_line.new.sides
-            (sym (line-there c.args.script.now (c.loop-done.done + 1) c.loop-done.done refl) ∙ sym w.in-Some.ensures.line) w.in_ok-run_line.ensures.goes c.loop-done.invariant.running;
-      }
+    count = omega (arith, w.in_ok-run_line.ensures.count, c.loop-done.invariant.count);
+    idle = w.in_ok-run_line.ensures.idle;
+    running = running-next c.loop-done.done c.args.script.now (w.in-Some.thread, w.in-Some.act) c.loop-done.sides w.run_line.new.sides
+        (sym (line-there c.args.script.now (c.loop-done.done + 1) c.loop-done.done refl) ∙ sym w.in-Some.ensures.line) w.in_ok-run_line.ensures.goes c.loop-done.invariant.running;
+  }
   | in_default w ↦ absurd (filled_below c.args.script.now c.loop-done.done (omega (arith, c.loop-done-test.true, c.len-done-end.ensures.len)) (sym (line-there c.args.script.now (c.loop-done.done + 1) c.loop-done.done refl) ∙ sym w.in_default.ensures.line))
 ]
 

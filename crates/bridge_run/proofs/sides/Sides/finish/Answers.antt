@@ -23,6 +23,6 @@ returns c = by c.join.result c.join.ensures.shuffle c.join.ensures.managed c.joi
         → IfOk r (λ h. (noted : List Noted) (end : FirstLinkage) → IsTold noted end c.args.self → IsFinished noted end h)
     by (Ok h) shuffle freed gone notices = λ noted end told.
         joined-told noted end c.args.self c.in_ok-lists.lists.items c.into_lists-managed.result.freed.items c.into_lists-peers.result.freed.items h told
-            (rw (← c.self.view_is) (rw (c.in_ok-lists.ensures.items) (rw (c.into_lists-managed.ensures.entries, c.into_lists-peers.ensures.entries) refl)))
-            (rw (← c.self.view_is) c.into_lists-managed.ensures.freed) (rw (← c.self.view_is) c.into_lists-peers.ensures.freed) shuffle freed gone (notices ∙ c.new.ensures.items)
+        (rw (← c.self.view_is) (rw (c.in_ok-lists.ensures.items) (rw (c.into_lists-managed.ensures.entries, c.into_lists-peers.ensures.entries) refl)))
+        (rw (← c.self.view_is) c.into_lists-managed.ensures.freed) (rw (← c.self.view_is) c.into_lists-peers.ensures.freed) shuffle freed gone (notices ∙ c.new.ensures.items)
     by (Err e) shuffle freed gone notices = tt
