@@ -1,5 +1,5 @@
 -- The entries of a line end each cycle that they open, so those of a script do.
-use Rattle.std.proofs.Common.{◌≡◌, ℕ, ◌+◌, ◌<◌, ◌⊎◌, inl, inr, zero, suc, List, [], ◌∷◌, ◌++◌, length, map, Some, None, Option, refl, sym, ◌∙◌, ap, subst, arith}
+use Rattle.std.proofs.Common.{◌≡◌, ℕ, ◌+◌, ◌<◌, ◌⊎◌, inl, inr, zero, suc, List, [], ◌∷◌, ◌++◌, length, Some, refl, ◌∙◌, ap, subst, arith}
 use Rattle.std.specs.Prelude.{slice_get}
 use Rattle.joint_model.specs.declared.names.Thread.{Thread}
 use Rattle.joint_model.specs.declared.names.Cycle.{Cycle}
@@ -14,7 +14,7 @@ use Rattle.joint_model.specs.declared.events.Op.TheVariants as op
 use Rattle.joint_model.specs.declared.events.Reply.{Reply}
 use Rattle.joint_model.specs.declared.events.Reply.TheVariants as says
 use Rattle.joint_model.specs.declared.events.Entry.{Entry}
-use Rattle.script_histories.specs.Holding.{events_of, adopts, AreBridge, AreCycle, AreEvents, AreLine, HoldsLines, IsEventAt, AllCyclesEnd}
+use Rattle.script_histories.specs.Holding.{events_of, adopts, AreBridge, AreEvents, HoldsLines, IsEventAt, AllCyclesEnd}
 
 -- an event of two lists stands in one of them
 event-split : (own rest : List Entry) (i : ℕ) (o : Op) → IsEventAt (own ++ rest) i o → IsEventAt own i o ⊎ ((j : ℕ) × (i ≡ length own + j) × IsEventAt rest j o)

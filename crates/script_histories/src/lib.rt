@@ -3,4 +3,4 @@
 
 mod laws;
 
-pub use laws::held_cycles_end;
+pub use laws::{held_cycles_end, one_history_for_a_script};

@@ -1,0 +1,51 @@
+-- Two linked histories with the same notes are the same: the entries are those of the notes, the freed lists are what
+-- the replay of the notes frees, and there are no notices.
+use Rattle.std.proofs.Common.{◌≡◌, List, [], ◌∷◌, refl, sym, ◌∙◌, ap}
+use Rattle.joint_model.specs.declared.names.Thread.{Thread}
+use Rattle.joint_model.specs.declared.names.MNum.{MNum}
+use Rattle.joint_model.specs.declared.names.PNum.{PNum}
+use Rattle.joint_model.specs.declared.lines.Act.{Act}
+use Rattle.joint_model.specs.First.{IsFirstLinked, IsFirstLinkedBy, opening_first, first_replayed}
+use Rattle.joint_model.specs.Histories.{Finished, managed_numbers, peer_numbers}
+use Rattle.joint_model.specs.Told.{Noted}
+use Rattle.script_histories.specs.Holding.{HoldsLines}
+use Rattle.script_histories.proofs.OneHistory.{entries_of, lines-one}
+
+managed-one : (xs ys : List MNum) → managed_numbers xs ≡ managed_numbers ys → xs ≡ ys
+managed-one [] [] e = refl
+managed-one [] (y ∷ ys) e = absurd (cc)
+managed-one (x ∷ xs) [] e = absurd (cc)
+managed-one (x ∷ xs) (y ∷ ys) e =
+    let number : x.0 ≡ y.0 = cc in
+    let first : x ≡ y = ap (λ n. let m : MNum = record { 0 = n } in m) number in
+    let rest : xs ≡ ys = managed-one xs ys (cc) in
+    cc
+
+peers-one : (xs ys : List PNum) → peer_numbers xs ≡ peer_numbers ys → xs ≡ ys
+peers-one [] [] e = refl
+peers-one [] (y ∷ ys) e = absurd (cc)
+peers-one (x ∷ xs) [] e = absurd (cc)
+peers-one (x ∷ xs) (y ∷ ys) e =
+    let number : x.0 ≡ y.0 = cc in
+    let first : x ≡ y = ap (λ n. let p : PNum = record { 0 = n } in p) number in
+    let rest : xs ≡ ys = peers-one xs ys (cc) in
+    cc
+
+-- a history is its four lists
+four-lists : (h h' : Finished) → h.entries ≡ h'.entries → h.freed_managed ≡ h'.freed_managed → h.freed_peers ≡ h'.freed_peers → h.notices ≡ h'.notices → h ≡ h'
+four-lists h h' e m p n = λ i. record { entries = e i; freed_managed = m i; freed_peers = p i; notices = n i }
+
+pub notes-tell : (h h' : Finished) (ns ns' : List Noted) → IsFirstLinkedBy h ns → IsFirstLinkedBy h' ns' → ns ≡ ns' → h ≡ h'
+notes-tell h h' ns ns' a b e =
+    let entries : h.entries ≡ h'.entries = sym a.same ∙ (ap entries_of e ∙ b.same) in
+    let managed : h.freed_managed ≡ h'.freed_managed = managed-one h.freed_managed h'.freed_managed
+    (a.freed_managed ∙ (ap (λ (l : List Noted). (first_replayed opening_first l).base.managed.managed.heap.freed) e ∙ sym b.freed_managed)) in
+    let peers : h.freed_peers ≡ h'.freed_peers = peers-one h.freed_peers h'.freed_peers
+    (a.freed_peers ∙ (ap (λ (l : List Noted). (first_replayed opening_first l).base.peer.peers.heap.freed) e ∙ sym b.freed_peers)) in
+    let notices : h.notices ≡ h'.notices = a.notices ∙ sym b.notices in
+    four-lists h h' entries managed peers notices
+
+pub one-history : (script : List (Thread × Act)) (h h' : Finished) → IsFirstLinked h → IsFirstLinked h' → HoldsLines 1 script h.entries → HoldsLines 1 script h'.entries → h ≡ h'
+one-history script h h' a b p q =
+    notes-tell h h' a.noted b.noted a.linked b.linked
+    (lines-one 1 script opening_first a.noted b.noted h.entries h'.entries p q a.linked.same b.linked.same a.linked.lawful b.linked.lawful)
