@@ -73,7 +73,7 @@ caller-cites s (P t) l o r r' c c' x y a b = a ∙ sym b
 caller-cites s C l o r r' c c' x y a b = driver-cites s o r r' c c' x y a b
 
 -- an entry before it has its number, and an entry with what is told beside it
-abbrev making : Thread → ℕ → Op → Reply → Option ℕ → Made
+abbrev pub making : Thread → ℕ → Op → Reply → Option ℕ → Made
 making t l o r c = record { caller = t; index = l; op = o; reply = r; cites = c }
 
 abbrev noting : ℕ → Thread → ℕ → Op → Reply → Option ℕ → Told → Noted

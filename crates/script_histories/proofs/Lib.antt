@@ -5,3 +5,10 @@ pub mod Telling
 pub mod Coming
 pub mod OneHistory
 pub mod Finishing
+pub mod Digits
+pub mod Cutting
+pub mod Plain
+pub mod Reading
+pub mod Known
+pub mod Knowing
+pub mod OneText

@@ -93,7 +93,7 @@ events-share number t (x ∷ own) (x' ∷ own') rest rest' s ns ns' p p' same e 
     subst (λ (l : List Noted). Share s ns l rest rest') all' moved
 
 -- a snap opens the next cycle
-snap-next : (s : ManagedReplay) (k : Cycle) (x : Told) → ManagedAllows s (op.Snap k) x → k.0 ≡ s.managed.cycles + 1
+pub snap-next : (s : ManagedReplay) (k : Cycle) (x : Told) → ManagedAllows s (op.Snap k) x → k.0 ≡ s.managed.cycles + 1
 snap-next s k (snap_of f c d) a = a.next
 snap-next s k x a = absurd a
 

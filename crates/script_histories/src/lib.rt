@@ -3,4 +3,4 @@
 
 mod laws;
 
-pub use laws::{held_cycles_end, one_history_for_a_script};
+pub use laws::{held_cycles_end, one_history_for_a_script, texts_tell_histories};
