@@ -1,6 +1,6 @@
 -- Two linked histories with the same notes are the same: the entries are those of the notes, the freed lists are what
 -- the replay of the notes frees, and there are no notices.
-use Rattle.std.proofs.Common.{◌≡◌, List, [], ◌∷◌, refl, sym, ◌∙◌, ap}
+use Rattle.std.proofs.Common.{◌≡◌, ℕ, List, [], ◌∷◌, map, refl, sym, ◌∙◌, ap}
 use Rattle.joint_model.specs.declared.names.Thread.{Thread}
 use Rattle.joint_model.specs.declared.names.MNum.{MNum}
 use Rattle.joint_model.specs.declared.names.PNum.{PNum}
@@ -11,25 +11,21 @@ use Rattle.joint_model.specs.Told.{Noted}
 use Rattle.script_histories.specs.Holding.{HoldsLines}
 use Rattle.script_histories.proofs.OneHistory.{entries_of, lines-one}
 
-managed-one : (xs ys : List MNum) → managed_numbers xs ≡ managed_numbers ys → xs ≡ ys
-managed-one [] [] e = refl
-managed-one [] (y ∷ ys) e = absurd (cc)
-managed-one (x ∷ xs) [] e = absurd (cc)
-managed-one (x ∷ xs) (y ∷ ys) e =
-    let number : x.0 ≡ y.0 = cc in
-    let first : x ≡ y = ap (λ n. let m : MNum = record { 0 = n } in m) number in
-    let rest : xs ≡ ys = managed-one xs ys (cc) in
+-- lists with the same numbers, where a number tells its element
+numbers-tell : {X : Type 0} (f : X → ℕ) → ((x y : X) → f x ≡ f y → x ≡ y) → (xs ys : List X) → map f xs ≡ map f ys → xs ≡ ys
+numbers-tell f one [] [] e = refl
+numbers-tell f one [] (y ∷ ys) e = absurd (cc)
+numbers-tell f one (x ∷ xs) [] e = absurd (cc)
+numbers-tell f one (x ∷ xs) (y ∷ ys) e =
+    let first : x ≡ y = one x y (cc) in
+    let rest : xs ≡ ys = numbers-tell f one xs ys (cc) in
     cc
 
+managed-one : (xs ys : List MNum) → managed_numbers xs ≡ managed_numbers ys → xs ≡ ys
+managed-one = numbers-tell (λ (m : MNum). m.0) (λ x y e i. record { 0 = e i })
+
 peers-one : (xs ys : List PNum) → peer_numbers xs ≡ peer_numbers ys → xs ≡ ys
-peers-one [] [] e = refl
-peers-one [] (y ∷ ys) e = absurd (cc)
-peers-one (x ∷ xs) [] e = absurd (cc)
-peers-one (x ∷ xs) (y ∷ ys) e =
-    let number : x.0 ≡ y.0 = cc in
-    let first : x ≡ y = ap (λ n. let p : PNum = record { 0 = n } in p) number in
-    let rest : xs ≡ ys = peers-one xs ys (cc) in
-    cc
+peers-one = numbers-tell (λ (p : PNum). p.0) (λ x y e i. record { 0 = e i })
 
 -- a history is its four lists
 four-lists : (h h' : Finished) → h.entries ≡ h'.entries → h.freed_managed ≡ h'.freed_managed → h.freed_peers ≡ h'.freed_peers → h.notices ≡ h'.notices → h ≡ h'

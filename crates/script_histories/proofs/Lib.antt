@@ -12,3 +12,4 @@ pub mod Reading
 pub mod Known
 pub mod Knowing
 pub mod OneText
+pub mod Short

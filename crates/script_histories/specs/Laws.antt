@@ -1,5 +1,5 @@
 -- Laws on the histories of scripts, in the form of the first steps.
-use Rattle.std.specs.Prelude.{◌≡◌, ◌<◌, ◌^◌, List, All}
+use Rattle.std.specs.Prelude.{◌≡◌, ◌<◌, ◌^◌, List, All, length}
 use Rattle.joint_model.specs.declared.names.Thread.{Thread}
 use Rattle.joint_model.specs.declared.lines.Act.{Act}
 use Rattle.joint_model.specs.declared.lines.Act.TheVariants as act
@@ -13,7 +13,7 @@ use Rattle.script_histories.specs.Holding.{HoldsLines}
 
 -- two linked histories that hold the lines of one script are the same
 abbrev pub HasOneHistory : Type 0
-HasOneHistory = (script : List (Thread × Act)) (h h' : Finished) → IsFirstLinked h → IsFirstLinked h' → HoldsLines 1 script h.entries → HoldsLines 1 script h'.entries → h ≡ h'
+HasOneHistory = (script : List (Thread × Act)) (g h : Finished) → IsFirstLinked g → IsFirstLinked h → HoldsLines 1 script g.entries → HoldsLines 1 script h.entries → g ≡ h
 
 -- the field of a `set` or a `get` is a number of at most 64 bits
 abbrev pub HasShortField : Op → Type 0
@@ -26,6 +26,10 @@ pub record IsShort (e : Entry) : Type 0 where
   pub line : e.made.index < 2 ^ 64
   pub field : HasShortField e.made.op
 
--- two linked histories with the same text are the same
+-- the entries that hold the lines of a script are short, where its fields are and the number of its lines is
+abbrev pub HoldsShortLines : Type 0
+HoldsShortLines = (script : List (Thread × Act)) (entries : List Entry) → length script < 2 ^ 64 → All (λ line. HasShortField (op.Line line.1)) script → HoldsLines 1 script entries → All IsShort entries
+
+-- two linked histories with the same text are the same, where the entries of the one are short
 abbrev pub HasOneText : Type 0
-HasOneText = (h h' : Finished) → All IsShort h.entries → IsFirstLinked h → IsFirstLinked h' → report h ≡ report h' → h ≡ h'
+HasOneText = (g h : Finished) → All IsShort g.entries → IsFirstLinked g → IsFirstLinked h → report g ≡ report h → g ≡ h

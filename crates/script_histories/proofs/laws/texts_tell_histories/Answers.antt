@@ -1,5 +1,6 @@
 use Rattle.script_histories.proofs.OneText.{one-text}
+use Rattle.script_histories.proofs.Short.{held-short}
 use Rattle.script_histories.proofs.laws.texts_tell_histories.Goals as goal
 
 pub returns : goal.returns
-returns c = one-text
+returns c = record { one_text = one-text; short = held-short }
