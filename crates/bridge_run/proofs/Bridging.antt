@@ -1,6 +1,6 @@
 -- The two events of a `bridge` line go on with each history of the sides: the make of a peer with its handle, and the adopt of
 -- that handle, which no object has had.
-use Rattle.std.proofs.Common.{◌≡◌, ℕ, ◌+◌, ◌<◌, ◌≤◌, inl, inr, Bool, List, [], ◌∷◌, ◌++◌, All, length, Option, Some, None, refl, sym, ap, ◌∙◌, subst, arith, append-nil, length-append}
+use Rattle.std.proofs.Common.{◌≡◌, ℕ, ◌+◌, ◌≤◌, List, [], ◌∷◌, ◌++◌, All, length, Option, Some, None, refl, sym, ap, ◌∙◌, subst, arith, append-nil, length-append}
 use Rattle.std.specs.Prelude.{◌||◌, Contains, map, replicate, slice_set}
 use Rattle.std.proofs.lemmas.List.{append_assoc}
 use Rattle.std.proofs.lemmas.List.Elements.{All-push, All-nil, All-cons, All-weaker, All-contains}
@@ -20,7 +20,7 @@ use Rattle.joint_model.specs.declared.events.Op.TheVariants as op
 use Rattle.joint_model.specs.declared.events.Made.{Made}
 use Rattle.joint_model.specs.declared.events.Reply.{Reply}
 use Rattle.joint_model.specs.declared.events.Reply.TheVariants as says
-use Rattle.joint_model.specs.Control.{Control, Doing, free, made, idle, caller_place, doing_at, doing_after, IsDone, MayAdopt}
+use Rattle.joint_model.specs.Control.{free, made, idle, caller_place, doing_at, doing_after, IsDone, MayAdopt}
 use Rattle.joint_model.specs.Draws.{numbered, Adds, CountDrew}
 use Rattle.joint_model.specs.First.{FirstLinkage, first_after, FirstMayCome, IsCycleAlone}
 use Rattle.joint_model.specs.Heaps.{Answered, answer, place, is_full, IsMade, with_object, next_number}
@@ -35,13 +35,13 @@ use Rattle.managed_heap.specs.Sides.{Side as ManagedShown, managed_event, step_m
 use Rattle.peer_heap.specs.Replays.{Replays}
 use Rattle.peer_heap.specs.Sides.{Side as PeerShown}
 use Rattle.peer_heap.proofs.Replays.{make}
-use Rattle.script_histories.specs.Holding.{AreLine, AreBridge, IsOnLine, adopts}
+use Rattle.script_histories.specs.Holding.{AreLine, IsOnLine, adopts}
 use Rattle.bridge_run.specs.Going.{Goes, AtRest}
 use Rattle.bridge_run.specs.Runs.{Both, IsTold, IsAt, AreIssued, entries_of}
 use Rattle.bridge_run.specs.Wholes.{Ran, as_managed, as_peers}
 use Rattle.bridge_run.proofs.ManagedEvents.{test-cases}
 use Rattle.bridge_run.proofs.Ran.{Ran-peer}
-use Rattle.bridge_run.proofs.Stepping.{thread-is, step-ran, event-issued}
+use Rattle.bridge_run.proofs.Stepping.{step-ran, event-issued}
 use Rattle.bridge_run.proofs.Telling.{told-push, IsAt-thread, done-start, doing-now}
 
 -- the entry of a make

@@ -1,34 +1,27 @@
 -- The four events of a cycle go on with each history of the sides: the snapshot, the begin of the driver's marking, its sweep
 -- of the peers that were unreached then, and the resolution by what the sweep left.
-use Rattle.std.proofs.Common.{◌≡◌, ℕ, ◌+◌, ◌<◌, ◌≤◌, inl, inr, Bool, List, [], ◌∷◌, ◌++◌, All, length, Option, Some, None, refl, sym, ap, ◌∙◌, subst, arith, append-nil}
+use Rattle.std.proofs.Common.{◌≡◌, ℕ, ◌+◌, ◌≤◌, inr, Bool, List, [], ◌∷◌, ◌++◌, All, length, Option, Some, None, refl, sym, ap, ◌∙◌, subst, append-nil}
 use Rattle.std.proofs.lemmas.List.{append_assoc, length-map, map-append}
 use Rattle.std.proofs.lemmas.List.Elements.{All-nil, All-cons}
-use Rattle.std.specs.Prelude.{map, not, slice_set}
-use Rattle.joint_model.specs.declared.names.Thread.{Thread}
-use Rattle.joint_model.specs.declared.names.Thread.TheVariants.{M, P, C}
+use Rattle.std.specs.Prelude.{not, slice_set}
+use Rattle.joint_model.specs.declared.names.Thread.TheVariants.{C}
 use Rattle.joint_model.specs.declared.names.Cycle.{Cycle}
 use Rattle.joint_model.specs.declared.names.Marking.{Marking}
 use Rattle.joint_model.specs.declared.names.Span.{Span}
-use Rattle.joint_model.specs.declared.names.MNum.{MNum}
-use Rattle.joint_model.specs.declared.names.PNum.{PNum}
 use Rattle.joint_model.specs.declared.names.PhaseWord.TheVariants as word
 use Rattle.joint_model.specs.declared.lines.Act.TheVariants as act
 use Rattle.joint_model.specs.declared.events.Entry.{Entry}
 use Rattle.joint_model.specs.declared.events.Made.{Made}
-use Rattle.joint_model.specs.declared.events.Op.{Op}
 use Rattle.joint_model.specs.declared.events.Op.TheVariants as op
-use Rattle.joint_model.specs.declared.events.Reply.{Reply}
 use Rattle.joint_model.specs.declared.events.Reply.TheVariants as says
 use Rattle.joint_model.specs.Components.{Rises}
-use Rattle.joint_model.specs.Control.{Control, Stand, Opened, idle, snapped, marked, restoring, candidates_of, peer_of_row, MaySnap}
-use Rattle.joint_model.specs.Cycles.{IsSnapshot, IsResolution, IsAnsweredAlive}
+use Rattle.joint_model.specs.Control.{Stand, idle, snapped, marked, restoring, candidates_of, peer_of_row, MaySnap}
 use Rattle.joint_model.specs.Draws.{numbered, Adds, CountDrew}
-use Rattle.joint_model.specs.First.{FirstLinkage, first_after, first_answers, FirstMayCome, FirstBegin, FirstSweep, FirstResolve, IsCycleAlone, AreUnreached, first_stand_after, swept_rows}
+use Rattle.joint_model.specs.First.{first_after, first_answers, FirstMayCome, FirstBegin, FirstSweep, FirstResolve, IsCycleAlone, AreUnreached, first_stand_after, swept_rows}
 use Rattle.joint_model.specs.Heaps.{with_freed, is_freed, IsMade}
 use Rattle.joint_model.specs.Histories.{IsSound, managed_numbers, peer_numbers}
 use Rattle.joint_model.specs.Managed.{Managed, OpenCycle}
-use Rattle.joint_model.specs.Peers.{Peers, Issued}
-use Rattle.joint_model.specs.PeerReplay.{PeerReplay}
+use Rattle.joint_model.specs.Peers.{Peers}
 use Rattle.joint_model.specs.Told.{Noted, snap_of, begin_of, sweep_of, resolution_of}
 use Rattle.managed_heap.specs.Calls.{Snaps, Resolves}
 use Rattle.managed_heap.specs.declared.side.Opened.{Opened as Opening}

@@ -1,6 +1,6 @@
 -- The events of a script's lines are those of the first steps.
-use Rattle.std.proofs.Common.{◌≡◌, ℕ, ◌+◌, ◌≤◌, zero, suc, List, [], ◌∷◌, ◌++◌, All, map, refl, sym, ap, ◌∙◌, subst, arith}
-use Rattle.std.proofs.lemmas.List.Elements.{All-nil, All-cons, All-head, All-tail, All-append}
+use Rattle.std.proofs.Common.{◌≡◌, ℕ, ◌+◌, List, [], ◌∷◌, All, sym, ap, ◌∙◌, subst, arith}
+use Rattle.std.proofs.lemmas.List.Elements.{All-nil, All-cons, All-head, All-tail, All-append, All-weaker}
 use Rattle.joint_model.specs.declared.names.Thread.{Thread}
 use Rattle.joint_model.specs.declared.names.Thread.TheVariants.{M, P, C}
 use Rattle.joint_model.specs.declared.names.Kind.{Kind}
@@ -17,7 +17,8 @@ use Rattle.joint_model.specs.Lines.{IsManagedThread}
 use Rattle.joint_model.specs.Told.{Noted}
 use Rattle.bridge_script.specs.Scripts.{IsBuilt}
 use Rattle.first_laws.specs.Events.{IsFirstEvent, AreFirstEvents}
-use Rattle.script_histories.specs.Holding.{AreLine, AreEvents, HoldsLines, IsOnLine, events_of, adopts}
+use Rattle.script_histories.specs.Laws.{HasShortField}
+use Rattle.script_histories.specs.Holding.{AreEvents, HoldsLines, IsOnLine, events_of, adopts}
 use Rattle.bridge_run.specs.Runs.{entries_of}
 
 -- the entry's event is one of the first steps
@@ -73,3 +74,16 @@ entries-first (n ∷ ns) h = All-cons (λ (x : Noted). IsFirst x.entry) n ns (Al
 
 pub held-first : (number : ℕ) (lines : List (Thread × Act)) (noted : List Noted) → All IsBuilt lines → HoldsLines number lines (entries_of noted) → AreFirstEvents noted
 held-first number lines noted built h = entries-first noted (lines-first number lines (entries_of noted) built h)
+
+-- the fields of lines that are built have short numbers
+line-short : (t : Thread) (a : Act) → IsBuilt (t, a) → HasShortField (op.Line a)
+line-short (M k) (act.Set v i w) built = omega (arith, built.1.1)
+line-short (M k) (act.Get v w i) built = absurd built.1
+line-short (P k) (act.Set v i w) built = absurd built
+line-short (P k) (act.Get v w i) built = absurd built
+line-short C (act.Set v i w) built = absurd built
+line-short C (act.Get v w i) built = absurd built
+line-short t _ built = tt
+
+pub built-short : (lines : List (Thread × Act)) → All IsBuilt lines → All (λ (line : Thread × Act). HasShortField (op.Line line.1)) lines
+built-short lines built = All-weaker IsBuilt (λ (line : Thread × Act). HasShortField (op.Line line.1)) (λ line is. line-short line.0 line.1 is) lines built

@@ -1,31 +1,28 @@
 -- The candidates of a snapshot hold the same handles after it, each of which was issued on a peer that was made; so the answers
 -- of the peer side are those that the history asks for.
-use Rattle.std.proofs.Common.{◌≡◌, ℕ, ◌+◌, ◌≤◌, zero, suc, inl, inr, Bool, true, false, List, [], ◌∷◌, ◌++◌, length, map, get_or, Option, Some, None, refl, sym, ap, ◌∙◌, subst, arith}
-use Rattle.std.specs.Prelude.{if◌then◌else◌, All, Contains, not, slice_get}
+use Rattle.std.proofs.Common.{◌≡◌, ℕ, zero, suc, inl, inr, Bool, true, false, List, [], ◌∷◌, length, map, Option, Some, None, refl, sym, ap, ◌∙◌, subst}
+use Rattle.std.specs.Prelude.{if◌then◌else◌, All, Contains, not}
 use Rattle.std.proofs.lemmas.List.{length-map}
 use Rattle.std.proofs.lemmas.List.Elements.{Contains-append_cases, All-nil, All-cons}
 use Rattle.std.proofs.lemmas.Option.{slice_get_within, get_or_from_slice_get}
 use Rattle.std.proofs.lemmas.Map.Views.{list_any-from_Contains}
 use Rattle.std.proofs.lemmas.Cmp.{nat_eq_equiv}
 use Rattle.joint_model.specs.declared.names.HNum.{HNum}
-use Rattle.joint_model.specs.Components.{Rises}
 use Rattle.joint_model.specs.Control.{candidates_of, peer_of_row}
 use Rattle.joint_model.specs.Draws.{CountDrew}
-use Rattle.joint_model.specs.Heaps.{Heap, IsLive, IsMade, is_freed, with_freed, numbered_at}
+use Rattle.joint_model.specs.Heaps.{IsLive, IsMade, is_freed, numbered_at}
 use Rattle.joint_model.specs.Histories.{managed_numbers}
-use Rattle.joint_model.specs.Managed.{Managed, IsBridge, ManagedEdge, Holds, handle_of, snapped}
+use Rattle.joint_model.specs.Managed.{Managed, IsBridge, ManagedEdge, handle_of, snapped}
 use Rattle.joint_model.specs.Peers.{Issued, peer_of}
 use Rattle.joint_model.proofs.WalkLemmas.{Reached-start}
 use Rattle.object_heap.proofs.Targets.{is_freed-live}
-use Rattle.managed_heap.proofs.Gathering.{Contains-first, Contains-later, All-members}
+use Rattle.managed_heap.proofs.Gathering.{Contains-first, Contains-later}
 use Rattle.managed_heap.specs.Calls.{Snaps}
 use Rattle.managed_heap.specs.declared.side.Opened.{Opened as Opening}
 use Rattle.managed_heap.specs.Sides.{Side as ManagedShown}
 use Rattle.peer_heap.specs.Sides.{Side as PeerShown}
-use Rattle.bridge_run.specs.Going.{alive_in}
 use Rattle.bridge_run.specs.Kept.{IsSure, is_kept_in}
-use Rattle.bridge_run.specs.Runs.{Both, AreIssued}
-use Rattle.bridge_run.proofs.Cycling.{candidates-is}
+use Rattle.bridge_run.specs.Runs.{AreIssued}
 
 -- functions that agree on the members of a list give the same list
 map-same : {X Y : Type 0} → (f g : X → Y) (xs : List X) → ((x : X) → Contains xs x → f x ≡ g x) → map f xs ≡ map g xs

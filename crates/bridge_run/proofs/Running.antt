@@ -1,6 +1,6 @@
 -- A run that has done some lines of a script, and what its history is when all are done.
-use Rattle.std.proofs.Common.{◌≡◌, ℕ, ◌+◌, ◌≤◌, ◌<◌, zero, suc, List, [], ◌∷◌, ◌++◌, length, take, Some, refl, sym, ap, ◌∙◌, subst, arith}
-use Rattle.std.specs.Prelude.{All, slice_get, slice_index_or, ◌⊎◌}
+use Rattle.std.proofs.Common.{◌≡◌, ℕ, ◌+◌, ◌<◌, zero, suc, List, [], ◌∷◌, ◌++◌, length, take, Some, refl, sym, ap, ◌∙◌, subst, arith}
+use Rattle.std.specs.Prelude.{All, slice_get, slice_index_or}
 use Rattle.std.proofs.Common.{inl, inr}
 use Rattle.std.proofs.lemmas.List.{map-append}
 use Rattle.std.proofs.lemmas.List.Elements.{All-contains}
@@ -16,22 +16,26 @@ use Rattle.joint_model.specs.declared.lines.Act.{Act}
 use Rattle.joint_model.specs.declared.lines.Act.TheVariants as act
 use Rattle.joint_model.specs.declared.events.Entry.{Entry}
 use Rattle.joint_model.specs.Control.{idle}
-use Rattle.joint_model.specs.First.{FirstLinkage, opening_first}
+use Rattle.joint_model.specs.First.{FirstLinkage, opening_first, IsFirstLinked, IsFirstLinkedBy}
 use Rattle.joint_model.specs.Histories.{Finished, IsPlaced, IsShuffle, entry_lists, managed_numbers, peer_numbers}
 use Rattle.joint_model.specs.Listed.{Stock}
 use Rattle.joint_model.specs.Managed.{Managed}
 use Rattle.joint_model.specs.Peers.{Peers}
 use Rattle.joint_model.specs.Told.{Noted}
 use Rattle.joint_model.proofs.Joining.{NumberedFrom-at, same_by_places}
-use Rattle.bridge_script.specs.Scripts.{IsBuilt, line_at}
+use Rattle.bridge_script.specs.Scripts.{IsScript, IsBuilt, line_at}
 use Rattle.first_laws.proofs.Verdicts.{judged}
 use Rattle.script_histories.specs.Holding.{HoldsLines, AreLine}
+use Rattle.script_histories.specs.Laws.{IsShort}
 use Rattle.script_histories.proofs.Ending.{lines-end}
+use Rattle.script_histories.proofs.Finishing.{one-history}
+use Rattle.script_histories.proofs.OneText.{one-text}
+use Rattle.script_histories.proofs.Short.{held-short}
 use Rattle.script_histories.proofs.Joined.{holds-push}
 use Rattle.bridge_run.specs.Going.{Goes, AtRest}
 use Rattle.bridge_run.specs.Runs.{Both, IsTold, IsAt, IsFinished, entries_of}
 use Rattle.bridge_run.specs.Top.{IsRunOf}
-use Rattle.bridge_run.proofs.Firsts.{held-first}
+use Rattle.bridge_run.proofs.Firsts.{held-first, built-short}
 use Rattle.bridge_run.proofs.Telling.{IsAt-none, IsAt-later}
 
 -- so many lines are done: some history that is told of the sides holds them
@@ -64,29 +68,34 @@ running-next done script line b b' at goes r =
     }
 
 -- all lines are done
-pub running-all : (script : List (Thread × Act)) (b : Both) (h : Finished) → All IsBuilt script → IsRunning (length script) script b
+pub running-all : (script : List (Thread × Act)) (b : Both) (h : Finished) → IsScript script → IsRunning (length script) script b
     → ((noted : List Noted) (end : FirstLinkage) → IsTold noted end b → IsFinished noted end h) → IsRunOf script h
-running-all script b h built r finished =
+running-all script b h is r finished =
     let f = finished r.noted r.end r.told in
     let held : HoldsLines 1 script (entries_of r.noted) = subst (λ l. HoldsLines 1 l (entries_of r.noted)) (take_all (length script) script (omega arith)) r.lines in
     let lines : HoldsLines 1 script h.entries = subst (λ es. HoldsLines 1 script es) f.entries held in
-    let judged_run = judged r.noted r.told.lawful (held-first 1 script r.noted built held) in
+    let judged_run = judged r.noted r.told.lawful (held-first 1 script r.noted is.built held) in
+    let linked : IsFirstLinkedBy h r.noted = record {
+      same = f.entries;
+      lawful = r.told.lawful;
+      whole = rw (r.told.ends) record { threads = r.at.done; driver = r.at.stands };
+      freed_managed = rw (r.told.ends) f.freed_managed;
+      freed_peers = rw (r.told.ends) f.freed_peers;
+      notices = f.notices;
+    } in
+    let mine : IsFirstLinked h = record { noted = r.noted; linked = linked } in
+    let short : All IsShort h.entries = held-short script h.entries (omega (arith, is.lines)) (built-short script is.built) lines in
     record {
       noted = r.noted;
-      linked = record {
-        same = f.entries;
-        lawful = r.told.lawful;
-        whole = rw (r.told.ends) record { threads = r.at.done; driver = r.at.stands };
-        freed_managed = rw (r.told.ends) f.freed_managed;
-        freed_peers = rw (r.told.ends) f.freed_peers;
-        notices = f.notices;
-      };
+      linked = linked;
       lines = lines;
       ends = lines-end 1 script h.entries lines;
       moments = judged_run.0;
       run = judged_run.1.run;
       sound = judged_run.1.sound;
       complete = judged_run.1.complete;
+      only = λ other theirs held_too. one-history script other h theirs mine held_too lines;
+      named = λ other theirs same. sym (one-text h other short mine theirs (sym same));
     }
 
 -- a line of a phase that is built is the driver's `cycle`

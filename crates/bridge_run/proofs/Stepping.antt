@@ -1,43 +1,39 @@
 -- A step of the managed side goes on with each history that is told: the entry may come next, at its side's end and at that
 -- of the whole history, with the next number; it frees nothing; and a handle that an object gets was issued.
-use Rattle.std.proofs.Common.{◌≡◌, ℕ, ◌+◌, ◌<◌, ◌≤◌, inl, inr, List, [], ◌∷◌, ◌++◌, All, length, Option, Some, None, refl, sym, ap, ◌∙◌, subst, arith, append-nil}
-use Rattle.std.proofs.lemmas.List.Elements.{All-push, All-nil, All-cons}
+use Rattle.std.proofs.Common.{◌≡◌, ℕ, ◌+◌, ◌≤◌, inl, inr, List, [], ◌∷◌, ◌++◌, length, Option, Some, None, refl, sym, ap, ◌∙◌, subst, append-nil}
+use Rattle.std.proofs.lemmas.List.Elements.{All-nil, All-cons}
 use Rattle.object_heap.proofs.Numbered.{numbered-push_cases}
 use Rattle.joint_model.specs.declared.names.Thread.{Thread}
 use Rattle.joint_model.specs.declared.names.Thread.TheVariants.{M, P, C}
 use Rattle.joint_model.specs.declared.names.Kind.{Kind}
 use Rattle.joint_model.specs.declared.names.Kind.TheVariants as kind
 use Rattle.joint_model.specs.declared.names.Sort.{Sort}
-use Rattle.joint_model.specs.declared.names.Var.{Var}
 use Rattle.joint_model.specs.declared.names.MNum.{MNum}
 use Rattle.joint_model.specs.declared.names.PNum.{PNum}
-use Rattle.joint_model.specs.declared.names.HNum.{HNum}
 use Rattle.joint_model.specs.declared.lines.Act.{Act}
 use Rattle.joint_model.specs.declared.lines.Act.TheVariants as act
 use Rattle.joint_model.specs.declared.events.Entry.{Entry}
 use Rattle.joint_model.specs.declared.events.Op.{Op}
 use Rattle.joint_model.specs.declared.events.Op.TheVariants as op
 use Rattle.joint_model.specs.declared.events.Reply.{Reply}
-use Rattle.joint_model.specs.declared.events.Reply.TheVariants as says
-use Rattle.joint_model.specs.Control.{Control, free, made, idle, doing_at, doing_after}
+use Rattle.joint_model.specs.Control.{free, idle, doing_at}
 use Rattle.joint_model.specs.Draws.{numbered, Adds, CountDrew}
-use Rattle.joint_model.specs.First.{FirstLinkage, first_after, FirstMayCome, IsCycleAlone}
-use Rattle.joint_model.specs.Heaps.{Answered, answer, numbered_at, place, is_full}
+use Rattle.joint_model.specs.First.{first_after, FirstMayCome, IsCycleAlone}
+use Rattle.joint_model.specs.Heaps.{Answered, answer, numbered_at}
 use Rattle.joint_model.specs.Histories.{IsSound}
 use Rattle.joint_model.specs.Lines.{IsManagedThread, IsThread, IsBridgeObject, IsAdoptable, IsEvent, IsNamed, IsOneEvent, IsLine, IsManagedAct}
-use Rattle.joint_model.specs.Managed.{Managed, adopted, managed_line, managed_name}
-use Rattle.joint_model.specs.ManagedReplay.{ManagedReplay, adopt_by}
+use Rattle.joint_model.specs.Managed.{Managed}
 use Rattle.joint_model.specs.Peers.{Issued}
 use Rattle.joint_model.specs.Told.{Noted, nothing}
 use Rattle.managed_heap.specs.Sides.{Side as ManagedShown, managed_event, IsFirstAct, IsFirstOp, IsFirstManagedStep, step_made}
 use Rattle.peer_heap.specs.Sides.{Side as PeerShown}
 use Rattle.script_histories.specs.Holding.{AreLine, AreEvents, IsOnLine}
 use Rattle.bridge_run.specs.Going.{Goes, AtRest}
-use Rattle.bridge_run.specs.Runs.{Both, IsTold, IsAt, AreIssued, entries_of}
+use Rattle.bridge_run.specs.Runs.{AreIssued, entries_of}
 use Rattle.bridge_run.specs.Wholes.{Ran, as_managed, as_peers}
-use Rattle.bridge_run.proofs.ManagedEvents.{IsQuiet, set-quiet, drop-quiet, adopt-quiet, adopt-held, test-cases}
+use Rattle.bridge_run.proofs.ManagedEvents.{IsQuiet, set-quiet, drop-quiet, adopt-quiet, adopt-held}
 use Rattle.bridge_run.proofs.Ran.{Ran-managed}
-use Rattle.bridge_run.proofs.Telling.{told-push, IsAt-thread, done-start, doing-now}
+use Rattle.bridge_run.proofs.Telling.{told-push, IsAt-thread, done-start}
 
 -- a managed thread is a thread
 pub thread-is : (t : Thread) → IsManagedThread t → IsThread t

@@ -1,12 +1,10 @@
 -- A history that is told goes on by one entry that may come next, and the sides stay its state.
-use Rattle.std.proofs.Common.{◌≡◌, ℕ, ◌+◌, ◌<◌, ◌≤◌, zero, suc, List, [], ◌∷◌, ◌++◌, length, Option, Some, None, refl, sym, ap, ◌∙◌, subst, arith}
-use Rattle.std.specs.Prelude.{All, map, replicate, slice_get, slice_set, slice_index}
+use Rattle.std.proofs.Common.{◌≡◌, ℕ, ◌+◌, ◌≤◌, zero, suc, List, [], ◌∷◌, ◌++◌, length, Option, Some, None, refl, sym, ap, ◌∙◌, subst, arith}
+use Rattle.std.specs.Prelude.{All, replicate, slice_get, slice_set, slice_index}
 use Rattle.std.proofs.lemmas.List.{map-append}
 use Rattle.joint_model.proofs.Joining.{slice_get-set_same}
-use Rattle.joint_model.specs.declared.names.Thread.{Thread}
-use Rattle.joint_model.specs.declared.names.Thread.TheVariants.{M, P, C}
-use Rattle.joint_model.specs.declared.events.Entry.{Entry}
-use Rattle.joint_model.specs.Control.{Control, Doing, Stand, opening_control, idle, free, made, lent, gripped, given, met, doing_at, last_line, caller_place, IsDone, MayStart}
+use Rattle.joint_model.specs.declared.names.Thread.TheVariants.{M}
+use Rattle.joint_model.specs.Control.{Control, Doing, Stand, opening_control, idle, free, made, lent, gripped, given, met, doing_at, caller_place, IsDone, MayStart}
 use Rattle.joint_model.specs.First.{FirstLinkage, opening_first, first_after, first_replayed, AllFirstMayCome, FirstMayCome}
 use Rattle.joint_model.specs.Heaps.{IsMade}
 use Rattle.joint_model.specs.Told.{Noted}

@@ -1,6 +1,6 @@
 -- How a call goes on: from each history that was told of the sides before, more entries lead to one that is told of the
 -- sides after.
-use Rattle.std.specs.Prelude.{◌≡◌, ℕ, Bool, not, Option, Some, None, List, [], ◌∷◌, ◌++◌, map}
+use Rattle.std.specs.Prelude.{◌≡◌, ℕ, Bool, not, Some, None, List, [], ◌∷◌, ◌++◌, map}
 use Rattle.joint_model.specs.declared.names.Thread.TheVariants.{C}
 use Rattle.joint_model.specs.declared.names.Cycle.{Cycle}
 use Rattle.joint_model.specs.declared.events.Op.{Op}

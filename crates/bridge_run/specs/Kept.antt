@@ -1,5 +1,5 @@
 -- Which candidates are kept: those whose peer isn't freed.
-use Rattle.std.specs.Prelude.{◌≡◌, ℕ, ◌≤◌, Bool, not, Option, Some, None, length}
+use Rattle.std.specs.Prelude.{◌≡◌, ℕ, ◌≤◌, Bool, not, Some, None, length}
 use Rattle.joint_model.specs.Heaps.{IsMade, is_freed}
 use Rattle.joint_model.specs.Peers.{peer_of}
 use Rattle.peer_heap.specs.Sides.{Side as PeerShown}

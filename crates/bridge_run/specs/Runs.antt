@@ -1,14 +1,10 @@
 -- What contracts see of both sides of a run, and what is told of them: the one history that they made, in the form of
 -- the first steps, whose state they are.
-use Rattle.std.specs.Prelude.{◌≡◌, ℕ, ◌≤◌, Bool, not, Option, Some, None, List, [], ◌∷◌, ◌++◌, All, length, map}
+use Rattle.std.specs.Prelude.{◌≡◌, ℕ, ◌≤◌, Option, Some, None, List, [], All, length, map}
 use Rattle.joint_model.specs.declared.names.Thread.{Thread}
-use Rattle.joint_model.specs.declared.names.Thread.TheVariants.{C}
-use Rattle.joint_model.specs.declared.names.Cycle.{Cycle}
-use Rattle.joint_model.specs.declared.events.Op.{Op}
-use Rattle.joint_model.specs.declared.events.Op.TheVariants as op
 use Rattle.joint_model.specs.declared.events.Entry.{Entry}
-use Rattle.joint_model.specs.Control.{Control, Stand, Opened, idle, doing_at, last_line, IsDone}
-use Rattle.joint_model.specs.First.{FirstLinkage, opening_first, first_replayed, first_answers, AllFirstMayCome}
+use Rattle.joint_model.specs.Control.{Control, Stand, doing_at, last_line, IsDone}
+use Rattle.joint_model.specs.First.{FirstLinkage, opening_first, first_replayed, AllFirstMayCome}
 use Rattle.joint_model.specs.Heaps.{numbered_at, IsMade}
 use Rattle.joint_model.specs.Histories.{Finished, managed_numbers, peer_numbers}
 use Rattle.joint_model.specs.Managed.{OpenCycle}

@@ -3,7 +3,7 @@ use Rattle.std.specs.Prelude.{◌≡◌, ◌⊎◌, ℕ, List, [], ◌∷◌, Op
 use Rattle.std.specs.Io.KnownBytes.{Appends}
 use Rattle.joint_model.specs.declared.names.Thread.{Thread}
 use Rattle.joint_model.specs.declared.lines.Act.{Act}
-use Rattle.joint_model.specs.First.{IsFirstLinkedBy}
+use Rattle.joint_model.specs.First.{IsFirstLinked, IsFirstLinkedBy}
 use Rattle.joint_model.specs.Headline.{IsSoundRun, IsCompleteRun}
 use Rattle.joint_model.specs.Histories.{Finished}
 use Rattle.joint_model.specs.Linked.{joint_projection}
@@ -25,9 +25,9 @@ abbrev pub usage_text : List ℕ
 usage_text = codes "usage: bridge_run COMMAND\n"
 
 -- the history of a script's run: it is linked, in the form of the first steps; it holds the events of each line of the script,
--- each once, and those of a line before those of each later line; no cycle in it is abandoned, and each is resolved; and the
--- one machine whose single graph joins both heaps has a run of its joint entries, which frees nothing too early and leaves
--- nothing that stayed unreached
+-- each once, and those of a line before those of each later line; no cycle in it is abandoned, and each is resolved; the one
+-- machine whose single graph joins both heaps has a run of its joint entries, which frees nothing too early and leaves nothing
+-- that stayed unreached; and it is the only linked history that holds these lines, and the only one with its report
 pub record IsRunOf (script : List (Thread × Act)) (history : Finished) : Type 0 where
   pub noted : List Noted
   pub linked : IsFirstLinkedBy history noted
@@ -37,6 +37,8 @@ pub record IsRunOf (script : List (Thread × Act)) (history : Finished) : Type 0
   pub run : IsRun (joint_projection noted) moments
   pub sound : IsSoundRun moments
   pub complete : IsCompleteRun moments
+  pub only : (other : Finished) → IsFirstLinked other → HoldsLines 1 script other.entries → other ≡ history
+  pub named : (other : Finished) → IsFirstLinked other → report other ≡ report history → other ≡ history
 
 -- a report was printed: the source was read to its end, what was taken is a text of a script, and the report of the history of its run
 -- was appended to what the sink held

@@ -5,7 +5,7 @@ use Rattle.joint_model.specs.Histories.{Finished}
 use Rattle.joint_model.specs.Told.{Noted}
 use Rattle.bridge_run.specs.Runs.{IsTold, IsFinished}
 use Rattle.bridge_run.specs.Top.{IsRunOf}
-use Rattle.std.proofs.Common.{◌≡◌, ◌+◌, ◌<◌, ◌∙◌, refl, sym, subst, arith, length}
+use Rattle.std.proofs.Common.{◌+◌, ◌∙◌, refl, sym, subst, arith, length}
 use Rattle.bridge_run.proofs.Running.{IsRunning, running-next, running-all, line-there}
 use Rattle.joint_model.proofs.Joining.{filled_below}
 use Rattle.bridge_run.proofs.serial.run.Goals.{in-Some+in_ok-run_line, in_default}
@@ -29,5 +29,5 @@ returns c = by c.finish.result c.finish.ensures
     all = subst (λ n. IsRunning n c.args.script.now c.loop-done.sides) (omega (arith, c.loop-done-test.false, c.loop-done.auto.done-end, c.len-done-end.ensures.len)) c.loop-done.invariant.running
 
     by : (r : Result Finished AllocError) → IfOk r (λ h. (noted : List Noted) (end : FirstLinkage) → IsTold noted end c.loop-done.sides → IsFinished noted end h) → IfOk r (IsRunOf c.args.script.now)
-    by (Ok h) finished = running-all c.args.script.now c.loop-done.sides h c.len-done-end.ensures.script.built all finished
+    by (Ok h) finished = running-all c.args.script.now c.loop-done.sides h c.len-done-end.ensures.script all finished
     by (Err e) finished = tt

@@ -1,4 +1,4 @@
-use Rattle.std.proofs.Common.{◌≤◌, ◌+◌, ◌*◌}
+use Rattle.std.proofs.Common.{◌≤◌, ◌*◌}
 use Rattle.bridge_run.specs.Runs.{IsIdle}
 use Rattle.bridge_run.proofs.Running.{IsRunning}
 use Rattle.bridge_run.proofs.serial.run.Given as goal

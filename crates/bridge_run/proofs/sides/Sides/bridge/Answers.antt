@@ -1,9 +1,6 @@
-use Rattle.std.proofs.Common.{◌≡◌, ◌∙◌, ap, sym, arith}
-use Rattle.joint_model.specs.declared.events.Reply.{Reply}
-use Rattle.joint_model.specs.Heaps.{answer}
-use Rattle.joint_model.specs.Draws.{Adds, CountDrew}
+use Rattle.std.proofs.Common.{◌∙◌, arith}
 use Rattle.bridge_run.proofs.Ran.{below-managed, below-peers}
-use Rattle.bridge_run.proofs.Bridging.{alone-goes, whole-goes, make_made}
+use Rattle.bridge_run.proofs.Bridging.{alone-goes, whole-goes}
 use Rattle.bridge_run.proofs.sides.Sides.bridge.Goals as goal
 
 pub step-requires-clause-below : goal.step-requires-clause-below
