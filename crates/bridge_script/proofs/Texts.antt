@@ -1,7 +1,7 @@
 -- A text falls into lines in one way: no line has a newline, so the first newline ends the first line, and
 -- what stands behind it is the text of the other lines. So two scripts with one text are the same, and a line
 -- that no script goes on with, behind the lines of a script, excludes every script with that text.
-use Rattle.std.proofs.Common.{zero, suc, slice_get, slice_range, ◌-◌, ◌≡◌, ◌≢◌, ℕ, ◌+◌, ◌<◌, ◌≤◌, cond, List, [], ◌∷◌, ◌++◌, length, take, drop, get_or, sym, ◌∙◌, ap, refl, inl, inr, ◌⊎◌, arith, append_assoc, append-nil, length-append, length-drop}
+use Rattle.std.proofs.Common.{Bool, true, subst, zero, suc, slice_get, slice_range, ◌-◌, ◌≡◌, ◌≢◌, ℕ, ◌+◌, ◌<◌, ◌≤◌, cond, List, [], ◌∷◌, ◌++◌, length, take, drop, get_or, sym, ◌∙◌, ap, refl, inl, inr, ◌⊎◌, arith, append_assoc, append-nil, length-append, length-drop}
 use Rattle.std.specs.List.{All}
 use Rattle.std.proofs.lemmas.List.{get_or-drop, drop-append-le, take-append-le, length-take-le}
 use Rattle.std.proofs.lemmas.Bool.{cases_lt}
@@ -14,10 +14,14 @@ use Rattle.std.proofs.Math.Seq.{take-add, take-append_seam, get_or-append_seam}
 use Rattle.joint_model.specs.declared.names.Thread.{Thread}
 use Rattle.joint_model.specs.declared.lines.Act.{Act}
 use Rattle.bridge_script.specs.declared.faults.ScriptFault.{ScriptFault}
-use Rattle.bridge_script.specs.Words.{line_text}
-use Rattle.bridge_script.specs.Scripts.{line_at, IsBuilt, IsScript, IsText, IsFault, IsNoText, script_text_of, cycles_of, is_cycle}
-use Rattle.bridge_script.specs.Steps.{EndsLine}
-use Rattle.bridge_script.proofs.Forms.{same_line, line_free, line_some}
+use Rattle.bridge_script.specs.declared.faults.Cause.{Cause}
+use Rattle.bridge_script.specs.declared.faults.Cause.TheVariants as cause
+use Rattle.bridge_script.specs.Words.{line_text, line_words}
+use Rattle.bridge_script.specs.Faults.{AskCycle, WordsHave, Has}
+use Rattle.bridge_script.specs.Scripts.{line_at, IsBuilt, IsScript, IsText, IsFault, IsNoText, script_text_of, cycles_of, is_cycle, end_of}
+use Rattle.bridge_script.specs.Steps.{EndsLine, behind}
+use Rattle.bridge_script.proofs.Built.{built_case, first_byte, same_line, line_free, line_some, words_of_built}
+use Rattle.bridge_script.proofs.Fitting.{none_of_built}
 
 -- what stands before the first c, and what stands behind it
 pub cut_once : (c : ℕ) (a b x y : List ℕ) → All (λ k. k ≢ c) a → All (λ k. k ≢ c) b → a ++ (c ∷ x) ≡ b ++ (c ∷ y) → (a ≡ b) × (x ≡ y)
@@ -34,6 +38,10 @@ cut_once c (k ∷ a) (j ∷ b) x y p q e =
 pub text_push : (script : List (Thread × Act)) (line : Thread × Act) → script_text_of (script ++ line ∷ []) ≡ script_text_of script ++ (line_text line ++ 10 ∷ [])
 text_push [] line = refl
 text_push (x ∷ script) line = ap (λ t. line_text x ++ (10 ∷ t)) (text_push script line) ∙ sym (append_assoc (line_text x) (10 ∷ script_text_of script) (line_text line ++ 10 ∷ []))
+
+pub text_append : (a b : List (Thread × Act)) → script_text_of (a ++ b) ≡ script_text_of a ++ script_text_of b
+text_append [] b = refl
+text_append (x ∷ a) b = ap (λ t. line_text x ++ (10 ∷ t)) (text_append a b) ∙ sym (append_assoc (line_text x) (10 ∷ script_text_of a) (script_text_of b))
 
 -- the first lines of a script are a script
 pub script_part : (front more : List (Thread × Act)) → IsScript (front ++ more) → IsScript front
@@ -53,13 +61,6 @@ script_grown old line s b l c = record {
   lines = omega (arith, length-append old (line ∷ []));
   cycles = omega (arith, sum_by_push (λ l. cond (is_cycle l) 1 0) old line);
 }
-
--- one cycle too many
-pub no_more_cycles : (old : List (Thread × Act)) (line next : Thread × Act) → IsBuilt line → 256 < cycles_of old + cond (is_cycle line) 1 0 → line_text next ≡ line_text line → IsScript (old ++ next ∷ []) → ⊥
-no_more_cycles old line next b more e s =
-    let same = same_line next line (last_built old next s) b e in
-    let count = sum_by_push (λ l. cond (is_cycle l) 1 0) old next in
-    omega (arith, s.cycles, rw same at count, ap (λ l. cycles_of (old ++ l ∷ [])) same)
 
 -- a script whose text goes on, behind the lines `before`, with a line, goes on with that line
 pub record GoesOn (script before : List (Thread × Act)) (text : List ℕ) : Type 0 where
@@ -82,11 +83,36 @@ goes_on (x ∷ script) (y ∷ before) extra line rest hs hb hl e l =
     let g = goes_on script before extra line rest (All-tail IsBuilt x script hs) (All-tail IsBuilt y before hb) hl r.1 shorter in
     record { next = g.next; more = g.more; whole = let w = g.whole in cc; read = g.read }
 
+-- what a line adds to a count
+abbrev weight : Bool → ℕ
+weight b = cond b 1 0
+
+-- a line that is built and asks for a cycle is one that is counted
+counted : (line : Thread × Act) → IsBuilt line → AskCycle (line_words line) → is_cycle line ≡ true
+counted = built_case (λ line. AskCycle (line_words line) → is_cycle line ≡ true)
+    (λ n a l m h i e q. absurd (elim q [ inl x ↦ omega (arith, ap first_byte x) | inr x ↦ omega (arith, ap first_byte x) ]))
+    (λ q. refl)
+
+-- a line that a script goes on with has no cause where it stands
+pub none_in_script : (before : List (Thread × Act)) (next : Thread × Act) (end : ℕ) → IsScript (before ++ next ∷ []) → end ≤ 8388608 → (c : Cause) → Has (behind before (line_text next) end) c → ⊥
+none_in_script before next end s l cause.Bytes h = omega arith
+none_in_script before next end s l cause.Lines h = omega (arith, h.1, s.lines, length-append before (next ∷ []))
+none_in_script before next end s l cause.Cycles h =
+    let b = last_built before next s in
+    let q : AskCycle (line_words next) = rw (words_of_built next b) at h.1 in
+    let e = counted next b q in
+    omega (arith, h.2, s.cycles, sum_by_push (λ l. cond (is_cycle l) 1 0) before next, ap weight e)
+none_in_script before next end s l c h =
+    let b = last_built before next s in
+    let w : WordsHave (line_words next) c = rw (words_of_built next b) at h.1 in
+    none_of_built next b c w
+
 -- a faulty line excludes every script
 pub no_text : (bytes : List ℕ) (fault : ScriptFault) → IsFault bytes fault → IsNoText bytes
 no_text bytes fault f script t =
     let finish : GoesOn script f.before f.line → ⊥ = λ g.
-    f.faulty g.next g.read (script_part (f.before ++ g.next ∷ []) g.more (rw (g.whole) at t.lawful)) (omega (arith, t.size)) in
+    let W : List ℕ → Type 0 = λ x. Has (behind f.before x (end_of bytes (script_text_of f.before) f.line)) fault.cause in
+    none_in_script f.before g.next (end_of bytes (script_text_of f.before) f.line) (script_part (f.before ++ g.next ∷ []) g.more (rw (g.whole) at t.lawful)) (omega (arith, t.size)) fault.cause (subst W (sym g.read) f.cause.here) in
     elim t.text [
       | inl e ↦ finish (goes_on script f.before (10 ∷ []) f.line f.rest t.lawful.built f.lawful.built f.whole (ap (λ b. b ++ 10 ∷ []) (sym e) ∙ f.stands) (omega (arith, f.some, ap length e)))
       | inr h ↦ finish (goes_on script f.before [] f.line f.rest t.lawful.built f.lawful.built f.whole (append-nil (script_text_of script) ∙ (sym h.1 ∙ f.stands)) (omega (arith, f.some, ap length h.1, length-append bytes (10 ∷ []))))
@@ -100,7 +126,7 @@ not_both (x ∷ s) (y ∷ t) p q e =
     let r = cut_once 10 (line_text y) (line_text x) (script_text_of t) (script_text_of s ++ 10 ∷ []) (line_free y (All-head IsBuilt y t q)) (line_free x (All-head IsBuilt x s p)) (e ∙ append_assoc (line_text x) (10 ∷ script_text_of s) (10 ∷ [])) in
     not_both s t (All-tail IsBuilt x s p) (All-tail IsBuilt y t q) r.1
 
-same_lines : (s t : List (Thread × Act)) → All IsBuilt s → All IsBuilt t → script_text_of s ≡ script_text_of t → s ≡ t
+pub same_lines : (s t : List (Thread × Act)) → All IsBuilt s → All IsBuilt t → script_text_of s ≡ script_text_of t → s ≡ t
 same_lines [] [] p q e = refl
 same_lines [] (y ∷ t) p q e = absurd (omega (arith, ap length e, length-append (line_text y) (10 ∷ script_text_of t)))
 same_lines (x ∷ s) [] p q e = absurd (omega (arith, ap length e, length-append (line_text x) (10 ∷ script_text_of s)))
@@ -169,9 +195,6 @@ length_so_far bytes at l = length-take-le at (bytes ++ 10 ∷ []) (omega (arith,
 pub line_at_from : (script : List (Thread × Act)) (i : ℕ) → 0 < i → line_at script i ≡ slice_get script (i - 1)
 line_at_from script zero l = absurd (omega arith)
 line_at_from script (suc i) l = let e : suc i - 1 ≡ i = omega arith in rw e refl
-
-pub full_text : (script : List (Thread × Act)) → IsScript script → length (script_text_of script) ≤ 8388608 → IsText (script_text_of script) script
-full_text script h l = record { lawful = h; text = inl refl; size = l }
 
 pub one_more : (bytes : List ℕ) (script : List (Thread × Act)) → IsText bytes script → (bytes ≡ script_text_of script) ⊎ (bytes ++ 10 ∷ [] ≡ script_text_of script)
 one_more bytes script t = elim t.text [ inl e ↦ inl e | inr h ↦ inr h.1 ]

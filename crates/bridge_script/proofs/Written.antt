@@ -3,7 +3,7 @@
 -- the beginning of each longer text. So a report is written entry by entry, and an entry piece by piece.
 use Rattle.std.proofs.Common.{◌≡◌, ℕ, ◌+◌, ◌<◌, ◌≤◌, List, [], ◌∷◌, ◌++◌, length, take, drop, get_or, Option, Some, None, Result, Ok, Err, slice_get, decimal, sym, ◌∙◌, ap, refl, arith, inl, inr, append_assoc, append-nil, length-drop, length-take}
 use Rattle.std.specs.Io.KnownBytes.{Appends, Keeps}
-use Rattle.std.proofs.lemmas.List.{get_or-drop, take-take, take_more, take_all, take-append-drop, nil_from_length}
+use Rattle.std.proofs.lemmas.List.{map-append, get_or-drop, take-take, take_more, take_all, take-append-drop, nil_from_length}
 use Rattle.std.proofs.lemmas.Option.{slice_get_cases}
 use Rattle.joint_model.specs.declared.events.Entry.{Entry}
 use Rattle.joint_model.specs.Histories.{Finished}
@@ -52,10 +52,6 @@ pub after_spaces-append : (a b : List (List ℕ)) → after_spaces (a ++ b) ≡ 
 after_spaces-append [] b = refl
 after_spaces-append (w ∷ a) b = ap (λ t. 32 ∷ (w ++ t)) (after_spaces-append a b) ∙ ap (λ t. 32 ∷ t) (sym (append_assoc w (after_spaces a) (after_spaces b)))
 
-pub lettered-append : (letter : ℕ) (a b : List ℕ) → lettered letter (a ++ b) ≡ lettered letter a ++ lettered letter b
-lettered-append letter [] b = refl
-lettered-append letter (n ∷ a) b = ap (λ t. (letter ∷ decimal n) ∷ t) (lettered-append letter a b)
-
 one_word : (letter n : ℕ) → after_spaces (lettered letter (n ∷ [])) ≡ 32 ∷ letter ∷ decimal n
 one_word letter n = ap (λ t. 32 ∷ letter ∷ t) (append-nil (decimal n))
 
@@ -72,7 +68,7 @@ numbers_more letter xs first k n e = elim (slice_get_cases xs (first + k)).1 [
       let last : get_or (drop first xs) k p.0 ≡ n = get_or-drop first xs k p.0 ∙ (p.3 ∙ sym same) in
       let front = take k (drop first xs) in
       ap (λ t. after_spaces (lettered letter t)) (more ∙ ap (λ y. front ++ y ∷ []) last)
-      ∙ (ap after_spaces (lettered-append letter front (n ∷ [])) ∙ (after_spaces-append (lettered letter front) (lettered letter (n ∷ [])) ∙ ap (λ t. after_spaces (lettered letter front) ++ t) (one_word letter n))))
+      ∙ (ap after_spaces (map-append (λ m. letter ∷ decimal m) front (n ∷ [])) ∙ (after_spaces-append (lettered letter front) (lettered letter (n ∷ [])) ∙ ap (λ t. after_spaces (lettered letter front) ++ t) (one_word letter n))))
   | inr p ↦ absurd (let q = p.1 in cc)
 ]
 
@@ -88,7 +84,7 @@ pub numbers_split : (letter : ℕ) (ys : List ℕ) (k n : ℕ) → k ≤ n → a
 numbers_split letter ys k n l =
     let front : take k (take n ys) ≡ take k ys = take-take k n ys l in
     ap (λ t. after_spaces (lettered letter t)) (sym (take-append-drop k (take n ys)) ∙ ap (λ t. t ++ drop k (take n ys)) front)
-    ∙ (ap after_spaces (lettered-append letter (take k ys) (drop k (take n ys))) ∙ after_spaces-append (lettered letter (take k ys)) (lettered letter (drop k (take n ys))))
+    ∙ (ap after_spaces (map-append (λ m. letter ∷ decimal m) (take k ys) (drop k (take n ys))) ∙ after_spaces-append (lettered letter (take k ys)) (lettered letter (drop k (take n ys))))
 
 listed_long : (letter : ℕ) (ys : List ℕ) → 0 < length ys → listed letter ys ≡ lettered letter ys
 listed_long letter [] l = absurd (omega arith)

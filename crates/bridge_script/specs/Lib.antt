@@ -1,5 +1,7 @@
 pub mod Outside
 pub mod Words
+pub mod Grammar
+pub mod Faults
 pub mod Scripts
 pub mod Steps
 pub mod Causes

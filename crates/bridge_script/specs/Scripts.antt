@@ -1,44 +1,37 @@
 -- Which bytes are a script, and which of their lines is the first that is none.
 use Rattle.std.specs.Prelude.{None, zero, suc, slice_get, ◌≡◌, ◌≢◌, ℕ, ◌+◌, ◌≤◌, ◌<◌, ◌⊎◌, min, Bool, true, false, List, [], ◌∷◌, ◌++◌, length, Option, All, count_by}
 use Rattle.joint_model.specs.declared.names.Thread.{Thread}
-use Rattle.joint_model.specs.declared.names.Thread.TheVariants.{M, P, C}
-use Rattle.joint_model.specs.declared.names.Kind.TheVariants as kind
-use Rattle.joint_model.specs.declared.names.Sort.TheVariants as sort
+use Rattle.joint_model.specs.declared.names.Thread.TheVariants.{C}
 use Rattle.joint_model.specs.declared.names.PhaseWord.TheVariants as phase
 use Rattle.joint_model.specs.declared.lines.Act.{Act}
 use Rattle.joint_model.specs.declared.lines.Act.TheVariants as act
 use Rattle.bridge_script.specs.declared.faults.ScriptFault.{ScriptFault}
 use Rattle.bridge_script.specs.declared.faults.ScriptError.{ScriptError}
 use Rattle.bridge_script.specs.declared.faults.ScriptError.TheVariants.{OutOfMemory, ReadFault, Refused}
-use Rattle.bridge_script.specs.declared.faults.Cause.TheVariants.{Unknown}
-use Rattle.joint_model.specs.Lines.{IsVar, IsVarOrNone}
+use Rattle.joint_model.specs.Lines.{IsLine}
 use Rattle.bridge_script.specs.Words.{line_text}
+use Rattle.bridge_script.specs.Grammar.{operation_of, is_built}
+use Rattle.bridge_script.specs.Faults.{Standing, IsFirst, Has, words_of}
 
--- the act of a line of a managed thread that is built, with each place within its limits:
--- `bridge V bridge N user F`, `set V I W|-`, `drop V`
-abbrev pub IsBuiltManaged : Act → Type 0
-IsBuiltManaged (act.Bridge v kind.Bridge fields sort.User peer_fields) = IsVar v × (fields ≤ 16) × (peer_fields ≤ 16)
-IsBuiltManaged (act.Set v i w) = IsVar v × (i ≤ 255) × IsVarOrNone w
-IsBuiltManaged (act.Drop v) = IsVar v
-IsBuiltManaged _ = ⊥
+-- the index of a field is at most 255 (other numbers are within their limits where the line is lawful)
+abbrev pub IsIndexed : Act → Type 0
+IsIndexed (act.Set v i w) = i ≤ 255
+IsIndexed (act.Get v w i) = i ≤ 255
+IsIndexed _ = Unit {0}
 
--- the act of a line of the driver that is built: `cycle`
-abbrev pub IsBuiltDriver : Act → Type 0
-IsBuiltDriver (act.PhaseLine phase.Cycle) = Unit {0}
-IsBuiltDriver _ = ⊥
+-- the line is one of those that are built
+pub record IsBuilt (line : Thread × Act) : Type 0 where
+  pub lawful : IsLine line.0 line.1
+  pub indexed : IsIndexed line.1
+  pub built : is_built line.0 (operation_of line.1) ≡ true
 
--- the line is one of those that are built: of thread m1 or of c
-abbrev pub IsBuilt : Thread × Act → Type 0
-IsBuilt (M n, a) = (n ≡ 1) × IsBuiltManaged a
-IsBuilt (P n, a) = ⊥
-IsBuilt (C, a) = IsBuiltDriver a
-
--- whether a line is `c cycle`
+-- whether a line is `c cycle` or `c snap`
 abbrev pub is_cycle : Thread × Act → Bool
 is_cycle (C, act.PhaseLine phase.Cycle) = true
+is_cycle (C, act.PhaseLine phase.Snap) = true
 is_cycle _ = false
 
--- how many lines are `c cycle`
+-- how many lines are `c cycle` or `c snap`
 abbrev pub cycles_of : List (Thread × Act) → ℕ
 cycles_of lines = count_by is_cycle lines
 
@@ -47,7 +40,8 @@ abbrev pub script_text_of : List (Thread × Act) → List ℕ
 script_text_of [] = []
 script_text_of (line ∷ lines) = line_text line ++ (10 ∷ script_text_of lines)
 
--- the lines are lines of a script: each is built, at most 20,000, of which at most 256 are `c cycle`
+-- the lines are lines of a script: each is built, at most 20,000, of which at most 256 are `c cycle` or
+-- `c snap`
 pub record IsScript (script : List (Thread × Act)) : Type 0 where
   pub built : All IsBuilt script
   pub lines : length script ≤ 20000
@@ -65,8 +59,12 @@ pub record IsText (bytes : List ℕ) (script : List (Thread × Act)) : Type 0 wh
 abbrev pub end_of : List ℕ → List ℕ → List ℕ → ℕ
 end_of bytes before line = min (length before + length line + 1) (length bytes)
 
--- the fault names the first line that is no line of a script, and why: the lines `before` it are a script's,
--- it has at least one byte, its newline counted, and no script within the limits goes on with it
+-- a line where it stands: behind the lines `before` it, in these bytes
+abbrev pub standing : List ℕ → List (Thread × Act) → List ℕ → Standing
+standing bytes before line = record { words = words_of line; number = length before + 1; cycles = cycles_of before; end = end_of bytes (script_text_of before) line }
+
+-- the fault names the first line that is no line of a script, and its first cause: the lines `before` it are a
+-- script's, and it has at least one byte, its newline counted
 pub record IsFault (bytes : List ℕ) (fault : ScriptFault) : Type 0 where
   pub before : List (Thread × Act)
   pub line : List ℕ
@@ -77,8 +75,7 @@ pub record IsFault (bytes : List ℕ) (fault : ScriptFault) : Type 0 where
   pub lawful : IsScript before
   pub size : length (script_text_of before) ≤ 8388608
   pub number : fault.line ≡ length before + 1
-  pub faulty : (next : Thread × Act) → line_text next ≡ line → IsScript (before ++ next ∷ []) → end_of bytes (script_text_of before) line ≤ 8388608 → ⊥
-  pub cause : fault.cause ≡ Unknown
+  pub cause : IsFirst (Has (standing bytes before line)) fault.cause
 
 -- no script has these bytes as its text
 abbrev pub IsNoText : List ℕ → Type 0

@@ -2,7 +2,7 @@
 
 ghost use Rattle.std.specs.Prelude.{◌≡◌, ◌+◌, ◌≤◌, [], ◌∷◌, codes, decimal, length};
 ghost use Rattle.bridge_script.specs.Drafts.{Adds, AddsWords};
-ghost use Rattle.bridge_script.specs.Words.{act_words, var_text, optional_text, kind_text, sort_text, cell_text, global_text, own_static, peer_static};
+ghost use Rattle.bridge_script.specs.Words.{thread_text, act_words, line_text, var_text, optional_text, kind_text, sort_text, cell_text, global_text, own_static, peer_static};
 ghost use Rattle.bridge_script.specs.Report.{event_words, reply_words, managed_text, peer_text, handle_text, list_of, head_text, tail_text, place_text};
 
 use crate::drafts::Line;
@@ -216,6 +216,33 @@ fn add_act(line: &mut Line, thread: Thread, act: &Act)
         Act::PhaseLine { word } => line.phase_word(word),
         Act::Finalise { n } => add_number(line, b"finalise", n as u64),
     }
+}
+
+/// A thread.
+fn add_thread(line: &mut Line, thread: Thread)
+    requires { 21 ≤ line.old.room }
+    ensures { Adds line.old line.new (thread_text thread) 21 }
+{
+    match thread {
+        Thread::M(n) => {
+            line.text(b"m");
+            line.number(n as u64);
+        }
+        Thread::P(n) => {
+            line.text(b"p");
+            line.number(n as u64);
+        }
+        Thread::C => line.text(b"c"),
+    }
+}
+
+/// A line of a script, without its newline.
+pub fn add_line(line: &mut Line, thread: Thread, act: &Act)
+    requires { 121 ≤ line.old.room }
+    ensures { Adds line.old line.new (line_text (thread, act.now)) 121 }
+{
+    add_thread(line, thread);
+    add_act(line, thread, act);
 }
 
 /// `make SORT F`.

@@ -5,20 +5,28 @@ ghost use Rattle.bridge_script.specs.Causes.{cause_number, cause_name};
 
 use std::alloc::AllocError;
 
-/// Why a line is no line of a script. Each has a number and a name, which are printed.
-///
-/// Today every line that isn't built, that is one too many or that lies past the last byte has the cause
-/// `Unknown`.
+/// Why a line is no line of a script, in the order in which the causes are tested. Each has a number and a name,
+/// which are printed. A line with the cause `Bytes` has no other, and one with `Lines` has none but `Bytes`.
 #[derive(Clone, Copy, PartialEq, Eq, Debug)]
 pub enum Cause {
+    /// The first word is no thread, or the second is no operation of that thread that is built.
     Unknown,
+    /// The operation has more places than there are words, or fewer.
     Arity,
+    /// A word at the place of a variable, a static, a global name or a cell is none.
     Name,
+    /// A word at the place of a number is no decimal number of at most 64 bits without needless zeros.
     Number,
+    /// There are more than 16 fields, a field's index is over 255, or a count is outside 1 to 65,535.
     Limit,
+    /// A word at the place of a kind or a sort is none of the operation, or stands beside what it doesn't allow:
+    /// a `leaf` or `leafbridge` beside fields, a `bridge` beside `framework`.
     Kind,
+    /// It is the 257th line `c cycle` or `c snap`.
     Cycles,
+    /// It is line 20,001.
     Lines,
+    /// It holds byte 8,388,609.
     Bytes,
 }
 

@@ -7,26 +7,32 @@
 //    faults, and answers `Failed` only where the count rose. `ByteSource`, `PlainSource`, `ByteSink` and
 //    `CountSink` are such in memory; a program has its own over standard input and output.
 // 2. `read_script` reads a source to its end, or to one byte past the limit of a script, and answers the script
-//    whose text it read. Where the bytes are the text of no script it names the first faulty line and its cause,
-//    and nothing else is refused. `parse` does the same with bytes that are at hand.
+//    whose text it read. Where the bytes are the text of no script it names the first faulty line and its first
+//    cause, and nothing else is refused. `parse` does the same with bytes that are at hand, and `script_text`
+//    prints a script back.
 // 3. `Script::line` gives the lines, counted from 1, to whoever runs them: each is a thread and an `Act` of
 //    `joint_model`, and lawful there. A worker calls `Turnstile::pass` before each.
 // 4. When all have run, `write_report` writes the report of the history, the whole of it or, where the sink
 //    fails, a beginning. It takes no memory.
 //
 // `specs/Scripts.antt` says which bytes are a script's text and which line is the first faulty one, by the texts
-// that `specs/Words.antt` gives lines, and not by how they are read; `specs/Report.antt` says what a report is.
-// `texts_tell_scripts` proves that a text is of one script, and that a script has at most two texts.
+// that `specs/Words.antt` gives lines, and not by how they are read. `specs/Grammar.antt` has the table of all
+// operations and which of them are built, `specs/Faults.antt` the nine causes; `specs/Report.antt` says what a
+// report is. `texts_tell_scripts` proves that a text is of one script, that a script has at most two texts, that a
+// line of a script has no cause, and that bytes have one first faulty line with one first cause.
 #![tactic(auto)]
 
+mod checks;
 mod drafts;
 mod entries;
 mod faults;
+mod grammar;
 mod laws;
 mod lines;
 mod lists;
 mod memory;
 mod outside;
+mod printing;
 mod reading;
 mod refusals;
 mod reports;
@@ -39,6 +45,7 @@ pub use faults::{Cause, ScriptError, ScriptFault};
 pub use laws::texts_tell_scripts;
 pub use memory::{ByteSink, ByteSource, CountSink, PlainSource};
 pub use outside::{Failed, FreeTurn, Sink, Source, Turnstile};
+pub use printing::script_text;
 pub use reading::read_script;
 pub use refusals::write_refusal;
 pub use reports::{write_report, write_text};

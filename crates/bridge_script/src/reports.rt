@@ -12,8 +12,9 @@ use crate::lists::Numbers;
 use crate::outside::{Failed, Sink};
 use joint_model::{Entry, History, Span};
 
-/// Writes a whole text, in whatever portions the sink takes.
-fn put<K: Sink>(out: &mut K, text: &[u8]) -> Result<(), Failed>
+/// Writes a whole text, in whatever portions the sink takes. [`Failed`] comes only where the sink's count of
+/// faults rose; then a beginning of the text was written.
+pub fn write_text<K: Sink>(out: &mut K, text: &[u8]) -> Result<(), Failed>
     ensures { Writes (K.held out.old) (K.held out.new) (K.faults out.old) (K.faults out.new) result text.now }
 {
     let mut at = 0;
@@ -24,14 +25,6 @@ fn put<K: Sink>(out: &mut K, text: &[u8]) -> Result<(), Failed>
         }
     }
     Ok(())
-}
-
-/// Writes a whole text, in whatever portions the sink takes. [`Failed`] comes only where the sink's count of
-/// faults rose; then a beginning of the text was written.
-pub fn write_text<K: Sink>(out: &mut K, text: &[u8]) -> Result<(), Failed>
-    ensures { Writes (K.held out.old) (K.held out.new) (K.faults out.old) (K.faults out.new) result text.now }
-{
-    put(out, text)
 }
 
 /// Writes the numbers that a span names, each with a space and its letter before it.
@@ -49,7 +42,7 @@ fn write_numbers<K: Sink>(
         };
         let mut line = Line::new();
         line.lettered(numbers.letter(), n as u64);
-        match put(out, line.bytes()) {
+        match write_text(out, line.bytes()) {
             Ok(()) => {}
             Err(failed) => return Err(failed),
         }
@@ -62,11 +55,11 @@ fn write_list<K: Sink>(h: &History, numbers: Numbers, span: Span, out: &mut K) -
     ensures { Writes (K.held out.old) (K.held out.new) (K.faults out.old) (K.faults out.new) result (after_spaces (list_words h.now numbers span)) }
 {
     if span.count == 0 {
-        return put(out, b" -");
+        return write_text(out, b" -");
     }
     match numbers.at(h, span.first as u64) {
         Some(_) => write_numbers(h, numbers, span, out),
-        None => put(out, b" -"),
+        None => write_text(out, b" -"),
     }
 }
 
@@ -80,7 +73,7 @@ fn write_listed<K: Sink>(
 ) -> Result<(), Failed>
     ensures { Writes (K.held out.old) (K.held out.new) (K.faults out.old) (K.faults out.new) result (head.now ++ (after_spaces (list_words h.now list.0 list.1) ++ tail.now)) }
 {
-    match put(out, head) {
+    match write_text(out, head) {
         Ok(()) => {}
         Err(failed) => return Err(failed),
     }
@@ -88,7 +81,7 @@ fn write_listed<K: Sink>(
         Ok(()) => {}
         Err(failed) => return Err(failed),
     }
-    put(out, tail)
+    write_text(out, tail)
 }
 
 /// Writes the line of an entry.
@@ -105,7 +98,7 @@ pub fn write_entry<K: Sink>(h: &History, entry: &Entry, out: &mut K) -> Result<(
         }
         None => {
             add_tail(&mut line, entry.made.cites);
-            put(out, line.bytes())
+            write_text(out, line.bytes())
         }
     }
 }
@@ -140,5 +133,5 @@ pub fn write_report<K: Sink>(h: &History, out: &mut K) -> Result<(), Failed>
     line.text(b"end ");
     line.number(h.len());
     line.text(b"\n");
-    put(out, line.bytes())
+    write_text(out, line.bytes())
 }

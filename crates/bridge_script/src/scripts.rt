@@ -1,9 +1,10 @@
 // A script: its lines, and which bytes are one.
 
-ghost use Rattle.std.specs.Prelude.{◌≡◌, ◌+◌, ◌≤◌, ◌<◌, ◌==◌, [], cond, slice_get, length, IfOk, IfErr, OnErr, IfSome, MatchBool};
+ghost use Rattle.std.specs.Prelude.{◌≡◌, ◌+◌, ◌≤◌, ◌<◌, ◌==◌, [], cond, slice_get, length, IfOk, IfErr, IfSome, MatchResult};
 ghost use Rattle.joint_model.specs.Lines.{IsLine};
+ghost use Rattle.bridge_script.specs.declared.faults.ScriptError.{ScriptError};
 ghost use Rattle.bridge_script.specs.Scripts.{IsBuilt, IsScript, IsText, IsRefusal, is_cycle, line_at};
-ghost use Rattle.bridge_script.specs.Steps.{Grows, NoneFits, EndsLine};
+ghost use Rattle.bridge_script.specs.Steps.{Grows, Stops, EndsLine};
 
 use crate::faults::{Cause, ScriptError, ScriptFault};
 use crate::lines::read_line;
@@ -18,11 +19,11 @@ pub const MOST_BYTES: usize = 8_388_608;
 /// The most lines of a script.
 const MOST_LINES: usize = 20_000;
 
-/// The most lines `c cycle` of a script.
+/// The most lines `c cycle` and `c snap` of a script.
 const MOST_CYCLES: usize = 256;
 
 /// A script: a list of at most 20,000 lines, each a thread and what it is to do. Each line is one that is
-/// built, with each of its places within its limits, and at most 256 lines are `c cycle`.
+/// built, with each of its places within its limits, and at most 256 lines are `c cycle` or `c snap`.
 #[derive(Drop)]
 pub struct Script {
     lines: Vec<(Thread, Act)>,
@@ -58,6 +59,14 @@ impl Script {
         self.lines.is_empty()
     }
 
+    /// All lines in order.
+    pub(crate) fn lines(&self) -> &[(Thread, Act)]
+        ensures lines { result.now ≡ self.now }
+        ensures script { IsScript self.now }
+    {
+        &self.lines
+    }
+
     /// The line of that number, counted from 1: its thread and what it asks for. None exactly where there is
     /// no such line.
     pub fn line(&self, i: u32) -> Option<(Thread, Act)>
@@ -81,25 +90,40 @@ impl Script {
         }
     }
 
-    /// Puts the line with this text last, where it is a line that a script may go on with: within the limits of
-    /// its lines and of its bytes, of which `end` is the number up to the end of the line. Answers false, with
-    /// nothing changed, where no script goes on with it.
-    fn grow(&mut self, text: &[u8], end: usize) -> Result<bool, AllocError>
-        ensures { IfOk result (λ grown. MatchBool grown (Grows self.old self.new text.now end) (NoneFits self.old text.now end × (self.new ≡ self.old))) }
+    /// Puts the line with this text last, of which `end` is the number of bytes up to its end. `Refused` where it
+    /// has a cause, with the first of them.
+    fn grow(&mut self, text: &[u8], end: usize) -> Result<(), ScriptError>
+        ensures { MatchResult result (λ _. Grows self.old self.new text.now end) (λ error. Stops self.old text.now end error) }
     {
-        let Some(line) = read_line(text) else {
-            return Ok(false);
-        };
-        if end > MOST_BYTES || self.lines.len() >= MOST_LINES {
-            return Ok(false);
+        if end > MOST_BYTES {
+            return Err(self.refusal(Cause::Bytes));
         }
+        if self.lines.len() >= MOST_LINES {
+            return Err(self.refusal(Cause::Lines));
+        }
+        let line = match read_line(text) {
+            Ok(line) => line,
+            Err(cause) => return Err(self.refusal(cause)),
+        };
         let cycles = self.cycles + cycle_count(&line);
         if cycles > MOST_CYCLES {
-            return Ok(false);
+            return Err(self.refusal(Cause::Cycles));
         }
-        self.lines.push(line)?;
+        let Ok(()) = self.lines.push(line) else {
+            return Err(ScriptError::OutOfMemory);
+        };
         self.cycles = cycles;
-        Ok(true)
+        Ok(())
+    }
+
+    /// The refusal of the next line.
+    fn refusal(&self, cause: Cause) -> ScriptError
+        ensures { result ≡ ScriptError.Refused (record { line = length self.now + 1; cause = cause }) }
+    {
+        ScriptError::Refused(ScriptFault {
+            line: self.len() + 1,
+            cause,
+        })
     }
 }
 
@@ -110,7 +134,7 @@ fn place_of(lines: &[(Thread, Act)], i: usize) -> Option<(Thread, Act)>
     lines.get(i).copied()
 }
 
-/// 1 for the line `c cycle`, and 0 for every other.
+/// 1 for the lines `c cycle` and `c snap`, and 0 for every other.
 fn cycle_count(line: &(Thread, Act)) -> usize
     ensures { result ≡ cond (is_cycle line.now) 1 0 }
 {
@@ -118,7 +142,7 @@ fn cycle_count(line: &(Thread, Act)) -> usize
         (
             Thread::C,
             Act::PhaseLine {
-                word: PhaseWord::Cycle,
+                word: PhaseWord::Cycle | PhaseWord::Snap,
             },
         ) => 1,
         _ => 0,
@@ -137,8 +161,7 @@ fn line_end(bytes: &[u8], at: usize) -> usize
 ///
 /// A line ends with a newline, which the last line may lack if it has at least one byte. `OutOfMemory` where
 /// there is no memory for the lines. `Refused` exactly where no script has this text, with the first line that
-/// is no line of a script: one that isn't built, that is line 20,001 or the 257th `c cycle`, or that holds byte
-/// 8,388,609.
+/// is no line of a script and its first [`Cause`].
 pub fn parse(alloc: Global, bytes: &[u8]) -> Result<Script, ScriptError>
     ensures ok { IfOk result (λ script. IsText bytes.now script) }
     ensures err { IfErr result (λ error. IsRefusal bytes.now error) }
@@ -147,13 +170,10 @@ pub fn parse(alloc: Global, bytes: &[u8]) -> Result<Script, ScriptError>
     let mut at = 0;
     while at < bytes.len() {
         let end = line_end(bytes, at);
-        if !script.grow(&bytes[at..end], (end + 1).min(bytes.len()))? {
-            return Err(ScriptError::Refused(ScriptFault {
-                line: script.len() + 1,
-                cause: Cause::Unknown,
-            }));
+        match script.grow(&bytes[at..end], (end + 1).min(bytes.len())) {
+            Ok(()) => at = end + 1,
+            Err(error) => return Err(error),
         }
-        at = end + 1;
     }
     Ok(script)
 }

@@ -1,11 +1,13 @@
 // Scripts, sources, sinks and reports by worked examples and at their limits.
 
+use crate::checks::cause_at;
 use crate::drafts::Line;
 use crate::entries::{add_head, add_tail};
+use crate::grammar::Place;
 use crate::reports::write_entry;
 use crate::{
-    ByteSink, ByteSource, Cause, CountSink, Failed, FreeTurn, PlainSource, ScriptError, Sink,
-    Source, Turnstile, parse, read_script, texts_tell_scripts, write_report,
+    ByteSink, ByteSource, Cause, CountSink, Failed, PlainSource, ScriptError, ScriptFault, Sink,
+    Source, parse, read_script, script_text, write_report,
 };
 use joint_model::{
     Act, Cell, Cycle, Entry, GName, HNum, History, Kind, MNum, Made, Marking, Op, PNum, Phase,
@@ -22,12 +24,12 @@ const A: Var = Var(0);
 
 const B: Var = Var(1);
 
-/// The first faulty line of a text, or 0 where it is a script.
-fn faulty_line(alloc: Global, text: &[u8]) -> u32 {
+/// The first faulty line of a text and the number of its cause; 0 and 0 where it is a script.
+fn fault(alloc: Global, text: &[u8]) -> (u32, u8) {
     match parse(alloc, text) {
-        Ok(_) => 0,
-        Err(ScriptError::Refused(fault)) => fault.line,
-        Err(_) => u32::MAX,
+        Ok(_) => (0, 0),
+        Err(ScriptError::Refused(fault)) => (fault.line, fault.cause.number()),
+        Err(_) => (u32::MAX, 0),
     }
 }
 
@@ -76,48 +78,427 @@ fn a_script_has_its_lines(rt: HostRuntime) -> Result<(), Fail> {
 
 #[test]
 fn the_first_faulty_line_is_named(rt: HostRuntime) {
-    for (text, line) in [
-        (b"".as_slice(), 0),
-        (b"m1 drop a".as_slice(), 0),
-        (b"m1 drop h\nm1 set a 255 -".as_slice(), 0),
-        (b"m1 bridge a bridge 16 user 16\n".as_slice(), 0),
-        (b"\n".as_slice(), 1),
-        (b"c cycle\n\n".as_slice(), 2),
-        (b"m1 drop i\nm1 drop a\n\n".as_slice(), 1),
-        (b"m1 drop a\nm1 drop  a\nx".as_slice(), 2),
-        (b"m1 drop a ".as_slice(), 1),
-        (b" m1 drop a".as_slice(), 1),
-        (b"m1 drop\n".as_slice(), 1),
-        (b"m2 drop a\n".as_slice(), 1),
-        (b"c snap\n".as_slice(), 1),
-        (b"m1 set a 00 b\n".as_slice(), 1),
-        (b"m1 set a +1 b\n".as_slice(), 1),
-        (b"m1 set a 256 b\n".as_slice(), 1),
-        (b"m1 set a 18446744073709551616 b\n".as_slice(), 1),
-        (b"m1 bridge a bridge 17 user 0\n".as_slice(), 1),
-        (b"m1 bridge a bridge 1 framework 0\n".as_slice(), 1),
+    for (text, line, cause) in [
+        (b"".as_slice(), 0, 0),
+        (b"m1 drop a".as_slice(), 0, 0),
+        (b"m1 drop h\nm1 set a 255 -".as_slice(), 0, 0),
+        (b"\n".as_slice(), 1, 1),
+        (b"c cycle\n\n".as_slice(), 2, 1),
+        (b"m1 drop i\nm1 drop a\n\n".as_slice(), 1, 3),
+        (b"m1 drop a\nm1 drop  a\nx".as_slice(), 2, 2),
+        (
+            b"m1 drop a\nm1 drop a\nm1 drop a\nm1 jump a\nm1 drop i\n".as_slice(),
+            4,
+            1,
+        ),
     ] {
-        assert_eq!(rt; faulty_line(rt.alloc(), text), line);
+        assert_eq!(rt; fault(rt.alloc(), text), (line, cause));
+    }
+}
+
+/// Each line has the cause of that number, and none where the number is 0.
+fn expect_causes(rt: &impl Abort, alloc: Global, lines: &[(&[u8], u8)]) {
+    for (text, cause) in lines {
+        let line = if *cause == 0 { 0 } else { 1 };
+        assert_eq!(rt; fault(alloc, text), (line, *cause));
     }
 }
 
 #[test]
-fn a_script_has_at_most_so_many_lines_and_cycles(rt: HostRuntime) -> Result<(), Fail> {
-    let alloc = rt.alloc();
+fn lines_without_a_cause(rt: HostRuntime) {
+    expect_causes(
+        &rt,
+        rt.alloc(),
+        &[
+            (b"m1 drop a".as_slice(), 0),
+            (b"m8 drop h".as_slice(), 0),
+            (b"m2 drop a\n".as_slice(), 0),
+            (b"m3 set a 0 b".as_slice(), 0),
+            (b"m4 set h 255 -".as_slice(), 0),
+            (b"m5 set a 10 a".as_slice(), 0),
+            (b"m1 bridge a bridge 0 user 0".as_slice(), 0),
+            (b"m1 bridge h bridge 16 user 16".as_slice(), 0),
+            (b"m6 bridge a leafbridge 0 user 0".as_slice(), 0),
+            (b"m7 bridge a leafbridge 0 framework 16".as_slice(), 0),
+            (b"c cycle".as_slice(), 0),
+            (b"c cycle\n".as_slice(), 0),
+        ],
+    );
+}
+
+#[test]
+fn lines_that_name_no_operation(rt: HostRuntime) {
+    expect_causes(
+        &rt,
+        rt.alloc(),
+        &[
+            (b"\n".as_slice(), 1),
+            (b"m1".as_slice(), 1),
+            (b"m1\n".as_slice(), 1),
+            (b"m1 ".as_slice(), 1),
+            (b" ".as_slice(), 1),
+            (b"m1  drop a".as_slice(), 1),
+            (b" m1 drop a".as_slice(), 1),
+            (b"m1\tdrop a".as_slice(), 1),
+            (b"m0 drop a".as_slice(), 1),
+            (b"m9 drop a".as_slice(), 1),
+            (b"m01 drop a".as_slice(), 1),
+            (b"m10 drop a".as_slice(), 1),
+            (b"m drop a".as_slice(), 1),
+            (b"m1x drop a".as_slice(), 1),
+            (b"-m1 drop a".as_slice(), 1),
+            (b"M1 drop a".as_slice(), 1),
+            (b"m18446744073709551617 drop a".as_slice(), 1),
+            (b"p1 drop a".as_slice(), 1),
+            (b"p8 set a 0 b".as_slice(), 1),
+            (b"p0 drop a".as_slice(), 1),
+            (b"p9 new a 1".as_slice(), 1),
+            (b"p1".as_slice(), 1),
+            (b"c".as_slice(), 1),
+            (b"c ".as_slice(), 1),
+            (b"C cycle".as_slice(), 1),
+            (b"cc cycle".as_slice(), 1),
+            (b"c1 cycle".as_slice(), 1),
+            (b"c cycles".as_slice(), 1),
+            (b"c snap".as_slice(), 1),
+            (b"c mark".as_slice(), 1),
+            (b"c finalise 1".as_slice(), 1),
+            (b"c drop a".as_slice(), 1),
+            (b"m1 cycle".as_slice(), 1),
+            (b"m1 jump a".as_slice(), 1),
+            (b"m1 new a plain 0".as_slice(), 1),
+            (b"m1 copy a b".as_slice(), 1),
+            (b"m1 Drop a".as_slice(), 1),
+            (b"m1 dropa".as_slice(), 1),
+            (b"x".as_slice(), 1),
+            (b"m1 drop\ta".as_slice(), 1),
+        ],
+    );
+}
+
+#[test]
+fn lines_with_too_many_words_or_too_few(rt: HostRuntime) {
+    expect_causes(
+        &rt,
+        rt.alloc(),
+        &[
+            (b"m1 drop".as_slice(), 2),
+            (b"m1 drop a b".as_slice(), 2),
+            (b"m1 drop a ".as_slice(), 2),
+            (b"m1 drop  a".as_slice(), 2),
+            (b"m1 drop i j".as_slice(), 2),
+            (b"m1 set".as_slice(), 2),
+            (b"m1 set a".as_slice(), 2),
+            (b"m1 set a 0".as_slice(), 2),
+            (b"m1 set a 0 b c".as_slice(), 2),
+            (b"m1 set a 0 b ".as_slice(), 2),
+            (b"m1 set a  0 b".as_slice(), 2),
+            (b"m1 bridge".as_slice(), 2),
+            (b"m1 bridge a".as_slice(), 2),
+            (b"m1 bridge a bridge".as_slice(), 2),
+            (b"m1 bridge a bridge 1".as_slice(), 2),
+            (b"m1 bridge a bridge 1 user".as_slice(), 2),
+            (b"m1 bridge a bridge 1 user 0 0".as_slice(), 2),
+            (b"m1 bridge a bridge 1 user 0 ".as_slice(), 2),
+            (b"c cycle ".as_slice(), 2),
+            (b"c cycle a".as_slice(), 2),
+            (b"c cycle cycle".as_slice(), 2),
+        ],
+    );
+}
+
+#[test]
+fn lines_with_a_word_that_is_no_name(rt: HostRuntime) {
+    expect_causes(
+        &rt,
+        rt.alloc(),
+        &[
+            (b"m1 drop ".as_slice(), 3),
+            (b"m1 drop i".as_slice(), 3),
+            (b"m1 drop A".as_slice(), 3),
+            (b"m1 drop `".as_slice(), 3),
+            (b"m1 drop -".as_slice(), 3),
+            (b"m1 drop ab".as_slice(), 3),
+            (b"m1 drop 1".as_slice(), 3),
+            (b"m1 set i 0 b".as_slice(), 3),
+            (b"m1 set - 0 b".as_slice(), 3),
+            (b"m1 set  0 b".as_slice(), 3),
+            (b"m1 set a 0 i".as_slice(), 3),
+            (b"m1 set a 0 ".as_slice(), 3),
+            (b"m1 set a 0 --".as_slice(), 3),
+            (b"m1 set a x i".as_slice(), 3),
+            (b"m1 set a 256 i".as_slice(), 3),
+            (b"m1 bridge i bridge 0 user 0".as_slice(), 3),
+            (b"m1 bridge  bridge 0 user 0".as_slice(), 3),
+            (b"m1 bridge - leaf x sort 17".as_slice(), 3),
+            (b"m1 bridge ab bridge 17 framework 0".as_slice(), 3),
+        ],
+    );
+}
+
+#[test]
+fn lines_with_a_word_that_is_no_number(rt: HostRuntime) {
+    expect_causes(
+        &rt,
+        rt.alloc(),
+        &[
+            (b"m1 set a  b".as_slice(), 4),
+            (b"m1 set a x b".as_slice(), 4),
+            (b"m1 set a 00 b".as_slice(), 4),
+            (b"m1 set a 01 b".as_slice(), 4),
+            (b"m1 set a +1 b".as_slice(), 4),
+            (b"m1 set a -1 b".as_slice(), 4),
+            (b"m1 set a 1. b".as_slice(), 4),
+            (b"m1 set a 0x1 b".as_slice(), 4),
+            (b"m1 set a 1_0 b".as_slice(), 4),
+            (b"m1 set a 18446744073709551616 b".as_slice(), 4),
+            (b"m1 set a 99999999999999999999 -".as_slice(), 4),
+            (b"m1 bridge a bridge  user 0".as_slice(), 4),
+            (b"m1 bridge a bridge x user 0".as_slice(), 4),
+            (b"m1 bridge a bridge 1 user ".as_slice(), 4),
+            (b"m1 bridge a bridge 1 user x".as_slice(), 4),
+            (b"m1 bridge a bridge 1 user 00".as_slice(), 4),
+            (
+                b"m1 bridge a bridge 1 user 18446744073709551616".as_slice(),
+                4,
+            ),
+            (b"m1 bridge a plain x user 17".as_slice(), 4),
+            (b"m1 bridge a bridge 17 user x".as_slice(), 4),
+            (b"m1 bridge a leafbridge x framework 0".as_slice(), 4),
+        ],
+    );
+}
+
+#[test]
+fn lines_with_a_number_past_its_limit(rt: HostRuntime) {
+    expect_causes(
+        &rt,
+        rt.alloc(),
+        &[
+            (b"m1 set a 256 b".as_slice(), 5),
+            (b"m1 set a 1000 -".as_slice(), 5),
+            (b"m1 set a 18446744073709551615 b".as_slice(), 5),
+            (b"m1 bridge a bridge 17 user 0".as_slice(), 5),
+            (b"m1 bridge a bridge 16 user 17".as_slice(), 5),
+            (
+                b"m1 bridge a bridge 18446744073709551615 user 0".as_slice(),
+                5,
+            ),
+            (
+                b"m1 bridge a bridge 0 user 18446744073709551615".as_slice(),
+                5,
+            ),
+            (b"m1 bridge a leafbridge 17 user 0".as_slice(), 5),
+            (b"m1 bridge a plain 17 user 0".as_slice(), 5),
+            (b"m1 bridge a bridge 17 framework 0".as_slice(), 5),
+            (b"m1 bridge a bridge 0 sort 17".as_slice(), 5),
+        ],
+    );
+}
+
+#[test]
+fn lines_with_a_kind_that_may_not_stand_there(rt: HostRuntime) {
+    expect_causes(
+        &rt,
+        rt.alloc(),
+        &[
+            (b"m1 bridge a plain 0 user 0".as_slice(), 6),
+            (b"m1 bridge a leaf 0 user 0".as_slice(), 6),
+            (b"m1 bridge a  0 user 0".as_slice(), 6),
+            (b"m1 bridge a Bridge 0 user 0".as_slice(), 6),
+            (b"m1 bridge a bridges 0 user 0".as_slice(), 6),
+            (b"m1 bridge a bridge 0 users 0".as_slice(), 6),
+            (b"m1 bridge a bridge 0  0".as_slice(), 6),
+            (b"m1 bridge a bridge 0 User 0".as_slice(), 6),
+            (b"m1 bridge a bridge 0 framework 0".as_slice(), 6),
+            (b"m1 bridge a bridge 16 framework 16".as_slice(), 6),
+            (b"m1 bridge a leafbridge 1 user 0".as_slice(), 6),
+            (b"m1 bridge a leafbridge 16 framework 0".as_slice(), 6),
+        ],
+    );
+}
+
+/// Each word has the cause of that number at the place, and none where the number is 0.
+fn expect_at(rt: &impl Abort, place: Place, words: &[(&[u8], u8)]) {
+    for (word, cause) in words {
+        let found = match cause_at(place, word) {
+            Some(cause) => cause.number(),
+            None => 0,
+        };
+        assert_eq!(rt; found, *cause);
+    }
+}
+
+#[test]
+fn words_at_the_places_of_operations_to_come(rt: HostRuntime) {
+    let rt = &rt;
+    expect_at(
+        rt,
+        Place::ManagedStatic,
+        &[
+            (b"g0", 0),
+            (b"g15", 0),
+            (b"g16", 3),
+            (b"g00", 3),
+            (b"s0", 3),
+            (b"g", 3),
+        ],
+    );
+    expect_at(
+        rt,
+        Place::PeerStatic,
+        &[
+            (b"s0", 0),
+            (b"s15", 0),
+            (b"s16", 3),
+            (b"s015", 3),
+            (b"g0", 3),
+            (b"", 3),
+        ],
+    );
+    expect_at(
+        rt,
+        Place::Global,
+        &[
+            (b"G0", 0),
+            (b"G63", 0),
+            (b"G64", 3),
+            (b"g0", 3),
+            (b"G1x", 3),
+        ],
+    );
+    expect_at(
+        rt,
+        Place::Cell,
+        &[
+            (b"k0", 0),
+            (b"k63", 0),
+            (b"k64", 3),
+            (b"K0", 3),
+            (b"k-1", 3),
+        ],
+    );
+    let count = Place::Number {
+        least: 1,
+        most: 65_535,
+    };
+    expect_at(
+        rt,
+        count,
+        &[
+            (b"0", 5),
+            (b"1", 0),
+            (b"65535", 0),
+            (b"65536", 5),
+            (b"065535", 4),
+        ],
+    );
+    expect_at(
+        rt,
+        Place::PlainKind,
+        &[
+            (b"plain", 0),
+            (b"leaf", 0),
+            (b"bridge", 6),
+            (b"leafbridge", 6),
+        ],
+    );
+}
+
+/// So many lines of that text.
+fn repeated(alloc: Global, line: &[u8], times: u32) -> Result<Vec<u8>, Fail> {
     let mut lines = Vec::new(alloc);
-    for _ in 0..20_000 {
-        lines.extend_from_slice(b"m1 drop a\n")?;
+    for _ in 0..times {
+        lines.extend_from_slice(line)?;
     }
-    assert_eq!(rt; faulty_line(alloc, &lines), 0);
+    Ok(lines)
+}
+
+#[test]
+fn a_script_has_at_most_so_many_lines(rt: HostRuntime) -> Result<(), Fail> {
+    let alloc = rt.alloc();
+    let mut lines = repeated(alloc, b"m1 drop a\n", 20_000)?;
+    assert_eq!(rt; fault(alloc, &lines), (0, 0));
     lines.extend_from_slice(b"m1 drop a\n")?;
-    assert_eq!(rt; faulty_line(alloc, &lines), 20_001);
-    let mut cycles = Vec::new(alloc);
-    for _ in 0..256 {
-        cycles.extend_from_slice(b"c cycle\n")?;
+    assert_eq!(rt; fault(alloc, &lines), (20_001, 8));
+    let mut faulty = repeated(alloc, b"m1 drop a\n", 20_000)?;
+    faulty.extend_from_slice(b"x\n")?;
+    assert_eq!(rt; fault(alloc, &faulty), (20_001, 8));
+    let mut long = repeated(alloc, b"m1 drop a\n", 20_000)?;
+    long.extend_from_slice(&vec![in alloc; b'x'; 8_188_609]?)?;
+    assert_eq!(rt; fault(alloc, &long), (20_001, 9));
+    Ok(())
+}
+
+#[test]
+fn a_script_has_at_most_so_many_cycles(rt: HostRuntime) -> Result<(), Fail> {
+    let alloc = rt.alloc();
+    for (last, cause) in [
+        (b"m1 drop a".as_slice(), 0),
+        (b"c cycle".as_slice(), 7),
+        (b"c cycle\n".as_slice(), 7),
+        (b"c cycle a".as_slice(), 2),
+        (b"c snap".as_slice(), 1),
+        (b"c cycles".as_slice(), 1),
+    ] {
+        let mut lines = repeated(alloc, b"c cycle\n", 256)?;
+        lines.extend_from_slice(last)?;
+        let line = if cause == 0 { 0 } else { 257 };
+        assert_eq!(rt; fault(alloc, &lines), (line, cause));
     }
-    assert_eq!(rt; faulty_line(alloc, &cycles), 0);
-    cycles.extend_from_slice(b"c cycle")?;
-    assert_eq!(rt; faulty_line(alloc, &cycles), 257);
+    Ok(())
+}
+
+#[test]
+fn a_script_has_at_most_so_many_bytes(rt: HostRuntime) -> Result<(), Fail> {
+    let alloc = rt.alloc();
+    let mut bytes = vec![in alloc; b'x'; 8_388_607]?;
+    bytes.push(b'\n')?;
+    assert_eq!(rt; fault(alloc, &bytes), (1, 1));
+    bytes.extend_from_slice(b"m1 drop i\n")?;
+    assert_eq!(rt; fault(alloc, &bytes), (1, 1));
+    let mut longer = vec![in alloc; b'x'; 8_388_608]?;
+    assert_eq!(rt; fault(alloc, &longer), (1, 1));
+    longer.push(b'\n')?;
+    assert_eq!(rt; fault(alloc, &longer), (1, 9));
+    Ok(())
+}
+
+#[test]
+fn the_calls_on_texts_of_one_line(rt: HostRuntime) -> Result<(), Fail> {
+    let alloc = rt.alloc();
+    for (text, cause) in [
+        (b"m1 set a 007 b\n".as_slice(), Cause::Number),
+        (b"m1 drop\n".as_slice(), Cause::Arity),
+        (b"m1 drop i\n".as_slice(), Cause::Name),
+    ] {
+        let refused = ScriptError::Refused(ScriptFault { line: 1, cause });
+        match parse(alloc, text) {
+            Ok(_) => assert!(rt; false),
+            Err(error) => assert_eq!(rt; error, refused),
+        }
+    }
+    let script = parse(alloc, b"m1 drop a")?;
+    assert_eq!(rt;
+        script_text(alloc, &script)?.as_bytes(),
+        b"m1 drop a\n".as_slice()
+    );
+    Ok(())
+}
+
+#[test]
+fn a_script_is_printed_back(rt: HostRuntime) -> Result<(), Fail> {
+    let alloc = rt.alloc();
+    for text in [
+        b"".as_slice(),
+        LINKED,
+        b"m8 bridge h leafbridge 0 framework 16\nm2 set a 255 -\nc cycle\nm3 bridge a leafbridge 0 user 0\n".as_slice(),
+    ] {
+        let script = parse(alloc, text)?;
+        let printed = script_text(alloc, &script)?;
+        assert_eq!(rt; printed.as_bytes(), text);
+        assert_eq!(rt; parse(alloc, printed.as_bytes())?.len(), script.len());
+    }
     Ok(())
 }
 
@@ -128,8 +509,8 @@ fn a_source_is_read_to_one_byte_past_the_limit(rt: HostRuntime) -> Result<(), Fa
     match read_script(alloc, &mut source) {
         Err(ScriptError::Refused(fault)) => {
             assert_eq!(rt; fault.line, 1);
-            assert_eq!(rt; fault.cause.name(), "unknown");
-            assert_eq!(rt; fault.cause.number(), 1);
+            assert_eq!(rt; fault.cause.name(), "bytes");
+            assert_eq!(rt; fault.cause.number(), 9);
         }
         _ => assert!(rt; false),
     }
@@ -387,14 +768,9 @@ fn entries_have_the_words_of_their_event_and_reply(rt: HostRuntime) {
 }
 
 #[test]
-fn a_turn_is_free(_rt: HostRuntime) {
-    FreeTurn.pass(Thread::C, 1);
-    texts_tell_scripts();
-}
-
-#[test]
 fn each_cause_has_its_number(rt: HostRuntime) {
     for (number, cause, name) in [
+        (1, Cause::Unknown, "unknown"),
         (2, Cause::Arity, "arity"),
         (3, Cause::Name, "name"),
         (4, Cause::Number, "number"),

@@ -2,12 +2,18 @@
 
 ghost use Rattle.std.specs.Prelude.{◌≡◌, ◌≢◌, ℕ, ◌+◌, ◌<◌, ◌≤◌, ◌^◌, ◌==◌, ◌↔◌, List, [], ◌∷◌, length, slice_index, Option, MatchOption, MatchBool, IsTrue, decimal};
 ghost use Rattle.std.specs.List.{slice_split};
-ghost use Rattle.joint_model.specs.Lines.{IsVar, IsVarOrNone};
-ghost use Rattle.bridge_script.specs.Words.{var_text, optional_text};
+ghost use Rattle.joint_model.specs.Lines.{IsThread, IsVar, IsVarOrNone};
+ghost use Rattle.bridge_script.specs.Words.{thread_text, var_text, optional_text, managed_static as managed_static_text, peer_static as peer_static_text, global_text, cell_text, kind_text, sort_text};
+ghost use Rattle.joint_model.specs.declared.names.Thread.{Thread};
 ghost use Rattle.joint_model.specs.declared.names.Var.{Var};
+ghost use Rattle.joint_model.specs.declared.names.StaticNo.{StaticNo};
+ghost use Rattle.joint_model.specs.declared.names.GName.{GName};
+ghost use Rattle.joint_model.specs.declared.names.Cell.{Cell};
+ghost use Rattle.joint_model.specs.declared.names.Kind.{Kind};
+ghost use Rattle.joint_model.specs.declared.names.Sort.{Sort};
 
 use itoa::Buffer;
-use joint_model::Var;
+use joint_model::{Cell, GName, Kind, Sort, StaticNo, Thread, Var};
 use std::marker::Model;
 
 /// The words of a line that are left: it is cut at each single space, so two spaces in a row give an empty
@@ -36,6 +42,31 @@ impl<'a> Words<'a> {
             left: line,
             done: false,
         }
+    }
+
+    /// The same words again.
+    pub fn again(&self) -> Words<'a>
+        ensures { result ≡ self.now }
+    {
+        Words {
+            left: self.left,
+            done: self.done,
+        }
+    }
+
+    /// Whether so many words are left.
+    pub fn has_len(&self, n: usize) -> bool
+        ensures { MatchBool result (length self.now ≡ n) (length self.now ≢ n) }
+    {
+        let mut left = self.again();
+        let mut missing = n;
+        while missing > 0 {
+            if left.next().is_none() {
+                return false;
+            }
+            missing -= 1;
+        }
+        left.is_empty()
     }
 
     /// Takes the next word; None where none is left.
@@ -71,8 +102,73 @@ pub fn first_place(bytes: &[u8], byte: u8) -> usize
     bytes.len()
 }
 
+/// The number behind a letter, below a limit: `g15`, where the letter is `g` and the limit at least 16.
+fn lettered(word: &[u8], letter: u8, below: u64) -> Option<u64>
+    ensures { MatchOption result ((n : ℕ) → n < below → letter ∷ decimal n ≢ word.now) (λ n. (n < below) × (letter ∷ decimal n ≡ word.now)) }
+{
+    if word.is_empty() || word[0] != letter {
+        return None;
+    }
+    let n = number(&word[1..])?;
+    if n < below { Some(n) } else { None }
+}
+
+/// The static of the managed heap that a word names: `g0` to `g15`.
+pub fn managed_static(word: &[u8]) -> Option<StaticNo>
+    ensures { MatchOption result ((x : StaticNo) → x.0 < 16 → managed_static_text x ≢ word.now) (λ x. (x.0 < 16) × (managed_static_text x ≡ word.now)) }
+{
+    Some(StaticNo(lettered(word, b'g', 16)? as u8))
+}
+
+/// The static of the peer heap that a word names: `s0` to `s15`.
+pub fn peer_static(word: &[u8]) -> Option<StaticNo>
+    ensures { MatchOption result ((x : StaticNo) → x.0 < 16 → peer_static_text x ≢ word.now) (λ x. (x.0 < 16) × (peer_static_text x ≡ word.now)) }
+{
+    Some(StaticNo(lettered(word, b's', 16)? as u8))
+}
+
+/// The global name that a word is: `G0` to `G63`.
+pub fn global(word: &[u8]) -> Option<GName>
+    ensures { MatchOption result ((g : GName) → g.0 < 64 → global_text g ≢ word.now) (λ g. (g.0 < 64) × (global_text g ≡ word.now)) }
+{
+    Some(GName(lettered(word, b'G', 64)? as u8))
+}
+
+/// The weak cell that a word names: `k0` to `k63`.
+pub fn cell(word: &[u8]) -> Option<Cell>
+    ensures { MatchOption result ((k : Cell) → k.0 < 64 → cell_text k ≢ word.now) (λ k. (k.0 < 64) × (cell_text k ≡ word.now)) }
+{
+    Some(Cell(lettered(word, b'k', 64)? as u8))
+}
+
+/// The thread that a word names: `m1` to `m8`, `p1` to `p8`, `c`.
+pub fn thread(word: &[u8]) -> Option<Thread>
+    ensures { MatchOption result ((t : Thread) → IsThread t → thread_text t ≢ word.now) (λ t. IsThread t × (thread_text t ≡ word.now)) }
+{
+    if is_same(word, b"c") {
+        return Some(Thread::C);
+    }
+    if let Some(n) = thread_number(word, b'm') {
+        return Some(Thread::M(n));
+    }
+    if let Some(n) = thread_number(word, b'p') {
+        return Some(Thread::P(n));
+    }
+    None
+}
+
+/// The number of a thread, 1 to 8, behind its letter.
+fn thread_number(word: &[u8], letter: u8) -> Option<u8>
+    ensures { MatchOption result ((n : ℕ) → 1 ≤ n → n ≤ 8 → letter ∷ decimal n ≢ word.now) (λ n. (1 ≤ n) × (n ≤ 8) × (letter ∷ decimal n ≡ word.now)) }
+{
+    match lettered(word, letter, 9) {
+        Some(n) if n > 0 => Some(n as u8),
+        _ => None,
+    }
+}
+
 /// The variable that a word names: `a` to `h`.
-fn var(word: &[u8]) -> Option<Var>
+pub fn var(word: &[u8]) -> Option<Var>
     ensures { MatchOption result ((v : Var) → IsVar v → var_text v ≢ word.now) (λ v. IsVar v × (var_text v ≡ word.now)) }
 {
     if word.len() != 1 || word[0] < b'a' || word[0] > b'h' {
@@ -89,7 +185,7 @@ pub fn is_same(a: &[u8], b: &[u8]) -> bool
 }
 
 /// The variable that a word names, or none for the word `-`.
-fn optional(word: &[u8]) -> Option<Option<Var>>
+pub fn optional(word: &[u8]) -> Option<Option<Var>>
     ensures { MatchOption result ((v : Option Var) → IsVarOrNone v → optional_text v ≢ word.now) (λ v. IsVarOrNone v × (optional_text v ≡ word.now)) }
 {
     if is_same(word, b"-") {
@@ -99,7 +195,7 @@ fn optional(word: &[u8]) -> Option<Option<Var>>
 }
 
 /// The number that a word writes, in decimal digits without a needless zero and below 2^64.
-fn number(word: &[u8]) -> Option<u64>
+pub fn number(word: &[u8]) -> Option<u64>
     ensures { MatchOption result ((n : ℕ) → n < 2 ^ 64 → decimal n ≢ word.now) (λ n. (n < 2 ^ 64) × (decimal n ≡ word.now)) }
 {
     let Ok(text) = str::from_utf8(word) else {
@@ -127,45 +223,79 @@ fn small_number(word: &[u8], most: u8) -> Option<u8>
     }
 }
 
+/// The kind that a word names.
+fn kind(word: &[u8]) -> Option<Kind>
+    ensures { MatchOption result ((k : Kind) → kind_text k ≢ word.now) (λ k. kind_text k ≡ word.now) }
+{
+    if is_same(word, b"plain") {
+        return Some(Kind::Plain);
+    }
+    if is_same(word, b"leaf") {
+        return Some(Kind::Leaf);
+    }
+    if is_same(word, b"bridge") {
+        return Some(Kind::Bridge);
+    }
+    if is_same(word, b"leafbridge") {
+        return Some(Kind::LeafBridge);
+    }
+    None
+}
+
+/// The sort that a word names.
+fn sort(word: &[u8]) -> Option<Sort>
+    ensures { MatchOption result ((s : Sort) → sort_text s ≢ word.now) (λ s. sort_text s ≡ word.now) }
+{
+    if is_same(word, b"user") {
+        return Some(Sort::User);
+    }
+    if is_same(word, b"framework") {
+        return Some(Sort::Framework);
+    }
+    None
+}
+
 impl<'a> Words<'a> {
-    /// Takes the next word where it is that text; answers false where it isn't.
-    pub fn take(&mut self, text: &[u8]) -> bool
-        ensures { MatchBool result (self.old ≡ text.now ∷ self.new) ((rest : List (List ℕ)) → self.old ≢ text.now ∷ rest) }
+    /// Takes a thread; None where the next word is none.
+    pub fn take_thread(&mut self) -> Option<Thread>
+        ensures { MatchOption result ((t : Thread) (rest : List (List ℕ)) → IsThread t → self.old ≢ thread_text t ∷ rest) (λ t. IsThread t × (self.old ≡ thread_text t ∷ self.new)) }
     {
-        match self.next() {
-            Some(word) => is_same(word, text),
-            None => false,
-        }
+        thread(self.next()?)
     }
 
     /// Takes a variable; None where the next word is none.
     pub fn take_var(&mut self) -> Option<Var>
         ensures { MatchOption result ((v : Var) (rest : List (List ℕ)) → IsVar v → self.old ≢ var_text v ∷ rest) (λ v. IsVar v × (self.old ≡ var_text v ∷ self.new)) }
     {
-        match self.next() {
-            Some(word) => var(word),
-            None => None,
-        }
+        var(self.next()?)
     }
 
     /// Takes a variable or `-`; None where the next word is neither.
     pub fn take_optional(&mut self) -> Option<Option<Var>>
         ensures { MatchOption result ((v : Option Var) (rest : List (List ℕ)) → IsVarOrNone v → self.old ≢ optional_text v ∷ rest) (λ v. IsVarOrNone v × (self.old ≡ optional_text v ∷ self.new)) }
     {
-        match self.next() {
-            Some(word) => optional(word),
-            None => None,
-        }
+        optional(self.next()?)
     }
 
     /// Takes a number of at most `most`; None where the next word is none.
     pub fn take_number(&mut self, most: u8) -> Option<u8>
         ensures { MatchOption result ((n : ℕ) (rest : List (List ℕ)) → n ≤ most → self.old ≢ decimal n ∷ rest) (λ n. (n ≤ most) × (self.old ≡ decimal n ∷ self.new)) }
     {
-        match self.next() {
-            Some(word) => small_number(word, most),
-            None => None,
-        }
+        small_number(self.next()?, most)
+    }
+
+    /// Takes a kind; None where the next word is none.
+    pub fn take_kind(&mut self) -> Option<Kind>
+        ensures { MatchOption result ((k : Kind) (rest : List (List ℕ)) → self.old ≢ kind_text k ∷ rest) (λ k. self.old ≡ kind_text k ∷ self.new) }
+    {
+        kind(self.next()?)
+    }
+
+    /// Takes a sort; None where the next word is none.
+    pub fn take_sort(&mut self) -> Option<Sort>
+        ensures { MatchOption result ((s : Sort) (rest : List (List ℕ)) → self.old ≢ sort_text s ∷ rest) (λ s. self.old ≡ sort_text s ∷ self.new) }
+    {
+        sort(self.next()?)
     }
 
     /// Whether no word is left.

@@ -18,7 +18,7 @@ returns-in-Err g c =
     let ys = drop c.args.span.first xs in
     let piece : c.bytes.result.now ≡ 32 ∷ letter ∷ decimal c.in-Some.n = piece_of c.bytes.result.now c.lettered.new.self.text c.new-line.result.text c.letter.result letter c.in-Some.n c.bytes.ensures c.lettered.ensures.added c.new-line.ensures.text c.letter.ensures in
     let w = rw piece at c.in-Err.ensures in
-    Writes-into (g.K.Sink.held c.args.out.now) (g.K.Sink.held c.loop-k.out) (g.K.Sink.held c.put.new.out) (g.K.Sink.faults c.args.out.now) (g.K.Sink.faults c.loop-k.out) (g.K.Sink.faults c.put.new.out) c.in-Err.failed
+    Writes-into (g.K.Sink.held c.args.out.now) (g.K.Sink.held c.loop-k.out) (g.K.Sink.held c.write_text.new.out) (g.K.Sink.faults c.args.out.now) (g.K.Sink.faults c.loop-k.out) (g.K.Sink.faults c.write_text.new.out) c.in-Err.failed
     (after_spaces (lettered letter (take c.loop-k.k ys))) (32 ∷ letter ∷ decimal c.in-Some.n) (after_spaces (lettered letter (drop (c.loop-k.k + 1) (take c.args.span.count ys)))) (after_spaces (lettered letter (take c.args.span.count ys)))
     (numbers_split letter ys (c.loop-k.k + 1) c.args.span.count (omega arith) ∙ ap (λ t. t ++ after_spaces (lettered letter (drop (c.loop-k.k + 1) (take c.args.span.count ys)))) (numbers_more letter xs c.args.span.first c.loop-k.k c.in-Some.n c.in-Some.ensures))
     c.loop-k.invariant.so_far c.loop-k.invariant.later w
@@ -31,7 +31,7 @@ loop-k-preserved g c =
     let piece : c.bytes.result.now ≡ 32 ∷ letter ∷ decimal c.in-Some.n = piece_of c.bytes.result.now c.lettered.new.self.text c.new-line.result.text c.letter.result letter c.in-Some.n c.bytes.ensures c.lettered.ensures.added c.new-line.ensures.text c.letter.ensures in
     let w = rw piece at c.in-Ok.ensures in
     record {
-      so_far = Appends-into (g.K.Sink.held c.args.out.now) (g.K.Sink.held c.loop-k.out) (g.K.Sink.held c.put.new.out)
+      so_far = Appends-into (g.K.Sink.held c.args.out.now) (g.K.Sink.held c.loop-k.out) (g.K.Sink.held c.write_text.new.out)
           (after_spaces (lettered letter (take c.loop-k.k ys))) (32 ∷ letter ∷ decimal c.in-Some.n) (after_spaces (lettered letter (take (c.loop-k.k + 1) ys)))
           (numbers_more letter xs c.args.span.first c.loop-k.k c.in-Some.n c.in-Some.ensures) c.loop-k.invariant.so_far w.whole;
       later = omega (arith, w.cause.later);

@@ -1,18 +1,32 @@
-use Rattle.std.proofs.Common.{refl, sym, ◌∙◌, arith, cond}
+use Rattle.std.proofs.Common.{◌<◌, refl, arith, cond, length}
 use Rattle.std.proofs.lemmas.List.Sums.{sum_by_push}
 use Rattle.bridge_script.specs.Scripts.{is_cycle}
-use Rattle.bridge_script.proofs.Texts.{no_more_cycles, script_grown}
+use Rattle.bridge_script.proofs.Texts.{script_grown}
+use Rattle.bridge_script.proofs.Growing.{cycles_first}
 use Rattle.bridge_script.proofs.scripts.Script.grow.Goals as goal
 
 pub returns-then-cycles-gt-MOST_CYCLES : goal.returns-then-cycles-gt-MOST_CYCLES
 returns-then-cycles-gt-MOST_CYCLES c =
     let counted = rw c.self.view_is at c.self.invariant.1 in
-    let read = c.in-Some.ensures in
-    (λ next e s l. no_more_cycles c.args.self.now c.in-Some.line next read.0 (omega (arith, counted)) (e ∙ sym read.1) s, refl)
+    let read = c.in-Ok.ensures in
+    let room : length c.self.inside.lines.items < 20000 = omega arith in
+    rw (c.refusal-then-cycles-gt-MOST_CYCLES.ensures, ← read.1) (refl, cycles_first c.args.self.now c.in-Ok.line c.args.end read.0 (rw c.self.view_is at room) (omega arith) (rw c.self.view_is at c.self.invariant.0).cycles (omega (arith, counted)))
 
 pub invariant_of-self-2 : goal.invariant_of-self-2
 invariant_of-self-2 c =
-    let read = c.in-Some.ensures in
+    let read = c.in-Ok.ensures in
     let counted = c.self.invariant.1 in
-    rw c.in_ok-push.ensures.items
-    (script_grown c.self.inside.lines.items c.in-Some.line c.self.invariant.0 read.0 (omega arith) (omega (arith, counted)), omega (arith, counted, sum_by_push (λ l. cond (is_cycle l) 1 0) c.self.inside.lines.items c.in-Some.line))
+    rw c.in-Ok-push.ensures.items
+    (script_grown c.self.inside.lines.items c.in-Ok.line c.self.invariant.0 read.0 (omega arith) (omega (arith, counted)), omega (arith, counted, sum_by_push (λ l. cond (is_cycle l) 1 0) c.self.inside.lines.items c.in-Ok.line))
+
+pub returns : goal.returns
+returns c =
+    let read = c.in-Ok.ensures in
+    let counted = c.self.invariant.1 in
+    rw (c.in-Ok-push.ensures.items, ← c.self.view_is) record {
+      line = c.in-Ok.line;
+      grown = refl;
+      lawful = script_grown c.self.inside.lines.items c.in-Ok.line c.self.invariant.0 read.0 (omega arith) (omega (arith, counted));
+      read = read.1;
+      size = omega arith;
+    }

@@ -1,7 +1,7 @@
 use Rattle.std.proofs.Common.{take, drop, sym, arith, take-add, take-append-drop, length-drop}
 use Rattle.bridge_script.proofs.Bytes.{rest_of}
 use Rattle.bridge_script.proofs.Written.{Appends-then, Appends-kept}
-use Rattle.bridge_script.proofs.reports.put.Goals as goal
+use Rattle.bridge_script.proofs.reports.write_text.Goals as goal
 
 pub loop-at-preserved : goal.loop-at-preserved
 loop-at-preserved g c =

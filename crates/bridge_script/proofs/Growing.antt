@@ -1,0 +1,101 @@
+-- Whether a script goes on with a line is decided in the order of the causes: bytes and lines exclude all others,
+-- the causes of the words come before that of cycles, and a line that is built has none of its words.
+use Rattle.std.proofs.Common.{◌≡◌, ℕ, ◌+◌, ◌-◌, ◌<◌, ◌≤◌, min, cond, Bool, true, false, List, [], ◌∷◌, ◌++◌, length, take, drop, slice_range, ◌∙◌, ap, refl, arith, subst, lit≤, inl, length-drop}
+use Rattle.std.proofs.lemmas.List.{length-take-le}
+use Rattle.joint_model.specs.declared.names.Thread.{Thread}
+use Rattle.joint_model.specs.declared.lines.Act.{Act}
+use Rattle.bridge_script.specs.declared.faults.Cause.{Cause}
+use Rattle.bridge_script.specs.declared.faults.Cause.TheVariants as cause
+use Rattle.bridge_script.specs.declared.faults.ScriptError.{ScriptError}
+use Rattle.bridge_script.specs.declared.faults.ScriptError.TheVariants.{OutOfMemory, ReadFault, Refused}
+use Rattle.bridge_script.specs.Words.{line_text, line_words}
+use Rattle.bridge_script.specs.Causes.{cause_number}
+use Rattle.bridge_script.specs.Faults.{WordsHave, IsFirst, Has, AskCycle, words_of}
+use Rattle.bridge_script.specs.Scripts.{IsBuilt, IsScript, IsFault, IsRefusal, script_text_of, cycles_of, is_cycle, end_of}
+use Rattle.bridge_script.specs.Steps.{EndsLine, Stops, behind}
+use Rattle.bridge_script.proofs.Built.{built_case, words_of_built}
+use Rattle.bridge_script.proofs.Fitting.{none_of_built}
+use Rattle.bridge_script.proofs.Texts.{no_text, length_so_far}
+
+words_number : (words : List (List ℕ)) (c : Cause) → WordsHave words c → cause_number c ≤ 6
+words_number words cause.Cycles h = absurd h.holds
+words_number words cause.Lines h = absurd h.holds
+words_number words cause.Bytes h = absurd h.holds
+words_number words c h = lit≤ tt
+
+has_within : (old : List (Thread × Act)) (text : List ℕ) (end : ℕ) → length old < 20000 → end ≤ 8388608 → (c : Cause) → WordsHave (words_of text) c → Has (behind old text end) c
+has_within old text end l b cause.Cycles h = absurd h.holds
+has_within old text end l b cause.Lines h = absurd h.holds
+has_within old text end l b cause.Bytes h = absurd h.holds
+has_within old text end l b c h = ((b, omega arith), h)
+
+after_words : (old : List (Thread × Act)) (text : List ℕ) (end : ℕ) → length old < 20000 → end ≤ 8388608 → (c : Cause) → IsFirst (WordsHave (words_of text)) c → (d : Cause) → Has (behind old text end) d → cause_number c ≤ cause_number d
+after_words old text end l b c f cause.Bytes h = absurd (omega arith)
+after_words old text end l b c f cause.Lines h = absurd (omega (arith, h.1))
+after_words old text end l b c f cause.Cycles h = omega (arith, words_number (words_of text) c f.here)
+after_words old text end l b c f d h = f.first d h.1
+
+-- within the bytes and the lines of a script, the first cause of the words is the first
+pub words_first : (old : List (Thread × Act)) (text : List ℕ) (end : ℕ) → length old < 20000 → end ≤ 8388608 → (c : Cause) → IsFirst (WordsHave (words_of text)) c → IsFirst (Has (behind old text end)) c
+words_first old text end l b c f = record { here = has_within old text end l b c f.here; first = after_words old text end l b c f }
+
+after_bytes : (old : List (Thread × Act)) (text : List ℕ) (end : ℕ) → 8388608 < end → (d : Cause) → Has (behind old text end) d → 9 ≤ cause_number d
+after_bytes old text end l cause.Bytes h = lit≤ tt
+after_bytes old text end l cause.Lines h = absurd (omega (arith, h.0))
+after_bytes old text end l d h = absurd (omega (arith, h.0.0))
+
+pub bytes_first : (old : List (Thread × Act)) (text : List ℕ) (end : ℕ) → 8388608 < end → IsFirst (Has (behind old text end)) cause.Bytes
+bytes_first old text end l = record { here = l; first = after_bytes old text end l }
+
+after_lines : (old : List (Thread × Act)) (text : List ℕ) (end : ℕ) → 20000 ≤ length old → (d : Cause) → Has (behind old text end) d → 8 ≤ cause_number d
+after_lines old text end l cause.Bytes h = lit≤ tt
+after_lines old text end l cause.Lines h = lit≤ tt
+after_lines old text end l d h = absurd (omega (arith, h.0.1))
+
+pub lines_first : (old : List (Thread × Act)) (text : List ℕ) (end : ℕ) → 20000 ≤ length old → end ≤ 8388608 → IsFirst (Has (behind old text end)) cause.Lines
+lines_first old text end l b = record { here = (b, omega arith); first = after_lines old text end l }
+
+-- a line that is built and is counted asks for a cycle
+asks : (line : Thread × Act) → IsBuilt line → 0 < cond (is_cycle line) 1 0 → AskCycle (line_words line)
+asks = built_case (λ line. 0 < cond (is_cycle line) 1 0 → AskCycle (line_words line)) (λ n a l m h i e c. absurd (omega arith)) (λ c. inl refl)
+
+after_cycles : (old : List (Thread × Act)) (line : Thread × Act) (end : ℕ) → IsBuilt line → (d : Cause) → Has (behind old (line_text line) end) d → 7 ≤ cause_number d
+after_cycles old line end b cause.Bytes h = lit≤ tt
+after_cycles old line end b cause.Lines h = lit≤ tt
+after_cycles old line end b cause.Cycles h = lit≤ tt
+after_cycles old line end b d h = absurd (none_of_built line b d (rw (words_of_built line b) at h.1))
+
+weigh : (n : ℕ) (b : Bool) → 256 < n + cond b 1 0 → 256 ≤ n
+weigh n true m = omega arith
+weigh n false m = omega arith
+
+-- a line that is built and asks for one cycle too many
+pub cycles_first : (old : List (Thread × Act)) (line : Thread × Act) (end : ℕ) → IsBuilt line → length old < 20000 → end ≤ 8388608 → cycles_of old ≤ 256 → 256 < cycles_of old + cond (is_cycle line) 1 0 → IsFirst (Has (behind old (line_text line) end)) cause.Cycles
+cycles_first old line end b l s c m = record {
+  here = ((s, omega arith), rw (words_of_built line b) (asks line b (omega arith)), weigh (cycles_of old) (is_cycle line) m);
+  first = after_cycles old line end b;
+}
+
+-- why a script doesn't go on with the line that comes next is why the bytes are none
+pub refused : (bytes : List ℕ) (old : List (Thread × Act)) (at end : ℕ) (error : ScriptError) → EndsLine bytes at end → IsScript old → at < length bytes → script_text_of old ≡ take at (bytes ++ 10 ∷ []) → at ≤ 8388608
+    → Stops old (slice_range bytes at end) (min (end + 1) (length bytes)) error → IsRefusal bytes error
+refused bytes old at end OutOfMemory e s l t z h = tt
+refused bytes old at end ReadFault e s l t z h = absurd h
+refused bytes old at end (Refused fault) e s l t z h =
+    let read : length (script_text_of old) ≡ at = ap length t ∙ length_so_far bytes at (omega arith) in
+    let line : length (slice_range bytes at end) ≡ end - at = length-take-le (end - at) (drop at bytes) (omega (arith, e.from, e.within, length-drop at bytes)) in
+    let same : min (end + 1) (length bytes) ≡ end_of bytes (script_text_of old) (slice_range bytes at end) = omega (arith, e.from) in
+    let F : ℕ → Type 0 = λ n. IsFirst (Has (behind old (slice_range bytes at end) n)) fault.cause in
+    let fault' : IsFault bytes fault = record {
+      before = old;
+      line = slice_range bytes at end;
+      rest = drop (end + 1) (bytes ++ 10 ∷ []);
+      stands = rw (t) e.stands;
+      some = omega arith;
+      whole = e.whole;
+      lawful = s;
+      size = omega arith;
+      number = h.0;
+      cause = subst F same h.1;
+    } in
+    (fault', no_text bytes fault fault')
