@@ -1,19 +1,18 @@
 -- The words of a line that is built have no cause. And where the words behind an operation have none, each stands
 -- for something at its place, so an act can be taken from them.
-use Rattle.std.proofs.Common.{◌≡◌, ◌≢◌, ℕ, ◌<◌, ◌≤◌, ◌^◌, true, List, [], ◌∷◌, length, Option, Some, codes, decimal, sym, ◌∙◌, ap, refl, arith, subst, inl, inr}
+use Rattle.std.proofs.Common.{◌≡◌, ◌≢◌, ℕ, ◌≤◌, List, [], ◌∷◌, Option, Some, decimal, sym, ◌∙◌, ap, refl, arith, subst, inl, inr}
 use Rattle.std.proofs.lemmas.Bool.{cases_lt}
-use Rattle.std.proofs.lemmas.Fmt.{decimal_injective, decimal_digit}
+use Rattle.std.proofs.lemmas.Fmt.{decimal_injective}
 use Rattle.std.proofs.lemmas.List.Splits.{join_with_byte-slice_split}
 use Rattle.joint_model.specs.declared.names.Var.{Var}
 use Rattle.joint_model.specs.declared.names.Kind.{Kind}
 use Rattle.joint_model.specs.declared.names.Kind.TheVariants as kind
 use Rattle.joint_model.specs.declared.names.Sort.{Sort}
 use Rattle.joint_model.specs.declared.names.Sort.TheVariants as sort
-use Rattle.joint_model.specs.declared.names.PhaseWord.TheVariants as phase
 use Rattle.joint_model.specs.declared.names.Thread.{Thread}
-use Rattle.joint_model.specs.declared.names.Thread.TheVariants.{M}
+use Rattle.joint_model.specs.declared.names.Thread.TheVariants.{M, P, C}
 use Rattle.joint_model.specs.declared.lines.Act.{Act}
-use Rattle.joint_model.specs.Lines.{IsVar, IsVarOrNone, IsThread, IsManagedAct, IsBridgeObject}
+use Rattle.joint_model.specs.Lines.{IsVar, IsVarOrNone, IsThread, IsLine, IsBridgeObject}
 use Rattle.bridge_script.specs.declared.faults.Cause.{Cause}
 use Rattle.bridge_script.specs.declared.faults.Cause.TheVariants as cause
 use Rattle.bridge_script.specs.declared.grammar.Operation.{Operation}
@@ -21,130 +20,23 @@ use Rattle.bridge_script.specs.declared.grammar.Operation.TheVariants as operati
 use Rattle.bridge_script.specs.declared.grammar.Place.{Place}
 use Rattle.bridge_script.specs.declared.grammar.Place.TheVariants as place
 use Rattle.bridge_script.specs.Words.{thread_text, var_text, optional_text, kind_text, sort_text, act_words, line_words, line_text, spaced}
-use Rattle.bridge_script.specs.Grammar.{operation_of, managed_form, is_built_managed, fields, index}
-use Rattle.bridge_script.specs.Faults.{HasAt, HasAtSome, Clashes, PlacesHave, Reads, WordsHave, words_of}
-use Rattle.bridge_script.specs.Scripts.{IsIndexed, IsBuilt}
-use Rattle.bridge_script.proofs.Built.{managed_case, built_case}
+use Rattle.bridge_script.specs.Grammar.{operation_of, managed_form}
+use Rattle.bridge_script.specs.Faults.{HasAt, HasAtSome, PlacesHave, Reads, WordsHave, words_of}
+use Rattle.bridge_script.specs.Scripts.{IsBuilt}
 use Rattle.bridge_script.proofs.Readings.{has_behind}
+use Rattle.bridge_script.proofs.Table.{fits_table, zero_text}
 
--- a word has no cause at a place
-abbrev pub Fits : Place → List ℕ → Type 0
-Fits p w = (c : Cause) → HasAt c p w → ⊥
-
-fits_var : (v : Var) → IsVar v → Fits place.Var (var_text v)
-fits_var v b cause.Name h = h v b refl
-fits_var v b c h = absurd h
-
-fits_optional : (v : Option Var) → IsVarOrNone v → Fits place.VarOrNone (optional_text v)
-fits_optional v b cause.Name h = h v b refl
-fits_optional v b c h = absurd h
-
-pub fits_number : (least most n : ℕ) → n < 2 ^ 64 → least ≤ n → n ≤ most → Fits (place.Number least most) (decimal n)
-fits_number least most n l a b cause.Number h = h n l refl
-fits_number least most n l a b cause.Limit h =
-    let e = decimal_injective h.0 n h.1 l h.2 in
-    elim h.3 [ inl p ↦ omega arith | inr p ↦ omega arith ]
-fits_number least most n l a b c h = absurd h
-
-fits_bridge : Fits place.BridgeKind (codes "bridge")
-fits_bridge cause.Kind h = h.0 refl
-fits_bridge c h = absurd h
-
-fits_leaf : Fits place.BridgeKind (codes "leafbridge")
-fits_leaf cause.Kind h = h.1 refl
-fits_leaf c h = absurd h
-
-fits_user : Fits place.Sort (codes "user")
-fits_user cause.Kind h = h.0 refl
-fits_user c h = absurd h
-
-fits_framework : Fits place.Sort (codes "framework")
-fits_framework cause.Kind h = h.1 refl
-fits_framework c h = absurd h
-
--- no word at these places has a cause
-record FitAll (ps : List Place) (ws : List (List ℕ)) : Type 0 where
-  pub none : (c : Cause) → HasAtSome c ps ws → ⊥
-
-fit_none : FitAll [] []
-fit_none = record { none = λ c h. absurd h }
-
-fit_more : (p : Place) (ps : List Place) (w : List ℕ) (ws : List (List ℕ)) → Fits p w → FitAll ps ws → FitAll (p ∷ ps) (w ∷ ws)
-fit_more p ps w ws f g = record { none = λ c h. elim h [ inl x ↦ f c x | inr x ↦ g.none c x ] }
-
-none_behind : (o : Operation) (ps : List Place) (ws : List (List ℕ)) → length ws ≡ length ps → FitAll ps ws → (Clashes o ws → ⊥) → (c : Cause) → PlacesHave o ps ws c → ⊥
-none_behind o ps ws l f n cause.Arity h = h l
-none_behind o ps ws l f n cause.Name h = f.none cause.Name h
-none_behind o ps ws l f n cause.Number h = f.none cause.Number h
-none_behind o ps ws l f n cause.Limit h = f.none cause.Limit h
-none_behind o ps ws l f n cause.Kind h = elim h [ inl x ↦ f.none cause.Kind x | inr x ↦ n x ]
-none_behind o ps ws l f n c h = absurd h
-
--- the words of a line begin with its thread and operation, and have no cause behind them
-record Stands (line : Thread × Act) : Type 0 where
-  pub places : List Place
-  pub rest : List (List ℕ)
-  pub reads : Reads (line_words line) line.0 (operation_of line.1) places rest
-  pub none : (c : Cause) → PlacesHave (operation_of line.1) places rest c → ⊥
-
-abbrev bridge_places : List Place
-bridge_places = place.Var ∷ place.BridgeKind ∷ fields ∷ place.Sort ∷ fields ∷ []
-
-abbrev set_places : List Place
-set_places = place.Var ∷ index ∷ place.VarOrNone ∷ []
-
-zero_text : decimal 0 ≡ codes "0"
-zero_text = decimal_digit 0 (omega arith)
-
-stands_managed : (n : ℕ) → IsThread (M n) → (a : Act) → IsManagedAct a → IsIndexed a → is_built_managed (operation_of a) ≡ true → Stands (M n, a)
-stands_managed n l = managed_case (λ a. Stands (M n, a))
-    (λ v k f bv bk bf. record {
-      places = bridge_places;
-      rest = var_text v ∷ codes "bridge" ∷ decimal k ∷ codes "user" ∷ decimal f ∷ [];
-      reads = record { thread = l; form = refl; built = refl; begins = refl };
-      none = none_behind operation.Bridge bridge_places (var_text v ∷ codes "bridge" ∷ decimal k ∷ codes "user" ∷ decimal f ∷ []) refl (fit_more _ _ _ _ (fits_var v bv) (fit_more _ _ _ _ fits_bridge (fit_more _ _ _ _ (fits_number 0 16 k (omega arith) (omega arith) bk) (fit_more _ _ _ _ fits_user (fit_more _ _ _ _ (fits_number 0 16 f (omega arith) (omega arith) bf) fit_none)))))
-          (λ h. elim h [ inl x ↦ (let e = x.0 in absurd (cc)) | inr x ↦ (let e = x.1 in absurd (cc)) ]);
-    })
-    (λ v f bv bf. record {
-      places = bridge_places;
-      rest = var_text v ∷ codes "leafbridge" ∷ decimal 0 ∷ codes "user" ∷ decimal f ∷ [];
-      reads = record { thread = l; form = refl; built = refl; begins = refl };
-      none = none_behind operation.Bridge bridge_places (var_text v ∷ codes "leafbridge" ∷ decimal 0 ∷ codes "user" ∷ decimal f ∷ []) refl (fit_more _ _ _ _ (fits_var v bv) (fit_more _ _ _ _ fits_leaf (fit_more _ _ _ _ (fits_number 0 16 0 (omega arith) (omega arith) (omega arith)) (fit_more _ _ _ _ fits_user (fit_more _ _ _ _ (fits_number 0 16 f (omega arith) (omega arith) bf) fit_none)))))
-          (λ h. elim h [ inl x ↦ x.1 zero_text | inr x ↦ (let e = x.1 in absurd (cc)) ]);
-    })
-    (λ v f bv bf. record {
-      places = bridge_places;
-      rest = var_text v ∷ codes "leafbridge" ∷ decimal 0 ∷ codes "framework" ∷ decimal f ∷ [];
-      reads = record { thread = l; form = refl; built = refl; begins = refl };
-      none = none_behind operation.Bridge bridge_places (var_text v ∷ codes "leafbridge" ∷ decimal 0 ∷ codes "framework" ∷ decimal f ∷ []) refl (fit_more _ _ _ _ (fits_var v bv) (fit_more _ _ _ _ fits_leaf (fit_more _ _ _ _ (fits_number 0 16 0 (omega arith) (omega arith) (omega arith)) (fit_more _ _ _ _ fits_framework (fit_more _ _ _ _ (fits_number 0 16 f (omega arith) (omega arith) bf) fit_none)))))
-          (λ h. elim h [ inl x ↦ x.1 zero_text | inr x ↦ (let e = x.0 in absurd (cc)) ]);
-    })
-    (λ v i w bv bi bw. record {
-      places = set_places;
-      rest = var_text v ∷ decimal i ∷ optional_text w ∷ [];
-      reads = record { thread = l; form = refl; built = refl; begins = refl };
-      none = none_behind operation.Set set_places (var_text v ∷ decimal i ∷ optional_text w ∷ []) refl (fit_more _ _ _ _ (fits_var v bv) (fit_more _ _ _ _ (fits_number 0 255 i (omega arith) (omega arith) bi) (fit_more _ _ _ _ (fits_optional w bw) fit_none))) (λ h. absurd h);
-    })
-    (λ v bv. record {
-      places = place.Var ∷ [];
-      rest = var_text v ∷ [];
-      reads = record { thread = l; form = refl; built = refl; begins = refl };
-      none = none_behind operation.Drop (place.Var ∷ []) (var_text v ∷ []) refl (fit_more _ _ _ _ (fits_var v bv) fit_none) (λ h. absurd h);
-    })
-
-stands_built : (line : Thread × Act) → IsBuilt line → Stands line
-stands_built = built_case (λ line. Stands line)
-    (λ n a l m x i e. stands_managed n (l, m) a x i e)
-    record {
-      places = [];
-      rest = [];
-      reads = record { thread = tt; form = refl; built = refl; begins = refl };
-      none = none_behind (operation.Phase phase.Cycle) [] [] refl fit_none (λ h. absurd h);
-    }
+lawful_thread : (t : Thread) (a : Act) → IsLine t a → IsThread t
+lawful_thread (M n) a l = l.0
+lawful_thread (P n) a l = l.0
+lawful_thread C a l = tt
 
 -- the words of a line that is built have no cause
 pub none_of_built : (line : Thread × Act) → IsBuilt line → (c : Cause) → WordsHave (line_words line) c → ⊥
-none_of_built line b c h = let s = stands_built line b in s.none c (has_behind (line_words line) line.0 (operation_of line.1) s.places s.rest s.reads c h)
+none_of_built line b c h =
+    let f = fits_table line.0 line.1 b.lawful b.indexed in
+    let reads : Reads (line_words line) line.0 (operation_of line.1) f.places f.rest = record { thread = lawful_thread line.0 line.1 b.lawful; form = f.form; built = b.built; begins = ap (λ ws. thread_text line.0 ∷ ws) f.words } in
+    f.none c (has_behind (line_words line) line.0 (operation_of line.1) f.places f.rest reads c h)
 
 -- the words behind an operation of a managed thread have no cause
 abbrev pub Free : Operation → List (List ℕ) → Type 0

@@ -1,12 +1,15 @@
 -- Laws on the texts of scripts.
-use Rattle.std.specs.Prelude.{◌≡◌, ℕ, ◌≤◌, ◌⊎◌, List, [], ◌∷◌, ◌++◌}
+use Rattle.std.specs.Prelude.{◌≡◌, ℕ, ◌≤◌, ◌⊎◌, List, [], ◌∷◌, ◌++◌, Some}
 use Rattle.joint_model.specs.declared.names.Thread.{Thread}
 use Rattle.joint_model.specs.declared.lines.Act.{Act}
 use Rattle.bridge_script.specs.declared.faults.Cause.{Cause}
+use Rattle.joint_model.specs.Lines.{IsLine}
 use Rattle.bridge_script.specs.declared.faults.ScriptFault.{ScriptFault}
-use Rattle.bridge_script.specs.Words.{line_text}
-use Rattle.bridge_script.specs.Faults.{Has}
-use Rattle.bridge_script.specs.Scripts.{IsScript, IsText, IsFault, IsNoText, script_text_of, standing, end_of}
+use Rattle.bridge_script.specs.declared.grammar.Place.{Place}
+use Rattle.bridge_script.specs.Words.{act_words, line_text}
+use Rattle.bridge_script.specs.Grammar.{operation_text, operation_of, form_of}
+use Rattle.bridge_script.specs.Faults.{PlacesHave, Has}
+use Rattle.bridge_script.specs.Scripts.{IsIndexed, IsScript, IsText, IsFault, IsNoText, script_text_of, standing, end_of}
 
 -- a text is a text of one script
 abbrev pub HasOneScript : Type 0
@@ -32,3 +35,16 @@ HasOneFault = (bytes : List ℕ) (f g : ScriptFault) → IsFault bytes f → IsF
 abbrev pub ScriptHasNoCause : Type 0
 ScriptHasNoCause = (bytes : List ℕ) (before : List (Thread × Act)) (next : Thread × Act) → IsScript (before ++ next ∷ []) → end_of bytes (script_text_of before) (line_text next) ≤ 8388608
     → (c : Cause) → Has (standing bytes before (line_text next)) c → ⊥
+
+-- a line fits the table of operations: its thread has the operation, and the words behind it have no cause at the
+-- operation's places
+pub record FitsTable (t : Thread) (a : Act) : Type 0 where
+  pub places : List Place
+  pub rest : List (List ℕ)
+  pub form : form_of t (operation_of a) ≡ Some places
+  pub words : act_words t a ≡ operation_text (operation_of a) ∷ rest
+  pub none : (c : Cause) → PlacesHave (operation_of a) places rest c → ⊥
+
+-- each line that a script can ever have, built or not, fits the table
+abbrev pub LinesFitTable : Type 0
+LinesFitTable = (t : Thread) (a : Act) → IsLine t a → IsIndexed a → FitsTable t a

@@ -42,7 +42,7 @@ mod tests;
 mod words;
 
 pub use faults::{Cause, ScriptError, ScriptFault};
-pub use laws::texts_tell_scripts;
+pub use laws::{lines_fit_table, texts_tell_scripts};
 pub use memory::{ByteSink, ByteSource, CountSink, PlainSource};
 pub use outside::{Failed, FreeTurn, Sink, Source, Turnstile};
 pub use printing::script_text;

@@ -1,6 +1,6 @@
 use Rattle.std.proofs.Common.{ℕ, List, subst}
 use Rattle.bridge_script.specs.declared.grammar.Place.TheVariants as place
-use Rattle.bridge_script.proofs.Fitting.{Fits, fits_number}
+use Rattle.bridge_script.proofs.Table.{Fits, fits_number}
 use Rattle.bridge_script.proofs.checks.number_cause.Goals as goal
 
 pub returns-in-Some-2 : goal.returns-in-Some-2
