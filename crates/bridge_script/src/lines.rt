@@ -23,15 +23,9 @@ pub fn read_line(text: &[u8]) -> Result<(Thread, Act), Cause>
         return Err(Cause::Unknown);
     };
     match thread {
-        Thread::M(_) => match read_managed(&mut words) {
-            Ok(act) => Ok((thread, act)),
-            Err(cause) => Err(cause),
-        },
+        Thread::M(_) => Ok((thread, read_managed(&mut words)?)),
         Thread::P(_) => Err(Cause::Unknown),
-        Thread::C => match read_driver(&mut words) {
-            Ok(act) => Ok((thread, act)),
-            Err(cause) => Err(cause),
-        },
+        Thread::C => Ok((thread, read_driver(&mut words)?)),
     }
 }
 
@@ -72,9 +66,7 @@ fn read_bridge(words: &mut Words) -> Result<Act, Cause>
     ensures { ReadsManaged (codes "bridge" ∷ words.old) result }
 {
     let places = [Place::Var, Place::BridgeKind, FIELDS, Place::Sort, FIELDS];
-    if let Err(cause) = check(Operation::Bridge, &places, words) {
-        return Err(cause);
-    }
+    check(Operation::Bridge, &places, words)?;
     match take_bridge(words) {
         Some(act) => Ok(act),
         None => unreachable!(),
@@ -120,13 +112,11 @@ fn is_bridge_object(kind: Kind, fields: u8, sort: Sort) -> bool
 fn read_set(words: &mut Words) -> Result<Act, Cause>
     ensures { ReadsManaged (codes "set" ∷ words.old) result }
 {
-    if let Err(cause) = check(
+    check(
         Operation::Set,
         &[Place::Var, INDEX, Place::VarOrNone],
         words,
-    ) {
-        return Err(cause);
-    }
+    )?;
     match take_set(words) {
         Some(act) => Ok(act),
         None => unreachable!(),
@@ -151,9 +141,7 @@ fn take_set(words: &mut Words) -> Option<Act>
 fn read_drop(words: &mut Words) -> Result<Act, Cause>
     ensures { ReadsManaged (codes "drop" ∷ words.old) result }
 {
-    if let Err(cause) = check(Operation::Drop, &[Place::Var], words) {
-        return Err(cause);
-    }
+    check(Operation::Drop, &[Place::Var], words)?;
     match take_drop(words) {
         Some(act) => Ok(act),
         None => unreachable!(),
@@ -177,8 +165,6 @@ fn read_phase(word: PhaseWord, words: &mut Words) -> Result<Act, Cause>
     requires { is_built_driver (Operation.Phase word) ≡ true }
     ensures { ReadsDriver (phase_word_text word ∷ words.old) result }
 {
-    if let Err(cause) = check(Operation::Phase(word), &[], words) {
-        return Err(cause);
-    }
+    check(Operation::Phase(word), &[], words)?;
     Ok(Act::PhaseLine { word })
 }

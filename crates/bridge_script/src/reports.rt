@@ -19,10 +19,7 @@ pub fn write_text<K: Sink>(out: &mut K, text: &[u8]) -> Result<(), Failed>
 {
     let mut at = 0;
     while at < text.len() {
-        match out.write(&text[at..]) {
-            Ok(count) => at += count,
-            Err(failed) => return Err(failed),
-        }
+        at += out.write(&text[at..])?;
     }
     Ok(())
 }
@@ -42,10 +39,7 @@ fn write_numbers<K: Sink>(
         };
         let mut line = Line::new();
         line.lettered(numbers.letter(), n as u64);
-        match write_text(out, line.bytes()) {
-            Ok(()) => {}
-            Err(failed) => return Err(failed),
-        }
+        write_text(out, line.bytes())?;
     }
     Ok(())
 }
@@ -73,14 +67,8 @@ fn write_listed<K: Sink>(
 ) -> Result<(), Failed>
     ensures { Writes (K.held out.old) (K.held out.new) (K.faults out.old) (K.faults out.new) result (head.now ++ (after_spaces (list_words h.now list.0 list.1) ++ tail.now)) }
 {
-    match write_text(out, head) {
-        Ok(()) => {}
-        Err(failed) => return Err(failed),
-    }
-    match write_list(h, list.0, list.1, out) {
-        Ok(()) => {}
-        Err(failed) => return Err(failed),
-    }
+    write_text(out, head)?;
+    write_list(h, list.0, list.1, out)?;
     write_text(out, tail)
 }
 
@@ -111,10 +99,7 @@ fn write_entries<K: Sink>(h: &History, out: &mut K) -> Result<(), Failed>
         let Some(entry) = h.entry(i) else {
             unreachable!();
         };
-        match write_entry(h, &entry, out) {
-            Ok(()) => {}
-            Err(failed) => return Err(failed),
-        }
+        write_entry(h, &entry, out)?;
     }
     Ok(())
 }
@@ -125,10 +110,7 @@ fn write_entries<K: Sink>(h: &History, out: &mut K) -> Result<(), Failed>
 pub fn write_report<K: Sink>(h: &History, out: &mut K) -> Result<(), Failed>
     ensures { Writes (K.held out.old) (K.held out.new) (K.faults out.old) (K.faults out.new) result (report h.now) }
 {
-    match write_entries(h, out) {
-        Ok(()) => {}
-        Err(failed) => return Err(failed),
-    }
+    write_entries(h, out)?;
     let mut line = Line::new();
     line.text(b"end ");
     line.number(h.len());

@@ -170,10 +170,8 @@ pub fn parse(alloc: Global, bytes: &[u8]) -> Result<Script, ScriptError>
     let mut at = 0;
     while at < bytes.len() {
         let end = line_end(bytes, at);
-        match script.grow(&bytes[at..end], (end + 1).min(bytes.len())) {
-            Ok(()) => at = end + 1,
-            Err(error) => return Err(error),
-        }
+        script.grow(&bytes[at..end], (end + 1).min(bytes.len()))?;
+        at = end + 1;
     }
     Ok(script)
 }

@@ -5,8 +5,10 @@ use Rattle.bridge_script.specs.declared.grammar.Place.TheVariants as place
 use Rattle.bridge_script.specs.Grammar.{fields}
 use Rattle.bridge_script.specs.Words.{thread_text}
 use Rattle.bridge_script.proofs.Readings.{first_behind}
+use Rattle.bridge_script.proofs.Passing.{passed_on}
 use Rattle.bridge_script.proofs.lines.read_bridge.Goals as goal
 
-pub returns-in-Err : goal.returns-in-Err
-returns-in-Err c = λ n l. first_behind (thread_text (M n) ∷ codes "bridge" ∷ c.args.words.now) (M n) operation.Bridge (place.Var ∷ place.BridgeKind ∷ fields ∷ place.Sort ∷ fields ∷ []) c.args.words.now
-    record { thread = l; form = refl; built = refl; begins = refl } c.in-Err.cause c.in-Err.ensures
+pub returns-in_err-check : goal.returns-in_err-check
+returns-in_err-check c = λ n l. rw (passed_on c.from_residual.result c.in_err-check.field-0.0 c.from_residual.ensures.0 c.from_residual.ensures.1)
+    (first_behind (thread_text (M n) ∷ codes "bridge" ∷ c.args.words.now) (M n) operation.Bridge (place.Var ∷ place.BridgeKind ∷ fields ∷ place.Sort ∷ fields ∷ []) c.args.words.now
+    record { thread = l; form = refl; built = refl; begins = refl } c.in_err-check.field-0.0 c.in_err-check.ensures)
