@@ -1,5 +1,5 @@
 -- The events of a script's lines are those of the first steps.
-use Rattle.std.proofs.Common.{◌≡◌, ℕ, ◌+◌, List, [], ◌∷◌, All, sym, ap, ◌∙◌, subst, arith}
+use Rattle.std.proofs.Common.{◌≡◌, ℕ, ◌+◌, Bool, true, false, List, [], ◌∷◌, All, sym, ap, ◌∙◌, subst, arith}
 use Rattle.std.proofs.lemmas.List.Elements.{All-nil, All-cons, All-head, All-tail, All-append, All-weaker}
 use Rattle.joint_model.specs.declared.names.Thread.{Thread}
 use Rattle.joint_model.specs.declared.names.Thread.TheVariants.{M, P, C}
@@ -38,28 +38,24 @@ adopts-first : (k : ℕ) (v : Var) (kind : Kind) (n : ℕ) (r : Reply) → IsMan
 adopts-first k v kind n (says.Made p h) thread = All-cons (IsFirstEvent (M k)) (op.Adopt v kind n p h) [] thread (All-nil (IsFirstEvent (M k)))
 adopts-first k v kind n _ thread = All-nil (IsFirstEvent (M k))
 
--- a managed thread of a line that is built
-thread-built : (k : ℕ) (a : Act) → IsBuilt (M k, a) → IsManagedThread (M k)
-thread-built k a built = (omega (arith, built.0), omega (arith, built.0))
-
 -- the events of a line that is built
 line-first : (t : Thread) (a : Act) (es : List Entry) → IsBuilt (t, a) → AreEvents a es → All (IsFirstEvent t) (events_of es)
 line-first (M k) (act.Bridge v kind n sort f) es built h =
-    let thread = thread-built k (act.Bridge v kind n sort f) built in
+    let thread : IsManagedThread (M k) = built.lawful.0 in
     let events : events_of es ≡ op.Make sort f ∷ adopts v kind n h.make.made.reply =
     ap events_of h.all ∙ ap (λ o. o ∷ events_of h.rest) h.makes ∙ ap (λ l. op.Make sort f ∷ l) h.adopted in
     subst (λ l. All (IsFirstEvent (M k)) l) (sym events) (All-cons (IsFirstEvent (M k)) (op.Make sort f) (adopts v kind n h.make.made.reply) thread (adopts-first k v kind n h.make.made.reply thread))
-line-first (M k) (act.Set v i w) es built h = rw (h) (All-cons (IsFirstEvent (M k)) (op.Line (act.Set v i w)) [] (thread-built k (act.Set v i w) built, tt) (All-nil (IsFirstEvent (M k))))
-line-first (M k) (act.Drop v) es built h = rw (h) (All-cons (IsFirstEvent (M k)) (op.Line (act.Drop v)) [] (thread-built k (act.Drop v) built, tt) (All-nil (IsFirstEvent (M k))))
-line-first (M k) _ es built h = absurd built.1
-line-first (P k) a es built h = absurd built
+line-first (M k) (act.Set v i w) es built h = rw (h) (All-cons (IsFirstEvent (M k)) (op.Line (act.Set v i w)) [] (built.lawful.0, tt) (All-nil (IsFirstEvent (M k))))
+line-first (M k) (act.Drop v) es built h = rw (h) (All-cons (IsFirstEvent (M k)) (op.Line (act.Drop v)) [] (built.lawful.0, tt) (All-nil (IsFirstEvent (M k))))
+line-first (M k) _ es built h = absurd (let no : false ≡ true = built.built in cc)
+line-first (P k) a es built h = absurd (let no : false ≡ true = built.built in cc)
 line-first C (act.PhaseLine word.Cycle) es built h =
     rw (h.phases) (All-cons of_c (op.Snap h.cycle) (op.Begin ∷ op.Sweep ∷ op.Resolve h.cycle ∷ []) tt (All-cons of_c op.Begin (op.Sweep ∷ op.Resolve h.cycle ∷ []) tt (All-cons of_c op.Sweep (op.Resolve h.cycle ∷ []) tt (All-cons of_c (op.Resolve h.cycle) [] tt (All-nil of_c)))))
   where
     of_c : Op → Type 0
     of_c o = IsFirstEvent C o
-line-first C (act.PhaseLine _) es built h = absurd built
-line-first C _ es built h = absurd built
+line-first C (act.PhaseLine _) es built h = absurd (let no : false ≡ true = built.built in cc)
+line-first C _ es built h = absurd (let no : false ≡ true = built.built in cc)
 
 -- the events of all lines
 lines-first : (number : ℕ) (lines : List (Thread × Act)) (es : List Entry) → All IsBuilt lines → HoldsLines number lines es → All IsFirst es
@@ -77,12 +73,8 @@ held-first number lines noted built h = entries-first noted (lines-first number 
 
 -- the fields of lines that are built have short numbers
 line-short : (t : Thread) (a : Act) → IsBuilt (t, a) → HasShortField (op.Line a)
-line-short (M k) (act.Set v i w) built = omega (arith, built.1.1)
-line-short (M k) (act.Get v w i) built = absurd built.1
-line-short (P k) (act.Set v i w) built = absurd built
-line-short (P k) (act.Get v w i) built = absurd built
-line-short C (act.Set v i w) built = absurd built
-line-short C (act.Get v w i) built = absurd built
+line-short t (act.Set v i w) built = omega (arith, built.indexed)
+line-short t (act.Get v w i) built = omega (arith, built.indexed)
 line-short t _ built = tt
 
 pub built-short : (lines : List (Thread × Act)) → All IsBuilt lines → All (λ (line : Thread × Act). HasShortField (op.Line line.1)) lines

@@ -1,5 +1,5 @@
 -- A run that has done some lines of a script, and what its history is when all are done.
-use Rattle.std.proofs.Common.{◌≡◌, ℕ, ◌+◌, ◌<◌, zero, suc, List, [], ◌∷◌, ◌++◌, length, take, Some, refl, sym, ap, ◌∙◌, subst, arith}
+use Rattle.std.proofs.Common.{Bool, true, false, ◌≡◌, ℕ, ◌+◌, ◌<◌, zero, suc, List, [], ◌∷◌, ◌++◌, length, take, Some, refl, sym, ap, ◌∙◌, subst, arith}
 use Rattle.std.specs.Prelude.{All, slice_get, slice_index_or}
 use Rattle.std.proofs.Common.{inl, inr}
 use Rattle.std.proofs.lemmas.List.{map-append}
@@ -103,10 +103,10 @@ pub driver-line : (t : Thread) (a : Act) (w : PhaseWord) → a ≡ act.PhaseLine
 driver-line t a w is built = rw (is) (by t w (rw (is) at built))
   where
     by : (t : Thread) (w : PhaseWord) → IsBuilt (t, act.PhaseLine w) → ◌≡◌ {A = Thread × Act} (t, act.PhaseLine w) (C, act.PhaseLine word.Cycle)
-    by (M n) w built = absurd built.1
-    by (P n) w built = absurd built
+    by (M n) w built = absurd built.lawful.1
+    by (P n) w built = absurd built.lawful.1
     by C word.Cycle built = refl
-    by C _ built = absurd built
+    by C _ built = absurd (let no : false ≡ true = built.built in cc)
 
 -- the line with a number is the one in the place before it
 pub line-there : (script : List (Thread × Act)) (number place : ℕ) → number ≡ place + 1 → line_at script number ≡ slice_get script place

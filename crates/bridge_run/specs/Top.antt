@@ -1,5 +1,5 @@
 -- What the top call promises: which words are a command, and what each status tells.
-use Rattle.std.specs.Prelude.{◌≡◌, ◌⊎◌, ℕ, List, [], ◌∷◌, Option, codes}
+use Rattle.std.specs.Prelude.{◌≡◌, ◌⊎◌, ℕ, List, [], ◌∷◌, Option, Some, codes}
 use Rattle.std.specs.Io.KnownBytes.{Appends}
 use Rattle.joint_model.specs.declared.names.Thread.{Thread}
 use Rattle.joint_model.specs.declared.lines.Act.{Act}
@@ -11,7 +11,8 @@ use Rattle.joint_model.specs.Run.{Moment, IsRun}
 use Rattle.joint_model.specs.Told.{Noted}
 use Rattle.bridge_script.specs.declared.faults.ScriptFault.{ScriptFault}
 use Rattle.bridge_script.specs.Causes.{fault_text}
-use Rattle.bridge_script.specs.Outside.{AppendsPart}
+use Rattle.bridge_script.specs.Outside.{AppendsPart, Rose}
+use Rattle.bridge_script.specs.Scripts.{IsText}
 use Rattle.bridge_script.specs.Reading.{TookScript, TookFault}
 use Rattle.bridge_script.specs.Report.{report}
 use Rattle.script_histories.specs.Holding.{HoldsLines, AllCyclesEnd}
@@ -77,3 +78,13 @@ pub record UsagePart (words : List (List ℕ)) (held after : Option (List ℕ)) 
 -- the writing of one of the three texts broke off: for words that are no command it was the usage line, else one of the others
 abbrev pub BrokeOff : List (List ℕ) → Option (List ℕ) → Option (List ℕ) → Option (List ℕ) → Option (List ℕ) → Type 0
 BrokeOff words left rest held after = UsagePart words held after ⊎ (IsSerial words × (RefusedPart left rest held after ⊎ PrintedPart left rest held after))
+
+-- the words are a command, the source has a script's text, and neither count of faults rose
+pub record MayRun (words : List (List ℕ)) (left : Option (List ℕ)) (read_before read_now write_before write_now : ℕ) : Type 0 where
+  pub command : IsSerial words
+  pub script : List (Thread × Act)
+  pub input : List ℕ
+  pub gives : left ≡ Some input
+  pub text : IsText input script
+  pub read : Rose read_before read_now → ⊥
+  pub written : Rose write_before write_now → ⊥

@@ -90,7 +90,7 @@ fn the_first_faulty_line_is_named(rt: HostRuntime) -> Result<(), Fail> {
     let text = b"m1 drop a\nm1 drop i\nm1 jump a\n";
     let status = status_of(&rt, alloc, &["serial"], text, &[], &mut out)?;
     assert_eq!(rt; status, 3);
-    assert_eq!(rt; out.bytes(), b"line 2: cause 1 unknown\n".as_slice());
+    assert_eq!(rt; out.bytes(), b"line 2: cause 3 name\n".as_slice());
     Ok(())
 }
 
@@ -149,7 +149,9 @@ fn places_are_taken_up_to_their_limits(rt: HostRuntime) -> Result<(), Fail> {
         (b"m1 set h 255 h\n".as_slice(), 0),
         (b"m1 set h 256 h\n".as_slice(), 3),
         (b"m1 set h 255 i\n".as_slice(), 3),
-        (b"m2 drop h\n".as_slice(), 3),
+        (b"m8 drop h\n".as_slice(), 0),
+        (b"m9 drop h\n".as_slice(), 3),
+        (b"p1 drop h\n".as_slice(), 3),
     ] {
         let mut out = ByteSink::new(alloc, 100, Vec::new(alloc));
         let status = status_of(&rt, alloc, &["serial"], text, &[], &mut out)?;
@@ -215,5 +217,91 @@ fn writers_that_fail_or_take_nothing_are_sinks_that_fail(rt: HostRuntime) -> Res
     let mut full = StdSink::new(Full);
     let status = bridge_main(&rt, alloc, &words, &mut source, &mut full, &FreeTurn);
     assert_eq!(rt; status, 4);
+    Ok(())
+}
+
+#[test]
+fn scripts_of_one_line_and_what_is_written(rt: HostRuntime) -> Result<(), Fail> {
+    let alloc = rt.alloc();
+    for (text, wanted, written) in [
+        (
+            b"m1 bridge a leafbridge 0 framework 3\n".as_slice(),
+            0,
+            b"0 m1.1 make framework 3 = p1 h1\n1 m1.1 adopt a leafbridge 0 p1 h1 = m1 @0\nend 2\n".as_slice(),
+        ),
+        (
+            b"m1 bridge a bridge 1 framework 0\n".as_slice(),
+            3,
+            b"line 1: cause 6 kind\n".as_slice(),
+        ),
+        (
+            b"m1 drop a".as_slice(),
+            0,
+            b"0 m1.1 drop a = ok\nend 1\n".as_slice(),
+        ),
+        (b"\n".as_slice(), 3, b"line 1: cause 1 unknown\n".as_slice()),
+        (b"m1".as_slice(), 3, b"line 1: cause 1 unknown\n".as_slice()),
+        (
+            b"m1 bridge".as_slice(),
+            3,
+            b"line 1: cause 2 arity\n".as_slice(),
+        ),
+        (
+            b"m1 bridge a bridge 1 user".as_slice(),
+            3,
+            b"line 1: cause 2 arity\n".as_slice(),
+        ),
+        (
+            b"m1 bridge a bridge 1 user ".as_slice(),
+            3,
+            b"line 1: cause 4 number\n".as_slice(),
+        ),
+        (
+            b"m1 bridge a bridge 1 user 1".as_slice(),
+            0,
+            b"0 m1.1 make user 1 = p1 h1\n1 m1.1 adopt a bridge 1 p1 h1 = m1 @0\nend 2\n".as_slice(),
+        ),
+    ] {
+        let mut out = ByteSink::new(alloc, 100, Vec::new(alloc));
+        let status = status_of(&rt, alloc, &["serial"], text, &[], &mut out)?;
+        assert_eq!(rt; status, wanted);
+        assert_eq!(rt; out.bytes(), written);
+    }
+    Ok(())
+}
+
+#[test]
+fn each_thread_has_its_own_variables(rt: HostRuntime) -> Result<(), Fail> {
+    let alloc = rt.alloc();
+    let text =
+        b"m1 bridge a bridge 1 user 0\nm8 bridge a leafbridge 0 user 2\nm1 set a 0 b\nm8 set a 0 -\nm1 set a 0 a\nm8 drop a\nm2 set a 0 a\nc cycle\n";
+    let wanted =
+        b"0 m1.1 make user 0 = p1 h1\n1 m1.1 adopt a bridge 1 p1 h1 = m1 @0\n2 m8.2 make user 2 = p2 h2\n3 m8.2 adopt a leafbridge 0 p2 h2 = m2 @2\n4 m1.3 set a 0 b = empty\n5 m8.4 set a 0 - = range\n6 m1.5 set a 0 a = ok\n7 m8.6 drop a = ok\n8 m2.7 set a 0 a = empty\n9 c.8 snap 1 = 1 freed -\n10 c.8 begin = 1\n11 c.8 sweep = 1 freed p2\n12 c.8 resolve 1 = freed m2\nend 13\n";
+    let mut out = ByteSink::new(alloc, 100, Vec::new(alloc));
+    let status = status_of(&rt, alloc, &["serial"], text, &[], &mut out)?;
+    assert_eq!(rt; status, 0);
+    assert_eq!(rt; out.bytes(), wanted.as_slice());
+    Ok(())
+}
+
+#[test]
+fn a_script_has_at_most_so_many_cycles(rt: HostRuntime) -> Result<(), Fail> {
+    let alloc = rt.alloc();
+    let mut text = Vec::new(alloc);
+    for _ in 0..256 {
+        text.extend_from_slice(b"c cycle\n")?;
+    }
+    let mut out = ByteSink::new(alloc, 4096, Vec::new(alloc));
+    let status = status_of(&rt, alloc, &["serial"], &text, &[], &mut out)?;
+    assert_eq!(rt; status, 0);
+    assert!(rt;
+        out.bytes()
+            .ends_with(b"1023 c.256 resolve 256 = freed -\nend 1024\n")
+    );
+    text.extend_from_slice(b"c cycle\n")?;
+    let mut more = ByteSink::new(alloc, 4096, Vec::new(alloc));
+    let status = status_of(&rt, alloc, &["serial"], &text, &[], &mut more)?;
+    assert_eq!(rt; status, 3);
+    assert_eq!(rt; more.bytes(), b"line 257: cause 7 cycles\n".as_slice());
     Ok(())
 }

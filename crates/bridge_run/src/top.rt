@@ -5,7 +5,7 @@ ghost use Rattle.std.specs.Io.KnownBytes.{Appends, Keeps};
 ghost use Rattle.bridge_script.specs.Outside.{Rose, AppendsPart};
 ghost use Rattle.bridge_script.specs.Report.{report};
 ghost use Rattle.joint_model.specs.Histories.{Finished};
-ghost use Rattle.bridge_run.specs.Top.{IsSerial, IsRunOf, usage_text, Printed, Refuses, BrokeOff};
+ghost use Rattle.bridge_run.specs.Top.{IsSerial, IsRunOf, usage_text, Printed, Refuses, BrokeOff, MayRun};
 
 use crate::serial::run;
 use crate::words::is_serial;
@@ -51,6 +51,7 @@ pub fn bridge_main<R: Threads + Wait + Sync, S: Source, K: Sink, T: Turnstile + 
     ensures write { result ≡ 4 → Rose (K.faults out.old) (K.faults out.new) }
     ensures part { result ≡ 4 → BrokeOff (map string_bytes words.now.items) (S.left src.old) (S.left src.new) (K.held out.old) (K.held out.new) }
     ensures memory { result ≡ 5 → Keeps (K.held out.old) (K.held out.new) }
+    ensures complete { MayRun (map string_bytes words.now.items) (S.left src.old) (S.faults src.old) (S.faults src.new) (K.faults out.old) (K.faults out.new) → (result ≡ 0) ⊎ (result ≡ 5) }
     ensures status { result ≤ 5 }
 {
     if !is_serial(words) {
