@@ -1,10 +1,11 @@
 // Scripts, sources, sinks and reports by worked examples and at their limits.
 
-use crate::checks::cause_at;
+use crate::checks::{cause_at, check};
 use crate::drafts::Line;
 use crate::entries::{add_head, add_tail};
-use crate::grammar::Place;
+use crate::grammar::{FIELDS, Operation, Place};
 use crate::reports::write_entry;
+use crate::words::Words;
 use crate::{
     ByteSink, ByteSource, Cause, CountSink, Failed, PlainSource, ScriptError, ScriptFault, Sink,
     Source, parse, read_script, script_text, write_report,
@@ -403,6 +404,27 @@ fn words_at_the_places_of_operations_to_come(rt: HostRuntime) {
             (b"leafbridge", 6),
         ],
     );
+}
+
+#[test]
+fn words_behind_an_operation_to_come(rt: HostRuntime) {
+    let places = [Place::Var, Place::PlainKind, FIELDS];
+    for (words, cause) in [
+        (b"a plain 16".as_slice(), 0),
+        (b"a leaf 0".as_slice(), 0),
+        (b"a plain".as_slice(), 2),
+        (b"i plain 007".as_slice(), 3),
+        (b"a plain 007".as_slice(), 4),
+        (b"a leaf 17".as_slice(), 5),
+        (b"a leaf 1".as_slice(), 6),
+        (b"a bridge 0".as_slice(), 6),
+    ] {
+        let found = match check(Operation::New, &places, &Words::of(words)) {
+            Ok(()) => 0,
+            Err(cause) => cause.number(),
+        };
+        assert_eq!(rt; found, cause);
+    }
 }
 
 /// So many lines of that text.
