@@ -1,17 +1,17 @@
 -- The search from x goes through x's own class and through plain classes. It comes to a node of another
 -- class with a bridge node exactly where there is a cross-reference: the part of its walk behind the last
 -- node of the own class has plain classes only, and the way to where a cross-reference leaves lies in the class.
-use Rattle.std.proofs.Common.{◌≡◌, ◌≢◌, ◌↔◌, ◌⊎◌, ℕ, suc, zero, ◌+◌, ◌<◌, ◌≤◌, Bool, true, false, List, [], ◌∷◌, ◌++◌, Some, None, Option, length, map, get_or, slice_get, refl, sym, ◌∙◌, ap, subst, arith, inl, inr}
-use Rattle.std.proofs.lemmas.List.{length_push, length-map, get_or-map}
+use Rattle.std.proofs.Common.{◌≡◌, ◌↔◌, ◌⊎◌, ℕ, suc, zero, ◌+◌, ◌<◌, Bool, true, false, List, [], ◌∷◌, ◌++◌, Some, length, map, get_or, slice_get, refl, sym, ◌∙◌, ap, subst, arith, inl, inr}
+use Rattle.std.proofs.lemmas.List.{length-map, get_or-map}
 use Rattle.std.proofs.lemmas.List.Elements.{All-nil, All-head, All-tail, All-push, All-contains, Contains-get_or, Contains-append_left, Contains-append_right, Contains-append_cases}
 use Rattle.std.proofs.lemmas.Option.{slice_get-get_or, slice_get_cases, get_or_from_slice_get}
 use Rattle.std.proofs.lemmas.List.Sorted.{Contains-permutation, IsPermutation-sym}
 use Rattle.std.specs.List.Sorted.{IsPermutation}
-use Rattle.std.proofs.lemmas.Bool.{cases_lt, cases_eq, cases_Bool, cases_order, both_ways}
-use Rattle.std.specs.List.{All, AllPairs, Contains}
+use Rattle.std.proofs.lemmas.Bool.{cases_lt, cases_eq, cases_Bool, cases_order}
+use Rattle.std.specs.List.{All, Contains}
 use Rattle.joint_model.specs.Walks.{Walks, Reaches, Mutual}
 use Rattle.joint_model.specs.Components.{Rises, first_of, first_at, IsCrossReference, IsPlainClass, IsMember, IsCanonical, IsContraction}
-use Rattle.joint_model.proofs.WalkLemmas.{Walks-join, Reaches-self, Reaches-edge, Reaches-then, Reaches-trans, Reaches-keeps, Reaches-mono, Mutual-self, Mutual-sym, Mutual-trans}
+use Rattle.joint_model.proofs.WalkLemmas.{Walks-join, Reaches-self, Reaches-then, Reaches-trans, Reaches-keeps, Mutual-self, Mutual-sym, Mutual-trans}
 use Rattle.bridge_graph.specs.declared.graph.Node.{Node}
 use Rattle.bridge_graph.specs.declared.packing.Link.{Link}
 use Rattle.bridge_graph.specs.Parts.{IsBridge, IsPart, Leads}
@@ -180,7 +180,7 @@ module _ (nodes : List Node) (edges : List (List ℕ)) (labels : List ℕ) (flag
       ]
 
   -- the index at the label of a bridge node is that of the component which is its group
-  index_of : (b : ℕ) → IsBridge nodes b → (get_or indexes (get_or labels b 0) 0 < length comps) × (get_or comps (get_or indexes (get_or labels b 0) 0) [] ≡ group links (get_or labels b 0))
+  pub index_of : (b : ℕ) → IsBridge nodes b → (get_or indexes (get_or labels b 0) 0 < length comps) × (get_or comps (get_or indexes (get_or labels b 0) 0) [] ≡ group links (get_or labels b 0))
   index_of b bb =
       let gr = group links (get_or labels b 0) in
       let has = group-has nodes labels (length nodes) links b s.grouped (bridge-below nodes b bb) bb in

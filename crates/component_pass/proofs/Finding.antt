@@ -1,14 +1,13 @@
 -- The list of what was found grows only by nodes that are reached, and has the rows of all that it went on
 -- from. So in the end it is closed under the edges that the search takes, and what is reached is in it.
-use Rattle.std.proofs.Common.{◌≡◌, ◌≢◌, ◌⊎◌, ◌↔◌, ℕ, suc, zero, ◌+◌, ◌-◌, ◌<◌, ◌≤◌, Bool, true, false, cond, List, [], ◌∷◌, ◌++◌, length, map, take, get_or, set, refl, sym, ◌∙◌, ap, subst, arith, inl, inr}
-use Rattle.std.proofs.lemmas.List.{length_push, length-append, length-set, get_or-set_same, get_or-set_other, take_more, get_or_append_left, get_or_past, get_or_default, append-nil, append_assoc}
-use Rattle.std.proofs.lemmas.List.Elements.{All-nil, All-push, All-weaker, All-contains, All-append, Contains-append_left, Contains-push, Contains-push_cases}
-use Rattle.std.proofs.lemmas.Bool.{cases_lt, cases_eq, cases_Bool, true≢false}
+use Rattle.std.proofs.Common.{◌≡◌, ◌↔◌, ℕ, suc, zero, ◌+◌, ◌<◌, ◌≤◌, Bool, true, false, List, [], ◌∷◌, ◌++◌, length, get_or, set, refl, sym, ◌∙◌, ap, subst, arith, inl, inr}
+use Rattle.std.proofs.lemmas.List.{length_push, length-append, length-set, get_or-set_same, get_or-set_other, get_or_append_left, get_or_past, get_or_default, append-nil, append_assoc}
+use Rattle.std.proofs.lemmas.List.Elements.{All-nil, All-push, All-weaker, All-contains, All-append, Contains-append_left, Contains-push}
+use Rattle.std.proofs.lemmas.Bool.{cases_lt, cases_eq, true≢false}
 use Rattle.std.specs.List.{All, Contains}
 use Rattle.joint_model.specs.Walks.{Reaches}
 use Rattle.joint_model.proofs.WalkLemmas.{Reaches-self, Reaches-then, Reaches-keeps}
-use Rattle.bridge_graph.specs.Parts.{Leads}
-use Rattle.component_pass.specs.Searching.{Opens, Goes, unmarked, AreMarked, Visits, Finds}
+use Rattle.component_pass.specs.Searching.{unmarked, AreMarked, Visits, Finds}
 
 -- marking one node more
 unmarked-set : (marks : List Bool) (y : ℕ) → y < length marks → get_or marks y false ≡ false → unmarked (set marks y true) + 1 ≡ unmarked marks

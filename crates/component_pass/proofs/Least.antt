@@ -1,7 +1,7 @@
 -- Labels that are the least mutual node are equal exactly where the nodes reach each other.
-use Rattle.std.proofs.Common.{◌≡◌, ◌↔◌, ℕ, ◌+◌, ◌<◌, ◌≤◌, List, [], ◌∷◌, ◌++◌, length, get_or, sym, subst, arith, inl, inr}
+use Rattle.std.proofs.Common.{◌≡◌, ℕ, ◌<◌, List, length, get_or, sym, subst, arith, inl, inr}
 use Rattle.std.proofs.lemmas.Bool.{cases_order}
-use Rattle.std.proofs.lemmas.List.{get_or_default, get_or_append_left, get_or_push}
+use Rattle.std.proofs.lemmas.List.{get_or_default}
 use Rattle.joint_model.specs.Walks.{Mutual}
 use Rattle.joint_model.proofs.WalkLemmas.{Mutual-sym, Mutual-trans}
 use Rattle.bridge_graph.specs.Parts.{Leads}

@@ -4,3 +4,6 @@ pub mod Grouped
 pub mod Listed
 pub mod Crossing
 pub mod Strong
+pub mod Gathered
+pub mod Leaving
+pub mod Shared

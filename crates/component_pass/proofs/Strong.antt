@@ -3,16 +3,16 @@
 -- below its frame's low place. So where a frame ends with its own place as the lowest, nothing leads from its
 -- part of the stack to what lies below: from each node of the part one comes down to the frame's node, and
 -- the part is a class. Where the lowest place is lower, the part is left to the frame below.
-use Rattle.std.proofs.Common.{◌≡◌, ◌≢◌, ◌⊎◌, ℕ, suc, zero, ◌+◌, ◌-◌, ◌<◌, ◌≤◌, min, Bool, true, false, cond, eqb, List, [], ◌∷◌, ◌++◌, length, take, get_or, set, refl, sym, ◌∙◌, ap, subst, arith, inl, inr}
-use Rattle.std.proofs.lemmas.List.{length_push, length-set, length-take-le, get_or-set_same, get_or-set_other, get_or-take, get_or_append_left, get_or_push, get_or_default, get_or_past}
+use Rattle.std.proofs.Common.{◌≡◌, ◌≢◌, ◌⊎◌, ℕ, suc, zero, ◌+◌, ◌-◌, ◌<◌, ◌≤◌, min, eqb, List, [], ◌∷◌, ◌++◌, length, take, drop, get_or, set, refl, sym, ◌∙◌, ap, subst, arith, inl, inr}
+use Rattle.std.proofs.lemmas.List.{length_push, length-set, length-take-le, length-drop, get_or-drop, get_or-set_same, get_or-set_other, get_or-take, get_or_append_left, get_or_push, get_or_default, get_or_past}
 use Rattle.std.proofs.lemmas.List.Elements.{Contains-get_or}
-use Rattle.std.proofs.lemmas.Bool.{cases_lt, cases_eq, cases_Bool, eq-eqb, ne_eqb, eqb-true}
+use Rattle.std.proofs.lemmas.Bool.{cases_lt, cases_eq, cases_order, cases_Bool, eq-eqb, ne_eqb}
 use Rattle.std.specs.List.{All, Contains}
 use Rattle.joint_model.specs.Walks.{Reaches, Mutual}
 use Rattle.joint_model.proofs.WalkLemmas.{Reaches-self, Reaches-edge, Reaches-then, Reaches-trans, Reaches-keeps, Mutual-sym, Mutual-trans}
 use Rattle.bridge_graph.specs.Parts.{Leads, row_at}
 use Rattle.component_pass.specs.declared.tarjan.Frame.{Frame}
-use Rattle.component_pass.specs.Classes.{AreClasses}
+use Rattle.component_pass.specs.Classes.{AreClasses, AreInOrder}
 use Rattle.component_pass.specs.Tarjan.{IsSegment, AreSegments, AreSorted, IsGoing, Scans, unseen, done_mark}
 
 pub unseen-set : (marks : List ℕ) (w v : ℕ) → w < length marks → get_or marks w 0 ≡ 0 → 0 < v → unseen (set marks w v) + 1 ≡ unseen marks
@@ -37,6 +37,18 @@ unseen-all (m ∷ marks) = elim (cases_Bool (eqb m 0)) [
   | inl t ↦ rw t (omega (arith, unseen-all marks))
   | inr f ↦ rw f (omega (arith, unseen-all marks))
 ]
+
+-- what lies behind a place of the list
+pub to_drop : (xs : List ℕ) (at k x : ℕ) → at ≤ k → k < length xs → get_or xs k 0 ≡ x → Contains (drop at xs) x
+to_drop xs at k x a b e =
+    let i : ℕ = k - at in
+    let is : get_or (drop at xs) i x ≡ x = get_or-drop at xs i x ∙ ap (λ (j : ℕ). get_or xs j x) (let t : at + i ≡ k = omega (arith, a) in t) ∙ get_or_default xs k x 0 b ∙ e in
+    (i, omega (arith, a, b, length-drop at xs), is)
+
+pub from_drop : (xs : List ℕ) (at x : ℕ) → Contains (drop at xs) x → (k : ℕ) × (at ≤ k) × (k < length xs) × (get_or xs k 0 ≡ x)
+from_drop xs at x c =
+    let lt : at + c.0 < length xs = omega (arith, c.1, length-drop at xs) in
+    (at + c.0, omega arith, lt, get_or_default xs (at + c.0) 0 x lt ∙ sym (get_or-drop at xs c.0 x) ∙ c.2)
 
 module _ (edges : List (List ℕ)) (count : ℕ) (in_range : (x y : ℕ) → Leads edges x y → y < count) (few : count < 65536) where
   abbrev E : ℕ → ℕ → Type 0
@@ -76,10 +88,10 @@ module _ (edges : List (List ℕ)) (count : ℕ) (in_range : (x y : ℕ) → Lea
       )
 
   -- what a scan found belongs to the segment
-  pub seg-scanned : (stack marks labels : List ℕ) (f : Frame) (next low : ℕ) → AreSorted edges count stack marks labels → IsSegment edges stack marks f (length stack)
+  pub seg-scanned : (stack marks labels : List ℕ) (rows : List (List ℕ)) (f : Frame) (next low : ℕ) → AreSorted edges count stack marks labels rows → IsSegment edges stack marks f (length stack)
       → Scans (row_at edges f.node) marks f.next f.low next low
       → IsSegment edges stack marks (record { node = f.node; at = f.at; next = next; low = low }) (length stack)
-  seg-scanned stack marks labels f next low o s c =
+  seg-scanned stack marks labels rows f next low o s c =
       let row = row_at edges f.node in
       record {
         below = s.below;
@@ -111,9 +123,9 @@ module _ (edges : List (List ℕ)) (count : ℕ) (in_range : (x y : ℕ) → Lea
       }
 
   -- putting an unseen node on the stack
-  pub push-sorted : (stack marks labels : List ℕ) (w : ℕ) → w < count → get_or marks w 0 ≡ 0 → AreSorted edges count stack marks labels
-      → AreSorted edges count (stack ++ w ∷ []) (set marks w (length stack + 1)) labels
-  push-sorted stack marks labels w lt z o =
+  pub push-sorted : (stack marks labels : List ℕ) (rows : List (List ℕ)) (w : ℕ) → w < count → get_or marks w 0 ≡ 0 → AreSorted edges count stack marks labels rows
+      → AreSorted edges count (stack ++ w ∷ []) (set marks w (length stack + 1)) labels rows
+  push-sorted stack marks labels rows w lt z o =
       let wl : w < length marks = omega (arith, o.marks_whole) in
       let len = length_push stack w in
       let other : (x : ℕ) → x ≢ w → get_or (set marks w (length stack + 1)) x 0 ≡ get_or marks x 0 = λ x ne. get_or-set_other marks w x (length stack + 1) 0 ne in
@@ -123,6 +135,8 @@ module _ (edges : List (List ℕ)) (count : ℕ) (in_range : (x y : ℕ) → Lea
         | inl e ↦ absurd (omega (arith, d, here, ap (λ (y : ℕ). get_or (set marks w (length stack + 1)) y 0) e, o.room, few))
         | inr ne ↦ (ne, sym (other x ne) ∙ d)
       ] in
+      let still : (x : ℕ) → get_or marks x 0 ≡ done_mark → get_or (set marks w (length stack + 1)) x 0 ≡ done_mark =
+      λ x d. other x (λ e. absurd (omega (arith, d, z, ap (λ (y : ℕ). get_or marks y 0) e))) ∙ d in
       record {
         marks_whole = length-set marks w (length stack + 1) ∙ o.marks_whole;
         labels_whole = o.labels_whole;
@@ -153,7 +167,12 @@ module _ (edges : List (List ℕ)) (count : ℕ) (in_range : (x y : ℕ) → Lea
             let q = o.closed x y t.1 e in
             other y (λ s. absurd (omega (arith, q, z, ap (λ (v : ℕ). get_or marks v 0) s))) ∙ q;
         labelled = λ x d. o.labelled x (was x d).1;
-        same = λ x y d e m. o.same x y (was x d).1 (was y e).1 m;
+        same = λ x y d e. o.same x y (was x d).1 (was y e).1;
+        members = λ c x. (
+          (λ t. let m = (o.members c x).0 t in (still x m.0, m.1)),
+          (λ t. (o.members c x).1 ((was x t.0).1, t.1)),
+        );
+        backwards = λ x y d e. o.backwards x y (was x d).1 e;
       }
 
   new-seg : (stack marks : List ℕ) (w : ℕ) → IsSegment edges (stack ++ w ∷ []) marks (record { node = w; at = length stack; next = 0; low = length stack }) (length (stack ++ w ∷ []))
@@ -173,19 +192,19 @@ module _ (edges : List (List ℕ)) (count : ℕ) (in_range : (x y : ℕ) → Lea
       }
 
   -- the first frame, over an empty stack
-  pub started : (stack marks labels : List ℕ) (w : ℕ) → w < count → get_or marks w 0 ≡ 0 → IsGoing edges count stack marks labels []
-      → IsGoing edges count (stack ++ w ∷ []) (set marks w (length stack + 1)) labels (record { node = w; at = length stack; next = 0; low = length stack } ∷ [])
-  started stack marks labels w lt z g = record {
-    sorted = push-sorted stack marks labels w lt z g.sorted;
+  pub started : (stack marks labels : List ℕ) (rows : List (List ℕ)) (w : ℕ) → w < count → get_or marks w 0 ≡ 0 → IsGoing edges count stack marks labels rows []
+      → IsGoing edges count (stack ++ w ∷ []) (set marks w (length stack + 1)) labels rows (record { node = w; at = length stack; next = 0; low = length stack } ∷ [])
+  started stack marks labels rows w lt z g = record {
+    sorted = push-sorted stack marks labels rows w lt z g.sorted;
     segments = (new-seg stack (set marks w (length stack + 1)) w, g.segments);
   }
 
   -- into the next unseen node
-  pub descended : (stack marks labels : List ℕ) (f : Frame) (fs : List Frame) (next low w : ℕ) → IsGoing edges count stack marks labels (f ∷ fs)
+  pub descended : (stack marks labels : List ℕ) (rows : List (List ℕ)) (f : Frame) (fs : List Frame) (next low w : ℕ) → IsGoing edges count stack marks labels rows (f ∷ fs)
       → Scans (row_at edges f.node) marks f.next f.low next low → next < length (row_at edges f.node) → w ≡ get_or (row_at edges f.node) next 0
-      → IsGoing edges count (stack ++ w ∷ []) (set marks w (length stack + 1)) labels
+      → IsGoing edges count (stack ++ w ∷ []) (set marks w (length stack + 1)) labels rows
       (record { node = w; at = length stack; next = 0; low = length stack } ∷ record { node = f.node; at = f.at; next = next + 1; low = low } ∷ fs)
-  descended stack marks labels f fs next low w g c lt is =
+  descended stack marks labels rows f fs next low w g c lt is =
       let o = g.sorted in
       let row = row_at edges f.node in
       let z : get_or marks w 0 ≡ 0 = ap (λ (y : ℕ). get_or marks y 0) is ∙ c.unseen_next lt in
@@ -193,7 +212,7 @@ module _ (edges : List (List ℕ)) (count : ℕ) (in_range : (x y : ℕ) → Lea
       let wl : w < count = in_range f.node w edge in
       let marks' = set marks w (length stack + 1) in
       let len = length_push stack w in
-      let s = seg-scanned stack marks labels f next low o g.segments.0 c in
+      let s = seg-scanned stack marks labels rows f next low o g.segments.0 c in
       let here : get_or marks' w 0 ≡ length stack + 1 = get_or-set_same marks w (length stack + 1) 0 (omega (arith, wl, o.marks_whole)) in
       let same : (i : ℕ) → i < length stack → get_or (stack ++ w ∷ []) i 0 ≡ get_or stack i 0 = λ i h. get_or_append_left stack (w ∷ []) 0 i h in
       let up : (l v : ℕ) → l < length stack → l < get_or marks v 0 → l < get_or marks' v 0 = λ l v a b. elim (cases_eq v w) [
@@ -210,7 +229,7 @@ module _ (edges : List (List ℕ)) (count : ℕ) (in_range : (x y : ℕ) → Lea
       let moved = seg-move stack (stack ++ w ∷ []) marks marks' (record { node = f.node; at = f.at; next = next; low = low }) (length stack) same
       (reach f.at f.node (omega arith) s.reach) (λ v. up low v (omega (arith, s.low, s.below))) s in
       record {
-        sorted = push-sorted stack marks labels w wl z o;
+        sorted = push-sorted stack marks labels rows w wl z o;
         segments = (
           new-seg stack marks' w,
           (
@@ -238,11 +257,11 @@ module _ (edges : List (List ℕ)) (count : ℕ) (in_range : (x y : ℕ) → Lea
       }
 
   -- back to the frame below, which takes over the segment
-  pub merged : (stack marks labels : List ℕ) (f p : Frame) (ps : List Frame) (next low : ℕ) → IsGoing edges count stack marks labels (f ∷ p ∷ ps)
+  pub merged : (stack marks labels : List ℕ) (rows : List (List ℕ)) (f p : Frame) (ps : List Frame) (next low : ℕ) → IsGoing edges count stack marks labels rows (f ∷ p ∷ ps)
       → Scans (row_at edges f.node) marks f.next f.low next low → length (row_at edges f.node) ≤ next → low < f.at
-      → IsGoing edges count stack marks labels (record { node = p.node; at = p.at; next = p.next; low = min p.low low } ∷ ps)
-  merged stack marks labels f p ps next low g c all lt =
-      let s = seg-scanned stack marks labels f next low g.sorted g.segments.0 c in
+      → IsGoing edges count stack marks labels rows (record { node = p.node; at = p.at; next = p.next; low = min p.low low } ∷ ps)
+  merged stack marks labels rows f p ps next low g c all lt =
+      let s = seg-scanned stack marks labels rows f next low g.sorted g.segments.0 c in
       let q = g.segments.1.0 in
       let row = row_at edges f.node in
       let down : Reaches E p.node f.node = subst (λ (v : ℕ). Reaches E p.node v) s.is (q.reach f.at (omega (arith, q.below)) s.below) in
@@ -283,9 +302,9 @@ module _ (edges : List (List ℕ)) (count : ℕ) (in_range : (x y : ℕ) → Lea
       }
 
   -- nothing leads from the part of a complete class to what lies below it
-  leaves : (stack marks labels : List ℕ) (f : Frame) → AreSorted edges count stack marks labels → IsSegment edges stack marks f (length stack)
+  leaves : (stack marks labels : List ℕ) (rows : List (List ℕ)) (f : Frame) → AreSorted edges count stack marks labels rows → IsSegment edges stack marks f (length stack)
       → length (row_at edges f.node) ≤ f.next → f.at ≤ f.low → (u v : ℕ) → f.at < get_or marks u 0 → E u v → f.at < get_or marks v 0
-  leaves stack marks labels f o s all low u v a e =
+  leaves stack marks labels rows f o s all low u v a e =
       elim (o.known u) [
         | inl z ↦ absurd (omega (arith, z, a))
         | inr k ↦ elim k [
@@ -305,36 +324,40 @@ module _ (edges : List (List ℕ)) (count : ℕ) (in_range : (x y : ℕ) → Lea
       ]
 
   -- from each node of the part one comes down to the frame's node
-  root_back : (stack marks labels : List ℕ) (f : Frame) → AreSorted edges count stack marks labels → IsSegment edges stack marks f (length stack)
+  root_back : (stack marks labels : List ℕ) (rows : List (List ℕ)) (f : Frame) → AreSorted edges count stack marks labels rows → IsSegment edges stack marks f (length stack)
       → length (row_at edges f.node) ≤ f.next → f.at ≤ f.low → (m i : ℕ) → i < m → f.at ≤ i → i < length stack → Reaches E (get_or stack i 0) f.node
-  root_back stack marks labels f o s all low zero i im a b = absurd (omega (arith, im))
-  root_back stack marks labels f o s all low (suc m) i im a b =
+  root_back stack marks labels rows f o s all low zero i im a b = absurd (omega (arith, im))
+  root_back stack marks labels rows f o s all low (suc m) i im a b =
       elim (cases_eq i f.at) [
         | inl e ↦ subst (λ (y : ℕ). Reaches E y f.node) (sym s.is ∙ ap (λ (j : ℕ). get_or stack j 0) (sym e)) (Reaches-self E f.node)
         | inr ne ↦
             let t = s.back i (omega (arith, a, ne)) b in
             let here = (o.placed i b).1 in
-            let far = Reaches-keeps E (λ v. f.at < get_or marks v 0) (λ u v e q. leaves stack marks labels f o s all low u v q e) (get_or stack i 0) (get_or stack t.0 0) t.2 (omega (arith, here, a)) in
+            let far = Reaches-keeps E (λ v. f.at < get_or marks v 0) (λ u v e q. leaves stack marks labels rows f o s all low u v q e) (get_or stack i 0) (get_or stack t.0 0) t.2 (omega (arith, here, a)) in
             let there = (o.placed t.0 (omega (arith, t.1, b))).1 in
             Reaches-trans E (get_or stack i 0) (get_or stack t.0 0) f.node t.2
-            (root_back stack marks labels f o s all low m t.0 (omega (arith, t.1, im)) (omega (arith, far, there)) (omega (arith, t.1, b)))
+            (root_back stack marks labels rows f o s all low m t.0 (omega (arith, t.1, im)) (omega (arith, far, there)) (omega (arith, t.1, b)))
       ]
 
   -- a complete class is taken from the stack
-  pub completed : (stack marks labels marks' labels' : List ℕ) (f : Frame) (fs : List Frame) (next low : ℕ) → IsGoing edges count stack marks labels (f ∷ fs)
+  pub completed : (stack marks labels marks' labels' : List ℕ) (rows : List (List ℕ)) (f : Frame) (fs : List Frame) (next low : ℕ) → IsGoing edges count stack marks labels rows (f ∷ fs)
       → Scans (row_at edges f.node) marks f.next f.low next low → length (row_at edges f.node) ≤ next → f.at ≤ low
       → length marks' ≡ length marks → length labels' ≡ length labels
-      → ((k : ℕ) → f.at ≤ k → k < length stack → (get_or marks' (get_or stack k 0) 0 ≡ done_mark) × (get_or labels' (get_or stack k 0) 0 ≡ f.node))
+      → ((k : ℕ) → f.at ≤ k → k < length stack → (get_or marks' (get_or stack k 0) 0 ≡ done_mark) × (get_or labels' (get_or stack k 0) 0 ≡ length rows))
       → ((x : ℕ) → (get_or marks x 0 ≤ f.at) ⊎ (length stack < get_or marks x 0) → (get_or marks' x 0 ≡ get_or marks x 0) × (get_or labels' x 0 ≡ get_or labels x 0))
-      → IsGoing edges count (take f.at stack) marks' labels' fs × (unseen marks' ≤ unseen marks)
-  completed stack marks labels marks' labels' f fs next low g c all lo nm nl taken others =
+      → IsGoing edges count (take f.at stack) marks' labels' (rows ++ drop f.at stack ∷ []) fs × (unseen marks' ≤ unseen marks)
+  completed stack marks labels marks' labels' rows f fs next low g c all lo nm nl taken others =
       let o = g.sorted in
       let ff : Frame = record { node = f.node; at = f.at; next = next; low = low } in
-      let s = seg-scanned stack marks labels f next low o g.segments.0 c in
+      let s = seg-scanned stack marks labels rows f next low o g.segments.0 c in
       let size = length-take-le f.at stack (omega (arith, s.below)) in
-      -- each node above the place is done now, and has the frame's label or had one before
+      let class = drop f.at stack in
+      let len = length_push rows class in
+      let kept_row : (c : ℕ) → c < length rows → row_at (rows ++ class ∷ []) c ≡ row_at rows c = λ c lt. get_or_append_left rows (class ∷ []) [] c lt in
+      let new_row : (c : ℕ) → c ≡ length rows → row_at (rows ++ class ∷ []) c ≡ class = λ c e. get_or_push rows class [] c (sym e) in
+      -- each node above the place is done now, and stands in the new row or stood in one before
       let cases : (x : ℕ) → f.at < get_or marks x 0 → (get_or marks' x 0 ≡ done_mark)
-      × (((get_or labels' x 0 ≡ f.node) × Mutual E x f.node × (get_or marks x 0 ≤ length stack)) ⊎ ((get_or labels' x 0 ≡ get_or labels x 0) × (get_or marks x 0 ≡ done_mark))) =
+      × (((get_or labels' x 0 ≡ length rows) × Mutual E x f.node × (get_or marks x 0 ≤ length stack) × Contains class x) ⊎ ((get_or labels' x 0 ≡ get_or labels x 0) × (get_or marks x 0 ≡ done_mark))) =
       λ x a. elim (o.known x) [
         | inl z ↦ absurd (omega (arith, z, a))
         | inr k ↦ elim k [
@@ -344,9 +367,9 @@ module _ (edges : List (List ℕ)) (count : ℕ) (in_range : (x y : ℕ) → Lea
               let il : i < length stack = omega (arith, p.0, p.1) in
               let ia : f.at ≤ i = omega (arith, a) in
               let t = taken i ia il in
-              let m : Mutual E (get_or stack i 0) f.node = record { there = root_back stack marks labels ff o s all lo (suc i) i (omega arith) ia il; back = s.reach i ia il } in (
+              let m : Mutual E (get_or stack i 0) f.node = record { there = root_back stack marks labels rows ff o s all lo (suc i) i (omega arith) ia il; back = s.reach i ia il } in (
                 subst (λ (y : ℕ). get_or marks' y 0 ≡ done_mark) p.2 t.0,
-                inl (subst (λ (y : ℕ). get_or labels' y 0 ≡ f.node) p.2 t.1, subst (λ (y : ℕ). Mutual E y f.node) p.2 m, p.1),
+                inl (subst (λ (y : ℕ). get_or labels' y 0 ≡ length rows) p.2 t.1, subst (λ (y : ℕ). Mutual E y f.node) p.2 m, p.1, to_drop stack f.at i x ia il p.2),
               )
         ]
       ] in
@@ -378,23 +401,68 @@ module _ (edges : List (List ℕ)) (count : ℕ) (in_range : (x y : ℕ) → Lea
                 ]
               ])
             ];
-            room = omega (arith, fewer, o.room, size, s.below);
-            closed = λ x y d e. (cases y (leaves stack marks labels ff o s all lo x y (above x d) e)).0;
+            room = omega (arith, fewer, o.room, size, s.below, len);
+            closed = λ x y d e. (cases y (leaves stack marks labels rows ff o s all lo x y (above x d) e)).0;
             labelled = λ x d. elim (cases x (above x d)).1 [
-              | inl t ↦ (subst (λ (l : ℕ). (l < count) × Mutual E x l) (sym t.0)
-                  (subst (λ (y : ℕ). y < count) s.is (o.placed f.at s.below).0, t.1))
-              | inr t ↦ subst (λ (l : ℕ). (l < count) × Mutual E x l) (sym t.0) (o.labelled x t.1)
+              | inl t ↦ omega (arith, t.0, len)
+              | inr t ↦ omega (arith, t.0, o.labelled x t.1, len)
             ];
-            same = λ x y d e m. elim (cases x (above x d)).1 [
-              | inl t ↦ elim (cases y (above y e)).1 [
-                | inl r ↦ t.0 ∙ sym r.0
-                | inr r ↦ absurd (omega (arith, t.2, o.room, few, Reaches-keeps E (λ v. get_or marks v 0 ≡ done_mark) (λ u v h q. o.closed u v q h) y x m.back r.1))
-              ]
-              | inr t ↦ elim (cases y (above y e)).1 [
-                | inl r ↦ absurd (omega (arith, r.2, o.room, few, Reaches-keeps E (λ v. get_or marks v 0 ≡ done_mark) (λ u v h q. o.closed u v q h) x y m.there t.1))
-                | inr r ↦ t.0 ∙ o.same x y t.1 r.1 m ∙ sym r.0
-              ]
-            ];
+            same = λ x y d e. (
+              (λ l. elim (cases x (above x d)).1 [
+                | inl t ↦ elim (cases y (above y e)).1 [
+                  | inl r ↦ Mutual-trans E x f.node y t.1 (Mutual-sym E y f.node r.1)
+                  | inr r ↦ absurd (omega (arith, l, t.0, r.0, o.labelled y r.1))
+                ]
+                | inr t ↦ elim (cases y (above y e)).1 [
+                  | inl r ↦ absurd (omega (arith, l, t.0, r.0, o.labelled x t.1))
+                  | inr r ↦ (o.same x y t.1 r.1).0 (sym t.0 ∙ l ∙ r.0)
+                ]
+              ]),
+              (λ m. elim (cases x (above x d)).1 [
+                | inl t ↦ elim (cases y (above y e)).1 [
+                  | inl r ↦ t.0 ∙ sym r.0
+                  | inr r ↦ absurd (omega (arith, t.2, o.room, few, Reaches-keeps E (λ v. get_or marks v 0 ≡ done_mark) (λ u v h q. o.closed u v q h) y x m.back r.1))
+                ]
+                | inr t ↦ elim (cases y (above y e)).1 [
+                  | inl r ↦ absurd (omega (arith, r.2, o.room, few, Reaches-keeps E (λ v. get_or marks v 0 ≡ done_mark) (λ u v h q. o.closed u v q h) x y m.there t.1))
+                  | inr r ↦ t.0 ∙ (o.same x y t.1 r.1).1 m ∙ sym r.0
+                ]
+              ]),
+            );
+            members = λ c x. (
+              (λ t. elim (cases_order c (length rows)) [
+                | inl e ↦
+                    let k = from_drop stack f.at x (subst (λ (xs : List ℕ). Contains xs x) (new_row c e) t) in
+                    let q = taken k.0 k.1 k.2 in
+                    (ap (λ (y : ℕ). get_or marks' y 0) (sym k.3) ∙ q.0, ap (λ (y : ℕ). get_or labels' y 0) (sym k.3) ∙ q.1 ∙ sym e)
+                | inr r ↦ elim r [
+                  | inl lt ↦
+                      let m = (o.members c x).0 (subst (λ (xs : List ℕ). Contains xs x) (kept_row c lt) t) in
+                      let q = others x (inr (omega (arith, m.0, o.room, few))) in
+                      (q.0 ∙ m.0, q.1 ∙ m.1)
+                  | inr gt ↦
+                      let none = subst (λ (xs : List ℕ). Contains xs x) (get_or_past (rows ++ class ∷ []) c [] (omega (arith, gt, len))) t in
+                      absurd (omega (arith, none.1))
+                ]
+              ]),
+              (λ t. elim (cases x (above x t.0)).1 [
+                | inl q ↦ subst (λ (xs : List ℕ). Contains xs x) (sym (new_row c (sym t.1 ∙ q.0))) q.3
+                | inr q ↦
+                    let l : get_or labels x 0 ≡ c = sym q.0 ∙ t.1 in
+                    subst (λ (xs : List ℕ). Contains xs x) (sym (kept_row c (omega (arith, o.labelled x q.1, l)))) ((o.members c x).1 (q.1, l))
+              ]),
+            );
+            backwards = λ x y d e.
+                let yd = (cases y (leaves stack marks labels rows ff o s all lo x y (above x d) e)).1 in
+                elim (cases x (above x d)).1 [
+                  | inl t ↦ elim yd [
+                    | inl r ↦ omega (arith, t.0, r.0)
+                    | inr r ↦ omega (arith, t.0, r.0, o.labelled y r.1)
+                  ]
+                  | inr t ↦
+                      let q = others y (inr (omega (arith, o.closed x y t.1 e, o.room, few))) in
+                      omega (arith, t.0, q.1, o.backwards x y t.1 e)
+                ];
           };
           segments = subst (λ (end : ℕ). AreSegments edges (take f.at stack) marks' fs end) (sym size)
               (chain-move stack (take f.at stack) marks marks' fs f.at same
@@ -408,28 +476,52 @@ module _ (edges : List (List ℕ)) (count : ℕ) (in_range : (x y : ℕ) → Lea
       )
 
   -- where every node was seen and nothing is on the stack, the labels are those of the classes
-  pub finished-classes : (stack marks labels : List ℕ) → IsGoing edges count stack marks labels [] → ((x : ℕ) → x < count → get_or marks x 0 ≢ 0) → AreClasses edges count labels
-  finished-classes stack marks labels g seen =
-      let o = g.sorted in
-      let done : (x : ℕ) → x < count → get_or marks x 0 ≡ done_mark = λ x lt. elim (o.known x) [
+  all-done : (stack marks labels : List ℕ) (rows : List (List ℕ)) → IsGoing edges count stack marks labels rows [] → ((x : ℕ) → x < count → get_or marks x 0 ≢ 0)
+      → (x : ℕ) → x < count → get_or marks x 0 ≡ done_mark
+  all-done stack marks labels rows g seen x lt =
+      elim (g.sorted.known x) [
         | inl z ↦ absurd (seen x lt z)
         | inr k ↦ elim k [
           | inl p ↦ absurd (omega (arith, p.0, p.1, g.segments))
           | inr d ↦ d
         ]
-      ] in
+      ]
+
+  pub finished-classes : (stack marks labels : List ℕ) (rows : List (List ℕ)) → IsGoing edges count stack marks labels rows [] → ((x : ℕ) → x < count → get_or marks x 0 ≢ 0) → AreClasses edges count labels
+  finished-classes stack marks labels rows g seen =
+      let o = g.sorted in
+      let done = all-done stack marks labels rows g seen in
       record {
         whole = o.labels_whole;
-        small = λ k d lt. omega (arith, (o.labelled k (done k (omega (arith, lt, o.labels_whole)))).0, get_or_default labels k d 0 lt);
-        exact = λ x y p q. (
-          (λ e. Mutual-trans E x (get_or labels x 0) y (o.labelled x (done x p)).1
-              (subst (λ (l : ℕ). Mutual E l y) (sym e) (Mutual-sym E y (get_or labels y 0) (o.labelled y (done y q)).1))),
-          (λ m. o.same x y (done x p) (done y q) m),
+        small = λ k d lt. omega (arith, o.labelled k (done k (omega (arith, lt, o.labels_whole))), o.room, get_or_default labels k d 0 lt);
+        exact = λ x y p q. o.same x y (done x p) (done y q);
+      }
+
+  -- and the rows are the classes in order
+  pub finished-order : (stack marks labels : List ℕ) (rows : List (List ℕ)) → length edges ≡ count → IsGoing edges count stack marks labels rows [] → ((x : ℕ) → x < count → get_or marks x 0 ≢ 0)
+      → AreInOrder edges count labels rows
+  finished-order stack marks labels rows whole g seen =
+      let o = g.sorted in
+      let done = all-done stack marks labels rows g seen in
+      record {
+        few = omega (arith, o.room);
+        labelled = λ x lt. o.labelled x (done x lt);
+        members = λ c x. (
+          (λ t.
+              let m = (o.members c x).0 t in (
+                elim (cases_lt x count) [ inl lt ↦ lt | inr ge ↦ absurd (omega (arith, get_or_past marks x 0 (omega (arith, ge, o.marks_whole)), m.0)) ],
+                m.1,
+              )),
+          (λ t. (o.members c x).1 (done x t.0, t.1)),
         );
+        backwards = λ x y e. elim (cases_lt x count) [
+          | inl lt ↦ o.backwards x y (done x lt) e
+          | inr ge ↦ let u = subst (λ (r : List ℕ). Contains r y) (get_or_past edges x [] (omega (arith, ge, whole))) e in absurd (omega (arith, u.1))
+        ];
       }
 
   -- nothing seen yet
-  pub nothing-seen : (marks labels : List ℕ) → length marks ≡ count → length labels ≡ count → All (λ m. m ≡ 0) marks → IsGoing edges count [] marks labels []
+  pub nothing-seen : (marks labels : List ℕ) → length marks ≡ count → length labels ≡ count → All (λ m. m ≡ 0) marks → IsGoing edges count [] marks labels [] []
   nothing-seen marks labels nm nl h =
       let zero_at : (x : ℕ) → get_or marks x 0 ≡ 0 = λ x. elim (cases_lt x (length marks)) [ inl lt ↦ h x 0 lt | inr ge ↦ get_or_past marks x 0 ge ] in
       record {
@@ -441,7 +533,9 @@ module _ (edges : List (List ℕ)) (count : ℕ) (in_range : (x y : ℕ) → Lea
           room = omega (arith, nm, unseen-all marks);
           closed = λ x y d e. absurd (omega (arith, zero_at x, d));
           labelled = λ x d. absurd (omega (arith, zero_at x, d));
-          same = λ x y d e m. absurd (omega (arith, zero_at x, d));
+          same = λ x y d e. absurd (omega (arith, zero_at x, d));
+          members = λ c x. ((λ t. absurd (omega (arith, t.1))), (λ t. absurd (omega (arith, zero_at x, t.0))));
+          backwards = λ x y d e. absurd (omega (arith, zero_at x, d));
         };
         segments = refl;
       }

@@ -1,5 +1,5 @@
 -- A search from one node, through some nodes only.
-use Rattle.std.specs.Prelude.{◌≡◌, ◌⊎◌, ◌↔◌, ℕ, ◌+◌, ◌<◌, Bool, true, false, cond, List, [], ◌∷◌, ◌++◌, length, All, Contains, slice_index, slice_index_or}
+use Rattle.std.specs.Prelude.{◌≡◌, ◌⊎◌, ◌↔◌, ℕ, ◌+◌, Bool, true, false, cond, List, [], ◌∷◌, ◌++◌, length, All, Contains, slice_index, slice_index_or}
 use Rattle.joint_model.specs.Walks.{Reaches}
 use Rattle.bridge_graph.specs.Parts.{Leads}
 

@@ -1,7 +1,7 @@
 -- What Tarjan's algorithm keeps. A node is unseen (mark 0), on the stack at place p (mark p + 1), or done.
 -- The frames are the nodes that the search is in, the innermost first; between the place of one and the
 -- place of the next lie the nodes that were finished under it and whose class is not complete.
-use Rattle.std.specs.Prelude.{◌≡◌, ◌≢◌, ◌⊎◌, ℕ, ◌+◌, ◌-◌, ◌<◌, ◌≤◌, ◌==◌, cond, List, [], ◌∷◌, length, slice_index}
+use Rattle.std.specs.Prelude.{◌≡◌, ◌⊎◌, ◌↔◌, ℕ, ◌+◌, ◌-◌, ◌<◌, ◌≤◌, ◌==◌, cond, List, [], ◌∷◌, length, Contains, slice_index}
 use Rattle.joint_model.specs.Walks.{Reaches, Mutual}
 use Rattle.bridge_graph.specs.Parts.{Leads, row_at}
 use Rattle.component_pass.specs.declared.tarjan.Frame.{Frame}
@@ -32,21 +32,23 @@ abbrev pub unseen : List ℕ → ℕ
 unseen [] = 0
 unseen (m ∷ marks) = cond (m == 0) 1 0 + unseen marks
 
--- the marks say where the nodes of the stack are, and done nodes have the labels of their classes and lead
--- only to done nodes
-pub record AreSorted (edges : List (List ℕ)) (count : ℕ) (stack marks labels : List ℕ) : Type 0 where
+-- the marks say where the nodes of the stack are; done nodes stand in the rows of their classes, and lead only
+-- to done nodes, of their own class and of those before it
+pub record AreSorted (edges : List (List ℕ)) (count : ℕ) (stack marks labels : List ℕ) (rows : List (List ℕ)) : Type 0 where
   pub marks_whole : length marks ≡ count
   pub labels_whole : length labels ≡ count
   pub placed : (k : ℕ) → k < length stack → (slice_index stack k < count) × (slice_index marks (slice_index stack k) ≡ k + 1)
   pub known : (x : ℕ) → (slice_index marks x ≡ 0) ⊎ ((0 < slice_index marks x) × (slice_index marks x ≤ length stack) × (slice_index stack (slice_index marks x - 1) ≡ x)) ⊎ (slice_index marks x ≡ done_mark)
-  pub room : unseen marks + length stack ≤ count
+  pub room : unseen marks + length stack + length rows ≤ count
   pub closed : (x y : ℕ) → slice_index marks x ≡ done_mark → Leads edges x y → slice_index marks y ≡ done_mark
-  pub labelled : (x : ℕ) → slice_index marks x ≡ done_mark → (slice_index labels x < count) × Mutual (Leads edges) x (slice_index labels x)
-  pub same : (x y : ℕ) → slice_index marks x ≡ done_mark → slice_index marks y ≡ done_mark → Mutual (Leads edges) x y → slice_index labels x ≡ slice_index labels y
+  pub labelled : (x : ℕ) → slice_index marks x ≡ done_mark → slice_index labels x < length rows
+  pub same : (x y : ℕ) → slice_index marks x ≡ done_mark → slice_index marks y ≡ done_mark → (slice_index labels x ≡ slice_index labels y) ↔ Mutual (Leads edges) x y
+  pub members : (c x : ℕ) → Contains (row_at rows c) x ↔ ((slice_index marks x ≡ done_mark) × (slice_index labels x ≡ c))
+  pub backwards : (x y : ℕ) → slice_index marks x ≡ done_mark → Leads edges x y → slice_index labels y ≤ slice_index labels x
 
 -- all that the algorithm keeps
-pub record IsGoing (edges : List (List ℕ)) (count : ℕ) (stack marks labels : List ℕ) (frames : List Frame) : Type 0 where
-  pub sorted : AreSorted edges count stack marks labels
+pub record IsGoing (edges : List (List ℕ)) (count : ℕ) (stack marks labels : List ℕ) (rows : List (List ℕ)) (frames : List Frame) : Type 0 where
+  pub sorted : AreSorted edges count stack marks labels rows
   pub segments : AreSegments edges stack marks frames (length stack)
 
 -- what a scan of a row finds: the targets up to next are seen, and low is below each of their marks

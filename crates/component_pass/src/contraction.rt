@@ -3,11 +3,13 @@
 ghost use Rattle.std.specs.Prelude.{◌≡◌, length, IfOk};
 ghost use Rattle.joint_model.specs.Components.{IsContraction};
 ghost use Rattle.bridge_graph.specs.Parts.{IsBridge, Leads};
-ghost use Rattle.component_pass.specs.Classes.{AreClasses};
+ghost use Rattle.component_pass.specs.Classes.{AreClasses, AreInOrder};
 
 use crate::groups::{group_bridges, list_components, plain_nodes};
+use crate::lists::Lists;
 use crate::plain::plain_classes;
 use crate::references::list_references;
+use crate::sharing::share_references;
 use crate::tarjan::classes;
 use bridge_graph::DeadGraph;
 use std::alloc::{AllocError, Global};
@@ -22,8 +24,8 @@ use xref_list::{Components, ComponentsBuilder};
 pub fn contract(alloc: Global, graph: &DeadGraph) -> Result<Components, AllocError>
     ensures { IfOk result (λ c. IsContraction (IsBridge graph.now.nodes) (Leads graph.now.edges) c.comps c.pairs) }
 {
-    let labels = classes(alloc, graph)?;
-    from_classes(alloc, graph, &labels)
+    let found = classes(alloc, graph)?;
+    from_rows(alloc, graph, &found.labels, &found.rows)
 }
 
 /// The same by a search from every node, as the definition has it: slow, and there for comparison.
@@ -53,5 +55,24 @@ fn from_classes(alloc: Global, graph: &DeadGraph, labels: &[u32]) -> Result<Comp
         &indexes,
         &mut builder,
     )?;
+    builder.finish()
+}
+
+/// The components and cross-references, by a label for each node's class and the classes in order.
+fn from_rows(
+    alloc: Global,
+    graph: &DeadGraph,
+    labels: &[u32],
+    rows: &Lists,
+) -> Result<Components, AllocError>
+    requires classes { AreClasses graph.now.edges (length graph.now.nodes) labels.now }
+    requires order { AreInOrder graph.now.edges (length graph.now.nodes) labels.now rows.now }
+    ensures { IfOk result (λ c. IsContraction (IsBridge graph.now.nodes) (Leads graph.now.edges) c.comps c.pairs) }
+{
+    let groups = group_bridges(alloc, graph, labels)?;
+    let mut indexes = vec![in alloc; 0u32; graph.nodes() as usize]?;
+    let mut builder = ComponentsBuilder::new(alloc);
+    list_components(graph, labels, &groups, &mut indexes, &mut builder)?;
+    share_references(alloc, graph, labels, rows, &groups, &indexes, &mut builder)?;
     builder.finish()
 }

@@ -25,10 +25,13 @@
 #![tactic(auto)]
 
 mod contraction;
+mod gathering;
 mod groups;
+mod lists;
 mod plain;
 mod references;
 mod search;
+mod sharing;
 mod tarjan;
 
 pub use contraction::{contract, plain_contract};

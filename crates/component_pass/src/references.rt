@@ -138,7 +138,7 @@ fn collect(
 }
 
 /// Unmarks the nodes that were found.
-fn clear(found: &[u32], marks: &mut [bool])
+pub(crate) fn clear(found: &[u32], marks: &mut [bool])
     requires { AreMarked marks.old found.now }
     ensures { All (λ m. m ≡ false) marks.new }
 {

@@ -49,7 +49,7 @@ pub(crate) fn opens(plain: &[bool], labels: &[u32], own: u32, x: u32) -> bool
 }
 
 /// Lists and marks the nodes of a row that are not marked yet.
-fn visit(row: &[u32], marks: &mut [bool], found: &mut Vec<u32>) -> Result<(), AllocError>
+pub(crate) fn visit(row: &[u32], marks: &mut [bool], found: &mut Vec<u32>) -> Result<(), AllocError>
     requires in_range { All (λ y. y < length marks.old) row.now }
     requires marking { AreMarked marks.old found.old.items }
     ensures marking { OnOk result (AreMarked marks.new found.new.items) }

@@ -1,10 +1,11 @@
 // Tarjan's algorithm for strongly connected classes, with the search's frames in a list on the heap.
 
-ghost use Rattle.std.specs.Prelude.{◌≡◌, ◌≢◌, ◌⊎◌, ℕ, ◌+◌, ◌*◌, ◌<◌, ◌≤◌, List, [], ◌∷◌, ◌++◌, length, min, take, All, IfOk, OnOk, OnErr, reverse, slice_index, slice_set};
+ghost use Rattle.std.specs.Prelude.{◌≡◌, ◌≢◌, ◌⊎◌, ℕ, ◌+◌, ◌*◌, ◌<◌, ◌≤◌, List, [], ◌∷◌, ◌++◌, length, min, take, drop, All, Contains, IfOk, OnOk, OnErr, reverse, slice_index, slice_set};
 ghost use Rattle.bridge_graph.specs.Parts.{IsPart, Leads, row_at};
-ghost use Rattle.component_pass.specs.Classes.{AreClasses};
+ghost use Rattle.component_pass.specs.Classes.{AreClasses, AreInOrder};
 ghost use Rattle.component_pass.specs.Tarjan.{IsGoing, AreSorted, IsSegment, Scans, unseen, done_mark};
 
+use crate::lists::Lists;
 use bridge_graph::DeadGraph;
 use std::alloc::{AllocError, Global};
 
@@ -31,17 +32,33 @@ struct Scan {
     low: u32,
 }
 
-/// A label for each node: the first node of its class that the search came to.
-pub(crate) fn classes(alloc: Global, graph: &DeadGraph) -> Result<Vec<u32>, AllocError>
-    ensures { IfOk result (λ labels. AreClasses graph.now.edges (length graph.now.nodes) labels.items) }
+/// The classes in the order in which they were completed, and the number of its class for each node.
+#[derive(Drop)]
+pub(crate) struct StrongClasses {
+    pub labels: Vec<u32>,
+    pub rows: Lists,
+}
+
+/// The classes of a graph. Edges lead from a class to itself and to those before it.
+pub(crate) fn classes(alloc: Global, graph: &DeadGraph) -> Result<StrongClasses, AllocError>
+    ensures classes { IfOk result (λ c. AreClasses graph.now.edges (length graph.now.nodes) c.labels.items) }
+    ensures order { IfOk result (λ c. AreInOrder graph.now.edges (length graph.now.nodes) c.labels.items c.rows) }
 {
     let n = graph.nodes() as usize;
     let mut marks = vec![in alloc; UNSEEN; n]?;
     let mut labels = vec![in alloc; 0u32; n]?;
+    let mut rows = Lists::new(alloc);
     let mut stack = Vec::with_capacity(alloc, n)?;
     let mut frames = Vec::new(alloc);
-    visit_all(graph, &mut marks, &mut labels, &mut stack, &mut frames)?;
-    Ok(labels)
+    visit_all(
+        graph,
+        &mut marks,
+        &mut labels,
+        &mut rows,
+        &mut stack,
+        &mut frames,
+    )?;
+    Ok(StrongClasses { labels, rows })
 }
 
 /// Walks from each node that was not seen.
@@ -49,6 +66,7 @@ fn visit_all(
     graph: &DeadGraph,
     marks: &mut [u32],
     labels: &mut [u32],
+    rows: &mut Lists,
     stack: &mut Vec<u32>,
     frames: &mut Vec<Frame>,
 ) -> Result<(), AllocError>
@@ -57,11 +75,13 @@ fn visit_all(
     requires unseen { All (λ m. m ≡ 0) marks.old }
     requires stack { stack.old.items ≡ [] }
     requires frames { frames.old.items ≡ [] }
-    ensures { OnOk result (AreClasses graph.now.edges (length graph.now.nodes) labels.new) }
+    requires rows { rows.old ≡ [] }
+    ensures classes { OnOk result (AreClasses graph.now.edges (length graph.now.nodes) labels.new) }
+    ensures order { OnOk result (AreInOrder graph.now.edges (length graph.now.nodes) labels.new rows.new) }
 {
     for root in 0..graph.nodes() {
         if marks[root as usize] == UNSEEN {
-            walk(graph, root, marks, labels, stack, frames)?;
+            walk(graph, root, marks, labels, rows, stack, frames)?;
         }
     }
     Ok(())
@@ -73,22 +93,23 @@ fn walk(
     root: u32,
     marks: &mut [u32],
     labels: &mut [u32],
+    rows: &mut Lists,
     stack: &mut Vec<u32>,
     frames: &mut Vec<Frame>,
 ) -> Result<(), AllocError>
     requires part { IsPart graph.now.nodes graph.now.edges }
     requires root { root < length graph.now.nodes }
     requires fresh { slice_index marks.old root ≡ 0 }
-    requires going { IsGoing graph.now.edges (length graph.now.nodes) stack.old.items marks.old labels.old [] }
+    requires going { IsGoing graph.now.edges (length graph.now.nodes) stack.old.items marks.old labels.old rows.old [] }
     requires frames { frames.old.items ≡ [] }
-    ensures going { OnOk result (IsGoing graph.now.edges (length graph.now.nodes) stack.new.items marks.new labels.new []) }
+    ensures going { OnOk result (IsGoing graph.now.edges (length graph.now.nodes) stack.new.items marks.new labels.new rows.new []) }
     ensures frames { OnOk result (frames.new.items ≡ []) }
     ensures root { OnOk result (slice_index marks.new root ≢ 0) }
-    ensures kept { (x : ℕ) → slice_index marks.old x ≢ 0 → slice_index marks.new x ≢ 0 }
+    ensures kept { OnOk result ((x : ℕ) → slice_index marks.old x ≢ 0 → slice_index marks.new x ≢ 0) }
 {
     enter(root, marks, stack, frames)?;
     while let Some(frame) = frames.pop() {
-        advance(graph, frame, marks, labels, stack, frames)?;
+        advance(graph, frame, marks, labels, rows, stack, frames)?;
     }
     Ok(())
 }
@@ -125,13 +146,14 @@ fn advance(
     frame: Frame,
     marks: &mut [u32],
     labels: &mut [u32],
+    rows: &mut Lists,
     stack: &mut Vec<u32>,
     frames: &mut Vec<Frame>,
 ) -> Result<(), AllocError>
-    requires going { IsGoing graph.now.edges (length graph.now.nodes) stack.old.items marks.old labels.old (frame ∷ reverse frames.old.items) }
-    ensures going { OnOk result (IsGoing graph.now.edges (length graph.now.nodes) stack.new.items marks.new labels.new (reverse frames.new.items)) }
+    requires going { IsGoing graph.now.edges (length graph.now.nodes) stack.old.items marks.old labels.old rows.old (frame ∷ reverse frames.old.items) }
+    ensures going { OnOk result (IsGoing graph.now.edges (length graph.now.nodes) stack.new.items marks.new labels.new rows.new (reverse frames.new.items)) }
     ensures less { OnOk result (2 * unseen marks.new + length frames.new.items ≤ 2 * unseen marks.old + length frames.old.items) }
-    ensures kept { (x : ℕ) → slice_index marks.old x ≢ 0 → slice_index marks.new x ≢ 0 }
+    ensures kept { OnOk result ((x : ℕ) → slice_index marks.old x ≢ 0 → slice_index marks.new x ≢ 0) }
 {
     let row = graph.row(frame.node);
     let scan = scan_row(row, marks, frame.next, frame.low);
@@ -149,7 +171,7 @@ fn advance(
         merge(frames, scan.low);
         return Ok(());
     }
-    close(frame.node, frame.at, marks, labels, stack);
+    close(frame.at, marks, labels, rows, stack)?;
     Ok(())
 }
 
@@ -185,20 +207,40 @@ fn merge(frames: &mut Vec<Frame>, low: u32)
     }
 }
 
-/// Takes the nodes of a complete class from the stack, marks them as done and labels them.
-fn close(label: u32, at: u32, marks: &mut [u32], labels: &mut [u32], stack: &mut Vec<u32>)
+/// Takes the nodes of a complete class from the stack, marks them as done, and lists and labels the class.
+fn close(
+    at: u32,
+    marks: &mut [u32],
+    labels: &mut [u32],
+    rows: &mut Lists,
+    stack: &mut Vec<u32>,
+) -> Result<(), AllocError>
     requires at { at ≤ length stack.old.items }
     requires marks { All (λ x. x < length marks.old) stack.old.items }
     requires labels { All (λ x. x < length labels.old) stack.old.items }
+    requires few { length rows.old < 65536 }
     requires placed { (k : ℕ) → k < length stack.old.items → slice_index marks.old (slice_index stack.old.items k) ≡ k + 1 }
-    ensures stack { stack.new.items ≡ take at stack.old.items }
-    ensures taken { (k : ℕ) → at ≤ k → k < length stack.old.items → (slice_index marks.new (slice_index stack.old.items k) ≡ done_mark) × (slice_index labels.new (slice_index stack.old.items k) ≡ label) }
-    ensures others { (x : ℕ) → (slice_index marks.old x ≤ at) ⊎ (length stack.old.items < slice_index marks.old x) → (slice_index marks.new x ≡ slice_index marks.old x) × (slice_index labels.new x ≡ slice_index labels.old x) }
+    ensures stack { OnOk result (stack.new.items ≡ take at stack.old.items) }
+    ensures rows { OnOk result (rows.new ≡ rows.old ++ drop at stack.old.items ∷ []) }
+    ensures taken { OnOk result ((k : ℕ) → at ≤ k → k < length stack.old.items → (slice_index marks.new (slice_index stack.old.items k) ≡ done_mark) × (slice_index labels.new (slice_index stack.old.items k) ≡ length rows.old)) }
+    ensures others { OnOk result ((x : ℕ) → (slice_index marks.old x ≤ at) ⊎ (length stack.old.items < slice_index marks.old x) → (slice_index marks.new x ≡ slice_index marks.old x) × (slice_index labels.new x ≡ slice_index labels.old x)) }
 {
-    while stack.len() > at as usize {
-        if let Some(x) = stack.pop() {
-            marks[x as usize] = DONE;
-            labels[x as usize] = label;
-        }
+    let class = &stack[at as usize..];
+    settle(class, rows.len() as u32, marks, labels);
+    rows.push(class)?;
+    stack.truncate(at as usize);
+    Ok(())
+}
+
+/// Marks the nodes of a complete class as done and labels them.
+fn settle(class: &[u32], label: u32, marks: &mut [u32], labels: &mut [u32])
+    requires marks { All (λ x. x < length marks.old) class.now }
+    requires labels { All (λ x. x < length labels.old) class.now }
+    ensures taken { All (λ x. (slice_index marks.new x ≡ done_mark) × (slice_index labels.new x ≡ label)) class.now }
+    ensures others { (x : ℕ) → (Contains class.now x → ⊥) → (slice_index marks.new x ≡ slice_index marks.old x) × (slice_index labels.new x ≡ slice_index labels.old x) }
+{
+    for x in class {
+        marks[*x as usize] = DONE;
+        labels[*x as usize] = label;
     }
 }

@@ -160,3 +160,47 @@ fn plain_cycles(rt: HostRuntime) -> Result<(), Fail> {
     )?;
     Ok(())
 }
+
+/// Both passes say the same of graphs that are drawn at random.
+#[test]
+fn drawn_graphs(rt: HostRuntime) -> Result<(), Fail> {
+    let alloc = rt.alloc();
+    let mut seed = 1u32;
+    for round in 0..3000u32 {
+        let n = 4 + round % 9;
+        let mut builder = GraphBuilder::new(alloc);
+        for i in 0..n {
+            seed = seed.wrapping_mul(1_664_525).wrapping_add(1_013_904_223);
+            let number = i + 1;
+            assert!(rt; builder.next_is(MNum(number)));
+            let handle = if (seed >> 16) % 2 == 0 {
+                Some(HNum(number))
+            } else {
+                None
+            };
+            builder.node(MNum(number), handle, false)?;
+        }
+        for _ in 0..n + round % 7 {
+            seed = seed.wrapping_mul(1_664_525).wrapping_add(1_013_904_223);
+            let from = (seed >> 16) % n;
+            seed = seed.wrapping_mul(1_664_525).wrapping_add(1_013_904_223);
+            let to = (seed >> 16) % n;
+            assert!(rt; builder.may_lead(from, to));
+            builder.edge(from, to)?;
+        }
+        let graph = builder.finish();
+        let fast = contract(alloc, &graph)?;
+        let plain = plain_contract(alloc, &graph)?;
+        assert_eq!(rt; fast.len(), plain.len());
+        assert_eq!(rt; fast.xrefs(), plain.xrefs());
+        for i in 0..fast.len() {
+            assert!(rt; i < plain.len());
+            assert_eq!(rt; fast.objs(i), plain.objs(i));
+        }
+        for i in 0..fast.xrefs() {
+            assert!(rt; i < plain.xrefs());
+            assert_eq!(rt; fast.xref(i), plain.xref(i));
+        }
+    }
+    Ok(())
+}

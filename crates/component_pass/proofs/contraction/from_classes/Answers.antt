@@ -1,5 +1,5 @@
 -- Ordering the pairs changes neither which there are nor the components.
-use Rattle.std.proofs.Common.{◌≡◌, List, ℕ, Result, Ok, Err, IfOk, length, sym, subst, arith}
+use Rattle.std.proofs.Common.{◌≡◌, List, ℕ, Result, Ok, Err, IfOk, sym, subst}
 use Rattle.std.specs.List.Sorted.{IsPermutation}
 use Rattle.std.specs.declared.alloc.AllocError.{AllocError}
 use Rattle.joint_model.specs.Components.{IsCanonical, IsContraction}

@@ -1,12 +1,12 @@
 -- Where every node is open the search takes every edge.
-use Rattle.std.proofs.Common.{◌≡◌, ◌<◌, ◌≤◌, ℕ, Bool, List, [], true, false, ◌↔◌, IsTrue, length, replicate, get_or, sym, ◌∙◌, ap, subst, arith, inl, inr}
+use Rattle.std.proofs.Common.{◌≡◌, ◌<◌, ℕ, Bool, List, [], true, false, ◌↔◌, IsTrue, length, replicate, get_or, sym, ◌∙◌, ap, subst, arith, inl, inr}
 use Rattle.std.proofs.lemmas.Bool.{cases_lt}
 use Rattle.std.proofs.lemmas.List.{get_or-replicate, get_or_past, get_or_default, take_at}
 use Rattle.std.specs.List.{Contains}
 use Rattle.std.proofs.lemmas.List.Elements.{All-contains}
 use Rattle.joint_model.specs.Walks.{Reaches}
 use Rattle.joint_model.proofs.WalkLemmas.{Reaches-mono}
-use Rattle.bridge_graph.specs.Parts.{Leads, row_at}
+use Rattle.bridge_graph.specs.Parts.{Leads}
 use Rattle.component_pass.specs.Searching.{Goes, Finds}
 use Rattle.component_pass.proofs.plain.reaches.Goals as goal
 

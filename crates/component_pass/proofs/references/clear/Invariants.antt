@@ -1,4 +1,4 @@
-use Rattle.std.proofs.Common.{◌≡◌, ◌<◌, ℕ, true, false, get_or, length}
+use Rattle.std.proofs.Common.{◌≡◌, ◌<◌, ℕ, true, false, get_or}
 use Rattle.component_pass.proofs.references.clear.Given as goal
 
 abbrev pub invariant-loop-y : goal.invariant-loop-y

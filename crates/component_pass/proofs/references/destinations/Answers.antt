@@ -1,6 +1,6 @@
 -- A node that the search doesn't go on from gives its component, and sorting and removing what stands
 -- twice leaves the same components in order.
-use Rattle.std.proofs.Common.{◌≡◌, ◌↔◌, ◌+◌, ◌<◌, List, [], ◌∷◌, ℕ, suc, eqb, Bool, length, get_or, refl, sym, ◌∙◌, ap, subst, arith}
+use Rattle.std.proofs.Common.{◌≡◌, ◌<◌, List, [], ◌∷◌, ℕ, suc, eqb, Bool, get_or, sym, subst, arith}
 use Rattle.std.specs.List.{All, AllPairs, Contains, dedup}
 use Rattle.std.specs.List.Sorted.{IsPermutation, IsSorted}
 use Rattle.std.specs.Ordering.{nat_cmp}

@@ -1,6 +1,5 @@
 -- Each component's cross-references are those that its search comes to.
-use Rattle.std.proofs.Common.{◌≡◌, ◌+◌, ◌<◌, ◌++◌, ◌∷◌, [], List, ℕ, Bool, length, map, get_or, refl, sym, ◌∙◌, ap, subst, arith}
-use Rattle.joint_model.specs.Components.{Rises, first_of}
+use Rattle.std.proofs.Common.{refl, ◌∙◌, arith}
 use Rattle.component_pass.proofs.Crossing.{Setting, refs_none, refs_skip, refs_more, refs_fresh, outs_below, outs_apart, first_index}
 use Rattle.component_pass.proofs.references.refer_all.Goals as goal
 use Rattle.component_pass.proofs.references.refer_all.Goals.{then-is_first+in_ok-destinations+in_ok-add_all, else-is_first}

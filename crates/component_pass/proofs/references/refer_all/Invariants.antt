@@ -1,4 +1,4 @@
-use Rattle.std.proofs.Common.{◌≡◌, ◌<◌, ℕ, Bool, false, [], length}
+use Rattle.std.proofs.Common.{◌≡◌, false, []}
 use Rattle.std.specs.List.{All}
 use Rattle.bridge_graph.specs.Parts.{IsBridge, Leads}
 use Rattle.component_pass.specs.Referring.{AreReferences}

@@ -1,9 +1,8 @@
 -- Each node of the list is gone on from in turn, by its whole row.
-use Rattle.std.proofs.Common.{◌≡◌, ℕ, ◌<◌, Bool, List, [], ◌∷◌, ◌++◌, true, false, get_or, length, sym, ◌∙◌, ap, subst, arith}
-use Rattle.std.specs.List.{Contains}
+use Rattle.std.proofs.Common.{◌≡◌, ℕ, ◌<◌, List, [], ◌∷◌, ◌++◌, true, get_or, length, ◌∙◌, ap, arith}
 use Rattle.std.proofs.lemmas.List.{get_or_default, length-set}
 use Rattle.bridge_graph.specs.Parts.{row_at}
-use Rattle.component_pass.specs.Searching.{Goes, Opens}
+use Rattle.component_pass.specs.Searching.{Goes}
 use Rattle.component_pass.proofs.Finding.{search-first, search-passed, search-more, search-found}
 use Rattle.component_pass.proofs.search.search.Goals as goal
 use Rattle.component_pass.proofs.search.search.Goals.{then-opens+in_ok-visit, else-opens}

@@ -1,5 +1,5 @@
 -- A node that is not marked yet is marked and listed; one that is marked is listed already.
-use Rattle.std.proofs.Common.{◌≡◌, ◌<◌, ◌++◌, ◌∷◌, [], List, ℕ, Bool, true, false, length, set, get_or, sym, ◌∙◌, ap, subst, arith}
+use Rattle.std.proofs.Common.{◌≡◌, ◌<◌, ◌++◌, ◌∷◌, [], ℕ, length, get_or, ◌∙◌, ap, arith}
 use Rattle.std.proofs.lemmas.List.{take_more}
 use Rattle.component_pass.proofs.Finding.{marked_more, visits_none, visits_old, visits_new}
 use Rattle.component_pass.proofs.search.visit.Goals as goal

@@ -1,7 +1,7 @@
-use Rattle.std.proofs.Common.{◌≡◌, ◌+◌, ◌*◌, ◌<◌, ◌≤◌, ◌++◌, ◌∷◌, [], List, ℕ, length, min, take, reverse, get_or, set, refl, sym, ◌∙◌, ap, subst, arith}
+use Rattle.std.proofs.Common.{◌≡◌, ◌+◌, ◌<◌, ◌++◌, ◌∷◌, [], List, ℕ, length, reverse, get_or, ◌∙◌, ap, arith}
 use Rattle.std.proofs.lemmas.List.{reverse-append, length_push, get_or_default}
 use Rattle.component_pass.specs.declared.tarjan.Frame.{Frame}
-use Rattle.component_pass.specs.Tarjan.{IsGoing, unseen}
+use Rattle.component_pass.specs.Tarjan.{unseen}
 use Rattle.bridge_graph.specs.Parts.{row_at}
 use Rattle.component_pass.proofs.Strong.{descended, merged, completed, unseen-set}
 use Rattle.component_pass.proofs.tarjan.advance.Goals as goal
@@ -22,7 +22,7 @@ returns-then-scan-row-clause-going c =
     let next : c.scan_row-scan.result.next < length (row_at c.args.graph.now.edges f.node) = omega (arith, c.if-scan-row.true, ap length c.row-row.ensures.row) in
     let is : w ≡ get_or (row_at c.args.graph.now.edges f.node) c.scan_row-scan.result.next 0 = ap (λ (r : List ℕ). get_or r c.scan_row-scan.result.next 0) c.row-row.ensures.row in
     rw (frames, reverse-push (c.args.frames.now.items ++ lower ∷ []) upper, reverse-push c.args.frames.now.items lower, c.in_ok-enter.ensures.stack, c.in_ok-enter.ensures.marks)
-    (descended c.args.graph.now.edges (length c.args.graph.now.nodes) part.in_range part.few c.args.stack.now.items c.args.marks.now c.args.labels.now f (reverse c.args.frames.now.items)
+    (descended c.args.graph.now.edges (length c.args.graph.now.nodes) part.in_range part.few c.args.stack.now.items c.args.marks.now c.args.labels.now c.args.rows.now f (reverse c.args.frames.now.items)
     c.scan_row-scan.result.next c.scan_row-scan.result.low w c.requires.going scan next is)
 
 pub returns-then-scan-row-clause-less : goal.returns-then-scan-row-clause-less
@@ -54,7 +54,7 @@ returns-then-scan-frame-clause-going c =
     let f : Frame = c.args.frame in
     let going = rw (m.2, reverse-push m.1 m.0) at c.requires.going in
     rw (m.3, reverse-push)
-    (merged c.args.graph.now.edges (length c.args.graph.now.nodes) part.in_range part.few c.args.stack.now.items c.args.marks.now c.args.labels.now f m.0 (reverse m.1)
+    (merged c.args.graph.now.edges (length c.args.graph.now.nodes) part.in_range part.few c.args.stack.now.items c.args.marks.now c.args.labels.now c.args.rows.now f m.0 (reverse m.1)
     c.scan_row-scan.result.next c.scan_row-scan.result.low going scan (omega (arith, c.if-scan-row.false, ap length c.row-row.ensures.row)) (omega arith))
 
 pub close-requires-clause-marks : goal.close-requires-clause-marks
@@ -71,16 +71,16 @@ pub returns-clause-going : goal.returns-clause-going
 returns-clause-going c =
     let part = c.row-row.ensures.part in
     let scan = rw c.row-row.ensures.row at c.scan_row-scan.ensures in
-    rw c.close.ensures.stack
-    (completed c.args.graph.now.edges (length c.args.graph.now.nodes) part.in_range part.few c.args.stack.now.items c.args.marks.now c.args.labels.now c.close.new.marks c.close.new.labels
+    rw (c.in_ok-close.ensures.stack, c.in_ok-close.ensures.rows)
+    (completed c.args.graph.now.edges (length c.args.graph.now.nodes) part.in_range part.few c.args.stack.now.items c.args.marks.now c.args.labels.now c.close.new.marks c.close.new.labels c.args.rows.now
     c.args.frame (reverse c.args.frames.now.items) c.scan_row-scan.result.next c.scan_row-scan.result.low c.requires.going scan
-    (omega (arith, c.if-scan-row.false, ap length c.row-row.ensures.row)) c.if-scan-frame.false (omega arith) (omega arith) c.close.ensures.taken c.close.ensures.others).0
+    (omega (arith, c.if-scan-row.false, ap length c.row-row.ensures.row)) c.if-scan-frame.false (omega arith) (omega arith) c.in_ok-close.ensures.taken c.in_ok-close.ensures.others).0
 
 pub returns-clause-less : goal.returns-clause-less
 returns-clause-less c =
     let part = c.row-row.ensures.part in
     let scan = rw c.row-row.ensures.row at c.scan_row-scan.ensures in
-    let fewer = (completed c.args.graph.now.edges (length c.args.graph.now.nodes) part.in_range part.few c.args.stack.now.items c.args.marks.now c.args.labels.now c.close.new.marks c.close.new.labels
+    let fewer = (completed c.args.graph.now.edges (length c.args.graph.now.nodes) part.in_range part.few c.args.stack.now.items c.args.marks.now c.args.labels.now c.close.new.marks c.close.new.labels c.args.rows.now
     c.args.frame (reverse c.args.frames.now.items) c.scan_row-scan.result.next c.scan_row-scan.result.low c.requires.going scan
-    (omega (arith, c.if-scan-row.false, ap length c.row-row.ensures.row)) c.if-scan-frame.false (omega arith) (omega arith) c.close.ensures.taken c.close.ensures.others).1 in
+    (omega (arith, c.if-scan-row.false, ap length c.row-row.ensures.row)) c.if-scan-frame.false (omega arith) (omega arith) c.in_ok-close.ensures.taken c.in_ok-close.ensures.others).1 in
     omega (arith, fewer)

@@ -1,8 +1,7 @@
-use Rattle.std.proofs.Common.{◌≡◌, ◌≢◌, ◌+◌, ◌*◌, ◌<◌, ◌≤◌, ◌++◌, ◌∷◌, [], List, ℕ, length, reverse, get_or, set, refl, sym, ◌∙◌, ap, subst, arith, inl, inr}
-use Rattle.std.proofs.lemmas.List.{reverse-append, length_push, get_or-set_same, get_or-set_other}
+use Rattle.std.proofs.Common.{◌≡◌, ◌+◌, ◌++◌, ◌∷◌, [], List, ℕ, length, reverse, get_or, sym, ◌∙◌, ap, arith, inl, inr}
+use Rattle.std.proofs.lemmas.List.{reverse-append, get_or-set_same, get_or-set_other}
 use Rattle.std.proofs.lemmas.Bool.{cases_eq}
 use Rattle.component_pass.specs.declared.tarjan.Frame.{Frame}
-use Rattle.component_pass.specs.Tarjan.{IsGoing, unseen}
 use Rattle.component_pass.proofs.Strong.{started}
 use Rattle.component_pass.proofs.tarjan.walk.Goals as goal
 
@@ -21,7 +20,7 @@ loop-frame-init c =
     ap (λ (xs : List ℕ). get_or xs root 0) c.in_ok-enter.ensures.marks ∙ get_or-set_same marks root (length stack + 1) 0 (omega (arith, c.requires.going.sorted.marks_whole)) in
     record {
       going = rw (frames, c.in_ok-enter.ensures.stack, c.in_ok-enter.ensures.marks)
-          (started c.args.graph.now.edges (length c.args.graph.now.nodes) part.in_range part.few stack marks c.args.labels.now root c.requires.root c.requires.fresh c.requires.going);
+          (started c.args.graph.now.edges (length c.args.graph.now.nodes) part.in_range part.few stack marks c.args.labels.now c.args.rows.now root c.requires.root c.requires.fresh c.requires.going);
       root = λ z. absurd (omega (arith, z, here));
       kept = λ x n z. elim (cases_eq x root) [
         | inl e ↦ absurd (omega (arith, here, z, ap (λ (y : ℕ). get_or c.enter.new.marks y 0) e))

@@ -4,7 +4,7 @@ use Rattle.component_pass.proofs.tarjan.walk.Given as goal
 
 abbrev pub invariant-loop-frame : goal.invariant-loop-frame
 invariant-loop-frame l = record {
-  going : IsGoing l.graph.edges (length l.graph.nodes) l.stack.items l.marks l.labels (reverse l.frames.items);
+  going : IsGoing l.graph.edges (length l.graph.nodes) l.stack.items l.marks l.labels l.rows (reverse l.frames.items);
   root : get_or l.marks l.root 0 ≢ 0;
   kept : (x : ℕ) → get_or l.fn.marks x 0 ≢ 0 → get_or l.marks x 0 ≢ 0;
 }

@@ -1,0 +1,81 @@
+// Lists of numbers, one behind the other in one flat list.
+
+ghost use Rattle.std.specs.Prelude.{◌≡◌, ◌<◌, [], ◌∷◌, ◌++◌, length, OnOk, OnErr};
+ghost use Rattle.bridge_graph.specs.Packing.{packed_row, IsCut};
+ghost use Rattle.bridge_graph.specs.Parts.{row_at};
+
+use std::alloc::{AllocError, Global};
+use std::marker::Model;
+
+/// A list of lists, each of which is put last and is then only read.
+#[derive(Drop)]
+pub(crate) struct Lists {
+    starts: Vec<usize>,
+    items: Vec<u32>,
+}
+
+impl Model for Lists {
+    ghost use Rattle.std.specs.Prelude.{ℕ, List, length};
+
+    ghost Value = { List (List ℕ) };
+
+    ghost use Rattle.bridge_graph.specs.Packing.{packed_rows, IsCut};
+
+    ghost view = { λ l. packed_rows l.starts.items l.items.items (length l.starts.items) };
+
+    ghost invariant = { λ l. IsCut l.starts.items l.items.items };
+}
+
+impl Lists {
+    /// No list.
+    pub fn new(alloc: Global) -> Lists
+        ensures { result ≡ [] }
+    {
+        Lists {
+            starts: Vec::new(alloc),
+            items: Vec::new(alloc),
+        }
+    }
+
+    /// The number of lists.
+    pub fn len(&self) -> usize
+        ensures { result ≡ length self.now }
+    {
+        self.starts.len()
+    }
+
+    /// The list with index `i`.
+    pub fn row(&self, i: usize) -> &[u32]
+        requires { i < length self.now }
+        ensures { result.now ≡ row_at self.now i }
+    {
+        cut_row(&self.starts, &self.items, i)
+    }
+
+    /// Puts a list last.
+    pub fn push(&mut self, row: &[u32]) -> Result<(), AllocError>
+        ensures lists { OnOk result (self.new ≡ self.old ++ row.now ∷ []) }
+        ensures err { OnErr result (self.new ≡ self.old) }
+    {
+        self.starts.reserve(1)?;
+        let start = self.items.len();
+        self.items.extend_from_slice(row)?;
+        self.starts.push_reserved(start);
+        Ok(())
+    }
+}
+
+/// The list that begins at start `i` and ends at the next one's, or at the end.
+fn cut_row<'a>(starts: &[usize], items: &'a [u32], i: usize) -> &'a [u32]
+    requires cut { IsCut starts.now items.now }
+    requires index { i < length starts.now }
+    ensures { result.now ≡ packed_row starts.now items.now i }
+{
+    let start = starts[i];
+    let end = if i + 1 < starts.len() {
+        starts[i + 1]
+    } else {
+        items.len()
+    };
+    &items[start..end]
+}
