@@ -1,14 +1,14 @@
 -- The rows of a part that is being built, and of one that is packed, each read at an index. Adding a link
 -- changes one row, adding a node adds an empty one, and rows that agree at each index are the same.
-use Rattle.std.proofs.Common.{◌≡◌, ◌≢◌, ℕ, ◌+◌, ◌<◌, ◌≤◌, Bool, true, false, cond, eqb, List, [], ◌∷◌, ◌++◌, length, map, get_or, set, refl, sym, ◌∙◌, ap, subst, arith, eq-eqb, inl, inr}
-use Rattle.std.proofs.lemmas.List.{get_or-map, same_lists, length-set, get_or-set_same, get_or-set_other, append-nil}
+use Rattle.std.proofs.Common.{◌≡◌, ◌≢◌, ℕ, ◌+◌, ◌<◌, false, cond, eqb, List, [], ◌∷◌, ◌++◌, map, set, refl, sym, ◌∙◌, ap, arith, eq-eqb, inl, inr}
+use Rattle.std.proofs.lemmas.List.{length-set, get_or-set_same, get_or-set_other, append-nil}
 use Rattle.std.proofs.lemmas.List.FromFn.{length-map-range_with_len, get_or-map-range_with_len, map-range_with_len_more, fill_by_all}
 use Rattle.std.proofs.lemmas.List.Elements.{All-head, All-tail}
 use Rattle.std.proofs.lemmas.Bool.{cases_eq}
 use Rattle.std.proofs.lemmas.Bool.Decides.{nat_tests}
 use Rattle.std.specs.List.{range_with_len, All}
 use Rattle.bridge_graph.specs.declared.packing.Link.{Link}
-use Rattle.bridge_graph.specs.Packing.{rest_of, rows_of, packed_row, packed_rows}
+use Rattle.bridge_graph.specs.Packing.{rest_of, rows_of}
 use Rattle.bridge_graph.specs.Parts.{row_at}
 use Rattle.bridge_graph.proofs.Links.{rest-push}
 

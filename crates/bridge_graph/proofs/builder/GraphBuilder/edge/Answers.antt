@@ -1,6 +1,5 @@
-use Rattle.std.proofs.Common.{◌≡◌, ◌<◌, ◌+◌, ◌∷◌, [], length, vec_len, vec_capacity, sym, ◌∙◌, ap, arith}
+use Rattle.std.proofs.Common.{length, arith}
 use Rattle.bridge_graph.specs.declared.packing.Link.{Link}
-use Rattle.bridge_graph.specs.Packing.{rows_of}
 use Rattle.bridge_graph.specs.Built.{Joins}
 use Rattle.bridge_graph.proofs.Rows.{rows-link}
 use Rattle.bridge_graph.proofs.Building.{building-link}

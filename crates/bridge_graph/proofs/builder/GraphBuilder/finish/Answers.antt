@@ -1,10 +1,9 @@
 -- The packed rows are those of the links, so what they keep is what the part keeps.
-use Rattle.std.proofs.Common.{◌≡◌, ◌<◌, ◌≤◌, ◌+◌, ◌++◌, ℕ, List, length, take, drop, sym, ◌∙◌, ap, subst, arith}
+use Rattle.std.proofs.Common.{◌≡◌, ◌<◌, ℕ, List, length, arith}
 use Rattle.std.proofs.lemmas.List.{take_at}
 use Rattle.bridge_graph.specs.declared.graph.Node.{Node}
 use Rattle.bridge_graph.specs.declared.packing.Link.{Link}
 use Rattle.bridge_graph.specs.Packing.{rest_of, rows_of, packed_row, packed_rows, IsPacked}
-use Rattle.bridge_graph.specs.Parts.{IsPart}
 use Rattle.bridge_graph.specs.Built.{IsBuilding}
 use Rattle.bridge_graph.specs.Packed.{IsPackedPart}
 use Rattle.bridge_graph.proofs.Rows.{same_rows}

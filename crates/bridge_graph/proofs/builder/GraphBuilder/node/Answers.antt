@@ -1,7 +1,6 @@
-use Rattle.std.proofs.Common.{◌≡◌, ◌+◌, ◌∷◌, [], length, sym, ◌∙◌, ap, arith}
+use Rattle.std.proofs.Common.{length}
 use Rattle.std.proofs.lemmas.List.{length_push}
 use Rattle.bridge_graph.specs.declared.graph.Node.{Node}
-use Rattle.bridge_graph.specs.Packing.{rows_of}
 use Rattle.bridge_graph.proofs.Rows.{rows-node}
 use Rattle.bridge_graph.proofs.Building.{building-node, none_new}
 use Rattle.bridge_graph.proofs.builder.GraphBuilder.node.Goals as goal

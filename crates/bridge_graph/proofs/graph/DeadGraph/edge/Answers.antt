@@ -1,5 +1,4 @@
 -- What stands in a row is a node's index.
-use Rattle.std.proofs.Common.{◌≡◌, ◌<◌, length, get_or, sym, ◌∙◌, ap, subst, arith}
 use Rattle.std.proofs.lemmas.List.Elements.{Contains-get_or}
 use Rattle.bridge_graph.specs.Parts.{row_at}
 use Rattle.bridge_graph.proofs.graph.DeadGraph.edge.Goals as goal

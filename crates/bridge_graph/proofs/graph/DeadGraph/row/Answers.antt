@@ -1,5 +1,5 @@
 -- The row in the flat lists is the row of the part.
-use Rattle.std.proofs.Common.{◌≡◌, ◌<◌, ℕ, List, length, get_or, sym, subst, ◌∙◌, arith}
+use Rattle.std.proofs.Common.{ℕ, List, length, get_or, sym, subst, ◌∙◌}
 use Rattle.std.specs.List.{Contains}
 use Rattle.bridge_graph.specs.Packing.{packed_row}
 use Rattle.bridge_graph.proofs.Rows.{row-of_map}
