@@ -1,13 +1,13 @@
 -- One component more: the flat lists stay cut into components, and the components stay in their order and
 -- apart. There are never more than 65,535, because first members rise and are below that.
-use Rattle.std.proofs.Common.{◌≡◌, ◌≢◌, ◌⊎◌, ℕ, suc, ◌+◌, ◌-◌, ◌<◌, ◌≤◌, Bool, true, false, List, [], ◌∷◌, ◌++◌, length, map, flat_map, get_or, Result, Ok, Err, IfOk, OnOk, OnErr, refl, sym, ◌∙◌, ap, subst, arith, inl, inr}
-use Rattle.std.proofs.lemmas.List.{length_push, length-append, length-map, map_push, flat_map_more, get_or-map, append_assoc, append-nil}
+use Rattle.std.proofs.Common.{◌≡◌, ◌≢◌, ◌⊎◌, ℕ, suc, ◌+◌, ◌-◌, ◌<◌, ◌≤◌, Bool, List, [], ◌∷◌, ◌++◌, length, map, get_or, Result, Ok, Err, IfOk, OnOk, OnErr, refl, ◌∙◌, ap, arith, inl, inr}
+use Rattle.std.proofs.lemmas.List.{length_push, length-append, length-map, map_push, flat_map_more}
 use Rattle.std.proofs.lemmas.List.FromFn.{length-map-range_with_len}
-use Rattle.std.proofs.lemmas.List.Elements.{All-nil, All-cons, All-head, All-tail, All-push, All-map, All-weaker, All-get_or}
+use Rattle.std.proofs.lemmas.List.Elements.{All-head, All-tail, All-push, All-map, All-weaker}
 use Rattle.std.proofs.lemmas.List.Quantifiers.{all_pairs_push}
-use Rattle.std.specs.List.{All, AllPairs, Contains}
-use Rattle.joint_model.specs.Components.{Rises, first_of, first_at, circle, circle_from, PairsRise, IsCanonical}
-use Rattle.bridge_graph.specs.Packing.{packed_row, packed_rows, IsCut}
+use Rattle.std.specs.List.{All}
+use Rattle.joint_model.specs.Components.{Rises, first_of, circle, circle_from, PairsRise}
+use Rattle.bridge_graph.specs.Packing.{packed_row, packed_rows}
 use Rattle.bridge_graph.proofs.Packs.{packed_rows-more, cut-more}
 use Rattle.bridge_graph.proofs.Building.{Rises-push}
 use Rattle.std.specs.declared.alloc.AllocError.{AllocError}
@@ -15,7 +15,7 @@ use Rattle.xref_list.specs.declared.pairs.Added.{Added}
 use Rattle.xref_list.specs.declared.pairs.Added.TheVariants.{New, Old}
 use Rattle.xref_list.specs.Adding.{Adds}
 use Rattle.xref_list.specs.Listing.{AreDisjoint, AreComponents, IsBetween, IsListing}
-use Rattle.xref_list.specs.Kept.{AreFlat, IsBuilding, IsWhole}
+use Rattle.xref_list.specs.Kept.{AreFlat, IsBuilding}
 
 pub length-packed : (starts members : List ℕ) (n : ℕ) → length (packed_rows starts members n) ≡ n
 length-packed starts members n = length-map-range_with_len (packed_row starts members) 0 n

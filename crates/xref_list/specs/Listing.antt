@@ -1,5 +1,5 @@
 -- Components of bridge nodes and their cross-references, as lists.
-use Rattle.std.specs.Prelude.{◌≡◌, ◌≢◌, ℕ, ◌<◌, List, [], length, map, All, AllPairs, Contains}
+use Rattle.std.specs.Prelude.{◌≢◌, ℕ, ◌<◌, List, length, map, All, AllPairs, Contains}
 use Rattle.joint_model.specs.Components.{IsCanonical, Rises, first_of}
 
 -- the members of each component, and the pairs of component indexes

@@ -121,7 +121,7 @@ impl ComponentsBuilder {
         ensures comps { self.new.comps ≡ self.old.comps }
         ensures err { OnErr result (self.new.pairs ≡ self.old.pairs) }
     {
-        if self.pairs.len() > MOST_PAIRS || dsts.len() > MOST_PAIRS - self.pairs.len() {
+        if dsts.len() > MOST_PAIRS - self.pairs.len() {
             return Err(AllocError);
         }
         self.pairs.add_all(src, dsts)

@@ -3,6 +3,7 @@
 ghost use Rattle.std.specs.Prelude.{◌≡◌, ◌≢◌, ℕ, ◌+◌, ◌<◌, ◌≤◌, [], ◌∷◌, ◌++◌, length, map, Contains, All, AllPairs, IsTrue, IfOk, OnOk, OnErr, slice_get, Some, IsPermutation, take, vec_len, vec_capacity};
 ghost use Rattle.std.specs.HashSet as bag;
 ghost use Rattle.xref_list.specs.Adding.{Adds};
+ghost use Rattle.xref_list.specs.Known.{AreKnown};
 ghost use Rattle.joint_model.specs.Components.{Rises, PairsRise};
 
 use std::alloc::{AllocError, Global};
@@ -16,13 +17,12 @@ pub enum Added {
     Old,
 }
 
-/// The pairs in the order of adding, and a set of the first `count` of them. The set is brought up to date
+/// The pairs in the order of adding, and a set that has the first of them. The set is brought up to date
 /// only where a pair comes alone, since pairs that come grouped by source need no look-up.
 #[derive(Drop)]
 pub(crate) struct PairList {
     pairs: Vec<(u32, u32)>,
     known: HashSet<(u32, u32)>,
-    count: usize,
 }
 
 impl Model for PairList {
@@ -34,7 +34,7 @@ impl Model for PairList {
 
     ghost view = { λ s. s.pairs.items };
 
-    ghost invariant = { λ s. AreKnown s.pairs.items s.known.keys s.count };
+    ghost invariant = { λ s. AreKnown s.pairs.items s.known.keys };
 }
 
 impl PairList {
@@ -45,7 +45,6 @@ impl PairList {
         PairList {
             pairs: Vec::new(alloc),
             known: HashSet::new(alloc),
-            count: 0,
         }
     }
 
@@ -61,7 +60,7 @@ impl PairList {
         ensures added { IfOk result (λ a. Adds a self.old self.new pair) }
         ensures err { OnErr result (self.new ≡ self.old) }
     {
-        catch_up(&self.pairs, &mut self.known, &mut self.count)?;
+        catch_up(&self.pairs, &mut self.known)?;
         if self.known.contains(&pair) {
             return Ok(Added::Old);
         }
@@ -91,7 +90,6 @@ impl PairList {
         let PairList {
             mut pairs,
             known: _,
-            count: _,
         } = self;
         if !sorted {
             pairs.sort()?;
@@ -101,21 +99,13 @@ impl PairList {
 }
 
 /// Puts the pairs that are not yet known into the set.
-fn catch_up(
-    pairs: &[(u32, u32)],
-    known: &mut HashSet<(u32, u32)>,
-    count: &mut usize,
-) -> Result<(), AllocError>
-    requires count { count.old ≤ length pairs.now }
-    requires known { IsPermutation (take count.old pairs.now) known.old.keys }
-    requires apart { AllPairs (λ p q. p ≢ q) pairs.now }
-    ensures count { count.new ≤ length pairs.now }
-    ensures all { OnOk result (count.new ≡ length pairs.now) }
-    ensures known { IsPermutation (take count.new pairs.now) known.new.keys }
+fn catch_up(pairs: &[(u32, u32)], known: &mut HashSet<(u32, u32)>) -> Result<(), AllocError>
+    requires known { AreKnown pairs.now known.old.keys }
+    ensures known { AreKnown pairs.now known.new.keys }
+    ensures all { OnOk result (length known.new.keys ≡ length pairs.now) }
 {
-    while *count < pairs.len() {
-        known.insert(pairs[*count])?;
-        *count += 1;
+    while known.len() < pairs.len() {
+        known.insert(pairs[known.len()])?;
     }
     Ok(())
 }

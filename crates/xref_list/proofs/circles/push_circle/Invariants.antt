@@ -1,4 +1,4 @@
-use Rattle.std.proofs.Common.{◌≡◌, ℕ, ◌+◌, ◌-◌, ◌++◌, length, drop, get_or, vec_capacity, vec_len}
+use Rattle.std.proofs.Common.{◌≡◌, ◌+◌, ◌-◌, ◌++◌, drop, get_or, vec_capacity, vec_len}
 use Rattle.joint_model.specs.Components.{circle_from}
 use Rattle.xref_list.proofs.circles.push_circle.Given as goal
 

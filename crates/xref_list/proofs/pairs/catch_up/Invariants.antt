@@ -1,12 +1,9 @@
-use Rattle.std.proofs.Common.{ℕ, ◌≤◌, ◌-◌, length, take}
-use Rattle.std.specs.List.Sorted.{IsPermutation}
+use Rattle.std.proofs.Common.{◌-◌, length}
+use Rattle.xref_list.specs.Known.{AreKnown}
 use Rattle.xref_list.proofs.pairs.catch_up.Given as goal
 
-abbrev pub invariant-loop-count : goal.invariant-loop-count
-invariant-loop-count l = record {
-  count : l.count ≤ length l.pairs;
-  known : IsPermutation (take l.count l.pairs) l.known.keys;
-}
+abbrev pub invariant-loop-known : goal.invariant-loop-known
+invariant-loop-known l = AreKnown l.pairs l.known.keys
 
-abbrev pub decreases-loop-count : goal.decreases-loop-count
-decreases-loop-count l = length l.pairs - l.count
+abbrev pub decreases-loop-known : goal.decreases-loop-known
+decreases-loop-known l = length l.pairs - length l.known.keys

@@ -1,4 +1,4 @@
-use Rattle.std.proofs.Common.{◌≡◌, ℕ, ◌++◌, length, map, take, vec_capacity}
+use Rattle.std.proofs.Common.{◌≡◌, ◌++◌, map, take, vec_capacity}
 use Rattle.xref_list.proofs.pairs.push_all.Given as goal
 
 abbrev pub invariant-loop-dst : goal.invariant-loop-dst

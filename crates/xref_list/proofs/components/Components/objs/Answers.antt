@@ -1,4 +1,4 @@
-use Rattle.std.proofs.Common.{◌≡◌, ◌<◌, length, [], sym, ◌∙◌, ap, arith, Some}
+use Rattle.std.proofs.Common.{◌<◌, length, [], ◌∙◌, ap, arith, Some}
 use Rattle.std.proofs.lemmas.Option.{slice_get-get_or}
 use Rattle.bridge_graph.specs.Packing.{packed_row, packed_rows}
 use Rattle.bridge_graph.proofs.Rows.{row-of_map}

@@ -1,7 +1,6 @@
-use Rattle.std.proofs.Common.{◌≡◌, ◌∷◌, [], ◌++◌, ℕ, List, length, true, false, inl, inr, sym, ap, subst, arith}
+use Rattle.std.proofs.Common.{ℕ, length, inl, inr, arith}
 use Rattle.std.proofs.lemmas.Bool.{false≢true}
 use Rattle.std.proofs.lemmas.List.{length_push}
-use Rattle.xref_list.specs.Kept.{IsBuilding}
 use Rattle.xref_list.proofs.Comps.{one_added, between_push, length-packed}
 use Rattle.xref_list.proofs.components.ComponentsBuilder.add.Goals as goal
 

@@ -1,7 +1,6 @@
-use Rattle.std.proofs.Common.{◌≡◌, ◌∷◌, [], ◌++◌, ℕ, List, length, map, true, false, inl, inr, sym, ap, subst, arith}
+use Rattle.std.proofs.Common.{◌++◌, ℕ, length, map, inl, inr, arith}
 use Rattle.std.proofs.lemmas.List.{length-append, length-map}
 use Rattle.std.proofs.lemmas.List.Elements.{All-append}
-use Rattle.xref_list.specs.Kept.{IsBuilding}
 use Rattle.xref_list.specs.Listing.{IsBetween}
 use Rattle.xref_list.proofs.Rising.{rise-group}
 use Rattle.xref_list.proofs.Comps.{many_added, ends_group, length-packed}

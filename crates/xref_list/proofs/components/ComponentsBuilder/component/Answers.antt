@@ -1,7 +1,6 @@
 -- The new component lies behind the others.
-use Rattle.std.proofs.Common.{◌≡◌, ◌<◌, ◌≤◌, ◌+◌, ◌++◌, ◌∷◌, [], length, refl, sym, ◌∙◌, ap, arith}
+use Rattle.std.proofs.Common.{◌≡◌, ◌≤◌, ◌+◌, length, refl, arith}
 use Rattle.std.proofs.lemmas.List.{length_push}
-use Rattle.joint_model.specs.Components.{circle}
 use Rattle.bridge_graph.proofs.Packs.{packed_rows-more}
 use Rattle.xref_list.proofs.Comps.{building_more, length-packed}
 use Rattle.xref_list.proofs.components.ComponentsBuilder.component.Goals as goal

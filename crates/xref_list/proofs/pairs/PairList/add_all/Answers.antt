@@ -1,5 +1,5 @@
 -- The group comes from a source of its own, so none of its pairs was there.
-use Rattle.std.proofs.Common.{◌≡◌, ◌+◌, ◌++◌, ◌∙◌, arith, length, map, refl, sym, ap, subst}
+use Rattle.std.proofs.Common.{◌++◌, ◌∙◌, arith, length, map, ap}
 use Rattle.std.proofs.lemmas.List.{take-append-le, length-append}
 use Rattle.xref_list.proofs.Rising.{apart-group}
 use Rattle.xref_list.proofs.pairs.PairList.add_all.Goals as goal
@@ -12,5 +12,5 @@ invariant_of-self-2 c =
     rw items record {
       apart = apart-group c.self.inside.pairs.items c.args.src c.args.dsts.now i.apart r.fresh r.rises;
       count = omega (arith, i.count, length-append c.self.inside.pairs.items (map (λ d. (c.args.src, d)) c.args.dsts.now));
-      known = rw (take-append-le c.self.inside.count c.self.inside.pairs.items (map (λ d. (c.args.src, d)) c.args.dsts.now) i.count) i.known;
+      known = rw (take-append-le (length c.self.inside.known.keys) c.self.inside.pairs.items (map (λ d. (c.args.src, d)) c.args.dsts.now) i.count) i.known;
     }
