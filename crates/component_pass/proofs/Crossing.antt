@@ -1,17 +1,17 @@
 -- The search from x goes through x's own class and through plain classes. It comes to a node of another
 -- class with a bridge node exactly where there is a cross-reference: the part of its walk behind the last
 -- node of the own class has plain classes only, and the way to where a cross-reference leaves lies in the class.
-use Rattle.std.proofs.Common.{◌≡◌, ◌↔◌, ◌⊎◌, ℕ, suc, zero, ◌+◌, ◌<◌, Bool, true, false, List, [], ◌∷◌, ◌++◌, Some, length, map, get_or, slice_get, refl, sym, ◌∙◌, ap, subst, arith, inl, inr}
+use Rattle.std.proofs.Common.{◌≡◌, ◌↔◌, ◌⊎◌, ℕ, suc, zero, ◌+◌, ◌<◌, Bool, true, false, List, [], ◌∷◌, ◌++◌, Some, length, map, get_or, refl, sym, ◌∙◌, ap, subst, arith, inl, inr}
 use Rattle.std.proofs.lemmas.List.{length-map, get_or-map}
 use Rattle.std.proofs.lemmas.List.Elements.{All-nil, All-head, All-tail, All-push, All-contains, Contains-get_or, Contains-append_left, Contains-append_right, Contains-append_cases}
-use Rattle.std.proofs.lemmas.Option.{slice_get-get_or, slice_get_cases, get_or_from_slice_get}
+use Rattle.std.proofs.lemmas.Option.{slice_get-get_or, slice_get_within, get_or_from_slice_get}
 use Rattle.std.proofs.lemmas.List.Sorted.{Contains-permutation, IsPermutation-sym}
 use Rattle.std.specs.List.Sorted.{IsPermutation}
 use Rattle.std.proofs.lemmas.Bool.{cases_lt, cases_eq, cases_Bool, cases_order}
 use Rattle.std.specs.List.{All, Contains}
 use Rattle.joint_model.specs.Walks.{Walks, Reaches, Mutual}
 use Rattle.joint_model.specs.Components.{Rises, first_of, first_at, IsCrossReference, IsPlainClass, IsMember, IsCanonical, IsContraction}
-use Rattle.joint_model.proofs.WalkLemmas.{Walks-join, Reaches-self, Reaches-then, Reaches-trans, Reaches-keeps, Mutual-self, Mutual-sym, Mutual-trans}
+use Rattle.joint_model.proofs.WalkLemmas.{Walks-join, Reaches-self, Reaches-then, Reaches-keeps, Mutual-self, Mutual-sym, Mutual-trans}
 use Rattle.bridge_graph.specs.declared.graph.Node.{Node}
 use Rattle.bridge_graph.specs.declared.packing.Link.{Link}
 use Rattle.bridge_graph.specs.Parts.{IsBridge, IsPart, Leads}
@@ -21,6 +21,7 @@ use Rattle.component_pass.specs.Grouping.{AreGrouped, AreListed, ArePlain, IsFir
 use Rattle.component_pass.specs.Referring.{ComesTo, AreDestinations, AreReferences}
 use Rattle.component_pass.proofs.Grouped.{group-members, group-has, bridge-below}
 use Rattle.component_pass.proofs.Listed.{head_is}
+use Rattle.component_pass.proofs.Finding.{walk_inside}
 
 -- all that is known once the components are listed
 pub record Setting (nodes : List Node) (edges : List (List ℕ)) (labels : List ℕ) (flags : List Bool) (links : List Link) (comps : List (List ℕ)) (indexes : List ℕ) : Type 0 where
@@ -48,14 +49,6 @@ module _ (nodes : List Node) (edges : List (List ℕ)) (labels : List ℕ) (flag
   own_opens : (x u : ℕ) → x < length nodes → Mutual E x u → Opens flags labels (get_or labels x 0) u
   own_opens x u lt m = inr (sym ((s.classes.exact x u lt (in_range x u lt m.there)).1 m))
 
-  -- a walk between two nodes of the class is one that the search takes
-  class_walk : (x u from : ℕ) (rows : List ℕ) → x < length nodes → Reaches (Step x) x u → Mutual E x u → Walks E u rows from → Reaches E from x → Reaches (Step x) x from
-  class_walk x u from [] lt r m w back = subst (λ (v : ℕ). Reaches (Step x) x v) w r
-  class_walk x u from (z ∷ rows) lt r m w back =
-      class_walk x z from rows lt (Reaches-then (Step x) x u z r (own_opens x u lt m, w.0))
-      (record { there = Reaches-then E x u z m.there w.0; back = Reaches-trans E z from x (record { rows = rows; walk = w.1 }) back })
-      w.1 back
-
   through_plain : (x u to : ℕ) (zs : List ℕ) → x < length nodes → u < length nodes → Reaches (Step x) x u → Opens flags labels (get_or labels x 0) u
       → Walks E u (zs ++ to ∷ []) to → All (IsPlainClass (IsBridge nodes) E) zs → Reaches (Step x) x to
   through_plain x u to [] lt ul r o w a = Reaches-then (Step x) x u to r (o, w.0)
@@ -71,7 +64,7 @@ module _ (nodes : List Node) (edges : List (List ℕ)) (labels : List ℕ) (flag
   cross_to : (x b : ℕ) → x < length nodes → IsBridge nodes b → IsCrossReference (IsBridge nodes) E x b
       → (y : ℕ) × Reaches (Step x) x y × (Opens flags labels (get_or labels x 0) y → ⊥) × Mutual E b y
   cross_to x b lt bb c =
-      let leave : Reaches (Step x) x c.from = class_walk x x c.from c.leaves.there.rows lt (Reaches-self (Step x) x) (Mutual-self E x) c.leaves.there.walk c.leaves.back in
+      let leave : Reaches (Step x) x c.from = walk_inside E (Step x) (length nodes) x s.part.in_range (λ u v ul m e. (own_opens x u lt m, e)) x c.from c.leaves.there.rows lt (Reaches-self (Step x) x) (Mutual-self E x) c.leaves.there.walk c.leaves.back in
       let fl = in_range x c.from lt c.leaves.there in
       let r = through_plain x c.from c.to c.between lt fl leave (own_opens x c.from lt c.leaves) c.walk c.plain in
       let tl = in_range b c.to (bridge-below nodes b bb) c.arrives.there in (
@@ -134,9 +127,6 @@ module _ (nodes : List Node) (edges : List (List ℕ)) (labels : List ℕ) (flag
         }
       ]
 
-  get_below : (xs : List (List ℕ)) (i : ℕ) (m : List ℕ) → slice_get xs i ≡ Some m → i < length xs
-  get_below xs i m e = elim ((slice_get_cases xs i).1) [ inl t ↦ t.1 | inr t ↦ absurd (let a = t.1 in cc) ]
-
   first_is : (i : ℕ) → i < length comps → first_at comps i ≡ first_of (get_or comps i [])
   first_is i lt = get_or-map first_of comps i [] 0 lt
 
@@ -186,7 +176,7 @@ module _ (nodes : List Node) (edges : List (List ℕ)) (labels : List ℕ) (flag
       let has = group-has nodes labels (length nodes) links b s.grouped (bridge-below nodes b bb) bb in
       let m = group-members nodes labels (length nodes) links (get_or labels b 0) s.grouped 0 0 (omega (arith, has.1)) in
       let f = s.listed.found b bb (omega (arith, m.0, head_is gr)) in
-      (get_below comps (get_or indexes (get_or labels b 0) 0) gr f, get_or_from_slice_get comps (get_or indexes (get_or labels b 0) 0) gr [] f)
+      (slice_get_within comps (get_or indexes (get_or labels b 0) 0) gr f, get_or_from_slice_get comps (get_or indexes (get_or labels b 0) 0) gr [] f)
 
   -- a node that stands first in its group is the first member of the component at its label
   pub first_index : (x : ℕ) → IsFirst (group links (get_or labels x 0)) x
@@ -319,7 +309,7 @@ module _ (nodes : List Node) (edges : List (List ℕ)) (labels : List ℕ) (flag
 
   member_at : (i x : ℕ) → IsMember comps i x → (i < length comps) × (x < length nodes) × IsBridge nodes x × (get_or labels x 0 ≡ get_or labels (first_at comps i) 0)
   member_at i x m =
-      let lt = get_below comps i m.0 m.1 in
+      let lt = slice_get_within comps i m.0 m.1 in
       let c = comp_at i lt in
       let l : ℕ = get_or labels (first_at comps i) 0 in
       let inside : Contains (group links l) x = subst (λ (xs : List ℕ). Contains xs x) (sym (get_or_from_slice_get comps i m.0 [] m.1) ∙ c.1) m.2 in

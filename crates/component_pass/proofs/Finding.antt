@@ -5,9 +5,27 @@ use Rattle.std.proofs.lemmas.List.{length_push, length-append, length-set, get_o
 use Rattle.std.proofs.lemmas.List.Elements.{All-nil, All-push, All-weaker, All-contains, All-append, Contains-append_left, Contains-push}
 use Rattle.std.proofs.lemmas.Bool.{cases_lt, cases_eq, true≢false}
 use Rattle.std.specs.List.{All, Contains}
-use Rattle.joint_model.specs.Walks.{Reaches}
-use Rattle.joint_model.proofs.WalkLemmas.{Reaches-self, Reaches-then, Reaches-keeps}
+use Rattle.joint_model.specs.Walks.{Walks, Reaches, Mutual}
+use Rattle.joint_model.proofs.WalkLemmas.{Reaches-keeps, Reaches-self, Reaches-then, Reaches-trans}
+use Rattle.bridge_graph.specs.Parts.{Leads}
 use Rattle.component_pass.specs.Searching.{unmarked, AreMarked, Visits, Finds}
+
+-- an edge begins at a node
+pub leads_from : (edges : List (List ℕ)) (x y : ℕ) → Leads edges x y → x < length edges
+leads_from edges x y l =
+    elim (cases_lt x (length edges)) [
+      | inl lt ↦ lt
+      | inr ge ↦ let u = subst (λ (r : List ℕ). Contains r y) (get_or_past edges x [] ge) l in absurd (omega (arith, u.1))
+    ]
+
+-- where each edge from a node of the class of x is a step, a walk inside the class is one by steps
+pub walk_inside : (edge step : ℕ → ℕ → Type 0) (count x : ℕ) → ((u v : ℕ) → edge u v → v < count) → ((u v : ℕ) → u < count → Mutual edge x u → edge u v → step u v)
+    → (u to : ℕ) (rows : List ℕ) → u < count → Reaches step x u → Mutual edge x u → Walks edge u rows to → Reaches edge to x → Reaches step x to
+walk_inside edge step count x within takes u to [] lt r m w back = subst (λ (v : ℕ). Reaches step x v) w r
+walk_inside edge step count x within takes u to (z ∷ rows) lt r m w back =
+    walk_inside edge step count x within takes z to rows (within u z w.0) (Reaches-then step x u z r (takes u z lt m w.0))
+    (record { there = Reaches-then edge x u z m.there w.0; back = Reaches-trans edge z to x (record { rows = rows; walk = w.1 }) back })
+    w.1 back
 
 -- marking one node more
 unmarked-set : (marks : List Bool) (y : ℕ) → y < length marks → get_or marks y false ≡ false → unmarked (set marks y true) + 1 ≡ unmarked marks

@@ -2,12 +2,12 @@
 -- of its nodes reaches the edge's start inside the class. The search from a node of a component comes to
 -- exactly what leaves its class: the last edge by which its walk leaves the class begins the rest of it,
 -- which lies in classes without a bridge node.
-use Rattle.std.proofs.Common.{◌≡◌, ◌↔◌, ◌⊎◌, ℕ, ◌<◌, Bool, true, false, eqb, List, [], ◌∷◌, length, map, get_or, refl, sym, ◌∙◌, ap, subst, arith, inl, inr}
+use Rattle.std.proofs.Common.{◌≡◌, ◌↔◌, ◌⊎◌, ℕ, ◌<◌, Bool, true, false, eqb, List, length, map, get_or, refl, sym, ◌∙◌, ap, subst, arith, inl, inr}
 use Rattle.std.proofs.lemmas.List.{get_or_past}
 use Rattle.std.proofs.lemmas.List.FromFn.{length-map-range_with_len, get_or-map-range_with_len}
 use Rattle.std.proofs.lemmas.Bool.{cases_lt, cases_eq, true≢false, eqb-true, eq-eqb}
 use Rattle.std.specs.List.{Contains, range_with_len}
-use Rattle.joint_model.specs.Walks.{Walks, Reaches, Mutual}
+use Rattle.joint_model.specs.Walks.{Reaches, Mutual}
 use Rattle.joint_model.proofs.WalkLemmas.{Reaches-self, Reaches-edge, Reaches-then, Reaches-trans, Reaches-keeps, Reaches-mono, Mutual-self}
 use Rattle.bridge_graph.specs.declared.graph.Node.{Node}
 use Rattle.bridge_graph.specs.declared.packing.Link.{Link}
@@ -18,6 +18,7 @@ use Rattle.component_pass.specs.Grouping.{AreGrouped, ArePlain, group}
 use Rattle.component_pass.specs.Referring.{ComesTo}
 use Rattle.component_pass.specs.Gathering.{Gathers, set_at}
 use Rattle.component_pass.specs.Sharing.{Passes, ComesOut, Leaves, AreShared}
+use Rattle.component_pass.proofs.Finding.{leads_from, walk_inside}
 use Rattle.component_pass.proofs.Grouped.{plain_from_empty}
 
 -- for each node whether its class has no bridge node
@@ -45,13 +46,6 @@ module _ (nodes : List Node) (edges : List (List ℕ)) (labels : List ℕ) (link
   abbrev Step : ℕ → ℕ → ℕ → Type 0
   Step own = Goes edges flags labels own
 
-  begins : (x y : ℕ) → E x y → x < length nodes
-  begins x y e =
-      elim (cases_lt x (length nodes)) [
-        | inl lt ↦ lt
-        | inr ge ↦ let u = subst (λ (r : List ℕ). Contains r y) (get_or_past edges x [] (omega (arith, ge, part.rows))) e in absurd (omega (arith, u.1))
-      ]
-
   size_of_flag : (x : ℕ) → get_or flags x false ≡ true → length (group links (get_or labels x 0)) ≡ 0
   size_of_flag x t =
       let f = λ (z : ℕ). eqb (length (group links (get_or labels z 0))) 0 in
@@ -64,16 +58,6 @@ module _ (nodes : List Node) (edges : List (List ℕ)) (labels : List ℕ) (link
   flag_of_size x lt z =
       let f = λ (y : ℕ). eqb (length (group links (get_or labels y 0))) 0 in
       get_or-map-range_with_len f 0 (length nodes) x x false lt (omega arith) ∙ eq-eqb (length (group links (get_or labels x 0))) 0 z
-
-  -- a walk inside a class without a bridge node passes
-  class_pass : (x u from : ℕ) (rows : List ℕ) → x < length nodes → u < length nodes → length (group links (get_or labels x 0)) ≡ 0
-      → Reaches Pass x u → Mutual E x u → Walks E u rows from → Reaches E from x → Reaches Pass x from
-  class_pass x u from [] lt ul z r m w back = subst (λ (v : ℕ). Reaches Pass x v) w r
-  class_pass x u from (y ∷ rows) lt ul z r m w back =
-      let same : get_or labels x 0 ≡ get_or labels u 0 = (cl.exact x u lt ul).1 m in
-      class_pass x y from rows lt (part.in_range u y w.0) z (Reaches-then Pass x u y r (ap (λ (l : ℕ). length (group links l)) (sym same) ∙ z, w.0))
-      (record { there = Reaches-then E x u y m.there w.0; back = Reaches-trans E y from x (record { rows = rows; walk = w.1 }) back })
-      w.1 back
 
   -- how one came to w from the class: w is in it, or an edge left it and passes led on
   Left : ℕ → ℕ → Type 0
@@ -119,7 +103,7 @@ module _ (nodes : List Node) (edges : List (List ℕ)) (labels : List ℕ) (link
         left_out own t.0 j q.1 (λ e. absurd (omega (arith, t.2, z, ap (λ (l : ℕ). length (group links l)) e))) t.2 t.3),
     (λ t.
         let m : Mutual E x t.0 = (cl.exact x t.0 lt t.2).0 (sym t.3) in
-        let there = class_pass x x t.0 m.there.rows lt lt z (Reaches-self Pass x) (Mutual-self E x) m.there.walk m.back in
+        let there = walk_inside E Pass (length nodes) x part.in_range (λ u v ul k e. (ap (λ (l : ℕ). length (group links l)) (sym ((cl.exact x u lt ul).1 k)) ∙ z, e)) x t.0 m.there.rows lt (Reaches-self Pass x) (Mutual-self E x) m.there.walk m.back in
         let out = t.6 in
         let own : length (group links (get_or labels t.0 0)) ≡ 0 = ap (λ (l : ℕ). length (group links l)) t.3 ∙ z in
         (out.0, Reaches-trans Pass x t.1 out.0 (Reaches-then Pass x t.0 t.1 there (own, t.4)) out.1, out.2, out.3)),
@@ -133,14 +117,6 @@ module _ (nodes : List Node) (edges : List (List ℕ)) (labels : List ℕ) (link
         ap (λ (w : ℕ). get_or indexes (get_or labels w 0) 0) (sym is) ∙ t.3),
     (λ e. (x, Reaches-self Pass x, some, e)),
   )
-
-  own_walk : (x u from : ℕ) (rows : List ℕ) → x < length nodes → u < length nodes → Reaches (Step (get_or labels x 0)) x u → Mutual E x u → Walks E u rows from → Reaches E from x
-      → Reaches (Step (get_or labels x 0)) x from
-  own_walk x u from [] lt ul r m w back = subst (λ (v : ℕ). Reaches (Step (get_or labels x 0)) x v) w r
-  own_walk x u from (y ∷ rows) lt ul r m w back =
-      own_walk x y from rows lt (part.in_range u y w.0) (Reaches-then (Step (get_or labels x 0)) x u y r (inr (sym ((cl.exact x u lt ul).1 m)), w.0))
-      (record { there = Reaches-then E x u y m.there w.0; back = Reaches-trans E y from x (record { rows = rows; walk = w.1 }) back })
-      w.1 back
 
   -- the search from a node comes to what leaves its class
   pub search_leaves : (x j : ℕ) → x < length nodes
@@ -158,9 +134,9 @@ module _ (nodes : List Node) (edges : List (List ℕ)) (labels : List ℕ) (link
             ]) t.3),
         (λ t.
             let m : Mutual E x t.0 = (cl.exact x t.0 lt t.2).0 (sym t.3) in
-            let there = own_walk x x t.0 m.there.rows lt lt (Reaches-self (Step own) x) (Mutual-self E x) m.there.walk m.back in
+            let there = walk_inside E (Step own) (length nodes) x part.in_range (λ u v ul k e. (inr (sym ((cl.exact x u lt ul).1 k)), e)) x t.0 m.there.rows lt (Reaches-self (Step own) x) (Mutual-self E x) m.there.walk m.back in
             let out = t.6 in
-            let on = Reaches-mono Pass (Step own) (λ w y h. (inl (flag_of_size w (begins w y h.1) h.0), h.1)) t.1 out.0 out.1 in
+            let on = Reaches-mono Pass (Step own) (λ w y h. (inl (flag_of_size w (omega (arith, leads_from edges w y h.1, part.rows)) h.0), h.1)) t.1 out.0 out.1 in
             let vl = part.in_range t.0 t.1 t.4 in
             let yl : out.0 < length nodes = Reaches-keeps Pass (λ w. w < length nodes) (λ w y h k. part.in_range w y h.1) t.1 out.0 out.1 vl in (
               out.0,

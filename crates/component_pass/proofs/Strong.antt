@@ -13,6 +13,7 @@ use Rattle.joint_model.proofs.WalkLemmas.{Reaches-self, Reaches-edge, Reaches-th
 use Rattle.bridge_graph.specs.Parts.{Leads, row_at}
 use Rattle.component_pass.specs.declared.tarjan.Frame.{Frame}
 use Rattle.component_pass.specs.Classes.{AreClasses, AreInOrder}
+use Rattle.component_pass.proofs.Finding.{leads_from}
 use Rattle.component_pass.specs.Tarjan.{IsSegment, AreSegments, AreSorted, IsGoing, Scans, unseen, done_mark}
 
 pub unseen-set : (marks : List ℕ) (w v : ℕ) → w < length marks → get_or marks w 0 ≡ 0 → 0 < v → unseen (set marks w v) + 1 ≡ unseen marks
@@ -514,10 +515,7 @@ module _ (edges : List (List ℕ)) (count : ℕ) (in_range : (x y : ℕ) → Lea
               )),
           (λ t. (o.members c x).1 (done x t.0, t.1)),
         );
-        backwards = λ x y e. elim (cases_lt x count) [
-          | inl lt ↦ o.backwards x y (done x lt) e
-          | inr ge ↦ let u = subst (λ (r : List ℕ). Contains r y) (get_or_past edges x [] (omega (arith, ge, whole))) e in absurd (omega (arith, u.1))
-        ];
+        backwards = λ x y e. o.backwards x y (done x (omega (arith, leads_from edges x y e, whole))) e;
       }
 
   -- nothing seen yet

@@ -2,7 +2,7 @@
 // refer to which through nodes that are no bridge nodes. `contract` reads a `DeadGraph` and gives its
 // `Components`; it keeps nothing.
 //
-// Two steps. First Tarjan's algorithm labels each node with its strongly connected class. On this graph,
+// Two steps. First Tarjan's algorithm finds the strongly connected classes. On this graph,
 //
 //         0 --> 1 --> 2 --> 5
 //               ^     |
@@ -17,11 +17,22 @@
 //
 // What is kept all along: the node of each frame reaches all that lies above it on the stack; each
 // finished node on the stack reaches a node below it; no edge of a finished node leads to a place lower than
-// the lowest that its frame knows; and nodes whose class is complete lead only to such nodes.
+// the lowest that its frame knows; and nodes whose class is complete lead only to such nodes. So the classes
+// come in an order in which edges lead only to a class itself and to those before it.
 //
-// Then the bridge nodes of each class are listed together, which gives the components, and from the first
-// member of each component a search goes through the component's own class and through classes without a
-// bridge node. Each class with a bridge node that it comes to is a cross-reference.
+// Then the bridge nodes of each class are listed together, which gives the components, and each class gets
+// the set of the components that one comes to from it, in the order of the classes. A class with a bridge
+// node has its own component alone. A class without one has the union of the sets that its edges lead to,
+// and shares one of them where that is the union. With bridge nodes A, B, C and D, and plain nodes p to s,
+//
+//         A --> p --> q --> r --> C
+//                     ^     |
+//         B ----------+     +---> s --> D
+//
+// s has the set of D, r the new set of C and D, and q and p that same one. The cross-references of a
+// component are the union for its own class: here C and D for both A and B. `sharing` says what it costs.
+//
+// `plain_contract` computes the same as the definition says it, and is there for comparison.
 #![tactic(auto)]
 
 mod contraction;

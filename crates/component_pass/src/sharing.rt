@@ -41,12 +41,12 @@ pub(crate) fn share_references(
     requires groups { AreGroups graph.now.nodes labels.now groups.now }
     requires indexes { length indexes.now ≡ length graph.now.nodes }
     requires listed { AreListed graph.now.nodes labels.now groups.now.links.items (length graph.now.nodes) builder.old.comps indexes.now }
+    requires part { IsPart graph.now.nodes graph.now.edges }
     requires empty { builder.old.pairs ≡ [] }
     ensures pairs { OnOk result (AreReferences (IsBridge graph.now.nodes) (Leads graph.now.edges) builder.new.comps (length graph.now.nodes) builder.new.pairs) }
     ensures comps { builder.new.comps ≡ builder.old.comps }
 {
     let count = builder.len();
-    let _ = graph.nodes();
     let mut work = new_work(alloc, count as usize)?;
     let mut lists = Lists::new(alloc);
     let mut sets = Vec::new(alloc);

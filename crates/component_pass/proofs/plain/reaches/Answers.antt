@@ -1,21 +1,13 @@
 -- Where every node is open the search takes every edge.
-use Rattle.std.proofs.Common.{◌≡◌, ◌<◌, ℕ, Bool, List, [], true, false, ◌↔◌, IsTrue, length, replicate, get_or, sym, ◌∙◌, ap, subst, arith, inl, inr}
-use Rattle.std.proofs.lemmas.Bool.{cases_lt}
-use Rattle.std.proofs.lemmas.List.{get_or-replicate, get_or_past, get_or_default, take_at}
-use Rattle.std.specs.List.{Contains}
+use Rattle.std.proofs.Common.{◌≡◌, ◌<◌, ℕ, Bool, List, true, false, ◌↔◌, IsTrue, length, replicate, get_or, sym, ◌∙◌, ap, arith, inl}
+use Rattle.std.proofs.lemmas.List.{get_or-replicate, get_or_default, take_at}
 use Rattle.std.proofs.lemmas.List.Elements.{All-contains}
 use Rattle.joint_model.specs.Walks.{Reaches}
 use Rattle.joint_model.proofs.WalkLemmas.{Reaches-mono}
 use Rattle.bridge_graph.specs.Parts.{Leads}
 use Rattle.component_pass.specs.Searching.{Goes, Finds}
+use Rattle.component_pass.proofs.Finding.{leads_from}
 use Rattle.component_pass.proofs.plain.reaches.Goals as goal
-
-pub leads_from : (edges : List (List ℕ)) (x y : ℕ) → Leads edges x y → x < length edges
-leads_from edges x y l =
-    elim (cases_lt x (length edges)) [
-      | inl lt ↦ lt
-      | inr ge ↦ let u = subst (λ (r : List ℕ). Contains r y) (get_or_past edges x [] ge) l in absurd (omega (arith, u.1))
-    ]
 
 every : (edges : List (List ℕ)) (plain : List Bool) (labels : List ℕ) (own n x y : ℕ) → plain ≡ replicate n true → length edges ≡ n
     → Leads edges x y → Goes edges plain labels own x y
