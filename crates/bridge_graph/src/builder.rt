@@ -1,7 +1,7 @@
 // A part that is being built.
 
 ghost use Rattle.std.specs.Prelude.{◌≡◌, ℕ, ◌+◌, ◌-◌, ◌<◌, ◌≤◌, ◌++◌, [], ◌∷◌, length, slice_set, All, IfOk, OnOk, OnErr, false};
-ghost use Rattle.std.specs.Bool.{OnTrue};
+ghost use Rattle.std.specs.Bool.{OnTrue, OnFalse};
 ghost use Rattle.bridge_graph.specs.Parts.{Part, Building, IsPart, row_at, opaque_at};
 
 use crate::graph::{DeadGraph, Node};
@@ -147,6 +147,7 @@ impl GraphBuilder {
     pub fn next_is(&self, number: MNum) -> bool
         ensures few { OnTrue result (length self.now.nodes < 65535) }
         ensures rising { OnTrue result (All (λ n. n.number.0 < number.0) self.now.nodes) }
+        ensures refused { OnFalse result ((length self.now.nodes < 65535) × All (λ n. n.number.0 < number.0) self.now.nodes → ⊥) }
     {
         let count = self.nodes.len();
         count < 65535 && (count == 0 || self.nodes[count - 1].number.0 < number.0)
@@ -157,6 +158,7 @@ impl GraphBuilder {
         ensures from { OnTrue result (from < length self.now.nodes) }
         ensures to { OnTrue result (to < length self.now.nodes) }
         ensures open { OnTrue result (opaque_at self.now.nodes from ≡ false) }
+        ensures refused { OnFalse result ((from < length self.now.nodes) × (to < length self.now.nodes) × (opaque_at self.now.nodes from ≡ false) → ⊥) }
     {
         (from as usize) < self.nodes.len()
             && (to as usize) < self.nodes.len()
