@@ -1,6 +1,8 @@
 // An edge list: a line `N M`, then N lines `b` or `p`, one for each node, and then M lines `u v`, one for
 // each edge.
 
+ghost use Rattle.std.specs.Prelude.{◌≡◌};
+
 use bridge_graph::{DeadGraph, GraphBuilder};
 use joint_model::{HNum, MNum};
 use std::alloc::{AllocError, Global};
@@ -28,8 +30,26 @@ pub enum Cause {
 }
 
 impl From<AllocError> for Cause {
+    ghost use Rattle.contract_tool.specs.declared.list.Cause.TheVariants as cause;
+
+    ghost from_gives = { λ _ e. e ≡ cause.Memory };
+
     fn from(_error: AllocError) -> Cause {
         Cause::Memory
+    }
+}
+
+/// What is wrong with an edge list, in words.
+pub fn what(cause: Cause) -> &'static str {
+    match cause {
+        Cause::Counts => "the first line is not two numbers",
+        Cause::Kind => "a node's line is neither b nor p",
+        Cause::Edge => "an edge's line is not two numbers",
+        Cause::Node => "an edge names no node",
+        Cause::Nodes => "there are more than 65535 nodes",
+        Cause::End => "the list ends too early",
+        Cause::More => "a line stands behind the last edge",
+        Cause::Memory => "there is no memory",
     }
 }
 

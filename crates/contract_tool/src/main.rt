@@ -1,51 +1,70 @@
 // Measures the component analysis over an edge list from standard input. With the word `time` it prints the
 // numbers of components and pairs, and the milliseconds of the analysis alone; with the word `dump` a line
-// `scc LIST` for each component and a line `xref A B` for each pair.
+// `scc LIST` for each component and a line `xref A B` for each pair, in their order. Any other words are
+// answered by the usage line and status 1, a bad edge list by what is wrong with it and status 2.
 #![tactic(auto)]
 
 mod list;
 
 use component_pass::contract;
-use list::{Cause, read_list};
+use list::{read_list, what};
 use std::env;
 use std::io::{self, BufWriter, Write};
 use std::process::ExitCode;
 use std::time::Instant;
 use xref_list::Components;
 
+/// What is asked for.
+#[derive(Clone, Copy)]
+enum Mode {
+    Time,
+    Dump,
+}
+
 fn main(rt: HostRuntime) -> io::Result<ExitCode> {
     let word = env::args(&rt)?.nth(1);
+    let mode = match &word {
+        Some(word) => mode_of(word.as_str()),
+        None => None,
+    };
+    let Some(mode) = mode else {
+        eprintln!(rt; "usage: contract_tool time|dump < LIST")?;
+        return Ok(ExitCode::from(1));
+    };
     let text = io::read_to_string(rt.alloc(), rt.reader())?;
     let graph = match read_list(rt.alloc(), text.as_str()) {
         Ok(graph) => graph,
-        Err(cause) => return refuse(&rt, cause),
+        Err(cause) => {
+            eprintln!(rt; "bad edge list: {}", what(cause))?;
+            return Ok(ExitCode::from(2));
+        }
     };
     let start = Instant::now(&rt)?;
     let components = contract(rt.alloc(), &graph)?;
     let spent = start.elapsed(&rt)?;
-    let dump = match &word {
-        Some(word) => word.as_str() == "dump",
-        None => false,
-    };
-    if dump {
-        write_all(BufWriter::new(rt.alloc(), io::writer(&rt))?, &components)?;
-    } else {
-        let micros = u64::try_from(spent.as_micros()).unwrap_or(u64::MAX);
-        println!(rt;
-            "{} sccs {} xrefs {}.{:03} ms",
-            components.len(),
-            components.xrefs(),
-            micros / 1000,
-            micros % 1000
-        )?;
+    match mode {
+        Mode::Dump => write_all(BufWriter::new(rt.alloc(), io::writer(&rt))?, &components)?,
+        Mode::Time => {
+            let micros = u64::try_from(spent.as_micros()).unwrap_or(u64::MAX);
+            println!(rt;
+                "{} sccs {} xrefs {}.{:03} ms",
+                components.len(),
+                components.xrefs(),
+                micros / 1000,
+                micros % 1000
+            )?;
+        }
     }
     Ok(ExitCode::SUCCESS)
 }
 
-/// Says what is wrong with the list.
-fn refuse(rt: &impl Eprint, cause: Cause) -> io::Result<ExitCode> {
-    eprintln!(rt; "bad edge list: {cause:?}")?;
-    Ok(ExitCode::from(2))
+/// What a word asks for.
+fn mode_of(word: &str) -> Option<Mode> {
+    match word {
+        "time" => Some(Mode::Time),
+        "dump" => Some(Mode::Dump),
+        _ => None,
+    }
 }
 
 /// Writes the components and the pairs, a line each.
