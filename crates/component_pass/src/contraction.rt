@@ -21,6 +21,10 @@ use xref_list::{Components, ComponentsBuilder};
 /// components is listed exactly where some walk leads from the class of the first to the class of the
 /// second whose nodes between lie in classes without a bridge node. Answers `AllocError` only where there
 /// is no memory.
+///
+/// The time is linear in the nodes, the edges and the pairs that come out, but for this: where the edges of a
+/// class lead to several different sets of components, the elements of each of these sets are read once for
+/// that class, and the union is sorted.
 pub fn contract(alloc: Global, graph: &DeadGraph) -> Result<Components, AllocError>
     ensures { IfOk result (λ c. IsContraction (IsBridge graph.now.nodes) (Leads graph.now.edges) c.comps c.pairs) }
 {

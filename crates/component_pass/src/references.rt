@@ -1,5 +1,5 @@
-// The cross-references of each component, by a search from its first member through its own class and
-// through classes without a bridge node.
+// The cross-references of each component as the plain pass finds them: by a search from its first member
+// through its own class and through classes without a bridge node.
 
 ghost use Rattle.std.specs.Prelude.{◌≡◌, ◌↔◌, ℕ, ◌<◌, [], length, All, Contains, OnOk, false, slice_index};
 ghost use Rattle.joint_model.specs.Components.{Rises};

@@ -161,6 +161,38 @@ fn plain_cycles(rt: HostRuntime) -> Result<(), Fail> {
     Ok(())
 }
 
+/// Plain nodes that lead to the same components: along a chain, and where two ways meet.
+#[test]
+fn shared_sets(rt: HostRuntime) -> Result<(), Fail> {
+    both(
+        &rt,
+        rt.alloc(),
+        &[
+            true, true, true, true, false, false, false, false, false, false, false,
+        ],
+        &[
+            (0, 4),
+            (4, 5),
+            (1, 5),
+            (5, 6),
+            (6, 2),
+            (6, 7),
+            (7, 3),
+            (8, 2),
+            (8, 3),
+            (9, 3),
+            (9, 2),
+            (10, 8),
+            (10, 9),
+            (1, 10),
+        ],
+        &[&[0], &[1], &[2], &[3]],
+        &[(0, 2), (0, 3), (1, 2), (1, 3)],
+        &[(0, 2), (0, 3), (1, 2), (1, 3)],
+    )?;
+    Ok(())
+}
+
 /// Both passes say the same of graphs that are drawn at random.
 #[test]
 fn drawn_graphs(rt: HostRuntime) -> Result<(), Fail> {
