@@ -31,6 +31,7 @@ use Rattle.joint_model.specs.ManagedReplay.{ManagedReplay, adopt_by}
 use Rattle.joint_model.specs.Peers.{Peers, Issued, held, strong, pair_made, issued_since}
 use Rattle.joint_model.specs.PeerReplay.{fresh_row}
 use Rattle.joint_model.specs.Told.{Noted, nothing}
+use Rattle.managed_heap.proofs.Replays.{step}
 use Rattle.managed_heap.specs.Sides.{Side as ManagedShown, managed_event, step_made}
 use Rattle.peer_heap.specs.Replays.{Replays}
 use Rattle.peer_heap.specs.Sides.{Side as PeerShown}
@@ -145,14 +146,6 @@ make-told m p p' count count' k index sort n r noted end thread fields is table 
     }
 
 -- an adopt by its answer
-adopt-reply : (s : ManagedReplay) (p h : ℕ) (after : Managed) (r : Reply) → (adopt_by s p h after r).reply ≡ r
-adopt-reply s p h after (says.M m) = refl
-adopt-reply s p h after _ = refl
-
-adopt-state : (s : ManagedReplay) (p h : ℕ) (after : Managed) (r : Reply) → (adopt_by s p h after r).state.managed ≡ after
-adopt-state s p h after (says.M m) = refl
-adopt-state s p h after _ = refl
-
 adopt-adopted : (Q : ℕ → Type 0) (s : ManagedReplay) (p h : ℕ) (after : Managed) (r : Reply) → All Q s.adopted → Q h → All Q (adopt_by s p h after r).state.adopted
 adopt-adopted Q s p h after (says.M m) all new = All-push Q s.adopted h all new
 adopt-adopted Q s p h after _ all new = all
@@ -197,16 +190,13 @@ make-adopted m m' p count count' noted k index v kind fields sort n q h r cites 
     let end : FirstLinkage = t.next in
     let told = t.told in
     let a : Answered Managed = adopted end.base.managed.managed (place k v.0) kind fields h.0 in
-    let same : a ≡ answer r m'.managed = rw (told.managed) is in
     let event : IsManagedThread (M k) × IsVar v × ((s : Sort) × IsBridgeObject kind fields s) = (thread, line.1.0, (sort, line.1.1)) in
+    let replays = step end.base.managed m'.managed (M k) index o r cites (thread, tt, event) (t.fresh q h refl) (rw (told.managed) is) in
     let may : FirstMayCome end note = record {
       number = adds.drawn.0 ∙ sym told.count;
       event = event;
       line = t.at.lines (M k);
-      lawful = record {
-        allowed = t.fresh q h refl;
-        replies = ap (λ (x : Answered Managed). x.reply) (sym same) ∙ sym (adopt-reply end.base.managed q.0 h.0 a.state a.reply);
-      };
+      lawful = replays.lawful;
       order = subst (λ d. MayAdopt d (M k) index o cites) (sym (t.stands q h refl)) (cited, refl, refl, refl, line);
       alone = subst (λ s. IsCycleAlone s (M k)) (sym t.at.stands) tt;
     } in
@@ -216,7 +206,7 @@ make-adopted m m' p count count' noted k index v kind fields sort n q h r cites 
     let held : AreIssued m'.managed.held p.peers.issued = subst (λ (x : Answered Managed). AreIssued x.state.held p.peers.issued) is (event-issued m.managed (M k) o p.peers.issued tt (t.issued q h refl) told.held) in
     let after : IsTold (before ++ note ∷ []) (first_after end note) (record { managed = m'; peer = p; count = count' }) =
     told-push before end _ (record { managed = m'; peer = p; count = count' }) note told may grown
-    (adopt-state end.base.managed q.0 h.0 a.state a.reply ∙ ap (λ (x : Answered Managed). x.state) same) told.peer adds.drawn.1
+    replays.state told.peer adds.drawn.1
     (adopt-adopted (λ g. g ≤ length p.peers.issued) end.base.managed q.0 h.0 a.state a.reply told.adopted (t.issued q h refl).1) held told.leads in
     let here : IsOnLine index (M k) e = record { caller = refl; line = refl } in (
       first ∷ note ∷ [],

@@ -26,6 +26,8 @@ use Rattle.joint_model.specs.Told.{Noted, snap_of, begin_of, sweep_of, resolutio
 use Rattle.managed_heap.specs.Calls.{Snaps, Resolves}
 use Rattle.managed_heap.specs.declared.side.Opened.{Opened as Opening}
 use Rattle.managed_heap.specs.declared.side.ResolveOut.{ResolveOut}
+use Rattle.managed_heap.specs.Replays.{Replays as Replayed}
+use Rattle.managed_heap.proofs.Replays.{snap, resolve}
 use Rattle.managed_heap.specs.Sides.{Side as ManagedShown, snap_made, resolve_made}
 use Rattle.peer_heap.specs.Replays.{Replays}
 use Rattle.peer_heap.specs.Sides.{Side as PeerShown, Begun}
@@ -102,11 +104,14 @@ snap-goes m m' p count count' index out s noted end told at =
     let freed = managed_numbers s.freed in
     let e : Entry = numbered out.number (snap_made m.managed index out.cycle freed s.candidates) in
     let note : Noted = record { entry = e; told = snap_of freed s.candidates s.dead } in
+    let replays : Replayed end.base.managed (snap_made m.managed index out.cycle freed s.candidates) (snap_of freed s.candidates s.dead) m'.managed =
+    subst (λ (x : Managed). Replayed end.base.managed (snap_made x index out.cycle freed s.candidates) (snap_of freed s.candidates s.dead) m'.managed) told.managed
+    (snap end.base.managed m'.managed index out.cycle freed s.candidates s.dead (rw (told.managed) s.snapshot) (rw (told.managed) s.state)) in
     let may : FirstMayCome end note = record {
       number = s.drawn.0 ∙ sym told.count;
       event = tt;
       line = at.lines C;
-      lawful = record { allowed = rw (told.managed) s.snapshot; replies = rw (told.managed) refl };
+      lawful = replays.lawful;
       order = subst (λ (x : Stand). MaySnap x None) (sym at.stands) refl;
       alone = subst (λ (x : Stand). IsCycleAlone x C) (sym at.stands) tt;
     } in
@@ -119,7 +124,7 @@ snap-goes m m' p count count' index out s noted end told at =
     let name : out.cycle ≡ open_number b' = ap (λ (n : ℕ). record { 0 = n }) s.snapshot.next ∙ sym (open-is b' cycle opened) in (
       note ∷ [],
       first_after end note,
-      told-push noted end _ b' note told may grown (rw (told.managed) (sym s.state)) told.peer s.drawn.1 told.adopted
+      told-push noted end _ b' note told may grown replays.state told.peer s.drawn.1 told.adopted
           (subst (λ l. AreIssued l p.peers.issued) (ap (λ (x : Managed). x.held) (sym s.state)) told.held) told.leads,
       record {
         opened = record { cycle = out.cycle.0; snap = out.number };
@@ -224,14 +229,14 @@ resolve-goes m m' p count count' index alive out answers r noted end told at =
     let same : at.cycle ≡ r.cycle = cc in
     let told_so : alive ≡ first_answers end.base.managed.managed end.base.peer = rw (told.managed, told.peer.peers) answers in
     let many : length alive ≡ length r.cycle.candidates = rw (answers) (length-map (candidates_of m.managed) (λ x. not (is_freed p.peers.heap (peer_of_row m.managed p.peers.issued x))) ∙ ap (λ (l : List ℕ). length l) (candidates-is m.managed r.cycle r.opened)) in
+    let replays : Replayed end.base.managed (resolve_made m.managed index r.cycle.number freed None) (resolution_of alive freed) m'.managed =
+    subst (λ (x : Managed). Replayed end.base.managed (resolve_made x index r.cycle.number freed None) (resolution_of alive freed) m'.managed) told.managed
+    (resolve end.base.managed m'.managed index None r.cycle alive freed (rw (told.managed) r.opened) many (rw (told.managed) r.resolution) (rw (told.managed) r.state)) in
     let may : FirstMayCome end note = record {
       number = r.entry.drawn.0 ∙ sym told.count;
       event = tt;
       line = at.control.lines C;
-      lawful = record {
-        allowed = record { cycle = r.cycle; open_cycle = (rw (told.managed) r.opened, refl); answers = many; resolution = rw (told.managed) r.resolution };
-        replies = rw (told.managed) refl;
-      };
+      lawful = replays.lawful;
       order = (subst (λ (x : Stand). FirstResolve x r.cycle.number (first_answers end.base.managed.managed end.base.peer) (resolution_of alive freed)) (sym stands) (at.same ∙ ap (λ (c : OpenCycle). c.number) same, told_so), refl);
       alone = subst (λ (x : Stand). IsCycleAlone x C) (sym stands) tt;
     } in
@@ -241,7 +246,7 @@ resolve-goes m m' p count count' index alive out answers r noted end told at =
     let grown = managed-more (entries_of noted) m m' p count count' e freed told.ran r.entry.drawn.0 sound r.entry.added (ap (λ (x : Managed). x.heap.freed) r.state) r.entry.drawn.1 in (
       note ∷ [],
       first_after end note,
-      told-push noted end _ b' note told may grown (rw (told.managed) (sym r.state)) told.peer r.entry.drawn.1 told.adopted
+      told-push noted end _ b' note told may grown replays.state told.peer r.entry.drawn.1 told.adopted
           (subst (λ l. AreIssued l p.peers.issued) (ap (λ (x : Managed). x.held) (sym r.state)) told.held) told.leads,
       IsAt-driver index (restoring at.opened []) idle end.base.control at.control,
       record { entry = e; all = refl; place = record { caller = refl; line = refl }; event = ap (λ (k : Cycle). op.Resolve k) (sym (open-is b r.cycle r.opened)) },
@@ -255,11 +260,11 @@ pub cycle-goes : (index : ℕ) (dead : List ℕ) (b0 b1 b2 b3 b4 : Both)
     → Goes (InCycle index (λ o. restoring o [])) (AtRest index) (IsDriven index (op.Resolve (open_number b3))) b3 b4
     → b2.managed ≡ b1.managed → b3.managed ≡ b2.managed
     → Goes (AtRest index) (AtRest index) (AreLine index (C, act.PhaseLine word.Cycle)) b0 b4
-cycle-goes index dead b0 b1 b2 b3 b4 snap mark swept resolve same2 same3 noted end told at =
-    let s = snap noted end told at in
-    let m = mark (noted ++ s.0) s.1 s.2 s.3 in
-    let w = swept (noted ++ s.0 ++ m.0) m.1 m.2 m.3 in
-    let r = resolve (noted ++ s.0 ++ m.0 ++ w.0) w.1 w.2 w.3 in
+cycle-goes index dead b0 b1 b2 b3 b4 snapping marking sweeping resolving same2 same3 noted end told at =
+    let s = snapping noted end told at in
+    let m = marking (noted ++ s.0) s.1 s.2 s.3 in
+    let w = sweeping (noted ++ s.0 ++ m.0) m.1 m.2 m.3 in
+    let r = resolving (noted ++ s.0 ++ m.0 ++ w.0) w.1 w.2 w.3 in
     let name : open_number b3 ≡ open_number b1 = ap (λ (x : ManagedShown). elim x.managed.cycle [ None ↦ record { 0 = 0 } | Some c ↦ record { 0 = c.number } ]) (same3 ∙ same2) in
     let more : List Noted = s.0 ++ m.0 ++ w.0 ++ r.0 in
     let whole : noted ++ s.0 ++ m.0 ++ w.0 ++ r.0 ≡ noted ++ (s.0 ++ m.0 ++ w.0 ++ r.0) =

@@ -25,6 +25,7 @@ use Rattle.joint_model.specs.Lines.{IsManagedThread, IsThread, IsBridgeObject, I
 use Rattle.joint_model.specs.Managed.{Managed}
 use Rattle.joint_model.specs.Peers.{Issued}
 use Rattle.joint_model.specs.Told.{Noted, nothing}
+use Rattle.managed_heap.proofs.Replays.{step}
 use Rattle.managed_heap.specs.Sides.{Side as ManagedShown, managed_event, IsFirstAct, IsFirstOp, IsFirstManagedStep, step_made}
 use Rattle.peer_heap.specs.Sides.{Side as PeerShown}
 use Rattle.script_histories.specs.Holding.{AreLine, AreEvents, IsOnLine}
@@ -141,11 +142,12 @@ line-goes m m' p count count' C index a r thread line first is adds noted end to
 line-goes m m' p count count' (M k) index a r thread line first is adds noted end told at =
     let e : Entry = numbered adds.number (step_made (M k) index (op.Line a) r None) in
     let n : Noted = record { entry = e; told = nothing } in
+    let replays = step end.base.managed m'.managed (M k) index (op.Line a) r None (thread, first, (line, first-one a first)) tt (rw (told.managed) is) in
     let may : FirstMayCome end n = record {
       number = adds.drawn.0 ∙ sym told.count;
       event = (line, first-one a first);
       line = at.lines (M k);
-      lawful = record { allowed = tt; replies = rw (told.managed) (ap (λ (x : Answered Managed). x.reply) (sym is)) };
+      lawful = replays.lawful;
       order = done-start (doing_at end.base.control k) (at.done k);
       alone = subst (λ s. IsCycleAlone s (M k)) (sym at.stands) tt;
     } in
@@ -155,7 +157,7 @@ line-goes m m' p count count' (M k) index a r thread line first is adds noted en
       n ∷ [],
       first_after end n,
       told-push noted end _ (record { managed = m'; peer = p; count = count' }) n told may grown
-          (rw (told.managed) (ap (λ (x : Answered Managed). x.state) is)) told.peer adds.drawn.1 told.adopted held told.leads,
+          replays.state told.peer adds.drawn.1 told.adopted held told.leads,
       IsAt-thread index idle end.base.control k free tt at,
       record { places = All-cons (IsOnLine index (M k)) e [] record { caller = refl; line = refl } (All-nil (IsOnLine index (M k))); events = line-events a e first refl },
     )

@@ -1,3 +1,4 @@
 pub mod Gathering
 pub mod Freezing
 pub mod Snapshots
+pub mod Replays

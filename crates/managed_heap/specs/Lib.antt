@@ -6,3 +6,4 @@ pub mod Unmarked
 pub mod Found
 pub mod Rows
 pub mod Calls
+pub mod Replays

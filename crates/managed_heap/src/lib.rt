@@ -23,12 +23,14 @@
 #![tactic(auto)]
 
 mod found;
+mod laws;
 mod marker;
 mod notes;
 mod open;
 mod rows;
 mod side;
 
+pub use laws::{abandon_replays, opening_replays, resolve_replays, snap_replays, step_replays};
 pub use side::{ManagedLists, ManagedSide, Opened, Pins, ResolveOut, SnapFault};
 
 #[cfg(test)]
