@@ -37,3 +37,4 @@ pub mod ReadersOwn
 pub mod TwoMarkingsSteps
 pub mod FirstNamesSteps
 pub mod WholeHistories
+pub mod Promoted

@@ -25,3 +25,4 @@ pub mod Readings
 pub mod TwoMarkings
 pub mod FirstNames
 pub mod Wholes
+pub mod Broken

@@ -4,6 +4,7 @@
 // could not be proved would show a mistake in a definition, so they are checked before anything stands on them.
 #![tactic(auto)]
 
+mod broken;
 mod first_steps;
 mod further;
 mod graphs;
@@ -11,6 +12,7 @@ mod histories;
 mod readings;
 mod runs;
 
+pub use broken::{mirror_outlasts_the_restores, promoted_peer_is_kept, weak_handle_is_no_root};
 pub use first_steps::{reached_object_stays, set_answers_ok, two_linked_objects};
 pub use further::{
     abandoned_is_lawful, ended_marking_is_lawful, first_names_is_lawful, global_names_is_lawful,

@@ -1,0 +1,19 @@
+// What no lawful history has.
+
+ghost use Rattle.worked_histories.specs.Broken.{SweepsUnderWeak, ClearsLast, KeepsPromoted};
+
+/// The own sweep of a cycle frees both peers that only weak handles and one another lead to: a sweep that takes a weak
+/// handle for a root isn't lawful.
+pub fn weak_handle_is_no_root()
+    ensures { SweepsUnderWeak }
+{}
+
+/// The mirror stands until the last restore: clearing it before isn't lawful.
+pub fn mirror_outlasts_the_restores()
+    ensures { ClearsLast }
+{}
+
+/// A peer that a weak name gave back during a marking isn't freed by its sweep, also where no slot keeps it.
+pub fn promoted_peer_is_kept()
+    ensures { KeepsPromoted }
+{}
