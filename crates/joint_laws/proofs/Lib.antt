@@ -1,0 +1,4 @@
+pub mod Lists
+pub mod FiniteReach
+pub mod Circles
+pub mod Mirrors

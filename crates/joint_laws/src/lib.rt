@@ -1,0 +1,8 @@
+// Laws of the joint machine and of linked histories, over the definitions of `joint_model` alone.
+//
+// Each function is a law: its body is empty, and its contract is a statement of `specs/`.
+#![tactic(auto)]
+
+mod graphs;
+
+pub use graphs::{Graph, mirror_edges_follow_walks, walks_follow_mirror_edges};
