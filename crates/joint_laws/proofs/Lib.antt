@@ -2,3 +2,15 @@ pub mod Lists
 pub mod FiniteReach
 pub mod Circles
 pub mod Mirrors
+pub mod Numbered
+pub mod Fields
+pub mod HeapMoves
+pub mod ManagedLines
+pub mod ManagedMoves
+pub mod ManagedKeeping
+pub mod Registered
+pub mod ManagedSteps
+pub mod Adopting
+pub mod ReplayKeeping
+pub mod Everywhere
+pub mod ManagedEntries

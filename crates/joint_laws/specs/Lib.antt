@@ -1,1 +1,4 @@
 pub mod Mirrors
+pub mod States
+pub mod ManagedInvariants
+pub mod ManagedLaws

@@ -4,5 +4,7 @@
 #![tactic(auto)]
 
 mod graphs;
+mod managed;
 
 pub use graphs::{Graph, mirror_edges_follow_walks, walks_follow_mirror_edges};
+pub use managed::{dead_part_is_frozen, managed_side_is_kept};
