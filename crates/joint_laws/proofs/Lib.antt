@@ -14,3 +14,5 @@ pub mod Adopting
 pub mod ReplayKeeping
 pub mod Everywhere
 pub mod ManagedEntries
+pub mod ManagedFrees
+pub mod DeadMirrors

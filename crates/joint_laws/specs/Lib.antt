@@ -2,3 +2,4 @@ pub mod Mirrors
 pub mod States
 pub mod ManagedInvariants
 pub mod ManagedLaws
+pub mod FreeingLaws
