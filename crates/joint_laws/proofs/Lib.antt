@@ -16,3 +16,11 @@ pub mod Everywhere
 pub mod ManagedEntries
 pub mod ManagedFrees
 pub mod DeadMirrors
+pub mod Sparing
+pub mod HeapKeeping
+pub mod HandleKeeping
+pub mod MarkingKeeping
+pub mod ReferenceKeeping
+pub mod PeerMoves
+pub mod PeerEvents
+pub mod PeerEntries

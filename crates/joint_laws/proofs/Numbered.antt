@@ -89,7 +89,7 @@ numbered_set-other xs (suc i) zero y ne = refl
 numbered_set-other xs (suc i) (suc k) y ne = set-at_other xs i k y (λ e. ne (ap suc e))
 
 -- a slot that names something
-slot-named : {X : Type 0} (o : Option (Option X)) (x : X) → elim o [ None ↦ None | Some y ↦ y ] ≡ Some x → o ≡ Some (Some x)
+pub slot-named : {X : Type 0} (o : Option (Option X)) (x : X) → elim o [ None ↦ None | Some y ↦ y ] ≡ Some x → o ≡ Some (Some x)
 slot-named None x e = cc
 slot-named (Some y) x e = ap Some e
 

@@ -3,3 +3,4 @@ pub mod States
 pub mod ManagedInvariants
 pub mod ManagedLaws
 pub mod FreeingLaws
+pub mod PeerInvariants
