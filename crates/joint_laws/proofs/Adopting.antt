@@ -44,7 +44,7 @@ HoldsSame-as s t e = record {
   before = λ x h q. subst (λ hs. numbered_at hs x ≡ Some (Some h)) e q;
 }
 
-pushed-still : (held : List (Option ℕ)) (o : Option ℕ) (x h : ℕ) → numbered_at held x ≡ Some (Some h) → numbered_at (held ++ o ∷ []) x ≡ Some (Some h)
+pub pushed-still : (held : List (Option ℕ)) (o : Option ℕ) (x h : ℕ) → numbered_at held x ≡ Some (Some h) → numbered_at (held ++ o ∷ []) x ≡ Some (Some h)
 pushed-still held o x h q = numbered-push_old held o x (numbered-within held x (Some h) q).1 ∙ q
 
 HoldsSame-row : (s : Managed) (v : ℕ) (kind : Kind) (n : ℕ) → HoldsSame s (with_row s v kind n None)
@@ -89,20 +89,20 @@ module _ (s : ManagedReplay) (t : Managed) (k : IsReplayKept s) (g : GoesOn s.ma
 
 -- a new row takes a handle that was never adopted
 module _ (s : ManagedReplay) (v : ℕ) (kind : Kind) (n p h : ℕ) (k : IsReplayKept s) (virgin : Contains s.adopted h → ⊥) where
-  abbrev after : Managed
+  abbrev pub after : Managed
   after = with_row s.managed v kind n (Some h)
 
-  abbrev newest : ℕ
+  abbrev pub newest : ℕ
   newest = next_number s.managed.heap
 
-  grows : GoesOn s.managed after
+  pub grows : GoesOn s.managed after
   grows = GoesOn-row s.managed v kind n (Some h) k.managed.places
 
   after_kept : IsManagedKept after
   after_kept = IsManagedKept-goes_on s.managed after k.managed grows
 
   -- a handle was held before, or is the one that the new row takes
-  held-cases : (x g : ℕ) → Holds after x g → Holds s.managed x g ⊎ ((x ≡ newest) × (h ≡ g))
+  pub held-cases : (x g : ℕ) → Holds after x g → Holds s.managed x g ⊎ ((x ≡ newest) × (h ≡ g))
   held-cases x g q = elim (numbered-push_cases s.managed.held (Some h) x (Some g) q.held) [
     | inl w ↦ inl (was-held s after k grows x g w q.live)
     | inr w ↦ inr (omega (arith, w.0, k.managed.places), same_Some h g w.1)
@@ -133,23 +133,23 @@ module _ (s : ManagedReplay) (v : ℕ) (kind : Kind) (n p h : ℕ) (k : IsReplay
   old-bridge : (q x : ℕ) → Contains s.registry (q, x) → IsBridge after x
   old-bridge q x c = let b = k.pairs q x c in (b.0, record { live = stays-live s after k grows x b.1.live; held = pushed-still s.managed.held (Some h) x b.0 b.1.held })
 
-  new-held : numbered_at (s.managed.held ++ Some h ∷ []) newest ≡ Some (Some h)
+  pub new-held : numbered_at (s.managed.held ++ Some h ∷ []) newest ≡ Some (Some h)
   new-held = let e : newest ≡ length s.managed.held + 1 = omega (arith, k.managed.places) in rw e (numbered-push_new s.managed.held (Some h))
 
-  new-live : IsLive after.heap newest
+  pub new-live : IsLive after.heap newest
   new-live = record {
     made = (omega arith, omega (arith, with_object-length s.managed.heap n));
     kept = λ c. (let m = k.managed.freed newest c in omega (arith, m.1));
   }
 
-  new-bridge : IsBridge after newest
+  pub new-bridge : IsBridge after newest
   new-bridge = (h, record { live = new-live; held = new-held })
 
-  abbrev pushed : List (ℕ × ℕ)
+  abbrev pub pushed : List (ℕ × ℕ)
   pushed = s.registry ++ (p, newest) ∷ []
 
   -- a pair was there, or is the new one
-  pair-cases : (q x : ℕ) → Contains pushed (q, x) → Contains s.registry (q, x) ⊎ ((p ≡ q) × (newest ≡ x))
+  pub pair-cases : (q x : ℕ) → Contains pushed (q, x) → Contains s.registry (q, x) ⊎ ((p ≡ q) × (newest ≡ x))
   pair-cases q x c = elim (Contains-push_cases s.registry (p, newest) (q, x) c) [
     | inl w ↦ inl w
     | inr e ↦ inr (ap (λ (z : ℕ × ℕ). z.0) e, ap (λ (z : ℕ × ℕ). z.1) e)

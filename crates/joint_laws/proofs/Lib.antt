@@ -24,3 +24,13 @@ pub mod ReferenceKeeping
 pub mod PeerMoves
 pub mod PeerEvents
 pub mod PeerEntries
+pub mod HandlesAlike
+pub mod PeerQuiet
+pub mod PeerQuietEvents
+pub mod DriverPeers
+pub mod SameGraphs
+pub mod DriverManaged
+pub mod OwnersManaged
+pub mod Hands
+pub mod DriverSteps
+pub mod DriverPeerSteps

@@ -125,6 +125,7 @@ module _ (s t : Managed) (k : IsManagedKept s) (g : GoesOn s t) where
         λ q. (cut.candidates x).1 (q.0, (bridge_on x q.0).1 q.1),
       );
       latest = cut.latest ∙ sym g.cycles;
+      rise = cut.rise;
     }
 
   pub IsManagedKept-goes_on : IsManagedKept t
@@ -199,6 +200,7 @@ module _ (s : Managed) (k : ℕ) (freed candidates dead : List ℕ) (kept : IsMa
       λ q. (p.picks x).1 (bridge-before x q.1, ((p.leaves x).0 q.0).1),
     );
     latest = refl;
+    rise = p.candidates_rise;
   }
 
   pub IsManagedKept-snapped : IsManagedKept after

@@ -69,7 +69,7 @@ given-by : (s : PeerReplay) (g p : ℕ) (strength : Strength) (o : Option ℕ) �
 given-by s g p strength (Some h) k i = stay-event s says.Taken k
 given-by s g p strength None k i = name-by s g p strength (is_full s.peers.issued) k i
 
-abbrev globalised_by : Peers → ℕ → Strength → Option ℕ → Answered Peers
+abbrev pub globalised_by : Peers → ℕ → Strength → Option ℕ → Answered Peers
 globalised_by s g strength o = elim o [ None ↦ answer says.Empty s | Some p ↦ name_given s g p strength (slot s.names g) ]
 
 global-event : (s : PeerReplay) (g v : ℕ) (strength : Strength) (o : Option ℕ) → IsPeerKept s → slot s.peers.heap.vars v ≡ o → IsPeerKept (on_table s (globalised_by s.peers g strength o)).state
@@ -77,7 +77,7 @@ global-event s g v strength None k e = stay-event s says.Empty k
 global-event s g v strength (Some p) k e = given-by s g p strength (slot s.peers.names g) k (inl (slot-Contains s.peers.heap.vars v p e))
 
 -- a name loses its handle
-abbrev freed_by : Peers → ℕ → Option ℕ → Answered Peers
+abbrev pub freed_by : Peers → ℕ → Option ℕ → Answered Peers
 freed_by s g o = elim o [ None ↦ answer says.Unset s | Some h ↦ answer says.Ok (record s { names = set s.names g None }) ]
 
 unglobal-event : (s : PeerReplay) (g : ℕ) (o : Option ℕ) → IsPeerKept s → IsPeerKept (on_table (untabled s o) (freed_by s.peers g o)).state
@@ -115,7 +115,7 @@ land-event s x h (Some p) k e =
     let back : PeerReplay = record s { marking = brought_to s.marking p } in
     on_table-still back (record s.peers { heap = with_static s.peers.heap x (Some p) }) refl (kept-static back x p (kept-brought s p k) (target-live s h p k e) (brought-safe s p k))
 
-abbrev read_by : (ℕ → Option ℕ) → Peers → ℕ → Option ℕ → Answered Peers
+abbrev pub read_by : (ℕ → Option ℕ) → Peers → ℕ → Option ℕ → Answered Peers
 read_by target s v o = elim o [ None ↦ answer says.Unset s | Some h ↦ peer_read s v (target h) ]
 
 wread-event : (s : PeerReplay) (v : ℕ) (o : Option ℕ) → IsPeerKept s → IsPeerKept (brings (on_table s (read_by (table_target s) s.peers v o))).state

@@ -4,3 +4,4 @@ pub mod ManagedInvariants
 pub mod ManagedLaws
 pub mod FreeingLaws
 pub mod PeerInvariants
+pub mod LinkedInvariants

@@ -1,17 +1,19 @@
 -- What every state of the managed side keeps, in a lawful list of its entries.
 use Rattle.std.specs.Prelude.{◌≡◌, ℕ, ◌↔◌, length, Contains, Some}
+use Rattle.joint_model.specs.Components.{Rises}
 use Rattle.joint_model.specs.Heaps.{IsMade, IsLive, fields_of}
 use Rattle.joint_model.specs.Managed.{Managed, OpenCycle, Holds, IsBridge, IsManagedRoot}
 use Rattle.joint_model.specs.ManagedReplay.{ManagedReplay}
 
 -- a dead part is cut off: its rows are unfreed, no slot and no field of another row names one of them, and the
--- candidates are those of its rows that hold a handle
+-- candidates are those of its rows that hold a handle, rising
 pub record IsCutOff (s : Managed) (c : OpenCycle) : Type 0 where
   pub live : (m : ℕ) → Contains c.dead m → IsLive s.heap m
   pub unnamed : (m : ℕ) → IsManagedRoot s m → Contains c.dead m → ⊥
   pub unheld : (m n : ℕ) → IsLive s.heap m → (Contains c.dead m → ⊥) → Contains (fields_of s.heap m) (Some n) → Contains c.dead n → ⊥
   pub candidates : (m : ℕ) → Contains c.candidates m ↔ (Contains c.dead m × IsBridge s m)
   pub latest : c.number ≡ s.cycles
+  pub rise : Rises c.candidates
 
 -- nothing that was freed is named: slots, pins and fields of unfreed rows name unfreed rows, and cells name rows that
 -- were made; and an open cycle's dead part is cut off
