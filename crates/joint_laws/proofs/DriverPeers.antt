@@ -1,12 +1,13 @@
 -- How far the driver has come stays so at an entry of the peer side that touches no handle of a row and leaves the mirror
 -- alone. And what threads have in hand stays so at a quiet event: a peer just made is named by nothing that a slot could
 -- come by.
-use Rattle.std.proofs.Common.{◌≡◌, ℕ, inl, inr, Bool, true, false, List, length, Option, Some, None, refl, sym, subst, ◌∙◌}
+use Rattle.std.proofs.Common.{◌≡◌, ℕ, ◌≤◌, inl, inr, Bool, true, false, List, length, Option, Some, None, refl, sym, subst, ◌∙◌}
 use Rattle.std.specs.Prelude.{Contains, if◌then◌else◌}
+use Rattle.std.proofs.lemmas.Bool.{cases_lt}
 use Rattle.std.proofs.lemmas.Option.{same_Some}
 use Rattle.joint_model.specs.declared.names.Thread.TheVariants.{C}
 use Rattle.joint_model.specs.Control.{Doing, free, made, lent, gripped, given, met, Opened, Stand, idle, snapped, contracted, weakening, marked, restoring, restored}
-use Rattle.joint_model.specs.Heaps.{IsMade, IsLive, InSlot, numbered_at}
+use Rattle.joint_model.specs.Heaps.{IsMade, IsLive, InSlot, numbered_at, fields_of}
 use Rattle.joint_model.specs.Managed.{OpenCycle, Holds}
 use Rattle.joint_model.specs.ManagedReplay.{ManagedReplay}
 use Rattle.joint_model.specs.Peers.{Issued, strong, weak, peer_of}
@@ -14,7 +15,7 @@ use Rattle.joint_model.specs.PeerReplay.{PeerReplay, TableRow, Marking, row_of, 
 use Rattle.joint_laws.specs.PeerInvariants.{IsIssued, IsPeerKept}
 use Rattle.joint_laws.specs.LinkedInvariants.{HasStrength, IsHeldOne, IsRowOf, AreOwnersKept, doing_in, HasInHand, HasPeer, HasMadePair, IsVirgin, AreCallersKept, ForCandidates, IsMirrored, IsWeakenedBy, IsRestoredBy, IsClosed, IsBeforeMirror, IsDriverKept}
 use Rattle.joint_laws.proofs.Numbered.{none_some}
-use Rattle.joint_laws.proofs.Fields.{IsLive-more}
+use Rattle.joint_laws.proofs.Fields.{IsLive-more, fields-past}
 use Rattle.joint_laws.proofs.HandlesAlike.{HandlesAlike, nothing_touched, row_of-on, row_of-back, AreOwnersKept-peer, IsLoose-peer, weakened-peer, restored-peer}
 use Rattle.joint_laws.proofs.PeerQuiet.{IsQuiet}
 
@@ -51,18 +52,18 @@ module _ (touched : ℕ → Type 0) (r : ManagedReplay) (s t : PeerReplay) (a : 
       handles = candidates_on b.cycle (λ l h. HasStrength s h strong) (λ l h. HasStrength t h strong) (λ l h n w q. a.on h strong w n q) b.handles;
     }
 
-    pub driver_on : StillOwn s t → StaysClosed r s t → (d : Stand) → IsDriverKept r s d → IsDriverKept r t d
-    driver_on own closed idle k = record { closed = k.closed; none = mirror ∙ k.none }
-    driver_on own closed (snapped o) k = before_on o k
-    driver_on own closed (contracted o comps xrefs) k = record { before = before_on o k.before; contraction = k.contraction }
-    driver_on own closed (weakening o count w sw) k = record {
+    pub driver_on : (d : Stand) → ((o : Opened) → d ≡ marked o → StillOwn s t) → StaysClosed r s t → IsDriverKept r s d → IsDriverKept r t d
+    driver_on idle own closed k = record { closed = k.closed; none = mirror ∙ k.none }
+    driver_on (snapped o) own closed k = before_on o k
+    driver_on (contracted o comps xrefs) own closed k = record { before = before_on o k.before; contraction = k.contraction }
+    driver_on (weakening o count w sw) own closed k = record {
       cycle = k.cycle;
       opened = k.opened;
       mirror = mirrored_on k.cycle k.mirror;
       handles = candidates_on k.cycle (IsWeakenedBy s count) (IsWeakenedBy t count) (λ l h n w q. weakened-peer touched r s t a count l h n w q) k.handles;
     }
-    driver_on own closed (marked o) k =
-        let now = own k.marking k.own k.by_driver in
+    driver_on (marked o) own closed k =
+        let now = own o refl k.marking k.own k.by_driver in
         record {
           cycle = k.cycle;
           opened = k.opened;
@@ -72,13 +73,13 @@ module _ (touched : ℕ → Type 0) (r : ManagedReplay) (s t : PeerReplay) (a : 
           own = now.1;
           by_driver = now.2;
         }
-    driver_on own closed (restoring o answers) k = record {
+    driver_on (restoring o answers) own closed k = record {
       cycle = k.cycle;
       opened = k.opened;
       mirror = mirrored_on k.cycle k.mirror;
       handles = candidates_on k.cycle (IsRestoredBy s answers) (IsRestoredBy t answers) (λ l h n w q. restored-peer touched r s t a answers l h n w q) k.handles;
     }
-    driver_on own closed (restored o answers clear) k = record {
+    driver_on (restored o answers clear) own closed k = record {
       cycle = k.cycle;
       opened = k.opened;
       none = mirror ∙ k.none;
@@ -143,18 +144,22 @@ module _ (via : ℕ → Type 0) (r : ManagedReplay) (s t : PeerReplay) (k : IsPe
   own_quiet mk e f = let now = q.marking mk e in (now.0, now.1, now.2 ∙ f)
 
   pub driver_quiet : (d : Stand) → IsDriverKept r s d → IsDriverKept r t d
-  driver_quiet d kept = driver_on nothing_touched r s t q.handles owners (λ m h w c. w) q.refs q.mirror own_quiet closed_quiet d kept
+  driver_quiet d kept = driver_on nothing_touched r s t q.handles owners (λ m h w c. w) q.refs q.mirror d (λ o e. own_quiet) closed_quiet kept
+
+  -- what has a field was made
+  has_field-made : (x y : ℕ) → 1 ≤ x → Contains (fields_of s.peers.heap x) (Some y) → IsMade s.peers.heap x
+  has_field-made x y l c = (l, elim (cases_lt (length s.peers.heap.fields) x) [ inl p ↦ absurd (fields-past s.peers.heap x (Some y) p c) | inr p ↦ p ])
 
   virgin_quiet : (p h : ℕ) → IsVirgin r s p h → IsMade s.peers.heap p → ((g : ℕ) → via g → g ≡ h → ⊥) → IsVirgin r t p h
   virgin_quiet p h v m other = record {
     slots = λ i. elim (q.slots p i) [
-      | inl reach ↦ elim reach [ inl j ↦ v.slots j | inr z ↦ v.fields z.0 z.2 ]
+      | inl reach ↦ elim reach [ inl j ↦ v.slots j | inr z ↦ v.fields z.0 (k.heap.slots z.0 z.1) z.2 ]
       | inr w ↦ elim w [
         | inl n ↦ n m
         | inr g ↦ (let i = target-issued s g.0 p g.2 in other g.0 g.1 (v.handles g.0 i.0 i.1 i.2))
       ]
     ];
-    fields = λ x c. elim (q.fields x p c) [ inl d ↦ v.fields x d | inr i ↦ v.slots i ];
+    fields = λ x l c. elim (q.fields x p c) [ inl d ↦ v.fields x (live_back x (has_field-made x p l.made.0 d) l) d | inr i ↦ v.slots i ];
     handles = λ g i e l. elim (q.issues g i e) [
       | inl old ↦ v.handles g i old l
       | inr w ↦ elim w [

@@ -82,7 +82,7 @@ module _ (r : ManagedReplay) (s : PeerReplay) (op : Opened) (answers : List Bool
   pub strong-live : (m p : ℕ) (w : IsRowOf r.managed s.peers.issued m p) → HasStrength s w.handle strong → IsLive s.peers.heap p
   strong-live m p w t = subst (λ z. IsLive s.peers.heap z) w.leads (pk.handles.uncleared w.handle t.0 w.row t.1 w.is_issued (pk.handles.sure w.handle t.0 t.1 t.2))
 
-  row_of : (m h : ℕ) → Holds r.managed m h → (p : ℕ) × IsRowOf r.managed s.peers.issued m p
+  pub row_of : (m h : ℕ) → Holds r.managed m h → (p : ℕ) × IsRowOf r.managed s.peers.issued m p
   row_of m h q = let i = o.held_ones m h q in (i.0.peer, record { handle = h; holds = q; row = i.0; is_issued = i.1; leads = refl })
 
   pub alive-live : (l m p : ℕ) → slice_get c.candidates l ≡ Some m → slice_get answers l ≡ Some true → IsRowOf r.managed s.peers.issued m p → IsLive s.peers.heap p

@@ -34,3 +34,13 @@ pub mod OwnersManaged
 pub mod Hands
 pub mod DriverSteps
 pub mod DriverPeerSteps
+pub mod DriverHandles
+pub mod LinkedQuiet
+pub mod LinkedThreads
+pub mod LinkedMaking
+pub mod LinkedAdopting
+pub mod LinkedSweeps
+pub mod LinkedDriver
+pub mod LinkedOwn
+pub mod LinkedEntries
+pub mod LinkedStates

@@ -56,6 +56,14 @@ pub give_by-managed : (s : ManagedReplay) (o : Option ℕ) (a : Answered Managed
 give_by-managed s None a = refl
 give_by-managed s (Some m) a = refl
 
+pub meet_by-reply : (s : ManagedReplay) (p h : ℕ) (after : Managed) (r : Reply) → (meet_by s p h after r).reply ≡ r
+meet_by-reply s p h after (says.New m) = refl
+meet_by-reply s p h after _ = refl
+
+pub give_by-reply : (s : ManagedReplay) (o : Option ℕ) (a : Answered Managed) → (give_by s o a).reply ≡ a.reply
+give_by-reply s None a = refl
+give_by-reply s (Some m) a = refl
+
 stays : (s : ManagedReplay) → ManagedStep s.managed s.managed
 stays s = going_on (GoesOn-stay s.managed)
 

@@ -83,6 +83,15 @@ pub numbered_set-same : {X : Type 0} (xs : List X) (n : ℕ) (y z : X) → numbe
 numbered_set-same xs zero y z e = absurd (none_some z e)
 numbered_set-same xs (suc i) y z e = set-at_same xs i y z e
 
+set-at_here : {X : Type 0} (xs : List X) (i : ℕ) (y : X) → i < length xs → slice_get (set xs i y) i ≡ Some y
+set-at_here [] i y l = absurd (omega arith)
+set-at_here (x ∷ xs) zero y l = refl
+set-at_here (x ∷ xs) (suc i) y l = set-at_here xs i y (omega arith)
+
+pub numbered_set-here : {X : Type 0} (xs : List X) (n : ℕ) (y : X) → 1 ≤ n → n ≤ length xs → numbered_at (numbered_set xs n y) n ≡ Some y
+numbered_set-here xs zero y p q = absurd (omega arith)
+numbered_set-here xs (suc i) y p q = set-at_here xs i y (omega arith)
+
 pub numbered_set-other : {X : Type 0} (xs : List X) (n k : ℕ) (y : X) → k ≢ n → numbered_at (numbered_set xs n y) k ≡ numbered_at xs k
 numbered_set-other xs zero k y ne = refl
 numbered_set-other xs (suc i) zero y ne = refl

@@ -35,7 +35,7 @@ MirrorsSafely s (op.Mirror k) (references_of refs) = (p q : ℕ) → Contains re
 MirrorsSafely s _ _ = Unit {0}
 
 -- a slice blackens
-sliced-kept : (s : PeerReplay) (o : Option Marking) (t : Thread) (n : ℕ) (closure : List ℕ) → IsPeerKept s → s.marking ≡ o → IsPeerKept (sliced s o t n closure).state
+pub sliced-kept : (s : PeerReplay) (o : Option Marking) (t : Thread) (n : ℕ) (closure : List ℕ) → IsPeerKept s → s.marking ≡ o → IsPeerKept (sliced s o t n closure).state
 sliced-kept s None t n closure k e = k
 sliced-kept s (Some mk) t n closure k e = by (is_thread t mk.by)
   where
@@ -56,7 +56,7 @@ sliced-kept s (Some mk) t n closure k e = by (is_thread t mk.by)
     by false = k
 
 -- a marking begins
-begun-kept : (s : PeerReplay) (o : Option Marking) (t : Thread) → IsPeerKept s → s.marking ≡ o → IsPeerKept (begun s o t).state
+pub begun-kept : (s : PeerReplay) (o : Option Marking) (t : Thread) → IsPeerKept s → s.marking ≡ o → IsPeerKept (begun s o t).state
 begun-kept s (Some mk) t k e = k
 begun-kept s None t k e = record {
   heap = k.heap;
@@ -101,7 +101,7 @@ module _ (s : PeerReplay) (mk : Marking) (freed : List ℕ) (k : IsPeerKept s) (
   }
 
 -- whether two threads are the same is computed
-same_thread : (t u : Thread) → is_thread t u ≡ true → t ≡ u
+pub same_thread : (t u : Thread) → is_thread t u ≡ true → t ≡ u
 same_thread (M a) (M b) e = ap (λ n. M n) ((Decides-eqb a b).0 e)
 same_thread (M a) (P b) e = (let f : ⊥ = cc in absurd f)
 same_thread (M a) C e = (let f : ⊥ = cc in absurd f)
@@ -117,10 +117,10 @@ swept-by s mk freed true k e w = swept_of-kept s mk freed k e (w refl)
 swept-by s mk freed false k e w = k
 
 -- a peer thread doesn't end another thread's marking
-refused-by : (n : ℕ) (u : Thread) → (P n ≡ u → ⊥) → (is_thread (P n) C || is_thread (P n) u) ≡ true → ⊥
+pub refused-by : (n : ℕ) (u : Thread) → (P n ≡ u → ⊥) → (is_thread (P n) C || is_thread (P n) u) ≡ true → ⊥
 refused-by n u w q = w (same_thread (P n) u q)
 
-abbrev swept_told : Told → List ℕ
+abbrev pub swept_told : Told → List ℕ
 swept_told (sweep_of freed) = freed
 swept_told _ = []
 
@@ -179,7 +179,7 @@ mirrored-kept s k (Some snap) refs kept w = record {
   marking = λ mk e. IsMarkingKept-references s.peers.heap s.peers.issued s.table s.refs mk (kept.marking mk e) refs (λ p q c. (w p q c).2 mk e);
 }
 
-cleared-kept : (s : PeerReplay) → IsPeerKept s → IsPeerKept (record s { refs = []; mirror = None })
+pub cleared-kept : (s : PeerReplay) → IsPeerKept s → IsPeerKept (record s { refs = []; mirror = None })
 cleared-kept s k = record {
   heap = k.heap;
   handles = k.handles;

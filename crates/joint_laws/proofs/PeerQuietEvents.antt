@@ -70,13 +70,13 @@ module _ (via : ℕ → Type 0) (s : PeerReplay) where
       (inr (λ m. omega (arith, m.1))) (slots-same via s) (object-fields n)
 
   -- a held handle on the peer in a static
-  grip-by : (p : ℕ) (b : Bool) (r : Reply) → length s.table ≡ length s.peers.issued → InSlot s.peers.heap p → IsQuiet via s (on_table s (if b then answer says.Full s.peers else answer r (with_handle s.peers p held strong))).state
-  grip-by p true r e i = quiet-stay says.Full
-  grip-by p false r e i = IsQuiet-issued via s (with_handle s.peers p held strong) (record { peer = p; hold = held; strength = strong }) e refl refl (omega arith) (λ q. refl) (inl i) (slots-same via s) (fields-same s)
+  pub quiet-gripped : (p : ℕ) (b : Bool) (r : Reply) → length s.table ≡ length s.peers.issued → InSlot s.peers.heap p → IsQuiet via s (on_table s (if b then answer says.Full s.peers else answer r (with_handle s.peers p held strong))).state
+  quiet-gripped p true r e i = quiet-stay says.Full
+  quiet-gripped p false r e i = IsQuiet-issued via s (with_handle s.peers p held strong) (record { peer = p; hold = held; strength = strong }) e refl refl (omega arith) (λ q. refl) (inl i) (slots-same via s) (fields-same s)
 
   pub quiet-grip : (x : ℕ) (o : Option ℕ) → length s.table ≡ length s.peers.issued → slot s.peers.heap.statics x ≡ o → IsQuiet via s (on_table s (peer_gripped s.peers o)).state
   quiet-grip x None e q = quiet-stay says.Null
-  quiet-grip x (Some p) e q = grip-by p (is_full s.peers.issued) _ e (inr (slot-Contains s.peers.heap.statics x p q))
+  quiet-grip x (Some p) e q = quiet-gripped p (is_full s.peers.issued) _ e (inr (slot-Contains s.peers.heap.statics x p q))
 
   -- a name gets a raw handle
   name-by : (g p : ℕ) (strength : Strength) (b : Bool) → length s.table ≡ length s.peers.issued → InSlot s.peers.heap p

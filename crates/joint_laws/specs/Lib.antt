@@ -5,3 +5,4 @@ pub mod ManagedLaws
 pub mod FreeingLaws
 pub mod PeerInvariants
 pub mod LinkedInvariants
+pub mod LinkedLaws

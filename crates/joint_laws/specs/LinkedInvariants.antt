@@ -78,7 +78,7 @@ pub record IsLoose (r : ManagedReplay) (s : PeerReplay) (h : ℕ) : Type 0 where
 -- a peer that was just made: no slot, no field and no pair names it, and it has the one handle, which was never adopted
 pub record IsVirgin (r : ManagedReplay) (s : PeerReplay) (p h : ℕ) : Type 0 where
   pub slots : InSlot s.peers.heap p → ⊥
-  pub fields : (x : ℕ) → Contains (fields_of s.peers.heap x) (Some p) → ⊥
+  pub fields : (x : ℕ) → IsLive s.peers.heap x → Contains (fields_of s.peers.heap x) (Some p) → ⊥
   pub handles : (g : ℕ) (i : Issued) → IsIssued s.peers.issued g i → i.peer ≡ p → g ≡ h
   pub pairs : (m : ℕ) → Contains r.registry (p, m) → ⊥
   pub unadopted : Contains r.adopted h → ⊥
