@@ -44,3 +44,4 @@ pub mod LinkedDriver
 pub mod LinkedOwn
 pub mod LinkedEntries
 pub mod LinkedStates
+pub mod SparedWalks

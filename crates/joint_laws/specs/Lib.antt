@@ -6,3 +6,4 @@ pub mod FreeingLaws
 pub mod PeerInvariants
 pub mod LinkedInvariants
 pub mod LinkedLaws
+pub mod JointAgreement
