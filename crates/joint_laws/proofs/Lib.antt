@@ -45,3 +45,5 @@ pub mod LinkedOwn
 pub mod LinkedEntries
 pub mod LinkedStates
 pub mod SparedWalks
+pub mod JointFlags
+pub mod JointTargets
