@@ -160,6 +160,22 @@ rising-once (y ∷ xs) zero (suc j) x r e f = absurd (let l = All-contains (λ z
 rising-once (y ∷ xs) (suc i) zero x r e f = absurd (let l = All-contains (λ z. y < z) xs x r.0 (Contains-at xs i x e) in let same : y ≡ x = same_Some y x f in omega arith)
 rising-once (y ∷ xs) (suc i) (suc j) x r e f = ap suc (rising-once xs i j x r.1 e f)
 
+-- the row of a handle after a sweep
+swept-at : (freed : List ℕ) (issued : List Issued) (table : List (Option TableRow)) (l : ℕ) (row : TableRow) (i : Issued) → slice_get table l ≡ Some (Some row) → slice_get issued l ≡ Some i → slice_get (cleared_rows freed issued table) l ≡ Some (Some (swept_row freed i row))
+swept-at freed [] table l row i a b = absurd (none_some i b)
+swept-at freed (j ∷ issued) [] l row i a b = absurd (none_some (Some row) a)
+swept-at freed (j ∷ issued) (None ∷ table) zero row i a b = absurd (let c : ⊥ = cc in c)
+swept-at freed (j ∷ issued) (Some y ∷ table) zero row i a b =
+    let rows : y ≡ row = same_Some y row (same_Some (Some y) (Some row) a) in
+    let same : j ≡ i = same_Some j i b in
+    λ z. Some (Some (swept_row freed (same z) (rows z)))
+swept-at freed (j ∷ issued) (None ∷ table) (suc l) row i a b = swept-at freed issued table l row i a b
+swept-at freed (j ∷ issued) (Some y ∷ table) (suc l) row i a b = swept-at freed issued table l row i a b
+
+pub swept-tabled : (freed : List ℕ) (issued : List Issued) (table : List (Option TableRow)) (h : ℕ) (row : TableRow) (i : Issued) → IsTabled table h row → IsIssued issued h i → IsTabled (cleared_rows freed issued table) h (swept_row freed i row)
+swept-tabled freed issued table zero row i a b = absurd (none_some i b)
+swept-tabled freed issued table (suc l) row i a b = swept-at freed issued table l row i a b
+
 -- the handles of peers that stay keep their strength at a sweep
 pub HandlesAlike-swept : (s t : PeerReplay) (freed : List ℕ) → length s.table ≡ length s.peers.issued → t.table ≡ cleared_rows freed s.peers.issued s.table → t.peers.issued ≡ s.peers.issued → t.peers.heap.freed ≡ s.peers.heap.freed ++ freed → HandlesAlike nothing_touched s t
 HandlesAlike-swept s t freed places e f g = record {
@@ -176,23 +192,8 @@ HandlesAlike-swept s t freed places e f g = record {
         let w = tabled-swept freed s.peers.issued s.table h q.0 places (subst (λ z. IsTabled z h q.0) e q.1) in
         (w.1, w.3, ap (λ (z : TableRow). z.strength) w.4 ∙ q.2)
 
-    swept-at : (issued : List Issued) (table : List (Option TableRow)) (l : ℕ) (row : TableRow) (i : Issued) → slice_get table l ≡ Some (Some row) → slice_get issued l ≡ Some i → slice_get (cleared_rows freed issued table) l ≡ Some (Some (swept_row freed i row))
-    swept-at [] table l row i a b = absurd (none_some i b)
-    swept-at (j ∷ issued) [] l row i a b = absurd (none_some (Some row) a)
-    swept-at (j ∷ issued) (None ∷ table) zero row i a b = absurd (let c : ⊥ = cc in c)
-    swept-at (j ∷ issued) (Some y ∷ table) zero row i a b =
-        let rows : y ≡ row = same_Some y row (same_Some (Some y) (Some row) a) in
-        let same : j ≡ i = same_Some j i b in
-        λ z. Some (Some (swept_row freed (same z) (rows z)))
-    swept-at (j ∷ issued) (None ∷ table) (suc l) row i a b = swept-at issued table l row i a b
-    swept-at (j ∷ issued) (Some y ∷ table) (suc l) row i a b = swept-at issued table l row i a b
-
-    by_number : (h : ℕ) (row : TableRow) (i : Issued) → IsTabled s.table h row → IsIssued s.peers.issued h i → IsTabled (cleared_rows freed s.peers.issued s.table) h (swept_row freed i row)
-    by_number zero row i a b = absurd (none_some i b)
-    by_number (suc l) row i a b = swept-at s.peers.issued s.table l row i a b
-
     on : (h : ℕ) (x : Strength) → IsHeldOne s h → HasStrength s h x → HasStrength t h x
-    on h x w q = (swept_row freed w.0 q.0, subst (λ z. IsTabled z h (swept_row freed w.0 q.0)) (sym e) (by_number h q.0 w.0 q.1 w.1), q.2)
+    on h x w q = (swept_row freed w.0 q.0, subst (λ z. IsTabled z h (swept_row freed w.0 q.0)) (sym e) (swept-tabled freed s.peers.issued s.table h q.0 w.0 q.1 w.1), q.2)
 
 -- each peer of the row is unfreed
 abbrev HasLivePeer : ManagedReplay → PeerReplay → ℕ → Type 0

@@ -47,3 +47,5 @@ pub mod LinkedStates
 pub mod SparedWalks
 pub mod JointFlags
 pub mod JointTargets
+pub mod JointManaged
+pub mod JointSteps

@@ -61,7 +61,7 @@ release-hand (lent n line h' x') l h cites w = absurd w
 release-hand (gripped n line p' h' sort f) l h cites w = absurd w
 
 -- a managed line leaves rows with the same handles
-OwnersAlike-line : (r : ManagedReplay) (u : Managed) → IsReplayKept r → GoesOn r.managed u → HoldsSame r.managed u → OwnersAlike r (record r { managed = u })
+pub OwnersAlike-line : (r : ManagedReplay) (u : Managed) → IsReplayKept r → GoesOn r.managed u → HoldsSame r.managed u → OwnersAlike r (record r { managed = u })
 OwnersAlike-line r u k g same = record {
   on = λ m h q. record { live = stays-live r u k g m q.live; held = same.still m h q.held };
   back = λ m h q. was-held r u k g m h (same.before m h q.held) q.live;

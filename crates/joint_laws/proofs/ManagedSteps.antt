@@ -56,6 +56,10 @@ pub give_by-managed : (s : ManagedReplay) (o : Option ℕ) (a : Answered Managed
 give_by-managed s None a = refl
 give_by-managed s (Some m) a = refl
 
+pub adopt_by-reply : (s : ManagedReplay) (p h : ℕ) (after : Managed) (r : Reply) → (adopt_by s p h after r).reply ≡ r
+adopt_by-reply s p h after (says.M m) = refl
+adopt_by-reply s p h after _ = refl
+
 pub meet_by-reply : (s : ManagedReplay) (p h : ℕ) (after : Managed) (r : Reply) → (meet_by s p h after r).reply ≡ r
 meet_by-reply s p h after (says.New m) = refl
 meet_by-reply s p h after _ = refl
