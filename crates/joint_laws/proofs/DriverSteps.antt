@@ -43,7 +43,7 @@ module _ (r : ManagedReplay) (s : PeerReplay) (n : ℕ) (freed candidates dead :
   snap_on : (m h : ℕ) → Holds r.managed m h → Holds opening.managed m h
   snap_on m h q = record { live = still-live r.managed.heap freed m q.live (bridge_stays r.managed n freed candidates dead k.managed p m (h, q)); held = q.held }
 
-  snap_back : (m h : ℕ) → Holds opening.managed m h → Holds r.managed m h
+  pub snap_back : (m h : ℕ) → Holds opening.managed m h → Holds r.managed m h
   snap_back m h q = record { live = was-live r.managed.heap freed m q.live; held = q.held }
 
   pub owners_snapped : AreOwnersKept opening s
@@ -201,7 +201,7 @@ module _ (r : ManagedReplay) (s : PeerReplay) (op : Opened) (o : AreOwnersKept r
   abbrev leaving : ManagedReplay
   leaving = record r { managed = abandoned r.managed }
 
-  as_before : (m h : ℕ) → Holds leaving.managed m h → Holds r.managed m h
+  pub as_before : (m h : ℕ) → Holds leaving.managed m h → Holds r.managed m h
   as_before m h q = record { live = record { made = q.live.made; kept = q.live.kept }; held = q.held }
 
   as_after : (m h : ℕ) → Holds r.managed m h → Holds leaving.managed m h

@@ -47,7 +47,7 @@ pub record Steps (m : Managed) (s : PeerReplay) (flags : List Bool) (jm : Option
   pub agrees : Agrees n u flags_after marking_after
 
 -- brought back, a state has the same peers, table and count of markings
-bring-peers : (a : Answered PeerReplay) (r : Reply) → (bring_by a r).state.peers ≡ a.state.peers
+pub bring-peers : (a : Answered PeerReplay) (r : Reply) → (bring_by a r).state.peers ≡ a.state.peers
 bring-peers a (says.P p) = refl
 bring-peers a _ = refl
 
@@ -59,7 +59,7 @@ bring-markings : (a : Answered PeerReplay) (r : Reply) → (bring_by a r).state.
 bring-markings a (says.P p) = refl
 bring-markings a _ = refl
 
-bring-reply : (a : Answered PeerReplay) (r : Reply) → (bring_by a r).reply ≡ a.reply
+pub bring-reply : (a : Answered PeerReplay) (r : Reply) → (bring_by a r).reply ≡ a.reply
 bring-reply a (says.P p) = refl
 bring-reply a _ = refl
 

@@ -49,3 +49,6 @@ pub mod JointFlags
 pub mod JointTargets
 pub mod JointManaged
 pub mod JointSteps
+pub mod JointLines
+pub mod JointRests
+pub mod JointEntries

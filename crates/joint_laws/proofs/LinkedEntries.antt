@@ -41,16 +41,16 @@ use Rattle.joint_laws.proofs.LinkedOwn.{kept-own_begin, kept-own_sweep, kept-res
 use Rattle.joint_laws.proofs.Hands.{AreCallersKept-opening}
 
 -- the parts of a state, and after an entry
-abbrev Of : Linkage → Type 0
+abbrev pub Of : Linkage → Type 0
 Of s = AreKept s.managed s.peer s.control.doing s.control.stand
 
-abbrev Then : Linkage → ℕ → Made → Told → Bool → Type 0
+abbrev pub Then : Linkage → ℕ → Made → Told → Bool → Type 0
 Then s number m told b = AreKept (managed_after s.managed m told b) (peer_after s.peer m told b) (control_after s.control m.caller number m.index m.op m.reply told).doing (control_after s.control m.caller number m.index m.op m.reply told).stand
 
-abbrev entry : Thread → ℕ → Op → Reply → Option ℕ → Made
+abbrev pub entry : Thread → ℕ → Op → Reply → Option ℕ → Made
 entry t line o reply cites = record { caller = t; index = line; op = o; reply = reply; cites = cites }
 
-abbrev Allows : Linkage → Made → Told → Type 0
+abbrev pub Allows : Linkage → Made → Told → Type 0
 Allows s m told = CallerAllows s.control s.managed.managed s.peer.peers.issued m.caller m.index m.op m.reply m.cites told
 
 -- a raw handle isn't the one of a pair just made

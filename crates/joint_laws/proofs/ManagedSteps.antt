@@ -74,7 +74,7 @@ stays s = going_on (GoesOn-stay s.managed)
 goes : (s t u : Managed) → u ≡ t → GoesOn s t → ManagedStep s u
 goes s t u e g = going_on (subst (λ z. GoesOn s z) (sym e) g)
 
-twin-live : (s : ManagedReplay) (p m : ℕ) → IsReplayKept s → registered s.registry p ≡ Some m → IsLive s.managed.heap m
+pub twin-live : (s : ManagedReplay) (p m : ℕ) → IsReplayKept s → registered s.registry p ≡ Some m → IsLive s.managed.heap m
 twin-live s p m k e = (k.pairs p m (registered-some s.registry p m e)).1.live
 
 pub managed_step : (s : ManagedReplay) (t : Thread) (o : Op) (told : Told) → IsReplayKept s → ManagedAllows s o told → ManagedStep s.managed (managed_answer s t o told).state.managed
