@@ -1,7 +1,7 @@
 -- Each entry that may come is a step of the joint machine, or leaves the joint state as it is. So the joint projection of a
 -- lawful list of entries is a run.
-use Rattle.std.proofs.Common.{◌≡◌, ◌≢◌, ℕ, ◌+◌, ◌⊎◌, inl, inr, Bool, true, false, ◌||◌, List, [], ◌∷◌, length, Option, Some, None, refl, sym, ap, subst, ◌∙◌, cond}
-use Rattle.std.specs.Prelude.{Contains, map, filter, filter_map}
+use Rattle.std.proofs.Common.{◌≡◌, ℕ, Bool, true, false, List, [], length, Option, refl, sym, ap, subst, ◌∙◌}
+use Rattle.std.specs.Prelude.{filter_map}
 use Rattle.joint_model.specs.declared.names.Thread.{Thread}
 use Rattle.joint_model.specs.declared.names.Thread.TheVariants.{M, P, C}
 use Rattle.joint_model.specs.declared.names.Cycle.{Cycle}
@@ -10,21 +10,19 @@ use Rattle.joint_model.specs.declared.lines.Act.TheVariants as act
 use Rattle.joint_model.specs.declared.events.Op.{Op}
 use Rattle.joint_model.specs.declared.events.Op.TheVariants as op
 use Rattle.joint_model.specs.declared.events.Reply.{Reply}
-use Rattle.joint_model.specs.declared.events.Reply.TheVariants as says
-use Rattle.joint_model.specs.declared.events.Made.{Made}
-use Rattle.joint_model.specs.Control.{Doing, Stand, Opened, idle, snapped, contracted, weakening, marked, restoring, restored, CallerAllows, MayRestoreNow, MayResolveNow, MaySnap, MayAbandonNow, IsCandidateHandle}
-use Rattle.joint_model.specs.Cycles.{IsSnapshot, IsResolution, IsAnsweredAlive, snap_reply, resolve_reply}
-use Rattle.joint_model.specs.Heaps.{Answered, answer, place, slot}
+use Rattle.joint_model.specs.Control.{Doing, Stand, idle, snapped, contracted, weakening, marked, restoring, restored, MayRestoreNow, MayResolveNow, MayAbandonNow}
+use Rattle.joint_model.specs.Cycles.{IsResolution, IsAnsweredAlive, resolve_reply}
+use Rattle.joint_model.specs.Heaps.{Answered, place, slot}
 use Rattle.joint_model.specs.Joint.{Joint, JointMarking, twin_of}
 use Rattle.joint_model.specs.Lines.{IsEvent, is_peer_event}
-use Rattle.joint_model.specs.Linked.{Linkage, MayCome, SideLawful, ManagedLawful, PeerLawful, linkage_after, managed_after, peer_after, is_joint, joint_projection, AllMayCome, opening_linkage}
-use Rattle.joint_model.specs.Managed.{Managed, OpenCycle, Holds, managed_line, adopted, met, given_up, handle_reply, handle_of, snapped as snapped_state, resolved as resolved_state, abandoned as abandoned_state}
-use Rattle.joint_model.specs.ManagedReplay.{ManagedReplay, MayResolve, managed_answer, registered, adopt_by, meet_by, give_by}
-use Rattle.joint_model.specs.PeerReplay.{PeerReplay, peer_answer, row_of, restored_by}
-use Rattle.joint_model.specs.Run.{JointEvent, JointStep, JointComputed, IsComputed, removed_all, on_managed, joint_answer}
-use Rattle.joint_model.specs.Told.{Told, Noted, nothing, snap_of, contraction_of, references_of, slice_of, sweep_of, resolution_of, phase_of}
+use Rattle.joint_model.specs.Linked.{Linkage, SideLawful, PeerLawful, managed_after, peer_after, is_joint}
+use Rattle.joint_model.specs.Managed.{Managed, OpenCycle, managed_line, adopted, met, given_up, handle_of, snapped as snapped_state, resolved as resolved_state, abandoned as abandoned_state}
+use Rattle.joint_model.specs.ManagedReplay.{ManagedReplay, MayResolve, registered, adopt_by, meet_by, give_by}
+use Rattle.joint_model.specs.PeerReplay.{PeerReplay, row_of}
+use Rattle.joint_model.specs.Run.{JointEvent, IsComputed, removed_all, on_managed}
+use Rattle.joint_model.specs.Told.{Told, nothing, snap_of, contraction_of, references_of, slice_of, sweep_of, resolution_of, phase_of}
 use Rattle.joint_laws.specs.JointAgreement.{IsOwned, AreFlags, Agrees, joint_of}
-use Rattle.joint_laws.specs.LinkedInvariants.{AreOwnersKept, doing_in, IsRestoring, IsRestored, IsDriverKept}
+use Rattle.joint_laws.specs.LinkedInvariants.{AreOwnersKept, doing_in}
 use Rattle.joint_laws.proofs.ManagedMoves.{GoesOn, GoesOn-stay, managed_line-goes_on, adopted-goes_on, met-goes_on, given_up-goes_on}
 use Rattle.joint_laws.proofs.ManagedSteps.{adopt_by-managed, adopt_by-reply, meet_by-managed, meet_by-reply, give_by-managed, give_by-reply, twin-live}
 use Rattle.joint_laws.proofs.JointManaged.{flags_goes_on, flags_all_strong, idle-strong, before-strong, joint-resolution, flags_resolved}
@@ -36,7 +34,7 @@ use Rattle.joint_laws.proofs.DriverSteps.{snap_back, as_before}
 use Rattle.joint_laws.proofs.LinkedQuiet.{AreKept}
 use Rattle.joint_laws.proofs.LinkedThreads.{release-hand}
 use Rattle.joint_laws.proofs.LinkedDriver.{turn, one_cycle}
-use Rattle.joint_laws.proofs.LinkedEntries.{Of, Then, entry, Allows}
+use Rattle.joint_laws.proofs.LinkedEntries.{Of, entry, Allows}
 
 -- an entry is a step of the joint machine, or leaves its state as it is
 pub data Outcome (m : Managed) (s : PeerReplay) (flags : List Bool) (jm : Option JointMarking) (t : Thread) (o : Op) (reply : Reply) (told : Told) (n : Managed) (u : PeerReplay) : Type 0 where
@@ -97,7 +95,7 @@ module _ (s : Linkage) (k : Of s) (flags : List Bool) (jm : Option JointMarking)
   resolve-by (restored o answers clear) n alive freed kx w p e kn same_n =
       let same_cycle : p.cycle ≡ kx.driver.cycle = one_cycle r.managed p.cycle kx.driver.cycle p.open_cycle.0 kx.driver.opened.cycle in
       let exact : IsResolution r.managed kx.driver.cycle.dead (IsAnsweredAlive kx.driver.cycle.candidates answers) freed =
-          subst (λ (z : OpenCycle). IsResolution r.managed z.dead (IsAnsweredAlive z.candidates answers) freed) same_cycle (subst (λ z. IsResolution r.managed p.cycle.dead (IsAnsweredAlive p.cycle.candidates z) freed) w.2 p.resolution) in
+      subst (λ (z : OpenCycle). IsResolution r.managed z.dead (IsAnsweredAlive z.candidates answers) freed) same_cycle (subst (λ z. IsResolution r.managed p.cycle.dead (IsAnsweredAlive p.cycle.candidates z) freed) w.2 p.resolution) in
       record {
         flags_after = removed_all flags (filter_map (handle_of r.managed) freed);
         marking_after = jm;

@@ -1,12 +1,12 @@
 -- The flags of removed handles, as handles are issued, leave the table, and are adopted and given up. A handle is here
 -- while it is in the table or some row holds it; the flags tell exactly which handles are here.
-use Rattle.std.proofs.Common.{◌≡◌, ◌≢◌, ℕ, zero, suc, ◌+◌, ◌-◌, ◌<◌, ◌≤◌, ◌⊎◌, inl, inr, Bool, true, false, List, [], ◌∷◌, ◌++◌, length, map, drop, Option, Some, None, refl, sym, ap, subst, ◌∙◌, arith, length-append, length-drop}
+use Rattle.std.proofs.Common.{◌≡◌, ◌≢◌, ℕ, zero, suc, ◌≤◌, ◌⊎◌, inl, inr, Bool, true, false, List, [], ◌∷◌, ◌++◌, length, map, Option, Some, None, refl, sym, subst, ◌∙◌, arith, length-append, length-drop}
 use Rattle.std.specs.Prelude.{Contains, slice_get}
 use Rattle.std.proofs.lemmas.Bool.{cases_eq}
 use Rattle.std.proofs.lemmas.List.{length-map}
 use Rattle.std.proofs.lemmas.Option.{same_Some}
 use Rattle.joint_model.specs.Heaps.{numbered_at, numbered_set}
-use Rattle.joint_model.specs.Managed.{Managed, Holds}
+use Rattle.joint_model.specs.Managed.{Managed}
 use Rattle.joint_model.specs.Peers.{Peers, Issued, issued_since}
 use Rattle.joint_model.specs.PeerReplay.{PeerReplay, TableRow, Marking, fresh_row, brought_to}
 use Rattle.joint_model.specs.Run.{removed_all}
@@ -14,7 +14,7 @@ use Rattle.joint_model.specs.Joint.{JointMarking}
 use Rattle.joint_laws.specs.PeerInvariants.{IsTabled}
 use Rattle.joint_laws.specs.JointAgreement.{IsInTable, IsOwned, AreFlags, IsSameMarking, AreSameMarkings}
 use Rattle.joint_laws.proofs.Lists.{Contains-nil, Contains-here, Contains-there, Contains-cons_cases}
-use Rattle.joint_laws.proofs.Numbered.{none_some, numbered-within, numbered_set-length, numbered_set-same, numbered_set-other, numbered_set-here}
+use Rattle.joint_laws.proofs.Numbered.{none_some, numbered_set-length, numbered_set-same, numbered_set-other}
 use Rattle.joint_laws.proofs.Sparing.{spared-later, later}
 use Rattle.std.proofs.lemmas.List.Elements.{Contains-append_left}
 

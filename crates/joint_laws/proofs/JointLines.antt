@@ -1,10 +1,8 @@
 -- The entries of threads on the peer side are steps of the joint machine: both compute on the same peers, and where a handle
 -- leads is the same.
-use Rattle.std.proofs.Common.{◌≡◌, ◌≢◌, ℕ, ◌+◌, ◌<◌, ◌≤◌, ◌⊎◌, inl, inr, Bool, true, false, ◌||◌, List, [], ◌∷◌, ◌++◌, length, map, Option, Some, None, set, refl, sym, ap, subst, ◌∙◌, arith}
-use Rattle.std.specs.Prelude.{Contains}
+use Rattle.std.proofs.Common.{◌≡◌, ℕ, ◌≤◌, Bool, true, false, ◌||◌, List, ◌++◌, length, map, Option, Some, None, set, refl, sym, ap, subst, ◌∙◌, arith}
 use Rattle.std.proofs.lemmas.Option.{same_Some}
-use Rattle.joint_model.specs.declared.names.Thread.{Thread}
-use Rattle.joint_model.specs.declared.names.Thread.TheVariants.{M, P, C}
+use Rattle.joint_model.specs.declared.names.Thread.TheVariants.{M, P}
 use Rattle.joint_model.specs.declared.names.Sort.{Sort}
 use Rattle.joint_model.specs.declared.names.Var.{Var}
 use Rattle.joint_model.specs.declared.names.GName.{GName}
@@ -12,22 +10,21 @@ use Rattle.joint_model.specs.declared.names.StaticNo.{StaticNo}
 use Rattle.joint_model.specs.declared.names.HNum.{HNum}
 use Rattle.joint_model.specs.declared.lines.Act.{Act}
 use Rattle.joint_model.specs.declared.lines.Act.TheVariants as act
-use Rattle.joint_model.specs.declared.events.Op.{Op}
 use Rattle.joint_model.specs.declared.events.Op.TheVariants as op
 use Rattle.joint_model.specs.declared.events.Reply.{Reply}
 use Rattle.joint_model.specs.declared.events.Reply.TheVariants as says
 use Rattle.joint_model.specs.Control.{Doing, Stand}
-use Rattle.joint_model.specs.Heaps.{Answered, answer, slot, place, is_full, numbered_at, numbered_set}
+use Rattle.joint_model.specs.Heaps.{Answered, slot, is_full, numbered_set}
 use Rattle.joint_model.specs.Joint.{Joint, JointMarking, joint_target}
-use Rattle.joint_model.specs.Managed.{Managed, Holds}
+use Rattle.joint_model.specs.Managed.{Holds}
 use Rattle.joint_model.specs.ManagedReplay.{ManagedReplay}
-use Rattle.joint_model.specs.Peers.{Peers, Issued, Hold, held, raw, peer_line, pair_made, gripped, peer_gripped, landed, name_read, issued_since}
-use Rattle.joint_model.specs.PeerReplay.{PeerReplay, TableRow, table_target, on_table, brings, bring_by, untabled, peer_thread_line}
-use Rattle.joint_model.specs.Run.{JointComputed, JointEvent, on_peers, without, joint_answer}
+use Rattle.joint_model.specs.Peers.{Peers, Issued, peer_line, pair_made, gripped, landed, issued_since}
+use Rattle.joint_model.specs.PeerReplay.{PeerReplay, table_target, on_table, brings, untabled, peer_thread_line}
+use Rattle.joint_model.specs.Run.{on_peers, without}
 use Rattle.joint_model.specs.Told.{Told}
-use Rattle.joint_laws.specs.JointAgreement.{AreFlags, AreSameMarkings, Agrees, joint_of}
+use Rattle.joint_laws.specs.JointAgreement.{Agrees, joint_of}
 use Rattle.joint_laws.specs.LinkedInvariants.{IsLoose}
-use Rattle.joint_laws.proofs.Numbered.{none_some, slot-Contains, numbered_set-length}
+use Rattle.joint_laws.proofs.Numbered.{slot-Contains, numbered_set-length}
 use Rattle.joint_laws.proofs.HandleKeeping.{held-raw}
 use Rattle.joint_laws.proofs.PeerEvents.{freed_by}
 use Rattle.joint_laws.proofs.PeerQuietEvents.{IsRawOne, quiet-line, quiet-pair, quiet-grip, quiet-land}
@@ -55,10 +52,9 @@ module _ (r : ManagedReplay) (s : PeerReplay) (ds : List Doing) (d : Stand) (k :
       let gone : PeerReplay = untabled s (Some h) in
       let one = w h refl in
       let unowned : (x : ℕ) → Holds r.managed x h → ⊥ = λ x p. (
-          let i = k.owners.held_ones x h p in
-          held-raw i.0 i.2 (ap (λ (z : Issued). z.hold) (same_Some i.0 one.0 (sym i.1 ∙ one.1)) ∙ one.2)) in
-      let removed = flags-gone r s ds d k flags jm ag h unowned in
-      (
+      let i = k.owners.held_ones x h p in
+      held-raw i.0 i.2 (ap (λ (z : Issued). z.hold) (same_Some i.0 one.0 (sym i.1 ∙ one.1)) ∙ one.2)) in
+      let removed = flags-gone r s ds d k flags jm ag h unowned in (
         numbered_set flags h true ++ map (λ (i : Issued). false) (issued_since s.peers names),
         refl,
         record {

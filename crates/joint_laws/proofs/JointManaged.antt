@@ -1,27 +1,22 @@
 -- The managed entries of a history are steps of the joint machine. Both compute on the same managed objects; the flags stay,
 -- since a row that loses its handle had a strong one, and a new row takes one of the table; and a resolution frees by the
 -- restores' answers what the joint machine frees by the peers.
-use Rattle.std.proofs.Common.{◌≡◌, ◌≢◌, ℕ, ◌+◌, ◌<◌, ◌≤◌, ◌↔◌, ◌⊎◌, inl, inr, Bool, true, false, List, [], ◌∷◌, ◌++◌, length, Option, Some, None, refl, sym, ap, subst, ◌∙◌, arith}
-use Rattle.std.specs.Prelude.{Contains, slice_get, filter_map}
+use Rattle.std.proofs.Common.{◌≡◌, ℕ, inl, inr, Bool, List, [], ◌∷◌, Option, Some, None, refl, sym, ap, subst, ◌∙◌, arith}
+use Rattle.std.specs.Prelude.{Contains, filter_map}
 use Rattle.std.specs.List.{cons_option}
 use Rattle.std.proofs.lemmas.Option.{same_Some, slice_get_within}
 use Rattle.std.proofs.lemmas.List.Elements.{Contains-append_right}
-use Rattle.joint_model.specs.declared.names.Thread.{Thread}
-use Rattle.joint_model.specs.declared.events.Reply.{Reply}
-use Rattle.joint_model.specs.Control.{Doing, Opened, Stand, idle, snapped, contracted, restored, candidates_of}
-use Rattle.joint_model.specs.Cycles.{IsSnapshot, IsResolution, IsAnsweredAlive}
-use Rattle.joint_model.specs.Heaps.{IsMade, IsLive, numbered_at, with_freed}
+use Rattle.joint_model.specs.Control.{Doing, Opened, Stand, restored, candidates_of}
+use Rattle.joint_model.specs.Cycles.{IsResolution, IsAnsweredAlive}
 use Rattle.joint_model.specs.Joint.{Joint, JointMarking}
-use Rattle.joint_model.specs.Managed.{Managed, OpenCycle, Holds, ManagedEdge, handle_of, snapped as snapped_state, resolved as resolved_state, abandoned as abandoned_state}
+use Rattle.joint_model.specs.Managed.{Managed, OpenCycle, Holds, ManagedEdge, handle_of, resolved as resolved_state}
 use Rattle.joint_model.specs.ManagedReplay.{ManagedReplay}
-use Rattle.joint_model.specs.Peers.{Issued, peer_of, strong, weak}
+use Rattle.joint_model.specs.Peers.{Issued, strong}
 use Rattle.joint_model.specs.PeerReplay.{PeerReplay}
 use Rattle.joint_model.specs.Run.{IsKept, removed_all}
-use Rattle.joint_model.specs.Walks.{Reaches}
 use Rattle.joint_model.proofs.WalkLemmas.{Reaches-self}
-use Rattle.joint_laws.specs.JointAgreement.{IsInTable, IsOwned, AreFlags, Agrees, joint_of}
+use Rattle.joint_laws.specs.JointAgreement.{IsInTable, AreFlags, joint_of}
 use Rattle.joint_laws.specs.LinkedInvariants.{HasStrength, IsRowOf, AreOwnersKept, IsBeforeMirror, IsRestored}
-use Rattle.joint_laws.specs.PeerInvariants.{IsIssued}
 use Rattle.joint_laws.proofs.Lists.{Contains-nil, Contains-here, Contains-there, Contains-cons_cases, Contains-decided, Contains-at, at-Contains}
 use Rattle.joint_laws.proofs.Numbered.{none_some}
 use Rattle.joint_laws.proofs.ManagedMoves.{GoesOn}
@@ -174,18 +169,21 @@ module _ (r : ManagedReplay) (s : PeerReplay) (ds : List Doing) (op : Opened) (a
     flags_resolved = AreFlags-removed r.managed (resolved_state r.managed freed) s s flags (filter_map (handle_of r.managed) freed) fl refl
         (λ h n w. elim w [
           | inl t ↦ inl t
-          | inr q ↦ inr (q.0, record {
-            live = still-live r.managed.heap freed q.0 q.1.live (λ f. n (into-handles r.managed freed q.0 h f (handle_of-holds r.managed q.0 h q.1)));
-            held = q.1.held;
-          })
+          | inr q ↦ inr (
+            q.0,
+            record {
+              live = still-live r.managed.heap freed q.0 q.1.live (λ f. n (into-handles r.managed freed q.0 h f (handle_of-holds r.managed q.0 h q.1)));
+              held = q.1.held;
+            },
+          )
         ])
         (λ h w. elim w [ inl t ↦ inl t | inr q ↦ inr (q.0, back q.0 h q.1) ])
         (λ h g w. (
-            let x = handles-of r.managed freed h g in
-            let q = holds-handle_of r.managed x.0 h k.managed.managed.places x.2 in
-            elim w [
-              | inl t ↦ freed-untabled x.0 h x.1 q t
-              | inr y ↦ (
-                  let same = k.managed.alone y.0 x.0 h (back y.0 h y.1) q in
-                  y.1.live.kept (Contains-append_right r.managed.heap.freed freed y.0 (subst (λ z. Contains freed z) (sym same) x.1)))
-            ]))
+        let x = handles-of r.managed freed h g in
+        let q = holds-handle_of r.managed x.0 h k.managed.managed.places x.2 in
+        elim w [
+          | inl t ↦ freed-untabled x.0 h x.1 q t
+          | inr y ↦ (
+              let same = k.managed.alone y.0 x.0 h (back y.0 h y.1) q in
+              y.1.live.kept (Contains-append_right r.managed.heap.freed freed y.0 (subst (λ z. Contains freed z) (sym same) x.1)))
+        ]))

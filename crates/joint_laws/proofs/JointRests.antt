@@ -1,21 +1,20 @@
 -- The entries that are no steps of the joint machine leave the joint state as it is, and the flags and the marking agree
 -- with what they leave: a weakened or restored handle stays in the table, or its row holds it.
-use Rattle.std.proofs.Common.{◌≡◌, ◌≢◌, ℕ, ◌+◌, ◌-◌, ◌<◌, ◌≤◌, ◌⊎◌, inl, inr, Bool, true, false, List, [], ◌∷◌, ◌++◌, length, Option, Some, None, refl, sym, ap, subst, ◌∙◌, arith}
-use Rattle.std.specs.Prelude.{Contains, if◌then◌else◌, min, nat_lt}
+use Rattle.std.proofs.Common.{◌≡◌, ℕ, ◌+◌, ◌-◌, inl, inr, Bool, true, false, List, [], ◌∷◌, ◌++◌, length, Option, Some, None, refl, sym, subst, ◌∙◌}
+use Rattle.std.specs.Prelude.{if◌then◌else◌, min, nat_lt}
 use Rattle.std.proofs.lemmas.Bool.{cases_eq}
-use Rattle.std.proofs.lemmas.Option.{same_Some}
 use Rattle.joint_model.specs.declared.names.Thread.{Thread}
 use Rattle.joint_model.specs.declared.events.Reply.TheVariants as says
-use Rattle.joint_model.specs.Heaps.{Answered, answer, numbered_at, numbered_set}
-use Rattle.joint_model.specs.Joint.{Joint, JointMarking}
-use Rattle.joint_model.specs.Managed.{Managed, Holds}
-use Rattle.joint_model.specs.Peers.{Issued, strong, weak, peer_of}
+use Rattle.joint_model.specs.Heaps.{answer, numbered_at, numbered_set}
+use Rattle.joint_model.specs.Joint.{JointMarking}
+use Rattle.joint_model.specs.Managed.{Managed}
+use Rattle.joint_model.specs.Peers.{strong, weak, peer_of}
 use Rattle.joint_model.specs.PeerReplay.{PeerReplay, TableRow, Mirror, Marking, row_of, is_thread, sliced, mirrored, restored_by, with_weakened, with_restored, brought_handle}
-use Rattle.joint_laws.specs.JointAgreement.{IsInTable, IsOwned, AreFlags, IsSameMarking, AreSameMarkings, Agrees, joint_of}
+use Rattle.joint_laws.specs.JointAgreement.{IsOwned, AreFlags, AreSameMarkings, Agrees, joint_of}
 use Rattle.joint_laws.specs.PeerInvariants.{IsTabled}
 use Rattle.joint_laws.proofs.Numbered.{none_some, slot-named, numbered_set-other, numbered_set-here, numbered-within}
 use Rattle.joint_laws.proofs.HandleKeeping.{tabled-set_cases}
-use Rattle.joint_laws.proofs.JointFlags.{IsHere, AreFlags-same, AreFlags-as, IsSameMarking-later, AreSameMarkings-brought}
+use Rattle.joint_laws.proofs.JointFlags.{AreFlags-same, AreFlags-as, IsSameMarking-later, AreSameMarkings-brought}
 
 -- the joint state is as it was, and agrees
 pub record Rests (m : Managed) (s : PeerReplay) (flags : List Bool) (jm : Option JointMarking) (n : Managed) (u : PeerReplay) : Type 0 where

@@ -1,41 +1,34 @@
 -- The entries of a history that are steps of the joint machine are its steps, from the joint state before to the joint state
 -- after; the others leave the joint state as it is.
-use Rattle.std.proofs.Common.{◌≡◌, ◌≢◌, ℕ, ◌+◌, ◌<◌, ◌≤◌, ◌⊎◌, inl, inr, Bool, true, false, ◌||◌, List, [], ◌∷◌, ◌++◌, length, map, Option, Some, None, set, get_or, refl, sym, ap, subst, ◌∙◌, arith}
-use Rattle.std.specs.Prelude.{Contains, All, filter_map, if◌then◌else◌}
-use Rattle.std.proofs.Math.Seq.{drop-length}
-use Rattle.std.proofs.lemmas.List.{append-nil}
+use Rattle.std.proofs.Common.{◌≡◌, ℕ, ◌+◌, ◌≤◌, ◌⊎◌, inl, inr, Bool, true, false, ◌||◌, List, [], ◌++◌, length, map, Option, Some, None, get_or, refl, sym, ap, subst, ◌∙◌, arith}
+use Rattle.std.specs.Prelude.{Contains, All, if◌then◌else◌}
 use Rattle.std.proofs.lemmas.List.Elements.{Contains-get_or}
 use Rattle.std.proofs.lemmas.Bool.Decides.{Decides-eqb}
 use Rattle.joint_model.specs.declared.names.Thread.{Thread}
 use Rattle.joint_model.specs.declared.names.Thread.TheVariants.{M, P, C}
-use Rattle.joint_model.specs.declared.lines.Act.{Act}
-use Rattle.joint_model.specs.declared.lines.Act.TheVariants as act
 use Rattle.joint_model.specs.declared.events.Op.{Op}
 use Rattle.joint_model.specs.declared.events.Op.TheVariants as op
 use Rattle.joint_model.specs.declared.events.Reply.{Reply}
 use Rattle.joint_model.specs.declared.events.Reply.TheVariants as says
 use Rattle.joint_model.specs.Control.{Doing, Stand}
-use Rattle.joint_model.specs.Heaps.{IsLive, Answered, answer, slot, place, numbered_at, numbered_set, with_freed}
-use Rattle.joint_model.specs.Joint.{Joint, JointMarking, joint_target, twin_of, graph_of, peer, IsReached, IsReachedIn}
+use Rattle.joint_model.specs.Heaps.{IsLive, Answered, answer, numbered_set}
+use Rattle.joint_model.specs.Joint.{Joint, JointMarking, graph_of, peer, IsReached, IsReachedIn}
 use Rattle.joint_model.specs.Lines.{IsEvent, IsPeerThread}
 use Rattle.joint_model.specs.Managed.{Managed, Holds}
 use Rattle.joint_model.specs.ManagedReplay.{ManagedReplay}
-use Rattle.joint_model.specs.Peers.{Peers, Issued, raw, peer_line, landed, peer_read, issued_since}
-use Rattle.joint_model.specs.PeerReplay.{PeerReplay, TableRow, Marking, strong_peers, table_target, on_table, brings, bring_by, untabled, peer_thread_line, begun, swept, swept_of, is_thread, IsSweep, SweepAllows}
-use Rattle.joint_model.specs.Run.{JointEvent, JointComputed, JointBegin, JointSweep, OpensMarking, EndsMarking, RefusesSweep, IsStored, IsComputed, on_peers, without, joint_answer, joint_line, joint_peer_line}
+use Rattle.joint_model.specs.Peers.{Peers, Issued, issued_since}
+use Rattle.joint_model.specs.PeerReplay.{PeerReplay, Marking, strong_peers, on_table, brings, bring_by, untabled, begun, swept, swept_of, is_thread, IsSweep, SweepAllows}
+use Rattle.joint_model.specs.Run.{JointEvent, JointBegin, JointSweep, IsStored}
 use Rattle.joint_model.specs.Told.{Told, nothing, sweep_of}
-use Rattle.joint_laws.specs.JointAgreement.{IsInTable, IsOwned, AreFlags, IsSameMarking, AreSameMarkings, Agrees, joint_of}
-use Rattle.joint_laws.specs.PeerInvariants.{IsTabled, IsIssued, IsPeerKept, IsSpared}
-use Rattle.joint_laws.proofs.Numbered.{none_some, numbered_set-same, numbered_set-other, numbered-within, numbered-made, slot-Contains}
-use Rattle.joint_laws.proofs.HandleKeeping.{held-raw, tabled-set_cases, tabled-swept, swept_row}
-use Rattle.joint_laws.proofs.PeerEvents.{freed_by, read_by}
+use Rattle.joint_laws.specs.JointAgreement.{IsInTable, AreFlags, IsSameMarking, AreSameMarkings, Agrees, joint_of}
+use Rattle.joint_laws.specs.PeerInvariants.{IsSpared}
+use Rattle.joint_laws.proofs.Numbered.{none_some, numbered_set-same, numbered_set-other, numbered-within, numbered-made}
+use Rattle.joint_laws.proofs.HandleKeeping.{tabled-set_cases, tabled-swept, swept_row}
 use Rattle.joint_laws.proofs.PeerEntries.{same_thread, swept_told, begun-kept}
-use Rattle.joint_laws.proofs.PeerQuiet.{IsQuiet}
-use Rattle.joint_laws.proofs.PeerQuietEvents.{quiet-line, quiet-begun}
+use Rattle.joint_laws.proofs.PeerQuietEvents.{quiet-begun}
 use Rattle.joint_laws.proofs.Sparing.{spared-stays}
 use Rattle.joint_laws.proofs.DriverPeerSteps.{swept-tabled}
-use Rattle.joint_laws.proofs.JointFlags.{IsHere, AreFlags-same, AreFlags-gone, AreFlags-issued, AreFlags-as, AreSameMarkings-brought}
-use Rattle.joint_laws.proofs.JointTargets.{target-same}
+use Rattle.joint_laws.proofs.JointFlags.{AreFlags-same, AreFlags-gone, AreFlags-issued, AreFlags-as, AreSameMarkings-brought}
 use Rattle.joint_laws.proofs.SparedWalks.{reached-spared}
 use Rattle.joint_laws.proofs.LinkedQuiet.{AreKept, kept-quiet}
 

@@ -1,25 +1,24 @@
 -- Where a handle leads is the same in the joint machine and in the peer side's table; and the joint twin of a peer is what
 -- the registry answers.
-use Rattle.std.proofs.Common.{◌≡◌, ◌≢◌, ℕ, zero, suc, ◌+◌, ◌<◌, ◌≤◌, ◌⊎◌, inl, inr, Bool, true, false, ◌&&◌, List, [], ◌∷◌, length, Option, Some, None, refl, sym, ap, subst, ◌∙◌, arith, nat_eq}
-use Rattle.std.specs.Prelude.{Contains, slice_get, if◌then◌else◌}
-use Rattle.std.specs.List.{list_any}
+use Rattle.std.proofs.Common.{◌≡◌, ◌≢◌, ℕ, ◌+◌, ◌<◌, ◌≤◌, inl, inr, Bool, true, false, ◌&&◌, List, [], ◌∷◌, length, Option, Some, None, refl, sym, ap, subst, ◌∙◌, arith, nat_eq}
+use Rattle.std.specs.Prelude.{Contains, if◌then◌else◌}
 use Rattle.std.proofs.lemmas.Bool.{cases_eq, eqb-true}
 use Rattle.std.proofs.lemmas.Bool.Decides.{Decides-eqb}
-use Rattle.std.proofs.lemmas.Option.{same_Some, slice_get_past}
+use Rattle.std.proofs.lemmas.Option.{same_Some}
 use Rattle.std.proofs.lemmas.Map.Views.{list_any-from_Contains, Contains-from_any}
 use Rattle.std.proofs.lemmas.Cmp.{nat_eq_equiv}
-use Rattle.joint_model.specs.Control.{Doing, Opened, Stand, idle, snapped, contracted, weakening, marked, restoring, restored, candidates_of}
+use Rattle.joint_model.specs.Control.{Doing, Stand, idle, snapped, contracted, weakening, marked, restoring, restored, candidates_of}
 use Rattle.joint_model.specs.Heaps.{Heap, IsLive, numbered_at, is_freed}
 use Rattle.joint_model.specs.Joint.{Joint, JointMarking, joint_target, is_twin, twin_from, twin_of}
-use Rattle.joint_model.specs.Managed.{Managed, OpenCycle, Holds, handle_of}
+use Rattle.joint_model.specs.Managed.{Holds, handle_of}
 use Rattle.joint_model.specs.ManagedReplay.{ManagedReplay, registered}
-use Rattle.joint_model.specs.Peers.{Issued, Hold, held, raw, Strength, strong, weak, peer_of, is_held}
+use Rattle.joint_model.specs.Peers.{Issued, Hold, held, raw, peer_of, is_held}
 use Rattle.joint_model.specs.PeerReplay.{PeerReplay, TableRow, row_of, table_target}
-use Rattle.joint_laws.specs.JointAgreement.{IsInTable, IsOwned, AreFlags, joint_of}
+use Rattle.joint_laws.specs.JointAgreement.{IsInTable, AreFlags, joint_of}
 use Rattle.joint_laws.specs.PeerInvariants.{IsTabled, IsIssued}
-use Rattle.joint_laws.specs.LinkedInvariants.{HasStrength, IsRowOf, IsDriverKept, IsGone, IsRestoredBy}
-use Rattle.joint_laws.proofs.Lists.{Contains-nil, Contains-decided, at-Contains}
-use Rattle.joint_laws.proofs.Numbered.{none_some, slot-named, numbered-within, numbered-made, numbered-past}
+use Rattle.joint_laws.specs.LinkedInvariants.{IsRowOf, IsDriverKept, IsGone}
+use Rattle.joint_laws.proofs.Lists.{Contains-decided, at-Contains}
+use Rattle.joint_laws.proofs.Numbered.{none_some, slot-named, numbered-within, numbered-made}
 use Rattle.joint_laws.proofs.Registered.{registered-some, registered-none}
 use Rattle.joint_laws.proofs.DriverPeerSteps.{handle_of-holds, holds-handle_of}
 use Rattle.joint_laws.proofs.DriverSteps.{no_candidates, candidates_are}

@@ -52,3 +52,5 @@ pub mod JointSteps
 pub mod JointLines
 pub mod JointRests
 pub mod JointEntries
+pub mod JointRuns
+pub mod RunsAreSound

@@ -3,31 +3,30 @@
 -- unfreed, has a spared peer. A managed stretch that begins in a slot stays outside the dead part and ends at a strong
 -- handle. One that begins at a peer inside the dead part leads from a candidate to a candidate: either that one's handle is
 -- strong, or it is weak, and then the mirror stands and references follow the stretch.
-use Rattle.std.proofs.Common.{◌≡◌, ℕ, ◌+◌, ◌<◌, ◌≤◌, ◌⊎◌, inl, inr, Bool, true, false, List, [], length, Option, Some, None, refl, sym, ap, subst, ◌∙◌, arith}
-use Rattle.std.specs.Prelude.{Contains, slice_get, if◌then◌else◌}
+use Rattle.std.proofs.Common.{◌≡◌, ℕ, ◌≤◌, ◌⊎◌, inl, inr, Bool, List, [], length, Option, Some, None, refl, sym, ap, subst, ◌∙◌, arith}
+use Rattle.std.specs.Prelude.{Contains}
 use Rattle.std.proofs.lemmas.Option.{same_Some, slice_get_within}
-use Rattle.joint_model.specs.Control.{Doing, Opened, Stand, idle, snapped, contracted, weakening, marked, restoring, restored, candidates_of}
+use Rattle.joint_model.specs.Control.{Doing, Stand, idle, snapped, contracted, weakening, marked, restoring, restored, candidates_of}
 use Rattle.joint_model.specs.Cycles.{DeadEdge}
-use Rattle.joint_model.specs.Heaps.{IsLive, HasField, InSlot, numbered_at}
-use Rattle.joint_model.specs.Joint.{Joint, Graph, JointMarking, Row, object, peer, JointEdge, IsJoined, IsJointRoot, IsRawRoot, IsLooseRoot, IsReached, graph_of}
-use Rattle.joint_model.specs.Managed.{Managed, OpenCycle, Holds, IsBridge, IsManagedRoot, ManagedEdge}
+use Rattle.joint_model.specs.Heaps.{IsLive, numbered_at}
+use Rattle.joint_model.specs.Joint.{Graph, JointMarking, Row, object, peer, JointEdge, IsJoined, IsJointRoot, IsRawRoot, IsLooseRoot, IsReached, graph_of}
+use Rattle.joint_model.specs.Managed.{Managed, OpenCycle, IsBridge, ManagedEdge}
 use Rattle.joint_model.specs.ManagedReplay.{ManagedReplay}
-use Rattle.joint_model.specs.Peers.{Issued, Hold, held, raw, Strength, strong, weak, peer_of}
-use Rattle.joint_model.specs.PeerReplay.{PeerReplay, TableRow, Marking}
+use Rattle.joint_model.specs.Peers.{Issued, Strength, strong, weak, peer_of}
+use Rattle.joint_model.specs.PeerReplay.{PeerReplay, Marking}
 use Rattle.joint_model.specs.Walks.{Reaches}
 use Rattle.joint_model.proofs.WalkLemmas.{Reached-keeps, Reaches-keeps, Reaches-self, Reaches-edge, Reaches-trans}
-use Rattle.joint_laws.specs.JointAgreement.{IsInTable, IsOwned, AreFlags, joint_of}
+use Rattle.joint_laws.specs.JointAgreement.{IsInTable, AreFlags, joint_of}
 use Rattle.joint_laws.specs.ManagedInvariants.{IsCutOff}
 use Rattle.joint_laws.specs.Mirrors.{MirrorEdge}
-use Rattle.joint_laws.specs.PeerInvariants.{IsTabled, IsIssued, IsSpared, IsMarkingKept}
-use Rattle.joint_laws.specs.LinkedInvariants.{HasStrength, IsHeldOne, IsRowOf, IsDriverKept, IsMirrored, IsRestoredBy}
+use Rattle.joint_laws.specs.PeerInvariants.{IsIssued, IsSpared, IsMarkingKept}
+use Rattle.joint_laws.specs.LinkedInvariants.{HasStrength, IsRowOf, IsDriverKept, IsMirrored, IsRestoredBy}
 use Rattle.joint_laws.proofs.Lists.{Contains-nil, Contains-decided, at-Contains}
 use Rattle.joint_laws.proofs.Numbered.{none_some}
 use Rattle.joint_laws.proofs.HandleKeeping.{held-raw}
 use Rattle.joint_laws.proofs.DeadMirrors.{candidates-mirrored}
 use Rattle.joint_laws.proofs.SameGraphs.{mirror_edge-ends}
 use Rattle.joint_laws.proofs.Sparing.{spared-next}
-use Rattle.joint_laws.proofs.DriverSteps.{candidates_are, no_candidates}
 use Rattle.joint_laws.proofs.LinkedQuiet.{AreKept}
 
 -- what a handle was issued on, by where it leads

@@ -4,7 +4,6 @@
 use Rattle.std.specs.Prelude.{◌≡◌, ℕ, ◌⊎◌, Bool, true, false, List, length, Option, Some, None, ⊤}
 use Rattle.joint_model.specs.Heaps.{numbered_at}
 use Rattle.joint_model.specs.Joint.{Joint, JointMarking, IsReachedIn, peer}
-use Rattle.joint_model.specs.Linked.{Linkage}
 use Rattle.joint_model.specs.Managed.{Managed, Holds}
 use Rattle.joint_model.specs.PeerReplay.{PeerReplay, TableRow, Marking}
 use Rattle.joint_laws.specs.PeerInvariants.{IsTabled, IsSpared}

@@ -7,3 +7,4 @@ pub mod PeerInvariants
 pub mod LinkedInvariants
 pub mod LinkedLaws
 pub mod JointAgreement
+pub mod RunLaws

@@ -1,0 +1,15 @@
+// Laws on runs of the joint machine.
+
+ghost use Rattle.joint_laws.specs.RunLaws.{LinkedIsRun, ProjectionIsRun, SnapshotsAreSound};
+
+/// The joint projection of each lawful list of entries is a run of the joint machine, word by word, whatever entries of other
+/// threads come between those of a cycle or of an operation; so is that of each linked history.
+pub fn joint_projection_is_a_run()
+    ensures lawful { ProjectionIsRun }
+    ensures linked { LinkedIsRun }
+{}
+
+/// In every run, no managed row that a snapshot frees was reached just before it.
+pub fn snapshots_are_sound()
+    ensures { SnapshotsAreSound }
+{}
