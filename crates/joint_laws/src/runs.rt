@@ -1,6 +1,6 @@
 // Laws on runs of the joint machine.
 
-ghost use Rattle.joint_laws.specs.RunLaws.{LinkedIsRun, ProjectionIsRun, SnapshotsAreSound};
+ghost use Rattle.joint_laws.specs.RunLaws.{LinkedIsRun, ProjectionIsRun, SnapshotsAreSound, SweepsAreSound};
 
 /// The joint projection of each lawful list of entries is a run of the joint machine, word by word, whatever entries of other
 /// threads come between those of a cycle or of an operation; so is that of each linked history.
@@ -12,4 +12,9 @@ pub fn joint_projection_is_a_run()
 /// In every run, no managed row that a snapshot frees was reached just before it.
 pub fn snapshots_are_sound()
     ensures { SnapshotsAreSound }
+{}
+
+/// In every run, each peer that a sweep frees was unreached at the begin of the marking and just before the sweep.
+pub fn sweeps_are_sound()
+    ensures { SweepsAreSound }
 {}
