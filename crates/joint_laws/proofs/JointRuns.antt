@@ -11,6 +11,8 @@ use Rattle.joint_laws.specs.JointAgreement.{Agrees, joint_of}
 use Rattle.joint_laws.specs.RunLaws.{ProjectionIsRun, LinkedIsRun}
 use Rattle.joint_laws.proofs.Lists.{Contains-nil, Contains-cons_cases}
 use Rattle.joint_laws.proofs.Numbered.{numbered-within}
+use Rattle.joint_laws.proofs.JointSince.{IsSince, since-opening, since-entry}
+use Rattle.joint_laws.proofs.RunsAreSound.{stays, marking-case}
 use Rattle.joint_laws.proofs.JointEntries.{Outcome, moves, rests, outcome}
 use Rattle.joint_laws.proofs.LinkedEntries.{Of, AreKept-entry, AreKept-opening}
 
@@ -20,6 +22,7 @@ pub record Stands (s : Linkage) : Type 0 where
   pub flags : List Bool
   pub marking : Option JointMarking
   pub agrees : Agrees s.managed.managed s.peer flags marking
+  pub since : IsSince s.managed.managed s.peer marking
 
 -- its joint state
 abbrev pub state_of : (s : Linkage) → Stands s → Joint
@@ -31,6 +34,8 @@ pub record IsTraced (m : Moment) : Type 0 where
   pub stands : Stands state
   pub may : MayCome state m.noted
   pub before : m.before ≡ state_of state stands
+  pub next : Stands (linkage_after state m.noted)
+  pub after : m.after ≡ state_of (linkage_after state m.noted) next
 
 -- the run from a linked state on
 pub record Runs (s : Linkage) (w : Stands s) (ns : List Noted) : Type 0 where
@@ -52,7 +57,14 @@ run-from (n ∷ ns) s w may = by (outcome-of s w n may.0) (λ v. run-from ns (li
     by : Outcome s.managed.managed s.peer w.flags w.marking n.entry.made.caller n.entry.made.op n.entry.made.reply n.told (linkage_after s n).managed.managed (linkage_after s n).peer
         → ((v : Stands (linkage_after s n)) → Runs (linkage_after s n) v ns) → Runs s w (n ∷ ns)
     by (moves e t) rest =
-        let v : Stands (linkage_after s n) = record { kept = AreKept-entry s n may.0 w.kept; flags = t.flags_after; marking = t.marking_after; agrees = t.agrees } in
+        let v : Stands (linkage_after s n) = record {
+          kept = AreKept-entry s n may.0 w.kept;
+          flags = t.flags_after;
+          marking = t.marking_after;
+          agrees = t.agrees;
+          since = since-entry s n w.flags t.flags_after w.marking t.marking_after n.entry.made.op n.entry.made.reply may.0 w.kept (AreKept-entry s n may.0 w.kept) w.agrees.markings w.since
+              (marking-case (state_of s w) (joint_of (linkage_after s n).managed.managed (linkage_after s n).peer t.flags_after t.marking_after) n.entry.made.caller n.entry.made.op n.entry.made.reply n.told t.event);
+        } in
         let more = rest v in
         let m : Moment = record { before = state_of s w; noted = n; after = state_of (linkage_after s n) v } in
         record {
@@ -60,12 +72,18 @@ run-from (n ∷ ns) s w may = by (outcome-of s w n may.0) (λ v. run-from ns (li
           same = ap (λ z. n ∷ z) more.same ∙ sym (projected n ns true e);
           steps = (refl, record { event = may.0.event; step = t.event }, more.steps);
           traced = λ x c. elim (Contains-cons_cases m more.moments x c) [
-            | inl q ↦ subst IsTraced q (record { state = s; stands = w; may = may.0; before = refl })
+            | inl q ↦ subst IsTraced q (record { state = s; stands = w; may = may.0; before = refl; next = v; after = refl })
             | inr q ↦ more.traced x q
           ];
         }
     by (rests e t) rest =
-        let v : Stands (linkage_after s n) = record { kept = AreKept-entry s n may.0 w.kept; flags = w.flags; marking = w.marking; agrees = t.agrees } in
+        let v : Stands (linkage_after s n) = record {
+          kept = AreKept-entry s n may.0 w.kept;
+          flags = w.flags;
+          marking = w.marking;
+          agrees = t.agrees;
+          since = since-entry s n w.flags w.flags w.marking w.marking n.entry.made.op n.entry.made.reply may.0 w.kept (AreKept-entry s n may.0 w.kept) w.agrees.markings w.since (stays refl);
+        } in
         let more = rest v in
         record { moments = more.moments; same = more.same ∙ sym (projected n ns false e); steps = subst (λ z. IsRunFrom z more.moments) t.same more.steps; traced = more.traced }
 
@@ -83,6 +101,7 @@ Stands-opening = record {
     };
     markings = tt;
   };
+  since = since-opening opening_linkage.managed.managed opening_linkage.peer;
 }
   where
     nothing : (h : ℕ) (b : Bool) → numbered_at [] h ≡ Some b → ⊥

@@ -54,3 +54,5 @@ pub mod JointRests
 pub mod JointEntries
 pub mod JointRuns
 pub mod RunsAreSound
+pub mod PeerSince
+pub mod JointSince
