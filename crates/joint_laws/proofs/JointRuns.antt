@@ -3,7 +3,7 @@
 use Rattle.std.proofs.Common.{◌≡◌, ℕ, inl, inr, Bool, true, false, List, [], ◌∷◌, Option, Some, None, refl, sym, ap, subst, ◌∙◌, cond, arith}
 use Rattle.std.specs.Prelude.{Contains, map}
 use Rattle.joint_model.specs.Heaps.{numbered_at}
-use Rattle.joint_model.specs.Joint.{Joint, JointMarking}
+use Rattle.joint_model.specs.Joint.{Joint, JointMarking, opening}
 use Rattle.joint_model.specs.Linked.{Linkage, MayCome, AllMayCome, opening_linkage, linkage_after, is_joint, joint_projection}
 use Rattle.joint_model.specs.Run.{Moment, IsRunFrom}
 use Rattle.joint_model.specs.Told.{Noted}
@@ -109,6 +109,11 @@ Stands-opening = record {
 
 pub opening-run : (noted : List Noted) → AllMayCome opening_linkage noted → Runs opening_linkage Stands-opening noted
 opening-run noted may = run-from noted opening_linkage Stands-opening may
+
+-- it starts where the joint machine opens
+pub opening-steps : (noted : List Noted) (may : AllMayCome opening_linkage noted) → IsRunFrom opening (opening-run noted may).moments
+unfolding Stands-opening
+opening-steps noted may = (opening-run noted may).steps
 
 pub projection_is_run : ProjectionIsRun
 unfolding Stands-opening

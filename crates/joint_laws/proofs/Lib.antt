@@ -56,3 +56,5 @@ pub mod JointRuns
 pub mod RunsAreSound
 pub mod PeerSince
 pub mod JointSince
+pub mod PeerFreed
+pub mod RunsFreeTwins

@@ -30,7 +30,7 @@ use Rattle.joint_laws.proofs.Sparing.{spared-next}
 use Rattle.joint_laws.proofs.LinkedQuiet.{AreKept}
 
 -- what a handle was issued on, by where it leads
-peer_of-row : (issued : List Issued) (h p : ℕ) → peer_of issued h ≡ Some p → (i : Issued) × IsIssued issued h i × (i.peer ≡ p)
+pub peer_of-row : (issued : List Issued) (h p : ℕ) → peer_of issued h ≡ Some p → (i : Issued) × IsIssued issued h i × (i.peer ≡ p)
 peer_of-row issued h p e = by (numbered_at issued h) refl e
   where
     by : (o : Option Issued) → numbered_at issued h ≡ o → elim o [ None ↦ None | Some i ↦ Some i.peer ] ≡ Some p → (i : Issued) × IsIssued issued h i × (i.peer ≡ p)

@@ -1,6 +1,6 @@
 -- The joint projection of each lawful list of entries is a run of the joint machine, and its states are those of the sides.
 use Rattle.std.specs.Prelude.{ℕ, ◌<◌, List, Contains}
-use Rattle.joint_model.specs.Headline.{SnapsAt, SweepsAt, BeginsAt, IsUnreachedBefore, WasUnreached}
+use Rattle.joint_model.specs.Headline.{SnapsAt, SweepsAt, BeginsAt, IsUnreachedBefore, WasUnreached, IsSoundRun}
 use Rattle.joint_model.specs.Histories.{Finished}
 use Rattle.joint_model.specs.Joint.{object, peer}
 use Rattle.joint_model.specs.Linked.{AllMayCome, opening_linkage, joint_projection, IsLinkedBy}
@@ -26,3 +26,14 @@ SnapshotsAreSound = (entries : List Noted) (run : List Moment) → IsRun entries
 -- in every run: each peer that a sweep frees was unreached at the begin of the marking and just before the sweep
 abbrev pub SweepsAreSound : Type 0
 SweepsAreSound = (entries : List Noted) (run : List Moment) → IsRun entries run → (i j p : ℕ) (freed : List ℕ) → SweepsAt run i j freed → Contains freed p → (begin : ℕ) × (begin < i) × BeginsAt run begin j × WasUnreached run begin i (peer p)
+
+-- the joint projection of a lawful list of entries is a sound run
+abbrev pub HasSoundRun : List Noted → Type 0
+HasSoundRun noted = (run : List Moment) × IsRun (joint_projection noted) run × IsSoundRun run
+
+abbrev pub ProjectionIsSound : Type 0
+ProjectionIsSound = (noted : List Noted) → AllMayCome opening_linkage noted → HasSoundRun noted
+
+-- and so is that of a linked history
+abbrev pub LinkedIsSound : Type 0
+LinkedIsSound = (h : Finished) (noted : List Noted) → IsLinkedBy h noted → HasSoundRun noted
