@@ -1,20 +1,20 @@
 -- While a marking is open, each row that holds a handle on a peer that isn't spared held it at the begin: a row that took its
 -- handle since has a strong one, so its peer is spared.
-use Rattle.std.proofs.Common.{◌≡◌, ℕ, ◌⊎◌, inl, inr, Bool, true, false, List, [], Option, Some, None, refl, sym, ap, subst, ◌∙◌}
+use Rattle.std.proofs.Common.{◌≡◌, ℕ, ◌⊎◌, inl, inr, Bool, true, false, List, Option, Some, None, refl, sym, ap, subst, ◌∙◌}
 use Rattle.std.specs.Prelude.{Contains}
 use Rattle.std.proofs.lemmas.Option.{same_Some}
 use Rattle.joint_model.specs.declared.events.Op.{Op}
 use Rattle.joint_model.specs.declared.events.Reply.{Reply}
 use Rattle.joint_model.specs.declared.events.Made.{Made}
 use Rattle.joint_model.specs.Control.{candidates_of}
-use Rattle.joint_model.specs.Joint.{Joint, JointMarking, Graph, graph_of}
+use Rattle.joint_model.specs.Joint.{JointMarking, Graph, graph_of}
 use Rattle.joint_model.specs.Lines.{is_peer_event}
 use Rattle.joint_model.specs.Linked.{Linkage, MayCome, linkage_after, peer_after}
 use Rattle.joint_model.specs.Managed.{Managed, OpenCycle, Holds}
 use Rattle.joint_model.specs.Peers.{Issued, strong}
 use Rattle.joint_model.specs.PeerReplay.{PeerReplay, Marking}
 use Rattle.joint_model.specs.Told.{Told, Noted}
-use Rattle.joint_laws.specs.JointAgreement.{AreSameMarkings, Agrees, joint_of}
+use Rattle.joint_laws.specs.JointAgreement.{AreSameMarkings, joint_of}
 use Rattle.joint_laws.specs.LinkedInvariants.{HasStrength}
 use Rattle.joint_laws.specs.ManagedInvariants.{IsManagedKept}
 use Rattle.joint_laws.specs.PeerInvariants.{IsIssued, IsSpared}
@@ -23,7 +23,6 @@ use Rattle.joint_laws.proofs.Numbered.{none_some}
 use Rattle.joint_laws.proofs.DriverSteps.{no_candidates, candidates_are}
 use Rattle.joint_laws.proofs.ManagedEntries.{ManagedStep-entry}
 use Rattle.joint_laws.proofs.ManagedKeeping.{was-live}
-use Rattle.joint_laws.proofs.ManagedMoves.{GoesOn}
 use Rattle.joint_laws.proofs.ManagedSteps.{ManagedStep, going_on, snapping, resolving, abandoning}
 use Rattle.joint_laws.proofs.LinkedEntries.{Of}
 use Rattle.joint_laws.proofs.PeerSince.{GoesOnSparing, stays-sparing, peer-goes_on}

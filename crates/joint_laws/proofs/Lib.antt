@@ -58,3 +58,4 @@ pub mod PeerSince
 pub mod JointSince
 pub mod PeerFreed
 pub mod RunsFreeTwins
+pub mod SoundRuns

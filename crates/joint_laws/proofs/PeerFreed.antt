@@ -1,6 +1,6 @@
 -- Only a sweep frees peers.
-use Rattle.std.proofs.Common.{◌≡◌, ℕ, ◌-◌, ◌+◌, ◌⊎◌, inl, inr, Bool, true, false, ◌||◌, List, [], ◌∷◌, ◌++◌, length, Option, Some, None, refl, sym, ap, subst, ◌∙◌}
-use Rattle.std.specs.Prelude.{Contains, if◌then◌else◌, min, nat_lt}
+use Rattle.std.proofs.Common.{◌≡◌, ℕ, ◌⊎◌, inl, inr, Bool, true, false, ◌||◌, List, [], Option, Some, None, refl}
+use Rattle.std.specs.Prelude.{if◌then◌else◌}
 use Rattle.joint_model.specs.declared.names.Thread.{Thread}
 use Rattle.joint_model.specs.declared.lines.Act.TheVariants as act
 use Rattle.joint_model.specs.declared.events.Op.{Op}
@@ -11,7 +11,7 @@ use Rattle.joint_model.specs.Heaps.{answer, slot, is_full, numbered_set}
 use Rattle.joint_model.specs.Lines.{is_peer_event}
 use Rattle.joint_model.specs.Linked.{Linkage, linkage_after, peer_after}
 use Rattle.joint_model.specs.Peers.{strong, peer_of}
-use Rattle.joint_model.specs.PeerReplay.{PeerReplay, TableRow, Marking, row_of, is_thread, sliced, begun, restored_by, mirrored, brought_handle, peer_answer, table_target, with_restored}
+use Rattle.joint_model.specs.PeerReplay.{PeerReplay, TableRow, row_of, restored_by, mirrored, brought_handle, peer_answer, table_target, with_restored}
 use Rattle.joint_model.specs.Run.{thread_number}
 use Rattle.joint_model.specs.Told.{Told, Noted, references_of, slice_of}
 use Rattle.joint_laws.specs.PeerInvariants.{IsPeerKept}

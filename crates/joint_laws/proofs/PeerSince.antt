@@ -1,11 +1,11 @@
 -- What each entry of the peer side keeps of the handles and the open marking: a handle stays issued as it was, and what the
 -- marking spares it goes on sparing.
-use Rattle.std.proofs.Common.{◌≡◌, ℕ, ◌+◌, ◌-◌, ◌⊎◌, inl, inr, Bool, true, false, ◌||◌, List, [], ◌∷◌, ◌++◌, length, Option, Some, None, refl, sym, ap, subst, ◌∙◌}
+use Rattle.std.proofs.Common.{◌≡◌, ℕ, ◌+◌, ◌-◌, Bool, true, false, ◌||◌, List, [], ◌∷◌, ◌++◌, length, Option, Some, None, refl, sym, subst, ◌∙◌}
 use Rattle.std.specs.Prelude.{Contains, if◌then◌else◌, min, nat_lt}
 use Rattle.std.proofs.lemmas.Option.{same_Some}
 use Rattle.std.proofs.lemmas.List.Elements.{Contains-append_left}
 use Rattle.joint_model.specs.declared.names.Thread.{Thread}
-use Rattle.joint_model.specs.declared.names.Thread.TheVariants.{M, P, C}
+use Rattle.joint_model.specs.declared.names.Thread.TheVariants.{C}
 use Rattle.joint_model.specs.declared.lines.Act.{Act}
 use Rattle.joint_model.specs.declared.lines.Act.TheVariants as act
 use Rattle.joint_model.specs.declared.events.Op.{Op}
@@ -14,7 +14,7 @@ use Rattle.joint_model.specs.declared.events.Reply.{Reply}
 use Rattle.joint_model.specs.declared.events.Reply.TheVariants as says
 use Rattle.joint_model.specs.Heaps.{Answered, answer, slot, is_full, numbered_set}
 use Rattle.joint_model.specs.Peers.{Issued, strong, peer_of}
-use Rattle.joint_model.specs.PeerReplay.{PeerReplay, TableRow, Marking, row_of, on_table, brings, bring_by, untabled, peer_thread_line, is_thread, sliced, begun, swept_of, swept, restored_by, mirrored, brought_to, brought_handle, peer_answer, table_target, with_restored}
+use Rattle.joint_model.specs.PeerReplay.{PeerReplay, TableRow, Marking, row_of, bring_by, untabled, peer_thread_line, is_thread, sliced, begun, swept_of, swept, restored_by, mirrored, brought_to, brought_handle, peer_answer, table_target, with_restored}
 use Rattle.joint_model.specs.Run.{thread_number}
 use Rattle.joint_model.specs.Told.{Told, references_of, slice_of, sweep_of}
 use Rattle.joint_laws.specs.PeerInvariants.{IsIssued, IsSpared, IsPeerKept}

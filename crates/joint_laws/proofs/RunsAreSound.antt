@@ -1,6 +1,6 @@
 -- What every run of the joint machine frees. A marking that is open was begun at an earlier entry, and keeps the graph that
 -- stood after it; so what its sweep frees, which was unreached in that graph and is unreached now, was so at both entries.
-use Rattle.joint_model.specs.Headline.{BeginsAt, SweepsAt, SnapsAt, WasUnreached}
+use Rattle.joint_model.specs.Headline.{BeginsAt, SweepsAt}
 use Rattle.joint_model.specs.declared.events.Reply.TheVariants as says
 use Rattle.joint_model.specs.declared.lines.Act.TheVariants as act
 use Rattle.joint_model.specs.declared.events.Reply.{Reply}
@@ -10,8 +10,8 @@ use Rattle.joint_model.specs.declared.names.Span.{Span}
 use Rattle.joint_model.specs.declared.names.Thread.TheVariants.{M, P, C}
 use Rattle.joint_model.specs.declared.names.Thread.{Thread}
 use Rattle.std.proofs.lemmas.List.Elements.{All-contains}
-use Rattle.std.proofs.Common.{◌≡◌, ℕ, zero, suc, List, [], ◌∷◌, Some, sym, subst, ◌∙◌, ◌+◌, ◌<◌, ◌≤◌, inl, inr, length, Option, None, refl, ap, arith}
-use Rattle.std.specs.Prelude.{slice_get, Contains, All}
+use Rattle.std.proofs.Common.{◌≡◌, ℕ, zero, suc, List, [], ◌∷◌, Some, sym, subst, ◌∙◌, ◌+◌, ◌<◌, inl, inr, Option, None, refl, ap, arith}
+use Rattle.std.specs.Prelude.{slice_get}
 use Rattle.std.proofs.lemmas.Option.{same_Some}
 use Rattle.joint_model.specs.declared.events.Op.TheVariants as op
 use Rattle.joint_model.specs.Joint.{Joint, opening, object, IsReached, JointMarking, graph_of, peer, IsReachedIn}

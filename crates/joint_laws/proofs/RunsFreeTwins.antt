@@ -2,44 +2,37 @@
 -- marking or just before it. For just before the sweep the row held the handle and the peer was unfreed, so each leads to the
 -- other; and so it was at the begin, since a row that took its handle since would have its peer spared. So a candidate that a
 -- resolution frees, whose peer is freed, is freed with its peer.
-use Rattle.std.proofs.Common.{◌≡◌, ℕ, zero, suc, ◌+◌, ◌<◌, ◌≤◌, ◌⊎◌, inl, inr, Bool, true, false, List, [], ◌∷◌, ◌++◌, length, Option, Some, None, refl, sym, ap, subst, ◌∙◌, arith}
-use Rattle.std.specs.Prelude.{Contains, All, slice_get}
+use Rattle.std.proofs.Common.{◌≡◌, ℕ, suc, ◌⊎◌, inl, inr, List, ◌++◌, length, Option, Some, None, refl, sym, ap, subst, ◌∙◌, arith}
+use Rattle.std.specs.Prelude.{Contains, slice_get}
 use Rattle.std.proofs.lemmas.Option.{same_Some}
 use Rattle.std.proofs.lemmas.List.Elements.{All-contains, Contains-append_cases}
 use Rattle.joint_model.specs.declared.names.Thread.{Thread}
 use Rattle.joint_model.specs.declared.events.Op.{Op}
 use Rattle.joint_model.specs.declared.events.Op.TheVariants as op
 use Rattle.joint_model.specs.declared.events.Reply.{Reply}
-use Rattle.joint_model.specs.declared.events.Reply.TheVariants as says
-use Rattle.joint_model.specs.Headline.{BeginsAt, SweepsAt, SnapsAt, ResolvesAt, IsUnreachedAt, IsUnreachedBefore, WasUnreached, IsSweptFor, IsFreedWithPeer, IsCandidateBefore, IsSoundRun}
-use Rattle.joint_model.specs.Heaps.{IsMade, IsLive, numbered_at}
-use Rattle.joint_model.specs.Histories.{Finished}
-use Rattle.joint_model.specs.Joint.{Joint, JointMarking, Graph, graph_of, opening, object, peer, JointEdge, IsJoined, IsJointRoot, IsReached, IsReachedIn}
-use Rattle.joint_model.specs.Lines.{IsEvent}
-use Rattle.joint_model.specs.Linked.{Linkage, MayCome, AllMayCome, opening_linkage, linkage_after, joint_projection, IsLinkedBy, SideLawful}
+use Rattle.joint_model.specs.Headline.{IsSweptFor}
+use Rattle.joint_model.specs.Heaps.{IsMade, IsLive}
+use Rattle.joint_model.specs.Joint.{Joint, JointMarking, graph_of, opening, object, peer, JointEdge, IsJointRoot, IsReached, IsReachedIn}
+use Rattle.joint_model.specs.Linked.{Linkage, MayCome, linkage_after, SideLawful}
 use Rattle.joint_model.specs.Lines.{is_peer_event}
-use Rattle.joint_model.specs.Managed.{Managed, OpenCycle, Holds, ManagedEdge}
+use Rattle.joint_model.specs.Managed.{Holds}
 use Rattle.joint_model.specs.Peers.{Issued, strong, peer_of}
-use Rattle.joint_model.specs.PeerReplay.{PeerReplay, Marking, IsSweep, SweepAllows}
-use Rattle.joint_model.specs.Run.{Moment, JointStep, JointEvent, JointSweep, JointResolve, EndsMarking, RefusesSweep, IsStored, IsKept, IsRunFrom, IsRun}
-use Rattle.joint_model.specs.Told.{Told, Noted, sweep_of, resolution_of}
-use Rattle.joint_model.proofs.WalkLemmas.{Reached-then, Reaches-self}
-use Rattle.joint_laws.specs.JointAgreement.{joint_of}
-use Rattle.joint_laws.specs.ManagedInvariants.{IsManagedKept}
+use Rattle.joint_model.specs.PeerReplay.{Marking, IsSweep, SweepAllows}
+use Rattle.joint_model.specs.Run.{Moment, JointEvent, JointSweep, EndsMarking, IsStored, IsRunFrom}
+use Rattle.joint_model.specs.Told.{Told, Noted, sweep_of}
+use Rattle.joint_model.proofs.WalkLemmas.{Reached-then}
+use Rattle.joint_laws.specs.LinkedInvariants.{HasStrength}
 use Rattle.joint_laws.specs.PeerInvariants.{IsIssued, IsSpared}
-use Rattle.joint_laws.specs.RunLaws.{ProjectionIsSound, LinkedIsSound}
-use Rattle.joint_laws.proofs.Lists.{Contains-decided, Contains-at}
-use Rattle.joint_laws.proofs.Numbered.{none_some, numbered-within}
+use Rattle.joint_laws.proofs.Lists.{Contains-decided}
 use Rattle.joint_laws.proofs.Sparing.{spared-stays}
 use Rattle.joint_laws.proofs.SparedWalks.{peer_of-row}
 use Rattle.joint_laws.proofs.JointSince.{held-before, peer-entry, open-there}
 use Rattle.joint_laws.proofs.PeerFreed.{entry-freed, sweep-or}
-use Rattle.joint_laws.proofs.ManagedFrees.{resolution-unreached}
 use Rattle.joint_laws.proofs.LinkedEntries.{Of, AreKept-entry}
-use Rattle.joint_laws.proofs.JointRuns.{Stands, state_of, IsTraced, Runs, opening-run, Stands-opening, opening-steps}
-use Rattle.joint_laws.proofs.RunsAreSound.{step-at, next-before, first-before, earlier-there, origin, HasOrigin, sweeps_are_sound, snapshots_are_sound}
+use Rattle.joint_laws.proofs.JointRuns.{state_of, IsTraced}
+use Rattle.joint_laws.proofs.RunsAreSound.{step-at, origin}
 
-peer-is : (issued : List Issued) (h : ℕ) (i : Issued) → IsIssued issued h i → peer_of issued h ≡ Some i.peer
+pub peer-is : (issued : List Issued) (h : ℕ) (i : Issued) → IsIssued issued h i → peer_of issued h ≡ Some i.peer
 peer-is issued h i e = ap (λ (o : Option Issued). elim o [ None ↦ None | Some j ↦ Some j.peer ]) e
 
 -- what a sweep of the joint machine does
@@ -66,7 +59,7 @@ lawful-sweep s n mk freed may e f g = w.1
     w = subst (λ z. SweepAllows s.peer (Some mk) n.entry.made.caller z) g (subst (λ z. SweepAllows s.peer z n.entry.made.caller n.told) f allowed)
 
 -- the rows that hold handles on freed peers
-abbrev TwinsSwept : List Moment → ℕ → Joint → Type 0
+abbrev pub TwinsSwept : List Moment → ℕ → Joint → Type 0
 TwinsSwept run i j = (x h p : ℕ) → Holds j.managed x h → peer_of j.peers.issued h ≡ Some p → Contains j.peers.heap.freed p → IsSweptFor run i p (object x)
 
 later-limit : (run : List Moment) (i p x : ℕ) → IsSweptFor run i p (object x) → IsSweptFor run (suc i) p (object x)
@@ -111,7 +104,7 @@ module _ (run : List Moment) (steps : IsRunFrom opening run) (traced : (m : Mome
         };
       }
 
-  twins-next : (i : ℕ) (m : Moment) → slice_get run i ≡ Some m → (t : IsTraced m) → TwinsSwept run i m.before → TwinsSwept run (suc i) (state_of (linkage_after t.state m.noted) t.next)
+  pub twins-next : (i : ℕ) (m : Moment) → slice_get run i ≡ Some m → (t : IsTraced m) → TwinsSwept run i m.before → TwinsSwept run (suc i) (state_of (linkage_after t.state m.noted) t.next)
   twins-next i m there t before x h p q leads c = elim (held-before t.state m.noted t.may t.stands.kept after x h q) [
     | inr s ↦ absurd (strong-live s)
     | inl old ↦ held-old old
@@ -123,7 +116,7 @@ module _ (run : List Moment) (steps : IsRunFrom opening run) (traced : (m : Mome
       row : (i1 : Issued) × IsIssued (linkage_after t.state m.noted).peer.peers.issued h i1 × (i1.peer ≡ p)
       row = peer_of-row (linkage_after t.state m.noted).peer.peers.issued h p leads
 
-      strong-live : Rattle.joint_laws.specs.LinkedInvariants.HasStrength (linkage_after t.state m.noted).peer h strong → ⊥
+      strong-live : HasStrength (linkage_after t.state m.noted).peer h strong → ⊥
       strong-live s =
           let l = after.peer.handles.uncleared h s.0 row.0 s.1 row.1 (after.peer.handles.sure h s.0 s.1 s.2) in
           l.kept (subst (λ z. Contains (linkage_after t.state m.noted).peer.peers.heap.freed z) (sym row.2) c)
@@ -145,7 +138,7 @@ module _ (run : List Moment) (steps : IsRunFrom opening run) (traced : (m : Mome
                 | inr no_sweep ↦ absurd (not_yet (subst (λ z. Contains z p) (entry-freed t.state m.noted t.stands.kept.peer no_sweep) c))
                 | inl e ↦ (
                     let st : JointSweep m.before m.before.marking m.noted.entry.made.caller m.noted.entry.made.reply m.noted.told m.after =
-                        subst (λ z. JointEvent m.before m.noted.entry.made.caller z m.noted.entry.made.reply m.noted.told m.after) e (step-at run opening i m steps there).step in
+                    subst (λ z. JointEvent m.before m.noted.entry.made.caller z m.noted.entry.made.reply m.noted.told m.after) e (step-at run opening i m steps there).step in
                     elim (sweep-freed m.before m.after m.before.marking m.noted.entry.made.caller m.noted.entry.made.reply m.noted.told refl st) [
                       | inl same_freed ↦ absurd (not_yet (subst (λ z. Contains z.peers.heap.freed p) t.before (subst (λ z. Contains z p) same_freed (subst (λ z. Contains z.peers.heap.freed p) (sym t.after) c))))
                       | inr v ↦ (

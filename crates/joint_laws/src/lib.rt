@@ -15,4 +15,6 @@ pub use linked::{
     adopted_peer_has_no_twin, alive_candidates_lead_to_alive_ones, both_sides_are_kept,
 };
 pub use managed::{dead_part_is_frozen, dead_part_is_mirrored, managed_side_is_kept};
-pub use runs::{joint_projection_is_a_run, snapshots_are_sound, sweeps_are_sound};
+pub use runs::{
+    joint_projection_is_a_run, joint_projection_is_sound, snapshots_are_sound, sweeps_are_sound,
+};
