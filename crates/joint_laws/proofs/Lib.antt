@@ -59,3 +59,4 @@ pub mod JointSince
 pub mod PeerFreed
 pub mod RunsFreeTwins
 pub mod SoundRuns
+pub mod JointStates

@@ -4,7 +4,7 @@
 -- handle.
 use Rattle.std.proofs.Common.{◌≡◌, ℕ, ◌≤◌, ◌⊎◌, inl, inr, [], ◌∷◌, length, Option, Some, None, set, refl, sym, subst, ◌∙◌, arith, length-append}
 use Rattle.std.specs.Prelude.{Contains}
-use Rattle.std.proofs.lemmas.Bool.{cases_eq, cases_Bool}
+use Rattle.std.proofs.lemmas.Bool.{cases_eq, cases_Bool, cases_lt}
 use Rattle.std.proofs.lemmas.Option.{same_Some}
 use Rattle.joint_model.specs.declared.names.Kind.{Kind}
 use Rattle.joint_model.specs.declared.names.Sort.{Sort}
@@ -109,7 +109,7 @@ GoesOn-row s v kind n o e = record {
     field : (x y : ℕ) → Contains (fields_of (with_object s.heap n) x) (Some y) → Contains (fields_of s.heap x) (Some y)
     field x y c = elim (cases_eq x (next_number s.heap)) [
       | inl q ↦ absurd (with_object-new s.heap n y (subst (λ z. Contains (fields_of (with_object s.heap n) z) (Some y)) q c))
-      | inr ne ↦ elim (Rattle.std.proofs.lemmas.Bool.cases_lt (length s.heap.fields) x) [
+      | inr ne ↦ elim (cases_lt (length s.heap.fields) x) [
         | inl l ↦ absurd (fields-past (with_object s.heap n) x (Some y) (omega (arith, with_object-length s.heap n)) c)
         | inr l ↦ subst (λ fs. Contains fs (Some y)) (with_object-old s.heap n x l) c
       ]
