@@ -3,6 +3,7 @@
 -- the field was in a slot.
 use Rattle.std.proofs.Common.{◌≡◌, ℕ, ◌⊎◌, inl, inr, true, false, length, Option, Some, None, refl, sym, subst, nat_le}
 use Rattle.std.specs.Prelude.{Contains, if◌then◌else◌}
+use Rattle.std.proofs.Math.ListN.{length-set}
 use Rattle.std.proofs.lemmas.Bool.{cases_eq}
 use Rattle.std.proofs.lemmas.Option.{same_Some}
 use Rattle.joint_model.specs.declared.events.Reply.{Reply}
@@ -21,9 +22,11 @@ pub record HasMoved (h k : Heap) : Type 0 where
   pub slots : (x : ℕ) → InSlot k x → IsInReach h x
   pub fields : (x y : ℕ) → Contains (fields_of k x) (Some y) → Contains (fields_of h x) (Some y) ⊎ (InSlot h x × InSlot h y)
   pub frozen : (x : ℕ) → (InSlot h x → ⊥) → fields_of k x ≡ fields_of h x
+  pub vars : length k.vars ≡ length h.vars
+  pub statics : length k.statics ≡ length h.statics
 
 pub HasMoved-stay : (h : Heap) → HasMoved h h
-HasMoved-stay h = record { made = refl; freed = refl; slots = λ x s. inl s; fields = λ x y c. inl c; frozen = λ x n. refl }
+HasMoved-stay h = record { made = refl; freed = refl; slots = λ x s. inl s; fields = λ x y c. inl c; frozen = λ x n. refl; vars = refl; statics = refl }
 
 pub HasMoved-var : (h : Heap) (v : ℕ) (o : Option ℕ) → ((x : ℕ) → o ≡ Some x → IsInReach h x) → HasMoved h (with_var h v o)
 HasMoved-var h v o near = record {
@@ -35,6 +38,8 @@ HasMoved-var h v o near = record {
   ];
   fields = λ x y c. inl c;
   frozen = λ x n. refl;
+  vars = length-set h.vars v o;
+  statics = refl;
 }
 
 pub HasMoved-static : (h : Heap) (i : ℕ) (o : Option ℕ) → ((x : ℕ) → o ≡ Some x → IsInReach h x) → HasMoved h (with_static h i o)
@@ -47,6 +52,8 @@ HasMoved-static h i o near = record {
   ];
   fields = λ x y c. inl c;
   frozen = λ x n. refl;
+  vars = refl;
+  statics = length-set h.statics i o;
 }
 
 pub HasMoved-field : (h : Heap) (x i : ℕ) (o : Option ℕ) → InSlot h x → ((y : ℕ) → o ≡ Some y → InSlot h y) → HasMoved h (with_field h x i o)
@@ -55,6 +62,8 @@ HasMoved-field h x i o s near = record {
   freed = refl;
   slots = λ y t. inl t;
   fields = fields;
+  vars = refl;
+  statics = refl;
   frozen = λ a n. with_field-other h x i o a (λ e. n (subst (λ z. InSlot h z) (sym e) s));
 }
   where

@@ -21,6 +21,7 @@ use Rattle.joint_laws.proofs.ManagedMoves.{GoesOn, IsNameable, IsNew}
 pub IsManagedKept-opening : IsManagedKept opening_managed
 IsManagedKept-opening = record {
   places = refl;
+  vars = refl;
   freed = λ m c. absurd (Contains-nil m c);
   roots = λ m r. absurd (no_root m r);
   fields = λ m n l c. absurd (fields-past opening_heap m (Some n) (omega (arith, l.made.0)) c);
@@ -131,6 +132,7 @@ module _ (s t : Managed) (k : IsManagedKept s) (g : GoesOn s t) where
   pub IsManagedKept-goes_on : IsManagedKept t
   IsManagedKept-goes_on = record {
     places = g.places k.places;
+    vars = g.vars ∙ k.vars;
     freed = λ x c. (let m = k.freed x (subst (λ f. Contains f x) g.freed c) in (m.0, omega (arith, m.1, g.made)));
     roots = roots_on;
     fields = fields_on;
@@ -206,6 +208,7 @@ module _ (s : Managed) (k : ℕ) (freed candidates dead : List ℕ) (kept : IsMa
   pub IsManagedKept-snapped : IsManagedKept after
   IsManagedKept-snapped = record {
     places = kept.places;
+    vars = kept.vars;
     freed = λ x c. made-freed s.heap freed x kept.freed (λ y f. ((p.frees y).0 f).0) c;
     roots = λ x r. still-live s.heap freed x (kept.roots x r) (slot_stays x r);
     fields = λ x y l c. (
@@ -229,6 +232,7 @@ module _ (s : Managed) (c : OpenCycle) (staying : ℕ → Type 0) (freed : List 
   pub IsManagedKept-resolved : IsManagedKept (resolved s freed)
   IsManagedKept-resolved = record {
     places = kept.places;
+    vars = kept.vars;
     freed = λ x f. made-freed s.heap freed x kept.freed (λ y q. (kept.dead c o).live y (in_dead y q)) f;
     roots = λ x r. still-live s.heap freed x (kept.roots x r) (λ f. (kept.dead c o).unnamed x r (in_dead x f));
     fields = λ x y l e. (
@@ -241,6 +245,7 @@ module _ (s : Managed) (c : OpenCycle) (staying : ℕ → Type 0) (freed : List 
 pub IsManagedKept-abandoned : (s : Managed) → IsManagedKept s → IsManagedKept (abandoned s)
 IsManagedKept-abandoned s k = record {
   places = k.places;
+  vars = k.vars;
   freed = k.freed;
   roots = k.roots;
   fields = k.fields;

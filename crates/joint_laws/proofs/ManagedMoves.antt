@@ -4,6 +4,7 @@
 -- handle.
 use Rattle.std.proofs.Common.{◌≡◌, ℕ, ◌≤◌, ◌⊎◌, inl, inr, [], ◌∷◌, length, Option, Some, None, set, refl, sym, subst, ◌∙◌, arith, length-append}
 use Rattle.std.specs.Prelude.{Contains}
+use Rattle.std.proofs.Math.ListN.{length-set}
 use Rattle.std.proofs.lemmas.Bool.{cases_eq, cases_Bool, cases_lt}
 use Rattle.std.proofs.lemmas.Option.{same_Some}
 use Rattle.joint_model.specs.declared.names.Kind.{Kind}
@@ -31,6 +32,7 @@ pub record GoesOn (s t : Managed) : Type 0 where
   pub places : length s.held ≡ length s.heap.fields → length t.held ≡ length t.heap.fields
   pub cycle : t.cycle ≡ s.cycle
   pub cycles : t.cycles ≡ s.cycles
+  pub vars : length t.heap.vars ≡ length s.heap.vars
   pub roots : (x : ℕ) → IsManagedRoot t x → IsNameable s x ⊎ IsNew s t x
   pub fields : (x y : ℕ) → Contains (fields_of t.heap x) (Some y) → Contains (fields_of s.heap x) (Some y) ⊎ (IsManagedRoot s x × IsManagedRoot s y)
   pub cells : (x : ℕ) → Contains t.cells (Some x) → Contains s.cells (Some x) ⊎ IsManagedRoot s x
@@ -45,6 +47,7 @@ GoesOn-stay s = record {
   places = λ e. e;
   cycle = refl;
   cycles = refl;
+  vars = refl;
   roots = λ x r. inl (inl r);
   fields = λ x y c. inl c;
   cells = λ x c. inl c;
@@ -61,6 +64,7 @@ GoesOn-heap s k v = record {
   places = λ e. e ∙ sym v.made;
   cycle = refl;
   cycles = refl;
+  vars = v.vars;
   roots = λ x r. elim r [
     | inl i ↦ elim (v.slots x i) [
       | inl j ↦ inl (inl (inl j))
@@ -83,6 +87,7 @@ GoesOn-row s v kind n o e = record {
   places = λ q. omega (arith, q, with_object-length s.heap n, length-append s.held (o ∷ []));
   cycle = refl;
   cycles = refl;
+  vars = length-set s.heap.vars v (Some (next_number s.heap));
   roots = λ x r. elim r [
     | inl i ↦ elim i [
       | inl c ↦ elim (Contains-set_cases s.heap.vars v (Some (next_number s.heap)) (Some x) c) [
@@ -126,6 +131,7 @@ GoesOn-cell s k x r = record {
   places = λ e. e;
   cycle = refl;
   cycles = refl;
+  vars = refl;
   roots = λ y q. inl (inl q);
   fields = λ y z c. inl c;
   frozen = λ y m n. refl;
@@ -145,6 +151,7 @@ GoesOn-pin s t x o l = record {
   places = λ e. e;
   cycle = refl;
   cycles = refl;
+  vars = refl;
   fields = λ y z c. inl c;
   cells = λ y c. inl c;
   frozen = λ y m n. refl;
@@ -167,6 +174,7 @@ GoesOn-take s t v x e = record {
   places = λ q. q;
   cycle = refl;
   cycles = refl;
+  vars = length-set s.heap.vars v (Some x);
   roots = λ y r. elim r [
     | inl i ↦ elim i [
       | inl c ↦ elim (Contains-set_cases s.heap.vars v (Some x) (Some y) c) [
@@ -192,6 +200,7 @@ GoesOn-notices s n = record {
   places = λ e. e;
   cycle = refl;
   cycles = refl;
+  vars = refl;
   roots = λ y r. inl (inl r);
   fields = λ y z c. inl c;
   cells = λ y c. inl c;
@@ -219,6 +228,7 @@ emptied s x r = record {
   made = omega arith;
   cycle = refl;
   cycles = refl;
+  vars = refl;
   roots = λ y q. inl (inl q);
   fields = λ y z c. inl c;
   cells = λ y c. inl c;
@@ -247,6 +257,7 @@ twinned-goes_on s v m o l = record {
   freed = refl;
   cycle = refl;
   cycles = refl;
+  vars = length-set s.heap.vars v (Some m);
   cells = λ y c. inl c;
   keeps = λ y q n. refl;
   gains = λ y h q e. e;

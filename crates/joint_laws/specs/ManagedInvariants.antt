@@ -19,6 +19,7 @@ pub record IsCutOff (s : Managed) (c : OpenCycle) : Type 0 where
 -- were made; and an open cycle's dead part is cut off
 pub record IsManagedKept (s : Managed) : Type 0 where
   pub places : length s.held ≡ length s.heap.fields
+  pub vars : length s.heap.vars ≡ 72
   pub freed : (m : ℕ) → Contains s.heap.freed m → IsMade s.heap m
   pub roots : (m : ℕ) → IsManagedRoot s m → IsLive s.heap m
   pub fields : (m n : ℕ) → IsLive s.heap m → Contains (fields_of s.heap m) (Some n) → IsLive s.heap n
