@@ -60,3 +60,4 @@ pub mod PeerFreed
 pub mod RunsFreeTwins
 pub mod SoundRuns
 pub mod JointStates
+pub mod PeerHeaps
