@@ -61,3 +61,4 @@ pub mod RunsFreeTwins
 pub mod SoundRuns
 pub mod JointStates
 pub mod PeerHeaps
+pub mod NewRows
