@@ -62,3 +62,4 @@ pub mod SoundRuns
 pub mod JointStates
 pub mod PeerHeaps
 pub mod NewRows
+pub mod Watching
