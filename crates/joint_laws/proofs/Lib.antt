@@ -63,3 +63,4 @@ pub mod JointStates
 pub mod PeerHeaps
 pub mod NewRows
 pub mod Watching
+pub mod BroughtBack
