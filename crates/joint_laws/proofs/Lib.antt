@@ -64,3 +64,4 @@ pub mod PeerHeaps
 pub mod NewRows
 pub mod Watching
 pub mod BroughtBack
+pub mod MarkWatching
