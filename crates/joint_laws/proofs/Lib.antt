@@ -65,3 +65,4 @@ pub mod NewRows
 pub mod Watching
 pub mod BroughtBack
 pub mod MarkWatching
+pub mod MarkSteps

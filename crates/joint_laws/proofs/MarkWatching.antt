@@ -59,7 +59,7 @@ module _ (s : Linkage) (w : Stands s) (past : List Moment) (a : ℕ) (c : OpenCy
   now : (x : Row) → IsReached j x → Seen x
   now x r n = n (last-seen past a j x watched.last watched.started r)
 
-  row-joined : (m p : ℕ) → IsRowOf s.managed.managed s.peer.peers.issued m p → IsLive s.peer.peers.heap p → IsJoined (graph_of j) m p
+  pub row-joined : (m p : ℕ) → IsRowOf s.managed.managed s.peer.peers.issued m p → IsLive s.peer.peers.heap p → IsJoined (graph_of j) m p
   row-joined m p r l = record { handle = r.handle; holds = r.holds; leads = peer-is s.peer.peers.issued r.handle r.row r.is_issued ∙ ap Some r.leads; live = l }
 
   -- along managed fields
