@@ -1,5 +1,5 @@
 -- What is brought back at an entry that is no restore is in a slot after it; and else an open marking stays as it is.
-use Rattle.std.proofs.Common.{◌≡◌, ℕ, zero, suc, ◌+◌, ◌*◌, ◌-◌, ◌<◌, ◌≤◌, ◌⊎◌, inl, inr, Bool, true, false, ◌||◌, List, [], ◌∷◌, ◌++◌, length, Option, Some, None, set, refl, sym, ap, subst, ◌∙◌, arith}
+use Rattle.std.proofs.Common.{◌≡◌, ℕ, ◌+◌, ◌-◌, ◌<◌, ◌≤◌, ◌⊎◌, inl, inr, Bool, true, false, ◌||◌, List, [], ◌∷◌, ◌++◌, length, Option, Some, None, refl, sym, ap, subst, ◌∙◌, arith}
 use Rattle.std.specs.Prelude.{Contains, if◌then◌else◌, min, nat_lt}
 use Rattle.std.proofs.lemmas.Option.{same_Some}
 use Rattle.std.proofs.lemmas.List.Elements.{Contains-push_cases}
@@ -10,15 +10,13 @@ use Rattle.joint_model.specs.declared.lines.Act.{Act}
 use Rattle.joint_model.specs.declared.lines.Act.TheVariants as act
 use Rattle.joint_model.specs.declared.events.Op.{Op}
 use Rattle.joint_model.specs.declared.events.Op.TheVariants as op
-use Rattle.joint_model.specs.declared.events.Reply.{Reply}
 use Rattle.joint_model.specs.declared.events.Reply.TheVariants as says
 use Rattle.joint_model.specs.declared.events.Made.{Made}
-use Rattle.joint_model.specs.Heaps.{Heap, InSlot, Answered, answer, slot, place}
+use Rattle.joint_model.specs.Heaps.{Heap, InSlot, answer, slot, place}
 use Rattle.joint_model.specs.Lines.{IsEvent, is_peer_event}
 use Rattle.joint_model.specs.Linked.{Linkage, MayCome, linkage_after, peer_after}
-use Rattle.joint_model.specs.Peers.{Peers, landed, peer_read, peer_line}
-use Rattle.joint_model.specs.PeerReplay.{PeerReplay, Marking, on_table, brings, bring_by, untabled, peer_thread_line, is_thread, sliced, begun, swept_of, swept, mirrored, brought_to, peer_answer, table_target}
-use Rattle.joint_model.specs.Run.{thread_number}
+use Rattle.joint_model.specs.Peers.{landed, peer_read}
+use Rattle.joint_model.specs.PeerReplay.{PeerReplay, Marking, on_table, brings, untabled, peer_thread_line, is_thread, sliced, begun, swept_of, swept, mirrored, brought_to, peer_answer, table_target}
 use Rattle.joint_model.specs.Told.{Told, Noted, references_of, slice_of, sweep_of}
 use Rattle.joint_laws.proofs.Numbered.{none_some}
 use Rattle.joint_laws.proofs.NewRows.{Contains-set_there}

@@ -66,3 +66,4 @@ pub mod Watching
 pub mod BroughtBack
 pub mod MarkWatching
 pub mod MarkSteps
+pub mod Journeys

@@ -1,30 +1,27 @@
 -- What the own marking has seen, at its begin and at each later entry; and what its sweep then frees.
-use Rattle.std.proofs.Common.{◌≡◌, ◌≢◌, ℕ, zero, suc, ◌+◌, ◌<◌, ◌≤◌, ◌⊎◌, inl, inr, Bool, true, false, List, [], ◌∷◌, ◌++◌, length, Option, Some, None, refl, sym, ap, subst, ◌∙◌, arith, length-append}
+use Rattle.std.proofs.Common.{◌≡◌, ℕ, ◌<◌, ◌≤◌, ◌⊎◌, inl, inr, List, [], ◌∷◌, ◌++◌, Some, refl, sym, ap, subst, ◌∙◌, arith}
 use Rattle.std.specs.Prelude.{Contains, slice_get}
-use Rattle.std.proofs.lemmas.Option.{same_Some, slice_get_within}
+use Rattle.std.proofs.lemmas.Option.{same_Some}
 use Rattle.std.proofs.lemmas.List.Elements.{Contains-append_left, Contains-append_right}
 use Rattle.joint_model.specs.declared.names.Thread.{Thread}
 use Rattle.joint_model.specs.Headline.{OwnBeginAt, SweepsAt, IsMadeBefore, IsPeerFreedAt}
-use Rattle.joint_model.specs.Heaps.{Heap, IsMade, IsLive, HasField, InSlot, fields_of, numbered_at}
-use Rattle.joint_model.specs.Joint.{Joint, Graph, Row, object, peer, graph_of, JointEdge, IsJointRoot, IsRawRoot, IsLooseRoot, IsReached}
+use Rattle.joint_model.specs.Heaps.{IsMade, IsLive, HasField, InSlot, fields_of}
+use Rattle.joint_model.specs.Joint.{Row, object, peer, graph_of, JointEdge, IsJointRoot, IsReached}
 use Rattle.joint_model.specs.Linked.{Linkage, MayCome, linkage_after}
-use Rattle.joint_model.specs.Managed.{Managed, OpenCycle, Holds}
+use Rattle.joint_model.specs.Managed.{OpenCycle, Holds}
 use Rattle.joint_model.specs.Peers.{Issued, weak}
-use Rattle.joint_model.specs.PeerReplay.{PeerReplay, Marking, IsMarkingRoot, MarkingEdge, IsMarked, IsSweep, strong_peers, swept_of}
+use Rattle.joint_model.specs.PeerReplay.{Marking, MarkingEdge, IsSweep, strong_peers}
 use Rattle.joint_model.specs.Run.{Moment}
 use Rattle.joint_model.specs.Told.{Noted}
 use Rattle.joint_model.proofs.WalkLemmas.{Reached-start, Reached-then, Reached-keeps}
 use Rattle.joint_laws.specs.LinkedInvariants.{HasStrength, IsRowOf, IsMirrored, ForCandidates}
-use Rattle.joint_laws.specs.PeerInvariants.{IsIssued}
-use Rattle.joint_laws.proofs.Lists.{Contains-nil, Contains-decided, Contains-at}
-use Rattle.joint_laws.proofs.Numbered.{none_some}
+use Rattle.joint_laws.proofs.Lists.{Contains-nil, Contains-decided}
 use Rattle.joint_laws.proofs.ManagedMoves.{GoesOn}
 use Rattle.joint_laws.proofs.Sparing.{later}
-use Rattle.joint_laws.proofs.BroughtBack.{IsLater}
 use Rattle.joint_laws.proofs.PeerHeaps.{heap-entry}
-use Rattle.joint_laws.proofs.JointRuns.{Stands, state_of, IsTraced}
+use Rattle.joint_laws.proofs.JointRuns.{Stands, state_of}
 use Rattle.joint_laws.proofs.JointSince.{peer-entry}
-use Rattle.joint_laws.proofs.Watching.{IsSeen, WasSeen, IsWatched, last-seen, seen-more, was-more, seen-now, seen-cases, watched-next, get-more, push-cases}
+use Rattle.joint_laws.proofs.Watching.{IsSeen, WasSeen, IsWatched, last-seen, seen-more, was-more, seen-cases, watched-next, get-more}
 use Rattle.joint_laws.proofs.MarkWatching.{IsMarkWatched, marked-seen, reference-seen, strong_peer-seen, slot-seen, row-joined}
 
 -- at the begin

@@ -3,30 +3,24 @@
 -- from a seen peer leads to a seen one: a field is a joint edge, and a mirrored reference is a walk over managed fields
 -- between the candidates. Later a peer that is seen for the first time was in no slot before, so its fields are those of the
 -- begin.
-use Rattle.std.proofs.Common.{◌≡◌, ◌≢◌, ℕ, zero, suc, ◌+◌, ◌<◌, ◌≤◌, ◌⊎◌, inl, inr, Bool, true, false, List, [], ◌∷◌, ◌++◌, length, Option, Some, None, refl, sym, ap, subst, ◌∙◌, arith}
+use Rattle.std.proofs.Common.{◌≡◌, ℕ, suc, ◌<◌, inl, inr, Bool, true, false, List, [], ◌∷◌, Option, Some, None, refl, sym, ap, subst, ◌∙◌, arith}
 use Rattle.std.specs.Prelude.{Contains, slice_get, if◌then◌else◌}
-use Rattle.std.proofs.lemmas.Option.{same_Some, slice_get_within}
-use Rattle.joint_model.specs.Cycles.{DeadEdge}
 use Rattle.joint_model.specs.Headline.{OwnBeginAt, IsMadeBefore}
-use Rattle.joint_model.specs.Heaps.{Heap, IsMade, IsLive, HasField, InSlot, fields_of, numbered_at}
-use Rattle.joint_model.specs.Joint.{Joint, JointMarking, Graph, Row, object, peer, graph_of, JointEdge, IsJoined, IsJointRoot, IsRawRoot, IsLooseRoot, IsReached}
-use Rattle.joint_model.specs.Linked.{Linkage, MayCome, linkage_after}
-use Rattle.joint_model.specs.Managed.{Managed, OpenCycle, Holds, ManagedEdge}
-use Rattle.joint_model.specs.ManagedReplay.{ManagedReplay}
-use Rattle.joint_model.specs.Peers.{Issued, Hold, held, raw, Strength, strong, weak, is_strong, peer_of}
-use Rattle.joint_model.specs.PeerReplay.{PeerReplay, TableRow, Marking, IsMarkingRoot, MarkingEdge, HasReference, IsMarked, strong_peers}
+use Rattle.joint_model.specs.Heaps.{IsMade, IsLive, InSlot, fields_of, numbered_at}
+use Rattle.joint_model.specs.Joint.{Joint, Row, object, peer, graph_of, JointEdge, IsJoined, IsJointRoot, IsReached}
+use Rattle.joint_model.specs.Linked.{Linkage}
+use Rattle.joint_model.specs.Managed.{OpenCycle, Holds, ManagedEdge}
+use Rattle.joint_model.specs.Peers.{Issued, Hold, held, raw, Strength, strong, weak, is_strong}
+use Rattle.joint_model.specs.PeerReplay.{TableRow, Marking, IsMarkingRoot, MarkingEdge, IsMarked, strong_peers}
 use Rattle.joint_model.specs.Run.{Moment}
-use Rattle.joint_model.specs.Told.{Noted}
 use Rattle.joint_model.specs.Walks.{Reaches}
-use Rattle.joint_model.proofs.WalkLemmas.{Reached-start, Reached-then, Reached-keeps, Reaches-keeps}
-use Rattle.joint_laws.specs.JointAgreement.{IsInTable, IsOwned, AreFlags, joint_of}
-use Rattle.joint_laws.specs.LinkedInvariants.{HasStrength, IsHeldOne, IsRowOf, IsMirrored, ForCandidates}
+use Rattle.joint_model.proofs.WalkLemmas.{Reached-start, Reached-keeps, Reaches-keeps}
+use Rattle.joint_laws.specs.LinkedInvariants.{HasStrength, IsRowOf, IsMirrored, ForCandidates}
 use Rattle.joint_laws.specs.PeerInvariants.{IsTabled, IsIssued}
-use Rattle.joint_laws.proofs.Lists.{Contains-nil, Contains-cons_cases, Contains-there, Contains-here, at-Contains}
-use Rattle.joint_laws.proofs.Numbered.{none_some, numbered-within, numbered-made}
+use Rattle.joint_laws.proofs.Lists.{Contains-nil, Contains-cons_cases, at-Contains}
+use Rattle.joint_laws.proofs.Numbered.{numbered-within, numbered-made}
 use Rattle.joint_laws.proofs.DeadMirrors.{mirror_edge-managed}
 use Rattle.joint_laws.proofs.DriverSteps.{strength-one}
-use Rattle.joint_laws.proofs.LinkedEntries.{Of}
 use Rattle.joint_laws.proofs.JointRuns.{Stands, state_of}
 use Rattle.joint_laws.proofs.RunsFreeTwins.{peer-is}
 use Rattle.joint_laws.proofs.Watching.{IsSeen, WasSeen, IsWatched, last-seen}

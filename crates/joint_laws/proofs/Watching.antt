@@ -1,23 +1,21 @@
 -- What was reached at some state since the snapshot of the open cycle. It isn't impossible for a row to be in this set where
 -- it is not impossible that it was reached; so nothing has to be decided. The set is closed under the joint edges of the
 -- present state: a new edge leads to what is reached now or was just before.
-use Rattle.std.proofs.Common.{◌≡◌, ◌≢◌, ℕ, zero, suc, ◌+◌, ◌<◌, ◌≤◌, ◌⊎◌, inl, inr, Bool, true, false, List, [], ◌∷◌, ◌++◌, length, Option, Some, None, refl, sym, ap, subst, ◌∙◌, arith, length-append}
+use Rattle.std.proofs.Common.{◌≡◌, ℕ, zero, suc, ◌<◌, ◌≤◌, ◌⊎◌, inl, inr, List, [], ◌∷◌, ◌++◌, length, Some, refl, sym, ap, subst, ◌∙◌, arith, length-append}
 use Rattle.std.specs.Prelude.{Contains, slice_get}
-use Rattle.std.proofs.lemmas.Bool.{cases_lt, cases_eq}
-use Rattle.std.proofs.lemmas.Option.{same_Some, slice_get_within}
-use Rattle.joint_model.specs.Heaps.{IsMade, IsLive, HasField, InSlot, fields_of, numbered_at}
-use Rattle.joint_model.specs.Joint.{Joint, JointMarking, Graph, Row, object, peer, graph_of, JointEdge, IsJoined, IsJointRoot, IsReached}
+use Rattle.std.proofs.lemmas.Bool.{cases_lt}
+use Rattle.std.proofs.lemmas.Option.{same_Some}
+use Rattle.joint_model.specs.Heaps.{IsMade, IsLive, fields_of}
+use Rattle.joint_model.specs.Joint.{Joint, Row, object, peer, graph_of, JointEdge, IsJoined, IsJointRoot, IsReached}
 use Rattle.joint_model.specs.Linked.{Linkage, MayCome, linkage_after}
-use Rattle.joint_model.specs.Managed.{Managed, OpenCycle, Holds, IsManagedRoot}
-use Rattle.joint_model.specs.Peers.{Issued, peer_of}
+use Rattle.joint_model.specs.Managed.{Holds}
+use Rattle.joint_model.specs.Peers.{Issued}
 use Rattle.joint_model.specs.Run.{Moment}
 use Rattle.joint_model.specs.Told.{Noted}
 use Rattle.joint_model.proofs.WalkLemmas.{Reached-start, Reached-then}
-use Rattle.joint_laws.specs.PeerInvariants.{IsIssued}
 use Rattle.joint_laws.proofs.Numbered.{none_some}
 use Rattle.joint_laws.proofs.Fields.{fields-past}
 use Rattle.joint_laws.proofs.ManagedMoves.{GoesOn}
-use Rattle.joint_laws.proofs.LinkedEntries.{Of}
 use Rattle.joint_laws.proofs.SparedWalks.{peer_of-row}
 use Rattle.joint_laws.proofs.JointRuns.{Stands, state_of}
 use Rattle.joint_laws.proofs.JointSince.{peer-entry}
