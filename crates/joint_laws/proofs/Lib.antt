@@ -66,4 +66,5 @@ pub mod Watching
 pub mod BroughtBack
 pub mod MarkWatching
 pub mod MarkSteps
+pub mod AtSnapshots
 pub mod Journeys
