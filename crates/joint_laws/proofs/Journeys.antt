@@ -1,7 +1,7 @@
 -- What is carried along while a cycle is open: where its snapshot stands in the run, what was seen since, what its own
 -- marking has seen, and after the own sweep what that freed.
-use Rattle.std.proofs.Common.{◌≡◌, ℕ, ◌+◌, ◌-◌, ◌<◌, inl, inr, Bool, true, false, ◌||◌, List, [], ◌∷◌, ◌++◌, length, Option, Some, None, refl, sym, ap, subst, ◌∙◌, arith}
-use Rattle.std.specs.Prelude.{slice_get, if◌then◌else◌, min, nat_lt}
+use Rattle.std.proofs.Common.{◌≡◌, ℕ, ◌+◌, ◌-◌, Bool, true, false, ◌||◌, List, [], ◌∷◌, ◌++◌, length, Option, Some, None, refl, sym, ap, subst, ◌∙◌}
+use Rattle.std.specs.Prelude.{if◌then◌else◌, min, nat_lt}
 use Rattle.joint_model.specs.declared.names.Thread.{Thread}
 use Rattle.joint_model.specs.declared.names.Thread.TheVariants.{C}
 use Rattle.joint_model.specs.declared.names.Cycle.{Cycle}
@@ -28,7 +28,7 @@ use Rattle.joint_laws.proofs.ManagedEntries.{ManagedStep-entry}
 use Rattle.joint_laws.proofs.ManagedMoves.{GoesOn}
 use Rattle.joint_laws.proofs.ManagedSteps.{ManagedStep, going_on, snapping, resolving, abandoning}
 use Rattle.joint_laws.proofs.JointRuns.{Stands, state_of}
-use Rattle.joint_laws.proofs.Watching.{IsWatched, get-more, watched-next, push-cases}
+use Rattle.joint_laws.proofs.Watching.{IsWatched, get-more, watched-next}
 use Rattle.joint_laws.proofs.MarkSteps.{IsSweptWatch}
 
 -- only a mirror and a clear change the references
@@ -152,7 +152,3 @@ way-rests s t w v past o same k = record {
   snaps = k.snaps;
   watched = subst (λ z. IsWatched past k.snap k.cycle.candidates z) (sym same) k.watched;
 }
-
--- behind the sweep rows keep their handles and freed peers stay freed
-front-place : (past : List Moment) (m : Moment) (i : ℕ) (x : Moment) → i < length past → slice_get (past ++ m ∷ []) i ≡ Some x → slice_get past i ≡ Some x
-front-place past m i x l e = elim (push-cases past m i x e) [ inl w ↦ w | inr w ↦ absurd (omega (arith, l, w.0)) ]

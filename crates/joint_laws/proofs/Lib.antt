@@ -67,4 +67,5 @@ pub mod BroughtBack
 pub mod MarkWatching
 pub mod MarkSteps
 pub mod AtSnapshots
+pub mod AfterSweeps
 pub mod Journeys

@@ -52,7 +52,7 @@ watch-begin s w past a c o watched m all number b by begins ab made = record {
   fields = λ p l n. refl;
 }
 
-begin-more : (past : List Moment) (m : Moment) (b number : ℕ) → OwnBeginAt past b number → OwnBeginAt (past ++ m ∷ []) b number
+pub begin-more : (past : List Moment) (m : Moment) (b number : ℕ) → OwnBeginAt past b number → OwnBeginAt (past ++ m ∷ []) b number
 begin-more past m b number w = record { moment = w.moment; there = get-more past (m ∷ []) b w.moment w.there; caller = w.caller; event = w.event; reply = w.reply }
 
 pub made-front : (past : List Moment) (m : Moment) (b number p : ℕ) → OwnBeginAt past b number → IsMadeBefore (past ++ m ∷ []) b p → IsMadeBefore past b p
