@@ -68,4 +68,5 @@ pub mod MarkWatching
 pub mod MarkSteps
 pub mod AtSnapshots
 pub mod AfterSweeps
+pub mod AtSweeps
 pub mod Journeys
