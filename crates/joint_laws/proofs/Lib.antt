@@ -67,6 +67,7 @@ pub mod BroughtBack
 pub mod MarkWatching
 pub mod MarkSteps
 pub mod AtSnapshots
+pub mod MarkRests
 pub mod AfterSweeps
 pub mod AtSweeps
 pub mod Journeys
