@@ -132,7 +132,7 @@ module _ (r : ManagedReplay) (s : PeerReplay) (op : Opened) (answers : List Bool
     on m h n q = record { live = still-live r.managed.heap freed m q.live n; held = q.held }
 
     -- a candidate that stays has an unfreed peer: an answered one leads to it, or it was answered itself
-    stays-unfreed : (b q : ℕ) → Contains c.candidates b → (Contains freed b → ⊥) → IsRowOf r.managed s.peers.issued b q → Contains s.peers.heap.freed q → ⊥
+    pub stays-unfreed : (b q : ℕ) → Contains c.candidates b → (Contains freed b → ⊥) → IsRowOf r.managed s.peers.issued b q → Contains s.peers.heap.freed q → ⊥
     stays-unfreed b q cb n w f = n ((p.frees b).1 (((cut.candidates b).0 cb).0, λ x. kept_by x.0 x.1 x.2))
       where
         kept_by : (a : ℕ) → IsAnsweredAlive c.candidates answers a → Reaches (ManagedEdge r.managed) a b → ⊥

@@ -71,3 +71,4 @@ pub mod MarkRests
 pub mod AfterSweeps
 pub mod AtSweeps
 pub mod Journeys
+pub mod AtResolutions
