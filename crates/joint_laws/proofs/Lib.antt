@@ -71,4 +71,5 @@ pub mod MarkRests
 pub mod AfterSweeps
 pub mod AtSweeps
 pub mod Journeys
+pub mod JourneyStands
 pub mod AtResolutions
