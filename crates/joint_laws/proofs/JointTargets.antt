@@ -1,0 +1,173 @@
+-- Where a handle leads is the same in the joint machine and in the peer side's table; and the joint twin of a peer is what
+-- the registry answers.
+use Rattle.std.proofs.Common.{◌≡◌, ◌≢◌, ℕ, ◌+◌, ◌<◌, ◌≤◌, inl, inr, Bool, true, false, ◌&&◌, List, [], ◌∷◌, length, Option, Some, None, refl, sym, ap, subst, ◌∙◌, arith, nat_eq}
+use Rattle.std.specs.Prelude.{Contains, if◌then◌else◌}
+use Rattle.std.proofs.lemmas.Bool.{cases_eq, eqb-true}
+use Rattle.std.proofs.lemmas.Bool.Decides.{Decides-eqb}
+use Rattle.std.proofs.lemmas.Option.{same_Some}
+use Rattle.std.proofs.lemmas.Map.Views.{list_any-from_Contains, Contains-from_any}
+use Rattle.std.proofs.lemmas.Cmp.{nat_eq_equiv}
+use Rattle.joint_model.specs.Control.{Doing, Stand, idle, snapped, contracted, weakening, marked, restoring, restored, candidates_of}
+use Rattle.joint_model.specs.Heaps.{Heap, IsLive, numbered_at, is_freed}
+use Rattle.joint_model.specs.Joint.{Joint, JointMarking, joint_target, is_twin, twin_from, twin_of}
+use Rattle.joint_model.specs.Managed.{Holds, handle_of}
+use Rattle.joint_model.specs.ManagedReplay.{ManagedReplay, registered}
+use Rattle.joint_model.specs.Peers.{Issued, Hold, held, raw, peer_of, is_held}
+use Rattle.joint_model.specs.PeerReplay.{PeerReplay, TableRow, row_of, table_target}
+use Rattle.joint_laws.specs.JointAgreement.{IsInTable, AreFlags, joint_of}
+use Rattle.joint_laws.specs.PeerInvariants.{IsTabled, IsIssued}
+use Rattle.joint_laws.specs.LinkedInvariants.{IsRowOf, IsDriverKept, IsGone}
+use Rattle.joint_laws.proofs.Lists.{Contains-decided, at-Contains}
+use Rattle.joint_laws.proofs.Numbered.{none_some, slot-named, numbered-within, numbered-made}
+use Rattle.joint_laws.proofs.Registered.{registered-some, registered-none}
+use Rattle.joint_laws.proofs.DriverPeerSteps.{handle_of-holds, holds-handle_of}
+use Rattle.joint_laws.proofs.DriverSteps.{no_candidates, candidates_are}
+use Rattle.joint_laws.proofs.LinkedQuiet.{AreKept}
+
+freed-true : (h : Heap) (p : ℕ) → Contains h.freed p → is_freed h p ≡ true
+freed-true h p c = list_any-from_Contains nat_eq_equiv p h.freed c
+
+live-false : (h : Heap) (p : ℕ) → IsLive h p → is_freed h p ≡ false
+live-false h p l = by (is_freed h p) refl
+  where
+    by : (b : Bool) → is_freed h p ≡ b → b ≡ false
+    by false e = refl
+    by true e = absurd (l.kept (Contains-from_any eqb-true p h.freed e))
+
+-- the answers by their parts
+abbrev table_by : PeerReplay → ℕ → Option TableRow → Option ℕ
+table_by s h o = elim o [ None ↦ None | Some row ↦ if row.cleared then None else peer_of s.peers.issued h ]
+
+abbrev unfreed : PeerReplay → Option ℕ → Option ℕ
+unfreed s o = elim o [ None ↦ None | Some p ↦ if is_freed s.peers.heap p then None else Some p ]
+
+abbrev joint_by : PeerReplay → ℕ → Option Bool → Option ℕ
+joint_by s h o = elim o [ None ↦ None | Some gone ↦ if gone then None else unfreed s (peer_of s.peers.issued h) ]
+
+module _ (r : ManagedReplay) (s : PeerReplay) (ds : List Doing) (d : Stand) (k : AreKept r s ds d) (flags : List Bool) (fl : AreFlags r.managed s flags) where
+  peer-is : (h : ℕ) (i : Issued) → IsIssued s.peers.issued h i → peer_of s.peers.issued h ≡ Some i.peer
+  peer-is h i e = ap (λ (o : Option Issued). elim o [ None ↦ None | Some j ↦ Some j.peer ]) e
+
+  -- a handle in the table leads to its peer, or is cleared
+  tabled-target : (h : ℕ) (row : TableRow) (i : Issued) → IsTabled s.table h row → IsIssued s.peers.issued h i → (b : Bool) → row.cleared ≡ b → unfreed s (peer_of s.peers.issued h) ≡ (if b then None else peer_of s.peers.issued h)
+  tabled-target h row i t e true c =
+      ap (unfreed s) (peer-is h i e) ∙ ap (λ (z : Bool). if z then None else Some i.peer) (freed-true s.peers.heap i.peer (k.peer.handles.cleared h row i t e c))
+  tabled-target h row i t e false c =
+      ap (unfreed s) (peer-is h i e) ∙ (ap (λ (z : Bool). if z then None else Some i.peer) (live-false s.peers.heap i.peer (k.peer.handles.uncleared h row i t e c)) ∙ sym (peer-is h i e))
+
+  -- a handle that a row holds, and that isn't in the table, is a candidate's whose peer is freed
+  gone-by : (x : Stand) → IsDriverKept r s x → (m h : ℕ) → Holds r.managed m h → Contains (candidates_of r.managed) m → (IsInTable s h → ⊥) → IsGone s h
+  gone-by idle v m h q c n = absurd (no_candidates r.managed m v.closed c)
+  gone-by (snapped o) v m h q c n = let at = at-Contains v.cycle.candidates m (subst (λ z. Contains z m) (candidates_are r.managed v.cycle v.opened.cycle) c) in let t = v.handles at.0 m h at.1 q in absurd (n (t.0, t.1))
+  gone-by (contracted o comps xrefs) v m h q c n = let at = at-Contains v.before.cycle.candidates m (subst (λ z. Contains z m) (candidates_are r.managed v.before.cycle v.before.opened.cycle) c) in let t = v.before.handles at.0 m h at.1 q in absurd (n (t.0, t.1))
+  gone-by (weakening o count seen sw) v m h q c n =
+      let at = at-Contains v.cycle.candidates m (subst (λ z. Contains z m) (candidates_are r.managed v.cycle v.opened.cycle) c) in
+      elim (v.handles at.0 m h at.1 q) [ inl t ↦ absurd (n (t.1.0, t.1.1)) | inr t ↦ absurd (n (t.1.0, t.1.1)) ]
+  gone-by (marked o) v m h q c n = let at = at-Contains v.cycle.candidates m (subst (λ z. Contains z m) (candidates_are r.managed v.cycle v.opened.cycle) c) in let t = v.handles at.0 m h at.1 q in absurd (n (t.0, t.1))
+  gone-by (restoring o answers) v m h q c n =
+      let at = at-Contains v.cycle.candidates m (subst (λ z. Contains z m) (candidates_are r.managed v.cycle v.opened.cycle) c) in
+      elim (v.handles at.0 m h at.1 q) [ inl t ↦ absurd (n (t.1.0, t.1.1)) | inr t ↦ elim t [ inl g ↦ g.1 | inr g ↦ absurd (n (g.1.0, g.1.1)) ] ]
+  gone-by (restored o answers clear) v m h q c n =
+      let at = at-Contains v.cycle.candidates m (subst (λ z. Contains z m) (candidates_are r.managed v.cycle v.opened.cycle) c) in
+      elim (v.handles at.0 m h at.1 q) [ inl t ↦ absurd (n (t.1.0, t.1.1)) | inr t ↦ elim t [ inl g ↦ g.1 | inr g ↦ absurd (n (g.1.0, g.1.1)) ] ]
+
+  owned-gone : (m h : ℕ) → Holds r.managed m h → (IsInTable s h → ⊥) → IsGone s h
+  owned-gone m h q n = elim (Contains-decided (candidates_of r.managed) m) [
+    | inl c ↦ gone-by d k.driver m h q c n
+    | inr out ↦ (let t = k.owners.strong_ones m h q out in absurd (n (t.0, t.1)))
+  ]
+
+  untabled : (h : ℕ) → row_of s h ≡ None → IsInTable s h → ⊥
+  untabled h e t = none_some t.0 (sym e ∙ ap (λ (o : Option (Option TableRow)). elim o [ None ↦ None | Some row ↦ row ]) t.1)
+
+  target-by : (h : ℕ) (x : Option TableRow) (b : Option Bool) → row_of s h ≡ x → numbered_at flags h ≡ b → joint_by s h b ≡ table_by s h x
+  target-by h None None e f = refl
+  target-by h None (Some true) e f = refl
+  target-by h None (Some false) e f = elim (fl.there h f) [
+    | inl t ↦ absurd (untabled h e t)
+    | inr q ↦ (
+        let i = k.owners.held_ones q.0 h q.1 in
+        let g = owned-gone q.0 h q.1 (untabled h e) in
+        ap (unfreed s) (peer-is h i.0 i.1) ∙ ap (λ (z : Bool). if z then None else Some i.0.peer) (freed-true s.peers.heap i.0.peer (g.freed i.0 i.1)))
+  ]
+  target-by h (Some row) None e f =
+      let t = slot-named (numbered_at s.table h) row e in
+      let w = numbered-within s.table h (Some row) t in
+      let x = numbered-made flags h w.0 (omega (arith, w.1, fl.places, k.peer.handles.places)) in
+      absurd (none_some x.0 (sym f ∙ x.1))
+  target-by h (Some row) (Some true) e f = absurd (fl.untabled h f (row, slot-named (numbered_at s.table h) row e))
+  target-by h (Some row) (Some false) e f =
+      let t = slot-named (numbered_at s.table h) row e in
+      let w = numbered-within s.table h (Some row) t in
+      let i = numbered-made s.peers.issued h w.0 (omega (arith, w.1, k.peer.handles.places)) in
+      tabled-target h row i.0 t i.1 row.cleared refl
+
+  pub target-same : (jm : Option JointMarking) (h : ℕ) → joint_target (joint_of r.managed s flags jm) h ≡ table_target s h
+  target-same jm h = target-by h (row_of s h) (numbered_at flags h) refl refl
+
+  -- a row is a twin exactly where the registry has it
+  module _ (jm : Option JointMarking) (p : ℕ) where
+    abbrev j : Joint
+    j = joint_of r.managed s flags jm
+
+    abbrev issued_by : Option Issued → Bool
+    issued_by o = elim o [ None ↦ false | Some i ↦ is_held i.hold && nat_eq i.peer p ]
+
+    abbrev twin_by : Option ℕ → Bool
+    twin_by o = elim o [ None ↦ false | Some h ↦ issued_by (numbered_at s.peers.issued h) ]
+
+    held-true : (x : Hold) (b : Bool) → (is_held x && b) ≡ true → (x ≡ held) × (b ≡ true)
+    held-true held b e = (refl, e)
+    held-true raw b e = (let f : ⊥ = cc in absurd f)
+
+    twin-row : (m : ℕ) (o : Option ℕ) → handle_of r.managed m ≡ o → twin_by o ≡ true → IsRowOf r.managed s.peers.issued m p
+    twin-row m None e t = (let f : ⊥ = cc in absurd f)
+    twin-row m (Some h) e t = by (numbered_at s.peers.issued h) refl t
+      where
+        by : (x : Option Issued) → numbered_at s.peers.issued h ≡ x → issued_by x ≡ true → IsRowOf r.managed s.peers.issued m p
+        by None f u = (let g : ⊥ = cc in absurd g)
+        by (Some i) f u = record { handle = h; holds = holds-handle_of r.managed m h k.managed.managed.places e; row = i; is_issued = f; leads = (Decides-eqb i.peer p).0 (held-true i.hold (nat_eq i.peer p) u).1 }
+
+    row-twin : (m : ℕ) → IsRowOf r.managed s.peers.issued m p → is_twin j p m ≡ true
+    row-twin m w =
+        let i = k.owners.held_ones m w.handle w.holds in
+        let same : i.0 ≡ w.row = same_Some i.0 w.row (sym i.1 ∙ w.is_issued) in
+        ap twin_by (handle_of-holds r.managed m w.handle w.holds) ∙ (ap issued_by w.is_issued ∙ both w.row.hold (nat_eq w.row.peer p) (ap (λ (z : Issued). z.hold) (sym same) ∙ i.2) ((Decides-eqb w.row.peer p).1 w.leads))
+      where
+        both : (x : Hold) (b : Bool) → x ≡ held → b ≡ true → (is_held x && b) ≡ true
+        both held b e f = f
+        both raw b e f = absurd (let g : raw ≡ held = e in cc)
+
+    twin-registered : (m : ℕ) → is_twin j p m ≡ true → Contains r.registry (p, m)
+    twin-registered m t = k.owners.registered m p (twin-row m (handle_of r.managed m) refl t)
+
+    -- the search finds the one twin
+    finds : (n m : ℕ) (hs : List (Option ℕ)) → is_twin j p n ≡ true → ((x : ℕ) → is_twin j p x ≡ true → x ≡ n) → m ≤ n → n < m + length hs → twin_from j p m hs ≡ Some n
+    finds n m [] t one l u = absurd (omega arith)
+    finds n m (x ∷ hs) t one l u = by (is_twin j p m) refl (λ ne. finds n (m + 1) hs t one (omega (arith, l, ne)) (omega (arith, u)))
+      where
+        by : (b : Bool) → is_twin j p m ≡ b → (m ≢ n → twin_from j p (m + 1) hs ≡ Some n) → (if b then Some m else twin_from j p (m + 1) hs) ≡ Some n
+        by true e rest = ap Some (one m e)
+        by false e rest = elim (cases_eq m n) [
+          | inl same ↦ absurd (let f : true ≡ false = sym t ∙ (ap (is_twin j p) (sym same) ∙ e) in cc)
+          | inr ne ↦ rest ne
+        ]
+
+    finds_none : (m : ℕ) (hs : List (Option ℕ)) → ((x : ℕ) → is_twin j p x ≡ true → ⊥) → twin_from j p m hs ≡ None
+    finds_none m [] none = refl
+    finds_none m (x ∷ hs) none = by (is_twin j p m) refl (finds_none (m + 1) hs none)
+      where
+        by : (b : Bool) → is_twin j p m ≡ b → twin_from j p (m + 1) hs ≡ None → (if b then Some m else twin_from j p (m + 1) hs) ≡ None
+        by true e rest = absurd (none m e)
+        by false e rest = rest
+
+    twin-by : (o : Option ℕ) → registered r.registry p ≡ o → twin_of j p ≡ o
+    twin-by (Some m) e =
+        let c = registered-some r.registry p m e in
+        let w = k.owners.pairs p m c in
+        let l = numbered-within r.managed.held m (Some w.handle) w.holds.held in
+        finds m 1 r.managed.held (row-twin m w) (λ x t. k.managed.one_row p x m (twin-registered x t) c) l.0 (omega (arith, l.1))
+    twin-by None e = finds_none 1 r.managed.held (λ x t. registered-none r.registry p x e (twin-registered x t))
+
+    pub twin-same : twin_of j p ≡ registered r.registry p
+    twin-same = twin-by (registered r.registry p) refl

@@ -1,0 +1,144 @@
+-- The managed side's replay stays kept at each of its lawful entries.
+use Rattle.std.proofs.Common.{◌≡◌, ◌≢◌, ℕ, inl, inr, Bool, true, false, List, [], ◌∷◌, Option, Some, None, refl, sym, subst, ◌∙◌}
+use Rattle.std.specs.Prelude.{Contains, if◌then◌else◌}
+use Rattle.std.proofs.lemmas.Bool.{cases_eq}
+use Rattle.joint_model.specs.declared.names.Sort.{Sort}
+use Rattle.joint_model.specs.declared.names.Thread.{Thread}
+use Rattle.joint_model.specs.declared.events.Op.{Op}
+use Rattle.joint_model.specs.declared.events.Op.TheVariants as op
+use Rattle.joint_model.specs.declared.events.Reply.{Reply}
+use Rattle.joint_model.specs.declared.events.Reply.TheVariants as says
+use Rattle.joint_model.specs.Heaps.{IsLive, answer, slot, place, numbered_at, numbered_set, is_full, next_number, with_var, with_freed}
+use Rattle.joint_model.specs.Managed.{Managed, OpenCycle, Holds, IsBridge, with_row, twin_met, twin_kind, twin_fields, without_handle, snapped, resolved, abandoned}
+use Rattle.joint_model.specs.Cycles.{IsSnapshot, IsAnsweredAlive}
+use Rattle.joint_model.specs.ManagedReplay.{ManagedReplay, MayResolve, registered, without_twins, meet_by, give_by, managed_answer, ManagedAllows}
+use Rattle.joint_model.specs.Run.{thread_number}
+use Rattle.joint_model.specs.Told.{Told, nothing, snap_of, contraction_of, resolution_of, phase_of}
+use Rattle.joint_laws.specs.ManagedInvariants.{IsReplayKept}
+use Rattle.joint_laws.proofs.Lists.{Contains-here}
+use Rattle.joint_laws.proofs.Numbered.{none_some, numbered_set-same, numbered_set-other}
+use Rattle.joint_laws.proofs.Registered.{registered-some, without_twins-parts}
+use Rattle.joint_laws.proofs.ManagedMoves.{GoesOn, met_by, managed_line-goes_on, twinned-goes_on, emptied-goes_on}
+use Rattle.joint_laws.proofs.ManagedKeeping.{IsManagedKept-goes_on, IsManagedKept-snapped, IsManagedKept-resolved, IsManagedKept-abandoned, bridge_stays, still-live, was-live}
+use Rattle.joint_laws.proofs.Adopting.{HoldsSame-as, managed_line-same, IsReplayKept-plainly, IsReplayKept-took, adopt-by}
+
+-- a `meet`, by the open cycle and the twin
+twin-met : (s : ManagedReplay) (v p h : ℕ) (sort : Sort) (n : ℕ) (twin : Option ℕ) → IsReplayKept s → (Contains s.adopted h → ⊥) → registered s.registry p ≡ twin → s.managed.cycle ≡ None
+    → (let a = twin_met s.managed v h sort n twin in IsReplayKept (meet_by s p h a.state a.reply).state)
+twin-met s v p h sort n (Some m) k w e o =
+    let live : IsLive s.managed.heap m = (k.pairs p m (registered-some s.registry p m e)).1.live in
+    IsReplayKept-plainly s (record s.managed { heap = with_var s.managed.heap v (Some m) }) k (twinned-goes_on s.managed v m o live) (HoldsSame-as s.managed (record s.managed { heap = with_var s.managed.heap v (Some m) }) refl)
+twin-met s v p h sort n None k w e o = room (is_full s.managed.heap.fields)
+  where
+    room : (b : Bool) → (let a = if b then answer says.Full s.managed else answer (says.New record { 0 = next_number s.managed.heap }) (with_row s.managed v (twin_kind sort) (twin_fields sort n) (Some h)) in IsReplayKept (meet_by s p h a.state a.reply).state)
+    room true = k
+    room false = IsReplayKept-took s v (twin_kind sort) (twin_fields sort n) p h k w
+
+meet-by : (s : ManagedReplay) (v p h : ℕ) (sort : Sort) (n : ℕ) (c : Option OpenCycle) → IsReplayKept s → (Contains s.adopted h → ⊥) → s.managed.cycle ≡ c
+    → (let a = met_by s.managed v h sort n (registered s.registry p) c in IsReplayKept (meet_by s p h a.state a.reply).state)
+meet-by s v p h sort n None k w o = twin-met s v p h sort n (registered s.registry p) k w refl o
+meet-by s v p h sort n (Some c) k w o = k
+
+-- a `give` of the row in a variable
+module _ (s : ManagedReplay) (v m : ℕ) (k : IsReplayKept s) (e : slot s.managed.heap.vars v ≡ Some m) where
+  abbrev emptied : Managed
+  emptied = record s.managed { held = numbered_set s.managed.held m None }
+
+  empties : GoesOn s.managed emptied
+  empties = emptied-goes_on s.managed v m e
+
+  other : (x h : ℕ) → Holds emptied x h → (x ≢ m) × Holds s.managed x h
+  other x h q = elim (cases_eq x m) [
+    | inl same ↦ absurd (none_some h (numbered_set-same s.managed.held m None (Some h) (subst (λ z. numbered_at emptied.held z ≡ Some (Some h)) same q.held)))
+    | inr ne ↦ (ne, record { live = q.live; held = sym (numbered_set-other s.managed.held m x None ne) ∙ q.held })
+  ]
+
+  still-bridge : (p x : ℕ) → Contains (without_twins s.registry (m ∷ [])) (p, x) → IsBridge emptied x
+  still-bridge p x c =
+      let r = without_twins-parts s.registry (m ∷ []) p x c in
+      let b = k.pairs p x r.0 in
+      let ne : x ≢ m = λ same. r.1 (subst (λ z. Contains (m ∷ []) z) (sym same) (Contains-here m [])) in
+      (b.0, record { live = b.1.live; held = numbered_set-other s.managed.held m x None ne ∙ b.1.held })
+
+  given : IsReplayKept (record s { managed = emptied; registry = without_twins s.registry (m ∷ []) })
+  given = record {
+    managed = IsManagedKept-goes_on s.managed emptied k.managed empties;
+    adopted = λ x h q. k.adopted x h (other x h q).1;
+    alone = λ x y h q r. k.alone x y h (other x h q).1 (other y h r).1;
+    pairs = still-bridge;
+    one_row = λ p x y c d. k.one_row p x y (without_twins-parts s.registry (m ∷ []) p x c).0 (without_twins-parts s.registry (m ∷ []) p y d).0;
+    one_peer = λ p q x c d. k.one_peer p q x (without_twins-parts s.registry (m ∷ []) p x c).0 (without_twins-parts s.registry (m ∷ []) q x d).0;
+  }
+
+give-by : (s : ManagedReplay) (v : ℕ) (r : Reply) (o : Option ℕ) → IsReplayKept s → slot s.managed.heap.vars v ≡ o → IsReplayKept (give_by s o (answer r (without_handle s.managed o))).state
+give-by s v r None k e = k
+give-by s v r (Some m) k e = given s v m k e
+
+-- rows are freed that no pair of the registry has
+module _ (s : ManagedReplay) (t : Managed) (freed : List ℕ) (k : IsReplayKept s) (heap : t.heap ≡ with_freed s.managed.heap freed) (held : t.held ≡ s.managed.held) where
+  was-held_there : (x h : ℕ) → Holds t x h → Holds s.managed x h
+  was-held_there x h q = record {
+    live = was-live s.managed.heap freed x (subst (λ z. IsLive z x) heap q.live);
+    held = subst (λ hs. numbered_at hs x ≡ Some (Some h)) held q.held;
+  }
+
+  still-bridge_there : (x : ℕ) → IsBridge s.managed x → (Contains freed x → ⊥) → IsBridge t x
+  still-bridge_there x b n = (
+    b.0,
+    record {
+      live = subst (λ z. IsLive z x) (sym heap) (still-live s.managed.heap freed x b.1.live n);
+      held = subst (λ hs. numbered_at hs x ≡ Some (Some b.0)) (sym held) b.1.held;
+    },
+  )
+
+snapped-kept : (s : ManagedReplay) (n : ℕ) (freed candidates dead : List ℕ) → IsReplayKept s → IsSnapshot s.managed n freed candidates dead → IsReplayKept (record s { managed = snapped s.managed freed candidates dead; contracted = false })
+snapped-kept s n freed candidates dead k p = record {
+  managed = IsManagedKept-snapped s.managed n freed candidates dead k.managed p;
+  adopted = λ x h q. k.adopted x h (was-held_there s t freed k refl refl x h q);
+  alone = λ x y h q r. k.alone x y h (was-held_there s t freed k refl refl x h q) (was-held_there s t freed k refl refl y h r);
+  pairs = λ q x c. (let b = k.pairs q x c in still-bridge_there s t freed k refl refl x b (bridge_stays s.managed n freed candidates dead k.managed p x b));
+  one_row = k.one_row;
+  one_peer = k.one_peer;
+}
+  where
+    t : Managed
+    t = snapped s.managed freed candidates dead
+
+resolved-kept : (s : ManagedReplay) (n : ℕ) (alive : List Bool) (freed : List ℕ) → IsReplayKept s → MayResolve s n alive freed → IsReplayKept (record s { managed = resolved s.managed freed; registry = without_twins s.registry freed })
+resolved-kept s n alive freed k w = record {
+  managed = IsManagedKept-resolved s.managed w.cycle (IsAnsweredAlive w.cycle.candidates alive) freed k.managed w.open_cycle.0 w.resolution;
+  adopted = λ x h q. k.adopted x h (was-held_there s t freed k refl refl x h q);
+  alone = λ x y h q r. k.alone x y h (was-held_there s t freed k refl refl x h q) (was-held_there s t freed k refl refl y h r);
+  pairs = λ q x c. (let r = without_twins-parts s.registry freed q x c in still-bridge_there s t freed k refl refl x (k.pairs q x r.0) r.1);
+  one_row = λ p x y c d. k.one_row p x y (without_twins-parts s.registry freed p x c).0 (without_twins-parts s.registry freed p y d).0;
+  one_peer = λ p q x c d. k.one_peer p q x (without_twins-parts s.registry freed p x c).0 (without_twins-parts s.registry freed q x d).0;
+}
+  where
+    t : Managed
+    t = resolved s.managed freed
+
+abandoned-kept : (s : ManagedReplay) → IsReplayKept s → IsReplayKept (record s { managed = abandoned s.managed })
+abandoned-kept s k = record {
+  managed = IsManagedKept-abandoned s.managed k.managed;
+  adopted = λ x h q. k.adopted x h (record { live = q.live; held = q.held });
+  alone = λ x y h q r. k.alone x y h (record { live = q.live; held = q.held }) (record { live = r.live; held = r.held });
+  pairs = λ q x c. (let b = k.pairs q x c in (b.0, record { live = b.1.live; held = b.1.held }));
+  one_row = k.one_row;
+  one_peer = k.one_peer;
+}
+
+contracted-kept : (s : ManagedReplay) → IsReplayKept s → IsReplayKept (record s { contracted = true })
+contracted-kept s k = record { managed = k.managed; adopted = k.adopted; alone = k.alone; pairs = k.pairs; one_row = k.one_row; one_peer = k.one_peer }
+
+pub IsReplayKept-step : (s : ManagedReplay) (t : Thread) (o : Op) (told : Told) → IsReplayKept s → ManagedAllows s o told → IsReplayKept (managed_answer s t o told).state
+IsReplayKept-step s t (op.Line a) told k w = IsReplayKept-plainly s _ k (managed_line-goes_on s.managed (thread_number t) a k.managed.places k.managed.cells) (managed_line-same s.managed k.managed (thread_number t) a)
+IsReplayKept-step s t (op.Adopt v kind n p h) nothing k w = adopt-by s (place (thread_number t) v.0) kind n p.0 h.0 (is_full s.managed.heap.fields) k w
+IsReplayKept-step s t (op.Lend v x) told k w = k
+IsReplayKept-step s t (op.Meet v p h sort n) nothing k w = meet-by s (place (thread_number t) v.0) p.0 h.0 sort n s.managed.cycle k w refl
+IsReplayKept-step s t (op.Give v) told k w = give-by s (place (thread_number t) v.0) _ (slot s.managed.heap.vars (place (thread_number t) v.0)) k refl
+IsReplayKept-step s t (op.Snap n) (snap_of freed candidates dead) k w = snapped-kept s n.0 freed candidates dead k w
+IsReplayKept-step s t (op.Contract n) (contraction_of comps xrefs) k w = contracted-kept s k
+IsReplayKept-step s t (op.Resolve n) (resolution_of alive freed) k w = resolved-kept s n.0 alive freed k w
+IsReplayKept-step s t (op.Abandon n) nothing k w = abandoned-kept s k
+IsReplayKept-step s t (op.Refused r) (phase_of phase) k w = k
+IsReplayKept-step s t _ _ k w = absurd w

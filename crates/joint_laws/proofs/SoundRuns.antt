@@ -1,0 +1,100 @@
+-- The joint projection of a lawful list of entries is a sound run: each candidate that a resolution frees held a handle
+-- whose peer was freed, for otherwise the candidate would be kept; and the other clauses hold in every run.
+use Rattle.std.proofs.Common.{◌≡◌, ℕ, zero, suc, inl, inr, List, [], Some, sym, ap, subst, ◌∙◌, arith}
+use Rattle.std.specs.Prelude.{Contains, slice_get}
+use Rattle.std.proofs.lemmas.Option.{same_Some}
+use Rattle.joint_model.specs.declared.events.Op.TheVariants as op
+use Rattle.joint_model.specs.Headline.{ResolvesAt, IsUnreachedBefore, IsFreedWithPeer, IsCandidateBefore, IsSoundRun}
+use Rattle.joint_model.specs.Joint.{Joint, opening, object, IsReached}
+use Rattle.joint_model.specs.Linked.{joint_projection, linkage_after}
+use Rattle.joint_model.specs.Managed.{OpenCycle, Holds, IsBridge, ManagedEdge}
+use Rattle.joint_model.specs.Peers.{peer_of}
+use Rattle.joint_model.specs.Run.{Moment, JointEvent, JointResolve, IsKept, IsRunFrom, IsRun}
+use Rattle.joint_model.specs.Told.{Noted}
+use Rattle.joint_model.specs.Walks.{Reaches}
+use Rattle.joint_model.proofs.WalkLemmas.{Reaches-self}
+use Rattle.joint_laws.specs.ManagedInvariants.{IsManagedKept}
+use Rattle.joint_laws.specs.RunLaws.{ProjectionIsSound, LinkedIsSound}
+use Rattle.joint_laws.proofs.Lists.{Contains-decided, Contains-at}
+use Rattle.joint_laws.proofs.Numbered.{numbered-within}
+use Rattle.joint_laws.proofs.ManagedFrees.{resolution-unreached}
+use Rattle.joint_laws.proofs.JointRuns.{state_of, IsTraced, opening-run, opening-steps}
+use Rattle.joint_laws.proofs.RunsAreSound.{step-at, next-before, first-before, earlier-there, sweeps_are_sound, snapshots_are_sound}
+use Rattle.joint_laws.proofs.RunsFreeTwins.{TwinsSwept, twins-next, peer-is}
+
+module _ (run : List Moment) (steps : IsRunFrom opening run) (traced : (m : Moment) → Contains run m → IsTraced m) where
+  trace : (i : ℕ) (m : Moment) → slice_get run i ≡ Some m → IsTraced m
+  trace i m e = traced m (Contains-at run i m e)
+
+  -- just before each entry
+  twins : (i : ℕ) (m : Moment) → slice_get run i ≡ Some m → TwinsSwept run i m.before
+  twins zero m e = subst (λ z. TwinsSwept run zero z) (sym (first-before run opening m steps e)) (λ x h p q l c. absurd (nobody x h q))
+    where
+      nobody : (x h : ℕ) → Holds opening.managed x h → ⊥
+      nobody x h q = (let w = numbered-within [] x (Some h) q.held in omega (arith, w.0, w.1))
+  twins (suc i) m e =
+      let p = earlier-there run i m e in
+      let t = trace i p.0 p.1 in
+      let next : m.before ≡ state_of (linkage_after t.state p.0.noted) t.next = next-before run opening i p.0 m steps p.1 e ∙ t.after in
+      subst (λ z. TwinsSwept run (suc i) z) (sym next) (twins-next run steps traced i p.0 p.1 t (twins i p.0 p.1))
+
+  -- a resolution of the run
+  resolve-event : (i k : ℕ) (freed : List ℕ) (w : ResolvesAt run i k freed) → JointResolve w.moment.before k freed w.moment.noted.entry.made.reply w.moment.after
+  resolve-event i k freed w =
+      let m = w.moment in
+      subst (λ z. JointEvent m.before m.noted.entry.made.caller (op.Resolve record { 0 = k }) m.noted.entry.made.reply z m.after) w.frees
+      (subst (λ z. JointEvent m.before m.noted.entry.made.caller z m.noted.entry.made.reply m.noted.told m.after) w.event (step-at run opening i m steps w.there).step)
+
+  kept_before : (i : ℕ) (m : Moment) → slice_get run i ≡ Some m → IsManagedKept m.before.managed
+  kept_before i m e = let t = trace i m e in subst (λ (z : Joint). IsManagedKept z.managed) (sym t.before) t.stands.kept.managed.managed
+
+  resolved : (i k m : ℕ) (freed : List ℕ) → ResolvesAt run i k freed → Contains freed m → IsUnreachedBefore run i (object m)
+  resolved i k m freed w c x e v =
+      let r = resolve-event i k freed w in
+      resolution-unreached w.moment.before r.cycle freed (kept_before i w.moment w.there) r.open_cycle.0 r.resolution m c (subst (λ (z : Moment). IsReached z.before (object m)) (same_Some x w.moment (sym e ∙ w.there)) v)
+
+  -- a candidate that is freed has a freed peer
+  freed-peer : (j : Joint) (c : OpenCycle) (m h p : ℕ) (freed : List ℕ) → ((x : ℕ) → Contains freed x → (((y : ℕ) × IsKept j c y × Reaches (ManagedEdge j.managed) y x) → ⊥)) → Contains freed m → Contains c.candidates m → Holds j.managed m h → peer_of j.peers.issued h ≡ Some p → Contains j.peers.heap.freed p
+  freed-peer j c m h p freed frees f cm q l = elim (Contains-decided j.peers.heap.freed p) [
+    | inl w ↦ w
+    | inr n ↦ absurd (frees m f (m, record { candidate = cm; handle = h; holds = q; peer = p; leads = l; unfreed = n }, Reaches-self (ManagedEdge j.managed) m))
+  ]
+
+  candidates : (i k m : ℕ) (freed : List ℕ) → ResolvesAt run i k freed → Contains freed m → IsCandidateBefore run i m → IsFreedWithPeer run i m
+  candidates i k m freed w f cand =
+      let r = resolve-event i k freed w in
+      let t = trace i w.moment w.there in
+      let kept = kept_before i w.moment w.there in
+      let moments : cand.moment ≡ w.moment = same_Some cand.moment w.moment (sym cand.there ∙ w.there) in
+      let cycles : cand.cycle ≡ r.cycle = same_Some cand.cycle r.cycle (sym cand.open_cycle ∙ (ap (λ (z : Moment). z.before.managed.cycle) moments ∙ r.open_cycle.0)) in
+      let cm : Contains r.cycle.candidates m = subst (λ (z : OpenCycle). Contains z.candidates m) cycles cand.candidate in
+      let b : IsBridge w.moment.before.managed m = (((kept.dead r.cycle r.open_cycle.0).candidates m).0 cm).1 in
+      let here : Holds t.state.managed.managed m b.0 = subst (λ (z : Joint). Holds z.managed m b.0) t.before b.1 in
+      let i0 = t.stands.kept.owners.held_ones m b.0 here in
+      let leads : peer_of w.moment.before.peers.issued b.0 ≡ Some i0.0.peer = subst (λ (z : Joint). peer_of z.peers.issued b.0 ≡ Some i0.0.peer) (sym t.before) (peer-is t.state.peer.peers.issued b.0 i0.0 i0.1) in
+      record {
+        moment = w.moment;
+        there = w.there;
+        handle = b.0;
+        holds = b.1;
+        twin = i0.0.peer;
+        leads = leads;
+        swept = twins i w.moment w.there m b.0 i0.0.peer b.1 leads (freed-peer w.moment.before r.cycle m b.0 i0.0.peer freed (λ x c. ((r.resolution.frees x).0 c).1) f cm b.1 leads);
+      }
+
+  pub is-sound : (entries : List Noted) → IsRun entries run → IsSoundRun run
+  is-sound entries r = record {
+    candidates = candidates;
+    peers = λ i j p freed s c. sweeps_are_sound entries run r i j p freed s c;
+    snapped = λ i k m freed cands s c. snapshots_are_sound entries run r i k m freed cands s c;
+    resolved = resolved;
+  }
+
+pub projection_is_sound : ProjectionIsSound
+projection_is_sound noted may =
+    let w = opening-run noted may in
+    let r : IsRun (joint_projection noted) w.moments = record { same = w.same; steps = opening-steps noted may } in
+    (w.moments, r, is-sound w.moments (opening-steps noted may) w.traced (joint_projection noted) r)
+
+pub linked_is_sound : LinkedIsSound
+linked_is_sound h noted l = projection_is_sound noted l.lawful

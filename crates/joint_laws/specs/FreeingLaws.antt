@@ -1,0 +1,16 @@
+-- Nothing that a snapshot or a resolution frees was reached, in any state of the joint machine.
+use Rattle.std.specs.Prelude.{◌≡◌, ℕ, List, Contains, Some}
+use Rattle.joint_model.specs.Cycles.{IsSnapshot, IsResolution}
+use Rattle.joint_model.specs.Joint.{Joint, IsReached, object}
+use Rattle.joint_model.specs.Managed.{OpenCycle}
+use Rattle.joint_model.specs.Run.{IsKept}
+use Rattle.joint_laws.specs.ManagedInvariants.{IsManagedKept}
+
+-- no row that a snapshot frees is reached
+abbrev pub SnapshotFreesUnreached : Type 0
+SnapshotFreesUnreached = (j : Joint) (k m : ℕ) (freed candidates dead : List ℕ) → IsSnapshot j.managed k freed candidates dead → Contains freed m → IsReached j (object m) → ⊥
+
+-- no row that a resolution frees is reached, where the candidates that stay are those whose peer is unfreed
+abbrev pub ResolutionFreesUnreached : Type 0
+ResolutionFreesUnreached = (j : Joint) (c : OpenCycle) (m : ℕ) (freed : List ℕ) → IsManagedKept j.managed → j.managed.cycle ≡ Some c
+    → IsResolution j.managed c.dead (IsKept j c) freed → Contains freed m → IsReached j (object m) → ⊥

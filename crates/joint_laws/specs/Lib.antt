@@ -1,0 +1,10 @@
+pub mod Mirrors
+pub mod States
+pub mod ManagedInvariants
+pub mod ManagedLaws
+pub mod FreeingLaws
+pub mod PeerInvariants
+pub mod LinkedInvariants
+pub mod LinkedLaws
+pub mod JointAgreement
+pub mod RunLaws

@@ -1,0 +1,19 @@
+-- The mirror edges of a graph's components carry exactly the graph's own reach between bridge nodes. (The
+-- Xamarin.Android documentation: the references that a collection adds stand for the managed references.)
+use Rattle.std.specs.Prelude.{ℕ, List, Contains}
+use Rattle.joint_model.specs.Walks.{Reaches}
+use Rattle.joint_model.specs.Components.{IsContraction, mirror_edges}
+
+-- one node leads to the next over a mirror edge of the components and cross-references
+abbrev pub MirrorEdge : List (List ℕ) → List (ℕ × ℕ) → ℕ → ℕ → Type 0
+MirrorEdge comps xrefs a b = Contains (mirror_edges comps xrefs) (a, b)
+
+-- wherever a mirror edge leads, a walk leads
+abbrev pub MirrorEdgesFollowWalks : (ℕ → Type 0) → (ℕ → ℕ → Type 0) → Type 0
+MirrorEdgesFollowWalks bridge edge = (comps : List (List ℕ)) (xrefs : List (ℕ × ℕ)) → IsContraction bridge edge comps xrefs
+    → (a b : ℕ) → MirrorEdge comps xrefs a b → Reaches edge a b
+
+-- wherever a walk leads from a bridge node to a bridge node, a walk over mirror edges leads
+abbrev pub WalksFollowMirrorEdges : (ℕ → Type 0) → (ℕ → ℕ → Type 0) → Type 0
+WalksFollowMirrorEdges bridge edge = (comps : List (List ℕ)) (xrefs : List (ℕ × ℕ)) → IsContraction bridge edge comps xrefs
+    → (a b : ℕ) → bridge a → bridge b → Reaches edge a b → Reaches (MirrorEdge comps xrefs) a b

@@ -1,0 +1,39 @@
+-- The joint projection of each lawful list of entries is a run of the joint machine, and its states are those of the sides.
+use Rattle.std.specs.Prelude.{ℕ, ◌<◌, List, Contains}
+use Rattle.joint_model.specs.Headline.{SnapsAt, SweepsAt, BeginsAt, IsUnreachedBefore, WasUnreached, IsSoundRun}
+use Rattle.joint_model.specs.Histories.{Finished}
+use Rattle.joint_model.specs.Joint.{object, peer}
+use Rattle.joint_model.specs.Linked.{AllMayCome, opening_linkage, joint_projection, IsLinkedBy}
+use Rattle.joint_model.specs.Run.{Moment, IsRun}
+use Rattle.joint_model.specs.Told.{Noted}
+
+-- some moments are a run over the joint projection
+abbrev pub HasRun : List Noted → Type 0
+HasRun noted = (run : List Moment) × IsRun (joint_projection noted) run
+
+-- the joint projection of a lawful list of entries is a run
+abbrev pub ProjectionIsRun : Type 0
+ProjectionIsRun = (noted : List Noted) → AllMayCome opening_linkage noted → HasRun noted
+
+-- and so is that of a linked history
+abbrev pub LinkedIsRun : Type 0
+LinkedIsRun = (h : Finished) (noted : List Noted) → IsLinkedBy h noted → HasRun noted
+
+-- in every run: no row that a snapshot frees was reached just before it
+abbrev pub SnapshotsAreSound : Type 0
+SnapshotsAreSound = (entries : List Noted) (run : List Moment) → IsRun entries run → (i k m : ℕ) (freed candidates : List ℕ) → SnapsAt run i k freed candidates → Contains freed m → IsUnreachedBefore run i (object m)
+
+-- in every run: each peer that a sweep frees was unreached at the begin of the marking and just before the sweep
+abbrev pub SweepsAreSound : Type 0
+SweepsAreSound = (entries : List Noted) (run : List Moment) → IsRun entries run → (i j p : ℕ) (freed : List ℕ) → SweepsAt run i j freed → Contains freed p → (begin : ℕ) × (begin < i) × BeginsAt run begin j × WasUnreached run begin i (peer p)
+
+-- the joint projection of a lawful list of entries is a sound run
+abbrev pub HasSoundRun : List Noted → Type 0
+HasSoundRun noted = (run : List Moment) × IsRun (joint_projection noted) run × IsSoundRun run
+
+abbrev pub ProjectionIsSound : Type 0
+ProjectionIsSound = (noted : List Noted) → AllMayCome opening_linkage noted → HasSoundRun noted
+
+-- and so is that of a linked history
+abbrev pub LinkedIsSound : Type 0
+LinkedIsSound = (h : Finished) (noted : List Noted) → IsLinkedBy h noted → HasSoundRun noted

@@ -1,0 +1,21 @@
+// Laws on the components of any graph and their mirror edges.
+
+ghost use Rattle.std.specs.Prelude.{ℕ};
+ghost use Rattle.joint_laws.specs.Mirrors.{MirrorEdgesFollowWalks, WalksFollowMirrorEdges};
+
+/// A graph whose nodes are numbers: which of them are bridge nodes, and which lead to which.
+pub trait Graph {
+    ghost bridge: { ℕ → Type 0 };
+
+    ghost edge: { ℕ → ℕ → Type 0 };
+}
+
+/// Wherever a mirror edge leads from one node to another, so does a walk of the graph.
+pub fn mirror_edges_follow_walks<G: Graph>()
+    ensures { MirrorEdgesFollowWalks G.bridge G.edge }
+{}
+
+/// Wherever a walk of the graph leads from one bridge node to another, so does a walk over mirror edges.
+pub fn walks_follow_mirror_edges<G: Graph>()
+    ensures { WalksFollowMirrorEdges G.bridge G.edge }
+{}

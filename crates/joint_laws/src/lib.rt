@@ -1,0 +1,21 @@
+// Laws of the joint machine and of linked histories, over the definitions of `joint_model` alone.
+//
+// Each function is a law: its body is empty, and its contract is a statement of `specs/`.
+#![tactic(auto)]
+
+mod freeing;
+mod graphs;
+mod linked;
+mod managed;
+mod runs;
+
+pub use freeing::{resolutions_free_unreached_rows, snapshots_free_unreached_rows};
+pub use graphs::{Graph, mirror_edges_follow_walks, walks_follow_mirror_edges};
+pub use linked::{
+    adopted_peer_has_no_twin, alive_candidates_lead_to_alive_ones, both_sides_are_kept,
+    joint_twin_is_registered, reached_peers_are_spared,
+};
+pub use managed::{dead_part_is_frozen, dead_part_is_mirrored, managed_side_is_kept};
+pub use runs::{
+    joint_projection_is_a_run, joint_projection_is_sound, snapshots_are_sound, sweeps_are_sound,
+};

@@ -1,0 +1,31 @@
+// Laws of both sides together.
+
+ghost use Rattle.joint_laws.specs.LinkedLaws.{AdoptedPeerHasNoTwin, AliveLeadToAlive, LinkageIsKept, ReachedIsSpared, TwinIsRegistered};
+
+/// At every state of a lawful list of entries: nothing freed is named on either side; a handle is cleared exactly where its
+/// peer is freed; each handle that a managed row holds is strong unless the row is a candidate, and a candidate's has the
+/// strength of the driver's phase; what a thread has in hand is held by no row; the registry has exactly the rows that hold a
+/// handle; and what an open marking doesn't spare is named by no slot, no strong handle and no peer that it spares.
+pub fn both_sides_are_kept()
+    ensures { LinkageIsKept }
+{}
+
+/// Once all handles of a cycle are restored, no candidate that was answered alive leads to one that was answered cleared.
+pub fn alive_candidates_lead_to_alive_ones()
+    ensures { AliveLeadToAlive }
+{}
+
+/// The peer of an `adopt` has no twin yet.
+pub fn adopted_peer_has_no_twin()
+    ensures { AdoptedPeerHasNoTwin }
+{}
+
+/// While a marking is open, no peer that the joint graph reaches is freed by its sweep, at whatever state it is reached.
+pub fn reached_peers_are_spared()
+    ensures { ReachedIsSpared }
+{}
+
+/// The joint twin of a peer is what the registry answers.
+pub fn joint_twin_is_registered()
+    ensures { TwinIsRegistered }
+{}

@@ -1,0 +1,28 @@
+// Laws on runs of the joint machine.
+
+ghost use Rattle.joint_laws.specs.RunLaws.{LinkedIsRun, LinkedIsSound, ProjectionIsRun, ProjectionIsSound, SnapshotsAreSound, SweepsAreSound};
+
+/// The joint projection of each lawful list of entries is a run of the joint machine, word by word, whatever entries of other
+/// threads come between those of a cycle or of an operation; so is that of each linked history.
+pub fn joint_projection_is_a_run()
+    ensures lawful { ProjectionIsRun }
+    ensures linked { LinkedIsRun }
+{}
+
+/// In every run, no managed row that a snapshot frees was reached just before it.
+pub fn snapshots_are_sound()
+    ensures { SnapshotsAreSound }
+{}
+
+/// In every run, each peer that a sweep frees was unreached at the begin of the marking and just before the sweep.
+pub fn sweeps_are_sound()
+    ensures { SweepsAreSound }
+{}
+
+/// The run of each linked history is sound: each candidate that a resolution frees held a handle whose peer a sweep freed, both
+/// unreached at its begin and just before it; each peer that a sweep frees was so; and no managed row that a snapshot or a
+/// resolution frees was reached just before.
+pub fn joint_projection_is_sound()
+    ensures lawful { ProjectionIsSound }
+    ensures linked { LinkedIsSound }
+{}
