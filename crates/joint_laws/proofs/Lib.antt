@@ -75,4 +75,5 @@ pub mod JourneyStands
 pub mod JourneySteps
 pub mod JourneyTurns
 pub mod JourneyEntries
+pub mod CompleteRuns
 pub mod AtResolutions
