@@ -130,7 +130,7 @@ pub record IsBehindSweep (past : List Moment) (s : Linkage) (o : Opened) : Type 
 pub snaps-more : (past more : List Moment) (a k : ℕ) (freed candidates : List ℕ) → SnapsAt past a k freed candidates → SnapsAt (past ++ more) a k freed candidates
 snaps-more past more a k freed candidates w = record { moment = w.moment; there = get-more past more a w.moment w.there; event = w.event; dead = w.dead; frees = w.frees }
 
-pub way-next : (s : Linkage) (n : Noted) (may : MayCome s n) (w : Stands s) (v : Stands (linkage_after s n)) (past : List Moment) (o : Opened) (m : Moment) → m.after ≡ state_of (linkage_after s n) v → (e : OpenCycle) → (linkage_after s n).managed.managed.cycle ≡ Some e
+unfoldable pub way-next : (s : Linkage) (n : Noted) (may : MayCome s n) (w : Stands s) (v : Stands (linkage_after s n)) (past : List Moment) (o : Opened) (m : Moment) → m.after ≡ state_of (linkage_after s n) v → (e : OpenCycle) → (linkage_after s n).managed.managed.cycle ≡ Some e
     → IsOnTheWay past s w o → IsOnTheWay (past ++ m ∷ []) (linkage_after s n) v o
 way-next s n may w v past o m after e q k =
     let g = goes-open s n may w k.cycle e k.open_now q in
@@ -143,7 +143,7 @@ way-next s n may w v past o m after e q k =
       watched = watched-next s n may w v g past k.snap k.cycle.candidates k.watched m after;
     }
 
-pub way-rests : (s t : Linkage) (w : Stands s) (v : Stands t) (past : List Moment) (o : Opened) → state_of t v ≡ state_of s w → IsOnTheWay past s w o → IsOnTheWay past t v o
+unfoldable pub way-rests : (s t : Linkage) (w : Stands s) (v : Stands t) (past : List Moment) (o : Opened) → state_of t v ≡ state_of s w → IsOnTheWay past s w o → IsOnTheWay past t v o
 way-rests s t w v past o same k = record {
   snap = k.snap;
   freed = k.freed;

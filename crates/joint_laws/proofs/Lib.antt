@@ -72,4 +72,8 @@ pub mod AfterSweeps
 pub mod AtSweeps
 pub mod Journeys
 pub mod JourneyStands
+pub mod JourneySteps
+pub mod JourneyTurns
+pub mod JourneyEntries
+pub mod CompleteRuns
 pub mod AtResolutions

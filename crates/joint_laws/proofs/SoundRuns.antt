@@ -6,7 +6,7 @@ use Rattle.std.proofs.lemmas.Option.{same_Some}
 use Rattle.joint_model.specs.declared.events.Op.TheVariants as op
 use Rattle.joint_model.specs.Headline.{ResolvesAt, IsUnreachedBefore, IsFreedWithPeer, IsCandidateBefore, IsSoundRun}
 use Rattle.joint_model.specs.Joint.{Joint, opening, object, IsReached}
-use Rattle.joint_model.specs.Linked.{joint_projection, linkage_after}
+use Rattle.joint_model.specs.Linked.{linkage_after}
 use Rattle.joint_model.specs.Managed.{OpenCycle, Holds, IsBridge, ManagedEdge}
 use Rattle.joint_model.specs.Peers.{peer_of}
 use Rattle.joint_model.specs.Run.{Moment, JointEvent, JointResolve, IsKept, IsRunFrom, IsRun}
@@ -14,11 +14,10 @@ use Rattle.joint_model.specs.Told.{Noted}
 use Rattle.joint_model.specs.Walks.{Reaches}
 use Rattle.joint_model.proofs.WalkLemmas.{Reaches-self}
 use Rattle.joint_laws.specs.ManagedInvariants.{IsManagedKept}
-use Rattle.joint_laws.specs.RunLaws.{ProjectionIsSound, LinkedIsSound}
 use Rattle.joint_laws.proofs.Lists.{Contains-decided, Contains-at}
 use Rattle.joint_laws.proofs.Numbered.{numbered-within}
 use Rattle.joint_laws.proofs.ManagedFrees.{resolution-unreached}
-use Rattle.joint_laws.proofs.JointRuns.{state_of, IsTraced, opening-run, opening-steps}
+use Rattle.joint_laws.proofs.JointRuns.{state_of, IsTraced}
 use Rattle.joint_laws.proofs.RunsAreSound.{step-at, next-before, first-before, earlier-there, sweeps_are_sound, snapshots_are_sound}
 use Rattle.joint_laws.proofs.RunsFreeTwins.{TwinsSwept, twins-next, peer-is}
 
@@ -89,12 +88,3 @@ module _ (run : List Moment) (steps : IsRunFrom opening run) (traced : (m : Mome
     snapped = λ i k m freed cands s c. snapshots_are_sound entries run r i k m freed cands s c;
     resolved = resolved;
   }
-
-pub projection_is_sound : ProjectionIsSound
-projection_is_sound noted may =
-    let w = opening-run noted may in
-    let r : IsRun (joint_projection noted) w.moments = record { same = w.same; steps = opening-steps noted may } in
-    (w.moments, r, is-sound w.moments (opening-steps noted may) w.traced (joint_projection noted) r)
-
-pub linked_is_sound : LinkedIsSound
-linked_is_sound h noted l = projection_is_sound noted l.lawful

@@ -1,6 +1,6 @@
 -- The joint projection of each lawful list of entries is a run of the joint machine, and its states are those of the sides.
 use Rattle.std.specs.Prelude.{ℕ, ◌<◌, List, Contains}
-use Rattle.joint_model.specs.Headline.{SnapsAt, SweepsAt, BeginsAt, IsUnreachedBefore, WasUnreached, IsSoundRun}
+use Rattle.joint_model.specs.Headline.{SnapsAt, SweepsAt, BeginsAt, IsUnreachedBefore, WasUnreached, IsSoundRun, IsCompleteRun}
 use Rattle.joint_model.specs.Histories.{Finished}
 use Rattle.joint_model.specs.Joint.{object, peer}
 use Rattle.joint_model.specs.Linked.{AllMayCome, opening_linkage, joint_projection, IsLinkedBy}
@@ -37,3 +37,14 @@ ProjectionIsSound = (noted : List Noted) → AllMayCome opening_linkage noted �
 -- and so is that of a linked history
 abbrev pub LinkedIsSound : Type 0
 LinkedIsSound = (h : Finished) (noted : List Noted) → IsLinkedBy h noted → HasSoundRun noted
+
+-- the joint projection of a lawful list of entries is a run that is sound and complete
+abbrev pub HasCompleteRun : List Noted → Type 0
+HasCompleteRun noted = (run : List Moment) × IsRun (joint_projection noted) run × IsSoundRun run × IsCompleteRun run
+
+abbrev pub ProjectionIsComplete : Type 0
+ProjectionIsComplete = (noted : List Noted) → AllMayCome opening_linkage noted → HasCompleteRun noted
+
+-- and so is that of a linked history
+abbrev pub LinkedIsComplete : Type 0
+LinkedIsComplete = (h : Finished) (noted : List Noted) → IsLinkedBy h noted → HasCompleteRun noted

@@ -1,6 +1,6 @@
 // Laws on runs of the joint machine.
 
-ghost use Rattle.joint_laws.specs.RunLaws.{LinkedIsRun, LinkedIsSound, ProjectionIsRun, ProjectionIsSound, SnapshotsAreSound, SweepsAreSound};
+ghost use Rattle.joint_laws.specs.RunLaws.{LinkedIsComplete, LinkedIsRun, LinkedIsSound, ProjectionIsComplete, ProjectionIsRun, ProjectionIsSound, SnapshotsAreSound, SweepsAreSound};
 
 /// The joint projection of each lawful list of entries is a run of the joint machine, word by word, whatever entries of other
 /// threads come between those of a cycle or of an operation; so is that of each linked history.
@@ -25,4 +25,12 @@ pub fn sweeps_are_sound()
 pub fn joint_projection_is_sound()
     ensures lawful { ProjectionIsSound }
     ensures linked { LinkedIsSound }
+{}
+
+/// The run of each linked history is sound, and it is complete: nothing that stays unreached through a cycle is left. Each
+/// candidate that is unreached from the cycle's snapshot to the sweep of its own marking is freed by the resolution, and each
+/// peer that existed when that marking began and is unreached throughout the same entries is freed at the latest by that sweep.
+pub fn joint_projection_is_complete()
+    ensures lawful { ProjectionIsComplete }
+    ensures linked { LinkedIsComplete }
 {}

@@ -1,4 +1,4 @@
-use Rattle.joint_laws.proofs.JointRuns.{projection_is_run, linked_is_run}
+use Rattle.joint_laws.proofs.CompleteRuns.{projection_is_run, linked_is_run}
 use Rattle.joint_laws.proofs.runs.joint_projection_is_a_run.Goals as goal
 
 pub returns : goal.returns

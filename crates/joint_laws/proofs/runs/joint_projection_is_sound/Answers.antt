@@ -1,4 +1,4 @@
-use Rattle.joint_laws.proofs.SoundRuns.{projection_is_sound, linked_is_sound}
+use Rattle.joint_laws.proofs.CompleteRuns.{projection_is_sound, linked_is_sound}
 use Rattle.joint_laws.proofs.runs.joint_projection_is_sound.Goals as goal
 
 pub returns : goal.returns
