@@ -17,5 +17,6 @@ pub use linked::{
 };
 pub use managed::{dead_part_is_frozen, dead_part_is_mirrored, managed_side_is_kept};
 pub use runs::{
-    joint_projection_is_a_run, joint_projection_is_sound, snapshots_are_sound, sweeps_are_sound,
+    joint_projection_is_a_run, joint_projection_is_complete, joint_projection_is_sound,
+    snapshots_are_sound, sweeps_are_sound,
 };
