@@ -44,6 +44,7 @@ pub mod LinkedDriver
 pub mod LinkedOwn
 pub mod LinkedEntries
 pub mod LinkedStates
+pub mod HandlePhases
 pub mod SparedWalks
 pub mod JointFlags
 pub mod JointTargets

@@ -1,27 +1,49 @@
 -- Laws of both sides together, at every state of a lawful list of entries.
-use Rattle.std.specs.Prelude.{◌≡◌, ℕ, Bool, List, Contains, Some, None, Option}
+use Rattle.std.specs.Prelude.{◌≡◌, ℕ, Bool, List, Contains, Some, None, Option, slice_get}
 use Rattle.joint_model.specs.declared.events.Op.TheVariants as op
 use Rattle.joint_model.specs.declared.names.Var.{Var}
 use Rattle.joint_model.specs.declared.names.Kind.{Kind}
 use Rattle.joint_model.specs.declared.names.PNum.{PNum}
 use Rattle.joint_model.specs.declared.names.HNum.{HNum}
-use Rattle.joint_model.specs.Control.{Opened, restored}
+use Rattle.joint_model.specs.Control.{Opened, Stand, idle, snapped, contracted, weakening, marked, restoring, restored, candidates_of}
 use Rattle.joint_model.specs.Cycles.{IsAnsweredAlive}
-use Rattle.joint_model.specs.Linked.{AllMayCome, MayCome, opening_linkage}
-use Rattle.joint_model.specs.Managed.{OpenCycle, ManagedEdge}
+use Rattle.joint_model.specs.Linked.{Linkage, AllMayCome, MayCome, opening_linkage}
+use Rattle.joint_model.specs.Managed.{OpenCycle, Holds, ManagedEdge}
 use Rattle.joint_model.specs.ManagedReplay.{registered}
 use Rattle.joint_model.specs.Told.{Noted}
 use Rattle.joint_model.specs.Walks.{Reaches}
 use Rattle.joint_model.specs.Joint.{JointMarking, peer, IsReached, twin_of}
-use Rattle.joint_model.specs.PeerReplay.{Marking}
+use Rattle.joint_model.specs.Peers.{strong, weak}
+use Rattle.joint_model.specs.PeerReplay.{PeerReplay, Marking}
 use Rattle.joint_laws.specs.JointAgreement.{AreFlags, joint_of}
-use Rattle.joint_laws.specs.LinkedInvariants.{IsLinkageKept}
+use Rattle.joint_laws.specs.LinkedInvariants.{IsLinkageKept, HasStrength, IsWeakenedBy, IsRestoredBy}
 use Rattle.joint_laws.specs.PeerInvariants.{IsSpared}
 use Rattle.joint_laws.specs.States.{state_at}
 
 -- what both sides, the threads and the driver keep holds at every state
 abbrev pub LinkageIsKept : Type 0
 LinkageIsKept = (noted : List Noted) → AllMayCome opening_linkage noted → (i : ℕ) → IsLinkageKept (state_at noted i)
+
+-- the handle of the candidate at place l, by the driver's stand: strong up to the mirror; weak once weakened, and strong
+-- before; weak while the own marking is open; then strong where the answer was alive, gone where it was cleared, and weak
+-- before the answer
+abbrev pub IsByPhase : PeerReplay → Stand → ℕ → ℕ → Type 0
+IsByPhase s idle l h = ⊥
+IsByPhase s (snapped o) l h = HasStrength s h strong
+IsByPhase s (contracted o comps xrefs) l h = HasStrength s h strong
+IsByPhase s (weakening o count weakened swept) l h = IsWeakenedBy s count l h
+IsByPhase s (marked o) l h = HasStrength s h weak
+IsByPhase s (restoring o answers) l h = IsRestoredBy s answers l h
+IsByPhase s (restored o answers clear) l h = IsRestoredBy s answers l h
+
+-- each handle that a row holds is in the table and strong unless its row is a candidate, and a candidate's is by phase
+pub record AreByPhase (s : Linkage) : Type 0 where
+  pub others : (m h : ℕ) → Holds s.managed.managed m h → (Contains (candidates_of s.managed.managed) m → ⊥) → HasStrength s.peer h strong
+  pub candidates : (l m h : ℕ) → slice_get (candidates_of s.managed.managed) l ≡ Some m → Holds s.managed.managed m h → IsByPhase s.peer s.control.stand l h
+
+-- so it is at every state
+abbrev pub HeldByPhase : Type 0
+HeldByPhase = (noted : List Noted) → AllMayCome opening_linkage noted → (i : ℕ) → AreByPhase (state_at noted i)
 
 -- once all handles are restored, no candidate that was answered alive leads to one that wasn't
 abbrev pub AliveLeadToAlive : Type 0

@@ -13,7 +13,7 @@ pub use freeing::{resolutions_free_unreached_rows, snapshots_free_unreached_rows
 pub use graphs::{Graph, mirror_edges_follow_walks, walks_follow_mirror_edges};
 pub use linked::{
     adopted_peer_has_no_twin, alive_candidates_lead_to_alive_ones, both_sides_are_kept,
-    joint_twin_is_registered, reached_peers_are_spared,
+    held_handles_by_phase, joint_twin_is_registered, reached_peers_are_spared,
 };
 pub use managed::{dead_part_is_frozen, dead_part_is_mirrored, managed_side_is_kept};
 pub use runs::{

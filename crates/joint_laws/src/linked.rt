@@ -1,6 +1,6 @@
 // Laws of both sides together.
 
-ghost use Rattle.joint_laws.specs.LinkedLaws.{AdoptedPeerHasNoTwin, AliveLeadToAlive, LinkageIsKept, ReachedIsSpared, TwinIsRegistered};
+ghost use Rattle.joint_laws.specs.LinkedLaws.{AdoptedPeerHasNoTwin, AliveLeadToAlive, HeldByPhase, LinkageIsKept, ReachedIsSpared, TwinIsRegistered};
 
 /// At every state of a lawful list of entries: nothing freed is named on either side; a handle is cleared exactly where its
 /// peer is freed; each handle that a managed row holds is strong unless the row is a candidate, and a candidate's has the
@@ -8,6 +8,14 @@ ghost use Rattle.joint_laws.specs.LinkedLaws.{AdoptedPeerHasNoTwin, AliveLeadToA
 /// handle; and what an open marking doesn't spare is named by no slot, no strong handle and no peer that it spares.
 pub fn both_sides_are_kept()
     ensures { LinkageIsKept }
+{}
+
+/// At every state of a lawful list of entries each handle that a managed row holds is in the table and strong, unless its row
+/// is a candidate of the open cycle. A candidate's handle is strong up to the mirror. From then on candidates' handles are
+/// weakened one by one, all are weak while the driver's marking is open, and they are restored one by one: strong where the
+/// answer was alive, and out of the table, with a freed peer, where it was cleared.
+pub fn held_handles_by_phase()
+    ensures { HeldByPhase }
 {}
 
 /// Once all handles of a cycle are restored, no candidate that was answered alive leads to one that was answered cleared.
