@@ -1,5 +1,5 @@
 -- Laws of both sides together, at every state of a lawful list of entries.
-use Rattle.std.specs.Prelude.{◌≡◌, ℕ, Bool, List, Contains, Some, None, Option, slice_get}
+use Rattle.std.specs.Prelude.{◌≡◌, ℕ, ◌+◌, ◌≤◌, Bool, List, Contains, Some, None, Option, slice_get}
 use Rattle.joint_model.specs.declared.events.Op.TheVariants as op
 use Rattle.joint_model.specs.declared.names.Var.{Var}
 use Rattle.joint_model.specs.declared.names.Kind.{Kind}
@@ -10,7 +10,7 @@ use Rattle.joint_model.specs.Cycles.{IsAnsweredAlive}
 use Rattle.joint_model.specs.Linked.{Linkage, AllMayCome, MayCome, opening_linkage}
 use Rattle.joint_model.specs.Managed.{OpenCycle, Holds, ManagedEdge}
 use Rattle.joint_model.specs.ManagedReplay.{registered}
-use Rattle.joint_model.specs.Told.{Noted}
+use Rattle.joint_model.specs.Told.{Noted, sweep_of}
 use Rattle.joint_model.specs.Walks.{Reaches}
 use Rattle.joint_model.specs.Joint.{JointMarking, peer, IsReached, twin_of}
 use Rattle.joint_model.specs.Peers.{strong, weak}
@@ -61,6 +61,18 @@ abbrev pub ReachedIsSpared : Type 0
 ReachedIsSpared = (noted : List Noted) → AllMayCome opening_linkage noted → (i : ℕ) (flags : List Bool) (jm : Option JointMarking) (mk : Marking)
     → AreFlags (state_at noted i).managed.managed (state_at noted i).peer flags → (state_at noted i).peer.marking ≡ Some mk
     → (p : ℕ) → IsReached (joint_of (state_at noted i).managed.managed (state_at noted i).peer flags jm) (peer p) → IsSpared mk p
+
+-- a marking is open at the state at place i and at each of so many after it; no begin opens one meanwhile, so it is one
+-- marking
+abbrev pub IsOpenUntil : List Noted → ℕ → ℕ → Type 0
+IsOpenUntil noted i more = (k : ℕ) → k ≤ more → (state_at noted (i + k)).peer.marking ≡ None → ⊥
+
+-- no peer that the joint graph reaches while a marking is open is freed by the sweep that ends that marking
+abbrev pub ReachedIsNotSwept : Type 0
+ReachedIsNotSwept = (noted : List Noted) → AllMayCome opening_linkage noted → (i more : ℕ) (flags : List Bool) (jm : Option JointMarking)
+    → AreFlags (state_at noted i).managed.managed (state_at noted i).peer flags → IsOpenUntil noted i more
+    → (p : ℕ) → IsReached (joint_of (state_at noted i).managed.managed (state_at noted i).peer flags jm) (peer p)
+    → (n : Noted) (freed : List ℕ) → MayCome (state_at noted (i + more)) n → n.entry.made.op ≡ op.Sweep → n.told ≡ sweep_of freed → Contains freed p → ⊥
 
 -- the joint twin of a peer is what the registry answers, at every state
 abbrev pub TwinIsRegistered : Type 0

@@ -1,6 +1,6 @@
 // Laws of both sides together.
 
-ghost use Rattle.joint_laws.specs.LinkedLaws.{AdoptedPeerHasNoTwin, AliveLeadToAlive, HeldByPhase, LinkageIsKept, ReachedIsSpared, TwinIsRegistered};
+ghost use Rattle.joint_laws.specs.LinkedLaws.{AdoptedPeerHasNoTwin, AliveLeadToAlive, HeldByPhase, LinkageIsKept, ReachedIsNotSwept, ReachedIsSpared, TwinIsRegistered};
 
 /// At every state of a lawful list of entries: nothing freed is named on either side; a handle is cleared exactly where its
 /// peer is freed; each handle that a managed row holds is strong unless the row is a candidate, and a candidate's has the
@@ -28,9 +28,11 @@ pub fn adopted_peer_has_no_twin()
     ensures { AdoptedPeerHasNoTwin }
 {}
 
-/// While a marking is open, no peer that the joint graph reaches is freed by its sweep, at whatever state it is reached.
+/// At every state at which a marking is open it spares each peer that the joint graph reaches: the peer was made since its
+/// begin, or it marks the peer. So the sweep that ends it frees no peer that was reached at any state while it was open.
 pub fn reached_peers_are_spared()
-    ensures { ReachedIsSpared }
+    ensures spared { ReachedIsSpared }
+    ensures unswept { ReachedIsNotSwept }
 {}
 
 /// The joint twin of a peer is what the registry answers.
