@@ -4,18 +4,19 @@ use Rattle.std.proofs.Common.{◌≡◌, ℕ, ◌≤◌, inl, inr, true, false, 
 use Rattle.std.specs.Prelude.{Contains, map, slice_get}
 use Rattle.std.proofs.lemmas.Bool.{cases_eq}
 use Rattle.std.proofs.lemmas.Option.{same_Some, slice_get_within}
-use Rattle.joint_model.specs.Headline.{ResolvesAt, IsCompleteCycle}
+use Rattle.joint_model.specs.Headline.{ResolvesAt, IsCompleteCycle, IsSoundRun, IsCompleteRun}
 use Rattle.joint_model.specs.Joint.{opening}
 use Rattle.joint_model.specs.Linked.{Linkage, MayCome, AllMayCome, opening_linkage, linkage_after, is_joint, joint_projection}
 use Rattle.joint_model.specs.Run.{Moment, IsRunFrom, IsRun}
 use Rattle.joint_model.specs.Told.{Noted}
-use Rattle.joint_laws.specs.RunLaws.{ProjectionIsRun, LinkedIsRun, ProjectionIsSound, LinkedIsSound, ProjectionIsComplete, LinkedIsComplete}
+use Rattle.joint_laws.specs.RunLaws.{ProjectionIsRun, LinkedIsRun, RunIsOne, ProjectionIsSound, LinkedIsSound, EveryRunIsSound, ProjectionIsComplete, LinkedIsComplete, EveryRunIsComplete}
 use Rattle.joint_laws.proofs.Lists.{Contains-nil, Contains-cons_cases}
 use Rattle.joint_laws.proofs.Numbered.{none_some}
 use Rattle.joint_laws.proofs.JointRuns.{Stands, state_of, IsTraced, Enters, by_step, at_rest, enters, projected, Stands-opening, opening-state}
 use Rattle.joint_laws.proofs.JourneyStands.{Journey}
 use Rattle.joint_laws.proofs.JourneyTurns.{moment_of}
 use Rattle.joint_laws.proofs.JourneyEntries.{journey-moves, journey-rests, journey-resolves}
+use Rattle.joint_laws.proofs.OneRun.{one-run}
 use Rattle.joint_laws.proofs.PeerHeaps.{heap-entry}
 use Rattle.joint_laws.proofs.SoundRuns.{is-sound}
 use Rattle.joint_laws.proofs.Watching.{get-more, get-last, push-cases}
@@ -142,6 +143,18 @@ projection_is_complete noted may =
 
 pub linked_is_complete : LinkedIsComplete
 linked_is_complete h noted l = projection_is_complete noted l.lawful
+
+-- there is no other run
+pub run_is_one : RunIsOne
+run_is_one = one-run
+
+pub every_run_is_complete : EveryRunIsComplete
+every_run_is_complete noted run may r =
+    let w = projection_is_complete noted may in
+    subst (λ z. IsSoundRun z × IsCompleteRun z) (one-run (joint_projection noted) w.0 run w.1 r) (w.2, w.3)
+
+pub every_run_is_sound : EveryRunIsSound
+every_run_is_sound noted run may r = (every_run_is_complete noted run may r).0
 
 -- so it is a run, and sound
 pub projection_is_sound : ProjectionIsSound

@@ -55,6 +55,7 @@ pub mod JointRests
 pub mod JointEntries
 pub mod JointRuns
 pub mod RunsAreSound
+pub mod OneRun
 pub mod PeerSince
 pub mod JointSince
 pub mod PeerFreed

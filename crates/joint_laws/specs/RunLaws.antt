@@ -1,5 +1,5 @@
--- The joint projection of each lawful list of entries is a run of the joint machine, and its states are those of the sides.
-use Rattle.std.specs.Prelude.{ℕ, ◌<◌, List, Contains}
+-- The joint projection of each lawful list of entries is a run of the joint machine, the only one, sound and complete.
+use Rattle.std.specs.Prelude.{◌≡◌, ℕ, ◌<◌, List, Contains}
 use Rattle.joint_model.specs.Headline.{SnapsAt, SweepsAt, BeginsAt, IsUnreachedBefore, WasUnreached, IsSoundRun, IsCompleteRun}
 use Rattle.joint_model.specs.Histories.{Finished}
 use Rattle.joint_model.specs.Joint.{object, peer}
@@ -18,6 +18,10 @@ ProjectionIsRun = (noted : List Noted) → AllMayCome opening_linkage noted → 
 -- and so is that of a linked history
 abbrev pub LinkedIsRun : Type 0
 LinkedIsRun = (h : Finished) (noted : List Noted) → IsLinkedBy h noted → HasRun noted
+
+-- a list of entries has one run at most
+abbrev pub RunIsOne : Type 0
+RunIsOne = (entries : List Noted) (run other : List Moment) → IsRun entries run → IsRun entries other → run ≡ other
 
 -- in every run: no row that a snapshot frees was reached just before it
 abbrev pub SnapshotsAreSound : Type 0
@@ -48,3 +52,11 @@ ProjectionIsComplete = (noted : List Noted) → AllMayCome opening_linkage noted
 -- and so is that of a linked history
 abbrev pub LinkedIsComplete : Type 0
 LinkedIsComplete = (h : Finished) (noted : List Noted) → IsLinkedBy h noted → HasCompleteRun noted
+
+-- each run over the joint projection of a lawful list of entries is sound
+abbrev pub EveryRunIsSound : Type 0
+EveryRunIsSound = (noted : List Noted) (run : List Moment) → AllMayCome opening_linkage noted → IsRun (joint_projection noted) run → IsSoundRun run
+
+-- and complete
+abbrev pub EveryRunIsComplete : Type 0
+EveryRunIsComplete = (noted : List Noted) (run : List Moment) → AllMayCome opening_linkage noted → IsRun (joint_projection noted) run → IsSoundRun run × IsCompleteRun run

@@ -1,12 +1,14 @@
 // Laws on runs of the joint machine.
 
-ghost use Rattle.joint_laws.specs.RunLaws.{LinkedIsComplete, LinkedIsRun, LinkedIsSound, ProjectionIsComplete, ProjectionIsRun, ProjectionIsSound, SnapshotsAreSound, SweepsAreSound};
+ghost use Rattle.joint_laws.specs.RunLaws.{EveryRunIsComplete, EveryRunIsSound, LinkedIsComplete, LinkedIsRun, LinkedIsSound, ProjectionIsComplete, ProjectionIsRun, ProjectionIsSound, RunIsOne, SnapshotsAreSound, SweepsAreSound};
 
 /// The joint projection of each lawful list of entries is a run of the joint machine, word by word, whatever entries of other
-/// threads come between those of a cycle or of an operation; so is that of each linked history.
+/// threads come between those of a cycle or of an operation; so is that of each linked history. No list of entries has two
+/// runs, so it is the only one.
 pub fn joint_projection_is_a_run()
     ensures lawful { ProjectionIsRun }
     ensures linked { LinkedIsRun }
+    ensures one { RunIsOne }
 {}
 
 /// In every run, no managed row that a snapshot frees was reached just before it.
@@ -21,16 +23,19 @@ pub fn sweeps_are_sound()
 
 /// The run of each linked history is sound: each candidate that a resolution frees held a handle whose peer a sweep freed, both
 /// unreached at its begin and just before it; each peer that a sweep frees was so; and no managed row that a snapshot or a
-/// resolution frees was reached just before.
+/// resolution frees was reached just before. There is such a run, and every run over the joint projection is so.
 pub fn joint_projection_is_sound()
     ensures lawful { ProjectionIsSound }
     ensures linked { LinkedIsSound }
+    ensures every { EveryRunIsSound }
 {}
 
 /// The run of each linked history is sound, and it is complete: nothing that stays unreached through a cycle is left. Each
 /// candidate that is unreached from the cycle's snapshot to the sweep of its own marking is freed by the resolution, and each
 /// peer that existed when that marking began and is unreached throughout the same entries is freed at the latest by that sweep.
+/// There is such a run, and every run over the joint projection is so.
 pub fn joint_projection_is_complete()
     ensures lawful { ProjectionIsComplete }
     ensures linked { LinkedIsComplete }
+    ensures every { EveryRunIsComplete }
 {}
