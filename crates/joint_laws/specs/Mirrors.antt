@@ -8,10 +8,10 @@ use Rattle.joint_model.specs.Components.{IsContraction, mirror_edges}
 abbrev pub MirrorEdge : List (List ℕ) → List (ℕ × ℕ) → ℕ → ℕ → Type 0
 MirrorEdge comps xrefs a b = Contains (mirror_edges comps xrefs) (a, b)
 
--- wherever a mirror edge leads, a walk leads
+-- a mirror edge joins bridge nodes, and wherever it leads, a walk leads
 abbrev pub MirrorEdgesFollowWalks : (ℕ → Type 0) → (ℕ → ℕ → Type 0) → Type 0
 MirrorEdgesFollowWalks bridge edge = (comps : List (List ℕ)) (xrefs : List (ℕ × ℕ)) → IsContraction bridge edge comps xrefs
-    → (a b : ℕ) → MirrorEdge comps xrefs a b → Reaches edge a b
+    → (a b : ℕ) → MirrorEdge comps xrefs a b → bridge a × bridge b × Reaches edge a b
 
 -- wherever a walk leads from a bridge node to a bridge node, a walk over mirror edges leads
 abbrev pub WalksFollowMirrorEdges : (ℕ → Type 0) → (ℕ → ℕ → Type 0) → Type 0

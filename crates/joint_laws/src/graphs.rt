@@ -10,7 +10,7 @@ pub trait Graph {
     ghost edge: { ℕ → ℕ → Type 0 };
 }
 
-/// Wherever a mirror edge leads from one node to another, so does a walk of the graph.
+/// A mirror edge joins bridge nodes, and wherever it leads from one to another, so does a walk of the graph.
 pub fn mirror_edges_follow_walks<G: Graph>()
     ensures { MirrorEdgesFollowWalks G.bridge G.edge }
 {}
