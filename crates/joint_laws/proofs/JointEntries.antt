@@ -176,7 +176,7 @@ module _ (s : Linkage) (k : Of s) (flags : List Bool) (jm : Option JointMarking)
   outcome (M u) (op.Meet v p h sort n) told e w x after =
       let a : Answered Managed = met r.managed (place u v.0) h.0 sort n (registered r.registry p.0) in
       let m = meet_by-managed r p.0 h.0 a.state a.reply in
-      let twin : registered r.registry p.0 ≡ twin_of j p.0 = sym (twin-same r q ds d k flags ag.removed jm p.0) in
+      let twin : registered r.registry p.0 ≡ twin_of j p.0 = sym (twin-same r q ds d k flags jm p.0) in
       computed (M u) (op.Meet v p h sort n) told (meet_by r p.0 h.0 a.state a.reply).state refl after (goes-as a.state _ m (met-goes_on r.managed (place u v.0) h.0 sort n (registered r.registry p.0) k.managed.managed.places (λ y f. twin-live r p.0 y k.managed f)))
       (record {
         computed = tt;

@@ -71,6 +71,6 @@ reached_is_not_swept noted may i more flags jm f on p w n freed comes e told c =
     (swept-allows (state_at noted (i + more)) n.entry.made.caller n.entry.made.index n.entry.made.op n.entry.made.reply n.entry.made.cites n.told freed e told comes.lawful) c
 
 pub twin_is_registered : TwinIsRegistered
-twin_is_registered noted may i flags jm f p =
+twin_is_registered noted may i flags jm p =
     let s = state_at noted i in
-    twin-same s.managed s.peer s.control.doing s.control.stand (all_kept noted may i) flags f jm p
+    twin-same s.managed s.peer s.control.doing s.control.stand (all_kept noted may i) flags jm p

@@ -105,69 +105,69 @@ module _ (r : ManagedReplay) (s : PeerReplay) (ds : List Doing) (d : Stand) (k :
   pub target-same : (jm : Option JointMarking) (h : ℕ) → joint_target (joint_of r.managed s flags jm) h ≡ table_target s h
   target-same jm h = target-by h (row_of s h) (numbered_at flags h) refl refl
 
-  -- a row is a twin exactly where the registry has it
-  module _ (jm : Option JointMarking) (p : ℕ) where
-    abbrev j : Joint
-    j = joint_of r.managed s flags jm
+-- a row is a twin exactly where the registry has it
+module _ (r : ManagedReplay) (s : PeerReplay) (ds : List Doing) (d : Stand) (k : AreKept r s ds d) (flags : List Bool) (jm : Option JointMarking) (p : ℕ) where
+  abbrev j : Joint
+  j = joint_of r.managed s flags jm
 
-    abbrev issued_by : Option Issued → Bool
-    issued_by o = elim o [ None ↦ false | Some i ↦ is_held i.hold && nat_eq i.peer p ]
+  abbrev issued_by : Option Issued → Bool
+  issued_by o = elim o [ None ↦ false | Some i ↦ is_held i.hold && nat_eq i.peer p ]
 
-    abbrev twin_by : Option ℕ → Bool
-    twin_by o = elim o [ None ↦ false | Some h ↦ issued_by (numbered_at s.peers.issued h) ]
+  abbrev twin_by : Option ℕ → Bool
+  twin_by o = elim o [ None ↦ false | Some h ↦ issued_by (numbered_at s.peers.issued h) ]
 
-    held-true : (x : Hold) (b : Bool) → (is_held x && b) ≡ true → (x ≡ held) × (b ≡ true)
-    held-true held b e = (refl, e)
-    held-true raw b e = (let f : ⊥ = cc in absurd f)
+  held-true : (x : Hold) (b : Bool) → (is_held x && b) ≡ true → (x ≡ held) × (b ≡ true)
+  held-true held b e = (refl, e)
+  held-true raw b e = (let f : ⊥ = cc in absurd f)
 
-    twin-row : (m : ℕ) (o : Option ℕ) → handle_of r.managed m ≡ o → twin_by o ≡ true → IsRowOf r.managed s.peers.issued m p
-    twin-row m None e t = (let f : ⊥ = cc in absurd f)
-    twin-row m (Some h) e t = by (numbered_at s.peers.issued h) refl t
-      where
-        by : (x : Option Issued) → numbered_at s.peers.issued h ≡ x → issued_by x ≡ true → IsRowOf r.managed s.peers.issued m p
-        by None f u = (let g : ⊥ = cc in absurd g)
-        by (Some i) f u = record { handle = h; holds = holds-handle_of r.managed m h k.managed.managed.places e; row = i; is_issued = f; leads = (Decides-eqb i.peer p).0 (held-true i.hold (nat_eq i.peer p) u).1 }
+  twin-row : (m : ℕ) (o : Option ℕ) → handle_of r.managed m ≡ o → twin_by o ≡ true → IsRowOf r.managed s.peers.issued m p
+  twin-row m None e t = (let f : ⊥ = cc in absurd f)
+  twin-row m (Some h) e t = by (numbered_at s.peers.issued h) refl t
+    where
+      by : (x : Option Issued) → numbered_at s.peers.issued h ≡ x → issued_by x ≡ true → IsRowOf r.managed s.peers.issued m p
+      by None f u = (let g : ⊥ = cc in absurd g)
+      by (Some i) f u = record { handle = h; holds = holds-handle_of r.managed m h k.managed.managed.places e; row = i; is_issued = f; leads = (Decides-eqb i.peer p).0 (held-true i.hold (nat_eq i.peer p) u).1 }
 
-    row-twin : (m : ℕ) → IsRowOf r.managed s.peers.issued m p → is_twin j p m ≡ true
-    row-twin m w =
-        let i = k.owners.held_ones m w.handle w.holds in
-        let same : i.0 ≡ w.row = same_Some i.0 w.row (sym i.1 ∙ w.is_issued) in
-        ap twin_by (handle_of-holds r.managed m w.handle w.holds) ∙ (ap issued_by w.is_issued ∙ both w.row.hold (nat_eq w.row.peer p) (ap (λ (z : Issued). z.hold) (sym same) ∙ i.2) ((Decides-eqb w.row.peer p).1 w.leads))
-      where
-        both : (x : Hold) (b : Bool) → x ≡ held → b ≡ true → (is_held x && b) ≡ true
-        both held b e f = f
-        both raw b e f = absurd (let g : raw ≡ held = e in cc)
+  row-twin : (m : ℕ) → IsRowOf r.managed s.peers.issued m p → is_twin j p m ≡ true
+  row-twin m w =
+      let i = k.owners.held_ones m w.handle w.holds in
+      let same : i.0 ≡ w.row = same_Some i.0 w.row (sym i.1 ∙ w.is_issued) in
+      ap twin_by (handle_of-holds r.managed m w.handle w.holds) ∙ (ap issued_by w.is_issued ∙ both w.row.hold (nat_eq w.row.peer p) (ap (λ (z : Issued). z.hold) (sym same) ∙ i.2) ((Decides-eqb w.row.peer p).1 w.leads))
+    where
+      both : (x : Hold) (b : Bool) → x ≡ held → b ≡ true → (is_held x && b) ≡ true
+      both held b e f = f
+      both raw b e f = absurd (let g : raw ≡ held = e in cc)
 
-    twin-registered : (m : ℕ) → is_twin j p m ≡ true → Contains r.registry (p, m)
-    twin-registered m t = k.owners.registered m p (twin-row m (handle_of r.managed m) refl t)
+  twin-registered : (m : ℕ) → is_twin j p m ≡ true → Contains r.registry (p, m)
+  twin-registered m t = k.owners.registered m p (twin-row m (handle_of r.managed m) refl t)
 
-    -- the search finds the one twin
-    finds : (n m : ℕ) (hs : List (Option ℕ)) → is_twin j p n ≡ true → ((x : ℕ) → is_twin j p x ≡ true → x ≡ n) → m ≤ n → n < m + length hs → twin_from j p m hs ≡ Some n
-    finds n m [] t one l u = absurd (omega arith)
-    finds n m (x ∷ hs) t one l u = by (is_twin j p m) refl (λ ne. finds n (m + 1) hs t one (omega (arith, l, ne)) (omega (arith, u)))
-      where
-        by : (b : Bool) → is_twin j p m ≡ b → (m ≢ n → twin_from j p (m + 1) hs ≡ Some n) → (if b then Some m else twin_from j p (m + 1) hs) ≡ Some n
-        by true e rest = ap Some (one m e)
-        by false e rest = elim (cases_eq m n) [
-          | inl same ↦ absurd (let f : true ≡ false = sym t ∙ (ap (is_twin j p) (sym same) ∙ e) in cc)
-          | inr ne ↦ rest ne
-        ]
+  -- the search finds the one twin
+  finds : (n m : ℕ) (hs : List (Option ℕ)) → is_twin j p n ≡ true → ((x : ℕ) → is_twin j p x ≡ true → x ≡ n) → m ≤ n → n < m + length hs → twin_from j p m hs ≡ Some n
+  finds n m [] t one l u = absurd (omega arith)
+  finds n m (x ∷ hs) t one l u = by (is_twin j p m) refl (λ ne. finds n (m + 1) hs t one (omega (arith, l, ne)) (omega (arith, u)))
+    where
+      by : (b : Bool) → is_twin j p m ≡ b → (m ≢ n → twin_from j p (m + 1) hs ≡ Some n) → (if b then Some m else twin_from j p (m + 1) hs) ≡ Some n
+      by true e rest = ap Some (one m e)
+      by false e rest = elim (cases_eq m n) [
+        | inl same ↦ absurd (let f : true ≡ false = sym t ∙ (ap (is_twin j p) (sym same) ∙ e) in cc)
+        | inr ne ↦ rest ne
+      ]
 
-    finds_none : (m : ℕ) (hs : List (Option ℕ)) → ((x : ℕ) → is_twin j p x ≡ true → ⊥) → twin_from j p m hs ≡ None
-    finds_none m [] none = refl
-    finds_none m (x ∷ hs) none = by (is_twin j p m) refl (finds_none (m + 1) hs none)
-      where
-        by : (b : Bool) → is_twin j p m ≡ b → twin_from j p (m + 1) hs ≡ None → (if b then Some m else twin_from j p (m + 1) hs) ≡ None
-        by true e rest = absurd (none m e)
-        by false e rest = rest
+  finds_none : (m : ℕ) (hs : List (Option ℕ)) → ((x : ℕ) → is_twin j p x ≡ true → ⊥) → twin_from j p m hs ≡ None
+  finds_none m [] none = refl
+  finds_none m (x ∷ hs) none = by (is_twin j p m) refl (finds_none (m + 1) hs none)
+    where
+      by : (b : Bool) → is_twin j p m ≡ b → twin_from j p (m + 1) hs ≡ None → (if b then Some m else twin_from j p (m + 1) hs) ≡ None
+      by true e rest = absurd (none m e)
+      by false e rest = rest
 
-    twin-by : (o : Option ℕ) → registered r.registry p ≡ o → twin_of j p ≡ o
-    twin-by (Some m) e =
-        let c = registered-some r.registry p m e in
-        let w = k.owners.pairs p m c in
-        let l = numbered-within r.managed.held m (Some w.handle) w.holds.held in
-        finds m 1 r.managed.held (row-twin m w) (λ x t. k.managed.one_row p x m (twin-registered x t) c) l.0 (omega (arith, l.1))
-    twin-by None e = finds_none 1 r.managed.held (λ x t. registered-none r.registry p x e (twin-registered x t))
+  twin-by : (o : Option ℕ) → registered r.registry p ≡ o → twin_of j p ≡ o
+  twin-by (Some m) e =
+      let c = registered-some r.registry p m e in
+      let w = k.owners.pairs p m c in
+      let l = numbered-within r.managed.held m (Some w.handle) w.holds.held in
+      finds m 1 r.managed.held (row-twin m w) (λ x t. k.managed.one_row p x m (twin-registered x t) c) l.0 (omega (arith, l.1))
+  twin-by None e = finds_none 1 r.managed.held (λ x t. registered-none r.registry p x e (twin-registered x t))
 
-    pub twin-same : twin_of j p ≡ registered r.registry p
-    twin-same = twin-by (registered r.registry p) refl
+  pub twin-same : twin_of j p ≡ registered r.registry p
+  twin-same = twin-by (registered r.registry p) refl

@@ -77,5 +77,4 @@ ReachedIsNotSwept = (noted : List Noted) → AllMayCome opening_linkage noted �
 -- the joint twin of a peer is what the registry answers, at every state
 abbrev pub TwinIsRegistered : Type 0
 TwinIsRegistered = (noted : List Noted) → AllMayCome opening_linkage noted → (i : ℕ) (flags : List Bool) (jm : Option JointMarking)
-    → AreFlags (state_at noted i).managed.managed (state_at noted i).peer flags
     → (p : ℕ) → twin_of (joint_of (state_at noted i).managed.managed (state_at noted i).peer flags jm) p ≡ registered (state_at noted i).managed.registry p

@@ -35,7 +35,7 @@ pub fn reached_peers_are_spared()
     ensures unswept { ReachedIsNotSwept }
 {}
 
-/// The joint twin of a peer is what the registry answers.
+/// The joint twin of a peer is what the registry answers, at every state, whichever handles are flagged as removed.
 pub fn joint_twin_is_registered()
     ensures { TwinIsRegistered }
 {}
