@@ -1,4 +1,5 @@
--- Nothing that a snapshot or a resolution frees was reached, in any state of the joint machine.
+-- Nothing that a snapshot frees is reached, in any joint state; and nothing that a resolution frees is, in any joint state
+-- whose managed part keeps what it keeps at every state of a lawful list of entries.
 use Rattle.std.specs.Prelude.{◌≡◌, ℕ, List, Contains, Some}
 use Rattle.joint_model.specs.Cycles.{IsSnapshot, IsResolution}
 use Rattle.joint_model.specs.Joint.{Joint, IsReached, object}
@@ -10,7 +11,8 @@ use Rattle.joint_laws.specs.ManagedInvariants.{IsManagedKept}
 abbrev pub SnapshotFreesUnreached : Type 0
 SnapshotFreesUnreached = (j : Joint) (k m : ℕ) (freed candidates dead : List ℕ) → IsSnapshot j.managed k freed candidates dead → Contains freed m → IsReached j (object m) → ⊥
 
--- no row that a resolution frees is reached, where the candidates that stay are those whose peer is unfreed
+-- no row that a resolution frees is reached, where the managed part is kept, and the candidates that stay are those whose
+-- peer is unfreed
 abbrev pub ResolutionFreesUnreached : Type 0
 ResolutionFreesUnreached = (j : Joint) (c : OpenCycle) (m : ℕ) (freed : List ℕ) → IsManagedKept j.managed → j.managed.cycle ≡ Some c
     → IsResolution j.managed c.dead (IsKept j c) freed → Contains freed m → IsReached j (object m) → ⊥

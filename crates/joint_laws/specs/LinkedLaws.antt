@@ -56,7 +56,7 @@ abbrev pub AdoptedPeerHasNoTwin : Type 0
 AdoptedPeerHasNoTwin = (noted : List Noted) → AllMayCome opening_linkage noted → (i : ℕ) (n : Noted) (v : Var) (kind : Kind) (fields : ℕ) (p : PNum) (h : HNum)
     → MayCome (state_at noted i) n → n.entry.made.op ≡ op.Adopt v kind fields p h → registered (state_at noted i).managed.registry p.0 ≡ None
 
--- while a marking is open each peer that the joint graph reaches is spared by its sweep, at every state
+-- at every state at which a marking is open, it spares each peer that the joint graph reaches
 abbrev pub ReachedIsSpared : Type 0
 ReachedIsSpared = (noted : List Noted) → AllMayCome opening_linkage noted → (i : ℕ) (flags : List Bool) (jm : Option JointMarking) (mk : Marking)
     → AreFlags (state_at noted i).managed.managed (state_at noted i).peer flags → (state_at noted i).peer.marking ≡ Some mk
@@ -74,7 +74,7 @@ ReachedIsNotSwept = (noted : List Noted) → AllMayCome opening_linkage noted �
     → (p : ℕ) → IsReached (joint_of (state_at noted i).managed.managed (state_at noted i).peer flags jm) (peer p)
     → (n : Noted) (freed : List ℕ) → MayCome (state_at noted (i + more)) n → n.entry.made.op ≡ op.Sweep → n.told ≡ sweep_of freed → Contains freed p → ⊥
 
--- the joint twin of a peer is what the registry answers, at every state
+-- the joint twin of a peer is what the registry answers, at every state, whatever the flags
 abbrev pub TwinIsRegistered : Type 0
 TwinIsRegistered = (noted : List Noted) → AllMayCome opening_linkage noted → (i : ℕ) (flags : List Bool) (jm : Option JointMarking)
     → (p : ℕ) → twin_of (joint_of (state_at noted i).managed.managed (state_at noted i).peer flags jm) p ≡ registered (state_at noted i).managed.registry p

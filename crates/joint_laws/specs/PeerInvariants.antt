@@ -29,8 +29,8 @@ pub record AreHandlesKept (h : Heap) (issued : List Issued) (table : List (Optio
   pub raws : (n : ℕ) (row : TableRow) (i : Issued) → IsTabled table n row → IsIssued issued n i → i.hold ≡ raw → row.strength ≡ i.strength
   pub named : (n : ℕ) → Contains names (Some n) → (i : Issued) × IsIssued issued n i × (i.hold ≡ raw)
 
--- mirrored references lead from unfreed peers to unfreed peers, and stand only while a cycle is mirrored; only held handles
--- are weakened
+-- the source of a mirrored reference was made, and where it is unfreed so is the target; references stand only while a cycle
+-- is mirrored; and only held handles are weakened
 pub record AreReferencesKept (h : Heap) (issued : List Issued) (refs : List (ℕ × ℕ)) (mirror : Option Mirror) : Type 0 where
   pub made : (p q : ℕ) → Contains refs (p, q) → IsMade h p
   pub live : (p q : ℕ) → Contains refs (p, q) → IsLive h p → IsLive h q

@@ -2,8 +2,9 @@
 
 ghost use Rattle.joint_laws.specs.ManagedLaws.{DeadPartIsFrozen, DeadPartIsMirrored, ManagedIsKept};
 
-/// At every state of a lawful list of entries no freed object is named, an open cycle's dead part is cut off, and each
-/// handle is held by one row alone, whose pair is the only one of its peer.
+/// At every state of a lawful list of entries no slot, no pin and no field of an unfreed row names a freed row; an open cycle's
+/// dead part is cut off; each handle that a row holds was adopted, and is held by that row alone; each pair of the registry has
+/// a row that holds a handle; and no peer and no row stands in two pairs.
 pub fn managed_side_is_kept()
     ensures { ManagedIsKept }
 {}
@@ -14,7 +15,8 @@ pub fn dead_part_is_frozen()
     ensures { DeadPartIsFrozen }
 {}
 
-/// Between the candidates of an open cycle the mirror edges of its dead part lead exactly where managed fields lead.
+/// Between the candidates of an open cycle the mirror edges of its dead part lead exactly where managed fields lead, in any
+/// managed state that keeps what `managed_side_is_kept` says of every state.
 pub fn dead_part_is_mirrored()
     ensures { DeadPartIsMirrored }
 {}
