@@ -6,8 +6,9 @@ use Rattle.std.specs.List.{All, Contains, filter, list_any, list_all, flat_map}
 use Rattle.std.proofs.lemmas.Bool.{false≢true, or_cases, and_parts, and_from, cases_eq, ltb-true}
 use Rattle.std.proofs.lemmas.Bool.Decides.{Decides-eqb}
 use Rattle.std.proofs.lemmas.List.Elements.{All-nil, All-cons, All-head, All-tail}
-use Rattle.joint_model.specs.Walks.{Walks, Reaches, Reached}
+use Rattle.joint_model.specs.Walks.{Reaches, Reached}
 use Rattle.joint_model.specs.Components.{Rises}
+use Rattle.joint_model.proofs.WalkLemmas.{Reached-start, Reached-then, Reached-keeps}
 
 -- whether the list has the row
 abbrev pub mem : {A : Type 0} → (A → A → Bool) → List A → A → Bool
@@ -140,29 +141,16 @@ module _ {A : Type 0} (eq : A → A → Bool) (laws : (a b : A) → Decides (eq 
       (λ e. led next seen xs x y p.1 e n)
       (or_cases (eq x z) (mem eq xs x) h)
 
--- what holds of a row, and with each row of those that it leads to, holds along a walk
-pub walk_keeps : {A : Type 0} (edge : A → A → Type 0) (P : A → Type 0) → ((x y : A) → P x → edge x y → P y) → (x : A) (rows : List A) (y : A) → Walks edge x rows y → P x → P y
-walk_keeps edge P step x [] y w p = subst P w p
-walk_keeps edge P step x (z ∷ zs) y w p = walk_keeps edge P step z zs y w.1 (step x z p w.0)
-
--- one more edge at the end of a walk
-pub walk_more : {A : Type 0} (edge : A → A → Type 0) (x : A) (rows : List A) (y z : A) → Walks edge x rows y → edge y z → Walks edge x (rows ++ z ∷ []) z
-walk_more edge x [] y z w e = (subst (λ t. edge t z) (sym w) e, refl)
-walk_more edge x (r ∷ rows) y z w e = (w.0, walk_more edge r rows y z w.1 e)
-
-pub Reached-more : {A : Type 0} (start : A → Type 0) (edge : A → A → Type 0) (x y : A) → Reached start edge x → edge x y → Reached start edge y
-Reached-more start edge x y r e = record { root = r.root; starts = r.starts; reaches = record { rows = r.reaches.rows ++ y ∷ []; walk = walk_more edge r.root r.reaches.rows x y r.reaches.walk e } }
-
 -- reachability is decided by what is computed to be reached, where that is closed
 pub Decides-Reached : {A : Type 0} (eq : A → A → Bool) (laws : (a b : A) → Decides (eq a b) (a ≡ b)) (start : A → Type 0) (edge : A → A → Type 0) (next : A → List A) (n : ℕ) (roots : List A)
     → ((x : A) → Decides (mem eq roots x) (start x)) → ((x y : A) → Decides (mem eq (next x) y) (edge x y))
     → is_closed eq next roots (reach eq next n roots) ≡ true → (y : A) → Decides (mem eq (reach eq next n roots) y) (Reached start edge y)
 Decides-Reached eq laws start edge next n roots from to closed y =
     let parts = and_parts (covers eq (reach eq next n roots) roots) (leads_into eq next (reach eq next n roots) (reach eq next n roots)) closed in (
-      reach_keeps eq laws next (Reached start edge) (λ x z r m. Reached-more start edge x z r ((to x z).0 m)) n roots
-          (λ z m. record { root = z; starts = (from z).0 m; reaches = record { rows = []; walk = refl } }) y,
-      λ r. walk_keeps edge (λ z. mem eq (reach eq next n roots) z ≡ true) (λ x z m e. led eq laws next (reach eq next n roots) (reach eq next n roots) x z parts.1 m ((to x z).1 e))
-          r.root r.reaches.rows y r.reaches.walk (covered eq laws (reach eq next n roots) roots r.root parts.0 ((from r.root).1 r.starts)),
+      reach_keeps eq laws next (Reached start edge) (λ x z r m. Reached-then start edge x z r ((to x z).0 m)) n roots (λ z m. Reached-start start edge z ((from z).0 m)) y,
+      Reached-keeps start edge (λ z. mem eq (reach eq next n roots) z ≡ true)
+          (λ x s. covered eq laws (reach eq next n roots) roots x parts.0 ((from x).1 s))
+          (λ x z e m. led eq laws next (reach eq next n roots) (reach eq next n roots) x z parts.1 m ((to x z).1 e)) y,
     )
 
 -- the same from one row
