@@ -1,5 +1,5 @@
 -- A weak name gives the peer of a candidate back during the marking of its cycle: its entries may come when they come.
-use Rattle.std.proofs.Common.{[], ◌∷◌, ◌++◌, refl, arith, inl, inr}
+use Rattle.std.proofs.Common.{[], ◌∷◌, refl, arith, inr}
 use Rattle.joint_model.specs.declared.names.Sort.TheVariants.{User}
 use Rattle.joint_model.specs.Linked.{opening_linkage, AllMayCome}
 use Rattle.joint_model.specs.Peers.{held, strong}
