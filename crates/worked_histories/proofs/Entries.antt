@@ -23,6 +23,15 @@ pub AllMayCome-append : (s : Linkage) (xs ys : List Noted) → AllMayCome s xs �
 AllMayCome-append s [] ys p q = q
 AllMayCome-append s (x ∷ xs) ys p q = (p.0, AllMayCome-append (linkage_after s x) xs ys p.1 q)
 
+-- what begins a lawful list is lawful, and what follows it is lawful from there
+pub AllMayCome-front : (s : Linkage) (xs ys : List Noted) → AllMayCome s (xs ++ ys) → AllMayCome s xs
+AllMayCome-front s [] ys p = tt
+AllMayCome-front s (x ∷ xs) ys p = (p.0, AllMayCome-front (linkage_after s x) xs ys p.1)
+
+pub AllMayCome-back : (s : Linkage) (xs ys : List Noted) → AllMayCome s (xs ++ ys) → AllMayCome (replayed s xs) ys
+AllMayCome-back s [] ys p = p
+AllMayCome-back s (x ∷ xs) ys p = AllMayCome-back (linkage_after s x) xs ys p.1
+
 -- two peer threads are different
 pub different : (a b : ℕ) → nat_eq a b ≡ false → P a ≡ P b → ⊥
 different a b h e = let same : a ≡ b = cc in true≢false (sym ((Decides-eqb a b).1 same) ∙ h)

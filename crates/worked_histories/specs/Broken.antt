@@ -9,39 +9,37 @@ use Rattle.joint_model.specs.declared.events.Op.TheVariants as op
 use Rattle.joint_model.specs.declared.events.Reply.{Reply}
 use Rattle.joint_model.specs.declared.events.Reply.TheVariants as says
 use Rattle.joint_model.specs.Linked.{Linkage, opening_linkage, replayed, AllMayCome, MayCome}
+use Rattle.joint_model.specs.PeerReplay.{MayClear}
 use Rattle.joint_model.specs.Told.{Told, nothing, snap_of, contraction_of, references_of, sweep_of, Noted}
 use Rattle.worked_histories.specs.Notes.{note, var, static_no, name_no, object_no, peer_no, handle_no, cycle_no, marking_no, span}
-use Rattle.worked_histories.specs.Phases.{before_mirror}
+use Rattle.worked_histories.specs.FirstSteps.{two_made}
+use Rattle.worked_histories.specs.Phases.{reached_cycle, dead_snap, weakened_both, swept_both, restored_first}
 
--- of two linked candidates both handles are weakened, and the marking has begun
-abbrev pub weakened_both : List Noted
-weakened_both =
-    note 16 C 7 (op.Mirror (cycle_no 2)) (says.Refs 1) (Some 14) (references_of ((1, 2) ∷ []))
-    ∷ note 17 C 7 (op.Weaken (handle_no 1)) says.Ok (Some 14) nothing
-    ∷ note 18 C 7 (op.Weaken (handle_no 2)) says.Ok (Some 14) nothing
-    ∷ note 19 C 7 op.Begin (says.Mark (marking_no 2)) None nothing
-    ∷ []
+-- the history of two linked objects until its own sweep, and until the last restore
+abbrev pub until_own_sweep : List Noted
+until_own_sweep = two_made ++ (reached_cycle ++ (dead_snap ++ weakened_both))
 
--- both peers are freed, and the first handle is restored
-abbrev pub restored_first : List Noted
-restored_first =
-    note 20 C 7 op.Sweep (says.Swept (marking_no 2) (span 0 2)) None (sweep_of (1 ∷ 2 ∷ []))
-    ∷ note 21 C 7 (op.Restore (handle_no 1)) says.Cleared None nothing
-    ∷ []
+abbrev pub until_last_restore : List Noted
+until_last_restore = until_own_sweep ++ restored_first
 
 abbrev pub before_own_sweep : Linkage
-before_own_sweep = replayed before_mirror weakened_both
+before_own_sweep = replayed opening_linkage until_own_sweep
 
 abbrev pub before_last_restore : Linkage
-before_last_restore = replayed before_own_sweep restored_first
+before_last_restore = replayed opening_linkage until_last_restore
 
--- a sweep that may come there frees both peers: a weak handle is no root
-abbrev pub SweepsUnderWeak : Type 0
-SweepsUnderWeak = (freed : List ℕ) (reply : Reply) → MayCome before_own_sweep (note 20 C 7 op.Sweep reply None (sweep_of freed)) → Contains freed 1 × Contains freed 2
+-- each of these entries may come, then a sweep that frees both peers may, and none that doesn't: a weak handle is no root
+pub record SweepsUnderWeak : Type 0 where
+  pub lawful : AllMayCome opening_linkage until_own_sweep
+  pub comes : MayCome before_own_sweep swept_both
+  pub both : (freed : List ℕ) (reply : Reply) → MayCome before_own_sweep (note 20 C 7 op.Sweep reply None (sweep_of freed)) → Contains freed 1 × Contains freed 2
 
--- the mirror isn't cleared before the last restore
-abbrev pub ClearsLast : Type 0
-ClearsLast = (reply : Reply) (told : Told) → MayCome before_last_restore (note 22 C 7 (op.Clear (cycle_no 2)) reply None told) → ⊥
+-- each of these entries may come, and then the mirror isn't cleared: the driver's order has a restore left, and the peers'
+-- own list a weakened handle that isn't restored
+pub record ClearsLast : Type 0 where
+  pub lawful : AllMayCome opening_linkage until_last_restore
+  pub not_cleared : (reply : Reply) (told : Told) → MayCome before_last_restore (note 22 C 7 (op.Clear (cycle_no 2)) reply None told) → ⊥
+  pub not_by_peers : MayClear before_last_restore.peer 2 → ⊥
 
 -- a candidate whose peer has a weak name; its handle is weakened, and its cycle's marking has begun
 abbrev pub weakly_named : List Noted

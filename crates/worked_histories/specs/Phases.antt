@@ -31,18 +31,33 @@ dead_snap =
     ∷ note 15 C 7 (op.Contract (cycle_no 2)) (says.Sccs 2 1) None (contraction_of ((1 ∷ []) ∷ (2 ∷ []) ∷ []) ((0, 1) ∷ []))
     ∷ []
 
--- the phases on the peer heap
-abbrev pub dead_peers : List Noted
-dead_peers =
+-- both handles are weakened, and the marking has begun
+abbrev pub weakened_both : List Noted
+weakened_both =
     note 16 C 7 (op.Mirror (cycle_no 2)) (says.Refs 1) (Some 14) (references_of ((1, 2) ∷ []))
     ∷ note 17 C 7 (op.Weaken (handle_no 1)) says.Ok (Some 14) nothing
     ∷ note 18 C 7 (op.Weaken (handle_no 2)) says.Ok (Some 14) nothing
     ∷ note 19 C 7 op.Begin (says.Mark (marking_no 2)) None nothing
-    ∷ note 20 C 7 op.Sweep (says.Swept (marking_no 2) (span 0 2)) None (sweep_of (1 ∷ 2 ∷ []))
-    ∷ note 21 C 7 (op.Restore (handle_no 1)) says.Cleared None nothing
-    ∷ note 22 C 7 (op.Restore (handle_no 2)) says.Cleared None nothing
+    ∷ []
+
+-- the sweep of that marking frees both peers
+abbrev pub swept_both : Noted
+swept_both = note 20 C 7 op.Sweep (says.Swept (marking_no 2) (span 0 2)) None (sweep_of (1 ∷ 2 ∷ []))
+
+-- both peers are freed, and the first handle is restored
+abbrev pub restored_first : List Noted
+restored_first = swept_both ∷ note 21 C 7 (op.Restore (handle_no 1)) says.Cleared None nothing ∷ []
+
+-- so is the second handle, and the mirror is cleared
+abbrev pub restored_last : List Noted
+restored_last =
+    note 22 C 7 (op.Restore (handle_no 2)) says.Cleared None nothing
     ∷ note 23 C 7 (op.Clear (cycle_no 2)) says.Ok None nothing
     ∷ []
+
+-- the phases on the peer heap
+abbrev pub dead_peers : List Noted
+dead_peers = weakened_both ++ (restored_first ++ restored_last)
 
 -- both objects are freed
 abbrev pub dead_end : List Noted

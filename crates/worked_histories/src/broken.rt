@@ -1,6 +1,7 @@
 // What no lawful history has.
 
 ghost use Rattle.worked_histories.specs.Broken.{SweepsUnderWeak, ClearsLast, KeepsPromoted};
+ghost use Rattle.worked_histories.specs.PlainBetween.{MirrorHoldsSecond};
 
 /// The own sweep of a cycle frees both peers that only weak handles and one another lead to: a sweep that takes a weak
 /// handle for a root isn't lawful.
@@ -11,6 +12,12 @@ pub fn weak_handle_is_no_root()
 /// The mirror stands until the last restore: clearing it before isn't lawful.
 pub fn mirror_outlasts_the_restores()
     ensures { ClearsLast }
+{}
+
+/// A mirror holds the second of two peers for the first, which a static holds: none that leaves the reference out is lawful,
+/// and no sweep that frees the second peer, which is what the sweep would do without the reference.
+pub fn mirror_holds_the_second_peer()
+    ensures { MirrorHoldsSecond }
 {}
 
 /// A peer that a weak name gave back during a marking isn't freed by its sweep, also where no slot keeps it.

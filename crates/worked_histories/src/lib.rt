@@ -12,7 +12,10 @@ mod histories;
 mod readings;
 mod runs;
 
-pub use broken::{mirror_outlasts_the_restores, promoted_peer_is_kept, weak_handle_is_no_root};
+pub use broken::{
+    mirror_holds_the_second_peer, mirror_outlasts_the_restores, promoted_peer_is_kept,
+    weak_handle_is_no_root,
+};
 pub use first_steps::{reached_object_stays, set_answers_ok, two_linked_objects};
 pub use further::{
     abandoned_is_lawful, ended_marking_is_lawful, first_names_is_lawful, global_names_is_lawful,
