@@ -13,7 +13,7 @@ use Rattle.joint_model.specs.PeerReplay.{MayClear}
 use Rattle.joint_model.specs.Told.{Told, nothing, snap_of, contraction_of, references_of, sweep_of, Noted}
 use Rattle.worked_histories.specs.Notes.{note, var, static_no, name_no, object_no, peer_no, handle_no, cycle_no, marking_no, span}
 use Rattle.worked_histories.specs.FirstSteps.{two_made}
-use Rattle.worked_histories.specs.Phases.{reached_cycle, dead_snap, weakened_both, swept_both, restored_first}
+use Rattle.worked_histories.specs.Phases.{reached_cycle, dead_snap, weakened_both, swept_both, restored_first, restored_last}
 
 -- the history of two linked objects until its own sweep, and until the last restore
 abbrev pub until_own_sweep : List Noted
@@ -35,11 +35,12 @@ pub record SweepsUnderWeak : Type 0 where
   pub both : (freed : List ℕ) (reply : Reply) → MayCome before_own_sweep (note 20 C 7 op.Sweep reply None (sweep_of freed)) → Contains freed 1 × Contains freed 2
 
 -- each of these entries may come, and then the mirror isn't cleared: the driver's order has a restore left, and the peers'
--- own list a weakened handle that isn't restored
+-- own list a weakened handle that isn't restored; after the last restore it is cleared
 pub record ClearsLast : Type 0 where
   pub lawful : AllMayCome opening_linkage until_last_restore
   pub not_cleared : (reply : Reply) (told : Told) → MayCome before_last_restore (note 22 C 7 (op.Clear (cycle_no 2)) reply None told) → ⊥
   pub not_by_peers : MayClear before_last_restore.peer 2 → ⊥
+  pub then_cleared : AllMayCome before_last_restore restored_last
 
 -- a candidate whose peer has a weak name; its handle is weakened, and its cycle's marking has begun
 abbrev pub weakly_named : List Noted

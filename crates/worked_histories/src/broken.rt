@@ -9,13 +9,14 @@ pub fn weak_handle_is_no_root()
     ensures { SweepsUnderWeak }
 {}
 
-/// The mirror stands until the last restore: clearing it before isn't lawful.
+/// The mirror stands until the last restore: clearing it before isn't lawful, neither in the driver's order nor for the peers'
+/// own list; clearing it after is.
 pub fn mirror_outlasts_the_restores()
     ensures { ClearsLast }
 {}
 
-/// A mirror holds the second of two peers for the first, which a static holds: none that leaves the reference out is lawful,
-/// and no sweep that frees the second peer, which is what the sweep would do without the reference.
+/// A mirrored reference keeps the second of two peers, of which a static has the first: a mirror that leaves it out isn't
+/// lawful, nor a later sweep that frees the second peer, which is what a sweep without the reference would do.
 pub fn mirror_holds_the_second_peer()
     ensures { MirrorHoldsSecond }
 {}

@@ -4,9 +4,9 @@ use Rattle.std.specs.List.{All, Contains}
 use Rattle.std.proofs.lemmas.List.Elements.{All-head, All-tail}
 use Rattle.joint_model.specs.Linked.{opening_linkage}
 use Rattle.joint_model.specs.PeerReplay.{Mirror}
-use Rattle.worked_histories.specs.Broken.{until_last_restore}
+use Rattle.worked_histories.specs.Broken.{until_last_restore, before_last_restore}
 use Rattle.worked_histories.specs.Phases.{restored_last, dead_end}
-use Rattle.worked_histories.proofs.Entries.{absent, AllMayCome-front}
+use Rattle.worked_histories.proofs.Entries.{absent, AllMayCome-front, AllMayCome-back}
 use Rattle.worked_histories.proofs.TwoPhased.{two_phased-lawful}
 use Rattle.worked_histories.proofs.broken.mirror_outlasts_the_restores.Goals as goal
 
@@ -25,4 +25,5 @@ returns c = record {
   lawful = AllMayCome-front opening_linkage until_last_restore (restored_last ++ dead_end) two_phased-lawful;
   not_cleared = λ reply told h. absurd (omega (arith, h.order.1));
   not_by_peers = λ may. unrestored may.mirror (unrestored_some may.mirror may.stands) may.all;
+  then_cleared = AllMayCome-front before_last_restore restored_last dead_end (AllMayCome-back opening_linkage until_last_restore (restored_last ++ dead_end) two_phased-lawful);
 }
