@@ -32,7 +32,7 @@ use Rattle.joint_model.specs.Peers.{Peers, Issued, held, strong, pair_made, issu
 use Rattle.joint_model.specs.PeerReplay.{fresh_row}
 use Rattle.joint_model.specs.Told.{Noted, nothing}
 use Rattle.managed_heap.proofs.Replays.{step}
-use Rattle.managed_heap.specs.Sides.{Side as ManagedShown, managed_event, step_made}
+use Rattle.managed_heap.specs.Sides.{Side as ManagedShown, Adopts, managed_event, step_made}
 use Rattle.peer_heap.specs.Replays.{Replays}
 use Rattle.peer_heap.specs.Sides.{Side as PeerShown}
 use Rattle.peer_heap.proofs.Replays.{make}
@@ -42,7 +42,7 @@ use Rattle.bridge_run.specs.Runs.{Both, IsTold, IsAt, AreIssued, entries_of}
 use Rattle.bridge_run.specs.Wholes.{Ran, as_managed, as_peers}
 use Rattle.bridge_run.proofs.ManagedEvents.{test-cases}
 use Rattle.bridge_run.proofs.Ran.{Ran-peer}
-use Rattle.bridge_run.proofs.Stepping.{step-ran, event-issued}
+use Rattle.bridge_run.proofs.Stepping.{step-ran, event-issued, named-push}
 use Rattle.bridge_run.proofs.Telling.{told-push, IsAt-thread, done-start, doing-now}
 
 -- the entry of a make
@@ -134,6 +134,7 @@ make-told m p p' count count' k index sort n r noted end thread fields is table 
       next = first_after end note;
       told = told-push noted end _ (record { managed = m; peer = p'; count = count' }) note told may grown told.managed replays.shows adds.drawn.1
           (All-weaker (λ h. h ≤ length p.peers.issued) (λ h. h ≤ length p'.peers.issued) (λ h le. omega (arith, le, pair.longer)) end.base.managed.adopted told.adopted)
+          (All-weaker (λ (x : Entry). (h : ℕ) → Adopts x.made.op h → h ≤ length p.peers.issued) (λ (x : Entry). (h : ℕ) → Adopts x.made.op h → h ≤ length p'.peers.issued) (λ x old h names. (let le = old h names in omega (arith, le, pair.longer))) m.entries told.named)
           (λ x h at. (let i = told.held x h at in (i.0, omega (arith, i.1, pair.longer)))) (pair.leads told.leads);
       at = IsAt-thread index idle end.base.control k (doing_after adds.number index (op.Make sort n) r) (done-make adds.number index sort n r) at;
       place = record { caller = refl; line = refl };
@@ -207,7 +208,8 @@ make-adopted m m' p count count' noted k index v kind fields sort n q h r cites 
     let after : IsTold (before ++ note ∷ []) (first_after end note) (record { managed = m'; peer = p; count = count' }) =
     told-push before end _ (record { managed = m'; peer = p; count = count' }) note told may grown
     replays.state told.peer adds.drawn.1
-    (adopt-adopted (λ g. g ≤ length p.peers.issued) end.base.managed q.0 h.0 a.state a.reply told.adopted (t.issued q h refl).1) held told.leads in
+    (adopt-adopted (λ g. g ≤ length p.peers.issued) end.base.managed q.0 h.0 a.state a.reply told.adopted (t.issued q h refl).1)
+    (named-push m m' e p.peers.issued adds.added told.named (λ g names. (let same : h.0 ≡ g = names in omega (arith, same, (t.issued q h refl).1)))) held told.leads in
     let here : IsOnLine index (M k) e = record { caller = refl; line = refl } in (
       first ∷ note ∷ [],
       first_after end note,
@@ -248,3 +250,7 @@ whole-goes m m' p p' count between count' C index v kind fields sort n q h r cit
 whole-goes m m' p p' count between count' (M k) index v kind fields sort n q h r cites thread line is table marking markings adds cited adopts_it adopt noted end told at =
     let made_it = make-told m p p' count between k index sort n (says.Made q h) noted end thread line.1.2 is table marking markings adds told at in
     make-adopted m m' p' between count' noted k index v kind fields sort n q h r cites p.entries thread line made_it (cited p.entries made_it.entry made_it.last) adopts_it adopt
+
+-- the handle that a make gives is the next
+pub make-next : (p p' : Peers) (sort : Sort) (n : ℕ) (q : PNum) (h : HNum) → answer (says.Made q h) p' ≡ pair_made p sort n → h.0 ≡ length p.issued + 1
+make-next p p' sort n q h is = ((subst (IsPair [] [] p) (sym is) (pair-is [] [] p sort n)).given q h refl).0

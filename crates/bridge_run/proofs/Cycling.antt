@@ -28,7 +28,7 @@ use Rattle.managed_heap.specs.declared.side.Opened.{Opened as Opening}
 use Rattle.managed_heap.specs.declared.side.ResolveOut.{ResolveOut}
 use Rattle.managed_heap.specs.Replays.{Replays as Replayed}
 use Rattle.managed_heap.proofs.Replays.{snap, resolve}
-use Rattle.managed_heap.specs.Sides.{Side as ManagedShown, snap_made, resolve_made}
+use Rattle.managed_heap.specs.Sides.{Side as ManagedShown, Adopts, snap_made, resolve_made}
 use Rattle.peer_heap.specs.Replays.{Replays}
 use Rattle.peer_heap.specs.Sides.{Side as PeerShown, Begun}
 use Rattle.peer_heap.proofs.Replays.{begin, sweep}
@@ -40,6 +40,7 @@ use Rattle.bridge_run.specs.Runs.{Both, IsTold, IsAt, AreIssued, entries_of}
 use Rattle.bridge_run.specs.Wholes.{Ran, as_object, as_managed, as_peer, as_peers}
 use Rattle.bridge_run.proofs.Ran.{Ran-managed, Ran-peer}
 use Rattle.bridge_run.proofs.Spans.{swept-sound, snapped-sound, resolved-sound}
+use Rattle.bridge_run.proofs.Stepping.{named-push}
 use Rattle.bridge_run.proofs.Telling.{told-push, IsAt-driver}
 
 -- the entries of the driver's marking and its sweep
@@ -125,6 +126,7 @@ snap-goes m m' p count count' index out s noted end told at =
       note ∷ [],
       first_after end note,
       told-push noted end _ b' note told may grown replays.state told.peer s.drawn.1 told.adopted
+          (named-push m m' e p.peers.issued s.added told.named (λ h no. absurd no))
           (subst (λ l. AreIssued l p.peers.issued) (ap (λ (x : Managed). x.held) (sym s.state)) told.held) told.leads,
       record {
         opened = record { cycle = out.cycle.0; snap = out.number };
@@ -166,6 +168,7 @@ begin-goes m p p' count count' index j dead unreached closed number marking mark
       first_after end note,
       told-push noted end _ b' note told may grown told.managed replays.shows adds.drawn.1
           (subst (λ (x : Peers). All (λ h. h ≤ length x.issued) end.base.managed.adopted) (sym peers) told.adopted)
+          (subst (λ (x : Peers). All (λ e. (h : ℕ) → Adopts e.made.op h → h ≤ length x.issued) m.entries) (sym peers) told.named)
           (subst (λ (x : Peers). AreIssued m.managed.held x.issued) (sym peers) told.held)
           (subst (λ (x : Peers). All (λ i. IsMade x.heap i.peer) x.issued) (sym peers) told.leads),
       (record { opened = at.opened; control = control; cycle = at.cycle; is_open = at.is_open; same = at.same }, refl),
@@ -207,6 +210,7 @@ sweep-goes m p p' count count' index b j s dead rise begun number span peers tab
       first_after end note,
       told-push noted end _ b' note told may grown told.managed replays.shows adds.drawn.1
           (subst (λ (x : Peers). All (λ h. h ≤ length x.issued) end.base.managed.adopted) (sym peers) told.adopted)
+          (subst (λ (x : Peers). All (λ e. (h : ℕ) → Adopts e.made.op h → h ≤ length x.issued) m.entries) (sym peers) told.named)
           (subst (λ (x : Peers). AreIssued m.managed.held x.issued) (sym peers) told.held)
           (subst (λ (x : Peers). All (λ i. IsMade x.heap i.peer) x.issued) (sym peers) told.leads),
       record { opened = here.opened; control = control; cycle = here.cycle; is_open = here.is_open; same = here.same },
@@ -247,6 +251,7 @@ resolve-goes m m' p count count' index alive out answers r noted end told at =
       note ∷ [],
       first_after end note,
       told-push noted end _ b' note told may grown replays.state told.peer r.entry.drawn.1 told.adopted
+          (named-push m m' e p.peers.issued r.entry.added told.named (λ h no. absurd no))
           (subst (λ l. AreIssued l p.peers.issued) (ap (λ (x : Managed). x.held) (sym r.state)) told.held) told.leads,
       IsAt-driver index (restoring at.opened []) idle end.base.control at.control,
       record { entry = e; all = refl; place = record { caller = refl; line = refl }; event = ap (λ (k : Cycle). op.Resolve k) (sym (open-is b r.cycle r.opened)) },

@@ -45,8 +45,8 @@ line-first (M k) (act.Bridge v kind n sort f) es built h =
     let events : events_of es ≡ op.Make sort f ∷ adopts v kind n h.make.made.reply =
     ap events_of h.all ∙ ap (λ o. o ∷ events_of h.rest) h.makes ∙ ap (λ l. op.Make sort f ∷ l) h.adopted in
     subst (λ l. All (IsFirstEvent (M k)) l) (sym events) (All-cons (IsFirstEvent (M k)) (op.Make sort f) (adopts v kind n h.make.made.reply) thread (adopts-first k v kind n h.make.made.reply thread))
-line-first (M k) (act.Set v i w) es built h = rw (h) (All-cons (IsFirstEvent (M k)) (op.Line (act.Set v i w)) [] (built.lawful.0, tt) (All-nil (IsFirstEvent (M k))))
-line-first (M k) (act.Drop v) es built h = rw (h) (All-cons (IsFirstEvent (M k)) (op.Line (act.Drop v)) [] (built.lawful.0, tt) (All-nil (IsFirstEvent (M k))))
+line-first (M k) (act.Set v i w) es built h = rw (h.1) (All-cons (IsFirstEvent (M k)) (op.Line (act.Set v i w)) [] (built.lawful.0, tt) (All-nil (IsFirstEvent (M k))))
+line-first (M k) (act.Drop v) es built h = rw (h.1) (All-cons (IsFirstEvent (M k)) (op.Line (act.Drop v)) [] (built.lawful.0, tt) (All-nil (IsFirstEvent (M k))))
 line-first (M k) _ es built h = absurd (let no : false ≡ true = built.built in cc)
 line-first (P k) a es built h = absurd (let no : false ≡ true = built.built in cc)
 line-first C (act.PhaseLine word.Cycle) es built h =

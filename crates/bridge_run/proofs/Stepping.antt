@@ -1,7 +1,7 @@
 -- A step of the managed side goes on with each history that is told: the entry may come next, at its side's end and at that
 -- of the whole history, with the next number; it frees nothing; and a handle that an object gets was issued.
-use Rattle.std.proofs.Common.{◌≡◌, ℕ, ◌+◌, ◌≤◌, inl, inr, List, [], ◌∷◌, ◌++◌, length, Option, Some, None, refl, sym, ap, ◌∙◌, subst, append-nil}
-use Rattle.std.proofs.lemmas.List.Elements.{All-nil, All-cons}
+use Rattle.std.proofs.Common.{All, ◌≡◌, ℕ, ◌+◌, ◌≤◌, inl, inr, List, [], ◌∷◌, ◌++◌, length, Option, Some, None, refl, sym, ap, ◌∙◌, subst, append-nil}
+use Rattle.std.proofs.lemmas.List.Elements.{All-push, All-nil, All-cons}
 use Rattle.object_heap.proofs.Numbered.{numbered-push_cases}
 use Rattle.joint_model.specs.declared.names.Thread.{Thread}
 use Rattle.joint_model.specs.declared.names.Thread.TheVariants.{M, P, C}
@@ -26,7 +26,7 @@ use Rattle.joint_model.specs.Managed.{Managed}
 use Rattle.joint_model.specs.Peers.{Issued}
 use Rattle.joint_model.specs.Told.{Noted, nothing}
 use Rattle.managed_heap.proofs.Replays.{step}
-use Rattle.managed_heap.specs.Sides.{Side as ManagedShown, managed_event, IsFirstAct, IsFirstOp, IsFirstManagedStep, step_made}
+use Rattle.managed_heap.specs.Sides.{Side as ManagedShown, Adopts, managed_event, IsFirstAct, IsFirstOp, IsFirstManagedStep, step_made}
 use Rattle.peer_heap.specs.Sides.{Side as PeerShown}
 use Rattle.script_histories.specs.Holding.{AreLine, AreEvents, IsOnLine}
 use Rattle.bridge_run.specs.Going.{Goes, AtRest}
@@ -127,9 +127,17 @@ step-cycle m m' t o r f is = (subst (IsQuiet [] [] m) is (event-quiet [] [] m t 
 
 -- the entry of a `set` or a `drop` is all that its line makes
 line-events : (a : Act) (e : Entry) → IsFirstAct a → e.made.op ≡ op.Line a → AreEvents a (e ∷ [])
-line-events (act.Set v i w) e f is = ap (λ o. o ∷ []) is
-line-events (act.Drop v) e f is = ap (λ o. o ∷ []) is
+line-events (act.Set v i w) e f is = (tt, ap (λ o. o ∷ []) is)
+line-events (act.Drop v) e f is = (tt, ap (λ o. o ∷ []) is)
 line-events _ e f is = absurd f
+
+-- one entry more at the end of the managed side's list, and what it adopts
+pub named-push : (m m' : ManagedShown) (e : Entry) (issued : List Issued) → m'.entries ≡ m.entries ++ e ∷ []
+    → All (λ x. (h : ℕ) → Adopts x.made.op h → h ≤ length issued) m.entries → ((h : ℕ) → Adopts e.made.op h → h ≤ length issued)
+    → All (λ x. (h : ℕ) → Adopts x.made.op h → h ≤ length issued) m'.entries
+named-push m m' e issued added old new =
+    let is : Entry → Type 0 = λ x. (h : ℕ) → Adopts x.made.op h → h ≤ length issued in
+    subst (λ l. All is l) (sym added) (All-push is m.entries e old new)
 
 -- a `set` or a `drop` goes on with each history of the sides between two lines
 pub line-goes : (m m' : ManagedShown) (p : PeerShown) (count count' : ℕ) (t : Thread) (index : ℕ) (a : Act) (r : Reply)
@@ -157,7 +165,8 @@ line-goes m m' p count count' (M k) index a r thread line first is adds noted en
       n ∷ [],
       first_after end n,
       told-push noted end _ (record { managed = m'; peer = p; count = count' }) n told may grown
-          replays.state told.peer adds.drawn.1 told.adopted held told.leads,
+          replays.state told.peer adds.drawn.1 told.adopted
+          (named-push m m' e p.peers.issued adds.added told.named (λ h no. absurd no)) held told.leads,
       IsAt-thread index idle end.base.control k free tt at,
       record { places = All-cons (IsOnLine index (M k)) e [] record { caller = refl; line = refl } (All-nil (IsOnLine index (M k))); events = line-events a e first refl },
     )

@@ -8,6 +8,7 @@ use Rattle.joint_model.specs.Control.{Control, Doing, Stand, opening_control, id
 use Rattle.joint_model.specs.First.{FirstLinkage, opening_first, first_after, first_replayed, AllFirstMayCome, FirstMayCome}
 use Rattle.joint_model.specs.Heaps.{IsMade}
 use Rattle.joint_model.specs.Told.{Noted}
+use Rattle.managed_heap.specs.Sides.{Adopts}
 use Rattle.peer_heap.specs.Replays.{Shows}
 use Rattle.bridge_run.specs.Runs.{Both, IsTold, IsAt, AreIssued, entries_of}
 use Rattle.bridge_run.specs.Wholes.{Ran}
@@ -27,9 +28,10 @@ pub told-push : (noted : List Noted) (end : FirstLinkage) (old new : Both) (n : 
     → Ran (entries_of noted ++ n.entry ∷ []) new.managed.entries new.peer.entries new.managed.managed.heap.freed new.peer.peers.heap.freed new.count
     → (first_after end n).base.managed.managed ≡ new.managed.managed → Shows (first_after end n).base.peer new.peer → new.count ≡ old.count + 1
     → All (λ h. h ≤ length new.peer.peers.issued) (first_after end n).base.managed.adopted
+    → All (λ e. (h : ℕ) → Adopts e.made.op h → h ≤ length new.peer.peers.issued) new.managed.entries
     → AreIssued new.managed.managed.held new.peer.peers.issued → All (λ i. IsMade new.peer.peers.heap i.peer) new.peer.peers.issued
     → IsTold (noted ++ n ∷ []) (first_after end n) new
-told-push noted end old new n told may ran managed peer count adopted held leads = record {
+told-push noted end old new n told may ran managed peer count adopted named held leads = record {
   ran = subst (λ l. Ran l new.managed.entries new.peer.entries new.managed.managed.heap.freed new.peer.peers.heap.freed new.count) (sym (map-append (λ (x : Noted). x.entry) noted (n ∷ []))) ran;
   lawful = lawful-push opening_first noted n told.lawful (subst (λ s. FirstMayCome s n) (sym told.ends) may);
   ends = replayed-push opening_first noted n ∙ ap (λ s. first_after s n) told.ends;
@@ -37,6 +39,7 @@ told-push noted end old new n told may ran managed peer count adopted held leads
   peer = peer;
   count = omega (arith, told.count, count);
   adopted = adopted;
+  named = named;
   held = held;
   leads = leads;
 }

@@ -10,7 +10,7 @@ use Rattle.joint_model.specs.Histories.{Finished, managed_numbers, peer_numbers}
 use Rattle.joint_model.specs.Managed.{OpenCycle}
 use Rattle.joint_model.specs.Peers.{Issued}
 use Rattle.joint_model.specs.Told.{Noted}
-use Rattle.managed_heap.specs.Sides.{Side as ManagedShown}
+use Rattle.managed_heap.specs.Sides.{Side as ManagedShown, Adopts}
 use Rattle.peer_heap.specs.Replays.{Shows}
 use Rattle.peer_heap.specs.Sides.{Side as PeerShown, Begun}
 use Rattle.bridge_run.specs.Wholes.{Ran}
@@ -30,7 +30,7 @@ abbrev pub AreIssued : List (Option ℕ) → List Issued → Type 0
 AreIssued held issued = (x h : ℕ) → numbered_at held x ≡ Some (Some h) → (1 ≤ h) × (h ≤ length issued)
 
 -- a history of the sides: both sides' entries are shuffled from it, each of its entries may come where it stands, and the
--- sides are its state; what objects hold and held was issued, on peers that were made
+-- sides are its state; what entries adopt, and what objects hold and held, was issued, on peers that were made
 pub record IsTold (noted : List Noted) (end : FirstLinkage) (b : Both) : Type 0 where
   pub ran : Ran (entries_of noted) b.managed.entries b.peer.entries b.managed.managed.heap.freed b.peer.peers.heap.freed b.count
   pub lawful : AllFirstMayCome opening_first noted
@@ -39,6 +39,7 @@ pub record IsTold (noted : List Noted) (end : FirstLinkage) (b : Both) : Type 0 
   pub peer : Shows end.base.peer b.peer
   pub count : end.base.count ≡ b.count
   pub adopted : All (λ h. h ≤ length b.peer.peers.issued) end.base.managed.adopted
+  pub named : All (λ e. (h : ℕ) → Adopts e.made.op h → h ≤ length b.peer.peers.issued) b.managed.entries
   pub held : AreIssued b.managed.managed.held b.peer.peers.issued
   pub leads : All (λ i. IsMade b.peer.peers.heap i.peer) b.peer.peers.issued
 
@@ -65,7 +66,8 @@ pub record IsBegun (b : Both) : Type 0 where
   pub opened : b.peer.marking ≡ Some marking
   pub made : marking.made ≡ length b.peer.peers.heap.fields
 
--- the finished history is the one that was told, and its lists are what was freed
+-- the finished history is the one that was told, and its lists are what was freed; nobody takes notices in the first steps, so it
+-- names none
 pub record IsFinished (noted : List Noted) (end : FirstLinkage) (h : Finished) : Type 0 where
   pub entries : entries_of noted ≡ h.entries
   pub freed_managed : managed_numbers h.freed_managed ≡ end.base.managed.managed.heap.freed

@@ -183,7 +183,8 @@ impl Sides {
         Ok(())
     }
 
-    /// Joins what both sides did into one history. Answers `AllocError` where there is no memory.
+    /// Joins what both sides did into one history, without notices, since nobody takes any in the first steps. Answers
+    /// `AllocError` where there is no memory.
     pub fn finish(self, alloc: Global) -> Result<History, AllocError>
         requires { Stands Anywhere self }
         ensures { IfOk result (λ h. (noted : List Noted) (end : FirstLinkage) → IsTold noted end self → IsFinished noted end h) }

@@ -13,6 +13,7 @@ use Rattle.joint_model.specs.Joint.{Graph, opening, graph_of}
 use Rattle.joint_model.specs.Linked.{joint_projection}
 use Rattle.joint_model.specs.Run.{Moment, IsRun}
 use Rattle.joint_model.specs.Told.{Told, snap_of, begin_of, sweep_of, resolution_of, Noted}
+use Rattle.first_laws.specs.Laws.{IsJudgedRun}
 use Rattle.first_laws.specs.Events.{IsFirstEvent, AreFirstEvents}
 use Rattle.first_laws.proofs.Ending.{resolve-traces}
 use Rattle.first_laws.proofs.Histories.{HasRun, HasRun-push, opening-run, gone-through, projection-whole}
@@ -77,12 +78,6 @@ judged-push past before b s n j may first =
       sound = sound-push past (moment_at b s n) j.sound t.sound;
       complete = complete-push past (moment_at b s n) j.complete t.complete;
     }
-
--- a run with both clauses of the headline on freeing
-pub record IsJudgedRun (entries : List Noted) (moments : List Moment) : Type 0 where
-  pub run : IsRun entries moments
-  pub sound : IsSoundRun moments
-  pub complete : IsCompleteRun moments
 
 pub judged : (ns : List Noted) → AllFirstMayCome opening_first ns → AreFirstEvents ns → (moments : List Moment) × IsJudgedRun (joint_projection ns) moments
 judged ns may first =

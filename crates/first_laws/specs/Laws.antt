@@ -21,3 +21,14 @@ FirstRunsAreSound = (noted : List Noted) (moments : List Moment) → AllFirstMay
 abbrev pub FirstRunsAreComplete : Type 0
 FirstRunsAreComplete = (noted : List Noted) (moments : List Moment) → AllFirstMayCome opening_first noted → AreFirstEvents noted
     → IsRun (joint_projection noted) moments → IsCompleteRun moments
+
+-- the moments are a run over these entries, sound and complete
+pub record IsJudgedRun (entries : List Noted) (moments : List Moment) : Type 0 where
+  pub run : IsRun entries moments
+  pub sound : IsSoundRun moments
+  pub complete : IsCompleteRun moments
+
+-- all in one: such a history has a run, and it is sound and complete
+abbrev pub FirstHistoriesAreJudged : Type 0
+FirstHistoriesAreJudged = (noted : List Noted) → AllFirstMayCome opening_first noted → AreFirstEvents noted
+    → (moments : List Moment) × IsJudgedRun (joint_projection noted) moments

@@ -8,7 +8,7 @@
 // The crate goes as a whole when the cycle of eight phases comes.
 #![tactic(auto)]
 
-ghost use Rattle.first_laws.specs.Laws.{FirstHistoriesAreRuns, FirstRunsAreSound, FirstRunsAreComplete};
+ghost use Rattle.first_laws.specs.Laws.{FirstHistoriesAreJudged, FirstHistoriesAreRuns, FirstRunsAreSound, FirstRunsAreComplete};
 
 /// Each history in the form of the first steps is a run of the joint machine over its joint projection.
 pub fn first_histories_are_runs()
@@ -24,4 +24,10 @@ pub fn first_runs_are_sound()
 /// Every run of such a history is complete: each cycle that ends in a resolution frees what was unreached throughout.
 pub fn first_runs_are_complete()
     ensures { FirstRunsAreComplete }
+{}
+
+/// All in one, as the top call of the program takes it: each history in the form of the first steps has a run of the joint
+/// machine that is sound and complete.
+pub fn first_histories_are_judged()
+    ensures { FirstHistoriesAreJudged }
 {}

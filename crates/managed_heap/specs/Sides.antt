@@ -1,5 +1,5 @@
 -- What contracts see of a managed side, and how each event of these first steps changes it.
-use Rattle.std.specs.Prelude.{ℕ, List, Option, None}
+use Rattle.std.specs.Prelude.{◌≡◌, ℕ, List, All, Option, None, IsSome}
 use Rattle.joint_model.specs.declared.names.Cycle.{Cycle}
 use Rattle.joint_model.specs.declared.names.Thread.{Thread}
 use Rattle.joint_model.specs.declared.names.Thread.TheVariants.{C}
@@ -59,3 +59,18 @@ resolve_made s index n freed cites = record { caller = C; index = index; op = op
 -- the entry of the abandoning of a cycle by its number
 abbrev pub abandon_made : ℕ → ℕ → Made
 abandon_made index n = record { caller = C; index = index; op = op.Abandon record { 0 = n }; reply = says.Ok; cites = None }
+
+-- the event adopts that handle
+abbrev pub Adopts : Op → ℕ → Type 0
+Adopts (op.Adopt v kind n p h) g = h.0 ≡ g
+Adopts _ g = ⊥
+
+-- the handle of an `adopt` is new to these entries: none of them adopts it
+abbrev pub IsNewTo : List Entry → Op → Type 0
+IsNewTo entries (op.Adopt v kind n p h) = All (λ e. Adopts e.made.op h.0 → ⊥) entries
+IsNewTo entries _ = Unit {0}
+
+-- an `adopt` cites an entry, and no other event of the first steps does
+abbrev pub CitesRightly : Op → Option ℕ → Type 0
+CitesRightly (op.Adopt v kind n p h) cites = IsSome cites
+CitesRightly _ cites = cites ≡ None

@@ -9,7 +9,7 @@ ghost use Rattle.joint_model.specs.Cycles.{resolve_reply, snap_reply};
 ghost use Rattle.joint_model.specs.Managed.{OpenCycle, opening_managed, abandoned, handle_of};
 ghost use Rattle.joint_model.specs.declared.names.Thread.{Thread};
 ghost use Rattle.joint_model.specs.declared.events.Op.{Op};
-ghost use Rattle.managed_heap.specs.Sides.{managed_event, IsFirstManagedStep, step_made, snap_made, resolve_made, abandon_made};
+ghost use Rattle.managed_heap.specs.Sides.{managed_event, IsFirstManagedStep, step_made, snap_made, resolve_made, abandon_made, IsNewTo, CitesRightly};
 ghost use Rattle.object_heap.specs.Tidy.{IsTidy};
 ghost use Rattle.managed_heap.specs.Calls.{Snaps, Resolves, Abandons, AreEmpty};
 
@@ -81,8 +81,8 @@ pub struct ManagedLists {
 }
 
 impl ManagedSide {
-    /// A side without rows and entries, whose threads are `m1` to that many. Answers `AllocError` where there
-    /// is no memory.
+    /// A side without rows and entries. `threads` is how many managed threads there are; the side has places for
+    /// the variables of all eight. Answers `AllocError` where there is no memory.
     pub fn new(alloc: Global, threads: u8) -> Result<ManagedSide, AllocError>
         requires { threads ≤ 8 }
         ensures managed { IfOk result (λ s. s.managed ≡ opening_managed) }
@@ -95,7 +95,8 @@ impl ManagedSide {
         })
     }
 
-    /// Makes one event of a managed thread: `set`, `drop` or `adopt`. The reply and the change are those of
+    /// Makes one event of a managed thread: `set`, `drop` or `adopt`; an `adopt` cites the entry that made its
+    /// handle, which no entry of the side has adopted. The reply and the change are those of
     /// the joint model, and one entry is drawn and put last. Answers `AllocError` where there is no memory,
     /// or no room for a further entry; the side and `draw` are then as before.
     pub fn step<D: Draw>(
@@ -107,6 +108,8 @@ impl ManagedSide {
         cites: Option<u64>,
     ) -> Result<Reply, AllocError>
         requires event { IsFirstManagedStep caller op.now }
+        requires fresh { IsNewTo self.old.entries op.now }
+        requires cites { CitesRightly op.now cites }
         requires below { AllBelow self.old.entries (D.floor draw.old) }
         requires left { 4294967295 ≤ D.left draw.old + length self.old.entries }
         requires may { D.may draw.old caller op.now None }

@@ -1,7 +1,8 @@
 // A side by its calls, with ample memory.
 
-ghost use Rattle.std.specs.Prelude.{◌<◌};
-ghost use Rattle.managed_heap.specs.Sides.{IsFirstManagedStep};
+ghost use Rattle.std.specs.Prelude.{ℕ, ◌<◌, List, [], Some, None};
+ghost use Rattle.joint_model.specs.declared.events.Entry.{Entry};
+ghost use Rattle.managed_heap.specs.Sides.{IsFirstManagedStep, IsNewTo, CitesRightly};
 
 use crate::{ManagedSide, Pins};
 use joint_model::{Act, Alive, Counter, Cycle, HNum, Kind, MNum, Op, PNum, Reply, Thread, Var};
@@ -12,7 +13,9 @@ const NO_PINS: Pins = Pins { at: [None; 8] };
 // A leaf bridge object adopts handle 5.
 fn adopt(v: u8) -> Op
     requires { v < 8 }
-    ensures { IsFirstManagedStep (Thread.M 1) result }
+    ensures event { IsFirstManagedStep (Thread.M 1) result }
+    ensures fresh { IsNewTo [] result }
+    ensures cites { (n : ℕ) → CitesRightly result (Some n) }
 {
     Op::Adopt {
         v: Var(v),
@@ -26,7 +29,9 @@ fn adopt(v: u8) -> Op
 // A line of `drop`.
 fn drop(v: u8) -> Op
     requires { v < 8 }
-    ensures { IsFirstManagedStep (Thread.M 1) result }
+    ensures event { IsFirstManagedStep (Thread.M 1) result }
+    ensures fresh { (entries : List Entry) → IsNewTo entries result }
+    ensures cites { CitesRightly result None }
 {
     Op::Line(Act::Drop { v: Var(v) })
 }
@@ -35,7 +40,9 @@ fn drop(v: u8) -> Op
 fn set(v: u8, w: u8) -> Op
     requires v { v < 8 }
     requires w { w < 8 }
-    ensures { IsFirstManagedStep (Thread.M 1) result }
+    ensures event { IsFirstManagedStep (Thread.M 1) result }
+    ensures fresh { (entries : List Entry) → IsNewTo entries result }
+    ensures cites { CitesRightly result None }
 {
     Op::Line(Act::Set {
         v: Var(v),
@@ -58,7 +65,7 @@ fn an_adopt_makes_an_object(rt: HostRuntime) -> Result<(), Fail> {
 fn a_set_without_fields_is_out_of_range(rt: HostRuntime) -> Result<(), Fail> {
     let mut side = ManagedSide::new(rt.alloc(), 1)?;
     let mut draw = Counter::new();
-    side.step(&mut draw, Thread::M(1), 0, &adopt(0), None)?;
+    side.step(&mut draw, Thread::M(1), 0, &adopt(0), Some(3))?;
     let reply = side.step(&mut draw, Thread::M(1), 1, &set(0, 0), None)?;
     assert_eq!(rt; reply, Reply::Range);
     Ok(())
@@ -68,7 +75,7 @@ fn a_set_without_fields_is_out_of_range(rt: HostRuntime) -> Result<(), Fail> {
 fn a_drop_empties_the_variable(rt: HostRuntime) -> Result<(), Fail> {
     let mut side = ManagedSide::new(rt.alloc(), 1)?;
     let mut draw = Counter::new();
-    side.step(&mut draw, Thread::M(1), 0, &adopt(0), None)?;
+    side.step(&mut draw, Thread::M(1), 0, &adopt(0), Some(3))?;
     let reply = side.step(&mut draw, Thread::M(1), 1, &drop(0), None)?;
     assert_eq!(rt; reply, Reply::Ok);
     assert_eq!(rt; side.var(8), None);
@@ -79,7 +86,7 @@ fn a_drop_empties_the_variable(rt: HostRuntime) -> Result<(), Fail> {
 fn a_snap_opens_a_cycle(rt: HostRuntime) -> Result<(), Fail> {
     let mut side = ManagedSide::new(rt.alloc(), 1)?;
     let mut draw = Counter::new();
-    side.step(&mut draw, Thread::M(1), 0, &adopt(0), None)?;
+    side.step(&mut draw, Thread::M(1), 0, &adopt(0), Some(3))?;
     side.step(&mut draw, Thread::M(1), 1, &drop(0), None)?;
     let opened = side.snap(&mut draw, 2, &NO_PINS);
     assert!(rt; opened.is_ok());

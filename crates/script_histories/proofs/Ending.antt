@@ -104,7 +104,7 @@ one-end a es is = rw is (calm-end (op.Line a ∷ []) (tt, tt))
 events-end : (a : Act) (es : List Entry) → AreEvents a es → DoEnd (events_of es)
 events-end (act.Bridge v kind n sort f) es h = bridge-end v kind n sort f es h
 events-end (act.PhaseLine word.Cycle) es h = rw (h.phases) record { never = cycle-never h.cycle; later = cycle-later h.cycle }
-events-end a es h = one-end a es h
+events-end a es h = one-end a es h.1
 
 -- the events of a line and of the lines after it
 pub lines-end : (number : ℕ) (lines : List (Thread × Act)) (es : List Entry) → HoldsLines number lines es → AllCyclesEnd es

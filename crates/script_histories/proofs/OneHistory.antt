@@ -137,7 +137,7 @@ events-same : (number : ℕ) (t : Thread) (a : Act) (own own' rest rest' : List 
     → AreEvents a own → AreEvents a own' → entries_of ns ≡ own ++ rest → entries_of ns' ≡ own' ++ rest' → AllFirstMayCome s ns → AllFirstMayCome s ns' → events_of own ≡ events_of own'
 events-same number t (act.Bridge v kind n sort f) own own' rest rest' s ns ns' p p' h h' e e' c c' = bridge-same number t v kind n sort f own own' rest rest' s ns ns' p p' h h' e e' c c'
 events-same number t (act.PhaseLine word.Cycle) own own' rest rest' s ns ns' p p' h h' e e' c c' = cycle-same own own' rest rest' s ns ns' h h' e e' c c'
-events-same number t a own own' rest rest' s ns ns' p p' h h' e e' c c' = h ∙ sym h'
+events-same number t a own own' rest rest' s ns ns' p p' h h' e e' c c' = h.1 ∙ sym h'.1
 
 none-left : (ns : List Noted) (es : List Entry) → es ≡ [] → entries_of ns ≡ es → ns ≡ []
 none-left [] es n e = refl

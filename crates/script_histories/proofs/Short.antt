@@ -34,7 +34,7 @@ bridge-short v kind n sort f own h =
 events-short : (a : Act) (own : List Entry) → HasShortField (op.Line a) → AreEvents a own → AreShort (events_of own)
 events-short (act.Bridge v kind n sort f) own s h = bridge-short v kind n sort f own h
 events-short (act.PhaseLine word.Cycle) own s h = subst AreShort (sym h.phases) (tt, (tt, (tt, (tt, tt))))
-events-short a own s h = subst AreShort (sym h) (s, tt)
+events-short a own s h = subst AreShort (sym h.1) (s, tt)
 
 entries-short : (number : ℕ) (t : Thread) (own : List Entry) → number < 2 ^ 64 → All (IsOnLine number t) own → AreShort (events_of own) → All IsShort own
 entries-short number t [] l p s = All-nil IsShort

@@ -13,6 +13,7 @@ use Rattle.joint_model.specs.declared.events.Op.TheVariants as op
 use Rattle.joint_model.specs.declared.events.Reply.{Reply}
 use Rattle.joint_model.specs.declared.events.Reply.TheVariants as says
 use Rattle.joint_model.specs.declared.events.Entry.{Entry}
+use Rattle.joint_model.specs.Lines.{IsOneEvent}
 
 -- the events of entries
 abbrev pub events_of : List Entry → List Op
@@ -36,11 +37,12 @@ pub record AreCycle (entries : List Entry) : Type 0 where
   pub cycle : Cycle
   pub phases : events_of entries ≡ op.Snap cycle ∷ op.Begin ∷ op.Sweep ∷ op.Resolve cycle ∷ []
 
--- the entries are the events of an operation, all of them and in their order
+-- the entries are the events of an operation, all of them and in their order: those of a `bridge`, of a `cycle`, or the one event that
+-- has the line's own words. The other operations of several events come later.
 abbrev pub AreEvents : Act → List Entry → Type 0
 AreEvents (act.Bridge v kind n sort f) entries = AreBridge v kind n sort f entries
 AreEvents (act.PhaseLine word.Cycle) entries = AreCycle entries
-AreEvents a entries = events_of entries ≡ op.Line a ∷ []
+AreEvents a entries = IsOneEvent a × (events_of entries ≡ op.Line a ∷ [])
 
 -- the entry is one of that thread on that line
 pub record IsOnLine (number : ℕ) (thread : Thread) (e : Entry) : Type 0 where

@@ -1,6 +1,8 @@
-use Rattle.std.proofs.Common.{◌∙◌, arith}
+use Rattle.joint_model.specs.Draws.{numbered}
+use Rattle.joint_model.specs.declared.events.Reply.TheVariants as says
+use Rattle.std.proofs.Common.{◌∙◌, arith, refl}
 use Rattle.bridge_run.proofs.Ran.{below-managed, below-peers}
-use Rattle.bridge_run.proofs.Bridging.{alone-goes, whole-goes}
+use Rattle.bridge_run.proofs.Bridging.{alone-goes, whole-goes, make-next, make_made}
 use Rattle.bridge_run.proofs.sides.Sides.bridge.Goals as goal
 
 pub step-requires-clause-below : goal.step-requires-clause-below
@@ -33,3 +35,16 @@ returns-in_default c =
           (alone-goes c.self.inside.managed c.self.inside.peers c.step.new.self c.self.inside.counter c.step.new.draw c.args.thread c.args.index c.args.v c.args.kind c.args.fields c.args.sort c.args.peer_fields c.in_ok-reply.reply
           c.requires.thread c.requires.line e.peers e.table e.marking e.markings e.adds c.in_default.not-Made);
     }
+
+pub step-requires-in-Made-clause-fresh : goal.step-requires-in-Made-clause-fresh
+step-requires-in-Made-clause-fresh c =
+    let told = rw (← c.self.view_is) at c.requires.told in
+    let e = rw (c.in-Made.is) at c.in_ok-reply.ensures in
+    let next = make-next c.self.inside.peers.peers c.step.new.self.peers c.args.sort c.args.peer_fields c.in-Made.p c.in-Made.h e.peers in
+    λ k d lt names. (let le = told.2.named k d lt c.in-Made.h.0 names in omega (arith, le, next))
+
+pub step-requires-in-Made-clause-cites : goal.step-requires-in-Made-clause-cites
+step-requires-in-Made-clause-cites c =
+    let e = rw (c.in-Made.is) at c.in_ok-reply.ensures in
+    let made = numbered e.adds.number (make_made c.args.thread c.args.index c.args.sort c.args.peer_fields (says.Made c.in-Made.p c.in-Made.h)) in
+    rw (c.last_number-number.ensures c.self.inside.peers.entries made e.adds.added) refl
