@@ -1,0 +1,47 @@
+-- A heap in plain lists, which nothing is asked of but its flags: a field may hold a freed object. (This project's own.)
+use Rattle.std.specs.Prelude.{◌≡◌, ℕ, ◌≤◌, Bool, true, false, ◌&&◌, not, nat_le, if◌then◌else◌, List, map, Contains, Option, Some, None, length}
+use Rattle.joint_model.specs.declared.events.Reply.{Reply}
+use Rattle.joint_model.specs.declared.events.Reply.TheVariants as says
+use Rattle.joint_model.specs.Heaps.{Heap, MOST, IsMade, is_freed, numbered_at}
+use Rattle.joint_model.specs.Cycles.{IsOpen}
+use Rattle.joint_model.specs.Managed.{Managed, OpenCycle}
+use Rattle.joint_model.specs.Peers.{Issued, held, strong}
+use Rattle.joint_replay.specs.declared.heap.Refusal.{Refusal}
+use Rattle.joint_replay.specs.declared.heap.Refusal.TheVariants.{Empty, Range}
+
+-- the flags say of each object whether it is freed, there are no more objects than fit, and the tables have their sizes
+pub record IsFlagged (h : Heap) (flags : List Bool) : Type 0 where
+  pub most : length h.fields ≤ MOST
+  pub vars : length h.vars ≡ 72
+  pub statics : length h.statics ≡ 16
+  pub len : length flags ≡ length h.fields
+  pub made : (x : ℕ) → Contains h.freed x → IsMade h x
+  pub up : (x : ℕ) → numbered_at flags x ≡ Some true → Contains h.freed x → ⊥
+  pub down : (x : ℕ) → numbered_at flags x ≡ Some false → Contains h.freed x
+
+-- whether the object was made and isn't freed
+abbrev pub is_live : Heap → ℕ → Bool
+is_live h x = nat_le 1 x && nat_le x (length h.fields) && not (is_freed h x)
+
+-- what a field leads to: the live object that it holds, or nothing
+abbrev pub kept_target : Heap → Option ℕ → Option ℕ
+kept_target h None = None
+kept_target h (Some y) = if is_live h y then Some y else None
+
+-- the heap with each field emptied that holds a freed object: its edges are the same
+abbrev pub cleaned : Heap → Heap
+cleaned h = record h { fields = map (map (kept_target h)) h.fields }
+
+-- a held strong handle on the peer
+abbrev pub held_on : ℕ → Issued
+held_on p = record { peer = p; hold = held; strength = strong }
+
+-- the reply of a refusal
+abbrev pub refusal_reply : Refusal → Reply
+refusal_reply Empty = says.Empty
+refusal_reply Range = says.Range
+
+-- cycle k is open
+pub record HasOpen (s : Managed) (k : ℕ) : Type 0 where
+  pub cycle : OpenCycle
+  pub is_open : IsOpen s k cycle

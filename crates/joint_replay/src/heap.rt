@@ -1,0 +1,172 @@
+// One heap in plain lists.
+
+ghost use Rattle.std.specs.Prelude.{◌≡◌, ℕ, ◌+◌, ◌<◌, ◌≤◌, ◌↔◌, ◌++◌, List, Contains, All, Some, None, IsTrue, IfOk, OnOk, OnErr, MatchResult, length};
+ghost use Rattle.std.specs.Option.{ForSome};
+ghost use Rattle.joint_model.specs.Heaps.{Heap, MOST, IsMade, IsLive, answer, slot, fields_of, is_full, opening_heap, with_object, with_var, with_field, with_freed, field_set};
+ghost use Rattle.joint_replay.specs.Plain.{refusal_reply};
+
+use joint_model::Reply;
+use std::alloc::{AllocError, Global};
+use std::marker::Model;
+
+/// The most objects that a heap makes.
+const MOST_OBJECTS: usize = 65_535;
+
+/// Why a field isn't written: a variable is empty, or the object has no such field.
+#[derive(Clone, Copy, PartialEq, Eq, Debug)]
+pub(crate) enum Refusal {
+    Empty,
+    Range,
+}
+
+/// A field of an object, and what it is to hold.
+#[derive(Clone, Copy)]
+pub(crate) struct Place {
+    pub(crate) object: u32,
+    pub(crate) field: usize,
+    pub(crate) value: Option<u32>,
+}
+
+/// The objects of one heap with their fields and a flag that is up while they aren't freed, the variables and statics,
+/// and the freed objects in the order of freeing. A field may hold a freed object.
+#[derive(Drop)]
+pub(crate) struct PlainHeap {
+    alloc: Global,
+    fields: Vec<Vec<Option<u32>>>,
+    flags: Vec<bool>,
+    freed: Vec<u32>,
+    vars: [Option<u32>; 72],
+    statics: [Option<u32>; 16],
+}
+
+impl Model for PlainHeap {
+    ghost use Rattle.std.specs.Prelude.{map};
+    ghost use Rattle.joint_model.specs.Heaps.{Heap};
+    ghost use Rattle.joint_replay.specs.Plain.{IsFlagged};
+
+    ghost Value = { Heap };
+
+    ghost view = { λ s. record { fields = map (λ r. r.items) s.fields.items; freed = s.freed.items; vars = s.vars; statics = s.statics } };
+
+    ghost invariant = { λ s. let h : Heap = record { fields = map (λ r. r.items) s.fields.items; freed = s.freed.items; vars = s.vars; statics = s.statics } in IsFlagged h s.flags.items };
+}
+
+impl PlainHeap {
+    /// A heap without objects, in which every variable and static is empty.
+    pub(crate) fn new(alloc: Global) -> PlainHeap
+        ensures { result ≡ opening_heap }
+    {
+        PlainHeap {
+            alloc,
+            fields: Vec::new(alloc),
+            flags: Vec::new(alloc),
+            freed: Vec::new(alloc),
+            vars: [None; 72],
+            statics: [None; 16],
+        }
+    }
+
+    /// How many objects were made: the number of the last one.
+    pub(crate) fn made(&self) -> u32
+        ensures made { result ≡ length self.now.fields }
+        ensures most { result ≤ MOST }
+    {
+        self.fields.len() as u32
+    }
+
+    /// Whether no further object can be made.
+    pub(crate) fn is_full(&self) -> bool
+        ensures { result ≡ is_full self.now.fields }
+    {
+        self.fields.len() >= MOST_OBJECTS
+    }
+
+    /// Whether object `x` was freed.
+    pub(crate) fn is_freed(&self, x: u32) -> bool
+        ensures { IsTrue result ↔ Contains self.now.freed x }
+    {
+        if x == 0 || x as usize > self.flags.len() {
+            return false;
+        }
+        !self.flags[x as usize - 1]
+    }
+
+    /// What the variable at a place names.
+    pub(crate) fn var(&self, place: usize) -> Option<u32>
+        requires { place < 72 }
+        ensures { slot self.now.vars place ≡ result }
+    {
+        self.vars[place]
+    }
+
+    /// How many fields object `x` has; none where there is no such object.
+    pub(crate) fn fields_len(&self, x: u32) -> usize
+        ensures { result ≡ length (fields_of self.now x) }
+    {
+        if x == 0 || x as usize > self.fields.len() {
+            return 0;
+        }
+        self.fields[x as usize - 1].len()
+    }
+
+    /// Makes an object with so many empty fields. Answers `AllocError` where there is no memory; the heap is then as
+    /// before.
+    pub(crate) fn add_object(&mut self, fields: u8) -> Result<(), AllocError>
+        requires { length self.old.fields < MOST }
+        ensures ok { OnOk result (self.new ≡ with_object self.old fields) }
+        ensures err { OnErr result (self.new ≡ self.old) }
+    {
+        let row = vec![in self.alloc; None; fields as usize]?;
+        self.fields.reserve(1)?;
+        self.flags.reserve(1)?;
+        self.fields.push_reserved(row);
+        self.flags.push_reserved(true);
+        Ok(())
+    }
+
+    /// The variable at a place names object `x`, or nothing.
+    pub(crate) fn set_var(&mut self, place: usize, x: Option<u32>)
+        requires { place < 72 }
+        ensures { self.new ≡ with_var self.old place x }
+    {
+        self.vars[place] = x;
+    }
+
+    /// What `set V I W` is to write, by the places of its variables, or why it writes nothing.
+    pub(crate) fn target(&self, v: usize, i: usize, w: Option<usize>) -> Result<Place, Refusal>
+        requires v { v < 72 }
+        requires w { ForSome w (λ place. place < 72) }
+        ensures ok { IfOk result (λ p. (field_set self.now v i w ≡ answer Reply.Ok (with_field self.now p.object p.field p.value)) × (p.field < length (fields_of self.now p.object))) }
+        ensures err { MatchResult result (λ p. Unit {0}) (λ r. field_set self.now v i w ≡ answer (refusal_reply r) self.now) }
+    {
+        let Some(x) = self.var(v) else {
+            return Err(Refusal::Empty);
+        };
+        if self.fields_len(x) <= i {
+            return Err(Refusal::Range);
+        }
+        let value = match w {
+            None => None,
+            Some(place) => {
+                let y = self.var(place);
+                if y.is_none() {
+                    return Err(Refusal::Empty);
+                }
+                y
+            }
+        };
+        Ok(Place {
+            object: x,
+            field: i,
+            value,
+        })
+    }
+
+    /// Writes a field of an object.
+    pub(crate) fn write(&mut self, place: &Place)
+        requires { place.now.field < length (fields_of self.old place.now.object) }
+        ensures { self.new ≡ with_field self.old place.now.object place.now.field place.now.value }
+    {
+        self.fields[place.object as usize - 1][place.field] = place.value;
+    }
+}

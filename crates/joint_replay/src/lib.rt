@@ -1,0 +1,18 @@
+// The joint machine as a program that checks a history, entry by entry.
+//
+// A [`JointState`] is the machine's state: the managed objects, the peers, and of each handle whether it was removed.
+// It begins as the opening state. [`JointState::replay_step`] takes an entry of a history and says whether it is a step
+// of the machine from there; if it is, the state is the one after it. What an entry's line doesn't have in full, the
+// rows that a snapshot, a sweep or a resolution frees, is read from the history's own lists.
+//
+// Nothing is asked of a history: an `adopt` may name any handle, and a sweep may free a peer that a live one still has
+// in a field. So the heaps are plain lists, and an edge has two live ends.
+#![tactic(auto)]
+
+mod callers;
+mod heap;
+mod managed;
+mod peers;
+mod state;
+
+pub use state::{JointState, Verdict};
