@@ -1,6 +1,6 @@
 -- Verdicts under another name of their steps. An entry's event has one of the joint machine's steps, so a verdict on
 -- that step is the verdict on the entry.
-use Rattle.std.proofs.Common.{◌≡◌, ℕ, ◌⊎◌, inl, inr, true, false, Option, Result, Ok, Err, IfOk, refl, sym, ap, subst, ◌∙◌}
+use Rattle.std.proofs.Common.{[], ◌≡◌, ℕ, ◌⊎◌, inl, inr, true, false, Option, Result, Ok, Err, IfOk, refl, sym, ap, subst, ◌∙◌}
 use Rattle.joint_model.specs.declared.names.Thread.{Thread}
 use Rattle.joint_model.specs.declared.names.Thread.TheVariants.{M, P, C}
 use Rattle.joint_model.specs.declared.names.Var.{Var}
@@ -19,13 +19,14 @@ use Rattle.joint_model.specs.Histories.{Finished}
 use Rattle.joint_model.specs.Joint.{Joint}
 use Rattle.joint_model.specs.Lines.{IsEvent, IsManagedThread}
 use Rattle.joint_model.specs.Linked.{is_joint}
-use Rattle.joint_model.specs.Managed.{on_heap, adopted, place_or_none}
+use Rattle.joint_model.specs.Managed.{Managed, on_heap, adopted, place_or_none}
 use Rattle.joint_model.specs.Peers.{pair_made}
-use Rattle.joint_model.specs.Run.{JointEvent, JointComputed, JointAbandon, IsComputed, joint_answer, on_managed, on_peers, thread_number}
-use Rattle.joint_model.specs.Told.{Told, nothing}
+use Rattle.joint_model.specs.Run.{JointEvent, JointComputed, JointAbandon, JointSnap, JointResolve, IsComputed, joint_answer, on_managed, on_peers, thread_number}
+use Rattle.joint_model.specs.Told.{Told, nothing, snap_of, contraction_of, references_of, begin_of, slice_of, sweep_of, resolution_of, phase_of}
 use Rattle.joint_replay.specs.declared.state.Verdict.{Verdict}
 use Rattle.joint_replay.specs.declared.state.Verdict.TheVariants.{Lawful, Unlawful}
-use Rattle.joint_replay.specs.Judging.{Decides, Judges, MayStep, IsTold, Gives, IsCovered, IsCoveredEvent}
+use Rattle.joint_replay.specs.Judging.{Decides, Judges, MayStep, IsTold, Gives, IsCovered, IsCoveredEvent, named_objects}
+use Rattle.joint_replay.specs.Snaps.{SnapsJoint}
 
 -- steps of another kind that are the same
 pub Decides-as : {S : Type 0} (p q : S → Type 0) → ((n : S) → p n → q n) → ((n : S) → q n → p n) → (v : Verdict) (old new : S) → Decides p v old new → Decides q v old new
@@ -113,3 +114,48 @@ judged-adopt h e j v kind k p x same event = let o : Op = op.Adopt v kind k p x 
 pub judged-abandon : (h : Finished) (e : Entry) (j : Joint) (k : Cycle) → e.made.op ≡ op.Abandon k → IsEvent e.made.caller e.made.op → (d : Verdict) (new : Joint)
     → Decides (JointAbandon j k.0 e.made.reply) d j new → Judges h e d j new
 judged-abandon h e j k same event = judged h e j (op.Abandon k) _ same event (λ n s. s.step) (λ n s. record { told = nothing; named = tt; step = s })
+
+-- a snapshot, with what its reply names
+snap-from : (h : Finished) (e : Entry) (j next : Joint) (k : Cycle) (told : Told) → IsTold h e.made.reply told → JointEvent j e.made.caller (op.Snap k) e.made.reply told next → SnapsJoint j k.0 (named_objects h e.made.reply) e.made.reply next
+snap-from h e j next k (snap_of freed candidates dead) named s = record { candidates = candidates; dead = dead; snap = subst (λ l. JointSnap j k.0 l candidates dead e.made.reply next) named s }
+snap-from h e j next k nothing named s = absurd s
+snap-from h e j next k (contraction_of comps xrefs) named s = absurd s
+snap-from h e j next k (references_of refs) named s = absurd s
+snap-from h e j next k (begin_of unreached) named s = absurd s
+snap-from h e j next k (slice_of closure) named s = absurd s
+snap-from h e j next k (sweep_of freed) named s = absurd s
+snap-from h e j next k (resolution_of alive freed) named s = absurd s
+snap-from h e j next k (phase_of phase) named s = absurd s
+
+pub judged-snap : (h : Finished) (e : Entry) (j : Joint) (k : Cycle) → e.made.op ≡ op.Snap k → IsEvent e.made.caller e.made.op → (d : Verdict) (new : Joint)
+    → Decides (SnapsJoint j k.0 (named_objects h e.made.reply) e.made.reply) d j new → Judges h e d j new
+judged-snap h e j k same event = judged h e j (op.Snap k) _ same event
+    (λ n s. snap-from h e j n k s.told s.named s.step)
+    (λ n s. record { told = snap_of (named_objects h e.made.reply) s.candidates s.dead; named = refl; step = s.snap })
+
+-- a resolution, with what its reply names
+resolve-from : (h : Finished) (e : Entry) (j next : Joint) (k : Cycle) (told : Told) → IsTold h e.made.reply told → JointEvent j e.made.caller (op.Resolve k) e.made.reply told next → JointResolve j k.0 (named_objects h e.made.reply) e.made.reply next
+resolve-from h e j next k (resolution_of alive freed) named s = subst (λ l. JointResolve j k.0 l e.made.reply next) named s
+resolve-from h e j next k nothing named s = absurd s
+resolve-from h e j next k (contraction_of comps xrefs) named s = absurd s
+resolve-from h e j next k (references_of refs) named s = absurd s
+resolve-from h e j next k (begin_of unreached) named s = absurd s
+resolve-from h e j next k (slice_of closure) named s = absurd s
+resolve-from h e j next k (sweep_of freed) named s = absurd s
+resolve-from h e j next k (snap_of freed candidates dead) named s = absurd s
+resolve-from h e j next k (phase_of phase) named s = absurd s
+
+pub judged-resolve : (h : Finished) (e : Entry) (j : Joint) (k : Cycle) → e.made.op ≡ op.Resolve k → IsEvent e.made.caller e.made.op → (d : Verdict) (new : Joint)
+    → Decides (JointResolve j k.0 (named_objects h e.made.reply) e.made.reply) d j new → Judges h e d j new
+judged-resolve h e j k same event = judged h e j (op.Resolve k) _ same event
+    (λ n s. resolve-from h e j n k s.told s.named s.step)
+    (λ n s. record { told = resolution_of [] (named_objects h e.made.reply); named = refl; step = s })
+
+-- a verdict on the managed part, as one on the joint state
+pub Decides-managed : (j : Joint) (p : Managed → Type 0) (q : Joint → Type 0) → ((m : Managed) → p m → q (record j { managed = m })) → ((n : Joint) → q n → (m : Managed) × p m) → (d : Verdict) (m : Managed) → Decides p d j.managed m → Decides q d j (record j { managed = m })
+Decides-managed j p q to from Lawful m x = to m x
+Decides-managed j p q to from Unlawful m x = (λ n s. (let r = from n s in x.0 r.0 r.1), ap (λ (z : Managed). record j { managed = z }) x.1)
+
+pub IfOk-as : {A E : Type 0} (p q : A → Type 0) → ((x : A) → p x → q x) → (r : Result A E) → IfOk r p → IfOk r q
+IfOk-as p q f (Ok x) h = f x h
+IfOk-as p q f (Err e) h = h

@@ -69,6 +69,8 @@ abbrev pub IsCoveredEvent : Thread → Op → Type 0
 IsCoveredEvent (M n) (op.Line a) = IsCoveredAct a
 IsCoveredEvent t (op.Make s n) = Unit {0}
 IsCoveredEvent t (op.Adopt v k n p h) = Unit {0}
+IsCoveredEvent t (op.Snap k) = Unit {0}
+IsCoveredEvent t (op.Resolve k) = Unit {0}
 IsCoveredEvent t (op.Abandon k) = Unit {0}
 IsCoveredEvent t _ = ⊥
 

@@ -1,2 +1,5 @@
 pub mod Judging
 pub mod Plain
+pub mod Roots
+pub mod Finding
+pub mod Snaps

@@ -1,5 +1,5 @@
 -- A heap in plain lists, which nothing is asked of but its flags: a field may hold a freed object. (This project's own.)
-use Rattle.std.specs.Prelude.{◌≡◌, ℕ, ◌≤◌, Bool, true, false, ◌&&◌, not, nat_le, if◌then◌else◌, List, map, Contains, Option, Some, None, length}
+use Rattle.std.specs.Prelude.{◌≡◌, ℕ, ◌≤◌, ◌⊎◌, Bool, true, false, ◌&&◌, not, nat_le, if◌then◌else◌, List, map, Contains, Option, Some, None, length}
 use Rattle.joint_model.specs.declared.events.Reply.{Reply}
 use Rattle.joint_model.specs.declared.events.Reply.TheVariants as says
 use Rattle.joint_model.specs.Heaps.{Heap, MOST, IsMade, is_freed, numbered_at}
@@ -45,3 +45,9 @@ refusal_reply Range = says.Range
 pub record HasOpen (s : Managed) (k : ℕ) : Type 0 where
   pub cycle : OpenCycle
   pub is_open : IsOpen s k cycle
+
+-- the flags of the objects of a list were taken down, and no others
+pub record Lowers (xs : List ℕ) (old new : List Bool) : Type 0 where
+  pub len : length new ≡ length old
+  pub up : (x : ℕ) → numbered_at new x ≡ Some true → (numbered_at old x ≡ Some true) × (Contains xs x → ⊥)
+  pub down : (x : ℕ) → numbered_at new x ≡ Some false → (numbered_at old x ≡ Some false) ⊎ Contains xs x

@@ -28,6 +28,8 @@ pub(crate) fn can_make(caller: Thread, op: &Op) -> bool
             p: _,
             h: _,
         } => { is_managed(caller) && is_var(*v) && is_bridge_object(*kind, *fields) }
+        Op::Snap { cycle: _ } => matches!(caller, Thread::C),
+        Op::Resolve { cycle: _ } => matches!(caller, Thread::C),
         Op::Abandon { cycle: _ } => matches!(caller, Thread::C),
         _ => false,
     }

@@ -1,11 +1,13 @@
 // One heap in plain lists.
 
-ghost use Rattle.std.specs.Prelude.{◌≡◌, ℕ, ◌+◌, ◌<◌, ◌≤◌, ◌↔◌, ◌++◌, List, Contains, All, Some, None, IsTrue, IfOk, OnOk, OnErr, MatchResult, length};
+ghost use Rattle.std.specs.Prelude.{◌≡◌, ℕ, ◌+◌, ◌<◌, ◌≤◌, ◌↔◌, ◌++◌, List, Contains, All, Some, None, IsTrue, IfOk, OnOk, OnErr, MatchResult, IfSome, length, take, vec_capacity};
 ghost use Rattle.std.specs.Option.{ForSome};
-ghost use Rattle.joint_model.specs.Heaps.{Heap, MOST, IsMade, IsLive, answer, slot, fields_of, is_full, opening_heap, with_object, with_var, with_field, with_freed, field_set};
-ghost use Rattle.joint_replay.specs.Plain.{refusal_reply};
+ghost use Rattle.joint_model.specs.Heaps.{Heap, MOST, IsMade, IsLive, is_freed, answer, slot, fields_of, is_full, opening_heap, with_object, with_var, with_field, with_freed, field_set};
+ghost use Rattle.object_heap.specs.Tidy.{live_fields};
+ghost use Rattle.joint_replay.specs.Plain.{refusal_reply, is_live, kept_target, cleaned, Lowers};
 
 use joint_model::Reply;
+use reachability::Walked;
 use std::alloc::{AllocError, Global};
 use std::marker::Model;
 
@@ -83,12 +85,85 @@ impl PlainHeap {
 
     /// Whether object `x` was freed.
     pub(crate) fn is_freed(&self, x: u32) -> bool
-        ensures { IsTrue result ↔ Contains self.now.freed x }
+        ensures freed { IsTrue result ↔ Contains self.now.freed x }
+        ensures test { result ≡ is_freed self.now x }
     {
         if x == 0 || x as usize > self.flags.len() {
             return false;
         }
         !self.flags[x as usize - 1]
+    }
+
+    /// Whether object `x` was made and isn't freed.
+    pub(crate) fn is_live(&self, x: u32) -> bool
+        ensures live { IsTrue result ↔ IsLive self.now x }
+        ensures test { result ≡ is_live self.now x }
+    {
+        if x == 0 || x as usize > self.flags.len() {
+            return false;
+        }
+        self.flags[x as usize - 1]
+    }
+
+    /// How many objects were freed.
+    pub(crate) fn freed_len(&self) -> usize
+        ensures { result ≡ length self.now.freed }
+    {
+        self.freed.len()
+    }
+
+    /// The variables.
+    pub(crate) fn vars(&self) -> &[Option<u32>]
+        ensures { result.now ≡ self.now.vars }
+    {
+        &self.vars
+    }
+
+    /// The statics.
+    pub(crate) fn statics(&self) -> &[Option<u32>]
+        ensures { result.now ≡ self.now.statics }
+    {
+        &self.statics
+    }
+
+    /// What field `i` of object `x` holds.
+    pub(crate) fn field(&self, x: u32, i: usize) -> Option<u32>
+        requires { i < length (fields_of self.now x) }
+        ensures { slot (fields_of self.now x) i ≡ result }
+    {
+        self.fields[x as usize - 1][i]
+    }
+
+    /// What field `i` of object `x` leads to: the object that it holds, where that is live.
+    pub(crate) fn open_field(&self, x: u32, i: usize) -> Option<u32>
+        requires { i < length (fields_of self.now x) }
+        ensures target { result ≡ kept_target self.now (slot (fields_of self.now x) i) }
+        ensures live { IfSome result (IsLive self.now) }
+    {
+        match self.field(x, i) {
+            None => None,
+            Some(y) => { if self.is_live(y) { Some(y) } else { None } }
+        }
+    }
+
+    // Node `x` of the graph as the number of an object.
+    fn node(&self, x: usize) -> u32
+        requires { x < length self.now.fields + 1 }
+        ensures { result ≡ x }
+    {
+        let _ = &self.fields;
+        x as u32
+    }
+
+    /// Frees the objects of a list. Answers `AllocError` where there is no memory; the heap is then as before.
+    pub(crate) fn free(&mut self, xs: &[u32]) -> Result<(), AllocError>
+        requires { All (IsMade self.old) xs.now }
+        ensures ok { OnOk result (self.new ≡ with_freed self.old xs.now) }
+        ensures err { OnErr result (self.new ≡ self.old) }
+    {
+        self.freed.reserve(xs.len())?;
+        lower(xs, &mut self.flags, &mut self.freed);
+        Ok(())
     }
 
     /// What the variable at a place names.
@@ -168,5 +243,52 @@ impl PlainHeap {
         ensures { self.new ≡ with_field self.old place.now.object place.now.field place.now.value }
     {
         self.fields[place.object as usize - 1][place.field] = place.value;
+    }
+}
+
+/// Puts the numbers of a list last. It takes no memory.
+pub(crate) fn put_all(xs: &[u32], to: &mut Vec<u32>)
+    requires { length to.old.items + length xs.now ≤ vec_capacity to.old }
+    ensures { to.new.items ≡ to.old.items ++ xs.now }
+{
+    for x in xs {
+        to.push_reserved(*x);
+    }
+}
+
+// Takes down the flags of the objects of a list, and puts them on the list of freed ones.
+fn lower(xs: &[u32], flags: &mut Vec<bool>, freed: &mut Vec<u32>)
+    requires made { All (λ x. (1 ≤ x) × (x ≤ length flags.old.items)) xs.now }
+    requires room { length freed.old.items + length xs.now ≤ vec_capacity freed.old }
+    ensures flags { Lowers xs.now flags.old.items flags.new.items }
+    ensures freed { freed.new.items ≡ freed.old.items ++ xs.now }
+{
+    for x in xs {
+        flags[*x as usize - 1] = false;
+        freed.push_reserved(*x);
+    }
+}
+
+/// The nodes are the objects' numbers; a live object leads to the live ones in its fields, and all else nowhere.
+impl Walked for PlainHeap {
+    ghost nodes = { λ h. length h.fields + 1 };
+
+    ghost targets = { λ h. live_fields (cleaned h) };
+
+    fn len(&self) -> usize {
+        self.made() as usize + 1
+    }
+
+    fn degree(&self, x: usize) -> usize {
+        let object = self.node(x);
+        if self.is_live(object) {
+            self.fields_len(object)
+        } else {
+            0
+        }
+    }
+
+    fn target(&self, x: usize, i: usize) -> Option<u32> {
+        self.open_field(self.node(x), i)
     }
 }

@@ -10,9 +10,12 @@
 #![tactic(auto)]
 
 mod callers;
+mod found;
 mod heap;
 mod managed;
+mod named;
 mod peers;
+mod roots;
 mod state;
 
 pub use state::{JointState, Verdict};

@@ -1,15 +1,21 @@
 // The managed part of the joint state.
 
-ghost use Rattle.std.specs.Prelude.{◌≡◌, ℕ, ◌+◌, ◌<◌, ◌≤◌, ◌↔◌, IsTrue, IfOk, OnErr, OnOk, Some, None};
+ghost use Rattle.std.specs.Prelude.{◌≡◌, ℕ, ◌+◌, ◌<◌, ◌≤◌, ◌↔◌, IsTrue, IfOk, OnErr, OnOk, Some, None, MatchOption, All, filter, filter_map, length};
 ghost use Rattle.std.specs.Option.{ForSome};
-ghost use Rattle.joint_model.specs.Heaps.{field_set, dropped, answer};
-ghost use Rattle.joint_model.specs.Managed.{opening_managed, on_heap, adopted, abandoned, managed_name};
+ghost use Rattle.joint_model.specs.Cycles.{IsOpen};
+ghost use Rattle.joint_model.specs.Heaps.{field_set, dropped, answer, IsMade};
+ghost use Rattle.joint_model.specs.Managed.{opening_managed, on_heap, adopted, abandoned, managed_name, handle_of, holds_handle, snapped, resolved};
 ghost use Rattle.joint_replay.specs.Plain.{refusal_reply, HasOpen};
-ghost use Rattle.joint_replay.specs.Judging.{Decides, Gives};
+ghost use Rattle.joint_replay.specs.Judging.{Decides, Gives, named_objects};
+ghost use Rattle.joint_replay.specs.Finding.{Finds};
+ghost use Rattle.joint_replay.specs.Snaps.{Snaps, OwesDead, NamesFreed, SaysSnap};
 
-use crate::heap::{PlainHeap, Refusal};
+use crate::found::{Found, find};
+use crate::heap::{PlainHeap, Refusal, put_all};
+use crate::named::freed_objects;
+use crate::roots::handle_at;
 use crate::state::Verdict;
-use joint_model::{Cycle, Kind, MNum, Reply};
+use joint_model::{Cycle, History, Kind, Reply, Span};
 use std::alloc::{AllocError, Global};
 use std::marker::Model;
 
@@ -36,6 +42,20 @@ impl Open {
     {
         self.number
     }
+
+    /// The candidates.
+    pub(crate) fn candidates(&self) -> &[u32]
+        ensures { result.now ≡ self.now.candidates }
+    {
+        self.candidates.as_slice()
+    }
+
+    /// The dead part.
+    pub(crate) fn dead(&self) -> &[u32]
+        ensures { result.now ≡ self.now.dead }
+    {
+        self.dead.as_slice()
+    }
 }
 
 /// The managed objects with their kinds and handles, the notices, and the open cycle.
@@ -50,10 +70,13 @@ pub(crate) struct ManagedPart {
 }
 
 impl Model for ManagedPart {
-    ghost use Rattle.std.specs.Prelude.{replicate, None};
+    ghost use Rattle.std.specs.Prelude.{replicate, None, length};
     ghost use Rattle.joint_model.specs.Managed.{Managed};
+    ghost use Rattle.joint_replay.specs.Snaps.{OwesDead};
 
     ghost Value = { Managed };
+
+    ghost invariant = { λ s. OwesDead (length s.heap.fields) s.cycle };
 
     ghost view = { λ s. record { heap = s.heap; kinds = s.kinds.items; held = s.held.items; pins = replicate 9 None; cells = replicate 64 None; notices = s.notices.items; taken = 0; cycle = s.cycle; cycles = s.cycles } };
 }
@@ -141,6 +164,175 @@ impl ManagedPart {
             None => false,
             Some(open) => open.number() == k.0,
         }
+    }
+
+    /// Cycle `k`, where it is open.
+    pub(crate) fn opened(&self, k: Cycle) -> Option<&Open>
+        ensures { MatchOption result (HasOpen self.now k.0 → ⊥) (λ o. IsOpen self.now k.0 o.now × OwesDead (length self.now.heap.fields) (Some o.now)) }
+    {
+        match &self.cycle {
+            None => None,
+            Some(open) => {
+                if open.number() == k.0 {
+                    Some(open)
+                } else {
+                    None
+                }
+            }
+        }
+    }
+
+    /// The objects' heap.
+    pub(crate) fn heap(&self) -> &PlainHeap
+        ensures { result.now ≡ self.now.heap }
+    {
+        &self.heap
+    }
+
+    /// The handle that object `m` holds; a freed one holds none.
+    pub(crate) fn handle(&self, m: u32) -> Option<u32>
+        ensures { result ≡ handle_of self.now m }
+    {
+        if self.heap.is_freed(m) {
+            None
+        } else {
+            handle_at(&self.held, m)
+        }
+    }
+
+    /// The handles that the objects of a list hold. Answers `AllocError` where there is no memory.
+    pub(crate) fn handles_of(&self, alloc: Global, rows: &[u32]) -> Result<Vec<u32>, AllocError>
+        ensures { IfOk result (λ v. v.items ≡ filter_map (handle_of self.now) rows.now) }
+    {
+        rows.iter().filter_map(|m| self.handle(*m)).collect(alloc)
+    }
+
+    // The objects of a list that hold a handle.
+    fn holders(&self, alloc: Global, rows: &[u32]) -> Result<Vec<u32>, AllocError>
+        ensures { IfOk result (λ v. v.items ≡ filter (holds_handle self.now) rows.now) }
+    {
+        rows.iter()
+            .copied()
+            .filter(|m| self.holds(*m))
+            .collect(alloc)
+    }
+
+    fn holds(&self, m: u32) -> bool
+        ensures { result ≡ holds_handle self.now m }
+    {
+        match self.handle(m) {
+            None => false,
+            Some(_) => true,
+        }
+    }
+
+    /// Whether a span of that reply names exactly these objects in the history's list, and stands where they come.
+    pub(crate) fn frees(
+        &self,
+        alloc: Global,
+        h: &History,
+        span: Span,
+        freed: &[u32],
+    ) -> Result<bool, AllocError>
+        ensures { IfOk result (λ b. IsTrue b ↔ NamesFreed self.now.heap h.now span freed.now) }
+    {
+        if span.first as usize != self.heap.freed_len() || span.count as usize != freed.len() {
+            return Ok(false);
+        }
+        match freed_objects(alloc, h, span)? {
+            None => Ok(false),
+            Some(told) => Ok(told.as_slice() == freed),
+        }
+    }
+
+    /// `snap`: cycle `k` is opened, with what the history says that it frees. Answers `AllocError` where there is no
+    /// memory; the part is then as before.
+    pub(crate) fn snap(
+        &mut self,
+        alloc: Global,
+        h: &History,
+        k: Cycle,
+        reply: &Reply,
+    ) -> Result<Verdict, AllocError>
+        ensures ok { IfOk result (λ d. Decides (Snaps self.old k.0 (named_objects h.now reply.now) reply.now) d self.old self.new) }
+        ensures err { OnErr result (self.new ≡ self.old) }
+    {
+        if !self.is_next(k) {
+            return Ok(Verdict::Unlawful);
+        }
+        let found = find(alloc, &self.heap, &self.held)?;
+        let lawful = self.says_snap(alloc, h, reply, &found.freed, found.candidates.len())?;
+        if !lawful {
+            return Ok(Verdict::Unlawful);
+        }
+        self.open(k, found)?;
+        Ok(Verdict::Lawful)
+    }
+
+    // Whether no cycle is open, and the next one has number `k`.
+    fn is_next(&self, k: Cycle) -> bool
+        ensures { IsTrue result ↔ ((self.now.cycle ≡ None) × (k.0 ≡ self.now.cycles + 1)) }
+    {
+        self.cycle.is_none() && k.0 as u64 == self.cycles as u64 + 1
+    }
+
+    // Whether the reply is that of a snapshot that frees these objects and has so many candidates.
+    fn says_snap(
+        &self,
+        alloc: Global,
+        h: &History,
+        reply: &Reply,
+        freed: &[u32],
+        candidates: usize,
+    ) -> Result<bool, AllocError>
+        ensures { IfOk result (λ b. IsTrue b ↔ SaysSnap self.now.heap h.now reply.now freed.now candidates) }
+    {
+        match reply {
+            Reply::Snapped(count, span) => {
+                if *count as usize != candidates {
+                    return Ok(false);
+                }
+                self.frees(alloc, h, *span, freed)
+            }
+            _ => Ok(false),
+        }
+    }
+
+    // Opens cycle `k` with what was found, and frees what goes.
+    fn open(&mut self, k: Cycle, found: Found) -> Result<(), AllocError>
+        requires next { k.0 ≡ self.old.cycles + 1 }
+        requires finds { Finds self.old.heap self.old.held found.freed.items found.candidates.items found.dead.items }
+        ensures ok { OnOk result (self.new ≡ snapped self.old found.freed.items found.candidates.items found.dead.items) }
+        ensures err { OnErr result (self.new ≡ self.old) }
+    {
+        let Found {
+            freed,
+            dead,
+            candidates,
+        } = found;
+        self.heap.free(&freed)?;
+        self.cycles = k.0;
+        self.cycle = Some(Open {
+            number: k.0,
+            candidates,
+            dead,
+        });
+        Ok(())
+    }
+
+    /// Closes the open cycle and frees these rows, with a notice for each that holds a handle. Answers `AllocError` where
+    /// there is no memory; the part is then as before.
+    pub(crate) fn close(&mut self, alloc: Global, freed: &[u32]) -> Result<(), AllocError>
+        requires { All (IsMade self.old.heap) freed.now }
+        ensures ok { OnOk result (self.new ≡ resolved self.old freed.now) }
+        ensures err { OnErr result (self.new ≡ self.old) }
+    {
+        let queued = self.holders(alloc, freed)?;
+        self.notices.reserve(queued.len())?;
+        self.heap.free(freed)?;
+        put_all(&queued, &mut self.notices);
+        self.cycle = None;
+        Ok(())
     }
 
     /// Closes the open cycle, and frees nothing.

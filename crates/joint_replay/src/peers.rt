@@ -2,7 +2,7 @@
 
 ghost use Rattle.std.specs.Prelude.{◌≡◌, ℕ, ◌+◌, ◌<◌, ◌≤◌, ◌↔◌, ◌||◌, IsTrue, OnErr, OnOk, length, false};
 ghost use Rattle.joint_model.specs.Heaps.{MOST, is_full, next_number};
-ghost use Rattle.joint_model.specs.Peers.{opening_peers, pair_made, with_handle, with_peer, held, strong, next_handle};
+ghost use Rattle.joint_model.specs.Peers.{opening_peers, pair_made, with_handle, with_peer, held, strong, next_handle, peer_of};
 
 use crate::heap::PlainHeap;
 use joint_model::{Reply, Sort};
@@ -44,6 +44,23 @@ impl PeerPart {
             sorts: Vec::new(alloc),
             handles: Vec::new(alloc),
         }
+    }
+
+    /// The peers' heap.
+    pub(crate) fn heap(&self) -> &PlainHeap
+        ensures { result.now ≡ self.now.heap }
+    {
+        &self.heap
+    }
+
+    /// The peer of handle `h`; None where none was issued with that number.
+    pub(crate) fn peer_of(&self, h: u32) -> Option<u32>
+        ensures { result ≡ peer_of self.now.issued h }
+    {
+        if h == 0 || h as usize > self.handles.len() {
+            return None;
+        }
+        Some(self.handles[h as usize - 1])
     }
 
     /// Whether no further peer or no further handle can be made.

@@ -1,20 +1,24 @@
 // The joint state, and the verdict on an entry.
 
-ghost use Rattle.std.specs.Prelude.{◌≡◌, ◌<◌, ◌↔◌, if◌then◌else◌, IsTrue, IfOk, OnErr, OnOk, length, Some, None};
+ghost use Rattle.std.specs.Prelude.{◌≡◌, ◌<◌, ◌↔◌, if◌then◌else◌, IsTrue, IfOk, OnErr, OnOk, length, Some, None, MatchOption, true, filter};
 ghost use Rattle.std.specs.Option.{ForSome};
 ghost use Rattle.joint_model.specs.declared.events.Entry.{Entry};
-ghost use Rattle.joint_model.specs.Heaps.{place, field_set, dropped};
+ghost use Rattle.joint_model.specs.Heaps.{place, field_set, dropped, numbered_set};
 ghost use Rattle.joint_model.specs.Joint.{Joint, opening};
 ghost use Rattle.joint_model.specs.Lines.{IsManagedThread, IsVar, IsVarOrNone};
 ghost use Rattle.joint_model.specs.Managed.{adopted, on_heap, place_or_none, abandoned};
 ghost use Rattle.joint_model.specs.Peers.{pair_made};
-ghost use Rattle.joint_model.specs.Run.{on_managed, on_peers, thread_number, JointAbandon};
-ghost use Rattle.joint_replay.specs.Judging.{Judges, Decides, Gives, IsCovered, IsEntry};
+ghost use Rattle.joint_model.specs.Run.{on_managed, on_peers, thread_number, JointAbandon, JointResolve, removed_all};
+ghost use Rattle.joint_replay.specs.Plain.{HasOpen};
+ghost use Rattle.joint_replay.specs.Snaps.{SnapsJoint, Settles, SaysFreed, keeps};
+ghost use Rattle.managed_heap.specs.Unmarked.{marked, unmarked_of};
+ghost use Rattle.joint_replay.specs.Judging.{Judges, Decides, Gives, IsCovered, IsEntry, named_objects};
 
 use crate::callers::{can_make, place_of, place_or_none};
 use crate::managed::ManagedPart;
 use crate::peers::PeerPart;
 use joint_model::{Act, Cycle, Entry, HNum, History, Kind, Op, Reply, Sort, Thread, Var};
+use reachability::reached;
 use std::alloc::{AllocError, Global};
 use std::marker::Model;
 
@@ -41,6 +45,7 @@ impl Verdict {
 /// The state of the joint machine.
 #[derive(Drop)]
 pub struct JointState {
+    alloc: Global,
     managed: ManagedPart,
     peers: PeerPart,
     removed: Vec<bool>,
@@ -61,6 +66,7 @@ impl JointState {
         ensures { IfOk result (λ s. s ≡ opening) }
     {
         Ok(JointState {
+            alloc,
             managed: ManagedPart::new(alloc),
             peers: PeerPart::new(alloc),
             removed: Vec::new(alloc),
@@ -101,8 +107,10 @@ impl JointState {
                 kind,
                 fields,
                 p: _,
-                h,
-            } => { self.adopt(made.caller, v, kind, fields, h, &made.reply) }
+                h: handle,
+            } => self.adopt(made.caller, v, kind, fields, handle, &made.reply),
+            Op::Snap { cycle } => self.snap(h, cycle, &made.reply),
+            Op::Resolve { cycle } => self.resolve(h, cycle, &made.reply),
             Op::Abandon { cycle } => Ok(self.abandon(cycle, &made.reply)),
             _ => unreachable!(),
         }
@@ -168,6 +176,80 @@ impl JointState {
         Ok(Verdict::Lawful)
     }
 
+    // `snap`: cycle `k` is opened, with what the history says that it frees.
+    fn snap(&mut self, h: &History, k: Cycle, reply: &Reply) -> Result<Verdict, AllocError>
+        ensures ok { IfOk result (λ d. Decides (SnapsJoint self.old k.0 (named_objects h.now reply.now) reply.now) d self.old self.new) }
+        ensures err { OnErr result (self.new ≡ self.old) }
+    {
+        let verdict = self.managed.snap(self.alloc, h, k, reply)?;
+        Ok(verdict)
+    }
+
+    // `resolve`: cycle `k` is closed, with what the history says that it frees.
+    fn resolve(&mut self, h: &History, k: Cycle, reply: &Reply) -> Result<Verdict, AllocError>
+        ensures ok { IfOk result (λ d. Decides (JointResolve self.old k.0 (named_objects h.now reply.now) reply.now) d self.old self.new) }
+        ensures err { OnErr result (self.new ≡ self.old) }
+    {
+        let Some(freed) = self.settled(k)? else {
+            return Ok(Verdict::Unlawful);
+        };
+        let lawful = self.says_freed(h, reply, &freed)?;
+        if !lawful {
+            return Ok(Verdict::Unlawful);
+        }
+        let handles = self.managed.handles_of(self.alloc, &freed)?;
+        self.managed.close(self.alloc, &freed)?;
+        remove_all(&handles, &mut self.removed);
+        Ok(Verdict::Lawful)
+    }
+
+    // What a resolution of cycle `k` frees; None where that cycle isn't open.
+    fn settled(&self, k: Cycle) -> Result<Option<Vec<u32>>, AllocError>
+        ensures { IfOk result (λ o. MatchOption o (HasOpen self.now.managed k.0 → ⊥) (λ v. Settles self.now k.0 v.items)) }
+    {
+        let Some(open) = self.managed.opened(k) else {
+            return Ok(None);
+        };
+        let kept = self.kept(open.candidates())?;
+        let marks = reached(self.alloc, self.managed.heap(), &kept)?;
+        let freed = unmarked(self.alloc, &marks, open.dead())?;
+        Ok(Some(freed))
+    }
+
+    // The candidates of a list that are kept.
+    fn kept(&self, candidates: &[u32]) -> Result<Vec<u32>, AllocError>
+        ensures { IfOk result (λ v. v.items ≡ filter (keeps self.now.managed self.now.peers) candidates.now) }
+    {
+        candidates
+            .iter()
+            .copied()
+            .filter(|m| self.keeps(*m))
+            .collect(self.alloc)
+    }
+
+    // Whether an object holds a handle whose peer isn't freed.
+    fn keeps(&self, m: u32) -> bool
+        ensures { result ≡ keeps self.now.managed self.now.peers m }
+    {
+        match self.managed.handle(m) {
+            None => false,
+            Some(h) => match self.peers.peer_of(h) {
+                None => false,
+                Some(p) => !self.peers.heap().is_freed(p),
+            },
+        }
+    }
+
+    // Whether the reply is that of a resolution that frees these rows.
+    fn says_freed(&self, h: &History, reply: &Reply, freed: &[u32]) -> Result<bool, AllocError>
+        ensures { IfOk result (λ b. IsTrue b ↔ SaysFreed self.now.managed.heap h.now reply.now freed.now) }
+    {
+        match reply {
+            Reply::Freed(span) => self.managed.frees(self.alloc, h, *span, freed),
+            _ => Ok(false),
+        }
+    }
+
     // `abandon`: the open cycle is closed, and nothing is freed.
     fn abandon(&mut self, k: Cycle, reply: &Reply) -> Verdict
         ensures { Decides (JointAbandon self.old k.0 reply.now) result self.old self.new }
@@ -177,5 +259,41 @@ impl JointState {
         }
         self.managed.abandon();
         Verdict::Lawful
+    }
+}
+
+// The rows of a list that aren't marked.
+fn unmarked(alloc: Global, marks: &[bool], rows: &[u32]) -> Result<Vec<u32>, AllocError>
+    ensures { IfOk result (λ v. v.items ≡ unmarked_of marks.now rows.now) }
+{
+    rows.iter()
+        .copied()
+        .filter(|m| !is_marked(marks, *m))
+        .collect(alloc)
+}
+
+fn is_marked(marks: &[bool], m: u32) -> bool
+    ensures { result ≡ marked marks.now m }
+{
+    match marks.get(m as usize) {
+        None => false,
+        Some(mark) => *mark,
+    }
+}
+
+// Marks the handles of a list as removed.
+fn remove_all(handles: &[u32], removed: &mut Vec<bool>)
+    ensures { removed.new.items ≡ removed_all removed.old.items handles.now }
+{
+    for h in handles {
+        remove(*h, removed);
+    }
+}
+
+fn remove(h: u32, removed: &mut Vec<bool>)
+    ensures { removed.new.items ≡ numbered_set removed.old.items h true }
+{
+    if h != 0 && h as usize <= removed.len() {
+        removed[h as usize - 1] = true;
     }
 }

@@ -2,7 +2,7 @@
 use Rattle.std.proofs.Common.{◌≡◌, rules}
 use Rattle.joint_model.specs.declared.lines.Act.TheVariants as act
 use Rattle.joint_model.specs.declared.events.Op.TheVariants as op
-use Rattle.joint_replay.proofs.Verdicts.{judged-set, judged-drop, judged-make, judged-adopt, judged-abandon, judged-ok}
+use Rattle.joint_replay.proofs.Verdicts.{judged-set, judged-drop, judged-make, judged-adopt, judged-abandon, judged-snap, judged-resolve, judged-ok}
 use Rattle.joint_replay.proofs.state.JointState.judge.Goals as goal
 
 pub returns-in-Line-Set-clause-verdict : goal.returns-in-Line-Set-clause-verdict
@@ -25,8 +25,16 @@ returns-in-Make-clause-verdict c =
 pub returns-in-Adopt-clause-verdict : goal.returns-in-Adopt-clause-verdict
 returns-in-Adopt-clause-verdict c =
     let q = c.in-Adopt in
-    judged-ok c.args.h.now c.args.entry.now c.args.self.now _ _ (λ v. judged-adopt c.args.h.now c.args.entry.now c.args.self.now q.v q.kind q.fields q.p q.h q.is (c.can_make.ensures.0 c.if-not-can_make.false).0 v _) c.adopt.result c.adopt.ensures.ok
+    judged-ok c.args.h.now c.args.entry.now c.args.self.now _ _ (λ v. judged-adopt c.args.h.now c.args.entry.now c.args.self.now q.v q.kind q.fields q.p q.handle q.is (c.can_make.ensures.0 c.if-not-can_make.false).0 v _) c.adopt.result c.adopt.ensures.ok
 
 pub returns-in-Abandon-clause-verdict : goal.returns-in-Abandon-clause-verdict
 returns-in-Abandon-clause-verdict c =
     judged-abandon c.args.h.now c.args.entry.now c.args.self.now c.in-Abandon.cycle c.in-Abandon.is (c.can_make.ensures.0 c.if-not-can_make.false).0 c.abandon.result c.abandon.new.self c.abandon.ensures
+
+pub returns-in-Snap-clause-verdict : goal.returns-in-Snap-clause-verdict
+returns-in-Snap-clause-verdict c =
+    judged-ok c.args.h.now c.args.entry.now c.args.self.now _ _ (λ v. judged-snap c.args.h.now c.args.entry.now c.args.self.now c.in-Snap.cycle c.in-Snap.is (c.can_make.ensures.0 c.if-not-can_make.false).0 v _) c.snap.result c.snap.ensures.ok
+
+pub returns-in-Resolve-clause-verdict : goal.returns-in-Resolve-clause-verdict
+returns-in-Resolve-clause-verdict c =
+    judged-ok c.args.h.now c.args.entry.now c.args.self.now _ _ (λ v. judged-resolve c.args.h.now c.args.entry.now c.args.self.now c.in-Resolve.cycle c.in-Resolve.is (c.can_make.ensures.0 c.if-not-can_make.false).0 v _) c.resolve.result c.resolve.ensures.ok

@@ -1,0 +1,7 @@
+-- The wanted rows so far are gathered.
+use Rattle.managed_heap.specs.Found.{IsCandidateRow}
+use Rattle.managed_heap.specs.Gathered.{Gathered}
+use Rattle.joint_replay.proofs.found.pick.Given as goal
+
+abbrev pub invariant-loop-m : goal.invariant-loop-m
+invariant-loop-m l = Gathered (IsCandidateRow l.heap l.held l.slots) l.m l.rows.items

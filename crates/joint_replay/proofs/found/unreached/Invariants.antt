@@ -1,0 +1,7 @@
+-- The wanted rows so far are gathered.
+use Rattle.managed_heap.specs.Found.{IsUnreachedRow}
+use Rattle.managed_heap.specs.Gathered.{Gathered}
+use Rattle.joint_replay.proofs.found.unreached.Given as goal
+
+abbrev pub invariant-loop-m : goal.invariant-loop-m
+invariant-loop-m l = Gathered (IsUnreachedRow l.heap l.slots l.bridges l.stays) l.m l.rows.items

@@ -1,0 +1,63 @@
+-- Snapshots and resolutions of the managed part, with the freed rows that are told. (The definitions are the joint
+-- model's; only their result is named here.)
+use Rattle.std.specs.Prelude.{◌≡◌, ℕ, ◌≤◌, Bool, false, not, List, Option, Some, None, All, length}
+use Rattle.joint_model.specs.declared.names.Span.{Span}
+use Rattle.joint_model.specs.declared.events.Reply.TheVariants as says
+use Rattle.joint_model.specs.declared.events.Reply.{Reply}
+use Rattle.joint_model.specs.Components.{Rises}
+use Rattle.joint_model.specs.Cycles.{IsSnapshot, snap_reply, IsResolution, IsOpen}
+use Rattle.joint_model.specs.Heaps.{Heap, IsMade, is_freed}
+use Rattle.joint_model.specs.Histories.{Finished, managed_numbers, stretch}
+use Rattle.joint_model.specs.Joint.{Joint}
+use Rattle.joint_model.specs.Managed.{Managed, OpenCycle, snapped, handle_of}
+use Rattle.joint_model.specs.Peers.{Peers, peer_of}
+use Rattle.joint_model.specs.Run.{IsKept, JointSnap}
+
+-- a snapshot that frees these rows
+pub record Snaps (s : Managed) (k : ℕ) (freed : List ℕ) (reply : Reply) (next : Managed) : Type 0 where
+  pub candidates : List ℕ
+  pub dead : List ℕ
+  pub snapshot : IsSnapshot s k freed candidates dead
+  pub replies : reply ≡ snap_reply s freed candidates
+  pub state : next ≡ snapped s freed candidates dead
+
+-- a snapshot of the joint machine that frees these rows
+pub record SnapsJoint (j : Joint) (k : ℕ) (freed : List ℕ) (reply : Reply) (next : Joint) : Type 0 where
+  pub candidates : List ℕ
+  pub dead : List ℕ
+  pub snap : JointSnap j k freed candidates dead reply next
+
+-- the span names exactly these objects in the history's list, and stands where the next freed ones come
+pub record NamesFreed (g : Heap) (h : Finished) (span : Span) (freed : List ℕ) : Type 0 where
+  pub first : span.first ≡ length g.freed
+  pub count : span.count ≡ length freed
+  pub named : managed_numbers (stretch h.freed_managed span) ≡ freed
+
+-- the reply is that of a snapshot that frees these objects and has so many candidates
+abbrev pub SaysSnap : Heap → Finished → Reply → List ℕ → ℕ → Type 0
+SaysSnap g h (says.Snapped n span) freed candidates = (n ≡ candidates) × NamesFreed g h span freed
+SaysSnap g h _ freed candidates = ⊥
+
+-- the reply is that of a resolution that frees these objects
+abbrev pub SaysFreed : Heap → Finished → Reply → List ℕ → Type 0
+SaysFreed g h (says.Freed span) freed = NamesFreed g h span freed
+SaysFreed g h _ freed = ⊥
+
+-- the dead part of an open cycle rises, and its rows and the candidates were made
+abbrev pub OwesDead : ℕ → Option OpenCycle → Type 0
+OwesDead made None = Unit {0}
+OwesDead made (Some c) = Rises c.dead × All (λ m. (1 ≤ m) × (m ≤ made)) c.dead × All (λ m. (1 ≤ m) × (m ≤ made)) c.candidates
+
+-- whether an object is kept: it holds a handle whose peer isn't freed
+abbrev pub keeps : Managed → Peers → ℕ → Bool
+keeps s p m = elim (handle_of s m) [
+  | None ↦ false
+  | Some h ↦ elim (peer_of p.issued h) [ None ↦ false | Some q ↦ not (is_freed p.heap q) ]
+]
+
+-- what a resolution of cycle k frees
+pub record Settles (j : Joint) (k : ℕ) (freed : List ℕ) : Type 0 where
+  pub cycle : OpenCycle
+  pub open_cycle : IsOpen j.managed k cycle
+  pub resolution : IsResolution j.managed cycle.dead (IsKept j cycle) freed
+  pub made : All (IsMade j.managed.heap) freed

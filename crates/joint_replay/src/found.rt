@@ -1,0 +1,100 @@
+// What a snapshot finds: lists of rows, each in rising number.
+
+ghost use Rattle.std.specs.Prelude.{◌≡◌, ℕ, ◌+◌, ◌<◌, ◌≤◌, ◌↔◌, Bool, true, false, Contains, IfOk, IsTrue, length};
+ghost use Rattle.joint_model.specs.Heaps.{Heap, IsLive};
+ghost use Rattle.joint_model.specs.Managed.{IsBridge};
+ghost use Rattle.managed_heap.specs.Found.{IsUnreachedRow, IsCandidateRow};
+ghost use Rattle.joint_replay.specs.Roots.{Lists};
+ghost use Rattle.joint_replay.specs.Finding.{Finds};
+
+use crate::heap::PlainHeap;
+use crate::roots::{bridge_rows, handle_at, named_roots};
+use reachability::reached;
+use std::alloc::{AllocError, Global};
+
+/// The lists of a snapshot.
+#[derive(Drop)]
+pub(crate) struct Found {
+    pub(crate) freed: Vec<u32>,
+    pub(crate) dead: Vec<u32>,
+    pub(crate) candidates: Vec<u32>,
+}
+
+/// Finds the rows that neither a slot nor a row with a handle reaches, which go; the rows that no slot but such a row
+/// reaches, which are the dead part; and the rows with a handle that no slot reaches. Answers `AllocError` where there
+/// is no memory.
+pub(crate) fn find(
+    alloc: Global,
+    heap: &PlainHeap,
+    held: &[Option<u32>],
+) -> Result<Found, AllocError>
+    ensures { IfOk result (λ f. Finds heap.now held.now f.freed.items f.candidates.items f.dead.items) }
+{
+    let roots = named_roots(alloc, heap)?;
+    let slots = reached(alloc, heap, &roots)?;
+    let bridge_roots = bridge_rows(alloc, heap, held)?;
+    let bridges = reached(alloc, heap, &bridge_roots)?;
+    let freed = unreached(alloc, heap, &slots, &bridges, false)?;
+    let dead = unreached(alloc, heap, &slots, &bridges, true)?;
+    let candidates = pick(alloc, heap, held, &slots)?;
+    Ok(Found {
+        freed,
+        dead,
+        candidates,
+    })
+}
+
+// The live rows that aren't marked in `slots`, and that are marked in `bridges` exactly where they stay.
+fn unreached(
+    alloc: Global,
+    heap: &PlainHeap,
+    slots: &[bool],
+    bridges: &[bool],
+    stays: bool,
+) -> Result<Vec<u32>, AllocError>
+    requires slots { length slots.now ≡ length heap.now.fields + 1 }
+    requires bridges { length bridges.now ≡ length heap.now.fields + 1 }
+    ensures { IfOk result (λ v. Lists (IsUnreachedRow heap.now slots.now bridges.now stays) v.items) }
+{
+    let mut rows = Vec::new(alloc);
+    for m in 1..heap.made() + 1 {
+        if is_unreached(heap, slots, bridges, stays, m) {
+            rows.push(m)?;
+        }
+    }
+    Ok(rows)
+}
+
+fn is_unreached(heap: &PlainHeap, slots: &[bool], bridges: &[bool], stays: bool, m: u32) -> bool
+    requires slots { m < length slots.now }
+    requires bridges { m < length bridges.now }
+    ensures { IsTrue result ↔ IsUnreachedRow heap.now slots.now bridges.now stays m }
+{
+    heap.is_live(m) && !slots[m as usize] && bridges[m as usize] == stays
+}
+
+// The live rows that hold a handle and aren't marked in `slots`.
+fn pick(
+    alloc: Global,
+    heap: &PlainHeap,
+    held: &[Option<u32>],
+    slots: &[bool],
+) -> Result<Vec<u32>, AllocError>
+    requires { length slots.now ≡ length heap.now.fields + 1 }
+    ensures { IfOk result (λ v. Lists (IsCandidateRow heap.now held.now slots.now) v.items) }
+{
+    let mut rows = Vec::new(alloc);
+    for m in 1..heap.made() + 1 {
+        if is_candidate(heap, held, slots, m) {
+            rows.push(m)?;
+        }
+    }
+    Ok(rows)
+}
+
+fn is_candidate(heap: &PlainHeap, held: &[Option<u32>], slots: &[bool], m: u32) -> bool
+    requires { m < length slots.now }
+    ensures { IsTrue result ↔ IsCandidateRow heap.now held.now slots.now m }
+{
+    heap.is_live(m) && handle_at(held, m).is_some() && !slots[m as usize]
+}
