@@ -19,3 +19,6 @@ mod roots;
 mod state;
 
 pub use state::{JointState, Verdict};
+
+#[cfg(test)]
+mod tests;

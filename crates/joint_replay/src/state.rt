@@ -88,8 +88,8 @@ impl JointState {
         }
     }
 
-    // Replays an entry of the history.
-    fn judge(&mut self, h: &History, entry: &Entry) -> Result<Verdict, AllocError>
+    /// Replays an entry of the history. The answers are those of [`JointState::replay_step`].
+    pub(crate) fn judge(&mut self, h: &History, entry: &Entry) -> Result<Verdict, AllocError>
         requires { IsCovered entry.now }
         ensures verdict { IfOk result (λ v. Judges h.now entry.now v self.old self.new) }
         ensures err { OnErr result (self.new ≡ self.old) }
