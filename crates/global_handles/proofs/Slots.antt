@@ -28,13 +28,13 @@ RisesBetween-put n high p None rows rises = RisesBetween-low n (n + 1) high rows
 RisesBetween-put n high p (Some k) rows rises = (omega arith, rises)
 
 -- the rows of slots rise, up to the number of the last slot
-pub RisesBetween-rows : (n high : ℕ) (ss : List Slot) → n + length ss ≡ high → RisesBetween n high (rows_from n ss)
-RisesBetween-rows n high [] is = omega arith
-RisesBetween-rows n high (s ∷ ss) is = RisesBetween-put n high s.peer s.row (rows_from (n + 1) ss) (RisesBetween-rows (n + 1) high ss (omega arith))
+pub RisesBetween-listed : (n high : ℕ) (ss : List Slot) → n + length ss ≡ high → RisesBetween n high (rows_from n ss)
+RisesBetween-listed n high [] is = omega arith
+RisesBetween-listed n high (s ∷ ss) is = RisesBetween-put n high s.peer s.row (rows_from (n + 1) ss) (RisesBetween-listed (n + 1) high ss (omega arith))
 
 -- the rows of a table rise
 pub IsRising-table : (ss : List Slot) (m : ℕ) → length ss ≡ m → RisesBetween 0 m (rows_from 0 ss)
-IsRising-table ss m is = RisesBetween-rows 0 m ss (omega arith)
+IsRising-table ss m is = RisesBetween-listed 0 m ss (omega arith)
 
 -- a look-up, where the first row is or isn't the one
 row_in-put_here : (n high : ℕ) (p : PNum) (o : Option Kept) (rows : List HandleRow) (h : HNum) → h.0 ≡ n → RisesBetween n high rows → row_in (put_row n p o rows) h ≡ option_map (row_at h.0 p) o
@@ -50,10 +50,10 @@ row_in-put_later n p (Some k) rows h later =
     rw (eqb-apart h.0 n apart) refl
 
 -- a look-up reads one slot
-pub row_in-rows : (n : ℕ) (ss : List Slot) (h : HNum) (i : ℕ) → h.0 ≡ n + 1 + i → row_in (rows_from n ss) h ≡ option_and_then (row_of h.0) (slice_get ss i)
-row_in-rows n [] h i at = refl
-row_in-rows n (s ∷ ss) h zero at = row_in-put_here (n + 1) (n + 1 + length ss) s.peer s.row (rows_from (n + 1) ss) h (omega arith) (RisesBetween-rows (n + 1) (n + 1 + length ss) ss refl)
-row_in-rows n (s ∷ ss) h (suc i) at = row_in-put_later (n + 1) s.peer s.row (rows_from (n + 1) ss) h (omega arith) ∙ row_in-rows (n + 1) ss h i (omega arith)
+pub row_in-listed : (n : ℕ) (ss : List Slot) (h : HNum) (i : ℕ) → h.0 ≡ n + 1 + i → row_in (rows_from n ss) h ≡ option_and_then (row_of h.0) (slice_get ss i)
+row_in-listed n [] h i at = refl
+row_in-listed n (s ∷ ss) h zero at = row_in-put_here (n + 1) (n + 1 + length ss) s.peer s.row (rows_from (n + 1) ss) h (omega arith) (RisesBetween-listed (n + 1) (n + 1 + length ss) ss refl)
+row_in-listed n (s ∷ ss) h (suc i) at = row_in-put_later (n + 1) s.peer s.row (rows_from (n + 1) ss) h (omega arith) ∙ row_in-listed (n + 1) ss h i (omega arith)
 
 -- a look-up by number
 pub row_in-slot_of : (ss : List Slot) (h : HNum) → row_in (rows_from 0 ss) h ≡ option_and_then (row_of h.0) (slot_of ss h)
@@ -62,10 +62,10 @@ row_in-slot_of ss h = by (eqb h.0 0) refl
     by : (b : Bool) → eqb h.0 0 ≡ b → row_in (rows_from 0 ss) h ≡ option_and_then (row_of h.0) (cond b None (slice_get ss (h.0 - 1)))
     by true is =
         let none : h.0 ≡ 0 = grind (arith, nat_tests) in
-        row_in-below 0 (length ss) (rows_from 0 ss) h (omega arith) (RisesBetween-rows 0 (length ss) ss (omega arith))
+        row_in-below 0 (length ss) (rows_from 0 ss) h (omega arith) (RisesBetween-listed 0 (length ss) ss (omega arith))
     by false is =
         let some : h.0 ≢ 0 = grind (arith, nat_tests) in
-        row_in-rows 0 ss h (h.0 - 1) (omega arith)
+        row_in-listed 0 ss h (h.0 - 1) (omega arith)
 
 -- a change to one number's row, where the first row is or isn't the one
 changed-put_here : (f : HandleRow → HandleRow) (n high : ℕ) (p : PNum) (o : Option Kept) (rows : List HandleRow) (h : HNum) (k k' : Kept) → h.0 ≡ n → RisesBetween n high rows → o ≡ Some k → f (row_at n p k) ≡ row_at n p k' → put_row n p (Some k') rows ≡ changed f h (put_row n p o rows)
@@ -83,7 +83,7 @@ changed-put_later f n p (Some k) rows h later =
 pub changed-rows : (f : HandleRow → HandleRow) (n : ℕ) (ss : List Slot) (h : HNum) (i : ℕ) (k k' : Kept) → h.0 ≡ n + 1 + i → kept_at ss i ≡ Some k → ((p : PNum) (m : ℕ) → f (row_at m p k) ≡ row_at m p k') → rows_from n (with_row ss i (Some k')) ≡ changed f h (rows_from n ss)
 changed-rows f n [] h i k k' at is gives = refl
 changed-rows f n (t ∷ ss) h zero k k' at is gives =
-    changed-put_here f (n + 1) (n + 1 + length ss) t.peer t.row (rows_from (n + 1) ss) h k k' (omega arith) (RisesBetween-rows (n + 1) (n + 1 + length ss) ss refl) is (gives t.peer (n + 1))
+    changed-put_here f (n + 1) (n + 1 + length ss) t.peer t.row (rows_from (n + 1) ss) h k k' (omega arith) (RisesBetween-listed (n + 1) (n + 1 + length ss) ss refl) is (gives t.peer (n + 1))
 changed-rows f n (t ∷ ss) h (suc i) k k' at is gives =
     rw (changed-put_later f (n + 1) t.peer t.row (rows_from (n + 1) ss) h (omega arith)) (ap (λ rows. put_row (n + 1) t.peer t.row rows) (changed-rows f (n + 1) ss h i k k' (omega arith) is gives))
 
@@ -101,12 +101,12 @@ without-put_later n p (Some k) rows h later =
     rw (eqb-apart h.0 n apart) refl
 
 -- to empty a slot is to leave its row out
-pub without-rows : (n : ℕ) (ss : List Slot) (h : HNum) (i : ℕ) → h.0 ≡ n + 1 + i → rows_from n (with_row ss i None) ≡ without h (rows_from n ss)
-without-rows n [] h i at = refl
-without-rows n (t ∷ ss) h zero at =
-    without-put_here (n + 1) (n + 1 + length ss) t.peer t.row (rows_from (n + 1) ss) h (omega arith) (RisesBetween-rows (n + 1) (n + 1 + length ss) ss refl)
-without-rows n (t ∷ ss) h (suc i) at =
-    rw (without-put_later (n + 1) t.peer t.row (rows_from (n + 1) ss) h (omega arith)) (ap (λ rows. put_row (n + 1) t.peer t.row rows) (without-rows (n + 1) ss h i (omega arith)))
+pub without-listed : (n : ℕ) (ss : List Slot) (h : HNum) (i : ℕ) → h.0 ≡ n + 1 + i → rows_from n (with_row ss i None) ≡ without h (rows_from n ss)
+without-listed n [] h i at = refl
+without-listed n (t ∷ ss) h zero at =
+    without-put_here (n + 1) (n + 1 + length ss) t.peer t.row (rows_from (n + 1) ss) h (omega arith) (RisesBetween-listed (n + 1) (n + 1 + length ss) ss refl)
+without-listed n (t ∷ ss) h (suc i) at =
+    rw (without-put_later (n + 1) t.peer t.row (rows_from (n + 1) ss) h (omega arith)) (ap (λ rows. put_row (n + 1) t.peer t.row rows) (without-listed (n + 1) ss h i (omega arith)))
 
 -- a slot that has a row makes one row more
 length-put_row : (n : ℕ) (p : PNum) (o : Option Kept) (rows : List HandleRow) → length (put_row n p o rows) ≡ length (option_to_list o) + length rows
@@ -172,14 +172,14 @@ row_in-kept ss h r is = by (eqb h.0 0) (slice_get ss (h.0 - 1)) refl refl
     by : (b : Bool) (o : Option Slot) → eqb h.0 0 ≡ b → slice_get ss (h.0 - 1) ≡ o → (k : Kept) × (1 ≤ h.0) × (h.0 ≤ length ss) × (kept_at ss (h.0 - 1) ≡ Some k) × (r.hold ≡ k.hold) × (r.cleared ≡ k.cleared)
     by true o zeroth at =
         let none : h.0 ≡ 0 = grind (arith, nat_tests) in
-        absurd (none-some r (sym (row_in-below 0 (length ss) (rows_from 0 ss) h (omega arith) (RisesBetween-rows 0 (length ss) ss (omega arith))) ∙ is))
+        absurd (none-some r (sym (row_in-below 0 (length ss) (rows_from 0 ss) h (omega arith) (RisesBetween-listed 0 (length ss) ss (omega arith))) ∙ is))
     by false None zeroth at =
         let some : h.0 ≢ 0 = grind (arith, nat_tests) in
-        let e = rw at at (row_in-rows 0 ss h (h.0 - 1) (omega arith)) in
+        let e = rw at at (row_in-listed 0 ss h (h.0 - 1) (omega arith)) in
         absurd (none-some r (sym e ∙ is))
     by false (Some s) zeroth at =
         let some : h.0 ≢ 0 = grind (arith, nat_tests) in
-        let e = rw at at (row_in-rows 0 ss h (h.0 - 1) (omega arith)) in
+        let e = rw at at (row_in-listed 0 ss h (h.0 - 1) (omega arith)) in
         let below : h.0 - 1 < length ss = slice_get_within ss (h.0 - 1) s at in
         let w = row_kept s s.row refl (sym e ∙ is) in
         (w.0, omega arith, omega arith, rw at w.1, w.2, w.3)

@@ -1,6 +1,6 @@
 use Rattle.std.proofs.Common.{◌-◌, refl, sym, arith}
 use Rattle.global_handles.proofs.Rows.{without-absent}
-use Rattle.global_handles.proofs.Slots.{IsRising-table, row_in-kept, without-rows, length-emptied}
+use Rattle.global_handles.proofs.Slots.{IsRising-table, row_in-kept, without-listed, length-emptied}
 use Rattle.global_handles.proofs.HandleTable.release.Goals as goal
 
 pub returns-in_default-clause-rows : goal.returns-in_default-clause-rows
@@ -26,7 +26,7 @@ invariant_of-self c =
 pub returns-clause-rows : goal.returns-clause-rows
 returns-clause-rows c =
     let kept = row_in-kept c.self.inside.slots.items c.args.h c.in-Some.row (rw (← c.self.view_is) at (sym c.in-Some.ensures.row)) in
-    rw (c.remove_row.ensures.rows, ← c.self.view_is) (without-rows 0 c.self.inside.slots.items c.args.h (c.args.h.0 - 1) (omega (arith, kept.1)))
+    rw (c.remove_row.ensures.rows, ← c.self.view_is) (without-listed 0 c.self.inside.slots.items c.args.h (c.args.h.0 - 1) (omega (arith, kept.1)))
 
 pub returns-clause-made : goal.returns-clause-made
 returns-clause-made c = rw (← c.self.view_is) c.remove_row.ensures.len
