@@ -1,3 +1,4 @@
 pub mod Nodes
 pub mod Gathered
 pub mod Chain
+pub mod Owned

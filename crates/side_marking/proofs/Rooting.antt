@@ -1,84 +1,26 @@
 -- The live joint roots of both sides. A handle is removed where it isn't in the table and no live object holds it;
 -- so one that no live object holds is a handle exactly where it is in the table, and no handle is raw.
-use Rattle.std.proofs.Common.{◌≡◌, ℕ, zero, suc, ◌+◌, ◌<◌, ◌≤◌, ◌↔◌, ◌⊎◌, inl, inr, Bool, true, false, not, ◌&&◌, List, [], ◌∷◌, ◌++◌, length, replicate, Option, Some, None, refl, sym, ap, subst, ◌∙◌, arith}
+use Rattle.std.proofs.Common.{◌≡◌, ℕ, zero, suc, ◌+◌, ◌<◌, ◌≤◌, ◌↔◌, ◌⊎◌, inl, inr, Bool, true, false, not, ◌&&◌, List, [], ◌∷◌, length, replicate, Option, Some, None, refl, sym, ap, subst, ◌∙◌, arith}
 use Rattle.std.specs.Prelude.{Contains, All, slice_get}
-use Rattle.std.proofs.lemmas.List.Elements.{All-get_or, Contains-push, Contains-push_cases, Contains-append_left}
-use Rattle.std.proofs.lemmas.Option.{slice_get_within, get_or_from_slice_get}
 use Rattle.joint_model.specs.declared.names.PNum.{PNum}
 use Rattle.joint_model.specs.Heaps.{IsLive, numbered_at}
 use Rattle.joint_model.specs.Joint.{Graph, IsJoined, IsRawRoot, IsLooseRoot, peer}
 use Rattle.joint_model.specs.Joined.{removed_from, is_owned, is_untabled}
 use Rattle.joint_model.specs.Managed.{Managed, Holds, IsManagedRoot, handle_of}
-use Rattle.joint_model.specs.Peers.{Peers, Issued, held, raw, peer_of}
+use Rattle.joint_model.specs.Peers.{Peers, peer_of}
 use Rattle.joint_model.specs.PeerReplay.{TableRow}
 use Rattle.joint_marking.specs.Nodes.{IsLiveRoot}
-use Rattle.joint_marking.proofs.Gathering.{last-or}
+use Rattle.joint_marking.proofs.Handles.{numbered-All, issued-at, peer-issued, held_raw}
 use Rattle.object_heap.specs.Tidy.{IsTidy}
 use Rattle.object_heap.proofs.Numbered.{numbered-within, replicate-none}
 use Rattle.peer_heap.specs.Handles.{IsTabled, IsHeldStrong, IsPlain, strong_row}
 use Rattle.reachability.specs.Marks.{IsMarked}
 use Rattle.reachability.proofs.Marking.{Contains-nil}
-use Rattle.side_marking.specs.Roots.{graph_of_sides, Gains, IsBrought, IsOwned, IsLoose, IsLooseIn}
-use Rattle.side_marking.proofs.Owning.{is_owned-Holds, Holds-one, Holds-none}
-
--- nothing is brought yet
-pub gains-none : (brings : ℕ → ℕ → Type 0) (n : ℕ) (old : List ℕ) → ((i k : ℕ) → i < n → brings i k → ⊥) → Gains (IsBrought brings n) old old
-gains-none brings n old none k = (λ c. inl c, elim [ inl c ↦ c | inr w ↦ absurd (none w.by k w.below w.brings_it) ])
-
-brought-later : (brings : ℕ → ℕ → Type 0) (n k : ℕ) → IsBrought brings n k → IsBrought brings (n + 1) k
-brought-later brings n k w = record { by = w.by; below = omega (arith, w.below); brings_it = w.brings_it }
-
--- the next one brings a number
-pub gains-push : (brings : ℕ → ℕ → Type 0) (n q : ℕ) (old now : List ℕ) → brings n q → ((k : ℕ) → brings n k → q ≡ k) → Gains (IsBrought brings n) old now → Gains (IsBrought brings (n + 1)) old (now ++ q ∷ [])
-gains-push brings n q old now b one g k = (
-  λ c. elim (Contains-push_cases now q k c) [
-    | inl h ↦ elim ((g k).0 h) [ inl o ↦ inl o | inr w ↦ inr (brought-later brings n k w) ]
-    | inr e ↦ inr (record { by = n; below = omega arith; brings_it = subst (brings n) e b })
-  ],
-  elim [
-    | inl o ↦ Contains-append_left now (q ∷ []) k ((g k).1 (inl o))
-    | inr w ↦ elim (last-or w.by n w.below) [
-      | inl l ↦ Contains-append_left now (q ∷ []) k ((g k).1 (inr (record { by = w.by; below = l; brings_it = w.brings_it })))
-      | inr e ↦ subst (λ z. Contains (now ++ q ∷ []) z) (one k (subst (λ i. brings i k) e w.brings_it)) (Contains-push now q)
-    ]
-  ],
-)
-
--- the next one brings nothing
-pub gains-skip : (brings : ℕ → ℕ → Type 0) (n : ℕ) (old now : List ℕ) → ((k : ℕ) → brings n k → ⊥) → Gains (IsBrought brings n) old now → Gains (IsBrought brings (n + 1)) old now
-gains-skip brings n old now none g k = (
-  λ c. elim ((g k).0 c) [ inl o ↦ inl o | inr w ↦ inr (brought-later brings n k w) ],
-  elim [
-    | inl o ↦ (g k).1 (inl o)
-    | inr w ↦ elim (last-or w.by n w.below) [
-      | inl l ↦ (g k).1 (inr (record { by = w.by; below = l; brings_it = w.brings_it }))
-      | inr e ↦ absurd (none k (subst (λ i. brings i k) e w.brings_it))
-    ]
-  ],
-)
-
--- all were asked
-pub gains-all : (brings : ℕ → ℕ → Type 0) (n : ℕ) (old now : List ℕ) → ((i k : ℕ) → brings i k → i < n) → Gains (IsBrought brings n) old now → Gains (λ k. (i : ℕ) × brings i k) old now
-gains-all brings n old now within g k = (
-  λ c. elim ((g k).0 c) [ inl o ↦ inl o | inr w ↦ inr (w.by, w.brings_it) ],
-  elim [ inl o ↦ (g k).1 (inl o) | inr w ↦ (g k).1 (inr (record { by = w.0; below = within w.0 k w.1; brings_it = w.1 })) ],
-)
-
--- what holds of each element of a list holds of the one with a number
-numbered-All : {X : Type 0} (P : X → Type 0) (xs : List X) (n : ℕ) (x : X) → All P xs → numbered_at xs n ≡ Some x → P x
-numbered-All P xs zero x a e = cc
-numbered-All P xs (suc i) x a e = subst P (get_or_from_slice_get xs i x x e) (All-get_or P xs i x (slice_get_within xs i x e) a)
-
-same-peer : (q k : ℕ) → Some q ≡ Some k → q ≡ k
-same-peer q k e = cc
-
--- a handle that leads to a peer was issued on it
-issued-at : (p : Peers) (h k : ℕ) (o : Option Issued) → numbered_at p.issued h ≡ o → elim o [ None ↦ None | Some i ↦ Some i.peer ] ≡ Some k → (i : Issued) × (numbered_at p.issued h ≡ Some i) × (i.peer ≡ k)
-issued-at p h k None at e = cc
-issued-at p h k (Some i) at e = (i, at, let f : i.peer ≡ k = cc in f)
-
-peer-issued : (p : Peers) (h : ℕ) (i : Issued) → numbered_at p.issued h ≡ Some i → peer_of p.issued h ≡ Some i.peer
-peer-issued p h i at = rw (at, peer_of) refl
+use Rattle.joint_marking.specs.Gathered.{Gains}
+use Rattle.joint_marking.specs.Owned.{IsOwned}
+use Rattle.side_marking.specs.Roots.{graph_of_sides, IsLoose, IsLooseIn}
+use Rattle.joint_marking.proofs.Owning.{Holds-one, Holds-none}
+use Rattle.side_marking.proofs.Owning.{is_owned-Holds}
 
 -- whether a handle is removed, by its row in the table
 removed-get : (s : Managed) (x : ℕ) (rows : List (Option TableRow)) (i : ℕ) (row : Option TableRow) → slice_get rows i ≡ Some row → slice_get (removed_from s x rows) i ≡ Some (is_untabled row && not (is_owned s (x + i)))
@@ -139,9 +81,6 @@ unissued-twin g m h e past k j =
     let r = issued-at g.peers h k (numbered_at g.peers.issued h) refl (joined-leads g m h k e j) in
     let l = numbered-within g.peers.issued h r.0 r.1 in
     past l.0 l.1
-
-held_raw : held ≡ raw → ⊥
-held_raw e = cc
 
 -- the peers of loose handles are exactly the live peers of the graph's raw and loose handles
 pub loose-root : (s : Managed) (p : Peers) (table : List (Option TableRow)) (owned : List Bool) → length s.held ≡ length s.heap.fields → All IsHeldStrong p.issued → All IsPlain table

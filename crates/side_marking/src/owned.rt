@@ -4,7 +4,7 @@ ghost use Rattle.std.specs.Prelude.{◌≡◌, ℕ, ◌+◌, ◌<◌, ◌≤◌,
 ghost use Rattle.joint_model.specs.Heaps.{IsLive, MOST};
 ghost use Rattle.joint_model.specs.Managed.{Holds};
 ghost use Rattle.reachability.specs.Marks.{IsMarked};
-ghost use Rattle.side_marking.specs.Roots.{IsOwned};
+ghost use Rattle.joint_marking.specs.Owned.{IsOwned};
 
 use joint_model::MNum;
 use managed_heap::ManagedSide;

@@ -8,7 +8,8 @@ ghost use Rattle.joint_model.specs.Joint.{peer};
 ghost use Rattle.joint_model.specs.Managed.{IsManagedRoot};
 ghost use Rattle.joint_marking.specs.Nodes.{IsLiveRoot};
 ghost use Rattle.object_heap.specs.Tidy.{IsTidy};
-ghost use Rattle.side_marking.specs.Roots.{graph_of_sides, Gains, IsLoose, IsLooseIn};
+ghost use Rattle.joint_marking.specs.Gathered.{Gains};
+ghost use Rattle.side_marking.specs.Roots.{graph_of_sides, IsLoose, IsLooseIn};
 
 use crate::owned::owned_handles;
 use joint_model::{HNum, MNum, PNum};

@@ -1,5 +1,5 @@
 -- An object without a handle marks none.
-use Rattle.side_marking.proofs.Owning.{marks-none}
+use Rattle.joint_marking.proofs.Owning.{marks-none}
 use Rattle.side_marking.proofs.owned.mark_held.Goals as goal
 
 pub returns-in_default-clause-marks : goal.returns-in_default-clause-marks

@@ -1,7 +1,7 @@
 -- The handles that the objects so far hold are marked.
 use Rattle.std.proofs.Common.{◌≡◌, ℕ, ◌+◌, ◌↔◌, length}
 use Rattle.reachability.specs.Marks.{IsMarked}
-use Rattle.side_marking.specs.Roots.{IsOwnedBelow}
+use Rattle.joint_marking.specs.Owned.{IsOwnedBelow}
 use Rattle.side_marking.proofs.owned.owned_handles.Given as goal
 
 abbrev pub invariant-loop-m : goal.invariant-loop-m

@@ -3,7 +3,8 @@ use Rattle.std.proofs.Common.{arith, ◌∷◌, []}
 use Rattle.std.proofs.lemmas.List.{map-append}
 use Rattle.joint_model.specs.Histories.{peer_numbers}
 use Rattle.side_marking.specs.Roots.{IsLoose}
-use Rattle.side_marking.proofs.Rooting.{gains-none, gains-push, gains-skip, gains-all, untabled-zero, loose-below, brings-some, brings-one, brings-none}
+use Rattle.joint_marking.proofs.Gaining.{gains-none, gains-push, gains-skip, gains-all}
+use Rattle.side_marking.proofs.Rooting.{untabled-zero, loose-below, brings-some, brings-one, brings-none}
 use Rattle.side_marking.proofs.roots.push_loose.Goals as goal
 use Rattle.side_marking.proofs.roots.push_loose.Goals.{in-Some+in_ok-push, in_default}
 

@@ -1,6 +1,7 @@
 -- The peers of the handles so far were put.
 use Rattle.joint_model.specs.Histories.{peer_numbers}
-use Rattle.side_marking.specs.Roots.{Gains, IsBrought, IsLoose}
+use Rattle.joint_marking.specs.Gathered.{Gains, IsBrought}
+use Rattle.side_marking.specs.Roots.{IsLoose}
 use Rattle.side_marking.proofs.roots.push_loose.Given as goal
 
 abbrev pub invariant-loop-h : goal.invariant-loop-h

@@ -2,7 +2,7 @@
 use Rattle.std.proofs.Common.{take, Some}
 use Rattle.std.specs.Prelude.{Contains}
 use Rattle.joint_model.specs.Histories.{peer_numbers}
-use Rattle.side_marking.specs.Roots.{Gains}
+use Rattle.joint_marking.specs.Gathered.{Gains}
 use Rattle.side_marking.proofs.roots.push_peer_vars.Given as goal
 
 abbrev pub invariant-loop-place : goal.invariant-loop-place

@@ -1,0 +1,55 @@
+-- Which live objects hold a handle, as a walk over the objects marks them.
+use Rattle.std.proofs.Common.{◌≡◌, ℕ, ◌+◌, ◌<◌, ◌↔◌, ◌⊎◌, inl, inr, Bool, List, length, Some, None, sym, subst, ◌∙◌, arith}
+use Rattle.joint_model.specs.Heaps.{IsLive}
+use Rattle.joint_model.specs.Managed.{Managed, Holds, handle_of}
+use Rattle.reachability.specs.Marks.{IsMarked}
+use Rattle.joint_marking.specs.Owned.{IsOwnedBelow, IsOwned}
+use Rattle.joint_marking.proofs.Gathering.{last-or}
+use Rattle.joint_marking.proofs.Twins.{handle-Holds}
+
+-- an object holds at most one handle
+pub Holds-one : (s : Managed) (m h k : ℕ) → handle_of s m ≡ Some h → Holds s m k → h ≡ k
+Holds-one s m h k e w = (let f : Some h ≡ Some k = sym e ∙ handle-Holds s m k w in cc)
+
+-- an object without a handle holds none
+pub Holds-none : (s : Managed) (m k : ℕ) → handle_of s m ≡ None → Holds s m k → ⊥
+Holds-none s m k e w = (let f : None ≡ Some k = sym e ∙ handle-Holds s m k w in cc)
+
+-- an object without a handle marks none
+pub marks-none : (s : Managed) (m : ℕ) (old : List Bool) → handle_of s m ≡ None → (k : ℕ) → IsMarked old k ↔ (IsMarked old k ⊎ (Holds s m k × (k < length old)))
+marks-none s m old e k = (λ o. inl o, elim [ inl o ↦ o | inr w ↦ absurd (Holds-none s m k e w.0) ])
+
+owned-later : (s : Managed) (m marks h : ℕ) → IsOwnedBelow s m marks h → IsOwnedBelow s (m + 1) marks h
+owned-later s m marks h w = record { owner = w.owner; below = omega (arith, w.below); holds = w.holds; marked = w.marked }
+
+-- one object more was asked
+pub owned-push : (s : Managed) (m : ℕ) (old new : List Bool) (n : ℕ) → length old ≡ n
+    → ((h : ℕ) → IsMarked old h ↔ IsOwnedBelow s m n h)
+    → ((h : ℕ) → IsMarked new h ↔ (IsMarked old h ⊎ (Holds s m h × (h < length old))))
+    → (h : ℕ) → IsMarked new h ↔ IsOwnedBelow s (m + 1) n h
+owned-push s m old new n len before step h = (
+  λ c. elim ((step h).0 c) [
+    | inl o ↦ owned-later s m n h ((before h).0 o)
+    | inr w ↦ record { owner = m; below = omega arith; holds = w.0; marked = omega (arith, w.1) }
+  ],
+  λ w. elim (last-or w.owner m w.below) [
+    | inl l ↦ (step h).1 (inl ((before h).1 (record { owner = w.owner; below = l; holds = w.holds; marked = w.marked })))
+    | inr e ↦ (step h).1 (inr (subst (λ z. Holds s z h) e w.holds, omega (arith, w.marked)))
+  ],
+)
+
+pub owned-skip : (s : Managed) (m : ℕ) (old : List Bool) (n : ℕ) → (IsLive s.heap m → ⊥) → ((h : ℕ) → IsMarked old h ↔ IsOwnedBelow s m n h) → (h : ℕ) → IsMarked old h ↔ IsOwnedBelow s (m + 1) n h
+owned-skip s m old n dead before h = (
+  λ c. owned-later s m n h ((before h).0 c),
+  λ w. elim (last-or w.owner m w.below) [
+    | inl l ↦ (before h).1 (record { owner = w.owner; below = l; holds = w.holds; marked = w.marked })
+    | inr e ↦ absurd (dead (subst (IsLive s.heap) e w.holds.live))
+  ],
+)
+
+-- every object was asked
+pub owned-all : (s : Managed) (m : ℕ) (marks : List Bool) (n : ℕ) → length s.heap.fields < m → ((h : ℕ) → IsMarked marks h ↔ IsOwnedBelow s m n h) → (h : ℕ) → IsMarked marks h ↔ IsOwned s n h
+owned-all s m marks n past before h = (
+  λ c. (let w = (before h).0 c in record { owner = w.owner; holds = w.holds; marked = w.marked }),
+  λ w. (before h).1 (record { owner = w.owner; below = omega (arith, w.holds.live.made.1); holds = w.holds; marked = w.marked }),
+)
