@@ -15,5 +15,4 @@ pub mod Histories
 pub mod Judging
 pub mod Traced
 pub mod Ending
-pub mod OneRun
 pub mod Verdicts

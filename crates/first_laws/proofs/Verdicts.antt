@@ -19,7 +19,7 @@ use Rattle.first_laws.proofs.Ending.{resolve-traces}
 use Rattle.first_laws.proofs.Histories.{HasRun, HasRun-push, opening-run, gone-through, projection-whole}
 use Rattle.first_laws.proofs.Judging.{sound-push, sound-none, complete-push, complete-none}
 use Rattle.first_laws.proofs.Kept.{IsKept, begun_after, moment_at}
-use Rattle.first_laws.proofs.OneRun.{one-run}
+use Rattle.joint_laws.proofs.OneRun.{one-run}
 use Rattle.first_laws.proofs.Stepping.{noted, steps}
 use Rattle.first_laws.proofs.Traced.{IsTracedAt, Traces, managed-traces, abandon-traces, snap-traces, begin-traces, sweep-traces}
 
@@ -94,8 +94,7 @@ judged ns may first =
 run-judged : (ns : List Noted) (moments : List Moment) → AllFirstMayCome opening_first ns → AreFirstEvents ns → IsRun (joint_projection ns) moments → (other : List Moment) × IsJudgedRun (joint_projection ns) other × (other ≡ moments)
 run-judged ns moments may first run =
     let j = judged ns may first in
-    let whole = projection-whole ns first in
-    (j.0, j.1, one-run opening opening j.0 moments ns refl (j.1.run.same ∙ whole) (run.same ∙ whole) first j.1.run.steps run.steps)
+    (j.0, j.1, one-run (joint_projection ns) j.0 moments j.1.run run)
 
 pub sound : (ns : List Noted) (moments : List Moment) → AllFirstMayCome opening_first ns → AreFirstEvents ns → IsRun (joint_projection ns) moments → IsSoundRun moments
 sound ns moments may first run = (let j = run-judged ns moments may first run in subst IsSoundRun j.2 j.1.sound)
