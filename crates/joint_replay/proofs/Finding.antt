@@ -19,7 +19,8 @@ use Rattle.managed_heap.specs.Unmarked.{marked}
 use Rattle.managed_heap.proofs.Gathering.{All-members, IsMarked-test, test-IsMarked}
 use Rattle.joint_marking.proofs.Gathering.{Contains-map, map-Contains}
 use Rattle.joint_replay.specs.Plain.{cleaned, kept_target, is_live}
-use Rattle.joint_replay.specs.Roots.{Gains, IsNamedLive, Lists}
+use Rattle.joint_marking.specs.Gathered.{Gains}
+use Rattle.joint_replay.specs.Roots.{IsNamedLive, Lists}
 use Rattle.joint_replay.specs.Finding.{Finds, IsSlotReached, IsHandleReached}
 use Rattle.joint_replay.proofs.Flags.{is_live-exact}
 
@@ -31,12 +32,12 @@ row-map : (f : Option ℕ → Option ℕ) (o : Option (List (Option ℕ))) → r
 row-map f None = refl
 row-map f (Some fs) = refl
 
-fields-cleaned : (h : Heap) (x : ℕ) → fields_of (cleaned h) x ≡ map (kept_target h) (fields_of h x)
+pub fields-cleaned : (h : Heap) (x : ℕ) → fields_of (cleaned h) x ≡ map (kept_target h) (fields_of h x)
 fields-cleaned h zero = refl
 fields-cleaned h (suc i) = ap row_of (slice_get-map (map (kept_target h)) h.fields i) ∙ row-map (kept_target h) (slice_get h.fields i)
 
 -- what is kept of a field is live
-kept-live : (h : Heap) (o : Option ℕ) (y : ℕ) → kept_target h o ≡ Some y → (o ≡ Some y) × IsLive h y
+pub kept-live : (h : Heap) (o : Option ℕ) (y : ℕ) → kept_target h o ≡ Some y → (o ≡ Some y) × IsLive h y
 kept-live h None y e = cc
 kept-live h (Some x) y e = by (is_live h x) refl e
   where
@@ -44,13 +45,13 @@ kept-live h (Some x) y e = by (is_live h x) refl e
     by true t e = (e, (let s : x ≡ y = cc in subst (IsLive h) s ((is_live-exact h x).0 t)))
     by false t e = cc
 
-live-kept : (h : Heap) (y : ℕ) → IsLive h y → kept_target h (Some y) ≡ Some y
+pub live-kept : (h : Heap) (y : ℕ) → IsLive h y → kept_target h (Some y) ≡ Some y
 live-kept h y l = ap (λ b. if b then Some y else None) ((is_live-exact h y).1 l)
 
-live-cleaned : (h : Heap) (x : ℕ) → IsLive h x → IsLive (cleaned h) x
+pub live-cleaned : (h : Heap) (x : ℕ) → IsLive h x → IsLive (cleaned h) x
 live-cleaned h x l = IsLive-as h (cleaned h) (length-map h.fields (map (kept_target h))) refl x l
 
-cleaned-live : (h : Heap) (x : ℕ) → IsLive (cleaned h) x → IsLive h x
+pub cleaned-live : (h : Heap) (x : ℕ) → IsLive (cleaned h) x → IsLive h x
 cleaned-live h x l = IsLive-as (cleaned h) h (sym (length-map h.fields (map (kept_target h)))) refl x l
 
 -- the open fields are those between live objects

@@ -3,3 +3,8 @@ pub mod Verdicts
 pub mod Naming
 pub mod Finding
 pub mod Snapping
+pub mod Cleaning
+pub mod Rising
+pub mod Gaining
+pub mod Rooting
+pub mod Sweeping

@@ -114,7 +114,7 @@ snap-one s k l f c d g b e x y = (
 says-snap : (s : Managed) (h : Finished) (reply : Reply) (freed candidates : List ℕ) → named_objects h reply ≡ freed → reply ≡ snap_reply s freed candidates → SaysSnap s.heap h reply freed (length candidates)
 says-snap s h reply freed candidates n e = subst (λ r. named_objects h r ≡ freed → SaysSnap s.heap h r freed (length candidates)) (sym e) (λ w. (refl, record { first = refl; count = refl; named = w })) n
 
-span-is : (span : Span) (a b : ℕ) → span.first ≡ a → span.count ≡ b → span ≡ record { first = a; count = b }
+pub span-is : (span : Span) (a b : ℕ) → span.first ≡ a → span.count ≡ b → span ≡ record { first = a; count = b }
 span-is span a b e f = ap (λ x. let s : Span = record { first = x; count = span.count } in s) e ∙ ap (λ y. let s : Span = record { first = a; count = y } in s) f
 
 snap-said : (s : Managed) (h : Finished) (reply : Reply) (freed candidates : List ℕ) → SaysSnap s.heap h reply freed (length candidates) → (named_objects h reply ≡ freed) × (reply ≡ snap_reply s freed candidates)

@@ -1,6 +1,6 @@
 -- Verdicts under another name of their steps. An entry's event has one of the joint machine's steps, so a verdict on
 -- that step is the verdict on the entry.
-use Rattle.std.proofs.Common.{[], ◌≡◌, ℕ, ◌⊎◌, inl, inr, true, false, Option, Result, Ok, Err, IfOk, refl, sym, ap, subst, ◌∙◌}
+use Rattle.std.proofs.Common.{[], ◌≡◌, ℕ, ◌⊎◌, ◌↔◌, inl, inr, Bool, true, false, if◌then◌else◌, IsTrue, Option, Some, None, Result, Ok, Err, IfOk, refl, sym, ap, subst, ◌∙◌}
 use Rattle.joint_model.specs.declared.names.Thread.{Thread}
 use Rattle.joint_model.specs.declared.names.Thread.TheVariants.{M, P, C}
 use Rattle.joint_model.specs.declared.names.Var.{Var}
@@ -16,16 +16,16 @@ use Rattle.joint_model.specs.declared.events.Reply.{Reply}
 use Rattle.joint_model.specs.declared.events.Entry.{Entry}
 use Rattle.joint_model.specs.Heaps.{Answered, place, field_set, dropped}
 use Rattle.joint_model.specs.Histories.{Finished}
-use Rattle.joint_model.specs.Joint.{Joint}
+use Rattle.joint_model.specs.Joint.{Joint, JointMarking}
 use Rattle.joint_model.specs.Lines.{IsEvent, IsManagedThread}
 use Rattle.joint_model.specs.Linked.{is_joint}
 use Rattle.joint_model.specs.Managed.{Managed, on_heap, adopted, place_or_none}
 use Rattle.joint_model.specs.Peers.{pair_made}
-use Rattle.joint_model.specs.Run.{JointEvent, JointComputed, JointAbandon, JointSnap, JointResolve, IsComputed, joint_answer, on_managed, on_peers, thread_number}
+use Rattle.joint_model.specs.Run.{JointEvent, JointComputed, JointAbandon, JointSnap, JointBegin, JointSweep, JointResolve, IsComputed, joint_answer, on_managed, on_peers, thread_number}
 use Rattle.joint_model.specs.Told.{Told, nothing, snap_of, contraction_of, references_of, begin_of, slice_of, sweep_of, resolution_of, phase_of}
 use Rattle.joint_replay.specs.declared.state.Verdict.{Verdict}
 use Rattle.joint_replay.specs.declared.state.Verdict.TheVariants.{Lawful, Unlawful}
-use Rattle.joint_replay.specs.Judging.{Decides, Judges, MayStep, IsTold, Gives, IsCovered, IsCoveredEvent, named_objects}
+use Rattle.joint_replay.specs.Judging.{Decides, Judges, MayStep, IsTold, Gives, IsCovered, IsCoveredEvent, named_objects, named_peers}
 use Rattle.joint_replay.specs.Snaps.{SnapsJoint}
 
 -- steps of another kind that are the same
@@ -150,6 +150,35 @@ pub judged-resolve : (h : Finished) (e : Entry) (j : Joint) (k : Cycle) → e.ma
 judged-resolve h e j k same event = judged h e j (op.Resolve k) _ same event
     (λ n s. resolve-from h e j n k s.told s.named s.step)
     (λ n s. record { told = resolution_of [] (named_objects h e.made.reply); named = refl; step = s })
+
+-- a begin
+pub judged-begin : (h : Finished) (e : Entry) (j : Joint) → e.made.op ≡ op.Begin → IsEvent e.made.caller e.made.op → (d : Verdict) (new : Joint)
+    → Decides (JointBegin j j.marking e.made.caller e.made.reply) d j new → Judges h e d j new
+judged-begin h e j same event = judged h e j op.Begin _ same event (λ n s. s.step) (λ n s. record { told = nothing; named = tt; step = s })
+
+-- a sweep, with what its reply names
+sweep-from : (h : Finished) (t : Thread) (reply : Reply) (j next : Joint) (mk : Option JointMarking) (told : Told) → IsTold h reply told → JointSweep j mk t reply told next → JointSweep j mk t reply (sweep_of (named_peers h reply)) next
+sweep-from h t reply j next None told named s = s
+sweep-from h t reply j next (Some m) (sweep_of freed) named s = subst (λ l. JointSweep j (Some m) t reply (sweep_of l) next) named s
+sweep-from h t reply j next (Some m) nothing named s = inr s
+sweep-from h t reply j next (Some m) (contraction_of comps xrefs) named s = inr s
+sweep-from h t reply j next (Some m) (references_of refs) named s = inr s
+sweep-from h t reply j next (Some m) (begin_of unreached) named s = inr s
+sweep-from h t reply j next (Some m) (slice_of closure) named s = inr s
+sweep-from h t reply j next (Some m) (snap_of freed candidates dead) named s = inr s
+sweep-from h t reply j next (Some m) (resolution_of alive freed) named s = inr s
+sweep-from h t reply j next (Some m) (phase_of phase) named s = inr s
+
+pub judged-sweep : (h : Finished) (e : Entry) (j : Joint) → e.made.op ≡ op.Sweep → IsEvent e.made.caller e.made.op → (d : Verdict) (new : Joint)
+    → Decides (JointSweep j j.marking e.made.caller e.made.reply (sweep_of (named_peers h e.made.reply))) d j new → Judges h e d j new
+judged-sweep h e j same event = judged h e j op.Sweep _ same event
+    (λ n s. sweep-from h e.made.caller e.made.reply j n j.marking s.told s.named s.step)
+    (λ n s. record { told = sweep_of (named_peers h e.made.reply); named = refl; step = s })
+
+-- a verdict on a step that leaves the state as it is
+pub Decides-stay : (j : Joint) (step : Joint → Type 0) (Q : Type 0) (b : Bool) → (Q → step j) → ((n : Joint) → step n → Q) → IsTrue b ↔ Q → Decides step (if b then Lawful else Unlawful) j j
+Decides-stay j step Q true to from e = to (e.0 refl)
+Decides-stay j step Q false to from e = (λ n s. (let t : false ≡ true = e.1 (from n s) in cc), refl)
 
 -- a verdict on the managed part, as one on the joint state
 pub Decides-managed : (j : Joint) (p : Managed → Type 0) (q : Joint → Type 0) → ((m : Managed) → p m → q (record j { managed = m })) → ((n : Joint) → q n → (m : Managed) × p m) → (d : Verdict) (m : Managed) → Decides p d j.managed m → Decides q d j (record j { managed = m })

@@ -3,3 +3,4 @@ pub mod Plain
 pub mod Roots
 pub mod Finding
 pub mod Snaps
+pub mod Graphs

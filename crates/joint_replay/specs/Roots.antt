@@ -1,11 +1,7 @@
 -- What is gathered before a marking: its roots, and the rows that it leaves out. (This project's own.)
-use Rattle.std.specs.Prelude.{ℕ, ◌↔◌, ◌⊎◌, List, Contains, Option, Some}
+use Rattle.std.specs.Prelude.{ℕ, ◌↔◌, List, Contains, Option, Some}
 use Rattle.joint_model.specs.Components.{Rises}
 use Rattle.joint_model.specs.Heaps.{Heap, IsLive}
-
--- `new` has what `old` has, and the numbers that are wanted
-abbrev pub Gains : (ℕ → Type 0) → List ℕ → List ℕ → Type 0
-Gains wanted old new = (k : ℕ) → Contains new k ↔ (Contains old k ⊎ wanted k)
 
 -- the slots name the object, and it is live
 abbrev pub IsNamedLive : Heap → List (Option ℕ) → ℕ → Type 0

@@ -1,17 +1,19 @@
--- Snapshots and resolutions of the managed part, with the freed rows that are told. (The definitions are the joint
--- model's; only their result is named here.)
-use Rattle.std.specs.Prelude.{◌≡◌, ℕ, ◌≤◌, Bool, false, not, List, Option, Some, None, All, length}
+-- Snapshots, resolutions and sweeps, with the freed rows that are told. (The definitions are the joint model's; only
+-- their result is named here.)
+use Rattle.std.specs.Prelude.{◌≡◌, ℕ, ◌≤◌, ◌⊎◌, Bool, false, not, List, Option, Some, None, All, length}
 use Rattle.joint_model.specs.declared.names.Span.{Span}
+use Rattle.joint_model.specs.declared.names.Thread.{Thread}
+use Rattle.joint_model.specs.declared.names.Thread.TheVariants.{C}
 use Rattle.joint_model.specs.declared.events.Reply.TheVariants as says
 use Rattle.joint_model.specs.declared.events.Reply.{Reply}
 use Rattle.joint_model.specs.Components.{Rises}
 use Rattle.joint_model.specs.Cycles.{IsSnapshot, snap_reply, IsResolution, IsOpen}
 use Rattle.joint_model.specs.Heaps.{Heap, IsMade, is_freed}
-use Rattle.joint_model.specs.Histories.{Finished, managed_numbers, stretch}
-use Rattle.joint_model.specs.Joint.{Joint}
+use Rattle.joint_model.specs.Histories.{Finished, managed_numbers, peer_numbers, stretch}
+use Rattle.joint_model.specs.Joint.{Joint, JointMarking, IsReached, peer}
 use Rattle.joint_model.specs.Managed.{Managed, OpenCycle, snapped, handle_of}
 use Rattle.joint_model.specs.Peers.{Peers, peer_of}
-use Rattle.joint_model.specs.Run.{IsKept, JointSnap}
+use Rattle.joint_model.specs.Run.{IsKept, JointSnap, IsStored, EndsMarking}
 
 -- a snapshot that frees these rows
 pub record Snaps (s : Managed) (k : ℕ) (freed : List ℕ) (reply : Reply) (next : Managed) : Type 0 where
@@ -61,3 +63,29 @@ pub record Settles (j : Joint) (k : ℕ) (freed : List ℕ) : Type 0 where
   pub open_cycle : IsOpen j.managed k cycle
   pub resolution : IsResolution j.managed cycle.dead (IsKept j cycle) freed
   pub made : All (IsMade j.managed.heap) freed
+
+-- the reply is that of a sweep of marking n, and its span stands where the next freed peers come
+abbrev pub SaysSwept : Heap → Finished → Reply → ℕ → Type 0
+SaysSwept g h (says.Swept j span) n = (j.0 ≡ n) × (span.first ≡ length g.freed) × (length (peer_numbers (stretch h.freed_peers span)) ≡ span.count)
+SaysSwept g h _ n = ⊥
+
+-- the open marking may free these peers, and the reply says so
+pub record MaySweep (j : Joint) (freed : List ℕ) (reply : Reply) : Type 0 where
+  pub marking : JointMarking
+  pub opened : j.marking ≡ Some marking
+  pub rise : Rises freed
+  pub stored : All (IsStored marking) freed
+  pub unreached : All (λ p. IsReached j (peer p) → ⊥) freed
+  pub replies : reply ≡ says.Swept record { 0 = marking.number } record { first = length j.peers.heap.freed; count = length freed }
+
+-- a sweep of the open marking by a caller that may end it, which frees these peers
+pub record SweepsJoint (j : Joint) (t : Thread) (freed : List ℕ) (reply : Reply) (next : Joint) : Type 0 where
+  pub marking : JointMarking
+  pub opened : j.marking ≡ Some marking
+  pub sweep : EndsMarking j marking t freed reply next
+
+-- the caller may end the open marking
+pub record MayEnd (j : Joint) (t : Thread) : Type 0 where
+  pub marking : JointMarking
+  pub opened : j.marking ≡ Some marking
+  pub allowed : (t ≡ C) ⊎ (t ≡ marking.by)

@@ -3,7 +3,7 @@
 ghost use Rattle.std.specs.Prelude.{◌≡◌, ◌↔◌, ◌<◌, ◌⊎◌, IsTrue, true, false};
 ghost use Rattle.std.specs.Option.{ForSome};
 ghost use Rattle.joint_model.specs.Heaps.{place};
-ghost use Rattle.joint_model.specs.Lines.{IsEvent, IsManagedThread, IsVar, IsVarOrNone, IsBridgeObject};
+ghost use Rattle.joint_model.specs.Lines.{IsEvent, IsManagedThread, IsPeerThread, IsVar, IsVarOrNone, IsBridgeObject};
 ghost use Rattle.joint_model.specs.Linked.{is_joint};
 ghost use Rattle.joint_model.specs.Managed.{place_or_none};
 ghost use Rattle.joint_model.specs.Run.{thread_number};
@@ -29,9 +29,25 @@ pub(crate) fn can_make(caller: Thread, op: &Op) -> bool
             h: _,
         } => { is_managed(caller) && is_var(*v) && is_bridge_object(*kind, *fields) }
         Op::Snap { cycle: _ } => matches!(caller, Thread::C),
+        Op::Begin => is_peer(caller) || matches!(caller, Thread::C),
+        Op::Sweep => is_peer(caller) || matches!(caller, Thread::C),
         Op::Resolve { cycle: _ } => matches!(caller, Thread::C),
         Op::Abandon { cycle: _ } => matches!(caller, Thread::C),
         _ => false,
+    }
+}
+
+/// Whether the event of the caller can be judged yet, or is outside the joint machine.
+pub(crate) fn covers_event(caller: Thread, op: &Op) -> bool
+    ensures { IsTrue result ↔ (IsCoveredEvent caller op.now ⊎ (is_joint op.now ≡ false)) }
+{
+    match op {
+        Op::Line(Act::Set { .. } | Act::Drop { .. }) => matches!(caller, Thread::M(_)),
+        Op::Line(Act::Slice { .. }) => true,
+        Op::Line(_) => false,
+        Op::Lend { .. } | Op::Land { .. } | Op::Grip { .. } => false,
+        Op::Meet { .. } | Op::Give { .. } | Op::Release { .. } => false,
+        _ => true,
     }
 }
 
@@ -41,6 +57,16 @@ fn is_managed(caller: Thread) -> bool
 {
     match caller {
         Thread::M(n) => 1 <= n && n <= 8,
+        _ => false,
+    }
+}
+
+// Whether the thread is one of p1 to p8.
+fn is_peer(caller: Thread) -> bool
+    ensures { IsTrue result ↔ IsPeerThread caller }
+{
+    match caller {
+        Thread::P(n) => 1 <= n && n <= 8,
         _ => false,
     }
 }

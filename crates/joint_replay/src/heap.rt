@@ -146,6 +146,37 @@ impl PlainHeap {
         }
     }
 
+    /// How many objects the clean heap has.
+    pub(crate) fn clean_made(&self) -> u32
+        ensures made { result ≡ length (cleaned self.now).fields }
+        ensures most { result ≤ MOST }
+    {
+        self.made()
+    }
+
+    /// Whether object `x` of the clean heap was made and isn't freed.
+    pub(crate) fn clean_live(&self, x: u32) -> bool
+        ensures { IsTrue result ↔ IsLive (cleaned self.now) x }
+    {
+        self.is_live(x)
+    }
+
+    /// How many fields object `x` of the clean heap has.
+    pub(crate) fn clean_len(&self, x: u32) -> usize
+        ensures { result ≡ length (fields_of (cleaned self.now) x) }
+    {
+        self.fields_len(x)
+    }
+
+    /// What field `i` of object `x` of the clean heap holds: a live object, or nothing.
+    pub(crate) fn clean_field(&self, x: u32, i: usize) -> Option<u32>
+        requires { i < length (fields_of (cleaned self.now) x) }
+        ensures value { slot (fields_of (cleaned self.now) x) i ≡ result }
+        ensures live { IfSome result (IsLive (cleaned self.now)) }
+    {
+        self.open_field(x, i)
+    }
+
     // Node `x` of the graph as the number of an object.
     fn node(&self, x: usize) -> u32
         requires { x < length self.now.fields + 1 }

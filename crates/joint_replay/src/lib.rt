@@ -5,14 +5,20 @@
 // of the machine from there; if it is, the state is the one after it. What an entry's line doesn't have in full, the
 // rows that a snapshot, a sweep or a resolution frees, is read from the history's own lists.
 //
+// An open marking keeps a mark for each peer that was live and unreached at its begin. What its sweep frees must have
+// such a mark, and be unreached still; the state makes a second marking for that.
+//
 // Nothing is asked of a history: an `adopt` may name any handle, and a sweep may free a peer that a live one still has
 // in a field. So the heaps are plain lists, and an edge has two live ends.
 #![tactic(auto)]
 
+mod both;
 mod callers;
+mod dead;
 mod found;
 mod heap;
 mod managed;
+mod marking;
 mod named;
 mod peers;
 mod roots;

@@ -1,10 +1,11 @@
 // The managed part of the joint state.
 
-ghost use Rattle.std.specs.Prelude.{◌≡◌, ℕ, ◌+◌, ◌<◌, ◌≤◌, ◌↔◌, IsTrue, IfOk, OnErr, OnOk, Some, None, MatchOption, All, filter, filter_map, length};
+ghost use Rattle.std.specs.Prelude.{◌≡◌, ℕ, ◌+◌, ◌<◌, ◌≤◌, ◌↔◌, IsTrue, IfOk, OnErr, OnOk, Some, None, MatchOption, All, Contains, filter, filter_map, length};
 ghost use Rattle.std.specs.Option.{ForSome};
 ghost use Rattle.joint_model.specs.Cycles.{IsOpen};
-ghost use Rattle.joint_model.specs.Heaps.{field_set, dropped, answer, IsMade};
-ghost use Rattle.joint_model.specs.Managed.{opening_managed, on_heap, adopted, abandoned, managed_name, handle_of, holds_handle, snapped, resolved};
+ghost use Rattle.joint_model.specs.Heaps.{field_set, dropped, answer, IsLive, IsMade};
+ghost use Rattle.joint_model.specs.Histories.{managed_numbers};
+ghost use Rattle.joint_model.specs.Managed.{opening_managed, on_heap, adopted, abandoned, managed_name, handle_of, holds_handle, IsManagedRoot, snapped, resolved};
 ghost use Rattle.joint_replay.specs.Plain.{refusal_reply, HasOpen};
 ghost use Rattle.joint_replay.specs.Judging.{Decides, Gives, named_objects};
 ghost use Rattle.joint_replay.specs.Finding.{Finds};
@@ -13,9 +14,9 @@ ghost use Rattle.joint_replay.specs.Snaps.{Snaps, OwesDead, NamesFreed, SaysSnap
 use crate::found::{Found, find};
 use crate::heap::{PlainHeap, Refusal, put_all};
 use crate::named::freed_objects;
-use crate::roots::handle_at;
+use crate::roots::{as_objects, handle_at, named_roots};
 use crate::state::Verdict;
-use joint_model::{Cycle, History, Kind, Reply, Span};
+use joint_model::{Cycle, History, Kind, MNum, Reply, Span};
 use std::alloc::{AllocError, Global};
 use std::marker::Model;
 
@@ -187,6 +188,15 @@ impl ManagedPart {
         ensures { result.now ≡ self.now.heap }
     {
         &self.heap
+    }
+
+    /// The live objects that a slot names: a variable or a static, since nothing is pinned yet. Answers `AllocError`
+    /// where there is no memory.
+    pub(crate) fn roots(&self, alloc: Global) -> Result<Vec<MNum>, AllocError>
+        ensures { IfOk result (λ v. (x : ℕ) → Contains (managed_numbers v.items) x ↔ (IsLive self.now.heap x × IsManagedRoot self.now x)) }
+    {
+        let named = named_roots(alloc, &self.heap)?;
+        as_objects(alloc, &named)
     }
 
     /// The handle that object `m` holds; a freed one holds none.

@@ -1,7 +1,7 @@
 // The peers of the joint state, with the handles as they were issued.
 
-ghost use Rattle.std.specs.Prelude.{◌≡◌, ℕ, ◌+◌, ◌<◌, ◌≤◌, ◌↔◌, ◌||◌, IsTrue, OnErr, OnOk, length, false};
-ghost use Rattle.joint_model.specs.Heaps.{MOST, is_full, next_number};
+ghost use Rattle.std.specs.Prelude.{◌≡◌, ℕ, ◌+◌, ◌<◌, ◌≤◌, ◌↔◌, ◌||◌, IsTrue, OnErr, OnOk, All, length, false};
+ghost use Rattle.joint_model.specs.Heaps.{MOST, IsMade, is_full, next_number, with_freed};
 ghost use Rattle.joint_model.specs.Peers.{opening_peers, pair_made, with_handle, with_peer, held, strong, next_handle, peer_of};
 
 use crate::heap::PlainHeap;
@@ -51,6 +51,24 @@ impl PeerPart {
         ensures { result.now ≡ self.now.heap }
     {
         &self.heap
+    }
+
+    /// How many handles were issued: the number of the last one. Each is held.
+    pub(crate) fn handles(&self) -> u32
+        ensures issued { result ≡ length self.now.issued }
+        ensures most { result ≤ MOST }
+        ensures held { All (λ i. i.hold ≡ held) self.now.issued }
+    {
+        self.handles.len() as u32
+    }
+
+    /// Frees the peers of a list. Answers `AllocError` where there is no memory; the part is then as before.
+    pub(crate) fn free(&mut self, freed: &[u32]) -> Result<(), AllocError>
+        requires { All (IsMade self.old.heap) freed.now }
+        ensures ok { OnOk result (self.new ≡ record self.old { heap = with_freed self.old.heap freed.now }) }
+        ensures err { OnErr result (self.new ≡ self.old) }
+    {
+        self.heap.free(freed)
     }
 
     /// The peer of handle `h`; None where none was issued with that number.

@@ -2,10 +2,13 @@
 
 ghost use Rattle.std.specs.Prelude.{◌≡◌, ℕ, ◌+◌, ◌<◌, ◌≤◌, ◌↔◌, ◌⊎◌, Contains, IfOk, OnOk, IsTrue, Some, length, take, slice_get};
 ghost use Rattle.joint_model.specs.Heaps.{IsLive, InSlot};
+ghost use Rattle.joint_model.specs.Histories.{managed_numbers};
 ghost use Rattle.managed_heap.specs.Found.{IsBridgeRow, has_handle, held_at};
-ghost use Rattle.joint_replay.specs.Roots.{Gains, IsNamedLive};
+ghost use Rattle.joint_marking.specs.Gathered.{Gains};
+ghost use Rattle.joint_replay.specs.Roots.{IsNamedLive};
 
 use crate::heap::PlainHeap;
+use joint_model::MNum;
 use std::alloc::{AllocError, Global};
 
 /// The live objects that a variable or a static names.
@@ -76,4 +79,15 @@ pub(crate) fn handle_at(held: &[Option<u32>], m: u32) -> Option<u32>
         return None;
     }
     held[m as usize - 1]
+}
+
+/// Numbers as those of managed objects. Answers `AllocError` where there is no memory.
+pub(crate) fn as_objects(alloc: Global, numbers: &[u32]) -> Result<Vec<MNum>, AllocError>
+    ensures { IfOk result (λ v. managed_numbers v.items ≡ numbers.now) }
+{
+    let mut objects = Vec::new(alloc);
+    for x in numbers {
+        objects.push(MNum(*x))?;
+    }
+    Ok(objects)
 }

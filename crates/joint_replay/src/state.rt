@@ -1,21 +1,25 @@
 // The joint state, and the verdict on an entry.
 
-ghost use Rattle.std.specs.Prelude.{◌≡◌, ◌<◌, ◌↔◌, if◌then◌else◌, IsTrue, IfOk, OnErr, OnOk, length, Some, None, MatchOption, true, filter};
+ghost use Rattle.std.specs.Prelude.{◌≡◌, ◌+◌, ◌<◌, ◌↔◌, ◌⊎◌, if◌then◌else◌, IsTrue, IfOk, OnErr, OnOk, length, Some, None, MatchOption, true, filter};
 ghost use Rattle.std.specs.Option.{ForSome};
 ghost use Rattle.joint_model.specs.declared.events.Entry.{Entry};
 ghost use Rattle.joint_model.specs.Heaps.{place, field_set, dropped, numbered_set};
 ghost use Rattle.joint_model.specs.Joint.{Joint, opening};
-ghost use Rattle.joint_model.specs.Lines.{IsManagedThread, IsVar, IsVarOrNone};
+ghost use Rattle.joint_model.specs.Lines.{IsManagedThread, IsPeerThread, IsDriver, IsVar, IsVarOrNone};
 ghost use Rattle.joint_model.specs.Managed.{adopted, on_heap, place_or_none, abandoned};
 ghost use Rattle.joint_model.specs.Peers.{pair_made};
-ghost use Rattle.joint_model.specs.Run.{on_managed, on_peers, thread_number, JointAbandon, JointResolve, removed_all};
+ghost use Rattle.joint_model.specs.Run.{on_managed, on_peers, thread_number, JointAbandon, JointResolve, JointBegin, JointSweep, removed_all};
+ghost use Rattle.joint_model.specs.Told.{sweep_of};
 ghost use Rattle.joint_replay.specs.Plain.{HasOpen};
-ghost use Rattle.joint_replay.specs.Snaps.{SnapsJoint, Settles, SaysFreed, keeps};
+ghost use Rattle.joint_replay.specs.Snaps.{SnapsJoint, SweepsJoint, MayEnd, MaySweep, SaysSwept, Settles, SaysFreed, keeps};
 ghost use Rattle.managed_heap.specs.Unmarked.{marked, unmarked_of};
-ghost use Rattle.joint_replay.specs.Judging.{Judges, Decides, Gives, IsCovered, IsEntry, named_objects};
+ghost use Rattle.joint_replay.specs.Judging.{Judges, Decides, Gives, IsCovered, IsEntry, named_objects, named_peers};
 
-use crate::callers::{can_make, place_of, place_or_none};
+use crate::callers::{can_make, covers_event, place_of, place_or_none};
+use crate::dead::dead_peers;
 use crate::managed::ManagedPart;
+use crate::marking::{Marking, all_marked, rises};
+use crate::named::freed_peers;
 use crate::peers::PeerPart;
 use joint_model::{Act, Cycle, Entry, HNum, History, Kind, Op, Reply, Sort, Thread, Var};
 use reachability::reached;
@@ -49,15 +53,19 @@ pub struct JointState {
     managed: ManagedPart,
     peers: PeerPart,
     removed: Vec<bool>,
+    marking: Option<Marking>,
+    markings: u32,
 }
 
 impl Model for JointState {
-    ghost use Rattle.std.specs.Prelude.{None};
     ghost use Rattle.joint_model.specs.Joint.{Joint};
+    ghost use Rattle.joint_replay.specs.Graphs.{KeepsStored};
 
     ghost Value = { Joint };
 
-    ghost view = { λ s. record { managed = s.managed; peers = s.peers; removed = s.removed.items; marking = None; markings = 0 } };
+    ghost view = { λ s. record { managed = s.managed; peers = s.peers; removed = s.removed.items; marking = s.marking; markings = s.markings } };
+
+    ghost invariant = { λ s. KeepsStored s.peers s.marking };
 }
 
 impl JointState {
@@ -70,7 +78,17 @@ impl JointState {
             managed: ManagedPart::new(alloc),
             peers: PeerPart::new(alloc),
             removed: Vec::new(alloc),
+            marking: None,
+            markings: 0,
         })
+    }
+
+    /// Whether [`JointState::replay_step`] can judge the entry yet: a `set` or `drop` of a managed thread, a make, an
+    /// adopt, a snapshot, a begin, a sweep, a resolution or an abandonment, or an entry outside the joint machine.
+    pub fn covers(entry: &Entry) -> bool
+        ensures { IsTrue result ↔ IsCovered entry.now }
+    {
+        covers_event(entry.made.caller, &entry.made.op)
     }
 
     /// Replays entry `i` of a history. Answers `Lawful` exactly where the entry is a step of the joint machine from this
@@ -110,6 +128,8 @@ impl JointState {
                 h: handle,
             } => self.adopt(made.caller, v, kind, fields, handle, &made.reply),
             Op::Snap { cycle } => self.snap(h, cycle, &made.reply),
+            Op::Begin => self.begin(made.caller, &made.reply),
+            Op::Sweep => self.sweep(h, made.caller, &made.reply),
             Op::Resolve { cycle } => self.resolve(h, cycle, &made.reply),
             Op::Abandon { cycle } => Ok(self.abandon(cycle, &made.reply)),
             _ => unreachable!(),
@@ -183,6 +203,98 @@ impl JointState {
     {
         let verdict = self.managed.snap(self.alloc, h, k, reply)?;
         Ok(verdict)
+    }
+
+    // `begin`: a further marking is opened, or the open one is named.
+    fn begin(&mut self, caller: Thread, reply: &Reply) -> Result<Verdict, AllocError>
+        ensures ok { IfOk result (λ d. Decides (JointBegin self.old self.old.marking caller reply.now) d self.old self.new) }
+        ensures err { OnErr result (self.new ≡ self.old) }
+    {
+        if let Some(marking) = &self.marking {
+            return Ok(Verdict::of(names_open(reply, marking.number())));
+        }
+        if !names_mark(reply, self.markings) {
+            return Ok(Verdict::Unlawful);
+        }
+        let marking = Marking::begin(
+            self.alloc,
+            self.markings + 1,
+            caller,
+            &self.managed,
+            &self.peers,
+            &self.removed,
+        )?;
+        self.markings += 1;
+        self.marking = Some(marking);
+        Ok(Verdict::Lawful)
+    }
+
+    // `sweep`: the open marking ends, with what the history says that it frees. Where none is open, or where another
+    // thread began it, a peer thread's frees nothing.
+    fn sweep(&mut self, h: &History, caller: Thread, reply: &Reply) -> Result<Verdict, AllocError>
+        requires caller { IsPeerThread caller ⊎ IsDriver caller }
+        ensures ok { IfOk result (λ d. Decides (JointSweep self.old self.old.marking caller reply.now (sweep_of (named_peers h.now reply.now))) d self.old self.new) }
+        ensures err { OnErr result (self.new ≡ self.old) }
+    {
+        let Some(marking) = &self.marking else {
+            return Ok(Verdict::of(finds_no_mark(caller, reply)));
+        };
+        if !marking.is_ended_by(caller) {
+            return Ok(Verdict::of(names_open(reply, marking.number())));
+        }
+        self.end_marking(h, caller, reply)
+    }
+
+    // The open marking ends, with what the history says that it frees.
+    fn end_marking(
+        &mut self,
+        h: &History,
+        caller: Thread,
+        reply: &Reply,
+    ) -> Result<Verdict, AllocError>
+        requires caller { MayEnd self.old caller }
+        ensures ok { IfOk result (λ d. Decides (SweepsJoint self.old caller (named_peers h.now reply.now) reply.now) d self.old self.new) }
+        ensures err { OnErr result (self.new ≡ self.old) }
+    {
+        let Some(freed) = self.swept(h, reply)? else {
+            return Ok(Verdict::Unlawful);
+        };
+        self.peers.free(&freed)?;
+        self.marking = None;
+        Ok(Verdict::Lawful)
+    }
+
+    // The peers that the open marking frees by that reply; None where it is no sweep of that marking.
+    fn swept(&self, h: &History, reply: &Reply) -> Result<Option<Vec<u32>>, AllocError>
+        ensures { IfOk result (λ o. MatchOption o (MaySweep self.now (named_peers h.now reply.now) reply.now → ⊥) (λ v. (v.items ≡ named_peers h.now reply.now) × MaySweep self.now v.items reply.now)) }
+    {
+        let Some(marking) = &self.marking else {
+            return Ok(None);
+        };
+        let Some(freed) = self.named(h, reply, marking.number())? else {
+            return Ok(None);
+        };
+        let dead = dead_peers(self.alloc, &self.managed, &self.peers, &self.removed)?;
+        if rises(&freed) && marking.stores(&freed) && all_marked(&dead, &freed) {
+            Ok(Some(freed))
+        } else {
+            Ok(None)
+        }
+    }
+
+    // The peers that the reply of a sweep of marking `n` names; None where it is none, or stands elsewhere.
+    fn named(&self, h: &History, reply: &Reply, n: u32) -> Result<Option<Vec<u32>>, AllocError>
+        ensures { IfOk result (λ o. MatchOption o (SaysSwept self.now.peers.heap h.now reply.now n → ⊥) (λ v. (v.items ≡ named_peers h.now reply.now) × SaysSwept self.now.peers.heap h.now reply.now n)) }
+    {
+        match reply {
+            Reply::Swept(number, span) => {
+                if number.0 != n || span.first as usize != self.peers.heap().freed_len() {
+                    return Ok(None);
+                }
+                freed_peers(self.alloc, h, *span)
+            }
+            _ => Ok(None),
+        }
     }
 
     // `resolve`: cycle `k` is closed, with what the history says that it frees.
@@ -295,5 +407,34 @@ fn remove(h: u32, removed: &mut Vec<bool>)
 {
     if h != 0 && h as usize <= removed.len() {
         removed[h as usize - 1] = true;
+    }
+}
+
+// Whether the reply names the open marking.
+fn names_open(reply: &Reply, n: u32) -> bool
+    ensures { IsTrue result ↔ (reply.now ≡ Reply.MarkOpen record { 0 = n }) }
+{
+    match reply {
+        Reply::MarkOpen(number) => number.0 == n,
+        _ => false,
+    }
+}
+
+// Whether a peer thread finds no open marking.
+fn finds_no_mark(caller: Thread, reply: &Reply) -> bool
+    requires caller { IsPeerThread caller ⊎ IsDriver caller }
+    ensures { IsTrue result ↔ (IsPeerThread caller × (reply.now ≡ Reply.NoMark)) }
+{
+    matches!(caller, Thread::P(_)) && matches!(reply, Reply::NoMark)
+}
+
+// Whether the reply names the marking after `markings`.
+fn names_mark(reply: &Reply, markings: u32) -> bool
+    ensures names { IsTrue result ↔ (reply.now ≡ Reply.Mark record { 0 = markings + 1 }) }
+    ensures few { IsTrue result → markings < 4294967295 }
+{
+    match reply {
+        Reply::Mark(number) => number.0 as u64 == markings as u64 + 1,
+        _ => false,
     }
 }

@@ -3,7 +3,8 @@ use Rattle.std.proofs.Common.{◌≡◌, Some, None, get_or, arith, ap, ◌∙�
 use Rattle.std.specs.Prelude.{slice_get}
 use Rattle.std.proofs.lemmas.List.{take_all}
 use Rattle.std.proofs.lemmas.Option.{slice_get-get_or}
-use Rattle.joint_replay.specs.Roots.{Gains, IsNamedLive}
+use Rattle.joint_marking.specs.Gathered.{Gains}
+use Rattle.joint_replay.specs.Roots.{IsNamedLive}
 use Rattle.joint_replay.proofs.Finding.{named-put, named-skip}
 use Rattle.joint_replay.proofs.roots.push_named.Goals as goal
 use Rattle.joint_replay.proofs.roots.push_named.Goals.{in-Some+in_ok-push, in_default}

@@ -2,7 +2,7 @@
 use Rattle.std.proofs.Common.{◌≡◌, rules}
 use Rattle.joint_model.specs.declared.lines.Act.TheVariants as act
 use Rattle.joint_model.specs.declared.events.Op.TheVariants as op
-use Rattle.joint_replay.proofs.Verdicts.{judged-set, judged-drop, judged-make, judged-adopt, judged-abandon, judged-snap, judged-resolve, judged-ok}
+use Rattle.joint_replay.proofs.Verdicts.{judged-set, judged-drop, judged-make, judged-adopt, judged-abandon, judged-snap, judged-resolve, judged-begin, judged-sweep, judged-ok}
 use Rattle.joint_replay.proofs.state.JointState.judge.Goals as goal
 
 pub returns-in-Line-Set-clause-verdict : goal.returns-in-Line-Set-clause-verdict
@@ -38,3 +38,11 @@ returns-in-Snap-clause-verdict c =
 pub returns-in-Resolve-clause-verdict : goal.returns-in-Resolve-clause-verdict
 returns-in-Resolve-clause-verdict c =
     judged-ok c.args.h.now c.args.entry.now c.args.self.now _ _ (λ v. judged-resolve c.args.h.now c.args.entry.now c.args.self.now c.in-Resolve.cycle c.in-Resolve.is (c.can_make.ensures.0 c.if-not-can_make.false).0 v _) c.resolve.result c.resolve.ensures.ok
+
+pub returns-in-Begin-clause-verdict : goal.returns-in-Begin-clause-verdict
+returns-in-Begin-clause-verdict c =
+    judged-ok c.args.h.now c.args.entry.now c.args.self.now _ _ (λ v. judged-begin c.args.h.now c.args.entry.now c.args.self.now c.in-Begin.is (c.can_make.ensures.0 c.if-not-can_make.false).0 v _) c.begin.result c.begin.ensures.ok
+
+pub returns-in-Sweep-clause-verdict : goal.returns-in-Sweep-clause-verdict
+returns-in-Sweep-clause-verdict c =
+    judged-ok c.args.h.now c.args.entry.now c.args.self.now _ _ (λ v. judged-sweep c.args.h.now c.args.entry.now c.args.self.now c.in-Sweep.is (c.can_make.ensures.0 c.if-not-can_make.false).0 v _) c.sweep.result c.sweep.ensures.ok

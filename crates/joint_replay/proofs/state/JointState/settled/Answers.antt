@@ -1,5 +1,5 @@
 -- A marking from the kept candidates leaves out what goes.
-use Rattle.std.proofs.Common.{◌≡◌, ◌∙◌, ap, sym, subst, None}
+use Rattle.std.proofs.Common.{◌≡◌, ◌∙◌, ap, sym, subst}
 use Rattle.std.specs.Prelude.{filter}
 use Rattle.joint_model.specs.Joint.{Joint}
 use Rattle.joint_replay.specs.Snaps.{keeps, Settles}
@@ -8,7 +8,7 @@ use Rattle.joint_replay.proofs.state.JointState.settled.Goals as goal
 
 pub reached-requires : goal.reached-requires
 reached-requires c =
-    let i : Joint = record { managed = c.self.inside.managed; peers = c.self.inside.peers; removed = c.self.inside.removed.items; marking = None; markings = 0 } in
+    let i : Joint = record { managed = c.self.inside.managed; peers = c.self.inside.peers; removed = c.self.inside.removed.items; marking = c.self.inside.marking; markings = c.self.inside.markings } in
     let o = c.in-Some.open.now in
     let kept = c.in_ok-kept.kept.items in
     let same : kept ≡ filter (keeps i.managed i.peers) o.candidates = subst (λ (z : Joint). kept ≡ filter (keeps z.managed z.peers) o.candidates) (sym c.self.view_is) (c.in_ok-kept.ensures ∙ ap (filter (keeps c.args.self.now.managed c.args.self.now.peers)) c.candidates.ensures) in
@@ -16,7 +16,7 @@ reached-requires c =
 
 pub returns : goal.returns
 returns c =
-    let i : Joint = record { managed = c.self.inside.managed; peers = c.self.inside.peers; removed = c.self.inside.removed.items; marking = None; markings = 0 } in
+    let i : Joint = record { managed = c.self.inside.managed; peers = c.self.inside.peers; removed = c.self.inside.removed.items; marking = c.self.inside.marking; markings = c.self.inside.markings } in
     let o = c.in-Some.open.now in
     let kept = c.in_ok-kept.kept.items in
     let same : kept ≡ filter (keeps i.managed i.peers) o.candidates = subst (λ (z : Joint). kept ≡ filter (keeps z.managed z.peers) o.candidates) (sym c.self.view_is) (c.in_ok-kept.ensures ∙ ap (filter (keeps c.args.self.now.managed c.args.self.now.peers)) c.candidates.ensures) in

@@ -1,5 +1,5 @@
 -- The managed part alone moves.
-use Rattle.std.proofs.Common.{subst, None}
+use Rattle.std.proofs.Common.{subst}
 use Rattle.joint_model.specs.Joint.{Joint}
 use Rattle.joint_replay.specs.Snaps.{Snaps, SnapsJoint}
 use Rattle.joint_replay.specs.Judging.{named_objects, Decides}
@@ -9,7 +9,7 @@ use Rattle.joint_replay.proofs.state.JointState.snap.Goals as goal
 
 pub returns-clause-ok : goal.returns-clause-ok
 returns-clause-ok c =
-    let i : Joint = record { managed = c.self.inside.managed; peers = c.self.inside.peers; removed = c.self.inside.removed.items; marking = None; markings = 0 } in
+    let i : Joint = record { managed = c.self.inside.managed; peers = c.self.inside.peers; removed = c.self.inside.removed.items; marking = c.self.inside.marking; markings = c.self.inside.markings } in
     let k = c.args.k.0 in
     let reply = c.args.reply.now in
     let named = named_objects c.args.h.now reply in

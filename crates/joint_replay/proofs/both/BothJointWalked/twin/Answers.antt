@@ -1,0 +1,19 @@
+-- An object without a handle, or whose handle is on a freed peer, has no twin.
+use Rattle.std.proofs.Common.{sym}
+use Rattle.joint_model.specs.Heaps.{IsLive}
+use Rattle.joint_marking.proofs.Gathering.{test-false}
+use Rattle.joint_marking.proofs.Twins.{twin-none, twin-freed}
+use Rattle.joint_replay.specs.Graphs.{clean_graph, parts_graph}
+use Rattle.joint_replay.proofs.Finding.{cleaned-live}
+use Rattle.joint_replay.proofs.both.BothJointWalked.twin.Goals as goal
+
+pub returns-in_default : goal.returns-in_default
+returns-in_default c = twin-none (clean_graph (parts_graph c.args.self.now.managed.now c.args.self.now.peers.now c.args.self.now.removed.now)) c.args.x.0 (sym c.in_default.ensures)
+
+pub returns-else-is_live : goal.returns-else-is_live
+returns-else-is_live c =
+    let s = c.args.self.now in
+    let h = s.peers.now.heap in
+    let p = c.in-Some-peer_of.p in
+    twin-freed (clean_graph (parts_graph s.managed.now s.peers.now s.removed.now)) c.args.x.0 c.in-Some.h p (sym c.in-Some.ensures) (sym c.in-Some-peer_of.ensures)
+    (λ l. test-false (IsLive h p) c.is_live.result (rw c.heap.ensures at c.is_live.ensures.live) c.if-is_live.false (cleaned-live h p l))
