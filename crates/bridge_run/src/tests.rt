@@ -1,10 +1,14 @@
 // The top call by worked examples: printed reports, and each status.
 
+use crate::serial::run;
 use crate::streams::{StdSink, StdSource};
 use crate::top::bridge_main;
-use bridge_script::{ByteSink, ByteSource, FreeTurn, PlainSource};
+use bridge_script::{ByteSink, ByteSource, FreeTurn, PlainSource, parse};
+use joint_model::History;
+use joint_replay::{JointState, Verdict};
 use std::alloc::{AllocError, Global};
 use std::io;
+use std::process::Abort;
 use std::sync::Wait;
 use std::test::Fail;
 use std::thread::Threads;
@@ -303,5 +307,45 @@ fn a_script_has_at_most_so_many_cycles(rt: HostRuntime) -> Result<(), Fail> {
     let status = status_of(&rt, alloc, &["serial"], &text, &[], &mut more)?;
     assert_eq!(rt; status, 3);
     assert_eq!(rt; more.bytes(), b"line 257: cause 7 cycles\n".as_slice());
+    Ok(())
+}
+
+// The verdict of the joint machine on entry `i` of a history.
+fn replay(
+    rt: &impl Abort,
+    state: &mut JointState,
+    h: &History,
+    i: u64,
+) -> Result<Verdict, AllocError> {
+    assert!(rt; i < h.len());
+    match h.entry(i) {
+        None => unreachable!(),
+        Some(entry) => {
+            assert!(rt; JointState::covers(&entry));
+            state.replay_step(h, i)
+        }
+    }
+}
+
+#[test]
+fn the_joint_machine_finds_each_entry_of_the_example_lawful(rt: HostRuntime) -> Result<(), Fail> {
+    let alloc = rt.alloc();
+    let h = run(alloc, &parse(alloc, TWO_LINKED)?)?;
+    assert_eq!(rt; h.len(), 15);
+    let mut state = JointState::new(alloc)?;
+    for i in 0..15 {
+        assert_eq!(rt; replay(&rt, &mut state, &h, i)?, Verdict::Lawful);
+    }
+    Ok(())
+}
+
+#[test]
+fn the_second_sweep_is_no_step_from_the_opening_state(rt: HostRuntime) -> Result<(), Fail> {
+    let alloc = rt.alloc();
+    let h = run(alloc, &parse(alloc, TWO_LINKED)?)?;
+    let mut state = JointState::new(alloc)?;
+    assert_eq!(rt; replay(&rt, &mut state, &h, 13)?, Verdict::Unlawful);
+    assert_eq!(rt; replay(&rt, &mut state, &h, 0)?, Verdict::Lawful);
+    assert_eq!(rt; replay(&rt, &mut state, &h, 1)?, Verdict::Lawful);
     Ok(())
 }
