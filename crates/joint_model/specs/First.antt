@@ -1,6 +1,7 @@
 -- The form of the first steps, which goes as a whole when the cycle of eight phases comes: a cycle makes the four entries
 -- snap, begin, sweep and resolve; its sweep goes by joint reachability; its resolve cites nothing and keeps the
--- candidates whose peers weren't swept. Everything else is as in the final definitions.
+-- candidates whose peers weren't swept; no other caller's entry stands within it; and at the end the driver is idle, and
+-- the list of notices is empty. Everything else is as in the final definitions.
 use Rattle.std.specs.Prelude.{◌≡◌, ℕ, ◌+◌, ◌≤◌, ◌↔◌, Contains, Bool, true, false, not, nat_eq, if◌then◌else◌, List, [], ◌∷◌, length, map, Option, Some, None}
 use Rattle.std.specs.List.{list_any}
 use Rattle.joint_model.specs.declared.names.Thread.{Thread}
@@ -177,7 +178,8 @@ abbrev pub AllFirstMayCome : FirstLinkage → List Noted → Type 0
 AllFirstMayCome s [] = Unit {0}
 AllFirstMayCome s (n ∷ ns) = FirstMayCome s n × AllFirstMayCome (first_after s n) ns
 
--- every operation has all its events, and the driver is idle
+-- no handle waits for its release, and the driver is idle (a make, a lend or a grip may stand alone, as an operation
+-- that found no memory leaves it)
 pub record IsFirstWhole (s : FirstLinkage) : Type 0 where
   pub threads : (t : ℕ) → IsDone (doing_at s.base.control t)
   pub driver : s.base.control.stand ≡ idle

@@ -75,7 +75,8 @@ abbrev pub AllMayCome : Linkage → List Noted → Type 0
 AllMayCome s [] = Unit {0}
 AllMayCome s (n ∷ ns) = MayCome s n × AllMayCome (linkage_after s n) ns
 
--- every operation and phase that has begun has all its events
+-- no handle waits for its release, and the driver is at rest (a make, a lend or a grip may stand alone, as an operation
+-- that found no memory leaves it)
 pub record IsWhole (s : Linkage) : Type 0 where
   pub threads : (t : ℕ) → IsDone (doing_at s.control t)
   pub driver : IsAtRest s.control.stand (length (candidates_of s.managed.managed))
