@@ -4,21 +4,17 @@
 use Rattle.std.proofs.Common.{◌≡◌, ◌≢◌, ℕ, suc, ◌-◌, ◌<◌, true, List, [], ◌∷◌, ◌++◌, length, map, filter, eqb, get_or, refl, ◌∙◌, ap, subst, arith, inl, inr}
 use Rattle.std.proofs.lemmas.List.{get_or_past, map_push, length_push, get_or_append_left, length-map}
 use Rattle.std.proofs.lemmas.List.FromFn.{length-map-range_with_len}
-use Rattle.std.proofs.lemmas.List.Elements.{All-head, All-tail, All-push, All-weaker, All-filter, All-map, All-contains, All-nil, All-cons}
+use Rattle.std.proofs.lemmas.List.Elements.{All-push, All-weaker, All-filter, All-map, All-contains, All-nil, All-cons}
 use Rattle.std.proofs.lemmas.Bool.{cases_lt}
 use Rattle.std.specs.List.{All, Contains}
 use Rattle.joint_model.specs.Components.{Rises}
+use Rattle.joint_model.proofs.Members.{Rises-push}
 use Rattle.bridge_graph.specs.declared.graph.Node.{Node}
 use Rattle.bridge_graph.specs.declared.packing.Link.{Link}
 use Rattle.bridge_graph.specs.Packing.{rest_of, rows_of}
 use Rattle.bridge_graph.specs.Parts.{IsPart, row_at, opaque_at, numbers_of, Leads}
 use Rattle.bridge_graph.specs.Built.{Joins, IsBuilding}
 use Rattle.bridge_graph.proofs.Rows.{row-of_map, none_from}
-
-pub Rises-push : (xs : List ℕ) (y : ℕ) → Rises xs → All (λ x. x < y) xs → Rises (xs ++ y ∷ [])
-Rises-push [] y r h = (All-nil (λ z. y < z), tt)
-Rises-push (x ∷ xs) y r h =
-    (All-push (λ z. x < z) xs y r.0 (All-head (λ z. z < y) x xs h), Rises-push xs y r.1 (All-tail (λ z. z < y) x xs h))
 
 rest_in_range : (nodes : List Node) (links : List Link) (x : ℕ) → All (Joins nodes) links → All (λ y. y < length nodes) (rest_of links x 0)
 rest_in_range nodes links x h =

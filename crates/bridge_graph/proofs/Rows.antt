@@ -1,19 +1,16 @@
 -- The rows of a part that is being built, and of one that is packed, each read at an index. Adding a link
 -- changes one row, adding a node adds an empty one, and rows that agree at each index are the same.
-use Rattle.std.proofs.Common.{◌≡◌, ◌≢◌, ℕ, ◌+◌, ◌<◌, false, cond, eqb, List, [], ◌∷◌, ◌++◌, map, set, refl, sym, ◌∙◌, ap, arith, eq-eqb, inl, inr}
+use Rattle.std.proofs.Common.{◌≡◌, ◌≢◌, ℕ, ◌+◌, ◌<◌, cond, List, [], ◌∷◌, ◌++◌, map, set, refl, sym, ◌∙◌, ap, arith, eq-eqb, inl, inr}
 use Rattle.std.proofs.lemmas.List.{length-set, get_or-set_same, get_or-set_other, append-nil}
 use Rattle.std.proofs.lemmas.List.FromFn.{length-map-range_with_len, get_or-map-range_with_len, map-range_with_len_more, fill_by_all}
 use Rattle.std.proofs.lemmas.List.Elements.{All-head, All-tail}
 use Rattle.std.proofs.lemmas.Bool.{cases_eq}
-use Rattle.std.proofs.lemmas.Bool.Decides.{nat_tests}
 use Rattle.std.specs.List.{range_with_len, All}
 use Rattle.bridge_graph.specs.declared.packing.Link.{Link}
 use Rattle.bridge_graph.specs.Packing.{rest_of, rows_of}
 use Rattle.bridge_graph.specs.Parts.{row_at}
 use Rattle.bridge_graph.proofs.Links.{rest-push}
-
-neq-eqb : (a b : ℕ) → a ≢ b → eqb a b ≡ false
-neq-eqb a b h = grind (arith, nat_tests)
+use Rattle.joint_model.proofs.Deciding.{neq-eqb}
 
 pub row-of_map : (f : ℕ → List ℕ) (n i : ℕ) → i < n → row_at (map f (range_with_len 0 n)) i ≡ f i
 row-of_map f n i h = get_or-map-range_with_len f 0 n i i [] h (omega arith)

@@ -31,6 +31,7 @@ use Rattle.joint_model.specs.ManagedReplay.{ManagedReplay, adopt_by}
 use Rattle.joint_model.specs.Peers.{Peers, Issued, held, strong, pair_made, issued_since}
 use Rattle.joint_model.specs.PeerReplay.{fresh_row}
 use Rattle.joint_model.specs.Told.{Noted, nothing}
+use Rattle.joint_model.proofs.Deciding.{test-cases}
 use Rattle.managed_heap.proofs.Replays.{step}
 use Rattle.managed_heap.specs.Sides.{Side as ManagedShown, Adopts, managed_event, step_made}
 use Rattle.peer_heap.specs.Replays.{Replays}
@@ -40,7 +41,6 @@ use Rattle.script_histories.specs.Holding.{AreLine, IsOnLine, adopts}
 use Rattle.bridge_run.specs.Going.{Goes, AtRest}
 use Rattle.bridge_run.specs.Runs.{Both, IsTold, IsAt, AreIssued, entries_of}
 use Rattle.bridge_run.specs.Wholes.{Ran, as_managed, as_peers}
-use Rattle.bridge_run.proofs.ManagedEvents.{test-cases}
 use Rattle.bridge_run.proofs.Ran.{Ran-peer}
 use Rattle.bridge_run.proofs.Stepping.{step-ran, event-issued, named-push}
 use Rattle.bridge_run.proofs.Telling.{told-push, IsAt-thread, done-start, doing-now}

@@ -23,6 +23,7 @@ use Rattle.joint_model.specs.Histories.{IsSound, managed_numbers, peer_numbers}
 use Rattle.joint_model.specs.Managed.{Managed, OpenCycle}
 use Rattle.joint_model.specs.Peers.{Peers}
 use Rattle.joint_model.specs.Told.{Noted, snap_of, begin_of, sweep_of, resolution_of}
+use Rattle.joint_model.proofs.HeapLemmas.{candidates_of-open}
 use Rattle.managed_heap.specs.Calls.{Snaps, Resolves}
 use Rattle.managed_heap.specs.declared.side.Opened.{Opened as Opening}
 use Rattle.managed_heap.specs.declared.side.ResolveOut.{ResolveOut}
@@ -92,9 +93,6 @@ open-is b c is = ap (λ (o : Option OpenCycle). elim o [ None ↦ record { 0 = 0
 -- the candidates of the open cycle
 abbrev candidates_in : Option OpenCycle → List ℕ
 candidates_in o = elim o [ None ↦ [] | Some c ↦ c.candidates ]
-
-pub candidates-is : (s : Managed) (c : OpenCycle) → s.cycle ≡ Some c → candidates_of s ≡ c.candidates
-candidates-is s c is = ap candidates_in is
 
 -- a snapshot
 pub snap-goes : (m m' : ManagedShown) (p : PeerShown) (count count' index : ℕ) (out : Opening)
@@ -232,7 +230,7 @@ resolve-goes m m' p count count' index alive out answers r noted end told at =
     let one : Some at.cycle ≡ Some r.cycle = sym at.is_open ∙ r.opened in
     let same : at.cycle ≡ r.cycle = cc in
     let told_so : alive ≡ first_answers end.base.managed.managed end.base.peer = rw (told.managed, told.peer.peers) answers in
-    let many : length alive ≡ length r.cycle.candidates = rw (answers) (length-map (candidates_of m.managed) (λ x. not (is_freed p.peers.heap (peer_of_row m.managed p.peers.issued x))) ∙ ap (λ (l : List ℕ). length l) (candidates-is m.managed r.cycle r.opened)) in
+    let many : length alive ≡ length r.cycle.candidates = rw (answers) (length-map (candidates_of m.managed) (λ x. not (is_freed p.peers.heap (peer_of_row m.managed p.peers.issued x))) ∙ ap (λ (l : List ℕ). length l) (candidates_of-open m.managed r.cycle r.opened)) in
     let replays : Replayed end.base.managed (resolve_made m.managed index r.cycle.number freed None) (resolution_of alive freed) m'.managed =
     subst (λ (x : Managed). Replayed end.base.managed (resolve_made x index r.cycle.number freed None) (resolution_of alive freed) m'.managed) told.managed
     (resolve end.base.managed m'.managed index None r.cycle alive freed (rw (told.managed) r.opened) many (rw (told.managed) r.resolution) (rw (told.managed) r.state)) in

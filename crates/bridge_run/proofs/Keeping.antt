@@ -15,8 +15,8 @@ use Rattle.joint_model.specs.Histories.{managed_numbers}
 use Rattle.joint_model.specs.Managed.{Managed, IsBridge, ManagedEdge, handle_of, snapped}
 use Rattle.joint_model.specs.Peers.{Issued, peer_of}
 use Rattle.joint_model.proofs.WalkLemmas.{Reached-start}
-use Rattle.object_heap.proofs.Targets.{is_freed-live}
-use Rattle.managed_heap.proofs.Gathering.{Contains-first, Contains-later}
+use Rattle.joint_model.proofs.Members.{Contains-there, Contains-here}
+use Rattle.joint_model.proofs.HeapLemmas.{is_freed-live}
 use Rattle.managed_heap.specs.Calls.{Snaps}
 use Rattle.managed_heap.specs.declared.side.Opened.{Opened as Opening}
 use Rattle.managed_heap.specs.Sides.{Side as ManagedShown}
@@ -28,8 +28,8 @@ use Rattle.bridge_run.specs.Runs.{AreIssued}
 map-same : {X Y : Type 0} → (f g : X → Y) (xs : List X) → ((x : X) → Contains xs x → f x ≡ g x) → map f xs ≡ map g xs
 map-same f g [] h = refl
 map-same f g (x ∷ xs) h =
-    let first : f x ≡ g x = h x (Contains-first x xs) in
-    let others = map-same f g xs (λ y c. h y (Contains-later x xs y c)) in cc
+    let first : f x ≡ g x = h x (Contains-here x xs) in
+    let others = map-same f g xs (λ y c. h y (Contains-there y x xs c)) in cc
 
 -- a live object's handle is the one of its place
 live-handle : (s : Managed) (m : ℕ) → IsLive s.heap m → handle_of s m ≡ elim (numbered_at s.held m) [ None ↦ None | Some h ↦ h ]

@@ -1,22 +1,14 @@
 -- What the first steps' managed events leave alone: they free nothing, open and close no cycle, and their replies name no
 -- span; and an object gets a handle only by an `adopt`, the one that it names. Each is a look at the event's cases.
-use Rattle.std.proofs.Common.{◌≡◌, ℕ, ◌⊎◌, inl, inr, Bool, true, false, List, [], ◌∷◌, ◌++◌, length, Option, Some, None, refl}
-use Rattle.std.specs.Prelude.{nat_le, if◌then◌else◌}
+use Rattle.std.proofs.Common.{◌≡◌, ℕ, ◌⊎◌, inl, inr, List, [], ◌∷◌, ◌++◌, length, Option, Some, None, refl}
+use Rattle.std.specs.Prelude.{nat_le}
 use Rattle.joint_model.specs.declared.names.MNum.{MNum}
 use Rattle.joint_model.specs.declared.names.PNum.{PNum}
 use Rattle.joint_model.specs.declared.names.Kind.{Kind}
 use Rattle.joint_model.specs.Heaps.{Heap, Answered, slot, field_set, field_stored, dropped, is_full, fields_of}
 use Rattle.joint_model.specs.Histories.{HasSpans}
 use Rattle.joint_model.specs.Managed.{Managed, adopted, on_heap}
-
--- a fact of an answer that goes by what a slot holds, and of one that goes by a test
-option-cases : {S : Type 0} (P : S → Type 0) (a : S) (b : ℕ → S) (o : Option ℕ) → P a → ((y : ℕ) → P (b y)) → P (elim o [ None ↦ a | Some y ↦ b y ])
-option-cases P a b None p q = p
-option-cases P a b (Some y) p q = q y
-
-pub test-cases : {S : Type 0} (P : S → Type 0) (t : Bool) (a b : S) → P a → P b → P (if t then a else b)
-test-cases P true a b p q = p
-test-cases P false a b p q = q
+use Rattle.joint_model.proofs.Deciding.{option-cases, test-cases}
 
 -- an answer of a heap that frees nothing and names no span
 pub record IsQuietHeap (ms : List MNum) (ps : List PNum) (old : Heap) (a : Answered Heap) : Type 0 where

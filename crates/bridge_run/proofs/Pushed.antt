@@ -9,17 +9,12 @@ use Rattle.joint_model.specs.declared.events.Entry.{Entry}
 use Rattle.joint_model.specs.Components.{Rises}
 use Rattle.joint_model.specs.Draws.{NumberedFrom}
 use Rattle.joint_model.specs.Histories.{IsPlaced, IsShuffle}
+use Rattle.joint_model.proofs.Members.{Rises-push}
 
 -- the numbers go on
 pub NumberedFrom-push : (n : ℕ) (es : List Entry) (e : Entry) → NumberedFrom n es → e.number ≡ n + length es → NumberedFrom n (es ++ e ∷ [])
 NumberedFrom-push n [] e h is = (omega arith, tt)
 NumberedFrom-push n (x ∷ es) e h is = (h.0, NumberedFrom-push (n + 1) es e h.1 (omega arith))
-
--- a greater number at the end
-pub Rises-push : (xs : List ℕ) (y : ℕ) → Rises xs → All (λ x. x < y) xs → Rises (xs ++ y ∷ [])
-Rises-push [] y h below = (All-nil (λ z. y < z), tt)
-Rises-push (x ∷ xs) y h below =
-    (All-push (λ z. x < z) xs y h.0 (All-head (λ z. z < y) x xs below), Rises-push xs y h.1 (All-tail (λ z. z < y) x xs below))
 
 -- what stood at a place stands there still, and the new element stands at the end
 pub slice_get-push : {A : Type 0} → (xs : List A) (y : A) (k : ℕ) (x : A) → slice_get xs k ≡ Some x → slice_get (xs ++ y ∷ []) k ≡ Some x

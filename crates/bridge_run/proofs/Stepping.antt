@@ -2,7 +2,6 @@
 -- of the whole history, with the next number; it frees nothing; and a handle that an object gets was issued.
 use Rattle.std.proofs.Common.{All, ◌≡◌, ℕ, ◌+◌, ◌≤◌, inl, inr, List, [], ◌∷◌, ◌++◌, length, Option, Some, None, refl, sym, ap, ◌∙◌, subst, append-nil}
 use Rattle.std.proofs.lemmas.List.Elements.{All-push, All-nil, All-cons}
-use Rattle.object_heap.proofs.Numbered.{numbered-push_cases}
 use Rattle.joint_model.specs.declared.names.Thread.{Thread}
 use Rattle.joint_model.specs.declared.names.Thread.TheVariants.{M, P, C}
 use Rattle.joint_model.specs.declared.names.Kind.{Kind}
@@ -21,10 +20,12 @@ use Rattle.joint_model.specs.Draws.{numbered, Adds, CountDrew}
 use Rattle.joint_model.specs.First.{first_after, FirstMayCome, IsCycleAlone}
 use Rattle.joint_model.specs.Heaps.{Answered, answer, numbered_at}
 use Rattle.joint_model.specs.Histories.{IsSound}
-use Rattle.joint_model.specs.Lines.{IsManagedThread, IsThread, IsBridgeObject, IsAdoptable, IsEvent, IsNamed, IsOneEvent, IsLine, IsManagedAct}
+use Rattle.joint_model.specs.Lines.{IsManagedThread, IsBridgeObject, IsAdoptable, IsEvent, IsNamed, IsOneEvent, IsLine, IsManagedAct}
 use Rattle.joint_model.specs.Managed.{Managed}
 use Rattle.joint_model.specs.Peers.{Issued}
 use Rattle.joint_model.specs.Told.{Noted, nothing}
+use Rattle.joint_model.proofs.Numbered.{numbered-push_cases}
+use Rattle.script_histories.proofs.Knowing.{of-managed}
 use Rattle.managed_heap.proofs.Replays.{step}
 use Rattle.managed_heap.specs.Sides.{Side as ManagedShown, Adopts, managed_event, IsFirstAct, IsFirstOp, IsFirstManagedStep, step_made}
 use Rattle.peer_heap.specs.Sides.{Side as PeerShown}
@@ -36,12 +37,6 @@ use Rattle.bridge_run.proofs.ManagedEvents.{IsQuiet, set-quiet, drop-quiet, adop
 use Rattle.bridge_run.proofs.Ran.{Ran-managed}
 use Rattle.bridge_run.proofs.Telling.{told-push, IsAt-thread, done-start}
 
--- a managed thread is a thread
-pub thread-is : (t : Thread) → IsManagedThread t → IsThread t
-thread-is (M n) h = h
-thread-is (P n) h = absurd h
-thread-is C h = tt
-
 -- a bridge object's kind can be adopted
 adoptable : (k : Kind) (n : ℕ) (s : Sort) → IsBridgeObject k n s → IsAdoptable k n
 adoptable kind.Plain n s h = absurd h
@@ -52,7 +47,7 @@ adoptable kind.LeafBridge n s h = h
 -- the first steps' events can be named
 event-named : (t : Thread) (o : Op) → IsFirstOp o → IsManagedThread t → IsEvent t o → IsNamed t o
 event-named t (op.Line a) f m e = e
-event-named t (op.Adopt v k n p h) f m e = (thread-is t m, e.1, adoptable k n e.2.0 e.2.1)
+event-named t (op.Adopt v k n p h) f m e = (of-managed t m, e.1, adoptable k n e.2.0 e.2.1)
 event-named t _ f m e = absurd f
 
 -- the first steps' events are quiet

@@ -5,22 +5,14 @@ use Rattle.std.proofs.lemmas.List.{map-append}
 use Rattle.joint_model.proofs.Joining.{slice_get-set_same}
 use Rattle.joint_model.specs.declared.names.Thread.TheVariants.{M}
 use Rattle.joint_model.specs.Control.{Control, Doing, Stand, opening_control, idle, free, made, lent, gripped, given, met, doing_at, caller_place, IsDone, MayStart}
-use Rattle.joint_model.specs.First.{FirstLinkage, opening_first, first_after, first_replayed, AllFirstMayCome, FirstMayCome}
+use Rattle.joint_model.specs.First.{FirstLinkage, opening_first, first_after, FirstMayCome}
 use Rattle.joint_model.specs.Heaps.{IsMade}
 use Rattle.joint_model.specs.Told.{Noted}
+use Rattle.first_laws.proofs.Histories.{AllFirstMayCome-push, first_replayed-push}
 use Rattle.managed_heap.specs.Sides.{Adopts}
 use Rattle.peer_heap.specs.Replays.{Shows}
 use Rattle.bridge_run.specs.Runs.{Both, IsTold, IsAt, AreIssued, entries_of}
 use Rattle.bridge_run.specs.Wholes.{Ran}
-
--- the replay of a list with one more entry
-replayed-push : (s : FirstLinkage) (ns : List Noted) (n : Noted) → first_replayed s (ns ++ n ∷ []) ≡ first_after (first_replayed s ns) n
-replayed-push s [] n = refl
-replayed-push s (x ∷ ns) n = replayed-push (first_after s x) ns n
-
-lawful-push : (s : FirstLinkage) (ns : List Noted) (n : Noted) → AllFirstMayCome s ns → FirstMayCome (first_replayed s ns) n → AllFirstMayCome s (ns ++ n ∷ [])
-lawful-push s [] n h may = (may, tt)
-lawful-push s (x ∷ ns) n h may = (h.0, lawful-push (first_after s x) ns n h.1 may)
 
 -- one entry more
 pub told-push : (noted : List Noted) (end : FirstLinkage) (old new : Both) (n : Noted)
@@ -33,8 +25,8 @@ pub told-push : (noted : List Noted) (end : FirstLinkage) (old new : Both) (n : 
     → IsTold (noted ++ n ∷ []) (first_after end n) new
 told-push noted end old new n told may ran managed peer count adopted named held leads = record {
   ran = subst (λ l. Ran l new.managed.entries new.peer.entries new.managed.managed.heap.freed new.peer.peers.heap.freed new.count) (sym (map-append (λ (x : Noted). x.entry) noted (n ∷ []))) ran;
-  lawful = lawful-push opening_first noted n told.lawful (subst (λ s. FirstMayCome s n) (sym told.ends) may);
-  ends = replayed-push opening_first noted n ∙ ap (λ s. first_after s n) told.ends;
+  lawful = AllFirstMayCome-push opening_first noted n told.lawful (subst (λ s. FirstMayCome s n) (sym told.ends) may);
+  ends = first_replayed-push opening_first noted n ∙ ap (λ s. first_after s n) told.ends;
   managed = managed;
   peer = peer;
   count = omega (arith, told.count, count);

@@ -26,7 +26,7 @@ use Rattle.bridge_script.specs.Scripts.{IsBuilt}
 use Rattle.bridge_script.proofs.Readings.{has_behind}
 use Rattle.bridge_script.proofs.Table.{fits_table, zero_text}
 
-lawful_thread : (t : Thread) (a : Act) → IsLine t a → IsThread t
+pub lawful_thread : (t : Thread) (a : Act) → IsLine t a → IsThread t
 lawful_thread (M n) a l = l.0
 lawful_thread (P n) a l = l.0
 lawful_thread C a l = tt

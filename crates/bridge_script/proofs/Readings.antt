@@ -8,6 +8,7 @@ use Rattle.joint_model.specs.declared.names.PhaseWord.TheVariants as phase
 use Rattle.joint_model.specs.declared.names.Thread.{Thread}
 use Rattle.joint_model.specs.declared.names.Thread.TheVariants.{M, P, C}
 use Rattle.joint_model.specs.Lines.{IsThread}
+use Rattle.joint_model.proofs.Deciding.{some-same}
 use Rattle.bridge_script.specs.declared.faults.Cause.{Cause}
 use Rattle.bridge_script.specs.declared.faults.Cause.TheVariants as cause
 use Rattle.bridge_script.specs.declared.grammar.Operation.{Operation}
@@ -51,9 +52,6 @@ same_operation (M n) o p a b e = managed_operation (λ o. operation_text o ≡ o
 same_operation (P n) o p a b e = absurd (false≢true a)
 same_operation C o p a b e = driver_operation (λ o. o ≡ p) (driver_operation (λ p. operation.Phase phase.Cycle ≡ p) refl p b) o a
 
-some_is : {X : Type 0} (x y : X) → Some x ≡ Some y → x ≡ y
-some_is x y e = cc
-
 -- the words begin in one way
 pub record Same (t : Thread) (o : Operation) (ps : List Place) (ws : List (List ℕ)) (t' : Thread) (o' : Operation) (ps' : List Place) (ws' : List (List ℕ)) : Type 0 where
   pub thread : t ≡ t'
@@ -70,7 +68,7 @@ one_reading words t o ps ws t' o' ps' ws' r s =
     let B : Thread → Type 0 = λ x. is_built x o' ≡ true in
     let eo = same_operation t o o' r.built (subst B (sym et) s.built) second in
     let ef : Some ps ≡ Some ps' = sym r.form ∙ (ap (λ x. form_of x o) et ∙ (ap (λ x. form_of t' x) eo ∙ s.form)) in
-    record { thread = et; operation = eo; places = some_is ps ps' ef; rest = cc }
+    record { thread = et; operation = eo; places = some-same ps ps' ef; rest = cc }
 
 least_number : (c : Cause) → 1 ≤ cause_number c
 least_number cause.Unknown = lit≤ tt

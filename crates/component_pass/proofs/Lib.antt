@@ -7,3 +7,4 @@ pub mod Strong
 pub mod Gathered
 pub mod Leaving
 pub mod Shared
+pub mod Ordered

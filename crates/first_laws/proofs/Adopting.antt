@@ -20,11 +20,13 @@ use Rattle.joint_model.specs.ManagedReplay.{ManagedReplay, adopt_by}
 use Rattle.joint_model.specs.PeerReplay.{PeerReplay, TableRow}
 use Rattle.joint_model.specs.Run.{on_managed}
 use Rattle.joint_model.specs.Told.{nothing}
+use Rattle.joint_model.proofs.Numbered.{numbered-within, numbered-push_cases}
+use Rattle.joint_model.proofs.Deciding.{some-same, test-cases}
 use Rattle.first_laws.proofs.Doings.{alone-idle, doing-freed, adopt-waited}
 use Rattle.first_laws.proofs.Kept.{IsIssued, IsTabled, AreHandlesKept, AreOwnersLive, IsStandKept, IsKept, Steps}
-use Rattle.first_laws.proofs.Making.{test-cases, peer-known}
+use Rattle.first_laws.proofs.Making.{peer-known}
 use Rattle.first_laws.proofs.Owners.{owned-same, removed-same}
-use Rattle.first_laws.proofs.Places.{numbered-within, numbered-push, numbered-push_cases, some-same}
+use Rattle.first_laws.proofs.Places.{numbered-push}
 
 -- the objects with a new one that holds the handle
 abbrev grown : Managed → ℕ → Kind → ℕ → ℕ → Managed

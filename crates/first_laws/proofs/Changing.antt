@@ -1,7 +1,6 @@
 -- A set and a drop: they change fields and variables alone. Which objects are freed, and which handles objects hold, stays.
-use Rattle.std.proofs.Common.{◌≡◌, ℕ, zero, suc, List, length, Option, Some, None, refl, sym, ap, subst, ◌∙◌, arith}
+use Rattle.std.proofs.Common.{◌≡◌, ℕ, List, length, Option, Some, None, refl, sym, ap, subst, ◌∙◌, arith}
 use Rattle.std.specs.Prelude.{Contains, nat_le}
-use Rattle.std.proofs.Math.ListN.{length-set}
 use Rattle.joint_model.specs.declared.names.Var.{Var}
 use Rattle.joint_model.specs.declared.names.Thread.TheVariants.{M}
 use Rattle.joint_model.specs.declared.lines.Act.TheVariants as act
@@ -9,15 +8,16 @@ use Rattle.joint_model.specs.declared.events.Op.TheVariants as op
 use Rattle.joint_model.specs.declared.events.Reply.{Reply}
 use Rattle.joint_model.specs.Control.{idle}
 use Rattle.joint_model.specs.First.{FirstLinkage, FirstMayCome}
-use Rattle.joint_model.specs.Heaps.{Heap, Answered, IsLive, numbered_set, slot, fields_of, field_set, field_stored, dropped, place}
+use Rattle.joint_model.specs.Heaps.{Heap, Answered, IsLive, slot, fields_of, field_set, field_stored, dropped, place}
 use Rattle.joint_model.specs.Joined.{joint_of, removed_from}
 use Rattle.joint_model.specs.Joint.{Graph}
 use Rattle.joint_model.specs.Managed.{Managed, Holds, place_or_none}
 use Rattle.joint_model.specs.PeerReplay.{PeerReplay}
 use Rattle.joint_model.specs.Told.{nothing}
+use Rattle.joint_model.proofs.Numbered.{numbered_set-length}
+use Rattle.joint_model.proofs.Deciding.{option-cases, test-cases}
 use Rattle.first_laws.proofs.Doings.{alone-idle, doing-freed}
 use Rattle.first_laws.proofs.Kept.{AreHandlesKept, IsStandKept, IsKept, Steps}
-use Rattle.first_laws.proofs.Making.{test-cases}
 use Rattle.first_laws.proofs.Owners.{owned-same, removed-same}
 
 -- the objects are as many, and the same ones are freed
@@ -25,17 +25,9 @@ pub record IsTame (h k : Heap) : Type 0 where
   pub count : length k.fields ≡ length h.fields
   pub freed : k.freed ≡ h.freed
 
-pub option-cases : {S : Type 0} (P : S → Type 0) (a : S) (b : ℕ → S) (o : Option ℕ) → P a → ((y : ℕ) → P (b y)) → P (elim o [ None ↦ a | Some y ↦ b y ])
-option-cases P a b None p q = p
-option-cases P a b (Some y) p q = q y
-
-length-numbered : {A : Type 0} (xs : List A) (n : ℕ) (y : A) → length (numbered_set xs n y) ≡ length xs
-length-numbered xs zero y = refl
-length-numbered xs (suc k) y = length-set xs k y
-
 tame-stored : (h : Heap) (x i : ℕ) (w : Option ℕ) → IsTame h (field_stored h x i w).state
-tame-stored h x i None = record { count = length-numbered h.fields x _; freed = refl }
-tame-stored h x i (Some w) = option-cases (λ (a : Answered Heap). IsTame h a.state) _ _ (slot h.vars w) record { count = refl; freed = refl } (λ y. record { count = length-numbered h.fields x _; freed = refl })
+tame-stored h x i None = record { count = numbered_set-length h.fields x _; freed = refl }
+tame-stored h x i (Some w) = option-cases (λ (a : Answered Heap). IsTame h a.state) _ _ (slot h.vars w) record { count = refl; freed = refl } (λ y. record { count = numbered_set-length h.fields x _; freed = refl })
 
 pub tame-set : (h : Heap) (v i : ℕ) (w : Option ℕ) → IsTame h (field_set h v i w).state
 tame-set h v i w = option-cases (λ (a : Answered Heap). IsTame h a.state) _ _ (slot h.vars v) record { count = refl; freed = refl }

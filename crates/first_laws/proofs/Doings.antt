@@ -14,7 +14,7 @@ use Rattle.joint_model.specs.declared.events.Reply.{Reply}
 use Rattle.joint_model.specs.declared.events.Reply.TheVariants as says
 use Rattle.joint_model.specs.Control.{Doing, free, made, doing_after, MayAdopt, Stand, idle, snapped, marked, Opened, MaySnap}
 use Rattle.joint_model.specs.First.{IsCycleAlone, FirstBegin, FirstSweep}
-use Rattle.first_laws.proofs.Places.{set-at_cases}
+use Rattle.joint_model.proofs.Numbered.{set-at_cases}
 
 -- the doing that stands somewhere
 abbrev pub doing_of : Option Doing → Doing

@@ -22,10 +22,11 @@ use Rattle.joint_model.specs.Peers.{Peers, peer_of}
 use Rattle.joint_model.specs.Run.{Moment}
 use Rattle.joint_model.specs.Told.{resolution_of}
 use Rattle.joint_model.proofs.WalkLemmas.{Reached-keeps, Reaches-self, Reaches-then}
+use Rattle.joint_model.proofs.Members.{Contains-decided}
+use Rattle.joint_model.proofs.Deciding.{some-same}
 use Rattle.first_laws.proofs.Judging.{unreached-after, unreached-before}
 use Rattle.first_laws.proofs.Kept.{IsKept, IsStandKept, moment_at}
-use Rattle.first_laws.proofs.Owners.{listed-or}
-use Rattle.first_laws.proofs.Places.{push-last, some-same}
+use Rattle.first_laws.proofs.Places.{push-last}
 use Rattle.first_laws.proofs.Resolving.{Resolution, freed-twin, resolution-here, resolve-restoring, issued-peer}
 use Rattle.first_laws.proofs.Stepping.{noted}
 use Rattle.first_laws.proofs.Sweeping.{twin-swept, kept-apart, unreached-dead, swept-unreached, freed-then}
@@ -146,7 +147,7 @@ cycle-complete run b s taken p o c freed end r is t ends =
     }
   where
     freed-by : {q : ℕ} → IsMade b.peers.heap q → (IsReachedIn b (peer q) → ⊥) → Contains (b.peers.heap.freed ++ r.swept.swept) q
-    freed-by {q} made n = elim (listed-or b.peers.heap.freed q) [
+    freed-by {q} made n = elim (Contains-decided b.peers.heap.freed q) [
       | inl f ↦ Contains-append_left b.peers.heap.freed r.swept.swept q f
       | inr k ↦ Contains-append_right b.peers.heap.freed r.swept.swept q ((r.swept.exact.exact q).1 (record { made = made; kept = k }, n))
     ]

@@ -5,7 +5,7 @@ use Rattle.std.specs.Prelude.{Contains, slice_get}
 use Rattle.std.specs.List.{cons_option}
 use Rattle.joint_model.specs.Heaps.{numbered_set}
 use Rattle.joint_model.specs.Run.{removed_all}
-use Rattle.first_laws.proofs.Places.{Contains-nil, Contains-first, Contains-later, cons-cases}
+use Rattle.joint_model.proofs.Members.{Contains-there, Contains-nil, Contains-here, Contains-cons_cases}
 
 set-same : (flags : List Bool) (k : ℕ) (f : Bool) → slice_get flags k ≡ Some f → slice_get (set flags k true) k ≡ Some true
 set-same [] k f e = (let g : ⊥ = cc in absurd g)
@@ -25,7 +25,7 @@ numbered-other flags (suc i) k n = set-other flags i k n
 
 pub all-out : (hs : List ℕ) (flags : List Bool) (k : ℕ) → (Contains hs (suc k) → ⊥) → slice_get (removed_all flags hs) k ≡ slice_get flags k
 all-out [] flags k n = refl
-all-out (h ∷ hs) flags k n = all-out hs (numbered_set flags h true) k (λ c. n (Contains-later h hs (suc k) c)) ∙ numbered-other flags h k (λ e. n (subst (λ z. Contains (z ∷ hs) (suc k)) (sym e) (Contains-first (suc k) hs)))
+all-out (h ∷ hs) flags k n = all-out hs (numbered_set flags h true) k (λ c. n (Contains-there (suc k) h hs c)) ∙ numbered-other flags h k (λ e. n (subst (λ z. Contains (z ∷ hs) (suc k)) (sym e) (Contains-here (suc k) hs)))
 
 -- a flag that is set stays set
 set-stays : (flags : List Bool) (i k : ℕ) → slice_get flags k ≡ Some true → slice_get (set flags i true) k ≡ Some true
@@ -56,7 +56,7 @@ numbered-there_still flags (suc i) k f e = set-there flags i k f e
 
 pub all-in : (hs : List ℕ) (flags : List Bool) (k : ℕ) (f : Bool) → slice_get flags k ≡ Some f → Contains hs (suc k) → slice_get (removed_all flags hs) k ≡ Some true
 all-in [] flags k f e c = absurd (Contains-nil (suc k) c)
-all-in (h ∷ hs) flags k f e c = elim (cons-cases h hs (suc k) c) [
+all-in (h ∷ hs) flags k f e c = elim (Contains-cons_cases h hs (suc k) c) [
   | inl same ↦ all-stays hs (numbered_set flags h true) k (subst (λ z. slice_get (numbered_set flags z true) k ≡ Some true) (sym same) (set-same flags k f e))
   | inr later ↦ (let w = numbered-there_still flags h k f e in all-in hs (numbered_set flags h true) k w.0 w.1 later)
 ]
@@ -64,19 +64,19 @@ all-in (h ∷ hs) flags k f e c = elim (cons-cases h hs (suc k) c) [
 -- a handle is one of those of a list of rows where one of them holds it
 pub handle-listed : (f : ℕ → Option ℕ) (xs : List ℕ) (h : ℕ) → Contains (filter_map f xs) h → (x : ℕ) × Contains xs x × (f x ≡ Some h)
 handle-listed f [] h c = absurd (Contains-nil h c)
-handle-listed f (x ∷ xs) h c = by (f x) refl (λ d. (let w = handle-listed f xs h d in (w.0, Contains-later x xs w.0 w.1, w.2))) c
+handle-listed f (x ∷ xs) h c = by (f x) refl (λ d. (let w = handle-listed f xs h d in (w.0, Contains-there w.0 x xs w.1, w.2))) c
   where
     by : (o : Option ℕ) → f x ≡ o → (Contains (filter_map f xs) h → (z : ℕ) × Contains (x ∷ xs) z × (f z ≡ Some h)) → Contains (cons_option o (filter_map f xs)) h → (z : ℕ) × Contains (x ∷ xs) z × (f z ≡ Some h)
     by None e rest d = rest d
-    by (Some y) e rest d = elim (cons-cases y (filter_map f xs) h d) [ inl same ↦ (x, Contains-first x xs, e ∙ ap Some same) | inr later ↦ rest later ]
+    by (Some y) e rest d = elim (Contains-cons_cases y (filter_map f xs) h d) [ inl same ↦ (x, Contains-here x xs, e ∙ ap Some same) | inr later ↦ rest later ]
 
 pub listed-handle : (f : ℕ → Option ℕ) (xs : List ℕ) (x h : ℕ) → Contains xs x → f x ≡ Some h → Contains (filter_map f xs) h
 listed-handle f [] x h c e = absurd (Contains-nil x c)
-listed-handle f (y ∷ xs) x h c e = elim (cons-cases y xs x c) [
-  | inl same ↦ subst (λ o. Contains (cons_option o (filter_map f xs)) h) (sym (ap f same ∙ e)) (Contains-first h (filter_map f xs))
+listed-handle f (y ∷ xs) x h c e = elim (Contains-cons_cases y xs x c) [
+  | inl same ↦ subst (λ o. Contains (cons_option o (filter_map f xs)) h) (sym (ap f same ∙ e)) (Contains-here h (filter_map f xs))
   | inr later ↦ by (f y) (listed-handle f xs x h later e)
 ]
   where
     by : (o : Option ℕ) → Contains (filter_map f xs) h → Contains (cons_option o (filter_map f xs)) h
     by None d = d
-    by (Some z) d = Contains-later z (filter_map f xs) h d
+    by (Some z) d = Contains-there h z (filter_map f xs) d

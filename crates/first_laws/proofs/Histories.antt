@@ -18,9 +18,9 @@ use Rattle.joint_model.specs.Joint.{Joint, Graph, opening, graph_of}
 use Rattle.joint_model.specs.Linked.{is_joint, joint_projection}
 use Rattle.joint_model.specs.Run.{Moment, JointStep, IsRunFrom, IsRun}
 use Rattle.joint_model.specs.Told.{Noted}
+use Rattle.joint_model.proofs.Members.{Contains-nil}
 use Rattle.first_laws.specs.Events.{IsFirstEvent, AreFirstEvents}
 use Rattle.first_laws.proofs.Kept.{IsKept, Steps, IsIssued, joint_at, begun_after, moment_at}
-use Rattle.first_laws.proofs.Places.{Contains-nil}
 use Rattle.first_laws.proofs.Stepping.{steps}
 
 -- one entry more

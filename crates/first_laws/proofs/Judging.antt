@@ -12,7 +12,9 @@ use Rattle.joint_model.specs.Joint.{Row, object, peer, Graph, IsReached, IsReach
 use Rattle.joint_model.specs.Managed.{OpenCycle}
 use Rattle.joint_model.specs.Run.{Moment}
 use Rattle.joint_model.specs.Told.{snap_of, sweep_of, resolution_of}
-use Rattle.first_laws.proofs.Places.{push-at, push-at_cases, some-same, none-some}
+use Rattle.joint_model.proofs.Numbered.{push-at_cases}
+use Rattle.joint_model.proofs.Deciding.{none_some, some-same}
+use Rattle.first_laws.proofs.Places.{push-at}
 
 -- a moment that stands at a place in the past stood there before
 at-past : (past : List Moment) (m x : Moment) (i : ℕ) → i < length past → slice_get (past ++ m ∷ []) i ≡ Some x → slice_get past i ≡ Some x
@@ -161,7 +163,7 @@ complete-push past m old new i k freed w = elim (resolves-cases past m i k freed
 
 -- no moment yet
 none-there : (i : ℕ) (x : Moment) → slice_get [] i ≡ Some x → ⊥
-none-there i x e = none-some x e
+none-there i x e = none_some x e
 
 pub sound-none : IsSoundRun []
 sound-none = record {

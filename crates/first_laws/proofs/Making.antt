@@ -1,6 +1,6 @@
 -- A make: the peer and its handle are new. The handle is in the table, no object holds it, and its peer isn't freed, since freed
 -- peers were made before.
-use Rattle.std.proofs.Common.{◌≡◌, ℕ, ◌+◌, ◌||◌, ◌&&◌, not, inl, inr, Bool, true, false, List, [], ◌∷◌, ◌++◌, length, map, drop, replicate, Option, Some, None, refl, sym, ap, subst, ◌∙◌, arith, length-append, if◌then◌else◌}
+use Rattle.std.proofs.Common.{◌≡◌, ℕ, ◌+◌, ◌||◌, ◌&&◌, not, inl, inr, false, List, [], ◌∷◌, ◌++◌, length, map, drop, replicate, Option, Some, None, refl, sym, ap, subst, ◌∙◌, arith, length-append}
 use Rattle.std.proofs.Math.Seq.{drop-length, drop-append_seam}
 use Rattle.std.proofs.lemmas.List.{append-nil}
 use Rattle.joint_model.specs.declared.names.HNum.{HNum}
@@ -19,14 +19,11 @@ use Rattle.joint_model.specs.Managed.{Managed}
 use Rattle.joint_model.specs.PeerReplay.{PeerReplay, TableRow, fresh_row}
 use Rattle.joint_model.specs.Peers.{Peers, Issued, held, strong, pair_made, with_peer, with_handle, next_handle, issued_since, peer_of}
 use Rattle.joint_model.specs.Told.{nothing}
+use Rattle.joint_model.proofs.Numbered.{numbered-within, numbered-push_cases}
+use Rattle.joint_model.proofs.Deciding.{some-same, test-cases}
 use Rattle.first_laws.proofs.Doings.{alone-idle, doing-cases, made-answered}
 use Rattle.first_laws.proofs.Kept.{IsIssued, AreHandlesKept, AreOwnersLive, IsStandKept, IsKept, Steps, joint_at}
-use Rattle.first_laws.proofs.Places.{numbered-within, numbered-push, numbered-last, numbered-push_cases, some-same}
-
--- a fact of an answer that goes by a test
-pub test-cases : {S : Type 0} (P : S → Type 0) (t : Bool) (a b : S) → P a → P b → P (if t then a else b)
-test-cases P true a b p q = p
-test-cases P false a b p q = q
+use Rattle.first_laws.proofs.Places.{numbered-push, numbered-last}
 
 -- a handle just issued isn't removed
 removed-issued : (s : Managed) (h : ℕ) (rows : List (Option TableRow)) (is : List Issued) → removed_from s h (rows ++ map fresh_row is) ≡ removed_from s h rows ++ map (λ i. false) is

@@ -21,10 +21,11 @@ use Rattle.joint_model.specs.Peers.{Issued, Hold, held, raw}
 use Rattle.joint_model.specs.Run.{JointBegin, JointSweep, IsStored}
 use Rattle.joint_model.specs.Told.{begin_of, sweep_of}
 use Rattle.joint_model.proofs.WalkLemmas.{Reached-start}
+use Rattle.joint_model.proofs.Members.{All-members}
+use Rattle.joint_model.proofs.Deciding.{true_false}
 use Rattle.first_laws.proofs.Doings.{begin-snapped, sweep-marked}
 use Rattle.first_laws.proofs.Kept.{IsIssued, AreHandlesKept, AreOwnersLive, IsOpenCut, IsStandKept, IsKept, Steps}
-use Rattle.first_laws.proofs.Owners.{HasOwner, owner-test, test-owner, removed-at, flag_at, removed-swept, true-false}
-use Rattle.first_laws.proofs.Places.{All-members}
+use Rattle.first_laws.proofs.Owners.{HasOwner, owner-test, test-owner, removed-at, flag_at, removed-swept}
 
 -- what a handle's place becomes in a joint sweep
 abbrev swept_place : List ℕ → Issued → Option (Option TableRow) → Option (Option TableRow)
@@ -89,7 +90,7 @@ unreached-owned s taken p freed k u h i e c row t = by (is_owned s h) refl
           row = i;
           is_handle = record { issued = e; kept = tabled-kept s p.table h row t };
           held_hold = k.issued_held h i e;
-          loose = λ x w. true-false (sym (owner-test s h (x, w)) ∙ o);
+          loose = λ x w. true_false (sym (owner-test s h (x, w)) ∙ o);
           leads = refl;
         } in
         absurd (((u.exact i.peer).0 c).1 (Reached-start (IsJointRoot g) (JointEdge g) (peer i.peer) (inr (inr loose))))

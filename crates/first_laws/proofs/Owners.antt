@@ -1,22 +1,22 @@
 -- Which handles are removed: those out of the table that no live object holds. The list of the removed is compared place by place,
 -- so that an event that leaves tables and owners alone leaves it alone.
-use Rattle.std.proofs.Common.{◌≡◌, ℕ, zero, suc, ◌+◌, ◌<◌, ◌≤◌, ◌⊎◌, inl, inr, Bool, true, false, not, ◌||◌, ◌&&◌, List, [], ◌∷◌, length, Option, Some, None, refl, sym, ap, subst, ◌∙◌, arith, nat_eq, eq-eqb, if◌then◌else◌}
+use Rattle.std.proofs.Common.{◌≡◌, ℕ, zero, suc, ◌+◌, ◌<◌, ◌≤◌, ◌⊎◌, inl, inr, Bool, true, false, not, ◌&&◌, List, [], ◌∷◌, length, Option, Some, None, refl, sym, ap, subst, ◌∙◌, arith, nat_eq, eq-eqb, if◌then◌else◌}
 use Rattle.std.specs.Prelude.{slice_get, Contains}
 use Rattle.std.specs.List.{list_any}
 use Rattle.std.proofs.lemmas.Bool.{eqb-true}
-use Rattle.std.proofs.lemmas.Cmp.{nat_eq_equiv}
-use Rattle.std.proofs.lemmas.Map.Views.{list_any-from_Contains, Contains-from_any}
-use Rattle.std.proofs.lemmas.List.Elements.{Contains-append_left, Contains-append_right, Contains-append_cases}
+use Rattle.std.proofs.lemmas.Map.Views.{Contains-from_any}
+use Rattle.std.proofs.lemmas.List.Elements.{Contains-append_cases}
 use Rattle.joint_model.specs.First.{swept_row, swept_rows}
 use Rattle.joint_model.specs.Heaps.{IsLive, Heap, is_freed, numbered_at, with_freed}
 use Rattle.joint_model.specs.Joined.{is_that_handle, is_owned_from, is_owned, is_untabled, removed_from}
 use Rattle.joint_model.specs.Managed.{Managed, Holds, handle_of}
 use Rattle.joint_model.specs.PeerReplay.{TableRow}
 use Rattle.joint_model.specs.Peers.{Issued, Hold, held, raw}
-use Rattle.first_laws.proofs.Places.{places-same, numbered-within}
-
-pub true-false : true ≡ false → ⊥
-true-false e = cc
+use Rattle.joint_model.proofs.Numbered.{numbered-within}
+use Rattle.joint_model.proofs.Deciding.{or-true, or_left, or_right}
+use Rattle.joint_model.proofs.HeapLemmas.{Holds-handle_of, is_that_handle-is}
+use Rattle.joint_laws.proofs.DriverPeerSteps.{holds-handle_of}
+use Rattle.first_laws.proofs.Places.{places-same}
 
 -- a live object isn't freed, and one that isn't freed is no member of the freed
 pub unfreed-live : (h : Heap) (x : ℕ) → (Contains h.freed x → ⊥) → is_freed h x ≡ false
@@ -26,83 +26,20 @@ unfreed-live h x n = by (is_freed h x) refl
     by true e = absurd (n (Contains-from_any eqb-true x h.freed e))
     by false e = e
 
-pub freed-test : (h : Heap) (x : ℕ) → Contains h.freed x → is_freed h x ≡ true
-freed-test h x c = list_any-from_Contains nat_eq_equiv x h.freed c
-
-pub test-freed : (h : Heap) (x : ℕ) → is_freed h x ≡ true → Contains h.freed x
-test-freed h x e = Contains-from_any eqb-true x h.freed e
-
-pub test-unfreed : (h : Heap) (x : ℕ) → is_freed h x ≡ false → Contains h.freed x → ⊥
-test-unfreed h x e c = true-false (sym (freed-test h x c) ∙ e)
-
--- whether a number is in a list is decided
-pub listed-or : (xs : List ℕ) (x : ℕ) → Contains xs x ⊎ (Contains xs x → ⊥)
-listed-or xs x = by (list_any (nat_eq x) xs) refl
-  where
-    by : (b : Bool) → list_any (nat_eq x) xs ≡ b → Contains xs x ⊎ (Contains xs x → ⊥)
-    by true e = inl (Contains-from_any eqb-true x xs e)
-    by false e = inr (λ c. true-false (sym (list_any-from_Contains nat_eq_equiv x xs c) ∙ e))
-
--- a live object was live before further ones were freed, and one that isn't among these stays live
-pub live-before : (h : Heap) (freed : List ℕ) (x : ℕ) → IsLive (with_freed h freed) x → IsLive h x
-live-before h freed x l = record { made = l.made; kept = λ c. l.kept (Contains-append_left h.freed freed x c) }
-
 pub live-after : (h : Heap) (freed : List ℕ) (x : ℕ) → (Contains freed x → ⊥) → IsLive h x → IsLive (with_freed h freed) x
 live-after h freed x n l = record { made = l.made; kept = λ c. elim (Contains-append_cases h.freed freed x c) [ inl w ↦ l.kept w | inr w ↦ n w ] }
-
-pub unfreed-then : (h : Heap) (freed : List ℕ) (x : ℕ) → IsLive (with_freed h freed) x → Contains freed x → ⊥
-unfreed-then h freed x l c = l.kept (Contains-append_right h.freed freed x c)
 
 -- what stands at an object's place of the list of held handles
 abbrev place_of : Option (Option ℕ) → Option ℕ
 place_of o = elim o [ None ↦ None | Some h ↦ h ]
 
-place-some : (o : Option (Option ℕ)) (h : ℕ) → place_of o ≡ Some h → o ≡ Some (Some h)
-place-some None h e = cc
-place-some (Some o) h e = ap Some e
-
--- the model's handle of an object, and that it holds it
-pub Holds-handle : (s : Managed) (x h : ℕ) → Holds s x h → handle_of s x ≡ Some h
-Holds-handle s x h k = ap (λ b. if b then None else place_of (numbered_at s.held x)) (unfreed-live s.heap x k.live.kept) ∙ ap place_of k.held
-
-unfreed-handle : (s : Managed) (x h : ℕ) → handle_of s x ≡ Some h → is_freed s.heap x ≡ false
-unfreed-handle s x h e = by (is_freed s.heap x) refl
-  where
-    by : (b : Bool) → is_freed s.heap x ≡ b → is_freed s.heap x ≡ false
-    by true t = (let f : None ≡ Some h = rw (t, handle_of) at e in cc)
-    by false t = t
-
-pub handle-Holds : (s : Managed) (x h : ℕ) → length s.held ≡ length s.heap.fields → handle_of s x ≡ Some h → Holds s x h
-handle-Holds s x h len e =
-    let unfreed = unfreed-handle s x h e in
-    let same : place_of (numbered_at s.held x) ≡ Some h = sym (ap (λ b. if b then None else place_of (numbered_at s.held x)) unfreed) ∙ e in
-    let there = place-some (numbered_at s.held x) h same in
-    let within = numbered-within s.held x (Some h) there in
-    record { live = record { made = (within.0, omega (arith, within.1, len)); kept = test-unfreed s.heap x unfreed }; held = there }
-
 -- a live object holds the handle
 abbrev pub HasOwner : Managed → ℕ → Type 0
 HasOwner s h = (x : ℕ) × Holds s x h
 
-that-handle : (o : Option ℕ) (h : ℕ) → is_that_handle o h ≡ true → o ≡ Some h
-that-handle None h e = cc
-that-handle (Some g) h e = ap Some (eqb-true g h e)
-
 handle-that : (o : Option ℕ) (h : ℕ) → o ≡ Some h → is_that_handle o h ≡ true
 handle-that None h e = cc
 handle-that (Some g) h e = eq-eqb g h (let f : g ≡ h = cc in f)
-
-or-later : (b c : Bool) → c ≡ true → (b || c) ≡ true
-or-later true c e = refl
-or-later false c e = e
-
-or-first : (b c : Bool) → b ≡ true → (b || c) ≡ true
-or-first true c e = refl
-or-first false c e = cc
-
-or-cases : (b c : Bool) → (b || c) ≡ true → (b ≡ true) ⊎ (c ≡ true)
-or-cases true c e = inl refl
-or-cases false c e = inr e
 
 first-or_later : (x y : ℕ) → y ≤ x → (x ≡ y) ⊎ (y + 1 ≤ x)
 first-or_later x y l = grind arith
@@ -110,14 +47,14 @@ first-or_later x y l = grind arith
 owned-from : (s : Managed) (h x y : ℕ) (os : List (Option ℕ)) → handle_of s x ≡ Some h → y ≤ x → x < y + length os → is_owned_from s h y os ≡ true
 owned-from s h x y [] e p q = absurd (omega arith)
 owned-from s h x y (o ∷ os) e p q = elim (first-or_later x y p) [
-  | inl same ↦ or-first _ _ (handle-that (handle_of s y) h (subst (λ z. handle_of s z ≡ Some h) same e))
-  | inr later ↦ or-later _ _ (owned-from s h x (y + 1) os e later (omega arith))
+  | inl same ↦ or_left _ _ (handle-that (handle_of s y) h (subst (λ z. handle_of s z ≡ Some h) same e))
+  | inr later ↦ or_right _ _ (owned-from s h x (y + 1) os e later (omega arith))
 ]
 
 owner-from : (s : Managed) (h y : ℕ) (os : List (Option ℕ)) → is_owned_from s h y os ≡ true → (x : ℕ) × (handle_of s x ≡ Some h)
 owner-from s h y [] e = (let f : false ≡ true = e in cc)
-owner-from s h y (o ∷ os) e = elim (or-cases (is_that_handle (handle_of s y) h) (is_owned_from s h (y + 1) os) e) [
-  | inl t ↦ (y, that-handle (handle_of s y) h t)
+owner-from s h y (o ∷ os) e = elim (or-true (is_that_handle (handle_of s y) h) (is_owned_from s h (y + 1) os) e) [
+  | inl t ↦ (y, is_that_handle-is (handle_of s y) h t)
   | inr t ↦ owner-from s h (y + 1) os t
 ]
 
@@ -125,10 +62,10 @@ owner-from s h y (o ∷ os) e = elim (or-cases (is_that_handle (handle_of s y) h
 pub owner-test : (s : Managed) (h : ℕ) → HasOwner s h → is_owned s h ≡ true
 owner-test s h w =
     let within = numbered-within s.held w.0 (Some h) w.1.held in
-    owned-from s h w.0 1 s.held (Holds-handle s w.0 h w.1) within.0 (omega (arith, within.1))
+    owned-from s h w.0 1 s.held (Holds-handle_of s w.0 h w.1) within.0 (omega (arith, within.1))
 
 pub test-owner : (s : Managed) (h : ℕ) → length s.held ≡ length s.heap.fields → is_owned s h ≡ true → HasOwner s h
-test-owner s h len e = (let r = owner-from s h 1 s.held e in (r.0, handle-Holds s r.0 h len r.1))
+test-owner s h len e = (let r = owner-from s h 1 s.held e in (r.0, holds-handle_of s r.0 h len r.1))
 
 bools-same : (a b : Bool) → (a ≡ true → b ≡ true) → (b ≡ true → a ≡ true) → a ≡ b
 bools-same true b f g = sym (f refl)

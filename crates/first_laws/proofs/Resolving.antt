@@ -23,10 +23,15 @@ use Rattle.joint_model.specs.Peers.{Issued, peer_of}
 use Rattle.joint_model.specs.Run.{IsKept as IsKeptCandidate, removed_all}
 use Rattle.joint_model.specs.Told.{resolution_of}
 use Rattle.joint_model.proofs.WalkLemmas.{Reaches-self}
+use Rattle.joint_model.proofs.Members.{Contains-at, at-Contains, Contains-decided}
+use Rattle.joint_model.proofs.Numbered.{numbered-within, numbered-made}
+use Rattle.joint_model.proofs.Deciding.{some-same, false-from}
+use Rattle.joint_model.proofs.HeapLemmas.{not_freed, IsLive-before, IsLive-spared, Holds-handle_of}
+use Rattle.joint_laws.proofs.DriverPeerSteps.{holds-handle_of}
 use Rattle.first_laws.proofs.Flags.{all-out, all-in, handle-listed, listed-handle}
 use Rattle.first_laws.proofs.Kept.{AreHandlesKept, AreOwnersLive, IsCut, IsOpenCut, IsSwept, IsStandKept, IsKept, Steps, joint_at}
-use Rattle.first_laws.proofs.Owners.{Holds-handle, handle-Holds, owned-same, test-owner, removed-at, flag_at, listed-or, test-unfreed, unfreed-live, live-before, live-after, unfreed-then}
-use Rattle.first_laws.proofs.Places.{places-same, Contains-at, at-Contains, numbered-within, numbered-there, some-same}
+use Rattle.first_laws.proofs.Owners.{owned-same, test-owner, removed-at, flag_at, unfreed-live, live-after}
+use Rattle.first_laws.proofs.Places.{places-same}
 use Rattle.first_laws.proofs.Sweeping.{twin-swept, swept-unreached, kept-apart, unreached-dead}
 
 -- the driver's stand, and the answers
@@ -37,7 +42,7 @@ resolve-restoring _ k answers alive freed a = absurd a
 -- a row's peer is that of its handle
 row-peer : (s : Managed) (issued : List Issued) (x h q : ℕ) → Holds s x h → peer_of issued h ≡ Some q → peer_of_row s issued x ≡ q
 row-peer s issued x h q w e =
-    ap (λ o. elim o [ None ↦ 0 | Some g ↦ elim (peer_of issued g) [ None ↦ 0 | Some r ↦ r ] ]) (Holds-handle s x h w)
+    ap (λ o. elim o [ None ↦ 0 | Some g ↦ elim (peer_of issued g) [ None ↦ 0 | Some r ↦ r ] ]) (Holds-handle_of s x h w)
     ∙ ap (λ o. elim o [ None ↦ 0 | Some r ↦ r ]) e
 
 pub issued-peer : (issued : List Issued) (h : ℕ) (i : Issued) → numbered_at issued h ≡ Some i → peer_of issued h ≡ Some i.peer
@@ -68,7 +73,7 @@ answered-kept s taken p b c k cut x a =
       holds = bridge.1;
       peer = i.0.peer;
       leads = leads;
-      unfreed = test-unfreed p.peers.heap i.0.peer (subst (λ q. is_freed p.peers.heap q ≡ false) (row-peer s p.peers.issued x bridge.0 i.0.peer bridge.1 leads) unfreed);
+      unfreed = not_freed p.peers.heap i.0.peer (subst (λ q. is_freed p.peers.heap q ≡ false) (row-peer s p.peers.issued x bridge.0 i.0.peer bridge.1 leads) unfreed);
     }
 
 kept-answered : (s : Managed) (p : PeerReplay) (b : Graph) (c : OpenCycle) (x : ℕ) → IsKeptCandidate (joint_of s p b) c x → IsAnsweredAlive c.candidates (map (answer_of s p) c.candidates) x
@@ -90,7 +95,7 @@ resolution-kept s taken p b c alive freed k cut e r = record {
 
 -- the objects after the resolution
 Holds-before : (s : Managed) (freed : List ℕ) (x h : ℕ) → Holds (resolved s freed) x h → Holds s x h
-Holds-before s freed x h w = record { live = live-before s.heap freed x w.live; held = w.held }
+Holds-before s freed x h w = record { live = IsLive-before s.heap freed x w.live; held = w.held }
 
 Holds-after : (s : Managed) (freed : List ℕ) (x h : ℕ) → (Contains freed x → ⊥) → Holds s x h → Holds (resolved s freed) x h
 Holds-after s freed x h n w = record { live = live-after s.heap freed x n w.live; held = w.held }
@@ -107,7 +112,7 @@ pub freed-candidate : (b : Graph) (s : Managed) (taken : List ℕ) (p : PeerRepl
 freed-candidate b s taken p c freed r x h f w = r.cut.picks x ((r.resolution.frees x).0 f).0 (h, w)
 
 pub freed-twin : (b : Graph) (s : Managed) (taken : List ℕ) (p : PeerReplay) (c : OpenCycle) (freed : List ℕ) → Resolution b s taken p c freed → (x h q : ℕ) → Contains freed x → Holds s x h → peer_of p.peers.issued h ≡ Some q → Contains p.peers.heap.freed q
-freed-twin b s taken p c freed r x h q f w l = elim (listed-or p.peers.heap.freed q) [
+freed-twin b s taken p c freed r x h q f w l = elim (Contains-decided p.peers.heap.freed q) [
   | inl c ↦ c
   | inr n ↦ absurd (((r.resolution.frees x).0 f).1 (
     x,
@@ -126,10 +131,6 @@ freed-untabled b s taken p c freed r x h f w row t =
 abbrev handles_of : Managed → List ℕ → List ℕ
 handles_of s freed = filter_map (handle_of s) freed
 
-false-from : (t : Bool) → (t ≡ true → ⊥) → t ≡ false
-false-from true n = absurd (n refl)
-false-from false n = refl
-
 flag-resolved : (b : Graph) (s : Managed) (taken : List ℕ) (p : PeerReplay) (c : OpenCycle) (freed : List ℕ) → Resolution b s taken p c freed → (k : ℕ) (o : Option (Option TableRow)) → slice_get p.table k ≡ o
     → flag_at (resolved s freed) (suc k) o ≡ slice_get (removed_all (removed_from s 1 p.table) (handles_of s freed)) k
 flag-resolved b s taken p c freed r k None e = sym (all-out (handles_of s freed) (removed_from s 1 p.table) k out ∙ (removed-at s k p.table ∙ ap (flag_at s (suc k)) e))
@@ -137,18 +138,18 @@ flag-resolved b s taken p c freed r k None e = sym (all-out (handles_of s freed)
     out : Contains (handles_of s freed) (suc k) → ⊥
     out d =
         let x = handle-listed (handle_of s) freed (suc k) d in
-        let w = handle-Holds s x.0 (suc k) r.handles.held_length x.2 in
+        let w = holds-handle_of s x.0 (suc k) r.handles.held_length x.2 in
         let i = r.handles.adopted_issued (suc k) (r.handles.owner_adopted x.0 (suc k) w) in
         let within = numbered-within p.peers.issued (suc k) i.0 i.1 in
-        let there = numbered-there p.table (suc k) within.0 (omega (arith, within.1, r.handles.table_length)) in
+        let there = numbered-made p.table (suc k) within.0 (omega (arith, within.1, r.handles.table_length)) in
         (let none : None ≡ Some there.0 = sym e ∙ there.1 in (let f : ⊥ = cc in f))
 flag-resolved b s taken p c freed r k (Some (Some row)) e = sym (all-out (handles_of s freed) (removed_from s 1 p.table) k out ∙ (removed-at s k p.table ∙ ap (flag_at s (suc k)) e))
   where
     out : Contains (handles_of s freed) (suc k) → ⊥
     out d =
         let x = handle-listed (handle_of s) freed (suc k) d in
-        freed-untabled b s taken p c freed r x.0 (suc k) x.1 (handle-Holds s x.0 (suc k) r.handles.held_length x.2) row e
-flag-resolved b s taken p c freed r k (Some None) e = elim (listed-or (handles_of s freed) (suc k)) [
+        freed-untabled b s taken p c freed r x.0 (suc k) x.1 (holds-handle_of s x.0 (suc k) r.handles.held_length x.2) row e
+flag-resolved b s taken p c freed r k (Some None) e = elim (Contains-decided (handles_of s freed) (suc k)) [
   | inl d ↦ ap (λ t. Some (not t)) (unowned d) ∙ sym (all-in (handles_of s freed) (removed_from s 1 p.table) k (not (is_owned s (suc k))) flag d)
   | inr n ↦ ap (λ t. Some (not t)) (sym (same n)) ∙ sym (all-out (handles_of s freed) (removed_from s 1 p.table) k n ∙ flag)
 ]
@@ -160,12 +161,12 @@ flag-resolved b s taken p c freed r k (Some None) e = elim (listed-or (handles_o
     unowned d = false-from (is_owned (resolved s freed) (suc k)) (λ t. (
         let x = handle-listed (handle_of s) freed (suc k) d in
         let y = test-owner (resolved s freed) (suc k) r.handles.held_length t in
-        let one = r.handles.one_owner x.0 y.0 (suc k) (handle-Holds s x.0 (suc k) r.handles.held_length x.2) (Holds-before s freed y.0 (suc k) y.1) in
-        unfreed-then s.heap freed y.0 y.1.live (subst (λ z. Contains freed z) one x.1)))
+        let one = r.handles.one_owner x.0 y.0 (suc k) (holds-handle_of s x.0 (suc k) r.handles.held_length x.2) (Holds-before s freed y.0 (suc k) y.1) in
+        IsLive-spared s.heap freed y.0 y.1.live (subst (λ z. Contains freed z) one x.1)))
 
     same : (Contains (handles_of s freed) (suc k) → ⊥) → is_owned s (suc k) ≡ is_owned (resolved s freed) (suc k)
     same n = owned-same s (resolved s freed) (suc k) r.handles.held_length r.handles.held_length
-        (λ w. (w.0, Holds-after s freed w.0 (suc k) (λ f. n (listed-handle (handle_of s) freed w.0 (suc k) f (Holds-handle s w.0 (suc k) w.1))) w.1))
+        (λ w. (w.0, Holds-after s freed w.0 (suc k) (λ f. n (listed-handle (handle_of s) freed w.0 (suc k) f (Holds-handle_of s w.0 (suc k) w.1))) w.1))
         (λ w. (w.0, Holds-before s freed w.0 (suc k) w.1))
 
 removed-resolved : (b : Graph) (s : Managed) (taken : List ℕ) (p : PeerReplay) (c : OpenCycle) (freed : List ℕ) → Resolution b s taken p c freed → removed_from (resolved s freed) 1 p.table ≡ removed_all (removed_from s 1 p.table) (handles_of s freed)
@@ -192,7 +193,7 @@ owners-resolved : (b : Graph) (s : Managed) (taken : List ℕ) (p : PeerReplay) 
 owners-resolved b s taken p c freed r x h q w l f =
     let before = Holds-before s freed x h w in
     let unreached = swept-unreached b s taken p r.handles r.swept x h q before l (twin-swept b s taken p r.handles r.swept x h q before l f) in
-    unfreed-then s.heap freed x w.live ((r.resolution.frees x).1 (
+    IsLive-spared s.heap freed x w.live ((r.resolution.frees x).1 (
       unreached-dead b s p c r.swept r.cut x before.live unreached,
       kept-apart b s taken p (joint_of s p b) c r.handles r.swept refl refl x unreached,
     ))

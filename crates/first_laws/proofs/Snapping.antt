@@ -17,16 +17,17 @@ use Rattle.joint_model.specs.Managed.{Managed, OpenCycle, Holds, IsBridge, IsMan
 use Rattle.joint_model.specs.PeerReplay.{PeerReplay}
 use Rattle.joint_model.specs.Told.{nothing, snap_of}
 use Rattle.joint_model.proofs.WalkLemmas.{Reached-keeps, Reached-start, Reached-then}
+use Rattle.joint_model.proofs.HeapLemmas.{IsLive-before}
 use Rattle.first_laws.proofs.Doings.{snap-idle}
 use Rattle.first_laws.proofs.Kept.{AreHandlesKept, AreOwnersLive, IsCut, IsStandKept, IsKept, Steps}
-use Rattle.first_laws.proofs.Owners.{owned-same, removed-same, live-before, live-after}
+use Rattle.first_laws.proofs.Owners.{owned-same, removed-same, live-after}
 
 -- the objects after the snapshot
 abbrev after_snap : Managed → List ℕ → List ℕ → List ℕ → Managed
 after_snap s freed candidates dead = snapped s freed candidates dead
 
 Holds-before : (s : Managed) (freed candidates dead : List ℕ) (x h : ℕ) → Holds (after_snap s freed candidates dead) x h → Holds s x h
-Holds-before s freed candidates dead x h w = record { live = live-before s.heap freed x w.live; held = w.held }
+Holds-before s freed candidates dead x h w = record { live = IsLive-before s.heap freed x w.live; held = w.held }
 
 -- no freed row holds a handle
 bridge-stays : (s : Managed) (k : ℕ) (freed candidates dead : List ℕ) → IsSnapshot s k freed candidates dead → (x h : ℕ) → Holds s x h → Contains freed x → ⊥
@@ -75,10 +76,10 @@ cut-snapped s k freed candidates dead is = record {
   picks = λ x c w. (is.picks x).1 ((w.0, Holds-before s freed candidates dead x w.0 w.1), ((is.leaves x).0 c).1);
   unrooted = λ x r c. ((is.leaves x).0 c).1 (Reached-start (IsManagedRoot s) (ManagedEdge s) x r);
   closed = λ x y e c. (
-      let edge : ManagedEdge s x y = record { live = live-before s.heap freed x e.live; field = e.field; there = live-before s.heap freed y e.there } in
+      let edge : ManagedEdge s x y = record { live = IsLive-before s.heap freed x e.live; field = e.field; there = IsLive-before s.heap freed y e.there } in
       (is.leaves x).1 (edge.live, λ r. ((is.leaves y).0 c).1 (Reached-then (IsManagedRoot s) (ManagedEdge s) x y r edge), λ f. e.live.kept (Contains-append_right s.heap.freed freed x f)));
   live = λ x c. (let w = (is.leaves x).0 c in live-after s.heap freed x w.2 w.0);
-  has = λ x l n. (is.leaves x).1 (live-before s.heap freed x l, λ r. n (reached-still s k freed candidates dead is x r), λ f. l.kept (Contains-append_right s.heap.freed freed x f));
+  has = λ x l n. (is.leaves x).1 (IsLive-before s.heap freed x l, λ r. n (reached-still s k freed candidates dead is x r), λ f. l.kept (Contains-append_right s.heap.freed freed x f));
 }
 
 joint-snapped : (s : Managed) (taken : List ℕ) (p : PeerReplay) (b : Graph) (k : ℕ) (freed candidates dead : List ℕ) → IsSnapshot s k freed candidates dead → AreHandlesKept s taken p → joint_of (snapped s freed candidates dead) p b ≡ record (joint_of s p b) { managed = snapped s freed candidates dead }

@@ -24,10 +24,11 @@ use Rattle.joint_model.specs.Peers.{Peers}
 use Rattle.joint_model.specs.Run.{Moment}
 use Rattle.joint_model.specs.Told.{Told, Noted, snap_of, begin_of, sweep_of}
 use Rattle.joint_model.proofs.WalkLemmas.{Reached-keeps, Reached-start, Reached-then}
+use Rattle.joint_model.proofs.Deciding.{some-same}
 use Rattle.first_laws.proofs.Doings.{alone-idle, begin-snapped, sweep-marked}
 use Rattle.first_laws.proofs.Judging.{own_begin-grown, sweeps-grown, snaps-grown, IsSoundMoment, IsCompleteMoment, IsQuiet, sound-quiet, complete-quiet, complete-other, unreached-after, unreached-before}
 use Rattle.first_laws.proofs.Kept.{IsKept, IsStandKept, joint_at, graph_now, begun_after, moment_at}
-use Rattle.first_laws.proofs.Places.{push-last, some-same}
+use Rattle.first_laws.proofs.Places.{push-last}
 use Rattle.first_laws.proofs.Stepping.{noted}
 
 -- the snapshot of the open cycle

@@ -12,10 +12,10 @@ use Rattle.std.proofs.lemmas.Bool.{cases_eq, cases_lt}
 use Rattle.std.proofs.lemmas.Option.{none-some, same_Some, slice_get_within, slice_get_read}
 use Rattle.std.proofs.lemmas.Bool.Decides.{nat_tests}
 use Rattle.joint_model.specs.declared.names.PNum.{PNum}
+use Rattle.joint_model.proofs.Deciding.{neq-eqb, true-false}
 use Rattle.global_handles.specs.declared.Kept.{Kept}
 use Rattle.global_handles.specs.declared.Slot.{Slot}
 use Rattle.global_handles.specs.Slots.{with_row, with_next, with_previous, next_at, previous_at, numbered, rows_from, cleared_kept, cleared_slot, is_open, opens, Leads, IsLinked, LeadsBack, IsBacked, IsChained}
-use Rattle.global_handles.proofs.Rows.{eqb-apart}
 use Rattle.global_handles.proofs.Slots.{kept_at}
 
 -- the peer of a number
@@ -37,9 +37,6 @@ opens-peer p s is = by (eqb p.0 s.peer.0) refl
 -- and no other
 opens-one : (p q : PNum) (s : Slot) → opens p s ≡ true → opens q s ≡ true → q ≡ p
 opens-one p q s a b = opens-peer q s b ∙ sym (opens-peer p s a)
-
-both : (b : Bool) → b ≡ true → b ≡ false → ⊥
-both b e e' = cc
 
 -- a slot without a row is open for none
 opens-none : (p : PNum) (s : Slot) → s.row ≡ None → opens p s ≡ false
@@ -150,10 +147,10 @@ numbered-set f n (t ∷ ss) (suc i) m s at is others =
     rw (others n t (omega arith), numbered-set f (n + 1) ss i m s (omega arith) is others) refl
 
 next_at-other : (m v k : ℕ) (s : Slot) → k ≢ m → next_at m v k s ≡ s
-next_at-other m v k s apart = rw (eqb-apart k m apart) refl
+next_at-other m v k s apart = rw (neq-eqb k m apart) refl
 
 previous_at-other : (m v k : ℕ) (s : Slot) → k ≢ m → previous_at m v k s ≡ s
-previous_at-other m v k s apart = rw (eqb-apart k m apart) refl
+previous_at-other m v k s apart = rw (neq-eqb k m apart) refl
 
 pub with_next-zero : (ss : List Slot) (m v : ℕ) → m ≡ 0 → ss ≡ with_next ss m v
 with_next-zero ss m v is = sym (numbered-none (next_at m v) 1 ss (λ k s le. next_at-other m v k s (omega arith)))
@@ -180,22 +177,22 @@ slot_with s row = record { peer = s.peer; next = s.next; previous = s.previous; 
 eqb-suc : (i j : ℕ) → eqb (suc i) (suc j) ≡ eqb i j
 eqb-suc i j = elim (cases_eq i j) [
   | inl e ↦ eq-eqb (suc i) (suc j) (ap suc e) ∙ sym (eq-eqb i j e)
-  | inr ne ↦ eqb-apart (suc i) (suc j) (λ e. ne (same_suc e)) ∙ sym (eqb-apart i j ne)
+  | inr ne ↦ neq-eqb (suc i) (suc j) (λ e. ne (same_suc e)) ∙ sym (neq-eqb i j ne)
 ]
 
 -- slots where one has another row
 with_row-goes : (ss : List Slot) (i : ℕ) (row : Option Kept) (j : ℕ) (s : Slot) → slice_get ss j ≡ Some s → slice_get (with_row ss i row) j ≡ Some (slot_with s (cond (eqb i j) row s.row))
 with_row-goes [] i row j s at = absurd (none-some s at)
 with_row-goes (u ∷ ss) zero row zero s at = rw (same_Some u s at) refl
-with_row-goes (u ∷ ss) zero row (suc j) s at = rw (eqb-apart 0 (suc j) (omega arith)) at
-with_row-goes (u ∷ ss) (suc i) row zero s at = rw (eqb-apart (suc i) 0 (omega arith)) at
+with_row-goes (u ∷ ss) zero row (suc j) s at = rw (neq-eqb 0 (suc j) (omega arith)) at
+with_row-goes (u ∷ ss) (suc i) row zero s at = rw (neq-eqb (suc i) 0 (omega arith)) at
 with_row-goes (u ∷ ss) (suc i) row (suc j) s at = rw (eqb-suc i j) (with_row-goes ss i row j s at)
 
 with_row-came : (ss : List Slot) (i : ℕ) (row : Option Kept) (j : ℕ) (t : Slot) → slice_get (with_row ss i row) j ≡ Some t → (s : Slot) × (slice_get ss j ≡ Some s) × (t ≡ slot_with s (cond (eqb i j) row s.row))
 with_row-came [] i row j t at = absurd (none-some t at)
 with_row-came (u ∷ ss) zero row zero t at = (u, refl, sym (same_Some _ t at))
-with_row-came (u ∷ ss) zero row (suc j) t at = (t, at, rw (eqb-apart 0 (suc j) (omega arith)) refl)
-with_row-came (u ∷ ss) (suc i) row zero t at = (t, at, rw (eqb-apart (suc i) 0 (omega arith)) refl)
+with_row-came (u ∷ ss) zero row (suc j) t at = (t, at, rw (neq-eqb 0 (suc j) (omega arith)) refl)
+with_row-came (u ∷ ss) (suc i) row zero t at = (t, at, rw (neq-eqb (suc i) 0 (omega arith)) refl)
 with_row-came (u ∷ ss) (suc i) row (suc j) t at = rw (eqb-suc i j) (with_row-came ss i row j t at)
 
 -- what is written at a place is the slot there with another row
@@ -271,14 +268,14 @@ gone-here q i gone j s is =
 gone-apart : (q : PNum) (i : ℕ) (gone : Slot) (j : ℕ) (s : Slot) → j ≢ i → opens q (without_slot i gone j s) ≡ opens q s
 gone-apart q i gone j s apart =
     let other : i ≢ j = λ e. apart (sym e) in
-    rw (eqb-apart i j other) refl
+    rw (neq-eqb i j other) refl
 
 gone-settled : (q : PNum) (i : ℕ) (gone : Slot) (j : ℕ) (s : Slot) → opens q s ≡ false → opens q (without_slot i gone j s) ≡ false
 gone-settled q i gone j s settled = elim (cases_eq j i) [ inl e ↦ gone-here q i gone j s e | inr ne ↦ gone-apart q i gone j s ne ∙ settled ]
 
 gone-open : (q : PNum) (i : ℕ) (gone : Slot) (j : ℕ) (s : Slot) → opens q (without_slot i gone j s) ≡ true → (j ≢ i) × (opens q s ≡ true)
 gone-open q i gone j s has = elim (cases_eq j i) [
-  | inl e ↦ absurd (both _ has (gone-here q i gone j s e))
+  | inl e ↦ absurd (true-false _ has (gone-here q i gone j s e))
   | inr ne ↦ (ne, sym (gone-apart q i gone j s ne) ∙ has)
 ]
 
@@ -286,7 +283,7 @@ pick-same : (m k a b : ℕ) → m ≡ k → cond (eqb m k) a b ≡ a
 pick-same m k a b e = rw (eq-eqb m k e) refl
 
 pick-apart : (m k a b : ℕ) → m ≢ k → cond (eqb m k) a b ≡ b
-pick-apart m k a b apart = rw (eqb-apart m k apart) refl
+pick-apart m k a b apart = rw (neq-eqb m k apart) refl
 
 -- what led to the slot taken off leads on to what that led to
 Leads-skip : (ss : List Slot) (i : ℕ) (gone : Slot) (p : PNum) (n high : ℕ) → i < high → Leads ss p (suc i) high → Leads ss p n i → Leads (without_slots ss i gone) p n high
@@ -317,7 +314,7 @@ Leads-stay ss i gone p n high other leads = record {
 
 -- two places with one slot before both: none of them is open below the other
 Leads-once : (ss : List Slot) (p : PNum) (n a b : ℕ) (s : Slot) → Leads ss p n a → Leads ss p n b → a < b → slice_get ss a ≡ Some s → opens p s ≡ true → ⊥
-Leads-once ss p n a b s below above less at has = both _ has (above.settled a s below.within less at)
+Leads-once ss p n a b s below above less at has = true-false _ has (above.settled a s below.within less at)
 
 -- a row that is changed and not uncleared is as open as it was
 pub open-kept : (ss : List Slot) (i : ℕ) (k k' : Kept) → kept_at ss i ≡ Some k → k'.cleared ≡ k.cleared → (s : Slot) → slice_get ss i ≡ Some s → is_open (Some k') ≡ is_open s.row
@@ -513,7 +510,7 @@ opens-cleared_other p q s apart = by (eqb p.0 s.peer.0) refl
     by true is =
         let here : p.0 ≡ s.peer.0 = grind (arith, nat_tests) in
         let other : q.0 ≢ s.peer.0 = λ e. apart (here ∙ sym e) in
-        rw (is, eqb-apart q.0 s.peer.0 other) refl
+        rw (is, neq-eqb q.0 s.peer.0 other) refl
     by false is = rw is refl
 
 links-cleared : (p : PNum) (s : Slot) → ((cleared_slot p s).next ≡ s.next) × ((cleared_slot p s).previous ≡ s.previous)
@@ -546,7 +543,7 @@ IsChained-cleared p ss head new len moved chained = record {
       let o = was j c.0 q (rw c.2 at is) in
       let old = chained.backed j c.0 c.1 q o.1 in
       rw (c.2, (links-cleared p c.0).1) (record {
-        first = λ none. (rw (eqb-apart p.0 q.0 o.0) at (moved q)) ∙ old.first none;
+        first = λ none. (rw (neq-eqb p.0 q.0 o.0) at (moved q)) ∙ old.first none;
         later = λ m later.
             let b = old.later m later in
             (cleared_slot p b.0, cleared-goes p ss m b.0 b.1, opens-cleared_other p q b.0 o.0 ∙ b.2, (links-cleared p b.0).0 ∙ b.3);
@@ -557,7 +554,7 @@ IsChained-cleared p ss head new len moved chained = record {
     was j s q is = elim (cases_eq p.0 q.0) [
       | inl n ↦
           let same : p ≡ q = ap (λ (m : ℕ). peer_of m) n in
-          absurd (both _ is (rw (← same) (opens-cleared p s)))
+          absurd (true-false _ is (rw (← same) (opens-cleared p s)))
       | inr apart ↦ (apart, sym (opens-cleared_other p q s apart) ∙ is)
     ]
 
@@ -578,7 +575,7 @@ IsChained-cleared p ss head new len moved chained = record {
           let is : new q ≡ 0 = rw (eq-eqb p.0 q.0 n) at (moved q) in
           rw (is, ← same) none
       | inr apart ↦
-          let is : new q ≡ head q = rw (eqb-apart p.0 q.0 apart) at (moved q) in
+          let is : new q ≡ head q = rw (neq-eqb p.0 q.0 apart) at (moved q) in
           rw is (stay q (head q) (length ss) apart (chained.heads_lead q))
     ]
 
@@ -674,7 +671,7 @@ IsChained-pushed ss s number head new next first has leads len moved chained = r
           let is : new q ≡ number = rw (eq-eqb s.peer.0 q.0 n) at (moved q) in
           rw (is, ← same) pushed
       | inr apart ↦
-          let is : new q ≡ head q = rw (eqb-apart s.peer.0 q.0 apart) at (moved q) in
+          let is : new q ≡ head q = rw (neq-eqb s.peer.0 q.0 apart) at (moved q) in
           rw is (higher q (head q) (λ e. apart (ap (λ (r : PNum). r.0) (sym e))) (chained.heads_lead q))
     ]
 
@@ -725,7 +722,7 @@ IsChained-pushed ss s number head new next first has leads len moved chained = r
               first = λ none.
                   let is : head q ≡ suc j = back.first none in
                   let apart : s.peer.0 ≢ q.0 = λ n. ne (sym is ∙ ap head (ap (λ (m : ℕ). peer_of m) (sym n)) ∙ sym leads) in
-                  (rw (eqb-apart s.peer.0 q.0 apart) at (moved q)) ∙ is;
+                  (rw (neq-eqb s.peer.0 q.0 apart) at (moved q)) ∙ is;
               later = λ m later.
                   let b = back.later m later in
                   (previous_at s.next number (suc m) b.0, goes m b.0 b.1, b.2, b.3);

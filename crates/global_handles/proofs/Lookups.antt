@@ -7,9 +7,10 @@ use Rattle.std.proofs.lemmas.Option.{none-some, same_Some}
 use Rattle.std.proofs.lemmas.Bool.Decides.{nat_tests}
 use Rattle.joint_model.specs.declared.names.HNum.{HNum}
 use Rattle.joint_model.specs.declared.names.PNum.{PNum}
+use Rattle.joint_model.proofs.Deciding.{neq-eqb}
 use Rattle.global_handles.specs.declared.HandleRow.{HandleRow}
 use Rattle.global_handles.specs.Rows.{row_in, changed, without, cleared_row, cleared_for, RisesBetween}
-use Rattle.global_handles.proofs.Rows.{eqb-apart, RisesBetween-low}
+use Rattle.global_handles.proofs.Rows.{RisesBetween-low}
 
 -- what rises between two numbers keeps them in order
 RisesBetween-within : (low high : ℕ) (rows : List HandleRow) → RisesBetween low high rows → low ≤ high
@@ -21,7 +22,7 @@ pub row_in-above : (low high : ℕ) (rows : List HandleRow) (h : HNum) → high 
 row_in-above low high [] h above rises = refl
 row_in-above low high (r ∷ rs) h above rises =
     let apart : h.0 ≢ r.number.0 = omega (arith, RisesBetween-within r.number.0 high rs rises.1) in
-    rw (eqb-apart h.0 r.number.0 apart) (row_in-above r.number.0 high rs h above rises.1)
+    rw (neq-eqb h.0 r.number.0 apart) (row_in-above r.number.0 high rs h above rises.1)
 
 -- a row that is put last is found, and each other look-up stays
 pub row_in-push_new : (rows : List HandleRow) (r : HandleRow) → row_in rows r.number ≡ None → row_in (rows ++ r ∷ []) r.number ≡ Some r
@@ -39,7 +40,7 @@ row_in-push_new (x ∷ rs) r none = by (eqb r.number.0 x.number.0) refl (row_in-
         rw is (rest left)
 
 pub row_in-push_other : (rows : List HandleRow) (r : HandleRow) (h : HNum) → h.0 ≢ r.number.0 → row_in (rows ++ r ∷ []) h ≡ row_in rows h
-row_in-push_other [] r h other = rw (eqb-apart h.0 r.number.0 other) refl
+row_in-push_other [] r h other = rw (neq-eqb h.0 r.number.0 other) refl
 row_in-push_other (x ∷ rs) r h other = by (eqb h.0 x.number.0) refl (row_in-push_other rs r h other)
   where
     by : (b : Bool) → eqb h.0 x.number.0 ≡ b → row_in (rs ++ r ∷ []) h ≡ row_in rs h → row_in (x ∷ (rs ++ r ∷ [])) h ≡ row_in (x ∷ rs) h
@@ -68,7 +69,7 @@ row_in-changed_other f (x ∷ rs) h other keeps apart = by (eqb h.0 x.number.0) 
     by true e rest =
         let here : h.0 ≡ x.number.0 = grind (arith, nat_tests) in
         let no : other.0 ≢ x.number.0 = λ same. apart (same ∙ sym here) in
-        rw (e, keeps x, eqb-apart other.0 x.number.0 no) rest
+        rw (e, keeps x, neq-eqb other.0 x.number.0 no) rest
     by false e rest = rw (e, rest) refl
 
 -- a removal is seen at its number alone
@@ -88,7 +89,7 @@ row_in-without_other (x ∷ rs) h other apart = by (eqb h.0 x.number.0) refl (ro
     by true e rest =
         let here : h.0 ≡ x.number.0 = grind (arith, nat_tests) in
         let no : other.0 ≢ x.number.0 = λ same. apart (same ∙ sym here) in
-        rw (e, eqb-apart other.0 x.number.0 no) rest
+        rw (e, neq-eqb other.0 x.number.0 no) rest
     by false e rest = rw (e, rest) refl
 
 -- a clearing is seen at each row of the peer

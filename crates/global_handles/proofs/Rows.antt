@@ -3,14 +3,10 @@
 -- a change and a removal each find their one row, and pass over all others.
 use Rattle.std.proofs.Common.{◌≡◌, ◌≢◌, ℕ, ◌≤◌, eqb, Bool, true, false, List, [], ◌∷◌, None, Some, refl, sym, ap, ◌∙◌, arith}
 use Rattle.std.proofs.lemmas.Option.{none-some}
-use Rattle.std.proofs.lemmas.Grind.{common_steps}
 use Rattle.joint_model.specs.declared.names.HNum.{HNum}
+use Rattle.joint_model.proofs.Deciding.{neq-eqb}
 use Rattle.global_handles.specs.declared.HandleRow.{HandleRow}
 use Rattle.global_handles.specs.Rows.{row_in, changed, without, RisesBetween}
-
--- two numbers that differ are told apart
-pub eqb-apart : (m n : ℕ) → m ≢ n → eqb m n ≡ false
-eqb-apart m n apart = grind (arith, common_steps)
 
 -- what rises above a number rises above each smaller one
 pub RisesBetween-low : (a b c : ℕ) (rows : List HandleRow) → a ≤ b → RisesBetween b c rows → RisesBetween a c rows
@@ -22,21 +18,21 @@ pub row_in-below : (low high : ℕ) (rows : List HandleRow) (h : HNum) → h.0 �
 row_in-below low high [] h le rises = refl
 row_in-below low high (r ∷ rs) h le rises =
     let apart : h.0 ≢ r.number.0 = omega arith in
-    rw (eqb-apart h.0 r.number.0 apart) (row_in-below r.number.0 high rs h (omega arith) rises.1)
+    rw (neq-eqb h.0 r.number.0 apart) (row_in-below r.number.0 high rs h (omega arith) rises.1)
 
 -- a change to the row of such a number changes nothing
 pub changed-below : (f : HandleRow → HandleRow) (low high : ℕ) (rows : List HandleRow) (h : HNum) → h.0 ≤ low → RisesBetween low high rows → changed f h rows ≡ rows
 changed-below f low high [] h le rises = refl
 changed-below f low high (r ∷ rs) h le rises =
     let apart : h.0 ≢ r.number.0 = omega arith in
-    rw (eqb-apart h.0 r.number.0 apart) (ap (λ t. r ∷ t) (changed-below f r.number.0 high rs h (omega arith) rises.1))
+    rw (neq-eqb h.0 r.number.0 apart) (ap (λ t. r ∷ t) (changed-below f r.number.0 high rs h (omega arith) rises.1))
 
 -- to leave such a number out leaves all rows
 pub without-below : (low high : ℕ) (rows : List HandleRow) (h : HNum) → h.0 ≤ low → RisesBetween low high rows → without h rows ≡ rows
 without-below low high [] h le rises = refl
 without-below low high (r ∷ rs) h le rises =
     let apart : h.0 ≢ r.number.0 = omega arith in
-    rw (eqb-apart h.0 r.number.0 apart) (ap (λ t. r ∷ t) (without-below r.number.0 high rs h (omega arith) rises.1))
+    rw (neq-eqb h.0 r.number.0 apart) (ap (λ t. r ∷ t) (without-below r.number.0 high rs h (omega arith) rises.1))
 
 -- where no row has a number, to leave it out leaves all rows
 pub without-absent : (rows : List HandleRow) (h : HNum) → row_in rows h ≡ None → without h rows ≡ rows

@@ -11,12 +11,13 @@ use Rattle.std.proofs.lemmas.Bool.Decides.{nat_tests}
 use Rattle.std.proofs.lemmas.Grind.{common_steps}
 use Rattle.joint_model.specs.declared.names.HNum.{HNum}
 use Rattle.joint_model.specs.declared.names.PNum.{PNum}
+use Rattle.joint_model.proofs.Deciding.{neq-eqb}
 use Rattle.global_handles.specs.declared.HandleRow.{HandleRow}
 use Rattle.global_handles.specs.declared.Kept.{Kept}
 use Rattle.global_handles.specs.declared.Slot.{Slot}
 use Rattle.global_handles.specs.Rows.{row_in, changed, without, cleared_for, RisesBetween}
 use Rattle.global_handles.specs.Slots.{row_at, put_row, rows_from, slot_of, row_of, with_row, cleared_slot}
-use Rattle.global_handles.proofs.Rows.{eqb-apart, RisesBetween-low, row_in-below, changed-below, without-below}
+use Rattle.global_handles.proofs.Rows.{RisesBetween-low, row_in-below, changed-below, without-below}
 
 -- what is kept of the row of a slot, or None where there is no row and past the end
 abbrev pub kept_at : List Slot → ℕ → Option Kept
@@ -47,7 +48,7 @@ row_in-put_later : (n : ℕ) (p : PNum) (o : Option Kept) (rows : List HandleRow
 row_in-put_later n p None rows h later = refl
 row_in-put_later n p (Some k) rows h later =
     let apart : h.0 ≢ n = omega arith in
-    rw (eqb-apart h.0 n apart) refl
+    rw (neq-eqb h.0 n apart) refl
 
 -- a look-up reads one slot
 pub row_in-listed : (n : ℕ) (ss : List Slot) (h : HNum) (i : ℕ) → h.0 ≡ n + 1 + i → row_in (rows_from n ss) h ≡ option_and_then (row_of h.0) (slice_get ss i)
@@ -77,7 +78,7 @@ changed-put_later : (f : HandleRow → HandleRow) (n : ℕ) (p : PNum) (o : Opti
 changed-put_later f n p None rows h later = refl
 changed-put_later f n p (Some k) rows h later =
     let apart : h.0 ≢ n = omega arith in
-    rw (eqb-apart h.0 n apart) refl
+    rw (neq-eqb h.0 n apart) refl
 
 -- to write the row of a slot that has one is to change that row
 pub changed-rows : (f : HandleRow → HandleRow) (n : ℕ) (ss : List Slot) (h : HNum) (i : ℕ) (k k' : Kept) → h.0 ≡ n + 1 + i → kept_at ss i ≡ Some k → ((p : PNum) (m : ℕ) → f (row_at m p k) ≡ row_at m p k') → rows_from n (with_row ss i (Some k')) ≡ changed f h (rows_from n ss)
@@ -98,7 +99,7 @@ without-put_later : (n : ℕ) (p : PNum) (o : Option Kept) (rows : List HandleRo
 without-put_later n p None rows h later = refl
 without-put_later n p (Some k) rows h later =
     let apart : h.0 ≢ n = omega arith in
-    rw (eqb-apart h.0 n apart) refl
+    rw (neq-eqb h.0 n apart) refl
 
 -- to empty a slot is to leave its row out
 pub without-listed : (n : ℕ) (ss : List Slot) (h : HNum) (i : ℕ) → h.0 ≡ n + 1 + i → rows_from n (with_row ss i None) ≡ without h (rows_from n ss)

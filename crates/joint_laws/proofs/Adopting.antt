@@ -12,8 +12,9 @@ use Rattle.joint_model.specs.Heaps.{IsLive, answer, numbered_at, next_number, wi
 use Rattle.joint_model.specs.Managed.{Managed, Holds, IsBridge, managed_name, with_row, managed_line}
 use Rattle.joint_model.specs.ManagedReplay.{ManagedReplay, opening_replay, registered, with_twin, took_handle, adopt_by}
 use Rattle.joint_laws.specs.ManagedInvariants.{IsManagedKept, IsReplayKept}
-use Rattle.joint_laws.proofs.Lists.{Contains-nil}
-use Rattle.joint_laws.proofs.Numbered.{none_some, numbered-within, numbered-push_cases, numbered-push_old, numbered-push_new}
+use Rattle.joint_model.proofs.Members.{Contains-nil}
+use Rattle.joint_model.proofs.Numbered.{numbered-within, numbered-push_cases, numbered-push_old, numbered-push_new}
+use Rattle.joint_model.proofs.Deciding.{none_some}
 use Rattle.joint_laws.proofs.Fields.{with_object-length}
 use Rattle.joint_laws.proofs.Registered.{registered-none}
 use Rattle.joint_laws.proofs.ManagedLines.{managed_line-keeps}

@@ -13,7 +13,7 @@ use Rattle.joint_model.specs.Told.{Noted}
 use Rattle.joint_laws.specs.LinkedInvariants.{IsRowOf}
 use Rattle.joint_laws.proofs.JointRuns.{Stands}
 use Rattle.joint_laws.proofs.JointSince.{peer-entry}
-use Rattle.joint_laws.proofs.Lists.{Contains-decided}
+use Rattle.joint_model.proofs.Members.{Contains-decided}
 use Rattle.joint_laws.proofs.ManagedMoves.{GoesOn}
 use Rattle.joint_laws.proofs.MarkSteps.{IsSweptWatch, begin-more, made-front}
 use Rattle.joint_laws.proofs.PeerHeaps.{heap-entry}

@@ -15,7 +15,7 @@ use Rattle.joint_laws.specs.LinkedInvariants.{IsRestored}
 use Rattle.joint_laws.proofs.DriverSteps.{row_of, stays-unfreed}
 use Rattle.joint_laws.proofs.Journeys.{IsBehindSweep, snaps-more}
 use Rattle.joint_laws.proofs.JointRuns.{Stands}
-use Rattle.joint_laws.proofs.Lists.{Contains-decided}
+use Rattle.joint_model.proofs.Members.{Contains-decided}
 use Rattle.joint_laws.proofs.MarkSteps.{IsSweptWatch}
 use Rattle.joint_laws.proofs.Watching.{get-more}
 

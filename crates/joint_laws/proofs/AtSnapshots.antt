@@ -10,7 +10,7 @@ use Rattle.joint_model.specs.Joint.{Joint, Row, object, graph_of, JointEdge, IsJ
 use Rattle.joint_model.specs.Managed.{Managed, Holds, IsManagedRoot, ManagedEdge, IsManagedReached, snapped}
 use Rattle.joint_model.specs.Run.{Moment}
 use Rattle.joint_model.proofs.WalkLemmas.{Reached-keeps, Reached-start, Reached-then}
-use Rattle.joint_laws.proofs.ManagedKeeping.{still-live, was-live}
+use Rattle.joint_model.proofs.HeapLemmas.{IsLive-before, IsLive-left}
 use Rattle.joint_laws.proofs.Watching.{IsSeen, WasSeen, IsWatched, push-cases, seen-now, last-now}
 
 -- what managed slots reach is reached
@@ -24,7 +24,7 @@ module _ (s : Managed) (number : ℕ) (freed candidates dead : List ℕ) (p : Is
   t = snapped s freed candidates dead
 
   stays-live : (x : ℕ) → IsLive s.heap x → IsManagedReached s x → IsLive t.heap x
-  stays-live x l r = still-live s.heap freed x l (λ c. ((p.frees x).0 c).1 r)
+  stays-live x l r = IsLive-left s.heap freed x l (λ c. ((p.frees x).0 c).1 r)
 
   -- reached before, so reached after
   pub reached-after : (x : ℕ) → IsManagedReached s x → IsManagedReached t x
@@ -56,7 +56,7 @@ module _ (s : Managed) (number : ℕ) (freed candidates dead : List ℕ) (p : Is
     snap-closed x y w e unseen = w (λ q. unseen (see-now y (Reached-then (IsJointRoot (graph_of j)) (JointEdge (graph_of j)) x y (seen-there x q) e)))
 
     held-before : (x h : ℕ) → Holds t x h → Holds s x h
-    held-before x h q = record { live = was-live s.heap freed x q.live; held = q.held }
+    held-before x h q = record { live = IsLive-before s.heap freed x q.live; held = q.held }
 
     snap-bridges : (x h : ℕ) → Holds j.managed x h → (Contains candidates x → ⊥) → WasSeen longer (length past) (object x)
     snap-bridges x h q out unseen =

@@ -18,7 +18,7 @@ use Rattle.joint_model.specs.Linked.{Linkage, MayCome, linkage_after, peer_after
 use Rattle.joint_model.specs.Peers.{landed, peer_read}
 use Rattle.joint_model.specs.PeerReplay.{PeerReplay, Marking, on_table, brings, untabled, peer_thread_line, is_thread, sliced, begun, swept_of, swept, mirrored, brought_to, peer_answer, table_target}
 use Rattle.joint_model.specs.Told.{Told, Noted, references_of, slice_of, sweep_of}
-use Rattle.joint_laws.proofs.Numbered.{none_some}
+use Rattle.joint_model.proofs.Deciding.{none_some}
 use Rattle.joint_laws.proofs.NewRows.{Contains-set_there}
 use Rattle.joint_laws.proofs.PeerEvents.{read_by}
 use Rattle.joint_laws.proofs.Sparing.{later}

@@ -1,10 +1,11 @@
 -- The circle of a component leads from each member to each other, and its edges join members alone.
-use Rattle.std.proofs.Common.{◌≡◌, ℕ, ◌⊎◌, inl, inr, List, [], ◌∷◌, subst, ap}
-use Rattle.std.specs.Prelude.{Contains}
+use Rattle.std.proofs.Common.{◌≡◌, ℕ, zero, suc, ◌<◌, ◌⊎◌, inl, inr, List, [], ◌∷◌, length, refl, subst, ap, arith}
+use Rattle.std.specs.Prelude.{Contains, All}
+use Rattle.std.proofs.lemmas.List.Elements.{All-head, All-tail}
 use Rattle.joint_model.specs.Walks.{Reaches}
-use Rattle.joint_model.specs.Components.{circle, circle_from, first_of}
+use Rattle.joint_model.specs.Components.{circle, circle_from, first_of, first_at, IsMember}
 use Rattle.joint_model.proofs.WalkLemmas.{Reaches-self, Reaches-edge, Reaches-trans}
-use Rattle.joint_laws.proofs.Lists.{Contains-nil, Contains-here, Contains-there, Contains-cons_cases}
+use Rattle.joint_model.proofs.Members.{Contains-nil, Contains-here, Contains-there, Contains-cons_cases}
 
 -- an edge of the circle joins members
 from_ends : (first x : ℕ) (ys : List ℕ) (a b : ℕ) → Contains (circle_from first x ys) (a, b) → Contains (x ∷ ys) a × (Contains (x ∷ ys) b ⊎ (first ≡ b))
@@ -66,3 +67,10 @@ circle-walks edge (x ∷ y ∷ ys) in_edge a b c d = Reaches-trans edge a x b (f
 pub first-member : (members : List ℕ) (a : ℕ) → Contains members a → Contains members (first_of members)
 first-member [] a c = absurd (Contains-nil a c)
 first-member (x ∷ xs) a c = Contains-here x xs
+
+-- each component has its first member
+pub first-there : (comps : List (List ℕ)) (i : ℕ) → All (λ members. 0 < length members) comps → i < length comps → IsMember comps i (first_at comps i)
+first-there [] i a l = absurd (omega arith)
+first-there ([] ∷ comps) zero a l = absurd (let h : 0 < 0 = All-head (λ members. 0 < length members) [] comps a in omega arith)
+first-there ((x ∷ xs) ∷ comps) zero a l = (x ∷ xs, refl, Contains-here x xs)
+first-there (c ∷ comps) (suc i) a l = first-there comps i (All-tail (λ members. 0 < length members) c comps a) (omega arith)

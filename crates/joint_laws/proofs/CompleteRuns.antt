@@ -10,8 +10,8 @@ use Rattle.joint_model.specs.Linked.{Linkage, MayCome, AllMayCome, opening_linka
 use Rattle.joint_model.specs.Run.{Moment, IsRunFrom, IsRun}
 use Rattle.joint_model.specs.Told.{Noted}
 use Rattle.joint_laws.specs.RunLaws.{ProjectionIsRun, LinkedIsRun, RunIsOne, ProjectionIsSound, LinkedIsSound, EveryRunIsSound, ProjectionIsComplete, LinkedIsComplete, EveryRunIsComplete}
-use Rattle.joint_laws.proofs.Lists.{Contains-nil, Contains-cons_cases}
-use Rattle.joint_laws.proofs.Numbered.{none_some}
+use Rattle.joint_model.proofs.Members.{Contains-nil, Contains-cons_cases}
+use Rattle.joint_model.proofs.Deciding.{none_some}
 use Rattle.joint_laws.proofs.JointRuns.{Stands, state_of, IsTraced, Enters, by_step, at_rest, enters, projected, Stands-opening, opening-state}
 use Rattle.joint_laws.proofs.JourneyStands.{Journey}
 use Rattle.joint_laws.proofs.JourneyTurns.{moment_of}

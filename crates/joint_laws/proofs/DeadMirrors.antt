@@ -9,7 +9,7 @@ use Rattle.joint_model.proofs.WalkLemmas.{Reaches-keeps, Reaches-self, Reaches-t
 use Rattle.joint_laws.specs.ManagedInvariants.{IsCutOff}
 use Rattle.joint_laws.specs.ManagedLaws.{DeadPartIsMirrored}
 use Rattle.joint_laws.specs.Mirrors.{MirrorEdge}
-use Rattle.joint_laws.proofs.Lists.{Contains-decided}
+use Rattle.joint_model.proofs.Members.{Contains-decided}
 use Rattle.joint_laws.proofs.Mirrors.{mirror_edge-walk, walk-mirror_edges}
 
 module _ (s : Managed) (c : OpenCycle) (cut : IsCutOff s c) where

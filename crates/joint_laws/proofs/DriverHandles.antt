@@ -13,10 +13,11 @@ use Rattle.joint_model.specs.PeerReplay.{PeerReplay, TableRow, Mirror, with_weak
 use Rattle.joint_laws.specs.ManagedInvariants.{IsReplayKept}
 use Rattle.joint_laws.specs.PeerInvariants.{IsTabled, IsIssued}
 use Rattle.joint_laws.specs.LinkedInvariants.{HasStrength, AreOwnersKept, doing_in, HasInHand, AreCallersKept, ForCandidates, IsGone, IsMirrored, IsWeakenedBy, IsRestoredBy}
-use Rattle.joint_laws.proofs.Numbered.{none_some, numbered-within, numbered_set-here, numbered_set-same}
+use Rattle.joint_model.proofs.Numbered.{numbered-within, numbered_set-here, numbered_set-same}
+use Rattle.joint_model.proofs.Deciding.{none_some}
+use Rattle.joint_model.proofs.HeapLemmas.{candidates_of-open}
 use Rattle.joint_laws.proofs.HandlesAlike.{HandlesAlike, held-on, row_of-on, row_of-back, IsLoose-peer, IsGone-peer}
 use Rattle.joint_laws.proofs.DriverPeerSteps.{Only, rising-once}
-use Rattle.joint_laws.proofs.DriverSteps.{candidates_are}
 
 -- what threads have in hand, where slots, fields and the issued handles stay
 pub callers_same : (touched : ℕ → Type 0) (r : ManagedReplay) (s t : PeerReplay) → HandlesAlike touched s t → t.peers.issued ≡ s.peers.issued → ((p : ℕ) → InSlot t.peers.heap p → InSlot s.peers.heap p) → ((x : ℕ) → IsLive t.peers.heap x → IsLive s.peers.heap x)
@@ -61,7 +62,7 @@ restored-stands (Some m) h e = absurd (none_some _ (sym e))
 -- the handle h of the candidate at one place is touched
 module _ (r : ManagedReplay) (s t : PeerReplay) (c : OpenCycle) (place m h : ℕ) (k : IsReplayKept r) (o : AreOwnersKept r s) (e : r.managed.cycle ≡ Some c) (at : slice_get c.candidates place ≡ Some m) (q : Holds r.managed m h) (a : HandlesAlike (Only h) s t) where
   is_candidate : Contains (candidates_of r.managed) m
-  is_candidate = subst (λ z. Contains z m) (sym (candidates_are r.managed c e)) (place, slice_get_within c.candidates place m at, get_or_from_slice_get c.candidates place m m at)
+  is_candidate = subst (λ z. Contains z m) (sym (candidates_of-open r.managed c e)) (place, slice_get_within c.candidates place m at, get_or_from_slice_get c.candidates place m m at)
 
   -- who holds it is that candidate, at that place
   holder : (x g : ℕ) → Holds r.managed x g → g ≡ h → x ≡ m

@@ -12,7 +12,7 @@ use Rattle.joint_model.specs.Walks.{Reaches}
 use Rattle.joint_model.proofs.WalkLemmas.{Reaches-mono}
 use Rattle.joint_laws.specs.ManagedInvariants.{IsCutOff, IsManagedKept}
 use Rattle.joint_laws.specs.LinkedInvariants.{HasStrength, IsRowOf, IsOpenedAs, ForCandidates, IsMirrored, IsWeakenedBy, IsRestoredBy, IsClosed, IsBeforeMirror, IsDriverKept}
-use Rattle.joint_laws.proofs.Lists.{Contains-at}
+use Rattle.joint_model.proofs.Members.{Contains-at}
 use Rattle.joint_laws.proofs.ManagedMoves.{GoesOn}
 use Rattle.joint_laws.proofs.ManagedKeeping.{dead-fields, dead-held, cut_on}
 use Rattle.joint_laws.proofs.DeadMirrors.{dead-walk, managed-walk}

@@ -3,8 +3,7 @@
 -- a candidate whose peer is unfreed leads only to such candidates, since the references did and freed nothing between them.
 use Rattle.std.proofs.Common.{◌≡◌, ℕ, zero, suc, ◌<◌, ◌↔◌, inl, inr, Bool, true, false, List, [], ◌∷◌, ◌++◌, length, map, Option, Some, None, refl, sym, ap, subst, ◌∙◌, arith}
 use Rattle.std.specs.Prelude.{Contains, slice_get, if◌then◌else◌}
-use Rattle.std.proofs.lemmas.Bool.{eqb-true}
-use Rattle.std.proofs.lemmas.Map.Views.{list_any-from_Contains, Contains-from_any}
+use Rattle.std.proofs.lemmas.Map.Views.{list_any-from_Contains}
 use Rattle.std.proofs.lemmas.Cmp.{nat_eq_equiv}
 use Rattle.std.proofs.lemmas.Option.{same_Some}
 use Rattle.std.proofs.lemmas.List.Elements.{All-contains, Contains-append_left}
@@ -22,33 +21,19 @@ use Rattle.joint_laws.specs.ManagedInvariants.{IsCutOff, IsReplayKept}
 use Rattle.joint_laws.specs.Mirrors.{MirrorEdge}
 use Rattle.joint_laws.specs.PeerInvariants.{IsTabled, IsIssued, IsSpared, IsPeerKept}
 use Rattle.joint_laws.specs.LinkedInvariants.{HasStrength, IsHeldOne, IsRowOf, AreOwnersKept, IsMirrored, IsClosed, IsContracted, IsWeakening}
-use Rattle.joint_laws.proofs.Lists.{Contains-at, at-Contains, Contains-map, Contains-map_cases}
-use Rattle.joint_laws.proofs.Numbered.{none_some, numbered-within, numbered_set-other}
+use Rattle.joint_model.proofs.Members.{Contains-at, at-Contains, Contains-map, Contains-map_cases}
+use Rattle.joint_model.proofs.Numbered.{numbered-within, numbered_set-other}
+use Rattle.joint_model.proofs.Deciding.{none_some}
+use Rattle.joint_model.proofs.HeapLemmas.{Holds-handle_of}
 use Rattle.joint_laws.proofs.HandleKeeping.{tabled-swept, swept_row}
 use Rattle.joint_laws.proofs.HandlesAlike.{HandlesAlike, nothing_touched}
 use Rattle.joint_laws.proofs.DeadMirrors.{candidates-mirrored}
 use Rattle.joint_laws.proofs.SameGraphs.{mirror_edge-ends}
 
--- the handle of a live row that holds one, and its peer
-live-by : (b : Bool) (x : Option (Option ℕ)) (h : ℕ) → b ≡ false → x ≡ Some (Some h) → (if b then None else elim x [ None ↦ None | Some g ↦ g ]) ≡ Some h
-live-by true x h e f = absurd (let g : ⊥ = cc in g)
-live-by false None h e f = absurd (none_some (Some h) f)
-live-by false (Some g) h e f = same_Some g (Some h) f
-
 held-by : (b : Bool) (x : Option (Option ℕ)) (h : ℕ) → (if b then None else elim x [ None ↦ None | Some g ↦ g ]) ≡ Some h → (b ≡ false) × (x ≡ Some (Some h))
 held-by true x h e = absurd (none_some h e)
 held-by false None h e = absurd (none_some h e)
 held-by false (Some g) h e = (refl, ap Some e)
-
-unfreed-test : (s : Managed) (m : ℕ) → IsLive s.heap m → is_freed s.heap m ≡ false
-unfreed-test s m l = by (is_freed s.heap m) refl
-  where
-    by : (b : Bool) → is_freed s.heap m ≡ b → b ≡ false
-    by false e = refl
-    by true e = absurd (l.kept (Contains-from_any eqb-true m s.heap.freed e))
-
-pub handle_of-holds : (s : Managed) (m h : ℕ) → Holds s m h → handle_of s m ≡ Some h
-handle_of-holds s m h q = live-by (is_freed s.heap m) (numbered_at s.held m) h (unfreed-test s m q.live) q.held
 
 pub holds-handle_of : (s : Managed) (m h : ℕ) → length s.held ≡ length s.heap.fields → handle_of s m ≡ Some h → Holds s m h
 holds-handle_of s m h e q =
@@ -68,7 +53,7 @@ peer_by o = elim o [ None ↦ None | Some i ↦ Some i.peer ]
 
 pub peer_of_row-is : (s : Managed) (issued : List Issued) (m p : ℕ) → IsRowOf s issued m p → peer_of_row s issued m ≡ p
 peer_of_row-is s issued m p w =
-    ap (row_peer issued) (handle_of-holds s m w.handle w.holds)
+    ap (row_peer issued) (Holds-handle_of s m w.handle w.holds)
     ∙ (ap (λ (o : Option ℕ). elim o [ None ↦ 0 | Some x ↦ x ]) (ap peer_by w.is_issued) ∙ w.leads)
 
 -- an edge between rows, carried to their peers

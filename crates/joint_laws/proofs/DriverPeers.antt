@@ -12,9 +12,9 @@ use Rattle.joint_model.specs.Managed.{OpenCycle, Holds}
 use Rattle.joint_model.specs.ManagedReplay.{ManagedReplay}
 use Rattle.joint_model.specs.Peers.{Issued, strong, weak, peer_of}
 use Rattle.joint_model.specs.PeerReplay.{PeerReplay, TableRow, Marking, row_of, table_target}
+use Rattle.joint_model.proofs.Deciding.{none_some}
 use Rattle.joint_laws.specs.PeerInvariants.{IsIssued, IsPeerKept}
 use Rattle.joint_laws.specs.LinkedInvariants.{HasStrength, IsHeldOne, IsRowOf, AreOwnersKept, doing_in, HasInHand, HasPeer, HasMadePair, IsVirgin, AreCallersKept, ForCandidates, IsMirrored, IsWeakenedBy, IsRestoredBy, IsClosed, IsBeforeMirror, IsDriverKept}
-use Rattle.joint_laws.proofs.Numbered.{none_some}
 use Rattle.joint_laws.proofs.Fields.{IsLive-more, fields-past}
 use Rattle.joint_laws.proofs.HandlesAlike.{HandlesAlike, nothing_touched, row_of-on, row_of-back, AreOwnersKept-peer, IsLoose-peer, weakened-peer, restored-peer}
 use Rattle.joint_laws.proofs.PeerQuiet.{IsQuiet}

@@ -15,10 +15,11 @@ use Rattle.joint_model.specs.Walks.{Reaches}
 use Rattle.joint_laws.specs.ManagedInvariants.{IsCutOff, IsReplayKept}
 use Rattle.joint_laws.specs.PeerInvariants.{IsPeerKept}
 use Rattle.joint_laws.specs.LinkedInvariants.{HasStrength, IsHeldOne, IsRowOf, AreOwnersKept, AreCallersKept, IsIdle, IsBeforeMirror, IsRestored}
-use Rattle.joint_laws.proofs.Lists.{Contains-nil, Contains-at, Contains-decided, at-Contains}
-use Rattle.joint_laws.proofs.Numbered.{none_some}
+use Rattle.joint_model.proofs.Members.{Contains-nil, Contains-at, Contains-decided, at-Contains}
+use Rattle.joint_model.proofs.Deciding.{none_some}
+use Rattle.joint_model.proofs.HeapLemmas.{IsLive-before, IsLive-left, candidates_of-open}
 use Rattle.joint_laws.proofs.Registered.{without_twins-parts, without_twins-keeps}
-use Rattle.joint_laws.proofs.ManagedKeeping.{bridge_stays, still-live, was-live}
+use Rattle.joint_laws.proofs.ManagedKeeping.{bridge_stays}
 
 abbrev candidates_by : Option OpenCycle → List ℕ
 candidates_by o = elim o [ None ↦ [] | Some c ↦ c.candidates ]
@@ -26,9 +27,6 @@ candidates_by o = elim o [ None ↦ [] | Some c ↦ c.candidates ]
 -- no row is a candidate where no cycle is open, and where one is the candidates are its own
 pub no_candidates : (s : Managed) (m : ℕ) → s.cycle ≡ None → Contains (candidates_of s) m → ⊥
 no_candidates s m e c = Contains-nil m (subst (λ z. Contains (candidates_by z) m) e c)
-
-pub candidates_are : (s : Managed) (c : OpenCycle) → s.cycle ≡ Some c → candidates_of s ≡ c.candidates
-candidates_are s c e = ap candidates_by e
 
 -- a handle has one strength
 pub strength-one : (s : PeerReplay) (h : ℕ) → HasStrength s h strong → HasStrength s h weak → ⊥
@@ -41,10 +39,10 @@ module _ (r : ManagedReplay) (s : PeerReplay) (n : ℕ) (freed candidates dead :
   opening = record r { managed = snapped r.managed freed candidates dead; contracted = false }
 
   snap_on : (m h : ℕ) → Holds r.managed m h → Holds opening.managed m h
-  snap_on m h q = record { live = still-live r.managed.heap freed m q.live (bridge_stays r.managed n freed candidates dead k.managed p m (h, q)); held = q.held }
+  snap_on m h q = record { live = IsLive-left r.managed.heap freed m q.live (bridge_stays r.managed n freed candidates dead k.managed p m (h, q)); held = q.held }
 
   pub snap_back : (m h : ℕ) → Holds opening.managed m h → Holds r.managed m h
-  snap_back m h q = record { live = was-live r.managed.heap freed m q.live; held = q.held }
+  snap_back m h q = record { live = IsLive-before r.managed.heap freed m q.live; held = q.held }
 
   pub owners_snapped : AreOwnersKept opening s
   owners_snapped = record {
@@ -123,13 +121,13 @@ module _ (r : ManagedReplay) (s : PeerReplay) (op : Opened) (answers : List Bool
     cut = k.managed.dead c d.opened.cycle
 
     back : (m h : ℕ) → Holds closing.managed m h → Holds r.managed m h
-    back m h q = record { live = was-live r.managed.heap freed m q.live; held = q.held }
+    back m h q = record { live = IsLive-before r.managed.heap freed m q.live; held = q.held }
 
     not_freed : (m h : ℕ) → Holds closing.managed m h → Contains freed m → ⊥
     not_freed m h q f = q.live.kept (Contains-append_right r.managed.heap.freed freed m f)
 
     on : (m h : ℕ) → (Contains freed m → ⊥) → Holds r.managed m h → Holds closing.managed m h
-    on m h n q = record { live = still-live r.managed.heap freed m q.live n; held = q.held }
+    on m h n q = record { live = IsLive-left r.managed.heap freed m q.live n; held = q.held }
 
     -- a candidate that stays has an unfreed peer: an answered one leads to it, or it was answered itself
     pub stays-unfreed : (b q : ℕ) → Contains c.candidates b → (Contains freed b → ⊥) → IsRowOf r.managed s.peers.issued b q → Contains s.peers.heap.freed q → ⊥
@@ -159,7 +157,7 @@ module _ (r : ManagedReplay) (s : PeerReplay) (op : Opened) (answers : List Bool
     none-weak : (h : ℕ) → HasStrength s h weak → IsHeldOne s h → ⊥
     none-weak h w q =
         let t = o.weak_ones h w q in
-        let at = at-Contains c.candidates t.0 (subst (λ z. Contains z t.0) (candidates_are r.managed c d.opened.cycle) t.2) in
+        let at = at-Contains c.candidates t.0 (subst (λ z. Contains z t.0) (candidates_of-open r.managed c d.opened.cycle) t.2) in
         elim (d.handles at.0 t.0 h at.1 t.1) [
           | inl u ↦ strength-one s h u.1 w
           | inr u ↦ elim u [
@@ -173,7 +171,7 @@ module _ (r : ManagedReplay) (s : PeerReplay) (op : Opened) (answers : List Bool
       held_ones = λ m h q. o.held_ones m h (back m h q);
       strong_ones = λ m h q out. elim (Contains-decided c.candidates m) [
         | inl cm ↦ stays-strong m h cm (not_freed m h q) (back m h q)
-        | inr n ↦ o.strong_ones m h (back m h q) (λ w. n (subst (λ z. Contains z m) (candidates_are r.managed c d.opened.cycle) w))
+        | inr n ↦ o.strong_ones m h (back m h q) (λ w. n (subst (λ z. Contains z m) (candidates_of-open r.managed c d.opened.cycle) w))
       ];
       weak_ones = λ h w q. absurd (none-weak h w q);
       registered = λ m x w. without_twins-keeps r.registry freed x m (o.registered m x (record { handle = w.handle; holds = back m w.handle w.holds; row = w.row; is_issued = w.is_issued; leads = w.leads })) (not_freed m w.handle w.holds);
@@ -215,9 +213,9 @@ module _ (r : ManagedReplay) (s : PeerReplay) (op : Opened) (o : AreOwnersKept r
     held_ones = λ m h q. o.held_ones m h (as_before m h q);
     strong_ones = λ m h q out. elim (Contains-decided d.cycle.candidates m) [
       | inl cm ↦ candidate-strong m h cm (as_before m h q)
-      | inr n ↦ o.strong_ones m h (as_before m h q) (λ w. n (subst (λ z. Contains z m) (candidates_are r.managed d.cycle d.opened.cycle) w))
+      | inr n ↦ o.strong_ones m h (as_before m h q) (λ w. n (subst (λ z. Contains z m) (candidates_of-open r.managed d.cycle d.opened.cycle) w))
     ];
-    weak_ones = λ h w q. (let t = o.weak_ones h w q in absurd (strength-one s h (candidate-strong t.0 h (subst (λ z. Contains z t.0) (candidates_are r.managed d.cycle d.opened.cycle) t.2) t.1) w));
+    weak_ones = λ h w q. (let t = o.weak_ones h w q in absurd (strength-one s h (candidate-strong t.0 h (subst (λ z. Contains z t.0) (candidates_of-open r.managed d.cycle d.opened.cycle) t.2) t.1) w));
     registered = λ m x w. o.registered m x (record { handle = w.handle; holds = as_before m w.handle w.holds; row = w.row; is_issued = w.is_issued; leads = w.leads });
     pairs = λ x m w. (let v = o.pairs x m w in record { handle = v.handle; holds = as_after m v.handle v.holds; row = v.row; is_issued = v.is_issued; leads = v.leads });
     adopted = o.adopted;

@@ -5,7 +5,7 @@ use Rattle.std.specs.Prelude.{Contains}
 use Rattle.std.proofs.lemmas.Bool.{cases_eq}
 use Rattle.joint_model.specs.Walks.{Reaches}
 use Rattle.joint_model.proofs.WalkLemmas.{Reaches-self, Reaches-then, Reaches-trans, Reaches-keeps, Reaches-mono}
-use Rattle.joint_laws.proofs.Lists.{Contains-nil, Contains-here, Contains-there, Contains-cons_cases}
+use Rattle.joint_model.proofs.Members.{Contains-nil, Contains-here, Contains-there, Contains-cons_cases}
 
 -- one node leads to another over an edge of the list
 abbrev pub Listed : List (ℕ × ℕ) → ℕ → ℕ → Type 0

@@ -13,7 +13,8 @@ use Rattle.joint_model.specs.Heaps.{Heap, IsMade, IsLive, numbered_at, numbered_
 use Rattle.joint_model.specs.Peers.{Issued, held, raw, strong}
 use Rattle.joint_model.specs.PeerReplay.{TableRow, fresh_row, cleared_rows}
 use Rattle.joint_laws.specs.PeerInvariants.{IsTabled, IsIssued, AreHandlesKept}
-use Rattle.joint_laws.proofs.Numbered.{none_some, numbered-within, numbered-push_cases, numbered-push_old, numbered_set-length, numbered_set-same, numbered_set-other, replicate-none, Contains-set_cases}
+use Rattle.joint_model.proofs.Numbered.{numbered-within, numbered-push_cases, numbered-push_old, numbered_set-length, numbered_set-same, numbered_set-other, replicate-none, Contains-set_cases}
+use Rattle.joint_model.proofs.Deciding.{none_some, or-true}
 
 pub held-raw : (i : Issued) → i.hold ≡ held → i.hold ≡ raw → ⊥
 held-raw i e f = (let g : held ≡ raw = sym e ∙ f in cc)
@@ -179,10 +180,6 @@ swept-length freed (i ∷ issued) (Some row ∷ table) = omega (arith, swept-len
 or-false : (a b : Bool) → (a || b) ≡ false → (a ≡ false) × (b ≡ false)
 or-false true b e = (let f : ⊥ = cc in absurd f)
 or-false false b e = (refl, e)
-
-or-true : (a b : Bool) → (a || b) ≡ true → (a ≡ true) ⊎ (b ≡ true)
-or-true true b e = inl refl
-or-true false b e = inr e
 
 none-any : (xs : List ℕ) (x : ℕ) (b : Bool) → list_any (nat_eq x) xs ≡ b → (Contains xs x → ⊥) → b ≡ false
 none-any xs x false e n = refl

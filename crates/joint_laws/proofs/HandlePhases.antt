@@ -8,13 +8,14 @@ use Rattle.joint_model.specs.PeerReplay.{PeerReplay}
 use Rattle.joint_laws.specs.LinkedInvariants.{IsDriverKept, IsOpenedAs, ForCandidates}
 use Rattle.joint_laws.specs.LinkedLaws.{HeldByPhase, IsByPhase}
 use Rattle.joint_laws.specs.States.{state_at}
-use Rattle.joint_laws.proofs.Lists.{Contains-at}
-use Rattle.joint_laws.proofs.DriverSteps.{no_candidates, candidates_are}
+use Rattle.joint_model.proofs.Members.{Contains-at}
+use Rattle.joint_model.proofs.HeapLemmas.{candidates_of-open}
+use Rattle.joint_laws.proofs.DriverSteps.{no_candidates}
 use Rattle.joint_laws.proofs.LinkedStates.{all_kept}
 
 module _ (r : ManagedReplay) (s : PeerReplay) (l m h : ℕ) (e : slice_get (candidates_of r.managed) l ≡ Some m) (q : Holds r.managed m h) where
   of_opened : (o : Opened) (c : OpenCycle) (Q : ℕ → ℕ → Type 0) → IsOpenedAs r o c → ForCandidates r.managed c Q → Q l h
-  of_opened o c Q w handles = handles l m h (subst (λ z. slice_get z l ≡ Some m) (candidates_are r.managed c w.cycle) e) q
+  of_opened o c Q w handles = handles l m h (subst (λ z. slice_get z l ≡ Some m) (candidates_of-open r.managed c w.cycle) e) q
 
   by_stand : (d : Stand) → IsDriverKept r s d → IsByPhase s d l h
   by_stand idle k = no_candidates r.managed m k.closed (Contains-at (candidates_of r.managed) l m e)

@@ -1,14 +1,15 @@
 -- A heap stays kept: at an operation, when an object is made, when a slot comes to name an unfreed object, and when objects
 -- are freed that no slot and no staying object names.
-use Rattle.std.proofs.Common.{ℕ, ◌≤◌, inl, inr, List, length, Some, refl, sym, subst, arith}
+use Rattle.std.proofs.Common.{ℕ, ◌≤◌, inl, inr, List, length, Some, sym, subst, arith}
 use Rattle.std.specs.Prelude.{Contains}
 use Rattle.std.proofs.lemmas.Bool.{cases_lt, cases_eq}
 use Rattle.std.proofs.lemmas.Option.{same_Some}
 use Rattle.std.proofs.lemmas.List.Elements.{Contains-append_cases, Contains-append_left, Contains-append_right}
 use Rattle.joint_model.specs.Heaps.{Heap, IsLive, InSlot, fields_of, opening_heap, next_number, with_var, with_static, with_object, with_freed}
 use Rattle.joint_laws.specs.PeerInvariants.{IsHeapKept}
-use Rattle.joint_laws.proofs.Lists.{Contains-nil}
-use Rattle.joint_laws.proofs.Numbered.{replicate-none, Contains-set_cases}
+use Rattle.joint_model.proofs.Members.{Contains-nil}
+use Rattle.joint_model.proofs.Numbered.{replicate-none, Contains-set_cases}
+use Rattle.joint_model.proofs.HeapLemmas.{IsLive-later}
 use Rattle.joint_laws.proofs.Fields.{IsLive-more, fields-past, with_object-old, with_object-new, with_object-length}
 use Rattle.joint_laws.proofs.HeapMoves.{HasMoved, IsInReach}
 
@@ -36,10 +37,6 @@ IsHeapKept-moved h k kept v = record {
   fields = λ x y l c. moved-live h k v y (elim (v.fields x y c) [ inl w ↦ kept.fields x y (moved-was_live h k v x l) w | inr w ↦ kept.slots y w.1 ]);
 }
 
--- a further object
-pub object-live : (h : Heap) (n x : ℕ) → IsLive h x → IsLive (with_object h n) x
-object-live h n x l = IsLive-more h (with_object h n) (omega (arith, with_object-length h n)) refl x l
-
 pub object-new : (h : Heap) (n : ℕ) → IsHeapKept h → IsLive (with_object h n) (next_number h)
 object-new h n k = record {
   made = (omega arith, omega (arith, with_object-length h n));
@@ -62,8 +59,8 @@ object-was_live h n x b l = record { made = (l.made.0, b); kept = l.kept }
 pub IsHeapKept-object : (h : Heap) (n : ℕ) → IsHeapKept h → IsHeapKept (with_object h n)
 IsHeapKept-object h n k = record {
   freed = λ x c. (let m = k.freed x c in (m.0, omega (arith, m.1, with_object-length h n)));
-  slots = λ x i. object-live h n x (k.slots x i);
-  fields = λ x y l c. (let f = object-field h n x y c in object-live h n y (k.fields x y (object-was_live h n x f.0 l) f.1));
+  slots = λ x i. IsLive-later h n x (k.slots x i);
+  fields = λ x y l c. (let f = object-field h n x y c in IsLive-later h n y (k.fields x y (object-was_live h n x f.0 l) f.1));
 }
 
 -- a slot comes to name an unfreed object

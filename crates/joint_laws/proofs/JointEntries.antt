@@ -21,10 +21,11 @@ use Rattle.joint_model.specs.ManagedReplay.{ManagedReplay, MayResolve, registere
 use Rattle.joint_model.specs.PeerReplay.{PeerReplay, row_of}
 use Rattle.joint_model.specs.Run.{JointEvent, IsComputed, removed_all, on_managed}
 use Rattle.joint_model.specs.Told.{Told, nothing, snap_of, contraction_of, references_of, slice_of, sweep_of, resolution_of, phase_of}
+use Rattle.joint_model.proofs.HeapLemmas.{adopt_by-managed, adopt_by-reply}
 use Rattle.joint_laws.specs.JointAgreement.{IsOwned, AreFlags, Agrees, joint_of}
 use Rattle.joint_laws.specs.LinkedInvariants.{AreOwnersKept, doing_in}
 use Rattle.joint_laws.proofs.ManagedMoves.{GoesOn, GoesOn-stay, managed_line-goes_on, adopted-goes_on, met-goes_on, given_up-goes_on}
-use Rattle.joint_laws.proofs.ManagedSteps.{adopt_by-managed, adopt_by-reply, meet_by-managed, meet_by-reply, give_by-managed, give_by-reply, twin-live}
+use Rattle.joint_laws.proofs.ManagedSteps.{meet_by-managed, meet_by-reply, give_by-managed, give_by-reply, twin-live}
 use Rattle.joint_laws.proofs.JointManaged.{flags_goes_on, flags_all_strong, idle-strong, before-strong, joint-resolution, flags_resolved}
 use Rattle.joint_laws.proofs.JointSteps.{Steps, step-begin, step-sweep}
 use Rattle.joint_laws.proofs.JointLines.{step-line, step-make, step-grip, step-land, step-release}

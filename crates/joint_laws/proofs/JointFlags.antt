@@ -13,16 +13,14 @@ use Rattle.joint_model.specs.Run.{removed_all}
 use Rattle.joint_model.specs.Joint.{JointMarking}
 use Rattle.joint_laws.specs.PeerInvariants.{IsTabled}
 use Rattle.joint_laws.specs.JointAgreement.{IsInTable, IsOwned, AreFlags, IsSameMarking, AreSameMarkings}
-use Rattle.joint_laws.proofs.Lists.{Contains-nil, Contains-here, Contains-there, Contains-cons_cases}
-use Rattle.joint_laws.proofs.Numbered.{none_some, numbered_set-length, numbered_set-same, numbered_set-other}
+use Rattle.joint_model.proofs.Members.{Contains-nil, Contains-here, Contains-there, Contains-cons_cases}
+use Rattle.joint_model.proofs.Numbered.{numbered_set-length, numbered_set-same, numbered_set-other}
+use Rattle.joint_model.proofs.Deciding.{none_some, true_false}
 use Rattle.joint_laws.proofs.Sparing.{spared-later, later}
 use Rattle.std.proofs.lemmas.List.Elements.{Contains-append_left}
 
 abbrev pub IsHere : Managed → PeerReplay → ℕ → Type 0
 IsHere m s h = IsInTable s h ⊎ IsOwned m h
-
-true-false : true ≡ false → ⊥
-true-false e = cc
 
 -- a handle is told as removed or not, not both
 pub here-flag : (m : Managed) (s : PeerReplay) (flags : List Bool) (h : ℕ) → AreFlags m s flags → numbered_at flags h ≡ Some true → IsHere m s h → ⊥
@@ -44,7 +42,7 @@ AreFlags-gone m n s t flags g f e on back out = record {
   untabled = λ h q w. no_more h q (inl w);
   unowned = λ h q w. no_more h q (inr w);
   there = λ h q. elim (cases_eq h g) [
-    | inl same ↦ absurd (true-false (numbered_set-same flags g true false (subst (λ z. numbered_at (numbered_set flags g true) z ≡ Some false) same q)))
+    | inl same ↦ absurd (true_false (numbered_set-same flags g true false (subst (λ z. numbered_at (numbered_set flags g true) z ≡ Some false) same q)))
     | inr ne ↦ on h ne (f.there h (sym (numbered_set-other flags g h true ne) ∙ q))
   ];
 }
@@ -76,7 +74,7 @@ AreFlags-removed m n s t flags hs f e on back out = record {
   untabled = λ h q w. no_more h q (inl w);
   unowned = λ h q w. no_more h q (inr w);
   there = λ h q. elim (removed-cases flags hs h false q) [
-    | inl w ↦ absurd (true-false (sym w.1))
+    | inl w ↦ absurd (true_false (sym w.1))
     | inr w ↦ on h w.0 (f.there h w.1)
   ];
 }
@@ -112,11 +110,11 @@ AreFlags-issued m s k flags f places longer = record {
   places = omega (arith, length-append flags (map (λ (i : Issued). false) news), length-map news (λ (i : Issued). false), length-drop (length s.peers.issued) k.issued, f.places, longer);
   untabled = λ h q w. elim (more-numbered flags s.table news h true even q) [
     | inl c ↦ f.untabled h c.0 (w.0, sym c.1 ∙ w.1)
-    | inr c ↦ true-false c.0
+    | inr c ↦ true_false c.0
   ];
   unowned = λ h q w. elim (more-numbered flags s.table news h true even q) [
     | inl c ↦ f.unowned h c.0 w
-    | inr c ↦ true-false c.0
+    | inr c ↦ true_false c.0
   ];
   there = λ h q. elim (more-numbered flags s.table news h false even q) [
     | inl c ↦ elim (f.there h c.0) [ inl t ↦ inl (t.0, c.1 ∙ t.1) | inr t ↦ inr t ]

@@ -24,7 +24,7 @@ use Rattle.joint_model.specs.Run.{on_peers, without}
 use Rattle.joint_model.specs.Told.{Told}
 use Rattle.joint_laws.specs.JointAgreement.{Agrees, joint_of}
 use Rattle.joint_laws.specs.LinkedInvariants.{IsLoose}
-use Rattle.joint_laws.proofs.Numbered.{slot-Contains, numbered_set-length}
+use Rattle.joint_model.proofs.Numbered.{slot-Contains, numbered_set-length}
 use Rattle.joint_laws.proofs.HandleKeeping.{held-raw}
 use Rattle.joint_laws.proofs.PeerEvents.{freed_by}
 use Rattle.joint_laws.proofs.PeerQuietEvents.{IsRawOne, quiet-line, quiet-pair, quiet-grip, quiet-land}

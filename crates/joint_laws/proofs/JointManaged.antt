@@ -17,12 +17,13 @@ use Rattle.joint_model.specs.Run.{IsKept, removed_all}
 use Rattle.joint_model.proofs.WalkLemmas.{Reaches-self}
 use Rattle.joint_laws.specs.JointAgreement.{IsInTable, AreFlags, joint_of}
 use Rattle.joint_laws.specs.LinkedInvariants.{HasStrength, IsRowOf, AreOwnersKept, IsBeforeMirror, IsRestored}
-use Rattle.joint_laws.proofs.Lists.{Contains-nil, Contains-here, Contains-there, Contains-cons_cases, Contains-decided, Contains-at, at-Contains}
-use Rattle.joint_laws.proofs.Numbered.{none_some}
+use Rattle.joint_model.proofs.Members.{Contains-nil, Contains-here, Contains-there, Contains-cons_cases, Contains-decided, Contains-at, at-Contains}
+use Rattle.joint_model.proofs.Deciding.{none_some}
+use Rattle.joint_model.proofs.HeapLemmas.{IsLive-before, IsLive-left, Holds-handle_of, candidates_of-open}
 use Rattle.joint_laws.proofs.ManagedMoves.{GoesOn}
-use Rattle.joint_laws.proofs.ManagedKeeping.{dead-held, cut_on, still-live, was-live}
-use Rattle.joint_laws.proofs.DriverSteps.{candidates_are, no_candidates, row_of, alive-live, cleared-freed, answered}
-use Rattle.joint_laws.proofs.DriverPeerSteps.{handle_of-holds, holds-handle_of}
+use Rattle.joint_laws.proofs.ManagedKeeping.{dead-held, cut_on}
+use Rattle.joint_laws.proofs.DriverSteps.{no_candidates, row_of, alive-live, cleared-freed, answered}
+use Rattle.joint_laws.proofs.DriverPeerSteps.{holds-handle_of}
 use Rattle.joint_laws.proofs.JointFlags.{IsHere, AreFlags-same, AreFlags-removed}
 use Rattle.joint_laws.proofs.LinkedQuiet.{AreKept}
 
@@ -34,7 +35,7 @@ module _ (r u : ManagedReplay) (s : PeerReplay) (ds : List Doing) (d : Stand) (k
   held-cases : (x h : ℕ) → Holds r.managed x h → (o : Option OpenCycle) → r.managed.cycle ≡ o → IsHere u.managed s h
   held-cases x h q None e = inl (strong-table s h (k.owners.strong_ones x h q (no_candidates r.managed x e)))
   held-cases x h q (Some c) e = elim (Contains-decided c.candidates x) [
-    | inr out ↦ inl (strong-table s h (k.owners.strong_ones x h q (λ w. out (subst (λ z. Contains z x) (candidates_are r.managed c e) w))))
+    | inr out ↦ inl (strong-table s h (k.owners.strong_ones x h q (λ w. out (subst (λ z. Contains z x) (candidates_of-open r.managed c e) w))))
     | inl w ↦ (
         let dead = (((k.managed.managed.dead c e).candidates x).0 w).0 in
         inr (x, record { live = (cut_on r.managed u.managed k.managed.managed g c e).live x dead; held = dead-held r.managed u.managed k.managed.managed g c e x dead ∙ q.held }))
@@ -54,7 +55,7 @@ module _ (r u : ManagedReplay) (s : PeerReplay) (ds : List Doing) (d : Stand) (k
       old None e c = absurd (no_candidates r.managed x e c)
       old (Some y) e c =
           let cut = k.managed.managed.dead y e in
-          let dead = ((cut.candidates x).0 (subst (λ z. Contains z x) (candidates_are r.managed y e) c)).0 in
+          let dead = ((cut.candidates x).0 (subst (λ z. Contains z x) (candidates_of-open r.managed y e) c)).0 in
           let live = cut.live x dead in
           record { live = live; held = g.gains x h live.made q.held }
 
@@ -75,7 +76,7 @@ idle-strong r s o e x h q = o.strong_ones x h q (no_candidates r.managed x e)
 pub before-strong : (r : ManagedReplay) (s : PeerReplay) (op : Opened) → AreOwnersKept r s → IsBeforeMirror r s op → (x h : ℕ) → Holds r.managed x h → HasStrength s h strong
 before-strong r s op o v x h q = elim (Contains-decided v.cycle.candidates x) [
   | inl c ↦ (let at = at-Contains v.cycle.candidates x c in v.handles at.0 x h at.1 q)
-  | inr out ↦ o.strong_ones x h q (λ w. out (subst (λ z. Contains z x) (candidates_are r.managed v.cycle v.opened.cycle) w))
+  | inr out ↦ o.strong_ones x h q (λ w. out (subst (λ z. Contains z x) (candidates_of-open r.managed v.cycle v.opened.cycle) w))
 ]
 
 -- the handles of a list of rows
@@ -163,7 +164,7 @@ module _ (r : ManagedReplay) (s : PeerReplay) (ds : List Doing) (op : Opened) (a
         ]
 
     back : (x h : ℕ) → Holds (resolved_state r.managed freed) x h → Holds r.managed x h
-    back x h q = record { live = was-live r.managed.heap freed x q.live; held = q.held }
+    back x h q = record { live = IsLive-before r.managed.heap freed x q.live; held = q.held }
 
     pub flags_resolved : AreFlags (resolved_state r.managed freed) s (removed_all flags (filter_map (handle_of r.managed) freed))
     flags_resolved = AreFlags-removed r.managed (resolved_state r.managed freed) s s flags (filter_map (handle_of r.managed) freed) fl refl
@@ -172,7 +173,7 @@ module _ (r : ManagedReplay) (s : PeerReplay) (ds : List Doing) (op : Opened) (a
           | inr q ↦ inr (
             q.0,
             record {
-              live = still-live r.managed.heap freed q.0 q.1.live (λ f. n (into-handles r.managed freed q.0 h f (handle_of-holds r.managed q.0 h q.1)));
+              live = IsLive-left r.managed.heap freed q.0 q.1.live (λ f. n (into-handles r.managed freed q.0 h f (Holds-handle_of r.managed q.0 h q.1)));
               held = q.1.held;
             },
           )

@@ -12,7 +12,8 @@ use Rattle.joint_model.specs.Peers.{strong, weak, peer_of}
 use Rattle.joint_model.specs.PeerReplay.{PeerReplay, TableRow, Mirror, Marking, row_of, is_thread, sliced, mirrored, restored_by, with_weakened, with_restored, brought_handle}
 use Rattle.joint_laws.specs.JointAgreement.{IsOwned, AreFlags, AreSameMarkings, Agrees, joint_of}
 use Rattle.joint_laws.specs.PeerInvariants.{IsTabled}
-use Rattle.joint_laws.proofs.Numbered.{none_some, slot-named, numbered_set-other, numbered_set-here, numbered-within}
+use Rattle.joint_model.proofs.Numbered.{slot-named, numbered_set-other, numbered_set-here, numbered-within}
+use Rattle.joint_model.proofs.Deciding.{none_some}
 use Rattle.joint_laws.proofs.HandleKeeping.{tabled-set_cases}
 use Rattle.joint_laws.proofs.JointFlags.{AreFlags-same, AreFlags-as, IsSameMarking-later, AreSameMarkings-brought}
 

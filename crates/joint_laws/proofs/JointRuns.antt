@@ -7,7 +7,7 @@ use Rattle.joint_model.specs.Linked.{Linkage, MayCome, opening_linkage, linkage_
 use Rattle.joint_model.specs.Run.{Moment, JointStep}
 use Rattle.joint_model.specs.Told.{Noted}
 use Rattle.joint_laws.specs.JointAgreement.{Agrees, joint_of}
-use Rattle.joint_laws.proofs.Numbered.{numbered-within}
+use Rattle.joint_model.proofs.Numbered.{numbered-within}
 use Rattle.joint_laws.proofs.JointSince.{IsSince, since-opening, since-entry}
 use Rattle.joint_laws.proofs.RunsAreSound.{stays, marking-case}
 use Rattle.joint_laws.proofs.JointEntries.{Outcome, moves, rests, outcome}

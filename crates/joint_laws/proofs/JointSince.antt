@@ -18,11 +18,11 @@ use Rattle.joint_laws.specs.JointAgreement.{AreSameMarkings, joint_of}
 use Rattle.joint_laws.specs.LinkedInvariants.{HasStrength}
 use Rattle.joint_laws.specs.ManagedInvariants.{IsManagedKept}
 use Rattle.joint_laws.specs.PeerInvariants.{IsIssued, IsSpared}
-use Rattle.joint_laws.proofs.Lists.{Contains-decided}
-use Rattle.joint_laws.proofs.Numbered.{none_some}
-use Rattle.joint_laws.proofs.DriverSteps.{no_candidates, candidates_are}
+use Rattle.joint_model.proofs.Members.{Contains-decided}
+use Rattle.joint_model.proofs.Deciding.{none_some}
+use Rattle.joint_model.proofs.HeapLemmas.{IsLive-before, candidates_of-open}
+use Rattle.joint_laws.proofs.DriverSteps.{no_candidates}
 use Rattle.joint_laws.proofs.ManagedEntries.{ManagedStep-entry}
-use Rattle.joint_laws.proofs.ManagedKeeping.{was-live}
 use Rattle.joint_laws.proofs.ManagedSteps.{ManagedStep, going_on, snapping, resolving, abandoning}
 use Rattle.joint_laws.proofs.LinkedEntries.{Of}
 use Rattle.joint_laws.proofs.PeerSince.{GoesOnSparing, stays-sparing, peer-goes_on}
@@ -40,12 +40,12 @@ candidate-before m n k (going_on g) x h c q = by m.cycle refl
     by None e = absurd (no_candidates n x (g.cycle ∙ e) c)
     by (Some y) e =
         let cut = k.dead y e in
-        let dead = ((cut.candidates x).0 (subst (λ z. Contains z x) (candidates_are n y (g.cycle ∙ e)) c)).0 in
+        let dead = ((cut.candidates x).0 (subst (λ z. Contains z x) (candidates_of-open n y (g.cycle ∙ e)) c)).0 in
         let live = cut.live x dead in
         record { live = live; held = g.gains x h live.made q.held }
 candidate-before m n k (snapping p) x h c q =
     let after = subst (λ z. Holds z x h) p.is q in
-    record { live = was-live m.heap p.freed x after.live; held = after.held }
+    record { live = IsLive-before m.heap p.freed x after.live; held = after.held }
 candidate-before m n k (resolving p) x h c q = absurd (no_candidates n x (ap (λ (z : Managed). z.cycle) p.is) c)
 candidate-before m n k (abandoning p) x h c q = absurd (no_candidates n x (ap (λ (z : Managed). z.cycle) p.is) c)
 

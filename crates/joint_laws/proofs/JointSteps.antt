@@ -22,7 +22,8 @@ use Rattle.joint_model.specs.Run.{JointEvent, JointBegin, JointSweep, IsStored}
 use Rattle.joint_model.specs.Told.{Told, nothing, sweep_of}
 use Rattle.joint_laws.specs.JointAgreement.{IsInTable, AreFlags, IsSameMarking, AreSameMarkings, Agrees, joint_of}
 use Rattle.joint_laws.specs.PeerInvariants.{IsSpared}
-use Rattle.joint_laws.proofs.Numbered.{none_some, numbered_set-same, numbered_set-other, numbered-within, numbered-made}
+use Rattle.joint_model.proofs.Numbered.{numbered_set-same, numbered_set-other, numbered-within, numbered-made}
+use Rattle.joint_model.proofs.Deciding.{none_some}
 use Rattle.joint_laws.proofs.HandleKeeping.{tabled-set_cases, tabled-swept, swept_row}
 use Rattle.joint_laws.proofs.PeerEntries.{same_thread, swept_told, begun-kept}
 use Rattle.joint_laws.proofs.PeerQuietEvents.{quiet-begun}

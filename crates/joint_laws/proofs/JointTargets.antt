@@ -2,13 +2,11 @@
 -- the registry answers.
 use Rattle.std.proofs.Common.{◌≡◌, ◌≢◌, ℕ, ◌+◌, ◌<◌, ◌≤◌, inl, inr, Bool, true, false, ◌&&◌, List, [], ◌∷◌, length, Option, Some, None, refl, sym, ap, subst, ◌∙◌, arith, nat_eq}
 use Rattle.std.specs.Prelude.{Contains, if◌then◌else◌}
-use Rattle.std.proofs.lemmas.Bool.{cases_eq, eqb-true}
+use Rattle.std.proofs.lemmas.Bool.{cases_eq}
 use Rattle.std.proofs.lemmas.Bool.Decides.{Decides-eqb}
 use Rattle.std.proofs.lemmas.Option.{same_Some}
-use Rattle.std.proofs.lemmas.Map.Views.{list_any-from_Contains, Contains-from_any}
-use Rattle.std.proofs.lemmas.Cmp.{nat_eq_equiv}
 use Rattle.joint_model.specs.Control.{Doing, Stand, idle, snapped, contracted, weakening, marked, restoring, restored, candidates_of}
-use Rattle.joint_model.specs.Heaps.{Heap, IsLive, numbered_at, is_freed}
+use Rattle.joint_model.specs.Heaps.{numbered_at, is_freed}
 use Rattle.joint_model.specs.Joint.{Joint, JointMarking, joint_target, is_twin, twin_from, twin_of}
 use Rattle.joint_model.specs.Managed.{Holds, handle_of}
 use Rattle.joint_model.specs.ManagedReplay.{ManagedReplay, registered}
@@ -17,22 +15,14 @@ use Rattle.joint_model.specs.PeerReplay.{PeerReplay, TableRow, row_of, table_tar
 use Rattle.joint_laws.specs.JointAgreement.{IsInTable, AreFlags, joint_of}
 use Rattle.joint_laws.specs.PeerInvariants.{IsTabled, IsIssued}
 use Rattle.joint_laws.specs.LinkedInvariants.{IsRowOf, IsDriverKept, IsGone}
-use Rattle.joint_laws.proofs.Lists.{Contains-decided, at-Contains}
-use Rattle.joint_laws.proofs.Numbered.{none_some, slot-named, numbered-within, numbered-made}
+use Rattle.joint_model.proofs.Members.{Contains-decided, at-Contains}
+use Rattle.joint_model.proofs.Numbered.{slot-named, numbered-within, numbered-made}
+use Rattle.joint_model.proofs.Deciding.{none_some}
+use Rattle.joint_model.proofs.HeapLemmas.{Contains-is_freed, is_freed-live, Holds-handle_of, candidates_of-open}
 use Rattle.joint_laws.proofs.Registered.{registered-some, registered-none}
-use Rattle.joint_laws.proofs.DriverPeerSteps.{handle_of-holds, holds-handle_of}
-use Rattle.joint_laws.proofs.DriverSteps.{no_candidates, candidates_are}
+use Rattle.joint_laws.proofs.DriverPeerSteps.{holds-handle_of}
+use Rattle.joint_laws.proofs.DriverSteps.{no_candidates}
 use Rattle.joint_laws.proofs.LinkedQuiet.{AreKept}
-
-freed-true : (h : Heap) (p : ℕ) → Contains h.freed p → is_freed h p ≡ true
-freed-true h p c = list_any-from_Contains nat_eq_equiv p h.freed c
-
-live-false : (h : Heap) (p : ℕ) → IsLive h p → is_freed h p ≡ false
-live-false h p l = by (is_freed h p) refl
-  where
-    by : (b : Bool) → is_freed h p ≡ b → b ≡ false
-    by false e = refl
-    by true e = absurd (l.kept (Contains-from_any eqb-true p h.freed e))
 
 -- the answers by their parts
 abbrev table_by : PeerReplay → ℕ → Option TableRow → Option ℕ
@@ -51,24 +41,24 @@ module _ (r : ManagedReplay) (s : PeerReplay) (ds : List Doing) (d : Stand) (k :
   -- a handle in the table leads to its peer, or is cleared
   tabled-target : (h : ℕ) (row : TableRow) (i : Issued) → IsTabled s.table h row → IsIssued s.peers.issued h i → (b : Bool) → row.cleared ≡ b → unfreed s (peer_of s.peers.issued h) ≡ (if b then None else peer_of s.peers.issued h)
   tabled-target h row i t e true c =
-      ap (unfreed s) (peer-is h i e) ∙ ap (λ (z : Bool). if z then None else Some i.peer) (freed-true s.peers.heap i.peer (k.peer.handles.cleared h row i t e c))
+      ap (unfreed s) (peer-is h i e) ∙ ap (λ (z : Bool). if z then None else Some i.peer) (Contains-is_freed s.peers.heap i.peer (k.peer.handles.cleared h row i t e c))
   tabled-target h row i t e false c =
-      ap (unfreed s) (peer-is h i e) ∙ (ap (λ (z : Bool). if z then None else Some i.peer) (live-false s.peers.heap i.peer (k.peer.handles.uncleared h row i t e c)) ∙ sym (peer-is h i e))
+      ap (unfreed s) (peer-is h i e) ∙ (ap (λ (z : Bool). if z then None else Some i.peer) (is_freed-live s.peers.heap i.peer (k.peer.handles.uncleared h row i t e c)) ∙ sym (peer-is h i e))
 
   -- a handle that a row holds, and that isn't in the table, is a candidate's whose peer is freed
   gone-by : (x : Stand) → IsDriverKept r s x → (m h : ℕ) → Holds r.managed m h → Contains (candidates_of r.managed) m → (IsInTable s h → ⊥) → IsGone s h
   gone-by idle v m h q c n = absurd (no_candidates r.managed m v.closed c)
-  gone-by (snapped o) v m h q c n = let at = at-Contains v.cycle.candidates m (subst (λ z. Contains z m) (candidates_are r.managed v.cycle v.opened.cycle) c) in let t = v.handles at.0 m h at.1 q in absurd (n (t.0, t.1))
-  gone-by (contracted o comps xrefs) v m h q c n = let at = at-Contains v.before.cycle.candidates m (subst (λ z. Contains z m) (candidates_are r.managed v.before.cycle v.before.opened.cycle) c) in let t = v.before.handles at.0 m h at.1 q in absurd (n (t.0, t.1))
+  gone-by (snapped o) v m h q c n = let at = at-Contains v.cycle.candidates m (subst (λ z. Contains z m) (candidates_of-open r.managed v.cycle v.opened.cycle) c) in let t = v.handles at.0 m h at.1 q in absurd (n (t.0, t.1))
+  gone-by (contracted o comps xrefs) v m h q c n = let at = at-Contains v.before.cycle.candidates m (subst (λ z. Contains z m) (candidates_of-open r.managed v.before.cycle v.before.opened.cycle) c) in let t = v.before.handles at.0 m h at.1 q in absurd (n (t.0, t.1))
   gone-by (weakening o count seen sw) v m h q c n =
-      let at = at-Contains v.cycle.candidates m (subst (λ z. Contains z m) (candidates_are r.managed v.cycle v.opened.cycle) c) in
+      let at = at-Contains v.cycle.candidates m (subst (λ z. Contains z m) (candidates_of-open r.managed v.cycle v.opened.cycle) c) in
       elim (v.handles at.0 m h at.1 q) [ inl t ↦ absurd (n (t.1.0, t.1.1)) | inr t ↦ absurd (n (t.1.0, t.1.1)) ]
-  gone-by (marked o) v m h q c n = let at = at-Contains v.cycle.candidates m (subst (λ z. Contains z m) (candidates_are r.managed v.cycle v.opened.cycle) c) in let t = v.handles at.0 m h at.1 q in absurd (n (t.0, t.1))
+  gone-by (marked o) v m h q c n = let at = at-Contains v.cycle.candidates m (subst (λ z. Contains z m) (candidates_of-open r.managed v.cycle v.opened.cycle) c) in let t = v.handles at.0 m h at.1 q in absurd (n (t.0, t.1))
   gone-by (restoring o answers) v m h q c n =
-      let at = at-Contains v.cycle.candidates m (subst (λ z. Contains z m) (candidates_are r.managed v.cycle v.opened.cycle) c) in
+      let at = at-Contains v.cycle.candidates m (subst (λ z. Contains z m) (candidates_of-open r.managed v.cycle v.opened.cycle) c) in
       elim (v.handles at.0 m h at.1 q) [ inl t ↦ absurd (n (t.1.0, t.1.1)) | inr t ↦ elim t [ inl g ↦ g.1 | inr g ↦ absurd (n (g.1.0, g.1.1)) ] ]
   gone-by (restored o answers clear) v m h q c n =
-      let at = at-Contains v.cycle.candidates m (subst (λ z. Contains z m) (candidates_are r.managed v.cycle v.opened.cycle) c) in
+      let at = at-Contains v.cycle.candidates m (subst (λ z. Contains z m) (candidates_of-open r.managed v.cycle v.opened.cycle) c) in
       elim (v.handles at.0 m h at.1 q) [ inl t ↦ absurd (n (t.1.0, t.1.1)) | inr t ↦ elim t [ inl g ↦ g.1 | inr g ↦ absurd (n (g.1.0, g.1.1)) ] ]
 
   owned-gone : (m h : ℕ) → Holds r.managed m h → (IsInTable s h → ⊥) → IsGone s h
@@ -88,7 +78,7 @@ module _ (r : ManagedReplay) (s : PeerReplay) (ds : List Doing) (d : Stand) (k :
     | inr q ↦ (
         let i = k.owners.held_ones q.0 h q.1 in
         let g = owned-gone q.0 h q.1 (untabled h e) in
-        ap (unfreed s) (peer-is h i.0 i.1) ∙ ap (λ (z : Bool). if z then None else Some i.0.peer) (freed-true s.peers.heap i.0.peer (g.freed i.0 i.1)))
+        ap (unfreed s) (peer-is h i.0 i.1) ∙ ap (λ (z : Bool). if z then None else Some i.0.peer) (Contains-is_freed s.peers.heap i.0.peer (g.freed i.0 i.1)))
   ]
   target-by h (Some row) None e f =
       let t = slot-named (numbered_at s.table h) row e in
@@ -132,7 +122,7 @@ module _ (r : ManagedReplay) (s : PeerReplay) (ds : List Doing) (d : Stand) (k :
   row-twin m w =
       let i = k.owners.held_ones m w.handle w.holds in
       let same : i.0 ≡ w.row = same_Some i.0 w.row (sym i.1 ∙ w.is_issued) in
-      ap twin_by (handle_of-holds r.managed m w.handle w.holds) ∙ (ap issued_by w.is_issued ∙ both w.row.hold (nat_eq w.row.peer p) (ap (λ (z : Issued). z.hold) (sym same) ∙ i.2) ((Decides-eqb w.row.peer p).1 w.leads))
+      ap twin_by (Holds-handle_of r.managed m w.handle w.holds) ∙ (ap issued_by w.is_issued ∙ both w.row.hold (nat_eq w.row.peer p) (ap (λ (z : Issued). z.hold) (sym same) ∙ i.2) ((Decides-eqb w.row.peer p).1 w.leads))
     where
       both : (x : Hold) (b : Bool) → x ≡ held → b ≡ true → (is_held x && b) ≡ true
       both held b e f = f

@@ -23,7 +23,7 @@ use Rattle.joint_model.specs.Peers.{strong, peer_of}
 use Rattle.joint_model.specs.PeerReplay.{PeerReplay, TableRow, Marking, row_of, bring_by, untabled, peer_thread_line, is_thread, sliced, begun, swept_of, swept, restored_by, peer_answer, brought_handle, with_restored}
 use Rattle.joint_model.specs.Run.{Moment, thread_number}
 use Rattle.joint_model.specs.Told.{Told, Noted, slice_of, sweep_of}
-use Rattle.joint_laws.proofs.Numbered.{none_some}
+use Rattle.joint_model.proofs.Deciding.{none_some}
 use Rattle.joint_laws.proofs.ManagedEntries.{ManagedStep-entry}
 use Rattle.joint_laws.proofs.ManagedMoves.{GoesOn}
 use Rattle.joint_laws.proofs.ManagedSteps.{ManagedStep, going_on, snapping, resolving, abandoning}

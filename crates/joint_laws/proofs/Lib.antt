@@ -1,8 +1,6 @@
-pub mod Lists
 pub mod FiniteReach
 pub mod Circles
 pub mod Mirrors
-pub mod Numbered
 pub mod Fields
 pub mod HeapMoves
 pub mod ManagedLines

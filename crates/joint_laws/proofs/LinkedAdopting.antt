@@ -15,10 +15,10 @@ use Rattle.joint_model.specs.Managed.{Managed, OpenCycle, Holds, handle_of, mana
 use Rattle.joint_model.specs.ManagedReplay.{ManagedReplay, registered, with_twin, without_twins, adopt_by, meet_by, give_by}
 use Rattle.joint_model.specs.Peers.{Issued}
 use Rattle.joint_model.specs.PeerReplay.{PeerReplay}
+use Rattle.joint_model.proofs.Deciding.{none_some}
 use Rattle.joint_laws.specs.ManagedInvariants.{IsReplayKept}
 use Rattle.joint_laws.specs.PeerInvariants.{IsIssued}
 use Rattle.joint_laws.specs.LinkedInvariants.{doing_in, HasInHand, HasPeer, HasMadePair, IsLoose}
-use Rattle.joint_laws.proofs.Numbered.{none_some}
 use Rattle.joint_laws.proofs.Registered.{registered-some}
 use Rattle.joint_laws.proofs.ManagedMoves.{GoesOn, GoesOn-row, emptied-goes_on, twinned-goes_on, met_by}
 use Rattle.joint_laws.proofs.Adopting.{took-by, IsReplayKept-plainly, HoldsSame-as}

@@ -19,11 +19,12 @@ use Rattle.joint_model.specs.Told.{Told, contraction_of, references_of, resoluti
 use Rattle.joint_laws.specs.ManagedInvariants.{IsReplayKept}
 use Rattle.joint_laws.specs.PeerInvariants.{IsPeerKept}
 use Rattle.joint_laws.specs.LinkedInvariants.{IsBeforeMirror}
-use Rattle.joint_laws.proofs.Numbered.{slot-named}
+use Rattle.joint_model.proofs.Numbered.{slot-named}
+use Rattle.joint_model.proofs.HeapLemmas.{candidates_of-open}
 use Rattle.joint_laws.proofs.ManagedMoves.{GoesOn-stay}
 use Rattle.joint_laws.proofs.HandlesAlike.{HandlesAlike, nothing_touched, AreOwnersKept-peer}
 use Rattle.joint_laws.proofs.OwnersManaged.{OwnersAlike}
-use Rattle.joint_laws.proofs.DriverSteps.{candidates_are, owners_snapped, callers_snapped, driver_snapped, owners_resolved, callers_resolved, driver_resolved, owners_abandoned, callers_abandoned, driver_abandoned}
+use Rattle.joint_laws.proofs.DriverSteps.{owners_snapped, callers_snapped, driver_snapped, owners_resolved, callers_resolved, driver_resolved, owners_abandoned, callers_abandoned, driver_abandoned}
 use Rattle.joint_laws.proofs.DriverPeerSteps.{Only, HandlesAlike-only, holds-handle_of, carried-safe, driver_mirrored}
 use Rattle.joint_laws.proofs.DriverHandles.{callers_same, mirrored_changed, weakened-stands, owners_touched, not_in_hand, handles_weakened, written-strength}
 use Rattle.joint_laws.proofs.PeerQuiet.{HandlesAlike-same}
@@ -165,7 +166,7 @@ kept-mirrored r s ds (restored o answers clear) n number c reply cites refs k w 
 
 -- the candidate whose turn it is
 pub turn : (r : ManagedReplay) (c : OpenCycle) (i h : ℕ) → IsReplayKept r → r.managed.cycle ≡ Some c → IsCandidateHandle r.managed i h → (m : ℕ) × (slice_get c.candidates i ≡ Some m) × Holds r.managed m h
-turn r c i h k e w = (w.0, subst (λ z. slice_get z i ≡ Some w.0) (candidates_are r.managed c e) w.1, holds-handle_of r.managed w.0 h k.managed.places w.2)
+turn r c i h k e w = (w.0, subst (λ z. slice_get z i ≡ Some w.0) (candidates_of-open r.managed c e) w.1, holds-handle_of r.managed w.0 h k.managed.places w.2)
 
 pub kept-weaken : (r : ManagedReplay) (s : PeerReplay) (ds : List Doing) (d : Stand) (number : ℕ) (h : HNum) (reply : Reply) (told : Told) (cites : Option ℕ) → AreKept r s ds d → MayWeakenNow d r.managed h.0 cites → MayWeaken s h.0 cites
     → IsPeerKept (record s { table = numbered_set s.table h.0 (Some record { strength = weak; cleared = false }); mirror = with_weakened s.mirror h.0 })

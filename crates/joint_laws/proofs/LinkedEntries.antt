@@ -19,8 +19,8 @@ use Rattle.joint_model.specs.ManagedReplay.{ManagedReplay, registered}
 use Rattle.joint_model.specs.PeerReplay.{PeerReplay, peer_thread_line, sliced, begun}
 use Rattle.joint_model.specs.Told.{Told, Noted, nothing, snap_of, contraction_of, references_of, slice_of, sweep_of, resolution_of, phase_of}
 use Rattle.joint_laws.specs.LinkedInvariants.{doing_in, HasMadePair, AreOwnersKept}
-use Rattle.joint_laws.proofs.Lists.{Contains-nil}
-use Rattle.joint_laws.proofs.Numbered.{numbered-within}
+use Rattle.joint_model.proofs.Members.{Contains-nil}
+use Rattle.joint_model.proofs.Numbered.{numbered-within}
 use Rattle.joint_laws.proofs.ManagedMoves.{met_by}
 use Rattle.joint_laws.proofs.ManagedSteps.{meet_by-reply, give_by-reply}
 use Rattle.joint_laws.proofs.HandleKeeping.{held-raw}

@@ -15,7 +15,7 @@ use Rattle.joint_model.specs.Peers.{Peers, held, strong, with_handle, with_peer,
 use Rattle.joint_model.specs.PeerReplay.{PeerReplay, fresh_row, on_table, brings, untabled, table_target}
 use Rattle.joint_laws.specs.PeerInvariants.{IsTabled, IsPeerKept}
 use Rattle.joint_laws.specs.LinkedInvariants.{doing_in, HasInHand, HasMadePair, HasLent, IsLoose, IsVirgin}
-use Rattle.joint_laws.proofs.Numbered.{slot-Contains}
+use Rattle.joint_model.proofs.Numbered.{slot-Contains}
 use Rattle.joint_laws.proofs.HandlesAlike.{AreOwnersKept-peer}
 use Rattle.joint_laws.proofs.DriverPeers.{driver_on}
 use Rattle.joint_laws.proofs.DriverPeerSteps.{Only, HandlesAlike-only, holds-handle_of}

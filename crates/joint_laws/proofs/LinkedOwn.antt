@@ -17,9 +17,10 @@ use Rattle.joint_model.specs.PeerReplay.{PeerReplay, TableRow, Marking, row_of, 
 use Rattle.joint_model.specs.Told.{Told, sweep_of}
 use Rattle.joint_laws.specs.PeerInvariants.{IsTabled, IsIssued, IsPeerKept}
 use Rattle.joint_laws.specs.LinkedInvariants.{HasStrength, IsHeldOne, IsGone, IsWeakening, IsRestoring}
-use Rattle.joint_laws.proofs.Numbered.{none_some, slot-named}
+use Rattle.joint_model.proofs.Numbered.{slot-named}
+use Rattle.joint_model.proofs.Deciding.{none_some}
+use Rattle.joint_model.proofs.HeapLemmas.{candidates_of-open}
 use Rattle.joint_laws.proofs.HandlesAlike.{HandlesAlike, nothing_touched, AreOwnersKept-peer}
-use Rattle.joint_laws.proofs.DriverSteps.{candidates_are}
 use Rattle.joint_laws.proofs.DriverPeerSteps.{Only, HandlesAlike-only, mirrored-closed}
 use Rattle.joint_laws.proofs.DriverHandles.{callers_same, mirrored_changed, restored-stands, owners_touched, not_in_hand, handles_restored, written-strength, emptied-untabled}
 use Rattle.joint_laws.proofs.PeerQuiet.{HandlesAlike-same, IsQuiet}
@@ -49,7 +50,7 @@ own_begin r s ds o count seen sw None k e w n m =
         mirror = v.mirror;
         handles = λ l x h f g. elim (v.handles l x h f g) [
           | inl a ↦ a.1
-          | inr a ↦ absurd (omega (arith, a.0, slice_get_within v.cycle.candidates l x f, w, ap length (candidates_are r.managed v.cycle v.opened.cycle)))
+          | inr a ↦ absurd (omega (arith, a.0, slice_get_within v.cycle.candidates l x f, w, ap length (candidates_of-open r.managed v.cycle v.opened.cycle)))
         ];
         marking = record { number = s.markings + 1; by = C; heap = s.peers.heap; refs = s.refs; strong_peers = strong_peers s.peers.issued s.table; brought = []; blackened = 0 };
         own = refl;
@@ -171,7 +172,7 @@ kept-clear r s ds (restoring o answers) n number c reply told cites k w m =
         cycle = v.cycle;
         opened = v.opened;
         none = refl;
-        all = w.1 ∙ ap length (candidates_are r.managed v.cycle v.opened.cycle);
+        all = w.1 ∙ ap length (candidates_of-open r.managed v.cycle v.opened.cycle);
         handles = λ l x h e q. elim (v.handles l x h e q) [
           | inl f ↦ inl f
           | inr f ↦ elim f [

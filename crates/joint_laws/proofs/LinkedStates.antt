@@ -23,7 +23,7 @@ use Rattle.joint_model.specs.Walks.{Reaches}
 use Rattle.joint_laws.specs.LinkedInvariants.{IsRestored, doing_in}
 use Rattle.joint_laws.specs.LinkedLaws.{LinkageIsKept, AliveLeadToAlive, AdoptedPeerHasNoTwin}
 use Rattle.joint_laws.specs.States.{state_at}
-use Rattle.joint_laws.proofs.Lists.{Contains-at, at-Contains}
+use Rattle.joint_model.proofs.Members.{Contains-at, at-Contains}
 use Rattle.joint_laws.proofs.Registered.{registered-some}
 use Rattle.joint_laws.proofs.DriverSteps.{row_of, alive-live, cleared-freed, answered}
 use Rattle.joint_laws.proofs.LinkedQuiet.{AreKept}

@@ -15,7 +15,7 @@ use Rattle.joint_model.specs.PeerReplay.{PeerReplay, Marking, is_thread, swept_o
 use Rattle.joint_model.specs.Told.{Told, nothing, sweep_of}
 use Rattle.joint_laws.specs.PeerInvariants.{IsSpared}
 use Rattle.joint_laws.specs.LinkedInvariants.{IsDriverKept, IsInMarking, IsRestoring}
-use Rattle.joint_laws.proofs.Lists.{at-Contains}
+use Rattle.joint_model.proofs.Members.{at-Contains}
 use Rattle.joint_laws.proofs.HandlesAlike.{HandlesAlike, nothing_touched, AreOwnersKept-peer}
 use Rattle.joint_laws.proofs.DriverPeers.{driver_on, StaysClosed}
 use Rattle.joint_laws.proofs.DriverPeerSteps.{HandlesAlike-swept}

@@ -19,7 +19,7 @@ use Rattle.joint_model.specs.PeerReplay.{PeerReplay, TableRow, fresh_row, on_tab
 use Rattle.joint_laws.specs.ManagedInvariants.{IsReplayKept}
 use Rattle.joint_laws.specs.PeerInvariants.{IsIssued}
 use Rattle.joint_laws.specs.LinkedInvariants.{HasStrength, doing_in, HasInHand, HasPeer, HasMadePair, HasLent, IsLoose, IsVirgin}
-use Rattle.joint_laws.proofs.Numbered.{numbered-within, numbered-push_new, numbered-push_cases}
+use Rattle.joint_model.proofs.Numbered.{numbered-within, numbered-push_new, numbered-push_cases}
 use Rattle.joint_laws.proofs.ManagedMoves.{GoesOn, managed_line-goes_on}
 use Rattle.joint_laws.proofs.Adopting.{HoldsSame, managed_line-same, was-held, stays-live}
 use Rattle.joint_laws.proofs.HeapKeeping.{object-field, object-was_live}

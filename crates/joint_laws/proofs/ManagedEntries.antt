@@ -3,19 +3,18 @@
 -- the next number; a resolution and an abandonment close it.
 use Rattle.std.proofs.Common.{◌≡◌, ℕ, ◌+◌, ◌<◌, ◌≤◌, Bool, true, false, Some, None, refl, sym, ap, ◌∙◌, arith}
 use Rattle.std.specs.Prelude.{if◌then◌else◌}
-use Rattle.std.proofs.lemmas.Bool.{eqb-true}
-use Rattle.std.proofs.lemmas.Map.Views.{Contains-from_any}
 use Rattle.std.proofs.lemmas.Option.{same_Some}
 use Rattle.joint_model.specs.declared.events.Made.{Made}
-use Rattle.joint_model.specs.Heaps.{Heap, IsLive, numbered_at, is_freed}
+use Rattle.joint_model.specs.Heaps.{IsLive, numbered_at}
 use Rattle.joint_model.specs.Lines.{is_peer_event}
 use Rattle.joint_model.specs.Managed.{Managed, OpenCycle, handle_of}
 use Rattle.joint_model.specs.Linked.{Linkage, MayCome, SideLawful, linkage_after, managed_after}
 use Rattle.joint_model.specs.Told.{Told, Noted}
+use Rattle.joint_model.proofs.Deciding.{none_some}
+use Rattle.joint_model.proofs.HeapLemmas.{is_freed-live}
 use Rattle.joint_laws.specs.ManagedInvariants.{IsManagedKept, IsReplayKept}
 use Rattle.joint_laws.specs.ManagedLaws.{ManagedIsKept, DeadPartIsFrozen, IsFrozenSince, managed_at}
 use Rattle.joint_laws.specs.States.{state_at}
-use Rattle.joint_laws.proofs.Numbered.{none_some}
 use Rattle.joint_laws.proofs.ManagedMoves.{GoesOn-stay}
 use Rattle.joint_laws.proofs.ManagedKeeping.{dead-fields, dead-held, cut_on}
 use Rattle.joint_laws.proofs.ManagedSteps.{ManagedStep, going_on, snapping, resolving, abandoning, managed_step}
@@ -41,16 +40,8 @@ ManagedStep-entry s n w k = step-by s n.entry.made n.told (is_peer_event n.entry
 pub managed_is_kept : ManagedIsKept
 managed_is_kept noted a i = everywhere (λ s. IsReplayKept s.managed) IsReplayKept-opening IsReplayKept-entry noted a i
 
--- an unfreed row isn't found among the freed ones, so its handle is the one that stands for it
-live-test : (h : Heap) (x : ℕ) → IsLive h x → is_freed h x ≡ false
-live-test h x l = by (is_freed h x) refl
-  where
-    by : (b : Bool) → is_freed h x ≡ b → b ≡ false
-    by false e = refl
-    by true e = absurd (l.kept (Contains-from_any eqb-true x h.freed e))
-
 handle-same : (s t : Managed) (x : ℕ) → IsLive s.heap x → IsLive t.heap x → numbered_at t.held x ≡ numbered_at s.held x → handle_of t x ≡ handle_of s x
-handle-same s t x l m e = λ i. (let b = (live-test t.heap x m ∙ sym (live-test s.heap x l)) i in if b then None else elim (e i) [ None ↦ None | Some h ↦ h ])
+handle-same s t x l m e = λ i. (let b = (is_freed-live t.heap x m ∙ sym (is_freed-live s.heap x l)) i in if b then None else elim (e i) [ None ↦ None | Some h ↦ h ])
 
 -- at a state: the cycle is still open with its dead part as it was, or it is over and its number was passed
 data Follows (s : Managed) (c : OpenCycle) (t : Managed) : Type 0 where

@@ -12,7 +12,7 @@ use Rattle.joint_model.specs.Run.{IsKept}
 use Rattle.joint_model.proofs.WalkLemmas.{Reached-keeps, Reached-start, Reached-then, Reaches-self, Reaches-then}
 use Rattle.joint_laws.specs.ManagedInvariants.{IsCutOff, IsManagedKept}
 use Rattle.joint_laws.specs.FreeingLaws.{SnapshotFreesUnreached, ResolutionFreesUnreached}
-use Rattle.joint_laws.proofs.Lists.{Contains-decided}
+use Rattle.joint_model.proofs.Members.{Contains-decided}
 
 -- the row of a joined pair holds a handle
 joined-bridge : (g : Graph) (m p : ℕ) → IsJoined g m p → IsBridge g.managed m

@@ -6,14 +6,16 @@ use Rattle.std.proofs.Common.{◌≡◌, ℕ, ◌+◌, ◌≤◌, ◌↔◌, inl
 use Rattle.std.specs.Prelude.{Contains}
 use Rattle.std.proofs.lemmas.Bool.{cases_lt}
 use Rattle.std.proofs.lemmas.Option.{same_Some}
-use Rattle.std.proofs.lemmas.List.Elements.{Contains-append_cases, Contains-append_left, Contains-append_right}
+use Rattle.std.proofs.lemmas.List.Elements.{Contains-append_cases}
 use Rattle.joint_model.specs.Heaps.{Heap, IsMade, IsLive, numbered_at, fields_of, with_freed, opening_heap}
 use Rattle.joint_model.specs.Managed.{Managed, OpenCycle, IsBridge, IsManagedRoot, ManagedEdge, opening_managed, snapped, resolved, abandoned}
 use Rattle.joint_model.specs.Cycles.{IsSnapshot, IsResolution}
 use Rattle.joint_model.proofs.WalkLemmas.{Reached-start, Reached-then, Reaches-then}
 use Rattle.joint_laws.specs.ManagedInvariants.{IsCutOff, IsManagedKept}
-use Rattle.joint_laws.proofs.Lists.{Contains-nil, Contains-decided}
-use Rattle.joint_laws.proofs.Numbered.{none_some, replicate-none}
+use Rattle.joint_model.proofs.Members.{Contains-nil, Contains-decided}
+use Rattle.joint_model.proofs.Numbered.{replicate-none}
+use Rattle.joint_model.proofs.Deciding.{none_some}
+use Rattle.joint_model.proofs.HeapLemmas.{IsLive-before, IsLive-spared, IsLive-left}
 use Rattle.joint_laws.proofs.Fields.{fields-past, IsLive-more}
 use Rattle.joint_laws.proofs.ManagedMoves.{GoesOn, IsNameable, IsNew}
 
@@ -140,16 +142,6 @@ module _ (s t : Managed) (k : IsManagedKept s) (g : GoesOn s t) where
     dead = λ c e. cut_on c (sym g.cycle ∙ e);
   }
 
--- what is unfreed after some rows were freed
-pub still-live : (h : Heap) (freed : List ℕ) (x : ℕ) → IsLive h x → (Contains freed x → ⊥) → IsLive (with_freed h freed) x
-still-live h freed x l n = record { made = l.made; kept = λ c. elim (Contains-append_cases h.freed freed x c) [ inl w ↦ l.kept w | inr w ↦ n w ] }
-
-pub was-live : (h : Heap) (freed : List ℕ) (x : ℕ) → IsLive (with_freed h freed) x → IsLive h x
-was-live h freed x l = record { made = l.made; kept = λ c. l.kept (Contains-append_left h.freed freed x c) }
-
-pub wasn't-freed : (h : Heap) (freed : List ℕ) (x : ℕ) → IsLive (with_freed h freed) x → Contains freed x → ⊥
-wasn't-freed h freed x l c = l.kept (Contains-append_right h.freed freed x c)
-
 made-freed : (h : Heap) (freed : List ℕ) (x : ℕ) → ((y : ℕ) → Contains h.freed y → IsMade h y) → ((y : ℕ) → Contains freed y → IsLive h y) → Contains (h.freed ++ freed) x → IsMade h x
 made-freed h freed x p q c = elim (Contains-append_cases h.freed freed x c) [ inl w ↦ p x w | inr w ↦ (q x w).made ]
 
@@ -177,24 +169,24 @@ module _ (s : Managed) (k : ℕ) (freed candidates dead : List ℕ) (kept : IsMa
   bridge_stays x b f = ((p.frees x).0 f).2 (Reached-start (IsBridge s) (ManagedEdge s) x b)
 
   bridge-after : (x : ℕ) → IsBridge s x → IsBridge after x
-  bridge-after x b = (b.0, record { live = still-live s.heap freed x b.1.live (bridge_stays x b); held = b.1.held })
+  bridge-after x b = (b.0, record { live = IsLive-left s.heap freed x b.1.live (bridge_stays x b); held = b.1.held })
 
   bridge-before : (x : ℕ) → IsBridge after x → IsBridge s x
-  bridge-before x b = (b.0, record { live = was-live s.heap freed x b.1.live; held = b.1.held })
+  bridge-before x b = (b.0, record { live = IsLive-before s.heap freed x b.1.live; held = b.1.held })
 
   -- what leads to a row that no slot reaches is reached by none
   outside-leads : (x y : ℕ) → IsLive (with_freed s.heap freed) x → (Contains dead x → ⊥) → Contains (fields_of s.heap x) (Some y) → Contains dead y → ⊥
   outside-leads x y l n c d =
       let q = (p.leaves y).0 d in
-      let e = edge x y (was-live s.heap freed x l) c in
-      n ((p.leaves x).1 (was-live s.heap freed x l, (λ r. q.1 (Reached-then (IsManagedRoot s) (ManagedEdge s) x y r e)), wasn't-freed s.heap freed x l))
+      let e = edge x y (IsLive-before s.heap freed x l) c in
+      n ((p.leaves x).1 (IsLive-before s.heap freed x l, (λ r. q.1 (Reached-then (IsManagedRoot s) (ManagedEdge s) x y r e)), IsLive-spared s.heap freed x l))
 
   candidate-dead : (x : ℕ) → Contains candidates x → Contains dead x
   candidate-dead x c = let q = (p.picks x).0 c in (p.leaves x).1 (q.0.1.live, q.1, bridge_stays x q.0)
 
   pub snapped-cut_off : IsCutOff after opened
   snapped-cut_off = record {
-    live = λ x d. (let q = (p.leaves x).0 d in still-live s.heap freed x q.0 q.2);
+    live = λ x d. (let q = (p.leaves x).0 d in IsLive-left s.heap freed x q.0 q.2);
     unnamed = λ x r d. ((p.leaves x).0 d).1 (Reached-start (IsManagedRoot s) (ManagedEdge s) x r);
     unheld = outside-leads;
     candidates = λ x. (
@@ -210,10 +202,10 @@ module _ (s : Managed) (k : ℕ) (freed candidates dead : List ℕ) (kept : IsMa
     places = kept.places;
     vars = kept.vars;
     freed = λ x c. made-freed s.heap freed x kept.freed (λ y f. ((p.frees y).0 f).0) c;
-    roots = λ x r. still-live s.heap freed x (kept.roots x r) (slot_stays x r);
+    roots = λ x r. IsLive-left s.heap freed x (kept.roots x r) (slot_stays x r);
     fields = λ x y l c. (
-        let w = was-live s.heap freed x l in
-        still-live s.heap freed y (kept.fields x y w c) (target_stays x y w (wasn't-freed s.heap freed x l) c));
+        let w = IsLive-before s.heap freed x l in
+        IsLive-left s.heap freed y (kept.fields x y w c) (target_stays x y w (IsLive-spared s.heap freed x l) c));
     cells = kept.cells;
     dead = λ c e. subst (λ z. IsCutOff after z) (same_Some opened c e) snapped-cut_off;
   }
@@ -234,10 +226,10 @@ module _ (s : Managed) (c : OpenCycle) (staying : ℕ → Type 0) (freed : List 
     places = kept.places;
     vars = kept.vars;
     freed = λ x f. made-freed s.heap freed x kept.freed (λ y q. (kept.dead c o).live y (in_dead y q)) f;
-    roots = λ x r. still-live s.heap freed x (kept.roots x r) (λ f. (kept.dead c o).unnamed x r (in_dead x f));
+    roots = λ x r. IsLive-left s.heap freed x (kept.roots x r) (λ f. (kept.dead c o).unnamed x r (in_dead x f));
     fields = λ x y l e. (
-        let w = was-live s.heap freed x l in
-        still-live s.heap freed y (kept.fields x y w e) (further_stays x y w (wasn't-freed s.heap freed x l) e));
+        let w = IsLive-before s.heap freed x l in
+        IsLive-left s.heap freed y (kept.fields x y w e) (further_stays x y w (IsLive-spared s.heap freed x l) e));
     cells = kept.cells;
     dead = λ d e. absurd (none_some d e);
   }

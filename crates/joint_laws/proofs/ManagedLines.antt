@@ -1,9 +1,7 @@
 -- The events of a managed thread's lines that are one event, by what they may change. A fact that each of these kinds of
 -- change keeps holds after each of the events.
-use Rattle.std.proofs.Common.{◌≡◌, ℕ, inl, Bool, true, false, Option, Some, None, set, refl, sym, ◌∙◌}
+use Rattle.std.proofs.Common.{◌≡◌, ℕ, inl, Bool, true, false, Option, Some, None, set, refl}
 use Rattle.std.specs.Prelude.{Contains, if◌then◌else◌}
-use Rattle.std.proofs.lemmas.Map.Views.{list_any-from_Contains}
-use Rattle.std.proofs.lemmas.Cmp.{nat_eq_equiv}
 use Rattle.joint_model.specs.declared.names.Kind.{Kind}
 use Rattle.joint_model.specs.declared.lines.Act.{Act}
 use Rattle.joint_model.specs.declared.lines.Act.TheVariants as act
@@ -11,7 +9,8 @@ use Rattle.joint_model.specs.declared.events.Reply.{Reply}
 use Rattle.joint_model.specs.declared.events.Reply.TheVariants as says
 use Rattle.joint_model.specs.Heaps.{Heap, IsMade, IsLive, Answered, answer, slot, is_freed, is_full, next_number, place, with_var}
 use Rattle.joint_model.specs.Managed.{Managed, OpenCycle, IsManagedRoot, managed_name, with_row, cell_set, target_read, cell_read, place_or_none, managed_line, notices_taken}
-use Rattle.joint_laws.proofs.Numbered.{slot-Contains}
+use Rattle.joint_model.proofs.Numbered.{slot-Contains}
+use Rattle.joint_model.proofs.HeapLemmas.{not_freed}
 use Rattle.joint_laws.proofs.HeapMoves.{HasMoved, copied-moved, field_set-moved, field_got-moved, dropped-moved, loaded-moved, stored-moved}
 
 -- the kinds of change: none; an operation of the heap alone; a further row without a handle; a cell comes to name what a
@@ -29,9 +28,6 @@ pub record LineKeeps (s : Managed) (P : Managed → Type 0) : Type 0 where
 pub if_full : (s : Managed) (P : Managed → Type 0) (b : Bool) (r : Reply) (t : Managed) → P s → P t → P (if b then answer says.Full s else answer r t).state
 if_full s P true r t p q = p
 if_full s P false r t p q = q
-
-not_freed : (h : Heap) (x : ℕ) → is_freed h x ≡ false → Contains h.freed x → ⊥
-not_freed h x e c = (let t : true ≡ false = sym (list_any-from_Contains nat_eq_equiv x h.freed c) ∙ e in cc)
 
 abbrev weakened_by : Managed → ℕ → Option ℕ → Answered Managed
 weakened_by s k o = elim o [ None ↦ answer says.Empty s | Some x ↦ cell_set s k x (slot s.cells k) ]

@@ -13,7 +13,8 @@ use Rattle.joint_model.specs.declared.lines.Act.{Act}
 use Rattle.joint_model.specs.declared.events.Reply.TheVariants as says
 use Rattle.joint_model.specs.Heaps.{Heap, IsMade, IsLive, Answered, answer, slot, numbered_at, numbered_set, fields_of, is_full, next_number, with_var, with_object}
 use Rattle.joint_model.specs.Managed.{Managed, OpenCycle, IsManagedRoot, managed_name, with_row, adopted, without_handle, given_up, twin_kind, twin_fields, twin_met, met, managed_line, notices_taken}
-use Rattle.joint_laws.proofs.Numbered.{none_some, Contains-set_cases, slot-Contains, numbered_set-length, numbered_set-same, numbered_set-other, numbered-push_cases, numbered-push_old}
+use Rattle.joint_model.proofs.Numbered.{Contains-set_cases, slot-Contains, numbered_set-length, numbered_set-same, numbered_set-other, numbered-push_cases, numbered-push_old}
+use Rattle.joint_model.proofs.Deciding.{none_some}
 use Rattle.joint_laws.proofs.Fields.{fields-past, with_object-old, with_object-new, with_object-length}
 use Rattle.joint_laws.proofs.HeapMoves.{HasMoved}
 use Rattle.joint_laws.proofs.ManagedLines.{if_full, managed_line-keeps}

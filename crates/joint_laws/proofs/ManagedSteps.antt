@@ -8,9 +8,10 @@ use Rattle.joint_model.specs.declared.events.Reply.TheVariants as says
 use Rattle.joint_model.specs.Heaps.{IsLive, Answered, place, slot}
 use Rattle.joint_model.specs.Managed.{Managed, OpenCycle, adopted, met, given_up, snapped, resolved, abandoned}
 use Rattle.joint_model.specs.Cycles.{IsSnapshot, IsResolution, IsAnsweredAlive}
-use Rattle.joint_model.specs.ManagedReplay.{ManagedReplay, registered, adopt_by, meet_by, give_by, managed_answer, ManagedAllows}
+use Rattle.joint_model.specs.ManagedReplay.{ManagedReplay, registered, meet_by, give_by, managed_answer, ManagedAllows}
 use Rattle.joint_model.specs.Run.{thread_number}
 use Rattle.joint_model.specs.Told.{Told, nothing, snap_of, contraction_of, resolution_of, phase_of}
+use Rattle.joint_model.proofs.HeapLemmas.{adopt_by-managed}
 use Rattle.joint_laws.specs.ManagedInvariants.{IsManagedKept, IsReplayKept}
 use Rattle.joint_laws.proofs.Registered.{registered-some}
 use Rattle.joint_laws.proofs.ManagedMoves.{GoesOn, GoesOn-stay, managed_line-goes_on, adopted-goes_on, met-goes_on, given_up-goes_on}
@@ -43,11 +44,6 @@ pub data ManagedStep (s t : Managed) : Type 0 where
   resolving : Resolves s t → ManagedStep s t
   abandoning : Abandons s t → ManagedStep s t
 
--- the registry is beside the objects
-pub adopt_by-managed : (s : ManagedReplay) (p h : ℕ) (after : Managed) (r : Reply) → (adopt_by s p h after r).state.managed ≡ after
-adopt_by-managed s p h after (says.M m) = refl
-adopt_by-managed s p h after _ = refl
-
 pub meet_by-managed : (s : ManagedReplay) (p h : ℕ) (after : Managed) (r : Reply) → (meet_by s p h after r).state.managed ≡ after
 meet_by-managed s p h after (says.New m) = refl
 meet_by-managed s p h after _ = refl
@@ -55,10 +51,6 @@ meet_by-managed s p h after _ = refl
 pub give_by-managed : (s : ManagedReplay) (o : Option ℕ) (a : Answered Managed) → (give_by s o a).state.managed ≡ a.state
 give_by-managed s None a = refl
 give_by-managed s (Some m) a = refl
-
-pub adopt_by-reply : (s : ManagedReplay) (p h : ℕ) (after : Managed) (r : Reply) → (adopt_by s p h after r).reply ≡ r
-adopt_by-reply s p h after (says.M m) = refl
-adopt_by-reply s p h after _ = refl
 
 pub meet_by-reply : (s : ManagedReplay) (p h : ℕ) (after : Managed) (r : Reply) → (meet_by s p h after r).reply ≡ r
 meet_by-reply s p h after (says.New m) = refl

@@ -15,7 +15,7 @@ use Rattle.joint_model.specs.Run.{Moment}
 use Rattle.joint_model.specs.Told.{Noted}
 use Rattle.joint_model.proofs.WalkLemmas.{Reached-start, Reached-then, Reached-keeps}
 use Rattle.joint_laws.specs.LinkedInvariants.{HasStrength, IsRowOf, IsMirrored, ForCandidates}
-use Rattle.joint_laws.proofs.Lists.{Contains-nil, Contains-decided}
+use Rattle.joint_model.proofs.Members.{Contains-nil, Contains-decided}
 use Rattle.joint_laws.proofs.ManagedMoves.{GoesOn}
 use Rattle.joint_laws.proofs.Sparing.{later}
 use Rattle.joint_laws.proofs.PeerHeaps.{heap-entry}

@@ -17,12 +17,12 @@ use Rattle.joint_model.specs.Walks.{Reaches}
 use Rattle.joint_model.proofs.WalkLemmas.{Reached-start, Reached-keeps, Reaches-keeps}
 use Rattle.joint_laws.specs.LinkedInvariants.{HasStrength, IsRowOf, IsMirrored, ForCandidates}
 use Rattle.joint_laws.specs.PeerInvariants.{IsTabled, IsIssued}
-use Rattle.joint_laws.proofs.Lists.{Contains-nil, Contains-cons_cases, at-Contains}
-use Rattle.joint_laws.proofs.Numbered.{numbered-within, numbered-made}
+use Rattle.joint_model.proofs.Members.{Contains-nil, Contains-cons_cases, at-Contains}
+use Rattle.joint_model.proofs.Numbered.{numbered-within, numbered-made}
+use Rattle.joint_laws.proofs.PeerEntries.{peer_of-issued}
 use Rattle.joint_laws.proofs.DeadMirrors.{mirror_edge-managed}
 use Rattle.joint_laws.proofs.DriverSteps.{strength-one}
 use Rattle.joint_laws.proofs.JointRuns.{Stands, state_of}
-use Rattle.joint_laws.proofs.RunsFreeTwins.{peer-is}
 use Rattle.joint_laws.proofs.Watching.{IsSeen, WasSeen, IsWatched, last-seen}
 
 -- which strong handle a root is of
@@ -54,7 +54,7 @@ module _ (s : Linkage) (w : Stands s) (past : List Moment) (a : ℕ) (c : OpenCy
   now x r n = n (last-seen past a j x watched.last watched.started r)
 
   pub row-joined : (m p : ℕ) → IsRowOf s.managed.managed s.peer.peers.issued m p → IsLive s.peer.peers.heap p → IsJoined (graph_of j) m p
-  row-joined m p r l = record { handle = r.handle; holds = r.holds; leads = peer-is s.peer.peers.issued r.handle r.row r.is_issued ∙ ap Some r.leads; live = l }
+  row-joined m p r l = record { handle = r.handle; holds = r.holds; leads = peer_of-issued s.peer.peers.issued r.handle r.row r.is_issued ∙ ap Some r.leads; live = l }
 
   -- along managed fields
   managed-seen : (x y : ℕ) → Reaches (ManagedEdge s.managed.managed) x y → Seen (object x) → Seen (object y)
@@ -90,7 +90,7 @@ module _ (s : Linkage) (w : Stands s) (past : List Moment) (a : ℕ) (c : OpenCy
       owned m q =
           let out : Contains c.candidates m → ⊥ = λ cm. (let at = at-Contains c.candidates m cm in strength-one s.peer h (row, t, st) (all at.0 m h at.1 q)) in
           let u = watched.bridges m h q out in
-          watched.closed (object m) (peer i.peer) u (record { handle = h; holds = q; leads = peer-is s.peer.peers.issued h i e; live = live })
+          watched.closed (object m) (peer i.peer) u (record { handle = h; holds = q; leads = peer_of-issued s.peer.peers.issued h i e; live = live })
 
       by : (x : Hold) → i.hold ≡ x → Seen (peer i.peer)
       by raw f = now (peer i.peer) (Reached-start (IsJointRoot (graph_of j)) (JointEdge (graph_of j)) (peer i.peer)

@@ -10,11 +10,13 @@ use Rattle.joint_model.specs.Heaps.{Heap, IsMade, with_var, with_static, with_ob
 use Rattle.joint_model.specs.Peers.{Issued, Strength, strong, weak, is_strong}
 use Rattle.joint_model.specs.PeerReplay.{TableRow, Mirror, Marking, strong_peers}
 use Rattle.joint_laws.specs.PeerInvariants.{IsTabled, IsIssued, IsHeapKept, AreReferencesKept, IsSpared, IsMarkingKept}
-use Rattle.joint_laws.proofs.Lists.{Contains-here, Contains-there}
-use Rattle.joint_laws.proofs.Numbered.{none_some, Contains-set_cases}
+use Rattle.joint_model.proofs.Members.{Contains-here, Contains-there}
+use Rattle.joint_model.proofs.Numbered.{Contains-set_cases}
+use Rattle.joint_model.proofs.Deciding.{none_some}
+use Rattle.joint_model.proofs.HeapLemmas.{IsLive-later}
 use Rattle.joint_laws.proofs.Fields.{with_object-length}
 use Rattle.joint_laws.proofs.HeapMoves.{HasMoved, IsInReach}
-use Rattle.joint_laws.proofs.HeapKeeping.{moved-live, moved-was_live, object-live, object-field, object-was_live}
+use Rattle.joint_laws.proofs.HeapKeeping.{moved-live, moved-was_live, object-field, object-was_live}
 use Rattle.joint_laws.proofs.Sparing.{spared-root, spared-next, spared-later, later}
 
 module _ (h : Heap) (issued : List Issued) (table : List (Option TableRow)) (refs : List (ℕ × ℕ)) (mk : Marking) (k : IsMarkingKept h issued table refs mk) where
@@ -42,7 +44,7 @@ module _ (h : Heap) (issued : List Issued) (table : List (Option TableRow)) (ref
   pub IsMarkingKept-object : (n : ℕ) → ((p q : ℕ) → Contains refs (p, q) → IsMade h p) → IsMarkingKept (with_object h n) issued table refs mk
   IsMarkingKept-object n made = record {
     made = omega (arith, k.made, with_object-length h n);
-    existed = λ p l. object-live h n p (k.existed p l);
+    existed = λ p l. IsLive-later h n p (k.existed p l);
     fields = λ p q l c. (let f = object-field h n p q c in k.fields p q (object-was_live h n p f.0 l) f.1);
     references = λ p q l c. k.references p q (object-was_live h n p (made p q c).1 l) c;
     slots = k.slots;

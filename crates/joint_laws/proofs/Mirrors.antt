@@ -5,17 +5,17 @@
 -- x's own component is the one that was left, or there is a cross-reference to it, so mirror edges lead on to its first
 -- member. Whether the class of x has a bridge node can't be computed, but the walk over mirror edges that is looked for
 -- is decided, so it is enough that it isn't impossible.
-use Rattle.std.proofs.Common.{◌≡◌, ℕ, zero, suc, ◌<◌, arith, length, ◌⊎◌, inl, inr, List, [], ◌∷◌, ◌++◌, map, Some, refl, sym, subst, ap, ◌∙◌}
+use Rattle.std.proofs.Common.{◌≡◌, ℕ, zero, suc, ◌<◌, length, ◌⊎◌, inl, inr, List, [], ◌∷◌, ◌++◌, map, Some, refl, sym, subst, ap, ◌∙◌}
 use Rattle.std.specs.Prelude.{Contains, All, flat_map, slice_get}
-use Rattle.std.proofs.lemmas.List.Elements.{All-contains, Contains-append_cases, Contains-append_left, Contains-append_right, All-nil, All-push}
+use Rattle.std.proofs.lemmas.List.Elements.{Contains-append_cases, Contains-append_left, Contains-append_right, All-nil, All-push}
 use Rattle.std.proofs.lemmas.Option.{slice_get_within, same_Some, none-some}
 use Rattle.std.proofs.lemmas.Bool.{cases_eq}
 use Rattle.joint_model.specs.Walks.{Walks, Reaches, Mutual}
 use Rattle.joint_model.specs.Components.{IsContraction, IsPlainClass, IsCrossReference, IsMember, circle, first_of, first_at, mirror_edges}
 use Rattle.joint_model.proofs.WalkLemmas.{Walks-join, Reaches-edge, Reaches-trans, Reaches-keeps, Mutual-self, Mutual-sym, Mutual-trans}
 use Rattle.joint_laws.specs.Mirrors.{MirrorEdge, MirrorEdgesFollowWalks, WalksFollowMirrorEdges}
-use Rattle.joint_laws.proofs.Lists.{Contains-at, Contains-here, Contains-map, Contains-map_cases, Contains-flat_map, Contains-flat_map_cases, at-Contains}
-use Rattle.joint_laws.proofs.Circles.{circle-ends, circle-walks, first-member}
+use Rattle.joint_model.proofs.Members.{Contains-at, Contains-map, Contains-map_cases, Contains-flat_map, Contains-flat_map_cases, at-Contains}
+use Rattle.joint_laws.proofs.Circles.{circle-ends, circle-walks, first-member, first-there}
 use Rattle.joint_laws.proofs.FiniteReach.{reach_stable}
 
 -- the first member by the index of its component
@@ -26,22 +26,6 @@ first_at-is (c ∷ comps) (suc i) members e = first_at-is comps i members e
 
 pub first_at-member : (comps : List (List ℕ)) (i a : ℕ) → IsMember comps i a → IsMember comps i (first_at comps i)
 first_at-member comps i a m = (m.0, m.1, subst (λ z. Contains m.0 z) (sym (first_at-is comps i m.0 m.1)) (first-member m.0 a m.2))
-
--- a component within the list has a first member, where each has some member
-first-within : (comps : List (List ℕ)) (i : ℕ) → All (λ members. 0 < length members) comps → i < length comps → IsMember comps i (first_at comps i)
-first-within comps i some l = first_at-member comps i (first_of at.0) (at.0, at.1, first at.0 (All-contains (λ members. 0 < length members) comps at.0 some (Contains-at comps i at.0 at.1)))
-  where
-    there : (cs : List (List ℕ)) (n : ℕ) → n < length cs → (members : List ℕ) × (slice_get cs n ≡ Some members)
-    there [] n g = absurd (omega arith)
-    there (c ∷ cs) zero g = (c, refl)
-    there (c ∷ cs) (suc n) g = there cs n (omega (arith, g))
-
-    at : (members : List ℕ) × (slice_get comps i ≡ Some members)
-    at = there comps i l
-
-    first : (members : List ℕ) → 0 < length members → Contains members (first_of members)
-    first [] g = absurd (omega arith)
-    first (x ∷ xs) g = Contains-here x xs
 
 -- the ends of the edge that a cross-reference gives
 abbrev firsts : List (List ℕ) → ℕ × ℕ → ℕ × ℕ
@@ -104,7 +88,7 @@ module _ (bridge : ℕ → Type 0) (edge : ℕ → ℕ → Type 0) (comps : List
       ((k.members a).0 (at.0, (r.0, at.1, ends.0)), (k.members b).0 (at.0, (r.0, at.1, ends.1)))
 
   first_bridge : (i : ℕ) → i < length comps → bridge (first_at comps i)
-  first_bridge i l = (k.members (first_at comps i)).0 (i, first-within comps i k.canonical.some l)
+  first_bridge i l = (k.members (first_at comps i)).0 (i, first-there comps i k.canonical.some l)
 
   pair_ends : (a b : ℕ) → Contains (map (firsts comps) xrefs) (a, b) → bridge a × bridge b
   pair_ends a b c =

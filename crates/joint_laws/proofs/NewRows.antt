@@ -1,6 +1,6 @@
 -- A managed row that was made at an entry, and holds a handle, is in a slot after it; and a peer that is brought back is.
-use Rattle.std.proofs.Common.{◌≡◌, ℕ, zero, suc, ◌<◌, ◌≤◌, inl, inr, Bool, true, false, List, [], ◌∷◌, length, Option, Some, None, set, refl, sym, subst, arith}
-use Rattle.std.specs.Prelude.{Contains, slice_get, if◌then◌else◌}
+use Rattle.std.proofs.Common.{◌≡◌, ℕ, ◌<◌, ◌≤◌, inl, inr, Bool, true, false, List, length, Option, Some, None, set, refl, sym, subst, arith}
+use Rattle.std.specs.Prelude.{Contains, if◌then◌else◌}
 use Rattle.joint_model.specs.declared.names.Kind.{Kind}
 use Rattle.joint_model.specs.declared.names.Sort.{Sort}
 use Rattle.joint_model.specs.declared.names.Thread.{Thread}
@@ -19,20 +19,15 @@ use Rattle.joint_model.specs.ManagedReplay.{ManagedReplay, registered, managed_a
 use Rattle.joint_model.specs.Run.{thread_number}
 use Rattle.joint_model.specs.Told.{Told, Noted, nothing, snap_of, contraction_of, resolution_of, phase_of}
 use Rattle.joint_laws.specs.ManagedInvariants.{IsManagedKept, IsReplayKept}
-use Rattle.joint_laws.proofs.Numbered.{numbered-within, numbered_set-length, numbered-push_cases}
-use Rattle.joint_laws.proofs.Lists.{Contains-at}
+use Rattle.joint_model.proofs.Numbered.{numbered-within, numbered_set-length, numbered-push_cases, set-at_here}
+use Rattle.joint_model.proofs.Members.{Contains-at}
+use Rattle.joint_model.proofs.HeapLemmas.{adopt_by-managed}
 use Rattle.joint_laws.proofs.ManagedMoves.{met_by}
-use Rattle.joint_laws.proofs.ManagedSteps.{adopt_by-managed, meet_by-managed, give_by-managed}
+use Rattle.joint_laws.proofs.ManagedSteps.{meet_by-managed, give_by-managed}
 use Rattle.joint_laws.proofs.Adopting.{managed_line-same}
 
--- what was written stands in its place
-set-there : {A : Type 0} (xs : List A) (i : ℕ) (x : A) → i < length xs → slice_get (set xs i x) i ≡ Some x
-set-there [] i x l = absurd (omega arith)
-set-there (y ∷ ys) zero x l = refl
-set-there (y ∷ ys) (suc i) x l = set-there ys i x (omega arith)
-
 pub Contains-set_there : {A : Type 0} (xs : List A) (i : ℕ) (x : A) → i < length xs → Contains (set xs i x) x
-Contains-set_there xs i x l = Contains-at (set xs i x) i x (set-there xs i x l)
+Contains-set_there xs i x l = Contains-at (set xs i x) i x (set-at_here xs i x l)
 
 -- a row that holds a handle after is in a slot, or was made before
 abbrev NewNamed : Managed → Managed → Type 0

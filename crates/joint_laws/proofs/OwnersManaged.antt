@@ -15,8 +15,9 @@ use Rattle.joint_model.specs.PeerReplay.{PeerReplay}
 use Rattle.joint_laws.specs.ManagedInvariants.{IsReplayKept}
 use Rattle.joint_laws.specs.PeerInvariants.{IsIssued}
 use Rattle.joint_laws.specs.LinkedInvariants.{HasStrength, IsHeldOne, IsRowOf, AreOwnersKept, doing_in, HasInHand, IsLoose, AreCallersKept}
-use Rattle.joint_laws.proofs.Lists.{Contains-here, Contains-nil, Contains-cons_cases}
-use Rattle.joint_laws.proofs.Numbered.{none_some, numbered-within, numbered_set-same, numbered_set-other, slot-Contains}
+use Rattle.joint_model.proofs.Members.{Contains-here, Contains-nil, Contains-cons_cases}
+use Rattle.joint_model.proofs.Numbered.{numbered-within, numbered_set-same, numbered_set-other, slot-Contains}
+use Rattle.joint_model.proofs.Deciding.{none_some}
 use Rattle.joint_laws.proofs.Registered.{without_twins-parts, without_twins-keeps}
 use Rattle.joint_laws.proofs.Adopting.{held-cases, pair-cases, new-live, new-held, stays-live, pushed-still, grows, after, newest, pushed}
 use Rattle.joint_laws.proofs.DriverPeers.{made-in_hand}

@@ -19,8 +19,9 @@ use Rattle.joint_model.specs.PeerReplay.{PeerReplay, TableRow, Marking, row_of, 
 use Rattle.joint_model.specs.Run.{thread_number}
 use Rattle.joint_model.specs.Told.{Told, nothing, references_of, slice_of, sweep_of}
 use Rattle.joint_laws.specs.PeerInvariants.{IsTabled, IsIssued, IsMarkingKept, IsPeerKept}
-use Rattle.joint_laws.proofs.Lists.{Contains-nil}
-use Rattle.joint_laws.proofs.Numbered.{none_some, slot-named}
+use Rattle.joint_model.proofs.Members.{Contains-nil}
+use Rattle.joint_model.proofs.Numbered.{slot-named}
+use Rattle.joint_model.proofs.Deciding.{none_some}
 use Rattle.joint_laws.proofs.HeapKeeping.{IsHeapKept-freed}
 use Rattle.joint_laws.proofs.HandleKeeping.{AreHandlesKept-swept}
 use Rattle.joint_laws.proofs.ReferenceKeeping.{WasHeld, AreReferencesKept-none, AreReferencesKept-weakened, AreReferencesKept-restored, AreReferencesKept-mirrored}
@@ -135,7 +136,7 @@ brought-handle : (s : PeerReplay) (o : Option ℕ) → IsPeerKept s → IsPeerKe
 brought-handle s None k = k
 brought-handle s (Some p) k = kept-brought s p k
 
-peer_of-issued : (issued : List Issued) (n : ℕ) (i : Issued) → IsIssued issued n i → peer_of issued n ≡ Some i.peer
+pub peer_of-issued : (issued : List Issued) (n : ℕ) (i : Issued) → IsIssued issued n i → peer_of issued n ≡ Some i.peer
 peer_of-issued issued n i e = by (numbered_at issued n) e
   where
     by : (o : Option Issued) → o ≡ Some i → elim o [ None ↦ None | Some j ↦ Some j.peer ] ≡ Some i.peer

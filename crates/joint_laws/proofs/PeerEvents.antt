@@ -14,7 +14,8 @@ use Rattle.joint_model.specs.Managed.{place_or_none}
 use Rattle.joint_model.specs.Peers.{Peers, Issued, held, raw, Strength, strong, weak, peer_name, handle_name, next_handle, with_handle, with_peer, peer_gripped, landed, name_given, peer_read, peer_of, issued_since}
 use Rattle.joint_model.specs.PeerReplay.{PeerReplay, TableRow, fresh_row, row_of, table_target, on_table, brings, untabled, peer_thread_line, brought_to}
 use Rattle.joint_laws.specs.PeerInvariants.{IsIssued, IsPeerKept}
-use Rattle.joint_laws.proofs.Numbered.{none_some, slot-Contains, slot-named, numbered-push_new}
+use Rattle.joint_model.proofs.Numbered.{slot-Contains, slot-named, numbered-push_new}
+use Rattle.joint_model.proofs.Deciding.{none_some}
 use Rattle.joint_laws.proofs.HeapMoves.{HasMoved, copied-moved, field_set-moved, field_got-moved, dropped-moved, loaded-moved, stored-moved}
 use Rattle.joint_laws.proofs.PeerMoves.{in_reach-safe, kept-heap, kept-peer, new-live, new-safe, kept-var, kept-static, kept-issue, kept-name, kept-gone, kept-brought, brought-safe, on_table-still, on_table-issued}
 

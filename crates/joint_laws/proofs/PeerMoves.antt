@@ -11,11 +11,12 @@ use Rattle.joint_model.specs.declared.names.Sort.{Sort}
 use Rattle.joint_model.specs.Heaps.{Heap, IsLive, numbered_set, next_number, with_var, with_static, with_object}
 use Rattle.joint_model.specs.Peers.{Peers, Issued, held, raw, strong, with_peer, issued_since}
 use Rattle.joint_model.specs.PeerReplay.{PeerReplay, TableRow, Mirror, Marking, fresh_row, brought_to, opening_peer_replay}
+use Rattle.joint_model.proofs.Deciding.{none_some}
+use Rattle.joint_model.proofs.HeapLemmas.{IsLive-later}
 use Rattle.joint_laws.specs.PeerInvariants.{IsTabled, IsIssued, AreReferencesKept, IsSpared, IsMarkingKept, IsPeerKept}
-use Rattle.joint_laws.proofs.Numbered.{none_some}
 use Rattle.joint_laws.proofs.Fields.{with_object-length}
 use Rattle.joint_laws.proofs.HeapMoves.{HasMoved, IsInReach}
-use Rattle.joint_laws.proofs.HeapKeeping.{IsHeapKept-opening, IsHeapKept-moved, IsHeapKept-object, IsHeapKept-var, IsHeapKept-static, moved-live, moved-was_live, object-live, object-new, object-was_live}
+use Rattle.joint_laws.proofs.HeapKeeping.{IsHeapKept-opening, IsHeapKept-moved, IsHeapKept-object, IsHeapKept-var, IsHeapKept-static, moved-live, moved-was_live, object-new, object-was_live}
 use Rattle.joint_laws.proofs.HandleKeeping.{AreHandlesKept-opening, AreHandlesKept-heap, AreHandlesKept-name, AreHandlesKept-gone, AreHandlesKept-reset, AreHandlesKept-issue, both-cases, tabled-set_cases, issued-same}
 use Rattle.joint_laws.proofs.ReferenceKeeping.{AreReferencesKept-none, AreReferencesKept-heap, AreReferencesKept-issue}
 use Rattle.joint_laws.proofs.MarkingKeeping.{IsMarkingKept-moved, IsMarkingKept-object, IsMarkingKept-var, IsMarkingKept-static, IsMarkingKept-table, IsMarkingKept-later, in_reach-spared}
@@ -52,9 +53,9 @@ pub kept-peer : (s : PeerReplay) (sort : Sort) (n : ℕ) → IsPeerKept s → Is
 kept-peer s sort n k = record {
   heap = IsHeapKept-object s.peers.heap n k.heap;
   handles = AreHandlesKept-heap s.peers.heap (with_object s.peers.heap n) s.peers.issued s.table s.peers.names k.handles
-      (λ x m. (m.0, omega (arith, m.1, with_object-length s.peers.heap n))) (object-live s.peers.heap n) (λ x c. c);
+      (λ x m. (m.0, omega (arith, m.1, with_object-length s.peers.heap n))) (IsLive-later s.peers.heap n) (λ x c. c);
   references = AreReferencesKept-heap s.peers.heap (with_object s.peers.heap n) s.peers.issued s.refs s.mirror k.references
-      (λ x m. (m.0, omega (arith, m.1, with_object-length s.peers.heap n))) (λ x m l. object-was_live s.peers.heap n x m.1 l) (object-live s.peers.heap n);
+      (λ x m. (m.0, omega (arith, m.1, with_object-length s.peers.heap n))) (λ x m l. object-was_live s.peers.heap n x m.1 l) (IsLive-later s.peers.heap n);
   marking = λ mk e. IsMarkingKept-object s.peers.heap s.peers.issued s.table s.refs mk (k.marking mk e) n k.references.made;
 }
 

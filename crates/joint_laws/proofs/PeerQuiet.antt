@@ -12,7 +12,8 @@ use Rattle.joint_model.specs.Peers.{Peers, Issued, held, raw, Strength, strong, 
 use Rattle.joint_model.specs.PeerReplay.{PeerReplay, TableRow, Marking, fresh_row, brought_to, table_target}
 use Rattle.joint_laws.specs.PeerInvariants.{IsTabled, IsIssued}
 use Rattle.joint_laws.specs.LinkedInvariants.{HasStrength, IsHeldOne}
-use Rattle.joint_laws.proofs.Numbered.{none_some, numbered-within, numbered-push_cases, numbered-push_old, numbered_set-other}
+use Rattle.joint_model.proofs.Numbered.{numbered-within, numbered-push_cases, numbered-push_old, numbered_set-other}
+use Rattle.joint_model.proofs.Deciding.{none_some}
 use Rattle.joint_laws.proofs.HeapMoves.{IsInReach}
 use Rattle.joint_laws.proofs.HandleKeeping.{held-raw, tabled-set_cases}
 use Rattle.joint_laws.proofs.HandlesAlike.{HandlesAlike, nothing_touched}

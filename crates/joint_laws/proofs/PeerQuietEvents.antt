@@ -14,7 +14,8 @@ use Rattle.joint_model.specs.Managed.{place_or_none}
 use Rattle.joint_model.specs.Peers.{Issued, held, raw, Strength, strong, weak, peer_name, handle_name, next_handle, with_handle, with_peer, peer_gripped, landed, name_given, peer_read, issued_since}
 use Rattle.joint_model.specs.PeerReplay.{PeerReplay, Marking, fresh_row, table_target, on_table, brings, untabled, peer_thread_line, is_thread, sliced, begun, brought_to}
 use Rattle.joint_laws.specs.PeerInvariants.{IsIssued, IsPeerKept}
-use Rattle.joint_laws.proofs.Numbered.{none_some, slot-Contains, Contains-set_cases}
+use Rattle.joint_model.proofs.Numbered.{slot-Contains, Contains-set_cases}
+use Rattle.joint_model.proofs.Deciding.{none_some}
 use Rattle.joint_laws.proofs.Fields.{with_object-length}
 use Rattle.joint_laws.proofs.HeapMoves.{HasMoved, IsInReach, HasMoved-stay, copied-moved, field_set-moved, field_got-moved, dropped-moved, loaded-moved, stored-moved}
 use Rattle.joint_laws.proofs.HeapKeeping.{object-field}

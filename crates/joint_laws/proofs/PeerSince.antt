@@ -17,8 +17,8 @@ use Rattle.joint_model.specs.Peers.{Issued, strong, peer_of}
 use Rattle.joint_model.specs.PeerReplay.{PeerReplay, TableRow, Marking, row_of, bring_by, untabled, peer_thread_line, is_thread, sliced, begun, swept_of, swept, restored_by, mirrored, brought_to, brought_handle, peer_answer, table_target, with_restored}
 use Rattle.joint_model.specs.Run.{thread_number}
 use Rattle.joint_model.specs.Told.{Told, references_of, slice_of, sweep_of}
+use Rattle.joint_model.proofs.Deciding.{none_some}
 use Rattle.joint_laws.specs.PeerInvariants.{IsIssued, IsSpared, IsPeerKept}
-use Rattle.joint_laws.proofs.Numbered.{none_some}
 use Rattle.joint_laws.proofs.PeerQuietEvents.{quiet-line, quiet-pair, quiet-grip, quiet-land}
 use Rattle.joint_laws.proofs.Sparing.{spared-later, later}
 

@@ -8,8 +8,9 @@ use Rattle.joint_model.specs.Heaps.{Heap, IsMade, IsLive}
 use Rattle.joint_model.specs.Peers.{Issued, held}
 use Rattle.joint_model.specs.PeerReplay.{Mirror, with_weakened, with_restored}
 use Rattle.joint_laws.specs.PeerInvariants.{IsIssued, AreReferencesKept}
-use Rattle.joint_laws.proofs.Lists.{Contains-nil}
-use Rattle.joint_laws.proofs.Numbered.{none_some, numbered-within, numbered-push_old}
+use Rattle.joint_model.proofs.Members.{Contains-nil}
+use Rattle.joint_model.proofs.Numbered.{numbered-within, numbered-push_old}
+use Rattle.joint_model.proofs.Deciding.{none_some}
 
 -- the handle was issued as a held one
 abbrev pub WasHeld : List Issued → ℕ → Type 0

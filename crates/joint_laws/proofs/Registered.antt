@@ -1,6 +1,6 @@
 -- What the registry answers for a peer, and which pairs stay where some rows' are left out.
-use Rattle.std.proofs.Common.{◌≡◌, ℕ, inl, inr, Bool, true, false, not, List, [], ◌∷◌, Option, Some, None, cond, refl, sym, ap, subst, ◌∙◌, nat_eq}
-use Rattle.std.specs.Prelude.{Contains, filter, if◌then◌else◌}
+use Rattle.std.proofs.Common.{◌≡◌, ℕ, inl, inr, Bool, true, false, not, List, [], ◌∷◌, Option, Some, None, refl, sym, ap, subst, ◌∙◌, nat_eq}
+use Rattle.std.specs.Prelude.{Contains, if◌then◌else◌}
 use Rattle.std.specs.List.{list_any}
 use Rattle.std.proofs.lemmas.Bool.{eqb-true}
 use Rattle.std.proofs.lemmas.Bool.Decides.{Decides-eqb}
@@ -8,7 +8,7 @@ use Rattle.std.proofs.lemmas.Option.{same_Some}
 use Rattle.std.proofs.lemmas.Map.Views.{list_any-from_Contains, Contains-from_any}
 use Rattle.std.proofs.lemmas.Cmp.{nat_eq_equiv}
 use Rattle.joint_model.specs.ManagedReplay.{registered, without_twins}
-use Rattle.joint_laws.proofs.Lists.{Contains-nil, Contains-here, Contains-there, Contains-cons_cases}
+use Rattle.joint_model.proofs.Members.{Contains-nil, Contains-here, Contains-there, Contains-cons_cases, Contains-filter_from, Contains-filter_to}
 
 abbrev answered : ℕ × ℕ → List (ℕ × ℕ) → ℕ → Bool → Option ℕ
 answered pair pairs p b = if b then Some pair.1 else registered pairs p
@@ -34,18 +34,6 @@ registered-none (pair ∷ pairs) p m e c = by (nat_eq pair.0 p) refl e (λ w d. 
       | inr d ↦ rest w d
     ]
 
--- what a filter keeps was there and passes the test
-pub filter-parts : {A : Type 0} (test : A → Bool) (xs : List A) (x : A) → Contains (filter test xs) x → Contains xs x × (test x ≡ true)
-filter-parts test [] x c = absurd (Contains-nil x c)
-filter-parts {A} test (y ∷ ys) x c = by (test y) refl c (filter-parts test ys x)
-  where
-    by : (b : Bool) → test y ≡ b → Contains (cond b (y ∷ filter test ys) (filter test ys)) x → (Contains (filter test ys) x → Contains ys x × (test x ≡ true)) → Contains (y ∷ ys) x × (test x ≡ true)
-    by false q d rest = let r = rest d in (Contains-there x y ys r.0, r.1)
-    by true q d rest = elim (Contains-cons_cases y (filter test ys) x d) [
-      | inl e ↦ (subst (λ z. Contains (y ∷ ys) z) e (Contains-here y ys), subst (λ z. test z ≡ true) e q)
-      | inr w ↦ let r = rest w in (Contains-there x y ys r.0, r.1)
-    ]
-
 not-any : (xs : List ℕ) (x : ℕ) (b : Bool) → list_any (nat_eq x) xs ≡ b → not b ≡ true → Contains xs x → ⊥
 not-any xs x true e n c = cc
 not-any xs x false e n c = (let t : true ≡ false = sym (list_any-from_Contains nat_eq_equiv x xs c) ∙ e in cc)
@@ -53,27 +41,12 @@ not-any xs x false e n c = (let t : true ≡ false = sym (list_any-from_Contains
 -- the pairs that stay were there, and their row isn't in the list
 pub without_twins-parts : (pairs : List (ℕ × ℕ)) (ms : List ℕ) (p m : ℕ) → Contains (without_twins pairs ms) (p, m) → Contains pairs (p, m) × (Contains ms m → ⊥)
 without_twins-parts pairs ms p m c =
-    let r = filter-parts (λ (pair : ℕ × ℕ). not (list_any (nat_eq pair.1) ms)) pairs (p, m) c in
+    let r = Contains-filter_from (λ (pair : ℕ × ℕ). not (list_any (nat_eq pair.1) ms)) pairs (p, m) c in
     (r.0, not-any ms m (list_any (nat_eq m) ms) refl r.1)
-
--- a pair whose row isn't in the list stays
-pub filter-keeps : {A : Type 0} (test : A → Bool) (xs : List A) (x : A) → Contains xs x → test x ≡ true → Contains (filter test xs) x
-filter-keeps test [] x c q = absurd (Contains-nil x c)
-filter-keeps {A} test (y ∷ ys) x c q = by (test y) refl (λ d. filter-keeps test ys x d q)
-  where
-    by : (b : Bool) → test y ≡ b → (Contains ys x → Contains (filter test ys) x) → Contains (cond b (y ∷ filter test ys) (filter test ys)) x
-    by true e rest = elim (Contains-cons_cases y ys x c) [
-      | inl same ↦ subst (λ z. Contains (y ∷ filter test ys) z) same (Contains-here y (filter test ys))
-      | inr d ↦ Contains-there x y (filter test ys) (rest d)
-    ]
-    by false e rest = elim (Contains-cons_cases y ys x c) [
-      | inl same ↦ absurd (let t : true ≡ false = sym q ∙ (ap test (sym same) ∙ e) in cc)
-      | inr d ↦ rest d
-    ]
 
 not-any-true : (xs : List ℕ) (x : ℕ) (b : Bool) → list_any (nat_eq x) xs ≡ b → (Contains xs x → ⊥) → not b ≡ true
 not-any-true xs x false e n = refl
 not-any-true xs x true e n = absurd (n (Contains-from_any eqb-true x xs e))
 
 pub without_twins-keeps : (pairs : List (ℕ × ℕ)) (ms : List ℕ) (p m : ℕ) → Contains pairs (p, m) → (Contains ms m → ⊥) → Contains (without_twins pairs ms) (p, m)
-without_twins-keeps pairs ms p m c n = filter-keeps (λ (pair : ℕ × ℕ). not (list_any (nat_eq pair.1) ms)) pairs (p, m) c (not-any-true ms m (list_any (nat_eq m) ms) refl n)
+without_twins-keeps pairs ms p m c n = Contains-filter_to (λ (pair : ℕ × ℕ). not (list_any (nat_eq pair.1) ms)) pairs (p, m) c (not-any-true ms m (list_any (nat_eq m) ms) refl n)

@@ -15,11 +15,13 @@ use Rattle.joint_model.specs.ManagedReplay.{ManagedReplay, MayResolve, registere
 use Rattle.joint_model.specs.Run.{thread_number}
 use Rattle.joint_model.specs.Told.{Told, nothing, snap_of, contraction_of, resolution_of, phase_of}
 use Rattle.joint_laws.specs.ManagedInvariants.{IsReplayKept}
-use Rattle.joint_laws.proofs.Lists.{Contains-here}
-use Rattle.joint_laws.proofs.Numbered.{none_some, numbered_set-same, numbered_set-other}
+use Rattle.joint_model.proofs.Members.{Contains-here}
+use Rattle.joint_model.proofs.Numbered.{numbered_set-same, numbered_set-other}
+use Rattle.joint_model.proofs.Deciding.{none_some}
+use Rattle.joint_model.proofs.HeapLemmas.{IsLive-before, IsLive-left}
 use Rattle.joint_laws.proofs.Registered.{registered-some, without_twins-parts}
 use Rattle.joint_laws.proofs.ManagedMoves.{GoesOn, met_by, managed_line-goes_on, twinned-goes_on, emptied-goes_on}
-use Rattle.joint_laws.proofs.ManagedKeeping.{IsManagedKept-goes_on, IsManagedKept-snapped, IsManagedKept-resolved, IsManagedKept-abandoned, bridge_stays, still-live, was-live}
+use Rattle.joint_laws.proofs.ManagedKeeping.{IsManagedKept-goes_on, IsManagedKept-snapped, IsManagedKept-resolved, IsManagedKept-abandoned, bridge_stays}
 use Rattle.joint_laws.proofs.Adopting.{HoldsSame-as, managed_line-same, IsReplayKept-plainly, IsReplayKept-took, adopt-by}
 
 -- a `meet`, by the open cycle and the twin
@@ -78,7 +80,7 @@ give-by s v r (Some m) k e = given s v m k e
 module _ (s : ManagedReplay) (t : Managed) (freed : List ℕ) (k : IsReplayKept s) (heap : t.heap ≡ with_freed s.managed.heap freed) (held : t.held ≡ s.managed.held) where
   was-held_there : (x h : ℕ) → Holds t x h → Holds s.managed x h
   was-held_there x h q = record {
-    live = was-live s.managed.heap freed x (subst (λ z. IsLive z x) heap q.live);
+    live = IsLive-before s.managed.heap freed x (subst (λ z. IsLive z x) heap q.live);
     held = subst (λ hs. numbered_at hs x ≡ Some (Some h)) held q.held;
   }
 
@@ -86,7 +88,7 @@ module _ (s : ManagedReplay) (t : Managed) (freed : List ℕ) (k : IsReplayKept 
   still-bridge_there x b n = (
     b.0,
     record {
-      live = subst (λ z. IsLive z x) (sym heap) (still-live s.managed.heap freed x b.1.live n);
+      live = subst (λ z. IsLive z x) (sym heap) (IsLive-left s.managed.heap freed x b.1.live n);
       held = subst (λ hs. numbered_at hs x ≡ Some (Some b.0)) (sym held) b.1.held;
     },
   )

@@ -17,9 +17,9 @@ use Rattle.joint_model.specs.declared.events.Op.TheVariants as op
 use Rattle.joint_model.specs.Joint.{Joint, opening, object, IsReached, JointMarking, graph_of, peer, IsReachedIn}
 use Rattle.joint_model.specs.Run.{Moment, JointStep, JointEvent, JointSnap, IsRunFrom, JointBegin, JointSweep, EndsMarking, IsStored, JointComputed, joint_answer, joint_line, without}
 use Rattle.joint_model.specs.Told.{snap_of, Told, sweep_of, resolution_of}
+use Rattle.joint_model.proofs.Deciding.{none_some}
 use Rattle.joint_laws.specs.RunLaws.{SnapshotsAreSound, SweepsAreSound}
 use Rattle.joint_laws.proofs.ManagedFrees.{snapshot-unreached}
-use Rattle.joint_laws.proofs.Numbered.{none_some}
 
 -- the step at a place of a run
 pub step-at : (run : List Moment) (j : Joint) (i : ℕ) (m : Moment) → IsRunFrom j run → slice_get run i ≡ Some m → JointStep m.before m.noted m.after

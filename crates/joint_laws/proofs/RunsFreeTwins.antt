@@ -23,7 +23,8 @@ use Rattle.joint_model.specs.Told.{Told, Noted, sweep_of}
 use Rattle.joint_model.proofs.WalkLemmas.{Reached-then}
 use Rattle.joint_laws.specs.LinkedInvariants.{HasStrength}
 use Rattle.joint_laws.specs.PeerInvariants.{IsIssued, IsSpared}
-use Rattle.joint_laws.proofs.Lists.{Contains-decided}
+use Rattle.joint_model.proofs.Members.{Contains-decided}
+use Rattle.joint_laws.proofs.PeerEntries.{peer_of-issued}
 use Rattle.joint_laws.proofs.Sparing.{spared-stays}
 use Rattle.joint_laws.proofs.SparedWalks.{peer_of-row}
 use Rattle.joint_laws.proofs.JointSince.{held-before, peer-entry, open-there}
@@ -31,9 +32,6 @@ use Rattle.joint_laws.proofs.PeerFreed.{entry-freed, sweep-or}
 use Rattle.joint_laws.proofs.LinkedEntries.{Of, AreKept-entry}
 use Rattle.joint_laws.proofs.JointRuns.{state_of, IsTraced}
 use Rattle.joint_laws.proofs.RunsAreSound.{step-at, origin}
-
-pub peer-is : (issued : List Issued) (h : ℕ) (i : Issued) → IsIssued issued h i → peer_of issued h ≡ Some i.peer
-peer-is issued h i e = ap (λ (o : Option Issued). elim o [ None ↦ None | Some j ↦ Some j.peer ]) e
 
 -- what a sweep of the joint machine does
 sweep-freed : (b a : Joint) (x : Option JointMarking) (t : Thread) (reply : Reply) (told : Told) → b.marking ≡ x → JointSweep b x t reply told a
@@ -90,13 +88,13 @@ module _ (run : List Moment) (steps : IsRunFrom opening run) (traced : (m : Mome
           at_begin = λ b at v. elim (t.stands.since y open_here mk.0 mk.1 x h i0 q iss) [
             | inr spared ↦ spared-stays t.state.peer mk.0 freed p sweep (subst (IsSpared mk.0) on spared) c
             | inl then ↦ stored.unreached (Reached-then (IsJointRoot y.begun) (JointEdge y.begun) (object x) (peer p) (subst (λ g. IsReachedIn g (object x)) (o.graph b at) v)
-                (record { handle = h; holds = then.0; leads = peer-is y.begun.peers.issued h i0 then.1 ∙ ap Some on; live = stored.existed }))
+                (record { handle = h; holds = then.0; leads = peer_of-issued y.begun.peers.issued h i0 then.1 ∙ ap Some on; live = stored.existed }))
           ];
           before_sweep = λ b at v. (
               let here : IsReached (state_of t.state t.stands) (object x) = subst (λ z. IsReached z (object x)) t.before (subst (λ (z : Moment). IsReached z.before (object x)) (same_Some b m (sym at ∙ there)) v) in
               unreached (subst (λ z. IsReached z (peer p)) (sym t.before)
               (Reached-then (IsJointRoot (graph_of (state_of t.state t.stands))) (JointEdge (graph_of (state_of t.state t.stands))) (object x) (peer p) here
-              (record { handle = h; holds = q; leads = peer-is t.state.peer.peers.issued h i0 iss ∙ ap Some on; live = live }))));
+              (record { handle = h; holds = q; leads = peer_of-issued t.state.peer.peers.issued h i0 iss ∙ ap Some on; live = live }))));
         };
         itself = record {
           at_begin = λ b at v. stored.unreached (subst (λ g. IsReachedIn g (peer p)) (o.graph b at) v);
@@ -127,7 +125,7 @@ module _ (run : List Moment) (steps : IsRunFrom opening run) (traced : (m : Mome
           let same : i0.0 ≡ row.0 = same_Some i0.0 row.0 (sym ((peer-entry t.state m.noted t.stands.kept).issued_on h i0.0 i0.1) ∙ row.1) in
           let on : i0.0.peer ≡ p = ap (λ (z : Issued). z.peer) same ∙ row.2 in
           elim (Contains-decided t.state.peer.peers.heap.freed p) [
-            | inl was ↦ later-limit run i p x (before x h p (subst (λ z. Holds z.managed x h) (sym t.before) old) (subst (λ z. peer_of z.peers.issued h ≡ Some p) (sym t.before) (peer-is t.state.peer.peers.issued h i0.0 i0.1 ∙ ap Some on)) (subst (λ z. Contains z.peers.heap.freed p) (sym t.before) was))
+            | inl was ↦ later-limit run i p x (before x h p (subst (λ z. Holds z.managed x h) (sym t.before) old) (subst (λ z. peer_of z.peers.issued h ≡ Some p) (sym t.before) (peer_of-issued t.state.peer.peers.issued h i0.0 i0.1 ∙ ap Some on)) (subst (λ z. Contains z.peers.heap.freed p) (sym t.before) was))
             | inr not_yet ↦ now old i0.0 i0.1 on not_yet
           ]
         where

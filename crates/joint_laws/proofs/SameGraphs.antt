@@ -1,14 +1,14 @@
 -- Graphs with the same bridge nodes and edges have the same components and cross-references. And a mirror edge joins
 -- bridge nodes.
-use Rattle.std.proofs.Common.{ℕ, zero, suc, ◌<◌, ◌↔◌, inl, inr, List, [], ◌∷◌, ◌++◌, length, map, refl, subst, arith}
-use Rattle.std.specs.Prelude.{All, flat_map}
-use Rattle.std.proofs.lemmas.List.Elements.{Contains-append_cases, All-weaker, All-head, All-tail}
+use Rattle.std.proofs.Common.{ℕ, ◌↔◌, inl, inr, List, [], ◌∷◌, ◌++◌, map, subst}
+use Rattle.std.specs.Prelude.{flat_map}
+use Rattle.std.proofs.lemmas.List.Elements.{Contains-append_cases, All-weaker}
 use Rattle.joint_model.specs.Walks.{Mutual}
-use Rattle.joint_model.specs.Components.{IsContraction, IsPlainClass, IsCrossReference, IsMember, circle, first_at}
+use Rattle.joint_model.specs.Components.{IsContraction, IsPlainClass, IsCrossReference, circle, first_at}
 use Rattle.joint_model.proofs.WalkLemmas.{Walks-mono, Reaches-mono}
 use Rattle.joint_laws.specs.Mirrors.{MirrorEdge}
-use Rattle.joint_laws.proofs.Lists.{Contains-here, at-Contains, Contains-map_cases, Contains-flat_map_cases}
-use Rattle.joint_laws.proofs.Circles.{circle-ends}
+use Rattle.joint_model.proofs.Members.{at-Contains, Contains-map_cases, Contains-flat_map_cases}
+use Rattle.joint_laws.proofs.Circles.{circle-ends, first-there}
 
 Mutual-mono : (edge more : ℕ → ℕ → Type 0) → ((x y : ℕ) → edge x y → more x y) → (x y : ℕ) → Mutual edge x y → Mutual more x y
 Mutual-mono edge more m x y w = record { there = Reaches-mono edge more m x y w.there; back = Reaches-mono edge more m y x w.back }
@@ -43,13 +43,6 @@ contraction-same bridge bridge' edge edge' comps xrefs b e k = record {
     λ w. (k.references i j).1 (w.0, w.1, cross_same bridge' bridge edge' edge (λ x. ((b x).1, (b x).0)) (λ x y. ((e x y).1, (e x y).0)) (first_at comps i) (first_at comps j) w.2),
   );
 }
-
--- the first of a component that is there is a member of it
-first-there : (comps : List (List ℕ)) (i : ℕ) → All (λ members. 0 < length members) comps → i < length comps → IsMember comps i (first_at comps i)
-first-there [] i a l = absurd (omega arith)
-first-there ([] ∷ comps) zero a l = absurd (let h : 0 < 0 = All-head (λ members. 0 < length members) [] comps a in omega arith)
-first-there ((x ∷ xs) ∷ comps) zero a l = (x ∷ xs, refl, Contains-here x xs)
-first-there (c ∷ comps) (suc i) a l = first-there comps i (All-tail (λ members. 0 < length members) c comps a) (omega arith)
 
 -- a mirror edge joins bridge nodes
 pub mirror_edge-ends : (bridge : ℕ → Type 0) (edge : ℕ → ℕ → Type 0) (comps : List (List ℕ)) (xrefs : List (ℕ × ℕ)) → IsContraction bridge edge comps xrefs → (a b : ℕ) → MirrorEdge comps xrefs a b → bridge a × bridge b

@@ -14,12 +14,13 @@ use Rattle.joint_model.specs.Told.{Noted}
 use Rattle.joint_model.specs.Walks.{Reaches}
 use Rattle.joint_model.proofs.WalkLemmas.{Reaches-self}
 use Rattle.joint_laws.specs.ManagedInvariants.{IsManagedKept}
-use Rattle.joint_laws.proofs.Lists.{Contains-decided, Contains-at}
-use Rattle.joint_laws.proofs.Numbered.{numbered-within}
+use Rattle.joint_model.proofs.Members.{Contains-decided, Contains-at}
+use Rattle.joint_model.proofs.Numbered.{numbered-within}
+use Rattle.joint_laws.proofs.PeerEntries.{peer_of-issued}
 use Rattle.joint_laws.proofs.ManagedFrees.{resolution-unreached}
 use Rattle.joint_laws.proofs.JointRuns.{state_of, IsTraced}
 use Rattle.joint_laws.proofs.RunsAreSound.{step-at, next-before, first-before, earlier-there, sweeps_are_sound, snapshots_are_sound}
-use Rattle.joint_laws.proofs.RunsFreeTwins.{TwinsSwept, twins-next, peer-is}
+use Rattle.joint_laws.proofs.RunsFreeTwins.{TwinsSwept, twins-next}
 
 module _ (run : List Moment) (steps : IsRunFrom opening run) (traced : (m : Moment) → Contains run m → IsTraced m) where
   trace : (i : ℕ) (m : Moment) → slice_get run i ≡ Some m → IsTraced m
@@ -70,7 +71,7 @@ module _ (run : List Moment) (steps : IsRunFrom opening run) (traced : (m : Mome
       let b : IsBridge w.moment.before.managed m = (((kept.dead r.cycle r.open_cycle.0).candidates m).0 cm).1 in
       let here : Holds t.state.managed.managed m b.0 = subst (λ (z : Joint). Holds z.managed m b.0) t.before b.1 in
       let i0 = t.stands.kept.owners.held_ones m b.0 here in
-      let leads : peer_of w.moment.before.peers.issued b.0 ≡ Some i0.0.peer = subst (λ (z : Joint). peer_of z.peers.issued b.0 ≡ Some i0.0.peer) (sym t.before) (peer-is t.state.peer.peers.issued b.0 i0.0 i0.1) in
+      let leads : peer_of w.moment.before.peers.issued b.0 ≡ Some i0.0.peer = subst (λ (z : Joint). peer_of z.peers.issued b.0 ≡ Some i0.0.peer) (sym t.before) (peer_of-issued t.state.peer.peers.issued b.0 i0.0 i0.1) in
       record {
         moment = w.moment;
         there = w.there;

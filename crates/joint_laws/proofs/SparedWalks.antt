@@ -21,8 +21,8 @@ use Rattle.joint_laws.specs.ManagedInvariants.{IsCutOff}
 use Rattle.joint_laws.specs.Mirrors.{MirrorEdge}
 use Rattle.joint_laws.specs.PeerInvariants.{IsIssued, IsSpared, IsMarkingKept}
 use Rattle.joint_laws.specs.LinkedInvariants.{HasStrength, IsRowOf, IsDriverKept, IsMirrored, IsRestoredBy}
-use Rattle.joint_laws.proofs.Lists.{Contains-nil, Contains-decided, at-Contains}
-use Rattle.joint_laws.proofs.Numbered.{none_some}
+use Rattle.joint_model.proofs.Members.{Contains-nil, Contains-decided, at-Contains}
+use Rattle.joint_model.proofs.Deciding.{none_some}
 use Rattle.joint_laws.proofs.HandleKeeping.{held-raw}
 use Rattle.joint_laws.proofs.DeadMirrors.{candidates-mirrored}
 use Rattle.joint_laws.proofs.SameGraphs.{mirror_edge-ends}

@@ -13,7 +13,8 @@ use Rattle.joint_model.specs.Peers.{Issued}
 use Rattle.joint_model.specs.Run.{Moment}
 use Rattle.joint_model.specs.Told.{Noted}
 use Rattle.joint_model.proofs.WalkLemmas.{Reached-start, Reached-then}
-use Rattle.joint_laws.proofs.Numbered.{none_some}
+use Rattle.joint_model.proofs.Deciding.{none_some}
+use Rattle.joint_laws.proofs.PeerEntries.{peer_of-issued}
 use Rattle.joint_laws.proofs.Fields.{fields-past}
 use Rattle.joint_laws.proofs.ManagedMoves.{GoesOn}
 use Rattle.joint_laws.proofs.SparedWalks.{peer_of-row}
@@ -21,7 +22,6 @@ use Rattle.joint_laws.proofs.JointRuns.{Stands, state_of}
 use Rattle.joint_laws.proofs.JointSince.{peer-entry}
 use Rattle.joint_laws.proofs.NewRows.{new-named}
 use Rattle.joint_laws.proofs.PeerHeaps.{heap-entry}
-use Rattle.joint_laws.proofs.RunsFreeTwins.{peer-is}
 
 -- reached in the state at an entry from place a on
 pub record IsSeen (past : List Moment) (a : ℕ) (x : Row) : Type 0 where
@@ -118,7 +118,7 @@ module _ (s : Linkage) (n : Noted) (may : MayCome s n) (w : Stands s) (v : Stand
       record {
         handle = e.handle;
         holds = holds;
-        leads = peer-is s.peer.peers.issued e.handle i.0 i.1 ∙ ap Some on;
+        leads = peer_of-issued s.peer.peers.issued e.handle i.0 i.1 ∙ ap Some on;
         live = (heap-entry s n).back p (subst (λ z. IsMade s.peer.peers.heap z) on (w.kept.peer.handles.peers e.handle i.0 i.1)) e.live;
       }
 

@@ -10,9 +10,10 @@ use Rattle.std.proofs.lemmas.List.{take_all, map-set, map-append, length-map}
 use Rattle.std.proofs.lemmas.Option.{slice_get-get_or, slice_get-map, slice_get_read}
 use Rattle.joint_model.specs.Heaps.{Heap, IsLive, fields_of, slot}
 use Rattle.joint_model.specs.Joint.{Graph, IsJoined}
-use Rattle.reachability.proofs.Marking.{Contains-nil, take-next}
+use Rattle.joint_model.proofs.Members.{Contains-nil, last-or}
+use Rattle.joint_model.proofs.Deciding.{none_some, some-same}
+use Rattle.reachability.proofs.Marking.{take-next}
 use Rattle.joint_marking.specs.Nodes.{Adds, AreWithin, HasNone, IsPair, IsRound, FieldEdge, ObjectField, ObjectEdge, objects_in, targets_at}
-use Rattle.joint_marking.proofs.Gathering.{last-or}
 
 -- what a row has after a write to a row: the written one has what was written, and each other what it had
 set-from : (rows : List (List ℕ)) (a k : ℕ) (r : List ℕ) (j : ℕ) → Contains (targets_at (set rows a r) k) j → ((k ≡ a) × Contains r j) ⊎ Contains (targets_at rows k) j
@@ -142,12 +143,6 @@ slot-some (Some x) p q e f = ap Some f
 slot-at : (xs : List (Option ℕ)) (i : ℕ) (o : Option ℕ) → i < length xs → slot xs i ≡ o → slice_get xs i ≡ Some o
 slot-at xs i o l e = slot-some (slice_get xs i) (get_or xs i None) o (slice_get-get_or xs i None l) e
 
-none-some : (y : ℕ) → None ≡ Some y → ⊥
-none-some y e = cc
-
-some-same : (y z : ℕ) → Some y ≡ Some z → y ≡ z
-some-same y z e = cc
-
 -- one place more, which holds a target
 pub Places-push : (live : ℕ → Type 0) (node : ℕ → ℕ) (x : ℕ) (fields : List (Option ℕ)) (i y : ℕ) (a b c : List (List ℕ)) → i < length fields → slot fields i ≡ Some y → live y → Adds (PlacesBelow live node x fields i) a b → Adds (IsPair (node x) (node y)) b c → Adds (PlacesBelow live node x fields (i + 1)) a c
 Places-push live node x fields i y a b c l s v d f =
@@ -168,7 +163,7 @@ Places-skip live node x fields i a b l s d =
     Adds-as (PlacesBelow live node x fields i) (PlacesBelow live node x fields (i + 1)) a b
     (λ k j e. elim (Contains-push_cases (take i fields) None (Some e.target) (subst (λ t. Contains t (Some e.target)) more e.held)) [
       | inl h ↦ record { target = e.target; held = h; there = e.there; ends = e.ends }
-      | inr h ↦ absurd (none-some e.target h)
+      | inr h ↦ absurd (none_some e.target h)
     ])
     (λ k j e. record { target = e.target; held = subst (λ t. Contains t (Some e.target)) (sym more) (Contains-append_left (take i fields) (None ∷ []) (Some e.target) e.held); there = e.there; ends = e.ends })
     d
@@ -195,7 +190,7 @@ Object-twin g x p a b c t = Adds-then (ObjectField g x) (IsRound x (objects_in g
 -- a managed object without a twin
 pub Object-alone : (g : Graph) (x : ℕ) (a b : List (List ℕ)) → ((q : ℕ) → (None ≡ Some q) ↔ IsJoined g x q) → Adds (ObjectField g x) a b → Adds (ObjectEdge g x) a b
 Object-alone g x a b t = Adds-as (ObjectField g x) (ObjectEdge g x) a b
-    (λ k j e. elim e [ inl w ↦ w | inr w ↦ absurd (none-some w.twin ((t w.twin).1 w.joined)) ])
+    (λ k j e. elim e [ inl w ↦ w | inr w ↦ absurd (none_some w.twin ((t w.twin).1 w.joined)) ])
     (λ k j e. inl e)
 
 -- the edges that the rows below i bring

@@ -2,18 +2,18 @@
 use Rattle.std.proofs.Common.{◌≡◌, ℕ, ◌+◌, ◌<◌, ◌↔◌, ◌⊎◌, inl, inr, Bool, List, length, Some, None, sym, subst, ◌∙◌, arith}
 use Rattle.joint_model.specs.Heaps.{IsLive}
 use Rattle.joint_model.specs.Managed.{Managed, Holds, handle_of}
+use Rattle.joint_model.proofs.Members.{last-or}
+use Rattle.joint_model.proofs.HeapLemmas.{Holds-handle_of}
 use Rattle.reachability.specs.Marks.{IsMarked}
-use Rattle.joint_marking.specs.Owned.{IsOwnedBelow, IsOwned}
-use Rattle.joint_marking.proofs.Gathering.{last-or}
-use Rattle.joint_marking.proofs.Twins.{handle-Holds}
+use Rattle.joint_marking.specs.Owned.{IsOwnedBelow}
 
 -- an object holds at most one handle
 pub Holds-one : (s : Managed) (m h k : ℕ) → handle_of s m ≡ Some h → Holds s m k → h ≡ k
-Holds-one s m h k e w = (let f : Some h ≡ Some k = sym e ∙ handle-Holds s m k w in cc)
+Holds-one s m h k e w = (let f : Some h ≡ Some k = sym e ∙ Holds-handle_of s m k w in cc)
 
 -- an object without a handle holds none
 pub Holds-none : (s : Managed) (m k : ℕ) → handle_of s m ≡ None → Holds s m k → ⊥
-Holds-none s m k e w = (let f : None ≡ Some k = sym e ∙ handle-Holds s m k w in cc)
+Holds-none s m k e w = (let f : None ≡ Some k = sym e ∙ Holds-handle_of s m k w in cc)
 
 -- an object without a handle marks none
 pub marks-none : (s : Managed) (m : ℕ) (old : List Bool) → handle_of s m ≡ None → (k : ℕ) → IsMarked old k ↔ (IsMarked old k ⊎ (Holds s m k × (k < length old)))
@@ -45,11 +45,4 @@ owned-skip s m old n dead before h = (
     | inl l ↦ (before h).1 (record { owner = w.owner; below = l; holds = w.holds; marked = w.marked })
     | inr e ↦ absurd (dead (subst (IsLive s.heap) e w.holds.live))
   ],
-)
-
--- every object was asked
-pub owned-all : (s : Managed) (m : ℕ) (marks : List Bool) (n : ℕ) → length s.heap.fields < m → ((h : ℕ) → IsMarked marks h ↔ IsOwnedBelow s m n h) → (h : ℕ) → IsMarked marks h ↔ IsOwned s n h
-owned-all s m marks n past before h = (
-  λ c. (let w = (before h).0 c in record { owner = w.owner; holds = w.holds; marked = w.marked }),
-  λ w. (before h).1 (record { owner = w.owner; below = omega (arith, w.holds.live.made.1); holds = w.holds; marked = w.marked }),
 )

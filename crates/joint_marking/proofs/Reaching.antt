@@ -13,9 +13,9 @@ use Rattle.joint_model.specs.Histories.{managed_numbers, peer_numbers}
 use Rattle.joint_model.specs.Joint.{Graph, Row, object, peer, JointEdge, IsJointRoot, IsReachedIn}
 use Rattle.joint_model.specs.Walks.{Reached}
 use Rattle.joint_model.proofs.WalkLemmas.{Reached-keeps, Reached-start, Reached-then}
+use Rattle.joint_model.proofs.Members.{Contains-map, Contains-map_cases, All-members}
 use Rattle.reachability.specs.Marks.{Leads, IsMarked}
 use Rattle.joint_marking.specs.Gathered.{RisesWith}
-use Rattle.joint_marking.proofs.Gathering.{All-members, Contains-map, map-Contains}
 use Rattle.joint_marking.specs.Nodes.{Adds, AreLive, HasEdges, HasNone, EdgesOfObjects, EdgesOfPeers, ObjectEdge, IsLiveRow, IsLiveRoot, IsRootNode, IsUnmarkedPeer, node_count, node_of, objects_in, targets_at}
 
 -- the rows have the edges of both heaps, which were added one after the other
@@ -87,14 +87,14 @@ node-same g (peer p) (peer q) v w e = ap peer (omega (arith, e))
 
 -- the places of a node are its targets
 place-target : (xs : List ℕ) (j : ℕ) → Contains (map Some xs) (Some j) → Contains xs j
-place-target xs j c = (let r = map-Contains Some xs (Some j) c in let e : r.0 ≡ j = cc (r.2) in subst (Contains xs) e r.1)
+place-target xs j c = (let r = Contains-map_cases Some xs (Some j) c in let e : r.0 ≡ j = cc (r.2) in subst (Contains xs) e r.1)
 
 -- the nodes of the listed roots
 root-listed : (g : Graph) (objects : List MNum) (peers : List PNum) → ((x : ℕ) → Contains (managed_numbers objects) x ↔ IsLiveRoot g (object x)) → ((p : ℕ) → Contains (peer_numbers peers) p ↔ IsLiveRoot g (peer p))
     → (r : Row) → IsLiveRoot g r → Contains (managed_numbers objects ++ map (λ p. objects_in g + p.0) peers) (node_of g r)
 root-listed g objects peers h w (object x) r = Contains-append_left (managed_numbers objects) (map (λ p. objects_in g + p.0) peers) x ((h x).1 r)
 root-listed g objects peers h w (peer p) r =
-    let q = map-Contains (λ (p : PNum). p.0) peers p ((w p).1 r) in
+    let q = Contains-map_cases (λ (p : PNum). p.0) peers p ((w p).1 r) in
     Contains-append_right (managed_numbers objects) (map (λ p. objects_in g + p.0) peers) (objects_in g + p)
     (subst (λ t. Contains (map (λ p. objects_in g + p.0) peers) (objects_in g + t)) q.2 (Contains-map (λ (p : PNum). objects_in g + p.0) peers q.0 q.1))
 
@@ -103,7 +103,7 @@ pub roots-exact : (g : Graph) (objects : List MNum) (peers : List PNum) (nodes :
 roots-exact g objects peers nodes h w e k = rw e (
   λ c. elim (Contains-append_cases (managed_numbers objects) (map (λ p. objects_in g + p.0) peers) k c) [
     | inl l ↦ record { row = object k; root = (h k).0 l; at = refl }
-    | inr l ↦ (let q = map-Contains (λ (p : PNum). objects_in g + p.0) peers k l in
+    | inr l ↦ (let q = Contains-map_cases (λ (p : PNum). objects_in g + p.0) peers k l in
         record { row = peer q.0.0; root = (w q.0.0).0 (Contains-map (λ (p : PNum). p.0) peers q.0 q.1); at = sym q.2 })
   ],
   λ r. subst (Contains (managed_numbers objects ++ map (λ p. objects_in g + p.0) peers)) (sym r.at) (root-listed g objects peers h w r.row r.root),

@@ -8,33 +8,23 @@ use Rattle.joint_model.specs.Heaps.{IsLive, is_freed, numbered_at}
 use Rattle.joint_model.specs.Joint.{Graph, IsJoined}
 use Rattle.joint_model.specs.Managed.{Managed, Holds, handle_of}
 use Rattle.joint_model.specs.Peers.{peer_of}
-use Rattle.object_heap.proofs.Targets.{is_freed-live}
+use Rattle.joint_model.proofs.Deciding.{none_some}
+use Rattle.joint_model.proofs.HeapLemmas.{Holds-handle_of}
 
 held-from : (b : Bool) (o : Option (Option ℕ)) (h : ℕ) → cond b None (elim o [ None ↦ None | Some k ↦ k ]) ≡ Some h → o ≡ Some (Some h)
 held-from true o h e = cc
 held-from false None h e = cc
 held-from false (Some k) h e = ap Some e
 
-held-to : (b : Bool) (o : Option (Option ℕ)) (h : ℕ) → b ≡ false → o ≡ Some (Some h) → cond b None (elim o [ None ↦ None | Some k ↦ k ]) ≡ Some h
-held-to true o h f e = cc
-held-to false None h f e = cc
-held-to false (Some k) h f e = cc
-
 -- what a live object's handle is
 pub Holds-handle : (s : Managed) (x h : ℕ) → IsLive s.heap x → handle_of s x ≡ Some h → Holds s x h
 Holds-handle s x h v e = record { live = v; held = held-from (is_freed s.heap x) (numbered_at s.held x) h e }
 
-pub handle-Holds : (s : Managed) (x h : ℕ) → Holds s x h → handle_of s x ≡ Some h
-handle-Holds s x h w = held-to (is_freed s.heap x) (numbered_at s.held x) h (is_freed-live s.heap x w.live) w.held
-
 -- an object's twin is on the handle that it holds
 joined-leads : (g : Graph) (x h p q : ℕ) → handle_of g.managed x ≡ Some h → peer_of g.peers.issued h ≡ Some p → IsJoined g x q → p ≡ q
 joined-leads g x h p q e l j =
-    let same : h ≡ j.handle = cc (sym e ∙ handle-Holds g.managed x j.handle j.holds) in
+    let same : h ≡ j.handle = cc (sym e ∙ Holds-handle_of g.managed x j.handle j.holds) in
     cc (sym l ∙ (ap (peer_of g.peers.issued) same ∙ j.leads))
-
-none-some : (q : ℕ) → None ≡ Some q → ⊥
-none-some q e = cc
 
 -- the peer of the handle is live: it is the one twin
 pub twin-live : (g : Graph) (x h p : ℕ) → IsLive g.managed.heap x → handle_of g.managed x ≡ Some h → peer_of g.peers.issued h ≡ Some p → IsLive g.peers.heap p → (q : ℕ) → (Some p ≡ Some q) ↔ IsJoined g x q
@@ -46,15 +36,15 @@ twin-live g x h p v e l w q = (
 -- that peer was freed: there is no twin
 pub twin-freed : (g : Graph) (x h p : ℕ) → handle_of g.managed x ≡ Some h → peer_of g.peers.issued h ≡ Some p → (IsLive g.peers.heap p → ⊥) → (q : ℕ) → (None ≡ Some q) ↔ IsJoined g x q
 twin-freed g x h p e l dead q = (
-  λ s. absurd (none-some q s),
+  λ s. absurd (none_some q s),
   λ j. absurd (dead (subst (IsLive g.peers.heap) (sym (joined-leads g x h p q e l j)) j.live)),
 )
 
 -- the object holds no handle: there is no twin
 pub twin-none : (g : Graph) (x : ℕ) → handle_of g.managed x ≡ None → (q : ℕ) → (None ≡ Some q) ↔ IsJoined g x q
 twin-none g x e q = (
-  λ s. absurd (none-some q s),
-  λ j. absurd (none-some j.handle (sym e ∙ handle-Holds g.managed x j.handle j.holds)),
+  λ s. absurd (none_some q s),
+  λ j. absurd (none_some j.handle (sym e ∙ Holds-handle_of g.managed x j.handle j.holds)),
 )
 
 -- an answer that is told by cases, as one value

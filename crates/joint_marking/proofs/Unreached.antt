@@ -10,8 +10,8 @@ use Rattle.joint_model.specs.Joint.{Graph, Row, object, peer, IsJoined, JointEdg
 use Rattle.joint_model.specs.Managed.{IsManagedRoot}
 use Rattle.joint_model.specs.Walks.{Reaches}
 use Rattle.joint_model.proofs.WalkLemmas.{Reached-start, Reached-then, Reaches-keeps}
+use Rattle.joint_model.proofs.Members.{All-members}
 use Rattle.object_heap.specs.Tidy.{CanFree}
-use Rattle.joint_marking.proofs.Gathering.{All-members}
 
 -- a reached row leads to reached rows
 reached-then : (g : Graph) (r s : Row) → IsReachedIn g r → JointEdge g r s → IsReachedIn g s

@@ -1,3 +1,7 @@
+pub mod Deciding
+pub mod Members
+pub mod Numbered
+pub mod HeapLemmas
 pub mod DrawnInTurn
 pub mod Joining
 pub mod WalkLemmas

@@ -5,8 +5,8 @@ use Rattle.joint_model.specs.Heaps.{Heap, HasField, fields_of}
 use Rattle.joint_model.specs.Joint.{Graph, Row, object, peer, IsJoined, JointEdge, IsJointRoot, IsReachedIn}
 use Rattle.joint_model.specs.Managed.{Holds}
 use Rattle.joint_model.proofs.WalkLemmas.{Reached-mono}
+use Rattle.joint_model.proofs.Members.{Contains-map, Contains-map_cases}
 use Rattle.joint_marking.specs.Nodes.{IsLiveRoot}
-use Rattle.joint_marking.proofs.Gathering.{Contains-map, map-Contains}
 use Rattle.joint_replay.specs.Graphs.{clean_graph}
 use Rattle.joint_replay.specs.Plain.{cleaned, kept_target}
 use Rattle.joint_replay.proofs.Finding.{fields-cleaned, kept-live, live-kept, live-cleaned, cleaned-live}
@@ -14,7 +14,7 @@ use Rattle.joint_replay.proofs.Finding.{fields-cleaned, kept-live, live-kept, li
 -- a clean heap has the same edges
 pub clean-field : (h : Heap) (x y : ℕ) → HasField (cleaned h) x y → HasField h x y
 clean-field h x y f =
-    let r = map-Contains (kept_target h) (fields_of h x) (Some y) (subst (λ l. Contains l (Some y)) (fields-cleaned h x) f.field) in
+    let r = Contains-map_cases (kept_target h) (fields_of h x) (Some y) (subst (λ l. Contains l (Some y)) (fields-cleaned h x) f.field) in
     let k = kept-live h r.0 y r.2 in
     record { live = cleaned-live h x f.live; field = subst (Contains (fields_of h x)) k.0 r.1; there = k.1 }
 

@@ -1,7 +1,7 @@
 -- What a snapshot finds. A marking over the open fields marks what is reached over fields of the heap: the open fields
 -- are those between live objects. A root that isn't live leads nowhere, so the live roots reach as much.
-use Rattle.std.proofs.Common.{◌≡◌, ℕ, zero, suc, ◌+◌, ◌<◌, ◌↔◌, ◌⊎◌, inl, inr, Bool, true, false, List, [], ◌∷◌, ◌++◌, length, map, take, Option, Some, None, refl, sym, ap, subst, ◌∙◌, arith, if◌then◌else◌}
-use Rattle.std.specs.Prelude.{Contains, All, slice_get}
+use Rattle.std.proofs.Common.{◌≡◌, ℕ, zero, suc, ◌+◌, ◌↔◌, ◌⊎◌, inl, inr, Bool, true, false, List, [], ◌∷◌, ◌++◌, length, map, take, Option, Some, None, refl, sym, ap, subst, ◌∙◌, arith, if◌then◌else◌}
+use Rattle.std.specs.Prelude.{Contains, slice_get}
 use Rattle.std.specs.Option.{option_map}
 use Rattle.std.proofs.lemmas.List.{length-map}
 use Rattle.std.proofs.lemmas.List.Elements.{Contains-push, Contains-push_cases, Contains-append_left}
@@ -9,19 +9,21 @@ use Rattle.std.proofs.lemmas.Option.{slice_get-map}
 use Rattle.joint_model.specs.Heaps.{Heap, IsLive, HasField, InSlot, fields_of}
 use Rattle.joint_model.specs.Walks.{Reached}
 use Rattle.joint_model.proofs.WalkLemmas.{Reached-mono, Reached-keeps, Reached-start, Reached-then}
+use Rattle.joint_model.proofs.Members.{Contains-nil, Contains-map, Contains-map_cases}
+use Rattle.joint_model.proofs.Deciding.{true-false, false-from}
 use Rattle.object_heap.specs.Tidy.{live_fields}
 use Rattle.object_heap.proofs.Sound.{IsLive-as}
 use Rattle.object_heap.proofs.Targets.{live_fields-live, live_fields-held}
 use Rattle.reachability.specs.Marks.{Leads, IsMarked}
-use Rattle.reachability.proofs.Marking.{Contains-nil, take-next}
+use Rattle.reachability.proofs.Marking.{take-next}
 use Rattle.managed_heap.specs.Found.{IsUnreachedRow, IsCandidateRow}
 use Rattle.managed_heap.specs.Unmarked.{marked}
-use Rattle.managed_heap.proofs.Gathering.{All-members, IsMarked-test, test-IsMarked}
-use Rattle.joint_marking.proofs.Gathering.{Contains-map, map-Contains}
+use Rattle.managed_heap.proofs.Gathering.{IsMarked-test, test-IsMarked}
 use Rattle.joint_replay.specs.Plain.{cleaned, kept_target, is_live}
 use Rattle.joint_marking.specs.Gathered.{Gains}
 use Rattle.joint_replay.specs.Roots.{IsNamedLive, Lists}
-use Rattle.joint_replay.specs.Finding.{Finds, IsSlotReached, IsHandleReached}
+use Rattle.managed_heap.specs.Found.{IsSlotReached, IsHandleReached}
+use Rattle.joint_replay.specs.Finding.{Finds}
 use Rattle.joint_replay.proofs.Flags.{is_live-exact}
 
 -- the open fields of an object
@@ -64,7 +66,7 @@ HasField-open h x y = (
   ),
   λ l. (
       let w = live_fields-held (cleaned h) x (Some y) l.1 in
-      let r = map-Contains (kept_target h) (fields_of h x) (Some y) (subst (λ z. Contains z (Some y)) (fields-cleaned h x) w.1) in
+      let r = Contains-map_cases (kept_target h) (fields_of h x) (Some y) (subst (λ z. Contains z (Some y)) (fields-cleaned h x) w.1) in
       let k = kept-live h r.0 y r.2 in
       record { live = cleaned-live h x w.0; field = subst (Contains (fields_of h x)) k.0 r.1; there = k.1 }
       ),
@@ -85,17 +87,6 @@ live-reached h P k l = (
       (λ x p v. Reached-start (λ z. IsLive h z × P z) (HasField h) x (v, p))
       (λ x y e q v. Reached-then (λ z. IsLive h z × P z) (HasField h) x y (q e.live) e) k r l,
 )
-
--- roots that are live are nodes
-pub live-within : (h : Heap) (xs : List ℕ) → ((x : ℕ) → Contains xs x → IsLive h x) → All (λ y. y < length h.fields + 1) xs
-live-within h xs l = All-members (λ y. y < length h.fields + 1) xs (λ x c. (let v = l x c in omega (arith, v.made.1)))
-
-false-from : (b : Bool) → (b ≡ true → ⊥) → b ≡ false
-false-from true n = absurd (n refl)
-false-from false n = refl
-
-true-false : (b : Bool) → b ≡ true → b ≡ false → ⊥
-true-false b e f = cc
 
 -- an unmarked row isn't reached, and the other way round
 apart : (R : Type 0) (marks : List Bool) (m : ℕ) → IsMarked marks m ↔ R → (marked marks m ≡ false) ↔ (R → ⊥)
@@ -140,10 +131,6 @@ Finds-from h held slots bridges freed candidates dead s b f d c =
       };
       decides = λ m l. decided (IsHandleReached h held m) bridges m (marked bridges m) refl (b m);
     }
-
--- what the slots so far name
-pub named-none : (h : Heap) (xs : List ℕ) → Gains (IsNamedLive h []) xs xs
-named-none h xs k = (λ c. inl c, λ w. elim w [ inl c ↦ c | inr n ↦ absurd (Contains-nil (Some k) n.1) ])
 
 pub named-put : (h : Heap) (slots : List (Option ℕ)) (old now next : List ℕ) (i x : ℕ) → IsLive h x → slice_get slots i ≡ Some (Some x) → next ≡ now ++ x ∷ [] → Gains (IsNamedLive h (take i slots)) old now → Gains (IsNamedLive h (take (i + 1) slots)) old next
 named-put h slots old now next i x l at n g k =

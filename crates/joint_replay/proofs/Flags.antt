@@ -11,8 +11,9 @@ use Rattle.std.proofs.lemmas.Map.Views.{list_any-from_Contains, Contains-from_an
 use Rattle.std.proofs.lemmas.Option.{slice_get_within}
 use Rattle.joint_model.specs.Heaps.{Heap, MOST, IsMade, IsLive, is_freed, numbered_at, fields_of}
 use Rattle.joint_model.proofs.Joining.{same_or_not, slice_get-set_same, slice_get-set_other}
-use Rattle.object_heap.proofs.Numbered.{numbered-push_cases, row-none, numbered-past}
-use Rattle.reachability.proofs.Marking.{Contains-nil}
+use Rattle.joint_model.proofs.Numbered.{numbered-past, numbered-push_cases}
+use Rattle.joint_model.proofs.Deciding.{not-true, not-from}
+use Rattle.object_heap.proofs.Numbered.{row-none}
 use Rattle.joint_replay.specs.Plain.{IsFlagged, Lowers, is_live}
 
 le_or_lt : (a b : ℕ) → (a ≤ b) ⊎ (b < a)
@@ -60,11 +61,6 @@ IsFlagged-past h flags x f past = (
   λ c. absurd (let m = f.made x c in past m.0 (omega (arith, m.1, f.len))),
 )
 
--- what wasn't made has no fields
-pub fields_of-past : (h : Heap) (x : ℕ) → (1 ≤ x → x ≤ length h.fields → ⊥) → length (fields_of h x) ≡ 0
-fields_of-past h zero past = refl
-fields_of-past h (suc i) past = ap length (row-none h.fields (suc i) (numbered-past h.fields (suc i) (omega (arith, past))))
-
 -- what has a field was made
 pub fields_of-made : (h : Heap) (x i : ℕ) → i < length (fields_of h x) → IsMade h x
 fields_of-made h zero i l = absurd (omega (arith, l))
@@ -93,14 +89,6 @@ true-both : (a b : Bool) → a ≡ true → b ≡ true → a && b ≡ true
 true-both true b e f = f
 true-both false b e f = (let g : false ≡ true = e in cc)
 
-not-true : (b : Bool) → not b ≡ true → b ≡ true → ⊥
-not-true true e f = (let g : false ≡ true = e in cc)
-not-true false e f = (let g : false ≡ true = f in cc)
-
-true-not : (b : Bool) → (b ≡ true → ⊥) → not b ≡ true
-true-not true n = absurd (n refl)
-true-not false n = refl
-
 pub is_live-exact : (h : Heap) (x : ℕ) → (is_live h x ≡ true) ↔ IsLive h x
 is_live-exact h x = (
   λ e.
@@ -109,7 +97,7 @@ is_live-exact h x = (
       record { made = (leb-true 1 x q.0, leb-true x (length h.fields) q.1); kept = λ c. not-true (is_freed h x) p.1 (list_any-from_Contains nat_eq_equiv x h.freed c) },
   λ l. true-both (nat_le 1 x && nat_le x (length h.fields)) (not (is_freed h x))
       (true-both (nat_le 1 x) (nat_le x (length h.fields)) (le-leb 1 x l.made.0) (le-leb x (length h.fields) l.made.1))
-      (true-not (is_freed h x) (λ e. l.kept (Contains-from_any eqb-true x h.freed e))),
+      (not-from (is_freed h x) (λ e. l.kept (Contains-from_any eqb-true x h.freed e))),
 )
 
 pub is_freed-exact : (h : Heap) (x : ℕ) → (is_freed h x ≡ true) ↔ Contains h.freed x
@@ -141,10 +129,6 @@ IsFlagged-freed h k flags down xs f made low len gone vars statics = record {
     | inr w ↦ Contains-append_right h.freed xs x w
   ]);
 }
-
--- no flag is taken down yet
-pub Lowers-none : (flags : List Bool) → Lowers [] flags flags
-Lowers-none flags = record { len = refl; up = λ x e. (e, λ c. Contains-nil x c); down = λ x e. inl e }
 
 -- what stands at a number after a write at a number
 set-number : (flags : List Bool) (n x : ℕ) (b c : Bool) → 1 ≤ n → numbered_at (set flags (n - 1) b) x ≡ Some c → (numbered_at flags x ≡ Some c) ⊎ ((x ≡ n) × (b ≡ c))

@@ -2,7 +2,7 @@
 use Rattle.std.proofs.Common.{◌≡◌, ℕ, ◌<◌, Bool, false, List, Option, Some, None, refl, ◌≤◌, length, arith}
 use Rattle.joint_model.specs.Heaps.{numbered_at}
 use Rattle.joint_model.specs.Peers.{Peers, Issued}
-use Rattle.object_heap.proofs.Numbered.{numbered-within}
+use Rattle.joint_model.proofs.Numbered.{numbered-within}
 use Rattle.joint_replay.specs.Graphs.{IsLoose}
 
 -- handle 0 leads nowhere, and no handle past the last one does

@@ -3,7 +3,7 @@ use Rattle.std.proofs.Common.{◌≡◌, ℕ, zero, suc, ◌+◌, ◌<◌, ◌�
 use Rattle.std.specs.Prelude.{All}
 use Rattle.std.proofs.lemmas.List.Elements.{All-nil, All-cons, All-head}
 use Rattle.joint_model.specs.Components.{Rises}
-use Rattle.managed_heap.proofs.Gathering.{All-members}
+use Rattle.joint_model.proofs.Members.{All-members}
 use Rattle.std.proofs.lemmas.List.Elements.{All-contains}
 
 pub Rises-step : (xs : List ℕ) (i : ℕ) → Rises xs → suc i < length xs → get_or xs i 0 < get_or xs (suc i) 0

@@ -11,13 +11,13 @@ use Rattle.joint_model.specs.Histories.{peer_numbers}
 use Rattle.joint_model.specs.Joint.{Graph, IsRawRoot, IsLooseRoot, IsReachedIn, object, peer}
 use Rattle.joint_model.specs.Managed.{Managed, IsManagedRoot}
 use Rattle.joint_model.specs.Peers.{Peers, Issued, held}
+use Rattle.joint_model.proofs.Members.{Contains-map, All-members}
+use Rattle.joint_model.proofs.Numbered.{numbered-within, replicate-none}
 use Rattle.reachability.specs.Marks.{IsMarked}
 use Rattle.reachability.proofs.Marking.{take-next, set-marked, set-keeps, set-fresh}
-use Rattle.object_heap.proofs.Numbered.{numbered-within, replicate-none}
 use Rattle.joint_marking.specs.Gathered.{Gains}
 use Rattle.joint_marking.specs.Nodes.{IsLiveRoot}
 use Rattle.joint_marking.specs.Owned.{IsOwned}
-use Rattle.joint_marking.proofs.Gathering.{All-members, Contains-map}
 use Rattle.joint_marking.proofs.Handles.{numbered-All, issued-at, peer-issued, held_raw}
 use Rattle.joint_replay.specs.Graphs.{clean_graph, parts_graph, IsLooseIn}
 use Rattle.joint_replay.proofs.Cleaning.{live_root-clean, reached-clean}

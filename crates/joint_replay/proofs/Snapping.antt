@@ -1,68 +1,35 @@
 -- Snapshots and resolutions from what was found. Both are exact and rising lists, so there is only one of each: a reply
 -- that names other rows is no step.
 use Rattle.std.proofs.Common.{◌≡◌, ℕ, ◌+◌, ◌<◌, ◌≤◌, ◌↔◌, inl, inr, Bool, true, false, not, List, length, replicate, Option, Some, None, refl, sym, ap, subst, ◌∙◌, arith, if◌then◌else◌}
-use Rattle.std.specs.Prelude.{Contains, All, filter, filter_map, is_some}
+use Rattle.std.specs.Prelude.{Contains, All, filter}
 use Rattle.std.proofs.lemmas.List.Elements.{All-contains}
 use Rattle.joint_model.specs.declared.names.Span.{Span}
 use Rattle.joint_model.specs.declared.events.Reply.{Reply}
 use Rattle.joint_model.specs.declared.events.Reply.TheVariants as says
 use Rattle.joint_model.specs.Components.{Rises}
 use Rattle.joint_model.specs.Cycles.{IsSnapshot, snap_reply, IsResolution, resolve_reply, IsOpen}
-use Rattle.joint_model.specs.Heaps.{Heap, IsMade, HasField, InSlot, numbered_at, is_freed}
+use Rattle.joint_model.specs.Heaps.{Heap, IsMade, numbered_at, is_freed}
 use Rattle.joint_model.specs.Histories.{Finished}
 use Rattle.joint_model.specs.Joint.{Joint}
-use Rattle.joint_model.specs.Managed.{Managed, OpenCycle, Holds, IsBridge, IsManagedRoot, ManagedEdge, IsManagedReached, IsBridgeReached, handle_of, snapped, resolved}
+use Rattle.joint_model.specs.Managed.{Managed, OpenCycle, Holds, IsManagedReached, IsBridgeReached, handle_of, snapped}
 use Rattle.joint_model.specs.Peers.{Peers, peer_of}
-use Rattle.joint_model.specs.Run.{IsKept, JointResolve, removed_all}
+use Rattle.joint_model.specs.Run.{IsKept, JointResolve}
 use Rattle.joint_model.specs.Walks.{Reached}
-use Rattle.joint_model.proofs.WalkLemmas.{Reached-mono}
+use Rattle.joint_model.proofs.Members.{All-members, Contains-filter_from, Contains-filter_to, Rises-one}
+use Rattle.joint_model.proofs.Deciding.{true-false, not-from, some-same}
+use Rattle.joint_model.proofs.HeapLemmas.{Holds-handle_of}
+use Rattle.managed_heap.proofs.Snapshots.{slot-reached, handle-reached, bridge-row, row-bridge}
 use Rattle.object_heap.specs.Tidy.{live_fields}
-use Rattle.object_heap.proofs.Numbered.{replicate-none}
 use Rattle.reachability.specs.Marks.{Leads, IsMarked}
-use Rattle.managed_heap.specs.Found.{IsBridgeRow}
 use Rattle.managed_heap.specs.Unmarked.{unmarked_of}
-use Rattle.managed_heap.proofs.Gathering.{All-members, Rises-filter, Contains-filter_from, Contains-filter_to, unmarked_of-exact}
+use Rattle.managed_heap.proofs.Gathering.{Rises-filter, unmarked_of-exact}
 use Rattle.joint_replay.specs.Judging.{named_objects}
-use Rattle.joint_replay.specs.Finding.{Finds, IsSlotReached, IsHandleReached}
+use Rattle.managed_heap.specs.Found.{IsSlotReached, IsHandleReached}
+use Rattle.joint_replay.specs.Finding.{Finds}
 use Rattle.joint_replay.specs.Plain.{cleaned}
 use Rattle.joint_replay.specs.Snaps.{Snaps, SaysSnap, SaysFreed, OwesDead, keeps, Settles, SnapsJoint}
 use Rattle.joint_replay.proofs.Finding.{marks-open}
 use Rattle.joint_replay.proofs.Flags.{is_freed-exact}
-use Rattle.joint_replay.proofs.Naming.{Rises-one}
-
-true-false : (b : Bool) → b ≡ true → b ≡ false → ⊥
-true-false b e f = cc
-
--- a bridge row in the words of both
-some-true : (o : Option ℕ) → is_some o ≡ true → (x : ℕ) × (o ≡ Some x)
-some-true None e = absurd (true-false false e refl)
-some-true (Some x) e = (x, refl)
-
-handle-there : (o : Option (Option ℕ)) → is_some (elim o [ None ↦ None | Some x ↦ x ]) ≡ true → (k : ℕ) × (o ≡ Some (Some k))
-handle-there None e = absurd (true-false false e refl)
-handle-there (Some x) e = (let r = some-true x e in (r.0, ap Some r.1))
-
-handle-test : (o : Option (Option ℕ)) (k : ℕ) → o ≡ Some (Some k) → is_some (elim o [ None ↦ None | Some x ↦ x ]) ≡ true
-handle-test o k e = subst (λ z. is_some (elim z [ None ↦ None | Some x ↦ x ]) ≡ true) (sym e) refl
-
-bridge-row : (s : Managed) (m : ℕ) → IsBridge s m → IsBridgeRow s.heap s.held m
-bridge-row s m b = (b.1.live, handle-test (numbered_at s.held m) b.0 b.1.held)
-
-row-bridge : (s : Managed) (m : ℕ) → IsBridgeRow s.heap s.held m → IsBridge s m
-row-bridge s m b = (let r = handle-there (numbered_at s.held m) b.1 in (r.0, record { live = b.0; held = r.1 }))
-
--- with no pin filled, the managed roots are the slots
-slot-reached : (s : Managed) → s.pins ≡ replicate 9 None → (m : ℕ) → IsManagedReached s m ↔ IsSlotReached s.heap m
-slot-reached s p m = (
-  λ r. Reached-mono (IsManagedRoot s) (InSlot s.heap) (ManagedEdge s) (HasField s.heap) (λ x i. elim i [ inl w ↦ w | inr w ↦ absurd (replicate-none 9 x (subst (λ z. Contains z (Some x)) p w)) ]) (λ x y e. e) m r,
-  λ r. Reached-mono (InSlot s.heap) (IsManagedRoot s) (HasField s.heap) (ManagedEdge s) (λ x i. inl i) (λ x y e. e) m r,
-)
-
-handle-reached : (s : Managed) (m : ℕ) → IsBridgeReached s m ↔ IsHandleReached s.heap s.held m
-handle-reached s m = (
-  λ r. Reached-mono (IsBridge s) (IsBridgeRow s.heap s.held) (ManagedEdge s) (HasField s.heap) (λ x b. bridge-row s x b) (λ x y e. e) m r,
-  λ r. Reached-mono (IsBridgeRow s.heap s.held) (IsBridge s) (HasField s.heap) (ManagedEdge s) (λ x b. row-bridge s x b) (λ x y e. e) m r,
-)
 
 -- what was found is a snapshot
 pub snapshot-found : (s : Managed) (k : ℕ) (freed candidates dead : List ℕ) → s.cycle ≡ None → k ≡ s.cycles + 1 → s.pins ≡ replicate 9 None → Finds s.heap s.held freed candidates dead → IsSnapshot s k freed candidates dead
@@ -147,10 +114,6 @@ keeps-from s p m e = by (handle_of s m) refl e
     by None l n = absurd (true-false false n refl)
     by (Some h) l n = (h, l, then_peer h (peer_of p.issued h) refl n)
 
-not-from : (b : Bool) → (b ≡ true → ⊥) → not b ≡ true
-not-from true n = absurd (n refl)
-not-from false n = refl
-
 keeps-to : (s : Managed) (p : Peers) (m h q : ℕ) → handle_of s m ≡ Some h → peer_of p.issued h ≡ Some q → (Contains p.heap.freed q → ⊥) → keeps s p m ≡ true
 keeps-to s p m h q e l n =
     ap (λ (o : Option ℕ). elim o [ None ↦ false | Some x ↦ elim (peer_of p.issued x) [ None ↦ false | Some y ↦ not (is_freed p.heap y) ] ]) e
@@ -168,13 +131,6 @@ holds-made s m h made e = by (is_freed s.heap m) refl e
     by true t n = (let f : None ≡ Some h = n in cc)
     by false t n = record { live = record { made = made; kept = λ c. true-false (is_freed s.heap m) ((is_freed-exact s.heap m).1 c) t }; held = place (numbered_at s.held m) n }
 
-handle-held : (s : Managed) (m h : ℕ) → Holds s m h → handle_of s m ≡ Some h
-handle-held s m h w = by (is_freed s.heap m) refl
-  where
-    by : (b : Bool) → is_freed s.heap m ≡ b → handle_of s m ≡ Some h
-    by true t = absurd (w.live.kept ((is_freed-exact s.heap m).0 t))
-    by false t = rw (t, w.held, handle_of) refl
-
 pub kept-exact : (j : Joint) (c : OpenCycle) (kept : List ℕ) → kept ≡ filter (keeps j.managed j.peers) c.candidates → All (IsMade j.managed.heap) c.candidates → (m : ℕ) → Contains kept m ↔ IsKept j c m
 kept-exact j c kept e made m = (
   λ k. (
@@ -182,7 +138,7 @@ kept-exact j c kept e made m = (
       let r = keeps-from j.managed j.peers m w.1 in
       record { candidate = w.0; handle = r.0; holds = holds-made j.managed m r.0 (All-contains (IsMade j.managed.heap) c.candidates m made w.0) r.1; peer = r.2.0; leads = r.2.1; unfreed = r.2.2 }
       ),
-  λ k. subst (λ z. Contains z m) (sym e) (Contains-filter_to (keeps j.managed j.peers) c.candidates m k.candidate (keeps-to j.managed j.peers m k.handle k.peer (handle-held j.managed m k.handle k.holds) k.leads k.unfreed)),
+  λ k. subst (λ z. Contains z m) (sym e) (Contains-filter_to (keeps j.managed j.peers) c.candidates m k.candidate (keeps-to j.managed j.peers m k.handle k.peer (Holds-handle_of j.managed m k.handle k.holds) k.leads k.unfreed)),
 )
 
 -- what a resolution frees, by the marks of a marking from the kept candidates
@@ -211,10 +167,6 @@ settles-from j k c kept freed marks o owes e m f =
 pub kept-within : (j : Joint) (c : OpenCycle) (kept : List ℕ) → kept ≡ filter (keeps j.managed j.peers) c.candidates → All (IsMade j.managed.heap) c.candidates → All (λ y. y < length j.managed.heap.fields + 1) kept
 kept-within j c kept e made = All-members (λ y. y < length j.managed.heap.fields + 1) kept (λ y w. (let l = All-contains (IsMade j.managed.heap) c.candidates y made (Contains-filter_from (keeps j.managed j.peers) c.candidates y (subst (λ z. Contains z y) e w)).0 in omega (arith, l.1)))
 
--- there is one resolution
-some-same : (a b : OpenCycle) → Some a ≡ Some b → a ≡ b
-some-same a b e = cc
-
 resolution-one : (j : Joint) (k l : ℕ) (named freed : List ℕ) (reply : Reply) (next : Joint) → Settles j k freed → JointResolve j l named reply next → named ≡ freed
 resolution-one j k l named freed reply next x y =
     let same : y.cycle ≡ x.cycle = some-same y.cycle x.cycle (sym y.open_cycle.0 ∙ x.open_cycle.0) in
@@ -225,21 +177,11 @@ resolution-one j k l named freed reply next x y =
 pub says-freed : (s : Managed) (h : Finished) (reply : Reply) (freed : List ℕ) → named_objects h reply ≡ freed → reply ≡ resolve_reply s freed → SaysFreed s.heap h reply freed
 says-freed s h reply freed n e = subst (λ r. named_objects h r ≡ freed → SaysFreed s.heap h r freed) (sym e) (λ w. record { first = refl; count = refl; named = w }) n
 
-pub freed-said : (s : Managed) (h : Finished) (reply : Reply) (freed : List ℕ) → SaysFreed s.heap h reply freed → (named_objects h reply ≡ freed) × (reply ≡ resolve_reply s freed)
-freed-said s h (says.Freed span) freed w = (w.named, ap says.Freed (span-is span (length s.heap.freed) (length freed) w.first w.count))
-freed-said s h _ freed w = absurd w
-
 -- a reply that says something else is no resolution's
 pub resolve-no : (j : Joint) (h : Finished) (reply : Reply) (k : ℕ) (freed : List ℕ) → Settles j k freed → (SaysFreed j.managed.heap h reply freed → ⊥) → (next : Joint) → JointResolve j k (named_objects h reply) reply next → ⊥
 resolve-no j h reply k freed x wrong next y =
     let one = resolution-one j k k (named_objects h reply) freed reply next x y in
     wrong (says-freed j.managed h reply freed one (y.replies ∙ ap (resolve_reply j.managed) one))
-
-pub resolve-yes : (j : Joint) (h : Finished) (reply : Reply) (k : ℕ) (freed : List ℕ) (next : Joint) → Settles j k freed → SaysFreed j.managed.heap h reply freed
-    → next ≡ record j { managed = resolved j.managed freed; removed = removed_all j.removed (filter_map (handle_of j.managed) freed) } → JointResolve j k (named_objects h reply) reply next
-resolve-yes j h reply k freed next x w e =
-    let r = freed-said j.managed h reply freed w in
-    subst (λ f. JointResolve j k f reply next) (sym r.0) (record { cycle = x.cycle; open_cycle = x.open_cycle; resolution = x.resolution; replies = r.1; state = e })
 
 -- the managed snapshot is the joint one
 pub snap-joint : (j : Joint) (k : ℕ) (freed : List ℕ) (reply : Reply) (m : Managed) → Snaps j.managed k freed reply m → SnapsJoint j k freed reply (record j { managed = m })

@@ -1,6 +1,6 @@
 -- Verdicts under another name of their steps. An entry's event has one of the joint machine's steps, so a verdict on
 -- that step is the verdict on the entry.
-use Rattle.std.proofs.Common.{[], ◌≡◌, ℕ, ◌⊎◌, ◌↔◌, inl, inr, Bool, true, false, if◌then◌else◌, IsTrue, Option, Some, None, Result, Ok, Err, IfOk, refl, sym, ap, subst, ◌∙◌}
+use Rattle.std.proofs.Common.{[], ◌≡◌, ℕ, ◌⊎◌, inl, inr, true, false, Option, Some, None, Result, Ok, Err, IfOk, refl, sym, ap, subst, ◌∙◌}
 use Rattle.joint_model.specs.declared.names.Thread.{Thread}
 use Rattle.joint_model.specs.declared.names.Thread.TheVariants.{M, P, C}
 use Rattle.joint_model.specs.declared.names.Var.{Var}
@@ -174,11 +174,6 @@ pub judged-sweep : (h : Finished) (e : Entry) (j : Joint) → e.made.op ≡ op.S
 judged-sweep h e j same event = judged h e j op.Sweep _ same event
     (λ n s. sweep-from h e.made.caller e.made.reply j n j.marking s.told s.named s.step)
     (λ n s. record { told = sweep_of (named_peers h e.made.reply); named = refl; step = s })
-
--- a verdict on a step that leaves the state as it is
-pub Decides-stay : (j : Joint) (step : Joint → Type 0) (Q : Type 0) (b : Bool) → (Q → step j) → ((n : Joint) → step n → Q) → IsTrue b ↔ Q → Decides step (if b then Lawful else Unlawful) j j
-Decides-stay j step Q true to from e = to (e.0 refl)
-Decides-stay j step Q false to from e = (λ n s. (let t : false ≡ true = e.1 (from n s) in cc), refl)
 
 -- a verdict on the managed part, as one on the joint state
 pub Decides-managed : (j : Joint) (p : Managed → Type 0) (q : Joint → Type 0) → ((m : Managed) → p m → q (record j { managed = m })) → ((n : Joint) → q n → (m : Managed) × p m) → (d : Verdict) (m : Managed) → Decides p d j.managed m → Decides q d j (record j { managed = m })

@@ -1,18 +1,9 @@
 -- What a snapshot finds among the rows of a heap: the rows that go, the candidates, and the dead part. (SGen's bridge:
 -- bridge objects that the program doesn't reach stay with all that they reach, until the other heap has spoken.)
 use Rattle.std.specs.Prelude.{ℕ, ◌⊎◌, List, Option}
-use Rattle.joint_model.specs.Heaps.{Heap, IsLive, HasField, InSlot}
-use Rattle.joint_model.specs.Walks.{Reached}
-use Rattle.managed_heap.specs.Found.{IsBridgeRow}
+use Rattle.joint_model.specs.Heaps.{Heap, IsLive}
+use Rattle.managed_heap.specs.Found.{IsBridgeRow, IsSlotReached, IsHandleReached}
 use Rattle.joint_replay.specs.Roots.{Lists}
-
--- a slot reaches the row
-abbrev pub IsSlotReached : Heap → ℕ → Type 0
-IsSlotReached h m = Reached (InSlot h) (HasField h) m
-
--- a row that holds a handle reaches the row
-abbrev pub IsHandleReached : Heap → List (Option ℕ) → ℕ → Type 0
-IsHandleReached h held m = Reached (IsBridgeRow h held) (HasField h) m
 
 -- the lists of a snapshot, each of them rising and exact
 pub record Finds (h : Heap) (held : List (Option ℕ)) (freed candidates dead : List ℕ) : Type 0 where

@@ -6,15 +6,14 @@ use Rattle.joint_model.specs.declared.events.Reply.TheVariants as says
 use Rattle.joint_model.specs.declared.names.Kind.{Kind}
 use Rattle.joint_model.specs.Heaps.{Heap, InSlot, Answered, answer, slot, fields_of, field_set, field_stored, with_var, with_field, with_object, next_number}
 use Rattle.joint_model.specs.Managed.{Managed}
+use Rattle.joint_model.proofs.Members.{Contains-at}
+use Rattle.joint_model.proofs.Numbered.{Contains-set_cases, numbered-within, numbered-push_cases, numbered_set-length, slot-named, replicate-none}
+use Rattle.joint_model.proofs.Deciding.{none_some, some-same}
+use Rattle.joint_model.proofs.HeapLemmas.{IsLive-later}
 use Rattle.object_heap.specs.Tidy.{IsTidy}
-use Rattle.object_heap.proofs.Numbered.{Contains-at, Contains-set_cases, row-set_cases, row-there, row-is, numbered-within, numbered-push_cases, replicate-none}
-use Rattle.object_heap.proofs.Sound.{IsLive-as, IsLive-later, numbered_set-length}
+use Rattle.object_heap.proofs.Numbered.{row-set_cases, row-there, row-is}
+use Rattle.object_heap.proofs.Sound.{IsLive-as}
 use Rattle.managed_heap.specs.Dues.{IsFrozen, AreRows}
-
--- a slot that names an object
-slot-named : {X : Type 0} (o : Option (Option X)) (x : X) → elim o [ None ↦ None | Some y ↦ y ] ≡ Some x → o ≡ Some (Some x)
-slot-named None x e = cc
-slot-named (Some y) x e = ap Some e
 
 pub slot-Contains : (xs : List (Option ℕ)) (i x : ℕ) → slot xs i ≡ Some x → Contains xs (Some x)
 slot-Contains xs i x e = Contains-at xs i (Some x) (slot-named (slice_get xs i) x e)
@@ -72,12 +71,6 @@ KeepsFrozen-drop h v = record { len = refl; frozen = λ dead f. IsFrozen-var h d
     nothing : (x : ℕ) → None ≡ Some x → ⊥
     nothing x e = cc
 
-pub some-is : (x y : ℕ) → Some x ≡ Some y → x ≡ y
-some-is x y e = cc
-
-none-is : (y : ℕ) → None ≡ Some y → ⊥
-none-is y e = cc
-
 field-kept : (h : Heap) (x i : ℕ) (o : Option ℕ) → IsTidy h → InSlot h x → ((y : ℕ) → o ≡ Some y → InSlot h y) → KeepsFrozen h (with_field h x i o)
 field-kept h x i o t s n = record {
   len = numbered_set-length h.fields x (set (fields_of h x) i o);
@@ -93,10 +86,10 @@ set-by h i w o = elim o [ None ↦ answer says.Empty h | Some x ↦ if nat_le (l
 
 stored-at : (h : Heap) (x i w : ℕ) (o : Option ℕ) → slot h.vars w ≡ o → IsTidy h → InSlot h x → KeepsFrozen h (stored-by h x i o).state
 stored-at h x i w None e t s = KeepsFrozen-same h
-stored-at h x i w (Some y) e t s = field-kept h x i (Some y) t s (λ z q. inl (subst (λ k. Contains h.vars (Some k)) (some-is y z q) (slot-Contains h.vars w y e)))
+stored-at h x i w (Some y) e t s = field-kept h x i (Some y) t s (λ z q. inl (subst (λ k. Contains h.vars (Some k)) (some-same y z q) (slot-Contains h.vars w y e)))
 
 stored-kept : (h : Heap) (x i : ℕ) (w : Option ℕ) → IsTidy h → InSlot h x → KeepsFrozen h (field_stored h x i w).state
-stored-kept h x i None t s = field-kept h x i None t s (λ y e. absurd (none-is y e))
+stored-kept h x i None t s = field-kept h x i None t s (λ y e. absurd (none_some y e))
 stored-kept h x i (Some w) t s = stored-at h x i w (slot h.vars w) refl t s
 
 set-at : (h : Heap) (v i : ℕ) (w o : Option ℕ) → slot h.vars v ≡ o → IsTidy h → KeepsFrozen h (set-by h i w o).state
@@ -132,7 +125,7 @@ AreRows-adopted s k kinds held marks more spare v n x kind h a e ke kd hd l =
       due = λ c o. (
           let d = a.due c o in
           record {
-            frozen = subst (λ z. IsFrozen z c.dead) (sym ke) (IsFrozen-var (with_object s.heap n) c.dead v (Some x) (IsFrozen-object s.heap c.dead n d.frozen) (λ y q m. newest s.heap c.dead x y d.frozen e (some-is x y q) m));
+            frozen = subst (λ z. IsFrozen z c.dead) (sym ke) (IsFrozen-var (with_object s.heap n) c.dead v (Some x) (IsFrozen-object s.heap c.dead n d.frozen) (λ y q m. newest s.heap c.dead x y d.frozen e (some-same x y q) m));
             rise = d.rise;
             picked = d.picked;
             notices = d.notices;

@@ -1,8 +1,8 @@
--- Rising lists of numbers: what a loop gathers in rising order rises and has exactly what was wanted, and what
--- a filter keeps of a rising list rises. Each is an induction on the list.
+-- Rising lists and marks: what a filter keeps of a rising list rises, and what walks over rows, answers and slots
+-- gather. Each is an induction on the list.
 use Rattle.std.proofs.Common.{◌≡◌, ℕ, suc, ◌+◌, ◌<◌, ◌≤◌, ◌↔◌, ◌⊎◌, inl, inr, Bool, true, false, not, List, [], ◌∷◌, ◌++◌, length, map, take, cond, get_or, Option, Some, None, refl, sym, ap, subst, ◌∙◌, arith}
-use Rattle.std.specs.Prelude.{Contains, All, IsTrue, IsSome, filter, slice_get}
-use Rattle.std.proofs.lemmas.List.Elements.{All-nil, All-cons, All-head, All-tail, All-push, All-filter, All-weaker, Contains-push, Contains-push_cases, Contains-append_left, Contains-append_right, Contains-append_cases}
+use Rattle.std.specs.Prelude.{Contains, All, IsSome, filter, slice_get}
+use Rattle.std.proofs.lemmas.List.Elements.{All-nil, All-cons, All-head, All-tail, All-filter, All-weaker, Contains-push, Contains-push_cases, Contains-append_left}
 use Rattle.std.proofs.lemmas.List.{take_more, map-append, append-nil}
 use Rattle.std.proofs.lemmas.List.Elements.{filter-append}
 use Rattle.std.proofs.lemmas.Option.{slice_get_within, slice_get-get_or}
@@ -13,70 +13,24 @@ use Rattle.joint_model.specs.Histories.{managed_numbers}
 use Rattle.reachability.specs.Marks.{IsMarked}
 use Rattle.joint_model.specs.declared.names.HNum.{HNum}
 use Rattle.joint_model.specs.Heaps.{Heap, IsLive, slot}
-use Rattle.reachability.proofs.Marking.{Contains-nil, take-next}
-use Rattle.managed_heap.specs.Gathered.{Gathered, IsAliveBelow}
+use Rattle.joint_model.proofs.Members.{Contains-there, Contains-nil, Contains-here, Contains-filter_from, Contains-filter_to, last-or}
+use Rattle.joint_model.proofs.Deciding.{none_some, not-true, not-from}
+use Rattle.reachability.proofs.Marking.{take-next}
+use Rattle.object_heap.specs.Gathered.{Gathered}
+use Rattle.managed_heap.specs.Gathered.{IsAliveBelow}
 use Rattle.managed_heap.specs.Found.{held_at}
 use Rattle.managed_heap.specs.Unmarked.{marked, unmarked_of}
-
--- the first of a list, or one of the others
-pub Contains-cons_cases : {X : Type 0} (x : X) (xs : List X) (y : X) → Contains (x ∷ xs) y → (x ≡ y) ⊎ Contains xs y
-Contains-cons_cases x xs y c = elim (Contains-append_cases (x ∷ []) xs y c) [
-  | inl h ↦ elim (Contains-push_cases [] x y h) [ inl n ↦ absurd (Contains-nil y n) | inr e ↦ inl e ]
-  | inr h ↦ inr h
-]
-
-pub Contains-first : {X : Type 0} (x : X) (xs : List X) → Contains (x ∷ xs) x
-Contains-first x xs = Contains-append_left (x ∷ []) xs x (Contains-push [] x)
-
-pub Contains-later : {X : Type 0} (x : X) (xs : List X) (y : X) → Contains xs y → Contains (x ∷ xs) y
-Contains-later x xs y c = Contains-append_right (x ∷ []) xs y c
-
--- what holds of each member holds of all
-pub All-members : {X : Type 0} (P : X → Type 0) (xs : List X) → ((x : X) → Contains xs x → P x) → All P xs
-All-members P [] h = All-nil P
-All-members P (x ∷ xs) h = All-cons P x xs (h x (Contains-first x xs)) (All-members P xs (λ y c. h y (Contains-later x xs y c)))
 
 -- what holds of each number of a list holds of all its members
 pub All-numbers : (P : ℕ → Type 0) (ms : List MNum) → ((m : ℕ) → Contains (managed_numbers ms) m → P m) → All (λ m. P m.0) ms
 All-numbers P [] h = All-nil (λ m. P m.0)
-All-numbers P (m ∷ ms) h = All-cons (λ m. P m.0) m ms (h m.0 (Contains-first m.0 (managed_numbers ms))) (All-numbers P ms (λ y c. h y (Contains-later m.0 (managed_numbers ms) y c)))
-
-pub Rises-push : (xs : List ℕ) (n : ℕ) → Rises xs → All (λ y. y < n) xs → Rises (xs ++ n ∷ [])
-Rises-push [] n r a = (All-nil (λ y. n < y), tt)
-Rises-push (x ∷ xs) n r a = (All-push (λ y. x < y) xs n r.0 (All-head (λ y. y < n) x xs a), Rises-push xs n r.1 (All-tail (λ y. y < n) x xs a))
+All-numbers P (m ∷ ms) h = All-cons (λ m. P m.0) m ms (h m.0 (Contains-here m.0 (managed_numbers ms))) (All-numbers P ms (λ y c. h y (Contains-there y m.0 (managed_numbers ms) c)))
 
 pub Rises-filter : (p : ℕ → Bool) (xs : List ℕ) → Rises xs → Rises (filter p xs)
 Rises-filter p [] r = tt
 Rises-filter p (x ∷ xs) r = elim (p x) as (λ b. Rises (cond b (x ∷ filter p xs) (filter p xs))) [
   | true ↦ (All-filter p (λ y. x < y) xs r.0, Rises-filter p xs r.1)
   | false ↦ Rises-filter p xs r.1
-]
-
--- a filter keeps exactly what passes
-filter-in : {X : Type 0} (p : X → Bool) (x : X) (xs : List X) (y : X) (b : Bool) → p x ≡ b → Contains (cond b (x ∷ filter p xs) (filter p xs)) y → ((x ≡ y) × (p y ≡ true)) ⊎ Contains (filter p xs) y
-filter-in p x xs y true e c = elim (Contains-cons_cases x (filter p xs) y c) [ inl s ↦ inl (s, subst (λ z. p z ≡ true) s e) | inr h ↦ inr h ]
-filter-in p x xs y false e c = inr c
-
-pub Contains-filter_from : {X : Type 0} (p : X → Bool) (xs : List X) (y : X) → Contains (filter p xs) y → Contains xs y × (p y ≡ true)
-Contains-filter_from p [] y c = absurd (Contains-nil y c)
-Contains-filter_from p (x ∷ xs) y c = elim (filter-in p x xs y (p x) refl c) [
-  | inl h ↦ (subst (λ z. Contains (x ∷ xs) z) h.0 (Contains-first x xs), h.1)
-  | inr h ↦ (let r = Contains-filter_from p xs y h in (Contains-later x xs y r.0, r.1))
-]
-
-filter-first : {X : Type 0} (p : X → Bool) (x : X) (xs : List X) (b : Bool) → b ≡ true → Contains (cond b (x ∷ filter p xs) (filter p xs)) x
-filter-first p x xs true e = Contains-first x (filter p xs)
-filter-first p x xs false e = cc
-
-filter-later : {X : Type 0} (p : X → Bool) (x : X) (xs : List X) (y : X) (b : Bool) → Contains (filter p xs) y → Contains (cond b (x ∷ filter p xs) (filter p xs)) y
-filter-later p x xs y true c = Contains-later x (filter p xs) y c
-filter-later p x xs y false c = c
-
-pub Contains-filter_to : {X : Type 0} (p : X → Bool) (xs : List X) (y : X) → Contains xs y → p y ≡ true → Contains (filter p xs) y
-Contains-filter_to p [] y c e = absurd (Contains-nil y c)
-Contains-filter_to p (x ∷ xs) y c e = elim (Contains-cons_cases x xs y c) [
-  | inl s ↦ subst (λ z. Contains (filter p (x ∷ xs)) z) s (filter-first p x xs (p x) (ap p s ∙ e))
-  | inr h ↦ filter-later p x xs y (p x) (Contains-filter_to p xs y h e)
 ]
 
 -- the test of a mark
@@ -94,54 +48,12 @@ IsMarked-test marks m e = marked-from (slice_get marks m) e
 pub test-IsMarked : (marks : List Bool) (m : ℕ) → IsMarked marks m → marked marks m ≡ true
 test-IsMarked marks m h = marked-some (slice_get marks m) true h
 
-not-true : (b : Bool) → not b ≡ true → b ≡ true → ⊥
-not-true true e f = cc
-not-true false e f = cc
-
-not-from : (b : Bool) → (b ≡ true → ⊥) → not b ≡ true
-not-from true n = absurd (n refl)
-not-from false n = refl
-
 -- the rows that aren't marked are exactly these, and rise where the rows rise
 pub unmarked_of-exact : (marks : List Bool) (ms : List ℕ) (m : ℕ) → Contains (unmarked_of marks ms) m ↔ (Contains ms m × (IsMarked marks m → ⊥))
 unmarked_of-exact marks ms m = (
   λ c. let r = Contains-filter_from (λ k. not (marked marks k)) ms m c in (r.0, λ h. not-true (marked marks m) r.1 (test-IsMarked marks m h)),
   λ h. Contains-filter_to (λ k. not (marked marks k)) ms m h.0 (not-from (marked marks m) (λ e. h.1 (IsMarked-test marks m e))),
 )
-
--- a number below the next one is below this one, or is it
-pub last-or : (a b : ℕ) → a < b + 1 → (a < b) ⊎ (a ≡ b)
-last-or a b l = grind arith
-
--- nothing is gathered yet
-pub Gathered-none : (wanted : ℕ → Type 0) (n : ℕ) → ((k : ℕ) → k < n → wanted k → ⊥) → Gathered wanted n []
-Gathered-none wanted n h = record { rises = tt; exact = λ k. (λ c. absurd (Contains-nil k c), λ w. absurd (h k w.0 w.1)) }
-
--- the next number is wanted
-pub Gathered-push : (wanted : ℕ → Type 0) (n : ℕ) (xs : List ℕ) → Gathered wanted n xs → wanted n → Gathered wanted (n + 1) (xs ++ n ∷ [])
-Gathered-push wanted n xs g w = record {
-  rises = Rises-push xs n g.rises (All-members (λ y. y < n) xs (λ y c. ((g.exact y).0 c).0));
-  exact = λ k. (
-    λ c. elim (Contains-push_cases xs n k c) [
-      | inl h ↦ (let r = (g.exact k).0 h in (omega (arith, r.0), r.1))
-      | inr e ↦ (omega arith, subst wanted e w)
-    ],
-    λ h. elim (last-or k n h.0) [
-      | inl l ↦ Contains-append_left xs (n ∷ []) k ((g.exact k).1 (l, h.1))
-      | inr e ↦ subst (λ z. Contains (xs ++ n ∷ []) z) (sym e) (Contains-push xs n)
-    ],
-  );
-}
-
--- the next number isn't wanted
-pub Gathered-skip : (wanted : ℕ → Type 0) (n : ℕ) (xs : List ℕ) → Gathered wanted n xs → (wanted n → ⊥) → Gathered wanted (n + 1) xs
-Gathered-skip wanted n xs g no' = record {
-  rises = g.rises;
-  exact = λ k. (
-    λ c. (let r = (g.exact k).0 c in (omega (arith, r.0), r.1)),
-    λ h. elim (last-or k n h.0) [ inl l ↦ (g.exact k).1 (l, h.1) | inr e ↦ absurd (no' (subst wanted e h.1)) ],
-  );
-}
 
 -- one row more: it isn't marked, and joins the list
 pub unmarked-push : (marks : List Bool) (rows freed freed' : List MNum) (i : ℕ) (d : MNum) → i < length rows → managed_numbers freed ≡ unmarked_of marks (managed_numbers (take i rows)) → marked marks (get_or rows i d).0 ≡ false → freed' ≡ freed ++ get_or rows i d ∷ [] → managed_numbers freed' ≡ unmarked_of marks (managed_numbers (take (i + 1) rows))
@@ -200,9 +112,6 @@ slot-some : {X : Type 0} (o : Option (Option X)) (p q : Option X) → o ≡ Some
 slot-some None p q e f = cc
 slot-some (Some x) p q e f = ap Some f
 
-none-some : (k : ℕ) → None ≡ Some k → ⊥
-none-some k e = cc
-
 -- what a slot holds
 pub slot-at : {X : Type 0} (xs : List (Option X)) (i : ℕ) (o : Option X) → i < length xs → slot xs i ≡ o → slice_get xs i ≡ Some o
 slot-at xs i o l e = slot-some (slice_get xs i) (get_or xs i None) o (slice_get-get_or xs i None l) e
@@ -229,7 +138,7 @@ named-skip slots old roots i l h s k = rw (take-next slots i None (slot-at slots
   λ r. elim ((h k).0 r) [ inl o ↦ inl o | inr t ↦ inr (Contains-append_left (take i slots) (None ∷ []) (Some k) t) ],
   elim [
     | inl o ↦ (h k).1 (inl o)
-    | inr t ↦ elim (Contains-push_cases (take i slots) None (Some k) t) [ inl u ↦ (h k).1 (inr u) | inr e ↦ absurd (none-some k e) ]
+    | inr t ↦ elim (Contains-push_cases (take i slots) None (Some k) t) [ inl u ↦ (h k).1 (inr u) | inr e ↦ absurd (none_some k e) ]
   ],
 )
 
@@ -240,13 +149,6 @@ Gathered-all wanted n xs g h k = (λ c. ((g.exact k).0 c).1, λ w. (g.exact k).1
 -- a live row's number is at most the number of rows
 pub made-below : (h : Heap) (k n : ℕ) → IsLive h k → length h.fields + 1 ≤ n → k < n
 made-below h k n l e = omega (arith, l.made.1)
-
--- what the answer of a test says
-pub test-true : (P : Type 0) (b : Bool) → IsTrue b ↔ P → b ≡ true → P
-test-true P b h e = h.0 e
-
-pub test-false : (P : Type 0) (b : Bool) → IsTrue b ↔ P → b ≡ false → P → ⊥
-test-false P b h e p = (let t : b ≡ true = h.1 p in cc)
 
 pub some-true : (P : Type 0) (o : Option ℕ) (x : ℕ) → IsSome o ↔ P → o ≡ Some x → P
 some-true P None x h e = cc

@@ -1,31 +1,19 @@
 -- Each event of the managed side is lawful in the replay of the side's entries, and leads to the side's next state.
-use Rattle.std.proofs.Common.{◌≡◌, ℕ, Bool, List, length, Option, Some, None, refl, sym, ap, ◌∙◌, subst}
+use Rattle.std.proofs.Common.{◌≡◌, ℕ, Bool, List, length, Option, Some, refl, sym, ap, ◌∙◌}
 use Rattle.joint_model.specs.declared.names.Cycle.{Cycle}
 use Rattle.joint_model.specs.declared.names.Thread.{Thread}
-use Rattle.joint_model.specs.declared.names.Thread.TheVariants.{M, P, C}
-use Rattle.joint_model.specs.declared.lines.Act.{Act}
-use Rattle.joint_model.specs.declared.lines.Act.TheVariants as act
 use Rattle.joint_model.specs.declared.events.Op.{Op}
 use Rattle.joint_model.specs.declared.events.Op.TheVariants as op
 use Rattle.joint_model.specs.declared.events.Reply.{Reply}
-use Rattle.joint_model.specs.declared.events.Reply.TheVariants as says
 use Rattle.joint_model.specs.Heaps.{Answered, answer, place}
 use Rattle.joint_model.specs.Cycles.{IsSnapshot, IsResolution, IsAnsweredAlive}
 use Rattle.joint_model.specs.Managed.{Managed, OpenCycle, adopted, snapped, resolved, abandoned}
-use Rattle.joint_model.specs.ManagedReplay.{ManagedReplay, adopt_by}
+use Rattle.joint_model.specs.ManagedReplay.{ManagedReplay}
 use Rattle.joint_model.specs.Run.{thread_number}
 use Rattle.joint_model.specs.Told.{nothing, snap_of, resolution_of}
+use Rattle.joint_model.proofs.HeapLemmas.{adopt_by-managed, adopt_by-reply}
 use Rattle.managed_heap.specs.Replays.{Replays, IsFresh}
 use Rattle.managed_heap.specs.Sides.{managed_event, IsFirstOp, IsFirstManagedStep, step_made, snap_made, resolve_made, abandon_made}
-
--- an adopt by its answer
-adopt-reply : (s : ManagedReplay) (p h : ℕ) (after : Managed) (r : Reply) → (adopt_by s p h after r).reply ≡ r
-adopt-reply s p h after (says.M m) = refl
-adopt-reply s p h after _ = refl
-
-adopt-state : (s : ManagedReplay) (p h : ℕ) (after : Managed) (r : Reply) → (adopt_by s p h after r).state.managed ≡ after
-adopt-state s p h after (says.M m) = refl
-adopt-state s p h after _ = refl
 
 -- a step of the first steps
 pub step : (r : ManagedReplay) (next : Managed) (t : Thread) (index : ℕ) (o : Op) (reply : Reply) (cites : Option ℕ) → IsFirstManagedStep t o → IsFresh r o
@@ -40,8 +28,8 @@ step r next t index o reply cites first fresh is = by o first.1 fresh is
     by (op.Adopt v kind n p h) f fresh is =
         let a : Answered Managed = adopted r.managed (place (thread_number t) v.0) kind n h.0 in
         record {
-          lawful = record { allowed = fresh; replies = ap (λ (x : Answered Managed). x.reply) (sym is) ∙ sym (adopt-reply r p.0 h.0 a.state a.reply) };
-          state = adopt-state r p.0 h.0 a.state a.reply ∙ ap (λ (x : Answered Managed). x.state) is;
+          lawful = record { allowed = fresh; replies = ap (λ (x : Answered Managed). x.reply) (sym is) ∙ sym (adopt_by-reply r p.0 h.0 a.state a.reply) };
+          state = adopt_by-managed r p.0 h.0 a.state a.reply ∙ ap (λ (x : Answered Managed). x.state) is;
         }
     by _ f fresh is = absurd f
 

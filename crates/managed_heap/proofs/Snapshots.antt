@@ -5,8 +5,6 @@
 use Rattle.std.proofs.Common.{◌≡◌, ℕ, ◌+◌, ◌<◌, ◌≤◌, ◌↔◌, ◌⊎◌, inl, inr, Bool, true, false, List, [], ◌∷◌, ◌++◌, length, map, Option, Some, None, cond, replicate, refl, sym, ap, subst, ◌∙◌, arith}
 use Rattle.std.specs.Prelude.{Contains, All, filter, is_some}
 use Rattle.std.proofs.lemmas.List.Elements.{Contains-append_cases, Contains-append_left, Contains-append_right}
-use Rattle.std.proofs.lemmas.Map.Views.{Contains-from_any}
-use Rattle.std.proofs.lemmas.Bool.{eqb-true}
 use Rattle.joint_model.specs.declared.names.HNum.{HNum}
 use Rattle.joint_model.specs.declared.names.MNum.{MNum}
 use Rattle.std.proofs.lemmas.List.{length-map}
@@ -15,13 +13,12 @@ use Rattle.joint_model.specs.Histories.{managed_numbers}
 use Rattle.finaliser_queue.specs.Queue.{Queue}
 use Rattle.joint_model.specs.Components.{Rises}
 use Rattle.joint_model.specs.Cycles.{IsSnapshot, IsAnsweredAlive}
-use Rattle.joint_model.specs.Heaps.{Heap, IsLive, HasField, InSlot, is_freed, numbered_at, with_freed}
+use Rattle.joint_model.specs.Heaps.{Heap, IsLive, HasField, InSlot, numbered_at, with_freed}
 use Rattle.joint_model.specs.Managed.{Managed, OpenCycle, IsBridge, IsManagedRoot, ManagedEdge, IsManagedReached, IsBridgeReached, handle_of, holds_handle, snapped, resolved}
 use Rattle.joint_model.specs.Walks.{Reached}
 use Rattle.joint_model.proofs.WalkLemmas.{Reached-mono, Reached-start, Reached-then, Reaches-then}
 use Rattle.reachability.specs.Marks.{Leads, IsMarked}
 use Rattle.object_heap.specs.Tidy.{IsTidy, CanFree, live_fields}
-use Rattle.object_heap.proofs.Numbered.{replicate-none}
 use Rattle.object_heap.proofs.Targets.{HasField-Leads}
 use Rattle.managed_heap.specs.Dues.{IsFrozen, OwesCycle, AreRows}
 use Rattle.managed_heap.specs.Found.{Finds, IsBridgeRow, IsUnreachedRow, IsCandidateRow, IsSlotReached, IsHandleReached, held_at, has_handle}
@@ -30,9 +27,13 @@ use Rattle.joint_model.specs.declared.names.Cycle.{Cycle}
 use Rattle.joint_model.specs.declared.names.Thread.TheVariants.{C}
 use Rattle.joint_model.specs.declared.events.Op.TheVariants as op
 use Rattle.joint_model.specs.declared.events.Reply.TheVariants as says
+use Rattle.joint_model.proofs.Members.{Contains-there, Contains-here, All-members}
+use Rattle.joint_model.proofs.Numbered.{replicate-none}
+use Rattle.joint_model.proofs.Deciding.{some-true, true-false, false-from}
+use Rattle.joint_model.proofs.HeapLemmas.{is_freed-live}
 use Rattle.managed_heap.specs.Sides.{step_made, snap_made}
 use Rattle.managed_heap.specs.Unmarked.{marked}
-use Rattle.managed_heap.proofs.Gathering.{All-members, IsMarked-test, test-IsMarked, Contains-first, Contains-later, Rises-few}
+use Rattle.managed_heap.proofs.Gathering.{IsMarked-test, test-IsMarked, Rises-few}
 
 -- the marks of a marking from some roots, as reached over fields from what the roots are
 pub marks-exact : (h : Heap) (P : ℕ → Type 0) (roots : List ℕ) (marks : List Bool) → IsTidy h → ((x : ℕ) → Contains roots x ↔ P x) → ((k : ℕ) → IsMarked marks k ↔ Reached (Contains roots) (Leads (length h.fields + 1) (live_fields h)) k) → (k : ℕ) → IsMarked marks k ↔ Reached P (HasField h) k
@@ -47,17 +48,6 @@ made-within h x i = omega (arith, i.made.1)
 -- roots that are live are nodes of the heap's graph
 pub roots-within : (h : Heap) (xs : List ℕ) → ((x : ℕ) → Contains xs x → IsLive h x) → All (λ y. y < length h.fields + 1) xs
 roots-within h xs l = All-members (λ y. y < length h.fields + 1) xs (λ x c. made-within h x (l x c))
-
-false-from : (b : Bool) → (b ≡ true → ⊥) → b ≡ false
-false-from true n = absurd (n refl)
-false-from false n = refl
-
-true-false : (b : Bool) → b ≡ true → b ≡ false → ⊥
-true-false b e f = cc
-
-some-true : (o : Option ℕ) → is_some o ≡ true → (x : ℕ) × (o ≡ Some x)
-some-true None e = absurd (true-false false e refl)
-some-true (Some x) e = (x, refl)
 
 -- an unmarked row isn't reached, and the other way round
 apart : (P : ℕ → Type 0) (h : Heap) (marks : List Bool) (m : ℕ) → IsMarked marks m ↔ Reached P (HasField h) m → (marked marks m ≡ false) ↔ (Reached P (HasField h) m → ⊥)
@@ -101,27 +91,27 @@ Finds-from h held slots bridges freed candidates dead handles s b fr f dr d cr c
     }
 
 -- a bridge row in the words of both
-handle-there : (o : Option (Option ℕ)) → is_some (elim o [ None ↦ None | Some x ↦ x ]) ≡ true → (k : ℕ) × (o ≡ Some (Some k))
+pub handle-there : (o : Option (Option ℕ)) → is_some (elim o [ None ↦ None | Some x ↦ x ]) ≡ true → (k : ℕ) × (o ≡ Some (Some k))
 handle-there None e = absurd (true-false false e refl)
 handle-there (Some x) e = (let r = some-true x e in (r.0, ap Some r.1))
 
-handle-test : (o : Option (Option ℕ)) (k : ℕ) → o ≡ Some (Some k) → is_some (elim o [ None ↦ None | Some x ↦ x ]) ≡ true
+pub handle-test : (o : Option (Option ℕ)) (k : ℕ) → o ≡ Some (Some k) → is_some (elim o [ None ↦ None | Some x ↦ x ]) ≡ true
 handle-test o k e = subst (λ z. is_some (elim z [ None ↦ None | Some x ↦ x ]) ≡ true) (sym e) refl
 
-bridge-row : (s : Managed) (m : ℕ) → IsBridge s m → IsBridgeRow s.heap s.held m
+pub bridge-row : (s : Managed) (m : ℕ) → IsBridge s m → IsBridgeRow s.heap s.held m
 bridge-row s m b = (b.1.live, handle-test (numbered_at s.held m) b.0 b.1.held)
 
-row-bridge : (s : Managed) (m : ℕ) → IsBridgeRow s.heap s.held m → IsBridge s m
+pub row-bridge : (s : Managed) (m : ℕ) → IsBridgeRow s.heap s.held m → IsBridge s m
 row-bridge s m b = (let r = handle-there (numbered_at s.held m) b.1 in (r.0, record { live = b.0; held = r.1 }))
 
 -- with no pin filled, the managed roots are the slots
-slot-reached : (s : Managed) → s.pins ≡ replicate 9 None → (m : ℕ) → IsManagedReached s m ↔ IsSlotReached s.heap m
+pub slot-reached : (s : Managed) → s.pins ≡ replicate 9 None → (m : ℕ) → IsManagedReached s m ↔ IsSlotReached s.heap m
 slot-reached s p m = (
   λ r. Reached-mono (IsManagedRoot s) (InSlot s.heap) (ManagedEdge s) (HasField s.heap) (λ x i. elim i [ inl w ↦ w | inr w ↦ absurd (replicate-none 9 x (subst (λ z. Contains z (Some x)) p w)) ]) (λ x y e. e) m r,
   λ r. Reached-mono (InSlot s.heap) (IsManagedRoot s) (HasField s.heap) (ManagedEdge s) (λ x i. inl i) (λ x y e. e) m r,
 )
 
-handle-reached : (s : Managed) (m : ℕ) → IsBridgeReached s m ↔ IsHandleReached s.heap s.held m
+pub handle-reached : (s : Managed) (m : ℕ) → IsBridgeReached s m ↔ IsHandleReached s.heap s.held m
 handle-reached s m = (
   λ r. Reached-mono (IsBridge s) (IsBridgeRow s.heap s.held) (ManagedEdge s) (HasField s.heap) (λ x b. bridge-row s x b) (λ x y e. e) m r,
   λ r. Reached-mono (IsBridgeRow s.heap s.held) (IsBridge s) (HasField s.heap) (ManagedEdge s) (λ x b. row-bridge s x b) (λ x y e. e) m r,
@@ -217,10 +207,6 @@ Finds-few h held freed candidates dead handles f = (
   Rises-few candidates (length h.fields + 1) f.candidates_rise (roots-within h candidates (λ x c. ((f.picks x).0 c).0.0)),
 )
 
--- a live row isn't freed, so it holds the handle at its place
-is_freed-live : (h : Heap) (x : ℕ) → IsLive h x → is_freed h x ≡ false
-is_freed-live h x l = false-from (is_freed h x) (λ e. l.kept (Contains-from_any eqb-true x h.freed e))
-
 pub handle_of-live : (s : Managed) (m : ℕ) → IsLive s.heap m → handle_of s m ≡ held_at s.held m
 handle_of-live s m l = ap (λ b. cond b None (held_at s.held m)) (is_freed-live s.heap m l)
 
@@ -234,15 +220,15 @@ holds_handle-live s m l = test-some (handle_of s m) ∙ ap is_some (handle_of-li
 pub handles-live : (s : Managed) (xs : List ℕ) → ((x : ℕ) → Contains xs x → IsLive s.heap x) → map (held_at s.held) xs ≡ map (handle_of s) xs
 handles-live s [] l = refl
 handles-live s (x ∷ xs) l =
-    let first : held_at s.held x ≡ handle_of s x = sym (handle_of-live s x (l x (Contains-first x xs))) in
-    let later : map (held_at s.held) xs ≡ map (handle_of s) xs = handles-live s xs (λ y c. l y (Contains-later x xs y c)) in
+    let first : held_at s.held x ≡ handle_of s x = sym (handle_of-live s x (l x (Contains-here x xs))) in
+    let later : map (held_at s.held) xs ≡ map (handle_of s) xs = handles-live s xs (λ y c. l y (Contains-there y x xs c)) in
     cc
 
 pub filter-live : (s : Managed) (xs : List ℕ) → ((x : ℕ) → Contains xs x → IsLive s.heap x) → filter (has_handle s.held) xs ≡ filter (holds_handle s) xs
 filter-live s [] l = refl
 filter-live s (x ∷ xs) l =
-    let later : filter (has_handle s.held) xs ≡ filter (holds_handle s) xs = filter-live s xs (λ y c. l y (Contains-later x xs y c)) in
-    ap (λ b. cond b (x ∷ filter (has_handle s.held) xs) (filter (has_handle s.held) xs)) (sym (holds_handle-live s x (l x (Contains-first x xs)))) ∙ ap (λ zs. cond (holds_handle s x) (x ∷ zs) zs) later
+    let later : filter (has_handle s.held) xs ≡ filter (holds_handle s) xs = filter-live s xs (λ y c. l y (Contains-there y x xs c)) in
+    ap (λ b. cond b (x ∷ filter (has_handle s.held) xs) (filter (has_handle s.held) xs)) (sym (holds_handle-live s x (l x (Contains-here x xs)))) ∙ ap (λ zs. cond (holds_handle s x) (x ∷ zs) zs) later
 
 pub Settles-live : (h : Heap) (c : OpenCycle) (alive : List Bool) (freed : List ℕ) → Settles h c alive freed → IsFrozen h c.dead → (x : ℕ) → Contains freed x → IsLive h x
 Settles-live h c alive freed s f x k = f.live x ((s.frees x).0 k).0

@@ -1,3 +1,4 @@
 pub mod Numbered
 pub mod Sound
 pub mod Targets
+pub mod Gathering

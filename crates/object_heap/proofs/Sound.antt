@@ -1,39 +1,22 @@
 -- A heap stays sound. What changes only slots or fields, to live objects or nothing, changes no object's
 -- liveness, so all that is named or held stays live. A further object is live and has empty fields. Freed
 -- objects were named by no slot and held by no object that stays live.
-use Rattle.std.proofs.Common.{◌≡◌, ℕ, zero, suc, ◌+◌, ◌-◌, ◌<◌, ◌≤◌, ◌↔◌, ◌⊎◌, inl, inr, Bool, true, false, List, [], ◌∷◌, ◌++◌, length, map, Option, Some, None, IsTrue, set, get_or, take, replicate, refl, sym, ap, subst, ◌∙◌, arith, length-append}
-use Rattle.std.specs.Prelude.{Contains, All, nat_eq, slice_get}
+use Rattle.std.proofs.Common.{◌≡◌, ℕ, zero, suc, ◌+◌, ◌-◌, ◌<◌, ◌≤◌, ◌↔◌, inl, inr, Bool, true, false, List, [], ◌∷◌, ◌++◌, length, map, Option, Some, None, IsTrue, set, get_or, take, replicate, refl, sym, ap, subst, ◌∙◌, arith, length-append}
+use Rattle.std.specs.Prelude.{Contains, All, slice_get}
 use Rattle.std.specs.Option.{ForSome, IfSome}
 use Rattle.std.proofs.Math.ListN.{length-set}
 use Rattle.std.proofs.lemmas.List.Elements.{Contains-append_cases, Contains-append_left, Contains-append_right, Contains-push, Contains-push_cases, All-contains, All-cons, All-nil}
 use Rattle.std.proofs.lemmas.List.{take-map}
 use Rattle.std.proofs.lemmas.Option.{slice_get_within, same_Some}
-use Rattle.std.proofs.lemmas.Map.Views.{list_any-from_Contains, Contains-from_any}
-use Rattle.std.proofs.lemmas.Cmp.{nat_eq_equiv}
-use Rattle.std.proofs.lemmas.Bool.{eqb-true}
-use Rattle.std.specs.List.{list_any}
 use Rattle.joint_model.specs.Components.{Rises}
 use Rattle.joint_model.specs.Heaps.{Heap, MOST, IsLive, InSlot, numbered_at, numbered_set, fields_of, opening_heap, with_object, with_var, with_static, with_field, with_freed}
+use Rattle.joint_model.proofs.Members.{Contains-cons_cases, Contains-at, Contains-decided}
+use Rattle.joint_model.proofs.Numbered.{Contains-set_cases, numbered-within, numbered-made, numbered-push_cases, numbered_set-length, replicate-none}
+use Rattle.joint_model.proofs.HeapLemmas.{IsLive-before, IsLive-left, IsLive-later}
+use Rattle.joint_model.proofs.Deciding.{true_false}
 use Rattle.object_heap.specs.Tidy.{IsTidy, CanFree}
 use Rattle.object_heap.specs.Flags.{IsUp, AreFlags, IsSound, TakesDown, up_count}
-use Rattle.object_heap.proofs.Numbered.{Contains-at, Contains-set_cases, numbered-within, numbered-made, numbered-push_cases, number-at, map-take_more, numbered_set-index, row-is, row-set_cases, row-there, replicate-none}
-
-true_false : true ≡ false → ⊥
-true_false e = cc
-
--- a list has a number, or not
-Decides-cases : (xs : List ℕ) (x : ℕ) → Contains xs x ⊎ (Contains xs x → ⊥)
-Decides-cases xs x = elim (list_any (nat_eq x) xs) as (λ b. (list_any (nat_eq x) xs ≡ b) → Contains xs x ⊎ (Contains xs x → ⊥)) [
-  | true ↦ λ e. inl (Contains-from_any eqb-true x xs e)
-  | false ↦ λ e. inr (λ c. true_false (sym (list_any-from_Contains nat_eq_equiv x xs c) ∙ e))
-] refl
-
--- an element of a list is its first or stands in the rest
-cons-cases : (y : ℕ) (xs : List ℕ) (x : ℕ) → Contains (y ∷ xs) x → (y ≡ x) ⊎ Contains xs x
-cons-cases y xs x c = elim (Contains-append_cases (y ∷ []) xs x c) [
-  | inl w ↦ elim (Contains-push_cases [] y x w) [ inl v ↦ absurd (omega (arith, v.1)) | inr v ↦ inl v ]
-  | inr w ↦ inr w
-]
+use Rattle.object_heap.proofs.Numbered.{number-at, map-take_more, numbered_set-index, row-is, row-set_cases, row-there}
 
 -- liveness depends on how many objects were made and on which were freed alone
 pub IsLive-as : (h k : Heap) → length k.fields ≡ length h.fields → k.freed ≡ h.freed → (x : ℕ) → IsLive h x → IsLive k x
@@ -41,10 +24,6 @@ IsLive-as h k len freed x l = record {
   made = (l.made.0, omega (arith, l.made.1, len));
   kept = λ c. l.kept (subst (λ f. Contains f x) freed c);
 }
-
-pub numbered_set-length : {X : Type 0} (xs : List X) (n : ℕ) (x : X) → length (numbered_set xs n x) ≡ length xs
-numbered_set-length xs zero x = refl
-numbered_set-length xs (suc i) x = length-set xs i x
 
 -- a heap that differs in slots and fields alone
 pub IsSound-as : (h k : Heap) (ups : List Bool) (room : ℕ) → IsSound h ups room → length k.fields ≡ length h.fields → k.freed ≡ h.freed → length k.vars ≡ 72 → length k.statics ≡ 16
@@ -152,12 +131,6 @@ up_count-push [] = refl
 up_count-push (true ∷ ups) = omega (arith, up_count-push ups)
 up_count-push (false ∷ ups) = up_count-push ups
 
-pub IsLive-later : (h : Heap) (n x : ℕ) → IsLive h x → IsLive (with_object h n) x
-IsLive-later h n x l = record {
-  made = (l.made.0, omega (arith, l.made.1, length-append h.fields (replicate n None ∷ [])));
-  kept = l.kept;
-}
-
 pub IsLive-newest : (h : Heap) (n : ℕ) → IsTidy h → IsLive (with_object h n) (length h.fields + 1)
 IsLive-newest h n t = record {
   made = (omega arith, omega (arith, length-append h.fields (replicate n None ∷ [])));
@@ -251,7 +224,7 @@ TakesDown-push xs n a b t u new =
 pub Rises-before : (xs : List ℕ) (i n : ℕ) → Rises xs → slice_get xs i ≡ Some n → Contains (take i xs) n → ⊥
 Rises-before [] i n r e c = (let f : ⊥ = cc in f)
 Rises-before (x ∷ xs) zero n r e c = omega (arith, c.1)
-Rises-before (x ∷ xs) (suc i) n r e c = elim (cons-cases x (take i xs) n c) [
+Rises-before (x ∷ xs) (suc i) n r e c = elim (Contains-cons_cases x (take i xs) n c) [
   | inl w ↦ (let b : x < n = All-contains (λ y. x < y) xs n r.0 (Contains-at xs i n e) in omega (arith, b, w))
   | inr w ↦ Rises-before xs i n r.1 e w
 ]
@@ -280,16 +253,6 @@ IsUp-live h ups x f l =
     let r = numbered-made ups x l.made.0 (omega (arith, l.made.1, f.len)) in
     r.1 ∙ ap (λ b. Some b) ((IsLive-flag h ups x r.0 f r.1).1 l)
 
--- freed objects that no slot names and no object that stays live holds
-pub IsLive-left : (h : Heap) (xs : List ℕ) (x : ℕ) → IsLive h x → (Contains xs x → ⊥) → IsLive (with_freed h xs) x
-IsLive-left h xs x l n = record {
-  made = l.made;
-  kept = λ c. elim (Contains-append_cases h.freed xs x c) [ inl w ↦ l.kept w | inr w ↦ n w ];
-}
-
-pub IsLive-before : (h : Heap) (xs : List ℕ) (x : ℕ) → IsLive (with_freed h xs) x → IsLive h x
-IsLive-before h xs x l = record { made = l.made; kept = λ c. l.kept (Contains-append_left h.freed xs x c) }
-
 pub IsSound-freed : (h : Heap) (ups downs : List Bool) (room : ℕ) (xs : List ℕ) → IsSound h ups room → TakesDown xs ups downs → CanFree h xs → IsSound (with_freed h xs) downs room
 IsSound-freed h ups downs room xs s t f = record {
   tidy = record {
@@ -307,7 +270,7 @@ IsSound-freed h ups downs room xs s t f = record {
     up = λ x u. (
         let out : Contains xs x → ⊥ = λ c. (let g : ⊥ = true_false (same_Some true false (sym u ∙ t.down x c)) in g) in
         IsLive-left h xs x (s.flags.up x (sym (t.other x out) ∙ u)) out);
-    down = λ x d. elim (Decides-cases xs x) [
+    down = λ x d. elim (Contains-decided xs x) [
       | inl w ↦ Contains-append_right h.freed xs x w
       | inr w ↦ Contains-append_left h.freed xs x (s.flags.down x (sym (t.other x w) ∙ d))
     ];

@@ -3,35 +3,18 @@
 use Rattle.std.proofs.Common.{◌≡◌, ℕ, ◌+◌, ◌<◌, ◌≤◌, ◌↔◌, Bool, true, false, List, [], ◌∷◌, length, Option, Some, None, cond, get_or, refl, sym, ap, subst, ◌∙◌, arith}
 use Rattle.std.specs.Prelude.{Contains}
 use Rattle.joint_model.specs.Heaps.{Heap, IsLive, HasField, fields_of, is_freed}
-use Rattle.std.proofs.lemmas.Map.Views.{list_any-from_Contains, Contains-from_any}
-use Rattle.std.proofs.lemmas.Cmp.{nat_eq_equiv}
-use Rattle.std.proofs.lemmas.Bool.{eqb-true}
+use Rattle.joint_model.proofs.Numbered.{numbered-within}
+use Rattle.joint_model.proofs.HeapLemmas.{Contains-is_freed, is_freed-live}
+use Rattle.joint_model.proofs.Deciding.{true_false}
 use Rattle.std.proofs.lemmas.List.Elements.{Contains-get_or}
 use Rattle.reachability.specs.Marks.{Leads}
 use Rattle.object_heap.specs.Tidy.{IsTidy, live_fields}
-use Rattle.object_heap.proofs.Numbered.{row-there, numbered-within}
-
-true_false : true ≡ false → ⊥
-true_false e = cc
+use Rattle.object_heap.proofs.Numbered.{row-there}
 
 -- a list without elements is empty
 nil_from_none : (xs : List (Option ℕ)) → ((z : Option ℕ) → Contains xs z → ⊥) → xs ≡ []
 nil_from_none [] none = refl
 nil_from_none (x ∷ xs) none = absurd (none x (0, omega arith, refl))
-
--- the test of `is_freed` tells whether the list of freed objects has a number
-is_freed-Contains : (h : Heap) (x : ℕ) → is_freed h x ≡ true → Contains h.freed x
-is_freed-Contains h x e = Contains-from_any eqb-true x h.freed e
-
-Contains-is_freed : (h : Heap) (x : ℕ) → Contains h.freed x → is_freed h x ≡ true
-Contains-is_freed h x c = list_any-from_Contains nat_eq_equiv x h.freed c
-
--- a live object isn't freed
-pub is_freed-live : (h : Heap) (x : ℕ) → IsLive h x → is_freed h x ≡ false
-is_freed-live h x l = elim (is_freed h x) as (λ b. (is_freed h x ≡ b) → b ≡ false) [
-  | true ↦ λ e. absurd (l.kept (is_freed-Contains h x e))
-  | false ↦ λ e. refl
-] refl
 
 -- the places of a live object are its fields
 pub live_fields-live : (h : Heap) (x : ℕ) → IsLive h x → live_fields h x ≡ fields_of h x

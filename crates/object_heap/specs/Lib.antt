@@ -1,3 +1,4 @@
 pub mod Done
 pub mod Tidy
 pub mod Flags
+pub mod Gathered

@@ -7,8 +7,8 @@ use Rattle.joint_model.specs.declared.events.Reply.{Reply}
 use Rattle.joint_model.specs.declared.events.Op.TheVariants as op
 use Rattle.joint_model.specs.Heaps.{Heap, IsLive, InSlot, fields_of, opening_heap, with_object, answer}
 use Rattle.joint_model.specs.Peers.{Peers, opening_peers}
+use Rattle.joint_model.proofs.Numbered.{replicate-none}
 use Rattle.object_heap.specs.Tidy.{CanFree}
-use Rattle.object_heap.proofs.Numbered.{replicate-none}
 use Rattle.peer_heap.specs.Answers.{stepped}
 
 -- the heap with two peers of two fields

@@ -1,5 +1,5 @@
 -- What each handle leads to stays live: a handle that isn't removed leads to a peer that the change didn't free.
-use Rattle.std.proofs.Common.{◌≡◌, subst, ℕ, ◌+◌, ◌≤◌, Bool, true, false, List, [], ◌∷◌, ◌++◌, length, map, refl, sym, ap, ◌∙◌, arith, length-append, replicate, Option, None, Some}
+use Rattle.std.proofs.Common.{◌≡◌, subst, ℕ, ◌+◌, ◌≤◌, Bool, true, false, List, [], ◌∷◌, ◌++◌, length, map, refl, sym, ap, ◌∙◌, arith, length-append, Option, None, Some}
 use Rattle.std.specs.Prelude.{All}
 use Rattle.std.proofs.lemmas.Cmp.{nat_eq_equiv}
 use Rattle.std.proofs.lemmas.List.Elements.{All-cons, All-head, All-tail, All-nil, All-push, All-weaker}
@@ -11,20 +11,14 @@ use Rattle.peer_heap.specs.Kept.{MarkingOwes}
 use Rattle.peer_heap.specs.declared.handles.Handle.{Handle}
 use Rattle.peer_heap.specs.Handles.{kept_in, LeadsToLive, LeadsToMade}
 use Rattle.joint_model.specs.declared.events.Entry.{Entry}
+use Rattle.joint_model.proofs.HeapLemmas.{IsLive-later}
 use Rattle.peer_heap.proofs.Rows.{handle_on}
-
--- a live peer stays live where another is made
-live-later : (heap : Heap) (n p : ℕ) → IsLive heap p → IsLive (with_object heap n) p
-live-later heap n p live = record { made = (live.made.0, omega (arith, length-append heap.fields (replicate_row n), live.made.1)); kept = live.kept }
-  where
-    replicate_row : ℕ → List (List (Option ℕ))
-    replicate_row n = replicate n None ∷ []
 
 -- a push on the newest peer
 pub lead-push : (heap now : Heap) (n : ℕ) (hs : List Handle) (p : PNum) → now ≡ with_object heap n → IsLive now p.0 → All (LeadsToLive heap) hs → All (LeadsToLive now) (hs ++ handle_on p ∷ [])
 lead-push heap now n hs p is newest leads =
     All-push (LeadsToLive now) hs (handle_on p)
-    (All-weaker (LeadsToLive heap) (LeadsToLive now) (λ h live there. subst (λ (k : Heap). IsLive k h.peer.0) (sym is) (live-later heap n h.peer.0 (live there))) hs leads)
+    (All-weaker (LeadsToLive heap) (LeadsToLive now) (λ h live there. subst (λ (k : Heap). IsLive k h.peer.0) (sym is) (IsLive-later heap n h.peer.0 (live there))) hs leads)
     (λ there. newest)
 
 -- a live peer was made, also after some are freed

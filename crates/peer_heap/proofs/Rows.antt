@@ -4,18 +4,19 @@
 use Rattle.std.proofs.Common.{◌≡◌, ℕ, ◌≤◌, Bool, true, false, ◌||◌, List, [], ◌∷◌, ◌++◌, length, map, drop, take, zero, suc, refl, sym, ap, subst, ◌∙◌, arith, IsTrue, not, ◌↔◌, ◌-◌, get_or, IfSome, Some}
 use Rattle.std.specs.Prelude.{All, nat_eq}
 use Rattle.std.specs.List.{list_any}
-use Rattle.std.proofs.lemmas.Bool.{eqb-true}
 use Rattle.std.proofs.lemmas.Cmp.{nat_eq_equiv}
 use Rattle.std.proofs.lemmas.List.Elements.{All-nil, All-cons, All-head, All-tail, All-get_or}
 use Rattle.std.proofs.lemmas.List.{length-map}
 use Rattle.std.proofs.lemmas.List.Folds.{list_any-append}
-use Rattle.std.proofs.lemmas.Map.Views.{list_any-from_Contains, Contains-from_any}
+use Rattle.std.proofs.lemmas.Map.Views.{list_any-from_Contains}
 use Rattle.joint_model.specs.declared.names.PNum.{PNum}
 use Rattle.joint_model.specs.declared.names.Sort.{Sort}
 use Rattle.joint_model.specs.First.{swept_rows}
 use Rattle.joint_model.specs.Heaps.{Heap, numbered_at, IsMade, IsLive, is_freed, with_freed}
 use Rattle.joint_model.specs.Peers.{Issued, peer_of}
 use Rattle.joint_model.specs.PeerReplay.{fresh_row}
+use Rattle.joint_model.proofs.HeapLemmas.{is_freed-live}
+use Rattle.joint_model.proofs.Deciding.{true_false}
 use Rattle.peer_heap.specs.declared.handles.Handle.{Handle}
 use Rattle.peer_heap.specs.Handles.{peers_with, issued_as, row_as, row_unless, kept_in, LeadsToLive, LeadsToMade, IsTabled, IsHeldStrong, IsPlain}
 
@@ -32,17 +33,6 @@ rows-push (h ∷ hs) p = ap (λ rows. row_as h ∷ rows) (rows-push hs p)
 pub rows-same : (hs : List Handle) → map row_as hs ≡ map row_as hs ++ map fresh_row (drop (length (map issued_as hs)) (map issued_as hs))
 rows-same [] = refl
 rows-same (h ∷ hs) = ap (λ rows. row_as h ∷ rows) (rows-same hs)
-
-true_false : true ≡ false → ⊥
-true_false e = cc
-
--- a live peer isn't freed
-pub is_freed-live : (heap : Heap) (p : ℕ) → IsLive heap p → is_freed heap p ≡ false
-is_freed-live heap p live = by (is_freed heap p) refl
-  where
-    by : (b : Bool) → is_freed heap p ≡ b → is_freed heap p ≡ false
-    by true is = absurd (live.kept (Contains-from_any eqb-true p heap.freed is))
-    by false is = is
 
 -- a peer that was made and isn't live is freed
 pub is_freed-dead : (heap : Heap) (p : ℕ) → IsMade heap p → (IsLive heap p → ⊥) → is_freed heap p ≡ true

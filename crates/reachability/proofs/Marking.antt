@@ -11,12 +11,9 @@ use Rattle.std.proofs.lemmas.List.{take_more}
 use Rattle.std.proofs.lemmas.Option.{slice_get_within, get_or_from_slice_get, slice_get-get_or}
 use Rattle.joint_model.specs.Walks.{Reached}
 use Rattle.joint_model.proofs.WalkLemmas.{Reached-keeps, Reached-start, Reached-then}
+use Rattle.joint_model.proofs.Members.{Contains-nil}
 use Rattle.reachability.specs.Marks.{IsMarked, IsClosed, unmarked}
 use Rattle.reachability.specs.Scans.{Scans}
-
--- nothing waits in an empty list
-pub Contains-nil : {X : Type 0} (x : X) → Contains [] x → ⊥
-Contains-nil x h = omega (arith, h.1)
 
 -- marking a node that wasn't marked
 pub unmarked-set : (m : List Bool) (i : ℕ) → slice_get m i ≡ Some false → unmarked (set m i true) + 1 ≡ unmarked m

@@ -53,8 +53,3 @@ pub words-one : (ws vs : List (List ℕ)) → AllByRecursion (Lacks 32) ws → A
 words-one ws vs p q e =
     let f : 32 ∷ before_spaces ws ≡ 32 ∷ before_spaces vs = sym (shifted ws) ∙ (ap (λ t. t ++ 32 ∷ []) e ∙ shifted vs) in
     before-one ws vs p q (cc)
-
--- the words of two lists of words, one behind the other
-pub after-append : (ws vs : List (List ℕ)) → after_spaces (ws ++ vs) ≡ after_spaces ws ++ after_spaces vs
-after-append [] vs = refl
-after-append (w ∷ ws) vs = ap (λ t. 32 ∷ t) (ap (λ t. w ++ t) (after-append ws vs) ∙ sym (append_assoc w (after_spaces ws) (after_spaces vs)))

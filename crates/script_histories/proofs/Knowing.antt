@@ -17,8 +17,9 @@ use Rattle.joint_model.specs.declared.events.Op.TheVariants as op
 use Rattle.joint_model.specs.declared.events.Reply.{Reply}
 use Rattle.joint_model.specs.Control.{Doing, free, made, lent, gripped, given, met, doing_at, Stand, idle, snapped, contracted, weakening, marked, restoring, restored, MayAdopt, MayLand, MayMeet, MayRelease, MayAbandonNow}
 use Rattle.joint_model.specs.First.{FirstLinkage, FirstCallerAllows, FirstSideLawful, FirstMayCome, FirstResolve, first_answers}
-use Rattle.joint_model.specs.Lines.{IsPlainObject, IsBridgeObject, IsManagedAct, IsPeerAct, IsOneEvent, IsLine, IsEvent, IsThread, IsManagedThread, IsPeerThread, IsDriver, is_peer_event}
+use Rattle.joint_model.specs.Lines.{IsPlainObject, IsBridgeObject, IsManagedAct, IsPeerAct, IsOneEvent, IsEvent, IsThread, IsManagedThread, IsPeerThread, IsDriver, is_peer_event}
 use Rattle.joint_model.specs.Told.{Told, Noted, resolution_of}
+use Rattle.bridge_script.proofs.Fitting.{lawful_thread}
 use Rattle.script_histories.proofs.Coming.{making}
 use Rattle.script_histories.proofs.OneHistory.{snap-next}
 use Rattle.script_histories.proofs.Reading.{Names}
@@ -190,7 +191,7 @@ of-peer (P n) (inl h) = h
 of-peer (P n) (inr h) = absurd h
 of-peer C h = tt
 
-of-managed : (t : Thread) → IsManagedThread t → IsThread t
+pub of-managed : (t : Thread) → IsManagedThread t → IsThread t
 of-managed (M n) h = h
 of-managed t h = absurd h
 
@@ -198,14 +199,9 @@ of-driver : (t : Thread) → IsDriver t → IsThread t
 of-driver C h = tt
 of-driver t h = absurd h
 
-of-line : (t : Thread) (a : Act) → IsLine t a → IsThread t
-of-line (M n) a h = h.0
-of-line (P n) a h = h.0
-of-line C a h = tt
-
 -- the caller of an event is a thread that a script can have
 pub caller-is : (t : Thread) (o : Op) → IsEvent t o → IsThread t
-caller-is t (op.Line a) e = of-line t a e.0
+caller-is t (op.Line a) e = lawful_thread t a e.0
 caller-is t (op.Make k f) e = of-managed t e.0
 caller-is t (op.Adopt v k f p h) e = of-managed t e.0
 caller-is t (op.Lend v y) e = of-managed t e.0

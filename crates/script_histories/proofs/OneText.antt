@@ -13,13 +13,14 @@ use Rattle.joint_model.specs.First.{FirstLinkage, FirstMayCome, AllFirstMayCome,
 use Rattle.joint_model.specs.Histories.{Finished}
 use Rattle.joint_model.specs.Lines.{IsThread}
 use Rattle.joint_model.specs.Told.{Noted}
+use Rattle.bridge_script.proofs.Written.{after_spaces-append}
 use Rattle.bridge_script.specs.declared.lists.Numbers.{Numbers}
 use Rattle.bridge_script.specs.declared.lists.Numbers.TheVariants.{Freed, FreedPeers, Notices}
 use Rattle.bridge_script.specs.Words.{thread_text}
 use Rattle.bridge_script.specs.Lists.{after_spaces, list_words}
 use Rattle.bridge_script.specs.Report.{event_words, reply_words, list_of, shown, cite_words, place_text, head_words, entry_text, entries_text, end_text, report}
 use Rattle.script_histories.specs.Laws.{IsShort}
-use Rattle.script_histories.proofs.Cutting.{Lacks, every-append, cut-first, words-one, after-append}
+use Rattle.script_histories.proofs.Cutting.{Lacks, every-append, cut-first, words-one}
 use Rattle.script_histories.proofs.Digits.{IsDigit, decimal-digits, decimal-one}
 use Rattle.script_histories.proofs.Plain.{AllPlain, plain-listed, plain-event, plain-reply, plain-cites, plain-place, plain-decimal, no-byte, no-bytes, no-equals}
 use Rattle.script_histories.proofs.Known.{IsKnown, same-event}
@@ -45,7 +46,7 @@ entry-line h e =
     let list = after_spaces (shown h (list_of e.made.reply)) in
     let cites = after_spaces (cite_words e.made.cites) in
     let words : after_spaces (whole_words h e) ≡ front ++ (list ++ cites) =
-    after-append (head_words e) (rest_words h e) ∙ ap (λ t. front ++ t) (after-append (shown h (list_of e.made.reply)) (cite_words e.made.cites)) in
+    after_spaces-append (head_words e) (rest_words h e) ∙ ap (λ t. front ++ t) (after_spaces-append (shown h (list_of e.made.reply)) (cite_words e.made.cites)) in
     let left : (d ++ front) ++ (list ++ (cites ++ 10 ∷ [])) ≡ (d ++ (front ++ (list ++ cites))) ++ 10 ∷ [] =
     ap (λ t. (d ++ front) ++ t) (sym (append_assoc list cites (10 ∷ []))) ∙ (sym (append_assoc (d ++ front) (list ++ cites) (10 ∷ [])) ∙ ap (λ t. t ++ 10 ∷ []) (append_assoc d front (list ++ cites))) in
     left ∙ sym (ap (λ t. (d ++ t) ++ 10 ∷ []) words)

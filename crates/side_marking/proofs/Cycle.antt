@@ -7,10 +7,10 @@ use Rattle.joint_model.specs.Joined.{graph_at}
 use Rattle.joint_model.specs.Managed.{Managed}
 use Rattle.joint_model.specs.Peers.{Peers}
 use Rattle.joint_model.specs.PeerReplay.{PeerReplay, TableRow}
+use Rattle.joint_model.proofs.Members.{All-members}
 use Rattle.object_heap.specs.Tidy.{CanFree}
 use Rattle.peer_heap.specs.Answers.{ExistedAt}
 use Rattle.peer_heap.specs.Sides.{Begun}
-use Rattle.joint_marking.proofs.Gathering.{All-members}
 use Rattle.joint_marking.proofs.Unreached.{Unreached-CanFree}
 use Rattle.side_marking.specs.Roots.{graph_of_sides}
 

@@ -9,13 +9,14 @@ use Rattle.joint_model.specs.Joined.{removed_from, is_owned, is_untabled}
 use Rattle.joint_model.specs.Managed.{Managed, Holds, IsManagedRoot, handle_of}
 use Rattle.joint_model.specs.Peers.{Peers, peer_of}
 use Rattle.joint_model.specs.PeerReplay.{TableRow}
+use Rattle.joint_model.proofs.Members.{Contains-nil}
+use Rattle.joint_model.proofs.Numbered.{numbered-within, replicate-none}
+use Rattle.joint_model.proofs.Deciding.{some-same}
 use Rattle.joint_marking.specs.Nodes.{IsLiveRoot}
 use Rattle.joint_marking.proofs.Handles.{numbered-All, issued-at, peer-issued, held_raw}
 use Rattle.object_heap.specs.Tidy.{IsTidy}
-use Rattle.object_heap.proofs.Numbered.{numbered-within, replicate-none}
 use Rattle.peer_heap.specs.Handles.{IsTabled, IsHeldStrong, IsPlain, strong_row}
 use Rattle.reachability.specs.Marks.{IsMarked}
-use Rattle.reachability.proofs.Marking.{Contains-nil}
 use Rattle.joint_marking.specs.Gathered.{Gains}
 use Rattle.joint_marking.specs.Owned.{IsOwned}
 use Rattle.side_marking.specs.Roots.{graph_of_sides, IsLoose, IsLooseIn}
@@ -51,9 +52,6 @@ kept-row s None h len plain e = inr (is_owned-Holds s h len (unless (is_owned s 
     unless : (b : Bool) → not b ≡ false → b ≡ true
     unless true e = refl
     unless false e = cc
-
-some-same : (a b : Bool) → Some a ≡ Some b → a ≡ b
-some-same a b e = cc
 
 pub kept-tabled : (s : Managed) (table : List (Option TableRow)) (h : ℕ) → length s.held ≡ length s.heap.fields → All IsPlain table → numbered_at (removed_from s 1 table) h ≡ Some false → IsTabled table h ⊎ ((m : ℕ) × Holds s m h)
 kept-tabled s table zero len plain e = cc

@@ -8,7 +8,9 @@ use Rattle.std.proofs.lemmas.Bool.Decides.{Decides-eqb, Decides-and, Decides-not
 use Rattle.std.proofs.lemmas.List.Elements.{All-nil, All-cons, All-head, All-tail}
 use Rattle.joint_model.specs.Walks.{Walks, Reaches, Reached, Mutual}
 use Rattle.joint_model.specs.Components.{IsContraction, IsCanonical, IsCrossReference, IsPlainClass, IsMember, Rises, PairsRise, PairBefore, first_at, first_of}
-use Rattle.worked_histories.proofs.Decided.{mem, or_left, or_right, Contains-here, Contains-there, covers, reach, is_closed, Contains-from_mem, mem_from_Contains, Decides-Reached, Decides-Reaches, filter_holds, filter_keeps, mem-flat_map, mem-into_flat_map, All-from_test, rises, Rises-from_test, covered, list_all_at, list_all_from, list_any_found, list_any_from, exact_from, count_from, counted, into_count, mem-append_cases, mem-append_left, mem-append_right}
+use Rattle.joint_model.proofs.Members.{Contains-here, Contains-there}
+use Rattle.joint_model.proofs.Deciding.{or_left, or_right}
+use Rattle.worked_histories.proofs.Decided.{mem, covers, reach, is_closed, Contains-from_mem, mem_from_Contains, Decides-Reached, Decides-Reaches, filter_holds, filter_keeps, mem-flat_map, mem-into_flat_map, All-from_test, rises, Rises-from_test, covered, list_all_at, list_all_from, list_any_found, list_any_from, exact_from, count_from, counted, into_count, mem-append_cases, mem-append_left, mem-append_right}
 
 -- equality of pairs
 abbrev pub pair_eq : ℕ × ℕ → ℕ × ℕ → Bool

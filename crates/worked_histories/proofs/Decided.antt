@@ -1,6 +1,6 @@
 -- What a graph's rows reach is computed where there are finitely many: rows are added until nothing is new, and a test says
 -- that nothing is. Lists of rows are then exact by computing.
-use Rattle.std.proofs.Common.{◌≡◌, ℕ, zero, suc, ◌+◌, ◌<◌, ◌≤◌, ◌⊎◌, ◌↔◌, inl, inr, ⊎_elim, Bool, true, false, ◌&&◌, ◌||◌, cond, ltb, List, [], ◌∷◌, ◌++◌, length, get_or, refl, sym, ap, subst, ◌∙◌, arith, not-suc-le-zero, suc-le-suc, le_of_suc-le-suc, zero-lt-suc, nat_eq, true≢false}
+use Rattle.std.proofs.Common.{◌≡◌, ℕ, zero, suc, ◌+◌, ◌<◌, ◌≤◌, ◌⊎◌, ◌↔◌, inl, inr, ⊎_elim, Bool, true, false, ◌&&◌, cond, ltb, List, [], ◌∷◌, ◌++◌, length, get_or, refl, sym, ap, subst, ◌∙◌, arith, not-suc-le-zero, le_of_suc-le-suc, nat_eq, true≢false}
 use Rattle.std.specs.Bool.{Decides}
 use Rattle.std.specs.List.{All, Contains, filter, list_any, list_all, flat_map}
 use Rattle.std.proofs.lemmas.Bool.{false≢true, or_cases, and_parts, and_from, cases_eq, ltb-true}
@@ -9,24 +9,12 @@ use Rattle.std.proofs.lemmas.List.Elements.{All-nil, All-cons, All-head, All-tai
 use Rattle.joint_model.specs.Walks.{Reaches, Reached}
 use Rattle.joint_model.specs.Components.{Rises}
 use Rattle.joint_model.proofs.WalkLemmas.{Reached-start, Reached-then, Reached-keeps}
+use Rattle.joint_model.proofs.Members.{Contains-here, Contains-there}
+use Rattle.joint_model.proofs.Deciding.{or_left, or_right}
 
 -- whether the list has the row
 abbrev pub mem : {A : Type 0} → (A → A → Bool) → List A → A → Bool
 mem eq xs x = list_any (eq x) xs
-
-pub or_left : (a b : Bool) → a ≡ true → (a || b) ≡ true
-or_left true b h = refl
-or_left false b h = absurd (false≢true h)
-
-pub or_right : (a b : Bool) → b ≡ true → (a || b) ≡ true
-or_right true b h = refl
-or_right false b h = h
-
-pub Contains-here : {A : Type 0} (x : A) (xs : List A) → Contains (x ∷ xs) x
-Contains-here x xs = (0, zero-lt-suc (length xs), refl)
-
-pub Contains-there : {A : Type 0} (x y : A) (xs : List A) → Contains xs x → Contains (y ∷ xs) x
-Contains-there x y xs c = (suc c.0, suc-le-suc c.1, c.2)
 
 -- whether each row of one list is in the other
 abbrev pub covers : {A : Type 0} → (A → A → Bool) → List A → List A → Bool

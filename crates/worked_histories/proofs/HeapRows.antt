@@ -5,7 +5,9 @@ use Rattle.std.specs.List.{Contains, filter}
 use Rattle.std.proofs.lemmas.Bool.{false≢true, or_cases, leb-true, le-leb}
 use Rattle.std.proofs.lemmas.Bool.Decides.{Decides-eqb, Decides-and, Decides-not, Decides-like}
 use Rattle.joint_model.specs.Heaps.{Heap, IsLive, IsMade, HasField, InSlot, is_freed, fields_of}
-use Rattle.worked_histories.proofs.Decided.{mem, or_left, or_right, Contains-here, Contains-there, Decides-mem, filter_holds, filter_keeps, mem-append_cases, mem-append_left, mem-append_right, count_from, into_count}
+use Rattle.joint_model.proofs.Members.{Contains-here, Contains-there}
+use Rattle.joint_model.proofs.Deciding.{or_left, or_right}
+use Rattle.worked_histories.proofs.Decided.{mem, Decides-mem, filter_holds, filter_keeps, mem-append_cases, mem-append_left, mem-append_right, count_from, into_count}
 
 -- the objects that slots name
 abbrev pub somes : List (Option ℕ) → List ℕ

@@ -1,5 +1,5 @@
 -- What the one graph of both heaps reaches from its roots is computed, and so are the peers that nothing reaches.
-use Rattle.std.proofs.Common.{◌≡◌, ℕ, zero, suc, ◌+◌, ◌<◌, ◌≤◌, ◌⊎◌, inl, inr, ⊎_elim, Bool, true, false, not, ◌&&◌, ◌||◌, List, [], ◌∷◌, ◌++◌, map, length, refl, sym, ap, subst, ◌∙◌, arith, suc-le-suc, nat_eq, true≢false, Some, None, Option, slice_get}
+use Rattle.std.proofs.Common.{◌≡◌, ℕ, ◌+◌, ◌<◌, ◌≤◌, ◌⊎◌, inl, inr, ⊎_elim, Bool, true, false, not, ◌&&◌, ◌||◌, List, [], ◌∷◌, ◌++◌, map, length, refl, sym, ap, subst, ◌∙◌, arith, nat_eq, true≢false, Some, None, Option}
 use Rattle.std.specs.Bool.{Decides}
 use Rattle.std.specs.List.{filter, list_any, flat_map}
 use Rattle.std.proofs.lemmas.Bool.{false≢true, or_cases}
@@ -9,7 +9,9 @@ use Rattle.joint_model.specs.Heaps.{Heap, IsLive, HasField, InSlot, numbered_at}
 use Rattle.joint_model.specs.Joint.{Graph, Row, object, peer, IsJoined, JointEdge, IsHandle, IsRawRoot, IsLooseRoot, IsJointRoot, IsReachedIn}
 use Rattle.joint_model.specs.Managed.{Managed, Holds, IsManagedRoot}
 use Rattle.joint_model.specs.Peers.{Issued, Hold, Strength, held, raw, strong, weak, peer_of, is_held, is_strong}
-use Rattle.worked_histories.proofs.Decided.{mem, or_left, reach, is_closed, Decides-Reached, exact_from, rises, Rises-from_test, count_from, into_count, filter_holds, filter_keeps, mem-flat_map, mem-into_flat_map, Contains-from_mem, list_any_found, list_any_from}
+use Rattle.joint_model.proofs.Numbered.{numbered-within}
+use Rattle.joint_model.proofs.Deciding.{or_left}
+use Rattle.worked_histories.proofs.Decided.{mem, reach, is_closed, Decides-Reached, exact_from, rises, Rises-from_test, count_from, into_count, filter_holds, filter_keeps, mem-flat_map, mem-into_flat_map, Contains-from_mem, list_any_found, list_any_from}
 use Rattle.worked_histories.proofs.HeapRows.{Decides-joined, is_live, Decides-live, all_rows, row_from_live, heap_next, Decides-field, slot_rows, Decides-slot, where_true, Decides-where_true}
 use Rattle.worked_histories.proofs.ManagedRows.{managed_roots, Decides-managed_root}
 
@@ -190,22 +192,12 @@ handle_peers g test h = where_true (is_kept (numbered_at g.removed h)) (issued_p
 abbrev pub rooted_peers : Graph → (ℕ → Issued → Bool) → List ℕ
 rooted_peers g test = flat_map (handle_peers g test) (count_from 1 (length g.peers.issued))
 
--- a number in a list counts from 1
-pub numbered_within : {A : Type 0} (xs : List A) (h : ℕ) (x : A) → numbered_at xs h ≡ Some x → (1 ≤ h) × (h ≤ length xs)
-numbered_within xs zero x e = cc
-numbered_within xs (suc h) x e = let l = slice_within xs h x e in (omega arith, omega arith)
-  where
-    slice_within : {A : Type 0} (xs : List A) (i : ℕ) (x : A) → slice_get xs i ≡ Some x → i < length xs
-    slice_within [] i x e = cc
-    slice_within (y ∷ ys) zero x e = omega arith
-    slice_within (y ∷ ys) (suc i) x e = suc-le-suc (slice_within ys i x e)
-
 pub Decides-rooted : (g : Graph) (test : ℕ → Issued → Bool) (P : ℕ → Issued → Type 0) → ((h : ℕ) (i : Issued) → Decides (test h i) (P h i)) → (p : ℕ)
     → Decides (mem nat_eq (rooted_peers g test) p) ((h : ℕ) × (i : Issued) × IsHandle g h i × P h i × (i.peer ≡ p))
 Decides-rooted g test P d p = (
   λ m. let f = mem-flat_map nat_eq Decides-eqb (handle_peers g test) (count_from 1 (length g.peers.issued)) p m in
       let r = (one f.0).0 f.2 in (f.0, r.1.0, record { issued = r.1.1; kept = r.0 }, r.1.2, r.1.3),
-  λ q. let l = numbered_within g.peers.issued q.0 q.1 q.2.issued in
+  λ q. let l = numbered-within g.peers.issued q.0 q.1 q.2.issued in
       let c = Contains-from_mem nat_eq Decides-eqb (count_from 1 (length g.peers.issued)) q.0 (into_count 1 (length g.peers.issued) q.0 l.0 (within q.0 l.1)) in
       mem-into_flat_map nat_eq Decides-eqb (handle_peers g test) (count_from 1 (length g.peers.issued)) q.0 p c.0 c.1 c.2 ((one q.0).1 (q.2.kept, (q.1, q.2.issued, q.3, q.4))),
 )

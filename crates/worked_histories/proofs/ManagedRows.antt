@@ -8,9 +8,10 @@ use Rattle.joint_model.specs.Cycles.{IsSnapshot, IsResolution, IsAnsweredAlive, 
 use Rattle.joint_model.specs.Heaps.{IsLive, HasField, InSlot, numbered_at}
 use Rattle.joint_model.specs.Managed.{Managed, IsBridge, IsManagedRoot, ManagedEdge, IsManagedReached, IsBridgeReached}
 use Rattle.joint_model.specs.Walks.{Reaches}
-use Rattle.worked_histories.proofs.Decided.{mem, or_left, or_right, covers, reach, is_closed, Decides-mem, Decides-Reached, filter_holds, filter_keeps, exact_from, rises, Rises-from_test, Contains-from_mem, mem_from_Contains}
+use Rattle.worked_histories.proofs.Decided.{mem, covers, reach, is_closed, Decides-mem, Decides-Reached, filter_holds, filter_keeps, exact_from, rises, Rises-from_test, Contains-from_mem, mem_from_Contains}
 use Rattle.worked_histories.proofs.Contractions.{IsFinite, is_complete, contraction, is_in_order, members_of, is_split, places_from, references_of}
 use Rattle.joint_model.specs.Components.{first_of}
+use Rattle.joint_model.proofs.Deciding.{or_left, or_right}
 use Rattle.worked_histories.proofs.HeapRows.{somes, Decides-somes, Decides-joined, is_live, Decides-live, all_rows, row_from_live, heap_next, Decides-field, slot_rows, Decides-slot, where_true, Decides-where_true, Decides-filter}
 
 -- the objects in a slot or a pin

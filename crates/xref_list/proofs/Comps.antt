@@ -7,9 +7,9 @@ use Rattle.std.proofs.lemmas.List.Elements.{All-head, All-tail, All-push, All-ma
 use Rattle.std.proofs.lemmas.List.Quantifiers.{all_pairs_push}
 use Rattle.std.specs.List.{All}
 use Rattle.joint_model.specs.Components.{Rises, first_of, circle, circle_from, PairsRise}
+use Rattle.joint_model.proofs.Members.{Rises-push}
 use Rattle.bridge_graph.specs.Packing.{packed_row, packed_rows}
 use Rattle.bridge_graph.proofs.Packs.{packed_rows-more, cut-more}
-use Rattle.bridge_graph.proofs.Building.{Rises-push}
 use Rattle.std.specs.declared.alloc.AllocError.{AllocError}
 use Rattle.xref_list.specs.declared.pairs.Added.{Added}
 use Rattle.xref_list.specs.declared.pairs.Added.TheVariants.{New, Old}

@@ -1,9 +1,9 @@
 use Rattle.std.proofs.Common.{◌-◌, length, None, refl, sym, eq-eqb, arith}
 use Rattle.std.proofs.lemmas.Option.{slice_get_read}
 use Rattle.global_handles.specs.Slots.{head_in}
-use Rattle.global_handles.proofs.Rows.{eqb-apart}
 use Rattle.global_handles.proofs.Chains.{IsChained-emptied, IsChained-without, length-with_next, length-with_row, length-without_slots, links-within, opens-own, rows_from-without_slots}
 use Rattle.global_handles.proofs.remove_row.Goals as goal
+use Rattle.joint_model.proofs.Deciding.{neq-eqb}
 
 pub returns-then-not-is_open-clause-chained : goal.returns-then-not-is_open-clause-chained
 returns-then-not-is_open-clause-chained c =
@@ -53,7 +53,7 @@ returns-else-slot-eq0-clause-chained c =
     let there = slice_get_read all (length all) i slot refl (omega arith) c.index-slot.ensures in
     let own = opens-own slot (sym c.if-not-is_open.ensures) in
     rw (c.set_previous.ensures.items, c.set_next.ensures, c.set_row.ensures)
-    (IsChained-without all i slot slot.peer (head_in c.args.heads.now.entries) (head_in c.args.heads.now.entries) there own (λ q. rw (eqb-apart slot.previous 0 (omega arith)) refl) c.requires.chained)
+    (IsChained-without all i slot slot.peer (head_in c.args.heads.now.entries) (head_in c.args.heads.now.entries) there own (λ q. rw (neq-eqb slot.previous 0 (omega arith)) refl) c.requires.chained)
 
 pub returns-then-slot-eq0-clause-rows : goal.returns-then-slot-eq0-clause-rows
 returns-then-slot-eq0-clause-rows c = rw (c.set_previous.ensures.items, c.set_next.ensures, c.set_row.ensures) (rows_from-without_slots c.args.slots.now.items (c.args.h.0 - 1) c.index-slot.result.now)

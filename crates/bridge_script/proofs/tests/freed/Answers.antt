@@ -4,14 +4,8 @@ use Rattle.std.proofs.lemmas.List.Elements.{All-nil}
 use Rattle.joint_model.specs.declared.names.MNum.{MNum}
 use Rattle.joint_model.specs.declared.names.PNum.{PNum}
 use Rattle.joint_model.specs.Histories.{IsJoinable}
+use Rattle.joint_model.proofs.Joining.{joins_none}
 use Rattle.bridge_script.proofs.tests.freed.Goals as goal
-
-joins_none : (ms : List MNum) (ps : List PNum) (ns : List MNum) → IsJoinable [] ms ps ns
-joins_none ms ps ns = record {
-  whole = [];
-  shuffle = record { numbers = tt; rise = All-nil _; placed = All-nil _; covered = All-nil _; count = refl };
-  sound = All-nil _;
-}
 
 pub join-requires : goal.join-requires
 join-requires c = rw (c.new.ensures.items) (joins_none _ _ _)

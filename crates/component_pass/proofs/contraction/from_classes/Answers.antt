@@ -1,19 +1,7 @@
 -- Ordering the pairs changes neither which there are nor the components.
-use Rattle.std.proofs.Common.{◌≡◌, List, ℕ, Result, Ok, Err, IfOk, sym, subst}
-use Rattle.std.specs.List.Sorted.{IsPermutation}
-use Rattle.std.specs.declared.alloc.AllocError.{AllocError}
-use Rattle.joint_model.specs.Components.{IsCanonical, IsContraction}
-use Rattle.xref_list.specs.Listing.{Listing, IsListing}
+use Rattle.component_pass.proofs.Ordered.{finished}
 use Rattle.component_pass.proofs.Crossing.{Setting, contraction_of}
 use Rattle.component_pass.proofs.contraction.from_classes.Goals as goal
-
-finished : (B : ℕ → Type 0) (E : ℕ → ℕ → Type 0) (r : Result Listing AllocError) (comps : List (List ℕ)) (pairs : List (ℕ × ℕ))
-    → IfOk r (λ c. c.comps ≡ comps) → IfOk r (λ c. IsPermutation pairs c.pairs) → IfOk r (λ c. IsListing c.comps c.pairs)
-    → ((ordered : List (ℕ × ℕ)) → IsPermutation pairs ordered → IsCanonical comps ordered → IsContraction B E comps ordered)
-    → IfOk r (λ c. IsContraction B E c.comps c.pairs)
-finished B E (Ok c) comps pairs e m l h =
-    subst (λ (xs : List (List ℕ)). IsContraction B E xs c.pairs) (sym e) (h c.pairs m (subst (λ (xs : List (List ℕ)). IsCanonical xs c.pairs) e l.canonical))
-finished B E (Err x) comps pairs e m l h = tt
 
 pub returns : goal.returns
 returns c =

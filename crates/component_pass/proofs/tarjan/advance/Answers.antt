@@ -1,13 +1,11 @@
 use Rattle.std.proofs.Common.{◌≡◌, ◌+◌, ◌<◌, ◌++◌, ◌∷◌, [], List, ℕ, length, reverse, get_or, ◌∙◌, ap, arith}
-use Rattle.std.proofs.lemmas.List.{reverse-append, length_push, get_or_default}
+use Rattle.std.proofs.lemmas.List.{length_push, get_or_default}
 use Rattle.component_pass.specs.declared.tarjan.Frame.{Frame}
 use Rattle.component_pass.specs.Tarjan.{unseen}
 use Rattle.bridge_graph.specs.Parts.{row_at}
 use Rattle.component_pass.proofs.Strong.{descended, merged, completed, unseen-set}
 use Rattle.component_pass.proofs.tarjan.advance.Goals as goal
-
-reverse-push : (xs : List Frame) (x : Frame) → reverse (xs ++ x ∷ []) ≡ x ∷ reverse xs
-reverse-push xs x = reverse-append xs (x ∷ [])
+use Rattle.component_pass.proofs.Ordered.{reverse-push}
 
 pub returns-then-scan-row-clause-going : goal.returns-then-scan-row-clause-going
 returns-then-scan-row-clause-going c =

@@ -1,9 +1,9 @@
 -- Each turn adds the edges of one object, which has none if it isn't live.
 use Rattle.std.proofs.Common.{arith}
 use Rattle.joint_model.specs.Heaps.{IsLive}
+use Rattle.joint_model.proofs.Deciding.{test-false}
 use Rattle.joint_marking.specs.Nodes.{ObjectEdge}
 use Rattle.joint_marking.proofs.Edges.{Brought-push, Brought-skip, Brought-all}
-use Rattle.joint_marking.proofs.Gathering.{test-false}
 use Rattle.joint_marking.proofs.Reaching.{ObjectEdge-live}
 use Rattle.joint_marking.proofs.rows.add_objects.Goals as goal
 use Rattle.joint_marking.proofs.rows.add_objects.Goals.{then-is_live_object+in_ok-add_object, else-is_live_object}

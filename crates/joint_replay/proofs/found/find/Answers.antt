@@ -1,15 +1,16 @@
 -- Both markings start from live rows, so they mark exactly what is reached.
 use Rattle.std.proofs.Common.{◌<◌, ◌+◌, All, length, subst, sym}
 use Rattle.joint_model.specs.Heaps.{IsLive, InSlot}
+use Rattle.managed_heap.proofs.Snapshots.{roots-within}
 use Rattle.managed_heap.specs.Found.{IsBridgeRow}
-use Rattle.joint_replay.proofs.Finding.{marks-open, live-reached, live-within, Finds-from}
+use Rattle.joint_replay.proofs.Finding.{marks-open, live-reached, Finds-from}
 use Rattle.joint_replay.proofs.found.find.Goals as goal
 
 pub reached-requires : goal.reached-requires
-reached-requires c = record { roots = subst (λ z. All (λ y. y < length c.args.heap.now.fields + 1) z) (sym c.deref.ensures.value) (live-within c.args.heap.now c.in_ok-roots.roots.items (λ x k. ((c.in_ok-roots.ensures x).0 k).0)) }
+reached-requires c = record { roots = subst (λ z. All (λ y. y < length c.args.heap.now.fields + 1) z) (sym c.deref.ensures.value) (roots-within c.args.heap.now c.in_ok-roots.roots.items (λ x k. ((c.in_ok-roots.ensures x).0 k).0)) }
 
 pub reached-requires-2 : goal.reached-requires-2
-reached-requires-2 c = record { roots = subst (λ z. All (λ y. y < length c.args.heap.now.fields + 1) z) (sym c.deref-2.ensures.value) (live-within c.args.heap.now c.in_ok-bridge_roots.bridge_roots.items (λ x k. ((c.in_ok-bridge_roots.ensures x).0 k).0)) }
+reached-requires-2 c = record { roots = subst (λ z. All (λ y. y < length c.args.heap.now.fields + 1) z) (sym c.deref-2.ensures.value) (roots-within c.args.heap.now c.in_ok-bridge_roots.bridge_roots.items (λ x k. ((c.in_ok-bridge_roots.ensures x).0 k).0)) }
 
 pub returns : goal.returns
 returns c =

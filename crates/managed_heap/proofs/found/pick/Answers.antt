@@ -1,8 +1,9 @@
 -- Each turn asks one row more.
 use Rattle.std.proofs.Common.{arith}
 use Rattle.joint_model.specs.declared.names.HNum.{HNum}
+use Rattle.object_heap.proofs.Gathering.{Gathered-push, Gathered-skip}
 use Rattle.managed_heap.specs.Found.{IsCandidateRow}
-use Rattle.managed_heap.proofs.Gathering.{Gathered-push, Gathered-skip, Gathered-all, made-below, some-true, none-false, named-more}
+use Rattle.managed_heap.proofs.Gathering.{Gathered-all, made-below, some-true, none-false, named-more}
 use Rattle.managed_heap.proofs.found.pick.Goals as goal
 use Rattle.managed_heap.proofs.found.pick.Goals.{in-Some+in_ok-push+in_ok-push-2, in_default}
 

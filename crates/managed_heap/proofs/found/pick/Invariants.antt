@@ -1,7 +1,7 @@
 -- The candidates so far are gathered, with their handles.
 use Rattle.std.proofs.Common.{◌≡◌, map, Some}
 use Rattle.managed_heap.specs.Found.{IsCandidateRow, held_at}
-use Rattle.managed_heap.specs.Gathered.{Gathered}
+use Rattle.object_heap.specs.Gathered.{Gathered}
 use Rattle.managed_heap.proofs.found.pick.Given as goal
 
 abbrev pub invariant-loop-m : goal.invariant-loop-m

@@ -3,8 +3,10 @@ use Rattle.std.proofs.Common.{arith, ◌∷◌, []}
 use Rattle.std.proofs.lemmas.List.{map-append}
 use Rattle.joint_model.specs.declared.names.MNum.{MNum}
 use Rattle.joint_model.specs.Histories.{managed_numbers}
+use Rattle.joint_model.proofs.Deciding.{test-true, test-false}
+use Rattle.object_heap.proofs.Gathering.{Gathered-push, Gathered-skip}
 use Rattle.managed_heap.specs.Found.{IsUnreachedRow}
-use Rattle.managed_heap.proofs.Gathering.{Gathered-push, Gathered-skip, Gathered-all, made-below, test-true, test-false}
+use Rattle.managed_heap.proofs.Gathering.{Gathered-all, made-below}
 use Rattle.managed_heap.proofs.found.unreached.Goals as goal
 use Rattle.managed_heap.proofs.found.unreached.Goals.{then-is_unreached+in_ok-push, else-is_unreached}
 

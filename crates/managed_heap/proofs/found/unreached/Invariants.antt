@@ -1,7 +1,7 @@
 -- The wanted rows so far are gathered.
 use Rattle.joint_model.specs.Histories.{managed_numbers}
 use Rattle.managed_heap.specs.Found.{IsUnreachedRow}
-use Rattle.managed_heap.specs.Gathered.{Gathered}
+use Rattle.object_heap.specs.Gathered.{Gathered}
 use Rattle.managed_heap.proofs.found.unreached.Given as goal
 
 abbrev pub invariant-loop-m : goal.invariant-loop-m

@@ -1,11 +1,12 @@
 use Rattle.std.proofs.Common.{ℕ, List, [], ◌∷◌, refl}
 use Rattle.std.specs.List.{Contains}
 use Rattle.std.proofs.lemmas.Bool.{false≢true}
-use Rattle.worked_histories.proofs.Decided.{Contains-here, Contains-there, mem_from_Contains}
+use Rattle.worked_histories.proofs.Decided.{mem_from_Contains}
 use Rattle.worked_histories.proofs.Contractions.{contraction, Decides-pair_eq, pair_eq}
 use Rattle.worked_histories.proofs.PairGraphs.{listed_next, IsFinite-listed}
 use Rattle.worked_histories.specs.Graphs.{HasEdge, diamond, diamond_bridges, diamond_components, diamond_references}
 use Rattle.worked_histories.proofs.graphs.components_without_detours.Goals as goal
+use Rattle.joint_model.proofs.Members.{Contains-here, Contains-there}
 
 abbrev nodes : List ℕ
 nodes = 0 ∷ 1 ∷ 2 ∷ 3 ∷ 4 ∷ []

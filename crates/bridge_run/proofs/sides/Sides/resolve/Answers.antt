@@ -1,7 +1,8 @@
 use Rattle.std.proofs.Common.{ℕ, List, length, ap, ◌∙◌}
 use Rattle.joint_model.specs.Control.{candidates_of}
+use Rattle.joint_model.proofs.HeapLemmas.{candidates_of-open}
 use Rattle.bridge_run.proofs.Ran.{below-managed}
-use Rattle.bridge_run.proofs.Cycling.{candidates-is, resolve-goes}
+use Rattle.bridge_run.proofs.Cycling.{resolve-goes}
 use Rattle.bridge_run.proofs.Keeping.{handles-sure, answers-same, answers-many}
 use Rattle.bridge_run.proofs.sides.Sides.resolve.Goals as goal
 
@@ -15,7 +16,7 @@ pub resolve-requires-clause-answers : goal.resolve-requires-clause-answers
 resolve-requires-clause-answers c =
     let handles = rw (← c.self.view_is) at c.requires.handles in
     λ k is. answers-many c.self.inside.managed.managed c.self.inside.peers (candidates_of c.self.inside.managed.managed) c.args.handles.now c.in_ok-alive.alive.values handles c.in_ok-alive.ensures
-    ∙ ap (λ (l : List ℕ). length l) (candidates-is c.self.inside.managed.managed k is)
+    ∙ ap (λ (l : List ℕ). length l) (candidates_of-open c.self.inside.managed.managed k is)
 
 pub resolve-requires-clause-below : goal.resolve-requires-clause-below
 resolve-requires-clause-below c =

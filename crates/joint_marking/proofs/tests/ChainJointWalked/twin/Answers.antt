@@ -4,13 +4,12 @@ use Rattle.std.specs.Prelude.{Contains}
 use Rattle.joint_model.specs.Heaps.{IsLive, numbered_at}
 use Rattle.joint_model.specs.Joint.{IsJoined}
 use Rattle.joint_model.specs.Peers.{peer_of}
-use Rattle.reachability.proofs.Marking.{Contains-nil}
+use Rattle.joint_model.proofs.Members.{Contains-nil, Contains-cons_cases}
 use Rattle.joint_marking.specs.Chain.{chain, chain_objects}
-use Rattle.joint_marking.proofs.Gathering.{cons-cases}
 use Rattle.joint_marking.proofs.tests.ChainJointWalked.twin.Goals as goal
 
 kept : (p : ℕ) → p ≤ 4 → Contains (5 ∷ []) p → ⊥
-kept p l c = elim (cons-cases 5 [] p c) [ inl e ↦ omega (arith, e, l) | inr h ↦ Contains-nil p h ]
+kept p l c = elim (Contains-cons_cases 5 [] p c) [ inl e ↦ omega (arith, e, l) | inr h ↦ Contains-nil p h ]
 
 -- an object that holds its own number is joined to that peer alone
 own : (x : ℕ) → IsLive chain_objects x → x ≤ 3 → numbered_at chain.managed.held x ≡ Some (Some x) → peer_of chain.peers.issued x ≡ Some x → (p : ℕ) → (Some x ≡ Some p) ↔ IsJoined chain x p

@@ -2,7 +2,7 @@
 use Rattle.std.proofs.Common.{◌≡◌, ℕ, All, refl, subst}
 use Rattle.std.proofs.lemmas.List.Elements.{All-map}
 use Rattle.joint_model.specs.Peers.{Peers, Issued, held}
-use Rattle.joint_marking.proofs.Gathering.{All-members}
+use Rattle.joint_model.proofs.Members.{All-members}
 use Rattle.joint_replay.specs.Plain.{held_on}
 use Rattle.joint_replay.proofs.peers.PeerPart.handles.Goals as goal
 

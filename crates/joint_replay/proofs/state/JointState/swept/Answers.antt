@@ -4,8 +4,8 @@ use Rattle.std.specs.Prelude.{All}
 use Rattle.joint_model.specs.Components.{Rises}
 use Rattle.joint_model.specs.Joint.{Joint}
 use Rattle.joint_model.specs.Run.{IsStored}
+use Rattle.joint_model.proofs.Deciding.{test-false}
 use Rattle.reachability.specs.Marks.{IsMarked}
-use Rattle.joint_marking.proofs.Gathering.{test-false}
 use Rattle.joint_replay.specs.Judging.{named_peers}
 use Rattle.joint_replay.specs.Snaps.{MaySweep, SaysSwept}
 use Rattle.joint_replay.proofs.Sweeping.{may-sweep, sweep-dead, sweep-stored}

@@ -4,7 +4,7 @@ use Rattle.std.specs.Prelude.{Contains}
 use Rattle.joint_model.specs.Cycles.{IsAnsweredAlive}
 use Rattle.joint_model.specs.Histories.{managed_numbers}
 use Rattle.joint_model.specs.Managed.{OpenCycle}
-use Rattle.object_heap.proofs.Numbered.{Contains-at}
+use Rattle.joint_model.proofs.Members.{Contains-at}
 use Rattle.managed_heap.proofs.Gathering.{All-numbers}
 use Rattle.managed_heap.proofs.Snapshots.{roots-within, Settles-from, made-within}
 use Rattle.managed_heap.proofs.open.Open.settle.Goals as goal

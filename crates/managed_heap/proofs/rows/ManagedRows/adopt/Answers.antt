@@ -1,16 +1,17 @@
 -- The new row is in no dead part, and everything else stands as before.
 use Rattle.std.proofs.Common.{◌≤◌, ◌+◌, ◌++◌, ◌∷◌, [], ◌∙◌, length, subst, sym, arith, Some, ap}
 use Rattle.joint_model.specs.Heaps.{IsLive, with_var}
+use Rattle.joint_model.proofs.Deciding.{some-same}
 use Rattle.object_heap.proofs.Sound.{IsLive-newest}
 use Rattle.managed_heap.specs.Rows.{rows_of}
-use Rattle.managed_heap.proofs.Freezing.{AreRows-more, AreRows-adopted, some-is}
+use Rattle.managed_heap.proofs.Freezing.{AreRows-more, AreRows-adopted}
 use Rattle.managed_heap.proofs.rows.ManagedRows.adopt.Goals as goal
 
 pub invariant_of-self-in_err-x : goal.invariant_of-self-in_err-x
 invariant_of-self-in_err-x c = rw (c.in_err-x.ensures.err, c.in_ok-reserve.ensures.items, c.in_ok-reserve-2.ensures.items) (AreRows-more _ _ _ _ c.self.invariant c.in_ok-reserve-3.ensures.kept)
 
 pub set_var-requires-clause-live : goal.set_var-requires-clause-live
-set_var-requires-clause-live c = λ y e. rw (c.in_ok-x.ensures.ok.1) (subst (IsLive _) (sym c.in_ok-x.ensures.ok.0 ∙ some-is _ _ e) (IsLive-newest _ c.args.fields c.made.ensures.tidy))
+set_var-requires-clause-live c = λ y e. rw (c.in_ok-x.ensures.ok.1) (subst (IsLive _) (sym c.in_ok-x.ensures.ok.0 ∙ some-same _ _ e) (IsLive-newest _ c.args.fields c.made.ensures.tidy))
 
 pub invariant_of-self-2 : goal.invariant_of-self-2
 invariant_of-self-2 c =

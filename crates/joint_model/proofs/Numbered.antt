@@ -5,13 +5,11 @@ use Rattle.std.specs.Prelude.{Contains, slice_get}
 use Rattle.std.proofs.Math.ListN.{length-set}
 use Rattle.std.proofs.lemmas.Option.{slice_get_within, slice_get_past, slice_get-get_or}
 use Rattle.joint_model.specs.Heaps.{numbered_at, numbered_set, slot}
-use Rattle.joint_laws.proofs.Lists.{Contains-at, at-Contains}
-
-pub none_some : {A : Type 0} (x : A) → None ≡ Some x → ⊥
-none_some x e = cc
+use Rattle.joint_model.proofs.Deciding.{none_some}
+use Rattle.joint_model.proofs.Members.{Contains-at, at-Contains}
 
 -- what a list has after a write it had before, or it is what was written
-set-at_cases : {X : Type 0} (xs : List X) (i k : ℕ) (y z : X) → slice_get (set xs i y) k ≡ Some z → (slice_get xs k ≡ Some z) ⊎ (y ≡ z)
+pub set-at_cases : {X : Type 0} (xs : List X) (i k : ℕ) (y z : X) → slice_get (set xs i y) k ≡ Some z → (slice_get xs k ≡ Some z) ⊎ (y ≡ z)
 set-at_cases [] i k y z e = inl e
 set-at_cases (x ∷ xs) zero zero y z e = inr (let f : y ≡ z = cc in f)
 set-at_cases (x ∷ xs) zero (suc k) y z e = inl e
@@ -23,30 +21,30 @@ Contains-set_cases xs i y z h =
     let p = at-Contains (set xs i y) z h in
     elim (set-at_cases xs i p.0 y z p.1) [ inl w ↦ inl (Contains-at xs p.0 z w) | inr w ↦ inr w ]
 
-set-at_same : {X : Type 0} (xs : List X) (i : ℕ) (y z : X) → slice_get (set xs i y) i ≡ Some z → y ≡ z
+pub set-at_same : {X : Type 0} (xs : List X) (i : ℕ) (y z : X) → slice_get (set xs i y) i ≡ Some z → y ≡ z
 set-at_same [] i y z e = cc
 set-at_same (x ∷ xs) zero y z e = cc
 set-at_same (x ∷ xs) (suc i) y z e = set-at_same xs i y z e
 
-set-at_other : {X : Type 0} (xs : List X) (i k : ℕ) (y : X) → k ≢ i → slice_get (set xs i y) k ≡ slice_get xs k
+pub set-at_other : {X : Type 0} (xs : List X) (i k : ℕ) (y : X) → k ≢ i → slice_get (set xs i y) k ≡ slice_get xs k
 set-at_other [] i k y n = refl
 set-at_other (x ∷ xs) zero zero y n = absurd (n refl)
 set-at_other (x ∷ xs) zero (suc k) y n = refl
 set-at_other (x ∷ xs) (suc i) zero y n = refl
 set-at_other (x ∷ xs) (suc i) (suc k) y n = set-at_other xs i k y (λ e. n (ap suc e))
 
-push-at_cases : {X : Type 0} (xs : List X) (y : X) (k : ℕ) (z : X) → slice_get (xs ++ y ∷ []) k ≡ Some z → (slice_get xs k ≡ Some z) ⊎ ((k ≡ length xs) × (y ≡ z))
+pub push-at_cases : {X : Type 0} (xs : List X) (y : X) (k : ℕ) (z : X) → slice_get (xs ++ y ∷ []) k ≡ Some z → (slice_get xs k ≡ Some z) ⊎ ((k ≡ length xs) × (y ≡ z))
 push-at_cases [] y zero z e = inr (refl, let f : y ≡ z = cc in f)
 push-at_cases [] y (suc k) z e = inl e
 push-at_cases (x ∷ xs) y zero z e = inl e
 push-at_cases (x ∷ xs) y (suc k) z e = elim (push-at_cases xs y k z e) [ inl w ↦ inl w | inr w ↦ inr (omega (arith, w.0), w.1) ]
 
-push-at_old : {X : Type 0} (xs : List X) (y : X) (k : ℕ) → k < length xs → slice_get (xs ++ y ∷ []) k ≡ slice_get xs k
+pub push-at_old : {X : Type 0} (xs : List X) (y : X) (k : ℕ) → k < length xs → slice_get (xs ++ y ∷ []) k ≡ slice_get xs k
 push-at_old [] y k l = absurd (omega arith)
 push-at_old (x ∷ xs) y zero l = refl
 push-at_old (x ∷ xs) y (suc k) l = push-at_old xs y k (omega arith)
 
-push-at_new : {X : Type 0} (xs : List X) (y : X) → slice_get (xs ++ y ∷ []) (length xs) ≡ Some y
+pub push-at_new : {X : Type 0} (xs : List X) (y : X) → slice_get (xs ++ y ∷ []) (length xs) ≡ Some y
 push-at_new [] y = refl
 push-at_new (x ∷ xs) y = push-at_new xs y
 
@@ -83,7 +81,7 @@ pub numbered_set-same : {X : Type 0} (xs : List X) (n : ℕ) (y z : X) → numbe
 numbered_set-same xs zero y z e = absurd (none_some z e)
 numbered_set-same xs (suc i) y z e = set-at_same xs i y z e
 
-set-at_here : {X : Type 0} (xs : List X) (i : ℕ) (y : X) → i < length xs → slice_get (set xs i y) i ≡ Some y
+pub set-at_here : {X : Type 0} (xs : List X) (i : ℕ) (y : X) → i < length xs → slice_get (set xs i y) i ≡ Some y
 set-at_here [] i y l = absurd (omega arith)
 set-at_here (x ∷ xs) zero y l = refl
 set-at_here (x ∷ xs) (suc i) y l = set-at_here xs i y (omega arith)
