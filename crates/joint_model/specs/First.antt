@@ -13,6 +13,7 @@ use Rattle.joint_model.specs.declared.events.Reply.TheVariants as says
 use Rattle.joint_model.specs.declared.events.Made.{Made}
 use Rattle.joint_model.specs.Control.{Control, Stand, idle, snapped, marked, restoring, ThreadAllows, doing_at, doing_after, caller_place, last_line, peer_of_row, candidates_of, IsDone, MaySnap, MayAbandonNow}
 use Rattle.joint_model.specs.Heaps.{Answered, answer, is_freed, with_freed, IsLive}
+use Rattle.joint_model.specs.Draws.{NumberedFrom}
 use Rattle.joint_model.specs.Histories.{Finished, managed_numbers, peer_numbers}
 use Rattle.joint_model.specs.Components.{Rises}
 use Rattle.joint_model.specs.Joint.{Graph, IsReachedIn, peer}
@@ -136,9 +137,8 @@ IsCycleAlone idle t = Unit {0}
 IsCycleAlone _ C = Unit {0}
 IsCycleAlone _ t = ⊥
 
--- the entry may come next
+-- the entry may come next, whatever its number
 pub record FirstMayCome (s : FirstLinkage) (n : Noted) : Type 0 where
-  pub number : n.entry.number ≡ s.base.count
   pub event : IsEvent n.entry.made.caller n.entry.made.op
   pub line : last_line s.base.control n.entry.made.caller ≤ n.entry.made.index
   pub lawful : FirstSideLawful (is_peer_event n.entry.made.caller n.entry.made.op) s n.entry.made n.told
@@ -163,7 +163,6 @@ first_after s n = record {
     managed = managed_after s.base.managed n.entry.made n.told (is_peer_event n.entry.made.caller n.entry.made.op);
     peer = first_peer_after s.base.peer n.entry.made n.told (is_peer_event n.entry.made.caller n.entry.made.op);
     control = first_control_after s.base.control n.entry.made.caller n.entry.number n.entry.made.index n.entry.made.op n.entry.made.reply;
-    count = s.base.count + 1;
   };
   unreached = unreached_after s.unreached n.told;
 }
@@ -184,9 +183,11 @@ pub record IsFirstWhole (s : FirstLinkage) : Type 0 where
   pub threads : (t : ℕ) → IsDone (doing_at s.base.control t)
   pub driver : s.base.control.stand ≡ idle
 
--- a history is linked in the form of the first steps, with the notes given: in these steps nobody takes notices
+-- a history is linked in the form of the first steps, with the notes given: the numbers are those from 0 on, and in these
+-- steps nobody takes notices
 pub record IsFirstLinkedBy (h : Finished) (noted : List Noted) : Type 0 where
   pub same : map (λ n. n.entry) noted ≡ h.entries
+  pub numbers : NumberedFrom 0 h.entries
   pub lawful : AllFirstMayCome opening_first noted
   pub whole : IsFirstWhole (first_replayed opening_first noted)
   pub freed_managed : managed_numbers h.freed_managed ≡ (first_replayed opening_first noted).base.managed.managed.heap.freed

@@ -1,11 +1,12 @@
 -- Linked histories: the one list of entries in which both sides' own lists are lawful, the citations agree, and each
 -- caller's events come in their order. And the joint projection: the entries that are steps of the joint machine.
-use Rattle.std.specs.Prelude.{◌≡◌, ℕ, ◌+◌, ◌≤◌, Bool, true, false, List, [], ◌∷◌, length, map, filter, take}
+use Rattle.std.specs.Prelude.{◌≡◌, ℕ, ◌≤◌, Bool, true, false, List, [], ◌∷◌, length, map, filter, take}
 use Rattle.joint_model.specs.declared.lines.Act.TheVariants as act
 use Rattle.joint_model.specs.declared.events.Op.{Op}
 use Rattle.joint_model.specs.declared.events.Op.TheVariants as op
 use Rattle.joint_model.specs.declared.events.Made.{Made}
 use Rattle.joint_model.specs.Control.{Control, opening_control, CallerAllows, control_after, last_line, candidates_of, doing_at, IsDone, IsAtRest}
+use Rattle.joint_model.specs.Draws.{NumberedFrom}
 use Rattle.joint_model.specs.Histories.{Finished, managed_numbers, peer_numbers}
 use Rattle.joint_model.specs.Lines.{IsEvent, is_peer_event}
 use Rattle.joint_model.specs.Managed.{Managed}
@@ -13,16 +14,15 @@ use Rattle.joint_model.specs.ManagedReplay.{ManagedReplay, opening_replay, manag
 use Rattle.joint_model.specs.PeerReplay.{PeerReplay, opening_peer_replay, peer_answer, PeerAllows}
 use Rattle.joint_model.specs.Told.{Told, Noted}
 
--- both sides' replays, the callers' control, and the number of entries so far
+-- both sides' replays and the callers' control
 pub record Linkage : Type 0 where
   pub managed : ManagedReplay
   pub peer : PeerReplay
   pub control : Control
-  pub count : ℕ
 
 -- before the first entry
 abbrev pub opening_linkage : Linkage
-opening_linkage = record { managed = opening_replay; peer = opening_peer_replay; control = opening_control; count = 0 }
+opening_linkage = record { managed = opening_replay; peer = opening_peer_replay; control = opening_control }
 
 -- a managed entry is lawful: what it asks for holds, and its reply is the replay's
 pub record ManagedLawful (s : ManagedReplay) (m : Made) (told : Told) : Type 0 where
@@ -39,9 +39,8 @@ abbrev pub SideLawful : Bool → Linkage → Made → Told → Type 0
 SideLawful true s m told = PeerLawful s.peer m told
 SideLawful false s m told = ManagedLawful s.managed m told
 
--- the entry may come next
+-- the entry may come next, whatever its number
 pub record MayCome (s : Linkage) (n : Noted) : Type 0 where
-  pub number : n.entry.number ≡ s.count
   pub event : IsEvent n.entry.made.caller n.entry.made.op
   pub line : last_line s.control n.entry.made.caller ≤ n.entry.made.index
   pub lawful : SideLawful (is_peer_event n.entry.made.caller n.entry.made.op) s n.entry.made n.told
@@ -62,7 +61,6 @@ linkage_after s n = record {
   managed = managed_after s.managed n.entry.made n.told (is_peer_event n.entry.made.caller n.entry.made.op);
   peer = peer_after s.peer n.entry.made n.told (is_peer_event n.entry.made.caller n.entry.made.op);
   control = control_after s.control n.entry.made.caller n.entry.number n.entry.made.index n.entry.made.op n.entry.made.reply n.told;
-  count = s.count + 1;
 }
 
 -- the state after all entries of a list
@@ -85,10 +83,11 @@ pub record IsWhole (s : Linkage) : Type 0 where
 abbrev pub managed_end : List Noted → Managed
 managed_end ns = (replayed opening_linkage ns).managed.managed
 
--- a history is linked by these notes, which are its entries with what is told beside them: each may come when it comes,
--- the last state is whole, the freed lists are what was freed, and the notices that were taken are the first of its list
+-- a history is linked by these notes, which are its entries with what is told beside them: the numbers are those from 0
+-- on, each entry may come when it comes, the last state is whole, the freed lists are what was freed, and the notices that were taken are the first of its list
 pub record IsLinkedBy (h : Finished) (noted : List Noted) : Type 0 where
   pub same : map (λ n. n.entry) noted ≡ h.entries
+  pub numbers : NumberedFrom 0 h.entries
   pub lawful : AllMayCome opening_linkage noted
   pub whole : IsWhole (replayed opening_linkage noted)
   pub freed_managed : managed_numbers h.freed_managed ≡ (replayed opening_linkage noted).managed.managed.heap.freed

@@ -1,7 +1,7 @@
 -- Reads that take no lock: a reader's `read` or `wait` is an entry of the reader's own list, made at any moment. Here is what
 -- such an entry may answer, over a whole history, and how linked histories have them. (SGen's bridge header: while bridge
 -- processing is in progress, the reading of a weak link to a bridge object waits.)
-use Rattle.std.specs.Prelude.{◌≡◌, ℕ, ◌+◌, ◌<◌, ◌≤◌, ◌⊎◌, Bool, true, false, not, ◌&&◌, if◌then◌else◌, List, [], ◌∷◌, map, filter, take, Contains, Option, Some, None, slice_get, slice_set}
+use Rattle.std.specs.Prelude.{◌≡◌, ℕ, ◌<◌, ◌≤◌, ◌⊎◌, Bool, true, false, not, ◌&&◌, if◌then◌else◌, List, [], ◌∷◌, map, filter, take, Contains, Option, Some, None, slice_get, slice_set}
 use Rattle.joint_model.specs.declared.names.Thread.{Thread}
 use Rattle.joint_model.specs.declared.lines.Act.TheVariants as act
 use Rattle.joint_model.specs.declared.events.Op.{Op}
@@ -9,6 +9,7 @@ use Rattle.joint_model.specs.declared.events.Op.TheVariants as op
 use Rattle.joint_model.specs.declared.events.Reply.{Reply}
 use Rattle.joint_model.specs.declared.events.Reply.TheVariants as says
 use Rattle.joint_model.specs.Control.{CallerAllows, control_after, last_line}
+use Rattle.joint_model.specs.Draws.{NumberedFrom}
 use Rattle.joint_model.specs.Heaps.{slot}
 use Rattle.joint_model.specs.Histories.{Finished, managed_numbers, peer_numbers}
 use Rattle.joint_model.specs.Lines.{IsEvent, is_peer_event}
@@ -129,12 +130,10 @@ abbrev pub reader_after : Linkage → Noted → Linkage
 reader_after s n = record s {
   managed = record s.managed { managed = record s.managed.managed { pins = pins_after s.managed.managed.pins (thread_number n.entry.made.caller) n.entry.made.reply } };
   control = control_after s.control n.entry.made.caller n.entry.number n.entry.made.index n.entry.made.op n.entry.made.reply n.told;
-  count = s.count + 1;
 }
 
--- a reader's entry may come next, but for its reply
+-- a reader's entry may come next, whatever its number, but for its reply
 pub record ReaderMayCome (s : Linkage) (n : Noted) : Type 0 where
-  pub number : n.entry.number ≡ s.count
   pub event : IsEvent n.entry.made.caller n.entry.made.op
   pub line : last_line s.control n.entry.made.caller ≤ n.entry.made.index
   pub order : CallerAllows s.control s.managed.managed s.peer.peers.issued n.entry.made.caller n.entry.made.index n.entry.made.op n.entry.made.reply n.entry.made.cites n.told
@@ -142,7 +141,7 @@ pub record ReaderMayCome (s : Linkage) (n : Noted) : Type 0 where
 
 -- an entry of any list may come next, given the whole history and the cells at its end
 abbrev pub EntryMayCome : Bool → List Noted → List (Option ℕ) → Linkage → Noted → Type 0
-EntryMayCome true ns cells s n = ReaderMayCome s n × ((k : ℕ) → ReadsCell n.entry.made.op k → IsReadReply ns cells s.managed.managed s.count n.entry.made.caller k n.entry.made.reply)
+EntryMayCome true ns cells s n = ReaderMayCome s n × ((k : ℕ) → ReadsCell n.entry.made.op k → IsReadReply ns cells s.managed.managed n.entry.number n.entry.made.caller k n.entry.made.reply)
 EntryMayCome false ns cells s n = MayCome s n
 
 -- the state after an entry of any list
@@ -158,9 +157,10 @@ abbrev pub AllMayComeReading : List Noted → List (Option ℕ) → Linkage → 
 AllMayComeReading whole cells s [] = Unit {0}
 AllMayComeReading whole cells s (n ∷ ns) = EntryMayCome (is_read n.entry.made.op) whole cells s n × AllMayComeReading whole cells (entry_after s n) ns
 
--- a history with readers is linked by these notes
+-- a history with readers is linked by these notes; the numbers are those from 0 on
 pub record IsLinkedReadingBy (h : Finished) (noted : List Noted) : Type 0 where
   pub same : map (λ n. n.entry) noted ≡ h.entries
+  pub numbers : NumberedFrom 0 h.entries
   pub lawful : AllMayComeReading noted (replayed_reading opening_linkage noted).managed.managed.cells opening_linkage noted
   pub whole : IsWhole (replayed_reading opening_linkage noted)
   pub freed_managed : managed_numbers h.freed_managed ≡ (replayed_reading opening_linkage noted).managed.managed.heap.freed

@@ -1,5 +1,5 @@
--- In one state, two entries that may come and have the same caller, line and event are the same, with what is told
--- beside them: the number is the count of entries so far, the citation is the caller's automaton's, what is told is
+-- In one state, two entries that may come and have the same number, caller, line and event are the same, with what is told
+-- beside them: the citation is the caller's automaton's, what is told is
 -- decided by the state, and the reply is a function of the state and of what is told.
 use Rattle.std.proofs.Common.{◌≡◌, ℕ, Bool, true, false, Option, sym, ◌∙◌, ap, subst}
 use Rattle.joint_model.specs.declared.names.Thread.{Thread}
@@ -89,23 +89,22 @@ side-reply : (side : Bool) (s : FirstLinkage) (t : Thread) (l : ℕ) (o : Op) (r
 side-reply true s t l o r r' c c' x y ec ex a b = a.replies ∙ (ap (λ (z : Option ℕ). (first_peer_answer s.base.peer t o z x).reply) ec ∙ (ap (λ (z : Told). (first_peer_answer s.base.peer t o c' z).reply) ex ∙ sym b.replies))
 side-reply false s t l o r r' c c' x y ec ex a b = a.replies ∙ (ap (λ (z : Told). (managed_answer s.base.managed t o z).reply) ex ∙ sym b.replies)
 
-one-noted : (s : FirstLinkage) (t : Thread) (l : ℕ) (o : Op) (n n' : ℕ) (r r' : Reply) (c c' : Option ℕ) (x y : Told) → FirstMayCome s (noting n t l o r c x) → FirstMayCome s (noting n' t l o r' c' y) → noting n t l o r c x ≡ noting n' t l o r' c' y
-one-noted s t l o n n' r r' c c' x y a b =
+one-noted : (s : FirstLinkage) (t : Thread) (l : ℕ) (o : Op) (n n' : ℕ) (r r' : Reply) (c c' : Option ℕ) (x y : Told) → n ≡ n' → FirstMayCome s (noting n t l o r c x) → FirstMayCome s (noting n' t l o r' c' y) → noting n t l o r c x ≡ noting n' t l o r' c' y
+one-noted s t l o n n' r r' c c' x y en a b =
     let p = keeps-of s t l o r c x a.event a.order in
     let q = keeps-of s t l o r' c' y b.event b.order in
-    let en : n ≡ n' = a.number ∙ sym b.number in
     let ec : c ≡ c' = caller-cites s t l o r r' c c' x y a.order b.order in
     let ex : x ≡ y = side-told (is_peer_event t o) s t l o r r' c c' x y p q a.lawful b.lawful in
     let er : r ≡ r' = side-reply (is_peer_event t o) s t l o r r' c c' x y ec ex a.lawful b.lawful in
     cc
 
--- two entries that may come in one state, and have the same caller, line and event
-pub one-note : (s : FirstLinkage) (a b : Noted) → a.entry.made.caller ≡ b.entry.made.caller → a.entry.made.index ≡ b.entry.made.index → a.entry.made.op ≡ b.entry.made.op → FirstMayCome s a → FirstMayCome s b → a ≡ b
-one-note s a b et el eo p q =
+-- two entries that may come in one state, and have the same number, caller, line and event
+pub one-note : (s : FirstLinkage) (a b : Noted) → a.entry.number ≡ b.entry.number → a.entry.made.caller ≡ b.entry.made.caller → a.entry.made.index ≡ b.entry.made.index → a.entry.made.op ≡ b.entry.made.op → FirstMayCome s a → FirstMayCome s b → a ≡ b
+one-note s a b en et el eo p q =
     let t = a.entry.made.caller in
     let l = a.entry.made.index in
     let m = b.entry.made in
     let n = b.entry.number in
     let i : noting n t l a.entry.made.op m.reply m.cites b.told ≡ b = ap (λ (z : Thread). noting n z l a.entry.made.op m.reply m.cites b.told) et ∙ (ap (λ (z : ℕ). noting n m.caller z a.entry.made.op m.reply m.cites b.told) el ∙ ap (λ (z : Op). noting n m.caller m.index z m.reply m.cites b.told) eo) in
     let q' = subst (FirstMayCome s) (sym i) q in
-    one-noted s t l a.entry.made.op a.entry.number n a.entry.made.reply m.reply a.entry.made.cites m.cites a.told b.told p q' ∙ i
+    one-noted s t l a.entry.made.op a.entry.number n a.entry.made.reply m.reply a.entry.made.cites m.cites a.told b.told en p q' ∙ i

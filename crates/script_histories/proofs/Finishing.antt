@@ -1,14 +1,16 @@
 -- Two linked histories with the same notes are the same: the entries are those of the notes, the freed lists are what
 -- the replay of the notes frees, and there are no notices.
-use Rattle.std.proofs.Common.{◌≡◌, ℕ, List, [], ◌∷◌, map, refl, sym, ◌∙◌, ap}
+use Rattle.std.proofs.Common.{◌≡◌, ℕ, List, [], ◌∷◌, map, refl, sym, ◌∙◌, ap, subst}
 use Rattle.joint_model.specs.declared.names.Thread.{Thread}
 use Rattle.joint_model.specs.declared.names.MNum.{MNum}
 use Rattle.joint_model.specs.declared.names.PNum.{PNum}
 use Rattle.joint_model.specs.declared.lines.Act.{Act}
+use Rattle.joint_model.specs.Draws.{NumberedFrom}
 use Rattle.joint_model.specs.First.{IsFirstLinked, IsFirstLinkedBy, opening_first, first_replayed}
 use Rattle.joint_model.specs.Histories.{Finished, managed_numbers, peer_numbers}
 use Rattle.joint_model.specs.Told.{Noted}
 use Rattle.script_histories.specs.Holding.{HoldsLines}
+use Rattle.script_histories.proofs.Counting.{AllCountedMayCome, opening_counted, all-counted}
 use Rattle.script_histories.proofs.OneHistory.{entries_of, lines-one}
 
 -- lists with the same numbers, where a number tells its element
@@ -41,7 +43,11 @@ notes-tell h h' ns ns' a b e =
     let notices : h.notices ≡ h'.notices = a.notices ∙ sym b.notices in
     four-lists h h' entries managed peers notices
 
+-- the notes of a linked history may come when they come, with the numbers from 0 on
+pub linked-counted : (h : Finished) (ns : List Noted) → IsFirstLinkedBy h ns → AllCountedMayCome opening_counted ns
+linked-counted h ns a = all-counted opening_counted ns a.lawful (subst (NumberedFrom 0) (sym a.same) a.numbers)
+
 pub one-history : (script : List (Thread × Act)) (h h' : Finished) → IsFirstLinked h → IsFirstLinked h' → HoldsLines 1 script h.entries → HoldsLines 1 script h'.entries → h ≡ h'
 one-history script h h' a b p q =
     notes-tell h h' a.noted b.noted a.linked b.linked
-    (lines-one 1 script opening_first a.noted b.noted h.entries h'.entries p q a.linked.same b.linked.same a.linked.lawful b.linked.lawful)
+    (lines-one 1 script opening_counted a.noted b.noted h.entries h'.entries p q a.linked.same b.linked.same (linked-counted h a.noted a.linked) (linked-counted h' b.noted b.linked))

@@ -3,6 +3,7 @@ pub mod Joined
 pub mod Rising
 pub mod Telling
 pub mod Coming
+pub mod Counting
 pub mod OneHistory
 pub mod Finishing
 pub mod Digits

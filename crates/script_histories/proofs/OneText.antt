@@ -1,5 +1,5 @@
 -- Two linked histories with one text are the same. A newline ends each entry's line, and the last line begins with no
--- digit, so both texts have as many entries. By the number that the state gives, the words of two lines are the same, and
+-- digit, so both texts have as many entries. By the number that is next, the words of two lines are the same, and
 -- from those before the equals sign come the caller, the line and the event; so the entries come with the same notes.
 use Rattle.std.proofs.Common.{◌≡◌, ℕ, ◌<◌, ◌≤◌, ◌^◌, List, [], ◌∷◌, ◌++◌, drop, get_or, length, Option, Some, None, codes, decimal, refl, sym, ◌∙◌, ap, subst, arith, lit≤, append_assoc, All}
 use Rattle.std.specs.List.{AllByRecursion}
@@ -9,7 +9,7 @@ use Rattle.joint_model.specs.declared.names.Span.{Span}
 use Rattle.joint_model.specs.declared.names.Thread.{Thread}
 use Rattle.joint_model.specs.declared.names.Thread.TheVariants.{M, P, C}
 use Rattle.joint_model.specs.declared.events.Entry.{Entry}
-use Rattle.joint_model.specs.First.{FirstLinkage, FirstMayCome, AllFirstMayCome, IsFirstLinked, first_after, opening_first}
+use Rattle.joint_model.specs.First.{IsFirstLinked}
 use Rattle.joint_model.specs.Histories.{Finished}
 use Rattle.joint_model.specs.Lines.{IsThread}
 use Rattle.joint_model.specs.Told.{Noted}
@@ -26,8 +26,9 @@ use Rattle.script_histories.proofs.Plain.{AllPlain, plain-listed, plain-event, p
 use Rattle.script_histories.proofs.Known.{IsKnown, same-event}
 use Rattle.script_histories.proofs.Knowing.{names_of, known-event, caller-is}
 use Rattle.script_histories.proofs.Coming.{one-note}
+use Rattle.script_histories.proofs.Counting.{Counted, CountedMayCome, AllCountedMayCome, counted_after, opening_counted}
 use Rattle.script_histories.proofs.OneHistory.{entries_of}
-use Rattle.script_histories.proofs.Finishing.{notes-tell}
+use Rattle.script_histories.proofs.Finishing.{notes-tell, linked-counted}
 
 -- the words of an entry's line, and the line without its newline
 abbrev rest_words : Finished → Entry → List (List ℕ)
@@ -135,7 +136,7 @@ words-tell h h' e e' q =
     (ap first q, cut.0)
 
 -- two entries that may come in one state, and have the same line of text
-line-one : (h h' : Finished) (s : FirstLinkage) (n n' : Noted) → IsShort n.entry → FirstMayCome s n → FirstMayCome s n' → line_of h n.entry ≡ line_of h' n'.entry → n ≡ n'
+line-one : (h h' : Finished) (s : Counted) (n n' : Noted) → IsShort n.entry → CountedMayCome s n → CountedMayCome s n' → line_of h n.entry ≡ line_of h' n'.entry → n ≡ n'
 line-one h h' s n n' short a b q =
     let e = n.entry in
     let e' = n'.entry in
@@ -144,13 +145,13 @@ line-one h h' s n n' short a b q =
     append_cancel_left (decimal e'.number) (after_spaces (whole_words h e)) (after_spaces (whole_words h' e')) (ap (λ k. decimal k ++ after_spaces (whole_words h e)) (sym number) ∙ q) in
     let words = words-one (whole_words h e) (whole_words h' e') (words-lack 32 (lit≤ tt) h e) (words-lack 32 (lit≤ tt) h' e') texts in
     let tell = words-tell h h' e e' words in
-    let place = place-one e.made.caller e'.made.caller e.made.index e'.made.index (caller-is e.made.caller e.made.op a.event) short.line tell.0 in
-    let known' = subst (λ (t : Thread). IsKnown (names_of s t) e'.made.op) (sym place.0) (known-event s n' b) in
+    let place = place-one e.made.caller e'.made.caller e.made.index e'.made.index (caller-is e.made.caller e.made.op a.come.event) short.line tell.0 in
+    let known' = subst (λ (t : Thread). IsKnown (names_of s.state t) e'.made.op) (sym place.0) (known-event s.state n' b.come) in
     let events = tell.1 ∙ ap (λ (t : Thread). event_words t e'.made.op) (sym place.0) in
-    let event = same-event (names_of s e.made.caller) e.made.caller e.made.op e'.made.op (known-event s n a) short.field known' events in
-    one-note s n n' place.0 place.1 event a b
+    let event = same-event (names_of s.state e.made.caller) e.made.caller e.made.op e'.made.op (known-event s.state n a.come) short.field known' events in
+    one-note s.state n n' number place.0 place.1 event a.come b.come
 
-texts-one : (h h' : Finished) (k k' : ℕ) (s : FirstLinkage) (ns ns' : List Noted) → All IsShort (entries_of ns) → AllFirstMayCome s ns → AllFirstMayCome s ns'
+texts-one : (h h' : Finished) (k k' : ℕ) (s : Counted) (ns ns' : List Noted) → All IsShort (entries_of ns) → AllCountedMayCome s ns → AllCountedMayCome s ns'
     → entries_text h (entries_of ns) ++ end_text k ≡ entries_text h' (entries_of ns') ++ end_text k' → ns ≡ ns'
 texts-one h h' k k' s [] [] short c c' q = refl
 texts-one h h' k k' s [] (n ∷ ns) short c c' q = absurd (no-entry h' n.entry (entries_of ns) (end_text k') _ (sym q))
@@ -162,8 +163,8 @@ texts-one h h' k k' s (n ∷ ns) (n' ∷ ns') short c c' q =
     sym (line-first h n.entry es (end_text k)) ∙ (q ∙ line-first h' n'.entry es' (end_text k')) in
     let cut = cut-first 10 (line_of h n.entry) (line_of h' n'.entry) (entries_text h es ++ end_text k) (entries_text h' es' ++ end_text k') (line-whole h n.entry) (line-whole h' n'.entry) lines in
     let one = line-one h h' s n n' (All-head IsShort n.entry es short) c.0 c'.0 cut.0 in
-    let later = subst (λ (m : Noted). AllFirstMayCome (first_after s m) ns') (sym one) c'.1 in
-    let rest = texts-one h h' k k' (first_after s n) ns ns' (All-tail IsShort n.entry es short) c.1 later cut.1 in
+    let later = subst (λ (m : Noted). AllCountedMayCome (counted_after s m) ns') (sym one) c'.1 in
+    let rest = texts-one h h' k k' (counted_after s n) ns ns' (All-tail IsShort n.entry es short) c.1 later cut.1 in
     ap (λ (m : Noted). m ∷ ns) one ∙ ap (λ (l : List Noted). n' ∷ l) rest
 
 -- two linked histories with one text
@@ -173,4 +174,4 @@ one-text h h' short a b q =
     let e' = b.linked.same in
     let short' = subst (All IsShort) (sym e) short in
     let texts = ap (λ (l : List Entry). entries_text h l ++ end_text (length h.entries)) e ∙ (q ∙ ap (λ (l : List Entry). entries_text h' l ++ end_text (length h'.entries)) (sym e')) in
-    notes-tell h h' a.noted b.noted a.linked b.linked (texts-one h h' (length h.entries) (length h'.entries) opening_first a.noted b.noted short' a.linked.lawful b.linked.lawful texts)
+    notes-tell h h' a.noted b.noted a.linked b.linked (texts-one h h' (length h.entries) (length h'.entries) opening_counted a.noted b.noted short' (linked-counted h a.noted a.linked) (linked-counted h' b.noted b.linked) texts)
