@@ -1,0 +1,186 @@
+-- Known lines grow, and are joined. The new entry's number is above all in the past, since each entry of the past stands in the
+-- line of its list. What is told of it may be told plainly. Two lines' pasts are joined by the law of pasts; where a joined line
+-- has no more entries than the first one's, it is that one, since that begins it.
+use Rattle.std.proofs.Common.{◌≡◌, ◌⊎◌, ⊎_elim, ℕ, suc, ◌+◌, ◌<◌, ◌≤◌, Bool, true, false, List, [], ◌∷◌, ◌++◌, length, map, Some, None, refl, sym, ap, ◌∙◌, subst, arith, length-append}
+use Rattle.std.specs.Prelude.{if◌then◌else◌}
+use mathlib.Core.List.{IsPrefix}
+use base.Growing.{prefix_refl, prefix_anti}
+use Rattle.joint_model.specs.declared.events.Entry.{Entry}
+use Rattle.joint_model.specs.declared.names.Thread.{Thread}
+use Rattle.joint_model.specs.declared.events.Op.{Op}
+use Rattle.joint_model.specs.declared.events.Op.TheVariants as op
+use Rattle.joint_model.specs.declared.events.Made.{Made}
+use Rattle.joint_model.specs.Control.{free, caller_place}
+use Rattle.joint_model.specs.Lines.{is_peer_event}
+use Rattle.joint_model.specs.Linked.{Linkage, managed_after, peer_after}
+use Rattle.joint_model.specs.Told.{Told, Noted, phase_of}
+use Rattle.known_laws.specs.Known.{TellsPlainly}
+use Rattle.known_laws.specs.Telling.{MayBeTold}
+use Rattle.known_laws.specs.Pasts.{role_of, is_in, line, of_line, RunsFrom, In, end_of, AreWithin, bare, Joined}
+use Rattle.known_laws.specs.Growing.{untold, entries, AreKnown, grown, AreBelow, KnownLinesGrow, entries_in, Begin, KnownLinesJoin, LinesGiveParts, DeadPartIsFrozen}
+use Rattle.known_laws.proofs.PastLines.{in_role, line-in, length_begins, shorter_begins, in-line, in_begins}
+use Rattle.known_laws.proofs.PastsJoin.{counted}
+use Rattle.known_laws.proofs.Parts.{same_managed, same_peer, same_control}
+use Rattle.known_laws.proofs.Telling.{told_is_one, plain_may_be_told}
+use Rattle.known_laws.proofs.FrozenPasts.{same_dead_part}
+use Rattle.known_laws.proofs.Agreeing.{entry_pasts_join, pasts_agree, line_bare, tell, within_told, self_a, self_b}
+use Rattle.joint_model.specs.Draws.{NumberedFrom}
+
+below_in : (n : ℕ) (xs : List Noted) (e : Noted) → AreBelow n (entries xs) → In xs e → e.entry.number < n
+below_in n [] e b p = absurd p
+below_in n (x ∷ xs) e b p = ⊎_elim (λ (q : x ≡ e). subst (λ (z : Noted). z.entry.number < n) q b.0) (λ q. below_in n xs e b.1 q) p
+
+entries_append : (xs ys : List Noted) → entries (xs ++ ys) ≡ entries xs ++ entries ys
+entries_append [] ys = refl
+entries_append (x ∷ xs) ys = ap (λ l. x.entry ∷ l) (entries_append xs ys)
+
+pub length_entries : (xs : List Noted) → length (entries xs) ≡ length xs
+length_entries [] = refl
+length_entries (x ∷ xs) = ap suc (length_entries xs)
+
+grown_line : (lines : ℕ → List Entry) (past : List Noted) (n : Noted) (i : ℕ) → lines i ≡ entries (line i past) → grown lines n.entry i ≡ entries (line i (n ∷ past))
+grown_line lines past n i e = by (is_in i n)
+  where
+    by : (b : Bool) → (if b then lines i ++ n.entry ∷ [] else lines i) ≡ entries (if b then line i past ++ n ∷ [] else line i past)
+    by true = ap (λ l. l ++ n.entry ∷ []) e ∙ sym (entries_append (line i past) (n ∷ []))
+    by false = e
+
+-- what is told of a refusal changes no side
+abbrev ToldTwice : Linkage → Thread → Op → Made → Told → Told → Type 0
+ToldTwice s t o m x y = (managed_after s.managed (record { caller = t; index = m.index; op = o; reply = m.reply; cites = m.cites }) x (is_peer_event t o) ≡ managed_after s.managed (record { caller = t; index = m.index; op = o; reply = m.reply; cites = m.cites }) y (is_peer_event t o))
+    × (peer_after s.peer (record { caller = t; index = m.index; op = o; reply = m.reply; cites = m.cites }) x (is_peer_event t o) ≡ peer_after s.peer (record { caller = t; index = m.index; op = o; reply = m.reply; cites = m.cites }) y (is_peer_event t o))
+
+told_twice : (s : Linkage) (t : Thread) (o : Op) (m : Made) (x y : Told) → (TellsPlainly s.control.stand o y → x ≡ y) → ToldTwice s t o m x y
+told_twice s t (op.Refused w) m x y e = (stays x ∙ sym (stays y), refl)
+  where
+    stays : (z : Told) → managed_after s.managed (record { caller = t; index = m.index; op = op.Refused w; reply = m.reply; cites = m.cites }) z false ≡ s.managed
+    stays (phase_of p) = refl
+    stays _ = refl
+told_twice s t o m x y e = (let q = e tt in (ap (λ z. managed_after s.managed (record { caller = t; index = m.index; op = o; reply = m.reply; cites = m.cites }) z (is_peer_event t o)) q, ap (λ z. peer_after s.peer (record { caller = t; index = m.index; op = o; reply = m.reply; cites = m.cites }) z (is_peer_event t o)) q))
+
+pub known_lines_grow : KnownLinesGrow
+known_lines_grow lines k n below may =
+    let t = plain_may_be_told (end_of k.past) n may in
+    record {
+      told = t.0;
+      lawful = (
+        record {
+          later = counted n.entry.number k.past (λ e p. below_in n.entry.number (line (role_of e) k.past) e (subst (AreBelow n.entry.number) (k.same (role_of e)) (below (role_of e))) (line-in (role_of e) k.past e p (in_role e)));
+          comes = t.1.0;
+          plain = t.1.1;
+        },
+        k.lawful,
+      );
+      same = λ i. grown_line lines k.past (record { entry = n.entry; told = t.0 }) i (k.same i);
+      alike = λ p. told_is_one (end_of k.past) n.entry t.0 n.told (t.1.0, t.1.1) (may, p);
+      managed = (twice t.0 (t.1.0, t.1.1)).0;
+      peer = (twice t.0 (t.1.0, t.1.1)).1;
+    }
+  where
+    twice : (x : Told) → MayBeTold (end_of k.past) n.entry x → ToldTwice (end_of k.past) n.entry.made.caller n.entry.made.op n.entry.made x n.told
+    twice x w = told_twice (end_of k.past) n.entry.made.caller n.entry.made.op n.entry.made x n.told (λ p. told_is_one (end_of k.past) n.entry x n.told w (may, p))
+
+-- notes of which nothing is told
+untold_append : (xs ys : List Entry) → map untold (xs ++ ys) ≡ map untold xs ++ map untold ys
+untold_append [] ys = refl
+untold_append (x ∷ xs) ys = ap (λ l. untold x ∷ l) (untold_append xs ys)
+
+pub bare_untold : (xs : List Entry) → map bare (map untold xs) ≡ map untold xs
+bare_untold [] = refl
+bare_untold (x ∷ xs) = ap (λ l. untold x ∷ l) (bare_untold xs)
+
+pub bare_entries : (xs : List Noted) → map bare xs ≡ map untold (entries xs)
+bare_entries [] = refl
+bare_entries (x ∷ xs) = ap (λ l. bare x ∷ l) (bare_entries xs)
+
+pub of_line_untold : (i : ℕ) (xs : List Entry) → of_line i (map untold xs) ≡ map untold (entries_in i xs)
+of_line_untold i [] = refl
+of_line_untold i (x ∷ xs) = by (is_in i (untold x)) (of_line_untold i xs)
+  where
+    by : (b : Bool) → of_line i (map untold xs) ≡ map untold (entries_in i xs) → (if b then untold x ∷ of_line i (map untold xs) else of_line i (map untold xs)) ≡ map untold (if b then x ∷ entries_in i xs else entries_in i xs)
+    by true e = ap (λ l. untold x ∷ l) e
+    by false e = e
+
+pub within_by : (whole : List Entry) (lines : ℕ → List Entry) (k : AreKnown lines) → Begin whole lines → AreWithin (map untold whole) k.past
+within_by whole lines k begins i =
+    let p = begins i in
+    let left : line i (map bare k.past) ≡ map untold (lines i) = line_bare i k.past ∙ (bare_entries (line i k.past) ∙ ap (map untold) (sym (k.same i))) in
+    let right : map untold (entries_in i whole) ≡ of_line i (map bare (map untold whole)) = sym (of_line_untold i whole) ∙ ap (of_line i) (sym (bare_untold whole)) in
+    (map untold p.0, ap (λ l. l ++ map untold p.0) left ∙ (sym (untold_append (lines i) p.0) ∙ (ap (map untold) p.1 ∙ right)))
+
+pub runs_untold : (n : ℕ) (xs : List Entry) → NumberedFrom n xs → RunsFrom n (map untold xs)
+runs_untold n [] r = tt
+runs_untold n (x ∷ xs) r = (r.0, runs_untold (n + 1) xs r.1)
+
+-- a beginning of a list that is no shorter is the list
+all_begins : (xs ys : List Noted) → IsPrefix xs ys → length ys ≤ length xs → ys ≡ xs
+all_begins xs ys p l = prefix_anti ys xs (shorter_begins ys xs ys (prefix_refl ys) p l) p
+
+longer_line : (xs ys zs : List Entry) (ps qs : List Noted) → (zs ≡ xs) ⊎ (zs ≡ ys) → length xs ≤ length zs → length ys ≤ length zs → length ps ≡ length xs → length qs ≡ length ys → (rs : List Noted) → (rs ≡ ps) ⊎ (rs ≡ qs) → length ps ≤ length rs → length qs ≤ length rs → length rs ≡ length zs
+longer_line xs ys zs ps qs e a b c d rs f g h = ⊎_elim
+    (λ (u : zs ≡ xs). ⊎_elim
+    (λ (v : rs ≡ ps). ap length v ∙ (c ∙ ap length (sym u)))
+    (λ (v : rs ≡ qs). let l = ap length v in let m = ap length u in omega (arith, l, m, b, c, d, g)) f)
+    (λ (u : zs ≡ ys). ⊎_elim
+    (λ (v : rs ≡ ps). let l = ap length v in let m = ap length u in omega (arith, l, m, a, c, d, h))
+    (λ (v : rs ≡ qs). ap length v ∙ (d ∙ ap length (sym u))) f)
+    e
+
+entries_of_length : (xs ys : List Entry) → IsPrefix xs ys → length xs ≤ length ys
+entries_of_length xs ys p = let e : length xs + length p.0 ≡ length ys = sym (length-append xs p.0) ∙ ap length p.1 in omega arith
+
+pub known_lines_join : KnownLinesJoin
+known_lines_join whole ls ms ns a b numbered wa wb longer =
+    record {
+      joined = record { past = j.past; lawful = j.lawful; same = same };
+      first = λ i e. all_begins (line i a.past) (line i j.past) (j.first i) (let l = lengths i in let m = ap length e in let n = la i in omega (arith, l, m, n));
+      second = λ i e. all_begins (line i b.past) (line i j.past) (j.second i) (let l = lengths i in let m = ap length e in let n = lb i in omega (arith, l, m, n));
+      first_stay = λ x p. stays a.past x p (j.first (role_of x));
+      second_stay = λ x p. stays b.past x p (j.second (role_of x));
+    }
+  where
+    j : Joined a.past b.past
+    j = entry_pasts_join (map untold whole) a.past b.past (runs_untold 0 whole numbered) a.lawful b.lawful (within_by whole ls a wa) (within_by whole ms b wb)
+
+    stays : (h : List Noted) (x : Noted) → In h x → IsPrefix (line (role_of x) h) (line (role_of x) j.past) → In j.past x
+    stays h x p q = in-line (role_of x) j.past x (in_begins (line (role_of x) h) (line (role_of x) j.past) x q (line-in (role_of x) h x p (in_role x)))
+
+    la : (i : ℕ) → length (line i a.past) ≡ length (ls i)
+    la i = sym (length_entries (line i a.past)) ∙ ap length (sym (a.same i))
+
+    lb : (i : ℕ) → length (line i b.past) ≡ length (ms i)
+    lb i = sym (length_entries (line i b.past)) ∙ ap length (sym (b.same i))
+
+    lengths : (i : ℕ) → length (line i j.past) ≡ length (ns i)
+    lengths i = longer_line (ls i) (ms i) (ns i) (line i a.past) (line i b.past) (longer.either i) (entries_of_length _ _ (longer.first i)) (entries_of_length _ _ (longer.second i)) (la i) (lb i)
+        (line i j.past) (j.longer_one i) (length_begins _ _ (j.first i)) (length_begins _ _ (j.second i))
+
+    same : (i : ℕ) → ns i ≡ entries (line i j.past)
+    same i = ⊎_elim
+        (λ (e : ns i ≡ ls i). e ∙ (a.same i ∙ ap entries (sym (all_begins (line i a.past) (line i j.past) (j.first i) (let l = lengths i in let m = ap length e in let n = la i in omega (arith, l, m, n))))))
+        (λ (e : ns i ≡ ms i). e ∙ (b.same i ∙ ap entries (sym (all_begins (line i b.past) (line i j.past) (j.second i) (let l = lengths i in let m = ap length e in let n = lb i in omega (arith, l, m, n))))))
+        (longer.either i)
+
+pub lines_give_parts : LinesGiveParts
+lines_give_parts a b = record {
+  managed = same_managed a b;
+  peer = same_peer a b;
+  stand = λ e. (same_control 0 a b e).stand refl;
+  doing = λ t e. ap (λ o. elim o [ None ↦ free | Some d ↦ d ]) (same_control t a b e).doing;
+  last = λ t e. (same_control (caller_place t) a b e).last;
+}
+
+-- of two beginnings of one line that are equally long
+pub equal_begins : (xs ys zs : List Noted) → IsPrefix xs zs → IsPrefix ys zs → length xs ≡ length ys → xs ≡ ys
+equal_begins xs ys zs p q e = prefix_anti xs ys (shorter_begins xs ys zs p q (omega (arith, e))) (shorter_begins ys xs zs q p (omega (arith, e)))
+
+pub dead_part_is_frozen : DeadPartIsFrozen
+dead_part_is_frozen whole ls ms a b numbered wa wb e =
+    let w : List Noted = map untold whole in
+    let runs = runs_untold 0 whole numbered in
+    let ia = within_by whole ls a wa in
+    let ib = within_by whole ms b wb in
+    let na = within_told w runs a.past b.past a.past ia ib ia (self_a w runs a.past b.past a.lawful) in
+    let nb = within_told w runs a.past b.past b.past ia ib ib (self_b w runs a.past b.past b.lawful (pasts_agree w a.past b.past runs a.lawful b.lawful ia ib)) in
+    let n = sym (length_entries (line 2 a.past)) ∙ (ap length (sym (a.same 2) ∙ (e ∙ b.same 2)) ∙ length_entries (line 2 b.past)) in
+    same_dead_part (map (tell a.past b.past) w) a.past b.past a.lawful b.lawful na nb (equal_begins (line 2 a.past) (line 2 b.past) (of_line 2 (map (tell a.past b.past) w)) (na 2) (nb 2) n)

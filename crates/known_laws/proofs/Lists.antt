@@ -1,0 +1,141 @@
+-- Each side's list in a past is lawful by itself and gives that side's state, since only the side's own entries move it. And the
+-- line of a thread has exactly the entries that the thread made, since no two threads have one place.
+use Rattle.std.proofs.Common.{◌≡◌, ◌≢◌, ◌⊎◌, inl, inr, ⊎_elim, ℕ, ◌+◌, ◌<◌, Bool, true, false, ◌||◌, List, [], ◌∷◌, ◌++◌, refl, sym, ap, ◌∙◌, subst, arith, eq-eqb, ne_eqb}
+use Rattle.std.specs.Prelude.{if◌then◌else◌, nat_eq}
+use Rattle.std.proofs.lemmas.Bool.{cases_eq}
+use Rattle.joint_model.specs.declared.names.Thread.{Thread}
+use Rattle.joint_model.specs.declared.names.Thread.TheVariants.{M, P, C}
+use Rattle.joint_model.specs.declared.events.Entry.{Entry}
+use Rattle.joint_model.specs.Control.{caller_place}
+use Rattle.joint_model.specs.declared.events.Op.{Op}
+use Rattle.joint_model.specs.declared.events.Op.TheVariants as op
+use Rattle.joint_model.specs.Lines.{IsEvent, IsThread, is_peer_event}
+use Rattle.joint_model.specs.Linked.{SideLawful, ManagedLawful, PeerLawful, managed_after, peer_after}
+use Rattle.joint_model.specs.ManagedReplay.{ManagedReplay, opening_replay}
+use Rattle.joint_model.specs.PeerReplay.{PeerReplay, opening_peer_replay, is_thread}
+use Rattle.joint_model.specs.Told.{Noted}
+use Rattle.known_laws.specs.Pasts.{is_in, line, end_of, Lawful}
+use Rattle.known_laws.specs.Growing.{entries, entries_in, turned, untold}
+use Rattle.known_laws.proofs.Ending.{known_whole_is_history}
+use Rattle.known_laws.specs.Lists.{ManagedRuns, PeerRuns, KnownListsAreLawful, made_by, OwnLineIsMadeByCaller}
+
+managed-then : (r s : ManagedReplay) (ns : List Noted) (n : Noted) → ManagedRuns r ns s → ManagedLawful s n.entry.made n.told → ManagedRuns r (ns ++ n ∷ []) (managed_after s n.entry.made n.told false)
+managed-then r s [] n e l = (subst (λ z. ManagedLawful z n.entry.made n.told) (sym e) l, ap (λ z. managed_after z n.entry.made n.told false) e)
+managed-then r s (m ∷ ns) n w l = (w.0, managed-then (managed_after r m.entry.made m.told false) s ns n w.1 l)
+
+peer-then : (r s : PeerReplay) (ns : List Noted) (n : Noted) → PeerRuns r ns s → PeerLawful s n.entry.made n.told → PeerRuns r (ns ++ n ∷ []) (peer_after s n.entry.made n.told true)
+peer-then r s [] n e l = (subst (λ z. PeerLawful z n.entry.made n.told) (sym e) l, ap (λ z. peer_after z n.entry.made n.told true) e)
+peer-then r s (m ∷ ns) n w l = (w.0, peer-then (peer_after r m.entry.made m.told true) s ns n w.1 l)
+
+-- lines 0 and 1 by the side of the entry
+in_side : (i : ℕ) (x : Noted) (b : Bool) → i < 2 → is_peer_event x.entry.made.caller x.entry.made.op ≡ b → is_in i x ≡ nat_eq i (if b then 1 else 0)
+in_side i x b l e = ap (λ c. nat_eq i (if c then 1 else 0) || nat_eq i (2 + caller_place x.entry.made.caller)) e ∙ by (nat_eq i (if b then 1 else 0))
+  where
+    by : (c : Bool) → (c || nat_eq i (2 + caller_place x.entry.made.caller)) ≡ c
+    by true = refl
+    by false = ne_eqb i (2 + caller_place x.entry.made.caller) (λ q. omega (arith, q, l))
+
+managed-list : (h : List Noted) → Lawful h → ManagedRuns opening_replay (line 0 h) (end_of h).managed
+managed-list [] l = refl
+managed-list (x ∷ h) l = by (is_peer_event x.entry.made.caller x.entry.made.op) refl l.0.comes.lawful (managed-list h l.1)
+  where
+    by : (b : Bool) → is_peer_event x.entry.made.caller x.entry.made.op ≡ b → SideLawful b (end_of h) x.entry.made x.told → ManagedRuns opening_replay (line 0 h) (end_of h).managed
+        → ManagedRuns opening_replay (if is_in 0 x then line 0 h ++ x ∷ [] else line 0 h) (managed_after (end_of h).managed x.entry.made x.told b)
+    by true e w r = subst (λ c. ManagedRuns opening_replay (if c then line 0 h ++ x ∷ [] else line 0 h) (end_of h).managed) (sym (in_side 0 x true (omega arith) e)) r
+    by false e w r = subst (λ c. ManagedRuns opening_replay (if c then line 0 h ++ x ∷ [] else line 0 h) (managed_after (end_of h).managed x.entry.made x.told false)) (sym (in_side 0 x false (omega arith) e))
+        (managed-then opening_replay (end_of h).managed (line 0 h) x r w)
+
+peer-list : (h : List Noted) → Lawful h → PeerRuns opening_peer_replay (line 1 h) (end_of h).peer
+peer-list [] l = refl
+peer-list (x ∷ h) l = by (is_peer_event x.entry.made.caller x.entry.made.op) refl l.0.comes.lawful (peer-list h l.1)
+  where
+    by : (b : Bool) → is_peer_event x.entry.made.caller x.entry.made.op ≡ b → SideLawful b (end_of h) x.entry.made x.told → PeerRuns opening_peer_replay (line 1 h) (end_of h).peer
+        → PeerRuns opening_peer_replay (if is_in 1 x then line 1 h ++ x ∷ [] else line 1 h) (peer_after (end_of h).peer x.entry.made x.told b)
+    by false e w r = subst (λ c. PeerRuns opening_peer_replay (if c then line 1 h ++ x ∷ [] else line 1 h) (end_of h).peer) (sym (in_side 1 x false (omega arith) e)) r
+    by true e w r = subst (λ c. PeerRuns opening_peer_replay (if c then line 1 h ++ x ∷ [] else line 1 h) (peer_after (end_of h).peer x.entry.made x.told true)) (sym (in_side 1 x true (omega arith) e))
+        (peer-then opening_peer_replay (end_of h).peer (line 1 h) x r w)
+
+pub known_lists_are_lawful : KnownListsAreLawful
+known_lists_are_lawful h l = record { managed = managed-list h l; peer = peer-list h l }
+
+-- a thread is known by its place
+place-tells : (s t : Thread) → IsThread s → IsThread t → nat_eq (caller_place t) (caller_place s) ≡ is_thread s t
+place-tells (M a) (M b) x y = either (cases_eq a b)
+  where
+    either : (a ≡ b) ⊎ (a ≢ b) → nat_eq b a ≡ nat_eq a b
+    either (inl e) = eq-eqb b a (sym e) ∙ sym (eq-eqb a b e)
+    either (inr n) = ne_eqb b a (λ q. n (sym q)) ∙ sym (ne_eqb a b n)
+place-tells (P a) (P b) x y = either (cases_eq a b)
+  where
+    either : (a ≡ b) ⊎ (a ≢ b) → nat_eq (8 + b) (8 + a) ≡ nat_eq a b
+    either (inl e) = eq-eqb (8 + b) (8 + a) (omega (arith, e)) ∙ sym (eq-eqb a b e)
+    either (inr n) = ne_eqb (8 + b) (8 + a) (λ q. n (omega (arith, q))) ∙ sym (ne_eqb a b n)
+place-tells (M a) (P b) x y = ne_eqb (8 + b) a (let l = x.1 in let m = y.0 in λ q. omega (arith, q, l, m))
+place-tells (P a) (M b) x y = ne_eqb b (8 + a) (let l = y.1 in let m = x.0 in λ q. omega (arith, q, l, m))
+place-tells (M a) C x y = ne_eqb 0 a (let l = x.0 in λ q. omega (arith, q, l))
+place-tells C (M b) x y = ne_eqb b 0 (let l = y.0 in λ q. omega (arith, q, l))
+place-tells (P a) C x y = ne_eqb 0 (8 + a) (λ q. omega (arith, q))
+place-tells C (P b) x y = ne_eqb (8 + b) 0 (λ q. omega (arith, q))
+place-tells C C x y = refl
+
+two_more : (a b : ℕ) → nat_eq (2 + a) (2 + b) ≡ nat_eq a b
+two_more a b = either (cases_eq a b)
+  where
+    either : (a ≡ b) ⊎ (a ≢ b) → nat_eq (2 + a) (2 + b) ≡ nat_eq a b
+    either (inl e) = eq-eqb (2 + a) (2 + b) (omega (arith, e)) ∙ sym (eq-eqb a b e)
+    either (inr n) = ne_eqb (2 + a) (2 + b) (λ q. n (omega (arith, q))) ∙ sym (ne_eqb a b n)
+
+in_own_line : (e : Entry) (t : Thread) → IsThread e.made.caller → IsThread t → is_in (2 + caller_place t) (untold e) ≡ is_thread e.made.caller t
+in_own_line e t x y = by (is_peer_event e.made.caller e.made.op) ∙ (two_more (caller_place t) (caller_place e.made.caller) ∙ place-tells e.made.caller t x y)
+  where
+    by : (b : Bool) → (nat_eq (2 + caller_place t) (if b then 1 else 0) || nat_eq (2 + caller_place t) (2 + caller_place e.made.caller)) ≡ nat_eq (2 + caller_place t) (2 + caller_place e.made.caller)
+    by true = ap (λ c. c || nat_eq (2 + caller_place t) (2 + caller_place e.made.caller)) (ne_eqb (2 + caller_place t) 1 (λ q. omega (arith, q)))
+    by false = ap (λ c. c || nat_eq (2 + caller_place t) (2 + caller_place e.made.caller)) (ne_eqb (2 + caller_place t) 0 (λ q. omega (arith, q)))
+
+-- callers are threads
+abbrev AreThreads : List Entry → Type 0
+AreThreads [] = Unit {0}
+AreThreads (e ∷ es) = IsThread e.made.caller × AreThreads es
+
+event-thread : (t : Thread) (o : Op) → IsEvent t o → IsThread t
+event-thread C o e = tt
+event-thread (M n) (op.Line a) e = e.0.0
+event-thread (M n) (op.Make s f) e = e.0
+event-thread (M n) (op.Adopt v k f p h) e = e.0
+event-thread (M n) (op.Lend v x) e = e.0
+event-thread (M n) (op.Land h x) e = e.0
+event-thread (M n) (op.Grip x) e = e.0
+event-thread (M n) (op.Meet v p h s f) e = e.0
+event-thread (M n) (op.Give v) e = e.0
+event-thread (M n) (op.Release h) e = e
+event-thread (M n) op.Begin e = absurd (⊎_elim (λ x. x) (λ x. x) e)
+event-thread (M n) op.Sweep e = absurd (⊎_elim (λ x. x) (λ x. x) e)
+event-thread (M n) _ e = absurd e
+event-thread (P n) (op.Line a) e = e.0.0
+event-thread (P n) (op.Make s f) e = absurd e.0
+event-thread (P n) (op.Adopt v k f p h) e = absurd e.0
+event-thread (P n) (op.Lend v x) e = absurd e.0
+event-thread (P n) (op.Land h x) e = absurd e.0
+event-thread (P n) (op.Grip x) e = absurd e.0
+event-thread (P n) (op.Meet v p h s f) e = absurd e.0
+event-thread (P n) (op.Give v) e = absurd e.0
+event-thread (P n) op.Begin e = ⊎_elim (λ x. x) (λ x. absurd x) e
+event-thread (P n) op.Sweep e = ⊎_elim (λ x. x) (λ x. absurd x) e
+event-thread (P n) _ e = absurd e
+
+threads : (h acc : List Noted) → Lawful h → AreThreads (entries acc) → AreThreads (entries (turned acc h))
+threads [] acc l a = a
+threads (x ∷ h) acc l a = threads h (x ∷ acc) l.1 (event-thread x.entry.made.caller x.entry.made.op l.0.comes.event, a)
+
+own_line : (whole : List Entry) → AreThreads whole → (t : Thread) → IsThread t → entries_in (2 + caller_place t) whole ≡ made_by t whole
+own_line [] all t y = refl
+own_line (e ∷ whole) all t y =
+    ap (λ b. if b then e ∷ entries_in (2 + caller_place t) whole else entries_in (2 + caller_place t) whole) (in_own_line e t all.0 y) ∙ by (is_thread e.made.caller t) (own_line whole all.1 t y)
+  where
+    by : (b : Bool) → entries_in (2 + caller_place t) whole ≡ made_by t whole → (if b then e ∷ entries_in (2 + caller_place t) whole else entries_in (2 + caller_place t) whole) ≡ (if b then e ∷ made_by t whole else made_by t whole)
+    by true q = ap (λ l. e ∷ l) q
+    by false q = q
+
+pub own_line_is_made_by_caller : OwnLineIsMadeByCaller
+own_line_is_made_by_caller whole lines k numbered l0 l1 t y e =
+    e ∙ own_line whole (subst AreThreads (known_whole_is_history whole lines k numbered l0 l1).same (threads k.past [] k.lawful tt)) t y

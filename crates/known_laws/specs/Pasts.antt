@@ -1,0 +1,109 @@
+-- What a seat knows: a past, latest entry first, with numbers left out, and its lines.
+use Rattle.std.specs.Prelude.{◌≡◌, ℕ, ◌+◌, ◌==◌, ◌||◌, ◌⊎◌, Bool, if◌then◌else◌, List, [], ◌∷◌, ◌++◌, map, Contains, Some}
+use mathlib.Core.List.{IsPrefix}
+use Rattle.joint_model.specs.Components.{mirror_edges}
+use Rattle.joint_model.specs.Control.{Opened, contracted, caller_place, candidates_of, IsCandidateHandle, carried_edges}
+use Rattle.joint_model.specs.Cycles.{IsDeadContraction}
+use Rattle.joint_model.specs.Heaps.{fields_of}
+use Rattle.joint_model.specs.Lines.{is_peer_event}
+use Rattle.joint_model.specs.Linked.{Linkage, opening_linkage, linkage_after}
+use Rattle.joint_model.specs.Managed.{Managed, OpenCycle, handle_of}
+use Rattle.joint_model.specs.Peers.{Issued}
+use Rattle.joint_model.specs.Told.{Noted, nothing}
+use Rattle.known_laws.specs.Known.{MayComeLater}
+
+-- the list in which an entry stands, and the line of its caller
+abbrev pub role_of : Noted → ℕ
+role_of n = if is_peer_event n.entry.made.caller n.entry.made.op then 1 else 0
+
+abbrev pub own_of : Noted → ℕ
+own_of n = 2 + caller_place n.entry.made.caller
+
+abbrev pub is_in : ℕ → Noted → Bool
+is_in i n = (i == role_of n) || (i == own_of n)
+
+abbrev pub line : ℕ → List Noted → List Noted
+line i [] = []
+line i (x ∷ h) = if is_in i x then line i h ++ x ∷ [] else line i h
+
+abbrev pub of_line : ℕ → List Noted → List Noted
+of_line i [] = []
+of_line i (x ∷ xs) = if is_in i x then x ∷ of_line i xs else of_line i xs
+
+abbrev pub RunsFrom : ℕ → List Noted → Type 0
+RunsFrom n [] = Unit {0}
+RunsFrom n (x ∷ xs) = (x.entry.number ≡ n) × RunsFrom (n + 1) xs
+
+abbrev pub In : List Noted → Noted → Type 0
+In [] e = ⊥
+In (x ∷ xs) e = (x ≡ e) ⊎ In xs e
+
+-- the state after a past
+abbrev pub end_of : List Noted → Linkage
+end_of [] = opening_linkage
+end_of (n ∷ h) = linkage_after (end_of h) n
+
+-- the least number that an entry after a past can have
+abbrev pub next_of : List Noted → ℕ
+next_of [] = 0
+next_of (n ∷ h) = n.entry.number + 1
+
+abbrev pub Lawful : List Noted → Type 0
+Lawful [] = Unit {0}
+Lawful (n ∷ h) = MayComeLater (next_of h) (end_of h) n × Lawful h
+
+-- the past's lines are beginnings of the lines of the whole
+abbrev pub Within : List Noted → List Noted → Type 0
+Within whole h = (i : ℕ) → IsPrefix (line i h) (of_line i whole)
+
+-- the open cycle is the same, the rows of its dead part have the same handles and fields, and so the same contraction
+pub record HasSameDeadPart (s t : Managed) : Type 0 where
+  pub cycle : s.cycle ≡ t.cycle
+  pub handles : (c : OpenCycle) → s.cycle ≡ Some c → (m : ℕ) → Contains c.dead m → handle_of s m ≡ handle_of t m
+  pub fields : (c : OpenCycle) → s.cycle ≡ Some c → (m : ℕ) → Contains c.dead m → fields_of s.heap m ≡ fields_of t.heap m
+  pub contraction : (c : OpenCycle) → s.cycle ≡ Some c → (comps : List (List ℕ)) (xrefs : List (ℕ × ℕ)) → IsDeadContraction s c.dead comps xrefs → IsDeadContraction t c.dead comps xrefs
+
+-- two states have the same for the driver: the candidates, their handles, and where the mirror edges lead
+pub record IsSameForDriver (s t : Linkage) : Type 0 where
+  pub candidates : candidates_of s.managed.managed ≡ candidates_of t.managed.managed
+  pub handles : (i h : ℕ) → IsCandidateHandle s.managed.managed i h → IsCandidateHandle t.managed.managed i h
+  pub edges : (o : Opened) (comps : List (List ℕ)) (xrefs : List (ℕ × ℕ)) (issued : List Issued) → t.control.stand ≡ contracted o comps xrefs
+      → carried_edges s.managed.managed issued (mirror_edges comps xrefs) ≡ carried_edges t.managed.managed issued (mirror_edges comps xrefs)
+
+-- the open cycle's dead part is frozen: two pasts in which the driver did the same have the same for the driver
+abbrev pub IsFrozenIn : List Noted → Type 0
+IsFrozenIn whole = (a b : List Noted) → Lawful a → Lawful b → Within whole a → Within whole b → line 2 a ≡ line 2 b → IsSameForDriver (end_of a) (end_of b)
+
+-- what two pasts of one run know together is a past of it
+pub record Joined (a b : List Noted) : Type 0 where
+  pub past : List Noted
+  pub lawful : Lawful past
+  pub longer_one : (i : ℕ) → (line i past ≡ line i a) ⊎ (line i past ≡ line i b)
+  pub first : (i : ℕ) → IsPrefix (line i a) (line i past)
+  pub second : (i : ℕ) → IsPrefix (line i b) (line i past)
+
+abbrev pub PastsJoin : Type 0
+PastsJoin = (whole a b : List Noted) → RunsFrom 0 whole → IsFrozenIn whole → Lawful a → Lawful b → Within whole a → Within whole b → Joined a b
+
+-- in any run
+abbrev pub KnownPastsJoin : Type 0
+KnownPastsJoin = (whole a b : List Noted) → RunsFrom 0 whole → Lawful a → Lawful b → Within whole a → Within whole b → Joined a b
+
+-- a note without what is told
+abbrev pub bare : Noted → Noted
+bare n = record { entry = n.entry; told = nothing }
+
+-- the past's entries stand in lines that begin the lines of the whole
+abbrev pub AreWithin : List Noted → List Noted → Type 0
+AreWithin whole h = Within (map bare whole) (map bare h)
+
+-- what both have is told alike
+abbrev pub AreAlike : List Noted → List Noted → Type 0
+AreAlike a b = (x y : Noted) → In a x → In b y → x.entry.number ≡ y.entry.number → x ≡ y
+
+abbrev pub PastsAgree : Type 0
+PastsAgree = (whole a b : List Noted) → RunsFrom 0 whole → Lawful a → Lawful b → AreWithin whole a → AreWithin whole b → AreAlike a b
+
+-- of two pasts whose entries are those of one run
+abbrev pub EntryPastsJoin : Type 0
+EntryPastsJoin = (whole a b : List Noted) → RunsFrom 0 whole → Lawful a → Lawful b → AreWithin whole a → AreWithin whole b → Joined a b
