@@ -2,7 +2,7 @@
 -- snap, begin, sweep and resolve; its sweep goes by joint reachability; its resolve cites nothing and keeps the
 -- candidates whose peers weren't swept; no other caller's entry stands within it; and at the end the driver is idle, and
 -- the list of notices is empty. Everything else is as in the final definitions.
-use Rattle.std.specs.Prelude.{◌≡◌, ℕ, ◌+◌, ◌≤◌, ◌↔◌, Contains, Bool, true, false, not, nat_eq, if◌then◌else◌, List, [], ◌∷◌, length, map, Option, Some, None}
+use Rattle.std.specs.Prelude.{◌≡◌, ℕ, ◌+◌, ◌<◌, ◌≤◌, ◌^◌, ◌↔◌, Contains, Bool, true, false, not, nat_eq, if◌then◌else◌, List, [], ◌∷◌, length, map, Option, Some, None}
 use Rattle.std.specs.List.{list_any}
 use Rattle.joint_model.specs.declared.names.Thread.{Thread}
 use Rattle.joint_model.specs.declared.names.Thread.TheVariants.{M, P, C}
@@ -137,10 +137,11 @@ IsCycleAlone idle t = Unit {0}
 IsCycleAlone _ C = Unit {0}
 IsCycleAlone _ t = ⊥
 
--- the entry may come next, whatever its number
+-- the entry may come next, whatever its number; its line is a number of 32 bits
 pub record FirstMayCome (s : FirstLinkage) (n : Noted) : Type 0 where
   pub event : IsEvent n.entry.made.caller n.entry.made.op
   pub line : last_line s.base.control n.entry.made.caller ≤ n.entry.made.index
+  pub short : n.entry.made.index < 2 ^ 32
   pub lawful : FirstSideLawful (is_peer_event n.entry.made.caller n.entry.made.op) s n.entry.made n.told
   pub order : FirstCallerAllows s n.entry.made.caller n.entry.made.index n.entry.made.op n.entry.made.reply n.entry.made.cites n.told
   pub alone : IsCycleAlone s.base.control.stand n.entry.made.caller

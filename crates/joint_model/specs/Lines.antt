@@ -60,8 +60,8 @@ abbrev pub IsManagedAct : Act → Type 0
 IsManagedAct (act.New v k n) = IsVar v × IsPlainObject k n
 IsManagedAct (act.Bridge v k n s f) = IsVar v × IsBridgeObject k n s × (f ≤ 16)
 IsManagedAct (act.Copy v w) = IsVar v × IsVar w
-IsManagedAct (act.Set v i w) = IsVar v × IsVarOrNone w
-IsManagedAct (act.Get v w i) = IsVar v × IsVar w
+IsManagedAct (act.Set v i w) = IsVar v × IsVarOrNone w × (i ≤ 255)
+IsManagedAct (act.Get v w i) = IsVar v × IsVar w × (i ≤ 255)
 IsManagedAct (act.Drop v) = IsVar v
 IsManagedAct (act.Load v x) = IsVar v × (x.0 < 16)
 IsManagedAct (act.Store x v) = (x.0 < 16) × IsVarOrNone v
@@ -90,8 +90,8 @@ abbrev pub IsPeerAct : Act → Type 0
 IsPeerAct (act.New v k n) = ⊥
 IsPeerAct (act.Bridge v k n s f) = ⊥
 IsPeerAct (act.Copy v w) = IsVar v × IsVar w
-IsPeerAct (act.Set v i w) = IsVar v × IsVarOrNone w
-IsPeerAct (act.Get v w i) = IsVar v × IsVar w
+IsPeerAct (act.Set v i w) = IsVar v × IsVarOrNone w × (i ≤ 255)
+IsPeerAct (act.Get v w i) = IsVar v × IsVar w × (i ≤ 255)
 IsPeerAct (act.Drop v) = IsVar v
 IsPeerAct (act.Load v x) = IsVar v × (x.0 < 16)
 IsPeerAct (act.Store x v) = (x.0 < 16) × IsVarOrNone v

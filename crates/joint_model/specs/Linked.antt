@@ -1,6 +1,6 @@
 -- Linked histories: the one list of entries in which both sides' own lists are lawful, the citations agree, and each
 -- caller's events come in their order. And the joint projection: the entries that are steps of the joint machine.
-use Rattle.std.specs.Prelude.{◌≡◌, ℕ, ◌≤◌, Bool, true, false, List, [], ◌∷◌, length, map, filter, take}
+use Rattle.std.specs.Prelude.{◌≡◌, ℕ, ◌<◌, ◌≤◌, ◌^◌, Bool, true, false, List, [], ◌∷◌, length, map, filter, take}
 use Rattle.joint_model.specs.declared.lines.Act.TheVariants as act
 use Rattle.joint_model.specs.declared.events.Op.{Op}
 use Rattle.joint_model.specs.declared.events.Op.TheVariants as op
@@ -39,10 +39,11 @@ abbrev pub SideLawful : Bool → Linkage → Made → Told → Type 0
 SideLawful true s m told = PeerLawful s.peer m told
 SideLawful false s m told = ManagedLawful s.managed m told
 
--- the entry may come next, whatever its number
+-- the entry may come next, whatever its number; its line is a number of 32 bits
 pub record MayCome (s : Linkage) (n : Noted) : Type 0 where
   pub event : IsEvent n.entry.made.caller n.entry.made.op
   pub line : last_line s.control n.entry.made.caller ≤ n.entry.made.index
+  pub short : n.entry.made.index < 2 ^ 32
   pub lawful : SideLawful (is_peer_event n.entry.made.caller n.entry.made.op) s n.entry.made n.told
   pub order : CallerAllows s.control s.managed.managed s.peer.peers.issued n.entry.made.caller n.entry.made.index n.entry.made.op n.entry.made.reply n.entry.made.cites n.told
 

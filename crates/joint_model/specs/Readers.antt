@@ -1,7 +1,7 @@
 -- Reads that take no lock: a reader's `read` or `wait` is an entry of the reader's own list, made at any moment. Here is what
 -- such an entry may answer, over a whole history, and how linked histories have them. (SGen's bridge header: while bridge
 -- processing is in progress, the reading of a weak link to a bridge object waits.)
-use Rattle.std.specs.Prelude.{◌≡◌, ℕ, ◌<◌, ◌≤◌, ◌⊎◌, Bool, true, false, not, ◌&&◌, if◌then◌else◌, List, [], ◌∷◌, map, filter, take, Contains, Option, Some, None, slice_get, slice_set}
+use Rattle.std.specs.Prelude.{◌≡◌, ℕ, ◌<◌, ◌≤◌, ◌^◌, ◌⊎◌, Bool, true, false, not, ◌&&◌, if◌then◌else◌, List, [], ◌∷◌, map, filter, take, Contains, Option, Some, None, slice_get, slice_set}
 use Rattle.joint_model.specs.declared.names.Thread.{Thread}
 use Rattle.joint_model.specs.declared.lines.Act.TheVariants as act
 use Rattle.joint_model.specs.declared.events.Op.{Op}
@@ -132,10 +132,11 @@ reader_after s n = record s {
   control = control_after s.control n.entry.made.caller n.entry.number n.entry.made.index n.entry.made.op n.entry.made.reply n.told;
 }
 
--- a reader's entry may come next, whatever its number, but for its reply
+-- a reader's entry may come next, whatever its number, but for its reply; its line is a number of 32 bits
 pub record ReaderMayCome (s : Linkage) (n : Noted) : Type 0 where
   pub event : IsEvent n.entry.made.caller n.entry.made.op
   pub line : last_line s.control n.entry.made.caller ≤ n.entry.made.index
+  pub short : n.entry.made.index < 2 ^ 32
   pub order : CallerAllows s.control s.managed.managed s.peer.peers.issued n.entry.made.caller n.entry.made.index n.entry.made.op n.entry.made.reply n.entry.made.cites n.told
   pub bare : n.told ≡ nothing
 

@@ -67,6 +67,7 @@ may_move a b x frozen role own later may = record {
   comes = record {
     event = may.comes.event;
     line = subst (λ z. z ≤ x.entry.made.index) at.last may.comes.line;
+    short = may.comes.short;
     lawful = lawful_move (is_peer_event x.entry.made.caller x.entry.made.op) refl may.comes.lawful;
     order = order_move x.entry.made.caller refl may.comes.order;
   };

@@ -274,7 +274,7 @@ plain_may_be_told s n a = by n.entry.made.caller n.entry.made.op n.told a
         (λ plain. (phase_of p, (a, plain)))
         (λ z. (
           phase_of at.Mirrored,
-          (record { event = a.event; line = a.line; lawful = record { allowed = z.1; replies = a.lawful.replies ∙ z.2 }; order = (z.0, a.order.1) }, plainly_by s.control.stand w at.Mirrored (λ e. absurd (cc))),
+          (record { event = a.event; line = a.line; short = a.short; lawful = record { allowed = z.1; replies = a.lawful.replies ∙ z.2 }; order = (z.0, a.order.1) }, plainly_by s.control.stand w at.Mirrored (λ e. absurd (cc))),
         ))
         (retold s.managed s.control.stand (length (candidates_of s.managed.managed)) w p a.order.0 a.lawful.allowed)
     by (M u) (op.Refused w) t a = absurd a.event

@@ -1,7 +1,6 @@
 -- What the words of an event and the state together tell of the event, for each event that may come in the form of the
--- first steps: all of it, once the field of a `set` or a `get` is a number of at most 64 bits.
-use Rattle.std.proofs.Common.{◌≡◌, ℕ, ◌<◌, ◌≤◌, List, [], ◌∷◌, get_or, decimal, refl, sym, ◌∙◌, ap, subst, arith}
-use Rattle.std.specs.Str.Parse.{digits_value}
+-- first steps: all of it.
+use Rattle.std.proofs.Common.{◌≡◌, ℕ, ◌<◌, ◌≤◌, ◌∷◌, decimal, refl, sym, ◌∙◌, ap, arith}
 use Rattle.joint_model.specs.declared.names.Thread.{Thread}
 use Rattle.joint_model.specs.declared.lines.Act.{Act}
 use Rattle.joint_model.specs.declared.lines.Act.TheVariants as act
@@ -10,16 +9,14 @@ use Rattle.joint_model.specs.declared.events.Op.TheVariants as op
 use Rattle.joint_model.specs.Lines.{IsVar, IsVarOrNone}
 use Rattle.bridge_script.specs.Words.{act_words}
 use Rattle.bridge_script.specs.Report.{event_words}
-use Rattle.script_histories.specs.Laws.{HasShortField}
-use Rattle.script_histories.proofs.Digits.{decimal-one}
 use Rattle.script_histories.proofs.Reading.{Names, read_event, read-number, read-var, read-optional, read-kind, read-sort, read-static, read-own, read-cell, read-global}
 
--- an act that is one event of a managed or a peer thread, with its places within their limits; a field has none
+-- an act that is one event of a managed or a peer thread, with its places within their limits
 abbrev pub IsBounded : Act → Type 0
 IsBounded (act.New v k n) = IsVar v × (n ≤ 16)
 IsBounded (act.Copy v w) = IsVar v × IsVar w
-IsBounded (act.Set v i w) = IsVar v × IsVarOrNone w
-IsBounded (act.Get v w i) = IsVar v × IsVar w
+IsBounded (act.Set v i w) = IsVar v × IsVarOrNone w × (i ≤ 255)
+IsBounded (act.Get v w i) = IsVar v × IsVar w × (i ≤ 255)
 IsBounded (act.Drop v) = IsVar v
 IsBounded (act.Load v x) = IsVar v × (x.0 < 16)
 IsBounded (act.Store x v) = (x.0 < 16) × IsVarOrNone v
@@ -54,21 +51,11 @@ IsKnown s (op.Resolve k) = s.opened ≡ k.0
 IsKnown s (op.Abandon k) = s.opened ≡ k.0
 IsKnown s _ = ⊥
 
--- the number that a field's digits write, which is the field where that is short
-abbrev written : ℕ → ℕ
-written i = digits_value 10 (decimal i)
-
--- the event with its field as it is written
-abbrev as_written : Op → Op
-as_written (op.Line (act.Set v i w)) = op.Line (act.Set v (written i) w)
-as_written (op.Line (act.Get v w i)) = op.Line (act.Get v w (written i))
-as_written o = o
-
-read-act : (s : Names) (t : Thread) (a : Act) → IsBounded a → read_event s (act_words t a) ≡ as_written (op.Line a)
+read-act : (s : Names) (t : Thread) (a : Act) → IsBounded a → read_event s (act_words t a) ≡ op.Line a
 read-act s t (act.New v k n) b = λ i. op.Line (act.New (read-var v b.0 i) (read-kind k i) (read-number n (omega (arith, b.1)) i))
 read-act s t (act.Copy v w) b = λ i. op.Line (act.Copy (read-var v b.0 i) (read-var w b.1 i))
-read-act s t (act.Set v n w) b = λ i. op.Line (act.Set (read-var v b.0 i) (written n) (read-optional w b.1 i))
-read-act s t (act.Get v w n) b = λ i. op.Line (act.Get (read-var v b.0 i) (read-var w b.1 i) (written n))
+read-act s t (act.Set v n w) b = λ i. op.Line (act.Set (read-var v b.0 i) (read-number n (omega (arith, b.2)) i) (read-optional w b.1 i))
+read-act s t (act.Get v w n) b = λ i. op.Line (act.Get (read-var v b.0 i) (read-var w b.1 i) (read-number n (omega (arith, b.2)) i))
 read-act s t (act.Drop v) b = λ i. op.Line (act.Drop (read-var v b i))
 read-act s t (act.Load v x) b = λ i. op.Line (act.Load (read-var v b.0 i) (read-own t x b.1 i))
 read-act s t (act.Store x v) b = λ i. op.Line (act.Store (read-own t x b.0 i) (read-optional v b.1 i))
@@ -85,7 +72,7 @@ read-act s t (act.WRead v g) b = λ i. op.Line (act.WRead (read-var v b.0 i) (re
 read-act s t (act.Slice n) b = λ i. op.Line (act.Slice (read-number n (omega (arith, b)) i))
 read-act s t a b = absurd b
 
-read-known : (s : Names) (t : Thread) (o : Op) → IsKnown s o → read_event s (event_words t o) ≡ as_written o
+read-known : (s : Names) (t : Thread) (o : Op) → IsKnown s o → read_event s (event_words t o) ≡ o
 read-known s t (op.Line a) k = read-act s t a k
 read-known s t (op.Make o n) k = λ i. op.Make (read-sort o i) (read-number n (omega (arith, k)) i)
 read-known s t (op.Adopt v o n p h) k = λ i. op.Adopt (read-var v k.0 i) (read-kind o i) (read-number n (omega (arith, k.1)) i) record { 0 = k.2 i } record { 0 = k.3 i }
@@ -102,24 +89,6 @@ read-known s t (op.Resolve c) k = λ i. op.Resolve record { 0 = k i }
 read-known s t (op.Abandon c) k = λ i. op.Abandon record { 0 = k i }
 read-known s t o k = absurd k
 
-short-written : (o : Op) → HasShortField o → as_written o ≡ o
-short-written (op.Line (act.Set v n w)) f = λ i. op.Line (act.Set v (read-number n f i) w)
-short-written (op.Line (act.Get v w n)) f = λ i. op.Line (act.Get v w (read-number n f i))
-short-written o f = refl
-
--- an event with a short field, and another that reads the same
-same-read : (t : Thread) (o o' : Op) → HasShortField o → event_words t o ≡ event_words t o' → o ≡ as_written o' → o ≡ o'
-same-read t o (op.Line (act.Set v n w)) f e is =
-    let words : event_words t (op.Line (act.Set v (written n) w)) ≡ event_words t (op.Line (act.Set v n w)) = ap (event_words t) (sym is) ∙ e in
-    let same : written n ≡ n = decimal-one (written n) n (subst HasShortField is f) (ap (λ (ws : List (List ℕ)). get_or ws 2 []) words) in
-    is ∙ ap (λ (i : ℕ). op.Line (act.Set v i w)) same
-same-read t o (op.Line (act.Get v w n)) f e is =
-    let words : event_words t (op.Line (act.Get v w (written n))) ≡ event_words t (op.Line (act.Get v w n)) = ap (event_words t) (sym is) ∙ e in
-    let same : written n ≡ n = decimal-one (written n) n (subst HasShortField is f) (ap (λ (ws : List (List ℕ)). get_or ws 3 []) words) in
-    is ∙ ap (λ (i : ℕ). op.Line (act.Get v w i)) same
-same-read t o o' f e is = is
-
--- two events of one state with the same words, where the one has a short field
-pub same-event : (s : Names) (t : Thread) (o o' : Op) → IsKnown s o → HasShortField o → IsKnown s o' → event_words t o ≡ event_words t o' → o ≡ o'
-same-event s t o o' k f k' e =
-    same-read t o o' f e (sym (short-written o f) ∙ (sym (read-known s t o k) ∙ (ap (read_event s) e ∙ read-known s t o' k')))
+-- two events of one state with the same words
+pub same-event : (s : Names) (t : Thread) (o o' : Op) → IsKnown s o → IsKnown s o' → event_words t o ≡ event_words t o' → o ≡ o'
+same-event s t o o' k k' e = sym (read-known s t o k) ∙ (ap (read_event s) e ∙ read-known s t o' k')

@@ -13,4 +13,3 @@ pub mod Reading
 pub mod Known
 pub mod Knowing
 pub mod OneText
-pub mod Short

@@ -19,7 +19,6 @@ use Rattle.bridge_script.specs.declared.lists.Numbers.TheVariants.{Freed, FreedP
 use Rattle.bridge_script.specs.Words.{thread_text}
 use Rattle.bridge_script.specs.Lists.{after_spaces, list_words}
 use Rattle.bridge_script.specs.Report.{event_words, reply_words, list_of, shown, cite_words, place_text, head_words, entry_text, entries_text, end_text, report}
-use Rattle.script_histories.specs.Laws.{IsShort}
 use Rattle.script_histories.proofs.Cutting.{Lacks, every-append, cut-first, words-one}
 use Rattle.script_histories.proofs.Digits.{IsDigit, decimal-digits, decimal-one}
 use Rattle.script_histories.proofs.Plain.{AllPlain, plain-listed, plain-event, plain-reply, plain-cites, plain-place, plain-decimal, no-byte, no-bytes, no-equals}
@@ -136,8 +135,8 @@ words-tell h h' e e' q =
     (ap first q, cut.0)
 
 -- two entries that may come in one state, and have the same line of text
-line-one : (h h' : Finished) (s : Counted) (n n' : Noted) → IsShort n.entry → CountedMayCome s n → CountedMayCome s n' → line_of h n.entry ≡ line_of h' n'.entry → n ≡ n'
-line-one h h' s n n' short a b q =
+line-one : (h h' : Finished) (s : Counted) (n n' : Noted) → CountedMayCome s n → CountedMayCome s n' → line_of h n.entry ≡ line_of h' n'.entry → n ≡ n'
+line-one h h' s n n' a b q =
     let e = n.entry in
     let e' = n'.entry in
     let number : e.number ≡ e'.number = a.number ∙ sym b.number in
@@ -145,33 +144,32 @@ line-one h h' s n n' short a b q =
     append_cancel_left (decimal e'.number) (after_spaces (whole_words h e)) (after_spaces (whole_words h' e')) (ap (λ k. decimal k ++ after_spaces (whole_words h e)) (sym number) ∙ q) in
     let words = words-one (whole_words h e) (whole_words h' e') (words-lack 32 (lit≤ tt) h e) (words-lack 32 (lit≤ tt) h' e') texts in
     let tell = words-tell h h' e e' words in
-    let place = place-one e.made.caller e'.made.caller e.made.index e'.made.index (caller-is e.made.caller e.made.op a.come.event) short.line tell.0 in
+    let place = place-one e.made.caller e'.made.caller e.made.index e'.made.index (caller-is e.made.caller e.made.op a.come.event) (let l = a.come.short in omega (arith, l)) tell.0 in
     let known' = subst (λ (t : Thread). IsKnown (names_of s.state t) e'.made.op) (sym place.0) (known-event s.state n' b.come) in
     let events = tell.1 ∙ ap (λ (t : Thread). event_words t e'.made.op) (sym place.0) in
-    let event = same-event (names_of s.state e.made.caller) e.made.caller e.made.op e'.made.op (known-event s.state n a.come) short.field known' events in
+    let event = same-event (names_of s.state e.made.caller) e.made.caller e.made.op e'.made.op (known-event s.state n a.come) known' events in
     one-note s.state n n' number place.0 place.1 event a.come b.come
 
-texts-one : (h h' : Finished) (k k' : ℕ) (s : Counted) (ns ns' : List Noted) → All IsShort (entries_of ns) → AllCountedMayCome s ns → AllCountedMayCome s ns'
+texts-one : (h h' : Finished) (k k' : ℕ) (s : Counted) (ns ns' : List Noted) → AllCountedMayCome s ns → AllCountedMayCome s ns'
     → entries_text h (entries_of ns) ++ end_text k ≡ entries_text h' (entries_of ns') ++ end_text k' → ns ≡ ns'
-texts-one h h' k k' s [] [] short c c' q = refl
-texts-one h h' k k' s [] (n ∷ ns) short c c' q = absurd (no-entry h' n.entry (entries_of ns) (end_text k') _ (sym q))
-texts-one h h' k k' s (n ∷ ns) [] short c c' q = absurd (no-entry h n.entry (entries_of ns) (end_text k) _ q)
-texts-one h h' k k' s (n ∷ ns) (n' ∷ ns') short c c' q =
+texts-one h h' k k' s [] [] c c' q = refl
+texts-one h h' k k' s [] (n ∷ ns) c c' q = absurd (no-entry h' n.entry (entries_of ns) (end_text k') _ (sym q))
+texts-one h h' k k' s (n ∷ ns) [] c c' q = absurd (no-entry h n.entry (entries_of ns) (end_text k) _ q)
+texts-one h h' k k' s (n ∷ ns) (n' ∷ ns') c c' q =
     let es = entries_of ns in
     let es' = entries_of ns' in
     let lines : line_of h n.entry ++ (10 ∷ (entries_text h es ++ end_text k)) ≡ line_of h' n'.entry ++ (10 ∷ (entries_text h' es' ++ end_text k')) =
     sym (line-first h n.entry es (end_text k)) ∙ (q ∙ line-first h' n'.entry es' (end_text k')) in
     let cut = cut-first 10 (line_of h n.entry) (line_of h' n'.entry) (entries_text h es ++ end_text k) (entries_text h' es' ++ end_text k') (line-whole h n.entry) (line-whole h' n'.entry) lines in
-    let one = line-one h h' s n n' (All-head IsShort n.entry es short) c.0 c'.0 cut.0 in
+    let one = line-one h h' s n n' c.0 c'.0 cut.0 in
     let later = subst (λ (m : Noted). AllCountedMayCome (counted_after s m) ns') (sym one) c'.1 in
-    let rest = texts-one h h' k k' (counted_after s n) ns ns' (All-tail IsShort n.entry es short) c.1 later cut.1 in
+    let rest = texts-one h h' k k' (counted_after s n) ns ns' c.1 later cut.1 in
     ap (λ (m : Noted). m ∷ ns) one ∙ ap (λ (l : List Noted). n' ∷ l) rest
 
 -- two linked histories with one text
-pub one-text : (h h' : Finished) → All IsShort h.entries → IsFirstLinked h → IsFirstLinked h' → report h ≡ report h' → h ≡ h'
-one-text h h' short a b q =
+pub one-text : (h h' : Finished) → IsFirstLinked h → IsFirstLinked h' → report h ≡ report h' → h ≡ h'
+one-text h h' a b q =
     let e = a.linked.same in
     let e' = b.linked.same in
-    let short' = subst (All IsShort) (sym e) short in
     let texts = ap (λ (l : List Entry). entries_text h l ++ end_text (length h.entries)) e ∙ (q ∙ ap (λ (l : List Entry). entries_text h' l ++ end_text (length h'.entries)) (sym e')) in
-    notes-tell h h' a.noted b.noted a.linked b.linked (texts-one h h' (length h.entries) (length h'.entries) opening_counted a.noted b.noted short' (linked-counted h a.noted a.linked) (linked-counted h' b.noted b.linked) texts)
+    notes-tell h h' a.noted b.noted a.linked b.linked (texts-one h h' (length h.entries) (length h'.entries) opening_counted a.noted b.noted (linked-counted h a.noted a.linked) (linked-counted h' b.noted b.linked) texts)

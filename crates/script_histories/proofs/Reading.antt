@@ -1,5 +1,5 @@
 -- An event is read back from its words by the first of them. The peer, the handle and the cycle that an event names are
--- those of the state, so they are taken from there; a field's number is read as the number that its digits write.
+-- those of the state, so they are taken from there.
 use Rattle.std.proofs.Common.{◌≡◌, ℕ, ◌+◌, ◌-◌, ◌*◌, ◌<◌, ◌^◌, min, Bool, false, cond, List, [], ◌∷◌, get_or, Option, Some, None, codes, decimal, refl, ◌∙◌, ap, arith}
 use Rattle.std.specs.Prelude.{nat_eq, if◌then◌else◌}
 use Rattle.std.specs.Str.Parse.{digits_value}

@@ -5,7 +5,7 @@ ghost use Rattle.joint_model.specs.declared.names.Thread.{Thread};
 ghost use Rattle.joint_model.specs.declared.lines.Act.{Act};
 ghost use Rattle.joint_model.specs.declared.events.Entry.{Entry};
 ghost use Rattle.script_histories.specs.Holding.{HoldsLines, AllCyclesEnd};
-ghost use Rattle.script_histories.specs.Laws.{HasOneHistory, HasOneText, HoldsShortLines};
+ghost use Rattle.script_histories.specs.Laws.{HasOneHistory, HasOneText};
 
 /// A history that holds the lines of a script abandons no cycle, and resolves each that it opens.
 pub fn held_cycles_end()
@@ -19,10 +19,7 @@ pub fn one_history_for_a_script()
 {}
 
 /// A text is the report of at most one history: two linked histories, in the form of the first steps, that have the
-/// same report are the same, in their entries and in what was freed. Of the one, the line of each entry and the field of
-/// each `set` and `get` are numbers of at most 64 bits, as in every history that code holds; a history that holds the
-/// lines of a script has such numbers where the script has.
+/// same report are the same, in their entries and in what was freed.
 pub fn texts_tell_histories()
-    ensures one_text { HasOneText }
-    ensures short { HoldsShortLines }
+    ensures { HasOneText }
 {}

@@ -11,21 +11,21 @@ use Rattle.worked_histories.specs.Abandoned.{abandoned, AbandonedHolds}
 
 pub abandoned-lawful : AllMayCome opening_linkage abandoned
 abandoned-lawful = (
-  record { event = omega arith; line = omega arith; lawful = record { allowed = tt; replies = refl }; order = refl },
+  record { event = omega arith; line = omega arith; short = omega arith; lawful = record { allowed = tt; replies = refl }; order = refl },
   (
-    record { event = (omega arith, omega arith, (User, (omega arith, refl))); line = omega arith; lawful = record { allowed = absent [] 1 refl; replies = refl }; order = (refl, refl, refl, refl, (omega arith, (omega arith, (omega arith, refl), omega arith))) },
+    record { event = (omega arith, omega arith, (User, (omega arith, refl))); line = omega arith; short = omega arith; lawful = record { allowed = absent [] 1 refl; replies = refl }; order = (refl, refl, refl, refl, (omega arith, (omega arith, (omega arith, refl), omega arith))) },
     (
-      record { event = omega arith; line = omega arith; lawful = record { allowed = tt; replies = refl }; order = refl },
+      record { event = omega arith; line = omega arith; short = omega arith; lawful = record { allowed = tt; replies = refl }; order = refl },
       (
-        record { event = tt; line = omega arith; lawful = record { allowed = snapshot _ 2 1 [] (1 ∷ []) (1 ∷ []) (record { slots = refl; bridges = refl }) refl refl refl refl refl refl; replies = refl }; order = refl },
+        record { event = tt; line = omega arith; short = omega arith; lawful = record { allowed = snapshot _ 2 1 [] (1 ∷ []) (1 ∷ []) (record { slots = refl; bridges = refl }) refl refl refl refl refl refl; replies = refl }; order = refl },
         (
-          record { event = tt; line = omega arith; lawful = record { allowed = (record { number = 1; candidates = (1 ∷ []); dead = (1 ∷ []) }, (refl, refl)); replies = refl }; order = (refl, refl) },
+          record { event = tt; line = omega arith; short = omega arith; lawful = record { allowed = (record { number = 1; candidates = (1 ∷ []); dead = (1 ∷ []) }, (refl, refl)); replies = refl }; order = (refl, refl) },
           (
-            record { event = tt; line = omega arith; lawful = record { allowed = snapshot _ 2 2 [] (1 ∷ []) (1 ∷ []) (record { slots = refl; bridges = refl }) refl refl refl refl refl refl; replies = refl }; order = refl },
+            record { event = tt; line = omega arith; short = omega arith; lawful = record { allowed = snapshot _ 2 2 [] (1 ∷ []) (1 ∷ []) (record { slots = refl; bridges = refl }) refl refl refl refl refl refl; replies = refl }; order = refl },
             (
-              record { event = tt; line = omega arith; lawful = record { allowed = record { cycle = record { number = 2; candidates = (1 ∷ []); dead = (1 ∷ []) }; open_cycle = (refl, refl); once = refl; exact = dead_contraction _ 2 (1 ∷ []) ((1 ∷ []) ∷ []) [] (record { inside = refl; complete = refl; order = refl; same = refl; firsts = refl; split = refl; refs = refl }) }; replies = refl }; order = (refl, refl) },
+              record { event = tt; line = omega arith; short = omega arith; lawful = record { allowed = record { cycle = record { number = 2; candidates = (1 ∷ []); dead = (1 ∷ []) }; open_cycle = (refl, refl); once = refl; exact = dead_contraction _ 2 (1 ∷ []) ((1 ∷ []) ∷ []) [] (record { inside = refl; complete = refl; order = refl; same = refl; firsts = refl; split = refl; refs = refl }) }; replies = refl }; order = (refl, refl) },
               (
-                record { event = tt; line = omega arith; lawful = record { allowed = (record { number = 2; candidates = (1 ∷ []); dead = (1 ∷ []) }, (refl, refl)); replies = refl }; order = (refl, refl) },
+                record { event = tt; line = omega arith; short = omega arith; lawful = record { allowed = (record { number = 2; candidates = (1 ∷ []); dead = (1 ∷ []) }, (refl, refl)); replies = refl }; order = (refl, refl) },
                 tt,
               ),
             ),

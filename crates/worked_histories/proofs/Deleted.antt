@@ -7,19 +7,19 @@ use Rattle.worked_histories.proofs.PeerRows.{sweep, closure}
 
 pub emptied-lawful : AllMayCome opening_linkage emptied_field
 emptied-lawful = (
-  record { event = omega arith; line = omega arith; lawful = record { allowed = tt; replies = refl }; order = refl },
+  record { event = omega arith; line = omega arith; short = omega arith; lawful = record { allowed = tt; replies = refl }; order = refl },
   (
-    record { event = omega arith; line = omega arith; lawful = record { allowed = tt; replies = refl }; order = refl },
+    record { event = omega arith; line = omega arith; short = omega arith; lawful = record { allowed = tt; replies = refl }; order = refl },
     (
-      record { event = omega arith; line = omega arith; lawful = record { allowed = tt; replies = refl }; order = refl },
+      record { event = omega arith; line = omega arith; short = omega arith; lawful = record { allowed = tt; replies = refl }; order = refl },
       (
-        record { event = omega arith; line = omega arith; lawful = record { allowed = tt; replies = refl }; order = refl },
+        record { event = omega arith; line = omega arith; short = omega arith; lawful = record { allowed = tt; replies = refl }; order = refl },
         (
-          record { event = inl (omega arith); line = omega arith; lawful = record { allowed = tt; replies = refl }; order = refl },
+          record { event = inl (omega arith); line = omega arith; short = omega arith; lawful = record { allowed = tt; replies = refl }; order = refl },
           (
-            record { event = omega arith; line = omega arith; lawful = record { allowed = tt; replies = refl }; order = refl },
+            record { event = omega arith; line = omega arith; short = omega arith; lawful = record { allowed = tt; replies = refl }; order = refl },
             (
-              record { event = omega arith; line = omega arith; lawful = record { allowed = tt; replies = refl }; order = refl },
+              record { event = omega arith; line = omega arith; short = omega arith; lawful = record { allowed = tt; replies = refl }; order = refl },
               tt,
             ),
           ),
@@ -31,16 +31,16 @@ emptied-lawful = (
 
 pub sliced-lawful : AllMayCome before_slices two_slices
 sliced-lawful = (
-  record { event = omega arith; line = omega arith; lawful = record { allowed = (refl, closure _ 3 (1 ∷ 2 ∷ []) refl refl refl); replies = refl }; order = refl },
+  record { event = omega arith; line = omega arith; short = omega arith; lawful = record { allowed = (refl, closure _ 3 (1 ∷ 2 ∷ []) refl refl refl); replies = refl }; order = refl },
   (
-    record { event = omega arith; line = omega arith; lawful = record { allowed = (refl, closure _ 3 (1 ∷ 2 ∷ []) refl refl refl); replies = refl }; order = refl },
+    record { event = omega arith; line = omega arith; short = omega arith; lawful = record { allowed = (refl, closure _ 3 (1 ∷ 2 ∷ []) refl refl refl); replies = refl }; order = refl },
     tt,
   ),
 )
 
 pub swept-lawful : AllMayCome before_sweep empty_sweep
 swept-lawful = (
-  record { event = inl (omega arith); line = omega arith; lawful = record { allowed = (inr refl, sweep _ _ 3 [] refl refl refl); replies = refl }; order = refl },
+  record { event = inl (omega arith); line = omega arith; short = omega arith; lawful = record { allowed = (inr refl, sweep _ _ 3 [] refl refl refl); replies = refl }; order = refl },
   tt,
 )
 

@@ -10,25 +10,25 @@ use Rattle.worked_histories.specs.FirstNames.{FirstNamesHold, names_given, kept_
 
 pub names_given-lawful : AllFirstMayCome opening_first names_given
 names_given-lawful = (
-  record { event = omega arith; line = omega arith; lawful = record { allowed = tt; replies = refl }; order = refl; alone = tt },
+  record { event = omega arith; line = omega arith; short = omega arith; lawful = record { allowed = tt; replies = refl }; order = refl; alone = tt },
   (
-    record { event = (omega arith, omega arith, (User, (omega arith, refl))); line = omega arith; lawful = record { allowed = absent [] 1 refl; replies = refl }; order = (refl, refl, refl, refl, (omega arith, (omega arith, (omega arith, refl), omega arith))); alone = tt },
+    record { event = (omega arith, omega arith, (User, (omega arith, refl))); line = omega arith; short = omega arith; lawful = record { allowed = absent [] 1 refl; replies = refl }; order = (refl, refl, refl, refl, (omega arith, (omega arith, (omega arith, refl), omega arith))); alone = tt },
     (
-      record { event = omega arith; line = omega arith; lawful = record { allowed = tt; replies = refl }; order = refl; alone = tt },
+      record { event = omega arith; line = omega arith; short = omega arith; lawful = record { allowed = tt; replies = refl }; order = refl; alone = tt },
       (
-        record { event = omega arith; line = omega arith; lawful = record { allowed = tt; replies = refl }; order = (refl, refl, refl, refl); alone = tt },
+        record { event = omega arith; line = omega arith; short = omega arith; lawful = record { allowed = tt; replies = refl }; order = (refl, refl, refl, refl); alone = tt },
         (
-          record { event = omega arith; line = omega arith; lawful = record { allowed = tt; replies = refl }; order = refl; alone = tt },
+          record { event = omega arith; line = omega arith; short = omega arith; lawful = record { allowed = tt; replies = refl }; order = refl; alone = tt },
           (
-            record { event = omega arith; line = omega arith; lawful = record { allowed = tt; replies = refl }; order = refl; alone = tt },
+            record { event = omega arith; line = omega arith; short = omega arith; lawful = record { allowed = tt; replies = refl }; order = refl; alone = tt },
             (
-              record { event = omega arith; line = omega arith; lawful = record { allowed = tt; replies = refl }; order = refl; alone = tt },
+              record { event = omega arith; line = omega arith; short = omega arith; lawful = record { allowed = tt; replies = refl }; order = refl; alone = tt },
               (
-                record { event = omega arith; line = omega arith; lawful = record { allowed = tt; replies = refl }; order = refl; alone = tt },
+                record { event = omega arith; line = omega arith; short = omega arith; lawful = record { allowed = tt; replies = refl }; order = refl; alone = tt },
                 (
-                  record { event = omega arith; line = omega arith; lawful = record { allowed = tt; replies = refl }; order = refl; alone = tt },
+                  record { event = omega arith; line = omega arith; short = omega arith; lawful = record { allowed = tt; replies = refl }; order = refl; alone = tt },
                   (
-                    record { event = omega arith; line = omega arith; lawful = record { allowed = tt; replies = refl }; order = refl; alone = tt },
+                    record { event = omega arith; line = omega arith; short = omega arith; lawful = record { allowed = tt; replies = refl }; order = refl; alone = tt },
                     tt,
                   ),
                 ),
@@ -43,17 +43,17 @@ names_given-lawful = (
 
 pub kept_cycle-lawful : AllFirstMayCome after_names_given kept_cycle
 kept_cycle-lawful = (
-  record { event = inl (omega arith); line = omega arith; lawful = record { allowed = tt; replies = refl }; order = refl; alone = tt },
+  record { event = inl (omega arith); line = omega arith; short = omega arith; lawful = record { allowed = tt; replies = refl }; order = refl; alone = tt },
   (
-    record { event = inl (omega arith); line = omega arith; lawful = record { allowed = (inr refl, sweep _ _ 2 [] refl refl refl); replies = refl }; order = refl; alone = tt },
+    record { event = inl (omega arith); line = omega arith; short = omega arith; lawful = record { allowed = (inr refl, sweep _ _ 2 [] refl refl refl); replies = refl }; order = refl; alone = tt },
     (
-      record { event = tt; line = omega arith; lawful = record { allowed = snapshot _ 2 1 [] (1 ∷ []) (1 ∷ []) (record { slots = refl; bridges = refl }) refl refl refl refl refl refl; replies = refl }; order = refl; alone = tt },
+      record { event = tt; line = omega arith; short = omega arith; lawful = record { allowed = snapshot _ 2 1 [] (1 ∷ []) (1 ∷ []) (record { slots = refl; bridges = refl }) refl refl refl refl refl refl; replies = refl }; order = refl; alone = tt },
       (
-        record { event = inr tt; line = omega arith; lawful = record { allowed = unreached _ 4 [] refl refl refl; replies = refl }; order = (tt, refl); alone = tt },
+        record { event = inr tt; line = omega arith; short = omega arith; lawful = record { allowed = unreached _ 4 [] refl refl refl; replies = refl }; order = (tt, refl); alone = tt },
         (
-          record { event = inr tt; line = omega arith; lawful = record { allowed = refl; replies = refl }; order = (tt, refl); alone = tt },
+          record { event = inr tt; line = omega arith; short = omega arith; lawful = record { allowed = refl; replies = refl }; order = (tt, refl); alone = tt },
           (
-            record { event = tt; line = omega arith; lawful = record { allowed = record { cycle = record { number = 1; candidates = (1 ∷ []); dead = (1 ∷ []) }; open_cycle = (refl, refl); answers = refl; resolution = resolution _ 2 (1 ∷ []) _ (1 ∷ []) [] (Decides-answered (1 ∷ []) (true ∷ [])) refl refl refl }; replies = refl }; order = ((refl, refl), refl); alone = tt },
+            record { event = tt; line = omega arith; short = omega arith; lawful = record { allowed = record { cycle = record { number = 1; candidates = (1 ∷ []); dead = (1 ∷ []) }; open_cycle = (refl, refl); answers = refl; resolution = resolution _ 2 (1 ∷ []) _ (1 ∷ []) [] (Decides-answered (1 ∷ []) (true ∷ [])) refl refl refl }; replies = refl }; order = ((refl, refl), refl); alone = tt },
             tt,
           ),
         ),
@@ -64,17 +64,17 @@ kept_cycle-lawful = (
 
 pub freed_cycle-lawful : AllFirstMayCome after_kept_cycle freed_cycle
 freed_cycle-lawful = (
-  record { event = omega arith; line = omega arith; lawful = record { allowed = tt; replies = refl }; order = refl; alone = tt },
+  record { event = omega arith; line = omega arith; short = omega arith; lawful = record { allowed = tt; replies = refl }; order = refl; alone = tt },
   (
-    record { event = tt; line = omega arith; lawful = record { allowed = snapshot _ 2 2 [] (1 ∷ []) (1 ∷ []) (record { slots = refl; bridges = refl }) refl refl refl refl refl refl; replies = refl }; order = refl; alone = tt },
+    record { event = tt; line = omega arith; short = omega arith; lawful = record { allowed = snapshot _ 2 2 [] (1 ∷ []) (1 ∷ []) (record { slots = refl; bridges = refl }) refl refl refl refl refl refl; replies = refl }; order = refl; alone = tt },
     (
-      record { event = inr tt; line = omega arith; lawful = record { allowed = unreached _ 4 (1 ∷ []) refl refl refl; replies = refl }; order = (tt, refl); alone = tt },
+      record { event = inr tt; line = omega arith; short = omega arith; lawful = record { allowed = unreached _ 4 (1 ∷ []) refl refl refl; replies = refl }; order = (tt, refl); alone = tt },
       (
-        record { event = inr tt; line = omega arith; lawful = record { allowed = refl; replies = refl }; order = (tt, refl); alone = tt },
+        record { event = inr tt; line = omega arith; short = omega arith; lawful = record { allowed = refl; replies = refl }; order = (tt, refl); alone = tt },
         (
-          record { event = tt; line = omega arith; lawful = record { allowed = record { cycle = record { number = 2; candidates = (1 ∷ []); dead = (1 ∷ []) }; open_cycle = (refl, refl); answers = refl; resolution = resolution _ 2 (1 ∷ []) _ [] (1 ∷ []) (Decides-answered (1 ∷ []) (false ∷ [])) refl refl refl }; replies = refl }; order = ((refl, refl), refl); alone = tt },
+          record { event = tt; line = omega arith; short = omega arith; lawful = record { allowed = record { cycle = record { number = 2; candidates = (1 ∷ []); dead = (1 ∷ []) }; open_cycle = (refl, refl); answers = refl; resolution = resolution _ 2 (1 ∷ []) _ [] (1 ∷ []) (Decides-answered (1 ∷ []) (false ∷ [])) refl refl refl }; replies = refl }; order = ((refl, refl), refl); alone = tt },
           (
-            record { event = omega arith; line = omega arith; lawful = record { allowed = tt; replies = refl }; order = refl; alone = tt },
+            record { event = omega arith; line = omega arith; short = omega arith; lawful = record { allowed = tt; replies = refl }; order = refl; alone = tt },
             tt,
           ),
         ),

@@ -12,29 +12,29 @@ use Rattle.worked_histories.specs.GlobalNames.{global_names, GlobalNamesHold}
 
 pub global_names-lawful : AllMayCome opening_linkage global_names
 global_names-lawful = (
-  record { event = omega arith; line = omega arith; lawful = record { allowed = tt; replies = refl }; order = refl },
+  record { event = omega arith; line = omega arith; short = omega arith; lawful = record { allowed = tt; replies = refl }; order = refl },
   (
-    record { event = omega arith; line = omega arith; lawful = record { allowed = tt; replies = refl }; order = refl },
+    record { event = omega arith; line = omega arith; short = omega arith; lawful = record { allowed = tt; replies = refl }; order = refl },
     (
-      record { event = omega arith; line = omega arith; lawful = record { allowed = tt; replies = refl }; order = refl },
+      record { event = omega arith; line = omega arith; short = omega arith; lawful = record { allowed = tt; replies = refl }; order = refl },
       (
-        record { event = omega arith; line = omega arith; lawful = record { allowed = tt; replies = refl }; order = refl },
+        record { event = omega arith; line = omega arith; short = omega arith; lawful = record { allowed = tt; replies = refl }; order = refl },
         (
-          record { event = inl (omega arith); line = omega arith; lawful = record { allowed = tt; replies = refl }; order = refl },
+          record { event = inl (omega arith); line = omega arith; short = omega arith; lawful = record { allowed = tt; replies = refl }; order = refl },
           (
-            record { event = inl (omega arith); line = omega arith; lawful = record { allowed = (inr refl, sweep _ _ 2 [] refl refl refl); replies = refl }; order = refl },
+            record { event = inl (omega arith); line = omega arith; short = omega arith; lawful = record { allowed = (inr refl, sweep _ _ 2 [] refl refl refl); replies = refl }; order = refl },
             (
-              record { event = omega arith; line = omega arith; lawful = record { allowed = tt; replies = refl }; order = refl },
+              record { event = omega arith; line = omega arith; short = omega arith; lawful = record { allowed = tt; replies = refl }; order = refl },
               (
-                record { event = inl (omega arith); line = omega arith; lawful = record { allowed = tt; replies = refl }; order = refl },
+                record { event = inl (omega arith); line = omega arith; short = omega arith; lawful = record { allowed = tt; replies = refl }; order = refl },
                 (
-                  record { event = inl (omega arith); line = omega arith; lawful = record { allowed = (inr refl, sweep _ _ 2 (1 ∷ []) refl refl refl); replies = refl }; order = refl },
+                  record { event = inl (omega arith); line = omega arith; short = omega arith; lawful = record { allowed = (inr refl, sweep _ _ 2 (1 ∷ []) refl refl refl); replies = refl }; order = refl },
                   (
-                    record { event = omega arith; line = omega arith; lawful = record { allowed = tt; replies = refl }; order = refl },
+                    record { event = omega arith; line = omega arith; short = omega arith; lawful = record { allowed = tt; replies = refl }; order = refl },
                     (
-                      record { event = omega arith; line = omega arith; lawful = record { allowed = tt; replies = refl }; order = refl },
+                      record { event = omega arith; line = omega arith; short = omega arith; lawful = record { allowed = tt; replies = refl }; order = refl },
                       (
-                        record { event = omega arith; line = omega arith; lawful = record { allowed = tt; replies = refl }; order = refl },
+                        record { event = omega arith; line = omega arith; short = omega arith; lawful = record { allowed = tt; replies = refl }; order = refl },
                         tt,
                       ),
                     ),

@@ -17,51 +17,51 @@ use Rattle.worked_histories.specs.MovedPeer.{moved_peer, MovedPeerHolds}
 
 pub moved_peer-lawful : AllMayCome opening_linkage moved_peer
 moved_peer-lawful = (
-  record { event = omega arith; line = omega arith; lawful = record { allowed = tt; replies = refl }; order = refl },
+  record { event = omega arith; line = omega arith; short = omega arith; lawful = record { allowed = tt; replies = refl }; order = refl },
   (
-    record { event = (omega arith, omega arith, (User, (omega arith, refl))); line = omega arith; lawful = record { allowed = absent [] 1 refl; replies = refl }; order = (refl, refl, refl, refl, (omega arith, (omega arith, (omega arith, refl), omega arith))) },
+    record { event = (omega arith, omega arith, (User, (omega arith, refl))); line = omega arith; short = omega arith; lawful = record { allowed = absent [] 1 refl; replies = refl }; order = (refl, refl, refl, refl, (omega arith, (omega arith, (omega arith, refl), omega arith))) },
     (
-      record { event = omega arith; line = omega arith; lawful = record { allowed = tt; replies = refl }; order = refl },
+      record { event = omega arith; line = omega arith; short = omega arith; lawful = record { allowed = tt; replies = refl }; order = refl },
       (
-        record { event = omega arith; line = omega arith; lawful = record { allowed = tt; replies = refl }; order = (refl, refl, refl, refl) },
+        record { event = omega arith; line = omega arith; short = omega arith; lawful = record { allowed = tt; replies = refl }; order = (refl, refl, refl, refl) },
         (
-          record { event = omega arith; line = omega arith; lawful = record { allowed = tt; replies = refl }; order = refl },
+          record { event = omega arith; line = omega arith; short = omega arith; lawful = record { allowed = tt; replies = refl }; order = refl },
           (
-            record { event = omega arith; line = omega arith; lawful = record { allowed = tt; replies = refl }; order = refl },
+            record { event = omega arith; line = omega arith; short = omega arith; lawful = record { allowed = tt; replies = refl }; order = refl },
             (
-              record { event = omega arith; line = omega arith; lawful = record { allowed = tt; replies = refl }; order = refl },
+              record { event = omega arith; line = omega arith; short = omega arith; lawful = record { allowed = tt; replies = refl }; order = refl },
               (
-                record { event = omega arith; line = omega arith; lawful = record { allowed = tt; replies = refl }; order = refl },
+                record { event = omega arith; line = omega arith; short = omega arith; lawful = record { allowed = tt; replies = refl }; order = refl },
                 (
-                  record { event = omega arith; line = omega arith; lawful = record { allowed = tt; replies = refl }; order = refl },
+                  record { event = omega arith; line = omega arith; short = omega arith; lawful = record { allowed = tt; replies = refl }; order = refl },
                   (
-                    record { event = omega arith; line = omega arith; lawful = record { allowed = tt; replies = refl }; order = refl },
+                    record { event = omega arith; line = omega arith; short = omega arith; lawful = record { allowed = tt; replies = refl }; order = refl },
                     (
-                      record { event = tt; line = omega arith; lawful = record { allowed = snapshot _ 2 1 [] (1 ∷ []) (1 ∷ []) (record { slots = refl; bridges = refl }) refl refl refl refl refl refl; replies = refl }; order = refl },
+                      record { event = tt; line = omega arith; short = omega arith; lawful = record { allowed = snapshot _ 2 1 [] (1 ∷ []) (1 ∷ []) (record { slots = refl; bridges = refl }) refl refl refl refl refl refl; replies = refl }; order = refl },
                       (
-                        record { event = tt; line = omega arith; lawful = record { allowed = record { cycle = record { number = 1; candidates = (1 ∷ []); dead = (1 ∷ []) }; open_cycle = (refl, refl); once = refl; exact = dead_contraction _ 2 (1 ∷ []) ((1 ∷ []) ∷ []) [] (record { inside = refl; complete = refl; order = refl; same = refl; firsts = refl; split = refl; refs = refl }) }; replies = refl }; order = (refl, refl) },
+                        record { event = tt; line = omega arith; short = omega arith; lawful = record { allowed = record { cycle = record { number = 1; candidates = (1 ∷ []); dead = (1 ∷ []) }; open_cycle = (refl, refl); once = refl; exact = dead_contraction _ 2 (1 ∷ []) ((1 ∷ []) ∷ []) [] (record { inside = refl; complete = refl; order = refl; same = refl; firsts = refl; split = refl; refs = refl }) }; replies = refl }; order = (refl, refl) },
                         (
-                          record { event = omega arith; line = omega arith; lawful = record { allowed = tt; replies = refl }; order = refl },
+                          record { event = omega arith; line = omega arith; short = omega arith; lawful = record { allowed = tt; replies = refl }; order = refl },
                           (
-                            record { event = omega arith; line = omega arith; lawful = record { allowed = tt; replies = refl }; order = refl },
+                            record { event = omega arith; line = omega arith; short = omega arith; lawful = record { allowed = tt; replies = refl }; order = refl },
                             (
-                              record { event = omega arith; line = omega arith; lawful = record { allowed = tt; replies = refl }; order = refl },
+                              record { event = omega arith; line = omega arith; short = omega arith; lawful = record { allowed = tt; replies = refl }; order = refl },
                               (
-                                record { event = omega arith; line = omega arith; lawful = record { allowed = tt; replies = refl }; order = refl },
+                                record { event = omega arith; line = omega arith; short = omega arith; lawful = record { allowed = tt; replies = refl }; order = refl },
                                 (
-                                  record { event = tt; line = omega arith; lawful = record { allowed = record { none_stands = refl; once = absent [] 1 refl; snap = 10; cited = refl }; replies = refl }; order = (refl, refl, refl) },
+                                  record { event = tt; line = omega arith; short = omega arith; lawful = record { allowed = record { none_stands = refl; once = absent [] 1 refl; snap = 10; cited = refl }; replies = refl }; order = (refl, refl, refl) },
                                   (
-                                    record { event = tt; line = omega arith; lawful = record { allowed = record { mirror = record { cycle = 1; snap = 10; weakened = []; restored = [] }; stands = refl; cited = refl; is_held = (record { peer = 1; hold = held; strength = strong }, refl, refl); strong_now = refl }; replies = refl }; order = (refl, refl, (_, refl, refl)) },
+                                    record { event = tt; line = omega arith; short = omega arith; lawful = record { allowed = record { mirror = record { cycle = 1; snap = 10; weakened = []; restored = [] }; stands = refl; cited = refl; is_held = (record { peer = 1; hold = held; strength = strong }, refl, refl); strong_now = refl }; replies = refl }; order = (refl, refl, (_, refl, refl)) },
                                     (
-                                      record { event = inr tt; line = omega arith; lawful = record { allowed = tt; replies = refl }; order = (refl, refl) },
+                                      record { event = inr tt; line = omega arith; short = omega arith; lawful = record { allowed = tt; replies = refl }; order = (refl, refl) },
                                       (
-                                        record { event = inr tt; line = omega arith; lawful = record { allowed = (inl refl, sweep _ _ 2 [] refl refl refl); replies = refl }; order = refl },
+                                        record { event = inr tt; line = omega arith; short = omega arith; lawful = record { allowed = (inl refl, sweep _ _ 2 [] refl refl refl); replies = refl }; order = refl },
                                         (
-                                          record { event = tt; line = omega arith; lawful = record { allowed = record { mirror = record { cycle = 1; snap = 10; weakened = (1 ∷ []); restored = [] }; stands = refl; weakened = present (1 ∷ []) 1 refl; waiting = absent [] 1 refl; row = _; tabled = refl }; replies = refl }; order = (refl, (_, refl, refl)) },
+                                          record { event = tt; line = omega arith; short = omega arith; lawful = record { allowed = record { mirror = record { cycle = 1; snap = 10; weakened = (1 ∷ []); restored = [] }; stands = refl; weakened = present (1 ∷ []) 1 refl; waiting = absent [] 1 refl; row = _; tabled = refl }; replies = refl }; order = (refl, (_, refl, refl)) },
                                           (
-                                            record { event = tt; line = omega arith; lawful = record { allowed = record { mirror = record { cycle = 1; snap = 10; weakened = (1 ∷ []); restored = (1 ∷ []) }; stands = refl; same = refl; all = All-contains_itself (1 ∷ []) }; replies = refl }; order = (refl, refl, refl) },
+                                            record { event = tt; line = omega arith; short = omega arith; lawful = record { allowed = record { mirror = record { cycle = 1; snap = 10; weakened = (1 ∷ []); restored = (1 ∷ []) }; stands = refl; same = refl; all = All-contains_itself (1 ∷ []) }; replies = refl }; order = (refl, refl, refl) },
                                             (
-                                              record { event = tt; line = omega arith; lawful = record { allowed = record { cycle = record { number = 1; candidates = (1 ∷ []); dead = (1 ∷ []) }; open_cycle = (refl, refl); answers = refl; resolution = resolution _ 2 (1 ∷ []) _ (1 ∷ []) [] (Decides-answered (1 ∷ []) (true ∷ [])) refl refl refl }; replies = refl }; order = (refl, refl, refl) },
+                                              record { event = tt; line = omega arith; short = omega arith; lawful = record { allowed = record { cycle = record { number = 1; candidates = (1 ∷ []); dead = (1 ∷ []) }; open_cycle = (refl, refl); answers = refl; resolution = resolution _ 2 (1 ∷ []) _ (1 ∷ []) [] (Decides-answered (1 ∷ []) (true ∷ [])) refl refl refl }; replies = refl }; order = (refl, refl, refl) },
                                               tt,
                                             ),
                                           ),

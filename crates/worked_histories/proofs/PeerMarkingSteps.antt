@@ -17,47 +17,47 @@ use Rattle.worked_histories.specs.PeerMarking.{peer_marking, PeerMarkingHolds}
 
 pub peer_marking-lawful : AllMayCome opening_linkage peer_marking
 peer_marking-lawful = (
-  record { event = omega arith; line = omega arith; lawful = record { allowed = tt; replies = refl }; order = refl },
+  record { event = omega arith; line = omega arith; short = omega arith; lawful = record { allowed = tt; replies = refl }; order = refl },
   (
-    record { event = (omega arith, omega arith, (User, (omega arith, refl))); line = omega arith; lawful = record { allowed = absent [] 1 refl; replies = refl }; order = (refl, refl, refl, refl, (omega arith, (omega arith, (omega arith, refl), omega arith))) },
+    record { event = (omega arith, omega arith, (User, (omega arith, refl))); line = omega arith; short = omega arith; lawful = record { allowed = absent [] 1 refl; replies = refl }; order = (refl, refl, refl, refl, (omega arith, (omega arith, (omega arith, refl), omega arith))) },
     (
-      record { event = omega arith; line = omega arith; lawful = record { allowed = tt; replies = refl }; order = refl },
+      record { event = omega arith; line = omega arith; short = omega arith; lawful = record { allowed = tt; replies = refl }; order = refl },
       (
-        record { event = (omega arith, omega arith, (User, (omega arith, refl))); line = omega arith; lawful = record { allowed = absent (1 ∷ []) 2 refl; replies = refl }; order = (refl, refl, refl, refl, (omega arith, (omega arith, (omega arith, refl), omega arith))) },
+        record { event = (omega arith, omega arith, (User, (omega arith, refl))); line = omega arith; short = omega arith; lawful = record { allowed = absent (1 ∷ []) 2 refl; replies = refl }; order = (refl, refl, refl, refl, (omega arith, (omega arith, (omega arith, refl), omega arith))) },
         (
-          record { event = omega arith; line = omega arith; lawful = record { allowed = tt; replies = refl }; order = refl },
+          record { event = omega arith; line = omega arith; short = omega arith; lawful = record { allowed = tt; replies = refl }; order = refl },
           (
-            record { event = omega arith; line = omega arith; lawful = record { allowed = tt; replies = refl }; order = refl },
+            record { event = omega arith; line = omega arith; short = omega arith; lawful = record { allowed = tt; replies = refl }; order = refl },
             (
-              record { event = omega arith; line = omega arith; lawful = record { allowed = tt; replies = refl }; order = refl },
+              record { event = omega arith; line = omega arith; short = omega arith; lawful = record { allowed = tt; replies = refl }; order = refl },
               (
-                record { event = omega arith; line = omega arith; lawful = record { allowed = tt; replies = refl }; order = refl },
+                record { event = omega arith; line = omega arith; short = omega arith; lawful = record { allowed = tt; replies = refl }; order = refl },
                 (
-                  record { event = tt; line = omega arith; lawful = record { allowed = snapshot _ 2 1 [] (1 ∷ 2 ∷ []) (1 ∷ 2 ∷ []) (record { slots = refl; bridges = refl }) refl refl refl refl refl refl; replies = refl }; order = refl },
+                  record { event = tt; line = omega arith; short = omega arith; lawful = record { allowed = snapshot _ 2 1 [] (1 ∷ 2 ∷ []) (1 ∷ 2 ∷ []) (record { slots = refl; bridges = refl }) refl refl refl refl refl refl; replies = refl }; order = refl },
                   (
-                    record { event = tt; line = omega arith; lawful = record { allowed = record { cycle = record { number = 1; candidates = (1 ∷ 2 ∷ []); dead = (1 ∷ 2 ∷ []) }; open_cycle = (refl, refl); once = refl; exact = dead_contraction _ 2 (1 ∷ 2 ∷ []) ((1 ∷ 2 ∷ []) ∷ []) [] (record { inside = refl; complete = refl; order = refl; same = refl; firsts = refl; split = refl; refs = refl }) }; replies = refl }; order = (refl, refl) },
+                    record { event = tt; line = omega arith; short = omega arith; lawful = record { allowed = record { cycle = record { number = 1; candidates = (1 ∷ 2 ∷ []); dead = (1 ∷ 2 ∷ []) }; open_cycle = (refl, refl); once = refl; exact = dead_contraction _ 2 (1 ∷ 2 ∷ []) ((1 ∷ 2 ∷ []) ∷ []) [] (record { inside = refl; complete = refl; order = refl; same = refl; firsts = refl; split = refl; refs = refl }) }; replies = refl }; order = (refl, refl) },
                     (
-                      record { event = tt; line = omega arith; lawful = record { allowed = record { none_stands = refl; once = absent [] 1 refl; snap = 8; cited = refl }; replies = refl }; order = (refl, refl, refl) },
+                      record { event = tt; line = omega arith; short = omega arith; lawful = record { allowed = record { none_stands = refl; once = absent [] 1 refl; snap = 8; cited = refl }; replies = refl }; order = (refl, refl, refl) },
                       (
-                        record { event = tt; line = omega arith; lawful = record { allowed = record { mirror = record { cycle = 1; snap = 8; weakened = []; restored = [] }; stands = refl; cited = refl; is_held = (record { peer = 1; hold = held; strength = strong }, refl, refl); strong_now = refl }; replies = refl }; order = (refl, refl, (_, refl, refl)) },
+                        record { event = tt; line = omega arith; short = omega arith; lawful = record { allowed = record { mirror = record { cycle = 1; snap = 8; weakened = []; restored = [] }; stands = refl; cited = refl; is_held = (record { peer = 1; hold = held; strength = strong }, refl, refl); strong_now = refl }; replies = refl }; order = (refl, refl, (_, refl, refl)) },
                         (
-                          record { event = tt; line = omega arith; lawful = record { allowed = record { mirror = record { cycle = 1; snap = 8; weakened = (1 ∷ []); restored = [] }; stands = refl; cited = refl; is_held = (record { peer = 2; hold = held; strength = strong }, refl, refl); strong_now = refl }; replies = refl }; order = (refl, refl, (_, refl, refl)) },
+                          record { event = tt; line = omega arith; short = omega arith; lawful = record { allowed = record { mirror = record { cycle = 1; snap = 8; weakened = (1 ∷ []); restored = [] }; stands = refl; cited = refl; is_held = (record { peer = 2; hold = held; strength = strong }, refl, refl); strong_now = refl }; replies = refl }; order = (refl, refl, (_, refl, refl)) },
                           (
-                            record { event = inl (omega arith); line = omega arith; lawful = record { allowed = tt; replies = refl }; order = refl },
+                            record { event = inl (omega arith); line = omega arith; short = omega arith; lawful = record { allowed = tt; replies = refl }; order = refl },
                             (
-                              record { event = inl (omega arith); line = omega arith; lawful = record { allowed = (inr refl, sweep _ _ 2 (1 ∷ 2 ∷ []) refl refl refl); replies = refl }; order = refl },
+                              record { event = inl (omega arith); line = omega arith; short = omega arith; lawful = record { allowed = (inr refl, sweep _ _ 2 (1 ∷ 2 ∷ []) refl refl refl); replies = refl }; order = refl },
                               (
-                                record { event = inr tt; line = omega arith; lawful = record { allowed = tt; replies = refl }; order = (refl, refl) },
+                                record { event = inr tt; line = omega arith; short = omega arith; lawful = record { allowed = tt; replies = refl }; order = (refl, refl) },
                                 (
-                                  record { event = inr tt; line = omega arith; lawful = record { allowed = (inl refl, sweep _ _ 2 [] refl refl refl); replies = refl }; order = refl },
+                                  record { event = inr tt; line = omega arith; short = omega arith; lawful = record { allowed = (inl refl, sweep _ _ 2 [] refl refl refl); replies = refl }; order = refl },
                                   (
-                                    record { event = tt; line = omega arith; lawful = record { allowed = record { mirror = record { cycle = 1; snap = 8; weakened = (1 ∷ 2 ∷ []); restored = [] }; stands = refl; weakened = present (1 ∷ 2 ∷ []) 1 refl; waiting = absent [] 1 refl; row = _; tabled = refl }; replies = refl }; order = (refl, (_, refl, refl)) },
+                                    record { event = tt; line = omega arith; short = omega arith; lawful = record { allowed = record { mirror = record { cycle = 1; snap = 8; weakened = (1 ∷ 2 ∷ []); restored = [] }; stands = refl; weakened = present (1 ∷ 2 ∷ []) 1 refl; waiting = absent [] 1 refl; row = _; tabled = refl }; replies = refl }; order = (refl, (_, refl, refl)) },
                                     (
-                                      record { event = tt; line = omega arith; lawful = record { allowed = record { mirror = record { cycle = 1; snap = 8; weakened = (1 ∷ 2 ∷ []); restored = (1 ∷ []) }; stands = refl; weakened = present (1 ∷ 2 ∷ []) 2 refl; waiting = absent (1 ∷ []) 2 refl; row = _; tabled = refl }; replies = refl }; order = (refl, (_, refl, refl)) },
+                                      record { event = tt; line = omega arith; short = omega arith; lawful = record { allowed = record { mirror = record { cycle = 1; snap = 8; weakened = (1 ∷ 2 ∷ []); restored = (1 ∷ []) }; stands = refl; weakened = present (1 ∷ 2 ∷ []) 2 refl; waiting = absent (1 ∷ []) 2 refl; row = _; tabled = refl }; replies = refl }; order = (refl, (_, refl, refl)) },
                                       (
-                                        record { event = tt; line = omega arith; lawful = record { allowed = record { mirror = record { cycle = 1; snap = 8; weakened = (1 ∷ 2 ∷ []); restored = (1 ∷ 2 ∷ []) }; stands = refl; same = refl; all = All-contains_itself (1 ∷ 2 ∷ []) }; replies = refl }; order = (refl, refl, refl) },
+                                        record { event = tt; line = omega arith; short = omega arith; lawful = record { allowed = record { mirror = record { cycle = 1; snap = 8; weakened = (1 ∷ 2 ∷ []); restored = (1 ∷ 2 ∷ []) }; stands = refl; same = refl; all = All-contains_itself (1 ∷ 2 ∷ []) }; replies = refl }; order = (refl, refl, refl) },
                                         (
-                                          record { event = tt; line = omega arith; lawful = record { allowed = record { cycle = record { number = 1; candidates = (1 ∷ 2 ∷ []); dead = (1 ∷ 2 ∷ []) }; open_cycle = (refl, refl); answers = refl; resolution = resolution _ 2 (1 ∷ 2 ∷ []) _ [] (1 ∷ 2 ∷ []) (Decides-answered (1 ∷ 2 ∷ []) (false ∷ false ∷ [])) refl refl refl }; replies = refl }; order = (refl, refl, refl) },
+                                          record { event = tt; line = omega arith; short = omega arith; lawful = record { allowed = record { cycle = record { number = 1; candidates = (1 ∷ 2 ∷ []); dead = (1 ∷ 2 ∷ []) }; open_cycle = (refl, refl); answers = refl; resolution = resolution _ 2 (1 ∷ 2 ∷ []) _ [] (1 ∷ 2 ∷ []) (Decides-answered (1 ∷ 2 ∷ []) (false ∷ false ∷ [])) refl refl refl }; replies = refl }; order = (refl, refl, refl) },
                                           tt,
                                         ),
                                       ),

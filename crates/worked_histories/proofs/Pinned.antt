@@ -9,17 +9,17 @@ use Rattle.worked_histories.proofs.PeerRows.{sweep}
 
 pub once-lawful : AllMayCome opening_linkage pinned_once
 once-lawful = (
-  record { event = omega arith; line = omega arith; lawful = record { allowed = tt; replies = refl }; order = refl },
+  record { event = omega arith; line = omega arith; short = omega arith; lawful = record { allowed = tt; replies = refl }; order = refl },
   (
-    record { event = omega arith; line = omega arith; lawful = record { allowed = tt; replies = refl }; order = refl },
+    record { event = omega arith; line = omega arith; short = omega arith; lawful = record { allowed = tt; replies = refl }; order = refl },
     (
-      record { event = (omega arith, omega arith, (_, (omega arith, refl))); line = omega arith; lawful = record { allowed = absent [] 1 refl; replies = refl }; order = (refl, refl, refl, refl, (omega arith, (omega arith, (omega arith, refl), omega arith))) },
+      record { event = (omega arith, omega arith, (_, (omega arith, refl))); line = omega arith; short = omega arith; lawful = record { allowed = absent [] 1 refl; replies = refl }; order = (refl, refl, refl, refl, (omega arith, (omega arith, (omega arith, refl), omega arith))) },
       (
-        record { event = omega arith; line = omega arith; lawful = record { allowed = tt; replies = refl }; order = refl },
+        record { event = omega arith; line = omega arith; short = omega arith; lawful = record { allowed = tt; replies = refl }; order = refl },
         (
-          record { event = omega arith; line = omega arith; lawful = record { allowed = tt; replies = refl }; order = refl },
+          record { event = omega arith; line = omega arith; short = omega arith; lawful = record { allowed = tt; replies = refl }; order = refl },
           (
-            record { event = omega arith; line = omega arith; lawful = record { allowed = tt; replies = refl }; order = refl },
+            record { event = omega arith; line = omega arith; short = omega arith; lawful = record { allowed = tt; replies = refl }; order = refl },
             tt,
           ),
         ),
@@ -30,25 +30,25 @@ once-lawful = (
 
 pub twice-lawful : AllMayCome once_pinned pinned_twice
 twice-lawful = (
-  record { event = omega arith; line = omega arith; lawful = record { allowed = tt; replies = refl }; order = refl },
+  record { event = omega arith; line = omega arith; short = omega arith; lawful = record { allowed = tt; replies = refl }; order = refl },
   tt,
 )
 
 pub cycle-lawful : AllMayCome before_pinned_cycle pinned_cycle
 cycle-lawful = (
-  record { event = tt; line = omega arith; lawful = record { allowed = snapshot _ 2 1 [] [] [] (record { slots = refl; bridges = refl }) refl refl refl refl refl refl; replies = refl }; order = refl },
+  record { event = tt; line = omega arith; short = omega arith; lawful = record { allowed = snapshot _ 2 1 [] [] [] (record { slots = refl; bridges = refl }) refl refl refl refl refl refl; replies = refl }; order = refl },
   (
-    record { event = tt; line = omega arith; lawful = record { allowed = record { cycle = record { number = 1; candidates = []; dead = [] }; open_cycle = (refl, refl); once = refl; exact = dead_contraction _ 1 [] [] [] (record { inside = refl; complete = refl; order = refl; same = refl; firsts = refl; split = refl; refs = refl }) }; replies = refl }; order = (refl, refl) },
+    record { event = tt; line = omega arith; short = omega arith; lawful = record { allowed = record { cycle = record { number = 1; candidates = []; dead = [] }; open_cycle = (refl, refl); once = refl; exact = dead_contraction _ 1 [] [] [] (record { inside = refl; complete = refl; order = refl; same = refl; firsts = refl; split = refl; refs = refl }) }; replies = refl }; order = (refl, refl) },
     (
-      record { event = tt; line = omega arith; lawful = record { allowed = record { none_stands = refl; once = absent [] 1 refl; snap = 7; cited = refl }; replies = refl }; order = (refl, refl, refl) },
+      record { event = tt; line = omega arith; short = omega arith; lawful = record { allowed = record { none_stands = refl; once = absent [] 1 refl; snap = 7; cited = refl }; replies = refl }; order = (refl, refl, refl) },
       (
-        record { event = inr tt; line = omega arith; lawful = record { allowed = tt; replies = refl }; order = (refl, refl) },
+        record { event = inr tt; line = omega arith; short = omega arith; lawful = record { allowed = tt; replies = refl }; order = (refl, refl) },
         (
-          record { event = inr tt; line = omega arith; lawful = record { allowed = (inl refl, sweep _ _ 2 [] refl refl refl); replies = refl }; order = refl },
+          record { event = inr tt; line = omega arith; short = omega arith; lawful = record { allowed = (inl refl, sweep _ _ 2 [] refl refl refl); replies = refl }; order = refl },
           (
-            record { event = tt; line = omega arith; lawful = record { allowed = record { mirror = record { cycle = 1; snap = 7; weakened = []; restored = [] }; stands = refl; same = refl; all = All-contains_itself [] }; replies = refl }; order = (refl, refl, refl) },
+            record { event = tt; line = omega arith; short = omega arith; lawful = record { allowed = record { mirror = record { cycle = 1; snap = 7; weakened = []; restored = [] }; stands = refl; same = refl; all = All-contains_itself [] }; replies = refl }; order = (refl, refl, refl) },
             (
-              record { event = tt; line = omega arith; lawful = record { allowed = record { cycle = record { number = 1; candidates = []; dead = [] }; open_cycle = (refl, refl); answers = refl; resolution = resolution _ 1 [] _ [] [] (Decides-answered [] []) refl refl refl }; replies = refl }; order = (refl, refl, refl) },
+              record { event = tt; line = omega arith; short = omega arith; lawful = record { allowed = record { cycle = record { number = 1; candidates = []; dead = [] }; open_cycle = (refl, refl); answers = refl; resolution = resolution _ 1 [] _ [] [] (Decides-answered [] []) refl refl refl }; replies = refl }; order = (refl, refl, refl) },
               tt,
             ),
           ),
@@ -60,11 +60,11 @@ cycle-lawful = (
 
 pub taken-lawful : AllMayCome after_pinned_cycle taken_out
 taken-lawful = (
-  record { event = omega arith; line = omega arith; lawful = record { allowed = tt; replies = refl }; order = refl },
+  record { event = omega arith; line = omega arith; short = omega arith; lawful = record { allowed = tt; replies = refl }; order = refl },
   (
-    record { event = omega arith; line = omega arith; lawful = record { allowed = tt; replies = refl }; order = refl },
+    record { event = omega arith; line = omega arith; short = omega arith; lawful = record { allowed = tt; replies = refl }; order = refl },
     (
-      record { event = omega arith; line = omega arith; lawful = record { allowed = tt; replies = refl }; order = refl },
+      record { event = omega arith; line = omega arith; short = omega arith; lawful = record { allowed = tt; replies = refl }; order = refl },
       tt,
     ),
   ),

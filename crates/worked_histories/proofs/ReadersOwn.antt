@@ -80,37 +80,37 @@ never_set ns cells i t k h none = record {
 
 pub pending-readings : PendingReadings
 pending-readings = (
-  record { event = omega arith; line = omega arith; lawful = record { allowed = tt; replies = refl }; order = refl },
+  record { event = omega arith; line = omega arith; short = omega arith; lawful = record { allowed = tt; replies = refl }; order = refl },
   (
-    record { event = (omega arith, omega arith, (User, (omega arith, refl))); line = omega arith; lawful = record { allowed = absent [] 1 refl; replies = refl }; order = (refl, refl, refl, refl, (omega arith, (omega arith, (omega arith, refl), omega arith))) },
+    record { event = (omega arith, omega arith, (User, (omega arith, refl))); line = omega arith; short = omega arith; lawful = record { allowed = absent [] 1 refl; replies = refl }; order = (refl, refl, refl, refl, (omega arith, (omega arith, (omega arith, refl), omega arith))) },
     (
-      record { event = omega arith; line = omega arith; lawful = record { allowed = tt; replies = refl }; order = refl },
+      record { event = omega arith; line = omega arith; short = omega arith; lawful = record { allowed = tt; replies = refl }; order = refl },
       (
-        record { event = omega arith; line = omega arith; lawful = record { allowed = tt; replies = refl }; order = refl },
+        record { event = omega arith; line = omega arith; short = omega arith; lawful = record { allowed = tt; replies = refl }; order = refl },
         (
-          record { event = tt; line = omega arith; lawful = record { allowed = snapshot _ 2 1 [] (1 ∷ []) (1 ∷ []) (record { slots = refl; bridges = refl }) refl refl refl refl refl refl; replies = refl }; order = refl },
+          record { event = tt; line = omega arith; short = omega arith; lawful = record { allowed = snapshot _ 2 1 [] (1 ∷ []) (1 ∷ []) (record { slots = refl; bridges = refl }) refl refl refl refl refl refl; replies = refl }; order = refl },
           (
-            (record { event = omega arith; line = omega arith; order = refl; bare = refl }, λ k e. (refl, pending_there pending_read 4 14 5 (M 1) 1 (record { entry = _; there = refl; event = refl }) (omega arith) (omega arith) refl)),
+            (record { event = omega arith; line = omega arith; short = omega arith; order = refl; bare = refl }, λ k e. (refl, pending_there pending_read 4 14 5 (M 1) 1 (record { entry = _; there = refl; event = refl }) (omega arith) (omega arith) refl)),
             (
-              record { event = tt; line = omega arith; lawful = record { allowed = record { cycle = record { number = 1; candidates = (1 ∷ []); dead = (1 ∷ []) }; open_cycle = (refl, refl); once = refl; exact = dead_contraction _ 2 (1 ∷ []) ((1 ∷ []) ∷ []) [] (record { inside = refl; complete = refl; order = refl; same = refl; firsts = refl; split = refl; refs = refl }) }; replies = refl }; order = (refl, refl) },
+              record { event = tt; line = omega arith; short = omega arith; lawful = record { allowed = record { cycle = record { number = 1; candidates = (1 ∷ []); dead = (1 ∷ []) }; open_cycle = (refl, refl); once = refl; exact = dead_contraction _ 2 (1 ∷ []) ((1 ∷ []) ∷ []) [] (record { inside = refl; complete = refl; order = refl; same = refl; firsts = refl; split = refl; refs = refl }) }; replies = refl }; order = (refl, refl) },
               (
-                record { event = tt; line = omega arith; lawful = record { allowed = record { none_stands = refl; once = absent [] 1 refl; snap = 4; cited = refl }; replies = refl }; order = (refl, refl, refl) },
+                record { event = tt; line = omega arith; short = omega arith; lawful = record { allowed = record { none_stands = refl; once = absent [] 1 refl; snap = 4; cited = refl }; replies = refl }; order = (refl, refl, refl) },
                 (
-                  record { event = tt; line = omega arith; lawful = record { allowed = record { mirror = record { cycle = 1; snap = 4; weakened = []; restored = [] }; stands = refl; cited = refl; is_held = (record { peer = 1; hold = held; strength = strong }, refl, refl); strong_now = refl }; replies = refl }; order = (refl, refl, (_, refl, refl)) },
+                  record { event = tt; line = omega arith; short = omega arith; lawful = record { allowed = record { mirror = record { cycle = 1; snap = 4; weakened = []; restored = [] }; stands = refl; cited = refl; is_held = (record { peer = 1; hold = held; strength = strong }, refl, refl); strong_now = refl }; replies = refl }; order = (refl, refl, (_, refl, refl)) },
                   (
-                    record { event = inr tt; line = omega arith; lawful = record { allowed = tt; replies = refl }; order = (refl, refl) },
+                    record { event = inr tt; line = omega arith; short = omega arith; lawful = record { allowed = tt; replies = refl }; order = (refl, refl) },
                     (
-                      record { event = inr tt; line = omega arith; lawful = record { allowed = (inl refl, sweep _ _ 2 (1 ∷ []) refl refl refl); replies = refl }; order = refl },
+                      record { event = inr tt; line = omega arith; short = omega arith; lawful = record { allowed = (inl refl, sweep _ _ 2 (1 ∷ []) refl refl refl); replies = refl }; order = refl },
                       (
-                        record { event = tt; line = omega arith; lawful = record { allowed = record { mirror = record { cycle = 1; snap = 4; weakened = (1 ∷ []); restored = [] }; stands = refl; weakened = present (1 ∷ []) 1 refl; waiting = absent [] 1 refl; row = _; tabled = refl }; replies = refl }; order = (refl, (_, refl, refl)) },
+                        record { event = tt; line = omega arith; short = omega arith; lawful = record { allowed = record { mirror = record { cycle = 1; snap = 4; weakened = (1 ∷ []); restored = [] }; stands = refl; weakened = present (1 ∷ []) 1 refl; waiting = absent [] 1 refl; row = _; tabled = refl }; replies = refl }; order = (refl, (_, refl, refl)) },
                         (
-                          record { event = tt; line = omega arith; lawful = record { allowed = record { mirror = record { cycle = 1; snap = 4; weakened = (1 ∷ []); restored = (1 ∷ []) }; stands = refl; same = refl; all = All-contains_itself (1 ∷ []) }; replies = refl }; order = (refl, refl, refl) },
+                          record { event = tt; line = omega arith; short = omega arith; lawful = record { allowed = record { mirror = record { cycle = 1; snap = 4; weakened = (1 ∷ []); restored = (1 ∷ []) }; stands = refl; same = refl; all = All-contains_itself (1 ∷ []) }; replies = refl }; order = (refl, refl, refl) },
                           (
-                            (record { event = omega arith; line = omega arith; order = refl; bare = refl }, λ k e. (refl, pending_there pending_read 4 14 13 (M 1) 1 (record { entry = _; there = refl; event = refl }) (omega arith) (omega arith) refl)),
+                            (record { event = omega arith; line = omega arith; short = omega arith; order = refl; bare = refl }, λ k e. (refl, pending_there pending_read 4 14 13 (M 1) 1 (record { entry = _; there = refl; event = refl }) (omega arith) (omega arith) refl)),
                             (
-                              record { event = tt; line = omega arith; lawful = record { allowed = record { cycle = record { number = 1; candidates = (1 ∷ []); dead = (1 ∷ []) }; open_cycle = (refl, refl); answers = refl; resolution = resolution _ 2 (1 ∷ []) _ [] (1 ∷ []) (Decides-answered (1 ∷ []) (false ∷ [])) refl refl refl }; replies = refl }; order = (refl, refl, refl) },
+                              record { event = tt; line = omega arith; short = omega arith; lawful = record { allowed = record { cycle = record { number = 1; candidates = (1 ∷ []); dead = (1 ∷ []) }; open_cycle = (refl, refl); answers = refl; resolution = resolution _ 2 (1 ∷ []) _ [] (1 ∷ []) (Decides-answered (1 ∷ []) (false ∷ [])) refl refl refl }; replies = refl }; order = (refl, refl, refl) },
                               (
-                                (record { event = omega arith; line = omega arith; order = refl; bare = refl }, λ k e. rw (← e) refl),
+                                (record { event = omega arith; line = omega arith; short = omega arith; order = refl; bare = refl }, λ k e. rw (← e) refl),
                                 tt,
                               ),
                             ),
@@ -131,39 +131,39 @@ pending-readings = (
 
 pub pinned-readings : PinnedReadings
 pinned-readings = (
-  record { event = omega arith; line = omega arith; lawful = record { allowed = tt; replies = refl }; order = refl },
+  record { event = omega arith; line = omega arith; short = omega arith; lawful = record { allowed = tt; replies = refl }; order = refl },
   (
-    record { event = omega arith; line = omega arith; lawful = record { allowed = tt; replies = refl }; order = refl },
+    record { event = omega arith; line = omega arith; short = omega arith; lawful = record { allowed = tt; replies = refl }; order = refl },
     (
-      record { event = (omega arith, omega arith, (User, (omega arith, refl))); line = omega arith; lawful = record { allowed = absent [] 1 refl; replies = refl }; order = (refl, refl, refl, refl, (omega arith, (omega arith, (omega arith, refl), omega arith))) },
+      record { event = (omega arith, omega arith, (User, (omega arith, refl))); line = omega arith; short = omega arith; lawful = record { allowed = absent [] 1 refl; replies = refl }; order = (refl, refl, refl, refl, (omega arith, (omega arith, (omega arith, refl), omega arith))) },
       (
-        record { event = omega arith; line = omega arith; lawful = record { allowed = tt; replies = refl }; order = refl },
+        record { event = omega arith; line = omega arith; short = omega arith; lawful = record { allowed = tt; replies = refl }; order = refl },
         (
-          record { event = omega arith; line = omega arith; lawful = record { allowed = tt; replies = refl }; order = refl },
+          record { event = omega arith; line = omega arith; short = omega arith; lawful = record { allowed = tt; replies = refl }; order = refl },
           (
-            (record { event = omega arith; line = omega arith; order = refl; bare = refl }, λ k e. rw (← e) refl),
+            (record { event = omega arith; line = omega arith; short = omega arith; order = refl; bare = refl }, λ k e. rw (← e) refl),
             (
-              (record { event = omega arith; line = omega arith; order = refl; bare = refl }, λ k e. refl),
+              (record { event = omega arith; line = omega arith; short = omega arith; order = refl; bare = refl }, λ k e. refl),
               (
-                record { event = tt; line = omega arith; lawful = record { allowed = snapshot _ 2 1 [] [] [] (record { slots = refl; bridges = refl }) refl refl refl refl refl refl; replies = refl }; order = refl },
+                record { event = tt; line = omega arith; short = omega arith; lawful = record { allowed = snapshot _ 2 1 [] [] [] (record { slots = refl; bridges = refl }) refl refl refl refl refl refl; replies = refl }; order = refl },
                 (
-                  record { event = tt; line = omega arith; lawful = record { allowed = record { cycle = record { number = 1; candidates = []; dead = [] }; open_cycle = (refl, refl); once = refl; exact = dead_contraction _ 2 [] [] [] (record { inside = refl; complete = refl; order = refl; same = refl; firsts = refl; split = refl; refs = refl }) }; replies = refl }; order = (refl, refl) },
+                  record { event = tt; line = omega arith; short = omega arith; lawful = record { allowed = record { cycle = record { number = 1; candidates = []; dead = [] }; open_cycle = (refl, refl); once = refl; exact = dead_contraction _ 2 [] [] [] (record { inside = refl; complete = refl; order = refl; same = refl; firsts = refl; split = refl; refs = refl }) }; replies = refl }; order = (refl, refl) },
                   (
-                    record { event = tt; line = omega arith; lawful = record { allowed = record { none_stands = refl; once = absent [] 1 refl; snap = 7; cited = refl }; replies = refl }; order = (refl, refl, refl) },
+                    record { event = tt; line = omega arith; short = omega arith; lawful = record { allowed = record { none_stands = refl; once = absent [] 1 refl; snap = 7; cited = refl }; replies = refl }; order = (refl, refl, refl) },
                     (
-                      record { event = inr tt; line = omega arith; lawful = record { allowed = tt; replies = refl }; order = (refl, refl) },
+                      record { event = inr tt; line = omega arith; short = omega arith; lawful = record { allowed = tt; replies = refl }; order = (refl, refl) },
                       (
-                        record { event = inr tt; line = omega arith; lawful = record { allowed = (inl refl, sweep _ _ 2 [] refl refl refl); replies = refl }; order = refl },
+                        record { event = inr tt; line = omega arith; short = omega arith; lawful = record { allowed = (inl refl, sweep _ _ 2 [] refl refl refl); replies = refl }; order = refl },
                         (
-                          record { event = tt; line = omega arith; lawful = record { allowed = record { mirror = record { cycle = 1; snap = 7; weakened = []; restored = [] }; stands = refl; same = refl; all = All-contains_itself [] }; replies = refl }; order = (refl, refl, refl) },
+                          record { event = tt; line = omega arith; short = omega arith; lawful = record { allowed = record { mirror = record { cycle = 1; snap = 7; weakened = []; restored = [] }; stands = refl; same = refl; all = All-contains_itself [] }; replies = refl }; order = (refl, refl, refl) },
                           (
-                            record { event = tt; line = omega arith; lawful = record { allowed = record { cycle = record { number = 1; candidates = []; dead = [] }; open_cycle = (refl, refl); answers = refl; resolution = resolution _ 2 [] _ [] [] (Decides-answered [] []) refl refl refl }; replies = refl }; order = (refl, refl, refl) },
+                            record { event = tt; line = omega arith; short = omega arith; lawful = record { allowed = record { cycle = record { number = 1; candidates = []; dead = [] }; open_cycle = (refl, refl); answers = refl; resolution = resolution _ 2 [] _ [] [] (Decides-answered [] []) refl refl refl }; replies = refl }; order = (refl, refl, refl) },
                             (
-                              record { event = omega arith; line = omega arith; lawful = record { allowed = tt; replies = refl }; order = refl },
+                              record { event = omega arith; line = omega arith; short = omega arith; lawful = record { allowed = tt; replies = refl }; order = refl },
                               (
-                                (record { event = omega arith; line = omega arith; order = refl; bare = refl }, λ k e. (refl, subst (λ k. MayBeUnset pinned_object (cells_of pinned_object) 15 (M 1) k) e (never_set pinned_object (cells_of pinned_object) 15 (M 1) 6 refl refl))),
+                                (record { event = omega arith; line = omega arith; short = omega arith; order = refl; bare = refl }, λ k e. (refl, subst (λ k. MayBeUnset pinned_object (cells_of pinned_object) 15 (M 1) k) e (never_set pinned_object (cells_of pinned_object) 15 (M 1) 6 refl refl))),
                                 (
-                                  record { event = omega arith; line = omega arith; lawful = record { allowed = tt; replies = refl }; order = refl },
+                                  record { event = omega arith; line = omega arith; short = omega arith; lawful = record { allowed = tt; replies = refl }; order = refl },
                                   tt,
                                 ),
                               ),

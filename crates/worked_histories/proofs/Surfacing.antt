@@ -7,19 +7,19 @@ use Rattle.worked_histories.proofs.Entries.{absent, AllMayCome-append}
 
 pub disposed-lawful : AllMayCome opening_linkage disposed
 disposed-lawful = (
-  record { event = omega arith; line = omega arith; lawful = record { allowed = tt; replies = refl }; order = refl },
+  record { event = omega arith; line = omega arith; short = omega arith; lawful = record { allowed = tt; replies = refl }; order = refl },
   (
-    record { event = (omega arith, omega arith, (_, (omega arith, refl))); line = omega arith; lawful = record { allowed = absent [] 1 refl; replies = refl }; order = (refl, refl, refl, refl, (omega arith, (omega arith, (omega arith, refl), omega arith))) },
+    record { event = (omega arith, omega arith, (_, (omega arith, refl))); line = omega arith; short = omega arith; lawful = record { allowed = absent [] 1 refl; replies = refl }; order = (refl, refl, refl, refl, (omega arith, (omega arith, (omega arith, refl), omega arith))) },
     (
-      record { event = omega arith; line = omega arith; lawful = record { allowed = tt; replies = refl }; order = refl },
+      record { event = omega arith; line = omega arith; short = omega arith; lawful = record { allowed = tt; replies = refl }; order = refl },
       (
-        record { event = omega arith; line = omega arith; lawful = record { allowed = tt; replies = refl }; order = (refl, refl, refl, refl) },
+        record { event = omega arith; line = omega arith; short = omega arith; lawful = record { allowed = tt; replies = refl }; order = (refl, refl, refl, refl) },
         (
-          record { event = omega arith; line = omega arith; lawful = record { allowed = tt; replies = refl }; order = refl },
+          record { event = omega arith; line = omega arith; short = omega arith; lawful = record { allowed = tt; replies = refl }; order = refl },
           (
-            record { event = omega arith; line = omega arith; lawful = record { allowed = record { is_held = (record { peer = 1; hold = held; strength = strong }, refl, refl); row = record { strength = strong; cleared = false }; tabled = refl }; replies = refl }; order = (refl, refl, refl) },
+            record { event = omega arith; line = omega arith; short = omega arith; lawful = record { allowed = record { is_held = (record { peer = 1; hold = held; strength = strong }, refl, refl); row = record { strength = strong; cleared = false }; tabled = refl }; replies = refl }; order = (refl, refl, refl) },
             (
-              record { event = omega arith; line = omega arith; lawful = record { allowed = tt; replies = refl }; order = refl },
+              record { event = omega arith; line = omega arith; short = omega arith; lawful = record { allowed = tt; replies = refl }; order = refl },
               tt,
             ),
           ),
@@ -31,19 +31,19 @@ disposed-lawful = (
 
 pub surfaced-lawful : AllMayCome once_disposed surfaced
 surfaced-lawful = (
-  record { event = omega arith; line = omega arith; lawful = record { allowed = tt; replies = refl }; order = refl },
+  record { event = omega arith; line = omega arith; short = omega arith; lawful = record { allowed = tt; replies = refl }; order = refl },
   (
-    record { event = omega arith; line = omega arith; lawful = record { allowed = absent (1 ∷ []) 2 refl; replies = refl }; order = (refl, refl, refl, refl, refl, refl) },
+    record { event = omega arith; line = omega arith; short = omega arith; lawful = record { allowed = absent (1 ∷ []) 2 refl; replies = refl }; order = (refl, refl, refl, refl, refl, refl) },
     (
-      record { event = omega arith; line = omega arith; lawful = record { allowed = tt; replies = refl }; order = refl },
+      record { event = omega arith; line = omega arith; short = omega arith; lawful = record { allowed = tt; replies = refl }; order = refl },
       (
-        record { event = omega arith; line = omega arith; lawful = record { allowed = absent (1 ∷ 2 ∷ []) 3 refl; replies = refl }; order = (refl, refl, refl, refl, refl, refl) },
+        record { event = omega arith; line = omega arith; short = omega arith; lawful = record { allowed = absent (1 ∷ 2 ∷ []) 3 refl; replies = refl }; order = (refl, refl, refl, refl, refl, refl) },
         (
-          record { event = omega arith; line = omega arith; lawful = record { allowed = record { is_held = (record { peer = 1; hold = held; strength = strong }, refl, refl); row = record { strength = strong; cleared = false }; tabled = refl }; replies = refl }; order = (refl, refl, refl) },
+          record { event = omega arith; line = omega arith; short = omega arith; lawful = record { allowed = record { is_held = (record { peer = 1; hold = held; strength = strong }, refl, refl); row = record { strength = strong; cleared = false }; tabled = refl }; replies = refl }; order = (refl, refl, refl) },
           (
-            record { event = omega arith; line = omega arith; lawful = record { allowed = tt; replies = refl }; order = refl },
+            record { event = omega arith; line = omega arith; short = omega arith; lawful = record { allowed = tt; replies = refl }; order = refl },
             (
-              record { event = omega arith; line = omega arith; lawful = record { allowed = tt; replies = refl }; order = refl },
+              record { event = omega arith; line = omega arith; short = omega arith; lawful = record { allowed = tt; replies = refl }; order = refl },
               tt,
             ),
           ),

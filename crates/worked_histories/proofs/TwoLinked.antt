@@ -8,17 +8,17 @@ use Rattle.worked_histories.proofs.ManagedRows.{snapshot, resolution, Decides-an
 
 pub two_made-lawful : AllFirstMayCome opening_first two_made
 two_made-lawful = (
-  record { event = omega arith; line = omega arith; lawful = record { allowed = tt; replies = refl }; order = refl; alone = tt },
+  record { event = omega arith; line = omega arith; short = omega arith; lawful = record { allowed = tt; replies = refl }; order = refl; alone = tt },
   (
-    record { event = (omega arith, omega arith, (_, (omega arith, refl))); line = omega arith; lawful = record { allowed = absent [] 1 refl; replies = refl }; order = (refl, refl, refl, refl, (omega arith, (omega arith, (omega arith, refl), omega arith))); alone = tt },
+    record { event = (omega arith, omega arith, (_, (omega arith, refl))); line = omega arith; short = omega arith; lawful = record { allowed = absent [] 1 refl; replies = refl }; order = (refl, refl, refl, refl, (omega arith, (omega arith, (omega arith, refl), omega arith))); alone = tt },
     (
-      record { event = omega arith; line = omega arith; lawful = record { allowed = tt; replies = refl }; order = refl; alone = tt },
+      record { event = omega arith; line = omega arith; short = omega arith; lawful = record { allowed = tt; replies = refl }; order = refl; alone = tt },
       (
-        record { event = (omega arith, omega arith, (_, (omega arith, refl))); line = omega arith; lawful = record { allowed = absent (1 ∷ []) 2 refl; replies = refl }; order = (refl, refl, refl, refl, (omega arith, (omega arith, (omega arith, refl), omega arith))); alone = tt },
+        record { event = (omega arith, omega arith, (_, (omega arith, refl))); line = omega arith; short = omega arith; lawful = record { allowed = absent (1 ∷ []) 2 refl; replies = refl }; order = (refl, refl, refl, refl, (omega arith, (omega arith, (omega arith, refl), omega arith))); alone = tt },
         (
-          record { event = omega arith; line = omega arith; lawful = record { allowed = tt; replies = refl }; order = refl; alone = tt },
+          record { event = omega arith; line = omega arith; short = omega arith; lawful = record { allowed = tt; replies = refl }; order = refl; alone = tt },
           (
-            record { event = omega arith; line = omega arith; lawful = record { allowed = tt; replies = refl }; order = refl; alone = tt },
+            record { event = omega arith; line = omega arith; short = omega arith; lawful = record { allowed = tt; replies = refl }; order = refl; alone = tt },
             tt,
           ),
         ),
@@ -29,13 +29,13 @@ two_made-lawful = (
 
 pub first_cycle-lawful : AllFirstMayCome after_making first_cycle
 first_cycle-lawful = (
-  record { event = tt; line = omega arith; lawful = record { allowed = snapshot _ 2 1 [] [] [] (record { slots = refl; bridges = refl }) refl refl refl refl refl refl; replies = refl }; order = refl; alone = tt },
+  record { event = tt; line = omega arith; short = omega arith; lawful = record { allowed = snapshot _ 2 1 [] [] [] (record { slots = refl; bridges = refl }) refl refl refl refl refl refl; replies = refl }; order = refl; alone = tt },
   (
-    record { event = inr tt; line = omega arith; lawful = record { allowed = unreached _ 3 [] refl refl refl; replies = refl }; order = (tt, refl); alone = tt },
+    record { event = inr tt; line = omega arith; short = omega arith; lawful = record { allowed = unreached _ 3 [] refl refl refl; replies = refl }; order = (tt, refl); alone = tt },
     (
-      record { event = inr tt; line = omega arith; lawful = record { allowed = refl; replies = refl }; order = (tt, refl); alone = tt },
+      record { event = inr tt; line = omega arith; short = omega arith; lawful = record { allowed = refl; replies = refl }; order = (tt, refl); alone = tt },
       (
-        record { event = tt; line = omega arith; lawful = record { allowed = record { cycle = record { number = 1; candidates = []; dead = [] }; open_cycle = (refl, refl); answers = refl; resolution = resolution _ 1 [] _ [] [] (Decides-answered [] []) refl refl refl }; replies = refl }; order = ((refl, refl), refl); alone = tt },
+        record { event = tt; line = omega arith; short = omega arith; lawful = record { allowed = record { cycle = record { number = 1; candidates = []; dead = [] }; open_cycle = (refl, refl); answers = refl; resolution = resolution _ 1 [] _ [] [] (Decides-answered [] []) refl refl refl }; replies = refl }; order = ((refl, refl), refl); alone = tt },
         tt,
       ),
     ),
@@ -44,15 +44,15 @@ first_cycle-lawful = (
 
 pub second_cycle-lawful : AllFirstMayCome after_first_cycle second_cycle
 second_cycle-lawful = (
-  record { event = omega arith; line = omega arith; lawful = record { allowed = tt; replies = refl }; order = refl; alone = tt },
+  record { event = omega arith; line = omega arith; short = omega arith; lawful = record { allowed = tt; replies = refl }; order = refl; alone = tt },
   (
-    record { event = tt; line = omega arith; lawful = record { allowed = snapshot _ 2 2 [] (1 ∷ 2 ∷ []) (1 ∷ 2 ∷ []) (record { slots = refl; bridges = refl }) refl refl refl refl refl refl; replies = refl }; order = refl; alone = tt },
+    record { event = tt; line = omega arith; short = omega arith; lawful = record { allowed = snapshot _ 2 2 [] (1 ∷ 2 ∷ []) (1 ∷ 2 ∷ []) (record { slots = refl; bridges = refl }) refl refl refl refl refl refl; replies = refl }; order = refl; alone = tt },
     (
-      record { event = inr tt; line = omega arith; lawful = record { allowed = unreached _ 3 (1 ∷ 2 ∷ []) refl refl refl; replies = refl }; order = (tt, refl); alone = tt },
+      record { event = inr tt; line = omega arith; short = omega arith; lawful = record { allowed = unreached _ 3 (1 ∷ 2 ∷ []) refl refl refl; replies = refl }; order = (tt, refl); alone = tt },
       (
-        record { event = inr tt; line = omega arith; lawful = record { allowed = refl; replies = refl }; order = (tt, refl); alone = tt },
+        record { event = inr tt; line = omega arith; short = omega arith; lawful = record { allowed = refl; replies = refl }; order = (tt, refl); alone = tt },
         (
-          record { event = tt; line = omega arith; lawful = record { allowed = record { cycle = record { number = 2; candidates = 1 ∷ 2 ∷ []; dead = 1 ∷ 2 ∷ [] }; open_cycle = (refl, refl); answers = refl; resolution = resolution _ 1 (1 ∷ 2 ∷ []) _ [] (1 ∷ 2 ∷ []) (Decides-answered (1 ∷ 2 ∷ []) (false ∷ false ∷ [])) refl refl refl }; replies = refl }; order = ((refl, refl), refl); alone = tt },
+          record { event = tt; line = omega arith; short = omega arith; lawful = record { allowed = record { cycle = record { number = 2; candidates = 1 ∷ 2 ∷ []; dead = 1 ∷ 2 ∷ [] }; open_cycle = (refl, refl); answers = refl; resolution = resolution _ 1 (1 ∷ 2 ∷ []) _ [] (1 ∷ 2 ∷ []) (Decides-answered (1 ∷ 2 ∷ []) (false ∷ false ∷ [])) refl refl refl }; replies = refl }; order = ((refl, refl), refl); alone = tt },
           tt,
         ),
       ),

@@ -17,53 +17,53 @@ use Rattle.worked_histories.specs.TwoMarkings.{two_markings, TwoMarkingsHold}
 
 pub two_markings-lawful : AllMayCome opening_linkage two_markings
 two_markings-lawful = (
-  record { event = omega arith; line = omega arith; lawful = record { allowed = tt; replies = refl }; order = refl },
+  record { event = omega arith; line = omega arith; short = omega arith; lawful = record { allowed = tt; replies = refl }; order = refl },
   (
-    record { event = (omega arith, omega arith, (User, (omega arith, refl))); line = omega arith; lawful = record { allowed = absent [] 1 refl; replies = refl }; order = (refl, refl, refl, refl, (omega arith, (omega arith, (omega arith, refl), omega arith))) },
+    record { event = (omega arith, omega arith, (User, (omega arith, refl))); line = omega arith; short = omega arith; lawful = record { allowed = absent [] 1 refl; replies = refl }; order = (refl, refl, refl, refl, (omega arith, (omega arith, (omega arith, refl), omega arith))) },
     (
-      record { event = omega arith; line = omega arith; lawful = record { allowed = tt; replies = refl }; order = refl },
+      record { event = omega arith; line = omega arith; short = omega arith; lawful = record { allowed = tt; replies = refl }; order = refl },
       (
-        record { event = omega arith; line = omega arith; lawful = record { allowed = tt; replies = refl }; order = (refl, refl, refl, refl) },
+        record { event = omega arith; line = omega arith; short = omega arith; lawful = record { allowed = tt; replies = refl }; order = (refl, refl, refl, refl) },
         (
-          record { event = tt; line = omega arith; lawful = record { allowed = snapshot _ 2 1 [] [] [] (record { slots = refl; bridges = refl }) refl refl refl refl refl refl; replies = refl }; order = refl },
+          record { event = tt; line = omega arith; short = omega arith; lawful = record { allowed = snapshot _ 2 1 [] [] [] (record { slots = refl; bridges = refl }) refl refl refl refl refl refl; replies = refl }; order = refl },
           (
-            record { event = omega arith; line = omega arith; lawful = record { allowed = tt; replies = refl }; order = refl },
+            record { event = omega arith; line = omega arith; short = omega arith; lawful = record { allowed = tt; replies = refl }; order = refl },
             (
-              record { event = omega arith; line = omega arith; lawful = record { allowed = absent (1 ∷ []) 2 refl; replies = refl }; order = (refl, refl, refl, refl, refl, refl) },
+              record { event = omega arith; line = omega arith; short = omega arith; lawful = record { allowed = absent (1 ∷ []) 2 refl; replies = refl }; order = (refl, refl, refl, refl, refl, refl) },
               (
-                record { event = omega arith; line = omega arith; lawful = record { allowed = record { is_held = (record { peer = 1; hold = held; strength = strong }, refl, refl); row = record { strength = strong; cleared = false }; tabled = refl }; replies = refl }; order = (refl, refl, refl) },
+                record { event = omega arith; line = omega arith; short = omega arith; lawful = record { allowed = record { is_held = (record { peer = 1; hold = held; strength = strong }, refl, refl); row = record { strength = strong; cleared = false }; tabled = refl }; replies = refl }; order = (refl, refl, refl) },
                 (
-                  record { event = tt; line = omega arith; lawful = record { allowed = record { cycle = record { number = 1; candidates = []; dead = [] }; open_cycle = (refl, refl); once = refl; exact = dead_contraction _ 2 [] [] [] (record { inside = refl; complete = refl; order = refl; same = refl; firsts = refl; split = refl; refs = refl }) }; replies = refl }; order = (refl, refl) },
+                  record { event = tt; line = omega arith; short = omega arith; lawful = record { allowed = record { cycle = record { number = 1; candidates = []; dead = [] }; open_cycle = (refl, refl); once = refl; exact = dead_contraction _ 2 [] [] [] (record { inside = refl; complete = refl; order = refl; same = refl; firsts = refl; split = refl; refs = refl }) }; replies = refl }; order = (refl, refl) },
                   (
-                    record { event = tt; line = omega arith; lawful = record { allowed = record { none_stands = refl; once = absent [] 1 refl; snap = 4; cited = refl }; replies = refl }; order = (refl, refl, refl) },
+                    record { event = tt; line = omega arith; short = omega arith; lawful = record { allowed = record { none_stands = refl; once = absent [] 1 refl; snap = 4; cited = refl }; replies = refl }; order = (refl, refl, refl) },
                     (
-                      record { event = inl (omega arith); line = omega arith; lawful = record { allowed = tt; replies = refl }; order = refl },
+                      record { event = inl (omega arith); line = omega arith; short = omega arith; lawful = record { allowed = tt; replies = refl }; order = refl },
                       (
-                        record { event = inl (omega arith); line = omega arith; lawful = record { allowed = tt; replies = refl }; order = refl },
+                        record { event = inl (omega arith); line = omega arith; short = omega arith; lawful = record { allowed = tt; replies = refl }; order = refl },
                         (
-                          record { event = omega arith; line = omega arith; lawful = record { allowed = λ e. different 2 1 refl e; replies = refl }; order = refl },
+                          record { event = omega arith; line = omega arith; short = omega arith; lawful = record { allowed = λ e. different 2 1 refl e; replies = refl }; order = refl },
                           (
-                            record { event = inl (omega arith); line = omega arith; lawful = record { allowed = λ e. different 2 1 refl e; replies = refl }; order = refl },
+                            record { event = inl (omega arith); line = omega arith; short = omega arith; lawful = record { allowed = λ e. different 2 1 refl e; replies = refl }; order = refl },
                             (
-                              record { event = omega arith; line = omega arith; lawful = record { allowed = (refl, closure _ 2 (1 ∷ []) refl refl refl); replies = refl }; order = refl },
+                              record { event = omega arith; line = omega arith; short = omega arith; lawful = record { allowed = (refl, closure _ 2 (1 ∷ []) refl refl refl); replies = refl }; order = refl },
                               (
-                                record { event = inr tt; line = omega arith; lawful = record { allowed = (inl refl, sweep _ _ 2 [] refl refl refl); replies = refl }; order = (refl, refl, refl) },
+                                record { event = inr tt; line = omega arith; short = omega arith; lawful = record { allowed = (inl refl, sweep _ _ 2 [] refl refl refl); replies = refl }; order = (refl, refl, refl) },
                                 (
-                                  record { event = inr tt; line = omega arith; lawful = record { allowed = tt; replies = refl }; order = (refl, refl) },
+                                  record { event = inr tt; line = omega arith; short = omega arith; lawful = record { allowed = tt; replies = refl }; order = (refl, refl) },
                                   (
-                                    record { event = omega arith; line = omega arith; lawful = record { allowed = λ e. cc; replies = refl }; order = refl },
+                                    record { event = omega arith; line = omega arith; short = omega arith; lawful = record { allowed = λ e. cc; replies = refl }; order = refl },
                                     (
-                                      record { event = inl (omega arith); line = omega arith; lawful = record { allowed = λ e. cc; replies = refl }; order = refl },
+                                      record { event = inl (omega arith); line = omega arith; short = omega arith; lawful = record { allowed = λ e. cc; replies = refl }; order = refl },
                                       (
-                                        record { event = inr tt; line = omega arith; lawful = record { allowed = (inl refl, sweep _ _ 2 [] refl refl refl); replies = refl }; order = refl },
+                                        record { event = inr tt; line = omega arith; short = omega arith; lawful = record { allowed = (inl refl, sweep _ _ 2 [] refl refl refl); replies = refl }; order = refl },
                                         (
-                                          record { event = tt; line = omega arith; lawful = record { allowed = record { mirror = record { cycle = 1; snap = 4; weakened = []; restored = [] }; stands = refl; same = refl; all = All-contains_itself [] }; replies = refl }; order = (refl, refl, refl) },
+                                          record { event = tt; line = omega arith; short = omega arith; lawful = record { allowed = record { mirror = record { cycle = 1; snap = 4; weakened = []; restored = [] }; stands = refl; same = refl; all = All-contains_itself [] }; replies = refl }; order = (refl, refl, refl) },
                                           (
-                                            record { event = inl (omega arith); line = omega arith; lawful = record { allowed = tt; replies = refl }; order = refl },
+                                            record { event = inl (omega arith); line = omega arith; short = omega arith; lawful = record { allowed = tt; replies = refl }; order = refl },
                                             (
-                                              record { event = omega arith; line = omega arith; lawful = record { allowed = tt; replies = refl }; order = refl },
+                                              record { event = omega arith; line = omega arith; short = omega arith; lawful = record { allowed = tt; replies = refl }; order = refl },
                                               (
-                                                record { event = tt; line = omega arith; lawful = record { allowed = record { cycle = record { number = 1; candidates = []; dead = [] }; open_cycle = (refl, refl); answers = refl; resolution = resolution _ 2 [] _ [] [] (Decides-answered [] []) refl refl refl }; replies = refl }; order = (refl, refl, refl) },
+                                                record { event = tt; line = omega arith; short = omega arith; lawful = record { allowed = record { cycle = record { number = 1; candidates = []; dead = [] }; open_cycle = (refl, refl); answers = refl; resolution = resolution _ 2 [] _ [] [] (Decides-answered [] []) refl refl refl }; replies = refl }; order = (refl, refl, refl) },
                                                 tt,
                                               ),
                                             ),

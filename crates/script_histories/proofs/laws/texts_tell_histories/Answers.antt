@@ -1,6 +1,5 @@
 use Rattle.script_histories.proofs.OneText.{one-text}
-use Rattle.script_histories.proofs.Short.{held-short}
 use Rattle.script_histories.proofs.laws.texts_tell_histories.Goals as goal
 
 pub returns : goal.returns
-returns c = record { one_text = one-text; short = held-short }
+returns c = one-text
