@@ -17,7 +17,7 @@ use Rattle.joint_model.specs.Joined.{is_owned, is_untabled, removed_from}
 use Rattle.joint_model.specs.Joint.{Graph}
 use Rattle.joint_model.specs.Managed.{Managed}
 use Rattle.joint_model.specs.PeerReplay.{PeerReplay, TableRow, fresh_row}
-use Rattle.joint_model.specs.Peers.{Peers, Issued, held, strong, pair_made, with_peer, with_handle, next_handle, issued_since, peer_of}
+use Rattle.joint_model.specs.Peers.{Peers, Issued, held, strong, pair_made, with_peer, with_handle, next_handle, issued_since, peer_of, handles_full}
 use Rattle.joint_model.specs.Told.{nothing}
 use Rattle.joint_model.proofs.Numbered.{numbered-within, numbered-push_cases}
 use Rattle.joint_model.proofs.Deciding.{some-same, test-cases}
@@ -102,7 +102,7 @@ one-issued : (issued : List Issued) (h : ℕ) (i j : Issued) → numbered_at iss
 one-issued issued h i j e f = some-same i j (sym e ∙ f)
 
 made-well : (s : Managed) (adopted : List ℕ) (p : PeerReplay) (sort : Sort) (n : ℕ) → AreHandlesKept s adopted p → IsMadeWell s adopted p (pair_made p.peers sort n)
-made-well s adopted p sort n k = test-cases (IsMadeWell s adopted p) (is_full p.peers.heap.fields || is_full p.peers.issued) _ _
+made-well s adopted p sort n k = test-cases (IsMadeWell s adopted p) (is_full p.peers.heap.fields || handles_full p.peers) _ _
     (record {
       handles = subst (λ t. AreHandlesKept s adopted (record p { table = t })) (sym none) k;
       issued = λ h i. i;

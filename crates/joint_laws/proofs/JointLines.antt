@@ -18,7 +18,7 @@ use Rattle.joint_model.specs.Heaps.{Answered, slot, is_full, numbered_set}
 use Rattle.joint_model.specs.Joint.{Joint, JointMarking, joint_target}
 use Rattle.joint_model.specs.Managed.{Holds}
 use Rattle.joint_model.specs.ManagedReplay.{ManagedReplay}
-use Rattle.joint_model.specs.Peers.{Peers, Issued, peer_line, pair_made, gripped, landed, issued_since}
+use Rattle.joint_model.specs.Peers.{Peers, Issued, peer_line, pair_made, gripped, landed, issued_since, handles_full}
 use Rattle.joint_model.specs.PeerReplay.{PeerReplay, table_target, on_table, brings, untabled, peer_thread_line}
 use Rattle.joint_model.specs.Run.{on_peers, without}
 use Rattle.joint_model.specs.Told.{Told}
@@ -105,7 +105,7 @@ module _ (r : ManagedReplay) (s : PeerReplay) (ds : List Doing) (d : Stand) (k :
     flags_after = more (pair_made s.peers sort n).state;
     marking_after = jm;
     event = record { computed = tt; replies = q; state = refl };
-    agrees = agrees-peers r s ds d k flags jm ag (pair_made s.peers sort n).state (quiet-pair (λ h. ⊥) s sort n (is_full s.peers.heap.fields || is_full s.peers.issued) k.peer.handles.places).handles.count;
+    agrees = agrees-peers r s ds d k flags jm ag (pair_made s.peers sort n).state (quiet-pair (λ h. ⊥) s sort n (is_full s.peers.heap.fields || handles_full s.peers) k.peer.handles.places).handles.count;
   }
 
   pub step-grip : (u : ℕ) (x : StaticNo) (reply : Reply) (told : Told) → reply ≡ (gripped s.peers x.0).reply → Steps r.managed s flags jm (M u) (op.Grip x) reply told r.managed (on_table s (gripped s.peers x.0)).state

@@ -11,7 +11,7 @@ use Rattle.joint_model.specs.Control.{Doing, free, made, lent, gripped, Stand, d
 use Rattle.joint_model.specs.Heaps.{answer, slot, is_full, next_number}
 use Rattle.joint_model.specs.Managed.{Holds, handle_of, handle_reply}
 use Rattle.joint_model.specs.ManagedReplay.{ManagedReplay}
-use Rattle.joint_model.specs.Peers.{Peers, held, strong, with_handle, with_peer, pair_made, peer_gripped, landed, next_handle, issued_since}
+use Rattle.joint_model.specs.Peers.{Peers, held, strong, with_handle, with_peer, pair_made, peer_gripped, landed, next_handle, issued_since, handles_full}
 use Rattle.joint_model.specs.PeerReplay.{PeerReplay, fresh_row, on_table, brings, untabled, table_target}
 use Rattle.joint_laws.specs.PeerInvariants.{IsTabled, IsPeerKept}
 use Rattle.joint_laws.specs.LinkedInvariants.{doing_in, HasInHand, HasMadePair, HasLent, IsLoose, IsVirgin}
@@ -58,7 +58,7 @@ module _ (r : ManagedReplay) (s : PeerReplay) (ds : List Doing) (d : Stand) (u n
       }))
 
   pub kept-make : (sort : Sort) (n : ℕ) (reply : Reply) → reply ≡ (pair_made s.peers sort n).reply → AreKept r (on_table s (pair_made s.peers sort n)).state (set ds u (doing_after number line (op.Make sort n) reply)) d
-  kept-make sort n reply e = make-by sort n (is_full s.peers.heap.fields || is_full s.peers.issued) reply e
+  kept-make sort n reply e = make-by sort n (is_full s.peers.heap.fields || handles_full s.peers) reply e
 
   -- a grip, by what the static has and whether there is room
   grip-by : (x : StaticNo) (p : ℕ) (sort : Sort) (f : ℕ) (b : Bool) (reply : Reply) → slot s.peers.heap.statics x.0 ≡ Some p
@@ -88,7 +88,7 @@ module _ (r : ManagedReplay) (s : PeerReplay) (ds : List Doing) (d : Stand) (u n
       let t : PeerReplay = on_peers s s.peers in
       let now = kept-quiet (λ h. ⊥) r s t ds d k (quiet-grip (λ h. ⊥) s x.0 None k.peer.handles.places q) (grip-event s x.0 None k.peer q) (no_via ds) in
       subst (λ z. AreKept r t (set ds u (doing_after number line (op.Grip x) z)) d) (sym e) (kept-free r t ds d u now)
-  grip-at x (Some p) reply q e = grip-by x p _ _ (is_full s.peers.issued) reply q (grip-event s x.0 (Some p) k.peer q) e
+  grip-at x (Some p) reply q e = grip-by x p _ _ (handles_full s.peers) reply q (grip-event s x.0 (Some p) k.peer q) e
 
   pub kept-grip : (x : StaticNo) (reply : Reply) → reply ≡ (peer_gripped s.peers (slot s.peers.heap.statics x.0)).reply → AreKept r (on_table s (peer_gripped s.peers (slot s.peers.heap.statics x.0))).state (set ds u (doing_after number line (op.Grip x) reply)) d
   kept-grip x reply e = grip-at x (slot s.peers.heap.statics x.0) reply refl e

@@ -11,7 +11,7 @@ use Rattle.joint_model.specs.Joint.{Joint, Row, object, peer, graph_of, JointEdg
 use Rattle.joint_model.specs.Linked.{Linkage}
 use Rattle.joint_model.specs.Managed.{OpenCycle, Holds, ManagedEdge}
 use Rattle.joint_model.specs.Peers.{Issued, Hold, held, raw, Strength, strong, weak, is_strong}
-use Rattle.joint_model.specs.PeerReplay.{TableRow, Marking, IsMarkingRoot, MarkingEdge, IsMarked, strong_peers}
+use Rattle.joint_model.specs.PeerReplay.{TableRow, Marking, IsMarkingRoot, MarkingEdge, IsMarked, strong_peers, Refers}
 use Rattle.joint_model.specs.Run.{Moment}
 use Rattle.joint_model.specs.Walks.{Reaches}
 use Rattle.joint_model.proofs.WalkLemmas.{Reached-start, Reached-keeps, Reaches-keeps}
@@ -61,7 +61,7 @@ module _ (s : Linkage) (w : Stands s) (past : List Moment) (a : ℕ) (c : OpenCy
   managed-seen x y walk u = Reaches-keeps (ManagedEdge s.managed.managed) (λ z. Seen (object z)) (λ v z e q. watched.closed (object v) (object z) q e) x y walk u
 
   -- along a mirrored reference
-  pub reference-seen : IsMirrored s.managed s.peer c → (p q : ℕ) → Contains s.peer.refs (p, q) → IsLive s.peer.peers.heap p → IsLive s.peer.peers.heap q → Seen (peer p) → Seen (peer q)
+  pub reference-seen : IsMirrored s.managed s.peer c → (p q : ℕ) → Refers s.peer.refs p q → IsLive s.peer.peers.heap p → IsLive s.peer.peers.heap q → Seen (peer p) → Seen (peer q)
   reference-seen m p q r lp lq u =
       let e = (m.exact p q).0 r in
       let from = watched.closed (peer p) (object e.0) u (row-joined e.0 p e.3 lp) in

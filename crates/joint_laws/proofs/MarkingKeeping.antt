@@ -8,7 +8,7 @@ use Rattle.std.proofs.lemmas.Option.{same_Some}
 use Rattle.joint_model.specs.declared.names.Thread.{Thread}
 use Rattle.joint_model.specs.Heaps.{Heap, IsMade, with_var, with_static, with_object}
 use Rattle.joint_model.specs.Peers.{Issued, Strength, strong, weak, is_strong}
-use Rattle.joint_model.specs.PeerReplay.{TableRow, Mirror, Marking, strong_peers}
+use Rattle.joint_model.specs.PeerReplay.{TableRow, Mirror, Marking, strong_peers, Refers}
 use Rattle.joint_laws.specs.PeerInvariants.{IsTabled, IsIssued, IsHeapKept, AreReferencesKept, IsSpared, IsMarkingKept}
 use Rattle.joint_model.proofs.Members.{Contains-here, Contains-there}
 use Rattle.joint_model.proofs.Numbered.{Contains-set_cases}
@@ -41,7 +41,7 @@ module _ (h : Heap) (issued : List Issued) (table : List (Option TableRow)) (ref
   }
 
   -- a further object, which has no field yet; nothing was told of it by references, whose ends were made
-  pub IsMarkingKept-object : (n : ℕ) → ((p q : ℕ) → Contains refs (p, q) → IsMade h p) → IsMarkingKept (with_object h n) issued table refs mk
+  pub IsMarkingKept-object : (n : ℕ) → ((p q : ℕ) → Refers refs p q → IsMade h p) → IsMarkingKept (with_object h n) issued table refs mk
   IsMarkingKept-object n made = record {
     made = omega (arith, k.made, with_object-length h n);
     existed = λ p l. IsLive-later h n p (k.existed p l);

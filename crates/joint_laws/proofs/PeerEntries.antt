@@ -14,8 +14,8 @@ use Rattle.joint_model.specs.declared.events.Op.{Op}
 use Rattle.joint_model.specs.declared.events.Op.TheVariants as op
 use Rattle.joint_model.specs.declared.events.Reply.TheVariants as says
 use Rattle.joint_model.specs.Heaps.{IsLive, answer, slot, is_full, fields_of, numbered_at, numbered_set, with_freed}
-use Rattle.joint_model.specs.Peers.{Issued, held, strong, weak, peer_of}
-use Rattle.joint_model.specs.PeerReplay.{PeerReplay, TableRow, Marking, row_of, table_target, is_thread, sliced, begun, swept_of, swept, restored_by, mirrored, peer_answer, IsSweep, SweepAllows, PeerAllows, brought_handle, with_restored, with_weakened}
+use Rattle.joint_model.specs.Peers.{Issued, held, strong, weak, peer_of, handles_full}
+use Rattle.joint_model.specs.PeerReplay.{PeerReplay, TableRow, Marking, row_of, table_target, is_thread, sliced, begun, swept_of, swept, restored_by, mirrored, peer_answer, IsSweep, SweepAllows, PeerAllows, brought_handle, with_restored, with_weakened, Refers}
 use Rattle.joint_model.specs.Run.{thread_number}
 use Rattle.joint_model.specs.Told.{Told, nothing, references_of, slice_of, sweep_of}
 use Rattle.joint_laws.specs.PeerInvariants.{IsTabled, IsIssued, IsMarkingKept, IsPeerKept}
@@ -32,7 +32,7 @@ use Rattle.joint_laws.proofs.PeerEvents.{pair-event, grip-event, land-event, lin
 
 -- the references that a mirror brings join unfreed and safe peers; the driver's order gives this
 abbrev pub MirrorsSafely : PeerReplay → Op → Told → Type 0
-MirrorsSafely s (op.Mirror k) (references_of refs) = (p q : ℕ) → Contains refs (p, q) → IsLive s.peers.heap p × IsLive s.peers.heap q × IsSafe s q
+MirrorsSafely s (op.Mirror k) (references_of refs) = (p q : ℕ) → Refers refs p q → IsLive s.peers.heap p × IsLive s.peers.heap q × IsSafe s q
 MirrorsSafely s _ _ = Unit {0}
 
 -- a slice blackens
@@ -76,7 +76,7 @@ module _ (s : PeerReplay) (mk : Marking) (freed : List ℕ) (k : IsPeerKept s) (
   field_stays : (p q : ℕ) → IsLive s.peers.heap p → (Contains freed p → ⊥) → Contains (fields_of s.peers.heap p) (Some q) → Contains freed q → ⊥
   field_stays p q l n c = spared-stays s mk freed q w (spared-next mk p q (mark.fields p q l c) (stays-spared s mk freed p w l n))
 
-  reference_stays : (p q : ℕ) → IsLive s.peers.heap p → (Contains freed p → ⊥) → Contains s.refs (p, q) → Contains freed q → ⊥
+  reference_stays : (p q : ℕ) → IsLive s.peers.heap p → (Contains freed p → ⊥) → Refers s.refs p q → Contains freed q → ⊥
   reference_stays p q l n c = spared-stays s mk freed q w (spared-next mk p q (mark.references p q l c) (stays-spared s mk freed p w l n))
 
   was : (p : ℕ) → IsLive (with_freed s.peers.heap freed) p → IsLive s.peers.heap p
@@ -171,7 +171,7 @@ weakened-kept s h k w e =
     (AreReferencesKept-weakened s.peers.heap s.peers.issued s.refs s.mirror h k.references w)
 
 -- references come to stand, and go
-mirrored-kept : (s : PeerReplay) (k : ℕ) (cites : Option ℕ) (refs : List (ℕ × ℕ)) → IsPeerKept s → ((p q : ℕ) → Contains refs (p, q) → IsLive s.peers.heap p × IsLive s.peers.heap q × IsSafe s q) → IsPeerKept (mirrored s k cites refs)
+mirrored-kept : (s : PeerReplay) (k : ℕ) (cites : Option ℕ) (refs : List (ℕ × ℕ)) → IsPeerKept s → ((p q : ℕ) → Refers refs p q → IsLive s.peers.heap p × IsLive s.peers.heap q × IsSafe s q) → IsPeerKept (mirrored s k cites refs)
 mirrored-kept s k None refs kept w = kept
 mirrored-kept s k (Some snap) refs kept w = record {
   heap = kept.heap;
@@ -192,7 +192,7 @@ pub IsPeerKept-step : (s : PeerReplay) (t : Thread) (o : Op) (cites : Option ℕ
 IsPeerKept-step s t (op.Line (act.Slice n)) cites (slice_of closure) k w m = sliced-kept s s.marking t n closure k refl
 IsPeerKept-step s t (op.Line (act.Slice n)) cites _ k w m = sliced-kept s s.marking t n [] k refl
 IsPeerKept-step s t (op.Line a) cites told k w m = line-event s (thread_number t) a k
-IsPeerKept-step s t (op.Make sort n) cites told k w m = pair-event s sort n (is_full s.peers.heap.fields || is_full s.peers.issued) k
+IsPeerKept-step s t (op.Make sort n) cites told k w m = pair-event s sort n (is_full s.peers.heap.fields || handles_full s.peers) k
 IsPeerKept-step s t (op.Land h x) cites told k w m = land-event s x.0 h.0 (table_target s h.0) k refl
 IsPeerKept-step s t (op.Grip x) cites told k w m = grip-event s x.0 (slot s.peers.heap.statics x.0) k refl
 IsPeerKept-step s t (op.Release h) cites told k w m = kept-gone s h.0 k

@@ -11,7 +11,7 @@ use Rattle.joint_model.specs.declared.events.Reply.{Reply}
 use Rattle.joint_model.specs.declared.events.Reply.TheVariants as says
 use Rattle.joint_model.specs.Heaps.{Heap, IsLive, InSlot, Answered, answer, slot, place, is_full, next_number, numbered_at, numbered_set, with_var, with_static}
 use Rattle.joint_model.specs.Managed.{place_or_none}
-use Rattle.joint_model.specs.Peers.{Peers, Issued, held, raw, Strength, strong, weak, peer_name, handle_name, next_handle, with_handle, with_peer, peer_gripped, landed, name_given, peer_read, peer_of, issued_since}
+use Rattle.joint_model.specs.Peers.{Peers, Issued, held, raw, Strength, strong, weak, peer_name, handle_name, next_handle, with_handle, with_peer, peer_gripped, landed, name_given, peer_read, peer_of, issued_since, handles_full}
 use Rattle.joint_model.specs.PeerReplay.{PeerReplay, TableRow, fresh_row, row_of, table_target, on_table, brings, untabled, peer_thread_line, brought_to}
 use Rattle.joint_laws.specs.PeerInvariants.{IsIssued, IsPeerKept}
 use Rattle.joint_model.proofs.Numbered.{slot-Contains, slot-named, numbered-push_new}
@@ -53,7 +53,7 @@ grip-by s p false r k i =
 
 pub grip-event : (s : PeerReplay) (x : ℕ) (o : Option ℕ) → IsPeerKept s → slot s.peers.heap.statics x ≡ o → IsPeerKept (on_table s (peer_gripped s.peers o)).state
 grip-event s x None k e = stay-event s says.Null k
-grip-event s x (Some p) k e = grip-by s p (is_full s.peers.issued) _ k (inr (slot-Contains s.peers.heap.statics x p e))
+grip-event s x (Some p) k e = grip-by s p (handles_full s.peers) _ k (inr (slot-Contains s.peers.heap.statics x p e))
 
 -- a name gets a raw handle
 name-by : (s : PeerReplay) (g p : ℕ) (strength : Strength) (b : Bool) → IsPeerKept s → InSlot s.peers.heap p
@@ -68,7 +68,7 @@ name-by s g p strength false k i =
 
 given-by : (s : PeerReplay) (g p : ℕ) (strength : Strength) (o : Option ℕ) → IsPeerKept s → InSlot s.peers.heap p → IsPeerKept (on_table s (name_given s.peers g p strength o)).state
 given-by s g p strength (Some h) k i = stay-event s says.Taken k
-given-by s g p strength None k i = name-by s g p strength (is_full s.peers.issued) k i
+given-by s g p strength None k i = name-by s g p strength (handles_full s.peers) k i
 
 abbrev pub globalised_by : Peers → ℕ → Strength → Option ℕ → Answered Peers
 globalised_by s g strength o = elim o [ None ↦ answer says.Empty s | Some p ↦ name_given s g p strength (slot s.names g) ]

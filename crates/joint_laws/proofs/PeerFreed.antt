@@ -10,7 +10,7 @@ use Rattle.joint_model.specs.declared.events.Made.{Made}
 use Rattle.joint_model.specs.Heaps.{answer, slot, is_full, numbered_set}
 use Rattle.joint_model.specs.Lines.{is_peer_event}
 use Rattle.joint_model.specs.Linked.{Linkage, linkage_after, peer_after}
-use Rattle.joint_model.specs.Peers.{strong, peer_of}
+use Rattle.joint_model.specs.Peers.{strong, peer_of, handles_full}
 use Rattle.joint_model.specs.PeerReplay.{PeerReplay, TableRow, row_of, restored_by, mirrored, brought_handle, peer_answer, table_target, with_restored}
 use Rattle.joint_model.specs.Run.{thread_number}
 use Rattle.joint_model.specs.Told.{Told, Noted, references_of, slice_of}
@@ -38,7 +38,7 @@ peer-freed : (s : PeerReplay) (k : IsPeerKept s) (t : Thread) (o : Op) (cites : 
 peer-freed s k t (op.Line (act.Slice n)) cites (slice_of closure) no_sweep = (quiet-sliced (λ h. ⊥) s s.marking t n closure refl).freed
 peer-freed s k t (op.Line (act.Slice n)) cites _ no_sweep = (quiet-sliced (λ h. ⊥) s s.marking t n [] refl).freed
 peer-freed s k t (op.Line a) cites told no_sweep = (quiet-line s (thread_number t) a k).freed
-peer-freed s k t (op.Make sort n) cites told no_sweep = (quiet-pair (λ h. ⊥) s sort n (is_full s.peers.heap.fields || is_full s.peers.issued) k.handles.places).freed
+peer-freed s k t (op.Make sort n) cites told no_sweep = (quiet-pair (λ h. ⊥) s sort n (is_full s.peers.heap.fields || handles_full s.peers) k.handles.places).freed
 peer-freed s k t (op.Land h x) cites told no_sweep = (quiet-land (λ g. g ≡ h.0) s x.0 h.0 (table_target s h.0) refl refl).freed
 peer-freed s k t (op.Grip x) cites told no_sweep = (quiet-grip (λ h. ⊥) s x.0 (slot s.peers.heap.statics x.0) k.handles.places refl).freed
 peer-freed s k t (op.Mirror n) cites (references_of refs) no_sweep = mirrored-freed s n.0 cites refs

@@ -19,7 +19,7 @@ use Rattle.joint_model.specs.Heaps.{Heap, IsMade, IsLive, InSlot, Answered, answ
 use Rattle.joint_model.specs.Lines.{is_peer_event}
 use Rattle.joint_model.specs.Linked.{Linkage, linkage_after, peer_after}
 use Rattle.joint_model.specs.Managed.{place_or_none}
-use Rattle.joint_model.specs.Peers.{Peers, Strength, strong, weak, held, raw, peer_name, with_peer, with_handle, peer_gripped, landed, name_given, peer_read, peer_line, peer_of, handle_name, next_handle, sort_of}
+use Rattle.joint_model.specs.Peers.{Peers, Strength, strong, weak, held, raw, peer_name, with_peer, with_handle, peer_gripped, landed, name_given, peer_read, peer_line, peer_of, handle_name, next_handle, sort_of, handles_full}
 use Rattle.joint_model.specs.PeerReplay.{PeerReplay, TableRow, Marking, row_of, on_table, bring_by, peer_thread_line, is_thread, sliced, begun, swept_of, swept, restored_by, mirrored, brought_handle, peer_answer, table_target, with_restored}
 use Rattle.joint_model.specs.Run.{thread_number}
 use Rattle.joint_model.specs.Told.{Told, Noted, references_of, slice_of, sweep_of}
@@ -85,7 +85,7 @@ module _ (s : PeerReplay) where
 
   name-goes : (g p : ℕ) (strength : Strength) (o : Option ℕ) → HeapGoes s.peers.heap (name_given s.peers g p strength o).state.heap
   name-goes g p strength (Some h) = goes-stay s.peers.heap
-  name-goes g p strength None = by (is_full s.peers.issued)
+  name-goes g p strength None = by (handles_full s.peers)
     where
       by : (b : Bool) → HeapGoes s.peers.heap (if b then answer says.Full s.peers else answer (handle_name (next_handle s.peers)) (record (with_handle s.peers p raw strength) { names = set s.peers.names g (Some (next_handle s.peers)) })).state.heap
       by true = goes-stay s.peers.heap
@@ -134,7 +134,7 @@ module _ (s : PeerReplay) where
 
   grip-goes : (o : Option ℕ) → HeapGoes s.peers.heap (peer_gripped s.peers o).state.heap
   grip-goes None = goes-stay s.peers.heap
-  grip-goes (Some p) = by (is_full s.peers.issued)
+  grip-goes (Some p) = by (handles_full s.peers)
     where
       by : (b : Bool) → HeapGoes s.peers.heap (if b then answer says.Full s.peers else answer (says.Gripped record { 0 = p } record { 0 = next_handle s.peers } (sort_of s.peers p) (length (fields_of s.peers.heap p))) (with_handle s.peers p held strong)).state.heap
       by true = goes-stay s.peers.heap
@@ -181,7 +181,7 @@ module _ (s : PeerReplay) where
   peer-goes t (op.Line (act.Slice n)) cites (slice_of closure) = sliced-goes s.marking t n closure
   peer-goes t (op.Line (act.Slice n)) cites _ = sliced-goes s.marking t n []
   peer-goes t (op.Line a) cites told = line-goes (thread_number t) a
-  peer-goes t (op.Make sort n) cites told = pair-goes (is_full s.peers.heap.fields || is_full s.peers.issued) n sort _
+  peer-goes t (op.Make sort n) cites told = pair-goes (is_full s.peers.heap.fields || handles_full s.peers) n sort _
   peer-goes t (op.Land h x) cites told = brought-goes (on_table s (landed s.peers x.0 (table_target s h.0))) (landed s.peers x.0 (table_target s h.0)).reply (land-goes x.0 (table_target s h.0))
   peer-goes t (op.Grip x) cites told = grip-goes (slot s.peers.heap.statics x.0)
   peer-goes t (op.Mirror n) cites (references_of refs) = mirrored-goes n.0 cites refs

@@ -11,7 +11,7 @@ use Rattle.joint_model.specs.declared.events.Reply.{Reply}
 use Rattle.joint_model.specs.declared.events.Reply.TheVariants as says
 use Rattle.joint_model.specs.Heaps.{Heap, IsMade, InSlot, answer, slot, place, is_full, next_number, numbered_set, with_var, with_static, with_object}
 use Rattle.joint_model.specs.Managed.{place_or_none}
-use Rattle.joint_model.specs.Peers.{Issued, held, raw, Strength, strong, weak, peer_name, handle_name, next_handle, with_handle, with_peer, peer_gripped, landed, name_given, peer_read, issued_since}
+use Rattle.joint_model.specs.Peers.{Issued, held, raw, Strength, strong, weak, peer_name, handle_name, next_handle, with_handle, with_peer, peer_gripped, landed, name_given, peer_read, issued_since, handles_full}
 use Rattle.joint_model.specs.PeerReplay.{PeerReplay, Marking, fresh_row, table_target, on_table, brings, untabled, peer_thread_line, is_thread, sliced, begun, brought_to}
 use Rattle.joint_laws.specs.PeerInvariants.{IsIssued, IsPeerKept}
 use Rattle.joint_model.proofs.Numbered.{slot-Contains, Contains-set_cases}
@@ -77,7 +77,7 @@ module _ (via : ℕ → Type 0) (s : PeerReplay) where
 
   pub quiet-grip : (x : ℕ) (o : Option ℕ) → length s.table ≡ length s.peers.issued → slot s.peers.heap.statics x ≡ o → IsQuiet via s (on_table s (peer_gripped s.peers o)).state
   quiet-grip x None e q = quiet-stay says.Null
-  quiet-grip x (Some p) e q = quiet-gripped p (is_full s.peers.issued) _ e (inr (slot-Contains s.peers.heap.statics x p q))
+  quiet-grip x (Some p) e q = quiet-gripped p (handles_full s.peers) _ e (inr (slot-Contains s.peers.heap.statics x p q))
 
   -- a name gets a raw handle
   name-by : (g p : ℕ) (strength : Strength) (b : Bool) → length s.table ≡ length s.peers.issued → InSlot s.peers.heap p
@@ -87,7 +87,7 @@ module _ (via : ℕ → Type 0) (s : PeerReplay) where
 
   given-by : (g p : ℕ) (strength : Strength) (o : Option ℕ) → length s.table ≡ length s.peers.issued → InSlot s.peers.heap p → IsQuiet via s (on_table s (name_given s.peers g p strength o)).state
   given-by g p strength (Some h) e i = quiet-stay says.Taken
-  given-by g p strength None e i = name-by g p strength (is_full s.peers.issued) e i
+  given-by g p strength None e i = name-by g p strength (handles_full s.peers) e i
 
   quiet-global : (g v : ℕ) (strength : Strength) (o : Option ℕ) → length s.table ≡ length s.peers.issued → slot s.peers.heap.vars v ≡ o → IsQuiet via s (on_table s (globalised_by s.peers g strength o)).state
   quiet-global g v strength None e q = quiet-stay says.Empty

@@ -13,7 +13,7 @@ use Rattle.joint_model.specs.declared.events.Op.TheVariants as op
 use Rattle.joint_model.specs.declared.events.Reply.{Reply}
 use Rattle.joint_model.specs.declared.events.Reply.TheVariants as says
 use Rattle.joint_model.specs.Heaps.{Answered, answer, slot, is_full, numbered_set}
-use Rattle.joint_model.specs.Peers.{Issued, strong, peer_of}
+use Rattle.joint_model.specs.Peers.{Issued, strong, peer_of, handles_full}
 use Rattle.joint_model.specs.PeerReplay.{PeerReplay, TableRow, Marking, row_of, bring_by, untabled, peer_thread_line, is_thread, sliced, begun, swept_of, swept, restored_by, mirrored, brought_to, brought_handle, peer_answer, table_target, with_restored}
 use Rattle.joint_model.specs.Run.{thread_number}
 use Rattle.joint_model.specs.Told.{Told, references_of, slice_of, sweep_of}
@@ -114,7 +114,7 @@ module _ (s : PeerReplay) (k : IsPeerKept s) where
   peer-goes_on t (op.Line (act.Slice n)) cites (slice_of closure) = sliced-on s.marking t n closure refl
   peer-goes_on t (op.Line (act.Slice n)) cites _ = sliced-on s.marking t n [] refl
   peer-goes_on t (op.Line a) cites told = line-on (thread_number t) a
-  peer-goes_on t (op.Make sort n) cites told = record { issued_on = (quiet-pair (λ h. ⊥) s sort n (is_full s.peers.heap.fields || is_full s.peers.issued) k.handles.places).handles.issued_on; spares = spares-same s.marking }
+  peer-goes_on t (op.Make sort n) cites told = record { issued_on = (quiet-pair (λ h. ⊥) s sort n (is_full s.peers.heap.fields || handles_full s.peers) k.handles.places).handles.issued_on; spares = spares-same s.marking }
   peer-goes_on t (op.Land h x) cites told = record { issued_on = (quiet-land (λ g. g ≡ h.0) s x.0 h.0 (table_target s h.0) refl refl).handles.issued_on; spares = bring-spares _ _ }
   peer-goes_on t (op.Grip x) cites told = record { issued_on = (quiet-grip (λ h. ⊥) s x.0 (slot s.peers.heap.statics x.0) k.handles.places refl).handles.issued_on; spares = spares-same s.marking }
   peer-goes_on t (op.Release h) cites told = record { issued_on = λ g i f. f; spares = spares-same s.marking }

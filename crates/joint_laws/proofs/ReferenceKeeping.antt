@@ -6,7 +6,7 @@ use Rattle.std.proofs.lemmas.Option.{same_Some}
 use Rattle.std.proofs.lemmas.List.Elements.{Contains-push_cases}
 use Rattle.joint_model.specs.Heaps.{Heap, IsMade, IsLive}
 use Rattle.joint_model.specs.Peers.{Issued, held}
-use Rattle.joint_model.specs.PeerReplay.{Mirror, with_weakened, with_restored}
+use Rattle.joint_model.specs.PeerReplay.{Mirror, with_weakened, with_restored, Refers}
 use Rattle.joint_laws.specs.PeerInvariants.{IsIssued, AreReferencesKept}
 use Rattle.joint_model.proofs.Members.{Contains-nil}
 use Rattle.joint_model.proofs.Numbered.{numbered-within, numbered-push_old}
@@ -63,7 +63,7 @@ AreReferencesKept-restored h issued refs (Some m) n r = record {
 }
 
 -- references come to stand
-pub AreReferencesKept-mirrored : (h : Heap) (issued : List Issued) (refs : List (ℕ × ℕ)) (cycle snap : ℕ) → ((p q : ℕ) → Contains refs (p, q) → IsLive h p × IsLive h q)
+pub AreReferencesKept-mirrored : (h : Heap) (issued : List Issued) (refs : List (ℕ × ℕ)) (cycle snap : ℕ) → ((p q : ℕ) → Refers refs p q → IsLive h p × IsLive h q)
     → AreReferencesKept h issued refs (Some record { cycle = cycle; snap = snap; weakened = []; restored = [] })
 AreReferencesKept-mirrored h issued refs cycle snap l = record {
   made = λ p q c. (l p q c).0.made;

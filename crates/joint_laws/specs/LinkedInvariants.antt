@@ -9,7 +9,7 @@ use Rattle.joint_model.specs.Linked.{Linkage}
 use Rattle.joint_model.specs.ManagedReplay.{ManagedReplay}
 use Rattle.joint_model.specs.Managed.{Managed, OpenCycle, Holds, ManagedEdge}
 use Rattle.joint_model.specs.Peers.{Issued, held, Strength, strong, weak}
-use Rattle.joint_model.specs.PeerReplay.{PeerReplay, TableRow, Marking}
+use Rattle.joint_model.specs.PeerReplay.{PeerReplay, TableRow, Marking, Refers}
 use Rattle.joint_model.specs.Walks.{Reaches}
 use Rattle.joint_laws.specs.ManagedInvariants.{IsReplayKept}
 use Rattle.joint_laws.specs.Mirrors.{MirrorEdge}
@@ -112,7 +112,7 @@ pub record IsMirrored (r : ManagedReplay) (s : PeerReplay) (c : OpenCycle) : Typ
   pub xrefs : List (ℕ × ℕ)
   pub contraction : IsDeadContraction r.managed c.dead comps xrefs
   pub stands : s.mirror ≡ None → ⊥
-  pub exact : (p q : ℕ) → Contains s.refs (p, q)
+  pub exact : (p q : ℕ) → Refers s.refs p q
       ↔ ((a : ℕ) × (b : ℕ) × MirrorEdge comps xrefs a b × IsRowOf r.managed s.peers.issued a p × IsRowOf r.managed s.peers.issued b q)
 
 -- a candidate's handle while handles are weakened, and while they are restored

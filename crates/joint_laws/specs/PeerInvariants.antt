@@ -2,7 +2,7 @@
 use Rattle.std.specs.Prelude.{◌≡◌, ℕ, ◌≤◌, ◌⊎◌, List, length, Contains, true, false, Option, Some, None}
 use Rattle.joint_model.specs.Heaps.{Heap, IsMade, IsLive, InSlot, fields_of, numbered_at}
 use Rattle.joint_model.specs.Peers.{Issued, held, raw, strong}
-use Rattle.joint_model.specs.PeerReplay.{PeerReplay, TableRow, Mirror, Marking, MarkingEdge, IsMarked}
+use Rattle.joint_model.specs.PeerReplay.{PeerReplay, TableRow, Mirror, Marking, MarkingEdge, IsMarked, Refers}
 
 -- nothing that was freed is named: slots and fields of unfreed objects name unfreed objects
 pub record IsHeapKept (h : Heap) : Type 0 where
@@ -32,9 +32,9 @@ pub record AreHandlesKept (h : Heap) (issued : List Issued) (table : List (Optio
 -- the source of a mirrored reference was made, and where it is unfreed so is the target; references stand only while a cycle
 -- is mirrored; and only held handles are weakened
 pub record AreReferencesKept (h : Heap) (issued : List Issued) (refs : List (ℕ × ℕ)) (mirror : Option Mirror) : Type 0 where
-  pub made : (p q : ℕ) → Contains refs (p, q) → IsMade h p
-  pub live : (p q : ℕ) → Contains refs (p, q) → IsLive h p → IsLive h q
-  pub none : mirror ≡ None → (p q : ℕ) → Contains refs (p, q) → ⊥
+  pub made : (p q : ℕ) → Refers refs p q → IsMade h p
+  pub live : (p q : ℕ) → Refers refs p q → IsLive h p → IsLive h q
+  pub none : mirror ≡ None → (p q : ℕ) → Refers refs p q → ⊥
   pub weakened : (m : Mirror) (n : ℕ) → mirror ≡ Some m → Contains m.weakened n → (i : Issued) × IsIssued issued n i × (i.hold ≡ held)
 
 -- the marking's sweep will spare the peer: it was made since the begin, or the marking reaches it
@@ -47,7 +47,7 @@ pub record IsMarkingKept (h : Heap) (issued : List Issued) (table : List (Option
   pub made : length mk.heap.fields ≤ length h.fields
   pub existed : (p : ℕ) → IsLive mk.heap p → IsLive h p
   pub fields : (p q : ℕ) → IsLive h p → Contains (fields_of h p) (Some q) → MarkingEdge mk p q ⊎ IsSpared mk q
-  pub references : (p q : ℕ) → IsLive h p → Contains refs (p, q) → MarkingEdge mk p q ⊎ IsSpared mk q
+  pub references : (p q : ℕ) → IsLive h p → Refers refs p q → MarkingEdge mk p q ⊎ IsSpared mk q
   pub slots : (p : ℕ) → InSlot h p → IsSpared mk p
   pub strong_ones : (n : ℕ) (row : TableRow) (i : Issued) → IsTabled table n row → row.strength ≡ strong → IsIssued issued n i → IsSpared mk i.peer
 

@@ -88,10 +88,14 @@ cleared_rows freed (i ∷ is) (Some row ∷ rows) = Some (record row { cleared =
 abbrev pub IsMarkingRoot : Marking → ℕ → Type 0
 IsMarkingRoot mk p = InSlot mk.heap p ⊎ Contains mk.strong_peers p ⊎ Contains mk.brought p
 
+-- a reference of the list leads from one peer to another
+abbrev pub Refers : List (ℕ × ℕ) → ℕ → ℕ → Type 0
+Refers refs p q = Contains refs (p, q)
+
 -- a mirrored reference leads from an unfreed peer to another
 pub record HasReference (h : Heap) (refs : List (ℕ × ℕ)) (p q : ℕ) : Type 0 where
   pub live : IsLive h p
-  pub reference : Contains refs (p, q)
+  pub reference : Refers refs p q
   pub there : IsLive h q
 
 -- an edge of the marking: a field or a mirrored reference, as they stood at its begin

@@ -68,6 +68,10 @@ sort_of s p = elim (numbered_at s.sorts p) [ None ↦ Framework | Some sort ↦ 
 abbrev pub next_handle : Peers → ℕ
 next_handle s = length s.issued + 1
 
+-- whether all handles are given out
+abbrev pub handles_full : Peers → Bool
+handles_full s = is_full s.issued
+
 -- a further handle on a peer
 abbrev pub with_handle : Peers → ℕ → Hold → Strength → Peers
 with_handle s p hold strength = record s { issued = s.issued ++ record { peer = p; hold = hold; strength = strength } ∷ [] }
@@ -92,13 +96,13 @@ peer_made s v n = if is_full s.heap.fields then answer says.Full s else
 
 -- `make SORT F`: a further peer and a held strong handle on it, unless there are 65,535 of either
 abbrev pub pair_made : Peers → Sort → ℕ → Answered Peers
-pair_made s sort n = if is_full s.heap.fields || is_full s.issued then answer says.Full s
+pair_made s sort n = if is_full s.heap.fields || handles_full s then answer says.Full s
     else answer (says.Made record { 0 = next_number s.heap } record { 0 = next_handle s }) (with_handle (with_peer s sort n) (next_number s.heap) held strong)
 
 -- a held strong handle on a peer, unless there are 65,535 handles
 abbrev pub peer_gripped : Peers → Option ℕ → Answered Peers
 peer_gripped s None = answer says.Null s
-peer_gripped s (Some p) = if is_full s.issued then answer says.Full s
+peer_gripped s (Some p) = if handles_full s then answer says.Full s
     else answer (says.Gripped record { 0 = p } record { 0 = next_handle s } (sort_of s p) (length (fields_of s.heap p))) (with_handle s p held strong)
 
 -- `grip x`: a held strong handle on the static's peer
@@ -113,7 +117,7 @@ landed s x (Some p) = answer (peer_name p) (record s { heap = with_static s.heap
 -- the name gets a raw handle on a peer, unless it names one or there are 65,535 handles
 abbrev pub name_given : Peers → ℕ → ℕ → Strength → Option ℕ → Answered Peers
 name_given s g p strength (Some h) = answer says.Taken s
-name_given s g p strength None = if is_full s.issued then answer says.Full s else
+name_given s g p strength None = if handles_full s then answer says.Full s else
     let grown = with_handle s p raw strength in
     answer (handle_name (next_handle s)) (record grown { names = slice_set s.names g (Some (next_handle s)) })
 

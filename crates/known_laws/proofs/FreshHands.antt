@@ -18,7 +18,7 @@ use Rattle.joint_model.specs.Lines.{IsEvent, is_peer_event}
 use Rattle.joint_model.specs.Linked.{Linkage, MayCome, SideLawful, opening_linkage, managed_after, linkage_after}
 use Rattle.joint_model.specs.Managed.{Managed}
 use Rattle.joint_model.specs.ManagedReplay.{ManagedReplay, managed_answer, adopt_by, meet_by, give_by}
-use Rattle.joint_model.specs.Peers.{Peers, next_handle, pair_made, peer_gripped, with_handle, with_peer, held, strong, sort_of}
+use Rattle.joint_model.specs.Peers.{Peers, next_handle, pair_made, peer_gripped, with_handle, with_peer, held, strong, sort_of, handles_full}
 use Rattle.joint_model.specs.Told.{Told, Noted, snap_of, contraction_of, resolution_of, phase_of}
 use Rattle.joint_model.proofs.Members.{Contains-nil, Contains-cons_cases}
 use Rattle.joint_laws.specs.LinkedInvariants.{doing_in, HasInHand, HasPeer}
@@ -98,7 +98,7 @@ has_none num line _ reply h p x w = w
 
 -- and that handle is a new one
 made_new : (num line : ℕ) (s : Peers) (sort : Sort) (n : ℕ) (reply : Reply) (h p : ℕ) → reply ≡ (pair_made s sort n).reply → HasPeer (doing_after num line (op.Make sort n) reply) h p → next_handle s ≡ h
-made_new num line s sort n reply h p e w = by (is_full s.heap.fields || is_full s.issued) e
+made_new num line s sort n reply h p e w = by (is_full s.heap.fields || handles_full s) e
   where
     by : (b : Bool) → reply ≡ (if b then answer says.Full s else answer (says.Made record { 0 = next_number s.heap } record { 0 = next_handle s }) (with_handle (with_peer s sort n) (next_number s.heap) held strong)).reply → next_handle s ≡ h
     by true f = absurd (subst (λ z. HasPeer (doing_after num line (op.Make sort n) z) h p) f w)
@@ -106,7 +106,7 @@ made_new num line s sort n reply h p e w = by (is_full s.heap.fields || is_full 
 
 grip_new : (num line : ℕ) (s : Peers) (x : StaticNo) (o : Option ℕ) (reply : Reply) (h p : ℕ) → reply ≡ (peer_gripped s o).reply → HasPeer (doing_after num line (op.Grip x) reply) h p → next_handle s ≡ h
 grip_new num line s x None reply h p e w = absurd (subst (λ z. HasPeer (doing_after num line (op.Grip x) z) h p) e w)
-grip_new num line s x (Some q) reply h p e w = by (is_full s.issued) e
+grip_new num line s x (Some q) reply h p e w = by (handles_full s) e
   where
     by : (b : Bool) → reply ≡ (if b then answer says.Full s else answer (says.Gripped record { 0 = q } record { 0 = next_handle s } (sort_of s q) (length (fields_of s.heap q))) (with_handle s q held strong)).reply → next_handle s ≡ h
     by true f = absurd (subst (λ z. HasPeer (doing_after num line (op.Grip x) z) h p) f w)

@@ -16,7 +16,7 @@ use Rattle.joint_model.specs.declared.events.Made.{Made}
 use Rattle.joint_model.specs.Heaps.{Answered, answer, slot, numbered_set, is_full}
 use Rattle.joint_model.specs.Lines.{is_peer_event}
 use Rattle.joint_model.specs.Linked.{Linkage, SideLawful, peer_after}
-use Rattle.joint_model.specs.Peers.{Peers, Issued, strong, weak, peer_of, peer_line, pair_made, landed, gripped as grip_static}
+use Rattle.joint_model.specs.Peers.{Peers, Issued, strong, weak, peer_of, peer_line, pair_made, landed, gripped as grip_static, handles_full}
 use Rattle.joint_model.specs.PeerReplay.{PeerReplay, TableRow, Marking, fresh_row, row_of, table_target, on_table, bring_by, brings, untabled, peer_thread_line, is_thread, sliced, begun, swept_of, swept, restored_by, peer_answer, brought_handle, with_restored, mirrored}
 use Rattle.joint_model.specs.Run.{thread_number}
 use Rattle.joint_model.specs.Told.{Told, Noted, references_of, slice_of, sweep_of}
@@ -160,7 +160,7 @@ module _ (s : PeerReplay) (k : IsPeerKept s) (m : Made) (g : ℕ) where
   answer_follows t (op.Line (act.Slice n)) (slice_of closure) e r = slice_follows s.marking t n closure
   answer_follows t (op.Line (act.Slice n)) _ e r = slice_follows s.marking t n []
   answer_follows t (op.Line a) told e r = quietly _ (quiet-line s (thread_number t) a k).handles (line_new (thread_number t) a)
-  answer_follows t (op.Make sort n) told e r = quietly _ (quiet-pair (λ h. ⊥) s sort n (is_full s.peers.heap.fields || is_full s.peers.issued) k.handles.places).handles (new_on s (pair_made s.peers sort n) refl refl)
+  answer_follows t (op.Make sort n) told e r = quietly _ (quiet-pair (λ h. ⊥) s sort n (is_full s.peers.heap.fields || handles_full s.peers) k.handles.places).handles (new_on s (pair_made s.peers sort n) refl refl)
   answer_follows t (op.Land h x) told e r = quietly _ (quiet-land (Only h.0) s x.0 h.0 (table_target s h.0) refl refl).handles (new_brought (landed s.peers x.0 (table_target s h.0)))
   answer_follows t (op.Grip x) told e r = quietly _ (quiet-grip (λ h. ⊥) s x.0 (slot s.peers.heap.statics x.0) k.handles.places refl).handles (new_on s (grip_static s.peers x.0) refl refl)
   answer_follows t (op.Release h) told e r = only_follows (peer_answer s t (op.Release h) m.cites told).state h.0 None refl refl (λ same w. inr (inl (e ∙ (λ i. op.Release record { 0 = sym same i }))))
