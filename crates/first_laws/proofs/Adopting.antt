@@ -13,7 +13,7 @@ use Rattle.joint_model.specs.declared.events.Reply.{Reply}
 use Rattle.joint_model.specs.Control.{idle, doing_at}
 use Rattle.joint_model.specs.First.{FirstLinkage, FirstMayCome}
 use Rattle.joint_model.specs.Heaps.{Answered, numbered_at, is_full, place}
-use Rattle.joint_model.specs.Joined.{joint_of, is_owned}
+use Rattle.joint_model.specs.Joined.{joint_since, is_owned}
 use Rattle.joint_model.specs.Joint.{Graph}
 use Rattle.joint_model.specs.Managed.{Managed, Holds, adopted, with_row}
 use Rattle.joint_model.specs.ManagedReplay.{ManagedReplay, adopt_by}
@@ -53,7 +53,7 @@ pub record IsAdoptedWell (m : ManagedReplay) (p : PeerReplay) (q h : ℕ) (b : G
   pub handles : AreHandlesKept (adopt_by m q h a.state a.reply).state.managed (adopt_by m q h a.state a.reply).state.adopted p
   pub owners : AreOwnersLive m.managed p.peers → AreOwnersLive (adopt_by m q h a.state a.reply).state.managed p.peers
   pub replies : (adopt_by m q h a.state a.reply).reply ≡ a.reply
-  pub state : joint_of (adopt_by m q h a.state a.reply).state.managed p b ≡ (on_managed (joint_of m.managed p b) a).state
+  pub state : joint_since (adopt_by m q h a.state a.reply).state.managed p b ≡ (on_managed (joint_since m.managed p b) a).state
 
 handles-adopted : (s : Managed) (taken : List ℕ) (p : PeerReplay) (v : ℕ) (kind : Kind) (n h : ℕ) → AreHandlesKept s taken p → IsIssued p h → (Contains taken h → ⊥) → AreHandlesKept (grown s v kind n h) (taken ++ h ∷ []) p
 handles-adopted s taken p v kind n h k issued fresh = record {
@@ -106,7 +106,7 @@ adopted-well m p v kind n q h b k issued fresh = test-cases (IsAdoptedWell m p q
             k.tabled_live g i.0 (subst (IsTabled p) d.1 tabled) i.1 (subst (λ z. Contains p.peers.heap.freed z) (sym i.2) c))
       ];
       replies = refl;
-      state = ap (λ r. record { managed = grown m.managed v kind n h; peers = p.peers; removed = r; marking = (joint_of m.managed p b).marking; markings = p.markings })
+      state = ap (λ r. record { managed = grown m.managed v kind n h; peers = p.peers; removed = r; marking = (joint_since m.managed p b).marking; markings = p.markings })
           (sym (removed-same m.managed (grown m.managed v kind n h) p.table (owned-adopted m.managed m.adopted p v kind n h k next tabled)));
     })
   where

@@ -13,7 +13,7 @@ use Rattle.joint_model.specs.Control.{Opened, restoring}
 use Rattle.joint_model.specs.First.{FirstLinkage, FirstMayCome, first_answers}
 use Rattle.joint_model.specs.Headline.{IsFreedWithPeer, IsCompleteCycle}
 use Rattle.joint_model.specs.Heaps.{IsMade}
-use Rattle.joint_model.specs.Joined.{joint_of, graph_at}
+use Rattle.joint_model.specs.Joined.{joint_since, graph_at}
 use Rattle.joint_model.specs.Joint.{Joint, Graph, Row, object, peer, IsJointRoot, JointEdge, IsReachedIn}
 use Rattle.joint_model.specs.Managed.{Managed, OpenCycle, Holds, ManagedEdge}
 use Rattle.joint_model.specs.ManagedReplay.{MayResolve}
@@ -58,7 +58,7 @@ unreached-resolution b s taken p c freed r x f reached = Reached-keeps (IsJointR
     edges (peer o) (peer q) e n = tt
 
 -- a candidate that is freed was unreached with its peer, which the sweep freed
-freed-candidate_judged : (past : List Moment) (m : Moment) (b : Graph) (s : Managed) (taken : List ℕ) (p : PeerReplay) (o : Opened) (c : OpenCycle) (freed : List ℕ) → m.before ≡ joint_of s p b → Resolution b s taken p c freed → (t : HasRestoring (past ++ m ∷ []) b s p o)
+freed-candidate_judged : (past : List Moment) (m : Moment) (b : Graph) (s : Managed) (taken : List ℕ) (p : PeerReplay) (o : Opened) (c : OpenCycle) (freed : List ℕ) → m.before ≡ joint_since s p b → Resolution b s taken p c freed → (t : HasRestoring (past ++ m ∷ []) b s p o)
     → t.swept.at < length past → (x : ℕ) → Contains freed x → Contains c.candidates x → IsFreedWithPeer (past ++ m ∷ []) (length past) x
 freed-candidate_judged past m b s taken p o c freed e r t at x f w =
     let run = past ++ m ∷ [] in
@@ -76,7 +76,7 @@ freed-candidate_judged past m b s taken p o c freed e r t at x f w =
       there = push-last past m (length past) refl;
       handle = h;
       holds = subst (λ (j : Joint). Holds j.managed x h) (sym e) bridge.1;
-      twin = q;
+      peer = q;
       leads = subst (λ (j : Joint). peer_of j.peers.issued h ≡ Some q) (sym e) leads;
       swept = record {
         marking = t.number;
@@ -135,7 +135,7 @@ cycle-complete run b s taken p o c freed end r is t ends =
           let unreached : IsReachedIn b (object x) → ⊥ = λ q. u t.begun.at (omega (arith, t.begun.later)) (omega (arith, t.swept.later)) own.moment own.there (subst (λ g. IsReachedIn g (object x)) (sym graph) q) in
           (r.resolution.frees x).1 (
             unreached-dead b s p c r.swept r.cut x bridge.1.live unreached,
-            kept-apart b s taken p (joint_of s p b) c r.handles r.swept refl refl x unreached,
+            kept-apart b s taken p (joint_since s p b) c r.handles r.swept refl refl x unreached,
           ));
       peers = λ q made u. (
           let same = some-same made.moment own.moment (sym made.there ∙ own.there) in

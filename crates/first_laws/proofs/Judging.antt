@@ -62,7 +62,7 @@ swept_for-grown past m limit p x w =
     }
 
 freed_with_peer-grown : (past : List Moment) (m : Moment) (i x : ℕ) → IsFreedWithPeer past i x → IsFreedWithPeer (past ++ m ∷ []) i x
-freed_with_peer-grown past m i x w = record { moment = w.moment; there = push-at past m i w.moment w.there; handle = w.handle; holds = w.holds; twin = w.twin; leads = w.leads; swept = swept_for-grown past m i w.twin (object x) w.swept }
+freed_with_peer-grown past m i x w = record { moment = w.moment; there = push-at past m i w.moment w.there; handle = w.handle; holds = w.holds; peer = w.peer; leads = w.leads; swept = swept_for-grown past m i w.peer (object x) w.swept }
 
 -- a moment that is put last is sound: what it frees was unreached, and swept where it is a candidate
 pub record IsSoundMoment (past : List Moment) (m : Moment) : Type 0 where

@@ -10,7 +10,7 @@ use Rattle.joint_model.specs.declared.events.Op.TheVariants as op
 use Rattle.joint_model.specs.Control.{Stand, idle, snapped, marked, restoring, Opened, made, doing_at}
 use Rattle.joint_model.specs.First.{FirstLinkage, AreUnreached, first_after}
 use Rattle.joint_model.specs.Heaps.{IsLive, IsMade, numbered_at, with_freed}
-use Rattle.joint_model.specs.Joined.{joint_of, graph_at}
+use Rattle.joint_model.specs.Joined.{joint_since, graph_at}
 use Rattle.joint_model.specs.Joint.{Joint, Graph}
 use Rattle.joint_model.specs.Managed.{Managed, OpenCycle, Holds, IsBridge, IsManagedRoot, ManagedEdge, IsManagedReached}
 use Rattle.joint_model.specs.PeerReplay.{PeerReplay, Marking, TableRow}
@@ -92,7 +92,7 @@ pub record IsKept (b : Graph) (s : FirstLinkage) : Type 0 where
 
 -- the joint state, with the graph of the last begin; and that graph after an entry
 abbrev pub joint_at : Graph → FirstLinkage → Joint
-joint_at b s = joint_of s.base.managed.managed s.base.peer b
+joint_at b s = joint_since s.base.managed.managed s.base.peer b
 
 abbrev pub graph_now : FirstLinkage → Graph
 graph_now s = graph_at s.base.managed.managed s.base.peer

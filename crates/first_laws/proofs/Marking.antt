@@ -13,7 +13,7 @@ use Rattle.joint_model.specs.declared.events.Reply.{Reply}
 use Rattle.joint_model.specs.Control.{Opened, snapped, marked, restoring}
 use Rattle.joint_model.specs.First.{FirstLinkage, FirstMayCome, AreUnreached, joint_swept, swept_row, swept_rows, first_stand_after}
 use Rattle.joint_model.specs.Heaps.{numbered_at, with_freed}
-use Rattle.joint_model.specs.Joined.{joint_of, graph_at, joint_marking, removed_from, is_owned}
+use Rattle.joint_model.specs.Joined.{joint_since, graph_at, joint_marking, removed_from, is_owned}
 use Rattle.joint_model.specs.Joint.{Graph, peer, IsJointRoot, JointEdge, IsReached, IsLooseRoot}
 use Rattle.joint_model.specs.Managed.{Managed}
 use Rattle.joint_model.specs.PeerReplay.{PeerReplay, Marking, TableRow, begun, strong_peers}
@@ -113,7 +113,7 @@ handles-marked s taken p mk n a = record {
 
 -- what a begin does and keeps, by the marking that is open before it
 pub record Begins (b : Graph) (s : Managed) (taken : List ℕ) (p : PeerReplay) (o : Opened) (unreached : List ℕ) (reply : Reply) (mk : Option Marking) : Type 0 where
-  pub step : reply ≡ (begun p mk C).reply → JointBegin (joint_of s p b) (joint_marking mk b) C reply (joint_of s (begun p mk C).state (graph_at s p))
+  pub step : reply ≡ (begun p mk C).reply → JointBegin (joint_since s p b) (joint_marking mk b) C reply (joint_since s (begun p mk C).state (graph_at s p))
   pub handles : AreHandlesKept s taken (begun p mk C).state
   pub issued : (h : ℕ) → IsIssued p h → IsIssued (begun p mk C).state h
   pub stand : IsStandKept (graph_at s p) s (begun p mk C).state unreached (marked o)
@@ -170,7 +170,7 @@ handles-swept s taken p freed k u = record {
 
 -- what a sweep does and keeps, by the marking that is open before it
 pub record Sweeps (b : Graph) (s : Managed) (taken : List ℕ) (p : PeerReplay) (o : Opened) (freed : List ℕ) (reply : Reply) (mk : Option Marking) : Type 0 where
-  pub step : reply ≡ (joint_swept p mk freed).reply → JointSweep (joint_of s p b) (joint_marking mk b) C reply (sweep_of freed) (joint_of s (joint_swept p mk freed).state b)
+  pub step : reply ≡ (joint_swept p mk freed).reply → JointSweep (joint_since s p b) (joint_marking mk b) C reply (sweep_of freed) (joint_since s (joint_swept p mk freed).state b)
   pub handles : AreHandlesKept s taken (joint_swept p mk freed).state
   pub issued : (h : ℕ) → IsIssued p h → IsIssued (joint_swept p mk freed).state h
   pub stand : IsStandKept b s (joint_swept p mk freed).state [] (restoring o [])
@@ -183,7 +183,7 @@ sweeps-well b s taken p o freed reply mk k owners cut now exact =
         allowed = inl refl;
         rise = exact.rise;
         stored = All-members (IsStored (record { number = mk.number; by = mk.by; begun = b })) freed (λ q c. (let w = (exact.exact q).0 c in record { existed = w.0; unreached = w.1 }));
-        unreached = All-members (λ q. IsReached (joint_of s p b) (peer q) → ⊥) freed (λ q c. ((here.exact q).0 c).1);
+        unreached = All-members (λ q. IsReached (joint_since s p b) (peer q) → ⊥) freed (λ q c. ((here.exact q).0 c).1);
         replies = e;
         state = ap (λ r. record { managed = s; peers = record p.peers { heap = with_freed p.peers.heap freed }; removed = r; marking = None; markings = p.markings })
             (removed-swept s freed p.peers.issued p.table (unreached-owned s taken p freed k here));

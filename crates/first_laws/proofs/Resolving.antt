@@ -14,7 +14,7 @@ use Rattle.joint_model.specs.Control.{Stand, Opened, restoring, peer_of_row}
 use Rattle.joint_model.specs.Cycles.{IsResolution, IsAnsweredAlive, IsOpen}
 use Rattle.joint_model.specs.First.{FirstLinkage, FirstMayCome, FirstResolve, first_answers}
 use Rattle.joint_model.specs.Heaps.{is_freed, numbered_at}
-use Rattle.joint_model.specs.Joined.{joint_of, removed_from, is_owned}
+use Rattle.joint_model.specs.Joined.{joint_since, removed_from, is_owned}
 use Rattle.joint_model.specs.Joint.{Graph}
 use Rattle.joint_model.specs.Managed.{Managed, OpenCycle, Holds, ManagedEdge, handle_of, resolved}
 use Rattle.joint_model.specs.ManagedReplay.{MayResolve}
@@ -59,7 +59,7 @@ not-true false e = refl
 some-true : (b : Bool) → Some b ≡ Some true → b ≡ true
 some-true b e = cc
 
-answered-kept : (s : Managed) (taken : List ℕ) (p : PeerReplay) (b : Graph) (c : OpenCycle) → AreHandlesKept s taken p → IsCut s c → (x : ℕ) → IsAnsweredAlive c.candidates (map (answer_of s p) c.candidates) x → IsKeptCandidate (joint_of s p b) c x
+answered-kept : (s : Managed) (taken : List ℕ) (p : PeerReplay) (b : Graph) (c : OpenCycle) → AreHandlesKept s taken p → IsCut s c → (x : ℕ) → IsAnsweredAlive c.candidates (map (answer_of s p) c.candidates) x → IsKeptCandidate (joint_since s p b) c x
 answered-kept s taken p b c k cut x a =
     let member = Contains-at c.candidates a.0 x a.1 in
     let bridge = cut.bridges x member in
@@ -76,7 +76,7 @@ answered-kept s taken p b c k cut x a =
       unfreed = not_freed p.peers.heap i.0.peer (subst (λ q. is_freed p.peers.heap q ≡ false) (row-peer s p.peers.issued x bridge.0 i.0.peer bridge.1 leads) unfreed);
     }
 
-kept-answered : (s : Managed) (p : PeerReplay) (b : Graph) (c : OpenCycle) (x : ℕ) → IsKeptCandidate (joint_of s p b) c x → IsAnsweredAlive c.candidates (map (answer_of s p) c.candidates) x
+kept-answered : (s : Managed) (p : PeerReplay) (b : Graph) (c : OpenCycle) (x : ℕ) → IsKeptCandidate (joint_since s p b) c x → IsAnsweredAlive c.candidates (map (answer_of s p) c.candidates) x
 kept-answered s p b c x k =
     let at = at-Contains c.candidates x k.candidate in
     let same : answer_of s p x ≡ true = ap (λ q. not (is_freed p.peers.heap q)) (row-peer s p.peers.issued x k.handle k.peer k.holds k.leads) ∙ ap not (unfreed-live p.peers.heap k.peer k.unfreed) in
@@ -84,7 +84,7 @@ kept-answered s p b c x k =
 
 -- so the joint machine's resolution is the managed side's
 resolution-kept : (s : Managed) (taken : List ℕ) (p : PeerReplay) (b : Graph) (c : OpenCycle) (alive : List Bool) (freed : List ℕ) → AreHandlesKept s taken p → IsCut s c → alive ≡ map (answer_of s p) c.candidates
-    → IsResolution s c.dead (IsAnsweredAlive c.candidates alive) freed → IsResolution s c.dead (IsKeptCandidate (joint_of s p b) c) freed
+    → IsResolution s c.dead (IsAnsweredAlive c.candidates alive) freed → IsResolution s c.dead (IsKeptCandidate (joint_since s p b) c) freed
 resolution-kept s taken p b c alive freed k cut e r = record {
   rise = r.rise;
   frees = λ x. (
@@ -105,7 +105,7 @@ pub record Resolution (b : Graph) (s : Managed) (taken : List ℕ) (p : PeerRepl
   pub handles : AreHandlesKept s taken p
   pub swept : IsSwept b s p
   pub cut : IsCut s c
-  pub resolution : IsResolution s c.dead (IsKeptCandidate (joint_of s p b) c) freed
+  pub resolution : IsResolution s c.dead (IsKeptCandidate (joint_since s p b) c) freed
 
 -- a freed row that holds a handle is a candidate, and its peer is freed
 pub freed-candidate : (b : Graph) (s : Managed) (taken : List ℕ) (p : PeerReplay) (c : OpenCycle) (freed : List ℕ) → Resolution b s taken p c freed → (x h : ℕ) → Contains freed x → Holds s x h → Contains c.candidates x
@@ -195,7 +195,7 @@ owners-resolved b s taken p c freed r x h q w l f =
     let unreached = swept-unreached b s taken p r.handles r.swept x h q before l (twin-swept b s taken p r.handles r.swept x h q before l f) in
     IsLive-spared s.heap freed x w.live ((r.resolution.frees x).1 (
       unreached-dead b s p c r.swept r.cut x before.live unreached,
-      kept-apart b s taken p (joint_of s p b) c r.handles r.swept refl refl x unreached,
+      kept-apart b s taken p (joint_since s p b) c r.handles r.swept refl refl x unreached,
     ))
 
 pub resolution-here : (b : Graph) (s : Managed) (taken : List ℕ) (p : PeerReplay) (o : Opened) (k : ℕ) (cycle : OpenCycle) (alive : List Bool) (freed : List ℕ) → AreHandlesKept s taken p → IsSwept b s p → IsOpenCut s o → IsOpen s k cycle → alive ≡ first_answers s p

@@ -16,7 +16,7 @@ use Rattle.joint_model.specs.Control.{Stand, Opened, idle, snapped, marked, rest
 use Rattle.joint_model.specs.Cycles.{IsSnapshot}
 use Rattle.joint_model.specs.First.{FirstLinkage, FirstMayCome, AreUnreached, first_after, first_stand_after, joint_swept}
 use Rattle.joint_model.specs.Headline.{OwnBeginAt, BeginsAt, SweepsAt, SnapsAt}
-use Rattle.joint_model.specs.Joined.{joint_of, graph_at}
+use Rattle.joint_model.specs.Joined.{joint_since, graph_at}
 use Rattle.joint_model.specs.Joint.{Graph, Row, object, peer, IsJointRoot, JointEdge, IsReachedIn, graph_of}
 use Rattle.joint_model.specs.Managed.{Managed, OpenCycle, IsBridge, IsManagedRoot, ManagedEdge}
 use Rattle.joint_model.specs.PeerReplay.{PeerReplay, Marking, begun}
@@ -187,7 +187,7 @@ abbrev pub grown-restoring : (past : List Moment) (m : Moment) (b : Graph) (s : 
 grown-restoring past m b s p o w = record { snapped = grown-snapped past m s o w.snapped; number = w.number; begun = grown-begun past m b w.number w.snapped.at w.begun; swept = grown-swept past m b p.peers w.number w.begun.at w.swept }
 
 -- a begin leaves the graph as it is, and opens the next marking
-begun-graph : (s : Managed) (p : PeerReplay) (mk : Option Marking) (g : Graph) → graph_of (joint_of s (begun p mk C).state g) ≡ graph_at s p
+begun-graph : (s : Managed) (p : PeerReplay) (mk : Option Marking) (g : Graph) → graph_of (joint_since s (begun p mk C).state g) ≡ graph_at s p
 begun-graph s p None g = refl
 begun-graph s p (Some mk) g = refl
 

@@ -22,7 +22,7 @@ use Rattle.joint_model.specs.PeerReplay.{PeerReplay, row_of}
 use Rattle.joint_model.specs.Run.{JointEvent, IsComputed, removed_all, on_managed}
 use Rattle.joint_model.specs.Told.{Told, nothing, snap_of, contraction_of, references_of, slice_of, sweep_of, resolution_of, phase_of}
 use Rattle.joint_model.proofs.HeapLemmas.{adopt_by-managed, adopt_by-reply}
-use Rattle.joint_laws.specs.JointAgreement.{IsOwned, AreFlags, Agrees, joint_of}
+use Rattle.joint_laws.specs.JointAgreement.{IsOwned, AreFlags, Agrees}
 use Rattle.joint_laws.specs.LinkedInvariants.{AreOwnersKept, doing_in}
 use Rattle.joint_laws.proofs.ManagedMoves.{GoesOn, GoesOn-stay, managed_line-goes_on, adopted-goes_on, met-goes_on, given_up-goes_on}
 use Rattle.joint_laws.proofs.ManagedSteps.{meet_by-managed, meet_by-reply, give_by-managed, give_by-reply, twin-live}
@@ -36,6 +36,7 @@ use Rattle.joint_laws.proofs.LinkedQuiet.{AreKept}
 use Rattle.joint_laws.proofs.LinkedThreads.{release-hand}
 use Rattle.joint_laws.proofs.LinkedDriver.{turn, one_cycle}
 use Rattle.joint_laws.proofs.LinkedEntries.{Of, entry, Allows}
+use Rattle.joint_model.specs.Joined.{joint_of}
 
 -- an entry is a step of the joint machine, or leaves its state as it is
 pub data Outcome (m : Managed) (s : PeerReplay) (flags : List Bool) (jm : Option JointMarking) (t : Thread) (o : Op) (reply : Reply) (told : Told) (n : Managed) (u : PeerReplay) : Type 0 where

@@ -22,7 +22,7 @@ use Rattle.joint_model.specs.Peers.{Peers, Issued, peer_line, pair_made, gripped
 use Rattle.joint_model.specs.PeerReplay.{PeerReplay, table_target, on_table, brings, untabled, peer_thread_line}
 use Rattle.joint_model.specs.Run.{on_peers, without}
 use Rattle.joint_model.specs.Told.{Told}
-use Rattle.joint_laws.specs.JointAgreement.{Agrees, joint_of}
+use Rattle.joint_laws.specs.JointAgreement.{Agrees}
 use Rattle.joint_laws.specs.LinkedInvariants.{IsLoose}
 use Rattle.joint_model.proofs.Numbered.{slot-Contains, numbered_set-length}
 use Rattle.joint_laws.proofs.HandleKeeping.{held-raw}
@@ -32,6 +32,7 @@ use Rattle.joint_laws.proofs.JointFlags.{AreFlags-issued}
 use Rattle.joint_laws.proofs.JointTargets.{target-same}
 use Rattle.joint_laws.proofs.JointSteps.{Steps, bring-peers, bring-reply, agrees-peers, agrees-brought, joint-brought, flags-gone}
 use Rattle.joint_laws.proofs.LinkedQuiet.{AreKept}
+use Rattle.joint_model.specs.Joined.{joint_of}
 
 module _ (r : ManagedReplay) (s : PeerReplay) (ds : List Doing) (d : Stand) (k : AreKept r s ds d) (flags : List Bool) (jm : Option JointMarking) (ag : Agrees r.managed s flags jm) where
   abbrev j : Joint

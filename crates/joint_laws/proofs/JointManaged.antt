@@ -15,7 +15,7 @@ use Rattle.joint_model.specs.Peers.{Issued, strong}
 use Rattle.joint_model.specs.PeerReplay.{PeerReplay}
 use Rattle.joint_model.specs.Run.{IsKept, removed_all}
 use Rattle.joint_model.proofs.WalkLemmas.{Reaches-self}
-use Rattle.joint_laws.specs.JointAgreement.{IsInTable, AreFlags, joint_of}
+use Rattle.joint_laws.specs.JointAgreement.{IsInTable, AreFlags}
 use Rattle.joint_laws.specs.LinkedInvariants.{HasStrength, IsRowOf, AreOwnersKept, IsBeforeMirror, IsRestored}
 use Rattle.joint_model.proofs.Members.{Contains-nil, Contains-here, Contains-there, Contains-cons_cases, Contains-decided, Contains-at, at-Contains}
 use Rattle.joint_model.proofs.Deciding.{none_some}
@@ -26,6 +26,7 @@ use Rattle.joint_laws.proofs.DriverSteps.{no_candidates, row_of, alive-live, cle
 use Rattle.joint_laws.proofs.DriverPeerSteps.{holds-handle_of}
 use Rattle.joint_laws.proofs.JointFlags.{IsHere, AreFlags-same, AreFlags-removed}
 use Rattle.joint_laws.proofs.LinkedQuiet.{AreKept}
+use Rattle.joint_model.specs.Joined.{joint_of}
 
 strong-table : (s : PeerReplay) (h : ℕ) → HasStrength s h strong → IsInTable s h
 strong-table s h t = (t.0, t.1)

@@ -10,12 +10,13 @@ use Rattle.joint_model.specs.Joint.{JointMarking}
 use Rattle.joint_model.specs.Managed.{Managed}
 use Rattle.joint_model.specs.Peers.{strong, weak, peer_of}
 use Rattle.joint_model.specs.PeerReplay.{PeerReplay, TableRow, Mirror, Marking, row_of, is_thread, sliced, mirrored, restored_by, with_weakened, with_restored, brought_handle}
-use Rattle.joint_laws.specs.JointAgreement.{IsOwned, AreFlags, AreSameMarkings, Agrees, joint_of}
+use Rattle.joint_laws.specs.JointAgreement.{IsOwned, AreFlags, AreSameMarkings, Agrees}
 use Rattle.joint_laws.specs.PeerInvariants.{IsTabled}
 use Rattle.joint_model.proofs.Numbered.{slot-named, numbered_set-other, numbered_set-here, numbered-within}
 use Rattle.joint_model.proofs.Deciding.{none_some}
 use Rattle.joint_laws.proofs.HandleKeeping.{tabled-set_cases}
 use Rattle.joint_laws.proofs.JointFlags.{AreFlags-same, AreFlags-as, IsSameMarking-later, AreSameMarkings-brought}
+use Rattle.joint_model.specs.Joined.{joint_of}
 
 -- the joint state is as it was, and agrees
 pub record Rests (m : Managed) (s : PeerReplay) (flags : List Bool) (jm : Option JointMarking) (n : Managed) (u : PeerReplay) : Type 0 where

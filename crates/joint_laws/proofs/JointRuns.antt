@@ -6,12 +6,13 @@ use Rattle.joint_model.specs.Joint.{Joint, JointMarking, opening}
 use Rattle.joint_model.specs.Linked.{Linkage, MayCome, opening_linkage, linkage_after, is_joint, joint_projection}
 use Rattle.joint_model.specs.Run.{Moment, JointStep}
 use Rattle.joint_model.specs.Told.{Noted}
-use Rattle.joint_laws.specs.JointAgreement.{Agrees, joint_of}
+use Rattle.joint_laws.specs.JointAgreement.{Agrees}
 use Rattle.joint_model.proofs.Numbered.{numbered-within}
 use Rattle.joint_laws.proofs.JointSince.{IsSince, since-opening, since-entry}
 use Rattle.joint_laws.proofs.RunsAreSound.{stays, marking-case}
 use Rattle.joint_laws.proofs.JointEntries.{Outcome, moves, rests, outcome}
 use Rattle.joint_laws.proofs.LinkedEntries.{Of, AreKept-entry, AreKept-opening}
+use Rattle.joint_model.specs.Joined.{joint_of}
 
 -- a linked state with the joint state that agrees with it
 pub record Stands (s : Linkage) : Type 0 where

@@ -14,7 +14,7 @@ use Rattle.joint_model.specs.Managed.{Managed, OpenCycle, Holds}
 use Rattle.joint_model.specs.Peers.{Issued, strong}
 use Rattle.joint_model.specs.PeerReplay.{PeerReplay, Marking}
 use Rattle.joint_model.specs.Told.{Told, Noted}
-use Rattle.joint_laws.specs.JointAgreement.{AreSameMarkings, joint_of}
+use Rattle.joint_laws.specs.JointAgreement.{AreSameMarkings}
 use Rattle.joint_laws.specs.LinkedInvariants.{HasStrength}
 use Rattle.joint_laws.specs.ManagedInvariants.{IsManagedKept}
 use Rattle.joint_laws.specs.PeerInvariants.{IsIssued, IsSpared}
@@ -27,6 +27,7 @@ use Rattle.joint_laws.proofs.ManagedSteps.{ManagedStep, going_on, snapping, reso
 use Rattle.joint_laws.proofs.LinkedEntries.{Of}
 use Rattle.joint_laws.proofs.PeerSince.{GoesOnSparing, stays-sparing, peer-goes_on}
 use Rattle.joint_laws.proofs.RunsAreSound.{MarkingCase, stays, ends, opens}
+use Rattle.joint_model.specs.Joined.{joint_of}
 
 abbrev pub IsSince : Managed → PeerReplay → Option JointMarking → Type 0
 IsSince m s jm = (y : JointMarking) → jm ≡ Some y → (mk : Marking) → s.marking ≡ Some mk → (x h : ℕ) (i : Issued) → Holds m x h → IsIssued s.peers.issued h i

@@ -20,7 +20,7 @@ use Rattle.joint_model.specs.Peers.{Peers, Issued, issued_since}
 use Rattle.joint_model.specs.PeerReplay.{PeerReplay, Marking, strong_peers, on_table, brings, bring_by, untabled, begun, swept, swept_of, is_thread, IsSweep, SweepAllows}
 use Rattle.joint_model.specs.Run.{JointEvent, JointBegin, JointSweep, IsStored}
 use Rattle.joint_model.specs.Told.{Told, nothing, sweep_of}
-use Rattle.joint_laws.specs.JointAgreement.{IsInTable, AreFlags, IsSameMarking, AreSameMarkings, Agrees, joint_of}
+use Rattle.joint_laws.specs.JointAgreement.{IsInTable, AreFlags, IsSameMarking, AreSameMarkings, Agrees}
 use Rattle.joint_laws.specs.PeerInvariants.{IsSpared}
 use Rattle.joint_model.proofs.Numbered.{numbered_set-same, numbered_set-other, numbered-within, numbered-made}
 use Rattle.joint_model.proofs.Deciding.{none_some}
@@ -32,6 +32,7 @@ use Rattle.joint_laws.proofs.DriverPeerSteps.{swept-tabled}
 use Rattle.joint_laws.proofs.JointFlags.{AreFlags-same, AreFlags-gone, AreFlags-issued, AreFlags-as, AreSameMarkings-brought}
 use Rattle.joint_laws.proofs.SparedWalks.{reached-spared}
 use Rattle.joint_laws.proofs.LinkedQuiet.{AreKept, kept-quiet}
+use Rattle.joint_model.specs.Joined.{joint_of}
 
 -- the step of an event, with the flags and the marking after it
 pub record Steps (m : Managed) (s : PeerReplay) (flags : List Bool) (jm : Option JointMarking) (t : Thread) (o : Op) (reply : Reply) (told : Told) (n : Managed) (u : PeerReplay) : Type 0 where

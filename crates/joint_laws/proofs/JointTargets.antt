@@ -12,7 +12,7 @@ use Rattle.joint_model.specs.Managed.{Holds, handle_of}
 use Rattle.joint_model.specs.ManagedReplay.{ManagedReplay, registered}
 use Rattle.joint_model.specs.Peers.{Issued, Hold, held, raw, peer_of, is_held}
 use Rattle.joint_model.specs.PeerReplay.{PeerReplay, TableRow, row_of, table_target}
-use Rattle.joint_laws.specs.JointAgreement.{IsInTable, AreFlags, joint_of}
+use Rattle.joint_laws.specs.JointAgreement.{IsInTable, AreFlags}
 use Rattle.joint_laws.specs.PeerInvariants.{IsTabled, IsIssued}
 use Rattle.joint_laws.specs.LinkedInvariants.{IsRowOf, IsDriverKept, IsGone}
 use Rattle.joint_model.proofs.Members.{Contains-decided, at-Contains}
@@ -23,6 +23,7 @@ use Rattle.joint_laws.proofs.Registered.{registered-some, registered-none}
 use Rattle.joint_laws.proofs.DriverPeerSteps.{holds-handle_of}
 use Rattle.joint_laws.proofs.DriverSteps.{no_candidates}
 use Rattle.joint_laws.proofs.LinkedQuiet.{AreKept}
+use Rattle.joint_model.specs.Joined.{joint_of}
 
 -- the answers by their parts
 abbrev table_by : PeerReplay → ℕ → Option TableRow → Option ℕ

@@ -77,7 +77,7 @@ module _ (run : List Moment) (steps : IsRunFrom opening run) (traced : (m : Mome
         there = w.there;
         handle = b.0;
         holds = b.1;
-        twin = i0.0.peer;
+        peer = i0.0.peer;
         leads = leads;
         swept = twins i w.moment w.there m b.0 i0.0.peer b.1 leads (freed-peer w.moment.before r.cycle m b.0 i0.0.peer freed (λ x c. ((r.resolution.frees x).0 c).1) f cm b.1 leads);
       }

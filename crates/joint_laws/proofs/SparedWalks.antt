@@ -16,7 +16,7 @@ use Rattle.joint_model.specs.Peers.{Issued, Strength, strong, weak, peer_of}
 use Rattle.joint_model.specs.PeerReplay.{PeerReplay, Marking}
 use Rattle.joint_model.specs.Walks.{Reaches}
 use Rattle.joint_model.proofs.WalkLemmas.{Reached-keeps, Reaches-keeps, Reaches-self, Reaches-edge, Reaches-trans}
-use Rattle.joint_laws.specs.JointAgreement.{IsInTable, AreFlags, joint_of}
+use Rattle.joint_laws.specs.JointAgreement.{IsInTable, AreFlags}
 use Rattle.joint_laws.specs.ManagedInvariants.{IsCutOff}
 use Rattle.joint_laws.specs.Mirrors.{MirrorEdge}
 use Rattle.joint_laws.specs.PeerInvariants.{IsIssued, IsSpared, IsMarkingKept}
@@ -28,6 +28,7 @@ use Rattle.joint_laws.proofs.DeadMirrors.{candidates-mirrored}
 use Rattle.joint_laws.proofs.SameGraphs.{mirror_edge-ends}
 use Rattle.joint_laws.proofs.Sparing.{spared-next}
 use Rattle.joint_laws.proofs.LinkedQuiet.{AreKept}
+use Rattle.joint_model.specs.Joined.{joint_of}
 
 -- what a handle was issued on, by where it leads
 pub peer_of-row : (issued : List Issued) (h p : ℕ) → peer_of issued h ≡ Some p → (i : Issued) × IsIssued issued h i × (i.peer ≡ p)

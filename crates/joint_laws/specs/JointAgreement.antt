@@ -1,9 +1,9 @@
--- The joint machine's state at a state of a linked history: the managed objects and the peers are those of the sides; a
--- handle is removed where it has left the table and no row holds it; and an open marking is the peer side's, with the joint
--- graph of its begin.
+-- What ties the joint machine's state to a state of a linked history, beside joint_of of joint_model, which makes it out of
+-- both sides: a handle is removed where it has left the table and no row holds it; and an open marking is the peer side's,
+-- with the joint graph of its begin.
 use Rattle.std.specs.Prelude.{◌≡◌, ℕ, ◌⊎◌, Bool, true, false, List, length, Option, Some, None, ⊤}
 use Rattle.joint_model.specs.Heaps.{numbered_at}
-use Rattle.joint_model.specs.Joint.{Joint, JointMarking, IsReachedIn, peer}
+use Rattle.joint_model.specs.Joint.{JointMarking, IsReachedIn, peer}
 use Rattle.joint_model.specs.Managed.{Managed, Holds}
 use Rattle.joint_model.specs.PeerReplay.{PeerReplay, TableRow, Marking}
 use Rattle.joint_laws.specs.PeerInvariants.{IsTabled, IsSpared}
@@ -34,10 +34,6 @@ abbrev pub AreSameMarkings : Option Marking → Option JointMarking → Type 0
 AreSameMarkings None None = ⊤
 AreSameMarkings (Some mk) (Some j) = IsSameMarking mk j
 AreSameMarkings _ _ = ⊥
-
--- the joint state of both sides' parts
-abbrev pub joint_of : Managed → PeerReplay → List Bool → Option JointMarking → Joint
-joint_of m s flags marking = record { managed = m; peers = s.peers; removed = flags; marking = marking; markings = s.markings }
 
 -- the joint state agrees with the sides
 pub record Agrees (m : Managed) (s : PeerReplay) (flags : List Bool) (marking : Option JointMarking) : Type 0 where

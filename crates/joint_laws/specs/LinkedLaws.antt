@@ -15,10 +15,11 @@ use Rattle.joint_model.specs.Walks.{Reaches}
 use Rattle.joint_model.specs.Joint.{JointMarking, peer, IsReached, twin_of}
 use Rattle.joint_model.specs.Peers.{strong, weak}
 use Rattle.joint_model.specs.PeerReplay.{PeerReplay, Marking}
-use Rattle.joint_laws.specs.JointAgreement.{AreFlags, joint_of}
+use Rattle.joint_laws.specs.JointAgreement.{AreFlags}
 use Rattle.joint_laws.specs.LinkedInvariants.{IsLinkageKept, HasStrength, IsWeakenedBy, IsRestoredBy}
 use Rattle.joint_laws.specs.PeerInvariants.{IsSpared}
 use Rattle.joint_laws.specs.States.{state_at}
+use Rattle.joint_model.specs.Joined.{joint_of}
 
 -- what both sides, the threads and the driver keep holds at every state
 abbrev pub LinkageIsKept : Type 0

@@ -91,9 +91,9 @@ pub record IsFreedWithPeer (run : List Moment) (i m : ℕ) : Type 0 where
   pub there : slice_get run i ≡ Some moment
   pub handle : ℕ
   pub holds : Holds moment.before.managed m handle
-  pub twin : ℕ
-  pub leads : peer_of moment.before.peers.issued handle ≡ Some twin
-  pub swept : IsSweptFor run i twin (object m)
+  pub peer : ℕ
+  pub leads : peer_of moment.before.peers.issued handle ≡ Some peer
+  pub swept : IsSweptFor run i peer (object m)
 
 -- the row is a candidate of the cycle that is open just before place i
 pub record IsCandidateBefore (run : List Moment) (i m : ℕ) : Type 0 where

@@ -1,6 +1,6 @@
--- The joint machine's state as a function of both sides' replays. The one thing in which both meet is whether a handle is
--- removed: a candidate's handle that was cleared leaves the table at its restore, while its row holds it until the
--- resolution.
+-- The joint machine's state out of both sides' parts, and what of it both replays give. The one thing in which both meet is
+-- whether a handle is removed: a candidate's handle that was cleared leaves the table at its restore, while its row holds it
+-- until the resolution.
 use Rattle.std.specs.Prelude.{ℕ, ◌+◌, Bool, true, false, ◌||◌, ◌&&◌, not, nat_eq, List, [], ◌∷◌, Option, Some, None}
 use Rattle.joint_model.specs.Joint.{Joint, JointMarking, Graph}
 use Rattle.joint_model.specs.Managed.{Managed, handle_of}
@@ -39,6 +39,10 @@ abbrev pub joint_marking : Option Marking → Graph → Option JointMarking
 joint_marking None begun = None
 joint_marking (Some mk) begun = Some record { number = mk.number; by = mk.by; begun = begun }
 
--- the joint state of a managed and a peer state, with the graph that stood at the open marking's begin
-abbrev pub joint_of : Managed → PeerReplay → Graph → Joint
-joint_of s p begun = record { managed = s; peers = p.peers; removed = removed_from s 1 p.table; marking = joint_marking p.marking begun; markings = p.markings }
+-- the joint state of a managed and a peer state, with whether each handle is removed, and the open marking
+abbrev pub joint_of : Managed → PeerReplay → List Bool → Option JointMarking → Joint
+joint_of s p removed marking = record { managed = s; peers = p.peers; removed = removed; marking = marking; markings = p.markings }
+
+-- that state as both replays give it, with the graph that stood at the open marking's begin
+abbrev pub joint_since : Managed → PeerReplay → Graph → Joint
+joint_since s p begun = joint_of s p (removed_from s 1 p.table) (joint_marking p.marking begun)

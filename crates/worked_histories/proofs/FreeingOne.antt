@@ -73,7 +73,7 @@ freed_one = record {
   there = refl;
   handle = 1;
   holds = record { live = record { made = omega arith; kept = absent [] 1 refl }; held = refl };
-  twin = 1;
+  peer = 1;
   leads = refl;
   swept = record {
     marking = 1;

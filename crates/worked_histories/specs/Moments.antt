@@ -3,7 +3,7 @@ use Rattle.std.specs.Prelude.{ℕ, Bool, true, false, List, [], ◌∷◌}
 use Rattle.joint_model.specs.declared.events.Reply.{Reply}
 use Rattle.joint_model.specs.declared.events.Reply.TheVariants as says
 use Rattle.joint_model.specs.First.{AreUnreached}
-use Rattle.joint_model.specs.Joined.{joint_of, graph_at}
+use Rattle.joint_model.specs.Joined.{joint_since, graph_at}
 use Rattle.joint_model.specs.Joint.{Joint, Graph, opening, graph_of}
 use Rattle.joint_model.specs.Linked.{Linkage, opening_linkage, linkage_after, is_joint, joint_projection}
 use Rattle.joint_model.specs.Run.{Moment, IsRun}
@@ -11,7 +11,7 @@ use Rattle.joint_model.specs.Told.{Noted}
 
 -- the joint state of a linked history, with the graph that stood at the begin of the open marking
 abbrev pub linked_joint : Linkage → Graph → Joint
-linked_joint s begun = joint_of s.managed.managed s.peer begun
+linked_joint s begun = joint_since s.managed.managed s.peer begun
 
 -- the graph of now
 abbrev pub linked_graph : Linkage → Graph

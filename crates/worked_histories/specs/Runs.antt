@@ -2,7 +2,7 @@
 -- replays to the next one.
 use Rattle.std.specs.Prelude.{List, [], ◌∷◌}
 use Rattle.joint_model.specs.First.{FirstLinkage, opening_first, first_after}
-use Rattle.joint_model.specs.Joined.{joint_of}
+use Rattle.joint_model.specs.Joined.{joint_since}
 use Rattle.joint_model.specs.Joint.{Joint, Graph, opening, graph_of}
 use Rattle.joint_model.specs.Linked.{joint_projection}
 use Rattle.joint_model.specs.Run.{Moment, IsRun}
@@ -17,7 +17,7 @@ use Rattle.worked_histories.specs.Surfaced.{disposed_and_surfaced}
 
 -- the joint state in the form of the first steps
 abbrev pub first_joint : FirstLinkage → Graph → Joint
-first_joint s begun = joint_of s.base.managed.managed s.base.peer begun
+first_joint s begun = joint_since s.base.managed.managed s.base.peer begun
 
 -- the graph that stood at the last begin, after an entry
 abbrev pub first_begun : Graph → FirstLinkage → Noted → Graph
