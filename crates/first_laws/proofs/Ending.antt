@@ -1,7 +1,7 @@
 -- A resolution is sound and ends a complete cycle. Nothing that it frees is reached: from outside the dead part no edge leads into
 -- it, and a row that a live peer leads to is a kept candidate. A candidate that it frees has a swept peer; both were unreached at the
 -- begin, and just before the sweep. And a candidate that was unreached at the begin is freed, with its peer.
-use Rattle.std.proofs.Common.{◌≡◌, ℕ, ◌<◌, inl, inr, Bool, List, [], ◌∷◌, ◌++◌, length, Option, Some, refl, sym, ap, subst, ◌∙◌, arith}
+use Rattle.std.proofs.Common.{◌≡◌, ℕ, ◌<◌, inl, inr, List, [], ◌∷◌, ◌++◌, length, Option, Some, refl, sym, ap, subst, ◌∙◌, arith}
 use Rattle.std.specs.Prelude.{Contains}
 use Rattle.std.proofs.lemmas.List.Elements.{Contains-append_left, Contains-append_right}
 use Rattle.std.proofs.lemmas.Option.{slice_get_within}
@@ -20,7 +20,7 @@ use Rattle.joint_model.specs.ManagedReplay.{MayResolve}
 use Rattle.joint_model.specs.PeerReplay.{PeerReplay}
 use Rattle.joint_model.specs.Peers.{Peers, peer_of}
 use Rattle.joint_model.specs.Run.{Moment}
-use Rattle.joint_model.specs.Told.{resolution_of}
+use Rattle.joint_model.specs.Told.{resolution_of, Answer}
 use Rattle.joint_model.proofs.WalkLemmas.{Reached-keeps, Reaches-self, Reaches-then}
 use Rattle.joint_model.proofs.Members.{Contains-decided}
 use Rattle.joint_model.proofs.Deciding.{some-same}
@@ -99,7 +99,7 @@ freed-candidate_judged past m b s taken p o c freed e r t at x f w =
       };
     }
 
-same-freed : (a a' : List Bool) (f f' : List ℕ) → resolution_of a f ≡ resolution_of a' f' → f' ≡ f
+same-freed : (a a' : List Answer) (f f' : List ℕ) → resolution_of a f ≡ resolution_of a' f' → f' ≡ f
 same-freed a a' f f' e = cc
 
 same-cycle : (k : Cycle) (n : ℕ) → op.Resolve k ≡ op.Resolve record { 0 = n } → k.0 ≡ n
@@ -152,7 +152,7 @@ cycle-complete run b s taken p o c freed end r is t ends =
       | inr k ↦ Contains-append_right b.peers.heap.freed r.swept.swept q ((r.swept.exact.exact q).1 (record { made = made; kept = k }, n))
     ]
 
-pub resolve-traces : (past : List Moment) (b : Graph) (s : FirstLinkage) (number index : ℕ) (k : Cycle) (alive : List Bool) (freed : List ℕ) (reply : Reply) (cites : Option ℕ) → FirstMayCome s (noted number C index (op.Resolve k) reply cites (resolution_of alive freed)) → IsKept b s → IsTracedAt past b s
+pub resolve-traces : (past : List Moment) (b : Graph) (s : FirstLinkage) (number index : ℕ) (k : Cycle) (alive : List Answer) (freed : List ℕ) (reply : Reply) (cites : Option ℕ) → FirstMayCome s (noted number C index (op.Resolve k) reply cites (resolution_of alive freed)) → IsKept b s → IsTracedAt past b s
     → Traces past b s (noted number C index (op.Resolve k) reply cites (resolution_of alive freed))
 resolve-traces past b s number index k alive freed reply cites may kept traced =
     let n = noted number C index (op.Resolve k) reply cites (resolution_of alive freed) in

@@ -1,6 +1,6 @@
 -- A run that is sound or complete stays so when a moment is put last that is sound or complete itself: what is said of the earlier
 -- places speaks of earlier moments alone, and these stand where they stood.
-use Rattle.std.proofs.Common.{◌≡◌, ℕ, ◌<◌, ◌⊎◌, inl, inr, Bool, List, [], ◌∷◌, ◌++◌, length, Some, sym, ap, subst, ◌∙◌, arith}
+use Rattle.std.proofs.Common.{◌≡◌, ℕ, ◌<◌, ◌⊎◌, inl, inr, List, [], ◌∷◌, ◌++◌, length, Some, sym, ap, subst, ◌∙◌, arith}
 use Rattle.std.specs.Prelude.{Contains, slice_get}
 use Rattle.std.proofs.lemmas.Option.{slice_get_within}
 use Rattle.joint_model.specs.declared.names.Span.{Span}
@@ -11,7 +11,7 @@ use Rattle.joint_model.specs.Headline.{BeginsAt, OwnBeginAt, SweepsAt, SnapsAt, 
 use Rattle.joint_model.specs.Joint.{Row, object, peer, Graph, IsReached, IsReachedIn, graph_of}
 use Rattle.joint_model.specs.Managed.{OpenCycle}
 use Rattle.joint_model.specs.Run.{Moment}
-use Rattle.joint_model.specs.Told.{snap_of, sweep_of, resolution_of}
+use Rattle.joint_model.specs.Told.{snap_of, sweep_of, resolution_of, Answer}
 use Rattle.joint_model.proofs.Numbered.{push-at_cases}
 use Rattle.joint_model.proofs.Deciding.{none_some, some-same}
 use Rattle.first_laws.proofs.Places.{push-at}
@@ -66,18 +66,18 @@ freed_with_peer-grown past m i x w = record { moment = w.moment; there = push-at
 
 -- a moment that is put last is sound: what it frees was unreached, and swept where it is a candidate
 pub record IsSoundMoment (past : List Moment) (m : Moment) : Type 0 where
-  pub candidates : (k x : ℕ) (alive : List Bool) (freed : List ℕ) (c : OpenCycle) → m.noted.entry.made.op ≡ op.Resolve record { 0 = k } → m.noted.told ≡ resolution_of alive freed → Contains freed x → m.before.managed.cycle ≡ Some c → Contains c.candidates x → IsFreedWithPeer (past ++ m ∷ []) (length past) x
+  pub candidates : (k x : ℕ) (alive : List Answer) (freed : List ℕ) (c : OpenCycle) → m.noted.entry.made.op ≡ op.Resolve record { 0 = k } → m.noted.told ≡ resolution_of alive freed → Contains freed x → m.before.managed.cycle ≡ Some c → Contains c.candidates x → IsFreedWithPeer (past ++ m ∷ []) (length past) x
   pub peers : (j p : ℕ) (span : Span) (freed : List ℕ) → m.noted.entry.made.op ≡ op.Sweep → m.noted.entry.made.reply ≡ says.Swept record { 0 = j } span → m.noted.told ≡ sweep_of freed → Contains freed p
       → (begin : ℕ) × (begin < length past) × BeginsAt (past ++ m ∷ []) begin j × WasUnreached (past ++ m ∷ []) begin (length past) (peer p)
   pub snapped : (k x : ℕ) (freed candidates dead : List ℕ) → m.noted.entry.made.op ≡ op.Snap record { 0 = k } → m.noted.told ≡ snap_of freed candidates dead → Contains freed x → IsReached m.before (object x) → ⊥
-  pub resolved : (k x : ℕ) (alive : List Bool) (freed : List ℕ) → m.noted.entry.made.op ≡ op.Resolve record { 0 = k } → m.noted.told ≡ resolution_of alive freed → Contains freed x → IsReached m.before (object x) → ⊥
+  pub resolved : (k x : ℕ) (alive : List Answer) (freed : List ℕ) → m.noted.entry.made.op ≡ op.Resolve record { 0 = k } → m.noted.told ≡ resolution_of alive freed → Contains freed x → IsReached m.before (object x) → ⊥
 
 -- and complete: a resolution ends a complete cycle
 abbrev pub IsCompleteMoment : List Moment → Moment → Type 0
-IsCompleteMoment past m = (k : ℕ) (alive : List Bool) (freed : List ℕ) → m.noted.entry.made.op ≡ op.Resolve record { 0 = k } → m.noted.told ≡ resolution_of alive freed → IsCompleteCycle (past ++ m ∷ []) (length past) k freed
+IsCompleteMoment past m = (k : ℕ) (alive : List Answer) (freed : List ℕ) → m.noted.entry.made.op ≡ op.Resolve record { 0 = k } → m.noted.told ≡ resolution_of alive freed → IsCompleteCycle (past ++ m ∷ []) (length past) k freed
 
 -- a resolution stands in the past, or it is the last moment
-resolves-cases : (past : List Moment) (m : Moment) (i k : ℕ) (freed : List ℕ) → ResolvesAt (past ++ m ∷ []) i k freed → ResolvesAt past i k freed ⊎ ((i ≡ length past) × (m.noted.entry.made.op ≡ op.Resolve record { 0 = k }) × ((alive : List Bool) × (m.noted.told ≡ resolution_of alive freed)))
+resolves-cases : (past : List Moment) (m : Moment) (i k : ℕ) (freed : List ℕ) → ResolvesAt (past ++ m ∷ []) i k freed → ResolvesAt past i k freed ⊎ ((i ≡ length past) × (m.noted.entry.made.op ≡ op.Resolve record { 0 = k }) × ((alive : List Answer) × (m.noted.told ≡ resolution_of alive freed)))
 resolves-cases past m i k freed w = elim (push-at_cases past m i w.moment w.there) [
   | inl e ↦ inl (record { moment = w.moment; there = e; event = w.event; alive = w.alive; frees = w.frees })
   | inr e ↦ inr (e.0, ap (λ (z : Moment). z.noted.entry.made.op) e.1 ∙ w.event, (w.alive, ap (λ (z : Moment). z.noted.told) e.1 ∙ w.frees))

@@ -12,7 +12,7 @@ use Rattle.joint_model.specs.declared.events.Op.TheVariants as op
 use Rattle.joint_model.specs.declared.events.Reply.{Reply}
 use Rattle.joint_model.specs.Control.{Stand, Opened, restoring, peer_of_row}
 use Rattle.joint_model.specs.Cycles.{IsResolution, IsAnsweredAlive, IsOpen}
-use Rattle.joint_model.specs.First.{FirstLinkage, FirstMayCome, FirstResolve, first_answers}
+use Rattle.joint_model.specs.First.{FirstLinkage, FirstMayCome, FirstResolve, first_answers, first_answer}
 use Rattle.joint_model.specs.Heaps.{is_freed, numbered_at}
 use Rattle.joint_model.specs.Joined.{joint_since, removed_from, is_owned}
 use Rattle.joint_model.specs.Joint.{Graph}
@@ -21,7 +21,7 @@ use Rattle.joint_model.specs.ManagedReplay.{MayResolve}
 use Rattle.joint_model.specs.PeerReplay.{PeerReplay, TableRow}
 use Rattle.joint_model.specs.Peers.{Issued, peer_of}
 use Rattle.joint_model.specs.Run.{IsKept as IsKeptCandidate, removed_all}
-use Rattle.joint_model.specs.Told.{resolution_of}
+use Rattle.joint_model.specs.Told.{resolution_of, said_alive, said_cleared, Answer}
 use Rattle.joint_model.proofs.WalkLemmas.{Reaches-self}
 use Rattle.joint_model.proofs.Members.{Contains-at, at-Contains, Contains-decided}
 use Rattle.joint_model.proofs.Numbered.{numbered-within, numbered-made}
@@ -35,7 +35,7 @@ use Rattle.first_laws.proofs.Places.{places-same}
 use Rattle.first_laws.proofs.Sweeping.{twin-swept, swept-unreached, kept-apart, unreached-dead}
 
 -- the driver's stand, and the answers
-pub resolve-restoring : (stand : Stand) (k : ℕ) (answers alive : List Bool) (freed : List ℕ) → FirstResolve stand k answers (resolution_of alive freed) → (o : Opened) × (stand ≡ restoring o []) × (o.cycle ≡ k) × (alive ≡ answers)
+pub resolve-restoring : (stand : Stand) (k : ℕ) (answers alive : List Answer) (freed : List ℕ) → FirstResolve stand k answers (resolution_of alive freed) → (o : Opened) × (stand ≡ restoring o []) × (o.cycle ≡ k) × (alive ≡ answers)
 resolve-restoring (restoring o []) k answers alive freed a = (o, refl, a.0, a.1)
 resolve-restoring _ k answers alive freed a = absurd a
 
@@ -49,15 +49,15 @@ pub issued-peer : (issued : List Issued) (h : ℕ) (i : Issued) → numbered_at 
 issued-peer issued h i e = ap (λ o. elim o [ None ↦ None | Some j ↦ Some j.peer ]) e
 
 -- whether a row is answered alive
-abbrev answer_of : Managed → PeerReplay → ℕ → Bool
-answer_of s p x = not (is_freed p.peers.heap (peer_of_row s p.peers.issued x))
+abbrev answer_of : Managed → PeerReplay → ℕ → Answer
+answer_of s p x = first_answer (is_freed p.peers.heap (peer_of_row s p.peers.issued x))
 
-not-true : (b : Bool) → not b ≡ true → b ≡ false
-not-true true e = cc
-not-true false e = refl
+unfreed-by : (b : Bool) → first_answer b ≡ said_alive → b ≡ false
+unfreed-by true e = absurd (let f : said_cleared ≡ said_alive = e in cc)
+unfreed-by false e = refl
 
-some-true : (b : Bool) → Some b ≡ Some true → b ≡ true
-some-true b e = cc
+some-alive : (b : Answer) → Some b ≡ Some said_alive → b ≡ said_alive
+some-alive b e = cc
 
 answered-kept : (s : Managed) (taken : List ℕ) (p : PeerReplay) (b : Graph) (c : OpenCycle) → AreHandlesKept s taken p → IsCut s c → (x : ℕ) → IsAnsweredAlive c.candidates (map (answer_of s p) c.candidates) x → IsKeptCandidate (joint_since s p b) c x
 answered-kept s taken p b c k cut x a =
@@ -65,8 +65,8 @@ answered-kept s taken p b c k cut x a =
     let bridge = cut.bridges x member in
     let i = k.adopted_issued bridge.0 (k.owner_adopted x bridge.0 bridge.1) in
     let leads = issued-peer p.peers.issued bridge.0 i.0 i.1 in
-    let told : Some (answer_of s p x) ≡ Some true = sym (slice_get-map (answer_of s p) c.candidates a.0 ∙ ap (option_map (answer_of s p)) a.1) ∙ a.2 in
-    let unfreed = not-true (is_freed p.peers.heap (peer_of_row s p.peers.issued x)) (some-true (answer_of s p x) told) in
+    let told : Some (answer_of s p x) ≡ Some said_alive = sym (slice_get-map (answer_of s p) c.candidates a.0 ∙ ap (option_map (answer_of s p)) a.1) ∙ a.2 in
+    let unfreed = unfreed-by (is_freed p.peers.heap (peer_of_row s p.peers.issued x)) (some-alive (answer_of s p x) told) in
     record {
       candidate = member;
       handle = bridge.0;
@@ -79,11 +79,11 @@ answered-kept s taken p b c k cut x a =
 kept-answered : (s : Managed) (p : PeerReplay) (b : Graph) (c : OpenCycle) (x : ℕ) → IsKeptCandidate (joint_since s p b) c x → IsAnsweredAlive c.candidates (map (answer_of s p) c.candidates) x
 kept-answered s p b c x k =
     let at = at-Contains c.candidates x k.candidate in
-    let same : answer_of s p x ≡ true = ap (λ q. not (is_freed p.peers.heap q)) (row-peer s p.peers.issued x k.handle k.peer k.holds k.leads) ∙ ap not (unfreed-live p.peers.heap k.peer k.unfreed) in
+    let same : answer_of s p x ≡ said_alive = ap (λ q. first_answer (is_freed p.peers.heap q)) (row-peer s p.peers.issued x k.handle k.peer k.holds k.leads) ∙ ap first_answer (unfreed-live p.peers.heap k.peer k.unfreed) in
     (at.0, at.1, slice_get-map (answer_of s p) c.candidates at.0 ∙ (ap (option_map (answer_of s p)) at.1 ∙ ap Some same))
 
 -- so the joint machine's resolution is the managed side's
-resolution-kept : (s : Managed) (taken : List ℕ) (p : PeerReplay) (b : Graph) (c : OpenCycle) (alive : List Bool) (freed : List ℕ) → AreHandlesKept s taken p → IsCut s c → alive ≡ map (answer_of s p) c.candidates
+resolution-kept : (s : Managed) (taken : List ℕ) (p : PeerReplay) (b : Graph) (c : OpenCycle) (alive : List Answer) (freed : List ℕ) → AreHandlesKept s taken p → IsCut s c → alive ≡ map (answer_of s p) c.candidates
     → IsResolution s c.dead (IsAnsweredAlive c.candidates alive) freed → IsResolution s c.dead (IsKeptCandidate (joint_since s p b) c) freed
 resolution-kept s taken p b c alive freed k cut e r = record {
   rise = r.rise;
@@ -198,7 +198,7 @@ owners-resolved b s taken p c freed r x h q w l f =
       kept-apart b s taken p (joint_since s p b) c r.handles r.swept refl refl x unreached,
     ))
 
-pub resolution-here : (b : Graph) (s : Managed) (taken : List ℕ) (p : PeerReplay) (o : Opened) (k : ℕ) (cycle : OpenCycle) (alive : List Bool) (freed : List ℕ) → AreHandlesKept s taken p → IsSwept b s p → IsOpenCut s o → IsOpen s k cycle → alive ≡ first_answers s p
+pub resolution-here : (b : Graph) (s : Managed) (taken : List ℕ) (p : PeerReplay) (o : Opened) (k : ℕ) (cycle : OpenCycle) (alive : List Answer) (freed : List ℕ) → AreHandlesKept s taken p → IsSwept b s p → IsOpenCut s o → IsOpen s k cycle → alive ≡ first_answers s p
     → IsResolution s cycle.dead (IsAnsweredAlive cycle.candidates alive) freed → Resolution b s taken p cycle freed
 resolution-here b s taken p o k cycle alive freed handles swept opened is e r =
     let same : opened.cycle ≡ cycle = some-same opened.cycle cycle (sym opened.stands ∙ is.0) in
@@ -206,7 +206,7 @@ resolution-here b s taken p o k cycle alive freed handles swept opened is e r =
     let answers : alive ≡ map (answer_of s p) cycle.candidates = e ∙ ap (λ (z : Option OpenCycle). map (answer_of s p) (elim z [ None ↦ [] | Some c ↦ c.candidates ])) is.0 in
     record { handles = handles; swept = swept; cut = cut; resolution = resolution-kept s taken p b cycle alive freed handles cut answers r }
 
-pub resolve-steps : (b : Graph) (s : FirstLinkage) (number index : ℕ) (k : Cycle) (alive : List Bool) (freed : List ℕ) (reply : Reply) (cites : Option ℕ)
+pub resolve-steps : (b : Graph) (s : FirstLinkage) (number index : ℕ) (k : Cycle) (alive : List Answer) (freed : List ℕ) (reply : Reply) (cites : Option ℕ)
     → FirstMayCome s (record { entry = record { number = number; made = record { caller = C; index = index; op = op.Resolve k; reply = reply; cites = cites } }; told = resolution_of alive freed }) → IsKept b s
     → Steps b s (record { entry = record { number = number; made = record { caller = C; index = index; op = op.Resolve k; reply = reply; cites = cites } }; told = resolution_of alive freed })
 resolve-steps b s number index k alive freed reply cites may kept =

@@ -1,6 +1,6 @@
 -- At a resolution: a candidate that was never reached from its snapshot to the own sweep has a freed peer, so it doesn't stay;
 -- so the cycle is complete.
-use Rattle.std.proofs.Common.{◌≡◌, ℕ, inl, inr, Bool, List, ◌++◌, length, sym, subst, ◌∙◌}
+use Rattle.std.proofs.Common.{◌≡◌, ℕ, inl, inr, List, ◌++◌, length, sym, subst, ◌∙◌}
 use Rattle.std.specs.Prelude.{Contains}
 use Rattle.std.proofs.lemmas.Option.{same_Some, slice_get_within}
 use Rattle.joint_model.specs.Control.{Opened}
@@ -18,8 +18,9 @@ use Rattle.joint_laws.proofs.JointRuns.{Stands}
 use Rattle.joint_model.proofs.Members.{Contains-decided}
 use Rattle.joint_laws.proofs.MarkSteps.{IsSweptWatch}
 use Rattle.joint_laws.proofs.Watching.{get-more}
+use Rattle.joint_model.specs.Told.{Answer}
 
-module _ (s : Linkage) (w : Stands s) (past more : List Moment) (o : Opened) (answers : List Bool) (d : IsRestored s.managed s.peer o answers) (b : IsBehindSweep past s o)
+module _ (s : Linkage) (w : Stands s) (past more : List Moment) (o : Opened) (answers : List Answer) (d : IsRestored s.managed s.peer o answers) (b : IsBehindSweep past s o)
     (resolved : List ℕ) (p : IsResolution s.managed.managed d.cycle.dead (IsAnsweredAlive d.cycle.candidates answers) resolved) where
   same_cycle : b.cycle ≡ d.cycle
   same_cycle = same_Some b.cycle d.cycle (sym b.open_now ∙ d.opened.cycle)

@@ -1,6 +1,6 @@
 -- A candidate's handle is weakened or restored: the other handles keep their rows, and owners and what threads have in hand
 -- stay kept. And what an entry that leaves the peers' heap and the issued handles alone does to what threads have in hand.
-use Rattle.std.proofs.Common.{◌≡◌, ◌≢◌, ℕ, zero, suc, ◌+◌, ◌≤◌, ◌⊎◌, inl, inr, Bool, true, false, List, [], ◌∷◌, ◌++◌, length, Option, Some, None, refl, sym, ap, subst, ◌∙◌, arith, length-append}
+use Rattle.std.proofs.Common.{◌≡◌, ◌≢◌, ℕ, zero, suc, ◌+◌, ◌≤◌, ◌⊎◌, inl, inr, List, [], ◌∷◌, ◌++◌, length, Option, Some, None, refl, sym, ap, subst, ◌∙◌, arith, length-append}
 use Rattle.std.specs.Prelude.{Contains, slice_get}
 use Rattle.std.proofs.lemmas.Bool.{cases_eq}
 use Rattle.std.proofs.lemmas.Option.{same_Some, slice_get_within, get_or_from_slice_get}
@@ -18,6 +18,7 @@ use Rattle.joint_model.proofs.Deciding.{none_some}
 use Rattle.joint_model.proofs.HeapLemmas.{candidates_of-open}
 use Rattle.joint_laws.proofs.HandlesAlike.{HandlesAlike, held-on, row_of-on, row_of-back, IsLoose-peer, IsGone-peer}
 use Rattle.joint_laws.proofs.DriverPeerSteps.{Only, rising-once}
+use Rattle.joint_model.specs.Told.{said_alive, said_cleared, Answer}
 
 -- what threads have in hand, where slots, fields and the issued handles stay
 pub callers_same : (touched : ℕ → Type 0) (r : ManagedReplay) (s t : PeerReplay) → HandlesAlike touched s t → t.peers.issued ≡ s.peers.issued → ((p : ℕ) → InSlot t.peers.heap p → InSlot s.peers.heap p) → ((x : ℕ) → IsLive t.peers.heap x → IsLive s.peers.heap x)
@@ -112,23 +113,23 @@ module _ (r : ManagedReplay) (s t : PeerReplay) (c : OpenCycle) (place m h : ℕ
       ]
 
 -- it was restored, and this was the answer
-pushed-old : (answers : List Bool) (b : Bool) (l : ℕ) (x : Bool) → slice_get answers l ≡ Some x → slice_get (answers ++ b ∷ []) l ≡ Some x
+pushed-old : (answers : List Answer) (b : Answer) (l : ℕ) (x : Answer) → slice_get answers l ≡ Some x → slice_get (answers ++ b ∷ []) l ≡ Some x
 pushed-old [] b l x e = absurd (none_some x e)
 pushed-old (y ∷ ys) b zero x e = e
 pushed-old (y ∷ ys) b (suc l) x e = pushed-old ys b l x e
 
-pushed-new : (answers : List Bool) (b : Bool) → slice_get (answers ++ b ∷ []) (length answers) ≡ Some b
+pushed-new : (answers : List Answer) (b : Answer) → slice_get (answers ++ b ∷ []) (length answers) ≡ Some b
 pushed-new [] b = refl
 pushed-new (y ∷ ys) b = pushed-new ys b
 
-module _ (r : ManagedReplay) (s t : PeerReplay) (c : OpenCycle) (answers : List Bool) (m h : ℕ) (k : IsReplayKept r) (o : AreOwnersKept r s) (e : r.managed.cycle ≡ Some c) (at : slice_get c.candidates (length answers) ≡ Some m) (q : Holds r.managed m h) (a : HandlesAlike (Only h) s t) where
-  pub handles_restored : (b : Bool) → ForCandidates r.managed c (IsRestoredBy s answers) → (((b ≡ true) × HasStrength t h strong) ⊎ ((b ≡ false) × IsGone t h)) → ForCandidates r.managed c (IsRestoredBy t (answers ++ b ∷ []))
+module _ (r : ManagedReplay) (s t : PeerReplay) (c : OpenCycle) (answers : List Answer) (m h : ℕ) (k : IsReplayKept r) (o : AreOwnersKept r s) (e : r.managed.cycle ≡ Some c) (at : slice_get c.candidates (length answers) ≡ Some m) (q : Holds r.managed m h) (a : HandlesAlike (Only h) s t) where
+  pub handles_restored : (b : Answer) → ForCandidates r.managed c (IsRestoredBy s answers) → (((b ≡ said_alive) × HasStrength t h strong) ⊎ ((b ≡ said_cleared) × IsGone t h)) → ForCandidates r.managed c (IsRestoredBy t (answers ++ b ∷ []))
   handles_restored b all now l x g f w = elim (cases_eq g h) [
     | inl same ↦ here same
     | inr ne ↦ elim (all l x g f w) [
-      | inl u ↦ inl (pushed-old answers b l true u.0, a.on g strong (o.held_ones x g w) ne u.1)
+      | inl u ↦ inl (pushed-old answers b l said_alive u.0, a.on g strong (o.held_ones x g w) ne u.1)
       | inr u ↦ elim u [
-        | inl v ↦ inr (inl (pushed-old answers b l false v.0, IsGone-peer (Only h) r s t a g ne (o.held_ones x g w) v.1))
+        | inl v ↦ inr (inl (pushed-old answers b l said_cleared v.0, IsGone-peer (Only h) r s t a g ne (o.held_ones x g w) v.1))
         | inr v ↦ inr (inr (later ne v.0, a.on g weak (o.held_ones x g w) ne v.1))
       ]
     ]

@@ -1,6 +1,6 @@
 -- The driver's managed events: a snapshot opens a cycle whose candidates' handles are all strong; a resolution frees exactly
 -- the candidates whose restore answered cleared, and what they alone lead to; an abandonment leaves all handles strong.
-use Rattle.std.proofs.Common.{◌≡◌, ℕ, ◌+◌, ◌⊎◌, inl, inr, Bool, true, false, List, [], Option, Some, None, refl, sym, ap, subst, ◌∙◌, arith}
+use Rattle.std.proofs.Common.{◌≡◌, ℕ, ◌+◌, ◌⊎◌, inl, inr, false, List, [], Option, Some, None, refl, sym, ap, subst, ◌∙◌, arith}
 use Rattle.std.specs.Prelude.{Contains, slice_get}
 use Rattle.std.proofs.lemmas.Option.{same_Some, slice_get_within, slice_get-get_or}
 use Rattle.std.proofs.lemmas.List.Elements.{Contains-append_right}
@@ -20,6 +20,7 @@ use Rattle.joint_model.proofs.Deciding.{none_some}
 use Rattle.joint_model.proofs.HeapLemmas.{IsLive-before, IsLive-left, candidates_of-open}
 use Rattle.joint_laws.proofs.Registered.{without_twins-parts, without_twins-keeps}
 use Rattle.joint_laws.proofs.ManagedKeeping.{bridge_stays}
+use Rattle.joint_model.specs.Told.{said_alive, said_cleared, Answer}
 
 abbrev candidates_by : Option OpenCycle → List ℕ
 candidates_by o = elim o [ None ↦ [] | Some c ↦ c.candidates ]
@@ -72,7 +73,7 @@ module _ (r : ManagedReplay) (s : PeerReplay) (n : ℕ) (freed candidates dead :
   }
 
 -- the candidates' answers tell which of their peers are unfreed
-module _ (r : ManagedReplay) (s : PeerReplay) (op : Opened) (answers : List Bool) (k : IsReplayKept r) (pk : IsPeerKept s) (o : AreOwnersKept r s) (d : IsRestored r s op answers) where
+module _ (r : ManagedReplay) (s : PeerReplay) (op : Opened) (answers : List Answer) (k : IsReplayKept r) (pk : IsPeerKept s) (o : AreOwnersKept r s) (d : IsRestored r s op answers) where
   abbrev c : OpenCycle
   c = d.cycle
 
@@ -83,35 +84,35 @@ module _ (r : ManagedReplay) (s : PeerReplay) (op : Opened) (answers : List Bool
   pub row_of : (m h : ℕ) → Holds r.managed m h → (p : ℕ) × IsRowOf r.managed s.peers.issued m p
   row_of m h q = let i = o.held_ones m h q in (i.0.peer, record { handle = h; holds = q; row = i.0; is_issued = i.1; leads = refl })
 
-  pub alive-live : (l m p : ℕ) → slice_get c.candidates l ≡ Some m → slice_get answers l ≡ Some true → IsRowOf r.managed s.peers.issued m p → IsLive s.peers.heap p
+  pub alive-live : (l m p : ℕ) → slice_get c.candidates l ≡ Some m → slice_get answers l ≡ Some said_alive → IsRowOf r.managed s.peers.issued m p → IsLive s.peers.heap p
   alive-live l m p e a w = elim (d.handles l m w.handle e w.holds) [
     | inl t ↦ strong-live m p w t.1
     | inr t ↦ elim t [
-      | inl u ↦ absurd (let f : true ≡ false = same_Some true false (sym a ∙ u.0) in cc)
-      | inr u ↦ absurd (omega (arith, u.0, slice_get_within answers l true a))
+      | inl u ↦ absurd (let f : said_alive ≡ said_cleared = same_Some said_alive said_cleared (sym a ∙ u.0) in cc)
+      | inr u ↦ absurd (omega (arith, u.0, slice_get_within answers l said_alive a))
     ]
   ]
 
-  pub cleared-freed : (l m p : ℕ) → slice_get c.candidates l ≡ Some m → slice_get answers l ≡ Some false → IsRowOf r.managed s.peers.issued m p → Contains s.peers.heap.freed p
+  pub cleared-freed : (l m p : ℕ) → slice_get c.candidates l ≡ Some m → slice_get answers l ≡ Some said_cleared → IsRowOf r.managed s.peers.issued m p → Contains s.peers.heap.freed p
   cleared-freed l m p e a w = elim (d.handles l m w.handle e w.holds) [
-    | inl t ↦ absurd (let f : false ≡ true = same_Some false true (sym a ∙ t.0) in cc)
+    | inl t ↦ absurd (let f : said_cleared ≡ said_alive = same_Some said_cleared said_alive (sym a ∙ t.0) in cc)
     | inr t ↦ elim t [
       | inl u ↦ subst (λ z. Contains s.peers.heap.freed z) w.leads (u.1.freed w.row w.is_issued)
-      | inr u ↦ absurd (omega (arith, u.0, slice_get_within answers l false a))
+      | inr u ↦ absurd (omega (arith, u.0, slice_get_within answers l said_cleared a))
     ]
   ]
 
   -- each candidate was answered
-  pub answered : (l m : ℕ) → slice_get c.candidates l ≡ Some m → (slice_get answers l ≡ Some true) ⊎ (slice_get answers l ≡ Some false)
+  pub answered : (l m : ℕ) → slice_get c.candidates l ≡ Some m → (slice_get answers l ≡ Some said_alive) ⊎ (slice_get answers l ≡ Some said_cleared)
   answered l m e = by (slice_get answers l) refl
     where
-      by : (x : Option Bool) → slice_get answers l ≡ x → (slice_get answers l ≡ Some true) ⊎ (slice_get answers l ≡ Some false)
-      by (Some true) q = inl q
-      by (Some false) q = inr q
+      by : (x : Option Answer) → slice_get answers l ≡ x → (slice_get answers l ≡ Some said_alive) ⊎ (slice_get answers l ≡ Some said_cleared)
+      by (Some said_alive) q = inl q
+      by (Some said_cleared) q = inr q
       by None q = absurd (past q)
         where
           past : slice_get answers l ≡ None → ⊥
-          past w = (let t = slice_get-get_or answers l true (omega (arith, slice_get_within c.candidates l m e, d.all)) in none_some _ (sym w ∙ t))
+          past w = (let t = slice_get-get_or answers l said_alive (omega (arith, slice_get_within c.candidates l m e, d.all)) in none_some _ (sym w ∙ t))
 
   module _ (freed : List ℕ) (p : IsResolution r.managed c.dead (IsAnsweredAlive c.candidates answers) freed) where
     abbrev closing : ManagedReplay

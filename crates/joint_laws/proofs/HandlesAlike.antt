@@ -2,7 +2,7 @@
 -- strong, none is forgotten, and no freed peer comes back. So what both sides keep of owners and of what threads have in
 -- hand stays, as far as no touched handle is concerned.
 use Rattle.std.proofs.Common.{◌≡◌, ℕ, ◌≤◌, ◌⊎◌, inl, inr, List, length, refl, sym, ap, subst, ◌∙◌, arith}
-use Rattle.std.specs.Prelude.{Contains, Bool}
+use Rattle.std.specs.Prelude.{Contains}
 use Rattle.std.proofs.lemmas.Option.{same_Some}
 use Rattle.joint_model.specs.Managed.{Holds}
 use Rattle.joint_model.specs.ManagedReplay.{ManagedReplay}
@@ -10,6 +10,7 @@ use Rattle.joint_model.specs.Peers.{Issued, Strength, strong, weak}
 use Rattle.joint_model.specs.PeerReplay.{PeerReplay}
 use Rattle.joint_laws.specs.PeerInvariants.{IsIssued}
 use Rattle.joint_laws.specs.LinkedInvariants.{HasStrength, IsHeldOne, IsRowOf, AreOwnersKept, IsLoose, IsGone, IsWeakenedBy, IsRestoredBy}
+use Rattle.joint_model.specs.Told.{Answer}
 
 pub record HandlesAlike (touched : ℕ → Type 0) (s t : PeerReplay) : Type 0 where
   pub issued_on : (h : ℕ) (i : Issued) → IsIssued s.peers.issued h i → IsIssued t.peers.issued h i
@@ -66,7 +67,7 @@ module _ (touched : ℕ → Type 0) (r : ManagedReplay) (s t : PeerReplay) (a : 
   pub weakened-peer : (count l h : ℕ) → (touched h → ⊥) → IsHeldOne s h → IsWeakenedBy s count l h → IsWeakenedBy t count l h
   weakened-peer count l h n w q = elim q [ inl b ↦ inl (b.0, a.on h weak w n b.1) | inr b ↦ inr (b.0, a.on h strong w n b.1) ]
 
-  pub restored-peer : (answers : List Bool) (l h : ℕ) → (touched h → ⊥) → IsHeldOne s h → IsRestoredBy s answers l h → IsRestoredBy t answers l h
+  pub restored-peer : (answers : List Answer) (l h : ℕ) → (touched h → ⊥) → IsHeldOne s h → IsRestoredBy s answers l h → IsRestoredBy t answers l h
   restored-peer answers l h n w q = elim q [
     | inl b ↦ inl (b.0, a.on h strong w n b.1)
     | inr b ↦ elim b [

@@ -20,7 +20,7 @@ use Rattle.joint_model.specs.Managed.{Managed, OpenCycle, managed_line, adopted,
 use Rattle.joint_model.specs.ManagedReplay.{ManagedReplay, MayResolve, registered, adopt_by, meet_by, give_by}
 use Rattle.joint_model.specs.PeerReplay.{PeerReplay, row_of}
 use Rattle.joint_model.specs.Run.{JointEvent, IsComputed, removed_all, on_managed}
-use Rattle.joint_model.specs.Told.{Told, nothing, snap_of, contraction_of, references_of, slice_of, sweep_of, resolution_of, phase_of}
+use Rattle.joint_model.specs.Told.{Told, nothing, snap_of, contraction_of, references_of, slice_of, sweep_of, resolution_of, phase_of, Answer}
 use Rattle.joint_model.proofs.HeapLemmas.{adopt_by-managed, adopt_by-reply}
 use Rattle.joint_laws.specs.JointAgreement.{IsOwned, AreFlags, Agrees}
 use Rattle.joint_laws.specs.LinkedInvariants.{AreOwnersKept, doing_in}
@@ -92,7 +92,7 @@ module _ (s : Linkage) (k : Of s) (flags : List Bool) (jm : Option JointMarking)
   goes-as : (m n : Managed) → n ≡ m → GoesOn r.managed m → GoesOn r.managed n
   goes-as m n e g = subst (λ z. GoesOn r.managed z) (sym e) g
 
-  resolve-by : (x : Stand) (n : ℕ) (alive : List Bool) (freed : List ℕ) → AreKept r q ds x → MayResolveNow x n cites (resolution_of alive freed) → MayResolve r n alive freed → reply ≡ resolve_reply r.managed freed
+  resolve-by : (x : Stand) (n : ℕ) (alive : List Answer) (freed : List ℕ) → AreKept r q ds x → MayResolveNow x n cites (resolution_of alive freed) → MayResolve r n alive freed → reply ≡ resolve_reply r.managed freed
       → (kn : Cycle) → kn.0 ≡ n → Steps r.managed q flags jm C (op.Resolve kn) reply (resolution_of alive freed) (resolved_state r.managed freed) q
   resolve-by (restored o answers clear) n alive freed kx w p e kn same_n =
       let same_cycle : p.cycle ≡ kx.driver.cycle = one_cycle r.managed p.cycle kx.driver.cycle p.open_cycle.0 kx.driver.opened.cycle in

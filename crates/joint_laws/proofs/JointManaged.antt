@@ -27,6 +27,7 @@ use Rattle.joint_laws.proofs.DriverPeerSteps.{holds-handle_of}
 use Rattle.joint_laws.proofs.JointFlags.{IsHere, AreFlags-same, AreFlags-removed}
 use Rattle.joint_laws.proofs.LinkedQuiet.{AreKept}
 use Rattle.joint_model.specs.Joined.{joint_of}
+use Rattle.joint_model.specs.Told.{Answer}
 
 strong-table : (s : PeerReplay) (h : ℕ) → HasStrength s h strong → IsInTable s h
 strong-table s h t = (t.0, t.1)
@@ -107,7 +108,7 @@ into-handles m (y ∷ ys) x h c e = by (handle_of m y) refl (λ d. into-handles 
     ]
 
 -- a resolution
-module _ (r : ManagedReplay) (s : PeerReplay) (ds : List Doing) (op : Opened) (answers : List Bool) (clear : ℕ) (k : AreKept r s ds (restored op answers clear)) (flags : List Bool) (jm : Option JointMarking) (fl : AreFlags r.managed s flags) (freed : List ℕ) where
+module _ (r : ManagedReplay) (s : PeerReplay) (ds : List Doing) (op : Opened) (answers : List Answer) (clear : ℕ) (k : AreKept r s ds (restored op answers clear)) (flags : List Bool) (jm : Option JointMarking) (fl : AreFlags r.managed s flags) (freed : List ℕ) where
   abbrev v : IsRestored r s op answers
   v = k.driver
 

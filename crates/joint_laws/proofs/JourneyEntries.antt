@@ -20,7 +20,7 @@ use Rattle.joint_model.specs.Managed.{OpenCycle}
 use Rattle.joint_model.specs.ManagedReplay.{MayResolve}
 use Rattle.joint_model.specs.PeerReplay.{Marking, begun, swept, SweepAllows}
 use Rattle.joint_model.specs.Run.{Moment}
-use Rattle.joint_model.specs.Told.{Told, Noted, snap_of, contraction_of, sweep_of, resolution_of}
+use Rattle.joint_model.specs.Told.{Told, Noted, snap_of, contraction_of, sweep_of, resolution_of, Answer}
 use Rattle.joint_laws.specs.LinkedInvariants.{IsDriverKept}
 use Rattle.joint_laws.proofs.AtResolutions.{complete-cycle}
 use Rattle.joint_laws.proofs.Journeys.{way-next, way-rests}
@@ -224,7 +224,7 @@ module _ (s : Linkage) (w : Stands s) (past : List Moment) (number line : ℕ) (
   journey-rests C (op.Abandon c) told may v j same k = (let f : true ≡ false = j in cc)
 
   -- at a resolution
-  complete-by : (more : List Moment) (n : ℕ) (alive : List Bool) (freed : List ℕ) (x : Stand) → MayResolveNow x n cites (resolution_of alive freed) → MayResolve s.managed n alive freed → IsDriverKept s.managed s.peer x → Journey past s w x → IsCompleteCycle (past ++ more) (length past) n freed
+  complete-by : (more : List Moment) (n : ℕ) (alive : List Answer) (freed : List ℕ) (x : Stand) → MayResolveNow x n cites (resolution_of alive freed) → MayResolve s.managed n alive freed → IsDriverKept s.managed s.peer x → Journey past s w x → IsCompleteCycle (past ++ more) (length past) n freed
   complete-by more n alive freed (restored o answers clear) a p kept k =
       let same_cycle : p.cycle ≡ kept.cycle = one_cycle s.managed.managed p.cycle kept.cycle p.open_cycle.0 kept.opened.cycle in
       let exact : IsResolution s.managed.managed kept.cycle.dead (IsAnsweredAlive kept.cycle.candidates answers) freed =
@@ -237,11 +237,11 @@ module _ (s : Linkage) (w : Stands s) (past : List Moment) (number line : ℕ) (
   complete-by more n alive freed (marked o) a p kept k = absurd a
   complete-by more n alive freed (restoring o answers) a p kept k = absurd a
 
-  resolved-by : (t : Thread) (c : Cycle) (alive : List Bool) (freed : List ℕ) (more : List Moment) → MayCome s (noted t (op.Resolve c) (resolution_of alive freed)) → Journey past s w d → IsCompleteCycle (past ++ more) (length past) c.0 freed
+  resolved-by : (t : Thread) (c : Cycle) (alive : List Answer) (freed : List ℕ) (more : List Moment) → MayCome s (noted t (op.Resolve c) (resolution_of alive freed)) → Journey past s w d → IsCompleteCycle (past ++ more) (length past) c.0 freed
   resolved-by C c alive freed more may k = complete-by more c.0 alive freed d may.order may.lawful.allowed w.kept.driver k
   resolved-by (M u) c alive freed more may k = absurd may.event
   resolved-by (P u) c alive freed more may k = absurd may.event
 
-  pub journey-resolves : (t : Thread) (o : Op) (told : Told) (n : ℕ) (alive : List Bool) (freed : List ℕ) (more : List Moment) → MayCome s (noted t o told) → o ≡ op.Resolve record { 0 = n } → told ≡ resolution_of alive freed → Journey past s w d → IsCompleteCycle (past ++ more) (length past) n freed
+  pub journey-resolves : (t : Thread) (o : Op) (told : Told) (n : ℕ) (alive : List Answer) (freed : List ℕ) (more : List Moment) → MayCome s (noted t o told) → o ≡ op.Resolve record { 0 = n } → told ≡ resolution_of alive freed → Journey past s w d → IsCompleteCycle (past ++ more) (length past) n freed
   journey-resolves t o told n alive freed more may e f k =
       resolved-by t (record { 0 = n }) alive freed more (subst (λ z. MayCome s (noted t (op.Resolve record { 0 = n }) z)) f (subst (λ z. MayCome s (noted t z told)) e may)) k

@@ -1,5 +1,5 @@
 -- All stays kept at the driver's entries, each of which the driver's order allows in one phase alone.
-use Rattle.std.proofs.Common.{◌≡◌, ℕ, Bool, true, false, List, [], ◌∷◌, ◌++◌, Option, Some, refl, sym, subst, ◌∙◌}
+use Rattle.std.proofs.Common.{◌≡◌, ℕ, true, false, List, [], ◌∷◌, ◌++◌, Option, Some, refl, sym, subst, ◌∙◌}
 use Rattle.std.specs.Prelude.{Contains, slice_get}
 use Rattle.std.proofs.lemmas.Option.{same_Some}
 use Rattle.joint_model.specs.declared.names.Cycle.{Cycle}
@@ -15,7 +15,7 @@ use Rattle.joint_model.specs.Managed.{Managed, OpenCycle, Holds, snapped as snap
 use Rattle.joint_model.specs.ManagedReplay.{ManagedReplay, MayContract, MayResolve, without_twins}
 use Rattle.joint_model.specs.Peers.{strong, weak}
 use Rattle.joint_model.specs.PeerReplay.{PeerReplay, Mirror, mirrored, with_weakened, MayWeaken}
-use Rattle.joint_model.specs.Told.{Told, contraction_of, references_of, resolution_of}
+use Rattle.joint_model.specs.Told.{Told, contraction_of, references_of, resolution_of, Answer}
 use Rattle.joint_laws.specs.ManagedInvariants.{IsReplayKept}
 use Rattle.joint_laws.specs.PeerInvariants.{IsPeerKept}
 use Rattle.joint_laws.specs.LinkedInvariants.{IsBeforeMirror}
@@ -76,7 +76,7 @@ kept-contract r s ds (marked o) n number c reply comps xrefs cites k w p m = abs
 kept-contract r s ds (restoring o answers) n number c reply comps xrefs cites k w p m = absurd w
 kept-contract r s ds (restored o answers clear) n number c reply comps xrefs cites k w p m = absurd w
 
-pub kept-resolve : (r : ManagedReplay) (s : PeerReplay) (ds : List Doing) (d : Stand) (n : ℕ) (alive : List Bool) (freed : List ℕ) (cites : Option ℕ) → AreKept r s ds d → MayResolveNow d n cites (resolution_of alive freed) → MayResolve r n alive freed
+pub kept-resolve : (r : ManagedReplay) (s : PeerReplay) (ds : List Doing) (d : Stand) (n : ℕ) (alive : List Answer) (freed : List ℕ) (cites : Option ℕ) → AreKept r s ds d → MayResolveNow d n cites (resolution_of alive freed) → MayResolve r n alive freed
     → IsReplayKept (record r { managed = resolved_state r.managed freed; registry = without_twins r.registry freed }) → AreKept (record r { managed = resolved_state r.managed freed; registry = without_twins r.registry freed }) s ds idle
 kept-resolve r s ds (restored o answers clear) n alive freed cites k w p m =
     let same_cycle : p.cycle ≡ k.driver.cycle = one_cycle r.managed p.cycle k.driver.cycle p.open_cycle.0 k.driver.opened.cycle in

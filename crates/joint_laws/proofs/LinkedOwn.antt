@@ -9,12 +9,12 @@ use Rattle.joint_model.specs.declared.names.Marking.{Marking as MarkingNumber}
 use Rattle.joint_model.specs.declared.events.Op.TheVariants as op
 use Rattle.joint_model.specs.declared.events.Reply.{Reply}
 use Rattle.joint_model.specs.declared.events.Reply.TheVariants as says
-use Rattle.joint_model.specs.Control.{Doing, Opened, Stand, idle, snapped, contracted, weakening, marked, restoring, restored, candidates_of, stand_after, is_alive, IsCandidateHandle, MayBeginNow, MaySweepNow, MayRestoreNow, MayClearNow}
+use Rattle.joint_model.specs.Control.{Doing, Opened, Stand, idle, snapped, contracted, weakening, marked, restoring, restored, candidates_of, stand_after, answer_in, IsCandidateHandle, MayBeginNow, MaySweepNow, MayRestoreNow, MayClearNow}
 use Rattle.joint_model.specs.Heaps.{IsLive, InSlot, fields_of, answer, numbered_at, numbered_set}
 use Rattle.joint_model.specs.ManagedReplay.{ManagedReplay}
 use Rattle.joint_model.specs.Peers.{strong, peer_of}
 use Rattle.joint_model.specs.PeerReplay.{PeerReplay, TableRow, Marking, row_of, begun, swept, swept_of, restored_by, with_restored, brought_handle, MayRestore, SweepAllows, IsSweep, strong_peers}
-use Rattle.joint_model.specs.Told.{Told, sweep_of}
+use Rattle.joint_model.specs.Told.{Told, sweep_of, said_alive, said_cleared, Answer}
 use Rattle.joint_laws.specs.PeerInvariants.{IsTabled, IsIssued, IsPeerKept}
 use Rattle.joint_laws.specs.LinkedInvariants.{HasStrength, IsHeldOne, IsGone, IsWeakening, IsRestoring}
 use Rattle.joint_model.proofs.Numbered.{slot-named}
@@ -96,12 +96,12 @@ kept-own_sweep r s t ds (restoring o answers) number reply told seen_told cites 
 kept-own_sweep r s t ds (restored o answers clear) number reply told seen_told cites k w a f = absurd w
 
 -- a restore, by whether the handle's peer was freed
-module _ (r : ManagedReplay) (s : PeerReplay) (ds : List Doing) (o : Opened) (answers : List Bool) (h : ℕ) (k : AreKept r s ds (restoring o answers)) (w : IsCandidateHandle r.managed (length answers) h) (row : TableRow) (u : IsTabled s.table h row) where
+module _ (r : ManagedReplay) (s : PeerReplay) (ds : List Doing) (o : Opened) (answers : List Answer) (h : ℕ) (k : AreKept r s ds (restoring o answers)) (w : IsCandidateHandle r.managed (length answers) h) (row : TableRow) (u : IsTabled s.table h row) where
   v : IsRestoring r s o answers
   v = k.driver
 
   -- the other handles keep their rows
-  restore-by : (t : PeerReplay) (x : Option TableRow) (b : Bool) → t.table ≡ numbered_set s.table h x → t.peers ≡ s.peers → t.refs ≡ s.refs → t.mirror ≡ with_restored s.mirror h → IsPeerKept t → (HandlesAlike (Only h) s t → ((b ≡ true) × HasStrength t h strong) ⊎ ((b ≡ false) × IsGone t h))
+  restore-by : (t : PeerReplay) (x : Option TableRow) (b : Answer) → t.table ≡ numbered_set s.table h x → t.peers ≡ s.peers → t.refs ≡ s.refs → t.mirror ≡ with_restored s.mirror h → IsPeerKept t → (HandlesAlike (Only h) s t → ((b ≡ said_alive) × HasStrength t h strong) ⊎ ((b ≡ said_cleared) × IsGone t h))
       → AreKept r t ds (restoring o (answers ++ b ∷ []))
   restore-by t x b table peers refs mirror m now =
       let a = HandlesAlike-only s t h x table (ap (λ z. z.issued) peers) (ap (λ z. z.heap.freed) peers) in
@@ -133,16 +133,16 @@ module _ (r : ManagedReplay) (s : PeerReplay) (ds : List Doing) (o : Opened) (an
       → (let a = if b
       then answer says.Cleared (record s { table = numbered_set s.table h None; mirror = with_restored s.mirror h })
       else answer says.Alive (record s { table = numbered_set s.table h (Some (record row { strength = strong })); mirror = with_restored s.mirror h; marking = brought_handle s.marking (peer_of s.peers.issued h) }) in
-      reply ≡ a.reply → IsPeerKept a.state → AreKept r a.state ds (restoring o (answers ++ is_alive reply ∷ [])))
+      reply ≡ a.reply → IsPeerKept a.state → AreKept r a.state ds (restoring o (answers ++ answer_in reply ∷ [])))
   restored-row true reply e f m =
       let t : PeerReplay = record s { table = numbered_set s.table h None; mirror = with_restored s.mirror h } in
-      subst (λ z. AreKept r t ds (restoring o (answers ++ is_alive z ∷ []))) (sym f) (restore-by t None false refl refl refl refl m (λ a. inr (refl, gone t refl refl e)))
+      subst (λ z. AreKept r t ds (restoring o (answers ++ answer_in z ∷ []))) (sym f) (restore-by t None said_cleared refl refl refl refl m (λ a. inr (refl, gone t refl refl e)))
   restored-row false reply e f m =
       let t : PeerReplay = record s { table = numbered_set s.table h (Some (record row { strength = strong })); mirror = with_restored s.mirror h; marking = brought_handle s.marking (peer_of s.peers.issued h) } in
-      subst (λ z. AreKept r t ds (restoring o (answers ++ is_alive z ∷ []))) (sym f) (restore-by t (Some (record row { strength = strong })) true refl refl refl refl m (λ a. inl (refl, written-strength s t h row (record row { strength = strong }) u refl)))
+      subst (λ z. AreKept r t ds (restoring o (answers ++ answer_in z ∷ []))) (sym f) (restore-by t (Some (record row { strength = strong })) said_alive refl refl refl refl m (λ a. inl (refl, written-strength s t h row (record row { strength = strong }) u refl)))
 
-restored-at : (r : ManagedReplay) (s : PeerReplay) (ds : List Doing) (o : Opened) (answers : List Bool) (h : ℕ) (x : Option TableRow) (row : TableRow) (reply : Reply) → AreKept r s ds (restoring o answers) → IsCandidateHandle r.managed (length answers) h → row_of s h ≡ x → x ≡ Some row
-    → reply ≡ (restored_by s h x).reply → IsPeerKept (restored_by s h x).state → AreKept r (restored_by s h x).state ds (restoring o (answers ++ is_alive reply ∷ []))
+restored-at : (r : ManagedReplay) (s : PeerReplay) (ds : List Doing) (o : Opened) (answers : List Answer) (h : ℕ) (x : Option TableRow) (row : TableRow) (reply : Reply) → AreKept r s ds (restoring o answers) → IsCandidateHandle r.managed (length answers) h → row_of s h ≡ x → x ≡ Some row
+    → reply ≡ (restored_by s h x).reply → IsPeerKept (restored_by s h x).state → AreKept r (restored_by s h x).state ds (restoring o (answers ++ answer_in reply ∷ []))
 restored-at r s ds o answers h None row reply k w e f g m = absurd (none_some row f)
 restored-at r s ds o answers h (Some y) row reply k w e f g m = restored-row r s ds o answers h k w y (slot-named (numbered_at s.table h) y e) y.cleared reply refl g m
 

@@ -1,6 +1,6 @@
 -- The laws at every state. Once all is restored, a candidate that was answered alive has an unfreed peer, so each that it
 -- leads to has, so that one's answer wasn't cleared. And an `adopt` comes only from a thread that has just made its pair.
-use Rattle.std.proofs.Common.{◌≡◌, ℕ, inl, inr, Bool, List, Option, Some, None, refl, sym, subst}
+use Rattle.std.proofs.Common.{◌≡◌, ℕ, inl, inr, List, Option, Some, None, refl, sym, subst}
 use Rattle.std.specs.Prelude.{Contains}
 use Rattle.joint_model.specs.declared.names.Thread.{Thread}
 use Rattle.joint_model.specs.declared.names.Thread.TheVariants.{M, P, C}
@@ -18,7 +18,7 @@ use Rattle.joint_model.specs.Linked.{Linkage, AllMayCome, opening_linkage}
 use Rattle.joint_model.specs.Managed.{OpenCycle, ManagedEdge, IsBridge}
 use Rattle.joint_model.specs.ManagedReplay.{ManagedReplay, registered}
 use Rattle.joint_model.specs.PeerReplay.{PeerReplay}
-use Rattle.joint_model.specs.Told.{Told, Noted}
+use Rattle.joint_model.specs.Told.{Told, Noted, Answer}
 use Rattle.joint_model.specs.Walks.{Reaches}
 use Rattle.joint_laws.specs.LinkedInvariants.{IsRestored, doing_in}
 use Rattle.joint_laws.specs.LinkedLaws.{LinkageIsKept, AliveLeadToAlive, AdoptedPeerHasNoTwin}
@@ -38,7 +38,7 @@ all_kept noted a i = everywhere (λ s. AreKept s.managed s.peer s.control.doing 
 pub linkage_is_kept : LinkageIsKept
 linkage_is_kept noted a i = let k = all_kept noted a i in record { managed = k.managed; peer = k.peer; owners = k.owners; callers = k.callers; driver = k.driver }
 
-alive-to_alive : (r : ManagedReplay) (s : PeerReplay) (ds : List Doing) (o : Opened) (answers : List Bool) (clear : ℕ) (c : OpenCycle) → AreKept r s ds (restored o answers clear) → r.managed.cycle ≡ Some c
+alive-to_alive : (r : ManagedReplay) (s : PeerReplay) (ds : List Doing) (o : Opened) (answers : List Answer) (clear : ℕ) (c : OpenCycle) → AreKept r s ds (restored o answers clear) → r.managed.cycle ≡ Some c
     → (a b : ℕ) → IsAnsweredAlive c.candidates answers a → Contains c.candidates b → Reaches (ManagedEdge r.managed) a b → IsAnsweredAlive c.candidates answers b
 alive-to_alive r s ds o answers clear c k e a b alive cb walk =
     subst (λ (z : OpenCycle). IsAnsweredAlive z.candidates answers b) same (go (subst (λ (z : OpenCycle). IsAnsweredAlive z.candidates answers a) (sym same) alive) (subst (λ (z : OpenCycle). Contains z.candidates b) (sym same) cb))

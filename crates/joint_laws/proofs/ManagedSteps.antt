@@ -1,5 +1,5 @@
 -- Each lawful managed entry goes on, or is a snapshot, a resolution or an abandonment, on the managed objects.
-use Rattle.std.proofs.Common.{◌≡◌, ℕ, Bool, List, Option, Some, None, refl, sym, subst}
+use Rattle.std.proofs.Common.{◌≡◌, ℕ, List, Option, Some, None, refl, sym, subst}
 use Rattle.joint_model.specs.declared.names.Thread.{Thread}
 use Rattle.joint_model.specs.declared.events.Op.{Op}
 use Rattle.joint_model.specs.declared.events.Op.TheVariants as op
@@ -10,7 +10,7 @@ use Rattle.joint_model.specs.Managed.{Managed, OpenCycle, adopted, met, given_up
 use Rattle.joint_model.specs.Cycles.{IsSnapshot, IsResolution, IsAnsweredAlive}
 use Rattle.joint_model.specs.ManagedReplay.{ManagedReplay, registered, meet_by, give_by, managed_answer, ManagedAllows}
 use Rattle.joint_model.specs.Run.{thread_number}
-use Rattle.joint_model.specs.Told.{Told, nothing, snap_of, contraction_of, resolution_of, phase_of}
+use Rattle.joint_model.specs.Told.{Told, nothing, snap_of, contraction_of, resolution_of, phase_of, Answer}
 use Rattle.joint_model.proofs.HeapLemmas.{adopt_by-managed}
 use Rattle.joint_laws.specs.ManagedInvariants.{IsManagedKept, IsReplayKept}
 use Rattle.joint_laws.proofs.Registered.{registered-some}
@@ -28,7 +28,7 @@ pub record Snaps (s t : Managed) : Type 0 where
 pub record Resolves (s t : Managed) : Type 0 where
   pub cycle : OpenCycle
   pub was_open : s.cycle ≡ Some cycle
-  pub alive : List Bool
+  pub alive : List Answer
   pub freed : List ℕ
   pub resolution : IsResolution s cycle.dead (IsAnsweredAlive cycle.candidates alive) freed
   pub is : t ≡ resolved s freed

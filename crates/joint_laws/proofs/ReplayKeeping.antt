@@ -13,7 +13,7 @@ use Rattle.joint_model.specs.Managed.{Managed, OpenCycle, Holds, IsBridge, with_
 use Rattle.joint_model.specs.Cycles.{IsSnapshot, IsAnsweredAlive}
 use Rattle.joint_model.specs.ManagedReplay.{ManagedReplay, MayResolve, registered, without_twins, meet_by, give_by, managed_answer, ManagedAllows}
 use Rattle.joint_model.specs.Run.{thread_number}
-use Rattle.joint_model.specs.Told.{Told, nothing, snap_of, contraction_of, resolution_of, phase_of}
+use Rattle.joint_model.specs.Told.{Told, nothing, snap_of, contraction_of, resolution_of, phase_of, Answer}
 use Rattle.joint_laws.specs.ManagedInvariants.{IsReplayKept}
 use Rattle.joint_model.proofs.Members.{Contains-here}
 use Rattle.joint_model.proofs.Numbered.{numbered_set-same, numbered_set-other}
@@ -106,7 +106,7 @@ snapped-kept s n freed candidates dead k p = record {
     t : Managed
     t = snapped s.managed freed candidates dead
 
-resolved-kept : (s : ManagedReplay) (n : ℕ) (alive : List Bool) (freed : List ℕ) → IsReplayKept s → MayResolve s n alive freed → IsReplayKept (record s { managed = resolved s.managed freed; registry = without_twins s.registry freed })
+resolved-kept : (s : ManagedReplay) (n : ℕ) (alive : List Answer) (freed : List ℕ) → IsReplayKept s → MayResolve s n alive freed → IsReplayKept (record s { managed = resolved s.managed freed; registry = without_twins s.registry freed })
 resolved-kept s n alive freed k w = record {
   managed = IsManagedKept-resolved s.managed w.cycle (IsAnsweredAlive w.cycle.candidates alive) freed k.managed w.open_cycle.0 w.resolution;
   adopted = λ x h q. k.adopted x h (was-held_there s t freed k refl refl x h q);

@@ -29,6 +29,7 @@ use Rattle.joint_laws.proofs.SameGraphs.{mirror_edge-ends}
 use Rattle.joint_laws.proofs.Sparing.{spared-next}
 use Rattle.joint_laws.proofs.LinkedQuiet.{AreKept}
 use Rattle.joint_model.specs.Joined.{joint_of}
+use Rattle.joint_model.specs.Told.{Answer}
 
 -- what a handle was issued on, by where it leads
 pub peer_of-row : (issued : List Issued) (h p : ℕ) → peer_of issued h ≡ Some p → (i : Issued) × IsIssued issued h i × (i.peer ≡ p)
@@ -79,7 +80,7 @@ module _ (r : ManagedReplay) (s : PeerReplay) (ds : List Doing) (d : Stand) (k :
             let reference = (m.exact i.0.peer z).1 (x, y, e, rx, v) in
             (k.peer.references.live i.0.peer z reference f.0, spared-next mk i.0.peer z (mark.references i.0.peer z f.0 reference) f.1)
 
-    restored-spared : (answers : List Bool) (l b q : ℕ) (w : IsRowOf r.managed s.peers.issued b q) → IsRestoredBy s answers l w.handle → IsLive s.peers.heap q → (length answers ≤ l → HasStrength s w.handle weak → IsSpared mk q) → IsSpared mk q
+    restored-spared : (answers : List Answer) (l b q : ℕ) (w : IsRowOf r.managed s.peers.issued b q) → IsRestoredBy s answers l w.handle → IsLive s.peers.heap q → (length answers ≤ l → HasStrength s w.handle weak → IsSpared mk q) → IsSpared mk q
     restored-spared answers l b q w t live later = elim t [
       | inl u ↦ row-spared b q w u.1
       | inr u ↦ elim u [

@@ -1,6 +1,6 @@
 -- What every state of a linked history keeps of both sides together: who holds which handle, how strong it is, what each
 -- managed thread is in the midst of, and how far the driver has come.
-use Rattle.std.specs.Prelude.{◌≡◌, ℕ, ◌<◌, ◌≤◌, ◌↔◌, ◌⊎◌, List, length, Contains, Bool, true, false, Some, None, slice_get}
+use Rattle.std.specs.Prelude.{◌≡◌, ℕ, ◌<◌, ◌≤◌, ◌↔◌, ◌⊎◌, List, length, Contains, Some, None, slice_get}
 use Rattle.joint_model.specs.declared.names.Thread.TheVariants.{C}
 use Rattle.joint_model.specs.Control.{Doing, free, made, lent, gripped, given, met, Opened, Stand, idle, snapped, contracted, weakening, marked, restoring, restored, candidates_of}
 use Rattle.joint_model.specs.Cycles.{IsDeadContraction}
@@ -14,6 +14,7 @@ use Rattle.joint_model.specs.Walks.{Reaches}
 use Rattle.joint_laws.specs.ManagedInvariants.{IsReplayKept}
 use Rattle.joint_laws.specs.Mirrors.{MirrorEdge}
 use Rattle.joint_laws.specs.PeerInvariants.{IsTabled, IsIssued, IsPeerKept}
+use Rattle.joint_model.specs.Told.{said_alive, said_cleared, Answer}
 
 -- the handle is in the table with that strength
 abbrev pub HasStrength : PeerReplay → ℕ → Strength → Type 0
@@ -119,8 +120,8 @@ pub record IsMirrored (r : ManagedReplay) (s : PeerReplay) (c : OpenCycle) : Typ
 abbrev pub IsWeakenedBy : PeerReplay → ℕ → ℕ → ℕ → Type 0
 IsWeakenedBy s count l h = ((l < count) × HasStrength s h weak) ⊎ ((count ≤ l) × HasStrength s h strong)
 
-abbrev pub IsRestoredBy : PeerReplay → List Bool → ℕ → ℕ → Type 0
-IsRestoredBy s answers l h = ((slice_get answers l ≡ Some true) × HasStrength s h strong) ⊎ ((slice_get answers l ≡ Some false) × IsGone s h) ⊎ ((length answers ≤ l) × HasStrength s h weak)
+abbrev pub IsRestoredBy : PeerReplay → List Answer → ℕ → ℕ → Type 0
+IsRestoredBy s answers l h = ((slice_get answers l ≡ Some said_alive) × HasStrength s h strong) ⊎ ((slice_get answers l ≡ Some said_cleared) × IsGone s h) ⊎ ((length answers ≤ l) × HasStrength s h weak)
 
 -- a candidate whose peer is unfreed leads only to candidates whose peers are unfreed
 abbrev pub IsClosed : ManagedReplay → PeerReplay → OpenCycle → Type 0
@@ -157,13 +158,13 @@ pub record IsInMarking (r : ManagedReplay) (s : PeerReplay) (o : Opened) : Type 
   pub own : s.marking ≡ Some marking
   pub by_driver : marking.by ≡ C
 
-pub record IsRestoring (r : ManagedReplay) (s : PeerReplay) (o : Opened) (answers : List Bool) : Type 0 where
+pub record IsRestoring (r : ManagedReplay) (s : PeerReplay) (o : Opened) (answers : List Answer) : Type 0 where
   pub cycle : OpenCycle
   pub opened : IsOpenedAs r o cycle
   pub mirror : IsMirrored r s cycle
   pub handles : ForCandidates r.managed cycle (IsRestoredBy s answers)
 
-pub record IsRestored (r : ManagedReplay) (s : PeerReplay) (o : Opened) (answers : List Bool) : Type 0 where
+pub record IsRestored (r : ManagedReplay) (s : PeerReplay) (o : Opened) (answers : List Answer) : Type 0 where
   pub cycle : OpenCycle
   pub opened : IsOpenedAs r o cycle
   pub none : s.mirror ≡ None

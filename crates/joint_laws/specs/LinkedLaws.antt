@@ -10,7 +10,7 @@ use Rattle.joint_model.specs.Cycles.{IsAnsweredAlive}
 use Rattle.joint_model.specs.Linked.{Linkage, AllMayCome, MayCome, opening_linkage}
 use Rattle.joint_model.specs.Managed.{OpenCycle, Holds, ManagedEdge}
 use Rattle.joint_model.specs.ManagedReplay.{registered}
-use Rattle.joint_model.specs.Told.{Noted, sweep_of}
+use Rattle.joint_model.specs.Told.{Noted, sweep_of, Answer}
 use Rattle.joint_model.specs.Walks.{Reaches}
 use Rattle.joint_model.specs.Joint.{JointMarking, peer, IsReached, twin_of}
 use Rattle.joint_model.specs.Peers.{strong, weak}
@@ -48,7 +48,7 @@ HeldByPhase = (noted : List Noted) → AllMayCome opening_linkage noted → (i :
 
 -- once all handles are restored, no candidate that was answered alive leads to one that wasn't
 abbrev pub AliveLeadToAlive : Type 0
-AliveLeadToAlive = (noted : List Noted) → AllMayCome opening_linkage noted → (i : ℕ) (o : Opened) (answers : List Bool) (clear : ℕ) (c : OpenCycle)
+AliveLeadToAlive = (noted : List Noted) → AllMayCome opening_linkage noted → (i : ℕ) (o : Opened) (answers : List Answer) (clear : ℕ) (c : OpenCycle)
     → (state_at noted i).control.stand ≡ restored o answers clear → (state_at noted i).managed.managed.cycle ≡ Some c
     → (a b : ℕ) → IsAnsweredAlive c.candidates answers a → Contains c.candidates b → Reaches (ManagedEdge (state_at noted i).managed.managed) a b → IsAnsweredAlive c.candidates answers b
 

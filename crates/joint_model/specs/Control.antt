@@ -16,7 +16,7 @@ use Rattle.joint_model.specs.Components.{mirror_edges}
 use Rattle.joint_model.specs.Lines.{IsLine}
 use Rattle.joint_model.specs.Managed.{Managed, handle_of}
 use Rattle.joint_model.specs.Peers.{Issued, peer_of}
-use Rattle.joint_model.specs.Told.{Told, contraction_of, references_of, resolution_of, phase_of}
+use Rattle.joint_model.specs.Told.{Told, contraction_of, references_of, resolution_of, phase_of, said_alive, said_cleared, Answer}
 
 -- what a managed thread is in the midst of, with the number and the line of the entry that the next one cites: it has
 -- made a pair, lent a handle, gripped a peer, given a handle up, or met a peer without taking the handle
@@ -42,8 +42,8 @@ pub data Stand : Type 0 where
   contracted : Opened → (comps : List (List ℕ)) (xrefs : List (ℕ × ℕ)) → Stand
   weakening : Opened → (count : ℕ) (weakened swept : Bool) → Stand
   marked : Opened → Stand
-  restoring : Opened → (answers : List Bool) → Stand
-  restored : Opened → (answers : List Bool) (clear : ℕ) → Stand
+  restoring : Opened → (answers : List Answer) → Stand
+  restored : Opened → (answers : List Answer) (clear : ℕ) → Stand
 
 -- what each managed thread is in the midst of, the line of each caller's last entry, and where the driver stands
 pub record Control : Type 0 where
@@ -187,9 +187,9 @@ abbrev pub MayClearNow : Stand → ℕ → ℕ → Option ℕ → Type 0
 MayClearNow (restoring o answers) c k cites = (cites ≡ None) × (length answers ≡ c) × (o.cycle ≡ k)
 MayClearNow _ c k cites = ⊥
 
--- a resolve cites the clear of its cycle, and keeps exactly the candidates whose restore answered alive
+-- a resolve cites the clear of its cycle, and goes by the answers that the restores gave
 abbrev pub MayResolveNow : Stand → ℕ → Option ℕ → Told → Type 0
-MayResolveNow (restored o answers clear) k cites (resolution_of alive freed) = (o.cycle ≡ k) × (cites ≡ Some clear) × (alive ≡ answers)
+MayResolveNow (restored o answers clear) k cites (resolution_of told freed) = (o.cycle ≡ k) × (cites ≡ Some clear) × (told ≡ answers)
 MayResolveNow _ k cites told = ⊥
 
 abbrev pub MayAbandonNow : Stand → ℕ → Option ℕ → Type 0
@@ -218,9 +218,9 @@ DriverAllows stand s issued (op.Refused w) reply cites told = MayRefuseNow stand
 DriverAllows stand s issued _ reply cites told = ⊥
 
 -- the answer that a restore gives to the candidate
-abbrev pub is_alive : Reply → Bool
-is_alive says.Alive = true
-is_alive _ = false
+abbrev pub answer_in : Reply → Answer
+answer_in says.Alive = said_alive
+answer_in _ = said_cleared
 
 -- a refusal in the weakened phase shows that the driver has come to it
 abbrev pub seen_weakened : Bool → Told → Bool
@@ -237,7 +237,7 @@ stand_after (weakening o count weakened swept) n op.Sweep reply told = weakening
 stand_after (weakening o count weakened swept) n op.Begin reply told = marked o
 stand_after (weakening o count weakened swept) n (op.Refused w) reply told = weakening o count (seen_weakened weakened told) swept
 stand_after (marked o) n op.Sweep reply told = restoring o []
-stand_after (restoring o answers) n (op.Restore h) reply told = restoring o (answers ++ is_alive reply ∷ [])
+stand_after (restoring o answers) n (op.Restore h) reply told = restoring o (answers ++ answer_in reply ∷ [])
 stand_after (restoring o answers) n (op.Clear k) reply told = restored o answers n
 stand_after stand n (op.Resolve k) reply told = idle
 stand_after stand n (op.Abandon k) reply told = idle

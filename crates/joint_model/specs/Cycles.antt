@@ -1,13 +1,14 @@
 -- What a snapshot and a resolution free, and the components of a dead part. Both the joint machine and the managed
 -- side's own replay take them from here. (SGen's bridge header: the collector lists the dead bridge objects and
 -- analyses their graph; the client says which stay alive; the rest is freed.)
-use Rattle.std.specs.Prelude.{◌≡◌, ℕ, ◌+◌, ◌↔◌, Bool, true, List, length, Contains, Some, None, slice_get}
+use Rattle.std.specs.Prelude.{◌≡◌, ℕ, ◌+◌, ◌↔◌, List, length, Contains, Some, None, slice_get}
 use Rattle.joint_model.specs.declared.events.Reply.{Reply}
 use Rattle.joint_model.specs.declared.events.Reply.TheVariants as says
 use Rattle.joint_model.specs.Heaps.{IsLive, HasField}
 use Rattle.joint_model.specs.Managed.{Managed, OpenCycle, IsBridge, ManagedEdge, IsManagedReached, IsBridgeReached}
 use Rattle.joint_model.specs.Components.{Rises, IsContraction}
 use Rattle.joint_model.specs.Walks.{Reaches}
+use Rattle.joint_model.specs.Told.{Answer, IsKeptAt}
 
 -- a snapshot opens cycle k: it frees exactly the rows that neither a slot nor a bridge row reaches over managed
 -- fields; the candidates are the bridge rows that no slot reaches, and the dead part is the rows that no slot
@@ -45,8 +46,8 @@ abbrev pub resolve_reply : Managed → List ℕ → Reply
 resolve_reply s freed = says.Freed record { first = length s.heap.freed; count = length freed }
 
 -- the candidate is kept by the list of answers
-abbrev pub IsAnsweredAlive : List ℕ → List Bool → ℕ → Type 0
-IsAnsweredAlive candidates alive m = (i : ℕ) × (slice_get candidates i ≡ Some m) × (slice_get alive i ≡ Some true)
+abbrev pub IsAnsweredAlive : List ℕ → List Answer → ℕ → Type 0
+IsAnsweredAlive candidates answers m = (i : ℕ) × (slice_get candidates i ≡ Some m) × IsKeptAt answers i
 
 -- cycle k is open, with these candidates and this dead part
 abbrev pub IsOpen : Managed → ℕ → OpenCycle → Type 0

@@ -2,7 +2,7 @@
 -- snap, begin, sweep and resolve; its sweep goes by joint reachability; its resolve cites nothing and keeps the
 -- candidates whose peers weren't swept; no other caller's entry stands within it; and at the end the driver is idle, and
 -- the list of notices is empty. Everything else is as in the final definitions.
-use Rattle.std.specs.Prelude.{◌≡◌, ℕ, ◌+◌, ◌<◌, ◌≤◌, ◌^◌, ◌↔◌, Contains, Bool, true, false, not, nat_eq, if◌then◌else◌, List, [], ◌∷◌, length, map, Option, Some, None}
+use Rattle.std.specs.Prelude.{◌≡◌, ℕ, ◌+◌, ◌<◌, ◌≤◌, ◌^◌, ◌↔◌, Contains, Bool, true, false, nat_eq, if◌then◌else◌, List, [], ◌∷◌, length, map, Option, Some, None}
 use Rattle.std.specs.List.{list_any}
 use Rattle.joint_model.specs.declared.names.Thread.{Thread}
 use Rattle.joint_model.specs.declared.names.Thread.TheVariants.{M, P, C}
@@ -23,7 +23,7 @@ use Rattle.joint_model.specs.Linked.{Linkage, opening_linkage, ManagedLawful, ma
 use Rattle.joint_model.specs.Managed.{Managed}
 use Rattle.joint_model.specs.PeerReplay.{PeerReplay, Marking, TableRow, peer_answer, PeerAllows, begun}
 use Rattle.joint_model.specs.Peers.{Issued, Hold, held, raw}
-use Rattle.joint_model.specs.Told.{Told, begin_of, sweep_of, resolution_of, Noted}
+use Rattle.joint_model.specs.Told.{Told, begin_of, sweep_of, resolution_of, Noted, said_alive, said_cleared, Answer}
 use Rattle.std.specs.Prelude.{slice_set}
 
 -- both sides' replays, and the peers that were unreached at the begin of the driver's open marking
@@ -75,9 +75,14 @@ FirstPeerAllows s C op.Sweep cites (sweep_of freed) = freed ≡ s.unreached
 FirstPeerAllows s C op.Sweep cites _ = ⊥
 FirstPeerAllows s t o cites told = PeerAllows s.base.peer t o cites told
 
+-- the answer of a candidate by whether its peer is freed
+abbrev pub first_answer : Bool → Answer
+first_answer true = said_cleared
+first_answer false = said_alive
+
 -- the candidates' answers: kept is a candidate whose peer wasn't swept
-abbrev pub first_answers : Managed → PeerReplay → List Bool
-first_answers s p = map (λ m. not (is_freed p.peers.heap (peer_of_row s p.peers.issued m))) (candidates_of s)
+abbrev pub first_answers : Managed → PeerReplay → List Answer
+first_answers s p = map (λ m. first_answer (is_freed p.peers.heap (peer_of_row s p.peers.issued m))) (candidates_of s)
 
 -- the order of the driver's events
 abbrev pub FirstBegin : Stand → Reply → Type 0
@@ -88,7 +93,7 @@ abbrev pub FirstSweep : Stand → Type 0
 FirstSweep (marked o) = Unit {0}
 FirstSweep _ = ⊥
 
-abbrev pub FirstResolve : Stand → ℕ → List Bool → Told → Type 0
+abbrev pub FirstResolve : Stand → ℕ → List Answer → Told → Type 0
 FirstResolve (restoring o []) k answers (resolution_of alive freed) = (o.cycle ≡ k) × (alive ≡ answers)
 FirstResolve _ k answers told = ⊥
 

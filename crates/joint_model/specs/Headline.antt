@@ -1,6 +1,6 @@
 -- What is freed, and when: a run is sound and complete. These are the two clauses of the headline on freeing, over the
 -- whole run and the one joint graph.
-use Rattle.std.specs.Prelude.{◌≡◌, ℕ, ◌<◌, ◌≤◌, Bool, List, Contains, Some, slice_get}
+use Rattle.std.specs.Prelude.{◌≡◌, ℕ, ◌<◌, ◌≤◌, List, Contains, Some, slice_get}
 use Rattle.joint_model.specs.declared.names.Thread.TheVariants.{C}
 use Rattle.joint_model.specs.declared.names.Span.{Span}
 use Rattle.joint_model.specs.declared.events.Op.TheVariants as op
@@ -10,7 +10,7 @@ use Rattle.joint_model.specs.Joint.{Row, object, peer, IsReached}
 use Rattle.joint_model.specs.Managed.{OpenCycle, Holds}
 use Rattle.joint_model.specs.Peers.{peer_of}
 use Rattle.joint_model.specs.Run.{Moment}
-use Rattle.joint_model.specs.Told.{snap_of, sweep_of, resolution_of}
+use Rattle.joint_model.specs.Told.{snap_of, sweep_of, resolution_of, Answer}
 
 -- the entry at place i of the run begins marking j
 pub record BeginsAt (run : List Moment) (i j : ℕ) : Type 0 where
@@ -49,7 +49,7 @@ pub record ResolvesAt (run : List Moment) (i k : ℕ) (freed : List ℕ) : Type 
   pub moment : Moment
   pub there : slice_get run i ≡ Some moment
   pub event : moment.noted.entry.made.op ≡ op.Resolve record { 0 = k }
-  pub alive : List Bool
+  pub alive : List Answer
   pub frees : moment.noted.told ≡ resolution_of alive freed
 
 -- the row isn't reached in the state at the entry in place i, that is after it

@@ -15,7 +15,7 @@ use Rattle.joint_model.specs.Cycles.{IsSnapshot, snap_reply, IsResolution, resol
 use Rattle.joint_model.specs.Heaps.{Answered, answer, slot, place}
 use Rattle.joint_model.specs.Managed.{Managed, OpenCycle, opening_managed, managed_line, adopted, met, given_up, handle_reply, snapped, resolved, abandoned}
 use Rattle.joint_model.specs.Run.{thread_number}
-use Rattle.joint_model.specs.Told.{Told, nothing, snap_of, contraction_of, resolution_of, phase_of}
+use Rattle.joint_model.specs.Told.{Told, nothing, snap_of, contraction_of, resolution_of, phase_of, Answer}
 
 -- beside the managed objects: the pairs of a peer and its twin, the handles that were ever adopted, and whether the
 -- open cycle's contraction was made
@@ -100,7 +100,7 @@ pub record MayContract (s : ManagedReplay) (k : ℕ) (comps : List (List ℕ)) (
 
 -- cycle k is open, there is one answer for each candidate, and these are the rows that no candidate that was answered
 -- alive reaches
-pub record MayResolve (s : ManagedReplay) (k : ℕ) (alive : List Bool) (freed : List ℕ) : Type 0 where
+pub record MayResolve (s : ManagedReplay) (k : ℕ) (alive : List Answer) (freed : List ℕ) : Type 0 where
   pub cycle : OpenCycle
   pub open_cycle : IsOpen s.managed k cycle
   pub answers : length alive ≡ length cycle.candidates

@@ -1,7 +1,16 @@
 -- What is told beside an entry: the data that decides it and that its line in the report doesn't have in full.
-use Rattle.std.specs.Prelude.{ℕ, Bool, List}
+use Rattle.std.specs.Prelude.{◌≡◌, ℕ, List, Some, slice_get}
 use Rattle.joint_model.specs.declared.names.Phase.{Phase}
 use Rattle.joint_model.specs.declared.events.Entry.{Entry}
+
+-- what a candidate's restore answered
+pub data Answer : Type 0 where
+  said_alive : Answer
+  said_cleared : Answer
+
+-- by the answer in that place its candidate is kept
+abbrev pub IsKeptAt : List Answer → ℕ → Type 0
+IsKeptAt answers i = slice_get answers i ≡ Some said_alive
 
 -- a snap has the rows that it frees, its candidates and its dead part, all rising; a contract has the
 -- components and cross-references; a mirror has the references that it adds; a begin, in the form of the joint
@@ -16,7 +25,7 @@ pub data Told : Type 0 where
   begin_of : (unreached : List ℕ) → Told
   slice_of : (closure : List ℕ) → Told
   sweep_of : (freed : List ℕ) → Told
-  resolution_of : (alive : List Bool) (freed : List ℕ) → Told
+  resolution_of : (answers : List Answer) (freed : List ℕ) → Told
   phase_of : (phase : Phase) → Told
 
 -- an entry with what is told beside it

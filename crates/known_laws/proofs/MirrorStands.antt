@@ -12,7 +12,7 @@ use Rattle.joint_model.specs.declared.events.Op.TheVariants as op
 use Rattle.joint_model.specs.declared.events.Made.{Made}
 use Rattle.joint_model.specs.declared.events.Reply.{Reply}
 use Rattle.joint_model.specs.declared.events.Reply.TheVariants as says
-use Rattle.joint_model.specs.Control.{CallerAllows, Opened, Stand, idle, snapped, contracted, weakening, marked, restoring, restored, stand_after, control_after, candidates_of, IsCandidateHandle, is_alive, MayContractNow, MayMirrorNow, MayWeakenNow, MayBeginNow, MaySweepNow, MayRestoreNow, MayClearNow}
+use Rattle.joint_model.specs.Control.{CallerAllows, Opened, Stand, idle, snapped, contracted, weakening, marked, restoring, restored, stand_after, control_after, candidates_of, IsCandidateHandle, answer_in, MayContractNow, MayMirrorNow, MayWeakenNow, MayBeginNow, MaySweepNow, MayRestoreNow, MayClearNow}
 use Rattle.joint_model.specs.Lines.{IsEvent, is_peer_event}
 use Rattle.joint_model.specs.Linked.{Linkage, MayCome, SideLawful, managed_after, peer_after, linkage_after}
 use Rattle.joint_model.specs.Managed.{Managed, OpenCycle, handle_of}
@@ -153,7 +153,7 @@ module _ (r : ManagedReplay) (s t : PeerReplay) (num : ℕ) (reply : Reply) (cit
   sweep-fits _ e a m = absurd a
 
   restore-fits : (st : Stand) (h : ℕ) → ((m : Mirror) → s.mirror ≡ Some m → t.mirror ≡ Some (record m { restored = m.restored ++ h ∷ [] })) → MayRestoreNow st r.managed h cites → MirrorFits r s st → MirrorFits r t (stand_after st num (op.Restore record { 0 = h }) reply told)
-  restore-fits (restoring o answers) h e a m = subst (IsMirrorOf r t o (length (candidates_of r.managed))) (sym (length-append answers (is_alive reply ∷ []))) (restored_mirror r s t o _ (length answers) h e a.1 m)
+  restore-fits (restoring o answers) h e a m = subst (IsMirrorOf r t o (length (candidates_of r.managed))) (sym (length-append answers (answer_in reply ∷ []))) (restored_mirror r s t o _ (length answers) h e a.1 m)
   restore-fits _ h e a m = absurd a
 
   clear-fits : (st : Stand) (k : ℕ) → MayClearNow st (length (candidates_of r.managed)) k cites → MirrorFits r t (stand_after st num (op.Clear record { 0 = k }) reply told)

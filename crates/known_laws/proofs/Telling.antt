@@ -29,7 +29,7 @@ use Rattle.joint_model.specs.Managed.{Managed, OpenCycle, ManagedEdge}
 use Rattle.joint_model.specs.ManagedReplay.{ManagedReplay, ManagedAllows, MayResolve, MayRefuse, refusal_to}
 use Rattle.joint_model.specs.Peers.{Issued}
 use Rattle.joint_model.specs.PeerReplay.{PeerReplay, Marking, PeerAllows, SliceAllows, SweepAllows}
-use Rattle.joint_model.specs.Told.{Told, nothing, snap_of, contraction_of, references_of, slice_of, sweep_of, resolution_of, phase_of}
+use Rattle.joint_model.specs.Told.{Told, nothing, snap_of, contraction_of, references_of, slice_of, sweep_of, resolution_of, phase_of, Answer}
 use Rattle.joint_model.proofs.Deciding.{true-false}
 use Rattle.joint_model.proofs.Members.{Rises-one}
 use Rattle.known_laws.specs.Known.{TellsPlainly, IsSeen}
@@ -46,7 +46,7 @@ IsTelling (op.Refused w) = ⊥
 IsTelling _ = Unit {0}
 
 managed_told : IsOneContraction → (m : ManagedReplay) (o : Op) (t u : Told) → IsTelling o → ManagedAllows m o t → ManagedAllows m o u
-    → ((k : Cycle) (alive alive' : List Bool) (freed freed' : List ℕ) → o ≡ op.Resolve k → t ≡ resolution_of alive freed → u ≡ resolution_of alive' freed' → alive ≡ alive') → t ≡ u
+    → ((k : Cycle) (alive alive' : List Answer) (freed freed' : List ℕ) → o ≡ op.Resolve k → t ≡ resolution_of alive freed → u ≡ resolution_of alive' freed' → alive ≡ alive') → t ≡ u
 managed_told cu m (op.Line a) nothing nothing n w v r = refl
 managed_told cu m (op.Line a) nothing _ n w v r = absurd v
 managed_told cu m (op.Line a) _ u n w v r = absurd w
@@ -145,7 +145,7 @@ mirrors : (st : Stand) (m : Managed) (i : List Issued) (k : ℕ) (cites : Option
 mirrors (contracted o comps xrefs) m i k cites xs ys w v = w.2 ∙ sym v.2
 mirrors _ m i k cites xs ys w v = absurd w
 
-resolves_alike : (st : Stand) (k : ℕ) (cites : Option ℕ) (x y : List Bool) (f g : List ℕ) → MayResolveNow st k cites (resolution_of x f) → MayResolveNow st k cites (resolution_of y g) → x ≡ y
+resolves_alike : (st : Stand) (k : ℕ) (cites : Option ℕ) (x y : List Answer) (f g : List ℕ) → MayResolveNow st k cites (resolution_of x f) → MayResolveNow st k cites (resolution_of y g) → x ≡ y
 resolves_alike (restored o answers clear) k cites x y f g w v = w.2 ∙ sym v.2
 resolves_alike _ k cites x y f g w v = absurd w
 
@@ -160,7 +160,7 @@ telling_is_one cu s e t u n a b = by (is_peer_event e.made.caller e.made.op) a.l
     refs (M z) k xs ys v w x = absurd v
     refs (P z) k xs ys v w x = absurd v
 
-    answers : (c : Thread) (k : Cycle) (x y : List Bool) (f g : List ℕ) → IsEvent c (op.Resolve k) → Allowed c (op.Resolve k) (resolution_of x f) → Allowed c (op.Resolve k) (resolution_of y g) → x ≡ y
+    answers : (c : Thread) (k : Cycle) (x y : List Answer) (f g : List ℕ) → IsEvent c (op.Resolve k) → Allowed c (op.Resolve k) (resolution_of x f) → Allowed c (op.Resolve k) (resolution_of y g) → x ≡ y
     answers C k x y f g v w z = resolves_alike s.control.stand k.0 e.made.cites x y f g w z
     answers (M j) k x y f g v w z = absurd v
     answers (P j) k x y f g v w z = absurd v

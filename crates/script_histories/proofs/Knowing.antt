@@ -1,6 +1,6 @@
 -- Each event that may come in a state is one that is known: the places of its line are within their limits, and the peer,
 -- the handle and the cycle that it names are those of the state. And its caller is one that a script can have.
-use Rattle.std.proofs.Common.{◌≡◌, ℕ, ◌+◌, ◌≤◌, ◌⊎◌, Bool, inl, inr, List, [], Option, sym, arith}
+use Rattle.std.proofs.Common.{◌≡◌, ℕ, ◌+◌, ◌≤◌, ◌⊎◌, inl, inr, List, [], Option, sym, arith}
 use Rattle.joint_model.specs.declared.names.HNum.{HNum}
 use Rattle.joint_model.specs.declared.names.Kind.{Kind}
 use Rattle.joint_model.specs.declared.names.Kind.TheVariants as kind
@@ -18,7 +18,7 @@ use Rattle.joint_model.specs.declared.events.Reply.{Reply}
 use Rattle.joint_model.specs.Control.{Doing, free, made, lent, gripped, given, met, doing_at, Stand, idle, snapped, contracted, weakening, marked, restoring, restored, MayAdopt, MayLand, MayMeet, MayRelease, MayAbandonNow}
 use Rattle.joint_model.specs.First.{FirstLinkage, FirstCallerAllows, FirstSideLawful, FirstMayCome, FirstResolve, first_answers}
 use Rattle.joint_model.specs.Lines.{IsPlainObject, IsBridgeObject, IsManagedAct, IsPeerAct, IsOneEvent, IsEvent, IsThread, IsManagedThread, IsPeerThread, IsDriver, is_peer_event}
-use Rattle.joint_model.specs.Told.{Told, Noted, resolution_of}
+use Rattle.joint_model.specs.Told.{Told, Noted, resolution_of, Answer}
 use Rattle.bridge_script.proofs.Fitting.{lawful_thread}
 use Rattle.script_histories.proofs.Coming.{making}
 use Rattle.script_histories.proofs.OneHistory.{snap-next}
@@ -126,7 +126,7 @@ release-handle (given n line h') l h c a = sym a.2
 release-handle (met n line h') l h c a = sym a.2
 release-handle d l h c a = absurd a
 
-resolve-cycle : (stand : Stand) (k : ℕ) (answers : List Bool) (x : Told) → FirstResolve stand k answers x → cycle_in stand ≡ k
+resolve-cycle : (stand : Stand) (k : ℕ) (answers : List Answer) (x : Told) → FirstResolve stand k answers x → cycle_in stand ≡ k
 resolve-cycle (restoring o []) k answers (resolution_of alive freed) a = a.0
 resolve-cycle stand k answers x a = absurd a
 

@@ -1,6 +1,6 @@
 -- What is told beside an entry is decided by the state before it: lists of freed ones, of candidates and of unreached
 -- ones are exact and rise, the answers of a resolution are the state's, and other events are told nothing.
-use Rattle.std.proofs.Common.{◌≡◌, ℕ, ◌⊎◌, ◌↔◌, Bool, inl, inr, List, [], Option, Some, None, refl, sym, ◌∙◌, ap, subst, Contains}
+use Rattle.std.proofs.Common.{◌≡◌, ℕ, ◌⊎◌, ◌↔◌, inl, inr, List, [], Option, Some, None, refl, sym, ◌∙◌, ap, subst, Contains}
 use Rattle.joint_model.specs.declared.names.Thread.{Thread}
 use Rattle.joint_model.specs.declared.names.Thread.TheVariants.{M, P, C}
 use Rattle.joint_model.specs.declared.lines.Act.TheVariants as act
@@ -17,7 +17,7 @@ use Rattle.joint_model.specs.Lines.{IsEvent}
 use Rattle.joint_model.specs.Managed.{Managed, OpenCycle, IsBridge, ManagedEdge, IsManagedReached, IsBridgeReached}
 use Rattle.joint_model.specs.ManagedReplay.{ManagedReplay, ManagedAllows, MayResolve}
 use Rattle.joint_model.specs.PeerReplay.{PeerReplay, Marking, PeerAllows, SliceAllows, SweepAllows, IsMarked, IsSweep}
-use Rattle.joint_model.specs.Told.{Told, nothing, snap_of, begin_of, slice_of, sweep_of, resolution_of}
+use Rattle.joint_model.specs.Told.{Told, nothing, snap_of, begin_of, slice_of, sweep_of, resolution_of, Answer}
 use Rattle.joint_model.specs.Walks.{Reaches}
 use Rattle.script_histories.proofs.Rising.{rises-one}
 
@@ -31,14 +31,14 @@ snapshot-one s k f c d f' c' d' a b =
     cc
 
 -- the rows that a resolution frees
-freed-one : (s : Managed) (c c' : OpenCycle) (alive alive' : List Bool) (f f' : List ℕ) → c' ≡ c → alive' ≡ alive
+freed-one : (s : Managed) (c c' : OpenCycle) (alive alive' : List Answer) (f f' : List ℕ) → c' ≡ c → alive' ≡ alive
     → IsResolution s c.dead (IsAnsweredAlive c.candidates alive) f → IsResolution s c'.dead (IsAnsweredAlive c'.candidates alive') f' → f ≡ f'
 freed-one s c c' alive alive' f f' ec ea a b =
     let b₁ = subst (λ (x : OpenCycle). IsResolution s x.dead (IsAnsweredAlive x.candidates alive') f') ec b in
-    let b₂ = subst (λ (x : List Bool). IsResolution s c.dead (IsAnsweredAlive c.candidates x) f') ea b₁ in
+    let b₂ = subst (λ (x : List Answer). IsResolution s c.dead (IsAnsweredAlive c.candidates x) f') ea b₁ in
     rises-one (λ m. Contains c.dead m × (((x : ℕ) × IsAnsweredAlive c.candidates alive x × Reaches (ManagedEdge s) x m) → ⊥)) f f' a.rise b₂.rise a.frees b₂.frees
 
-resolution-one : (s : ManagedReplay) (k : ℕ) (answers alive alive' : List Bool) (f f' : List ℕ) → MayResolve s k alive f → MayResolve s k alive' f' → alive ≡ answers → alive' ≡ answers
+resolution-one : (s : ManagedReplay) (k : ℕ) (answers alive alive' : List Answer) (f f' : List ℕ) → MayResolve s k alive f → MayResolve s k alive' f' → alive ≡ answers → alive' ≡ answers
     → resolution_of alive f ≡ resolution_of alive' f'
 resolution-one s k answers alive alive' f f' a b ea eb =
     let open_one : Some b.cycle ≡ Some a.cycle = sym b.open_cycle.0 ∙ a.open_cycle.0 in
@@ -48,14 +48,14 @@ resolution-one s k answers alive alive' f f' a b ea eb =
     cc
 
 -- the answers of a resolution are the state's; and no contraction and no refusal comes in the form of the first steps
-abbrev pub Keeps : List Bool → Op → Told → Type 0
+abbrev pub Keeps : List Answer → Op → Told → Type 0
 Keeps answers (op.Resolve k) (resolution_of alive freed) = alive ≡ answers
 Keeps answers (op.Contract k) told = ⊥
 Keeps answers (op.Mirror k) told = ⊥
 Keeps answers (op.Refused w) told = ⊥
 Keeps answers _ told = Unit {0}
 
-resolve-keeps : (stand : Stand) (k : ℕ) (answers alive : List Bool) (freed : List ℕ) → FirstResolve stand k answers (resolution_of alive freed) → alive ≡ answers
+resolve-keeps : (stand : Stand) (k : ℕ) (answers alive : List Answer) (freed : List ℕ) → FirstResolve stand k answers (resolution_of alive freed) → alive ≡ answers
 resolve-keeps (restoring o []) k answers alive freed h = h.1
 resolve-keeps stand k answers alive freed h = absurd h
 
@@ -78,7 +78,7 @@ keeps-of s C l (op.Refused w) r c x e a = a
 keeps-of s C l o r c x e a = tt
 
 -- on the managed side
-pub managed-told : (s : ManagedReplay) (answers : List Bool) (o : Op) (x y : Told) → ManagedAllows s o x → ManagedAllows s o y → Keeps answers o x → Keeps answers o y → x ≡ y
+pub managed-told : (s : ManagedReplay) (answers : List Answer) (o : Op) (x y : Told) → ManagedAllows s o x → ManagedAllows s o y → Keeps answers o x → Keeps answers o y → x ≡ y
 managed-told s answers (op.Snap k) (snap_of f c d) (snap_of f' c' d') a b p q = snapshot-one s.managed k.0 f c d f' c' d' a b
 managed-told s answers (op.Snap k) (snap_of f c d) y a b p q = absurd b
 managed-told s answers (op.Snap k) x y a b p q = absurd a
@@ -124,7 +124,7 @@ sweep-told s (Some mk) (P n) nothing y a b = absurd b
 sweep-told s (Some mk) t (sweep_of f) y a b = absurd b
 sweep-told s (Some mk) t x y a b = absurd a
 
-peer-told : (s : PeerReplay) (t : Thread) (answers : List Bool) (o : Op) (c c' : Option ℕ) (x y : Told) → PeerAllows s t o c x → PeerAllows s t o c' y → Keeps answers o x → x ≡ y
+peer-told : (s : PeerReplay) (t : Thread) (answers : List Answer) (o : Op) (c c' : Option ℕ) (x y : Told) → PeerAllows s t o c x → PeerAllows s t o c' y → Keeps answers o x → x ≡ y
 peer-told s t answers (op.Line (act.Slice n)) c c' x y a b p = slice-told s.marking t x y a b
 peer-told s t answers op.Sweep c c' x y a b p = sweep-told s s.marking t x y a b
 peer-told s t answers (op.Mirror k) c c' x y a b p = absurd p
@@ -138,7 +138,7 @@ unreached-one s u u' a b =
     ap begin_of (rises-one (λ p. IsLive g.peers.heap p × (IsReachedIn g (peer p) → ⊥)) u u' a.rise b.rise a.exact b.exact)
 
 -- on the peer side
-pub first-peer-told : (s : FirstLinkage) (t : Thread) (answers : List Bool) (o : Op) (c c' : Option ℕ) (x y : Told) → FirstPeerAllows s t o c x → FirstPeerAllows s t o c' y → Keeps answers o x → x ≡ y
+pub first-peer-told : (s : FirstLinkage) (t : Thread) (answers : List Answer) (o : Op) (c c' : Option ℕ) (x y : Told) → FirstPeerAllows s t o c x → FirstPeerAllows s t o c' y → Keeps answers o x → x ≡ y
 first-peer-told s (M t) answers o c c' x y a b p = peer-told s.base.peer (M t) answers o c c' x y a b p
 first-peer-told s (P t) answers o c c' x y a b p = peer-told s.base.peer (P t) answers o c c' x y a b p
 first-peer-told s C answers op.Begin c c' (begin_of u) (begin_of u') a b p = unreached-one s u u' a b

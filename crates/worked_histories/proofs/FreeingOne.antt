@@ -13,7 +13,7 @@ use Rattle.joint_model.specs.Heaps.{IsMade}
 use Rattle.joint_model.specs.Headline.{IsSoundRun, IsCompleteRun, IsCompleteCycle, IsFreedWithPeer, IsUnreachedAt, IsUnreachedBefore, WasUnreached, ResolvesAt, SweepsAt, SnapsAt, IsPeerFreedAt}
 use Rattle.joint_model.specs.Joint.{Joint, opening, graph_of, Row, object, peer, IsReached}
 use Rattle.joint_model.specs.Run.{Moment}
-use Rattle.joint_model.specs.Told.{snap_of, sweep_of, resolution_of, nothing}
+use Rattle.joint_model.specs.Told.{snap_of, sweep_of, resolution_of, nothing, said_cleared, Answer}
 use Rattle.worked_histories.specs.Freeing.{one_run, FreesOneObject}
 use Rattle.worked_histories.specs.Notes.{note, span}
 use Rattle.worked_histories.proofs.Decided.{mem, is_closed, mem_from_Contains}
@@ -96,13 +96,13 @@ resolved_there i k freed r =
     let at = place (λ (m : Moment). is_resolve m.noted.entry.made.op) 6 one_run i r.moment refl r.there (subst (λ o. is_resolve o ≡ true) (sym r.event) refl) in
     let same = same_place one_run i 6 r.moment (moment_at 6) r.there at refl in
     let event : op.Resolve record { 0 = 1 } ≡ op.Resolve record { 0 = k } = subst (λ (m : Moment). m.noted.entry.made.op ≡ op.Resolve record { 0 = k }) (sym same) r.event in
-    let told : resolution_of (false ∷ []) (1 ∷ []) ≡ resolution_of r.alive freed = subst (λ (m : Moment). m.noted.told ≡ resolution_of r.alive freed) (sym same) r.frees in
+    let told : resolution_of (said_cleared ∷ []) (1 ∷ []) ≡ resolution_of r.alive freed = subst (λ (m : Moment). m.noted.told ≡ resolution_of r.alive freed) (sym same) r.frees in
     (at, cycle_from k event, told_from r.alive freed told)
   where
     cycle_from : (k : ℕ) → op.Resolve record { 0 = 1 } ≡ op.Resolve record { 0 = k } → k ≡ 1
     cycle_from k e = sym (ap resolve_cycle e)
 
-    told_from : (alive : List Bool) (freed : List ℕ) → resolution_of (false ∷ []) (1 ∷ []) ≡ resolution_of alive freed → freed ≡ 1 ∷ []
+    told_from : (alive : List Answer) (freed : List ℕ) → resolution_of (said_cleared ∷ []) (1 ∷ []) ≡ resolution_of alive freed → freed ≡ 1 ∷ []
     told_from alive freed e = cc
 
 pub swept_there : (i j : ℕ) (freed : List ℕ) → SweepsAt one_run i j freed → (i ≡ 5) × (j ≡ 1) × (freed ≡ 1 ∷ [])

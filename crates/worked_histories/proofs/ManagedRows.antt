@@ -13,6 +13,7 @@ use Rattle.worked_histories.proofs.Contractions.{IsFinite, is_complete, contract
 use Rattle.joint_model.specs.Components.{first_of}
 use Rattle.joint_model.proofs.Deciding.{or_left, or_right}
 use Rattle.worked_histories.proofs.HeapRows.{somes, Decides-somes, Decides-joined, is_live, Decides-live, all_rows, row_from_live, heap_next, Decides-field, slot_rows, Decides-slot, where_true, Decides-where_true, Decides-filter}
+use Rattle.joint_model.specs.Told.{said_alive, said_cleared, Answer}
 
 -- the objects in a slot or a pin
 abbrev pub managed_roots : Managed → List ℕ
@@ -130,30 +131,30 @@ resolution s n dead kept rows freed decides closed order same = record {
 }
 
 -- the candidates that are answered alive
-abbrev pub answered_alive : List ℕ → List Bool → List ℕ
+abbrev pub answered_alive : List ℕ → List Answer → List ℕ
 answered_alive [] alive = []
 answered_alive (c ∷ cs) [] = []
-answered_alive (c ∷ cs) (true ∷ alive) = c ∷ answered_alive cs alive
-answered_alive (c ∷ cs) (false ∷ alive) = answered_alive cs alive
+answered_alive (c ∷ cs) (said_alive ∷ alive) = c ∷ answered_alive cs alive
+answered_alive (c ∷ cs) (said_cleared ∷ alive) = answered_alive cs alive
 
-pub answered_at : (cs : List ℕ) (alive : List Bool) (m i : ℕ) → slice_get cs i ≡ Some m → slice_get alive i ≡ Some true → mem nat_eq (answered_alive cs alive) m ≡ true
+pub answered_at : (cs : List ℕ) (alive : List Answer) (m i : ℕ) → slice_get cs i ≡ Some m → slice_get alive i ≡ Some said_alive → mem nat_eq (answered_alive cs alive) m ≡ true
 answered_at [] alive m i p q = cc
 answered_at (c ∷ cs) [] m i p q = cc
-answered_at (c ∷ cs) (true ∷ alive) m zero p q = let e : m ≡ c = cc in or_left (nat_eq m c) (mem nat_eq (answered_alive cs alive) m) ((Decides-eqb m c).1 e)
-answered_at (c ∷ cs) (false ∷ alive) m zero p q = cc
-answered_at (c ∷ cs) (true ∷ alive) m (suc i) p q = or_right (nat_eq m c) (mem nat_eq (answered_alive cs alive) m) (answered_at cs alive m i p q)
-answered_at (c ∷ cs) (false ∷ alive) m (suc i) p q = answered_at cs alive m i p q
+answered_at (c ∷ cs) (said_alive ∷ alive) m zero p q = let e : m ≡ c = cc in or_left (nat_eq m c) (mem nat_eq (answered_alive cs alive) m) ((Decides-eqb m c).1 e)
+answered_at (c ∷ cs) (said_cleared ∷ alive) m zero p q = cc
+answered_at (c ∷ cs) (said_alive ∷ alive) m (suc i) p q = or_right (nat_eq m c) (mem nat_eq (answered_alive cs alive) m) (answered_at cs alive m i p q)
+answered_at (c ∷ cs) (said_cleared ∷ alive) m (suc i) p q = answered_at cs alive m i p q
 
-pub answered_from : (cs : List ℕ) (alive : List Bool) (m : ℕ) → mem nat_eq (answered_alive cs alive) m ≡ true → IsAnsweredAlive cs alive m
+pub answered_from : (cs : List ℕ) (alive : List Answer) (m : ℕ) → mem nat_eq (answered_alive cs alive) m ≡ true → IsAnsweredAlive cs alive m
 answered_from [] alive m h = absurd (false≢true h)
 answered_from (c ∷ cs) [] m h = absurd (false≢true h)
-answered_from (c ∷ cs) (true ∷ alive) m h = ⊎_elim
+answered_from (c ∷ cs) (said_alive ∷ alive) m h = ⊎_elim
     (λ e. (0, ap (λ z. Some z) (sym ((Decides-eqb m c).0 e)), refl))
     (λ e. let r = answered_from cs alive m e in (suc r.0, r.1, r.2))
     (or_cases (nat_eq m c) (mem nat_eq (answered_alive cs alive) m) h)
-answered_from (c ∷ cs) (false ∷ alive) m h = let r = answered_from cs alive m h in (suc r.0, r.1, r.2)
+answered_from (c ∷ cs) (said_cleared ∷ alive) m h = let r = answered_from cs alive m h in (suc r.0, r.1, r.2)
 
-pub Decides-answered : (cs : List ℕ) (alive : List Bool) (m : ℕ) → Decides (mem nat_eq (answered_alive cs alive) m) (IsAnsweredAlive cs alive m)
+pub Decides-answered : (cs : List ℕ) (alive : List Answer) (m : ℕ) → Decides (mem nat_eq (answered_alive cs alive) m) (IsAnsweredAlive cs alive m)
 Decides-answered cs alive m = (answered_from cs alive m, λ a. answered_at cs alive m a.0 a.1 a.2)
 
 -- where a row of the dead part leads inside it

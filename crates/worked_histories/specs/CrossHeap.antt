@@ -1,6 +1,6 @@
 -- A cycle across both heaps: one managed object has another in a field, and the peer of the second has the peer of the first.
 -- Nothing else holds them, and a bridge cycle frees all four.
-use Rattle.std.specs.Prelude.{false, List, [], ◌∷◌, ◌++◌, Some, None}
+use Rattle.std.specs.Prelude.{List, [], ◌∷◌, ◌++◌, Some, None}
 use Rattle.joint_model.specs.declared.names.Thread.TheVariants.{M, P, C}
 use Rattle.joint_model.specs.declared.names.Sort.TheVariants.{User}
 use Rattle.joint_model.specs.declared.names.Kind.TheVariants as kind
@@ -8,7 +8,7 @@ use Rattle.joint_model.specs.declared.lines.Act.TheVariants as act
 use Rattle.joint_model.specs.declared.events.Op.TheVariants as op
 use Rattle.joint_model.specs.declared.events.Reply.TheVariants as says
 use Rattle.joint_model.specs.Linked.{Linkage, opening_linkage, replayed}
-use Rattle.joint_model.specs.Told.{nothing, snap_of, contraction_of, references_of, sweep_of, resolution_of, Noted}
+use Rattle.joint_model.specs.Told.{nothing, snap_of, contraction_of, references_of, sweep_of, resolution_of, Noted, said_cleared}
 use Rattle.worked_histories.specs.Notes.{note, var, static_no, object_no, peer_no, handle_no, cycle_no, marking_no, span}
 
 -- both objects are made and linked, and passed to two statics of the peer heap
@@ -52,7 +52,7 @@ collected =
     ∷ note 25 C 15 (op.Restore (handle_no 1)) says.Cleared None nothing
     ∷ note 26 C 15 (op.Restore (handle_no 2)) says.Cleared None nothing
     ∷ note 27 C 15 (op.Clear (cycle_no 1)) says.Ok None nothing
-    ∷ note 28 C 15 (op.Resolve (cycle_no 1)) (says.Freed (span 0 2)) (Some 27) (resolution_of (false ∷ false ∷ []) (1 ∷ 2 ∷ []))
+    ∷ note 28 C 15 (op.Resolve (cycle_no 1)) (says.Freed (span 0 2)) (Some 27) (resolution_of (said_cleared ∷ said_cleared ∷ []) (1 ∷ 2 ∷ []))
     ∷ []
 
 -- the whole history

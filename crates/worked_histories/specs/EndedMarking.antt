@@ -1,5 +1,5 @@
 -- The driver ends the open marking of a peer thread before it begins its own.
-use Rattle.std.specs.Prelude.{false, List, [], ◌∷◌, Some, None}
+use Rattle.std.specs.Prelude.{List, [], ◌∷◌, Some, None}
 use Rattle.joint_model.specs.declared.names.Thread.TheVariants.{M, P, C}
 use Rattle.joint_model.specs.declared.names.Sort.TheVariants.{User}
 use Rattle.joint_model.specs.declared.names.Kind.TheVariants as kind
@@ -7,7 +7,7 @@ use Rattle.joint_model.specs.declared.lines.Act.TheVariants as act
 use Rattle.joint_model.specs.declared.events.Op.TheVariants as op
 use Rattle.joint_model.specs.declared.events.Reply.TheVariants as says
 use Rattle.joint_model.specs.Linked.{opening_linkage, AllMayCome}
-use Rattle.joint_model.specs.Told.{nothing, snap_of, contraction_of, references_of, sweep_of, resolution_of, Noted}
+use Rattle.joint_model.specs.Told.{nothing, snap_of, contraction_of, references_of, sweep_of, resolution_of, Noted, said_cleared}
 use Rattle.worked_histories.specs.Moments.{IsRunOf}
 use Rattle.worked_histories.specs.Notes.{note, var, static_no, cell_no, name_no, object_no, peer_no, handle_no, cycle_no, marking_no, span}
 
@@ -40,7 +40,7 @@ ended_marking =
     ∷ note 23 C 19 (op.Restore (handle_no 1)) says.Cleared None nothing
     ∷ note 24 C 19 (op.Restore (handle_no 2)) says.Cleared None nothing
     ∷ note 25 C 19 (op.Clear (cycle_no 1)) says.Ok None nothing
-    ∷ note 26 C 20 (op.Resolve (cycle_no 1)) (says.Freed (span 0 2)) (Some 25) (resolution_of (false ∷ false ∷ []) (1 ∷ 2 ∷ []))
+    ∷ note 26 C 20 (op.Resolve (cycle_no 1)) (says.Freed (span 0 2)) (Some 25) (resolution_of (said_cleared ∷ said_cleared ∷ []) (1 ∷ 2 ∷ []))
     ∷ note 27 (M 1) 21 (op.Line (act.Read (cell_no 0))) says.Gone None nothing
     ∷ []
 

@@ -1,5 +1,5 @@
 -- A bridge object in the form of the first steps: a strong global name keeps it with its peer, and a weak one does not.
-use Rattle.std.specs.Prelude.{true, false, List, [], ◌∷◌, ◌++◌, Some, None}
+use Rattle.std.specs.Prelude.{List, [], ◌∷◌, ◌++◌, Some, None}
 use Rattle.joint_model.specs.declared.names.Thread.TheVariants.{M, P, C}
 use Rattle.joint_model.specs.declared.names.Sort.TheVariants.{User}
 use Rattle.joint_model.specs.declared.names.Kind.TheVariants as kind
@@ -7,7 +7,7 @@ use Rattle.joint_model.specs.declared.lines.Act.TheVariants as act
 use Rattle.joint_model.specs.declared.events.Op.TheVariants as op
 use Rattle.joint_model.specs.declared.events.Reply.TheVariants as says
 use Rattle.joint_model.specs.First.{FirstLinkage, opening_first, first_replayed, AllFirstMayCome}
-use Rattle.joint_model.specs.Told.{nothing, snap_of, begin_of, sweep_of, resolution_of, Noted}
+use Rattle.joint_model.specs.Told.{nothing, snap_of, begin_of, sweep_of, resolution_of, Noted, said_alive, said_cleared}
 use Rattle.worked_histories.specs.Notes.{note, var, static_no, name_no, object_no, peer_no, handle_no, cycle_no, marking_no, span}
 
 -- the peer gets a weak and a strong global name, and everything else lets go
@@ -33,7 +33,7 @@ kept_cycle =
     ∷ note 12 C 10 (op.Snap (cycle_no 1)) (says.Snapped 1 (span 0 0)) None (snap_of [] (1 ∷ []) (1 ∷ []))
     ∷ note 13 C 10 op.Begin (says.Mark (marking_no 2)) None (begin_of [])
     ∷ note 14 C 10 op.Sweep (says.Swept (marking_no 2) (span 0 0)) None (sweep_of [])
-    ∷ note 15 C 10 (op.Resolve (cycle_no 1)) (says.Freed (span 0 0)) None (resolution_of (true ∷ []) [])
+    ∷ note 15 C 10 (op.Resolve (cycle_no 1)) (says.Freed (span 0 0)) None (resolution_of (said_alive ∷ []) [])
     ∷ []
 
 -- without the strong name a cycle frees both, and the weak one leads nowhere
@@ -43,7 +43,7 @@ freed_cycle =
     ∷ note 17 C 12 (op.Snap (cycle_no 2)) (says.Snapped 1 (span 0 0)) None (snap_of [] (1 ∷ []) (1 ∷ []))
     ∷ note 18 C 12 op.Begin (says.Mark (marking_no 3)) None (begin_of (1 ∷ []))
     ∷ note 19 C 12 op.Sweep (says.Swept (marking_no 3) (span 0 1)) None (sweep_of (1 ∷ []))
-    ∷ note 20 C 12 (op.Resolve (cycle_no 2)) (says.Freed (span 0 1)) None (resolution_of (false ∷ []) (1 ∷ []))
+    ∷ note 20 C 12 (op.Resolve (cycle_no 2)) (says.Freed (span 0 1)) None (resolution_of (said_cleared ∷ []) (1 ∷ []))
     ∷ note 21 (P 1) 13 (op.Line (act.WRead (var 1) (name_no 0))) says.Gone None nothing
     ∷ []
 

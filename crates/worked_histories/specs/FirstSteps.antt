@@ -1,6 +1,6 @@
 -- Two bridge objects, of which the first has the second in a field, in the form of the first steps: the first cycle finds
 -- both reached, and the second frees both with their peers.
-use Rattle.std.specs.Prelude.{◌≡◌, ℕ, false, List, [], ◌∷◌, ◌++◌, take, Contains, Some, None}
+use Rattle.std.specs.Prelude.{◌≡◌, ℕ, List, [], ◌∷◌, ◌++◌, take, Contains, Some, None}
 use Rattle.joint_model.specs.declared.names.Thread.TheVariants.{M, C}
 use Rattle.joint_model.specs.declared.names.Sort.TheVariants.{User}
 use Rattle.joint_model.specs.declared.names.Kind.TheVariants as kind
@@ -9,7 +9,7 @@ use Rattle.joint_model.specs.declared.events.Op.TheVariants as op
 use Rattle.joint_model.specs.declared.events.Reply.{Reply}
 use Rattle.joint_model.specs.declared.events.Reply.TheVariants as says
 use Rattle.joint_model.specs.First.{FirstLinkage, opening_first, first_replayed, FirstMayCome}
-use Rattle.joint_model.specs.Told.{nothing, snap_of, begin_of, sweep_of, resolution_of, Noted}
+use Rattle.joint_model.specs.Told.{nothing, snap_of, begin_of, sweep_of, resolution_of, Noted, said_cleared}
 use Rattle.worked_histories.specs.Notes.{note, var, object_no, peer_no, handle_no, cycle_no, marking_no, span}
 
 -- both objects are made, the first gets the second into its field, and the second's variable is emptied
@@ -39,7 +39,7 @@ second_cycle =
     ∷ note 11 C 7 (op.Snap (cycle_no 2)) (says.Snapped 2 (span 0 0)) None (snap_of [] (1 ∷ 2 ∷ []) (1 ∷ 2 ∷ []))
     ∷ note 12 C 7 op.Begin (says.Mark (marking_no 2)) None (begin_of (1 ∷ 2 ∷ []))
     ∷ note 13 C 7 op.Sweep (says.Swept (marking_no 2) (span 0 2)) None (sweep_of (1 ∷ 2 ∷ []))
-    ∷ note 14 C 7 (op.Resolve (cycle_no 2)) (says.Freed (span 0 2)) None (resolution_of (false ∷ false ∷ []) (1 ∷ 2 ∷ []))
+    ∷ note 14 C 7 (op.Resolve (cycle_no 2)) (says.Freed (span 0 2)) None (resolution_of (said_cleared ∷ said_cleared ∷ []) (1 ∷ 2 ∷ []))
     ∷ []
 
 -- the whole history

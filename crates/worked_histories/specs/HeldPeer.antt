@@ -1,5 +1,5 @@
 -- A cycle across both heaps with one peer in a static: nothing is freed.
-use Rattle.std.specs.Prelude.{true, List, [], ◌∷◌, Some, None}
+use Rattle.std.specs.Prelude.{List, [], ◌∷◌, Some, None}
 use Rattle.joint_model.specs.declared.names.Thread.TheVariants.{M, P, C}
 use Rattle.joint_model.specs.declared.names.Sort.TheVariants.{User}
 use Rattle.joint_model.specs.declared.names.Kind.TheVariants as kind
@@ -7,7 +7,7 @@ use Rattle.joint_model.specs.declared.lines.Act.TheVariants as act
 use Rattle.joint_model.specs.declared.events.Op.TheVariants as op
 use Rattle.joint_model.specs.declared.events.Reply.TheVariants as says
 use Rattle.joint_model.specs.Linked.{opening_linkage, AllMayCome}
-use Rattle.joint_model.specs.Told.{nothing, snap_of, contraction_of, references_of, sweep_of, resolution_of, Noted}
+use Rattle.joint_model.specs.Told.{nothing, snap_of, contraction_of, references_of, sweep_of, resolution_of, Noted, said_alive}
 use Rattle.worked_histories.specs.Moments.{IsRunOf}
 use Rattle.worked_histories.specs.Notes.{note, var, static_no, object_no, peer_no, handle_no, cycle_no, marking_no, span}
 
@@ -41,7 +41,7 @@ held_peer =
     ∷ note 24 C 14 (op.Restore (handle_no 1)) says.Alive None nothing
     ∷ note 25 C 14 (op.Restore (handle_no 2)) says.Alive None nothing
     ∷ note 26 C 14 (op.Clear (cycle_no 1)) says.Ok None nothing
-    ∷ note 27 C 14 (op.Resolve (cycle_no 1)) (says.Freed (span 0 0)) (Some 26) (resolution_of (true ∷ true ∷ []) [])
+    ∷ note 27 C 14 (op.Resolve (cycle_no 1)) (says.Freed (span 0 0)) (Some 26) (resolution_of (said_alive ∷ said_alive ∷ []) [])
     ∷ []
 
 -- every entry may come when it comes, and the entries that are steps of the joint machine are a run

@@ -1,5 +1,5 @@
 -- A candidate whose peer moves from a field to a static between the phases is kept.
-use Rattle.std.specs.Prelude.{true, List, [], ◌∷◌, Some, None}
+use Rattle.std.specs.Prelude.{List, [], ◌∷◌, Some, None}
 use Rattle.joint_model.specs.declared.names.Thread.TheVariants.{M, P, C}
 use Rattle.joint_model.specs.declared.names.Sort.TheVariants.{User}
 use Rattle.joint_model.specs.declared.names.Kind.TheVariants as kind
@@ -7,7 +7,7 @@ use Rattle.joint_model.specs.declared.lines.Act.TheVariants as act
 use Rattle.joint_model.specs.declared.events.Op.TheVariants as op
 use Rattle.joint_model.specs.declared.events.Reply.TheVariants as says
 use Rattle.joint_model.specs.Linked.{opening_linkage, AllMayCome}
-use Rattle.joint_model.specs.Told.{nothing, snap_of, contraction_of, references_of, sweep_of, resolution_of, Noted}
+use Rattle.joint_model.specs.Told.{nothing, snap_of, contraction_of, references_of, sweep_of, resolution_of, Noted, said_alive}
 use Rattle.worked_histories.specs.Moments.{IsRunOf}
 use Rattle.worked_histories.specs.Notes.{note, var, static_no, object_no, peer_no, handle_no, cycle_no, marking_no, span}
 
@@ -36,7 +36,7 @@ moved_peer =
     ∷ note 19 C 15 op.Sweep (says.Swept (marking_no 1) (span 0 0)) None (sweep_of [])
     ∷ note 20 C 15 (op.Restore (handle_no 1)) says.Alive None nothing
     ∷ note 21 C 15 (op.Clear (cycle_no 1)) says.Ok None nothing
-    ∷ note 22 C 15 (op.Resolve (cycle_no 1)) (says.Freed (span 0 0)) (Some 21) (resolution_of (true ∷ []) [])
+    ∷ note 22 C 15 (op.Resolve (cycle_no 1)) (says.Freed (span 0 0)) (Some 21) (resolution_of (said_alive ∷ []) [])
     ∷ []
 
 -- every entry may come when it comes, and the entries that are steps of the joint machine are a run

@@ -1,5 +1,5 @@
 -- A peer thread collects while the handles are weakened: it frees the peers before the own marking of the cycle begins.
-use Rattle.std.specs.Prelude.{false, List, [], ◌∷◌, Some, None}
+use Rattle.std.specs.Prelude.{List, [], ◌∷◌, Some, None}
 use Rattle.joint_model.specs.declared.names.Thread.TheVariants.{M, P, C}
 use Rattle.joint_model.specs.declared.names.Sort.TheVariants.{User}
 use Rattle.joint_model.specs.declared.names.Kind.TheVariants as kind
@@ -7,7 +7,7 @@ use Rattle.joint_model.specs.declared.lines.Act.TheVariants as act
 use Rattle.joint_model.specs.declared.events.Op.TheVariants as op
 use Rattle.joint_model.specs.declared.events.Reply.TheVariants as says
 use Rattle.joint_model.specs.Linked.{opening_linkage, AllMayCome}
-use Rattle.joint_model.specs.Told.{nothing, snap_of, contraction_of, references_of, sweep_of, resolution_of, Noted}
+use Rattle.joint_model.specs.Told.{nothing, snap_of, contraction_of, references_of, sweep_of, resolution_of, Noted, said_cleared}
 use Rattle.worked_histories.specs.Moments.{IsRunOf}
 use Rattle.worked_histories.specs.Notes.{note, var, object_no, peer_no, handle_no, cycle_no, marking_no, span}
 
@@ -34,7 +34,7 @@ peer_marking =
     ∷ note 17 C 14 (op.Restore (handle_no 1)) says.Cleared None nothing
     ∷ note 18 C 14 (op.Restore (handle_no 2)) says.Cleared None nothing
     ∷ note 19 C 14 (op.Clear (cycle_no 1)) says.Ok None nothing
-    ∷ note 20 C 15 (op.Resolve (cycle_no 1)) (says.Freed (span 0 2)) (Some 19) (resolution_of (false ∷ false ∷ []) (1 ∷ 2 ∷ []))
+    ∷ note 20 C 15 (op.Resolve (cycle_no 1)) (says.Freed (span 0 2)) (Some 19) (resolution_of (said_cleared ∷ said_cleared ∷ []) (1 ∷ 2 ∷ []))
     ∷ []
 
 -- every entry may come when it comes, and the entries that are steps of the joint machine are a run

@@ -1,13 +1,13 @@
 -- Two bridge objects, of which the first has the second in a field, with cycles of eight phases: the first cycle finds both
 -- reached, and the second frees both with their peers.
-use Rattle.std.specs.Prelude.{◌≡◌, ℕ, Bool, false, List, [], ◌∷◌, ◌++◌, Contains, Some, None}
+use Rattle.std.specs.Prelude.{◌≡◌, ℕ, List, [], ◌∷◌, ◌++◌, Contains, Some, None}
 use Rattle.joint_model.specs.declared.names.Thread.TheVariants.{M, C}
 use Rattle.joint_model.specs.declared.lines.Act.TheVariants as act
 use Rattle.joint_model.specs.declared.events.Op.TheVariants as op
 use Rattle.joint_model.specs.declared.events.Reply.{Reply}
 use Rattle.joint_model.specs.declared.events.Reply.TheVariants as says
 use Rattle.joint_model.specs.Linked.{Linkage, opening_linkage, replayed, MayCome}
-use Rattle.joint_model.specs.Told.{nothing, snap_of, contraction_of, references_of, sweep_of, resolution_of, Noted}
+use Rattle.joint_model.specs.Told.{nothing, snap_of, contraction_of, references_of, sweep_of, resolution_of, Noted, said_cleared, Answer}
 use Rattle.worked_histories.specs.FirstSteps.{two_made}
 use Rattle.worked_histories.specs.Notes.{note, var, handle_no, cycle_no, marking_no, span}
 
@@ -61,7 +61,7 @@ dead_peers = weakened_both ++ (restored_first ++ restored_last)
 
 -- both objects are freed
 abbrev pub dead_end : List Noted
-dead_end = note 24 C 7 (op.Resolve (cycle_no 2)) (says.Freed (span 0 2)) (Some 23) (resolution_of (false ∷ false ∷ []) (1 ∷ 2 ∷ [])) ∷ []
+dead_end = note 24 C 7 (op.Resolve (cycle_no 2)) (says.Freed (span 0 2)) (Some 23) (resolution_of (said_cleared ∷ said_cleared ∷ []) (1 ∷ 2 ∷ [])) ∷ []
 
 -- the whole history
 abbrev pub two_phased : List Noted
@@ -86,5 +86,5 @@ MirrorsBoth = (refs : List (ℕ × ℕ)) (reply : Reply) → MayCome before_mirr
 
 -- a resolution that may come there keeps neither candidate, and frees both
 abbrev pub ResolvesBoth : Type 0
-ResolvesBoth = (alive : List Bool) (freed : List ℕ) (reply : Reply) → MayCome before_resolve (note 24 C 7 (op.Resolve (cycle_no 2)) reply (Some 23) (resolution_of alive freed))
-    → (alive ≡ false ∷ false ∷ []) × Contains freed 1 × Contains freed 2
+ResolvesBoth = (alive : List Answer) (freed : List ℕ) (reply : Reply) → MayCome before_resolve (note 24 C 7 (op.Resolve (cycle_no 2)) reply (Some 23) (resolution_of alive freed))
+    → (alive ≡ said_cleared ∷ said_cleared ∷ []) × Contains freed 1 × Contains freed 2

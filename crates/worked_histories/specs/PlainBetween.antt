@@ -1,5 +1,5 @@
 -- Two bridge objects with two plain ones between them, of which the first one has a peer in a static.
-use Rattle.std.specs.Prelude.{◌≡◌, ℕ, true, List, [], ◌∷◌, ◌++◌, Contains, Some, None}
+use Rattle.std.specs.Prelude.{◌≡◌, ℕ, List, [], ◌∷◌, ◌++◌, Contains, Some, None}
 use Rattle.joint_model.specs.declared.names.Thread.TheVariants.{M, C}
 use Rattle.joint_model.specs.declared.names.Sort.TheVariants.{User, Framework}
 use Rattle.joint_model.specs.declared.names.Kind.TheVariants as kind
@@ -9,7 +9,7 @@ use Rattle.joint_model.specs.declared.events.Reply.{Reply}
 use Rattle.joint_model.specs.declared.events.Reply.TheVariants as says
 use Rattle.joint_model.specs.Linked.{Linkage, opening_linkage, replayed, AllMayCome, MayCome}
 use Rattle.joint_model.specs.PeerReplay.{SweepAllows}
-use Rattle.joint_model.specs.Told.{nothing, snap_of, contraction_of, references_of, sweep_of, resolution_of, Noted}
+use Rattle.joint_model.specs.Told.{nothing, snap_of, contraction_of, references_of, sweep_of, resolution_of, Noted, said_alive}
 use Rattle.worked_histories.specs.Moments.{IsRunOf}
 use Rattle.worked_histories.specs.Notes.{note, var, static_no, object_no, peer_no, handle_no, cycle_no, marking_no, span}
 
@@ -55,7 +55,7 @@ plain_kept =
     ∷ note 22 C 13 (op.Restore (handle_no 1)) says.Alive None nothing
     ∷ note 23 C 13 (op.Restore (handle_no 2)) says.Alive None nothing
     ∷ note 24 C 13 (op.Clear (cycle_no 1)) says.Ok None nothing
-    ∷ note 25 C 13 (op.Resolve (cycle_no 1)) (says.Freed (span 0 0)) (Some 24) (resolution_of (true ∷ true ∷ []) [])
+    ∷ note 25 C 13 (op.Resolve (cycle_no 1)) (says.Freed (span 0 0)) (Some 24) (resolution_of (said_alive ∷ said_alive ∷ []) [])
     ∷ []
 
 -- the whole history

@@ -1,5 +1,5 @@
 -- The answers are those of the restores, so no candidate is kept, and both rows of the dead part are freed.
-use Rattle.std.proofs.Common.{◌≡◌, ℕ, Bool, true, false, List, [], ◌∷◌, Some, refl, subst, slice_get}
+use Rattle.std.proofs.Common.{◌≡◌, ℕ, true, false, List, [], ◌∷◌, Some, refl, subst, slice_get}
 use Rattle.std.proofs.lemmas.Bool.{false≢true}
 use Rattle.joint_model.specs.Cycles.{IsAnsweredAlive}
 use Rattle.joint_model.specs.Managed.{OpenCycle}
@@ -7,9 +7,10 @@ use Rattle.std.specs.List.{Contains}
 use Rattle.worked_histories.proofs.Entries.{present}
 use Rattle.worked_histories.proofs.ManagedRows.{answered_at}
 use Rattle.worked_histories.proofs.histories.resolution_keeps_the_answered.Goals as goal
+use Rattle.joint_model.specs.Told.{said_alive, said_cleared, Answer}
 
-none_kept : (cycle : OpenCycle) (alive : List Bool) → cycle.candidates ≡ 1 ∷ 2 ∷ [] → alive ≡ false ∷ false ∷ [] → (x : ℕ) → IsAnsweredAlive cycle.candidates alive x → ⊥
-none_kept cycle alive p q x a = false≢true (answered_at (1 ∷ 2 ∷ []) (false ∷ false ∷ []) x a.0 (subst (λ l. slice_get l a.0 ≡ Some x) p a.1) (subst (λ l. slice_get l a.0 ≡ Some true) q a.2))
+none_kept : (cycle : OpenCycle) (alive : List Answer) → cycle.candidates ≡ 1 ∷ 2 ∷ [] → alive ≡ said_cleared ∷ said_cleared ∷ [] → (x : ℕ) → IsAnsweredAlive cycle.candidates alive x → ⊥
+none_kept cycle alive p q x a = false≢true (answered_at (1 ∷ 2 ∷ []) (said_cleared ∷ said_cleared ∷ []) x a.0 (subst (λ l. slice_get l a.0 ≡ Some x) p a.1) (subst (λ l. slice_get l a.0 ≡ Some said_alive) q a.2))
 
 the_cycle : OpenCycle
 the_cycle = record { number = 2; candidates = 1 ∷ 2 ∷ []; dead = 1 ∷ 2 ∷ [] }
