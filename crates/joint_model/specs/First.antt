@@ -1,8 +1,8 @@
 -- The form of the first steps, which goes as a whole when the cycle of eight phases comes: a cycle makes the four entries
 -- snap, begin, sweep and resolve; its sweep goes by joint reachability; its resolve cites nothing and keeps the
--- candidates whose peers weren't swept; no other caller's entry stands within it; and at the end the driver is idle, and
--- the list of notices is empty. Everything else is as in the final definitions.
-use Rattle.std.specs.Prelude.{◌≡◌, ℕ, ◌+◌, ◌<◌, ◌≤◌, ◌^◌, ◌↔◌, Contains, Bool, true, false, nat_eq, if◌then◌else◌, List, [], ◌∷◌, length, map, Option, Some, None}
+-- candidates whose peers weren't swept; no other caller's entry stands within it; and at the end the driver is idle.
+-- Everything else is as in the final definitions.
+use Rattle.std.specs.Prelude.{◌≡◌, ℕ, ◌+◌, ◌<◌, ◌≤◌, ◌^◌, ◌↔◌, Contains, Bool, true, false, nat_eq, if◌then◌else◌, List, [], ◌∷◌, length, map, take, Option, Some, None}
 use Rattle.std.specs.List.{list_any}
 use Rattle.joint_model.specs.declared.names.Thread.{Thread}
 use Rattle.joint_model.specs.declared.names.Thread.TheVariants.{M, P, C}
@@ -189,8 +189,12 @@ pub record IsFirstWhole (s : FirstLinkage) : Type 0 where
   pub threads : (t : ℕ) → IsDone (doing_at s.base.control t)
   pub driver : s.base.control.stand ≡ idle
 
--- a history is linked in the form of the first steps, with the notes given: the numbers are those from 0 on, and in these
--- steps nobody takes notices
+-- the managed objects at the end of a list of entries
+abbrev pub first_end : List Noted → Managed
+first_end ns = (first_replayed opening_first ns).base.managed.managed
+
+-- a history is linked in the form of the first steps, with the notes given: the numbers are those from 0 on, and the notices
+-- that were taken are the first of its list
 pub record IsFirstLinkedBy (h : Finished) (noted : List Noted) : Type 0 where
   pub same : map (λ n. n.entry) noted ≡ h.entries
   pub numbers : NumberedFrom 0 h.entries
@@ -198,9 +202,13 @@ pub record IsFirstLinkedBy (h : Finished) (noted : List Noted) : Type 0 where
   pub whole : IsFirstWhole (first_replayed opening_first noted)
   pub freed_managed : managed_numbers h.freed_managed ≡ (first_replayed opening_first noted).base.managed.managed.heap.freed
   pub freed_peers : peer_numbers h.freed_peers ≡ (first_replayed opening_first noted).base.peer.peers.heap.freed
-  pub notices : h.notices ≡ []
+  pub notices : take (first_end noted).taken (managed_numbers h.notices) ≡ take (first_end noted).taken (first_end noted).notices
 
 -- a history is linked in the form of the first steps
 pub record IsFirstLinked (h : Finished) : Type 0 where
   pub noted : List Noted
   pub linked : IsFirstLinkedBy h noted
+
+-- every notice that was ever queued is in the history's list
+abbrev pub HasFirstQueued : Finished → List Noted → Type 0
+HasFirstQueued h noted = managed_numbers h.notices ≡ (first_end noted).notices

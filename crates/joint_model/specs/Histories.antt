@@ -26,6 +26,14 @@ managed_numbers ms = map (λ m. m.0) ms
 abbrev pub peer_numbers : List PNum → List ℕ
 peer_numbers ps = map (λ p. p.0) ps
 
+-- two histories are alike in all that a text shows where so many notices were taken: the entries, what was freed, and the
+-- notices that were taken
+pub record AreShownAlike (taken : ℕ) (g h : Finished) : Type 0 where
+  pub entries : g.entries ≡ h.entries
+  pub freed_managed : g.freed_managed ≡ h.freed_managed
+  pub freed_peers : g.freed_peers ≡ h.freed_peers
+  pub notices : take taken g.notices ≡ take taken h.notices
+
 -- the stretch of a list that a span names
 abbrev pub stretch : {A : Type 0} → List A → Span → List A
 stretch xs s = take s.count (drop s.first xs)

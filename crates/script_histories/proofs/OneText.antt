@@ -19,6 +19,7 @@ use Rattle.bridge_script.specs.declared.lists.Numbers.TheVariants.{Freed, FreedP
 use Rattle.bridge_script.specs.Words.{thread_text}
 use Rattle.bridge_script.specs.Lists.{after_spaces, list_words}
 use Rattle.bridge_script.specs.Report.{event_words, reply_words, list_of, shown, cite_words, place_text, head_words, entry_text, entries_text, end_text, report}
+use Rattle.script_histories.specs.Laws.{IsOneHistory}
 use Rattle.script_histories.proofs.Cutting.{Lacks, every-append, cut-first, words-one}
 use Rattle.script_histories.proofs.Digits.{IsDigit, decimal-digits, decimal-one}
 use Rattle.script_histories.proofs.Plain.{AllPlain, plain-listed, plain-event, plain-reply, plain-cites, plain-place, plain-decimal, no-byte, no-bytes, no-equals}
@@ -167,9 +168,9 @@ texts-one h h' k k' s (n ∷ ns) (n' ∷ ns') c c' q =
     ap (λ (m : Noted). m ∷ ns) one ∙ ap (λ (l : List Noted). n' ∷ l) rest
 
 -- two linked histories with one text
-pub one-text : (h h' : Finished) → IsFirstLinked h → IsFirstLinked h' → report h ≡ report h' → h ≡ h'
+pub one-text : (h h' : Finished) (a : IsFirstLinked h) (b : IsFirstLinked h') → report h ≡ report h' → IsOneHistory h h' a b
 one-text h h' a b q =
     let e = a.linked.same in
     let e' = b.linked.same in
     let texts = ap (λ (l : List Entry). entries_text h l ++ end_text (length h.entries)) e ∙ (q ∙ ap (λ (l : List Entry). entries_text h' l ++ end_text (length h'.entries)) (sym e')) in
-    notes-tell h h' a.noted b.noted a.linked b.linked (texts-one h h' (length h.entries) (length h'.entries) opening_counted a.noted b.noted (linked-counted h a.noted a.linked) (linked-counted h' b.noted b.linked) texts)
+    notes-tell h h' a b (texts-one h h' (length h.entries) (length h'.entries) opening_counted a.noted b.noted (linked-counted h a.noted a.linked) (linked-counted h' b.noted b.linked) texts)

@@ -13,13 +13,15 @@ pub fn held_cycles_end()
 {}
 
 /// A script has at most one history: two linked histories, in the form of the first steps, that hold the lines of one
-/// script are the same, in their entries and in what was freed.
+/// script are the same, in their entries, in what was freed and in the notices that were taken, and in the notices that were
+/// only queued where each has them all.
 pub fn one_history_for_a_script()
     ensures { HasOneHistory }
 {}
 
 /// A text is the report of at most one history: two linked histories, in the form of the first steps, that have the
-/// same report are the same, in their entries and in what was freed.
+/// same report are the same, in their entries, in what was freed and in the notices that were taken, and in the notices that
+/// were only queued where each has them all.
 pub fn texts_tell_histories()
     ensures { HasOneText }
 {}
