@@ -24,7 +24,7 @@ use Rattle.joint_model.specs.Control.{free, made, idle, caller_place, doing_at, 
 use Rattle.joint_model.specs.Draws.{numbered, Adds, CountDrew}
 use Rattle.joint_model.specs.First.{FirstLinkage, first_after, FirstMayCome, IsCycleAlone}
 use Rattle.joint_model.specs.Heaps.{Answered, answer, place, is_full, IsMade, with_object, next_number}
-use Rattle.joint_model.specs.Histories.{IsSound, HasSpans}
+use Rattle.joint_model.specs.Histories.{FitsLists, HasSpans}
 use Rattle.joint_model.specs.Lines.{IsManagedThread, IsLine, IsBridgeObject, IsVar}
 use Rattle.joint_model.specs.Managed.{Managed, adopted}
 use Rattle.joint_model.specs.ManagedReplay.{ManagedReplay, adopt_by}
@@ -121,9 +121,9 @@ make-told m p p' count count' k index sort n r noted end thread fields is table 
       order = done-start (doing_at end.base.control k) (at.done k);
       alone = subst (λ s. IsCycleAlone s (M k)) (sym at.stands) tt;
     } in
-    let sound : IsSound ms ps [] e = record { event = (thread, fields); spans = pair.spans } in
+    let sound : FitsLists ms ps [] e = record { event = (thread, fields); spans = pair.spans } in
     let more : Ran (entries_of noted ++ e ∷ []) m.entries (p.entries ++ e ∷ []) m.managed.heap.freed (p.peers.heap.freed ++ []) (count + 1) =
-    Ran-peer (entries_of noted) m.entries p.entries m.managed.heap.freed p.peers.heap.freed [] count e told.ran adds.drawn.0 (subst (λ l. IsSound ms (as_peers l) [] e) (sym (append-nil p.peers.heap.freed)) sound) in
+    Ran-peer (entries_of noted) m.entries p.entries m.managed.heap.freed p.peers.heap.freed [] count e told.ran adds.drawn.0 (subst (λ l. FitsLists ms (as_peers l) [] e) (sym (append-nil p.peers.heap.freed)) sound) in
     let freed : p.peers.heap.freed ++ [] ≡ p'.peers.heap.freed = append-nil p.peers.heap.freed ∙ sym pair.freed in
     let grown : Ran (entries_of noted ++ e ∷ []) m.entries p'.entries m.managed.heap.freed p'.peers.heap.freed count' =
     subst (λ l. Ran (entries_of noted ++ e ∷ []) m.entries p'.entries m.managed.heap.freed l count') freed

@@ -19,7 +19,7 @@ use Rattle.joint_model.specs.Control.{Stand, idle, snapped, marked, restoring, c
 use Rattle.joint_model.specs.Draws.{numbered, Adds, CountDrew}
 use Rattle.joint_model.specs.First.{first_after, first_answers, FirstMayCome, FirstBegin, FirstSweep, FirstResolve, IsCycleAlone, AreUnreached, first_stand_after, swept_rows}
 use Rattle.joint_model.specs.Heaps.{with_freed, is_freed, IsMade}
-use Rattle.joint_model.specs.Histories.{IsSound, managed_numbers, peer_numbers}
+use Rattle.joint_model.specs.Histories.{FitsLists, managed_numbers, peer_numbers}
 use Rattle.joint_model.specs.Managed.{Managed, OpenCycle}
 use Rattle.joint_model.specs.Peers.{Peers}
 use Rattle.joint_model.specs.Told.{Noted, snap_of, begin_of, sweep_of, resolution_of}
@@ -63,7 +63,7 @@ managed-numbered (m ∷ ms) = ap (λ l. m ∷ l) (managed-numbered ms)
 -- the whole history with a further entry of the peer side that frees these peers, as it stands after the entry
 peer-more : (whole : List Entry) (m : ManagedShown) (p p' : PeerShown) (count count' : ℕ) (e : Entry) (dead : List ℕ)
     → Ran whole m.entries p.entries m.managed.heap.freed p.peers.heap.freed count → e.number ≡ count
-    → IsSound (as_managed m.managed.heap.freed) (as_peers (p.peers.heap.freed ++ dead)) [] e
+    → FitsLists (as_managed m.managed.heap.freed) (as_peers (p.peers.heap.freed ++ dead)) [] e
     → p'.entries ≡ p.entries ++ e ∷ [] → p'.peers.heap.freed ≡ p.peers.heap.freed ++ dead → count' ≡ count + 1
     → Ran (whole ++ e ∷ []) m.entries p'.entries m.managed.heap.freed p'.peers.heap.freed count'
 peer-more whole m p p' count count' e dead ran number sound entries freed counted =
@@ -75,12 +75,12 @@ peer-more whole m p p' count count' e dead ran number sound entries freed counte
 -- the same of the managed side
 managed-more : (whole : List Entry) (m m' : ManagedShown) (p : PeerShown) (count count' : ℕ) (e : Entry) (freed : List ℕ)
     → Ran whole m.entries p.entries m.managed.heap.freed p.peers.heap.freed count → e.number ≡ count
-    → IsSound (as_managed m.managed.heap.freed ++ as_managed freed) (as_peers p.peers.heap.freed) [] e
+    → FitsLists (as_managed m.managed.heap.freed ++ as_managed freed) (as_peers p.peers.heap.freed) [] e
     → m'.entries ≡ m.entries ++ e ∷ [] → m'.managed.heap.freed ≡ m.managed.heap.freed ++ freed → count' ≡ count + 1
     → Ran (whole ++ e ∷ []) m'.entries p.entries m'.managed.heap.freed p.peers.heap.freed count'
 managed-more whole m m' p count count' e freed ran number sound entries gone counted =
-    let joined : IsSound (as_managed (m.managed.heap.freed ++ freed)) (as_peers p.peers.heap.freed) [] e =
-    subst (λ l. IsSound l (as_peers p.peers.heap.freed) [] e) (sym (map-append as_object m.managed.heap.freed freed)) sound in
+    let joined : FitsLists (as_managed (m.managed.heap.freed ++ freed)) (as_peers p.peers.heap.freed) [] e =
+    subst (λ l. FitsLists l (as_peers p.peers.heap.freed) [] e) (sym (map-append as_object m.managed.heap.freed freed)) sound in
     subst (λ l. Ran (whole ++ e ∷ []) m'.entries p.entries l p.peers.heap.freed count') (sym gone)
     (subst (λ k. Ran (whole ++ e ∷ []) m'.entries p.entries (m.managed.heap.freed ++ freed) p.peers.heap.freed k) (sym counted)
     (subst (λ es. Ran (whole ++ e ∷ []) es p.entries (m.managed.heap.freed ++ freed) p.peers.heap.freed (count + 1)) (sym entries)
@@ -114,7 +114,7 @@ snap-goes m m' p count count' index out s noted end told at =
       order = subst (λ (x : Stand). MaySnap x None) (sym at.stands) refl;
       alone = subst (λ (x : Stand). IsCycleAlone x C) (sym at.stands) tt;
     } in
-    let sound : IsSound (as_managed m.managed.heap.freed ++ as_managed freed) (as_peers p.peers.heap.freed) [] e =
+    let sound : FitsLists (as_managed m.managed.heap.freed ++ as_managed freed) (as_peers p.peers.heap.freed) [] e =
     snapped-sound (as_managed m.managed.heap.freed) (as_managed freed) (as_peers p.peers.heap.freed) e (length s.candidates) record { first = length m.managed.heap.freed; count = length freed }
     tt refl (sym (length-map m.managed.heap.freed as_object)) (sym (length-map freed as_object)) (subst Rises (sym (managed-numbered freed)) s.snapshot.freed_rise) in
     let grown = managed-more (entries_of noted) m m' p count count' e freed told.ran s.drawn.0 sound s.added (ap (λ (x : Managed). x.heap.freed) s.state) s.drawn.1 in
@@ -196,11 +196,11 @@ sweep-goes m p p' count count' index b j s dead rise begun number span peers tab
       order = (subst FirstSweep (sym stands) tt, refl);
       alone = subst (λ (x : Stand). IsCycleAlone x C) (sym stands) tt;
     } in
-    let sound : IsSound (as_managed m.managed.heap.freed) (as_peers p.peers.heap.freed ++ as_peers dead) [] e =
+    let sound : FitsLists (as_managed m.managed.heap.freed) (as_peers p.peers.heap.freed ++ as_peers dead) [] e =
     swept-sound (as_managed m.managed.heap.freed) (as_peers p.peers.heap.freed) (as_peers dead) e j s tt refl
     (ap (λ (x : Span). x.first) span ∙ sym (length-map p.peers.heap.freed as_peer)) (ap (λ (x : Span). x.count) span ∙ sym (length-map dead as_peer)) (subst Rises (sym (peers-numbered dead)) rise) in
     let grown = peer-more (entries_of noted) m p p' count count' e dead told.ran adds.drawn.0
-    (subst (λ l. IsSound (as_managed m.managed.heap.freed) l [] e) (sym (map-append as_peer p.peers.heap.freed dead)) sound) adds.added (ap (λ (x : Peers). x.heap.freed) peers) adds.drawn.1 in
+    (subst (λ l. FitsLists (as_managed m.managed.heap.freed) l [] e) (sym (map-append as_peer p.peers.heap.freed dead)) sound) adds.added (ap (λ (x : Peers). x.heap.freed) peers) adds.drawn.1 in
     let control : IsAt index (restoring here.opened []) (record end.base.control { lines = slice_set end.base.control.lines 0 index; stand = first_stand_after end.base.control.stand adds.number op.Sweep }) =
     subst (λ (x : Stand). IsAt index (restoring here.opened []) (record end.base.control { lines = slice_set end.base.control.lines 0 index; stand = first_stand_after x adds.number op.Sweep })) (sym stands)
     (IsAt-driver index (marked here.opened) (restoring here.opened []) end.base.control here.control) in (
@@ -242,7 +242,7 @@ resolve-goes m m' p count count' index alive out answers r noted end told at =
       order = (subst (λ (x : Stand). FirstResolve x r.cycle.number (first_answers end.base.managed.managed end.base.peer) (resolution_of alive freed)) (sym stands) (at.same ∙ ap (λ (c : OpenCycle). c.number) same, told_so), refl);
       alone = subst (λ (x : Stand). IsCycleAlone x C) (sym stands) tt;
     } in
-    let sound : IsSound (as_managed m.managed.heap.freed ++ as_managed freed) (as_peers p.peers.heap.freed) [] e =
+    let sound : FitsLists (as_managed m.managed.heap.freed ++ as_managed freed) (as_peers p.peers.heap.freed) [] e =
     resolved-sound (as_managed m.managed.heap.freed) (as_managed freed) (as_peers p.peers.heap.freed) e record { first = length m.managed.heap.freed; count = length freed }
     tt refl (sym (length-map m.managed.heap.freed as_object)) (sym (length-map freed as_object)) (subst Rises (sym (managed-numbered freed)) r.resolution.rise) in
     let grown = managed-more (entries_of noted) m m' p count count' e freed told.ran r.entry.drawn.0 sound r.entry.added (ap (λ (x : Managed). x.heap.freed) r.state) r.entry.drawn.1 in (

@@ -12,7 +12,7 @@ use Rattle.joint_model.specs.Control.{candidates_of, peer_of_row}
 use Rattle.joint_model.specs.Draws.{CountDrew}
 use Rattle.joint_model.specs.Heaps.{IsLive, IsMade, is_freed, numbered_at}
 use Rattle.joint_model.specs.Histories.{managed_numbers}
-use Rattle.joint_model.specs.Managed.{Managed, IsBridge, ManagedEdge, handle_of, snapped}
+use Rattle.joint_model.specs.Managed.{Managed, IsBridge, ManagedEdge, handle_of, with_snapshot}
 use Rattle.joint_model.specs.Peers.{Issued, peer_of}
 use Rattle.joint_model.proofs.WalkLemmas.{Reached-start}
 use Rattle.joint_model.proofs.Members.{Contains-there, Contains-here}
@@ -40,7 +40,7 @@ pub candidate-handles : (m m' : ManagedShown) (before after index : ℕ) (out : 
     → map (λ (h : HNum). Some h.0) out.handles.items ≡ map (handle_of m'.managed) (candidates_of m'.managed)
 candidate-handles m m' before after index out s =
     let freed = managed_numbers s.freed in
-    let now : Managed = snapped m.managed freed s.candidates s.dead in
+    let now : Managed = with_snapshot m.managed freed s.candidates s.dead in
     let same : map (handle_of m.managed) s.candidates ≡ map (handle_of now) s.candidates = map-same (handle_of m.managed) (handle_of now) s.candidates (λ x c.
     let bridge : IsBridge m.managed x = ((s.snapshot.picks x).0 c).0 in
     let live : IsLive now.heap x = record {

@@ -13,7 +13,7 @@ use Rattle.joint_model.specs.declared.events.Entry.{Entry}
 use Rattle.joint_model.specs.declared.events.Reply.{Reply}
 use Rattle.joint_model.specs.declared.events.Reply.TheVariants as says
 use Rattle.joint_model.specs.Components.{Rises}
-use Rattle.joint_model.specs.Histories.{stretch, IsWithin, HasSpans, IsSound, managed_numbers, peer_numbers}
+use Rattle.joint_model.specs.Histories.{stretch, IsWithin, HasSpans, FitsLists, managed_numbers, peer_numbers}
 
 -- a stretch of a longer list
 pub stretch-more : {A : Type 0} → (xs more : List A) (s : Span) → IsWithin s (length xs) → stretch (xs ++ more) s ≡ stretch xs s
@@ -44,23 +44,23 @@ HasSpans-more ms ms' ps ps' (says.Took s) h = h
 HasSpans-more ms ms' ps ps' _ h = tt
 
 -- and so an entry keeps sound
-pub IsSound-more : (ms ms' : List MNum) (ps ps' : List PNum) (e : Entry) → IsSound ms ps [] e → IsSound (ms ++ ms') (ps ++ ps') [] e
+pub IsSound-more : (ms ms' : List MNum) (ps ps' : List PNum) (e : Entry) → FitsLists ms ps [] e → FitsLists (ms ++ ms') (ps ++ ps') [] e
 IsSound-more ms ms' ps ps' e h = record { event = h.event; spans = HasSpans-more ms ms' ps ps' e.made.reply h.spans }
 
 -- a new entry is sound where it frees nothing and has no span, or where its span is of what it frees
-pub swept-sound : (ms : List MNum) (ps dead : List PNum) (e : Entry) (j : Marking) (s : Span) → IsNamed e.made.caller e.made.op → e.made.reply ≡ says.Swept j s → s.first ≡ length ps → s.count ≡ length dead → Rises (peer_numbers dead) → IsSound ms (ps ++ dead) [] e
+pub swept-sound : (ms : List MNum) (ps dead : List PNum) (e : Entry) (j : Marking) (s : Span) → IsNamed e.made.caller e.made.op → e.made.reply ≡ says.Swept j s → s.first ≡ length ps → s.count ≡ length dead → Rises (peer_numbers dead) → FitsLists ms (ps ++ dead) [] e
 swept-sound ms ps dead e j s named is first count rises = record {
   event = named;
   spans = subst (HasSpans ms (ps ++ dead) []) (sym is) (omega (arith, first, count, length-append ps dead), subst (λ l. Rises (peer_numbers l)) (sym (stretch-new ps dead s first count)) rises);
 }
 
-pub snapped-sound : (ms freed : List MNum) (ps : List PNum) (e : Entry) (n : ℕ) (s : Span) → IsNamed e.made.caller e.made.op → e.made.reply ≡ says.Snapped n s → s.first ≡ length ms → s.count ≡ length freed → Rises (managed_numbers freed) → IsSound (ms ++ freed) ps [] e
+pub snapped-sound : (ms freed : List MNum) (ps : List PNum) (e : Entry) (n : ℕ) (s : Span) → IsNamed e.made.caller e.made.op → e.made.reply ≡ says.Snapped n s → s.first ≡ length ms → s.count ≡ length freed → Rises (managed_numbers freed) → FitsLists (ms ++ freed) ps [] e
 snapped-sound ms freed ps e n s named is first count rises = record {
   event = named;
   spans = subst (HasSpans (ms ++ freed) ps []) (sym is) (omega (arith, first, count, length-append ms freed), subst (λ l. Rises (managed_numbers l)) (sym (stretch-new ms freed s first count)) rises);
 }
 
-pub resolved-sound : (ms freed : List MNum) (ps : List PNum) (e : Entry) (s : Span) → IsNamed e.made.caller e.made.op → e.made.reply ≡ says.Freed s → s.first ≡ length ms → s.count ≡ length freed → Rises (managed_numbers freed) → IsSound (ms ++ freed) ps [] e
+pub resolved-sound : (ms freed : List MNum) (ps : List PNum) (e : Entry) (s : Span) → IsNamed e.made.caller e.made.op → e.made.reply ≡ says.Freed s → s.first ≡ length ms → s.count ≡ length freed → Rises (managed_numbers freed) → FitsLists (ms ++ freed) ps [] e
 resolved-sound ms freed ps e s named is first count rises = record {
   event = named;
   spans = subst (HasSpans (ms ++ freed) ps []) (sym is) (omega (arith, first, count, length-append ms freed), subst (λ l. Rises (managed_numbers l)) (sym (stretch-new ms freed s first count)) rises);

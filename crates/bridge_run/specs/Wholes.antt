@@ -4,7 +4,7 @@ use Rattle.std.specs.Prelude.{◌≡◌, ℕ, List, [], ◌∷◌, length, map, 
 use Rattle.joint_model.specs.declared.names.MNum.{MNum}
 use Rattle.joint_model.specs.declared.names.PNum.{PNum}
 use Rattle.joint_model.specs.declared.events.Entry.{Entry}
-use Rattle.joint_model.specs.Histories.{IsShuffle, IsSound}
+use Rattle.joint_model.specs.Histories.{IsShuffle, FitsLists}
 
 -- numbers, as those of managed objects
 abbrev pub as_object : ℕ → MNum
@@ -24,5 +24,5 @@ as_peers ps = map as_peer ps
 -- named, and the spans of the replies lie in the lists of freed objects and rise there
 pub record Ran (whole managed peers : List Entry) (freed_managed freed_peers : List ℕ) (count : ℕ) : Type 0 where
   pub shuffle : IsShuffle (managed ∷ peers ∷ []) whole
-  pub sound : All (IsSound (as_managed freed_managed) (as_peers freed_peers) []) whole
+  pub sound : All (FitsLists (as_managed freed_managed) (as_peers freed_peers) []) whole
   pub drawn : length whole ≡ count

@@ -7,7 +7,7 @@ use Rattle.joint_model.specs.declared.names.Span.{Span}
 use Rattle.joint_model.specs.declared.events.Op.{Op}
 use Rattle.joint_model.specs.declared.events.Op.TheVariants as op
 use Rattle.joint_model.specs.declared.events.Reply.TheVariants as says
-use Rattle.joint_model.specs.Headline.{BeginsAt, OwnBeginAt, SweepsAt, SnapsAt, ResolvesAt, IsUnreachedAt, IsUnreachedBefore, IsUnreachedThroughout, WasUnreached, IsSweptFor, IsFreedWithPeer, IsCandidateBefore, IsSoundRun, IsPeerUnreachedThroughout, IsCompleteCycle, IsCompleteRun}
+use Rattle.joint_model.specs.Headline.{BeginsAt, DriverBeginsAt, SweepsAt, SnapsAt, ResolvesAt, IsUnreachedAt, IsUnreachedBefore, IsUnreachedThroughout, WasUnreached, IsSweptFor, IsFreedWithPeer, IsCandidateBefore, IsSoundRun, IsPeerUnreachedThroughout, IsCompleteCycle, IsCompleteRun}
 use Rattle.joint_model.specs.Joint.{Row, object, peer, Graph, IsReached, IsReachedIn, graph_of}
 use Rattle.joint_model.specs.Managed.{OpenCycle}
 use Rattle.joint_model.specs.Run.{Moment}
@@ -24,7 +24,7 @@ at-past past m x i l e = elim (push-at_cases past m i x e) [ inl w ↦ w | inr w
 abbrev pub begins-grown : (past : List Moment) (m : Moment) (i j : ℕ) → BeginsAt past i j → BeginsAt (past ++ m ∷ []) i j
 begins-grown past m i j w = record { moment = w.moment; there = push-at past m i w.moment w.there; event = w.event; reply = w.reply }
 
-abbrev pub own_begin-grown : (past : List Moment) (m : Moment) (i j : ℕ) → OwnBeginAt past i j → OwnBeginAt (past ++ m ∷ []) i j
+abbrev pub own_begin-grown : (past : List Moment) (m : Moment) (i j : ℕ) → DriverBeginsAt past i j → DriverBeginsAt (past ++ m ∷ []) i j
 own_begin-grown past m i j w = record { moment = w.moment; there = push-at past m i w.moment w.there; caller = w.caller; event = w.event; reply = w.reply }
 
 abbrev pub sweeps-grown : (past : List Moment) (m : Moment) (i j : ℕ) (freed : List ℕ) → SweepsAt past i j freed → SweepsAt (past ++ m ∷ []) i j freed

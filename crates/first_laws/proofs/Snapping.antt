@@ -13,7 +13,7 @@ use Rattle.joint_model.specs.Cycles.{IsSnapshot}
 use Rattle.joint_model.specs.First.{FirstLinkage, FirstMayCome}
 use Rattle.joint_model.specs.Joined.{joint_since}
 use Rattle.joint_model.specs.Joint.{Graph}
-use Rattle.joint_model.specs.Managed.{Managed, OpenCycle, Holds, IsBridge, IsManagedRoot, ManagedEdge, IsManagedReached, snapped, abandoned}
+use Rattle.joint_model.specs.Managed.{Managed, OpenCycle, Holds, IsBridge, IsManagedRoot, ManagedEdge, IsManagedReached, with_snapshot, abandoned}
 use Rattle.joint_model.specs.PeerReplay.{PeerReplay}
 use Rattle.joint_model.specs.Told.{nothing, snap_of}
 use Rattle.joint_model.proofs.WalkLemmas.{Reached-keeps, Reached-start, Reached-then}
@@ -24,7 +24,7 @@ use Rattle.first_laws.proofs.Owners.{owned-same, removed-same, live-after}
 
 -- the objects after the snapshot
 abbrev after_snap : Managed → List ℕ → List ℕ → List ℕ → Managed
-after_snap s freed candidates dead = snapped s freed candidates dead
+after_snap s freed candidates dead = with_snapshot s freed candidates dead
 
 Holds-before : (s : Managed) (freed candidates dead : List ℕ) (x h : ℕ) → Holds (after_snap s freed candidates dead) x h → Holds s x h
 Holds-before s freed candidates dead x h w = record { live = IsLive-before s.heap freed x w.live; held = w.held }
@@ -69,7 +69,7 @@ reached-still s k freed candidates dead is x r =
 abbrev opened : Managed → List ℕ → List ℕ → OpenCycle
 opened s candidates dead = record { number = s.cycles + 1; candidates = candidates; dead = dead }
 
-cut-snapped : (s : Managed) (k : ℕ) (freed candidates dead : List ℕ) → IsSnapshot s k freed candidates dead → IsCut (snapped s freed candidates dead) (record { number = s.cycles + 1; candidates = candidates; dead = dead })
+cut-snapped : (s : Managed) (k : ℕ) (freed candidates dead : List ℕ) → IsSnapshot s k freed candidates dead → IsCut (with_snapshot s freed candidates dead) (record { number = s.cycles + 1; candidates = candidates; dead = dead })
 cut-snapped s k freed candidates dead is = record {
   bridges = λ x c. (let w = (is.picks x).0 c in (w.0.0, Holds-after s k freed candidates dead is x w.0.0 w.0.1));
   within = λ x c. (let w = (is.picks x).0 c in (is.leaves x).1 (w.0.1.live, w.1, bridge-stays s k freed candidates dead is x w.0.0 w.0.1));
@@ -82,9 +82,9 @@ cut-snapped s k freed candidates dead is = record {
   has = λ x l n. (is.leaves x).1 (IsLive-before s.heap freed x l, λ r. n (reached-still s k freed candidates dead is x r), λ f. l.kept (Contains-append_right s.heap.freed freed x f));
 }
 
-joint-snapped : (s : Managed) (taken : List ℕ) (p : PeerReplay) (b : Graph) (k : ℕ) (freed candidates dead : List ℕ) → IsSnapshot s k freed candidates dead → AreHandlesKept s taken p → joint_since (snapped s freed candidates dead) p b ≡ record (joint_since s p b) { managed = snapped s freed candidates dead }
-joint-snapped s taken p b k freed candidates dead is a = ap (λ r. record { managed = snapped s freed candidates dead; peers = p.peers; removed = r; marking = (joint_since s p b).marking; markings = p.markings })
-    (sym (removed-same s (snapped s freed candidates dead) p.table (λ h e. owned-same s (snapped s freed candidates dead) h a.held_length a.held_length
+joint-snapped : (s : Managed) (taken : List ℕ) (p : PeerReplay) (b : Graph) (k : ℕ) (freed candidates dead : List ℕ) → IsSnapshot s k freed candidates dead → AreHandlesKept s taken p → joint_since (with_snapshot s freed candidates dead) p b ≡ record (joint_since s p b) { managed = with_snapshot s freed candidates dead }
+joint-snapped s taken p b k freed candidates dead is a = ap (λ r. record { managed = with_snapshot s freed candidates dead; peers = p.peers; removed = r; marking = (joint_since s p b).marking; markings = p.markings })
+    (sym (removed-same s (with_snapshot s freed candidates dead) p.table (λ h e. owned-same s (with_snapshot s freed candidates dead) h a.held_length a.held_length
     (λ w. (w.0, Holds-after s k freed candidates dead is w.0 h w.1)) (λ w. (w.0, Holds-before s freed candidates dead w.0 h w.1)))))
 
 pub snap-steps : (b : Graph) (s : FirstLinkage) (number index : ℕ) (k : Cycle) (freed candidates dead : List ℕ) (reply : Reply) (cites : Option ℕ)

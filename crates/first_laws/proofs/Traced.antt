@@ -15,7 +15,7 @@ use Rattle.joint_model.specs.declared.events.Reply.TheVariants as says
 use Rattle.joint_model.specs.Control.{Stand, Opened, idle, snapped, marked, restoring}
 use Rattle.joint_model.specs.Cycles.{IsSnapshot}
 use Rattle.joint_model.specs.First.{FirstLinkage, FirstMayCome, AreUnreached, first_after, first_stand_after, joint_swept}
-use Rattle.joint_model.specs.Headline.{OwnBeginAt, BeginsAt, SweepsAt, SnapsAt}
+use Rattle.joint_model.specs.Headline.{DriverBeginsAt, BeginsAt, SweepsAt, SnapsAt}
 use Rattle.joint_model.specs.Joined.{joint_since, graph_at}
 use Rattle.joint_model.specs.Joint.{Graph, Row, object, peer, IsJointRoot, JointEdge, IsReachedIn, graph_of}
 use Rattle.joint_model.specs.Managed.{Managed, OpenCycle, IsBridge, IsManagedRoot, ManagedEdge}
@@ -42,7 +42,7 @@ pub record HasSnapped (past : List Moment) (s : Managed) (o : Opened) : Type 0 w
 -- the begin of its own marking, which the graph b stands beside
 pub record HasBegun (past : List Moment) (b : Graph) (number from : ℕ) : Type 0 where
   pub at : ℕ
-  pub begins : OwnBeginAt past at number
+  pub begins : DriverBeginsAt past at number
   pub later : from < at
   pub graph : graph_of begins.moment.after ≡ b
   pub peers : begins.moment.before.peers ≡ b.peers

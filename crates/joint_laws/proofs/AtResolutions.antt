@@ -5,7 +5,7 @@ use Rattle.std.specs.Prelude.{Contains}
 use Rattle.std.proofs.lemmas.Option.{same_Some, slice_get_within}
 use Rattle.joint_model.specs.Control.{Opened}
 use Rattle.joint_model.specs.Cycles.{IsResolution, IsAnsweredAlive}
-use Rattle.joint_model.specs.Headline.{OwnBeginAt, SweepsAt, IsMadeBefore, SnapsAt, IsUnreachedThroughout, IsCompleteCycle}
+use Rattle.joint_model.specs.Headline.{DriverBeginsAt, SweepsAt, IsMadeBefore, SnapsAt, IsUnreachedThroughout, IsCompleteCycle}
 use Rattle.joint_model.specs.Heaps.{IsMade}
 use Rattle.joint_model.specs.Joint.{object}
 use Rattle.joint_model.specs.Linked.{Linkage}
@@ -43,7 +43,7 @@ module _ (s : Linkage) (w : Stands s) (past more : List Moment) (o : Opened) (an
       let same : u.moment ≡ k.begins.moment = same_Some u.moment k.begins.moment (sym u.there ∙ get-more past more k.begin k.begins.moment k.begins.there) in
       record { moment = k.begins.moment; there = k.begins.there; made = subst (λ (z : Moment). IsMade z.before.peers.heap q) same u.made }
 
-  begins_there : OwnBeginAt (past ++ more) k.begin k.marking
+  begins_there : DriverBeginsAt (past ++ more) k.begin k.marking
   begins_there = record { moment = k.begins.moment; there = get-more past more k.begin k.begins.moment k.begins.there; caller = k.begins.caller; event = k.begins.event; reply = k.begins.reply }
 
   sweeps_there : SweepsAt (past ++ more) k.sweep k.marking k.swept

@@ -7,7 +7,7 @@ use Rattle.std.proofs.lemmas.Option.{slice_get_within}
 use Rattle.joint_model.specs.Cycles.{IsSnapshot}
 use Rattle.joint_model.specs.Heaps.{IsLive}
 use Rattle.joint_model.specs.Joint.{Joint, Row, object, graph_of, JointEdge, IsJointRoot, IsReached}
-use Rattle.joint_model.specs.Managed.{Managed, Holds, IsManagedRoot, ManagedEdge, IsManagedReached, snapped}
+use Rattle.joint_model.specs.Managed.{Managed, Holds, IsManagedRoot, ManagedEdge, IsManagedReached, with_snapshot}
 use Rattle.joint_model.specs.Run.{Moment}
 use Rattle.joint_model.proofs.WalkLemmas.{Reached-keeps, Reached-start, Reached-then}
 use Rattle.joint_model.proofs.HeapLemmas.{IsLive-before, IsLive-left}
@@ -21,7 +21,7 @@ managed-joint j x r =
 
 module _ (s : Managed) (number : ℕ) (freed candidates dead : List ℕ) (p : IsSnapshot s number freed candidates dead) where
   abbrev t : Managed
-  t = snapped s freed candidates dead
+  t = with_snapshot s freed candidates dead
 
   stays-live : (x : ℕ) → IsLive s.heap x → IsManagedReached s x → IsLive t.heap x
   stays-live x l r = IsLive-left s.heap freed x l (λ c. ((p.frees x).0 c).1 r)

@@ -7,7 +7,7 @@ use Rattle.std.proofs.lemmas.List.Elements.{Contains-append_right}
 use Rattle.joint_model.specs.Control.{Doing, Opened, candidates_of}
 use Rattle.joint_model.specs.Cycles.{IsSnapshot, IsResolution, IsAnsweredAlive}
 use Rattle.joint_model.specs.Heaps.{IsLive}
-use Rattle.joint_model.specs.Managed.{Managed, OpenCycle, Holds, IsBridge, ManagedEdge, snapped, resolved, abandoned}
+use Rattle.joint_model.specs.Managed.{Managed, OpenCycle, Holds, IsBridge, ManagedEdge, with_snapshot, resolved, abandoned}
 use Rattle.joint_model.specs.ManagedReplay.{ManagedReplay, without_twins}
 use Rattle.joint_model.specs.Peers.{strong, weak}
 use Rattle.joint_model.specs.PeerReplay.{PeerReplay, TableRow}
@@ -37,7 +37,7 @@ strength-one s h a b =
 
 module _ (r : ManagedReplay) (s : PeerReplay) (n : ℕ) (freed candidates dead : List ℕ) (k : IsReplayKept r) (o : AreOwnersKept r s) (p : IsSnapshot r.managed n freed candidates dead) where
   abbrev opening : ManagedReplay
-  opening = record r { managed = snapped r.managed freed candidates dead; contracted = false }
+  opening = record r { managed = with_snapshot r.managed freed candidates dead; contracted = false }
 
   snap_on : (m h : ℕ) → Holds r.managed m h → Holds opening.managed m h
   snap_on m h q = record { live = IsLive-left r.managed.heap freed m q.live (bridge_stays r.managed n freed candidates dead k.managed p m (h, q)); held = q.held }

@@ -16,7 +16,7 @@ use Rattle.joint_model.specs.Heaps.{Answered, place, slot}
 use Rattle.joint_model.specs.Joint.{Joint, JointMarking, twin_of}
 use Rattle.joint_model.specs.Lines.{IsEvent, is_peer_event}
 use Rattle.joint_model.specs.Linked.{Linkage, SideLawful, PeerLawful, managed_after, peer_after, is_joint}
-use Rattle.joint_model.specs.Managed.{Managed, OpenCycle, managed_line, adopted, met, given_up, handle_of, snapped as snapped_state, resolved as resolved_state, abandoned as abandoned_state}
+use Rattle.joint_model.specs.Managed.{Managed, OpenCycle, managed_line, adopted, met, given_up, handle_of, with_snapshot as snapped_state, resolved as resolved_state, abandoned as abandoned_state}
 use Rattle.joint_model.specs.ManagedReplay.{ManagedReplay, MayResolve, registered, adopt_by, meet_by, give_by}
 use Rattle.joint_model.specs.PeerReplay.{PeerReplay, row_of}
 use Rattle.joint_model.specs.Run.{JointEvent, IsComputed, removed_all, on_managed}

@@ -12,7 +12,7 @@ use Rattle.joint_model.specs.Cycles.{IsSnapshot}
 use Rattle.joint_model.specs.Headline.{SnapsAt, SweepsAt, IsMadeBefore}
 use Rattle.joint_model.specs.Heaps.{IsMade}
 use Rattle.joint_model.specs.Linked.{Linkage, MayCome, linkage_after}
-use Rattle.joint_model.specs.Managed.{OpenCycle, snapped}
+use Rattle.joint_model.specs.Managed.{OpenCycle, with_snapshot}
 use Rattle.joint_model.specs.Peers.{weak}
 use Rattle.joint_model.specs.PeerReplay.{PeerReplay, begun, IsSweep, strong_peers}
 use Rattle.joint_model.specs.Run.{Moment}
@@ -41,7 +41,7 @@ module _ (s : Linkage) (n : Noted) (w : Stands s) (v : Stands (linkage_after s n
   abbrev longer : List Moment
   longer = past ++ m ∷ []
 
-  pub snap-turn : (k : ℕ) (freed candidates dead : List ℕ) → IsSnapshot s.managed.managed k freed candidates dead → t.managed.managed ≡ snapped s.managed.managed freed candidates dead → n.entry.made.op ≡ op.Snap record { 0 = k } → n.told ≡ snap_of freed candidates dead → o.cycle ≡ k → IsOnTheWay longer t v o
+  pub snap-turn : (k : ℕ) (freed candidates dead : List ℕ) → IsSnapshot s.managed.managed k freed candidates dead → t.managed.managed ≡ with_snapshot s.managed.managed freed candidates dead → n.entry.made.op ≡ op.Snap record { 0 = k } → n.told ≡ snap_of freed candidates dead → o.cycle ≡ k → IsOnTheWay longer t v o
   snap-turn k freed candidates dead p is event told same = record {
     snap = length past;
     freed = freed;

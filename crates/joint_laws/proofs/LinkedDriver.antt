@@ -11,7 +11,7 @@ use Rattle.joint_model.specs.Components.{mirror_edges}
 use Rattle.joint_model.specs.Control.{Doing, Opened, Stand, idle, snapped, contracted, weakening, marked, restoring, restored, carried_edges, stand_after, IsCandidateHandle, MaySnap, MayContractNow, MayMirrorNow, MayWeakenNow, MayResolveNow, MayAbandonNow}
 use Rattle.joint_model.specs.Cycles.{IsSnapshot, IsAnsweredAlive, IsResolution, IsDeadContraction}
 use Rattle.joint_model.specs.Heaps.{numbered_at, numbered_set}
-use Rattle.joint_model.specs.Managed.{Managed, OpenCycle, Holds, snapped as snapped_state, resolved as resolved_state, abandoned as abandoned_state}
+use Rattle.joint_model.specs.Managed.{Managed, OpenCycle, Holds, with_snapshot as snapped_state, resolved as resolved_state, abandoned as abandoned_state}
 use Rattle.joint_model.specs.ManagedReplay.{ManagedReplay, MayContract, MayResolve, without_twins}
 use Rattle.joint_model.specs.Peers.{strong, weak}
 use Rattle.joint_model.specs.PeerReplay.{PeerReplay, Mirror, mirrored, with_weakened, MayWeaken}

@@ -8,7 +8,7 @@ use Rattle.std.proofs.lemmas.Bool.{cases_lt}
 use Rattle.std.proofs.lemmas.Option.{same_Some}
 use Rattle.std.proofs.lemmas.List.Elements.{Contains-append_cases}
 use Rattle.joint_model.specs.Heaps.{Heap, IsMade, IsLive, numbered_at, fields_of, with_freed, opening_heap}
-use Rattle.joint_model.specs.Managed.{Managed, OpenCycle, IsBridge, IsManagedRoot, ManagedEdge, opening_managed, snapped, resolved, abandoned}
+use Rattle.joint_model.specs.Managed.{Managed, OpenCycle, IsBridge, IsManagedRoot, ManagedEdge, opening_managed, with_snapshot, resolved, abandoned}
 use Rattle.joint_model.specs.Cycles.{IsSnapshot, IsResolution}
 use Rattle.joint_model.proofs.WalkLemmas.{Reached-start, Reached-then, Reaches-then}
 use Rattle.joint_laws.specs.ManagedInvariants.{IsCutOff, IsManagedKept}
@@ -150,7 +150,7 @@ module _ (s : Managed) (k : ℕ) (freed candidates dead : List ℕ) (kept : IsMa
   opened = record { number = s.cycles + 1; candidates = candidates; dead = dead }
 
   abbrev after : Managed
-  after = snapped s freed candidates dead
+  after = with_snapshot s freed candidates dead
 
   edge : (x y : ℕ) → IsLive s.heap x → Contains (fields_of s.heap x) (Some y) → ManagedEdge s x y
   edge x y l c = record { live = l; field = c; there = kept.fields x y l c }

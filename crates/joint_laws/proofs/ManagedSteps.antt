@@ -6,7 +6,7 @@ use Rattle.joint_model.specs.declared.events.Op.TheVariants as op
 use Rattle.joint_model.specs.declared.events.Reply.{Reply}
 use Rattle.joint_model.specs.declared.events.Reply.TheVariants as says
 use Rattle.joint_model.specs.Heaps.{IsLive, Answered, place, slot}
-use Rattle.joint_model.specs.Managed.{Managed, OpenCycle, adopted, met, given_up, snapped, resolved, abandoned}
+use Rattle.joint_model.specs.Managed.{Managed, OpenCycle, adopted, met, given_up, with_snapshot, resolved, abandoned}
 use Rattle.joint_model.specs.Cycles.{IsSnapshot, IsResolution, IsAnsweredAlive}
 use Rattle.joint_model.specs.ManagedReplay.{ManagedReplay, registered, meet_by, give_by, managed_answer, ManagedAllows}
 use Rattle.joint_model.specs.Run.{thread_number}
@@ -23,7 +23,7 @@ pub record Snaps (s t : Managed) : Type 0 where
   pub candidates : List ℕ
   pub dead : List ℕ
   pub snapshot : IsSnapshot s number freed candidates dead
-  pub is : t ≡ snapped s freed candidates dead
+  pub is : t ≡ with_snapshot s freed candidates dead
 
 pub record Resolves (s t : Managed) : Type 0 where
   pub cycle : OpenCycle

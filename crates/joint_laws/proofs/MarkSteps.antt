@@ -4,7 +4,7 @@ use Rattle.std.specs.Prelude.{Contains, slice_get}
 use Rattle.std.proofs.lemmas.Option.{same_Some}
 use Rattle.std.proofs.lemmas.List.Elements.{Contains-append_left, Contains-append_right}
 use Rattle.joint_model.specs.declared.names.Thread.{Thread}
-use Rattle.joint_model.specs.Headline.{OwnBeginAt, SweepsAt, IsMadeBefore, IsPeerFreedAt}
+use Rattle.joint_model.specs.Headline.{DriverBeginsAt, SweepsAt, IsMadeBefore, IsPeerFreedAt}
 use Rattle.joint_model.specs.Heaps.{IsMade, IsLive, HasField, InSlot, fields_of}
 use Rattle.joint_model.specs.Joint.{Row, object, peer, graph_of, JointEdge, IsJointRoot, IsReached}
 use Rattle.joint_model.specs.Linked.{Linkage, MayCome, linkage_after}
@@ -29,7 +29,7 @@ abbrev begun_now : Linkage → ℕ → Thread → Marking
 begun_now s number by = record { number = number; by = by; heap = s.peer.peers.heap; refs = s.peer.refs; strong_peers = strong_peers s.peer.peers.issued s.peer.table; brought = []; blackened = 0 }
 
 pub watch-begin : (s : Linkage) (w : Stands s) (past : List Moment) (a : ℕ) (c : OpenCycle) (o : s.managed.managed.cycle ≡ Some c) → IsWatched past a c.candidates (state_of s w) → IsMirrored s.managed s.peer c → ForCandidates s.managed.managed c (λ l h. HasStrength s.peer h weak)
-    → (number b : ℕ) (by : Thread) → OwnBeginAt past b number → a < b → ((p : ℕ) → IsMadeBefore past b p → IsMade s.peer.peers.heap p) → IsMarkWatched past a c s (begun_now s number by)
+    → (number b : ℕ) (by : Thread) → DriverBeginsAt past b number → a < b → ((p : ℕ) → IsMadeBefore past b p → IsMade s.peer.peers.heap p) → IsMarkWatched past a c s (begun_now s number by)
 watch-begin s w past a c o watched m all number b by begins ab made = record {
   begin = b;
   begins = begins;
@@ -52,10 +52,10 @@ watch-begin s w past a c o watched m all number b by begins ab made = record {
   fields = λ p l n. refl;
 }
 
-pub begin-more : (past : List Moment) (m : Moment) (b number : ℕ) → OwnBeginAt past b number → OwnBeginAt (past ++ m ∷ []) b number
+pub begin-more : (past : List Moment) (m : Moment) (b number : ℕ) → DriverBeginsAt past b number → DriverBeginsAt (past ++ m ∷ []) b number
 begin-more past m b number w = record { moment = w.moment; there = get-more past (m ∷ []) b w.moment w.there; caller = w.caller; event = w.event; reply = w.reply }
 
-pub made-front : (past : List Moment) (m : Moment) (b number p : ℕ) → OwnBeginAt past b number → IsMadeBefore (past ++ m ∷ []) b p → IsMadeBefore past b p
+pub made-front : (past : List Moment) (m : Moment) (b number p : ℕ) → DriverBeginsAt past b number → IsMadeBefore (past ++ m ∷ []) b p → IsMadeBefore past b p
 made-front past m b number p w q =
     let same : q.moment ≡ w.moment = same_Some q.moment w.moment (sym q.there ∙ get-more past (m ∷ []) b w.moment w.there) in
     record { moment = w.moment; there = w.there; made = subst (λ (z : Moment). IsMade z.before.peers.heap p) same q.made }
@@ -168,7 +168,7 @@ pub record IsSweptWatch (past : List Moment) (a : ℕ) (c : OpenCycle) (s : Link
   pub sweep : ℕ
   pub marking : ℕ
   pub swept : List ℕ
-  pub begins : OwnBeginAt past begin marking
+  pub begins : DriverBeginsAt past begin marking
   pub sweeps : SweepsAt past sweep marking swept
   pub later_on : a < begin
   pub in_order : begin < sweep

@@ -5,7 +5,7 @@
 -- begin.
 use Rattle.std.proofs.Common.{◌≡◌, ℕ, suc, ◌<◌, inl, inr, Bool, true, false, List, [], ◌∷◌, Option, Some, None, refl, sym, ap, subst, ◌∙◌, arith}
 use Rattle.std.specs.Prelude.{Contains, slice_get, if◌then◌else◌}
-use Rattle.joint_model.specs.Headline.{OwnBeginAt, IsMadeBefore}
+use Rattle.joint_model.specs.Headline.{DriverBeginsAt, IsMadeBefore}
 use Rattle.joint_model.specs.Heaps.{IsMade, IsLive, InSlot, fields_of, numbered_at}
 use Rattle.joint_model.specs.Joint.{Joint, Row, object, peer, graph_of, JointEdge, IsJoined, IsJointRoot, IsReached}
 use Rattle.joint_model.specs.Linked.{Linkage}
@@ -109,7 +109,7 @@ module _ (s : Linkage) (w : Stands s) (past : List Moment) (a : ℕ) (c : OpenCy
 -- what the own marking has seen
 pub record IsMarkWatched (past : List Moment) (a : ℕ) (c : OpenCycle) (s : Linkage) (mk : Marking) : Type 0 where
   pub begin : ℕ
-  pub begins : OwnBeginAt past begin mk.number
+  pub begins : DriverBeginsAt past begin mk.number
   pub later_on : a < begin
   pub made_then : (p : ℕ) → IsMadeBefore past begin p → IsMade mk.heap p
   pub old : (p : ℕ) → IsMade mk.heap p → IsLive s.peer.peers.heap p → IsLive mk.heap p

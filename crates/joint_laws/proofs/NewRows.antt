@@ -14,7 +14,7 @@ use Rattle.joint_model.specs.declared.events.Made.{Made}
 use Rattle.joint_model.specs.Heaps.{IsMade, answer, slot, place, is_full, next_number, numbered_at, with_var}
 use Rattle.joint_model.specs.Lines.{IsEvent, is_peer_event}
 use Rattle.joint_model.specs.Linked.{Linkage, MayCome, SideLawful, linkage_after, managed_after}
-use Rattle.joint_model.specs.Managed.{Managed, OpenCycle, Holds, IsManagedRoot, managed_name, with_row, adopted, twin_met, twin_kind, twin_fields, met, given_up, without_handle, managed_line, snapped, resolved, abandoned}
+use Rattle.joint_model.specs.Managed.{Managed, OpenCycle, Holds, IsManagedRoot, managed_name, with_row, adopted, twin_met, twin_kind, twin_fields, met, given_up, without_handle, managed_line, with_snapshot, resolved, abandoned}
 use Rattle.joint_model.specs.ManagedReplay.{ManagedReplay, registered, managed_answer, ManagedAllows}
 use Rattle.joint_model.specs.Run.{thread_number}
 use Rattle.joint_model.specs.Told.{Told, Noted, nothing, snap_of, contraction_of, resolution_of, phase_of}
@@ -90,7 +90,7 @@ named-answer r k C (op.Meet v p h sort n) told e w = absurd e.0
 named-answer r k t (op.Give v) told e w =
     let u = place (thread_number t) v.0 in
     named-as r.managed (given_up r.managed u).state _ (give_by-managed r (slot r.managed.heap.vars u) (given_up r.managed u)) (named-without r.managed k.managed (slot r.managed.heap.vars u))
-named-answer r k t (op.Snap n) (snap_of freed candidates dead) e w = named-same r.managed k.managed (snapped r.managed freed candidates dead) refl
+named-answer r k t (op.Snap n) (snap_of freed candidates dead) e w = named-same r.managed k.managed (with_snapshot r.managed freed candidates dead) refl
 named-answer r k t (op.Contract n) (contraction_of comps xrefs) e w = named-same r.managed k.managed r.managed refl
 named-answer r k t (op.Resolve n) (resolution_of alive freed) e w = named-same r.managed k.managed (resolved r.managed freed) refl
 named-answer r k t (op.Abandon n) nothing e w = named-same r.managed k.managed (abandoned r.managed) refl

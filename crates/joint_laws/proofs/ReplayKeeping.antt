@@ -9,7 +9,7 @@ use Rattle.joint_model.specs.declared.events.Op.TheVariants as op
 use Rattle.joint_model.specs.declared.events.Reply.{Reply}
 use Rattle.joint_model.specs.declared.events.Reply.TheVariants as says
 use Rattle.joint_model.specs.Heaps.{IsLive, answer, slot, place, numbered_at, numbered_set, is_full, next_number, with_var, with_freed}
-use Rattle.joint_model.specs.Managed.{Managed, OpenCycle, Holds, IsBridge, with_row, twin_met, twin_kind, twin_fields, without_handle, snapped, resolved, abandoned}
+use Rattle.joint_model.specs.Managed.{Managed, OpenCycle, Holds, IsBridge, with_row, twin_met, twin_kind, twin_fields, without_handle, with_snapshot, resolved, abandoned}
 use Rattle.joint_model.specs.Cycles.{IsSnapshot, IsAnsweredAlive}
 use Rattle.joint_model.specs.ManagedReplay.{ManagedReplay, MayResolve, registered, without_twins, meet_by, give_by, managed_answer, ManagedAllows}
 use Rattle.joint_model.specs.Run.{thread_number}
@@ -93,7 +93,7 @@ module _ (s : ManagedReplay) (t : Managed) (freed : List ℕ) (k : IsReplayKept 
     },
   )
 
-snapped-kept : (s : ManagedReplay) (n : ℕ) (freed candidates dead : List ℕ) → IsReplayKept s → IsSnapshot s.managed n freed candidates dead → IsReplayKept (record s { managed = snapped s.managed freed candidates dead; contracted = false })
+snapped-kept : (s : ManagedReplay) (n : ℕ) (freed candidates dead : List ℕ) → IsReplayKept s → IsSnapshot s.managed n freed candidates dead → IsReplayKept (record s { managed = with_snapshot s.managed freed candidates dead; contracted = false })
 snapped-kept s n freed candidates dead k p = record {
   managed = IsManagedKept-snapped s.managed n freed candidates dead k.managed p;
   adopted = λ x h q. k.adopted x h (was-held_there s t freed k refl refl x h q);
@@ -104,7 +104,7 @@ snapped-kept s n freed candidates dead k p = record {
 }
   where
     t : Managed
-    t = snapped s.managed freed candidates dead
+    t = with_snapshot s.managed freed candidates dead
 
 resolved-kept : (s : ManagedReplay) (n : ℕ) (alive : List Answer) (freed : List ℕ) → IsReplayKept s → MayResolve s n alive freed → IsReplayKept (record s { managed = resolved s.managed freed; registry = without_twins s.registry freed })
 resolved-kept s n alive freed k w = record {

@@ -51,7 +51,7 @@ pub record Control : Type 0 where
   pub lines : List ℕ
   pub stand : Stand
 
--- nobody has done anything
+-- nobody has done anything; the place of a managed thread is its number, so that with number 0 is nobody's
 abbrev pub opening_control : Control
 opening_control = record { doing = replicate 9 free; lines = replicate 17 0; stand = idle }
 

@@ -19,8 +19,8 @@ pub record BeginsAt (run : List Moment) (i j : ℕ) : Type 0 where
   pub event : moment.noted.entry.made.op ≡ op.Begin
   pub reply : moment.noted.entry.made.reply ≡ says.Mark record { 0 = j }
 
--- the thread c begins marking j there
-pub record OwnBeginAt (run : List Moment) (i j : ℕ) : Type 0 where
+-- the driver begins marking j there
+pub record DriverBeginsAt (run : List Moment) (i j : ℕ) : Type 0 where
   pub moment : Moment
   pub there : slice_get run i ≡ Some moment
   pub caller : moment.noted.entry.made.caller ≡ C
@@ -142,7 +142,7 @@ pub record IsCompleteCycle (run : List Moment) (end k : ℕ) (resolved : List �
   pub candidates : List ℕ
   pub swept : List ℕ
   pub snaps : SnapsAt run snap k freed candidates
-  pub begins : OwnBeginAt run begin marking
+  pub begins : DriverBeginsAt run begin marking
   pub sweeps : SweepsAt run sweep marking swept
   pub begins_later : snap < begin
   pub sweeps_later : begin < sweep
@@ -150,6 +150,7 @@ pub record IsCompleteCycle (run : List Moment) (end k : ℕ) (resolved : List �
   pub objects : (m : ℕ) → Contains candidates m → IsUnreachedThroughout run snap sweep (object m) → Contains resolved m
   pub peers : (p : ℕ) → IsMadeBefore run begin p → IsPeerUnreachedThroughout run snap sweep p → IsPeerFreedAt run sweep p
 
--- complete: nothing that stays unreached through a cycle is left
+-- complete: each cycle that is resolved leaves no candidate that stays unreached through it, and no peer of its begin that
+-- does. (A linked history has one begin of the driver between a snapshot and its end; in another run some such begin is meant.)
 abbrev pub IsCompleteRun : List Moment → Type 0
 IsCompleteRun run = (i k : ℕ) (freed : List ℕ) → ResolvesAt run i k freed → IsCompleteCycle run i k freed

@@ -18,7 +18,8 @@ pub record Heap : Type 0 where
 abbrev pub MOST : ℕ
 MOST = 65535
 
--- no object, and every variable and static empty
+-- no object, and every variable and static empty; a thread's variables stand at eight times its number, so the first eight
+-- are nobody's
 abbrev pub opening_heap : Heap
 opening_heap = record { fields = []; freed = []; vars = replicate 72 None; statics = replicate 16 None }
 

@@ -51,14 +51,14 @@ HasSpans ms ps ns (reply.Took s) = IsWithin s (length ns)
 HasSpans ms ps ns _ = Unit {0}
 
 -- the entry's caller and event are ones that an entry can name, and the spans of its reply lie in the lists
-pub record IsSound (ms : List MNum) (ps : List PNum) (ns : List MNum) (e : Entry) : Type 0 where
+pub record FitsLists (ms : List MNum) (ps : List PNum) (ns : List MNum) (e : Entry) : Type 0 where
   pub event : IsNamed e.made.caller e.made.op
   pub spans : HasSpans ms ps ns e.made.reply
 
 -- what every history keeps: the numbers are those from 0 on, each event can be named, each span lies in its list
 pub record IsHistory (h : Finished) : Type 0 where
   pub numbers : NumberedFrom 0 h.entries
-  pub sound : All (IsSound h.freed_managed h.freed_peers h.notices) h.entries
+  pub sound : All (FitsLists h.freed_managed h.freed_peers h.notices) h.entries
 
 -- the entry stands in the whole list at its number
 abbrev pub IsPlaced : List Entry → Entry → Type 0
@@ -89,4 +89,4 @@ entry_lists stocks = map (λ s. s.entries) stocks
 pub record IsJoinable (lists : List (List Entry)) (ms : List MNum) (ps : List PNum) (ns : List MNum) : Type 0 where
   pub whole : List Entry
   pub shuffle : IsShuffle lists whole
-  pub sound : All (IsSound ms ps ns) whole
+  pub sound : All (FitsLists ms ps ns) whole

@@ -33,7 +33,7 @@ pub record Managed : Type 0 where
   pub cycle : Option OpenCycle
   pub cycles : ℕ
 
--- nothing is there
+-- nothing is there; a thread's pin has the thread's number, so the pin with number 0 is nobody's
 abbrev pub opening_managed : Managed
 opening_managed = record { heap = opening_heap; kinds = []; held = []; pins = replicate 9 None; cells = replicate 64 None; notices = []; taken = 0; cycle = None; cycles = 0 }
 
@@ -181,8 +181,8 @@ managed_line s t (act.Finalise n) = notices_taken s n
 managed_line s t _ = answer says.Ok s
 
 -- a snapshot: its rows are freed, and the next cycle is opened
-abbrev pub snapped : Managed → List ℕ → List ℕ → List ℕ → Managed
-snapped s freed candidates dead = record s { heap = with_freed s.heap freed; cycle = Some record { number = s.cycles + 1; candidates = candidates; dead = dead }; cycles = s.cycles + 1 }
+abbrev pub with_snapshot : Managed → List ℕ → List ℕ → List ℕ → Managed
+with_snapshot s freed candidates dead = record s { heap = with_freed s.heap freed; cycle = Some record { number = s.cycles + 1; candidates = candidates; dead = dead }; cycles = s.cycles + 1 }
 
 -- whether an object holds a handle
 abbrev pub holds_handle : Managed → ℕ → Bool

@@ -13,7 +13,7 @@ use Rattle.joint_model.specs.declared.events.Reply.{Reply}
 use Rattle.joint_model.specs.declared.events.Reply.TheVariants as says
 use Rattle.joint_model.specs.Cycles.{IsSnapshot, snap_reply, IsResolution, resolve_reply, IsOpen, IsDeadContraction, IsAnsweredAlive}
 use Rattle.joint_model.specs.Heaps.{Answered, answer, slot, place}
-use Rattle.joint_model.specs.Managed.{Managed, OpenCycle, opening_managed, managed_line, adopted, met, given_up, handle_reply, snapped, resolved, abandoned}
+use Rattle.joint_model.specs.Managed.{Managed, OpenCycle, opening_managed, managed_line, adopted, met, given_up, handle_reply, with_snapshot, resolved, abandoned}
 use Rattle.joint_model.specs.Run.{thread_number}
 use Rattle.joint_model.specs.Told.{Told, nothing, snap_of, contraction_of, resolution_of, phase_of, Answer}
 
@@ -84,7 +84,7 @@ managed_answer s t (op.Adopt v kind n p h) told = let a = adopted s.managed (pla
 managed_answer s t (op.Lend v x) told = answer (handle_reply s.managed (place (thread_number t) v.0)) s
 managed_answer s t (op.Meet v p h sort n) told = let a = met s.managed (place (thread_number t) v.0) h.0 sort n (registered s.registry p.0) in meet_by s p.0 h.0 a.state a.reply
 managed_answer s t (op.Give v) told = let v' = place (thread_number t) v.0 in give_by s (slot s.managed.heap.vars v') (given_up s.managed v')
-managed_answer s t (op.Snap k) (snap_of freed candidates dead) = answer (snap_reply s.managed freed candidates) (record s { managed = snapped s.managed freed candidates dead; contracted = false })
+managed_answer s t (op.Snap k) (snap_of freed candidates dead) = answer (snap_reply s.managed freed candidates) (record s { managed = with_snapshot s.managed freed candidates dead; contracted = false })
 managed_answer s t (op.Contract k) (contraction_of comps xrefs) = answer (says.Sccs (length comps) (length xrefs)) (record s { contracted = true })
 managed_answer s t (op.Resolve k) (resolution_of alive freed) = answer (resolve_reply s.managed freed) (record s { managed = resolved s.managed freed; registry = without_twins s.registry freed })
 managed_answer s t (op.Abandon k) told = answer says.Ok (record s { managed = abandoned s.managed })

@@ -13,7 +13,7 @@ use Rattle.joint_model.specs.Cycles.{IsSnapshot, snap_reply, IsResolution, resol
 use Rattle.joint_model.specs.Heaps.{Answered, answer, slot, numbered_set, place, IsLive, with_freed}
 use Rattle.joint_model.specs.Joint.{Joint, JointMarking, opening, IsReached, IsReachedIn, graph_of, peer, joint_target, twin_of}
 use Rattle.joint_model.specs.Lines.{IsEvent, IsPeerThread}
-use Rattle.joint_model.specs.Managed.{Managed, OpenCycle, managed_line, adopted, met, given_up, handle_reply, handle_of, Holds, snapped, resolved, abandoned}
+use Rattle.joint_model.specs.Managed.{Managed, OpenCycle, managed_line, adopted, met, given_up, handle_reply, handle_of, Holds, with_snapshot, resolved, abandoned}
 use Rattle.joint_model.specs.Peers.{Peers, peer_line, pair_made, gripped, landed, issued_since, peer_of}
 use Rattle.joint_model.specs.Told.{Told, snap_of, sweep_of, resolution_of, Noted}
 
@@ -80,7 +80,7 @@ joint_answer j t _ = answer says.Ok j
 pub record JointSnap (j : Joint) (k : ℕ) (freed candidates dead : List ℕ) (reply : Reply) (next : Joint) : Type 0 where
   pub snapshot : IsSnapshot j.managed k freed candidates dead
   pub replies : reply ≡ snap_reply j.managed freed candidates
-  pub state : next ≡ record j { managed = snapped j.managed freed candidates dead }
+  pub state : next ≡ record j { managed = with_snapshot j.managed freed candidates dead }
 
 -- a further marking by the thread, which keeps the graph of now
 pub record OpensMarking (j : Joint) (t : Thread) (reply : Reply) (next : Joint) : Type 0 where

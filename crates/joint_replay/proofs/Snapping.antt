@@ -11,7 +11,7 @@ use Rattle.joint_model.specs.Cycles.{IsSnapshot, snap_reply, IsResolution, resol
 use Rattle.joint_model.specs.Heaps.{Heap, IsMade, numbered_at, is_freed}
 use Rattle.joint_model.specs.Histories.{Finished}
 use Rattle.joint_model.specs.Joint.{Joint}
-use Rattle.joint_model.specs.Managed.{Managed, OpenCycle, Holds, IsManagedReached, IsBridgeReached, handle_of, snapped}
+use Rattle.joint_model.specs.Managed.{Managed, OpenCycle, Holds, IsManagedReached, IsBridgeReached, handle_of, with_snapshot}
 use Rattle.joint_model.specs.Peers.{Peers, peer_of}
 use Rattle.joint_model.specs.Run.{IsKept, JointResolve}
 use Rattle.joint_model.specs.Walks.{Reached}
@@ -94,7 +94,7 @@ snap-no s h reply k l freed candidates dead x wrong next y =
     let one = snap-one s l k (named_objects h reply) y.candidates y.dead freed candidates dead y.snapshot x in
     wrong (says-snap s h reply freed candidates one.0 (y.replies ∙ (ap (λ f. snap_reply s f y.candidates) one.0 ∙ ap (snap_reply s freed) one.1)))
 
-pub snap-yes : (s : Managed) (h : Finished) (reply : Reply) (k : ℕ) (freed candidates dead : List ℕ) (next : Managed) → IsSnapshot s k freed candidates dead → SaysSnap s.heap h reply freed (length candidates) → next ≡ snapped s freed candidates dead → Snaps s k (named_objects h reply) reply next
+pub snap-yes : (s : Managed) (h : Finished) (reply : Reply) (k : ℕ) (freed candidates dead : List ℕ) (next : Managed) → IsSnapshot s k freed candidates dead → SaysSnap s.heap h reply freed (length candidates) → next ≡ with_snapshot s freed candidates dead → Snaps s k (named_objects h reply) reply next
 snap-yes s h reply k freed candidates dead next x w e =
     let r = snap-said s h reply freed candidates w in
     subst (λ f. Snaps s k f reply next) (sym r.0) (record { candidates = candidates; dead = dead; snapshot = x; replies = r.1; state = e })
@@ -188,4 +188,4 @@ pub snap-joint : (j : Joint) (k : ℕ) (freed : List ℕ) (reply : Reply) (m : M
 snap-joint j k freed reply m x = record { candidates = x.candidates; dead = x.dead; snap = record { snapshot = x.snapshot; replies = x.replies; state = ap (λ (z : Managed). record j { managed = z }) x.state } }
 
 pub joint-snap : (j : Joint) (k : ℕ) (freed : List ℕ) (reply : Reply) (n : Joint) → SnapsJoint j k freed reply n → (m : Managed) × Snaps j.managed k freed reply m
-joint-snap j k freed reply n x = (snapped j.managed freed x.candidates x.dead, record { candidates = x.candidates; dead = x.dead; snapshot = x.snap.snapshot; replies = x.snap.replies; state = refl })
+joint-snap j k freed reply n x = (with_snapshot j.managed freed x.candidates x.dead, record { candidates = x.candidates; dead = x.dead; snapshot = x.snap.snapshot; replies = x.snap.replies; state = refl })

@@ -11,7 +11,7 @@ use Rattle.joint_model.specs.Cycles.{IsSnapshot, snap_reply, IsResolution, IsOpe
 use Rattle.joint_model.specs.Heaps.{Heap, IsMade, is_freed}
 use Rattle.joint_model.specs.Histories.{Finished, managed_numbers, peer_numbers, stretch}
 use Rattle.joint_model.specs.Joint.{Joint, JointMarking, IsReached, peer}
-use Rattle.joint_model.specs.Managed.{Managed, OpenCycle, snapped, handle_of}
+use Rattle.joint_model.specs.Managed.{Managed, OpenCycle, with_snapshot, handle_of}
 use Rattle.joint_model.specs.Peers.{Peers, peer_of}
 use Rattle.joint_model.specs.Run.{IsKept, JointSnap, IsStored, EndsMarking}
 
@@ -21,7 +21,7 @@ pub record Snaps (s : Managed) (k : ℕ) (freed : List ℕ) (reply : Reply) (nex
   pub dead : List ℕ
   pub snapshot : IsSnapshot s k freed candidates dead
   pub replies : reply ≡ snap_reply s freed candidates
-  pub state : next ≡ snapped s freed candidates dead
+  pub state : next ≡ with_snapshot s freed candidates dead
 
 -- a snapshot of the joint machine that frees these rows
 pub record SnapsJoint (j : Joint) (k : ℕ) (freed : List ℕ) (reply : Reply) (next : Joint) : Type 0 where

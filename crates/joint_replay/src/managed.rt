@@ -5,7 +5,7 @@ ghost use Rattle.std.specs.Option.{ForSome};
 ghost use Rattle.joint_model.specs.Cycles.{IsOpen};
 ghost use Rattle.joint_model.specs.Heaps.{field_set, dropped, answer, IsLive, IsMade};
 ghost use Rattle.joint_model.specs.Histories.{managed_numbers};
-ghost use Rattle.joint_model.specs.Managed.{opening_managed, on_heap, adopted, abandoned, managed_name, handle_of, holds_handle, IsManagedRoot, snapped, resolved};
+ghost use Rattle.joint_model.specs.Managed.{opening_managed, on_heap, adopted, abandoned, managed_name, handle_of, holds_handle, IsManagedRoot, with_snapshot, resolved};
 ghost use Rattle.joint_replay.specs.Plain.{refusal_reply, HasOpen};
 ghost use Rattle.joint_replay.specs.Judging.{Decides, Gives, named_objects};
 ghost use Rattle.joint_replay.specs.Finding.{Finds};
@@ -312,7 +312,7 @@ impl ManagedPart {
     fn open(&mut self, k: Cycle, found: Found) -> Result<(), AllocError>
         requires next { k.0 ≡ self.old.cycles + 1 }
         requires finds { Finds self.old.heap self.old.held found.freed.items found.candidates.items found.dead.items }
-        ensures ok { OnOk result (self.new ≡ snapped self.old found.freed.items found.candidates.items found.dead.items) }
+        ensures ok { OnOk result (self.new ≡ with_snapshot self.old found.freed.items found.candidates.items found.dead.items) }
         ensures err { OnErr result (self.new ≡ self.old) }
     {
         let Found {

@@ -7,7 +7,7 @@ use Rattle.joint_model.specs.declared.events.Op.TheVariants as op
 use Rattle.joint_model.specs.declared.events.Reply.{Reply}
 use Rattle.joint_model.specs.Heaps.{Answered, answer, place}
 use Rattle.joint_model.specs.Cycles.{IsSnapshot, IsResolution, IsAnsweredAlive}
-use Rattle.joint_model.specs.Managed.{Managed, OpenCycle, adopted, snapped, resolved, abandoned}
+use Rattle.joint_model.specs.Managed.{Managed, OpenCycle, adopted, with_snapshot, resolved, abandoned}
 use Rattle.joint_model.specs.ManagedReplay.{ManagedReplay}
 use Rattle.joint_model.specs.Run.{thread_number}
 use Rattle.joint_model.specs.Told.{nothing, snap_of, resolution_of}
@@ -34,7 +34,7 @@ step r next t index o reply cites first fresh is = by o first.1 fresh is
     by _ f fresh is = absurd f
 
 -- a snapshot
-pub snap : (r : ManagedReplay) (next : Managed) (index : ℕ) (k : Cycle) (freed candidates dead : List ℕ) → IsSnapshot r.managed k.0 freed candidates dead → next ≡ snapped r.managed freed candidates dead
+pub snap : (r : ManagedReplay) (next : Managed) (index : ℕ) (k : Cycle) (freed candidates dead : List ℕ) → IsSnapshot r.managed k.0 freed candidates dead → next ≡ with_snapshot r.managed freed candidates dead
     → Replays r (snap_made r.managed index k freed candidates) (snap_of freed candidates dead) next
 snap r next index k freed candidates dead is state = record { lawful = record { allowed = is; replies = refl }; state = sym state }
 

@@ -14,7 +14,7 @@ use Rattle.finaliser_queue.specs.Queue.{Queue}
 use Rattle.joint_model.specs.Components.{Rises}
 use Rattle.joint_model.specs.Cycles.{IsSnapshot, IsAnsweredAlive}
 use Rattle.joint_model.specs.Heaps.{Heap, IsLive, HasField, InSlot, numbered_at, with_freed}
-use Rattle.joint_model.specs.Managed.{Managed, OpenCycle, IsBridge, IsManagedRoot, ManagedEdge, IsManagedReached, IsBridgeReached, handle_of, holds_handle, snapped, resolved}
+use Rattle.joint_model.specs.Managed.{Managed, OpenCycle, IsBridge, IsManagedRoot, ManagedEdge, IsManagedReached, IsBridgeReached, handle_of, holds_handle, with_snapshot, resolved}
 use Rattle.joint_model.specs.Walks.{Reached}
 use Rattle.joint_model.proofs.WalkLemmas.{Reached-mono, Reached-start, Reached-then, Reaches-then}
 use Rattle.reachability.specs.Marks.{Leads, IsMarked}
@@ -268,7 +268,7 @@ named-numbers handles xs e = numbers-some handles ∙ e
 pub resolved-is : (h k : Heap) (kinds : List Kind) (held : List (Option ℕ)) (q p : Queue) (cycle after : Option OpenCycle) (n : ℕ) (freed : List ℕ) → k ≡ with_freed h freed → managed_numbers p.queued ≡ managed_numbers q.queued ++ filter (holds_handle (rows_of h kinds held q cycle n)) freed → p.taken ≡ q.taken → after ≡ None → rows_of k kinds held p after n ≡ resolved (rows_of h kinds held q cycle n) freed
 resolved-is h k kinds held q p cycle after n freed e f t o = rw (e, f, t, o) refl
 
-pub snapped-is : (h k : Heap) (kinds : List Kind) (held : List (Option ℕ)) (q p : Queue) (cycle after : Option OpenCycle) (n : ℕ) (freed candidates dead : List ℕ) → k ≡ with_freed h freed → p.queued ≡ q.queued → p.taken ≡ q.taken → after ≡ Some (cycle_of (n + 1) candidates dead) → rows_of k kinds held p after (n + 1) ≡ snapped (rows_of h kinds held q cycle n) freed candidates dead
+pub snapped-is : (h k : Heap) (kinds : List Kind) (held : List (Option ℕ)) (q p : Queue) (cycle after : Option OpenCycle) (n : ℕ) (freed candidates dead : List ℕ) → k ≡ with_freed h freed → p.queued ≡ q.queued → p.taken ≡ q.taken → after ≡ Some (cycle_of (n + 1) candidates dead) → rows_of k kinds held p after (n + 1) ≡ with_snapshot (rows_of h kinds held q cycle n) freed candidates dead
 snapped-is h k kinds held q p cycle after n freed candidates dead e f t o = rw (e, f, t, o) refl
 
 -- the entry of a snapshot, from what its parts are

@@ -5,7 +5,7 @@ use Rattle.joint_model.specs.declared.events.Entry.{Entry}
 use Rattle.joint_model.specs.Cycles.{IsSnapshot, IsResolution, IsAnsweredAlive}
 use Rattle.joint_model.specs.Draws.{numbered, Adds}
 use Rattle.joint_model.specs.Histories.{managed_numbers}
-use Rattle.joint_model.specs.Managed.{OpenCycle, handle_of, snapped, resolved, abandoned}
+use Rattle.joint_model.specs.Managed.{OpenCycle, handle_of, with_snapshot, resolved, abandoned}
 use Rattle.managed_heap.specs.Sides.{Side, snap_made, resolve_made, abandon_made}
 use Rattle.managed_heap.specs.declared.side.Opened.{Opened}
 use Rattle.managed_heap.specs.declared.side.ResolveOut.{ResolveOut}
@@ -22,7 +22,7 @@ pub record Snaps {D : Type 0} (drew : D → Entry → Option MNum → List MNum 
   pub candidates : List ℕ
   pub dead : List ℕ
   pub snapshot : IsSnapshot old.managed out.cycle.0 (managed_numbers freed) candidates dead
-  pub state : new.managed ≡ snapped old.managed (managed_numbers freed) candidates dead
+  pub state : new.managed ≡ with_snapshot old.managed (managed_numbers freed) candidates dead
   pub drawn : drew before (numbered out.number (snap_made old.managed index out.cycle (managed_numbers freed) candidates)) None freed after
   pub added : new.entries ≡ old.entries ++ numbered out.number (snap_made old.managed index out.cycle (managed_numbers freed) candidates) ∷ []
   pub handles : map (λ h. Some h.0) out.handles.items ≡ map (handle_of old.managed) candidates

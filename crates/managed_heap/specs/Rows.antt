@@ -5,7 +5,7 @@ use Rattle.joint_model.specs.Components.{Rises}
 use Rattle.joint_model.specs.Cycles.{IsSnapshot, IsResolution, IsAnsweredAlive}
 use Rattle.joint_model.specs.Heaps.{Heap, HasField}
 use Rattle.joint_model.specs.Histories.{managed_numbers}
-use Rattle.joint_model.specs.Managed.{Managed, OpenCycle, handle_of, snapped, resolved}
+use Rattle.joint_model.specs.Managed.{Managed, OpenCycle, handle_of, with_snapshot, resolved}
 use Rattle.joint_model.specs.Walks.{Reaches}
 use Rattle.finaliser_queue.specs.Queue.{Queue}
 
@@ -22,7 +22,7 @@ pub record TakesSnapshot (s next : Managed) (freed : List ℕ) (first count : �
   pub candidates : List ℕ
   pub dead : List ℕ
   pub snapshot : IsSnapshot s (s.cycles + 1) freed candidates dead
-  pub state : next ≡ snapped s freed candidates dead
+  pub state : next ≡ with_snapshot s freed candidates dead
   pub before : first ≡ length s.heap.freed
   pub counted : count ≡ length candidates
   pub named : map Some handles ≡ map (handle_of s) candidates

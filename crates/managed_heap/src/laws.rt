@@ -8,7 +8,7 @@ ghost use Rattle.joint_model.specs.declared.events.Op.{Op};
 ghost use Rattle.joint_model.specs.declared.events.Reply.{Reply};
 ghost use Rattle.joint_model.specs.Cycles.{IsSnapshot, IsResolution, IsAnsweredAlive};
 ghost use Rattle.joint_model.specs.Heaps.{answer};
-ghost use Rattle.joint_model.specs.Managed.{Managed, OpenCycle, opening_managed, snapped, resolved, abandoned};
+ghost use Rattle.joint_model.specs.Managed.{Managed, OpenCycle, opening_managed, with_snapshot, resolved, abandoned};
 ghost use Rattle.joint_model.specs.ManagedReplay.{ManagedReplay, opening_replay};
 ghost use Rattle.joint_model.specs.Told.{nothing, snap_of, resolution_of};
 ghost use Rattle.managed_heap.specs.Replays.{Replays, IsFresh};
@@ -26,7 +26,7 @@ pub fn step_replays()
 
 /// What `snap` promises is what the replay does.
 pub fn snap_replays()
-    ensures { (r : ManagedReplay) (next : Managed) (index : ℕ) (k : Cycle) (freed candidates dead : List ℕ) → IsSnapshot r.managed k.0 freed candidates dead → next ≡ snapped r.managed freed candidates dead → Replays r (snap_made r.managed index k freed candidates) (snap_of freed candidates dead) next }
+    ensures { (r : ManagedReplay) (next : Managed) (index : ℕ) (k : Cycle) (freed candidates dead : List ℕ) → IsSnapshot r.managed k.0 freed candidates dead → next ≡ with_snapshot r.managed freed candidates dead → Replays r (snap_made r.managed index k freed candidates) (snap_of freed candidates dead) next }
 {}
 
 /// What `resolve` promises is what the replay does.
