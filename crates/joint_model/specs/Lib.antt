@@ -18,4 +18,5 @@ pub mod Control
 pub mod Linked
 pub mod Joined
 pub mod Readers
+pub mod Phases
 pub mod First

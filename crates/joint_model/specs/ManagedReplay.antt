@@ -14,6 +14,7 @@ use Rattle.joint_model.specs.declared.events.Reply.TheVariants as says
 use Rattle.joint_model.specs.Cycles.{IsSnapshot, snap_reply, IsResolution, resolve_reply, IsOpen, IsDeadContraction, IsAnsweredAlive}
 use Rattle.joint_model.specs.Heaps.{Answered, answer, slot, place}
 use Rattle.joint_model.specs.Managed.{Managed, OpenCycle, opening_managed, managed_line, adopted, met, given_up, handle_reply, with_snapshot, resolved, abandoned}
+use Rattle.joint_model.specs.Phases.{next_phase}
 use Rattle.joint_model.specs.Run.{thread_number}
 use Rattle.joint_model.specs.Told.{Told, nothing, snap_of, contraction_of, resolution_of, phase_of, Answer}
 
@@ -106,18 +107,9 @@ pub record MayResolve (s : ManagedReplay) (k : ℕ) (alive : List Answer) (freed
   pub answers : length alive ≡ length cycle.candidates
   pub resolution : IsResolution s.managed cycle.dead (IsAnsweredAlive cycle.candidates alive) freed
 
--- a word is refused in a phase: `cycle` and `snap` where the driver isn't idle, each other word where the driver's
--- phase isn't the one before its own
+-- a word is refused in a phase: the phase isn't the one before the word's own
 abbrev pub IsRefusedIn : PhaseWord → Phase → Type 0
-IsRefusedIn word.Cycle phase = phase ≡ at.Idle → ⊥
-IsRefusedIn word.Snap phase = phase ≡ at.Idle → ⊥
-IsRefusedIn word.Contract phase = phase ≡ at.Snapped → ⊥
-IsRefusedIn word.Mirror phase = phase ≡ at.Contracted → ⊥
-IsRefusedIn word.Weaken phase = phase ≡ at.Mirrored → ⊥
-IsRefusedIn word.Mark phase = phase ≡ at.Weakened → ⊥
-IsRefusedIn word.Sweep phase = phase ≡ at.Marked → ⊥
-IsRefusedIn word.Restore phase = phase ≡ at.Swept → ⊥
-IsRefusedIn word.Resolve phase = phase ≡ at.Restored → ⊥
+IsRefusedIn w phase = next_phase phase w ≡ None
 
 -- a refusal: its word is refused in the driver's phase, which is idle exactly where no cycle is open
 pub record MayRefuse (s : ManagedReplay) (w : PhaseWord) (phase : Phase) : Type 0 where

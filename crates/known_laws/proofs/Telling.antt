@@ -250,8 +250,8 @@ retold s (weakening o zero false swept) c w at.Weakened a m = by w m
 
     by : (w : PhaseWord) → MayRefuse s w at.Weakened → TellsPlainly (weakening o zero false swept) (op.Refused w) (phase_of at.Weakened)
         ⊎ (IsPhaseOf (weakening o zero false swept) c at.Mirrored × MayRefuse s w at.Mirrored × (refusal_to s.managed at.Weakened w ≡ refusal_to s.managed at.Mirrored w))
-    by word.Cycle m = inr (mirrored, record { refused = λ z. cc; idle = idle_still m.idle }, refl)
-    by word.Snap m = inr (mirrored, record { refused = λ z. cc; idle = idle_still m.idle }, refl)
+    by word.Cycle m = inr (mirrored, record { refused = refl; idle = idle_still m.idle }, refl)
+    by word.Snap m = inr (mirrored, record { refused = refl; idle = idle_still m.idle }, refl)
     by _ m = inl tt
 retold s (weakening o zero true swept) c w p a m = inl (plainly_by (weakening o zero true swept) w p (λ e x. refl))
 retold s (weakening o (suc n) seen swept) c w p a m = inl (plainly_by (weakening o (suc n) seen swept) w p (λ e x. absurd (cc)))

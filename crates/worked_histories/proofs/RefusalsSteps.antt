@@ -15,13 +15,13 @@ use Rattle.worked_histories.specs.Refusals.{refusals, RefusalsHold}
 
 pub refusals-lawful : AllMayCome opening_linkage refusals
 refusals-lawful = (
-  record { event = tt; line = omega arith; short = omega arith; lawful = record { allowed = record { refused = λ e. cc; idle = (λ e. refl, λ e. refl) }; replies = refl }; order = (refl, refl) },
+  record { event = tt; line = omega arith; short = omega arith; lawful = record { allowed = record { refused = refl; idle = (λ e. refl, λ e. refl) }; replies = refl }; order = (refl, refl) },
   (
     record { event = tt; line = omega arith; short = omega arith; lawful = record { allowed = snapshot _ 2 1 [] [] [] (record { slots = refl; bridges = refl }) refl refl refl refl refl refl; replies = refl }; order = refl },
     (
-      record { event = tt; line = omega arith; short = omega arith; lawful = record { allowed = record { refused = λ e. cc; idle = (λ e. cc, λ e. cc) }; replies = refl }; order = (refl, refl) },
+      record { event = tt; line = omega arith; short = omega arith; lawful = record { allowed = record { refused = refl; idle = (λ e. cc, λ e. cc) }; replies = refl }; order = (refl, refl) },
       (
-        record { event = tt; line = omega arith; short = omega arith; lawful = record { allowed = record { refused = λ e. cc; idle = (λ e. cc, λ e. cc) }; replies = refl }; order = (refl, refl) },
+        record { event = tt; line = omega arith; short = omega arith; lawful = record { allowed = record { refused = refl; idle = (λ e. cc, λ e. cc) }; replies = refl }; order = (refl, refl) },
         (
           record { event = tt; line = omega arith; short = omega arith; lawful = record { allowed = record { cycle = record { number = 1; candidates = []; dead = [] }; open_cycle = (refl, refl); once = refl; exact = dead_contraction _ 2 [] [] [] (record { inside = refl; complete = refl; order = refl; same = refl; firsts = refl; split = refl; refs = refl }) }; replies = refl }; order = (refl, refl) },
           (
