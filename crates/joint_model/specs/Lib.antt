@@ -18,5 +18,6 @@ pub mod Control
 pub mod Linked
 pub mod Joined
 pub mod Readers
+pub mod Sides
 pub mod Phases
 pub mod First

@@ -11,6 +11,7 @@ mod finished;
 mod lines;
 mod lists;
 mod names;
+mod sides;
 
 pub use draws::{Counter, Draw, counted_in_turn, drawn_in_turn};
 pub use events::{Entry, Made, Op, Reply};
@@ -21,6 +22,7 @@ pub use names::{
     Cell, Cycle, GName, HNum, Kind, MNum, Marking, PNum, Phase, PhaseWord, Sort, Span, StaticNo,
     Thread, Var,
 };
+pub use sides::replays_go_on;
 
 #[cfg(test)]
 mod tests;

@@ -1,0 +1,11 @@
+use Rattle.joint_model.specs.ManagedReplay.{ManagedReplay}
+use Rattle.joint_model.specs.PeerReplay.{PeerReplay}
+use Rattle.joint_model.specs.Sides.{managed_rules, peer_rules}
+use Rattle.joint_model.proofs.SideLists.{IsReplayed-push}
+use Rattle.joint_model.proofs.sides.replays_go_on.Goals as goal
+
+pub returns-clause-managed : goal.returns-clause-managed
+returns-clause-managed c = IsReplayed-push managed_rules
+
+pub returns-clause-peers : goal.returns-clause-peers
+returns-clause-peers c = IsReplayed-push peer_rules
