@@ -1,6 +1,6 @@
 -- Linked histories: the one list of entries in which both sides' own lists are lawful, the citations agree, and each
 -- caller's events come in their order. And the joint projection: the entries that are steps of the joint machine.
-use Rattle.std.specs.Prelude.{◌≡◌, ℕ, ◌<◌, ◌≤◌, ◌^◌, Bool, true, false, List, [], ◌∷◌, length, map, filter, take}
+use Rattle.std.specs.Prelude.{◌≡◌, ℕ, ◌<◌, ◌≤◌, ◌^◌, Bool, true, false, if◌then◌else◌, List, [], ◌∷◌, length, map, filter, take}
 use Rattle.joint_model.specs.declared.lines.Act.TheVariants as act
 use Rattle.joint_model.specs.declared.events.Op.{Op}
 use Rattle.joint_model.specs.declared.events.Op.TheVariants as op
@@ -115,6 +115,11 @@ is_joint (op.Clear k) = false
 is_joint (op.Refused w) = false
 is_joint _ = true
 
--- the entries that are steps of the joint machine; their numbers stay
+-- the entries that are steps of the joint machine, but for those that are set aside; their numbers stay. Of a history whose reads
+-- are events of the managed side none is set aside; `Readers` has the projection of one whose reads take no lock.
+abbrev pub projected : (Noted → Bool) → List Noted → List Noted
+projected is_aside ns = filter (λ n. if is_aside n then false else is_joint n.entry.made.op) ns
+
+-- the joint projection
 abbrev pub joint_projection : List Noted → List Noted
-joint_projection ns = filter (λ n. is_joint n.entry.made.op) ns
+joint_projection ns = projected (λ n. false) ns

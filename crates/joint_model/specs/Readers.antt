@@ -13,7 +13,7 @@ use Rattle.joint_model.specs.Draws.{NumberedFrom}
 use Rattle.joint_model.specs.Heaps.{slot}
 use Rattle.joint_model.specs.Histories.{Finished, managed_numbers, peer_numbers}
 use Rattle.joint_model.specs.Lines.{IsEvent, is_peer_event}
-use Rattle.joint_model.specs.Linked.{Linkage, opening_linkage, linkage_after, managed_after, ManagedLawful, MayCome, IsWhole, joint_projection}
+use Rattle.joint_model.specs.Linked.{Linkage, opening_linkage, linkage_after, managed_after, ManagedLawful, MayCome, IsWhole, projected}
 use Rattle.joint_model.specs.Managed.{Managed, read_cell}
 use Rattle.joint_model.specs.Joint.{Joint}
 use Rattle.joint_model.specs.ManagedReplay.{ManagedReplay}
@@ -41,7 +41,7 @@ abbrev pub SetsCell : Op → ℕ → Type 0
 SetsCell (op.Line (act.Weak c v)) k = c.0 ≡ k
 SetsCell _ k = ⊥
 
--- whether a read's reply is `pending` or `unset`, which is no step of the joint machine
+-- whether a reply is `pending` or `unset`
 abbrev pub is_set_aside : Reply → Bool
 is_set_aside (says.Pending c) = true
 is_set_aside says.Unset = true
@@ -173,15 +173,18 @@ pub record IsLinkedReading (h : Finished) : Type 0 where
   pub noted : List Noted
   pub linked : IsLinkedReadingBy h noted
 
--- the joint projection of a history with readers: without the entries that are no steps of the joint machine, and without
--- the reads that answered `pending` or `unset`
-abbrev pub reading_projection : List Noted → List Noted
-reading_projection ns = filter (λ n. not (is_read n.entry.made.op && is_set_aside n.entry.made.reply)) (joint_projection ns)
+-- whether the entry is a read that answered `pending` or `unset`, which is no step of the joint machine
+abbrev pub is_aside : Noted → Bool
+is_aside n = is_read n.entry.made.op && is_set_aside n.entry.made.reply
 
--- a step of the joint machine in a history with readers: a read that answers `pending` or `unset` is none
+-- the joint projection of a history with readers: as that of any history, with these reads set aside
+abbrev pub reading_projection : List Noted → List Noted
+reading_projection ns = projected is_aside ns
+
+-- a step of the joint machine in a history with readers: a read that is set aside is none
 pub record ReadingStep (j : Joint) (n : Noted) (next : Joint) : Type 0 where
   pub step : JointStep j n next
-  pub counts : (is_read n.entry.made.op && is_set_aside n.entry.made.reply) ≡ false
+  pub counts : is_aside n ≡ false
 
 -- a managed entry with the pins that are kept with it: those that the readers' entries and the takes before it leave
 pub record Kept : Type 0 where
