@@ -106,7 +106,7 @@ adopted-well m p v kind n q h b k issued fresh = test-cases (IsAdoptedWell m p q
             k.tabled_live g i.0 (subst (IsTabled p) d.1 tabled) i.1 (subst (λ z. Contains p.peers.heap.freed z) (sym i.2) c))
       ];
       replies = refl;
-      state = ap (λ r. record { managed = grown m.managed v kind n h; peers = p.peers; removed = r; marking = (joint_since m.managed p b).marking; markings = p.markings })
+      state = ap (λ r. record { graph = record { managed = grown m.managed v kind n h; peers = p.peers; removed = r }; marking = (joint_since m.managed p b).marking; markings = p.markings })
           (sym (removed-same m.managed (grown m.managed v kind n h) p.table (owned-adopted m.managed m.adopted p v kind n h k next tabled)));
     })
   where

@@ -10,7 +10,7 @@ use Rattle.joint_model.specs.Control.{idle}
 use Rattle.joint_model.specs.First.{FirstLinkage, FirstMayCome}
 use Rattle.joint_model.specs.Heaps.{Heap, Answered, IsLive, slot, fields_of, field_set, field_stored, dropped, place}
 use Rattle.joint_model.specs.Joined.{joint_since, removed_from}
-use Rattle.joint_model.specs.Joint.{Graph}
+use Rattle.joint_model.specs.Joint.{Graph, with_managed}
 use Rattle.joint_model.specs.Managed.{Managed, Holds, place_or_none}
 use Rattle.joint_model.specs.PeerReplay.{PeerReplay}
 use Rattle.joint_model.specs.Told.{nothing}
@@ -68,8 +68,8 @@ removed-tame : (s : Managed) (k : Heap) (taken : List ℕ) (p : PeerReplay) → 
 removed-tame s k taken p t a = sym (removed-same s (with_heap s k) p.table (λ h e. owned-same s (with_heap s k) h a.held_length (a.held_length ∙ sym t.count)
     (λ w. (w.0, Holds-tame s k w.0 h t w.1)) (λ w. (w.0, Holds-back s k w.0 h t w.1))))
 
-joint-tame : (s : Managed) (k : Heap) (taken : List ℕ) (p : PeerReplay) (b : Graph) → IsTame s.heap k → AreHandlesKept s taken p → joint_since (with_heap s k) p b ≡ record (joint_since s p b) { managed = with_heap s k }
-joint-tame s k taken p b t a = ap (λ r. record { managed = with_heap s k; peers = p.peers; removed = r; marking = (joint_since s p b).marking; markings = p.markings }) (removed-tame s k taken p t a)
+joint-tame : (s : Managed) (k : Heap) (taken : List ℕ) (p : PeerReplay) (b : Graph) → IsTame s.heap k → AreHandlesKept s taken p → joint_since (with_heap s k) p b ≡ with_managed (joint_since s p b) (with_heap s k)
+joint-tame s k taken p b t a = ap (λ r. record { graph = record { managed = with_heap s k; peers = p.peers; removed = r }; marking = (joint_since s p b).marking; markings = p.markings }) (removed-tame s k taken p t a)
 
 -- what a tame line keeps
 kept-tame : (b : Graph) (s : FirstLinkage) (k : Heap) (t line : ℕ) → IsTame s.base.managed.managed.heap k → IsKept b s → s.base.control.stand ≡ idle → IsStandKept b (with_heap s.base.managed.managed k) s.base.peer s.unreached s.base.control.stand

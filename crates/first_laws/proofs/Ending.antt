@@ -75,9 +75,9 @@ freed-candidate_judged past m b s taken p o c freed e r t at x f w =
       moment = m;
       there = push-last past m (length past) refl;
       handle = h;
-      holds = subst (λ (j : Joint). Holds j.managed x h) (sym e) bridge.1;
+      holds = subst (λ (j : Joint). Holds j.graph.managed x h) (sym e) bridge.1;
       peer = q;
-      leads = subst (λ (j : Joint). peer_of j.peers.issued h ≡ Some q) (sym e) leads;
+      leads = subst (λ (j : Joint). peer_of j.graph.peers.issued h ≡ Some q) (sym e) leads;
       swept = record {
         marking = t.number;
         begin = t.begun.at;
@@ -139,8 +139,8 @@ cycle-complete run b s taken p o c freed end r is t ends =
           ));
       peers = λ q made u. (
           let same = some-same made.moment own.moment (sym made.there ∙ own.there) in
-          let was : IsMade b.peers.heap q = subst (λ (z : Peers). IsMade z.heap q) t.begun.peers (subst (λ (z : Moment). IsMade z.before.peers.heap q) same made.made) in
-          let after : own.moment.after.peers ≡ b.peers = ap (λ (g : Graph). g.peers) graph in
+          let was : IsMade b.peers.heap q = subst (λ (z : Peers). IsMade z.heap q) t.begun.peers (subst (λ (z : Moment). IsMade z.before.graph.peers.heap q) same made.made) in
+          let after : own.moment.after.graph.peers ≡ b.peers = ap (λ (g : Graph). g.peers) graph in
           let unreached : IsReachedIn b (peer q) → ⊥ = λ z. u t.begun.at (omega (arith, t.begun.later)) (omega (arith, t.swept.later)) own.moment own.there (subst (λ (ps : Peers). IsMade ps.heap q) (sym after) was) (subst (λ g. IsReachedIn g (peer q)) (sym graph) z) in
           let now : Contains p.peers.heap.freed q = subst (λ l. Contains l q) (sym (freed-then b s p r.swept)) (freed-by was unreached) in
           record { moment = t.swept.sweeps.moment; there = t.swept.sweeps.there; freed = subst (λ (ps : Peers). Contains ps.heap.freed q) (sym t.swept.peers) now });

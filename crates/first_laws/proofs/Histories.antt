@@ -14,7 +14,7 @@ use Rattle.joint_model.specs.declared.lines.Act.TheVariants as act
 use Rattle.joint_model.specs.Control.{Doing, free, made}
 use Rattle.joint_model.specs.First.{FirstLinkage, FirstMayCome, AllFirstMayCome, opening_first, first_after, first_replayed}
 use Rattle.joint_model.specs.Heaps.{numbered_at}
-use Rattle.joint_model.specs.Joint.{Joint, Graph, opening, graph_of}
+use Rattle.joint_model.specs.Joint.{Joint, Graph, opening}
 use Rattle.joint_model.specs.Linked.{is_joint, joint_projection}
 use Rattle.joint_model.specs.Run.{Moment, JointStep, IsRunFrom, IsRun}
 use Rattle.joint_model.specs.Told.{Noted}
@@ -74,7 +74,7 @@ numbered-nil : {A : Type 0} (n : ℕ) (x : A) → numbered_at [] n ≡ Some x �
 numbered-nil zero x e = cc
 numbered-nil (suc k) x e = cc
 
-opening-kept : IsKept (graph_of opening) opening_first
+opening-kept : IsKept opening.graph opening_first
 opening-kept = record {
   handles = record {
     held_length = refl;
@@ -93,7 +93,7 @@ opening-kept = record {
   stand = (refl, λ x h q w e c. numbered-nil x (Some h) w.held);
 }
 
-pub opening-run : HasRun [] [] (graph_of opening) opening_first
+pub opening-run : HasRun [] [] opening.graph opening_first
 opening-run = record { same = refl; steps = tt; ends = refl; kept = opening-kept }
 
 -- a fact that each entry keeps holds at the end
@@ -138,7 +138,7 @@ projection-whole ns first = filter-all (λ n. is_joint n.entry.made.op) ns (λ k
 
 -- a history is a run
 pub histories-run : (ns : List Noted) → AllFirstMayCome opening_first ns → AreFirstEvents ns → Ended HasRun [] ns opening_first
-histories-run ns may first = gone-through HasRun (λ past before b s n r m f. HasRun-push past before b s n r (steps b s n m f r.kept)) [] [] (graph_of opening) opening_first ns opening-run may first
+histories-run ns may first = gone-through HasRun (λ past before b s n r m f. HasRun-push past before b s n r (steps b s n m f r.kept)) [] [] opening.graph opening_first ns opening-run may first
 
 pub runs : (ns : List Noted) → AllFirstMayCome opening_first ns → AreFirstEvents ns → (moments : List Moment) × IsRun (joint_projection ns) moments
 runs ns may first =

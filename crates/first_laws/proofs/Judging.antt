@@ -8,7 +8,7 @@ use Rattle.joint_model.specs.declared.events.Op.{Op}
 use Rattle.joint_model.specs.declared.events.Op.TheVariants as op
 use Rattle.joint_model.specs.declared.events.Reply.TheVariants as says
 use Rattle.joint_model.specs.Headline.{BeginsAt, DriverBeginsAt, SweepsAt, SnapsAt, ResolvesAt, IsUnreachedAt, IsUnreachedBefore, IsUnreachedThroughout, WasUnreached, IsSweptFor, IsFreedWithPeer, IsCandidateBefore, IsSoundRun, IsPeerUnreachedThroughout, IsCompleteCycle, IsCompleteRun}
-use Rattle.joint_model.specs.Joint.{Row, object, peer, Graph, IsReached, IsReachedIn, graph_of}
+use Rattle.joint_model.specs.Joint.{Row, object, peer, Graph, IsReached, IsReachedIn}
 use Rattle.joint_model.specs.Managed.{OpenCycle}
 use Rattle.joint_model.specs.Run.{Moment}
 use Rattle.joint_model.specs.Told.{snap_of, sweep_of, resolution_of, Answer}
@@ -66,7 +66,7 @@ freed_with_peer-grown past m i x w = record { moment = w.moment; there = push-at
 
 -- a moment that is put last is sound: what it frees was unreached, and swept where it is a candidate
 pub record IsSoundMoment (past : List Moment) (m : Moment) : Type 0 where
-  pub candidates : (k x : ℕ) (alive : List Answer) (freed : List ℕ) (c : OpenCycle) → m.noted.entry.made.op ≡ op.Resolve record { 0 = k } → m.noted.told ≡ resolution_of alive freed → Contains freed x → m.before.managed.cycle ≡ Some c → Contains c.candidates x → IsFreedWithPeer (past ++ m ∷ []) (length past) x
+  pub candidates : (k x : ℕ) (alive : List Answer) (freed : List ℕ) (c : OpenCycle) → m.noted.entry.made.op ≡ op.Resolve record { 0 = k } → m.noted.told ≡ resolution_of alive freed → Contains freed x → m.before.graph.managed.cycle ≡ Some c → Contains c.candidates x → IsFreedWithPeer (past ++ m ∷ []) (length past) x
   pub peers : (j p : ℕ) (span : Span) (freed : List ℕ) → m.noted.entry.made.op ≡ op.Sweep → m.noted.entry.made.reply ≡ says.Swept record { 0 = j } span → m.noted.told ≡ sweep_of freed → Contains freed p
       → (begin : ℕ) × (begin < length past) × BeginsAt (past ++ m ∷ []) begin j × WasUnreached (past ++ m ∷ []) begin (length past) (peer p)
   pub snapped : (k x : ℕ) (freed candidates dead : List ℕ) → m.noted.entry.made.op ≡ op.Snap record { 0 = k } → m.noted.told ≡ snap_of freed candidates dead → Contains freed x → IsReached m.before (object x) → ⊥
@@ -84,10 +84,10 @@ resolves-cases past m i k freed w = elim (push-at_cases past m i w.moment w.ther
 ]
 
 -- the candidates of the last moment
-candidate-cases : (past : List Moment) (m : Moment) (i x : ℕ) → IsCandidateBefore (past ++ m ∷ []) i x → IsCandidateBefore past i x ⊎ ((i ≡ length past) × ((c : OpenCycle) × (m.before.managed.cycle ≡ Some c) × Contains c.candidates x))
+candidate-cases : (past : List Moment) (m : Moment) (i x : ℕ) → IsCandidateBefore (past ++ m ∷ []) i x → IsCandidateBefore past i x ⊎ ((i ≡ length past) × ((c : OpenCycle) × (m.before.graph.managed.cycle ≡ Some c) × Contains c.candidates x))
 candidate-cases past m i x w = elim (push-at_cases past m i w.moment w.there) [
   | inl e ↦ inl (record { moment = w.moment; there = e; cycle = w.cycle; open_cycle = w.open_cycle; candidate = w.candidate })
-  | inr e ↦ inr (e.0, (w.cycle, ap (λ (z : Moment). z.before.managed.cycle) e.1 ∙ w.open_cycle, w.candidate))
+  | inr e ↦ inr (e.0, (w.cycle, ap (λ (z : Moment). z.before.graph.managed.cycle) e.1 ∙ w.open_cycle, w.candidate))
 ]
 
 last-unreached : (past : List Moment) (m : Moment) (i : ℕ) (x : Row) → i ≡ length past → (IsReached m.before x → ⊥) → IsUnreachedBefore (past ++ m ∷ []) i x
@@ -203,8 +203,8 @@ pub complete-other : (past : List Moment) (m : Moment) → IsUnresolving m.noted
 complete-other past m q k alive freed e = absurd (subst IsUnresolving e q)
 
 -- unreached at a place, by the graph that stood there
-pub unreached-after : (run : List Moment) (i : ℕ) (m : Moment) (g : Graph) (x : Row) → slice_get run i ≡ Some m → graph_of m.after ≡ g → (IsReachedIn g x → ⊥) → IsUnreachedAt run i x
-unreached-after run i m g x at e n y there r = n (subst (λ h. IsReachedIn h x) (ap (λ (z : Moment). graph_of z.after) (some-same y m (sym there ∙ at)) ∙ e) r)
+pub unreached-after : (run : List Moment) (i : ℕ) (m : Moment) (g : Graph) (x : Row) → slice_get run i ≡ Some m → m.after.graph ≡ g → (IsReachedIn g x → ⊥) → IsUnreachedAt run i x
+unreached-after run i m g x at e n y there r = n (subst (λ h. IsReachedIn h x) (ap (λ (z : Moment). z.after.graph) (some-same y m (sym there ∙ at)) ∙ e) r)
 
-pub unreached-before : (run : List Moment) (i : ℕ) (m : Moment) (g : Graph) (x : Row) → slice_get run i ≡ Some m → graph_of m.before ≡ g → (IsReachedIn g x → ⊥) → IsUnreachedBefore run i x
-unreached-before run i m g x at e n y there r = n (subst (λ h. IsReachedIn h x) (ap (λ (z : Moment). graph_of z.before) (some-same y m (sym there ∙ at)) ∙ e) r)
+pub unreached-before : (run : List Moment) (i : ℕ) (m : Moment) (g : Graph) (x : Row) → slice_get run i ≡ Some m → m.before.graph ≡ g → (IsReachedIn g x → ⊥) → IsUnreachedBefore run i x
+unreached-before run i m g x at e n y there r = n (subst (λ h. IsReachedIn h x) (ap (λ (z : Moment). z.before.graph) (some-same y m (sym there ∙ at)) ∙ e) r)

@@ -142,7 +142,7 @@ make-steps b s number t index sort f reply cites may k =
         step = record {
           computed = tt;
           replies = may.lawful.replies;
-          state = ap (λ r. record { managed = m; peers = a.state; removed = r; marking = (joint_at b s).marking; markings = p.markings }) (removed-issued m 1 p.table (issued_since p.peers a.state));
+          state = ap (λ r. record { graph = record { managed = m; peers = a.state; removed = r }; marking = (joint_at b s).marking; markings = p.markings }) (removed-issued m 1 p.table (issued_since p.peers a.state));
         };
       };
       kept = record {

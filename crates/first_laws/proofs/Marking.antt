@@ -185,7 +185,7 @@ sweeps-well b s taken p o freed reply mk k owners cut now exact =
         stored = All-members (IsStored (record { number = mk.number; by = mk.by; begun = b })) freed (λ q c. (let w = (exact.exact q).0 c in record { existed = w.0; unreached = w.1 }));
         unreached = All-members (λ q. IsReached (joint_since s p b) (peer q) → ⊥) freed (λ q c. ((here.exact q).0 c).1);
         replies = e;
-        state = ap (λ r. record { managed = s; peers = record p.peers { heap = with_freed p.peers.heap freed }; removed = r; marking = None; markings = p.markings })
+        state = ap (λ r. record { graph = record { managed = s; peers = record p.peers { heap = with_freed p.peers.heap freed }; removed = r }; marking = None; markings = p.markings })
             (removed-swept s freed p.peers.issued p.table (unreached-owned s taken p freed k here));
       });
       handles = handles-swept s taken p freed k here;

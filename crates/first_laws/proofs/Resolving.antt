@@ -224,7 +224,7 @@ resolve-steps b s number index k alive freed reply cites may kept =
           open_cycle = allowed.open_cycle;
           resolution = r.resolution;
           replies = may.lawful.replies;
-          state = ap (λ f. record { managed = resolved m freed; peers = p.peers; removed = f; marking = (joint_at b s).marking; markings = p.markings }) (removed-resolved b m s.base.managed.adopted p allowed.cycle freed r);
+          state = ap (λ f. record { graph = record { managed = resolved m freed; peers = p.peers; removed = f }; marking = (joint_at b s).marking; markings = p.markings }) (removed-resolved b m s.base.managed.adopted p allowed.cycle freed r);
         };
       };
       kept = record {

@@ -12,7 +12,7 @@ use Rattle.joint_model.specs.Control.{idle, snapped as stands_snapped, contracte
 use Rattle.joint_model.specs.Cycles.{IsSnapshot}
 use Rattle.joint_model.specs.First.{FirstLinkage, FirstMayCome}
 use Rattle.joint_model.specs.Joined.{joint_since}
-use Rattle.joint_model.specs.Joint.{Graph}
+use Rattle.joint_model.specs.Joint.{Graph, with_managed}
 use Rattle.joint_model.specs.Managed.{Managed, OpenCycle, Holds, IsBridge, IsManagedRoot, ManagedEdge, IsManagedReached, with_snapshot, abandoned}
 use Rattle.joint_model.specs.PeerReplay.{PeerReplay}
 use Rattle.joint_model.specs.Told.{nothing, snap_of}
@@ -82,8 +82,8 @@ cut-snapped s k freed candidates dead is = record {
   has = λ x l n. (is.leaves x).1 (IsLive-before s.heap freed x l, λ r. n (reached-still s k freed candidates dead is x r), λ f. l.kept (Contains-append_right s.heap.freed freed x f));
 }
 
-joint-snapped : (s : Managed) (taken : List ℕ) (p : PeerReplay) (b : Graph) (k : ℕ) (freed candidates dead : List ℕ) → IsSnapshot s k freed candidates dead → AreHandlesKept s taken p → joint_since (with_snapshot s freed candidates dead) p b ≡ record (joint_since s p b) { managed = with_snapshot s freed candidates dead }
-joint-snapped s taken p b k freed candidates dead is a = ap (λ r. record { managed = with_snapshot s freed candidates dead; peers = p.peers; removed = r; marking = (joint_since s p b).marking; markings = p.markings })
+joint-snapped : (s : Managed) (taken : List ℕ) (p : PeerReplay) (b : Graph) (k : ℕ) (freed candidates dead : List ℕ) → IsSnapshot s k freed candidates dead → AreHandlesKept s taken p → joint_since (with_snapshot s freed candidates dead) p b ≡ with_managed (joint_since s p b) (with_snapshot s freed candidates dead)
+joint-snapped s taken p b k freed candidates dead is a = ap (λ r. record { graph = record { managed = with_snapshot s freed candidates dead; peers = p.peers; removed = r }; marking = (joint_since s p b).marking; markings = p.markings })
     (sym (removed-same s (with_snapshot s freed candidates dead) p.table (λ h e. owned-same s (with_snapshot s freed candidates dead) h a.held_length a.held_length
     (λ w. (w.0, Holds-after s k freed candidates dead is w.0 h w.1)) (λ w. (w.0, Holds-before s freed candidates dead w.0 h w.1)))))
 
@@ -118,8 +118,8 @@ abandon-snapped (stands_snapped o) k cites b s p unreached a w = (w.0, w.1)
 abandon-snapped (contracted o comps xrefs) k cites b s p unreached a w = absurd w
 abandon-snapped _ k cites b s p unreached a w = absurd a
 
-joint-abandoned : (s : Managed) (p : PeerReplay) (b : Graph) (taken : List ℕ) → AreHandlesKept s taken p → joint_since (abandoned s) p b ≡ record (joint_since s p b) { managed = abandoned s }
-joint-abandoned s p b taken a = ap (λ r. record { managed = abandoned s; peers = p.peers; removed = r; marking = (joint_since s p b).marking; markings = p.markings })
+joint-abandoned : (s : Managed) (p : PeerReplay) (b : Graph) (taken : List ℕ) → AreHandlesKept s taken p → joint_since (abandoned s) p b ≡ with_managed (joint_since s p b) (abandoned s)
+joint-abandoned s p b taken a = ap (λ r. record { graph = record { managed = abandoned s; peers = p.peers; removed = r }; marking = (joint_since s p b).marking; markings = p.markings })
     (sym (removed-same s (abandoned s) p.table (λ h e. owned-same s (abandoned s) h a.held_length a.held_length
     (λ w. (w.0, record { live = w.1.live; held = w.1.held })) (λ w. (w.0, record { live = w.1.live; held = w.1.held })))))
 

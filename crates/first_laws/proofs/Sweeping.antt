@@ -75,7 +75,7 @@ swept-unreached b s taken p k w x h q holds l c r =
     u.1 (twin-reached b s w.objects x h q holds (subst (λ is. peer_of is h ≡ Some q) (issued-then b s p w) l) u.0 r)
 
 -- no kept candidate reaches an unreached object
-pub kept-apart : (b : Graph) (s : Managed) (taken : List ℕ) (p : PeerReplay) (j : Joint) (c : OpenCycle) → AreHandlesKept s taken p → IsSwept b s p → j.managed ≡ s → j.peers ≡ p.peers → (x : ℕ) → (IsReachedIn b (object x) → ⊥)
+pub kept-apart : (b : Graph) (s : Managed) (taken : List ℕ) (p : PeerReplay) (j : Joint) (c : OpenCycle) → AreHandlesKept s taken p → IsSwept b s p → j.graph.managed ≡ s → j.graph.peers ≡ p.peers → (x : ℕ) → (IsReachedIn b (object x) → ⊥)
     → ((y : ℕ) × IsKeptCandidate j c y × Reaches (ManagedEdge s) y x) → ⊥
 kept-apart b s taken p j c k w em ep x n z =
     let y = z.0 in

@@ -17,7 +17,7 @@ use Rattle.joint_model.specs.Cycles.{IsSnapshot}
 use Rattle.joint_model.specs.First.{FirstLinkage, FirstMayCome, AreUnreached, first_after, first_stand_after, joint_swept}
 use Rattle.joint_model.specs.Headline.{DriverBeginsAt, BeginsAt, SweepsAt, SnapsAt}
 use Rattle.joint_model.specs.Joined.{joint_since, graph_at}
-use Rattle.joint_model.specs.Joint.{Graph, Row, object, peer, IsJointRoot, JointEdge, IsReachedIn, graph_of}
+use Rattle.joint_model.specs.Joint.{Graph, Row, object, peer, IsJointRoot, JointEdge, IsReachedIn}
 use Rattle.joint_model.specs.Managed.{Managed, OpenCycle, IsBridge, IsManagedRoot, ManagedEdge}
 use Rattle.joint_model.specs.PeerReplay.{PeerReplay, Marking, begun}
 use Rattle.joint_model.specs.Peers.{Peers}
@@ -44,8 +44,8 @@ pub record HasBegun (past : List Moment) (b : Graph) (number from : ℕ) : Type 
   pub at : ℕ
   pub begins : DriverBeginsAt past at number
   pub later : from < at
-  pub graph : graph_of begins.moment.after ≡ b
-  pub peers : begins.moment.before.peers ≡ b.peers
+  pub graph : begins.moment.after.graph ≡ b
+  pub peers : begins.moment.before.graph.peers ≡ b.peers
 
 -- the sweep of that marking
 pub record HasSwept (past : List Moment) (b : Graph) (now : Peers) (number from : ℕ) : Type 0 where
@@ -53,8 +53,8 @@ pub record HasSwept (past : List Moment) (b : Graph) (now : Peers) (number from 
   pub swept : List ℕ
   pub sweeps : SweepsAt past at number swept
   pub later : from < at
-  pub graph : graph_of sweeps.moment.before ≡ b
-  pub peers : sweeps.moment.after.peers ≡ now
+  pub graph : sweeps.moment.before.graph ≡ b
+  pub peers : sweeps.moment.after.graph.peers ≡ now
   pub exact : AreUnreached b swept
 
 -- the snapshot and the begin, where the marking is open
@@ -167,7 +167,7 @@ snap-traces past b s number index k freed candidates dead reply cites may =
       sound = record {
         candidates = λ j x alive f c e. absurd (snap-resolve k _ e);
         peers = λ j p span f e. absurd (snap-sweep k e);
-        snapped = λ j x f c d e t w. unreached-snap (graph_of (joint_at b s)) k.0 freed candidates dead is x (subst (λ l. Contains l x) (same-snap_freed freed candidates dead f c d t) w);
+        snapped = λ j x f c d e t w. unreached-snap (joint_at b s).graph k.0 freed candidates dead is x (subst (λ l. Contains l x) (same-snap_freed freed candidates dead f c d t) w);
         resolved = λ j x alive f e. absurd (snap-resolve k _ e);
       };
       complete = complete-other past m tt;
@@ -187,7 +187,7 @@ abbrev pub grown-restoring : (past : List Moment) (m : Moment) (b : Graph) (s : 
 grown-restoring past m b s p o w = record { snapped = grown-snapped past m s o w.snapped; number = w.number; begun = grown-begun past m b w.number w.snapped.at w.begun; swept = grown-swept past m b p.peers w.number w.begun.at w.swept }
 
 -- a begin leaves the graph as it is, and opens the next marking
-begun-graph : (s : Managed) (p : PeerReplay) (mk : Option Marking) (g : Graph) → graph_of (joint_since s (begun p mk C).state g) ≡ graph_at s p
+begun-graph : (s : Managed) (p : PeerReplay) (mk : Option Marking) (g : Graph) → (joint_since s (begun p mk C).state g).graph ≡ graph_at s p
 begun-graph s p None g = refl
 begun-graph s p (Some mk) g = refl
 

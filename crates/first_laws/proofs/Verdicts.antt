@@ -9,7 +9,7 @@ use Rattle.joint_model.specs.declared.events.Op.TheVariants as op
 use Rattle.joint_model.specs.declared.events.Reply.{Reply}
 use Rattle.joint_model.specs.First.{FirstLinkage, FirstMayCome, AllFirstMayCome, opening_first, first_after}
 use Rattle.joint_model.specs.Headline.{IsSoundRun, IsCompleteRun}
-use Rattle.joint_model.specs.Joint.{Graph, opening, graph_of}
+use Rattle.joint_model.specs.Joint.{Graph, opening}
 use Rattle.joint_model.specs.Linked.{joint_projection}
 use Rattle.joint_model.specs.Run.{Moment, IsRun}
 use Rattle.joint_model.specs.Told.{Told, snap_of, begin_of, sweep_of, resolution_of, Noted}
@@ -81,7 +81,7 @@ judged-push past before b s n j may first =
 
 pub judged : (ns : List Noted) → AllFirstMayCome opening_first ns → AreFirstEvents ns → (moments : List Moment) × IsJudgedRun (joint_projection ns) moments
 judged ns may first =
-    let r = gone-through IsJudged judged-push [] [] (graph_of opening) opening_first ns (record { run = opening-run; traced = tt; sound = sound-none; complete = complete-none }) may first in (
+    let r = gone-through IsJudged judged-push [] [] opening.graph opening_first ns (record { run = opening-run; traced = tt; sound = sound-none; complete = complete-none }) may first in (
       r.past,
       record {
         run = record { same = r.holds.run.same ∙ sym (projection-whole ns first); steps = r.holds.run.steps };

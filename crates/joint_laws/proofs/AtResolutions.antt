@@ -41,7 +41,7 @@ module _ (s : Linkage) (w : Stands s) (past more : List Moment) (o : Opened) (an
   made-then : (q : ℕ) → IsMadeBefore (past ++ more) k.begin q → IsMadeBefore past k.begin q
   made-then q u =
       let same : u.moment ≡ k.begins.moment = same_Some u.moment k.begins.moment (sym u.there ∙ get-more past more k.begin k.begins.moment k.begins.there) in
-      record { moment = k.begins.moment; there = k.begins.there; made = subst (λ (z : Moment). IsMade z.before.peers.heap q) same u.made }
+      record { moment = k.begins.moment; there = k.begins.there; made = subst (λ (z : Moment). IsMade z.before.graph.peers.heap q) same u.made }
 
   begins_there : DriverBeginsAt (past ++ more) k.begin k.marking
   begins_there = record { moment = k.begins.moment; there = get-more past more k.begin k.begins.moment k.begins.there; caller = k.begins.caller; event = k.begins.event; reply = k.begins.reply }

@@ -6,7 +6,7 @@ use Rattle.std.specs.Prelude.{Contains}
 use Rattle.std.proofs.lemmas.Option.{slice_get_within}
 use Rattle.joint_model.specs.Cycles.{IsSnapshot}
 use Rattle.joint_model.specs.Heaps.{IsLive}
-use Rattle.joint_model.specs.Joint.{Joint, Row, object, graph_of, JointEdge, IsJointRoot, IsReached}
+use Rattle.joint_model.specs.Joint.{Joint, Row, object, JointEdge, IsJointRoot, IsReached}
 use Rattle.joint_model.specs.Managed.{Managed, Holds, IsManagedRoot, ManagedEdge, IsManagedReached, with_snapshot}
 use Rattle.joint_model.specs.Run.{Moment}
 use Rattle.joint_model.proofs.WalkLemmas.{Reached-keeps, Reached-start, Reached-then}
@@ -14,10 +14,10 @@ use Rattle.joint_model.proofs.HeapLemmas.{IsLive-before, IsLive-left}
 use Rattle.joint_laws.proofs.Watching.{IsSeen, WasSeen, IsWatched, push-cases, seen-now, last-now}
 
 -- what managed slots reach is reached
-pub managed-joint : (j : Joint) (x : ℕ) → IsManagedReached j.managed x → IsReached j (object x)
+pub managed-joint : (j : Joint) (x : ℕ) → IsManagedReached j.graph.managed x → IsReached j (object x)
 managed-joint j x r =
-    Reached-keeps (IsManagedRoot j.managed) (ManagedEdge j.managed) (λ z. IsReached j (object z)) (λ z q. Reached-start (IsJointRoot (graph_of j)) (JointEdge (graph_of j)) (object z) q)
-    (λ z y e q. Reached-then (IsJointRoot (graph_of j)) (JointEdge (graph_of j)) (object z) (object y) q e) x r
+    Reached-keeps (IsManagedRoot j.graph.managed) (ManagedEdge j.graph.managed) (λ z. IsReached j (object z)) (λ z q. Reached-start (IsJointRoot j.graph) (JointEdge j.graph) (object z) q)
+    (λ z y e q. Reached-then (IsJointRoot j.graph) (JointEdge j.graph) (object z) (object y) q e) x r
 
 module _ (s : Managed) (number : ℕ) (freed candidates dead : List ℕ) (p : IsSnapshot s number freed candidates dead) where
   abbrev t : Managed
@@ -38,7 +38,7 @@ module _ (s : Managed) (number : ℕ) (freed candidates dead : List ℕ) (p : Is
           let there = Reached-then (IsManagedRoot s) (ManagedEdge s) z y q.0 e in
           (there, Reached-then (IsManagedRoot t) (ManagedEdge t) z y q.1 (record { live = stays-live z e.live q.0; field = e.field; there = stays-live y e.there there }))
 
-  module _ (j : Joint) (is : j.managed ≡ t) (past : List Moment) (m : Moment) (after : m.after ≡ j) where
+  module _ (j : Joint) (is : j.graph.managed ≡ t) (past : List Moment) (m : Moment) (after : m.after ≡ j) where
     abbrev longer : List Moment
     longer = past ++ m ∷ []
 
@@ -52,13 +52,13 @@ module _ (s : Managed) (number : ℕ) (freed candidates dead : List ℕ) (p : Is
     see-now : (x : Row) → IsReached j x → IsSeen longer (length past) x
     see-now x r = seen-now past m (length past) x (omega arith) (subst (λ z. IsReached z x) (sym after) r)
 
-    snap-closed : (x y : Row) → WasSeen longer (length past) x → JointEdge (graph_of j) x y → WasSeen longer (length past) y
-    snap-closed x y w e unseen = w (λ q. unseen (see-now y (Reached-then (IsJointRoot (graph_of j)) (JointEdge (graph_of j)) x y (seen-there x q) e)))
+    snap-closed : (x y : Row) → WasSeen longer (length past) x → JointEdge j.graph x y → WasSeen longer (length past) y
+    snap-closed x y w e unseen = w (λ q. unseen (see-now y (Reached-then (IsJointRoot j.graph) (JointEdge j.graph) x y (seen-there x q) e)))
 
     held-before : (x h : ℕ) → Holds t x h → Holds s x h
     held-before x h q = record { live = IsLive-before s.heap freed x q.live; held = q.held }
 
-    snap-bridges : (x h : ℕ) → Holds j.managed x h → (Contains candidates x → ⊥) → WasSeen longer (length past) (object x)
+    snap-bridges : (x h : ℕ) → Holds j.graph.managed x h → (Contains candidates x → ⊥) → WasSeen longer (length past) (object x)
     snap-bridges x h q out unseen =
         out ((p.picks x).1 (
           (h, held-before x h (subst (λ z. Holds z x h) is q)),

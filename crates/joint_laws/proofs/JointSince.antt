@@ -7,7 +7,7 @@ use Rattle.joint_model.specs.declared.events.Op.{Op}
 use Rattle.joint_model.specs.declared.events.Reply.{Reply}
 use Rattle.joint_model.specs.declared.events.Made.{Made}
 use Rattle.joint_model.specs.Control.{candidates_of}
-use Rattle.joint_model.specs.Joint.{JointMarking, Graph, graph_of}
+use Rattle.joint_model.specs.Joint.{JointMarking, Graph}
 use Rattle.joint_model.specs.Lines.{is_peer_event}
 use Rattle.joint_model.specs.Linked.{Linkage, MayCome, linkage_after, peer_after}
 use Rattle.joint_model.specs.Managed.{Managed, OpenCycle, Holds}
@@ -95,5 +95,5 @@ since-entry s n flags flags' jm jm' o reply may k after same since case y e mk f
     by (ends a) old = absurd (none_some y (sym a ∙ e))
     by (opens z b c a g) old =
         let marks : z ≡ y = same_Some z y (sym a ∙ e) in
-        let graph : graph_of (joint_of (linkage_after s n).managed.managed (linkage_after s n).peer flags' jm') ≡ y.begun = g ∙ ap (λ (v : JointMarking). v.begun) marks in
+        let graph : (joint_of (linkage_after s n).managed.managed (linkage_after s n).peer flags' jm').graph ≡ y.begun = g ∙ ap (λ (v : JointMarking). v.begun) marks in
         inl (subst (λ (v : Graph). Holds v.managed x h) graph q, subst (λ (v : Graph). IsIssued v.peers.issued h i) graph p)

@@ -12,7 +12,7 @@ use Rattle.joint_model.specs.declared.events.Reply.{Reply}
 use Rattle.joint_model.specs.declared.events.Reply.TheVariants as says
 use Rattle.joint_model.specs.Control.{Doing, Stand}
 use Rattle.joint_model.specs.Heaps.{IsLive, Answered, answer, numbered_set}
-use Rattle.joint_model.specs.Joint.{Joint, JointMarking, graph_of, peer, IsReached, IsReachedIn}
+use Rattle.joint_model.specs.Joint.{Joint, JointMarking, peer, IsReached, IsReachedIn}
 use Rattle.joint_model.specs.Lines.{IsEvent, IsPeerThread}
 use Rattle.joint_model.specs.Managed.{Managed, Holds}
 use Rattle.joint_model.specs.ManagedReplay.{ManagedReplay}
@@ -84,10 +84,10 @@ module _ (r : ManagedReplay) (s : PeerReplay) (ds : List Doing) (d : Stand) (k :
         markings = bring-same a reply jm ag.markings;
       }
 
-  pub joint-brought : (g : Peers) (reply : Reply) → joint_of r.managed (brings (on_table s (answer reply g))).state (more g) jm ≡ record j { peers = g; removed = more g }
+  pub joint-brought : (g : Peers) (reply : Reply) → joint_of r.managed (brings (on_table s (answer reply g))).state (more g) jm ≡ record j { graph = record j.graph { peers = g; removed = more g } }
   joint-brought g reply =
       let a : Answered PeerReplay = on_table s (answer reply g) in
-      λ i. record { managed = r.managed; peers = bring-peers a reply i; removed = more g; marking = jm; markings = bring-markings a reply i }
+      λ i. record { graph = record { managed = r.managed; peers = bring-peers a reply i; removed = more g }; marking = jm; markings = bring-markings a reply i }
 
   -- a handle leaves the table, and no row holds it
   pub flags-gone : (h : ℕ) → ((x : ℕ) → Holds r.managed x h → ⊥) → AreFlags r.managed (untabled s (Some h)) (numbered_set flags h true)
@@ -103,7 +103,7 @@ module _ (r : ManagedReplay) (s : PeerReplay) (ds : List Doing) (d : Stand) (k :
       ])
 
   -- a marking begins: what is reached then is spared
-  begin-spared : (t : Thread) → s.marking ≡ None → (p : ℕ) → IsReachedIn (graph_of j) (peer p) → IsSpared (record { number = s.markings + 1; by = t; heap = s.peers.heap; refs = s.refs; strong_peers = strong_peers s.peers.issued s.table; brought = []; blackened = 0 }) p
+  begin-spared : (t : Thread) → s.marking ≡ None → (p : ℕ) → IsReachedIn j.graph (peer p) → IsSpared (record { number = s.markings + 1; by = t; heap = s.peers.heap; refs = s.refs; strong_peers = strong_peers s.peers.issued s.table; brought = []; blackened = 0 }) p
   begin-spared t e p w =
       let u : PeerReplay = (begun s None t).state in
       let now = kept-quiet (λ h. ⊥) r s u ds d k (quiet-begun (λ h. ⊥) s None t e) (begun-kept s None t k.peer e) (λ v h q g x y z. y) in
@@ -112,7 +112,7 @@ module _ (r : ManagedReplay) (s : PeerReplay) (ds : List Doing) (d : Stand) (k :
   begin-by : (x : Option Marking) (y : Option JointMarking) (t : Thread) (reply : Reply) → s.marking ≡ x → jm ≡ y → AreSameMarkings x y → reply ≡ (begun s x t).reply
       → (after : Option JointMarking) × JointBegin j y t reply (joint_of r.managed (begun s x t).state flags after) × Agrees r.managed (begun s x t).state flags after
   begin-by None None t reply e f w q = (
-    Some record { number = s.markings + 1; by = t; begun = graph_of j },
+    Some record { number = s.markings + 1; by = t; begun = j.graph },
     record { replies = q; state = refl },
     record {
       removed = AreFlags-as r.managed s (begun s None t).state flags refl refl ag.removed;

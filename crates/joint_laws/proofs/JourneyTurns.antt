@@ -71,7 +71,7 @@ module _ (s : Linkage) (n : Noted) (w : Stands s) (v : Stands (linkage_after s n
     made_then : (p : ℕ) → IsMadeBefore longer (length past) p → IsMade t.peer.peers.heap p
     made_then p q =
         let same : q.moment ≡ m = same_Some q.moment m (sym q.there ∙ get-last past m) in
-        subst (λ (z : PeerReplay). IsMade z.peers.heap p) (sym is) (subst (λ (z : Moment). IsMade z.before.peers.heap p) same q.made)
+        subst (λ (z : PeerReplay). IsMade z.peers.heap p) (sym is) (subst (λ (z : Moment). IsMade z.before.graph.peers.heap p) same q.made)
 
     pub begin-turn : n.entry.made.caller ≡ C → n.entry.made.op ≡ op.Begin → n.entry.made.reply ≡ says.Mark record { 0 = s.peer.markings + 1 } → length t.peer.peers.heap.vars ≡ 72 → length t.peer.peers.heap.statics ≡ 16 → IsUnderWay longer t v o
     unfolding way-next

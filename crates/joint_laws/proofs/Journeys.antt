@@ -148,7 +148,7 @@ way-rests s t w v past o same k = record {
   snap = k.snap;
   freed = k.freed;
   cycle = k.cycle;
-  open_now = ap (λ (z : Joint). z.managed.cycle) same ∙ k.open_now;
+  open_now = ap (λ (z : Joint). z.graph.managed.cycle) same ∙ k.open_now;
   snaps = k.snaps;
   watched = subst (λ z. IsWatched past k.snap k.cycle.candidates z) (sym same) k.watched;
 }

@@ -6,7 +6,7 @@ use Rattle.std.proofs.lemmas.List.Elements.{Contains-append_left, Contains-appen
 use Rattle.joint_model.specs.declared.names.Thread.{Thread}
 use Rattle.joint_model.specs.Headline.{DriverBeginsAt, SweepsAt, IsMadeBefore, IsPeerFreedAt}
 use Rattle.joint_model.specs.Heaps.{IsMade, IsLive, HasField, InSlot, fields_of}
-use Rattle.joint_model.specs.Joint.{Row, object, peer, graph_of, JointEdge, IsJointRoot, IsReached}
+use Rattle.joint_model.specs.Joint.{Row, object, peer, JointEdge, IsJointRoot, IsReached}
 use Rattle.joint_model.specs.Linked.{Linkage, MayCome, linkage_after}
 use Rattle.joint_model.specs.Managed.{OpenCycle, Holds}
 use Rattle.joint_model.specs.Peers.{Issued, weak}
@@ -58,7 +58,7 @@ begin-more past m b number w = record { moment = w.moment; there = get-more past
 pub made-front : (past : List Moment) (m : Moment) (b number p : ℕ) → DriverBeginsAt past b number → IsMadeBefore (past ++ m ∷ []) b p → IsMadeBefore past b p
 made-front past m b number p w q =
     let same : q.moment ≡ w.moment = same_Some q.moment w.moment (sym q.there ∙ get-more past (m ∷ []) b w.moment w.there) in
-    record { moment = w.moment; there = w.there; made = subst (λ (z : Moment). IsMade z.before.peers.heap p) same q.made }
+    record { moment = w.moment; there = w.there; made = subst (λ (z : Moment). IsMade z.before.graph.peers.heap p) same q.made }
 
 -- at a later entry
 module _ (s : Linkage) (n : Noted) (may : MayCome s n) (w : Stands s) (v : Stands (linkage_after s n)) (g : GoesOn s.managed.managed (linkage_after s n).managed.managed) (past : List Moment) (a : ℕ) (c : OpenCycle) (o : s.managed.managed.cycle ≡ Some c)
@@ -86,9 +86,9 @@ module _ (s : Linkage) (n : Noted) (may : MayCome s n) (w : Stands s) (v : Stand
   field-next : (p q : ℕ) → HasField mk.heap p q → IsReached (state_of t v) (peer p) → (IsSeen past a (peer p) → ⊥) → IsSeen longer a (peer q)
   field-next p q f r out =
       let made : IsMade s.peer.peers.heap p = (let l = f.live.made in (l.0, omega (arith, l.1, (w.kept.peer.marking mk e0).made))) in
-      let no_slot : InSlot s.peer.peers.heap p → ⊥ = λ i. out (last-seen past a (state_of s w) (peer p) watched.last watched.started (Reached-start (IsJointRoot (graph_of (state_of s w))) (JointEdge (graph_of (state_of s w))) (peer p) (inl i))) in
+      let no_slot : InSlot s.peer.peers.heap p → ⊥ = λ i. out (last-seen past a (state_of s w) (peer p) watched.last watched.started (Reached-start (IsJointRoot (state_of s w).graph) (JointEdge (state_of s w).graph) (peer p) (inl i))) in
       let same : fields_of mk.heap p ≡ fields_of t.peer.peers.heap p = k.fields p f.live out ∙ sym ((heap-entry s n).frozen p made no_slot) in
-      now (peer q) (Reached-then (IsJointRoot (graph_of (state_of t v))) (JointEdge (graph_of (state_of t v))) (peer p) (peer q) r
+      now (peer q) (Reached-then (IsJointRoot (state_of t v).graph) (JointEdge (state_of t v).graph) (peer p) (peer q) r
       (record { live = existed p f.live; field = subst (λ fs. Contains fs (Some q)) same f.field; there = existed q f.there }))
 
   edges_next : (p q : ℕ) → WasSeen longer a (peer p) → MarkingEdge mk p q → WasSeen longer a (peer q)
@@ -134,7 +134,7 @@ module _ (s : Linkage) (n : Noted) (may : MayCome s n) (w : Stands s) (v : Stand
     fields = λ p l out. (
         let before : IsSeen past a (peer p) → ⊥ = λ q. out (seen-more past m a (peer p) q) in
         let made : IsMade s.peer.peers.heap p = (l.made.0, omega (arith, l.made.1, (w.kept.peer.marking mk e0).made)) in
-        let no_slot : InSlot s.peer.peers.heap p → ⊥ = λ i. before (last-seen past a (state_of s w) (peer p) watched.last watched.started (Reached-start (IsJointRoot (graph_of (state_of s w))) (JointEdge (graph_of (state_of s w))) (peer p) (inl i))) in
+        let no_slot : InSlot s.peer.peers.heap p → ⊥ = λ i. before (last-seen past a (state_of s w) (peer p) watched.last watched.started (Reached-start (IsJointRoot (state_of s w).graph) (JointEdge (state_of s w).graph) (peer p) (inl i))) in
         k.fields p l before ∙ sym ((heap-entry s n).frozen p made no_slot));
   }
 
@@ -143,7 +143,7 @@ abbrev MadePeer : Linkage → Row → Type 0
 MadePeer s (peer q) = IsMade s.peer.peers.heap q
 MadePeer s (object x) = Unit {0}
 
-first-made : (s : Linkage) (w : Stands s) (x : Row) → IsJointRoot (graph_of (state_of s w)) x → MadePeer s x
+first-made : (s : Linkage) (w : Stands s) (x : Row) → IsJointRoot (state_of s w).graph x → MadePeer s x
 first-made s w (object x) r = tt
 first-made s w (peer p) r = elim r [
   | inl i ↦ (w.kept.peer.heap.slots p i).made
@@ -153,14 +153,14 @@ first-made s w (peer p) r = elim r [
   ]
 ]
 
-next-made : (s : Linkage) (w : Stands s) (x y : Row) → JointEdge (graph_of (state_of s w)) x y → MadePeer s x → MadePeer s y
+next-made : (s : Linkage) (w : Stands s) (x y : Row) → JointEdge (state_of s w).graph x y → MadePeer s x → MadePeer s y
 next-made s w (object x) (object y) e q = tt
 next-made s w (object x) (peer p) e q = e.live.made
 next-made s w (peer p) (object x) e q = tt
 next-made s w (peer p) (peer r) e q = e.there.made
 
 pub reached-made : (s : Linkage) (w : Stands s) (p : ℕ) → IsReached (state_of s w) (peer p) → IsMade s.peer.peers.heap p
-reached-made s w p r = Reached-keeps (IsJointRoot (graph_of (state_of s w))) (JointEdge (graph_of (state_of s w))) (MadePeer s) (first-made s w) (next-made s w) (peer p) r
+reached-made s w p r = Reached-keeps (IsJointRoot (state_of s w).graph) (JointEdge (state_of s w).graph) (MadePeer s) (first-made s w) (next-made s w) (peer p) r
 
 -- what the own sweep frees
 pub record IsSweptWatch (past : List Moment) (a : ℕ) (c : OpenCycle) (s : Linkage) : Type 0 where
@@ -173,7 +173,7 @@ pub record IsSweptWatch (past : List Moment) (a : ℕ) (c : OpenCycle) (s : Link
   pub later_on : a < begin
   pub in_order : begin < sweep
   pub objects : (m p : ℕ) → Contains c.candidates m → IsRowOf s.managed.managed s.peer.peers.issued m p → ((i : ℕ) (x : Moment) → a ≤ i → i ≤ sweep → slice_get past i ≡ Some x → IsReached x.after (object m) → ⊥) → Contains s.peer.peers.heap.freed p
-  pub peers : (p : ℕ) → IsMadeBefore past begin p → ((i : ℕ) (x : Moment) → a ≤ i → i ≤ sweep → slice_get past i ≡ Some x → IsMade x.after.peers.heap p → IsReached x.after (peer p) → ⊥) → IsPeerFreedAt past sweep p
+  pub peers : (p : ℕ) → IsMadeBefore past begin p → ((i : ℕ) (x : Moment) → a ≤ i → i ≤ sweep → slice_get past i ≡ Some x → IsMade x.after.graph.peers.heap p → IsReached x.after (peer p) → ⊥) → IsPeerFreedAt past sweep p
 
 module _ (s : Linkage) (w : Stands s) (past : List Moment) (a : ℕ) (c : OpenCycle) (o : s.managed.managed.cycle ≡ Some c) (watched : IsWatched past a c.candidates (state_of s w)) (mk : Marking) (k : IsMarkWatched past a c s mk) (freed : List ℕ) (sw : IsSweep s.peer mk freed) where
   -- a peer of the begin that was never seen is freed by the sweep, if it isn't yet

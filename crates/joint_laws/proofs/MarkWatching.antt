@@ -7,7 +7,7 @@ use Rattle.std.proofs.Common.{◌≡◌, ℕ, suc, ◌<◌, inl, inr, Bool, true
 use Rattle.std.specs.Prelude.{Contains, slice_get, if◌then◌else◌}
 use Rattle.joint_model.specs.Headline.{DriverBeginsAt, IsMadeBefore}
 use Rattle.joint_model.specs.Heaps.{IsMade, IsLive, InSlot, fields_of, numbered_at}
-use Rattle.joint_model.specs.Joint.{Joint, Row, object, peer, graph_of, JointEdge, IsJoined, IsJointRoot, IsReached}
+use Rattle.joint_model.specs.Joint.{Joint, Row, object, peer, JointEdge, IsJoined, IsJointRoot, IsReached}
 use Rattle.joint_model.specs.Linked.{Linkage}
 use Rattle.joint_model.specs.Managed.{OpenCycle, Holds, ManagedEdge}
 use Rattle.joint_model.specs.Peers.{Issued, Hold, held, raw, Strength, strong, weak, is_strong}
@@ -53,7 +53,7 @@ module _ (s : Linkage) (w : Stands s) (past : List Moment) (a : ℕ) (c : OpenCy
   now : (x : Row) → IsReached j x → Seen x
   now x r n = n (last-seen past a j x watched.last watched.started r)
 
-  pub row-joined : (m p : ℕ) → IsRowOf s.managed.managed s.peer.peers.issued m p → IsLive s.peer.peers.heap p → IsJoined (graph_of j) m p
+  pub row-joined : (m p : ℕ) → IsRowOf s.managed.managed s.peer.peers.issued m p → IsLive s.peer.peers.heap p → IsJoined j.graph m p
   row-joined m p r l = record { handle = r.handle; holds = r.holds; leads = peer_of-issued s.peer.peers.issued r.handle r.row r.is_issued ∙ ap Some r.leads; live = l }
 
   -- along managed fields
@@ -93,9 +93,9 @@ module _ (s : Linkage) (w : Stands s) (past : List Moment) (a : ℕ) (c : OpenCy
           watched.closed (object m) (peer i.peer) u (record { handle = h; holds = q; leads = peer_of-issued s.peer.peers.issued h i e; live = live })
 
       by : (x : Hold) → i.hold ≡ x → Seen (peer i.peer)
-      by raw f = now (peer i.peer) (Reached-start (IsJointRoot (graph_of j)) (JointEdge (graph_of j)) (peer i.peer)
+      by raw f = now (peer i.peer) (Reached-start (IsJointRoot j.graph) (JointEdge j.graph) (peer i.peer)
           (inr (inl (record { handle = h; row = i; is_handle = record { issued = e; kept = not_removed h row t }; raw_hold = f; strong_made = sym (w.kept.peer.handles.raws h row i t e f) ∙ st; leads = refl }))))
-      by held f = λ n. now (peer i.peer) (Reached-start (IsJointRoot (graph_of j)) (JointEdge (graph_of j)) (peer i.peer)
+      by held f = λ n. now (peer i.peer) (Reached-start (IsJointRoot j.graph) (JointEdge j.graph) (peer i.peer)
           (inr (inr (record { handle = h; row = i; is_handle = record { issued = e; kept = not_removed h row t }; held_hold = f; loose = λ m q. owned m q n; leads = refl })))) n
 
   pub strong_peer-seen : ForCandidates s.managed.managed c (λ l h. HasStrength s.peer h weak) → (p : ℕ) → Contains (strong_peers s.peer.peers.issued s.peer.table) p → Seen (peer p)
@@ -104,7 +104,7 @@ module _ (s : Linkage) (w : Stands s) (past : List Moment) (a : ℕ) (c : OpenCy
       subst (λ z. Seen (peer z)) l.6 (strong-seen all (suc l.0) l.1 l.2 l.3 l.4 l.5)
 
   pub slot-seen : (p : ℕ) → InSlot s.peer.peers.heap p → Seen (peer p)
-  slot-seen p i = now (peer p) (Reached-start (IsJointRoot (graph_of j)) (JointEdge (graph_of j)) (peer p) (inl i))
+  slot-seen p i = now (peer p) (Reached-start (IsJointRoot j.graph) (JointEdge j.graph) (peer p) (inl i))
 
 -- what the own marking has seen
 pub record IsMarkWatched (past : List Moment) (a : ℕ) (c : OpenCycle) (s : Linkage) (mk : Marking) : Type 0 where

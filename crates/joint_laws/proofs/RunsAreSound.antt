@@ -14,7 +14,7 @@ use Rattle.std.proofs.Common.{◌≡◌, ℕ, zero, suc, List, [], ◌∷◌, So
 use Rattle.std.specs.Prelude.{slice_get}
 use Rattle.std.proofs.lemmas.Option.{same_Some}
 use Rattle.joint_model.specs.declared.events.Op.TheVariants as op
-use Rattle.joint_model.specs.Joint.{Joint, opening, object, IsReached, JointMarking, graph_of, peer, IsReachedIn}
+use Rattle.joint_model.specs.Joint.{Joint, opening, object, IsReached, JointMarking, peer, IsReachedIn}
 use Rattle.joint_model.specs.Run.{Moment, JointStep, JointEvent, JointSnap, IsRunFrom, JointBegin, JointSweep, EndsMarking, IsStored, JointComputed, joint_answer, joint_line, without}
 use Rattle.joint_model.specs.Told.{snap_of, Told, sweep_of, resolution_of}
 use Rattle.joint_model.proofs.Deciding.{none_some}
@@ -76,11 +76,11 @@ answer-marking j t _ = refl
 pub data MarkingCase (b : Joint) (o : Op) (reply : Reply) (a : Joint) : Type 0 where
   stays : a.marking ≡ b.marking → MarkingCase b o reply a
   ends : a.marking ≡ None → MarkingCase b o reply a
-  opens : (y : JointMarking) → o ≡ op.Begin → reply ≡ says.Mark record { 0 = y.number } → a.marking ≡ Some y → graph_of a ≡ y.begun → MarkingCase b o reply a
+  opens : (y : JointMarking) → o ≡ op.Begin → reply ≡ says.Mark record { 0 = y.number } → a.marking ≡ Some y → a.graph ≡ y.begun → MarkingCase b o reply a
 
 begin-case : (b a : Joint) (x : Option JointMarking) (t : Thread) (reply : Reply) → b.marking ≡ x → JointBegin b x t reply a → MarkingCase b op.Begin reply a
 begin-case b a None t reply e w =
-    opens (record { number = b.markings + 1; by = t; begun = graph_of b }) refl w.replies (ap (λ (z : Joint). z.marking) w.state) (ap graph_of w.state)
+    opens (record { number = b.markings + 1; by = t; begun = b.graph }) refl w.replies (ap (λ (z : Joint). z.marking) w.state) (ap (λ (z : Joint). z.graph) w.state)
 begin-case b a (Some y) t reply e w = stays (ap (λ (z : Joint). z.marking) w.1)
 
 sweep-case : (b a : Joint) (x : Option JointMarking) (t : Thread) (reply : Reply) (told : Told) → JointSweep b x t reply told a → MarkingCase b op.Sweep reply a
@@ -109,7 +109,7 @@ pub record HasOrigin (run : List Moment) (i : ℕ) (y : JointMarking) : Type 0 w
   pub begin : ℕ
   pub earlier : begin < i
   pub begins : BeginsAt run begin y.number
-  pub graph : (m : Moment) → slice_get run begin ≡ Some m → graph_of m.after ≡ y.begun
+  pub graph : (m : Moment) → slice_get run begin ≡ Some m → m.after.graph ≡ y.begun
 
 later-origin : (run : List Moment) (i : ℕ) (y : JointMarking) → HasOrigin run i y → HasOrigin run (suc i) y
 later-origin run i y w = record { begin = w.begin; earlier = (let l = w.earlier in omega arith); begins = w.begins; graph = w.graph }
@@ -131,7 +131,7 @@ origin run r (suc i) m e y f =
           begin = i;
           earlier = omega arith;
           begins = record { moment = p; there = there; event = o; reply = reply ∙ ap (λ (x : JointMarking). says.Mark record { 0 = x.number }) same };
-          graph = λ x e. ap (λ (v : Moment). graph_of v.after) (same_Some x p (sym e ∙ there)) ∙ (w ∙ ap (λ (v : JointMarking). v.begun) same);
+          graph = λ x e. ap (λ (v : Moment). v.after.graph) (same_Some x p (sym e ∙ there)) ∙ (w ∙ ap (λ (v : JointMarking). v.begun) same);
         }
 
 -- the number that a sweep tells

@@ -12,7 +12,7 @@ use Rattle.joint_model.specs.declared.events.Op.TheVariants as op
 use Rattle.joint_model.specs.declared.events.Reply.{Reply}
 use Rattle.joint_model.specs.Headline.{IsSweptFor}
 use Rattle.joint_model.specs.Heaps.{IsMade, IsLive}
-use Rattle.joint_model.specs.Joint.{Joint, JointMarking, graph_of, opening, object, peer, JointEdge, IsJointRoot, IsReached, IsReachedIn}
+use Rattle.joint_model.specs.Joint.{Joint, JointMarking, opening, object, peer, JointEdge, IsJointRoot, IsReached, IsReachedIn}
 use Rattle.joint_model.specs.Linked.{Linkage, MayCome, linkage_after, SideLawful}
 use Rattle.joint_model.specs.Lines.{is_peer_event}
 use Rattle.joint_model.specs.Managed.{Holds}
@@ -35,13 +35,13 @@ use Rattle.joint_laws.proofs.RunsAreSound.{step-at, origin}
 
 -- what a sweep of the joint machine does
 sweep-freed : (b a : Joint) (x : Option JointMarking) (t : Thread) (reply : Reply) (told : Told) → b.marking ≡ x → JointSweep b x t reply told a
-    → (a.peers.heap.freed ≡ b.peers.heap.freed) ⊎ ((y : JointMarking) × (freed : List ℕ) × (b.marking ≡ Some y) × (told ≡ sweep_of freed) × EndsMarking b y t freed reply a)
-sweep-freed b a None t reply told e w = inl (ap (λ (z : Joint). z.peers.heap.freed) w.2)
+    → (a.graph.peers.heap.freed ≡ b.graph.peers.heap.freed) ⊎ ((y : JointMarking) × (freed : List ℕ) × (b.marking ≡ Some y) × (told ≡ sweep_of freed) × EndsMarking b y t freed reply a)
+sweep-freed b a None t reply told e w = inl (ap (λ (z : Joint). z.graph.peers.heap.freed) w.2)
 sweep-freed b a (Some y) t reply (sweep_of freed) e w = elim w [
   | inl v ↦ inr (y, freed, e, refl, v)
-  | inr v ↦ inl (ap (λ (z : Joint). z.peers.heap.freed) v.state)
+  | inr v ↦ inl (ap (λ (z : Joint). z.graph.peers.heap.freed) v.state)
 ]
-sweep-freed b a (Some y) t reply told e w = inl (ap (λ (z : Joint). z.peers.heap.freed) w.state)
+sweep-freed b a (Some y) t reply told e w = inl (ap (λ (z : Joint). z.graph.peers.heap.freed) w.state)
 
 -- what a lawful sweep of an open marking frees
 lawful-sweep : (s : Linkage) (n : Noted) (mk : Marking) (freed : List ℕ) → MayCome s n → n.entry.made.op ≡ op.Sweep → s.peer.marking ≡ Some mk → n.told ≡ sweep_of freed → IsSweep s.peer mk freed
@@ -58,7 +58,7 @@ lawful-sweep s n mk freed may e f g = w.1
 
 -- the rows that hold handles on freed peers
 abbrev pub TwinsSwept : List Moment → ℕ → Joint → Type 0
-TwinsSwept run i j = (x h p : ℕ) → Holds j.managed x h → peer_of j.peers.issued h ≡ Some p → Contains j.peers.heap.freed p → IsSweptFor run i p (object x)
+TwinsSwept run i j = (x h p : ℕ) → Holds j.graph.managed x h → peer_of j.graph.peers.issued h ≡ Some p → Contains j.graph.peers.heap.freed p → IsSweptFor run i p (object x)
 
 later-limit : (run : List Moment) (i p x : ℕ) → IsSweptFor run i p (object x) → IsSweptFor run (suc i) p (object x)
 later-limit run i p x w = record { marking = w.marking; begin = w.begin; sweep = w.sweep; freed = w.freed; begins = w.begins; sweeps = w.sweeps; in_order = w.in_order; in_time = (let l = w.in_time in omega arith); frees = w.frees; row = w.row; itself = w.itself }
@@ -80,7 +80,7 @@ module _ (run : List Moment) (steps : IsRunFrom opening run) (traced : (m : Mome
         sweep = i;
         freed = freed;
         begins = o.begins;
-        sweeps = record { moment = m; there = there; event = e; span = record { first = length m.before.peers.heap.freed; count = length freed }; reply = w.replies; frees = told };
+        sweeps = record { moment = m; there = there; event = e; span = record { first = length m.before.graph.peers.heap.freed; count = length freed }; reply = w.replies; frees = told };
         in_order = o.earlier;
         in_time = omega arith;
         frees = c;
@@ -93,7 +93,7 @@ module _ (run : List Moment) (steps : IsRunFrom opening run) (traced : (m : Mome
           before_sweep = λ b at v. (
               let here : IsReached (state_of t.state t.stands) (object x) = subst (λ z. IsReached z (object x)) t.before (subst (λ (z : Moment). IsReached z.before (object x)) (same_Some b m (sym at ∙ there)) v) in
               unreached (subst (λ z. IsReached z (peer p)) (sym t.before)
-              (Reached-then (IsJointRoot (graph_of (state_of t.state t.stands))) (JointEdge (graph_of (state_of t.state t.stands))) (object x) (peer p) here
+              (Reached-then (IsJointRoot (state_of t.state t.stands).graph) (JointEdge (state_of t.state t.stands).graph) (object x) (peer p) here
               (record { handle = h; holds = q; leads = peer_of-issued t.state.peer.peers.issued h i0 iss ∙ ap Some on; live = live }))));
         };
         itself = record {
@@ -125,7 +125,7 @@ module _ (run : List Moment) (steps : IsRunFrom opening run) (traced : (m : Mome
           let same : i0.0 ≡ row.0 = same_Some i0.0 row.0 (sym ((peer-entry t.state m.noted t.stands.kept).issued_on h i0.0 i0.1) ∙ row.1) in
           let on : i0.0.peer ≡ p = ap (λ (z : Issued). z.peer) same ∙ row.2 in
           elim (Contains-decided t.state.peer.peers.heap.freed p) [
-            | inl was ↦ later-limit run i p x (before x h p (subst (λ z. Holds z.managed x h) (sym t.before) old) (subst (λ z. peer_of z.peers.issued h ≡ Some p) (sym t.before) (peer_of-issued t.state.peer.peers.issued h i0.0 i0.1 ∙ ap Some on)) (subst (λ z. Contains z.peers.heap.freed p) (sym t.before) was))
+            | inl was ↦ later-limit run i p x (before x h p (subst (λ z. Holds z.graph.managed x h) (sym t.before) old) (subst (λ z. peer_of z.graph.peers.issued h ≡ Some p) (sym t.before) (peer_of-issued t.state.peer.peers.issued h i0.0 i0.1 ∙ ap Some on)) (subst (λ z. Contains z.graph.peers.heap.freed p) (sym t.before) was))
             | inr not_yet ↦ now old i0.0 i0.1 on not_yet
           ]
         where
@@ -138,11 +138,11 @@ module _ (run : List Moment) (steps : IsRunFrom opening run) (traced : (m : Mome
                     let st : JointSweep m.before m.before.marking m.noted.entry.made.caller m.noted.entry.made.reply m.noted.told m.after =
                     subst (λ z. JointEvent m.before m.noted.entry.made.caller z m.noted.entry.made.reply m.noted.told m.after) e (step-at run opening i m steps there).step in
                     elim (sweep-freed m.before m.after m.before.marking m.noted.entry.made.caller m.noted.entry.made.reply m.noted.told refl st) [
-                      | inl same_freed ↦ absurd (not_yet (subst (λ z. Contains z.peers.heap.freed p) t.before (subst (λ z. Contains z p) same_freed (subst (λ z. Contains z.peers.heap.freed p) (sym t.after) c))))
+                      | inl same_freed ↦ absurd (not_yet (subst (λ z. Contains z.graph.peers.heap.freed p) t.before (subst (λ z. Contains z p) same_freed (subst (λ z. Contains z.graph.peers.heap.freed p) (sym t.after) c))))
                       | inr v ↦ (
-                          let all : Contains (m.before.peers.heap.freed ++ v.1) p = subst (λ (z : Joint). Contains z.peers.heap.freed p) v.4.state (subst (λ z. Contains z.peers.heap.freed p) (sym t.after) c) in
-                          elim (Contains-append_cases m.before.peers.heap.freed v.1 p all) [
-                            | inl w ↦ absurd (not_yet (subst (λ z. Contains z.peers.heap.freed p) t.before w))
+                          let all : Contains (m.before.graph.peers.heap.freed ++ v.1) p = subst (λ (z : Joint). Contains z.graph.peers.heap.freed p) v.4.state (subst (λ z. Contains z.graph.peers.heap.freed p) (sym t.after) c) in
+                          elim (Contains-append_cases m.before.graph.peers.heap.freed v.1 p all) [
+                            | inl w ↦ absurd (not_yet (subst (λ z. Contains z.graph.peers.heap.freed p) t.before w))
                             | inr w ↦ swept-now i m there t e v.0 v.1 v.2 v.3 v.4 x h p i0 old iss on live w
                           ])
                     ])

@@ -30,7 +30,7 @@ module _ (run : List Moment) (steps : IsRunFrom opening run) (traced : (m : Mome
   twins : (i : ℕ) (m : Moment) → slice_get run i ≡ Some m → TwinsSwept run i m.before
   twins zero m e = subst (λ z. TwinsSwept run zero z) (sym (first-before run opening m steps e)) (λ x h p q l c. absurd (nobody x h q))
     where
-      nobody : (x h : ℕ) → Holds opening.managed x h → ⊥
+      nobody : (x h : ℕ) → Holds opening.graph.managed x h → ⊥
       nobody x h q = (let w = numbered-within [] x (Some h) q.held in omega (arith, w.0, w.1))
   twins (suc i) m e =
       let p = earlier-there run i m e in
@@ -45,8 +45,8 @@ module _ (run : List Moment) (steps : IsRunFrom opening run) (traced : (m : Mome
       subst (λ z. JointEvent m.before m.noted.entry.made.caller (op.Resolve record { 0 = k }) m.noted.entry.made.reply z m.after) w.frees
       (subst (λ z. JointEvent m.before m.noted.entry.made.caller z m.noted.entry.made.reply m.noted.told m.after) w.event (step-at run opening i m steps w.there).step)
 
-  kept_before : (i : ℕ) (m : Moment) → slice_get run i ≡ Some m → IsManagedKept m.before.managed
-  kept_before i m e = let t = trace i m e in subst (λ (z : Joint). IsManagedKept z.managed) (sym t.before) t.stands.kept.managed.managed
+  kept_before : (i : ℕ) (m : Moment) → slice_get run i ≡ Some m → IsManagedKept m.before.graph.managed
+  kept_before i m e = let t = trace i m e in subst (λ (z : Joint). IsManagedKept z.graph.managed) (sym t.before) t.stands.kept.managed.managed
 
   resolved : (i k m : ℕ) (freed : List ℕ) → ResolvesAt run i k freed → Contains freed m → IsUnreachedBefore run i (object m)
   resolved i k m freed w c x e v =
@@ -54,10 +54,10 @@ module _ (run : List Moment) (steps : IsRunFrom opening run) (traced : (m : Mome
       resolution-unreached w.moment.before r.cycle freed (kept_before i w.moment w.there) r.open_cycle.0 r.resolution m c (subst (λ (z : Moment). IsReached z.before (object m)) (same_Some x w.moment (sym e ∙ w.there)) v)
 
   -- a candidate that is freed has a freed peer
-  freed-peer : (j : Joint) (c : OpenCycle) (m h p : ℕ) (freed : List ℕ) → ((x : ℕ) → Contains freed x → (((y : ℕ) × IsKept j c y × Reaches (ManagedEdge j.managed) y x) → ⊥)) → Contains freed m → Contains c.candidates m → Holds j.managed m h → peer_of j.peers.issued h ≡ Some p → Contains j.peers.heap.freed p
-  freed-peer j c m h p freed frees f cm q l = elim (Contains-decided j.peers.heap.freed p) [
+  freed-peer : (j : Joint) (c : OpenCycle) (m h p : ℕ) (freed : List ℕ) → ((x : ℕ) → Contains freed x → (((y : ℕ) × IsKept j c y × Reaches (ManagedEdge j.graph.managed) y x) → ⊥)) → Contains freed m → Contains c.candidates m → Holds j.graph.managed m h → peer_of j.graph.peers.issued h ≡ Some p → Contains j.graph.peers.heap.freed p
+  freed-peer j c m h p freed frees f cm q l = elim (Contains-decided j.graph.peers.heap.freed p) [
     | inl w ↦ w
-    | inr n ↦ absurd (frees m f (m, record { candidate = cm; handle = h; holds = q; peer = p; leads = l; unfreed = n }, Reaches-self (ManagedEdge j.managed) m))
+    | inr n ↦ absurd (frees m f (m, record { candidate = cm; handle = h; holds = q; peer = p; leads = l; unfreed = n }, Reaches-self (ManagedEdge j.graph.managed) m))
   ]
 
   candidates : (i k m : ℕ) (freed : List ℕ) → ResolvesAt run i k freed → Contains freed m → IsCandidateBefore run i m → IsFreedWithPeer run i m
@@ -66,12 +66,12 @@ module _ (run : List Moment) (steps : IsRunFrom opening run) (traced : (m : Mome
       let t = trace i w.moment w.there in
       let kept = kept_before i w.moment w.there in
       let moments : cand.moment ≡ w.moment = same_Some cand.moment w.moment (sym cand.there ∙ w.there) in
-      let cycles : cand.cycle ≡ r.cycle = same_Some cand.cycle r.cycle (sym cand.open_cycle ∙ (ap (λ (z : Moment). z.before.managed.cycle) moments ∙ r.open_cycle.0)) in
+      let cycles : cand.cycle ≡ r.cycle = same_Some cand.cycle r.cycle (sym cand.open_cycle ∙ (ap (λ (z : Moment). z.before.graph.managed.cycle) moments ∙ r.open_cycle.0)) in
       let cm : Contains r.cycle.candidates m = subst (λ (z : OpenCycle). Contains z.candidates m) cycles cand.candidate in
-      let b : IsBridge w.moment.before.managed m = (((kept.dead r.cycle r.open_cycle.0).candidates m).0 cm).1 in
-      let here : Holds t.state.managed.managed m b.0 = subst (λ (z : Joint). Holds z.managed m b.0) t.before b.1 in
+      let b : IsBridge w.moment.before.graph.managed m = (((kept.dead r.cycle r.open_cycle.0).candidates m).0 cm).1 in
+      let here : Holds t.state.managed.managed m b.0 = subst (λ (z : Joint). Holds z.graph.managed m b.0) t.before b.1 in
       let i0 = t.stands.kept.owners.held_ones m b.0 here in
-      let leads : peer_of w.moment.before.peers.issued b.0 ≡ Some i0.0.peer = subst (λ (z : Joint). peer_of z.peers.issued b.0 ≡ Some i0.0.peer) (sym t.before) (peer_of-issued t.state.peer.peers.issued b.0 i0.0 i0.1) in
+      let leads : peer_of w.moment.before.graph.peers.issued b.0 ≡ Some i0.0.peer = subst (λ (z : Joint). peer_of z.graph.peers.issued b.0 ≡ Some i0.0.peer) (sym t.before) (peer_of-issued t.state.peer.peers.issued b.0 i0.0 i0.1) in
       record {
         moment = w.moment;
         there = w.there;

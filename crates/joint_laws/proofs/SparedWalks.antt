@@ -9,7 +9,7 @@ use Rattle.std.proofs.lemmas.Option.{same_Some, slice_get_within}
 use Rattle.joint_model.specs.Control.{Doing, Stand, idle, snapped, contracted, weakening, marked, restoring, restored, candidates_of}
 use Rattle.joint_model.specs.Cycles.{DeadEdge}
 use Rattle.joint_model.specs.Heaps.{IsLive, numbered_at}
-use Rattle.joint_model.specs.Joint.{Graph, JointMarking, Row, object, peer, JointEdge, IsJoined, IsJointRoot, IsRawRoot, IsLooseRoot, IsReached, graph_of}
+use Rattle.joint_model.specs.Joint.{Graph, JointMarking, Row, object, peer, JointEdge, IsJoined, IsJointRoot, IsRawRoot, IsLooseRoot, IsReached}
 use Rattle.joint_model.specs.Managed.{Managed, OpenCycle, IsBridge, ManagedEdge}
 use Rattle.joint_model.specs.ManagedReplay.{ManagedReplay}
 use Rattle.joint_model.specs.Peers.{Issued, Strength, strong, weak, peer_of}
@@ -39,7 +39,7 @@ peer_of-row issued h p e = by (numbered_at issued h) refl e
     by None q f = absurd (none_some p f)
     by (Some i) q f = (i, q, same_Some i.peer p f)
 
-pub joined-row : (m : Managed) (s : PeerReplay) (flags : List Bool) (jm : Option JointMarking) (x p : ℕ) → IsJoined (graph_of (joint_of m s flags jm)) x p → IsRowOf m s.peers.issued x p
+pub joined-row : (m : Managed) (s : PeerReplay) (flags : List Bool) (jm : Option JointMarking) (x p : ℕ) → IsJoined (joint_of m s flags jm).graph x p → IsRowOf m s.peers.issued x p
 joined-row m s flags jm x p e = let i = peer_of-row s.peers.issued e.handle p e.leads in record { handle = e.handle; holds = e.holds; row = i.0; is_issued = i.1; leads = i.2 }
 
 module _ (r : ManagedReplay) (s : PeerReplay) (ds : List Doing) (d : Stand) (k : AreKept r s ds d) (mk : Marking) (open_now : s.marking ≡ Some mk) where
@@ -115,7 +115,7 @@ module _ (r : ManagedReplay) (s : PeerReplay) (ds : List Doing) (d : Stand) (k :
 
   module _ (flags : List Bool) (jm : Option JointMarking) (fl : AreFlags r.managed s flags) where
     abbrev graph : Graph
-    graph = graph_of (joint_of r.managed s flags jm)
+    graph = (joint_of r.managed s flags jm).graph
 
     strength-cases : (h : ℕ) (w : IsInTable s h) → HasStrength s h strong ⊎ HasStrength s h weak
     strength-cases h w = by w.0.strength refl

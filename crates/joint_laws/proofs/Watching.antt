@@ -6,7 +6,7 @@ use Rattle.std.specs.Prelude.{Contains, slice_get}
 use Rattle.std.proofs.lemmas.Bool.{cases_lt}
 use Rattle.std.proofs.lemmas.Option.{same_Some}
 use Rattle.joint_model.specs.Heaps.{IsMade, IsLive, fields_of}
-use Rattle.joint_model.specs.Joint.{Joint, Row, object, peer, graph_of, JointEdge, IsJoined, IsJointRoot, IsReached}
+use Rattle.joint_model.specs.Joint.{Joint, Row, object, peer, JointEdge, IsJoined, IsJointRoot, IsReached}
 use Rattle.joint_model.specs.Linked.{Linkage, MayCome, linkage_after}
 use Rattle.joint_model.specs.Managed.{Holds}
 use Rattle.joint_model.specs.Peers.{Issued}
@@ -46,8 +46,8 @@ pub record IsLast (past : List Moment) (j : Joint) : Type 0 where
 pub record IsWatched (past : List Moment) (a : ℕ) (candidates : List ℕ) (j : Joint) : Type 0 where
   pub last : IsLast past j
   pub started : a < length past
-  pub closed : (x y : Row) → WasSeen past a x → JointEdge (graph_of j) x y → WasSeen past a y
-  pub bridges : (m h : ℕ) → Holds j.managed m h → (Contains candidates m → ⊥) → WasSeen past a (object m)
+  pub closed : (x y : Row) → WasSeen past a x → JointEdge j.graph x y → WasSeen past a y
+  pub bridges : (m h : ℕ) → Holds j.graph.managed m h → (Contains candidates m → ⊥) → WasSeen past a (object m)
 
 -- longer lists
 get-front : (xs ys : List Moment) (i : ℕ) (m : Moment) → slice_get xs i ≡ Some m → slice_get (xs ++ ys) i ≡ Some m
@@ -93,7 +93,7 @@ module _ (s : Linkage) (n : Noted) (may : MayCome s n) (w : Stands s) (v : Stand
   k = state_of (linkage_after s n) v
 
   abbrev EdgeCase : Row → Row → Type 0
-  EdgeCase x y = JointEdge (graph_of j) x y ⊎ IsReached j y ⊎ IsReached k y
+  EdgeCase x y = JointEdge j.graph x y ⊎ IsReached j y ⊎ IsReached k y
 
   live-back : (x : ℕ) → IsMade s.managed.managed.heap x → IsLive (linkage_after s n).managed.managed.heap x → IsLive s.managed.managed.heap x
   live-back x m l = record { made = m; kept = λ c. l.kept (subst (λ f. Contains f x) (sym g.freed) c) }
@@ -108,7 +108,7 @@ module _ (s : Linkage) (n : Noted) (may : MayCome s n) (w : Stands s) (v : Stand
   made-or x l = elim (cases_lt (length s.managed.managed.heap.fields) x) [ inl p ↦ inr (λ m. omega (arith, m.1, p)) | inr p ↦ inl (l.made.0, p) ]
 
   -- a pair of a row that was made before was joined before
-  joined-old : (x p : ℕ) → IsJoined (graph_of k) x p → IsMade s.managed.managed.heap x → IsJoined (graph_of j) x p
+  joined-old : (x p : ℕ) → IsJoined k.graph x p → IsMade s.managed.managed.heap x → IsJoined j.graph x p
   joined-old x p e m =
       let holds : Holds s.managed.managed x e.handle = record { live = live-back x m e.holds.live; held = g.gains x e.handle m e.holds.held } in
       let i = w.kept.owners.held_ones x e.handle holds in
@@ -123,25 +123,25 @@ module _ (s : Linkage) (n : Noted) (may : MayCome s n) (w : Stands s) (v : Stand
       }
 
   -- a new row that holds a handle is in a slot
-  new-reached : (x p : ℕ) → IsJoined (graph_of k) x p → (IsMade s.managed.managed.heap x → ⊥) → IsReached k (object x)
-  new-reached x p e new = Reached-start (IsJointRoot (graph_of k)) (JointEdge (graph_of k)) (object x) (new-named s n may w.kept.managed x e.handle new e.holds)
+  new-reached : (x p : ℕ) → IsJoined k.graph x p → (IsMade s.managed.managed.heap x → ⊥) → IsReached k (object x)
+  new-reached x p e new = Reached-start (IsJointRoot k.graph) (JointEdge k.graph) (object x) (new-named s n may w.kept.managed x e.handle new e.holds)
 
-  pub edge-case : (x y : Row) → JointEdge (graph_of k) x y → EdgeCase x y
+  pub edge-case : (x y : Row) → JointEdge k.graph x y → EdgeCase x y
   edge-case (object x) (object y) e = elim (g.fields x y e.field) [
     | inl c ↦ (
         let l = live-back x (field-made x y e.live.made.0 c) e.live in
         inl (record { live = l; field = c; there = w.kept.managed.managed.fields x y l c }))
-    | inr c ↦ inr (inl (Reached-start (IsJointRoot (graph_of j)) (JointEdge (graph_of j)) (object y) c.1))
+    | inr c ↦ inr (inl (Reached-start (IsJointRoot j.graph) (JointEdge j.graph) (object y) c.1))
   ]
   edge-case (peer p) (peer q) e = elim ((heap-entry s n).fields p q e.field) [
     | inl c ↦ (
         let l = (heap-entry s n).back p (peer-made p q e.live.made.0 c) e.live in
         inl (record { live = l; field = c; there = w.kept.peer.heap.fields p q l c }))
-    | inr c ↦ inr (inl (Reached-start (IsJointRoot (graph_of j)) (JointEdge (graph_of j)) (peer q) (inl c)))
+    | inr c ↦ inr (inl (Reached-start (IsJointRoot j.graph) (JointEdge j.graph) (peer q) (inl c)))
   ]
   edge-case (object x) (peer p) e = elim (made-or x e.holds.live) [
     | inl m ↦ inl (joined-old x p e m)
-    | inr new ↦ inr (inr (Reached-then (IsJointRoot (graph_of k)) (JointEdge (graph_of k)) (object x) (peer p) (new-reached x p e new) e))
+    | inr new ↦ inr (inr (Reached-then (IsJointRoot k.graph) (JointEdge k.graph) (object x) (peer p) (new-reached x p e new) e))
   ]
   edge-case (peer p) (object x) e = elim (made-or x e.holds.live) [
     | inl m ↦ inl (joined-old x p e m)
@@ -159,7 +159,7 @@ module _ (s : Linkage) (n : Noted) (may : MayCome s n) (w : Stands s) (v : Stand
       | inr e ↦ inr (subst (λ z. IsReached z x) after (subst (λ (z : Moment). IsReached z.after x) (sym e.1) q.reached))
     ]
 
-    next-edge : (x y : Row) → JointEdge (graph_of k) x y → IsSeen past a x → WasSeen (past ++ m ∷ []) a y
+    next-edge : (x y : Row) → JointEdge k.graph x y → IsSeen past a x → WasSeen (past ++ m ∷ []) a y
     next-edge x y e q = elim (edge-case x y e) [
       | inl old ↦ was-more past m a y (watched.closed x y (λ f. f q) old)
       | inr r ↦ elim r [
@@ -168,16 +168,16 @@ module _ (s : Linkage) (n : Noted) (may : MayCome s n) (w : Stands s) (v : Stand
       ]
     ]
 
-    pub closed-next : (x y : Row) → WasSeen (past ++ m ∷ []) a x → JointEdge (graph_of k) x y → WasSeen (past ++ m ∷ []) a y
+    pub closed-next : (x y : Row) → WasSeen (past ++ m ∷ []) a x → JointEdge k.graph x y → WasSeen (past ++ m ∷ []) a y
     closed-next x y u e f = u (λ q. elim (seen-cases x q) [
       | inl old ↦ next-edge x y e old f
-      | inr r ↦ f (now y (Reached-then (IsJointRoot (graph_of k)) (JointEdge (graph_of k)) x y r e))
+      | inr r ↦ f (now y (Reached-then (IsJointRoot k.graph) (JointEdge k.graph) x y r e))
     ])
 
     bridge-next : (x h : ℕ) → Holds (linkage_after s n).managed.managed x h → (Contains candidates x → ⊥) → WasSeen (past ++ m ∷ []) a (object x)
     bridge-next x h q out = elim (made-or x q.live) [
       | inl made ↦ was-more past m a (object x) (watched.bridges x h (record { live = live-back x made q.live; held = g.gains x h made q.held }) out)
-      | inr new ↦ (λ f. f (now (object x) (Reached-start (IsJointRoot (graph_of k)) (JointEdge (graph_of k)) (object x) (new-named s n may w.kept.managed x h new q))))
+      | inr new ↦ (λ f. f (now (object x) (Reached-start (IsJointRoot k.graph) (JointEdge k.graph) (object x) (new-named s n may w.kept.managed x h new q))))
     ]
 
     pub watched-next : IsWatched (past ++ m ∷ []) a candidates k

@@ -90,9 +90,9 @@ pub record IsFreedWithPeer (run : List Moment) (i m : ℕ) : Type 0 where
   pub moment : Moment
   pub there : slice_get run i ≡ Some moment
   pub handle : ℕ
-  pub holds : Holds moment.before.managed m handle
+  pub holds : Holds moment.before.graph.managed m handle
   pub peer : ℕ
-  pub leads : peer_of moment.before.peers.issued handle ≡ Some peer
+  pub leads : peer_of moment.before.graph.peers.issued handle ≡ Some peer
   pub swept : IsSweptFor run i peer (object m)
 
 -- the row is a candidate of the cycle that is open just before place i
@@ -100,7 +100,7 @@ pub record IsCandidateBefore (run : List Moment) (i m : ℕ) : Type 0 where
   pub moment : Moment
   pub there : slice_get run i ≡ Some moment
   pub cycle : OpenCycle
-  pub open_cycle : moment.before.managed.cycle ≡ Some cycle
+  pub open_cycle : moment.before.graph.managed.cycle ≡ Some cycle
   pub candidate : Contains cycle.candidates m
 
 -- sound: nothing is freed too early
@@ -117,17 +117,17 @@ pub record IsSoundRun (run : List Moment) : Type 0 where
 pub record IsMadeBefore (run : List Moment) (i p : ℕ) : Type 0 where
   pub moment : Moment
   pub there : slice_get run i ≡ Some moment
-  pub made : IsMade moment.before.peers.heap p
+  pub made : IsMade moment.before.graph.peers.heap p
 
 -- the peer is freed in the state at place i
 pub record IsPeerFreedAt (run : List Moment) (i p : ℕ) : Type 0 where
   pub moment : Moment
   pub there : slice_get run i ≡ Some moment
-  pub freed : Contains moment.after.peers.heap.freed p
+  pub freed : Contains moment.after.graph.peers.heap.freed p
 
 -- the peer isn't reached in the state at any entry from one place to another at which it exists
 abbrev pub IsPeerUnreachedThroughout : List Moment → ℕ → ℕ → ℕ → Type 0
-IsPeerUnreachedThroughout run from to p = (i : ℕ) → from ≤ i → i ≤ to → (m : Moment) → slice_get run i ≡ Some m → IsMade m.after.peers.heap p → IsReached m.after (peer p) → ⊥
+IsPeerUnreachedThroughout run from to p = (i : ℕ) → from ≤ i → i ≤ to → (m : Moment) → slice_get run i ≡ Some m → IsMade m.after.graph.peers.heap p → IsReached m.after (peer p) → ⊥
 
 -- a cycle that ends in the resolution at place `end` frees what was unreached throughout: it has its snapshot and its
 -- own marking, which the thread c begins between the two; each of its candidates that is unreached throughout from the

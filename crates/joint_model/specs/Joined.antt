@@ -41,7 +41,7 @@ joint_marking (Some mk) begun = Some record { number = mk.number; by = mk.by; be
 
 -- the joint state of a managed and a peer state, with whether each handle is removed, and the open marking
 abbrev pub joint_of : Managed → PeerReplay → List Bool → Option JointMarking → Joint
-joint_of s p removed marking = record { managed = s; peers = p.peers; removed = removed; marking = marking; markings = p.markings }
+joint_of s p removed marking = record { graph = record { managed = s; peers = p.peers; removed = removed }; marking = marking; markings = p.markings }
 
 -- that state as both replays give it, with the graph that stood at the open marking's begin
 abbrev pub joint_since : Managed → PeerReplay → Graph → Joint

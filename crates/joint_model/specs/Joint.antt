@@ -19,21 +19,19 @@ pub record JointMarking : Type 0 where
   pub by : Thread
   pub begun : Graph
 
--- the graph's parts, the open marking, and how many markings were opened
+-- the graph, the open marking, and how many markings were opened
 pub record Joint : Type 0 where
-  pub managed : Managed
-  pub peers : Peers
-  pub removed : List Bool
+  pub graph : Graph
   pub marking : Option JointMarking
   pub markings : ℕ
 
 -- all lists are empty, and so is each slot
 abbrev pub opening : Joint
-opening = record { managed = opening_managed; peers = opening_peers; removed = []; marking = None; markings = 0 }
+opening = record { graph = record { managed = opening_managed; peers = opening_peers; removed = [] }; marking = None; markings = 0 }
 
--- the graph of a state
-abbrev pub graph_of : Joint → Graph
-graph_of j = record { managed = j.managed; peers = j.peers; removed = j.removed }
+-- the state with another managed part
+abbrev pub with_managed : Joint → Managed → Joint
+with_managed j s = record j { graph = record j.graph { managed = s } }
 
 -- a row of either heap
 pub data Row : Type 0 where
@@ -90,13 +88,13 @@ IsReachedIn g x = Reached (IsJointRoot g) (JointEdge g) x
 
 -- the row is reached in a state
 abbrev pub IsReached : Joint → Row → Type 0
-IsReached j x = IsReachedIn (graph_of j) x
+IsReached j x = IsReachedIn j.graph x
 
 -- whether the managed row holds a held handle on the peer
 abbrev pub is_twin : Joint → ℕ → ℕ → Bool
-is_twin j p m = elim (handle_of j.managed m) [
+is_twin j p m = elim (handle_of j.graph.managed m) [
   | None ↦ false
-  | Some h ↦ elim (numbered_at j.peers.issued h) [ None ↦ false | Some i ↦ is_held i.hold && nat_eq i.peer p ]
+  | Some h ↦ elim (numbered_at j.graph.peers.issued h) [ None ↦ false | Some i ↦ is_held i.hold && nat_eq i.peer p ]
 ]
 
 -- the first twin of the peer from number m on, with a list as long as the rows that are left
@@ -106,11 +104,11 @@ twin_from j p m (h ∷ hs) = if is_twin j p m then Some m else twin_from j p (m 
 
 -- the twin of a peer: the unfreed managed row of the least number that holds a held handle on it
 abbrev pub twin_of : Joint → ℕ → Option ℕ
-twin_of j p = twin_from j p 1 j.managed.held
+twin_of j p = twin_from j p 1 j.graph.managed.held
 
 -- where a handle leads: to its peer, unless the handle was removed or the peer was freed
 abbrev pub joint_target : Joint → ℕ → Option ℕ
-joint_target j h = elim (numbered_at j.removed h) [
+joint_target j h = elim (numbered_at j.graph.removed h) [
   | None ↦ None
-  | Some gone ↦ if gone then None else elim (peer_of j.peers.issued h) [ None ↦ None | Some p ↦ if is_freed j.peers.heap p then None else Some p ]
+  | Some gone ↦ if gone then None else elim (peer_of j.graph.peers.issued h) [ None ↦ None | Some p ↦ if is_freed j.graph.peers.heap p then None else Some p ]
 ]

@@ -11,7 +11,7 @@ use Rattle.joint_model.specs.declared.events.Reply.TheVariants as says
 use Rattle.joint_model.specs.Components.{Rises}
 use Rattle.joint_model.specs.Cycles.{IsSnapshot, snap_reply, IsResolution, resolve_reply, IsOpen}
 use Rattle.joint_model.specs.Heaps.{Answered, answer, slot, numbered_set, place, IsLive, with_freed}
-use Rattle.joint_model.specs.Joint.{Joint, JointMarking, opening, IsReached, IsReachedIn, graph_of, peer, joint_target, twin_of}
+use Rattle.joint_model.specs.Joint.{Joint, JointMarking, opening, IsReached, IsReachedIn, with_managed, peer, joint_target, twin_of}
 use Rattle.joint_model.specs.Lines.{IsEvent, IsPeerThread}
 use Rattle.joint_model.specs.Managed.{Managed, OpenCycle, managed_line, adopted, met, given_up, handle_reply, handle_of, Holds, with_snapshot, resolved, abandoned}
 use Rattle.joint_model.specs.Peers.{Peers, peer_line, pair_made, gripped, landed, issued_since, peer_of}
@@ -25,27 +25,27 @@ thread_number C = 0
 
 -- an event of the managed part, as one of the joint machine
 abbrev pub on_managed : Joint → Answered Managed → Answered Joint
-on_managed j a = answer a.reply (record j { managed = a.state })
+on_managed j a = answer a.reply (with_managed j a.state)
 
 -- an event of the peers, as one of the joint machine: the handles that it issues aren't removed
 abbrev pub on_peers : Joint → Answered Peers → Answered Joint
-on_peers j a = answer a.reply (record j { peers = a.state; removed = j.removed ++ map (λ i. false) (issued_since j.peers a.state) })
+on_peers j a = answer a.reply (record j { graph = record j.graph { peers = a.state; removed = j.graph.removed ++ map (λ i. false) (issued_since j.graph.peers a.state) } })
 
 -- the handle is removed
 abbrev pub without : Joint → Option ℕ → Joint
 without j None = j
-without j (Some h) = record j { removed = numbered_set j.removed h true }
+without j (Some h) = record j { graph = record j.graph { removed = numbered_set j.graph.removed h true } }
 
 -- an event of a peer thread's line; `unglobal` removes the handle that its name had
 abbrev pub joint_peer_line : Joint → ℕ → Act → Answered Joint
-joint_peer_line j t (act.UnGlobal g) = on_peers (without j (slot j.peers.names g.0)) (peer_line (joint_target j) j.peers t (act.UnGlobal g))
-joint_peer_line j t a = on_peers j (peer_line (joint_target j) j.peers t a)
+joint_peer_line j t (act.UnGlobal g) = on_peers (without j (slot j.graph.peers.names g.0)) (peer_line (joint_target j) j.graph.peers t (act.UnGlobal g))
+joint_peer_line j t a = on_peers j (peer_line (joint_target j) j.graph.peers t a)
 
 -- an event of one line
 abbrev pub joint_line : Joint → Thread → Act → Answered Joint
-joint_line j (M t) a = on_managed j (managed_line j.managed t a)
+joint_line j (M t) a = on_managed j (managed_line j.graph.managed t a)
 joint_line j (P t) a = joint_peer_line j t a
-joint_line j C a = on_managed j (managed_line j.managed 0 a)
+joint_line j C a = on_managed j (managed_line j.graph.managed 0 a)
 
 -- the events that aren't computed: they come as relations below, or are no step of the joint machine
 abbrev pub IsComputed : Op → Type 0
@@ -66,26 +66,26 @@ IsComputed _ = Unit {0}
 -- the reply to an event that is computed, and the state after it
 abbrev pub joint_answer : Joint → Thread → Op → Answered Joint
 joint_answer j t (op.Line a) = joint_line j t a
-joint_answer j t (op.Make sort n) = on_peers j (pair_made j.peers sort n)
-joint_answer j t (op.Adopt v kind n p h) = on_managed j (adopted j.managed (place (thread_number t) v.0) kind n h.0)
-joint_answer j t (op.Lend v x) = answer (handle_reply j.managed (place (thread_number t) v.0)) j
-joint_answer j t (op.Land h x) = on_peers j (landed j.peers x.0 (joint_target j h.0))
-joint_answer j t (op.Grip x) = on_peers j (gripped j.peers x.0)
-joint_answer j t (op.Meet v p h sort n) = on_managed j (met j.managed (place (thread_number t) v.0) h.0 sort n (twin_of j p.0))
-joint_answer j t (op.Give v) = on_managed j (given_up j.managed (place (thread_number t) v.0))
+joint_answer j t (op.Make sort n) = on_peers j (pair_made j.graph.peers sort n)
+joint_answer j t (op.Adopt v kind n p h) = on_managed j (adopted j.graph.managed (place (thread_number t) v.0) kind n h.0)
+joint_answer j t (op.Lend v x) = answer (handle_reply j.graph.managed (place (thread_number t) v.0)) j
+joint_answer j t (op.Land h x) = on_peers j (landed j.graph.peers x.0 (joint_target j h.0))
+joint_answer j t (op.Grip x) = on_peers j (gripped j.graph.peers x.0)
+joint_answer j t (op.Meet v p h sort n) = on_managed j (met j.graph.managed (place (thread_number t) v.0) h.0 sort n (twin_of j p.0))
+joint_answer j t (op.Give v) = on_managed j (given_up j.graph.managed (place (thread_number t) v.0))
 joint_answer j t (op.Release h) = answer says.Ok (without j (Some h.0))
 joint_answer j t _ = answer says.Ok j
 
 -- a snapshot
 pub record JointSnap (j : Joint) (k : ℕ) (freed candidates dead : List ℕ) (reply : Reply) (next : Joint) : Type 0 where
-  pub snapshot : IsSnapshot j.managed k freed candidates dead
-  pub replies : reply ≡ snap_reply j.managed freed candidates
-  pub state : next ≡ record j { managed = with_snapshot j.managed freed candidates dead }
+  pub snapshot : IsSnapshot j.graph.managed k freed candidates dead
+  pub replies : reply ≡ snap_reply j.graph.managed freed candidates
+  pub state : next ≡ with_managed j (with_snapshot j.graph.managed freed candidates dead)
 
 -- a further marking by the thread, which keeps the graph of now
 pub record OpensMarking (j : Joint) (t : Thread) (reply : Reply) (next : Joint) : Type 0 where
   pub replies : reply ≡ says.Mark record { 0 = j.markings + 1 }
-  pub state : next ≡ record j { marking = Some record { number = j.markings + 1; by = t; begun = graph_of j }; markings = j.markings + 1 }
+  pub state : next ≡ record j { marking = Some record { number = j.markings + 1; by = t; begun = j.graph }; markings = j.markings + 1 }
 
 -- the peer is one of those that a marking may free: it existed unfreed and unreached at the begin
 pub record IsStored (m : JointMarking) (p : ℕ) : Type 0 where
@@ -103,8 +103,8 @@ pub record EndsMarking (j : Joint) (m : JointMarking) (t : Thread) (freed : List
   pub rise : Rises freed
   pub stored : All (IsStored m) freed
   pub unreached : All (λ p. IsReached j (peer p) → ⊥) freed
-  pub replies : reply ≡ says.Swept record { 0 = m.number } record { first = length j.peers.heap.freed; count = length freed }
-  pub state : next ≡ record j { peers = record j.peers { heap = with_freed j.peers.heap freed }; marking = None }
+  pub replies : reply ≡ says.Swept record { 0 = m.number } record { first = length j.graph.peers.heap.freed; count = length freed }
+  pub state : next ≡ record j { graph = record j.graph { peers = record j.graph.peers { heap = with_freed j.graph.peers.heap freed } }; marking = None }
 
 -- a peer thread's sweep during another thread's marking frees nothing
 pub record RefusesSweep (j : Joint) (m : JointMarking) (t : Thread) (reply : Reply) (next : Joint) : Type 0 where
@@ -123,10 +123,10 @@ JointSweep j (Some m) t reply _ next = RefusesSweep j m t reply next
 pub record IsKept (j : Joint) (c : OpenCycle) (m : ℕ) : Type 0 where
   pub candidate : Contains c.candidates m
   pub handle : ℕ
-  pub holds : Holds j.managed m handle
+  pub holds : Holds j.graph.managed m handle
   pub peer : ℕ
-  pub leads : peer_of j.peers.issued handle ≡ Some peer
-  pub unfreed : Contains j.peers.heap.freed peer → ⊥
+  pub leads : peer_of j.graph.peers.issued handle ≡ Some peer
+  pub unfreed : Contains j.graph.peers.heap.freed peer → ⊥
 
 -- the flags with the handles of a list marked as removed
 abbrev pub removed_all : List Bool → List ℕ → List Bool
@@ -136,17 +136,17 @@ removed_all flags (h ∷ hs) = removed_all (numbered_set flags h true) hs
 -- a resolution: the handles of the freed rows are removed
 pub record JointResolve (j : Joint) (k : ℕ) (freed : List ℕ) (reply : Reply) (next : Joint) : Type 0 where
   pub cycle : OpenCycle
-  pub open_cycle : IsOpen j.managed k cycle
-  pub resolution : IsResolution j.managed cycle.dead (IsKept j cycle) freed
-  pub replies : reply ≡ resolve_reply j.managed freed
-  pub state : next ≡ record j { managed = resolved j.managed freed; removed = removed_all j.removed (filter_map (handle_of j.managed) freed) }
+  pub open_cycle : IsOpen j.graph.managed k cycle
+  pub resolution : IsResolution j.graph.managed cycle.dead (IsKept j cycle) freed
+  pub replies : reply ≡ resolve_reply j.graph.managed freed
+  pub state : next ≡ record j { graph = record j.graph { managed = resolved j.graph.managed freed; removed = removed_all j.graph.removed (filter_map (handle_of j.graph.managed) freed) } }
 
 -- an abandonment frees nothing
 pub record JointAbandon (j : Joint) (k : ℕ) (reply : Reply) (next : Joint) : Type 0 where
   pub cycle : OpenCycle
-  pub open_cycle : IsOpen j.managed k cycle
+  pub open_cycle : IsOpen j.graph.managed k cycle
   pub replies : reply ≡ says.Ok
-  pub state : next ≡ record j { managed = abandoned j.managed }
+  pub state : next ≡ with_managed j (abandoned j.graph.managed)
 
 -- an event that is computed
 pub record JointComputed (j : Joint) (t : Thread) (o : Op) (reply : Reply) (next : Joint) : Type 0 where
