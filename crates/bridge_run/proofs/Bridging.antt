@@ -121,9 +121,9 @@ make-told m p p' count count' k index sort n r noted end thread fields is table 
       order = done-start (doing_at end.base.control k) (at.done k);
       alone = subst (λ s. IsCycleAlone s (M k)) (sym at.stands) tt;
     } in
-    let sound : FitsLists ms ps [] e = record { event = (thread, fields); spans = pair.spans } in
+    let fits : FitsLists ms ps [] e = record { event = (thread, fields); spans = pair.spans } in
     let more : Ran (entries_of noted ++ e ∷ []) m.entries (p.entries ++ e ∷ []) m.managed.heap.freed (p.peers.heap.freed ++ []) (count + 1) =
-    Ran-peer (entries_of noted) m.entries p.entries m.managed.heap.freed p.peers.heap.freed [] count e told.ran adds.drawn.0 (subst (λ l. FitsLists ms (as_peers l) [] e) (sym (append-nil p.peers.heap.freed)) sound) in
+    Ran-peer (entries_of noted) m.entries p.entries m.managed.heap.freed p.peers.heap.freed [] count e told.ran adds.drawn.0 (subst (λ l. FitsLists ms (as_peers l) [] e) (sym (append-nil p.peers.heap.freed)) fits) in
     let freed : p.peers.heap.freed ++ [] ≡ p'.peers.heap.freed = append-nil p.peers.heap.freed ∙ sym pair.freed in
     let grown : Ran (entries_of noted ++ e ∷ []) m.entries p'.entries m.managed.heap.freed p'.peers.heap.freed count' =
     subst (λ l. Ran (entries_of noted ++ e ∷ []) m.entries p'.entries m.managed.heap.freed l count') freed

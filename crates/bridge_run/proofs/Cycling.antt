@@ -40,7 +40,7 @@ use Rattle.bridge_run.specs.Going.{Goes, AtRest, InCycle, AtMark, IsDriven, open
 use Rattle.bridge_run.specs.Runs.{Both, IsTold, IsAt, AreIssued, entries_of}
 use Rattle.bridge_run.specs.Wholes.{Ran, as_object, as_managed, as_peer, as_peers}
 use Rattle.bridge_run.proofs.Ran.{Ran-managed, Ran-peer}
-use Rattle.bridge_run.proofs.Spans.{swept-sound, snapped-sound, resolved-sound}
+use Rattle.bridge_run.proofs.Spans.{swept-fits, snapped-fits, resolved-fits}
 use Rattle.bridge_run.proofs.Stepping.{named-push}
 use Rattle.bridge_run.proofs.Telling.{told-push, IsAt-driver}
 
@@ -66,11 +66,11 @@ peer-more : (whole : List Entry) (m : ManagedShown) (p p' : PeerShown) (count co
     → FitsLists (as_managed m.managed.heap.freed) (as_peers (p.peers.heap.freed ++ dead)) [] e
     → p'.entries ≡ p.entries ++ e ∷ [] → p'.peers.heap.freed ≡ p.peers.heap.freed ++ dead → count' ≡ count + 1
     → Ran (whole ++ e ∷ []) m.entries p'.entries m.managed.heap.freed p'.peers.heap.freed count'
-peer-more whole m p p' count count' e dead ran number sound entries freed counted =
+peer-more whole m p p' count count' e dead ran number fits entries freed counted =
     subst (λ l. Ran (whole ++ e ∷ []) m.entries p'.entries m.managed.heap.freed l count') (sym freed)
     (subst (λ k. Ran (whole ++ e ∷ []) m.entries p'.entries m.managed.heap.freed (p.peers.heap.freed ++ dead) k) (sym counted)
     (subst (λ es. Ran (whole ++ e ∷ []) m.entries es m.managed.heap.freed (p.peers.heap.freed ++ dead) (count + 1)) (sym entries)
-    (Ran-peer whole m.entries p.entries m.managed.heap.freed p.peers.heap.freed dead count e ran number sound)))
+    (Ran-peer whole m.entries p.entries m.managed.heap.freed p.peers.heap.freed dead count e ran number fits)))
 
 -- the same of the managed side
 managed-more : (whole : List Entry) (m m' : ManagedShown) (p : PeerShown) (count count' : ℕ) (e : Entry) (freed : List ℕ)
@@ -78,9 +78,9 @@ managed-more : (whole : List Entry) (m m' : ManagedShown) (p : PeerShown) (count
     → FitsLists (as_managed m.managed.heap.freed ++ as_managed freed) (as_peers p.peers.heap.freed) [] e
     → m'.entries ≡ m.entries ++ e ∷ [] → m'.managed.heap.freed ≡ m.managed.heap.freed ++ freed → count' ≡ count + 1
     → Ran (whole ++ e ∷ []) m'.entries p.entries m'.managed.heap.freed p.peers.heap.freed count'
-managed-more whole m m' p count count' e freed ran number sound entries gone counted =
+managed-more whole m m' p count count' e freed ran number fits entries gone counted =
     let joined : FitsLists (as_managed (m.managed.heap.freed ++ freed)) (as_peers p.peers.heap.freed) [] e =
-    subst (λ l. FitsLists l (as_peers p.peers.heap.freed) [] e) (sym (map-append as_object m.managed.heap.freed freed)) sound in
+    subst (λ l. FitsLists l (as_peers p.peers.heap.freed) [] e) (sym (map-append as_object m.managed.heap.freed freed)) fits in
     subst (λ l. Ran (whole ++ e ∷ []) m'.entries p.entries l p.peers.heap.freed count') (sym gone)
     (subst (λ k. Ran (whole ++ e ∷ []) m'.entries p.entries (m.managed.heap.freed ++ freed) p.peers.heap.freed k) (sym counted)
     (subst (λ es. Ran (whole ++ e ∷ []) es p.entries (m.managed.heap.freed ++ freed) p.peers.heap.freed (count + 1)) (sym entries)
@@ -114,10 +114,10 @@ snap-goes m m' p count count' index out s noted end told at =
       order = subst (λ (x : Stand). MaySnap x None) (sym at.stands) refl;
       alone = subst (λ (x : Stand). IsCycleAlone x C) (sym at.stands) tt;
     } in
-    let sound : FitsLists (as_managed m.managed.heap.freed ++ as_managed freed) (as_peers p.peers.heap.freed) [] e =
-    snapped-sound (as_managed m.managed.heap.freed) (as_managed freed) (as_peers p.peers.heap.freed) e (length s.candidates) record { first = length m.managed.heap.freed; count = length freed }
+    let fits : FitsLists (as_managed m.managed.heap.freed ++ as_managed freed) (as_peers p.peers.heap.freed) [] e =
+    snapped-fits (as_managed m.managed.heap.freed) (as_managed freed) (as_peers p.peers.heap.freed) e (length s.candidates) record { first = length m.managed.heap.freed; count = length freed }
     tt refl (sym (length-map m.managed.heap.freed as_object)) (sym (length-map freed as_object)) (subst Rises (sym (managed-numbered freed)) s.snapshot.freed_rise) in
-    let grown = managed-more (entries_of noted) m m' p count count' e freed told.ran s.drawn.0 sound s.added (ap (λ (x : Managed). x.heap.freed) s.state) s.drawn.1 in
+    let grown = managed-more (entries_of noted) m m' p count count' e freed told.ran s.drawn.0 fits s.added (ap (λ (x : Managed). x.heap.freed) s.state) s.drawn.1 in
     let cycle : OpenCycle = record { number = m.managed.cycles + 1; candidates = s.candidates; dead = s.dead } in
     let opened : m'.managed.cycle ≡ Some cycle = ap (λ (x : Managed). x.cycle) s.state in
     let name : out.cycle ≡ open_number b' = ap (λ (n : ℕ). record { 0 = n }) s.snapshot.next ∙ sym (open-is b' cycle opened) in (
@@ -196,11 +196,11 @@ sweep-goes m p p' count count' index b j s dead rise begun number span peers tab
       order = (subst FirstSweep (sym stands) tt, refl);
       alone = subst (λ (x : Stand). IsCycleAlone x C) (sym stands) tt;
     } in
-    let sound : FitsLists (as_managed m.managed.heap.freed) (as_peers p.peers.heap.freed ++ as_peers dead) [] e =
-    swept-sound (as_managed m.managed.heap.freed) (as_peers p.peers.heap.freed) (as_peers dead) e j s tt refl
+    let fits : FitsLists (as_managed m.managed.heap.freed) (as_peers p.peers.heap.freed ++ as_peers dead) [] e =
+    swept-fits (as_managed m.managed.heap.freed) (as_peers p.peers.heap.freed) (as_peers dead) e j s tt refl
     (ap (λ (x : Span). x.first) span ∙ sym (length-map p.peers.heap.freed as_peer)) (ap (λ (x : Span). x.count) span ∙ sym (length-map dead as_peer)) (subst Rises (sym (peers-numbered dead)) rise) in
     let grown = peer-more (entries_of noted) m p p' count count' e dead told.ran adds.drawn.0
-    (subst (λ l. FitsLists (as_managed m.managed.heap.freed) l [] e) (sym (map-append as_peer p.peers.heap.freed dead)) sound) adds.added (ap (λ (x : Peers). x.heap.freed) peers) adds.drawn.1 in
+    (subst (λ l. FitsLists (as_managed m.managed.heap.freed) l [] e) (sym (map-append as_peer p.peers.heap.freed dead)) fits) adds.added (ap (λ (x : Peers). x.heap.freed) peers) adds.drawn.1 in
     let control : IsAt index (restoring here.opened []) (record end.base.control { lines = slice_set end.base.control.lines 0 index; stand = first_stand_after end.base.control.stand adds.number op.Sweep }) =
     subst (λ (x : Stand). IsAt index (restoring here.opened []) (record end.base.control { lines = slice_set end.base.control.lines 0 index; stand = first_stand_after x adds.number op.Sweep })) (sym stands)
     (IsAt-driver index (marked here.opened) (restoring here.opened []) end.base.control here.control) in (
@@ -242,10 +242,10 @@ resolve-goes m m' p count count' index alive out answers r noted end told at =
       order = (subst (λ (x : Stand). FirstResolve x r.cycle.number (first_answers end.base.managed.managed end.base.peer) (resolution_of alive freed)) (sym stands) (at.same ∙ ap (λ (c : OpenCycle). c.number) same, told_so), refl);
       alone = subst (λ (x : Stand). IsCycleAlone x C) (sym stands) tt;
     } in
-    let sound : FitsLists (as_managed m.managed.heap.freed ++ as_managed freed) (as_peers p.peers.heap.freed) [] e =
-    resolved-sound (as_managed m.managed.heap.freed) (as_managed freed) (as_peers p.peers.heap.freed) e record { first = length m.managed.heap.freed; count = length freed }
+    let fits : FitsLists (as_managed m.managed.heap.freed ++ as_managed freed) (as_peers p.peers.heap.freed) [] e =
+    resolved-fits (as_managed m.managed.heap.freed) (as_managed freed) (as_peers p.peers.heap.freed) e record { first = length m.managed.heap.freed; count = length freed }
     tt refl (sym (length-map m.managed.heap.freed as_object)) (sym (length-map freed as_object)) (subst Rises (sym (managed-numbered freed)) r.resolution.rise) in
-    let grown = managed-more (entries_of noted) m m' p count count' e freed told.ran r.entry.drawn.0 sound r.entry.added (ap (λ (x : Managed). x.heap.freed) r.state) r.entry.drawn.1 in (
+    let grown = managed-more (entries_of noted) m m' p count count' e freed told.ran r.entry.drawn.0 fits r.entry.added (ap (λ (x : Managed). x.heap.freed) r.state) r.entry.drawn.1 in (
       note ∷ [],
       first_after end note,
       told-push noted end _ b' note told may grown replays.state told.peer r.entry.drawn.1 told.adopted

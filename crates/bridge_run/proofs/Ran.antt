@@ -15,33 +15,33 @@ use Rattle.bridge_run.proofs.Spans.{IsSound-more}
 
 -- before the first entry
 pub Ran-none : Ran [] [] [] [] [] 0
-Ran-none = record { shuffle = shuffle-none; sound = All-nil (FitsLists [] [] []); drawn = refl }
+Ran-none = record { shuffle = shuffle-none; fits = All-nil (FitsLists [] [] []); drawn = refl }
 
--- the entries so far keep sound once more objects are freed
-sound-still : (ms mm ps pp : List ℕ) (whole : List Entry) → All (FitsLists (as_managed ms) (as_peers ps) []) whole → All (FitsLists (as_managed (ms ++ mm)) (as_peers (ps ++ pp)) []) whole
-sound-still ms mm ps pp whole sound =
+-- the entries so far fit once more objects are freed
+fits-still : (ms mm ps pp : List ℕ) (whole : List Entry) → All (FitsLists (as_managed ms) (as_peers ps) []) whole → All (FitsLists (as_managed (ms ++ mm)) (as_peers (ps ++ pp)) []) whole
+fits-still ms mm ps pp whole fits =
     rw (map-append as_object ms mm, map-append as_peer ps pp)
-    (All-weaker (FitsLists (as_managed ms) (as_peers ps) []) (FitsLists (as_managed ms ++ as_managed mm) (as_peers ps ++ as_peers pp) []) (IsSound-more (as_managed ms) (as_managed mm) (as_peers ps) (as_peers pp)) whole sound)
+    (All-weaker (FitsLists (as_managed ms) (as_peers ps) []) (FitsLists (as_managed ms ++ as_managed mm) (as_peers ps ++ as_peers pp) []) (IsSound-more (as_managed ms) (as_managed mm) (as_peers ps) (as_peers pp)) whole fits)
 
 -- a managed entry more, which frees some more objects
 pub Ran-managed : (whole managed peers : List Entry) (ms mm ps : List ℕ) (count : ℕ) (e : Entry) → Ran whole managed peers ms ps count → e.number ≡ count → FitsLists (as_managed (ms ++ mm)) (as_peers ps) [] e → Ran (whole ++ e ∷ []) (managed ++ e ∷ []) peers (ms ++ mm) ps (count + 1)
-Ran-managed whole managed peers ms mm ps count e ran is sound =
-    let still : All (FitsLists (as_managed (ms ++ mm)) (as_peers (ps ++ [])) []) whole = sound-still ms mm ps [] whole ran.sound in
+Ran-managed whole managed peers ms mm ps count e ran is fits =
+    let still : All (FitsLists (as_managed (ms ++ mm)) (as_peers (ps ++ [])) []) whole = fits-still ms mm ps [] whole ran.fits in
     let now : All (FitsLists (as_managed (ms ++ mm)) (as_peers ps) []) whole = subst (λ (l : List ℕ). All (FitsLists (as_managed (ms ++ mm)) (as_peers l) []) whole) (append-nil ps) still in
     record {
       shuffle = shuffle-first managed peers whole e (is ∙ sym ran.drawn) ran.shuffle;
-      sound = All-push (FitsLists (as_managed (ms ++ mm)) (as_peers ps) []) whole e now sound;
+      fits = All-push (FitsLists (as_managed (ms ++ mm)) (as_peers ps) []) whole e now fits;
       drawn = omega (arith, length-append whole (e ∷ []), ran.drawn);
     }
 
 -- a peer entry more, which frees some more peers
 pub Ran-peer : (whole managed peers : List Entry) (ms ps pp : List ℕ) (count : ℕ) (e : Entry) → Ran whole managed peers ms ps count → e.number ≡ count → FitsLists (as_managed ms) (as_peers (ps ++ pp)) [] e → Ran (whole ++ e ∷ []) managed (peers ++ e ∷ []) ms (ps ++ pp) (count + 1)
-Ran-peer whole managed peers ms ps pp count e ran is sound =
-    let still : All (FitsLists (as_managed (ms ++ [])) (as_peers (ps ++ pp)) []) whole = sound-still ms [] ps pp whole ran.sound in
+Ran-peer whole managed peers ms ps pp count e ran is fits =
+    let still : All (FitsLists (as_managed (ms ++ [])) (as_peers (ps ++ pp)) []) whole = fits-still ms [] ps pp whole ran.fits in
     let now : All (FitsLists (as_managed ms) (as_peers (ps ++ pp)) []) whole = subst (λ (l : List ℕ). All (FitsLists (as_managed l) (as_peers (ps ++ pp)) []) whole) (append-nil ms) still in
     record {
       shuffle = shuffle-second managed peers whole e (is ∙ sym ran.drawn) ran.shuffle;
-      sound = All-push (FitsLists (as_managed ms) (as_peers (ps ++ pp)) []) whole e now sound;
+      fits = All-push (FitsLists (as_managed ms) (as_peers (ps ++ pp)) []) whole e now fits;
       drawn = omega (arith, length-append whole (e ∷ []), ran.drawn);
     }
 
@@ -75,5 +75,5 @@ Ran-joinable whole managed peers ms ps freed gone count is was ran =
     record {
       whole = whole;
       shuffle = ran.shuffle;
-      sound = subst (λ (l : List PNum). All (FitsLists ms l []) whole) p (subst (λ (l : List MNum). All (FitsLists l (as_peers gone) []) whole) m ran.sound);
+      fits = subst (λ (l : List PNum). All (FitsLists ms l []) whole) p (subst (λ (l : List MNum). All (FitsLists l (as_peers gone) []) whole) m ran.fits);
     }

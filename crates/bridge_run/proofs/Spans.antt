@@ -1,5 +1,5 @@
 -- A span that lies in a list names the same stretch of each longer list, and a span that begins at the list's end
--- names what is put there. So the entries keep sound while the lists of freed objects grow.
+-- names what is put there. So the entries fit while the lists of freed objects grow.
 use Rattle.std.proofs.Common.{◌≡◌, ℕ, List, [], ◌++◌, length, take, drop, sym, ap, ◌∙◌, subst, arith, length-append}
 use Rattle.std.proofs.lemmas.List.{drop-append-le, take-append-le}
 use Rattle.std.proofs.Math.Seq.{drop-append_seam, take-length}
@@ -43,25 +43,25 @@ HasSpans-more ms ms' ps ps' (says.Swept j s) h = peers-more ps ps' s h
 HasSpans-more ms ms' ps ps' (says.Took s) h = h
 HasSpans-more ms ms' ps ps' _ h = tt
 
--- and so an entry keeps sound
+-- and so an entry fits
 pub IsSound-more : (ms ms' : List MNum) (ps ps' : List PNum) (e : Entry) → FitsLists ms ps [] e → FitsLists (ms ++ ms') (ps ++ ps') [] e
 IsSound-more ms ms' ps ps' e h = record { event = h.event; spans = HasSpans-more ms ms' ps ps' e.made.reply h.spans }
 
--- a new entry is sound where it frees nothing and has no span, or where its span is of what it frees
-pub swept-sound : (ms : List MNum) (ps dead : List PNum) (e : Entry) (j : Marking) (s : Span) → IsNamed e.made.caller e.made.op → e.made.reply ≡ says.Swept j s → s.first ≡ length ps → s.count ≡ length dead → Rises (peer_numbers dead) → FitsLists ms (ps ++ dead) [] e
-swept-sound ms ps dead e j s named is first count rises = record {
+-- a new entry fits where it frees nothing and has no span, or where its span is of what it frees
+pub swept-fits : (ms : List MNum) (ps dead : List PNum) (e : Entry) (j : Marking) (s : Span) → IsNamed e.made.caller e.made.op → e.made.reply ≡ says.Swept j s → s.first ≡ length ps → s.count ≡ length dead → Rises (peer_numbers dead) → FitsLists ms (ps ++ dead) [] e
+swept-fits ms ps dead e j s named is first count rises = record {
   event = named;
   spans = subst (HasSpans ms (ps ++ dead) []) (sym is) (omega (arith, first, count, length-append ps dead), subst (λ l. Rises (peer_numbers l)) (sym (stretch-new ps dead s first count)) rises);
 }
 
-pub snapped-sound : (ms freed : List MNum) (ps : List PNum) (e : Entry) (n : ℕ) (s : Span) → IsNamed e.made.caller e.made.op → e.made.reply ≡ says.Snapped n s → s.first ≡ length ms → s.count ≡ length freed → Rises (managed_numbers freed) → FitsLists (ms ++ freed) ps [] e
-snapped-sound ms freed ps e n s named is first count rises = record {
+pub snapped-fits : (ms freed : List MNum) (ps : List PNum) (e : Entry) (n : ℕ) (s : Span) → IsNamed e.made.caller e.made.op → e.made.reply ≡ says.Snapped n s → s.first ≡ length ms → s.count ≡ length freed → Rises (managed_numbers freed) → FitsLists (ms ++ freed) ps [] e
+snapped-fits ms freed ps e n s named is first count rises = record {
   event = named;
   spans = subst (HasSpans (ms ++ freed) ps []) (sym is) (omega (arith, first, count, length-append ms freed), subst (λ l. Rises (managed_numbers l)) (sym (stretch-new ms freed s first count)) rises);
 }
 
-pub resolved-sound : (ms freed : List MNum) (ps : List PNum) (e : Entry) (s : Span) → IsNamed e.made.caller e.made.op → e.made.reply ≡ says.Freed s → s.first ≡ length ms → s.count ≡ length freed → Rises (managed_numbers freed) → FitsLists (ms ++ freed) ps [] e
-resolved-sound ms freed ps e s named is first count rises = record {
+pub resolved-fits : (ms freed : List MNum) (ps : List PNum) (e : Entry) (s : Span) → IsNamed e.made.caller e.made.op → e.made.reply ≡ says.Freed s → s.first ≡ length ms → s.count ≡ length freed → Rises (managed_numbers freed) → FitsLists (ms ++ freed) ps [] e
+resolved-fits ms freed ps e s named is first count rises = record {
   event = named;
   spans = subst (HasSpans (ms ++ freed) ps []) (sym is) (omega (arith, first, count, length-append ms freed), subst (λ l. Rises (managed_numbers l)) (sym (stretch-new ms freed s first count)) rises);
 }

@@ -108,9 +108,9 @@ step-ran m m' p count count' whole t index o r cites ran step is adds =
     let ps = as_peers p.peers.heap.freed in
     let quiet : IsQuiet ms ps m.managed (answer r m'.managed) = subst (IsQuiet ms ps m.managed) is (event-quiet ms ps m.managed t o step.1) in
     let e : Entry = numbered adds.number (step_made t index o r cites) in
-    let sound : FitsLists ms ps [] e = record { event = event-named t o step.1 step.0 step.2; spans = quiet.spans } in
+    let fits : FitsLists ms ps [] e = record { event = event-named t o step.1 step.0 step.2; spans = quiet.spans } in
     let more : Ran (whole ++ e ∷ []) (m.entries ++ e ∷ []) p.entries (m.managed.heap.freed ++ []) p.peers.heap.freed (count + 1) =
-    Ran-managed whole m.entries p.entries m.managed.heap.freed [] p.peers.heap.freed count e ran adds.drawn.0 (subst (λ l. FitsLists (as_managed l) ps [] e) (sym (append-nil m.managed.heap.freed)) sound) in
+    Ran-managed whole m.entries p.entries m.managed.heap.freed [] p.peers.heap.freed count e ran adds.drawn.0 (subst (λ l. FitsLists (as_managed l) ps [] e) (sym (append-nil m.managed.heap.freed)) fits) in
     let freed : m.managed.heap.freed ++ [] ≡ m'.managed.heap.freed = append-nil m.managed.heap.freed ∙ sym quiet.freed in
     subst (λ l. Ran (whole ++ e ∷ []) m'.entries p.entries l p.peers.heap.freed count') freed
     (subst (λ n. Ran (whole ++ e ∷ []) m'.entries p.entries (m.managed.heap.freed ++ []) p.peers.heap.freed n) (sym adds.drawn.1)

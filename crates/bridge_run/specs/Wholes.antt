@@ -24,5 +24,5 @@ as_peers ps = map as_peer ps
 -- named, and the spans of the replies lie in the lists of freed objects and rise there
 pub record Ran (whole managed peers : List Entry) (freed_managed freed_peers : List ℕ) (count : ℕ) : Type 0 where
   pub shuffle : IsShuffle (managed ∷ peers ∷ []) whole
-  pub sound : All (FitsLists (as_managed freed_managed) (as_peers freed_peers) []) whole
+  pub fits : All (FitsLists (as_managed freed_managed) (as_peers freed_peers) []) whole
   pub drawn : length whole ≡ count

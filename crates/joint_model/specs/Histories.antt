@@ -58,7 +58,7 @@ pub record FitsLists (ms : List MNum) (ps : List PNum) (ns : List MNum) (e : Ent
 -- what every history keeps: the numbers are those from 0 on, each event can be named, each span lies in its list
 pub record IsHistory (h : Finished) : Type 0 where
   pub numbers : NumberedFrom 0 h.entries
-  pub sound : All (FitsLists h.freed_managed h.freed_peers h.notices) h.entries
+  pub fits : All (FitsLists h.freed_managed h.freed_peers h.notices) h.entries
 
 -- the entry stands in the whole list at its number
 abbrev pub IsPlaced : List Entry → Entry → Type 0
@@ -85,8 +85,8 @@ pub record IsShuffle (lists : List (List Entry)) (whole : List Entry) : Type 0 w
 abbrev pub entry_lists : List Stock → List (List Entry)
 entry_lists stocks = map (λ s. s.entries) stocks
 
--- the lists can be joined: they are a shuffle of one whole, whose entries are sound
+-- the lists can be joined: they are a shuffle of one whole, whose entries fit the lists
 pub record IsJoinable (lists : List (List Entry)) (ms : List MNum) (ps : List PNum) (ns : List MNum) : Type 0 where
   pub whole : List Entry
   pub shuffle : IsShuffle lists whole
-  pub sound : All (FitsLists ms ps ns) whole
+  pub fits : All (FitsLists ms ps ns) whole
