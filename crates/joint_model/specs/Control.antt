@@ -51,7 +51,8 @@ pub record Control : Type 0 where
   pub lines : List ℕ
   pub stand : Stand
 
--- nobody has done anything; the place of a managed thread is its number, so that with number 0 is nobody's
+-- nobody has done anything. In `doing` a managed thread's place is its number, so place 0 is nobody's; in `lines` place 0 is the
+-- driver's.
 abbrev pub opening_control : Control
 opening_control = record { doing = replicate 9 free; lines = replicate 17 0; stand = idle }
 
@@ -189,7 +190,7 @@ MayClearNow _ c k cites = ⊥
 
 -- a resolve cites the clear of its cycle, and goes by the answers that the restores gave
 abbrev pub MayResolveNow : Stand → ℕ → Option ℕ → Told → Type 0
-MayResolveNow (restored o answers clear) k cites (resolution_of told freed) = (o.cycle ≡ k) × (cites ≡ Some clear) × (told ≡ answers)
+MayResolveNow (restored o answers clear) k cites (resolution_of said freed) = (o.cycle ≡ k) × (cites ≡ Some clear) × (said ≡ answers)
 MayResolveNow _ k cites told = ⊥
 
 abbrev pub MayAbandonNow : Stand → ℕ → Option ℕ → Type 0

@@ -1,4 +1,4 @@
--- The joint machine's state out of both sides' parts, and what of it both replays give. The one thing in which both meet is
+-- How the joint machine's state is made of both sides' parts, and which of it both replays give. The one thing in which both meet is
 -- whether a handle is removed: a candidate's handle that was cleared leaves the table at its restore, while its row holds it
 -- until the resolution.
 use Rattle.std.specs.Prelude.{ℕ, ◌+◌, Bool, true, false, ◌||◌, ◌&&◌, not, nat_eq, List, [], ◌∷◌, Option, Some, None}

@@ -92,7 +92,7 @@ IsMarkingRoot mk p = InSlot mk.heap p ⊎ Contains mk.strong_peers p ⊎ Contain
 abbrev pub Refers : List (ℕ × ℕ) → ℕ → ℕ → Type 0
 Refers refs p q = Contains refs (p, q)
 
--- a mirrored reference leads from an unfreed peer to another
+-- a mirrored reference leads from an unfreed peer to another unfreed one
 pub record HasReference (h : Heap) (refs : List (ℕ × ℕ)) (p q : ℕ) : Type 0 where
   pub live : IsLive h p
   pub reference : Refers refs p q

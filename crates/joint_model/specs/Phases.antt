@@ -1,5 +1,5 @@
--- The driver's phase as a function of the phase words before it, and the events of each phase. (The life of a bridge cycle is that of
--- SGen's bridge header; the words are this project's own.)
+-- The driver's phase as a function of the phase words before it, and the events of each phase, in a history without an abandoned
+-- cycle. (The life of a bridge cycle is that of SGen's bridge header; the words are this project's own.)
 use Rattle.std.specs.Prelude.{◌≡◌, ℕ, ◌⊎◌, List, [], ◌∷◌, ◌++◌, length, Option, Some, None}
 use Rattle.joint_model.specs.declared.names.Phase.{Phase}
 use Rattle.joint_model.specs.declared.names.Phase.TheVariants as at
@@ -72,7 +72,7 @@ pub record AreTimes (w : PhaseWord) (n : ℕ) (entries : List Entry) : Type 0 wh
   pub count : length entries ≡ n
 
 -- the events of `mark`: a begin; before it, where a peer thread's marking is open, a sweep that ends that marking
-pub record AreSwept (entries : List Entry) : Type 0 where
+pub record AreMarkAfterSweep (entries : List Entry) : Type 0 where
   pub sweep : Entry
   pub begin : Entry
   pub all : entries ≡ sweep ∷ begin ∷ []
@@ -91,7 +91,7 @@ pub record AreRestores (n : ℕ) (entries : List Entry) : Type 0 where
 -- the events of one phase, in a cycle with so many candidates
 abbrev pub ArePhase : ℕ → PhaseWord → List Entry → Type 0
 ArePhase n word.Weaken entries = AreTimes word.Weaken n entries
-ArePhase n word.Mark entries = AreTimes word.Mark 1 entries ⊎ AreSwept entries
+ArePhase n word.Mark entries = AreTimes word.Mark 1 entries ⊎ AreMarkAfterSweep entries
 ArePhase n word.Restore entries = AreRestores n entries
 ArePhase n w entries = AreTimes w 1 entries
 
@@ -109,10 +109,15 @@ abbrev pub ArePhases : ℕ → List PhaseWord → List Entry → Type 0
 ArePhases n [] entries = entries ≡ []
 ArePhases n (w ∷ ws) entries = (own : List Entry) × (rest : List Entry) × (entries ≡ own ++ rest) × ArePhase n w own × ArePhases (candidates_after n own) ws rest
 
--- the reply of a refusal names the driver's phase; that of `cycle` and `snap` names the open cycle
+-- the reply names an open cycle
+abbrev pub NamesCycle : Reply → Type 0
+NamesCycle (says.CycleOpen k) = Unit {0}
+NamesCycle reply = ⊥
+
+-- the reply of a refusal: that of `cycle` and `snap` names the open cycle, each other the driver's phase
 abbrev pub NamesPhase : PhaseWord → Phase → Reply → Type 0
-NamesPhase word.Cycle phase reply = Unit {0}
-NamesPhase word.Snap phase reply = Unit {0}
+NamesPhase word.Cycle phase reply = NamesCycle reply
+NamesPhase word.Snap phase reply = NamesCycle reply
 NamesPhase w phase reply = reply ≡ says.At phase
 
 -- the events of a refused word: its one refusal

@@ -47,7 +47,7 @@ is_set_aside (says.Pending c) = true
 is_set_aside says.Unset = true
 is_set_aside _ = false
 
--- the entry with that number
+-- the entry at that place, which in a history is its number
 abbrev pub IsEntryAt : List Noted → ℕ → Noted → Type 0
 IsEntryAt ns i n = slice_get ns i ≡ Some n
 
@@ -177,7 +177,7 @@ pub record IsLinkedReading (h : Finished) : Type 0 where
 abbrev pub is_aside : Noted → Bool
 is_aside n = is_read n.entry.made.op && is_set_aside n.entry.made.reply
 
--- the joint projection of a history with readers: as that of any history, with these reads set aside
+-- the joint projection of a history with readers: as that of any history (`joint_projection` of `Linked`), with these reads set aside
 abbrev pub reading_projection : List Noted → List Noted
 reading_projection ns = projected is_aside ns
 

@@ -1,37 +1,89 @@
 -- One form of contract for both sides of the bridge: what a side is seen as, what its own list of entries may be, what a call
--- that makes an entry asks of the draw, and what it promises.
-use Rattle.std.specs.Prelude.{◌≡◌, ℕ, ◌+◌, ◌≤◌, ◌↔◌, IsTrue, List, [], ◌∷◌, length, map, Option, None}
+-- that makes entries asks of the draw, and what it promises. What a side has beside its list and its state, as room that was
+-- reserved, stands beside this as numbers.
+use Rattle.std.specs.Prelude.{◌≡◌, ℕ, ◌+◌, ◌≤◌, ◌↔◌, IsTrue, Bool, true, false, List, [], ◌∷◌, length, map, Option, Some, None}
 use Rattle.joint_model.specs.declared.names.MNum.{MNum}
 use Rattle.joint_model.specs.declared.names.Thread.{Thread}
+use Rattle.joint_model.specs.declared.lines.Act.TheVariants as act
 use Rattle.joint_model.specs.declared.events.Entry.{Entry}
 use Rattle.joint_model.specs.declared.events.Made.{Made}
 use Rattle.joint_model.specs.declared.events.Op.{Op}
+use Rattle.joint_model.specs.declared.events.Op.TheVariants as op
+use Rattle.joint_model.specs.declared.events.Reply.{Reply}
+use Rattle.joint_model.specs.declared.events.Reply.TheVariants as says
+use Rattle.joint_model.specs.Components.{Rises}
 use Rattle.joint_model.specs.Draws.{Adds, AllBelow}
-use Rattle.joint_model.specs.Lines.{is_peer_event}
+use Rattle.joint_model.specs.Heaps.{IsLive, place, slot}
+use Rattle.joint_model.specs.Lines.{IsEvent, is_peer_event}
 use Rattle.joint_model.specs.Linked.{ManagedLawful, PeerLawful}
 use Rattle.joint_model.specs.ManagedReplay.{ManagedReplay, opening_replay, managed_answer}
 use Rattle.joint_model.specs.PeerReplay.{PeerReplay, opening_peer_replay, peer_answer}
-use Rattle.joint_model.specs.Told.{Told, Noted}
+use Rattle.joint_model.specs.Run.{thread_number}
+use Rattle.joint_model.specs.Told.{Told, snap_of, resolution_of, Noted}
 
 -- a side: its entries, and the state of its replay after them
 pub record Side (S : Type 0) : Type 0 where
   pub entries : List Entry
   pub state : S
 
--- the definition of one side's list: the state before the first entry, which entry may come next with what is told beside it,
--- and the state after it
+-- the definition of one side's list: the state before the first entry; which entry may come next, with what is told beside it,
+-- and the state after it; the object to which an event may set a cell, the one to which an entry sets it, and the managed
+-- objects that an entry frees
 pub record SideRules (S : Type 0) : Type 1 where
   pub opening : S
   pub lawful : S → Made → Told → Type 0
   pub next : S → Made → Told → S
+  pub may_target : S → Op → MNum → Type 0
+  pub target : S → Made → Option MNum
+  pub frees : Told → List MNum
+
+-- the event is one that a history can have, and is made on this side: the peer side or the managed one
+pub record IsOfSide (is_peer : Bool) (m : Made) : Type 0 where
+  pub event : IsEvent m.caller m.op
+  pub side : is_peer_event m.caller m.op ≡ is_peer
+
+-- a `weak` may set its cell to any live object, unless the cell was ever set
+abbrev pub MaySetCell : ManagedReplay → Op → MNum → Type 0
+MaySetCell s (op.Line (act.Weak k v)) m = (slot s.managed.cells k.0 ≡ None) × IsLive s.managed.heap m.0
+MaySetCell s o m = ⊥
+
+-- the object as an option of a number
+abbrev pub object_or_none : Option ℕ → Option MNum
+object_or_none None = None
+object_or_none (Some x) = Some record { 0 = x }
+
+-- a `weak` that answers ok sets its cell to V's object
+abbrev pub cell_target : ManagedReplay → Thread → Op → Reply → Option MNum
+cell_target s t (op.Line (act.Weak k v)) says.Ok = object_or_none (slot s.managed.heap.vars (place (thread_number t) v.0))
+cell_target s t o reply = None
+
+-- a snap and a resolve free the managed objects that are told
+abbrev pub objects_freed : Told → List MNum
+objects_freed (snap_of freed candidates dead) = map (λ x. record { 0 = x }) freed
+objects_freed (resolution_of answers freed) = map (λ x. record { 0 = x }) freed
+objects_freed told = []
 
 -- the managed side's list
 abbrev pub managed_rules : SideRules ManagedReplay
-managed_rules = record { opening = opening_replay; lawful = ManagedLawful; next = λ s m told. (managed_answer s m.caller m.op told).state }
+managed_rules = record {
+  opening = opening_replay;
+  lawful = λ s m told. IsOfSide false m × ManagedLawful s m told;
+  next = λ s m told. (managed_answer s m.caller m.op told).state;
+  may_target = MaySetCell;
+  target = λ s m. cell_target s m.caller m.op m.reply;
+  frees = objects_freed;
+}
 
--- the peer side's list
+-- the peer side's list: its entries set no cell and free no managed object
 abbrev pub peer_rules : SideRules PeerReplay
-peer_rules = record { opening = opening_peer_replay; lawful = PeerLawful; next = λ s m told. (peer_answer s m.caller m.op m.cites told).state }
+peer_rules = record {
+  opening = opening_peer_replay;
+  lawful = λ s m told. IsOfSide true m × PeerLawful s m told;
+  next = λ s m told. (peer_answer s m.caller m.op m.cites told).state;
+  may_target = λ s o m. ⊥;
+  target = λ s m. None;
+  frees = λ told. [];
+}
 
 -- the entry may come next, and the state is the one after it
 pub record GoesOn {S : Type 0} (r : SideRules S) (old : S) (m : Made) (told : Told) (new : S) : Type 0 where
@@ -43,8 +95,9 @@ abbrev pub LeadsTo : {S : Type 0} → SideRules S → S → List Noted → S →
 LeadsTo r s [] t = t ≡ s
 LeadsTo r s (n ∷ ns) t = r.lawful s n.entry.made n.told × LeadsTo r (r.next s n.entry.made n.told) ns t
 
--- a lawful list has these entries, and the state is the one after it
+-- a side is the replay of its entries: their numbers rise, a lawful list has these entries, and the state is the one after it
 pub record IsReplayed {S : Type 0} (r : SideRules S) (s : Side S) : Type 0 where
+  pub rise : Rises (map (λ e. e.number) s.entries)
   pub noted : List Noted
   pub same : map (λ n. n.entry) noted ≡ s.entries
   pub leads : LeadsTo r r.opening noted s.state
@@ -56,22 +109,34 @@ pub record Drawing (D : Type 0) : Type 1 where
   pub may : D → Thread → Op → Option MNum → Type 0
   pub drew : D → Entry → Option MNum → List MNum → D → Type 0
 
--- what a call that makes an entry asks of the draw: each number of its list lies below the floor, the list can be filled, and
--- the caller may draw for the event
-pub record MayDraw {D : Type 0} (d : Drawing D) (draw : D) (entries : List Entry) (t : Thread) (o : Op) (target : Option MNum) : Type 0 where
-  pub below : AllBelow entries (d.floor draw)
-  pub room : 4294967295 ≤ d.left draw + length entries
-  pub allowed : d.may draw t o target
+-- what a call asks of the draw for each event that it makes: each number of the side's list lies below the floor, the list can
+-- be filled, and the caller may draw for the event, also with each object to which it may set a cell
+pub record MayDraw {S D : Type 0} (r : SideRules S) (d : Drawing D) (draw : D) (s : Side S) (t : Thread) (o : Op) : Type 0 where
+  pub below : AllBelow s.entries (d.floor draw)
+  pub room : 4294967295 ≤ d.left draw + length s.entries
+  pub bare : d.may draw t o None
+  pub targets : (m : MNum) → r.may_target s.state o m → d.may draw t o (Some m)
 
--- what it promises of the draw: what was made was drawn and put last, and nothing else was drawn; what was asked for the list
--- holds again, and no peer event became more or less allowed
+-- what a call promises of the draw: what was made was drawn, with a number that isn't below the floor, and put last, and nothing
+-- else was drawn; what was asked for the list holds again, and no peer event became more or less allowed
 pub record DrawsLast {D : Type 0} (d : Drawing D) (before after : D) (old new : List Entry) (m : Made) (target : Option MNum) (freed : List MNum) : Type 0 where
   pub adds : Adds d.drew before after old new m target freed
+  pub above : d.floor before ≤ adds.number
   pub below : AllBelow new (d.floor after)
   pub room : 4294967295 ≤ d.left after + length new
   pub may : (t : Thread) (o : Op) → IsTrue (is_peer_event t o) → (d.may before t o None ↔ d.may after t o None)
 
--- one call: what was made was drawn and put last, it may come next, and the state is the one after it
-pub record AddsLawful {S D : Type 0} (r : SideRules S) (d : Drawing D) (before after : D) (old new : Side S) (m : Made) (told : Told) (target : Option MNum) (freed : List MNum) : Type 0 where
-  pub draws : DrawsLast d before after old.entries new.entries m target freed
+-- one entry: what was made was drawn and put last, it may come next, and the state is the one after it
+pub record AddsLawful {S D : Type 0} (r : SideRules S) (d : Drawing D) (before after : D) (old new : Side S) (m : Made) (told : Told) : Type 0 where
+  pub draws : DrawsLast d before after old.entries new.entries m (r.target old.state m) (r.frees told)
   pub goes : GoesOn r old.state m told new.state
+
+-- an entry that a call makes, without its number, and what is told beside it
+pub record Making : Type 0 where
+  pub made : Made
+  pub told : Told
+
+-- one entry after another, and nothing else was drawn. With none, as after a refusal, the draw and the side are as before.
+abbrev pub AddsInTurn : {S D : Type 0} → SideRules S → Drawing D → D → D → Side S → Side S → List Making → Type 0
+AddsInTurn r d before after old new [] = (after ≡ before) × (new ≡ old)
+AddsInTurn {S} {D} r d before after old new (m ∷ ms) = (draw : D) × (side : Side S) × AddsLawful r d before draw old side m.made m.told × AddsInTurn r d draw after side new ms
