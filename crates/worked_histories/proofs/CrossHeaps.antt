@@ -3,6 +3,7 @@ use Rattle.std.proofs.Common.{[], ◌∷◌, ◌++◌, refl, arith, false, inl, 
 use Rattle.std.proofs.lemmas.List.Elements.{All-contains_itself}
 use Rattle.joint_model.specs.Linked.{opening_linkage, AllMayCome}
 use Rattle.joint_model.specs.Peers.{held, strong}
+use Rattle.joint_model.specs.Told.{said_cleared}
 use Rattle.worked_histories.specs.CrossHeap.{cross_heap_cycle, passed_on, let_go, collected, once_passed, once_let_go}
 use Rattle.worked_histories.proofs.Entries.{absent, present, AllMayCome-append}
 use Rattle.worked_histories.proofs.ManagedRows.{snapshot, resolution, Decides-answered, dead_contraction}
@@ -90,7 +91,7 @@ collected-lawful = (
                   (
                     record { event = tt; line = omega arith; short = omega arith; lawful = record { allowed = record { mirror = record { cycle = 1; snap = 18; weakened = (1 ∷ 2 ∷ []); restored = (1 ∷ 2 ∷ []) }; stands = refl; same = refl; all = All-contains_itself (1 ∷ 2 ∷ []) }; replies = refl }; order = (refl, refl, refl) },
                     (
-                      record { event = tt; line = omega arith; short = omega arith; lawful = record { allowed = record { cycle = record { number = 1; candidates = (1 ∷ 2 ∷ []); dead = (1 ∷ 2 ∷ []) }; open_cycle = (refl, refl); answers = refl; resolution = resolution _ 1 (1 ∷ 2 ∷ []) _ [] (1 ∷ 2 ∷ []) (Decides-answered (1 ∷ 2 ∷ []) (false ∷ false ∷ [])) refl refl refl }; replies = refl }; order = (refl, refl, refl) },
+                      record { event = tt; line = omega arith; short = omega arith; lawful = record { allowed = record { cycle = record { number = 1; candidates = (1 ∷ 2 ∷ []); dead = (1 ∷ 2 ∷ []) }; open_cycle = (refl, refl); answers = refl; resolution = resolution _ 1 (1 ∷ 2 ∷ []) _ [] (1 ∷ 2 ∷ []) (Decides-answered (1 ∷ 2 ∷ []) (said_cleared ∷ said_cleared ∷ [])) refl refl refl }; replies = refl }; order = (refl, refl, refl) },
                       tt,
                     ),
                   ),

@@ -6,6 +6,7 @@ use Rattle.worked_histories.proofs.JointRows.{unreached}
 use Rattle.worked_histories.proofs.ManagedRows.{snapshot, resolution, Decides-answered}
 use Rattle.worked_histories.proofs.PeerRows.{sweep}
 use Rattle.joint_model.specs.First.{opening_first, AllFirstMayCome}
+use Rattle.joint_model.specs.Told.{said_alive, said_cleared}
 use Rattle.worked_histories.specs.FirstNames.{FirstNamesHold, names_given, kept_cycle, freed_cycle, after_names_given, after_kept_cycle}
 
 pub names_given-lawful : AllFirstMayCome opening_first names_given
@@ -53,7 +54,7 @@ kept_cycle-lawful = (
         (
           record { event = inr tt; line = omega arith; short = omega arith; lawful = record { allowed = refl; replies = refl }; order = (tt, refl); alone = tt },
           (
-            record { event = tt; line = omega arith; short = omega arith; lawful = record { allowed = record { cycle = record { number = 1; candidates = (1 ∷ []); dead = (1 ∷ []) }; open_cycle = (refl, refl); answers = refl; resolution = resolution _ 2 (1 ∷ []) _ (1 ∷ []) [] (Decides-answered (1 ∷ []) (true ∷ [])) refl refl refl }; replies = refl }; order = ((refl, refl), refl); alone = tt },
+            record { event = tt; line = omega arith; short = omega arith; lawful = record { allowed = record { cycle = record { number = 1; candidates = (1 ∷ []); dead = (1 ∷ []) }; open_cycle = (refl, refl); answers = refl; resolution = resolution _ 2 (1 ∷ []) _ (1 ∷ []) [] (Decides-answered (1 ∷ []) (said_alive ∷ [])) refl refl refl }; replies = refl }; order = ((refl, refl), refl); alone = tt },
             tt,
           ),
         ),
@@ -72,7 +73,7 @@ freed_cycle-lawful = (
       (
         record { event = inr tt; line = omega arith; short = omega arith; lawful = record { allowed = refl; replies = refl }; order = (tt, refl); alone = tt },
         (
-          record { event = tt; line = omega arith; short = omega arith; lawful = record { allowed = record { cycle = record { number = 2; candidates = (1 ∷ []); dead = (1 ∷ []) }; open_cycle = (refl, refl); answers = refl; resolution = resolution _ 2 (1 ∷ []) _ [] (1 ∷ []) (Decides-answered (1 ∷ []) (false ∷ [])) refl refl refl }; replies = refl }; order = ((refl, refl), refl); alone = tt },
+          record { event = tt; line = omega arith; short = omega arith; lawful = record { allowed = record { cycle = record { number = 2; candidates = (1 ∷ []); dead = (1 ∷ []) }; open_cycle = (refl, refl); answers = refl; resolution = resolution _ 2 (1 ∷ []) _ [] (1 ∷ []) (Decides-answered (1 ∷ []) (said_cleared ∷ [])) refl refl refl }; replies = refl }; order = ((refl, refl), refl); alone = tt },
           (
             record { event = omega arith; line = omega arith; short = omega arith; lawful = record { allowed = tt; replies = refl }; order = refl; alone = tt },
             tt,

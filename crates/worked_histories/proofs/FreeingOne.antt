@@ -11,7 +11,7 @@ use Rattle.joint_model.specs.declared.events.Reply.TheVariants as says
 use Rattle.joint_model.specs.declared.names.Thread.TheVariants.{C}
 use Rattle.joint_model.specs.Heaps.{IsMade}
 use Rattle.joint_model.specs.Headline.{IsSoundRun, IsCompleteRun, IsCompleteCycle, IsFreedWithPeer, IsUnreachedAt, IsUnreachedBefore, WasUnreached, ResolvesAt, SweepsAt, SnapsAt, IsPeerFreedAt}
-use Rattle.joint_model.specs.Joint.{Joint, opening, graph_of, Row, object, peer, IsReached}
+use Rattle.joint_model.specs.Joint.{Joint, opening, Row, object, peer, IsReached}
 use Rattle.joint_model.specs.Run.{Moment}
 use Rattle.joint_model.specs.Told.{snap_of, sweep_of, resolution_of, nothing, said_cleared, Answer}
 use Rattle.worked_histories.specs.Freeing.{one_run, FreesOneObject}
@@ -48,13 +48,13 @@ swept_marking (says.Swept j s) = j.0
 swept_marking _ = 0
 
 -- nothing reaches a row that isn't computed to be reached
-pub not_reached : (j : Joint) (x : Row) → is_closed row_eq (joint_next (graph_of j)) (joint_roots (graph_of j)) (joint_reach (graph_of j) 4) ≡ true → mem row_eq (joint_reach (graph_of j) 4) x ≡ false → IsReached j x → ⊥
-not_reached j x closed out r = true≢false (sym ((Decides-joint_reached (graph_of j) 4 closed x).1 r) ∙ out)
+pub not_reached : (j : Joint) (x : Row) → is_closed row_eq (joint_next j.graph) (joint_roots j.graph) (joint_reach j.graph 4) ≡ true → mem row_eq (joint_reach j.graph 4) x ≡ false → IsReached j x → ⊥
+not_reached j x closed out r = true≢false (sym ((Decides-joint_reached j.graph 4 closed x).1 r) ∙ out)
 
-pub unreached_at : (i : ℕ) (m : Moment) (x : Row) → slice_get one_run i ≡ Some m → is_closed row_eq (joint_next (graph_of m.after)) (joint_roots (graph_of m.after)) (joint_reach (graph_of m.after) 4) ≡ true → mem row_eq (joint_reach (graph_of m.after) 4) x ≡ false → IsUnreachedAt one_run i x
+pub unreached_at : (i : ℕ) (m : Moment) (x : Row) → slice_get one_run i ≡ Some m → is_closed row_eq (joint_next m.after.graph) (joint_roots m.after.graph) (joint_reach m.after.graph 4) ≡ true → mem row_eq (joint_reach m.after.graph 4) x ≡ false → IsUnreachedAt one_run i x
 unreached_at i m x there closed out n e r = let same : m ≡ n = cc in not_reached m.after x closed out (subst (λ (k : Moment). IsReached k.after x) (sym same) r)
 
-pub unreached_before : (i : ℕ) (m : Moment) (x : Row) → slice_get one_run i ≡ Some m → is_closed row_eq (joint_next (graph_of m.before)) (joint_roots (graph_of m.before)) (joint_reach (graph_of m.before) 4) ≡ true → mem row_eq (joint_reach (graph_of m.before) 4) x ≡ false → IsUnreachedBefore one_run i x
+pub unreached_before : (i : ℕ) (m : Moment) (x : Row) → slice_get one_run i ≡ Some m → is_closed row_eq (joint_next m.before.graph) (joint_roots m.before.graph) (joint_reach m.before.graph 4) ≡ true → mem row_eq (joint_reach m.before.graph 4) x ≡ false → IsUnreachedBefore one_run i x
 unreached_before i m x there closed out n e r = let same : m ≡ n = cc in not_reached m.before x closed out (subst (λ (k : Moment). IsReached k.before x) (sym same) r)
 
 -- the object and its peer were unreached at the begin and just before the sweep
@@ -160,7 +160,7 @@ cycle_complete = record {
   ends_later = omega arith;
   objects = λ m c u. c;
   peers = λ p made u. let same = same_place one_run 4 4 made.moment (moment_at 4) made.there refl refl in
-      let which = only_one p (subst (λ (m : Moment). IsMade m.before.peers.heap p) (sym same) made.made) in
+      let which = only_one p (subst (λ (m : Moment). IsMade m.before.graph.peers.heap p) (sym same) made.made) in
       subst (λ q. IsPeerFreedAt one_run 5 q) (sym which) (record { moment = moment_at 5; there = refl; freed = present (1 ∷ []) 1 refl });
 }
   where

@@ -6,6 +6,7 @@ use Rattle.joint_model.specs.Joint.{opening}
 use Rattle.joint_model.specs.Linked.{opening_linkage, AllMayCome}
 use Rattle.joint_model.specs.Peers.{held, strong}
 use Rattle.joint_model.specs.Run.{IsRunFrom}
+use Rattle.joint_model.specs.Told.{said_alive}
 use Rattle.worked_histories.specs.Moments.{moments_of}
 use Rattle.worked_histories.proofs.Decided.{Rises-from_test}
 use Rattle.worked_histories.proofs.Entries.{absent, present}
@@ -71,7 +72,7 @@ held_peer-lawful = (
                                                     (
                                                       record { event = tt; line = omega arith; short = omega arith; lawful = record { allowed = record { mirror = record { cycle = 1; snap = 17; weakened = (1 ∷ 2 ∷ []); restored = (1 ∷ 2 ∷ []) }; stands = refl; same = refl; all = All-contains_itself (1 ∷ 2 ∷ []) }; replies = refl }; order = (refl, refl, refl) },
                                                       (
-                                                        record { event = tt; line = omega arith; short = omega arith; lawful = record { allowed = record { cycle = record { number = 1; candidates = (1 ∷ 2 ∷ []); dead = (1 ∷ 2 ∷ []) }; open_cycle = (refl, refl); answers = refl; resolution = resolution _ 2 (1 ∷ 2 ∷ []) _ (1 ∷ 2 ∷ []) [] (Decides-answered (1 ∷ 2 ∷ []) (true ∷ true ∷ [])) refl refl refl }; replies = refl }; order = (refl, refl, refl) },
+                                                        record { event = tt; line = omega arith; short = omega arith; lawful = record { allowed = record { cycle = record { number = 1; candidates = (1 ∷ 2 ∷ []); dead = (1 ∷ 2 ∷ []) }; open_cycle = (refl, refl); answers = refl; resolution = resolution _ 2 (1 ∷ 2 ∷ []) _ (1 ∷ 2 ∷ []) [] (Decides-answered (1 ∷ 2 ∷ []) (said_alive ∷ said_alive ∷ [])) refl refl refl }; replies = refl }; order = (refl, refl, refl) },
                                                         tt,
                                                       ),
                                                     ),

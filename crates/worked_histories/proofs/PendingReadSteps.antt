@@ -6,6 +6,7 @@ use Rattle.joint_model.specs.Joint.{opening}
 use Rattle.joint_model.specs.Linked.{opening_linkage, AllMayCome}
 use Rattle.joint_model.specs.Peers.{held, strong}
 use Rattle.joint_model.specs.Run.{IsRunFrom}
+use Rattle.joint_model.specs.Told.{said_cleared}
 use Rattle.worked_histories.specs.Moments.{moments_of}
 use Rattle.worked_histories.proofs.Decided.{Rises-from_test}
 use Rattle.worked_histories.proofs.Entries.{absent, present}
@@ -45,7 +46,7 @@ pending_read-lawful = (
                           (
                             record { event = omega arith; line = omega arith; short = omega arith; lawful = record { allowed = tt; replies = refl }; order = refl },
                             (
-                              record { event = tt; line = omega arith; short = omega arith; lawful = record { allowed = record { cycle = record { number = 1; candidates = (1 ∷ []); dead = (1 ∷ []) }; open_cycle = (refl, refl); answers = refl; resolution = resolution _ 2 (1 ∷ []) _ [] (1 ∷ []) (Decides-answered (1 ∷ []) (false ∷ [])) refl refl refl }; replies = refl }; order = (refl, refl, refl) },
+                              record { event = tt; line = omega arith; short = omega arith; lawful = record { allowed = record { cycle = record { number = 1; candidates = (1 ∷ []); dead = (1 ∷ []) }; open_cycle = (refl, refl); answers = refl; resolution = resolution _ 2 (1 ∷ []) _ [] (1 ∷ []) (Decides-answered (1 ∷ []) (said_cleared ∷ [])) refl refl refl }; replies = refl }; order = (refl, refl, refl) },
                               (
                                 record { event = omega arith; line = omega arith; short = omega arith; lawful = record { allowed = tt; replies = refl }; order = refl },
                                 tt,

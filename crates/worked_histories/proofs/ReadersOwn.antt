@@ -15,7 +15,7 @@ use Rattle.joint_model.specs.declared.lines.Act.TheVariants as act
 use Rattle.joint_model.specs.declared.events.Op.{Op}
 use Rattle.joint_model.specs.declared.events.Op.TheVariants as op
 use Rattle.joint_model.specs.Readers.{MayBePending, MayBeUnset, SnapsCycleAt, EndsCycleAt, SetsCellAt, SetsCell}
-use Rattle.joint_model.specs.Told.{Noted}
+use Rattle.joint_model.specs.Told.{Noted, said_cleared}
 use Rattle.worked_histories.specs.PendingRead.{pending_read}
 use Rattle.worked_histories.specs.Pins.{pinned_object}
 use Rattle.worked_histories.specs.Readings.{pending_after_end, PendingEnds, OwnCellIsSet, cells_of, PendingReadings, PinnedReadings}
@@ -108,7 +108,7 @@ pending-readings = (
                           (
                             (record { event = omega arith; line = omega arith; short = omega arith; order = refl; bare = refl }, λ k e. (refl, pending_there pending_read 4 14 13 (M 1) 1 (record { entry = _; there = refl; event = refl }) (omega arith) (omega arith) refl)),
                             (
-                              record { event = tt; line = omega arith; short = omega arith; lawful = record { allowed = record { cycle = record { number = 1; candidates = (1 ∷ []); dead = (1 ∷ []) }; open_cycle = (refl, refl); answers = refl; resolution = resolution _ 2 (1 ∷ []) _ [] (1 ∷ []) (Decides-answered (1 ∷ []) (false ∷ [])) refl refl refl }; replies = refl }; order = (refl, refl, refl) },
+                              record { event = tt; line = omega arith; short = omega arith; lawful = record { allowed = record { cycle = record { number = 1; candidates = (1 ∷ []); dead = (1 ∷ []) }; open_cycle = (refl, refl); answers = refl; resolution = resolution _ 2 (1 ∷ []) _ [] (1 ∷ []) (Decides-answered (1 ∷ []) (said_cleared ∷ [])) refl refl refl }; replies = refl }; order = (refl, refl, refl) },
                               (
                                 (record { event = omega arith; line = omega arith; short = omega arith; order = refl; bare = refl }, λ k e. rw (← e) refl),
                                 tt,

@@ -16,27 +16,27 @@ use Rattle.worked_histories.proofs.JointRows.{row_eq, joint_next, joint_roots, j
 -- whether a handle leads to a peer that isn't freed
 abbrev pub is_unfreed : Joint → Option ℕ → Bool
 is_unfreed j None = false
-is_unfreed j (Some p) = not (is_freed j.peers.heap p)
+is_unfreed j (Some p) = not (is_freed j.graph.peers.heap p)
 
 abbrev pub holds_unfreed : Joint → Option (Option ℕ) → Bool
 holds_unfreed j None = false
 holds_unfreed j (Some None) = false
-holds_unfreed j (Some (Some h)) = is_unfreed j (peer_of j.peers.issued h)
+holds_unfreed j (Some (Some h)) = is_unfreed j (peer_of j.graph.peers.issued h)
 
-pub Decides-is_unfreed : (j : Joint) (o : Option ℕ) → Decides (is_unfreed j o) ((p : ℕ) × (o ≡ Some p) × (Contains j.peers.heap.freed p → ⊥))
+pub Decides-is_unfreed : (j : Joint) (o : Option ℕ) → Decides (is_unfreed j o) ((p : ℕ) × (o ≡ Some p) × (Contains j.graph.peers.heap.freed p → ⊥))
 Decides-is_unfreed j None = (λ e. absurd (false≢true e), λ q. let e = q.1 in cc)
-Decides-is_unfreed j (Some x) = let d = Decides-not (is_freed j.peers.heap x) (Decides-mem nat_eq Decides-eqb j.peers.heap.freed x) in
-    (λ t. (x, refl, d.0 t), λ q. let e : Some x ≡ Some q.0 = q.1 in let same : q.0 ≡ x = cc in d.1 (subst (λ p. Contains j.peers.heap.freed p → ⊥) same q.2))
+Decides-is_unfreed j (Some x) = let d = Decides-not (is_freed j.graph.peers.heap x) (Decides-mem nat_eq Decides-eqb j.graph.peers.heap.freed x) in
+    (λ t. (x, refl, d.0 t), λ q. let e : Some x ≡ Some q.0 = q.1 in let same : q.0 ≡ x = cc in d.1 (subst (λ p. Contains j.graph.peers.heap.freed p → ⊥) same q.2))
 
-pub Decides-holds_unfreed : (j : Joint) (o : Option (Option ℕ)) → Decides (holds_unfreed j o) ((h : ℕ) × (o ≡ Some (Some h)) × ((p : ℕ) × (peer_of j.peers.issued h ≡ Some p) × (Contains j.peers.heap.freed p → ⊥)))
+pub Decides-holds_unfreed : (j : Joint) (o : Option (Option ℕ)) → Decides (holds_unfreed j o) ((h : ℕ) × (o ≡ Some (Some h)) × ((p : ℕ) × (peer_of j.graph.peers.issued h ≡ Some p) × (Contains j.graph.peers.heap.freed p → ⊥)))
 Decides-holds_unfreed j None = (λ e. absurd (false≢true e), λ q. let e = q.1 in cc)
 Decides-holds_unfreed j (Some None) = (λ e. absurd (false≢true e), λ q. let e = q.1 in cc)
-Decides-holds_unfreed j (Some (Some h)) = let d = Decides-is_unfreed j (peer_of j.peers.issued h) in
-    (λ t. (h, refl, d.0 t), λ q. let e : Some (Some h) ≡ Some (Some q.0) = q.1 in let same : q.0 ≡ h = cc in d.1 (subst (λ g. (p : ℕ) × (peer_of j.peers.issued g ≡ Some p) × (Contains j.peers.heap.freed p → ⊥)) same q.2))
+Decides-holds_unfreed j (Some (Some h)) = let d = Decides-is_unfreed j (peer_of j.graph.peers.issued h) in
+    (λ t. (h, refl, d.0 t), λ q. let e : Some (Some h) ≡ Some (Some q.0) = q.1 in let same : q.0 ≡ h = cc in d.1 (subst (λ g. (p : ℕ) × (peer_of j.graph.peers.issued g ≡ Some p) × (Contains j.graph.peers.heap.freed p → ⊥)) same q.2))
 
 -- the candidates whose peers aren't freed
 abbrev pub is_kept_row : Joint → ℕ → Bool
-is_kept_row j m = is_live j.managed.heap m && holds_unfreed j (numbered_at j.managed.held m)
+is_kept_row j m = is_live j.graph.managed.heap m && holds_unfreed j (numbered_at j.graph.managed.held m)
 
 abbrev pub kept_rows : Joint → OpenCycle → List ℕ
 kept_rows j c = filter (is_kept_row j) c.candidates
@@ -49,8 +49,8 @@ Decides-kept_row j c m = (
       (d.1 (k.holds.live, (k.handle, k.holds.held, (k.peer, k.leads, k.unfreed)))),
 )
   where
-    d : Decides (is_kept_row j m) (IsLive j.managed.heap m × ((h : ℕ) × (numbered_at j.managed.held m ≡ Some (Some h)) × ((p : ℕ) × (peer_of j.peers.issued h ≡ Some p) × (Contains j.peers.heap.freed p → ⊥))))
-    d = Decides-and (is_live j.managed.heap m) (holds_unfreed j (numbered_at j.managed.held m)) (Decides-live j.managed.heap m) (Decides-holds_unfreed j (numbered_at j.managed.held m))
+    d : Decides (is_kept_row j m) (IsLive j.graph.managed.heap m × ((h : ℕ) × (numbered_at j.graph.managed.held m ≡ Some (Some h)) × ((p : ℕ) × (peer_of j.graph.peers.issued h ≡ Some p) × (Contains j.graph.peers.heap.freed p → ⊥))))
+    d = Decides-and (is_live j.graph.managed.heap m) (holds_unfreed j (numbered_at j.graph.managed.held m)) (Decides-live j.graph.managed.heap m) (Decides-holds_unfreed j (numbered_at j.graph.managed.held m))
 
 -- nothing reaches the peers that a sweep frees, and each was unfreed and unreached at the begin
 pub none_reached : (g : Graph) (n : ℕ) (peers : List ℕ) → is_closed row_eq (joint_next g) (joint_roots g) (joint_reach g n) ≡ true → list_all (λ p. not (mem row_eq (joint_reach g n) (peer p))) peers ≡ true → All (λ p. IsReachedIn g (peer p) → ⊥) peers

@@ -1,6 +1,7 @@
 -- The entries of the history of two linked objects may come when they come, part by part.
 use Rattle.std.proofs.Common.{[], ◌∷◌, ◌++◌, refl, arith, false, inr}
 use Rattle.joint_model.specs.First.{opening_first, AllFirstMayCome}
+use Rattle.joint_model.specs.Told.{said_cleared}
 use Rattle.worked_histories.specs.FirstSteps.{two_made, first_cycle, second_cycle, two_linked, after_making, after_first_cycle}
 use Rattle.worked_histories.proofs.Entries.{absent, AllFirstMayCome-append}
 use Rattle.worked_histories.proofs.JointRows.{unreached}
@@ -52,7 +53,7 @@ second_cycle-lawful = (
       (
         record { event = inr tt; line = omega arith; short = omega arith; lawful = record { allowed = refl; replies = refl }; order = (tt, refl); alone = tt },
         (
-          record { event = tt; line = omega arith; short = omega arith; lawful = record { allowed = record { cycle = record { number = 2; candidates = 1 ∷ 2 ∷ []; dead = 1 ∷ 2 ∷ [] }; open_cycle = (refl, refl); answers = refl; resolution = resolution _ 1 (1 ∷ 2 ∷ []) _ [] (1 ∷ 2 ∷ []) (Decides-answered (1 ∷ 2 ∷ []) (false ∷ false ∷ [])) refl refl refl }; replies = refl }; order = ((refl, refl), refl); alone = tt },
+          record { event = tt; line = omega arith; short = omega arith; lawful = record { allowed = record { cycle = record { number = 2; candidates = 1 ∷ 2 ∷ []; dead = 1 ∷ 2 ∷ [] }; open_cycle = (refl, refl); answers = refl; resolution = resolution _ 1 (1 ∷ 2 ∷ []) _ [] (1 ∷ 2 ∷ []) (Decides-answered (1 ∷ 2 ∷ []) (said_cleared ∷ said_cleared ∷ [])) refl refl refl }; replies = refl }; order = ((refl, refl), refl); alone = tt },
           tt,
         ),
       ),

@@ -1,7 +1,7 @@
 -- The history of two linked objects in the form of the first steps is a run.
 use Rattle.std.proofs.Common.{take, [], ◌∷◌, ◌++◌, refl, arith, inl, inr}
 use Rattle.joint_model.specs.First.{FirstLinkage, opening_first, first_replayed}
-use Rattle.joint_model.specs.Joint.{opening, graph_of}
+use Rattle.joint_model.specs.Joint.{opening}
 use Rattle.joint_model.specs.Run.{IsRunFrom}
 use Rattle.worked_histories.specs.Moments.{linked_graph}
 use Rattle.worked_histories.specs.Runs.{first_moments, first_joint, TwoLinkedRun}
@@ -14,7 +14,7 @@ use Rattle.worked_histories.proofs.RunSteps.{Decides-kept_row, none_reached, all
 abbrev pub after_snap : FirstLinkage
 after_snap = first_replayed after_making (take 1 first_cycle)
 
-pub made-runs : IsRunFrom opening (first_moments (graph_of opening) opening_first two_made)
+pub made-runs : IsRunFrom opening (first_moments opening.graph opening_first two_made)
 made-runs = (
   refl,
   record { event = omega arith; step = record { computed = tt; replies = refl; state = refl } },
@@ -41,7 +41,7 @@ made-runs = (
   ),
 )
 
-pub first-runs : IsRunFrom (first_joint after_making (graph_of opening)) (first_moments (graph_of opening) after_making first_cycle)
+pub first-runs : IsRunFrom (first_joint after_making opening.graph) (first_moments opening.graph after_making first_cycle)
 first-runs = (
   refl,
   record { event = tt; step = record { snapshot = snapshot _ 2 1 [] [] [] (record { slots = refl; bridges = refl }) refl refl refl refl refl refl; replies = refl; state = refl } },
@@ -86,6 +86,6 @@ second-runs = (
 pub two_linked-run : TwoLinkedRun
 two_linked-run = record {
   same = refl;
-  steps = IsRunFrom-append opening (first_moments (graph_of opening) opening_first two_made) (first_moments (graph_of opening) after_making first_cycle ++ first_moments (linked_graph after_snap.base) after_first_cycle second_cycle) made-runs
-      (IsRunFrom-append (first_joint after_making (graph_of opening)) (first_moments (graph_of opening) after_making first_cycle) (first_moments (linked_graph after_snap.base) after_first_cycle second_cycle) first-runs second-runs);
+  steps = IsRunFrom-append opening (first_moments opening.graph opening_first two_made) (first_moments opening.graph after_making first_cycle ++ first_moments (linked_graph after_snap.base) after_first_cycle second_cycle) made-runs
+      (IsRunFrom-append (first_joint after_making opening.graph) (first_moments opening.graph after_making first_cycle) (first_moments (linked_graph after_snap.base) after_first_cycle second_cycle) first-runs second-runs);
 }

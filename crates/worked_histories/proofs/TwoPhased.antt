@@ -3,6 +3,7 @@ use Rattle.std.proofs.Common.{[], ◌∷◌, ◌++◌, refl, arith, false, inl, 
 use Rattle.std.proofs.lemmas.List.Elements.{All-contains_itself}
 use Rattle.joint_model.specs.Linked.{opening_linkage, AllMayCome}
 use Rattle.joint_model.specs.Peers.{held, strong}
+use Rattle.joint_model.specs.Told.{said_cleared}
 use Rattle.worked_histories.specs.Phases.{two_phased, reached_cycle, dead_snap, dead_peers, dead_end, making_phased, after_reached, before_mirror, before_resolve}
 use Rattle.worked_histories.specs.FirstSteps.{two_made}
 use Rattle.worked_histories.proofs.Entries.{absent, present, AllMayCome-append}
@@ -95,7 +96,7 @@ swept-lawful = (
 
 pub ended-lawful : AllMayCome before_resolve dead_end
 ended-lawful = (
-  record { event = tt; line = omega arith; short = omega arith; lawful = record { allowed = record { cycle = record { number = 2; candidates = (1 ∷ 2 ∷ []); dead = (1 ∷ 2 ∷ []) }; open_cycle = (refl, refl); answers = refl; resolution = resolution _ 1 (1 ∷ 2 ∷ []) _ [] (1 ∷ 2 ∷ []) (Decides-answered (1 ∷ 2 ∷ []) (false ∷ false ∷ [])) refl refl refl }; replies = refl }; order = (refl, refl, refl) },
+  record { event = tt; line = omega arith; short = omega arith; lawful = record { allowed = record { cycle = record { number = 2; candidates = (1 ∷ 2 ∷ []); dead = (1 ∷ 2 ∷ []) }; open_cycle = (refl, refl); answers = refl; resolution = resolution _ 1 (1 ∷ 2 ∷ []) _ [] (1 ∷ 2 ∷ []) (Decides-answered (1 ∷ 2 ∷ []) (said_cleared ∷ said_cleared ∷ [])) refl refl refl }; replies = refl }; order = (refl, refl, refl) },
   tt,
 )
 

@@ -4,7 +4,7 @@ use Rattle.joint_model.specs.declared.events.Reply.{Reply}
 use Rattle.joint_model.specs.declared.events.Reply.TheVariants as says
 use Rattle.joint_model.specs.First.{AreUnreached}
 use Rattle.joint_model.specs.Joined.{joint_since, graph_at}
-use Rattle.joint_model.specs.Joint.{Joint, Graph, opening, graph_of}
+use Rattle.joint_model.specs.Joint.{Joint, Graph, opening}
 use Rattle.joint_model.specs.Linked.{Linkage, opening_linkage, linkage_after, is_joint, joint_projection}
 use Rattle.joint_model.specs.Run.{Moment, IsRun}
 use Rattle.joint_model.specs.Told.{Noted}
@@ -36,7 +36,7 @@ moments_from begun s (n ∷ ns) = moment_if (is_joint n.entry.made.op)
 
 -- the moments of a linked history
 abbrev pub moments_of : List Noted → List Moment
-moments_of noted = moments_from (graph_of opening) opening_linkage noted
+moments_of noted = moments_from opening.graph opening_linkage noted
 
 -- a begin that opens a marking adds a graph
 abbrev pub graph_if : Reply → Graph → List Graph → List Graph

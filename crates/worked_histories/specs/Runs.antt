@@ -3,7 +3,7 @@
 use Rattle.std.specs.Prelude.{List, [], ◌∷◌}
 use Rattle.joint_model.specs.First.{FirstLinkage, opening_first, first_after}
 use Rattle.joint_model.specs.Joined.{joint_since}
-use Rattle.joint_model.specs.Joint.{Joint, Graph, opening, graph_of}
+use Rattle.joint_model.specs.Joint.{Joint, Graph, opening}
 use Rattle.joint_model.specs.Linked.{joint_projection}
 use Rattle.joint_model.specs.Run.{Moment, IsRun}
 use Rattle.joint_model.specs.Told.{Noted}
@@ -30,7 +30,7 @@ first_moments begun s (n ∷ ns) = record { before = first_joint s begun; noted 
 
 -- each history's projection is a run
 abbrev pub TwoLinkedRun : Type 0
-TwoLinkedRun = IsRun (joint_projection two_linked) (first_moments (graph_of opening) opening_first two_linked)
+TwoLinkedRun = IsRun (joint_projection two_linked) (first_moments opening.graph opening_first two_linked)
 
 abbrev pub TwoPhasedRun : Type 0
 TwoPhasedRun = IsRunOf two_phased ([] ∷ (1 ∷ 2 ∷ []) ∷ [])
