@@ -24,7 +24,7 @@ use Rattle.joint_model.specs.declared.lines.Act.TheVariants as act
 use Rattle.joint_model.specs.Lines.{IsVar, IsVarOrNone, IsManagedAct, IsLine}
 use Rattle.bridge_script.specs.Words.{var_text, optional_text, act_words, line_words, line_text, spaced}
 use Rattle.bridge_script.specs.Grammar.{operation_of, is_built_managed, is_built_driver}
-use Rattle.bridge_script.specs.Scripts.{IsIndexed, IsBuilt}
+use Rattle.bridge_script.specs.Scripts.{IsBuilt}
 
 pub managed_case : (Q : Act → Type 0)
     → ((v : Var) (n f : ℕ) → IsVar v → n ≤ 16 → f ≤ 16 → Q (act.Bridge v kind.Bridge n sort.User f))
@@ -32,15 +32,15 @@ pub managed_case : (Q : Act → Type 0)
     → ((v : Var) (f : ℕ) → IsVar v → f ≤ 16 → Q (act.Bridge v kind.LeafBridge 0 sort.Framework f))
     → ((v : Var) (i : ℕ) (w : Option Var) → IsVar v → i ≤ 255 → IsVarOrNone w → Q (act.Set v i w))
     → ((v : Var) → IsVar v → Q (act.Drop v))
-    → (a : Act) → IsManagedAct a → IsIndexed a → is_built_managed (operation_of a) ≡ true → Q a
-managed_case Q b u w s d (act.Bridge v kind.Bridge n o f) m i e = let R : Sort → Type 0 = λ x. Q (act.Bridge v kind.Bridge n x f) in subst R (sym m.1.1) (b v n f m.0 m.1.0 m.2)
-managed_case Q b u w s d (act.Bridge v kind.LeafBridge n sort.User f) m i e = let R : ℕ → Type 0 = λ x. Q (act.Bridge v kind.LeafBridge x sort.User f) in subst R (sym m.1) (u v f m.0 m.2)
-managed_case Q b u w s d (act.Bridge v kind.LeafBridge n sort.Framework f) m i e = let R : ℕ → Type 0 = λ x. Q (act.Bridge v kind.LeafBridge x sort.Framework f) in subst R (sym m.1) (w v f m.0 m.2)
-managed_case Q b u w s d (act.Bridge v kind.Plain n o f) m i e = absurd m.1
-managed_case Q b u w s d (act.Bridge v kind.Leaf n o f) m i e = absurd m.1
-managed_case Q b u w s d (act.Set v i x) m j e = s v i x m.0 j m.1
-managed_case Q b u w s d (act.Drop v) m i e = d v m
-managed_case Q b u w s d a m i e = absurd (false≢true e)
+    → (a : Act) → IsManagedAct a → is_built_managed (operation_of a) ≡ true → Q a
+managed_case Q b u w s d (act.Bridge v kind.Bridge n o f) m e = let R : Sort → Type 0 = λ x. Q (act.Bridge v kind.Bridge n x f) in subst R (sym m.1.1) (b v n f m.0 m.1.0 m.2)
+managed_case Q b u w s d (act.Bridge v kind.LeafBridge n sort.User f) m e = let R : ℕ → Type 0 = λ x. Q (act.Bridge v kind.LeafBridge x sort.User f) in subst R (sym m.1) (u v f m.0 m.2)
+managed_case Q b u w s d (act.Bridge v kind.LeafBridge n sort.Framework f) m e = let R : ℕ → Type 0 = λ x. Q (act.Bridge v kind.LeafBridge x sort.Framework f) in subst R (sym m.1) (w v f m.0 m.2)
+managed_case Q b u w s d (act.Bridge v kind.Plain n o f) m e = absurd m.1
+managed_case Q b u w s d (act.Bridge v kind.Leaf n o f) m e = absurd m.1
+managed_case Q b u w s d (act.Set v i x) m e = s v i x m.0 m.2 m.1
+managed_case Q b u w s d (act.Drop v) m e = d v m
+managed_case Q b u w s d a m e = absurd (false≢true e)
 
 pub driver_case : (Q : Act → Type 0) → Q (act.PhaseLine phase.Cycle) → (a : Act) → is_built_driver (operation_of a) ≡ true → Q a
 driver_case Q q (act.PhaseLine phase.Cycle) e = q
@@ -48,8 +48,8 @@ driver_case Q q (act.PhaseLine x) e = absurd (false≢true e)
 driver_case Q q a e = absurd (false≢true e)
 
 -- a fact about all lines that are built
-pub built_case : (Q : Thread × Act → Type 0) → ((n : ℕ) (a : Act) → 1 ≤ n → n ≤ 8 → IsManagedAct a → IsIndexed a → is_built_managed (operation_of a) ≡ true → Q (M n, a)) → Q (C, act.PhaseLine phase.Cycle) → (line : Thread × Act) → IsBuilt line → Q line
-built_case Q m c (M n, a) h = m n a h.lawful.0.0 h.lawful.0.1 h.lawful.1 h.indexed h.built
+pub built_case : (Q : Thread × Act → Type 0) → ((n : ℕ) (a : Act) → 1 ≤ n → n ≤ 8 → IsManagedAct a → is_built_managed (operation_of a) ≡ true → Q (M n, a)) → Q (C, act.PhaseLine phase.Cycle) → (line : Thread × Act) → IsBuilt line → Q line
+built_case Q m c (M n, a) h = m n a h.lawful.0.0 h.lawful.0.1 h.lawful.1 h.built
 built_case Q m c (P n, a) h = absurd (false≢true h.built)
 built_case Q m c (C, a) h = driver_case (λ x. Q (C, x)) c a h.built
 
@@ -79,7 +79,7 @@ printed_optional : (w : Option Var) → IsVarOrNone w → Printed (optional_text
 printed_optional None h = printed_code (codes "-") refl
 printed_optional (Some v) h = printed_var v h
 
-printed_managed : (n : ℕ) (a : Act) → IsManagedAct a → IsIndexed a → is_built_managed (operation_of a) ≡ true → AllByRecursion Printed (act_words (M n) a)
+printed_managed : (n : ℕ) (a : Act) → IsManagedAct a → is_built_managed (operation_of a) ≡ true → AllByRecursion Printed (act_words (M n) a)
 printed_managed n = managed_case (λ a. AllByRecursion Printed (act_words (M n) a))
     (λ v k f bv bk bf. (printed_code (codes "bridge") refl, (printed_var v bv, (printed_code (codes "bridge") refl, (printed_digits k (omega arith), (printed_code (codes "user") refl, (printed_digits f (omega arith), tt)))))))
     (λ v f bv bf. (printed_code (codes "bridge") refl, (printed_var v bv, (printed_code (codes "leafbridge") refl, (printed_digits 0 (lit< tt), (printed_code (codes "user") refl, (printed_digits f (omega arith), tt)))))))
@@ -89,7 +89,7 @@ printed_managed n = managed_case (λ a. AllByRecursion Printed (act_words (M n) 
 
 printed_built : (line : Thread × Act) → IsBuilt line → AllByRecursion Printed (line_words line)
 printed_built = built_case (λ line. AllByRecursion Printed (line_words line))
-    (λ n a l m h i e. (All-cons IsPrinted 109 (decimal n) (lit< tt, lit< tt) (printed_digits n (omega arith)), printed_managed n a h i e))
+    (λ n a l m h e. (All-cons IsPrinted 109 (decimal n) (lit< tt, lit< tt) (printed_digits n (omega arith)), printed_managed n a h e))
     (printed_code (codes "c") refl, (printed_code (codes "cycle") refl, tt))
 
 -- the words of a built line's text are its words
@@ -110,7 +110,7 @@ same_number m n p q e = decimal_injective m n (omega arith) (omega arith) e
 
 -- the act has these words, and every managed act with them is the same
 abbrev IsAlone : ℕ → ℕ → Act → Type 0
-IsAlone m n a = (b : Act) → IsManagedAct b → IsIndexed b → is_built_managed (operation_of b) ≡ true → act_words (M m) a ≡ act_words (M n) b → a ≡ b
+IsAlone m n a = (b : Act) → IsManagedAct b → is_built_managed (operation_of b) ≡ true → act_words (M m) a ≡ act_words (M n) b → a ≡ b
 
 alone_bridge : (m n : ℕ) (v : Var) (k f : ℕ) → IsVar v → k ≤ 16 → f ≤ 16 → IsAlone m n (act.Bridge v kind.Bridge k sort.User f)
 alone_bridge m n v k f bv bk bf = managed_case (λ b. act_words (M m) (act.Bridge v kind.Bridge k sort.User f) ≡ act_words (M n) b → act.Bridge v kind.Bridge k sort.User f ≡ b)
@@ -166,7 +166,7 @@ alone_drop m n v bv = managed_case (λ b. act_words (M m) (act.Drop v) ≡ act_w
     (λ v' i w bv' bi bw e. absurd (cc))
     (λ v' bv' e. let ev : v ≡ v' = same_var v v' bv bv' (cc) in cc)
 
-same_managed : (m n : ℕ) (a : Act) → IsManagedAct a → IsIndexed a → is_built_managed (operation_of a) ≡ true → IsAlone m n a
+same_managed : (m n : ℕ) (a : Act) → IsManagedAct a → is_built_managed (operation_of a) ≡ true → IsAlone m n a
 same_managed m n = managed_case (IsAlone m n) (alone_bridge m n) (alone_leaf m n) (alone_framework m n) (alone_set m n) (alone_drop m n)
 
 -- the first byte of the first word
@@ -175,14 +175,14 @@ first_byte words = get_or (get_or words 0 []) 0 0
 
 same_words : (a : Thread × Act) → IsBuilt a → (b : Thread × Act) → IsBuilt b → line_words a ≡ line_words b → a ≡ b
 same_words = built_case (λ a. (b : Thread × Act) → IsBuilt b → line_words a ≡ line_words b → a ≡ b)
-    (λ m x lm gm hx ix ex. built_case (λ b. line_words (M m, x) ≡ line_words b → (M m, x) ≡ b)
-    (λ n y ln gn hy iy ey e.
+    (λ m x lm gm hx ex. built_case (λ b. line_words (M m, x) ≡ line_words b → (M m, x) ≡ b)
+    (λ n y ln gn hy ey e.
     let k : m ≡ n = same_number m n (omega arith) (omega arith) (cc) in
-    let s : x ≡ y = same_managed m n x hx ix ex y hy iy ey (cc) in
+    let s : x ≡ y = same_managed m n x hx ex y hy ey (cc) in
     cc)
     (λ e. absurd (omega (arith, ap first_byte e))))
     (built_case (λ b. line_words (C, act.PhaseLine phase.Cycle) ≡ line_words b → (C, act.PhaseLine phase.Cycle) ≡ b)
-    (λ n y ln gn hy iy ey e. absurd (omega (arith, ap first_byte e)))
+    (λ n y ln gn hy ey e. absurd (omega (arith, ap first_byte e)))
     (λ e. refl))
 
 -- a text is the text of one line
@@ -213,7 +213,7 @@ spaced_some w (x ∷ ws) h = omega (arith, length-append w (32 ∷ spaced (x ∷
 
 -- the text of a line isn't empty
 pub line_some : (line : Thread × Act) → IsBuilt line → 0 < length (line_text line)
-line_some = built_case (λ line. 0 < length (line_text line)) (λ n a l m h i e. spaced_some (109 ∷ decimal n) (act_words (M n) a) (omega arith)) (lit< tt)
+line_some = built_case (λ line. 0 < length (line_text line)) (λ n a l m h e. spaced_some (109 ∷ decimal n) (act_words (M n) a) (omega arith)) (lit< tt)
 
 pub built_in_script : (lines : List (Thread × Act)) (i : ℕ) → All IsBuilt lines → IfSome (slice_get lines i) IsBuilt
 built_in_script lines i h = elim (slice_get_cases lines i).1 [

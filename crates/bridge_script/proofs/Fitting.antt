@@ -34,7 +34,7 @@ lawful_thread C a l = tt
 -- the words of a line that is built have no cause
 pub none_of_built : (line : Thread × Act) → IsBuilt line → (c : Cause) → WordsHave (line_words line) c → ⊥
 none_of_built line b c h =
-    let f = fits_table line.0 line.1 b.lawful b.indexed in
+    let f = fits_table line.0 line.1 b.lawful in
     let reads : Reads (line_words line) line.0 (operation_of line.1) f.places f.rest = record { thread = lawful_thread line.0 line.1 b.lawful; form = f.form; built = b.built; begins = ap (λ ws. thread_text line.0 ∷ ws) f.words } in
     f.none c (has_behind (line_words line) line.0 (operation_of line.1) f.places f.rest reads c h)
 

@@ -57,7 +57,7 @@ lines_first old text end l b = record { here = (b, omega arith); first = after_l
 
 -- a line that is built and is counted asks for a cycle
 asks : (line : Thread × Act) → IsBuilt line → 0 < cond (is_cycle line) 1 0 → AskCycle (line_words line)
-asks = built_case (λ line. 0 < cond (is_cycle line) 1 0 → AskCycle (line_words line)) (λ n a l m h i e c. absurd (omega arith)) (λ c. inl refl)
+asks = built_case (λ line. 0 < cond (is_cycle line) 1 0 → AskCycle (line_words line)) (λ n a l m h e c. absurd (omega arith)) (λ c. inl refl)
 
 after_cycles : (old : List (Thread × Act)) (line : Thread × Act) (end : ℕ) → IsBuilt line → (d : Cause) → Has (behind old (line_text line) end) d → 7 ≤ cause_number d
 after_cycles old line end b cause.Bytes h = lit≤ tt

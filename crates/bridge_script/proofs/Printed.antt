@@ -15,7 +15,7 @@ use Rattle.joint_model.specs.Lines.{IsManagedAct}
 use Rattle.bridge_script.specs.Words.{optional_text, act_words, line_text, spaced}
 use Rattle.bridge_script.specs.Grammar.{operation_of, is_built_managed}
 use Rattle.bridge_script.specs.Lists.{after_spaces}
-use Rattle.bridge_script.specs.Scripts.{IsIndexed, IsBuilt, IsScript, IsText, script_text_of}
+use Rattle.bridge_script.specs.Scripts.{IsBuilt, IsScript, IsText, script_text_of}
 use Rattle.bridge_script.proofs.Built.{managed_case, built_case, line_ascii}
 
 pub spaced_after : (w : List ℕ) (ws : List (List ℕ)) → spaced (w ∷ ws) ≡ w ++ after_spaces ws
@@ -46,7 +46,7 @@ length_after : (ws : List (List ℕ)) → length (after_spaces ws) ≡ sizes ws
 length_after [] = refl
 length_after (w ∷ ws) = omega (arith, length-append w (after_spaces ws), length_after ws)
 
-short_managed : (n : ℕ) (a : Act) → IsManagedAct a → IsIndexed a → is_built_managed (operation_of a) ≡ true → sizes (act_words (M n) a) ≤ 50
+short_managed : (n : ℕ) (a : Act) → IsManagedAct a → is_built_managed (operation_of a) ≡ true → sizes (act_words (M n) a) ≤ 50
 short_managed n = managed_case (λ a. sizes (act_words (M n) a) ≤ 50)
     (λ v k f bv bk bf. omega (arith, short_number k (omega arith), short_number f (omega arith)))
     (λ v f bv bf. omega (arith, short_number 0 (omega arith), short_number f (omega arith)))
@@ -56,7 +56,7 @@ short_managed n = managed_case (λ a. sizes (act_words (M n) a) ≤ 50)
 
 short_line : (line : Thread × Act) → IsBuilt line → length (line_text line) ≤ 100
 short_line = built_case (λ line. length (line_text line) ≤ 100)
-    (λ n a l m h i e. omega (arith, ap length (spaced_after (109 ∷ decimal n) (act_words (M n) a)), length-append (109 ∷ decimal n) (after_spaces (act_words (M n) a)), length_after (act_words (M n) a), short_managed n a h i e, short_number n (omega arith)))
+    (λ n a l m h e. omega (arith, ap length (spaced_after (109 ∷ decimal n) (act_words (M n) a)), length-append (109 ∷ decimal n) (after_spaces (act_words (M n) a)), length_after (act_words (M n) a), short_managed n a h e, short_number n (omega arith)))
     (lit≤ tt)
 
 short_lines : (script : List (Thread × Act)) → All IsBuilt script → length (script_text_of script) ≤ 101 * length script

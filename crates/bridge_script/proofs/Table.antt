@@ -24,7 +24,6 @@ use Rattle.bridge_script.specs.declared.grammar.Place.TheVariants as place
 use Rattle.bridge_script.specs.Words.{var_text, optional_text, managed_static, peer_static, global_text, cell_text, kind_text, sort_text, act_words}
 use Rattle.bridge_script.specs.Grammar.{operation_text, operation_of, form_of, fields, index, count}
 use Rattle.bridge_script.specs.Faults.{HasAt, HasAtSome, Clashes, ClashesAs, PlacesHave}
-use Rattle.bridge_script.specs.Scripts.{IsIndexed}
 use Rattle.bridge_script.specs.Laws.{FitsTable}
 
 -- a word has no cause at a place
@@ -142,49 +141,49 @@ fit_bridge m v kind.Leaf n s f b o h = absurd o
 fit_bridge m v kind.Bridge n s f b o h = fit_object m v kind.Bridge (codes "bridge") n s f refl b fits_bridge o.0 h (λ x. elim x [ inl y ↦ (let e = y.0 in absurd (cc)) | inr y ↦ (let e = y.1 in let u = ap sort_text o.1 in absurd (cc)) ])
 fit_bridge m v kind.LeafBridge n s f b o h = fit_object m v kind.LeafBridge (codes "leafbridge") n s f refl b fits_leaf_bridge (omega arith) h (λ x. elim x [ inl y ↦ y.1 (ap decimal o ∙ zero_text) | inr y ↦ (let e = y.0 in absurd (cc)) ])
 
-fit_managed : (m : ℕ) (a : Act) → IsManagedAct a → IsIndexed a → FitsTable (M m) a
-fit_managed m (act.New v k n) h i = fit_new m v k n h.0 h.1
-fit_managed m (act.Bridge v k n s f) h i = fit_bridge m v k n s f h.0 h.1 h.2
-fit_managed m (act.Copy v w) h i = fit (M m) (act.Copy v w) (place.Var ∷ place.Var ∷ []) (var_text v ∷ var_text w ∷ []) refl refl refl (fit_two _ _ _ _ (fits_var v h.0) (fits_var w h.1)) (λ x. x)
-fit_managed m (act.Set v n w) h i = fit (M m) (act.Set v n w) (place.Var ∷ index ∷ place.VarOrNone ∷ []) (var_text v ∷ decimal n ∷ optional_text w ∷ []) refl refl refl (fit_three _ _ _ _ _ _ (fits_var v h.0) (fits_index n i) (fits_optional w h.1)) (λ x. x)
-fit_managed m (act.Get v w n) h i = fit (M m) (act.Get v w n) (place.Var ∷ place.Var ∷ index ∷ []) (var_text v ∷ var_text w ∷ decimal n ∷ []) refl refl refl (fit_three _ _ _ _ _ _ (fits_var v h.0) (fits_var w h.1) (fits_index n i)) (λ x. x)
-fit_managed m (act.Drop v) h i = fit (M m) (act.Drop v) (place.Var ∷ []) (var_text v ∷ []) refl refl refl (fit_one _ _ (fits_var v h)) (λ x. x)
-fit_managed m (act.Load v x) h i = fit (M m) (act.Load v x) (place.Var ∷ place.ManagedStatic ∷ []) (var_text v ∷ managed_static x ∷ []) refl refl refl (fit_two _ _ _ _ (fits_var v h.0) (fits_managed_static x h.1)) (λ x. x)
-fit_managed m (act.Store x v) h i = fit (M m) (act.Store x v) (place.ManagedStatic ∷ place.VarOrNone ∷ []) (managed_static x ∷ optional_text v ∷ []) refl refl refl (fit_two _ _ _ _ (fits_managed_static x h.0) (fits_optional v h.1)) (λ x. x)
-fit_managed m (act.Weak k v) h i = fit (M m) (act.Weak k v) (place.Cell ∷ place.Var ∷ []) (cell_text k ∷ var_text v ∷ []) refl refl refl (fit_two _ _ _ _ (fits_cell k h.0) (fits_var v h.1)) (λ x. x)
-fit_managed m (act.Read k) h i = fit (M m) (act.Read k) (place.Cell ∷ []) (cell_text k ∷ []) refl refl refl (fit_one _ _ (fits_cell k h)) (λ x. x)
-fit_managed m (act.Await k) h i = fit (M m) (act.Await k) (place.Cell ∷ []) (cell_text k ∷ []) refl refl refl (fit_one _ _ (fits_cell k h)) (λ x. x)
-fit_managed m (act.Take v) h i = fit (M m) (act.Take v) (place.Var ∷ []) (var_text v ∷ []) refl refl refl (fit_one _ _ (fits_var v h)) (λ x. x)
-fit_managed m (act.Pass v x) h i = fit (M m) (act.Pass v x) (place.Var ∷ place.PeerStatic ∷ []) (var_text v ∷ peer_static x ∷ []) refl refl refl (fit_two _ _ _ _ (fits_var v h.0) (fits_peer_static x h.1)) (λ x. x)
-fit_managed m (act.Surface v x) h i = fit (M m) (act.Surface v x) (place.Var ∷ place.PeerStatic ∷ []) (var_text v ∷ peer_static x ∷ []) refl refl refl (fit_two _ _ _ _ (fits_var v h.0) (fits_peer_static x h.1)) (λ x. x)
-fit_managed m (act.Dispose v) h i = fit (M m) (act.Dispose v) (place.Var ∷ []) (var_text v ∷ []) refl refl refl (fit_one _ _ (fits_var v h)) (λ x. x)
-fit_managed m (act.Handle v) h i = fit (M m) (act.Handle v) (place.Var ∷ []) (var_text v ∷ []) refl refl refl (fit_one _ _ (fits_var v h)) (λ x. x)
-fit_managed m a h i = absurd h
+fit_managed : (m : ℕ) (a : Act) → IsManagedAct a → FitsTable (M m) a
+fit_managed m (act.New v k n) h = fit_new m v k n h.0 h.1
+fit_managed m (act.Bridge v k n s f) h = fit_bridge m v k n s f h.0 h.1 h.2
+fit_managed m (act.Copy v w) h = fit (M m) (act.Copy v w) (place.Var ∷ place.Var ∷ []) (var_text v ∷ var_text w ∷ []) refl refl refl (fit_two _ _ _ _ (fits_var v h.0) (fits_var w h.1)) (λ x. x)
+fit_managed m (act.Set v n w) h = fit (M m) (act.Set v n w) (place.Var ∷ index ∷ place.VarOrNone ∷ []) (var_text v ∷ decimal n ∷ optional_text w ∷ []) refl refl refl (fit_three _ _ _ _ _ _ (fits_var v h.0) (fits_index n h.2) (fits_optional w h.1)) (λ x. x)
+fit_managed m (act.Get v w n) h = fit (M m) (act.Get v w n) (place.Var ∷ place.Var ∷ index ∷ []) (var_text v ∷ var_text w ∷ decimal n ∷ []) refl refl refl (fit_three _ _ _ _ _ _ (fits_var v h.0) (fits_var w h.1) (fits_index n h.2)) (λ x. x)
+fit_managed m (act.Drop v) h = fit (M m) (act.Drop v) (place.Var ∷ []) (var_text v ∷ []) refl refl refl (fit_one _ _ (fits_var v h)) (λ x. x)
+fit_managed m (act.Load v x) h = fit (M m) (act.Load v x) (place.Var ∷ place.ManagedStatic ∷ []) (var_text v ∷ managed_static x ∷ []) refl refl refl (fit_two _ _ _ _ (fits_var v h.0) (fits_managed_static x h.1)) (λ x. x)
+fit_managed m (act.Store x v) h = fit (M m) (act.Store x v) (place.ManagedStatic ∷ place.VarOrNone ∷ []) (managed_static x ∷ optional_text v ∷ []) refl refl refl (fit_two _ _ _ _ (fits_managed_static x h.0) (fits_optional v h.1)) (λ x. x)
+fit_managed m (act.Weak k v) h = fit (M m) (act.Weak k v) (place.Cell ∷ place.Var ∷ []) (cell_text k ∷ var_text v ∷ []) refl refl refl (fit_two _ _ _ _ (fits_cell k h.0) (fits_var v h.1)) (λ x. x)
+fit_managed m (act.Read k) h = fit (M m) (act.Read k) (place.Cell ∷ []) (cell_text k ∷ []) refl refl refl (fit_one _ _ (fits_cell k h)) (λ x. x)
+fit_managed m (act.Await k) h = fit (M m) (act.Await k) (place.Cell ∷ []) (cell_text k ∷ []) refl refl refl (fit_one _ _ (fits_cell k h)) (λ x. x)
+fit_managed m (act.Take v) h = fit (M m) (act.Take v) (place.Var ∷ []) (var_text v ∷ []) refl refl refl (fit_one _ _ (fits_var v h)) (λ x. x)
+fit_managed m (act.Pass v x) h = fit (M m) (act.Pass v x) (place.Var ∷ place.PeerStatic ∷ []) (var_text v ∷ peer_static x ∷ []) refl refl refl (fit_two _ _ _ _ (fits_var v h.0) (fits_peer_static x h.1)) (λ x. x)
+fit_managed m (act.Surface v x) h = fit (M m) (act.Surface v x) (place.Var ∷ place.PeerStatic ∷ []) (var_text v ∷ peer_static x ∷ []) refl refl refl (fit_two _ _ _ _ (fits_var v h.0) (fits_peer_static x h.1)) (λ x. x)
+fit_managed m (act.Dispose v) h = fit (M m) (act.Dispose v) (place.Var ∷ []) (var_text v ∷ []) refl refl refl (fit_one _ _ (fits_var v h)) (λ x. x)
+fit_managed m (act.Handle v) h = fit (M m) (act.Handle v) (place.Var ∷ []) (var_text v ∷ []) refl refl refl (fit_one _ _ (fits_var v h)) (λ x. x)
+fit_managed m a h = absurd h
 
-fit_peer : (m : ℕ) (a : Act) → IsPeerAct a → IsIndexed a → FitsTable (P m) a
-fit_peer m (act.Copy v w) h i = fit (P m) (act.Copy v w) (place.Var ∷ place.Var ∷ []) (var_text v ∷ var_text w ∷ []) refl refl refl (fit_two _ _ _ _ (fits_var v h.0) (fits_var w h.1)) (λ x. x)
-fit_peer m (act.Set v n w) h i = fit (P m) (act.Set v n w) (place.Var ∷ index ∷ place.VarOrNone ∷ []) (var_text v ∷ decimal n ∷ optional_text w ∷ []) refl refl refl (fit_three _ _ _ _ _ _ (fits_var v h.0) (fits_index n i) (fits_optional w h.1)) (λ x. x)
-fit_peer m (act.Get v w n) h i = fit (P m) (act.Get v w n) (place.Var ∷ place.Var ∷ index ∷ []) (var_text v ∷ var_text w ∷ decimal n ∷ []) refl refl refl (fit_three _ _ _ _ _ _ (fits_var v h.0) (fits_var w h.1) (fits_index n i)) (λ x. x)
-fit_peer m (act.Drop v) h i = fit (P m) (act.Drop v) (place.Var ∷ []) (var_text v ∷ []) refl refl refl (fit_one _ _ (fits_var v h)) (λ x. x)
-fit_peer m (act.Load v x) h i = fit (P m) (act.Load v x) (place.Var ∷ place.PeerStatic ∷ []) (var_text v ∷ peer_static x ∷ []) refl refl refl (fit_two _ _ _ _ (fits_var v h.0) (fits_peer_static x h.1)) (λ x. x)
-fit_peer m (act.Store x v) h i = fit (P m) (act.Store x v) (place.PeerStatic ∷ place.VarOrNone ∷ []) (peer_static x ∷ optional_text v ∷ []) refl refl refl (fit_two _ _ _ _ (fits_peer_static x h.0) (fits_optional v h.1)) (λ x. x)
-fit_peer m (act.NewPeer v n) h i = fit (P m) (act.NewPeer v n) (place.Var ∷ fields ∷ []) (var_text v ∷ decimal n ∷ []) refl refl refl (fit_two _ _ _ _ (fits_var v h.0) (fits_fields n h.1)) (λ x. x)
-fit_peer m (act.Global g v) h i = fit (P m) (act.Global g v) (place.Global ∷ place.Var ∷ []) (global_text g ∷ var_text v ∷ []) refl refl refl (fit_two _ _ _ _ (fits_global g h.0) (fits_var v h.1)) (λ x. x)
-fit_peer m (act.WGlobal g v) h i = fit (P m) (act.WGlobal g v) (place.Global ∷ place.Var ∷ []) (global_text g ∷ var_text v ∷ []) refl refl refl (fit_two _ _ _ _ (fits_global g h.0) (fits_var v h.1)) (λ x. x)
-fit_peer m (act.UnGlobal g) h i = fit (P m) (act.UnGlobal g) (place.Global ∷ []) (global_text g ∷ []) refl refl refl (fit_one _ _ (fits_global g h)) (λ x. x)
-fit_peer m (act.WRead v g) h i = fit (P m) (act.WRead v g) (place.Var ∷ place.Global ∷ []) (var_text v ∷ global_text g ∷ []) refl refl refl (fit_two _ _ _ _ (fits_var v h.0) (fits_global g h.1)) (λ x. x)
-fit_peer m act.Collect h i = fit (P m) act.Collect [] [] refl refl refl fit_none (λ x. x)
-fit_peer m act.BeginMark h i = fit (P m) act.BeginMark [] [] refl refl refl fit_none (λ x. x)
-fit_peer m (act.Slice n) h i = fit (P m) (act.Slice n) (count ∷ []) (decimal n ∷ []) refl refl refl (fit_one _ _ (fits_count n h.0 h.1)) (λ x. x)
-fit_peer m act.SweepMark h i = fit (P m) act.SweepMark [] [] refl refl refl fit_none (λ x. x)
-fit_peer m a h i = absurd h
+fit_peer : (m : ℕ) (a : Act) → IsPeerAct a → FitsTable (P m) a
+fit_peer m (act.Copy v w) h = fit (P m) (act.Copy v w) (place.Var ∷ place.Var ∷ []) (var_text v ∷ var_text w ∷ []) refl refl refl (fit_two _ _ _ _ (fits_var v h.0) (fits_var w h.1)) (λ x. x)
+fit_peer m (act.Set v n w) h = fit (P m) (act.Set v n w) (place.Var ∷ index ∷ place.VarOrNone ∷ []) (var_text v ∷ decimal n ∷ optional_text w ∷ []) refl refl refl (fit_three _ _ _ _ _ _ (fits_var v h.0) (fits_index n h.2) (fits_optional w h.1)) (λ x. x)
+fit_peer m (act.Get v w n) h = fit (P m) (act.Get v w n) (place.Var ∷ place.Var ∷ index ∷ []) (var_text v ∷ var_text w ∷ decimal n ∷ []) refl refl refl (fit_three _ _ _ _ _ _ (fits_var v h.0) (fits_var w h.1) (fits_index n h.2)) (λ x. x)
+fit_peer m (act.Drop v) h = fit (P m) (act.Drop v) (place.Var ∷ []) (var_text v ∷ []) refl refl refl (fit_one _ _ (fits_var v h)) (λ x. x)
+fit_peer m (act.Load v x) h = fit (P m) (act.Load v x) (place.Var ∷ place.PeerStatic ∷ []) (var_text v ∷ peer_static x ∷ []) refl refl refl (fit_two _ _ _ _ (fits_var v h.0) (fits_peer_static x h.1)) (λ x. x)
+fit_peer m (act.Store x v) h = fit (P m) (act.Store x v) (place.PeerStatic ∷ place.VarOrNone ∷ []) (peer_static x ∷ optional_text v ∷ []) refl refl refl (fit_two _ _ _ _ (fits_peer_static x h.0) (fits_optional v h.1)) (λ x. x)
+fit_peer m (act.NewPeer v n) h = fit (P m) (act.NewPeer v n) (place.Var ∷ fields ∷ []) (var_text v ∷ decimal n ∷ []) refl refl refl (fit_two _ _ _ _ (fits_var v h.0) (fits_fields n h.1)) (λ x. x)
+fit_peer m (act.Global g v) h = fit (P m) (act.Global g v) (place.Global ∷ place.Var ∷ []) (global_text g ∷ var_text v ∷ []) refl refl refl (fit_two _ _ _ _ (fits_global g h.0) (fits_var v h.1)) (λ x. x)
+fit_peer m (act.WGlobal g v) h = fit (P m) (act.WGlobal g v) (place.Global ∷ place.Var ∷ []) (global_text g ∷ var_text v ∷ []) refl refl refl (fit_two _ _ _ _ (fits_global g h.0) (fits_var v h.1)) (λ x. x)
+fit_peer m (act.UnGlobal g) h = fit (P m) (act.UnGlobal g) (place.Global ∷ []) (global_text g ∷ []) refl refl refl (fit_one _ _ (fits_global g h)) (λ x. x)
+fit_peer m (act.WRead v g) h = fit (P m) (act.WRead v g) (place.Var ∷ place.Global ∷ []) (var_text v ∷ global_text g ∷ []) refl refl refl (fit_two _ _ _ _ (fits_var v h.0) (fits_global g h.1)) (λ x. x)
+fit_peer m act.Collect h = fit (P m) act.Collect [] [] refl refl refl fit_none (λ x. x)
+fit_peer m act.BeginMark h = fit (P m) act.BeginMark [] [] refl refl refl fit_none (λ x. x)
+fit_peer m (act.Slice n) h = fit (P m) (act.Slice n) (count ∷ []) (decimal n ∷ []) refl refl refl (fit_one _ _ (fits_count n h.0 h.1)) (λ x. x)
+fit_peer m act.SweepMark h = fit (P m) act.SweepMark [] [] refl refl refl fit_none (λ x. x)
+fit_peer m a h = absurd h
 
 fit_driver : (a : Act) → IsDriverAct a → FitsTable C a
 fit_driver (act.PhaseLine w) h = fit C (act.PhaseLine w) [] [] refl refl refl fit_none (λ x. x)
 fit_driver (act.Finalise n) h = fit C (act.Finalise n) (count ∷ []) (decimal n ∷ []) refl refl refl (fit_one _ _ (fits_count n h.0 h.1)) (λ x. x)
 fit_driver a h = absurd h
 
-pub fits_table : (t : Thread) (a : Act) → IsLine t a → IsIndexed a → FitsTable t a
-fits_table (M m) a l i = fit_managed m a l.1 i
-fits_table (P m) a l i = fit_peer m a l.1 i
-fits_table C a l i = fit_driver a l
+pub fits_table : (t : Thread) (a : Act) → IsLine t a → FitsTable t a
+fits_table (M m) a l = fit_managed m a l.1
+fits_table (P m) a l = fit_peer m a l.1
+fits_table C a l = fit_driver a l

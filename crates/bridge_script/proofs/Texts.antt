@@ -90,7 +90,7 @@ weight b = cond b 1 0
 -- a line that is built and asks for a cycle is one that is counted
 counted : (line : Thread × Act) → IsBuilt line → AskCycle (line_words line) → is_cycle line ≡ true
 counted = built_case (λ line. AskCycle (line_words line) → is_cycle line ≡ true)
-    (λ n a l m h i e q. absurd (elim q [ inl x ↦ omega (arith, ap first_byte x) | inr x ↦ omega (arith, ap first_byte x) ]))
+    (λ n a l m h e q. absurd (elim q [ inl x ↦ omega (arith, ap first_byte x) | inr x ↦ omega (arith, ap first_byte x) ]))
     (λ q. refl)
 
 -- a line that a script goes on with has no cause where it stands

@@ -9,7 +9,7 @@ use Rattle.bridge_script.specs.declared.grammar.Place.{Place}
 use Rattle.bridge_script.specs.Words.{act_words, line_text}
 use Rattle.bridge_script.specs.Grammar.{operation_text, operation_of, form_of}
 use Rattle.bridge_script.specs.Faults.{PlacesHave, Has}
-use Rattle.bridge_script.specs.Scripts.{IsIndexed, IsScript, IsText, IsFault, IsNoText, script_text_of, standing, end_of}
+use Rattle.bridge_script.specs.Scripts.{IsScript, IsText, IsFault, IsNoText, script_text_of, standing, end_of}
 
 -- a text is a text of one script
 abbrev pub HasOneScript : Type 0
@@ -47,4 +47,4 @@ pub record FitsTable (t : Thread) (a : Act) : Type 0 where
 
 -- each line that a script can ever have, built or not, fits the table
 abbrev pub LinesFitTable : Type 0
-LinesFitTable = (t : Thread) (a : Act) → IsLine t a → IsIndexed a → FitsTable t a
+LinesFitTable = (t : Thread) (a : Act) → IsLine t a → FitsTable t a

@@ -13,16 +13,9 @@ use Rattle.bridge_script.specs.Words.{line_text}
 use Rattle.bridge_script.specs.Grammar.{operation_of, is_built}
 use Rattle.bridge_script.specs.Faults.{Standing, IsFirst, Has, words_of}
 
--- the index of a field is at most 255 (other numbers are within their limits where the line is lawful)
-abbrev pub IsIndexed : Act → Type 0
-IsIndexed (act.Set v i w) = i ≤ 255
-IsIndexed (act.Get v w i) = i ≤ 255
-IsIndexed _ = Unit {0}
-
 -- the line is one of those that are built
 pub record IsBuilt (line : Thread × Act) : Type 0 where
   pub lawful : IsLine line.0 line.1
-  pub indexed : IsIndexed line.1
   pub built : is_built line.0 (operation_of line.1) ≡ true
 
 -- whether a line is `c cycle` or `c snap`

@@ -13,7 +13,7 @@ use Rattle.bridge_script.specs.declared.grammar.Place.{Place}
 use Rattle.bridge_script.specs.Words.{thread_text, act_words, line_text}
 use Rattle.bridge_script.specs.Grammar.{operation_text, operation_of, managed_form}
 use Rattle.bridge_script.specs.Faults.{HasAt, PlacesHave, WordsHave, Standing, IsFirst, Has, words_of}
-use Rattle.bridge_script.specs.Scripts.{IsIndexed, IsBuilt, IsScript, cycles_of}
+use Rattle.bridge_script.specs.Scripts.{IsBuilt, IsScript, cycles_of}
 
 -- the one cause that a word has at a place, or none
 abbrev pub IsOnlyAt : Place → List ℕ → Option Cause → Type 0
@@ -26,7 +26,6 @@ Checks has result = MatchResult result (λ _. (c : Cause) → has c → ⊥) (λ
 -- the act of an operation that these words behind it ask of a managed thread
 pub record Asks (o : Operation) (words : List (List ℕ)) (a : Act) : Type 0 where
   pub managed : IsManagedAct a
-  pub indexed : IsIndexed a
   pub operation : operation_of a ≡ o
   pub reads : (n : ℕ) → act_words (M n) a ≡ operation_text o ∷ words
 

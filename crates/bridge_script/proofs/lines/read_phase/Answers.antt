@@ -13,4 +13,4 @@ returns-in_err-check c = rw (passed_on c.from_residual.result c.in_err-check.fie
     record { thread = tt; form = refl; built = c.requires; begins = refl } c.in_err-check.field-0.0 c.in_err-check.ensures)
 
 pub returns : goal.returns
-returns c = (record { lawful = tt; indexed = tt; built = c.requires }, ap (λ ws. phase_word_text c.args.word ∷ ws) (sym (none_left (Phase c.args.word) c.args.words.now c.in_ok-check.ensures)))
+returns c = (record { lawful = tt; built = c.requires }, ap (λ ws. phase_word_text c.args.word ∷ ws) (sym (none_left (Phase c.args.word) c.args.words.now c.in_ok-check.ensures)))
