@@ -6,3 +6,4 @@ pub mod HeapLemmas
 pub mod DrawnInTurn
 pub mod Joining
 pub mod WalkLemmas
+pub mod HistoryLists

@@ -1,44 +1,17 @@
 -- Two linked histories with the same notes are the same: the entries are those of the notes, the freed lists are what
 -- the replay of the notes frees, and the notices that were taken, or all that were queued, are those of the replay.
-use Rattle.std.proofs.Common.{◌≡◌, ℕ, zero, suc, List, [], ◌∷◌, map, take, refl, sym, ◌∙◌, ap, subst}
+use Rattle.std.proofs.Common.{◌≡◌, List, take, sym, ◌∙◌, ap, subst}
 use Rattle.joint_model.specs.declared.names.Thread.{Thread}
-use Rattle.joint_model.specs.declared.names.MNum.{MNum}
-use Rattle.joint_model.specs.declared.names.PNum.{PNum}
 use Rattle.joint_model.specs.declared.lines.Act.{Act}
 use Rattle.joint_model.specs.Draws.{NumberedFrom}
 use Rattle.joint_model.specs.First.{IsFirstLinked, IsFirstLinkedBy, opening_first, first_replayed, first_end}
-use Rattle.joint_model.specs.Histories.{Finished, managed_numbers, peer_numbers}
+use Rattle.joint_model.specs.Histories.{Finished, managed_numbers}
 use Rattle.joint_model.specs.Told.{Noted}
+use Rattle.joint_model.proofs.HistoryLists.{managed-one, peers-one, four-lists, numbers-take}
 use Rattle.script_histories.specs.Holding.{HoldsLines}
 use Rattle.script_histories.specs.Laws.{IsOneHistory}
 use Rattle.script_histories.proofs.Counting.{AllCountedMayCome, opening_counted, all-counted}
 use Rattle.script_histories.proofs.OneHistory.{entries_of, lines-one}
-
--- lists with the same numbers, where a number tells its element
-numbers-tell : {X : Type 0} (f : X → ℕ) → ((x y : X) → f x ≡ f y → x ≡ y) → (xs ys : List X) → map f xs ≡ map f ys → xs ≡ ys
-numbers-tell f one [] [] e = refl
-numbers-tell f one [] (y ∷ ys) e = absurd (cc)
-numbers-tell f one (x ∷ xs) [] e = absurd (cc)
-numbers-tell f one (x ∷ xs) (y ∷ ys) e =
-    let first : x ≡ y = one x y (cc) in
-    let rest : xs ≡ ys = numbers-tell f one xs ys (cc) in
-    cc
-
-managed-one : (xs ys : List MNum) → managed_numbers xs ≡ managed_numbers ys → xs ≡ ys
-managed-one = numbers-tell (λ (m : MNum). m.0) (λ x y e i. record { 0 = e i })
-
-peers-one : (xs ys : List PNum) → peer_numbers xs ≡ peer_numbers ys → xs ≡ ys
-peers-one = numbers-tell (λ (p : PNum). p.0) (λ x y e i. record { 0 = e i })
-
--- a history is its four lists
-four-lists : (h h' : Finished) → h.entries ≡ h'.entries → h.freed_managed ≡ h'.freed_managed → h.freed_peers ≡ h'.freed_peers → h.notices ≡ h'.notices → h ≡ h'
-four-lists h h' e m p n = λ i. record { entries = e i; freed_managed = m i; freed_peers = p i; notices = n i }
-
-numbers-take : (k : ℕ) (xs : List MNum) → managed_numbers (take k xs) ≡ take k (managed_numbers xs)
-numbers-take zero [] = refl
-numbers-take zero (x ∷ xs) = refl
-numbers-take (suc k) [] = refl
-numbers-take (suc k) (x ∷ xs) = ap (λ l. x.0 ∷ l) (numbers-take k xs)
 
 pub notes-tell : (h h' : Finished) (a : IsFirstLinked h) (b : IsFirstLinked h') → a.noted ≡ b.noted → IsOneHistory h h' a b
 notes-tell h h' a b e =

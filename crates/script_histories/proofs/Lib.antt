@@ -12,4 +12,5 @@ pub mod Plain
 pub mod Reading
 pub mod Known
 pub mod Knowing
+pub mod TextLines
 pub mod OneText

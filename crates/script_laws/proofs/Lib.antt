@@ -1,0 +1,10 @@
+pub mod OneNote
+pub mod Retelling
+pub mod Sharing
+pub mod Lining
+pub mod Finishing
+pub mod Ending
+pub mod Events
+pub mod OneText
+pub mod SmallHistory
+pub mod OwnCycles

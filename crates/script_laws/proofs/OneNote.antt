@@ -1,0 +1,219 @@
+-- In one state, two entries that may come, told plainly, and have the same caller, line and event are the same, with what is told
+-- beside them; of two refusals the phases that the replies name have to be the same.
+use Rattle.std.proofs.Common.{◌≡◌, ℕ, Bool, true, false, List, length, Option, Some, None, refl, sym, ◌∙◌, ap, subst}
+use Rattle.joint_model.specs.declared.names.Thread.{Thread}
+use Rattle.joint_model.specs.declared.names.Thread.TheVariants.{M, P, C}
+use Rattle.joint_model.specs.declared.names.Cycle.{Cycle}
+use Rattle.joint_model.specs.declared.names.Phase.{Phase}
+use Rattle.joint_model.specs.declared.names.PhaseWord.{PhaseWord}
+use Rattle.joint_model.specs.declared.names.PhaseWord.TheVariants as word
+use Rattle.joint_model.specs.declared.events.Op.{Op}
+use Rattle.joint_model.specs.declared.events.Op.TheVariants as op
+use Rattle.joint_model.specs.declared.events.Reply.{Reply}
+use Rattle.joint_model.specs.declared.events.Reply.TheVariants as says
+use Rattle.joint_model.specs.declared.events.Made.{Made}
+use Rattle.joint_model.specs.Control.{Doing, free, made, lent, gripped, given, met, Stand, idle, snapped, contracted, weakening, marked, restoring, restored, doing_at, candidates_of, MayStart, MayAdopt, MayLand, MayMeet, MayRelease, ThreadAllows, MaySnap, MayContractNow, MayMirrorNow, MayWeakenNow, MayBeginNow, MaySweepNow, MayRestoreNow, MayClearNow, MayResolveNow, MayAbandonNow, MayRefuseNow, DriverAllows, CallerAllows, IsPhaseOf}
+use Rattle.joint_model.specs.Lines.{IsEvent, is_peer_event}
+use Rattle.joint_model.specs.Linked.{Linkage, MayCome, SideLawful}
+use Rattle.joint_model.specs.Managed.{Managed}
+use Rattle.joint_model.specs.ManagedReplay.{ManagedReplay, managed_answer, refusal_to}
+use Rattle.joint_model.specs.PeerReplay.{peer_answer}
+use Rattle.joint_model.specs.Peers.{Issued}
+use Rattle.joint_model.specs.Told.{Told, Noted, references_of, resolution_of, phase_of, Answer}
+use Rattle.known_laws.specs.Known.{TellsPlainly}
+use Rattle.known_laws.proofs.OneContraction.{is_one_contraction}
+use Rattle.known_laws.proofs.Telling.{IsTelling, managed_told, peer_told, mirrors, resolves_alike, phases, seen-cycle, seen-snap}
+
+start-cites : (d : Doing) (c c' : Option ℕ) → MayStart d c → MayStart d c' → c ≡ c'
+start-cites free c c' a b = a ∙ sym b
+start-cites (made n line p h sort f) c c' a b = a ∙ sym b
+start-cites (lent n line h x) c c' a b = a ∙ sym b
+start-cites (gripped n line p h sort f) c c' a b = a ∙ sym b
+start-cites (given n line h) c c' a b = absurd a
+start-cites (met n line h) c c' a b = absurd a
+
+adopt-cites : (d : Doing) (t : Thread) (l : ℕ) (o : Op) (c c' : Option ℕ) → MayAdopt d t l o c → MayAdopt d t l o c' → c ≡ c'
+adopt-cites (made n line p h sort f) t l (op.Adopt v kind k p' h') c c' a b = a.0 ∙ sym b.0
+adopt-cites d t l o c c' a b = absurd a
+
+land-cites : (d : Doing) (l : ℕ) (o : Op) (c c' : Option ℕ) → MayLand d l o c → MayLand d l o c' → c ≡ c'
+land-cites (lent n line h x) l (op.Land h' x') c c' a b = a.0 ∙ sym b.0
+land-cites d l o c c' a b = absurd a
+
+meet-cites : (d : Doing) (l : ℕ) (o : Op) (c c' : Option ℕ) → MayMeet d l o c → MayMeet d l o c' → c ≡ c'
+meet-cites (gripped n line p h sort f) l (op.Meet v p' h' sort' f') c c' a b = a.0 ∙ sym b.0
+meet-cites d l o c c' a b = absurd a
+
+release-cites : (d : Doing) (l h : ℕ) (c c' : Option ℕ) → MayRelease d l h c → MayRelease d l h c' → c ≡ c'
+release-cites (given n line h) l h' c c' a b = a.0 ∙ sym b.0
+release-cites (met n line h) l h' c c' a b = a.0 ∙ sym b.0
+release-cites d l h' c c' a b = absurd a
+
+-- what a managed thread's event cites
+thread-cites : (d : Doing) (t : Thread) (l : ℕ) (o : Op) (c c' : Option ℕ) → ThreadAllows d t l o c → ThreadAllows d t l o c' → c ≡ c'
+thread-cites d t l (op.Adopt v kind k p h) c c' a b = adopt-cites d t l (op.Adopt v kind k p h) c c' a b
+thread-cites d t l (op.Land h x) c c' a b = land-cites d l (op.Land h x) c c' a b
+thread-cites d t l (op.Meet v p h sort f) c c' a b = meet-cites d l (op.Meet v p h sort f) c c' a b
+thread-cites d t l (op.Release h) c c' a b = release-cites d l h.0 c c' a b
+thread-cites d t l o c c' a b = start-cites d c c' a b
+
+snap-cites : (stand : Stand) (c c' : Option ℕ) → MaySnap stand c → MaySnap stand c' → c ≡ c'
+snap-cites idle c c' a b = a ∙ sym b
+snap-cites stand c c' a b = absurd a
+
+abandon-cites : (stand : Stand) (k : ℕ) (c c' : Option ℕ) → MayAbandonNow stand k c → MayAbandonNow stand k c' → c ≡ c'
+abandon-cites (snapped o) k c c' a b = a.1 ∙ sym b.1
+abandon-cites (contracted o comps xrefs) k c c' a b = a.1 ∙ sym b.1
+abandon-cites stand k c c' a b = absurd a
+
+contract-cites : (stand : Stand) (k k' : ℕ) (c c' : Option ℕ) → MayContractNow stand k c → MayContractNow stand k' c' → c ≡ c'
+contract-cites (snapped o) k k' c c' a b = a.1 ∙ sym b.1
+contract-cites stand k k' c c' a b = absurd a
+
+mirror-cites : (stand : Stand) (s : Managed) (i : List Issued) (k : ℕ) (c c' : Option ℕ) (x y : Told) → MayMirrorNow stand s i k c x → MayMirrorNow stand s i k c' y → c ≡ c'
+mirror-cites (contracted o comps xrefs) s i k c c' (references_of x) (references_of y) a b = a.1 ∙ sym b.1
+mirror-cites (contracted o comps xrefs) s i k c c' (references_of x) y a b = absurd b
+mirror-cites stand s i k c c' x y a b = absurd a
+
+weaken-cites : (stand : Stand) (s : Managed) (h : ℕ) (c c' : Option ℕ) → MayWeakenNow stand s h c → MayWeakenNow stand s h c' → c ≡ c'
+weaken-cites (weakening o count weakened swept) s h c c' a b = a.0 ∙ sym b.0
+weaken-cites stand s h c c' a b = absurd a
+
+begin-cites : (stand : Stand) (n : ℕ) (r r' : Reply) (c c' : Option ℕ) → MayBeginNow stand n r c → MayBeginNow stand n r' c' → c ≡ c'
+begin-cites (weakening o count weakened swept) n (says.Mark j) (says.Mark j') c c' a b = a.1 ∙ sym b.1
+begin-cites (weakening o count weakened swept) n (says.Mark j) r' c c' a b = absurd b
+begin-cites stand n r r' c c' a b = absurd a
+
+sweep-cites : (stand : Stand) (n : ℕ) (c c' : Option ℕ) → MaySweepNow stand n c → MaySweepNow stand n c' → c ≡ c'
+sweep-cites (weakening o count weakened swept) n c c' a b = a.2 ∙ sym b.2
+sweep-cites (marked o) n c c' a b = a ∙ sym b
+sweep-cites stand n c c' a b = absurd a
+
+restore-cites : (stand : Stand) (s : Managed) (h : ℕ) (c c' : Option ℕ) → MayRestoreNow stand s h c → MayRestoreNow stand s h c' → c ≡ c'
+restore-cites (restoring o answers) s h c c' a b = a.0 ∙ sym b.0
+restore-cites stand s h c c' a b = absurd a
+
+clear-cites : (stand : Stand) (n k : ℕ) (c c' : Option ℕ) → MayClearNow stand n k c → MayClearNow stand n k c' → c ≡ c'
+clear-cites (restoring o answers) n k c c' a b = a.0 ∙ sym b.0
+clear-cites stand n k c c' a b = absurd a
+
+resolve-cites : (stand : Stand) (k : ℕ) (c c' : Option ℕ) (x y : Told) → MayResolveNow stand k c x → MayResolveNow stand k c' y → c ≡ c'
+resolve-cites (restored o answers clear) k c c' (resolution_of x f) (resolution_of y g) a b = a.1 ∙ sym b.1
+resolve-cites (restored o answers clear) k c c' (resolution_of x f) y a b = absurd b
+resolve-cites stand k c c' x y a b = absurd a
+
+refuse-cites : (stand : Stand) (n : ℕ) (c c' : Option ℕ) (x y : Told) → MayRefuseNow stand n c x → MayRefuseNow stand n c' y → c ≡ c'
+refuse-cites stand n c c' (phase_of p) (phase_of q) a b = a.1 ∙ sym b.1
+refuse-cites stand n c c' (phase_of p) y a b = absurd b
+refuse-cites stand n c c' x y a b = absurd a
+
+driver-cites : (stand : Stand) (s : Managed) (i : List Issued) (o : Op) (r r' : Reply) (c c' : Option ℕ) (x y : Told) → DriverAllows stand s i o r c x → DriverAllows stand s i o r' c' y → c ≡ c'
+driver-cites stand s i (op.Line z) r r' c c' x y a b = a.1 ∙ sym b.1
+driver-cites stand s i (op.Snap k) r r' c c' x y a b = snap-cites stand c c' a b
+driver-cites stand s i (op.Contract k) r r' c c' x y a b = contract-cites stand k.0 k.0 c c' a b
+driver-cites stand s i (op.Mirror k) r r' c c' x y a b = mirror-cites stand s i k.0 c c' x y a b
+driver-cites stand s i (op.Weaken h) r r' c c' x y a b = weaken-cites stand s h.0 c c' a b
+driver-cites stand s i op.Begin r r' c c' x y a b = begin-cites stand (length (candidates_of s)) r r' c c' a b
+driver-cites stand s i op.Sweep r r' c c' x y a b = sweep-cites stand (length (candidates_of s)) c c' a b
+driver-cites stand s i (op.Restore h) r r' c c' x y a b = restore-cites stand s h.0 c c' a b
+driver-cites stand s i (op.Clear k) r r' c c' x y a b = clear-cites stand (length (candidates_of s)) k.0 c c' a b
+driver-cites stand s i (op.Resolve k) r r' c c' x y a b = resolve-cites stand k.0 c c' x y a b
+driver-cites stand s i (op.Abandon k) r r' c c' x y a b = abandon-cites stand k.0 c c' a b
+driver-cites stand s i (op.Refused w) r r' c c' x y a b = refuse-cites stand (length (candidates_of s)) c c' x y a b
+driver-cites stand s i o r r' c c' x y a b = absurd a
+
+-- what the caller's automaton allows in a state
+abbrev pub Allowed : Linkage → Thread → ℕ → Op → Reply → Option ℕ → Told → Type 0
+Allowed s t l o r c x = CallerAllows s.control s.managed.managed s.peer.peers.issued t l o r c x
+
+caller-cites : (s : Linkage) (t : Thread) (l : ℕ) (o : Op) (r r' : Reply) (c c' : Option ℕ) (x y : Told) → Allowed s t l o r c x → Allowed s t l o r' c' y → c ≡ c'
+caller-cites s (M t) l o r r' c c' x y a b = thread-cites (doing_at s.control t) (M t) l o c c' a b
+caller-cites s (P t) l o r r' c c' x y a b = a ∙ sym b
+caller-cites s C l o r r' c c' x y a b = driver-cites s.control.stand s.managed.managed s.peer.peers.issued o r r' c c' x y a b
+
+-- what an entry is made of, and an entry with what is told beside it
+abbrev pub making : Thread → ℕ → Op → Reply → Option ℕ → Made
+making t l o r c = record { caller = t; index = l; op = o; reply = r; cites = c }
+
+abbrev pub noting : ℕ → Thread → ℕ → Op → Reply → Option ℕ → Told → Noted
+noting n t l o r c x = record { entry = record { number = n; made = making t l o r c }; told = x }
+
+-- two replies to refusals of one word name the same phase, where that word's replies name it
+abbrev pub Agree : Op → Reply → Reply → Type 0
+Agree (op.Refused word.Cycle) r r' = Unit {0}
+Agree (op.Refused word.Snap) r r' = Unit {0}
+Agree (op.Refused w) r r' = (p q : Phase) → r ≡ says.At p → r' ≡ says.At q → p ≡ q
+Agree o r r' = Unit {0}
+
+refusals-one : (s : ManagedReplay) (stand : Stand) (n : ℕ) (w : PhaseWord) (r r' : Reply) (p q : Phase) → IsPhaseOf stand n p → IsPhaseOf stand n q → r ≡ refusal_to s.managed p w → r' ≡ refusal_to s.managed q w
+    → TellsPlainly stand (op.Refused w) (phase_of p) → TellsPlainly stand (op.Refused w) (phase_of q) → Agree (op.Refused w) r r' → p ≡ q
+refusals-one s stand n word.Cycle r r' p q a b e f x y g = phases stand n p q a b (seen-cycle stand p x) (seen-cycle stand q y)
+refusals-one s stand n word.Snap r r' p q a b e f x y g = phases stand n p q a b (seen-snap stand p x) (seen-snap stand q y)
+refusals-one s stand n word.Contract r r' p q a b e f x y g = g p q e f
+refusals-one s stand n word.Mirror r r' p q a b e f x y g = g p q e f
+refusals-one s stand n word.Weaken r r' p q a b e f x y g = g p q e f
+refusals-one s stand n word.Mark r r' p q a b e f x y g = g p q e f
+refusals-one s stand n word.Sweep r r' p q a b e f x y g = g p q e f
+refusals-one s stand n word.Restore r r' p q a b e f x y g = g p q e f
+refusals-one s stand n word.Resolve r r' p q a b e f x y g = g p q e f
+
+mirror-told : (s : Linkage) (t : Thread) (l : ℕ) (k : Cycle) (r r' : Reply) (c : Option ℕ) (xs ys : List (ℕ × ℕ)) → IsEvent t (op.Mirror k) → Allowed s t l (op.Mirror k) r c (references_of xs) → Allowed s t l (op.Mirror k) r' c (references_of ys) → xs ≡ ys
+mirror-told s C l k r r' c xs ys v w x = mirrors s.control.stand s.managed.managed s.peer.peers.issued k.0 c xs ys w x
+mirror-told s (M z) l k r r' c xs ys v w x = absurd v
+mirror-told s (P z) l k r r' c xs ys v w x = absurd v
+
+resolve-told : (s : Linkage) (t : Thread) (l : ℕ) (k : Cycle) (r r' : Reply) (c : Option ℕ) (x y : List Answer) (f g : List ℕ) → IsEvent t (op.Resolve k) → Allowed s t l (op.Resolve k) r c (resolution_of x f) → Allowed s t l (op.Resolve k) r' c (resolution_of y g) → x ≡ y
+resolve-told s C l k r r' c x y f g v w z = resolves_alike s.control.stand k.0 c x y f g w z
+resolve-told s (M j) l k r r' c x y f g v w z = absurd v
+resolve-told s (P j) l k r r' c x y f g v w z = absurd v
+
+side-told : (side : Bool) (s : Linkage) (t : Thread) (l : ℕ) (o : Op) (r r' : Reply) (c : Option ℕ) (x y : Told) → IsTelling o → IsEvent t o → Allowed s t l o r c x → Allowed s t l o r' c y
+    → SideLawful side s (making t l o r c) x → SideLawful side s (making t l o r' c) y → x ≡ y
+side-told true s t l o r r' c x y n ev a b w v = peer_told s.peer t o c x y w.allowed v.allowed
+    (λ k xs ys e p q. mirror-told s t l k r r' c xs ys (subst (IsEvent t) e ev)
+    (subst (λ (z : Op × Told). Allowed s t l z.0 r c z.1) (λ i. (e i, p i)) a) (subst (λ (z : Op × Told). Allowed s t l z.0 r' c z.1) (λ i. (e i, q i)) b))
+side-told false s t l o r r' c x y n ev a b w v = managed_told is_one_contraction s.managed o x y n w.allowed v.allowed
+    (λ k xs ys f g e p q. resolve-told s t l k r r' c xs ys f g (subst (IsEvent t) e ev)
+    (subst (λ (z : Op × Told). Allowed s t l z.0 r c z.1) (λ i. (e i, p i)) a) (subst (λ (z : Op × Told). Allowed s t l z.0 r' c z.1) (λ i. (e i, q i)) b))
+
+refused-told : (s : Linkage) (l : ℕ) (w : PhaseWord) (r r' : Reply) (c : Option ℕ) (x y : Told) → Allowed s C l (op.Refused w) r c x → Allowed s C l (op.Refused w) r' c y
+    → SideLawful false s (making C l (op.Refused w) r c) x → SideLawful false s (making C l (op.Refused w) r' c) y → TellsPlainly s.control.stand (op.Refused w) x → TellsPlainly s.control.stand (op.Refused w) y → Agree (op.Refused w) r r' → x ≡ y
+refused-told s l w r r' c (phase_of p) (phase_of q) a b d f x y g = ap phase_of (refusals-one s.managed s.control.stand (length (candidates_of s.managed.managed)) w r r' p q a.0 b.0 d.replies f.replies x y g)
+refused-told s l w r r' c (phase_of p) y a b d f u v g = absurd f.allowed
+refused-told s l w r r' c x y a b d f u v g = absurd d.allowed
+
+one-told : (s : Linkage) (t : Thread) (l : ℕ) (o : Op) (r r' : Reply) (c : Option ℕ) (x y : Told) → IsEvent t o → Allowed s t l o r c x → Allowed s t l o r' c y
+    → SideLawful (is_peer_event t o) s (making t l o r c) x → SideLawful (is_peer_event t o) s (making t l o r' c) y → TellsPlainly s.control.stand o x → TellsPlainly s.control.stand o y → Agree o r r' → x ≡ y
+one-told s C l (op.Refused w) r r' c x y ev a b d f u v g = refused-told s l w r r' c x y a b d f u v g
+one-told s (M n) l (op.Refused w) r r' c x y ev a b d f u v g = absurd ev
+one-told s (P n) l (op.Refused w) r r' c x y ev a b d f u v g = absurd ev
+one-told s t l o r r' c x y ev a b d f u v g = side-told (is_peer_event t o) s t l o r r' c x y tt ev a b d f
+
+side-reply : (side : Bool) (s : Linkage) (t : Thread) (l : ℕ) (o : Op) (r r' : Reply) (c : Option ℕ) (x y : Told) → x ≡ y
+    → SideLawful side s (making t l o r c) x → SideLawful side s (making t l o r' c) y → r ≡ r'
+side-reply true s t l o r r' c x y ex a b = a.replies ∙ (ap (λ (z : Told). (peer_answer s.peer t o c z).reply) ex ∙ sym b.replies)
+side-reply false s t l o r r' c x y ex a b = a.replies ∙ (ap (λ (z : Told). (managed_answer s.managed t o z).reply) ex ∙ sym b.replies)
+
+-- the entry may come, and is told plainly
+abbrev pub PlainComes : Linkage → Noted → Type 0
+PlainComes s n = MayCome s n × TellsPlainly s.control.stand n.entry.made.op n.told
+
+one-noted : (s : Linkage) (t : Thread) (l : ℕ) (o : Op) (n n' : ℕ) (r r' : Reply) (c c' : Option ℕ) (x y : Told) → n ≡ n' → PlainComes s (noting n t l o r c x) → PlainComes s (noting n' t l o r' c' y) → Agree o r r' → noting n t l o r c x ≡ noting n' t l o r' c' y
+one-noted s t l o n n' r r' c c' x y en a b g =
+    let ec : c ≡ c' = caller-cites s t l o r r' c c' x y a.0.order b.0.order in
+    let b' : PlainComes s (noting n' t l o r' c y) = subst (λ (z : Option ℕ). PlainComes s (noting n' t l o r' z y)) (sym ec) b in
+    let ex : x ≡ y = one-told s t l o r r' c x y a.0.event a.0.order b'.0.order a.0.lawful b'.0.lawful a.1 b'.1 g in
+    let er : r ≡ r' = side-reply (is_peer_event t o) s t l o r r' c x y ex a.0.lawful b'.0.lawful in
+    λ i. noting (en i) t l o (er i) (ec i) (ex i)
+
+-- two entries that may come in one state, and have the same number, caller, line and event
+pub one-note : (s : Linkage) (a b : Noted) → a.entry.number ≡ b.entry.number → a.entry.made.caller ≡ b.entry.made.caller → a.entry.made.index ≡ b.entry.made.index → a.entry.made.op ≡ b.entry.made.op → Agree a.entry.made.op a.entry.made.reply b.entry.made.reply
+    → PlainComes s a → PlainComes s b → a ≡ b
+one-note s a b en et el eo g p q =
+    let t = a.entry.made.caller in
+    let l = a.entry.made.index in
+    let m = b.entry.made in
+    let n = b.entry.number in
+    let i : noting n t l a.entry.made.op m.reply m.cites b.told ≡ b = (λ i. noting n (et i) (el i) (eo i) m.reply m.cites b.told) in
+    let q' : PlainComes s (noting n t l a.entry.made.op m.reply m.cites b.told) = subst (PlainComes s) (sym i) q in
+    one-noted s t l a.entry.made.op a.entry.number n a.entry.made.reply m.reply a.entry.made.cites m.cites a.told b.told en p q' g ∙ i

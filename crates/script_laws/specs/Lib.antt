@@ -1,0 +1,4 @@
+pub mod Holding
+pub mod Ending
+pub mod Laws
+pub mod Worked

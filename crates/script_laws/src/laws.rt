@@ -1,0 +1,24 @@
+// Laws on the linked histories of scripts, each the contract of a function that does nothing.
+
+ghost use Rattle.script_laws.specs.Ending.{HeldCyclesEnd, HeldThreadCyclesEnd, LinkedCyclesEnd};
+ghost use Rattle.script_laws.specs.Laws.{HasOneHistory, HasOneText};
+
+/// A script has at most one history in line order: two linked histories that hold its lines are the same in their entries, in what
+/// was freed and in the notices that were taken, and in the notices that were only queued where each has them all.
+pub fn one_history_for_a_script()
+    ensures { HasOneHistory }
+{}
+
+/// A history that holds the lines of a script abandons no cycle, and resolves each that it opens before it opens another; the
+/// driver's entries do so too where the lines are held thread by thread. In a linked history each snap's resolve is its cycle's.
+pub fn held_cycles_end()
+    ensures in_order { HeldCyclesEnd }
+    ensures per_thread { HeldThreadCyclesEnd }
+    ensures own { LinkedCyclesEnd }
+{}
+
+/// A text is the report of at most one history: two linked histories that have the same report are the same in their entries, in
+/// what was freed and in the notices that were taken, and in the notices that were only queued where each has them all.
+pub fn texts_tell_histories()
+    ensures { HasOneText }
+{}
