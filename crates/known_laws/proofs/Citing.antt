@@ -1,7 +1,7 @@
 -- Each entry of a past cites what it has to. What a thread is in the midst of was begun by an entry of the past, with its number,
 -- line and data; and the driver's stand has the number of its snap, and of its clear, which stand in the past. The order of each
 -- caller's events lets an entry come only with that number.
-use Rattle.std.proofs.Common.{◌≡◌, ◌⊎◌, inl, inr, ⊎_elim, ℕ, zero, suc, List, [], ◌∷◌, length, replicate, Option, Some, refl, sym, ap, ◌∙◌, subst}
+use Rattle.std.proofs.Common.{◌≡◌, ◌⊎◌, inl, inr, ⊎_elim, ℕ, zero, suc, List, [], ◌∷◌, length, replicate, Option, Some, None, refl, sym, ap, ◌∙◌, subst}
 use Rattle.joint_model.specs.declared.names.Thread.{Thread}
 use Rattle.joint_model.specs.declared.names.Thread.TheVariants.{M, P, C}
 use Rattle.joint_model.specs.declared.names.Sort.{Sort}
@@ -16,30 +16,30 @@ use Rattle.joint_model.specs.declared.events.Op.TheVariants as op
 use Rattle.joint_model.specs.declared.events.Reply.{Reply}
 use Rattle.joint_model.specs.declared.events.Reply.TheVariants as says
 use Rattle.joint_model.specs.declared.events.Made.{Made}
-use Rattle.joint_model.specs.Control.{Doing, free, made, lent, gripped, given, met, Stand, idle, snapped, contracted, weakening, marked, restoring, restored, CallerAllows, candidates_of, doing_after, stand_after, control_after, doing_at, MayAdopt, MayLand, MayMeet, MayRelease, MayMirrorNow, MayWeakenNow, MayResolveNow, MayClearNow}
+use Rattle.joint_model.specs.Control.{Doing, free, made, lent, gripped, given, met, Stand, idle, snapped, contracted, weakening, marked, restoring, restored, CallerAllows, candidates_of, doing_after, stand_after, control_after, doing_at, MayStart, MayAdopt, MayLand, MayMeet, MayRelease, MaySnap, MayContractNow, MayMirrorNow, MayWeakenNow, MayBeginNow, MaySweepNow, MayRestoreNow, MayResolveNow, MayClearNow, MayAbandonNow, MayRefuseNow, DriverAllows}
 use Rattle.joint_model.specs.Lines.{IsEvent}
 use Rattle.joint_model.specs.Managed.{Managed}
 use Rattle.joint_model.specs.Peers.{Issued}
-use Rattle.joint_model.specs.Told.{Told, Noted, contraction_of, references_of, resolution_of}
+use Rattle.joint_model.specs.Told.{Told, Noted, contraction_of, references_of, resolution_of, phase_of}
 use Rattle.joint_laws.specs.LinkedInvariants.{doing_in}
 use Rattle.joint_laws.proofs.Hands.{doing-set_cases}
 use Rattle.known_laws.specs.Known.{MayComeLater}
 use Rattle.known_laws.specs.Pasts.{In, Lawful, end_of, next_of}
-use Rattle.known_laws.specs.Facts.{HasCited, IsMakeOf, IsLendOf, IsGripOf, IsNotNew, IsGiveOf, IsMeetOf, IsSnapOf, IsClearOf, Cites, PastsCite}
+use Rattle.known_laws.specs.Citations.{HasCited, IsMakeOf, IsLendOf, IsGripOf, IsNotNew, IsGiveOf, IsMeetOf, IsSnapOf, IsClearOf, Cites, PastsCite}
 use Rattle.known_laws.proofs.PastsJoin.{below}
 
 -- an entry of the past with that number and caller, which is as said
-record Began (h : List Noted) (t : Thread) (number : ℕ) (IsAsSaid : Made → Type 0) : Type 0 where
-  begun : Noted
-  there : In h begun
-  numbered : begun.entry.number ≡ number
-  same : begun.entry.made.caller ≡ t
-  as_said : IsAsSaid begun.entry.made
+pub record Began (h : List Noted) (t : Thread) (number : ℕ) (IsAsSaid : Made → Type 0) : Type 0 where
+  pub begun : Noted
+  pub there : In h begun
+  pub numbered : begun.entry.number ≡ number
+  pub same : begun.entry.made.caller ≡ t
+  pub as_said : IsAsSaid begun.entry.made
 
 later : (x : Noted) (h : List Noted) (t : Thread) (n : ℕ) (Q : Made → Type 0) → Began h t n Q → Began (x ∷ h) t n Q
 later x h t n Q b = record { begun = b.begun; there = inr b.there; numbered = b.numbered; same = b.same; as_said = b.as_said }
 
-abbrev WasBegun : List Noted → Thread → Doing → Type 0
+abbrev pub WasBegun : List Noted → Thread → Doing → Type 0
 WasBegun h t free = Unit {0}
 WasBegun h t (made n line p g sort f) = Began h t n (IsMakeOf line record { 0 = p } record { 0 = g })
 WasBegun h t (lent n line g x) = Began h t n (IsLendOf line record { 0 = g } record { 0 = x })
@@ -70,7 +70,7 @@ begins x h u (op.Meet v p g sort f) reply c e r = record { begun = x; there = in
 begins x h u _ reply c e r = tt
 
 -- where the driver stands
-abbrev WasOpened : List Noted → Stand → Type 0
+abbrev pub WasOpened : List Noted → Stand → Type 0
 WasOpened h idle = Unit {0}
 WasOpened h (snapped o) = Began h C o.snap (IsSnapOf o.cycle)
 WasOpened h (contracted o comps xrefs) = Began h C o.snap (IsSnapOf o.cycle)
@@ -108,9 +108,9 @@ opens x h (restoring o answers) m i line (op.Restore g) reply cites told e f a b
 opens x h st m i line _ reply cites told e f a b = opened_later x h st b
 
 -- by the past alone
-record Backed (h : List Noted) : Type 0 where
-  hands : (t : ℕ) → WasBegun h (M t) (doing_at (end_of h).control t)
-  stand : WasOpened h (end_of h).control.stand
+pub record Backed (h : List Noted) : Type 0 where
+  pub hands : (t : ℕ) → WasBegun h (M t) (doing_at (end_of h).control t)
+  pub stand : WasOpened h (end_of h).control.stand
 
 opening-free : (t : ℕ) → WasBegun [] (M t) (doing_at (end_of []).control t)
 opening-free t = subst (WasBegun [] (M t)) (sym (free_at 9 t)) tt
@@ -147,13 +147,78 @@ backed-step x h may b = by x.entry.made.caller refl may.comes.order
       opens x h (end_of h).control.stand (end_of h).managed.managed (end_of h).peer.peers.issued x.entry.made.index x.entry.made.op x.entry.made.reply x.entry.made.cites x.told e refl (λ k q. (length (candidates_of (end_of h).managed.managed), subst (λ o. CallerAllows (end_of h).control (end_of h).managed.managed (end_of h).peer.peers.issued C x.entry.made.index o x.entry.made.reply x.entry.made.cites x.told) q a)) b.stand,
     )
 
-backed : (h : List Noted) → Lawful h → Backed h
+pub backed : (h : List Noted) → Lawful h → Backed h
 backed [] l = record { hands = opening-free; stand = tt }
 backed (x ∷ h) l = backed-step x h l.0 (backed h l.1)
 
 -- what a backed stand or hand lets cite
 cited_by : (x : Noted) (h : List Noted) (t : Thread) (n : ℕ) (Q R : Made → Type 0) → Lawful (x ∷ h) → x.entry.made.caller ≡ t → x.entry.made.cites ≡ Some n → ((m : Made) → Q m → R m) → Began h t n Q → HasCited h x.entry.made x.entry.number R
 cited_by x h t n Q R l e c f b = record { cited = b.begun; there = b.there; by_number = c ∙ ap Some (sym b.numbered); earlier = below x h b.begun l.0 l.1 b.there; same = b.same ∙ sym e; as_said = f b.begun.entry.made b.as_said }
+
+-- every other event cites nothing
+start-none : (d : Doing) (c : Option ℕ) → MayStart d c → c ≡ None
+start-none free c a = a
+start-none (made n line p h sort f) c a = a
+start-none (lent n line h y) c a = a
+start-none (gripped n line p h sort f) c a = a
+start-none (given n line h) c a = absurd a
+start-none (met n line h) c a = absurd a
+
+snap-none : (st : Stand) (c : Option ℕ) → MaySnap st c → c ≡ None
+snap-none idle c a = a
+snap-none _ c a = absurd a
+
+contract-none : (st : Stand) (k : ℕ) (c : Option ℕ) → MayContractNow st k c → c ≡ None
+contract-none (snapped o) k c a = a.1
+contract-none _ k c a = absurd a
+
+begin-none : (st : Stand) (n : ℕ) (r : Reply) (c : Option ℕ) → MayBeginNow st n r c → c ≡ None
+begin-none (weakening o count y z) n (says.Mark j) c a = a.1
+begin-none _ n r c a = absurd a
+
+sweep-none : (st : Stand) (n : ℕ) (c : Option ℕ) → MaySweepNow st n c → c ≡ None
+sweep-none (weakening o count y z) n c a = a.2
+sweep-none (marked o) n c a = a
+sweep-none _ n c a = absurd a
+
+restore-none : (st : Stand) (m : Managed) (g : ℕ) (c : Option ℕ) → MayRestoreNow st m g c → c ≡ None
+restore-none (restoring o answers) m g c a = a.0
+restore-none _ m g c a = absurd a
+
+clear-none : (st : Stand) (n k : ℕ) (c : Option ℕ) → MayClearNow st n k c → c ≡ None
+clear-none (restoring o answers) n k c a = a.0
+clear-none _ n k c a = absurd a
+
+abandon-none : (st : Stand) (k : ℕ) (c : Option ℕ) → MayAbandonNow st k c → c ≡ None
+abandon-none (snapped o) k c a = a.1
+abandon-none (contracted o comps xrefs) k c a = a.1
+abandon-none _ k c a = absurd a
+
+refuse-none : (st : Stand) (n : ℕ) (c : Option ℕ) (told : Told) → MayRefuseNow st n c told → c ≡ None
+refuse-none st n c (phase_of p) a = a.1
+refuse-none st n c _ a = absurd a
+
+-- the driver's event goes by no entry
+abbrev IsUnciting : Op → Type 0
+IsUnciting (op.Mirror k) = ⊥
+IsUnciting (op.Weaken g) = ⊥
+IsUnciting (op.Resolve k) = ⊥
+IsUnciting _ = Unit {0}
+
+driver-none : (st : Stand) (m : Managed) (i : List Issued) (o : Op) (r : Reply) (c : Option ℕ) (told : Told) → IsUnciting o → DriverAllows st m i o r c told → c ≡ None
+driver-none st m i (op.Line a) r c told u w = w.1
+driver-none st m i (op.Snap k) r c told u w = snap-none st c w
+driver-none st m i (op.Contract k) r c told u w = contract-none st k.0 c w
+driver-none st m i op.Begin r c told u w = begin-none st (length (candidates_of m)) r c w
+driver-none st m i op.Sweep r c told u w = sweep-none st (length (candidates_of m)) c w
+driver-none st m i (op.Restore g) r c told u w = restore-none st m g.0 c w
+driver-none st m i (op.Clear k) r c told u w = clear-none st (length (candidates_of m)) k.0 c w
+driver-none st m i (op.Abandon k) r c told u w = abandon-none st k.0 c w
+driver-none st m i (op.Refused v) r c told u w = refuse-none st (length (candidates_of m)) c told w
+driver-none st m i (op.Mirror k) r c told u w = absurd u
+driver-none st m i (op.Weaken g) r c told u w = absurd u
+driver-none st m i (op.Resolve k) r c told u w = absurd u
+driver-none st m i _ r c told u w = absurd w
 
 module _ (x : Noted) (h : List Noted) (l : Lawful (x ∷ h)) where
   adopt-cites : (d : Doing) (u : ℕ) (v : Var) (kind : Kind) (k : ℕ) (p : PNum) (g : HNum) → x.entry.made.caller ≡ M u → WasBegun h (M u) d → MayAdopt d (M u) x.entry.made.index (op.Adopt v kind k p g) x.entry.made.cites → HasCited h x.entry.made x.entry.number (IsMakeOf x.entry.made.index p g)
@@ -220,7 +285,9 @@ module _ (x : Noted) (h : List Noted) (l : Lawful (x ∷ h)) where
   by (P u) (op.Weaken g) e w a = absurd w
   by (M u) (op.Resolve k) e w a = absurd w
   by (P u) (op.Resolve k) e w a = absurd w
-  by t o e w a = tt
+  by (M u) o e w a = start-none (doing_at (end_of h).control u) x.entry.made.cites a
+  by (P u) o e w a = a
+  by C o e w a = driver-none (end_of h).control.stand (end_of h).managed.managed (end_of h).peer.peers.issued o x.entry.made.reply x.entry.made.cites x.told tt a
 
 pub pasts_cite : PastsCite
 pasts_cite x h l = by x h l x.entry.made.caller x.entry.made.op refl l.0.comes.event l.0.comes.order

@@ -8,7 +8,7 @@ use Rattle.std.proofs.lemmas.List.{append-nil}
 use Rattle.joint_model.specs.declared.events.Entry.{Entry}
 use Rattle.joint_model.specs.Lines.{is_peer_event}
 use Rattle.joint_model.specs.Histories.{managed_numbers, peer_numbers}
-use Rattle.joint_model.specs.Linked.{Linkage, MayCome, AllMayCome, IsWhole, opening_linkage, linkage_after, replayed}
+use Rattle.joint_model.specs.Linked.{Linkage, AllMayCome, IsWhole, opening_linkage, replayed}
 use Rattle.joint_model.specs.Told.{Noted}
 use Rattle.known_laws.specs.Pasts.{role_of, own_of, is_in, line, of_line, In, end_of, Lawful, bare}
 use Rattle.known_laws.specs.Growing.{untold, entries, entries_in, turned, KnownWholeIsHistory, KnownWholeIsLinked}

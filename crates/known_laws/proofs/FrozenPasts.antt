@@ -32,9 +32,10 @@ use Rattle.joint_laws.proofs.ManagedMoves.{GoesOn, GoesOn-stay, managed_line-goe
 use Rattle.joint_laws.proofs.ManagedSteps.{meet_by-managed, give_by-managed, twin-live}
 use Rattle.joint_laws.proofs.DriverPeerSteps.{holds-handle_of}
 use Rattle.joint_laws.proofs.SameGraphs.{contraction-same, mirror_edge-ends}
-use Rattle.known_laws.specs.Pasts.{role_of, is_in, line, of_line, end_of, Lawful, Within, HasSameDeadPart, IsSameForDriver, IsFrozenIn, KnownPastsJoin}
+use Rattle.known_laws.specs.Pasts.{role_of, is_in, line, of_line, end_of, Lawful, Within, HasSameDeadPart, IsSameForDriver, IsFrozenIn, KnownPastsJoin, EntryMayMove}
 use Rattle.known_laws.proofs.PastLines.{off, in_role, in_own, line_in, line_out, snoc_same, snoc_some, shorter_begins}
 use Rattle.known_laws.proofs.Later.{kept_end}
+use Rattle.known_laws.proofs.Moving.{may_move}
 use Rattle.known_laws.proofs.Parts.{same_managed}
 use Rattle.known_laws.proofs.PastsJoin.{below, within_past, behind_past, pasts_join}
 
@@ -69,7 +70,7 @@ goes_by s x told true full q n e k w = GoesOn-stay s.managed
 goes_by s x told false full q n e k w = goes_on s x.caller x.op told n e k (subst (λ z. ManagedAllows z x.op told) q w.allowed)
 
 -- the one state has the open cycle of the other, with its dead part's handles and fields
-data Alike (s t : Managed) : Type 0 where
+pub data Alike (s t : Managed) : Type 0 where
   closed : s.cycle ≡ None → t.cycle ≡ None → Alike s t
   open_one : (c : OpenCycle) → s.cycle ≡ Some c → t.cycle ≡ Some c → ((m : ℕ) → Contains c.dead m → (handle_of s m ≡ handle_of t m) × (fields_of s.heap m ≡ fields_of t.heap m)) → Alike s t
 
@@ -77,17 +78,25 @@ alike_flip : (s t : Managed) → Alike s t → Alike t s
 alike_flip s t (closed a b) = closed b a
 alike_flip s t (open_one c a b h) = open_one c b a (λ m d. (sym (h m d).0, sym (h m d).1))
 
-alike_self : (s : Managed) → Alike s s
+pub alike_self : (s : Managed) → Alike s s
 alike_self s = by s.cycle refl
   where
     by : (o : Option OpenCycle) → s.cycle ≡ o → Alike s s
     by None e = closed e e
     by (Some c) e = open_one c e e (λ m d. (refl, refl))
 
+pub alike_meet : (s t u : Managed) → Alike s t → Alike u t → Alike s u
+alike_meet s t u (closed a b) (closed c d) = closed a c
+alike_meet s t u (closed a b) (open_one e c d h) = absurd (none_some e (sym b ∙ d))
+alike_meet s t u (open_one e a b h) (closed c d) = absurd (none_some e (sym d ∙ b))
+alike_meet s t u (open_one e a b h) (open_one f c d g) =
+    let same : f ≡ e = same_Some f e (sym d ∙ b) in
+    open_one e a (c ∙ ap Some same) (λ m w. let v = g m (subst (λ (z : OpenCycle). Contains z.dead m) (sym same) w) in ((h m w).0 ∙ sym v.0, (h m w).1 ∙ sym v.1))
+
 pub handle-same : (s t : Managed) (x : ℕ) → IsLive s.heap x → IsLive t.heap x → numbered_at t.held x ≡ numbered_at s.held x → handle_of t x ≡ handle_of s x
 handle-same s t x l m e = λ i. (let b = (is_freed-live t.heap x m ∙ sym (is_freed-live s.heap x l)) i in if b then None else elim (e i) [ None ↦ None | Some h ↦ h ])
 
-alike_on : (s u t : Managed) → IsManagedKept s → GoesOn s u → Alike s t → Alike u t
+pub alike_on : (s u t : Managed) → IsManagedKept s → GoesOn s u → Alike s t → Alike u t
 alike_on s u t k g (closed a b) = closed (g.cycle ∙ a) b
 alike_on s u t k g (open_one c a b h) = open_one c (g.cycle ∙ a) b (λ m d. (handle-same s u m ((k.dead c a).live m d) ((cut_on s u k g c a).live m d) (dead-held s u k g c a m d) ∙ (h m d).0, dead-fields s u k g c a m d ∙ (h m d).1))
 
@@ -99,7 +108,7 @@ alike_after a x t n l w =
 
 module _ (whole : List Noted) where
   -- where both pasts have one latest entry, what is behind it has one line of the managed side
-  one_behind : (i : ℕ) (x : Noted) (a b : List Noted) → Lawful (x ∷ a) → Lawful (x ∷ b) → Within whole (x ∷ a) → Within whole (x ∷ b) → is_in i x ≡ true → line i a ≡ line i b
+  pub one_behind : (i : ℕ) (x : Noted) (a b : List Noted) → Lawful (x ∷ a) → Lawful (x ∷ b) → Within whole (x ∷ a) → Within whole (x ∷ b) → is_in i x ≡ true → line i a ≡ line i b
   one_behind i x a b la lb wa wb t =
       let m = behind_past whole i x a b wa (within_past whole x b wb) (λ e p. below x b e lb.0 lb.1 p) t in
       let n = behind_past whole i x b a wb (within_past whole x a wa) (λ e p. below x a e la.0 la.1 p) t in
@@ -182,27 +191,31 @@ bridge-on s t m k e b = (b.0, holds-handle_of t m b.0 k.places (sym e ∙ Holds-
 edge-on : (s t : Managed) (c : OpenCycle) → IsManagedKept t → t.cycle ≡ Some c → ((m : ℕ) → Contains c.dead m → fields_of s.heap m ≡ fields_of t.heap m) → (x y : ℕ) → DeadEdge s c.dead x y → DeadEdge t c.dead x y
 edge-on s t c k o f x y e = (record { live = (k.dead c o).live x e.1; field = subst (λ fs. Contains fs (Some y)) (f x e.1) e.0.field; there = (k.dead c o).live y e.2 }, e.1, e.2)
 
-pub same_dead_part : (whole a b : List Noted) → Lawful a → Lawful b → Within whole a → Within whole b → line 2 a ≡ line 2 b → HasSameDeadPart (end_of a).managed.managed (end_of b).managed.managed
-same_dead_part whole a b la lb wa wb e = by (end_of a).managed.managed (end_of b).managed.managed (kept_end a la).managed.managed (kept_end b lb).managed.managed (alike whole (length a + length b) a b (omega arith) la lb wa wb e)
+-- states that are so have the same dead part
+pub dead_part-alike : (s t : Managed) → IsManagedKept s → IsManagedKept t → Alike s t → HasSameDeadPart s t
+dead_part-alike s t ks kt (closed x y) = record {
+  cycle = x ∙ sym y;
+  handles = λ c o m d. absurd (none_some c (sym x ∙ o));
+  fields = λ c o m d. absurd (none_some c (sym x ∙ o));
+  contraction = λ c o comps xrefs w. absurd (none_some c (sym x ∙ o));
+}
+dead_part-alike s t ks kt (open_one d x y h) = record { cycle = x ∙ sym y; handles = λ c o m w. (same c o m w).0; fields = λ c o m w. (same c o m w).1; contraction = contraction }
   where
-    by : (s t : Managed) → IsManagedKept s → IsManagedKept t → Alike s t → HasSameDeadPart s t
-    by s t ks kt (closed x y) = record {
-      cycle = x ∙ sym y;
-      handles = λ c o m d. absurd (none_some c (sym x ∙ o));
-      fields = λ c o m d. absurd (none_some c (sym x ∙ o));
-      contraction = λ c o comps xrefs w. absurd (none_some c (sym x ∙ o));
-    }
-    by s t ks kt (open_one d x y h) = record { cycle = x ∙ sym y; handles = λ c o m w. (same c o m w).0; fields = λ c o m w. (same c o m w).1; contraction = contraction }
-      where
-        same : (c : OpenCycle) → s.cycle ≡ Some c → (m : ℕ) → Contains c.dead m → (handle_of s m ≡ handle_of t m) × (fields_of s.heap m ≡ fields_of t.heap m)
-        same c o m w = h m (subst (λ (z : OpenCycle). Contains z.dead m) (same_Some c d (sym o ∙ x)) w)
+    same : (c : OpenCycle) → s.cycle ≡ Some c → (m : ℕ) → Contains c.dead m → (handle_of s m ≡ handle_of t m) × (fields_of s.heap m ≡ fields_of t.heap m)
+    same c o m w = h m (subst (λ (z : OpenCycle). Contains z.dead m) (same_Some c d (sym o ∙ x)) w)
 
-        contraction : (c : OpenCycle) → s.cycle ≡ Some c → (comps : List (List ℕ)) (xrefs : List (ℕ × ℕ)) → IsDeadContraction s c.dead comps xrefs → IsDeadContraction t c.dead comps xrefs
-        contraction c o comps xrefs w =
-            let oc : t.cycle ≡ Some c = y ∙ ap Some (same_Some d c (sym x ∙ o)) in
-            contraction-same (λ m. Contains c.dead m × IsBridge s m) (λ m. Contains c.dead m × IsBridge t m) (DeadEdge s c.dead) (DeadEdge t c.dead) comps xrefs
-            (λ m. (λ q. (q.0, bridge-on s t m kt (same c o m q.0).0 q.1), λ q. (q.0, bridge-on t s m ks (sym (same c o m q.0).0) q.1)))
-            (λ u v. (edge-on s t c kt oc (λ m q. (same c o m q).1) u v, edge-on t s c ks o (λ m q. sym (same c o m q).1) u v)) w
+    contraction : (c : OpenCycle) → s.cycle ≡ Some c → (comps : List (List ℕ)) (xrefs : List (ℕ × ℕ)) → IsDeadContraction s c.dead comps xrefs → IsDeadContraction t c.dead comps xrefs
+    contraction c o comps xrefs w =
+        let oc : t.cycle ≡ Some c = y ∙ ap Some (same_Some d c (sym x ∙ o)) in
+        contraction-same (λ m. Contains c.dead m × IsBridge s m) (λ m. Contains c.dead m × IsBridge t m) (DeadEdge s c.dead) (DeadEdge t c.dead) comps xrefs
+        (λ m. (λ q. (q.0, bridge-on s t m kt (same c o m q.0).0 q.1), λ q. (q.0, bridge-on t s m ks (sym (same c o m q.0).0) q.1)))
+        (λ u v. (edge-on s t c kt oc (λ m q. (same c o m q).1) u v, edge-on t s c ks o (λ m q. sym (same c o m q).1) u v)) w
+
+pub same_dead_part : (whole a b : List Noted) → Lawful a → Lawful b → Within whole a → Within whole b → line 2 a ≡ line 2 b → HasSameDeadPart (end_of a).managed.managed (end_of b).managed.managed
+same_dead_part whole a b la lb wa wb e = dead_part-alike (end_of a).managed.managed (end_of b).managed.managed (kept_end a la).managed.managed (kept_end b lb).managed.managed (alike whole (length a + length b) a b (omega arith) la lb wa wb e)
 
 pub known_pasts_join : KnownPastsJoin
 known_pasts_join whole a b runs la lb wa wb = pasts_join whole a b runs (frozen_in whole) la lb wa wb
+
+pub entry_may_move : EntryMayMove
+entry_may_move whole a b la lb wa wb x role own later may = may_move a b x (λ e. frozen_in whole a b la lb wa wb (subst (λ i. line i a ≡ line i b) e own)) role own later may

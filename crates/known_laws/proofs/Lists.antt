@@ -10,22 +10,16 @@ use Rattle.joint_model.specs.Control.{caller_place}
 use Rattle.joint_model.specs.declared.events.Op.{Op}
 use Rattle.joint_model.specs.declared.events.Op.TheVariants as op
 use Rattle.joint_model.specs.Lines.{IsEvent, IsThread, is_peer_event}
-use Rattle.joint_model.specs.Linked.{SideLawful, ManagedLawful, PeerLawful, managed_after, peer_after}
-use Rattle.joint_model.specs.ManagedReplay.{ManagedReplay, opening_replay}
-use Rattle.joint_model.specs.PeerReplay.{PeerReplay, opening_peer_replay, is_thread}
+use Rattle.joint_model.specs.Linked.{SideLawful, managed_after, peer_after}
+use Rattle.joint_model.specs.ManagedReplay.{opening_replay}
+use Rattle.joint_model.specs.PeerReplay.{opening_peer_replay, is_thread}
 use Rattle.joint_model.specs.Told.{Noted}
 use Rattle.known_laws.specs.Pasts.{is_in, line, end_of, Lawful}
 use Rattle.known_laws.specs.Growing.{entries, entries_in, turned, untold}
 use Rattle.known_laws.proofs.Ending.{known_whole_is_history}
-use Rattle.known_laws.specs.Lists.{ManagedRuns, PeerRuns, KnownListsAreLawful, made_by, OwnLineIsMadeByCaller}
-
-managed-then : (r s : ManagedReplay) (ns : List Noted) (n : Noted) → ManagedRuns r ns s → ManagedLawful s n.entry.made n.told → ManagedRuns r (ns ++ n ∷ []) (managed_after s n.entry.made n.told false)
-managed-then r s [] n e l = (subst (λ z. ManagedLawful z n.entry.made n.told) (sym e) l, ap (λ z. managed_after z n.entry.made n.told false) e)
-managed-then r s (m ∷ ns) n w l = (w.0, managed-then (managed_after r m.entry.made m.told false) s ns n w.1 l)
-
-peer-then : (r s : PeerReplay) (ns : List Noted) (n : Noted) → PeerRuns r ns s → PeerLawful s n.entry.made n.told → PeerRuns r (ns ++ n ∷ []) (peer_after s n.entry.made n.told true)
-peer-then r s [] n e l = (subst (λ z. PeerLawful z n.entry.made n.told) (sym e) l, ap (λ z. peer_after z n.entry.made n.told true) e)
-peer-then r s (m ∷ ns) n w l = (w.0, peer-then (peer_after r m.entry.made m.told true) s ns n w.1 l)
+use Rattle.joint_model.specs.Sides.{managed_rules, peer_rules, LeadsTo}
+use Rattle.joint_model.proofs.SideLists.{LeadsTo-push}
+use Rattle.known_laws.specs.Lists.{KnownListsAreLawful, made_by, OwnLineIsMadeByCaller}
 
 -- lines 0 and 1 by the side of the entry
 in_side : (i : ℕ) (x : Noted) (b : Bool) → i < 2 → is_peer_event x.entry.made.caller x.entry.made.op ≡ b → is_in i x ≡ nat_eq i (if b then 1 else 0)
@@ -35,25 +29,25 @@ in_side i x b l e = ap (λ c. nat_eq i (if c then 1 else 0) || nat_eq i (2 + cal
     by true = refl
     by false = ne_eqb i (2 + caller_place x.entry.made.caller) (λ q. omega (arith, q, l))
 
-managed-list : (h : List Noted) → Lawful h → ManagedRuns opening_replay (line 0 h) (end_of h).managed
+managed-list : (h : List Noted) → Lawful h → LeadsTo managed_rules opening_replay (line 0 h) (end_of h).managed
 managed-list [] l = refl
 managed-list (x ∷ h) l = by (is_peer_event x.entry.made.caller x.entry.made.op) refl l.0.comes.lawful (managed-list h l.1)
   where
-    by : (b : Bool) → is_peer_event x.entry.made.caller x.entry.made.op ≡ b → SideLawful b (end_of h) x.entry.made x.told → ManagedRuns opening_replay (line 0 h) (end_of h).managed
-        → ManagedRuns opening_replay (if is_in 0 x then line 0 h ++ x ∷ [] else line 0 h) (managed_after (end_of h).managed x.entry.made x.told b)
-    by true e w r = subst (λ c. ManagedRuns opening_replay (if c then line 0 h ++ x ∷ [] else line 0 h) (end_of h).managed) (sym (in_side 0 x true (omega arith) e)) r
-    by false e w r = subst (λ c. ManagedRuns opening_replay (if c then line 0 h ++ x ∷ [] else line 0 h) (managed_after (end_of h).managed x.entry.made x.told false)) (sym (in_side 0 x false (omega arith) e))
-        (managed-then opening_replay (end_of h).managed (line 0 h) x r w)
+    by : (b : Bool) → is_peer_event x.entry.made.caller x.entry.made.op ≡ b → SideLawful b (end_of h) x.entry.made x.told → LeadsTo managed_rules opening_replay (line 0 h) (end_of h).managed
+        → LeadsTo managed_rules opening_replay (if is_in 0 x then line 0 h ++ x ∷ [] else line 0 h) (managed_after (end_of h).managed x.entry.made x.told b)
+    by true e w r = subst (λ c. LeadsTo managed_rules opening_replay (if c then line 0 h ++ x ∷ [] else line 0 h) (end_of h).managed) (sym (in_side 0 x true (omega arith) e)) r
+    by false e w r = subst (λ c. LeadsTo managed_rules opening_replay (if c then line 0 h ++ x ∷ [] else line 0 h) (managed_after (end_of h).managed x.entry.made x.told false)) (sym (in_side 0 x false (omega arith) e))
+        (LeadsTo-push managed_rules opening_replay (line 0 h) (end_of h).managed x (managed_after (end_of h).managed x.entry.made x.told false) r record { lawful = w; state = refl })
 
-peer-list : (h : List Noted) → Lawful h → PeerRuns opening_peer_replay (line 1 h) (end_of h).peer
+peer-list : (h : List Noted) → Lawful h → LeadsTo peer_rules opening_peer_replay (line 1 h) (end_of h).peer
 peer-list [] l = refl
 peer-list (x ∷ h) l = by (is_peer_event x.entry.made.caller x.entry.made.op) refl l.0.comes.lawful (peer-list h l.1)
   where
-    by : (b : Bool) → is_peer_event x.entry.made.caller x.entry.made.op ≡ b → SideLawful b (end_of h) x.entry.made x.told → PeerRuns opening_peer_replay (line 1 h) (end_of h).peer
-        → PeerRuns opening_peer_replay (if is_in 1 x then line 1 h ++ x ∷ [] else line 1 h) (peer_after (end_of h).peer x.entry.made x.told b)
-    by false e w r = subst (λ c. PeerRuns opening_peer_replay (if c then line 1 h ++ x ∷ [] else line 1 h) (end_of h).peer) (sym (in_side 1 x false (omega arith) e)) r
-    by true e w r = subst (λ c. PeerRuns opening_peer_replay (if c then line 1 h ++ x ∷ [] else line 1 h) (peer_after (end_of h).peer x.entry.made x.told true)) (sym (in_side 1 x true (omega arith) e))
-        (peer-then opening_peer_replay (end_of h).peer (line 1 h) x r w)
+    by : (b : Bool) → is_peer_event x.entry.made.caller x.entry.made.op ≡ b → SideLawful b (end_of h) x.entry.made x.told → LeadsTo peer_rules opening_peer_replay (line 1 h) (end_of h).peer
+        → LeadsTo peer_rules opening_peer_replay (if is_in 1 x then line 1 h ++ x ∷ [] else line 1 h) (peer_after (end_of h).peer x.entry.made x.told b)
+    by false e w r = subst (λ c. LeadsTo peer_rules opening_peer_replay (if c then line 1 h ++ x ∷ [] else line 1 h) (end_of h).peer) (sym (in_side 1 x false (omega arith) e)) r
+    by true e w r = subst (λ c. LeadsTo peer_rules opening_peer_replay (if c then line 1 h ++ x ∷ [] else line 1 h) (peer_after (end_of h).peer x.entry.made x.told true)) (sym (in_side 1 x true (omega arith) e))
+        (LeadsTo-push peer_rules opening_peer_replay (line 1 h) (end_of h).peer x (peer_after (end_of h).peer x.entry.made x.told true) r record { lawful = w; state = refl })
 
 pub known_lists_are_lawful : KnownListsAreLawful
 known_lists_are_lawful h l = record { managed = managed-list h l; peer = peer-list h l }

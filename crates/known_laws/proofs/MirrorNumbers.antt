@@ -1,6 +1,6 @@
 -- Each cycle that was ever mirrored was opened, and before its mirror the driver's cycle is later than each of them: a snapshot
 -- opens the next number, only the mirror adds a number, and that is the open cycle's.
-use Rattle.std.proofs.Common.{◌≡◌, ◌⊎◌, inl, inr, ⊎_elim, ℕ, ◌+◌, ◌≤◌, List, [], ◌∷◌, Option, Some, None, refl, sym, ap, subst, arith}
+use Rattle.std.proofs.Common.{◌≡◌, ◌⊎◌, inl, inr, ⊎_elim, ℕ, ◌≤◌, List, [], ◌∷◌, Option, Some, None, refl, sym, ap, subst, arith}
 use Rattle.std.specs.Prelude.{Contains}
 use Rattle.std.proofs.lemmas.List.Elements.{Contains-append_cases}
 use Rattle.joint_model.specs.declared.names.Thread.{Thread}

@@ -34,13 +34,13 @@ use Rattle.known_laws.proofs.Later.{kept_end}
 use Rattle.known_laws.proofs.PastsJoin.{below}
 
 -- events that open and close no cycle
-abbrev IsKeeping : Op → Type 0
+abbrev pub IsKeeping : Op → Type 0
 IsKeeping (op.Snap k) = ⊥
 IsKeeping (op.Resolve k) = ⊥
 IsKeeping (op.Abandon k) = ⊥
 IsKeeping _ = Unit {0}
 
-opened_on : (st : Stand) (num : ℕ) (o : Op) (reply : Reply) (told : Told) → IsKeeping o → opened_of (stand_after st num o reply told) ≡ opened_of st
+pub opened_on : (st : Stand) (num : ℕ) (o : Op) (reply : Reply) (told : Told) → IsKeeping o → opened_of (stand_after st num o reply told) ≡ opened_of st
 opened_on st num (op.Snap k) reply told x = absurd x
 opened_on st num (op.Resolve k) reply told x = absurd x
 opened_on st num (op.Abandon k) reply told x = absurd x

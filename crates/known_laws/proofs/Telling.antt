@@ -41,11 +41,11 @@ one : (xs ys : List ℕ) (Q : ℕ → Type 0) → Rises xs → Rises ys → ((m 
 one xs ys Q r s f g = Rises-one xs ys r s (λ m c. (g m).1 ((f m).0 c)) (λ m c. (f m).1 ((g m).0 c))
 
 -- the event is no refusal
-abbrev IsTelling : Op → Type 0
+abbrev pub IsTelling : Op → Type 0
 IsTelling (op.Refused w) = ⊥
 IsTelling _ = Unit {0}
 
-managed_told : IsOneContraction → (m : ManagedReplay) (o : Op) (t u : Told) → IsTelling o → ManagedAllows m o t → ManagedAllows m o u
+pub managed_told : IsOneContraction → (m : ManagedReplay) (o : Op) (t u : Told) → IsTelling o → ManagedAllows m o t → ManagedAllows m o u
     → ((k : Cycle) (alive alive' : List Answer) (freed freed' : List ℕ) → o ≡ op.Resolve k → t ≡ resolution_of alive freed → u ≡ resolution_of alive' freed' → alive ≡ alive') → t ≡ u
 managed_told cu m (op.Line a) nothing nothing n w v r = refl
 managed_told cu m (op.Line a) nothing _ n w v r = absurd v
@@ -130,7 +130,7 @@ line_told s t x cites nothing nothing w v = refl
 line_told s t x cites nothing _ w v = absurd v
 line_told s t x cites _ b w v = absurd w
 
-peer_told : (s : PeerReplay) (t : Thread) (o : Op) (cites : Option ℕ) (a b : Told) → PeerAllows s t o cites a → PeerAllows s t o cites b
+pub peer_told : (s : PeerReplay) (t : Thread) (o : Op) (cites : Option ℕ) (a b : Told) → PeerAllows s t o cites a → PeerAllows s t o cites b
     → ((k : Cycle) (xs ys : List (ℕ × ℕ)) → o ≡ op.Mirror k → a ≡ references_of xs → b ≡ references_of ys → xs ≡ ys) → a ≡ b
 peer_told s t (op.Line x) cites a b w v r = line_told s t x cites a b w v
 peer_told s t op.Sweep cites a b w v r = sweep_told s s.marking t a b w v
@@ -141,11 +141,11 @@ peer_told s t o cites nothing nothing w v r = refl
 peer_told s t o cites nothing _ w v r = absurd v
 peer_told s t o cites _ b w v r = absurd w
 
-mirrors : (st : Stand) (m : Managed) (i : List Issued) (k : ℕ) (cites : Option ℕ) (xs ys : List (ℕ × ℕ)) → MayMirrorNow st m i k cites (references_of xs) → MayMirrorNow st m i k cites (references_of ys) → xs ≡ ys
+pub mirrors : (st : Stand) (m : Managed) (i : List Issued) (k : ℕ) (cites : Option ℕ) (xs ys : List (ℕ × ℕ)) → MayMirrorNow st m i k cites (references_of xs) → MayMirrorNow st m i k cites (references_of ys) → xs ≡ ys
 mirrors (contracted o comps xrefs) m i k cites xs ys w v = w.2 ∙ sym v.2
 mirrors _ m i k cites xs ys w v = absurd w
 
-resolves_alike : (st : Stand) (k : ℕ) (cites : Option ℕ) (x y : List Answer) (f g : List ℕ) → MayResolveNow st k cites (resolution_of x f) → MayResolveNow st k cites (resolution_of y g) → x ≡ y
+pub resolves_alike : (st : Stand) (k : ℕ) (cites : Option ℕ) (x y : List Answer) (f g : List ℕ) → MayResolveNow st k cites (resolution_of x f) → MayResolveNow st k cites (resolution_of y g) → x ≡ y
 resolves_alike (restored o answers clear) k cites x y f g w v = w.2 ∙ sym v.2
 resolves_alike _ k cites x y f g w v = absurd w
 
@@ -174,7 +174,7 @@ telling_is_one cu s e t u n a b = by (is_peer_event e.made.caller e.made.op) a.l
         (subst (λ (z : Op × Told). Allowed e.made.caller z.0 z.1) (λ i. (o i, p i)) a.order) (subst (λ (z : Op × Told). Allowed e.made.caller z.0 z.1) (λ i. (o i, q i)) b.order))
 
 -- a refusal tells the driver's phase: the reply has it, but for `cycle` and `snap`, which are told plainly
-phases : (stand : Stand) (c : ℕ) (p q : Phase) → IsPhaseOf stand c p → IsPhaseOf stand c q → (p ≡ at.Weakened → IsSeen stand) → (q ≡ at.Weakened → IsSeen stand) → p ≡ q
+pub phases : (stand : Stand) (c : ℕ) (p q : Phase) → IsPhaseOf stand c p → IsPhaseOf stand c q → (p ≡ at.Weakened → IsSeen stand) → (q ≡ at.Weakened → IsSeen stand) → p ≡ q
 phases (weakening o count weakened swept) c p q a b x y = ⊎_elim
     (λ u. ⊎_elim
     (λ v. u.0 ∙ sym v.0)
@@ -195,10 +195,10 @@ phases (restored o answers clear) c p q a b x y = a ∙ sym b
 at-same : (p q : Phase) (r : Reply) → r ≡ says.At p → r ≡ says.At q → p ≡ q
 at-same p q r e f = let w : says.At p ≡ says.At q = sym e ∙ f in cc
 
-seen-cycle : (stand : Stand) (p : Phase) → TellsPlainly stand (op.Refused word.Cycle) (phase_of p) → p ≡ at.Weakened → IsSeen stand
+pub seen-cycle : (stand : Stand) (p : Phase) → TellsPlainly stand (op.Refused word.Cycle) (phase_of p) → p ≡ at.Weakened → IsSeen stand
 seen-cycle stand p w e = subst (λ z. TellsPlainly stand (op.Refused word.Cycle) (phase_of z)) e w
 
-seen-snap : (stand : Stand) (p : Phase) → TellsPlainly stand (op.Refused word.Snap) (phase_of p) → p ≡ at.Weakened → IsSeen stand
+pub seen-snap : (stand : Stand) (p : Phase) → TellsPlainly stand (op.Refused word.Snap) (phase_of p) → p ≡ at.Weakened → IsSeen stand
 seen-snap stand p w e = subst (λ z. TellsPlainly stand (op.Refused word.Snap) (phase_of z)) e w
 
 refusals : (s : ManagedReplay) (stand : Stand) (c : ℕ) (w : PhaseWord) (r : Reply) (p q : Phase) → IsPhaseOf stand c p → IsPhaseOf stand c q → r ≡ refusal_to s.managed p w → r ≡ refusal_to s.managed q w
@@ -230,7 +230,7 @@ told_is_one s e t u a b = by e.made.caller e.made.op a b
     by (P n) (op.Refused w) a b = absurd a.0.event
     by c o a b = telling_is_one is_one_contraction s (entry c o) t u tt a.0 b.0
 
-plainly_by : (stand : Stand) (w : PhaseWord) (p : Phase) → (p ≡ at.Weakened → IsSeen stand) → TellsPlainly stand (op.Refused w) (phase_of p)
+pub plainly_by : (stand : Stand) (w : PhaseWord) (p : Phase) → (p ≡ at.Weakened → IsSeen stand) → TellsPlainly stand (op.Refused w) (phase_of p)
 plainly_by stand word.Cycle at.Weakened f = f refl
 plainly_by stand word.Snap at.Weakened f = f refl
 plainly_by stand word.Cycle _ f = tt
@@ -238,7 +238,7 @@ plainly_by stand word.Snap _ f = tt
 plainly_by stand _ p f = tt
 
 -- where it isn't seen that the phase is the weakened one, the mirrored one may be told
-retold : (s : ManagedReplay) (stand : Stand) (c : ℕ) (w : PhaseWord) (p : Phase) → IsPhaseOf stand c p → MayRefuse s w p → TellsPlainly stand (op.Refused w) (phase_of p)
+pub retold : (s : ManagedReplay) (stand : Stand) (c : ℕ) (w : PhaseWord) (p : Phase) → IsPhaseOf stand c p → MayRefuse s w p → TellsPlainly stand (op.Refused w) (phase_of p)
     ⊎ (IsPhaseOf stand c at.Mirrored × MayRefuse s w at.Mirrored × (refusal_to s.managed p w ≡ refusal_to s.managed at.Mirrored w))
 retold s (weakening o zero false swept) c w at.Weakened a m = by w m
   where

@@ -1,30 +1,21 @@
 -- Each side's own list, as a past has it: lawful by itself, and giving that side's state.
-use Rattle.std.specs.Prelude.{◌≡◌, ℕ, true, false, List, [], ◌∷◌, filter, ◌+◌}
+use Rattle.std.specs.Prelude.{◌≡◌, ℕ, List, filter, ◌+◌}
 use Rattle.joint_model.specs.declared.names.Thread.{Thread}
 use Rattle.joint_model.specs.declared.events.Entry.{Entry}
 use Rattle.joint_model.specs.Control.{caller_place}
 use Rattle.joint_model.specs.Lines.{IsThread}
-use Rattle.joint_model.specs.Linked.{ManagedLawful, PeerLawful, managed_after, peer_after}
-use Rattle.joint_model.specs.ManagedReplay.{ManagedReplay, opening_replay}
-use Rattle.joint_model.specs.PeerReplay.{PeerReplay, opening_peer_replay, is_thread}
+use Rattle.joint_model.specs.ManagedReplay.{opening_replay}
+use Rattle.joint_model.specs.PeerReplay.{opening_peer_replay, is_thread}
+use Rattle.joint_model.specs.Sides.{managed_rules, peer_rules, LeadsTo}
 use Rattle.joint_model.specs.Told.{Noted}
 use Rattle.known_laws.specs.Pasts.{line, end_of, Lawful}
 use Rattle.known_laws.specs.Growing.{AreKnown, entries_in}
 use Rattle.joint_model.specs.Draws.{NumberedFrom}
 
--- the managed entries are lawful one after the other, from a state to another
-abbrev pub ManagedRuns : ManagedReplay → List Noted → ManagedReplay → Type 0
-ManagedRuns r [] t = r ≡ t
-ManagedRuns r (n ∷ ns) t = ManagedLawful r n.entry.made n.told × ManagedRuns (managed_after r n.entry.made n.told false) ns t
-
-abbrev pub PeerRuns : PeerReplay → List Noted → PeerReplay → Type 0
-PeerRuns r [] t = r ≡ t
-PeerRuns r (n ∷ ns) t = PeerLawful r n.entry.made n.told × PeerRuns (peer_after r n.entry.made n.told true) ns t
-
--- so it is of each side's list in a past
+-- each side's list in a past is lawful, and leads to that side's state at the past's end
 pub record AreListsLawful (h : List Noted) : Type 0 where
-  pub managed : ManagedRuns opening_replay (line 0 h) (end_of h).managed
-  pub peer : PeerRuns opening_peer_replay (line 1 h) (end_of h).peer
+  pub managed : LeadsTo managed_rules opening_replay (line 0 h) (end_of h).managed
+  pub peer : LeadsTo peer_rules opening_peer_replay (line 1 h) (end_of h).peer
 
 abbrev pub KnownListsAreLawful : Type 0
 KnownListsAreLawful = (h : List Noted) → Lawful h → AreListsLawful h

@@ -1,5 +1,5 @@
 -- What a seat knows: a past, latest entry first, with numbers left out, and its lines.
-use Rattle.std.specs.Prelude.{◌≡◌, ℕ, ◌+◌, ◌==◌, ◌||◌, ◌⊎◌, Bool, if◌then◌else◌, List, [], ◌∷◌, ◌++◌, map, Contains, Some}
+use Rattle.std.specs.Prelude.{◌≡◌, ℕ, ◌+◌, ◌≤◌, ◌==◌, ◌||◌, ◌⊎◌, Bool, if◌then◌else◌, List, [], ◌∷◌, ◌++◌, map, Contains, Some}
 use mathlib.Core.List.{IsPrefix}
 use Rattle.joint_model.specs.Components.{mirror_edges}
 use Rattle.joint_model.specs.Control.{Opened, contracted, caller_place, candidates_of, IsCandidateHandle, carried_edges}
@@ -73,6 +73,11 @@ pub record IsSameForDriver (s t : Linkage) : Type 0 where
 -- the open cycle's dead part is frozen: two pasts in which the driver did the same have the same for the driver
 abbrev pub IsFrozenIn : List Noted → Type 0
 IsFrozenIn whole = (a b : List Noted) → Lawful a → Lawful b → Within whole a → Within whole b → line 2 a ≡ line 2 b → IsSameForDriver (end_of a) (end_of b)
+
+-- an entry that may come after one past of a run may come after another that has the same line of its list and of its caller
+abbrev pub EntryMayMove : Type 0
+EntryMayMove = (whole a b : List Noted) → Lawful a → Lawful b → Within whole a → Within whole b → (x : Noted) → line (role_of x) a ≡ line (role_of x) b → line (own_of x) a ≡ line (own_of x) b
+    → next_of b ≤ x.entry.number → MayComeLater (next_of a) (end_of a) x → MayComeLater (next_of b) (end_of b) x
 
 -- what two pasts of one run know together is a past of it
 pub record Joined (a b : List Noted) : Type 0 where

@@ -1,0 +1,144 @@
+-- The dead part of the driver's open cycle is that of the state just after its snap, since no entry behind the snap that leaves the
+-- cycle open changes it: the others' events go on, and the driver's own leave the managed objects alone. The state just after the snap
+-- is given by the managed line up to it, which all pasts have that have the snap.
+use Rattle.std.proofs.Common.{◌≡◌, inl, ℕ, true, false, List, [], ◌∷◌, ◌++◌, map, Option, Some, refl, sym, ap, ◌∙◌, subst, arith}
+use Rattle.std.specs.Prelude.{if◌then◌else◌}
+use Rattle.std.proofs.lemmas.Option.{same_Some}
+use Rattle.joint_model.specs.declared.names.Thread.{Thread}
+use Rattle.joint_model.specs.declared.names.Thread.TheVariants.{M, P, C}
+use Rattle.joint_model.specs.declared.events.Op.{Op}
+use Rattle.joint_model.specs.declared.events.Op.TheVariants as op
+use Rattle.joint_model.specs.declared.events.Reply.{Reply}
+use Rattle.joint_model.specs.declared.events.Made.{Made}
+use Rattle.joint_model.specs.Control.{Opened, control_after}
+use Rattle.joint_model.specs.Lines.{IsEvent, is_peer_event}
+use Rattle.joint_model.specs.Linked.{SideLawful, managed_after}
+use Rattle.joint_model.specs.Managed.{Managed}
+use Rattle.joint_model.specs.ManagedReplay.{ManagedReplay}
+use Rattle.joint_model.specs.Run.{thread_number}
+use Rattle.joint_model.specs.Told.{Told, Noted, contraction_of, phase_of}
+use Rattle.joint_model.proofs.Deciding.{none_some}
+use Rattle.joint_laws.specs.ManagedInvariants.{IsReplayKept}
+use Rattle.joint_laws.proofs.ManagedMoves.{GoesOn, GoesOn-stay, managed_line-goes_on}
+use Rattle.known_laws.specs.Pasts.{In, Lawful, Within, end_of, is_in, role_of}
+use Rattle.known_laws.specs.Growing.{untold}
+use Rattle.known_laws.specs.Facts.{opened_of, DeadPartIsOfSnap, SnapTellsDeadPart}
+use Rattle.known_laws.proofs.Agreeing.{pasts_agree, tell, within_told, self_a, self_b}
+use Rattle.known_laws.proofs.CitedOnce.{each_stands_behind}
+use Rattle.known_laws.proofs.FrozenPasts.{Alike, alike_self, alike_on, alike_meet, goes_by, one_behind, dead_part-alike}
+use Rattle.known_laws.proofs.Growing.{runs_untold, within_by}
+use Rattle.known_laws.proofs.Later.{kept_end}
+use Rattle.known_laws.proofs.Parts.{same_managed}
+use Rattle.known_laws.proofs.PastLines.{in_role, in_right}
+use Rattle.known_laws.proofs.PastsJoin.{below, within_past}
+use Rattle.known_laws.proofs.SnapTold.{IsKeeping, opened_on, snap_tells_cycle}
+
+-- the driver's events that keep the cycle go on
+driver_goes : (r : ManagedReplay) (index : ℕ) (reply : Reply) (cites : Option ℕ) (o : Op) (told : Told) → IsReplayKept r → IsKeeping o → IsEvent C o
+    → GoesOn r.managed (managed_after r (record { caller = C; index = index; op = o; reply = reply; cites = cites }) told (is_peer_event C o)).managed
+driver_goes r index reply cites (op.Line a) told k x e = managed_line-goes_on r.managed (thread_number C) a k.managed.places k.managed.cells
+driver_goes r index reply cites (op.Snap c) told k x e = absurd x
+driver_goes r index reply cites (op.Resolve c) told k x e = absurd x
+driver_goes r index reply cites (op.Abandon c) told k x e = absurd x
+driver_goes r index reply cites (op.Contract c) (contraction_of comps xrefs) k x e = GoesOn-stay r.managed
+driver_goes r index reply cites (op.Contract c) _ k x e = GoesOn-stay r.managed
+driver_goes r index reply cites (op.Refused w) (phase_of p) k x e = GoesOn-stay r.managed
+driver_goes r index reply cites (op.Refused w) _ k x e = GoesOn-stay r.managed
+driver_goes r index reply cites (op.Adopt v kind f p h) told k x e = absurd e.0
+driver_goes r index reply cites (op.Lend v y) told k x e = absurd e.0
+driver_goes r index reply cites (op.Meet v p h sort f) told k x e = absurd e.0
+driver_goes r index reply cites (op.Give v) told k x e = absurd e.0
+driver_goes r index reply cites _ told k x e = GoesOn-stay r.managed
+
+-- an entry behind which the driver has the same cycle open goes on
+record Keeps (y : Noted) (h : List Noted) (o : Opened) : Type 0 where
+  opened : opened_of (end_of h).control.stand ≡ Some o
+  goes : GoesOn (end_of h).managed.managed (end_of (y ∷ h)).managed.managed
+
+keeps : (y : Noted) (h : List Noted) → Lawful (y ∷ h) → (o : Opened) → opened_of (end_of (y ∷ h)).control.stand ≡ Some o → (y.entry.number ≡ o.snap → ⊥) → Keeps y h o
+keeps y h l o e later = by y.entry.made.caller y.entry.made.op refl refl l.0.comes.event l.0.comes.lawful
+  where
+    made : Thread → Op → Made
+    made t p = record { caller = t; index = y.entry.made.index; op = p; reply = y.entry.made.reply; cites = y.entry.made.cites }
+
+    R : Thread → Op → Managed
+    R t p = (managed_after (end_of h).managed (made t p) y.told (is_peer_event t p)).managed
+
+    Stood : Thread → Op → Option Opened
+    Stood t p = opened_of (control_after (end_of h).control t y.entry.number y.entry.made.index p y.entry.made.reply y.told).stand
+
+    goes : (t : Thread) (p : Op) → y.entry.made.caller ≡ t → y.entry.made.op ≡ p → GoesOn (end_of h).managed.managed (R t p) → GoesOn (end_of h).managed.managed (end_of (y ∷ h)).managed.managed
+    goes t p c f g = subst (GoesOn (end_of h).managed.managed) (λ i. R (sym c i) (sym f i)) g
+
+    stood : (t : Thread) (p : Op) → y.entry.made.caller ≡ t → y.entry.made.op ≡ p → Stood t p ≡ Some o
+    stood t p c f = (λ i. Stood (sym c i) (sym f i)) ∙ e
+
+    others : (t : Thread) (p : Op) → y.entry.made.caller ≡ t → y.entry.made.op ≡ p → (t ≡ C → ⊥) → IsEvent t p → SideLawful (is_peer_event t p) (end_of h) (made t p) y.told → GoesOn (end_of h).managed.managed (end_of (y ∷ h)).managed.managed
+    others t p c f n v s = goes t p c f (goes_by (end_of h).managed (made t p) y.told (is_peer_event t p) (end_of h) refl n v (kept_end h l.1).managed s)
+
+    by : (t : Thread) (p : Op) → y.entry.made.caller ≡ t → y.entry.made.op ≡ p → IsEvent t p → SideLawful (is_peer_event t p) (end_of h) (made t p) y.told → Keeps y h o
+    by (M u) p c f v s = record { opened = stood (M u) p c f; goes = others (M u) p c f (λ z. cc) v s }
+    by (P u) p c f v s = record { opened = stood (P u) p c f; goes = others (P u) p c f (λ z. cc) v s }
+    by C (op.Snap k) c f v s = absurd (later (ap (λ (z : Opened). z.snap) (same_Some _ _ (stood C (op.Snap k) c f))))
+    by C (op.Resolve k) c f v s = absurd (none_some o (stood C (op.Resolve k) c f))
+    by C (op.Abandon k) c f v s = absurd (none_some o (stood C (op.Abandon k) c f))
+    by C p c f v s = record {
+      opened = sym (opened_on (end_of h).control.stand y.entry.number p y.entry.made.reply y.told tt) ∙ stood C p c f;
+      goes = goes C p c f (driver_goes (end_of h).managed y.entry.made.index y.entry.made.reply y.entry.made.cites p y.told (kept_end h l.1).managed tt v);
+    }
+
+stays_alike : (h front back : List Noted) (x : Noted) → Lawful h → h ≡ front ++ x ∷ back → (o : Opened) → opened_of (end_of h).control.stand ≡ Some o → x.entry.number ≡ o.snap → Alike (end_of h).managed.managed (end_of (x ∷ back)).managed.managed
+stays_alike h [] back x l e o q n = subst (λ z. Alike (end_of z).managed.managed (end_of (x ∷ back)).managed.managed) (sym e) (alike_self _)
+stays_alike [] (y ∷ front) back x l e o q n = absurd (cc)
+stays_alike (y ∷ h) (z ∷ front) back x l e o q n =
+    let rest : h ≡ front ++ x ∷ back = cc in
+    let there : In h x = subst (λ k. In k x) (sym rest) (in_right front (x ∷ back) x (inl refl)) in
+    let less = below y h x l.0 l.1 there in
+    let k = keeps y h l o q (λ m. omega (arith, less, n, m)) in
+    alike_on (end_of h).managed.managed (end_of (y ∷ h)).managed.managed (end_of (x ∷ back)).managed.managed (kept_end h l.1).managed.managed k.goes (stays_alike h front back x l.1 rest o k.opened n)
+
+behind_lawful : (front : List Noted) (x : Noted) (back : List Noted) → Lawful (front ++ x ∷ back) → Lawful (x ∷ back)
+behind_lawful [] x back l = l
+behind_lawful (y ∷ front) x back l = behind_lawful front x back l.1
+
+pub dead_part_is_of_snap : DeadPartIsOfSnap
+dead_part_is_of_snap h front back x l e o q n =
+    dead_part-alike (end_of h).managed.managed (end_of (x ∷ back)).managed.managed (kept_end h l).managed.managed (kept_end (x ∷ back) (behind_lawful front x back (subst Lawful e l))).managed.managed (stays_alike h front back x l e o q n)
+
+within_front : (whole front : List Noted) (x : Noted) (back : List Noted) → Within whole (front ++ x ∷ back) → Within whole (x ∷ back)
+within_front whole [] x back w = w
+within_front whole (y ∷ front) x back w = within_front whole front x back (within_past whole y (front ++ x ∷ back) w)
+
+-- the managed side just after one snap is one
+one_snap : (whole : List Noted) (x : Noted) (a b : List Noted) → is_peer_event x.entry.made.caller x.entry.made.op ≡ false → Lawful (x ∷ a) → Lawful (x ∷ b) → Within whole (x ∷ a) → Within whole (x ∷ b) → (end_of (x ∷ a)).managed ≡ (end_of (x ∷ b)).managed
+one_snap whole x a b e la lb wa wb =
+    let r : role_of x ≡ 0 = ap (λ z. if z then 1 else 0) e in
+    let same = same_managed a b (one_behind whole 0 x a b la lb wa wb (subst (λ i. is_in i x ≡ true) r (in_role x))) in
+    ap (λ (z : ManagedReplay). managed_after z x.entry.made x.told (is_peer_event x.entry.made.caller x.entry.made.op)) same
+
+pub snap_tells_dead_part : SnapTellsDeadPart
+snap_tells_dead_part whole ls ms a b numbered wa wb o p ea eb same =
+    let w = map untold whole in
+    let runs = runs_untold 0 whole numbered in
+    let ia = within_by whole ls a wa in
+    let ib = within_by whole ms b wb in
+    let agree = pasts_agree w a.past b.past runs a.lawful b.lawful ia ib in
+    let t = map (tell a.past b.past) w in
+    let na : Within t a.past = within_told w runs a.past b.past a.past ia ib ia (self_a w runs a.past b.past a.lawful) in
+    let nb : Within t b.past = within_told w runs a.past b.past b.past ia ib ib (self_b w runs a.past b.past b.lawful agree) in
+    let x = snap_tells_cycle a.past a.lawful o ea in
+    let y = snap_tells_cycle b.past b.lawful p eb in
+    let one : x.entry ≡ y.entry = agree x.entry y.entry x.there y.there (x.number ∙ (same ∙ sym y.number)) in
+    let sx = each_stands_behind a.past a.lawful x.entry x.there in
+    let sy = each_stands_behind b.past b.lawful y.entry y.there in
+    let ax = stays_alike a.past sx.front sx.back x.entry a.lawful sx.all o ea x.number in
+    let ay = stays_alike b.past sy.front sy.back y.entry b.lawful sy.all p eb y.number in
+    let wx : Within t (x.entry ∷ sx.back) = within_front t sx.front x.entry sx.back (subst (Within t) sx.all na) in
+    let wy : Within t (y.entry ∷ sy.back) = within_front t sy.front y.entry sy.back (subst (Within t) sy.all nb) in
+    let snaps : is_peer_event x.entry.entry.made.caller x.entry.entry.made.op ≡ false = ap (is_peer_event x.entry.entry.made.caller) x.event in
+    let at : (end_of (x.entry ∷ sx.back)).managed ≡ (end_of (y.entry ∷ sy.back)).managed =
+    one_snap t x.entry sx.back sy.back snaps sx.lawful (subst (λ z. Lawful (z ∷ sy.back)) (sym one) sy.lawful) wx (subst (λ z. Within t (z ∷ sy.back)) (sym one) wy)
+    ∙ ap (λ z. (end_of (z ∷ sy.back)).managed) one in
+    let ay' = subst (λ (z : ManagedReplay). Alike (end_of b.past).managed.managed z.managed) (sym at) ay in
+    dead_part-alike (end_of a.past).managed.managed (end_of b.past).managed.managed (kept_end a.past a.lawful).managed.managed (kept_end b.past b.lawful).managed.managed
+    (alike_meet (end_of a.past).managed.managed (end_of (x.entry ∷ sx.back)).managed.managed (end_of b.past).managed.managed ax ay')

@@ -1,0 +1,156 @@
+-- Citations. The later event of an operation cites the earlier one, a mirror and a weaken cite the snap of their cycle, a resolve
+-- its clear. What an entry cites agrees with its data, and no entry is cited twice, but a snap.
+use Rattle.std.specs.Prelude.{◌≡◌, ℕ, ◌<◌, ◌↔◌, ◌⊎◌, List, [], ◌∷◌, ◌++◌, length, map, Contains, Option, Some, None, slice_get}
+use Rattle.joint_model.specs.declared.names.Sort.{Sort}
+use Rattle.joint_model.specs.declared.names.Var.{Var}
+use Rattle.joint_model.specs.declared.names.StaticNo.{StaticNo}
+use Rattle.joint_model.specs.declared.names.PNum.{PNum}
+use Rattle.joint_model.specs.declared.names.HNum.{HNum}
+use Rattle.joint_model.specs.declared.names.Cycle.{Cycle}
+use Rattle.joint_model.specs.declared.events.Op.{Op}
+use Rattle.joint_model.specs.declared.events.Op.TheVariants as op
+use Rattle.joint_model.specs.declared.events.Reply.{Reply}
+use Rattle.joint_model.specs.declared.events.Reply.TheVariants as says
+use Rattle.joint_model.specs.declared.events.Made.{Made}
+use Rattle.joint_model.specs.Components.{mirror_edges}
+use Rattle.joint_model.specs.Control.{candidates_of, carried_edges, answer_in, IsCandidateHandle}
+use Rattle.joint_model.specs.Cycles.{IsDeadContraction, IsOpen}
+use Rattle.joint_model.specs.Linked.{Linkage}
+use Rattle.joint_model.specs.Managed.{Managed, OpenCycle, ManagedEdge, handle_of}
+use Rattle.joint_model.specs.PeerReplay.{Mirror}
+use Rattle.joint_model.specs.Told.{Told, Noted, references_of, resolution_of, Answer, said_alive}
+use Rattle.joint_model.specs.Walks.{Reaches}
+use Rattle.known_laws.specs.Pasts.{In, Lawful, end_of}
+
+-- an earlier entry of the past is cited, of the same caller, and it is as the citing entry's data say
+pub record HasCited (h : List Noted) (x : Made) (number : ℕ) (IsAsSaid : Made → Type 0) : Type 0 where
+  pub cited : Noted
+  pub there : In h cited
+  pub by_number : x.cites ≡ Some cited.entry.number
+  pub earlier : cited.entry.number < number
+  pub same : cited.entry.made.caller ≡ x.caller
+  pub as_said : IsAsSaid cited.entry.made
+
+-- each kind of cited entry, as the citing one's line and data say: the make of a pair, the lend of a handle to a static, the grip
+-- of a peer, a meet that didn't take the handle, the give of a handle, the snap and the clear of a cycle
+abbrev pub IsMakeOf : ℕ → PNum → HNum → Made → Type 0
+IsMakeOf line p h m = (sort : Sort) × (f : ℕ) × (m.index ≡ line) × (m.op ≡ op.Make sort f) × (m.reply ≡ says.Made p h)
+
+abbrev pub IsLendOf : ℕ → HNum → StaticNo → Made → Type 0
+IsLendOf line h x m = (v : Var) × (m.index ≡ line) × (m.op ≡ op.Lend v x) × (m.reply ≡ says.H h)
+
+abbrev pub IsGripOf : ℕ → PNum → HNum → Sort → ℕ → Made → Type 0
+IsGripOf line p h sort f m = (x : StaticNo) × (m.index ≡ line) × (m.op ≡ op.Grip x) × (m.reply ≡ says.Gripped p h sort f)
+
+abbrev pub IsNotNew : Reply → Type 0
+IsNotNew (says.New m) = ⊥
+IsNotNew _ = Unit {0}
+
+abbrev pub IsGiveOf : ℕ → HNum → Made → Type 0
+IsGiveOf line h m = (v : Var) × (m.index ≡ line) × (m.op ≡ op.Give v) × (m.reply ≡ says.H h)
+
+abbrev pub IsMeetOf : ℕ → HNum → Made → Type 0
+IsMeetOf line h m = (v : Var) × (p : PNum) × (sort : Sort) × (f : ℕ) × (m.index ≡ line) × (m.op ≡ op.Meet v p h sort f) × IsNotNew m.reply
+
+abbrev pub IsSnapOf : ℕ → Made → Type 0
+IsSnapOf cycle m = m.op ≡ op.Snap record { 0 = cycle }
+
+abbrev pub IsClearOf : ℕ → Made → Type 0
+IsClearOf cycle m = m.op ≡ op.Clear record { 0 = cycle }
+
+-- what the entry has to cite; every other one cites nothing
+abbrev pub Cites : List Noted → Made → ℕ → Op → Type 0
+Cites h x n (op.Adopt v kind k p g) = HasCited h x n (IsMakeOf x.index p g)
+Cites h x n (op.Land g y) = HasCited h x n (IsLendOf x.index g y)
+Cites h x n (op.Meet v p g sort f) = HasCited h x n (IsGripOf x.index p g sort f)
+Cites h x n (op.Release g) = HasCited h x n (λ m. IsGiveOf x.index g m ⊎ IsMeetOf x.index g m)
+Cites h x n (op.Mirror k) = HasCited h x n (IsSnapOf k.0)
+Cites h x n (op.Weaken g) = HasCited h x n (λ m. (k : ℕ) × IsSnapOf k m)
+Cites h x n (op.Resolve k) = HasCited h x n (IsClearOf k.0)
+Cites h x n _ = x.cites ≡ None
+
+-- each entry of a known past cites what it has to
+abbrev pub PastsCite : Type 0
+PastsCite = (x : Noted) (h : List Noted) → Lawful (x ∷ h) → Cites h x.entry.made x.entry.number x.entry.made.op
+
+-- the event is a snap
+abbrev pub IsSnapping : Op → Type 0
+IsSnapping (op.Snap k) = Unit {0}
+IsSnapping o = ⊥
+
+-- no entry of a past is cited by two, but a snap
+abbrev pub NoneIsCitedTwice : Type 0
+NoneIsCitedTwice = (h : List Noted) → Lawful h → (x y z : Noted) → In h x → In h y → In h z → x.entry.made.cites ≡ Some z.entry.number → y.entry.made.cites ≡ Some z.entry.number → (x ≡ y) ⊎ IsSnapping z.entry.made.op
+
+-- a mirror adds exactly the mirror edges of its cycle's dead part, carried to the peers of the handles, and replies their number
+pub record AddsMirrorEdges (s : Linkage) (told : Told) (reply : Reply) (k : ℕ) : Type 0 where
+  pub cycle : OpenCycle
+  pub open_cycle : IsOpen s.managed.managed k cycle
+  pub comps : List (List ℕ)
+  pub xrefs : List (ℕ × ℕ)
+  pub contraction : IsDeadContraction s.managed.managed cycle.dead comps xrefs
+  pub refs : List (ℕ × ℕ)
+  pub exact : refs ≡ carried_edges s.managed.managed s.peer.peers.issued (mirror_edges comps xrefs)
+  pub tells : told ≡ references_of refs
+  pub replies : reply ≡ says.Refs (length refs)
+
+abbrev pub MirrorsAddMirrorEdges : Type 0
+MirrorsAddMirrorEdges = (x : Noted) (h : List Noted) → Lawful (x ∷ h) → (k : Cycle) → x.entry.made.op ≡ op.Mirror k → AddsMirrorEdges (end_of h) x.told x.entry.made.reply k.0
+
+-- a weaken takes the handle of the next candidate, by how many were weakened in the mirrored cycle, whose snap it cites
+pub record TakesNext (s : Linkage) (cites : Option ℕ) (g : ℕ) : Type 0 where
+  pub mirror : Mirror
+  pub stands : s.peer.mirror ≡ Some mirror
+  pub cited : cites ≡ Some mirror.snap
+  pub candidate : IsCandidateHandle s.managed.managed (length mirror.weakened) g
+
+abbrev pub WeakensTakeNext : Type 0
+WeakensTakeNext = (x : Noted) (h : List Noted) → Lawful (x ∷ h) → (g : HNum) → x.entry.made.op ≡ op.Weaken g → TakesNext (end_of h) x.entry.made.cites g.0
+
+-- the restores of a past since its latest snap, earliest first: the handle of each, and what it answered
+abbrev pub restores_after : Op → Reply → List (ℕ × Answer) → List (ℕ × Answer)
+restores_after (op.Snap k) reply before = []
+restores_after (op.Restore h) reply before = before ++ (h.0, answer_in reply) ∷ []
+restores_after o reply before = before
+
+abbrev pub restores_in : List Noted → List (ℕ × Answer)
+restores_in [] = []
+restores_in (x ∷ h) = restores_after x.entry.made.op x.entry.made.reply (restores_in h)
+
+-- the answers are those of these restores, each of the handle of the candidate in its place
+pub record AreRestored (s : Managed) (restores : List (ℕ × Answer)) (answers : List Answer) : Type 0 where
+  pub same : map (λ r. r.1) restores ≡ answers
+  pub in_turn : (i g : ℕ) (a : Answer) → slice_get restores i ≡ Some (g, a) → IsCandidateHandle s i g
+
+-- the restore of that candidate answered alive
+pub record WasRestoredAlive (s : Managed) (restores : List (ℕ × Answer)) (m : ℕ) : Type 0 where
+  pub place : ℕ
+  pub handle : ℕ
+  pub candidate : slice_get (candidates_of s) place ≡ Some m
+  pub holds : handle_of s m ≡ Some handle
+  pub alive : slice_get restores place ≡ Some (handle, said_alive)
+
+-- a resolve tells the answers of the restores, of which each candidate has one, and frees exactly the rows of the dead part that no
+-- candidate whose restore answered alive leads to
+pub record FreesByRestores (s : Managed) (restores : List (ℕ × Answer)) (told : Told) (k : ℕ) : Type 0 where
+  pub cycle : OpenCycle
+  pub open_cycle : IsOpen s k cycle
+  pub answers : List Answer
+  pub freed : List ℕ
+  pub tells : told ≡ resolution_of answers freed
+  pub restored : AreRestored s restores answers
+  pub one_each : length restores ≡ length cycle.candidates
+  pub frees : (m : ℕ) → Contains freed m ↔ (Contains cycle.dead m × (((c : ℕ) × WasRestoredAlive s restores c × Reaches (ManagedEdge s) c m) → ⊥))
+
+abbrev pub ResolvesFreeByRestores : Type 0
+ResolvesFreeByRestores = (x : Noted) (h : List Noted) → Lawful (x ∷ h) → (k : Cycle) → x.entry.made.op ≡ op.Resolve k → FreesByRestores (end_of h).managed.managed (restores_in h) x.told k.0
+
+-- each entry of a past stands behind a past, so each of these laws is about every entry
+pub record StandsBehind (h : List Noted) (x : Noted) : Type 0 where
+  pub front : List Noted
+  pub back : List Noted
+  pub all : h ≡ front ++ x ∷ back
+  pub lawful : Lawful (x ∷ back)
+
+abbrev pub EachStandsBehind : Type 0
+EachStandsBehind = (h : List Noted) → Lawful h → (x : Noted) → In h x → StandsBehind h x
