@@ -1,7 +1,7 @@
 -- The events of one state with the same words are the same: those of a phase since the state has one, those of a thread by what
 -- its words and the state tell, and a refusal and a `finalise` by their words.
-use Rattle.std.proofs.Common.{◌≡◌, ℕ, zero, suc, ◌+◌, ◌≤◌, ◌<◌, ◌^◌, ◌⊎◌, Bool, true, inl, inr, List, [], ◌∷◌, get_or, codes, decimal, Option, refl, sym, ◌∙◌, ap, subst, arith}
-use Rattle.std.specs.Prelude.{if◌then◌else◌, nat_eq}
+use Rattle.std.proofs.Common.{◌≡◌, ℕ, zero, suc, ◌≤◌, ◌⊎◌, inl, inr, List, [], get_or, codes, decimal, Option, refl, sym, ◌∙◌, ap, arith}
+use Rattle.std.specs.Prelude.{if◌then◌else◌}
 use Rattle.joint_model.specs.declared.names.HNum.{HNum}
 use Rattle.joint_model.specs.declared.names.Kind.{Kind}
 use Rattle.joint_model.specs.declared.names.Kind.TheVariants as kind
@@ -9,9 +9,6 @@ use Rattle.joint_model.specs.declared.names.PNum.{PNum}
 use Rattle.joint_model.specs.declared.names.Sort.{Sort}
 use Rattle.joint_model.specs.declared.names.StaticNo.{StaticNo}
 use Rattle.joint_model.specs.declared.names.Var.{Var}
-use Rattle.joint_model.specs.declared.names.Cycle.{Cycle}
-use Rattle.joint_model.specs.declared.names.Phase.{Phase}
-use Rattle.joint_model.specs.declared.names.Phase.TheVariants as at
 use Rattle.joint_model.specs.declared.names.PhaseWord.{PhaseWord}
 use Rattle.joint_model.specs.declared.names.PhaseWord.TheVariants as word
 use Rattle.joint_model.specs.declared.names.Thread.{Thread}
@@ -21,7 +18,6 @@ use Rattle.joint_model.specs.declared.lines.Act.TheVariants as act
 use Rattle.joint_model.specs.declared.events.Op.{Op}
 use Rattle.joint_model.specs.declared.events.Op.TheVariants as op
 use Rattle.joint_model.specs.declared.events.Reply.{Reply}
-use Rattle.joint_model.specs.declared.events.Reply.TheVariants as says
 use Rattle.joint_model.specs.Control.{Doing, free, made, lent, gripped, given, met, doing_at, Stand, snapped, contracted, MayAdopt, MayLand, MayMeet, MayRelease, MayAbandonNow}
 use Rattle.joint_model.specs.Lines.{IsPlainObject, IsBridgeObject, IsManagedAct, IsPeerAct, IsOneEvent, IsEvent, IsThread, IsManagedThread, IsPeerThread, IsDriver}
 use Rattle.joint_model.specs.Linked.{Linkage}
@@ -32,7 +28,6 @@ use Rattle.bridge_script.proofs.Fitting.{lawful_thread}
 use Rattle.script_histories.proofs.Digits.{decimal-one}
 use Rattle.script_histories.proofs.Reading.{Names, is_word, code}
 use Rattle.script_histories.proofs.Known.{IsBounded, IsKnown, same-event}
-use Rattle.joint_model.specs.Phases.{IsEventOf}
 use Rattle.script_laws.proofs.OneNote.{Allowed}
 use Rattle.script_laws.proofs.Sharing.{Comes, phase-op, clear-op, same-cycle}
 
@@ -159,7 +154,6 @@ peer-known s n (op.Give v) e = absurd e.0
 peer-known s n op.Begin e = tt
 peer-known s n op.Sweep e = tt
 peer-known s n o e = absurd e
-
 
 -- the driver's own events by the first word
 abbrev tag_of : Op → ℕ

@@ -1,10 +1,10 @@
 -- Two linked histories whose entries are told plainly by the same notes are one: the entries are those of the notes, and the freed
 -- lists and notices are those of the replay, which is the same for the notes and for what was told at first.
-use Rattle.std.proofs.Common.{◌≡◌, ℕ, List, [], ◌∷◌, take, refl, sym, ◌∙◌, ap, subst}
+use Rattle.std.proofs.Common.{◌≡◌, ℕ, List, take, sym, ◌∙◌, ap, subst}
 use Rattle.joint_model.specs.declared.names.Thread.{Thread}
 use Rattle.joint_model.specs.declared.lines.Act.{Act}
 use Rattle.joint_model.specs.Draws.{NumberedFrom}
-use Rattle.joint_model.specs.Histories.{Finished, managed_numbers, peer_numbers}
+use Rattle.joint_model.specs.Histories.{Finished, managed_numbers}
 use Rattle.joint_model.specs.Linked.{IsLinked, opening_linkage, replayed, managed_end}
 use Rattle.joint_model.specs.ManagedReplay.{ManagedReplay}
 use Rattle.joint_model.specs.PeerReplay.{PeerReplay}

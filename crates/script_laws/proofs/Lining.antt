@@ -1,5 +1,5 @@
 -- The entries of each line, and of all lines, are the same in two such lists.
-use Rattle.std.proofs.Common.{◌≡◌, ◌⊎◌, inl, inr, ℕ, ◌+◌, Bool, true, false, List, [], ◌∷◌, ◌++◌, length, Option, Some, None, refl, sym, ◌∙◌, ap, subst}
+use Rattle.std.proofs.Common.{◌≡◌, ◌⊎◌, inl, inr, ℕ, List, [], ◌∷◌, ◌++◌, length, Option, Some, None, refl, sym, ◌∙◌, ap, subst}
 use Rattle.std.proofs.lemmas.Option.{same_Some}
 use Rattle.joint_model.specs.declared.names.Thread.{Thread}
 use Rattle.joint_model.specs.declared.names.Thread.TheVariants.{M, P, C}
@@ -16,14 +16,14 @@ use Rattle.joint_model.specs.declared.events.Entry.{Entry}
 use Rattle.joint_model.specs.Control.{Stand, weakening, candidates_of, MayBeginNow}
 use Rattle.joint_model.specs.Draws.{NumberedFrom}
 use Rattle.joint_model.specs.Lines.{IsLine}
-use Rattle.joint_model.specs.Linked.{Linkage, PeerLawful, replayed}
-use Rattle.joint_model.specs.PeerReplay.{PeerReplay, Marking, begun, peer_answer, PeerAllows, SweepAllows}
-use Rattle.joint_model.specs.Told.{Told, Noted, sweep_of}
-use Rattle.joint_model.specs.Phases.{next_phase, phases_left, phases_of, IsEventOf, IsClear, HasSwept, AreEach, AreTimes, AreSwept, AreRestores, ArePhase, candidates_after, ArePhases, NamesPhase, AreRefusal}
-use Rattle.script_laws.specs.Holding.{next_event, AreEventsAfter, Standing, AreWord, AreEvents, standing_after, IsOnLine, AreOnLine, AreLine, AreLeft, HoldsLines}
-use Rattle.script_laws.proofs.OneNote.{Agree, PlainComes, making}
+use Rattle.joint_model.specs.Linked.{Linkage, replayed}
+use Rattle.joint_model.specs.PeerReplay.{PeerReplay, Marking, begun, SweepAllows}
+use Rattle.joint_model.specs.Told.{Told, Noted}
+use Rattle.joint_model.specs.Phases.{next_phase, phases_left, phases_of, IsEventOf, AreTimes, AreSwept, AreRestores, ArePhase, candidates_after, ArePhases, NamesPhase, AreRefusal}
+use Rattle.script_laws.specs.Holding.{AreEventsAfter, Standing, AreWord, AreEvents, standing_after, HoldsLines}
+use Rattle.script_laws.proofs.OneNote.{Agree}
 use Rattle.script_laws.proofs.Retelling.{entries_of, AllPlain}
-use Rattle.script_laws.proofs.Sharing.{OneOn, Shares, Share, Comes, comes-of, agree, next-no, one-op, one-phase, one-clear, shares-none, shares-cons, shares-then, shares-by, times-share}
+use Rattle.script_laws.proofs.Sharing.{OneOn, Shares, Comes, comes-of, agree, next-no, one-op, one-phase, one-clear, shares-none, shares-cons, shares-then, shares-by, times-share}
 
 -- a `mark` sweeps a peer thread's marking exactly where one is open
 begin-none : (s : PeerReplay) (m : Option Marking) (stand : Stand) (n : ℕ) (c : Option ℕ) (r : Reply) → r ≡ (begun s m C).reply → MayBeginNow stand n r c → m ≡ None

@@ -1,6 +1,6 @@
 -- In one state, two entries that may come, told plainly, and have the same caller, line and event are the same, with what is told
 -- beside them; of two refusals the phases that the replies name have to be the same.
-use Rattle.std.proofs.Common.{◌≡◌, ℕ, Bool, true, false, List, length, Option, Some, None, refl, sym, ◌∙◌, ap, subst}
+use Rattle.std.proofs.Common.{◌≡◌, ℕ, Bool, true, false, List, length, Option, sym, ◌∙◌, ap, subst}
 use Rattle.joint_model.specs.declared.names.Thread.{Thread}
 use Rattle.joint_model.specs.declared.names.Thread.TheVariants.{M, P, C}
 use Rattle.joint_model.specs.declared.names.Cycle.{Cycle}

@@ -1,13 +1,10 @@
 -- Two linked histories with one text are the same: line by line, from the place, the event's words and, of a refusal, the reply's.
-use Rattle.std.proofs.Common.{◌≡◌, ℕ, ◌<◌, ◌≤◌, ◌^◌, List, [], ◌∷◌, ◌++◌, get_or, codes, decimal, length, Option, Some, None, ◌+◌, refl, sym, ◌∙◌, ap, subst, arith, lit≤, append_assoc, All}
+use Rattle.std.proofs.Common.{◌≡◌, ℕ, List, [], ◌∷◌, ◌++◌, get_or, codes, decimal, length, ◌+◌, refl, sym, ◌∙◌, ap, subst, arith, lit≤}
 use Rattle.std.proofs.lemmas.List.{append_cancel_left}
-use Rattle.std.proofs.lemmas.List.Elements.{All-head, All-tail}
 use Rattle.joint_model.specs.declared.names.Phase.{Phase}
 use Rattle.joint_model.specs.declared.names.Phase.TheVariants as at
-use Rattle.joint_model.specs.declared.names.PhaseWord.{PhaseWord}
 use Rattle.joint_model.specs.declared.names.PhaseWord.TheVariants as word
 use Rattle.joint_model.specs.declared.names.Thread.{Thread}
-use Rattle.joint_model.specs.declared.names.Thread.TheVariants.{M, P, C}
 use Rattle.joint_model.specs.declared.events.Op.{Op}
 use Rattle.joint_model.specs.declared.events.Op.TheVariants as op
 use Rattle.joint_model.specs.declared.events.Reply.{Reply}
@@ -19,13 +16,13 @@ use Rattle.joint_model.specs.Draws.{NumberedFrom}
 use Rattle.joint_model.specs.Linked.{Linkage, IsLinked, linkage_after, opening_linkage}
 use Rattle.joint_model.specs.Told.{Noted}
 use Rattle.bridge_script.specs.Lists.{after_spaces}
-use Rattle.bridge_script.specs.Report.{event_words, reply_words, phase_text, entries_text, end_text, report}
+use Rattle.bridge_script.specs.Report.{event_words, reply_words, entries_text, end_text, report}
 use Rattle.script_histories.proofs.Cutting.{cut-first, words-one}
 use Rattle.script_histories.proofs.Reading.{is_word}
 use Rattle.script_laws.specs.Laws.{IsOneHistory}
 use Rattle.script_laws.proofs.OneNote.{Agree, Allowed, PlainComes, one-note}
 use Rattle.script_laws.proofs.Retelling.{entries_of, AllPlain, plain_list}
-use Rattle.script_laws.proofs.Sharing.{Comes, comes-of}
+use Rattle.script_laws.proofs.Sharing.{comes-of}
 use Rattle.script_laws.proofs.Finishing.{notes-tell}
 use Rattle.script_histories.proofs.TextLines.{rest_words, whole_words, line_of, line-first, words-lack, line-whole, no-entry, place-one, words-tell}
 use Rattle.script_laws.proofs.Events.{words-same, caller-is}

@@ -1,5 +1,5 @@
 -- Every list of notes whose entries may come has one with the same entries that is told plainly, and leads to the same sides.
-use Rattle.std.proofs.Common.{◌≡◌, ◌⊎◌, inl, inr, ⊎_elim, ℕ, zero, suc, Bool, true, false, List, [], ◌∷◌, length, map, Option, refl, sym, ◌∙◌, ap, subst, true≢false}
+use Rattle.std.proofs.Common.{◌≡◌, ◌⊎◌, inl, inr, ⊎_elim, ℕ, Bool, true, false, List, [], ◌∷◌, length, map, Option, refl, sym, ◌∙◌, ap, subst, true≢false}
 use Rattle.joint_model.specs.declared.names.Thread.{Thread}
 use Rattle.joint_model.specs.declared.names.Thread.TheVariants.{M, P, C}
 use Rattle.joint_model.specs.declared.names.Phase.{Phase}
@@ -13,11 +13,9 @@ use Rattle.joint_model.specs.Control.{Stand, Opened, idle, snapped, contracted, 
 use Rattle.joint_model.specs.Linked.{Linkage, MayCome, AllMayCome, linkage_after, replayed}
 use Rattle.joint_model.specs.Managed.{Managed}
 use Rattle.joint_model.specs.ManagedReplay.{ManagedReplay, MayRefuse, refusal_to}
-use Rattle.joint_model.specs.PeerReplay.{PeerReplay}
 use Rattle.joint_model.specs.Peers.{Issued}
 use Rattle.joint_model.specs.Told.{Told, Noted, phase_of}
-use Rattle.joint_model.proofs.Deciding.{true-false}
-use Rattle.known_laws.specs.Known.{TellsPlainly, IsSeen}
+use Rattle.known_laws.specs.Known.{TellsPlainly}
 use Rattle.known_laws.proofs.Telling.{retold, plainly_by, IsTelling}
 use Rattle.script_laws.proofs.OneNote.{PlainComes, noting}
 

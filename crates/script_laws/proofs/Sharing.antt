@@ -1,11 +1,9 @@
 -- Two lists of entries that hold the same lines, each entry one that may come and is told plainly, are the same: the next event of
 -- an operation is decided by the replies so far, and that of a phase by the state.
-use Rattle.std.proofs.Common.{◌≡◌, ◌⊎◌, inl, inr, ℕ, ◌+◌, Bool, true, false, List, [], ◌∷◌, ◌++◌, length, map, Option, Some, None, refl, sym, ◌∙◌, ap, subst, append_assoc}
-use Rattle.std.specs.Prelude.{slice_get}
+use Rattle.std.proofs.Common.{◌≡◌, ℕ, ◌+◌, List, [], ◌∷◌, ◌++◌, length, Option, Some, refl, sym, ◌∙◌, ap, subst, append_assoc}
 use Rattle.std.proofs.lemmas.Option.{same_Some}
 use Rattle.joint_model.specs.declared.names.Thread.{Thread}
 use Rattle.joint_model.specs.declared.names.Thread.TheVariants.{M, P, C}
-use Rattle.joint_model.specs.declared.names.Phase.{Phase}
 use Rattle.joint_model.specs.declared.names.PhaseWord.{PhaseWord}
 use Rattle.joint_model.specs.declared.names.PhaseWord.TheVariants as word
 use Rattle.joint_model.specs.declared.names.Cycle.{Cycle}
@@ -17,17 +15,17 @@ use Rattle.joint_model.specs.declared.events.Op.TheVariants as op
 use Rattle.joint_model.specs.declared.events.Reply.{Reply}
 use Rattle.joint_model.specs.declared.events.Reply.TheVariants as says
 use Rattle.joint_model.specs.declared.events.Entry.{Entry}
-use Rattle.joint_model.specs.Control.{Stand, idle, snapped, contracted, weakening, marked, restoring, restored, candidates_of, MayContractNow, MayMirrorNow, MayWeakenNow, MayRestoreNow, MayClearNow, MayResolveNow, IsCandidateHandle}
+use Rattle.joint_model.specs.Control.{Stand, snapped, contracted, weakening, restoring, restored, candidates_of, MayContractNow, MayMirrorNow, MayWeakenNow, MayRestoreNow, MayClearNow, MayResolveNow, IsCandidateHandle}
 use Rattle.joint_model.specs.Draws.{NumberedFrom}
-use Rattle.joint_model.specs.Lines.{IsLine, is_peer_event}
+use Rattle.joint_model.specs.Lines.{is_peer_event}
 use Rattle.joint_model.specs.Linked.{Linkage, linkage_after, replayed, SideLawful}
 use Rattle.joint_model.specs.Managed.{Managed, handle_of}
 use Rattle.joint_model.specs.ManagedReplay.{ManagedReplay, ManagedAllows}
-use Rattle.joint_model.specs.PeerReplay.{PeerReplay, Marking, begun, swept, peer_answer}
+use Rattle.joint_model.specs.PeerReplay.{swept}
 use Rattle.joint_model.specs.Peers.{Issued}
-use Rattle.joint_model.specs.Told.{Told, Noted, snap_of, references_of, resolution_of, sweep_of}
-use Rattle.joint_model.specs.Phases.{next_phase, phases_left, phases_of, IsEventOf, IsClear, HasSwept, AreEach, AreTimes, AreSwept, AreRestores, ArePhase, candidates_after, ArePhases, NamesPhase, AreRefusal}
-use Rattle.script_laws.specs.Holding.{next_event, AreEventsAfter, Standing, AreWord, AreEvents, standing_after, IsOnLine, AreOnLine, AreLine, AreLeft, HoldsLines}
+use Rattle.joint_model.specs.Told.{Told, Noted, snap_of, references_of, resolution_of}
+use Rattle.joint_model.specs.Phases.{IsEventOf, IsClear, AreEach, AreTimes}
+use Rattle.script_laws.specs.Holding.{next_event, IsOnLine, AreOnLine}
 use Rattle.script_laws.proofs.OneNote.{Agree, Allowed, PlainComes, making, one-note}
 use Rattle.script_laws.proofs.Retelling.{entries_of, AllPlain}
 
