@@ -16,7 +16,7 @@ use Rattle.joint_model.specs.Linked.{Linkage, managed_after, peer_after}
 use Rattle.joint_model.specs.Told.{Told, Noted, phase_of}
 use Rattle.known_laws.specs.Known.{TellsPlainly}
 use Rattle.known_laws.specs.Telling.{MayBeTold}
-use Rattle.known_laws.specs.Pasts.{role_of, is_in, line, of_line, RunsFrom, In, end_of, AreWithin, bare, Joined}
+use Rattle.known_laws.specs.Pasts.{role_of, is_in, line, of_line, RunsFrom, In, end_of, Within, AreWithin, AreAlike, bare, Joined}
 use Rattle.known_laws.specs.Growing.{untold, entries, AreKnown, grown, AreBelow, KnownLinesGrow, entries_in, Begin, KnownLinesJoin, LinesGiveParts, DeadPartIsFrozen}
 use Rattle.known_laws.proofs.PastLines.{in_role, line-in, length_begins, shorter_begins, in-line, in_begins}
 use Rattle.known_laws.proofs.PastsJoin.{counted}
@@ -174,13 +174,29 @@ lines_give_parts a b = record {
 pub equal_begins : (xs ys zs : List Noted) → IsPrefix xs zs → IsPrefix ys zs → length xs ≡ length ys → xs ≡ ys
 equal_begins xs ys zs p q e = prefix_anti xs ys (shorter_begins xs ys zs p q (omega (arith, e))) (shorter_begins ys xs zs q p (omega (arith, e)))
 
-pub dead_part_is_frozen : DeadPartIsFrozen
-dead_part_is_frozen whole ls ms a b numbered wa wb e =
+-- two pasts of one run of entries are pasts of one run of notes, and are told alike
+pub record OneRun (a b : List Noted) : Type 0 where
+  pub run : List Noted
+  pub first : Within run a
+  pub second : Within run b
+  pub alike : AreAlike a b
+
+pub one_run : (whole : List Entry) (ls ms : ℕ → List Entry) (a : AreKnown ls) (b : AreKnown ms) → NumberedFrom 0 whole → Begin whole ls → Begin whole ms → OneRun a.past b.past
+one_run whole ls ms a b numbered wa wb =
     let w : List Noted = map untold whole in
     let runs = runs_untold 0 whole numbered in
     let ia = within_by whole ls a wa in
     let ib = within_by whole ms b wb in
-    let na = within_told w runs a.past b.past a.past ia ib ia (self_a w runs a.past b.past a.lawful) in
-    let nb = within_told w runs a.past b.past b.past ia ib ib (self_b w runs a.past b.past b.lawful (pasts_agree w a.past b.past runs a.lawful b.lawful ia ib)) in
+    let agree = pasts_agree w a.past b.past runs a.lawful b.lawful ia ib in
+    record {
+      run = map (tell a.past b.past) w;
+      first = within_told w runs a.past b.past a.past ia ib ia (self_a w runs a.past b.past a.lawful);
+      second = within_told w runs a.past b.past b.past ia ib ib (self_b w runs a.past b.past b.lawful agree);
+      alike = agree;
+    }
+
+pub dead_part_is_frozen : DeadPartIsFrozen
+dead_part_is_frozen whole ls ms a b numbered wa wb e =
+    let r = one_run whole ls ms a b numbered wa wb in
     let n = sym (length_entries (line 2 a.past)) ∙ (ap length (sym (a.same 2) ∙ (e ∙ b.same 2)) ∙ length_entries (line 2 b.past)) in
-    same_dead_part (map (tell a.past b.past) w) a.past b.past a.lawful b.lawful na nb (equal_begins (line 2 a.past) (line 2 b.past) (of_line 2 (map (tell a.past b.past) w)) (na 2) (nb 2) n)
+    same_dead_part r.run a.past b.past a.lawful b.lawful r.first r.second (equal_begins (line 2 a.past) (line 2 b.past) (of_line 2 r.run) (r.first 2) (r.second 2) n)

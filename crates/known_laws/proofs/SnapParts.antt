@@ -1,7 +1,7 @@
 -- The dead part of the driver's open cycle is that of the state just after its snap, since no entry behind the snap that leaves the
 -- cycle open changes it: the others' events go on, and the driver's own leave the managed objects alone. The state just after the snap
 -- is given by the managed line up to it, which all pasts have that have the snap.
-use Rattle.std.proofs.Common.{◌≡◌, inl, ℕ, true, false, List, [], ◌∷◌, ◌++◌, map, Option, Some, refl, sym, ap, ◌∙◌, subst, arith}
+use Rattle.std.proofs.Common.{◌≡◌, inl, ℕ, true, false, List, [], ◌∷◌, ◌++◌, Option, Some, refl, sym, ap, ◌∙◌, subst, arith}
 use Rattle.std.specs.Prelude.{if◌then◌else◌}
 use Rattle.std.proofs.lemmas.Option.{same_Some}
 use Rattle.joint_model.specs.declared.names.Thread.{Thread}
@@ -21,12 +21,10 @@ use Rattle.joint_model.proofs.Deciding.{none_some}
 use Rattle.joint_laws.specs.ManagedInvariants.{IsReplayKept}
 use Rattle.joint_laws.proofs.ManagedMoves.{GoesOn, GoesOn-stay, managed_line-goes_on}
 use Rattle.known_laws.specs.Pasts.{In, Lawful, Within, end_of, is_in, role_of}
-use Rattle.known_laws.specs.Growing.{untold}
 use Rattle.known_laws.specs.Facts.{opened_of, DeadPartIsOfSnap, SnapTellsDeadPart}
-use Rattle.known_laws.proofs.Agreeing.{pasts_agree, tell, within_told, self_a, self_b}
 use Rattle.known_laws.proofs.CitedOnce.{each_stands_behind}
 use Rattle.known_laws.proofs.FrozenPasts.{Alike, alike_self, alike_on, alike_meet, goes_by, one_behind, dead_part-alike}
-use Rattle.known_laws.proofs.Growing.{runs_untold, within_by}
+use Rattle.known_laws.proofs.Growing.{one_run}
 use Rattle.known_laws.proofs.Later.{kept_end}
 use Rattle.known_laws.proofs.Parts.{same_managed}
 use Rattle.known_laws.proofs.PastLines.{in_role, in_right}
@@ -34,7 +32,7 @@ use Rattle.known_laws.proofs.PastsJoin.{below, within_past}
 use Rattle.known_laws.proofs.SnapTold.{IsKeeping, opened_on, snap_tells_cycle}
 
 -- the driver's events that keep the cycle go on
-driver_goes : (r : ManagedReplay) (index : ℕ) (reply : Reply) (cites : Option ℕ) (o : Op) (told : Told) → IsReplayKept r → IsKeeping o → IsEvent C o
+pub driver_goes : (r : ManagedReplay) (index : ℕ) (reply : Reply) (cites : Option ℕ) (o : Op) (told : Told) → IsReplayKept r → IsKeeping o → IsEvent C o
     → GoesOn r.managed (managed_after r (record { caller = C; index = index; op = o; reply = reply; cites = cites }) told (is_peer_event C o)).managed
 driver_goes r index reply cites (op.Line a) told k x e = managed_line-goes_on r.managed (thread_number C) a k.managed.places k.managed.cells
 driver_goes r index reply cites (op.Snap c) told k x e = absurd x
@@ -97,7 +95,7 @@ stays_alike (y ∷ h) (z ∷ front) back x l e o q n =
     let k = keeps y h l o q (λ m. omega (arith, less, n, m)) in
     alike_on (end_of h).managed.managed (end_of (y ∷ h)).managed.managed (end_of (x ∷ back)).managed.managed (kept_end h l.1).managed.managed k.goes (stays_alike h front back x l.1 rest o k.opened n)
 
-behind_lawful : (front : List Noted) (x : Noted) (back : List Noted) → Lawful (front ++ x ∷ back) → Lawful (x ∷ back)
+pub behind_lawful : (front : List Noted) (x : Noted) (back : List Noted) → Lawful (front ++ x ∷ back) → Lawful (x ∷ back)
 behind_lawful [] x back l = l
 behind_lawful (y ∷ front) x back l = behind_lawful front x back l.1
 
@@ -105,7 +103,7 @@ pub dead_part_is_of_snap : DeadPartIsOfSnap
 dead_part_is_of_snap h front back x l e o q n =
     dead_part-alike (end_of h).managed.managed (end_of (x ∷ back)).managed.managed (kept_end h l).managed.managed (kept_end (x ∷ back) (behind_lawful front x back (subst Lawful e l))).managed.managed (stays_alike h front back x l e o q n)
 
-within_front : (whole front : List Noted) (x : Noted) (back : List Noted) → Within whole (front ++ x ∷ back) → Within whole (x ∷ back)
+pub within_front : (whole front : List Noted) (x : Noted) (back : List Noted) → Within whole (front ++ x ∷ back) → Within whole (x ∷ back)
 within_front whole [] x back w = w
 within_front whole (y ∷ front) x back w = within_front whole front x back (within_past whole y (front ++ x ∷ back) w)
 
@@ -118,27 +116,20 @@ one_snap whole x a b e la lb wa wb =
 
 pub snap_tells_dead_part : SnapTellsDeadPart
 snap_tells_dead_part whole ls ms a b numbered wa wb o p ea eb same =
-    let w = map untold whole in
-    let runs = runs_untold 0 whole numbered in
-    let ia = within_by whole ls a wa in
-    let ib = within_by whole ms b wb in
-    let agree = pasts_agree w a.past b.past runs a.lawful b.lawful ia ib in
-    let t = map (tell a.past b.past) w in
-    let na : Within t a.past = within_told w runs a.past b.past a.past ia ib ia (self_a w runs a.past b.past a.lawful) in
-    let nb : Within t b.past = within_told w runs a.past b.past b.past ia ib ib (self_b w runs a.past b.past b.lawful agree) in
+    let r = one_run whole ls ms a b numbered wa wb in
     let x = snap_tells_cycle a.past a.lawful o ea in
     let y = snap_tells_cycle b.past b.lawful p eb in
-    let one : x.entry ≡ y.entry = agree x.entry y.entry x.there y.there (x.number ∙ (same ∙ sym y.number)) in
+    let one : x.entry ≡ y.entry = r.alike x.entry y.entry x.there y.there (x.number ∙ (same ∙ sym y.number)) in
     let sx = each_stands_behind a.past a.lawful x.entry x.there in
     let sy = each_stands_behind b.past b.lawful y.entry y.there in
     let ax = stays_alike a.past sx.front sx.back x.entry a.lawful sx.all o ea x.number in
     let ay = stays_alike b.past sy.front sy.back y.entry b.lawful sy.all p eb y.number in
-    let wx : Within t (x.entry ∷ sx.back) = within_front t sx.front x.entry sx.back (subst (Within t) sx.all na) in
-    let wy : Within t (y.entry ∷ sy.back) = within_front t sy.front y.entry sy.back (subst (Within t) sy.all nb) in
+    let wx : Within r.run (x.entry ∷ sx.back) = within_front r.run sx.front x.entry sx.back (subst (Within r.run) sx.all r.first) in
+    let wy : Within r.run (y.entry ∷ sy.back) = within_front r.run sy.front y.entry sy.back (subst (Within r.run) sy.all r.second) in
     let snaps : is_peer_event x.entry.entry.made.caller x.entry.entry.made.op ≡ false = ap (is_peer_event x.entry.entry.made.caller) x.event in
     let at : (end_of (x.entry ∷ sx.back)).managed ≡ (end_of (y.entry ∷ sy.back)).managed =
-    one_snap t x.entry sx.back sy.back snaps sx.lawful (subst (λ z. Lawful (z ∷ sy.back)) (sym one) sy.lawful) wx (subst (λ z. Within t (z ∷ sy.back)) (sym one) wy)
+    one_snap r.run x.entry sx.back sy.back snaps sx.lawful (subst (λ z. Lawful (z ∷ sy.back)) (sym one) sy.lawful) wx (subst (λ z. Within r.run (z ∷ sy.back)) (sym one) wy)
     ∙ ap (λ z. (end_of (z ∷ sy.back)).managed) one in
-    let ay' = subst (λ (z : ManagedReplay). Alike (end_of b.past).managed.managed z.managed) (sym at) ay in
+    let by = subst (λ (z : ManagedReplay). Alike (end_of b.past).managed.managed z.managed) (sym at) ay in
     dead_part-alike (end_of a.past).managed.managed (end_of b.past).managed.managed (kept_end a.past a.lawful).managed.managed (kept_end b.past b.lawful).managed.managed
-    (alike_meet (end_of a.past).managed.managed (end_of (x.entry ∷ sx.back)).managed.managed (end_of b.past).managed.managed ax ay')
+    (alike_meet (end_of a.past).managed.managed (end_of (x.entry ∷ sx.back)).managed.managed (end_of b.past).managed.managed ax by)

@@ -1,0 +1,14 @@
+use Rattle.known_laws.proofs.Drawing.{drawn_lines_grow, drawn_lines_join, drawn_is_one, freed_is_drawn}
+use Rattle.known_laws.proofs.drawn_lines_are_a_past.Goals as goal
+
+pub returns-clause-grow : goal.returns-clause-grow
+returns-clause-grow c = drawn_lines_grow
+
+pub returns-clause-join : goal.returns-clause-join
+returns-clause-join c = drawn_lines_join
+
+pub returns-clause-one : goal.returns-clause-one
+returns-clause-one c = drawn_is_one
+
+pub returns-clause-freed : goal.returns-clause-freed
+returns-clause-freed c = freed_is_drawn

@@ -1,0 +1,86 @@
+-- Lines with what is drawn beside each entry: the object to which it sets a cell, and the objects that it frees.
+use Rattle.std.specs.Prelude.{◌≡◌, ℕ, ◌⊎◌, List, [], ◌∷◌, ◌++◌, map, Contains, Option, Some, None, if◌then◌else◌}
+use Rattle.joint_model.specs.declared.names.MNum.{MNum}
+use Rattle.joint_model.specs.declared.names.Thread.{Thread}
+use Rattle.joint_model.specs.declared.lines.Act.TheVariants as act
+use Rattle.joint_model.specs.declared.events.Entry.{Entry}
+use Rattle.joint_model.specs.declared.events.Op.{Op}
+use Rattle.joint_model.specs.declared.events.Op.TheVariants as op
+use Rattle.joint_model.specs.declared.events.Reply.{Reply}
+use Rattle.joint_model.specs.declared.events.Reply.TheVariants as says
+use Rattle.joint_model.specs.Draws.{Drawn, NumberedFrom}
+use Rattle.joint_model.specs.Heaps.{slot, place}
+use Rattle.joint_model.specs.Linked.{Linkage, MayCome}
+use Rattle.joint_model.specs.Managed.{Managed}
+use Rattle.joint_model.specs.Run.{thread_number}
+use Rattle.joint_model.specs.Told.{Told, Noted, snap_of, resolution_of}
+use Rattle.known_laws.specs.Pasts.{Lawful, end_of, is_in}
+use Rattle.known_laws.specs.Growing.{AreKnown, AreBelow, Begin, AreLonger, untold}
+
+-- the number of an object, or none, as an object
+abbrev pub as_object : Option ℕ → Option MNum
+as_object None = None
+as_object (Some m) = Some record { 0 = m }
+
+-- the object to which the event sets a cell: that of its variable
+abbrev pub target_of : Managed → Thread → Op → Reply → Option MNum
+target_of s t (op.Line (act.Weak k v)) says.Ok = as_object (slot s.heap.vars (place (thread_number t) v.0))
+target_of s t o reply = None
+
+-- the managed objects that an entry frees, as it is told
+abbrev pub frees : Told → List ℕ
+frees (snap_of freed candidates dead) = freed
+frees (resolution_of answers freed) = freed
+frees _ = []
+
+-- the entry as it is drawn at a state
+abbrev pub drawn : Linkage → Noted → Drawn
+drawn s n = record { entry = n.entry; target = target_of s.managed.managed n.entry.made.caller n.entry.made.op n.entry.made.reply; freed = map (λ m. record { 0 = m }) (frees n.told) }
+
+-- it was drawn as the past tells
+pub record IsToldIn (h : List Noted) (d : Drawn) : Type 0 where
+  pub entry : Noted
+  pub front : List Noted
+  pub back : List Noted
+  pub all : h ≡ front ++ entry ∷ back
+  pub same : d ≡ drawn (end_of back) entry
+
+-- the entries of drawn ones
+abbrev pub of_drawn : List Drawn → List Entry
+of_drawn ds = map (λ d. d.entry) ds
+
+-- drawn lines are known: they are those of a lawful past, which tells the target and the freed objects of each entry
+pub record AreDrawn (lines : ℕ → List Drawn) : Type 0 where
+  pub known : AreKnown (λ i. of_drawn (lines i))
+  pub told : (i : ℕ) (d : Drawn) → Contains (lines i) d → IsToldIn known.past d
+
+-- what two seats of one run have of an entry is one: its target and the objects that it frees too
+abbrev pub DrawnIsOne : Type 0
+DrawnIsOne = (whole : List Entry) (ls ms : ℕ → List Drawn) (a : AreDrawn ls) (b : AreDrawn ms) → NumberedFrom 0 whole → Begin whole (λ i. of_drawn (ls i)) → Begin whole (λ i. of_drawn (ms i))
+    → (i j : ℕ) (d e : Drawn) → Contains (ls i) d → Contains (ms j) e → d.entry.number ≡ e.entry.number → d ≡ e
+
+-- the drawn lines with a further entry
+abbrev pub drawn_on : (ℕ → List Drawn) → Drawn → ℕ → List Drawn
+drawn_on lines d i = if is_in i (untold d.entry) then lines i ++ d ∷ [] else lines i
+
+-- they grow by an entry that may come after the past, as it is drawn at the past's end, with a number above all that is known
+abbrev pub DrawnLinesGrow : Type 0
+DrawnLinesGrow = (lines : ℕ → List Drawn) (k : AreDrawn lines) (n : Noted) → ((i : ℕ) → AreBelow n.entry.number (of_drawn (lines i))) → MayCome (end_of k.known.past) n → AreDrawn (drawn_on lines (drawn (end_of k.known.past) n))
+
+-- of each line the one or the other
+pub record AreEither (ls ms ns : ℕ → List Drawn) : Type 0 where
+  pub either : (i : ℕ) → (ns i ≡ ls i) ⊎ (ns i ≡ ms i)
+  pub longer : AreLonger (λ i. of_drawn (ls i)) (λ i. of_drawn (ms i)) (λ i. of_drawn (ns i))
+
+-- the longer lines are drawn lines of one past again
+abbrev pub DrawnLinesJoin : Type 0
+DrawnLinesJoin = (whole : List Entry) (ls ms ns : ℕ → List Drawn) → AreDrawn ls → AreDrawn ms → NumberedFrom 0 whole → Begin whole (λ i. of_drawn (ls i)) → Begin whole (λ i. of_drawn (ms i)) → AreEither ls ms ns → AreDrawn ns
+
+-- the objects that the entries of a past freed, earliest first
+abbrev pub freed_in : List Noted → List ℕ
+freed_in [] = []
+freed_in (x ∷ h) = freed_in h ++ frees x.told
+
+-- they are those that are freed at its end
+abbrev pub FreedIsDrawn : Type 0
+FreedIsDrawn = (h : List Noted) → Lawful h → (end_of h).managed.managed.heap.freed ≡ freed_in h
