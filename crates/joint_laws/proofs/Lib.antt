@@ -77,3 +77,6 @@ pub mod JourneyTurns
 pub mod JourneyEntries
 pub mod CompleteRuns
 pub mod AtResolutions
+pub mod Pairwise
+pub mod ReadsAside
+pub mod KeptPins

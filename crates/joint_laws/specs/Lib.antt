@@ -8,3 +8,4 @@ pub mod LinkedInvariants
 pub mod LinkedLaws
 pub mod JointAgreement
 pub mod RunLaws
+pub mod ReadingLaws

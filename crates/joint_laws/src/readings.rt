@@ -1,0 +1,19 @@
+// Laws of histories with lock-free reads.
+
+ghost use Rattle.joint_laws.specs.ReadingLaws.{EveryReadingRunIsComplete, KeptPinsAreLawful, LinkedReadingIsComplete, ReadingIsLawful, ReadingLeadsToSame, ReadingProjectionIsComplete};
+
+/// A history with lock-free reads, without those that are set aside, is a lawful list of entries, and leads to the same state of both sides. So its joint projection is a run of
+/// the joint machine, sound and complete: there is such a run, and every run over it is so.
+pub fn reading_projection_is_complete()
+    ensures without { ReadingIsLawful }
+    ensures same { ReadingLeadsToSame }
+    ensures lawful { ReadingProjectionIsComplete }
+    ensures linked { LinkedReadingIsComplete }
+    ensures every { EveryReadingRunIsComplete }
+{}
+
+/// The managed side's own list of a history with lock-free reads is lawful, if with each entry those pins are kept that the reads and
+/// the takes before it leave.
+pub fn kept_pins_are_lawful()
+    ensures { KeptPinsAreLawful }
+{}
