@@ -80,3 +80,5 @@ pub mod AtResolutions
 pub mod Pairwise
 pub mod ReadsAside
 pub mod KeptPins
+pub mod Places
+pub mod MarkedOnce

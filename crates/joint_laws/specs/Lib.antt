@@ -9,3 +9,4 @@ pub mod LinkedLaws
 pub mod JointAgreement
 pub mod RunLaws
 pub mod ReadingLaws
+pub mod OwnMarkingLaws
