@@ -1,0 +1,76 @@
+-- The test of the next entry tells what the definition says, part by part, and so does that of a list of entries.
+use Rattle.std.proofs.Common.{◌≡◌, ℕ, ◌+◌, ◌^◌, ◌↔◌, Bool, true, false, IsTrue, List, [], ◌∷◌, length}
+use Rattle.joint_model.specs.declared.events.Entry.{Entry}
+use Rattle.joint_model.specs.declared.events.Made.{Made}
+use Rattle.joint_model.specs.Control.{last_line, candidates_of}
+use Rattle.joint_model.specs.Draws.{NumberedFrom}
+use Rattle.joint_model.specs.Lines.{is_peer_event}
+use Rattle.joint_model.specs.Linked.{Linkage, linkage_after, ManagedLawful, PeerLawful, SideLawful, MayCome, AllMayCome, IsWhole}
+use Rattle.joint_model.specs.ManagedReplay.{ManagedReplay, managed_answer}
+use Rattle.joint_model.specs.PeerReplay.{PeerReplay, peer_answer}
+use Rattle.joint_model.specs.Told.{Told, Noted}
+use Rattle.history_tests.specs.Histories.{managed_lawful, peer_lawful, side_lawful, may_come, all_may_come, is_numbered_from, is_whole, MayComeIsTested, AllMayComeIsTested, NumbersAreTested, WholeIsTested, RepliesAreTested}
+use Rattle.history_tests.proofs.Telling.{Tells, always, like, and2, and5, same, less, upto}
+use Rattle.history_tests.proofs.ReplyTests.{replies}
+use Rattle.history_tests.proofs.LineTests.{tells_event}
+use Rattle.history_tests.proofs.SideTests.{managed, peer}
+use Rattle.history_tests.proofs.CallerTests.{caller, at_rest, all_done}
+
+managed_side : (s : ManagedReplay) (m : Made) (told : Told) → Tells (managed_lawful s m told) (ManagedLawful s m told)
+managed_side s m told = like (λ p. record { allowed = p.0; replies = p.1 }) (λ r. (r.allowed, r.replies)) (and2 (managed s m.op told) (replies m.reply (managed_answer s m.caller m.op told).reply))
+
+peer_side : (s : PeerReplay) (m : Made) (told : Told) → Tells (peer_lawful s m told) (PeerLawful s m told)
+peer_side s m told = like (λ p. record { allowed = p.0; replies = p.1 }) (λ r. (r.allowed, r.replies)) (and2 (peer s m.caller m.op m.cites told) (replies m.reply (peer_answer s m.caller m.op m.cites told).reply))
+
+side : (b : Bool) (s : Linkage) (m : Made) (told : Told) → Tells (side_lawful b s m told) (SideLawful b s m told)
+side true s m told = peer_side s.peer m told
+side false s m told = managed_side s.managed m told
+
+pub comes : (s : Linkage) (n : Noted) → Tells (may_come s n) (MayCome s n)
+comes s n = like
+    (λ p. record { event = p.0; line = p.1; short = p.2; lawful = p.3; order = p.4 })
+    (λ r. (r.event, r.line, r.short, r.lawful, r.order))
+    (and5 (tells_event n.entry.made.caller n.entry.made.op) (upto (last_line s.control n.entry.made.caller) n.entry.made.index) (less n.entry.made.index (2 ^ 32))
+    (side (is_peer_event n.entry.made.caller n.entry.made.op) s n.entry.made n.told)
+    (caller s.control s.managed.managed s.peer.peers.issued n.entry.made.caller n.entry.made.index n.entry.made.op n.entry.made.reply n.entry.made.cites n.told))
+
+pub all_come : (s : Linkage) (ns : List Noted) → Tells (all_may_come s ns) (AllMayCome s ns)
+all_come s [] = always tt
+all_come s (n ∷ ns) = and2 (comes s n) (all_come (linkage_after s n) ns)
+
+pub numbered : (n : ℕ) (es : List Entry) → Tells (is_numbered_from n es) (NumberedFrom n es)
+numbered n [] = always tt
+numbered n (e ∷ es) = and2 (same e.number n) (numbered (n + 1) es)
+
+pub whole : (s : Linkage) → Tells (is_whole s) (IsWhole s)
+whole s = like (λ p. record { threads = p.0; driver = p.1 }) (λ r. (r.threads, r.driver)) (and2 (all_done s.control.doing) (at_rest s.control.stand (length (candidates_of s.managed.managed))))
+
+-- as the contracts state it
+tested : {b : Bool} {P : Type 0} → Tells b P → IsTrue b ↔ P
+tested t = (t.holds, t.passes)
+
+pub may_come_tested : MayComeIsTested
+may_come_tested s n = tested (comes s n)
+
+pub all_may_come_tested : AllMayComeIsTested
+all_may_come_tested s ns = tested (all_come s ns)
+
+pub numbers_tested : NumbersAreTested
+numbers_tested n es = tested (numbered n es)
+
+pub whole_tested : WholeIsTested
+whole_tested s = tested (whole s)
+
+pub replies_tested : RepliesAreTested
+replies_tested a b = tested (replies a b)
+
+-- a list that passes the test is lawful
+pub lawful : (s : Linkage) (ns : List Noted) → all_may_come s ns ≡ true → AllMayCome s ns
+lawful s ns e = (all_come s ns).holds e
+
+-- and so is a history whose parts pass it
+pub unlawful : (s : Linkage) (n : Noted) → may_come s n ≡ false → MayCome s n → ⊥
+unlawful s n e m = false_true ((comes s n).passes m)
+  where
+    false_true : may_come s n ≡ true → ⊥
+    false_true t = cc

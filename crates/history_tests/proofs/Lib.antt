@@ -1,0 +1,10 @@
+pub mod Telling
+pub mod Reaching
+pub mod RowTests
+pub mod MarkingTests
+pub mod ContractionTests
+pub mod ReplyTests
+pub mod LineTests
+pub mod CallerTests
+pub mod SideTests
+pub mod HistoryTests

@@ -1,0 +1,9 @@
+pub mod Lists
+pub mod Rows
+pub mod Contractions
+pub mod Markings
+pub mod Replies
+pub mod Lines
+pub mod Callers
+pub mod Sides
+pub mod Histories
