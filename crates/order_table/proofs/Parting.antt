@@ -1,0 +1,96 @@
+-- What a seat owns and knows after it gave lines away, and after it took another seat in, line by line.
+--
+-- A mask has true at the lines that go. The place of a role's line or of a caller's in its mask is true, and all others are false; the rest is
+-- read off place by place.
+use Rattle.std.proofs.Common.{◌≡◌, ◌⊎◌, inl, inr, ⊎_elim, ℕ, ◌+◌, ◌<◌, Bool, true, false, not, ◌&&◌, ◌||◌, List, [], refl, sym, ap, ◌∙◌, subst, arith}
+use Rattle.std.proofs.lemmas.Bool.{cases_eq, and_parts, or_cases, not-true, both_ways}
+use Rattle.joint_model.specs.declared.names.Thread.{Thread}
+use Rattle.joint_model.specs.declared.names.Thread.TheVariants.{M, P, C}
+use Rattle.joint_model.specs.Lines.{IsThread}
+use Rattle.order_table.specs.declared.views.Role.{Role}
+use Rattle.order_table.specs.declared.views.View.{View}
+use Rattle.order_table.specs.Rows.{at, put}
+use Rattle.order_table.specs.Views.{Owns, known, role_line, caller_line, giving, given, hearing, lines_of_role, lines_of_caller}
+use Rattle.order_table.specs.Tells.{Compares, Parts, IsOfRole, IsOfCaller, IsOfNone, TakesIn}
+use Rattle.order_table.proofs.Places.{at_put_here, at_put_else, at_joined, at_common, at_without, at_longest, longer_cases}
+
+-- the mask has just the lines of this kind
+pub record Marks (Goes : ℕ → Type 0) (lines : List Bool) : Type 0 where
+  pub here : (i : ℕ) → Goes i → at false lines i ≡ true
+  pub elsewhere : (i : ℕ) → (Goes i → ⊥) → at false lines i ≡ false
+
+both_true : (a b : Bool) → a ≡ true → b ≡ true → (a && b) ≡ true
+both_true true b e f = f
+both_true false b e f = e
+
+pub parts : (Goes : ℕ → Type 0) (lines : List Bool) (v left right : View) → Marks Goes lines → left ≡ giving lines v → right ≡ given lines v → Parts Goes v left right
+parts Goes lines v left right marks e f = subst (λ l. Parts Goes v l right) (sym e) (subst (Parts Goes v (giving lines v)) (sym f) record {
+  went = λ i g o. at_common v.owns lines i ∙ both_true (at false v.owns i) (at false lines i) o (marks.here i g);
+  gone = λ i g o. both_ways (at false lines i) (not-true (at false lines i) (and_parts (at false v.owns i) (not (at false lines i)) (sym (at_without v.owns lines i) ∙ o)).1) (marks.here i g);
+  stayed = λ i n o. at_without v.owns lines i ∙ both_true (at false v.owns i) (not (at false lines i)) o (ap not (marks.elsewhere i n));
+  only = λ i n o. both_ways (at false lines i) (marks.elsewhere i n) (and_parts (at false v.owns i) (at false lines i) (sym (at_common v.owns lines i) ∙ o)).1;
+  had = λ i. (
+    (λ o. (and_parts (at false v.owns i) (not (at false lines i)) (sym (at_without v.owns lines i) ∙ o)).0),
+    (λ o. (and_parts (at false v.owns i) (at false lines i) (sym (at_common v.owns lines i) ∙ o)).0),
+  );
+  know = λ i. (refl, refl);
+})
+
+pub marks_one : (k : ℕ) → Marks (λ i. i ≡ k) (put false [] k true)
+marks_one k = record {
+  here = λ i e. subst (λ j. at false (put false [] k true) j ≡ true) (sym e) (at_put_here false [] k true);
+  elsewhere = λ i n. at_put_else false [] k i true n;
+}
+
+marks_two : (a b : ℕ) → Marks (λ i. (i ≡ b) ⊎ (i ≡ a)) (put false (put false [] a true) b true)
+marks_two a b = record {
+  here = λ i e. ⊎_elim
+      (λ (s : i ≡ b). subst (λ j. at false (put false (put false [] a true) b true) j ≡ true) (sym s) (at_put_here false (put false [] a true) b true))
+      (λ (s : i ≡ a). ⊎_elim
+      (λ (t : i ≡ b). subst (λ j. at false (put false (put false [] a true) b true) j ≡ true) (sym t) (at_put_here false (put false [] a true) b true))
+      (λ n. at_put_else false (put false [] a true) b i true n ∙ (marks_one a).here i s) (cases_eq i b)) e;
+  elsewhere = λ i n. at_put_else false (put false [] a true) b i true (λ s. n (inl s)) ∙ at_put_else false [] a i true (λ s. n (inr s));
+}
+
+pub marks_role : (r : Role) → Marks (IsOfRole r) (lines_of_role r)
+marks_role r = marks_one (role_line r)
+
+pub marks_caller : (t : Thread) → Marks (IsOfCaller t) (lines_of_caller t)
+marks_caller (M n) = marks_two (1 + n) (caller_line (M n))
+marks_caller (P n) = marks_one (caller_line (P n))
+marks_caller C = marks_one (caller_line C)
+
+pub marks_none : Marks IsOfNone []
+marks_none = record { here = λ i e. absurd e; elsewhere = λ i n. refl }
+
+-- a caller takes its own line along, and neither the two sides' lines nor those of the callers behind it
+pub of_caller : (t : Thread) → IsOfCaller t (caller_line t)
+of_caller (M n) = inl refl
+of_caller (P n) = refl
+of_caller C = refl
+
+pub not_of_caller : (t : Thread) (i : ℕ) → IsThread t → (i < 2) ⊎ (caller_line t < i) → IsOfCaller t i → ⊥
+not_of_caller (M n) i is far (inl e) = let low = is.0 in ⊎_elim (λ l. omega arith) (λ l. omega arith) far
+not_of_caller (M n) i is far (inr e) = let low = is.0 in ⊎_elim (λ l. omega arith) (λ l. omega arith) far
+not_of_caller (P n) i is far e = ⊎_elim (λ l. omega arith) (λ l. omega arith) far
+not_of_caller C i is far e = ⊎_elim (λ l. omega arith) (λ l. omega arith) far
+
+or_true : (a b : Bool) → (a ≡ true) ⊎ (b ≡ true) → (a || b) ≡ true
+or_true true b e = refl
+or_true false b (inl e) = absurd (both_ways false refl e)
+or_true false b (inr e) = e
+
+-- what a seat learned of another, once it has compared the two
+pub taken : (v w u : View) → Compares (hearing v w) u → TakesIn v w u
+taken v w u t = record {
+  owns = λ i. (
+    (λ o. subst (λ z. Owns z i) (sym t.is) (at_joined v.owns w.owns i ∙ or_true (at false v.owns i) (at false w.owns i) o)),
+    (λ o. or_cases (at false v.owns i) (at false w.owns i) (sym (at_joined v.owns w.owns i) ∙ subst (λ z. Owns z i) t.is o)),
+  );
+  either = λ i. let is = ap (λ z. known z i) t.is ∙ at_longest v.known w.known i in
+      ⊎_elim (λ e. inr (is ∙ e.0)) (λ e. inl (is ∙ e.0)) (longer_cases (known v i) (known w i));
+  knew = t.knew;
+  heard = t.heard;
+  owned = t.owned;
+  taken = t.taken;
+}

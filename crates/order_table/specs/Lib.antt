@@ -1,0 +1,5 @@
+pub mod Rows
+pub mod Owed
+pub mod Views
+pub mod Rule
+pub mod Tells

@@ -1,0 +1,72 @@
+-- What each step tells its caller, and what the calls promise.
+use Rattle.std.specs.Prelude.{◌≡◌, ◌⊎◌, ℕ, ◌+◌, true, false, List, [], ◌∷◌, ◌++◌, Option}
+use mathlib.Core.List.{IsPrefix}
+use Rattle.atomic_table.specs.Table.{Step, Me}
+use Rattle.joint_model.specs.declared.names.MNum.{MNum}
+use Rattle.joint_model.specs.declared.names.Thread.{Thread}
+use Rattle.joint_model.specs.declared.names.Thread.TheVariants.{M}
+use Rattle.joint_model.specs.declared.events.Made.{Made}
+use Rattle.order_table.specs.declared.views.Role.{Role}
+use Rattle.order_table.specs.declared.views.Kept.{Kept}
+use Rattle.order_table.specs.declared.views.View.{View}
+use Rattle.order_table.specs.Rows.{at}
+use Rattle.order_table.specs.Views.{role_line, caller_line, kept, known, Owns, appended, learned}
+use Rattle.order_table.specs.Rule.{Item, RunsFrom, of_line, IsBelow}
+
+-- what is known are beginnings of the lines of one history, whose entries have the numbers from 0 on
+pub record IsOneHistory (w : View) : Type 0 where
+  pub whole : List Item
+  pub numbers : RunsFrom 0 whole
+  pub begins : (i : ℕ) → IsPrefix (known w i) (of_line i whole)
+
+-- the entry has the number found, which is greater than all that the seat knew and which no other entry of the one history has
+abbrev pub Appended : ℕ → Made → Option MNum → List MNum → Step (Unit {0}) → Me (Unit {0}) View → ℕ → Me (Unit {0}) View → Type 0
+Appended role made target freed st m n m' = (m'.1 ≡ m.1) × (m'.0 ≡ appended m.0 role (kept m.0 made target freed n)) × ((i : ℕ) → IsBelow n (known m.0 i)) × IsOneHistory m'.0
+
+-- an entry more in the line of its role and in that of its caller; all else is known as before, and owned as before
+pub record Grows (v w : View) (r : ℕ) (k : Kept) : Type 0 where
+  pub role : known w r ≡ known v r ++ k ∷ []
+  pub caller : known w (caller_line k.entry.made.caller) ≡ known v (caller_line k.entry.made.caller) ++ k ∷ []
+  pub others : (i : ℕ) → (i ≡ r → ⊥) → (i ≡ caller_line k.entry.made.caller → ⊥) → known w i ≡ known v i
+  pub owns : w.owns ≡ v.owns
+
+-- of what the seat knew and what it heard the one begins the other; who owned a line knew it whole
+pub record Compares (v w : View) : Type 0 where
+  pub is : w ≡ learned v
+  pub knew : (i : ℕ) → IsPrefix (known v i) (known w i)
+  pub heard : (i : ℕ) → IsPrefix (at [] v.heard i) (known w i)
+  pub owned : (i : ℕ) → Owns v i → known w i ≡ known v i
+  pub taken : (i : ℕ) → at false v.heard_owns i ≡ true → known w i ≡ at [] v.heard i
+
+abbrev pub Compared : Step (Unit {0}) → Me (Unit {0}) View → ℕ → Me (Unit {0}) View → Type 0
+Compared st m n m' = (m'.1 ≡ m.1) × Compares m.0 m'.0 × IsOneHistory m'.0
+
+-- which lines a seat gives away: a role's; a caller's, and for a managed thread that of its reader; none
+abbrev pub IsOfRole : Role → ℕ → Type 0
+IsOfRole r i = i ≡ role_line r
+
+abbrev pub IsOfCaller : Thread → ℕ → Type 0
+IsOfCaller (M n) i = (i ≡ caller_line (M n)) ⊎ (i ≡ 1 + n)
+IsOfCaller t i = i ≡ caller_line t
+
+abbrev pub IsOfNone : ℕ → Type 0
+IsOfNone i = ⊥
+
+-- a seat gave another one the lines of this kind that it owned, and kept the others; both know what it knew
+pub record Parts (Goes : ℕ → Type 0) (old left right : View) : Type 0 where
+  pub went : (i : ℕ) → Goes i → Owns old i → Owns right i
+  pub gone : (i : ℕ) → Goes i → Owns left i → ⊥
+  pub stayed : (i : ℕ) → (Goes i → ⊥) → Owns old i → Owns left i
+  pub only : (i : ℕ) → (Goes i → ⊥) → Owns right i → ⊥
+  pub had : (i : ℕ) → (Owns left i → Owns old i) × (Owns right i → Owns old i)
+  pub know : (i : ℕ) → (known left i ≡ known old i) × (known right i ≡ known old i)
+
+-- a seat took another one in: it owns what both owned, and knows of each line the longer list, which both begin; and of a line that one of
+-- them owned just what that one knew
+pub record TakesIn (old other new : View) : Type 0 where
+  pub owns : (i : ℕ) → (Owns old i ⊎ Owns other i → Owns new i) × (Owns new i → Owns old i ⊎ Owns other i)
+  pub either : (i : ℕ) → (known new i ≡ known old i) ⊎ (known new i ≡ known other i)
+  pub knew : (i : ℕ) → IsPrefix (known old i) (known new i)
+  pub heard : (i : ℕ) → IsPrefix (known other i) (known new i)
+  pub owned : (i : ℕ) → Owns old i → known new i ≡ known old i
+  pub taken : (i : ℕ) → Owns other i → known new i ≡ known other i
