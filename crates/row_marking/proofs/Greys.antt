@@ -1,0 +1,229 @@
+-- Steps of a marking whose grey rows are a list through the rows. A step is a function of the list of grey rows before it: whichever rows
+-- the links chained from the old head, all of them marked, other rows are chained from the new head, and between the two lists stands what a
+-- step of any marking does (`Scans`). So steps compose as functions do, and a step has nothing to ask for.
+--
+-- To put a row first writes its link. It wasn't marked, and each row of the list is, so it isn't in the list and no link of the list changes.
+-- A loop that takes the first grey row and visits what that leads to keeps `Greying`: what is marked was marked before or is reached, and a
+-- marked row is grey or all that it leads to is marked. Once the list is empty the marks are closed, so each reached row is marked. A turn
+-- takes one row from the list, and what joins it wasn't marked: twice the unmarked rows, with the grey ones, become fewer.
+use Rattle.std.proofs.Common.{◌≡◌, ℕ, zero, suc, ◌+◌, ◌-◌, ◌*◌, ◌<◌, ◌≤◌, ◌⊎◌, ◌↔◌, inl, inr, Bool, true, false, List, [], ◌∷◌, ◌++◌, length, Option, Some, None, set, refl, sym, ap, subst, ◌∙◌, arith}
+use Rattle.std.specs.Prelude.{Contains, slice_get}
+use Rattle.std.proofs.Math.ListN.{length-set}
+use Rattle.std.proofs.lemmas.Option.{slice_get_within}
+use Rattle.std.proofs.lemmas.List.Elements.{Contains-push, Contains-push_cases, Contains-append_left}
+use Rattle.joint_model.specs.Walks.{Reached}
+use Rattle.joint_model.proofs.WalkLemmas.{Reached-keeps, Reached-start, Reached-then}
+use Rattle.std.proofs.lemmas.Bool.{cases_lt}
+use Rattle.joint_model.proofs.Numbered.{set-at_here, set-at_other}
+use Rattle.joint_model.proofs.Members.{Contains-nil, Contains-here, Contains-there, Contains-cons_cases}
+use Rattle.reachability.specs.Marks.{IsMarked, IsClosed, unmarked}
+use Rattle.reachability.specs.Scans.{Scans}
+use Rattle.reachability.proofs.Marking.{Scans-none, Scans-seen, Scans-then, unmarked-set, set-marked, set-keeps, set-fresh, unmarked-le}
+use Rattle.row_marking.specs.Traces.{GreyChain, Chained, Greyed, Greying, greys, RefersFrom, Leads, IsLastBelow, Shape}
+
+-- a link outside a chain may change
+pub GreyChain-other : (l : List ℕ) (i n : ℕ) (h : ℕ) (xs : List ℕ) → (Contains xs i → ⊥) → GreyChain l h xs → GreyChain (set l i n) h xs
+GreyChain-other l i n h [] out c = c
+GreyChain-other l i n h (x ∷ xs) out (e, one, (next, at, rest)) = (
+  e,
+  one,
+  (
+    next,
+    set-at_other l i x n (λ e'. out (subst (λ z. Contains (x ∷ xs) z) e' (Contains-here x xs))) ∙ at,
+    GreyChain-other l i n next xs (λ h'. out (Contains-there i x xs h')) rest,
+  ),
+)
+
+-- a row that wasn't marked comes first
+pub Scans-first : (y : ℕ) (m : List Bool) (s : List ℕ) → slice_get m y ≡ Some false → y < length m → Scans (λ z. z ≡ y) m s (set m y true) (y ∷ s)
+Scans-first y m s new l = record {
+  len = length-set m y true;
+  kept = λ k h. set-keeps m y k h;
+  done = λ k r. subst (IsMarked (set m y true)) (sym r) (set-marked m y l);
+  fresh = λ k h. elim (set-fresh m y k h) [ inl w ↦ inl w | inr w ↦ inr (w, subst (Contains (y ∷ s)) (sym w) (Contains-here y s)) ];
+  stays = λ k h. Contains-there k y s h;
+  within = λ k h. elim (Contains-cons_cases y s k h) [ inl w ↦ inr (subst (IsMarked (set m y true)) w (set-marked m y l)) | inr w ↦ inl w ];
+  fewer = omega (arith, unmarked-set m y new);
+  same = omega (arith, unmarked-set m y new);
+}
+
+pub Greyed-none : (row : ℕ → Type 0) (m : List Bool) (l : List ℕ) (h : ℕ) → ((k : ℕ) → row k → ⊥) → Greyed row m l h m l h
+Greyed-none row m l h none waited c = record { waits = waited; chained = c; scans = Scans-none row m waited none }
+
+pub Greyed-seen : (y : ℕ) (m : List Bool) (l : List ℕ) (h : ℕ) → IsMarked m y → Greyed (λ z. z ≡ y) m l h m l h
+Greyed-seen y m l h seen waited c = record { waits = waited; chained = c; scans = Scans-seen y m waited seen }
+
+pub Greyed-new : (y : ℕ) (m : List Bool) (l : List ℕ) (h : ℕ) → slice_get m y ≡ Some false → 1 ≤ y → y < length l → Greyed (λ z. z ≡ y) m l h (set m y true) (set l y h) y
+Greyed-new y m l h new one fits waited c =
+    let out : Contains waited y → ⊥ = λ w. (let e : Some true ≡ Some false = sym (c.marked y w) ∙ new in cc) in
+    record {
+      waits = y ∷ waited;
+      chained = record {
+        chain = (refl, one, (h, set-at_here l y h fits, GreyChain-other l y h h waited out c.chain));
+        marked = λ k w. elim (Contains-cons_cases y waited k w) [
+          | inl e ↦ subst (IsMarked (set m y true)) e (set-marked m y (slice_get_within m y false new))
+          | inr d ↦ set-keeps m y k (c.marked k d)
+        ];
+      };
+      scans = Scans-first y m waited new (slice_get_within m y false new);
+    }
+
+pub Greyed-then : (p q row : ℕ → Type 0) (a : List Bool) (k : List ℕ) (h : ℕ) (b : List Bool) (l : List ℕ) (i : ℕ) (c : List Bool) (n : List ℕ) (j : ℕ)
+    → ((x : ℕ) → row x → p x ⊎ q x) → ((x : ℕ) → p x → row x) → ((x : ℕ) → q x → row x) → Greyed p a k h b l i → Greyed q b l i c n j → Greyed row a k h c n j
+Greyed-then p q row a k h b l i c n j split left right x y waited w =
+    let one = x waited w in
+    let two = y one.waits one.chained in
+    record { waits = two.waits; chained = two.chained; scans = Scans-then p q row a waited b one.waits c two.waits split left right one.scans two.scans }
+
+pub Greyed-as : (p row : ℕ → Type 0) (a : List Bool) (k : List ℕ) (h : ℕ) (b : List Bool) (l : List ℕ) (i : ℕ) → ((x : ℕ) → row x → p x) → ((x : ℕ) → p x → row x) → Greyed p a k h b l i → Greyed row a k h b l i
+Greyed-as p row a k h b l i there back x = Greyed-then p (λ z. ⊥) row a k h b l i b l i (λ z r. inl (there z r)) back (λ z r. absurd r) x (Greyed-none (λ z. ⊥) b l i (λ z r. r))
+
+-- a further place of a row's fields
+pub Greyed-push_some : (xs : List (Option ℕ)) (y : ℕ) (a : List Bool) (k : List ℕ) (h : ℕ) (b : List Bool) (l : List ℕ) (i : ℕ) (c : List Bool) (n : List ℕ) (j : ℕ)
+    → Greyed (λ z. Contains xs (Some z)) a k h b l i → Greyed (λ z. z ≡ y) b l i c n j → Greyed (λ z. Contains (xs ++ Some y ∷ []) (Some z)) a k h c n j
+Greyed-push_some xs y a k h b l i c n j v w = Greyed-then (λ z. Contains xs (Some z)) (λ z. z ≡ y) (λ z. Contains (xs ++ Some y ∷ []) (Some z)) a k h b l i c n j
+    (λ z r. elim (Contains-push_cases xs (Some y) (Some z) r) [ inl g ↦ inl g | inr g ↦ inr (let e : z ≡ y = cc in e) ])
+    (λ z g. Contains-append_left xs (Some y ∷ []) (Some z) g)
+    (λ z g. subst (λ t. Contains (xs ++ Some y ∷ []) (Some t)) (sym g) (Contains-push xs (Some y))) v w
+
+pub Greyed-push_none : (xs : List (Option ℕ)) (a : List Bool) (k : List ℕ) (h : ℕ) (b : List Bool) (l : List ℕ) (i : ℕ) → Greyed (λ z. Contains xs (Some z)) a k h b l i → Greyed (λ z. Contains (xs ++ None ∷ []) (Some z)) a k h b l i
+Greyed-push_none xs a k h b l i v = Greyed-as (λ z. Contains xs (Some z)) (λ z. Contains (xs ++ None ∷ []) (Some z)) a k h b l i
+    (λ z r. elim (Contains-push_cases xs None (Some z) r) [ inl g ↦ g | inr g ↦ (let e : ⊥ = cc in absurd e) ])
+    (λ z g. Contains-append_left xs (None ∷ []) (Some z) g) v
+
+-- a chain has just one list of rows, which the links give
+pub greys-of : (l : List ℕ) (n h : ℕ) (xs : List ℕ) → GreyChain l h xs → length xs ≤ n → greys l n h ≡ xs
+greys-of l zero h [] c le = refl
+greys-of l zero h (x ∷ xs) c le = absurd (omega arith)
+greys-of l (suc n) zero [] c le = refl
+greys-of l (suc n) zero (x ∷ xs) (e, one, rest) le = absurd (omega (arith, e, one))
+greys-of l (suc n) (suc h) [] c le = absurd (omega (arith, c))
+greys-of l (suc n) (suc h) (x ∷ xs) (e, one, (next, at, rest)) le =
+    let e' : slice_get l (suc h) ≡ Some next = ap (slice_get l) e ∙ at in
+    rw e' (ap (λ z. suc h ∷ z) (greys-of l n next xs rest (omega arith)) ∙ ap (λ z. z ∷ xs) e)
+
+pub GreyChain-one : (l : List ℕ) (h : ℕ) (xs ys : List ℕ) → GreyChain l h xs → GreyChain l h ys → xs ≡ ys
+GreyChain-one l h xs ys c d = sym (greys-of l (length xs + length ys) h xs c (omega arith)) ∙ greys-of l (length xs + length ys) h ys d (omega arith)
+
+-- the marking goes on: the first grey row is taken and what it leads to is marked
+pub Greying-goes : (roots : List ℕ) (edge : ℕ → ℕ → Type 0) (before m : List Bool) (l : List ℕ) (x next : ℕ) (m' : List Bool) (l' : List ℕ) (h' : ℕ)
+    → 1 ≤ x → slice_get l x ≡ Some next → Greying roots edge before m l x → Greyed (edge x) m l next m' l' h' → Greying roots edge before m' l' h'
+Greying-goes roots edge before m l x next m' l' h' one at i y = Greying-goes_by i.waits i.chained.chain refl
+  where
+    Greying-goes_by : (waits : List ℕ) → GreyChain l x waits → i.waits ≡ waits → Greying roots edge before m' l' h'
+    Greying-goes_by [] c e = absurd (omega (arith, c, one))
+    Greying-goes_by (z ∷ rest) (ez, oz, (n, atz, tail)) e =
+        let same : n ≡ next = (let q : Some n ≡ Some next = sym atz ∙ (ap (slice_get l) (sym ez) ∙ at) in cc) in
+        let inside : (k : ℕ) → Contains rest k → Contains i.waits k = λ k w. subst (λ t. Contains t k) (sym e) (Contains-there k z rest w) in
+        let there : Chained m l next rest = record { chain = subst (λ t. GreyChain l t rest) same tail; marked = λ k w. i.chained.marked k (inside k w) } in
+        let g = y rest there in
+        let here : IsMarked m x = i.chained.marked x (subst (λ t. Contains t x) (sym e) (subst (λ t. Contains (z ∷ rest) t) (sym ez) (Contains-here z rest))) in
+        record {
+          waits = g.waits;
+          chained = g.chained;
+          shut = i.shut;
+          len = g.scans.len ∙ i.len;
+          sound = λ k h. elim (g.scans.fresh k h) [
+            | inl w ↦ i.sound k w
+            | inr w ↦ elim (i.sound x here) [ inl v ↦ inl (i.shut x k w.0 v) | inr v ↦ inr (Reached-then (Contains roots) edge x k v w.0) ]
+          ];
+          kept = λ k h. g.scans.kept k (i.kept k h);
+          roots_marked = λ k h. g.scans.kept k (i.roots_marked k h);
+          closed = λ k h. elim (g.scans.fresh k h) [
+            | inl w ↦ elim (i.closed k w) [
+              | inl v ↦ elim (Contains-cons_cases z rest k (subst (λ t. Contains t k) e v)) [
+                | inl u ↦ inr (λ t d. g.scans.done t (subst (λ s. edge s t) (sym u ∙ sym ez) d))
+                | inr u ↦ inl (g.scans.stays k u)
+              ]
+              | inr v ↦ inr (λ t d. g.scans.kept t (v t d))
+            ]
+            | inr w ↦ inl w.1
+          ];
+          room = (let len : length i.waits ≡ suc (length rest) = ap length e in omega (arith, g.scans.same, i.room, len));
+        }
+
+-- once no row is grey, exactly what was marked before or is reached is marked
+pub Greying-closes : (roots : List ℕ) (edge : ℕ → ℕ → Type 0) (before m : List Bool) (l : List ℕ) → Greying roots edge before m l 0 → IsClosed edge m
+Greying-closes roots edge before m l i x y d h =
+    let none : i.waits ≡ [] = GreyChain-one l 0 i.waits [] i.chained.chain refl in
+    elim (i.closed x h) [ inl w ↦ absurd (Contains-nil x (subst (λ t. Contains t x) none w)) | inr w ↦ w y d ]
+
+pub Greying-ends : (roots : List ℕ) (edge : ℕ → ℕ → Type 0) (before m : List Bool) (l : List ℕ) → Greying roots edge before m l 0 → (k : ℕ) → IsMarked m k ↔ (IsMarked before k ⊎ Reached (Contains roots) edge k)
+Greying-ends roots edge before m l i k =
+    (i.sound k, λ h. elim h [ inl w ↦ i.kept k w | inr w ↦ Reached-keeps (Contains roots) edge (IsMarked m) i.roots_marked (Greying-closes roots edge before m l i) k w ])
+
+-- the first grey row is marked
+pub Greying-head : (roots : List ℕ) (edge : ℕ → ℕ → Type 0) (before m : List Bool) (l : List ℕ) (x : ℕ) → 1 ≤ x → Greying roots edge before m l x → IsMarked m x
+Greying-head roots edge before m l x one i = Greying-head_by i.waits i.chained.chain i.chained.marked
+  where
+    Greying-head_by : (waits : List ℕ) → GreyChain l x waits → ((k : ℕ) → Contains waits k → IsMarked m k) → IsMarked m x
+    Greying-head_by [] c marked = absurd (omega (arith, c, one))
+    Greying-head_by (z ∷ rest) c marked = subst (IsMarked m) (sym c.0) (marked z (Contains-here z rest))
+
+pub Greying-inside : (roots : List ℕ) (edge : ℕ → ℕ → Type 0) (before m : List Bool) (l : List ℕ) (x : ℕ) → 1 ≤ x → Greying roots edge before m l x → x < length m
+Greying-inside roots edge before m l x one i = slice_get_within m x true (Greying-head roots edge before m l x one i)
+
+-- each turn makes the measure smaller
+pub Greying-smaller : (roots : List ℕ) (edge : ℕ → ℕ → Type 0) (before m : List Bool) (l : List ℕ) (x next : ℕ) (m' : List Bool) (l' : List ℕ) (h' : ℕ)
+    → 1 ≤ x → slice_get l x ≡ Some next → Greying roots edge before m l x → Greyed (edge x) m l next m' l' h'
+    → 2 * unmarked m' + length (greys l' (length m') h') < 2 * unmarked m + length (greys l (length m) x)
+Greying-smaller roots edge before m l x next m' l' h' one at i y = Greying-smaller_by i.waits i.chained.chain i.chained.marked i.room
+  where
+    Greying-smaller_by : (waits : List ℕ) → GreyChain l x waits → ((k : ℕ) → Contains waits k → IsMarked m k) → unmarked m + length waits ≤ unmarked before
+        → 2 * unmarked m' + length (greys l' (length m') h') < 2 * unmarked m + length (greys l (length m) x)
+    Greying-smaller_by [] c marked room = absurd (omega (arith, c, one))
+    Greying-smaller_by (z ∷ rest) (ez, oz, (n, atz, tail)) marked room =
+        let same : n ≡ next = (let q : Some n ≡ Some next = sym atz ∙ (ap (slice_get l) (sym ez) ∙ at) in cc) in
+        let there : Chained m l next rest = record { chain = subst (λ t. GreyChain l t rest) same tail; marked = λ k w. marked k (Contains-there k z rest w) } in
+        let g = y rest there in
+        let old : greys l (length m) x ≡ z ∷ rest = greys-of l (length m) x (z ∷ rest) (ez, oz, (n, atz, tail)) (omega (arith, room, unmarked-le before, i.len)) in
+        let new : greys l' (length m') h' ≡ g.waits = greys-of l' (length m') h' g.waits g.chained.chain (omega (arith, g.scans.same, g.scans.len, room, unmarked-le before, i.len)) in
+        rw (old, new) (omega (arith, g.scans.same, g.scans.fewer))
+
+-- the references of a row from one place on: those from the next place on, and the one below it
+pub RefersFrom-split : (refs : List (ℕ × ℕ)) (x r y n : ℕ) → 1 ≤ r → IsLastBelow refs x (r - 1) n → slice_get refs (r - 1) ≡ Some (x, y) → (k : ℕ) → RefersFrom refs n x k → RefersFrom refs r x k ⊎ (k ≡ y)
+RefersFrom-split refs x r y n one l at k (i, le, ati) = elim (cases_lt i r) [
+  | inr w ↦ inl (i, w, ati)
+  | inl w ↦ elim (cases_lt i (r - 1)) [
+    | inr v ↦
+        let e : i ≡ r - 1 = omega arith in
+        let q : Some (x, k) ≡ Some (x, y) = sym ati ∙ (ap (slice_get refs) e ∙ at) in
+        inr (ap (λ o. elim o [ None ↦ 0 | Some p ↦ p.1 ]) q)
+    | inl v ↦ absurd (l.none i k le v ati)
+  ]
+]
+
+pub RefersFrom-more : (refs : List (ℕ × ℕ)) (x r y n : ℕ) → IsLastBelow refs x (r - 1) n → (k : ℕ) → RefersFrom refs r x k → RefersFrom refs n x k
+RefersFrom-more refs x r y n l k (i, le, ati) = (i, omega (arith, l.below), ati)
+
+pub RefersFrom-least : (refs : List (ℕ × ℕ)) (x r y n : ℕ) → IsLastBelow refs x (r - 1) n → slice_get refs (r - 1) ≡ Some (x, y) → (k : ℕ) → k ≡ y → RefersFrom refs n x k
+RefersFrom-least refs x r y n l at k e = (r - 1, l.below, rw e at)
+
+-- what a row leads to by its fields and by its references
+pub Greyed-leads : (s : Shape) (x : ℕ) (a : List Bool) (k : List ℕ) (h : ℕ) (b : List Bool) (l : List ℕ) (i : ℕ) (c : List Bool) (n : List ℕ) (j : ℕ)
+    → Greyed (λ z. Contains (s.fields x) (Some z)) a k h b l i → Greyed (RefersFrom s.refs 0 x) b l i c n j → Greyed (Leads s x) a k h c n j
+Greyed-leads s x a k h b l i c n j v w = Greyed-then (λ z. Contains (s.fields x) (Some z)) (RefersFrom s.refs 0 x) (Leads s x) a k h b l i c n j (λ z r. r) (λ z r. inl r) (λ z r. inr r) v w
+
+-- a list's nodes and one more node
+pub Greyed-push : (xs : List ℕ) (y : ℕ) (a : List Bool) (k : List ℕ) (h : ℕ) (b : List Bool) (l : List ℕ) (i : ℕ) (c : List Bool) (n : List ℕ) (j : ℕ)
+    → Greyed (Contains xs) a k h b l i → Greyed (λ z. z ≡ y) b l i c n j → Greyed (Contains (xs ++ y ∷ [])) a k h c n j
+Greyed-push xs y a k h b l i c n j v w = Greyed-then (Contains xs) (λ z. z ≡ y) (Contains (xs ++ y ∷ [])) a k h b l i c n j
+    (λ z r. elim (Contains-push_cases xs y z r) [ inl g ↦ inl g | inr g ↦ inr (sym g) ])
+    (λ z g. Contains-append_left xs (y ∷ []) z g)
+    (λ z g. subst (Contains (xs ++ y ∷ [])) (sym g) (Contains-push xs y)) v w
+
+-- once the roots are marked, the marking is on its way
+pub Greying-begins : (roots : List ℕ) (edge : ℕ → ℕ → Type 0) (before : List Bool) (l : List ℕ) (m : List Bool) (l' : List ℕ) (h' : ℕ) → IsClosed edge before → Greyed (Contains roots) before l 0 m l' h' → Greying roots edge before m l' h'
+Greying-begins roots edge before l m l' h' shut y =
+    let g = y [] record { chain = refl; marked = λ k w. absurd (Contains-nil k w) } in
+    record {
+      waits = g.waits;
+      chained = g.chained;
+      shut = shut;
+      len = g.scans.len;
+      sound = λ k h. elim (g.scans.fresh k h) [ inl w ↦ inl w | inr w ↦ inr (Reached-start (Contains roots) edge k w.0) ];
+      kept = g.scans.kept;
+      roots_marked = g.scans.done;
+      closed = λ k h. elim (g.scans.fresh k h) [ inl w ↦ inr (λ y' e. g.scans.kept y' (shut k y' e w)) | inr w ↦ inl w.1 ];
+      room = omega (arith, g.scans.same);
+    }

@@ -1,0 +1,177 @@
+// Marking through the rows of a heap: which objects are reached from some roots, with the marks in the object rows themselves. The managed
+// and the peer collector both mark by this one loop. It takes no memory: nothing is copied, and no list stands beside the rows.
+//
+//     marked and scanned        marked and grey               not marked
+//     +---+   +---+         head -> +---+   +---+            +---+   +---+
+//     | 3 |-->| 7 |                 | 9 |-->| 4 |--> 0       | 5 |   | 8 |
+//     +---+   +---+                 +---+   +---+            +---+   +---+
+//
+// Rows have the numbers from 1 on, and 0 is no row. What can be marked has the trait [`Traced`]: each row has a mark, a link, fields that
+// hold a row or nothing, and references, which lead from a row to a row and stand in one list for all rows. The references of one row are a
+// list too: `first_reference` says where the last one stands, and each says where the one before it stands, so that no row's references
+// are looked for in the list.
+//
+// A grey row is marked and isn't scanned yet. The grey rows are a list through the links: `head` is the first, 0 ends it. `visit` marks a
+// row, and one that wasn't marked comes first in the list; to scan a row is to visit what it leads to; `finish` scans the grey rows until
+// none is left. So a marked row is grey or all that it leads to is marked, and once none is grey the marks are closed under the edges. Each
+// row becomes grey at most once, so a marking is linear in what it walks.
+//
+// A collector begins a marking with all marks down, visits each root and calls `finish`; `mark_from` does both for a list of roots. While
+// the marking is open it brings a row back by `mark_from` with that one row, and the marks before have to be closed under the edges.
+#![tactic(auto)]
+
+ghost use Rattle.std.specs.Prelude.{◌≡◌, ℕ, ◌+◌, ◌-◌, ◌<◌, ◌≤◌, ◌⊎◌, ◌↔◌, List, Option, Some, Contains, All, Bool, length, slice_get, slice_set, IfSome, IsTrue, true};
+ghost use Rattle.joint_model.specs.Walks.{Reached};
+ghost use Rattle.reachability.specs.Marks.{IsMarked, IsClosed};
+ghost use Rattle.row_marking.specs.Traces.{Shape, Leads, IsLastBelow, RefersFrom, Greyed, Greying, IsGreying};
+
+/// Rows that can be marked. A link of 0 ends the list of grey rows.
+pub trait Traced {
+    ghost shape: { Self → Shape };
+
+    ghost marks: { Self → List Bool };
+
+    ghost links: { Self → List ℕ };
+
+    /// How many fields row `x` has.
+    fn degree(&self, x: usize) -> usize
+        requires { x < (shape self.now).nodes }
+        ensures { result ≡ length ((shape self.now).fields x) };
+
+    /// What field `i` of row `x` holds.
+    fn field(&self, x: usize, i: usize) -> Option<u32>
+        requires node { x < (shape self.now).nodes }
+        requires place { i < length ((shape self.now).fields x) }
+        ensures at { slice_get ((shape self.now).fields x) i ≡ Some result }
+        ensures within { IfSome result (λ y. (1 ≤ y) × (y < (shape self.now).nodes)) };
+
+    /// Where the references of row `x` begin, counted from 1; 0 where it has none.
+    fn first_reference(&self, x: usize) -> u32
+        requires { x < (shape self.now).nodes }
+        ensures { IsLastBelow (shape self.now).refs x (length (shape self.now).refs) result };
+
+    /// The row to which a reference of row `x` leads, and the next one of that row.
+    fn reference(&self, x: usize, r: u32) -> (u32, u32)
+        requires some { 1 ≤ r }
+        requires of { (y : ℕ) × (slice_get (shape self.now).refs (r - 1) ≡ Some (x, y)) }
+        ensures to { slice_get (shape self.now).refs (r - 1) ≡ Some (x, result.0) }
+        ensures within { (1 ≤ result.0) × (result.0 < (shape self.now).nodes) }
+        ensures next { IsLastBelow (shape self.now).refs x (r - 1) result.1 };
+
+    /// Whether row `x` is marked.
+    fn is_marked(&self, x: usize) -> bool
+        requires { x < (shape self.now).nodes }
+        ensures mark { slice_get (marks self.now) x ≡ Some result }
+        ensures len { length (marks self.now) ≡ (shape self.now).nodes };
+
+    /// The link of row `x`.
+    fn link(&self, x: usize) -> u32
+        requires { x < (shape self.now).nodes }
+        ensures { slice_get (links self.now) x ≡ Some result };
+
+    /// Marks row `x`, and gives it a link.
+    fn mark(&mut self, x: usize, link: u32)
+        requires { x < (shape self.old).nodes }
+        ensures shape { shape self.new ≡ shape self.old }
+        ensures marks { marks self.new ≡ slice_set (marks self.old) x true }
+        ensures links { links self.new ≡ slice_set (links self.old) x link }
+        ensures len { x < length (links self.old) };
+}
+
+/// Marks row `y`; one that wasn't marked comes first in the list of grey rows.
+pub fn visit<G: Traced>(g: &mut G, y: u32, grey: &mut u32)
+    requires some { 1 ≤ y }
+    requires node { y < (G.shape g.old).nodes }
+    ensures shape { G.shape g.new ≡ G.shape g.old }
+    ensures greyed { Greyed (λ z. z ≡ y) (G.marks g.old) (G.links g.old) grey.old (G.marks g.new) (G.links g.new) grey.new }
+{
+    if !g.is_marked(y as usize) {
+        g.mark(y as usize, *grey);
+        *grey = y;
+    }
+}
+
+// Marks what the fields of row `x` hold.
+fn scan_fields<G: Traced>(g: &mut G, x: usize, grey: &mut u32)
+    requires { x < (G.shape g.old).nodes }
+    ensures shape { G.shape g.new ≡ G.shape g.old }
+    ensures greyed { Greyed (λ y. Contains ((G.shape g.old).fields x) (Some y)) (G.marks g.old) (G.links g.old) grey.old (G.marks g.new) (G.links g.new) grey.new }
+{
+    let degree = g.degree(x);
+    for i in 0..degree {
+        if let Some(y) = g.field(x, i) {
+            visit(g, y, grey);
+        }
+    }
+}
+
+// Marks what the references of row `x` lead to.
+fn scan_references<G: Traced>(g: &mut G, x: usize, grey: &mut u32)
+    requires { x < (G.shape g.old).nodes }
+    ensures shape { G.shape g.new ≡ G.shape g.old }
+    ensures greyed { Greyed (RefersFrom (G.shape g.old).refs 0 x) (G.marks g.old) (G.links g.old) grey.old (G.marks g.new) (G.links g.new) grey.new }
+{
+    let mut r = g.first_reference(x);
+    while r != 0 {
+        let (y, next) = g.reference(x, r);
+        visit(g, y, grey);
+        r = next;
+    }
+}
+
+// Marks what row `x` leads to.
+fn scan<G: Traced>(g: &mut G, x: usize, grey: &mut u32)
+    requires { x < (G.shape g.old).nodes }
+    ensures shape { G.shape g.new ≡ G.shape g.old }
+    ensures greyed { Greyed (Leads (G.shape g.old) x) (G.marks g.old) (G.links g.old) grey.old (G.marks g.new) (G.links g.new) grey.new }
+{
+    scan_fields(g, x, grey);
+    scan_references(g, x, grey);
+}
+
+/// Carries a marking to its end: the grey rows are scanned until none is left. It takes no memory.
+pub fn finish<G: Traced>(g: &mut G, grey: u32)
+    requires going { IsGreying (Leads (G.shape g.old)) (G.marks g.old) (G.links g.old) grey }
+    requires len { length (G.marks g.old) ≡ (G.shape g.old).nodes }
+    ensures shape { G.shape g.new ≡ G.shape g.old }
+    ensures len { length (G.marks g.new) ≡ (G.shape g.new).nodes }
+    ensures marks { (roots : List ℕ) (before : List Bool) → Greying roots (Leads (G.shape g.old)) before (G.marks g.old) (G.links g.old) grey → (k : ℕ) → IsMarked (G.marks g.new) k ↔ (IsMarked before k ⊎ Reached (Contains roots) (Leads (G.shape g.old)) k) }
+    ensures closed { IsClosed (Leads (G.shape g.new)) (G.marks g.new) }
+{
+    let mut head = grey;
+    while head != 0 {
+        let x = head as usize;
+        head = g.link(x);
+        scan(g, x, &mut head);
+    }
+}
+
+// Marks the roots of a list, each of which comes into the list of grey rows if it wasn't marked.
+fn mark_roots<G: Traced>(g: &mut G, roots: &[u32], grey: &mut u32)
+    requires roots { All (λ y. (1 ≤ y) × (y < (G.shape g.old).nodes)) roots.now }
+    ensures shape { G.shape g.new ≡ G.shape g.old }
+    ensures greyed { Greyed (Contains roots.now) (G.marks g.old) (G.links g.old) grey.old (G.marks g.new) (G.links g.new) grey.new }
+{
+    for y in roots {
+        visit(g, *y, grey);
+    }
+}
+
+/// Marks the roots with all that they reach, and keeps what was marked, which has to be closed under the edges. It takes
+/// no memory.
+pub fn mark_from<G: Traced>(g: &mut G, roots: &[u32])
+    requires roots { All (λ y. (1 ≤ y) × (y < (G.shape g.old).nodes)) roots.now }
+    requires len { length (G.marks g.old) ≡ (G.shape g.old).nodes }
+    requires shut { IsClosed (Leads (G.shape g.old)) (G.marks g.old) }
+    ensures shape { G.shape g.new ≡ G.shape g.old }
+    ensures len { length (G.marks g.new) ≡ (G.shape g.new).nodes }
+    ensures marks { (k : ℕ) → IsMarked (G.marks g.new) k ↔ (IsMarked (G.marks g.old) k ⊎ Reached (Contains roots.now) (Leads (G.shape g.old)) k) }
+    ensures closed { IsClosed (Leads (G.shape g.new)) (G.marks g.new) }
+{
+    let mut grey = 0;
+    mark_roots(g, roots, &mut grey);
+    finish(g, grey);
+}
+
+#[cfg(test)]
+mod tests;

@@ -1,0 +1,83 @@
+// A marking of five rows: row x leads to row x % 3 + 3 by its first field, and row 1 to row 2 by a reference.
+
+ghost use Rattle.std.specs.Prelude.{◌≡◌, ◌+◌, ◌%◌, [], ◌∷◌, Some, None, false, replicate};
+
+use crate::{Traced, finish, mark_from, visit};
+use std::test::Fail;
+
+#[derive(Drop)]
+struct Five {
+    marks: [bool; 6],
+    links: [u32; 6],
+}
+
+impl Traced for Five {
+    ghost shape = { λ f. record { nodes = 6; fields = λ x. Some (x % 3 + 3) ∷ None ∷ []; refs = (1, 2) ∷ [] } };
+
+    ghost marks = { λ f. f.marks };
+
+    ghost links = { λ f. f.links };
+
+    fn degree(&self, _x: usize) -> usize {
+        2
+    }
+
+    fn field(&self, x: usize, i: usize) -> Option<u32> {
+        if i == 0 {
+            Some((x % 3 + 3) as u32)
+        } else {
+            None
+        }
+    }
+
+    fn first_reference(&self, x: usize) -> u32 {
+        if x == 1 { 1 } else { 0 }
+    }
+
+    fn reference(&self, _x: usize, _r: u32) -> (u32, u32) {
+        (2, 0)
+    }
+
+    fn is_marked(&self, x: usize) -> bool {
+        self.marks[x]
+    }
+
+    fn link(&self, x: usize) -> u32 {
+        self.links[x]
+    }
+
+    fn mark(&mut self, x: usize, link: u32) {
+        self.marks[x] = true;
+        self.links[x] = link;
+    }
+}
+
+fn unmarked_rows() -> Five
+    ensures { result.marks ≡ replicate 6 false }
+{
+    Five {
+        marks: [false; 6],
+        links: [7; 6],
+    }
+}
+
+#[test]
+fn marks_what_is_reached(rt: HostRuntime) -> Result<(), Fail> {
+    let mut rows = unmarked_rows();
+    mark_from(&mut rows, &[1]);
+    assert_eq!(rt; rows.marks, [false, true, true, false, true, true]);
+    mark_from(&mut rows, &[3, 3]);
+    assert_eq!(rt; rows.marks, [false, true, true, true, true, true]);
+    Ok(())
+}
+
+#[test]
+fn marks_in_steps(rt: HostRuntime) -> Result<(), Fail> {
+    let mut rows = unmarked_rows();
+    let mut grey = 0;
+    visit(&mut rows, 2, &mut grey);
+    visit(&mut rows, 2, &mut grey);
+    assert_eq!(rt; rows.marks, [false, false, true, false, false, false]);
+    assert_eq!(rt; grey, 2);
+    Ok(())
+}
