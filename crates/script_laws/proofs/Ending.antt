@@ -14,7 +14,7 @@ use Rattle.joint_model.specs.declared.events.Op.TheVariants as op
 use Rattle.joint_model.specs.declared.events.Reply.{Reply}
 use Rattle.joint_model.specs.declared.events.Reply.TheVariants as says
 use Rattle.joint_model.specs.declared.events.Entry.{Entry}
-use Rattle.joint_model.specs.Phases.{next_phase, phases_left, phases_of, IsEventOf, IsClear, AreEach, AreTimes, AreSwept, ArePhase, candidates_after, ArePhases}
+use Rattle.joint_model.specs.Phases.{next_phase, phases_left, phases_of, IsEventOf, IsClear, AreEach, AreTimes, AreMarkAfterSweep, ArePhase, candidates_after, ArePhases}
 use Rattle.script_laws.specs.Holding.{next_event, AreEventsAfter, Standing, AreWord, AreEvents, phase_after, standing_after, HoldsLines, HoldsInOrder, HoldsPerThread, opening_standing, numbered_from, lines_of, entries_by}
 use Rattle.script_laws.specs.Ending.{Resolves, ResolveComes, IsEnded, AllCyclesEnd}
 
@@ -98,7 +98,7 @@ calm-append : (xs ys : List Entry) → AreCalm xs → AreCalm ys → AreCalm (xs
 calm-append [] ys a b = b
 calm-append (x ∷ xs) ys a b = (a.0, calm-append xs ys a.1 b)
 
-mark-calm : (es : List Entry) → AreTimes word.Mark 1 es ⊎ AreSwept es → AreCalm es
+mark-calm : (es : List Entry) → AreTimes word.Mark 1 es ⊎ AreMarkAfterSweep es → AreCalm es
 mark-calm es (inl a) = each-calm word.Mark es tt a.each
 mark-calm es (inr a) = subst AreCalm (sym a.all) (subst IsCalm (sym a.sweeps) tt, (event-calm word.Mark a.begin.made.op tt a.begins, tt))
 

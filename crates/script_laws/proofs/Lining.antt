@@ -19,7 +19,7 @@ use Rattle.joint_model.specs.Lines.{IsLine}
 use Rattle.joint_model.specs.Linked.{Linkage, replayed}
 use Rattle.joint_model.specs.PeerReplay.{PeerReplay, Marking, begun, SweepAllows}
 use Rattle.joint_model.specs.Told.{Told, Noted}
-use Rattle.joint_model.specs.Phases.{next_phase, phases_left, phases_of, IsEventOf, AreTimes, AreSwept, AreRestores, ArePhase, candidates_after, ArePhases, NamesPhase, AreRefusal}
+use Rattle.joint_model.specs.Phases.{next_phase, phases_left, phases_of, IsEventOf, AreTimes, AreMarkAfterSweep, AreRestores, ArePhase, candidates_after, ArePhases, NamesPhase, AreRefusal}
 use Rattle.script_laws.specs.Holding.{AreEventsAfter, Standing, AreWord, AreEvents, standing_after, HoldsLines}
 use Rattle.script_laws.proofs.OneNote.{Agree}
 use Rattle.script_laws.proofs.Retelling.{entries_of, AllPlain}
@@ -67,7 +67,7 @@ first-shares-back number e es (e' ∷ es') q a = shares-cons number C e e' es es
 one-sweep : (number : ℕ) (e e' : Entry) → e.made.op ≡ op.Sweep → e'.made.op ≡ op.Sweep → OneOn number C e e'
 one-sweep number e e' p p' = one-op number C e e' (p ∙ sym p') (subst (λ (o : Op). Agree o e.made.reply e'.made.reply) (sym p) tt)
 
-mark-shares : (number : ℕ) (es es' : List Entry) → AreTimes word.Mark 1 es ⊎ AreSwept es → AreTimes word.Mark 1 es' ⊎ AreSwept es' → Shares number C es es'
+mark-shares : (number : ℕ) (es es' : List Entry) → AreTimes word.Mark 1 es ⊎ AreMarkAfterSweep es → AreTimes word.Mark 1 es' ⊎ AreMarkAfterSweep es' → Shares number C es es'
 mark-shares number es es' (inl a) (inl b) = times-share number word.Mark 1 es es' a b
 mark-shares number es es' (inl a) (inr b) = shares-by number C es es' es (b.sweep ∷ b.begin ∷ []) refl b.all (first-shares number es b.sweep (b.begin ∷ []) a b.sweeps)
 mark-shares number es es' (inr a) (inl b) = shares-by number C es es' (a.sweep ∷ a.begin ∷ []) es' a.all refl (first-shares-back number a.sweep (a.begin ∷ []) es' a.sweeps b)
