@@ -1,6 +1,7 @@
 -- What contracts see of a list with room that is known.
-use Rattle.std.specs.Prelude.{ℕ, List, Bool}
+use Rattle.std.specs.Prelude.{ℕ, List, Bool, true, false, map}
 use Rattle.joint_model.specs.declared.events.Entry.{Entry}
+use Rattle.joint_model.specs.Told.{Answer, said_alive, said_cleared}
 
 -- a list of entries, and for how many more there is room
 pub record Stock : Type 0 where
@@ -11,3 +12,12 @@ pub record Stock : Type 0 where
 pub record Answers : Type 0 where
   pub values : List Bool
   pub room : ℕ
+
+-- what a truth value shows of a candidate's restore: whether it answered alive
+abbrev pub answer_of : Bool → Answer
+answer_of true = said_alive
+answer_of false = said_cleared
+
+-- the answers that truth values show
+abbrev pub answers_of : List Bool → List Answer
+answers_of alive = map answer_of alive

@@ -1,15 +1,17 @@
 -- Rising lists and marks: what a filter keeps of a rising list rises, and what walks over rows, answers and slots
 -- gather. Each is an induction on the list.
-use Rattle.std.proofs.Common.{◌≡◌, ℕ, suc, ◌+◌, ◌<◌, ◌≤◌, ◌↔◌, ◌⊎◌, inl, inr, Bool, true, false, not, List, [], ◌∷◌, ◌++◌, length, map, take, cond, get_or, Option, Some, None, refl, sym, ap, subst, ◌∙◌, arith}
+use Rattle.std.proofs.Common.{◌≡◌, ℕ, suc, ◌+◌, ◌<◌, ◌≤◌, ◌↔◌, ◌⊎◌, inl, inr, Bool, true, false, not, List, [], ◌∷◌, ◌++◌, length, map, take, cond, get_or, Option, Some, None, option_map, refl, sym, ap, subst, ◌∙◌, arith}
 use Rattle.std.specs.Prelude.{Contains, All, IsSome, filter, slice_get}
 use Rattle.std.proofs.lemmas.List.Elements.{All-nil, All-cons, All-head, All-tail, All-filter, All-weaker, Contains-push, Contains-push_cases, Contains-append_left}
 use Rattle.std.proofs.lemmas.List.{take_more, map-append, append-nil}
 use Rattle.std.proofs.lemmas.List.Elements.{filter-append}
-use Rattle.std.proofs.lemmas.Option.{slice_get_within, slice_get-get_or}
+use Rattle.std.proofs.lemmas.Option.{slice_get-map, slice_get_within, slice_get-get_or}
 use Rattle.joint_model.specs.declared.names.MNum.{MNum}
 use Rattle.joint_model.specs.Components.{Rises}
 use Rattle.joint_model.specs.Cycles.{IsAnsweredAlive}
 use Rattle.joint_model.specs.Histories.{managed_numbers}
+use Rattle.joint_model.specs.Listed.{answer_of, answers_of}
+use Rattle.joint_model.specs.Told.{Answer, IsKeptAt, said_alive}
 use Rattle.reachability.specs.Marks.{IsMarked}
 use Rattle.joint_model.specs.declared.names.HNum.{HNum}
 use Rattle.joint_model.specs.Heaps.{Heap, IsLive, slot}
@@ -96,11 +98,23 @@ answers-skip candidates alive kept i h no' m = (
   ],
 )
 
+-- an answer keeps its candidate exactly where its truth value says so
+alive-kept : (o : Option Bool) → o ≡ Some true → option_map answer_of o ≡ Some said_alive
+alive-kept o e = ap (option_map answer_of) e
+
+kept-alive : (o : Option Bool) → option_map answer_of o ≡ Some said_alive → o ≡ Some true
+kept-alive None e = cc
+kept-alive (Some true) e = refl
+kept-alive (Some false) e = cc
+
 -- all answers were read
-pub answers-all : (candidates : List ℕ) (alive : List Bool) (kept : List ℕ) (i : ℕ) → ((m : ℕ) → Contains kept m ↔ IsAliveBelow i candidates alive m) → length alive ≤ i → (m : ℕ) → Contains kept m ↔ IsAnsweredAlive candidates alive m
+pub answers-all : (candidates : List ℕ) (alive : List Bool) (kept : List ℕ) (i : ℕ) → ((m : ℕ) → Contains kept m ↔ IsAliveBelow i candidates alive m) → length alive ≤ i → (m : ℕ) → Contains kept m ↔ IsAnsweredAlive candidates (answers_of alive) m
 answers-all candidates alive kept i h l m = (
-  λ k. (let a = (h m).0 k in (a.0, a.2, a.3)),
-  λ a. (h m).1 (a.0, omega (arith, slice_get_within alive a.0 true a.2), a.1, a.2),
+  λ k. (let a = (h m).0 k in (a.0, a.2, slice_get-map answer_of alive a.0 ∙ alive-kept (slice_get alive a.0) a.3)),
+  λ a. (
+      let said : slice_get alive a.0 ≡ Some true = kept-alive (slice_get alive a.0) (sym (slice_get-map answer_of alive a.0) ∙ a.2) in
+      (h m).1 (a.0, omega (arith, slice_get_within alive a.0 true said), a.1, said)
+      ),
 )
 
 -- an answer that was read as false isn't alive

@@ -1,11 +1,13 @@
 -- Each event of the managed side is lawful in the replay of the side's entries, and leads to the side's next state.
 use Rattle.std.proofs.Common.{◌≡◌, ℕ, Bool, List, length, Option, Some, refl, sym, ap, ◌∙◌}
+use Rattle.std.proofs.lemmas.List.{length-map}
 use Rattle.joint_model.specs.declared.names.Cycle.{Cycle}
 use Rattle.joint_model.specs.declared.names.Thread.{Thread}
 use Rattle.joint_model.specs.declared.events.Op.{Op}
 use Rattle.joint_model.specs.declared.events.Op.TheVariants as op
 use Rattle.joint_model.specs.declared.events.Reply.{Reply}
 use Rattle.joint_model.specs.Heaps.{Answered, answer, place}
+use Rattle.joint_model.specs.Listed.{answer_of, answers_of}
 use Rattle.joint_model.specs.Cycles.{IsSnapshot, IsResolution, IsAnsweredAlive}
 use Rattle.joint_model.specs.Managed.{Managed, OpenCycle, adopted, with_snapshot, resolved, abandoned}
 use Rattle.joint_model.specs.ManagedReplay.{ManagedReplay}
@@ -40,9 +42,9 @@ snap r next index k freed candidates dead is state = record { lawful = record { 
 
 -- a resolution
 pub resolve : (r : ManagedReplay) (next : Managed) (index : ℕ) (cites : Option ℕ) (c : OpenCycle) (alive : List Bool) (freed : List ℕ) → r.managed.cycle ≡ Some c → length alive ≡ length c.candidates
-    → IsResolution r.managed c.dead (IsAnsweredAlive c.candidates alive) freed → next ≡ resolved r.managed freed → Replays r (resolve_made r.managed index c.number freed cites) (resolution_of alive freed) next
+    → IsResolution r.managed c.dead (IsAnsweredAlive c.candidates (answers_of alive)) freed → next ≡ resolved r.managed freed → Replays r (resolve_made r.managed index c.number freed cites) (resolution_of (answers_of alive) freed) next
 resolve r next index cites c alive freed opened many is state = record {
-  lawful = record { allowed = record { cycle = c; open_cycle = (opened, refl); answers = many; resolution = is }; replies = refl };
+  lawful = record { allowed = record { cycle = c; open_cycle = (opened, refl); answers = length-map alive answer_of ∙ many; resolution = is }; replies = refl };
   state = sym state;
 }
 

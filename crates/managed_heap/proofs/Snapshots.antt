@@ -10,6 +10,7 @@ use Rattle.joint_model.specs.declared.names.MNum.{MNum}
 use Rattle.std.proofs.lemmas.List.{length-map}
 use Rattle.joint_model.specs.declared.names.Kind.{Kind}
 use Rattle.joint_model.specs.Histories.{managed_numbers}
+use Rattle.joint_model.specs.Listed.{answers_of}
 use Rattle.finaliser_queue.specs.Queue.{Queue}
 use Rattle.joint_model.specs.Components.{Rises}
 use Rattle.joint_model.specs.Cycles.{IsSnapshot, IsAnsweredAlive}
@@ -245,9 +246,9 @@ CanFree-settled h c alive freed s f = record {
 }
 
 -- the rows that a marking from the kept candidates leaves out
-pub Settles-from : (h : Heap) (c : OpenCycle) (alive marks : List Bool) (roots freed : List ℕ) → IsTidy h → ((x : ℕ) → Contains roots x ↔ IsAnsweredAlive c.candidates alive x) → ((k : ℕ) → IsMarked marks k ↔ Reached (Contains roots) (Leads (length h.fields + 1) (live_fields h)) k) → Rises freed → ((m : ℕ) → Contains freed m ↔ (Contains c.dead m × (IsMarked marks m → ⊥))) → Settles h c alive freed
+pub Settles-from : (h : Heap) (c : OpenCycle) (alive marks : List Bool) (roots freed : List ℕ) → IsTidy h → ((x : ℕ) → Contains roots x ↔ IsAnsweredAlive c.candidates (answers_of alive) x) → ((k : ℕ) → IsMarked marks k ↔ Reached (Contains roots) (Leads (length h.fields + 1) (live_fields h)) k) → Rises freed → ((m : ℕ) → Contains freed m ↔ (Contains c.dead m × (IsMarked marks m → ⊥))) → Settles h c alive freed
 Settles-from h c alive marks roots freed t r m rise e =
-    let E : (k : ℕ) → IsMarked marks k ↔ Reached (IsAnsweredAlive c.candidates alive) (HasField h) k = marks-exact h (IsAnsweredAlive c.candidates alive) roots marks t r m in
+    let E : (k : ℕ) → IsMarked marks k ↔ Reached (IsAnsweredAlive c.candidates (answers_of alive)) (HasField h) k = marks-exact h (IsAnsweredAlive c.candidates (answers_of alive)) roots marks t r m in
     record {
       rise = rise;
       frees = λ k. (

@@ -5,6 +5,7 @@ use Rattle.joint_model.specs.declared.events.Entry.{Entry}
 use Rattle.joint_model.specs.Cycles.{IsSnapshot, IsResolution, IsAnsweredAlive}
 use Rattle.joint_model.specs.Draws.{numbered, Adds}
 use Rattle.joint_model.specs.Histories.{managed_numbers}
+use Rattle.joint_model.specs.Listed.{answers_of}
 use Rattle.joint_model.specs.Managed.{OpenCycle, handle_of, with_snapshot, resolved, abandoned}
 use Rattle.managed_heap.specs.Sides.{Side, snap_made, resolve_made, abandon_made}
 use Rattle.managed_heap.specs.declared.side.Opened.{Opened}
@@ -32,7 +33,7 @@ pub record Resolves {D : Type 0} (drew : D → Entry → Option MNum → List MN
   pub cycle : OpenCycle
   pub opened : old.managed.cycle ≡ Some cycle
   pub freed : List MNum
-  pub resolution : IsResolution old.managed cycle.dead (IsAnsweredAlive cycle.candidates alive) (managed_numbers freed)
+  pub resolution : IsResolution old.managed cycle.dead (IsAnsweredAlive cycle.candidates (answers_of alive)) (managed_numbers freed)
   pub state : new.managed ≡ resolved old.managed (managed_numbers freed)
   pub entry : Adds drew before after old.entries new.entries (resolve_made old.managed index cycle.number (managed_numbers freed) cites) None freed
   pub span : out.freed ≡ record { first = length old.managed.heap.freed; count = length freed }

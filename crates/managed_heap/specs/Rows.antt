@@ -5,6 +5,7 @@ use Rattle.joint_model.specs.Components.{Rises}
 use Rattle.joint_model.specs.Cycles.{IsSnapshot, IsResolution, IsAnsweredAlive}
 use Rattle.joint_model.specs.Heaps.{Heap, HasField}
 use Rattle.joint_model.specs.Histories.{managed_numbers}
+use Rattle.joint_model.specs.Listed.{answers_of}
 use Rattle.joint_model.specs.Managed.{Managed, OpenCycle, handle_of, with_snapshot, resolved}
 use Rattle.joint_model.specs.Walks.{Reaches}
 use Rattle.finaliser_queue.specs.Queue.{Queue}
@@ -30,13 +31,13 @@ pub record TakesSnapshot (s next : Managed) (freed : List ℕ) (first count : �
 -- the rows of a cycle's dead part that no candidate that was answered alive reaches
 pub record Settles (h : Heap) (c : OpenCycle) (alive : List Bool) (freed : List ℕ) : Type 0 where
   pub rise : Rises freed
-  pub frees : (m : ℕ) → Contains freed m ↔ (Contains c.dead m × (((x : ℕ) × IsAnsweredAlive c.candidates alive x × Reaches (HasField h) x m) → ⊥))
+  pub frees : (m : ℕ) → Contains freed m ↔ (Contains c.dead m × (((x : ℕ) × IsAnsweredAlive c.candidates (answers_of alive) x × Reaches (HasField h) x m) → ⊥))
 
 -- the resolution of the open cycle, the state after it, and what the caller is told
 pub record TakesResolution (s next : Managed) (alive : List Bool) (freed : List ℕ) (first kept : ℕ) : Type 0 where
   pub cycle : OpenCycle
   pub opened : s.cycle ≡ Some cycle
-  pub resolution : IsResolution s cycle.dead (IsAnsweredAlive cycle.candidates alive) freed
+  pub resolution : IsResolution s cycle.dead (IsAnsweredAlive cycle.candidates (answers_of alive)) freed
   pub state : next ≡ resolved s freed
   pub before : first ≡ length s.heap.freed
   pub counted : kept ≡ count_by (λ b. b) alive

@@ -8,6 +8,7 @@ ghost use Rattle.joint_model.specs.declared.events.Op.{Op};
 ghost use Rattle.joint_model.specs.declared.events.Reply.{Reply};
 ghost use Rattle.joint_model.specs.Cycles.{IsSnapshot, IsResolution, IsAnsweredAlive};
 ghost use Rattle.joint_model.specs.Heaps.{answer};
+ghost use Rattle.joint_model.specs.Listed.{answers_of};
 ghost use Rattle.joint_model.specs.Managed.{Managed, OpenCycle, opening_managed, with_snapshot, resolved, abandoned};
 ghost use Rattle.joint_model.specs.ManagedReplay.{ManagedReplay, opening_replay};
 ghost use Rattle.joint_model.specs.Told.{nothing, snap_of, resolution_of};
@@ -31,7 +32,7 @@ pub fn snap_replays()
 
 /// What `resolve` promises is what the replay does.
 pub fn resolve_replays()
-    ensures { (r : ManagedReplay) (next : Managed) (index : ℕ) (cites : Option ℕ) (c : OpenCycle) (alive : List Bool) (freed : List ℕ) → r.managed.cycle ≡ Some c → length alive ≡ length c.candidates → IsResolution r.managed c.dead (IsAnsweredAlive c.candidates alive) freed → next ≡ resolved r.managed freed → Replays r (resolve_made r.managed index c.number freed cites) (resolution_of alive freed) next }
+    ensures { (r : ManagedReplay) (next : Managed) (index : ℕ) (cites : Option ℕ) (c : OpenCycle) (alive : List Bool) (freed : List ℕ) → r.managed.cycle ≡ Some c → length alive ≡ length c.candidates → IsResolution r.managed c.dead (IsAnsweredAlive c.candidates (answers_of alive)) freed → next ≡ resolved r.managed freed → Replays r (resolve_made r.managed index c.number freed cites) (resolution_of (answers_of alive) freed) next }
 {}
 
 /// What `abandon` promises is what the replay does.

@@ -4,6 +4,7 @@ ghost use Rattle.std.specs.Prelude.{◌≡◌, ℕ, ◌+◌, ◌<◌, ◌≤◌,
 ghost use Rattle.joint_model.specs.Components.{Rises};
 ghost use Rattle.joint_model.specs.Cycles.{IsAnsweredAlive};
 ghost use Rattle.joint_model.specs.Histories.{managed_numbers};
+ghost use Rattle.joint_model.specs.Listed.{answers_of};
 ghost use Rattle.joint_model.specs.Heaps.{IsLive};
 ghost use Rattle.object_heap.specs.Tidy.{IsTidy};
 ghost use Rattle.managed_heap.specs.Rows.{Settles, cycle_of};
@@ -115,7 +116,7 @@ pub(crate) fn collect_kept(candidates: &[u32], alive: &Alive, kept: &mut Vec<u32
     requires answers { length alive.now.values ≡ length candidates.now }
     requires empty { kept.old.items ≡ [] }
     requires room { length candidates.now ≤ vec_capacity kept.old }
-    ensures exact { (m : ℕ) → Contains kept.new.items m ↔ IsAnsweredAlive candidates.now alive.now.values m }
+    ensures exact { (m : ℕ) → Contains kept.new.items m ↔ IsAnsweredAlive candidates.now (answers_of alive.now.values) m }
     ensures count { length kept.new.items ≡ count_by (λ b. b) alive.now.values }
     ensures fits { length kept.new.items ≤ 4294967295 }
     ensures capacity { vec_capacity kept.new ≡ vec_capacity kept.old }

@@ -3,6 +3,7 @@ use Rattle.std.proofs.Common.{◌≡◌, ◌<◌, ◌+◌, ◌∙◌, ◌↔◌,
 use Rattle.std.specs.Prelude.{Contains}
 use Rattle.joint_model.specs.Cycles.{IsAnsweredAlive}
 use Rattle.joint_model.specs.Histories.{managed_numbers}
+use Rattle.joint_model.specs.Listed.{answers_of}
 use Rattle.joint_model.specs.Managed.{OpenCycle}
 use Rattle.joint_model.proofs.Members.{Contains-at}
 use Rattle.managed_heap.proofs.Gathering.{All-numbers}
@@ -15,7 +16,7 @@ mark-requires-clause-roots c =
     let is : c.deref.result.now ≡ c.args.self.candidates = c.deref.ensures.value ∙ ap (λ (z : OpenCycle). z.candidates) c.self.view_is in
     subst (λ z. All (λ y. y < length h.fields + 1) z) (sym c.deref-2.ensures.value)
     (roots-within h c.collect_kept.new.kept.items (λ x k.
-    let a : IsAnsweredAlive c.args.self.candidates c.args.alive.now.values x = subst (λ z. IsAnsweredAlive z c.args.alive.now.values x) is ((c.collect_kept.ensures.exact x).0 k) in
+    let a : IsAnsweredAlive c.args.self.candidates (answers_of c.args.alive.now.values) x = subst (λ z. IsAnsweredAlive z (answers_of c.args.alive.now.values) x) is ((c.collect_kept.ensures.exact x).0 k) in
     c.requires.live x (c.requires.picked x (Contains-at c.args.self.candidates a.0 x a.1))))
 
 pub collect_unmarked-requires-clause-within : goal.collect_unmarked-requires-clause-within
@@ -33,6 +34,6 @@ returns-clause-settles c =
     let is : c.deref.result.now ≡ c.args.self.candidates = c.deref.ensures.value ∙ ap (λ (z : OpenCycle). z.candidates) c.self.view_is in
     let dead-is : managed_numbers c.deref-3.result.now ≡ c.args.self.dead = ap managed_numbers c.deref-3.ensures.value ∙ ap (λ (z : OpenCycle). z.dead) c.self.view_is in
     Settles-from c.args.heap.now c.args.self c.args.alive.now.values c.mark.new.self.marks c.collect_kept.new.kept.items _ c.requires.tidy
-    (λ x. subst (λ z. Contains c.collect_kept.new.kept.items x ↔ IsAnsweredAlive z c.args.alive.now.values x) is (c.collect_kept.ensures.exact x))
+    (λ x. subst (λ z. Contains c.collect_kept.new.kept.items x ↔ IsAnsweredAlive z (answers_of c.args.alive.now.values) x) is (c.collect_kept.ensures.exact x))
     (rw c.deref-2.ensures.value at c.mark.ensures.marks) c.collect_unmarked.ensures.rise
     (rw (dead-is, c.marks.ensures) at c.collect_unmarked.ensures.exact)
