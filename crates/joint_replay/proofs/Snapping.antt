@@ -10,7 +10,7 @@ use Rattle.joint_model.specs.Components.{Rises}
 use Rattle.joint_model.specs.Cycles.{IsSnapshot, snap_reply, IsResolution, resolve_reply, IsOpen}
 use Rattle.joint_model.specs.Heaps.{Heap, IsMade, numbered_at, is_freed}
 use Rattle.joint_model.specs.Histories.{Finished}
-use Rattle.joint_model.specs.Joint.{Joint}
+use Rattle.joint_model.specs.Joint.{Joint, with_managed}
 use Rattle.joint_model.specs.Managed.{Managed, OpenCycle, Holds, IsManagedReached, IsBridgeReached, handle_of, with_snapshot}
 use Rattle.joint_model.specs.Peers.{Peers, peer_of}
 use Rattle.joint_model.specs.Run.{IsKept, JointResolve}
@@ -131,23 +131,23 @@ holds-made s m h made e = by (is_freed s.heap m) refl e
     by true t n = (let f : None ≡ Some h = n in cc)
     by false t n = record { live = record { made = made; kept = λ c. true-false (is_freed s.heap m) ((is_freed-exact s.heap m).1 c) t }; held = place (numbered_at s.held m) n }
 
-pub kept-exact : (j : Joint) (c : OpenCycle) (kept : List ℕ) → kept ≡ filter (keeps j.managed j.peers) c.candidates → All (IsMade j.managed.heap) c.candidates → (m : ℕ) → Contains kept m ↔ IsKept j c m
+pub kept-exact : (j : Joint) (c : OpenCycle) (kept : List ℕ) → kept ≡ filter (keeps j.graph.managed j.graph.peers) c.candidates → All (IsMade j.graph.managed.heap) c.candidates → (m : ℕ) → Contains kept m ↔ IsKept j c m
 kept-exact j c kept e made m = (
   λ k. (
-      let w = Contains-filter_from (keeps j.managed j.peers) c.candidates m (subst (λ z. Contains z m) e k) in
-      let r = keeps-from j.managed j.peers m w.1 in
-      record { candidate = w.0; handle = r.0; holds = holds-made j.managed m r.0 (All-contains (IsMade j.managed.heap) c.candidates m made w.0) r.1; peer = r.2.0; leads = r.2.1; unfreed = r.2.2 }
+      let w = Contains-filter_from (keeps j.graph.managed j.graph.peers) c.candidates m (subst (λ z. Contains z m) e k) in
+      let r = keeps-from j.graph.managed j.graph.peers m w.1 in
+      record { candidate = w.0; handle = r.0; holds = holds-made j.graph.managed m r.0 (All-contains (IsMade j.graph.managed.heap) c.candidates m made w.0) r.1; peer = r.2.0; leads = r.2.1; unfreed = r.2.2 }
       ),
-  λ k. subst (λ z. Contains z m) (sym e) (Contains-filter_to (keeps j.managed j.peers) c.candidates m k.candidate (keeps-to j.managed j.peers m k.handle k.peer (Holds-handle_of j.managed m k.handle k.holds) k.leads k.unfreed)),
+  λ k. subst (λ z. Contains z m) (sym e) (Contains-filter_to (keeps j.graph.managed j.graph.peers) c.candidates m k.candidate (keeps-to j.graph.managed j.graph.peers m k.handle k.peer (Holds-handle_of j.graph.managed m k.handle k.holds) k.leads k.unfreed)),
 )
 
 -- what a resolution frees, by the marks of a marking from the kept candidates
-pub settles-from : (j : Joint) (k : ℕ) (c : OpenCycle) (kept freed : List ℕ) (marks : List Bool) → IsOpen j.managed k c → OwesDead (length j.managed.heap.fields) (Some c)
-    → kept ≡ filter (keeps j.managed j.peers) c.candidates
-    → ((i : ℕ) → IsMarked marks i ↔ Reached (Contains kept) (Leads (length j.managed.heap.fields + 1) (live_fields (cleaned j.managed.heap))) i)
+pub settles-from : (j : Joint) (k : ℕ) (c : OpenCycle) (kept freed : List ℕ) (marks : List Bool) → IsOpen j.graph.managed k c → OwesDead (length j.graph.managed.heap.fields) (Some c)
+    → kept ≡ filter (keeps j.graph.managed j.graph.peers) c.candidates
+    → ((i : ℕ) → IsMarked marks i ↔ Reached (Contains kept) (Leads (length j.graph.managed.heap.fields + 1) (live_fields (cleaned j.graph.managed.heap))) i)
     → freed ≡ unmarked_of marks c.dead → Settles j k freed
 settles-from j k c kept freed marks o owes e m f =
-    let h = j.managed.heap in
+    let h = j.graph.managed.heap in
     let exact = kept-exact j c kept e owes.2 in
     let reached = marks-open h (IsKept j c) kept marks exact m in
     let U = unmarked_of-exact marks c.dead in
@@ -164,13 +164,13 @@ settles-from j k c kept freed marks o owes e m f =
       made = All-members (IsMade h) freed (λ x w. All-contains (IsMade h) c.dead x owes.1 ((U x).0 (subst (λ z. Contains z x) f w)).0);
     }
 
-pub kept-within : (j : Joint) (c : OpenCycle) (kept : List ℕ) → kept ≡ filter (keeps j.managed j.peers) c.candidates → All (IsMade j.managed.heap) c.candidates → All (λ y. y < length j.managed.heap.fields + 1) kept
-kept-within j c kept e made = All-members (λ y. y < length j.managed.heap.fields + 1) kept (λ y w. (let l = All-contains (IsMade j.managed.heap) c.candidates y made (Contains-filter_from (keeps j.managed j.peers) c.candidates y (subst (λ z. Contains z y) e w)).0 in omega (arith, l.1)))
+pub kept-within : (j : Joint) (c : OpenCycle) (kept : List ℕ) → kept ≡ filter (keeps j.graph.managed j.graph.peers) c.candidates → All (IsMade j.graph.managed.heap) c.candidates → All (λ y. y < length j.graph.managed.heap.fields + 1) kept
+kept-within j c kept e made = All-members (λ y. y < length j.graph.managed.heap.fields + 1) kept (λ y w. (let l = All-contains (IsMade j.graph.managed.heap) c.candidates y made (Contains-filter_from (keeps j.graph.managed j.graph.peers) c.candidates y (subst (λ z. Contains z y) e w)).0 in omega (arith, l.1)))
 
 resolution-one : (j : Joint) (k l : ℕ) (named freed : List ℕ) (reply : Reply) (next : Joint) → Settles j k freed → JointResolve j l named reply next → named ≡ freed
 resolution-one j k l named freed reply next x y =
     let same : y.cycle ≡ x.cycle = some-same y.cycle x.cycle (sym y.open_cycle.0 ∙ x.open_cycle.0) in
-    let r : IsResolution j.managed x.cycle.dead (IsKept j x.cycle) named = subst (λ c. IsResolution j.managed c.dead (IsKept j c) named) same y.resolution in
+    let r : IsResolution j.graph.managed x.cycle.dead (IsKept j x.cycle) named = subst (λ c. IsResolution j.graph.managed c.dead (IsKept j c) named) same y.resolution in
     Rises-one named freed r.rise x.resolution.rise (λ m w. (x.resolution.frees m).1 ((r.frees m).0 w)) (λ m w. (r.frees m).1 ((x.resolution.frees m).0 w))
 
 -- what a resolution's reply says
@@ -178,14 +178,14 @@ pub says-freed : (s : Managed) (h : Finished) (reply : Reply) (freed : List ℕ)
 says-freed s h reply freed n e = subst (λ r. named_objects h r ≡ freed → SaysFreed s.heap h r freed) (sym e) (λ w. record { first = refl; count = refl; named = w }) n
 
 -- a reply that says something else is no resolution's
-pub resolve-no : (j : Joint) (h : Finished) (reply : Reply) (k : ℕ) (freed : List ℕ) → Settles j k freed → (SaysFreed j.managed.heap h reply freed → ⊥) → (next : Joint) → JointResolve j k (named_objects h reply) reply next → ⊥
+pub resolve-no : (j : Joint) (h : Finished) (reply : Reply) (k : ℕ) (freed : List ℕ) → Settles j k freed → (SaysFreed j.graph.managed.heap h reply freed → ⊥) → (next : Joint) → JointResolve j k (named_objects h reply) reply next → ⊥
 resolve-no j h reply k freed x wrong next y =
     let one = resolution-one j k k (named_objects h reply) freed reply next x y in
-    wrong (says-freed j.managed h reply freed one (y.replies ∙ ap (resolve_reply j.managed) one))
+    wrong (says-freed j.graph.managed h reply freed one (y.replies ∙ ap (resolve_reply j.graph.managed) one))
 
 -- the managed snapshot is the joint one
-pub snap-joint : (j : Joint) (k : ℕ) (freed : List ℕ) (reply : Reply) (m : Managed) → Snaps j.managed k freed reply m → SnapsJoint j k freed reply (record j { managed = m })
-snap-joint j k freed reply m x = record { candidates = x.candidates; dead = x.dead; snap = record { snapshot = x.snapshot; replies = x.replies; state = ap (λ (z : Managed). record j { managed = z }) x.state } }
+pub snap-joint : (j : Joint) (k : ℕ) (freed : List ℕ) (reply : Reply) (m : Managed) → Snaps j.graph.managed k freed reply m → SnapsJoint j k freed reply (with_managed j m)
+snap-joint j k freed reply m x = record { candidates = x.candidates; dead = x.dead; snap = record { snapshot = x.snapshot; replies = x.replies; state = ap (λ (z : Managed). with_managed j z) x.state } }
 
-pub joint-snap : (j : Joint) (k : ℕ) (freed : List ℕ) (reply : Reply) (n : Joint) → SnapsJoint j k freed reply n → (m : Managed) × Snaps j.managed k freed reply m
-joint-snap j k freed reply n x = (with_snapshot j.managed freed x.candidates x.dead, record { candidates = x.candidates; dead = x.dead; snapshot = x.snap.snapshot; replies = x.snap.replies; state = refl })
+pub joint-snap : (j : Joint) (k : ℕ) (freed : List ℕ) (reply : Reply) (n : Joint) → SnapsJoint j k freed reply n → (m : Managed) × Snaps j.graph.managed k freed reply m
+joint-snap j k freed reply n x = (with_snapshot j.graph.managed freed x.candidates x.dead, record { candidates = x.candidates; dead = x.dead; snapshot = x.snap.snapshot; replies = x.snap.replies; state = refl })

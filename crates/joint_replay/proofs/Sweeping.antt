@@ -59,25 +59,25 @@ sweep-stored j m freed reply is_open w = subst (λ (x : JointMarking). All (IsSt
 pub stored-live : (p : Peers) (mk : Option JointMarking) (m : JointMarking) → mk ≡ Some m → KeepsStored p mk → (k : ℕ) → IsStored m k → IsLive p.heap k
 stored-live p mk m is_open keeps = subst (KeepsStored p) is_open keeps
 
-pub sweep-dead : (j : Joint) (m : JointMarking) (freed : List ℕ) (reply : Reply) (dead : List Bool) → j.marking ≡ Some m → KeepsStored j.peers j.marking
-    → ((p : ℕ) → IsMarked dead p ↔ (IsLive j.peers.heap p × (IsReached j (peer p) → ⊥))) → MaySweep j freed reply → All (IsMarked dead) freed
+pub sweep-dead : (j : Joint) (m : JointMarking) (freed : List ℕ) (reply : Reply) (dead : List Bool) → j.marking ≡ Some m → KeepsStored j.graph.peers j.marking
+    → ((p : ℕ) → IsMarked dead p ↔ (IsLive j.graph.peers.heap p × (IsReached j (peer p) → ⊥))) → MaySweep j freed reply → All (IsMarked dead) freed
 sweep-dead j m freed reply dead is_open keeps exact w = All-members (IsMarked dead) freed (λ p c. (exact p).1 (
-  stored-live j.peers j.marking m is_open keeps p (All-contains (IsStored m) freed p (sweep-stored j m freed reply is_open w) c),
+  stored-live j.graph.peers j.marking m is_open keeps p (All-contains (IsStored m) freed p (sweep-stored j m freed reply is_open w) c),
   All-contains (λ q. IsReached j (peer q) → ⊥) freed p w.unreached c,
 ))
 
 -- what the tests of a sweep say together
-pub may-sweep : (j : Joint) (m : JointMarking) (h : Finished) (reply : Reply) (freed : List ℕ) (dead : List Bool) → j.marking ≡ Some m → freed ≡ named_peers h reply → SaysSwept j.peers.heap h reply m.number
-    → Rises freed → All (IsStored m) freed → All (IsMarked dead) freed → ((p : ℕ) → IsMarked dead p ↔ (IsLive j.peers.heap p × (IsReached j (peer p) → ⊥))) → MaySweep j freed reply
+pub may-sweep : (j : Joint) (m : JointMarking) (h : Finished) (reply : Reply) (freed : List ℕ) (dead : List Bool) → j.marking ≡ Some m → freed ≡ named_peers h reply → SaysSwept j.graph.peers.heap h reply m.number
+    → Rises freed → All (IsStored m) freed → All (IsMarked dead) freed → ((p : ℕ) → IsMarked dead p ↔ (IsLive j.graph.peers.heap p × (IsReached j (peer p) → ⊥))) → MaySweep j freed reply
 may-sweep j m h reply freed dead is_open named said rise stored marked exact = record {
   marking = m;
   opened = is_open;
   rise = rise;
   stored = stored;
   unreached = All-members (λ p. IsReached j (peer p) → ⊥) freed (λ p c. ((exact p).0 (All-contains (IsMarked dead) freed p marked c)).1);
-  replies = sweep-said j.peers.heap h reply m.number said ∙ ap (λ (l : List ℕ). says.Swept record { 0 = m.number } record { first = length j.peers.heap.freed; count = length l }) (sym named);
+  replies = sweep-said j.graph.peers.heap h reply m.number said ∙ ap (λ (l : List ℕ). says.Swept record { 0 = m.number } record { first = length j.graph.peers.heap.freed; count = length l }) (sym named);
 }
 
 -- what a sweep frees was made
-pub sweep-made : (j : Joint) (freed : List ℕ) (reply : Reply) → KeepsStored j.peers j.marking → MaySweep j freed reply → All (IsMade j.peers.heap) freed
-sweep-made j freed reply keeps w = All-members (IsMade j.peers.heap) freed (λ p c. (stored-live j.peers j.marking w.marking w.opened keeps p (All-contains (IsStored w.marking) freed p w.stored c)).made)
+pub sweep-made : (j : Joint) (freed : List ℕ) (reply : Reply) → KeepsStored j.graph.peers j.marking → MaySweep j freed reply → All (IsMade j.graph.peers.heap) freed
+sweep-made j freed reply keeps w = All-members (IsMade j.graph.peers.heap) freed (λ p c. (stored-live j.graph.peers j.marking w.marking w.opened keeps p (All-contains (IsStored w.marking) freed p w.stored c)).made)

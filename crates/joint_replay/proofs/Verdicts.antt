@@ -16,7 +16,7 @@ use Rattle.joint_model.specs.declared.events.Reply.{Reply}
 use Rattle.joint_model.specs.declared.events.Entry.{Entry}
 use Rattle.joint_model.specs.Heaps.{Answered, place, field_set, dropped}
 use Rattle.joint_model.specs.Histories.{Finished}
-use Rattle.joint_model.specs.Joint.{Joint, JointMarking}
+use Rattle.joint_model.specs.Joint.{Joint, JointMarking, with_managed}
 use Rattle.joint_model.specs.Lines.{IsEvent, IsManagedThread}
 use Rattle.joint_model.specs.Linked.{is_joint}
 use Rattle.joint_model.specs.Managed.{Managed, on_heap, adopted, place_or_none}
@@ -61,12 +61,12 @@ given j t o reply a next e s = record { replies = s.replies ∙ ap (λ (x : Answ
 computed : (j : Joint) (t : Thread) (o : Op) (reply : Reply) (a : Answered Joint) (next : Joint) → IsComputed o → joint_answer j t o ≡ a → Gives a reply next → JointComputed j t o reply next
 computed j t o reply a next c e s = record { computed = c; replies = s.replies ∙ ap (λ (x : Answered Joint). x.reply) (sym e); state = s.state ∙ ap (λ (x : Answered Joint). x.state) (sym e) }
 
-set-answer : (j : Joint) (t : Thread) (v : Var) (i : ℕ) (w : Option Var) → IsManagedThread t → joint_answer j t (op.Line (act.Set v i w)) ≡ on_managed j (on_heap j.managed (field_set j.managed.heap (place (thread_number t) v.0) i (place_or_none (thread_number t) w)))
+set-answer : (j : Joint) (t : Thread) (v : Var) (i : ℕ) (w : Option Var) → IsManagedThread t → joint_answer j t (op.Line (act.Set v i w)) ≡ on_managed j (on_heap j.graph.managed (field_set j.graph.managed.heap (place (thread_number t) v.0) i (place_or_none (thread_number t) w)))
 set-answer j (M n) v i w m = refl
 set-answer j (P n) v i w m = absurd m
 set-answer j C v i w m = absurd m
 
-drop-answer : (j : Joint) (t : Thread) (v : Var) → IsManagedThread t → joint_answer j t (op.Line (act.Drop v)) ≡ on_managed j (on_heap j.managed (dropped j.managed.heap (place (thread_number t) v.0)))
+drop-answer : (j : Joint) (t : Thread) (v : Var) → IsManagedThread t → joint_answer j t (op.Line (act.Drop v)) ≡ on_managed j (on_heap j.graph.managed (dropped j.graph.managed.heap (place (thread_number t) v.0)))
 drop-answer j (M n) v m = refl
 drop-answer j (P n) v m = absurd m
 drop-answer j C v m = absurd m
@@ -86,7 +86,7 @@ abbrev AreCovered : Thread → Op → Type 0
 AreCovered t o = IsCoveredEvent t o ⊎ (is_joint o ≡ false)
 
 pub judged-set : (h : Finished) (e : Entry) (j : Joint) (v : Var) (i : ℕ) (w : Option Var) → e.made.op ≡ op.Line (act.Set v i w) → IsEvent e.made.caller e.made.op → IsCovered e → (d : Verdict) (new : Joint)
-    → Decides (Gives (on_managed j (on_heap j.managed (field_set j.managed.heap (place (thread_number e.made.caller) v.0) i (place_or_none (thread_number e.made.caller) w)))) e.made.reply) d j new → Judges h e d j new
+    → Decides (Gives (on_managed j (on_heap j.graph.managed (field_set j.graph.managed.heap (place (thread_number e.made.caller) v.0) i (place_or_none (thread_number e.made.caller) w)))) e.made.reply) d j new → Judges h e d j new
 judged-set h e j v i w same event covered =
     let o : Op = op.Line (act.Set v i w) in
     let m : IsManagedThread e.made.caller = thread-set e.made.caller v i w (subst (AreCovered e.made.caller) same covered) (subst (IsEvent e.made.caller) same event) in
@@ -94,7 +94,7 @@ judged-set h e j v i w same event covered =
     judged h e j o _ same event (λ n s. given j e.made.caller o e.made.reply _ n a s.step) (λ n s. record { told = nothing; named = tt; step = computed j e.made.caller o e.made.reply _ n tt a s })
 
 pub judged-drop : (h : Finished) (e : Entry) (j : Joint) (v : Var) → e.made.op ≡ op.Line (act.Drop v) → IsEvent e.made.caller e.made.op → IsCovered e → (d : Verdict) (new : Joint)
-    → Decides (Gives (on_managed j (on_heap j.managed (dropped j.managed.heap (place (thread_number e.made.caller) v.0)))) e.made.reply) d j new → Judges h e d j new
+    → Decides (Gives (on_managed j (on_heap j.graph.managed (dropped j.graph.managed.heap (place (thread_number e.made.caller) v.0)))) e.made.reply) d j new → Judges h e d j new
 judged-drop h e j v same event covered =
     let o : Op = op.Line (act.Drop v) in
     let m : IsManagedThread e.made.caller = thread-drop e.made.caller v (subst (AreCovered e.made.caller) same covered) (subst (IsEvent e.made.caller) same event) in
@@ -102,12 +102,12 @@ judged-drop h e j v same event covered =
     judged h e j o _ same event (λ n s. given j e.made.caller o e.made.reply _ n a s.step) (λ n s. record { told = nothing; named = tt; step = computed j e.made.caller o e.made.reply _ n tt a s })
 
 pub judged-make : (h : Finished) (e : Entry) (j : Joint) (sort : Sort) (k : ℕ) → e.made.op ≡ op.Make sort k → IsEvent e.made.caller e.made.op → (d : Verdict) (new : Joint)
-    → Decides (Gives (on_peers j (pair_made j.peers sort k)) e.made.reply) d j new → Judges h e d j new
+    → Decides (Gives (on_peers j (pair_made j.graph.peers sort k)) e.made.reply) d j new → Judges h e d j new
 judged-make h e j sort k same event = let o : Op = op.Make sort k in
     judged h e j o _ same event (λ n s. given j e.made.caller o e.made.reply _ n refl s.step) (λ n s. record { told = nothing; named = tt; step = computed j e.made.caller o e.made.reply _ n tt refl s })
 
 pub judged-adopt : (h : Finished) (e : Entry) (j : Joint) (v : Var) (kind : Kind) (k : ℕ) (p : PNum) (x : HNum) → e.made.op ≡ op.Adopt v kind k p x → IsEvent e.made.caller e.made.op → (d : Verdict) (new : Joint)
-    → Decides (Gives (on_managed j (adopted j.managed (place (thread_number e.made.caller) v.0) kind k x.0)) e.made.reply) d j new → Judges h e d j new
+    → Decides (Gives (on_managed j (adopted j.graph.managed (place (thread_number e.made.caller) v.0) kind k x.0)) e.made.reply) d j new → Judges h e d j new
 judged-adopt h e j v kind k p x same event = let o : Op = op.Adopt v kind k p x in
     judged h e j o _ same event (λ n s. given j e.made.caller o e.made.reply _ n refl s.step) (λ n s. record { told = nothing; named = tt; step = computed j e.made.caller o e.made.reply _ n tt refl s })
 
@@ -176,9 +176,9 @@ judged-sweep h e j same event = judged h e j op.Sweep _ same event
     (λ n s. record { told = sweep_of (named_peers h e.made.reply); named = refl; step = s })
 
 -- a verdict on the managed part, as one on the joint state
-pub Decides-managed : (j : Joint) (p : Managed → Type 0) (q : Joint → Type 0) → ((m : Managed) → p m → q (record j { managed = m })) → ((n : Joint) → q n → (m : Managed) × p m) → (d : Verdict) (m : Managed) → Decides p d j.managed m → Decides q d j (record j { managed = m })
+pub Decides-managed : (j : Joint) (p : Managed → Type 0) (q : Joint → Type 0) → ((m : Managed) → p m → q (with_managed j m)) → ((n : Joint) → q n → (m : Managed) × p m) → (d : Verdict) (m : Managed) → Decides p d j.graph.managed m → Decides q d j (with_managed j m)
 Decides-managed j p q to from Lawful m x = to m x
-Decides-managed j p q to from Unlawful m x = (λ n s. (let r = from n s in x.0 r.0 r.1), ap (λ (z : Managed). record j { managed = z }) x.1)
+Decides-managed j p q to from Unlawful m x = (λ n s. (let r = from n s in x.0 r.0 r.1), ap (λ (z : Managed). with_managed j z) x.1)
 
 pub IfOk-as : {A E : Type 0} (p q : A → Type 0) → ((x : A) → p x → q x) → (r : Result A E) → IfOk r p → IfOk r q
 IfOk-as p q f (Ok x) h = f x h

@@ -60,9 +60,9 @@ keeps s p m = elim (handle_of s m) [
 -- what a resolution of cycle k frees
 pub record Settles (j : Joint) (k : ℕ) (freed : List ℕ) : Type 0 where
   pub cycle : OpenCycle
-  pub open_cycle : IsOpen j.managed k cycle
-  pub resolution : IsResolution j.managed cycle.dead (IsKept j cycle) freed
-  pub made : All (IsMade j.managed.heap) freed
+  pub open_cycle : IsOpen j.graph.managed k cycle
+  pub resolution : IsResolution j.graph.managed cycle.dead (IsKept j cycle) freed
+  pub made : All (IsMade j.graph.managed.heap) freed
 
 -- the reply is that of a sweep of marking n, and its span stands where the next freed peers come
 abbrev pub SaysSwept : Heap → Finished → Reply → ℕ → Type 0
@@ -76,7 +76,7 @@ pub record MaySweep (j : Joint) (freed : List ℕ) (reply : Reply) : Type 0 wher
   pub rise : Rises freed
   pub stored : All (IsStored marking) freed
   pub unreached : All (λ p. IsReached j (peer p) → ⊥) freed
-  pub replies : reply ≡ says.Swept record { 0 = marking.number } record { first = length j.peers.heap.freed; count = length freed }
+  pub replies : reply ≡ says.Swept record { 0 = marking.number } record { first = length j.graph.peers.heap.freed; count = length freed }
 
 -- a sweep of the open marking by a caller that may end it, which frees these peers
 pub record SweepsJoint (j : Joint) (t : Thread) (freed : List ℕ) (reply : Reply) (next : Joint) : Type 0 where

@@ -18,7 +18,11 @@ pub(crate) fn can_make(caller: Thread, op: &Op) -> bool
     ensures { IsTrue result ↔ (IsEvent caller op.now × (is_joint op.now ≡ true)) }
 {
     match op {
-        Op::Line(Act::Set { v, i: _, w }) => is_managed(caller) && is_var(*v) && is_var_or_none(*w),
+        Op::Line(Act::Set { v, i, w }) => {
+            // an index is a byte, so it is within its limit
+            let _index = *i;
+            is_managed(caller) && is_var(*v) && is_var_or_none(*w)
+        }
         Op::Line(Act::Drop { v }) => is_managed(caller) && is_var(*v),
         Op::Make { sort: _, fields } => is_managed(caller) && *fields <= 16,
         Op::Adopt {

@@ -63,7 +63,7 @@ impl Model for JointState {
 
     ghost Value = { Joint };
 
-    ghost view = { λ s. record { managed = s.managed; peers = s.peers; removed = s.removed.items; marking = s.marking; markings = s.markings } };
+    ghost view = { λ s. record { graph = record { managed = s.managed; peers = s.peers; removed = s.removed.items }; marking = s.marking; markings = s.markings } };
 
     ghost invariant = { λ s. KeepsStored s.peers s.marking };
 }
@@ -141,7 +141,7 @@ impl JointState {
         requires thread { IsManagedThread caller }
         requires v { IsVar v }
         requires w { IsVarOrNone w }
-        ensures { Decides (Gives (on_managed self.old (on_heap self.old.managed (field_set self.old.managed.heap (place (thread_number caller) v.0) i (place_or_none (thread_number caller) w)))) reply.now) result self.old self.new }
+        ensures { Decides (Gives (on_managed self.old (on_heap self.old.graph.managed (field_set self.old.graph.managed.heap (place (thread_number caller) v.0) i (place_or_none (thread_number caller) w)))) reply.now) result self.old self.new }
     {
         self.managed.set(
             place_of(caller, v),
@@ -155,7 +155,7 @@ impl JointState {
     fn drop_var(&mut self, caller: Thread, v: Var, reply: &Reply) -> Verdict
         requires thread { IsManagedThread caller }
         requires v { IsVar v }
-        ensures { Decides (Gives (on_managed self.old (on_heap self.old.managed (dropped self.old.managed.heap (place (thread_number caller) v.0)))) reply.now) result self.old self.new }
+        ensures { Decides (Gives (on_managed self.old (on_heap self.old.graph.managed (dropped self.old.graph.managed.heap (place (thread_number caller) v.0)))) reply.now) result self.old self.new }
     {
         self.managed.drop_var(place_of(caller, v), reply)
     }
@@ -172,7 +172,7 @@ impl JointState {
     ) -> Result<Verdict, AllocError>
         requires thread { IsManagedThread caller }
         requires v { IsVar v }
-        ensures ok { IfOk result (λ d. Decides (Gives (on_managed self.old (adopted self.old.managed (place (thread_number caller) v.0) kind fields h.0)) reply.now) d self.old self.new) }
+        ensures ok { IfOk result (λ d. Decides (Gives (on_managed self.old (adopted self.old.graph.managed (place (thread_number caller) v.0) kind fields h.0)) reply.now) d self.old self.new) }
         ensures err { OnErr result (self.new ≡ self.old) }
     {
         self.managed
@@ -181,7 +181,7 @@ impl JointState {
 
     // `make`: a further peer and a handle on it.
     fn make(&mut self, sort: Sort, fields: u8, reply: &Reply) -> Result<Verdict, AllocError>
-        ensures ok { IfOk result (λ d. Decides (Gives (on_peers self.old (pair_made self.old.peers sort fields)) reply.now) d self.old self.new) }
+        ensures ok { IfOk result (λ d. Decides (Gives (on_peers self.old (pair_made self.old.graph.peers sort fields)) reply.now) d self.old self.new) }
         ensures err { OnErr result (self.new ≡ self.old) }
     {
         if self.peers.is_full() {
@@ -284,7 +284,7 @@ impl JointState {
 
     // The peers that the reply of a sweep of marking `n` names; None where it is none, or stands elsewhere.
     fn named(&self, h: &History, reply: &Reply, n: u32) -> Result<Option<Vec<u32>>, AllocError>
-        ensures { IfOk result (λ o. MatchOption o (SaysSwept self.now.peers.heap h.now reply.now n → ⊥) (λ v. (v.items ≡ named_peers h.now reply.now) × SaysSwept self.now.peers.heap h.now reply.now n)) }
+        ensures { IfOk result (λ o. MatchOption o (SaysSwept self.now.graph.peers.heap h.now reply.now n → ⊥) (λ v. (v.items ≡ named_peers h.now reply.now) × SaysSwept self.now.graph.peers.heap h.now reply.now n)) }
     {
         match reply {
             Reply::Swept(number, span) => {
@@ -317,7 +317,7 @@ impl JointState {
 
     // What a resolution of cycle `k` frees; None where that cycle isn't open.
     fn settled(&self, k: Cycle) -> Result<Option<Vec<u32>>, AllocError>
-        ensures { IfOk result (λ o. MatchOption o (HasOpen self.now.managed k.0 → ⊥) (λ v. Settles self.now k.0 v.items)) }
+        ensures { IfOk result (λ o. MatchOption o (HasOpen self.now.graph.managed k.0 → ⊥) (λ v. Settles self.now k.0 v.items)) }
     {
         let Some(open) = self.managed.opened(k) else {
             return Ok(None);
@@ -330,7 +330,7 @@ impl JointState {
 
     // The candidates of a list that are kept.
     fn kept(&self, candidates: &[u32]) -> Result<Vec<u32>, AllocError>
-        ensures { IfOk result (λ v. v.items ≡ filter (keeps self.now.managed self.now.peers) candidates.now) }
+        ensures { IfOk result (λ v. v.items ≡ filter (keeps self.now.graph.managed self.now.graph.peers) candidates.now) }
     {
         candidates
             .iter()
@@ -341,7 +341,7 @@ impl JointState {
 
     // Whether an object holds a handle whose peer isn't freed.
     fn keeps(&self, m: u32) -> bool
-        ensures { result ≡ keeps self.now.managed self.now.peers m }
+        ensures { result ≡ keeps self.now.graph.managed self.now.graph.peers m }
     {
         match self.managed.handle(m) {
             None => false,
@@ -354,7 +354,7 @@ impl JointState {
 
     // Whether the reply is that of a resolution that frees these rows.
     fn says_freed(&self, h: &History, reply: &Reply, freed: &[u32]) -> Result<bool, AllocError>
-        ensures { IfOk result (λ b. IsTrue b ↔ SaysFreed self.now.managed.heap h.now reply.now freed.now) }
+        ensures { IfOk result (λ b. IsTrue b ↔ SaysFreed self.now.graph.managed.heap h.now reply.now freed.now) }
     {
         match reply {
             Reply::Freed(span) => self.managed.frees(self.alloc, h, *span, freed),

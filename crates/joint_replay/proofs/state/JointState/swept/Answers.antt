@@ -15,13 +15,13 @@ use Rattle.joint_replay.proofs.state.JointState.swept.Goals.{else-rises-via-then
 pub returns-then-all_marked : goal.returns-then-all_marked
 returns-then-all_marked c =
     let s = c.self.inside in
-    let i : Joint = record { managed = s.managed; peers = s.peers; removed = s.removed.items; marking = s.marking; markings = s.markings } in
+    let i : Joint = record { graph = record { managed = s.managed; peers = s.peers; removed = s.removed.items }; marking = s.marking; markings = s.markings } in
     let m = c.in-Some.marking in
     let h = c.args.h.now in
     let reply = c.args.reply.now in
     let freed = c.in-Some-2.freed.items in
     let named = rw (c.in-Some-2.is, c.number.ensures) at c.in_ok-freed.ensures in
-    let said : SaysSwept i.peers.heap h reply m.number = subst (λ (z : Joint). SaysSwept z.peers.heap h reply m.number) (sym c.self.view_is) named.1 in
+    let said : SaysSwept i.graph.peers.heap h reply m.number = subst (λ (z : Joint). SaysSwept z.graph.peers.heap h reply m.number) (sym c.self.view_is) named.1 in
     let rise : Rises freed = rw c.deref-2.ensures.value at (c.rises.ensures.0 c.if-rises.true) in
     let stored : All (IsStored m) freed = rw c.deref-then-rises.ensures.value at (c.stores.ensures.0 c.if-stores.true) in
     let marked : All (IsMarked c.in_ok-dead.dead.items) freed = rw (c.deref-then-stores.ensures.value, c.deref-then-stores-2.ensures.value) at (c.all_marked.ensures.0 c.if-all_marked.true) in
@@ -30,7 +30,7 @@ returns-then-all_marked c =
 pub returns-else-rises : goal.returns-else-rises
 returns-else-rises c = λ w.
     let s = c.self.inside in
-    let i : Joint = record { managed = s.managed; peers = s.peers; removed = s.removed.items; marking = s.marking; markings = s.markings } in
+    let i : Joint = record { graph = record { managed = s.managed; peers = s.peers; removed = s.removed.items }; marking = s.marking; markings = s.markings } in
     let m = c.in-Some.marking in
     let reply = c.args.reply.now in
     let freed = c.in-Some-2.freed.items in
