@@ -8,3 +8,5 @@ pub mod Events
 pub mod OneText
 pub mod SmallHistory
 pub mod OwnCycles
+pub mod ThreadOrder
+pub mod ThreadEnding

@@ -1,7 +1,7 @@
 // Laws on the linked histories of scripts, each the contract of a function that does nothing.
 
-ghost use Rattle.script_laws.specs.Ending.{HeldCyclesEnd, HeldThreadCyclesEnd, LinkedCyclesEnd};
-ghost use Rattle.script_laws.specs.Laws.{HasOneHistory, HasOneText};
+ghost use Rattle.script_laws.specs.Ending.{HeldCyclesEnd, HeldThreadCyclesEnd, LinkedCyclesEnd, ThreadHistoryEnds};
+ghost use Rattle.script_laws.specs.Laws.{HasOneHistory, HasOneText, LineOrderGivesThreadOrder};
 
 /// A script has at most one history in line order: two linked histories that hold its lines are the same in their entries, in what
 /// was freed and in the notices that were taken, and in the notices that were only queued where each has them all.
@@ -9,11 +9,18 @@ pub fn one_history_for_a_script()
     ensures { HasOneHistory }
 {}
 
+/// A history that holds a script's lines in line order holds them thread by thread.
+pub fn line_order_gives_thread_order()
+    ensures { LineOrderGivesThreadOrder }
+{}
+
 /// A history that holds the lines of a script abandons no cycle, and resolves each that it opens before it opens another; the
-/// driver's entries do so too where the lines are held thread by thread. In a linked history each snap's resolve is its cycle's.
+/// driver's entries do so too where the lines are held thread by thread, and in a linked history all entries then do, since no other
+/// caller opens or ends a cycle. In a linked history each snap's resolve is its cycle's.
 pub fn held_cycles_end()
     ensures in_order { HeldCyclesEnd }
     ensures per_thread { HeldThreadCyclesEnd }
+    ensures threads { ThreadHistoryEnds }
     ensures own { LinkedCyclesEnd }
 {}
 

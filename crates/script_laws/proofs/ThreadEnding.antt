@@ -1,0 +1,73 @@
+-- In a linked history only the driver opens, resolves and abandons cycles. So where the driver's entries end each cycle, all entries do.
+use Rattle.std.proofs.Common.{◌≡◌, List, [], ◌∷◌, refl, subst}
+use Rattle.joint_model.specs.declared.names.Thread.{Thread}
+use Rattle.joint_model.specs.declared.names.Thread.TheVariants.{M, P, C}
+use Rattle.joint_model.specs.declared.events.Op.{Op}
+use Rattle.joint_model.specs.declared.events.Op.TheVariants as op
+use Rattle.joint_model.specs.declared.events.Entry.{Entry}
+use Rattle.joint_model.specs.Lines.{IsEvent}
+use Rattle.joint_model.specs.Linked.{Linkage, AllMayCome, linkage_after, opening_linkage}
+use Rattle.joint_model.specs.Told.{Noted}
+use Rattle.joint_model.specs.PeerReplay.{is_thread}
+use Rattle.std.specs.Prelude.{if◌then◌else◌}
+use Rattle.script_laws.specs.Holding.{entries_by}
+use Rattle.script_laws.specs.Ending.{Resolves, ResolveComes, IsEnded, AllCyclesEnd, ThreadHistoryEnds}
+use Rattle.script_laws.proofs.Ending.{held-thread-end}
+use Rattle.script_laws.proofs.Retelling.{entries_of}
+
+-- the entries are events that their callers can make
+abbrev AreAllEvents : List Entry → Type 0
+AreAllEvents [] = Unit {0}
+AreAllEvents (e ∷ es) = IsEvent e.made.caller e.made.op × AreAllEvents es
+
+all-events : (s : Linkage) (ns : List Noted) → AllMayCome s ns → AreAllEvents (entries_of ns)
+all-events s [] a = tt
+all-events s (n ∷ ns) a = (a.0.event, all-events (linkage_after s n) ns a.1)
+
+-- what an event does to the open cycle
+resolves-more : (o : Op) (A B : Type 0) → (A → B) → Resolves o A → Resolves o B
+resolves-more (op.Resolve k) A B f r = tt
+resolves-more (op.Snap k) A B f r = absurd r
+resolves-more o A B f r = f r
+
+other-resolves : (t : Thread) (o : Op) (A : Type 0) → (t ≡ C → ⊥) → IsEvent t o → A → Resolves o A
+other-resolves C o A n e r = absurd (n refl)
+other-resolves (M u) (op.Snap k) A n e r = absurd e
+other-resolves (P u) (op.Snap k) A n e r = absurd e
+other-resolves (M u) (op.Resolve k) A n e r = tt
+other-resolves (P u) (op.Resolve k) A n e r = tt
+other-resolves t o A n e r = r
+
+ended-more : (o : Op) (es fs : List Entry) → (ResolveComes es → ResolveComes fs) → IsEnded o es → IsEnded o fs
+ended-more (op.Abandon k) es fs f e = e
+ended-more (op.Snap k) es fs f e = f e
+ended-more o es fs f e = tt
+
+other-ended : (t : Thread) (o : Op) (es : List Entry) → (t ≡ C → ⊥) → IsEvent t o → IsEnded o es
+other-ended C o es n e = absurd (n refl)
+other-ended (M u) (op.Snap k) es n e = absurd e
+other-ended (P u) (op.Snap k) es n e = absurd e
+other-ended (M u) (op.Abandon k) es n e = absurd e
+other-ended (P u) (op.Abandon k) es n e = absurd e
+other-ended t o es n e = tt
+
+comes-among : (es : List Entry) → AreAllEvents es → ResolveComes (entries_by C es) → ResolveComes es
+comes-among [] a r = r
+comes-among (e ∷ es) a r = by e.made.caller a.0 (comes-among es a.1) r
+  where
+    by : (t : Thread) → IsEvent t e.made.op → (ResolveComes (entries_by C es) → ResolveComes es) → ResolveComes (if is_thread C t then e ∷ entries_by C es else entries_by C es) → Resolves e.made.op (ResolveComes es)
+    by C v f r = resolves-more e.made.op (ResolveComes (entries_by C es)) (ResolveComes es) f r
+    by (M u) v f r = other-resolves (M u) e.made.op (ResolveComes es) (λ z. cc) v (f r)
+    by (P u) v f r = other-resolves (P u) e.made.op (ResolveComes es) (λ z. cc) v (f r)
+
+ended-among : (es : List Entry) → AreAllEvents es → AllCyclesEnd (entries_by C es) → AllCyclesEnd es
+ended-among [] a d = tt
+ended-among (e ∷ es) a d = by e.made.caller a.0 (ended-among es a.1) d
+  where
+    by : (t : Thread) → IsEvent t e.made.op → (AllCyclesEnd (entries_by C es) → AllCyclesEnd es) → AllCyclesEnd (if is_thread C t then e ∷ entries_by C es else entries_by C es) → IsEnded e.made.op es × AllCyclesEnd es
+    by C v f d = (ended-more e.made.op (entries_by C es) es (comes-among es a.1) d.0, f d.1)
+    by (M u) v f d = (other-ended (M u) e.made.op es (λ z. cc) v, f d)
+    by (P u) v f d = (other-ended (P u) e.made.op es (λ z. cc) v, f d)
+
+pub thread_history_ends : ThreadHistoryEnds
+thread_history_ends script h noted l p = ended-among h.entries (subst AreAllEvents l.same (all-events opening_linkage noted l.lawful)) (held-thread-end script h.entries p)
