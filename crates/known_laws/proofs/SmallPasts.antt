@@ -1,0 +1,167 @@
+-- The small pasts and states, computed. Where two entries have one number, that no past has two is what refutes the conclusion.
+use Rattle.std.proofs.Common.{◌≡◌, inl, inr, ⊎_elim, ℕ, zero, suc, ◌≤◌, true, false, List, [], ◌∷◌, None, refl, sym, ap, ◌∙◌, arith, true≢false}
+use Rattle.joint_model.specs.declared.names.Thread.TheVariants.{M, P}
+use Rattle.joint_model.specs.declared.names.Phase.TheVariants as at
+use Rattle.joint_model.specs.declared.events.Entry.{Entry}
+use Rattle.joint_model.specs.Components.{Rises}
+use Rattle.joint_model.specs.Control.{Opened}
+use Rattle.joint_model.specs.Cycles.{IsSnapshot}
+use Rattle.joint_model.specs.Draws.{Drawn, NumberedFrom}
+use Rattle.joint_model.specs.Heaps.{IsLive}
+use Rattle.joint_model.specs.Linked.{MayCome, opening_linkage}
+use Rattle.joint_model.specs.Managed.{opening_managed}
+use Rattle.joint_model.specs.ManagedReplay.{ManagedReplay, MayContract, opening_replay}
+use Rattle.joint_model.specs.PeerReplay.{MayClear, MayRelease, MayRestore, MayWeaken, opening_peer_replay}
+use Rattle.joint_model.specs.Told.{Noted, phase_of}
+use Rattle.joint_model.proofs.Deciding.{none_some}
+use Rattle.joint_model.proofs.Members.{Contains-nil, Contains-here}
+use Rattle.known_laws.specs.Conditions.{IsOpenHere}
+use Rattle.known_laws.specs.Drawn.{AreDrawn, IsToldIn, target_of}
+use Rattle.known_laws.specs.Growing.{AreKnown, IsHistory, entries, grown}
+use Rattle.known_laws.specs.Known.{TellsPlainly}
+use Rattle.known_laws.specs.Driving.{IsPastKept}
+use Rattle.known_laws.proofs.KnownPasts.{known_past_is_kept}
+use Rattle.known_laws.specs.Pasts.{HasSameDeadPart, In, Joined, Lawful, RunsFrom, Within, end_of, line}
+use Rattle.known_laws.specs.Worked.{a_drop, a_peer_drop, a_refusal, a_release, a_give, a_snap, lines_of, released_twice, turned_numbers, two_drops, without_candidates, wrong_lines, wrongly_drawn}
+use Rattle.known_laws.proofs.CitedOnce.{none_is_cited_twice}
+use Rattle.known_laws.proofs.PastLines.{in-line, in_begins, one-number}
+use Rattle.known_laws.proofs.PastsJoin.{in_whole_past}
+use Rattle.known_laws.proofs.SnapTold.{numbers_are_once}
+
+-- two entries with one number
+pub one : Lawful (a_drop 5 ∷ [])
+one = (record { later = omega arith; comes = record { event = (((omega arith, omega arith), omega arith), tt); line = omega arith; short = omega arith; lawful = record { allowed = tt; replies = refl }; order = refl }; plain = tt }, tt)
+
+pub other : Lawful (a_peer_drop 5 ∷ [])
+other = (record { later = omega arith; comes = record { event = (((omega arith, omega arith), omega arith), tt); line = omega arith; short = omega arith; lawful = record { allowed = tt; replies = refl }; order = refl }; plain = tt }, tt)
+
+callers-differ : (x y : Noted) → x ≡ y → x.entry.made.caller ≡ M 1 → y.entry.made.caller ≡ P 1 → ⊥
+callers-differ x y e p q = let s : M 1 ≡ P 1 = sym p ∙ (ap (λ (z : Noted). z.entry.made.caller) e ∙ q) in cc
+
+pub no_run : (whole : List Noted) → RunsFrom 0 whole → Within whole (a_drop 5 ∷ []) → Within whole (a_peer_drop 5 ∷ []) → ⊥
+no_run whole runs a b = callers-differ (a_drop 5) (a_peer_drop 5) (one-number 0 whole (a_drop 5) (a_peer_drop 5) runs (in_whole_past whole (a_drop 5) (a_drop 5 ∷ []) (inl refl) a) (in_whole_past whole (a_peer_drop 5) (a_peer_drop 5 ∷ []) (inl refl) b) refl) refl refl
+
+pub no_join : Joined (a_drop 5 ∷ []) (a_peer_drop 5 ∷ []) → ⊥
+no_join j =
+    let x = in-line 0 j.past (a_drop 5) (in_begins (a_drop 5 ∷ []) (line 0 j.past) (a_drop 5) (j.first 0) (inl refl)) in
+    let y = in-line 1 j.past (a_peer_drop 5) (in_begins (a_peer_drop 5 ∷ []) (line 1 j.past) (a_peer_drop 5) (j.second 1) (inl refl)) in
+    callers-differ (a_drop 5) (a_peer_drop 5) (numbers_are_once j.past j.lawful (a_drop 5) (a_peer_drop 5) x y refl) refl refl
+
+pub comes : MayCome (end_of (a_drop 5 ∷ [])) (a_peer_drop 5)
+comes = record { event = (((omega arith, omega arith), omega arith), tt); line = omega arith; short = omega arith; lawful = record { allowed = tt; replies = refl }; order = refl }
+
+in_entries : (xs : List Noted) (e : Entry) → entries xs ≡ e ∷ [] → (n : Noted) × In xs n × (n.entry ≡ e)
+in_entries [] e q = absurd (cc)
+in_entries (x ∷ xs) e q = (x, inl refl, cc)
+
+pub unknown : AreKnown (grown (lines_of (a_drop 5 ∷ [])) (a_peer_drop 5).entry) → ⊥
+unknown k =
+    let x = in_entries (line 0 k.past) (a_drop 5).entry (sym (k.same 0)) in
+    let y = in_entries (line 1 k.past) (a_peer_drop 5).entry (sym (k.same 1)) in
+    let number : x.0.entry.number ≡ y.0.entry.number = ap (λ (e : Entry). e.number) x.2 ∙ sym (ap (λ (e : Entry). e.number) y.2) in
+    callers-differ x.0 y.0 (numbers_are_once k.past k.lawful x.0 y.0 (in-line 0 k.past x.0 x.1) (in-line 1 k.past y.0 y.1) number) (ap (λ (e : Entry). e.made.caller) x.2) (ap (λ (e : Entry). e.made.caller) y.2)
+
+-- a number left out
+pub lawful : Lawful two_drops
+lawful = (
+  record { later = omega arith; comes = record { event = (((omega arith, omega arith), omega arith), tt); line = omega arith; short = omega arith; lawful = record { allowed = tt; replies = refl }; order = refl }; plain = tt },
+  (record { later = omega arith; comes = record { event = (((omega arith, omega arith), omega arith), tt); line = omega arith; short = omega arith; lawful = record { allowed = tt; replies = refl }; order = refl }; plain = tt }, tt),
+)
+
+pub unnumbered : NumberedFrom 0 turned_numbers → ⊥
+unnumbered n = let f : 5 ≡ 0 = n.0 in omega (arith, f)
+
+abbrev first_number : List Entry → ℕ
+first_number [] = 0
+first_number (e ∷ es) = e.number
+
+pub no_history : IsHistory turned_numbers two_drops → ⊥
+no_history h = let f : 3 ≡ 5 = ap first_number h.same in omega (arith, f)
+
+-- the snap of a cycle where nothing is
+no-live : (m : ℕ) → IsLive opening_managed.heap m → ⊥
+no-live m l = let a = l.made.0 in let b : m ≤ 0 = l.made.1 in omega (arith, a, b)
+
+none-rises : Rises []
+none-rises = tt
+
+snapshot : IsSnapshot opening_managed 1 [] [] []
+snapshot = record {
+  closed = refl;
+  next = refl;
+  freed_rise = none-rises;
+  frees = λ m. (λ c. absurd (Contains-nil m c), λ w. absurd (no-live m w.0));
+  candidates_rise = none-rises;
+  picks = λ m. (λ c. absurd (Contains-nil m c), λ w. absurd (no-live m w.0.1.live));
+  dead_rise = none-rises;
+  leaves = λ m. (λ c. absurd (Contains-nil m c), λ w. absurd (no-live m w.0));
+}
+
+pub snap-lawful : Lawful (a_snap ∷ [])
+snap-lawful = (record { later = omega arith; comes = record { event = tt; line = omega arith; short = omega arith; lawful = record { allowed = snapshot; replies = refl }; order = refl }; plain = tt }, tt)
+
+pub other_line : line 2 [] ≡ line 2 (a_snap ∷ []) → ⊥
+other_line e = cc
+
+pub other_part : HasSameDeadPart (end_of []).managed.managed (end_of (a_snap ∷ [])).managed.managed → ⊥
+other_part h = let e = h.cycle in cc
+
+pub other_state : (end_of []).managed ≡ (end_of (a_snap ∷ [])).managed → ⊥
+other_state e = let f : 0 ≡ 1 = ap (λ (z : ManagedReplay). z.managed.cycles) e in omega (arith, f)
+
+-- a refusal in a cycle without candidates
+pub mirrored : MayCome without_candidates (a_refusal at.Mirrored)
+mirrored = record { event = tt; line = omega arith; short = omega arith; lawful = record { allowed = record { refused = refl; idle = (λ e. absurd (cc), λ e. absurd (cc)) }; replies = refl }; order = ((refl, inl (refl, refl, refl)), refl) }
+
+pub weakened : MayCome without_candidates (a_refusal at.Weakened)
+weakened = record { event = tt; line = omega arith; short = omega arith; lawful = record { allowed = record { refused = refl; idle = (λ e. absurd (cc), λ e. absurd (cc)) }; replies = refl }; order = ((refl, inr (refl, refl)), refl) }
+
+pub told_differ : phase_of at.Mirrored ≡ phase_of at.Weakened → ⊥
+told_differ e = cc
+
+-- two releases of one give
+pub released : Lawful released_twice → ⊥
+released l = ⊎_elim
+    (λ (e : a_release 2 ≡ a_release 1). let f : 2 ≡ 1 = ap (λ (z : Noted). z.entry.number) e in omega (arith, f))
+    (λ s. s)
+    (none_is_cited_twice released_twice l (a_release 2) (a_release 1) a_give (inl refl) (inr (inl refl)) (inr (inr (inl refl))) refl refl)
+
+-- a wrong target
+no-target : (h : List Noted) → IsToldIn h wrongly_drawn → ⊥
+no-target h t =
+    let e : (a_drop 0).entry.made.op ≡ t.entry.entry.made.op = ap (λ (z : Drawn). z.entry.made.op) t.same in
+    let f : wrongly_drawn.target ≡ target_of (end_of t.back).managed.managed t.entry.entry.made.caller t.entry.entry.made.op t.entry.entry.made.reply = ap (λ (z : Drawn). z.target) t.same in
+    let g : wrongly_drawn.target ≡ None = f ∙ ap (λ o. target_of (end_of t.back).managed.managed t.entry.entry.made.caller o t.entry.entry.made.reply) (sym e) in
+    cc
+
+pub wrong : AreDrawn wrong_lines → ⊥
+wrong a = no-target a.known.past (a.told 0 wrongly_drawn (Contains-here wrongly_drawn []))
+
+-- before the first entry
+pub no_release : (h : ℕ) → MayRelease opening_peer_replay h → ⊥
+no_release zero w = none_some w.row w.tabled
+no_release (suc n) w = none_some w.row w.tabled
+
+pub no_contraction : (k : ℕ) (comps : List (List ℕ)) (xrefs : List (ℕ × ℕ)) → MayContract opening_replay k comps xrefs → ⊥
+no_contraction k comps xrefs w = none_some w.cycle w.open_cycle.0
+
+pub no_weaken : (h : ℕ) → MayWeaken opening_peer_replay h None → ⊥
+no_weaken h w = none_some w.mirror w.stands
+
+pub no_restore : (h : ℕ) → MayRestore opening_peer_replay h → ⊥
+no_restore h w = none_some w.mirror w.stands
+
+pub no_clear : (k : ℕ) → MayClear opening_peer_replay k → ⊥
+no_clear k w = none_some w.mirror w.stands
+
+pub no_cycle : (o : Opened) → IsOpenHere opening_linkage o → ⊥
+no_cycle o w = none_some w.0 w.1.0
+
+pub snapped_open : (end_of (a_snap ∷ [])).managed.managed.cycle ≡ None → ⊥
+snapped_open e = none_some _ (sym e)
+
+pub kept : IsPastKept opening_linkage
+kept = known_past_is_kept [] tt
+
+pub unplain : TellsPlainly without_candidates.control.stand (a_refusal at.Weakened).entry.made.op (phase_of at.Weakened) → ⊥
+unplain w = let e : false ≡ true = w refl in true≢false (sym e)

@@ -1,0 +1,82 @@
+// Small pasts and states, computed, on which a premise of a law fails: there its conclusion fails too.
+
+ghost use Rattle.std.specs.Prelude.{◌≡◌, ℕ, List, [], ◌∷◌, None};
+ghost use Rattle.joint_model.specs.declared.events.Entry.{Entry};
+ghost use Rattle.joint_model.specs.declared.names.Phase.TheVariants as at;
+ghost use Rattle.joint_model.specs.Control.{opening_control, snapped, Opened};
+ghost use Rattle.joint_model.specs.Draws.{NumberedFrom};
+ghost use Rattle.joint_model.specs.Linked.{MayCome, opening_linkage};
+ghost use Rattle.joint_model.specs.Managed.{OpenCycle};
+ghost use Rattle.joint_model.specs.ManagedReplay.{MayContract, opening_replay};
+ghost use Rattle.joint_model.specs.PeerReplay.{MayClear, MayRelease, MayRestore, MayWeaken, opening_peer_replay};
+ghost use Rattle.joint_model.specs.Told.{Noted, phase_of};
+ghost use Rattle.known_laws.specs.Conditions.{IsOpenHere};
+ghost use Rattle.known_laws.specs.Driving.{IsPastKept};
+ghost use Rattle.known_laws.specs.Drawn.{AreDrawn};
+ghost use Rattle.known_laws.specs.Growing.{AreKnown, IsHistory, entries_in, grown};
+ghost use Rattle.known_laws.specs.Known.{TellsPlainly};
+ghost use Rattle.known_laws.specs.Pasts.{HasSameDeadPart, Joined, Lawful, RunsFrom, Within, end_of, line};
+ghost use Rattle.known_laws.specs.Worked.{a_drop, a_peer_drop, a_refusal, a_snap, lines_of, released_twice, turned_numbers, two_drops, without_candidates, wrong_lines};
+
+/// Two pasts with one number for two entries are joined by none, and are pasts of no one run.
+pub fn numbers_must_differ()
+    ensures one { Lawful (a_drop 5 ∷ []) }
+    ensures other { Lawful (a_peer_drop 5 ∷ []) }
+    ensures no_run { (whole : List Noted) → RunsFrom 0 whole → Within whole (a_drop 5 ∷ []) → Within whole (a_peer_drop 5 ∷ []) → ⊥ }
+    ensures no_join { Joined (a_drop 5 ∷ []) (a_peer_drop 5 ∷ []) → ⊥ }
+{}
+
+/// Known lines don't grow by an entry that may come with a number that isn't above all that is known.
+pub fn numbers_must_rise()
+    ensures comes { MayCome (end_of (a_drop 5 ∷ [])) (a_peer_drop 5) }
+    ensures unknown { AreKnown (grown (lines_of (a_drop 5 ∷ [])) (a_peer_drop 5).entry) → ⊥ }
+{}
+
+/// Known whole lines are no history of a list of entries whose numbers aren't those from 0 on.
+pub fn numbers_must_leave_none_out()
+    ensures lawful { Lawful two_drops }
+    ensures managed { lines_of two_drops 0 ≡ entries_in 0 turned_numbers }
+    ensures peer { lines_of two_drops 1 ≡ entries_in 1 turned_numbers }
+    ensures unnumbered { NumberedFrom 0 turned_numbers → ⊥ }
+    ensures no_history { IsHistory turned_numbers two_drops → ⊥ }
+{}
+
+/// Who doesn't know the snap doesn't know the cycle's dead part, and has another managed state.
+pub fn the_snap_must_be_known()
+    ensures lawful { Lawful (a_snap ∷ []) }
+    ensures other_line { line 2 [] ≡ line 2 (a_snap ∷ []) → ⊥ }
+    ensures other_part { HasSameDeadPart (end_of []).managed.managed (end_of (a_snap ∷ [])).managed.managed → ⊥ }
+    ensures other_state { (end_of []).managed ≡ (end_of (a_snap ∷ [])).managed → ⊥ }
+{}
+
+/// In a cycle without candidates a refusal may be told of two phases, of which only the mirrored one is told plainly.
+pub fn refusals_must_be_told_plainly()
+    ensures mirrored { MayCome without_candidates (a_refusal at.Mirrored) }
+    ensures weakened { MayCome without_candidates (a_refusal at.Weakened) }
+    ensures differ { phase_of at.Mirrored ≡ phase_of at.Weakened → ⊥ }
+    ensures not_plain { TellsPlainly without_candidates.control.stand (a_refusal at.Weakened).entry.made.op (phase_of at.Weakened) → ⊥ }
+{}
+
+/// A list in which two releases cite one give is no past.
+pub fn gives_are_cited_once()
+    ensures { Lawful released_twice → ⊥ }
+{}
+
+/// Lines with a target that their entries don't have are no drawn lines.
+pub fn targets_must_be_told()
+    ensures { AreDrawn wrong_lines → ⊥ }
+{}
+
+/// Before the first entry all that a past keeps holds, no thread has anything in hand and the driver is idle: no call has its condition
+/// that asks for a handle, an open cycle or a mirror. And once the driver has snapped, the condition of a snap is gone.
+pub fn calls_need_their_stand()
+    ensures kept { IsPastKept opening_linkage }
+    ensures release { (h : ℕ) → MayRelease opening_peer_replay h → ⊥ }
+    ensures contracted { (k : ℕ) (comps : List (List ℕ)) (xrefs : List (ℕ × ℕ)) → MayContract opening_replay k comps xrefs → ⊥ }
+    ensures weaken { (h : ℕ) → MayWeaken opening_peer_replay h None → ⊥ }
+    ensures restore { (h : ℕ) → MayRestore opening_peer_replay h → ⊥ }
+    ensures clear { (k : ℕ) → MayClear opening_peer_replay k → ⊥ }
+    ensures open_cycle { (o : Opened) → IsOpenHere opening_linkage o → ⊥ }
+    ensures snapped { (end_of (a_snap ∷ [])).control.stand ≡ snapped record { cycle = 1; snap = 0 } }
+    ensures snap { (end_of (a_snap ∷ [])).managed.managed.cycle ≡ None → ⊥ }
+{}
