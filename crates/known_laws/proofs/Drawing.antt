@@ -1,62 +1,55 @@
 -- What is drawn of an entry is what its past tells. Two pasts of one run that have the entry are told the same of it, and where it
 -- sets a cell the managed side's state behind it is that of the one managed line up to it. So drawn lines grow and are joined as
--- lines of entries are, and what two seats have of an entry is one. And the objects freed are those told, since no other entry frees.
-use Rattle.std.proofs.Common.{◌≡◌, inl, ⊎_elim, ℕ, Bool, true, false, List, [], ◌∷◌, ◌++◌, map, Option, Some, None, refl, sym, ap, ◌∙◌, subst}
+-- lines of entries are, and what two seats have of an entry is one. And the objects freed are those drawn, since no other entry frees.
+use Rattle.std.proofs.Common.{◌≡◌, inl, ⊎_elim, ℕ, Bool, true, false, List, [], ◌∷◌, ◌++◌, map, Option, refl, sym, ap, ◌∙◌, subst}
 use Rattle.std.specs.Prelude.{Contains, if◌then◌else◌}
 use mathlib.Core.List.{IsPrefix}
-use Rattle.std.proofs.lemmas.Bool.{cases_Bool}
 use Rattle.std.proofs.lemmas.List.{map-append, append-nil}
 use Rattle.std.proofs.lemmas.List.Elements.{Contains-append_cases}
 use Rattle.joint_model.specs.declared.names.Thread.{Thread}
 use Rattle.joint_model.specs.declared.names.Thread.TheVariants.{M, P, C}
-use Rattle.joint_model.specs.declared.lines.Act.TheVariants as act
+use Rattle.joint_model.specs.declared.events.Entry.{Entry}
 use Rattle.joint_model.specs.declared.events.Op.{Op}
 use Rattle.joint_model.specs.declared.events.Op.TheVariants as op
 use Rattle.joint_model.specs.declared.events.Reply.{Reply}
-use Rattle.joint_model.specs.declared.events.Reply.TheVariants as says
-use Rattle.joint_model.specs.declared.events.Made.{Made}
 use Rattle.joint_model.specs.Draws.{Drawn}
 use Rattle.joint_model.specs.Lines.{IsEvent, is_peer_event}
-use Rattle.joint_model.specs.Linked.{Linkage, SideLawful, managed_after}
-use Rattle.joint_model.specs.Managed.{Managed}
-use Rattle.joint_model.specs.ManagedReplay.{ManagedReplay, ManagedAllows}
-use Rattle.joint_model.specs.PeerReplay.{PeerReplay, Marking, PeerAllows, SliceAllows, SweepAllows}
-use Rattle.joint_model.specs.Told.{Told, Noted, nothing, phase_of, contraction_of, references_of, slice_of, sweep_of, snap_of, resolution_of}
+use Rattle.joint_model.specs.Histories.{managed_numbers}
+use Rattle.joint_model.specs.Linked.{Linkage, ManagedLawful, SideLawful, managed_after}
+use Rattle.joint_model.specs.Sides.{managed_rules, peer_rules, objects_freed}
+use Rattle.joint_model.specs.ManagedReplay.{ManagedReplay, ManagedAllows, managed_answer}
+use Rattle.joint_laws.specs.ManagedInvariants.{IsReplayKept}
+use Rattle.joint_model.specs.Told.{Told, Noted, nothing, phase_of, contraction_of, snap_of, resolution_of}
 use Rattle.joint_model.proofs.Members.{Contains-nil, Contains-cons_cases}
 use Rattle.known_laws.specs.Known.{TellsPlainly}
 use Rattle.known_laws.specs.Pasts.{In, Lawful, Within, end_of, is_in, role_of}
 use Rattle.known_laws.specs.Growing.{AreJoined, HasGrown, grown, untold, entries_in}
-use Rattle.known_laws.specs.Drawn.{target_of, frees, drawn, IsToldIn, of_drawn, AreDrawn, DrawnIsOne, drawn_on, DrawnLinesGrow, DrawnLinesJoin, FreedIsDrawn}
+use Rattle.known_laws.specs.Drawn.{drawn_by, drawn, IsToldIn, of_drawn, AreDrawn, DrawnIsOne, drawn_on, DrawnLinesGrow, DrawnLinesJoin, FreedIsDrawn}
 use Rattle.known_laws.proofs.CitedOnce.{each_stands_behind}
-use Rattle.known_laws.proofs.FrozenPasts.{goes_by, one_behind}
+use Rattle.known_laws.proofs.FrozenPasts.{goes_on, one_behind}
 use Rattle.known_laws.proofs.Growing.{one_run, known_lines_grow, known_lines_join}
 use Rattle.known_laws.proofs.Later.{kept_end}
 use Rattle.known_laws.proofs.Parts.{same_managed}
 use Rattle.known_laws.proofs.PastLines.{in_role, in_right}
 use Rattle.known_laws.proofs.SnapParts.{behind_lawful, within_front, driver_goes}
-use Rattle.known_laws.proofs.SnapTold.{IsKeeping}
-
--- an entry sets a cell only on the managed side
-target_out : (s t : Managed) (c : Thread) (o : Op) (r : Reply) → IsEvent c o → is_peer_event c o ≡ true → target_of s c o r ≡ target_of t c o r
-target_out s t (M n) (op.Line (act.Weak k v)) says.Ok e p = absurd (cc)
-target_out s t (P n) (op.Line (act.Weak k v)) says.Ok e p = absurd e.0.1
-target_out s t C (op.Line (act.Weak k v)) says.Ok e p = absurd e.0
-target_out s t c (op.Line (act.Weak k v)) r e p = refl
-target_out s t c (op.Line a) r e p = refl
-target_out s t c o r e p = refl
 
 -- what is drawn of one entry in two pasts of one run
 one_drawn : (whole a b : List Noted) (x : Noted) → Lawful (x ∷ a) → Lawful (x ∷ b) → Within whole (x ∷ a) → Within whole (x ∷ b) → drawn (end_of a) x ≡ drawn (end_of b) x
-one_drawn whole a b x la lb wa wb = λ i. record { entry = x.entry; target = target i; freed = map (λ m. record { 0 = m }) (frees x.told) }
+one_drawn whole a b x la lb wa wb = by (is_peer_event x.entry.made.caller x.entry.made.op) refl
   where
-    target : target_of (end_of a).managed.managed x.entry.made.caller x.entry.made.op x.entry.made.reply ≡ target_of (end_of b).managed.managed x.entry.made.caller x.entry.made.op x.entry.made.reply
-    target = ⊎_elim
-        (λ (t : is_peer_event x.entry.made.caller x.entry.made.op ≡ true). target_out (end_of a).managed.managed (end_of b).managed.managed x.entry.made.caller x.entry.made.op x.entry.made.reply la.0.comes.event t)
-        (λ (f : is_peer_event x.entry.made.caller x.entry.made.op ≡ false).
-        let r : role_of x ≡ 0 = ap (λ z. if z then 1 else 0) f in
-        let same = same_managed a b (one_behind whole 0 x a b la lb wa wb (subst (λ i. is_in i x ≡ true) r (in_role x))) in
-        ap (λ (z : ManagedReplay). target_of z.managed x.entry.made.caller x.entry.made.op x.entry.made.reply) same)
-        (cases_Bool (is_peer_event x.entry.made.caller x.entry.made.op))
+    by : (c : Bool) → is_peer_event x.entry.made.caller x.entry.made.op ≡ c → (if c then drawn_by peer_rules (end_of a).peer x else drawn_by managed_rules (end_of a).managed x) ≡ (if c then drawn_by peer_rules (end_of b).peer x else drawn_by managed_rules (end_of b).managed x)
+    by true e = refl
+    by false e =
+        let r : role_of x ≡ 0 = ap (λ z. if z then 1 else 0) e in
+        ap (λ (z : ManagedReplay). drawn_by managed_rules z x) (same_managed a b (one_behind whole 0 x a b la lb wa wb (subst (λ i. is_in i x ≡ true) r (in_role x))))
+
+-- what is drawn is drawn of the entry
+drawn-entry : (s : Linkage) (n : Noted) → (drawn s n).entry ≡ n.entry
+drawn-entry s n = by (is_peer_event n.entry.made.caller n.entry.made.op)
+  where
+    by : (c : Bool) → (if c then drawn_by peer_rules s.peer n else drawn_by managed_rules s.managed n).entry ≡ n.entry
+    by true = refl
+    by false = refl
 
 -- what is told in one past is told in another of the run that has the entry
 told_alike : (whole a b : List Noted) → Lawful a → Lawful b → Within whole a → Within whole b → (d : Drawn) → (t : IsToldIn a d) → In b t.entry → IsToldIn b d
@@ -74,7 +67,7 @@ drawn_is_one whole ls ms a b numbered wa wb i j d e c f n =
     let r = one_run whole (λ k. of_drawn (ls k)) (λ k. of_drawn (ms k)) a.known b.known numbered wa wb in
     let t = a.told i d c in
     let u = b.told j e f in
-    let number : t.entry.entry.number ≡ u.entry.entry.number = sym (ap (λ (z : Drawn). z.entry.number) t.same) ∙ (n ∙ ap (λ (z : Drawn). z.entry.number) u.same) in
+    let number : t.entry.entry.number ≡ u.entry.entry.number = sym (ap (λ (z : Drawn). z.entry.number) t.same ∙ ap (λ (e : Entry). e.number) (drawn-entry (end_of t.back) t.entry)) ∙ (n ∙ (ap (λ (z : Drawn). z.entry.number) u.same ∙ ap (λ (e : Entry). e.number) (drawn-entry (end_of u.back) u.entry))) in
     let one : t.entry ≡ u.entry = r.alike t.entry u.entry (told_there a.known.past d t) (told_there b.known.past e u) number in
     let la = behind_lawful t.front t.entry t.back (subst Lawful t.all a.known.lawful) in
     let lb = behind_lawful u.front u.entry u.back (subst Lawful u.all b.known.lawful) in
@@ -84,13 +77,21 @@ drawn_is_one whole ls ms a b numbered wa wb i j d e c f n =
     ∙ (ap (drawn (end_of u.back)) one ∙ sym u.same))
 
 -- what is told of a refusal frees nothing, and what is told of another entry is one
-frees_alike : (s : Linkage) (t : Thread) (o : Op) (m : Made) (x y : Told) → IsEvent t o → SideLawful (is_peer_event t o) s (record m { op = o }) x → SideLawful (is_peer_event t o) s (record m { op = o }) y → (TellsPlainly s.control.stand o y → x ≡ y) → frees x ≡ frees y
-frees_alike s C (op.Refused w) m (phase_of p) (phase_of q) e a b f = refl
-frees_alike s C (op.Refused w) m (phase_of p) _ e a b f = absurd b.allowed
-frees_alike s C (op.Refused w) m _ y e a b f = absurd a.allowed
-frees_alike s (M u) (op.Refused w) m x y e a b f = absurd e
-frees_alike s (P u) (op.Refused w) m x y e a b f = absurd e
-frees_alike s t o m x y e a b f = ap frees (f tt)
+drawn_alike : (s : Linkage) (t : Thread) (o : Op) (e : Entry) (x y : Told) → e.made.caller ≡ t → e.made.op ≡ o → IsEvent t o → SideLawful (is_peer_event t o) s (record e.made { op = o }) x → SideLawful (is_peer_event t o) s (record e.made { op = o }) y
+    → (TellsPlainly s.control.stand o y → x ≡ y) → drawn s (record { entry = e; told = x }) ≡ drawn s (record { entry = e; told = y })
+drawn_alike s C (op.Refused w) e (phase_of p) (phase_of q) c o v a b f = same
+  where
+    same : drawn s (record { entry = e; told = phase_of p }) ≡ drawn s (record { entry = e; told = phase_of q })
+    same = by (is_peer_event e.made.caller e.made.op)
+      where
+        by : (k : Bool) → (if k then drawn_by peer_rules s.peer (record { entry = e; told = phase_of p }) else drawn_by managed_rules s.managed (record { entry = e; told = phase_of p })) ≡ (if k then drawn_by peer_rules s.peer (record { entry = e; told = phase_of q }) else drawn_by managed_rules s.managed (record { entry = e; told = phase_of q }))
+        by true = refl
+        by false = refl
+drawn_alike s C (op.Refused w) e (phase_of p) _ c o v a b f = absurd b.allowed
+drawn_alike s C (op.Refused w) e _ y c o v a b f = absurd a.allowed
+drawn_alike s (M u) (op.Refused w) e x y c o v a b f = absurd v
+drawn_alike s (P u) (op.Refused w) e x y c o v a b f = absurd v
+drawn_alike s t o e x y c q v a b f = ap (λ (z : Told). drawn s (record { entry = e; told = z })) (f tt)
 
 of_drawn_on : (lines : ℕ → List Drawn) (d : Drawn) (i : ℕ) → of_drawn (drawn_on lines d i) ≡ grown (λ j. of_drawn (lines j)) d.entry i
 of_drawn_on lines d i = by (is_in i (untold d.entry))
@@ -101,8 +102,8 @@ of_drawn_on lines d i = by (is_in i (untold d.entry))
 
 pub drawn_lines_grow : DrawnLinesGrow
 drawn_lines_grow lines k n below may = record {
-  known = record { past = x ∷ k.known.past; lawful = g.lawful; same = λ i. of_drawn_on lines d i ∙ g.same i };
-  told = λ i e c. by i (is_in i (untold n.entry)) e c;
+  known = record { past = x ∷ k.known.past; lawful = g.lawful; same = λ i. of_drawn_on lines d i ∙ (ap (λ (e : Entry). grown (λ j. of_drawn (lines j)) e i) (drawn-entry (end_of k.known.past) n) ∙ g.same i) };
+  told = λ i e c. by i (is_in i (untold d.entry)) e c;
 }
   where
     d : Drawn
@@ -115,9 +116,7 @@ drawn_lines_grow lines k n below may = record {
     x = record { entry = n.entry; told = g.told }
 
     same : d ≡ drawn (end_of k.known.past) x
-    same =
-        let f = sym (frees_alike (end_of k.known.past) n.entry.made.caller n.entry.made.op n.entry.made g.told n.told may.event g.lawful.0.comes.lawful may.lawful g.alike) in
-        λ i. record { entry = n.entry; target = target_of (end_of k.known.past).managed.managed n.entry.made.caller n.entry.made.op n.entry.made.reply; freed = map (λ m. record { 0 = m }) (f i) }
+    same = sym (drawn_alike (end_of k.known.past) n.entry.made.caller n.entry.made.op n.entry g.told n.told refl refl may.event g.lawful.0.comes.lawful may.lawful g.alike)
 
     old : (i : ℕ) (e : Drawn) → Contains (lines i) e → IsToldIn (x ∷ k.known.past) e
     old i e c = let t = k.told i e c in record { entry = t.entry; front = x ∷ t.front; back = t.back; all = (λ j. x ∷ t.all j); same = t.same }
@@ -150,92 +149,58 @@ drawn_lines_join whole ls ms ns a b numbered wa wb e = record { known = j.joined
         (λ q. moved ms b wb j.second_stay i d (subst (λ l. Contains l d) q c))
         (e.either i)
 
--- what is told of an entry that is no snap and no resolve frees nothing
-slice_frees : (mk : Option Marking) (t : Thread) (told : Told) → SliceAllows mk t told → frees told ≡ []
-slice_frees None t nothing w = refl
-slice_frees None t _ w = absurd w
-slice_frees (Some mk) t (slice_of closure) w = refl
-slice_frees (Some mk) t nothing w = refl
-slice_frees (Some mk) t _ w = absurd w
+-- the managed objects that were freed, after an entry of either side
+numbers-of : (xs : List ℕ) → managed_numbers (map (λ x. record { 0 = x }) xs) ≡ xs
+numbers-of [] = refl
+numbers-of (x ∷ xs) = ap (λ l. x ∷ l) (numbers-of xs)
 
-sweep_frees : (s : PeerReplay) (mk : Option Marking) (t : Thread) (told : Told) → SweepAllows s mk t told → frees told ≡ []
-sweep_frees s None (P n) nothing w = refl
-sweep_frees s None (P n) _ w = absurd w
-sweep_frees s None (M n) told w = absurd w
-sweep_frees s None C told w = absurd w
-sweep_frees s (Some mk) t (sweep_of freed) w = refl
-sweep_frees s (Some mk) (P n) nothing w = refl
-sweep_frees s (Some mk) (P n) _ w = absurd w
-sweep_frees s (Some mk) (M n) _ w = absurd w
-sweep_frees s (Some mk) C _ w = absurd w
-
-peer_frees : (s : PeerReplay) (t : Thread) (o : Op) (cites : Option ℕ) (told : Told) → PeerAllows s t o cites told → frees told ≡ []
-peer_frees s t (op.Line (act.Slice n)) cites told w = slice_frees s.marking t told w
-peer_frees s t (op.Line a) cites nothing w = refl
-peer_frees s t (op.Line a) cites _ w = absurd w
-peer_frees s t op.Sweep cites told w = sweep_frees s s.marking t told w
-peer_frees s t (op.Mirror k) cites (references_of refs) w = refl
-peer_frees s t (op.Mirror k) cites _ w = absurd w
-peer_frees s t o cites nothing w = refl
-peer_frees s t o cites _ w = absurd w
-
+-- an entry that is no snap and no resolve is told nothing freed
 abbrev IsUnfreeing : Op → Type 0
 IsUnfreeing (op.Snap k) = ⊥
 IsUnfreeing (op.Resolve k) = ⊥
 IsUnfreeing _ = Unit {0}
 
-managed_frees : (s : ManagedReplay) (o : Op) (told : Told) → IsUnfreeing o → ManagedAllows s o told → frees told ≡ []
-managed_frees s (op.Snap k) told u w = absurd u
-managed_frees s (op.Resolve k) told u w = absurd u
-managed_frees s (op.Contract k) (contraction_of comps xrefs) u w = refl
-managed_frees s (op.Contract k) _ u w = absurd w
-managed_frees s (op.Refused v) (phase_of p) u w = refl
-managed_frees s (op.Refused v) _ u w = absurd w
-managed_frees s o nothing u w = refl
-managed_frees s o _ u w = absurd w
+none_freed : (s : ManagedReplay) (o : Op) (told : Told) → IsUnfreeing o → ManagedAllows s o told → objects_freed told ≡ []
+none_freed s (op.Snap k) told u w = absurd u
+none_freed s (op.Resolve k) told u w = absurd u
+none_freed s (op.Contract k) (contraction_of comps xrefs) u w = refl
+none_freed s (op.Contract k) _ u w = absurd w
+none_freed s (op.Refused v) (phase_of p) u w = refl
+none_freed s (op.Refused v) _ u w = absurd w
+none_freed s o nothing u w = refl
+none_freed s o _ u w = absurd w
 
-side_frees : (side : Bool) (s : Linkage) (m : Made) (told : Told) → IsUnfreeing m.op → SideLawful side s m told → frees told ≡ []
-side_frees true s m told u w = peer_frees s.peer m.caller m.op m.cites told w.allowed
-side_frees false s m told u w = managed_frees s.managed m.op told u w.allowed
-
-freed_step : (x : Noted) (h : List Noted) → Lawful (x ∷ h) → (end_of (x ∷ h)).managed.managed.heap.freed ≡ (end_of h).managed.managed.heap.freed ++ frees x.told
-freed_step x h l = by x.entry.made.caller x.entry.made.op x.told refl refl refl l.0.comes.event l.0.comes.lawful
+managed_freed : (s : Linkage) (t : Thread) (l : ℕ) (o : Op) (r : Reply) (c : Option ℕ) (told : Told) → IsReplayKept s.managed → IsEvent t o → ManagedLawful s.managed (record { caller = t; index = l; op = o; reply = r; cites = c }) told → is_peer_event t o ≡ false
+    → (managed_answer s.managed t o told).state.managed.heap.freed ≡ s.managed.managed.heap.freed ++ managed_numbers (objects_freed told)
+managed_freed s C l (op.Snap k) r c (snap_of freed candidates dead) k' v w e = ap (λ z. s.managed.managed.heap.freed ++ z) (sym (numbers-of freed))
+managed_freed s C l (op.Snap k) r c told k' v w e = absurd w.allowed
+managed_freed s C l (op.Resolve k) r c (resolution_of answers freed) k' v w e = ap (λ z. s.managed.managed.heap.freed ++ z) (sym (numbers-of freed))
+managed_freed s C l (op.Resolve k) r c told k' v w e = absurd w.allowed
+managed_freed s (M u) l (op.Snap k) r c told k' v w e = absurd v
+managed_freed s (P u) l (op.Snap k) r c told k' v w e = absurd v
+managed_freed s (M u) l (op.Resolve k) r c told k' v w e = absurd v
+managed_freed s (P u) l (op.Resolve k) r c told k' v w e = absurd v
+managed_freed s C l (op.Abandon k) r c told k' v w e = none told w.allowed
   where
-    made : Thread → Op → Made
-    made t o = record { caller = t; index = x.entry.made.index; op = o; reply = x.entry.made.reply; cites = x.entry.made.cites }
+    none : (told : Told) → ManagedAllows s.managed (op.Abandon k) told → s.managed.managed.heap.freed ≡ s.managed.managed.heap.freed ++ managed_numbers (objects_freed told)
+    none nothing a = sym (append-nil s.managed.managed.heap.freed)
+    none _ a = absurd a
+managed_freed s C l o r c told k' v w e = still s o told tt w.allowed (subst (λ b. (managed_after s.managed (record { caller = C; index = l; op = o; reply = r; cites = c }) told b).managed.heap.freed ≡ s.managed.managed.heap.freed) e (driver_goes s.managed l r c o told k' tt v).freed)
+  where
+    still : (s : Linkage) (o : Op) (told : Told) → IsUnfreeing o → ManagedAllows s.managed o told → (managed_answer s.managed C o told).state.managed.heap.freed ≡ s.managed.managed.heap.freed → (managed_answer s.managed C o told).state.managed.heap.freed ≡ s.managed.managed.heap.freed ++ managed_numbers (objects_freed told)
+    still s o told u a q = q ∙ (sym (append-nil s.managed.managed.heap.freed) ∙ ap (λ z. s.managed.managed.heap.freed ++ managed_numbers z) (sym (none_freed s.managed o told u a)))
+managed_freed s t l o r c told k' v w e =
+    let q = (goes_on s.managed t o told (λ z. cc) v k' w.allowed).freed in
+    q ∙ (sym (append-nil s.managed.managed.heap.freed) ∙ ap (λ z. s.managed.managed.heap.freed ++ managed_numbers z) (sym (none_freed s.managed o told tt w.allowed)))
 
-    R : Thread → Op → Told → ManagedReplay
-    R t o told = managed_after (end_of h).managed (made t o) told (is_peer_event t o)
-
-    is : (t : Thread) (o : Op) (told : Told) → x.entry.made.caller ≡ t → x.entry.made.op ≡ o → x.told ≡ told → (R t o told).managed.heap.freed ≡ (end_of h).managed.managed.heap.freed ++ frees told
-        → (end_of (x ∷ h)).managed.managed.heap.freed ≡ (end_of h).managed.managed.heap.freed ++ frees x.told
-    is t o told c f g e = (λ i. (R (c i) (f i) (g i)).managed.heap.freed) ∙ (e ∙ ap (λ z. (end_of h).managed.managed.heap.freed ++ frees z) (sym g))
-
-    none : (t : Thread) (o : Op) (told : Told) → IsUnfreeing o → SideLawful (is_peer_event t o) (end_of h) (made t o) told → (R t o told).managed.heap.freed ≡ (end_of h).managed.managed.heap.freed
-        → (R t o told).managed.heap.freed ≡ (end_of h).managed.managed.heap.freed ++ frees told
-    none t o told u s e = e ∙ (sym (append-nil (end_of h).managed.managed.heap.freed) ∙ ap (λ z. (end_of h).managed.managed.heap.freed ++ z) (sym (side_frees (is_peer_event t o) (end_of h) (made t o) told u s)))
-
-    others : (t : Thread) (o : Op) (told : Told) → (t ≡ C → ⊥) → IsUnfreeing o → IsEvent t o → SideLawful (is_peer_event t o) (end_of h) (made t o) told → (R t o told).managed.heap.freed ≡ (end_of h).managed.managed.heap.freed ++ frees told
-    others t o told n u v s = none t o told u s (goes_by (end_of h).managed (made t o) told (is_peer_event t o) (end_of h) refl n v (kept_end h l.1).managed s).freed
-
-    driver : (o : Op) (told : Told) → IsUnfreeing o → IsKeeping o → IsEvent C o → SideLawful (is_peer_event C o) (end_of h) (made C o) told → (R C o told).managed.heap.freed ≡ (end_of h).managed.managed.heap.freed ++ frees told
-    driver o told u k v s = none C o told u s (driver_goes (end_of h).managed x.entry.made.index x.entry.made.reply x.entry.made.cites o told (kept_end h l.1).managed k v).freed
-
-    by : (t : Thread) (o : Op) (told : Told) → x.entry.made.caller ≡ t → x.entry.made.op ≡ o → x.told ≡ told → IsEvent t o → SideLawful (is_peer_event t o) (end_of h) (made t o) told
-        → (end_of (x ∷ h)).managed.managed.heap.freed ≡ (end_of h).managed.managed.heap.freed ++ frees x.told
-    by C (op.Snap k) (snap_of freed candidates dead) c f g v s = is C (op.Snap k) (snap_of freed candidates dead) c f g refl
-    by C (op.Snap k) told c f g v s = absurd s.allowed
-    by C (op.Resolve k) (resolution_of answers freed) c f g v s = is C (op.Resolve k) (resolution_of answers freed) c f g refl
-    by C (op.Resolve k) told c f g v s = absurd s.allowed
-    by C (op.Abandon k) told c f g v s = is C (op.Abandon k) told c f g (none C (op.Abandon k) told tt s refl)
-    by (M u) (op.Snap k) told c f g v s = absurd v
-    by (P u) (op.Snap k) told c f g v s = absurd v
-    by (M u) (op.Resolve k) told c f g v s = absurd v
-    by (P u) (op.Resolve k) told c f g v s = absurd v
-    by (M u) o told c f g v s = is (M u) o told c f g (others (M u) o told (λ z. cc) tt v s)
-    by (P u) o told c f g v s = is (P u) o told c f g (others (P u) o told (λ z. cc) tt v s)
-    by C o told c f g v s = is C o told c f g (driver o told tt tt v s)
+freed_step : (x : Noted) (h : List Noted) → Lawful (x ∷ h) → (end_of (x ∷ h)).managed.managed.heap.freed ≡ (end_of h).managed.managed.heap.freed ++ managed_numbers (drawn (end_of h) x).freed
+freed_step x h l = by (is_peer_event x.entry.made.caller x.entry.made.op) refl l.0.comes.lawful
+  where
+    by : (b : Bool) → is_peer_event x.entry.made.caller x.entry.made.op ≡ b → SideLawful b (end_of h) x.entry.made x.told
+        → (managed_after (end_of h).managed x.entry.made x.told b).managed.heap.freed ≡ (end_of h).managed.managed.heap.freed ++ managed_numbers (if b then drawn_by peer_rules (end_of h).peer x else drawn_by managed_rules (end_of h).managed x).freed
+    by true e w = sym (append-nil (end_of h).managed.managed.heap.freed)
+    by false e w = managed_freed (end_of h) x.entry.made.caller x.entry.made.index x.entry.made.op x.entry.made.reply x.entry.made.cites x.told (kept_end h l.1).managed l.0.comes.event w e
 
 pub freed_is_drawn : FreedIsDrawn
 freed_is_drawn [] l = refl
-freed_is_drawn (x ∷ h) l = freed_step x h l ∙ ap (λ z. z ++ frees x.told) (freed_is_drawn h l.1)
+freed_is_drawn (x ∷ h) l = freed_step x h l ∙ ap (λ z. z ++ managed_numbers (drawn (end_of h) x).freed) (freed_is_drawn h l.1)

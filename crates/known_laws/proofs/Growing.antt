@@ -133,10 +133,14 @@ pub known_lines_join : KnownLinesJoin
 known_lines_join whole ls ms ns a b numbered wa wb longer =
     record {
       joined = record { past = j.past; lawful = j.lawful; same = same };
-      first = λ i e. all_begins (line i a.past) (line i j.past) (j.first i) (let l = lengths i in let m = ap length e in let n = la i in omega (arith, l, m, n));
-      second = λ i e. all_begins (line i b.past) (line i j.past) (j.second i) (let l = lengths i in let m = ap length e in let n = lb i in omega (arith, l, m, n));
+      first = first;
+      second = second;
       first_stay = λ x p. stays a.past x p (j.first (role_of x));
       second_stay = λ x p. stays b.past x p (j.second (role_of x));
+      managed_first = λ e. same_managed j.past a.past (first 0 e);
+      managed_second = λ e. same_managed j.past b.past (second 0 e);
+      peer_first = λ e. same_peer j.past a.past (first 1 e);
+      peer_second = λ e. same_peer j.past b.past (second 1 e);
     }
   where
     j : Joined a.past b.past
@@ -154,6 +158,12 @@ known_lines_join whole ls ms ns a b numbered wa wb longer =
     lengths : (i : ℕ) → length (line i j.past) ≡ length (ns i)
     lengths i = longer_line (ls i) (ms i) (ns i) (line i a.past) (line i b.past) (longer.either i) (entries_of_length _ _ (longer.first i)) (entries_of_length _ _ (longer.second i)) (la i) (lb i)
         (line i j.past) (j.longer_one i) (length_begins _ _ (j.first i)) (length_begins _ _ (j.second i))
+
+    first : (i : ℕ) → ns i ≡ ls i → line i j.past ≡ line i a.past
+    first i e = all_begins (line i a.past) (line i j.past) (j.first i) (let l = lengths i in let m = ap length e in let n = la i in omega (arith, l, m, n))
+
+    second : (i : ℕ) → ns i ≡ ms i → line i j.past ≡ line i b.past
+    second i e = all_begins (line i b.past) (line i j.past) (j.second i) (let l = lengths i in let m = ap length e in let n = lb i in omega (arith, l, m, n))
 
     same : (i : ℕ) → ns i ≡ entries (line i j.past)
     same i = ⊎_elim

@@ -14,11 +14,17 @@ use Rattle.joint_model.specs.Linked.{SideLawful, managed_after, peer_after}
 use Rattle.joint_model.specs.ManagedReplay.{opening_replay}
 use Rattle.joint_model.specs.PeerReplay.{opening_peer_replay, is_thread}
 use Rattle.joint_model.specs.Told.{Noted}
-use Rattle.known_laws.specs.Pasts.{is_in, line, end_of, Lawful}
+use Rattle.known_laws.specs.Pasts.{is_in, line, end_of, In, Lawful}
 use Rattle.known_laws.specs.Growing.{entries, entries_in, turned, untold}
 use Rattle.known_laws.proofs.Ending.{known_whole_is_history}
 use Rattle.joint_model.specs.Sides.{managed_rules, peer_rules, LeadsTo}
+use Rattle.joint_model.specs.Components.{Rises}
+use Rattle.joint_model.proofs.Members.{Rises-push}
 use Rattle.joint_model.proofs.SideLists.{LeadsTo-push}
+use Rattle.std.proofs.lemmas.List.Elements.{All-cons, All-nil}
+use Rattle.std.specs.Prelude.{All, map}
+use Rattle.known_laws.proofs.PastLines.{in-line}
+use Rattle.known_laws.proofs.PastsJoin.{below}
 use Rattle.known_laws.specs.Lists.{KnownListsAreLawful, made_by, OwnLineIsMadeByCaller}
 
 -- lines 0 and 1 by the side of the entry
@@ -37,7 +43,7 @@ managed-list (x ∷ h) l = by (is_peer_event x.entry.made.caller x.entry.made.op
         → LeadsTo managed_rules opening_replay (if is_in 0 x then line 0 h ++ x ∷ [] else line 0 h) (managed_after (end_of h).managed x.entry.made x.told b)
     by true e w r = subst (λ c. LeadsTo managed_rules opening_replay (if c then line 0 h ++ x ∷ [] else line 0 h) (end_of h).managed) (sym (in_side 0 x true (omega arith) e)) r
     by false e w r = subst (λ c. LeadsTo managed_rules opening_replay (if c then line 0 h ++ x ∷ [] else line 0 h) (managed_after (end_of h).managed x.entry.made x.told false)) (sym (in_side 0 x false (omega arith) e))
-        (LeadsTo-push managed_rules opening_replay (line 0 h) (end_of h).managed x (managed_after (end_of h).managed x.entry.made x.told false) r record { lawful = w; state = refl })
+        (LeadsTo-push managed_rules opening_replay (line 0 h) (end_of h).managed x (managed_after (end_of h).managed x.entry.made x.told false) r record { lawful = (record { event = l.0.comes.event; side = e }, w); state = refl })
 
 peer-list : (h : List Noted) → Lawful h → LeadsTo peer_rules opening_peer_replay (line 1 h) (end_of h).peer
 peer-list [] l = refl
@@ -47,10 +53,36 @@ peer-list (x ∷ h) l = by (is_peer_event x.entry.made.caller x.entry.made.op) r
         → LeadsTo peer_rules opening_peer_replay (if is_in 1 x then line 1 h ++ x ∷ [] else line 1 h) (peer_after (end_of h).peer x.entry.made x.told b)
     by false e w r = subst (λ c. LeadsTo peer_rules opening_peer_replay (if c then line 1 h ++ x ∷ [] else line 1 h) (end_of h).peer) (sym (in_side 1 x false (omega arith) e)) r
     by true e w r = subst (λ c. LeadsTo peer_rules opening_peer_replay (if c then line 1 h ++ x ∷ [] else line 1 h) (peer_after (end_of h).peer x.entry.made x.told true)) (sym (in_side 1 x true (omega arith) e))
-        (LeadsTo-push peer_rules opening_peer_replay (line 1 h) (end_of h).peer x (peer_after (end_of h).peer x.entry.made x.told true) r record { lawful = w; state = refl })
+        (LeadsTo-push peer_rules opening_peer_replay (line 1 h) (end_of h).peer x (peer_after (end_of h).peer x.entry.made x.told true) r record { lawful = (record { event = l.0.comes.event; side = e }, w); state = refl })
+
+-- in each line numbers rise, since those behind an entry are smaller
+abbrev numbers : List Noted → List ℕ
+numbers ns = map (λ e. e.number) (entries ns)
+
+all-numbers : (n : ℕ) (xs : List Noted) → ((e : Noted) → In xs e → e.entry.number < n) → All (λ z. z < n) (numbers xs)
+all-numbers n [] f = All-nil (λ z. z < n)
+all-numbers n (x ∷ xs) f = All-cons (λ z. z < n) x.entry.number (numbers xs) (f x (inl refl)) (all-numbers n xs (λ e p. f e (inr p)))
+
+numbers-append : (xs ys : List Noted) → numbers (xs ++ ys) ≡ numbers xs ++ numbers ys
+numbers-append [] ys = refl
+numbers-append (x ∷ xs) ys = ap (λ l. x.entry.number ∷ l) (numbers-append xs ys)
+
+line-rises : (i : ℕ) (h : List Noted) → Lawful h → Rises (numbers (line i h))
+line-rises i [] l = tt
+line-rises i (x ∷ h) l = by (is_in i x) (line-rises i h l.1)
+  where
+    by : (b : Bool) → Rises (numbers (line i h)) → Rises (numbers (if b then line i h ++ x ∷ [] else line i h))
+    by true r = subst Rises (sym (numbers-append (line i h) (x ∷ []))) (Rises-push (numbers (line i h)) x.entry.number r (all-numbers x.entry.number (line i h) (λ e p. below x h e l.0 l.1 (in-line i h e p))))
+    by false r = r
 
 pub known_lists_are_lawful : KnownListsAreLawful
-known_lists_are_lawful h l = record { managed = managed-list h l; peer = peer-list h l }
+known_lists_are_lawful h l = record {
+  managed = managed-list h l;
+  peer = peer-list h l;
+  rise = λ i. line-rises i h l;
+  managed_side = record { rise = line-rises 0 h l; noted = line 0 h; same = refl; leads = managed-list h l };
+  peer_side = record { rise = line-rises 1 h l; noted = line 1 h; same = refl; leads = peer-list h l };
+}
 
 -- a thread is known by its place
 place-tells : (s t : Thread) → IsThread s → IsThread t → nat_eq (caller_place t) (caller_place s) ≡ is_thread s t

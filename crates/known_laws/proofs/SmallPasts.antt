@@ -1,5 +1,5 @@
 -- The small pasts and states, computed. Where two entries have one number, that no past has two is what refutes the conclusion.
-use Rattle.std.proofs.Common.{◌≡◌, inl, inr, ⊎_elim, ℕ, zero, suc, ◌≤◌, true, false, List, [], ◌∷◌, None, refl, sym, ap, ◌∙◌, arith, true≢false}
+use Rattle.std.proofs.Common.{◌≡◌, inl, inr, ⊎_elim, ℕ, Bool, zero, suc, ◌≤◌, true, false, List, [], ◌∷◌, None, refl, sym, ap, ◌∙◌, arith, true≢false, if◌then◌else◌}
 use Rattle.joint_model.specs.declared.names.Thread.TheVariants.{M, P}
 use Rattle.joint_model.specs.declared.names.Phase.TheVariants as at
 use Rattle.joint_model.specs.declared.events.Entry.{Entry}
@@ -8,7 +8,9 @@ use Rattle.joint_model.specs.Control.{Opened}
 use Rattle.joint_model.specs.Cycles.{IsSnapshot}
 use Rattle.joint_model.specs.Draws.{Drawn, NumberedFrom}
 use Rattle.joint_model.specs.Heaps.{IsLive}
-use Rattle.joint_model.specs.Linked.{MayCome, opening_linkage}
+use Rattle.joint_model.specs.Lines.{is_peer_event}
+use Rattle.joint_model.specs.Linked.{Linkage, MayCome, opening_linkage}
+use Rattle.joint_model.specs.Sides.{managed_rules, peer_rules}
 use Rattle.joint_model.specs.Managed.{opening_managed}
 use Rattle.joint_model.specs.ManagedReplay.{ManagedReplay, MayContract, opening_replay}
 use Rattle.joint_model.specs.PeerReplay.{MayClear, MayRelease, MayRestore, MayWeaken, opening_peer_replay}
@@ -16,7 +18,7 @@ use Rattle.joint_model.specs.Told.{Noted, phase_of}
 use Rattle.joint_model.proofs.Deciding.{none_some}
 use Rattle.joint_model.proofs.Members.{Contains-nil, Contains-here}
 use Rattle.known_laws.specs.Conditions.{IsOpenHere}
-use Rattle.known_laws.specs.Drawn.{AreDrawn, IsToldIn, target_of}
+use Rattle.known_laws.specs.Drawn.{AreDrawn, IsToldIn, drawn_by}
 use Rattle.known_laws.specs.Growing.{AreKnown, IsHistory, entries, grown}
 use Rattle.known_laws.specs.Known.{TellsPlainly}
 use Rattle.known_laws.specs.Driving.{IsPastKept}
@@ -128,11 +130,14 @@ released l = ⊎_elim
 
 -- a wrong target
 no-target : (h : List Noted) → IsToldIn h wrongly_drawn → ⊥
-no-target h t =
-    let e : (a_drop 0).entry.made.op ≡ t.entry.entry.made.op = ap (λ (z : Drawn). z.entry.made.op) t.same in
-    let f : wrongly_drawn.target ≡ target_of (end_of t.back).managed.managed t.entry.entry.made.caller t.entry.entry.made.op t.entry.entry.made.reply = ap (λ (z : Drawn). z.target) t.same in
-    let g : wrongly_drawn.target ≡ None = f ∙ ap (λ o. target_of (end_of t.back).managed.managed t.entry.entry.made.caller o t.entry.entry.made.reply) (sym e) in
-    cc
+no-target h t = by (is_peer_event t.entry.entry.made.caller t.entry.entry.made.op) t.same
+  where
+    target : (s : Linkage) → (a_drop 0).entry ≡ t.entry.entry → wrongly_drawn.target ≡ managed_rules.target s.managed t.entry.entry.made → ⊥
+    target s e f = let g : wrongly_drawn.target ≡ None = f ∙ ap (λ (z : Entry). managed_rules.target s.managed z.made) (sym e) in cc
+
+    by : (b : Bool) → wrongly_drawn ≡ (if b then drawn_by peer_rules (end_of t.back).peer t.entry else drawn_by managed_rules (end_of t.back).managed t.entry) → ⊥
+    by true e = (let g : wrongly_drawn.target ≡ None = ap (λ (z : Drawn). z.target) e in cc)
+    by false e = target (end_of t.back) (ap (λ (z : Drawn). z.entry) e) (ap (λ (z : Drawn). z.target) e)
 
 pub wrong : AreDrawn wrong_lines → ⊥
 wrong a = no-target a.known.past (a.told 0 wrongly_drawn (Contains-here wrongly_drawn []))

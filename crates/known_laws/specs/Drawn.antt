@@ -1,41 +1,22 @@
 -- Lines with what is drawn beside each entry: the object to which it sets a cell, and the objects that it frees.
-use Rattle.std.specs.Prelude.{◌≡◌, ℕ, ◌⊎◌, List, [], ◌∷◌, ◌++◌, map, Contains, Option, Some, None, if◌then◌else◌}
-use Rattle.joint_model.specs.declared.names.MNum.{MNum}
-use Rattle.joint_model.specs.declared.names.Thread.{Thread}
-use Rattle.joint_model.specs.declared.lines.Act.TheVariants as act
+use Rattle.std.specs.Prelude.{◌≡◌, ℕ, ◌⊎◌, if◌then◌else◌, List, [], ◌∷◌, ◌++◌, map, Contains}
 use Rattle.joint_model.specs.declared.events.Entry.{Entry}
-use Rattle.joint_model.specs.declared.events.Op.{Op}
-use Rattle.joint_model.specs.declared.events.Op.TheVariants as op
-use Rattle.joint_model.specs.declared.events.Reply.{Reply}
-use Rattle.joint_model.specs.declared.events.Reply.TheVariants as says
 use Rattle.joint_model.specs.Draws.{Drawn, NumberedFrom}
-use Rattle.joint_model.specs.Heaps.{slot, place}
+use Rattle.joint_model.specs.Histories.{managed_numbers}
+use Rattle.joint_model.specs.Lines.{is_peer_event}
 use Rattle.joint_model.specs.Linked.{Linkage, MayCome}
-use Rattle.joint_model.specs.Managed.{Managed}
-use Rattle.joint_model.specs.Run.{thread_number}
-use Rattle.joint_model.specs.Told.{Told, Noted, snap_of, resolution_of}
+use Rattle.joint_model.specs.Sides.{SideRules, managed_rules, peer_rules}
+use Rattle.joint_model.specs.Told.{Noted}
 use Rattle.known_laws.specs.Pasts.{Lawful, end_of, is_in}
 use Rattle.known_laws.specs.Growing.{AreKnown, AreBelow, Begin, AreLonger, untold}
 
--- the number of an object, or none, as an object
-abbrev pub as_object : Option ℕ → Option MNum
-as_object None = None
-as_object (Some m) = Some record { 0 = m }
+-- the entry as a side draws it in a state: with the object to which it sets a cell and the objects that it frees
+abbrev pub drawn_by : {S : Type 0} → SideRules S → S → Noted → Drawn
+drawn_by r s n = record { entry = n.entry; target = r.target s n.entry.made; freed = r.frees n.told }
 
--- the object to which the event sets a cell: that of its variable
-abbrev pub target_of : Managed → Thread → Op → Reply → Option MNum
-target_of s t (op.Line (act.Weak k v)) says.Ok = as_object (slot s.heap.vars (place (thread_number t) v.0))
-target_of s t o reply = None
-
--- the managed objects that an entry frees, as it is told
-abbrev pub frees : Told → List ℕ
-frees (snap_of freed candidates dead) = freed
-frees (resolution_of answers freed) = freed
-frees _ = []
-
--- the entry as it is drawn at a state
+-- as its own side draws it
 abbrev pub drawn : Linkage → Noted → Drawn
-drawn s n = record { entry = n.entry; target = target_of s.managed.managed n.entry.made.caller n.entry.made.op n.entry.made.reply; freed = map (λ m. record { 0 = m }) (frees n.told) }
+drawn s n = if is_peer_event n.entry.made.caller n.entry.made.op then drawn_by peer_rules s.peer n else drawn_by managed_rules s.managed n
 
 -- it was drawn as the past tells
 pub record IsToldIn (h : List Noted) (d : Drawn) : Type 0 where
@@ -76,10 +57,10 @@ pub record AreEither (ls ms ns : ℕ → List Drawn) : Type 0 where
 abbrev pub DrawnLinesJoin : Type 0
 DrawnLinesJoin = (whole : List Entry) (ls ms ns : ℕ → List Drawn) → AreDrawn ls → AreDrawn ms → NumberedFrom 0 whole → Begin whole (λ i. of_drawn (ls i)) → Begin whole (λ i. of_drawn (ms i)) → AreEither ls ms ns → AreDrawn ns
 
--- the objects that the entries of a past freed, earliest first
+-- the objects that the entries of a past are drawn with as freed, earliest first
 abbrev pub freed_in : List Noted → List ℕ
 freed_in [] = []
-freed_in (x ∷ h) = freed_in h ++ frees x.told
+freed_in (x ∷ h) = freed_in h ++ managed_numbers (drawn (end_of h) x).freed
 
 -- they are those that are freed at its end
 abbrev pub FreedIsDrawn : Type 0

@@ -6,7 +6,7 @@ use Rattle.joint_model.specs.declared.names.Thread.TheVariants.{M}
 use Rattle.joint_model.specs.declared.events.Entry.{Entry}
 use Rattle.joint_model.specs.Control.{caller_place, candidates_of, doing_at, last_line}
 use Rattle.joint_model.specs.Histories.{Finished, managed_numbers, peer_numbers}
-use Rattle.joint_model.specs.Linked.{Linkage, MayCome, AllMayCome, IsWhole, IsLinked, opening_linkage, replayed, linkage_after}
+use Rattle.joint_model.specs.Linked.{Linkage, MayCome, AllMayCome, IsWhole, IsLinked, IsLinkedBy, opening_linkage, replayed, linkage_after}
 use Rattle.joint_model.specs.PeerReplay.{Mirror}
 use Rattle.joint_model.specs.Told.{Told, Noted, nothing}
 use Rattle.known_laws.specs.Known.{TellsPlainly}
@@ -62,13 +62,18 @@ pub record AreLonger (ls ms ns : ℕ → List Entry) : Type 0 where
   pub first : (i : ℕ) → IsPrefix (ls i) (ns i)
   pub second : (i : ℕ) → IsPrefix (ms i) (ns i)
 
--- the longer lines are known; a line that is the first one's is so with what is told; and each entry stays with what is told of it
+-- the longer lines are known; a line that is the first one's is so with what is told; each entry stays with what is told of it; and
+-- each side's state is that of the longer line
 pub record AreJoined (a b : List Noted) (ls ms ns : ℕ → List Entry) : Type 0 where
   pub joined : AreKnown ns
   pub first : (i : ℕ) → ns i ≡ ls i → line i joined.past ≡ line i a
   pub second : (i : ℕ) → ns i ≡ ms i → line i joined.past ≡ line i b
   pub first_stay : (x : Noted) → In a x → In joined.past x
   pub second_stay : (x : Noted) → In b x → In joined.past x
+  pub managed_first : ns 0 ≡ ls 0 → (end_of joined.past).managed ≡ (end_of a).managed
+  pub managed_second : ns 0 ≡ ms 0 → (end_of joined.past).managed ≡ (end_of b).managed
+  pub peer_first : ns 1 ≡ ls 1 → (end_of joined.past).peer ≡ (end_of a).peer
+  pub peer_second : ns 1 ≡ ms 1 → (end_of joined.past).peer ≡ (end_of b).peer
 
 abbrev pub KnownLinesJoin : Type 0
 KnownLinesJoin = (whole : List Entry) (ls ms ns : ℕ → List Entry) (a : AreKnown ls) (b : AreKnown ms) → NumberedFrom 0 whole → Begin whole ls → Begin whole ms → AreLonger ls ms ns → AreJoined a.past b.past ls ms ns
@@ -118,3 +123,12 @@ pub record HasEnded (h : Finished) (s : Linkage) : Type 0 where
 
 abbrev pub KnownWholeIsLinked : Type 0
 KnownWholeIsLinked = (h : Finished) (lines : ℕ → List Entry) (k : AreKnown lines) → NumberedFrom 0 h.entries → lines 0 ≡ entries_in 0 h.entries → lines 1 ≡ entries_in 1 h.entries → HasEnded h (end_of k.past) → IsLinked h
+
+-- the lines of a linked history are known, and the sides' states are those at its end
+pub record IsKnownWhole (h : Finished) (noted : List Noted) : Type 0 where
+  pub known : AreKnown (λ i. entries_in i h.entries)
+  pub managed : (end_of known.past).managed ≡ (replayed opening_linkage noted).managed
+  pub peer : (end_of known.past).peer ≡ (replayed opening_linkage noted).peer
+
+abbrev pub LinkedIsKnown : Type 0
+LinkedIsKnown = (h : Finished) (noted : List Noted) → IsLinkedBy h noted → IsKnownWhole h noted

@@ -1,21 +1,26 @@
 -- Each side's own list, as a past has it: lawful by itself, and giving that side's state.
-use Rattle.std.specs.Prelude.{◌≡◌, ℕ, List, filter, ◌+◌}
+use Rattle.std.specs.Prelude.{◌≡◌, ℕ, List, filter, map, ◌+◌}
 use Rattle.joint_model.specs.declared.names.Thread.{Thread}
 use Rattle.joint_model.specs.declared.events.Entry.{Entry}
 use Rattle.joint_model.specs.Control.{caller_place}
 use Rattle.joint_model.specs.Lines.{IsThread}
 use Rattle.joint_model.specs.ManagedReplay.{opening_replay}
 use Rattle.joint_model.specs.PeerReplay.{opening_peer_replay, is_thread}
-use Rattle.joint_model.specs.Sides.{managed_rules, peer_rules, LeadsTo}
+use Rattle.joint_model.specs.Components.{Rises}
+use Rattle.joint_model.specs.Sides.{managed_rules, peer_rules, LeadsTo, IsReplayed}
 use Rattle.joint_model.specs.Told.{Noted}
 use Rattle.known_laws.specs.Pasts.{line, end_of, Lawful}
-use Rattle.known_laws.specs.Growing.{AreKnown, entries_in}
+use Rattle.known_laws.specs.Growing.{AreKnown, entries, entries_in}
 use Rattle.joint_model.specs.Draws.{NumberedFrom}
 
--- each side's list in a past is lawful, and leads to that side's state at the past's end
+-- each side's list in a past is lawful, and leads to that side's state at the past's end, so that the side is the replay of its
+-- entries; and in each line numbers rise
 pub record AreListsLawful (h : List Noted) : Type 0 where
   pub managed : LeadsTo managed_rules opening_replay (line 0 h) (end_of h).managed
   pub peer : LeadsTo peer_rules opening_peer_replay (line 1 h) (end_of h).peer
+  pub rise : (i : ℕ) → Rises (map (λ e. e.number) (entries (line i h)))
+  pub managed_side : IsReplayed managed_rules (record { entries = entries (line 0 h); state = (end_of h).managed })
+  pub peer_side : IsReplayed peer_rules (record { entries = entries (line 1 h); state = (end_of h).peer })
 
 abbrev pub KnownListsAreLawful : Type 0
 KnownListsAreLawful = (h : List Noted) → Lawful h → AreListsLawful h

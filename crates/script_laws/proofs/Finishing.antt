@@ -12,7 +12,8 @@ use Rattle.joint_model.specs.Told.{Noted}
 use Rattle.joint_model.proofs.HistoryLists.{managed-one, peers-one, four-lists, numbers-take}
 use Rattle.script_laws.specs.Holding.{HoldsInOrder, opening_standing, numbered_from}
 use Rattle.script_laws.specs.Laws.{IsOneHistory}
-use Rattle.script_laws.proofs.Retelling.{entries_of, Retold, plain_list}
+use Rattle.known_laws.specs.Growing.{entries}
+use Rattle.known_laws.proofs.Retelling.{Retold, plain_list}
 use Rattle.script_laws.proofs.Lining.{lines-one}
 
 -- of the same notes told plainly
@@ -24,7 +25,7 @@ notes-tell g h a b k k' e =
     sym k.peer ∙ (ap (λ (l : List Noted). (replayed opening_linkage l).peer) e ∙ k'.peer) in
     let count : (managed_end a.noted).taken ≡ (managed_end b.noted).taken = ap (λ (m : ManagedReplay). m.managed.taken) managed in
     let queue : (managed_end a.noted).notices ≡ (managed_end b.noted).notices = ap (λ (m : ManagedReplay). m.managed.notices) managed in
-    let entries : g.entries ≡ h.entries = sym a.linked.same ∙ (sym k.same ∙ (ap entries_of e ∙ (k'.same ∙ b.linked.same))) in
+    let listed : g.entries ≡ h.entries = sym a.linked.same ∙ (sym k.same ∙ (ap entries e ∙ (k'.same ∙ b.linked.same))) in
     let rows : g.freed_managed ≡ h.freed_managed = managed-one g.freed_managed h.freed_managed (a.linked.freed_managed ∙ (ap (λ (m : ManagedReplay). m.managed.heap.freed) managed ∙ sym b.linked.freed_managed)) in
     let peers : g.freed_peers ≡ h.freed_peers = peers-one g.freed_peers h.freed_peers (a.linked.freed_peers ∙ (ap (λ (m : PeerReplay). m.peers.heap.freed) peer ∙ sym b.linked.freed_peers)) in
     let taken = (managed_end a.noted).taken in
@@ -32,9 +33,9 @@ notes-tell g h a b k k' e =
     a.linked.notices ∙ ((λ i. take (count i) (queue i)) ∙ (sym b.linked.notices ∙ ap (λ (n : ℕ). take n (managed_numbers h.notices)) (sym count))) in
     let notices : take taken g.notices ≡ take taken h.notices = managed-one (take taken g.notices) (take taken h.notices) (numbers-take taken g.notices ∙ (numbers ∙ sym (numbers-take taken h.notices))) in
     record {
-      shown = record { entries = entries; freed_managed = rows; freed_peers = peers; notices = notices };
+      shown = record { entries = listed; freed_managed = rows; freed_peers = peers; notices = notices };
       taken = count;
-      whole = λ p q. four-lists g h entries rows peers (managed-one g.notices h.notices (p ∙ (queue ∙ sym q)));
+      whole = λ p q. four-lists g h listed rows peers (managed-one g.notices h.notices (p ∙ (queue ∙ sym q)));
     }
 
 pub one-history : (script : List (Thread × Act)) (g h : Finished) (a : IsLinked g) (b : IsLinked h) → HoldsInOrder script g.entries → HoldsInOrder script h.entries → IsOneHistory g h a b

@@ -1,5 +1,4 @@
 pub mod OneNote
-pub mod Retelling
 pub mod Sharing
 pub mod Lining
 pub mod Finishing

@@ -22,7 +22,8 @@ use Rattle.joint_model.specs.Told.{Told, Noted}
 use Rattle.joint_model.specs.Phases.{next_phase, phases_left, phases_of, IsEventOf, AreTimes, AreMarkAfterSweep, AreRestores, ArePhase, candidates_after, ArePhases, NamesPhase, AreRefusal}
 use Rattle.script_laws.specs.Holding.{AreEventsAfter, Standing, AreWord, AreEvents, standing_after, HoldsLines}
 use Rattle.script_laws.proofs.OneNote.{Agree}
-use Rattle.script_laws.proofs.Retelling.{entries_of, AllPlain}
+use Rattle.known_laws.specs.Growing.{entries}
+use Rattle.known_laws.proofs.Retelling.{AllPlain}
 use Rattle.script_laws.proofs.Sharing.{OneOn, Shares, Comes, comes-of, agree, next-no, one-op, one-phase, one-clear, shares-none, shares-cons, shares-then, shares-by, times-share}
 
 -- a `mark` sweeps a peer thread's marking exactly where one is open
@@ -146,13 +147,13 @@ nil-right : (xs : List Entry) → xs ++ [] ≡ xs
 nil-right [] = refl
 nil-right (x ∷ xs) = ap (λ (l : List Entry). x ∷ l) (nil-right xs)
 
-none-left : (ns : List Noted) → entries_of ns ≡ [] → ns ≡ []
+none-left : (ns : List Noted) → entries ns ≡ [] → ns ≡ []
 none-left [] e = refl
 none-left (n ∷ ns) e = absurd (cc)
 
 -- all lines, and what is left at the end
-pub lines-one : (lines : List (ℕ × (Thread × Act))) (st : Standing) (es es' : List Entry) (k : ℕ) (s : Linkage) (ns ns' : List Noted) → HoldsLines st lines es → HoldsLines st lines es' → entries_of ns ≡ es → entries_of ns' ≡ es'
-    → NumberedFrom k (entries_of ns) → NumberedFrom k (entries_of ns')
+pub lines-one : (lines : List (ℕ × (Thread × Act))) (st : Standing) (es es' : List Entry) (k : ℕ) (s : Linkage) (ns ns' : List Noted) → HoldsLines st lines es → HoldsLines st lines es' → entries ns ≡ es → entries ns' ≡ es'
+    → NumberedFrom k (entries ns) → NumberedFrom k (entries ns')
     → AllPlain s ns → AllPlain s ns' → ns ≡ ns'
 lines-one [] st es es' k s ns ns' h h' e e' d d' c c' =
     let f = phases-share st.line st.candidates (phases_left st.phase) es es' h.events h'.events k s ns ns' [] [] d d' h.places h'.places (e ∙ sym (nil-right es)) (e' ∙ sym (nil-right es')) c c' in

@@ -11,10 +11,9 @@ use Rattle.joint_model.specs.declared.events.Op.{Op}
 use Rattle.joint_model.specs.declared.events.Op.TheVariants as op
 use Rattle.joint_model.specs.declared.events.Reply.{Reply}
 use Rattle.joint_model.specs.declared.events.Reply.TheVariants as says
-use Rattle.joint_model.specs.declared.events.Made.{Made}
 use Rattle.joint_model.specs.Control.{Doing, free, made, lent, gripped, given, met, Stand, idle, snapped, contracted, weakening, marked, restoring, restored, doing_at, candidates_of, MayStart, MayAdopt, MayLand, MayMeet, MayRelease, ThreadAllows, MaySnap, MayContractNow, MayMirrorNow, MayWeakenNow, MayBeginNow, MaySweepNow, MayRestoreNow, MayClearNow, MayResolveNow, MayAbandonNow, MayRefuseNow, DriverAllows, CallerAllows, IsPhaseOf}
 use Rattle.joint_model.specs.Lines.{IsEvent, is_peer_event}
-use Rattle.joint_model.specs.Linked.{Linkage, MayCome, SideLawful}
+use Rattle.joint_model.specs.Linked.{Linkage, SideLawful}
 use Rattle.joint_model.specs.Managed.{Managed}
 use Rattle.joint_model.specs.ManagedReplay.{ManagedReplay, managed_answer, refusal_to}
 use Rattle.joint_model.specs.PeerReplay.{peer_answer}
@@ -23,6 +22,7 @@ use Rattle.joint_model.specs.Told.{Told, Noted, references_of, resolution_of, ph
 use Rattle.known_laws.specs.Known.{TellsPlainly}
 use Rattle.known_laws.proofs.OneContraction.{is_one_contraction}
 use Rattle.known_laws.proofs.Telling.{IsTelling, managed_told, peer_told, mirrors, resolves_alike, phases, seen-cycle, seen-snap}
+use Rattle.known_laws.proofs.Retelling.{making, noting, PlainComes}
 
 start-cites : (d : Doing) (c c' : Option ℕ) → MayStart d c → MayStart d c' → c ≡ c'
 start-cites free c c' a b = a ∙ sym b
@@ -131,13 +131,6 @@ caller-cites s (M t) l o r r' c c' x y a b = thread-cites (doing_at s.control t)
 caller-cites s (P t) l o r r' c c' x y a b = a ∙ sym b
 caller-cites s C l o r r' c c' x y a b = driver-cites s.control.stand s.managed.managed s.peer.peers.issued o r r' c c' x y a b
 
--- what an entry is made of, and an entry with what is told beside it
-abbrev pub making : Thread → ℕ → Op → Reply → Option ℕ → Made
-making t l o r c = record { caller = t; index = l; op = o; reply = r; cites = c }
-
-abbrev pub noting : ℕ → Thread → ℕ → Op → Reply → Option ℕ → Told → Noted
-noting n t l o r c x = record { entry = record { number = n; made = making t l o r c }; told = x }
-
 -- two replies to refusals of one word name the same phase, where that word's replies name it
 abbrev pub Agree : Op → Reply → Reply → Type 0
 Agree (op.Refused word.Cycle) r r' = Unit {0}
@@ -193,10 +186,6 @@ side-reply : (side : Bool) (s : Linkage) (t : Thread) (l : ℕ) (o : Op) (r r' :
     → SideLawful side s (making t l o r c) x → SideLawful side s (making t l o r' c) y → r ≡ r'
 side-reply true s t l o r r' c x y ex a b = a.replies ∙ (ap (λ (z : Told). (peer_answer s.peer t o c z).reply) ex ∙ sym b.replies)
 side-reply false s t l o r r' c x y ex a b = a.replies ∙ (ap (λ (z : Told). (managed_answer s.managed t o z).reply) ex ∙ sym b.replies)
-
--- the entry may come, and is told plainly
-abbrev pub PlainComes : Linkage → Noted → Type 0
-PlainComes s n = MayCome s n × TellsPlainly s.control.stand n.entry.made.op n.told
 
 one-noted : (s : Linkage) (t : Thread) (l : ℕ) (o : Op) (n n' : ℕ) (r r' : Reply) (c c' : Option ℕ) (x y : Told) → n ≡ n' → PlainComes s (noting n t l o r c x) → PlainComes s (noting n' t l o r' c' y) → Agree o r r' → noting n t l o r c x ≡ noting n' t l o r' c' y
 one-noted s t l o n n' r r' c c' x y en a b g =

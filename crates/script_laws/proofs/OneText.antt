@@ -20,8 +20,9 @@ use Rattle.bridge_script.specs.Report.{event_words, reply_words, entries_text, e
 use Rattle.script_histories.proofs.Cutting.{cut-first, words-one}
 use Rattle.script_histories.proofs.Reading.{is_word}
 use Rattle.script_laws.specs.Laws.{IsOneHistory}
-use Rattle.script_laws.proofs.OneNote.{Agree, Allowed, PlainComes, one-note}
-use Rattle.script_laws.proofs.Retelling.{entries_of, AllPlain, plain_list}
+use Rattle.script_laws.proofs.OneNote.{Agree, Allowed, one-note}
+use Rattle.known_laws.specs.Growing.{entries}
+use Rattle.known_laws.proofs.Retelling.{AllPlain, plain_list, PlainComes}
 use Rattle.script_laws.proofs.Sharing.{comes-of}
 use Rattle.script_laws.proofs.Finishing.{notes-tell}
 use Rattle.script_histories.proofs.TextLines.{rest_words, whole_words, line_of, line-first, words-lack, line-whole, no-entry, place-one, words-tell}
@@ -81,14 +82,14 @@ line-one h h' s n n' number a b q =
     (λ d. (comes-of s n e refl d a, comes-of s n' e' refl (sym place.0 ∙ d) b)) in
     one-note s n n' number place.0 place.1 event (agreeing e.made.op e.made.reply e'.made.reply (names-one e.made.reply e'.made.reply (rest_words h e) (rest_words h' e') tell.2)) a b
 
-texts-one : (h h' : Finished) (k k' count : ℕ) (s : Linkage) (ns ns' : List Noted) → NumberedFrom count (entries_of ns) → NumberedFrom count (entries_of ns') → AllPlain s ns → AllPlain s ns'
-    → entries_text h (entries_of ns) ++ end_text k ≡ entries_text h' (entries_of ns') ++ end_text k' → ns ≡ ns'
+texts-one : (h h' : Finished) (k k' count : ℕ) (s : Linkage) (ns ns' : List Noted) → NumberedFrom count (entries ns) → NumberedFrom count (entries ns') → AllPlain s ns → AllPlain s ns'
+    → entries_text h (entries ns) ++ end_text k ≡ entries_text h' (entries ns') ++ end_text k' → ns ≡ ns'
 texts-one h h' k k' count s [] [] d d' c c' q = refl
-texts-one h h' k k' count s [] (n ∷ ns) d d' c c' q = absurd (no-entry h' n.entry (entries_of ns) (end_text k') _ (sym q))
-texts-one h h' k k' count s (n ∷ ns) [] d d' c c' q = absurd (no-entry h n.entry (entries_of ns) (end_text k) _ q)
+texts-one h h' k k' count s [] (n ∷ ns) d d' c c' q = absurd (no-entry h' n.entry (entries ns) (end_text k') _ (sym q))
+texts-one h h' k k' count s (n ∷ ns) [] d d' c c' q = absurd (no-entry h n.entry (entries ns) (end_text k) _ q)
 texts-one h h' k k' count s (n ∷ ns) (n' ∷ ns') d d' c c' q =
-    let es = entries_of ns in
-    let es' = entries_of ns' in
+    let es = entries ns in
+    let es' = entries ns' in
     let lines : line_of h n.entry ++ (10 ∷ (entries_text h es ++ end_text k)) ≡ line_of h' n'.entry ++ (10 ∷ (entries_text h' es' ++ end_text k')) =
     sym (line-first h n.entry es (end_text k)) ∙ (q ∙ line-first h' n'.entry es' (end_text k')) in
     let cut = cut-first 10 (line_of h n.entry) (line_of h' n'.entry) (entries_text h es ++ end_text k) (entries_text h' es' ++ end_text k') (line-whole h n.entry) (line-whole h' n'.entry) lines in

@@ -26,8 +26,9 @@ use Rattle.joint_model.specs.Peers.{Issued}
 use Rattle.joint_model.specs.Told.{Told, Noted, snap_of, references_of, resolution_of}
 use Rattle.joint_model.specs.Phases.{IsEventOf, IsClear, AreEach, AreTimes}
 use Rattle.script_laws.specs.Holding.{next_event, IsOnLine, AreOnLine}
-use Rattle.script_laws.proofs.OneNote.{Agree, Allowed, PlainComes, making, one-note}
-use Rattle.script_laws.proofs.Retelling.{entries_of, AllPlain}
+use Rattle.script_laws.proofs.OneNote.{Agree, Allowed, one-note}
+use Rattle.known_laws.specs.Growing.{entries}
+use Rattle.known_laws.proofs.Retelling.{AllPlain, PlainComes, making}
 
 -- two events of one phase that may come in one state are the same
 pub same-cycle : (k k' : Cycle) → k.0 ≡ k'.0 → k ≡ k'
@@ -180,16 +181,16 @@ pub record Share (s : Linkage) (ns ns' : List Noted) (own own' rest rest' : List
   pub here : ns ≡ front ++ back
   pub there : ns' ≡ front ++ back'
   pub one : own ≡ own'
-  pub left : entries_of back ≡ rest
-  pub left' : entries_of back' ≡ rest'
+  pub left : entries back ≡ rest
+  pub left' : entries back' ≡ rest'
   pub next : ℕ
-  pub counts : NumberedFrom next (entries_of back)
-  pub counts' : NumberedFrom next (entries_of back')
+  pub counts : NumberedFrom next (entries back)
+  pub counts' : NumberedFrom next (entries back')
   pub come : AllPlain (replayed s front) back
   pub come' : AllPlain (replayed s front) back'
 
 abbrev pub Shares : ℕ → Thread → List Entry → List Entry → Type 0
-Shares number t own own' = (k : ℕ) (s : Linkage) (ns ns' : List Noted) (rest rest' : List Entry) → NumberedFrom k (entries_of ns) → NumberedFrom k (entries_of ns') → AreOnLine number t own → AreOnLine number t own' → entries_of ns ≡ own ++ rest → entries_of ns' ≡ own' ++ rest' → AllPlain s ns → AllPlain s ns' → Share s ns ns' own own' rest rest'
+Shares number t own own' = (k : ℕ) (s : Linkage) (ns ns' : List Noted) (rest rest' : List Entry) → NumberedFrom k (entries ns) → NumberedFrom k (entries ns') → AreOnLine number t own → AreOnLine number t own' → entries ns ≡ own ++ rest → entries ns' ≡ own' ++ rest' → AllPlain s ns → AllPlain s ns' → Share s ns ns' own own' rest rest'
 
 pub shares-none : (number : ℕ) (t : Thread) → Shares number t [] []
 shares-none number t k s ns ns' rest rest' d d' p p' i i' a b = record { front = []; back = ns; back' = ns'; here = refl; there = refl; one = refl; left = i; left' = i'; next = k; counts = d; counts' = d'; come = a; come' = b }
@@ -200,8 +201,8 @@ shares-cons number t e e' es es' one next k s (n ∷ ns) [] rest rest' d d' p p'
 shares-cons number t e e' es es' one next k s (n ∷ ns) (n' ∷ ns') rest rest' d d' p p' i i' a b =
     let h : n.entry ≡ e = cc in
     let h' : n'.entry ≡ e' = cc in
-    let j : entries_of ns ≡ es ++ rest = cc in
-    let j' : entries_of ns' ≡ es' ++ rest' = cc in
+    let j : entries ns ≡ es ++ rest = cc in
+    let j' : entries ns' ≡ es' ++ rest' = cc in
     let same : n ≡ n' = one s n n' (d.0 ∙ sym d'.0) h h' p.0 p'.0 a.0 b.0 in
     let entry : e ≡ e' = sym h ∙ ((λ i. (same i).entry) ∙ h') in
     let b' = subst (λ (x : Noted). AllPlain (linkage_after s x) ns') (sym same) b.1 in

@@ -13,14 +13,14 @@ use Rattle.std.specs.Prelude.{if◌then◌else◌}
 use Rattle.script_laws.specs.Holding.{entries_by}
 use Rattle.script_laws.specs.Ending.{Resolves, ResolveComes, IsEnded, AllCyclesEnd, ThreadHistoryEnds}
 use Rattle.script_laws.proofs.Ending.{held-thread-end}
-use Rattle.script_laws.proofs.Retelling.{entries_of}
+use Rattle.known_laws.specs.Growing.{entries}
 
 -- the entries are events that their callers can make
 abbrev AreAllEvents : List Entry → Type 0
 AreAllEvents [] = Unit {0}
 AreAllEvents (e ∷ es) = IsEvent e.made.caller e.made.op × AreAllEvents es
 
-all-events : (s : Linkage) (ns : List Noted) → AllMayCome s ns → AreAllEvents (entries_of ns)
+all-events : (s : Linkage) (ns : List Noted) → AllMayCome s ns → AreAllEvents (entries ns)
 all-events s [] a = tt
 all-events s (n ∷ ns) a = (a.0.event, all-events (linkage_after s n) ns a.1)
 

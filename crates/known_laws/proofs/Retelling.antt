@@ -1,5 +1,6 @@
--- Every list of notes whose entries may come has one with the same entries that is told plainly, and leads to the same sides.
-use Rattle.std.proofs.Common.{◌≡◌, ◌⊎◌, inl, inr, ⊎_elim, ℕ, Bool, true, false, List, [], ◌∷◌, length, map, Option, refl, sym, ◌∙◌, ap, subst, true≢false}
+-- Every list of notes whose entries may come has one with the same entries that is told plainly, and leads to the same sides: where
+-- the weakened phase wasn't seen, the mirrored one is told in its place, and the stands differ in that alone.
+use Rattle.std.proofs.Common.{◌≡◌, ◌⊎◌, inl, inr, ⊎_elim, ℕ, Bool, true, false, List, [], ◌∷◌, length, Option, refl, sym, ◌∙◌, ap, subst, true≢false}
 use Rattle.joint_model.specs.declared.names.Thread.{Thread}
 use Rattle.joint_model.specs.declared.names.Thread.TheVariants.{M, P, C}
 use Rattle.joint_model.specs.declared.names.Phase.{Phase}
@@ -8,19 +9,27 @@ use Rattle.joint_model.specs.declared.names.PhaseWord.{PhaseWord}
 use Rattle.joint_model.specs.declared.events.Op.{Op}
 use Rattle.joint_model.specs.declared.events.Op.TheVariants as op
 use Rattle.joint_model.specs.declared.events.Reply.{Reply}
-use Rattle.joint_model.specs.declared.events.Entry.{Entry}
+use Rattle.joint_model.specs.declared.events.Made.{Made}
 use Rattle.joint_model.specs.Control.{Stand, Opened, idle, snapped, contracted, weakening, marked, restoring, restored, candidates_of, stand_after, seen_weakened, DriverAllows, IsPhaseOf}
 use Rattle.joint_model.specs.Linked.{Linkage, MayCome, AllMayCome, linkage_after, replayed}
 use Rattle.joint_model.specs.Managed.{Managed}
 use Rattle.joint_model.specs.ManagedReplay.{ManagedReplay, MayRefuse, refusal_to}
 use Rattle.joint_model.specs.Peers.{Issued}
 use Rattle.joint_model.specs.Told.{Told, Noted, phase_of}
+use Rattle.known_laws.specs.Growing.{entries}
 use Rattle.known_laws.specs.Known.{TellsPlainly}
 use Rattle.known_laws.proofs.Telling.{retold, plainly_by, IsTelling}
-use Rattle.script_laws.proofs.OneNote.{PlainComes, noting}
 
-abbrev pub entries_of : List Noted → List Entry
-entries_of ns = map (λ n. n.entry) ns
+-- what an entry is made of, and an entry with what is told beside it
+abbrev pub making : Thread → ℕ → Op → Reply → Option ℕ → Made
+making t l o r c = record { caller = t; index = l; op = o; reply = r; cites = c }
+
+abbrev pub noting : ℕ → Thread → ℕ → Op → Reply → Option ℕ → Told → Noted
+noting n t l o r c x = record { entry = record { number = n; made = making t l o r c }; told = x }
+
+-- the entry may come, and is told plainly
+abbrev pub PlainComes : Linkage → Noted → Type 0
+PlainComes s n = MayCome s n × TellsPlainly s.control.stand n.entry.made.op n.told
 
 abbrev pub AllPlain : Linkage → List Noted → Type 0
 AllPlain s [] = Unit {0}
@@ -166,7 +175,7 @@ plainly s z k (P t) l o r c x e a = record {
 -- a list of notes that is told plainly
 pub record Retold (t : Linkage) (s : Linkage) (ns : List Noted) : Type 0 where
   pub notes : List Noted
-  pub same : entries_of notes ≡ entries_of ns
+  pub same : entries notes ≡ entries ns
   pub plain : AllPlain t notes
   pub managed : (replayed t notes).managed ≡ (replayed s ns).managed
   pub peer : (replayed t notes).peer ≡ (replayed s ns).peer
