@@ -64,6 +64,22 @@ bring-same a says.Ok jm w = w
 bring-same a says.Gone jm w = w
 bring-same a _ jm w = w
 
+-- a thread that may end a marking is found to be one
+pub same-thread : (t : Thread) → is_thread t t ≡ true
+same-thread (M n) = (Decides-eqb n n).1 refl
+same-thread (P n) = (Decides-eqb n n).1 refl
+same-thread C = refl
+
+or-right : (a : Bool) → (a || true) ≡ true
+or-right true = refl
+or-right false = refl
+
+pub may-end : (t u : Thread) → (t ≡ C) ⊎ (t ≡ u) → (is_thread t C || is_thread t u) ≡ true
+may-end t u w = elim w [
+  | inl e ↦ subst (λ z. (is_thread z C || is_thread z u) ≡ true) (sym e) refl
+  | inr e ↦ subst (λ z. (is_thread t C || is_thread t z) ≡ true) e (subst (λ z. (is_thread t C || z) ≡ true) (sym (same-thread t)) (or-right (is_thread t C)))
+]
+
 module _ (r : ManagedReplay) (s : PeerReplay) (ds : List Doing) (d : Stand) (k : AreKept r s ds d) (flags : List Bool) (jm : Option JointMarking) (ag : Agrees r.managed s flags jm) where
   abbrev j : Joint
   j = joint_of r.managed s flags jm
@@ -128,21 +144,6 @@ module _ (r : ManagedReplay) (s : PeerReplay) (ds : List Doing) (d : Stand) (k :
   step-begin t reply told q = let w = begin-by s.marking jm t reply refl refl ag.markings q in record { flags_after = flags; marking_after = w.0; event = w.1; agrees = w.2 }
 
   -- a sweep ends a marking that the thread may end, or leaves all as it is
-  same-thread : (t : Thread) → is_thread t t ≡ true
-  same-thread (M n) = (Decides-eqb n n).1 refl
-  same-thread (P n) = (Decides-eqb n n).1 refl
-  same-thread C = refl
-
-  or-right : (a : Bool) → (a || true) ≡ true
-  or-right true = refl
-  or-right false = refl
-
-  may-end : (t u : Thread) → (t ≡ C) ⊎ (t ≡ u) → (is_thread t C || is_thread t u) ≡ true
-  may-end t u w = elim w [
-    | inl e ↦ subst (λ z. (is_thread z C || is_thread z u) ≡ true) (sym e) refl
-    | inr e ↦ subst (λ z. (is_thread t C || is_thread t z) ≡ true) e (subst (λ z. (is_thread t C || z) ≡ true) (sym (same-thread t)) (or-right (is_thread t C)))
-  ]
-
   may-not : (n : ℕ) (u : Thread) (b : Bool) → is_thread (P n) u ≡ b → (P n ≡ u → ⊥) → b ≡ false
   may-not n u true e w = absurd (w (same_thread (P n) u e))
   may-not n u false e w = refl

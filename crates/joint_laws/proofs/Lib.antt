@@ -82,3 +82,6 @@ pub mod ReadsAside
 pub mod KeptPins
 pub mod Places
 pub mod MarkedOnce
+pub mod FreedLists
+pub mod GoneAfter
+pub mod ReadingsGoneAfter

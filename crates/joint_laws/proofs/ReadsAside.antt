@@ -138,7 +138,7 @@ module _ (s u : Linkage) (k : AreAlike s u) where
       }
 
 -- the reply of a read that isn't set aside is that of the managed state
-standing-reply : (ns : List Noted) (cells : List (Option ℕ)) (s : Managed) (i : ℕ) (t : Thread) (k : ℕ) (r : Reply) → is_set_aside r ≡ false → IsReadReply ns cells s i t k r → r ≡ (read_cell s (thread_number t) k).reply
+pub standing-reply : (ns : List Noted) (cells : List (Option ℕ)) (s : Managed) (i : ℕ) (t : Thread) (k : ℕ) (r : Reply) → is_set_aside r ≡ false → IsReadReply ns cells s i t k r → r ≡ (read_cell s (thread_number t) k).reply
 standing-reply ns cells s i t k (says.Pending c) e w = absurd (let f : true ≡ false = e in cc)
 standing-reply ns cells s i t k says.Unset e w = absurd (let f : true ≡ false = e in cc)
 standing-reply ns cells s i t k _ e w = w

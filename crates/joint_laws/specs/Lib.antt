@@ -10,3 +10,4 @@ pub mod JointAgreement
 pub mod RunLaws
 pub mod ReadingLaws
 pub mod OwnMarkingLaws
+pub mod AfterwardsLaws

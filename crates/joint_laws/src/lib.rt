@@ -3,6 +3,7 @@
 // Each function is a law: its body is empty, and its contract is a statement of `specs/`.
 #![tactic(auto)]
 
+mod afterwards;
 mod freeing;
 mod graphs;
 mod linked;
@@ -11,6 +12,10 @@ mod markings;
 mod readings;
 mod runs;
 
+pub use afterwards::{
+    none_is_mirrored_after_a_clear, reads_of_freed_objects_are_gone,
+    weak_reads_of_freed_peers_are_gone,
+};
 pub use freeing::{resolutions_free_unreached_rows, snapshots_free_unreached_rows};
 pub use graphs::{Graph, mirror_edges_follow_walks, walks_follow_mirror_edges};
 pub use linked::{
