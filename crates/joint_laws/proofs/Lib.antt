@@ -61,6 +61,8 @@ pub mod RunsFreeTwins
 pub mod SoundRuns
 pub mod JointStates
 pub mod PeerHeaps
+pub mod FreedRows
+pub mod Edges
 pub mod NewRows
 pub mod Watching
 pub mod BroughtBack
@@ -84,4 +86,5 @@ pub mod Places
 pub mod MarkedOnce
 pub mod FreedLists
 pub mod GoneAfter
+pub mod Unions
 pub mod ReadingsGoneAfter

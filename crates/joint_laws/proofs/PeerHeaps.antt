@@ -1,6 +1,6 @@
--- What each entry of the peer side may do to the peers' heap: slots keep their number; a field comes to hold only what was in
+-- What each entry of the peer side may do to the peers' heap: slots keep their number; made peers stay; a field comes to hold only what was in
 -- a slot; only a peer in a slot has a field changed; and no freed peer comes back.
-use Rattle.std.proofs.Common.{◌≡◌, ℕ, ◌+◌, ◌-◌, ◌⊎◌, inl, inr, Bool, true, false, ◌||◌, List, [], length, Option, Some, None, set, refl, sym, subst}
+use Rattle.std.proofs.Common.{◌≡◌, ℕ, ◌+◌, ◌-◌, ◌≤◌, ◌⊎◌, inl, inr, Bool, true, false, ◌||◌, List, [], length, Option, Some, None, set, refl, sym, subst, arith}
 use Rattle.std.specs.Prelude.{Contains, if◌then◌else◌, min, nat_lt}
 use Rattle.std.proofs.Math.ListN.{length-set}
 use Rattle.std.proofs.lemmas.List.Elements.{Contains-append_left}
@@ -23,7 +23,7 @@ use Rattle.joint_model.specs.Peers.{Peers, Strength, strong, weak, held, raw, pe
 use Rattle.joint_model.specs.PeerReplay.{PeerReplay, TableRow, Marking, row_of, on_table, bring_by, peer_thread_line, is_thread, sliced, begun, swept_of, swept, restored_by, mirrored, brought_handle, peer_answer, table_target, with_restored}
 use Rattle.joint_model.specs.Run.{thread_number}
 use Rattle.joint_model.specs.Told.{Told, Noted, references_of, slice_of, sweep_of}
-use Rattle.joint_laws.proofs.Fields.{with_object-old}
+use Rattle.joint_laws.proofs.Fields.{with_object-old, with_object-length}
 use Rattle.joint_laws.proofs.HeapMoves.{HasMoved, copied-moved, field_set-moved, field_got-moved, dropped-moved, loaded-moved, stored-moved}
 use Rattle.joint_laws.proofs.HeapKeeping.{object-field, object-was_live, moved-was_live}
 use Rattle.joint_laws.proofs.JointSteps.{bring-peers}
@@ -32,17 +32,19 @@ use Rattle.joint_laws.proofs.PeerEvents.{globalised_by, freed_by, read_by}
 pub record HeapGoes (h k : Heap) : Type 0 where
   pub vars : length k.vars ≡ length h.vars
   pub statics : length k.statics ≡ length h.statics
+  pub made : length h.fields ≤ length k.fields
   pub fields : (x q : ℕ) → Contains (fields_of k x) (Some q) → Contains (fields_of h x) (Some q) ⊎ InSlot h q
   pub frozen : (x : ℕ) → IsMade h x → (InSlot h x → ⊥) → fields_of k x ≡ fields_of h x
   pub back : (x : ℕ) → IsMade h x → IsLive k x → IsLive h x
 
 pub goes-stay : (h : Heap) → HeapGoes h h
-goes-stay h = record { vars = refl; statics = refl; fields = λ x q c. inl c; frozen = λ x m n. refl; back = λ x m l. l }
+goes-stay h = record { vars = refl; statics = refl; made = omega arith; fields = λ x q c. inl c; frozen = λ x m n. refl; back = λ x m l. l }
 
 goes-moved : (h k : Heap) → HasMoved h k → HeapGoes h k
 goes-moved h k v = record {
   vars = v.vars;
   statics = v.statics;
+  made = (let e = v.made in omega arith);
   fields = λ x q c. elim (v.fields x q c) [ inl w ↦ inl w | inr w ↦ inr w.1 ];
   frozen = λ x m n. v.frozen x n;
   back = λ x m l. moved-was_live h k v x l;
@@ -52,6 +54,7 @@ goes-object : (h : Heap) (n : ℕ) → HeapGoes h (with_object h n)
 goes-object h n = record {
   vars = refl;
   statics = refl;
+  made = (let e = with_object-length h n in omega arith);
   fields = λ x q c. inl (object-field h n x q c).1;
   frozen = λ x m out. with_object-old h n x m.1;
   back = λ x m l. object-was_live h n x m.1 l;
@@ -61,19 +64,20 @@ goes-made : (h : Heap) (n v x : ℕ) → HeapGoes h (with_var (with_object h n) 
 goes-made h n v x = record {
   vars = length-set h.vars v (Some x);
   statics = refl;
+  made = (let e = with_object-length h n in omega arith);
   fields = λ y q c. inl (object-field h n y q c).1;
   frozen = λ y m out. with_object-old h n y m.1;
   back = λ y m l. object-was_live h n y m.1 (record { made = l.made; kept = l.kept });
 }
 
 goes-var : (h : Heap) (v : ℕ) (o : Option ℕ) → HeapGoes h (with_var h v o)
-goes-var h v o = record { vars = length-set h.vars v o; statics = refl; fields = λ x q c. inl c; frozen = λ x m n. refl; back = λ x m l. record { made = l.made; kept = l.kept } }
+goes-var h v o = record { vars = length-set h.vars v o; statics = refl; made = omega arith; fields = λ x q c. inl c; frozen = λ x m n. refl; back = λ x m l. record { made = l.made; kept = l.kept } }
 
 goes-static : (h : Heap) (i : ℕ) (o : Option ℕ) → HeapGoes h (with_static h i o)
-goes-static h i o = record { vars = refl; statics = length-set h.statics i o; fields = λ x q c. inl c; frozen = λ x m n. refl; back = λ x m l. record { made = l.made; kept = l.kept } }
+goes-static h i o = record { vars = refl; statics = length-set h.statics i o; made = omega arith; fields = λ x q c. inl c; frozen = λ x m n. refl; back = λ x m l. record { made = l.made; kept = l.kept } }
 
 goes-freed : (h : Heap) (xs : List ℕ) → HeapGoes h (with_freed h xs)
-goes-freed h xs = record { vars = refl; statics = refl; fields = λ x q c. inl c; frozen = λ x m n. refl; back = λ x m l. record { made = l.made; kept = λ c. l.kept (Contains-append_left h.freed xs x c) } }
+goes-freed h xs = record { vars = refl; statics = refl; made = omega arith; fields = λ x q c. inl c; frozen = λ x m n. refl; back = λ x m l. record { made = l.made; kept = λ c. l.kept (Contains-append_left h.freed xs x c) } }
 
 abbrev Goes : PeerReplay → PeerReplay → Type 0
 Goes s t = HeapGoes s.peers.heap t.peers.heap

@@ -1,27 +1,21 @@
 -- What was reached at some state since the snapshot of the open cycle. It isn't impossible for a row to be in this set where
 -- it is not impossible that it was reached; so nothing has to be decided. The set is closed under the joint edges of the
 -- present state: a new edge leads to what is reached now or was just before.
-use Rattle.std.proofs.Common.{◌≡◌, ℕ, zero, suc, ◌<◌, ◌≤◌, ◌⊎◌, inl, inr, List, [], ◌∷◌, ◌++◌, length, Some, refl, sym, ap, subst, ◌∙◌, arith, length-append}
+use Rattle.std.proofs.Common.{◌≡◌, ℕ, zero, suc, ◌<◌, ◌≤◌, ◌⊎◌, inl, inr, List, [], ◌∷◌, ◌++◌, length, Some, refl, sym, ap, subst, arith, length-append}
 use Rattle.std.specs.Prelude.{Contains, slice_get}
-use Rattle.std.proofs.lemmas.Bool.{cases_lt}
 use Rattle.std.proofs.lemmas.Option.{same_Some}
-use Rattle.joint_model.specs.Heaps.{IsMade, IsLive, fields_of}
-use Rattle.joint_model.specs.Joint.{Joint, Row, object, peer, JointEdge, IsJoined, IsJointRoot, IsReached}
+use Rattle.joint_model.specs.Heaps.{IsMade, IsLive}
+use Rattle.joint_model.specs.Joint.{Joint, Row, object, JointEdge, IsJointRoot, IsReached}
 use Rattle.joint_model.specs.Linked.{Linkage, MayCome, linkage_after}
 use Rattle.joint_model.specs.Managed.{Holds}
-use Rattle.joint_model.specs.Peers.{Issued}
 use Rattle.joint_model.specs.Run.{Moment}
 use Rattle.joint_model.specs.Told.{Noted}
 use Rattle.joint_model.proofs.WalkLemmas.{Reached-start, Reached-then}
 use Rattle.joint_model.proofs.Deciding.{none_some}
-use Rattle.joint_laws.proofs.PeerEntries.{peer_of-issued}
-use Rattle.joint_laws.proofs.Fields.{fields-past}
+use Rattle.joint_laws.proofs.Edges.{edge-before, made-or}
 use Rattle.joint_laws.proofs.ManagedMoves.{GoesOn}
-use Rattle.joint_laws.proofs.SparedWalks.{peer_of-row}
 use Rattle.joint_laws.proofs.JointRuns.{Stands, state_of}
-use Rattle.joint_laws.proofs.JointSince.{peer-entry}
 use Rattle.joint_laws.proofs.NewRows.{new-named}
-use Rattle.joint_laws.proofs.PeerHeaps.{heap-entry}
 
 -- reached in the state at an entry from place a on
 pub record IsSeen (past : List Moment) (a : ℕ) (x : Row) : Type 0 where
@@ -98,55 +92,8 @@ module _ (s : Linkage) (n : Noted) (may : MayCome s n) (w : Stands s) (v : Stand
   live-back : (x : ℕ) → IsMade s.managed.managed.heap x → IsLive (linkage_after s n).managed.managed.heap x → IsLive s.managed.managed.heap x
   live-back x m l = record { made = m; kept = λ c. l.kept (subst (λ f. Contains f x) (sym g.freed) c) }
 
-  field-made : (x y : ℕ) → 1 ≤ x → Contains (fields_of s.managed.managed.heap x) (Some y) → IsMade s.managed.managed.heap x
-  field-made x y l c = (l, elim (cases_lt (length s.managed.managed.heap.fields) x) [ inl p ↦ absurd (fields-past s.managed.managed.heap x (Some y) p c) | inr p ↦ p ])
-
-  peer-made : (x y : ℕ) → 1 ≤ x → Contains (fields_of s.peer.peers.heap x) (Some y) → IsMade s.peer.peers.heap x
-  peer-made x y l c = (l, elim (cases_lt (length s.peer.peers.heap.fields) x) [ inl p ↦ absurd (fields-past s.peer.peers.heap x (Some y) p c) | inr p ↦ p ])
-
-  made-or : (x : ℕ) → IsLive (linkage_after s n).managed.managed.heap x → IsMade s.managed.managed.heap x ⊎ (IsMade s.managed.managed.heap x → ⊥)
-  made-or x l = elim (cases_lt (length s.managed.managed.heap.fields) x) [ inl p ↦ inr (λ m. omega (arith, m.1, p)) | inr p ↦ inl (l.made.0, p) ]
-
-  -- a pair of a row that was made before was joined before
-  joined-old : (x p : ℕ) → IsJoined k.graph x p → IsMade s.managed.managed.heap x → IsJoined j.graph x p
-  joined-old x p e m =
-      let holds : Holds s.managed.managed x e.handle = record { live = live-back x m e.holds.live; held = g.gains x e.handle m e.holds.held } in
-      let i = w.kept.owners.held_ones x e.handle holds in
-      let row = peer_of-row (linkage_after s n).peer.peers.issued e.handle p e.leads in
-      let same : i.0 ≡ row.0 = same_Some i.0 row.0 (sym ((peer-entry s n w.kept).issued_on e.handle i.0 i.1) ∙ row.1) in
-      let on : i.0.peer ≡ p = ap (λ (z : Issued). z.peer) same ∙ row.2 in
-      record {
-        handle = e.handle;
-        holds = holds;
-        leads = peer_of-issued s.peer.peers.issued e.handle i.0 i.1 ∙ ap Some on;
-        live = (heap-entry s n).back p (subst (λ z. IsMade s.peer.peers.heap z) on (w.kept.peer.handles.peers e.handle i.0 i.1)) e.live;
-      }
-
-  -- a new row that holds a handle is in a slot
-  new-reached : (x p : ℕ) → IsJoined k.graph x p → (IsMade s.managed.managed.heap x → ⊥) → IsReached k (object x)
-  new-reached x p e new = Reached-start (IsJointRoot k.graph) (JointEdge k.graph) (object x) (new-named s n may w.kept.managed x e.handle new e.holds)
-
   pub edge-case : (x y : Row) → JointEdge k.graph x y → EdgeCase x y
-  edge-case (object x) (object y) e = elim (g.fields x y e.field) [
-    | inl c ↦ (
-        let l = live-back x (field-made x y e.live.made.0 c) e.live in
-        inl (record { live = l; field = c; there = w.kept.managed.managed.fields x y l c }))
-    | inr c ↦ inr (inl (Reached-start (IsJointRoot j.graph) (JointEdge j.graph) (object y) c.1))
-  ]
-  edge-case (peer p) (peer q) e = elim ((heap-entry s n).fields p q e.field) [
-    | inl c ↦ (
-        let l = (heap-entry s n).back p (peer-made p q e.live.made.0 c) e.live in
-        inl (record { live = l; field = c; there = w.kept.peer.heap.fields p q l c }))
-    | inr c ↦ inr (inl (Reached-start (IsJointRoot j.graph) (JointEdge j.graph) (peer q) (inl c)))
-  ]
-  edge-case (object x) (peer p) e = elim (made-or x e.holds.live) [
-    | inl m ↦ inl (joined-old x p e m)
-    | inr new ↦ inr (inr (Reached-then (IsJointRoot k.graph) (JointEdge k.graph) (object x) (peer p) (new-reached x p e new) e))
-  ]
-  edge-case (peer p) (object x) e = elim (made-or x e.holds.live) [
-    | inl m ↦ inl (joined-old x p e m)
-    | inr new ↦ inr (inr (new-reached x p e new))
-  ]
+  edge-case x y e = edge-before s n may w.kept v.kept w.flags v.flags x y e
 
   -- the set stays closed
   module _ (past : List Moment) (a : ℕ) (candidates : List ℕ) (watched : IsWatched past a candidates j) (m : Moment) (after : m.after ≡ k) where
@@ -175,7 +122,7 @@ module _ (s : Linkage) (n : Noted) (may : MayCome s n) (w : Stands s) (v : Stand
     ])
 
     bridge-next : (x h : ℕ) → Holds (linkage_after s n).managed.managed x h → (Contains candidates x → ⊥) → WasSeen (past ++ m ∷ []) a (object x)
-    bridge-next x h q out = elim (made-or x q.live) [
+    bridge-next x h q out = elim (made-or s.managed.managed.heap x q.live.made.0) [
       | inl made ↦ was-more past m a (object x) (watched.bridges x h (record { live = live-back x made q.live; held = g.gains x h made q.held }) out)
       | inr new ↦ (λ f. f (now (object x) (Reached-start (IsJointRoot k.graph) (JointEdge k.graph) (object x) (new-named s n may w.kept.managed x h new q))))
     ]

@@ -11,3 +11,4 @@ pub mod RunLaws
 pub mod ReadingLaws
 pub mod OwnMarkingLaws
 pub mod AfterwardsLaws
+pub mod UnionLaws

@@ -23,7 +23,7 @@ pub use linked::{
     held_handles_by_phase, joint_twin_is_registered, reached_peers_are_spared,
 };
 pub use managed::{dead_part_is_frozen, dead_part_is_mirrored, managed_side_is_kept};
-pub use markings::own_marking_is_one;
+pub use markings::{own_marking_is_one, reached_rows_are_closed};
 pub use readings::{kept_pins_are_lawful, reading_projection_is_complete};
 pub use runs::{
     joint_projection_is_a_run, joint_projection_is_complete, joint_projection_is_sound,

@@ -1,0 +1,5 @@
+use Rattle.joint_laws.proofs.Unions.{union_is_closed, union_follows_marking}
+use Rattle.joint_laws.proofs.markings.reached_rows_are_closed.Goals as goal
+
+pub returns : goal.returns
+returns c = record { edges = union_is_closed; marking = union_follows_marking }
