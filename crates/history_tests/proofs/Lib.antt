@@ -8,3 +8,5 @@ pub mod LineTests
 pub mod CallerTests
 pub mod SideTests
 pub mod HistoryTests
+pub mod GraphTests
+pub mod StepTests

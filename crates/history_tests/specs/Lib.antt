@@ -7,3 +7,5 @@ pub mod Lines
 pub mod Callers
 pub mod Sides
 pub mod Histories
+pub mod Graphs
+pub mod Steps

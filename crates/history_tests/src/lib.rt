@@ -1,11 +1,14 @@
 // Tests of histories: whether an entry may come next is computed, on every list of entries.
 //
-// `specs/` has the tests, which are functions to truth values: Lists, Rows, Contractions and Markings of what rows reach, Lines,
-// Callers and Sides of each event, Replies of equality, and Histories of entries and lists of entries. Each law says that a test
-// tells exactly what its definition in `joint_model` says; its body is empty, and its contract is a statement of `specs/`.
+// `specs/` has the tests, which are functions to truth values: Lists, Rows, Contractions, Markings and Graphs of what rows reach,
+// Lines, Callers and Sides of each event, Replies of equality, Histories of entries and lists of entries, and Steps of the joint
+// machine. Each law says that a test tells exactly what its definition in `joint_model` says, and of a step that what passes is
+// one; its body is empty, and its contract is a statement of `specs/`.
 #![tactic(auto)]
 
+ghost use Rattle.history_tests.specs.Graphs.{ReachedIsTested, UnreachedAreTested};
 ghost use Rattle.history_tests.specs.Histories.{AllMayComeIsTested, MayComeIsTested, NumbersAreTested, RepliesAreTested, WholeIsTested};
+ghost use Rattle.history_tests.specs.Steps.{RunsAreTested, StepsAreTested};
 
 /// Whether an entry may come next is decided by its test, and so is whether every entry of a list may come when it comes.
 pub fn may_come_is_tested()
@@ -19,4 +22,18 @@ pub fn ends_are_tested()
     ensures numbers { NumbersAreTested }
     ensures whole { WholeIsTested }
     ensures replies { RepliesAreTested }
+{}
+
+/// Whether a row is reached in the one graph of both heaps is decided by its test, and so is whether a list has exactly the
+/// unfreed peers that aren't.
+pub fn reached_is_tested()
+    ensures row { ReachedIsTested }
+    ensures unreached { UnreachedAreTested }
+{}
+
+/// An entry that passes its test is a step of the joint machine to the state that is computed, and a list of entries that passes
+/// is a run, with the moments that are computed.
+pub fn steps_are_tested()
+    ensures one { StepsAreTested }
+    ensures run { RunsAreTested }
 {}
