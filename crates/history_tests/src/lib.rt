@@ -7,13 +7,19 @@
 #![tactic(auto)]
 
 ghost use Rattle.history_tests.specs.Graphs.{ReachedIsTested, UnreachedAreTested};
-ghost use Rattle.history_tests.specs.Histories.{AllMayComeIsTested, MayComeIsTested, NumbersAreTested, RepliesAreTested, WholeIsTested};
+ghost use Rattle.history_tests.specs.Histories.{AllMayComeIsTested, LinkedHasQueued, LinkedIsTested, MayComeIsTested, NumbersAreTested, RepliesAreTested, WholeIsTested};
 ghost use Rattle.history_tests.specs.Steps.{RunsAreTested, StepsAreTested};
 
 /// Whether an entry may come next is decided by its test, and so is whether every entry of a list may come when it comes.
 pub fn may_come_is_tested()
     ensures one { MayComeIsTested }
     ensures every { AllMayComeIsTested }
+{}
+
+/// Whether the history that notes make is linked by them is decided by its test; its list has every notice that was queued.
+pub fn linked_is_tested()
+    ensures linked { LinkedIsTested }
+    ensures queued { LinkedHasQueued }
 {}
 
 /// Whether the entries have the numbers from n on, whether nothing is left half done, and whether two replies are the same are
