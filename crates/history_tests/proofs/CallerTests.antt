@@ -48,7 +48,7 @@ releases (given n line h) l h' cites = and3 (same_numbers cites (Some n)) (same 
 releases (met n line h) l h' cites = and3 (same_numbers cites (Some n)) (same l line) (same h' h)
 releases _ l h' cites = never (λ z. z)
 
-thread : (d : Doing) (t : Thread) (l : ℕ) (o : Op) (cites : Option ℕ) → Tells (thread_allows d t l o cites) (ThreadAllows d t l o cites)
+pub thread : (d : Doing) (t : Thread) (l : ℕ) (o : Op) (cites : Option ℕ) → Tells (thread_allows d t l o cites) (ThreadAllows d t l o cites)
 thread d t l (op.Adopt v kind k p h) cites = adopts d t l (op.Adopt v kind k p h) cites
 thread d t l (op.Land h x) cites = lands d l (op.Land h x) cites
 thread d t l (op.Meet v p h sort f) cites = meets d l (op.Meet v p h sort f) cites
@@ -72,7 +72,7 @@ phase (marked o) c p = phases p at.Marked
 phase (restoring o said) c p = and2 (same_lists same_answer answers said []) (phases p at.Swept)
 phase (restored o said clear) c p = phases p at.Restored
 
-snaps : (d : Stand) (cites : Option ℕ) → Tells (may_snap d cites) (MaySnap d cites)
+pub snaps : (d : Stand) (cites : Option ℕ) → Tells (may_snap d cites) (MaySnap d cites)
 snaps idle cites = empty cites
 snaps _ cites = never (λ z. z)
 
@@ -109,7 +109,7 @@ resolves : (d : Stand) (k : ℕ) (cites : Option ℕ) (told : Told) → Tells (m
 resolves (restored o said clear) k cites (resolution_of told freed) = and3 (same o.cycle k) (same_numbers cites (Some clear)) (same_lists same_answer answers told said)
 resolves _ k cites told = never (λ z. z)
 
-abandons : (d : Stand) (k : ℕ) (cites : Option ℕ) → Tells (may_abandon_now d k cites) (MayAbandonNow d k cites)
+pub abandons : (d : Stand) (k : ℕ) (cites : Option ℕ) → Tells (may_abandon_now d k cites) (MayAbandonNow d k cites)
 abandons (snapped o) k cites = and2 (same o.cycle k) (empty cites)
 abandons (contracted o comps xrefs) k cites = and2 (same o.cycle k) (empty cites)
 abandons _ k cites = never (λ z. z)

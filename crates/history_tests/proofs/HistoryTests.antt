@@ -17,7 +17,7 @@ use Rattle.history_tests.proofs.LineTests.{tells_event}
 use Rattle.history_tests.proofs.SideTests.{managed, peer}
 use Rattle.history_tests.proofs.CallerTests.{caller, at_rest, all_done}
 
-managed_side : (s : ManagedReplay) (m : Made) (told : Told) → Tells (managed_lawful s m told) (ManagedLawful s m told)
+pub managed_side : (s : ManagedReplay) (m : Made) (told : Told) → Tells (managed_lawful s m told) (ManagedLawful s m told)
 managed_side s m told = like (λ p. record { allowed = p.0; replies = p.1 }) (λ r. (r.allowed, r.replies)) (and2 (managed s m.op told) (replies m.reply (managed_answer s m.caller m.op told).reply))
 
 peer_side : (s : PeerReplay) (m : Made) (told : Told) → Tells (peer_lawful s m told) (PeerLawful s m told)

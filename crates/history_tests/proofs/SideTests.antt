@@ -111,7 +111,7 @@ restores s h = like
     (and2 (that s.mirror (λ m. has m.weakened h && not (has m.restored h)) (λ m. Contains m.weakened h × (Contains m.restored h → ⊥)) (λ m. and2 (member nat_eq same m.weakened h) (isn't (member nat_eq same m.restored h))))
     (that (row_of s h) (λ r. true) (λ r. Unit {0}) (λ r. always tt)))
 
-clears : (s : PeerReplay) (k : ℕ) → Tells (may_clear s k) (MayClear s k)
+pub clears : (s : PeerReplay) (k : ℕ) → Tells (may_clear s k) (MayClear s k)
 clears s k = like (λ p. record { mirror = p.0; stands = p.1; same = p.2.0; all = p.2.1 }) (λ r. (r.mirror, r.stands, (r.same, r.all)))
     (that s.mirror (λ m. nat_eq m.cycle k && list_all (has m.restored) m.weakened) (λ m. (m.cycle ≡ k) × All (Contains m.restored) m.weakened)
     (λ m. and2 (same m.cycle k) (all m.weakened (has m.restored) (Contains m.restored) (member nat_eq same m.restored))))

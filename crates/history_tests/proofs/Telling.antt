@@ -1,6 +1,6 @@
 -- A test tells a fact where it is true exactly then. Tests that are joined by `&&`, `||` and `not` tell what their parts tell,
 -- joined; so do tests of every element of a list, and of what stands in a place.
-use Rattle.std.proofs.Common.{◌≡◌, ℕ, ◌<◌, ◌≤◌, ◌⊎◌, Bool, true, false, not, ◌&&◌, ◌||◌, nat_eq, nat_lt, nat_le, List, [], ◌∷◌, Option, Some, None, refl, ap, subst, true≢false}
+use Rattle.std.proofs.Common.{◌≡◌, ℕ, ◌<◌, ◌≤◌, ◌⊎◌, Bool, true, false, not, ◌&&◌, ◌||◌, nat_eq, nat_lt, nat_le, List, [], ◌∷◌, Option, Some, None, refl, ap, subst, true≢false, sym, ◌∙◌}
 use Rattle.std.specs.Bool.{Decides}
 use Rattle.std.specs.List.{All, list_all}
 use Rattle.std.proofs.lemmas.Bool.{false≢true, leb-true, le-leb, ltb-true, lt-ltb}
@@ -27,6 +27,10 @@ never n = record { holds = λ e. absurd (false≢true e); passes = λ p. absurd 
 
 pub like : {b : Bool} {P Q : Type 0} → (P → Q) → (Q → P) → Tells b P → Tells b Q
 like f g t = record { holds = λ e. f (t.holds e); passes = λ q. t.passes (g q) }
+
+-- what a test that is false tells
+pub refuted : {b : Bool} {P : Type 0} → Tells b P → b ≡ false → P → ⊥
+refuted t e p = true≢false (sym (t.passes p) ∙ e)
 
 pub isn't : {b : Bool} {P : Type 0} → Tells b P → Tells (not b) (P → ⊥)
 isn't {b} {P} t = tells (Decides-not {P = P} b (decides t))

@@ -1,9 +1,7 @@
 -- The run of the one object is sound and complete: the places of its snap, begin, sweep and resolution are the only ones,
 -- and neither the object nor its peer is reached from the snap on.
-use Rattle.std.proofs.Common.{◌≡◌, ℕ, ◌<◌, ◌≤◌, ◌∙◌, Bool, true, false, List, [], ◌∷◌, Some, None, slice_get, get_or, refl, sym, subst, ap, nat_eq, arith, ⊎_elim, true≢false}
+use Rattle.std.proofs.Common.{◌≡◌, ℕ, ◌<◌, ◌≤◌, Bool, true, false, List, [], ◌∷◌, Some, None, slice_get, get_or, refl, sym, subst, ap, nat_eq, arith, ⊎_elim}
 use Rattle.std.specs.List.{Contains}
-use Rattle.std.proofs.lemmas.Bool.{false≢true, or_cases}
-use Rattle.std.proofs.lemmas.Bool.Decides.{Decides-eqb}
 use Rattle.joint_model.specs.declared.events.Op.{Op}
 use Rattle.joint_model.specs.declared.events.Op.TheVariants as op
 use Rattle.joint_model.specs.declared.events.Reply.{Reply}
@@ -11,14 +9,16 @@ use Rattle.joint_model.specs.declared.events.Reply.TheVariants as says
 use Rattle.joint_model.specs.declared.names.Thread.TheVariants.{C}
 use Rattle.joint_model.specs.Heaps.{IsMade}
 use Rattle.joint_model.specs.Headline.{IsSoundRun, IsCompleteRun, IsCompleteCycle, IsFreedWithPeer, IsUnreachedAt, IsUnreachedBefore, WasUnreached, ResolvesAt, SweepsAt, SnapsAt, IsPeerFreedAt}
-use Rattle.joint_model.specs.Joint.{Joint, opening, Row, object, peer, IsReached}
+use Rattle.joint_model.specs.Joint.{opening, Row, object, peer, IsReached}
 use Rattle.joint_model.specs.Run.{Moment}
 use Rattle.joint_model.specs.Told.{snap_of, sweep_of, resolution_of, nothing, said_cleared, Answer}
 use Rattle.worked_histories.specs.Freeing.{one_run, FreesOneObject}
 use Rattle.worked_histories.specs.Notes.{note, span}
-use Rattle.worked_histories.proofs.Decided.{mem, is_closed, mem_from_Contains}
-use Rattle.worked_histories.proofs.Entries.{absent, present}
-use Rattle.worked_histories.proofs.JointRows.{row_eq, joint_next, joint_roots, joint_reach, Decides-joint_reached}
+use Rattle.history_tests.specs.Graphs.{is_reached}
+use Rattle.history_tests.proofs.GraphTests.{joint_reached}
+use Rattle.history_tests.proofs.Reaching.{member}
+use Rattle.history_tests.proofs.Telling.{refuted, same as is_same}
+use Rattle.joint_model.proofs.Members.{Contains-nil, Contains-cons_cases}
 use Rattle.worked_histories.proofs.Places.{place, same_place}
 
 -- the moment at a place
@@ -47,32 +47,29 @@ abbrev pub swept_marking : Reply → ℕ
 swept_marking (says.Swept j s) = j.0
 swept_marking _ = 0
 
--- nothing reaches a row that isn't computed to be reached
-pub not_reached : (j : Joint) (x : Row) → is_closed row_eq (joint_next j.graph) (joint_roots j.graph) (joint_reach j.graph 4) ≡ true → mem row_eq (joint_reach j.graph 4) x ≡ false → IsReached j x → ⊥
-not_reached j x closed out r = true≢false (sym ((Decides-joint_reached j.graph 4 closed x).1 r) ∙ out)
+-- a row that isn't computed to be reached isn't
+pub unreached_at : (i : ℕ) (m : Moment) (x : Row) → slice_get one_run i ≡ Some m → is_reached m.after.graph x ≡ false → IsUnreachedAt one_run i x
+unreached_at i m x there out n e r = let same : m ≡ n = cc in refuted (joint_reached m.after.graph x) out (subst (λ (k : Moment). IsReached k.after x) (sym same) r)
 
-pub unreached_at : (i : ℕ) (m : Moment) (x : Row) → slice_get one_run i ≡ Some m → is_closed row_eq (joint_next m.after.graph) (joint_roots m.after.graph) (joint_reach m.after.graph 4) ≡ true → mem row_eq (joint_reach m.after.graph 4) x ≡ false → IsUnreachedAt one_run i x
-unreached_at i m x there closed out n e r = let same : m ≡ n = cc in not_reached m.after x closed out (subst (λ (k : Moment). IsReached k.after x) (sym same) r)
-
-pub unreached_before : (i : ℕ) (m : Moment) (x : Row) → slice_get one_run i ≡ Some m → is_closed row_eq (joint_next m.before.graph) (joint_roots m.before.graph) (joint_reach m.before.graph 4) ≡ true → mem row_eq (joint_reach m.before.graph 4) x ≡ false → IsUnreachedBefore one_run i x
-unreached_before i m x there closed out n e r = let same : m ≡ n = cc in not_reached m.before x closed out (subst (λ (k : Moment). IsReached k.before x) (sym same) r)
+pub unreached_before : (i : ℕ) (m : Moment) (x : Row) → slice_get one_run i ≡ Some m → is_reached m.before.graph x ≡ false → IsUnreachedBefore one_run i x
+unreached_before i m x there out n e r = let same : m ≡ n = cc in refuted (joint_reached m.before.graph x) out (subst (λ (k : Moment). IsReached k.before x) (sym same) r)
 
 -- the object and its peer were unreached at the begin and just before the sweep
 pub object_was : WasUnreached one_run 4 5 (object 1)
-object_was = record { at_begin = unreached_at 4 (moment_at 4) (object 1) refl refl refl; before_sweep = unreached_before 5 (moment_at 5) (object 1) refl refl refl }
+object_was = record { at_begin = unreached_at 4 (moment_at 4) (object 1) refl refl; before_sweep = unreached_before 5 (moment_at 5) (object 1) refl refl }
 
 pub peer_was : WasUnreached one_run 4 5 (peer 1)
-peer_was = record { at_begin = unreached_at 4 (moment_at 4) (peer 1) refl refl refl; before_sweep = unreached_before 5 (moment_at 5) (peer 1) refl refl refl }
+peer_was = record { at_begin = unreached_at 4 (moment_at 4) (peer 1) refl refl; before_sweep = unreached_before 5 (moment_at 5) (peer 1) refl refl }
 
 pub one : (x : ℕ) → Contains (1 ∷ []) x → x ≡ 1
-one x c = ⊎_elim (λ e. (Decides-eqb x 1).0 e) (λ e. absurd (false≢true e)) (or_cases (nat_eq x 1) false (mem_from_Contains nat_eq Decides-eqb (1 ∷ []) x c))
+one x c = ⊎_elim (λ e. sym e) (λ d. absurd (Contains-nil x d)) (Contains-cons_cases 1 [] x c)
 
 pub freed_one : IsFreedWithPeer one_run 6 1
 freed_one = record {
   moment = moment_at 6;
   there = refl;
   handle = 1;
-  holds = record { live = record { made = omega arith; kept = absent [] 1 refl }; held = refl };
+  holds = record { live = record { made = omega arith; kept = refuted (member nat_eq is_same [] 1) refl }; held = refl };
   peer = 1;
   leads = refl;
   swept = record {
@@ -84,7 +81,7 @@ freed_one = record {
     sweeps = record { moment = moment_at 5; there = refl; event = refl; span = span 0 1; reply = refl; frees = refl };
     in_order = omega arith;
     in_time = omega arith;
-    frees = present (1 ∷ []) 1 refl;
+    frees = (member nat_eq is_same (1 ∷ []) 1).holds refl;
     row = object_was;
     itself = peer_was;
   };
@@ -135,9 +132,9 @@ one_sound = record {
     record { moment = moment_at 4; there = refl; event = refl; reply = ap (λ (n : ℕ). says.Mark record { 0 = n }) (sym t.1) },
     subst (λ a. WasUnreached one_run 4 a (peer p)) (sym t.0) (subst (λ q. WasUnreached one_run 4 5 (peer q)) (sym which) peer_was),
   );
-  snapped = λ i k m freed candidates r c. absurd (absent [] m refl (subst (λ l. Contains l m) (snapped_there i k freed candidates r) c));
+  snapped = λ i k m freed candidates r c. absurd (Contains-nil m (subst (λ l. Contains l m) (snapped_there i k freed candidates r) c));
   resolved = λ i k m freed r c. let t = resolved_there i k freed r in let which = one m (subst (λ l. Contains l m) t.2 c) in
-      subst (λ a. IsUnreachedBefore one_run a (object m)) (sym t.0) (subst (λ q. IsUnreachedBefore one_run 6 (object q)) (sym which) (unreached_before 6 (moment_at 6) (object 1) refl refl refl));
+      subst (λ a. IsUnreachedBefore one_run a (object m)) (sym t.0) (subst (λ q. IsUnreachedBefore one_run 6 (object q)) (sym which) (unreached_before 6 (moment_at 6) (object 1) refl refl));
 }
   where
     sooner : (i : ℕ) → i ≡ 5 → 4 < i
@@ -161,7 +158,7 @@ cycle_complete = record {
   objects = λ m c u. c;
   peers = λ p made u. let same = same_place one_run 4 4 made.moment (moment_at 4) made.there refl refl in
       let which = only_one p (subst (λ (m : Moment). IsMade m.before.graph.peers.heap p) (sym same) made.made) in
-      subst (λ q. IsPeerFreedAt one_run 5 q) (sym which) (record { moment = moment_at 5; there = refl; freed = present (1 ∷ []) 1 refl });
+      subst (λ q. IsPeerFreedAt one_run 5 q) (sym which) (record { moment = moment_at 5; there = refl; freed = (member nat_eq is_same (1 ∷ []) 1).holds refl });
 }
   where
     only_one : (p : ℕ) → (1 ≤ p) × (p ≤ 1) → p ≡ 1

@@ -1,40 +1,7 @@
-pub mod Decided
-pub mod Contractions
-pub mod PairGraphs
-pub mod HeapRows
-pub mod ManagedRows
-pub mod PeerRows
-pub mod JointRows
-pub mod Entries
-pub mod TwoLinked
-pub mod TwoPhased
-pub mod CrossHeaps
-pub mod Surfacing
-pub mod Pinned
-pub mod Deleted
-pub mod RunSteps
-pub mod TwoLinkedRuns
-pub mod TwoPhasedRuns
-pub mod CrossHeapRuns
-pub mod SurfacedRuns
-pub mod PinnedRuns
-pub mod DeletionRuns
-pub mod RefusalsSteps
-pub mod PlainObjectSteps
-pub mod PendingReadSteps
-pub mod PeerMarkingSteps
-pub mod GlobalNamesSteps
-pub mod ResurrectedSteps
-pub mod MovedPeerSteps
-pub mod EndedMarkingSteps
-pub mod PlainBetweenSteps
-pub mod HeldPeerSteps
-pub mod AbandonedSteps
-pub mod OneObjectSteps
-pub mod Places
-pub mod FreeingOne
-pub mod ReadersOwn
-pub mod TwoMarkingsSteps
-pub mod FirstNamesSteps
-pub mod WholeHistories
-pub mod Promoted
+mod Worked
+mod FirstTests
+mod Examples
+mod PairGraphs
+mod Places
+mod FreeingOne
+mod ReadersOwn

@@ -1,11 +1,6 @@
 -- The histories with reads of weak cells are lawful too where a read is an entry of a reader of its own.
-use Rattle.std.proofs.Common.{◌≡◌, ℕ, List, [], ◌∷◌, refl, arith, Some, None, true, false, inl, inr}
-use Rattle.std.proofs.lemmas.List.Elements.{All-contains_itself}
-use Rattle.joint_model.specs.declared.names.Sort.TheVariants.{User}
-use Rattle.joint_model.specs.Peers.{held, strong}
-use Rattle.worked_histories.proofs.Entries.{absent, present}
-use Rattle.worked_histories.proofs.ManagedRows.{snapshot, resolution, Decides-answered, dead_contraction}
-use Rattle.worked_histories.proofs.PeerRows.{sweep}
+use Rattle.std.proofs.Common.{◌≡◌, ℕ, ◌^◌, ◌&&◌, nat_le, nat_lt, List, [], ◌∷◌, refl, arith, Some, None, true, false, inl}
+use Rattle.std.proofs.lemmas.Bool.{and_parts}
 use Rattle.std.proofs.lemmas.Bool.Decides.{Decides-eqb}
 use Rattle.joint_model.specs.Heaps.{slot}
 use Rattle.std.proofs.Common.{◌+◌, ◌<◌, ◌≤◌, Bool, Option, subst, sym, nat_eq, ⊎_elim}
@@ -14,8 +9,17 @@ use Rattle.joint_model.specs.declared.names.Thread.TheVariants.{M}
 use Rattle.joint_model.specs.declared.lines.Act.TheVariants as act
 use Rattle.joint_model.specs.declared.events.Op.{Op}
 use Rattle.joint_model.specs.declared.events.Op.TheVariants as op
-use Rattle.joint_model.specs.Readers.{MayBePending, MayBeUnset, SnapsCycleAt, EndsCycleAt, SetsCellAt, SetsCell}
-use Rattle.joint_model.specs.Told.{Noted, said_cleared}
+use Rattle.joint_model.specs.Control.{last_line}
+use Rattle.joint_model.specs.Linked.{Linkage, opening_linkage}
+use Rattle.joint_model.specs.Readers.{is_read, ReadsCell, IsReadReply, ReaderMayCome, EntryMayCome, entry_after, AllMayComeReading, MayBePending, MayBeUnset, SnapsCycleAt, EndsCycleAt, SetsCellAt, SetsCell}
+use Rattle.joint_model.specs.Told.{Noted, Told, nothing}
+use Rattle.history_tests.specs.Callers.{caller_allows}
+use Rattle.history_tests.specs.Histories.{may_come}
+use Rattle.history_tests.specs.Lines.{is_event}
+use Rattle.history_tests.proofs.Telling.{Tells, always, never, like, and5, less, upto}
+use Rattle.history_tests.proofs.CallerTests.{caller}
+use Rattle.history_tests.proofs.HistoryTests.{comes}
+use Rattle.history_tests.proofs.LineTests.{tells_event}
 use Rattle.worked_histories.specs.PendingRead.{pending_read}
 use Rattle.worked_histories.specs.Pins.{pinned_object}
 use Rattle.worked_histories.specs.Readings.{pending_after_end, PendingEnds, OwnCellIsSet, cells_of, PendingReadings, PinnedReadings}
@@ -78,108 +82,76 @@ never_set ns cells i t k h none = record {
     no_target : (m : ℕ) → slot cells k ≡ Some m → ⊥
     no_target m e = cc
 
+-- whether nothing is told
+abbrev pub is_bare : Told → Bool
+is_bare nothing = true
+is_bare _ = false
+
+bare : (told : Told) → Tells (is_bare told) (told ≡ nothing)
+bare nothing = always refl
+bare _ = never (λ e. cc)
+
+-- the entries that aren't reads pass the test of any entry, and the reads that of a reader's entry but for their replies
+abbrev pub reader_may_come : Linkage → Noted → Bool
+reader_may_come s n =
+    is_event n.entry.made.caller n.entry.made.op
+    && nat_le (last_line s.control n.entry.made.caller) n.entry.made.index
+    && nat_lt n.entry.made.index (2 ^ 32)
+    && caller_allows s.control s.managed.managed s.peer.peers.issued n.entry.made.caller n.entry.made.index n.entry.made.op n.entry.made.reply n.entry.made.cites n.told
+    && is_bare n.told
+
+reader_comes : (s : Linkage) (n : Noted) → Tells (reader_may_come s n) (ReaderMayCome s n)
+reader_comes s n = like (λ p. record { event = p.0; line = p.1; short = p.2; order = p.3; bare = p.4 }) (λ r. (r.event, r.line, r.short, r.order, r.bare))
+    (and5 (tells_event n.entry.made.caller n.entry.made.op) (upto (last_line s.control n.entry.made.caller) n.entry.made.index) (less n.entry.made.index (2 ^ 32))
+    (caller s.control s.managed.managed s.peer.peers.issued n.entry.made.caller n.entry.made.index n.entry.made.op n.entry.made.reply n.entry.made.cites n.told)
+    (bare n.told))
+
+abbrev pub entry_may_come : Bool → Linkage → Noted → Bool
+entry_may_come true s n = reader_may_come s n
+entry_may_come false s n = may_come s n
+
+abbrev pub all_may_come_reading : Linkage → List Noted → Bool
+all_may_come_reading s [] = true
+all_may_come_reading s (n ∷ ns) = entry_may_come (is_read n.entry.made.op) s n && all_may_come_reading (entry_after s n) ns
+
+-- what is left: the replies of the reads
+abbrev pub IsReplyOf : List Noted → List (Option ℕ) → Linkage → Noted → Type 0
+IsReplyOf whole cells s n = (k : ℕ) → ReadsCell n.entry.made.op k → IsReadReply whole cells s.managed.managed n.entry.number n.entry.made.caller k n.entry.made.reply
+
+abbrev pub WithReply : Bool → Type 0 → Type 0 → Type 0
+WithReply true P Q = P × Q
+WithReply false P Q = Q
+
+abbrev pub AreReplies : List Noted → List (Option ℕ) → Linkage → List Noted → Type 0
+AreReplies whole cells s [] = Unit {0}
+AreReplies whole cells s (n ∷ ns) = WithReply (is_read n.entry.made.op) (IsReplyOf whole cells s n) (AreReplies whole cells (entry_after s n) ns)
+
+both : (b : Bool) (whole : List Noted) (cells : List (Option ℕ)) (s : Linkage) (n : Noted) (P : Type 0) → entry_may_come b s n ≡ true → WithReply b (IsReplyOf whole cells s n) P → EntryMayCome b whole cells s n × P
+both true whole cells s n P e r = (((reader_comes s n).holds e, r.0), r.1)
+both false whole cells s n P e r = ((comes s n).holds e, r)
+
+pub all_reading : (whole : List Noted) (cells : List (Option ℕ)) (s : Linkage) (ns : List Noted) → all_may_come_reading s ns ≡ true → AreReplies whole cells s ns → AllMayComeReading whole cells s ns
+all_reading whole cells s [] e r = tt
+all_reading whole cells s (n ∷ ns) e r =
+    let p = and_parts (entry_may_come (is_read n.entry.made.op) s n) (all_may_come_reading (entry_after s n) ns) e in
+    let q = both (is_read n.entry.made.op) whole cells s n (AreReplies whole cells (entry_after s n) ns) p.0 r in
+    (q.0, all_reading whole cells (entry_after s n) ns p.1 q.1)
+
 pub pending-readings : PendingReadings
-pending-readings = (
-  record { event = omega arith; line = omega arith; short = omega arith; lawful = record { allowed = tt; replies = refl }; order = refl },
+pending-readings = all_reading pending_read (cells_of pending_read) opening_linkage pending_read refl (
+  λ k e. (refl, pending_there pending_read 4 14 5 (M 1) 1 (record { entry = _; there = refl; event = refl }) (omega arith) (omega arith) refl),
   (
-    record { event = (omega arith, omega arith, (User, (omega arith, refl))); line = omega arith; short = omega arith; lawful = record { allowed = absent [] 1 refl; replies = refl }; order = (refl, refl, refl, refl, (omega arith, (omega arith, (omega arith, refl), omega arith))) },
-    (
-      record { event = omega arith; line = omega arith; short = omega arith; lawful = record { allowed = tt; replies = refl }; order = refl },
-      (
-        record { event = omega arith; line = omega arith; short = omega arith; lawful = record { allowed = tt; replies = refl }; order = refl },
-        (
-          record { event = tt; line = omega arith; short = omega arith; lawful = record { allowed = snapshot _ 2 1 [] (1 ∷ []) (1 ∷ []) (record { slots = refl; bridges = refl }) refl refl refl refl refl refl; replies = refl }; order = refl },
-          (
-            (record { event = omega arith; line = omega arith; short = omega arith; order = refl; bare = refl }, λ k e. (refl, pending_there pending_read 4 14 5 (M 1) 1 (record { entry = _; there = refl; event = refl }) (omega arith) (omega arith) refl)),
-            (
-              record { event = tt; line = omega arith; short = omega arith; lawful = record { allowed = record { cycle = record { number = 1; candidates = (1 ∷ []); dead = (1 ∷ []) }; open_cycle = (refl, refl); once = refl; exact = dead_contraction _ 2 (1 ∷ []) ((1 ∷ []) ∷ []) [] (record { inside = refl; complete = refl; order = refl; same = refl; firsts = refl; split = refl; refs = refl }) }; replies = refl }; order = (refl, refl) },
-              (
-                record { event = tt; line = omega arith; short = omega arith; lawful = record { allowed = record { none_stands = refl; once = absent [] 1 refl; snap = 4; cited = refl }; replies = refl }; order = (refl, refl, refl) },
-                (
-                  record { event = tt; line = omega arith; short = omega arith; lawful = record { allowed = record { mirror = record { cycle = 1; snap = 4; weakened = []; restored = [] }; stands = refl; cited = refl; is_held = (record { peer = 1; hold = held; strength = strong }, refl, refl); strong_now = refl }; replies = refl }; order = (refl, refl, (_, refl, refl)) },
-                  (
-                    record { event = inr tt; line = omega arith; short = omega arith; lawful = record { allowed = tt; replies = refl }; order = (refl, refl) },
-                    (
-                      record { event = inr tt; line = omega arith; short = omega arith; lawful = record { allowed = (inl refl, sweep _ _ 2 (1 ∷ []) refl refl refl); replies = refl }; order = refl },
-                      (
-                        record { event = tt; line = omega arith; short = omega arith; lawful = record { allowed = record { mirror = record { cycle = 1; snap = 4; weakened = (1 ∷ []); restored = [] }; stands = refl; weakened = present (1 ∷ []) 1 refl; waiting = absent [] 1 refl; row = _; tabled = refl }; replies = refl }; order = (refl, (_, refl, refl)) },
-                        (
-                          record { event = tt; line = omega arith; short = omega arith; lawful = record { allowed = record { mirror = record { cycle = 1; snap = 4; weakened = (1 ∷ []); restored = (1 ∷ []) }; stands = refl; same = refl; all = All-contains_itself (1 ∷ []) }; replies = refl }; order = (refl, refl, refl) },
-                          (
-                            (record { event = omega arith; line = omega arith; short = omega arith; order = refl; bare = refl }, λ k e. (refl, pending_there pending_read 4 14 13 (M 1) 1 (record { entry = _; there = refl; event = refl }) (omega arith) (omega arith) refl)),
-                            (
-                              record { event = tt; line = omega arith; short = omega arith; lawful = record { allowed = record { cycle = record { number = 1; candidates = (1 ∷ []); dead = (1 ∷ []) }; open_cycle = (refl, refl); answers = refl; resolution = resolution _ 2 (1 ∷ []) _ [] (1 ∷ []) (Decides-answered (1 ∷ []) (said_cleared ∷ [])) refl refl refl }; replies = refl }; order = (refl, refl, refl) },
-                              (
-                                (record { event = omega arith; line = omega arith; short = omega arith; order = refl; bare = refl }, λ k e. rw (← e) refl),
-                                tt,
-                              ),
-                            ),
-                          ),
-                        ),
-                      ),
-                    ),
-                  ),
-                ),
-              ),
-            ),
-          ),
-        ),
-      ),
-    ),
+    λ k e. (refl, pending_there pending_read 4 14 13 (M 1) 1 (record { entry = _; there = refl; event = refl }) (omega arith) (omega arith) refl),
+    (λ k e. rw (← e) refl, tt),
   ),
 )
 
 pub pinned-readings : PinnedReadings
-pinned-readings = (
-  record { event = omega arith; line = omega arith; short = omega arith; lawful = record { allowed = tt; replies = refl }; order = refl },
+pinned-readings = all_reading pinned_object (cells_of pinned_object) opening_linkage pinned_object refl (
+  λ k e. rw (← e) refl,
   (
-    record { event = omega arith; line = omega arith; short = omega arith; lawful = record { allowed = tt; replies = refl }; order = refl },
-    (
-      record { event = (omega arith, omega arith, (User, (omega arith, refl))); line = omega arith; short = omega arith; lawful = record { allowed = absent [] 1 refl; replies = refl }; order = (refl, refl, refl, refl, (omega arith, (omega arith, (omega arith, refl), omega arith))) },
-      (
-        record { event = omega arith; line = omega arith; short = omega arith; lawful = record { allowed = tt; replies = refl }; order = refl },
-        (
-          record { event = omega arith; line = omega arith; short = omega arith; lawful = record { allowed = tt; replies = refl }; order = refl },
-          (
-            (record { event = omega arith; line = omega arith; short = omega arith; order = refl; bare = refl }, λ k e. rw (← e) refl),
-            (
-              (record { event = omega arith; line = omega arith; short = omega arith; order = refl; bare = refl }, λ k e. refl),
-              (
-                record { event = tt; line = omega arith; short = omega arith; lawful = record { allowed = snapshot _ 2 1 [] [] [] (record { slots = refl; bridges = refl }) refl refl refl refl refl refl; replies = refl }; order = refl },
-                (
-                  record { event = tt; line = omega arith; short = omega arith; lawful = record { allowed = record { cycle = record { number = 1; candidates = []; dead = [] }; open_cycle = (refl, refl); once = refl; exact = dead_contraction _ 2 [] [] [] (record { inside = refl; complete = refl; order = refl; same = refl; firsts = refl; split = refl; refs = refl }) }; replies = refl }; order = (refl, refl) },
-                  (
-                    record { event = tt; line = omega arith; short = omega arith; lawful = record { allowed = record { none_stands = refl; once = absent [] 1 refl; snap = 7; cited = refl }; replies = refl }; order = (refl, refl, refl) },
-                    (
-                      record { event = inr tt; line = omega arith; short = omega arith; lawful = record { allowed = tt; replies = refl }; order = (refl, refl) },
-                      (
-                        record { event = inr tt; line = omega arith; short = omega arith; lawful = record { allowed = (inl refl, sweep _ _ 2 [] refl refl refl); replies = refl }; order = refl },
-                        (
-                          record { event = tt; line = omega arith; short = omega arith; lawful = record { allowed = record { mirror = record { cycle = 1; snap = 7; weakened = []; restored = [] }; stands = refl; same = refl; all = All-contains_itself [] }; replies = refl }; order = (refl, refl, refl) },
-                          (
-                            record { event = tt; line = omega arith; short = omega arith; lawful = record { allowed = record { cycle = record { number = 1; candidates = []; dead = [] }; open_cycle = (refl, refl); answers = refl; resolution = resolution _ 2 [] _ [] [] (Decides-answered [] []) refl refl refl }; replies = refl }; order = (refl, refl, refl) },
-                            (
-                              record { event = omega arith; line = omega arith; short = omega arith; lawful = record { allowed = tt; replies = refl }; order = refl },
-                              (
-                                (record { event = omega arith; line = omega arith; short = omega arith; order = refl; bare = refl }, λ k e. (refl, subst (λ k. MayBeUnset pinned_object (cells_of pinned_object) 15 (M 1) k) e (never_set pinned_object (cells_of pinned_object) 15 (M 1) 6 refl refl))),
-                                (
-                                  record { event = omega arith; line = omega arith; short = omega arith; lawful = record { allowed = tt; replies = refl }; order = refl },
-                                  tt,
-                                ),
-                              ),
-                            ),
-                          ),
-                        ),
-                      ),
-                    ),
-                  ),
-                ),
-              ),
-            ),
-          ),
-        ),
-      ),
-    ),
+    λ k e. refl,
+    (λ k e. (refl, subst (λ k. MayBeUnset pinned_object (cells_of pinned_object) 15 (M 1) k) e (never_set pinned_object (cells_of pinned_object) 15 (M 1) 6 refl refl)), tt),
   ),
 )
 

@@ -4,9 +4,8 @@ use Rattle.joint_model.specs.declared.names.Thread.TheVariants.{P}
 use Rattle.joint_model.specs.declared.lines.Act.TheVariants as act
 use Rattle.joint_model.specs.declared.events.Op.TheVariants as op
 use Rattle.joint_model.specs.declared.events.Reply.TheVariants as says
-use Rattle.joint_model.specs.Linked.{opening_linkage, AllMayCome}
 use Rattle.joint_model.specs.Told.{nothing, sweep_of, Noted}
-use Rattle.worked_histories.specs.Moments.{IsRunOf}
+use Rattle.worked_histories.specs.Moments.{IsWorked}
 use Rattle.worked_histories.specs.Notes.{note, var, name_no, peer_no, handle_no, marking_no, span}
 
 -- the whole history
@@ -27,6 +26,5 @@ global_names =
     ∷ []
 
 -- every entry may come when it comes, and the entries that are steps of the joint machine are a run
-pub record GlobalNamesHold : Type 0 where
-  pub lawful : AllMayCome opening_linkage global_names
-  pub run : IsRunOf global_names ([] ∷ (1 ∷ []) ∷ [])
+abbrev pub GlobalNamesHold : Type 0
+GlobalNamesHold = IsWorked global_names ([] ∷ (1 ∷ []) ∷ [])

@@ -6,9 +6,8 @@ use Rattle.joint_model.specs.declared.names.Kind.TheVariants as kind
 use Rattle.joint_model.specs.declared.lines.Act.TheVariants as act
 use Rattle.joint_model.specs.declared.events.Op.TheVariants as op
 use Rattle.joint_model.specs.declared.events.Reply.TheVariants as says
-use Rattle.joint_model.specs.Linked.{opening_linkage, AllMayCome}
 use Rattle.joint_model.specs.Told.{nothing, snap_of, contraction_of, references_of, sweep_of, resolution_of, Noted, said_alive}
-use Rattle.worked_histories.specs.Moments.{IsRunOf}
+use Rattle.worked_histories.specs.Moments.{IsWorked}
 use Rattle.worked_histories.specs.Notes.{note, var, static_no, object_no, peer_no, handle_no, cycle_no, marking_no, span}
 
 -- the whole history
@@ -45,6 +44,5 @@ held_peer =
     ∷ []
 
 -- every entry may come when it comes, and the entries that are steps of the joint machine are a run
-pub record HeldPeerHolds : Type 0 where
-  pub lawful : AllMayCome opening_linkage held_peer
-  pub run : IsRunOf held_peer ([] ∷ [])
+abbrev pub HeldPeerHolds : Type 0
+HeldPeerHolds = IsWorked held_peer ([] ∷ [])

@@ -5,7 +5,7 @@ use Rattle.joint_model.specs.declared.events.Reply.TheVariants as says
 use Rattle.joint_model.specs.First.{AreUnreached}
 use Rattle.joint_model.specs.Joined.{joint_since, graph_at}
 use Rattle.joint_model.specs.Joint.{Joint, Graph, opening}
-use Rattle.joint_model.specs.Linked.{Linkage, opening_linkage, linkage_after, is_joint, joint_projection}
+use Rattle.joint_model.specs.Linked.{Linkage, opening_linkage, linkage_after, is_joint, joint_projection, AllMayCome}
 use Rattle.joint_model.specs.Run.{Moment, IsRun}
 use Rattle.joint_model.specs.Told.{Noted}
 
@@ -60,3 +60,8 @@ AreUnreachedEach (g ∷ gs) [] = ⊥
 pub record IsRunOf (noted : List Noted) (unreached : List (List ℕ)) : Type 0 where
   pub run : IsRun (joint_projection noted) (moments_of noted)
   pub begins : AreUnreachedEach (begins_from opening_linkage noted) unreached
+
+-- every entry may come when it comes, and the entries that are steps of the joint machine are a run
+pub record IsWorked (noted : List Noted) (unreached : List (List ℕ)) : Type 0 where
+  pub lawful : AllMayCome opening_linkage noted
+  pub run : IsRunOf noted unreached

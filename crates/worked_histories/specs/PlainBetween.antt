@@ -10,7 +10,7 @@ use Rattle.joint_model.specs.declared.events.Reply.TheVariants as says
 use Rattle.joint_model.specs.Linked.{Linkage, opening_linkage, replayed, AllMayCome, MayCome}
 use Rattle.joint_model.specs.PeerReplay.{SweepAllows}
 use Rattle.joint_model.specs.Told.{nothing, snap_of, contraction_of, references_of, sweep_of, resolution_of, Noted, said_alive}
-use Rattle.worked_histories.specs.Moments.{IsRunOf}
+use Rattle.worked_histories.specs.Moments.{IsWorked}
 use Rattle.worked_histories.specs.Notes.{note, var, static_no, object_no, peer_no, handle_no, cycle_no, marking_no, span}
 
 -- all objects are made and linked, the first peer comes into the static, no variable holds them any more, and the cycle has
@@ -63,9 +63,8 @@ abbrev pub plain_between : List Noted
 plain_between = plain_contracted ++ (plain_mirrored ∷ (plain_weakened ++ plain_kept))
 
 -- every entry may come when it comes, and the entries that are steps of the joint machine are a run
-pub record PlainBetweenHolds : Type 0 where
-  pub lawful : AllMayCome opening_linkage plain_between
-  pub run : IsRunOf plain_between ([] ∷ [])
+abbrev pub PlainBetweenHolds : Type 0
+PlainBetweenHolds = IsWorked plain_between ([] ∷ [])
 
 -- the state before the mirror, and before the sweep
 abbrev pub before_plain_mirror : Linkage

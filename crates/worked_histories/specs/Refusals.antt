@@ -5,9 +5,8 @@ use Rattle.joint_model.specs.declared.names.Phase.TheVariants as at
 use Rattle.joint_model.specs.declared.names.PhaseWord.TheVariants as word
 use Rattle.joint_model.specs.declared.events.Op.TheVariants as op
 use Rattle.joint_model.specs.declared.events.Reply.TheVariants as says
-use Rattle.joint_model.specs.Linked.{opening_linkage, AllMayCome}
 use Rattle.joint_model.specs.Told.{nothing, snap_of, contraction_of, references_of, sweep_of, resolution_of, phase_of, Noted}
-use Rattle.worked_histories.specs.Moments.{IsRunOf}
+use Rattle.worked_histories.specs.Moments.{IsWorked}
 use Rattle.worked_histories.specs.Notes.{note, cycle_no, marking_no, span}
 
 -- the whole history
@@ -26,6 +25,5 @@ refusals =
     ∷ []
 
 -- every entry may come when it comes, and the entries that are steps of the joint machine are a run
-pub record RefusalsHold : Type 0 where
-  pub lawful : AllMayCome opening_linkage refusals
-  pub run : IsRunOf refusals ([] ∷ [])
+abbrev pub RefusalsHold : Type 0
+RefusalsHold = IsWorked refusals ([] ∷ [])

@@ -1,4 +1,4 @@
-use Rattle.worked_histories.proofs.AbandonedSteps.{abandoned-holds}
+use Rattle.worked_histories.proofs.Examples.{abandoned-holds}
 use Rattle.worked_histories.proofs.further.abandoned_is_lawful.Goals as goal
 
 pub returns : goal.returns

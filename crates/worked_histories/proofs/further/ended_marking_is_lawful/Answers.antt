@@ -1,4 +1,4 @@
-use Rattle.worked_histories.proofs.EndedMarkingSteps.{ended_marking-holds}
+use Rattle.worked_histories.proofs.Examples.{ended_marking-holds}
 use Rattle.worked_histories.proofs.further.ended_marking_is_lawful.Goals as goal
 
 pub returns : goal.returns

@@ -1,4 +1,4 @@
-use Rattle.worked_histories.proofs.GlobalNamesSteps.{global_names-holds}
+use Rattle.worked_histories.proofs.Examples.{global_names-holds}
 use Rattle.worked_histories.proofs.further.global_names_is_lawful.Goals as goal
 
 pub returns : goal.returns

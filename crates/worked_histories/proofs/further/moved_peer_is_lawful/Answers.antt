@@ -1,4 +1,4 @@
-use Rattle.worked_histories.proofs.MovedPeerSteps.{moved_peer-holds}
+use Rattle.worked_histories.proofs.Examples.{moved_peer-holds}
 use Rattle.worked_histories.proofs.further.moved_peer_is_lawful.Goals as goal
 
 pub returns : goal.returns

@@ -1,4 +1,4 @@
-use Rattle.worked_histories.proofs.RefusalsSteps.{refusals-holds}
+use Rattle.worked_histories.proofs.Examples.{refusals-holds}
 use Rattle.worked_histories.proofs.further.refusals_is_lawful.Goals as goal
 
 pub returns : goal.returns

@@ -1,4 +1,4 @@
-use Rattle.worked_histories.proofs.TwoMarkingsSteps.{two_markings-holds}
+use Rattle.worked_histories.proofs.Examples.{two_markings-holds}
 use Rattle.worked_histories.proofs.further.two_markings_is_lawful.Goals as goal
 
 pub returns : goal.returns

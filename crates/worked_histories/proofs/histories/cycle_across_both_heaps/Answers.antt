@@ -1,4 +1,4 @@
-use Rattle.worked_histories.proofs.CrossHeaps.{cross_heap_cycle-lawful}
+use Rattle.worked_histories.proofs.Examples.{cross_heap_cycle-lawful}
 use Rattle.worked_histories.proofs.histories.cycle_across_both_heaps.Goals as goal
 
 pub returns : goal.returns

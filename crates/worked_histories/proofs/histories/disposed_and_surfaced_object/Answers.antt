@@ -1,4 +1,4 @@
-use Rattle.worked_histories.proofs.Surfacing.{disposed_and_surfaced-lawful}
+use Rattle.worked_histories.proofs.Examples.{disposed_and_surfaced-lawful}
 use Rattle.worked_histories.proofs.histories.disposed_and_surfaced_object.Goals as goal
 
 pub returns : goal.returns

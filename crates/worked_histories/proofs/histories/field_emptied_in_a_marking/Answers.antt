@@ -1,4 +1,4 @@
-use Rattle.worked_histories.proofs.Deleted.{deletion-lawful}
+use Rattle.worked_histories.proofs.Examples.{deletion-lawful}
 use Rattle.worked_histories.proofs.histories.field_emptied_in_a_marking.Goals as goal
 
 pub returns : goal.returns

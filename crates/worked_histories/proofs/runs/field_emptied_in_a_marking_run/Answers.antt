@@ -1,4 +1,4 @@
-use Rattle.worked_histories.proofs.DeletionRuns.{deletion-run}
+use Rattle.worked_histories.proofs.Examples.{deletion-run}
 use Rattle.worked_histories.proofs.runs.field_emptied_in_a_marking_run.Goals as goal
 
 pub returns : goal.returns

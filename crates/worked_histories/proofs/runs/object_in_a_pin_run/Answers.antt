@@ -1,5 +1,5 @@
-use Rattle.worked_histories.proofs.PinnedRuns.{pinned-run}
+use Rattle.worked_histories.proofs.Examples.{pinned_object-run}
 use Rattle.worked_histories.proofs.runs.object_in_a_pin_run.Goals as goal
 
 pub returns : goal.returns
-returns c = pinned-run
+returns c = pinned_object-run

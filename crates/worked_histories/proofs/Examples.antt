@@ -1,0 +1,134 @@
+-- The worked histories, each by computing.
+use Rattle.std.proofs.Common.{refl, subst, [], ◌∷◌}
+use Rattle.joint_model.specs.First.{AllFirstMayCome, opening_first, first_replayed}
+use Rattle.joint_model.specs.Linked.{AllMayCome, opening_linkage, replayed, joint_projection}
+use Rattle.joint_model.specs.Run.{IsRun}
+use Rattle.history_tests.proofs.HistoryTests.{numbered, whole}
+use Rattle.history_tests.proofs.StepTests.{runs_tested}
+use Rattle.worked_histories.specs.CrossHeap.{cross_heap_cycle}
+use Rattle.worked_histories.specs.Deletion.{deletion}
+use Rattle.worked_histories.specs.Abandoned.{abandoned, AbandonedHolds}
+use Rattle.worked_histories.specs.EndedMarking.{ended_marking, EndedMarkingHolds}
+use Rattle.worked_histories.specs.FirstNames.{first_names, FirstNamesHold}
+use Rattle.worked_histories.specs.FirstSteps.{two_linked}
+use Rattle.worked_histories.specs.GlobalNames.{global_names, GlobalNamesHold}
+use Rattle.worked_histories.specs.HeldPeer.{held_peer, HeldPeerHolds}
+use Rattle.worked_histories.specs.MovedPeer.{moved_peer, MovedPeerHolds}
+use Rattle.worked_histories.specs.OneObject.{one_object, OneObjectHolds}
+use Rattle.worked_histories.specs.PeerMarking.{peer_marking, PeerMarkingHolds}
+use Rattle.worked_histories.specs.PendingRead.{pending_read, PendingReadHolds}
+use Rattle.worked_histories.specs.PlainBetween.{plain_between, PlainBetweenHolds}
+use Rattle.worked_histories.specs.PlainObject.{plain_object, PlainObjectHolds}
+use Rattle.worked_histories.specs.Refusals.{refusals, RefusalsHold}
+use Rattle.worked_histories.specs.Resurrected.{resurrected, ResurrectedHolds}
+use Rattle.worked_histories.specs.TwoMarkings.{two_markings, TwoMarkingsHold}
+use Rattle.worked_histories.specs.Phases.{two_phased}
+use Rattle.worked_histories.specs.Pins.{pinned_object}
+use Rattle.worked_histories.specs.Runs.{TwoLinkedRun, TwoPhasedRun, CrossHeapRun, SurfacedRun, PinnedRun, DeletionRun}
+use Rattle.worked_histories.specs.Surfaced.{disposed_and_surfaced}
+use Rattle.worked_histories.specs.Wholes.{cross_heap_finished, two_linked_finished, HistoriesAreWhole}
+use Rattle.worked_histories.proofs.FirstTests.{all_come, first_whole}
+use Rattle.worked_histories.proofs.Worked.{lawful, run_of, worked}
+
+pub abandoned-holds : AbandonedHolds
+abandoned-holds = worked abandoned [] refl refl refl refl
+
+pub ended_marking-holds : EndedMarkingHolds
+ended_marking-holds = worked ended_marking ((1 ∷ 2 ∷ []) ∷ [] ∷ []) refl refl refl refl
+
+pub global_names-holds : GlobalNamesHold
+global_names-holds = worked global_names ([] ∷ (1 ∷ []) ∷ []) refl refl refl refl
+
+pub held_peer-holds : HeldPeerHolds
+held_peer-holds = worked held_peer ([] ∷ []) refl refl refl refl
+
+pub moved_peer-holds : MovedPeerHolds
+moved_peer-holds = worked moved_peer ([] ∷ []) refl refl refl refl
+
+pub one_object-holds : OneObjectHolds
+one_object-holds = worked one_object ((1 ∷ []) ∷ []) refl refl refl refl
+
+pub peer_marking-holds : PeerMarkingHolds
+peer_marking-holds = worked peer_marking ((1 ∷ 2 ∷ []) ∷ [] ∷ []) refl refl refl refl
+
+pub pending_read-holds : PendingReadHolds
+pending_read-holds = worked pending_read ((1 ∷ []) ∷ []) refl refl refl refl
+
+pub plain_between-holds : PlainBetweenHolds
+plain_between-holds = worked plain_between ([] ∷ []) refl refl refl refl
+
+pub plain_object-holds : PlainObjectHolds
+plain_object-holds = worked plain_object ([] ∷ []) refl refl refl refl
+
+pub refusals-holds : RefusalsHold
+refusals-holds = worked refusals ([] ∷ []) refl refl refl refl
+
+pub resurrected-holds : ResurrectedHolds
+resurrected-holds = worked resurrected ([] ∷ []) refl refl refl refl
+
+pub two_markings-holds : TwoMarkingsHold
+two_markings-holds = worked two_markings ([] ∷ [] ∷ []) refl refl refl refl
+
+pub two_phased-lawful : AllMayCome opening_linkage two_phased
+two_phased-lawful = lawful two_phased refl
+
+pub two_phased-run : TwoPhasedRun
+two_phased-run = run_of two_phased ([] ∷ (1 ∷ 2 ∷ []) ∷ []) refl refl refl
+
+pub cross_heap_cycle-lawful : AllMayCome opening_linkage cross_heap_cycle
+cross_heap_cycle-lawful = lawful cross_heap_cycle refl
+
+pub cross_heap_cycle-run : CrossHeapRun
+cross_heap_cycle-run = run_of cross_heap_cycle ((1 ∷ 2 ∷ []) ∷ []) refl refl refl
+
+pub disposed_and_surfaced-lawful : AllMayCome opening_linkage disposed_and_surfaced
+disposed_and_surfaced-lawful = lawful disposed_and_surfaced refl
+
+pub disposed_and_surfaced-run : SurfacedRun
+disposed_and_surfaced-run = run_of disposed_and_surfaced [] refl refl refl
+
+pub pinned_object-lawful : AllMayCome opening_linkage pinned_object
+pinned_object-lawful = lawful pinned_object refl
+
+pub pinned_object-run : PinnedRun
+pinned_object-run = run_of pinned_object ([] ∷ []) refl refl refl
+
+pub deletion-lawful : AllMayCome opening_linkage deletion
+deletion-lawful = lawful deletion refl
+
+pub deletion-run : DeletionRun
+deletion-run = run_of deletion ([] ∷ []) refl refl refl
+
+-- the form of the first steps
+pub two_linked-lawful : AllFirstMayCome opening_first two_linked
+two_linked-lawful = (all_come opening_first two_linked).holds refl
+
+pub first_names-holds : FirstNamesHold
+first_names-holds = (all_come opening_first first_names).holds refl
+
+pub two_linked-run : TwoLinkedRun
+two_linked-run = subst (IsRun (joint_projection two_linked)) refl (runs_tested (joint_projection two_linked) refl)
+
+-- finished histories
+pub histories-whole : HistoriesAreWhole
+histories-whole = record {
+  cross_heap = record {
+    same = refl;
+    numbers = (numbered 0 cross_heap_finished.entries).holds refl;
+    lawful = cross_heap_cycle-lawful;
+    whole = (whole (replayed opening_linkage cross_heap_cycle)).holds refl;
+    freed_managed = refl;
+    freed_peers = refl;
+    notices = refl;
+  };
+  queued = refl;
+  first_steps = record {
+    same = refl;
+    numbers = (numbered 0 two_linked_finished.entries).holds refl;
+    lawful = two_linked-lawful;
+    whole = first_whole (first_replayed opening_first two_linked) refl refl;
+    freed_managed = refl;
+    freed_peers = refl;
+    notices = refl;
+  };
+}
