@@ -28,7 +28,7 @@ use Rattle.worked_histories.specs.Runs.{TwoLinkedRun, TwoPhasedRun, CrossHeapRun
 use Rattle.worked_histories.specs.Surfaced.{disposed_and_surfaced}
 use Rattle.worked_histories.specs.Wholes.{cross_heap_finished, two_linked_finished, HistoriesAreWhole}
 use Rattle.worked_histories.proofs.FirstTests.{all_come, first_whole}
-use Rattle.worked_histories.proofs.Worked.{lawful, run_of, worked}
+use Rattle.worked_histories.proofs.Worked.{worked}
 
 pub abandoned-holds : AbandonedHolds
 abandoned-holds = worked abandoned [] refl refl refl refl
@@ -69,35 +69,35 @@ resurrected-holds = worked resurrected ([] ∷ []) refl refl refl refl
 pub two_markings-holds : TwoMarkingsHold
 two_markings-holds = worked two_markings ([] ∷ [] ∷ []) refl refl refl refl
 
-pub two_phased-lawful : AllMayCome opening_linkage two_phased
-two_phased-lawful = lawful two_phased refl
-
 pub two_phased-run : TwoPhasedRun
-two_phased-run = run_of two_phased ([] ∷ (1 ∷ 2 ∷ []) ∷ []) refl refl refl
+two_phased-run = worked two_phased ([] ∷ (1 ∷ 2 ∷ []) ∷ []) refl refl refl refl
 
-pub cross_heap_cycle-lawful : AllMayCome opening_linkage cross_heap_cycle
-cross_heap_cycle-lawful = lawful cross_heap_cycle refl
+pub two_phased-lawful : AllMayCome opening_linkage two_phased
+two_phased-lawful = two_phased-run.linked.lawful
 
 pub cross_heap_cycle-run : CrossHeapRun
-cross_heap_cycle-run = run_of cross_heap_cycle ((1 ∷ 2 ∷ []) ∷ []) refl refl refl
+cross_heap_cycle-run = worked cross_heap_cycle ((1 ∷ 2 ∷ []) ∷ []) refl refl refl refl
 
-pub disposed_and_surfaced-lawful : AllMayCome opening_linkage disposed_and_surfaced
-disposed_and_surfaced-lawful = lawful disposed_and_surfaced refl
+pub cross_heap_cycle-lawful : AllMayCome opening_linkage cross_heap_cycle
+cross_heap_cycle-lawful = cross_heap_cycle-run.linked.lawful
 
 pub disposed_and_surfaced-run : SurfacedRun
-disposed_and_surfaced-run = run_of disposed_and_surfaced [] refl refl refl
+disposed_and_surfaced-run = worked disposed_and_surfaced [] refl refl refl refl
 
-pub pinned_object-lawful : AllMayCome opening_linkage pinned_object
-pinned_object-lawful = lawful pinned_object refl
+pub disposed_and_surfaced-lawful : AllMayCome opening_linkage disposed_and_surfaced
+disposed_and_surfaced-lawful = disposed_and_surfaced-run.linked.lawful
 
 pub pinned_object-run : PinnedRun
-pinned_object-run = run_of pinned_object ([] ∷ []) refl refl refl
+pinned_object-run = worked pinned_object ([] ∷ []) refl refl refl refl
 
-pub deletion-lawful : AllMayCome opening_linkage deletion
-deletion-lawful = lawful deletion refl
+pub pinned_object-lawful : AllMayCome opening_linkage pinned_object
+pinned_object-lawful = pinned_object-run.linked.lawful
 
 pub deletion-run : DeletionRun
-deletion-run = run_of deletion ([] ∷ []) refl refl refl
+deletion-run = worked deletion ([] ∷ []) refl refl refl refl
+
+pub deletion-lawful : AllMayCome opening_linkage deletion
+deletion-lawful = deletion-run.linked.lawful
 
 -- the form of the first steps
 pub two_linked-lawful : AllFirstMayCome opening_first two_linked

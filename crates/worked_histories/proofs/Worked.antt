@@ -1,4 +1,4 @@
--- A history passes the test of lawfulness, its projection passes that of steps, the moments that the joint machine computes are
+-- A history passes the test of linked histories, its projection passes that of steps, the moments that the joint machine computes are
 -- those of both sides' replays, and the unreached peers pass their test: four computations for each history.
 use Rattle.std.proofs.Common.{◌≡◌, ℕ, Bool, true, false, ◌&&◌, List, [], ◌∷◌, subst}
 use Rattle.joint_model.specs.Joint.{Graph, opening}
@@ -7,14 +7,14 @@ use Rattle.joint_model.specs.PeerReplay.{PeerReplay, Marking, IsMarked, IsSweep}
 use Rattle.joint_model.specs.Run.{IsRun}
 use Rattle.joint_model.specs.Told.{Noted}
 use Rattle.history_tests.specs.Graphs.{are_unreached}
-use Rattle.history_tests.specs.Histories.{all_may_come}
+use Rattle.history_tests.specs.Histories.{all_may_come, is_linked}
 use Rattle.history_tests.specs.Lists.{has}
 use Rattle.history_tests.specs.Markings.{marking_reach, is_sweep}
 use Rattle.history_tests.specs.Rows.{is_live}
 use Rattle.history_tests.specs.Steps.{all_may_step, joint_moments}
 use Rattle.history_tests.proofs.Telling.{Tells, always, never, and2}
 use Rattle.history_tests.proofs.GraphTests.{unreached}
-use Rattle.history_tests.proofs.HistoryTests.{all_come}
+use Rattle.history_tests.proofs.HistoryTests.{all_come, linked}
 use Rattle.history_tests.proofs.MarkingTests.{marked, sweep}
 use Rattle.history_tests.proofs.StepTests.{runs_tested}
 use Rattle.worked_histories.specs.Moments.{moments_of, begins_from, AreUnreachedEach, IsRunOf, IsWorked}
@@ -41,8 +41,8 @@ run_of noted lists steps same begins = record {
   begins = (unreached_each (begins_from opening_linkage noted) lists).holds begins;
 }
 
-pub worked : (noted : List Noted) (lists : List (List ℕ)) → all_may_come opening_linkage noted ≡ true → all_may_step opening (joint_projection noted) ≡ true → joint_moments opening (joint_projection noted) ≡ moments_of noted → are_unreached_each (begins_from opening_linkage noted) lists ≡ true → IsWorked noted lists
-worked noted lists comes steps same begins = record { lawful = lawful noted comes; run = run_of noted lists steps same begins }
+pub worked : (noted : List Noted) (lists : List (List ℕ)) → is_linked noted ≡ true → all_may_step opening (joint_projection noted) ≡ true → joint_moments opening (joint_projection noted) ≡ moments_of noted → are_unreached_each (begins_from opening_linkage noted) lists ≡ true → IsWorked noted lists
+worked noted lists whole steps same begins = record { linked = (linked noted).holds whole; run = run_of noted lists steps same begins }
 
 -- what a marking reaches, and what its sweep frees
 pub is_reached_by : (mk : Marking) (p : ℕ) → (is_live mk.heap p && has (marking_reach mk) p) ≡ true → IsMarked mk p

@@ -23,6 +23,6 @@ abandoned =
     ∷ note 7 C 5 (op.Abandon (cycle_no 2)) says.Ok None nothing
     ∷ []
 
--- every entry may come when it comes, and the entries that are steps of the joint machine are a run
+-- the notes make a linked history, and the entries that are steps of the joint machine are a run
 abbrev pub AbandonedHolds : Type 0
 AbandonedHolds = IsWorked abandoned []

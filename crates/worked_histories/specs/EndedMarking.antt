@@ -43,6 +43,6 @@ ended_marking =
     ∷ note 27 (M 1) 21 (op.Line (act.Read (cell_no 0))) says.Gone None nothing
     ∷ []
 
--- every entry may come when it comes, and the entries that are steps of the joint machine are a run
+-- the notes make a linked history, and the entries that are steps of the joint machine are a run
 abbrev pub EndedMarkingHolds : Type 0
 EndedMarkingHolds = IsWorked ended_marking ((1 ∷ 2 ∷ []) ∷ [] ∷ [])

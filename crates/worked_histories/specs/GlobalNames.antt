@@ -25,6 +25,6 @@ global_names =
     ∷ note 11 (P 1) 10 (op.Line (act.UnGlobal (name_no 1))) says.Unset None nothing
     ∷ []
 
--- every entry may come when it comes, and the entries that are steps of the joint machine are a run
+-- the notes make a linked history, and the entries that are steps of the joint machine are a run
 abbrev pub GlobalNamesHold : Type 0
 GlobalNamesHold = IsWorked global_names ([] ∷ (1 ∷ []) ∷ [])

@@ -43,6 +43,6 @@ held_peer =
     ∷ note 27 C 14 (op.Resolve (cycle_no 1)) (says.Freed (span 0 0)) (Some 26) (resolution_of (said_alive ∷ said_alive ∷ []) [])
     ∷ []
 
--- every entry may come when it comes, and the entries that are steps of the joint machine are a run
+-- the notes make a linked history, and the entries that are steps of the joint machine are a run
 abbrev pub HeldPeerHolds : Type 0
 HeldPeerHolds = IsWorked held_peer ([] ∷ [])

@@ -5,9 +5,10 @@ use Rattle.joint_model.specs.declared.events.Reply.TheVariants as says
 use Rattle.joint_model.specs.First.{AreUnreached}
 use Rattle.joint_model.specs.Joined.{joint_since, graph_at}
 use Rattle.joint_model.specs.Joint.{Joint, Graph, opening}
-use Rattle.joint_model.specs.Linked.{Linkage, opening_linkage, linkage_after, is_joint, joint_projection, AllMayCome}
+use Rattle.joint_model.specs.Linked.{Linkage, opening_linkage, linkage_after, is_joint, joint_projection, IsLinkedBy}
 use Rattle.joint_model.specs.Run.{Moment, IsRun}
 use Rattle.joint_model.specs.Told.{Noted}
+use Rattle.history_tests.specs.Histories.{finished_of}
 
 -- the joint state of a linked history, with the graph that stood at the begin of the open marking
 abbrev pub linked_joint : Linkage → Graph → Joint
@@ -61,7 +62,8 @@ pub record IsRunOf (noted : List Noted) (unreached : List (List ℕ)) : Type 0 w
   pub run : IsRun (joint_projection noted) (moments_of noted)
   pub begins : AreUnreachedEach (begins_from opening_linkage noted) unreached
 
--- every entry may come when it comes, and the entries that are steps of the joint machine are a run
+-- the notes make a linked history: every entry may come when it comes, and nothing is left half done. And the entries that are
+-- steps of the joint machine are a run, with these peers unreached at the begins of its markings.
 pub record IsWorked (noted : List Noted) (unreached : List (List ℕ)) : Type 0 where
-  pub lawful : AllMayCome opening_linkage noted
+  pub linked : IsLinkedBy (finished_of noted) noted
   pub run : IsRunOf noted unreached

@@ -38,6 +38,6 @@ moved_peer =
     ∷ note 22 C 15 (op.Resolve (cycle_no 1)) (says.Freed (span 0 0)) (Some 21) (resolution_of (said_alive ∷ []) [])
     ∷ []
 
--- every entry may come when it comes, and the entries that are steps of the joint machine are a run
+-- the notes make a linked history, and the entries that are steps of the joint machine are a run
 abbrev pub MovedPeerHolds : Type 0
 MovedPeerHolds = IsWorked moved_peer ([] ∷ [])

@@ -29,6 +29,6 @@ one_object =
     ∷ note 13 C 5 (op.Line (act.Finalise 5)) (says.Took (span 1 0)) None nothing
     ∷ []
 
--- every entry may come when it comes, and the entries that are steps of the joint machine are a run
+-- the notes make a linked history, and the entries that are steps of the joint machine are a run
 abbrev pub OneObjectHolds : Type 0
 OneObjectHolds = IsWorked one_object ((1 ∷ []) ∷ [])

@@ -36,6 +36,6 @@ peer_marking =
     ∷ note 20 C 15 (op.Resolve (cycle_no 1)) (says.Freed (span 0 2)) (Some 19) (resolution_of (said_cleared ∷ said_cleared ∷ []) (1 ∷ 2 ∷ []))
     ∷ []
 
--- every entry may come when it comes, and the entries that are steps of the joint machine are a run
+-- the notes make a linked history, and the entries that are steps of the joint machine are a run
 abbrev pub PeerMarkingHolds : Type 0
 PeerMarkingHolds = IsWorked peer_marking ((1 ∷ 2 ∷ []) ∷ [] ∷ [])

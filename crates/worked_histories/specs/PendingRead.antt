@@ -31,6 +31,6 @@ pending_read =
     ∷ note 15 (M 1) 14 (op.Line (act.Read (cell_no 0))) says.Gone None nothing
     ∷ []
 
--- every entry may come when it comes, and the entries that are steps of the joint machine are a run
+-- the notes make a linked history, and the entries that are steps of the joint machine are a run
 abbrev pub PendingReadHolds : Type 0
 PendingReadHolds = IsWorked pending_read ((1 ∷ []) ∷ [])

@@ -62,7 +62,7 @@ plain_kept =
 abbrev pub plain_between : List Noted
 plain_between = plain_contracted ++ (plain_mirrored ∷ (plain_weakened ++ plain_kept))
 
--- every entry may come when it comes, and the entries that are steps of the joint machine are a run
+-- the notes make a linked history, and the entries that are steps of the joint machine are a run
 abbrev pub PlainBetweenHolds : Type 0
 PlainBetweenHolds = IsWorked plain_between ([] ∷ [])
 

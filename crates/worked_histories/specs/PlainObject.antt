@@ -23,6 +23,6 @@ plain_object =
     ∷ note 8 C 3 (op.Resolve (cycle_no 1)) (says.Freed (span 1 0)) (Some 7) (resolution_of [] [])
     ∷ []
 
--- every entry may come when it comes, and the entries that are steps of the joint machine are a run
+-- the notes make a linked history, and the entries that are steps of the joint machine are a run
 abbrev pub PlainObjectHolds : Type 0
 PlainObjectHolds = IsWorked plain_object ([] ∷ [])

@@ -24,6 +24,6 @@ refusals =
     ∷ note 9 C 4 (op.Resolve (cycle_no 1)) (says.Freed (span 0 0)) (Some 8) (resolution_of [] [])
     ∷ []
 
--- every entry may come when it comes, and the entries that are steps of the joint machine are a run
+-- the notes make a linked history, and the entries that are steps of the joint machine are a run
 abbrev pub RefusalsHold : Type 0
 RefusalsHold = IsWorked refusals ([] ∷ [])

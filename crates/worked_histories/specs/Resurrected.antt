@@ -34,6 +34,6 @@ resurrected =
     ∷ note 18 C 10 (op.Resolve (cycle_no 1)) (says.Freed (span 0 0)) (Some 17) (resolution_of (said_alive ∷ []) [])
     ∷ []
 
--- every entry may come when it comes, and the entries that are steps of the joint machine are a run
+-- the notes make a linked history, and the entries that are steps of the joint machine are a run
 abbrev pub ResurrectedHolds : Type 0
 ResurrectedHolds = IsWorked resurrected ([] ∷ [])

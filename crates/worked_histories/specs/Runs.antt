@@ -11,7 +11,7 @@ use Rattle.worked_histories.specs.CrossHeap.{cross_heap_cycle}
 use Rattle.worked_histories.specs.Deletion.{deletion}
 use Rattle.worked_histories.specs.FirstSteps.{two_linked}
 use Rattle.worked_histories.specs.Phases.{two_phased}
-use Rattle.worked_histories.specs.Moments.{IsRunOf, begun_with, linked_graph}
+use Rattle.worked_histories.specs.Moments.{IsWorked, begun_with, linked_graph}
 use Rattle.worked_histories.specs.Pins.{pinned_object}
 use Rattle.worked_histories.specs.Surfaced.{disposed_and_surfaced}
 
@@ -28,21 +28,21 @@ abbrev pub first_moments : Graph → FirstLinkage → List Noted → List Moment
 first_moments begun s [] = []
 first_moments begun s (n ∷ ns) = record { before = first_joint s begun; noted = n; after = first_joint (first_after s n) (first_begun begun s n) } ∷ first_moments (first_begun begun s n) (first_after s n) ns
 
--- each history's projection is a run
+-- each history's projection is a run; the notes of those with cycles of eight phases make linked histories
 abbrev pub TwoLinkedRun : Type 0
 TwoLinkedRun = IsRun (joint_projection two_linked) (first_moments opening.graph opening_first two_linked)
 
 abbrev pub TwoPhasedRun : Type 0
-TwoPhasedRun = IsRunOf two_phased ([] ∷ (1 ∷ 2 ∷ []) ∷ [])
+TwoPhasedRun = IsWorked two_phased ([] ∷ (1 ∷ 2 ∷ []) ∷ [])
 
 abbrev pub CrossHeapRun : Type 0
-CrossHeapRun = IsRunOf cross_heap_cycle ((1 ∷ 2 ∷ []) ∷ [])
+CrossHeapRun = IsWorked cross_heap_cycle ((1 ∷ 2 ∷ []) ∷ [])
 
 abbrev pub SurfacedRun : Type 0
-SurfacedRun = IsRunOf disposed_and_surfaced []
+SurfacedRun = IsWorked disposed_and_surfaced []
 
 abbrev pub PinnedRun : Type 0
-PinnedRun = IsRunOf pinned_object ([] ∷ [])
+PinnedRun = IsWorked pinned_object ([] ∷ [])
 
 abbrev pub DeletionRun : Type 0
-DeletionRun = IsRunOf deletion ([] ∷ [])
+DeletionRun = IsWorked deletion ([] ∷ [])

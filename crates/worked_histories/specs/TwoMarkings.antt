@@ -39,6 +39,6 @@ two_markings =
     ∷ note 23 C 19 (op.Resolve (cycle_no 1)) (says.Freed (span 0 0)) (Some 20) (resolution_of [] [])
     ∷ []
 
--- every entry may come when it comes, and the entries that are steps of the joint machine are a run
+-- the notes make a linked history, and the entries that are steps of the joint machine are a run
 abbrev pub TwoMarkingsHold : Type 0
 TwoMarkingsHold = IsWorked two_markings ([] ∷ [] ∷ [])

@@ -1,4 +1,5 @@
-// Further histories: each is lawful entry by entry, and but for those of the first steps a run of the joint machine.
+// Further histories: but for those of the first steps the notes of each make a linked history, and its projection is a run of the
+// joint machine.
 
 ghost use Rattle.worked_histories.specs.Abandoned.{AbandonedHolds};
 ghost use Rattle.worked_histories.specs.EndedMarking.{EndedMarkingHolds};

@@ -1,4 +1,4 @@
-// The worked histories as runs of the joint machine.
+// The worked histories as runs of the joint machine; those with cycles of eight phases are whole.
 
 ghost use Rattle.worked_histories.specs.Runs.{TwoLinkedRun, TwoPhasedRun, CrossHeapRun, SurfacedRun, PinnedRun, DeletionRun};
 
