@@ -1,5 +1,5 @@
 -- The test of the next entry tells what the definition says, part by part, and so does that of a list of entries.
-use Rattle.std.proofs.Common.{◌≡◌, ℕ, ◌+◌, ◌^◌, ◌↔◌, Bool, true, false, IsTrue, List, [], ◌∷◌, length, map, take, refl, ap}
+use Rattle.std.proofs.Common.{◌≡◌, ℕ, ◌+◌, ◌^◌, Bool, true, false, List, [], ◌∷◌, length, map, take, refl, ap}
 use Rattle.joint_model.specs.declared.events.Entry.{Entry}
 use Rattle.joint_model.specs.declared.events.Made.{Made}
 use Rattle.joint_model.specs.Control.{last_line, candidates_of}
@@ -11,7 +11,7 @@ use Rattle.joint_model.specs.ManagedReplay.{ManagedReplay, managed_answer}
 use Rattle.joint_model.specs.PeerReplay.{PeerReplay, peer_answer}
 use Rattle.joint_model.specs.Told.{Told, Noted}
 use Rattle.history_tests.specs.Histories.{managed_lawful, peer_lawful, side_lawful, may_come, all_may_come, is_numbered_from, is_whole, finished_of, is_linked, LinkedIsTested, LinkedHasQueued, MayComeIsTested, AllMayComeIsTested, NumbersAreTested, WholeIsTested, RepliesAreTested}
-use Rattle.history_tests.proofs.Telling.{Tells, always, like, and2, and3, and5, same, less, upto}
+use Rattle.history_tests.proofs.Telling.{Tells, tested, always, like, and2, and3, and5, same, less, upto}
 use Rattle.history_tests.proofs.ReplyTests.{replies}
 use Rattle.history_tests.proofs.LineTests.{tells_event}
 use Rattle.history_tests.proofs.SideTests.{managed, peer}
@@ -47,9 +47,6 @@ pub whole : (s : Linkage) → Tells (is_whole s) (IsWhole s)
 whole s = like (λ p. record { threads = p.0; driver = p.1 }) (λ r. (r.threads, r.driver)) (and2 (all_done s.control.doing) (at_rest s.control.stand (length (candidates_of s.managed.managed))))
 
 -- as the contracts state it
-tested : {b : Bool} {P : Type 0} → Tells b P → IsTrue b ↔ P
-tested t = (t.holds, t.passes)
-
 pub may_come_tested : MayComeIsTested
 may_come_tested s n = tested (comes s n)
 

@@ -10,3 +10,4 @@ pub mod SideTests
 pub mod HistoryTests
 pub mod GraphTests
 pub mod StepTests
+pub mod Parts

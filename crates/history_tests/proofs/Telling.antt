@@ -1,6 +1,6 @@
 -- A test tells a fact where it is true exactly then. Tests that are joined by `&&`, `||` and `not` tell what their parts tell,
 -- joined; so do tests of every element of a list, and of what stands in a place.
-use Rattle.std.proofs.Common.{◌≡◌, ℕ, ◌<◌, ◌≤◌, ◌⊎◌, Bool, true, false, not, ◌&&◌, ◌||◌, nat_eq, nat_lt, nat_le, List, [], ◌∷◌, Option, Some, None, refl, ap, subst, true≢false, sym, ◌∙◌}
+use Rattle.std.proofs.Common.{◌≡◌, ℕ, ◌<◌, ◌≤◌, ◌⊎◌, ◌↔◌, IsTrue, Bool, true, false, not, ◌&&◌, ◌||◌, nat_eq, nat_lt, nat_le, List, [], ◌∷◌, Option, Some, None, refl, ap, subst, true≢false, sym, ◌∙◌}
 use Rattle.std.specs.Bool.{Decides}
 use Rattle.std.specs.List.{All, list_all}
 use Rattle.std.proofs.lemmas.Bool.{false≢true, leb-true, le-leb, ltb-true, lt-ltb}
@@ -18,6 +18,10 @@ decides t = (t.holds, t.passes)
 
 pub tells : {b : Bool} {P : Type 0} → Decides b P → Tells b P
 tells d = record { holds = d.0; passes = d.1 }
+
+-- as contracts state it
+pub tested : {b : Bool} {P : Type 0} → Tells b P → IsTrue b ↔ P
+tested t = (t.holds, t.passes)
 
 pub always : {P : Type 0} → P → Tells true P
 always p = record { holds = λ e. p; passes = λ q. refl }

@@ -9,3 +9,4 @@ pub mod Sides
 pub mod Histories
 pub mod Graphs
 pub mod Steps
+pub mod Parts

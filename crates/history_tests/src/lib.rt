@@ -8,6 +8,7 @@
 
 ghost use Rattle.history_tests.specs.Graphs.{ReachedIsTested, UnreachedAreTested};
 ghost use Rattle.history_tests.specs.Histories.{AllMayComeIsTested, LinkedHasQueued, LinkedIsTested, MayComeIsTested, NumbersAreTested, RepliesAreTested, WholeIsTested};
+ghost use Rattle.history_tests.specs.Parts.{CallerIsTested, ClosureIsTested, ContractionIsTested, EventIsTested, ManagedIsTested, PeerIsTested, ResolutionIsTested, SnapshotIsTested, SweepIsTested};
 ghost use Rattle.history_tests.specs.Steps.{RunsAreTested, StepsAreTested};
 
 /// Whether an entry may come next is decided by its test, and so is whether every entry of a list may come when it comes.
@@ -42,4 +43,23 @@ pub fn reached_is_tested()
 pub fn steps_are_tested()
     ensures one { StepsAreTested }
     ensures run { RunsAreTested }
+{}
+
+/// What a snapshot frees and leaves, what a resolution frees, the components of a dead part, a slice's closure and what a sweep
+/// frees are decided by their tests.
+pub fn freeing_is_tested()
+    ensures snapshot { SnapshotIsTested }
+    ensures resolution { ResolutionIsTested }
+    ensures contraction { ContractionIsTested }
+    ensures closure { ClosureIsTested }
+    ensures sweep { SweepIsTested }
+{}
+
+/// Whether there is an event, what it asks for of its own side, and whether it comes in its caller's order are decided by their
+/// tests.
+pub fn events_are_tested()
+    ensures event { EventIsTested }
+    ensures managed { ManagedIsTested }
+    ensures peer { PeerIsTested }
+    ensures caller { CallerIsTested }
 {}

@@ -1,0 +1,38 @@
+-- The parts' tests, as their contracts state it.
+use Rattle.joint_model.specs.Cycles.{IsAnsweredAlive}
+use Rattle.history_tests.specs.Parts.{SnapshotIsTested, ResolutionIsTested, ContractionIsTested, ClosureIsTested, SweepIsTested, EventIsTested, ManagedIsTested, PeerIsTested, CallerIsTested}
+use Rattle.history_tests.specs.Rows.{answered_alive}
+use Rattle.history_tests.proofs.Telling.{tested}
+use Rattle.history_tests.proofs.CallerTests.{caller}
+use Rattle.history_tests.proofs.ContractionTests.{dead_contraction}
+use Rattle.history_tests.proofs.LineTests.{tells_event}
+use Rattle.history_tests.proofs.MarkingTests.{closure, sweep}
+use Rattle.history_tests.proofs.RowTests.{snapshot, resolution, answered}
+use Rattle.history_tests.proofs.SideTests.{managed, peer}
+
+pub snapshot_tested : SnapshotIsTested
+snapshot_tested s k freed candidates dead = tested (snapshot s k freed candidates dead)
+
+pub resolution_tested : ResolutionIsTested
+resolution_tested s dead candidates given freed = tested (resolution s dead (IsAnsweredAlive candidates given) (answered_alive candidates given) freed (answered candidates given))
+
+pub contraction_tested : ContractionIsTested
+contraction_tested s dead comps xrefs = tested (dead_contraction s dead comps xrefs)
+
+pub closure_tested : ClosureIsTested
+closure_tested mk rows = tested (closure mk rows)
+
+pub sweep_tested : SweepIsTested
+sweep_tested s mk freed = tested (sweep s mk freed)
+
+pub event_tested : EventIsTested
+event_tested t o = tested (tells_event t o)
+
+pub managed_tested : ManagedIsTested
+managed_tested s o told = tested (managed s o told)
+
+pub peer_tested : PeerIsTested
+peer_tested s t o cites told = tested (peer s t o cites told)
+
+pub caller_tested : CallerIsTested
+caller_tested s m issued t line o reply cites told = tested (caller s m issued t line o reply cites told)
