@@ -8,10 +8,11 @@ use Rattle.joint_model.specs.declared.names.Thread.{Thread}
 use Rattle.joint_model.specs.declared.names.Thread.TheVariants.{M, P, C}
 use Rattle.joint_model.specs.Lines.{IsThread}
 use Rattle.order_table.specs.declared.views.Role.{Role}
+use Rattle.order_table.specs.declared.views.Kept.{Kept}
 use Rattle.order_table.specs.declared.views.View.{View}
 use Rattle.order_table.specs.Rows.{at, put}
 use Rattle.order_table.specs.Views.{Owns, known, role_line, caller_line, giving, given, hearing, lines_of_role, lines_of_caller}
-use Rattle.order_table.specs.Tells.{Compares, Parts, IsOfRole, IsOfCaller, IsOfNone, TakesIn}
+use Rattle.order_table.specs.Tells.{Compares, Grows, Parts, IsOfRole, IsOfCaller, IsOfNone, TakesIn}
 use Rattle.order_table.proofs.Places.{at_put_here, at_put_else, at_joined, at_common, at_without, at_longest, longer_cases}
 
 -- the mask has just the lines of this kind
@@ -74,6 +75,10 @@ not_of_caller (M n) i is far (inl e) = let low = is.0 in ⊎_elim (λ l. omega a
 not_of_caller (M n) i is far (inr e) = let low = is.0 in ⊎_elim (λ l. omega arith) (λ l. omega arith) far
 not_of_caller (P n) i is far e = ⊎_elim (λ l. omega arith) (λ l. omega arith) far
 not_of_caller C i is far e = ⊎_elim (λ l. omega arith) (λ l. omega arith) far
+
+-- who makes an entry owns what it owned
+pub still_owns : {v w : View} {r : ℕ} {k : Kept} → Grows v w r k → (i : ℕ) → Owns v i → Owns w i
+still_owns g i o = subst (λ os. at false os i ≡ true) (sym g.owns) o
 
 or_true : (a b : Bool) → (a ≡ true) ⊎ (b ≡ true) → (a || b) ≡ true
 or_true true b e = refl

@@ -5,7 +5,7 @@
 -- alone. A join keeps both views side by side; the load after it compares them, and takes of each line the longer list, since both are beginnings
 -- of one line; where one of the two owned the line, it knew it whole, and so the longer list is that one's.
 use Rattle.std.proofs.Common.{◌≡◌, ◌≢◌, ◌⊎◌, inl, inr, ⊎_elim, ℕ, zero, suc, ◌+◌, ◌%◌, ◌^◌, ◌<◌, ◌≤◌, Bool, true, false, not, ◌&&◌, List, [], ◌∷◌, ◌++◌, length, get_or, set, refl, sym, ap, ◌∙◌, subst, arith, length-append, length-set, get_or-set_same, true≢false}
-use Rattle.std.specs.Prelude.{if◌then◌else◌, Option}
+use Rattle.std.specs.Prelude.{if◌then◌else◌, Option, replicate}
 use Rattle.std.proofs.lemmas.Bool.{cases_Bool, and_parts, or_cases, not-true, both_ways}
 use mathlib.Core.Option.{none, some, some-injective, some-ne-none}
 use mathlib.Core.List.{IsPrefix}
@@ -139,6 +139,14 @@ opens_order = record {
     only : (j : ℕ) (v : View) → get_elem? (first_view ∷ []) j ≡ some v → Knows [] (λ i. 0) j v
     only zero v e = subst (Knows [] (λ i. 0) 0) (some-injective first_view v e) fresh
     only (suc j) v e = absurd (some-ne-none v (sym e))
+
+pub owns_first : OwnsAll first_view
+owns_first i l = all_true 27 i l
+  where
+    all_true : (n i : ℕ) → i < n → at false (replicate n true) i ≡ true
+    all_true zero i l = absurd (omega arith)
+    all_true (suc n) zero l = refl
+    all_true (suc n) (suc i) l = all_true n i (omega arith)
 
 -- what stands in a list one longer: what stood in it, or the last
 at_end : (l : List View) (a b : View) (j : ℕ) → get_elem? (l ++ a ∷ []) j ≡ some b → (get_elem? l j ≡ some b) ⊎ ((j ≡ length l) × (a ≡ b))

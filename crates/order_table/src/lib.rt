@@ -42,6 +42,8 @@ mod finished;
 mod orders;
 mod plays;
 mod seats;
+#[cfg(test)]
+mod tests;
 mod views;
 
 pub use finished::Linked;

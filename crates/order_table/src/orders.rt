@@ -37,7 +37,8 @@ impl Order {
     /// readers whatever `readers` is: what isn't handed out isn't used.
     pub fn new(alloc: Global, readers: u8) -> Result<(Order, Seat), AllocError>
         requires readers { readers ≤ 8 }
-        ensures { IfOk result (λ r. (r.1.order ≡ r.0) × (r.1.view ≡ first_view)) }
+        ensures seat { IfOk result (λ r. (r.1.order ≡ r.0) × (r.1.view ≡ first_view)) }
+        ensures all { IfOk result (λ r. OwnsAll r.1.view) }
     {
         let _ = readers;
         let (table, inner) = Table::of_words(alloc, &[0], &())?;
