@@ -11,7 +11,7 @@ use Rattle.order_table.specs.declared.views.Role.{Role}
 use Rattle.order_table.specs.declared.views.Kept.{Kept}
 use Rattle.order_table.specs.declared.views.View.{View}
 use Rattle.order_table.specs.Rows.{at, put}
-use Rattle.order_table.specs.Views.{Owns, known, role_line, caller_line, giving, given, hearing, lines_of_role, lines_of_caller}
+use Rattle.order_table.specs.Views.{Owns, known, role_line, caller_line, giving, given, hearing, lines_of_role, lines_of_caller, lines_of_none}
 use Rattle.order_table.specs.Tells.{Compares, Grows, Parts, IsOfRole, IsOfCaller, IsOfNone, TakesIn}
 use Rattle.order_table.proofs.Places.{at_put_here, at_put_else, at_joined, at_common, at_without, at_longest, longer_cases}
 
@@ -61,7 +61,7 @@ marks_caller (M n) = marks_two (1 + n) (caller_line (M n))
 marks_caller (P n) = marks_one (caller_line (P n))
 marks_caller C = marks_one (caller_line C)
 
-pub marks_none : Marks IsOfNone []
+pub marks_none : Marks IsOfNone lines_of_none
 marks_none = record { here = λ i e. absurd e; elsewhere = λ i n. refl }
 
 -- a caller takes its own line along, and neither the two sides' lines nor those of the callers behind it

@@ -135,10 +135,13 @@ learned v = record v {
   scanned = [];
 }
 
--- the lines of a role, and those that a caller takes along: its own, and for a managed thread that of its reader
+-- the lines that a seat gives away: a role's; those that a caller takes along, its own and for a managed thread that of its reader; none
 abbrev pub lines_of_role : Role → List Bool
 lines_of_role r = put false [] (role_line r) true
 
 abbrev pub lines_of_caller : Thread → List Bool
 lines_of_caller (M i) = put false (put false [] (1 + i) true) (caller_line (M i)) true
 lines_of_caller t = put false [] (caller_line t) true
+
+abbrev pub lines_of_none : List Bool
+lines_of_none = []

@@ -1,10 +1,10 @@
 // The order and its calls.
 
-ghost use Rattle.std.specs.Prelude.{◌≡◌, ◌<◌, ◌≤◌, ℕ, [], length, IfOk};
+ghost use Rattle.std.specs.Prelude.{◌≡◌, ◌<◌, ◌≤◌, ℕ, length, IfOk};
 ghost use Rattle.joint_model.specs.Lines.{IsThread};
 ghost use Rattle.order_table.specs.Rule.{IsBelow, IsWhole};
 ghost use Rattle.order_table.specs.Tells.{Grows, Parts, IsOfRole, IsOfCaller, IsOfNone, TakesIn, IsOneHistory};
-ghost use Rattle.order_table.specs.Views.{IsRole, IsInRole, role_line, caller_line, kept, known, Owns, OwnsAll, first_view, appended, giving, given, hearing, learned, lines_of_role, lines_of_caller};
+ghost use Rattle.order_table.specs.Views.{IsRole, IsInRole, role_line, caller_line, kept, known, Owns, OwnsAll, first_view, appended, giving, given, hearing, learned, lines_of_role, lines_of_caller, lines_of_none};
 
 use crate::finished::Linked;
 use crate::plays::{Append, Compare, Cut, Glue, Lines, NoLine, Saying, Sequence};
@@ -148,8 +148,8 @@ impl Order {
     /// A new seat without roles and passes, which knows what this one knows.
     pub fn note(&self, seat: &mut Seat) -> Seat
         requires seat { seat.old.order ≡ self.now }
-        ensures old { (seat.new.order ≡ seat.old.order) × (seat.new.view ≡ giving [] seat.old.view) }
-        ensures new { (result.order ≡ seat.old.order) × (result.view ≡ given [] seat.old.view) }
+        ensures old { (seat.new.order ≡ seat.old.order) × (seat.new.view ≡ giving lines_of_none seat.old.view) }
+        ensures new { (result.order ≡ seat.old.order) × (result.view ≡ given lines_of_none seat.old.view) }
         ensures parts { Parts IsOfNone seat.old.view seat.new.view result.view }
     {
         self.cut::<NoLine>(seat)

@@ -8,7 +8,7 @@ ghost use Rattle.joint_model.specs.declared.events.Op.TheVariants as op;
 ghost use Rattle.joint_model.specs.declared.events.Reply.TheVariants as says;
 ghost use Rattle.order_table.specs.Rule.{Ordered};
 ghost use Rattle.order_table.specs.Tells.{Appended, Compared};
-ghost use Rattle.order_table.specs.Views.{first_view, giving, given, hearing, spent_view};
+ghost use Rattle.order_table.specs.Views.{first_view, giving, given, hearing, lines_of_none, spent_view};
 
 use crate::views::View;
 use atomic_table::{Join, Play, Split, TableRule};
@@ -66,7 +66,7 @@ impl Lines for Brand {
 pub(crate) struct NoLine;
 
 impl Lines for NoLine {
-    ghost lines = { [] };
+    ghost lines = { lines_of_none };
 }
 
 // The step that makes a seat with some of another's lines.
