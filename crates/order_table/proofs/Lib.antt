@@ -2,3 +2,4 @@ pub mod Places
 pub mod Lines
 pub mod Steps
 pub mod Parting
+pub mod Wholes

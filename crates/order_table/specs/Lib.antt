@@ -3,3 +3,4 @@ pub mod Owed
 pub mod Views
 pub mod Rule
 pub mod Tells
+pub mod Facts

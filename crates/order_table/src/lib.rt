@@ -35,10 +35,11 @@
 // Weak reads that take no lock will add a gate, cells and pins as further words, and entries of readers. A view has the places for what a seat has to
 // know of them already; today nothing is asked or promised there.
 //
-// `specs/` read alone tells what is true: Views and Rule first, then Tells.
+// `specs/` read alone tells what is true: Views and Rule first, then Tells and Facts.
 #![tactic(auto)]
 
 mod finished;
+mod laws;
 mod orders;
 mod plays;
 mod seats;
@@ -47,6 +48,7 @@ mod tests;
 mod views;
 
 pub use finished::Linked;
+pub use laws::{entries_tell_lines, lines_differ, rule_keeps_lists};
 pub use orders::Order;
 pub use seats::{OrderName, Seat};
 pub use views::{Kept, Role, View};

@@ -1,4 +1,4 @@
-use Rattle.std.proofs.Common.{◌≡◌, inl, inr, ⊎_elim, ◌<◌}
+use Rattle.std.proofs.Common.{◌≡◌, inl, inr, ⊎_elim}
 use Rattle.std.proofs.lemmas.Bool.{cases_eq}
 use Rattle.order_table.proofs.Parting.{still_owns}
 use Rattle.order_table.proofs.tests.an_order_is_finished.Goals as goal

@@ -1,4 +1,4 @@
-use Rattle.std.proofs.Common.{◌≡◌, ◌⊎◌, ℕ, ◌+◌, ◌<◌, ◌≤◌}
+use Rattle.std.proofs.Common.{◌≡◌, ◌⊎◌, ℕ, ◌+◌, ◌<◌}
 use Rattle.order_table.specs.Views.{known, Owns}
 use Rattle.order_table.proofs.tests.callers_of.Given as goal
 

@@ -1,4 +1,4 @@
-use Rattle.std.proofs.Common.{◌≡◌, ⊎_elim, ◌<◌, arith}
+use Rattle.std.proofs.Common.{◌≡◌, ⊎_elim, arith}
 use Rattle.order_table.proofs.tests.run.Goals as goal
 
 -- the driver's pass alone is gone

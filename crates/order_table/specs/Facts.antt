@@ -1,0 +1,82 @@
+-- What follows from the rule, in words of their own: whole lists and passes between any two steps, and that entries by themselves tell in which
+-- lines they stand.
+use Rattle.std.specs.Prelude.{◌≡◌, ◌⊎◌, ℕ, ◌<◌, ◌≤◌, ◌==◌, ◌||◌, if◌then◌else◌, Bool, List, [], ◌∷◌, length, map, slice_index}
+use mathlib.Core.Option.{some}
+use mathlib.Core.List.{IsPrefix}
+use lib.ListN.{get_elem?}
+use Rattle.atomic_table.specs.Table.{State}
+use Rattle.joint_model.specs.declared.names.Thread.{Thread}
+use Rattle.joint_model.specs.declared.events.Entry.{Entry}
+use Rattle.joint_model.specs.Draws.{NumberedFrom}
+use Rattle.joint_model.specs.Lines.{IsThread, is_peer_event}
+use Rattle.order_table.specs.declared.views.Role.{Role}
+use Rattle.order_table.specs.declared.views.Kept.{Kept}
+use Rattle.order_table.specs.declared.views.View.{View}
+use Rattle.order_table.specs.Views.{IsRole, role_line, caller_line, known, Owns}
+use Rattle.order_table.specs.Rule.{Item, Ordered, RunsFrom, of_line}
+
+-- the entry stands in the list
+abbrev pub In : List Kept → Kept → Type 0
+In [] a = ⊥
+In (k ∷ ks) a = (k ≡ a) ⊎ In ks a
+
+-- some role's list has an entry with the number
+pub record IsNumberIn (lists : ℕ → List Kept) (n : ℕ) : Type 0 where
+  pub role : ℕ
+  pub one : role < 10
+  pub entry : Kept
+  pub stands : In (lists role) entry
+  pub number : entry.entry.number ≡ n
+
+-- Between any two steps each line has a whole list. Each seat that there ever was knows a beginning of it; its one owner knows all of it. The
+-- numbers in the roles' lists are those below the sequencer word, each once; no list is too long, and the word is far from its end. A
+-- caller's list has just that caller's entries of the roles' lists.
+pub record HasWholeLists (s : State (Unit {0}) View) : Type 0 where
+  pub lists : ℕ → List Kept
+  pub begins : (j : ℕ) (v : View) → get_elem? s.views j ≡ some v → (i : ℕ) → IsPrefix (known v i) (lists i)
+  pub whole : (j : ℕ) (v : View) → get_elem? s.views j ≡ some v → (i : ℕ) → Owns v i → known v i ≡ lists i
+  pub owner : (j k : ℕ) (v w : View) → get_elem? s.views j ≡ some v → get_elem? s.views k ≡ some w → (i : ℕ) → Owns v i → Owns w i → j ≡ k
+  pub counted : (n : ℕ) → n < slice_index s.words 0 → IsNumberIn lists n
+  pub below : (r : ℕ) (a : Kept) → r < 10 → In (lists r) a → a.entry.number < slice_index s.words 0
+  pub once : (q r : ℕ) (a b : Kept) → q < 10 → r < 10 → In (lists q) a → In (lists r) b → a.entry.number ≡ b.entry.number → (q ≡ r) × (a ≡ b)
+  pub limit : (r : ℕ) → r < 10 → length (lists r) ≤ 4294967295
+  pub unwrapped : slice_index s.words 0 ≤ 42949672950
+  pub own : (t : Thread) (a : Kept) → IsThread t → In (lists (caller_line t)) a → (a.entry.made.caller ≡ t) × ((r : ℕ) × (r < 10) × In (lists r) a)
+  pub made : (r : ℕ) (a : Kept) → r < 10 → In (lists r) a → In (lists (caller_line a.entry.made.caller)) a
+
+abbrev pub RuleKeepsLists : Type 0
+RuleKeepsLists = (s : State (Unit {0}) View) → Ordered s → HasWholeLists s
+
+-- no two roles have one line, and no two callers
+abbrev pub RolesDiffer : Type 0
+RolesDiffer = (q r : Role) → IsRole q → IsRole r → role_line q ≡ role_line r → q ≡ r
+
+abbrev pub CallersDiffer : Type 0
+CallersDiffer = (t u : Thread) → IsThread t → IsThread u → caller_line t ≡ caller_line u → t ≡ u
+
+-- the line of the role in whose list an entry belongs, by its event
+abbrev pub role_of : Entry → ℕ
+role_of e = if is_peer_event e.made.caller e.made.op then 1 else 0
+
+-- the entry stands in the line, by its event and its caller
+abbrev pub stands_in : ℕ → Entry → Bool
+stands_in i e = (i == role_of e) || (i == caller_line e.made.caller)
+
+abbrev pub entries_in : ℕ → List Entry → List Entry
+entries_in i [] = []
+entries_in i (e ∷ es) = if stands_in i e then e ∷ entries_in i es else entries_in i es
+
+-- the entries of a history, and those of a line
+abbrev pub entries_of : List Item → List Entry
+entries_of xs = map (λ x. x.kept.entry) xs
+
+abbrev pub line_entries : List Kept → List Entry
+line_entries ks = map (λ k. k.entry) ks
+
+-- the entries are numbered from 0 on, and each line has just those that stand in it by event and caller
+pub record AreTold (whole : List Item) : Type 0 where
+  pub numbered : NumberedFrom 0 (entries_of whole)
+  pub lines : (i : ℕ) → line_entries (of_line i whole) ≡ entries_in i (entries_of whole)
+
+abbrev pub EntriesTellLines : Type 0
+EntriesTellLines = (whole : List Item) → RunsFrom 0 whole → AreTold whole

@@ -1,0 +1,20 @@
+// What follows from the order's rule.
+
+ghost use Rattle.order_table.specs.Facts.{RuleKeepsLists, RolesDiffer, CallersDiffer, EntriesTellLines};
+
+/// Between any two steps, whatever seats were dropped: each line has a whole list, of which each seat knows a beginning and its one owner all;
+/// the numbers in the roles' lists are those below the sequencer word, each once; and a caller's list has just that caller's entries.
+pub fn rule_keeps_lists()
+    ensures law { RuleKeepsLists }
+{}
+
+/// No two roles and no two callers have the same line.
+pub fn lines_differ()
+    ensures roles { RolesDiffer }
+    ensures callers { CallersDiffer }
+{}
+
+/// The entries of the one history, by their events and callers alone, tell in which lines they stand.
+pub fn entries_tell_lines()
+    ensures law { EntriesTellLines }
+{}
