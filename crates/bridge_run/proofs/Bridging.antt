@@ -1,6 +1,6 @@
 -- The two events of a `bridge` line go on with each history of the sides: the make of a peer with its handle, and the adopt of
 -- that handle, which no object has had.
-use Rattle.std.proofs.Common.{◌≡◌, ℕ, ◌+◌, ◌≤◌, List, [], ◌∷◌, ◌++◌, All, length, Option, Some, None, refl, sym, ap, ◌∙◌, subst, arith, append-nil, length-append}
+use Rattle.std.proofs.Common.{◌≡◌, ℕ, ◌+◌, ◌<◌, ◌≤◌, ◌^◌, List, [], ◌∷◌, ◌++◌, All, length, Option, Some, None, refl, sym, ap, ◌∙◌, subst, arith, append-nil, length-append}
 use Rattle.std.specs.Prelude.{◌||◌, Contains, map, replicate, slice_set}
 use Rattle.std.proofs.lemmas.List.{append_assoc}
 use Rattle.std.proofs.lemmas.List.Elements.{All-push, All-nil, All-cons, All-weaker, All-contains}
@@ -100,13 +100,13 @@ pub record MakeTold (noted : List Noted) (k index : ℕ) (sort : Sort) (f : ℕ)
   pub issued : (p : PNum) (h : HNum) → r ≡ says.Made p h → (1 ≤ h.0) × (h.0 ≤ length b.peer.peers.issued)
 
 pub make-told : (m : ManagedShown) (p p' : PeerShown) (count count' : ℕ) (k index : ℕ) (sort : Sort) (n : ℕ) (r : Reply) (noted : List Noted) (end : FirstLinkage)
-    → IsManagedThread (M k) → n ≤ 16
+    → index < 2 ^ 32 → IsManagedThread (M k) → n ≤ 16
     → answer r p'.peers ≡ pair_made p.peers sort n
     → p'.table ≡ p.table ++ map fresh_row (issued_since p.peers p'.peers) → p'.marking ≡ p.marking → p'.markings ≡ p.markings
     → Adds CountDrew count count' p.entries p'.entries (make_made (M k) index sort n r) None []
     → IsTold noted end (record { managed = m; peer = p; count = count }) → IsAt index idle end.base.control
     → MakeTold noted k index sort n r p.entries (record { managed = m; peer = p'; count = count' })
-make-told m p p' count count' k index sort n r noted end thread fields is table marking markings adds told at =
+make-told m p p' count count' k index sort n r noted end small thread fields is table marking markings adds told at =
     let ms = as_managed m.managed.heap.freed in
     let ps = as_peers p.peers.heap.freed in
     let pair : IsPair ms ps p.peers (answer r p'.peers) = subst (IsPair ms ps p.peers) (sym is) (pair-is ms ps p.peers sort n) in
@@ -114,9 +114,9 @@ make-told m p p' count count' k index sort n r noted end thread fields is table 
     let note : Noted = record { entry = e; told = nothing } in
     let replays : Replays end.base.peer (M k) (op.Make sort n) nothing r p' = make end.base.peer p p' (M k) sort n nothing r told.peer thread is table marking markings in
     let may : FirstMayCome end note = record {
-      number = adds.drawn.0 ∙ sym told.count;
       event = (thread, fields);
       line = at.lines (M k);
+      short = small;
       lawful = record { allowed = tt; replies = replays.replies };
       order = done-start (doing_at end.base.control k) (at.done k);
       alone = subst (λ s. IsCycleAlone s (M k)) (sym at.stands) tt;
@@ -132,7 +132,7 @@ make-told m p p' count count' k index sort n r noted end thread fields is table 
     record {
       entry = e;
       next = first_after end note;
-      told = told-push noted end _ (record { managed = m; peer = p'; count = count' }) note told may grown told.managed replays.shows adds.drawn.1
+      told = told-push noted end _ (record { managed = m; peer = p'; count = count' }) note told may grown told.managed replays.shows
           (All-weaker (λ h. h ≤ length p.peers.issued) (λ h. h ≤ length p'.peers.issued) (λ h le. omega (arith, le, pair.longer)) end.base.managed.adopted told.adopted)
           (All-weaker (λ (x : Entry). (h : ℕ) → Adopts x.made.op h → h ≤ length p.peers.issued) (λ (x : Entry). (h : ℕ) → Adopts x.made.op h → h ≤ length p'.peers.issued) (λ x old h names. (let le = old h names in omega (arith, le, pair.longer))) m.entries told.named)
           (λ x h at. (let i = told.held x h at in (i.0, omega (arith, i.1, pair.longer)))) (pair.leads told.leads);
@@ -177,13 +177,13 @@ make-alone noted k index v kind fields sort n r old b m never = (
 
 -- a `bridge` whose make gave a pair, and whose adopt of it was made
 pub make-adopted : (m m' : ManagedShown) (p : PeerShown) (count count' : ℕ) (noted : List Noted) (k index : ℕ) (v : Var) (kind : Kind) (fields : ℕ) (sort : Sort) (n : ℕ) (q : PNum) (h : HNum) (r : Reply) (cites : Option ℕ) (old : List Entry)
-    → IsManagedThread (M k) → IsLine (M k) (act.Bridge v kind fields sort n)
+    → index < 2 ^ 32 → IsManagedThread (M k) → IsLine (M k) (act.Bridge v kind fields sort n)
     → (t : MakeTold noted k index sort n (says.Made q h) old (record { managed = m; peer = p; count = count }))
     → cites ≡ Some t.entry.number
     → managed_event m.managed (M k) (op.Adopt v kind fields q h) ≡ answer r m'.managed
     → Adds CountDrew count count' m.entries m'.entries (step_made (M k) index (op.Adopt v kind fields q h) r cites) None []
     → GoesFrom noted index (M k, act.Bridge v kind fields sort n) (record { managed = m'; peer = p; count = count' })
-make-adopted m m' p count count' noted k index v kind fields sort n q h r cites old thread line t cited is adds =
+make-adopted m m' p count count' noted k index v kind fields sort n q h r cites old small thread line t cited is adds =
     let o : Op = op.Adopt v kind fields q h in
     let e : Entry = numbered adds.number (step_made (M k) index o r cites) in
     let note : Noted = record { entry = e; told = nothing } in
@@ -194,9 +194,9 @@ make-adopted m m' p count count' noted k index v kind fields sort n q h r cites 
     let event : IsManagedThread (M k) × IsVar v × ((s : Sort) × IsBridgeObject kind fields s) = (thread, line.1.0, (sort, line.1.1)) in
     let replays = step end.base.managed m'.managed (M k) index o r cites (thread, tt, event) (t.fresh q h refl) (rw (told.managed) is) in
     let may : FirstMayCome end note = record {
-      number = adds.drawn.0 ∙ sym told.count;
       event = event;
       line = t.at.lines (M k);
+      short = small;
       lawful = replays.lawful;
       order = subst (λ d. MayAdopt d (M k) index o cites) (sym (t.stands q h refl)) (cited, refl, refl, refl, line);
       alone = subst (λ s. IsCycleAlone s (M k)) (sym t.at.stands) tt;
@@ -207,7 +207,7 @@ make-adopted m m' p count count' noted k index v kind fields sort n q h r cites 
     let held : AreIssued m'.managed.held p.peers.issued = subst (λ (x : Answered Managed). AreIssued x.state.held p.peers.issued) is (event-issued m.managed (M k) o p.peers.issued tt (t.issued q h refl) told.held) in
     let after : IsTold (before ++ note ∷ []) (first_after end note) (record { managed = m'; peer = p; count = count' }) =
     told-push before end _ (record { managed = m'; peer = p; count = count' }) note told may grown
-    replays.state told.peer adds.drawn.1
+    replays.state told.peer
     (adopt-adopted (λ g. g ≤ length p.peers.issued) end.base.managed q.0 h.0 a.state a.reply told.adopted (t.issued q h refl).1)
     (named-push m m' e p.peers.issued adds.added told.named (λ g names. (let same : h.0 ≡ g = names in omega (arith, same, (t.issued q h refl).1)))) held told.leads in
     let here : IsOnLine index (M k) e = record { caller = refl; line = refl } in (
@@ -223,21 +223,21 @@ make-adopted m m' p count count' noted k index v kind fields sort n q h r cites 
 
 -- a `bridge` whose make gave no pair goes on with each history of the sides between two lines
 pub alone-goes : (m : ManagedShown) (p p' : PeerShown) (count count' : ℕ) (t : Thread) (index : ℕ) (v : Var) (kind : Kind) (fields : ℕ) (sort : Sort) (n : ℕ) (r : Reply)
-    → IsManagedThread t → IsLine t (act.Bridge v kind fields sort n)
+    → index < 2 ^ 32 → IsManagedThread t → IsLine t (act.Bridge v kind fields sort n)
     → answer r p'.peers ≡ pair_made p.peers sort n
     → p'.table ≡ p.table ++ map fresh_row (issued_since p.peers p'.peers) → p'.marking ≡ p.marking → p'.markings ≡ p.markings
     → Adds CountDrew count count' p.entries p'.entries (make_made t index sort n r) None []
     → ((q : PNum) (h : HNum) → r ≡ says.Made q h → ⊥)
     → Goes (AtRest index) (AtRest index) (AreLine index (t, act.Bridge v kind fields sort n)) (record { managed = m; peer = p; count = count }) (record { managed = m; peer = p'; count = count' })
-alone-goes m p p' count count' (P k) index v kind fields sort n r thread line is table marking markings adds never noted end told at = absurd thread
-alone-goes m p p' count count' C index v kind fields sort n r thread line is table marking markings adds never noted end told at = absurd thread
-alone-goes m p p' count count' (M k) index v kind fields sort n r thread line is table marking markings adds never noted end told at =
+alone-goes m p p' count count' (P k) index v kind fields sort n r small thread line is table marking markings adds never noted end told at = absurd thread
+alone-goes m p p' count count' C index v kind fields sort n r small thread line is table marking markings adds never noted end told at = absurd thread
+alone-goes m p p' count count' (M k) index v kind fields sort n r small thread line is table marking markings adds never noted end told at =
     make-alone noted k index v kind fields sort n r p.entries (record { managed = m; peer = p'; count = count' })
-    (make-told m p p' count count' k index sort n r noted end thread line.1.2 is table marking markings adds told at) never
+    (make-told m p p' count count' k index sort n r noted end small thread line.1.2 is table marking markings adds told at) never
 
 -- and so does one whose make gave a pair that was adopted
 pub whole-goes : (m m' : ManagedShown) (p p' : PeerShown) (count between count' : ℕ) (t : Thread) (index : ℕ) (v : Var) (kind : Kind) (fields : ℕ) (sort : Sort) (n : ℕ) (q : PNum) (h : HNum) (r : Reply) (cites : Option ℕ)
-    → IsManagedThread t → IsLine t (act.Bridge v kind fields sort n)
+    → index < 2 ^ 32 → IsManagedThread t → IsLine t (act.Bridge v kind fields sort n)
     → answer (says.Made q h) p'.peers ≡ pair_made p.peers sort n
     → p'.table ≡ p.table ++ map fresh_row (issued_since p.peers p'.peers) → p'.marking ≡ p.marking → p'.markings ≡ p.markings
     → Adds CountDrew count between p.entries p'.entries (make_made t index sort n (says.Made q h)) None []
@@ -245,11 +245,11 @@ pub whole-goes : (m m' : ManagedShown) (p p' : PeerShown) (count between count' 
     → managed_event m.managed t (op.Adopt v kind fields q h) ≡ answer r m'.managed
     → Adds CountDrew between count' m.entries m'.entries (step_made t index (op.Adopt v kind fields q h) r cites) None []
     → Goes (AtRest index) (AtRest index) (AreLine index (t, act.Bridge v kind fields sort n)) (record { managed = m; peer = p; count = count }) (record { managed = m'; peer = p'; count = count' })
-whole-goes m m' p p' count between count' (P k) index v kind fields sort n q h r cites thread line is table marking markings adds cited adopts_it adopt noted end told at = absurd thread
-whole-goes m m' p p' count between count' C index v kind fields sort n q h r cites thread line is table marking markings adds cited adopts_it adopt noted end told at = absurd thread
-whole-goes m m' p p' count between count' (M k) index v kind fields sort n q h r cites thread line is table marking markings adds cited adopts_it adopt noted end told at =
-    let made_it = make-told m p p' count between k index sort n (says.Made q h) noted end thread line.1.2 is table marking markings adds told at in
-    make-adopted m m' p' between count' noted k index v kind fields sort n q h r cites p.entries thread line made_it (cited p.entries made_it.entry made_it.last) adopts_it adopt
+whole-goes m m' p p' count between count' (P k) index v kind fields sort n q h r cites small thread line is table marking markings adds cited adopts_it adopt noted end told at = absurd thread
+whole-goes m m' p p' count between count' C index v kind fields sort n q h r cites small thread line is table marking markings adds cited adopts_it adopt noted end told at = absurd thread
+whole-goes m m' p p' count between count' (M k) index v kind fields sort n q h r cites small thread line is table marking markings adds cited adopts_it adopt noted end told at =
+    let made_it = make-told m p p' count between k index sort n (says.Made q h) noted end small thread line.1.2 is table marking markings adds told at in
+    make-adopted m m' p' between count' noted k index v kind fields sort n q h r cites p.entries small thread line made_it (cited p.entries made_it.entry made_it.last) adopts_it adopt
 
 -- the handle that a make gives is the next
 pub make-next : (p p' : Peers) (sort : Sort) (n : ℕ) (q : PNum) (h : HNum) → answer (says.Made q h) p' ≡ pair_made p sort n → h.0 ≡ length p.issued + 1

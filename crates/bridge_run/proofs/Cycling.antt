@@ -1,6 +1,6 @@
 -- The four events of a cycle go on with each history of the sides: the snapshot, the begin of the driver's marking, its sweep
 -- of the peers that were unreached then, and the resolution by what the sweep left.
-use Rattle.std.proofs.Common.{◌≡◌, ℕ, ◌+◌, ◌≤◌, inr, Bool, List, [], ◌∷◌, ◌++◌, All, length, Option, Some, None, refl, sym, ap, ◌∙◌, subst, append-nil}
+use Rattle.std.proofs.Common.{◌≡◌, ℕ, ◌+◌, ◌<◌, ◌≤◌, ◌^◌, inr, Bool, true, false, List, [], ◌∷◌, ◌++◌, All, length, map, Option, Some, None, refl, sym, ap, ◌∙◌, subst, append-nil}
 use Rattle.std.proofs.lemmas.List.{append_assoc, length-map, map-append}
 use Rattle.std.proofs.lemmas.List.Elements.{All-nil, All-cons}
 use Rattle.std.specs.Prelude.{not, slice_set}
@@ -17,9 +17,10 @@ use Rattle.joint_model.specs.declared.events.Reply.TheVariants as says
 use Rattle.joint_model.specs.Components.{Rises}
 use Rattle.joint_model.specs.Control.{Stand, idle, snapped, marked, restoring, candidates_of, peer_of_row, MaySnap}
 use Rattle.joint_model.specs.Draws.{numbered, Adds, CountDrew}
-use Rattle.joint_model.specs.First.{first_after, first_answers, FirstMayCome, FirstBegin, FirstSweep, FirstResolve, IsCycleAlone, AreUnreached, first_stand_after, swept_rows}
+use Rattle.joint_model.specs.First.{first_after, first_answer, first_answers, FirstMayCome, FirstBegin, FirstSweep, FirstResolve, IsCycleAlone, AreUnreached, first_stand_after, swept_rows}
 use Rattle.joint_model.specs.Heaps.{with_freed, is_freed, IsMade}
 use Rattle.joint_model.specs.Histories.{FitsLists, managed_numbers, peer_numbers}
+use Rattle.joint_model.specs.Listed.{answer_of, answers_of}
 use Rattle.joint_model.specs.Managed.{Managed, OpenCycle}
 use Rattle.joint_model.specs.Peers.{Peers}
 use Rattle.joint_model.specs.Told.{Noted, snap_of, begin_of, sweep_of, resolution_of}
@@ -96,9 +97,9 @@ candidates_in o = elim o [ None ↦ [] | Some c ↦ c.candidates ]
 
 -- a snapshot
 pub snap-goes : (m m' : ManagedShown) (p : PeerShown) (count count' index : ℕ) (out : Opening)
-    → Snaps CountDrew count count' m m' index out
+    → index < 2 ^ 32 → Snaps CountDrew count count' m m' index out
     → Goes (AtRest index) (InCycle index snapped) (IsDriven index (op.Snap (open_number (record { managed = m'; peer = p; count = count' })))) (record { managed = m; peer = p; count = count }) (record { managed = m'; peer = p; count = count' })
-snap-goes m m' p count count' index out s noted end told at =
+snap-goes m m' p count count' index out small s noted end told at =
     let b' : Both = record { managed = m'; peer = p; count = count' } in
     let freed = managed_numbers s.freed in
     let e : Entry = numbered out.number (snap_made m.managed index out.cycle freed s.candidates) in
@@ -107,9 +108,9 @@ snap-goes m m' p count count' index out s noted end told at =
     subst (λ (x : Managed). Replayed end.base.managed (snap_made x index out.cycle freed s.candidates) (snap_of freed s.candidates s.dead) m'.managed) told.managed
     (snap end.base.managed m'.managed index out.cycle freed s.candidates s.dead (rw (told.managed) s.snapshot) (rw (told.managed) s.state)) in
     let may : FirstMayCome end note = record {
-      number = s.drawn.0 ∙ sym told.count;
       event = tt;
       line = at.lines C;
+      short = small;
       lawful = replays.lawful;
       order = subst (λ (x : Stand). MaySnap x None) (sym at.stands) refl;
       alone = subst (λ (x : Stand). IsCycleAlone x C) (sym at.stands) tt;
@@ -123,7 +124,7 @@ snap-goes m m' p count count' index out s noted end told at =
     let name : out.cycle ≡ open_number b' = ap (λ (n : ℕ). record { 0 = n }) s.snapshot.next ∙ sym (open-is b' cycle opened) in (
       note ∷ [],
       first_after end note,
-      told-push noted end _ b' note told may grown replays.state told.peer s.drawn.1 told.adopted
+      told-push noted end _ b' note told may grown replays.state told.peer told.adopted
           (named-push m m' e p.peers.issued s.added told.named (λ h no. absurd no))
           (subst (λ l. AreIssued l p.peers.issued) (ap (λ (x : Managed). x.held) (sym s.state)) told.held) told.leads,
       record {
@@ -138,21 +139,21 @@ snap-goes m m' p count count' index out s noted end told at =
 
 -- the begin of the driver's marking, when these peers are unreached
 pub begin-goes : (m : ManagedShown) (p p' : PeerShown) (count count' index : ℕ) (j : Marking) (dead : List ℕ)
-    → AreUnreached (graph_of_sides m.managed p.peers p.table) dead
+    → index < 2 ^ 32 → AreUnreached (graph_of_sides m.managed p.peers p.table) dead
     → p.marking ≡ None → j.0 ≡ p.markings + 1 → p'.marking ≡ Some record { number = j.0; made = length p.peers.heap.fields } → p'.markings ≡ j.0
     → p'.peers ≡ p.peers → p'.table ≡ p.table
     → Adds CountDrew count count' p.entries p'.entries (begin_made index j) None []
     → Goes (InCycle index snapped) (AtMark index dead) (IsDriven index op.Begin) (record { managed = m; peer = p; count = count }) (record { managed = m; peer = p'; count = count' })
-begin-goes m p p' count count' index j dead unreached closed number marking markings peers table adds noted end told at =
+begin-goes m p p' count count' index j dead small unreached closed number marking markings peers table adds noted end told at =
     let b' : Both = record { managed = m; peer = p'; count = count' } in
     let e : Entry = numbered adds.number (begin_made index j) in
     let note : Noted = record { entry = e; told = begin_of dead } in
     let stands : end.base.control.stand ≡ snapped at.opened = at.control.stands in
     let replays : Replays end.base.peer C op.Begin (begin_of dead) (says.Mark j) p' = begin end.base.peer p p' (begin_of dead) j.0 told.peer closed number marking markings peers table in
     let may : FirstMayCome end note = record {
-      number = adds.drawn.0 ∙ sym told.count;
       event = inr tt;
       line = at.control.lines C;
+      short = small;
       lawful = record { allowed = dead-at m.managed end.base.managed.managed end.base.peer p.peers p.table dead told.managed told.peer.peers told.peer.table unreached; replies = replays.replies };
       order = (subst (λ (x : Stand). FirstBegin x (says.Mark j)) (sym stands) tt, refl);
       alone = subst (λ (x : Stand). IsCycleAlone x C) (sym stands) tt;
@@ -164,7 +165,7 @@ begin-goes m p p' count count' index j dead unreached closed number marking mark
     (IsAt-driver index (snapped at.opened) (marked at.opened) end.base.control at.control) in (
       note ∷ [],
       first_after end note,
-      told-push noted end _ b' note told may grown told.managed replays.shows adds.drawn.1
+      told-push noted end _ b' note told may grown told.managed replays.shows
           (subst (λ (x : Peers). All (λ h. h ≤ length x.issued) end.base.managed.adopted) (sym peers) told.adopted)
           (subst (λ (x : Peers). All (λ e. (h : ℕ) → Adopts e.made.op h → h ≤ length x.issued) m.entries) (sym peers) told.named)
           (subst (λ (x : Peers). AreIssued m.managed.held x.issued) (sym peers) told.held)
@@ -175,11 +176,11 @@ begin-goes m p p' count count' index j dead unreached closed number marking mark
 
 -- the sweep of the driver's marking
 pub sweep-goes : (m : ManagedShown) (p p' : PeerShown) (count count' index : ℕ) (b : Begun) (j : Marking) (s : Span) (dead : List ℕ)
-    → Rises dead → p.marking ≡ Some b → j.0 ≡ b.number → s ≡ record { first = length p.peers.heap.freed; count = length dead }
+    → index < 2 ^ 32 → Rises dead → p.marking ≡ Some b → j.0 ≡ b.number → s ≡ record { first = length p.peers.heap.freed; count = length dead }
     → p'.peers ≡ record p.peers { heap = with_freed p.peers.heap dead } → p'.table ≡ swept_rows dead p.peers.issued p.table → p'.marking ≡ None → p'.markings ≡ p.markings
     → Adds CountDrew count count' p.entries p'.entries (sweep_made index j s) None []
     → Goes (AtMark index dead) (InCycle index (λ o. restoring o [])) (IsDriven index op.Sweep) (record { managed = m; peer = p; count = count }) (record { managed = m; peer = p'; count = count' })
-sweep-goes m p p' count count' index b j s dead rise begun number span peers table marking markings adds noted end told at =
+sweep-goes m p p' count count' index b j s dead small rise begun number span peers table marking markings adds noted end told at =
     let b' : Both = record { managed = m; peer = p'; count = count' } in
     let e : Entry = numbered adds.number (sweep_made index j s) in
     let note : Noted = record { entry = e; told = sweep_of dead } in
@@ -189,9 +190,9 @@ sweep-goes m p p' count count' index b j s dead rise begun number span peers tab
     let named : says.Swept j s ≡ says.Swept record { 0 = b.number } record { first = length p.peers.heap.freed; count = length dead } =
     ap (λ (n : ℕ). says.Swept record { 0 = n } s) number ∙ ap (λ (x : Span). says.Swept record { 0 = b.number } x) span in
     let may : FirstMayCome end note = record {
-      number = adds.drawn.0 ∙ sym told.count;
       event = inr tt;
       line = here.control.lines C;
+      short = small;
       lawful = record { allowed = sym at.1; replies = named ∙ replays.replies };
       order = (subst FirstSweep (sym stands) tt, refl);
       alone = subst (λ (x : Stand). IsCycleAlone x C) (sym stands) tt;
@@ -206,7 +207,7 @@ sweep-goes m p p' count count' index b j s dead rise begun number span peers tab
     (IsAt-driver index (marked here.opened) (restoring here.opened []) end.base.control here.control) in (
       note ∷ [],
       first_after end note,
-      told-push noted end _ b' note told may grown told.managed replays.shows adds.drawn.1
+      told-push noted end _ b' note told may grown told.managed replays.shows
           (subst (λ (x : Peers). All (λ h. h ≤ length x.issued) end.base.managed.adopted) (sym peers) told.adopted)
           (subst (λ (x : Peers). All (λ e. (h : ℕ) → Adopts e.made.op h → h ≤ length x.issued) m.entries) (sym peers) told.named)
           (subst (λ (x : Peers). AreIssued m.managed.held x.issued) (sym peers) told.held)
@@ -215,31 +216,41 @@ sweep-goes m p p' count count' index b j s dead rise begun number span peers tab
       record { entry = e; all = refl; place = record { caller = refl; line = refl }; event = refl },
     )
 
+-- what the truth values of the candidates show are the answers of the first steps
+shown-answer : (freed : Bool) → answer_of (not freed) ≡ first_answer freed
+shown-answer true = refl
+shown-answer false = refl
+
+shown-answers : (f : ℕ → Bool) (xs : List ℕ) → answers_of (map (λ x. not (f x)) xs) ≡ map (λ x. first_answer (f x)) xs
+shown-answers f [] = refl
+shown-answers f (x ∷ xs) = ap (λ a. a ∷ answers_of (map (λ y. not (f y)) xs)) (shown-answer (f x)) ∙ ap (λ l. first_answer (f x) ∷ l) (shown-answers f xs)
+
 -- the resolution, by which candidates' peers are unfreed
 pub resolve-goes : (m m' : ManagedShown) (p : PeerShown) (count count' index : ℕ) (alive : List Bool) (out : ResolveOut)
-    → alive ≡ alive_in (record { managed = m; peer = p; count = count })
+    → index < 2 ^ 32 → alive ≡ alive_in (record { managed = m; peer = p; count = count })
     → Resolves CountDrew count count' m m' index None alive out
     → Goes (InCycle index (λ o. restoring o [])) (AtRest index) (IsDriven index (op.Resolve (open_number (record { managed = m; peer = p; count = count })))) (record { managed = m; peer = p; count = count }) (record { managed = m'; peer = p; count = count' })
-resolve-goes m m' p count count' index alive out answers r noted end told at =
+resolve-goes m m' p count count' index alive out small answers r noted end told at =
     let b : Both = record { managed = m; peer = p; count = count } in
     let b' : Both = record { managed = m'; peer = p; count = count' } in
     let freed = managed_numbers r.freed in
     let e : Entry = numbered r.entry.number (resolve_made m.managed index r.cycle.number freed None) in
-    let note : Noted = record { entry = e; told = resolution_of alive freed } in
+    let note : Noted = record { entry = e; told = resolution_of (answers_of alive) freed } in
     let stands : end.base.control.stand ≡ restoring at.opened [] = at.control.stands in
     let one : Some at.cycle ≡ Some r.cycle = sym at.is_open ∙ r.opened in
     let same : at.cycle ≡ r.cycle = cc in
-    let told_so : alive ≡ first_answers end.base.managed.managed end.base.peer = rw (told.managed, told.peer.peers) answers in
+    let told_so : answers_of alive ≡ first_answers end.base.managed.managed end.base.peer =
+    rw (told.managed, told.peer.peers) (ap answers_of answers ∙ shown-answers (λ x. is_freed p.peers.heap (peer_of_row m.managed p.peers.issued x)) (candidates_of m.managed)) in
     let many : length alive ≡ length r.cycle.candidates = rw (answers) (length-map (candidates_of m.managed) (λ x. not (is_freed p.peers.heap (peer_of_row m.managed p.peers.issued x))) ∙ ap (λ (l : List ℕ). length l) (candidates_of-open m.managed r.cycle r.opened)) in
-    let replays : Replayed end.base.managed (resolve_made m.managed index r.cycle.number freed None) (resolution_of alive freed) m'.managed =
-    subst (λ (x : Managed). Replayed end.base.managed (resolve_made x index r.cycle.number freed None) (resolution_of alive freed) m'.managed) told.managed
+    let replays : Replayed end.base.managed (resolve_made m.managed index r.cycle.number freed None) (resolution_of (answers_of alive) freed) m'.managed =
+    subst (λ (x : Managed). Replayed end.base.managed (resolve_made x index r.cycle.number freed None) (resolution_of (answers_of alive) freed) m'.managed) told.managed
     (resolve end.base.managed m'.managed index None r.cycle alive freed (rw (told.managed) r.opened) many (rw (told.managed) r.resolution) (rw (told.managed) r.state)) in
     let may : FirstMayCome end note = record {
-      number = r.entry.drawn.0 ∙ sym told.count;
       event = tt;
       line = at.control.lines C;
+      short = small;
       lawful = replays.lawful;
-      order = (subst (λ (x : Stand). FirstResolve x r.cycle.number (first_answers end.base.managed.managed end.base.peer) (resolution_of alive freed)) (sym stands) (at.same ∙ ap (λ (c : OpenCycle). c.number) same, told_so), refl);
+      order = (subst (λ (x : Stand). FirstResolve x r.cycle.number (first_answers end.base.managed.managed end.base.peer) (resolution_of (answers_of alive) freed)) (sym stands) (at.same ∙ ap (λ (c : OpenCycle). c.number) same, told_so), refl);
       alone = subst (λ (x : Stand). IsCycleAlone x C) (sym stands) tt;
     } in
     let fits : FitsLists (as_managed m.managed.heap.freed ++ as_managed freed) (as_peers p.peers.heap.freed) [] e =
@@ -248,7 +259,7 @@ resolve-goes m m' p count count' index alive out answers r noted end told at =
     let grown = managed-more (entries_of noted) m m' p count count' e freed told.ran r.entry.drawn.0 fits r.entry.added (ap (λ (x : Managed). x.heap.freed) r.state) r.entry.drawn.1 in (
       note ∷ [],
       first_after end note,
-      told-push noted end _ b' note told may grown replays.state told.peer r.entry.drawn.1 told.adopted
+      told-push noted end _ b' note told may grown replays.state told.peer told.adopted
           (named-push m m' e p.peers.issued r.entry.added told.named (λ h no. absurd no))
           (subst (λ l. AreIssued l p.peers.issued) (ap (λ (x : Managed). x.held) (sym r.state)) told.held) told.leads,
       IsAt-driver index (restoring at.opened []) idle end.base.control at.control,

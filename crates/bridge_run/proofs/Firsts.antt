@@ -17,7 +17,6 @@ use Rattle.joint_model.specs.Lines.{IsManagedThread}
 use Rattle.joint_model.specs.Told.{Noted}
 use Rattle.bridge_script.specs.Scripts.{IsBuilt}
 use Rattle.first_laws.specs.Events.{IsFirstEvent, AreFirstEvents}
-use Rattle.script_histories.specs.Laws.{HasShortField}
 use Rattle.script_histories.specs.Holding.{AreEvents, HoldsLines, IsOnLine, events_of, adopts}
 use Rattle.bridge_run.specs.Runs.{entries_of}
 
@@ -70,12 +69,3 @@ entries-first (n ∷ ns) h = All-cons (λ (x : Noted). IsFirst x.entry) n ns (Al
 
 pub held-first : (number : ℕ) (lines : List (Thread × Act)) (noted : List Noted) → All IsBuilt lines → HoldsLines number lines (entries_of noted) → AreFirstEvents noted
 held-first number lines noted built h = entries-first noted (lines-first number lines (entries_of noted) built h)
-
--- the fields of lines that are built have short numbers
-line-short : (t : Thread) (a : Act) → IsBuilt (t, a) → HasShortField (op.Line a)
-line-short t (act.Set v i w) built = omega (arith, built.indexed)
-line-short t (act.Get v w i) built = omega (arith, built.indexed)
-line-short t _ built = tt
-
-pub built-short : (lines : List (Thread × Act)) → All IsBuilt lines → All (λ (line : Thread × Act). HasShortField (op.Line line.1)) lines
-built-short lines built = All-weaker IsBuilt (λ (line : Thread × Act). HasShortField (op.Line line.1)) (λ line is. line-short line.0 line.1 is) lines built

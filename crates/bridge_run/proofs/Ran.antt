@@ -11,7 +11,7 @@ use Rattle.joint_model.specs.declared.events.Entry.{Entry}
 use Rattle.joint_model.specs.Histories.{FitsLists, IsPlaced, IsJoinable, managed_numbers, peer_numbers}
 use Rattle.bridge_run.specs.Wholes.{Ran, as_object, as_managed, as_peer, as_peers}
 use Rattle.bridge_run.proofs.Pushed.{shuffle-first, shuffle-second, shuffle-none}
-use Rattle.bridge_run.proofs.Spans.{IsSound-more}
+use Rattle.bridge_run.proofs.Spans.{IsSound-more, FitsLists-notices}
 
 -- before the first entry
 pub Ran-none : Ran [] [] [] [] [] 0
@@ -67,13 +67,14 @@ peers-back : (ps : List PNum) → as_peers (peer_numbers ps) ≡ ps
 peers-back [] = refl
 peers-back (p ∷ ps) = ap (λ l. p ∷ l) (peers-back ps)
 
--- so the lists can be joined
-pub Ran-joinable : (whole managed peers : List Entry) (ms : List MNum) (ps : List PNum) (freed gone : List ℕ) (count : ℕ) → managed_numbers ms ≡ freed → peer_numbers ps ≡ gone → Ran whole managed peers freed gone count → IsJoinable (managed ∷ peers ∷ []) ms ps []
-Ran-joinable whole managed peers ms ps freed gone count is was ran =
+-- so the lists can be joined, with any notices
+pub Ran-joinable : (whole managed peers : List Entry) (ms : List MNum) (ps : List PNum) (ns : List MNum) (freed gone : List ℕ) (count : ℕ) → managed_numbers ms ≡ freed → peer_numbers ps ≡ gone → Ran whole managed peers freed gone count → IsJoinable (managed ∷ peers ∷ []) ms ps ns
+Ran-joinable whole managed peers ms ps ns freed gone count is was ran =
     let m : as_managed freed ≡ ms = ap as_managed (sym is) ∙ managed-back ms in
     let p : as_peers gone ≡ ps = ap as_peers (sym was) ∙ peers-back ps in
     record {
       whole = whole;
       shuffle = ran.shuffle;
-      fits = subst (λ (l : List PNum). All (FitsLists ms l []) whole) p (subst (λ (l : List MNum). All (FitsLists l (as_peers gone) []) whole) m ran.fits);
+      fits = All-weaker (FitsLists ms ps []) (FitsLists ms ps ns) (FitsLists-notices ms ps ns) whole
+          (subst (λ (l : List PNum). All (FitsLists ms l []) whole) p (subst (λ (l : List MNum). All (FitsLists l (as_peers gone) []) whole) m ran.fits));
     }

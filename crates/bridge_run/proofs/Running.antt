@@ -16,7 +16,8 @@ use Rattle.joint_model.specs.declared.lines.Act.{Act}
 use Rattle.joint_model.specs.declared.lines.Act.TheVariants as act
 use Rattle.joint_model.specs.declared.events.Entry.{Entry}
 use Rattle.joint_model.specs.Control.{idle}
-use Rattle.joint_model.specs.First.{FirstLinkage, opening_first, IsFirstLinked, IsFirstLinkedBy}
+use Rattle.joint_model.specs.Draws.{NumberedFrom}
+use Rattle.joint_model.specs.First.{FirstLinkage, opening_first, IsFirstLinked, IsFirstLinkedBy, HasFirstQueued, first_end}
 use Rattle.joint_model.specs.Histories.{Finished, IsPlaced, IsShuffle, entry_lists, managed_numbers, peer_numbers}
 use Rattle.joint_model.specs.Listed.{Stock}
 use Rattle.joint_model.specs.Managed.{Managed}
@@ -26,16 +27,14 @@ use Rattle.joint_model.proofs.Joining.{NumberedFrom-at, same_by_places}
 use Rattle.bridge_script.specs.Scripts.{IsScript, IsBuilt, line_at}
 use Rattle.first_laws.proofs.Verdicts.{judged}
 use Rattle.script_histories.specs.Holding.{HoldsLines, AreLine}
-use Rattle.script_histories.specs.Laws.{IsShort}
 use Rattle.script_histories.proofs.Ending.{lines-end}
 use Rattle.script_histories.proofs.Finishing.{one-history}
 use Rattle.script_histories.proofs.OneText.{one-text}
-use Rattle.script_histories.proofs.Short.{held-short}
 use Rattle.script_histories.proofs.Joined.{holds-push}
 use Rattle.bridge_run.specs.Going.{Goes, AtRest}
 use Rattle.bridge_run.specs.Runs.{Both, IsTold, IsAt, IsFinished, entries_of}
 use Rattle.bridge_run.specs.Top.{IsRunOf}
-use Rattle.bridge_run.proofs.Firsts.{held-first, built-short}
+use Rattle.bridge_run.proofs.Firsts.{held-first}
 use Rattle.bridge_run.proofs.Telling.{IsAt-none, IsAt-later}
 
 -- so many lines are done: some history that is told of the sides holds them
@@ -75,19 +74,21 @@ running-all script b h is r finished =
     let held : HoldsLines 1 script (entries_of r.noted) = subst (λ l. HoldsLines 1 l (entries_of r.noted)) (take_all (length script) script (omega arith)) r.lines in
     let lines : HoldsLines 1 script h.entries = subst (λ es. HoldsLines 1 script es) f.entries held in
     let judged_run = judged r.noted r.told.lawful (held-first 1 script r.noted is.built held) in
+    let queued : HasFirstQueued h r.noted = f.notices ∙ ap (λ (x : FirstLinkage). x.base.managed.managed.notices) (sym r.told.ends) in
     let linked : IsFirstLinkedBy h r.noted = record {
       same = f.entries;
+      numbers = subst (λ l. NumberedFrom 0 l) f.entries r.told.ran.shuffle.numbers;
       lawful = r.told.lawful;
       whole = rw (r.told.ends) record { threads = r.at.done; driver = r.at.stands };
       freed_managed = rw (r.told.ends) f.freed_managed;
       freed_peers = rw (r.told.ends) f.freed_peers;
-      notices = f.notices;
+      notices = ap (take (first_end r.noted).taken) queued;
     } in
     let mine : IsFirstLinked h = record { noted = r.noted; linked = linked } in
-    let short : All IsShort h.entries = held-short script h.entries (omega (arith, is.lines)) (built-short script is.built) lines in
     record {
       noted = r.noted;
       linked = linked;
+      queued = queued;
       lines = lines;
       ends = lines-end 1 script h.entries lines;
       moments = judged_run.0;
@@ -95,7 +96,7 @@ running-all script b h is r finished =
       sound = judged_run.1.sound;
       complete = judged_run.1.complete;
       only = λ other theirs held_too. one-history script other h theirs mine held_too lines;
-      named = λ other theirs same. sym (one-text h other short mine theirs (sym same));
+      named = λ other theirs same. one-text other h theirs mine same;
     }
 
 -- a line of a phase that is built is the driver's `cycle`
@@ -131,13 +132,13 @@ shuffle-one lists v w s t = same_by_places v w (s.count ∙ sym t.count) same
     ]
 
 -- the history that both sides' lists are joined to is the one that was told
-pub joined-told : (noted : List Noted) (end : FirstLinkage) (b : Both) (lists : List Stock) (ms : List MNum) (ps : List PNum) (h : Finished)
-    → IsTold noted end b → entry_lists lists ≡ b.managed.entries ∷ b.peer.entries ∷ [] → managed_numbers ms ≡ b.managed.managed.heap.freed → peer_numbers ps ≡ b.peer.peers.heap.freed
-    → IsShuffle (entry_lists lists) h.entries → h.freed_managed ≡ ms → h.freed_peers ≡ ps → h.notices ≡ []
+pub joined-told : (noted : List Noted) (end : FirstLinkage) (b : Both) (lists : List Stock) (ms : List MNum) (ps : List PNum) (ns : List MNum) (h : Finished)
+    → IsTold noted end b → entry_lists lists ≡ b.managed.entries ∷ b.peer.entries ∷ [] → managed_numbers ms ≡ b.managed.managed.heap.freed → peer_numbers ps ≡ b.peer.peers.heap.freed → managed_numbers ns ≡ b.managed.managed.notices
+    → IsShuffle (entry_lists lists) h.entries → h.freed_managed ≡ ms → h.freed_peers ≡ ps → h.notices ≡ ns
     → IsFinished noted end h
-joined-told noted end b lists ms ps h told these ms_are ps_are shuffle freed gone notices = record {
+joined-told noted end b lists ms ps ns h told these ms_are ps_are ns_are shuffle freed gone notices = record {
   entries = shuffle-one (b.managed.entries ∷ b.peer.entries ∷ []) (entries_of noted) h.entries told.ran.shuffle (subst (λ l. IsShuffle l h.entries) these shuffle);
   freed_managed = ap managed_numbers freed ∙ ms_are ∙ ap (λ (x : Managed). x.heap.freed) (sym told.managed);
   freed_peers = ap peer_numbers gone ∙ ps_are ∙ ap (λ (x : Peers). x.heap.freed) (sym told.peer.peers);
-  notices = notices;
+  notices = ap managed_numbers notices ∙ ns_are ∙ ap (λ (x : Managed). x.notices) (sym told.managed);
 }

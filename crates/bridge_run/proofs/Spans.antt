@@ -65,3 +65,14 @@ resolved-fits ms freed ps e s named is first count rises = record {
   event = named;
   spans = subst (HasSpans (ms ++ freed) ps []) (sym is) (omega (arith, first, count, length-append ms freed), subst (λ l. Rises (managed_numbers l)) (sym (stretch-new ms freed s first count)) rises);
 }
+
+-- a reply whose spans name no notice has them beside any notices
+HasSpans-notices : (ms : List MNum) (ps : List PNum) (ns : List MNum) (r : Reply) → HasSpans ms ps [] r → HasSpans ms ps ns r
+HasSpans-notices ms ps ns (says.Took s) h = omega arith
+HasSpans-notices ms ps ns (says.Snapped n s) h = h
+HasSpans-notices ms ps ns (says.Freed s) h = h
+HasSpans-notices ms ps ns (says.Swept j s) h = h
+HasSpans-notices ms ps ns _ h = tt
+
+pub FitsLists-notices : (ms : List MNum) (ps : List PNum) (ns : List MNum) (e : Entry) → FitsLists ms ps [] e → FitsLists ms ps ns e
+FitsLists-notices ms ps ns e f = record { event = f.event; spans = HasSpans-notices ms ps ns e.made.reply f.spans }

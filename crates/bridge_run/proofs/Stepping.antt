@@ -1,6 +1,6 @@
 -- A step of the managed side goes on with each history that is told: the entry may come next, at its side's end and at that
 -- of the whole history, with the next number; it frees nothing; and a handle that an object gets was issued.
-use Rattle.std.proofs.Common.{All, ◌≡◌, ℕ, ◌+◌, ◌≤◌, inl, inr, List, [], ◌∷◌, ◌++◌, length, Option, Some, None, refl, sym, ap, ◌∙◌, subst, append-nil}
+use Rattle.std.proofs.Common.{All, ◌≡◌, ℕ, ◌+◌, ◌<◌, ◌≤◌, ◌^◌, inl, inr, List, [], ◌∷◌, ◌++◌, length, Option, Some, None, refl, sym, ap, ◌∙◌, subst, append-nil}
 use Rattle.std.proofs.lemmas.List.Elements.{All-push, All-nil, All-cons}
 use Rattle.joint_model.specs.declared.names.Thread.{Thread}
 use Rattle.joint_model.specs.declared.names.Thread.TheVariants.{M, P, C}
@@ -136,20 +136,20 @@ named-push m m' e issued added old new =
 
 -- a `set` or a `drop` goes on with each history of the sides between two lines
 pub line-goes : (m m' : ManagedShown) (p : PeerShown) (count count' : ℕ) (t : Thread) (index : ℕ) (a : Act) (r : Reply)
-    → IsManagedThread t → IsLine t a → IsFirstAct a
+    → index < 2 ^ 32 → IsManagedThread t → IsLine t a → IsFirstAct a
     → managed_event m.managed t (op.Line a) ≡ answer r m'.managed
     → Adds CountDrew count count' m.entries m'.entries (step_made t index (op.Line a) r None) None []
     → Goes (AtRest index) (AtRest index) (AreLine index (t, a)) (record { managed = m; peer = p; count = count }) (record { managed = m'; peer = p; count = count' })
-line-goes m m' p count count' (P k) index a r thread line first is adds noted end told at = absurd thread
-line-goes m m' p count count' C index a r thread line first is adds noted end told at = absurd thread
-line-goes m m' p count count' (M k) index a r thread line first is adds noted end told at =
+line-goes m m' p count count' (P k) index a r small thread line first is adds noted end told at = absurd thread
+line-goes m m' p count count' C index a r small thread line first is adds noted end told at = absurd thread
+line-goes m m' p count count' (M k) index a r small thread line first is adds noted end told at =
     let e : Entry = numbered adds.number (step_made (M k) index (op.Line a) r None) in
     let n : Noted = record { entry = e; told = nothing } in
     let replays = step end.base.managed m'.managed (M k) index (op.Line a) r None (thread, first, (line, first-one a first)) tt (rw (told.managed) is) in
     let may : FirstMayCome end n = record {
-      number = adds.drawn.0 ∙ sym told.count;
       event = (line, first-one a first);
       line = at.lines (M k);
+      short = small;
       lawful = replays.lawful;
       order = done-start (doing_at end.base.control k) (at.done k);
       alone = subst (λ s. IsCycleAlone s (M k)) (sym at.stands) tt;
@@ -160,7 +160,7 @@ line-goes m m' p count count' (M k) index a r thread line first is adds noted en
       n ∷ [],
       first_after end n,
       told-push noted end _ (record { managed = m'; peer = p; count = count' }) n told may grown
-          replays.state told.peer adds.drawn.1 told.adopted
+          replays.state told.peer told.adopted
           (named-push m m' e p.peers.issued adds.added told.named (λ h no. absurd no)) held told.leads,
       IsAt-thread index idle end.base.control k free tt at,
       record { places = All-cons (IsOnLine index (M k)) e [] record { caller = refl; line = refl } (All-nil (IsOnLine index (M k))); events = line-events a e first refl },

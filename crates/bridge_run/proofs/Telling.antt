@@ -18,18 +18,17 @@ use Rattle.bridge_run.specs.Wholes.{Ran}
 pub told-push : (noted : List Noted) (end : FirstLinkage) (old new : Both) (n : Noted)
     → IsTold noted end old → FirstMayCome end n
     → Ran (entries_of noted ++ n.entry ∷ []) new.managed.entries new.peer.entries new.managed.managed.heap.freed new.peer.peers.heap.freed new.count
-    → (first_after end n).base.managed.managed ≡ new.managed.managed → Shows (first_after end n).base.peer new.peer → new.count ≡ old.count + 1
+    → (first_after end n).base.managed.managed ≡ new.managed.managed → Shows (first_after end n).base.peer new.peer
     → All (λ h. h ≤ length new.peer.peers.issued) (first_after end n).base.managed.adopted
     → All (λ e. (h : ℕ) → Adopts e.made.op h → h ≤ length new.peer.peers.issued) new.managed.entries
     → AreIssued new.managed.managed.held new.peer.peers.issued → All (λ i. IsMade new.peer.peers.heap i.peer) new.peer.peers.issued
     → IsTold (noted ++ n ∷ []) (first_after end n) new
-told-push noted end old new n told may ran managed peer count adopted named held leads = record {
+told-push noted end old new n told may ran managed peer adopted named held leads = record {
   ran = subst (λ l. Ran l new.managed.entries new.peer.entries new.managed.managed.heap.freed new.peer.peers.heap.freed new.count) (sym (map-append (λ (x : Noted). x.entry) noted (n ∷ []))) ran;
   lawful = AllFirstMayCome-push opening_first noted n told.lawful (subst (λ s. FirstMayCome s n) (sym told.ends) may);
   ends = first_replayed-push opening_first noted n ∙ ap (λ s. first_after s n) told.ends;
   managed = managed;
   peer = peer;
-  count = omega (arith, told.count, count);
   adopted = adopted;
   named = named;
   held = held;

@@ -37,7 +37,6 @@ pub record IsTold (noted : List Noted) (end : FirstLinkage) (b : Both) : Type 0 
   pub ends : first_replayed opening_first noted ≡ end
   pub managed : end.base.managed.managed ≡ b.managed.managed
   pub peer : Shows end.base.peer b.peer
-  pub count : end.base.count ≡ b.count
   pub adopted : All (λ h. h ≤ length b.peer.peers.issued) end.base.managed.adopted
   pub named : All (λ e. (h : ℕ) → Adopts e.made.op h → h ≤ length b.peer.peers.issued) b.managed.entries
   pub held : AreIssued b.managed.managed.held b.peer.peers.issued
@@ -66,10 +65,9 @@ pub record IsBegun (b : Both) : Type 0 where
   pub opened : b.peer.marking ≡ Some marking
   pub made : marking.made ≡ length b.peer.peers.heap.fields
 
--- the finished history is the one that was told, and its lists are what was freed; nobody takes notices in the first steps, so it
--- names none
+-- the finished history is the one that was told, and its lists are what was freed and what was queued
 pub record IsFinished (noted : List Noted) (end : FirstLinkage) (h : Finished) : Type 0 where
   pub entries : entries_of noted ≡ h.entries
   pub freed_managed : managed_numbers h.freed_managed ≡ end.base.managed.managed.heap.freed
   pub freed_peers : peer_numbers h.freed_peers ≡ end.base.peer.peers.heap.freed
-  pub notices : h.notices ≡ []
+  pub notices : managed_numbers h.notices ≡ end.base.managed.managed.notices

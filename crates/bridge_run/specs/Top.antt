@@ -3,7 +3,7 @@ use Rattle.std.specs.Prelude.{◌≡◌, ◌⊎◌, ℕ, List, [], ◌∷◌, Op
 use Rattle.std.specs.Io.KnownBytes.{Appends}
 use Rattle.joint_model.specs.declared.names.Thread.{Thread}
 use Rattle.joint_model.specs.declared.lines.Act.{Act}
-use Rattle.joint_model.specs.First.{IsFirstLinked, IsFirstLinkedBy}
+use Rattle.joint_model.specs.First.{IsFirstLinked, IsFirstLinkedBy, HasFirstQueued}
 use Rattle.joint_model.specs.Headline.{IsSoundRun, IsCompleteRun}
 use Rattle.joint_model.specs.Histories.{Finished}
 use Rattle.joint_model.specs.Linked.{joint_projection}
@@ -16,6 +16,7 @@ use Rattle.bridge_script.specs.Scripts.{IsText}
 use Rattle.bridge_script.specs.Reading.{TookScript, TookFault}
 use Rattle.bridge_script.specs.Report.{report}
 use Rattle.script_histories.specs.Holding.{HoldsLines, AllCyclesEnd}
+use Rattle.script_histories.specs.Laws.{IsOneHistory}
 
 -- the words, as bytes, are the one command, `serial`
 abbrev pub IsSerial : List (List ℕ) → Type 0
@@ -25,21 +26,23 @@ IsSerial words = words ≡ codes "serial" ∷ []
 abbrev pub usage_text : List ℕ
 usage_text = codes "usage: bridge_run COMMAND\n"
 
--- the history of a script's run: it is linked, in the form of the first steps; it holds the events of each line of the script,
--- each once, and those of a line before those of each later line; no cycle in it is abandoned, and each is resolved; the one
--- machine whose single graph joins both heaps has a run of its joint entries, which frees nothing too early and leaves nothing
--- that stayed unreached; and it is the only linked history that holds these lines, and the only one with its report
+-- the history of a script's run: it is linked, in the form of the first steps, and its list of notices is all that was queued; it
+-- holds the events of each line of the script, each once, and those of a line before those of each later line; no cycle in it is
+-- abandoned, and each is resolved; the one machine whose single graph joins both heaps has a run of its joint entries, which frees
+-- nothing too early and leaves nothing that stayed unreached; and every linked history that holds these lines, and every one with
+-- its report, is the same in all that a text shows, and is this history where its list of notices is all that was queued
 pub record IsRunOf (script : List (Thread × Act)) (history : Finished) : Type 0 where
   pub noted : List Noted
   pub linked : IsFirstLinkedBy history noted
+  pub queued : HasFirstQueued history noted
   pub lines : HoldsLines 1 script history.entries
   pub ends : AllCyclesEnd history.entries
   pub moments : List Moment
   pub run : IsRun (joint_projection noted) moments
   pub sound : IsSoundRun moments
   pub complete : IsCompleteRun moments
-  pub only : (other : Finished) → IsFirstLinked other → HoldsLines 1 script other.entries → other ≡ history
-  pub named : (other : Finished) → IsFirstLinked other → report other ≡ report history → other ≡ history
+  pub only : (other : Finished) (theirs : IsFirstLinked other) → HoldsLines 1 script other.entries → IsOneHistory other history theirs record { noted = noted; linked = linked }
+  pub named : (other : Finished) (theirs : IsFirstLinked other) → report other ≡ report history → IsOneHistory other history theirs record { noted = noted; linked = linked }
 
 -- a report was printed: the source was read to its end, what was taken is a text of a script, and the report of the history of its run
 -- was appended to what the sink held

@@ -183,8 +183,8 @@ impl Sides {
         Ok(())
     }
 
-    /// Joins what both sides did into one history, without notices, since nobody takes any in the first steps. Answers
-    /// `AllocError` where there is no memory.
+    /// Joins what both sides did into one history, with all notices that were queued. Answers `AllocError` where there is
+    /// no memory.
     pub fn finish(self, alloc: Global) -> Result<History, AllocError>
         requires { Stands Anywhere self }
         ensures { IfOk result (λ h. (noted : List Noted) (end : FirstLinkage) → IsTold noted end self → IsFinished noted end h) }
@@ -192,7 +192,7 @@ impl Sides {
         let managed = self.managed.into_lists();
         let peers = self.peers.into_lists();
         let lists = vec![in alloc; managed.entries, peers.entries]?;
-        History::join(alloc, lists, managed.freed, peers.freed, Vec::new(alloc))
+        History::join(alloc, lists, managed.freed, peers.freed, managed.notices)
     }
 }
 

@@ -22,7 +22,7 @@ returns-in_ok-step-clause-goes c =
     rw (← c.self.view_is)
     (whole-goes c.self.inside.managed c.step-in-Made.new.self c.self.inside.peers c.step.new.self c.self.inside.counter c.step.new.draw c.step-in-Made.new.draw c.args.thread c.args.index
     c.args.v c.args.kind c.args.fields c.args.sort c.args.peer_fields c.in-Made.p c.in-Made.h c.in_ok-step.field-0 c.last_number-number.result
-    c.requires.thread c.requires.line e.peers e.table e.marking e.markings e.adds c.last_number-number.ensures c.in_ok-step.ensures.answer c.in_ok-step.ensures.entry)
+    (omega arith) c.requires.thread c.requires.line e.peers e.table e.marking e.markings e.adds c.last_number-number.ensures c.in_ok-step.ensures.answer c.in_ok-step.ensures.entry)
 
 pub returns-in_default : goal.returns-in_default
 returns-in_default c =
@@ -33,7 +33,7 @@ returns-in_default c =
       idle = (idle.0, e.marking ∙ idle.1);
       goes = rw (← c.self.view_is)
           (alone-goes c.self.inside.managed c.self.inside.peers c.step.new.self c.self.inside.counter c.step.new.draw c.args.thread c.args.index c.args.v c.args.kind c.args.fields c.args.sort c.args.peer_fields c.in_ok-reply.reply
-          c.requires.thread c.requires.line e.peers e.table e.marking e.markings e.adds c.in_default.not-Made);
+          (omega arith) c.requires.thread c.requires.line e.peers e.table e.marking e.markings e.adds c.in_default.not-Made);
     }
 
 pub step-requires-in-Made-clause-fresh : goal.step-requires-in-Made-clause-fresh

@@ -1,3 +1,4 @@
+use Rattle.std.proofs.Common.{arith}
 use Rattle.joint_model.specs.Histories.{peer_numbers}
 use Rattle.bridge_run.proofs.Ran.{below-peers}
 use Rattle.bridge_run.proofs.Cycling.{begin-goes}
@@ -13,4 +14,4 @@ returns-clause-goes c =
     let e = c.in-Ok.ensures in
     rw (← c.self.view_is)
     (begin-goes c.self.inside.managed c.self.inside.peers c.mark_begin.new.self c.self.inside.counter c.mark_begin.new.draw c.args.index c.in-Ok.field-0 (peer_numbers c.in_ok-dead.dead.items)
-    c.in_ok-dead.ensures e.closed e.number e.marking e.markings e.peers e.table e.adds)
+    (omega arith) c.in_ok-dead.ensures e.closed e.number e.marking e.markings e.peers e.table e.adds)

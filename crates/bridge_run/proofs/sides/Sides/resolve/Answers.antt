@@ -1,4 +1,4 @@
-use Rattle.std.proofs.Common.{ℕ, List, length, ap, ◌∙◌}
+use Rattle.std.proofs.Common.{ℕ, List, length, ap, ◌∙◌, arith}
 use Rattle.joint_model.specs.Control.{candidates_of}
 use Rattle.joint_model.proofs.HeapLemmas.{candidates_of-open}
 use Rattle.bridge_run.proofs.Ran.{below-managed}
@@ -28,4 +28,4 @@ returns-clause-goes c =
     let handles = rw (← c.self.view_is) at c.requires.handles in
     rw (← c.self.view_is)
     (resolve-goes c.self.inside.managed c.resolve.new.self c.self.inside.peers c.self.inside.counter c.resolve.new.draw c.args.index c.in_ok-alive.alive.values c.resolve.result
-    (c.in_ok-alive.ensures ∙ answers-same c.self.inside.managed.managed c.self.inside.peers (candidates_of c.self.inside.managed.managed) c.args.handles.now handles) c.resolve.ensures.resolve)
+    (omega arith) (c.in_ok-alive.ensures ∙ answers-same c.self.inside.managed.managed c.self.inside.peers (candidates_of c.self.inside.managed.managed) c.args.handles.now handles) c.resolve.ensures.resolve)

@@ -1,4 +1,4 @@
-use Rattle.std.proofs.Common.{◌+◌, ap}
+use Rattle.std.proofs.Common.{◌+◌, ap, arith}
 use Rattle.joint_model.specs.Managed.{Managed}
 use Rattle.bridge_run.proofs.Ran.{below-managed}
 use Rattle.bridge_run.proofs.Cycling.{snap-goes}
@@ -26,4 +26,4 @@ returns-clause-handles c = candidate-handles c.self.inside.managed c.snap.new.se
 pub returns-clause-goes : goal.returns-clause-goes
 returns-clause-goes c =
     rw (← c.self.view_is)
-    (snap-goes c.self.inside.managed c.snap.new.self c.self.inside.peers c.self.inside.counter c.snap.new.draw c.args.index c.in-Ok.opened c.in-Ok.ensures.snap)
+    (snap-goes c.self.inside.managed c.snap.new.self c.self.inside.peers c.self.inside.counter c.snap.new.draw c.args.index c.in-Ok.opened (omega arith) c.in-Ok.ensures.snap)

@@ -1,4 +1,4 @@
-use Rattle.std.proofs.Common.{◌∙◌}
+use Rattle.std.proofs.Common.{◌∙◌, arith}
 use Rattle.joint_model.specs.declared.events.Op.TheVariants as op
 use Rattle.bridge_run.proofs.Ran.{below-managed}
 use Rattle.bridge_run.proofs.Stepping.{step-cycle, line-goes}
@@ -18,4 +18,4 @@ pub returns-clause-goes : goal.returns-clause-goes
 returns-clause-goes c =
     rw (← c.self.view_is)
     (line-goes c.self.inside.managed c.step.new.self c.self.inside.peers c.self.inside.counter c.step.new.draw c.args.thread c.args.index c.args.act c.in_ok-step.field-0
-    c.requires.line.0 c.requires.line.1 c.requires.line.2 c.in_ok-step.ensures.answer c.in_ok-step.ensures.entry)
+    (omega arith) c.requires.line.0 c.requires.line.1 c.requires.line.2 c.in_ok-step.ensures.answer c.in_ok-step.ensures.entry)

@@ -1,4 +1,4 @@
-use Rattle.std.proofs.Common.{◌≡◌, ℕ, length, sym, ap, ◌∙◌}
+use Rattle.std.proofs.Common.{◌≡◌, ℕ, length, sym, ap, ◌∙◌, arith}
 use Rattle.std.proofs.lemmas.List.{length-map}
 use Rattle.joint_model.specs.declared.names.PNum.{PNum}
 use Rattle.joint_model.specs.Histories.{peer_numbers}
@@ -34,4 +34,4 @@ returns-clause-goes c =
     e.freed ∙ ap (λ (n : ℕ). record { first = length c.self.inside.peers.peers.heap.freed; count = n }) (sym (length-map c.args.dead.now.items (λ (p : PNum). p.0))) in
     rw (← c.self.view_is)
     (sweep-goes c.self.inside.managed c.self.inside.peers c.sweep_joint.new.self c.self.inside.counter c.sweep_joint.new.draw c.args.index begun.marking s.marking s.freed (peer_numbers c.args.dead.now.items)
-    dead.rise begun.opened number span e.peers e.table e.marking e.markings e.adds)
+    (omega arith) dead.rise begun.opened number span e.peers e.table e.marking e.markings e.adds)
