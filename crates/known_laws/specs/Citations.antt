@@ -31,30 +31,36 @@ pub record HasCited (h : List Noted) (x : Made) (number : ℕ) (IsAsSaid : Made 
   pub same : cited.entry.made.caller ≡ x.caller
   pub as_said : IsAsSaid cited.entry.made
 
--- each kind of cited entry, as the citing one's line and data say: the make of a pair, the lend of a handle to a static, the grip
--- of a peer, a meet that didn't take the handle, the give of a handle, the snap and the clear of a cycle
+-- the make of that pair, on that line
 abbrev pub IsMakeOf : ℕ → PNum → HNum → Made → Type 0
 IsMakeOf line p h m = (sort : Sort) × (f : ℕ) × (m.index ≡ line) × (m.op ≡ op.Make sort f) × (m.reply ≡ says.Made p h)
 
+-- the lend of that handle to that static, on that line
 abbrev pub IsLendOf : ℕ → HNum → StaticNo → Made → Type 0
 IsLendOf line h x m = (v : Var) × (m.index ≡ line) × (m.op ≡ op.Lend v x) × (m.reply ≡ says.H h)
 
+-- the grip that named that peer with its handle, sort and number of fields
 abbrev pub IsGripOf : ℕ → PNum → HNum → Sort → ℕ → Made → Type 0
 IsGripOf line p h sort f m = (x : StaticNo) × (m.index ≡ line) × (m.op ≡ op.Grip x) × (m.reply ≡ says.Gripped p h sort f)
 
+-- a reply that isn't new
 abbrev pub IsNotNew : Reply → Type 0
 IsNotNew (says.New m) = ⊥
 IsNotNew _ = Unit {0}
 
+-- the give of that handle, on that line
 abbrev pub IsGiveOf : ℕ → HNum → Made → Type 0
 IsGiveOf line h m = (v : Var) × (m.index ≡ line) × (m.op ≡ op.Give v) × (m.reply ≡ says.H h)
 
+-- a meet that didn't take that handle, on that line
 abbrev pub IsMeetOf : ℕ → HNum → Made → Type 0
 IsMeetOf line h m = (v : Var) × (p : PNum) × (sort : Sort) × (f : ℕ) × (m.index ≡ line) × (m.op ≡ op.Meet v p h sort f) × IsNotNew m.reply
 
+-- the snap of that cycle
 abbrev pub IsSnapOf : ℕ → Made → Type 0
 IsSnapOf cycle m = m.op ≡ op.Snap record { 0 = cycle }
 
+-- the clear of that cycle
 abbrev pub IsClearOf : ℕ → Made → Type 0
 IsClearOf cycle m = m.op ≡ op.Clear record { 0 = cycle }
 
@@ -94,6 +100,7 @@ pub record AddsMirrorEdges (s : Linkage) (told : Told) (reply : Reply) (k : ℕ)
   pub tells : told ≡ references_of refs
   pub replies : reply ≡ says.Refs (length refs)
 
+-- so does each mirror of a past
 abbrev pub MirrorsAddMirrorEdges : Type 0
 MirrorsAddMirrorEdges = (x : Noted) (h : List Noted) → Lawful (x ∷ h) → (k : Cycle) → x.entry.made.op ≡ op.Mirror k → AddsMirrorEdges (end_of h) x.told x.entry.made.reply k.0
 
@@ -104,6 +111,7 @@ pub record TakesNext (s : Linkage) (cites : Option ℕ) (g : ℕ) : Type 0 where
   pub cited : cites ≡ Some mirror.snap
   pub candidate : IsCandidateHandle s.managed.managed (length mirror.weakened) g
 
+-- so does each weaken of a past
 abbrev pub WeakensTakeNext : Type 0
 WeakensTakeNext = (x : Noted) (h : List Noted) → Lawful (x ∷ h) → (g : HNum) → x.entry.made.op ≡ op.Weaken g → TakesNext (end_of h) x.entry.made.cites g.0
 
@@ -113,6 +121,7 @@ restores_after (op.Snap k) reply before = []
 restores_after (op.Restore h) reply before = before ++ (h.0, answer_in reply) ∷ []
 restores_after o reply before = before
 
+-- so far as a past has them
 abbrev pub restores_in : List Noted → List (ℕ × Answer)
 restores_in [] = []
 restores_in (x ∷ h) = restores_after x.entry.made.op x.entry.made.reply (restores_in h)
@@ -142,6 +151,7 @@ pub record FreesByRestores (s : Managed) (restores : List (ℕ × Answer)) (told
   pub one_each : length restores ≡ length cycle.candidates
   pub frees : (m : ℕ) → Contains freed m ↔ (Contains cycle.dead m × (((c : ℕ) × WasRestoredAlive s restores c × Reaches (ManagedEdge s) c m) → ⊥))
 
+-- so does each resolve of a past
 abbrev pub ResolvesFreeByRestores : Type 0
 ResolvesFreeByRestores = (x : Noted) (h : List Noted) → Lawful (x ∷ h) → (k : Cycle) → x.entry.made.op ≡ op.Resolve k → FreesByRestores (end_of h).managed.managed (restores_in h) x.told k.0
 
@@ -152,5 +162,6 @@ pub record StandsBehind (h : List Noted) (x : Noted) : Type 0 where
   pub all : h ≡ front ++ x ∷ back
   pub lawful : Lawful (x ∷ back)
 
+-- so does each entry
 abbrev pub EachStandsBehind : Type 0
 EachStandsBehind = (h : List Noted) → Lawful h → (x : Noted) → In h x → StandsBehind h x

@@ -17,6 +17,7 @@ use Rattle.joint_model.specs.Draws.{NumberedFrom}
 abbrev pub untold : Entry → Noted
 untold e = record { entry = e; told = nothing }
 
+-- the entries of notes
 abbrev pub entries : List Noted → List Entry
 entries ns = map (λ n. n.entry) ns
 
@@ -30,6 +31,7 @@ pub record AreKnown (lines : ℕ → List Entry) : Type 0 where
 abbrev pub grown : (ℕ → List Entry) → Entry → ℕ → List Entry
 grown lines e i = if is_in i (untold e) then lines i ++ e ∷ [] else lines i
 
+-- all numbers are below n
 abbrev pub AreBelow : ℕ → List Entry → Type 0
 AreBelow n [] = Unit {0}
 AreBelow n (e ∷ es) = (e.number < n) × AreBelow n es
@@ -75,6 +77,7 @@ pub record AreJoined (a b : List Noted) (ls ms ns : ℕ → List Entry) : Type 0
   pub peer_first : ns 1 ≡ ls 1 → (end_of joined.past).peer ≡ (end_of a).peer
   pub peer_second : ns 1 ≡ ms 1 → (end_of joined.past).peer ≡ (end_of b).peer
 
+-- two seats of one run know of each line together what the one or the other knows
 abbrev pub KnownLinesJoin : Type 0
 KnownLinesJoin = (whole : List Entry) (ls ms ns : ℕ → List Entry) (a : AreKnown ls) (b : AreKnown ms) → NumberedFrom 0 whole → Begin whole ls → Begin whole ms → AreLonger ls ms ns → AreJoined a.past b.past ls ms ns
 
@@ -86,6 +89,7 @@ pub record GivesParts (a b : List Noted) : Type 0 where
   pub doing : (t : ℕ) → line (2 + caller_place (M t)) a ≡ line (2 + caller_place (M t)) b → doing_at (end_of a).control t ≡ doing_at (end_of b).control t
   pub last : (t : Thread) → line (2 + caller_place t) a ≡ line (2 + caller_place t) b → last_line (end_of a).control t ≡ last_line (end_of b).control t
 
+-- so it is of any two pasts
 abbrev pub LinesGiveParts : Type 0
 LinesGiveParts = (a b : List Noted) → GivesParts a b
 
@@ -121,6 +125,7 @@ pub record HasEnded (h : Finished) (s : Linkage) : Type 0 where
   pub freed_peers : peer_numbers h.freed_peers ≡ s.peer.peers.heap.freed
   pub notices : take s.managed.managed.taken (managed_numbers h.notices) ≡ take s.managed.managed.taken s.managed.managed.notices
 
+-- a past that has ended so, with both lines whole, makes the history linked
 abbrev pub KnownWholeIsLinked : Type 0
 KnownWholeIsLinked = (h : Finished) (lines : ℕ → List Entry) (k : AreKnown lines) → NumberedFrom 0 h.entries → lines 0 ≡ entries_in 0 h.entries → lines 1 ≡ entries_in 1 h.entries → HasEnded h (end_of k.past) → IsLinked h
 
@@ -130,5 +135,6 @@ pub record IsKnownWhole (h : Finished) (noted : List Noted) : Type 0 where
   pub managed : (end_of known.past).managed ≡ (replayed opening_linkage noted).managed
   pub peer : (end_of known.past).peer ≡ (replayed opening_linkage noted).peer
 
+-- so it is of every linked history
 abbrev pub LinkedIsKnown : Type 0
 LinkedIsKnown = (h : Finished) (noted : List Noted) → IsLinkedBy h noted → IsKnownWhole h noted

@@ -22,6 +22,7 @@ pub record AreListsLawful (h : List Noted) : Type 0 where
   pub managed_side : IsReplayed managed_rules (record { entries = entries (line 0 h); state = (end_of h).managed })
   pub peer_side : IsReplayed peer_rules (record { entries = entries (line 1 h); state = (end_of h).peer })
 
+-- so it is of every lawful past
 abbrev pub KnownListsAreLawful : Type 0
 KnownListsAreLawful = (h : List Noted) → Lawful h → AreListsLawful h
 

@@ -12,28 +12,34 @@ use Rattle.joint_model.specs.Peers.{Issued}
 use Rattle.joint_model.specs.Told.{Noted, nothing}
 use Rattle.known_laws.specs.Known.{MayComeLater}
 
--- the list in which an entry stands, and the line of its caller
+-- the line of the list in which an entry stands: 0 is the managed one, 1 the peer one
 abbrev pub role_of : Noted → ℕ
 role_of n = if is_peer_event n.entry.made.caller n.entry.made.op then 1 else 0
 
+-- the line of the entry's caller, behind both lists
 abbrev pub own_of : Noted → ℕ
 own_of n = 2 + caller_place n.entry.made.caller
 
+-- the entry stands in line i
 abbrev pub is_in : ℕ → Noted → Bool
 is_in i n = (i == role_of n) || (i == own_of n)
 
+-- line i of a past, earliest first
 abbrev pub line : ℕ → List Noted → List Noted
 line i [] = []
 line i (x ∷ h) = if is_in i x then line i h ++ x ∷ [] else line i h
 
+-- line i of a run, whose entries stand earliest first
 abbrev pub of_line : ℕ → List Noted → List Noted
 of_line i [] = []
 of_line i (x ∷ xs) = if is_in i x then x ∷ of_line i xs else of_line i xs
 
+-- the numbers of a run are those from n on
 abbrev pub RunsFrom : ℕ → List Noted → Type 0
 RunsFrom n [] = Unit {0}
 RunsFrom n (x ∷ xs) = (x.entry.number ≡ n) × RunsFrom (n + 1) xs
 
+-- the entry stands in the past
 abbrev pub In : List Noted → Noted → Type 0
 In [] e = ⊥
 In (x ∷ xs) e = (x ≡ e) ⊎ In xs e
@@ -48,6 +54,7 @@ abbrev pub next_of : List Noted → ℕ
 next_of [] = 0
 next_of (n ∷ h) = n.entry.number + 1
 
+-- each entry may come after those behind it
 abbrev pub Lawful : List Noted → Type 0
 Lawful [] = Unit {0}
 Lawful (n ∷ h) = MayComeLater (next_of h) (end_of h) n × Lawful h
@@ -87,6 +94,7 @@ pub record Joined (a b : List Noted) : Type 0 where
   pub first : (i : ℕ) → IsPrefix (line i a) (line i past)
   pub second : (i : ℕ) → IsPrefix (line i b) (line i past)
 
+-- two pasts of one run join, where the open cycle is frozen
 abbrev pub PastsJoin : Type 0
 PastsJoin = (whole a b : List Noted) → RunsFrom 0 whole → IsFrozenIn whole → Lawful a → Lawful b → Within whole a → Within whole b → Joined a b
 
@@ -106,6 +114,7 @@ AreWithin whole h = Within (map bare whole) (map bare h)
 abbrev pub AreAlike : List Noted → List Noted → Type 0
 AreAlike a b = (x y : Noted) → In a x → In b y → x.entry.number ≡ y.entry.number → x ≡ y
 
+-- so are any two pasts of one run of entries
 abbrev pub PastsAgree : Type 0
 PastsAgree = (whole a b : List Noted) → RunsFrom 0 whole → Lawful a → Lawful b → AreWithin whole a → AreWithin whole b → AreAlike a b
 

@@ -24,10 +24,11 @@ use Rattle.known_laws.specs.Pasts.{is_in, line}
 abbrev pub note : ℕ → Thread → ℕ → Op → Reply → Option ℕ → Told → Noted
 note number t index o reply cites told = record { entry = record { number = number; made = record { caller = t; index = index; op = o; reply = reply; cites = cites } }; told = told }
 
--- m1, or p1, lets its variable a go
+-- m1 lets its variable a go
 abbrev pub a_drop : ℕ → Noted
 a_drop number = note number (M 1) 1 (op.Line (act.Drop record { 0 = 0 })) says.Ok None nothing
 
+-- p1 lets its variable a go
 abbrev pub a_peer_drop : ℕ → Noted
 a_peer_drop number = note number (P 1) 1 (op.Line (act.Drop record { 0 = 0 })) says.Ok None nothing
 
@@ -35,30 +36,35 @@ a_peer_drop number = note number (P 1) 1 (op.Line (act.Drop record { 0 = 0 })) s
 abbrev pub a_snap : Noted
 a_snap = note 0 C 1 (op.Snap record { 0 = 1 }) (says.Snapped 0 record { first = 0; count = 0 }) None (snap_of [] [] [])
 
--- m1 gives handle 1 up, and releases it twice
+-- m1 gives handle 1 up
 abbrev pub a_give : Noted
 a_give = note 0 (M 1) 1 (op.Give record { 0 = 0 }) (says.H record { 0 = 1 }) None nothing
 
+-- m1 releases the handle
 abbrev pub a_release : ℕ → Noted
 a_release number = note number (M 1) 1 (op.Release record { 0 = 1 }) says.Ok (Some 0) nothing
 
+-- both releases cite the one give
 abbrev pub released_twice : List Noted
 released_twice = a_release 2 ∷ a_release 1 ∷ a_give ∷ []
 
--- the lines of a past, and the entries of a run in which a later number stands first
+-- the lines of a past
 abbrev pub lines_of : List Noted → ℕ → List Entry
 lines_of h i = entries (line i h)
 
+-- a past with numbers 3 and 5
 abbrev pub two_drops : List Noted
 two_drops = a_peer_drop 5 ∷ a_drop 3 ∷ []
 
+-- its entries, the later one first
 abbrev pub turned_numbers : List Entry
 turned_numbers = (a_peer_drop 5).entry ∷ (a_drop 3).entry ∷ []
 
--- the line of one entry that is drawn with a target which it doesn't have
+-- an entry that is drawn with a target which it doesn't have
 abbrev pub wrongly_drawn : Drawn
 wrongly_drawn = record { entry = (a_drop 0).entry; target = Some record { 0 = 1 }; freed = [] }
 
+-- the lines of that entry alone
 abbrev pub wrong_lines : ℕ → List Drawn
 wrong_lines i = if is_in i (a_drop 0) then wrongly_drawn ∷ [] else []
 

@@ -14,25 +14,25 @@ pub record Follows (i : ℕ) (R : Linkage → Linkage → Type 0) : Type 0 where
   pub right : (s t : Linkage) (x : Noted) → is_in i x ≡ false → R s t → R s (linkage_after t x)
   pub both : (s t : Linkage) (x : Noted) → is_in i x ≡ true → R s t → R (linkage_after s x) (linkage_after t x)
 
-pub det : (i : ℕ) (R : Linkage → Linkage → Type 0) → Follows i R → (k : ℕ) (a b : List Noted) → length a + length b ≤ k → line i a ≡ line i b → R (end_of a) (end_of b)
-det i R f k [] [] l e = f.first
-det i R f zero (x ∷ a) b l e = absurd (omega arith)
-det i R f zero [] (y ∷ b) l e = absurd (omega arith)
-det i R f (suc k) [] (y ∷ b) l e = ⊎_elim
+pub line_gives : (i : ℕ) (R : Linkage → Linkage → Type 0) → Follows i R → (k : ℕ) (a b : List Noted) → length a + length b ≤ k → line i a ≡ line i b → R (end_of a) (end_of b)
+line_gives i R f k [] [] l e = f.first
+line_gives i R f zero (x ∷ a) b l e = absurd (omega arith)
+line_gives i R f zero [] (y ∷ b) l e = absurd (omega arith)
+line_gives i R f (suc k) [] (y ∷ b) l e = ⊎_elim
     (λ (t : is_in i y ≡ true). absurd (snoc_some (line i b) y (sym (line_in i y b t) ∙ sym e)))
-    (λ (n : is_in i y ≡ false). f.right opening_linkage (end_of b) y n (det i R f k [] b (omega arith) (e ∙ line_out i y b n)))
+    (λ (n : is_in i y ≡ false). f.right opening_linkage (end_of b) y n (line_gives i R f k [] b (omega arith) (e ∙ line_out i y b n)))
     (cases_Bool (is_in i y))
-det i R f (suc k) (x ∷ a) [] l e = ⊎_elim
+line_gives i R f (suc k) (x ∷ a) [] l e = ⊎_elim
     (λ (t : is_in i x ≡ true). absurd (snoc_some (line i a) x (sym (line_in i x a t) ∙ e)))
-    (λ (n : is_in i x ≡ false). f.left (end_of a) opening_linkage x n (det i R f k a [] (omega arith) (sym (line_out i x a n) ∙ e)))
+    (λ (n : is_in i x ≡ false). f.left (end_of a) opening_linkage x n (line_gives i R f k a [] (omega arith) (sym (line_out i x a n) ∙ e)))
     (cases_Bool (is_in i x))
-det i R f (suc k) (x ∷ a) (y ∷ b) l e = ⊎_elim
-    (λ (n : is_in i x ≡ false). f.left (end_of a) (end_of (y ∷ b)) x n (det i R f k a (y ∷ b) (omega arith) (sym (line_out i x a n) ∙ e)))
+line_gives i R f (suc k) (x ∷ a) (y ∷ b) l e = ⊎_elim
+    (λ (n : is_in i x ≡ false). f.left (end_of a) (end_of (y ∷ b)) x n (line_gives i R f k a (y ∷ b) (omega arith) (sym (line_out i x a n) ∙ e)))
     (λ (t : is_in i x ≡ true). ⊎_elim
-    (λ (m : is_in i y ≡ false). f.right (end_of (x ∷ a)) (end_of b) y m (det i R f k (x ∷ a) b (omega arith) (e ∙ line_out i y b m)))
+    (λ (m : is_in i y ≡ false). f.right (end_of (x ∷ a)) (end_of b) y m (line_gives i R f k (x ∷ a) b (omega arith) (e ∙ line_out i y b m)))
     (λ (u : is_in i y ≡ true).
     let s = snoc_same (line i a) (line i b) x y (sym (line_in i x a t) ∙ (e ∙ line_in i y b u)) in
-    subst (λ z. R (linkage_after (end_of a) x) (linkage_after (end_of b) z)) s.1 (f.both (end_of a) (end_of b) x t (det i R f k a b (omega arith) s.0)))
+    subst (λ z. R (linkage_after (end_of a) x) (linkage_after (end_of b) z)) s.1 (f.both (end_of a) (end_of b) x t (line_gives i R f k a b (omega arith) s.0)))
     (swap (is_in i y)))
     (swap (is_in i x))
   where
