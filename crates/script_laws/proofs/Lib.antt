@@ -10,3 +10,4 @@ pub mod OwnCycles
 pub mod ThreadOrder
 pub mod ThreadEnding
 pub mod TwoThreads
+pub mod Growing

@@ -48,6 +48,7 @@ pub record Standing : Type 0 where
   pub candidates : ℕ
   pub line : ℕ
 
+-- before the first line: idle
 abbrev pub opening_standing : Standing
 opening_standing = record { phase = at.Idle; candidates = 0; line = 0 }
 
@@ -77,6 +78,7 @@ pub record IsOnLine (number : ℕ) (thread : Thread) (e : Entry) : Type 0 where
   pub caller : e.made.caller ≡ thread
   pub line : e.made.index ≡ number
 
+-- all of them are
 abbrev pub AreOnLine : ℕ → Thread → List Entry → Type 0
 AreOnLine number thread [] = Unit {0}
 AreOnLine number thread (e ∷ es) = IsOnLine number thread e × AreOnLine number thread es
@@ -98,6 +100,11 @@ abbrev pub HoldsLines : Standing → List (ℕ × (Thread × Act)) → List Entr
 HoldsLines s [] entries = AreLeft s entries
 HoldsLines s (line ∷ lines) entries = (own : List Entry) × (rest : List Entry) × (entries ≡ own ++ rest) × AreLine s line.0 line.1 own × HoldsLines (standing_after s line.0 line.1.1 own) lines rest
 
+-- the entries are those of these lines so far, and lead to where the driver stands then
+abbrev pub HoldsSoFar : Standing → List (ℕ × (Thread × Act)) → List Entry → Standing → Type 0
+HoldsSoFar s [] entries t = (entries ≡ []) × (t ≡ s)
+HoldsSoFar s (line ∷ lines) entries t = (own : List Entry) × (rest : List Entry) × (entries ≡ own ++ rest) × AreLine s line.0 line.1 own × HoldsSoFar (standing_after s line.0 line.1.1 own) lines rest t
+
 -- the lines with their numbers
 abbrev pub numbered_from : ℕ → List (Thread × Act) → List (ℕ × (Thread × Act))
 numbered_from number [] = []
@@ -111,6 +118,7 @@ HoldsInOrder script entries = HoldsLines opening_standing (numbered_from 1 scrip
 abbrev pub lines_of : Thread → List (ℕ × (Thread × Act)) → List (ℕ × (Thread × Act))
 lines_of t lines = filter (λ line. is_thread t line.1.0) lines
 
+-- the entries of one caller
 abbrev pub entries_by : Thread → List Entry → List Entry
 entries_by t entries = filter (λ e. is_thread t e.made.caller) entries
 

@@ -2,3 +2,4 @@ pub mod Holding
 pub mod Ending
 pub mod Laws
 pub mod Worked
+pub mod Growing

@@ -1,12 +1,24 @@
 // Laws on the linked histories of scripts, each the contract of a function that does nothing.
 
 ghost use Rattle.script_laws.specs.Ending.{HeldCyclesEnd, HeldThreadCyclesEnd, LinkedCyclesEnd, ThreadHistoryEnds};
+ghost use Rattle.script_laws.specs.Growing.{HeldLinesEnd, HeldLinesGrow, IdleLeavesNothing, LinesOfGoOn, NumbersGoOn, RisingEntriesAreOne};
 ghost use Rattle.script_laws.specs.Laws.{HasOneHistory, HasOneText, LineOrderGivesThreadOrder};
 
 /// A script has at most one history in line order: two linked histories that hold its lines are the same in their entries, in what
 /// was freed and in the notices that were taken, and in the notices that were only queued where each has them all.
 pub fn one_history_for_a_script()
     ensures { HasOneHistory }
+{}
+
+/// Lines come to be held one after another: a further line's entries stand behind all others, and at the end the phases left open. What
+/// was listed so, as it was made, is the history, since lists of the same entries with rising numbers are one.
+pub fn held_lines_grow()
+    ensures grow { HeldLinesGrow }
+    ensures end { HeldLinesEnd }
+    ensures idle { IdleLeavesNothing }
+    ensures numbers { NumbersGoOn }
+    ensures lines_of { LinesOfGoOn }
+    ensures one { RisingEntriesAreOne }
 {}
 
 /// A history that holds a script's lines in line order holds them thread by thread.
