@@ -12,7 +12,7 @@ use Rattle.joint_model.specs.declared.events.Op.{Op}
 use Rattle.joint_model.specs.declared.events.Op.TheVariants as op
 use Rattle.joint_model.specs.declared.events.Made.{Made}
 use Rattle.joint_model.specs.Components.{mirror_edges}
-use Rattle.joint_model.specs.Control.{caller_place, peer_of_row}
+use Rattle.joint_model.specs.Control.{peer_of_row}
 use Rattle.joint_model.specs.Heaps.{IsLive, place, slot, numbered_at, fields_of}
 use Rattle.joint_model.specs.Cycles.{IsDeadContraction, DeadEdge}
 use Rattle.joint_model.specs.Lines.{IsEvent, is_peer_event}
@@ -32,7 +32,7 @@ use Rattle.joint_laws.proofs.ManagedMoves.{GoesOn, GoesOn-stay, managed_line-goe
 use Rattle.joint_laws.proofs.ManagedSteps.{meet_by-managed, give_by-managed, twin-live}
 use Rattle.joint_laws.proofs.DriverPeerSteps.{holds-handle_of}
 use Rattle.joint_laws.proofs.SameGraphs.{contraction-same, mirror_edge-ends}
-use Rattle.known_laws.specs.Pasts.{role_of, is_in, line, of_line, end_of, Lawful, Within, HasSameDeadPart, IsSameForDriver, IsFrozenIn, KnownPastsJoin, EntryMayMove}
+use Rattle.known_laws.specs.Pasts.{role_of, is_in, line, of_line, end_of, Lawful, Within, HasSameDeadPart, IsSameForDriver, IsFrozenIn, KnownPastsJoin, EntryMayMove, caller_line, driver_line}
 use Rattle.known_laws.proofs.PastLines.{off, in_role, in_own, line_in, line_out, snoc_same, snoc_some, shorter_begins}
 use Rattle.known_laws.proofs.Later.{kept_end}
 use Rattle.known_laws.proofs.Moving.{may_move}
@@ -100,11 +100,11 @@ pub alike_on : (s u t : Managed) → IsManagedKept s → GoesOn s u → Alike s 
 alike_on s u t k g (closed a b) = closed (g.cycle ∙ a) b
 alike_on s u t k g (open_one c a b h) = open_one c (g.cycle ∙ a) b (λ m d. (handle-same s u m ((k.dead c a).live m d) ((cut_on s u k g c a).live m d) (dead-held s u k g c a m d) ∙ (h m d).0, dead-fields s u k g c a m d ∙ (h m d).1))
 
-alike_after : (a : List Noted) (x : Noted) (t : Managed) → is_in 2 x ≡ false → Lawful (x ∷ a) → Alike (end_of a).managed.managed t → Alike (end_of (x ∷ a)).managed.managed t
+alike_after : (a : List Noted) (x : Noted) (t : Managed) → is_in driver_line x ≡ false → Lawful (x ∷ a) → Alike (end_of a).managed.managed t → Alike (end_of (x ∷ a)).managed.managed t
 alike_after a x t n l w =
     let k = kept_end a l.1 in
     alike_on (end_of a).managed.managed _ t k.managed.managed
-    (goes_by (end_of a).managed x.entry.made x.told (is_peer_event x.entry.made.caller x.entry.made.op) (end_of a) refl (λ q. off (sym n ∙ subst (λ i. is_in i x ≡ true) (ap (λ z. 2 + caller_place z) q) (in_own x))) l.0.comes.event k.managed l.0.comes.lawful) w
+    (goes_by (end_of a).managed x.entry.made x.told (is_peer_event x.entry.made.caller x.entry.made.op) (end_of a) refl (λ q. off (sym n ∙ subst (λ i. is_in i x ≡ true) (ap (λ z. caller_line z) q) (in_own x))) l.0.comes.event k.managed l.0.comes.lawful) w
 
 module _ (whole : List Noted) where
   -- where both pasts have one latest entry, what is behind it has one line of the managed side
@@ -126,29 +126,29 @@ module _ (whole : List Noted) where
           let same = same_managed a b (one_behind 0 x a b la lb wa wb (subst (λ i. is_in i x ≡ true) r (in_role x))) in
           subst (λ (z : ManagedReplay). Alike (managed_after (end_of a).managed x.entry.made x.told false).managed (managed_after z x.entry.made x.told false).managed) same (alike_self _)
 
-  alike : (k : ℕ) (a b : List Noted) → length a + length b ≤ k → Lawful a → Lawful b → Within whole a → Within whole b → line 2 a ≡ line 2 b → Alike (end_of a).managed.managed (end_of b).managed.managed
+  alike : (k : ℕ) (a b : List Noted) → length a + length b ≤ k → Lawful a → Lawful b → Within whole a → Within whole b → line driver_line a ≡ line driver_line b → Alike (end_of a).managed.managed (end_of b).managed.managed
   alike k [] [] l la lb wa wb e = closed refl refl
   alike zero (x ∷ a) b l la lb wa wb e = absurd (omega arith)
   alike zero [] (y ∷ b) l la lb wa wb e = absurd (omega arith)
   alike (suc k) [] (y ∷ b) l la lb wa wb e = ⊎_elim
-      (λ (t : is_in 2 y ≡ true). absurd (snoc_some (line 2 b) y (sym (line_in 2 y b t) ∙ sym e)))
-      (λ (n : is_in 2 y ≡ false). alike_flip _ _ (alike_after b y _ n lb (alike_flip _ _ (alike k [] b (omega arith) la lb.1 wa (within_past whole y b wb) (e ∙ line_out 2 y b n)))))
-      (cases_Bool (is_in 2 y))
+      (λ (t : is_in driver_line y ≡ true). absurd (snoc_some (line driver_line b) y (sym (line_in driver_line y b t) ∙ sym e)))
+      (λ (n : is_in driver_line y ≡ false). alike_flip _ _ (alike_after b y _ n lb (alike_flip _ _ (alike k [] b (omega arith) la lb.1 wa (within_past whole y b wb) (e ∙ line_out driver_line y b n)))))
+      (cases_Bool (is_in driver_line y))
   alike (suc k) (x ∷ a) [] l la lb wa wb e = ⊎_elim
-      (λ (t : is_in 2 x ≡ true). absurd (snoc_some (line 2 a) x (sym (line_in 2 x a t) ∙ e)))
-      (λ (n : is_in 2 x ≡ false). alike_after a x _ n la (alike k a [] (omega arith) la.1 lb (within_past whole x a wa) wb (sym (line_out 2 x a n) ∙ e)))
-      (cases_Bool (is_in 2 x))
+      (λ (t : is_in driver_line x ≡ true). absurd (snoc_some (line driver_line a) x (sym (line_in driver_line x a t) ∙ e)))
+      (λ (n : is_in driver_line x ≡ false). alike_after a x _ n la (alike k a [] (omega arith) la.1 lb (within_past whole x a wa) wb (sym (line_out driver_line x a n) ∙ e)))
+      (cases_Bool (is_in driver_line x))
   alike (suc k) (x ∷ a) (y ∷ b) l la lb wa wb e = ⊎_elim
-      (λ (t : is_in 2 x ≡ true). ⊎_elim
-      (λ (u : is_in 2 y ≡ true).
-      let s = snoc_same (line 2 a) (line 2 b) x y (sym (line_in 2 x a t) ∙ (e ∙ line_in 2 y b u)) in
+      (λ (t : is_in driver_line x ≡ true). ⊎_elim
+      (λ (u : is_in driver_line y ≡ true).
+      let s = snoc_same (line driver_line a) (line driver_line b) x y (sym (line_in driver_line x a t) ∙ (e ∙ line_in driver_line y b u)) in
       let w = alike k a b (omega arith) la.1 lb.1 (within_past whole x a wa) (within_past whole y b wb) s.0 in
       subst (λ z. Alike (end_of (x ∷ a)).managed.managed (end_of (z ∷ b)).managed.managed) s.1
       (both_had x a b la (subst (λ z. Lawful (z ∷ b)) (sym s.1) lb) wa (subst (λ z. Within whole (z ∷ b)) (sym s.1) wb) w))
-      (λ (n : is_in 2 y ≡ false). alike_flip _ _ (alike_after b y _ n lb (alike_flip _ _ (alike k (x ∷ a) b (omega arith) la lb.1 wa (within_past whole y b wb) (e ∙ line_out 2 y b n)))))
-      (cases_Bool (is_in 2 y)))
-      (λ (n : is_in 2 x ≡ false). alike_after a x _ n la (alike k a (y ∷ b) (omega arith) la.1 lb (within_past whole x a wa) wb (sym (line_out 2 x a n) ∙ e)))
-      (cases_Bool (is_in 2 x))
+      (λ (n : is_in driver_line y ≡ false). alike_flip _ _ (alike_after b y _ n lb (alike_flip _ _ (alike k (x ∷ a) b (omega arith) la lb.1 wa (within_past whole y b wb) (e ∙ line_out driver_line y b n)))))
+      (cases_Bool (is_in driver_line y)))
+      (λ (n : is_in driver_line x ≡ false). alike_after a x _ n la (alike k a (y ∷ b) (omega arith) la.1 lb (within_past whole x a wa) wb (sym (line_out driver_line x a n) ∙ e)))
+      (cases_Bool (is_in driver_line x))
 
 map_same : {A B : Type 0} (f g : A → B) (xs : List A) → ((x : A) → Contains xs x → f x ≡ g x) → map f xs ≡ map g xs
 map_same f g [] h = refl
@@ -211,7 +211,7 @@ dead_part-alike s t ks kt (open_one d x y h) = record { cycle = x ∙ sym y; han
         (λ m. (λ q. (q.0, bridge-on s t m kt (same c o m q.0).0 q.1), λ q. (q.0, bridge-on t s m ks (sym (same c o m q.0).0) q.1)))
         (λ u v. (edge-on s t c kt oc (λ m q. (same c o m q).1) u v, edge-on t s c ks o (λ m q. sym (same c o m q).1) u v)) w
 
-pub same_dead_part : (whole a b : List Noted) → Lawful a → Lawful b → Within whole a → Within whole b → line 2 a ≡ line 2 b → HasSameDeadPart (end_of a).managed.managed (end_of b).managed.managed
+pub same_dead_part : (whole a b : List Noted) → Lawful a → Lawful b → Within whole a → Within whole b → line driver_line a ≡ line driver_line b → HasSameDeadPart (end_of a).managed.managed (end_of b).managed.managed
 same_dead_part whole a b la lb wa wb e = dead_part-alike (end_of a).managed.managed (end_of b).managed.managed (kept_end a la).managed.managed (kept_end b lb).managed.managed (alike whole (length a + length b) a b (omega arith) la lb wa wb e)
 
 pub known_pasts_join : KnownPastsJoin

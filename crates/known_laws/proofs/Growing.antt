@@ -16,7 +16,7 @@ use Rattle.joint_model.specs.Linked.{Linkage, managed_after, peer_after}
 use Rattle.joint_model.specs.Told.{Told, Noted, phase_of}
 use Rattle.known_laws.specs.Known.{TellsPlainly}
 use Rattle.known_laws.specs.Telling.{MayBeTold}
-use Rattle.known_laws.specs.Pasts.{role_of, is_in, line, of_line, RunsFrom, In, end_of, Within, AreWithin, AreAlike, bare, Joined}
+use Rattle.known_laws.specs.Pasts.{role_of, is_in, line, of_line, RunsFrom, In, end_of, Within, AreWithin, AreAlike, bare, Joined, driver_line}
 use Rattle.known_laws.specs.Growing.{untold, entries, AreKnown, grown, AreBelow, KnownLinesGrow, entries_in, Begin, KnownLinesJoin, LinesGiveParts, DeadPartIsFrozen}
 use Rattle.known_laws.proofs.PastLines.{in_role, line-in, length_begins, shorter_begins, in-line, in_begins}
 use Rattle.known_laws.proofs.PastsJoin.{counted}
@@ -208,5 +208,5 @@ one_run whole ls ms a b numbered wa wb =
 pub dead_part_is_frozen : DeadPartIsFrozen
 dead_part_is_frozen whole ls ms a b numbered wa wb e =
     let r = one_run whole ls ms a b numbered wa wb in
-    let n = sym (length_entries (line 2 a.past)) ∙ (ap length (sym (a.same 2) ∙ (e ∙ b.same 2)) ∙ length_entries (line 2 b.past)) in
-    same_dead_part r.run a.past b.past a.lawful b.lawful r.first r.second (equal_begins (line 2 a.past) (line 2 b.past) (of_line 2 r.run) (r.first 2) (r.second 2) n)
+    let n = sym (length_entries (line driver_line a.past)) ∙ (ap length (sym (a.same driver_line) ∙ (e ∙ b.same driver_line)) ∙ length_entries (line driver_line b.past)) in
+    same_dead_part r.run a.past b.past a.lawful b.lawful r.first r.second (equal_begins (line driver_line a.past) (line driver_line b.past) (of_line driver_line r.run) (r.first driver_line) (r.second driver_line) n)

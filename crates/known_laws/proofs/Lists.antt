@@ -14,7 +14,7 @@ use Rattle.joint_model.specs.Linked.{SideLawful, managed_after, peer_after}
 use Rattle.joint_model.specs.ManagedReplay.{opening_replay}
 use Rattle.joint_model.specs.PeerReplay.{opening_peer_replay, is_thread}
 use Rattle.joint_model.specs.Told.{Noted}
-use Rattle.known_laws.specs.Pasts.{is_in, line, end_of, In, Lawful}
+use Rattle.known_laws.specs.Pasts.{is_in, line, end_of, In, Lawful, caller_line}
 use Rattle.known_laws.specs.Growing.{entries, entries_in, turned, untold}
 use Rattle.known_laws.proofs.Ending.{known_whole_is_history}
 use Rattle.joint_model.specs.Sides.{managed_rules, peer_rules, LeadsTo}
@@ -29,11 +29,11 @@ use Rattle.known_laws.specs.Lists.{KnownListsAreLawful, made_by, OwnLineIsMadeBy
 
 -- lines 0 and 1 by the side of the entry
 in_side : (i : ℕ) (x : Noted) (b : Bool) → i < 2 → is_peer_event x.entry.made.caller x.entry.made.op ≡ b → is_in i x ≡ nat_eq i (if b then 1 else 0)
-in_side i x b l e = ap (λ c. nat_eq i (if c then 1 else 0) || nat_eq i (2 + caller_place x.entry.made.caller)) e ∙ by (nat_eq i (if b then 1 else 0))
+in_side i x b l e = ap (λ c. nat_eq i (if c then 1 else 0) || nat_eq i (caller_line x.entry.made.caller)) e ∙ by (nat_eq i (if b then 1 else 0))
   where
-    by : (c : Bool) → (c || nat_eq i (2 + caller_place x.entry.made.caller)) ≡ c
+    by : (c : Bool) → (c || nat_eq i (caller_line x.entry.made.caller)) ≡ c
     by true = refl
-    by false = ne_eqb i (2 + caller_place x.entry.made.caller) (λ q. omega (arith, q, l))
+    by false = ne_eqb i (caller_line x.entry.made.caller) (λ q. omega (arith, q, l))
 
 managed-list : (h : List Noted) → Lawful h → LeadsTo managed_rules opening_replay (line 0 h) (end_of h).managed
 managed-list [] l = refl
@@ -104,19 +104,19 @@ place-tells (P a) C x y = ne_eqb 0 (8 + a) (λ q. omega (arith, q))
 place-tells C (P b) x y = ne_eqb (8 + b) 0 (λ q. omega (arith, q))
 place-tells C C x y = refl
 
-two_more : (a b : ℕ) → nat_eq (2 + a) (2 + b) ≡ nat_eq a b
-two_more a b = either (cases_eq a b)
+ten_more : (a b : ℕ) → nat_eq (a + 10) (b + 10) ≡ nat_eq a b
+ten_more a b = either (cases_eq a b)
   where
-    either : (a ≡ b) ⊎ (a ≢ b) → nat_eq (2 + a) (2 + b) ≡ nat_eq a b
-    either (inl e) = eq-eqb (2 + a) (2 + b) (omega (arith, e)) ∙ sym (eq-eqb a b e)
-    either (inr n) = ne_eqb (2 + a) (2 + b) (λ q. n (omega (arith, q))) ∙ sym (ne_eqb a b n)
+    either : (a ≡ b) ⊎ (a ≢ b) → nat_eq (a + 10) (b + 10) ≡ nat_eq a b
+    either (inl e) = eq-eqb (a + 10) (b + 10) (omega (arith, e)) ∙ sym (eq-eqb a b e)
+    either (inr n) = ne_eqb (a + 10) (b + 10) (λ q. n (omega (arith, q))) ∙ sym (ne_eqb a b n)
 
-in_own_line : (e : Entry) (t : Thread) → IsThread e.made.caller → IsThread t → is_in (2 + caller_place t) (untold e) ≡ is_thread e.made.caller t
-in_own_line e t x y = by (is_peer_event e.made.caller e.made.op) ∙ (two_more (caller_place t) (caller_place e.made.caller) ∙ place-tells e.made.caller t x y)
+in_own_line : (e : Entry) (t : Thread) → IsThread e.made.caller → IsThread t → is_in (caller_line t) (untold e) ≡ is_thread e.made.caller t
+in_own_line e t x y = by (is_peer_event e.made.caller e.made.op) ∙ (ten_more (caller_place t) (caller_place e.made.caller) ∙ place-tells e.made.caller t x y)
   where
-    by : (b : Bool) → (nat_eq (2 + caller_place t) (if b then 1 else 0) || nat_eq (2 + caller_place t) (2 + caller_place e.made.caller)) ≡ nat_eq (2 + caller_place t) (2 + caller_place e.made.caller)
-    by true = ap (λ c. c || nat_eq (2 + caller_place t) (2 + caller_place e.made.caller)) (ne_eqb (2 + caller_place t) 1 (λ q. omega (arith, q)))
-    by false = ap (λ c. c || nat_eq (2 + caller_place t) (2 + caller_place e.made.caller)) (ne_eqb (2 + caller_place t) 0 (λ q. omega (arith, q)))
+    by : (b : Bool) → (nat_eq (caller_line t) (if b then 1 else 0) || nat_eq (caller_line t) (caller_line e.made.caller)) ≡ nat_eq (caller_line t) (caller_line e.made.caller)
+    by true = ap (λ c. c || nat_eq (caller_line t) (caller_line e.made.caller)) (ne_eqb (caller_line t) 1 (λ q. omega (arith, q)))
+    by false = ap (λ c. c || nat_eq (caller_line t) (caller_line e.made.caller)) (ne_eqb (caller_line t) 0 (λ q. omega (arith, q)))
 
 -- callers are threads
 abbrev AreThreads : List Entry → Type 0
@@ -153,12 +153,12 @@ threads : (h acc : List Noted) → Lawful h → AreThreads (entries acc) → Are
 threads [] acc l a = a
 threads (x ∷ h) acc l a = threads h (x ∷ acc) l.1 (event-thread x.entry.made.caller x.entry.made.op l.0.comes.event, a)
 
-own_line : (whole : List Entry) → AreThreads whole → (t : Thread) → IsThread t → entries_in (2 + caller_place t) whole ≡ made_by t whole
+own_line : (whole : List Entry) → AreThreads whole → (t : Thread) → IsThread t → entries_in (caller_line t) whole ≡ made_by t whole
 own_line [] all t y = refl
 own_line (e ∷ whole) all t y =
-    ap (λ b. if b then e ∷ entries_in (2 + caller_place t) whole else entries_in (2 + caller_place t) whole) (in_own_line e t all.0 y) ∙ by (is_thread e.made.caller t) (own_line whole all.1 t y)
+    ap (λ b. if b then e ∷ entries_in (caller_line t) whole else entries_in (caller_line t) whole) (in_own_line e t all.0 y) ∙ by (is_thread e.made.caller t) (own_line whole all.1 t y)
   where
-    by : (b : Bool) → entries_in (2 + caller_place t) whole ≡ made_by t whole → (if b then e ∷ entries_in (2 + caller_place t) whole else entries_in (2 + caller_place t) whole) ≡ (if b then e ∷ made_by t whole else made_by t whole)
+    by : (b : Bool) → entries_in (caller_line t) whole ≡ made_by t whole → (if b then e ∷ entries_in (caller_line t) whole else entries_in (caller_line t) whole) ≡ (if b then e ∷ made_by t whole else made_by t whole)
     by true q = ap (λ l. e ∷ l) q
     by false q = q
 

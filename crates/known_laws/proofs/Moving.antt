@@ -1,7 +1,7 @@
 -- An entry that may come after one past may come after another with the same line of its list and of its caller. Its own side's state
 -- is that of its list, and what its caller is in the midst of that of its caller's line. The driver's peer events ask for candidates
 -- and mirror edges of the managed side, which are frozen while the driver's line stays.
-use Rattle.std.proofs.Common.{◌≡◌, ⊎_elim, ℕ, ◌+◌, ◌≤◌, Bool, true, false, List, length, Option, Some, None, refl, sym, ap, ◌∙◌, subst, true≢false}
+use Rattle.std.proofs.Common.{◌≡◌, ⊎_elim, ℕ, ◌≤◌, Bool, true, false, List, length, Option, Some, None, refl, sym, ap, ◌∙◌, subst, true≢false}
 use Rattle.std.specs.Prelude.{if◌then◌else◌, slice_get}
 use Rattle.std.proofs.lemmas.Bool.{cases_Bool}
 use Rattle.joint_model.specs.declared.names.Thread.{Thread}
@@ -19,7 +19,7 @@ use Rattle.joint_model.specs.PeerReplay.{PeerReplay}
 use Rattle.joint_model.specs.Peers.{Issued}
 use Rattle.joint_model.specs.Told.{Told, Noted, references_of}
 use Rattle.known_laws.specs.Known.{MayComeLater, TellsPlainly}
-use Rattle.known_laws.specs.Pasts.{role_of, own_of, line, end_of, IsSameForDriver, next_of}
+use Rattle.known_laws.specs.Pasts.{role_of, own_of, line, end_of, IsSameForDriver, next_of, caller_line, driver_line}
 use Rattle.known_laws.proofs.Parts.{SameAt, same_managed, same_peer, same_control}
 
 -- what the driver's events ask for, in two managed states that are the same for it
@@ -60,7 +60,7 @@ driver_move st m m' i i' _ reply cites told a e w = absurd w
 alike_same : (st : Stand) (m m' : Managed) → m ≡ m' → Alike st m m'
 alike_same st m m' e = record { candidates = ap candidates_of e; handles = λ i h w. subst (λ z. IsCandidateHandle z i h) e w; edges = λ o comps xrefs issued q. ap (λ z. carried_edges z issued (mirror_edges comps xrefs)) e }
 
-pub may_move : (a b : List Noted) (x : Noted) → (own_of x ≡ 2 → IsSameForDriver (end_of a) (end_of b)) → line (role_of x) a ≡ line (role_of x) b → line (own_of x) a ≡ line (own_of x) b
+pub may_move : (a b : List Noted) (x : Noted) → (own_of x ≡ driver_line → IsSameForDriver (end_of a) (end_of b)) → line (role_of x) a ≡ line (role_of x) b → line (own_of x) a ≡ line (own_of x) b
     → next_of b ≤ x.entry.number → MayComeLater (next_of a) (end_of a) x → MayComeLater (next_of b) (end_of b) x
 may_move a b x frozen role own later may = record {
   later = later;
@@ -103,7 +103,7 @@ may_move a b x frozen role own later may = record {
     order_move (P u) e w = w
     order_move C e w =
         let stand = at.stand (ap caller_place e) in
-        let same : IsSameForDriver (end_of a) (end_of b) = frozen (ap (λ t. 2 + caller_place t) e) in
+        let same : IsSameForDriver (end_of a) (end_of b) = frozen (ap (λ t. caller_line t) e) in
         subst (λ st. DriverAllows st (end_of b).managed.managed (end_of b).peer.peers.issued x.entry.made.op x.entry.made.reply x.entry.made.cites x.told) stand
         (⊎_elim
         (λ (p : is_peer_event x.entry.made.caller x.entry.made.op ≡ true). driver_move (end_of a).control.stand (end_of a).managed.managed (end_of b).managed.managed (end_of a).peer.peers.issued (end_of b).peer.peers.issued x.entry.made.op x.entry.made.reply x.entry.made.cites x.told

@@ -23,7 +23,7 @@ use Rattle.known_laws.specs.Growing.{AreKnown, IsHistory, entries, grown}
 use Rattle.known_laws.specs.Known.{TellsPlainly}
 use Rattle.known_laws.specs.Driving.{IsPastKept}
 use Rattle.known_laws.proofs.KnownPasts.{known_past_is_kept}
-use Rattle.known_laws.specs.Pasts.{HasSameDeadPart, In, Joined, Lawful, RunsFrom, Within, end_of, line}
+use Rattle.known_laws.specs.Pasts.{HasSameDeadPart, In, Joined, Lawful, RunsFrom, Within, end_of, line, driver_line}
 use Rattle.known_laws.specs.Worked.{a_drop, a_peer_drop, a_refusal, a_release, a_give, a_snap, lines_of, released_twice, turned_numbers, two_drops, without_candidates, wrong_lines, wrongly_drawn}
 use Rattle.known_laws.proofs.CitedOnce.{none_is_cited_twice}
 use Rattle.known_laws.proofs.PastLines.{in-line, in_begins, one-number}
@@ -102,7 +102,7 @@ snapshot = record {
 pub snap-lawful : Lawful (a_snap ∷ [])
 snap-lawful = (record { later = omega arith; comes = record { event = tt; line = omega arith; short = omega arith; lawful = record { allowed = snapshot; replies = refl }; order = refl }; plain = tt }, tt)
 
-pub other_line : line 2 [] ≡ line 2 (a_snap ∷ []) → ⊥
+pub other_line : line driver_line [] ≡ line driver_line (a_snap ∷ []) → ⊥
 other_line e = cc
 
 pub other_part : HasSameDeadPart (end_of []).managed.managed (end_of (a_snap ∷ [])).managed.managed → ⊥

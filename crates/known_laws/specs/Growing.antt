@@ -1,16 +1,16 @@
 -- Known lines: how they grow by an entry and are joined, and what they are at the end of a run.
-use Rattle.std.specs.Prelude.{◌≡◌, ℕ, ◌+◌, ◌<◌, ◌⊎◌, if◌then◌else◌, List, [], ◌∷◌, ◌++◌, map, take, Some}
+use Rattle.std.specs.Prelude.{◌≡◌, ℕ, ◌<◌, ◌⊎◌, if◌then◌else◌, List, [], ◌∷◌, ◌++◌, map, take, Some}
 use mathlib.Core.List.{IsPrefix}
 use Rattle.joint_model.specs.declared.names.Thread.{Thread}
 use Rattle.joint_model.specs.declared.names.Thread.TheVariants.{M}
 use Rattle.joint_model.specs.declared.events.Entry.{Entry}
-use Rattle.joint_model.specs.Control.{caller_place, candidates_of, doing_at, last_line}
+use Rattle.joint_model.specs.Control.{candidates_of, doing_at, last_line}
 use Rattle.joint_model.specs.Histories.{Finished, managed_numbers, peer_numbers}
 use Rattle.joint_model.specs.Linked.{Linkage, MayCome, AllMayCome, IsWhole, IsLinked, IsLinkedBy, opening_linkage, replayed, linkage_after}
 use Rattle.joint_model.specs.PeerReplay.{Mirror}
 use Rattle.joint_model.specs.Told.{Told, Noted, nothing}
 use Rattle.known_laws.specs.Known.{TellsPlainly}
-use Rattle.known_laws.specs.Pasts.{In, is_in, line, end_of, Lawful, HasSameDeadPart}
+use Rattle.known_laws.specs.Pasts.{In, is_in, line, end_of, Lawful, HasSameDeadPart, caller_line, driver_line}
 use Rattle.joint_model.specs.Draws.{NumberedFrom}
 
 -- an entry of which nothing is told, and the entries of notes
@@ -85,9 +85,9 @@ KnownLinesJoin = (whole : List Entry) (ls ms ns : ℕ → List Entry) (a : AreKn
 pub record GivesParts (a b : List Noted) : Type 0 where
   pub managed : line 0 a ≡ line 0 b → (end_of a).managed ≡ (end_of b).managed
   pub peer : line 1 a ≡ line 1 b → (end_of a).peer ≡ (end_of b).peer
-  pub stand : line 2 a ≡ line 2 b → (end_of a).control.stand ≡ (end_of b).control.stand
-  pub doing : (t : ℕ) → line (2 + caller_place (M t)) a ≡ line (2 + caller_place (M t)) b → doing_at (end_of a).control t ≡ doing_at (end_of b).control t
-  pub last : (t : Thread) → line (2 + caller_place t) a ≡ line (2 + caller_place t) b → last_line (end_of a).control t ≡ last_line (end_of b).control t
+  pub stand : line driver_line a ≡ line driver_line b → (end_of a).control.stand ≡ (end_of b).control.stand
+  pub doing : (t : ℕ) → line (caller_line (M t)) a ≡ line (caller_line (M t)) b → doing_at (end_of a).control t ≡ doing_at (end_of b).control t
+  pub last : (t : Thread) → line (caller_line t) a ≡ line (caller_line t) b → last_line (end_of a).control t ≡ last_line (end_of b).control t
 
 -- so it is of any two pasts
 abbrev pub LinesGiveParts : Type 0
@@ -95,7 +95,7 @@ LinesGiveParts = (a b : List Noted) → GivesParts a b
 
 -- while the driver's line stays, the open cycle's dead part is what it was, whatever the others did
 abbrev pub DeadPartIsFrozen : Type 0
-DeadPartIsFrozen = (whole : List Entry) (ls ms : ℕ → List Entry) (a : AreKnown ls) (b : AreKnown ms) → NumberedFrom 0 whole → Begin whole ls → Begin whole ms → ls 2 ≡ ms 2
+DeadPartIsFrozen = (whole : List Entry) (ls ms : ℕ → List Entry) (a : AreKnown ls) (b : AreKnown ms) → NumberedFrom 0 whole → Begin whole ls → Begin whole ms → ls driver_line ≡ ms driver_line
     → HasSameDeadPart (end_of a.past).managed.managed (end_of b.past).managed.managed
 
 -- what two seats know of one mirrored cycle has the same candidates

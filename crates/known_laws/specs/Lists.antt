@@ -1,15 +1,14 @@
 -- Each side's own list, as a past has it: lawful by itself, and giving that side's state.
-use Rattle.std.specs.Prelude.{◌≡◌, ℕ, List, filter, map, ◌+◌}
+use Rattle.std.specs.Prelude.{◌≡◌, ℕ, List, filter, map}
 use Rattle.joint_model.specs.declared.names.Thread.{Thread}
 use Rattle.joint_model.specs.declared.events.Entry.{Entry}
-use Rattle.joint_model.specs.Control.{caller_place}
 use Rattle.joint_model.specs.Lines.{IsThread}
 use Rattle.joint_model.specs.ManagedReplay.{opening_replay}
 use Rattle.joint_model.specs.PeerReplay.{opening_peer_replay, is_thread}
 use Rattle.joint_model.specs.Components.{Rises}
 use Rattle.joint_model.specs.Sides.{managed_rules, peer_rules, LeadsTo, IsReplayed}
 use Rattle.joint_model.specs.Told.{Noted}
-use Rattle.known_laws.specs.Pasts.{line, end_of, Lawful}
+use Rattle.known_laws.specs.Pasts.{line, end_of, Lawful, caller_line}
 use Rattle.known_laws.specs.Growing.{AreKnown, entries, entries_in}
 use Rattle.joint_model.specs.Draws.{NumberedFrom}
 
@@ -33,4 +32,4 @@ made_by t es = filter (λ e. is_thread e.made.caller t) es
 -- once both sides' lines are known whole, the whole line of a thread has exactly the entries that this thread made
 abbrev pub OwnLineIsMadeByCaller : Type 0
 OwnLineIsMadeByCaller = (whole : List Entry) (lines : ℕ → List Entry) → AreKnown lines → NumberedFrom 0 whole → lines 0 ≡ entries_in 0 whole → lines 1 ≡ entries_in 1 whole
-    → (t : Thread) → IsThread t → lines (2 + caller_place t) ≡ entries_in (2 + caller_place t) whole → lines (2 + caller_place t) ≡ made_by t whole
+    → (t : Thread) → IsThread t → lines (caller_line t) ≡ entries_in (caller_line t) whole → lines (caller_line t) ≡ made_by t whole

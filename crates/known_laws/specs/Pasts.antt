@@ -1,6 +1,7 @@
 -- What a seat knows: a past, latest entry first, with numbers left out, and its lines.
 use Rattle.std.specs.Prelude.{◌≡◌, ℕ, ◌+◌, ◌≤◌, ◌==◌, ◌||◌, ◌⊎◌, Bool, if◌then◌else◌, List, [], ◌∷◌, ◌++◌, map, Contains, Some}
 use mathlib.Core.List.{IsPrefix}
+use Rattle.joint_model.specs.declared.names.Thread.{Thread}
 use Rattle.joint_model.specs.Components.{mirror_edges}
 use Rattle.joint_model.specs.Control.{Opened, contracted, caller_place, candidates_of, IsCandidateHandle, carried_edges}
 use Rattle.joint_model.specs.Cycles.{IsDeadContraction}
@@ -12,13 +13,21 @@ use Rattle.joint_model.specs.Peers.{Issued}
 use Rattle.joint_model.specs.Told.{Noted, nothing}
 use Rattle.known_laws.specs.Known.{MayComeLater}
 
--- the line of the list in which an entry stands: 0 is the managed one, 1 the peer one
+-- A run has lines: 0 is the managed list, 1 the peer list, those from 2 to 9 are left to readers, and those from 10 on are callers'.
+abbrev pub caller_line : Thread → ℕ
+caller_line t = caller_place t + 10
+
+-- the driver's line
+abbrev pub driver_line : ℕ
+driver_line = 10
+
+-- the line of the list in which an entry stands
 abbrev pub role_of : Noted → ℕ
 role_of n = if is_peer_event n.entry.made.caller n.entry.made.op then 1 else 0
 
--- the line of the entry's caller, behind both lists
+-- the line of the entry's caller
 abbrev pub own_of : Noted → ℕ
-own_of n = 2 + caller_place n.entry.made.caller
+own_of n = caller_line n.entry.made.caller
 
 -- the entry stands in line i
 abbrev pub is_in : ℕ → Noted → Bool
@@ -79,7 +88,7 @@ pub record IsSameForDriver (s t : Linkage) : Type 0 where
 
 -- the open cycle's dead part is frozen: two pasts in which the driver did the same have the same for the driver
 abbrev pub IsFrozenIn : List Noted → Type 0
-IsFrozenIn whole = (a b : List Noted) → Lawful a → Lawful b → Within whole a → Within whole b → line 2 a ≡ line 2 b → IsSameForDriver (end_of a) (end_of b)
+IsFrozenIn whole = (a b : List Noted) → Lawful a → Lawful b → Within whole a → Within whole b → line driver_line a ≡ line driver_line b → IsSameForDriver (end_of a) (end_of b)
 
 -- an entry that may come after one past of a run may come after another that has the same line of its list and of its caller
 abbrev pub EntryMayMove : Type 0

@@ -15,7 +15,7 @@ ghost use Rattle.known_laws.specs.Driving.{IsPastKept};
 ghost use Rattle.known_laws.specs.Drawn.{AreDrawn};
 ghost use Rattle.known_laws.specs.Growing.{AreKnown, IsHistory, entries_in, grown};
 ghost use Rattle.known_laws.specs.Known.{TellsPlainly};
-ghost use Rattle.known_laws.specs.Pasts.{HasSameDeadPart, Joined, Lawful, RunsFrom, Within, end_of, line};
+ghost use Rattle.known_laws.specs.Pasts.{HasSameDeadPart, Joined, Lawful, RunsFrom, Within, end_of, line, driver_line};
 ghost use Rattle.known_laws.specs.Worked.{a_drop, a_peer_drop, a_refusal, a_snap, lines_of, released_twice, turned_numbers, two_drops, without_candidates, wrong_lines};
 
 /// Two pasts with one number for two entries are joined by none, and are pasts of no one run.
@@ -44,7 +44,7 @@ pub fn numbers_must_leave_none_out()
 /// Who doesn't know the snap doesn't know the cycle's dead part, and has another managed state.
 pub fn the_snap_must_be_known()
     ensures lawful { Lawful (a_snap ∷ []) }
-    ensures other_line { line 2 [] ≡ line 2 (a_snap ∷ []) → ⊥ }
+    ensures other_line { line driver_line [] ≡ line driver_line (a_snap ∷ []) → ⊥ }
     ensures other_part { HasSameDeadPart (end_of []).managed.managed (end_of (a_snap ∷ [])).managed.managed → ⊥ }
     ensures other_state { (end_of []).managed ≡ (end_of (a_snap ∷ [])).managed → ⊥ }
 {}
