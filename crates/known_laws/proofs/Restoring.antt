@@ -2,7 +2,7 @@
 -- restore of the driver takes the next candidate's handle, no other entry is one, and no other entry changes a candidate's handle.
 -- So what a resolve tells is what the restores answered, and it frees what no candidate whose restore answered alive leads to.
 use Rattle.std.proofs.Common.{◌≡◌, false, ⊎_elim, ℕ, List, [], ◌∷◌, ◌++◌, length, map, Option, Some, None, refl, sym, ap, ◌∙◌, subst}
-use Rattle.std.specs.Prelude.{slice_get, option_map}
+use Rattle.std.specs.Prelude.{◌↔◌, Contains, slice_get, option_map}
 use Rattle.std.proofs.lemmas.Option.{same_Some, slice_get-map}
 use Rattle.std.proofs.lemmas.List.{map-append, length-map}
 use Rattle.joint_model.specs.declared.names.Thread.{Thread}
@@ -17,16 +17,19 @@ use Rattle.joint_model.specs.Cycles.{IsAnsweredAlive}
 use Rattle.joint_model.specs.Lines.{IsEvent, is_peer_event}
 use Rattle.joint_model.specs.Linked.{Linkage, MayCome, SideLawful, managed_after, linkage_after}
 use Rattle.joint_model.specs.Managed.{Managed, OpenCycle, handle_of}
-use Rattle.joint_model.specs.ManagedReplay.{ManagedReplay, ManagedAllows}
+use Rattle.joint_model.specs.ManagedReplay.{ManagedReplay, ManagedAllows, MayResolve}
 use Rattle.joint_model.specs.Run.{thread_number}
-use Rattle.joint_model.specs.Told.{Told, Noted, contraction_of, resolution_of, phase_of, Answer, said_alive}
+use Rattle.joint_model.specs.Told.{Told, Noted, contraction_of, resolution_of, phase_of, Answer, said_alive, said_cleared}
 use Rattle.joint_model.proofs.Deciding.{none_some}
 use Rattle.joint_model.proofs.HeapLemmas.{candidates_of-open}
 use Rattle.joint_model.proofs.Numbered.{push-at_cases}
 use Rattle.joint_laws.proofs.LinkedEntries.{Of}
 use Rattle.joint_laws.proofs.ManagedMoves.{managed_line-goes_on}
 use Rattle.known_laws.specs.Pasts.{Lawful, end_of}
-use Rattle.known_laws.specs.Citations.{restores_after, restores_in, AreRestored, WasRestoredAlive, FreesByRestores, ResolvesFreeByRestores}
+use Rattle.known_laws.specs.Citations.{restores_after, restores_in, AreRestored, WasRestoredAlive, FreesByRestores, ResolvesFreeByRestores, ResolvesFreeCleared}
+use Rattle.known_laws.specs.Driving.{IsPastKept}
+use Rattle.known_laws.proofs.Facts.{resolve_frees_cleared}
+use Rattle.known_laws.proofs.KnownPasts.{known_past_is_kept}
 use Rattle.known_laws.proofs.FrozenPasts.{goes_by}
 use Rattle.known_laws.proofs.Later.{kept_end}
 use Rattle.known_laws.proofs.MirrorStands.{SameCandidates, goes-same}
@@ -213,5 +216,29 @@ resolves_free_by_restores x h l k e = by x.entry.made.caller (subst (IsEvent x.e
     by : (t : Thread) → IsEvent t (op.Resolve k) → CallerAllows (end_of h).control (end_of h).managed.managed (end_of h).peer.peers.issued t x.entry.made.index (op.Resolve k) x.entry.made.reply x.entry.made.cites x.told
         → SideLawful false (end_of h) (record { caller = x.entry.made.caller; index = x.entry.made.index; op = op.Resolve k; reply = x.entry.made.reply; cites = x.entry.made.cites }) x.told → FreesByRestores (end_of h).managed.managed (restores_in h) x.told k.0
     by C v a w = resolve-by (end_of h).managed (restores_in h) (end_of h).control.stand k x.entry.made.cites x.told (restored_in h l.1) a w.allowed
+    by (M u) v a w = absurd v
+    by (P u) v a w = absurd v
+
+-- the resolve of a past, by where the driver stands behind it
+cleared-by : (s : Linkage) → IsPastKept s → (rs : List (ℕ × Answer)) (st : Stand) (k : Cycle) (cites : Option ℕ) (answers : List Answer) (freed : List ℕ) → s.control.stand ≡ st → RestoredBy s.managed.managed rs st → MayResolveNow st k.0 cites (resolution_of answers freed)
+    → ManagedAllows s.managed (op.Resolve k) (resolution_of answers freed) → (i g m : ℕ) (a : Answer) → slice_get rs i ≡ Some (g, a) → slice_get (candidates_of s.managed.managed) i ≡ Some m → Contains freed m ↔ (a ≡ said_cleared)
+cleared-by s kept rs (restored o told clear) k cites answers freed e r w v i g m a at c =
+    let v' : MayResolve s.managed k.0 told freed = subst (λ z. MayResolve s.managed k.0 z freed) w.2 v in
+    let answered : slice_get told i ≡ Some a = ap (λ l. slice_get l i) (sym r.same) ∙ (slice_get-map (λ (z : ℕ × Answer). z.1) rs i ∙ ap (option_map (λ (z : ℕ × Answer). z.1)) at) in
+    let f = resolve_frees_cleared s kept o told clear e k.0 freed v' i m c in
+    (λ d. same_Some _ _ (sym answered ∙ f.0 d), λ d. f.1 (answered ∙ ap Some d))
+cleared-by s kept rs st k cites answers freed e r w v i g m a at c = absurd w
+
+pub resolves_free_cleared : ResolvesFreeCleared
+resolves_free_cleared x h l k e answers freed t = by x.entry.made.caller (subst (IsEvent x.entry.made.caller) e l.0.comes.event)
+    (subst (λ o. CallerAllows (end_of h).control (end_of h).managed.managed (end_of h).peer.peers.issued x.entry.made.caller x.entry.made.index o x.entry.made.reply x.entry.made.cites (resolution_of answers freed)) e (subst (λ z. CallerAllows (end_of h).control (end_of h).managed.managed (end_of h).peer.peers.issued x.entry.made.caller x.entry.made.index x.entry.made.op x.entry.made.reply x.entry.made.cites z) t l.0.comes.order))
+    (subst (λ o. SideLawful (is_peer_event x.entry.made.caller o) (end_of h) (record { caller = x.entry.made.caller; index = x.entry.made.index; op = o; reply = x.entry.made.reply; cites = x.entry.made.cites }) (resolution_of answers freed)) e (subst (λ z. SideLawful (is_peer_event x.entry.made.caller x.entry.made.op) (end_of h) x.entry.made z) t l.0.comes.lawful))
+  where
+    Frees : Type 0
+    Frees = (i g m : ℕ) (a : Answer) → slice_get (restores_in h) i ≡ Some (g, a) → slice_get (candidates_of (end_of h).managed.managed) i ≡ Some m → Contains freed m ↔ (a ≡ said_cleared)
+
+    by : (u : Thread) → IsEvent u (op.Resolve k) → CallerAllows (end_of h).control (end_of h).managed.managed (end_of h).peer.peers.issued u x.entry.made.index (op.Resolve k) x.entry.made.reply x.entry.made.cites (resolution_of answers freed)
+        → SideLawful false (end_of h) (record { caller = x.entry.made.caller; index = x.entry.made.index; op = op.Resolve k; reply = x.entry.made.reply; cites = x.entry.made.cites }) (resolution_of answers freed) → Frees
+    by C v a w = cleared-by (end_of h) (known_past_is_kept h l.1) (restores_in h) (end_of h).control.stand k x.entry.made.cites answers freed refl (restored_in h l.1) a w.allowed
     by (M u) v a w = absurd v
     by (P u) v a w = absurd v

@@ -18,7 +18,7 @@ use Rattle.joint_model.specs.Cycles.{IsDeadContraction, IsOpen}
 use Rattle.joint_model.specs.Linked.{Linkage}
 use Rattle.joint_model.specs.Managed.{Managed, OpenCycle, ManagedEdge, handle_of}
 use Rattle.joint_model.specs.PeerReplay.{Mirror}
-use Rattle.joint_model.specs.Told.{Told, Noted, references_of, resolution_of, Answer, said_alive}
+use Rattle.joint_model.specs.Told.{Told, Noted, references_of, resolution_of, Answer, said_alive, said_cleared}
 use Rattle.joint_model.specs.Walks.{Reaches}
 use Rattle.known_laws.specs.Pasts.{In, Lawful, end_of}
 
@@ -154,6 +154,11 @@ pub record FreesByRestores (s : Managed) (restores : List (ℕ × Answer)) (told
 -- so does each resolve of a past
 abbrev pub ResolvesFreeByRestores : Type 0
 ResolvesFreeByRestores = (x : Noted) (h : List Noted) → Lawful (x ∷ h) → (k : Cycle) → x.entry.made.op ≡ op.Resolve k → FreesByRestores (end_of h).managed.managed (restores_in h) x.told k.0
+
+-- so a resolve frees, of its candidates, exactly those whose restore in the past answered cleared
+abbrev pub ResolvesFreeCleared : Type 0
+ResolvesFreeCleared = (x : Noted) (h : List Noted) → Lawful (x ∷ h) → (k : Cycle) → x.entry.made.op ≡ op.Resolve k → (answers : List Answer) (freed : List ℕ) → x.told ≡ resolution_of answers freed
+    → (i g m : ℕ) (a : Answer) → slice_get (restores_in h) i ≡ Some (g, a) → slice_get (candidates_of (end_of h).managed.managed) i ≡ Some m → Contains freed m ↔ (a ≡ said_cleared)
 
 -- each entry of a past stands behind a past, so each of these laws is about every entry
 pub record StandsBehind (h : List Noted) (x : Noted) : Type 0 where

@@ -1,0 +1,59 @@
+-- Whose turn it is, by the equation that tells what a thread is in the midst of or where the driver stands: with it the rule computes.
+use Rattle.std.proofs.Common.{◌≡◌, ⊎_elim, ℕ, Option, Some, None, refl, sym, subst}
+use Rattle.joint_model.specs.declared.names.Thread.TheVariants.{M}
+use Rattle.joint_model.specs.declared.events.Op.{Op}
+use Rattle.joint_model.specs.declared.events.Op.TheVariants as op
+use Rattle.joint_model.specs.declared.events.Reply.{Reply}
+use Rattle.joint_model.specs.Control.{Doing, free, made, lent, gripped, given, met, Stand, doing_at, IsDone, MayStart, ThreadAllows, DriverAllows}
+use Rattle.joint_model.specs.Linked.{Linkage, SideLawful}
+use Rattle.joint_model.specs.Told.{Told}
+use Rattle.known_laws.specs.Turns.{SideEntryComes, ThreadTurn, DriverTurn, ThreadsHaveTurns, DriverHasTurns}
+
+pub side_entry_comes : SideEntryComes
+side_entry_comes s number m told line short order side = ⊎_elim
+    (λ w. record { event = w.0.event; line = line; short = short; lawful = subst (λ b. SideLawful b s m told) (sym w.0.side) w.1; order = order })
+    (λ w. record { event = w.0.event; line = line; short = short; lawful = subst (λ b. SideLawful b s m told) (sym w.0.side) w.1; order = order })
+    side
+
+starts : (d : Doing) → IsDone d → MayStart d None
+starts free w = refl
+starts (made n line p h sort f) w = refl
+starts (lent n line h x) w = refl
+starts (gripped n line p h sort f) w = refl
+starts (given n line h) w = absurd w
+starts (met n line h) w = absurd w
+
+-- with the equation put in
+doing-put : (s : Linkage) (t line : ℕ) (o : Op) (cites : Option ℕ) (d : Doing) → doing_at s.control t ≡ d → ThreadAllows d (M t) line o cites → ThreadTurn s t line o cites
+doing-put s t line o cites d e w = subst (λ z. ThreadAllows z (M t) line o cites) (sym e) w
+
+stand-put : (s : Linkage) (o : Op) (reply : Reply) (cites : Option ℕ) (told : Told) (st : Stand) → s.control.stand ≡ st → DriverAllows st s.managed.managed s.peer.peers.issued o reply cites told → DriverTurn s o reply cites told
+stand-put s o reply cites told st e w = subst (λ z. DriverAllows z s.managed.managed s.peer.peers.issued o reply cites told) (sym e) w
+
+pub threads_have_turns : ThreadsHaveTurns
+threads_have_turns s t = record {
+  start = starts (doing_at s.control t);
+  adopt = λ n line p h sort f v kind k e l. doing-put s t line (op.Adopt v kind k p h) (Some n) _ e (refl, refl, refl, refl, l);
+  land = λ n line h x e. doing-put s t line (op.Land h x) (Some n) _ e (refl, refl, refl, refl);
+  meet = λ n line p h sort f v e. doing-put s t line (op.Meet v p h sort f) (Some n) _ e (refl, refl, refl, refl, refl, refl);
+  release_given = λ n line h e. doing-put s t line (op.Release h) (Some n) _ e (refl, refl, refl);
+  release_met = λ n line h e. doing-put s t line (op.Release h) (Some n) _ e (refl, refl, refl);
+}
+
+pub driver_has_turns : DriverHasTurns
+driver_has_turns s = record {
+  snap = λ k reply told e. stand-put s (op.Snap k) reply None told _ e refl;
+  contract = λ o reply told e. stand-put s (op.Contract record { 0 = o.cycle }) reply None told _ e (refl, refl);
+  mirror = λ o comps xrefs reply e. stand-put s (op.Mirror record { 0 = o.cycle }) reply (Some o.snap) _ _ e (refl, refl, refl);
+  weaken = λ o count weakened h reply told e c. stand-put s (op.Weaken h) reply (Some o.snap) told _ e (refl, refl, c);
+  mark_sweep = λ o weakened reply told e. stand-put s op.Sweep reply None told _ e (refl, refl, refl);
+  begin = λ o weakened swept j told e. stand-put s op.Begin _ None told _ e (refl, refl);
+  sweep = λ o reply told e. stand-put s op.Sweep reply None told _ e refl;
+  restore = λ o answers h reply told e c. stand-put s (op.Restore h) reply None told _ e (refl, c);
+  clear = λ o answers reply told e n. stand-put s (op.Clear record { 0 = o.cycle }) reply None told _ e (refl, n, refl);
+  resolve = λ o answers clear freed reply e. stand-put s (op.Resolve record { 0 = o.cycle }) reply (Some clear) _ _ e (refl, refl, refl);
+  abandon_snapped = λ o reply told e. stand-put s (op.Abandon record { 0 = o.cycle }) reply None told _ e (refl, refl);
+  abandon_contracted = λ o comps xrefs reply told e. stand-put s (op.Abandon record { 0 = o.cycle }) reply None told _ e (refl, refl);
+  refused = λ w p reply a. (a, refl);
+  finalise = λ n reply told a. (a, refl);
+}

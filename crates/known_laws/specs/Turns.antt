@@ -1,0 +1,72 @@
+-- Whose turn it is: which event of a caller may come next, with what it cites, by what a thread has in hand or where the driver
+-- stands. An entry that a side's list allows, in its caller's turn, may come next.
+use Rattle.std.specs.Prelude.{◌≡◌, ◌⊎◌, ℕ, ◌<◌, ◌≤◌, ◌^◌, Bool, false, List, length, Option, Some, None}
+use Rattle.joint_model.specs.declared.names.Thread.TheVariants.{M}
+use Rattle.joint_model.specs.declared.names.Cycle.{Cycle}
+use Rattle.joint_model.specs.declared.names.HNum.{HNum}
+use Rattle.joint_model.specs.declared.names.PNum.{PNum}
+use Rattle.joint_model.specs.declared.names.StaticNo.{StaticNo}
+use Rattle.joint_model.specs.declared.names.Var.{Var}
+use Rattle.joint_model.specs.declared.names.Kind.{Kind}
+use Rattle.joint_model.specs.declared.names.Sort.{Sort}
+use Rattle.joint_model.specs.declared.names.Phase.{Phase}
+use Rattle.joint_model.specs.declared.names.PhaseWord.{PhaseWord}
+use Rattle.joint_model.specs.declared.names.Marking.{Marking}
+use Rattle.joint_model.specs.declared.lines.Act.TheVariants as act
+use Rattle.joint_model.specs.declared.events.Op.{Op}
+use Rattle.joint_model.specs.declared.events.Op.TheVariants as op
+use Rattle.joint_model.specs.declared.events.Reply.{Reply}
+use Rattle.joint_model.specs.declared.events.Reply.TheVariants as says
+use Rattle.joint_model.specs.declared.events.Made.{Made}
+use Rattle.joint_model.specs.Components.{mirror_edges}
+use Rattle.joint_model.specs.Control.{Opened, made, lent, gripped, given, met, idle, snapped, contracted, weakening, marked, restoring, restored, doing_at, last_line, candidates_of, carried_edges, IsCandidateHandle, IsPhaseOf, IsAtRest, IsDone, MayStart, ThreadAllows, DriverAllows, CallerAllows}
+use Rattle.joint_model.specs.Lines.{IsLine}
+use Rattle.joint_model.specs.Linked.{Linkage, MayCome}
+use Rattle.joint_model.specs.Sides.{managed_rules, peer_rules}
+use Rattle.joint_model.specs.Told.{Told, Answer, references_of, resolution_of, phase_of}
+
+-- what a side promises of an entry that it makes, in its caller's turn, is all that is asked of it; its line isn't below the caller's last
+abbrev pub SideEntryComes : Type 0
+SideEntryComes = (s : Linkage) (number : ℕ) (m : Made) (told : Told) → last_line s.control m.caller ≤ m.index → m.index < 2 ^ 32
+    → CallerAllows s.control s.managed.managed s.peer.peers.issued m.caller m.index m.op m.reply m.cites told
+    → managed_rules.lawful s.managed m told ⊎ peer_rules.lawful s.peer m told → MayCome s (record { entry = record { number = number; made = m }; told = told })
+
+-- it is the thread's turn to make the event on that line, or the driver's
+abbrev pub ThreadTurn : Linkage → ℕ → ℕ → Op → Option ℕ → Type 0
+ThreadTurn s t line o cites = ThreadAllows (doing_at s.control t) (M t) line o cites
+
+abbrev pub DriverTurn : Linkage → Op → Reply → Option ℕ → Told → Type 0
+DriverTurn s o reply cites told = DriverAllows s.control.stand s.managed.managed s.peer.peers.issued o reply cites told
+
+-- a thread may begin an operation unless a handle waits for its release, and goes on with the later event of the one it is in
+pub record AreThreadTurns (s : Linkage) (t : ℕ) : Type 0 where
+  pub start : IsDone (doing_at s.control t) → MayStart (doing_at s.control t) None
+  pub adopt : (n line : ℕ) (p : PNum) (h : HNum) (sort : Sort) (f : ℕ) (v : Var) (kind : Kind) (k : ℕ) → doing_at s.control t ≡ made n line p.0 h.0 sort f → IsLine (M t) (act.Bridge v kind k sort f) → ThreadTurn s t line (op.Adopt v kind k p h) (Some n)
+  pub land : (n line : ℕ) (h : HNum) (x : StaticNo) → doing_at s.control t ≡ lent n line h.0 x.0 → ThreadTurn s t line (op.Land h x) (Some n)
+  pub meet : (n line : ℕ) (p : PNum) (h : HNum) (sort : Sort) (f : ℕ) (v : Var) → doing_at s.control t ≡ gripped n line p.0 h.0 sort f → ThreadTurn s t line (op.Meet v p h sort f) (Some n)
+  pub release_given : (n line : ℕ) (h : HNum) → doing_at s.control t ≡ given n line h.0 → ThreadTurn s t line (op.Release h) (Some n)
+  pub release_met : (n line : ℕ) (h : HNum) → doing_at s.control t ≡ met n line h.0 → ThreadTurn s t line (op.Release h) (Some n)
+
+abbrev pub ThreadsHaveTurns : Type 0
+ThreadsHaveTurns = (s : Linkage) (t : ℕ) → AreThreadTurns s t
+
+-- the driver's events by where it stands
+pub record AreDriverTurns (s : Linkage) : Type 0 where
+  pub snap : (k : Cycle) (reply : Reply) (told : Told) → s.control.stand ≡ idle → DriverTurn s (op.Snap k) reply None told
+  pub contract : (o : Opened) (reply : Reply) (told : Told) → s.control.stand ≡ snapped o → DriverTurn s (op.Contract record { 0 = o.cycle }) reply None told
+  pub mirror : (o : Opened) (comps : List (List ℕ)) (xrefs : List (ℕ × ℕ)) (reply : Reply) → s.control.stand ≡ contracted o comps xrefs
+      → DriverTurn s (op.Mirror record { 0 = o.cycle }) reply (Some o.snap) (references_of (carried_edges s.managed.managed s.peer.peers.issued (mirror_edges comps xrefs)))
+  pub weaken : (o : Opened) (count : ℕ) (weakened : Bool) (h : HNum) (reply : Reply) (told : Told) → s.control.stand ≡ weakening o count weakened false → IsCandidateHandle s.managed.managed count h.0 → DriverTurn s (op.Weaken h) reply (Some o.snap) told
+  pub mark_sweep : (o : Opened) (weakened : Bool) (reply : Reply) (told : Told) → s.control.stand ≡ weakening o (length (candidates_of s.managed.managed)) weakened false → DriverTurn s op.Sweep reply None told
+  pub begin : (o : Opened) (weakened swept : Bool) (j : Marking) (told : Told) → s.control.stand ≡ weakening o (length (candidates_of s.managed.managed)) weakened swept → DriverTurn s op.Begin (says.Mark j) None told
+  pub sweep : (o : Opened) (reply : Reply) (told : Told) → s.control.stand ≡ marked o → DriverTurn s op.Sweep reply None told
+  pub restore : (o : Opened) (answers : List Answer) (h : HNum) (reply : Reply) (told : Told) → s.control.stand ≡ restoring o answers → IsCandidateHandle s.managed.managed (length answers) h.0 → DriverTurn s (op.Restore h) reply None told
+  pub clear : (o : Opened) (answers : List Answer) (reply : Reply) (told : Told) → s.control.stand ≡ restoring o answers → length answers ≡ length (candidates_of s.managed.managed) → DriverTurn s (op.Clear record { 0 = o.cycle }) reply None told
+  pub resolve : (o : Opened) (answers : List Answer) (clear : ℕ) (freed : List ℕ) (reply : Reply) → s.control.stand ≡ restored o answers clear → DriverTurn s (op.Resolve record { 0 = o.cycle }) reply (Some clear) (resolution_of answers freed)
+  pub abandon_snapped : (o : Opened) (reply : Reply) (told : Told) → s.control.stand ≡ snapped o → DriverTurn s (op.Abandon record { 0 = o.cycle }) reply None told
+  pub abandon_contracted : (o : Opened) (comps : List (List ℕ)) (xrefs : List (ℕ × ℕ)) (reply : Reply) (told : Told) → s.control.stand ≡ contracted o comps xrefs → DriverTurn s (op.Abandon record { 0 = o.cycle }) reply None told
+  pub refused : (w : PhaseWord) (p : Phase) (reply : Reply) → IsPhaseOf s.control.stand (length (candidates_of s.managed.managed)) p → DriverTurn s (op.Refused w) reply None (phase_of p)
+  pub finalise : (n : ℕ) (reply : Reply) (told : Told) → IsAtRest s.control.stand (length (candidates_of s.managed.managed)) → DriverTurn s (op.Line (act.Finalise n)) reply None told
+
+abbrev pub DriverHasTurns : Type 0
+DriverHasTurns = (s : Linkage) → AreDriverTurns s
