@@ -87,4 +87,8 @@ pub mod MarkedOnce
 pub mod FreedLists
 pub mod GoneAfter
 pub mod Unions
+pub mod PlainReplies
+pub mod SpansTold
+pub mod NoticesTold
+pub mod ReadingsTold
 pub mod ReadingsGoneAfter

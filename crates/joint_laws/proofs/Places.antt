@@ -1,6 +1,6 @@
 -- The entry in a place of a lawful list may come at the state before it, and leads to the state after it. And the places of a list
 -- of which some elements are left out, in order.
-use Rattle.std.proofs.Common.{◌≡◌, ℕ, zero, suc, ◌<◌, ◌≤◌, Bool, true, false, List, [], ◌∷◌, length, take, Some, refl, ap, subst, ◌∙◌, cond, arith}
+use Rattle.std.proofs.Common.{◌≡◌, ℕ, zero, suc, ◌<◌, ◌≤◌, Bool, true, false, List, [], ◌∷◌, length, take, Some, refl, sym, ap, subst, ◌∙◌, cond, arith}
 use Rattle.std.specs.Prelude.{filter, slice_get}
 use Rattle.std.proofs.lemmas.Option.{same_Some, slice_get_within}
 use Rattle.joint_model.specs.Linked.{Linkage, MayCome, AllMayCome, opening_linkage, linkage_after, replayed}
@@ -58,3 +58,22 @@ module _ {A : Type 0} (p : A → Bool) where
       by : (b : Bool) → p x ≡ b → length (filter p (take i xs)) ≤ length (filter p (take j xs)) → length (filter p (x ∷ take i xs)) ≤ length (filter p (x ∷ take j xs))
       by true e r = (let f = cons-count x (take i xs) true e in let g = cons-count x (take j xs) true e in omega (arith, f, g, r))
       by false e r = (let f = cons-count x (take i xs) false e in let g = cons-count x (take j xs) false e in omega (arith, f, g, r))
+
+-- and the other way round: an element that is left stands behind those that are left before it
+module _ {A : Type 0} (p : A → Bool) where
+  cons-filter : (x : A) (xs : List A) (b : Bool) → p x ≡ b → filter p (x ∷ xs) ≡ cond b (x ∷ filter p xs) (filter p xs)
+  cons-filter x xs b e = ap (λ z. cond z (x ∷ filter p xs) (filter p xs)) e
+
+  abbrev Stands : List A → List A → A → Type 0
+  Stands left front x = (slice_get left (length front) ≡ Some x) × (take (length front) left ≡ front)
+
+  pub destined : (xs : List A) (i : ℕ) (x : A) → slice_get xs i ≡ Some x → p x ≡ true → Stands (filter p xs) (filter p (take i xs)) x
+  destined [] i x e t = absurd (none_some x e)
+  destined (y ∷ xs) zero x e t =
+      let same = same_Some y x e in
+      subst (λ z. Stands z [] x) (sym (cons-filter y xs true (ap p same ∙ t))) (ap Some same, refl)
+  destined (y ∷ xs) (suc i) x e t = by (p y) refl (destined xs i x e t)
+    where
+      by : (b : Bool) → p y ≡ b → Stands (filter p xs) (filter p (take i xs)) x → Stands (filter p (y ∷ xs)) (filter p (y ∷ take i xs)) x
+      by true f w = subst (λ z. Stands z (filter p (y ∷ take i xs)) x) (sym (cons-filter y xs true f)) (subst (λ z. Stands (y ∷ filter p xs) z x) (sym (cons-filter y (take i xs) true f)) (w.0, ap (λ z. y ∷ z) w.1))
+      by false f w = subst (λ z. Stands z (filter p (y ∷ take i xs)) x) (sym (cons-filter y xs false f)) (subst (λ z. Stands (filter p xs) z x) (sym (cons-filter y (take i xs) false f)) w)

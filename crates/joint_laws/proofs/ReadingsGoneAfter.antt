@@ -25,13 +25,13 @@ use Rattle.joint_laws.proofs.GoneAfter.{read-gone, IsAfter, after-resolve, weak-
 use Rattle.joint_laws.proofs.LinkedEntries.{Of, AreKept-entry, AreKept-opening}
 use Rattle.joint_laws.proofs.ReadsAside.{standing-reply, reading_is_lawful, reading_leads_to_same}
 
-reading-take : (whole : List Noted) (cells : List (Option ℕ)) (ns : List Noted) (s : Linkage) (i : ℕ) → AllMayComeReading whole cells s ns → AllMayComeReading whole cells s (take i ns)
+pub reading-take : (whole : List Noted) (cells : List (Option ℕ)) (ns : List Noted) (s : Linkage) (i : ℕ) → AllMayComeReading whole cells s ns → AllMayComeReading whole cells s (take i ns)
 reading-take whole cells [] s zero a = a
 reading-take whole cells [] s (suc i) a = a
 reading-take whole cells (n ∷ ns) s zero a = tt
 reading-take whole cells (n ∷ ns) s (suc i) a = (a.0, reading-take whole cells ns (entry_after s n) i a.1)
 
-reading-comes : (whole : List Noted) (cells : List (Option ℕ)) (ns : List Noted) (s : Linkage) (i : ℕ) (n : Noted) → AllMayComeReading whole cells s ns → slice_get ns i ≡ Some n → EntryMayCome (is_read n.entry.made.op) whole cells (replayed_reading s (take i ns)) n
+pub reading-comes : (whole : List Noted) (cells : List (Option ℕ)) (ns : List Noted) (s : Linkage) (i : ℕ) (n : Noted) → AllMayComeReading whole cells s ns → slice_get ns i ≡ Some n → EntryMayCome (is_read n.entry.made.op) whole cells (replayed_reading s (take i ns)) n
 reading-comes whole cells [] s i n a e = absurd (none_some n e)
 reading-comes whole cells (m ∷ ns) s zero n a e = subst (λ z. EntryMayCome (is_read z.entry.made.op) whole cells s z) (same_Some m n e) a.0
 reading-comes whole cells (m ∷ ns) s (suc i) n a e = reading-comes whole cells ns (entry_after s m) i n a.1 e

@@ -12,3 +12,4 @@ pub mod ReadingLaws
 pub mod OwnMarkingLaws
 pub mod AfterwardsLaws
 pub mod UnionLaws
+pub mod ToldLaws

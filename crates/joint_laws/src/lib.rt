@@ -11,6 +11,7 @@ mod managed;
 mod markings;
 mod readings;
 mod runs;
+mod told;
 
 pub use afterwards::{
     none_is_mirrored_after_a_clear, reads_of_freed_objects_are_gone,
@@ -29,3 +30,4 @@ pub use runs::{
     joint_projection_is_a_run, joint_projection_is_complete, joint_projection_is_sound,
     snapshots_are_sound, sweeps_are_sound,
 };
+pub use told::{taken_notices_are_named, told_lists_are_named};

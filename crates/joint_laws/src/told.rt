@@ -1,0 +1,17 @@
+// Laws of what is told beside entries.
+
+ghost use Rattle.joint_laws.specs.ToldLaws.{NoticesAreNamed, ReadingNoticesAreNamed, ReadingToldIsNamed, ToldIsNamed};
+
+/// In a linked history, what is told of freeing beside an entry is the stretch of the history's freed list that the span in its reply
+/// names, which lies within the list; beside every other reply nothing freed is told. So it is with lock-free reads too.
+pub fn told_lists_are_named()
+    ensures list { ToldIsNamed }
+    ensures lock_free { ReadingToldIsNamed }
+{}
+
+/// In a linked history, the notices that an entry takes are the stretch of the history's notices that its span names: the span
+/// starts behind those taken before, and ends within those that were queued by then. So it is with lock-free reads too.
+pub fn taken_notices_are_named()
+    ensures list { NoticesAreNamed }
+    ensures lock_free { ReadingNoticesAreNamed }
+{}
