@@ -63,11 +63,11 @@ pub replies_tested : RepliesAreTested
 replies_tested a b = tested (replies a b)
 
 -- a linked history
-mapped_m : (xs : List ℕ) → managed_numbers (map (λ m. record { 0 = m }) xs) ≡ xs
+pub mapped_m : (xs : List ℕ) → managed_numbers (map (λ m. record { 0 = m }) xs) ≡ xs
 mapped_m [] = refl
 mapped_m (x ∷ xs) = ap (λ rest. x ∷ rest) (mapped_m xs)
 
-mapped_p : (xs : List ℕ) → peer_numbers (map (λ p. record { 0 = p }) xs) ≡ xs
+pub mapped_p : (xs : List ℕ) → peer_numbers (map (λ p. record { 0 = p }) xs) ≡ xs
 mapped_p [] = refl
 mapped_p (x ∷ xs) = ap (λ rest. x ∷ rest) (mapped_p xs)
 

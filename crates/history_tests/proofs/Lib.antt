@@ -11,3 +11,4 @@ pub mod HistoryTests
 pub mod GraphTests
 pub mod StepTests
 pub mod Parts
+pub mod ReadingTests

@@ -1,6 +1,6 @@
 -- What is computed to be reached is what walks reach: each round adds where the rows so far lead, and a round that adds none
 -- leaves the list as it is. Each other round leaves fewer rows outside, so as many rounds as there are rows are enough.
-use Rattle.std.proofs.Common.{◌≡◌, ℕ, zero, suc, ◌+◌, ◌<◌, ◌≤◌, ◌⊎◌, ◌↔◌, inl, inr, ⊎_elim, Bool, true, false, not, ◌&&◌, ◌||◌, cond, List, [], ◌∷◌, ◌++◌, length, refl, sym, ap, subst, ◌∙◌, arith, nat_eq, nat_lt, true≢false, Option, Some, None}
+use Rattle.std.proofs.Common.{◌≡◌, ℕ, zero, suc, ◌+◌, ◌<◌, ◌≤◌, ◌⊎◌, ◌↔◌, inl, inr, ⊎_elim, Bool, true, false, not, ◌&&◌, cond, List, [], ◌∷◌, ◌++◌, length, refl, sym, ap, subst, ◌∙◌, arith, nat_eq, nat_lt, true≢false, Option, Some, None}
 use Rattle.std.specs.List.{Contains, filter, list_any, list_all, flat_map}
 use Rattle.std.proofs.lemmas.Bool.{false≢true, or_cases, and_parts, not-true, cases_eq}
 use Rattle.joint_model.specs.Walks.{Reaches, Reached}
@@ -9,8 +9,8 @@ use Rattle.joint_model.proofs.WalkLemmas.{Reached-start, Reached-then, Reached-k
 use Rattle.joint_model.proofs.Members.{Contains-nil, Contains-here, Contains-there, Contains-cons_cases, Contains-flat_map, Contains-flat_map_cases}
 use Rattle.std.proofs.lemmas.List.Elements.{Contains-append_cases, Contains-append_left, Contains-append_right}
 use Rattle.joint_model.proofs.Deciding.{or_left, or_right, not-from}
-use Rattle.history_tests.specs.Lists.{mem, with_one, with_all, reach, count_from, rises, is_exactly, rises_exactly, where_true, somes}
-use Rattle.history_tests.proofs.Telling.{Tells, always, never, like, and2, or2, same, less, all}
+use Rattle.history_tests.specs.Lists.{implies, mem, with_one, with_all, reach, count_from, rises, is_exactly, rises_exactly, where_true, somes}
+use Rattle.history_tests.proofs.Telling.{Tells, implied, always, never, like, and2, or2, same, less, all}
 
 -- a test is true or false, beside what it is
 pub which : (b : Bool) → (b ≡ true) ⊎ (b ≡ false)
@@ -245,16 +245,12 @@ module _ {A : Type 0} (eq : A → A → Bool) (laws : (a b : A) → Tells (eq a 
       (λ f. (λ x c. (f x).0 c, λ x i q. (f x).1 q))
       (and2 (all_in xs test P t) (each_row rows))
     where
-      implied : (b : Bool) (y : A) → Tells b (P y) → Tells (not b || mem eq xs y) (P y → Contains xs y)
-      implied true y p = like (λ c q. c) (λ f. f (p.holds refl)) (member xs y)
-      implied false y p = always (λ q. absurd (false≢true (p.passes q)))
-
-      each_row : (ys : List A) → Tells (list_all (λ x. not (test x) || mem eq xs x) ys) ((x : A) → mem eq ys x ≡ true → P x → Contains xs x)
+      each_row : (ys : List A) → Tells (list_all (λ x. implies (test x) (mem eq xs x)) ys) ((x : A) → mem eq ys x ≡ true → P x → Contains xs x)
       each_row [] = always (λ x i. absurd (false≢true i))
       each_row (y ∷ ys) = like {P = (P y → Contains xs y) × ((x : A) → mem eq ys x ≡ true → P x → Contains xs x)}
           (λ p x i. ⊎_elim (λ e. subst (λ z. P z → Contains xs z) (sym ((laws x y).holds e)) p.0) (λ d. p.1 x d) (or_cases (eq x y) (mem eq ys x) i))
           (λ f. (f y (or_left (eq y y) (mem eq ys y) ((laws y y).passes refl)), λ x i. f x (or_right (eq x y) (mem eq ys x) i)))
-          (and2 (implied (test y) y (t y)) (each_row ys))
+          (and2 (implied (t y) (member xs y)) (each_row ys))
 
 -- numbers that rise
 pub rising : (xs : List ℕ) → Tells (rises xs) (Rises xs)

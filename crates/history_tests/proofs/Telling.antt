@@ -6,7 +6,7 @@ use Rattle.std.specs.List.{All, list_all}
 use Rattle.std.proofs.lemmas.Bool.{false≢true, leb-true, le-leb, ltb-true, lt-ltb}
 use Rattle.std.proofs.lemmas.Bool.Decides.{Decides-eqb, Decides-not, Decides-and, Decides-or}
 use Rattle.std.proofs.lemmas.List.Elements.{All-nil, All-cons, All-head, All-tail}
-use Rattle.history_tests.specs.Lists.{has_that, is_empty, same_number, same_list, pair_eq}
+use Rattle.history_tests.specs.Lists.{implies, has_that, is_empty, same_number, same_list, pair_eq}
 
 -- the test is true exactly where the fact holds
 pub record Tells (b : Bool) (P : Type 0) : Type 0 where
@@ -44,6 +44,13 @@ and2 {a} {b} {P} {Q} s t = tells (Decides-and {P = P} {Q = Q} a b (decides s) (d
 
 pub or2 : {a b : Bool} {P Q : Type 0} → Tells a P → Tells b Q → Tells (a || b) (P ⊎ Q)
 or2 {a} {b} {P} {Q} s t = tells (Decides-or {P = P} {Q = Q} a b (decides s) (decides t))
+
+pub implied : {a b : Bool} {P Q : Type 0} → Tells a P → Tells b Q → Tells (implies a b) (P → Q)
+implied {a} {b} {P} {Q} s t = by_case a s
+  where
+    by_case : (a : Bool) → Tells a P → Tells (implies a b) (P → Q)
+    by_case true s = like (λ q p. q) (λ f. f (s.holds refl)) t
+    by_case false s = always (λ p. absurd (false≢true (s.passes p)))
 
 pub and3 : {a b c : Bool} {P Q R : Type 0} → Tells a P → Tells b Q → Tells c R → Tells (a && b && c) (P × Q × R)
 and3 {P = P} {Q = Q} {R = R} r s t = like {P = (P × Q) × R} (λ p. (p.0.0, p.0.1, p.1)) (λ p. ((p.0, p.1), p.2)) (and2 (and2 r s) t)

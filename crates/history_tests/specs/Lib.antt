@@ -10,3 +10,4 @@ pub mod Histories
 pub mod Graphs
 pub mod Steps
 pub mod Parts
+pub mod Readings

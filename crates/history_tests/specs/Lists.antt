@@ -62,9 +62,13 @@ abbrev pub rises : List ℕ → Bool
 rises [] = true
 rises (x ∷ xs) = list_all (nat_lt x) xs && rises xs
 
+-- whether one test holds where another does
+abbrev pub implies : Bool → Bool → Bool
+implies a b = not a || b
+
 -- whether a list has exactly what passes a test, which only some of the rows do
 abbrev pub is_exactly : {A : Type 0} → (A → A → Bool) → List A → (A → Bool) → List A → Bool
-is_exactly eq rows test xs = list_all test xs && list_all (λ x. not (test x) || mem eq xs x) rows
+is_exactly eq rows test xs = list_all test xs && list_all (λ x. implies (test x) (mem eq xs x)) rows
 
 -- whether a rising list has exactly the numbers that pass a test
 abbrev pub rises_exactly : List ℕ → (ℕ → Bool) → List ℕ → Bool

@@ -9,6 +9,7 @@
 ghost use Rattle.history_tests.specs.Graphs.{ReachedIsTested, UnreachedAreTested};
 ghost use Rattle.history_tests.specs.Histories.{AllMayComeIsTested, LinkedHasQueued, LinkedIsTested, MayComeIsTested, NumbersAreTested, RepliesAreTested, WholeIsTested};
 ghost use Rattle.history_tests.specs.Parts.{CallerIsTested, ClosureIsTested, ContractionIsTested, EventIsTested, ManagedIsTested, PeerIsTested, ResolutionIsTested, SnapshotIsTested, SweepIsTested};
+ghost use Rattle.history_tests.specs.Readings.{LinkedReadingIsTested, PendingIsTested, ReadingIsTested, UnsetIsTested};
 ghost use Rattle.history_tests.specs.Steps.{RunsAreTested, StepsAreTested};
 
 /// Whether an entry may come next is decided by its test, and so is whether every entry of a list may come when it comes.
@@ -62,4 +63,13 @@ pub fn events_are_tested()
     ensures managed { ManagedIsTested }
     ensures peer { PeerIsTested }
     ensures caller { CallerIsTested }
+{}
+
+/// Of a history with lock-free reads it is decided by its test whether a read may answer `pending` or `unset`, whether each entry
+/// of a list may come when it comes, and whether the history that notes make is linked by them.
+pub fn readings_are_tested()
+    ensures pending { PendingIsTested }
+    ensures unset { UnsetIsTested }
+    ensures every { ReadingIsTested }
+    ensures linked { LinkedReadingIsTested }
 {}

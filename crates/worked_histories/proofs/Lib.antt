@@ -4,4 +4,3 @@ mod Examples
 mod PairGraphs
 mod Places
 mod FreeingOne
-mod ReadersOwn

@@ -2,11 +2,12 @@
 use Rattle.std.specs.Prelude.{◌++◌, take, [], ◌∷◌, ℕ, List, Option, None}
 use Rattle.joint_model.specs.declared.names.Thread.TheVariants.{M}
 use Rattle.joint_model.specs.Linked.{opening_linkage}
-use Rattle.joint_model.specs.Readers.{AllMayComeReading, replayed_reading, MayBePending, MayBeUnset}
+use Rattle.joint_model.specs.Readers.{IsLinkedReadingBy, replayed_reading, MayBePending, MayBeUnset}
 use Rattle.joint_model.specs.declared.lines.Act.TheVariants as act
 use Rattle.joint_model.specs.declared.events.Op.TheVariants as op
 use Rattle.joint_model.specs.declared.events.Reply.TheVariants as says
 use Rattle.joint_model.specs.Told.{Noted, nothing}
+use Rattle.history_tests.specs.Readings.{finished_reading_of}
 use Rattle.worked_histories.specs.Notes.{note, var, cell_no, cycle_no}
 use Rattle.worked_histories.specs.PendingRead.{pending_read}
 use Rattle.worked_histories.specs.Pins.{pinned_object}
@@ -15,12 +16,12 @@ use Rattle.worked_histories.specs.Pins.{pinned_object}
 abbrev pub cells_of : List Noted → List (Option ℕ)
 cells_of ns = (replayed_reading opening_linkage ns).managed.managed.cells
 
--- every entry may come when it comes
+-- the notes make a linked history
 abbrev pub PendingReadings : Type 0
-PendingReadings = AllMayComeReading pending_read (cells_of pending_read) opening_linkage pending_read
+PendingReadings = IsLinkedReadingBy (finished_reading_of pending_read) pending_read
 
 abbrev pub PinnedReadings : Type 0
-PinnedReadings = AllMayComeReading pinned_object (cells_of pinned_object) opening_linkage pinned_object
+PinnedReadings = IsLinkedReadingBy (finished_reading_of pinned_object) pinned_object
 
 -- the history up to the end of the cycle, and then a read that is pending still
 abbrev pub pending_after_end : List Noted
