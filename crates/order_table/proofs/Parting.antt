@@ -2,7 +2,7 @@
 --
 -- A mask has true at the lines that go. The place of a role's line or of a caller's in its mask is true, and all others are false; the rest is
 -- read off place by place.
-use Rattle.std.proofs.Common.{◌≡◌, ◌⊎◌, inl, inr, ⊎_elim, ℕ, ◌+◌, ◌<◌, Bool, true, false, not, ◌&&◌, ◌||◌, List, [], refl, sym, ap, ◌∙◌, subst, arith}
+use Rattle.std.proofs.Common.{◌≡◌, ◌⊎◌, inl, inr, ⊎_elim, ℕ, ◌+◌, ◌<◌, Bool, true, false, not, ◌&&◌, List, [], refl, sym, ap, ◌∙◌, subst, arith}
 use Rattle.std.proofs.lemmas.Bool.{cases_eq, and_parts, or_cases, not-true, both_ways}
 use Rattle.joint_model.specs.declared.names.Thread.{Thread}
 use Rattle.joint_model.specs.declared.names.Thread.TheVariants.{M, P, C}
@@ -13,7 +13,7 @@ use Rattle.order_table.specs.declared.views.View.{View}
 use Rattle.order_table.specs.Rows.{at, put}
 use Rattle.order_table.specs.Views.{Owns, known, role_line, caller_line, giving, given, hearing, lines_of_role, lines_of_caller, lines_of_none}
 use Rattle.order_table.specs.Tells.{Compares, Grows, Parts, IsOfRole, IsOfCaller, IsOfNone, TakesIn}
-use Rattle.order_table.proofs.Places.{at_put_here, at_put_else, at_joined, at_common, at_without, at_longest, longer_cases}
+use Rattle.order_table.proofs.Places.{at_put_here, at_put_else, at_joined, at_common, at_without, at_longest, longer_cases, or_true}
 
 -- the mask has just the lines of this kind
 pub record Marks (Goes : ℕ → Type 0) (lines : List Bool) : Type 0 where
@@ -79,11 +79,6 @@ not_of_caller C i is far e = ⊎_elim (λ l. omega arith) (λ l. omega arith) fa
 -- who makes an entry owns what it owned
 pub still_owns : {v w : View} {r : ℕ} {k : Kept} → Grows v w r k → (i : ℕ) → Owns v i → Owns w i
 still_owns g i o = subst (λ os. at false os i ≡ true) (sym g.owns) o
-
-or_true : (a b : Bool) → (a ≡ true) ⊎ (b ≡ true) → (a || b) ≡ true
-or_true true b e = refl
-or_true false b (inl e) = absurd (both_ways false refl e)
-or_true false b (inr e) = e
 
 -- what a seat learned of another, once it has compared the two
 pub taken : (v w u : View) → Compares (hearing v w) u → TakesIn v w u

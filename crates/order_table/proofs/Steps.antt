@@ -6,14 +6,14 @@
 -- of one line; where one of the two owned the line, it knew it whole, and so the longer list is that one's.
 use Rattle.std.proofs.Common.{◌≡◌, ◌≢◌, ◌⊎◌, inl, inr, ⊎_elim, ℕ, zero, suc, ◌+◌, ◌%◌, ◌^◌, ◌<◌, ◌≤◌, Bool, true, false, not, ◌&&◌, List, [], ◌∷◌, ◌++◌, length, get_or, set, refl, sym, ap, ◌∙◌, subst, arith, length-append, length-set, get_or-set_same, true≢false}
 use Rattle.std.specs.Prelude.{if◌then◌else◌, Option, replicate}
-use Rattle.std.proofs.lemmas.Bool.{cases_Bool, and_parts, or_cases, not-true, both_ways}
+use Rattle.std.proofs.lemmas.Bool.{cases_Bool, cases_eq, and_parts, or_cases, not-true, both_ways}
 use mathlib.Core.Option.{none, some, some-injective, some-ne-none}
 use mathlib.Core.List.{IsPrefix}
 use base.Growing.{prefix_refl}
 use lib.ListN.{get_elem?}
 use lib.Seq.{set-get_or}
 use Rattle.atomic_table.specs.Table.{State, Me, step, keeps, Allows, Splits, Joins, opening}
-use Rattle.atomic_table.proofs.Lists.{at_set}
+use Rattle.atomic_table.proofs.Lists.{at_set, set_here, set_else, at_longer, at_last}
 use Rattle.joint_model.specs.declared.names.MNum.{MNum}
 use Rattle.joint_model.specs.declared.events.Made.{Made}
 use Rattle.joint_model.specs.Control.{caller_place}
@@ -22,9 +22,9 @@ use Rattle.order_table.specs.declared.views.Kept.{Kept}
 use Rattle.order_table.specs.declared.views.View.{View}
 use Rattle.order_table.specs.Rows.{at, longer}
 use Rattle.order_table.specs.Views.{IsInRole, IsCompared, OwnsAll, caller_line, kept, known, Owns, first_view, spent_view, appended, giving, given, hearing, learned, lines_of_none}
-use Rattle.order_table.specs.Rule.{Item, is_in, of_line, RunsFrom, Knows, Ordered, IsWhole}
+use Rattle.order_table.specs.Rule.{Item, is_in, of_line, RunsFrom, Knows, HasOwner, Ordered, IsWhole}
 use Rattle.order_table.specs.Tells.{Appended, Compared}
-use Rattle.order_table.proofs.Places.{begins_more, longer_begins, first_begins_longer, second_begins_longer, whole_longer, longer_whole, at_longest, at_joined, at_common, at_without}
+use Rattle.order_table.proofs.Places.{begins_more, longer_begins, first_begins_longer, second_begins_longer, whole_longer, longer_whole, at_longest, at_joined, at_common, at_without, or_true}
 use Rattle.order_table.proofs.Lines.{of_line_in, of_line_out, runs_more, below_line, below_begins, bounded, in_cases, appended_in, appended_out}
 
 abbrev St : Type 0
@@ -42,6 +42,25 @@ seats K vs me w mine others j v e = ⊎_elim (λ (t : (j ≡ me) × (w ≡ v)). 
 -- nothing that was heard is owned
 unheard : (v : View) → v.heard_owns ≡ [] → (i : ℕ) → at false v.heard_owns i ≡ true → ⊥
 unheard v bare i o = both_ways (at false v.heard_owns i) (ap (λ l. at false l i) bare) o
+
+within : (l : List View) (j : ℕ) (a : View) → get_elem? l j ≡ some a → j < length l
+within [] j a e = absurd (some-ne-none a (sym e))
+within (x ∷ xs) zero a e = omega arith
+within (x ∷ xs) (suc j) a e = let r = within xs j a e in omega arith
+
+-- a line keeps its owner when a seat's view changes that owns it as before
+abbrev Holds : View → ℕ → Type 0
+Holds v i = Owns v i ⊎ (at false v.heard_owns i ≡ true)
+
+owner_set : (vs : List View) (i j me : ℕ) (v w : View) → get_elem? vs me ≡ some v → (Holds v i → Holds w i) → HasOwner vs i j → HasOwner (set vs me w) i j
+owner_set vs i j me v w here still h = ⊎_elim
+    (λ (e : j ≡ me). record {
+      view = w;
+      there = subst (λ k. get_elem? (set vs me w) k ≡ some w) (sym e) (set_here vs me w (within vs me v here));
+      owns = still (subst (λ u. Holds u i) (some-injective h.view v (sym h.there ∙ (ap (get_elem? vs) e ∙ here))) h.owns);
+    })
+    (λ n. record { view = h.view; there = set_else vs me j w n ∙ h.there; owns = h.owns })
+    (cases_eq j me)
 
 -- who has made its entry knows its lines whole again
 knows_appended : (whole : List Item) (owner : ℕ → ℕ) (j : ℕ) (v : View) (x : Item) → Knows whole owner j v → IsCompared v → x.role < 10
@@ -112,6 +131,7 @@ appends slots id me role made aim freed compared caller stands a b room s r _ he
             (cases_Bool (is_in i x));
         each_seat = seats (Knows (r.whole ++ x ∷ []) r.owner) s.views id w mine'
             (λ j u other at_j. knows_other r.whole r.owner j id u me.0 x other (r.each_seat j u at_j) mine a b);
+        each_line = λ i l. owner_set s.views i (r.owner i) id me.0 w here (λ o. o) (r.each_line i l);
       },
       (
         refl,
@@ -122,6 +142,14 @@ appends slots id me role made aim freed compared caller stands a b room s r _ he
     )
 
 -- the first seat owns all lines
+pub owns_first : OwnsAll first_view
+owns_first i l = all_true 27 i l
+  where
+    all_true : (n i : ℕ) → i < n → at false (replicate n true) i ≡ true
+    all_true zero i l = absurd (omega arith)
+    all_true (suc n) zero l = refl
+    all_true (suc n) (suc i) l = all_true n i (omega arith)
+
 pub opens_order : Ordered (opening (0 ∷ []) [] first_view)
 opens_order = record {
   whole = [];
@@ -131,6 +159,7 @@ opens_order = record {
   numbers = tt;
   limit = λ i l. omega arith;
   each_seat = only;
+  each_line = λ i l. record { view = first_view; there = refl; owns = inl (owns_first i l) };
 }
   where
     fresh : Knows [] (λ i. 0) 0 first_view
@@ -139,14 +168,6 @@ opens_order = record {
     only : (j : ℕ) (v : View) → get_elem? (first_view ∷ []) j ≡ some v → Knows [] (λ i. 0) j v
     only zero v e = subst (Knows [] (λ i. 0) 0) (some-injective first_view v e) fresh
     only (suc j) v e = absurd (some-ne-none v (sym e))
-
-pub owns_first : OwnsAll first_view
-owns_first i l = all_true 27 i l
-  where
-    all_true : (n i : ℕ) → i < n → at false (replicate n true) i ≡ true
-    all_true zero i l = absurd (omega arith)
-    all_true (suc n) zero l = refl
-    all_true (suc n) (suc i) l = all_true n i (omega arith)
 
 -- what stands in a list one longer: what stood in it, or the last
 at_end : (l : List View) (a b : View) (j : ℕ) → get_elem? (l ++ a ∷ []) j ≡ some b → (get_elem? l j ≡ some b) ⊎ ((j ≡ length l) × (a ≡ b))
@@ -209,15 +230,35 @@ cuts id v lines compared s r here =
             heard_owned = λ i o. absurd (unheard v compared.owns i o);
           })
           (at_end (set s.views id (giving lines v)) (given lines v) u j e);
+      each_line = λ i l. ⊎_elim
+          (λ (e : test i ≡ true). record {
+            view = given lines v;
+            there = subst (λ k. get_elem? (set s.views id (giving lines v) ++ given lines v ∷ []) k ≡ some (given lines v)) (sym (took test new r.owner i e)) (at_last (set s.views id (giving lines v)) (given lines v) new (length-set s.views id (giving lines v)));
+            owns = inl (at_common v.owns lines i ∙ e);
+          })
+          (λ (e : test i ≡ false).
+          let h = owner_set s.views i (r.owner i) id v (giving lines v) here
+          (⊎_elim (λ o. inl (at_without v.owns lines i ∙ stays (at false v.owns i) (at false lines i) o e)) (λ o. absurd (unheard v compared.owns i o)))
+          (r.each_line i l) in
+          subst (HasOwner (set s.views id (giving lines v) ++ given lines v ∷ []) i) (sym (left_alone test new r.owner i e)) record {
+            view = h.view;
+            there = at_longer (set s.views id (giving lines v)) (given lines v ∷ []) (r.owner i) h.view h.there;
+            owns = h.owns;
+          })
+          (cases_Bool (test i));
     }
   where
+    stays : (a b : Bool) → a ≡ true → (a && b) ≡ false → (a && not b) ≡ true
+    stays true b o e = ap not e
+    stays false b o e = o
+
     and_false : (b : Bool) → (b && false) ≡ false
     and_false true = refl
     and_false false = refl
 
 -- a join: a seat takes in another, which is spent
-pub takes_in : (id : ℕ) (v : View) (other : ℕ) (w : View) → Joins Ordered id v other w (hearing v w) spent_view
-takes_in id v other w s r here apart there' =
+pub takes_in : (id : ℕ) (v : View) (other : ℕ) (w : View) → IsCompared v → IsCompared w → Joins Ordered id v other w (hearing v w) spent_view
+takes_in id v other w compared compared' s r here apart there' =
     let theirs_at : get_elem? s.views other ≡ some w = ⊎_elim (λ t. absurd (apart t.0)) (λ t. t.1) (at_set s.views id other (hearing v w) w there') in
     let mine = r.each_seat id v here in
     let theirs = r.each_seat other w theirs_at in
@@ -247,6 +288,18 @@ takes_in id v other w s r here apart there' =
             heard_owned = λ i o. let t = k_knows.heard_owned i o in (still i t.0, t.1);
           })
           j u at_j not_other);
+      each_line = λ i l. ⊎_elim
+          (λ (e : test i ≡ true). record {
+            view = hearing v w;
+            there = subst (λ k. get_elem? (set (set s.views id (hearing v w)) other spent_view) k ≡ some (hearing v w)) (sym (took test id r.owner i e))
+                (set_else (set s.views id (hearing v w)) other id spent_view (λ z. apart (sym z)) ∙ set_here s.views id (hearing v w) (within s.views id v here));
+            owns = inr e;
+          })
+          (λ (e : test i ≡ false). subst (HasOwner (set (set s.views id (hearing v w)) other spent_view) i) (sym (left_alone test id r.owner i e))
+          (owner_set (set s.views id (hearing v w)) i (r.owner i) other w spent_view there'
+          (⊎_elim (λ o. absurd (both_ways (test i) e o)) (λ o. absurd (unheard w compared'.owns i o)))
+          (owner_set s.views i (r.owner i) id v (hearing v w) here (⊎_elim (λ o. inl o) (λ o. absurd (unheard v compared.owns i o))) (r.each_line i l))))
+          (cases_Bool (test i));
     }
 
 -- the load after a join: the seat compares what it knew with what it heard
@@ -279,6 +332,7 @@ compares slots id me s r _ here _ =
               heard_owned = λ i o. absurd (true≢false (sym o));
             }
             (λ j u other at_j. r.each_seat j u at_j);
+        each_line = λ i l. owner_set s.views i (r.owner i) id me.0 w here (λ o. inl (at_joined me.0.owns me.0.heard_owns i ∙ or_true (at false me.0.owns i) (at false me.0.heard_owns i) o)) (r.each_line i l);
       },
       (
         refl,

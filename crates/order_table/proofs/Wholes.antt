@@ -118,6 +118,12 @@ pub keeps_lists : RuleKeepsLists
 keeps_lists s r = record {
   lists = λ i. of_line i r.whole;
   begins = λ j v at_j i. (r.each_seat j v at_j).begins i;
+  longest = λ i l. let h = r.each_line i l in let k = r.each_seat (r.owner i) h.view h.there in record {
+    seat = r.owner i;
+    view = h.view;
+    there = h.there;
+    known = ⊎_elim (λ o. inl (k.owned i o).1) (λ o. inr (k.heard_owned i o).1) h.owns;
+  };
   whole = λ j v at_j i o. ((r.each_seat j v at_j).owned i o).1;
   owner = λ j k v w at_j at_k i o p. sym ((r.each_seat j v at_j).owned i o).0 ∙ ((r.each_seat k w at_k).owned i p).0;
   counted = λ n l. let is = r.sequencer in let f = found 0 n r.whole r.numbers (omega arith) in let p = placed 0 r.whole f.item r.numbers f.there in let one = p.is.stands.one in record {

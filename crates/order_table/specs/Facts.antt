@@ -12,6 +12,7 @@ use Rattle.joint_model.specs.Lines.{IsThread, is_peer_event}
 use Rattle.order_table.specs.declared.views.Role.{Role}
 use Rattle.order_table.specs.declared.views.Kept.{Kept}
 use Rattle.order_table.specs.declared.views.View.{View}
+use Rattle.order_table.specs.Rows.{at}
 use Rattle.order_table.specs.Views.{IsRole, role_line, caller_line, known, Owns}
 use Rattle.order_table.specs.Rule.{Item, Ordered, RunsFrom, of_line}
 
@@ -28,12 +29,21 @@ pub record IsNumberIn (lists : ℕ → List Kept) (n : ℕ) : Type 0 where
   pub stands : In (lists role) entry
   pub number : entry.entry.number ≡ n
 
--- Between any two steps each line has a whole list. Each seat that there ever was knows a beginning of it; its one owner knows all of it. The
+-- some seat knows the whole list
+pub record IsKnownWhole (views : List View) (i : ℕ) (whole : List Kept) : Type 0 where
+  pub seat : ℕ
+  pub view : View
+  pub there : get_elem? views seat ≡ some view
+  pub known : (known view i ≡ whole) ⊎ (at [] view.heard i ≡ whole)
+
+-- Between any two steps each line has a whole list, the longest that any seat knows. Each seat that there ever was knows a beginning of it; its
+-- one owner knows all of it. The
 -- numbers in the roles' lists are those below the sequencer word, each once; no list is too long, and the word is far from its end. A
 -- caller's list has just that caller's entries of the roles' lists.
 pub record HasWholeLists (s : State (Unit {0}) View) : Type 0 where
   pub lists : ℕ → List Kept
   pub begins : (j : ℕ) (v : View) → get_elem? s.views j ≡ some v → (i : ℕ) → IsPrefix (known v i) (lists i)
+  pub longest : (i : ℕ) → i < 27 → IsKnownWhole s.views i (lists i)
   pub whole : (j : ℕ) (v : View) → get_elem? s.views j ≡ some v → (i : ℕ) → Owns v i → known v i ≡ lists i
   pub owner : (j k : ℕ) (v w : View) → get_elem? s.views j ≡ some v → get_elem? s.views k ≡ some w → (i : ℕ) → Owns v i → Owns w i → j ≡ k
   pub counted : (n : ℕ) → n < slice_index s.words 0 → IsNumberIn lists n

@@ -1,6 +1,6 @@
 -- The rule of the order, which holds between any two steps: there is one history, whose entries have the numbers from 0 on, and whose length
 -- is the sequencer word. Each line is what this history has of it, so of what two views know of a line the one begins the other.
-use Rattle.std.specs.Prelude.{◌≡◌, ℕ, ◌+◌, ◌<◌, ◌≤◌, ◌==◌, ◌||◌, Bool, true, false, if◌then◌else◌, List, [], ◌∷◌, length, slice_index}
+use Rattle.std.specs.Prelude.{◌≡◌, ◌⊎◌, ℕ, ◌+◌, ◌<◌, ◌≤◌, ◌==◌, ◌||◌, Bool, true, false, if◌then◌else◌, List, [], ◌∷◌, length, slice_index}
 use mathlib.Core.Option.{some}
 use mathlib.Core.List.{IsPrefix}
 use lib.ListN.{get_elem?}
@@ -48,6 +48,12 @@ pub record Knows (whole : List Item) (owner : ℕ → ℕ) (j : ℕ) (v : View) 
   pub owned : (i : ℕ) → Owns v i → (owner i ≡ j) × (known v i ≡ of_line i whole)
   pub heard_owned : (i : ℕ) → at false v.heard_owns i ≡ true → (owner i ≡ j) × (at [] v.heard i ≡ of_line i whole)
 
+-- the line's owner is a seat that there is or was: it owns the line, or has taken in a seat that did, and not yet compared
+pub record HasOwner (views : List View) (i j : ℕ) : Type 0 where
+  pub view : View
+  pub there : get_elem? views j ≡ some view
+  pub owns : Owns view i ⊎ (at false view.heard_owns i ≡ true)
+
 -- the rule. The history and the owner of each line are its own data; the views are those of all seats that there ever were, so that of a
 -- seat that was dropped stays too
 pub record Ordered (s : State (Unit {0}) View) : Type 0 where
@@ -58,6 +64,7 @@ pub record Ordered (s : State (Unit {0}) View) : Type 0 where
   pub numbers : RunsFrom 0 whole
   pub limit : (i : ℕ) → i < 10 → length (of_line i whole) ≤ 4294967295
   pub each_seat : (j : ℕ) (v : View) → get_elem? s.views j ≡ some v → Knows whole owner j v
+  pub each_line : (i : ℕ) → i < 27 → HasOwner s.views i (owner i)
 
 -- the lines are those of one whole history
 pub record IsWhole (lines : List (List Kept)) : Type 0 where

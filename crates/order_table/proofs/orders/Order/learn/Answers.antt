@@ -7,7 +7,7 @@ use Rattle.order_table.proofs.Parting.{taken}
 use Rattle.order_table.proofs.orders.Order.learn.Goals as goal
 
 pub join_seat-requires : goal.join_seat-requires
-join_seat-requires c = (search rules, search rules, c.other.invariant.0, search rules, takes_in c.seat.inside.inner.id c.seat.inside.inner.me.0 c.other.inside.inner.id c.other.inside.inner.me.0)
+join_seat-requires c = (search rules, search rules, c.other.invariant.0, search rules, takes_in c.seat.inside.inner.id c.seat.inside.inner.me.0 c.other.inside.inner.id c.other.inside.inner.me.0 c.seat.invariant.1 c.other.invariant.1)
 
 pub load-requires : goal.load-requires
 load-requires c = (search rules, search rules, compares _ c.join_seat.new.seat.id c.join_seat.new.seat.me)
