@@ -160,9 +160,6 @@ Greying-head roots edge before m l x one i = Greying-head_by i.waits i.chained.c
     Greying-head_by [] c marked = absurd (omega (arith, c, one))
     Greying-head_by (z ∷ rest) c marked = subst (IsMarked m) (sym c.0) (marked z (Contains-here z rest))
 
-pub Greying-inside : (roots : List ℕ) (edge : ℕ → ℕ → Type 0) (before m : List Bool) (l : List ℕ) (x : ℕ) → 1 ≤ x → Greying roots edge before m l x → x < length m
-Greying-inside roots edge before m l x one i = slice_get_within m x true (Greying-head roots edge before m l x one i)
-
 -- each turn makes the measure smaller
 pub Greying-smaller : (roots : List ℕ) (edge : ℕ → ℕ → Type 0) (before m : List Bool) (l : List ℕ) (x next : ℕ) (m' : List Bool) (l' : List ℕ) (h' : ℕ)
     → 1 ≤ x → slice_get l x ≡ Some next → Greying roots edge before m l x → Greyed (edge x) m l next m' l' h'

@@ -4,9 +4,8 @@ use Rattle.reachability.specs.Marks.{IsMarked, IsClosed, unmarked}
 use Rattle.reachability.specs.Scans.{Scans}
 use Rattle.joint_model.specs.Walks.{Reached}
 
--- what can be walked: the rows are the numbers below `nodes`; fields of each row; references from a row to a row
+-- what can be walked: the fields of each row, and the references from a row to a row
 pub record Shape : Type 0 where
-  pub nodes : ℕ
   pub fields : ℕ → List (Option ℕ)
   pub refs : List (ℕ × ℕ)
 

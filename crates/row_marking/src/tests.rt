@@ -1,6 +1,6 @@
 // A marking of five rows: row x leads to row x % 3 + 3 by its first field, and row 1 to row 2 by a reference.
 
-ghost use Rattle.std.specs.Prelude.{◌≡◌, ◌+◌, ◌%◌, [], ◌∷◌, Some, None, false, replicate};
+ghost use Rattle.std.specs.Prelude.{◌≡◌, ◌+◌, ◌<◌, ◌%◌, [], ◌∷◌, Some, None, false, replicate};
 
 use crate::{Traced, finish, mark_from, visit};
 use std::test::Fail;
@@ -12,7 +12,9 @@ struct Five {
 }
 
 impl Traced for Five {
-    ghost shape = { λ f. record { nodes = 6; fields = λ x. Some (x % 3 + 3) ∷ None ∷ []; refs = (1, 2) ∷ [] } };
+    ghost shape = { λ f. record { fields = λ x. Some (x % 3 + 3) ∷ None ∷ []; refs = (1, 2) ∷ [] } };
+
+    ghost is_row = { λ f x. x < 6 };
 
     ghost marks = { λ f. f.marks };
 

@@ -1,24 +1,15 @@
 -- The marking goes on in each turn, and ends once no row is grey.
-use Rattle.std.proofs.Common.{◌≡◌, ◌∙◌, ◌≤◌, arith, sym}
-use Rattle.row_marking.proofs.Greys.{Greying-goes, Greying-ends, Greying-closes, Greying-inside, Greying-smaller}
+use Rattle.std.proofs.Common.{◌≡◌, ◌∙◌, ◌≤◌, arith}
+use Rattle.row_marking.proofs.Greys.{Greying-goes, Greying-ends, Greying-closes, Greying-head, Greying-smaller}
 use Rattle.row_marking.proofs.finish.Goals as goal
 
 pub link-head-requires : goal.link-head-requires
-link-head-requires g c =
-    let i = c.loop-head.invariant.goes.greying in
-    let inside = Greying-inside _ _ _ _ _ c.loop-head.head (omega (arith, c.loop-head-test.true)) i in
-    rw c.loop-head.invariant.shape (rw c.loop-head.invariant.len at inside)
-
-pub scan-requires : goal.scan-requires
-scan-requires g c =
-    let i = c.loop-head.invariant.goes.greying in
-    let inside = Greying-inside _ _ _ _ _ c.loop-head.head (omega (arith, c.loop-head-test.true)) i in
-    rw c.loop-head.invariant.shape (rw c.loop-head.invariant.len at inside)
+link-head-requires g c = Greying-head _ _ _ _ _ c.loop-head.head (omega (arith, c.loop-head-test.true)) c.loop-head.invariant.goes.greying
 
 pub loop-head-smaller : goal.loop-head-smaller
 loop-head-smaller g c =
     let i = c.loop-head.invariant.goes.greying in
-    Greying-smaller _ _ _ _ _ c.loop-head.head c.link-head.result _ _ _ (omega (arith, c.loop-head-test.true)) c.link-head.ensures i
+    Greying-smaller _ _ _ _ _ c.loop-head.head c.link-head.result _ _ _ (omega (arith, c.loop-head-test.true)) c.link-head.ensures.link i
     (rw c.loop-head.invariant.shape at c.scan.ensures.greyed)
 
 pub loop-head-preserved : goal.loop-head-preserved
@@ -26,12 +17,12 @@ loop-head-preserved g c =
     let i = c.loop-head.invariant.goes.greying in
     let one : 1 ≤ c.loop-head.head = omega (arith, c.loop-head-test.true) in
     let step = rw c.loop-head.invariant.shape at c.scan.ensures.greyed in
-    let next = Greying-goes _ _ _ _ _ c.loop-head.head c.link-head.result _ _ _ one c.link-head.ensures i step in
+    let next = Greying-goes _ _ _ _ _ c.loop-head.head c.link-head.result _ _ _ one c.link-head.ensures.link i step in
     record {
       shape = c.scan.ensures.shape ∙ c.loop-head.invariant.shape;
-      len = next.len ∙ (sym i.len ∙ c.loop-head.invariant.len);
+      rows = λ k r. c.scan.ensures.rows k (c.loop-head.invariant.rows k r);
       goes = record { roots = c.loop-head.invariant.goes.roots; before = c.loop-head.invariant.goes.before; greying = next };
-      greying = λ roots before b. Greying-goes _ _ _ _ _ c.loop-head.head c.link-head.result _ _ _ one c.link-head.ensures (c.loop-head.invariant.greying roots before b) step;
+      greying = λ roots before b. Greying-goes _ _ _ _ _ c.loop-head.head c.link-head.result _ _ _ one c.link-head.ensures.link (c.loop-head.invariant.greying roots before b) step;
     }
 
 pub returns-clause-marks : goal.returns-clause-marks

@@ -1,19 +1,13 @@
 -- The marking is on its way once the roots are marked.
-use Rattle.std.proofs.Common.{◌∙◌}
 use Rattle.row_marking.proofs.Greys.{Greying-begins}
 use Rattle.row_marking.proofs.mark_from.Goals as goal
 
-pub finish-requires-clause-going : goal.finish-requires-clause-going
-finish-requires-clause-going g c = record {
+pub finish-requires : goal.finish-requires
+finish-requires g c = record {
   roots = c.args.roots.now;
   before = g.G.Traced.marks c.args.g.now;
   greying = rw c.mark_roots.ensures.shape (Greying-begins c.args.roots.now _ _ _ _ _ _ c.requires.shut c.mark_roots.ensures.greyed);
 }
-
-pub finish-requires-clause-len : goal.finish-requires-clause-len
-finish-requires-clause-len g c =
-    let i = Greying-begins c.args.roots.now _ _ _ _ _ _ c.requires.shut c.mark_roots.ensures.greyed in
-    rw c.mark_roots.ensures.shape (i.len ∙ c.requires.len)
 
 pub returns-clause-marks : goal.returns-clause-marks
 returns-clause-marks g c = λ k.

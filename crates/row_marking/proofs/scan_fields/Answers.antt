@@ -12,11 +12,13 @@ loop-i-preserved g c =
     elim c.match-field.branch [
       | in-Some w ↦ record {
         shape = rw w.g-is (w.visit.ensures.shape ∙ c.loop-i.invariant.shape);
+        rows = rw w.g-is (λ k r. w.visit.ensures.rows k (c.loop-i.invariant.rows k r));
         greyed = rw (w.g-is, w.grey-is, take-next xs c.loop-i.i (Some w.in-Some.y) (rw c.loop-i.invariant.shape at w.in-Some.ensures.at))
             (Greyed-push_some _ _ _ _ _ _ _ _ _ _ _ c.loop-i.invariant.greyed w.visit.ensures.greyed);
       }
       | in_default w ↦ record {
         shape = rw w.g-is c.loop-i.invariant.shape;
+        rows = rw w.g-is c.loop-i.invariant.rows;
         greyed = rw (w.g-is, w.grey-is, take-next xs c.loop-i.i None (rw c.loop-i.invariant.shape at w.in_default.ensures.at))
             (Greyed-push_none _ _ _ _ _ _ _ c.loop-i.invariant.greyed);
       }

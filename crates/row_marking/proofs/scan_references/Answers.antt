@@ -12,6 +12,7 @@ loop-r-preserved g c =
     let refs = (g.G.Traced.shape c.args.g.now).refs in
     record {
       shape = c.visit.ensures.shape ∙ same;
+      rows = λ k r. c.visit.ensures.rows k (c.loop-r.invariant.rows k r);
       there = next.there;
       greyed = Greyed-then (RefersFrom refs c.loop-r.r c.args.x) (λ z. z ≡ c.reference-y.result.0) (RefersFrom refs c.reference-y.result.1 c.args.x) _ _ _ _ _ _ _ _ _
           (RefersFrom-split refs c.args.x c.loop-r.r c.reference-y.result.0 c.reference-y.result.1 (omega (arith, c.loop-r-test.true)) next to)

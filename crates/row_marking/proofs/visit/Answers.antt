@@ -4,4 +4,4 @@ use Rattle.row_marking.proofs.visit.Goals as goal
 
 pub returns-then-not-is_marked-clause-greyed : goal.returns-then-not-is_marked-clause-greyed
 returns-then-not-is_marked-clause-greyed g c =
-    rw (c.mark.ensures.marks, c.mark.ensures.links) (Greyed-new c.args.y _ _ _ (rw c.if-not-is_marked.true at c.is_marked.ensures.mark) c.requires.some c.mark.ensures.len)
+    rw (c.mark.ensures.marks, c.mark.ensures.links) (Greyed-new c.args.y _ _ _ (rw c.if-not-is_marked.true at c.is_marked.ensures) c.requires.some c.mark.ensures.len)
