@@ -1,0 +1,203 @@
+-- A heap of rows stays sound. It is the heap of `object_heap` over plain lists, whose lemmas are used as they are: its flags are which rows
+-- stand. Slots and fields are written between rows that stand, so no row comes or goes, and no reference is touched. A further row stands last,
+-- and no reference is its own.
+use Rattle.std.proofs.Common.{◌≡◌, ◌≢◌, ℕ, zero, suc, ◌+◌, ◌-◌, ◌≤◌, ◌<◌, ◌⊎◌, ◌↔◌, inl, inr, Bool, true, false, List, [], ◌∷◌, ◌++◌, map, length, replicate, Option, Some, None, IsTrue, set, get_or, refl, sym, ap, subst, ◌∙◌, arith, length-append}
+use Rattle.std.specs.Prelude.{Contains, slice_get}
+use Rattle.std.specs.Option.{ForSome, IfSome}
+use Rattle.std.proofs.lemmas.Bool.{cases_lt}
+use Rattle.std.proofs.lemmas.List.{length-map, map-append, map-set}
+use Rattle.std.proofs.lemmas.List.Elements.{Contains-get_or}
+use Rattle.std.proofs.lemmas.Option.{slice_get_within}
+use Rattle.joint_model.specs.Heaps.{Heap, MOST, IsLive, fields_of, numbered_at, numbered_set, with_field, opening_heap, with_object, slot}
+use Rattle.joint_model.proofs.Members.{Contains-nil, Contains-at}
+use Rattle.row_heap.proofs.Indexed.{stands-within}
+use Rattle.joint_model.proofs.Numbered.{numbered-push_old, numbered-push_new, numbered-past, numbered_set-length}
+use Rattle.object_heap.specs.Flags.{IsSound, IsUp}
+use Rattle.object_heap.specs.Tidy.{IsTidy}
+use Rattle.object_heap.proofs.Sound.{IsSound-empty, IsSound-added, IsSound-field, IsUp-live, read-live}
+use Rattle.object_heap.proofs.Numbered.{slot-read}
+use Rattle.row_marking.specs.Traces.{IsLastBelow}
+use Rattle.row_heap.specs.declared.places.Row.{Row}
+use Rattle.row_heap.specs.declared.references.Reference.{Reference}
+use Rattle.row_heap.specs.Places.{Seen, row_at, gone, standing}
+use Rattle.row_heap.specs.Rows.{AreReferences, HeapRows, IsRowHeap, heap_of, pairs_in, rows_of, stands_in}
+
+-- the flag of a row is whether it stands
+pub flag-stands : (rows : List Seen) (x : ℕ) (b : Bool) → numbered_at (stands_in rows) x ≡ Some b → (row_at rows x).stands ≡ b
+flag-stands rows zero b e = cc
+flag-stands [] (suc i) b e = cc
+flag-stands (r ∷ rows) (suc zero) b e = cc
+flag-stands (r ∷ rows) (suc (suc i)) b e = flag-stands rows (suc i) b e
+
+pub stands-flag : (rows : List Seen) (x : ℕ) → (row_at rows x).stands ≡ true → numbered_at (stands_in rows) x ≡ Some true
+stands-flag rows zero e = (let f : ⊥ = cc in absurd f)
+stands-flag [] (suc i) e = (let f : ⊥ = cc in absurd f)
+stands-flag (r ∷ rows) (suc zero) e = ap (λ b. Some b) e
+stands-flag (r ∷ rows) (suc (suc i)) e = stands-flag rows (suc i) e
+
+-- so a row stands exactly where its object is live
+pub live-stands : (rows : List Seen) (freed : List ℕ) (vars statics : List (Option ℕ)) (cap x : ℕ) → IsSound (heap_of rows freed vars statics) (stands_in rows) cap → IsLive (heap_of rows freed vars statics) x → (row_at rows x).stands ≡ true
+live-stands rows freed vars statics cap x s l = flag-stands rows x true (IsUp-live (heap_of rows freed vars statics) (stands_in rows) x s.flags l)
+
+pub stands-live : (rows : List Seen) (freed : List ℕ) (vars statics : List (Option ℕ)) (cap x : ℕ) → IsSound (heap_of rows freed vars statics) (stands_in rows) cap → (row_at rows x).stands ≡ true → IsLive (heap_of rows freed vars statics) x
+stands-live rows freed vars statics cap x s e = s.flags.up x (stands-flag rows x e)
+
+-- the fields of an object are those of its row
+pub fields-at : (rows : List Seen) (x : ℕ) → elim (numbered_at (map (λ (r : Seen). r.fields) rows) x) [ None ↦ [] | Some fs ↦ fs ] ≡ (row_at rows x).fields
+fields-at rows zero = refl
+fields-at [] (suc i) = refl
+fields-at (r ∷ rows) (suc zero) = refl
+fields-at (r ∷ rows) (suc (suc i)) = fields-at rows (suc i)
+
+pub fields-seen : (rows : List Seen) (freed : List ℕ) (vars statics : List (Option ℕ)) (refs : List Reference) (follows : Bool) (room : ℕ) (v : HeapRows) (x : ℕ) → rows_of rows freed vars statics refs follows room ≡ v → fields_of v.heap x ≡ (row_at rows x).fields
+fields-seen rows freed vars statics refs follows room v x e = ap (λ (w : HeapRows). fields_of w.heap x) (sym e) ∙ fields-at rows x
+
+pub tidy-seen : (rows : List Seen) (freed : List ℕ) (vars statics : List (Option ℕ)) (refs : List Reference) (follows : Bool) (room : ℕ) (v : HeapRows) (cap : ℕ) → rows_of rows freed vars statics refs follows room ≡ v → IsSound (heap_of rows freed vars statics) (stands_in rows) cap → IsTidy v.heap
+tidy-seen rows freed vars statics refs follows room v cap e s = subst (λ (w : HeapRows). IsTidy w.heap) e s.tidy
+
+-- what a write to one row leaves: a part of the row that stays is as it was everywhere
+pub map-kept : {A : Type 0} (f : Seen → A) (rows : List Seen) (x : ℕ) (y : Seen) → f y ≡ f (row_at rows x) → map f (numbered_set rows x y) ≡ map f rows
+map-kept f rows zero y e = refl
+map-kept f [] (suc i) y e = refl
+map-kept f (r ∷ rows) (suc zero) y e = ap (λ z. z ∷ map f rows) e
+map-kept f (r ∷ rows) (suc (suc i)) y e = ap (λ z. f r ∷ z) (map-kept f rows (suc i) y e)
+
+pub row_at-kept : {A : Type 0} (f : Seen → A) (rows : List Seen) (x : ℕ) (y : Seen) → f y ≡ f (row_at rows x) → (z : ℕ) → f (row_at (numbered_set rows x y) z) ≡ f (row_at rows z)
+row_at-kept f rows zero y e z = refl
+row_at-kept f [] (suc i) y e z = refl
+row_at-kept f (r ∷ rows) (suc zero) y e zero = refl
+row_at-kept f (r ∷ rows) (suc zero) y e (suc zero) = e
+row_at-kept f (r ∷ rows) (suc zero) y e (suc (suc k)) = refl
+row_at-kept f (r ∷ rows) (suc (suc i)) y e zero = refl
+row_at-kept f (r ∷ rows) (suc (suc i)) y e (suc zero) = refl
+row_at-kept f (r ∷ rows) (suc (suc i)) y e (suc (suc k)) = row_at-kept f rows (suc i) y e (suc k)
+
+pub map-written : {A : Type 0} (f : Seen → A) (rows : List Seen) (x : ℕ) (y : Seen) → map f (numbered_set rows x y) ≡ numbered_set (map f rows) x (f y)
+map-written f rows zero y = refl
+map-written f rows (suc i) y = map-set f rows i y
+
+-- references of rows that keep where they begin, and whether they stand
+pub AreReferences-as : (rows others : List Seen) (refs : List Reference) (follows : Bool) (room cap : ℕ) → length others ≡ length rows → ((z : ℕ) → (row_at others z).stands ≡ true → ((row_at rows z).stands ≡ true) × ((row_at rows z).first ≡ (row_at others z).first))
+    → (follows ≡ true → (p q : ℕ) → Contains (pairs_in refs) (p, q) → (row_at others p).stands ≡ true → (row_at rows q).stands ≡ true → (row_at others q).stands ≡ true)
+    → AreReferences rows refs follows room cap → AreReferences others refs follows room cap
+AreReferences-as rows others refs follows room cap len back on a = record {
+  firsts = λ x e. (let w = back x e in subst (λ n. IsLastBelow (pairs_in refs) x (length (pairs_in refs)) n) w.1 (a.firsts x w.0));
+  nexts = a.nexts;
+  made = λ p q c. (let m = a.made p q c in (m.0, omega (arith, m.1, len)));
+  ends = λ f p q c e. on f p q c e (a.ends f p q c (back p e).0);
+  space = a.space;
+  most = a.most;
+}
+
+-- one row is written, and stands as before, with its references
+pub AreReferences-written : (rows : List Seen) (refs : List Reference) (follows : Bool) (room cap x : ℕ) (y : Seen) → y.stands ≡ (row_at rows x).stands → y.first ≡ (row_at rows x).first
+    → AreReferences rows refs follows room cap → AreReferences (numbered_set rows x y) refs follows room cap
+AreReferences-written rows refs follows room cap x y up first a = AreReferences-as rows (numbered_set rows x y) refs follows room cap (numbered_set-length rows x y)
+    (λ z e. (sym (row_at-kept (λ r. r.stands) rows x y up z) ∙ e, sym (row_at-kept (λ r. r.first) rows x y first z)))
+    (λ f p q c e l. row_at-kept (λ r. r.stands) rows x y up q ∙ l) a
+
+-- a field is written
+pub heap-written : (rows : List Seen) (freed : List ℕ) (vars statics : List (Option ℕ)) (x i : ℕ) (o : Option ℕ)
+    → heap_of (numbered_set rows x (record (row_at rows x) { fields = set (row_at rows x).fields i o })) freed vars statics ≡ with_field (heap_of rows freed vars statics) x i o
+heap-written rows freed vars statics x i o =
+    let y : Seen = record (row_at rows x) { fields = set (row_at rows x).fields i o } in
+    ap (λ (fs : List (List (Option ℕ))). let h : Heap = record { fields = fs; freed = freed; vars = vars; statics = statics } in h)
+    (map-written (λ r. r.fields) rows x y ∙ ap (λ (l : List (Option ℕ)). numbered_set (map (λ (r : Seen). r.fields) rows) x (set l i o)) (sym (fields-at rows x)))
+
+-- other rows with another heap, and the marks and links as they were
+pub seen-heap : (rows others : List Seen) (freed : List ℕ) (vars statics : List (Option ℕ)) (refs : List Reference) (follows : Bool) (room : ℕ) (h : Heap) → heap_of others freed vars statics ≡ h → map (λ (r : Seen). r.marked) others ≡ map (λ (r : Seen). r.marked) rows → map (λ (r : Seen). r.link) others ≡ map (λ (r : Seen). r.link) rows
+    → rows_of others freed vars statics refs follows room ≡ record (rows_of rows freed vars statics refs follows room) { heap = h }
+seen-heap rows others freed vars statics refs follows room h e m l =
+    ap (λ (z : Heap). let v : HeapRows = record { heap = z; refs = pairs_in refs; follows = follows; room = room; marks = false ∷ map (λ (r : Seen). r.marked) others; links = 0 ∷ map (λ (r : Seen). r.link) others } in v) e
+    ∙ (ap (λ (z : List Bool). let v : HeapRows = record { heap = h; refs = pairs_in refs; follows = follows; room = room; marks = false ∷ z; links = 0 ∷ map (λ (r : Seen). r.link) others } in v) m
+    ∙ ap (λ (z : List ℕ). let v : HeapRows = record { heap = h; refs = pairs_in refs; follows = follows; room = room; marks = false ∷ map (λ (r : Seen). r.marked) rows; links = 0 ∷ z } in v) l)
+
+pub seen-written : (rows others : List Seen) (freed : List ℕ) (vars statics : List (Option ℕ)) (refs : List Reference) (follows : Bool) (room : ℕ) (v : HeapRows) (x i : ℕ) (o : Option ℕ) → rows_of rows freed vars statics refs follows room ≡ v
+    → others ≡ numbered_set rows x (record (row_at rows x) { fields = set (row_at rows x).fields i o }) → rows_of others freed vars statics refs follows room ≡ record v { heap = with_field v.heap x i o }
+seen-written rows others freed vars statics refs follows room v x i o view e =
+    let y : Seen = record (row_at rows x) { fields = set (row_at rows x).fields i o } in
+    ap (λ (l : List Seen). rows_of l freed vars statics refs follows room) e
+    ∙ (seen-heap rows (numbered_set rows x y) freed vars statics refs follows room (with_field (heap_of rows freed vars statics) x i o) (heap-written rows freed vars statics x i o) (map-kept (λ r. r.marked) rows x y refl) (map-kept (λ r. r.link) rows x y refl)
+    ∙ ap (λ (w : HeapRows). record w { heap = with_field w.heap x i o }) view)
+
+pub IsRowHeap-written : (rows : List Seen) (freed : List ℕ) (vars statics : List (Option ℕ)) (refs : List Reference) (follows : Bool) (room c d x i : ℕ) (o : Option ℕ) → IsRowHeap rows freed vars statics refs follows room c d
+    → IsLive (heap_of rows freed vars statics) x → ForSome o (IsLive (heap_of rows freed vars statics)) → IsRowHeap (numbered_set rows x (record (row_at rows x) { fields = set (row_at rows x).fields i o })) freed vars statics refs follows room c d
+IsRowHeap-written rows freed vars statics refs follows room c d x i o s l p =
+    let y : Seen = record (row_at rows x) { fields = set (row_at rows x).fields i o } in
+    record {
+      sound = subst (λ (h : Heap). IsSound h (stands_in (numbered_set rows x y)) c) (sym (heap-written rows freed vars statics x i o))
+          (subst (λ (u : List Bool). IsSound (with_field (heap_of rows freed vars statics) x i o) u c) (sym (map-kept (λ r. r.stands) rows x y refl))
+          (IsSound-field (heap_of rows freed vars statics) (stands_in rows) c x i o s.sound l p));
+      references = AreReferences-written rows refs follows room d x y refl refl s.references;
+    }
+
+-- no object
+pub IsRowHeap-empty : (rows : List Seen) (freed : List ℕ) (vars statics : List (Option ℕ)) (refs : List Reference) (c d : ℕ) → rows ≡ [] → freed ≡ [] → vars ≡ replicate 72 None → statics ≡ replicate 16 None → refs ≡ [] → IsRowHeap rows freed vars statics refs false 0 c d
+IsRowHeap-empty rows freed vars statics refs c d r f v t e = record {
+  sound = IsSound-empty (map (λ q. q.fields) rows) freed (stands_in rows) vars statics c (ap (map (λ q. q.fields)) r) f (ap stands_in r) v t;
+  references = record {
+    firsts = λ x up. absurd (nothing x (subst (λ l. (row_at l x).stands ≡ true) r up));
+    nexts = λ i q at. (let f : ⊥ = (let z : None ≡ Some q = sym (ap (λ l. slice_get l i) e) ∙ at in cc) in absurd f);
+    made = λ p q h. absurd (Contains-nil (p, q) (subst (λ l. Contains (pairs_in l) (p, q)) e h));
+    ends = λ b p q h. absurd (Contains-nil (p, q) (subst (λ l. Contains (pairs_in l) (p, q)) e h));
+    space = omega (arith, ap length e);
+    most = omega (arith, ap length e);
+  };
+}
+  where
+    nothing : (x : ℕ) → (row_at [] x).stands ≡ true → ⊥
+    nothing zero g = (let f : ⊥ = cc in f)
+    nothing (suc i) g = (let f : ⊥ = cc in f)
+
+-- a further row
+pub row_at-push_old : (rows : List Seen) (n : Seen) (z : ℕ) → z ≤ length rows → row_at (rows ++ n ∷ []) z ≡ row_at rows z
+row_at-push_old rows n z l = ap (λ o. elim o [ None ↦ gone [] | Some r ↦ r ]) (numbered-push_old rows n z l)
+
+pub row_at-push_new : (rows : List Seen) (n : Seen) → row_at (rows ++ n ∷ []) (length rows + 1) ≡ n
+row_at-push_new rows n = ap (λ o. elim o [ None ↦ gone [] | Some r ↦ r ]) (numbered-push_new rows n)
+
+pub row_at-past : (rows : List Seen) (z : ℕ) → length rows < z → row_at rows z ≡ gone []
+row_at-past rows z l = ap (λ o. elim o [ None ↦ gone [] | Some r ↦ r ]) (numbered-past rows z l)
+
+stands-cases : (rows : List Seen) (n : Seen) (z : ℕ) → (row_at (rows ++ n ∷ []) z).stands ≡ true → ((z ≤ length rows) × ((row_at rows z).stands ≡ true)) ⊎ (z ≡ length rows + 1)
+stands-cases rows n z e = elim (cases_lt (length rows) z) [
+  | inr w ↦ inl (w, sym (ap (λ r. r.stands) (row_at-push_old rows n z w)) ∙ e)
+  | inl w ↦ elim (cases_lt (length rows + 1) z) [
+    | inr v ↦ inr (omega arith)
+    | inl v ↦ (let f : false ≡ true = sym (ap (λ r. r.stands) (row_at-past (rows ++ n ∷ []) z (omega (arith, v, length-append rows (n ∷ []))))) ∙ e in (let g : ⊥ = cc in absurd g))
+  ]
+]
+
+pub AreReferences-pushed : (rows : List Seen) (n : Seen) (refs : List Reference) (follows : Bool) (room cap : ℕ) → n.first ≡ 0 → AreReferences rows refs follows room cap → AreReferences (rows ++ n ∷ []) refs follows room cap
+AreReferences-pushed rows n refs follows room cap zero_first a =
+    let old : (z : ℕ) → z ≤ length rows → row_at (rows ++ n ∷ []) z ≡ row_at rows z = row_at-push_old rows n in
+    record {
+      firsts = λ x e. elim (stands-cases rows n x e) [
+        | inl w ↦ subst (λ k. IsLastBelow (pairs_in refs) x (length (pairs_in refs)) k) (ap (λ r. r.first) (sym (old x w.0))) (a.firsts x w.1)
+        | inr w ↦ subst (λ k. IsLastBelow (pairs_in refs) x (length (pairs_in refs)) k) (sym (ap (λ r. r.first) (ap (row_at (rows ++ n ∷ [])) w ∙ row_at-push_new rows n) ∙ zero_first)) record {
+          below = omega arith;
+          none = λ i y from to at. (let m = a.made x y (Contains-at (pairs_in refs) i (x, y) at) in omega (arith, m.1, w));
+          there = λ one. absurd (omega (arith, one));
+        }
+      ];
+      nexts = a.nexts;
+      made = λ p q c. (let m = a.made p q c in (m.0, omega (arith, m.1, length-append rows (n ∷ []))));
+      ends = λ f p q c e.
+          let m = a.made p q c in
+          let up = a.ends f p q c (sym (ap (λ r. r.stands) (old p m.1)) ∙ e) in
+          ap (λ r. r.stands) (old q (stands-within rows q up).1) ∙ up;
+      space = a.space;
+      most = a.most;
+    }
+
+pub IsRowHeap-added : (rows others : List Seen) (freed after : List ℕ) (vars statics : List (Option ℕ)) (refs : List Reference) (follows : Bool) (room c e d k : ℕ) (n : Seen) → IsRowHeap rows freed vars statics refs follows room c d
+    → length rows < MOST → length rows + 1 ≤ e → others ≡ rows ++ n ∷ [] → n.fields ≡ replicate k None → n.stands ≡ true → n.first ≡ 0 → after ≡ freed → IsRowHeap others after vars statics refs follows room e d
+IsRowHeap-added rows others freed after vars statics refs follows room c e d k n s few space is fields up first same =
+    let h : Heap = heap_of rows freed vars statics in
+    let len : length h.fields ≡ length rows = length-map rows (λ r. r.fields) in
+    record {
+      sound = IsSound-added h (stands_in rows) (stands_in others) c e k (map (λ r. r.fields) others) after s.sound (omega (arith, few, len)) (omega (arith, space, len))
+          (ap (map (λ r. r.fields)) is ∙ (map-append (λ r. r.fields) rows (n ∷ []) ∙ ap (λ z. map (λ r. r.fields) rows ++ z ∷ []) fields)) same
+          (ap stands_in is ∙ (map-append (λ r. r.stands) rows (n ∷ []) ∙ ap (λ z. stands_in rows ++ z ∷ []) up));
+      references = subst (λ l. AreReferences l refs follows room d) (sym is) (AreReferences-pushed rows n refs follows room d first s.references);
+    }

@@ -1,0 +1,25 @@
+-- The further row stands last, and the list of freed objects has room for it too.
+use Rattle.std.proofs.Common.{◌≡◌, ◌∙◌, ◌+◌, ◌<◌, ◌≤◌, None, ap, map, length, replicate, refl, arith, rules, vec_capacity, length-append}
+use Rattle.std.proofs.lemmas.List.{length-map}
+use Rattle.joint_model.specs.Heaps.{Heap, MOST}
+use Rattle.object_heap.proofs.Sound.{IsLive-last}
+use Rattle.row_heap.proofs.Sound.{IsRowHeap-added}
+use Rattle.row_heap.proofs.heap.RowHeap.add_object.Goals as goal
+
+pub invariant_of-self-2 : goal.invariant_of-self-2
+invariant_of-self-2 g c =
+    let old = c.self.inside in
+    let seen = rw (← c.self.view_is) at c.requires in
+    let len = length-map old.rows (λ r. r.fields) in
+    let row : c.in_ok-row.row.items ≡ replicate c.args.fields None = c.in_ok-row.ensures.items_if_clones_equal (search rules) in
+    let few : length old.rows < MOST = omega (arith, seen, len) in
+    let space : length old.rows + 1 ≤ vec_capacity c.reserve.new.self =
+    omega (arith, c.in_ok-reserve.ensures.ok, c.reserve.ensures.len, c.made-made.ensures, c.len.ensures, old.freed.ok, len, length-map old.freed.items g.N.Number.number, c.self.invariant.sound.flags.count) in
+    IsRowHeap-added _ _ _ _ _ _ _ _ _ _ _ _ c.args.fields _ c.self.invariant few space c.in_ok-add.ensures.ok row refl refl (ap (map g.N.Number.number) c.reserve.ensures.items)
+
+pub returns-clause-live : goal.returns-clause-live
+returns-clause-live g c =
+    let rows = c.self.inside.rows in
+    let len = length-map rows (λ r. r.fields) in
+    let more : length c.add.new.self ≡ length rows + 1 = ap length c.in_ok-add.ensures.ok ∙ length-append rows _ in
+    IsLive-last _ _ _ c.self.invariant.sound.tidy (omega (arith, c.made-made.ensures, len)) (omega (arith, more, len, length-map c.add.new.self (λ r. r.fields))) (ap (map g.N.Number.number) c.reserve.ensures.items)

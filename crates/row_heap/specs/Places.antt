@@ -1,0 +1,42 @@
+-- Rows by number: an index from each number to the key under which a slab has the row. A removed row's memory serves the next
+-- row, and its fields are still seen. (This project's own; the index is the object table of a Smalltalk heap.)
+use Rattle.std.specs.Prelude.{◌≡◌, ℕ, Bool, true, false, List, [], map, Option, Some, None, slice_get}
+use Rattle.joint_model.specs.Heaps.{numbered_at}
+use Rattle.slab.specs.Slab.{Slab, get}
+use Rattle.row_heap.specs.declared.places.Row.{Row}
+use Rattle.row_heap.specs.declared.places.Place.{Place}
+use Rattle.row_heap.specs.declared.places.Place.TheVariants.{At, Gone}
+
+-- a row as it is seen: its fields, where its references begin, its mark, its link, and whether it stands
+pub record Seen : Type 0 where
+  pub fields : List (Option ℕ)
+  pub first : ℕ
+  pub marked : Bool
+  pub link : ℕ
+  pub stands : Bool
+
+-- a row that stands
+abbrev pub standing : Row → Seen
+standing r = record { fields = r.fields.items; first = r.first; marked = r.marked; link = r.link; stands = true }
+
+-- a row that was removed: its fields alone are seen
+abbrev pub gone : List (Option ℕ) → Seen
+gone fields = record { fields = fields; first = 0; marked = false; link = 0; stands = false }
+
+-- the row of a place
+abbrev pub seen_at : Slab Row → Place → Seen
+seen_at s (At key) = elim (get s key) [ None ↦ gone [] | Some r ↦ standing r ]
+seen_at s (Gone kept) = gone kept.value.items
+
+-- the row of a number; a removed one without fields where there is none
+abbrev pub row_at : List Seen → ℕ → Seen
+row_at rows x = elim (numbered_at rows x) [ None ↦ gone [] | Some r ↦ r ]
+
+-- the row without its mark
+abbrev pub unmarked_row : Seen → Seen
+unmarked_row r = record r { marked = false }
+
+-- each key of the index has a row, and stands in the index once
+pub record IsIndex (s : Slab Row) (places : List Place) : Type 0 where
+  pub there : (i k : ℕ) → slice_get places i ≡ Some (At k) → (r : Row) × (get s k ≡ Some r)
+  pub once : (i j k : ℕ) → slice_get places i ≡ Some (At k) → slice_get places j ≡ Some (At k) → i ≡ j

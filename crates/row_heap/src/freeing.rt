@@ -1,0 +1,39 @@
+// Freeing: rows are removed and give their memory back, and their numbers come last in the list of freed objects, which has room for each.
+
+ghost use Rattle.std.specs.Prelude.{◌≡◌, ◌+◌, ◌≤◌, ◌++◌, List, map, All, length, vec_capacity};
+ghost use Rattle.joint_model.specs.Components.{Rises};
+ghost use Rattle.joint_model.specs.Heaps.{with_freed};
+ghost use Rattle.object_heap.specs.Flags.{IsUp, up_count};
+ghost use Rattle.object_heap.specs.Tidy.{CanFree};
+ghost use Rattle.row_heap.specs.Rows.{NoneRefers, RowsFreed, stands_in};
+
+use crate::heap::RowHeap;
+use crate::places::Rows;
+use object_heap::Number;
+
+impl<N: Number> RowHeap<N> {
+    /// Frees the objects of a list. It takes no memory, and its time goes by the list alone.
+    pub fn free(&mut self, xs: &[N])
+        requires can { CanFree self.old.heap (map N.number xs.now) }
+        requires ends { NoneRefers self.old (map N.number xs.now) }
+        ensures heap { self.new.heap ≡ with_freed self.old.heap (map N.number xs.now) }
+        ensures rest { self.new ≡ record self.old { heap = self.new.heap; marks = self.new.marks; links = self.new.links } }
+    {
+        free_rows(xs, &mut self.rows, &mut self.freed);
+    }
+}
+
+// Removes the rows of a list, and puts their numbers on the list of freed ones.
+fn free_rows<N: Number>(xs: &[N], rows: &mut Rows, freed: &mut Vec<N>)
+    requires up { All (IsUp (stands_in rows.old)) (map N.number xs.now) }
+    requires rises { Rises (map N.number xs.now) }
+    requires room { length freed.old.items + up_count (stands_in rows.old) ≤ vec_capacity freed.old }
+    ensures rows { RowsFreed (map N.number xs.now) rows.old rows.new }
+    ensures freed { freed.new.items ≡ freed.old.items ++ xs.now }
+    ensures capacity { vec_capacity freed.new ≡ vec_capacity freed.old }
+{
+    for x in xs {
+        rows.free(x.get() as usize);
+        freed.push_reserved(*x);
+    }
+}
