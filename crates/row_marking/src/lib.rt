@@ -27,9 +27,14 @@ ghost use Rattle.row_marking.specs.Traces.{Shape, Leads, IsLastBelow, RefersFrom
 
 /// Rows that can be marked. Not every number need be a row: what fields and references of rows lead to is one, and so is what has a mark.
 pub trait Traced {
-    ghost shape: { Self → Shape };
+    // All that a marking leaves as it is.
+    ghost Kept: { Type 0 };
 
-    ghost is_row: { Self → ℕ → Type 0 };
+    ghost kept: { Self → Kept };
+
+    ghost shape: { Kept → Shape };
+
+    ghost is_row: { Kept → ℕ → Type 0 };
 
     ghost marks: { Self → List Bool };
 
@@ -37,46 +42,45 @@ pub trait Traced {
 
     /// How many fields row `x` has.
     fn degree(&self, x: usize) -> usize
-        requires { is_row self.now x }
-        ensures { result ≡ length ((shape self.now).fields x) };
+        requires { is_row (kept self.now) x }
+        ensures { result ≡ length ((shape (kept self.now)).fields x) };
 
     /// What field `i` of row `x` holds.
     fn field(&self, x: usize, i: usize) -> Option<u32>
-        requires row { is_row self.now x }
-        requires place { i < length ((shape self.now).fields x) }
-        ensures at { slice_get ((shape self.now).fields x) i ≡ Some result }
-        ensures within { IfSome result (λ y. (1 ≤ y) × is_row self.now y) };
+        requires row { is_row (kept self.now) x }
+        requires place { i < length ((shape (kept self.now)).fields x) }
+        ensures at { slice_get ((shape (kept self.now)).fields x) i ≡ Some result }
+        ensures within { IfSome result (λ y. (1 ≤ y) × is_row (kept self.now) y) };
 
     /// Where the references of row `x` begin, counted from 1; 0 where it has none.
     fn first_reference(&self, x: usize) -> u32
-        requires { is_row self.now x }
-        ensures { IsLastBelow (shape self.now).refs x (length (shape self.now).refs) result };
+        requires { is_row (kept self.now) x }
+        ensures { IsLastBelow (shape (kept self.now)).refs x (length (shape (kept self.now)).refs) result };
 
     /// The row to which a reference of row `x` leads, and the next one of that row.
     fn reference(&self, x: usize, r: u32) -> (u32, u32)
-        requires row { is_row self.now x }
+        requires row { is_row (kept self.now) x }
         requires some { 1 ≤ r }
-        requires of { (y : ℕ) × (slice_get (shape self.now).refs (r - 1) ≡ Some (x, y)) }
-        ensures to { slice_get (shape self.now).refs (r - 1) ≡ Some (x, result.0) }
-        ensures within { (1 ≤ result.0) × is_row self.now result.0 }
-        ensures next { IsLastBelow (shape self.now).refs x (r - 1) result.1 };
+        requires of { (y : ℕ) × (slice_get (shape (kept self.now)).refs (r - 1) ≡ Some (x, y)) }
+        ensures to { slice_get (shape (kept self.now)).refs (r - 1) ≡ Some (x, result.0) }
+        ensures within { (1 ≤ result.0) × is_row (kept self.now) result.0 }
+        ensures next { IsLastBelow (shape (kept self.now)).refs x (r - 1) result.1 };
 
     /// Whether row `x` is marked.
     fn is_marked(&self, x: usize) -> bool
-        requires { is_row self.now x }
+        requires { is_row (kept self.now) x }
         ensures { slice_get (marks self.now) x ≡ Some result };
 
     /// The link of a marked row.
     fn link(&self, x: usize) -> u32
         requires { IsMarked (marks self.now) x }
         ensures link { slice_get (links self.now) x ≡ Some result }
-        ensures row { is_row self.now x };
+        ensures row { is_row (kept self.now) x };
 
     /// Marks row `x`, and gives it a link.
     fn mark(&mut self, x: usize, link: u32)
-        requires { is_row self.old x }
-        ensures shape { shape self.new ≡ shape self.old }
-        ensures rows { (y : ℕ) → is_row self.old y → is_row self.new y }
+        requires { is_row (kept self.old) x }
+        ensures kept { kept self.new ≡ kept self.old }
         ensures marks { marks self.new ≡ slice_set (marks self.old) x true }
         ensures links { links self.new ≡ slice_set (links self.old) x link }
         ensures len { x < length (links self.old) };
@@ -85,9 +89,8 @@ pub trait Traced {
 /// Marks row `y`; one that wasn't marked comes first in the list of grey rows.
 pub fn visit<G: Traced>(g: &mut G, y: u32, grey: &mut u32)
     requires some { 1 ≤ y }
-    requires row { G.is_row g.old y }
-    ensures shape { G.shape g.new ≡ G.shape g.old }
-    ensures rows { (k : ℕ) → G.is_row g.old k → G.is_row g.new k }
+    requires row { G.is_row (G.kept g.old) y }
+    ensures kept { G.kept g.new ≡ G.kept g.old }
     ensures greyed { Greyed (λ z. z ≡ y) (G.marks g.old) (G.links g.old) grey.old (G.marks g.new) (G.links g.new) grey.new }
 {
     if !g.is_marked(y as usize) {
@@ -98,10 +101,9 @@ pub fn visit<G: Traced>(g: &mut G, y: u32, grey: &mut u32)
 
 // Marks what the fields of row `x` hold.
 fn scan_fields<G: Traced>(g: &mut G, x: usize, grey: &mut u32)
-    requires { G.is_row g.old x }
-    ensures shape { G.shape g.new ≡ G.shape g.old }
-    ensures rows { (k : ℕ) → G.is_row g.old k → G.is_row g.new k }
-    ensures greyed { Greyed (λ y. Contains ((G.shape g.old).fields x) (Some y)) (G.marks g.old) (G.links g.old) grey.old (G.marks g.new) (G.links g.new) grey.new }
+    requires { G.is_row (G.kept g.old) x }
+    ensures kept { G.kept g.new ≡ G.kept g.old }
+    ensures greyed { Greyed (λ y. Contains ((G.shape (G.kept g.old)).fields x) (Some y)) (G.marks g.old) (G.links g.old) grey.old (G.marks g.new) (G.links g.new) grey.new }
 {
     let degree = g.degree(x);
     for i in 0..degree {
@@ -113,10 +115,9 @@ fn scan_fields<G: Traced>(g: &mut G, x: usize, grey: &mut u32)
 
 // Marks what the references of row `x` lead to.
 fn scan_references<G: Traced>(g: &mut G, x: usize, grey: &mut u32)
-    requires { G.is_row g.old x }
-    ensures shape { G.shape g.new ≡ G.shape g.old }
-    ensures rows { (k : ℕ) → G.is_row g.old k → G.is_row g.new k }
-    ensures greyed { Greyed (RefersFrom (G.shape g.old).refs 0 x) (G.marks g.old) (G.links g.old) grey.old (G.marks g.new) (G.links g.new) grey.new }
+    requires { G.is_row (G.kept g.old) x }
+    ensures kept { G.kept g.new ≡ G.kept g.old }
+    ensures greyed { Greyed (RefersFrom (G.shape (G.kept g.old)).refs 0 x) (G.marks g.old) (G.links g.old) grey.old (G.marks g.new) (G.links g.new) grey.new }
 {
     let mut r = g.first_reference(x);
     while r != 0 {
@@ -128,10 +129,9 @@ fn scan_references<G: Traced>(g: &mut G, x: usize, grey: &mut u32)
 
 // Marks what row `x` leads to.
 fn scan<G: Traced>(g: &mut G, x: usize, grey: &mut u32)
-    requires { G.is_row g.old x }
-    ensures shape { G.shape g.new ≡ G.shape g.old }
-    ensures rows { (k : ℕ) → G.is_row g.old k → G.is_row g.new k }
-    ensures greyed { Greyed (Leads (G.shape g.old) x) (G.marks g.old) (G.links g.old) grey.old (G.marks g.new) (G.links g.new) grey.new }
+    requires { G.is_row (G.kept g.old) x }
+    ensures kept { G.kept g.new ≡ G.kept g.old }
+    ensures greyed { Greyed (Leads (G.shape (G.kept g.old)) x) (G.marks g.old) (G.links g.old) grey.old (G.marks g.new) (G.links g.new) grey.new }
 {
     scan_fields(g, x, grey);
     scan_references(g, x, grey);
@@ -139,11 +139,10 @@ fn scan<G: Traced>(g: &mut G, x: usize, grey: &mut u32)
 
 /// Carries a marking to its end: the grey rows are scanned until none is left. It takes no memory.
 pub fn finish<G: Traced>(g: &mut G, grey: u32)
-    requires { IsGreying (Leads (G.shape g.old)) (G.marks g.old) (G.links g.old) grey }
-    ensures shape { G.shape g.new ≡ G.shape g.old }
-    ensures rows { (k : ℕ) → G.is_row g.old k → G.is_row g.new k }
-    ensures marks { (roots : List ℕ) (before : List Bool) → Greying roots (Leads (G.shape g.old)) before (G.marks g.old) (G.links g.old) grey → (k : ℕ) → IsMarked (G.marks g.new) k ↔ (IsMarked before k ⊎ Reached (Contains roots) (Leads (G.shape g.old)) k) }
-    ensures closed { IsClosed (Leads (G.shape g.new)) (G.marks g.new) }
+    requires { IsGreying (Leads (G.shape (G.kept g.old))) (G.marks g.old) (G.links g.old) grey }
+    ensures kept { G.kept g.new ≡ G.kept g.old }
+    ensures marks { (roots : List ℕ) (before : List Bool) → Greying roots (Leads (G.shape (G.kept g.old))) before (G.marks g.old) (G.links g.old) grey → (k : ℕ) → IsMarked (G.marks g.new) k ↔ (IsMarked before k ⊎ Reached (Contains roots) (Leads (G.shape (G.kept g.old))) k) }
+    ensures closed { IsClosed (Leads (G.shape (G.kept g.new))) (G.marks g.new) }
 {
     let mut head = grey;
     while head != 0 {
@@ -155,9 +154,8 @@ pub fn finish<G: Traced>(g: &mut G, grey: u32)
 
 // Marks the roots of a list, each of which comes into the list of grey rows if it wasn't marked.
 fn mark_roots<G: Traced>(g: &mut G, roots: &[u32], grey: &mut u32)
-    requires roots { All (λ y. (1 ≤ y) × G.is_row g.old y) roots.now }
-    ensures shape { G.shape g.new ≡ G.shape g.old }
-    ensures rows { (k : ℕ) → G.is_row g.old k → G.is_row g.new k }
+    requires roots { All (λ y. (1 ≤ y) × G.is_row (G.kept g.old) y) roots.now }
+    ensures kept { G.kept g.new ≡ G.kept g.old }
     ensures greyed { Greyed (Contains roots.now) (G.marks g.old) (G.links g.old) grey.old (G.marks g.new) (G.links g.new) grey.new }
 {
     for y in roots {
@@ -168,12 +166,11 @@ fn mark_roots<G: Traced>(g: &mut G, roots: &[u32], grey: &mut u32)
 /// Marks the roots with all that they reach, and keeps what was marked, which has to be closed under the edges. It takes
 /// no memory.
 pub fn mark_from<G: Traced>(g: &mut G, roots: &[u32])
-    requires roots { All (λ y. (1 ≤ y) × G.is_row g.old y) roots.now }
-    requires shut { IsClosed (Leads (G.shape g.old)) (G.marks g.old) }
-    ensures shape { G.shape g.new ≡ G.shape g.old }
-    ensures rows { (k : ℕ) → G.is_row g.old k → G.is_row g.new k }
-    ensures marks { (k : ℕ) → IsMarked (G.marks g.new) k ↔ (IsMarked (G.marks g.old) k ⊎ Reached (Contains roots.now) (Leads (G.shape g.old)) k) }
-    ensures closed { IsClosed (Leads (G.shape g.new)) (G.marks g.new) }
+    requires roots { All (λ y. (1 ≤ y) × G.is_row (G.kept g.old) y) roots.now }
+    requires shut { IsClosed (Leads (G.shape (G.kept g.old))) (G.marks g.old) }
+    ensures kept { G.kept g.new ≡ G.kept g.old }
+    ensures marks { (k : ℕ) → IsMarked (G.marks g.new) k ↔ (IsMarked (G.marks g.old) k ⊎ Reached (Contains roots.now) (Leads (G.shape (G.kept g.old))) k) }
+    ensures closed { IsClosed (Leads (G.shape (G.kept g.new))) (G.marks g.new) }
 {
     let mut grey = 0;
     mark_roots(g, roots, &mut grey);

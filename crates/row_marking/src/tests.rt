@@ -12,6 +12,10 @@ struct Five {
 }
 
 impl Traced for Five {
+    ghost Kept = { Unit {0} };
+
+    ghost kept = { λ f. tt };
+
     ghost shape = { λ f. record { fields = λ x. Some (x % 3 + 3) ∷ None ∷ []; refs = (1, 2) ∷ [] } };
 
     ghost is_row = { λ f x. x < 6 };

@@ -6,10 +6,9 @@ use Rattle.row_marking.proofs.finish.Given as goal
 
 abbrev pub invariant-loop-head : goal.invariant-loop-head
 invariant-loop-head g l = record {
-  shape : g.G.Traced.shape l.g ≡ g.G.Traced.shape l.fn.g;
-  rows : (k : ℕ) → g.G.Traced.is_row l.fn.g k → g.G.Traced.is_row l.g k;
-  goes : IsGreying (Leads (g.G.Traced.shape l.fn.g)) (g.G.Traced.marks l.g) (g.G.Traced.links l.g) l.head;
-  greying : (roots : List ℕ) (before : List Bool) → Greying roots (Leads (g.G.Traced.shape l.fn.g)) before (g.G.Traced.marks l.fn.g) (g.G.Traced.links l.fn.g) l.fn.grey → Greying roots (Leads (g.G.Traced.shape l.fn.g)) before (g.G.Traced.marks l.g) (g.G.Traced.links l.g) l.head;
+  kept : g.G.Traced.kept l.g ≡ g.G.Traced.kept l.fn.g;
+  goes : IsGreying (Leads (g.G.Traced.shape (g.G.Traced.kept l.fn.g))) (g.G.Traced.marks l.g) (g.G.Traced.links l.g) l.head;
+  greying : (roots : List ℕ) (before : List Bool) → Greying roots (Leads (g.G.Traced.shape (g.G.Traced.kept l.fn.g))) before (g.G.Traced.marks l.fn.g) (g.G.Traced.links l.fn.g) l.fn.grey → Greying roots (Leads (g.G.Traced.shape (g.G.Traced.kept l.fn.g))) before (g.G.Traced.marks l.g) (g.G.Traced.links l.g) l.head;
 }
 
 abbrev pub decreases-loop-head : goal.decreases-loop-head

@@ -8,24 +8,22 @@ use Rattle.row_marking.proofs.scan_fields.Goals.{in-Some, in_default}
 
 pub loop-i-preserved : goal.loop-i-preserved
 loop-i-preserved g c =
-    let xs = (g.G.Traced.shape c.args.g.now).fields c.args.x in
+    let xs = (g.G.Traced.shape (g.G.Traced.kept c.args.g.now)).fields c.args.x in
     elim c.match-field.branch [
       | in-Some w ↦ record {
-        shape = rw w.g-is (w.visit.ensures.shape ∙ c.loop-i.invariant.shape);
-        rows = rw w.g-is (λ k r. w.visit.ensures.rows k (c.loop-i.invariant.rows k r));
-        greyed = rw (w.g-is, w.grey-is, take-next xs c.loop-i.i (Some w.in-Some.y) (rw c.loop-i.invariant.shape at w.in-Some.ensures.at))
+        kept = rw w.g-is (w.visit.ensures.kept ∙ c.loop-i.invariant.kept);
+        greyed = rw (w.g-is, w.grey-is, take-next xs c.loop-i.i (Some w.in-Some.y) (rw c.loop-i.invariant.kept at w.in-Some.ensures.at))
             (Greyed-push_some _ _ _ _ _ _ _ _ _ _ _ c.loop-i.invariant.greyed w.visit.ensures.greyed);
       }
       | in_default w ↦ record {
-        shape = rw w.g-is c.loop-i.invariant.shape;
-        rows = rw w.g-is c.loop-i.invariant.rows;
-        greyed = rw (w.g-is, w.grey-is, take-next xs c.loop-i.i None (rw c.loop-i.invariant.shape at w.in_default.ensures.at))
+        kept = rw w.g-is c.loop-i.invariant.kept;
+        greyed = rw (w.g-is, w.grey-is, take-next xs c.loop-i.i None (rw c.loop-i.invariant.kept at w.in_default.ensures.at))
             (Greyed-push_none _ _ _ _ _ _ _ c.loop-i.invariant.greyed);
       }
     ]
 
 pub returns-clause-greyed : goal.returns-clause-greyed
 returns-clause-greyed g c =
-    let xs = (g.G.Traced.shape c.args.g.now).fields c.args.x in
+    let xs = (g.G.Traced.shape (g.G.Traced.kept c.args.g.now)).fields c.args.x in
     let all : length xs ≤ c.loop-i.i = omega (arith, c.loop-i-test.false, c.degree-degree.ensures) in
     rw take_all at c.loop-i.invariant.greyed

@@ -5,7 +5,6 @@ use Rattle.row_marking.proofs.scan_fields.Given as goal
 
 abbrev pub invariant-loop-i : goal.invariant-loop-i
 invariant-loop-i g l = record {
-  shape : g.G.Traced.shape l.g ≡ g.G.Traced.shape l.fn.g;
-  rows : (k : ℕ) → g.G.Traced.is_row l.fn.g k → g.G.Traced.is_row l.g k;
-  greyed : Greyed (λ y. Contains (take l.i ((g.G.Traced.shape l.fn.g).fields l.x)) (Some y)) (g.G.Traced.marks l.fn.g) (g.G.Traced.links l.fn.g) l.fn.grey (g.G.Traced.marks l.g) (g.G.Traced.links l.g) l.grey;
+  kept : g.G.Traced.kept l.g ≡ g.G.Traced.kept l.fn.g;
+  greyed : Greyed (λ y. Contains (take l.i ((g.G.Traced.shape (g.G.Traced.kept l.fn.g)).fields l.x)) (Some y)) (g.G.Traced.marks l.fn.g) (g.G.Traced.links l.fn.g) l.fn.grey (g.G.Traced.marks l.g) (g.G.Traced.links l.g) l.grey;
 }

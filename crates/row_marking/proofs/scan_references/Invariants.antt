@@ -5,10 +5,9 @@ use Rattle.row_marking.proofs.scan_references.Given as goal
 
 abbrev pub invariant-loop-r : goal.invariant-loop-r
 invariant-loop-r g l = record {
-  shape : g.G.Traced.shape l.g ≡ g.G.Traced.shape l.fn.g;
-  rows : (k : ℕ) → g.G.Traced.is_row l.fn.g k → g.G.Traced.is_row l.g k;
-  there : 1 ≤ l.r → (y : ℕ) × (slice_get (g.G.Traced.shape l.fn.g).refs (l.r - 1) ≡ Some (l.x, y));
-  greyed : Greyed (RefersFrom (g.G.Traced.shape l.fn.g).refs l.r l.x) (g.G.Traced.marks l.fn.g) (g.G.Traced.links l.fn.g) l.fn.grey (g.G.Traced.marks l.g) (g.G.Traced.links l.g) l.grey;
+  kept : g.G.Traced.kept l.g ≡ g.G.Traced.kept l.fn.g;
+  there : 1 ≤ l.r → (y : ℕ) × (slice_get (g.G.Traced.shape (g.G.Traced.kept l.fn.g)).refs (l.r - 1) ≡ Some (l.x, y));
+  greyed : Greyed (RefersFrom (g.G.Traced.shape (g.G.Traced.kept l.fn.g)).refs l.r l.x) (g.G.Traced.marks l.fn.g) (g.G.Traced.links l.fn.g) l.fn.grey (g.G.Traced.marks l.g) (g.G.Traced.links l.g) l.grey;
 }
 
 abbrev pub decreases-loop-r : goal.decreases-loop-r
