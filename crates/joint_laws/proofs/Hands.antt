@@ -22,7 +22,7 @@ doing-set_cases (x ∷ ds) (suc t) d (suc u) = elim (doing-set_cases ds t d u) [
 pub in_hand-free : (h : ℕ) → HasInHand free h → ⊥
 in_hand-free h w = w
 
-opening-free : (n t : ℕ) → doing_in (replicate n free) t ≡ free
+pub opening-free : (n t : ℕ) → doing_in (replicate n free) t ≡ free
 opening-free zero t = refl
 opening-free (suc n) zero = refl
 opening-free (suc n) (suc t) = opening-free n t

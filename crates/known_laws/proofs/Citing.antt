@@ -1,7 +1,7 @@
 -- Each entry of a past cites what it has to. What a thread is in the midst of was begun by an entry of the past, with its number,
 -- line and data; and the driver's stand has the number of its snap, and of its clear, which stand in the past. The order of each
 -- caller's events lets an entry come only with that number.
-use Rattle.std.proofs.Common.{◌≡◌, ◌⊎◌, inl, inr, ⊎_elim, ℕ, zero, suc, List, [], ◌∷◌, length, replicate, Option, Some, None, refl, sym, ap, ◌∙◌, subst}
+use Rattle.std.proofs.Common.{◌≡◌, ◌⊎◌, inl, inr, ⊎_elim, ℕ, List, [], ◌∷◌, length, Option, Some, None, refl, sym, ap, ◌∙◌, subst}
 use Rattle.joint_model.specs.declared.names.Thread.{Thread}
 use Rattle.joint_model.specs.declared.names.Thread.TheVariants.{M, P, C}
 use Rattle.joint_model.specs.declared.names.Sort.{Sort}
@@ -22,7 +22,7 @@ use Rattle.joint_model.specs.Managed.{Managed}
 use Rattle.joint_model.specs.Peers.{Issued}
 use Rattle.joint_model.specs.Told.{Told, Noted, contraction_of, references_of, resolution_of, phase_of}
 use Rattle.joint_laws.specs.LinkedInvariants.{doing_in}
-use Rattle.joint_laws.proofs.Hands.{doing-set_cases}
+use Rattle.joint_laws.proofs.Hands.{doing-set_cases, opening-free}
 use Rattle.known_laws.specs.Known.{MayComeLater}
 use Rattle.known_laws.specs.Pasts.{In, Lawful, end_of, next_of}
 use Rattle.known_laws.specs.Citations.{HasCited, IsMakeOf, IsLendOf, IsGripOf, IsNotNew, IsGiveOf, IsMeetOf, IsSnapOf, IsClearOf, Cites, PastsCite}
@@ -112,13 +112,8 @@ pub record Backed (h : List Noted) : Type 0 where
   pub hands : (t : ℕ) → WasBegun h (M t) (doing_at (end_of h).control t)
   pub stand : WasOpened h (end_of h).control.stand
 
-opening-free : (t : ℕ) → WasBegun [] (M t) (doing_at (end_of []).control t)
-opening-free t = subst (WasBegun [] (M t)) (sym (free_at 9 t)) tt
-  where
-    free_at : (n t : ℕ) → doing_in (replicate n free) t ≡ free
-    free_at zero t = refl
-    free_at (suc n) zero = refl
-    free_at (suc n) (suc t) = free_at n t
+opening-begun : (t : ℕ) → WasBegun [] (M t) (doing_at (end_of []).control t)
+opening-begun t = subst (WasBegun [] (M t)) (sym (opening-free 9 t)) tt
 
 backed-step : (x : Noted) (h : List Noted) → MayComeLater (next_of h) (end_of h) x → Backed h → Backed (x ∷ h)
 backed-step x h may b = by x.entry.made.caller refl may.comes.order
@@ -148,7 +143,7 @@ backed-step x h may b = by x.entry.made.caller refl may.comes.order
     )
 
 pub backed : (h : List Noted) → Lawful h → Backed h
-backed [] l = record { hands = opening-free; stand = tt }
+backed [] l = record { hands = opening-begun; stand = tt }
 backed (x ∷ h) l = backed-step x h l.0 (backed h l.1)
 
 -- what a backed stand or hand lets cite

@@ -24,10 +24,10 @@ use Rattle.joint_model.proofs.Members.{Contains-nil, Contains-cons_cases}
 use Rattle.known_laws.specs.Known.{TellsPlainly}
 use Rattle.known_laws.specs.Pasts.{In, Lawful, Within, end_of, is_in, role_of}
 use Rattle.known_laws.specs.Growing.{AreJoined, HasGrown, grown, untold, entries_in}
-use Rattle.known_laws.specs.Drawn.{drawn_by, drawn, IsToldIn, of_drawn, AreDrawn, DrawnIsOne, drawn_on, DrawnLinesGrow, DrawnLinesJoin, FreedIsDrawn}
+use Rattle.known_laws.specs.Drawn.{drawn_by, drawn, IsToldIn, of_drawn, AreDrawn, NothingIsDrawn, DrawnIsOne, drawn_on, DrawnLinesGrow, DrawnLinesJoin, FreedIsDrawn}
 use Rattle.known_laws.proofs.CitedOnce.{each_stands_behind}
 use Rattle.known_laws.proofs.FrozenPasts.{goes_on, one_behind}
-use Rattle.known_laws.proofs.Growing.{one_run, known_lines_grow, known_lines_join}
+use Rattle.known_laws.proofs.Growing.{nothing_is_known, one_run, known_lines_grow, known_lines_join}
 use Rattle.known_laws.proofs.Later.{kept_end}
 use Rattle.known_laws.proofs.Parts.{same_managed}
 use Rattle.known_laws.proofs.PastLines.{in_role, in_right}
@@ -61,6 +61,9 @@ told_alike whole a b la lb wa wb d t p =
 
 told_there : (h : List Noted) (d : Drawn) (t : IsToldIn h d) → In h t.entry
 told_there h d t = subst (λ l. In l t.entry) (sym t.all) (in_right t.front (t.entry ∷ t.back) t.entry (inl refl))
+
+pub nothing_is_drawn : NothingIsDrawn
+nothing_is_drawn = record { known = nothing_is_known; told = λ i d c. absurd (Contains-nil d c) }
 
 pub drawn_is_one : DrawnIsOne
 drawn_is_one whole ls ms a b numbered wa wb i j d e c f n =

@@ -17,7 +17,7 @@ use Rattle.joint_model.specs.Told.{Told, Noted, phase_of}
 use Rattle.known_laws.specs.Known.{TellsPlainly}
 use Rattle.known_laws.specs.Telling.{MayBeTold}
 use Rattle.known_laws.specs.Pasts.{role_of, is_in, line, of_line, RunsFrom, In, end_of, Within, AreWithin, AreAlike, bare, Joined, driver_line}
-use Rattle.known_laws.specs.Growing.{untold, entries, AreKnown, grown, AreBelow, KnownLinesGrow, entries_in, Begin, KnownLinesJoin, LinesGiveParts, DeadPartIsFrozen}
+use Rattle.known_laws.specs.Growing.{untold, entries, AreKnown, NothingIsKnown, grown, AreBelow, KnownLinesGrow, entries_in, Begin, KnownLinesJoin, LinesGiveParts, DeadPartIsFrozen}
 use Rattle.known_laws.proofs.PastLines.{in_role, line-in, length_begins, shorter_begins, in-line, in_begins}
 use Rattle.known_laws.proofs.PastsJoin.{counted}
 use Rattle.known_laws.proofs.Parts.{same_managed, same_peer, same_control}
@@ -26,11 +26,14 @@ use Rattle.known_laws.proofs.FrozenPasts.{same_dead_part}
 use Rattle.known_laws.proofs.Agreeing.{entry_pasts_join, pasts_agree, line_bare, tell, within_told, self_a, self_b}
 use Rattle.joint_model.specs.Draws.{NumberedFrom}
 
+pub nothing_is_known : NothingIsKnown
+nothing_is_known = record { past = []; lawful = tt; same = λ i. refl }
+
 below_in : (n : ℕ) (xs : List Noted) (e : Noted) → AreBelow n (entries xs) → In xs e → e.entry.number < n
 below_in n [] e b p = absurd p
 below_in n (x ∷ xs) e b p = ⊎_elim (λ (q : x ≡ e). subst (λ (z : Noted). z.entry.number < n) q b.0) (λ q. below_in n xs e b.1 q) p
 
-entries_append : (xs ys : List Noted) → entries (xs ++ ys) ≡ entries xs ++ entries ys
+pub entries_append : (xs ys : List Noted) → entries (xs ++ ys) ≡ entries xs ++ entries ys
 entries_append [] ys = refl
 entries_append (x ∷ xs) ys = ap (λ l. x.entry ∷ l) (entries_append xs ys)
 

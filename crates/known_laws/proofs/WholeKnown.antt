@@ -7,6 +7,7 @@ use Rattle.joint_model.specs.Linked.{Linkage, opening_linkage, replayed}
 use Rattle.joint_model.specs.Told.{Noted}
 use Rattle.known_laws.specs.Growing.{LinkedIsKnown, entries, entries_in, turned}
 use Rattle.known_laws.specs.Pasts.{Lawful, end_of, is_in, line, next_of}
+use Rattle.known_laws.proofs.Growing.{entries_append}
 use Rattle.known_laws.proofs.Retelling.{AllPlain, plain_list}
 
 -- the notes in turn, latest first, before a past that they go on
@@ -20,16 +21,12 @@ turned-end : (h ns : List Noted) → end_of (turned h ns) ≡ replayed (end_of h
 turned-end h [] = refl
 turned-end h (x ∷ ns) = turned-end (x ∷ h) ns
 
-entries-append : (xs ys : List Noted) → entries (xs ++ ys) ≡ entries xs ++ entries ys
-entries-append [] ys = refl
-entries-append (x ∷ xs) ys = ap (λ l. x.entry ∷ l) (entries-append xs ys)
-
 turned-line : (i : ℕ) (h ns : List Noted) → entries (line i (turned h ns)) ≡ entries (line i h) ++ entries_in i (entries ns)
 turned-line i h [] = sym (append-nil (entries (line i h)))
 turned-line i h (x ∷ ns) = turned-line i (x ∷ h) ns ∙ by (is_in i x)
   where
     by : (b : Bool) → entries (if b then line i h ++ x ∷ [] else line i h) ++ entries_in i (entries ns) ≡ entries (line i h) ++ (if b then x.entry ∷ entries_in i (entries ns) else entries_in i (entries ns))
-    by true = ap (λ l. l ++ entries_in i (entries ns)) (entries-append (line i h) (x ∷ [])) ∙ append_assoc (entries (line i h)) (x.entry ∷ []) (entries_in i (entries ns))
+    by true = ap (λ l. l ++ entries_in i (entries ns)) (entries_append (line i h) (x ∷ [])) ∙ append_assoc (entries (line i h)) (x.entry ∷ []) (entries_in i (entries ns))
     by false = refl
 
 pub linked_is_known : LinkedIsKnown

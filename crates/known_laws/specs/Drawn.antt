@@ -35,6 +35,10 @@ pub record AreDrawn (lines : ℕ → List Drawn) : Type 0 where
   pub known : AreKnown (λ i. of_drawn (lines i))
   pub told : (i : ℕ) (d : Drawn) → Contains (lines i) d → IsToldIn known.past d
 
+-- before anything is known
+abbrev pub NothingIsDrawn : Type 0
+NothingIsDrawn = AreDrawn (λ i. [])
+
 -- what two seats of one run have of an entry is one: its target and the objects that it frees too
 abbrev pub DrawnIsOne : Type 0
 DrawnIsOne = (whole : List Entry) (ls ms : ℕ → List Drawn) (a : AreDrawn ls) (b : AreDrawn ms) → NumberedFrom 0 whole → Begin whole (λ i. of_drawn (ls i)) → Begin whole (λ i. of_drawn (ms i))

@@ -27,6 +27,10 @@ pub record AreKnown (lines : ℕ → List Entry) : Type 0 where
   pub lawful : Lawful past
   pub same : (i : ℕ) → lines i ≡ entries (line i past)
 
+-- before anything is known
+abbrev pub NothingIsKnown : Type 0
+NothingIsKnown = AreKnown (λ i. [])
+
 -- the lines with a further entry
 abbrev pub grown : (ℕ → List Entry) → Entry → ℕ → List Entry
 grown lines e i = if is_in i (untold e) then lines i ++ e ∷ [] else lines i
