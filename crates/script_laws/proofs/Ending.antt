@@ -1,5 +1,8 @@
--- Held lines end each cycle that they open: each phase goes on from the one before, and at the end those left are there.
+-- Held lines end each cycle that they open. Each word's phases lead from the driver's phase to the next one, the phases left at the end
+-- lead to the idle one, and of all events only those of the first and the last phase open or end a cycle: so behind a snap the resolve
+-- comes before the next snap, and nothing is abandoned.
 use Rattle.std.proofs.Common.{◌≡◌, ◌⊎◌, inl, inr, ℕ, List, [], ◌∷◌, ◌++◌, Option, Some, None, refl, sym, ◌∙◌, ap, subst, append_assoc}
+use Rattle.std.proofs.lemmas.List.{append-nil}
 use Rattle.std.proofs.lemmas.Option.{same_Some}
 use Rattle.joint_model.specs.declared.names.Thread.{Thread}
 use Rattle.joint_model.specs.declared.names.Thread.TheVariants.{C}
@@ -262,12 +265,8 @@ line-ends s number (act.PhaseLine w) es rest h b = word-ends s w (next_phase s.p
 line-ends s number (act.Finalise n) es rest h b = calm-from s.phase es rest (after-calm (act.Finalise n) [] es h) b
 line-ends s number a es rest h b = calm-from s.phase es rest (after-calm a [] es h) b
 
-nil-right : (xs : List Entry) → xs ++ [] ≡ xs
-nil-right [] = refl
-nil-right (x ∷ xs) = ap (λ (l : List Entry). x ∷ l) (nil-right xs)
-
 pub lines-end : (lines : List (ℕ × (Thread × Act))) (s : Standing) (es : List Entry) → HoldsLines s lines es → EndsFrom s.phase es
-lines-end [] s es h = subst (EndsFrom s.phase) (nil-right es) (phases-end s.candidates s.phase (phases_left s.phase) at.Idle es [] (left-lead s.phase) h.events tt)
+lines-end [] s es h = subst (EndsFrom s.phase) (append-nil es) (phases-end s.candidates s.phase (phases_left s.phase) at.Idle es [] (left-lead s.phase) h.events tt)
 lines-end (line ∷ lines) s es h = subst (EndsFrom s.phase) (sym h.2) (line-ends s line.0 line.1.1 h.0 h.1 h.3.events (lines-end lines (standing_after s line.0 line.1.1 h.0) h.1 h.4))
 
 pub held-end : (script : List (Thread × Act)) (es : List Entry) → HoldsInOrder script es → AllCyclesEnd es

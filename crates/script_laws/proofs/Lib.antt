@@ -11,3 +11,4 @@ pub mod ThreadOrder
 pub mod ThreadEnding
 pub mod TwoThreads
 pub mod Growing
+pub mod AllThreads

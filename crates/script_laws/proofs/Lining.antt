@@ -1,5 +1,8 @@
--- The entries of each line, and of all lines, are the same in two such lists.
+-- The entries of each line, and of all lines, are the same in two lists that hold them. Two entries of one phase are one, as the state
+-- has one event of it; a `mark` sweeps exactly where a marking is open; of two refusals on one line both name the driver's phase; and
+-- the events of another operation go by the replies so far.
 use Rattle.std.proofs.Common.{◌≡◌, ◌⊎◌, inl, inr, ℕ, List, [], ◌∷◌, ◌++◌, length, Option, Some, None, refl, sym, ◌∙◌, ap, subst}
+use Rattle.std.proofs.lemmas.List.{append-nil}
 use Rattle.std.proofs.lemmas.Option.{same_Some}
 use Rattle.joint_model.specs.declared.names.Thread.{Thread}
 use Rattle.joint_model.specs.declared.names.Thread.TheVariants.{M, P, C}
@@ -143,10 +146,6 @@ events-share number (M n) s (act.PhaseLine w) es es' l p q = absurd l.1
 events-share number (P n) s (act.PhaseLine w) es es' l p q = absurd l.1
 events-share number t s a es es' l p q = after-shares number t a [] es es' p q
 
-nil-right : (xs : List Entry) → xs ++ [] ≡ xs
-nil-right [] = refl
-nil-right (x ∷ xs) = ap (λ (l : List Entry). x ∷ l) (nil-right xs)
-
 none-left : (ns : List Noted) → entries ns ≡ [] → ns ≡ []
 none-left [] e = refl
 none-left (n ∷ ns) e = absurd (cc)
@@ -156,7 +155,7 @@ pub lines-one : (lines : List (ℕ × (Thread × Act))) (st : Standing) (es es' 
     → NumberedFrom k (entries ns) → NumberedFrom k (entries ns')
     → AllPlain s ns → AllPlain s ns' → ns ≡ ns'
 lines-one [] st es es' k s ns ns' h h' e e' d d' c c' =
-    let f = phases-share st.line st.candidates (phases_left st.phase) es es' h.events h'.events k s ns ns' [] [] d d' h.places h'.places (e ∙ sym (nil-right es)) (e' ∙ sym (nil-right es')) c c' in
+    let f = phases-share st.line st.candidates (phases_left st.phase) es es' h.events h'.events k s ns ns' [] [] d d' h.places h'.places (e ∙ sym (append-nil es)) (e' ∙ sym (append-nil es')) c c' in
     f.here ∙ (ap (λ (l : List Noted). f.front ++ l) (none-left f.back f.left ∙ sym (none-left f.back' f.left')) ∙ sym f.there)
 lines-one (line ∷ lines) st es es' k s ns ns' h h' e e' d d' c c' =
     let f = events-share line.0 line.1.0 st line.1.1 h.0 h'.0 h.3.lawful h.3.events h'.3.events k s ns ns' h.1 h'.1 d d' h.3.places h'.3.places (e ∙ h.2) (e' ∙ h'.2) c c' in

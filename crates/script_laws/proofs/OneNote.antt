@@ -1,5 +1,6 @@
 -- In one state, two entries that may come, told plainly, and have the same caller, line and event are the same, with what is told
--- beside them; of two refusals the phases that the replies name have to be the same.
+-- beside them; of two refusals the phases that the replies name have to be the same. What the event cites is given by the caller's
+-- stand, what is told plainly is one, and the reply is the replay's.
 use Rattle.std.proofs.Common.{◌≡◌, ℕ, Bool, true, false, List, length, Option, sym, ◌∙◌, ap, subst}
 use Rattle.joint_model.specs.declared.names.Thread.{Thread}
 use Rattle.joint_model.specs.declared.names.Thread.TheVariants.{M, P, C}

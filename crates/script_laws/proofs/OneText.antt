@@ -1,4 +1,5 @@
--- Two linked histories with one text are the same: line by line, from the place, the event's words and, of a refusal, the reply's.
+-- Two linked histories with one text are one. Line by line, the text gives the caller and the line, and the event's words; these and the
+-- state give the event; of a refusal the reply's words give its phase. Then the entry and what is told plainly of it are one.
 use Rattle.std.proofs.Common.{◌≡◌, ℕ, List, [], ◌∷◌, ◌++◌, get_or, codes, decimal, length, ◌+◌, refl, sym, ◌∙◌, ap, subst, arith, lit≤}
 use Rattle.std.proofs.lemmas.List.{append_cancel_left}
 use Rattle.joint_model.specs.declared.names.Phase.{Phase}

@@ -1,5 +1,5 @@
 -- The histories of two threads, computed: each thread's lines are held, whichever came first, and both are linked.
-use Rattle.std.proofs.Common.{◌≡◌, ℕ, zero, suc, Bool, true, false, List, [], ◌∷◌, ◌++◌, map, replicate, take, drop, None, refl, sym, ◌∙◌, ap, inl, subst, arith}
+use Rattle.std.proofs.Common.{◌≡◌, ℕ, Bool, true, false, List, [], ◌∷◌, ◌++◌, map, take, drop, None, refl, sym, ◌∙◌, ap, inl, subst, arith}
 use Rattle.std.specs.Prelude.{filter, nat_eq}
 use Rattle.joint_model.specs.declared.names.Thread.{Thread}
 use Rattle.joint_model.specs.declared.names.Thread.TheVariants.{M, P, C}
@@ -9,10 +9,10 @@ use Rattle.joint_model.specs.declared.events.Op.TheVariants as op
 use Rattle.joint_model.specs.declared.events.Reply.{Reply}
 use Rattle.joint_model.specs.declared.events.Reply.TheVariants as says
 use Rattle.joint_model.specs.declared.events.Entry.{Entry}
-use Rattle.joint_model.specs.Control.{free, IsDone}
+use Rattle.joint_model.specs.Control.{IsDone}
 use Rattle.joint_model.specs.Linked.{IsLinked}
 use Rattle.joint_model.specs.Told.{Noted, nothing}
-use Rattle.joint_laws.specs.LinkedInvariants.{doing_in}
+use Rattle.joint_laws.proofs.Hands.{opening-free}
 use Rattle.script_laws.specs.Ending.{AllCyclesEnd}
 use Rattle.script_laws.specs.Holding.{HoldsLines, opening_standing, numbered_from, HoldsInOrder, HoldsPerThread, AreLine, AreOnLine}
 use Rattle.script_laws.specs.Worked.{entry, first_cycle, a_variable, history_of, two_threads, managed_first, peer_first, a_cycle_and_a_thread, a_thread_meanwhile, abandoning, one_snap}
@@ -89,11 +89,6 @@ differ e = let f : 1 ≡ 2 = ap first_line e in omega (arith, f)
 abbrev noted : Entry → Noted
 noted e = record { entry = e; told = nothing }
 
-all-free : (n t : ℕ) → doing_in (replicate n free) t ≡ free
-all-free zero t = refl
-all-free (suc n) zero = refl
-all-free (suc n) (suc t) = all-free n t
-
 abbrev told : List Entry → List Noted
 told es = map noted es
 
@@ -107,7 +102,7 @@ managed_first-linked = record {
       record { event = (((omega arith, omega arith), omega arith), tt); line = omega arith; short = omega arith; lawful = record { allowed = tt; replies = refl }; order = refl },
       (record { event = (((omega arith, omega arith), omega arith), tt); line = omega arith; short = omega arith; lawful = record { allowed = tt; replies = refl }; order = refl }, tt),
     );
-    whole = record { threads = λ t. subst IsDone (sym (all-free 9 t)) tt; driver = tt };
+    whole = record { threads = λ t. subst IsDone (sym (opening-free 9 t)) tt; driver = tt };
     freed_managed = refl;
     freed_peers = refl;
     notices = refl;
@@ -124,7 +119,7 @@ peer_first-linked = record {
       record { event = (((omega arith, omega arith), omega arith), tt); line = omega arith; short = omega arith; lawful = record { allowed = tt; replies = refl }; order = refl },
       (record { event = (((omega arith, omega arith), omega arith), tt); line = omega arith; short = omega arith; lawful = record { allowed = tt; replies = refl }; order = refl }, tt),
     );
-    whole = record { threads = λ t. subst IsDone (sym (all-free 9 t)) tt; driver = tt };
+    whole = record { threads = λ t. subst IsDone (sym (opening-free 9 t)) tt; driver = tt };
     freed_managed = refl;
     freed_peers = refl;
     notices = refl;

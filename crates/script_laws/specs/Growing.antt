@@ -5,7 +5,11 @@ use Rattle.joint_model.specs.declared.names.Phase.TheVariants as at
 use Rattle.joint_model.specs.declared.lines.Act.{Act}
 use Rattle.joint_model.specs.declared.events.Entry.{Entry}
 use Rattle.joint_model.specs.Components.{Rises}
-use Rattle.script_laws.specs.Holding.{Standing, standing_after, AreLine, AreLeft, HoldsLines, HoldsSoFar, numbered_from, lines_of}
+use Rattle.joint_model.specs.Histories.{Finished}
+use Rattle.joint_model.specs.Lines.{IsLine, IsThread}
+use Rattle.joint_model.specs.Linked.{IsLinkedBy}
+use Rattle.joint_model.specs.Told.{Noted}
+use Rattle.script_laws.specs.Holding.{Standing, opening_standing, standing_after, AreLine, AreLeft, HoldsLines, HoldsSoFar, HoldsPerThread, numbered_from, lines_of, entries_by}
 
 -- a further line with its own entries behind all others
 abbrev pub HeldLinesGrow : Type 0
@@ -32,3 +36,8 @@ numbers_of es = map (λ e. e.number) es
 
 abbrev pub RisingEntriesAreOne : Type 0
 RisingEntriesAreOne = (xs ys : List Entry) → Rises (numbers_of xs) → Rises (numbers_of ys) → ((e : Entry) → Contains xs e ↔ Contains ys e) → xs ≡ ys
+
+-- whoever runs each thread that a script can have, with all that it made in a linked history, runs them all
+abbrev pub EachThreadIsAll : Type 0
+EachThreadIsAll = (script : List (Thread × Act)) (h : Finished) (noted : List Noted) → IsLinkedBy h noted → ((line : Thread × Act) → Contains script line → IsLine line.0 line.1)
+    → ((t : Thread) → IsThread t → HoldsLines opening_standing (lines_of t (numbered_from 1 script)) (entries_by t h.entries)) → HoldsPerThread script h.entries

@@ -1,7 +1,7 @@
 // Laws on the linked histories of scripts, each the contract of a function that does nothing.
 
 ghost use Rattle.script_laws.specs.Ending.{HeldCyclesEnd, HeldThreadCyclesEnd, LinkedCyclesEnd, ThreadHistoryEnds};
-ghost use Rattle.script_laws.specs.Growing.{HeldLinesEnd, HeldLinesGrow, IdleLeavesNothing, LinesOfGoOn, NumbersGoOn, RisingEntriesAreOne};
+ghost use Rattle.script_laws.specs.Growing.{EachThreadIsAll, HeldLinesEnd, HeldLinesGrow, IdleLeavesNothing, LinesOfGoOn, NumbersGoOn, RisingEntriesAreOne};
 ghost use Rattle.script_laws.specs.Laws.{HasOneHistory, HasOneText, LineOrderGivesThreadOrder};
 
 /// A script has at most one history in line order: two linked histories that hold its lines are the same in their entries, in what
@@ -11,7 +11,8 @@ pub fn one_history_for_a_script()
 {}
 
 /// Lines come to be held one after another: a further line's entries stand behind all others, and at the end the phases left open. What
-/// was listed so, as it was made, is the history, since lists of the same entries with rising numbers are one.
+/// was listed so, as it was made, is the history, since lists of the same entries with rising numbers are one. What
+/// is held of each thread that a script can have is held of all.
 pub fn held_lines_grow()
     ensures grow { HeldLinesGrow }
     ensures end { HeldLinesEnd }
@@ -19,6 +20,7 @@ pub fn held_lines_grow()
     ensures numbers { NumbersGoOn }
     ensures lines_of { LinesOfGoOn }
     ensures one { RisingEntriesAreOne }
+    ensures each_thread { EachThreadIsAll }
 {}
 
 /// A history that holds a script's lines in line order holds them thread by thread.
