@@ -30,11 +30,11 @@ abbrev Same : Managed → Managed → Type 0
 Same s t = t.pins ≡ s.pins
 
 -- by what a slot names, and by the open cycle
-abbrev weak_by : Managed → ℕ → Option ℕ → Answered Managed
+abbrev pub weak_by : Managed → ℕ → Option ℕ → Answered Managed
 weak_by s k None = answer says.Empty s
 weak_by s k (Some x) = cell_set s k x (slot s.cells k)
 
-abbrev take_by : Managed → ℕ → ℕ → Option ℕ → Answered Managed
+abbrev pub take_by : Managed → ℕ → ℕ → Option ℕ → Answered Managed
 take_by s t v None = answer says.Empty s
 take_by s t v (Some x) = answer (managed_name x) (record s { heap = with_var s.heap v (Some x); pins = slice_set s.pins t None })
 

@@ -1,5 +1,10 @@
 -- Lines with what is drawn beside each entry: the object to which it sets a cell, and the objects that it frees.
-use Rattle.std.specs.Prelude.{◌≡◌, ℕ, ◌⊎◌, if◌then◌else◌, List, [], ◌∷◌, ◌++◌, map, Contains}
+use Rattle.std.specs.Prelude.{◌≡◌, ℕ, ◌⊎◌, nat_eq, if◌then◌else◌, List, [], ◌∷◌, ◌++◌, map, Contains, Option, Some, None}
+use Rattle.joint_model.specs.declared.names.MNum.{MNum}
+use Rattle.joint_model.specs.declared.lines.Act.TheVariants as act
+use Rattle.joint_model.specs.declared.events.Op.{Op}
+use Rattle.joint_model.specs.declared.events.Op.TheVariants as op
+use Rattle.joint_model.specs.Heaps.{slot}
 use Rattle.joint_model.specs.declared.events.Entry.{Entry}
 use Rattle.joint_model.specs.Draws.{Drawn, NumberedFrom}
 use Rattle.joint_model.specs.Histories.{managed_numbers}
@@ -69,3 +74,29 @@ freed_in (x ∷ h) = freed_in h ++ managed_numbers (drawn (end_of h) x).freed
 -- they are those that are freed at its end
 abbrev pub FreedIsDrawn : Type 0
 FreedIsDrawn = (h : List Noted) → Lawful h → (end_of h).managed.managed.heap.freed ≡ freed_in h
+
+-- the cell that a drawn entry sets, and the object: that of a `weak` with a target
+abbrev pub aimed : ℕ → Option MNum → Option (ℕ × ℕ)
+aimed c None = None
+aimed c (Some m) = Some (c, m.0)
+
+abbrev pub sets_by : Op → Option MNum → Option (ℕ × ℕ)
+sets_by (op.Line (act.Weak k v)) target = aimed k.0 target
+sets_by o target = None
+
+abbrev pub sets : Drawn → Option (ℕ × ℕ)
+sets d = sets_by d.entry.made.op d.target
+
+-- a cell's target after an entry that sets a cell or none
+abbrev pub aims_at : ℕ → Option ℕ → Option (ℕ × ℕ) → Option ℕ
+aims_at c target None = target
+aims_at c target (Some p) = if nat_eq p.0 c then Some p.1 else target
+
+-- a cell's target by what the entries of a past are drawn with
+abbrev pub target_in : ℕ → List Noted → Option ℕ
+target_in c [] = None
+target_in c (x ∷ h) = aims_at c (target_in c h) (sets (drawn (end_of h) x))
+
+-- it is the target that the cell has at the past's end
+abbrev pub TargetsAreDrawn : Type 0
+TargetsAreDrawn = (h : List Noted) → Lawful h → (c : ℕ) → slot (end_of h).managed.managed.cells c ≡ target_in c h

@@ -1,4 +1,5 @@
 use Rattle.known_laws.proofs.Drawing.{nothing_is_drawn, drawn_lines_grow, drawn_lines_join, drawn_is_one, freed_is_drawn}
+use Rattle.known_laws.proofs.CellsDrawn.{targets_are_drawn}
 use Rattle.known_laws.proofs.drawn_lines_are_a_past.Goals as goal
 
 pub returns-clause-grow : goal.returns-clause-grow
@@ -15,3 +16,6 @@ returns-clause-freed c = freed_is_drawn
 
 pub returns-clause-first : goal.returns-clause-first
 returns-clause-first c = nothing_is_drawn
+
+pub returns-clause-targets : goal.returns-clause-targets
+returns-clause-targets c = targets_are_drawn
