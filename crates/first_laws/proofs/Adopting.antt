@@ -25,7 +25,8 @@ use Rattle.joint_model.proofs.Deciding.{some-same, test-cases}
 use Rattle.first_laws.proofs.Doings.{alone-idle, doing-freed, adopt-waited}
 use Rattle.first_laws.proofs.Kept.{IsIssued, IsTabled, AreHandlesKept, AreOwnersLive, IsStandKept, IsKept, Steps}
 use Rattle.first_laws.proofs.Making.{peer-known}
-use Rattle.first_laws.proofs.Owners.{owned-same, removed-same}
+use Rattle.joint_laws.proofs.RemovedFlags.{owned-same}
+use Rattle.first_laws.proofs.Owners.{removed-same}
 use Rattle.first_laws.proofs.Places.{numbered-push}
 
 -- the objects with a new one that holds the handle

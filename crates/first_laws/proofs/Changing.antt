@@ -18,7 +18,8 @@ use Rattle.joint_model.proofs.Numbered.{numbered_set-length}
 use Rattle.joint_model.proofs.Deciding.{option-cases, test-cases}
 use Rattle.first_laws.proofs.Doings.{alone-idle, doing-freed}
 use Rattle.first_laws.proofs.Kept.{AreHandlesKept, IsStandKept, IsKept, Steps}
-use Rattle.first_laws.proofs.Owners.{owned-same, removed-same}
+use Rattle.joint_laws.proofs.RemovedFlags.{owned-same}
+use Rattle.first_laws.proofs.Owners.{removed-same}
 
 -- the objects are as many, and the same ones are freed
 pub record IsTame (h k : Heap) : Type 0 where

@@ -25,7 +25,9 @@ use Rattle.joint_model.proofs.Members.{All-members}
 use Rattle.joint_model.proofs.Deciding.{true_false}
 use Rattle.first_laws.proofs.Doings.{begin-snapped, sweep-marked}
 use Rattle.first_laws.proofs.Kept.{IsIssued, AreHandlesKept, AreOwnersLive, IsOpenCut, IsStandKept, IsKept, Steps}
-use Rattle.first_laws.proofs.Owners.{HasOwner, owner-test, test-owner, removed-at, flag_at, removed-swept}
+use Rattle.joint_laws.specs.JointAgreement.{IsOwned}
+use Rattle.joint_laws.proofs.RemovedFlags.{owner-test, test-owner, removed-at, flag_at}
+use Rattle.first_laws.proofs.Owners.{removed-swept}
 
 -- what a handle's place becomes in a joint sweep
 abbrev swept_place : List ℕ → Issued → Option (Option TableRow) → Option (Option TableRow)
@@ -76,13 +78,13 @@ tabled-kept s rows zero row e = (let f : ⊥ = cc in absurd f)
 tabled-kept s rows (suc k) row e = removed-at s k rows ∙ ap (flag_at s (suc k)) e
 
 -- a handle in the table on an unreached peer isn't loose: an object holds it
-unreached-owned : (s : Managed) (taken : List ℕ) (p : PeerReplay) (freed : List ℕ) → AreHandlesKept s taken p → AreUnreached (graph_at s p) freed → (h : ℕ) (i : Issued) → numbered_at p.peers.issued h ≡ Some i → Contains freed i.peer → (row : TableRow) → numbered_at p.table h ≡ Some (Some row) → HasOwner s h
+unreached-owned : (s : Managed) (taken : List ℕ) (p : PeerReplay) (freed : List ℕ) → AreHandlesKept s taken p → AreUnreached (graph_at s p) freed → (h : ℕ) (i : Issued) → numbered_at p.peers.issued h ≡ Some i → Contains freed i.peer → (row : TableRow) → numbered_at p.table h ≡ Some (Some row) → IsOwned s h
 unreached-owned s taken p freed k u h i e c row t = by (is_owned s h) refl
   where
     g : Graph
     g = graph_at s p
 
-    by : (b : Bool) → is_owned s h ≡ b → HasOwner s h
+    by : (b : Bool) → is_owned s h ≡ b → IsOwned s h
     by true o = test-owner s h k.held_length o
     by false o =
         let loose : IsLooseRoot g i.peer = record {

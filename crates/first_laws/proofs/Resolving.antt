@@ -30,7 +30,8 @@ use Rattle.joint_model.proofs.HeapLemmas.{not_freed, IsLive-before, IsLive-spare
 use Rattle.joint_laws.proofs.DriverPeerSteps.{holds-handle_of}
 use Rattle.first_laws.proofs.Flags.{all-out, all-in, handle-listed, listed-handle}
 use Rattle.first_laws.proofs.Kept.{AreHandlesKept, AreOwnersLive, IsCut, IsOpenCut, IsSwept, IsStandKept, IsKept, Steps, joint_at}
-use Rattle.first_laws.proofs.Owners.{owned-same, test-owner, removed-at, flag_at, unfreed-live, live-after}
+use Rattle.joint_laws.proofs.RemovedFlags.{owned-same, test-owner, removed-at, flag_at}
+use Rattle.first_laws.proofs.Owners.{unfreed-live, live-after}
 use Rattle.first_laws.proofs.Places.{places-same}
 use Rattle.first_laws.proofs.Sweeping.{twin-swept, swept-unreached, kept-apart, unreached-dead}
 

@@ -20,7 +20,8 @@ use Rattle.joint_model.proofs.WalkLemmas.{Reached-keeps, Reached-start, Reached-
 use Rattle.joint_model.proofs.HeapLemmas.{IsLive-before}
 use Rattle.first_laws.proofs.Doings.{snap-idle}
 use Rattle.first_laws.proofs.Kept.{AreHandlesKept, AreOwnersLive, IsCut, IsStandKept, IsKept, Steps}
-use Rattle.first_laws.proofs.Owners.{owned-same, removed-same, live-after}
+use Rattle.joint_laws.proofs.RemovedFlags.{owned-same}
+use Rattle.first_laws.proofs.Owners.{removed-same, live-after}
 
 -- the objects after the snapshot
 abbrev after_snap : Managed → List ℕ → List ℕ → List ℕ → Managed

@@ -87,6 +87,8 @@ pub mod MarkedOnce
 pub mod FreedLists
 pub mod GoneAfter
 pub mod Unions
+pub mod RemovedFlags
+pub mod RunStates
 pub mod PlainReplies
 pub mod SpansTold
 pub mod NoticesTold

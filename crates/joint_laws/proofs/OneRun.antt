@@ -46,19 +46,19 @@ one-event j t (op.Resolve k) reply told a c x y = one-resolve j t k reply told a
 one-event j t (op.Abandon k) reply told a c x y = x.state ∙ sym y.state
 one-event j t _ reply told a c x y = x.state ∙ sym y.state
 
-one-step : (j : Joint) (n : Noted) (a c : Joint) → JointStep j n a → JointStep j n c → a ≡ c
+pub one-step : (j : Joint) (n : Noted) (a c : Joint) → JointStep j n a → JointStep j n c → a ≡ c
 one-step j n a c x y = one-event j n.entry.made.caller n.entry.made.op n.entry.made.reply n.told a c x.step y.step
 
 moment-same : (a a' : Joint) (n n' : Noted) (c c' : Joint) → a ≡ a' → n ≡ n' → c ≡ c' → ◌≡◌ {A = Moment} (record { before = a; noted = n; after = c }) (record { before = a'; noted = n'; after = c' })
 moment-same a a' n n' c c' e f g = cc
 
-heads-same : {A : Type 0} (x y : A) (xs ys : List A) → x ∷ xs ≡ y ∷ ys → x ≡ y
+pub heads-same : {A : Type 0} (x y : A) (xs ys : List A) → x ∷ xs ≡ y ∷ ys → x ≡ y
 heads-same x y xs ys e = cc
 
-tails-same : {A : Type 0} (x y : A) (xs ys : List A) → x ∷ xs ≡ y ∷ ys → xs ≡ ys
+pub tails-same : {A : Type 0} (x y : A) (xs ys : List A) → x ∷ xs ≡ y ∷ ys → xs ≡ ys
 tails-same x y xs ys e = cc
 
-cons-nil : {A : Type 0} (x : A) (xs : List A) → x ∷ xs ≡ [] → ⊥
+pub cons-nil : {A : Type 0} (x : A) (xs : List A) → x ∷ xs ≡ [] → ⊥
 cons-nil x xs e = cc
 
 run-from : (i j : Joint) (ms ns : List Moment) → i ≡ j → map (λ (z : Moment). z.noted) ms ≡ map (λ (z : Moment). z.noted) ns → IsRunFrom i ms → IsRunFrom j ns → ms ≡ ns

@@ -13,3 +13,4 @@ pub mod OwnMarkingLaws
 pub mod AfterwardsLaws
 pub mod UnionLaws
 pub mod ToldLaws
+pub mod RunStateLaws

@@ -28,6 +28,6 @@ pub use markings::{own_marking_is_one, reached_rows_are_closed};
 pub use readings::{kept_pins_are_lawful, reading_projection_is_complete};
 pub use runs::{
     joint_projection_is_a_run, joint_projection_is_complete, joint_projection_is_sound,
-    snapshots_are_sound, sweeps_are_sound,
+    run_states_are_both_sides, snapshots_are_sound, sweeps_are_sound,
 };
 pub use told::{taken_notices_are_named, told_lists_are_named};

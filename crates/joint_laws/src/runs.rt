@@ -1,5 +1,6 @@
 // Laws on runs of the joint machine.
 
+ghost use Rattle.joint_laws.specs.RunStateLaws.{OthersKeepGraph, StepsHaveMoments};
 ghost use Rattle.joint_laws.specs.RunLaws.{EveryRunIsComplete, EveryRunIsSound, LinkedIsComplete, LinkedIsRun, LinkedIsSound, ProjectionIsComplete, ProjectionIsRun, ProjectionIsSound, RunIsOne, SnapshotsAreSound, SweepsAreSound};
 
 /// The joint projection of each lawful list of entries is a run of the joint machine, word by word, whatever entries of other
@@ -38,4 +39,12 @@ pub fn joint_projection_is_complete()
     ensures lawful { ProjectionIsComplete }
     ensures linked { LinkedIsComplete }
     ensures every { EveryRunIsComplete }
+{}
+
+/// In each run over the joint projection of a lawful list of entries, each entry that is a step has its moment, which goes from the joint
+/// graph of both sides' states before the entry to that of those after it; and each other entry leaves that graph as it is. So what a
+/// law says of the states of the list it says of the run.
+pub fn run_states_are_both_sides()
+    ensures steps { StepsHaveMoments }
+    ensures others { OthersKeepGraph }
 {}
