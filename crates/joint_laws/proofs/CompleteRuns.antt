@@ -156,6 +156,13 @@ every_run_is_complete noted run may r =
 pub every_run_is_sound : EveryRunIsSound
 every_run_is_sound noted run may r = (every_run_is_complete noted run may r).0
 
+-- each moment of it is traced to an entry that may come
+pub run-traced : (noted : List Noted) (run : List Moment) → AllMayCome opening_linkage noted → IsRun (joint_projection noted) run → (m : Moment) → Contains run m → IsTraced m
+run-traced noted run may r m c =
+    let w = complete-opening noted may in
+    let own : IsRun (joint_projection noted) w.moments = record { same = w.same; steps = opening-steps noted may } in
+    w.traced m (subst (λ z. Contains z m) (one-run (joint_projection noted) run w.moments r own) c)
+
 -- so it is a run, and sound
 pub projection_is_sound : ProjectionIsSound
 projection_is_sound noted may = let w = projection_is_complete noted may in (w.0, w.1, w.2)

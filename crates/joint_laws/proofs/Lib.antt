@@ -89,6 +89,7 @@ pub mod GoneAfter
 pub mod Unions
 pub mod RemovedFlags
 pub mod RunStates
+pub mod RunUnions
 pub mod PlainReplies
 pub mod SpansTold
 pub mod NoticesTold

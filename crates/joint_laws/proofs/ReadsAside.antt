@@ -24,7 +24,7 @@ use Rattle.joint_model.specs.PeerReplay.{PeerReplay}
 use Rattle.joint_model.specs.Readers.{is_read, is_set_aside, is_aside, IsReadReply, pins_after, reader_after, ReaderMayCome, EntryMayCome, entry_after, replayed_reading, AllMayComeReading, reading_projection}
 use Rattle.joint_model.specs.Run.{IsRun, thread_number}
 use Rattle.joint_model.specs.Told.{Told, Noted}
-use Rattle.joint_laws.specs.ReadingLaws.{without_aside, IsLawfulReading, ReadingIsLawful, ReadingLeadsToSame, ReadingProjectionIsComplete, LinkedReadingIsComplete, EveryReadingRunIsComplete}
+use Rattle.joint_laws.specs.ReadingLaws.{without_aside, IsLawfulReading, ReadingIsLawful, ReadingLeadsToSame, ReadingProjectsSo, ReadingProjectionIsComplete, LinkedReadingIsComplete, EveryReadingRunIsComplete}
 use Rattle.joint_laws.proofs.CompleteRuns.{projection_is_complete, every_run_is_complete}
 use Rattle.joint_laws.proofs.Pairwise.{Pairwise, pairwise-same, pairwise-set, pairwise-left, pairwise-or, pairwise-at}
 
@@ -297,6 +297,9 @@ projection-is (n ∷ ns) = by (is_aside n) refl (projection-is ns)
     by : (b : Bool) → is_aside n ≡ b → joint_projection (without_aside ns) ≡ reading_projection ns → joint_projection (without_aside (n ∷ ns)) ≡ reading_projection (n ∷ ns)
     by true e rest = ap joint_projection (without-cons n ns true e) ∙ rest ∙ sym (ap (λ b. goes b (is_joint n.entry.made.op) (reading_projection ns)) e)
     by false e rest = ap joint_projection (without-cons n ns false e) ∙ ap (λ z. goes false (is_joint n.entry.made.op) z) rest ∙ sym (ap (λ b. goes b (is_joint n.entry.made.op) (reading_projection ns)) e)
+
+pub reading_projects_so : ReadingProjectsSo
+reading_projects_so noted = projection-is noted
 
 pub reading_projection_is_complete : ReadingProjectionIsComplete
 reading_projection_is_complete noted w =

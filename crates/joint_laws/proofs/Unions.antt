@@ -22,7 +22,7 @@ use Rattle.joint_model.specs.Joint.{Graph, Row, object, peer, JointEdge, IsJoine
 use Rattle.joint_model.specs.Lines.{is_peer_event}
 use Rattle.joint_model.specs.Linked.{Linkage, AllMayCome, opening_linkage, linkage_after, peer_after, replayed}
 use Rattle.joint_model.specs.Managed.{OpenCycle, ManagedEdge}
-use Rattle.joint_model.specs.PeerReplay.{PeerReplay, Marking, HasReference, is_thread, begun, swept, swept_of, peer_answer}
+use Rattle.joint_model.specs.PeerReplay.{PeerReplay, Marking, MarkingEdge, HasReference, is_thread, begun, swept, swept_of, peer_answer}
 use Rattle.joint_model.specs.Told.{Told, Noted, sweep_of}
 use Rattle.joint_model.specs.Walks.{Reaches}
 use Rattle.joint_model.proofs.Deciding.{none_some}
@@ -31,7 +31,7 @@ use Rattle.joint_model.proofs.WalkLemmas.{Reached-keeps, Reached-then, Reaches-k
 use Rattle.joint_laws.specs.LinkedInvariants.{IsRowOf, IsMirrored, IsDriverKept}
 use Rattle.joint_laws.specs.LinkedLaws.{IsOpenUntil}
 use Rattle.joint_laws.specs.States.{state_at}
-use Rattle.joint_laws.specs.UnionLaws.{graph_in, IsReachedBetween, UnionIsClosed, UnionFollowsMarking}
+use Rattle.joint_laws.specs.UnionLaws.{BeginsMarking, graph_in, IsReachedBetween, UnionIsClosed, UnionFollowsMarking}
 use Rattle.joint_laws.proofs.DeadMirrors.{mirror_edge-managed}
 use Rattle.joint_laws.proofs.Edges.{graph_with, IsFreed, edge-before, edge-after}
 use Rattle.joint_laws.proofs.Everywhere.{everywhere}
@@ -58,14 +58,14 @@ sweep-still s t cites _ on = swept-still s s.marking t [] on
 still-by : (s : Linkage) (m : Made) (told : Told) (o : Op) → m.op ≡ o → o ≡ op.Sweep → ((peer_after s.peer m told (is_peer_event m.caller m.op)).marking ≡ None → ⊥) → (peer_after s.peer m told (is_peer_event m.caller m.op)).peers.heap.freed ≡ s.peer.peers.heap.freed
 still-by s m told o e f = subst (λ z. ((peer_after s.peer (record m { op = z }) told (is_peer_event m.caller z)).marking ≡ None → ⊥) → (peer_after s.peer (record m { op = z }) told (is_peer_event m.caller z)).peers.heap.freed ≡ s.peer.peers.heap.freed) (sym (e ∙ f)) (sweep-still s.peer m.caller m.cites told)
 
-open-still : (s : Linkage) (n : Noted) → Of s → ((linkage_after s n).peer.marking ≡ None → ⊥) → (linkage_after s n).peer.peers.heap.freed ≡ s.peer.peers.heap.freed
+pub open-still : (s : Linkage) (n : Noted) → Of s → ((linkage_after s n).peer.marking ≡ None → ⊥) → (linkage_after s n).peer.peers.heap.freed ≡ s.peer.peers.heap.freed
 open-still s n k on = elim (sweep-or n.entry.made.op) [
   | inl e ↦ still-by s n.entry.made n.told n.entry.made.op refl e on
   | inr e ↦ entry-freed s n k.peer e
 ]
 
 -- what is reached isn't freed
-reached-live : (s : Linkage) (fs : List Bool) (x : Row) → Of s → IsReachedIn (graph_with s fs) x → IsFreed s x → ⊥
+pub reached-live : (s : Linkage) (fs : List Bool) (x : Row) → Of s → IsReachedIn (graph_with s fs) x → IsFreed s x → ⊥
 reached-live s fs x k r c = Reached-keeps (IsJointRoot (graph_with s fs)) (JointEdge (graph_with s fs)) (λ y. IsFreed s y → ⊥) root edge x r c
   where
     root : (y : Row) → IsJointRoot (graph_with s fs) y → IsFreed s y → ⊥
@@ -234,14 +234,18 @@ begun-keeps s (Some m) t mk e f = absurd (none_some m (sym e))
 begin-keeps : (s : Linkage) (m : Made) (told : Told) (mk : Marking) → m.op ≡ op.Begin → s.peer.marking ≡ None → (peer_after s.peer m told (is_peer_event m.caller m.op)).marking ≡ Some mk → KeepsBegin (peer_after s.peer m told (is_peer_event m.caller m.op)) mk
 begin-keeps s m told mk e f = subst (λ o. (peer_after s.peer (record m { op = o }) told (is_peer_event m.caller o)).marking ≡ Some mk → KeepsBegin (peer_after s.peer (record m { op = o }) told (is_peer_event m.caller o)) mk) (sym e) (begun-keeps s.peer s.peer.marking m.caller mk f)
 
-pub union_follows_marking : UnionFollowsMarking
-union_follows_marking noted may a i more mk b l open_on p q w e =
+-- so each edge of a marking is a joint walk at its begin
+pub marking-walk : (noted : List Noted) → AllMayCome opening_linkage noted → (i : ℕ) (mk : Marking) → BeginsMarking noted i mk → (p q : ℕ) → MarkingEdge mk p q → Reaches (JointEdge (graph_in noted (suc i))) (peer p) (peer q)
+marking-walk noted may i mk b p q e =
     let s = state_at noted (suc i) in
     let kept : Of s = everywhere Of AreKept-opening AreKept-entry noted may (suc i) in
     let n = b.event.entry in
     let same = after-at noted i n b.event.there in
     let begin : KeepsBegin s.peer mk = subst (λ (z : Linkage). KeepsBegin z.peer mk) (sym same) (begin-keeps (state_at noted i) n.entry.made n.told mk b.event.event b.closed (ap (λ (z : Linkage). z.peer.marking) (sym same) ∙ b.opened)) in
-    closed-walk noted may a (suc i) more l open_on (peer p) (peer q) (elim e [
+    elim e [
       | inl f ↦ Reaches-edge (JointEdge (graph_in noted (suc i))) (peer p) (peer q) (subst (λ z. HasField z p q) begin.heap f)
       | inr f ↦ edge-joint s kept _ p q (subst (λ z. HasReference s.peer.peers.heap z p q) begin.refs (subst (λ z. HasReference z mk.refs p q) begin.heap f))
-    ]) w
+    ]
+
+pub union_follows_marking : UnionFollowsMarking
+union_follows_marking noted may a i more mk b l open_on p q w e = closed-walk noted may a (suc i) more l open_on (peer p) (peer q) (marking-walk noted may i mk b p q e) w

@@ -9,7 +9,7 @@ use Rattle.joint_model.specs.declared.events.Reply.{Reply}
 use Rattle.joint_model.specs.declared.events.Reply.TheVariants as says
 use Rattle.joint_model.specs.Headline.{IsSoundRun, IsCompleteRun}
 use Rattle.joint_model.specs.Histories.{Finished}
-use Rattle.joint_model.specs.Linked.{AllMayCome, opening_linkage, replayed}
+use Rattle.joint_model.specs.Linked.{AllMayCome, opening_linkage, replayed, joint_projection}
 use Rattle.joint_model.specs.Managed.{opening_managed}
 use Rattle.joint_model.specs.ManagedReplay.{opening_replay}
 use Rattle.joint_model.specs.Readers.{AllMayComeReading, replayed_reading, IsLinkedReadingBy, reading_projection, is_aside, is_managed_entry, Kept, AllKeptLawful}
@@ -35,6 +35,10 @@ pub record LeadToSameSides (noted : List Noted) : Type 0 where
 
 abbrev pub ReadingLeadsToSame : Type 0
 ReadingLeadsToSame = (noted : List Noted) → IsLawfulReading noted → LeadToSameSides noted
+
+-- and whose joint projection is that of the history: so each law on lawful lists and their runs is one on histories with lock-free reads
+abbrev pub ReadingProjectsSo : Type 0
+ReadingProjectsSo = (noted : List Noted) → joint_projection (without_aside noted) ≡ reading_projection noted
 
 -- some moments are a run over its joint projection, sound and complete
 abbrev pub HasReadingRun : List Noted → Type 0

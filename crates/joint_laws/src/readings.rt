@@ -1,12 +1,13 @@
 // Laws of histories with lock-free reads.
 
-ghost use Rattle.joint_laws.specs.ReadingLaws.{EveryReadingRunIsComplete, KeptPinsAreLawful, LinkedReadingIsComplete, ReadingIsLawful, ReadingLeadsToSame, ReadingProjectionIsComplete};
+ghost use Rattle.joint_laws.specs.ReadingLaws.{EveryReadingRunIsComplete, KeptPinsAreLawful, LinkedReadingIsComplete, ReadingIsLawful, ReadingLeadsToSame, ReadingProjectionIsComplete, ReadingProjectsSo};
 
-/// A history with lock-free reads, without those that are set aside, is a lawful list of entries, and leads to the same state of both sides. So its joint projection is a run of
+/// A history with lock-free reads, without those that are set aside, is a lawful list of entries, and leads to the same state of both sides, with the same joint projection. So its joint projection is a run of
 /// the joint machine, sound and complete: there is such a run, and every run over it is so.
 pub fn reading_projection_is_complete()
     ensures without { ReadingIsLawful }
     ensures same { ReadingLeadsToSame }
+    ensures projection { ReadingProjectsSo }
     ensures lawful { ReadingProjectionIsComplete }
     ensures linked { LinkedReadingIsComplete }
     ensures every { EveryReadingRunIsComplete }
