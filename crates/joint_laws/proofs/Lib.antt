@@ -94,4 +94,5 @@ pub mod PlainReplies
 pub mod SpansTold
 pub mod NoticesTold
 pub mod ReadingsTold
+pub mod FittingLists
 pub mod ReadingsGoneAfter

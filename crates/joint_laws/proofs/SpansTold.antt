@@ -14,6 +14,7 @@ use Rattle.joint_model.specs.declared.events.Op.{Op}
 use Rattle.joint_model.specs.declared.events.Op.TheVariants as op
 use Rattle.joint_model.specs.declared.events.Reply.{Reply}
 use Rattle.joint_model.specs.declared.events.Reply.TheVariants as says
+use Rattle.joint_model.specs.Components.{Rises}
 use Rattle.joint_model.specs.Heaps.{answer, slot, place}
 use Rattle.joint_model.specs.Histories.{peer_numbers}
 use Rattle.joint_model.specs.Lines.{IsEvent, is_peer_event}
@@ -150,14 +151,14 @@ module _ (ms ps : List ℕ) (s : Linkage) (line : ℕ) (reply : Reply) (cites : 
   none_to_end (M u) freed a = a
   none_to_end C freed a = a
 
-  swept-by : (mk : Marking) (t : Thread) (freed : List ℕ) (b : Bool) → b ≡ true → reply ≡ (if b then swept_of s.peer mk freed else answer (says.MarkOpen record { 0 = mk.number }) s.peer).reply
+  swept-by : (mk : Marking) (t : Thread) (freed : List ℕ) (b : Bool) → Rises freed → b ≡ true → reply ≡ (if b then swept_of s.peer mk freed else answer (says.MarkOpen record { 0 = mk.number }) s.peer).reply
       → Grows (if b then swept_of s.peer mk freed else answer (says.MarkOpen record { 0 = mk.number }) s.peer).state.peers.heap.freed ps → TellsNamed ms ps reply (sweep_of freed)
-  swept-by mk t freed true e r g = subst (λ z. TellsNamed ms ps z (sweep_of freed)) (sym r) (record { freed = freed; is = refl; stands = stretch-put s.peer.peers.heap.freed freed ps g })
-  swept-by mk t freed false e r g = absurd (let f : ⊥ = cc in f)
+  swept-by mk t freed true up e r g = subst (λ z. TellsNamed ms ps z (sweep_of freed)) (sym r) (record { freed = freed; is = refl; rises = up; stands = stretch-put s.peer.peers.heap.freed freed ps g })
+  swept-by mk t freed false up e r g = absurd (let f : ⊥ = cc in f)
 
   sweep-named : (x : Option Marking) (t : Thread) (freed : List ℕ) → SweepAllows s.peer x t (sweep_of freed) → reply ≡ (swept s.peer x t freed).reply → Grows (swept s.peer x t freed).state.peers.heap.freed ps → TellsNamed ms ps reply (sweep_of freed)
   sweep-named None t freed a r g = absurd (none_to_end t freed a)
-  sweep-named (Some mk) t freed a r g = swept-by mk t freed (is_thread t C || is_thread t mk.by) (may-end t mk.by a.0) r g
+  sweep-named (Some mk) t freed a r g = swept-by mk t freed (is_thread t C || is_thread t mk.by) a.1.rise (may-end t mk.by a.0) r g
 
   refused : (mk : Marking) (n : ℕ) (b : Bool) → (b ≡ true → ⊥) → IsPlain (if b then swept_of s.peer mk [] else answer (says.MarkOpen record { 0 = mk.number }) s.peer).reply
   refused mk n true f = absurd (f refl)
@@ -197,13 +198,13 @@ module _ (ms ps : List ℕ) (s : Linkage) (line : ℕ) (reply : Reply) (cites : 
       → Grows (peer_after s.peer (entry t line o reply cites) told (is_peer_event t o)).peers.heap.freed ps → TellsNamed ms ps reply told
   named t (op.Line (act.Finalise n)) told e w f g = took-named t n told e w
   named t (op.Snap k) (snap_of freed candidates dead) e w f g =
-      subst (λ z. TellsNamed ms ps z (snap_of freed candidates dead)) (sym w.replies) (record { freed = freed; candidates = candidates; dead = dead; is = refl; counted = refl; stands = stretch-put s.managed.managed.heap.freed freed ms f })
+      subst (λ z. TellsNamed ms ps z (snap_of freed candidates dead)) (sym w.replies) (record { freed = freed; candidates = candidates; dead = dead; is = refl; counted = refl; rises = w.allowed.freed_rise; stands = stretch-put s.managed.managed.heap.freed freed ms f })
   named t (op.Snap k) told e w f g = absurd w.allowed
   named t op.Sweep (sweep_of freed) e w f g = sweep-named s.peer.marking t freed w.allowed w.replies g
   named t op.Sweep nothing e w f g = plainly reply nothing (record { plain = subst IsPlain (sym w.replies) (unswept-plain s.peer.marking t w.allowed); none = tt })
   named t op.Sweep told e w f g = absurd (none_other s.peer.marking t told tt w.allowed)
   named t (op.Resolve k) (resolution_of alive freed) e w f g =
-      subst (λ z. TellsNamed ms ps z (resolution_of alive freed)) (sym w.replies) (record { alive = alive; freed = freed; is = refl; stands = stretch-put s.managed.managed.heap.freed freed ms f })
+      subst (λ z. TellsNamed ms ps z (resolution_of alive freed)) (sym w.replies) (record { alive = alive; freed = freed; is = refl; rises = w.allowed.resolution.rise; stands = stretch-put s.managed.managed.heap.freed freed ms f })
   named t (op.Resolve k) told e w f g = absurd w.allowed
   named t o told e w f g = plainly reply told (plain-entry s line reply cites t o told (λ z. z) w)
 

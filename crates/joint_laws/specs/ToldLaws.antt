@@ -5,7 +5,8 @@ use Rattle.std.specs.Prelude.{◌≡◌, ℕ, List, length, Some, slice_get}
 use Rattle.joint_model.specs.declared.names.Span.{Span}
 use Rattle.joint_model.specs.declared.events.Reply.{Reply}
 use Rattle.joint_model.specs.declared.events.Reply.TheVariants as says
-use Rattle.joint_model.specs.Histories.{Finished, managed_numbers, peer_numbers, stretch, IsWithin}
+use Rattle.joint_model.specs.Components.{Rises}
+use Rattle.joint_model.specs.Histories.{Finished, IsHistory, managed_numbers, peer_numbers, stretch, IsWithin}
 use Rattle.joint_model.specs.Linked.{IsLinkedBy}
 use Rattle.joint_model.specs.Managed.{Managed}
 use Rattle.joint_model.specs.Readers.{IsLinkedReadingBy}
@@ -18,19 +19,21 @@ pub record IsStretch (list : List ℕ) (s : Span) (numbers : List ℕ) : Type 0 
   pub within : IsWithin s (length list)
   pub named : numbers ≡ stretch list s
 
--- a snap's freed rows, and as many candidates as the reply says
+-- a snap's freed rows, which rise, and as many candidates as the reply says
 pub record TellsSnap (ms : List ℕ) (count : ℕ) (s : Span) (told : Told) : Type 0 where
   pub freed : List ℕ
   pub candidates : List ℕ
   pub dead : List ℕ
   pub is : told ≡ snap_of freed candidates dead
   pub counted : length candidates ≡ count
+  pub rises : Rises freed
   pub stands : IsStretch ms s freed
 
 -- a sweep's freed peers
 pub record TellsSweep (ps : List ℕ) (s : Span) (told : Told) : Type 0 where
   pub freed : List ℕ
   pub is : told ≡ sweep_of freed
+  pub rises : Rises freed
   pub stands : IsStretch ps s freed
 
 -- a resolution's freed rows
@@ -38,6 +41,7 @@ pub record TellsResolution (ms : List ℕ) (s : Span) (told : Told) : Type 0 whe
   pub alive : List Answer
   pub freed : List ℕ
   pub is : told ≡ resolution_of alive freed
+  pub rises : Rises freed
   pub stands : IsStretch ms s freed
 
 -- nothing freed is told
@@ -78,3 +82,10 @@ ReadingToldIsNamed = (h : Finished) (noted : List Noted) → IsLinkedReadingBy h
 abbrev pub ReadingNoticesAreNamed : Type 0
 ReadingNoticesAreNamed = (h : Finished) (noted : List Noted) → IsLinkedReadingBy h noted → (i : ℕ) (n : Noted) (s : Span) → slice_get noted i ≡ Some n → n.entry.made.reply ≡ says.Took s
     → TakesNamed (managed_numbers h.notices) (reading_at noted i).managed.managed s
+
+-- so the entries of a linked history fit its lists: it is a history as a value keeps one
+abbrev pub LinkedIsHistory : Type 0
+LinkedIsHistory = (h : Finished) (noted : List Noted) → IsLinkedBy h noted → IsHistory h
+
+abbrev pub LinkedReadingIsHistory : Type 0
+LinkedReadingIsHistory = (h : Finished) (noted : List Noted) → IsLinkedReadingBy h noted → IsHistory h

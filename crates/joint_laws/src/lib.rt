@@ -30,4 +30,4 @@ pub use runs::{
     joint_projection_is_a_run, joint_projection_is_complete, joint_projection_is_sound,
     run_states_are_both_sides, snapshots_are_sound, sweeps_are_sound,
 };
-pub use told::{taken_notices_are_named, told_lists_are_named};
+pub use told::{linked_histories_fit_their_lists, taken_notices_are_named, told_lists_are_named};
