@@ -12,3 +12,4 @@ pub mod GraphTests
 pub mod StepTests
 pub mod Parts
 pub mod ReadingTests
+pub mod StateTests

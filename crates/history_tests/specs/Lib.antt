@@ -11,3 +11,4 @@ pub mod Graphs
 pub mod Steps
 pub mod Parts
 pub mod Readings
+pub mod States

@@ -10,6 +10,7 @@ ghost use Rattle.history_tests.specs.Graphs.{ReachedIsTested, UnreachedAreTested
 ghost use Rattle.history_tests.specs.Histories.{AllMayComeIsTested, LinkedHasQueued, LinkedIsTested, MayComeIsTested, NumbersAreTested, RepliesAreTested, WholeIsTested};
 ghost use Rattle.history_tests.specs.Parts.{CallerIsTested, ClosureIsTested, ContractionIsTested, EventIsTested, ManagedIsTested, PeerIsTested, ResolutionIsTested, SnapshotIsTested, SweepIsTested};
 ghost use Rattle.history_tests.specs.Readings.{LinkedReadingIsTested, PendingIsTested, ReadingIsTested, UnsetIsTested};
+ghost use Rattle.history_tests.specs.States.{StatesAreTested};
 ghost use Rattle.history_tests.specs.Steps.{RunsAreTested, StepsAreTested};
 
 /// Whether an entry may come next is decided by its test, and so is whether every entry of a list may come when it comes.
@@ -40,10 +41,11 @@ pub fn reached_is_tested()
 {}
 
 /// An entry that passes its test is a step of the joint machine to the state that is computed, and a list of entries that passes
-/// is a run, with the moments that are computed.
+/// is a run, with the moments that are computed. Whether two states are the same is decided by its test.
 pub fn steps_are_tested()
     ensures one { StepsAreTested }
     ensures run { RunsAreTested }
+    ensures states { StatesAreTested }
 {}
 
 /// What a snapshot frees and leaves, what a resolution frees, the components of a dead part, a slice's closure and what a sweep
