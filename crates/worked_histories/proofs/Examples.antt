@@ -31,70 +31,70 @@ use Rattle.worked_histories.proofs.FirstTests.{all_come, first_whole}
 use Rattle.worked_histories.proofs.Worked.{worked}
 
 pub abandoned-holds : AbandonedHolds
-abandoned-holds = worked abandoned [] refl refl refl refl
+abandoned-holds = worked abandoned [] refl
 
 pub ended_marking-holds : EndedMarkingHolds
-ended_marking-holds = worked ended_marking ((1 ∷ 2 ∷ []) ∷ [] ∷ []) refl refl refl refl
+ended_marking-holds = worked ended_marking ((1 ∷ 2 ∷ []) ∷ [] ∷ []) refl
 
 pub global_names-holds : GlobalNamesHold
-global_names-holds = worked global_names ([] ∷ (1 ∷ []) ∷ []) refl refl refl refl
+global_names-holds = worked global_names ([] ∷ (1 ∷ []) ∷ []) refl
 
 pub held_peer-holds : HeldPeerHolds
-held_peer-holds = worked held_peer ([] ∷ []) refl refl refl refl
+held_peer-holds = worked held_peer ([] ∷ []) refl
 
 pub moved_peer-holds : MovedPeerHolds
-moved_peer-holds = worked moved_peer ([] ∷ []) refl refl refl refl
+moved_peer-holds = worked moved_peer ([] ∷ []) refl
 
 pub one_object-holds : OneObjectHolds
-one_object-holds = worked one_object ((1 ∷ []) ∷ []) refl refl refl refl
+one_object-holds = worked one_object ((1 ∷ []) ∷ []) refl
 
 pub peer_marking-holds : PeerMarkingHolds
-peer_marking-holds = worked peer_marking ((1 ∷ 2 ∷ []) ∷ [] ∷ []) refl refl refl refl
+peer_marking-holds = worked peer_marking ((1 ∷ 2 ∷ []) ∷ [] ∷ []) refl
 
 pub pending_read-holds : PendingReadHolds
-pending_read-holds = worked pending_read ((1 ∷ []) ∷ []) refl refl refl refl
+pending_read-holds = worked pending_read ((1 ∷ []) ∷ []) refl
 
 pub plain_between-holds : PlainBetweenHolds
-plain_between-holds = worked plain_between ([] ∷ []) refl refl refl refl
+plain_between-holds = worked plain_between ([] ∷ []) refl
 
 pub plain_object-holds : PlainObjectHolds
-plain_object-holds = worked plain_object ([] ∷ []) refl refl refl refl
+plain_object-holds = worked plain_object ([] ∷ []) refl
 
 pub refusals-holds : RefusalsHold
-refusals-holds = worked refusals ([] ∷ []) refl refl refl refl
+refusals-holds = worked refusals ([] ∷ []) refl
 
 pub resurrected-holds : ResurrectedHolds
-resurrected-holds = worked resurrected ([] ∷ []) refl refl refl refl
+resurrected-holds = worked resurrected ([] ∷ []) refl
 
 pub two_markings-holds : TwoMarkingsHold
-two_markings-holds = worked two_markings ([] ∷ [] ∷ []) refl refl refl refl
+two_markings-holds = worked two_markings ([] ∷ [] ∷ []) refl
 
 pub two_phased-run : TwoPhasedRun
-two_phased-run = worked two_phased ([] ∷ (1 ∷ 2 ∷ []) ∷ []) refl refl refl refl
+two_phased-run = worked two_phased ([] ∷ (1 ∷ 2 ∷ []) ∷ []) refl
 
 pub two_phased-lawful : AllMayCome opening_linkage two_phased
 two_phased-lawful = two_phased-run.linked.lawful
 
 pub cross_heap_cycle-run : CrossHeapRun
-cross_heap_cycle-run = worked cross_heap_cycle ((1 ∷ 2 ∷ []) ∷ []) refl refl refl refl
+cross_heap_cycle-run = worked cross_heap_cycle ((1 ∷ 2 ∷ []) ∷ []) refl
 
 pub cross_heap_cycle-lawful : AllMayCome opening_linkage cross_heap_cycle
 cross_heap_cycle-lawful = cross_heap_cycle-run.linked.lawful
 
 pub disposed_and_surfaced-run : SurfacedRun
-disposed_and_surfaced-run = worked disposed_and_surfaced [] refl refl refl refl
+disposed_and_surfaced-run = worked disposed_and_surfaced [] refl
 
 pub disposed_and_surfaced-lawful : AllMayCome opening_linkage disposed_and_surfaced
 disposed_and_surfaced-lawful = disposed_and_surfaced-run.linked.lawful
 
 pub pinned_object-run : PinnedRun
-pinned_object-run = worked pinned_object ([] ∷ []) refl refl refl refl
+pinned_object-run = worked pinned_object ([] ∷ []) refl
 
 pub pinned_object-lawful : AllMayCome opening_linkage pinned_object
 pinned_object-lawful = pinned_object-run.linked.lawful
 
 pub deletion-run : DeletionRun
-deletion-run = worked deletion ([] ∷ []) refl refl refl refl
+deletion-run = worked deletion ([] ∷ []) refl
 
 pub deletion-lawful : AllMayCome opening_linkage deletion
 deletion-lawful = deletion-run.linked.lawful

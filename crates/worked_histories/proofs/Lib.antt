@@ -4,3 +4,4 @@ mod Examples
 mod PairGraphs
 mod Places
 mod FreeingOne
+mod GapExamples

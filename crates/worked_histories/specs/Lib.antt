@@ -26,3 +26,5 @@ pub mod TwoMarkings
 pub mod FirstNames
 pub mod Wholes
 pub mod Broken
+pub mod Lines
+pub mod Gaps

@@ -7,6 +7,7 @@
 mod broken;
 mod first_steps;
 mod further;
+mod gaps;
 mod graphs;
 mod histories;
 mod readings;
@@ -22,6 +23,10 @@ pub use further::{
     held_peer_is_lawful, moved_peer_is_lawful, one_object_is_freed_in_time, one_object_is_lawful,
     peer_marking_is_lawful, pending_read_is_lawful, plain_between_is_lawful,
     plain_object_is_lawful, refusals_is_lawful, resurrected_is_lawful, two_markings_is_lawful,
+};
+pub use gaps::{
+    begins_in_gaps, collections_in_gaps, drops_in_gaps, reads_in_gaps, stores_in_gaps,
+    waits_in_gaps,
 };
 pub use graphs::{components_of_a_circle, components_of_a_diamond, components_without_detours};
 pub use histories::{
