@@ -29,7 +29,7 @@ usage_text = codes "usage: bridge_run COMMAND\n"
 -- the history of a script's run: it is linked, in the form of the first steps, and its list of notices is all that was queued; it
 -- holds the events of each line of the script, each once, and those of a line before those of each later line; no cycle in it is
 -- abandoned, and each is resolved; the one machine whose single graph joins both heaps has a run of its joint entries, which frees
--- nothing too early and leaves nothing that stayed unreached; and every linked history that holds these lines, and every one with
+-- nothing too early and leaves nothing of a cycle that was unreached throughout it; and every linked history that holds these lines, and every one with
 -- its report, is the same in all that a text shows, and is this history where its list of notices is all that was queued
 pub record IsRunOf (script : List (Thread × Act)) (history : Finished) : Type 0 where
   pub noted : List Noted

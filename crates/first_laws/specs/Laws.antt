@@ -17,7 +17,8 @@ abbrev pub FirstRunsAreSound : Type 0
 FirstRunsAreSound = (noted : List Noted) (moments : List Moment) → AllFirstMayCome opening_first noted → AreFirstEvents noted
     → IsRun (joint_projection noted) moments → IsSoundRun moments
 
--- and complete: nothing that stays unreached through a cycle is left
+-- and complete: no candidate and no peer of a cycle's own marking is left that was unreached from the cycle's snapshot to that
+-- marking's sweep
 abbrev pub FirstRunsAreComplete : Type 0
 FirstRunsAreComplete = (noted : List Noted) (moments : List Moment) → AllFirstMayCome opening_first noted → AreFirstEvents noted
     → IsRun (joint_projection noted) moments → IsCompleteRun moments

@@ -31,7 +31,8 @@ pub fn joint_projection_is_sound()
     ensures every { EveryRunIsSound }
 {}
 
-/// The run of each linked history is sound, and it is complete: nothing that stays unreached through a cycle is left. Each
+/// The run of each linked history is sound, and it is complete: no candidate and no peer of a cycle's own marking
+/// is left that was unreached from the cycle's snapshot to that marking's sweep. Each
 /// candidate that is unreached from the cycle's snapshot to the sweep of its own marking is freed by the resolution, and each
 /// peer that existed when that marking began and is unreached throughout the same entries is freed at the latest by that sweep.
 /// There is such a run, and every run over the joint projection is so.

@@ -1,4 +1,5 @@
--- What the run of the one object that is let go frees: nothing too early, and everything that stays unreached.
+-- What the run of the one object that is let go frees: nothing too early, and all that was unreached throughout its
+-- cycle.
 use Rattle.std.specs.Prelude.{List}
 use Rattle.joint_model.specs.Headline.{IsSoundRun, IsCompleteRun}
 use Rattle.joint_model.specs.Run.{Moment}

@@ -77,7 +77,7 @@ pub fn one_object_is_lawful()
     ensures { OneObjectHolds }
 {}
 
-/// The run of the one object frees nothing too early, and everything that stays unreached.
+/// The run of the one object frees nothing too early, and leaves nothing that was unreached throughout its cycle.
 pub fn one_object_is_freed_in_time()
     ensures { FreesOneObject }
 {}
