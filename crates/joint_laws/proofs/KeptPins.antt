@@ -18,11 +18,11 @@ use Rattle.joint_model.specs.Lines.{IsEvent, is_peer_event}
 use Rattle.joint_model.specs.Linked.{Linkage, opening_linkage, linkage_after, SideLawful, ManagedLawful, managed_after}
 use Rattle.joint_model.specs.Managed.{Managed, OpenCycle, managed_name, managed_line, adopted, met, given_up, with_row, cell_set, weakened_to, pin_taken, without_handle, twin_met, twin_kind, twin_fields}
 use Rattle.joint_model.specs.ManagedReplay.{ManagedReplay, opening_replay, registered}
-use Rattle.joint_model.specs.Readers.{is_read, is_managed_entry, pins_after, reader_after, EntryMayCome, entry_after, AllMayComeReading, with_pins, AllKeptLawful}
+use Rattle.joint_model.specs.Readers.{is_read, is_managed_entry, pins_after, reader_after, EntryMayCome, entry_after, replayed_reading, AllMayComeReading, with_pins, AllKeptLawful, Kept}
 use Rattle.joint_model.specs.Run.{thread_number}
 use Rattle.joint_model.specs.Told.{Told, snap_of, contraction_of, resolution_of, phase_of, Noted}
 use Rattle.joint_model.proofs.HeapLemmas.{adopt_by-managed}
-use Rattle.joint_laws.specs.ReadingLaws.{pins_by, kept_from, KeptPinsAreLawful}
+use Rattle.joint_laws.specs.ReadingLaws.{pins_by, kept_from, kept_replayed, KeptPinsAreLawful, KeptPinsLeadToSame}
 use Rattle.joint_laws.proofs.ManagedMoves.{met_by}
 use Rattle.joint_laws.proofs.ManagedSteps.{meet_by-managed, give_by-managed}
 
@@ -180,13 +180,26 @@ kept-cons : (pins : List (Option ℕ)) (n : Noted) (ns : List Noted) (b : Bool) 
     → kept_from pins (n ∷ ns) ≡ (let rest = kept_from (pins_by pins n.entry.made.caller n.entry.made.op n.entry.made.reply) ns in if b then record { noted = n; pins = pins } ∷ rest else rest)
 kept-cons pins n ns b e = ap (λ z. (let rest = kept_from (pins_by pins n.entry.made.caller n.entry.made.op n.entry.made.reply) ns in if z then record { noted = n; pins = pins } ∷ rest else rest)) e
 
-kept-lawful : (whole : List Noted) (cells : List (Option ℕ)) (ns : List Noted) (s : Linkage) (r : ManagedReplay) → IsBut r s → AllMayComeReading whole cells s ns → AllKeptLawful r (kept_from (pins_of s) ns)
-kept-lawful whole cells [] s r k a = tt
-kept-lawful whole cells (n ∷ ns) s r k a = by (turn whole cells s n r k a.0) (λ u v. kept-lawful whole cells ns (entry_after s n) u v a.1) (pins-on whole cells s n r k a.0)
+-- what is known of the rest of the list
+record IsKeptAlong (r : ManagedReplay) (s : Linkage) (ns : List Noted) (list : List Kept) : Type 0 where
+  lawful : AllKeptLawful r list
+  alike : IsBut (kept_replayed r list) (replayed_reading s ns)
+
+kept-along : (whole : List Noted) (cells : List (Option ℕ)) (ns : List Noted) (s : Linkage) (r : ManagedReplay) → IsBut r s → AllMayComeReading whole cells s ns → IsKeptAlong r s ns (kept_from (pins_of s) ns)
+kept-along whole cells [] s r k a = record { lawful = tt; alike = k }
+kept-along whole cells (n ∷ ns) s r k a = by (turn whole cells s n r k a.0) (λ u v. kept-along whole cells ns (entry_after s n) u v a.1) (pins-on whole cells s n r k a.0)
   where
-    by : Turn s n r → ((u : ManagedReplay) → IsBut u (entry_after s n) → AllKeptLawful u (kept_from (pins_of (entry_after s n)) ns)) → pins_of (entry_after s n) ≡ pins_by (pins_of s) n.entry.made.caller n.entry.made.op n.entry.made.reply → AllKeptLawful r (kept_from (pins_of s) (n ∷ ns))
-    by (own e l v) rest p = subst (λ z. AllKeptLawful r z) (sym (kept-cons (pins_of s) n ns true e)) (l, subst (λ z. AllKeptLawful (managed_after (with_pins r (pins_of s)) n.entry.made n.told false) (kept_from z ns)) p (rest _ v))
-    by (another e v) rest p = subst (λ z. AllKeptLawful r z) (sym (kept-cons (pins_of s) n ns false e)) (subst (λ z. AllKeptLawful r (kept_from z ns)) p (rest r v))
+    by : Turn s n r → ((u : ManagedReplay) → IsBut u (entry_after s n) → IsKeptAlong u (entry_after s n) ns (kept_from (pins_of (entry_after s n)) ns)) → pins_of (entry_after s n) ≡ pins_by (pins_of s) n.entry.made.caller n.entry.made.op n.entry.made.reply → IsKeptAlong r s (n ∷ ns) (kept_from (pins_of s) (n ∷ ns))
+    by (own e l v) rest p =
+        let u = managed_after (with_pins r (pins_of s)) n.entry.made n.told false in
+        let w = subst (λ z. IsKeptAlong u (entry_after s n) ns (kept_from z ns)) p (rest u v) in
+        subst (λ z. IsKeptAlong r s (n ∷ ns) z) (sym (kept-cons (pins_of s) n ns true e)) (record { lawful = (l, w.lawful); alike = w.alike })
+    by (another e v) rest p =
+        let w = subst (λ z. IsKeptAlong r (entry_after s n) ns (kept_from z ns)) p (rest r v) in
+        subst (λ z. IsKeptAlong r s (n ∷ ns) z) (sym (kept-cons (pins_of s) n ns false e)) (record { lawful = w.lawful; alike = w.alike })
 
 pub kept_pins_are_lawful : KeptPinsAreLawful
-kept_pins_are_lawful noted w = kept-lawful w.0 w.1 noted opening_linkage opening_replay refl w.2
+kept_pins_are_lawful noted w = (kept-along w.0 w.1 noted opening_linkage opening_replay refl w.2).lawful
+
+pub kept_pins_lead_to_same : KeptPinsLeadToSame
+kept_pins_lead_to_same noted w = (kept-along w.0 w.1 noted opening_linkage opening_replay refl w.2).alike

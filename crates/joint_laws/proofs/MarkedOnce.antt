@@ -1,10 +1,10 @@
 -- Between a cycle's snapshot and its resolution the driver begins exactly one marking. Its stand is followed: up to the weakened
 -- phase no begin of its own came since the snapshot; the begin leads to the marked phase, which lies behind it, and none comes
 -- from there on; and once the cycle is over, each later one has another number, so its resolution isn't this cycle's.
-use Rattle.std.proofs.Common.{◌≡◌, ℕ, zero, suc, ◌+◌, ◌-◌, ◌<◌, ◌≤◌, ◌⊎◌, inl, inr, List, [], ◌∷◌, length, Option, Some, map, take, refl, sym, ap, subst, ◌∙◌, arith}
-use Rattle.std.specs.Prelude.{filter, slice_get}
+use Rattle.std.proofs.Common.{◌≡◌, ℕ, zero, suc, ◌+◌, ◌-◌, ◌<◌, ◌≤◌, ◌⊎◌, inl, inr, List, length, Option, Some, take, refl, sym, ap, subst, ◌∙◌, arith}
+use Rattle.std.specs.Prelude.{filter, slice_get, option_map}
 use Rattle.std.proofs.lemmas.Bool.{cases_lt}
-use Rattle.std.proofs.lemmas.Option.{same_Some}
+use Rattle.std.proofs.lemmas.Option.{same_Some, slice_get-map}
 use Rattle.joint_model.specs.declared.names.Thread.{Thread}
 use Rattle.joint_model.specs.declared.names.Thread.TheVariants.{M, P, C}
 use Rattle.joint_model.specs.declared.events.Op.{Op}
@@ -18,7 +18,6 @@ use Rattle.joint_model.specs.Managed.{Managed, OpenCycle}
 use Rattle.joint_model.specs.Peers.{Issued}
 use Rattle.joint_model.specs.Run.{Moment, IsRun}
 use Rattle.joint_model.specs.Told.{Told, contraction_of, snap_of, resolution_of, Noted}
-use Rattle.joint_model.proofs.Deciding.{none_some}
 use Rattle.joint_laws.specs.LinkedInvariants.{IsDriverKept}
 use Rattle.joint_laws.specs.OwnMarkingLaws.{HasEventAt, DriverBegins, HasOneBegin, OwnMarkingIsOne, RunMarksOnce}
 use Rattle.joint_laws.specs.States.{state_at}
@@ -424,12 +423,7 @@ own_marking_is_one noted may i e k sn rs =
 -- in the run: its places are those of the list, in order
 module _ (noted : List Noted) (run : List Moment) (r : IsRun (joint_projection noted) run) where
   from : (i : ℕ) (m : Moment) → slice_get run i ≡ Some m → Origin (λ n. is_joint n.entry.made.op) noted i m.noted
-  from i m e = origin (λ n. is_joint n.entry.made.op) noted i m.noted (subst (λ z. slice_get z i ≡ Some m.noted) r.same (get-map run i m e))
-    where
-      get-map : (ms : List Moment) (j : ℕ) (x : Moment) → slice_get ms j ≡ Some x → slice_get (map (λ y. y.noted) ms) j ≡ Some x.noted
-      get-map [] j x q = absurd (none_some x q)
-      get-map (y ∷ ms) zero x q = ap (λ (z : Moment). Some z.noted) (same_Some y x q)
-      get-map (y ∷ ms) (suc j) x q = get-map ms j x q
+  from i m e = origin (λ n. is_joint n.entry.made.op) noted i m.noted (subst (λ z. slice_get z i ≡ Some m.noted) r.same (slice_get-map (λ (y : Moment). y.noted) run i ∙ ap (λ o. option_map (λ (y : Moment). y.noted) o) e))
 
   in-order : (i j : ℕ) (x y : Noted) (a : Origin (λ n. is_joint n.entry.made.op) noted i x) (b : Origin (λ n. is_joint n.entry.made.op) noted j y) → i < j → a.place < b.place
   in-order i j x y a b l = elim (cases_lt a.place b.place) [

@@ -1,5 +1,5 @@
--- What each entry of the peer side may do to the peers' heap: slots keep their number; made peers stay; a field comes to hold only what was in
--- a slot; only a peer in a slot has a field changed; and no freed peer comes back.
+-- What each entry of the peer side may do to the peers' heap: slots keep their number; made peers stay; a field comes to hold only
+-- what was in a slot; only a peer in a slot has a field changed; and no freed peer comes back.
 use Rattle.std.proofs.Common.{◌≡◌, ℕ, ◌+◌, ◌-◌, ◌≤◌, ◌⊎◌, inl, inr, Bool, true, false, ◌||◌, List, [], length, Option, Some, None, set, refl, sym, subst, arith}
 use Rattle.std.specs.Prelude.{Contains, if◌then◌else◌, min, nat_lt}
 use Rattle.std.proofs.Math.ListN.{length-set}

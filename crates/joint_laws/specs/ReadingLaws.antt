@@ -1,6 +1,6 @@
 -- Histories with lock-free reads: without the reads that are set aside each is a lawful list of entries, so its joint projection
 -- is a run of the joint machine, the only one, sound and complete. And what the managed side's own list is in such a history.
-use Rattle.std.specs.Prelude.{◌≡◌, ℕ, not, if◌then◌else◌, List, [], ◌∷◌, filter, Option, Some, None, slice_set}
+use Rattle.std.specs.Prelude.{◌≡◌, ℕ, false, not, if◌then◌else◌, List, [], ◌∷◌, filter, Option, Some, None, slice_set}
 use Rattle.joint_model.specs.declared.names.Thread.{Thread}
 use Rattle.joint_model.specs.declared.lines.Act.TheVariants as act
 use Rattle.joint_model.specs.declared.events.Op.{Op}
@@ -9,10 +9,10 @@ use Rattle.joint_model.specs.declared.events.Reply.{Reply}
 use Rattle.joint_model.specs.declared.events.Reply.TheVariants as says
 use Rattle.joint_model.specs.Headline.{IsSoundRun, IsCompleteRun}
 use Rattle.joint_model.specs.Histories.{Finished}
-use Rattle.joint_model.specs.Linked.{AllMayCome, opening_linkage, replayed, joint_projection}
+use Rattle.joint_model.specs.Linked.{AllMayCome, opening_linkage, replayed, managed_after, joint_projection}
 use Rattle.joint_model.specs.Managed.{opening_managed}
-use Rattle.joint_model.specs.ManagedReplay.{opening_replay}
-use Rattle.joint_model.specs.Readers.{AllMayComeReading, replayed_reading, IsLinkedReadingBy, reading_projection, is_aside, is_managed_entry, Kept, AllKeptLawful}
+use Rattle.joint_model.specs.ManagedReplay.{ManagedReplay, opening_replay}
+use Rattle.joint_model.specs.Readers.{AllMayComeReading, replayed_reading, IsLinkedReadingBy, reading_projection, is_aside, is_managed_entry, Kept, with_pins, AllKeptLawful}
 use Rattle.joint_model.specs.Run.{Moment, IsRun, thread_number}
 use Rattle.joint_model.specs.Told.{Noted}
 
@@ -74,3 +74,13 @@ kept_from pins (n ∷ ns) =
 -- that list is lawful
 abbrev pub KeptPinsAreLawful : Type 0
 KeptPinsAreLawful = (noted : List Noted) → IsLawfulReading noted → AllKeptLawful opening_replay (kept_from opening_managed.pins noted)
+
+-- the state after all entries of such a list
+abbrev pub kept_replayed : ManagedReplay → List Kept → ManagedReplay
+kept_replayed s [] = s
+kept_replayed s (k ∷ ks) = kept_replayed (managed_after (with_pins s k.pins) k.noted.entry.made k.noted.told false) ks
+
+-- the list leads to the managed state of the history, but for the pins
+abbrev pub KeptPinsLeadToSame : Type 0
+KeptPinsLeadToSame = (noted : List Noted) → IsLawfulReading noted
+    → with_pins (kept_replayed opening_replay (kept_from opening_managed.pins noted)) (replayed_reading opening_linkage noted).managed.managed.pins ≡ (replayed_reading opening_linkage noted).managed

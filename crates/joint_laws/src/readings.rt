@@ -1,9 +1,10 @@
 // Laws of histories with lock-free reads.
 
-ghost use Rattle.joint_laws.specs.ReadingLaws.{EveryReadingRunIsComplete, KeptPinsAreLawful, LinkedReadingIsComplete, ReadingIsLawful, ReadingLeadsToSame, ReadingProjectionIsComplete, ReadingProjectsSo};
+ghost use Rattle.joint_laws.specs.ReadingLaws.{EveryReadingRunIsComplete, KeptPinsAreLawful, KeptPinsLeadToSame, LinkedReadingIsComplete, ReadingIsLawful, ReadingLeadsToSame, ReadingProjectionIsComplete, ReadingProjectsSo};
 
-/// A history with lock-free reads, without those that are set aside, is a lawful list of entries, and leads to the same state of both sides, with the same joint projection. So its joint projection is a run of
-/// the joint machine, sound and complete: there is such a run, and every run over it is so.
+/// A history with lock-free reads, without those that are set aside, is a lawful list of entries, and leads to the same state of both
+/// sides, with the same joint projection. So this projection is a run of the joint machine, sound and complete: there is such a run, and
+/// every run over it is so.
 pub fn reading_projection_is_complete()
     ensures without { ReadingIsLawful }
     ensures same { ReadingLeadsToSame }
@@ -14,7 +15,8 @@ pub fn reading_projection_is_complete()
 {}
 
 /// The managed side's own list of a history with lock-free reads is lawful, if with each entry those pins are kept that the reads and
-/// the takes before it leave.
+/// the takes before it leave; and it leads to the managed state of the history, but for the pins.
 pub fn kept_pins_are_lawful()
-    ensures { KeptPinsAreLawful }
+    ensures lawful { KeptPinsAreLawful }
+    ensures same { KeptPinsLeadToSame }
 {}
