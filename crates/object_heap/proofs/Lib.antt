@@ -2,3 +2,4 @@ pub mod Numbered
 pub mod Sound
 pub mod Targets
 pub mod Gathering
+pub mod Mapped

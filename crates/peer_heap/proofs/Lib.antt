@@ -1,4 +1,3 @@
-pub mod Mapped
 pub mod Rows
 pub mod Kept
 pub mod Fresh

@@ -182,3 +182,34 @@ index-written s places rows x r key new view up is e index = IsIndex-written s p
 pub rows-written : (s : Slab Row) (places : List Place) (rows : List Seen) (x : ℕ) (r : Place) (key : ℕ) (new : Row) (seen : Seen) → map (seen_at s) places ≡ rows → (row_at rows x).stands ≡ true → r ≡ At key → r ≡ get_or places (x - 1) r → IsIndex s places
     → standing new ≡ seen → map (seen_at (with_value s key new)) places ≡ numbered_set rows x seen
 rows-written s places rows x r key new seen view up is e index same = shown-written s places rows x key new seen view index (stands-within rows x up).0 (at-key s places rows x r key view up is e) same
+
+-- a row that is written as it is
+pub rows-self : (rows : List Seen) (x : ℕ) (r : Seen) → 1 ≤ x → x ≤ length rows → r ≡ row_at rows x → numbered_set rows x r ≡ rows
+rows-self rows zero r one le e = refl
+rows-self [] (suc i) r one le e = refl
+rows-self (q ∷ rows) (suc zero) r one le e = ap (λ z. z ∷ rows) e
+rows-self (q ∷ rows) (suc (suc i)) r one le e = ap (λ z. q ∷ z) (rows-self rows (suc i) r (omega arith) (omega arith) e)
+
+-- the row of number n + 1 is the element at index n
+pub row_at-index : (rows : List Seen) (n : ℕ) (d : Seen) → n < length rows → row_at rows (n + 1) ≡ get_or rows n d
+row_at-index rows n d l = (let e : n + 1 ≡ suc n = omega arith in rw e (row_at-suc rows n d l))
+  where
+    row_at-suc : (rows : List Seen) (n : ℕ) (d : Seen) → n < length rows → row_at rows (suc n) ≡ get_or rows n d
+    row_at-suc [] n d l = absurd (omega arith)
+    row_at-suc (r ∷ rows) zero d l = refl
+    row_at-suc (r ∷ rows) (suc n) d l = row_at-suc rows n d (omega arith)
+
+pub set-index : (rows : List Seen) (n : ℕ) (r : Seen) → numbered_set rows (n + 1) r ≡ set rows n r
+set-index rows n r = (let e : n + 1 ≡ suc n = omega arith in rw e refl)
+
+-- a row with a mark stands
+pub marked-stands : (s : Slab Row) (places : List Place) (x : ℕ) → (row_at (map (seen_at s) places) x).marked ≡ true → (row_at (map (seen_at s) places) x).stands ≡ true
+marked-stands s places zero e = (let f : ⊥ = cc in absurd f)
+marked-stands s [] (suc i) e = (let f : ⊥ = cc in absurd f)
+marked-stands s (Gone kept ∷ places) (suc zero) e = (let f : ⊥ = cc in absurd f)
+marked-stands s (At key ∷ places) (suc zero) e = by_slot (get s key) e
+  where
+    by_slot : (o : Option Row) → (let z : Seen = elim o [ None ↦ gone [] | Some r ↦ standing r ] in z).marked ≡ true → (let z : Seen = elim o [ None ↦ gone [] | Some r ↦ standing r ] in z).stands ≡ true
+    by_slot None f = (let g : ⊥ = cc in absurd g)
+    by_slot (Some r) f = refl
+marked-stands s (p ∷ places) (suc (suc i)) e = marked-stands s places (suc i) e

@@ -1,3 +1,6 @@
 pub mod Indexed
 pub mod Sound
 pub mod Freed
+pub mod Walked
+pub mod Edges
+pub mod Linked

@@ -1,6 +1,6 @@
 -- A heap whose objects are rows that can be marked: the heap of the definition, and beside it marks, links and references. (This
 -- project's own.)
-use Rattle.std.specs.Prelude.{◌≡◌, ℕ, ◌+◌, ◌≤◌, Bool, true, false, List, [], ◌∷◌, map, length, Option, Some, Contains, slice_get}
+use Rattle.std.specs.Prelude.{◌≡◌, ℕ, ◌+◌, ◌≤◌, ◌⊎◌, Bool, true, false, List, [], ◌∷◌, map, length, Option, Some, Contains, slice_get}
 use Rattle.joint_model.specs.Heaps.{Heap, IsLive, opening_heap}
 use Rattle.object_heap.specs.Flags.{IsSound, TakesDown}
 use Rattle.row_marking.specs.Traces.{IsLastBelow}
@@ -64,6 +64,15 @@ pub record RowsFreed (xs : List ℕ) (old new : List Seen) : Type 0 where
   pub flags : TakesDown xs (stands_in old) (stands_in new)
   pub fields : map (λ (r : Seen). r.fields) new ≡ map (λ (r : Seen). r.fields) old
   pub others : (x : ℕ) → (row_at new x).stands ≡ true → row_at new x ≡ row_at old x
+
+-- the rows that references lead from have none any more, and nothing else of a row changed
+pub record FirstsCleared (refs : List Reference) (old new : List Seen) : Type 0 where
+  pub fields : map (λ (r : Seen). r.fields) new ≡ map (λ (r : Seen). r.fields) old
+  pub stands : stands_in new ≡ stands_in old
+  pub marks : map (λ (r : Seen). r.marked) new ≡ map (λ (r : Seen). r.marked) old
+  pub links : map (λ (r : Seen). r.link) new ≡ map (λ (r : Seen). r.link) old
+  pub cleared : (x : ℕ) → Contains (map (λ (r : Reference). r.from) refs) x → (row_at new x).first ≡ 0
+  pub others : (x : ℕ) → ((row_at new x).first ≡ 0) ⊎ ((row_at new x).first ≡ (row_at old x).first)
 
 -- where a marking follows the references, none leads from an object that stays to one of a list
 abbrev pub NoneRefers : HeapRows → List ℕ → Type 0

@@ -1,10 +1,28 @@
-// The heap of one side, in its final form.
+// The heap of one side in its final form: objects as rows on a slab, with marks, and references beside their fields.
+//
+// A side makes a [`RowHeap`] once. `add_object` makes an object, which `set_var` then gives a name; `copy`, `set`, `get`, `drop`, `load` and
+// `store` are the operations of a script, each of which answers an [`object_heap::Done`], and each call is one of the definitions of the joint
+// model's `Heap`. No call looks at more than the rows that it names.
+//
+// A marking stands in the rows. `begin_marking` takes all marks down, `visit_slots` marks what variables and statics name, the collector marks
+// its further roots by `row_marking::visit`, and `finish_marking` marks what these reach; while the marking is open `bring_back` marks one more
+// object with what it reaches, and a new object has its mark from the start. A marking follows fields, and references if its begin says so.
+// `free` then frees objects that a collector found dead. From the begin to here nothing takes memory.
+//
+// References are a list of their own: `reserve_references` takes room, `push_reference` adds one, `clear_references` drops all. The peer side
+// keeps in it what a cycle mirrors; the managed side has none.
+//
+// Objects have the numbers 1, 2, 3 and so on for ever, and their rows are in a slab, which uses the memory of freed rows again: `places.rt` has
+// the index between them. A read of a field is a load from the index and one from the slab. The list of freed objects has room for each
+// object. What `object_heap` proves of a heap over plain lists is used as it stands: its flags are which rows stand.
 #![tactic(auto)]
 
 mod freeing;
 mod heap;
+mod marking;
 mod operations;
 mod places;
 mod references;
+mod tracing;
 
 pub use heap::RowHeap;

@@ -4,7 +4,7 @@
 // made the key of its row, in four bytes beside a tag. A row that is freed gives its memory back, and the index keeps its fields for proofs
 // alone, in no bytes: so the heap of the definition, which never forgets the fields of a freed object, is still what contracts see.
 
-ghost use Rattle.std.specs.Prelude.{◌≡◌, ◌≤◌, ◌<◌, ◌++◌, [], ◌∷◌, true, false, length, map, slice_set, OnOk, OnErr};
+ghost use Rattle.std.specs.Prelude.{◌≡◌, ℕ, ◌≤◌, ◌<◌, ◌++◌, [], ◌∷◌, true, false, length, map, slice_set, OnOk, OnErr};
 ghost use Rattle.joint_model.specs.Heaps.{numbered_set};
 ghost use Rattle.row_heap.specs.Places.{row_at, standing, gone, unmarked_row};
 
@@ -111,6 +111,17 @@ impl Rows {
         }
     }
 
+    /// Row `x` has no references; a removed one has none.
+    pub(crate) fn clear_first(&mut self, x: usize)
+        requires { (1 ≤ x) × (x ≤ length self.old) }
+        ensures { self.new ≡ numbered_set self.old x (record (row_at self.old x) { first = 0 }) }
+    {
+        match self.places[x - 1] {
+            Place::At(key) => self.slab[key as usize].first = 0,
+            Place::Gone(_) => {}
+        }
+    }
+
     /// Row `x` has a mark, and another link.
     pub(crate) fn mark(&mut self, x: usize, link: u32)
         requires { (row_at self.old x).stands ≡ true }
@@ -126,15 +137,41 @@ impl Rows {
         }
     }
 
-    /// Row `x` has no mark.
-    pub(crate) fn unmark(&mut self, x: usize)
-        requires { (row_at self.old x).stands ≡ true }
+    /// The link of row `x`, which has a mark.
+    pub(crate) fn marked_link(&self, x: usize) -> u32
+        requires { (row_at self.now x).marked ≡ true }
+        ensures link { result ≡ (row_at self.now x).link }
+        ensures stands { (row_at self.now x).stands ≡ true }
+    {
+        self.marked_stand();
+        self.row(x).link
+    }
+
+    // Row `x` has no mark.
+    fn unmark(&mut self, x: usize)
+        requires { (1 ≤ x) × (x ≤ length self.old) }
         ensures { self.new ≡ numbered_set self.old x (unmarked_row (row_at self.old x)) }
     {
         match self.places[x - 1] {
             Place::At(key) => self.slab[key as usize].marked = false,
-            Place::Gone(_) => unreachable!(),
+            Place::Gone(_) => {}
         }
+    }
+
+    /// No row has a mark.
+    pub(crate) fn unmark_all(&mut self)
+        ensures { self.new ≡ map unmarked_row self.old }
+    {
+        for i in 0..self.made() {
+            self.unmark(i + 1);
+        }
+    }
+
+    /// A row with a mark stands, for the proofs of callers. It does nothing.
+    pub(crate) fn marked_stand(&self)
+        ensures { (x : ℕ) → (row_at self.now x).marked ≡ true → (row_at self.now x).stands ≡ true }
+    {
+        let _ = &self.places;
     }
 
     /// Makes a row under the next number, with a mark. Answers `AllocError`, with the rows as before, where there is no memory.

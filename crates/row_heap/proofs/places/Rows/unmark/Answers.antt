@@ -1,16 +1,22 @@
--- The row under the one key is written.
-use Rattle.std.proofs.Common.{◌∙◌, sym, ap, set, true, false, length, arith}
-use Rattle.row_heap.specs.Places.{Seen, unmarked_row}
-use Rattle.row_heap.proofs.Indexed.{index-written, rows-written, row-of, not-gone}
+-- The row under the one key is written; a removed one has no mark.
+use Rattle.std.proofs.Common.{◌∙◌, sym, ap}
+use Rattle.row_heap.specs.declared.places.Place.TheVariants.{At, Gone}
+use Rattle.row_heap.specs.Places.{Seen, row_at, unmarked_row}
+use Rattle.row_heap.proofs.Indexed.{IsIndex-written, shown-written, read-place, read-row, key-there, seen-row, rows-self}
 use Rattle.row_heap.proofs.places.Rows.unmark.Goals as goal
 
 pub invariant_of-self : goal.invariant_of-self
-invariant_of-self c = index-written c.self.inside.slab c.self.inside.places.items c.args.self.now c.args.x c.index.result.now c.in-At.key _ c.self.view_is c.requires c.in-At.is c.index.ensures c.self.invariant
+invariant_of-self c =
+    let at = read-place c.self.inside.slab c.self.inside.places.items c.args.self.now c.args.x c.index.result.now (At c.in-At.key) c.self.view_is c.requires.0 c.requires.1 c.in-At.is c.index.ensures in
+    IsIndex-written c.self.inside.slab c.self.inside.places.items c.in-At.key _ (key-there _ _ _ c.in-At.key c.self.invariant at) c.self.invariant
 
-pub unreachable-requires : goal.unreachable-requires
-unreachable-requires c = not-gone c.self.inside.slab c.self.inside.places.items c.args.self.now c.args.x c.index.result.now c.in-Gone.field-0 c.self.view_is c.requires c.in-Gone.is c.index.ensures
+pub returns-in-At : goal.returns-in-At
+returns-in-At c =
+    let at = read-place c.self.inside.slab c.self.inside.places.items c.args.self.now c.args.x c.index.result.now (At c.in-At.key) c.self.view_is c.requires.0 c.requires.1 c.in-At.is c.index.ensures in
+    let row = read-row c.self.inside.slab c.self.inside.places.items c.args.self.now c.args.x c.index.result.now (At c.in-At.key) c.self.view_is c.requires.0 c.requires.1 c.in-At.is c.index.ensures ∙ seen-row c.self.inside.slab c.in-At.key c.index_mut.result.now c.index_mut.ensures.value in
+    shown-written c.self.inside.slab c.self.inside.places.items c.args.self.now c.args.x c.in-At.key _ _ c.self.view_is c.self.invariant c.requires.0 at (ap unmarked_row (sym row))
 
-pub returns : goal.returns
-returns c =
-    let row = row-of c.self.inside.slab c.self.inside.places.items c.args.self.now c.args.x c.index.result.now c.in-At.key c.index_mut.result.now c.self.view_is c.requires c.in-At.is c.index.ensures c.index_mut.ensures.value in
-    rows-written c.self.inside.slab c.self.inside.places.items c.args.self.now c.args.x c.index.result.now c.in-At.key _ _ c.self.view_is c.requires c.in-At.is c.index.ensures c.self.invariant (ap (λ (r : Seen). unmarked_row r) (sym row))
+pub returns-in-Gone : goal.returns-in-Gone
+returns-in-Gone c =
+    let row = read-row c.self.inside.slab c.self.inside.places.items c.args.self.now c.args.x c.index.result.now (Gone c.in-Gone.field-0) c.self.view_is c.requires.0 c.requires.1 c.in-Gone.is c.index.ensures in
+    sym (rows-self c.args.self.now c.args.x (unmarked_row (row_at c.args.self.now c.args.x)) c.requires.0 c.requires.1 (ap unmarked_row row ∙ sym row))

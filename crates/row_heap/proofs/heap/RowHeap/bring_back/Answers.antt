@@ -1,0 +1,25 @@
+-- From a live object the loop's edges are those of the heap.
+use Rattle.std.proofs.Common.{◌≡◌, ℕ, ◌∷◌, [], inl, inr, sym, subst}
+use Rattle.std.specs.Prelude.{Contains}
+use Rattle.joint_model.specs.Heaps.{IsLive}
+use Rattle.joint_model.proofs.Members.{Contains-cons_cases, Contains-nil}
+use Rattle.reachability.specs.Marks.{IsClosed}
+use Rattle.row_marking.specs.Traces.{Leads}
+use Rattle.row_heap.specs.Rows.{HeapRows}
+use Rattle.row_heap.specs.Marks.{shape_of}
+use Rattle.row_heap.proofs.Edges.{shut-leads, shut-edges, reached-edge, reached-leads}
+use Rattle.row_heap.proofs.heap.RowHeap.bring_back.Goals as goal
+
+pub mark_from-requires-clause-shut : goal.mark_from-requires-clause-shut
+mark_from-requires-clause-shut g c = shut-leads c.args.self.now c.args.self.now.marks c.tidy.ensures c.ends_live.ensures c.marked_live.ensures c.requires.shut
+
+pub returns-clause-marks : goal.returns-clause-marks
+returns-clause-marks g c = λ k.
+    let root : (z : ℕ) → Contains (c.args.x ∷ []) z → IsLive c.args.self.now.heap z = λ z h. elim (Contains-cons_cases c.args.x [] z h) [ inl e ↦ subst (IsLive c.args.self.now.heap) e c.requires.live | inr n ↦ absurd (Contains-nil z n) ] in
+    let m = c.mark_from.ensures.marks k in (
+      (λ u. elim (m.0 u) [ inl w ↦ inl w | inr w ↦ inr (reached-edge c.args.self.now (c.args.x ∷ []) k c.tidy.ensures c.ends_live.ensures root w) ]),
+      (λ u. m.1 (elim u [ inl w ↦ inl w | inr w ↦ inr (reached-leads c.args.self.now (c.args.x ∷ []) k w) ])),
+    )
+
+pub returns-clause-shut : goal.returns-clause-shut
+returns-clause-shut g c = shut-edges c.args.self.now c.mark_from.new.g.marks (subst (λ (v : HeapRows). IsClosed (Leads (shape_of v)) c.mark_from.new.g.marks) c.mark_from.ensures.kept c.mark_from.ensures.closed)

@@ -1,0 +1,38 @@
+-- One more slot is done in each turn: what it names is marked, or it names nothing.
+use Rattle.std.proofs.Common.{◌≡◌, ◌∙◌, ◌≤◌, ◌<◌, length, Some, None, sym, ap, subst, refl, arith}
+use Rattle.std.specs.Prelude.{slice_get}
+use Rattle.std.proofs.lemmas.List.{take_all}
+use Rattle.joint_model.specs.Heaps.{slot}
+use Rattle.reachability.proofs.Marking.{take-next}
+use Rattle.row_marking.proofs.Greys.{Greyed-push_some, Greyed-push_none, Greyed-none}
+use Rattle.row_heap.specs.Rows.{HeapRows}
+use Rattle.row_heap.proofs.Edges.{slot-at, rest-kept}
+use Rattle.row_heap.proofs.heap.RowHeap.visit_vars.Goals as goal
+use Rattle.row_heap.proofs.heap.RowHeap.visit_vars.Goals.{in-Some, in_default}
+
+pub loop-place-preserved : goal.loop-place-preserved
+loop-place-preserved g c =
+    let xs = c.args.self.now.heap.vars in
+    let same = ap (λ (v : HeapRows). v.heap.vars) c.loop-place.invariant.kept in
+    let within : c.loop-place.place < length xs = omega (arith, c.tidy.ensures.vars, c.loop-place-test.true) in
+    elim c.match-var.branch [
+      | in-Some w ↦ record {
+        kept = rw w.self-is (w.visit.ensures.kept ∙ c.loop-place.invariant.kept);
+        greyed = rw (w.self-is, w.grey-is, take-next xs c.loop-place.place (Some w.in-Some.x) (slot-at xs c.loop-place.place (Some w.in-Some.x) within (subst (λ l. slot l c.loop-place.place ≡ Some w.in-Some.x) same w.in-Some.ensures.value)))
+            (Greyed-push_some _ _ _ _ _ _ _ _ _ _ _ c.loop-place.invariant.greyed w.visit.ensures.greyed);
+      }
+      | in_default w ↦ record {
+        kept = rw w.self-is c.loop-place.invariant.kept;
+        greyed = rw (w.self-is, w.grey-is, take-next xs c.loop-place.place None (slot-at xs c.loop-place.place None within (subst (λ l. slot l c.loop-place.place ≡ None) same w.in_default.ensures.value)))
+            (Greyed-push_none _ _ _ _ _ _ _ c.loop-place.invariant.greyed);
+      }
+    ]
+
+pub returns-clause-greyed : goal.returns-clause-greyed
+returns-clause-greyed g c =
+    let xs = c.args.self.now.heap.vars in
+    let all : length xs ≤ c.loop-place.place = omega (arith, c.tidy.ensures.vars, c.loop-place-test.false) in
+    rw take_all at c.loop-place.invariant.greyed
+
+pub returns-clause-rest : goal.returns-clause-rest
+returns-clause-rest g c = rest-kept c.args.self.now c.loop-place.self c.loop-place.invariant.kept

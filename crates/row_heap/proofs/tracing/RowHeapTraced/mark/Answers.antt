@@ -1,0 +1,22 @@
+-- Only the mark and the link of the one row change.
+use Rattle.std.proofs.Common.{◌∙◌, ap, set, true, false}
+use Rattle.row_heap.specs.Rows.{HeapRows}
+use Rattle.row_heap.specs.Places.{Seen}
+use Rattle.row_heap.proofs.Indexed.{stands-within}
+use Rattle.row_heap.proofs.Walked.{stands-seen, IsRowHeap-marked, kept-marked, marks-written, links-written}
+use Rattle.row_heap.proofs.tracing.RowHeapTraced.mark.Goals as goal
+
+pub mark-requires : goal.mark-requires
+mark-requires g c = stands-seen _ _ _ _ _ _ _ _ c.args.self.now c.args.x c.self.view_is c.self.invariant.sound c.requires
+
+pub invariant_of-self : goal.invariant_of-self
+invariant_of-self g c = IsRowHeap-marked _ _ _ _ _ _ _ _ _ _ c.args.x c.args.link c.self.invariant c.mark.ensures
+
+pub returns-clause-kept : goal.returns-clause-kept
+returns-clause-kept g c = kept-marked _ _ _ _ _ _ _ _ c.args.x c.args.link c.args.self.now c.self.view_is c.mark.ensures
+
+pub returns-clause-marks : goal.returns-clause-marks
+returns-clause-marks g c = marks-written _ _ _ _ _ _ _ _ c.args.x c.args.link c.args.self.now c.self.view_is c.requires.made.0 c.mark.ensures
+
+pub returns-clause-links : goal.returns-clause-links
+returns-clause-links g c = links-written _ _ _ _ _ _ _ _ c.args.x c.args.link c.args.self.now c.self.view_is c.requires.made.0 c.mark.ensures

@@ -1,0 +1,26 @@
+-- What a marking of a heap of rows follows, and what it leaves as it is. (Textbook: the edges of a tracing collector.)
+use Rattle.std.specs.Prelude.{◌≡◌, ℕ, ◌⊎◌, if◌then◌else◌, true, List, [], Contains}
+use Rattle.joint_model.specs.Heaps.{IsLive, HasField, fields_of}
+use Rattle.joint_model.specs.PeerReplay.{HasReference}
+use Rattle.row_marking.specs.Traces.{Shape}
+use Rattle.row_heap.specs.Rows.{HeapRows}
+
+-- the edges that a marking follows: fields, and references if it follows them
+abbrev pub EdgeOf : HeapRows → ℕ → ℕ → Type 0
+EdgeOf v x y = HasField v.heap x y ⊎ ((v.follows ≡ true) × HasReference v.heap v.refs x y)
+
+-- all but marks and links
+abbrev pub unmarked_rows : HeapRows → HeapRows
+unmarked_rows v = record v { marks = []; links = [] }
+
+-- the references that a marking follows
+abbrev pub followed : HeapRows → List (ℕ × ℕ)
+followed v = if v.follows then v.refs else []
+
+-- the rows as a marking walks them
+abbrev pub shape_of : HeapRows → Shape
+shape_of v = record { fields = fields_of v.heap; refs = followed v }
+
+-- what a live object's reference leads to is live
+abbrev pub AreEndsLive : HeapRows → Type 0
+AreEndsLive v = (p q : ℕ) → Contains v.refs (p, q) → IsLive v.heap p → IsLive v.heap q

@@ -1,0 +1,105 @@
+// A marking of the heap: its begin, what it marks, and its end.
+//
+// A collector calls `begin_marking`, marks what slots name by `visit_slots` and each further root by `row_marking::visit`, and carries the
+// marking to its end by `finish_marking`. While it is open, `bring_back` marks an object with all that it reaches. None of it takes memory.
+
+ghost use Rattle.std.specs.Prelude.{◌≡◌, ℕ, ◌↔◌, ◌⊎◌, List, [], ◌∷◌, Bool, Contains, IsTrue, Option, Some};
+ghost use Rattle.joint_model.specs.Heaps.{InSlot, IsLive};
+ghost use Rattle.joint_model.specs.Walks.{Reached};
+ghost use Rattle.reachability.specs.Marks.{IsClosed, IsMarked};
+ghost use Rattle.row_marking.specs.Traces.{Greyed, Greying, IsGreying};
+ghost use Rattle.row_heap.specs.Marks.{AreEndsLive, EdgeOf};
+
+use crate::heap::RowHeap;
+use object_heap::Number;
+use row_marking::{finish, mark_from, visit};
+
+impl<N: Number> RowHeap<N> {
+    /// A marked object is live, for the proofs of callers. It does nothing.
+    pub fn marked_live(&self)
+        ensures { (x : ℕ) → IsMarked self.now.marks x → IsLive self.now.heap x }
+    {
+        self.rows.marked_stand();
+    }
+
+    /// No object has a mark, and a marking follows the references from now on, or doesn't.
+    pub fn begin_marking(&mut self, follows: bool)
+        requires { IsTrue follows → AreEndsLive self.old }
+        ensures marks { (x : ℕ) → IsMarked self.new.marks x → ⊥ }
+        ensures rest { self.new ≡ record self.old { follows = follows; marks = self.new.marks } }
+    {
+        self.rows.unmark_all();
+        self.follows = follows;
+    }
+
+    /// Marks what variables and statics name.
+    pub fn visit_slots(&mut self, grey: &mut u32)
+        ensures greyed { Greyed (InSlot self.old.heap) self.old.marks self.old.links grey.old self.new.marks self.new.links grey.new }
+        ensures rest { self.new ≡ record self.old { marks = self.new.marks; links = self.new.links } }
+    {
+        self.visit_vars(grey);
+        self.visit_statics(grey);
+    }
+
+    /// Carries a marking to its end.
+    pub fn finish_marking(&mut self, grey: u32)
+        requires { IsGreying (EdgeOf self.old) self.old.marks self.old.links grey }
+        ensures marks { (roots : List ℕ) (before : List Bool) → Greying roots (EdgeOf self.old) before self.old.marks self.old.links grey → (x : ℕ) → IsMarked self.new.marks x ↔ (IsMarked before x ⊎ Reached (Contains roots) (EdgeOf self.old) x) }
+        ensures shut { IsClosed (EdgeOf self.old) self.new.marks }
+        ensures rest { self.new ≡ record self.old { marks = self.new.marks; links = self.new.links } }
+    {
+        self.marked_live();
+        self.tidy();
+        self.ends_live();
+        finish(self, grey);
+        self.marked_live();
+    }
+
+    /// Brings an object back: it is marked, with all that it reaches.
+    pub fn bring_back(&mut self, x: u32)
+        requires live { IsLive self.old.heap x }
+        requires shut { IsClosed (EdgeOf self.old) self.old.marks }
+        ensures marks { (k : ℕ) → IsMarked self.new.marks k ↔ (IsMarked self.old.marks k ⊎ Reached (Contains (x ∷ [])) (EdgeOf self.old) k) }
+        ensures shut { IsClosed (EdgeOf self.old) self.new.marks }
+        ensures rest { self.new ≡ record self.old { marks = self.new.marks; links = self.new.links } }
+    {
+        self.marked_live();
+        self.tidy();
+        self.ends_live();
+        mark_from(self, &[x]);
+        self.marked_live();
+    }
+
+    // What a live object's reference leads to is live, if a marking follows it. It does nothing.
+    fn ends_live(&self)
+        ensures { IsTrue self.now.follows → AreEndsLive self.now }
+    {
+        let _ = &self.references;
+    }
+
+    // Marks what variables name.
+    fn visit_vars(&mut self, grey: &mut u32)
+        ensures greyed { Greyed (λ x. Contains self.old.heap.vars (Some x)) self.old.marks self.old.links grey.old self.new.marks self.new.links grey.new }
+        ensures rest { self.new ≡ record self.old { marks = self.new.marks; links = self.new.links } }
+    {
+        self.tidy();
+        for place in 0..72 {
+            if let Some(x) = self.var(place) {
+                visit(self, x, grey);
+            }
+        }
+    }
+
+    // Marks what statics hold.
+    fn visit_statics(&mut self, grey: &mut u32)
+        ensures greyed { Greyed (λ x. Contains self.old.heap.statics (Some x)) self.old.marks self.old.links grey.old self.new.marks self.new.links grey.new }
+        ensures rest { self.new ≡ record self.old { marks = self.new.marks; links = self.new.links } }
+    {
+        self.tidy();
+        for s in 0..16 {
+            if let Some(x) = self.static_at(s) {
+                visit(self, x, grey);
+            }
+        }
+    }
+}
