@@ -2,4 +2,3 @@ pub mod Numbered
 pub mod Sound
 pub mod Targets
 pub mod Gathering
-pub mod Mapped

@@ -1,3 +1,4 @@
+pub mod Mapped
 pub mod Rows
 pub mod Kept
 pub mod Fresh

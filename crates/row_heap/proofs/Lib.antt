@@ -1,4 +1,5 @@
 pub mod Indexed
+pub mod Mapped
 pub mod Sound
 pub mod Freed
 pub mod Walked

@@ -1,6 +1,6 @@
 use Rattle.std.proofs.Common.{◌≡◌, false, length, sym, ◌∙◌, ap, arith}
 use Rattle.peer_heap.specs.Handles.{kept_in, LeadsToMade}
-use Rattle.object_heap.proofs.Mapped.{mapped-none, mapped-all, mapped-step, mapped-next, mapped}
+use Rattle.peer_heap.proofs.Mapped.{mapped-none, mapped-all, mapped-step, mapped-next, mapped}
 use Rattle.peer_heap.proofs.handles.remove_freed.Goals as goal
 
 pub loop-handle-init : goal.loop-handle-init

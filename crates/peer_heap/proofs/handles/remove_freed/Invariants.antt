@@ -1,6 +1,6 @@
 use Rattle.std.proofs.Common.{◌≡◌}
 use Rattle.peer_heap.specs.Handles.{kept_in}
-use Rattle.object_heap.proofs.Mapped.{mapped}
+use Rattle.peer_heap.proofs.Mapped.{mapped}
 use Rattle.peer_heap.proofs.handles.remove_freed.Given as goal
 
 abbrev pub invariant-loop-handle : goal.invariant-loop-handle

@@ -1,6 +1,6 @@
 -- The rows so far have no mark.
 use Rattle.std.proofs.Common.{◌≡◌}
-use Rattle.object_heap.proofs.Mapped.{mapped}
+use Rattle.row_heap.proofs.Mapped.{mapped}
 use Rattle.row_heap.specs.Places.{unmarked_row}
 use Rattle.row_heap.proofs.places.Rows.unmark_all.Given as goal
 
