@@ -26,3 +26,6 @@ mod references;
 mod tracing;
 
 pub use heap::RowHeap;
+
+#[cfg(test)]
+mod tests;

@@ -1,0 +1,31 @@
+// Calls on small heaps.
+
+use crate::RowHeap;
+use joint_model::PNum;
+use object_heap::Done;
+use std::alloc::AllocError;
+
+#[test]
+fn runs_operations(rt: HostRuntime) -> Result<(), AllocError> {
+    let mut heap: RowHeap<PNum> = RowHeap::new(rt.alloc());
+    let first = heap.add_object(2)?;
+    heap.set_var(0, Some(first));
+    assert_eq!(rt; heap.copy(1, 0), Done::Object(1));
+    assert_eq!(rt; heap.set(0, 1, Some(1)), Done::Ok);
+    assert_eq!(rt; heap.get(2, 1, 1), Done::Object(1));
+    assert_eq!(rt; heap.store(15, Some(3)), Done::Empty);
+    assert_eq!(rt; (heap.made(), heap.live()), (1, 1));
+    Ok(())
+}
+
+#[test]
+fn takes_references(rt: HostRuntime) -> Result<(), AllocError> {
+    let mut heap: RowHeap<PNum> = RowHeap::new(rt.alloc());
+    let first = heap.add_object(0)?;
+    heap.reserve_references(1)?;
+    heap.push_reference(first, first);
+    assert_eq!(rt; heap.references_len(), 1);
+    heap.clear_references();
+    assert_eq!(rt; heap.references_len(), 0);
+    Ok(())
+}
