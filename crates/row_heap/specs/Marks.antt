@@ -1,7 +1,7 @@
 -- What a marking of a heap of rows follows, and what it leaves as it is. (Textbook: the edges of a tracing collector.)
 use Rattle.std.specs.Prelude.{◌≡◌, ℕ, ◌⊎◌, if◌then◌else◌, true, List, [], Contains}
 use Rattle.joint_model.specs.Heaps.{IsLive, HasField, fields_of}
-use Rattle.joint_model.specs.PeerReplay.{HasReference}
+use Rattle.joint_model.specs.PeerReplay.{HasReference, Refers}
 use Rattle.row_marking.specs.Traces.{Shape}
 use Rattle.row_heap.specs.Rows.{HeapRows}
 
@@ -23,4 +23,4 @@ shape_of v = record { fields = fields_of v.heap; refs = followed v }
 
 -- what a live object's reference leads to is live
 abbrev pub AreEndsLive : HeapRows → Type 0
-AreEndsLive v = (p q : ℕ) → Contains v.refs (p, q) → IsLive v.heap p → IsLive v.heap q
+AreEndsLive v = (p q : ℕ) → Refers v.refs p q → IsLive v.heap p → IsLive v.heap q

@@ -1,6 +1,7 @@
 -- A heap whose objects are rows that can be marked: the heap of the definition, and beside it marks, links and references. (This
 -- project's own.)
 use Rattle.std.specs.Prelude.{◌≡◌, ℕ, ◌+◌, ◌≤◌, ◌⊎◌, Bool, true, false, List, [], ◌∷◌, map, length, Option, Some, Contains, slice_get}
+use Rattle.joint_model.specs.PeerReplay.{Refers}
 use Rattle.joint_model.specs.Heaps.{Heap, IsLive, opening_heap}
 use Rattle.object_heap.specs.Flags.{IsSound, TakesDown}
 use Rattle.row_marking.specs.Traces.{IsLastBelow}
@@ -76,4 +77,4 @@ pub record FirstsCleared (refs : List Reference) (old new : List Seen) : Type 0 
 
 -- where a marking follows the references, none leads from an object that stays to one of a list
 abbrev pub NoneRefers : HeapRows → List ℕ → Type 0
-NoneRefers v xs = v.follows ≡ true → (p q : ℕ) → Contains v.refs (p, q) → IsLive v.heap p → (Contains xs p → ⊥) → Contains xs q → ⊥
+NoneRefers v xs = v.follows ≡ true → (p q : ℕ) → Refers v.refs p q → IsLive v.heap p → (Contains xs p → ⊥) → Contains xs q → ⊥
