@@ -14,7 +14,7 @@ use Rattle.joint_model.specs.Walks.{Reaches}
 use Rattle.joint_laws.specs.ManagedInvariants.{IsReplayKept}
 use Rattle.joint_laws.specs.Mirrors.{MirrorEdge}
 use Rattle.joint_laws.specs.PeerInvariants.{IsTabled, IsIssued, IsPeerKept}
-use Rattle.joint_model.specs.Told.{said_alive, said_cleared, Answer}
+use Rattle.joint_model.specs.Told.{IsKeptAt, said_cleared, Answer}
 
 -- the handle is in the table with that strength
 abbrev pub HasStrength : PeerReplay → ℕ → Strength → Type 0
@@ -121,7 +121,7 @@ abbrev pub IsWeakenedBy : PeerReplay → ℕ → ℕ → ℕ → Type 0
 IsWeakenedBy s count l h = ((l < count) × HasStrength s h weak) ⊎ ((count ≤ l) × HasStrength s h strong)
 
 abbrev pub IsRestoredBy : PeerReplay → List Answer → ℕ → ℕ → Type 0
-IsRestoredBy s answers l h = ((slice_get answers l ≡ Some said_alive) × HasStrength s h strong) ⊎ ((slice_get answers l ≡ Some said_cleared) × IsGone s h) ⊎ ((length answers ≤ l) × HasStrength s h weak)
+IsRestoredBy s answers l h = (IsKeptAt answers l × HasStrength s h strong) ⊎ ((slice_get answers l ≡ Some said_cleared) × IsGone s h) ⊎ ((length answers ≤ l) × HasStrength s h weak)
 
 -- a candidate whose peer is unfreed leads only to candidates whose peers are unfreed
 abbrev pub IsClosed : ManagedReplay → PeerReplay → OpenCycle → Type 0

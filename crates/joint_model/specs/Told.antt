@@ -8,6 +8,10 @@ pub data Answer : Type 0 where
   said_alive : Answer
   said_cleared : Answer
 
+-- by that answer its candidate is kept
+abbrev pub IsKept : Answer → Type 0
+IsKept a = a ≡ said_alive
+
 -- by the answer in that place its candidate is kept
 abbrev pub IsKeptAt : List Answer → ℕ → Type 0
 IsKeptAt answers i = slice_get answers i ≡ Some said_alive

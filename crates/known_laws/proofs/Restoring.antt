@@ -181,13 +181,13 @@ module _ (m : Managed) (c : OpenCycle) (o : m.cycle ≡ Some c) (rs : List (ℕ 
       let g = restore-at rs w.0 said_alive (ap (λ l. slice_get l w.0) r.same ∙ w.2) in
       let h = r.in_turn w.0 g.0 said_alive g.1 in
       let at : slice_get (candidates_of m) w.0 ≡ Some x = ap (λ l. slice_get l w.0) (candidates_of-open m c o) ∙ w.1 in
-      record { place = w.0; handle = g.0; candidate = at; holds = subst (λ z. handle_of m z ≡ Some g.0) (same_Some _ _ (sym h.1 ∙ at)) h.2; alive = g.1 }
+      record { place = w.0; handle = g.0; candidate = at; holds = subst (λ z. handle_of m z ≡ Some g.0) (same_Some _ _ (sym h.1 ∙ at)) h.2; answer = said_alive; answered = g.1; kept = refl }
 
   alive-from : (x : ℕ) → WasRestoredAlive m rs x → IsAnsweredAlive c.candidates answers x
   alive-from x w = (
     w.place,
     ap (λ l. slice_get l w.place) (sym (candidates_of-open m c o)) ∙ w.candidate,
-    ap (λ l. slice_get l w.place) (sym r.same) ∙ (slice_get-map (λ (z : ℕ × Answer). z.1) rs w.place ∙ ap (option_map (λ (z : ℕ × Answer). z.1)) w.alive),
+    ap (λ l. slice_get l w.place) (sym r.same) ∙ (slice_get-map (λ (z : ℕ × Answer). z.1) rs w.place ∙ (ap (option_map (λ (z : ℕ × Answer). z.1)) w.answered ∙ ap (λ z. Some z) w.kept)),
   )
 
 resolve-by : (s : ManagedReplay) (rs : List (ℕ × Answer)) (st : Stand) (k : Cycle) (cites : Option ℕ) (told : Told) → RestoredBy s.managed rs st → MayResolveNow st k.0 cites told → ManagedAllows s (op.Resolve k) told → FreesByRestores s.managed rs told k.0

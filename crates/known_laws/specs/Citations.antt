@@ -18,7 +18,7 @@ use Rattle.joint_model.specs.Cycles.{IsDeadContraction, IsOpen}
 use Rattle.joint_model.specs.Linked.{Linkage}
 use Rattle.joint_model.specs.Managed.{Managed, OpenCycle, ManagedEdge, handle_of}
 use Rattle.joint_model.specs.PeerReplay.{Mirror}
-use Rattle.joint_model.specs.Told.{Told, Noted, references_of, resolution_of, Answer, said_alive, said_cleared}
+use Rattle.joint_model.specs.Told.{Told, Noted, references_of, resolution_of, Answer, IsKept, said_cleared}
 use Rattle.joint_model.specs.Walks.{Reaches}
 use Rattle.known_laws.specs.Pasts.{In, Lawful, end_of}
 
@@ -137,7 +137,9 @@ pub record WasRestoredAlive (s : Managed) (restores : List (ℕ × Answer)) (m :
   pub handle : ℕ
   pub candidate : slice_get (candidates_of s) place ≡ Some m
   pub holds : handle_of s m ≡ Some handle
-  pub alive : slice_get restores place ≡ Some (handle, said_alive)
+  pub answer : Answer
+  pub answered : slice_get restores place ≡ Some (handle, answer)
+  pub kept : IsKept answer
 
 -- a resolve tells the answers of the restores, of which each candidate has one, and frees exactly the rows of the dead part that no
 -- candidate whose restore answered alive leads to
