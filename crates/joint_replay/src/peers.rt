@@ -2,7 +2,7 @@
 
 ghost use Rattle.std.specs.Prelude.{◌≡◌, ℕ, ◌+◌, ◌<◌, ◌≤◌, ◌↔◌, ◌||◌, IsTrue, OnErr, OnOk, All, length, false};
 ghost use Rattle.joint_model.specs.Heaps.{MOST, IsMade, is_full, next_number, with_freed};
-ghost use Rattle.joint_model.specs.Peers.{opening_peers, pair_made, with_handle, with_peer, held, strong, next_handle, peer_of};
+ghost use Rattle.joint_model.specs.Peers.{opening_peers, handles_full, pair_made, with_handle, with_peer, held, strong, next_handle, peer_of};
 
 use crate::heap::PlainHeap;
 use joint_model::{Reply, Sort};
@@ -83,7 +83,7 @@ impl PeerPart {
 
     /// Whether no further peer or no further handle can be made.
     pub(crate) fn is_full(&self) -> bool
-        ensures { result ≡ (is_full self.now.heap.fields || is_full self.now.issued) }
+        ensures { result ≡ (is_full self.now.heap.fields || handles_full self.now) }
     {
         self.heap.is_full() || self.handles.len() >= MOST_HANDLES
     }
@@ -103,7 +103,7 @@ impl PeerPart {
     /// A further peer and a held strong handle on it. Answers `AllocError` where there is no memory; the part is then as
     /// before.
     pub(crate) fn add_pair(&mut self, sort: Sort, fields: u8) -> Result<(), AllocError>
-        requires { (is_full self.old.heap.fields || is_full self.old.issued) ≡ false }
+        requires { (is_full self.old.heap.fields || handles_full self.old) ≡ false }
         ensures ok { OnOk result (self.new ≡ with_handle (with_peer self.old sort fields) (next_number self.old.heap) held strong) }
         ensures err { OnErr result (self.new ≡ self.old) }
     {
