@@ -2,7 +2,7 @@
 -- snap, begin, sweep and resolve; its sweep goes by joint reachability; its resolve cites nothing and keeps the
 -- candidates whose peers weren't swept; no other caller's entry stands within it; and at the end the driver is idle.
 -- Everything else is as in the final definitions.
-use Rattle.std.specs.Prelude.{◌≡◌, ℕ, ◌+◌, ◌<◌, ◌≤◌, ◌^◌, ◌↔◌, Contains, Bool, true, false, nat_eq, if◌then◌else◌, List, [], ◌∷◌, length, map, take, Option, Some, None}
+use Rattle.std.specs.Prelude.{◌≡◌, ℕ, ◌<◌, ◌≤◌, ◌^◌, ◌↔◌, Contains, Bool, true, false, nat_eq, if◌then◌else◌, List, [], ◌∷◌, length, map, take, Option, Some, None}
 use Rattle.std.specs.List.{list_any}
 use Rattle.joint_model.specs.declared.names.Thread.{Thread}
 use Rattle.joint_model.specs.declared.names.Thread.TheVariants.{M, P, C}

@@ -1,7 +1,7 @@
 -- Reads that take no lock: a reader's `read` or `wait` is an entry of the reader's own list, made at any moment. Here is what
 -- such an entry may answer, over a whole history, and how linked histories have them. (SGen's bridge header: while bridge
 -- processing is in progress, the reading of a weak link to a bridge object waits.)
-use Rattle.std.specs.Prelude.{◌≡◌, ℕ, ◌<◌, ◌≤◌, ◌^◌, ◌⊎◌, Bool, true, false, not, ◌&&◌, if◌then◌else◌, List, [], ◌∷◌, map, filter, take, Contains, Option, Some, None, slice_get, slice_set}
+use Rattle.std.specs.Prelude.{◌≡◌, ℕ, ◌<◌, ◌≤◌, ◌^◌, ◌⊎◌, Bool, true, false, not, ◌&&◌, if◌then◌else◌, List, [], ◌∷◌, map, take, Contains, Option, Some, None, slice_get, slice_set}
 use Rattle.joint_model.specs.declared.names.Thread.{Thread}
 use Rattle.joint_model.specs.declared.lines.Act.TheVariants as act
 use Rattle.joint_model.specs.declared.events.Op.{Op}

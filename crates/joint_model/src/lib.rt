@@ -22,7 +22,7 @@ pub use names::{
     Cell, Cycle, GName, HNum, Kind, MNum, Marking, PNum, Phase, PhaseWord, Sort, Span, StaticNo,
     Thread, Var,
 };
-pub use sides::replays_go_on;
+pub use sides::{enter, replays_go_on};
 
 #[cfg(test)]
 mod tests;

@@ -1,12 +1,17 @@
 // The lists of both sides.
 
-ghost use Rattle.std.specs.Prelude.{◌≡◌, ℕ, [], ◌∷◌, ◌++◌};
+ghost use Rattle.std.specs.Prelude.{◌≡◌, ℕ, ◌+◌, ◌≤◌, [], ◌∷◌, ◌++◌, length};
 ghost use Rattle.joint_model.specs.declared.events.Made.{Made};
 ghost use Rattle.joint_model.specs.Draws.{numbered, AllBelow};
 ghost use Rattle.joint_model.specs.ManagedReplay.{ManagedReplay};
 ghost use Rattle.joint_model.specs.PeerReplay.{PeerReplay};
-ghost use Rattle.joint_model.specs.Sides.{Side, managed_rules, peer_rules, GoesOn, IsReplayed};
+ghost use Rattle.joint_model.specs.Sides.{Side, managed_rules, peer_rules, GoesOn, IsReplayed, DrawsLast};
 ghost use Rattle.joint_model.specs.Told.{Told};
+
+use crate::draws::Draw;
+use crate::events::{Entry, Made};
+use crate::lists::Entries;
+use crate::names::MNum;
 
 /// The law of a side's list: where one entry was put last that may come next, with a number above those before it, and the state
 /// is the one after it, the side is again the replay of its entries.
@@ -14,3 +19,26 @@ pub fn replays_go_on()
     ensures managed { (old new : Side ManagedReplay) (k : ℕ) (m : Made) (told : Told) → AllBelow old.entries k → new.entries ≡ old.entries ++ numbered k m ∷ [] → GoesOn managed_rules old.state m told new.state → IsReplayed managed_rules old → IsReplayed managed_rules new }
     ensures peers { (old new : Side PeerReplay) (k : ℕ) (m : Made) (told : Told) → AllBelow old.entries k → new.entries ≡ old.entries ++ numbered k m ∷ [] → GoesOn peer_rules old.state m told new.state → IsReplayed peer_rules old → IsReplayed peer_rules new }
 {}
+
+/// Draws a number for what was made, and puts its entry last. Answers the number. It takes no memory.
+pub fn enter<D: Draw>(
+    entries: &mut Entries,
+    draw: &mut D,
+    made: Made,
+    target: Option<MNum>,
+    freed: &[MNum],
+) -> u64
+    requires spare { 1 ≤ entries.old.spare }
+    requires below { AllBelow entries.old.entries (D.floor draw.old) }
+    requires room { 4294967295 ≤ D.left draw.old + length entries.old.entries }
+    requires may { D.may draw.old made.caller made.op target }
+    ensures draws { DrawsLast (record { floor = D.floor; left = D.left; may = D.may; drew = D.drew }) draw.old draw.new entries.old.entries entries.new.entries made target freed.now }
+    ensures number { entries.new.entries ≡ entries.old.entries ++ numbered result made ∷ [] }
+    ensures spare { entries.new.spare + 1 ≡ entries.old.spare }
+{
+    // what the list holds and has room for is within its limit
+    let _ = entries.spare();
+    let number = draw.draw(&made, target, freed);
+    entries.push(Entry { number, made });
+    number
+}

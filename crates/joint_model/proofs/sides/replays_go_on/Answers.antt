@@ -1,5 +1,3 @@
-use Rattle.joint_model.specs.ManagedReplay.{ManagedReplay}
-use Rattle.joint_model.specs.PeerReplay.{PeerReplay}
 use Rattle.joint_model.specs.Sides.{managed_rules, peer_rules}
 use Rattle.joint_model.proofs.SideLists.{IsReplayed-push}
 use Rattle.joint_model.proofs.sides.replays_go_on.Goals as goal
