@@ -15,6 +15,7 @@ pub mod Headline
 pub mod ManagedReplay
 pub mod PeerReplay
 pub mod Control
+pub mod HistoryLines
 pub mod Linked
 pub mod Joined
 pub mod Readers

@@ -23,7 +23,8 @@ use Rattle.joint_model.specs.Told.{Told, Noted, nothing, phase_of, contraction_o
 use Rattle.joint_model.proofs.Members.{Contains-nil, Contains-cons_cases}
 use Rattle.known_laws.specs.Known.{TellsPlainly}
 use Rattle.known_laws.specs.Pasts.{In, Lawful, Within, end_of, is_in, role_of}
-use Rattle.known_laws.specs.Growing.{AreJoined, HasGrown, grown, untold, entries_in}
+use Rattle.known_laws.specs.Growing.{AreJoined, HasGrown, grown, untold}
+use Rattle.joint_model.specs.HistoryLines.{entries_in}
 use Rattle.known_laws.specs.Drawn.{drawn_by, drawn, IsToldIn, of_drawn, AreDrawn, NothingIsDrawn, DrawnIsOne, drawn_on, DrawnLinesGrow, DrawnLinesJoin, FreedIsDrawn}
 use Rattle.known_laws.proofs.CitedOnce.{each_stands_behind}
 use Rattle.known_laws.proofs.FrozenPasts.{goes_on, one_behind}

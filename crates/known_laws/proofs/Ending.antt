@@ -11,7 +11,8 @@ use Rattle.joint_model.specs.Histories.{managed_numbers, peer_numbers}
 use Rattle.joint_model.specs.Linked.{Linkage, AllMayCome, IsWhole, opening_linkage, replayed}
 use Rattle.joint_model.specs.Told.{Noted}
 use Rattle.known_laws.specs.Pasts.{role_of, own_of, is_in, line, of_line, In, end_of, Lawful, bare}
-use Rattle.known_laws.specs.Growing.{untold, entries, entries_in, turned, KnownWholeIsHistory, KnownWholeIsLinked}
+use Rattle.known_laws.specs.Growing.{untold, entries, turned, KnownWholeIsHistory, KnownWholeIsLinked}
+use Rattle.joint_model.specs.HistoryLines.{entries_in}
 use Rattle.known_laws.proofs.PastLines.{in_right, in_role, in_which, line_in, line_out, in-line, snoc_same, snoc_some}
 use Rattle.known_laws.proofs.PastsJoin.{below}
 use Rattle.known_laws.proofs.Agreeing.{line_bare, in_bare}

@@ -32,7 +32,8 @@ use Rattle.joint_laws.proofs.ManagedMoves.{GoesOn, GoesOn-stay, managed_line-goe
 use Rattle.joint_laws.proofs.ManagedSteps.{meet_by-managed, give_by-managed, twin-live}
 use Rattle.joint_laws.proofs.DriverPeerSteps.{holds-handle_of}
 use Rattle.joint_laws.proofs.SameGraphs.{contraction-same, mirror_edge-ends}
-use Rattle.known_laws.specs.Pasts.{role_of, is_in, line, of_line, end_of, Lawful, Within, HasSameDeadPart, IsSameForDriver, IsFrozenIn, KnownPastsJoin, EntryMayMove, caller_line, driver_line}
+use Rattle.known_laws.specs.Pasts.{role_of, is_in, line, of_line, end_of, Lawful, Within, HasSameDeadPart, IsSameForDriver, IsFrozenIn, KnownPastsJoin, EntryMayMove, driver_line}
+use Rattle.joint_model.specs.HistoryLines.{caller_line}
 use Rattle.known_laws.proofs.PastLines.{off, in_role, in_own, line_in, line_out, snoc_same, snoc_some, shorter_begins}
 use Rattle.known_laws.proofs.Later.{kept_end}
 use Rattle.known_laws.proofs.Moving.{may_move}

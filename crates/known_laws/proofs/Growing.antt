@@ -17,7 +17,8 @@ use Rattle.joint_model.specs.Told.{Told, Noted, phase_of}
 use Rattle.known_laws.specs.Known.{TellsPlainly}
 use Rattle.known_laws.specs.Telling.{MayBeTold}
 use Rattle.known_laws.specs.Pasts.{role_of, is_in, line, of_line, RunsFrom, In, end_of, Within, AreWithin, AreAlike, bare, Joined, driver_line}
-use Rattle.known_laws.specs.Growing.{untold, entries, AreKnown, NothingIsKnown, grown, AreBelow, KnownLinesGrow, entries_in, Begin, KnownLinesJoin, LinesGiveParts, DeadPartIsFrozen}
+use Rattle.known_laws.specs.Growing.{untold, entries, AreKnown, NothingIsKnown, grown, AreBelow, KnownLinesGrow, Begin, KnownLinesJoin, LinesGiveParts, DeadPartIsFrozen}
+use Rattle.joint_model.specs.HistoryLines.{entries_in}
 use Rattle.known_laws.proofs.PastLines.{in_role, line-in, length_begins, shorter_begins, in-line, in_begins}
 use Rattle.known_laws.proofs.PastsJoin.{counted}
 use Rattle.known_laws.proofs.Parts.{same_managed, same_peer, same_control}

@@ -14,8 +14,10 @@ use Rattle.joint_model.specs.Linked.{SideLawful, managed_after, peer_after}
 use Rattle.joint_model.specs.ManagedReplay.{opening_replay}
 use Rattle.joint_model.specs.PeerReplay.{opening_peer_replay, is_thread}
 use Rattle.joint_model.specs.Told.{Noted}
-use Rattle.known_laws.specs.Pasts.{is_in, line, end_of, In, Lawful, caller_line}
-use Rattle.known_laws.specs.Growing.{entries, entries_in, turned, untold}
+use Rattle.known_laws.specs.Pasts.{is_in, line, end_of, In, Lawful}
+use Rattle.joint_model.specs.HistoryLines.{caller_line}
+use Rattle.known_laws.specs.Growing.{entries, turned, untold}
+use Rattle.joint_model.specs.HistoryLines.{entries_in}
 use Rattle.known_laws.proofs.Ending.{known_whole_is_history}
 use Rattle.joint_model.specs.Sides.{managed_rules, peer_rules, LeadsTo}
 use Rattle.joint_model.specs.Components.{Rises}

@@ -19,7 +19,8 @@ use Rattle.joint_model.specs.PeerReplay.{PeerReplay}
 use Rattle.joint_model.specs.Peers.{Issued}
 use Rattle.joint_model.specs.Told.{Told, Noted, references_of}
 use Rattle.known_laws.specs.Known.{MayComeLater, TellsPlainly}
-use Rattle.known_laws.specs.Pasts.{role_of, own_of, line, end_of, IsSameForDriver, next_of, caller_line, driver_line}
+use Rattle.known_laws.specs.Pasts.{role_of, own_of, line, end_of, IsSameForDriver, next_of, driver_line}
+use Rattle.joint_model.specs.HistoryLines.{caller_line}
 use Rattle.known_laws.proofs.Parts.{SameAt, same_managed, same_peer, same_control}
 
 -- what the driver's events ask for, in two managed states that are the same for it

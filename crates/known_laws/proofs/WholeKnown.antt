@@ -5,7 +5,8 @@ use Rattle.std.proofs.lemmas.List.{append-nil}
 use Rattle.joint_model.specs.Draws.{NumberedFrom}
 use Rattle.joint_model.specs.Linked.{Linkage, opening_linkage, replayed}
 use Rattle.joint_model.specs.Told.{Noted}
-use Rattle.known_laws.specs.Growing.{LinkedIsKnown, entries, entries_in, turned}
+use Rattle.known_laws.specs.Growing.{LinkedIsKnown, entries, turned}
+use Rattle.joint_model.specs.HistoryLines.{entries_in}
 use Rattle.known_laws.specs.Pasts.{Lawful, end_of, is_in, line, next_of}
 use Rattle.known_laws.proofs.Growing.{entries_append}
 use Rattle.known_laws.proofs.Retelling.{AllPlain, plain_list}

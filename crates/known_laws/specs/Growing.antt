@@ -10,7 +10,8 @@ use Rattle.joint_model.specs.Linked.{Linkage, MayCome, AllMayCome, IsWhole, IsLi
 use Rattle.joint_model.specs.PeerReplay.{Mirror}
 use Rattle.joint_model.specs.Told.{Told, Noted, nothing}
 use Rattle.known_laws.specs.Known.{TellsPlainly}
-use Rattle.known_laws.specs.Pasts.{In, is_in, line, end_of, Lawful, HasSameDeadPart, caller_line, driver_line}
+use Rattle.known_laws.specs.Pasts.{In, is_in, line, end_of, Lawful, HasSameDeadPart, driver_line}
+use Rattle.joint_model.specs.HistoryLines.{caller_line, entries_in}
 use Rattle.joint_model.specs.Draws.{NumberedFrom}
 
 -- an entry of which nothing is told, and the entries of notes
@@ -52,11 +53,6 @@ pub record HasGrown (lines : ℕ → List Entry) (past : List Noted) (n : Noted)
 -- an entry may be added that may come after the past and whose number is above all that is known
 abbrev pub KnownLinesGrow : Type 0
 KnownLinesGrow = (lines : ℕ → List Entry) (k : AreKnown lines) (n : Noted) → ((i : ℕ) → AreBelow n.entry.number (lines i)) → MayCome (end_of k.past) n → HasGrown lines k.past n
-
--- the entries of a line of the whole run
-abbrev pub entries_in : ℕ → List Entry → List Entry
-entries_in i [] = []
-entries_in i (e ∷ es) = if is_in i (untold e) then e ∷ entries_in i es else entries_in i es
 
 -- the lines are beginnings of those of the whole
 abbrev pub Begin : List Entry → (ℕ → List Entry) → Type 0

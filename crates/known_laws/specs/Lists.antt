@@ -8,8 +8,9 @@ use Rattle.joint_model.specs.PeerReplay.{opening_peer_replay, is_thread}
 use Rattle.joint_model.specs.Components.{Rises}
 use Rattle.joint_model.specs.Sides.{managed_rules, peer_rules, LeadsTo, IsReplayed}
 use Rattle.joint_model.specs.Told.{Noted}
-use Rattle.known_laws.specs.Pasts.{line, end_of, Lawful, caller_line}
-use Rattle.known_laws.specs.Growing.{AreKnown, entries, entries_in}
+use Rattle.known_laws.specs.Pasts.{line, end_of, Lawful}
+use Rattle.joint_model.specs.HistoryLines.{caller_line, entries_in}
+use Rattle.known_laws.specs.Growing.{AreKnown, entries}
 use Rattle.joint_model.specs.Draws.{NumberedFrom}
 
 -- each side's list in a past is lawful, and leads to that side's state at the past's end, so that the side is the replay of its

@@ -1,21 +1,16 @@
 -- What a seat knows: a past, latest entry first, with numbers left out, and its lines.
-use Rattle.std.specs.Prelude.{◌≡◌, ℕ, ◌+◌, ◌≤◌, ◌==◌, ◌||◌, ◌⊎◌, Bool, if◌then◌else◌, List, [], ◌∷◌, ◌++◌, map, Contains, Some}
+use Rattle.std.specs.Prelude.{◌≡◌, ℕ, ◌+◌, ◌≤◌, ◌⊎◌, Bool, if◌then◌else◌, List, [], ◌∷◌, ◌++◌, map, Contains, Some}
 use mathlib.Core.List.{IsPrefix}
-use Rattle.joint_model.specs.declared.names.Thread.{Thread}
 use Rattle.joint_model.specs.Components.{mirror_edges}
-use Rattle.joint_model.specs.Control.{Opened, contracted, caller_place, candidates_of, IsCandidateHandle, carried_edges}
+use Rattle.joint_model.specs.Control.{Opened, contracted, candidates_of, IsCandidateHandle, carried_edges}
 use Rattle.joint_model.specs.Cycles.{IsDeadContraction}
 use Rattle.joint_model.specs.Heaps.{fields_of}
-use Rattle.joint_model.specs.Lines.{is_peer_event}
+use Rattle.joint_model.specs.HistoryLines.{caller_line, side_line, stands_in}
 use Rattle.joint_model.specs.Linked.{Linkage, opening_linkage, linkage_after}
 use Rattle.joint_model.specs.Managed.{Managed, OpenCycle, handle_of}
 use Rattle.joint_model.specs.Peers.{Issued}
 use Rattle.joint_model.specs.Told.{Noted, nothing}
 use Rattle.known_laws.specs.Known.{MayComeLater}
-
--- A run has lines: 0 is the managed list, 1 the peer list, those from 2 to 9 are left to readers, and those from 10 on are callers'.
-abbrev pub caller_line : Thread → ℕ
-caller_line t = caller_place t + 10
 
 -- the driver's line
 abbrev pub driver_line : ℕ
@@ -23,7 +18,7 @@ driver_line = 10
 
 -- the line of the list in which an entry stands
 abbrev pub role_of : Noted → ℕ
-role_of n = if is_peer_event n.entry.made.caller n.entry.made.op then 1 else 0
+role_of n = side_line n.entry
 
 -- the line of the entry's caller
 abbrev pub own_of : Noted → ℕ
@@ -31,7 +26,7 @@ own_of n = caller_line n.entry.made.caller
 
 -- the entry stands in line i
 abbrev pub is_in : ℕ → Noted → Bool
-is_in i n = (i == role_of n) || (i == own_of n)
+is_in i n = stands_in i n.entry
 
 -- line i of a past, earliest first
 abbrev pub line : ℕ → List Noted → List Noted

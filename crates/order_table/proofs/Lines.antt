@@ -10,7 +10,8 @@ use mathlib.Core.List.{IsPrefix}
 use Rattle.order_table.specs.declared.views.Kept.{Kept}
 use Rattle.order_table.specs.declared.views.View.{View}
 use Rattle.order_table.specs.Rows.{at}
-use Rattle.order_table.specs.Views.{caller_line, known, grown, appended}
+use Rattle.order_table.specs.Views.{known, grown, appended}
+use Rattle.joint_model.specs.HistoryLines.{caller_line}
 use Rattle.order_table.specs.Rule.{Item, IsItem, is_in, of_line, RunsFrom, IsBelow}
 use Rattle.order_table.specs.Tells.{Grows}
 use Rattle.order_table.proofs.Places.{at_put_here, at_put_else}

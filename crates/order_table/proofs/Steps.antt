@@ -21,7 +21,8 @@ use Rattle.joint_model.specs.Lines.{IsThread}
 use Rattle.order_table.specs.declared.views.Kept.{Kept}
 use Rattle.order_table.specs.declared.views.View.{View}
 use Rattle.order_table.specs.Rows.{at, longer}
-use Rattle.order_table.specs.Views.{IsInRole, IsCompared, OwnsAll, caller_line, kept, known, Owns, first_view, spent_view, appended, giving, given, hearing, learned, lines_of_none}
+use Rattle.order_table.specs.Views.{IsInRole, IsCompared, OwnsAll, kept, known, Owns, first_view, spent_view, appended, giving, given, hearing, learned, lines_of_none}
+use Rattle.joint_model.specs.HistoryLines.{caller_line}
 use Rattle.order_table.specs.Rule.{Item, is_in, of_line, RunsFrom, Knows, HasOwner, Ordered, IsWhole}
 use Rattle.order_table.specs.Tells.{Appended, Compared}
 use Rattle.order_table.proofs.Places.{begins_more, longer_begins, first_begins_longer, second_begins_longer, whole_longer, longer_whole, at_longest, at_joined, at_common, at_without, or_true}

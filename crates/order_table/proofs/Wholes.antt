@@ -14,9 +14,11 @@ use Rattle.joint_model.specs.Draws.{NumberedFrom}
 use Rattle.joint_model.specs.Lines.{IsThread, is_peer_event}
 use Rattle.order_table.specs.declared.views.Role.TheVariants as role
 use Rattle.order_table.specs.declared.views.Kept.{Kept}
-use Rattle.order_table.specs.Views.{IsInRole, caller_line}
+use Rattle.order_table.specs.Views.{IsInRole}
+use Rattle.joint_model.specs.HistoryLines.{caller_line}
 use Rattle.order_table.specs.Rule.{Item, IsItem, is_in, of_line, RunsFrom}
-use Rattle.order_table.specs.Facts.{In, RuleKeepsLists, RolesDiffer, CallersDiffer, entries_in, entries_of, line_entries, EntriesTellLines}
+use Rattle.order_table.specs.Facts.{In, RuleKeepsLists, RolesDiffer, CallersDiffer, entries_of, line_entries, EntriesTellLines}
+use Rattle.joint_model.specs.HistoryLines.{entries_in}
 use Rattle.order_table.proofs.Lines.{role_in, caller_in, in_cases, bounded}
 
 -- an entry of the history

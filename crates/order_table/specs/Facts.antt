@@ -1,6 +1,6 @@
 -- What follows from the rule, in words of their own: whole lists and passes between any two steps, and that entries by themselves tell in which
 -- lines they stand.
-use Rattle.std.specs.Prelude.{◌≡◌, ◌⊎◌, ℕ, ◌<◌, ◌≤◌, ◌==◌, ◌||◌, if◌then◌else◌, Bool, List, [], ◌∷◌, length, map, slice_index}
+use Rattle.std.specs.Prelude.{◌≡◌, ◌⊎◌, ℕ, ◌<◌, ◌≤◌, List, [], ◌∷◌, length, map, slice_index}
 use mathlib.Core.Option.{some}
 use mathlib.Core.List.{IsPrefix}
 use lib.ListN.{get_elem?}
@@ -8,12 +8,13 @@ use Rattle.atomic_table.specs.Table.{State}
 use Rattle.joint_model.specs.declared.names.Thread.{Thread}
 use Rattle.joint_model.specs.declared.events.Entry.{Entry}
 use Rattle.joint_model.specs.Draws.{NumberedFrom}
-use Rattle.joint_model.specs.Lines.{IsThread, is_peer_event}
+use Rattle.joint_model.specs.Lines.{IsThread}
 use Rattle.order_table.specs.declared.views.Role.{Role}
 use Rattle.order_table.specs.declared.views.Kept.{Kept}
 use Rattle.order_table.specs.declared.views.View.{View}
 use Rattle.order_table.specs.Rows.{at}
-use Rattle.order_table.specs.Views.{IsRole, role_line, caller_line, known, Owns}
+use Rattle.order_table.specs.Views.{IsRole, role_line, known, Owns}
+use Rattle.joint_model.specs.HistoryLines.{caller_line, entries_in}
 use Rattle.order_table.specs.Rule.{Item, Ordered, RunsFrom, of_line}
 
 -- the entry stands in the list
@@ -63,18 +64,6 @@ RolesDiffer = (q r : Role) → IsRole q → IsRole r → role_line q ≡ role_li
 
 abbrev pub CallersDiffer : Type 0
 CallersDiffer = (t u : Thread) → IsThread t → IsThread u → caller_line t ≡ caller_line u → t ≡ u
-
--- the line of the role in whose list an entry belongs, by its event
-abbrev pub role_of : Entry → ℕ
-role_of e = if is_peer_event e.made.caller e.made.op then 1 else 0
-
--- the entry stands in the line, by its event and its caller
-abbrev pub stands_in : ℕ → Entry → Bool
-stands_in i e = (i == role_of e) || (i == caller_line e.made.caller)
-
-abbrev pub entries_in : ℕ → List Entry → List Entry
-entries_in i [] = []
-entries_in i (e ∷ es) = if stands_in i e then e ∷ entries_in i es else entries_in i es
 
 -- the entries of a history, and those of a line
 abbrev pub entries_of : List Item → List Entry

@@ -9,7 +9,8 @@ use Rattle.joint_model.specs.Lines.{IsThread}
 use Rattle.order_table.specs.declared.views.Kept.{Kept}
 use Rattle.order_table.specs.declared.views.View.{View}
 use Rattle.order_table.specs.Rows.{at}
-use Rattle.order_table.specs.Views.{IsInRole, caller_line, known, Owns}
+use Rattle.order_table.specs.Views.{IsInRole, known, Owns}
+use Rattle.joint_model.specs.HistoryLines.{caller_line}
 
 -- an entry of the history, with the line of the role in whose list it stands
 pub record Item : Type 0 where

@@ -10,7 +10,8 @@ use Rattle.order_table.specs.declared.views.Role.{Role}
 use Rattle.order_table.specs.declared.views.Kept.{Kept}
 use Rattle.order_table.specs.declared.views.View.{View}
 use Rattle.order_table.specs.Rows.{at}
-use Rattle.order_table.specs.Views.{role_line, caller_line, kept, known, Owns, appended, learned}
+use Rattle.order_table.specs.Views.{role_line, kept, known, Owns, appended, learned}
+use Rattle.joint_model.specs.HistoryLines.{caller_line}
 use Rattle.order_table.specs.Rule.{Item, RunsFrom, of_line, IsBelow}
 
 -- what is known are beginnings of the lines of one history, whose entries have the numbers from 0 on

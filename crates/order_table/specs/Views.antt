@@ -11,6 +11,7 @@ use Rattle.joint_model.specs.declared.events.Op.{Op}
 use Rattle.joint_model.specs.declared.events.Op.TheVariants as op
 use Rattle.joint_model.specs.declared.events.Made.{Made}
 use Rattle.joint_model.specs.Control.{caller_place}
+use Rattle.joint_model.specs.HistoryLines.{caller_line}
 use Rattle.joint_model.specs.Draws.{numbered}
 use Rattle.joint_model.specs.Lines.{is_peer_event}
 use Rattle.order_table.specs.declared.views.Role.{Role}
@@ -38,10 +39,6 @@ abbrev pub role_line : Role → ℕ
 role_line role.Managed = 0
 role_line role.Peer = 1
 role_line (role.Reader i) = 1 + i
-
--- the line of a caller
-abbrev pub caller_line : Thread → ℕ
-caller_line t = caller_place t + 10
 
 -- a role that there is: readers are numbered from 1 to 8, so that no two roles have one line
 abbrev pub IsRole : Role → Type 0

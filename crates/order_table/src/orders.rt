@@ -4,7 +4,8 @@ ghost use Rattle.std.specs.Prelude.{◌≡◌, ◌<◌, ◌≤◌, ℕ, length, 
 ghost use Rattle.joint_model.specs.Lines.{IsThread};
 ghost use Rattle.order_table.specs.Rule.{IsBelow, IsWhole};
 ghost use Rattle.order_table.specs.Tells.{Grows, Parts, IsOfRole, IsOfCaller, IsOfNone, TakesIn, IsOneHistory};
-ghost use Rattle.order_table.specs.Views.{IsRole, IsInRole, role_line, caller_line, kept, known, Owns, OwnsAll, first_view, appended, giving, given, hearing, learned, lines_of_role, lines_of_caller, lines_of_none};
+ghost use Rattle.order_table.specs.Views.{IsRole, IsInRole, role_line, kept, known, Owns, OwnsAll, first_view, appended, giving, given, hearing, learned, lines_of_role, lines_of_caller, lines_of_none};
+ghost use Rattle.joint_model.specs.HistoryLines.{caller_line};
 
 use crate::finished::Linked;
 use crate::plays::{Append, Compare, Cut, Glue, Lines, NoLine, Saying, Sequence};

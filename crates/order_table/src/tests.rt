@@ -2,7 +2,8 @@
 
 ghost use Rattle.std.specs.Prelude.{◌≡◌, ◌⊎◌, ℕ, ◌+◌, ◌<◌, ◌≤◌, [], IfOk, length, vec_len};
 ghost use Rattle.joint_model.specs.Lines.{IsThread};
-ghost use Rattle.order_table.specs.Views.{IsRole, IsInRole, role_line, caller_line, known, Owns, OwnsAll, first_view};
+ghost use Rattle.order_table.specs.Views.{IsRole, IsInRole, role_line, known, Owns, OwnsAll, first_view};
+ghost use Rattle.joint_model.specs.HistoryLines.{caller_line};
 
 use crate::{Order, OrderName, Role, Seat};
 use joint_model::{Made, Op, Reply, Thread, Var};
@@ -59,7 +60,8 @@ impl<N: OrderName> Model for Caller<N> {
     ghost use Rattle.std.specs.Prelude.{◌≡◌};
     ghost use Rattle.joint_model.specs.declared.names.Thread.{Thread};
     ghost use Rattle.joint_model.specs.Lines.{IsThread};
-    ghost use Rattle.order_table.specs.Views.{Owns, caller_line};
+    ghost use Rattle.order_table.specs.Views.{Owns};
+    ghost use Rattle.joint_model.specs.HistoryLines.{caller_line};
 
     ghost Value = { Thread };
 
