@@ -20,6 +20,7 @@ pub mod PlainBetween
 pub mod HeldPeer
 pub mod Abandoned
 pub mod OneObject
+pub mod SideLists
 pub mod Freeing
 pub mod Readings
 pub mod TwoMarkings

@@ -15,6 +15,7 @@ ghost use Rattle.worked_histories.specs.PlainBetween.{PlainBetweenHolds};
 ghost use Rattle.worked_histories.specs.PlainObject.{PlainObjectHolds};
 ghost use Rattle.worked_histories.specs.Refusals.{RefusalsHold};
 ghost use Rattle.worked_histories.specs.Resurrected.{ResurrectedHolds};
+ghost use Rattle.worked_histories.specs.SideLists.{OneObjectSidesHold};
 ghost use Rattle.worked_histories.specs.TwoMarkings.{TwoMarkingsHold};
 
 /// Phases out of their order.
@@ -75,6 +76,11 @@ pub fn abandoned_is_lawful()
 /// One bridge object that is let go.
 pub fn one_object_is_lawful()
     ensures { OneObjectHolds }
+{}
+
+/// Each side's list of the one object is lawful by itself, and the side is the replay of it.
+pub fn one_object_has_two_lists()
+    ensures { OneObjectSidesHold }
 {}
 
 /// The run of the one object frees nothing too early, and leaves nothing that was unreached throughout its cycle.

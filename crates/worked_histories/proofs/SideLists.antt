@@ -1,0 +1,76 @@
+-- Each side's list passes its own side's test, entry by entry, so each entry may come when it comes.
+use Rattle.std.proofs.Common.{◌≡◌, Bool, true, false, ◌&&◌, not, List, [], ◌∷◌, map, refl, sym}
+use Rattle.joint_model.specs.declared.events.Made.{Made}
+use Rattle.joint_model.specs.Lines.{is_peer_event}
+use Rattle.joint_model.specs.ManagedReplay.{ManagedReplay, opening_replay}
+use Rattle.joint_model.specs.PeerReplay.{PeerReplay, peer_answer}
+use Rattle.joint_model.specs.Sides.{SideRules, IsOfSide, managed_rules, peer_rules, LeadsTo, IsReplayed}
+use Rattle.joint_model.specs.Told.{Told, Noted}
+use Rattle.history_tests.specs.Histories.{managed_lawful, peer_lawful}
+use Rattle.history_tests.specs.Lines.{is_event}
+use Rattle.history_tests.proofs.Telling.{Tells, always, and2, like, refuted}
+use Rattle.history_tests.proofs.HistoryTests.{managed_side}
+use Rattle.history_tests.proofs.LineTests.{tells_event}
+use Rattle.history_tests.proofs.ReplyTests.{replies}
+use Rattle.history_tests.proofs.SideTests.{peer}
+use Rattle.history_tests.specs.Lists.{rises}
+use Rattle.history_tests.proofs.Reaching.{rising}
+use Rattle.worked_histories.specs.OneObject.{one_object}
+use Rattle.worked_histories.specs.SideLists.{managed_notes, peer_notes, state_after, side_by, adopted_twice, OneObjectSidesHold}
+
+-- each entry of the list passes a test
+abbrev leads_by : {S : Type 0} → SideRules S → (S → Made → Told → Bool) → S → List Noted → Bool
+leads_by r test s [] = true
+leads_by r test s (n ∷ ns) = test s n.entry.made n.told && leads_by r test (r.next s n.entry.made n.told) ns
+
+leads : {S : Type 0} (r : SideRules S) (test : S → Made → Told → Bool) → ((s : S) (m : Made) (told : Told) → Tells (test s m told) (r.lawful s m told)) → (s : S) (ns : List Noted) → Tells (leads_by r test s ns) (LeadsTo r s ns (state_after r s ns))
+leads r test t s [] = always refl
+leads r test t s (n ∷ ns) = and2 (t s n.entry.made n.told) (leads r test t (r.next s n.entry.made n.told) ns)
+
+-- the event is one of the managed side, or of the peer side
+abbrev of_managed : Made → Bool
+of_managed m = is_event m.caller m.op && not (is_peer_event m.caller m.op)
+
+abbrev of_peer : Made → Bool
+of_peer m = is_event m.caller m.op && is_peer_event m.caller m.op
+
+off : (b : Bool) → Tells (not b) (b ≡ false)
+off true = record { holds = λ e. sym e; passes = λ e. sym e }
+off false = record { holds = λ e. refl; passes = λ e. refl }
+
+is_managed : (m : Made) → Tells (of_managed m) (IsOfSide false m)
+is_managed m = like (λ p. record { event = p.0; side = p.1 }) (λ r. (r.event, r.side)) (and2 (tells_event m.caller m.op) (off (is_peer_event m.caller m.op)))
+
+is_peer : (m : Made) → Tells (of_peer m) (IsOfSide true m)
+is_peer m = like (λ p. record { event = p.0; side = p.1 }) (λ r. (r.event, r.side)) (and2 (tells_event m.caller m.op) (record { holds = λ e. e; passes = λ e. e }))
+
+abbrev managed_test : ManagedReplay → Made → Told → Bool
+managed_test s m told = of_managed m && managed_lawful s m told
+
+abbrev peer_test : PeerReplay → Made → Told → Bool
+peer_test s m told = of_peer m && peer_lawful s m told
+
+managed_tells : (s : ManagedReplay) (m : Made) (told : Told) → Tells (managed_test s m told) (managed_rules.lawful s m told)
+managed_tells s m told = and2 (is_managed m) (managed_side s m told)
+
+peer_tells : (s : PeerReplay) (m : Made) (told : Told) → Tells (peer_test s m told) (peer_rules.lawful s m told)
+peer_tells s m told = and2 (is_peer m) (like (λ p. record { allowed = p.0; replies = p.1 }) (λ r. (r.allowed, r.replies)) (and2 (peer s m.caller m.op m.cites told) (replies m.reply (peer_answer s m.caller m.op m.cites told).reply)))
+
+replayed : {S : Type 0} (r : SideRules S) (test : S → Made → Told → Bool) → ((s : S) (m : Made) (told : Told) → Tells (test s m told) (r.lawful s m told)) → (ns : List Noted)
+    → rises (map (λ e. e.number) (side_by r ns).entries) ≡ true → leads_by r test r.opening ns ≡ true → IsReplayed r (side_by r ns)
+replayed r test t ns up passes = record { rise = (rising (map (λ e. e.number) (side_by r ns).entries)).holds up; noted = ns; same = refl; leads = (leads r test t r.opening ns).holds passes }
+
+pub one_object-sides : OneObjectSidesHold
+one_object-sides = record {
+  managed = replayed managed_rules managed_test managed_tells (managed_notes one_object) refl refl;
+  peer = replayed peer_rules peer_test peer_tells (peer_notes one_object) refl refl;
+  freed = refl;
+  queued = refl;
+  closed = refl;
+  pairs = refl;
+  freed_peer = refl;
+  table = refl;
+  ended = refl;
+  cleared = refl;
+  adopted_once = λ s l. refuted (leads managed_rules managed_test managed_tells opening_replay adopted_twice) refl (l.0, (l.1.0, refl));
+}
