@@ -1,22 +1,22 @@
 -- The edges of the heap, and those that the marking loop walks. Between live objects they are the same; from a freed one the loop's lead on, but
 -- no freed object has a mark, and no walk from a live one comes to one. So a marking over the one kind of edges is one over the other.
-use Rattle.std.proofs.Common.{◌≡◌, ℕ, zero, suc, ◌+◌, ◌≤◌, ◌<◌, ◌⊎◌, ◌↔◌, inl, inr, Bool, true, false, List, [], ◌∷◌, map, length, Option, Some, None, get_or, take, refl, sym, ap, subst, ◌∙◌, arith}
+use Rattle.std.proofs.Common.{◌≡◌, ℕ, zero, suc, ◌<◌, inl, inr, Bool, true, false, List, [], ◌∷◌, map, length, Option, Some, None, get_or, refl, sym, ap, subst, ◌∙◌, arith}
 use Rattle.std.specs.Prelude.{Contains, slice_get, IsTrue}
-use Rattle.std.proofs.lemmas.Option.{slice_get_read, slice_get-get_or, get_or_from_slice_get}
+use Rattle.std.proofs.lemmas.Option.{slice_get_read, slice_get-get_or}
 use Rattle.std.proofs.lemmas.List.{length-map}
-use Rattle.joint_model.specs.Heaps.{Heap, IsLive, HasField, fields_of, slot}
+use Rattle.joint_model.specs.Heaps.{Heap, IsLive, slot}
 use Rattle.joint_model.specs.Walks.{Reached}
 use Rattle.joint_model.proofs.Members.{Contains-at}
 use Rattle.joint_model.proofs.WalkLemmas.{Reached-keeps, Reached-start, Reached-then, Reached-mono}
 use Rattle.object_heap.specs.Tidy.{IsTidy}
 use Rattle.reachability.specs.Marks.{IsClosed, IsMarked}
-use Rattle.row_marking.specs.Traces.{Greying, IsGreying, Leads, RefersFrom}
+use Rattle.row_marking.specs.Traces.{Greying, Leads}
 use Rattle.object_heap.specs.Flags.{IsSound}
 use Rattle.row_marking.specs.Traces.{IsLastBelow}
 use Rattle.row_heap.specs.Places.{Seen, row_at, unmarked_row}
 use Rattle.row_heap.specs.declared.references.Reference.{Reference}
-use Rattle.row_heap.specs.Rows.{AreReferences, HeapRows, IsRowHeap, heap_of, pairs_in, rows_of, stands_in}
-use Rattle.row_heap.specs.Marks.{AreEndsLive, EdgeOf, followed, shape_of, unmarked_rows}
+use Rattle.row_heap.specs.Rows.{HeapRows, IsRowHeap, heap_of, pairs_in, rows_of, stands_in}
+use Rattle.row_heap.specs.Marks.{AreEndsLive, EdgeOf, shape_of, unmarked_rows}
 use Rattle.row_heap.proofs.Walked.{followed-all, followed-at, live-seen, stands-seen}
 
 pub leads-edge : (v : HeapRows) (x y : ℕ) → IsTidy v.heap → (IsTrue v.follows → AreEndsLive v) → IsLive v.heap x → Leads (shape_of v) x y → EdgeOf v x y

@@ -1,20 +1,18 @@
 -- Rows that are removed one after another. A removed row keeps its fields and doesn't stand, so it can't be one of those that stand; the others
 -- are as they were. Which rows stand is the list of flags of `object_heap`, whose lemmas on flags taken down are used as they are.
-use Rattle.std.proofs.Common.{◌≡◌, ◌≢◌, ℕ, zero, suc, ◌+◌, ◌-◌, ◌≤◌, ◌<◌, ◌⊎◌, inl, inr, Bool, true, false, List, [], ◌∷◌, ◌++◌, map, length, take, Option, Some, None, set, get_or, refl, sym, ap, subst, ◌∙◌, arith, length-append}
+use Rattle.std.proofs.Common.{◌≡◌, ℕ, zero, suc, ◌+◌, ◌≤◌, ◌<◌, Bool, true, false, List, [], ◌∷◌, ◌++◌, map, length, take, Option, Some, get_or, refl, sym, ap, subst, ◌∙◌}
 use Rattle.std.specs.Prelude.{Contains, All}
-use Rattle.std.proofs.lemmas.List.Elements.{All-contains}
 use Rattle.std.proofs.lemmas.List.{length-map}
 use Rattle.joint_model.specs.Components.{Rises}
-use Rattle.joint_model.specs.Heaps.{Heap, IsLive, numbered_at, numbered_set, with_freed}
-use Rattle.joint_model.proofs.Members.{Contains-decided}
+use Rattle.joint_model.specs.Heaps.{Heap, IsLive, numbered_set, with_freed}
 use Rattle.object_heap.specs.Flags.{IsSound, IsUp, TakesDown, up_count}
 use Rattle.object_heap.specs.Tidy.{CanFree}
 use Rattle.object_heap.proofs.Numbered.{numbered_set-index}
 use Rattle.object_heap.proofs.Sound.{IsSound-gone, TakesDown-here, TakesDown-next, TakesDown-none}
 use Rattle.row_heap.specs.declared.references.Reference.{Reference}
 use Rattle.row_heap.specs.Places.{Seen, row_at, gone}
-use Rattle.row_heap.specs.Rows.{AreReferences, HeapRows, IsRowHeap, NoneRefers, RowsFreed, heap_of, pairs_in, rows_of, stands_in}
-use Rattle.row_heap.proofs.Sound.{AreReferences-as, flag-stands, live-stands, map-kept, map-written, stands-flag, stands-live}
+use Rattle.row_heap.specs.Rows.{HeapRows, IsRowHeap, NoneRefers, RowsFreed, heap_of, rows_of, stands_in}
+use Rattle.row_heap.proofs.Sound.{AreReferences-as, flag-stands, map-kept, map-written, stands-flag, stands-live}
 
 -- a row that stands after one was removed is as it was
 pub row_at-removed : (rows : List Seen) (x : ℕ) (fs : List (Option ℕ)) (z : ℕ) → (row_at (numbered_set rows x (gone fs)) z).stands ≡ true → row_at (numbered_set rows x (gone fs)) z ≡ row_at rows z

@@ -1,12 +1,12 @@
 -- References of each row as a linked list. A further reference stands last, and the one of its row before it is the one that the row said: between
 -- them stands none of the row's. The lists of other rows go on as they were, since each speaks of the places below one of its own.
-use Rattle.std.proofs.Common.{◌≡◌, ◌≢◌, ℕ, zero, suc, ◌+◌, ◌-◌, ◌≤◌, ◌<◌, ◌⊎◌, inl, inr, Bool, true, false, List, [], ◌∷◌, ◌++◌, map, length, take, get_or, Option, Some, None, refl, sym, ap, subst, ◌∙◌, arith, length-append}
+use Rattle.std.proofs.Common.{◌≡◌, ◌≢◌, ℕ, zero, suc, ◌+◌, ◌-◌, ◌≤◌, ◌⊎◌, inl, inr, Bool, true, false, List, [], ◌∷◌, ◌++◌, map, length, Option, Some, None, refl, sym, ap, subst, ◌∙◌, arith, length-append}
 use Rattle.std.specs.Prelude.{All, Contains, slice_get}
 use Rattle.std.proofs.lemmas.Bool.{cases_eq, cases_lt}
 use Rattle.std.proofs.lemmas.List.{length-map, map-append}
-use Rattle.std.proofs.lemmas.List.Elements.{Contains-push_cases, All-contains}
-use Rattle.std.proofs.lemmas.Option.{slice_get_within, slice_get-map}
-use Rattle.joint_model.specs.Heaps.{Heap, IsLive, numbered_at, numbered_set}
+use Rattle.std.proofs.lemmas.List.Elements.{Contains-push_cases}
+use Rattle.std.proofs.lemmas.Option.{slice_get_within}
+use Rattle.joint_model.specs.Heaps.{Heap, numbered_at, numbered_set}
 use Rattle.joint_model.proofs.Numbered.{numbered_set-here, numbered_set-other, numbered_set-length, push-at_cases, push-at_old, push-at_new}
 use Rattle.object_heap.specs.Flags.{IsSound}
 use Rattle.row_marking.specs.Traces.{IsLastBelow}
@@ -15,9 +15,8 @@ use Rattle.row_heap.specs.Places.{Seen, row_at, gone}
 use Rattle.row_heap.specs.Rows.{AreReferences, FirstsCleared, HeapRows, IsRowHeap, heap_of, pairs_in, rows_of, stands_in}
 use Rattle.row_heap.proofs.Indexed.{stands-within}
 use Rattle.row_heap.proofs.Sound.{map-kept, row_at-kept}
-use Rattle.joint_model.proofs.Members.{All-members, Contains-map, Contains-at, Contains-here, Contains-there, Contains-nil}
+use Rattle.joint_model.proofs.Members.{All-members, Contains-map, Contains-here, Contains-there, Contains-nil}
 use Rattle.row_heap.proofs.Sound.{flag-stands, stands-flag}
-use Rattle.row_heap.proofs.Walked.{stands-seen}
 
 -- a row that was written, and another one
 pub row_at-here : (rows : List Seen) (x : ℕ) (y : Seen) → 1 ≤ x → x ≤ length rows → row_at (numbered_set rows x y) x ≡ y

@@ -1,25 +1,21 @@
 -- A heap of rows stays sound. It is the heap of `object_heap` over plain lists, whose lemmas are used as they are: its flags are which rows
 -- stand. Slots and fields are written between rows that stand, so no row comes or goes, and no reference is touched. A further row stands last,
 -- and no reference is its own.
-use Rattle.std.proofs.Common.{◌≡◌, ◌≢◌, ℕ, zero, suc, ◌+◌, ◌-◌, ◌≤◌, ◌<◌, ◌⊎◌, ◌↔◌, inl, inr, Bool, true, false, List, [], ◌∷◌, ◌++◌, map, length, replicate, Option, Some, None, IsTrue, set, get_or, refl, sym, ap, subst, ◌∙◌, arith, length-append}
+use Rattle.std.proofs.Common.{◌≡◌, ℕ, zero, suc, ◌+◌, ◌≤◌, ◌<◌, ◌⊎◌, inl, inr, Bool, true, false, List, [], ◌∷◌, ◌++◌, map, length, replicate, Option, Some, None, set, refl, sym, ap, subst, ◌∙◌, arith, length-append}
 use Rattle.std.specs.Prelude.{Contains, slice_get}
-use Rattle.std.specs.Option.{ForSome, IfSome}
+use Rattle.std.specs.Option.{ForSome}
 use Rattle.std.proofs.lemmas.Bool.{cases_lt}
 use Rattle.std.proofs.lemmas.List.{length-map, map-append, map-set}
-use Rattle.std.proofs.lemmas.List.Elements.{Contains-get_or}
-use Rattle.std.proofs.lemmas.Option.{slice_get_within}
-use Rattle.joint_model.specs.Heaps.{Heap, MOST, IsLive, fields_of, numbered_at, numbered_set, with_field, opening_heap, with_object, slot}
+use Rattle.joint_model.specs.Heaps.{Heap, MOST, IsLive, fields_of, numbered_at, numbered_set, with_field}
 use Rattle.joint_model.proofs.Members.{Contains-nil, Contains-at}
 use Rattle.row_heap.proofs.Indexed.{stands-within}
 use Rattle.joint_model.proofs.Numbered.{numbered-push_old, numbered-push_new, numbered-past, numbered_set-length}
-use Rattle.object_heap.specs.Flags.{IsSound, IsUp}
+use Rattle.object_heap.specs.Flags.{IsSound}
 use Rattle.object_heap.specs.Tidy.{IsTidy}
-use Rattle.object_heap.proofs.Sound.{IsSound-empty, IsSound-added, IsSound-field, IsUp-live, read-live}
-use Rattle.object_heap.proofs.Numbered.{slot-read}
+use Rattle.object_heap.proofs.Sound.{IsSound-empty, IsSound-added, IsSound-field, IsUp-live}
 use Rattle.row_marking.specs.Traces.{IsLastBelow}
-use Rattle.row_heap.specs.declared.places.Row.{Row}
 use Rattle.row_heap.specs.declared.references.Reference.{Reference}
-use Rattle.row_heap.specs.Places.{Seen, row_at, gone, standing}
+use Rattle.row_heap.specs.Places.{Seen, row_at, gone}
 use Rattle.row_heap.specs.Rows.{AreReferences, HeapRows, IsRowHeap, heap_of, pairs_in, rows_of, stands_in}
 
 -- the flag of a row is whether it stands

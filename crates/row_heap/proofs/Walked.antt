@@ -1,17 +1,17 @@
 -- The rows as a marking walks them. A row that stands has its mark and its link at its number. A reference is followed only where the marking
 -- follows references; then its source's list is linked, and what a live source leads to is live. To mark a row writes its mark and link alone.
-use Rattle.std.proofs.Common.{◌≡◌, ℕ, zero, suc, ◌+◌, ◌-◌, ◌≤◌, ◌<◌, ◌⊎◌, inl, inr, Bool, true, false, List, [], ◌∷◌, map, length, Option, Some, None, set, get_or, refl, sym, ap, subst, ◌∙◌, arith}
+use Rattle.std.proofs.Common.{◌≡◌, ℕ, zero, suc, ◌≤◌, ◌<◌, Bool, true, false, List, [], ◌∷◌, map, length, Option, Some, None, set, get_or, refl, sym, ap, subst, ◌∙◌, arith}
 use Rattle.std.specs.Prelude.{Contains, slice_get, if◌then◌else◌}
 use Rattle.std.specs.Option.{IfSome, option_map}
 use Rattle.std.proofs.lemmas.List.{length-map, map-set}
 use Rattle.std.proofs.lemmas.Option.{slice_get_read, slice_get_within, slice_get-map}
-use Rattle.joint_model.specs.Heaps.{Heap, IsLive, HasField, numbered_at, numbered_set, fields_of}
+use Rattle.joint_model.specs.Heaps.{Heap, IsLive, numbered_set}
 use Rattle.joint_model.proofs.Members.{Contains-at}
 use Rattle.object_heap.specs.Flags.{IsSound}
 use Rattle.row_marking.specs.Traces.{IsLastBelow}
 use Rattle.row_heap.specs.declared.references.Reference.{Reference}
 use Rattle.row_heap.specs.Places.{Seen, row_at}
-use Rattle.row_heap.specs.Rows.{AreReferences, HeapRows, IsRowHeap, heap_of, pairs_in, rows_of, stands_in}
+use Rattle.row_heap.specs.Rows.{HeapRows, IsRowHeap, heap_of, pairs_in, rows_of, stands_in}
 use Rattle.row_heap.specs.Marks.{followed, unmarked_rows}
 use Rattle.row_heap.proofs.Indexed.{stands-within}
 use Rattle.row_heap.proofs.Sound.{AreReferences-written, live-stands, map-kept, stands-live}

@@ -1,5 +1,5 @@
 -- The numbers rise, so each row still stands when its turn comes, and there is room for each.
-use Rattle.std.proofs.Common.{◌≡◌, refl, ◌+◌, ◌∙◌, ◌++◌, [], ◌∷◌, take, map, length, sym, ap, arith, append_assoc, length-append}
+use Rattle.std.proofs.Common.{◌≡◌, refl, ◌+◌, ◌∙◌, ◌++◌, [], ◌∷◌, take, length, sym, ap, arith, append_assoc, length-append}
 use Rattle.std.proofs.lemmas.List.{take_more, length-map}
 use Rattle.row_heap.proofs.Freed.{RowsFreed-here, RowsFreed-next}
 use Rattle.row_heap.proofs.freeing.free_rows.Goals as goal

@@ -1,9 +1,8 @@
 -- One more row has no references in each turn.
-use Rattle.std.proofs.Common.{◌≡◌, ◌∙◌, ◌≤◌, ◌+◌, ◌++◌, ◌∷◌, [], length, take, get_or, ap, sym, subst, arith}
-use Rattle.std.proofs.lemmas.List.{length-map, take_more}
+use Rattle.std.proofs.Common.{◌≡◌, ◌≤◌, ◌+◌, ◌++◌, ◌∷◌, [], length, take, get_or, sym, subst, arith}
+use Rattle.std.proofs.lemmas.List.{take_more}
 use Rattle.std.proofs.lemmas.List.Elements.{All-get_or}
 use Rattle.row_heap.specs.declared.references.Reference.{Reference}
-use Rattle.row_heap.specs.Places.{Seen}
 use Rattle.row_heap.specs.Rows.{FirstsCleared}
 use Rattle.row_heap.proofs.Linked.{FirstsCleared-none, FirstsCleared-next, as-long}
 use Rattle.row_heap.proofs.references.clear_firsts.Goals as goal

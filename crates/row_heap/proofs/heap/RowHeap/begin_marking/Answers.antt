@@ -1,5 +1,5 @@
 -- Only marks change, and whether references are followed.
-use Rattle.std.proofs.Common.{ap, subst, false, ◌∷◌, map}
+use Rattle.std.proofs.Common.{subst, false, ◌∷◌, map}
 use Rattle.reachability.specs.Marks.{IsMarked}
 use Rattle.row_heap.specs.Places.{Seen}
 use Rattle.row_heap.proofs.Edges.{IsRowHeap-unmarked, seen-unmarked, unmarked-none}

@@ -1,5 +1,5 @@
 -- From a live object the loop's edges are those of the heap.
-use Rattle.std.proofs.Common.{◌≡◌, ℕ, ◌∷◌, [], inl, inr, sym, subst}
+use Rattle.std.proofs.Common.{ℕ, ◌∷◌, [], inl, inr, subst}
 use Rattle.std.specs.Prelude.{Contains}
 use Rattle.joint_model.specs.Heaps.{IsLive}
 use Rattle.joint_model.proofs.Members.{Contains-cons_cases, Contains-nil}

@@ -1,5 +1,5 @@
 -- A live object's row stands, and has its fields.
-use Rattle.std.proofs.Common.{◌≡◌, ◌∙◌, sym, ap, length}
+use Rattle.std.proofs.Common.{◌∙◌, sym, ap, length}
 use Rattle.row_heap.proofs.Sound.{live-stands, fields-seen}
 use Rattle.row_heap.proofs.heap.RowHeap.fields_len.Goals as goal
 

@@ -1,6 +1,5 @@
 -- An object is live exactly where its row stands.
-use Rattle.std.proofs.Common.{◌≡◌, ◌≤◌, ◌∙◌, length, arith, sym}
-use Rattle.std.proofs.lemmas.List.{length-map}
+use Rattle.std.proofs.Common.{◌∙◌, sym}
 use Rattle.row_heap.proofs.Sound.{live-stands, stands-live}
 use Rattle.row_heap.proofs.heap.RowHeap.is_live.Goals as goal
 

@@ -1,5 +1,5 @@
 -- The reference stands last, and its row says so.
-use Rattle.std.proofs.Common.{◌≡◌, ◌+◌, length, sym, ap, arith, length-append}
+use Rattle.std.proofs.Common.{sym, ap, arith}
 use Rattle.row_heap.specs.Rows.{HeapRows}
 use Rattle.row_heap.specs.Places.{Seen}
 use Rattle.row_heap.specs.declared.references.Reference.{Reference}

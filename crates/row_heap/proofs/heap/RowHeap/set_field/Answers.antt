@@ -1,8 +1,5 @@
 -- The row of the object is written, and what the field holds from now on is live.
-use Rattle.std.proofs.Common.{◌≡◌, ◌∙◌, sym, ap, length, arith}
-use Rattle.joint_model.specs.Heaps.{Heap, with_field}
-use Rattle.row_heap.specs.Places.{row_at}
-use Rattle.row_heap.specs.Rows.{HeapRows}
+use Rattle.std.proofs.Common.{ap, length, arith}
 use Rattle.row_heap.proofs.Sound.{live-stands, fields-seen, seen-written, IsRowHeap-written}
 use Rattle.row_heap.proofs.heap.RowHeap.set_field.Goals as goal
 

@@ -1,10 +1,9 @@
 -- One more slot is done in each turn: what it names is marked, or it names nothing.
-use Rattle.std.proofs.Common.{◌≡◌, ◌∙◌, ◌≤◌, ◌<◌, length, Some, None, sym, ap, subst, refl, arith}
-use Rattle.std.specs.Prelude.{slice_get}
+use Rattle.std.proofs.Common.{◌≡◌, ◌∙◌, ◌≤◌, ◌<◌, length, Some, None, ap, subst, arith}
 use Rattle.std.proofs.lemmas.List.{take_all}
 use Rattle.joint_model.specs.Heaps.{slot}
 use Rattle.reachability.proofs.Marking.{take-next}
-use Rattle.row_marking.proofs.Greys.{Greyed-push_some, Greyed-push_none, Greyed-none}
+use Rattle.row_marking.proofs.Greys.{Greyed-push_some, Greyed-push_none}
 use Rattle.row_heap.specs.Rows.{HeapRows}
 use Rattle.row_heap.proofs.Edges.{slot-at, rest-kept}
 use Rattle.row_heap.proofs.heap.RowHeap.visit_statics.Goals as goal

@@ -1,5 +1,5 @@
 -- The place keeps what the row had.
-use Rattle.std.proofs.Common.{◌≡◌, ◌∙◌, ◌-◌, ◌<◌, length, sym, ap, arith}
+use Rattle.std.proofs.Common.{◌∙◌, ◌-◌, sym, ap, arith}
 use Rattle.std.proofs.lemmas.Option.{slice_get_within}
 use Rattle.row_heap.specs.Places.{Seen, gone}
 use Rattle.row_heap.proofs.Indexed.{IsIndex-freed, shown-freed, stands-within, at-key, row-of, not-gone}

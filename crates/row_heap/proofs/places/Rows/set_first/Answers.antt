@@ -1,6 +1,6 @@
 -- The row under the one key is written.
-use Rattle.std.proofs.Common.{◌∙◌, sym, ap, set, true, false, length, arith}
-use Rattle.row_heap.specs.Places.{Seen, unmarked_row}
+use Rattle.std.proofs.Common.{sym, ap}
+use Rattle.row_heap.specs.Places.{Seen}
 use Rattle.row_heap.proofs.Indexed.{index-written, rows-written, row-of, not-gone}
 use Rattle.row_heap.proofs.places.Rows.set_first.Goals as goal
 

@@ -1,5 +1,5 @@
 -- One more row has no mark in each turn.
-use Rattle.std.proofs.Common.{[], ◌≡◌, ◌∙◌, ◌+◌, ◌<◌, length, set, sym, ap, arith}
+use Rattle.std.proofs.Common.{[], ◌≡◌, ◌∙◌, ◌+◌, ◌<◌, length, sym, ap, arith}
 use Rattle.row_heap.proofs.Mapped.{mapped, mapped-none, mapped-all, mapped-step, length-mapped}
 use Rattle.row_heap.specs.Places.{gone, row_at, unmarked_row}
 use Rattle.row_heap.proofs.Indexed.{row_at-index, set-index}

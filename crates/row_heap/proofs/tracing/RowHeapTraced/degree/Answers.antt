@@ -1,5 +1,5 @@
 -- A live object's row stands, and has its fields.
-use Rattle.std.proofs.Common.{◌≡◌, ◌∙◌, sym, ap, length}
+use Rattle.std.proofs.Common.{◌∙◌, sym, ap, length}
 use Rattle.row_heap.proofs.Sound.{fields-seen}
 use Rattle.row_heap.proofs.Walked.{stands-seen}
 use Rattle.row_heap.proofs.tracing.RowHeapTraced.degree.Goals as goal

@@ -1,5 +1,5 @@
 -- A live object's row stands, and has its fields, which lead to live objects.
-use Rattle.std.proofs.Common.{◌≡◌, ◌∙◌, ◌<◌, Some, sym, ap, length, arith, subst, refl}
+use Rattle.std.proofs.Common.{◌∙◌, ◌<◌, sym, ap, length, arith, subst, refl}
 use Rattle.std.specs.Prelude.{Contains, slice_get}
 use Rattle.std.proofs.lemmas.List.Elements.{Contains-get_or}
 use Rattle.std.proofs.lemmas.Option.{slice_get_read}

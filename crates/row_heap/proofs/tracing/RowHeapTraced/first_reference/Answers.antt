@@ -1,6 +1,5 @@
 -- As the rows are linked, if references are followed.
-use Rattle.std.proofs.Common.{◌∙◌, sym, ap, subst, length}
-use Rattle.row_heap.proofs.Walked.{stands-seen, reference-first, none-first}
+use Rattle.row_heap.proofs.Walked.{stands-seen}
 use Rattle.row_heap.proofs.tracing.RowHeapTraced.first_reference.Goals as goal
 
 pub row-requires : goal.row-requires

@@ -1,5 +1,5 @@
 -- The mark of a row that stands.
-use Rattle.std.proofs.Common.{◌∙◌, Some, sym, ap}
+use Rattle.std.proofs.Common.{◌∙◌, Some, ap}
 use Rattle.row_heap.proofs.Walked.{stands-seen, mark-at}
 use Rattle.row_heap.proofs.tracing.RowHeapTraced.is_marked.Goals as goal
 

@@ -1,8 +1,4 @@
 -- Only the mark and the link of the one row change.
-use Rattle.std.proofs.Common.{◌∙◌, ap, set, true, false}
-use Rattle.row_heap.specs.Rows.{HeapRows}
-use Rattle.row_heap.specs.Places.{Seen}
-use Rattle.row_heap.proofs.Indexed.{stands-within}
 use Rattle.row_heap.proofs.Walked.{stands-seen, IsRowHeap-marked, kept-marked, marks-written, links-written}
 use Rattle.row_heap.proofs.tracing.RowHeapTraced.mark.Goals as goal
 

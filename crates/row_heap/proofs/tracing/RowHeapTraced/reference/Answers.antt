@@ -1,6 +1,5 @@
 -- A followed reference leads from a live row to a live one, and its row's list goes on.
-use Rattle.std.proofs.Common.{◌≡◌, ◌-◌, Some, subst, sym, ap}
-use Rattle.row_heap.specs.Marks.{followed, unmarked_rows}
+use Rattle.std.proofs.Common.{◌-◌}
 use Rattle.row_heap.proofs.Walked.{reference-leads, reference-next}
 use Rattle.row_heap.proofs.tracing.RowHeapTraced.reference.Goals as goal
 
