@@ -5,3 +5,4 @@ pub mod Freed
 pub mod Walked
 pub mod Edges
 pub mod Linked
+pub mod Swept

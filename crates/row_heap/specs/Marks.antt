@@ -1,7 +1,9 @@
 -- What a marking of a heap of rows follows, and what it leaves as it is. (Textbook: the edges of a tracing collector.)
-use Rattle.std.specs.Prelude.{◌≡◌, ℕ, ◌⊎◌, if◌then◌else◌, true, List, [], Contains}
+use Rattle.std.specs.Prelude.{◌≡◌, ℕ, ◌⊎◌, ◌↔◌, if◌then◌else◌, true, List, [], Contains}
+use Rattle.joint_model.specs.Components.{Rises}
 use Rattle.joint_model.specs.Heaps.{IsLive, HasField, fields_of}
 use Rattle.joint_model.specs.PeerReplay.{HasReference, Refers}
+use Rattle.reachability.specs.Marks.{IsMarked}
 use Rattle.row_marking.specs.Traces.{Shape}
 use Rattle.row_heap.specs.Rows.{HeapRows}
 
@@ -24,3 +26,8 @@ shape_of v = record { fields = fields_of v.heap; refs = followed v }
 -- what a live object's reference leads to is live
 abbrev pub AreEndsLive : HeapRows → Type 0
 AreEndsLive v = (p q : ℕ) → Refers v.refs p q → IsLive v.heap p → IsLive v.heap q
+
+-- the list has exactly the live objects without a mark, and rises
+pub record AreWhite (v : HeapRows) (xs : List ℕ) : Type 0 where
+  pub rises : Rises xs
+  pub exact : (x : ℕ) → Contains xs x ↔ (IsLive v.heap x × (IsMarked v.marks x → ⊥))

@@ -1,6 +1,6 @@
 -- Rows by number: an index from each number to the key under which a slab has the row. A removed row's memory serves the next
 -- row, and its fields are still seen. (This project's own; the index is the object table of a Smalltalk heap.)
-use Rattle.std.specs.Prelude.{◌≡◌, ℕ, Bool, true, false, List, [], map, Option, Some, None, slice_get}
+use Rattle.std.specs.Prelude.{◌≡◌, ℕ, Bool, true, false, not, ◌&&◌, List, [], Option, Some, None, slice_get}
 use Rattle.joint_model.specs.Heaps.{numbered_at}
 use Rattle.slab.specs.Slab.{Slab, get}
 use Rattle.row_heap.specs.declared.places.Row.{Row}
@@ -35,6 +35,10 @@ row_at rows x = elim (numbered_at rows x) [ None ↦ gone [] | Some r ↦ r ]
 -- the row without its mark
 abbrev pub unmarked_row : Seen → Seen
 unmarked_row r = record r { marked = false }
+
+-- whether the row stands without a mark; white is the textbook's colour of what a marking hasn't come to
+abbrev pub is_white : Seen → Bool
+is_white r = r.stands && not r.marked
 
 -- each key of the index has a row, and stands in the index once
 pub record IsIndex (s : Slab Row) (places : List Place) : Type 0 where

@@ -1,12 +1,13 @@
 -- A heap whose objects are rows that can be marked: the heap of the definition, and beside it marks, links and references. (This
 -- project's own.)
-use Rattle.std.specs.Prelude.{◌≡◌, ℕ, ◌+◌, ◌≤◌, ◌⊎◌, Bool, true, false, List, [], ◌∷◌, map, length, Option, Some, Contains, slice_get}
+use Rattle.std.specs.Prelude.{◌≡◌, ℕ, ◌+◌, ◌≤◌, ◌⊎◌, ◌↔◌, Bool, true, false, List, [], ◌∷◌, ◌++◌, map, length, Option, Some, Contains, slice_get}
+use Rattle.joint_model.specs.Components.{Rises}
 use Rattle.joint_model.specs.PeerReplay.{Refers}
 use Rattle.joint_model.specs.Heaps.{Heap, IsLive, opening_heap}
 use Rattle.object_heap.specs.Flags.{IsSound, TakesDown}
 use Rattle.row_marking.specs.Traces.{IsLastBelow}
 use Rattle.row_heap.specs.declared.references.Reference.{Reference}
-use Rattle.row_heap.specs.Places.{Seen, row_at}
+use Rattle.row_heap.specs.Places.{Seen, row_at, is_white}
 
 -- the heap; the references from a row to a row, in the order in which they came, and whether a marking follows them; how many
 -- more of them there is room for; and each row's mark and link, where the number 0 is no row
@@ -65,6 +66,16 @@ pub record RowsFreed (xs : List ℕ) (old new : List Seen) : Type 0 where
   pub flags : TakesDown xs (stands_in old) (stands_in new)
   pub fields : map (λ (r : Seen). r.fields) new ≡ map (λ (r : Seen). r.fields) old
   pub others : (x : ℕ) → (row_at new x).stands ≡ true → row_at new x ≡ row_at old x
+
+-- of the rows up to a number those without a mark were removed, in rising order, and their numbers put last on a list; the marks
+-- are as before
+pub record RowsSwept (to : ℕ) (old new : List Seen) (before after : List ℕ) : Type 0 where
+  pub swept : List ℕ
+  pub rises : Rises swept
+  pub exact : (x : ℕ) → Contains swept x ↔ ((x ≤ to) × (is_white (row_at old x) ≡ true))
+  pub rows : RowsFreed swept old new
+  pub marks : map (λ (r : Seen). r.marked) new ≡ map (λ (r : Seen). r.marked) old
+  pub freed : after ≡ before ++ swept
 
 -- the rows that references lead from have none any more, and nothing else of a row changed
 pub record FirstsCleared (refs : List Reference) (old new : List Seen) : Type 0 where

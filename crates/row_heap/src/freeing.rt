@@ -1,10 +1,11 @@
 // Freeing: rows are removed and give their memory back, and their numbers come last in the list of freed objects, which has room for each.
 
-ghost use Rattle.std.specs.Prelude.{◌≡◌, ◌+◌, ◌≤◌, ◌++◌, List, map, All, length, vec_capacity};
+ghost use Rattle.std.specs.Prelude.{◌≡◌, ℕ, ◌+◌, ◌≤◌, ◌↔◌, ◌++◌, List, map, All, Contains, length, vec_capacity};
 ghost use Rattle.joint_model.specs.Components.{Rises};
 ghost use Rattle.joint_model.specs.Heaps.{with_freed};
 ghost use Rattle.object_heap.specs.Flags.{IsUp, up_count};
 ghost use Rattle.object_heap.specs.Tidy.{CanFree};
+ghost use Rattle.reachability.specs.Marks.{IsMarked};
 ghost use Rattle.row_heap.specs.Rows.{NoneRefers, RowsFreed, stands_in};
 
 use crate::heap::RowHeap;
@@ -12,14 +13,17 @@ use crate::places::Rows;
 use object_heap::Number;
 
 impl<N: Number> RowHeap<N> {
-    /// Frees the objects of a list. It takes no memory, and its time goes by the list alone.
+    /// Frees the objects of a list, which have no mark from then on. It takes no memory, and its time goes by the list alone.
     pub fn free(&mut self, xs: &[N])
         requires can { CanFree self.old.heap (map N.number xs.now) }
         requires ends { NoneRefers self.old (map N.number xs.now) }
         ensures heap { self.new.heap ≡ with_freed self.old.heap (map N.number xs.now) }
+        ensures marks { (x : ℕ) → IsMarked self.new.marks x ↔ (IsMarked self.old.marks x × (Contains (map N.number xs.now) x → ⊥)) }
         ensures rest { self.new ≡ record self.old { heap = self.new.heap; marks = self.new.marks; links = self.new.links } }
     {
+        self.rows.marked_stand();
         free_rows(xs, &mut self.rows, &mut self.freed);
+        self.rows.marked_stand();
     }
 }
 

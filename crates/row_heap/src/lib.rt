@@ -7,7 +7,7 @@
 // A marking stands in the rows. `begin_marking` takes all marks down, `visit_slots` marks what variables and statics name, the collector marks
 // its further roots by `row_marking::visit`, and `finish_marking` marks what these reach; while the marking is open `bring_back` marks one more
 // object with what it reaches, and a new object has its mark from the start. A marking follows fields, and references if its begin says so.
-// `free` then frees objects that a collector found dead. From the begin to here nothing takes memory.
+// `free` then frees objects that a collector found dead, and `sweep` all those without a mark. From the begin to here nothing takes memory.
 //
 // References are a list of their own: `reserve_references` takes room, `push_reference` adds one, `clear_references` drops all. The peer side
 // keeps in it what a cycle mirrors; the managed side has none.
@@ -23,6 +23,7 @@ mod marking;
 mod operations;
 mod places;
 mod references;
+mod sweeping;
 mod tracing;
 
 pub use heap::RowHeap;

@@ -22,6 +22,17 @@ impl<N: Number> RowHeap<N> {
         self.rows.marked_stand();
     }
 
+    /// Whether object `x` has a mark.
+    pub fn is_marked(&self, x: u32) -> bool
+        ensures { IsTrue result ↔ IsMarked self.now.marks x }
+    {
+        self.marked_live();
+        if !self.is_live(x) {
+            return false;
+        }
+        self.rows.row(x as usize).marked
+    }
+
     /// No object has a mark, and a marking follows the references from now on, or doesn't.
     pub fn begin_marking(&mut self, follows: bool)
         requires { IsTrue follows → AreEndsLive self.old }

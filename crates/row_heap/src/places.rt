@@ -6,7 +6,7 @@
 
 ghost use Rattle.std.specs.Prelude.{◌≡◌, ℕ, ◌≤◌, ◌<◌, ◌++◌, [], ◌∷◌, true, false, length, map, slice_set, OnOk, OnErr};
 ghost use Rattle.joint_model.specs.Heaps.{numbered_set};
-ghost use Rattle.row_heap.specs.Places.{row_at, standing, gone, unmarked_row};
+ghost use Rattle.row_heap.specs.Places.{row_at, is_white, standing, gone, unmarked_row};
 
 use slab::Slab;
 use std::alloc::{AllocError, Global};
@@ -73,6 +73,17 @@ impl Rows {
     {
         match self.places[x - 1] {
             Place::At(_) => true,
+            Place::Gone(_) => false,
+        }
+    }
+
+    /// Whether row `x` stands without a mark.
+    pub(crate) fn is_white(&self, x: usize) -> bool
+        requires { (1 ≤ x) × (x ≤ length self.now) }
+        ensures { result ≡ is_white (row_at self.now x) }
+    {
+        match self.places[x - 1] {
+            Place::At(key) => !self.slab[key as usize].marked,
             Place::Gone(_) => false,
         }
     }

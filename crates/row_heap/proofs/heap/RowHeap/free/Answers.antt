@@ -1,10 +1,9 @@
 -- The rows of the list are removed, and the heap stays sound.
-use Rattle.std.proofs.Common.{◌∙◌, ap, map, subst}
+use Rattle.std.proofs.Common.{◌∙◌, ap, map}
 use Rattle.std.proofs.lemmas.List.{map-append}
-use Rattle.joint_model.specs.Heaps.{IsLive}
 use Rattle.object_heap.proofs.Sound.{IsUp-live}
-use Rattle.row_heap.specs.Rows.{HeapRows}
 use Rattle.row_heap.proofs.Freed.{IsRowHeap-freed, seen-freed}
+use Rattle.row_heap.proofs.Swept.{marks-freed}
 use Rattle.row_heap.proofs.heap.RowHeap.free.Goals as goal
 
 pub free_rows-requires-clause-up : goal.free_rows-requires-clause-up
@@ -19,3 +18,6 @@ invariant_of-self g c = IsRowHeap-freed _ _ _ _ (map g.N.Number.number c.args.xs
 pub returns-clause-heap : goal.returns-clause-heap
 returns-clause-heap g c = seen-freed _ _ _ _ (map g.N.Number.number c.args.xs.now) _ _ _ _ _ c.args.self.now c.self.view_is c.free_rows.ensures.rows
     (ap (map g.N.Number.number) c.free_rows.ensures.freed ∙ map-append g.N.Number.number c.self.inside.freed.items c.args.xs.now)
+
+pub returns-clause-marks : goal.returns-clause-marks
+returns-clause-marks g c = marks-freed _ _ _ _ _ _ _ _ c.args.self.now (map g.N.Number.number c.args.xs.now) c.self.view_is c.free_rows.ensures.rows c.marked_stand.ensures c.marked_stand-2.ensures

@@ -1,0 +1,31 @@
+-- The rows without a mark are removed, and the heap stays sound.
+use Rattle.std.proofs.Common.{◌∙◌, sym, ap, subst}
+use Rattle.joint_model.specs.Heaps.{with_freed}
+use Rattle.row_heap.specs.Marks.{AreWhite}
+use Rattle.row_heap.specs.Rows.{HeapRows}
+use Rattle.row_heap.proofs.Freed.{IsRowHeap-freed, seen-freed}
+use Rattle.row_heap.proofs.Swept.{AreWhite-swept, seen-swept, swept-end, white-can_free, white-none_refers}
+use Rattle.row_heap.proofs.heap.RowHeap.sweep.Goals as goal
+
+pub invariant_of-self : goal.invariant_of-self
+invariant_of-self g c =
+    let v = c.args.self.now in
+    let s = c.sweep_rows.ensures.swept in
+    let white : AreWhite v s.swept = AreWhite-swept _ _ _ _ _ _ _ _ _ _ v c.self.view_is c.self.invariant.sound s in
+    IsRowHeap-freed _ _ _ _ s.swept _ _ _ _ _ _ _ _ v c.self.view_is c.self.invariant s.rows (white-can_free v s.swept white c.requires.slots c.requires.shut) (white-none_refers v s.swept white c.requires.shut) s.freed c.sweep_rows.ensures.capacity
+
+pub returns-clause-white : goal.returns-clause-white
+returns-clause-white g c =
+    let v = c.args.self.now in
+    let s = c.sweep_rows.ensures.swept in
+    subst (AreWhite v) (sym (swept-end v _ _ s.swept (sym (ap (λ (w : HeapRows). w.heap.freed) c.self.view_is)) s.freed)) (AreWhite-swept _ _ _ _ _ _ _ _ _ _ v c.self.view_is c.self.invariant.sound s)
+
+pub returns-clause-heap : goal.returns-clause-heap
+returns-clause-heap g c =
+    let v = c.args.self.now in
+    let s = c.sweep_rows.ensures.swept in
+    seen-freed _ _ _ _ s.swept _ _ _ _ _ v c.self.view_is s.rows s.freed
+    ∙ ap (with_freed v.heap) (sym (swept-end v _ _ s.swept (sym (ap (λ (w : HeapRows). w.heap.freed) c.self.view_is)) s.freed))
+
+pub returns-clause-rest : goal.returns-clause-rest
+returns-clause-rest g c = seen-swept _ _ _ _ _ _ _ _ _ c.args.self.now c.self.view_is c.sweep_rows.ensures.swept.marks
