@@ -29,3 +29,16 @@ fn takes_references(rt: HostRuntime) -> Result<(), AllocError> {
     assert_eq!(rt; heap.references_len(), 0);
     Ok(())
 }
+
+#[test]
+fn sweeps_what_has_no_mark(rt: HostRuntime) -> Result<(), AllocError> {
+    let mut heap: RowHeap<PNum> = RowHeap::new(rt.alloc());
+    let first = heap.add_object(0)?;
+    assert_eq!(rt; heap.is_marked(first), true);
+    heap.begin_marking(false);
+    assert_eq!(rt; heap.is_marked(first), false);
+    heap.sweep();
+    assert_eq!(rt; heap.is_live(first), false);
+    assert_eq!(rt; (heap.live(), heap.freed().len()), (0, 1));
+    Ok(())
+}

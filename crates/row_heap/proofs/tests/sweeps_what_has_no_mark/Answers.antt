@@ -1,0 +1,11 @@
+-- The one object is in no slot.
+use Rattle.std.proofs.Common.{◌≡◌, inl, inr, subst, sym, ap, ◌∙◌}
+use Rattle.joint_model.specs.Heaps.{InSlot, opening_heap, with_object}
+use Rattle.joint_model.proofs.Numbered.{replicate-none}
+use Rattle.row_heap.specs.Rows.{HeapRows}
+use Rattle.row_heap.proofs.tests.sweeps_what_has_no_mark.Goals as goal
+
+pub sweep-requires-clause-slots : goal.sweep-requires-clause-slots
+sweep-requires-clause-slots g c = λ x i.
+    let made = ap (λ (v : HeapRows). v.heap) c.begin_marking.ensures.rest ∙ (ap (λ (v : HeapRows). v.heap) c.in_ok-first.ensures.ok ∙ ap (λ (v : HeapRows). with_object v.heap 0) c.new-heap.ensures) in
+    elim (subst (λ h. InSlot h x) made i) [ inl v ↦ absurd (replicate-none 72 x v) | inr v ↦ absurd (replicate-none 16 x v) ]
