@@ -59,7 +59,9 @@ impl GraphBuilder {
 
     /// Makes room: afterwards so many calls of `node` and so many calls of `edge` are not refused. Answers
     /// `AllocError` where there is no memory, or where the part would have more than 4,294,967,295 edges;
-    /// nodes and edges are then as before.
+    /// nodes and edges are then as before. The room is never less than it was. It may be more, also after a
+    /// refusal: lists that grew before the one that found no memory keep what they got, since room is only
+    /// ever asked for from below.
     pub fn reserve(&mut self, nodes: u32, edges: u32) -> Result<(), AllocError>
         ensures spare_nodes { OnOk result (nodes ≤ self.new.spare_nodes) }
         ensures spare_edges { OnOk result (edges ≤ self.new.spare_edges) }
@@ -79,7 +81,8 @@ impl GraphBuilder {
     }
 
     /// Adds a node, whose number is greater than those before, and answers its index. Answers `AllocError`
-    /// only where no room is left and there is no memory; nodes and edges are then as before.
+    /// only where no room is left and there is no memory; nodes and edges are then as before, and there may
+    /// be room since (see `reserve`).
     pub fn node(
         &mut self,
         number: MNum,
@@ -111,7 +114,7 @@ impl GraphBuilder {
 
     /// Adds an edge between two nodes, of which the first is not opaque. The same edge may be added again.
     /// Answers `AllocError` only where no room is left and there is no memory, or where the part has
-    /// 4,294,967,295 edges; nodes and edges are then as before.
+    /// 4,294,967,295 edges; nodes and edges are then as before, and there may be room since (see `reserve`).
     pub fn edge(&mut self, from: u32, to: u32) -> Result<(), AllocError>
         requires from { from < length self.old.nodes }
         requires to { to < length self.old.nodes }

@@ -33,6 +33,9 @@
 // component are the union for its own class: here C and D for both A and B. `sharing` says what it costs.
 //
 // `plain_contract` computes the same as the definition says it, and is there for comparison.
+//
+// Both only read the graph, and each makes the lists that it works with and lets them go: where there is no
+// memory nothing of the caller's has changed, and what stands in those lists nobody reads.
 #![tactic(auto)]
 
 mod contraction;

@@ -128,7 +128,7 @@ impl ComponentsBuilder {
     }
 
     /// The components with their cross-references in order. Answers `AllocError` where the sort has no
-    /// memory.
+    /// memory; it took the builder, and gives nothing back then.
     pub fn finish(self) -> Result<Components, AllocError>
         ensures comps { IfOk result (λ c. c.comps ≡ self.comps) }
         ensures pairs { IfOk result (λ c. IsPermutation self.pairs c.pairs) }

@@ -81,7 +81,8 @@ impl PairList {
         Ok(())
     }
 
-    /// The pairs, ordered by source and then by destination where `sorted` doesn't say that they are.
+    /// The pairs, ordered by source and then by destination where `sorted` doesn't say that they are. It takes
+    /// the list, and gives nothing back where the sort has no memory.
     pub fn finish(self, sorted: bool) -> Result<Vec<(u32, u32)>, AllocError>
         requires { IsTrue sorted → PairsRise self }
         ensures rising { IfOk result (λ v. PairsRise v.items) }
@@ -98,7 +99,8 @@ impl PairList {
     }
 }
 
-/// Puts the pairs that are not yet known into the set.
+/// Puts the pairs that are not yet known into the set. Where there is no memory those before are in it, which
+/// no caller sees: the set then knows the first pairs, as before.
 fn catch_up(pairs: &[(u32, u32)], known: &mut HashSet<(u32, u32)>) -> Result<(), AllocError>
     requires known { AreKnown pairs.now known.old.keys }
     ensures known { AreKnown pairs.now known.new.keys }
