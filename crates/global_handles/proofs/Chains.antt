@@ -587,6 +587,14 @@ heads-removed p q new old is = by (eqb p.0 q.0) refl
     by true e = rw (is, e) refl
     by false e = rw (is, e) refl
 
+-- the chains are seen by their heads alone
+pub IsChained-heads : (ss : List Slot) (head new : PNum → ℕ) → ((q : PNum) → new q ≡ head q) → IsChained ss head → IsChained ss new
+IsChained-heads ss head new same chained = record {
+  heads_lead = λ p. subst (λ n. Leads ss p n (length ss)) (sym (same p)) (chained.heads_lead p);
+  linked = chained.linked;
+  backed = λ i s at p open'. (let back = chained.backed i s at p open' in record { first = λ zero'. same p ∙ back.first zero'; later = back.later });
+}
+
 -- after a push a slot is an old one or the new one
 pub push_cases : (ss : List Slot) (s : Slot) (j : ℕ) (t : Slot) → slice_get (ss ++ s ∷ []) j ≡ Some t → ((j < length ss) × (slice_get ss j ≡ Some t)) ⊎ ((j ≡ length ss) × (s ≡ t))
 push_cases [] s zero t at = inr (refl, same_Some s t at)

@@ -1,4 +1,4 @@
--- What contracts see of a handle table: its rows in rising number, and how many handles were made.
+-- What contracts see of a handle table: its rows in rising number, how many handles were made, and the room for more.
 use Rattle.std.specs.Prelude.{◌≡◌, ◌==◌, ◌<◌, ◌≤◌, ℕ, Bool, true, false, List, [], ◌∷◌, Option, None, Some, map, filter, not, if◌then◌else◌}
 use Rattle.std.specs.Option.{option_map, option_and_then}
 use Rattle.joint_model.specs.declared.names.HNum.{HNum}
@@ -9,10 +9,11 @@ use Rattle.global_handles.specs.declared.Strength.TheVariants.{Weak}
 use Rattle.global_handles.specs.declared.HandleRow.{HandleRow}
 use Rattle.global_handles.specs.declared.NotLive.{NotLive}
 
--- the rows in rising number, and how many handles were ever made
+-- the rows in rising number, how many handles were ever made, and for how many more there is room
 pub record Table : Type 0 where
   pub rows : List HandleRow
   pub made : ℕ
+  pub room : ℕ
 
 -- the row of a number, or None where no row has it
 abbrev pub row_in : List HandleRow → HNum → Option HandleRow

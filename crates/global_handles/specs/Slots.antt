@@ -2,6 +2,8 @@
 use Rattle.std.specs.Prelude.{◌≡◌, ◌==◌, ◌+◌, ◌-◌, ◌≤◌, ◌<◌, ℕ, Bool, zero, suc, true, false, not, List, [], ◌∷◌, Option, None, Some, length, slice_get, if◌then◌else◌}
 use Rattle.std.specs.Option.{option_map, unwrap_or}
 use Rattle.std.specs.Map.{lookup}
+use Rattle.std.specs.Vec.{vec_capacity}
+use Rattle.std.specs.HashMap.{spare}
 use Rattle.joint_model.specs.declared.names.HNum.{HNum}
 use Rattle.joint_model.specs.declared.names.PNum.{PNum}
 use Rattle.global_handles.specs.declared.HandleRow.{HandleRow}
@@ -106,11 +108,13 @@ head_in heads p = unwrap_or (lookup (λ q. p.0 == q.0) heads) 0
 
 -- what contracts see of a table with these fields
 abbrev pub table_of : Inside → Table
-table_of t = record { rows = rows_from 0 t.slots.items; made = length t.slots.items }
+table_of t = record { rows = rows_from 0 t.slots.items; made = length t.slots.items; room = t.ready }
 
--- what holds of a table's fields: at most 65,535 handles were made, the live ones are counted, and just the slots
--- that have something to clear are chained, those of each peer from its head on
+-- what holds of a table's fields: at most 65,535 handles were made, the live ones are counted, just the slots that
+-- have something to clear are chained, those of each peer from its head on, and the room that is said is there
 pub record IsTable (t : Inside) : Type 0 where
   pub most : length t.slots.items ≤ 65535
   pub counted : t.live ≡ length (rows_from 0 t.slots.items)
   pub chained : IsChained t.slots.items (head_in t.heads.entries)
+  pub slots_room : length t.slots.items + t.ready ≤ vec_capacity t.slots
+  pub heads_room : t.ready ≤ spare t.heads

@@ -9,13 +9,15 @@
 // `target` reads the peer. While a bridge cycle asks the peer heap which objects live, `weaken` makes the
 // strong rows of the cycle weak; the peer heap marks and sweeps, and calls `clear_target` for each peer that
 // it frees; `restore` then makes a row strong again, or removes it where it was cleared. `release` removes a
-// row. None of these but `make` takes memory. Each reads and writes a few rows, however many there are, and
-// `clear_target` just those that it clears.
+// row. None of these but `make` takes memory, and it takes none where `reserve` left room for its row: so a caller
+// can take all memory first. Each reads and writes a few rows, however many there are, and `clear_target` just
+// those that it clears.
 #![tactic(auto)]
 
-ghost use Rattle.std.specs.Prelude.{◌≡◌, ◌==◌, ◌+◌, ◌≤◌, ◌↔◌, [], ◌∷◌, ◌++◌, true, length, map, All, ok_or, ℕ, ◌-◌, ◌≢◌, if◌then◌else◌, Ok, Err, None, Some, OnOk, OnErr, IfOk};
+ghost use Rattle.std.specs.Prelude.{◌≡◌, ◌==◌, ◌+◌, ◌≤◌, ◌↔◌, [], ◌∷◌, ◌++◌, true, length, map, All, ok_or, ℕ, ◌-◌, ◌≢◌, if◌then◌else◌, Ok, Err, None, Some, OnOk, OnErr, IfOk, IsOk};
 ghost use Rattle.std.specs.Option.{option_map};
 ghost use Rattle.std.specs.Vec.{vec_capacity, vec_len};
+ghost use Rattle.std.specs.HashMap.{spare};
 ghost use Rattle.global_handles.specs.Slots.{slot_of, with_row, with_next, with_previous, rows_from, head_in, cleared_slot, IsLinked, Leads, IsChained};
 ghost use Rattle.global_handles.specs.Rows.{row_in, target_in, strength_in, cleared_in, fresh_row, with_strength, changed, cleared_for, without, not_live, IsWeakFor, IsRising};
 
@@ -153,6 +155,7 @@ pub struct HandleTable {
     slots: Vec<Slot>,
     heads: HashMap<PNum, u32>,
     live: u32,
+    ready: u32,
 }
 
 impl Model for HandleTable {
@@ -172,23 +175,39 @@ impl HandleTable {
     pub fn new(alloc: Global) -> HandleTable
         ensures rows { result.rows ≡ [] }
         ensures made { result.made ≡ 0 }
+        ensures room { result.room ≡ 0 }
     {
         HandleTable {
             slots: Vec::new(alloc),
             heads: HashMap::new(alloc),
             live: 0,
+            ready: 0,
         }
+    }
+
+    /// Takes room for so many more handles. Answers `AllocError`, with nothing changed, where there is no memory.
+    pub fn reserve(&mut self, additional: u32) -> Result<(), AllocError>
+        ensures ok { OnOk result (self.new ≡ record self.old { room = additional }) }
+        ensures err { OnErr result (self.new ≡ self.old) }
+    {
+        self.slots.reserve(additional as usize)?;
+        self.heads.reserve(additional as usize)?;
+        self.ready = additional;
+        Ok(())
     }
 
     /// Makes a handle on `p`, whose number is the count made plus 1. The new row isn't cleared.
     ///
     /// Answers `HandlesFull` exactly where 65,535 were made by this call, which is tested before memory is asked
-    /// for, and `OutOfMemory` where there is no memory for the row. After either the table is as before.
+    /// for, and `OutOfMemory` where there is no memory for the row. After either the table is as before. Where there
+    /// is room for a further handle, it takes no memory and uses the room of one.
     pub fn make(&mut self, p: PNum, hold: Hold, strength: Strength) -> Result<HNum, HandleFault>
         ensures number { IfOk result (λ h. h.0 ≡ self.old.made + 1) }
         ensures rows { IfOk result (λ h. self.new.rows ≡ self.old.rows ++ fresh_row h p hold strength ∷ []) }
         ensures made { OnOk result (self.new.made ≡ self.old.made + 1) }
+        ensures room { OnOk result (self.new.room ≡ self.old.room - 1) }
         ensures full { (result ≡ Err HandleFault.HandlesFull) ↔ (self.old.made ≡ 65535) }
+        ensures reserved { 1 ≤ self.old.room → result ≢ Err HandleFault.OutOfMemory }
         ensures err { OnErr result (self.new ≡ self.old) }
         ensures rising { IsRising self.new }
     {
@@ -211,6 +230,7 @@ impl HandleTable {
             row: Some(kept),
         });
         self.live += 1;
+        self.ready = self.ready.saturating_sub(1);
         Ok(HNum(number))
     }
 
@@ -235,6 +255,7 @@ impl HandleTable {
         requires { strength_in self.old.rows h ≡ Some Strength.Strong }
         ensures rows { self.new.rows ≡ changed (with_strength Strength.Weak) h self.old.rows }
         ensures made { self.new.made ≡ self.old.made }
+        ensures room { self.new.room ≡ self.old.room }
         ensures rising { IsRising self.new }
     {
         self.set_strength(h, Strength::Weak);
@@ -248,6 +269,7 @@ impl HandleTable {
         ensures removed { result ≡ Back.Cleared → self.new.rows ≡ without h self.old.rows }
         ensures strong { result ≡ Back.Alive → self.new.rows ≡ changed (with_strength Strength.Strong) h self.old.rows }
         ensures made { self.new.made ≡ self.old.made }
+        ensures room { self.new.room ≡ self.old.room }
         ensures rising { IsRising self.new }
     {
         if self.target(h).is_none() {
@@ -263,6 +285,7 @@ impl HandleTable {
         requires { row_in self.old.rows h ≢ None }
         ensures rows { self.new.rows ≡ changed (with_strength strength) h self.old.rows }
         ensures made { self.new.made ≡ self.old.made }
+        ensures room { self.new.room ≡ self.old.room }
         ensures rising { IsRising self.new }
     {
         let Some(row) = self.row(h) else {
@@ -284,6 +307,7 @@ impl HandleTable {
         requires { All (IsWeakFor p) self.old.rows }
         ensures rows { self.new.rows ≡ cleared_for p self.old.rows }
         ensures made { self.new.made ≡ self.old.made }
+        ensures room { self.new.room ≡ self.old.room }
         ensures rising { IsRising self.new }
     {
         let from = self.heads.remove(&p).unwrap_or(0);
@@ -297,6 +321,7 @@ impl HandleTable {
         ensures row { result ≡ ok_or (row_in self.old.rows h) (not_live h) }
         ensures rows { self.new.rows ≡ without h self.old.rows }
         ensures made { self.new.made ≡ self.old.made }
+        ensures room { self.new.room ≡ self.old.room }
         ensures err { OnErr result (self.new ≡ self.old) }
         ensures rising { IsRising self.new }
     {
@@ -308,9 +333,10 @@ impl HandleTable {
         Ok(row)
     }
 
-    /// The number of rows in the table.
+    /// The number of rows in the table. At most 65,535.
     pub fn len(&self) -> u32
-        ensures { result ≡ length self.now.rows }
+        ensures len { result ≡ length self.now.rows }
+        ensures most { result ≤ 65535 }
     {
         self.live
     }
@@ -346,7 +372,8 @@ fn find(slots: &[Slot], h: HNum) -> Option<Slot>
 fn set_row(slots: &mut Vec<Slot>, h: HNum, row: Option<Kept>)
     requires one { 1 ≤ h.0 }
     requires within { h.0 ≤ length slots.old.items }
-    ensures { slots.new.items ≡ with_row slots.old.items (h.0 - 1) row }
+    ensures items { slots.new.items ≡ with_row slots.old.items (h.0 - 1) row }
+    ensures capacity { vec_capacity slots.new ≡ vec_capacity slots.old }
 {
     slots[h.0 as usize - 1].row = row;
 }
@@ -354,7 +381,8 @@ fn set_row(slots: &mut Vec<Slot>, h: HNum, row: Option<Kept>)
 // Lets the slot of a number lead on to this one; at 0 there is no slot, and nothing is done.
 fn set_next(slots: &mut Vec<Slot>, at: u32, next: u32)
     requires { at ≤ length slots.old.items }
-    ensures { slots.new.items ≡ with_next slots.old.items at next }
+    ensures items { slots.new.items ≡ with_next slots.old.items at next }
+    ensures capacity { vec_capacity slots.new ≡ vec_capacity slots.old }
 {
     if at == 0 {
         return;
@@ -383,6 +411,8 @@ fn remove_row(slots: &mut Vec<Slot>, heads: &mut HashMap<PNum, u32>, h: HNum)
     ensures chained { IsChained slots.new.items (head_in heads.new.entries) }
     ensures rows { rows_from 0 slots.new.items ≡ rows_from 0 (with_row slots.old.items (h.0 - 1) None) }
     ensures len { length slots.new.items ≡ length slots.old.items }
+    ensures capacity { vec_capacity slots.new ≡ vec_capacity slots.old }
+    ensures spare { spare heads.old ≤ spare heads.new }
 {
     let slot = slots[h.0 as usize - 1];
     set_row(slots, h, None);
@@ -399,7 +429,8 @@ fn remove_row(slots: &mut Vec<Slot>, heads: &mut HashMap<PNum, u32>, h: HNum)
 // Lets the chain of a peer that has one begin at this number, and end the peer's chain at 0. It takes no memory.
 fn move_head(heads: &mut HashMap<PNum, u32>, p: PNum, number: u32)
     requires { head_in heads.old.entries p ≢ 0 }
-    ensures { (q : PNum) → head_in heads.new.entries q ≡ (if p.0 == q.0 then number else head_in heads.old.entries q) }
+    ensures head { (q : PNum) → head_in heads.new.entries q ≡ (if p.0 == q.0 then number else head_in heads.old.entries q) }
+    ensures spare { spare heads.old ≤ spare heads.new }
 {
     if number == 0 {
         let _ = heads.remove(&p);
@@ -415,6 +446,8 @@ fn set_head(heads: &mut HashMap<PNum, u32>, p: PNum, number: u32) -> Result<u32,
     ensures before { IfOk result (λ n. n ≡ head_in heads.old.entries p) }
     ensures head { OnOk result ((q : PNum) → head_in heads.new.entries q ≡ (if p.0 == q.0 then number else head_in heads.old.entries q)) }
     ensures err { OnErr result (heads.new.entries ≡ heads.old.entries) }
+    ensures succeeds { 1 ≤ spare heads.old → IsOk result }
+    ensures spare { spare heads.old ≤ spare heads.new + 1 }
 {
     match heads.insert(p, number) {
         Ok(before) => Ok(before.unwrap_or(0)),
@@ -427,7 +460,8 @@ fn set_head(heads: &mut HashMap<PNum, u32>, p: PNum, number: u32) -> Result<u32,
 fn clear_chain(slots: &mut Vec<Slot>, p: PNum, from: u32)
     requires linked { IsLinked slots.old.items }
     requires leads { Leads slots.old.items p from (length slots.old.items) }
-    ensures { slots.new.items ≡ map (cleared_slot p) slots.old.items }
+    ensures items { slots.new.items ≡ map (cleared_slot p) slots.old.items }
+    ensures capacity { vec_capacity slots.new ≡ vec_capacity slots.old }
 {
     let mut at = from;
     while at > 0 {

@@ -1,4 +1,4 @@
-use Rattle.std.proofs.Common.{◌≡◌, ◌-◌, length, sym, ap, ◌∙◌, arith}
+use Rattle.std.proofs.Common.{◌≡◌, ◌-◌, length, refl, sym, ap, ◌∙◌, arith}
 use Rattle.global_handles.proofs.Chains.{cleared_above-all, cleared_above-none, cleared_above-down, length-cleared_above, walk-step}
 use Rattle.global_handles.proofs.clear_chain.Goals as goal
 
@@ -10,6 +10,7 @@ loop-at-init c =
       cleared = sym (cleared_above-none c.args.p (length all) all (omega arith)) ∙ cleared_above-down c.args.p c.args.from (length all) all leads.within leads.settled;
       within = leads.within;
       own = leads.own;
+      capacity = refl;
     }
 
 pub index-slot-requires : goal.index-slot-requires
@@ -28,9 +29,9 @@ pub loop-at-preserved : goal.loop-at-preserved
 loop-at-preserved c =
     let i = c.loop-at.invariant in
     let step = walk-step c.args.p c.args.slots.now.items c.loop-at.slots.items c.loop-at.at (c.loop-at.at - 1) c.index-slot.result.now c.requires.linked i.cleared (omega arith) i.within i.own c.index-slot.ensures in
-    record { cleared = rw c.cleared.ensures step.0; within = omega (arith, step.1); own = step.2 }
+    record { cleared = rw c.cleared.ensures step.0; within = omega (arith, step.1); own = step.2; capacity = i.capacity }
 
-pub returns : goal.returns
-returns c =
+pub returns-clause-items : goal.returns-clause-items
+returns-clause-items c =
     let done : c.loop-at.at ≡ 0 = omega arith in
     (rw done at c.loop-at.invariant.cleared) ∙ cleared_above-all c.args.p c.args.slots.now.items

@@ -9,24 +9,24 @@ pub returns-then-not-is_open-clause-chained : goal.returns-then-not-is_open-clau
 returns-then-not-is_open-clause-chained c =
     let all = c.args.slots.now.items in
     let there = slice_get_read all (length all) (c.args.h.0 - 1) c.index-slot.result.now refl (omega arith) c.index-slot.ensures in
-    rw c.set_row.ensures (IsChained-emptied all (c.args.h.0 - 1) c.index-slot.result.now _ there (sym c.if-not-is_open.ensures) c.requires.chained)
+    rw c.set_row.ensures.items (IsChained-emptied all (c.args.h.0 - 1) c.index-slot.result.now _ there (sym c.if-not-is_open.ensures) c.requires.chained)
 
 pub returns-then-not-is_open-clause-len : goal.returns-then-not-is_open-clause-len
-returns-then-not-is_open-clause-len c = rw c.set_row.ensures (length-with_row c.args.slots.now.items (c.args.h.0 - 1) None)
+returns-then-not-is_open-clause-len c = rw c.set_row.ensures.items (length-with_row c.args.slots.now.items (c.args.h.0 - 1) None)
 
 pub set_next-requires : goal.set_next-requires
 set_next-requires c =
     let all = c.args.slots.now.items in
     let there = slice_get_read all (length all) (c.args.h.0 - 1) c.index-slot.result.now refl (omega arith) c.index-slot.ensures in
     let own = opens-own c.index-slot.result.now (sym c.if-not-is_open.ensures) in
-    rw (c.set_row.ensures, length-with_row all (c.args.h.0 - 1) None) (links-within all (c.args.h.0 - 1) c.index-slot.result.now _ _ c.requires.chained there own).0
+    rw (c.set_row.ensures.items, length-with_row all (c.args.h.0 - 1) None) (links-within all (c.args.h.0 - 1) c.index-slot.result.now _ _ c.requires.chained there own).0
 
 pub set_previous-requires : goal.set_previous-requires
 set_previous-requires c =
     let all = c.args.slots.now.items in
     let there = slice_get_read all (length all) (c.args.h.0 - 1) c.index-slot.result.now refl (omega arith) c.index-slot.ensures in
     let own = opens-own c.index-slot.result.now (sym c.if-not-is_open.ensures) in
-    rw (c.set_next.ensures, c.set_row.ensures, length-with_next, length-with_row all (c.args.h.0 - 1) None) (links-within all (c.args.h.0 - 1) c.index-slot.result.now _ _ c.requires.chained there own).1
+    rw (c.set_next.ensures.items, c.set_row.ensures.items, length-with_next, length-with_row all (c.args.h.0 - 1) None) (links-within all (c.args.h.0 - 1) c.index-slot.result.now _ _ c.requires.chained there own).1
 
 pub move_head-requires : goal.move_head-requires
 move_head-requires c =
@@ -42,8 +42,8 @@ returns-then-slot-eq0-clause-chained c =
     let slot = c.index-slot.result.now in
     let there = slice_get_read all (length all) i slot refl (omega arith) c.index-slot.ensures in
     let own = opens-own slot (sym c.if-not-is_open.ensures) in
-    rw (c.set_previous.ensures.items, c.set_next.ensures, c.set_row.ensures)
-    (IsChained-without all i slot slot.peer (head_in c.args.heads.now.entries) (head_in c.move_head.new.heads.entries) there own (λ q. rw (eq-eqb slot.previous 0 c.if-slot-eq0.true) (c.move_head.ensures q)) c.requires.chained)
+    rw (c.set_previous.ensures.items, c.set_next.ensures.items, c.set_row.ensures.items)
+    (IsChained-without all i slot slot.peer (head_in c.args.heads.now.entries) (head_in c.move_head.new.heads.entries) there own (λ q. rw (eq-eqb slot.previous 0 c.if-slot-eq0.true) (c.move_head.ensures.head q)) c.requires.chained)
 
 pub returns-else-slot-eq0-clause-chained : goal.returns-else-slot-eq0-clause-chained
 returns-else-slot-eq0-clause-chained c =
@@ -52,17 +52,17 @@ returns-else-slot-eq0-clause-chained c =
     let slot = c.index-slot.result.now in
     let there = slice_get_read all (length all) i slot refl (omega arith) c.index-slot.ensures in
     let own = opens-own slot (sym c.if-not-is_open.ensures) in
-    rw (c.set_previous.ensures.items, c.set_next.ensures, c.set_row.ensures)
+    rw (c.set_previous.ensures.items, c.set_next.ensures.items, c.set_row.ensures.items)
     (IsChained-without all i slot slot.peer (head_in c.args.heads.now.entries) (head_in c.args.heads.now.entries) there own (λ q. rw (neq-eqb slot.previous 0 (omega arith)) refl) c.requires.chained)
 
 pub returns-then-slot-eq0-clause-rows : goal.returns-then-slot-eq0-clause-rows
-returns-then-slot-eq0-clause-rows c = rw (c.set_previous.ensures.items, c.set_next.ensures, c.set_row.ensures) (rows_from-without_slots c.args.slots.now.items (c.args.h.0 - 1) c.index-slot.result.now)
+returns-then-slot-eq0-clause-rows c = rw (c.set_previous.ensures.items, c.set_next.ensures.items, c.set_row.ensures.items) (rows_from-without_slots c.args.slots.now.items (c.args.h.0 - 1) c.index-slot.result.now)
 
 pub returns-else-slot-eq0-clause-rows : goal.returns-else-slot-eq0-clause-rows
-returns-else-slot-eq0-clause-rows c = rw (c.set_previous.ensures.items, c.set_next.ensures, c.set_row.ensures) (rows_from-without_slots c.args.slots.now.items (c.args.h.0 - 1) c.index-slot.result.now)
+returns-else-slot-eq0-clause-rows c = rw (c.set_previous.ensures.items, c.set_next.ensures.items, c.set_row.ensures.items) (rows_from-without_slots c.args.slots.now.items (c.args.h.0 - 1) c.index-slot.result.now)
 
 pub returns-then-slot-eq0-clause-len : goal.returns-then-slot-eq0-clause-len
-returns-then-slot-eq0-clause-len c = rw (c.set_previous.ensures.items, c.set_next.ensures, c.set_row.ensures) (length-without_slots c.args.slots.now.items (c.args.h.0 - 1) c.index-slot.result.now)
+returns-then-slot-eq0-clause-len c = rw (c.set_previous.ensures.items, c.set_next.ensures.items, c.set_row.ensures.items) (length-without_slots c.args.slots.now.items (c.args.h.0 - 1) c.index-slot.result.now)
 
 pub returns-else-slot-eq0-clause-len : goal.returns-else-slot-eq0-clause-len
-returns-else-slot-eq0-clause-len c = rw (c.set_previous.ensures.items, c.set_next.ensures, c.set_row.ensures) (length-without_slots c.args.slots.now.items (c.args.h.0 - 1) c.index-slot.result.now)
+returns-else-slot-eq0-clause-len c = rw (c.set_previous.ensures.items, c.set_next.ensures.items, c.set_row.ensures.items) (length-without_slots c.args.slots.now.items (c.args.h.0 - 1) c.index-slot.result.now)

@@ -1,5 +1,5 @@
 use Rattle.global_handles.proofs.Chains.{set-with_row}
 use Rattle.global_handles.proofs.set_row.Goals as goal
 
-pub returns : goal.returns
-returns c = set-with_row _ _ c.index_mut.result.now _ c.index_mut.ensures.value
+pub returns-clause-items : goal.returns-clause-items
+returns-clause-items c = set-with_row _ _ c.index_mut.result.now _ c.index_mut.ensures.value

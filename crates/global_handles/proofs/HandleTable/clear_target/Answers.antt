@@ -1,4 +1,4 @@
-use Rattle.std.proofs.Common.{refl, ◌∙◌, sym, arith}
+use Rattle.std.proofs.Common.{refl, ◌∙◌, sym, ap, length, arith}
 use Rattle.std.proofs.lemmas.List.{length-map}
 use Rattle.global_handles.specs.Slots.{rows_from, cleared_slot, head_in}
 use Rattle.global_handles.proofs.Slots.{IsRising-table, cleared_for-rows}
@@ -11,15 +11,17 @@ clear_chain-requires-clause-leads c = rw (c.unwrap_or-from.ensures, c.remove.ens
 pub invariant_of-self : goal.invariant_of-self
 invariant_of-self c =
     let all = c.self.inside.slots.items in
-    let e = c.clear_chain.ensures in
+    let e = c.clear_chain.ensures.items in
     record {
       most = rw e (omega (arith, length-map all (cleared_slot c.args.p)));
       counted = rw (e, cleared_for-rows c.args.p 0 all) (c.self.invariant.counted ∙ sym (length-map (rows_from 0 all) _));
       chained = rw e (IsChained-cleared c.args.p all (head_in c.self.inside.heads.entries) _ (length-map all (cleared_slot c.args.p)) (λ q. heads-removed c.args.p q _ _ (c.remove.ensures.updates.0 q)) c.self.invariant.chained);
+      slots_room = omega (arith, c.self.invariant.slots_room, ap length e, length-map all (cleared_slot c.args.p), c.clear_chain.ensures.capacity);
+      heads_room = omega (arith, c.self.invariant.heads_room, c.remove.ensures.spare);
     }
 
 pub returns-clause-rows : goal.returns-clause-rows
-returns-clause-rows c = rw (c.clear_chain.ensures, ← c.self.view_is) (cleared_for-rows c.args.p 0 c.self.inside.slots.items)
+returns-clause-rows c = rw (c.clear_chain.ensures.items, ← c.self.view_is) (cleared_for-rows c.args.p 0 c.self.inside.slots.items)
 
 pub returns-clause-rising : goal.returns-clause-rising
 returns-clause-rising c = IsRising-table c.clear_chain.new.slots.items _ refl

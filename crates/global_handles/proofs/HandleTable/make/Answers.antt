@@ -37,6 +37,8 @@ invariant_of-self-2 c =
       most = rw items (omega (arith, len));
       counted = rw (items, length-rows-push (with_previous all s.next number) s _ refl, rows_from-with_previous all s.next number) (ap (λ n. n + 1) c.self.invariant.counted);
       chained = rw items (IsChained-pushed all s number (head_in c.self.inside.heads.entries) _ (omega arith) refl refl c.in_ok-next.ensures.before len c.in_ok-next.ensures.head c.self.invariant.chained);
+      slots_room = omega (arith, c.self.invariant.slots_room, ap length items, len, c.reserve.ensures.capacity, c.in_ok-reserve.ensures.ok, c.set_previous.ensures.capacity, c.push_reserved.ensures.capacity, c.saturating_sub-self-inside.ensures);
+      heads_room = omega (arith, c.self.invariant.heads_room, c.set_head.ensures.spare, c.saturating_sub-self-inside.ensures);
     }
 
 pub returns-clause-rows : goal.returns-clause-rows

@@ -1,4 +1,4 @@
-use Rattle.std.proofs.Common.{◌≡◌, ℕ, Bool, ◌-◌, Some, refl, sym, ◌∙◌, arith}
+use Rattle.std.proofs.Common.{◌≡◌, ℕ, Bool, ◌-◌, Some, refl, sym, ap, length, ◌∙◌, arith}
 use Rattle.std.proofs.lemmas.List.{length-map}
 use Rattle.joint_model.specs.declared.names.PNum.{PNum}
 use Rattle.global_handles.specs.declared.Hold.{Hold}
@@ -26,21 +26,23 @@ invariant_of-self c =
     let i = c.args.h.0 - 1 in
     let kept = row_in-kept all c.args.h c.in-Some.row (rw (← c.self.view_is) at (sym c.in-Some.ensures.row)) in
     let k' : Kept = record { hold = c.in-Some.row.hold; strength = c.args.strength; cleared = c.in-Some.row.cleared } in
-    let e = c.set_row.ensures in
+    let e = c.set_row.ensures.items in
     record {
       most = rw e (omega (arith, length-with_row all i (Some k')));
       counted = rw (e, changed-rows (with_strength c.args.strength) 0 all c.args.h i kept.0 k' (omega (arith, kept.1)) kept.3 (same kept.0 c.in-Some.row.hold c.args.strength c.in-Some.row.cleared kept.4 kept.5)) (c.self.invariant.counted ∙ sym (length-map (rows_from 0 all) _));
       chained = rw e (IsChained-with_row all i (Some k') _ (open-kept all i kept.0 k' kept.3 kept.5) c.self.invariant.chained);
+      slots_room = omega (arith, c.self.invariant.slots_room, ap length e, length-with_row all i (Some k'), c.set_row.ensures.capacity);
+      heads_room = c.self.invariant.heads_room;
     }
 
 pub returns-clause-rows : goal.returns-clause-rows
 returns-clause-rows c =
     let kept = row_in-kept c.self.inside.slots.items c.args.h c.in-Some.row (rw (← c.self.view_is) at (sym c.in-Some.ensures.row)) in
-    rw (c.set_row.ensures, ← c.self.view_is)
+    rw (c.set_row.ensures.items, ← c.self.view_is)
     (changed-rows (with_strength c.args.strength) 0 c.self.inside.slots.items c.args.h (c.args.h.0 - 1) kept.0 _ (omega (arith, kept.1)) kept.3 (same kept.0 c.in-Some.row.hold c.args.strength c.in-Some.row.cleared kept.4 kept.5))
 
 pub returns-clause-made : goal.returns-clause-made
-returns-clause-made c = rw (c.set_row.ensures, ← c.self.view_is) (length-with_row c.self.inside.slots.items (c.args.h.0 - 1) _)
+returns-clause-made c = rw (c.set_row.ensures.items, ← c.self.view_is) (length-with_row c.self.inside.slots.items (c.args.h.0 - 1) _)
 
 pub returns-clause-rising : goal.returns-clause-rising
 returns-clause-rising c = IsRising-table c.set_row.new.slots.items _ refl
