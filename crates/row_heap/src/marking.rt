@@ -3,7 +3,7 @@
 // A collector calls `begin_marking`, marks what slots name by `visit_slots` and each further root by `row_marking::visit`, and carries the
 // marking to its end by `finish_marking`. While it is open, `bring_back` marks an object with all that it reaches. None of it takes memory.
 
-ghost use Rattle.std.specs.Prelude.{◌≡◌, ℕ, ◌↔◌, ◌⊎◌, List, [], ◌∷◌, Bool, Contains, IsTrue, Option, Some};
+ghost use Rattle.std.specs.Prelude.{◌≡◌, ℕ, ◌+◌, ◌↔◌, ◌⊎◌, List, [], ◌∷◌, Bool, Contains, IsTrue, Option, Some, length};
 ghost use Rattle.joint_model.specs.Heaps.{InSlot, IsLive};
 ghost use Rattle.joint_model.specs.Walks.{Reached};
 ghost use Rattle.reachability.specs.Marks.{IsClosed, IsMarked};
@@ -20,6 +20,13 @@ impl<N: Number> RowHeap<N> {
         ensures { (x : ℕ) → IsMarked self.now.marks x → IsLive self.now.heap x }
     {
         self.rows.marked_stand();
+    }
+
+    /// There is a place for the mark of each object, and one for the number 0, which is no object's, for the proofs of callers. It does nothing.
+    pub fn marks_len(&self)
+        ensures { length self.now.marks ≡ length self.now.heap.fields + 1 }
+    {
+        let _ = &self.rows;
     }
 
     /// Whether object `x` has a mark.
