@@ -1,0 +1,3 @@
+pub mod Counts
+pub mod EachLine
+pub mod Texts
