@@ -1,0 +1,52 @@
+-- Words give at most one command.
+use Rattle.std.proofs.Common.{◌≡◌, ℕ, ◌<◌, ◌^◌, List, [], ◌∷◌, length, Option, Some, refl, sym, ap, ◌∙◌, arith, codes, decimal, true, false}
+use Rattle.std.specs.Prelude.{bytes_eq}
+use Rattle.std.specs.Cmp.Lexicographic.{other_text}
+use Rattle.std.proofs.lemmas.Fmt.{decimal_injective}
+use Rattle.command_words.specs.declared.commands.Mode.{Mode}
+use Rattle.command_words.specs.declared.commands.Mode.TheVariants as mode
+use Rattle.command_words.specs.declared.commands.Command.{Command}
+use Rattle.command_words.specs.declared.commands.Command.TheVariants as command
+use Rattle.command_words.specs.Commands.{mode_text, AreWordsOf}
+use Rattle.command_words.specs.Values.{word_at}
+use Rattle.command_words.proofs.Orders.{values, one, lengths}
+
+same : (x y : List ℕ) (o : Option (List ℕ)) → o ≡ Some x → o ≡ Some y → x ≡ y
+same x y o e f = cc
+
+modes_differ : codes "serial" ≡ codes "threads" → ⊥
+modes_differ e = other_text (codes "serial") (codes "threads") refl e
+
+same_mode : (m n : Mode) → mode_text m ≡ mode_text n → m ≡ n
+same_mode mode.Serial mode.Serial e = refl
+same_mode mode.Serial mode.Threads e = absurd (modes_differ e)
+same_mode mode.Threads mode.Serial e = absurd (modes_differ (sym e))
+same_mode mode.Threads mode.Threads e = refl
+
+first_word : (a b : List ℕ) (words : List (List ℕ)) → a ∷ [] ≡ words → b ∷ [] ≡ words → a ≡ b
+first_word a b words e f = ap (λ w. word_at w 0) (e ∙ sym f)
+
+generates : (s s' z z' : ℕ) (m m' : Mode) → s ≡ s' → z ≡ z' → m ≡ m' → command.Generate s z m ≡ command.Generate s' z' m'
+generates s s' z z' m m' e f g = cc
+
+apart : {A : Type 0} (words : List (List ℕ)) (text : List ℕ) → text ∷ [] ≡ words → length words ≡ 7 → A
+apart words text e l = let short : 1 ≡ length words = ap length e in absurd (omega (arith, short, l))
+
+pub tell : (words : List (List ℕ)) (c d : Command) → AreWordsOf words c → AreWordsOf words d → c ≡ d
+tell words command.Serial command.Serial a b = refl
+tell words command.Serial command.Threads a b = absurd (modes_differ (first_word _ _ words (one (codes "serial") words a.given) (one (codes "threads") words b.given)))
+tell words command.Serial (command.Generate s z m) a b = apart words (codes "serial") (one (codes "serial") words a.given) (values (decimal s) (decimal z) (mode_text m) words b.given).seven
+tell words command.Threads command.Serial a b = absurd (modes_differ (first_word _ _ words (one (codes "serial") words b.given) (one (codes "threads") words a.given)))
+tell words command.Threads command.Threads a b = refl
+tell words command.Threads (command.Generate s z m) a b = apart words (codes "threads") (one (codes "threads") words a.given) (values (decimal s) (decimal z) (mode_text m) words b.given).seven
+tell words (command.Generate s z m) command.Serial a b = apart words (codes "serial") (one (codes "serial") words b.given) (values (decimal s) (decimal z) (mode_text m) words a.given).seven
+tell words (command.Generate s z m) command.Threads a b = apart words (codes "threads") (one (codes "threads") words b.given) (values (decimal s) (decimal z) (mode_text m) words a.given).seven
+tell words (command.Generate s z m) (command.Generate s' z' m') a b =
+    let v = values (decimal s) (decimal z) (mode_text m) words a.given in
+    let w = values (decimal s') (decimal z') (mode_text m') words b.given in
+    let small : z < 2 ^ 64 = let l = a.allowed.1 in omega (arith, l) in
+    let small' : z' < 2 ^ 64 = let l = b.allowed.1 in omega (arith, l) in
+    generates s s' z z' m m'
+    (decimal_injective s s' a.allowed.0 b.allowed.0 (same _ _ _ v.seed w.seed))
+    (decimal_injective z z' small small' (same _ _ _ v.size w.size))
+    (same_mode m m' (same _ _ _ v.mode w.mode))

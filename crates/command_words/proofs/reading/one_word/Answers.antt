@@ -1,0 +1,8 @@
+use Rattle.std.proofs.Common.{◌≡◌, length, map, ◌∙◌, sym, string_bytes}
+use Rattle.std.proofs.lemmas.List.{length-map}
+use Rattle.command_words.proofs.Orders.{not_one}
+use Rattle.command_words.proofs.reading.one_word.Goals as goal
+
+pub returns-in-None : goal.returns-in-None
+returns-in-None c =
+    not_one (map string_bytes c.args.words.now) (length-map c.args.words.now string_bytes ∙ c.requires) (λ m e. c.in-None.ensures m (e ∙ sym c.word.ensures))

@@ -1,0 +1,17 @@
+// What the program can be asked for.
+
+/// How the lines of a script are run: in order on one thread, or each thread's lines in a thread of its own.
+#[derive(Clone, Copy, PartialEq, Eq, Debug)]
+pub enum Mode {
+    Serial,
+    Threads,
+}
+
+/// What the words of the command line ask for: to run the script that is read, in order or in threads, or to make a script of a seed
+/// and a size, of at most 2,800 families, and to run that.
+#[derive(Clone, Copy, PartialEq, Eq, Debug)]
+pub enum Command {
+    Serial,
+    Threads,
+    Generate { seed: u64, size: u32, mode: Mode },
+}
