@@ -1,6 +1,5 @@
 -- Words give at most one command.
-use Rattle.std.proofs.Common.{◌≡◌, ℕ, ◌<◌, ◌^◌, List, [], ◌∷◌, length, Option, Some, refl, sym, ap, ◌∙◌, arith, codes, decimal, true, false}
-use Rattle.std.specs.Prelude.{bytes_eq}
+use Rattle.std.proofs.Common.{◌≡◌, ℕ, ◌<◌, ◌^◌, List, [], ◌∷◌, length, Option, Some, refl, sym, ap, ◌∙◌, arith, codes, decimal}
 use Rattle.std.specs.Cmp.Lexicographic.{other_text}
 use Rattle.std.proofs.lemmas.Fmt.{decimal_injective}
 use Rattle.command_words.specs.declared.commands.Mode.{Mode}
@@ -9,7 +8,7 @@ use Rattle.command_words.specs.declared.commands.Command.{Command}
 use Rattle.command_words.specs.declared.commands.Command.TheVariants as command
 use Rattle.command_words.specs.Commands.{mode_text, AreWordsOf}
 use Rattle.command_words.specs.Values.{word_at}
-use Rattle.command_words.proofs.Orders.{values, one, lengths}
+use Rattle.command_words.proofs.Orders.{values, one}
 
 same : (x y : List ℕ) (o : Option (List ℕ)) → o ≡ Some x → o ≡ Some y → x ≡ y
 same x y o e f = cc

@@ -1,4 +1,4 @@
-use Rattle.std.proofs.Common.{◌≡◌, ◌≤◌, ◌<◌, ◌^◌, sym, ap, ◌∙◌, decimal, arith}
+use Rattle.std.proofs.Common.{◌≡◌, ◌<◌, ◌^◌, sym, ap, ◌∙◌, decimal, arith}
 use Rattle.std.proofs.lemmas.Fmt.{parse-decimal}
 use Rattle.command_words.proofs.reading.number.Goals as goal
 

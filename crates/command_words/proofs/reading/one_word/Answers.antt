@@ -1,4 +1,4 @@
-use Rattle.std.proofs.Common.{◌≡◌, length, map, ◌∙◌, sym, string_bytes}
+use Rattle.std.proofs.Common.{map, ◌∙◌, sym, string_bytes}
 use Rattle.std.proofs.lemmas.List.{length-map}
 use Rattle.command_words.proofs.Orders.{not_one}
 use Rattle.command_words.proofs.reading.one_word.Goals as goal

@@ -1,4 +1,4 @@
-use Rattle.std.proofs.Common.{◌≡◌, ◌≤◌, ◌<◌, ◌^◌, length, map, ◌∙◌, sym, string_bytes, Bool, true, false, List, ℕ, codes, arith, decimal}
+use Rattle.std.proofs.Common.{◌≡◌, ◌<◌, ◌^◌, length, map, ◌∙◌, sym, string_bytes, true, false, codes, arith, decimal}
 use Rattle.std.specs.Prelude.{bytes_eq}
 use Rattle.std.specs.Cmp.Lexicographic.{same_text, other_text}
 use Rattle.std.proofs.lemmas.List.{length-map}
