@@ -1,9 +1,12 @@
 -- Whether a script goes on with a line is decided in the order of the causes: bytes and lines exclude all others,
 -- the causes of the words come before that of cycles, and a line that is built has none of its words.
-use Rattle.std.proofs.Common.{◌≡◌, ℕ, ◌+◌, ◌-◌, ◌<◌, ◌≤◌, min, cond, Bool, true, false, List, [], ◌∷◌, ◌++◌, length, take, drop, slice_range, ◌∙◌, ap, refl, arith, subst, lit≤, inl, length-drop}
+use Rattle.std.proofs.Common.{◌≡◌, ℕ, ◌+◌, ◌-◌, ◌<◌, ◌≤◌, min, cond, Bool, true, false, List, [], ◌∷◌, ◌++◌, length, take, drop, slice_range, ◌∙◌, ap, refl, arith, subst, lit≤, inl, inr, length-drop}
 use Rattle.std.proofs.lemmas.List.{length-take-le}
+use Rattle.joint_model.specs.declared.names.PhaseWord.TheVariants as phase
 use Rattle.joint_model.specs.declared.names.Thread.{Thread}
+use Rattle.joint_model.specs.declared.names.Thread.TheVariants.{C}
 use Rattle.joint_model.specs.declared.lines.Act.{Act}
+use Rattle.joint_model.specs.declared.lines.Act.TheVariants as act
 use Rattle.bridge_script.specs.declared.faults.Cause.{Cause}
 use Rattle.bridge_script.specs.declared.faults.Cause.TheVariants as cause
 use Rattle.bridge_script.specs.declared.faults.ScriptError.{ScriptError}
@@ -13,7 +16,7 @@ use Rattle.bridge_script.specs.Causes.{cause_number}
 use Rattle.bridge_script.specs.Faults.{WordsHave, IsFirst, Has, AskCycle, words_of}
 use Rattle.bridge_script.specs.Scripts.{IsBuilt, IsScript, IsFault, IsRefusal, script_text_of, cycles_of, is_cycle, end_of}
 use Rattle.bridge_script.specs.Steps.{EndsLine, Stops, behind}
-use Rattle.bridge_script.proofs.Built.{built_case, words_of_built}
+use Rattle.bridge_script.proofs.Built.{words_of_built}
 use Rattle.bridge_script.proofs.Fitting.{none_of_built}
 use Rattle.bridge_script.proofs.Texts.{no_text, length_so_far}
 
@@ -55,9 +58,11 @@ after_lines old text end l d h = absurd (omega (arith, h.0.1))
 pub lines_first : (old : List (Thread × Act)) (text : List ℕ) (end : ℕ) → 20000 ≤ length old → end ≤ 8388608 → IsFirst (Has (behind old text end)) cause.Lines
 lines_first old text end l b = record { here = (b, omega arith); first = after_lines old text end l }
 
--- a line that is built and is counted asks for a cycle
-asks : (line : Thread × Act) → IsBuilt line → 0 < cond (is_cycle line) 1 0 → AskCycle (line_words line)
-asks = built_case (λ line. 0 < cond (is_cycle line) 1 0 → AskCycle (line_words line)) (λ n a l m h e c. absurd (omega arith)) (λ c. inl refl)
+-- a line that is counted asks for a cycle
+asks : (line : Thread × Act) → 0 < cond (is_cycle line) 1 0 → AskCycle (line_words line)
+asks (C, act.PhaseLine phase.Cycle) c = inl refl
+asks (C, act.PhaseLine phase.Snap) c = inr refl
+asks line c = absurd (omega arith)
 
 after_cycles : (old : List (Thread × Act)) (line : Thread × Act) (end : ℕ) → IsBuilt line → (d : Cause) → Has (behind old (line_text line) end) d → 7 ≤ cause_number d
 after_cycles old line end b cause.Bytes h = lit≤ tt
@@ -72,7 +77,7 @@ weigh n false m = omega arith
 -- a line that is built and asks for one cycle too many
 pub cycles_first : (old : List (Thread × Act)) (line : Thread × Act) (end : ℕ) → IsBuilt line → length old < 20000 → end ≤ 8388608 → cycles_of old ≤ 256 → 256 < cycles_of old + cond (is_cycle line) 1 0 → IsFirst (Has (behind old (line_text line) end)) cause.Cycles
 cycles_first old line end b l s c m = record {
-  here = ((s, omega arith), rw (words_of_built line b) (asks line b (omega arith)), weigh (cycles_of old) (is_cycle line) m);
+  here = ((s, omega arith), rw (words_of_built line b) (asks line (omega arith)), weigh (cycles_of old) (is_cycle line) m);
   first = after_cycles old line end b;
 }
 

@@ -1,8 +1,9 @@
 -- The words of a line begin with one thread and one operation at most, since threads have different texts, and
--- so have the operations of one thread that are built. So the causes that stand behind the operation are all
+-- so have the operations of one thread. So the causes that stand behind the operation are all
 -- that the line has, and the first of them is its first cause.
-use Rattle.std.proofs.Common.{◌≡◌, ◌≢◌, ℕ, ◌≤◌, true, List, [], ◌∷◌, Some, codes, sym, ◌∙◌, ap, refl, arith, subst, get_or, lit≤}
-use Rattle.std.proofs.lemmas.Bool.{false≢true}
+use Rattle.std.proofs.Common.{◌≡◌, ◌≢◌, ℕ, ◌≤◌, Bool, true, cond, List, [], ◌∷◌, length, Option, Some, None, sym, ◌∙◌, ap, refl, arith, subst, get_or, lit≤, bytes_eq}
+use Rattle.std.proofs.Math.Dec.{leb}
+use Rattle.std.proofs.lemmas.Bool.{leb-true}
 use Rattle.std.proofs.lemmas.Fmt.{decimal_injective}
 use Rattle.joint_model.specs.declared.names.PhaseWord.TheVariants as phase
 use Rattle.joint_model.specs.declared.names.Thread.{Thread}
@@ -16,10 +17,10 @@ use Rattle.bridge_script.specs.declared.grammar.Operation.TheVariants as operati
 use Rattle.bridge_script.specs.declared.grammar.Place.{Place}
 use Rattle.bridge_script.specs.Words.{thread_text}
 use Rattle.bridge_script.specs.Causes.{cause_number}
-use Rattle.bridge_script.specs.Grammar.{operation_text, form_of, is_built, is_built_managed, is_built_driver}
+use Rattle.bridge_script.specs.Grammar.{operation_text, managed_form, peer_form, driver_form, form_of, is_built}
 use Rattle.bridge_script.specs.Faults.{PlacesHave, Reads, ReadsWith, WordsHave, IsFirst}
 
-same_thread : (s t : Thread) → IsThread s → IsThread t → thread_text s ≡ thread_text t → s ≡ t
+pub same_thread : (s t : Thread) → IsThread s → IsThread t → thread_text s ≡ thread_text t → s ≡ t
 same_thread (M a) (M b) p q e = ap M (decimal_injective a b (omega arith) (omega arith) (cc))
 same_thread (M a) (P b) p q e = absurd (omega (arith, ap (λ w. get_or w 0 0) e))
 same_thread (M a) C p q e = absurd (omega (arith, ap (λ w. get_or w 0 0) e))
@@ -30,27 +31,101 @@ same_thread C (M b) p q e = absurd (omega (arith, ap (λ w. get_or w 0 0) e))
 same_thread C (P b) p q e = absurd (omega (arith, ap (λ w. get_or w 0 0) e))
 same_thread C C p q e = refl
 
--- a fact about all operations of a managed thread that are built
-pub managed_operation : (Q : Operation → Type 0) → Q operation.Bridge → Q operation.Set → Q operation.Drop → (o : Operation) → is_built_managed o ≡ true → Q o
-managed_operation Q b s d operation.Bridge e = b
-managed_operation Q b s d operation.Set e = s
-managed_operation Q b s d operation.Drop e = d
-managed_operation Q b s d o e = absurd (false≢true e)
+-- the first of these operations that has a word
+abbrev find : List Operation → List ℕ → Operation
+find [] w = operation.New
+find (o ∷ os) w = cond (bytes_eq (operation_text o) w) o (find os w)
 
--- the same of the driver's
-pub driver_operation : (Q : Operation → Type 0) → Q (operation.Phase phase.Cycle) → (o : Operation) → is_built_driver o ≡ true → Q o
-driver_operation Q c (operation.Phase phase.Cycle) e = c
-driver_operation Q c (operation.Phase w) e = absurd (false≢true e)
-driver_operation Q c o e = absurd (false≢true e)
+abbrev managed : List ℕ → Operation
+managed = find (operation.New ∷ operation.Bridge ∷ operation.Copy ∷ operation.Set ∷ operation.Get ∷ operation.Drop ∷ operation.Load ∷ operation.Store ∷ operation.Weak ∷ operation.Read ∷ operation.Await ∷ operation.Take ∷ operation.Pass ∷ operation.Surface ∷ operation.Dispose ∷ operation.Handle ∷ [])
 
-same_operation : (t : Thread) (o p : Operation) → is_built t o ≡ true → is_built t p ≡ true → operation_text o ≡ operation_text p → o ≡ p
-same_operation (M n) o p a b e = managed_operation (λ o. operation_text o ≡ operation_text p → o ≡ p)
-    (managed_operation (λ p. operation_text operation.Bridge ≡ operation_text p → operation.Bridge ≡ p) (λ e. refl) (λ e. absurd (cc)) (λ e. absurd (cc)) p b)
-    (managed_operation (λ p. operation_text operation.Set ≡ operation_text p → operation.Set ≡ p) (λ e. absurd (cc)) (λ e. refl) (λ e. absurd (cc)) p b)
-    (managed_operation (λ p. operation_text operation.Drop ≡ operation_text p → operation.Drop ≡ p) (λ e. absurd (cc)) (λ e. absurd (cc)) (λ e. refl) p b)
-    o a e
-same_operation (P n) o p a b e = absurd (false≢true a)
-same_operation C o p a b e = driver_operation (λ o. o ≡ p) (driver_operation (λ p. operation.Phase phase.Cycle ≡ p) refl p b) o a
+abbrev peers : List ℕ → Operation
+peers = find (operation.Copy ∷ operation.Set ∷ operation.Get ∷ operation.Drop ∷ operation.Load ∷ operation.Store ∷ operation.NewPeer ∷ operation.Global ∷ operation.WGlobal ∷ operation.UnGlobal ∷ operation.WRead ∷ operation.Collect ∷ operation.BeginMark ∷ operation.Slice ∷ operation.SweepMark ∷ [])
+
+abbrev driven : List ℕ → Operation
+driven = find ((operation.Phase phase.Cycle) ∷ (operation.Phase phase.Snap) ∷ (operation.Phase phase.Contract) ∷ (operation.Phase phase.Mirror) ∷ (operation.Phase phase.Weaken) ∷ (operation.Phase phase.Mark) ∷ (operation.Phase phase.Sweep) ∷ (operation.Phase phase.Restore) ∷ (operation.Phase phase.Resolve) ∷ operation.Finalise ∷ [])
+
+-- an operation of a thread is found by its word
+known_managed : (o : Operation) (ps : List Place) → managed_form o ≡ Some ps → managed (operation_text o) ≡ o
+known_managed operation.New ps f = refl
+known_managed operation.Bridge ps f = refl
+known_managed operation.Copy ps f = refl
+known_managed operation.Set ps f = refl
+known_managed operation.Get ps f = refl
+known_managed operation.Drop ps f = refl
+known_managed operation.Load ps f = refl
+known_managed operation.Store ps f = refl
+known_managed operation.Weak ps f = refl
+known_managed operation.Read ps f = refl
+known_managed operation.Await ps f = refl
+known_managed operation.Take ps f = refl
+known_managed operation.Pass ps f = refl
+known_managed operation.Surface ps f = refl
+known_managed operation.Dispose ps f = refl
+known_managed operation.Handle ps f = refl
+known_managed o ps f = absurd (cc)
+
+known_peer : (o : Operation) (ps : List Place) → peer_form o ≡ Some ps → peers (operation_text o) ≡ o
+known_peer operation.Copy ps f = refl
+known_peer operation.Set ps f = refl
+known_peer operation.Get ps f = refl
+known_peer operation.Drop ps f = refl
+known_peer operation.Load ps f = refl
+known_peer operation.Store ps f = refl
+known_peer operation.NewPeer ps f = refl
+known_peer operation.Global ps f = refl
+known_peer operation.WGlobal ps f = refl
+known_peer operation.UnGlobal ps f = refl
+known_peer operation.WRead ps f = refl
+known_peer operation.Collect ps f = refl
+known_peer operation.BeginMark ps f = refl
+known_peer operation.Slice ps f = refl
+known_peer operation.SweepMark ps f = refl
+known_peer o ps f = absurd (cc)
+
+known_driver : (o : Operation) (ps : List Place) → driver_form o ≡ Some ps → driven (operation_text o) ≡ o
+known_driver (operation.Phase phase.Cycle) ps f = refl
+known_driver (operation.Phase phase.Snap) ps f = refl
+known_driver (operation.Phase phase.Contract) ps f = refl
+known_driver (operation.Phase phase.Mirror) ps f = refl
+known_driver (operation.Phase phase.Weaken) ps f = refl
+known_driver (operation.Phase phase.Mark) ps f = refl
+known_driver (operation.Phase phase.Sweep) ps f = refl
+known_driver (operation.Phase phase.Restore) ps f = refl
+known_driver (operation.Phase phase.Resolve) ps f = refl
+known_driver operation.Finalise ps f = refl
+known_driver o ps f = absurd (cc)
+
+-- so the operations of a thread have different words
+pub same_operation : (t : Thread) (o p : Operation) (ps qs : List Place) → form_of t o ≡ Some ps → form_of t p ≡ Some qs → operation_text o ≡ operation_text p → o ≡ p
+same_operation (M n) o p ps qs f g e = sym (known_managed o ps f) ∙ (ap managed e ∙ known_managed p qs g)
+same_operation (P n) o p ps qs f g e = sym (known_peer o ps f) ∙ (ap peers e ∙ known_peer p qs g)
+same_operation C o p ps qs f g e = sym (known_driver o ps f) ∙ (ap driven e ∙ known_driver p qs g)
+
+-- an operation has at most five places
+abbrev is_short : Option (List Place) → Bool
+is_short None = true
+is_short (Some ps) = leb (length ps) 5
+
+short_managed : (o : Operation) → is_short (managed_form o) ≡ true
+short_managed operation.New = refl
+short_managed o = refl
+
+short_peer : (o : Operation) → is_short (peer_form o) ≡ true
+short_peer operation.Copy = refl
+short_peer o = refl
+
+short_driver : (o : Operation) → is_short (driver_form o) ≡ true
+short_driver operation.Finalise = refl
+short_driver o = refl
+
+short_form : (t : Thread) (o : Operation) → is_short (form_of t o) ≡ true
+short_form (M n) o = short_managed o
+short_form (P n) o = short_peer o
+short_form C o = short_driver o
+
+pub few_places : (t : Thread) (o : Operation) (ps : List Place) → form_of t o ≡ Some ps → length ps ≤ 5
+few_places t o ps f = leb-true (length ps) 5 (ap is_short (sym f) ∙ short_form t o)
 
 -- the words begin in one way
 pub record Same (t : Thread) (o : Operation) (ps : List Place) (ws : List (List ℕ)) (t' : Thread) (o' : Operation) (ps' : List Place) (ws' : List (List ℕ)) : Type 0 where
@@ -65,8 +140,8 @@ one_reading words t o ps ws t' o' ps' ws' r s =
     let first : thread_text t ≡ thread_text t' = ap (λ w. get_or w 0 []) e in
     let second : operation_text o ≡ operation_text o' = ap (λ w. get_or w 1 []) e in
     let et = same_thread t t' r.thread s.thread first in
-    let B : Thread → Type 0 = λ x. is_built x o' ≡ true in
-    let eo = same_operation t o o' r.built (subst B (sym et) s.built) second in
+    let F : Thread → Type 0 = λ x. form_of x o' ≡ Some ps' in
+    let eo = same_operation t o o' ps ps' r.form (subst F (sym et) s.form) second in
     let ef : Some ps ≡ Some ps' = sym r.form ∙ (ap (λ x. form_of x o) et ∙ (ap (λ x. form_of t' x) eo ∙ s.form)) in
     record { thread = et; operation = eo; places = some-same ps ps' ef; rest = cc }
 
@@ -99,29 +174,15 @@ has_behind words t o ps ws r c h = has_there words t o ps ws r c h
 pub first_behind : (words : List (List ℕ)) (t : Thread) (o : Operation) (ps : List Place) (ws : List (List ℕ)) → Reads words t o ps ws → (c : Cause) → IsFirst (PlacesHave o ps ws) c → IsFirst (WordsHave words) c
 first_behind words t o ps ws r c f = record { here = has_here words t o ps ws r c f.here; first = λ d h. f.first d (has_behind words t o ps ws r d h) }
 
--- a word that names no operation of a managed thread that is built
-pub unknown_managed : (n : ℕ) (word : List ℕ) (ws : List (List ℕ)) → IsThread (M n) → word ≢ codes "bridge" → word ≢ codes "set" → word ≢ codes "drop" → (t : Thread) (o : Operation) (ps : List Place) (rest : List (List ℕ)) → Reads (thread_text (M n) ∷ word ∷ ws) t o ps rest → ⊥
-unknown_managed n word ws l b s d t o ps rest r =
-    let e : word ≡ operation_text o = ap (λ w. get_or w 1 []) r.begins in
-    let first : thread_text (M n) ≡ thread_text t = ap (λ w. get_or w 0 []) r.begins in
+-- words that begin with a thread, and go on with no operation of it that is built
+pub unknown_behind : (t : Thread) (ws : List (List ℕ)) → IsThread t → ((o : Operation) (ps : List Place) (rest : List (List ℕ)) → form_of t o ≡ Some ps → is_built t o ≡ true → ws ≢ operation_text o ∷ rest)
+    → (s : Thread) (o : Operation) (ps : List Place) (rest : List (List ℕ)) → Reads (thread_text t ∷ ws) s o ps rest → ⊥
+unknown_behind t ws l none s o ps rest r =
+    let e : t ≡ s = same_thread t s l r.thread (ap (λ w. get_or w 0 []) r.begins) in
+    let F : Thread → Type 0 = λ x. form_of x o ≡ Some ps in
     let B : Thread → Type 0 = λ x. is_built x o ≡ true in
-    managed_operation (λ o. word ≡ operation_text o → ⊥) b s d o (subst B (sym (same_thread (M n) t l r.thread first)) r.built) e
+    none o ps rest (subst F (sym e) r.form) (subst B (sym e) r.built) (let b = r.begins in cc)
 
--- the same of the driver
-pub unknown_driver : (word : List ℕ) (ws : List (List ℕ)) → word ≢ codes "cycle" → (t : Thread) (o : Operation) (ps : List Place) (rest : List (List ℕ)) → Reads (thread_text C ∷ word ∷ ws) t o ps rest → ⊥
-unknown_driver word ws y t o ps rest r =
-    let e : word ≡ operation_text o = ap (λ w. get_or w 1 []) r.begins in
-    let first : thread_text C ≡ thread_text t = ap (λ w. get_or w 0 []) r.begins in
-    let B : Thread → Type 0 = λ x. is_built x o ≡ true in
-    driver_operation (λ o. word ≡ operation_text o → ⊥) y o (subst B (sym (same_thread C t tt r.thread first)) r.built) e
-
--- a peer thread has no operation that is built
-pub unknown_peer : (n : ℕ) (ws : List (List ℕ)) → IsThread (P n) → (t : Thread) (o : Operation) (ps : List Place) (rest : List (List ℕ)) → Reads (thread_text (P n) ∷ ws) t o ps rest → ⊥
-unknown_peer n ws l t o ps rest r =
-    let first : thread_text (P n) ≡ thread_text t = ap (λ w. get_or w 0 []) r.begins in
-    let B : Thread → Type 0 = λ x. is_built x o ≡ true in
-    false≢true (subst B (sym (same_thread (P n) t l r.thread first)) r.built)
-
--- words that end behind the thread
-pub unknown_short : (thread : List ℕ) (t : Thread) (o : Operation) (ps : List Place) (rest : List (List ℕ)) → Reads (thread ∷ []) t o ps rest → ⊥
-unknown_short thread t o ps rest r = let e = r.begins in cc
+-- so this is their first cause
+pub unknown_here : (words : List (List ℕ)) (t : Thread) (ws : List (List ℕ)) → words ≡ thread_text t ∷ ws → IsThread t → ((o : Operation) (ps : List Place) (rest : List (List ℕ)) → form_of t o ≡ Some ps → is_built t o ≡ true → ws ≢ operation_text o ∷ rest) → IsFirst (WordsHave words) cause.Unknown
+unknown_here words t ws e l none = unknown_first words (λ s o ps rest r. unknown_behind t ws l none s o ps rest (let F : List (List ℕ) → Type 0 = λ w. Reads w s o ps rest in subst F e r))

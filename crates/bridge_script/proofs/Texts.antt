@@ -11,8 +11,11 @@ use Rattle.bridge_script.proofs.Cuts.{cut_at, free_before}
 use Rattle.std.proofs.lemmas.List.Elements.{All-head, All-tail, All-take, All-get_or, All-push}
 use Rattle.std.proofs.lemmas.List.Sums.{sum_by-append, sum_by_push}
 use Rattle.std.proofs.Math.Seq.{take-add, take-append_seam, get_or-append_seam}
+use Rattle.joint_model.specs.declared.names.PhaseWord.TheVariants as phase
 use Rattle.joint_model.specs.declared.names.Thread.{Thread}
+use Rattle.joint_model.specs.declared.names.Thread.TheVariants.{C}
 use Rattle.joint_model.specs.declared.lines.Act.{Act}
+use Rattle.joint_model.specs.declared.lines.Act.TheVariants as act
 use Rattle.bridge_script.specs.declared.faults.ScriptFault.{ScriptFault}
 use Rattle.bridge_script.specs.declared.faults.Cause.{Cause}
 use Rattle.bridge_script.specs.declared.faults.Cause.TheVariants as cause
@@ -20,7 +23,7 @@ use Rattle.bridge_script.specs.Words.{line_text, line_words}
 use Rattle.bridge_script.specs.Faults.{AskCycle, WordsHave, Has}
 use Rattle.bridge_script.specs.Scripts.{line_at, IsBuilt, IsScript, IsText, IsFault, IsNoText, script_text_of, cycles_of, is_cycle, end_of}
 use Rattle.bridge_script.specs.Steps.{EndsLine, behind}
-use Rattle.bridge_script.proofs.Built.{built_case, first_byte, same_line, line_free, line_some, words_of_built}
+use Rattle.bridge_script.proofs.Built.{same_words, same_line, line_free, line_some, words_of_built}
 use Rattle.bridge_script.proofs.Fitting.{none_of_built}
 
 -- what stands before the first c, and what stands behind it
@@ -89,9 +92,10 @@ weight b = cond b 1 0
 
 -- a line that is built and asks for a cycle is one that is counted
 counted : (line : Thread × Act) → IsBuilt line → AskCycle (line_words line) → is_cycle line ≡ true
-counted = built_case (λ line. AskCycle (line_words line) → is_cycle line ≡ true)
-    (λ n a l m h e q. absurd (elim q [ inl x ↦ omega (arith, ap first_byte x) | inr x ↦ omega (arith, ap first_byte x) ]))
-    (λ q. refl)
+counted line b q = elim q [
+  | inl x ↦ ap is_cycle (same_words line (C, act.PhaseLine phase.Cycle) b.lawful tt x)
+  | inr x ↦ ap is_cycle (same_words line (C, act.PhaseLine phase.Snap) b.lawful tt x)
+]
 
 -- a line that a script goes on with has no cause where it stands
 pub none_in_script : (before : List (Thread × Act)) (next : Thread × Act) (end : ℕ) → IsScript (before ++ next ∷ []) → end ≤ 8388608 → (c : Cause) → Has (behind before (line_text next) end) c → ⊥

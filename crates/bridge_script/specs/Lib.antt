@@ -3,6 +3,7 @@ pub mod Words
 pub mod Grammar
 pub mod Faults
 pub mod Scripts
+pub mod Operands
 pub mod Steps
 pub mod Causes
 pub mod Reading

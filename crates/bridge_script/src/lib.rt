@@ -22,7 +22,6 @@
 // line of a script has no cause, and that bytes have one first faulty line with one first cause.
 #![tactic(auto)]
 
-mod checks;
 mod drafts;
 mod entries;
 mod faults;
@@ -31,6 +30,7 @@ mod laws;
 mod lines;
 mod lists;
 mod memory;
+mod operands;
 mod outside;
 mod printing;
 mod reading;

@@ -1,17 +1,20 @@
 // What a line of a script asks for, by its words, or what is wrong with them.
 
-ghost use Rattle.std.specs.Prelude.{◌≡◌, ◌∷◌, ℕ, true, codes, MatchBool};
-ghost use Rattle.joint_model.specs.Lines.{IsBridgeObject};
+ghost use Rattle.std.specs.Prelude.{◌≡◌, ◌≢◌, ◌∷◌, ◌≤◌, ℕ, true, min, length, List, Option, Some, MatchBool, MatchOption};
+ghost use Rattle.joint_model.specs.Lines.{IsPlainObject, IsBridgeObject};
+ghost use Rattle.joint_model.specs.declared.lines.Act.{Act};
 ghost use Rattle.bridge_script.specs.declared.grammar.Operation.{Operation};
-ghost use Rattle.bridge_script.specs.Grammar.{is_built_driver};
-ghost use Rattle.bridge_script.specs.Words.{phase_word_text};
-ghost use Rattle.bridge_script.specs.Steps.{ReadsLine, ReadsManaged, ReadsDriver, TakesPlaces};
+ghost use Rattle.bridge_script.specs.declared.grammar.Place.{Place};
+ghost use Rattle.bridge_script.specs.Grammar.{operation_text, form_of, is_built};
+ghost use Rattle.bridge_script.specs.Operands.{IsPossible, act_at};
+ghost use Rattle.bridge_script.specs.Steps.{ReadsLine};
 
-use crate::checks::check;
 use crate::faults::Cause;
-use crate::grammar::{FIELDS, INDEX, Operation, Place};
-use crate::words::{Words, is_same};
-use joint_model::{Act, Kind, PhaseWord, Sort, Thread};
+use crate::grammar::{Operation, Row, form_of, is_built};
+use crate::operands::{Operand, read_operands};
+use crate::words::Words;
+use joint_model::{Act, Kind, Sort, Thread};
+use std::str;
 
 /// The line that has this text, which is without its newline. Where there is no such line, the first of the causes
 /// that its words have: `Unknown`, `Arity`, `Name`, `Number`, `Limit` or `Kind`.
@@ -22,79 +25,159 @@ pub fn read_line(text: &[u8]) -> Result<(Thread, Act), Cause>
     let Some(thread) = words.take_thread() else {
         return Err(Cause::Unknown);
     };
-    match thread {
-        Thread::M(_) => Ok((thread, read_managed(&mut words)?)),
-        Thread::P(_) => Err(Cause::Unknown),
-        Thread::C => Ok((thread, read_driver(&mut words)?)),
-    }
-}
-
-/// The act of a managed thread's line, by the words after the thread.
-fn read_managed(words: &mut Words) -> Result<Act, Cause>
-    ensures { ReadsManaged words.old result }
-{
-    let Some(operation) = words.next() else {
+    let Some((operation, places)) = take_operation(thread, &mut words) else {
         return Err(Cause::Unknown);
     };
-    if is_same(operation, b"bridge") {
-        return read_bridge(words);
-    }
-    if is_same(operation, b"set") {
-        return read_set(words);
-    }
-    if is_same(operation, b"drop") {
-        return read_drop(words);
-    }
-    Err(Cause::Unknown)
-}
-
-/// The act of the driver's line, by the words after the thread.
-fn read_driver(words: &mut Words) -> Result<Act, Cause>
-    ensures { ReadsDriver words.old result }
-{
-    let Some(operation) = words.next() else {
-        return Err(Cause::Unknown);
+    let operands = match read_operands(places, &mut words) {
+        Ok(operands) => operands,
+        Err(cause) => return Err(cause),
     };
-    if is_same(operation, b"cycle") {
-        return read_phase(PhaseWord::Cycle, words);
-    }
-    Err(Cause::Unknown)
-}
-
-/// The act of a line `bridge V bridge|leafbridge N user|framework F`, by the words after the operation.
-fn read_bridge(words: &mut Words) -> Result<Act, Cause>
-    ensures { ReadsManaged (codes "bridge" ∷ words.old) result }
-{
-    let places = [Place::Var, Place::BridgeKind, FIELDS, Place::Sort, FIELDS];
-    check(Operation::Bridge, &places, words)?;
-    match take_bridge(words) {
-        Some(act) => Ok(act),
-        None => unreachable!(),
+    match possible_act(operation, operands.as_slice()) {
+        Some(act) => Ok((thread, act)),
+        None => Err(Cause::Kind),
     }
 }
 
-/// Takes the places of a `bridge` line; None where a word may not stand at its place, or an object can't be so.
-fn take_bridge(words: &mut Words) -> Option<Act>
-    ensures { TakesPlaces Operation.Bridge words.old result }
+/// Takes the word of an operation of a thread that is built, and answers its row of the table. None where the next
+/// word asks for none.
+fn take_operation(thread: Thread, words: &mut Words) -> Option<Row>
+    ensures { MatchOption result ((o : Operation) (places : List Place) (rest : List (List ℕ)) → form_of thread o ≡ Some places → is_built thread o ≡ true → words.old ≢ operation_text o ∷ rest) (λ row. (form_of thread row.0 ≡ Some row.1.now) × (is_built thread row.0 ≡ true) × (words.old ≡ operation_text row.0 ∷ words.new) × (length row.1.now ≤ 5)) }
 {
-    let v = words.take_var()?;
-    let kind = words.take_kind()?;
-    let fields = words.take_number(16)?;
-    let sort = words.take_sort()?;
-    let peer_fields = words.take_number(16)?;
-    if !words.is_empty() {
+    let Ok(word) = str::from_utf8(words.next()?) else {
         return None;
+    };
+    let row = form_of(thread, word)?;
+    if is_built(thread, row.0) {
+        Some(row)
+    } else {
+        None
     }
-    if !is_bridge_object(kind, fields, sort) {
-        return None;
+}
+
+/// The act of an operation with these operands at its places. None where they can't stand there, or not beside each
+/// other.
+fn possible_act(operation: Operation, operands: &[Operand]) -> Option<Act>
+    ensures { MatchOption result ((a : Act) → act_at operation operands.now ≡ Some a → IsPossible a → ⊥) (λ a. (act_at operation operands.now ≡ Some a) × IsPossible a) }
+{
+    let act = act_of(operation, operands)?;
+    if is_possible(&act) { Some(act) } else { None }
+}
+
+/// The act of an operation with these operands at its places; None where they can't stand there. Numbers past those of a
+/// byte, which don't stand at such a place, are taken for the greatest.
+fn act_of(operation: Operation, operands: &[Operand]) -> Option<Act>
+    ensures { result ≡ act_at operation operands.now }
+{
+    match (operation, operands) {
+        (Operation::New, &[Operand::Var(v), Operand::Kind(kind), Operand::Number(n)]) => Some(
+            Act::New {
+                v,
+                kind,
+                fields: byte(n),
+            },
+        ),
+        (
+            Operation::Bridge,
+            &[
+                Operand::Var(v),
+                Operand::Kind(kind),
+                Operand::Number(n),
+                Operand::Sort(sort),
+                Operand::Number(f),
+            ],
+        ) => Some(Act::Bridge {
+            v,
+            kind,
+            fields: byte(n),
+            sort,
+            peer_fields: byte(f),
+        }),
+        (Operation::Copy, &[Operand::Var(v), Operand::Var(w)]) => Some(Act::Copy { v, w }),
+        (Operation::Set, &[Operand::Var(v), Operand::Number(i), Operand::VarOrNone(w)]) => Some(
+            Act::Set { v, i: byte(i), w },
+        ),
+        (Operation::Get, &[Operand::Var(v), Operand::Var(w), Operand::Number(i)]) => Some(Act::Get {
+            v,
+            w,
+            i: byte(i),
+        }),
+        (Operation::Drop, &[Operand::Var(v)]) => Some(Act::Drop { v }),
+        (
+            Operation::Load,
+            &[
+                Operand::Var(v),
+                Operand::ManagedStatic(x) | Operand::PeerStatic(x),
+            ],
+        ) => Some(Act::Load { v, x }),
+        (
+            Operation::Store,
+            &[
+                Operand::ManagedStatic(x) | Operand::PeerStatic(x),
+                Operand::VarOrNone(v),
+            ],
+        ) => Some(Act::Store { x, v }),
+        (Operation::Weak, &[Operand::Cell(k), Operand::Var(v)]) => Some(Act::Weak { k, v }),
+        (Operation::Read, &[Operand::Cell(k)]) => Some(Act::Read { k }),
+        (Operation::Await, &[Operand::Cell(k)]) => Some(Act::Await { k }),
+        (Operation::Take, &[Operand::Var(v)]) => Some(Act::Take { v }),
+        (Operation::Pass, &[Operand::Var(v), Operand::PeerStatic(x)]) => Some(Act::Pass { v, x }),
+        (Operation::Surface, &[Operand::Var(v), Operand::PeerStatic(x)]) => Some(Act::Surface {
+            v,
+            x,
+        }),
+        (Operation::Dispose, &[Operand::Var(v)]) => Some(Act::Dispose { v }),
+        (Operation::Handle, &[Operand::Var(v)]) => Some(Act::Handle { v }),
+        (Operation::NewPeer, &[Operand::Var(v), Operand::Number(n)]) => Some(Act::NewPeer {
+            v,
+            fields: byte(n),
+        }),
+        (Operation::Global, &[Operand::Global(g), Operand::Var(v)]) => Some(Act::Global { g, v }),
+        (Operation::WGlobal, &[Operand::Global(g), Operand::Var(v)]) => Some(Act::WGlobal { g, v }),
+        (Operation::UnGlobal, &[Operand::Global(g)]) => Some(Act::UnGlobal { g }),
+        (Operation::WRead, &[Operand::Var(v), Operand::Global(g)]) => Some(Act::WRead { v, g }),
+        (Operation::Collect, &[]) => Some(Act::Collect),
+        (Operation::BeginMark, &[]) => Some(Act::BeginMark),
+        (Operation::Slice, &[Operand::Number(n)]) => Some(Act::Slice { n }),
+        (Operation::SweepMark, &[]) => Some(Act::SweepMark),
+        (Operation::Phase(word), &[]) => Some(Act::PhaseLine { word }),
+        (Operation::Finalise, &[Operand::Number(n)]) => Some(Act::Finalise { n }),
+        _ => None,
     }
-    Some(Act::Bridge {
-        v,
-        kind,
-        fields,
-        sort,
-        peer_fields,
-    })
+}
+
+/// The number as a byte: 255 where it is greater.
+fn byte(n: u32) -> u8
+    ensures { result ≡ min n 255 }
+{
+    n.min(255) as u8
+}
+
+/// Whether the act's kind allows what stands beside it: a leaf or a leaf bridge no fields, a bridge no framework's
+/// peer.
+fn is_possible(act: &Act) -> bool
+    ensures { MatchBool result (IsPossible act.now) (IsPossible act.now → ⊥) }
+{
+    match *act {
+        Act::New { kind, fields, .. } => is_plain_object(kind, fields),
+        Act::Bridge {
+            kind,
+            fields,
+            sort,
+            ..
+        } => is_bridge_object(kind, fields, sort),
+        _ => true,
+    }
+}
+
+/// Whether there may be an object without a peer of this kind, with so many fields.
+fn is_plain_object(kind: Kind, fields: u8) -> bool
+    ensures { MatchBool result (IsPlainObject kind fields) (IsPlainObject kind fields → ⊥) }
+{
+    match kind {
+        Kind::Plain => fields <= 16,
+        Kind::Leaf => fields == 0,
+        Kind::Bridge | Kind::LeafBridge => false,
+    }
 }
 
 /// Whether there may be a bridge object of this kind, with so many fields and a peer of this sort.
@@ -106,65 +189,4 @@ fn is_bridge_object(kind: Kind, fields: u8, sort: Sort) -> bool
         Kind::Bridge => fields <= 16 && matches!(sort, Sort::User),
         Kind::LeafBridge => fields == 0,
     }
-}
-
-/// The act of a line `set V I W|-`, by the words after the operation.
-fn read_set(words: &mut Words) -> Result<Act, Cause>
-    ensures { ReadsManaged (codes "set" ∷ words.old) result }
-{
-    check(
-        Operation::Set,
-        &[Place::Var, INDEX, Place::VarOrNone],
-        words,
-    )?;
-    match take_set(words) {
-        Some(act) => Ok(act),
-        None => unreachable!(),
-    }
-}
-
-/// Takes the places of a `set` line; None where a word may not stand at its place.
-fn take_set(words: &mut Words) -> Option<Act>
-    ensures { TakesPlaces Operation.Set words.old result }
-{
-    let v = words.take_var()?;
-    let i = words.take_number(255)?;
-    let w = words.take_optional()?;
-    if words.is_empty() {
-        Some(Act::Set { v, i, w })
-    } else {
-        None
-    }
-}
-
-/// The act of a line `drop V`, by the words after the operation.
-fn read_drop(words: &mut Words) -> Result<Act, Cause>
-    ensures { ReadsManaged (codes "drop" ∷ words.old) result }
-{
-    check(Operation::Drop, &[Place::Var], words)?;
-    match take_drop(words) {
-        Some(act) => Ok(act),
-        None => unreachable!(),
-    }
-}
-
-/// Takes the places of a `drop` line; None where a word may not stand at its place.
-fn take_drop(words: &mut Words) -> Option<Act>
-    ensures { TakesPlaces Operation.Drop words.old result }
-{
-    let v = words.take_var()?;
-    if words.is_empty() {
-        Some(Act::Drop { v })
-    } else {
-        None
-    }
-}
-
-/// The act of a line that asks the driver for a phase, by the words after that word.
-fn read_phase(word: PhaseWord, words: &mut Words) -> Result<Act, Cause>
-    requires { is_built_driver (Operation.Phase word) ≡ true }
-    ensures { ReadsDriver (phase_word_text word ∷ words.old) result }
-{
-    check(Operation::Phase(word), &[], words)?;
-    Ok(Act::PhaseLine { word })
 }

@@ -1,9 +1,9 @@
 // Scripts, sources, sinks and reports by worked examples and at their limits.
 
-use crate::checks::{cause_at, check};
 use crate::drafts::Line;
 use crate::entries::{add_head, add_tail};
-use crate::grammar::{FIELDS, Operation, Place};
+use crate::grammar::{COUNT, FIELDS, Place};
+use crate::operands::{operand_at, read_operands};
 use crate::reports::write_entry;
 use crate::words::Words;
 use crate::{
@@ -322,9 +322,9 @@ fn lines_with_a_kind_that_may_not_stand_there(rt: HostRuntime) {
 /// Each word has the cause of that number at the place, and none where the number is 0.
 fn expect_at(rt: &impl Abort, place: Place, words: &[(&[u8], u8)]) {
     for (word, cause) in words {
-        let found = match cause_at(place, word) {
-            Some(cause) => cause.number(),
-            None => 0,
+        let found = match operand_at(place, word) {
+            Err(cause) => cause.number(),
+            Ok(_) => 0,
         };
         assert_eq!(rt; found, *cause);
     }
@@ -379,13 +379,9 @@ fn words_at_the_places_of_operations_to_come(rt: HostRuntime) {
             (b"k-1", 3),
         ],
     );
-    let count = Place::Number {
-        least: 1,
-        most: 65_535,
-    };
     expect_at(
         rt,
-        count,
+        COUNT,
         &[
             (b"0", 5),
             (b"1", 0),
@@ -416,11 +412,10 @@ fn words_behind_an_operation_to_come(rt: HostRuntime) {
         (b"i plain 007".as_slice(), 3),
         (b"a plain 007".as_slice(), 4),
         (b"a leaf 17".as_slice(), 5),
-        (b"a leaf 1".as_slice(), 6),
         (b"a bridge 0".as_slice(), 6),
     ] {
-        let found = match check(Operation::New, &places, &Words::of(words)) {
-            Ok(()) => 0,
+        let found = match read_operands(&places, &mut Words::of(words)) {
+            Ok(_) => 0,
             Err(cause) => cause.number(),
         };
         assert_eq!(rt; found, cause);

@@ -1,19 +1,17 @@
 // The words of one line, and what stands at their places.
 
-ghost use Rattle.std.specs.Prelude.{◌≡◌, ◌≢◌, ℕ, ◌+◌, ◌<◌, ◌≤◌, ◌^◌, ◌==◌, ◌↔◌, List, [], ◌∷◌, length, slice_index, Option, MatchOption, MatchBool, IsTrue, decimal};
+ghost use Rattle.std.specs.Prelude.{◌≡◌, ◌≢◌, ℕ, ◌<◌, ◌≤◌, ◌^◌, ◌==◌, List, [], ◌∷◌, length, slice_index, Option, MatchOption, MatchBool, decimal};
 ghost use Rattle.std.specs.List.{slice_split};
 ghost use Rattle.joint_model.specs.Lines.{IsThread, IsVar, IsVarOrNone};
-ghost use Rattle.bridge_script.specs.Words.{thread_text, var_text, optional_text, managed_static as managed_static_text, peer_static as peer_static_text, global_text, cell_text, kind_text, sort_text};
+ghost use Rattle.bridge_script.specs.Words.{thread_text, var_text, optional_text, managed_static as managed_static_text, peer_static as peer_static_text, global_text, cell_text};
 ghost use Rattle.joint_model.specs.declared.names.Thread.{Thread};
 ghost use Rattle.joint_model.specs.declared.names.Var.{Var};
 ghost use Rattle.joint_model.specs.declared.names.StaticNo.{StaticNo};
 ghost use Rattle.joint_model.specs.declared.names.GName.{GName};
 ghost use Rattle.joint_model.specs.declared.names.Cell.{Cell};
-ghost use Rattle.joint_model.specs.declared.names.Kind.{Kind};
-ghost use Rattle.joint_model.specs.declared.names.Sort.{Sort};
 
 use itoa::Buffer;
-use joint_model::{Cell, GName, Kind, Sort, StaticNo, Thread, Var};
+use joint_model::{Cell, GName, StaticNo, Thread, Var};
 use std::marker::Model;
 
 /// The words of a line that are left: it is cut at each single space, so two spaces in a row give an empty
@@ -42,31 +40,6 @@ impl<'a> Words<'a> {
             left: line,
             done: false,
         }
-    }
-
-    /// The same words again.
-    pub fn again(&self) -> Words<'a>
-        ensures { result ≡ self.now }
-    {
-        Words {
-            left: self.left,
-            done: self.done,
-        }
-    }
-
-    /// Whether so many words are left.
-    pub fn has_len(&self, n: usize) -> bool
-        ensures { MatchBool result (length self.now ≡ n) (length self.now ≢ n) }
-    {
-        let mut left = self.again();
-        let mut missing = n;
-        while missing > 0 {
-            if left.next().is_none() {
-                return false;
-            }
-            missing -= 1;
-        }
-        left.is_empty()
     }
 
     /// Takes the next word; None where none is left.
@@ -211,91 +184,12 @@ pub fn number(word: &[u8]) -> Option<u64>
     }
 }
 
-/// A number of at most `most` that a word writes, in decimal digits without a needless zero.
-fn small_number(word: &[u8], most: u8) -> Option<u8>
-    ensures { MatchOption result ((n : ℕ) → n ≤ most → decimal n ≢ word.now) (λ n. (n ≤ most) × (decimal n ≡ word.now)) }
-{
-    let n = number(word)?;
-    if n <= most as u64 {
-        Some(n as u8)
-    } else {
-        None
-    }
-}
-
-/// The kind that a word names.
-fn kind(word: &[u8]) -> Option<Kind>
-    ensures { MatchOption result ((k : Kind) → kind_text k ≢ word.now) (λ k. kind_text k ≡ word.now) }
-{
-    if is_same(word, b"plain") {
-        return Some(Kind::Plain);
-    }
-    if is_same(word, b"leaf") {
-        return Some(Kind::Leaf);
-    }
-    if is_same(word, b"bridge") {
-        return Some(Kind::Bridge);
-    }
-    if is_same(word, b"leafbridge") {
-        return Some(Kind::LeafBridge);
-    }
-    None
-}
-
-/// The sort that a word names.
-fn sort(word: &[u8]) -> Option<Sort>
-    ensures { MatchOption result ((s : Sort) → sort_text s ≢ word.now) (λ s. sort_text s ≡ word.now) }
-{
-    if is_same(word, b"user") {
-        return Some(Sort::User);
-    }
-    if is_same(word, b"framework") {
-        return Some(Sort::Framework);
-    }
-    None
-}
-
 impl<'a> Words<'a> {
     /// Takes a thread; None where the next word is none.
     pub fn take_thread(&mut self) -> Option<Thread>
         ensures { MatchOption result ((t : Thread) (rest : List (List ℕ)) → IsThread t → self.old ≢ thread_text t ∷ rest) (λ t. IsThread t × (self.old ≡ thread_text t ∷ self.new)) }
     {
         thread(self.next()?)
-    }
-
-    /// Takes a variable; None where the next word is none.
-    pub fn take_var(&mut self) -> Option<Var>
-        ensures { MatchOption result ((v : Var) (rest : List (List ℕ)) → IsVar v → self.old ≢ var_text v ∷ rest) (λ v. IsVar v × (self.old ≡ var_text v ∷ self.new)) }
-    {
-        var(self.next()?)
-    }
-
-    /// Takes a variable or `-`; None where the next word is neither.
-    pub fn take_optional(&mut self) -> Option<Option<Var>>
-        ensures { MatchOption result ((v : Option Var) (rest : List (List ℕ)) → IsVarOrNone v → self.old ≢ optional_text v ∷ rest) (λ v. IsVarOrNone v × (self.old ≡ optional_text v ∷ self.new)) }
-    {
-        optional(self.next()?)
-    }
-
-    /// Takes a number of at most `most`; None where the next word is none.
-    pub fn take_number(&mut self, most: u8) -> Option<u8>
-        ensures { MatchOption result ((n : ℕ) (rest : List (List ℕ)) → n ≤ most → self.old ≢ decimal n ∷ rest) (λ n. (n ≤ most) × (self.old ≡ decimal n ∷ self.new)) }
-    {
-        small_number(self.next()?, most)
-    }
-
-    /// Takes a kind; None where the next word is none.
-    pub fn take_kind(&mut self) -> Option<Kind>
-        ensures { MatchOption result ((k : Kind) (rest : List (List ℕ)) → self.old ≢ kind_text k ∷ rest) (λ k. self.old ≡ kind_text k ∷ self.new) }
-    {
-        kind(self.next()?)
-    }
-
-    /// Takes a sort; None where the next word is none.
-    pub fn take_sort(&mut self) -> Option<Sort>
-        ensures { MatchOption result ((s : Sort) (rest : List (List ℕ)) → self.old ≢ sort_text s ∷ rest) (λ s. self.old ≡ sort_text s ∷ self.new) }
-    {
-        sort(self.next()?)
     }
 
     /// Whether no word is left.

@@ -1,30 +1,39 @@
-use Rattle.std.proofs.Common.{◌≡◌, ◌∷◌, List, ℕ, sym, ◌∙◌, subst}
-use Rattle.joint_model.specs.declared.names.Thread.{Thread}
-use Rattle.joint_model.specs.declared.names.Thread.TheVariants.{M, C}
-use Rattle.bridge_script.specs.Words.{thread_text, line_text}
-use Rattle.bridge_script.specs.Scripts.{IsBuilt}
-use Rattle.bridge_script.specs.Faults.{words_of, WordsHave, IsFirst}
-use Rattle.bridge_script.proofs.Passing.{passed_on}
-use Rattle.bridge_script.proofs.Fitting.{line_read}
+use Rattle.std.proofs.Common.{◌∷◌, sym, ◌∙◌, ap}
+use Rattle.bridge_script.specs.Words.{thread_text}
+use Rattle.bridge_script.specs.Faults.{words_of, Reads}
+use Rattle.bridge_script.proofs.Readings.{unknown_here, first_behind}
+use Rattle.bridge_script.proofs.Fitting.{places_first, kind_first, line_asked}
 use Rattle.bridge_script.proofs.lines.read_line.Goals as goal
+use Rattle.bridge_script.proofs.lines.read_line.Goals.{After-read_operands}
 
-pub returns-in_ok-read_managed-in-M : goal.returns-in_ok-read_managed-in-M
-returns-in_ok-read_managed-in-M c =
-    let s = rw (c.in-M.is) at c.in-Some.ensures in
-    let r = c.in_ok-read_managed-in-M.ensures c.in-M.field-0 s.0 in
-    let Q : Thread → Type 0 = λ t. IsBuilt (t, c.in_ok-read_managed-in-M.field-0) × (line_text (t, c.in_ok-read_managed-in-M.field-0) ≡ c.args.text.now) in
-    subst Q (sym c.in-M.is) (line_read c.args.text.now (M c.in-M.field-0) c.take_thread.new.self c.in_ok-read_managed-in-M.field-0 (sym c.of-words.ensures ∙ s.1) r.0 r.1)
+pub returns-in_default-take_operation : goal.returns-in_default-take_operation
+returns-in_default-take_operation c = unknown_here (words_of c.args.text.now) c.in-Some.thread c.take_thread.new.self (sym c.of-words.ensures ∙ c.in-Some.ensures.1) c.in-Some.ensures.0 c.in_default-take_operation.ensures
 
-pub returns-in_err-read_managed-in-M : goal.returns-in_err-read_managed-in-M
-returns-in_err-read_managed-in-M c =
-    let s = rw (c.in-M.is) at c.in-Some.ensures in
-    let e : words_of c.args.text.now ≡ thread_text (M c.in-M.field-0) ∷ c.take_thread.new.self = sym c.of-words.ensures ∙ s.1 in
-    let F : List (List ℕ) → Type 0 = λ w. IsFirst (WordsHave w) c.in_err-read_managed-in-M.field-0.0 in
-    rw (passed_on c.from_residual.result c.in_err-read_managed-in-M.field-0.0 c.from_residual.ensures.0 c.from_residual.ensures.1) (subst F (sym e) (c.in_err-read_managed-in-M.ensures c.in-M.field-0 s.0))
+-- how the words of the text begin
+begins : (c : After-read_operands) → Reads (words_of c.args.text.now) c.in-Some.thread c.in-Some-take_operation.operation c.in-Some-take_operation.places.now c.take_operation.new.words
+begins c =
+    let row = c.in-Some-take_operation.ensures in
+    record { thread = c.in-Some.ensures.0; form = row.0; built = row.1; begins = sym c.of-words.ensures ∙ (c.in-Some.ensures.1 ∙ ap (λ ws. thread_text c.in-Some.thread ∷ ws) row.2) }
 
-pub returns-in_ok-read_driver-in-C : goal.returns-in_ok-read_driver-in-C
-returns-in_ok-read_driver-in-C c =
-    let s = rw (c.in-C.is) at c.in-Some.ensures in
-    let r = c.in_ok-read_driver-in-C.ensures in
-    let Q : Thread → Type 0 = λ t. IsBuilt (t, c.in_ok-read_driver-in-C.field-0) × (line_text (t, c.in_ok-read_driver-in-C.field-0) ≡ c.args.text.now) in
-    subst Q (sym c.in-C.is) (line_read c.args.text.now C c.take_thread.new.self c.in_ok-read_driver-in-C.field-0 (sym c.of-words.ensures ∙ s.1) r.0 r.1)
+pub returns-in-Err : goal.returns-in-Err
+returns-in-Err c =
+    let o = c.in-Some-take_operation.operation in
+    let places = c.in-Some-take_operation.places.now in
+    let rest = c.take_operation.new.words in
+    first_behind (words_of c.args.text.now) c.in-Some.thread o places rest (begins (goal.at.returns-in-Err c).After-read_operands) c.in-Err.cause (places_first o places rest c.in-Err.cause c.in-Err.ensures)
+
+pub returns-in-None : goal.returns-in-None
+returns-in-None c =
+    let o = c.in-Some-take_operation.operation in
+    let places = c.in-Some-take_operation.places.now in
+    let rest = c.take_operation.new.words in
+    let found = c.in-Ok.ensures in
+    let none = rw c.as_slice.ensures at c.in-None.ensures in
+    first_behind (words_of c.args.text.now) c.in-Some.thread o places rest (begins (goal.at.returns-in-None c).After-read_operands) _ (kind_first c.in-Some.thread o places c.in-Ok.operands rest c.in-Some-take_operation.ensures.0 found.0 found.1 none)
+
+pub returns-in-Some-possible_act : goal.returns-in-Some-possible_act
+returns-in-Some-possible_act c =
+    let o = c.in-Some-take_operation.operation in
+    let found = c.in-Ok.ensures in
+    let made = rw c.as_slice.ensures at c.in-Some-possible_act.ensures in
+    line_asked c.args.text.now c.in-Some.thread o c.in-Some-take_operation.places.now c.take_operation.new.words c.in-Ok.operands c.in-Some-possible_act.act (begins (goal.at.returns-in-Some-possible_act c).After-read_operands) found.0 found.1 made.0 made.1
