@@ -1,13 +1,14 @@
--- A sink to which one text and then another was written holds both, in that order. Where the second failed, a
--- beginning of both together was written, since the first is whole; and what was the beginning of a text is
--- the beginning of each longer text. So a report is written entry by entry, and an entry piece by piece.
-use Rattle.std.proofs.Common.{◌≡◌, ℕ, ◌+◌, ◌<◌, ◌≤◌, List, [], ◌∷◌, ◌++◌, length, take, drop, get_or, Option, Some, None, Result, Ok, Err, slice_get, decimal, sym, ◌∙◌, ap, refl, arith, inl, inr, append_assoc, append-nil, length-drop, length-take}
+-- A sink to which one text and then another was written holds both, in that order, but for what is pending. Where the
+-- second failed, a beginning of both together was written, since the first is whole; and what was the beginning of a
+-- text is the beginning of each longer text. So a report is written entry by entry, and an entry piece by piece.
+use Rattle.std.proofs.Common.{◌≡◌, ℕ, ◌+◌, ◌<◌, ◌≤◌, List, [], ◌∷◌, ◌++◌, length, take, drop, get_or, Option, Some, None, Result, Ok, Err, slice_get, decimal, sym, ◌∙◌, ap, refl, arith, subst, OnOk, inl, inr, append_assoc, append-nil, length-drop, length-take}
 use Rattle.std.specs.Io.KnownBytes.{Appends, Keeps}
 use Rattle.std.proofs.lemmas.List.{map-append, get_or-drop, take-take, take_more, take_all, take-append-drop, nil_from_length}
 use Rattle.std.proofs.lemmas.Option.{slice_get_cases}
 use Rattle.joint_model.specs.declared.events.Entry.{Entry}
 use Rattle.joint_model.specs.Histories.{Finished}
 use Rattle.bridge_script.specs.Outside.{Writes}
+use Rattle.bridge_script.specs.Blocks.{Passes, Sends}
 use Rattle.bridge_script.specs.Lists.{after_spaces, lettered, listed}
 use Rattle.bridge_script.specs.Report.{entry_text, entries_text}
 
@@ -40,13 +41,68 @@ Writes-short a b f g e x y w = record {
   cause = w.cause;
 }
 
+pub Appends-none : (a : Option (List ℕ)) → Appends a a []
+Appends-none None = tt
+Appends-none (Some s) = sym (append-nil s)
+
+-- nothing was written
+pub Passes-none : (a : Option (List ℕ)) (p : List ℕ) → Passes a a p p []
+Passes-none a p = record { sent = []; appends = Appends-none a; whole = append-nil p }
+
+-- what was put behind what is pending
+pub Passes-push : (a b : Option (List ℕ)) (p q r x : List ℕ) → Passes a b p q [] → r ≡ q ++ x → Passes a b p r x
+Passes-push a b p q r x w e = record { sent = w.sent; appends = w.appends; whole = rw e (ap (λ t. t ++ x) (sym (append-nil p) ∙ w.whole) ∙ append_assoc w.sent q x) }
+
+-- one text after another
+pub Passes-then : (a b c : Option (List ℕ)) (p q r x y : List ℕ) → Passes a b p q x → Passes b c q r y → Passes a c p r (x ++ y)
+Passes-then a b c p q r x y v w = record {
+  sent = v.sent ++ w.sent;
+  appends = Appends-then a b c v.sent w.sent v.appends w.appends;
+  whole = sym (append_assoc p x y) ∙ (ap (λ t. t ++ y) v.whole ∙ (append_assoc v.sent q y ∙ (ap (λ t. v.sent ++ t) w.whole ∙ sym (append_assoc v.sent w.sent r))));
+}
+
+-- what was written after a text that was written
+pub Sends-after : {E : Type 0} (a b c : Option (List ℕ)) (p q r : List ℕ) (f g k : ℕ) (z : Result (Unit {0}) E) (x y : List ℕ) → Passes a b p q x → f ≤ g → Sends b c q r g k z y → Sends a c p r f k z (x ++ y)
+Sends-after a b c p q r f g k (Ok u) x y v l w = record { whole = Passes-then a b c p q r x y v w.whole; part = tt; cause = record { later = omega (arith, w.cause.later); failed = tt } }
+Sends-after a b c p q r f g k (Err e) x y v l w = record {
+  whole = tt;
+  part = record {
+    part = v.sent ++ w.part.part;
+    rest = w.part.rest;
+    whole = sym (append_assoc p x y) ∙ (ap (λ t. t ++ y) v.whole ∙ (append_assoc v.sent q y ∙ (ap (λ t. v.sent ++ t) w.part.whole ∙ sym (append_assoc v.sent w.part.part w.part.rest))));
+    appends = Appends-then a b c v.sent w.part.part v.appends w.part.appends;
+  };
+  cause = record { later = omega (arith, w.cause.later); failed = omega (arith, w.cause.failed) };
+}
+
+-- what failed in a text failed in each longer text
+pub Sends-short : {E : Type 0} (a b : Option (List ℕ)) (p q : List ℕ) (f g : ℕ) (e : E) (x y : List ℕ) → Sends {E = E} a b p q f g (Err e) x → Sends {E = E} a b p q f g (Err e) (x ++ y)
+Sends-short a b p q f g e x y w = record {
+  whole = tt;
+  part = record { part = w.part.part; rest = w.part.rest ++ y; whole = sym (append_assoc p x y) ∙ (ap (λ t. t ++ y) w.part.whole ∙ append_assoc w.part.part w.part.rest y); appends = w.part.appends };
+  cause = w.cause;
+}
+
 -- a text that begins with what was written before, and goes on with what was written now
-pub Appends-into : (a b c : Option (List ℕ)) (before piece whole : List ℕ) → whole ≡ before ++ piece → Appends a b before → Appends b c piece → Appends a c whole
-Appends-into a b c before piece whole e p q = rw e (Appends-then a b c before piece p q)
+pub Passes-into : (a b c : Option (List ℕ)) (p q r before piece whole : List ℕ) → whole ≡ before ++ piece → Passes a b p q before → Passes b c q r piece → Passes a c p r whole
+Passes-into a b c p q r before piece whole e v w = rw e (Passes-then a b c p q r before piece v w)
 
 -- a text that begins with what was written before, and goes on with a piece that failed
-pub Writes-into : {E : Type 0} (a b c : Option (List ℕ)) (f g k : ℕ) (x : E) (before piece rest whole : List ℕ) → whole ≡ (before ++ piece) ++ rest → Appends a b before → f ≤ g → Writes {E = E} b c g k (Err x) piece → Writes {E = E} a c f k (Err x) whole
-Writes-into a b c f g k x before piece rest whole e p l w = rw e (Writes-short a c f k x (before ++ piece) rest (Writes-after a b c f g k (Err x) before piece p l w))
+pub Sends-into : {E : Type 0} (a b c : Option (List ℕ)) (p q r : List ℕ) (f g k : ℕ) (z : E) (before piece rest whole : List ℕ) → whole ≡ (before ++ piece) ++ rest → Passes a b p q before → f ≤ g → Sends {E = E} b c q r g k (Err z) piece → Sends {E = E} a c p r f k (Err z) whole
+Sends-into a b c p q r f g k z before piece rest whole e v l w = rw e (Sends-short a c p r f k z (before ++ piece) rest (Sends-after a b c p q r f g k (Err z) before piece v l w))
+
+-- all that was pending was written
+pub Sends-flushed : {E : Type 0} (a b : Option (List ℕ)) (p q : List ℕ) (f g : ℕ) (z : Result (Unit {0}) E) → Writes a b f g z p → OnOk z (q ≡ []) → Sends a b p q f g z []
+Sends-flushed a b p q f g (Ok u) w e = record { whole = record { sent = p; appends = w.whole; whole = rw e refl }; part = tt; cause = w.cause }
+Sends-flushed a b p q f g (Err e) w n = record { whole = tt; part = record { part = w.part.part; rest = w.part.rest; whole = append-nil p ∙ w.part.whole; appends = w.part.appends }; cause = w.cause }
+
+-- a text of which the rest was pending, and was written
+pub Writes-flushed : {E : Type 0} (a b c : Option (List ℕ)) (q : List ℕ) (f g k : ℕ) (z : Result (Unit {0}) E) (x : List ℕ) → Passes a b [] q x → f ≤ g → Writes b c g k z q → Writes a c f k z x
+Writes-flushed {E} a b c q f g k z x v l w = let F : List ℕ → Type 0 = λ t. Writes {E = E} a c f k z t in subst F (sym v.whole) (Writes-after a b c f g k z v.sent q v.appends l w)
+
+-- where nothing was pending before
+pub Writes-open : {E : Type 0} (a b : Option (List ℕ)) (q : List ℕ) (f g : ℕ) (e : E) (x : List ℕ) → Sends {E = E} a b [] q f g (Err e) x → Writes {E = E} a b f g (Err e) x
+Writes-open a b q f g e x w = record { whole = tt; part = w.part; cause = w.cause }
 
 pub after_spaces-append : (a b : List (List ℕ)) → after_spaces (a ++ b) ≡ after_spaces a ++ after_spaces b
 after_spaces-append [] b = refl

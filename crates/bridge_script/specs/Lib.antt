@@ -1,4 +1,5 @@
 pub mod Outside
+pub mod Blocks
 pub mod Words
 pub mod Grammar
 pub mod Faults

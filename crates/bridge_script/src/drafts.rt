@@ -46,7 +46,8 @@ impl Line {
 
     /// Its text so far.
     pub fn bytes(&self) -> &[u8]
-        ensures { result.now ≡ self.now.text }
+        ensures text { result.now ≡ self.now.text }
+        ensures short { length result.now ≤ 512 }
     {
         &self.bytes[..self.len]
     }

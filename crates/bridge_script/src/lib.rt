@@ -13,7 +13,7 @@
 // 3. `Script::line` gives the lines, counted from 1, to whoever runs them: each is a thread and an `Act` of
 //    `joint_model`, and lawful there. A worker calls `Turnstile::pass` before each.
 // 4. When all have run, `write_report` writes the report of the history, the whole of it or, where the sink
-//    fails, a beginning. It takes no memory.
+//    fails, a beginning. It takes no memory: the sink gets the report in blocks from a fixed buffer.
 //
 // `specs/Scripts.antt` says which bytes are a script's text and which line is the first faulty one, by the texts
 // that `specs/Words.antt` gives lines, and not by how they are read. `specs/Grammar.antt` has the table of all
@@ -22,6 +22,7 @@
 // line of a script has no cause, and that bytes have one first faulty line with one first cause.
 #![tactic(auto)]
 
+mod blocks;
 mod drafts;
 mod entries;
 mod faults;

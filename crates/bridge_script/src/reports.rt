@@ -1,11 +1,13 @@
-// The report of a history, written to a sink piece by piece.
+// The report of a history, written to a sink in blocks.
 
-ghost use Rattle.std.specs.Prelude.{◌≡◌, ◌+◌, ◌++◌, take, drop, length};
+ghost use Rattle.std.specs.Prelude.{◌≡◌, ◌≤◌, ◌++◌, take, length};
 ghost use Rattle.joint_model.specs.Histories.{stretch};
 ghost use Rattle.bridge_script.specs.Outside.{Writes};
+ghost use Rattle.bridge_script.specs.Blocks.{Sends};
 ghost use Rattle.bridge_script.specs.Lists.{after_spaces, lettered, list_words, numbers_of, letter_of};
-ghost use Rattle.bridge_script.specs.Report.{entry_text, entries_text, report};
+ghost use Rattle.bridge_script.specs.Report.{entry_text, entries_text, end_text, report};
 
+use crate::blocks::Block;
 use crate::drafts::Line;
 use crate::entries::{add_head, add_tail, list_of};
 use crate::lists::Numbers;
@@ -29,9 +31,10 @@ fn write_numbers<K: Sink>(
     h: &History,
     numbers: Numbers,
     span: Span,
+    block: &mut Block,
     out: &mut K,
 ) -> Result<(), Failed>
-    ensures { Writes (K.held out.old) (K.held out.new) (K.faults out.old) (K.faults out.new) result (after_spaces (lettered (letter_of numbers) (stretch (take 4294967296 (numbers_of h.now numbers)) span))) }
+    ensures { Sends (K.held out.old) (K.held out.new) block.old block.new (K.faults out.old) (K.faults out.new) result (after_spaces (lettered (letter_of numbers) (stretch (take 4294967296 (numbers_of h.now numbers)) span))) }
 {
     for k in 0..span.count {
         let Some(n) = numbers.at(h, span.first as u64 + k as u64) else {
@@ -39,21 +42,27 @@ fn write_numbers<K: Sink>(
         };
         let mut line = Line::new();
         line.lettered(numbers.letter(), n as u64);
-        write_text(out, line.bytes())?;
+        block.put(line.bytes(), out)?;
     }
     Ok(())
 }
 
 /// Writes a list: the numbers that a span names, or `-` where it names none, with a space before each word.
-fn write_list<K: Sink>(h: &History, numbers: Numbers, span: Span, out: &mut K) -> Result<(), Failed>
-    ensures { Writes (K.held out.old) (K.held out.new) (K.faults out.old) (K.faults out.new) result (after_spaces (list_words h.now numbers span)) }
+fn write_list<K: Sink>(
+    h: &History,
+    numbers: Numbers,
+    span: Span,
+    block: &mut Block,
+    out: &mut K,
+) -> Result<(), Failed>
+    ensures { Sends (K.held out.old) (K.held out.new) block.old block.new (K.faults out.old) (K.faults out.new) result (after_spaces (list_words h.now numbers span)) }
 {
     if span.count == 0 {
-        return write_text(out, b" -");
+        return block.put(b" -", out);
     }
     match numbers.at(h, span.first as u64) {
-        Some(_) => write_numbers(h, numbers, span, out),
-        None => write_text(out, b" -"),
+        Some(_) => write_numbers(h, numbers, span, block, out),
+        None => block.put(b" -", out),
     }
 }
 
@@ -63,18 +72,26 @@ fn write_listed<K: Sink>(
     head: &[u8],
     list: (Numbers, Span),
     tail: &[u8],
+    block: &mut Block,
     out: &mut K,
 ) -> Result<(), Failed>
-    ensures { Writes (K.held out.old) (K.held out.new) (K.faults out.old) (K.faults out.new) result (head.now ++ (after_spaces (list_words h.now list.0 list.1) ++ tail.now)) }
+    requires head { length head.now ≤ 512 }
+    requires tail { length tail.now ≤ 512 }
+    ensures { Sends (K.held out.old) (K.held out.new) block.old block.new (K.faults out.old) (K.faults out.new) result (head.now ++ (after_spaces (list_words h.now list.0 list.1) ++ tail.now)) }
 {
-    write_text(out, head)?;
-    write_list(h, list.0, list.1, out)?;
-    write_text(out, tail)
+    block.put(head, out)?;
+    write_list(h, list.0, list.1, block, out)?;
+    block.put(tail, out)
 }
 
 /// Writes the line of an entry.
-pub fn write_entry<K: Sink>(h: &History, entry: &Entry, out: &mut K) -> Result<(), Failed>
-    ensures { Writes (K.held out.old) (K.held out.new) (K.faults out.old) (K.faults out.new) result (entry_text h.now entry.now) }
+pub fn write_entry<K: Sink>(
+    h: &History,
+    entry: &Entry,
+    block: &mut Block,
+    out: &mut K,
+) -> Result<(), Failed>
+    ensures { Sends (K.held out.old) (K.held out.new) block.old block.new (K.faults out.old) (K.faults out.new) result (entry_text h.now entry.now) }
 {
     let mut line = Line::new();
     add_head(&mut line, entry);
@@ -82,38 +99,47 @@ pub fn write_entry<K: Sink>(h: &History, entry: &Entry, out: &mut K) -> Result<(
         Some(list) => {
             let mut tail = Line::new();
             add_tail(&mut tail, entry.made.cites);
-            write_listed(h, line.bytes(), list, tail.bytes(), out)
+            write_listed(h, line.bytes(), list, tail.bytes(), block, out)
         }
         None => {
             add_tail(&mut line, entry.made.cites);
-            write_text(out, line.bytes())
+            block.put(line.bytes(), out)
         }
     }
 }
 
 /// Writes the lines of all entries, in rising number.
-fn write_entries<K: Sink>(h: &History, out: &mut K) -> Result<(), Failed>
-    ensures { Writes (K.held out.old) (K.held out.new) (K.faults out.old) (K.faults out.new) result (entries_text h.now h.now.entries) }
+fn write_entries<K: Sink>(h: &History, block: &mut Block, out: &mut K) -> Result<(), Failed>
+    ensures { Sends (K.held out.old) (K.held out.new) block.old block.new (K.faults out.old) (K.faults out.new) result (entries_text h.now h.now.entries) }
 {
     for i in 0..h.len() {
         let Some(entry) = h.entry(i) else {
             unreachable!();
         };
-        write_entry(h, &entry, out)?;
+        write_entry(h, &entry, block, out)?;
     }
     Ok(())
 }
 
+/// Writes the last line, with the number of entries.
+fn write_end<K: Sink>(count: u64, block: &mut Block, out: &mut K) -> Result<(), Failed>
+    ensures { Sends (K.held out.old) (K.held out.new) block.old block.new (K.faults out.old) (K.faults out.new) result (end_text count) }
+{
+    let mut line = Line::new();
+    line.text(b"end ");
+    line.number(count);
+    line.text(b"\n");
+    block.put(line.bytes(), out)
+}
+
 /// Writes the report of a history: one line for each entry in rising number, and `end` with the number of
-/// entries. It takes no memory. [`Failed`] only where the sink's count of faults rose, and then a beginning of
-/// the report was written.
+/// entries. The sink gets it in blocks of 64 KiB. It takes no memory. [`Failed`] only where the sink's count of faults
+/// rose, and then a beginning of the report was written.
 pub fn write_report<K: Sink>(h: &History, out: &mut K) -> Result<(), Failed>
     ensures { Writes (K.held out.old) (K.held out.new) (K.faults out.old) (K.faults out.new) result (report h.now) }
 {
-    write_entries(h, out)?;
-    let mut line = Line::new();
-    line.text(b"end ");
-    line.number(h.len());
-    line.text(b"\n");
-    write_text(out, line.bytes())
+    let mut block = Block::new();
+    write_entries(h, &mut block, out)?;
+    write_end(h.len(), &mut block, out)?;
+    block.flush(out)
 }

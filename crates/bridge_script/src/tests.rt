@@ -1,5 +1,6 @@
 // Scripts, sources, sinks and reports by worked examples and at their limits.
 
+use crate::blocks::Block;
 use crate::drafts::Line;
 use crate::entries::{add_head, add_tail};
 use crate::grammar::{COUNT, FIELDS, Place};
@@ -590,7 +591,9 @@ fn the_empty_report_is_written_up_to_the_fault(rt: HostRuntime) -> Result<(), Fa
 
 /// The text of an entry, as it is written to a sink that takes three bytes a call.
 fn written(rt: &impl Abort, h: &History, entry: Entry, sink: &mut ByteSink) {
-    assert_eq!(rt; write_entry(h, &entry, sink), Ok(()));
+    let mut block = Block::new();
+    assert_eq!(rt; write_entry(h, &entry, &mut block, sink), Ok(()));
+    assert_eq!(rt; block.flush(sink), Ok(()));
 }
 
 /// An entry.

@@ -11,4 +11,4 @@ returns-in-Some g c =
 pub returns-in-None : goal.returns-in-None
 returns-in-None g c =
     let xs = take 4294967296 (numbers_of c.args.h.now c.args.numbers) in
-    rw (listed_none (letter_of c.args.numbers) xs c.args.span.first c.args.span.count c.in-None.ensures) c.write_text-in-None.ensures
+    rw (listed_none (letter_of c.args.numbers) xs c.args.span.first c.args.span.count c.in-None.ensures) c.put-in-None.ensures

@@ -1,11 +1,32 @@
-use Rattle.std.proofs.Common.{◌≡◌, [], ◌∷◌, length, codes, decimal, ◌∙◌, append_assoc}
+use Rattle.std.proofs.Common.{[], length, arith}
 use Rattle.bridge_script.specs.Report.{entries_text, end_text}
-use Rattle.bridge_script.proofs.Written.{Writes-after}
+use Rattle.bridge_script.proofs.Passing.{passed_on}
+use Rattle.bridge_script.proofs.Written.{Passes-then, Sends-after, Sends-short, Writes-flushed, Writes-open}
 use Rattle.bridge_script.proofs.reports.write_report.Goals as goal
+
+pub returns-in_err-write_entries : goal.returns-in_err-write_entries
+returns-in_err-write_entries g c =
+    let es = c.args.h.now.entries in
+    let w = rw c.new-block.ensures at c.in_err-write_entries.ensures in
+    rw (passed_on c.from_residual.result c.in_err-write_entries.field-0.0 c.from_residual.ensures.0 c.from_residual.ensures.1)
+    (Writes-open (g.K.Sink.held c.args.out.now) (g.K.Sink.held c.write_entries.new.out) c.write_entries.new.block (g.K.Sink.faults c.args.out.now) (g.K.Sink.faults c.write_entries.new.out) c.in_err-write_entries.field-0.0 _
+    (Sends-short (g.K.Sink.held c.args.out.now) (g.K.Sink.held c.write_entries.new.out) [] c.write_entries.new.block (g.K.Sink.faults c.args.out.now) (g.K.Sink.faults c.write_entries.new.out) c.in_err-write_entries.field-0.0 (entries_text c.args.h.now es) (end_text (length es)) w))
+
+pub returns-in_err-write_end : goal.returns-in_err-write_end
+returns-in_err-write_end g c =
+    let es = c.args.h.now.entries in
+    let w = rw c.new-block.ensures at c.in_ok-write_entries.ensures in
+    let v = rw c.len.ensures at c.in_err-write_end.ensures in
+    rw (passed_on c.from_residual-in_err-write_end.result c.in_err-write_end.field-0.0 c.from_residual-in_err-write_end.ensures.0 c.from_residual-in_err-write_end.ensures.1)
+    (Writes-open (g.K.Sink.held c.args.out.now) (g.K.Sink.held c.write_end.new.out) c.write_end.new.block (g.K.Sink.faults c.args.out.now) (g.K.Sink.faults c.write_end.new.out) c.in_err-write_end.field-0.0 _
+    (Sends-after (g.K.Sink.held c.args.out.now) (g.K.Sink.held c.write_entries.new.out) (g.K.Sink.held c.write_end.new.out) [] c.write_entries.new.block c.write_end.new.block (g.K.Sink.faults c.args.out.now) (g.K.Sink.faults c.write_entries.new.out) (g.K.Sink.faults c.write_end.new.out) _
+    (entries_text c.args.h.now es) (end_text (length es)) w.whole w.cause.later v))
 
 pub returns : goal.returns
 returns g c =
     let es = c.args.h.now.entries in
-    let piece : c.bytes.result.now ≡ end_text (length es) = c.bytes.ensures ∙ (rw (c.text-2.ensures.added, c.number.ensures.added, c.text.ensures.added, c.new-line.ensures.text, c.len.ensures) (append_assoc (codes "end ") (decimal (length es)) (10 ∷ []))) in
-    Writes-after (g.K.Sink.held c.args.out.now) (g.K.Sink.held c.write_entries.new.out) (g.K.Sink.held c.write_text.new.out) (g.K.Sink.faults c.args.out.now) (g.K.Sink.faults c.write_entries.new.out) (g.K.Sink.faults c.write_text.new.out) c.write_text.result
-    (entries_text c.args.h.now es) (end_text (length es)) c.in_ok-write_entries.ensures.whole c.in_ok-write_entries.ensures.cause.later (rw piece at c.write_text.ensures)
+    let w = rw c.new-block.ensures at c.in_ok-write_entries.ensures in
+    let v = rw c.len.ensures at c.in_ok-write_end.ensures in
+    let p = Passes-then (g.K.Sink.held c.args.out.now) (g.K.Sink.held c.write_entries.new.out) (g.K.Sink.held c.write_end.new.out) [] c.write_entries.new.block c.write_end.new.block (entries_text c.args.h.now es) (end_text (length es)) w.whole v.whole in
+    Writes-flushed (g.K.Sink.held c.args.out.now) (g.K.Sink.held c.write_end.new.out) (g.K.Sink.held c.flush.new.out) c.write_end.new.block (g.K.Sink.faults c.args.out.now) (g.K.Sink.faults c.write_end.new.out) (g.K.Sink.faults c.flush.new.out) c.flush.result _
+    p (omega (arith, w.cause.later, v.cause.later)) c.flush.ensures.written
