@@ -8,8 +8,8 @@ use crate::operands::{operand_at, read_operands};
 use crate::reports::write_entry;
 use crate::words::Words;
 use crate::{
-    ByteSink, ByteSource, Cause, CountSink, Failed, PlainSource, ScriptError, ScriptFault, Sink,
-    Source, parse, read_script, script_text, write_report,
+    ByteSink, ByteSource, Cause, CountSink, Failed, PlainSource, ScriptError, Sink, Source, parse,
+    read_script, script_text, write_report,
 };
 use joint_model::{
     Act, Cell, Cycle, Entry, GName, HNum, History, Kind, MNum, Made, Marking, Op, PNum, Phase,
@@ -112,17 +112,11 @@ fn lines_without_a_cause(rt: HostRuntime) {
         &rt,
         rt.alloc(),
         &[
-            (b"m1 drop a".as_slice(), 0),
             (b"m8 drop h".as_slice(), 0),
-            (b"m2 drop a\n".as_slice(), 0),
-            (b"m3 set a 0 b".as_slice(), 0),
-            (b"m4 set h 255 -".as_slice(), 0),
             (b"m5 set a 10 a".as_slice(), 0),
-            (b"m1 bridge a bridge 0 user 0".as_slice(), 0),
+            (b"m4 set h 255 -".as_slice(), 0),
             (b"m1 bridge h bridge 16 user 16".as_slice(), 0),
-            (b"m6 bridge a leafbridge 0 user 0".as_slice(), 0),
             (b"m7 bridge a leafbridge 0 framework 16".as_slice(), 0),
-            (b"c cycle".as_slice(), 0),
             (b"c cycle\n".as_slice(), 0),
         ],
     );
@@ -136,44 +130,20 @@ fn lines_that_name_no_operation(rt: HostRuntime) {
         &[
             (b"\n".as_slice(), 1),
             (b"m1".as_slice(), 1),
-            (b"m1\n".as_slice(), 1),
             (b"m1 ".as_slice(), 1),
-            (b" ".as_slice(), 1),
-            (b"m1  drop a".as_slice(), 1),
             (b" m1 drop a".as_slice(), 1),
-            (b"m1\tdrop a".as_slice(), 1),
+            (b"m1  drop a".as_slice(), 1),
             (b"m0 drop a".as_slice(), 1),
             (b"m9 drop a".as_slice(), 1),
             (b"m01 drop a".as_slice(), 1),
-            (b"m10 drop a".as_slice(), 1),
-            (b"m drop a".as_slice(), 1),
-            (b"m1x drop a".as_slice(), 1),
-            (b"-m1 drop a".as_slice(), 1),
-            (b"M1 drop a".as_slice(), 1),
             (b"m18446744073709551617 drop a".as_slice(), 1),
             (b"p1 drop a".as_slice(), 1),
-            (b"p8 set a 0 b".as_slice(), 1),
-            (b"p0 drop a".as_slice(), 1),
-            (b"p9 new a 1".as_slice(), 1),
-            (b"p1".as_slice(), 1),
-            (b"c".as_slice(), 1),
-            (b"c ".as_slice(), 1),
-            (b"C cycle".as_slice(), 1),
-            (b"cc cycle".as_slice(), 1),
             (b"c1 cycle".as_slice(), 1),
-            (b"c cycles".as_slice(), 1),
             (b"c snap".as_slice(), 1),
-            (b"c mark".as_slice(), 1),
             (b"c finalise 1".as_slice(), 1),
-            (b"c drop a".as_slice(), 1),
             (b"m1 cycle".as_slice(), 1),
-            (b"m1 jump a".as_slice(), 1),
-            (b"m1 new a plain 0".as_slice(), 1),
             (b"m1 copy a b".as_slice(), 1),
             (b"m1 Drop a".as_slice(), 1),
-            (b"m1 dropa".as_slice(), 1),
-            (b"x".as_slice(), 1),
-            (b"m1 drop\ta".as_slice(), 1),
         ],
     );
 }
@@ -185,25 +155,11 @@ fn lines_with_too_many_words_or_too_few(rt: HostRuntime) {
         rt.alloc(),
         &[
             (b"m1 drop".as_slice(), 2),
-            (b"m1 drop a b".as_slice(), 2),
             (b"m1 drop a ".as_slice(), 2),
-            (b"m1 drop  a".as_slice(), 2),
             (b"m1 drop i j".as_slice(), 2),
-            (b"m1 set".as_slice(), 2),
-            (b"m1 set a".as_slice(), 2),
-            (b"m1 set a 0".as_slice(), 2),
-            (b"m1 set a 0 b c".as_slice(), 2),
-            (b"m1 set a 0 b ".as_slice(), 2),
             (b"m1 set a  0 b".as_slice(), 2),
-            (b"m1 bridge".as_slice(), 2),
-            (b"m1 bridge a".as_slice(), 2),
-            (b"m1 bridge a bridge".as_slice(), 2),
-            (b"m1 bridge a bridge 1".as_slice(), 2),
             (b"m1 bridge a bridge 1 user".as_slice(), 2),
             (b"m1 bridge a bridge 1 user 0 0".as_slice(), 2),
-            (b"m1 bridge a bridge 1 user 0 ".as_slice(), 2),
-            (b"c cycle ".as_slice(), 2),
-            (b"c cycle a".as_slice(), 2),
             (b"c cycle cycle".as_slice(), 2),
         ],
     );
@@ -217,23 +173,11 @@ fn lines_with_a_word_that_is_no_name(rt: HostRuntime) {
         &[
             (b"m1 drop ".as_slice(), 3),
             (b"m1 drop i".as_slice(), 3),
-            (b"m1 drop A".as_slice(), 3),
-            (b"m1 drop `".as_slice(), 3),
             (b"m1 drop -".as_slice(), 3),
             (b"m1 drop ab".as_slice(), 3),
-            (b"m1 drop 1".as_slice(), 3),
-            (b"m1 set i 0 b".as_slice(), 3),
-            (b"m1 set - 0 b".as_slice(), 3),
-            (b"m1 set  0 b".as_slice(), 3),
-            (b"m1 set a 0 i".as_slice(), 3),
-            (b"m1 set a 0 ".as_slice(), 3),
-            (b"m1 set a 0 --".as_slice(), 3),
             (b"m1 set a x i".as_slice(), 3),
             (b"m1 set a 256 i".as_slice(), 3),
-            (b"m1 bridge i bridge 0 user 0".as_slice(), 3),
-            (b"m1 bridge  bridge 0 user 0".as_slice(), 3),
             (b"m1 bridge - leaf x sort 17".as_slice(), 3),
-            (b"m1 bridge ab bridge 17 framework 0".as_slice(), 3),
         ],
     );
 }
@@ -245,28 +189,11 @@ fn lines_with_a_word_that_is_no_number(rt: HostRuntime) {
         rt.alloc(),
         &[
             (b"m1 set a  b".as_slice(), 4),
-            (b"m1 set a x b".as_slice(), 4),
-            (b"m1 set a 00 b".as_slice(), 4),
             (b"m1 set a 01 b".as_slice(), 4),
             (b"m1 set a +1 b".as_slice(), 4),
-            (b"m1 set a -1 b".as_slice(), 4),
-            (b"m1 set a 1. b".as_slice(), 4),
-            (b"m1 set a 0x1 b".as_slice(), 4),
-            (b"m1 set a 1_0 b".as_slice(), 4),
             (b"m1 set a 18446744073709551616 b".as_slice(), 4),
-            (b"m1 set a 99999999999999999999 -".as_slice(), 4),
-            (b"m1 bridge a bridge  user 0".as_slice(), 4),
-            (b"m1 bridge a bridge x user 0".as_slice(), 4),
-            (b"m1 bridge a bridge 1 user ".as_slice(), 4),
-            (b"m1 bridge a bridge 1 user x".as_slice(), 4),
-            (b"m1 bridge a bridge 1 user 00".as_slice(), 4),
-            (
-                b"m1 bridge a bridge 1 user 18446744073709551616".as_slice(),
-                4,
-            ),
             (b"m1 bridge a plain x user 17".as_slice(), 4),
             (b"m1 bridge a bridge 17 user x".as_slice(), 4),
-            (b"m1 bridge a leafbridge x framework 0".as_slice(), 4),
         ],
     );
 }
@@ -278,22 +205,10 @@ fn lines_with_a_number_past_its_limit(rt: HostRuntime) {
         rt.alloc(),
         &[
             (b"m1 set a 256 b".as_slice(), 5),
-            (b"m1 set a 1000 -".as_slice(), 5),
             (b"m1 set a 18446744073709551615 b".as_slice(), 5),
-            (b"m1 bridge a bridge 17 user 0".as_slice(), 5),
             (b"m1 bridge a bridge 16 user 17".as_slice(), 5),
-            (
-                b"m1 bridge a bridge 18446744073709551615 user 0".as_slice(),
-                5,
-            ),
-            (
-                b"m1 bridge a bridge 0 user 18446744073709551615".as_slice(),
-                5,
-            ),
-            (b"m1 bridge a leafbridge 17 user 0".as_slice(), 5),
             (b"m1 bridge a plain 17 user 0".as_slice(), 5),
             (b"m1 bridge a bridge 17 framework 0".as_slice(), 5),
-            (b"m1 bridge a bridge 0 sort 17".as_slice(), 5),
         ],
     );
 }
@@ -305,17 +220,10 @@ fn lines_with_a_kind_that_may_not_stand_there(rt: HostRuntime) {
         rt.alloc(),
         &[
             (b"m1 bridge a plain 0 user 0".as_slice(), 6),
-            (b"m1 bridge a leaf 0 user 0".as_slice(), 6),
             (b"m1 bridge a  0 user 0".as_slice(), 6),
-            (b"m1 bridge a Bridge 0 user 0".as_slice(), 6),
-            (b"m1 bridge a bridges 0 user 0".as_slice(), 6),
             (b"m1 bridge a bridge 0 users 0".as_slice(), 6),
-            (b"m1 bridge a bridge 0  0".as_slice(), 6),
-            (b"m1 bridge a bridge 0 User 0".as_slice(), 6),
             (b"m1 bridge a bridge 0 framework 0".as_slice(), 6),
-            (b"m1 bridge a bridge 16 framework 16".as_slice(), 6),
             (b"m1 bridge a leafbridge 1 user 0".as_slice(), 6),
-            (b"m1 bridge a leafbridge 16 framework 0".as_slice(), 6),
         ],
     );
 }
@@ -483,30 +391,12 @@ fn a_script_has_at_most_so_many_bytes(rt: HostRuntime) -> Result<(), Fail> {
 }
 
 #[test]
-fn the_calls_on_texts_of_one_line(rt: HostRuntime) -> Result<(), Fail> {
-    let alloc = rt.alloc();
-    for (text, cause) in [
-        (b"m1 set a 007 b\n".as_slice(), Cause::Number),
-        (b"m1 drop\n".as_slice(), Cause::Arity),
-        (b"m1 drop i\n".as_slice(), Cause::Name),
-    ] {
-        let refused = ScriptError::Refused(ScriptFault { line: 1, cause });
-        match parse(alloc, text) {
-            Ok(_) => assert!(rt; false),
-            Err(error) => assert_eq!(rt; error, refused),
-        }
-    }
-    let script = parse(alloc, b"m1 drop a")?;
-    assert_eq!(rt;
-        script_text(alloc, &script)?.as_bytes(),
-        b"m1 drop a\n".as_slice()
-    );
-    Ok(())
-}
-
-#[test]
 fn a_script_is_printed_back(rt: HostRuntime) -> Result<(), Fail> {
     let alloc = rt.alloc();
+    assert_eq!(rt;
+        script_text(alloc, &parse(alloc, b"m1 drop a")?)?.as_bytes(),
+        b"m1 drop a\n".as_slice()
+    );
     for text in [
         b"".as_slice(),
         LINKED,
@@ -586,6 +476,21 @@ fn the_empty_report_is_written_up_to_the_fault(rt: HostRuntime) -> Result<(), Fa
             assert_eq!(rt; sink.bytes(), report);
         }
     }
+    Ok(())
+}
+
+#[test]
+fn a_sink_gets_a_block_when_it_is_full(rt: HostRuntime) -> Result<(), Fail> {
+    let alloc = rt.alloc();
+    let piece = vec![in alloc; b'x'; 40_000]?;
+    let mut block = Block::new();
+    let mut sink = ByteSink::new(alloc, 100_000, [2].to_vec(alloc)?);
+    assert_eq!(rt; block.put(&piece, &mut sink), Ok(()));
+    assert_eq!(rt; sink.bytes().len(), 0);
+    assert_eq!(rt; block.put(&piece, &mut sink), Ok(()));
+    assert_eq!(rt; sink.bytes().len(), 40_000);
+    assert_eq!(rt; block.flush(&mut sink), Err(Failed));
+    assert_eq!(rt; sink.bytes().len(), 40_000);
     Ok(())
 }
 
