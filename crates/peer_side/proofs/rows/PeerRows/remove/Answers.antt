@@ -1,0 +1,33 @@
+-- The row of one number goes, and the others stay.
+use Rattle.std.proofs.Common.{◌≡◌, None, sym, subst, ◌∙◌, length}
+use Rattle.joint_model.specs.Heaps.{numbered_set}
+use Rattle.peer_side.specs.Rows.{Rows, rows_with}
+use Rattle.peer_side.proofs.Handles.{rows-removed, length-without, length-without_le, row_in-shown, AreRowsIssued-removed}
+use Rattle.peer_side.proofs.rows.PeerRows.remove.Goals as goal
+
+pub returns-clause-rows : goal.returns-clause-rows
+returns-clause-rows c =
+    let i = c.self.inside in
+    subst (λ (z : Rows). rows_with i.heap i.sorts.items i.names i.issued.items c.release.new.self ≡ record z { table = numbered_set z.table c.args.h.0 None; tabled = length c.release.new.self.rows }) c.self.view_is
+    (rows-removed i.heap i.sorts.items i.names i.issued.items i.table c.release.new.self c.args.h c.release.ensures.rows c.release.ensures.made)
+
+pub returns-clause-fewer : goal.returns-clause-fewer
+returns-clause-fewer c = rw (sym c.self.view_is, c.release.ensures.rows) (length-without_le c.self.inside.table.rows c.args.h)
+
+pub returns-clause-tabled : goal.returns-clause-tabled
+returns-clause-tabled c = λ row at.
+    let shown = rw (sym c.self.view_is) at at in
+    let found = row_in-shown c.self.inside.table.rows c.args.h.0 c.self.inside.table.made row shown in
+    rw (sym c.self.view_is, c.release.ensures.rows) (length-without 0 c.self.inside.table.made c.self.inside.table.rows c.args.h found.0 c.self.invariant.rising found.1)
+
+pub invariant_of-self : goal.invariant_of-self
+invariant_of-self c =
+    let i = c.self.inside in
+    let kept = c.self.invariant in
+    record {
+      rising = c.release.ensures.rising;
+      places = c.release.ensures.made ∙ kept.places;
+      rows_issued = AreRowsIssued-removed i.issued.items i.table c.release.new.self c.args.h c.release.ensures.rows kept.rows_issued;
+      sorted = kept.sorted;
+      short = kept.short;
+    }

@@ -1,0 +1,23 @@
+// The peer side of the bridge: the other collector's heap, with its variables, statics and global names, and the table of handles by which
+// managed objects name its peers.
+//
+// A [`PeerSide`] is made once. Each event of a peer thread, and each event that a managed thread makes here, is a `step`. It makes one entry,
+// whose number comes from a [`Draw`](joint_model::Draw). What a contract sees of the side is its entries and the state of their replay: each
+// call promises that its entry may come next, and that the state is the one after it.
+//
+// A call takes all its memory first; where there is none, the side and the draw are as before. The list of entries has room for the release
+// of each handle of the table, so a release takes no memory.
+//
+// An open marking is kept as a number, a thread and, for proofs alone, the rows as they stood at its begin; what was brought back since is
+// read off the entries. Its marks are in the rows, and stay those of the definition over each event (`laws.rt`): a new peer has a mark, and what
+// a name or a handle gives is marked with all that it reaches.
+//
+// `rows.rt` has the peers and handles, each of whose calls is one event of the definition, without its entry; `side.rt` puts the entry to it.
+#![tactic(auto)]
+
+mod laws;
+mod rows;
+mod side;
+
+pub use laws::steps_keep_marks;
+pub use side::{PeerLists, PeerSide};

@@ -1,0 +1,525 @@
+// The peers with their sorts, slots and names, and the handles on them. Each call here is one event of the definition, without its entry.
+
+ghost use Rattle.std.specs.Prelude.{◌≡◌, ℕ, ◌+◌, ◌<◌, ◌≤◌, Some, None, IfOk, IsOk, OnErr, OnOk, length, ◌⊎◌, ◌↔◌, [], ◌∷◌, Contains, IsTrue};
+ghost use Rattle.std.specs.Option.{ForSome, option_map};
+ghost use Rattle.joint_model.specs.Heaps.{IsLive, answer, is_full, slot, numbered_at, numbered_set, copied, field_set, field_got, dropped, loaded, stored, place};
+ghost use Rattle.joint_model.specs.Histories.{peer_numbers};
+ghost use Rattle.joint_model.specs.Lines.{IsPeerThread, IsVar, IsVarOrNone};
+ghost use Rattle.joint_model.specs.Managed.{place_or_none};
+ghost use Rattle.joint_model.specs.Peers.{peer_name, on_peer_heap, peer_made, pair_made, gripped, landed, globalised, name_given, name_freed, name_read, peer_read};
+ghost use Rattle.joint_model.specs.PeerReplay.{PeerReplay, TableRow, opening_peer_replay, on_table, untabled, row_of, table_target};
+ghost use Rattle.joint_model.specs.Run.{thread_number};
+ghost use Rattle.joint_model.specs.Walks.{Reached};
+ghost use Rattle.reachability.specs.Marks.{IsClosed, IsMarked};
+ghost use Rattle.row_heap.specs.Marks.{EdgeOf};
+ghost use Rattle.peer_side.specs.Marks.{AreMarksSame, MarksNew, MarksBrought, MarksAfter};
+ghost use Rattle.global_handles.specs.Rows.{row_in};
+ghost use Rattle.object_heap.specs.Done.{say};
+ghost use Rattle.peer_side.specs.Rows.{Answers, AreTargetsLive, GoesBy, issued_to, number_of, row_as, strength_as, no_rows, peers_in, with_rows};
+ghost use Rattle.peer_side.specs.Steps.{IsPeerStep, IsRelease, ReleasesTabled, room_for};
+
+use global_handles::{HandleTable, Hold, Strength};
+use joint_model::{Act, HNum, Op, PNum, Reply, Sort, Thread, Var};
+use object_heap::Done;
+use row_heap::RowHeap;
+use std::alloc::{AllocError, Global};
+use std::marker::Model;
+
+/// The most handles that are issued.
+const MOST_HANDLES: usize = 65_535;
+
+/// A handle as it was issued.
+#[derive(Clone, Copy)]
+pub(crate) struct Issue {
+    pub(crate) peer: PNum,
+    pub(crate) hold: Hold,
+    pub(crate) strength: Strength,
+}
+
+/// The peers with their sorts, the slots and names that lead to them, and the handles: as they were issued, and as the table has them now.
+#[derive(Drop)]
+pub(crate) struct PeerRows {
+    heap: RowHeap<PNum>,
+    sorts: Vec<Sort>,
+    names: [Option<u32>; 64],
+    issued: Vec<Issue>,
+    table: HandleTable,
+}
+
+impl Model for PeerRows {
+    ghost use Rattle.peer_side.specs.Rows.{Rows, rows_with, ArePeerRows};
+
+    ghost Value = { Rows };
+
+    ghost view = { λ s. rows_with s.heap s.sorts.items s.names s.issued.items s.table };
+
+    ghost invariant = { λ s. ArePeerRows s.heap s.sorts.items s.issued.items s.table };
+}
+
+impl PeerRows {
+    /// No peer, no name and no handle.
+    pub(crate) fn new(alloc: Global) -> PeerRows
+        ensures { result ≡ no_rows }
+    {
+        PeerRows {
+            heap: RowHeap::new(alloc),
+            sorts: Vec::new(alloc),
+            names: [None; 64],
+            issued: Vec::new(alloc),
+            table: HandleTable::new(alloc),
+        }
+    }
+
+    /// How many handles the table has.
+    pub(crate) fn tabled(&self) -> u32
+        ensures tabled { result ≡ self.now.tabled }
+        ensures most { result ≤ 65535 }
+    {
+        self.table.len()
+    }
+
+    /// How many peers were made.
+    pub(crate) fn made(&self) -> u32
+        ensures { result ≡ length self.now.rows.heap.fields }
+    {
+        self.heap.made()
+    }
+
+    /// How many peers are live.
+    pub(crate) fn live(&self) -> u32
+        ensures { result + length self.now.rows.heap.freed ≡ length self.now.rows.heap.fields }
+    {
+        self.heap.live()
+    }
+
+    /// Gives up the peers for the list of those that were freed. It takes no memory.
+    pub(crate) fn into_freed(self) -> Vec<PNum>
+        ensures { peer_numbers result.items ≡ self.rows.heap.freed }
+    {
+        self.heap.into_freed()
+    }
+
+    /// The handles: what the replay has as the row of a handle is the row here.
+    pub(crate) fn handles(&self) -> &HandleTable
+        ensures { (h : ℕ) → row_of (with_rows opening_peer_replay self.now) h ≡ option_map row_as (row_in result.now.rows (record { 0 = h })) }
+    {
+        &self.table
+    }
+
+    // `copy V W` of a peer thread, by the places of its variables.
+    fn copy(&mut self, v: usize, w: usize) -> Reply
+        requires v { v < 72 }
+        requires w { w < 72 }
+        ensures answers { Answers self.old (on_peer_heap (peers_in self.old) (copied peer_name self.old.rows.heap v w)) result self.new }
+        ensures marks { AreMarksSame self.old.rows self.new.rows }
+        ensures tabled { self.new.tabled ≡ self.old.tabled }
+    {
+        let done = self.heap.copy(v, w);
+        reply_of(done)
+    }
+
+    // `set V I W`.
+    fn set(&mut self, v: usize, i: usize, w: Option<usize>) -> Reply
+        requires v { v < 72 }
+        requires w { ForSome w (λ place. place < 72) }
+        ensures answers { Answers self.old (on_peer_heap (peers_in self.old) (field_set self.old.rows.heap v i w)) result self.new }
+        ensures marks { AreMarksSame self.old.rows self.new.rows }
+        ensures tabled { self.new.tabled ≡ self.old.tabled }
+    {
+        let done = self.heap.set(v, i, w);
+        reply_of(done)
+    }
+
+    // `get V W I`.
+    fn get(&mut self, v: usize, w: usize, i: usize) -> Reply
+        requires v { v < 72 }
+        requires w { w < 72 }
+        ensures answers { Answers self.old (on_peer_heap (peers_in self.old) (field_got peer_name self.old.rows.heap v w i)) result self.new }
+        ensures marks { AreMarksSame self.old.rows self.new.rows }
+        ensures tabled { self.new.tabled ≡ self.old.tabled }
+    {
+        let done = self.heap.get(v, w, i);
+        reply_of(done)
+    }
+
+    // `drop V`.
+    fn drop_var(&mut self, v: usize) -> Reply
+        requires { v < 72 }
+        ensures answers { Answers self.old (on_peer_heap (peers_in self.old) (dropped self.old.rows.heap v)) result self.new }
+        ensures marks { AreMarksSame self.old.rows self.new.rows }
+        ensures tabled { self.new.tabled ≡ self.old.tabled }
+    {
+        let done = self.heap.drop(v);
+        reply_of(done)
+    }
+
+    // `load V x`.
+    fn load(&mut self, v: usize, x: usize) -> Reply
+        requires v { v < 72 }
+        requires x { x < 16 }
+        ensures answers { Answers self.old (on_peer_heap (peers_in self.old) (loaded peer_name self.old.rows.heap v x)) result self.new }
+        ensures marks { AreMarksSame self.old.rows self.new.rows }
+        ensures tabled { self.new.tabled ≡ self.old.tabled }
+    {
+        let done = self.heap.load(v, x);
+        reply_of(done)
+    }
+
+    // `store x V`.
+    fn store(&mut self, x: usize, v: Option<usize>) -> Reply
+        requires x { x < 16 }
+        requires v { ForSome v (λ place. place < 72) }
+        ensures answers { Answers self.old (on_peer_heap (peers_in self.old) (stored self.old.rows.heap x v)) result self.new }
+        ensures marks { AreMarksSame self.old.rows self.new.rows }
+        ensures tabled { self.new.tabled ≡ self.old.tabled }
+    {
+        let done = self.heap.store(x, v);
+        reply_of(done)
+    }
+
+    // Whether no further handle can be issued.
+    fn handles_full(&self) -> bool
+        ensures { result ≡ is_full self.now.issued }
+    {
+        self.issued.len() >= MOST_HANDLES
+    }
+
+    // Issues a handle on a peer. Answers `AllocError` where there is no memory; all is then as before.
+    fn issue(&mut self, p: PNum, hold: Hold, strength: Strength) -> Result<HNum, AllocError>
+        ensures number { IfOk result (λ h. h.0 ≡ length self.old.issued + 1) }
+        ensures issued { OnOk result (self.new ≡ issued_to self.old (record { peer = p; hold = hold; strength = strength })) }
+        ensures err { OnErr result (self.new ≡ self.old) }
+    {
+        self.issued.reserve(1)?;
+        match self.table.make(p, hold, strength) {
+            Ok(h) => {
+                self.issued.push_reserved(Issue {
+                    peer: p,
+                    hold,
+                    strength,
+                });
+                Ok(h)
+            }
+            Err(_) => Err(AllocError),
+        }
+    }
+
+    // `new V F` of a peer thread.
+    fn make_peer(&mut self, v: usize, fields: u8) -> Result<Reply, AllocError>
+        requires { v < 72 }
+        ensures answers { IfOk result (λ r. Answers self.old (peer_made (peers_in self.old) v fields) r self.new) }
+        ensures marks { IfOk result (λ r. MarksNew self.old.rows r self.new.rows) }
+        ensures tabled { self.new.tabled ≡ self.old.tabled }
+        ensures err { OnErr result (self.new ≡ self.old) }
+    {
+        self.heap.marks_len();
+        if self.heap.is_full() {
+            return Ok(Reply::Full);
+        }
+        self.sorts.reserve(1)?;
+        let p = self.heap.add_object(fields)?;
+        self.heap.set_var(v, Some(p));
+        self.sorts.push_reserved(Sort::Framework);
+        Ok(Reply::P(PNum(p)))
+    }
+
+    // The handle that a global name has.
+    fn name(&self, g: usize) -> Option<u32>
+        requires { g < 64 }
+        ensures { slot self.now.names g ≡ result }
+    {
+        self.names[g]
+    }
+
+    // `global G V` and `wglobal G V`.
+    fn give_name(&mut self, g: usize, v: usize, strength: Strength) -> Result<Reply, AllocError>
+        requires g { g < 64 }
+        requires v { v < 72 }
+        ensures answers { IfOk result (λ r. Answers self.old (globalised (peers_in self.old) g v (strength_as strength)) r self.new) }
+        ensures marks { AreMarksSame self.old.rows self.new.rows }
+        ensures tabled { self.new.tabled ≤ self.old.tabled + 1 }
+        ensures err { OnErr result (self.new ≡ self.old) }
+    {
+        match self.heap.var(v) {
+            None => Ok(Reply::Empty),
+            Some(p) => self.name_peer(g, PNum(p), strength),
+        }
+    }
+
+    // Gives a peer a global name, unless that is given.
+    fn name_peer(&mut self, g: usize, p: PNum, strength: Strength) -> Result<Reply, AllocError>
+        requires { g < 64 }
+        ensures answers { IfOk result (λ r. Answers self.old (name_given (peers_in self.old) g p.0 (strength_as strength) (slot self.old.names g)) r self.new) }
+        ensures marks { AreMarksSame self.old.rows self.new.rows }
+        ensures tabled { self.new.tabled ≤ self.old.tabled + 1 }
+        ensures err { OnErr result (self.new ≡ self.old) }
+    {
+        match self.name(g) {
+            Some(_) => Ok(Reply::Taken),
+            None => {
+                if self.handles_full() {
+                    return Ok(Reply::Full);
+                }
+                let h = self.issue(p, Hold::Raw, strength)?;
+                self.names[g] = Some(h.0);
+                Ok(Reply::H(h))
+            }
+        }
+    }
+
+    // `make SORT F` of a managed thread: a peer, and a held strong handle on it. The room for the handle is taken first.
+    fn make_pair(&mut self, sort: Sort, fields: u8) -> Result<Reply, AllocError>
+        ensures answers { IfOk result (λ r. Answers self.old (pair_made (peers_in self.old) sort fields) r self.new) }
+        ensures marks { IfOk result (λ r. MarksNew self.old.rows r self.new.rows) }
+        ensures tabled { self.new.tabled ≤ self.old.tabled + 1 }
+        ensures err { OnErr result (self.new ≡ self.old) }
+    {
+        self.heap.marks_len();
+        if self.heap.is_full() {
+            return Ok(Reply::Full);
+        }
+        if self.handles_full() {
+            return Ok(Reply::Full);
+        }
+        self.sorts.reserve(1)?;
+        self.issued.reserve(1)?;
+        self.table.reserve(1)?;
+        let p = PNum(self.heap.add_object(fields)?);
+        let Ok(h) = self.table.make(p, Hold::Held, Strength::Strong) else {
+            unreachable!();
+        };
+        self.sorts.push_reserved(sort);
+        self.issued.push_reserved(Issue {
+            peer: p,
+            hold: Hold::Held,
+            strength: Strength::Strong,
+        });
+        Ok(Reply::Made(p, h))
+    }
+
+    // `grip x` of a managed thread: a held strong handle on the static's peer.
+    fn grip(&mut self, x: usize) -> Result<Reply, AllocError>
+        requires { x < 16 }
+        ensures answers { IfOk result (λ r. Answers self.old (gripped (peers_in self.old) x) r self.new) }
+        ensures marks { AreMarksSame self.old.rows self.new.rows }
+        ensures tabled { self.new.tabled ≤ self.old.tabled + 1 }
+        ensures err { OnErr result (self.new ≡ self.old) }
+    {
+        match self.heap.static_at(x) {
+            None => Ok(Reply::Null),
+            Some(p) => {
+                if self.handles_full() {
+                    return Ok(Reply::Full);
+                }
+                let sort = self.sorts[p as usize - 1];
+                let fields = self.heap.fields_len(p) as u8;
+                let h = self.issue(PNum(p), Hold::Held, Strength::Strong)?;
+                Ok(Reply::Gripped(PNum(p), h, sort, fields))
+            }
+        }
+    }
+
+    // The peer that a handle leads to; None where it isn't in the table or is cleared.
+    fn target(&self, h: HNum) -> Option<PNum>
+        ensures { table_target (with_rows opening_peer_replay self.now) h.0 ≡ number_of result }
+    {
+        self.table.target(h)
+    }
+
+    // Brings a peer back, if a marking is open: it has a mark from now on, with all that it reaches.
+    fn bring_back(&mut self, p: PNum, is_open: bool)
+        requires live { IsLive self.old.rows.heap p.0 }
+        requires shut { IsTrue is_open → IsClosed (EdgeOf self.old.rows) self.old.rows.marks }
+        ensures rest { self.new ≡ record self.old { rows = record self.old.rows { marks = self.new.rows.marks; links = self.new.rows.links } } }
+        ensures marks { IsTrue is_open → (k : ℕ) → (IsMarked self.new.rows.marks k ↔ (IsMarked self.old.rows.marks k ⊎ Reached (Contains (p.0 ∷ [])) (EdgeOf self.old.rows) k)) }
+    {
+        if !is_open {
+            return;
+        }
+        self.heap.bring_back(p.0);
+    }
+
+    // `wread V G` of a peer thread: V names the peer that G's handle leads to.
+    fn read_name(&mut self, v: usize, g: usize, is_open: bool) -> Reply
+        requires v { v < 72 }
+        requires g { g < 64 }
+        requires live { AreTargetsLive self.old }
+        requires shut { IsTrue is_open → IsClosed (EdgeOf self.old.rows) self.old.rows.marks }
+        ensures answers { Answers self.old (name_read (table_target (with_rows opening_peer_replay self.old)) (peers_in self.old) v g) result self.new }
+        ensures marks { MarksBrought is_open self.old.rows result self.new.rows }
+        ensures tabled { self.new.tabled ≡ self.old.tabled }
+    {
+        match self.name(g) {
+            None => Reply::Unset,
+            Some(h) => self.read_handle(v, HNum(h), is_open),
+        }
+    }
+
+    // A variable names the peer that a handle leads to.
+    fn read_handle(&mut self, v: usize, h: HNum, is_open: bool) -> Reply
+        requires v { v < 72 }
+        requires live { AreTargetsLive self.old }
+        requires shut { IsTrue is_open → IsClosed (EdgeOf self.old.rows) self.old.rows.marks }
+        ensures answers { Answers self.old (peer_read (peers_in self.old) v (table_target (with_rows opening_peer_replay self.old) h.0)) result self.new }
+        ensures marks { MarksBrought is_open self.old.rows result self.new.rows }
+        ensures tabled { self.new.tabled ≡ self.old.tabled }
+    {
+        match self.target(h) {
+            None => Reply::Gone,
+            Some(p) => {
+                self.bring_back(p, is_open);
+                self.heap.set_var(v, Some(p.0));
+                Reply::P(p)
+            }
+        }
+    }
+
+    // `land h x` of a managed thread: the static holds the peer that the handle leads to.
+    fn land(&mut self, h: HNum, x: usize, is_open: bool) -> Reply
+        requires x { x < 16 }
+        requires live { AreTargetsLive self.old }
+        requires shut { IsTrue is_open → IsClosed (EdgeOf self.old.rows) self.old.rows.marks }
+        ensures answers { Answers self.old (landed (peers_in self.old) x (table_target (with_rows opening_peer_replay self.old) h.0)) result self.new }
+        ensures marks { MarksBrought is_open self.old.rows result self.new.rows }
+        ensures tabled { self.new.tabled ≡ self.old.tabled }
+    {
+        match self.target(h) {
+            None => Reply::Gone,
+            Some(p) => {
+                self.bring_back(p, is_open);
+                self.heap.set_static(x, Some(p.0));
+                Reply::P(p)
+            }
+        }
+    }
+
+    // `unglobal G`: the name is free, and its handle leaves the table.
+    fn free_name(&mut self, g: usize) -> Reply
+        requires { g < 64 }
+        ensures goes { (s : PeerReplay) → on_table (untabled (with_rows s self.old) (slot self.old.names g)) (name_freed (peers_in self.old) g) ≡ answer result (with_rows s self.new) }
+        ensures marks { AreMarksSame self.old.rows self.new.rows }
+        ensures tabled { self.new.tabled ≤ self.old.tabled }
+    {
+        match self.name(g) {
+            None => Reply::Unset,
+            Some(h) => {
+                self.remove(HNum(h));
+                self.names[g] = None;
+                Reply::Ok
+            }
+        }
+    }
+
+    // Removes a handle from the table, if it is there.
+    fn remove(&mut self, h: HNum)
+        ensures rows { self.new ≡ record self.old { table = numbered_set self.old.table h.0 None; tabled = self.new.tabled } }
+        ensures fewer { self.new.tabled ≤ self.old.tabled }
+        ensures tabled { (row : TableRow) → numbered_at self.old.table h.0 ≡ Some (Some row) → self.new.tabled + 1 ≡ self.old.tabled }
+    {
+        let _ = self.table.release(h);
+    }
+
+    /// Makes one event of the definition: its reply and its change, without its entry. Answers `AllocError`, with nothing changed, where there
+    /// is no memory; a release takes none. While a marking is open, what a name or a handle gave is marked, with all that it reaches.
+    pub(crate) fn event(
+        &mut self,
+        caller: Thread,
+        op: &Op,
+        is_open: bool,
+    ) -> Result<Reply, AllocError>
+        requires step { IsPeerStep caller op.now }
+        requires tabled { ReleasesTabled self.old.table op.now }
+        requires live { AreTargetsLive self.old }
+        requires shut { IsTrue is_open → IsClosed (EdgeOf self.old.rows) self.old.rows.marks }
+        ensures goes { IfOk result (λ r. GoesBy self.old caller op.now r self.new) }
+        ensures marks { IfOk result (λ r. MarksAfter is_open self.old.rows op.now r self.new.rows) }
+        ensures room { OnOk result (self.new.tabled + 1 ≤ room_for op.now self.old.tabled) }
+        ensures release { IsRelease op.now → IsOk result }
+        ensures err { OnErr result (self.new ≡ self.old) }
+    {
+        match op {
+            Op::Line(act) => self.line(caller, act, is_open),
+            Op::Make { sort, fields } => self.make_pair(*sort, *fields),
+            Op::Grip { x } => self.grip(x.0 as usize),
+            Op::Land { h, x } => Ok(self.land(*h, x.0 as usize, is_open)),
+            Op::Release { h } => {
+                self.remove(*h);
+                Ok(Reply::Ok)
+            }
+            _ => unreachable!(),
+        }
+    }
+
+    // Makes the event of a peer thread's line.
+    fn line(&mut self, caller: Thread, act: &Act, is_open: bool) -> Result<Reply, AllocError>
+        requires step { IsPeerStep caller (Op.Line act.now) }
+        requires live { AreTargetsLive self.old }
+        requires shut { IsTrue is_open → IsClosed (EdgeOf self.old.rows) self.old.rows.marks }
+        ensures goes { IfOk result (λ r. GoesBy self.old caller (Op.Line act.now) r self.new) }
+        ensures marks { IfOk result (λ r. MarksAfter is_open self.old.rows (Op.Line act.now) r self.new.rows) }
+        ensures tabled { self.new.tabled ≤ self.old.tabled + 1 }
+        ensures err { OnErr result (self.new ≡ self.old) }
+    {
+        match act {
+            Act::NewPeer { v, fields } => self.make_peer(place(caller, *v), *fields),
+            Act::Copy { v, w } => Ok(self.copy(place(caller, *v), place(caller, *w))),
+            Act::Set { v, i, w } => {
+                Ok(self.set(place(caller, *v), *i as usize, place_or_none(caller, *w)))
+            }
+            Act::Get { v, w, i } => {
+                Ok(self.get(place(caller, *v), place(caller, *w), *i as usize))
+            }
+            Act::Drop { v } => Ok(self.drop_var(place(caller, *v))),
+            Act::Load { v, x } => Ok(self.load(place(caller, *v), x.0 as usize)),
+            Act::Store { x, v } => Ok(self.store(x.0 as usize, place_or_none(caller, *v))),
+            Act::Global { g, v } => {
+                self.give_name(g.0 as usize, place(caller, *v), Strength::Strong)
+            }
+            Act::WGlobal { g, v } => {
+                self.give_name(g.0 as usize, place(caller, *v), Strength::Weak)
+            }
+            Act::UnGlobal { g } => Ok(self.free_name(g.0 as usize)),
+            Act::WRead { v, g } => Ok(self.read_name(place(caller, *v), g.0 as usize, is_open)),
+            _ => unreachable!(),
+        }
+    }
+}
+
+// The place of a thread's variable.
+fn place(caller: Thread, v: Var) -> usize
+    requires thread { IsPeerThread caller }
+    requires var { IsVar v }
+    ensures at { result ≡ place (thread_number caller) v.0 }
+    ensures within { result < 72 }
+{
+    match caller {
+        Thread::P(n) => 8 * n as usize + v.0 as usize,
+        _ => unreachable!(),
+    }
+}
+
+// The place of a thread's variable, where there is one.
+fn place_or_none(caller: Thread, v: Option<Var>) -> Option<usize>
+    requires thread { IsPeerThread caller }
+    requires var { IsVarOrNone v }
+    ensures at { result ≡ place_or_none (thread_number caller) v }
+    ensures within { ForSome result (λ p. p < 72) }
+{
+    match v {
+        None => None,
+        Some(w) => Some(place(caller, w)),
+    }
+}
+
+// The reply that an operation's answer stands for.
+fn reply_of(done: Done) -> Reply
+    ensures { result ≡ say peer_name done }
+{
+    match done {
+        Done::Ok => Reply::Ok,
+        Done::Empty => Reply::Empty,
+        Done::Range => Reply::Range,
+        Done::Null => Reply::Null,
+        Done::Object(x) => Reply::P(PNum(x)),
+    }
+}
