@@ -1,0 +1,13 @@
+pub mod Kept
+pub mod Goes
+pub mod Peers
+pub mod Given
+pub mod Lists
+pub mod BringingBack
+pub mod Forgetting
+pub mod Resolutions
+pub mod Dues
+pub mod Driving
+pub mod Gathering
+pub mod DeadGraphs
+pub mod TakingSnapshots

@@ -1,0 +1,12 @@
+-- The nodes of the rows so far.
+use Rattle.std.proofs.Common.{◌≡◌, ℕ, [], map, take}
+use Rattle.bridge_graph.specs.Parts.{row_at}
+use Rattle.managed_side.specs.declared.rows.Held.{Held}
+use Rattle.managed_side.specs.Graphs.{node_of}
+use Rattle.managed_side.proofs.graphs.add_nodes.Given as goal
+
+abbrev pub invariant-loop-m : goal.invariant-loop-m
+invariant-loop-m l = record {
+  nodes : l.builder.nodes ≡ map (node_of l.heap.heap (map (λ (i : Held). i.handle) l.infos)) (take l.m-index l.dead);
+  edges : (a : ℕ) → row_at l.builder.edges a ≡ [];
+}

@@ -1,0 +1,52 @@
+-- The list goes on by the contraction.
+use Rattle.std.proofs.Common.{◌≡◌, ◌≤◌, [], None, refl, sym, ap, subst, arith}
+use Rattle.joint_model.specs.declared.names.Thread.TheVariants.{C}
+use Rattle.joint_model.specs.declared.events.Op.TheVariants as op
+use Rattle.joint_model.specs.declared.events.Reply.TheVariants as says
+use Rattle.joint_model.specs.ManagedReplay.{ManagedReplay}
+use Rattle.joint_model.specs.Told.{contraction_of}
+use Rattle.managed_side.specs.Calls.{contract_made}
+use Rattle.managed_side.specs.Sides.{owed_by}
+use Rattle.managed_side.specs.Steps.{step_made}
+use Rattle.managed_side.proofs.Driving.{contract-goes, adds-lawful}
+use Rattle.managed_side.proofs.Goes.{side-replayed}
+use Rattle.managed_side.proofs.side.ManagedSide.contracted.Goals as goal
+
+pub enter-requires-clause-below : goal.enter-requires-clause-below
+enter-requires-clause-below g c =
+    let k = rw (← c.self.view_is) at c.requires.contracted in
+    let may = rw (← c.self.view_is) at c.requires.may in
+    (may k.cycle k.opened).below
+
+pub enter-requires-clause-room : goal.enter-requires-clause-room
+enter-requires-clause-room g c =
+    let k = rw (← c.self.view_is) at c.requires.contracted in
+    let may = rw (← c.self.view_is) at c.requires.may in
+    (may k.cycle k.opened).room
+
+pub invariant_of-self : goal.invariant_of-self
+invariant_of-self g c =
+    let i = c.self.inside in
+    let k = rw (← c.self.view_is) at c.requires.contracted in
+    let may = rw (← c.self.view_is) at c.requires.may in
+    let made-is : step_made C c.args.index (op.Contract record { 0 = c.contract.result }) (says.Sccs c.args.sccs c.args.xrefs) None ≡ contract_made k.cycle c.args.index c.args.sccs c.args.xrefs = ap (λ n. step_made C c.args.index (op.Contract record { 0 = n }) (says.Sccs c.args.sccs c.args.xrefs) None) (c.contract.ensures.number k.cycle k.opened) in
+    let draws = rw made-is at c.enter.ensures.draws in
+    let goes = contract-goes i.entries.entries c.enter.new.entries.entries i.rows c.contract.new.self k.cycle draws.adds.number c.args.index c.args.sccs c.args.xrefs k.comps k.pairs k.contracted c.contract.ensures.state draws.adds.added in
+    let owed : owed_by i.rows.contracted ≤ i.entries.spare = c.self.invariant.1 k.cycle k.opened in
+    let two : 2 ≤ i.entries.spare = subst (λ b. owed_by b ≤ i.entries.spare) k.contracted.may.once owed in (
+      side-replayed i.entries.entries c.enter.new.entries.entries i.rows c.contract.new.self draws.adds.number (g.D.Draw.floor c.args.draw.now) (contract_made k.cycle c.args.index c.args.sccs c.args.xrefs) (contraction_of k.comps k.pairs) (may k.cycle k.opened).below draws.above draws.adds.added goes c.self.invariant.0,
+      λ e o. subst (λ b. owed_by b ≤ c.enter.new.entries.spare) (sym (ap (λ (z : ManagedReplay). z.contracted) c.contract.ensures.state)) (omega (arith, two, c.enter.ensures.spare)),
+    )
+
+pub returns : goal.returns
+returns g c =
+    let i = c.self.inside in
+    record {
+      contracts = rw (← c.self.view_is) (λ k o. record {
+        adds = λ comps pairs by. (
+            let made-is : step_made C c.args.index (op.Contract record { 0 = c.contract.result }) (says.Sccs c.args.sccs c.args.xrefs) None ≡ contract_made k c.args.index c.args.sccs c.args.xrefs = ap (λ n. step_made C c.args.index (op.Contract record { 0 = n }) (says.Sccs c.args.sccs c.args.xrefs) None) (c.contract.ensures.number k o) in
+            let draws = rw made-is at c.enter.ensures.draws in
+            adds-lawful (record { floor = g.D.Draw.floor; left = g.D.Draw.left; may = g.D.Draw.may; drew = g.D.Draw.drew }) c.args.draw.now c.enter.new.draw i.entries.entries c.enter.new.entries.entries i.rows c.contract.new.self (contract_made k c.args.index c.args.sccs c.args.xrefs) (contraction_of comps pairs) [] draws refl refl
+            (contract-goes i.entries.entries c.enter.new.entries.entries i.rows c.contract.new.self k draws.adds.number c.args.index c.args.sccs c.args.xrefs comps pairs by c.contract.ensures.state draws.adds.added));
+      });
+    }

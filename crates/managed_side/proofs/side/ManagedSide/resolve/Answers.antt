@@ -1,0 +1,75 @@
+-- The list goes on by the resolution, which closes the cycle.
+use Rattle.std.proofs.Common.{◌≡◌, ◌∙◌, Some, length, refl, sym, ap, arith}
+use Rattle.std.proofs.lemmas.List.{length-map}
+use Rattle.std.proofs.lemmas.Option.{same_Some}
+use Rattle.joint_model.specs.declared.names.Thread.TheVariants.{C}
+use Rattle.joint_model.specs.declared.events.Op.TheVariants as op
+use Rattle.joint_model.specs.declared.events.Reply.TheVariants as says
+use Rattle.joint_model.specs.Histories.{managed_numbers}
+use Rattle.joint_model.specs.Listed.{answers_of}
+use Rattle.joint_model.specs.Managed.{OpenCycle}
+use Rattle.joint_model.specs.ManagedReplay.{ManagedReplay}
+use Rattle.joint_model.specs.Told.{resolution_of}
+use Rattle.joint_model.proofs.Deciding.{none_some}
+use Rattle.managed_side.specs.Calls.{resolve_made}
+use Rattle.managed_side.specs.Steps.{step_made}
+use Rattle.managed_side.proofs.Driving.{resolve-goes, adds-lawful, objects-numbers}
+use Rattle.managed_side.proofs.Goes.{side-replayed, kept-rows}
+use Rattle.managed_side.proofs.side.ManagedSide.resolve.Goals as goal
+
+pub resolve-resolution-requires-clause-kept : goal.resolve-resolution-requires-clause-kept
+resolve-resolution-requires-clause-kept g c = kept-rows c.self.inside.entries.entries c.self.inside.rows c.self.invariant.0
+
+pub enter-requires-clause-below : goal.enter-requires-clause-below
+enter-requires-clause-below g c =
+    let k = rw (← c.self.view_is) at c.requires.close in
+    let may = rw (← c.self.view_is) at c.requires.may in
+    (may k.cycle k.opened).below
+
+pub enter-requires-clause-room : goal.enter-requires-clause-room
+enter-requires-clause-room g c =
+    let k = rw (← c.self.view_is) at c.requires.close in
+    let may = rw (← c.self.view_is) at c.requires.may in
+    (may k.cycle k.opened).room
+
+pub invariant_of-self : goal.invariant_of-self
+invariant_of-self g c =
+    let i = c.self.inside in
+    let k = rw (← c.self.view_is) at c.requires.close in
+    let may = rw (← c.self.view_is) at c.requires.may in
+    let t = c.resolve-resolution.ensures.resolution in
+    let ms = c.resolve-resolution.result.freed.items in
+    let freed = managed_numbers ms in
+    let many : c.len.result ≡ length freed = omega (arith, c.len.ensures, c.resolve-resolution.result.freed.ok, length-map ms (λ m. m.0)) in
+    let made-is : step_made C c.args.index (op.Resolve record { 0 = c.resolve-resolution.result.cycle }) (says.Freed record { first = c.resolve-resolution.result.first; count = c.len.result }) (Some c.args.cites) ≡ resolve_made i.rows.managed t.cycle c.args.index freed c.args.cites = rw (t.numbered, t.before, many) refl in
+    let draws = rw made-is at c.enter.ensures.draws in
+    let same : k.cycle ≡ t.cycle = same_Some k.cycle t.cycle (sym k.opened ∙ t.opened) in
+    let one_each : length c.args.alive.now.values ≡ length t.cycle.candidates = k.one_each ∙ ap (λ (z : OpenCycle). length z.candidates) same in
+    let goes = resolve-goes i.entries.entries c.enter.new.entries.entries i.rows c.resolve-resolution.new.self draws.adds.number c.args.index c.args.cites _ _ _ c.args.alive.now.values freed t one_each draws.adds.added in (
+      side-replayed i.entries.entries c.enter.new.entries.entries i.rows c.resolve-resolution.new.self draws.adds.number (g.D.Draw.floor c.args.draw.now) (resolve_made i.rows.managed t.cycle c.args.index freed c.args.cites) (resolution_of (answers_of c.args.alive.now.values) freed) (may k.cycle k.opened).below draws.above draws.adds.added goes c.self.invariant.0,
+      λ e o. absurd (none_some e (sym (ap (λ (z : ManagedReplay). z.managed.cycle) t.state) ∙ o)),
+    )
+
+pub returns : goal.returns
+returns g c =
+    let i = c.self.inside in
+    let k = rw (← c.self.view_is) at c.requires.close in
+    let t = c.resolve-resolution.ensures.resolution in
+    let ms = c.resolve-resolution.result.freed.items in
+    let freed = managed_numbers ms in
+    let many : c.len.result ≡ length freed = omega (arith, c.len.ensures, c.resolve-resolution.result.freed.ok, length-map ms (λ m. m.0)) in
+    let made-is : step_made C c.args.index (op.Resolve record { 0 = c.resolve-resolution.result.cycle }) (says.Freed record { first = c.resolve-resolution.result.first; count = c.len.result }) (Some c.args.cites) ≡ resolve_made i.rows.managed t.cycle c.args.index freed c.args.cites = rw (t.numbered, t.before, many) refl in
+    let draws = rw made-is at c.enter.ensures.draws in
+    let same : k.cycle ≡ t.cycle = same_Some k.cycle t.cycle (sym k.opened ∙ t.opened) in
+    let one_each : length c.args.alive.now.values ≡ length t.cycle.candidates = k.one_each ∙ ap (λ (z : OpenCycle). length z.candidates) same in
+    record {
+      resolves = rw (← c.self.view_is) (record {
+        cycle = t.cycle;
+        opened = t.opened;
+        freed = freed;
+        adds = adds-lawful (record { floor = g.D.Draw.floor; left = g.D.Draw.left; may = g.D.Draw.may; drew = g.D.Draw.drew }) c.args.draw.now c.enter.new.draw i.entries.entries c.enter.new.entries.entries i.rows c.resolve-resolution.new.self (resolve_made i.rows.managed t.cycle c.args.index freed c.args.cites) (resolution_of (answers_of c.args.alive.now.values) freed) c.deref.result.now draws refl (objects-numbers ms ∙ sym c.deref.ensures.value)
+            (resolve-goes i.entries.entries c.enter.new.entries.entries i.rows c.resolve-resolution.new.self draws.adds.number c.args.index c.args.cites _ _ _ c.args.alive.now.values freed t one_each draws.adds.added);
+        span = rw (t.before, many) refl;
+        kept = t.counted;
+      });
+    }

@@ -1,0 +1,9 @@
+-- The rows so far are asked.
+use Rattle.joint_model.specs.Heaps.{IsLive}
+use Rattle.joint_model.specs.Histories.{managed_numbers}
+use Rattle.object_heap.specs.Gathered.{Gathered}
+use Rattle.reachability.specs.Marks.{IsMarked}
+use Rattle.managed_side.proofs.snapshots.whites.Given as goal
+
+abbrev pub invariant-loop-m : goal.invariant-loop-m
+invariant-loop-m l = Gathered (λ m. IsLive l.heap.heap m × (IsMarked l.heap.marks m → ⊥)) l.m (managed_numbers l.rows.items)

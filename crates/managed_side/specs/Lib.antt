@@ -1,0 +1,9 @@
+pub mod Dues
+pub mod Graphs
+pub mod Resolving
+pub mod Snapshots
+pub mod Rows
+pub mod Steps
+pub mod Sides
+pub mod TwinEvents
+pub mod Calls

@@ -1,0 +1,39 @@
+-- What a resolution does to the rows of a side.
+use Rattle.std.specs.Prelude.{◌≡◌, ℕ, ◌<◌, Bool, true, false, not, List, length, filter, count_by, Option, Some, None, is_some, slice_get}
+use Rattle.joint_model.specs.Cycles.{IsResolution, IsAnsweredAlive}
+use Rattle.joint_model.specs.Heaps.{numbered_at}
+use Rattle.joint_model.specs.Listed.{answers_of}
+use Rattle.joint_model.specs.Managed.{OpenCycle, resolved}
+use Rattle.joint_model.specs.ManagedReplay.{ManagedReplay, without_twins}
+
+-- the answer at one of the places below n is alive, for this candidate
+abbrev pub IsAliveBelow : ℕ → List ℕ → List Bool → ℕ → Type 0
+IsAliveBelow n candidates alive m = (i : ℕ) × (i < n) × (slice_get candidates i ≡ Some m) × (slice_get alive i ≡ Some true)
+
+-- whether the row is marked
+abbrev pub marked : List Bool → ℕ → Bool
+marked marks m = elim (slice_get marks m) [ None ↦ false | Some b ↦ b ]
+
+-- the rows that aren't marked
+abbrev pub unmarked_of : List Bool → List ℕ → List ℕ
+unmarked_of marks ms = filter (λ m. not (marked marks m)) ms
+
+-- whether there is a handle at the row's place of a list of held handles
+abbrev pub has_handle : List (Option ℕ) → ℕ → Bool
+has_handle held m = is_some (elim (numbered_at held m) [ None ↦ None | Some h ↦ h ])
+
+-- a cycle is open, and there is one answer for each candidate
+pub record MayClose (s : ManagedReplay) (alive : List Bool) : Type 0 where
+  pub cycle : OpenCycle
+  pub opened : s.managed.cycle ≡ Some cycle
+  pub one_each : length alive ≡ length cycle.candidates
+
+-- the resolution of the open cycle, the state after it, and what the caller is told
+pub record TakesResolution (s next : ManagedReplay) (alive : List Bool) (freed : List ℕ) (number first kept : ℕ) : Type 0 where
+  pub cycle : OpenCycle
+  pub opened : s.managed.cycle ≡ Some cycle
+  pub resolution : IsResolution s.managed cycle.dead (IsAnsweredAlive cycle.candidates (answers_of alive)) freed
+  pub state : next ≡ record s { managed = resolved s.managed freed; registry = without_twins s.registry freed }
+  pub numbered : number ≡ cycle.number
+  pub before : first ≡ length s.managed.heap.freed
+  pub counted : kept ≡ count_by (λ b. b) alive

@@ -1,0 +1,29 @@
+-- What contracts see of a managed side.
+use Rattle.std.specs.Prelude.{◌≡◌, ℕ, ◌≤◌, Bool, true, false, List, Option, Some, None}
+use Rattle.joint_model.specs.declared.events.Entry.{Entry}
+use Rattle.joint_model.specs.Managed.{OpenCycle}
+use Rattle.joint_model.specs.ManagedReplay.{ManagedReplay}
+use Rattle.joint_model.specs.Sides.{Side}
+use Rattle.managed_side.specs.declared.side.TwinAnswer.{TwinAnswer}
+use Rattle.managed_side.specs.declared.side.TwinAnswer.TheVariants as twins
+use Rattle.managed_side.specs.Rows.{with_adopted}
+use Rattle.managed_side.specs.Steps.{adopted_in}
+
+-- a side by its entries and its rows
+abbrev pub side_of : List Entry → ManagedReplay → Side ManagedReplay
+side_of entries rows = record { entries = entries; state = with_adopted rows (adopted_in entries) }
+
+-- how many entries an open cycle owes at most: the contraction's, unless it was made, and the one that closes the cycle
+abbrev pub owed_by : Bool → ℕ
+owed_by true = 1
+owed_by false = 2
+
+-- while a cycle is open there is room for the entries that it owes
+abbrev pub HasRoom : ManagedReplay → ℕ → Type 0
+HasRoom s spare = (c : OpenCycle) → s.managed.cycle ≡ Some c → owed_by s.contracted ≤ spare
+
+-- the answer on a peer's twin: pending while a cycle is open, else by the registry
+abbrev pub twin_answer : Option OpenCycle → Option ℕ → TwinAnswer
+twin_answer (Some c) twin = twins.Pending record { 0 = c.number }
+twin_answer None None = twins.NoTwin
+twin_answer None (Some m) = twins.Found record { 0 = m }

@@ -1,0 +1,89 @@
+// The calls that carry an open cycle on and close it. Each makes one entry of the driver, and none takes memory.
+
+ghost use Rattle.std.specs.Prelude.{◌≡◌, ℕ, Some, IsSome};
+ghost use Rattle.joint_model.specs.declared.names.Thread.TheVariants.{C};
+ghost use Rattle.joint_model.specs.Managed.{OpenCycle};
+ghost use Rattle.joint_model.specs.Sides.{MayDraw, managed_rules};
+ghost use Rattle.managed_side.specs.Calls.{Abandons, Contracts, MayContractWith, Resolves, abandon_op, contract_op, resolve_op};
+ghost use Rattle.managed_side.specs.Resolving.{MayClose};
+
+use crate::side::ManagedSide;
+use joint_model::{Alive, Cycle, Draw, Made, Op, Reply, Span, Thread, enter};
+
+/// What a resolution answers: where the freed rows stand in the list of freed ones, and how many candidates were kept.
+#[derive(Clone, Copy, PartialEq, Eq, Debug)]
+pub struct ResolveOut {
+    pub freed: Span,
+    pub kept: u32,
+}
+
+impl ManagedSide {
+    /// The open cycle's contraction is made, with so many components and cross-references. One entry is drawn and put last. It takes no memory.
+    pub fn contracted<D: Draw>(&mut self, draw: &mut D, index: u32, sccs: u32, xrefs: u32)
+        requires contracted { MayContractWith self.old.state sccs xrefs }
+        requires may { (c : OpenCycle) → self.old.state.managed.cycle ≡ Some c → MayDraw managed_rules (record { floor = D.floor; left = D.left; may = D.may; drew = D.drew }) draw.old self.old C (contract_op c) }
+        ensures contracts { (c : OpenCycle) → self.old.state.managed.cycle ≡ Some c → Contracts (record { floor = D.floor; left = D.left; may = D.may; drew = D.drew }) draw.old draw.new self.old self.new index sccs xrefs c }
+    {
+        let cycle = Cycle(self.rows.contract());
+        let made = Made {
+            caller: Thread::C,
+            index,
+            op: Op::Contract { cycle },
+            reply: Reply::Sccs(sccs, xrefs),
+            cites: None,
+        };
+        enter(&mut self.entries, draw, made, None, &[]);
+    }
+
+    /// Resolves the open cycle: frees the rows of the dead part that no candidate reaches that was answered alive, queues a notice for each of
+    /// them that holds a handle, in rising number, takes their pairs out of the registry, and closes the cycle. `alive` has one value for each
+    /// candidate, in rising number. One entry is drawn and put last; it cites `cites`. It takes no memory.
+    pub fn resolve<D: Draw>(
+        &mut self,
+        draw: &mut D,
+        index: u32,
+        cites: u64,
+        alive: &Alive,
+    ) -> ResolveOut
+        requires close { MayClose self.old.state alive.now.values }
+        requires may { (c : OpenCycle) → self.old.state.managed.cycle ≡ Some c → MayDraw managed_rules (record { floor = D.floor; left = D.left; may = D.may; drew = D.drew }) draw.old self.old C (resolve_op c) }
+        ensures resolves { Resolves (record { floor = D.floor; left = D.left; may = D.may; drew = D.drew }) draw.old draw.new self.old self.new index cites alive.now.values result }
+    {
+        let resolution = self.rows.resolve(alive);
+        let span = Span {
+            first: resolution.first,
+            count: resolution.freed.len() as u32,
+        };
+        let made = Made {
+            caller: Thread::C,
+            index,
+            op: Op::Resolve {
+                cycle: Cycle(resolution.cycle),
+            },
+            reply: Reply::Freed(span),
+            cites: Some(cites),
+        };
+        enter(&mut self.entries, draw, made, None, &resolution.freed);
+        ResolveOut {
+            freed: span,
+            kept: resolution.kept,
+        }
+    }
+
+    /// Closes the open cycle; nothing is freed. One entry is drawn and put last. It takes no memory.
+    pub fn abandon<D: Draw>(&mut self, draw: &mut D, index: u32)
+        requires open { IsSome self.old.state.managed.cycle }
+        requires may { (c : OpenCycle) → self.old.state.managed.cycle ≡ Some c → MayDraw managed_rules (record { floor = D.floor; left = D.left; may = D.may; drew = D.drew }) draw.old self.old C (abandon_op c) }
+        ensures abandons { (c : OpenCycle) → self.old.state.managed.cycle ≡ Some c → Abandons (record { floor = D.floor; left = D.left; may = D.may; drew = D.drew }) draw.old draw.new self.old self.new index c }
+    {
+        let cycle = Cycle(self.rows.abandon());
+        let made = Made {
+            caller: Thread::C,
+            index,
+            op: Op::Abandon { cycle },
+            reply: Reply::Ok,
+            cites: None,
+        };
+        enter(&mut self.entries, draw, made, None, &[]);
+    }
+}

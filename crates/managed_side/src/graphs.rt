@@ -1,0 +1,151 @@
+// The dead part of a snapshot as a graph value: its rows are the nodes, and their fields that lead to one another the edges.
+
+ghost use Rattle.std.specs.Prelude.{◌≡◌, ℕ, ◌+◌, ◌<◌, ◌≤◌, ◌↔◌, ◌⊎◌, [], All, Contains, Option, Some, None, IfOk, IfSome, OnOk, List, length, map, slice_get, true, nat_eq};
+ghost use Rattle.joint_model.specs.Components.{Rises};
+ghost use Rattle.joint_model.specs.Heaps.{IsLive, fields_of};
+ghost use Rattle.joint_model.specs.Histories.{managed_numbers};
+ghost use Rattle.bridge_graph.specs.Parts.{Leads, opaque_at, row_at};
+ghost use Rattle.managed_side.specs.Graphs.{ArePlaces, HasDeadField, HasPlaced, IsPlaceOf, held_at, handle_named, node_of};
+
+use crate::rows::Held;
+use bridge_graph::{DeadGraph, GraphBuilder};
+use joint_model::{HNum, MNum};
+use row_heap::RowHeap;
+use std::alloc::{AllocError, Global};
+
+// Where each row stands in the dead part, counted from 1; 0 at the number of each other row.
+fn places_of(alloc: Global, dead: &[MNum], made: u32) -> Result<Vec<u32>, AllocError>
+    requires within { All (λ m. m.0 ≤ made) dead.now }
+    requires few { length dead.now ≤ 65535 }
+    requires rise { Rises (managed_numbers dead.now) }
+    ensures exact { IfOk result (λ v. ArePlaces (length dead.now) (managed_numbers dead.now) v.items) }
+    ensures len { IfOk result (λ v. length v.items ≡ made + 1) }
+{
+    let mut places = vec![in alloc; 0u32; made as usize + 1]?;
+    for i in 0..dead.len() {
+        places[dead[i].0 as usize] = i as u32 + 1;
+    }
+    Ok(places)
+}
+
+// The handle beside a row.
+fn handle_at(infos: &[Held], m: MNum) -> Option<HNum>
+    requires row { (1 ≤ m.0) × (m.0 ≤ length infos.now) }
+    ensures { result ≡ handle_named (held_at (map (λ i. i.handle) infos.now) m.0) }
+{
+    match infos[m.0 as usize - 1].handle {
+        None => None,
+        Some(h) => Some(HNum(h)),
+    }
+}
+
+// Adds a node for each row.
+fn add_nodes(
+    heap: &RowHeap<MNum>,
+    infos: &[Held],
+    dead: &[MNum],
+    builder: &mut GraphBuilder,
+) -> Result<(), AllocError>
+    requires live { (m : ℕ) → Contains (managed_numbers dead.now) m → IsLive heap.now.heap m }
+    requires infos { length infos.now ≡ length heap.now.heap.fields }
+    requires few { length dead.now ≤ 65535 }
+    requires rise { Rises (managed_numbers dead.now) }
+    requires nodes { builder.old.nodes ≡ [] }
+    requires edges { builder.old.edges ≡ [] }
+    ensures nodes { OnOk result (builder.new.nodes ≡ map (node_of heap.now.heap (map (λ i. i.handle) infos.now)) dead.now) }
+    ensures edges { OnOk result ((a : ℕ) → row_at builder.new.edges a ≡ []) }
+{
+    for m in dead {
+        builder.node(*m, handle_at(infos, *m), heap.fields_len(m.0) == 0)?;
+    }
+    Ok(())
+}
+
+// Adds an edge from node `i` to the row that a field holds, if that has a place.
+fn add_edge(
+    places: &[u32],
+    field: Option<u32>,
+    i: u32,
+    builder: &mut GraphBuilder,
+) -> Result<(), AllocError>
+    requires from { i < length builder.old.nodes }
+    requires clear { opaque_at builder.old.nodes i ≡ true → ⊥ }
+    requires named { IfSome field (λ y. y < length places.now) }
+    requires within { (y k : ℕ) → slice_get places.now y ≡ Some (k + 1) → k < length builder.old.nodes }
+    ensures nodes { builder.new.nodes ≡ builder.old.nodes }
+    ensures edges { OnOk result ((a k : ℕ) → Leads builder.new.edges a k ↔ (Leads builder.old.edges a k ⊎ ((a ≡ i) × IsPlaceOf places.now field k))) }
+{
+    let Some(y) = field else {
+        return Ok(());
+    };
+    let place = places[y as usize];
+    if place == 0 {
+        return Ok(());
+    }
+    let _ = builder.nodes();
+    builder.edge(i, place - 1)
+}
+
+// Adds the edges of the row that is node `i`.
+fn add_row(
+    heap: &RowHeap<MNum>,
+    x: MNum,
+    i: u32,
+    places: &[u32],
+    builder: &mut GraphBuilder,
+) -> Result<(), AllocError>
+    requires live { IsLive heap.now.heap x.0 }
+    requires from { i < length builder.old.nodes }
+    requires clear { opaque_at builder.old.nodes i ≡ true → fields_of heap.now.heap x.0 ≡ [] }
+    requires places { length places.now ≡ length heap.now.heap.fields + 1 }
+    requires within { (y k : ℕ) → slice_get places.now y ≡ Some (k + 1) → k < length builder.old.nodes }
+    ensures nodes { builder.new.nodes ≡ builder.old.nodes }
+    ensures edges { OnOk result ((a k : ℕ) → Leads builder.new.edges a k ↔ (Leads builder.old.edges a k ⊎ ((a ≡ i) × HasPlaced places.now (fields_of heap.now.heap x.0) k))) }
+{
+    for j in 0..heap.fields_len(x.0) {
+        add_edge(places, heap.field(x.0, j), i, builder)?;
+    }
+    Ok(())
+}
+
+// Adds the edges of each row.
+fn add_edges(
+    heap: &RowHeap<MNum>,
+    dead: &[MNum],
+    places: &[u32],
+    builder: &mut GraphBuilder,
+) -> Result<(), AllocError>
+    requires live { (m : ℕ) → Contains (managed_numbers dead.now) m → IsLive heap.now.heap m }
+    requires few { length dead.now ≤ 65535 }
+    requires nodes { (held : List (Option ℕ)) × (builder.old.nodes ≡ map (node_of heap.now.heap held) dead.now) }
+    requires len { length places.now ≡ length heap.now.heap.fields + 1 }
+    requires places { ArePlaces (length dead.now) (managed_numbers dead.now) places.now }
+    ensures nodes { builder.new.nodes ≡ builder.old.nodes }
+    ensures edges { OnOk result ((a k : ℕ) → Leads builder.new.edges a k ↔ (Leads builder.old.edges a k ⊎ HasDeadField heap.now.heap (managed_numbers dead.now) a k)) }
+{
+    for i in 0..dead.len() {
+        add_row(heap, dead[i], i as u32, places, builder)?;
+    }
+    Ok(())
+}
+
+/// The graph of a dead part.
+pub(crate) fn graph_of(
+    alloc: Global,
+    heap: &RowHeap<MNum>,
+    infos: &[Held],
+    dead: &[MNum],
+) -> Result<DeadGraph, AllocError>
+    requires live { (m : ℕ) → Contains (managed_numbers dead.now) m → IsLive heap.now.heap m }
+    requires infos { length infos.now ≡ length heap.now.heap.fields }
+    requires few { length dead.now ≤ 65535 }
+    requires rise { Rises (managed_numbers dead.now) }
+    ensures nodes { IfOk result (λ g. g.nodes ≡ map (node_of heap.now.heap (map (λ i. i.handle) infos.now)) dead.now) }
+    ensures edges { IfOk result (λ g. (a k : ℕ) → Leads g.edges a k ↔ HasDeadField heap.now.heap (managed_numbers dead.now) a k) }
+{
+    let places = places_of(alloc, dead, heap.made())?;
+    let mut builder = GraphBuilder::new(alloc);
+    add_nodes(heap, infos, dead, &mut builder)?;
+    add_edges(heap, dead, &places, &mut builder)?;
+    Ok(builder.finish())
+}

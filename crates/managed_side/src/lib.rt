@@ -1,0 +1,31 @@
+// The managed side of the bridge in its final form: the managed heap with the handles that its objects hold, the registry of twins, weak
+// cells, pins and notices, and the list of what was done to them.
+//
+// The life of a side. `ManagedSide::new` makes one without objects. A thread's events come to `step`: each answers as the joint model says and
+// makes one entry, whose number is drawn from a `joint_model::Draw`. `take` brings the object of a thread's pin into a variable.
+//
+// A side is seen as its entries and the state of their replay: what holds at any time is that a lawful list has these entries and leads to
+// this state. Each call that makes an entry promises that it drew this entry and put it last, that the entry may come next by the definition
+// of the managed list, and that the state is the one after it. After a refusal for want of memory the side and the draw are as before.
+//
+// While a cycle is open `contracted` makes the entry of its contraction, and `resolve` or `abandon` closes it. There is room for the entries that
+// it still owes and for a notice per candidate, and the rows of its dead part are exactly the live rows without a mark, so that a resolution marks
+// within the dead part alone. None of the three calls takes memory.
+//
+// At the end `into_lists` gives the entries, the freed objects and all notices. The other calls only look.
+#![tactic(auto)]
+
+mod cycles;
+mod events;
+mod graphs;
+mod lines;
+mod open;
+mod resolving;
+mod rows;
+mod side;
+mod snapshots;
+mod twins;
+mod weak;
+
+pub use cycles::ResolveOut;
+pub use side::{ManagedLists, ManagedSide, TwinAnswer};

@@ -1,0 +1,246 @@
+// The managed side: its rows with the entries that it has made.
+
+ghost use Rattle.std.specs.Prelude.{◌≡◌, ℕ, ◌+◌, ◌<◌, ◌≤◌, ◌↔◌, [], Some, None, IfOk, OnErr, IsTrue, MatchOption, length};
+ghost use Rattle.joint_model.specs.declared.names.Thread.TheVariants.{C};
+ghost use Rattle.joint_model.specs.declared.events.Op.TheVariants as op;
+ghost use Rattle.joint_model.specs.Heaps.{IsLive, slot};
+ghost use Rattle.joint_model.specs.Lines.{IsManagedThread, IsVar};
+ghost use Rattle.joint_model.specs.Run.{thread_number};
+ghost use Rattle.joint_model.specs.Histories.{managed_numbers};
+ghost use Rattle.joint_model.specs.Managed.{OpenCycle};
+ghost use Rattle.joint_model.specs.ManagedReplay.{MayRefuse, opening_replay, registered};
+ghost use Rattle.joint_model.specs.Sides.{AddsLawful, IsReplayed, MayDraw, managed_rules, object_or_none};
+ghost use Rattle.joint_model.specs.Told.{nothing, phase_of};
+ghost use Rattle.managed_side.specs.Sides.{twin_answer};
+ghost use Rattle.managed_side.specs.Steps.{CitesRightly, IsFresh, IsManagedStep, step_made, take_op};
+
+use crate::lines::{number, place};
+use crate::rows::ManagedRows;
+use joint_model::{
+    Act, Cycle, Draw, Entries, MNum, Made, Op, PNum, Phase, PhaseWord, Reply, Thread, Var, enter,
+};
+use std::alloc::{AllocError, Global};
+use std::marker::Model;
+
+/// The managed objects with the handles that they hold, the registry, the cells, pins and notices, and the entries that the side has made. While
+/// a cycle is open there is room for the entries that it still owes.
+#[derive(Drop)]
+pub struct ManagedSide {
+    pub(crate) rows: ManagedRows,
+    pub(crate) entries: Entries,
+}
+
+impl Model for ManagedSide {
+    ghost use Rattle.joint_model.specs.ManagedReplay.{ManagedReplay};
+    ghost use Rattle.joint_model.specs.Sides.{Side, IsReplayed, managed_rules};
+    ghost use Rattle.managed_side.specs.Sides.{side_of, HasRoom};
+
+    ghost Value = { Side ManagedReplay };
+
+    ghost view = { λ s. side_of s.entries.entries s.rows };
+
+    ghost invariant = { λ s. IsReplayed managed_rules (side_of s.entries.entries s.rows) × HasRoom s.rows s.entries.spare };
+}
+
+/// The lists that a side ends with: its entries, its freed objects and its notices.
+#[derive(Drop)]
+pub struct ManagedLists {
+    pub entries: Entries,
+    pub freed: Vec<MNum>,
+    pub notices: Vec<MNum>,
+}
+
+/// Which managed object stands for a peer.
+#[derive(Clone, Copy, PartialEq, Eq, Debug)]
+pub enum TwinAnswer {
+    /// This one.
+    Found(MNum),
+    /// None.
+    NoTwin,
+    /// A cycle is open: this one.
+    Pending { cycle: Cycle },
+}
+
+impl ManagedSide {
+    /// A side without objects and entries. `threads` is how many managed threads there are; the side has places for the variables of all eight.
+    /// Answers `AllocError` where there is no memory.
+    pub fn new(alloc: Global, threads: u8) -> Result<ManagedSide, AllocError>
+        requires { threads ≤ 8 }
+        ensures entries { IfOk result (λ s. s.entries ≡ []) }
+        ensures state { IfOk result (λ s. s.state ≡ opening_replay) }
+    {
+        let _ = threads;
+        Ok(ManagedSide {
+            rows: ManagedRows::new(alloc),
+            entries: Entries::new(alloc),
+        })
+    }
+
+    /// What holds of every side, for the proofs of callers: its state is the replay of its entries. It does nothing.
+    pub fn replays(&self)
+        ensures { IsReplayed managed_rules self.now }
+    {
+        let _ = &self.entries;
+    }
+
+    /// Makes one event: of a managed thread a line that is one event, but for `take`, or `adopt`, `lend`, `meet` or `give`; or `finalise` of the driver.
+    /// `cites` is given exactly for `adopt` and `meet`, and the handle that one of these names was adopted by no entry. One entry is drawn and put
+    /// last. Answers `AllocError` where there is no memory, or where the entries would pass their limit; the side and `draw` are then as before.
+    pub fn step<D: Draw>(
+        &mut self,
+        draw: &mut D,
+        caller: Thread,
+        index: u32,
+        op: &Op,
+        cites: Option<u64>,
+    ) -> Result<Reply, AllocError>
+        requires event { IsManagedStep caller op.now }
+        requires fresh { IsFresh self.old.state op.now }
+        requires cites { CitesRightly op.now cites }
+        requires may { MayDraw managed_rules (record { floor = D.floor; left = D.left; may = D.may; drew = D.drew }) draw.old self.old caller op.now }
+        ensures adds { IfOk result (λ r. AddsLawful managed_rules (record { floor = D.floor; left = D.left; may = D.may; drew = D.drew }) draw.old draw.new self.old self.new (step_made caller index op.now r cites) nothing) }
+        ensures err { OnErr result ((self.new ≡ self.old) × (draw.new ≡ draw.old)) }
+    {
+        self.entries.reserve(3)?;
+        let target = self.rows.target(caller, op);
+        let reply = self.rows.step(caller, op)?;
+        let made = Made {
+            caller,
+            index,
+            op: *op,
+            reply,
+            cites,
+        };
+        enter(&mut self.entries, draw, made, target, &[]);
+        Ok(reply)
+    }
+
+    /// `take V` of a managed thread: V names the object of the thread's pin, which is emptied. One entry is drawn and put last. Answers `AllocError`
+    /// where there is no memory, or where the entries would pass their limit; the side and `draw` are then as before.
+    pub fn take<D: Draw>(
+        &mut self,
+        draw: &mut D,
+        caller: Thread,
+        index: u32,
+        v: Var,
+        pin: Option<MNum>,
+    ) -> Result<Reply, AllocError>
+        requires thread { IsManagedThread caller }
+        requires var { IsVar v }
+        requires pin { pin ≡ object_or_none (slot self.old.state.managed.pins (thread_number caller)) }
+        requires may { MayDraw managed_rules (record { floor = D.floor; left = D.left; may = D.may; drew = D.drew }) draw.old self.old caller (take_op v) }
+        ensures adds { IfOk result (λ r. AddsLawful managed_rules (record { floor = D.floor; left = D.left; may = D.may; drew = D.drew }) draw.old draw.new self.old self.new (step_made caller index (take_op v) r None) nothing) }
+        ensures err { OnErr result ((self.new ≡ self.old) × (draw.new ≡ draw.old)) }
+    {
+        let _ = pin;
+        self.entries.reserve(3)?;
+        let reply = self.rows.take(number(caller), place(caller, v));
+        let made = Made {
+            caller,
+            index,
+            op: Op::Line(Act::Take { v }),
+            reply,
+            cites: None,
+        };
+        enter(&mut self.entries, draw, made, None, &[]);
+        Ok(reply)
+    }
+
+    /// The driver's phase word is refused in its phase; nothing else changes. One entry is drawn and put last. Answers `AllocError` where there is no
+    /// memory, or where the entries would pass their limit; the side and `draw` are then as before.
+    pub fn refused<D: Draw>(
+        &mut self,
+        draw: &mut D,
+        index: u32,
+        word: PhaseWord,
+        phase: Phase,
+    ) -> Result<Reply, AllocError>
+        requires refused { MayRefuse self.old.state word phase }
+        requires may { MayDraw managed_rules (record { floor = D.floor; left = D.left; may = D.may; drew = D.drew }) draw.old self.old C (op.Refused word) }
+        ensures adds { IfOk result (λ r. AddsLawful managed_rules (record { floor = D.floor; left = D.left; may = D.may; drew = D.drew }) draw.old draw.new self.old self.new (step_made C index (op.Refused word) r None) (phase_of phase)) }
+        ensures err { OnErr result ((self.new ≡ self.old) × (draw.new ≡ draw.old)) }
+    {
+        self.entries.reserve(3)?;
+        let reply = self.rows.refusal(word, phase);
+        let made = Made {
+            caller: Thread::C,
+            index,
+            op: Op::Refused { word },
+            reply,
+            cites: None,
+        };
+        enter(&mut self.entries, draw, made, None, &[]);
+        Ok(reply)
+    }
+
+    /// What the pin of a managed thread holds; None exactly where it is empty.
+    pub fn pin(&self, t: Thread) -> Option<MNum>
+        requires { IsManagedThread t }
+        ensures { result ≡ object_or_none (slot self.now.state.managed.pins (thread_number t)) }
+    {
+        self.rows.pin(number(t)).map(|m| MNum(m))
+    }
+
+    /// The managed object that stands for a peer: `Pending` exactly where a cycle is open, else by the registry.
+    pub fn twin_for(&self, p: PNum) -> TwinAnswer
+        ensures { result ≡ twin_answer self.now.state.managed.cycle (registered self.now.state.registry p.0) }
+    {
+        if let Some(cycle) = self.rows.open_cycle() {
+            return TwinAnswer::Pending { cycle };
+        }
+        match self.rows.twin(p) {
+            None => TwinAnswer::NoTwin,
+            Some(m) => TwinAnswer::Found(m),
+        }
+    }
+
+    /// Whether object `m` was made and isn't freed.
+    pub fn is_live(&self, m: MNum) -> bool
+        ensures { IsTrue result ↔ IsLive self.now.state.managed.heap m.0 }
+    {
+        self.rows.heap.is_live(m.0)
+    }
+
+    /// How many objects are live.
+    pub fn live(&self) -> u32
+        ensures { result + length self.now.state.managed.heap.freed ≡ length self.now.state.managed.heap.fields }
+    {
+        self.rows.heap.live()
+    }
+
+    /// How many objects were made: the number of the last one.
+    pub fn made(&self) -> u32
+        ensures made { result ≡ length self.now.state.managed.heap.fields }
+        ensures most { result ≤ 65535 }
+    {
+        self.rows.heap.made()
+    }
+
+    /// The open cycle; None exactly where none is open.
+    pub fn open_cycle(&self) -> Option<Cycle>
+        ensures { MatchOption result (self.now.state.managed.cycle ≡ None) (λ k. (c : OpenCycle) × (self.now.state.managed.cycle ≡ Some c) × (c.number ≡ k.0)) }
+    {
+        self.rows.open_cycle()
+    }
+
+    /// Gives up the side for its entries, its freed objects in the order of freeing, and all notices that were ever queued, oldest first. It takes no
+    /// memory.
+    pub fn into_lists(self) -> ManagedLists
+        ensures entries { result.entries.entries ≡ self.entries }
+        ensures freed { managed_numbers result.freed.items ≡ self.state.managed.heap.freed }
+        ensures notices { managed_numbers result.notices.items ≡ self.state.managed.notices }
+    {
+        ManagedLists {
+            entries: self.entries,
+            freed: self.rows.heap.into_freed(),
+            notices: self.rows.notices.into_all(),
+        }
+    }
+
+    /// The entries that the side has made.
+    pub fn entries(&self) -> &Entries
+        ensures { result.now.entries ≡ self.now.entries }
+    {
+        &self.entries
+    }
+}
