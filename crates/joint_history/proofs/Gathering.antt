@@ -1,0 +1,202 @@
+-- At the end of a run all seats are taken into one, which knows both sides' lists whole and that each thread has come to rest.
+use Rattle.std.proofs.Common.{◌≡◌, ◌⊎◌, inl, inr, ⊎_elim, ℕ, ◌-◌, ◌<◌, ◌≤◌, List, [], ◌∷◌, ◌++◌, length, take, map, Some, None, refl, sym, ap, ◌∙◌, subst, arith}
+use Rattle.std.specs.Prelude.{Contains}
+use Rattle.std.proofs.lemmas.List.Elements.{Contains-push_cases}
+use Rattle.joint_history.specs.Ending.{AtRest, Gathered, GathersAll, IsIdle, Rests}
+use Rattle.std.proofs.lemmas.List.{append-nil, append_assoc}
+use Rattle.joint_model.proofs.Members.{Contains-nil}
+use Rattle.joint_history.specs.Callers.{CallerKnows}
+use Rattle.joint_history.specs.Locked.{ManagedKnows, PeerKnows}
+use Rattle.std.proofs.lemmas.Bool.{cases_eq, cases_lt}
+use Rattle.std.proofs.lemmas.Option.{slice_get_past}
+use Rattle.joint_model.specs.declared.names.MNum.{MNum}
+use Rattle.joint_model.specs.declared.names.PNum.{PNum}
+use Rattle.joint_model.specs.declared.names.Thread.{Thread}
+use Rattle.joint_model.specs.declared.names.Thread.TheVariants.{M, P, C}
+use Rattle.joint_model.specs.declared.events.Entry.{Entry}
+use Rattle.joint_model.specs.declared.events.Op.{Op}
+use Rattle.joint_model.specs.declared.events.Op.TheVariants as op
+use Rattle.joint_model.specs.declared.events.Reply.{Reply}
+use Rattle.joint_model.specs.Control.{Control, Doing, free, doing_at, doing_after, control_after, candidates_of, IsDone, IsAtRest}
+use Rattle.joint_model.specs.Components.{Rises}
+use Rattle.joint_model.specs.Histories.{Finished, IsJoinable, IsShuffle, managed_numbers, peer_numbers}
+use Rattle.joint_model.specs.HistoryLines.{caller_line, entries_in}
+use Rattle.joint_model.specs.Lines.{IsThread, IsEvent, IsManagedThread}
+use Rattle.joint_model.specs.Linked.{IsWhole, IsLinked}
+use Rattle.joint_model.specs.ManagedReplay.{ManagedReplay}
+use Rattle.joint_model.specs.PeerReplay.{PeerReplay}
+use Rattle.joint_model.specs.Sides.{Side}
+use Rattle.joint_model.specs.Told.{Told, Noted}
+use Rattle.joint_model.proofs.Joining.{slice_get-set_other}
+use Rattle.joint_laws.proofs.FittingLists.{linked_is_history}
+use Rattle.known_laws.specs.Growing.{HasEnded}
+use Rattle.known_laws.specs.Pasts.{Lawful, end_of, line}
+use Rattle.known_laws.proofs.Growing.{lines_give_parts}
+use Rattle.known_laws.proofs.Lists.{known_lists_are_lawful}
+use Rattle.order_table.specs.declared.views.View.{View}
+use Rattle.order_table.specs.Facts.{entries_of, line_entries}
+use Rattle.order_table.specs.Rule.{IsWhole as AllKnown}
+use Rattle.order_table.specs.Tells.{TakesIn, IsOneHistory}
+use Rattle.order_table.specs.Views.{Owns, OwnsAll}
+use Rattle.order_table.proofs.Wholes.{tell_lines}
+use Rattle.joint_history.specs.Knowing.{line_known}
+use Rattle.joint_history.specs.Callers.{HoldsPass}
+use Rattle.joint_history.proofs.Finishing.{lines_shuffle, shuffle_is_one}
+use Rattle.joint_history.proofs.KnownCallers.{own_line}
+use Rattle.joint_history.proofs.KnownViews.{views_join, whole_view_is_linked}
+use Rattle.joint_history.proofs.Standing.{widths}
+
+rests_so : (t : Thread) (a b : List Noted) → line (caller_line t) a ≡ line (caller_line t) b → Rests t (end_of b) → Rests t (end_of a)
+rests_so (M n) a b e d = subst IsDone (sym ((lines_give_parts a b).doing n e)) d
+rests_so (P n) a b e d = tt
+rests_so C a b e d = (lines_give_parts a b).stand e ∙ d
+
+-- one thread's seat more
+pub gather : (t : Thread) (v w u : View) (l : Side ManagedReplay) (r : Side PeerReplay) (ts : List Thread) → Gathered v l r ts → AtRest t w → TakesIn v w u → IsOneHistory u → Gathered u l r (ts ++ t ∷ [])
+gather t v w u l r ts g x k o =
+    let j = views_join v w u g.known x.known k o in
+    record {
+      known = j.joined;
+      managed_role = (k.owns 0).0 (inl g.managed_role);
+      peer_role = (k.owns 1).0 (inl g.peer_role);
+      managed_entries = ap line_entries (k.owned 0 g.managed_role) ∙ g.managed_entries;
+      managed = j.managed_first (ap line_entries (k.owned 0 g.managed_role)) ∙ g.managed;
+      peer_entries = ap line_entries (k.owned 1 g.peer_role) ∙ g.peer_entries;
+      peer = j.peer_first (ap line_entries (k.owned 1 g.peer_role)) ∙ g.peer;
+      passes = λ s c. ⊎_elim (λ h i q. (k.owns i).0 (inl (g.passes s h i q))) (λ e i q. (k.owns i).0 (inr (subst (λ z. HoldsPass z w) e x.pass i q))) (Contains-push_cases ts t s c);
+      rests = λ s c. ⊎_elim
+          (λ h. rests_so s j.joined.past g.known.past (j.first (caller_line s) (ap line_entries (k.owned (caller_line s) (g.passes s h (caller_line s) (own_line s))))) (g.rests s h))
+          (λ e. subst (λ z. Rests z (end_of j.joined.past)) e (rests_so t j.joined.past x.known.past (j.second (caller_line t) (ap line_entries (k.taken (caller_line t) (x.pass (caller_line t) (own_line t))))) x.rests))
+          (Contains-push_cases ts t s c);
+    }
+
+-- nobody is thread 0
+low : IsManagedThread (M 0) → ⊥
+low w = let a = w.0 in omega arith
+
+none_is_zero : (o : Op) → IsEvent (M 0) o → ⊥
+none_is_zero (op.Line a) e = low e.0.0
+none_is_zero (op.Make s n) e = low e.0
+none_is_zero (op.Adopt v k n p h) e = low e.0
+none_is_zero (op.Lend v x) e = low e.0
+none_is_zero (op.Land h x) e = low e.0
+none_is_zero (op.Grip x) e = low e.0
+none_is_zero (op.Meet v p h s n) e = low e.0
+none_is_zero (op.Give v) e = low e.0
+none_is_zero (op.Release h) e = low e
+none_is_zero op.Begin e = ⊎_elim (λ x. x) (λ x. x) e
+none_is_zero op.Sweep e = ⊎_elim (λ x. x) (λ x. x) e
+none_is_zero o e = e
+
+zero_after : (c : Control) (u : Thread) (n line : ℕ) (o : Op) (reply : Reply) (told : Told) → IsEvent u o → doing_at c 0 ≡ free → doing_at (control_after c u n line o reply told) 0 ≡ free
+zero_after c (M u) n line o reply told e f = ⊎_elim
+    (λ (z : u ≡ 0). absurd (none_is_zero o (subst (λ k. IsEvent (M k) o) z e)))
+    (λ (ne : u ≡ 0 → ⊥). ap (λ w. elim w as (λ x. Doing) [ None ↦ free | Some d ↦ d ]) (slice_get-set_other c.doing u 0 (doing_after n line o reply) (λ q. ne (sym q))) ∙ f)
+    (cases_eq u 0)
+zero_after c (P u) n line o reply told e f = f
+zero_after c C n line o reply told e f = f
+
+zero_free : (h : List Noted) → Lawful h → doing_at (end_of h).control 0 ≡ free
+zero_free [] w = refl
+zero_free (x ∷ h) w = zero_after (end_of h).control x.entry.made.caller x.entry.number x.entry.made.index x.entry.made.op x.entry.made.reply x.told w.0.comes.event (zero_free h w.1)
+
+late_free : (h : List Noted) (t : ℕ) → 9 ≤ t → doing_at (end_of h).control t ≡ free
+late_free h t l = ap (λ w. elim w as (λ x. Doing) [ None ↦ free | Some d ↦ d ]) (slice_get_past (end_of h).control.doing t (let w = (widths h).doings in omega arith))
+
+-- once all threads' seats are in, nothing has to follow
+all_rest : (v : View) (l : Side ManagedReplay) (r : Side PeerReplay) (ts : List Thread) (g : Gathered v l r ts) → ((t : Thread) → IsThread t → Contains ts t) → IsWhole (end_of g.known.past)
+all_rest v l r ts g all = record {
+  threads = λ t. ⊎_elim
+      (λ (z : t ≡ 0). subst (λ k. IsDone (doing_at (end_of g.known.past).control k)) (sym z) (subst IsDone (sym (zero_free g.known.past g.known.lawful)) tt))
+      (λ (ne : t ≡ 0 → ⊥). ⊎_elim
+      (λ (s : t < 9). g.rests (M t) (all (M t) (omega (arith, ne), omega arith)))
+      (λ b. subst IsDone (sym (late_free g.known.past t (omega (arith, b)))) tt)
+      (cases_lt t 9))
+      (cases_eq t 0);
+  driver = subst (λ s. IsAtRest s (length (candidates_of (end_of g.known.past).managed.managed))) (sym (g.rests C (all C tt))) tt;
+}
+
+-- and the history of both sides' lists is linked
+pub record Ends (l : Side ManagedReplay) (r : Side PeerReplay) (freed_managed : List MNum) (freed_peers : List PNum) (notices : List MNum) (w : List (List Entry)) (whole : List Entry) : Type 0 where
+  pub joinable : IsJoinable w freed_managed freed_peers notices
+  pub linked : (h : Finished) → IsShuffle w h.entries → h.freed_managed ≡ freed_managed → h.freed_peers ≡ freed_peers → h.notices ≡ notices → IsLinked h × (h.entries ≡ whole)
+
+pub all_gathered : (v : View) (l : Side ManagedReplay) (r : Side PeerReplay) (ts : List Thread) (g : Gathered v l r ts) → ((t : Thread) → IsThread t → Contains ts t) → (w : AllKnown v.known) → (freed_managed : List MNum) (freed_peers : List PNum) (notices : List MNum)
+    → managed_numbers freed_managed ≡ l.state.managed.heap.freed → peer_numbers freed_peers ≡ r.state.peers.heap.freed → managed_numbers notices ≡ l.state.managed.notices
+    → Ends l r freed_managed freed_peers notices (l.entries ∷ r.entries ∷ []) (entries_of w.whole)
+all_gathered v l r ts g all w freed_managed freed_peers notices fm fp ns =
+    let told = tell_lines w.whole w.numbers in
+    let whole = entries_of w.whole in
+    let h : Finished = record { entries = whole; freed_managed = freed_managed; freed_peers = freed_peers; notices = notices } in
+    let s = end_of g.known.past in
+    let ended : HasEnded h s = record {
+      whole = all_rest v l r ts g all;
+      freed_managed = fm ∙ ap (λ (m : ManagedReplay). m.managed.heap.freed) (sym g.managed);
+      freed_peers = fp ∙ ap (λ (p : PeerReplay). p.peers.heap.freed) (sym g.peer);
+      notices = ap (λ ms. take s.managed.managed.taken ms) (ns ∙ ap (λ (m : ManagedReplay). m.managed.notices) (sym g.managed));
+    } in
+    let is = whole_view_is_linked h v g.known w refl ended in
+    let left : line_known v 0 ≡ entries_in 0 whole = ap line_entries (w.each 0 (omega arith)) ∙ told.lines 0 in
+    let right : line_known v 1 ≡ entries_in 1 whole = ap line_entries (w.each 1 (omega arith)) ∙ told.lines 1 in
+    let lists = known_lists_are_lawful g.known.past g.known.lawful in
+    let rise0 = subst (λ es. Rises (map (λ (e : Entry). e.number) es)) (sym (g.known.same 0) ∙ left) (lists.rise 0) in
+    let rise1 = subst (λ es. Rises (map (λ (e : Entry). e.number) es)) (sym (g.known.same 1) ∙ right) (lists.rise 1) in
+    let shuffle = subst (λ a. IsShuffle (a ∷ r.entries ∷ []) whole) (sym left ∙ g.managed_entries) (subst (λ b. IsShuffle (entries_in 0 whole ∷ b ∷ []) whole) (sym right ∙ g.peer_entries) (lines_shuffle whole told.numbered rise0 rise1)) in
+    record {
+      joinable = record { whole = whole; shuffle = shuffle; fits = (linked_is_history h is.noted is.linked).fits };
+      linked = λ k sh a b c. let same = shuffle_is_one (l.entries ∷ r.entries ∷ []) k.entries whole sh shuffle in
+          (subst IsLinked (λ i. record { entries = sym same i; freed_managed = sym a i; freed_peers = sym b i; notices = sym c i }) is, same);
+    }
+
+-- who has gathered all threads' seats owns every line
+pub owns_all : (v : View) (l : Side ManagedReplay) (r : Side PeerReplay) (ts : List Thread) → Gathered v l r ts → ((t : Thread) → IsThread t → Contains ts t) → OwnsAll v
+owns_all v l r ts g all i few = ⊎_elim
+    (λ (z : i ≡ 0). subst (Owns v) (sym z) g.managed_role)
+    (λ (n0 : i ≡ 0 → ⊥). ⊎_elim
+    (λ (z : i ≡ 1). subst (Owns v) (sym z) g.peer_role)
+    (λ (n1 : i ≡ 1 → ⊥). ⊎_elim
+    (λ (s : i < 10). g.passes (M (i - 1)) (all (M (i - 1)) (omega (arith, n0, n1), omega arith)) i (inr (omega (arith, n0))))
+    (λ (b : 10 ≤ i). ⊎_elim
+    (λ (z : i ≡ 10). g.passes C (all C tt) i (z ∙ omega arith))
+    (λ (n10 : i ≡ 10 → ⊥). ⊎_elim
+    (λ (s : i < 19). g.passes (M (i - 10)) (all (M (i - 10)) (omega (arith, n10, b), omega arith)) i (inl (omega (arith, b))))
+    (λ (c : 19 ≤ i). g.passes (P (i - 18)) (all (P (i - 18)) (omega (arith, c), omega (arith, few))) i (omega (arith, c)))
+    (cases_lt' i 19))
+    (cases_eq i 10))
+    (cases_lt' i 10))
+    (cases_eq i 1))
+    (cases_eq i 0)
+  where
+    cases_lt' : (a b : ℕ) → (a < b) ⊎ (b ≤ a)
+    cases_lt' a b = ⊎_elim (λ s. inl s) (λ g'. inr (omega (arith, g'))) (cases_lt a b)
+
+-- a caller that has nothing to release, and is idle if it is the driver's, has come to rest
+pub caller_at_rest : (t : Thread) (v : View) → CallerKnows t v → HoldsPass t v → IsIdle (record { thread = t; view = v }) → AtRest t v
+caller_at_rest (M n) v k h i = record { known = k.known; pass = h; rests = k.released }
+caller_at_rest (P n) v k h i = record { known = k.known; pass = h; rests = tt }
+caller_at_rest C v k h i = let w = i tt in record { known = w.0; pass = h; rests = w.1 }
+
+pub gathers_one : (t : Thread) (v w u : View) → AtRest t w → TakesIn v w u → IsOneHistory u → GathersAll v u (t ∷ [])
+gathers_one t v w u x k o l r ts g = gather t v w u l r ts g x k o
+
+pub gathers_none : (v : View) → GathersAll v v []
+gathers_none v l r ts g = subst (Gathered v l r) (sym (append-nil ts)) g
+
+pub gathers_then : (v w u : View) (xs ys : List Thread) → GathersAll v w xs → GathersAll w u ys → GathersAll v u (xs ++ ys)
+gathers_then v w u xs ys a b l r ts g = subst (Gathered u l r) (append_assoc ts xs ys) (b l r (ts ++ xs) (a l r ts g))
+
+-- both sides' seats together
+pub gathered_first : (v w u : View) (l : Side ManagedReplay) (r : Side PeerReplay) → ManagedKnows v l → PeerKnows w r → Owns v 0 → Owns w 1 → TakesIn v w u → IsOneHistory u → Gathered u l r []
+gathered_first v w u l r a b m p k o =
+    let j = views_join v w u a.known b.known k o in
+    record {
+      known = j.joined;
+      managed_role = (k.owns 0).0 (inl m);
+      peer_role = (k.owns 1).0 (inr p);
+      managed_entries = ap line_entries (k.owned 0 m) ∙ a.entries;
+      managed = j.managed_first (ap line_entries (k.owned 0 m)) ∙ a.state;
+      peer_entries = ap line_entries (k.taken 1 p) ∙ b.entries;
+      peer = j.peer_second (ap line_entries (k.taken 1 p)) ∙ b.state;
+      passes = λ t c. absurd (Contains-nil t c);
+      rests = λ t c. absurd (Contains-nil t c);
+    }

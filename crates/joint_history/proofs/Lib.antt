@@ -1,0 +1,12 @@
+pub mod KnownViews
+pub mod Floors
+pub mod Handing
+pub mod KnownCallers
+pub mod Standing
+pub mod LockedSteps
+pub mod Fresh
+pub mod LastLines
+pub mod Desking
+pub mod Finishing
+pub mod Gathering
+pub mod Turning

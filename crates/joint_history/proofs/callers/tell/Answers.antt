@@ -1,0 +1,27 @@
+use Rattle.std.proofs.Common.{subst, ◌∙◌}
+use Rattle.joint_history.proofs.KnownCallers.{caller_same, caller_joins, hears, pass_kept, pass_joined}
+use Rattle.joint_history.specs.Callers.{Hears, Pass}
+use Rattle.joint_history.proofs.callers.tell.Goals as goal
+
+pub invariant_of-from : goal.invariant_of-from
+invariant_of-from g c = (
+  c.from.invariant.0,
+  c.note-note.ensures.old.0 ∙ c.from.invariant.1,
+  pass_kept c.from.inside.thread _ _ c.note-note.result.view c.note-note.ensures.parts c.from.invariant.2,
+  caller_same c.from.inside.thread _ _ c.from.invariant.3 (λ i. (c.note-note.ensures.parts.know i).0),
+)
+
+pub invariant_of-to : goal.invariant_of-to
+invariant_of-to g c = (
+  c.to.invariant.0,
+  c.learn.ensures.seat.0 ∙ c.to.invariant.1,
+  pass_joined c.to.inside.thread _ c.note-note.result.view _ c.learn.ensures.takes c.to.invariant.2,
+  caller_joins c.to.inside.thread _ c.note-note.result.view _ c.to.invariant.3
+      (caller_same c.from.inside.thread _ c.note-note.result.view c.from.invariant.3 (λ i. (c.note-note.ensures.parts.know i).1)).known c.learn.ensures.takes c.learn.ensures.one_history c.to.invariant.2,
+)
+
+pub returns-clause-to : goal.returns-clause-to
+returns-clause-to g c =
+    let now : Pass = record { thread = c.to.inside.thread; view = c.learn.new.seat.view } in
+    subst (λ p. Hears p c.args.to.now now) c.from.view_is (subst (λ p. Hears (record { thread = c.from.inside.thread; view = c.from.inside.seat.view }) p now) c.to.view_is
+    (hears c.to.inside.thread c.from.inside.thread _ c.note-note.new.seat.view c.note-note.result.view _ _ c.note-note.ensures.parts c.learn.ensures.takes c.to.invariant.2))

@@ -1,0 +1,60 @@
+-- What a caller is seen as, and what it knows.
+use Rattle.std.specs.Prelude.{◌≡◌, ◌⊎◌, ℕ, List, [], ◌∷◌}
+use mathlib.Core.List.{IsPrefix}
+use Rattle.joint_model.specs.declared.names.Thread.{Thread}
+use Rattle.joint_model.specs.declared.names.Thread.TheVariants.{M}
+use Rattle.joint_model.specs.declared.events.Entry.{Entry}
+use Rattle.joint_model.specs.Control.{doing_at, IsDone}
+use Rattle.joint_model.specs.HistoryLines.{caller_line}
+use Rattle.joint_model.specs.Linked.{Linkage}
+use Rattle.known_laws.specs.Pasts.{end_of}
+use Rattle.order_table.specs.declared.views.View.{View}
+use Rattle.order_table.specs.Tells.{IsOfCaller}
+use Rattle.order_table.specs.Views.{known, Owns}
+use Rattle.joint_history.specs.Knowing.{line_known, IsKnownView}
+
+-- a caller: which thread it is, and what it knows
+pub record Pass : Type 0 where
+  pub thread : Thread
+  pub view : View
+
+-- the entries that the caller has made
+abbrev pub own : Pass → List Entry
+own p = line_known p.view (caller_line p.thread)
+
+-- the thread has nothing in hand that it has to release
+abbrev pub HasReleased : Thread → Linkage → Type 0
+HasReleased (M n) s = IsDone (doing_at s.control n)
+HasReleased t s = Unit {0}
+
+-- a caller knows a past, at whose end it has nothing to release
+pub record CallerKnows (t : Thread) (v : View) : Type 0 where
+  pub known : IsKnownView v
+  pub released : HasReleased t (end_of known.past)
+
+-- the view knows no entry
+abbrev pub KnowsNothing : View → Type 0
+KnowsNothing v = (i : ℕ) → known v i ≡ []
+
+-- it holds its thread's pass, and the role of that reader
+abbrev pub HoldsPass : Thread → View → Type 0
+HoldsPass t v = (i : ℕ) → IsOfCaller t i → Owns v i
+
+-- a caller told what it knows, and knows the same
+pub record Tells (old new : Pass) : Type 0 where
+  pub thread : new.thread ≡ old.thread
+  pub same : (i : ℕ) → known new.view i ≡ known old.view i
+
+-- a caller was told what another knows: of each line it knows the longer list, which the other begins; its own entries are the same
+pub record Hears (other old new : Pass) : Type 0 where
+  pub thread : new.thread ≡ old.thread
+  pub own_stay : own new ≡ own old
+  pub either : (i : ℕ) → (known new.view i ≡ known old.view i) ⊎ (known new.view i ≡ known other.view i)
+  pub knew : (i : ℕ) → IsPrefix (known old.view i) (known new.view i)
+  pub heard : (i : ℕ) → IsPrefix (known other.view i) (known new.view i)
+
+-- the line of the last of these entries; 0 where there is none
+abbrev pub last_index : List Entry → ℕ
+last_index [] = 0
+last_index (e ∷ []) = e.made.index
+last_index (e ∷ f ∷ es) = last_index (f ∷ es)

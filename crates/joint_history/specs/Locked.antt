@@ -1,0 +1,100 @@
+-- What a side's seat knows under its lock, and what a locked call does to the caller's seat.
+use Rattle.std.specs.Prelude.{◌≡◌, ℕ, ◌≤◌, [], ◌∷◌, ◌++◌, Option, None}
+use mathlib.Core.List.{IsPrefix}
+use Rattle.joint_model.specs.declared.names.Thread.{Thread}
+use Rattle.joint_model.specs.declared.names.Thread.TheVariants.{M, P, C}
+use Rattle.joint_model.specs.declared.events.Entry.{Entry}
+use Rattle.joint_model.specs.declared.events.Made.{Made}
+use Rattle.joint_model.specs.declared.events.Op.{Op}
+use Rattle.joint_model.specs.declared.events.Reply.{Reply}
+use Rattle.joint_model.specs.Control.{Control, Doing, free, doing_at, doing_after, last_line, ThreadAllows}
+use Rattle.joint_model.specs.HistoryLines.{caller_line}
+use Rattle.joint_model.specs.Linked.{Linkage, MayCome}
+use Rattle.joint_model.specs.ManagedReplay.{ManagedReplay}
+use Rattle.joint_model.specs.PeerReplay.{PeerReplay}
+use Rattle.joint_model.specs.Sides.{Side, SideRules, GoesOn}
+use Rattle.joint_model.specs.Told.{Told}
+use Rattle.known_laws.specs.Pasts.{end_of}
+use Rattle.order_table.specs.declared.views.Kept.{Kept}
+use Rattle.order_table.specs.declared.views.View.{View}
+use Rattle.order_table.specs.Rule.{IsBelow}
+use Rattle.order_table.specs.Views.{OrderId, Shown, known}
+use Rattle.joint_history.specs.Passing.{Appends}
+use Rattle.joint_history.specs.Knowing.{line_known, note_of, IsKnownView}
+
+-- the managed side's seat knows a past: its managed line is the side's list, and at its end the managed side is as this one
+pub record ManagedKnows (v : View) (s : Side ManagedReplay) : Type 0 where
+  pub known : IsKnownView v
+  pub entries : line_known v 0 ≡ s.entries
+  pub state : (end_of known.past).managed ≡ s.state
+
+-- the peer side's seat knows a past: its peer line is the side's list, and at its end the peer side is as this one
+pub record PeerKnows (v : View) (s : Side PeerReplay) : Type 0 where
+  pub known : IsKnownView v
+  pub entries : line_known v 1 ≡ s.entries
+  pub state : (end_of known.past).peer ≡ s.state
+
+-- what a thread is in the midst of; only a managed thread's operations have more than one entry
+abbrev pub doing_of : Thread → Control → Doing
+doing_of (M n) s = doing_at s n
+doing_of t s = free
+
+-- a caller stands so: the line of its last entry isn't above this one, and it is in the midst of this
+pub record Stands (t : Thread) (v : View) (index : ℕ) (d : Doing) : Type 0 where
+  pub known : IsKnownView v
+  pub last : last_line (end_of known.past).control t ≤ index
+  pub doing : doing_of t (end_of known.past).control ≡ d
+
+-- it is the thread's turn to make the event on that line, by what it is in the midst of
+abbrev pub IsTurn : Thread → Doing → ℕ → Op → Option ℕ → Type 0
+IsTurn (M n) d index o cites = ThreadAllows d (M n) index o cites
+IsTurn (P n) d index o cites = cites ≡ None
+IsTurn C d index o cites = ⊥
+
+-- so it is by what the thread's seat knows
+pub record MayMake (t : Thread) (v : View) (index : ℕ) (o : Op) (cites : Option ℕ) : Type 0 where
+  pub doing : Doing
+  pub stands : Stands t v index doing
+  pub turn : IsTurn t doing index o cites
+
+-- what a thread is in the midst of after its entry
+abbrev pub doing_from : Thread → Entry → Doing
+doing_from (M n) e = doing_after e.number e.made.index e.made.op e.made.reply
+doing_from t e = free
+
+-- the caller made an entry: it knows all that it knew, and that entry as its last, whose number is above all that it knew; and the entry
+-- may come after a past
+pub record Makes (t : Thread) (old new : View) (e : Entry) (told : Told) : Type 0 where
+  pub own : line_known new (caller_line t) ≡ line_known old (caller_line t) ++ e ∷ []
+  pub more : (i : ℕ) → IsPrefix (known old i) (known new i)
+  pub above : (i : ℕ) → IsBelow e.number (known old i)
+  pub stands : Stands t new e.made.index (doing_from t e)
+  pub state : Linkage
+  pub comes : MayCome state (note_of e told)
+
+-- the caller made no entry: it knows all that it knew, and stands where it stood
+pub record MakesNone (t : Thread) (old new : View) : Type 0 where
+  pub own : line_known new (caller_line t) ≡ line_known old (caller_line t)
+  pub more : (i : ℕ) → IsPrefix (known old i) (known new i)
+  pub stands : (index : ℕ) (d : Doing) → Stands t old index d → Stands t new index d
+
+-- what a caller makes
+abbrev pub made_by : Thread → ℕ → Op → Reply → Option ℕ → Made
+made_by t index o reply cites = record { caller = t; index = index; op = o; reply = reply; cites = cites }
+
+-- the side drew one entry by its seat and put it last: the entry may come next in its list, and the side's state is the one after it
+pub record Drew {S : Type 0} (r : SideRules S) (line : ℕ) (order : OrderId) (seat seat' : Shown) (side side' : Side S) (e : Entry) (told : Told) : Type 0 where
+  pub kept : Kept
+  pub entry : kept.entry ≡ e
+  pub appends : Appends order order seat seat' line kept
+  pub added : side'.entries ≡ side.entries ++ e ∷ []
+  pub goes : GoesOn r side.state e.made told side'.state
+
+-- what is under a side's lock
+pub record UnderManaged : Type 0 where
+  pub side : Side ManagedReplay
+  pub view : View
+
+pub record UnderPeer : Type 0 where
+  pub side : Side PeerReplay
+  pub view : View

@@ -1,0 +1,127 @@
+// The callers that weren't given out yet.
+
+ghost use Rattle.std.specs.Prelude.{◌≡◌, ◌≤◌, ◌<◌, IfOk, IsTrue, true};
+ghost use Rattle.joint_model.specs.Control.{caller_place};
+ghost use Rattle.joint_model.specs.Lines.{IsThread};
+ghost use Rattle.order_table.specs.Views.{Owns, OwnsAll};
+ghost use Rattle.joint_history.specs.Callers.{KnowsNothing};
+ghost use Rattle.joint_history.specs.Desks.{AreAll, has_thread, thread_of, waits, without_caller};
+
+use crate::callers::Caller;
+use joint_model::Thread;
+use order_table::{Order, OrderName, Seat};
+use std::alloc::{AllocError, Global};
+use std::marker::Model;
+
+/// The callers of a run that nobody has yet: of the driver and of so many managed and peer threads.
+#[derive(Drop)]
+pub struct Desk<N: OrderName> {
+    managed: u8,
+    peers: u8,
+    callers: Vec<Option<Caller<N>>>,
+}
+
+impl<N: OrderName> Model for Desk<N> {
+    ghost use Rattle.joint_history.specs.Desks.{IsDesk, Waiting};
+
+    ghost Value = { Waiting };
+
+    ghost view = { λ d. record { managed = d.managed; peers = d.peers; callers = d.callers.items } };
+
+    ghost invariant = { λ d. IsDesk record { managed = d.managed; peers = d.peers; callers = d.callers.items } };
+}
+
+// The thread with that place: the driver, m1 to m8, p1 to p8.
+fn thread_at(place: u8) -> Thread
+    requires { place < 17 }
+    ensures { result ≡ thread_of place }
+{
+    if place == 0 {
+        Thread::C
+    } else if place <= 8 {
+        Thread::M(place)
+    } else {
+        Thread::P(place - 8)
+    }
+}
+
+// The place of a thread.
+fn place_of(t: Thread) -> usize
+    requires { IsThread t }
+    ensures { result ≡ caller_place t }
+{
+    match t {
+        Thread::M(n) => n as usize,
+        Thread::P(n) => 8 + n as usize,
+        Thread::C => 0,
+    }
+}
+
+// All callers, by place, with lines that a seat gives away which holds all of them.
+fn all_callers<N: OrderName>(
+    alloc: Global,
+    order: &Order,
+    seat: &mut Seat,
+) -> Result<Vec<Option<Caller<N>>>, AllocError>
+    requires order { (order.now ≡ N.order) × (seat.old.order ≡ N.order) }
+    requires seat { OwnsAll seat.old.view × KnowsNothing seat.old.view }
+    ensures order { seat.new.order ≡ N.order }
+    ensures seat { Owns seat.new.view 0 × Owns seat.new.view 1 × KnowsNothing seat.new.view }
+    ensures callers { IfOk result (λ v. AreAll v.items) }
+{
+    let mut callers = Vec::new(alloc);
+    for place in 0..17u8 {
+        let t = thread_at(place);
+        let pass = order.hand(seat, t);
+        callers.push(Some(Caller::new(t, pass)))?;
+    }
+    Ok(callers)
+}
+
+impl<N: OrderName> Desk<N> {
+    /// A desk at which every caller waits, with the lines that a seat gives away which holds all of them. Answers `AllocError` where there is no
+    /// memory.
+    pub(crate) fn new(
+        alloc: Global,
+        order: &Order,
+        seat: &mut Seat,
+        managed: u8,
+        peers: u8,
+    ) -> Result<Desk<N>, AllocError>
+        requires counts { (managed ≤ 8) × (peers ≤ 8) }
+        requires order { (order.now ≡ N.order) × (seat.old.order ≡ N.order) }
+        requires seat { OwnsAll seat.old.view × KnowsNothing seat.old.view }
+        ensures order { seat.new.order ≡ N.order }
+        ensures seat { Owns seat.new.view 0 × Owns seat.new.view 1 × KnowsNothing seat.new.view }
+        ensures desk { IfOk result (λ d. (d.managed ≡ managed) × (d.peers ≡ peers) × AreAll d.callers) }
+    {
+        let callers = all_callers(alloc, order, seat)?;
+        Ok(Desk {
+            managed,
+            peers,
+            callers,
+        })
+    }
+
+    // Whether there is such a thread.
+    fn has(&self, t: Thread) -> bool
+        ensures { result ≡ has_thread self.now t }
+    {
+        match t {
+            Thread::M(n) => 1 <= n && n <= self.managed,
+            Thread::P(n) => 1 <= n && n <= self.peers,
+            Thread::C => true,
+        }
+    }
+
+    /// The thread's caller; None exactly where there is no such thread or its caller was given out.
+    pub fn caller(&mut self, t: Thread) -> Option<Caller<N>>
+        ensures caller { result ≡ waits self.old t }
+        ensures desk { self.new ≡ without_caller self.old t }
+    {
+        if !self.has(t) {
+            return None;
+        }
+        self.callers[place_of(t)].take()
+    }
+}

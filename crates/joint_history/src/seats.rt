@@ -1,0 +1,63 @@
+// How a caller's seat is handed to a locked one and back, and how a side draws by a seat.
+
+ghost use Rattle.std.specs.Prelude.{◌≡◌, ℕ};
+ghost use mathlib.Core.List.{IsPrefix};
+ghost use Rattle.joint_model.specs.HistoryLines.{caller_line};
+ghost use Rattle.joint_model.specs.Lines.{IsThread};
+ghost use Rattle.order_table.specs.Views.{known, Owns};
+ghost use Rattle.joint_history.specs.Passing.{Lends, Returns};
+
+use joint_model::{Draw, MNum, Made, Thread};
+use order_table::{Order, Role, Seat};
+
+/// Hands a caller's pass to a locked seat, with all that the caller knows.
+pub(crate) fn lend(order: &Order, locked: &mut Seat, mine: &mut Seat, t: Thread)
+    requires order { (locked.old.order ≡ order.now) × (mine.old.order ≡ order.now) }
+    requires pass { IsThread t × Owns mine.old.view (caller_line t) }
+    ensures order { (locked.new.order ≡ order.now) × (mine.new.order ≡ order.now) }
+    ensures lent { Lends t locked.old.view mine.old.view locked.new.view mine.new.view }
+{
+    let pass = order.hand(mine, t);
+    order.learn(locked, pass);
+}
+
+/// Hands a caller's pass back from a locked seat, with all that the locked one knows.
+pub(crate) fn give_back(order: &Order, locked: &mut Seat, mine: &mut Seat, t: Thread)
+    requires order { (locked.old.order ≡ order.now) × (mine.old.order ≡ order.now) }
+    requires pass { IsThread t × Owns locked.old.view (caller_line t) }
+    requires more { (i : ℕ) → IsPrefix (known mine.old.view i) (known locked.old.view i) }
+    ensures order { (locked.new.order ≡ order.now) × (mine.new.order ≡ order.now) }
+    ensures returned { Returns t locked.old.view mine.old.view locked.new.view mine.new.view }
+{
+    let pass = order.hand(locked, t);
+    order.learn(mine, pass);
+}
+
+/// Draws the numbers of a side's entries by a seat that owns the side's role, and keeps the last one.
+#[derive(Drop)]
+pub(crate) struct Drawing<'a> {
+    pub(crate) order: &'a Order,
+    pub(crate) seat: &'a mut Seat,
+    pub(crate) role: Role,
+    pub(crate) last: u64,
+}
+
+impl<'a> Draw for Drawing<'a> {
+    ghost use Rattle.std.specs.Prelude.{◌≡◌};
+    ghost use Rattle.order_table.specs.Views.{kept, role_line};
+    ghost use Rattle.joint_history.specs.Passing.{floor_of, left_in, MayAppend, Appends};
+
+    ghost floor = { λ d. floor_of d.seat.now.view };
+
+    ghost left = { λ d. left_in d.seat.now.view (role_line d.role) };
+
+    ghost may = { λ d t o m. MayAppend d.order.now d.seat.now (role_line d.role) t o };
+
+    ghost drew = { λ d e m freed d'. (d'.seat.ghost_name ≡ d.seat.ghost_name) × (d'.role ≡ d.role) × (d'.last ≡ e.number) × Appends d.order.now d'.order.now d.seat.now d'.seat.now (role_line d.role) (kept d.seat.now.view e.made m freed e.number) };
+
+    fn draw(&mut self, made: &Made, target: Option<MNum>, freed: &[MNum]) -> u64 {
+        let number = self.order.append(self.seat, self.role, made, target, freed);
+        self.last = number;
+        number
+    }
+}
