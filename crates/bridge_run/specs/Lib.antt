@@ -1,4 +1,5 @@
 pub mod Top
+pub mod Ends
 pub mod Wholes
 pub mod Runs
 pub mod Going

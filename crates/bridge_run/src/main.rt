@@ -3,6 +3,7 @@
 
 mod answers;
 mod cycle;
+mod program;
 mod serial;
 mod sides;
 mod streams;
@@ -12,22 +13,19 @@ mod top;
 mod words;
 
 use bridge_script::FreeTurn;
+use program::run_program;
 use std::process::ExitCode;
 use streams::{StdSink, StdSource};
-use top::bridge_main;
 
+// No clause may stand here, so this only puts the real objects together: what happens with them, and the exit code,
+// are `run_program`'s.
 fn main(rt: HostRuntime) -> ExitCode {
-    let alloc = rt.alloc();
-    let mut words = Vec::new(alloc);
-    let Ok(args) = std::env::args(&rt) else {
-        return ExitCode::from(5);
-    };
-    for word in args.skip(1) {
-        if words.push(word).is_err() {
-            return ExitCode::from(5);
-        }
-    }
-    let mut source = StdSource::new(rt.reader());
-    let mut sink = StdSink::new(std::io::writer(&rt));
-    ExitCode::from(bridge_main(&rt, alloc, &words, &mut source, &mut sink, &FreeTurn))
+    run_program(
+        &rt,
+        rt.alloc(),
+        std::env::args(&rt),
+        &mut StdSource::new(rt.reader()),
+        &mut StdSink::new(std::io::writer(&rt)),
+        &FreeTurn,
+    )
 }
