@@ -2,3 +2,4 @@ pub mod Rows
 pub mod Steps
 pub mod Marks
 pub mod Sides
+pub mod Marking

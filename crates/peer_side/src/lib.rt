@@ -13,11 +13,16 @@
 // a name or a handle gives is marked with all that it reaches.
 //
 // `rows.rt` has the peers and handles, each of whose calls is one event of the definition, without its entry; `side.rt` puts the entry to it.
+//
+// `marking.rt` opens a marking, which marks what slots and strong handles name, with all that it reaches, and brings a peer back; `sweeping.rt`
+// ends it: the peers without a mark are freed, and the handles on them are cleared. Neither takes memory, nor puts an entry to it.
 #![tactic(auto)]
 
 mod laws;
+mod marking;
 mod rows;
 mod side;
+mod sweeping;
 
 pub use laws::steps_keep_marks;
 pub use side::{PeerLists, PeerSide};
