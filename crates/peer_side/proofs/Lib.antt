@@ -9,3 +9,5 @@ pub mod Clearing
 pub mod Whole
 pub mod Fitting
 pub mod Opened
+pub mod Ends
+pub mod Makings

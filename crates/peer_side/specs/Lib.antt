@@ -3,3 +3,4 @@ pub mod Steps
 pub mod Marks
 pub mod Sides
 pub mod Marking
+pub mod Makings

@@ -92,6 +92,13 @@ impl PeerRows {
         self.heap.live()
     }
 
+    /// How many peers were freed.
+    pub(crate) fn freed(&self) -> u32
+        ensures { result ≡ length self.now.rows.heap.freed }
+    {
+        self.heap.made() - self.heap.live()
+    }
+
     /// Gives up the peers for the list of those that were freed. It takes no memory.
     pub(crate) fn into_freed(self) -> Vec<PNum>
         ensures { peer_numbers result.items ≡ self.rows.heap.freed }
