@@ -4,3 +4,10 @@ pub mod Events
 pub mod Steps
 pub mod Marks
 pub mod Sides
+pub mod Roots
+pub mod Clearing
+pub mod Whole
+pub mod Fitting
+pub mod Opened
+pub mod Ends
+pub mod Makings

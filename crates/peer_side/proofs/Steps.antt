@@ -1,7 +1,7 @@
 -- A call's entry may come next, and keeps what holds of the side. The rows did the event of the replay, so the entry has the replay's reply
 -- and the state is the one after it; its number lies above those before it; and every event of a lawful list but a mirror leads from a
 -- state that is kept to one that is.
-use Rattle.std.proofs.Common.{◌≡◌, ℕ, ◌<◌, ◌≤◌, List, [], ◌∷◌, ◌++◌, Option, Some, None, true, refl, sym, ap, subst, arith}
+use Rattle.std.proofs.Common.{◌≡◌, ℕ, ◌+◌, ◌<◌, ◌≤◌, List, [], ◌∷◌, ◌++◌, Option, Some, None, true, refl, sym, ap, subst, arith}
 use Rattle.std.proofs.lemmas.List.Elements.{All-weaker}
 use Rattle.joint_model.specs.declared.names.Thread.{Thread}
 use Rattle.joint_model.specs.declared.names.Thread.TheVariants.{M, P, C}
@@ -19,12 +19,12 @@ use Rattle.joint_model.specs.Lines.{IsEvent, is_peer_event, IsOneEvent}
 use Rattle.joint_model.specs.PeerReplay.{PeerReplay, PeerAllows, TableRow, peer_answer}
 use Rattle.joint_model.proofs.Deciding.{none_some}
 use Rattle.joint_model.specs.Sides.{Side, IsOfSide, GoesOn, IsReplayed, peer_rules}
-use Rattle.joint_model.specs.Told.{nothing}
+use Rattle.joint_model.specs.Told.{Told, nothing}
 use Rattle.joint_model.proofs.SideLists.{IsReplayed-push}
 use Rattle.joint_laws.specs.PeerInvariants.{IsPeerKept}
 use Rattle.joint_laws.proofs.PeerEntries.{MirrorsSafely, IsPeerKept-step}
 use Rattle.peer_side.specs.Rows.{marking_by, marking_after}
-use Rattle.peer_side.specs.Steps.{IsPeerStep, IsStepLine, ReleasesTabled}
+use Rattle.peer_side.specs.Steps.{IsPeerStep, IsStepLine, ReleasesTabled, room_for}
 
 -- the numbers of a list stay below a larger number
 pub AllBelow-more : (es : List Entry) (a b : ℕ) → a ≤ b → AllBelow es a → AllBelow es b
@@ -116,7 +116,7 @@ step-side m t o c e w = record {
     side t (op.Refused w') w = absurd w
 
 -- where nothing is told no mirror comes to stand
-safe-nothing : (s : PeerReplay) (o : Op) → MirrorsSafely s o nothing
+pub safe-nothing : (s : PeerReplay) (o : Op) → MirrorsSafely s o nothing
 safe-nothing s (op.Line a) = tt
 safe-nothing s (op.Release h) = tt
 safe-nothing s (op.Make sort n) = tt
@@ -139,19 +139,25 @@ safe-nothing s (op.Abandon k) = tt
 safe-nothing s (op.Refused w) = tt
 
 -- the event is the replay's
-pub goes-step : (s t : PeerReplay) (m : Made) → IsOfSide true m → PeerAllows s m.caller m.op m.cites nothing → peer_answer s m.caller m.op m.cites nothing ≡ answer m.reply t → GoesOn peer_rules s m nothing t
-goes-step s t m side allowed e = record {
+pub goes-told : (s t : PeerReplay) (m : Made) (told : Told) → IsOfSide true m → PeerAllows s m.caller m.op m.cites told → peer_answer s m.caller m.op m.cites told ≡ answer m.reply t → GoesOn peer_rules s m told t
+goes-told s t m told side allowed e = record {
   lawful = (side, record { allowed = allowed; replies = sym (ap (λ (a : Answered PeerReplay). a.reply) e) });
   state = sym (ap (λ (a : Answered PeerReplay). a.state) e);
 }
 
+pub goes-step : (s t : PeerReplay) (m : Made) → IsOfSide true m → PeerAllows s m.caller m.op m.cites nothing → peer_answer s m.caller m.op m.cites nothing ≡ answer m.reply t → GoesOn peer_rules s m nothing t
+goes-step s t m side allowed e = goes-told s t m nothing side allowed e
+
 -- the side stays the replay of its entries
-pub replayed-step : (old new : Side PeerReplay) (k floor : ℕ) (m : Made) → AllBelow old.entries floor → floor ≤ k → new.entries ≡ old.entries ++ numbered k m ∷ [] → GoesOn peer_rules old.state m nothing new.state → IsReplayed peer_rules old → IsReplayed peer_rules new
-replayed-step old new k floor m below above added goes replayed = IsReplayed-push peer_rules old new k m nothing (AllBelow-more old.entries floor k above below) added goes replayed
+pub replayed-told : (old new : Side PeerReplay) (k floor : ℕ) (m : Made) (told : Told) → AllBelow old.entries floor → floor ≤ k → new.entries ≡ old.entries ++ numbered k m ∷ [] → GoesOn peer_rules old.state m told new.state → IsReplayed peer_rules old → IsReplayed peer_rules new
+replayed-told old new k floor m told below above added goes replayed = IsReplayed-push peer_rules old new k m told (AllBelow-more old.entries floor k above below) added goes replayed
 
 -- and its state is kept
+pub kept-told : (s t : PeerReplay) (m : Made) (told : Told) → GoesOn peer_rules s m told t → MirrorsSafely s m.op told → IsPeerKept s → IsPeerKept t
+kept-told s t m told goes safe kept = subst IsPeerKept (sym goes.state) (IsPeerKept-step s m.caller m.op m.cites told kept goes.lawful.1.allowed safe)
+
 pub kept-step : (s t : PeerReplay) (m : Made) → GoesOn peer_rules s m nothing t → IsPeerKept s → IsPeerKept t
-kept-step s t m goes kept = subst IsPeerKept (sym goes.state) (IsPeerKept-step s m.caller m.op m.cites nothing kept goes.lawful.1.allowed (safe-nothing s m.op))
+kept-step s t m goes kept = kept-told s t m nothing goes (safe-nothing s m.op) kept
 
 -- a row that the replay finds stands in the table
 row-tabled : (o : Option (Option TableRow)) (row : TableRow) → elim o [ None ↦ None | Some r ↦ r ] ≡ Some row → o ≡ Some (Some row)
@@ -192,3 +198,8 @@ pub no-marking : (o : Op) (r : Reply) → marking_after None o r ≡ None
 no-marking (op.Line (act.WRead v g)) r = none-brought r
 no-marking (op.Land h x) r = none-brought r
 no-marking _ r = refl
+
+-- what an event wants where there is more to be kept
+pub room-more : (o : Op) (n k : ℕ) → room_for o (n + k) ≡ room_for o n + k
+room-more (op.Release h) n k = refl
+room-more _ n k = omega arith

@@ -6,18 +6,23 @@
 // call promises that its entry may come next, and that the state is the one after it.
 //
 // A call takes all its memory first; where there is none, the side and the draw are as before. The list of entries has room for the release
-// of each handle of the table, so a release takes no memory.
+// of each handle of the table, and for the sweep of an open marking, so neither a release nor a sweep takes memory.
 //
 // An open marking is kept as a number, a thread and, for proofs alone, the rows as they stood at its begin; what was brought back since is
 // read off the entries. Its marks are in the rows, and stay those of the definition over each event (`laws.rt`): a new peer has a mark, and what
 // a name or a handle gives is marked with all that it reaches.
 //
 // `rows.rt` has the peers and handles, each of whose calls is one event of the definition, without its entry; `side.rt` puts the entry to it.
+//
+// `marking.rt` has the marks of a begin: what slots and strong handles name is marked, with all that it reaches. `sweeping.rt` has the end of a
+// marking: the peers without a mark are freed, and the handles on them are cleared. Neither takes memory, nor puts an entry to it.
 #![tactic(auto)]
 
 mod laws;
+mod marking;
 mod rows;
 mod side;
+mod sweeping;
 
 pub use laws::steps_keep_marks;
-pub use side::{PeerLists, PeerSide};
+pub use side::{BeginFault, NoMark, PeerLists, PeerSide, Swept};

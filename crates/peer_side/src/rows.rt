@@ -39,11 +39,11 @@ pub(crate) struct Issue {
 /// The peers with their sorts, the slots and names that lead to them, and the handles: as they were issued, and as the table has them now.
 #[derive(Drop)]
 pub(crate) struct PeerRows {
-    heap: RowHeap<PNum>,
-    sorts: Vec<Sort>,
-    names: [Option<u32>; 64],
-    issued: Vec<Issue>,
-    table: HandleTable,
+    pub(crate) heap: RowHeap<PNum>,
+    pub(crate) sorts: Vec<Sort>,
+    pub(crate) names: [Option<u32>; 64],
+    pub(crate) issued: Vec<Issue>,
+    pub(crate) table: HandleTable,
 }
 
 impl Model for PeerRows {
@@ -90,6 +90,13 @@ impl PeerRows {
         ensures { result + length self.now.rows.heap.freed ≡ length self.now.rows.heap.fields }
     {
         self.heap.live()
+    }
+
+    /// How many peers were freed.
+    pub(crate) fn freed(&self) -> u32
+        ensures { result ≡ length self.now.rows.heap.freed }
+    {
+        self.heap.made() - self.heap.live()
     }
 
     /// Gives up the peers for the list of those that were freed. It takes no memory.

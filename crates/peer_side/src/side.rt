@@ -1,21 +1,23 @@
 // The peer side: its peers and handles, with the entries of what was done.
 
-ghost use Rattle.std.specs.Prelude.{◌≡◌, ℕ, ◌+◌, ◌≤◌, None, map, length, IfOk, IsOk, OnErr, OnOk};
+ghost use Rattle.std.specs.Prelude.{◌≡◌, ℕ, ◌+◌, ◌≤◌, ◌⊎◌, None, IsSome, MatchBool, map, length, drop, IfErr, IfOk, IsOk, OnErr, OnOk};
 ghost use Rattle.std.specs.Option.{option_map};
 ghost use Rattle.joint_model.specs.Draws.{AllBelow};
 ghost use Rattle.joint_model.specs.Histories.{peer_numbers};
+ghost use Rattle.joint_model.specs.Lines.{IsDriver, IsPeerThread};
 ghost use Rattle.joint_model.specs.PeerReplay.{PeerAllows, row_of};
-ghost use Rattle.joint_model.specs.Sides.{peer_rules, MayDraw, AddsLawful, IsReplayed};
-ghost use Rattle.joint_model.specs.Told.{nothing};
+ghost use Rattle.joint_model.specs.Sides.{peer_rules, MayDraw, AddsInTurn, AddsLawful, IsReplayed};
+ghost use Rattle.joint_model.specs.Told.{nothing, sweep_of};
 ghost use Rattle.joint_laws.specs.PeerInvariants.{IsPeerKept};
 ghost use Rattle.global_handles.specs.Rows.{row_in};
 ghost use Rattle.peer_side.specs.Rows.{row_as};
-ghost use Rattle.peer_side.specs.Sides.{opening_side, IsMarkingOf};
+ghost use Rattle.peer_side.specs.Makings.{IsSideStep, MayDrawStep, MayStep, Passes, collect_makings, gone_since, step_makings};
+ghost use Rattle.peer_side.specs.Sides.{begins, ends, opening_side, owed, IsEnded, IsFaultAt, IsMarkingOf, MayEnd};
 ghost use Rattle.peer_side.specs.Steps.{IsPeerStep, IsRelease, room_for};
 
 use crate::rows::PeerRows;
 use global_handles::HandleTable;
-use joint_model::{Draw, Entries, Made, Marking, Op, PNum, Reply, Thread, enter};
+use joint_model::{Act, Draw, Entries, Made, Marking, Op, PNum, Reply, Span, Thread, enter};
 use std::alloc::{AllocError, Global};
 use std::marker::Model;
 use std::snapshot::Snapshot;
@@ -25,6 +27,24 @@ use std::snapshot::Snapshot;
 pub struct PeerLists {
     pub entries: Entries,
     pub freed: Vec<PNum>,
+}
+
+/// Why no marking is begun: one is open, or there is no memory.
+#[derive(Drop)]
+pub enum BeginFault {
+    OutOfMemory,
+    MarkOpen { marking: Marking },
+}
+
+/// No marking is open.
+#[derive(Drop)]
+pub struct NoMark;
+
+/// A marking that was ended, and where the peers that it freed stand in the list of freed ones.
+#[derive(Drop)]
+pub struct Swept {
+    pub marking: Marking,
+    pub freed: Span,
 }
 
 /// An open marking: its number and thread, how many entries there were after its begin, and the rows as they stood then, for proofs.
@@ -82,11 +102,60 @@ impl PeerSide {
         let _ = &self.entries;
     }
 
-    /// Makes one event: a line of a peer thread, or a managed thread's make, land, grip or release. The reply and the change are those of
-    /// the definition, and one entry is drawn and put last.
+    /// Makes what one operation stands for: a line of a peer thread, a managed thread's make, land, grip or release, or a begin or a sweep.
+    /// The replies and the changes are those of the definition, and an entry is drawn and put last for each event: one, or for a `collect` a
+    /// begin and, if that gave a number, the sweep of that marking. Answers the reply of the last one.
     ///
     /// Answers `AllocError`, with the side and the draw as before, where there is no memory. A release takes none.
     pub fn step<D: Draw>(
+        &mut self,
+        draw: &mut D,
+        caller: Thread,
+        index: u32,
+        op: &Op,
+        cites: Option<u64>,
+    ) -> Result<Reply, AllocError>
+        requires step { IsSideStep caller op.now }
+        requires allowed { MayStep self.old.state caller op.now cites }
+        requires may { MayDrawStep (record { floor = D.floor; left = D.left; may = D.may; drew = D.drew }) draw.old self.old caller op.now }
+        ensures adds { IfOk result (λ r. AddsInTurn peer_rules (record { floor = D.floor; left = D.left; may = D.may; drew = D.drew }) draw.old draw.new self.old self.new (step_makings caller index op.now cites r (gone_since self.old.state self.new.state))) }
+        ensures release { IsRelease op.now → IsOk result }
+        ensures err { OnErr result ((self.new ≡ self.old) × (draw.new ≡ draw.old)) }
+    {
+        match op {
+            Op::Begin => self.begin(draw, caller, index),
+            Op::Sweep => self.end(draw, caller, index),
+            Op::Line(act) => self.line(draw, caller, index, act, cites),
+            _ => self.event(draw, caller, index, op, cites),
+        }
+    }
+
+    // Makes what a line of a peer thread stands for.
+    fn line<D: Draw>(
+        &mut self,
+        draw: &mut D,
+        caller: Thread,
+        index: u32,
+        act: &Act,
+        cites: Option<u64>,
+    ) -> Result<Reply, AllocError>
+        requires step { IsSideStep caller (Op.Line act.now) }
+        requires allowed { MayStep self.old.state caller (Op.Line act.now) cites }
+        requires may { MayDrawStep (record { floor = D.floor; left = D.left; may = D.may; drew = D.drew }) draw.old self.old caller (Op.Line act.now) }
+        ensures adds { IfOk result (λ r. AddsInTurn peer_rules (record { floor = D.floor; left = D.left; may = D.may; drew = D.drew }) draw.old draw.new self.old self.new (step_makings caller index (Op.Line act.now) cites r (gone_since self.old.state self.new.state))) }
+        ensures err { OnErr result ((self.new ≡ self.old) × (draw.new ≡ draw.old)) }
+    {
+        match act {
+            Act::Collect => self.collect(draw, caller, index),
+            _ => self.event(draw, caller, index, &Op::Line(*act), cites),
+        }
+    }
+
+    /// Makes one event of the peers or of the handles: a line of a peer thread, or a managed thread's make, land, grip or release. The reply
+    /// and the change are those of the definition, and one entry is drawn and put last.
+    ///
+    /// Answers `AllocError`, with the side and the draw as before, where there is no memory. A release takes none.
+    pub fn event<D: Draw>(
         &mut self,
         draw: &mut D,
         caller: Thread,
@@ -101,7 +170,8 @@ impl PeerSide {
         ensures release { IsRelease op.now → IsOk result }
         ensures err { OnErr result ((self.new ≡ self.old) × (draw.new ≡ draw.old)) }
     {
-        make_room(&mut self.entries, self.rows.tabled(), op)?;
+        let most = self.rows.tabled() + owed(&self.marking);
+        make_room(&mut self.entries, most, op)?;
         let is_open = self.marking.is_some();
         let reply = self.rows.event(caller, op, is_open)?;
         let made = Made {
@@ -113,6 +183,231 @@ impl PeerSide {
         };
         enter(&mut self.entries, draw, made, None, &[]);
         Ok(reply)
+    }
+
+    // Makes the event of a begin: the next marking is opened, unless one is open.
+    fn begin<D: Draw>(
+        &mut self,
+        draw: &mut D,
+        caller: Thread,
+        index: u32,
+    ) -> Result<Reply, AllocError>
+        requires caller { IsPeerThread caller ⊎ IsDriver caller }
+        requires may { MayDraw peer_rules (record { floor = D.floor; left = D.left; may = D.may; drew = D.drew }) draw.old self.old caller Op.Begin }
+        ensures adds { IfOk result (λ r. AddsInTurn peer_rules (record { floor = D.floor; left = D.left; may = D.may; drew = D.drew }) draw.old draw.new self.old self.new (step_makings caller index Op.Begin None r (gone_since self.old.state self.new.state))) }
+        ensures err { OnErr result ((self.new ≡ self.old) × (draw.new ≡ draw.old)) }
+    {
+        match self.marking() {
+            Some((marking, _)) => {
+                self.refuse(draw, caller, index, Op::Begin, Reply::MarkOpen(marking))
+            }
+            None => {
+                let marking = self.open_marking(draw, caller, index)?;
+                Ok(Reply::Mark(marking))
+            }
+        }
+    }
+
+    // Makes the event of a sweep: the open marking ends, if the thread may end it.
+    fn end<D: Draw>(
+        &mut self,
+        draw: &mut D,
+        caller: Thread,
+        index: u32,
+    ) -> Result<Reply, AllocError>
+        requires caller { IsPeerThread caller ⊎ IsDriver caller }
+        requires open { IsDriver caller → IsSome self.old.state.marking }
+        requires may { MayDraw peer_rules (record { floor = D.floor; left = D.left; may = D.may; drew = D.drew }) draw.old self.old caller Op.Sweep }
+        ensures adds { IfOk result (λ r. AddsInTurn peer_rules (record { floor = D.floor; left = D.left; may = D.may; drew = D.drew }) draw.old draw.new self.old self.new (step_makings caller index Op.Sweep None r (gone_since self.old.state self.new.state))) }
+        ensures err { OnErr result ((self.new ≡ self.old) × (draw.new ≡ draw.old)) }
+    {
+        match self.marking() {
+            None => self.refuse(draw, caller, index, Op::Sweep, Reply::NoMark),
+            Some((marking, by)) => {
+                if may_end(caller, by) {
+                    let span = self.close_marking(draw, caller, index, marking);
+                    Ok(Reply::Swept(marking, span))
+                } else {
+                    self.refuse(draw, caller, index, Op::Sweep, Reply::MarkOpen(marking))
+                }
+            }
+        }
+    }
+
+    /// Makes a whole collection of a peer thread: a begin, and the sweep of that marking. An entry is drawn and put last for each. Where a
+    /// marking is open already, the begin alone is made, and says so. Answers the reply of the last one.
+    ///
+    /// Answers `AllocError`, with the side and the draw as before, where there is no memory: all room is taken first.
+    pub fn collect<D: Draw>(
+        &mut self,
+        draw: &mut D,
+        caller: Thread,
+        index: u32,
+    ) -> Result<Reply, AllocError>
+        requires caller { IsPeerThread caller }
+        requires may_begin { MayDraw peer_rules (record { floor = D.floor; left = D.left; may = D.may; drew = D.drew }) draw.old self.old caller Op.Begin }
+        requires may_sweep { MayDraw peer_rules (record { floor = D.floor; left = D.left; may = D.may; drew = D.drew }) draw.old self.old caller Op.Sweep }
+        ensures adds { IfOk result (λ r. AddsInTurn peer_rules (record { floor = D.floor; left = D.left; may = D.may; drew = D.drew }) draw.old draw.new self.old self.new (collect_makings caller index r (gone_since self.old.state self.new.state))) }
+        ensures err { OnErr result ((self.new ≡ self.old) × (draw.new ≡ draw.old)) }
+    {
+        match self.marking() {
+            Some((marking, _)) => {
+                self.refuse(draw, caller, index, Op::Begin, Reply::MarkOpen(marking))
+            }
+            None => {
+                let marking = self.open_marking(draw, caller, index)?;
+                let freed = self.close_marking(draw, caller, index, marking);
+                Ok(Reply::Swept(marking, freed))
+            }
+        }
+    }
+
+    // Makes the event of a begin or a sweep that changes nothing.
+    fn refuse<D: Draw>(
+        &mut self,
+        draw: &mut D,
+        caller: Thread,
+        index: u32,
+        op: Op,
+        reply: Reply,
+    ) -> Result<Reply, AllocError>
+        requires passes { Passes self.old.state (record { caller = caller; index = index; op = op; reply = reply; cites = None }) }
+        requires may { MayDraw peer_rules (record { floor = D.floor; left = D.left; may = D.may; drew = D.drew }) draw.old self.old caller op }
+        ensures reply { IfOk result (λ r. r ≡ reply) }
+        ensures adds { OnOk result (AddsLawful peer_rules (record { floor = D.floor; left = D.left; may = D.may; drew = D.drew }) draw.old draw.new self.old self.new (record { caller = caller; index = index; op = op; reply = reply; cites = None }) nothing) }
+        ensures err { OnErr result ((self.new ≡ self.old) × (draw.new ≡ draw.old)) }
+    {
+        let most = self.rows.tabled() + owed(&self.marking);
+        self.entries.reserve(most + 1)?;
+        let made = Made {
+            caller,
+            index,
+            op,
+            reply,
+            cites: None,
+        };
+        enter(&mut self.entries, draw, made, None, &[]);
+        Ok(reply)
+    }
+
+    /// Begins a marking: what slots and strong handles name is marked, with all that it reaches. One entry is drawn and put last, and the
+    /// marking's number is answered.
+    ///
+    /// Answers `MarkOpen` exactly where a marking is open, and `OutOfMemory` where there is no memory; the side and the draw are then as
+    /// before.
+    pub fn mark_begin<D: Draw>(
+        &mut self,
+        draw: &mut D,
+        caller: Thread,
+        index: u32,
+    ) -> Result<Marking, BeginFault>
+        requires caller { IsPeerThread caller ⊎ IsDriver caller }
+        requires may { MayDraw peer_rules (record { floor = D.floor; left = D.left; may = D.may; drew = D.drew }) draw.old self.old caller Op.Begin }
+        ensures begun { IfOk result (λ j. AddsLawful peer_rules (record { floor = D.floor; left = D.left; may = D.may; drew = D.drew }) draw.old draw.new self.old self.new (begins caller index j) nothing) }
+        ensures fault { IfErr result (λ f. IsFaultAt f self.old.state.marking) }
+        ensures err { OnErr result ((self.new ≡ self.old) × (draw.new ≡ draw.old)) }
+    {
+        match self.marking() {
+            Some((marking, _)) => Err(BeginFault::MarkOpen { marking }),
+            None => match self.open_marking(draw, caller, index) {
+                Ok(marking) => Ok(marking),
+                Err(_) => Err(BeginFault::OutOfMemory),
+            },
+        }
+    }
+
+    // Opens the next marking, with its entry.
+    fn open_marking<D: Draw>(
+        &mut self,
+        draw: &mut D,
+        caller: Thread,
+        index: u32,
+    ) -> Result<Marking, AllocError>
+        requires caller { IsPeerThread caller ⊎ IsDriver caller }
+        requires closed { self.old.state.marking ≡ None }
+        requires may { MayDraw peer_rules (record { floor = D.floor; left = D.left; may = D.may; drew = D.drew }) draw.old self.old caller Op.Begin }
+        ensures begun { IfOk result (λ j. AddsLawful peer_rules (record { floor = D.floor; left = D.left; may = D.may; drew = D.drew }) draw.old draw.new self.old self.new (begins caller index j) nothing) }
+        ensures err { OnErr result ((self.new ≡ self.old) × (draw.new ≡ draw.old)) }
+    {
+        // the one place where a begin takes memory: room for its entry, for its sweep's, and for the releases of the handles of the table
+        self.entries.reserve(self.rows.tabled() + 2)?;
+        let begin = Snapshot::of(&self.rows);
+        self.rows.mark();
+        self.markings += 1;
+        let number = Marking(self.markings);
+        let made = Made {
+            caller,
+            index,
+            op: Op::Begin,
+            reply: Reply::Mark(number),
+            cites: None,
+        };
+        enter(&mut self.entries, draw, made, None, &[]);
+        let from = self.entries.len();
+        self.marking = Some(OpenMarking {
+            number,
+            by: caller,
+            from,
+            begin,
+        });
+        Ok(number)
+    }
+
+    /// Ends the open marking: the peers that existed at its begin and have no mark are freed, in rising order, and the handles on them are
+    /// cleared. One entry is drawn and put last. It takes no memory.
+    ///
+    /// Answers `NoMark` exactly where no marking is open; the side and the draw are then as before.
+    pub fn sweep<D: Draw>(
+        &mut self,
+        draw: &mut D,
+        caller: Thread,
+        index: u32,
+    ) -> Result<Swept, NoMark>
+        requires caller { IsPeerThread caller ⊎ IsDriver caller }
+        requires own { MayEnd self.old.state.marking caller }
+        requires may { MayDraw peer_rules (record { floor = D.floor; left = D.left; may = D.may; drew = D.drew }) draw.old self.old caller Op.Sweep }
+        ensures swept { IfOk result (λ w. AddsLawful peer_rules (record { floor = D.floor; left = D.left; may = D.may; drew = D.drew }) draw.old draw.new self.old self.new (ends caller index w.marking w.freed) (sweep_of (drop (length self.old.state.peers.heap.freed) self.new.state.peers.heap.freed))) }
+        ensures err { OnErr result ((self.old.state.marking ≡ None) × (self.new ≡ self.old) × (draw.new ≡ draw.old)) }
+    {
+        match self.marking() {
+            None => Err(NoMark),
+            Some((marking, _)) => {
+                let gone = self.close_marking(draw, caller, index, marking);
+                Ok(Swept {
+                    marking,
+                    freed: gone,
+                })
+            }
+        }
+    }
+
+    // Ends the open marking, with its entry. Answers where the peers that it freed stand in the list of freed ones.
+    fn close_marking<D: Draw>(
+        &mut self,
+        draw: &mut D,
+        caller: Thread,
+        index: u32,
+        marking: Marking,
+    ) -> Span
+        requires caller { IsPeerThread caller ⊎ IsDriver caller }
+        requires ended { IsEnded self.old.state.marking caller marking }
+        requires may { MayDraw peer_rules (record { floor = D.floor; left = D.left; may = D.may; drew = D.drew }) draw.old self.old caller Op.Sweep }
+        ensures { AddsLawful peer_rules (record { floor = D.floor; left = D.left; may = D.may; drew = D.drew }) draw.old draw.new self.old self.new (ends caller index marking result) (sweep_of (drop (length self.old.state.peers.heap.freed) self.new.state.peers.heap.freed)) }
+    {
+        let first = self.rows.freed();
+        self.rows.sweep();
+        let count = self.rows.freed() - first;
+        let freed = Span { first, count };
+        let made = Made {
+            caller,
+            index,
+            op: Op::Sweep,
+            reply: Reply::Swept(marking, freed),
+            cites: None,
+        };
+        enter(&mut self.entries, draw, made, None, &[]);
+        self.marking = None;
+        freed
     }
 
     /// The entries, in the order in which they were made.
@@ -165,9 +460,28 @@ impl PeerSide {
     }
 }
 
-// Takes the room for an event: for its own entry, and for the releases of the handles that the table has then.
+// Whether a thread may end a marking: the driver, and the thread that began it.
+fn may_end(caller: Thread, by: Thread) -> bool
+    ensures { MatchBool result ((caller ≡ Thread.C) ⊎ (caller ≡ by)) (¬ ((caller ≡ Thread.C) ⊎ (caller ≡ by))) }
+{
+    caller == Thread::C || caller == by
+}
+
+// How many entries an open marking owes: that of its sweep.
+fn owed(marking: &Option<OpenMarking>) -> u32
+    ensures owed { result ≡ owed marking.now }
+    ensures most { result ≤ 1 }
+{
+    match marking {
+        None => 0,
+        Some(_) => 1,
+    }
+}
+
+// Takes the room for an event: for its own entry, for the releases of the handles that the table has then, and for the sweep of an open
+// marking, which counts here as one handle more.
 fn make_room(entries: &mut Entries, tabled: u32, op: &Op) -> Result<(), AllocError>
-    requires most { tabled ≤ 65535 }
+    requires most { tabled ≤ 65536 }
     requires room { tabled ≤ entries.old.spare }
     requires limit { length entries.old.entries + entries.old.spare ≤ 4294967295 }
     ensures room { OnOk result (room_for op.now tabled ≤ entries.new.spare) }

@@ -1,49 +1,13 @@
--- The rows did the event of the replay, so the list goes on by its entry, and the side stays one.
-use Rattle.std.proofs.Common.{sym, ap, subst, length, ◌∙◌, arith}
-use Rattle.std.proofs.lemmas.List.{length_push}
-use Rattle.joint_model.specs.declared.events.Made.{Made}
-use Rattle.joint_model.specs.Draws.{numbered}
-use Rattle.peer_side.specs.Marks.{MarksAfter}
-use Rattle.peer_side.proofs.Sides.{IsSide-step, side-goes, targets-live, marks-closed}
-use Rattle.peer_side.proofs.Steps.{releases-tabled}
-use Rattle.peer_side.specs.Sides.{state_with}
+-- Each operation by the call that makes it: a begin, a sweep, a line, or another event.
+use Rattle.std.proofs.Common.{◌≡◌, None}
 use Rattle.peer_side.proofs.side.PeerSide.step.Goals as goal
 
-pub event-requires-clause-tabled : goal.event-requires-clause-tabled
-event-requires-clause-tabled g c =
-    let i = c.self.inside in
-    let allowed = rw (sym c.self.view_is) at c.requires.allowed in
-    releases-tabled (state_with i.entries.entries i.rows i.marking i.markings) c.args.caller c.args.op.now c.args.cites allowed
+pub returns-in-Begin-clause-adds : goal.returns-in-Begin-clause-adds
+returns-in-Begin-clause-adds g c =
+    let none : c.args.cites ≡ None = rw c.in-Begin.is at c.requires.allowed in
+    rw (c.in-Begin.is, none) c.begin.ensures.adds
 
-pub event-requires-clause-live : goal.event-requires-clause-live
-event-requires-clause-live g c =
-    let i = c.self.inside in
-    targets-live i.rows i.marking i.markings i.entries c.self.invariant
-
-pub event-requires-clause-shut : goal.event-requires-clause-shut
-event-requires-clause-shut g c = λ up.
-    let i = c.self.inside in
-    marks-closed i.rows i.marking i.markings i.entries c.self.invariant (sym c.is_some-is_open.ensures ∙ up)
-
-pub invariant_of-self-2 : goal.invariant_of-self-2
-invariant_of-self-2 g c =
-    let i = c.self.inside in
-    let made : Made = record { caller = c.args.caller; index = c.args.index; op = c.args.op.now; reply = c.in_ok-reply.reply; cites = c.args.cites } in
-    let allowed = rw (sym c.self.view_is) at c.requires.allowed in
-    let draws = rw c.in_ok-make_room.ensures.entries at c.enter.ensures.draws in
-    let made-room = rw c.tabled.ensures.tabled at c.in_ok-make_room.ensures.room in
-    let below = (rw (sym c.self.view_is) at c.requires.may).below in
-    let marks = subst (λ b. MarksAfter b i.rows.rows c.args.op.now c.in_ok-reply.reply c.event.new.self.rows) c.is_some-is_open.ensures c.in_ok-reply.ensures.marks in
-    IsSide-step i.rows c.event.new.self i.marking i.markings i.entries c.enter.new.entries draws.adds.number _ made draws.adds.added below draws.above c.requires.step allowed c.in_ok-reply.ensures.goes marks
-    (omega (arith, made-room, c.in_ok-reply.ensures.room, c.enter.ensures.spare))
-    (omega (arith, c.in_ok-make_room.ensures.limit, c.enter.ensures.spare, ap length draws.adds.added, length_push i.entries.entries (numbered draws.adds.number made), ap length c.in_ok-make_room.ensures.entries))
-    c.self.invariant
-
-pub returns-clause-adds : goal.returns-clause-adds
-returns-clause-adds g c =
-    let i = c.self.inside in
-    let made : Made = record { caller = c.args.caller; index = c.args.index; op = c.args.op.now; reply = c.in_ok-reply.reply; cites = c.args.cites } in
-    let allowed = rw (sym c.self.view_is) at c.requires.allowed in
-    let draws = rw c.in_ok-make_room.ensures.entries at c.enter.ensures.draws in
-    let goes = side-goes i.rows c.event.new.self i.marking i.markings i.entries.entries c.enter.new.entries.entries draws.adds.number made draws.adds.added c.self.invariant.from c.requires.step allowed c.in_ok-reply.ensures.goes in
-    rw (sym c.self.view_is) (record { draws = draws; goes = goes })
+pub returns-in-Sweep-clause-adds : goal.returns-in-Sweep-clause-adds
+returns-in-Sweep-clause-adds g c =
+    let none : c.args.cites ≡ None = (rw c.in-Sweep.is at c.requires.allowed).0 in
+    rw (c.in-Sweep.is, none) c.end.ensures.adds

@@ -1,0 +1,45 @@
+-- What a marking and a sweep do to the handles: strong ones are roots, and those on a freed peer are cleared. (The Xamarin.Android
+-- documentation: a strong global reference keeps its peer alive, and a weak one is cleared when its peer is collected.)
+use Rattle.std.specs.Prelude.{◌≡◌, ℕ, ◌⊎◌, Bool, List, Contains, Option, Some, None, map, if◌then◌else◌, nat_eq}
+use Rattle.std.specs.List.{list_any}
+use Rattle.joint_model.specs.Heaps.{Heap, InSlot}
+use Rattle.joint_model.specs.Peers.{is_strong}
+use Rattle.joint_model.specs.PeerReplay.{PeerReplay, TableRow, Marking, strong_peers}
+use Rattle.reachability.specs.Marks.{IsClosed, IsMarked}
+use Rattle.marking_laws.specs.Marks.{AreMarksExact}
+use Rattle.global_handles.specs.declared.HandleRow.{HandleRow}
+use Rattle.global_handles.specs.Rows.{Table, cleared_row}
+use Rattle.row_heap.specs.Marks.{EdgeOf}
+use Rattle.peer_side.specs.declared.rows.Issue.{Issue}
+use Rattle.peer_side.specs.Rows.{Rows, issued_as, peers_in, table_to}
+
+-- the peers of the strong handles of a table
+abbrev pub strong_in : List Issue → Table → List ℕ
+strong_in issued table = strong_peers (map issued_as issued) (table_to table.rows table.made)
+
+-- the handle's peer, where its row is strong
+abbrev pub strong_peer : Option TableRow → ℕ → Option ℕ
+strong_peer None p = None
+strong_peer (Some row) p = if is_strong row.strength then Some p else None
+
+-- the roots of a marking that begins now: what slots name, and what strong handles name
+abbrev pub IsRoot : Heap → List ℕ → ℕ → Type 0
+IsRoot h strong_ones p = InSlot h p ⊎ Contains strong_ones p
+
+-- a marking at its end: each root has a mark, and what a peer with a mark leads to has one
+pub record IsWholeMarking (v : Rows) : Type 0 where
+  pub slots : (p : ℕ) → InSlot v.rows.heap p → IsMarked v.rows.marks p
+  pub strong_ones : (p : ℕ) → Contains (strong_peers v.issued v.table) p → IsMarked v.rows.marks p
+  pub shut : IsClosed (EdgeOf v.rows) v.rows.marks
+
+-- the rows, with each on one of these peers cleared
+abbrev pub cleared_on : List ℕ → HandleRow → HandleRow
+cleared_on freed r = if list_any (nat_eq r.peer.0) freed then cleared_row r else r
+
+-- a state of the replay with these peers and handles, with the references of the rows, and with this marking
+abbrev pub with_marking : PeerReplay → Rows → Option Marking → ℕ → PeerReplay
+with_marking s v marking markings = record s { peers = peers_in v; table = v.table; refs = v.rows.refs; marking = marking; markings = markings }
+
+-- the marks are exact, where a marking is open
+abbrev pub AreMarksKept : PeerReplay → Bool → List Bool → Type 0
+AreMarksKept s follows marks = (mk : Marking) → s.marking ≡ Some mk → AreMarksExact s mk follows marks
