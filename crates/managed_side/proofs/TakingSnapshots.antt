@@ -1,29 +1,26 @@
 -- From marks to a snapshot. What a marking from the slots marks is what the program reaches; a row that it leaves out is dead, and goes unless
 -- a row with a handle reaches it. What goes is held by nothing that stays: a holder that stayed would be reached, and then what it holds would
 -- be too. A second marking from the slots, once these are freed, leaves out exactly the dead part.
-use Rattle.std.proofs.Common.{◌≡◌, ℕ, ◌+◌, ◌<◌, ◌≤◌, ◌↔◌, ◌⊎◌, inl, inr, Bool, true, false, not, List, [], ◌∷◌, ◌++◌, length, map, cond, Option, Some, None, refl, sym, ap, subst, ◌∙◌, arith}
-use Rattle.std.specs.Prelude.{Contains, All, filter, is_some}
+use Rattle.std.proofs.Common.{◌≡◌, ℕ, ◌+◌, ◌≤◌, ◌↔◌, ◌⊎◌, inl, inr, Bool, true, false, not, List, length, Option, Some, None, refl, sym, subst, ◌∙◌}
+use Rattle.std.specs.Prelude.{Contains, is_some}
 use Rattle.joint_model.specs.declared.names.MNum.{MNum}
 use Rattle.joint_model.specs.declared.names.PNum.{PNum}
 use Rattle.joint_model.specs.Components.{Rises}
 use Rattle.joint_model.specs.Cycles.{IsSnapshot}
 use Rattle.joint_model.specs.Heaps.{Heap, IsLive, HasField, InSlot, fields_of, numbered_at, with_freed}
-use Rattle.joint_model.specs.Histories.{managed_numbers}
 use Rattle.joint_model.specs.Managed.{Managed, OpenCycle, IsBridge, IsManagedRoot, ManagedEdge, IsManagedReached, IsBridgeReached, with_snapshot}
-use Rattle.joint_model.specs.ManagedReplay.{ManagedReplay}
-use Rattle.joint_model.specs.Walks.{Reached, Reaches}
-use Rattle.joint_model.proofs.Deciding.{true-false, true_false}
+use Rattle.joint_model.specs.Walks.{Reached}
 use Rattle.joint_model.proofs.HeapLemmas.{IsLive-before, IsLive-spared, IsLive-left}
 use Rattle.joint_model.proofs.Members.{Contains-filter_from, Contains-filter_to, All-members}
 use Rattle.joint_model.proofs.WalkLemmas.{Reached-mono, Reached-start, Reached-then, Reached-further, Reached-keeps}
 use Rattle.finaliser_queue.specs.Queue.{Queue}
 use Rattle.object_heap.specs.Tidy.{CanFree}
-use Rattle.reachability.specs.Marks.{IsMarked, IsClosed}
+use Rattle.reachability.specs.Marks.{IsMarked}
 use Rattle.row_heap.specs.Marks.{EdgeOf}
 use Rattle.row_heap.specs.Rows.{HeapRows}
 use Rattle.managed_side.specs.declared.rows.Held.{Held}
-use Rattle.managed_side.specs.Dues.{HasDue, AreDues}
-use Rattle.managed_side.specs.Resolving.{marked, unmarked_of, has_handle}
+use Rattle.managed_side.specs.Dues.{HasDue}
+use Rattle.managed_side.specs.Resolving.{marked, has_handle}
 use Rattle.managed_side.specs.Rows.{rows_of}
 use Rattle.managed_side.specs.Snapshots.{Finds}
 use Rattle.managed_side.proofs.Lists.{Rises-filter, IsMarked-test, test-IsMarked, unmarked_of-exact}

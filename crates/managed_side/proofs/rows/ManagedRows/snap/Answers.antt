@@ -1,9 +1,8 @@
 -- What was prepared is freed and opens the cycle.
-use Rattle.std.proofs.Common.{◌≡◌, ◌∙◌, ◌-◌, ◌+◌, ℕ, Some, false, length, inr, subst, sym, ap, arith, refl}
+use Rattle.std.proofs.Common.{◌≡◌, ◌∙◌, ◌-◌, ◌+◌, Some, false, inr, subst, sym, ap, arith, refl}
 use Rattle.std.proofs.lemmas.Option.{same_Some}
 use Rattle.joint_model.specs.Heaps.{IsLive, with_freed}
 use Rattle.joint_model.specs.Histories.{managed_numbers}
-use Rattle.joint_model.specs.Managed.{OpenCycle}
 use Rattle.joint_model.specs.ManagedReplay.{ManagedReplay}
 use Rattle.joint_laws.specs.ManagedInvariants.{IsManagedKept}
 use Rattle.object_heap.specs.Tidy.{CanFree}

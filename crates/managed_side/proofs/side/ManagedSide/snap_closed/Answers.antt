@@ -1,14 +1,12 @@
 -- The list goes on by the snapshot, which opens the next cycle.
-use Rattle.std.proofs.Common.{◌≡◌, ◌∙◌, ◌≤◌, ◌+◌, ◌++◌, ◌∷◌, [], Some, None, length, refl, sym, ap, subst, arith}
+use Rattle.std.proofs.Common.{◌≡◌, ◌∙◌, ◌≤◌, None, length, refl, sym, ap, subst, arith}
 use Rattle.std.proofs.lemmas.List.{length-map}
 use Rattle.joint_model.specs.declared.names.Thread.TheVariants.{C}
-use Rattle.joint_model.specs.declared.events.Made.{Made}
 use Rattle.joint_model.specs.declared.events.Op.TheVariants as op
 use Rattle.joint_model.specs.declared.events.Reply.TheVariants as says
-use Rattle.joint_model.specs.Draws.{numbered}
 use Rattle.joint_model.specs.Histories.{managed_numbers}
 use Rattle.joint_model.specs.Told.{snap_of}
-use Rattle.managed_side.specs.Openings.{Snaps, snap_made, snap_op}
+use Rattle.managed_side.specs.Openings.{snap_made}
 use Rattle.managed_side.specs.Steps.{step_made}
 use Rattle.managed_side.proofs.Driving.{adds-lawful, cycles-few, objects-numbers}
 use Rattle.managed_side.proofs.Goes.{side-replayed, kept-rows, HasRoom-two}
