@@ -1,6 +1,7 @@
 -- What a step of the peer side may make, and which entries it makes: that of one event, or for a collect those of a begin and, if that gave a
 -- number, of the sweep. (This project's own.)
 use Rattle.std.specs.Prelude.{◌≡◌, ℕ, ◌⊎◌, List, [], ◌∷◌, length, drop, Option, None, IsSome}
+use Rattle.joint_model.specs.declared.names.Marking.{Marking as Number}
 use Rattle.joint_model.specs.declared.names.Thread.{Thread}
 use Rattle.joint_model.specs.declared.lines.Act.TheVariants as act
 use Rattle.joint_model.specs.declared.events.Made.{Made}
@@ -13,7 +14,7 @@ use Rattle.joint_model.specs.Lines.{IsPeerThread, IsDriver}
 use Rattle.joint_model.specs.PeerReplay.{PeerReplay, PeerAllows, peer_answer}
 use Rattle.joint_model.specs.Sides.{Side, Drawing, Making, MayDraw, peer_rules}
 use Rattle.joint_model.specs.Told.{Told, nothing, sweep_of}
-use Rattle.peer_side.specs.Sides.{begins, ends}
+use Rattle.peer_side.specs.Sides.{begins}
 use Rattle.peer_side.specs.Steps.{IsPeerStep}
 
 -- a caller and an operation that a step makes
@@ -48,10 +49,15 @@ told_at o r gone = nothing
 abbrev pub one_making : Thread → ℕ → Op → Option ℕ → Reply → List ℕ → List Making
 one_making t index o cites r gone = record { made = record { caller = t; index = index; op = o; reply = r; cites = cites }; told = told_at o r gone } ∷ []
 
--- a collect, by its last reply: a begin that gave a number and the sweep of that marking, or a begin alone
+-- the number that a sweep's reply has
+abbrev pub number_in : Reply → Number
+number_in (says.Swept j freed) = j
+number_in r = record { 0 = 0 }
+
+-- a collect, by its last reply: a begin that was refused, or a begin that gave a number and the sweep of that marking
 abbrev pub collect_makings : Thread → ℕ → Reply → List ℕ → List Making
-collect_makings t index (says.Swept j freed) gone = record { made = begins t index j; told = nothing } ∷ record { made = ends t index j freed; told = sweep_of gone } ∷ []
-collect_makings t index r gone = one_making t index op.Begin None r gone
+collect_makings t index (says.MarkOpen j) gone = one_making t index op.Begin None (says.MarkOpen j) gone
+collect_makings t index r gone = record { made = begins t index (number_in r); told = nothing } ∷ record { made = record { caller = t; index = index; op = op.Sweep; reply = r; cites = None }; told = sweep_of gone } ∷ []
 
 -- what a step makes
 abbrev pub step_makings : Thread → ℕ → Op → Option ℕ → Reply → List ℕ → List Making
