@@ -11,3 +11,4 @@ pub mod Fitting
 pub mod Opened
 pub mod Ends
 pub mod Makings
+pub mod Reset

@@ -4,3 +4,4 @@ pub mod Marks
 pub mod Sides
 pub mod Marking
 pub mod Makings
+pub mod Mirroring

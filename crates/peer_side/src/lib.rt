@@ -16,10 +16,14 @@
 //
 // `marking.rt` has the marks of a begin: what slots and strong handles name is marked, with all that it reaches. `sweeping.rt` has the end of a
 // marking: the peers without a mark are freed, and the handles on them are cleared. Neither takes memory, nor puts an entry to it.
+//
+// `mirror.rt` has what a mirrored cycle does to the rows: references come to stand and go, and handles are made weak and strong again. No
+// marking follows a reference that waits: it stands in no row until all of a cycle's references come to stand together.
 #![tactic(auto)]
 
 mod laws;
 mod marking;
+mod mirror;
 mod rows;
 mod side;
 mod sweeping;
