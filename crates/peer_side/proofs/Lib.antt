@@ -12,3 +12,5 @@ pub mod Opened
 pub mod Ends
 pub mod Makings
 pub mod Reset
+pub mod Mirrored
+pub mod Dues

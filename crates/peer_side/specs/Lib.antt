@@ -5,3 +5,5 @@ pub mod Sides
 pub mod Marking
 pub mod Makings
 pub mod Mirroring
+pub mod Mirrors
+pub mod MirrorLaws
