@@ -14,3 +14,4 @@ pub mod Makings
 pub mod Reset
 pub mod Mirrored
 pub mod Dues
+pub mod Grown

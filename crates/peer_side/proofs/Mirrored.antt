@@ -1,27 +1,20 @@
 -- The events of a mirrored cycle, as the replay has them: references come to stand and go, and handles are weakened and restored. The rows did
 -- each; the state is the one after it, and the marks of an open marking stay exact.
-use Rattle.std.proofs.Common.{◌≡◌, ℕ, ◌+◌, ◌↔◌, ◌⊎◌, inl, inr, Bool, true, false, List, [], ◌∷◌, ◌++◌, length, Option, Some, None, if◌then◌else◌, refl, sym, ap, subst, ◌∙◌}
+use Rattle.std.proofs.Common.{◌≡◌, ℕ, inl, inr, Bool, true, List, [], ◌∷◌, ◌++◌, length, Option, Some, None, if◌then◌else◌, refl, sym, ap, subst, ◌∙◌}
 use Rattle.std.specs.Prelude.{Contains}
-use Rattle.std.proofs.lemmas.Option.{none-some, same_Some}
 use Rattle.joint_model.specs.declared.names.Cycle.{Cycle}
 use Rattle.joint_model.specs.declared.names.HNum.{HNum}
 use Rattle.joint_model.specs.declared.names.Thread.TheVariants.{C}
 use Rattle.joint_model.specs.declared.events.Op.TheVariants as op
 use Rattle.joint_model.specs.declared.events.Reply.TheVariants as says
-use Rattle.joint_model.specs.Heaps.{Heap, Answered, answer, numbered_at, numbered_set}
+use Rattle.joint_model.specs.Heaps.{Heap, Answered, answer, numbered_set}
 use Rattle.joint_model.specs.Peers.{peer_of, strong}
-use Rattle.joint_model.specs.PeerReplay.{PeerReplay, Marking, Mirror, TableRow, HasReference, brought_handle, brought_to, mirrored, peer_answer, restored_by, row_of, with_restored}
+use Rattle.joint_model.specs.PeerReplay.{PeerReplay, Marking, Mirror, TableRow, brought_handle, brought_to, mirrored, peer_answer, restored_by}
 use Rattle.joint_model.specs.Told.{nothing, references_of}
-use Rattle.joint_model.specs.Walks.{Reached}
 use Rattle.joint_model.proofs.Members.{Contains-nil}
-use Rattle.joint_laws.specs.PeerInvariants.{IsSpared}
-use Rattle.marking_laws.specs.Marks.{AreMarksExact, EdgeNow, IsMarkedSide}
-use Rattle.marking_laws.proofs.MarkEvents.{marks-brought, marks-cleared, marks-same}
-use Rattle.reachability.specs.Marks.{IsMarked}
-use Rattle.row_heap.specs.Marks.{EdgeOf}
-use Rattle.row_heap.specs.Rows.{HeapRows}
-use Rattle.peer_side.specs.Marking.{AreMarksKept}
-use Rattle.peer_side.specs.Mirroring.{IsRemoved, IsStrongAgain, row_at, strong_row, weak_row, with_row, with_stood}
+use Rattle.marking_laws.specs.Marks.{AreMarksExact, IsMarkedSide}
+use Rattle.marking_laws.proofs.MarkEvents.{marks-brought, marks-same}
+use Rattle.peer_side.specs.Mirroring.{IsRemoved, IsStrongAgain, strong_row, weak_row, with_row, with_stood}
 use Rattle.peer_side.specs.MirrorLaws.{state_of}
 use Rattle.peer_side.specs.Rows.{Rows}
 

@@ -3,16 +3,23 @@
 use Rattle.std.specs.Prelude.{◌≡◌, ℕ, ◌+◌, ◌-◌, ◌≤◌, Bool, true, List, [], ◌∷◌, ◌++◌, length, Contains, Option, Some, None}
 use Rattle.joint_model.specs.declared.names.Cycle.{Cycle}
 use Rattle.joint_model.specs.declared.names.HNum.{HNum}
+use Rattle.joint_model.specs.declared.names.Thread.{Thread}
 use Rattle.joint_model.specs.declared.names.Thread.TheVariants.{C}
+use Rattle.joint_model.specs.declared.events.Op.{Op}
 use Rattle.joint_model.specs.declared.events.Op.TheVariants as op
+use Rattle.joint_model.specs.declared.events.Reply.{Reply}
 use Rattle.joint_model.specs.declared.events.Reply.TheVariants as says
 use Rattle.joint_model.specs.Heaps.{answer}
+use Rattle.joint_model.specs.Peers.{Issued}
 use Rattle.joint_model.specs.PeerReplay.{PeerReplay, Marking, Mirror, brought_to, mirrored, peer_answer}
 use Rattle.joint_model.specs.Told.{nothing, references_of}
 use Rattle.marking_laws.specs.Marks.{AreMarksExact, IsMarkedSide}
+use Rattle.row_heap.specs.Rows.{HeapRows}
+use Rattle.peer_side.specs.Marks.{MarksAfter}
 use Rattle.peer_side.specs.Mirroring.{IsRemoved, IsStrongAgain, weak_row, with_row, with_stood}
-use Rattle.peer_side.specs.Mirrors.{IsDue}
+use Rattle.peer_side.specs.Mirrors.{IsDue, mirrored_at, weakened_at, restored_at}
 use Rattle.peer_side.specs.Rows.{Rows, peers_in}
+use Rattle.peer_side.specs.Steps.{IsPeerStep}
 
 -- a state with these parts
 abbrev pub state_of : Rows → Option Mirror → List ℕ → Option Marking → ℕ → PeerReplay
@@ -54,3 +61,16 @@ pub record RestoresAreOwed : Type 0 where
   pub weakens : (m : Mirror) (due h : ℕ) → IsDue m due → IsDue (weakened_more m h) (due + 1)
   pub some : (m : Mirror) (due h : ℕ) → IsDue m due → Contains m.weakened h → (Contains m.restored h → ⊥) → 1 ≤ due
   pub restores : (m : Mirror) (due h : ℕ) → IsDue m due → Contains m.weakened h → (Contains m.restored h → ⊥) → IsDue (restored_more m h) (due - 1)
+
+-- a list of issued handles has others after it
+abbrev pub HasGrown : List Issued → List Issued → Type 0
+HasGrown old new = (more : List Issued) × (new ≡ old ++ more)
+
+-- a step leaves a mirrored cycle as it is: handles stay as they were issued, the room for references stays, and its
+-- entry mirrors no cycle, and weakens and restores no handle
+pub record StepsLeaveMirrors : Type 0 where
+  pub issued : (s : PeerReplay) (t : Thread) (o : Op) (cites : Option ℕ) → IsPeerStep t o → HasGrown s.peers.issued (peer_answer s t o cites nothing).state.peers.issued
+  pub room : (b : Bool) (old : HeapRows) (o : Op) (r : Reply) (new : HeapRows) → MarksAfter b old o r new → new.room ≡ old.room
+  pub mirrors : (t : Thread) (o : Op) → IsPeerStep t o → mirrored_at o ≡ []
+  pub weakens : (t : Thread) (o : Op) → IsPeerStep t o → weakened_at o ≡ []
+  pub restores : (t : Thread) (o : Op) → IsPeerStep t o → restored_at o ≡ []

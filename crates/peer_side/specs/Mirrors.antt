@@ -1,11 +1,11 @@
 -- The mirrored cycle, as the peer side keeps it: what stands is read off the rows and the entries, and beside it there is what was reserved and
 -- what waits. (This project's own.)
-use Rattle.std.specs.Prelude.{◌≡◌, ℕ, ◌+◌, ◌-◌, ◌*◌, ◌≤◌, Bool, true, false, if◌then◌else◌, List, [], ◌∷◌, length, drop, flat_map, All, Contains, Option, Some, None}
-use Rattle.std.specs.Option.{option_map, option_to_list}
+use Rattle.std.specs.Prelude.{◌≡◌, ℕ, ◌+◌, ◌-◌, ◌*◌, ◌≤◌, false, if◌then◌else◌, List, [], ◌∷◌, length, drop, flat_map, Contains, Option, Some, None}
+use Rattle.std.specs.Option.{option_map}
 use Rattle.joint_model.specs.declared.events.Entry.{Entry}
 use Rattle.joint_model.specs.declared.events.Op.{Op}
 use Rattle.joint_model.specs.declared.events.Op.TheVariants as op
-use Rattle.joint_model.specs.Peers.{Issued, peer_of}
+use Rattle.joint_model.specs.Peers.{peer_of}
 use Rattle.joint_model.specs.PeerReplay.{PeerReplay, Mirror, HasReference, Refers, row_of, strong_peers}
 use Rattle.peer_side.specs.declared.mirroring.OpenMirror.{OpenMirror}
 use Rattle.peer_side.specs.Mirroring.{strong_row}

@@ -32,5 +32,7 @@ mod side;
 mod sweeping;
 
 pub use laws::steps_keep_marks;
-pub use mirror_laws::{mirrored_rows_go_on, mirrors_keep_marks, restores_are_owed};
+pub use mirror_laws::{
+    mirrored_rows_go_on, mirrors_keep_marks, restores_are_owed, steps_leave_mirrors,
+};
 pub use side::{BeginFault, NoMark, PeerLists, PeerSide, Swept};
