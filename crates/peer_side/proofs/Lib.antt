@@ -11,3 +11,7 @@ pub mod Fitting
 pub mod Opened
 pub mod Ends
 pub mod Makings
+pub mod Reset
+pub mod Mirrored
+pub mod Dues
+pub mod Grown

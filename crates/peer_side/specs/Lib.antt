@@ -4,3 +4,6 @@ pub mod Marks
 pub mod Sides
 pub mod Marking
 pub mod Makings
+pub mod Mirroring
+pub mod Mirrors
+pub mod MirrorLaws

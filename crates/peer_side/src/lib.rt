@@ -16,13 +16,23 @@
 //
 // `marking.rt` has the marks of a begin: what slots and strong handles name is marked, with all that it reaches. `sweeping.rt` has the end of a
 // marking: the peers without a mark are freed, and the handles on them are cleared. Neither takes memory, nor puts an entry to it.
+//
+// `mirror.rt` has what a mirrored cycle does to the rows: references come to stand and go, and handles are made weak and strong again. No
+// marking follows a reference that waits: it stands in no row until all of a cycle's references come to stand together. `mirroring.rt` has what is
+// kept of a cycle beside rows and entries: what waits, what is reserved, and what is owed. `mirror_laws.rt` has what the calls for a cycle rest on.
 #![tactic(auto)]
 
 mod laws;
 mod marking;
+mod mirror;
+mod mirror_laws;
+mod mirroring;
 mod rows;
 mod side;
 mod sweeping;
 
 pub use laws::steps_keep_marks;
+pub use mirror_laws::{
+    mirrored_rows_go_on, mirrors_keep_marks, restores_are_owed, steps_leave_mirrors,
+};
 pub use side::{BeginFault, NoMark, PeerLists, PeerSide, Swept};

@@ -327,14 +327,14 @@ impl PeerRows {
     }
 
     // The peer that a handle leads to; None where it isn't in the table or is cleared.
-    fn target(&self, h: HNum) -> Option<PNum>
+    pub(crate) fn target(&self, h: HNum) -> Option<PNum>
         ensures { table_target (with_rows opening_peer_replay self.now) h.0 ≡ number_of result }
     {
         self.table.target(h)
     }
 
     // Brings a peer back, if a marking is open: it has a mark from now on, with all that it reaches.
-    fn bring_back(&mut self, p: PNum, is_open: bool)
+    pub(crate) fn bring_back(&mut self, p: PNum, is_open: bool)
         requires live { IsLive self.old.rows.heap p.0 }
         requires shut { IsTrue is_open → IsClosed (EdgeOf self.old.rows) self.old.rows.marks }
         ensures rest { self.new ≡ record self.old { rows = record self.old.rows { marks = self.new.rows.marks; links = self.new.rows.links } } }
@@ -418,7 +418,7 @@ impl PeerRows {
     }
 
     // Removes a handle from the table, if it is there.
-    fn remove(&mut self, h: HNum)
+    pub(crate) fn remove(&mut self, h: HNum)
         ensures rows { self.new ≡ record self.old { table = numbered_set self.old.table h.0 None; tabled = self.new.tabled } }
         ensures fewer { self.new.tabled ≤ self.old.tabled }
         ensures tabled { (row : TableRow) → numbered_at self.old.table h.0 ≡ Some (Some row) → self.new.tabled + 1 ≡ self.old.tabled }

@@ -65,4 +65,4 @@ returns-clause-marks c =
     let i = c.self.inside in
     let made = c.in_ok-add_object.ensures.ok in
     subst (λ (z : Rows). IsMarkedToo z.rows c.add_object.new.self c.in_ok-add_object.field-0) c.self.view_is
-    (marked-too i.heap c.add_object.new.self c.in_ok-add_object.field-0 c.in_ok-add_object.ensures.number c.marks_len.ensures (ap (λ (v : HeapRows). v.refs) made) (ap (λ (v : HeapRows). v.follows) made) (ap (λ (v : HeapRows). v.marks) made))
+    (marked-too i.heap c.add_object.new.self c.in_ok-add_object.field-0 c.in_ok-add_object.ensures.number c.marks_len.ensures (ap (λ (v : HeapRows). v.refs) made) (ap (λ (v : HeapRows). v.follows) made) (ap (λ (v : HeapRows). v.room) made) (ap (λ (v : HeapRows). v.marks) made))

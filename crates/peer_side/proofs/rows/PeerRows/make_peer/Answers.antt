@@ -12,4 +12,4 @@ returns-clause-marks c =
     let named = c.set_var.ensures in
     let made = c.in_ok-p.ensures.ok in
     subst (λ (z : Rows). IsMarkedToo z.rows c.set_var.new.self c.in_ok-p.p) c.self.view_is
-    (marked-too i.heap c.set_var.new.self c.in_ok-p.p c.in_ok-p.ensures.number c.marks_len.ensures (ap (λ (v : HeapRows). v.refs) named ∙ ap (λ (v : HeapRows). v.refs) made) (ap (λ (v : HeapRows). v.follows) named ∙ ap (λ (v : HeapRows). v.follows) made) (ap (λ (v : HeapRows). v.marks) named ∙ ap (λ (v : HeapRows). v.marks) made))
+    (marked-too i.heap c.set_var.new.self c.in_ok-p.p c.in_ok-p.ensures.number c.marks_len.ensures (ap (λ (v : HeapRows). v.refs) named ∙ ap (λ (v : HeapRows). v.refs) made) (ap (λ (v : HeapRows). v.follows) named ∙ ap (λ (v : HeapRows). v.follows) made) (ap (λ (v : HeapRows). v.room) named ∙ ap (λ (v : HeapRows). v.room) made) (ap (λ (v : HeapRows). v.marks) named ∙ ap (λ (v : HeapRows). v.marks) made))

@@ -1,0 +1,55 @@
+-- What a mirrored cycle does to the peer rows: references come to stand and go, and handles are made weak and strong again. (The
+-- Xamarin.Android documentation: a bridge collection adds references between peers, makes the global references weak, collects, and makes
+-- those that are left strong again.)
+use Rattle.std.specs.Prelude.{◌≡◌, ℕ, ◌+◌, ◌-◌, ◌⊎◌, ◌↔◌, ◌++◌, ◌∷◌, [], Bool, true, false, List, Contains, Option, Some, None, length}
+use Rattle.joint_model.specs.Heaps.{numbered_set}
+use Rattle.joint_model.specs.Peers.{peer_of, strong, weak}
+use Rattle.joint_model.specs.PeerReplay.{TableRow, opening_peer_replay, row_of}
+use Rattle.joint_model.specs.Walks.{Reached}
+use Rattle.global_handles.specs.declared.Back.{Back}
+use Rattle.global_handles.specs.declared.Back.TheVariants.{Alive, Cleared}
+use Rattle.reachability.specs.Marks.{IsMarked}
+use Rattle.row_heap.specs.Marks.{EdgeOf}
+use Rattle.peer_side.specs.Rows.{Rows, with_rows}
+
+-- the row of a handle
+abbrev pub row_at : Rows → ℕ → Option TableRow
+row_at v h = row_of (with_rows opening_peer_replay v) h
+
+-- the rows of a handle that is strong, and of one that is weak, where the peer isn't freed
+abbrev pub strong_row : TableRow
+strong_row = record { strength = strong; cleared = false }
+
+abbrev pub weak_row : TableRow
+weak_row = record { strength = weak; cleared = false }
+
+-- the handle has this row now
+abbrev pub with_row : Rows → ℕ → TableRow → Rows
+with_row v h row = record v { table = numbered_set v.table h (Some row) }
+
+-- these references stand after those that stood, in room that was taken
+abbrev pub with_stood : Rows → List (ℕ × ℕ) → Rows
+with_stood v refs = record v { rows = record v.rows { refs = v.rows.refs ++ refs; room = v.rows.room - length refs } }
+
+-- a restored handle was cleared, and left the table
+pub record IsRemoved (old : Rows) (h : ℕ) (new : Rows) : Type 0 where
+  pub row : TableRow
+  pub tabled : row_at old h ≡ Some row
+  pub cleared : row.cleared ≡ true
+  pub rest : new ≡ record old { table = numbered_set old.table h None; tabled = new.tabled }
+  pub fewer : new.tabled + 1 ≡ old.tabled
+
+-- a restored handle is strong, and its peer is brought back, if a marking is open
+pub record IsStrongAgain (is_open : Bool) (old : Rows) (h : ℕ) (new : Rows) : Type 0 where
+  pub row : TableRow
+  pub tabled : row_at old h ≡ Some row
+  pub kept : row.cleared ≡ false
+  pub peer : ℕ
+  pub issued : peer_of old.issued h ≡ Some peer
+  pub rest : new ≡ record old { rows = record old.rows { marks = new.rows.marks; links = new.rows.links }; table = numbered_set old.table h (Some strong_row) }
+  pub marks : is_open ≡ true → (k : ℕ) → (IsMarked new.rows.marks k ↔ (IsMarked old.rows.marks k ⊎ Reached (Contains (peer ∷ [])) (EdgeOf old.rows) k))
+
+-- what a restore does to the rows
+abbrev pub IsRestored : Bool → Rows → ℕ → Back → Rows → Type 0
+IsRestored is_open old h Cleared new = IsRemoved old h new
+IsRestored is_open old h Alive new = IsStrongAgain is_open old h new
