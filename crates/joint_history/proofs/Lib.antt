@@ -10,3 +10,7 @@ pub mod Desking
 pub mod Finishing
 pub mod Gathering
 pub mod Turning
+pub mod DeadParts
+pub mod DriverSteps
+pub mod DriverPeerSteps
+pub mod DriverCalls

@@ -5,3 +5,5 @@ pub mod Locked
 pub mod Desks
 pub mod Ending
 pub mod Operations
+pub mod Driven
+pub mod DriverDraws
