@@ -11,3 +11,5 @@ pub mod Driving
 pub mod Gathering
 pub mod DeadGraphs
 pub mod TakingSnapshots
+pub mod PreparedSnapshots
+pub mod SnapEntries

@@ -8,9 +8,10 @@
 // this state. Each call that makes an entry promises that it drew this entry and put it last, that the entry may come next by the definition
 // of the managed list, and that the state is the one after it. After a refusal for want of memory the side and the draw are as before.
 //
-// While a cycle is open `contracted` makes the entry of its contraction, and `resolve` or `abandon` closes it. There is room for the entries that
-// it still owes and for a notice per candidate, and the rows of its dead part are exactly the live rows without a mark, so that a resolution marks
-// within the dead part alone. None of the three calls takes memory.
+// `snap` frees what nothing holds, opens a cycle and answers its dead part as a graph. While a cycle is open `contracted` makes the entry of its
+// contraction, and `resolve` or `abandon` closes it. There is room for the entries that it still owes and for a notice per candidate, and the rows
+// of its dead part are exactly the live rows without a mark, so that a resolution marks within the dead part alone. None of these three calls
+// takes memory.
 //
 // At the end `into_lists` gives the entries, the freed objects and all notices. The other calls only look.
 #![tactic(auto)]
@@ -20,12 +21,15 @@ mod events;
 mod graphs;
 mod lines;
 mod open;
+mod opening;
 mod resolving;
 mod rows;
 mod side;
+mod snapping;
 mod snapshots;
 mod twins;
 mod weak;
 
 pub use cycles::ResolveOut;
+pub use opening::{Opened, Pins, SnapFault};
 pub use side::{ManagedLists, ManagedSide, TwinAnswer};
