@@ -14,3 +14,4 @@ pub mod DeadParts
 pub mod DriverSteps
 pub mod DriverPeerSteps
 pub mod DriverCalls
+pub mod DriverSnaps

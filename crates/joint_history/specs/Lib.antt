@@ -7,3 +7,4 @@ pub mod Ending
 pub mod Operations
 pub mod Driven
 pub mod DriverDraws
+pub mod DriverSnaps

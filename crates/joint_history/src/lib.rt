@@ -13,6 +13,7 @@ mod driven;
 mod laws;
 mod managed;
 mod seats;
+mod snaps;
 
 pub use callers::{Caller, Receipt};
 pub use desks::Desk;
