@@ -13,14 +13,14 @@ use Rattle.joint_model.specs.Peers.{Issued}
 use Rattle.joint_model.specs.Sides.{Side, managed_rules, GoesOn}
 use Rattle.joint_model.specs.Told.{Told, Noted}
 use Rattle.known_laws.specs.Known.{TellsPlainly}
-use Rattle.known_laws.specs.Pasts.{HasSameDeadPart, end_of}
+use Rattle.known_laws.specs.Pasts.{HasSameDeadPart, end_of, line}
 use Rattle.known_laws.proofs.Growing.{dead_part_is_frozen, lines_give_parts}
 use Rattle.known_laws.proofs.KnownPasts.{known_past_is_kept}
 use Rattle.order_table.specs.declared.views.Kept.{Kept}
 use Rattle.order_table.specs.declared.views.View.{View}
 use Rattle.order_table.specs.Facts.{entries_of, line_entries}
 use Rattle.order_table.specs.Rule.{IsBelow}
-use Rattle.order_table.specs.Tells.{Grows}
+use Rattle.order_table.specs.Tells.{Grows, IsOneHistory}
 use Rattle.order_table.specs.Views.{OrderId, Shown, known, Owns}
 use Rattle.order_table.proofs.Wholes.{tell_lines}
 use Rattle.joint_history.specs.Callers.{HoldsPass}
@@ -34,21 +34,23 @@ use Rattle.joint_history.proofs.KnownViews.{begins_before, view_begins}
 use Rattle.joint_history.proofs.LockedSteps.{did_managed_by, lent_joined, own_told, last_told, knows_still, MayNow}
 use Rattle.joint_history.proofs.Standing.{last_of_own}
 
--- the driver's own line is whole in what is known together, so it stands there where it stood
+-- it stands so in whatever more is known of one history, as long as its own line is the same
+pub driver_in : (v w : View) (a : IsKnownView v) (j : IsKnownView w) → IsOneHistory w → ((i : ℕ) → IsPrefix (known v i) (known w i)) → line (caller_line C) j.past ≡ line (caller_line C) a.past → known w (caller_line C) ≡ known v (caller_line C) → (index : ℕ) (stand : Stand) (seen : Managed)
+    → IsDriverAt a.past index stand seen → IsDriverAt j.past index stand seen
+driver_in v w a j o more same whole index stand seen s =
+    let begins = view_begins w o in
+    record {
+      last = last_told C j.past a.past index same s.last;
+      come = (lines_give_parts j.past a.past).stand same ∙ s.come;
+      dead = dead_part_on seen (end_of a.past).managed.managed (end_of j.past).managed.managed s.dead
+          (dead_part_is_frozen (entries_of o.whole) (line_known v) (line_known w) a j (tell_lines o.whole o.numbers).numbered (begins_before (entries_of o.whole) v w more begins) begins (sym (ap line_entries whole)));
+    }
+
+-- its own line is whole in what is known together under a lock
 pub driver_joined : (locked mine lent mine1 : View) (l : Lends C locked mine lent mine1) (a : IsKnownView locked) → HoldsPass C mine → (index : ℕ) (stand : Stand) (seen : Managed) (s : DriverStands mine index stand seen)
     → IsDriverAt (lent_joined C locked mine lent mine1 l a s.known).joined.past index stand seen
 driver_joined locked mine lent mine1 l a pass index stand seen s =
-    let j = (lent_joined C locked mine lent mine1 l a s.known).joined in
-    let same = own_told C locked mine lent mine1 l a s.known pass in
-    let o = l.one_history in
-    let begins = view_begins lent o in
-    record {
-      last = last_told C j.past s.known.past index same s.stands.last;
-      come = (lines_give_parts j.past s.known.past).stand same ∙ s.stands.come;
-      dead = dead_part_on seen (end_of s.known.past).managed.managed (end_of j.past).managed.managed s.stands.dead
-          (dead_part_is_frozen (entries_of o.whole) (line_known mine) (line_known lent) s.known j (tell_lines o.whole o.numbers).numbered (begins_before (entries_of o.whole) mine lent l.heard begins) begins
-          (sym (ap line_entries (l.own (caller_line C) (own_line C) (pass (caller_line C) (own_line C))))));
-    }
+    driver_in mine lent s.known (lent_joined C locked mine lent mine1 l a s.known).joined l.one_history l.heard (own_told C locked mine lent mine1 l a s.known pass) (l.own (caller_line C) (own_line C) (pass (caller_line C) (own_line C))) index stand seen s.stands
 
 -- where the driver stands after its entry
 pub stand_of_own : (h : List Noted) (x : Noted) → x.entry.made.caller ≡ C → (end_of (x ∷ h)).control.stand ≡ stand_after (end_of h).control.stand x.entry.number x.entry.made.op x.entry.made.reply x.told

@@ -15,3 +15,4 @@ pub mod DriverSteps
 pub mod DriverPeerSteps
 pub mod DriverCalls
 pub mod DriverSnaps
+pub mod DriverHears

@@ -41,6 +41,10 @@ pub record DriverStands (v : View) (index : ℕ) (stand : Stand) (seen : Managed
   pub known : IsKnownView v
   pub stands : IsDriverAt known.past index stand seen
 
+-- a seat that knows more has the driver where it stood
+abbrev pub StillStands : View → View → Type 0
+StillStands old new = (index : ℕ) (stand : Stand) (seen : Managed) → DriverStands old index stand seen → DriverStands new index stand seen
+
 -- the driver is idle
 pub record DriverRests (v : View) (index : ℕ) : Type 0 where
   pub seen : Managed
@@ -62,7 +66,7 @@ pub record DriverMakes (old new : View) (stand : Stand) (seen : Managed) (e : En
 pub record DriverMakesNone (old new : View) : Type 0 where
   pub own : line_known new (caller_line C) ≡ line_known old (caller_line C)
   pub more : (i : ℕ) → IsPrefix (known old i) (known new i)
-  pub stands : (index : ℕ) (stand : Stand) (seen : Managed) → DriverStands old index stand seen → DriverStands new index stand seen
+  pub stands : StillStands old new
 
 -- an entry of the driver
 abbrev pub driver_entry : ℕ → ℕ → Op → Reply → Option ℕ → Entry
