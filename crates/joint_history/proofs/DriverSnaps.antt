@@ -1,28 +1,25 @@
 -- The driver's snapshot under the managed lock: no cycle is open while the driver is idle, and after the entry the driver has seen the side's objects as
 -- they are then.
-use Rattle.std.proofs.Common.{◌≡◌, ⊎_elim, ℕ, zero, suc, ◌+◌, ◌<◌, ◌≤◌, ◌^◌, List, [], ◌∷◌, ◌++◌, length, Option, Some, None, refl, sym, ap, ◌∙◌, subst, arith}
+use Rattle.std.proofs.Common.{◌≡◌, ℕ, zero, suc, ◌+◌, ◌<◌, ◌≤◌, ◌^◌, List, [], ◌∷◌, ◌++◌, length, Option, Some, None, refl, sym, ap, ◌∙◌, subst, arith}
 use Rattle.std.specs.Prelude.{Result, Ok, Err, IfOk, OnErr}
 use mathlib.Core.List.{IsPrefix}
 use base.Growing.{prefix_refl}
-use Rattle.joint_model.specs.declared.names.Span.{Span}
 use Rattle.joint_model.specs.declared.names.Thread.TheVariants.{C}
 use Rattle.joint_model.specs.declared.events.Entry.{Entry}
 use Rattle.joint_model.specs.declared.events.Op.TheVariants as op
-use Rattle.joint_model.specs.declared.events.Reply.TheVariants as says
 use Rattle.joint_model.specs.Control.{idle, snapped}
 use Rattle.joint_model.specs.Cycles.{snap_reply}
 use Rattle.joint_model.specs.Managed.{Managed, OpenCycle}
 use Rattle.joint_model.specs.ManagedReplay.{ManagedReplay}
 use Rattle.joint_model.specs.Sides.{Side, managed_rules}
 use Rattle.joint_model.specs.Told.{snap_of}
-use Rattle.known_laws.specs.Pasts.{HasSameDeadPart}
 use Rattle.known_laws.proofs.Conditions.{idle_is_closed}
 use Rattle.managed_side.specs.declared.opening.Opened.{Opened}
 use Rattle.order_table.specs.declared.views.View.{View}
 use Rattle.order_table.specs.Views.{OrderId, Shown, known, Owns}
 use Rattle.joint_history.specs.Callers.{HoldsPass}
 use Rattle.joint_history.specs.Driven.{DriverRests, DriverStands, driver_entry}
-use Rattle.joint_history.specs.DriverSnaps.{DrawsSnapshot, MakesSnapshot, OpensCycle}
+use Rattle.joint_history.specs.DriverSnaps.{DrawsSnapshot, MakesSnapshot}
 use Rattle.joint_history.specs.Locked.{Drew, ManagedKnows}
 use Rattle.joint_history.specs.Passing.{Lends, Returns}
 use Rattle.joint_history.proofs.DriverCalls.{Called, IsUnderLock, called, stands_anew}

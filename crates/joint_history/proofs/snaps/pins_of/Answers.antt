@@ -1,4 +1,4 @@
-use Rattle.std.proofs.Common.{◌≡◌, ℕ, ◌-◌, [], ◌∷◌, Some, ap}
+use Rattle.std.proofs.Common.{◌≡◌, ◌-◌, [], ◌∷◌, Some, ap}
 use Rattle.std.specs.Prelude.{slice_get}
 use Rattle.joint_model.specs.Heaps.{slot}
 use Rattle.joint_model.specs.Sides.{object_or_none}
