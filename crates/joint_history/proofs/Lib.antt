@@ -10,3 +10,9 @@ pub mod Desking
 pub mod Finishing
 pub mod Gathering
 pub mod Turning
+pub mod DeadParts
+pub mod DriverSteps
+pub mod DriverPeerSteps
+pub mod DriverCalls
+pub mod DriverSnaps
+pub mod DriverHears

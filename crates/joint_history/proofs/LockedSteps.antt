@@ -8,6 +8,7 @@ use Rattle.std.proofs.Common.{false}
 use Rattle.joint_model.specs.declared.names.Thread.{Thread}
 use Rattle.joint_model.specs.declared.names.Thread.TheVariants.{M, P, C}
 use Rattle.joint_model.specs.declared.events.Entry.{Entry}
+use Rattle.joint_model.specs.declared.events.Made.{Made}
 use Rattle.joint_model.specs.declared.events.Op.{Op}
 use Rattle.joint_model.specs.declared.events.Reply.{Reply}
 use Rattle.joint_model.specs.Control.{Doing, CallerAllows, ThreadAllows, last_line}
@@ -52,7 +53,7 @@ doing_told (M n) a b e = (lines_give_parts a b).doing n e
 doing_told (P n) a b e = refl
 doing_told C a b e = refl
 
-last_told : (t : Thread) (a b : List Noted) (index : ℕ) → line (caller_line t) a ≡ line (caller_line t) b → last_line (end_of b).control t ≤ index → last_line (end_of a).control t ≤ index
+pub last_told : (t : Thread) (a b : List Noted) (index : ℕ) → line (caller_line t) a ≡ line (caller_line t) b → last_line (end_of b).control t ≤ index → last_line (end_of a).control t ≤ index
 last_told t a b index e l = subst (λ n. n ≤ index) (sym ((lines_give_parts a b).last t e)) l
 
 -- so the caller stands there as it stood
@@ -77,16 +78,27 @@ pub record Entered (t : Thread) (mine lent2 : View) (past : List Noted) (k : Kep
   pub comes : MayCome (end_of past) (note_of k.entry told)
   pub stands : Stands t lent2 k.entry.made.index (doing_from t k.entry)
 
-entered : (t : Thread) (mine lent lent2 : View) (r : ℕ) (k : Kept) (told : Told) (j : IsKnownView lent) → IsThread t → k.entry.made.caller ≡ t → (m : MayMake t mine k.entry.made.index k.entry.made.op k.entry.made.cites) → line (caller_line t) j.past ≡ line (caller_line t) m.stands.known.past
+-- what is asked of a caller's entry: its line isn't below that of the caller's last one, and it is the caller's turn
+pub record MayNow (t : Thread) (s : Linkage) (m : Made) (told : Told) : Type 0 where
+  pub last : last_line s.control t ≤ m.index
+  pub allows : CallerAllows s.control s.managed.managed s.peer.peers.issued t m.index m.op m.reply m.cites told
+
+-- of a thread it holds at each past that has the thread's line as its seat knows it
+pub thread_may : (t : Thread) (past : List Noted) (mine : View) (m : Made) (told : Told) (w : MayMake t mine m.index m.op m.cites) → line (caller_line t) past ≡ line (caller_line t) w.stands.known.past → MayNow t (end_of past) m told
+thread_may t past mine m told w same =
+    let doing = doing_told t past w.stands.known.past same ∙ w.stands.doing in
+    record {
+      last = last_told t past w.stands.known.past m.index same w.stands.last;
+      allows = turn_allows t (end_of past) w.doing m.index m.op m.reply m.cites told doing w.turn;
+    }
+
+pub entered_by : (t : Thread) (mine lent lent2 : View) (r : ℕ) (k : Kept) (told : Told) (j : IsKnownView lent) → IsThread t → k.entry.made.caller ≡ t → MayNow t (end_of j.past) k.entry.made told
     → k.entry.made.index < 2 ^ 32 → Grows lent lent2 r k → IsInRole r k.entry.made → ((i : ℕ) → IsBelow k.entry.number (known lent i))
     → managed_rules.lawful (end_of j.past).managed k.entry.made told ⊎ peer_rules.lawful (end_of j.past).peer k.entry.made told → Entered t mine lent2 j.past k told
-entered t mine lent lent2 r k told j thread caller m same short grows role below side =
-    let last = last_told t j.past m.stands.known.past k.entry.made.index same m.stands.last in
-    let doing = doing_told t j.past m.stands.known.past same ∙ m.stands.doing in
+entered_by t mine lent lent2 r k told j thread caller may short grows role below side =
     let comes = side_entry_comes (end_of j.past) k.entry.number k.entry.made told
-    (subst (λ u. last_line (end_of j.past).control u ≤ k.entry.made.index) (sym caller) last) short
-    (subst (λ u. CallerAllows (end_of j.past).control (end_of j.past).managed.managed (end_of j.past).peer.peers.issued u k.entry.made.index k.entry.made.op k.entry.made.reply k.entry.made.cites told) (sym caller)
-    (turn_allows t (end_of j.past) m.doing k.entry.made.index k.entry.made.op k.entry.made.reply k.entry.made.cites told doing m.turn))
+    (subst (λ u. last_line (end_of j.past).control u ≤ k.entry.made.index) (sym caller) may.last) short
+    (subst (λ u. CallerAllows (end_of j.past).control (end_of j.past).managed.managed (end_of j.past).peer.peers.issued u k.entry.made.index k.entry.made.op k.entry.made.reply k.entry.made.cites told) (sym caller) may.allows)
     side in
     let g = views_grow lent lent2 r k j told grows role below comes in
     record {
@@ -161,23 +173,42 @@ pub record DidManaged (t : Thread) (mine locked2 mine2 : View) (side : Side Mana
   pub knows : ManagedKnows locked2 side
   pub makes : Makes t mine mine2 e told
 
+-- by what is known together after the caller's lines were handed over
+pub record DidManagedBy (t : Thread) (mine lent2 locked2 mine2 : View) (past : List Noted) (side : Side ManagedReplay) (k : Kept) (told : Told) : Type 0 where
+  pub entered : Entered t mine lent2 past k told
+  pub knows : ManagedKnows locked2 side
+  pub after : (end_of entered.grown.known.past).managed ≡ side.state
+  pub makes : Makes t mine mine2 k.entry told
+
+pub did_managed_by : (t : Thread) (locked mine lent mine1 lent2 locked2 mine2 : View) (old new : Side ManagedReplay) (k : Kept) (told : Told) (m : IsKnownView mine) → IsThread t → HoldsPass t mine → Owns locked 0 → k.entry.made.caller ≡ t → k.entry.made.index < 2 ^ 32
+    → (ks : ManagedKnows locked old) (l : Lends t locked mine lent mine1) → MayNow t (end_of (lent_joined t locked mine lent mine1 l ks.known m).joined.past) k.entry.made told → Grows lent lent2 0 k → ((i : ℕ) → IsBelow k.entry.number (known lent i))
+    → new.entries ≡ old.entries ++ k.entry ∷ [] → GoesOn managed_rules old.state k.entry.made told new.state → Returns t lent2 mine1 locked2 mine2 → DidManagedBy t mine lent2 locked2 mine2 (lent_joined t locked mine lent mine1 l ks.known m).joined.past new k told
+did_managed_by t locked mine lent mine1 lent2 locked2 mine2 old new k told m is pass owns caller short ks l may g below added goes b =
+    let j = lent_joined t locked mine lent mine1 l ks.known m in
+    let state = j.managed_first (ap line_entries (l.whole 0 owns)) ∙ ks.state in
+    let side = goes.lawful.0.side in
+    let e = entered_by t mine lent lent2 0 k told j.joined is caller may short g
+    (record { one = omega arith; managed = λ z. side; peer = λ z. absurd (omega arith) }) below (inl (subst (λ s. managed_rules.lawful s k.entry.made told) (sym state) goes.lawful)) in
+    let after : (end_of e.grown.known.past).managed ≡ new.state = e.grown.managed ∙ (ap (managed_after (end_of j.joined.past).managed k.entry.made told) side ∙ (ap (λ (s : ManagedReplay). (managed_answer s k.entry.made.caller k.entry.made.op told).state) state ∙ sym goes.state)) in
+    record {
+      entered = e;
+      knows = record {
+        known = record { past = e.grown.known.past; lawful = e.grown.known.lawful; same = λ i. ap line_entries (b.stays i) ∙ e.grown.known.same i };
+        entries = ap line_entries (b.stays 0 ∙ g.role) ∙ (entries_snoc (known lent 0) k ∙ (ap (λ es. es ++ k.entry ∷ []) (ap line_entries (l.whole 0 owns) ∙ ks.entries) ∙ sym added));
+        state = after;
+      };
+      after = after;
+      makes = makes t locked mine lent mine1 lent2 locked2 mine2 0 k told j.joined pass caller l g below e b;
+    }
+
 pub did_managed : (t : Thread) (locked mine lent mine1 lent2 locked2 mine2 : View) (old new : Side ManagedReplay) (k : Kept) (told : Told) → IsThread t → HoldsPass t mine → Owns locked 0 → k.entry.made.caller ≡ t → k.entry.made.index < 2 ^ 32
     → ManagedKnows locked old → MayMake t mine k.entry.made.index k.entry.made.op k.entry.made.cites → Lends t locked mine lent mine1 → Grows lent lent2 0 k → ((i : ℕ) → IsBelow k.entry.number (known lent i))
     → new.entries ≡ old.entries ++ k.entry ∷ [] → GoesOn managed_rules old.state k.entry.made told new.state → Returns t lent2 mine1 locked2 mine2 → DidManaged t mine locked2 mine2 new k.entry told
 did_managed t locked mine lent mine1 lent2 locked2 mine2 old new k told is pass owns caller short ks may l g below added goes b =
     let j = lent_joined t locked mine lent mine1 l ks.known may.stands.known in
-    let state = j.managed_first (ap line_entries (l.whole 0 owns)) ∙ ks.state in
-    let side = goes.lawful.0.side in
-    let e = entered t mine lent lent2 0 k told j.joined is caller may (own_told t locked mine lent mine1 l ks.known may.stands.known pass) short g
-    (record { one = omega arith; managed = λ z. side; peer = λ z. absurd (omega arith) }) below (inl (subst (λ s. managed_rules.lawful s k.entry.made told) (sym state) goes.lawful)) in
-    record {
-      knows = record {
-        known = record { past = e.grown.known.past; lawful = e.grown.known.lawful; same = λ i. ap line_entries (b.stays i) ∙ e.grown.known.same i };
-        entries = ap line_entries (b.stays 0 ∙ g.role) ∙ (entries_snoc (known lent 0) k ∙ (ap (λ es. es ++ k.entry ∷ []) (ap line_entries (l.whole 0 owns) ∙ ks.entries) ∙ sym added));
-        state = e.grown.managed ∙ (ap (managed_after (end_of j.joined.past).managed k.entry.made told) side ∙ (ap (λ s. (managed_answer s k.entry.made.caller k.entry.made.op told).state) state ∙ sym goes.state));
-      };
-      makes = makes t locked mine lent mine1 lent2 locked2 mine2 0 k told j.joined pass caller l g below e b;
-    }
+    let now = thread_may t j.joined.past mine k.entry.made told may (own_told t locked mine lent mine1 l ks.known may.stands.known pass) in
+    let w = did_managed_by t locked mine lent mine1 lent2 locked2 mine2 old new k told may.stands.known is pass owns caller short ks l now g below added goes b in
+    record { knows = w.knows; makes = w.makes }
 
 pub knows_still : (t : Thread) (locked mine lent mine1 locked2 mine2 : View) (side : Side ManagedReplay) → Owns locked 0 → ManagedKnows locked side → IsKnownView mine → Lends t locked mine lent mine1 → Returns t lent mine1 locked2 mine2 → ManagedKnows locked2 side
 knows_still t locked mine lent mine1 locked2 mine2 side owns ks m l b =
@@ -193,23 +224,42 @@ pub record DidPeer (t : Thread) (mine locked2 mine2 : View) (side : Side PeerRep
   pub knows : PeerKnows locked2 side
   pub makes : Makes t mine mine2 e told
 
+-- by what is known together after the caller's lines were handed over
+pub record DidPeerBy (t : Thread) (mine lent2 locked2 mine2 : View) (past : List Noted) (side : Side PeerReplay) (k : Kept) (told : Told) : Type 0 where
+  pub entered : Entered t mine lent2 past k told
+  pub knows : PeerKnows locked2 side
+  pub after : (end_of entered.grown.known.past).peer ≡ side.state
+  pub makes : Makes t mine mine2 k.entry told
+
+pub did_peer_by : (t : Thread) (locked mine lent mine1 lent2 locked2 mine2 : View) (old new : Side PeerReplay) (k : Kept) (told : Told) (m : IsKnownView mine) → IsThread t → HoldsPass t mine → Owns locked 1 → k.entry.made.caller ≡ t → k.entry.made.index < 2 ^ 32
+    → (ks : PeerKnows locked old) (l : Lends t locked mine lent mine1) → MayNow t (end_of (lent_joined t locked mine lent mine1 l ks.known m).joined.past) k.entry.made told → Grows lent lent2 1 k → ((i : ℕ) → IsBelow k.entry.number (known lent i))
+    → new.entries ≡ old.entries ++ k.entry ∷ [] → GoesOn peer_rules old.state k.entry.made told new.state → Returns t lent2 mine1 locked2 mine2 → DidPeerBy t mine lent2 locked2 mine2 (lent_joined t locked mine lent mine1 l ks.known m).joined.past new k told
+did_peer_by t locked mine lent mine1 lent2 locked2 mine2 old new k told m is pass owns caller short ks l may g below added goes b =
+    let j = lent_joined t locked mine lent mine1 l ks.known m in
+    let state = j.peer_first (ap line_entries (l.whole 1 owns)) ∙ ks.state in
+    let side = goes.lawful.0.side in
+    let e = entered_by t mine lent lent2 1 k told j.joined is caller may short g
+    (record { one = omega arith; managed = λ z. absurd (omega arith); peer = λ z. side }) below (inr (subst (λ s. peer_rules.lawful s k.entry.made told) (sym state) goes.lawful)) in
+    let after : (end_of e.grown.known.past).peer ≡ new.state = e.grown.peer ∙ (ap (peer_after (end_of j.joined.past).peer k.entry.made told) side ∙ (ap (λ (s : PeerReplay). (peer_answer s k.entry.made.caller k.entry.made.op k.entry.made.cites told).state) state ∙ sym goes.state)) in
+    record {
+      entered = e;
+      knows = record {
+        known = record { past = e.grown.known.past; lawful = e.grown.known.lawful; same = λ i. ap line_entries (b.stays i) ∙ e.grown.known.same i };
+        entries = ap line_entries (b.stays 1 ∙ g.role) ∙ (entries_snoc (known lent 1) k ∙ (ap (λ es. es ++ k.entry ∷ []) (ap line_entries (l.whole 1 owns) ∙ ks.entries) ∙ sym added));
+        state = after;
+      };
+      after = after;
+      makes = makes t locked mine lent mine1 lent2 locked2 mine2 1 k told j.joined pass caller l g below e b;
+    }
+
 pub did_peer : (t : Thread) (locked mine lent mine1 lent2 locked2 mine2 : View) (old new : Side PeerReplay) (k : Kept) (told : Told) → IsThread t → HoldsPass t mine → Owns locked 1 → k.entry.made.caller ≡ t → k.entry.made.index < 2 ^ 32
     → PeerKnows locked old → MayMake t mine k.entry.made.index k.entry.made.op k.entry.made.cites → Lends t locked mine lent mine1 → Grows lent lent2 1 k → ((i : ℕ) → IsBelow k.entry.number (known lent i))
     → new.entries ≡ old.entries ++ k.entry ∷ [] → GoesOn peer_rules old.state k.entry.made told new.state → Returns t lent2 mine1 locked2 mine2 → DidPeer t mine locked2 mine2 new k.entry told
 did_peer t locked mine lent mine1 lent2 locked2 mine2 old new k told is pass owns caller short ks may l g below added goes b =
     let j = lent_joined t locked mine lent mine1 l ks.known may.stands.known in
-    let state = j.peer_first (ap line_entries (l.whole 1 owns)) ∙ ks.state in
-    let side = goes.lawful.0.side in
-    let e = entered t mine lent lent2 1 k told j.joined is caller may (own_told t locked mine lent mine1 l ks.known may.stands.known pass) short g
-    (record { one = omega arith; managed = λ z. absurd (omega arith); peer = λ z. side }) below (inr (subst (λ s. peer_rules.lawful s k.entry.made told) (sym state) goes.lawful)) in
-    record {
-      knows = record {
-        known = record { past = e.grown.known.past; lawful = e.grown.known.lawful; same = λ i. ap line_entries (b.stays i) ∙ e.grown.known.same i };
-        entries = ap line_entries (b.stays 1 ∙ g.role) ∙ (entries_snoc (known lent 1) k ∙ (ap (λ es. es ++ k.entry ∷ []) (ap line_entries (l.whole 1 owns) ∙ ks.entries) ∙ sym added));
-        state = e.grown.peer ∙ (ap (peer_after (end_of j.joined.past).peer k.entry.made told) side ∙ (ap (λ s. (peer_answer s k.entry.made.caller k.entry.made.op k.entry.made.cites told).state) state ∙ sym goes.state));
-      };
-      makes = makes t locked mine lent mine1 lent2 locked2 mine2 1 k told j.joined pass caller l g below e b;
-    }
+    let now = thread_may t j.joined.past mine k.entry.made told may (own_told t locked mine lent mine1 l ks.known may.stands.known pass) in
+    let w = did_peer_by t locked mine lent mine1 lent2 locked2 mine2 old new k told may.stands.known is pass owns caller short ks l now g below added goes b in
+    record { knows = w.knows; makes = w.makes }
 
 pub knows_peers_still : (t : Thread) (locked mine lent mine1 locked2 mine2 : View) (side : Side PeerReplay) → Owns locked 1 → PeerKnows locked side → IsKnownView mine → Lends t locked mine lent mine1 → Returns t lent mine1 locked2 mine2 → PeerKnows locked2 side
 knows_peers_still t locked mine lent mine1 locked2 mine2 side owns ks m l b =

@@ -5,3 +5,6 @@ pub mod Locked
 pub mod Desks
 pub mod Ending
 pub mod Operations
+pub mod Driven
+pub mod DriverDraws
+pub mod DriverSnaps

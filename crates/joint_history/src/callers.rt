@@ -1,8 +1,9 @@
 // A thread's pass.
 
 ghost use Rattle.std.specs.Prelude.{◌≡◌};
-ghost use Rattle.joint_model.specs.Lines.{IsThread};
+ghost use Rattle.joint_model.specs.Lines.{IsDriver, IsThread};
 ghost use Rattle.joint_history.specs.Callers.{CallerKnows, HoldsPass, Hears, Tells};
+ghost use Rattle.joint_history.specs.Driven.{StillStands};
 
 use joint_model::{Reply, Thread};
 use order_table::{Order, OrderName, Seat};
@@ -59,11 +60,12 @@ impl<N: OrderName> Caller<N> {
     }
 }
 
-/// Tells one caller what another knows. It makes no entry.
+/// Tells one caller what another knows. It makes no entry, and where the driver is told it stands where it stood.
 pub(crate) fn tell<N: OrderName>(order: &Order, from: &mut Caller<N>, to: &mut Caller<N>)
     requires order { order.now ≡ N.order }
     ensures from { Tells from.old from.new }
     ensures to { Hears from.old to.old to.new }
+    ensures driver { IsDriver to.old.thread → StillStands to.old.view to.new.view }
 {
     let note = order.note(&mut from.seat);
     order.learn(&mut to.seat, note);

@@ -23,8 +23,8 @@ use std::marker::{Model, PhantomData};
 /// managed side is as this one.
 #[derive(Drop)]
 pub struct LockedManaged<N: OrderName> {
-    side: ManagedSide,
-    seat: Seat,
+    pub(crate) side: ManagedSide,
+    pub(crate) seat: Seat,
     of: PhantomData<N>,
 }
 
@@ -41,7 +41,7 @@ impl<N: OrderName> Model for LockedManaged<N> {
 }
 
 // The side draws by the seat: what is said here is what that leaves in both, and nothing else.
-fn draw_step(
+pub(crate) fn draw_step(
     side: &mut ManagedSide,
     order: &Order,
     seat: &mut Seat,

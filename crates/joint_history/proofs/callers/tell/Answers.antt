@@ -1,4 +1,7 @@
-use Rattle.std.proofs.Common.{subst, ◌∙◌}
+use Rattle.std.proofs.Common.{sym, subst, ◌∙◌}
+use Rattle.joint_model.specs.Lines.{IsDriver}
+use Rattle.joint_history.specs.Driven.{DriverStands}
+use Rattle.joint_history.proofs.DriverHears.{driver_hears, driver_pass}
 use Rattle.joint_history.proofs.KnownCallers.{caller_same, caller_joins, hears, pass_kept, pass_joined}
 use Rattle.joint_history.specs.Callers.{Hears, Pass}
 use Rattle.joint_history.proofs.callers.tell.Goals as goal
@@ -25,3 +28,10 @@ returns-clause-to g c =
     let now : Pass = record { thread = c.to.inside.thread; view = c.learn.new.seat.view } in
     subst (λ p. Hears p c.args.to.now now) c.from.view_is (subst (λ p. Hears (record { thread = c.from.inside.thread; view = c.from.inside.seat.view }) p now) c.to.view_is
     (hears c.to.inside.thread c.from.inside.thread _ c.note-note.new.seat.view c.note-note.result.view _ _ c.note-note.ensures.parts c.learn.ensures.takes c.to.invariant.2))
+
+pub returns-clause-driver : goal.returns-clause-driver
+returns-clause-driver g c = λ is index stand seen s.
+    let driver = subst (λ (p : Pass). IsDriver p.thread) (sym c.to.view_is) is in
+    driver_hears c.to.inside.seat.view c.note-note.result.view c.learn.new.seat.view
+    (caller_same c.from.inside.thread _ c.note-note.result.view c.from.invariant.3 (λ i. (c.note-note.ensures.parts.know i).1)).known c.learn.ensures.takes c.learn.ensures.one_history
+    (driver_pass c.to.inside.thread c.to.inside.seat.view driver c.to.invariant.2) index stand seen (subst (λ (p : Pass). DriverStands p.view index stand seen) (sym c.to.view_is) s)

@@ -1,0 +1,48 @@
+-- The dead part of an open cycle, as it is seen in managed objects: it is that of later ones, as long as the cycle is open.
+use Rattle.std.proofs.Common.{◌≡◌, ℕ, List, [], length, Option, Some, None, refl, sym, ap, ◌∙◌, subst}
+use Rattle.std.specs.Prelude.{slice_get}
+use Rattle.joint_model.specs.Control.{candidates_of, IsCandidateHandle}
+use Rattle.joint_model.specs.Managed.{Managed, OpenCycle}
+use Rattle.joint_model.proofs.Deciding.{none_some}
+use Rattle.joint_model.proofs.HeapLemmas.{candidates_of-open}
+use Rattle.joint_model.proofs.Members.{Contains-at}
+use Rattle.joint_laws.specs.ManagedInvariants.{IsManagedKept}
+use Rattle.known_laws.specs.Pasts.{HasSameDeadPart}
+
+pub dead_part_self : (s : Managed) → HasSameDeadPart s s
+dead_part_self s = record { cycle = refl; handles = λ c e m w. refl; fields = λ c e m w. refl; contraction = λ c e comps xrefs d. d }
+
+pub dead_part_on : (s t u : Managed) → HasSameDeadPart s t → HasSameDeadPart t u → HasSameDeadPart s u
+dead_part_on s t u p q = record {
+  cycle = p.cycle ∙ q.cycle;
+  handles = λ c e m w. p.handles c e m w ∙ q.handles c (sym p.cycle ∙ e) m w;
+  fields = λ c e m w. p.fields c e m w ∙ q.fields c (sym p.cycle ∙ e) m w;
+  contraction = λ c e comps xrefs d. q.contraction c (sym p.cycle ∙ e) comps xrefs (p.contraction c e comps xrefs d);
+}
+
+-- where no cycle is open there is none
+pub dead_part_closed : (s t : Managed) → s.cycle ≡ None → t.cycle ≡ None → HasSameDeadPart s t
+dead_part_closed s t p q = record {
+  cycle = p ∙ sym q;
+  handles = λ c e m w. absurd (none_some c (sym p ∙ e));
+  fields = λ c e m w. absurd (none_some c (sym p ∙ e));
+  contraction = λ c e comps xrefs d. absurd (none_some c (sym p ∙ e));
+}
+
+-- the candidates are the same
+pub candidates_same : (s t : Managed) → HasSameDeadPart s t → candidates_of s ≡ candidates_of t
+candidates_same s t d = ap (λ (o : Option OpenCycle). elim o [ None ↦ [] | Some c ↦ c.candidates ]) d.cycle
+
+pub count_same : (s t : Managed) → HasSameDeadPart s t → length (candidates_of s) ≡ length (candidates_of t)
+count_same s t d = ap length (candidates_same s t d)
+
+-- and so are the candidates' handles, in objects that keep what every known past keeps
+pub candidate_handle_on : (s t : Managed) → HasSameDeadPart s t → IsManagedKept t → (i h : ℕ) → IsCandidateHandle s i h → IsCandidateHandle t i h
+candidate_handle_on s t d k i h w = by s.cycle refl
+  where
+    by : (o : Option OpenCycle) → s.cycle ≡ o → IsCandidateHandle t i h
+    by None e = absurd (none_some w.0 (subst (λ (xs : List ℕ). slice_get xs i ≡ Some w.0) (ap (λ (o : Option OpenCycle). elim o [ None ↦ [] | Some c ↦ c.candidates ]) e) w.1))
+    by (Some c) e =
+        let there = subst (λ (xs : List ℕ). slice_get xs i ≡ Some w.0) (candidates_of-open s c e) w.1 in
+        let in_dead = (((k.dead c (sym d.cycle ∙ e)).candidates w.0).0 (Contains-at c.candidates i w.0 there)).0 in
+        (w.0, subst (λ (xs : List ℕ). slice_get xs i ≡ Some w.0) (candidates_same s t d) w.1, sym (d.handles c e w.0 in_dead) ∙ w.2)

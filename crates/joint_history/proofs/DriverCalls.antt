@@ -1,0 +1,356 @@
+-- The driver's calls under the managed lock: what each asks of the side holds by where the driver stands, since what every known past keeps holds at the
+-- end of what is known together; and what each leaves the driver with.
+use Rattle.std.proofs.Common.{◌≡◌, ◌⊎◌, inl, inr, ⊎_elim, ℕ, ◌<◌, ◌^◌, Bool, List, length, Option, Some, None, refl, sym, ap, ◌∙◌, subst}
+use Rattle.std.specs.Prelude.{IsSome, Result, Ok, Err, IfOk, OnErr}
+use mathlib.Core.List.{IsPrefix}
+use Rattle.std.proofs.lemmas.List.{length-map}
+use Rattle.std.proofs.lemmas.Option.{same_Some}
+use Rattle.joint_model.specs.declared.names.Cycle.{Cycle}
+use Rattle.joint_model.specs.declared.names.Phase.{Phase}
+use Rattle.joint_model.specs.declared.names.Phase.TheVariants as at
+use Rattle.joint_model.specs.declared.names.PhaseWord.{PhaseWord}
+use Rattle.joint_model.specs.declared.names.PhaseWord.TheVariants as word
+use Rattle.joint_model.specs.declared.names.Span.{Span}
+use Rattle.joint_model.specs.declared.names.Thread.TheVariants.{C}
+use Rattle.joint_model.specs.declared.lines.Act.TheVariants as act
+use Rattle.joint_model.specs.declared.events.Entry.{Entry}
+use Rattle.joint_model.specs.declared.events.Op.TheVariants as op
+use Rattle.joint_model.specs.declared.events.Reply.{Reply}
+use Rattle.joint_model.specs.declared.events.Reply.TheVariants as says
+use Rattle.joint_model.specs.Control.{Opened, Stand, idle, snapped, contracted, weakening, marked, restoring, restored, candidates_of, IsPhaseOf, IsAtRest, MayAbandonNow, seen_weakened, stand_after}
+use Rattle.joint_model.specs.Cycles.{IsOpen}
+use Rattle.joint_model.specs.Linked.{Linkage}
+use Rattle.joint_model.specs.Listed.{answer_of, answers_of}
+use Rattle.joint_model.specs.Managed.{Managed, OpenCycle}
+use Rattle.joint_model.specs.ManagedReplay.{ManagedReplay, MayContract, MayRefuse, open_reply, refusal_to}
+use Rattle.joint_model.specs.Run.{thread_number}
+use Rattle.joint_model.specs.Sides.{Side, managed_rules}
+use Rattle.joint_model.specs.Told.{Told, nothing, contraction_of, resolution_of, phase_of}
+use Rattle.joint_laws.specs.ManagedInvariants.{IsReplayKept}
+use Rattle.joint_laws.proofs.ManagedMoves.{GoesOn, managed_line-goes_on}
+use Rattle.known_laws.specs.Conditions.{IsOpenHere}
+use Rattle.known_laws.specs.Driving.{IsPastKept}
+use Rattle.known_laws.specs.Known.{TellsPlainly}
+use Rattle.known_laws.specs.Pasts.{HasSameDeadPart, end_of}
+use Rattle.known_laws.proofs.Conditions.{snapped_may_be_contracted, unmirrored_may_be_abandoned, restored_may_be_resolved, refused_may_be_told}
+use Rattle.known_laws.proofs.FrozenPasts.{alike_meet, alike_on, alike_self, dead_part-alike}
+use Rattle.known_laws.proofs.KnownPasts.{known_past_is_kept}
+use Rattle.managed_side.specs.declared.cycles.ResolveOut.{ResolveOut}
+use Rattle.managed_side.specs.Calls.{IsContractedBy, MayContractWith}
+use Rattle.managed_side.specs.Resolving.{MayClose}
+use Rattle.order_table.specs.declared.views.View.{View}
+use Rattle.order_table.specs.Facts.{line_entries}
+use Rattle.order_table.specs.Views.{OrderId, Shown, known, Owns}
+use Rattle.joint_history.specs.Callers.{HoldsPass}
+use Rattle.joint_history.specs.Driven.{DriverMakesNone, DriverRests, DriverStands, HasContraction, IsStillAt, IsUnmirrored, MakesAbandon, MakesContraction, MakesFinalise, MakesRefusal, MakesResolution, MayAbandonCycle, MayContractCycle, MayFinalise, MayRefuseWord, MayResolveCycle, driver_entry}
+use Rattle.joint_history.specs.DriverDraws.{DrawsAbandon, DrawsContraction, DrawsResolution}
+use Rattle.joint_history.specs.Knowing.{IsKnownView}
+use Rattle.joint_history.specs.Locked.{Drew, ManagedKnows}
+use Rattle.joint_history.specs.Passing.{Lends, Returns}
+use Rattle.joint_history.proofs.DeadParts.{count_same, dead_part_self}
+use Rattle.joint_history.proofs.DriverSteps.{Driven, DrivenUnder, driven, driven_none, driver_joined, driver_still}
+use Rattle.joint_history.proofs.LockedSteps.{grows_more, lent_joined, owns_on}
+
+-- what holds under the lock: the driver stands so in a state that has all that every known past keeps, and whose managed side is this one
+pub record IsUnderLock (side : ManagedReplay) (stand : Stand) (seen : Managed) : Type 0 where
+  pub state : Linkage
+  pub kept : IsPastKept state
+  pub managed : state.managed ≡ side
+  pub stood : state.control.stand ≡ stand
+  pub dead : HasSameDeadPart seen state.managed.managed
+
+pub under_lock : (locked mine lent mine1 : View) (side : Side ManagedReplay) (index : ℕ) (stand : Stand) (seen : Managed) → HoldsPass C mine → Owns locked 0 → ManagedKnows locked side → DriverStands mine index stand seen → Lends C locked mine lent mine1 → IsUnderLock side.state stand seen
+under_lock locked mine lent mine1 side index stand seen pass owns ks s l =
+    let j = lent_joined C locked mine lent mine1 l ks.known s.known in
+    let at = driver_joined locked mine lent mine1 l ks.known pass index stand seen s in
+    record {
+      state = end_of j.joined.past;
+      kept = known_past_is_kept j.joined.past j.joined.lawful;
+      managed = j.managed_first (ap line_entries (l.whole 0 owns)) ∙ ks.state;
+      stood = at.come;
+      dead = at.dead;
+    }
+
+-- the dead part in the side's own objects
+dead_here : (side : ManagedReplay) (stand : Stand) (seen : Managed) (u : IsUnderLock side stand seen) → HasSameDeadPart seen side.managed
+dead_here side stand seen u = subst (λ (r : ManagedReplay). HasSameDeadPart seen r.managed) u.managed u.dead
+
+-- the contraction of the dead part that the driver has seen is that of the open cycle
+contraction_may : (side : ManagedReplay) (o : Opened) (seen : Managed) (sccs xrefs : ℕ) (comps : List (List ℕ)) (pairs : List (ℕ × ℕ)) → IsUnderLock side (snapped o) seen → HasContraction seen sccs xrefs comps pairs → MayContract side o.cycle comps pairs
+contraction_may side o seen sccs xrefs comps pairs u h =
+    subst (λ (r : ManagedReplay). MayContract r o.cycle comps pairs) u.managed
+    (snapped_may_be_contracted u.state u.kept o u.stood comps pairs (λ c e. u.dead.contraction c (u.dead.cycle ∙ e) comps pairs (h.exact c (u.dead.cycle ∙ e))))
+
+contracted_by : (side : ManagedReplay) (k : ℕ) (c : OpenCycle) (seen : Managed) (sccs xrefs : ℕ) (comps : List (List ℕ)) (pairs : List (ℕ × ℕ)) → c.number ≡ k → MayContract side k comps pairs → HasContraction seen sccs xrefs comps pairs → IsContractedBy side c sccs xrefs comps pairs
+contracted_by side k c seen sccs xrefs comps pairs e may h = record { may = subst (λ (n : ℕ). MayContract side n comps pairs) (sym e) may; components = h.components; references = h.references }
+
+-- `contracted`
+pub may_contract_with : (side : ManagedReplay) (v : View) (index sccs xrefs : ℕ) (w : MayContractCycle v index sccs xrefs) → IsUnderLock side (snapped w.opened) w.seen → MayContractWith side sccs xrefs
+may_contract_with side v index sccs xrefs w u =
+    let may = contraction_may side w.opened w.seen sccs xrefs w.comps w.pairs u w.contraction in
+    record {
+      cycle = may.cycle;
+      opened = may.open_cycle.0;
+      comps = w.comps;
+      pairs = w.pairs;
+      contracted = contracted_by side w.opened.cycle may.cycle w.seen sccs xrefs w.comps w.pairs may.open_cycle.1 may w.contraction;
+    }
+
+-- the open cycle is one
+one_cycle : (s : Managed) (k : ℕ) (c d : OpenCycle) → s.cycle ≡ Some c → IsOpen s k d → c.number ≡ k
+one_cycle s k c d e w = ap (λ (x : OpenCycle). x.number) (same_Some c d (sym e ∙ w.0)) ∙ w.1
+
+-- after a call the driver has seen the managed objects as they are
+pub stands_anew : (mine mine2 : View) (old new : Side ManagedReplay) (index : ℕ) (stand next : Stand) (seen : Managed) (e : Entry) (told : Told) (d : Driven mine mine2 old new index stand seen e told) → stand_after stand e.number e.made.op e.made.reply d.told_now ≡ next → DriverStands mine2 index next new.state.managed
+stands_anew mine mine2 old new index stand next seen e told d is = record {
+  known = d.known;
+  stands = record { last = d.last; come = d.come ∙ is; dead = subst (λ (r : ManagedReplay). HasSameDeadPart new.state.managed r.managed) (sym d.after) (dead_part_self new.state.managed) };
+}
+
+-- the driver is idle after a call that closes the cycle
+rests_after : (mine mine2 : View) (old new : Side ManagedReplay) (index : ℕ) (stand : Stand) (seen : Managed) (e : Entry) (told : Told) (d : Driven mine mine2 old new index stand seen e told) → stand_after stand e.number e.made.op e.made.reply d.told_now ≡ idle → DriverRests mine2 index
+rests_after mine mine2 old new index stand seen e told d is = record { seen = new.state.managed; stands = stands_anew mine mine2 old new index stand idle seen e told d is }
+
+-- where the managed objects stay, so does the dead part
+same_objects : (s t : ManagedReplay) → t.managed ≡ s.managed → HasSameDeadPart s.managed t.managed
+same_objects s t e = subst (λ (m : Managed). HasSameDeadPart s.managed m) (sym e) (dead_part_self s.managed)
+
+-- an unmirrored cycle is open
+abandon_open : (u : Linkage) → IsPastKept u → (stand : Stand) (o : Opened) → u.control.stand ≡ stand → IsUnmirrored stand o → IsOpenHere u o
+abandon_open u k (snapped p) o e i = (unmirrored_may_be_abandoned u k o).0 (e ∙ ap snapped i)
+abandon_open u k (contracted p comps pairs) o e i = (unmirrored_may_be_abandoned u k o).1 comps pairs (e ∙ ap (λ (z : Opened). contracted z comps pairs) i)
+abandon_open u k idle o e i = absurd i
+abandon_open u k (weakening p count weakened swept) o e i = absurd i
+abandon_open u k (marked p) o e i = absurd i
+abandon_open u k (restoring p answers) o e i = absurd i
+abandon_open u k (restored p answers clear) o e i = absurd i
+
+abandon_allowed : (stand : Stand) (o : Opened) → IsUnmirrored stand o → MayAbandonNow stand o.cycle None
+abandon_allowed (snapped p) o i = (ap (λ (z : Opened). z.cycle) i, refl)
+abandon_allowed (contracted p comps pairs) o i = (ap (λ (z : Opened). z.cycle) i, refl)
+abandon_allowed idle o i = absurd i
+abandon_allowed (weakening p count weakened swept) o i = absurd i
+abandon_allowed (marked p) o i = absurd i
+abandon_allowed (restoring p answers) o i = absurd i
+abandon_allowed (restored p answers clear) o i = absurd i
+
+abandon_idle : (stand : Stand) (o : Opened) (n : ℕ) (k : Cycle) (reply : Reply) (told : Told) → IsUnmirrored stand o → stand_after stand n (op.Abandon k) reply told ≡ idle
+abandon_idle (snapped p) o n k reply told i = refl
+abandon_idle (contracted p comps pairs) o n k reply told i = refl
+abandon_idle idle o n k reply told i = absurd i
+abandon_idle (weakening p count weakened swept) o n k reply told i = absurd i
+abandon_idle (marked p) o n k reply told i = absurd i
+abandon_idle (restoring p answers) o n k reply told i = absurd i
+abandon_idle (restored p answers clear) o n k reply told i = absurd i
+
+pub some_cycle : (o : Option OpenCycle) (c : OpenCycle) → o ≡ Some c → IsSome o
+some_cycle o c e = subst IsSome (sym e) refl
+
+-- `abandon`
+pub may_abandon : (side : ManagedReplay) (v : View) (index : ℕ) (w : MayAbandonCycle v index) → IsUnderLock side w.stand w.seen → IsSome side.managed.cycle
+may_abandon side v index w u =
+    let o = abandon_open u.state u.kept w.stand w.opened u.stood w.unmirrored in
+    subst (λ (r : ManagedReplay). IsSome r.managed.cycle) u.managed (some_cycle u.state.managed.managed.cycle o.0 o.1.0)
+
+-- `resolve`
+pub may_close : (side : ManagedReplay) (v : View) (index clear : ℕ) (alive : List Bool) (w : MayResolveCycle v index clear (answers_of alive)) → IsUnderLock side (restored w.opened (answers_of alive) clear) w.seen → MayClose side alive
+may_close side v index clear alive w u =
+    let r = restored_may_be_resolved u.state u.kept w.opened (answers_of alive) clear u.stood in
+    record { cycle = r.cycle; opened = subst (λ (z : ManagedReplay). z.managed.cycle ≡ Some r.cycle) u.managed r.open_cycle.0; one_each = sym (length-map alive answer_of) ∙ r.one_each }
+
+-- `refused`
+pub may_refuse : (side : ManagedReplay) (v : View) (index : ℕ) (asked : PhaseWord) (phase : Phase) (w : MayRefuseWord v index asked phase) → IsUnderLock side w.stand w.seen → MayRefuse side asked phase
+may_refuse side v index asked phase w u =
+    subst (λ (r : ManagedReplay). MayRefuse r asked phase) u.managed
+    (refused_may_be_told u.state u.kept asked phase
+    (subst (λ (s : Stand). IsPhaseOf s (length (candidates_of u.state.managed.managed)) phase) (sym u.stood) (subst (λ (n : ℕ). IsPhaseOf w.stand n phase) (count_same w.seen u.state.managed.managed u.dead) w.in_phase)) w.refused)
+
+-- a phase other than the weakened one is told plainly, and shows nothing of it
+abbrev IsOther : Phase → Type 0
+IsOther at.Weakened = ⊥
+IsOther _ = Unit {0}
+
+other_or : (phase : Phase) → (phase ≡ at.Weakened) ⊎ IsOther phase
+other_or at.Weakened = inl refl
+other_or phase = inr tt
+
+plainly : (stand : Stand) (asked : PhaseWord) (phase : Phase) → IsOther phase → TellsPlainly stand (op.Refused asked) (phase_of phase)
+plainly stand word.Cycle at.Weakened o = absurd o
+plainly stand word.Snap at.Weakened o = absurd o
+plainly stand asked phase o = tt
+
+unseen : (seen : Bool) (phase : Phase) → IsOther phase → seen_weakened seen (phase_of phase) ≡ seen
+unseen seen at.Weakened o = absurd o
+unseen seen phase o = refl
+
+still_other : (o : Opened) (count : ℕ) (weakened swept : Bool) (phase : Phase) (next : Stand) → IsOther phase → next ≡ weakening o count weakened swept → IsStillAt (weakening o count weakened swept) phase next
+still_other o count weakened swept at.Weakened next other e = absurd other
+still_other o count weakened swept phase next other e = e
+
+refusal_next : (stand : Stand) (n : ℕ) (asked : PhaseWord) (phase : Phase) (reply : Reply) (now : Told) → (TellsPlainly stand (op.Refused asked) (phase_of phase) → now ≡ phase_of phase) → IsStillAt stand phase (stand_after stand n (op.Refused asked) reply now)
+refusal_next (weakening o count weakened swept) n asked phase reply now plain = ⊎_elim
+    (λ (e : phase ≡ at.Weakened). subst (λ (p : Phase). IsStillAt (weakening o count weakened swept) p (weakening o count (seen_weakened weakened now) swept)) (sym e) (seen_weakened weakened now, refl))
+    (λ (other : IsOther phase). still_other o count weakened swept phase (weakening o count (seen_weakened weakened now) swept) other
+    (ap (λ (b : Bool). weakening o count b swept) (ap (seen_weakened weakened) (plain (plainly (weakening o count weakened swept) asked phase other)) ∙ unseen weakened phase other)))
+    (other_or phase)
+refusal_next idle n asked phase reply now plain = refl
+refusal_next (snapped o) n asked phase reply now plain = refl
+refusal_next (contracted o comps pairs) n asked phase reply now plain = refl
+refusal_next (marked o) n asked phase reply now plain = refl
+refusal_next (restoring o answers) n asked phase reply now plain = refl
+refusal_next (restored o answers clear) n asked phase reply now plain = refl
+
+refusal_same : (s t : Managed) (phase : Phase) (asked : PhaseWord) → s.cycle ≡ t.cycle → refusal_to s phase asked ≡ refusal_to t phase asked
+refusal_same s t phase word.Cycle e = ap open_reply e
+refusal_same s t phase word.Snap e = ap open_reply e
+refusal_same s t phase asked e = refl
+
+-- taking notices leaves the dead part as it was
+notices_leave : (mine mine2 : View) (old new : Side ManagedReplay) (index : ℕ) (stand : Stand) (seen : Managed) (n count : ℕ) (reply : Reply) (d : Driven mine mine2 old new index stand seen (driver_entry n index (op.Line (act.Finalise count)) reply None) nothing)
+    → new.state ≡ managed_rules.next old.state (driver_entry n index (op.Line (act.Finalise count)) reply None).made nothing → HasSameDeadPart old.state.managed new.state.managed
+notices_leave mine mine2 old new index stand seen n count reply d goes =
+    let kept = subst (λ (r : ManagedReplay). IsReplayKept r) d.before d.makes.kept.kept.managed in
+    let after = subst (λ (r : ManagedReplay). IsReplayKept r) d.after (known_past_is_kept d.known.past d.known.lawful).kept.managed in
+    let moved = subst (λ (m : Managed). GoesOn old.state.managed m) (sym (ap (λ (r : ManagedReplay). r.managed) goes)) (managed_line-goes_on old.state.managed (thread_number C) (act.Finalise count) kept.managed.places kept.managed.cells) in
+    dead_part-alike old.state.managed new.state.managed kept.managed after.managed
+    (alike_meet old.state.managed old.state.managed new.state.managed (alike_self old.state.managed) (alike_on old.state.managed new.state.managed old.state.managed kept.managed moved (alike_self old.state.managed)))
+
+-- a call under the lock that may find no memory
+pub record Called {X E : Type 0} (mine locked2 mine2 : View) (side : Side ManagedReplay) (result : Result X E) (Q : X → Type 0) : Type 0 where
+  pub knows : ManagedKnows locked2 side
+  pub ok : IfOk result Q
+  pub err : OnErr result (DriverMakesNone mine mine2)
+
+-- after a draw under the lock
+module _ (locked mine mine1 locked2 mine2 : View) (order : OrderId) (seat seat' : Shown) (old new : Side ManagedReplay) (index : ℕ) (pass : HoldsPass C mine) (owns : Owns locked 0) (short : index < 2 ^ 32) (ks : ManagedKnows locked old) (l : Lends C locked mine seat.view mine1) (b : Returns C seat'.view mine1 locked2 mine2) where
+  under : (stand : Stand) (seen : Managed) → DriverStands mine index stand seen → IsUnderLock old.state stand seen
+  under stand seen s = under_lock locked mine seat.view mine1 old index stand seen pass owns ks s l
+
+  -- the contraction
+  with_contraction : (sccs xrefs n : ℕ) → DrawsContraction order seat seat' old new index sccs xrefs n → (o : Opened) (seen : Managed) (comps : List (List ℕ)) (pairs : List (ℕ × ℕ)) → DriverStands mine index (snapped o) seen → HasContraction seen sccs xrefs comps pairs
+      → DrivenUnder mine locked2 mine2 old new index (snapped o) seen (driver_entry n index (op.Contract record { 0 = o.cycle }) (says.Sccs sccs xrefs) None) (contraction_of comps pairs)
+  with_contraction sccs xrefs n d o seen comps pairs s h =
+      let may = contraction_may old.state o seen sccs xrefs comps pairs (under (snapped o) seen s) h in
+      let same = one_cycle old.state.managed o.cycle d.cycle may.cycle d.opened may.open_cycle in
+      let drew = subst (λ (k : ℕ). Drew managed_rules 0 order seat seat' old new (driver_entry n index (op.Contract record { 0 = k }) (says.Sccs sccs xrefs) None) (contraction_of comps pairs)) same
+      (d.drew comps pairs (contracted_by old.state o.cycle d.cycle seen sccs xrefs comps pairs same may h)) in
+      driven locked mine mine1 locked2 mine2 order seat seat' old new index (snapped o) seen (driver_entry n index (op.Contract record { 0 = o.cycle }) (says.Sccs sccs xrefs) None) (contraction_of comps pairs) pass owns refl refl short ks s (λ issued. (refl, refl)) l drew b
+
+  pub contraction_made : (sccs xrefs n : ℕ) → DrawsContraction order seat seat' old new index sccs xrefs n → MakesContraction mine mine2 index sccs xrefs n
+  contraction_made sccs xrefs n d o seen comps pairs s h =
+      let e = driver_entry n index (op.Contract record { 0 = o.cycle }) (says.Sccs sccs xrefs) None in
+      let w = (with_contraction sccs xrefs n d o seen comps pairs s h).driven in (
+        w.makes,
+        driver_still mine mine2 old new index (snapped o) (contracted o comps pairs) seen e (contraction_of comps pairs) w
+            (same_objects old.state new.state (ap (λ (r : ManagedReplay). r.managed) (d.drew d.comps d.pairs d.contracted).goes.state))
+            (ap (λ (t : Told). stand_after (snapped o) n (op.Contract record { 0 = o.cycle }) (says.Sccs sccs xrefs) t) (w.plain tt)),
+      )
+
+  pub contraction_knows : (sccs xrefs n : ℕ) → DrawsContraction order seat seat' old new index sccs xrefs n → MayContractCycle mine index sccs xrefs → ManagedKnows locked2 new
+  contraction_knows sccs xrefs n d w = (with_contraction sccs xrefs n d w.opened w.seen w.comps w.pairs w.stands w.contraction).knows
+
+  -- the abandoning
+  with_abandon : (n : ℕ) → DrawsAbandon order seat seat' old new index n → (o : Opened) (stand : Stand) (seen : Managed) → DriverStands mine index stand seen → IsUnmirrored stand o
+      → DrivenUnder mine locked2 mine2 old new index stand seen (driver_entry n index (op.Abandon record { 0 = o.cycle }) says.Ok None) nothing
+  with_abandon n d o stand seen s i =
+      let u = under stand seen s in
+      let open_here = subst (λ (r : ManagedReplay). (c : OpenCycle) × IsOpen r.managed o.cycle c) u.managed (abandon_open u.state u.kept stand o u.stood i) in
+      let same = one_cycle old.state.managed o.cycle d.cycle open_here.0 d.opened open_here.1 in
+      let drew = subst (λ (k : ℕ). Drew managed_rules 0 order seat seat' old new (driver_entry n index (op.Abandon record { 0 = k }) says.Ok None) nothing) same d.drew in
+      driven locked mine mine1 locked2 mine2 order seat seat' old new index stand seen (driver_entry n index (op.Abandon record { 0 = o.cycle }) says.Ok None) nothing pass owns refl refl short ks s (λ issued. abandon_allowed stand o i) l drew b
+
+  pub abandoning_made : (n : ℕ) → DrawsAbandon order seat seat' old new index n → MakesAbandon mine mine2 index n
+  abandoning_made n d o stand seen s i =
+      let w = (with_abandon n d o stand seen s i).driven in
+      (w.makes, rests_after mine mine2 old new index stand seen (driver_entry n index (op.Abandon record { 0 = o.cycle }) says.Ok None) nothing w (abandon_idle stand o n (record { 0 = o.cycle }) says.Ok w.told_now i))
+
+  pub abandon_knows : (n : ℕ) → DrawsAbandon order seat seat' old new index n → MayAbandonCycle mine index → ManagedKnows locked2 new
+  abandon_knows n d w = (with_abandon n d w.opened w.stand w.seen w.stands w.unmirrored).knows
+
+  -- the resolution
+  with_resolution : (clear n : ℕ) (alive : List Bool) (out : ResolveOut) (d : DrawsResolution order seat seat' old new index clear n alive out) (o : Opened) (seen : Managed) → DriverStands mine index (restored o (answers_of alive) clear) seen
+      → DrivenUnder mine locked2 mine2 old new index (restored o (answers_of alive) clear) seen (driver_entry n index (op.Resolve record { 0 = o.cycle }) (says.Freed out.freed) (Some clear)) (resolution_of (answers_of alive) d.freed)
+  with_resolution clear n alive out d o seen s =
+      let u = under (restored o (answers_of alive) clear) seen s in
+      let r = restored_may_be_resolved u.state u.kept o (answers_of alive) clear u.stood in
+      let same = one_cycle old.state.managed o.cycle d.cycle r.cycle d.opened (subst (λ (z : ManagedReplay). IsOpen z.managed o.cycle r.cycle) u.managed r.open_cycle) in
+      let drew = subst (λ (k : ℕ). Drew managed_rules 0 order seat seat' old new (driver_entry n index (op.Resolve record { 0 = k }) (says.Freed out.freed) (Some clear)) (resolution_of (answers_of alive) d.freed)) same
+      (subst (λ (z : Span). Drew managed_rules 0 order seat seat' old new (driver_entry n index (op.Resolve record { 0 = d.cycle.number }) (says.Freed z) (Some clear)) (resolution_of (answers_of alive) d.freed)) (sym d.span) d.drew) in
+      driven locked mine mine1 locked2 mine2 order seat seat' old new index (restored o (answers_of alive) clear) seen (driver_entry n index (op.Resolve record { 0 = o.cycle }) (says.Freed out.freed) (Some clear)) (resolution_of (answers_of alive) d.freed)
+      pass owns refl refl short ks s (λ issued. (refl, refl, refl)) l drew b
+
+  pub resolution_made : (clear n : ℕ) (alive : List Bool) (out : ResolveOut) → DrawsResolution order seat seat' old new index clear n alive out → MakesResolution mine mine2 index clear n (answers_of alive) out.freed
+  resolution_made clear n alive out d o seen s =
+      let w = (with_resolution clear n alive out d o seen s).driven in
+      record {
+        freed = d.freed;
+        count = ap (λ (z : Span). z.count) d.span;
+        makes = w.makes;
+        rests = rests_after mine mine2 old new index (restored o (answers_of alive) clear) seen (driver_entry n index (op.Resolve record { 0 = o.cycle }) (says.Freed out.freed) (Some clear)) (resolution_of (answers_of alive) d.freed) w refl;
+      }
+
+  pub resolution_knows : (clear n : ℕ) (alive : List Bool) (out : ResolveOut) → DrawsResolution order seat seat' old new index clear n alive out → MayResolveCycle mine index clear (answers_of alive) → ManagedKnows locked2 new
+  resolution_knows clear n alive out d w = (with_resolution clear n alive out d w.opened w.seen w.stands).knows
+
+  -- a refusal
+  with_refusal : (n : ℕ) (asked : PhaseWord) (phase : Phase) (reply : Reply) → Drew managed_rules 0 order seat seat' old new (driver_entry n index (op.Refused asked) reply None) (phase_of phase) → (stand : Stand) (seen : Managed) → DriverStands mine index stand seen
+      → IsPhaseOf stand (length (candidates_of seen)) phase → DrivenUnder mine locked2 mine2 old new index stand seen (driver_entry n index (op.Refused asked) reply None) (phase_of phase)
+  with_refusal n asked phase reply d stand seen s in_phase =
+      driven locked mine mine1 locked2 mine2 order seat seat' old new index stand seen (driver_entry n index (op.Refused asked) reply None) (phase_of phase) pass owns refl refl short ks s
+      (λ issued. (subst (λ (c : ℕ). IsPhaseOf stand c phase) (count_same seen old.state.managed (dead_here old.state stand seen (under stand seen s))) in_phase, refl)) l d b
+
+  pub refusal_made : (n : ℕ) (asked : PhaseWord) (phase : Phase) (reply : Reply) → Drew managed_rules 0 order seat seat' old new (driver_entry n index (op.Refused asked) reply None) (phase_of phase) → MakesRefusal mine mine2 index n asked phase reply
+  refusal_made n asked phase reply d stand seen s in_phase =
+      let e = driver_entry n index (op.Refused asked) reply None in
+      let w = (with_refusal n asked phase reply d stand seen s in_phase).driven in
+      record {
+        makes = w.makes;
+        answers = d.goes.lawful.1.replies ∙ refusal_same old.state.managed seen phase asked (sym (dead_here old.state stand seen (under stand seen s)).cycle);
+        next = stand_after stand n (op.Refused asked) reply w.told_now;
+        still = refusal_next stand n asked phase reply w.told_now w.plain;
+        stands = driver_still mine mine2 old new index stand (stand_after stand n (op.Refused asked) reply w.told_now) seen e (phase_of phase) w (same_objects old.state new.state (ap (λ (r : ManagedReplay). r.managed) d.goes.state)) refl;
+      }
+
+  pub refusal_knows : (n : ℕ) (asked : PhaseWord) (phase : Phase) (reply : Reply) → Drew managed_rules 0 order seat seat' old new (driver_entry n index (op.Refused asked) reply None) (phase_of phase) → MayRefuseWord mine index asked phase → ManagedKnows locked2 new
+  refusal_knows n asked phase reply d w = (with_refusal n asked phase reply d w.stand w.seen w.stands w.in_phase).knows
+
+  -- notices taken
+  with_finalise : (n count : ℕ) (reply : Reply) → Drew managed_rules 0 order seat seat' old new (driver_entry n index (op.Line (act.Finalise count)) reply None) nothing → (stand : Stand) (seen : Managed) → DriverStands mine index stand seen
+      → IsAtRest stand (length (candidates_of seen)) → DrivenUnder mine locked2 mine2 old new index stand seen (driver_entry n index (op.Line (act.Finalise count)) reply None) nothing
+  with_finalise n count reply d stand seen s rests =
+      driven locked mine mine1 locked2 mine2 order seat seat' old new index stand seen (driver_entry n index (op.Line (act.Finalise count)) reply None) nothing pass owns refl refl short ks s
+      (λ issued. (subst (λ (c : ℕ). IsAtRest stand c) (count_same seen old.state.managed (dead_here old.state stand seen (under stand seen s))) rests, refl)) l d b
+
+  pub finalise_made : (n count : ℕ) (reply : Reply) → Drew managed_rules 0 order seat seat' old new (driver_entry n index (op.Line (act.Finalise count)) reply None) nothing → MakesFinalise mine mine2 index n count reply
+  finalise_made n count reply d stand seen s rests =
+      let w = (with_finalise n count reply d stand seen s rests).driven in
+      (w.makes, driver_still mine mine2 old new index stand stand seen (driver_entry n index (op.Line (act.Finalise count)) reply None) nothing w (notices_leave mine mine2 old new index stand seen n count reply w d.goes.state) refl)
+
+  pub finalise_knows : (n count : ℕ) (reply : Reply) → Drew managed_rules 0 order seat seat' old new (driver_entry n index (op.Line (act.Finalise count)) reply None) nothing → MayFinalise mine index → ManagedKnows locked2 new
+  finalise_knows n count reply d w = (with_finalise n count reply d w.stand w.seen w.stands w.rests).knows
+
+  -- a call that may find no memory: it made its entry, or nothing
+  pub called : {X E : Type 0} (P Q : X → Type 0) (result : Result X E) → IsKnownView mine → ((x : X) → P x → ManagedKnows locked2 new × Q x) → IfOk result P → OnErr result ((seat' ≡ seat) × (new ≡ old)) → Called mine locked2 mine2 new result Q
+  called P Q (Ok x) known made d e = record { knows = (made x d).0; ok = (made x d).1; err = tt }
+  called P Q (Err x) known made d e =
+      let back : Returns C seat.view mine1 locked2 mine2 = subst (λ (s : Shown). Returns C s.view mine1 locked2 mine2) e.0 b in
+      let w = driven_none locked mine seat.view mine1 locked2 mine2 old pass owns ks known l back in
+      record { knows = subst (ManagedKnows locked2) (sym e.1) w.knows; ok = tt; err = w.makes }
+
+  pub refusal_called : {E : Type 0} (asked : PhaseWord) (phase : Phase) (result : Result (ℕ × Reply) E) → (w : MayRefuseWord mine index asked phase) → IfOk result (λ x. Drew managed_rules 0 order seat seat' old new (driver_entry x.0 index (op.Refused asked) x.1 None) (phase_of phase))
+      → OnErr result ((seat' ≡ seat) × (new ≡ old)) → Called mine locked2 mine2 new result (λ x. MakesRefusal mine mine2 index x.0 asked phase x.1)
+  refusal_called asked phase result w d e = called (λ x. Drew managed_rules 0 order seat seat' old new (driver_entry x.0 index (op.Refused asked) x.1 None) (phase_of phase)) (λ x. MakesRefusal mine mine2 index x.0 asked phase x.1) result w.stands.known
+      (λ x y. (refusal_knows x.0 asked phase x.1 y w, refusal_made x.0 asked phase x.1 y)) d e
+
+  pub finalise_called : {E : Type 0} (count : ℕ) (result : Result (ℕ × Reply) E) → (w : MayFinalise mine index) → IfOk result (λ x. Drew managed_rules 0 order seat seat' old new (driver_entry x.0 index (op.Line (act.Finalise count)) x.1 None) nothing)
+      → OnErr result ((seat' ≡ seat) × (new ≡ old)) → Called mine locked2 mine2 new result (λ x. MakesFinalise mine mine2 index x.0 count x.1)
+  finalise_called count result w d e = called (λ x. Drew managed_rules 0 order seat seat' old new (driver_entry x.0 index (op.Line (act.Finalise count)) x.1 None) nothing) (λ x. MakesFinalise mine mine2 index x.0 count x.1) result w.stands.known
+      (λ x y. (finalise_knows x.0 count x.1 y w, finalise_made x.0 count x.1 y)) d e
+
+-- what the seat knew and owned after a draw
+module _ (order : OrderId) (seat seat' : Shown) (old new : Side ManagedReplay) (e : Entry) (told : Told) (d : Drew managed_rules 0 order seat seat' old new e told) where
+  pub drew_prefix : (i : ℕ) → IsPrefix (known seat.view i) (known seat'.view i)
+  drew_prefix i = grows_more seat.view seat'.view 0 d.kept d.appends.grows i
+
+  pub drew_keeps : (i : ℕ) → Owns seat.view i → Owns seat'.view i
+  drew_keeps i o = owns_on seat.view seat'.view 0 d.kept d.appends.grows i o

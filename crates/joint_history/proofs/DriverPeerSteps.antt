@@ -1,0 +1,138 @@
+-- An entry of the driver under the peer lock: the driver stands in what is known together where its own seat has it; and after the entry it stands where
+-- the definition puts it, and its cycle's dead part is the same, since a peer entry leaves the managed objects alone.
+use Rattle.std.proofs.Common.{◌≡◌, ℕ, ◌<◌, ◌≤◌, ◌^◌, List, ◌∷◌, ◌++◌, [], sym, ap, ◌∙◌, subst, arith}
+use mathlib.Core.List.{IsPrefix}
+use Rattle.joint_model.specs.declared.names.Thread.TheVariants.{C}
+use Rattle.joint_model.specs.declared.events.Entry.{Entry}
+use Rattle.joint_model.specs.Control.{Stand, DriverAllows, last_line, stand_after}
+use Rattle.joint_model.specs.HistoryLines.{caller_line}
+use Rattle.joint_model.specs.Linked.{Linkage, managed_after}
+use Rattle.joint_model.specs.Managed.{Managed}
+use Rattle.joint_model.specs.ManagedReplay.{ManagedReplay}
+use Rattle.joint_model.specs.PeerReplay.{PeerReplay}
+use Rattle.joint_model.specs.Sides.{Side, peer_rules, GoesOn}
+use Rattle.joint_model.specs.Told.{Told, Noted}
+use Rattle.known_laws.specs.Driving.{IsPastKept}
+use Rattle.known_laws.specs.Known.{TellsPlainly}
+use Rattle.known_laws.specs.Pasts.{HasSameDeadPart, end_of}
+use Rattle.known_laws.proofs.KnownPasts.{known_past_is_kept}
+use Rattle.order_table.specs.declared.views.Kept.{Kept}
+use Rattle.order_table.specs.declared.views.View.{View}
+use Rattle.order_table.specs.Facts.{line_entries}
+use Rattle.order_table.specs.Rule.{IsBelow}
+use Rattle.order_table.specs.Tells.{Grows}
+use Rattle.order_table.specs.Views.{OrderId, Shown, known, Owns}
+use Rattle.joint_history.specs.Callers.{HoldsPass}
+use Rattle.joint_history.specs.Driven.{DriverMakes, DriverMakesNone, DriverStands}
+use Rattle.joint_history.specs.Knowing.{note_of, IsKnownView}
+use Rattle.joint_history.specs.Locked.{Drew, PeerKnows}
+use Rattle.joint_history.specs.Passing.{Lends, Returns}
+use Rattle.joint_history.proofs.DriverSteps.{driver_joined, stand_of_own}
+use Rattle.joint_history.proofs.KnownCallers.{own_line}
+use Rattle.joint_history.proofs.LockedSteps.{did_peer_by, lent_joined, knows_peers_still, MayNow}
+use Rattle.joint_history.proofs.Standing.{last_of_own}
+
+-- what holds under the lock: the driver stands so in a state that has all that every known past keeps, and whose peer side is this one
+pub record IsUnderPeers (side : PeerReplay) (stand : Stand) (seen : Managed) : Type 0 where
+  pub state : Linkage
+  pub kept : IsPastKept state
+  pub peer : state.peer ≡ side
+  pub stood : state.control.stand ≡ stand
+  pub dead : HasSameDeadPart seen state.managed.managed
+
+pub under_peers : (locked mine lent mine1 : View) (side : Side PeerReplay) (index : ℕ) (stand : Stand) (seen : Managed) → HoldsPass C mine → Owns locked 1 → PeerKnows locked side → DriverStands mine index stand seen → Lends C locked mine lent mine1 → IsUnderPeers side.state stand seen
+under_peers locked mine lent mine1 side index stand seen pass owns ks s l =
+    let j = lent_joined C locked mine lent mine1 l ks.known s.known in
+    let at = driver_joined locked mine lent mine1 l ks.known pass index stand seen s in
+    record {
+      state = end_of j.joined.past;
+      kept = known_past_is_kept j.joined.past j.joined.lawful;
+      peer = j.peer_first (ap line_entries (l.whole 1 owns)) ∙ ks.state;
+      stood = at.come;
+      dead = at.dead;
+    }
+
+-- the driver made an entry under the peer lock
+pub record DrivenPeers (mine mine2 : View) (old new : Side PeerReplay) (index : ℕ) (stand : Stand) (seen : Managed) (e : Entry) (told : Told) : Type 0 where
+  pub makes : DriverMakes mine mine2 stand seen e told
+  pub before : makes.state.peer ≡ old.state
+  pub told_now : Told
+  pub plain : TellsPlainly stand e.made.op told → told_now ≡ told
+  pub stands : DriverStands mine2 index (stand_after stand e.number e.made.op e.made.reply told_now) seen
+  pub after : (end_of stands.known.past).peer ≡ new.state
+
+pub record DrivenUnderPeers (mine locked2 mine2 : View) (old new : Side PeerReplay) (index : ℕ) (stand : Stand) (seen : Managed) (e : Entry) (told : Told) : Type 0 where
+  pub knows : PeerKnows locked2 new
+  pub driven : DrivenPeers mine mine2 old new index stand seen e told
+
+driven_peers_by : (locked mine lent mine1 lent2 locked2 mine2 : View) (old new : Side PeerReplay) (k : Kept) (told : Told) (index : ℕ) (stand : Stand) (seen : Managed) → HoldsPass C mine → Owns locked 1 → k.entry.made.caller ≡ C → k.entry.made.index ≡ index → index < 2 ^ 32
+    → PeerKnows locked old → DriverStands mine index stand seen → ((u : IsUnderPeers old.state stand seen) → DriverAllows stand u.state.managed.managed u.state.peer.peers.issued k.entry.made.op k.entry.made.reply k.entry.made.cites told) → Lends C locked mine lent mine1 → Grows lent lent2 1 k → ((i : ℕ) → IsBelow k.entry.number (known lent i))
+    → new.entries ≡ old.entries ++ k.entry ∷ [] → GoesOn peer_rules old.state k.entry.made told new.state → Returns C lent2 mine1 locked2 mine2 → DrivenUnderPeers mine locked2 mine2 old new index stand seen k.entry told
+driven_peers_by locked mine lent mine1 lent2 locked2 mine2 old new k told index stand seen pass owns caller at_index short ks s allows l g below added goes b =
+    let j = lent_joined C locked mine lent mine1 l ks.known s.known in
+    let at = driver_joined locked mine lent mine1 l ks.known pass index stand seen s in
+    let past = j.joined.past in
+    let u : IsUnderPeers old.state stand seen = record { state = end_of past; kept = known_past_is_kept past j.joined.lawful; peer = j.peer_first (ap line_entries (l.whole 1 owns)) ∙ ks.state; stood = at.come; dead = at.dead } in
+    let may : MayNow C (end_of past) k.entry.made told = record {
+      last = subst (λ (i : ℕ). last_line (end_of past).control C ≤ i) (sym at_index) at.last;
+      allows = subst (λ (z : Stand). DriverAllows z (end_of past).managed.managed (end_of past).peer.peers.issued k.entry.made.op k.entry.made.reply k.entry.made.cites told) (sym at.come) (allows u);
+    } in
+    let w = did_peer_by C locked mine lent mine1 lent2 locked2 mine2 old new k told s.known tt pass owns caller (subst (λ (i : ℕ). i < 2 ^ 32) (sym at_index) short) ks l may g below added goes b in
+    let grown = w.entered.grown in
+    let managed : (end_of grown.known.past).managed ≡ (end_of past).managed = grown.managed ∙ ap (managed_after (end_of past).managed k.entry.made told) goes.lawful.0.side in
+    record {
+      knows = w.knows;
+      driven = record {
+        makes = record {
+          own = w.makes.own;
+          more = w.makes.more;
+          above = w.makes.above;
+          state = end_of past;
+          comes = w.entered.comes;
+          kept = known_past_is_kept past j.joined.lawful;
+          stood = at.come;
+          dead = at.dead;
+        };
+        before = u.peer;
+        told_now = grown.told;
+        plain = λ p. grown.alike (subst (λ (z : Stand). TellsPlainly z k.entry.made.op told) (sym at.come) p);
+        stands = record {
+          known = record { past = grown.known.past; lawful = grown.known.lawful; same = λ i. ap line_entries (b.same i) ∙ grown.known.same i };
+          stands = record {
+            last = subst (λ (h : List Noted). last_line (end_of h).control C ≤ index) (sym grown.past_is) (let n = last_of_own past (note_of k.entry grown.told) C caller tt in omega (arith, n, at_index));
+            come = ap (λ (h : List Noted). (end_of h).control.stand) grown.past_is
+                ∙ (stand_of_own past (note_of k.entry grown.told) caller ∙ ap (λ (z : Stand). stand_after z k.entry.number k.entry.made.op k.entry.made.reply grown.told) at.come);
+            dead = subst (λ (r : ManagedReplay). HasSameDeadPart seen r.managed) (sym managed) at.dead;
+          };
+        };
+        after = w.after;
+      };
+    }
+
+-- after a draw
+pub driven_peers : (locked mine mine1 locked2 mine2 : View) (order : OrderId) (seat seat' : Shown) (old new : Side PeerReplay) (index : ℕ) (stand : Stand) (seen : Managed) (e : Entry) (told : Told) → HoldsPass C mine → Owns locked 1 → e.made.caller ≡ C → e.made.index ≡ index → index < 2 ^ 32
+    → PeerKnows locked old → DriverStands mine index stand seen → ((u : IsUnderPeers old.state stand seen) → DriverAllows stand u.state.managed.managed u.state.peer.peers.issued e.made.op e.made.reply e.made.cites told) → Lends C locked mine seat.view mine1
+    → Drew peer_rules 1 order seat seat' old new e told → Returns C seat'.view mine1 locked2 mine2 → DrivenUnderPeers mine locked2 mine2 old new index stand seen e told
+driven_peers locked mine mine1 locked2 mine2 order seat seat' old new index stand seen e told pass owns caller at_index short ks s allows l d b =
+    subst (λ (z : Entry). DrivenUnderPeers mine locked2 mine2 old new index stand seen z told) d.entry
+    (driven_peers_by locked mine seat.view mine1 seat'.view locked2 mine2 old new d.kept told index stand seen pass owns (ap (λ (z : Entry). z.made.caller) d.entry ∙ caller) (ap (λ (z : Entry). z.made.index) d.entry ∙ at_index) short ks s
+    (λ u. subst (λ (z : Entry). DriverAllows stand u.state.managed.managed u.state.peer.peers.issued z.made.op z.made.reply z.made.cites told) (sym d.entry) (allows u)) l d.appends.grows d.appends.number
+    (subst (λ (z : Entry). new.entries ≡ old.entries ++ z ∷ []) (sym d.entry) d.added) (subst (λ (z : Entry). GoesOn peer_rules old.state z.made told new.state) (sym d.entry) d.goes) b)
+
+-- what the side keeps, and where the driver stands, where nothing was made
+pub record NotDrivenPeers (mine locked2 mine2 : View) (side : Side PeerReplay) : Type 0 where
+  pub knows : PeerKnows locked2 side
+  pub makes : DriverMakesNone mine mine2
+
+pub driven_peers_none : (locked mine lent mine1 locked2 mine2 : View) (side : Side PeerReplay) → HoldsPass C mine → Owns locked 1 → PeerKnows locked side → IsKnownView mine → Lends C locked mine lent mine1 → Returns C lent mine1 locked2 mine2 → NotDrivenPeers mine locked2 mine2 side
+driven_peers_none locked mine lent mine1 locked2 mine2 side pass owns ks m l b = record {
+  knows = knows_peers_still C locked mine lent mine1 locked2 mine2 side owns ks m l b;
+  makes = record {
+    own = ap line_entries (b.same (caller_line C) ∙ l.own (caller_line C) (own_line C) (pass (caller_line C) (own_line C)));
+    more = λ i. subst (IsPrefix (known mine i)) (sym (b.same i)) (l.heard i);
+    stands = λ index stand seen s. (let j = (lent_joined C locked mine lent mine1 l ks.known s.known).joined in record {
+      known = record { past = j.past; lawful = j.lawful; same = λ i. ap line_entries (b.same i) ∙ j.same i };
+      stands = driver_joined locked mine lent mine1 l ks.known pass index stand seen s;
+    });
+  };
+}

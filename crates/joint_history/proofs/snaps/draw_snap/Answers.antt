@@ -1,0 +1,28 @@
+use Rattle.std.proofs.Common.{ap, sym, ◌∙◌, rules}
+use Rattle.joint_model.specs.declared.events.Entry.{Entry}
+use Rattle.joint_model.specs.Draws.{numbered}
+use Rattle.managed_side.specs.Openings.{snap_made}
+use Rattle.joint_history.proofs.DriverSnaps.{if_ok_map, last_same}
+use Rattle.joint_history.proofs.Floors.{below_floor, room_left}
+use Rattle.joint_history.proofs.snaps.draw_snap.Goals as goal
+
+pub snap-requires-clause-may : goal.snap-requires-clause-may
+snap-requires-clause-may c = λ e. record {
+  below = below_floor c.args.seat.now.view 0 c.args.side.now.entries c.requires.entries;
+  room = room_left c.args.seat.now.view 0 c.args.side.now.entries c.requires.entries;
+  bare = c.requires.may;
+  targets = λ m x. c.requires.may;
+}
+
+pub returns-clause-drew : goal.returns-clause-drew
+returns-clause-drew c = if_ok_map _ _ c.snap.result c.snap.ensures.snaps (λ o w. record {
+  freed = w.freed;
+  candidates = w.candidates;
+  dead = w.dead;
+  number = w.adds.draws.adds.number;
+  same_number = ap (λ (e : Entry). e.number)
+      (last_same c.args.side.now.entries (numbered w.adds.draws.adds.number (snap_made c.args.side.now.state.managed c.args.index w.freed w.candidates)) (numbered o.number (snap_made c.args.side.now.state.managed c.args.index w.freed w.candidates)) (sym w.adds.draws.adds.added ∙ w.number));
+  drew = (let a = w.adds in search rules);
+  cycle = w.cycle;
+  graph = w.graph;
+})
