@@ -10,3 +10,10 @@ pub mod Desking
 pub mod Finishing
 pub mod Gathering
 pub mod Turning
+pub mod Taking
+pub mod Ended
+pub mod Yielding
+pub mod Allowed
+pub mod Joined
+pub mod Narrow
+pub mod Giving
