@@ -47,7 +47,7 @@ lines_after c (M v) n line o reply told = refl
 lines_after c (P v) n line o reply told = refl
 lines_after c C n line o reply told = refl
 
-place_small : (t : Thread) → IsThread t → caller_place t < 17
+pub place_small : (t : Thread) → IsThread t → caller_place t < 17
 place_small (M n) is = let b = is.1 in omega arith
 place_small (P n) is = let b = is.1 in omega arith
 place_small C is = omega arith

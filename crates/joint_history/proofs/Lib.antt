@@ -16,3 +16,10 @@ pub mod DriverPeerSteps
 pub mod DriverCalls
 pub mod DriverSnaps
 pub mod DriverHears
+pub mod Taking
+pub mod Ended
+pub mod Yielding
+pub mod Allowed
+pub mod Joined
+pub mod Narrow
+pub mod Giving

@@ -1,12 +1,28 @@
--- The operations of threads: whose first event may be made, and which event follows.
-use Rattle.std.specs.Prelude.{ℕ, ◌≤◌}
+-- The operations of threads: the events of each, one after another, and what a call that runs one leaves its caller with.
+use Rattle.std.specs.Prelude.{◌≡◌, ◌⊎◌, ℕ, ◌≤◌, Bool, true, false, List, [], ◌∷◌, ◌++◌, Option, Some, None}
+use mathlib.Core.List.{IsPrefix}
 use Rattle.joint_model.specs.declared.names.Thread.{Thread}
 use Rattle.joint_model.specs.declared.names.Thread.TheVariants.{M, P, C}
+use Rattle.joint_model.specs.declared.names.Var.{Var}
+use Rattle.joint_model.specs.declared.lines.Act.{Act}
+use Rattle.joint_model.specs.declared.lines.Act.TheVariants as act
+use Rattle.joint_model.specs.declared.events.Entry.{Entry}
 use Rattle.joint_model.specs.declared.events.Op.{Op}
 use Rattle.joint_model.specs.declared.events.Op.TheVariants as op
+use Rattle.joint_model.specs.declared.events.Reply.{Reply}
+use Rattle.joint_model.specs.declared.events.Reply.TheVariants as says
 use Rattle.joint_model.specs.Control.{Doing, IsDone}
+use Rattle.joint_model.specs.Draws.{numbered}
+use Rattle.joint_model.specs.HistoryLines.{caller_line}
+use Rattle.joint_model.specs.Lines.{IsLine, IsManagedThread, IsVar, is_peer_event}
 use Rattle.order_table.specs.declared.views.View.{View}
-use Rattle.joint_history.specs.Locked.{Stands}
+use Rattle.order_table.specs.Rule.{IsBelow}
+use Rattle.order_table.specs.Views.{known}
+use Rattle.managed_side.specs.Steps.{IsManagedStep}
+use Rattle.peer_side.specs.Steps.{IsPeerStep, IsRelease, IsStepLine}
+use Rattle.joint_history.specs.declared.callers.Receipt.{Receipt}
+use Rattle.joint_history.specs.Knowing.{line_known}
+use Rattle.joint_history.specs.Locked.{Stands, made_by}
 
 -- a thread that isn't the driver
 abbrev pub IsOwnThread : Thread → Type 0
@@ -27,3 +43,118 @@ pub record MayBegin (t : Thread) (v : View) (index : ℕ) : Type 0 where
   pub doing : Doing
   pub stands : Stands t v index doing
   pub done : IsDone doing
+
+-- an operation of a managed thread, or one of a peer thread that is one event
+abbrev pub IsOperationOf : Thread → Act → Type 0
+IsOperationOf (M n) a = IsLine (M n) a
+IsOperationOf (P n) a = IsLine (P n) a × IsStepLine a
+IsOperationOf C a = ⊥
+
+-- the first event of an operation
+abbrev pub first_of : Act → Op
+first_of (act.Bridge v kind n sort f) = op.Make sort f
+first_of (act.Pass v x) = op.Lend v x
+first_of (act.Surface v x) = op.Grip x
+first_of (act.Dispose v) = op.Give v
+first_of a = op.Line a
+
+-- the second event, by the reply to the first one; none where the operation ends with its first
+abbrev pub second_of : Act → Reply → Option Op
+second_of (act.Bridge v kind n sort f) (says.Made p h) = Some (op.Adopt v kind n p h)
+second_of (act.Pass v x) (says.H h) = Some (op.Land h x)
+second_of (act.Surface v x) (says.Gripped p h sort f) = Some (op.Meet v p h sort f)
+second_of (act.Dispose v) (says.H h) = Some (op.Release h)
+second_of a reply = None
+
+-- the third event, by the second one and its reply: the release of a handle that a meet didn't take
+abbrev pub third_of : Op → Reply → Option Op
+third_of (op.Meet v p h sort f) (says.New m) = None
+third_of (op.Meet v p h sort f) reply = Some (op.Release h)
+third_of o reply = None
+
+-- what an operation of two events answers: the second reply, but for `dispose` that of its give
+abbrev pub answer_of : Act → Reply → Reply → Reply
+answer_of (act.Dispose v) given released = given
+answer_of a first second = second
+
+-- the object's variable of a `take V`
+abbrev pub taken_by : Op → Option Var
+taken_by (op.Line (act.Take v)) = Some v
+taken_by o = None
+
+-- an event that a step of one of the sides makes, and by whom: `take V` is a call of its own
+pub record IsSideEvent (t : Thread) (o : Op) : Type 0 where
+  pub peer : is_peer_event t o ≡ true → IsPeerStep t o
+  pub take : (v : Var) → taken_by o ≡ Some v → IsManagedThread t × IsVar v
+  pub managed : is_peer_event t o ≡ false → taken_by o ≡ None → IsManagedStep t o
+
+-- the entry of a thread's event
+abbrev pub entry_by : Thread → ℕ → ℕ → Op → Reply → Option ℕ → Entry
+entry_by t index n o reply cites = numbered n (made_by t index o reply cites)
+
+-- the numbers of the entries are above all that the view knows
+abbrev pub AreAbove : View → List Entry → Type 0
+AreAbove v [] = Unit {0}
+AreAbove v (e ∷ es) = ((i : ℕ) → IsBelow e.number (known v i)) × AreAbove v es
+
+-- a caller made these entries: they stand at the end of its own, with numbers above all that it knew, and it knows all that it knew
+pub record MakesAll (t : Thread) (old new : View) (es : List Entry) : Type 0 where
+  pub own_more : line_known new (caller_line t) ≡ line_known old (caller_line t) ++ es
+  pub more : (i : ℕ) → IsPrefix (known old i) (known new i)
+  pub above : AreAbove old es
+
+-- an operation ended with its first event, which answered this: what is left is nothing
+pub record EndsWithFirst (a : Act) (answered : Reply) (rest : List Entry) (r : Receipt) : Type 0 where
+  pub no_second : second_of a answered ≡ None
+  pub nothing_more : rest ≡ []
+  pub last : r.last ≡ r.first
+  pub answer : r.reply ≡ answered
+
+-- it ended with its second event, which cites the first
+pub record EndsWithSecond (t : Thread) (index : ℕ) (a : Act) (answered : Reply) (rest : List Entry) (r : Receipt) : Type 0 where
+  pub second : Op
+  pub reply : Reply
+  pub follows : second_of a answered ≡ Some second
+  pub no_third : third_of second reply ≡ None
+  pub one_more : rest ≡ entry_by t index r.last second reply (Some r.first) ∷ []
+  pub answer : r.reply ≡ answer_of a answered reply
+
+-- it ended with its third event, which cites the second
+pub record EndsWithThird (t : Thread) (index : ℕ) (a : Act) (answered : Reply) (rest : List Entry) (r : Receipt) : Type 0 where
+  pub second : Op
+  pub reply : Reply
+  pub number : ℕ
+  pub third : Op
+  pub released : Reply
+  pub follows : second_of a answered ≡ Some second
+  pub then_follows : third_of second reply ≡ Some third
+  pub two_more : rest ≡ entry_by t index number second reply (Some r.first) ∷ entry_by t index r.last third released (Some number) ∷ []
+  pub answer : r.reply ≡ reply
+
+-- the entries are those of an operation, all of them in turn; the receipt has the numbers of the first and the last one and the reply
+pub record IsOperation (t : Thread) (index : ℕ) (a : Act) (es : List Entry) (r : Receipt) : Type 0 where
+  pub answered : Reply
+  pub rest : List Entry
+  pub all : es ≡ entry_by t index r.first (first_of a) answered None ∷ rest
+  pub ends : EndsWithFirst a answered rest r ⊎ EndsWithSecond t index a answered rest r ⊎ EndsWithThird t index a answered rest r
+
+-- the first event alone of an operation that has a second one, which isn't a release
+pub record IsFirstAlone (t : Thread) (index : ℕ) (a : Act) (es : List Entry) : Type 0 where
+  pub number : ℕ
+  pub answered : Reply
+  pub second : Op
+  pub one : es ≡ entry_by t index number (first_of a) answered None ∷ []
+  pub follows : second_of a answered ≡ Some second
+  pub takes_memory : IsRelease second → ⊥
+
+-- a caller ran an operation: it made just the operation's entries
+pub record Runs (t : Thread) (old new : View) (index : ℕ) (a : Act) (r : Receipt) : Type 0 where
+  pub entries : List Entry
+  pub made : MakesAll t old new entries
+  pub operation : IsOperation t index a entries r
+
+-- a caller's operation found no memory: it made nothing, or the first event alone
+pub record BreaksOff (t : Thread) (old new : View) (index : ℕ) (a : Act) : Type 0 where
+  pub entries : List Entry
+  pub made : MakesAll t old new entries
+  pub begun : (entries ≡ []) ⊎ IsFirstAlone t index a entries

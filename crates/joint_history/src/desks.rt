@@ -1,11 +1,11 @@
 // The callers that weren't given out yet.
 
-ghost use Rattle.std.specs.Prelude.{◌≡◌, ◌≤◌, ◌<◌, IfOk, IsTrue, true};
+ghost use Rattle.std.specs.Prelude.{◌≡◌, ◌≤◌, ◌<◌, ℕ, IfOk, IsTrue, Option, Some, slice_get, true};
 ghost use Rattle.joint_model.specs.Control.{caller_place};
 ghost use Rattle.joint_model.specs.Lines.{IsThread};
 ghost use Rattle.order_table.specs.Views.{Owns, OwnsAll};
-ghost use Rattle.joint_history.specs.Callers.{KnowsNothing};
-ghost use Rattle.joint_history.specs.Desks.{AreAll, has_thread, thread_of, waits, without_caller};
+ghost use Rattle.joint_history.specs.Callers.{KnowsNothing, Pass};
+ghost use Rattle.joint_history.specs.Desks.{AreAll, WaitsAt, has_thread, thread_of, waits, without_caller};
 
 use crate::callers::Caller;
 use joint_model::Thread;
@@ -123,5 +123,12 @@ impl<N: OrderName> Desk<N> {
             return None;
         }
         self.callers[place_of(t)].take()
+    }
+    /// The callers that still wait, by place.
+    pub(crate) fn into_callers(self) -> Vec<Option<Caller<N>>>
+        ensures callers { result.items ≡ self.callers }
+        ensures waits { (i : ℕ) (o : Option Pass) → slice_get result.items i ≡ Some o → WaitsAt i o }
+    {
+        self.callers
     }
 }

@@ -10,12 +10,18 @@
 mod callers;
 mod desks;
 mod driven;
+mod gathers;
 mod laws;
 mod managed;
+mod operations;
+mod peer;
 mod seats;
+mod shared;
 mod snaps;
 
 pub use callers::{Caller, Receipt};
 pub use desks::Desk;
 pub use laws::views_are_pasts;
 pub use managed::LockedManaged;
+pub use peer::LockedPeer;
+pub use shared::Shared;

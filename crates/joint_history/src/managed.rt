@@ -1,19 +1,19 @@
 // The managed side under its lock.
 
-ghost use Rattle.std.specs.Prelude.{◌≡◌, ◌≤◌, ℕ, IfOk, OnErr};
+ghost use Rattle.std.specs.Prelude.{◌≡◌, ◌≤◌, ℕ, IfOk, None, OnErr};
 ghost use Rattle.joint_model.specs.Draws.{numbered};
-ghost use Rattle.joint_model.specs.Lines.{IsThread};
+ghost use Rattle.joint_model.specs.Lines.{IsManagedThread, IsThread, IsVar};
 ghost use Rattle.joint_model.specs.Sides.{managed_rules};
 ghost use Rattle.joint_model.specs.Told.{nothing};
 ghost use Rattle.order_table.specs.Views.{Owns};
-ghost use Rattle.managed_side.specs.Steps.{CitesRightly, IsFresh, IsManagedStep};
+ghost use Rattle.managed_side.specs.Steps.{CitesRightly, IsFresh, IsManagedStep, take_op};
 ghost use Rattle.joint_history.specs.Callers.{HoldsPass, KnowsNothing};
 ghost use Rattle.joint_history.specs.Knowing.{line_known};
 ghost use Rattle.joint_history.specs.Locked.{made_by, Drew, ManagedKnows, MayMake, Makes, MakesNone};
 ghost use Rattle.joint_history.specs.Passing.{MayAppend};
 
 use crate::seats::{Drawing, give_back, lend};
-use joint_model::{Op, Reply, Thread};
+use joint_model::{Op, Reply, Thread, Var};
 use managed_side::ManagedSide;
 use order_table::{Order, OrderName, Role, Seat};
 use std::alloc::{AllocError, Global};
@@ -65,6 +65,33 @@ pub(crate) fn draw_step(
         last: 0,
     };
     let reply = side.step(&mut drawing, caller, index, op, cites)?;
+    Ok((drawing.last, reply))
+}
+
+// The same of a take of the object of the thread's pin.
+fn draw_take(
+    side: &mut ManagedSide,
+    order: &Order,
+    seat: &mut Seat,
+    caller: Thread,
+    index: u32,
+    v: Var,
+) -> Result<(u64, Reply), AllocError>
+    requires thread { IsManagedThread caller }
+    requires var { IsVar v }
+    requires may { MayAppend order.now seat.old 0 caller (take_op v) }
+    requires entries { line_known seat.old.view 0 ≡ side.old.entries }
+    ensures drew { IfOk result (λ r. Drew managed_rules 0 order.now seat.old seat.new side.old side.new (numbered r.0 (made_by caller index (take_op v) r.1 None)) nothing) }
+    ensures err { OnErr result ((seat.new ≡ seat.old) × (side.new ≡ side.old)) }
+{
+    let mut drawing = Drawing {
+        order,
+        seat,
+        role: Role::Managed,
+        last: 0,
+    };
+    let pin = side.pin(caller);
+    let reply = side.take(&mut drawing, caller, index, v, pin)?;
     Ok((drawing.last, reply))
 }
 
@@ -125,6 +152,30 @@ impl<N: OrderName> LockedManaged<N> {
             op,
             cites,
         );
+        give_back(order, &mut self.seat, mine, caller);
+        made
+    }
+    /// Makes `take V` of a managed thread, whose pin is emptied, and answers its entry's number and the reply. The caller's seat knows the entry
+    /// then. Answers `AllocError` where there is no memory, and no entry is made then.
+    pub(crate) fn take(
+        &mut self,
+        order: &Order,
+        mine: &mut Seat,
+        caller: Thread,
+        index: u32,
+        v: Var,
+    ) -> Result<(u64, Reply), AllocError>
+        requires order { (order.now ≡ N.order) × (mine.old.order ≡ N.order) }
+        requires pass { IsManagedThread caller × HoldsPass caller mine.old.view }
+        requires var { IsVar v }
+        requires may { MayMake caller mine.old.view index (take_op v) None }
+        ensures order { mine.new.order ≡ N.order }
+        ensures pass { HoldsPass caller mine.new.view }
+        ensures ok { IfOk result (λ r. Makes caller mine.old.view mine.new.view (numbered r.0 (made_by caller index (take_op v) r.1 None)) nothing) }
+        ensures err { OnErr result (MakesNone caller mine.old.view mine.new.view) }
+    {
+        lend(order, &mut self.seat, mine, caller);
+        let made = draw_take(&mut self.side, order, &mut self.seat, caller, index, v);
         give_back(order, &mut self.seat, mine, caller);
         made
     }

@@ -1,0 +1,84 @@
+-- A desk gives its callers out: who is given out is its thread's caller and knows nothing, and each thread's caller still waits or was given out.
+use Rattle.std.proofs.Common.{◌≡◌, ◌⊎◌, inl, inr, ⊎_elim, ℕ, ◌≤◌, Bool, true, false, ◌&&◌, List, [], ◌∷◌, ◌++◌, map, Option, Some, None, refl, sym, ap, ◌∙◌, subst, arith}
+use Rattle.std.specs.Prelude.{Contains, IfSome, IsSome, if◌then◌else◌, nat_le, option_to_list, slice_get, slice_set}
+use Rattle.std.proofs.lemmas.Bool.{cases_eq, leb-true}
+use Rattle.joint_model.specs.declared.names.Thread.{Thread}
+use Rattle.joint_model.specs.declared.names.Thread.TheVariants.{M, P, C}
+use Rattle.joint_model.specs.Control.{caller_place}
+use Rattle.joint_model.specs.Lines.{IsThread}
+use Rattle.joint_model.proofs.Joining.{slice_get-set_other}
+use Rattle.joint_model.proofs.Members.{Contains-here, Contains-there}
+use Rattle.joint_history.specs.Callers.{KnowsNothing, Pass}
+use Rattle.joint_history.specs.Desks.{AreAll, IsDesk, Waiting, WaitsAt, flat, has_thread, thread_of, waits, without_caller}
+use Rattle.joint_history.specs.Ending.{HasAll, StillWaits, threads_of}
+use Rattle.joint_history.proofs.Ended.{one_at_place, thread_at_place, waiting_at}
+use Rattle.joint_history.proofs.LastLines.{place_small}
+
+and_both : (b c : Bool) → (b && c) ≡ true → (b ≡ true) × (c ≡ true)
+and_both true c e = (refl, e)
+and_both false c e = absurd (cc)
+
+has_is_thread : (d : Waiting) (t : Thread) → d.managed ≤ 8 → d.peers ≤ 8 → has_thread d t ≡ true → IsThread t
+has_is_thread d (M n) m p e = let w = and_both (nat_le 1 n) (nat_le n d.managed) e in let a = leb-true 1 n w.0 in let b = leb-true n d.managed w.1 in (a, omega (arith, b, m))
+has_is_thread d (P n) m p e = let w = and_both (nat_le 1 n) (nat_le n d.peers) e in let a = leb-true 1 n w.0 in let b = leb-true n d.peers w.1 in (a, omega (arith, b, p))
+has_is_thread d C m p e = tt
+
+-- who is given out
+abbrev pub IsNew : Thread → Option Pass → Type 0
+IsNew t o = IfSome o (λ p. (p.thread ≡ t) × KnowsNothing p.view)
+
+new_at : (t : Thread) (i : ℕ) (o : Option (Option Pass)) → thread_of i ≡ t → ((q : Option Pass) → o ≡ Some q → WaitsAt i q) → IsNew t (flat o)
+new_at t i None e w = tt
+new_at t i (Some None) e w = tt
+new_at t i (Some (Some p)) e w = let a = w (Some p) refl in (a.0 ∙ e, a.1)
+
+pub given_is_new : (d : Waiting) (t : Thread) → IsDesk d → IsNew t (waits d t)
+given_is_new d t k = by (has_thread d t) refl
+  where
+    by : (b : Bool) → has_thread d t ≡ b → IsNew t (if b then flat (slice_get d.callers (caller_place t)) else None)
+    by true e = new_at t (caller_place t) (slice_get d.callers (caller_place t)) (thread_at_place t (has_is_thread d t k.managed_few k.peers_few e)) (λ q s. k.each (caller_place t) q s)
+    by false e = tt
+
+pub given_thread : (t : Thread) (o : Option Pass) → IsNew t o → IfSome o (λ p. p.thread ≡ t)
+given_thread t None w = tt
+given_thread t (Some p) w = w.0
+
+pub given_nothing : (t : Thread) (o : Option Pass) → IsNew t o → IfSome o (λ p. KnowsNothing p.view)
+given_nothing t None w = tt
+given_nothing t (Some p) w = w.1
+
+-- whoever was there is among those with one more
+more_threads : (o : Option Pass) (ps : List Pass) (u : Thread) → Contains (threads_of ps) u → Contains (threads_of (option_to_list o ++ ps)) u
+more_threads None ps u c = c
+more_threads (Some p) ps u c = Contains-there u p.thread (threads_of ps) c
+
+the_one : (t : Thread) (o : Option Pass) (ps : List Pass) → IsNew t o → IsSome o → Contains (threads_of (option_to_list o ++ ps)) t
+the_one t None ps w s = absurd (cc)
+the_one t (Some p) ps w s = subst (Contains (p.thread ∷ threads_of ps)) w.0 (Contains-here p.thread (threads_of ps))
+
+pub still_has_all : (d : Waiting) (t : Thread) (ps : List Pass) → IsDesk d → HasAll d ps → HasAll (without_caller d t) (option_to_list (waits d t) ++ ps)
+still_has_all d t ps k all = by (has_thread d t) refl
+  where
+    o : Option Pass
+    o = flat (slice_get d.callers (caller_place t))
+
+    by : (b : Bool) → has_thread d t ≡ b → HasAll (if b then record d { callers = slice_set d.callers (caller_place t) None } else d) (option_to_list (if b then o else None) ++ ps)
+    by false e u is = all u is
+    by true e u is =
+        let thread = has_is_thread d t k.managed_few k.peers_few e in
+        let new : IsNew t o = new_at t (caller_place t) (slice_get d.callers (caller_place t)) (thread_at_place t thread) (λ q s. k.each (caller_place t) q s) in
+        ⊎_elim
+        (λ (s : StillWaits d u). ⊎_elim
+        (λ (same : caller_place u ≡ caller_place t). inr (subst (Contains (threads_of (option_to_list o ++ ps))) (sym (one_at_place u t is thread same))
+        (the_one t o ps new (subst (λ j. IsSome (flat (slice_get d.callers j))) same s))))
+        (λ (other : caller_place u ≡ caller_place t → ⊥). inl (subst (λ z. IsSome (flat z)) (sym (slice_get-set_other d.callers (caller_place t) (caller_place u) None other)) s))
+        (cases_eq (caller_place u) (caller_place t)))
+        (λ c. inr (more_threads o ps u c))
+        (all u is)
+
+-- at first all wait
+pub all_wait : (d : Waiting) → AreAll d.callers → HasAll d []
+all_wait d a t is = let w = a.placed (caller_place t) (place_small t is) in inl (subst (λ z. IsSome (flat z)) (sym w.1) refl)
+
+pub has_all_same : (d : Waiting) (ps qs : List Pass) → threads_of ps ≡ threads_of qs → HasAll d ps → HasAll d qs
+has_all_same d ps qs e all t is = subst (λ ts. StillWaits d t ⊎ Contains ts t) e (all t is)

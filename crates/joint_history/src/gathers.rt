@@ -1,0 +1,88 @@
+// At the end of a run the seats of all callers are taken into one.
+
+ghost use Rattle.std.specs.Prelude.{◌≡◌, ℕ, [], ◌∷◌, ◌++◌, All, Some, slice_get, Option};
+ghost use Rattle.joint_model.specs.HistoryLines.{caller_line};
+ghost use Rattle.joint_model.specs.Lines.{IsThread};
+ghost use Rattle.joint_model.specs.ManagedReplay.{ManagedReplay};
+ghost use Rattle.joint_model.specs.PeerReplay.{PeerReplay};
+ghost use Rattle.joint_model.specs.Sides.{Side};
+ghost use Rattle.order_table.specs.Views.{Owns};
+ghost use Rattle.joint_history.specs.Callers.{Pass};
+ghost use Rattle.joint_history.specs.Desks.{WaitsAt, present};
+ghost use Rattle.joint_history.specs.Ending.{AllAreIn, GathersAll, HasAll, IsIdle, StillWaits, TakesOwn, threads_of};
+ghost use Rattle.joint_history.specs.Knowing.{line_known};
+ghost use Rattle.joint_history.specs.Locked.{ManagedKnows, PeerKnows};
+
+use crate::callers::Caller;
+use crate::desks::Desk;
+use joint_model::Thread;
+use order_table::{Order, OrderName, Seat};
+
+// Takes in the seat of a caller that has come to rest.
+fn take_in<N: OrderName>(order: &Order, seat: &mut Seat, caller: Caller<N>)
+    requires order { (order.now ≡ N.order) × (seat.old.order ≡ N.order) }
+    requires idle { IsIdle caller }
+    ensures order { seat.new.order ≡ N.order }
+    ensures gathers { GathersAll seat.old.view seat.new.view (caller.thread ∷ []) }
+    ensures own { TakesOwn seat.old.view seat.new.view (caller ∷ []) }
+{
+    let Caller {
+        thread: _,
+        seat: other,
+        of: _,
+    } = caller;
+    order.learn(seat, other);
+}
+
+/// Takes in the seats of callers that have come to rest.
+pub(crate) fn gather<N: OrderName>(order: &Order, seat: &mut Seat, callers: Vec<Caller<N>>)
+    requires order { (order.now ≡ N.order) × (seat.old.order ≡ N.order) }
+    requires idle { All IsIdle callers.items }
+    ensures order { seat.new.order ≡ N.order }
+    ensures gathers { GathersAll seat.old.view seat.new.view (threads_of callers.items) }
+    ensures own { TakesOwn seat.old.view seat.new.view callers.items }
+{
+    for caller in callers {
+        take_in(order, seat, caller);
+    }
+}
+
+/// Takes in the seats of callers that nobody had.
+pub(crate) fn gather_waiting<N: OrderName>(
+    order: &Order,
+    seat: &mut Seat,
+    callers: Vec<Option<Caller<N>>>,
+)
+    requires order { (order.now ≡ N.order) × (seat.old.order ≡ N.order) }
+    requires waits { (i : ℕ) (o : Option Pass) → slice_get callers.items i ≡ Some o → WaitsAt i o }
+    ensures order { seat.new.order ≡ N.order }
+    ensures gathers { GathersAll seat.old.view seat.new.view (threads_of (present callers.items)) }
+    ensures own { TakesOwn seat.old.view seat.new.view (present callers.items) }
+{
+    for waiting in callers {
+        if let Some(caller) = waiting {
+            take_in(order, seat, caller);
+        }
+    }
+}
+
+/// Takes in the other side's seat, the seats of the callers that were given out, and those of the callers that still wait.
+pub(crate) fn gather_all<N: OrderName>(
+    order: &Order,
+    seat: &mut Seat,
+    other: Seat,
+    desk: Desk<N>,
+    callers: Vec<Caller<N>>,
+)
+    requires order { (order.now ≡ N.order) × (seat.old.order ≡ N.order) × (other.order ≡ N.order) }
+    requires all { HasAll desk callers.items }
+    requires idle { All IsIdle callers.items }
+    ensures order { seat.new.order ≡ N.order }
+    ensures gathers { (l : Side ManagedReplay) (r : Side PeerReplay) → ManagedKnows seat.old.view l → PeerKnows other.view r → Owns seat.old.view 0 → Owns other.view 1 → AllAreIn seat.new.view l r }
+    ensures own { TakesOwn seat.old.view seat.new.view (callers.items ++ present desk.callers) }
+    ensures waiting { (t : Thread) → IsThread t → StillWaits desk t → line_known seat.new.view (caller_line t) ≡ [] }
+{
+    order.learn(seat, other);
+    gather(order, seat, callers);
+    gather_waiting(order, seat, desk.into_callers());
+}

@@ -1,0 +1,159 @@
+// The operations of managed and peer threads: one event after another, each under its own side's lock, and each but the first cites the one
+// before it. No two locks are held together. A caller's seat is the note between them: after an event it knows the entry, and hands it to the
+// other side's seat with its pass.
+
+ghost use Rattle.std.specs.Prelude.{◌≡◌, IfOk, IsOk, OnErr};
+ghost use Rattle.joint_model.specs.Lines.{is_peer_event};
+ghost use Rattle.joint_model.specs.Told.{nothing};
+ghost use Rattle.peer_side.specs.Steps.{IsRelease};
+ghost use Rattle.joint_history.specs.Callers.{HoldsPass};
+ghost use Rattle.joint_history.specs.Locked.{MayMake, Makes, MakesNone};
+ghost use Rattle.joint_history.specs.Operations.{IsOwnThread, IsSideEvent, answer_of, entry_by, first_of, second_of, taken_by, third_of};
+
+use crate::shared::Shared;
+use joint_model::{Act, Op, Reply, Thread, Var};
+use order_table::{OrderName, Seat};
+use std::alloc::AllocError;
+use std::sync::Wait;
+
+// The first event of an operation.
+fn first_of(act: &Act) -> Op
+    ensures { result ≡ first_of act.now }
+{
+    match *act {
+        Act::Bridge {
+            v: _,
+            kind: _,
+            fields: _,
+            sort,
+            peer_fields,
+        } => Op::Make {
+            sort,
+            fields: peer_fields,
+        },
+        Act::Pass { v, x } => Op::Lend { v, x },
+        Act::Surface { v: _, x } => Op::Grip { x },
+        Act::Dispose { v } => Op::Give { v },
+        _ => Op::Line(*act),
+    }
+}
+
+// The second event, by the reply to the first one; None where the operation ends with its first.
+fn second_of(act: &Act, reply: Reply) -> Option<Op>
+    ensures { result ≡ second_of act.now reply }
+{
+    match (*act, reply) {
+        (
+            Act::Bridge {
+                v,
+                kind,
+                fields,
+                ..
+            },
+            Reply::Made(p, h),
+        ) => Some(Op::Adopt {
+            v,
+            kind,
+            fields,
+            p,
+            h,
+        }),
+        (Act::Pass { v: _, x }, Reply::H(h)) => Some(Op::Land { h, x }),
+        (Act::Surface { v, x: _ }, Reply::Gripped(p, h, sort, fields)) => Some(Op::Meet {
+            v,
+            p,
+            h,
+            sort,
+            fields,
+        }),
+        (Act::Dispose { v: _ }, Reply::H(h)) => Some(Op::Release { h }),
+        _ => None,
+    }
+}
+
+// The third event, by the second one and its reply: the release of a handle that a meet didn't take.
+fn third_of(op: &Op, reply: Reply) -> Option<Op>
+    ensures { result ≡ third_of op.now reply }
+{
+    match (*op, reply) {
+        (Op::Meet { .. }, Reply::New(_)) => None,
+        (Op::Meet { h, .. }, _) => Some(Op::Release { h }),
+        _ => None,
+    }
+}
+
+// What an operation of two events answers.
+fn answer_of(act: &Act, first: Reply, second: Reply) -> Reply
+    ensures { result ≡ answer_of act.now first second }
+{
+    match *act {
+        Act::Dispose { v: _ } => first,
+        _ => second,
+    }
+}
+
+// The variable of a `take V`.
+fn taken_by(op: &Op) -> Option<Var>
+    ensures { result ≡ taken_by op.now }
+{
+    match *op {
+        Op::Line(Act::Take { v }) => Some(v),
+        _ => None,
+    }
+}
+
+// Whether the event is made on the peer side.
+fn is_of_peers(t: Thread, op: &Op) -> bool
+    ensures { result ≡ is_peer_event t op.now }
+{
+    match *op {
+        Op::Line(_) => matches!(t, Thread::P(_)),
+        Op::Make { .. }
+        | Op::Land { .. }
+        | Op::Grip { .. }
+        | Op::Release { .. }
+        | Op::Mirror { .. }
+        | Op::Weaken { .. }
+        | Op::Begin
+        | Op::Sweep
+        | Op::Restore { .. }
+        | Op::Clear { .. } => true,
+        _ => false,
+    }
+}
+
+impl<N: OrderName> Shared<N> {
+    // Makes one event under its side's lock, and answers its entry's number and the reply.
+    fn event(
+        &self,
+        rt: &impl Wait,
+        mine: &mut Seat,
+        t: Thread,
+        index: u32,
+        op: &Op,
+        cites: Option<u64>,
+    ) -> Result<(u64, Reply), AllocError>
+        requires order { mine.old.order ≡ N.order }
+        requires pass { IsOwnThread t × HoldsPass t mine.old.view }
+        requires event { IsSideEvent t op.now }
+        requires may { MayMake t mine.old.view index op.now cites }
+        ensures order { mine.new.order ≡ N.order }
+        ensures pass { HoldsPass t mine.new.view }
+        ensures ok { IfOk result (λ r. Makes t mine.old.view mine.new.view (entry_by t index r.0 op.now r.1 cites) nothing) }
+        ensures release { IsRelease op.now → IsOk result }
+        ensures err { OnErr result (MakesNone t mine.old.view mine.new.view) }
+    {
+        if is_of_peers(t, op) {
+            return self
+                .peers
+                .lock(rt)
+                .step(&self.order, mine, t, index, op, cites);
+        }
+        if let Some(v) = taken_by(op) {
+            return self.managed.lock(rt).take(&self.order, mine, t, index, v);
+        }
+        self.managed
+            .lock(rt)
+            .step(&self.order, mine, t, index, op, cites)
+    }
+}

@@ -1,0 +1,130 @@
+// The peer side under its lock.
+
+ghost use Rattle.std.specs.Prelude.{◌≡◌, ◌≤◌, ℕ, IfOk, IsOk, OnErr};
+ghost use Rattle.joint_model.specs.Draws.{numbered};
+ghost use Rattle.joint_model.specs.Lines.{IsThread};
+ghost use Rattle.joint_model.specs.PeerReplay.{PeerAllows};
+ghost use Rattle.joint_model.specs.Sides.{peer_rules};
+ghost use Rattle.joint_model.specs.Told.{nothing};
+ghost use Rattle.order_table.specs.Views.{Owns};
+ghost use Rattle.peer_side.specs.Steps.{IsPeerStep, IsRelease};
+ghost use Rattle.joint_history.specs.Callers.{HoldsPass, KnowsNothing};
+ghost use Rattle.joint_history.specs.Knowing.{line_known};
+ghost use Rattle.joint_history.specs.Locked.{made_by, Drew, PeerKnows, MayMake, Makes, MakesNone};
+ghost use Rattle.joint_history.specs.Passing.{MayAppend};
+
+use crate::seats::{Drawing, give_back, lend};
+use joint_model::{Op, Reply, Thread};
+use order_table::{Order, OrderName, Role, Seat};
+use peer_side::PeerSide;
+use std::alloc::{AllocError, Global};
+use std::marker::{Model, PhantomData};
+
+/// The peer side with the seat that owns its role. The seat knows a past, whose peer entries are the side's list and at whose end the
+/// peer side is as this one.
+#[derive(Drop)]
+pub struct LockedPeer<N: OrderName> {
+    side: PeerSide,
+    seat: Seat,
+    of: PhantomData<N>,
+}
+
+impl<N: OrderName> Model for LockedPeer<N> {
+    ghost use Rattle.std.specs.Prelude.{◌≡◌};
+    ghost use Rattle.order_table.specs.Views.{Owns};
+    ghost use Rattle.joint_history.specs.Locked.{PeerKnows, UnderPeer};
+
+    ghost Value = { UnderPeer };
+
+    ghost view = { λ l. record { side = l.side; view = l.seat.view } };
+
+    ghost invariant = { λ l. (l.seat.order ≡ N.order) × Owns l.seat.view 1 × PeerKnows l.seat.view l.side };
+}
+
+// The side draws by the seat: what is said here is what that leaves in both, and nothing else.
+fn draw_step(
+    side: &mut PeerSide,
+    order: &Order,
+    seat: &mut Seat,
+    caller: Thread,
+    index: u32,
+    op: &Op,
+    cites: Option<u64>,
+) -> Result<(u64, Reply), AllocError>
+    requires step { IsPeerStep caller op.now }
+    requires allowed { PeerAllows side.old.state caller op.now cites nothing }
+    requires may { MayAppend order.now seat.old 1 caller op.now }
+    requires entries { line_known seat.old.view 1 ≡ side.old.entries }
+    ensures drew { IfOk result (λ r. Drew peer_rules 1 order.now seat.old seat.new side.old side.new (numbered r.0 (made_by caller index op.now r.1 cites)) nothing) }
+    ensures release { IsRelease op.now → IsOk result }
+    ensures err { OnErr result ((seat.new ≡ seat.old) × (side.new ≡ side.old)) }
+{
+    let mut drawing = Drawing {
+        order,
+        seat,
+        role: Role::Peer,
+        last: 0,
+    };
+    let reply = side.event(&mut drawing, caller, index, op, cites)?;
+    Ok((drawing.last, reply))
+}
+
+impl<N: OrderName> LockedPeer<N> {
+    /// The side on which nothing was made, for at most 8 peer threads, with a seat that owns its role and knows no entry.
+    pub(crate) fn new(alloc: Global, threads: u8, seat: Seat) -> Result<LockedPeer<N>, AllocError>
+        requires threads { threads ≤ 8 }
+        requires seat { (seat.order ≡ N.order) × Owns seat.view 1 × KnowsNothing seat.view }
+    {
+        let side = PeerSide::new(alloc, threads)?;
+        Ok(LockedPeer {
+            side,
+            seat,
+            of: PhantomData,
+        })
+    }
+
+    /// The side and its seat.
+    pub(crate) fn into_parts(self) -> (PeerSide, Seat)
+        ensures side { result.0 ≡ self.side }
+        ensures seat { (result.1.order ≡ N.order) × (result.1.view ≡ self.view) × Owns result.1.view 1 }
+        ensures knows { PeerKnows result.1.view result.0 }
+    {
+        let LockedPeer { side, seat, of: _ } = self;
+        (side, seat)
+    }
+
+    /// Makes one event of a thread, and answers its entry's number and the reply. The caller's seat knows the entry then. Answers `AllocError`
+    /// where there is no memory, and no entry is made then; a release takes none.
+    pub(crate) fn step(
+        &mut self,
+        order: &Order,
+        mine: &mut Seat,
+        caller: Thread,
+        index: u32,
+        op: &Op,
+        cites: Option<u64>,
+    ) -> Result<(u64, Reply), AllocError>
+        requires order { (order.now ≡ N.order) × (mine.old.order ≡ N.order) }
+        requires pass { IsThread caller × HoldsPass caller mine.old.view }
+        requires event { IsPeerStep caller op.now }
+        requires may { MayMake caller mine.old.view index op.now cites }
+        ensures order { mine.new.order ≡ N.order }
+        ensures pass { HoldsPass caller mine.new.view }
+        ensures ok { IfOk result (λ r. Makes caller mine.old.view mine.new.view (numbered r.0 (made_by caller index op.now r.1 cites)) nothing) }
+        ensures release { IsRelease op.now → IsOk result }
+        ensures err { OnErr result (MakesNone caller mine.old.view mine.new.view) }
+    {
+        lend(order, &mut self.seat, mine, caller);
+        let made = draw_step(
+            &mut self.side,
+            order,
+            &mut self.seat,
+            caller,
+            index,
+            op,
+            cites,
+        );
+        give_back(order, &mut self.seat, mine, caller);
+        made
+    }
+}
