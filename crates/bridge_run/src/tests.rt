@@ -1,5 +1,8 @@
 // The top call by worked examples: printed reports, and each status.
 
+ghost use Rattle.std.specs.Prelude.{Some};
+
+use crate::program::run_program;
 use crate::serial::run;
 use crate::streams::{StdSink, StdSource};
 use crate::top::bridge_main;
@@ -7,8 +10,9 @@ use bridge_script::{ByteSink, ByteSource, FreeTurn, PlainSource, parse};
 use joint_model::History;
 use joint_replay::{JointState, Verdict};
 use std::alloc::{AllocError, Global};
+use std::env::{Env, FillError};
 use std::io;
-use std::process::Abort;
+use std::process::{Abort, ExitCode};
 use std::sync::Wait;
 use std::test::Fail;
 use std::thread::Threads;
@@ -224,6 +228,66 @@ fn writers_that_fail_or_take_nothing_are_sinks_that_fail(rt: HostRuntime) -> Res
     Ok(())
 }
 
+// A reader in memory that gives one byte a call.
+#[derive(Drop)]
+struct Drip<'a> {
+    bytes: &'a [u8],
+}
+
+impl io::Read for Drip<'_> {
+    ghost remaining = { λ r. Some r.bytes.now };
+
+    fn read(&mut self, buf: &mut [u8]) -> io::Result<usize> {
+        let most = buf.len().min(1);
+        self.bytes.read(&mut buf[..most])
+    }
+}
+
+// A writer in memory that takes at most `most` bytes of a piece, and no more than half of it, rounded up.
+#[derive(Drop)]
+struct Slow {
+    most: usize,
+    bytes: Vec<u8>,
+}
+
+impl io::Write for Slow {
+    ghost contents = { λ w. Some w.bytes.items };
+
+    fn write(&mut self, buf: &[u8]) -> io::Result<usize> {
+        let count = (buf.len() - buf.len() / 2).min(self.most);
+        self.bytes.extend_from_slice(&buf[..count])?;
+        Ok(count)
+    }
+
+    fn flush(&mut self) -> io::Result<()> {
+        Ok(())
+    }
+}
+
+#[test]
+fn adapters_pass_each_byte_on_however_little_a_stream_takes(rt: HostRuntime) -> Result<(), Fail> {
+    let alloc = rt.alloc();
+    let words = words_of(alloc, &["serial"])?;
+    for most in [1, usize::MAX] {
+        let mut source = StdSource::new(Drip { bytes: TWO_LINKED });
+        let mut slow = Slow {
+            most,
+            bytes: Vec::new(alloc),
+        };
+        let status = bridge_main(
+            &rt,
+            alloc,
+            &words,
+            &mut source,
+            &mut StdSink::new(&mut slow),
+            &FreeTurn,
+        );
+        assert_eq!(rt; status, 0);
+        assert_eq!(rt; slow.bytes.as_slice(), TWO_LINKED_REPORT);
+    }
+    Ok(())
+}
+
 #[test]
 fn scripts_of_one_line_and_what_is_written(rt: HostRuntime) -> Result<(), Fail> {
     let alloc = rt.alloc();
@@ -307,6 +371,113 @@ fn a_script_has_at_most_so_many_cycles(rt: HostRuntime) -> Result<(), Fail> {
     let status = status_of(&rt, alloc, &["serial"], &text, &[], &mut more)?;
     assert_eq!(rt; status, 3);
     assert_eq!(rt; more.bytes(), b"line 257: cause 7 cycles\n".as_slice());
+    Ok(())
+}
+
+#[test]
+fn a_script_has_at_most_so_many_lines(rt: HostRuntime) -> Result<(), Fail> {
+    let alloc = rt.alloc();
+    let mut text = Vec::new(alloc);
+    for _ in 0..20_000 {
+        text.extend_from_slice(b"m1 drop a\n")?;
+    }
+    let mut out = ByteSink::new(alloc, 4096, Vec::new(alloc));
+    let status = status_of(&rt, alloc, &["serial"], &text, &[], &mut out)?;
+    assert_eq!(rt; status, 0);
+    assert!(rt;
+        out.bytes()
+            .starts_with(b"0 m1.1 drop a = ok\n1 m1.2 drop a = ok\n")
+    );
+    assert!(rt;
+        out.bytes()
+            .ends_with(b"19999 m1.20000 drop a = ok\nend 20000\n")
+    );
+    text.extend_from_slice(b"m1 drop a\n")?;
+    let mut more = ByteSink::new(alloc, 4096, Vec::new(alloc));
+    let status = status_of(&rt, alloc, &["serial"], &text, &[], &mut more)?;
+    assert_eq!(rt; status, 3);
+    assert_eq!(rt; more.bytes(), b"line 20001: cause 8 lines\n".as_slice());
+    Ok(())
+}
+
+// The arguments of a process, which need not be text.
+#[derive(Drop)]
+struct Given<'a> {
+    args: &'a [&'a [u8]],
+}
+
+impl Env for Given<'_> {
+    fn arg(&self, i: usize, buf: &mut [u8]) -> Result<usize, FillError> {
+        if i >= self.args.len() {
+            return Err(FillError::NotPresent);
+        }
+        let arg = self.args[i];
+        if arg.len() > buf.len() {
+            return Err(FillError::TooLong);
+        }
+        buf[..arg.len()].copy_from_slice(arg);
+        Ok(arg.len())
+    }
+
+    fn var(&self, _name: &str, _buf: &mut [u8]) -> Result<usize, FillError> {
+        Err(FillError::NotPresent)
+    }
+
+    fn var_at(&self, _i: usize, _buf: &mut [u8]) -> Result<usize, FillError> {
+        Err(FillError::NotPresent)
+    }
+}
+
+#[test]
+fn the_exit_code_is_the_status_for_the_words_that_were_given(rt: HostRuntime) -> Result<(), Fail> {
+    let alloc = rt.alloc();
+    let usage = b"usage: bridge_run COMMAND\n".as_slice();
+    for (first, second, text, wanted, written) in [
+        (
+            b"run".as_slice(),
+            b"serial".as_slice(),
+            b"".as_slice(),
+            0,
+            b"end 0\n".as_slice(),
+        ),
+        (
+            b"serial".as_slice(),
+            b"run".as_slice(),
+            b"".as_slice(),
+            1,
+            usage,
+        ),
+        (
+            b"run".as_slice(),
+            b"ser\xffial".as_slice(),
+            b"".as_slice(),
+            1,
+            usage,
+        ),
+        (
+            b"run".as_slice(),
+            b"serial".as_slice(),
+            b"\n".as_slice(),
+            3,
+            b"line 1: cause 1 unknown\n".as_slice(),
+        ),
+    ] {
+        let given = Given {
+            args: &[first, second],
+        };
+        let args = std::env::args(&(given, alloc));
+        let mut source = PlainSource::new(text.to_vec(alloc)?);
+        let mut out = ByteSink::new(alloc, 100, Vec::new(alloc));
+        let code = run_program(&rt, alloc, args, &mut source, &mut out, &FreeTurn);
+        assert_eq!(rt; code, ExitCode::from(wanted));
+        assert_eq!(rt; out.bytes(), written);
+    }
+    let mut source = PlainSource::new(Vec::new(alloc));
+    let mut out = ByteSink::new(alloc, 100, Vec::new(alloc));
+    let full = Err(io::Error::from(io::ErrorKind::OutOfMemory));
+    let code = run_program(&rt, alloc, full, &mut source, &mut out, &FreeTurn);
+    assert_eq!(rt; code, ExitCode::from(5));
+    assert_eq!(rt; out.bytes(), b"".as_slice());
     Ok(())
 }
 
