@@ -1,7 +1,8 @@
 -- A desk gives its callers out: who is given out is its thread's caller and knows nothing, and each thread's caller still waits or was given out.
-use Rattle.std.proofs.Common.{◌≡◌, ◌⊎◌, inl, inr, ⊎_elim, ℕ, ◌≤◌, Bool, true, false, ◌&&◌, List, [], ◌∷◌, ◌++◌, map, Option, Some, None, refl, sym, ap, ◌∙◌, subst, arith}
+use Rattle.std.proofs.Common.{◌≡◌, ◌⊎◌, inl, inr, ⊎_elim, ℕ, ◌≤◌, Bool, true, false, ◌&&◌, List, [], ◌∷◌, ◌++◌, length, get_or, Option, Some, None, refl, sym, ap, ◌∙◌, subst, arith}
 use Rattle.std.specs.Prelude.{Contains, IfSome, IsSome, if◌then◌else◌, nat_le, option_to_list, slice_get, slice_set}
 use Rattle.std.proofs.lemmas.Bool.{cases_eq, leb-true}
+use Rattle.std.proofs.lemmas.Option.{slice_get_read}
 use Rattle.joint_model.specs.declared.names.Thread.{Thread}
 use Rattle.joint_model.specs.declared.names.Thread.TheVariants.{M, P, C}
 use Rattle.joint_model.specs.Control.{caller_place}
@@ -11,7 +12,7 @@ use Rattle.joint_model.proofs.Members.{Contains-here, Contains-there}
 use Rattle.joint_history.specs.Callers.{KnowsNothing, Pass}
 use Rattle.joint_history.specs.Desks.{AreAll, IsDesk, Waiting, WaitsAt, flat, has_thread, thread_of, waits, without_caller}
 use Rattle.joint_history.specs.Ending.{HasAll, StillWaits, threads_of}
-use Rattle.joint_history.proofs.Ended.{one_at_place, thread_at_place, waiting_at}
+use Rattle.joint_history.proofs.Ended.{one_at_place, thread_at_place}
 use Rattle.joint_history.proofs.LastLines.{place_small}
 
 and_both : (b c : Bool) → (b && c) ≡ true → (b ≡ true) × (c ≡ true)
@@ -75,6 +76,26 @@ still_has_all d t ps k all = by (has_thread d t) refl
         (cases_eq (caller_place u) (caller_place t)))
         (λ c. inr (more_threads o ps u c))
         (all u is)
+
+if_so : {A : Type 0} (b : Bool) → true ≡ b → (x y : A) → (if b then x else y) ≡ x
+if_so true e x y = refl
+if_so false e x y = absurd (cc)
+
+-- what is read at the thread's place is its caller
+pub given_out : (d : Waiting) (t : Thread) (place : ℕ) (o : Option Pass) → IsDesk d → true ≡ has_thread d t → place ≡ caller_place t → o ≡ get_or d.callers place o → o ≡ waits d t
+given_out d t place o k h at v =
+    let small = place_small t (has_is_thread d t k.managed_few k.peers_few (sym h)) in
+    let places = k.places in
+    let read = slice_get_read d.callers (length d.callers) place o refl (omega (arith, at, small, places)) v in
+    sym (if_so (has_thread d t) h (flat (slice_get d.callers (caller_place t))) None ∙ ap flat (subst (λ j. slice_get d.callers j ≡ Some o) at read))
+
+-- once its place is empty, each thread's caller still waits or was given out
+pub left_desk : (d : Waiting) (t : Thread) (place : ℕ) (o : Option Pass) (ps : List Pass) → IsDesk d → true ≡ has_thread d t → place ≡ caller_place t → o ≡ waits d t → HasAll d ps → (left : Option Pass) → left ≡ None → HasAll (record d { callers = slice_set d.callers place left }) (option_to_list o ++ ps)
+left_desk d t place o ps k h at e all left empty =
+    subst (λ q. HasAll (record d { callers = slice_set d.callers place q }) (option_to_list o ++ ps)) (sym empty)
+    (subst (λ j. HasAll (record d { callers = slice_set d.callers j None }) (option_to_list o ++ ps)) (sym at)
+    (subst (λ (w : Waiting). HasAll w (option_to_list o ++ ps)) (if_so (has_thread d t) h (record d { callers = slice_set d.callers (caller_place t) None }) d)
+    (subst (λ z. HasAll (without_caller d t) (option_to_list z ++ ps)) (sym e) (still_has_all d t ps k all))))
 
 -- at first all wait
 pub all_wait : (d : Waiting) → AreAll d.callers → HasAll d []

@@ -1,11 +1,12 @@
 // The callers that weren't given out yet.
 
-ghost use Rattle.std.specs.Prelude.{◌≡◌, ◌≤◌, ◌<◌, ℕ, IfOk, IsTrue, Option, Some, slice_get, true};
+ghost use Rattle.std.specs.Prelude.{◌≡◌, ◌≤◌, ◌<◌, ℕ, ◌++◌, IfOk, IfSome, List, Option, Some, option_to_list, slice_get, true};
 ghost use Rattle.joint_model.specs.Control.{caller_place};
 ghost use Rattle.joint_model.specs.Lines.{IsThread};
 ghost use Rattle.order_table.specs.Views.{Owns, OwnsAll};
 ghost use Rattle.joint_history.specs.Callers.{KnowsNothing, Pass};
 ghost use Rattle.joint_history.specs.Desks.{AreAll, WaitsAt, has_thread, thread_of, waits, without_caller};
+ghost use Rattle.joint_history.specs.Ending.{HasAll};
 
 use crate::callers::Caller;
 use joint_model::Thread;
@@ -114,10 +115,13 @@ impl<N: OrderName> Desk<N> {
         }
     }
 
-    /// The thread's caller; None exactly where there is no such thread or its caller was given out.
+    /// The thread's caller, which knows nothing yet; None exactly where there is no such thread or its caller was given out.
     pub fn caller(&mut self, t: Thread) -> Option<Caller<N>>
         ensures caller { result ≡ waits self.old t }
         ensures desk { self.new ≡ without_caller self.old t }
+        ensures thread { IfSome result (λ p. p.thread ≡ t) }
+        ensures nothing { IfSome result (λ p. KnowsNothing p.view) }
+        ensures all { (ps : List Pass) → HasAll self.old ps → HasAll self.new (option_to_list result ++ ps) }
     {
         if !self.has(t) {
             return None;

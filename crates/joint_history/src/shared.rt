@@ -1,18 +1,25 @@
 // Two locks beside one order.
 
-ghost use Rattle.std.specs.Prelude.{◌≡◌, ◌≤◌, [], IfOk};
+ghost use Rattle.std.specs.Prelude.{◌≡◌, ◌≤◌, [], ◌∷◌, All, IfOk};
+ghost use Rattle.joint_model.specs.Histories.{IsJoinable, IsShuffle};
+ghost use Rattle.joint_model.specs.Lines.{IsDriver, IsThread};
+ghost use Rattle.joint_model.specs.Linked.{IsLinked};
+ghost use Rattle.known_laws.specs.Lists.{made_by};
 ghost use Rattle.order_table.specs.Views.{OwnsAll};
 ghost use Rattle.joint_history.specs.Callers.{Hears, KnowsNothing, Tells};
-ghost use Rattle.joint_model.specs.Lines.{IsDriver};
 ghost use Rattle.joint_history.specs.Desks.{AreAll};
 ghost use Rattle.joint_history.specs.Driven.{StillStands};
-ghost use Rattle.joint_history.specs.Ending.{HasAll};
+ghost use Rattle.joint_history.specs.Ending.{HasAll, HasOwn, IsIdle, StillWaits};
 
 use crate::callers::{Caller, tell};
 use crate::desks::Desk;
+use crate::gathers::gather_all;
 use crate::managed::LockedManaged;
 use crate::peer::LockedPeer;
+use joint_model::{History, Thread};
+use managed_side::ManagedLists;
 use order_table::{Order, OrderName, Role, Seat};
+use peer_side::PeerLists;
 use std::alloc::{AllocError, Global};
 use std::sync::Mutex;
 
@@ -24,6 +31,18 @@ pub struct Shared<N: OrderName> {
     pub(crate) managed: Mutex<LockedManaged<N>>,
     pub(crate) peers: Mutex<LockedPeer<N>>,
     ghost named: { order ≡ N.order },
+}
+
+// Joins the lists of both sides into one history.
+fn join_lists(alloc: Global, left: ManagedLists, right: PeerLists) -> Result<History, AllocError>
+    requires { IsJoinable (left.entries.entries ∷ right.entries.entries ∷ []) left.freed.items right.freed.items left.notices.items }
+    ensures shuffle { IfOk result (λ h. IsShuffle (left.entries.entries ∷ right.entries.entries ∷ []) h.entries) }
+    ensures managed { IfOk result (λ h. h.freed_managed ≡ left.freed.items) }
+    ensures peers { IfOk result (λ h. h.freed_peers ≡ right.freed.items) }
+    ensures notices { IfOk result (λ h. h.notices ≡ left.notices.items) }
+{
+    let lists = vec![in alloc; left.entries, right.entries]?;
+    History::join(alloc, lists, left.freed, right.freed, left.notices)
 }
 
 impl<N: OrderName> Shared<N> {
@@ -66,5 +85,31 @@ impl<N: OrderName> Shared<N> {
         ensures driver { IsDriver to.old.thread → StillStands to.old.view to.new.view }
     {
         tell(&self.order, from, to);
+    }
+
+    /// Ends the run: one history of all entries, which is linked, and in which each caller has just the entries that it made. Each thread's
+    /// caller is still at the desk or is given back here, and the driver's is idle. Answers `AllocError` where there is no memory for the
+    /// history.
+    pub fn finish(self, desk: Desk<N>, callers: Vec<Caller<N>>) -> Result<History, AllocError>
+        requires all { HasAll desk callers.items }
+        requires idle { All IsIdle callers.items }
+        ensures linked { IfOk result (λ h. IsLinked h) }
+        ensures own { IfOk result (λ h. All (HasOwn h.entries) callers.items) }
+        ensures none { IfOk result (λ h. (t : Thread) → IsThread t → StillWaits desk t → made_by t h.entries ≡ []) }
+    {
+        let Shared {
+            alloc,
+            order,
+            managed,
+            peers,
+            ..
+        } = self;
+        let (managed_side, mut seat) = managed.into_inner().into_parts();
+        let (peer_side, peer_seat) = peers.into_inner().into_parts();
+        gather_all(&order, &mut seat, peer_seat, desk, callers);
+        let _ = order.finish(seat);
+        let left = managed_side.into_lists();
+        let right = peer_side.into_lists();
+        join_lists(alloc, left, right)
     }
 }
