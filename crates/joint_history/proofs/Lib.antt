@@ -23,3 +23,4 @@ pub mod Allowed
 pub mod Joined
 pub mod Narrow
 pub mod Giving
+pub mod Running

@@ -2,14 +2,15 @@
 // before it. No two locks are held together. A caller's seat is the note between them: after an event it knows the entry, and hands it to the
 // other side's seat with its pass.
 
-ghost use Rattle.std.specs.Prelude.{◌≡◌, IfOk, IsOk, OnErr};
-ghost use Rattle.joint_model.specs.Lines.{is_peer_event};
+ghost use Rattle.std.specs.Prelude.{◌≡◌, ◌≤◌, [], IfOk, IsOk, None, OnErr, Some};
+ghost use Rattle.joint_model.specs.Lines.{IsLine, IsManagedThread, IsPeerThread, is_peer_event};
 ghost use Rattle.joint_model.specs.Told.{nothing};
-ghost use Rattle.peer_side.specs.Steps.{IsRelease};
-ghost use Rattle.joint_history.specs.Callers.{HoldsPass};
+ghost use Rattle.peer_side.specs.Steps.{IsRelease, IsStepLine};
+ghost use Rattle.joint_history.specs.Callers.{HoldsPass, last_index, own};
 ghost use Rattle.joint_history.specs.Locked.{MayMake, Makes, MakesNone};
-ghost use Rattle.joint_history.specs.Operations.{IsOwnThread, IsSideEvent, answer_of, entry_by, first_of, second_of, taken_by, third_of};
+ghost use Rattle.joint_history.specs.Operations.{BreaksOff, IsOperationOf, IsOwnThread, IsSideEvent, MakesAll, MayBegin, Runs, answer_of, entry_by, first_of, second_of, taken_by, third_of};
 
+use crate::callers::{Caller, Receipt};
 use crate::shared::Shared;
 use joint_model::{Act, Op, Reply, Thread, Var};
 use order_table::{OrderName, Seat};
@@ -155,5 +156,89 @@ impl<N: OrderName> Shared<N> {
         self.managed
             .lock(rt)
             .step(&self.order, mine, t, index, op, cites)
+    }
+
+    // Runs an operation with the thread's seat.
+    fn run(
+        &self,
+        rt: &impl Wait,
+        mine: &mut Seat,
+        t: Thread,
+        index: u32,
+        act: &Act,
+    ) -> Result<Receipt, AllocError>
+        requires order { mine.old.order ≡ N.order }
+        requires pass { IsOwnThread t × HoldsPass t mine.old.view }
+        requires begins { MayBegin t mine.old.view index }
+        requires act { IsOperationOf t act.now }
+        ensures order { mine.new.order ≡ N.order }
+        ensures pass { HoldsPass t mine.new.view }
+        ensures begins { MayBegin t mine.new.view index }
+        ensures ok { IfOk result (λ r. Runs t mine.old.view mine.new.view index act.now r) }
+        ensures err { OnErr result (BreaksOff t mine.old.view mine.new.view index act.now) }
+    {
+        let start = first_of(act);
+        let (first, reply) = self.event(rt, mine, t, index, &start, None)?;
+        let Some(next) = second_of(act, reply) else {
+            return Ok(Receipt {
+                first,
+                last: first,
+                reply,
+            });
+        };
+        let (second, answer) = self.event(rt, mine, t, index, &next, Some(first))?;
+        let Some(end) = third_of(&next, answer) else {
+            return Ok(Receipt {
+                first,
+                last: second,
+                reply: answer_of(act, reply, answer),
+            });
+        };
+        let (last, _) = self.event(rt, mine, t, index, &end, Some(second))?;
+        Ok(Receipt {
+            first,
+            last,
+            reply: answer,
+        })
+    }
+
+    /// Runs an operation of a managed thread, on a script line that isn't below that of the caller's last entry. Its events are made one after
+    /// another, each under its own side's lock, and the caller knows them afterwards. Answers `AllocError` where there is no memory: nothing was
+    /// made then, or the first event alone, whose entry stands (after a make or a grip the new handle stays, held by no object). Of `dispose` either
+    /// both events are made or none.
+    pub fn managed(
+        &self,
+        rt: &impl Wait,
+        caller: &mut Caller<N>,
+        index: u32,
+        act: &Act,
+    ) -> Result<Receipt, AllocError>
+        requires act { IsManagedThread caller.old.thread × IsLine caller.old.thread act.now }
+        requires index { last_index (own caller.old) ≤ index }
+        ensures thread { caller.new.thread ≡ caller.old.thread }
+        ensures index { last_index (own caller.new) ≤ index }
+        ensures ok { IfOk result (λ r. Runs caller.old.thread caller.old.view caller.new.view index act.now r) }
+        ensures err { OnErr result (BreaksOff caller.old.thread caller.old.view caller.new.view index act.now) }
+    {
+        self.run(rt, &mut caller.seat, caller.thread, index, act)
+    }
+
+    /// Runs an operation of a peer thread that is one event, on a script line that isn't below that of the caller's last entry. The caller knows
+    /// the event afterwards. Answers `AllocError` where there is no memory, and no entry is made then.
+    pub fn peer(
+        &self,
+        rt: &impl Wait,
+        caller: &mut Caller<N>,
+        index: u32,
+        act: &Act,
+    ) -> Result<Receipt, AllocError>
+        requires act { IsPeerThread caller.old.thread × IsLine caller.old.thread act.now × IsStepLine act.now }
+        requires index { last_index (own caller.old) ≤ index }
+        ensures thread { caller.new.thread ≡ caller.old.thread }
+        ensures index { last_index (own caller.new) ≤ index }
+        ensures ok { IfOk result (λ r. Runs caller.old.thread caller.old.view caller.new.view index act.now r) }
+        ensures err { OnErr result (MakesAll caller.old.thread caller.old.view caller.new.view []) }
+    {
+        self.run(rt, &mut caller.seat, caller.thread, index, act)
     }
 }

@@ -1,0 +1,364 @@
+-- An operation's events, one after another: which may be made, by which side, and what the caller has made and knows at each end.
+use Rattle.std.proofs.Common.{◌≡◌, ◌⊎◌, inl, inr, ⊎_elim, ℕ, ◌≤◌, List, [], ◌∷◌, ◌++◌, Option, Some, None, true, false, refl, sym, ap, ◌∙◌, subst, append_assoc, append-nil, arith}
+use Rattle.std.specs.Prelude.{unwrap_or, Result, Ok, Err, IfOk, IsErr, OnErr}
+use mathlib.Core.List.{IsPrefix}
+use base.Growing.{prefix_trans}
+use Rattle.joint_model.specs.declared.names.Thread.{Thread}
+use Rattle.joint_model.specs.declared.names.Thread.TheVariants.{M, P, C}
+use Rattle.joint_model.specs.declared.names.Var.{Var}
+use Rattle.joint_model.specs.declared.names.Sort.{Sort}
+use Rattle.joint_model.specs.declared.names.PNum.{PNum}
+use Rattle.joint_model.specs.declared.names.HNum.{HNum}
+use Rattle.joint_model.specs.declared.names.StaticNo.{StaticNo}
+use Rattle.joint_model.specs.declared.lines.Act.{Act}
+use Rattle.joint_model.specs.declared.lines.Act.TheVariants as act
+use Rattle.joint_model.specs.declared.events.Entry.{Entry}
+use Rattle.joint_model.specs.declared.events.Op.{Op}
+use Rattle.joint_model.specs.declared.events.Op.TheVariants as op
+use Rattle.joint_model.specs.declared.events.Reply.{Reply}
+use Rattle.joint_model.specs.declared.events.Reply.TheVariants as says
+use Rattle.joint_model.specs.Control.{IsDone, made, met, doing_after}
+use Rattle.joint_model.specs.Draws.{numbered}
+use Rattle.joint_model.specs.HistoryLines.{caller_line}
+use Rattle.joint_model.specs.Lines.{IsLine, IsManagedThread, IsPeerThread, IsThread, IsVar}
+use Rattle.joint_model.specs.Told.{Told, nothing}
+use Rattle.joint_model.proofs.Deciding.{none_some}
+use Rattle.order_table.specs.declared.views.View.{View}
+use Rattle.order_table.specs.Rule.{IsBelow}
+use Rattle.order_table.specs.Views.{known}
+use Rattle.order_table.proofs.Lines.{below_begins}
+use Rattle.peer_side.specs.Steps.{IsRelease, IsStepLine}
+use Rattle.joint_history.specs.Callers.{CallerKnows, last_index}
+use Rattle.joint_history.specs.Knowing.{line_known}
+use Rattle.joint_history.specs.Locked.{Makes, MakesNone, MayMake, doing_from, made_by}
+use Rattle.joint_history.specs.Operations.{AreAbove, BreaksOff, IsFirst, IsOperationOf, IsOwnThread, IsSideEvent, MakesAll, MayBegin, Runs, answer_of, entry_by, first_of, second_of, third_of}
+use Rattle.joint_history.proofs.LastLines.{last_line_is}
+use Rattle.joint_history.proofs.Narrow.{GripsFew, past_grips_few}
+use Rattle.joint_history.proofs.Turning.{first_may, met_then_release, stands_knows, then_adopt, then_land, then_meet, then_release}
+
+some_is : {A : Type 0} (x y : A) → Some x ≡ Some y → x ≡ y
+some_is x y e = ap (λ o. unwrap_or o x) e
+
+-- a thread that runs operations is a thread, and one that takes is a managed one
+pub own_is_thread : (t : Thread) → IsOwnThread t → IsThread t
+own_is_thread (M n) is = is
+own_is_thread (P n) is = is
+own_is_thread C is = absurd is
+
+-- what an event leaves by its result
+pub none_from : {A : Type 0} (o : Option A) → ((x : A) → o ≡ Some x → ⊥) → o ≡ None
+none_from None w = refl
+none_from (Some x) w = absurd (w x refl)
+
+pub no_ok : {A E : Type 0} (r : Result A E) (p : A → Type 0) → IsErr r → IfOk r p
+no_ok (Ok x) p w = absurd (cc)
+no_ok (Err x) p w = tt
+
+pub on_err : {A E : Type 0} (r : Result A E) (p : Type 0) → p → OnErr r p
+on_err (Ok x) p w = tt
+on_err (Err x) p w = w
+
+-- what a caller makes in turn
+pub makes_first : (t : Thread) (old new : View) (e : Entry) (told : Told) → Makes t old new e told → MakesAll t old new (e ∷ [])
+makes_first t old new e told m = record { own_more = m.own; more = m.more; above = (m.above, tt) }
+
+above_more : (v w : View) (es : List Entry) (e : Entry) → ((i : ℕ) → IsPrefix (known v i) (known w i)) → AreAbove v es → ((i : ℕ) → IsBelow e.number (known w i)) → AreAbove v (es ++ e ∷ [])
+above_more v w [] e more a b = (λ i. below_begins e.number (known v i) (known w i) (more i) (b i), tt)
+above_more v w (x ∷ es) e more a b = (a.0, above_more v w es e more a.1 b)
+
+pub makes_next : (t : Thread) (old mid new : View) (es : List Entry) (e : Entry) (told : Told) → MakesAll t old mid es → Makes t mid new e told → MakesAll t old new (es ++ e ∷ [])
+makes_next t old mid new es e told a m = record {
+  own_more = m.own ∙ (ap (λ xs. xs ++ e ∷ []) a.own_more ∙ append_assoc (line_known old (caller_line t)) es (e ∷ []));
+  more = λ i. prefix_trans (known old i) (known mid i) (known new i) (a.more i) (m.more i);
+  above = above_more old mid es e a.more a.above m.above;
+}
+
+pub makes_nothing : (t : Thread) (old new : View) → MakesNone t old new → MakesAll t old new []
+makes_nothing t old new m = record { own_more = m.own ∙ sym (append-nil (line_known old (caller_line t))); more = m.more; above = tt }
+
+pub makes_no_more : (t : Thread) (old mid new : View) (es : List Entry) → MakesAll t old mid es → MakesNone t mid new → MakesAll t old new es
+makes_no_more t old mid new es a m = record {
+  own_more = m.own ∙ a.own_more;
+  more = λ i. prefix_trans (known old i) (known mid i) (known new i) (a.more i) (m.more i);
+  above = a.above;
+}
+
+-- the first event
+first_is_first : (a : Act) → IsFirst (first_of a)
+first_is_first (act.Bridge v kind n sort f) = tt
+first_is_first (act.Pass v x) = tt
+first_is_first (act.Surface v x) = tt
+first_is_first (act.Dispose v) = tt
+first_is_first a = tt
+
+pub first_comes : (t : Thread) (v : View) (index : ℕ) (a : Act) → IsOwnThread t → MayBegin t v index → MayMake t v index (first_of a) None
+first_comes t v index a is b = first_may t v index (first_of a) is b (first_is_first a)
+
+no_take : (t : Thread) (v : Var) → None ≡ Some v → IsManagedThread t × IsVar v
+no_take t v e = absurd (none_some v e)
+
+never_peer : (A : Type 0) → false ≡ true → A
+never_peer A e = absurd (cc)
+
+never_managed : (A : Type 0) → true ≡ false → A
+never_managed A e = absurd (cc)
+
+managed_first : (n : ℕ) (a : Act) → IsLine (M n) a → IsSideEvent (M n) (first_of a)
+managed_first n (act.Bridge v kind k sort f) is = record { peer = λ z. (is.0, is.1.2); take = no_take (M n); managed = λ z q. never_managed _ z }
+managed_first n (act.Pass v x) is = record { peer = λ z. never_peer _ z; take = no_take (M n); managed = λ z q. ((is.0, is.1.0, is.1.1), is.0) }
+managed_first n (act.Surface v x) is = record { peer = λ z. (is.0, is.1.1); take = no_take (M n); managed = λ z q. never_managed _ z }
+managed_first n (act.Dispose v) is = record { peer = λ z. never_peer _ z; take = no_take (M n); managed = λ z q. ((is.0, is.1), is.0) }
+managed_first n (act.Take v) is = record { peer = λ z. never_peer _ z; take = λ w e. (is.0, subst IsVar (some_is v w e) is.1); managed = λ z q. absurd (none_some v (sym q)) }
+managed_first n (act.NewPeer v k) is = absurd is.1
+managed_first n (act.Global g v) is = absurd is.1
+managed_first n (act.WGlobal g v) is = absurd is.1
+managed_first n (act.UnGlobal g) is = absurd is.1
+managed_first n (act.WRead v g) is = absurd is.1
+managed_first n act.Collect is = absurd is.1
+managed_first n act.BeginMark is = absurd is.1
+managed_first n (act.Slice k) is = absurd is.1
+managed_first n act.SweepMark is = absurd is.1
+managed_first n (act.PhaseLine w) is = absurd is.1
+managed_first n (act.Finalise k) is = absurd is.1
+managed_first n a is = record { peer = λ z. never_peer _ z; take = no_take (M n); managed = λ z q. ((is, tt), (is.0, tt)) }
+
+peer_first : (n : ℕ) (a : Act) → IsLine (P n) a → IsStepLine a → IsSideEvent (P n) (first_of a)
+peer_first n (act.NewPeer v k) is b = record { peer = λ z. (is.0, is.1, b); take = no_take (P n); managed = λ z q. never_managed _ z }
+peer_first n (act.Copy v w) is b = record { peer = λ z. (is.0, is.1, b); take = no_take (P n); managed = λ z q. never_managed _ z }
+peer_first n (act.Set v i w) is b = record { peer = λ z. (is.0, is.1, b); take = no_take (P n); managed = λ z q. never_managed _ z }
+peer_first n (act.Get v w i) is b = record { peer = λ z. (is.0, is.1, b); take = no_take (P n); managed = λ z q. never_managed _ z }
+peer_first n (act.Drop v) is b = record { peer = λ z. (is.0, is.1, b); take = no_take (P n); managed = λ z q. never_managed _ z }
+peer_first n (act.Load v x) is b = record { peer = λ z. (is.0, is.1, b); take = no_take (P n); managed = λ z q. never_managed _ z }
+peer_first n (act.Store x v) is b = record { peer = λ z. (is.0, is.1, b); take = no_take (P n); managed = λ z q. never_managed _ z }
+peer_first n (act.Global g v) is b = record { peer = λ z. (is.0, is.1, b); take = no_take (P n); managed = λ z q. never_managed _ z }
+peer_first n (act.WGlobal g v) is b = record { peer = λ z. (is.0, is.1, b); take = no_take (P n); managed = λ z q. never_managed _ z }
+peer_first n (act.UnGlobal g) is b = record { peer = λ z. (is.0, is.1, b); take = no_take (P n); managed = λ z q. never_managed _ z }
+peer_first n (act.WRead v g) is b = record { peer = λ z. (is.0, is.1, b); take = no_take (P n); managed = λ z q. never_managed _ z }
+peer_first n a is b = absurd b
+
+pub first_is_made : (t : Thread) (a : Act) → IsOperationOf t a → IsSideEvent t (first_of a)
+first_is_made (M n) a is = managed_first n a is
+first_is_made (P n) a is = peer_first n a is.0 is.1
+first_is_made C a is = absurd is
+
+-- after an entry of a grip the peer has few fields
+grip_is_narrow : (n : ℕ) (old new : View) (k index : ℕ) (x : StaticNo) (p : PNum) (h : HNum) (sort : Sort) (f : ℕ) (cites : Option ℕ) (told : Told) → Makes (M n) old new (numbered k (made_by (M n) index (op.Grip x) (says.Gripped p h sort f) cites)) told → f ≤ 16
+grip_is_narrow n old new k index x p h sort f cites told m = subst GripsFew m.stands.doing (past_grips_few m.stands.known.past m.stands.known.lawful n)
+
+-- the second event follows the first, and is one that a side makes
+pub record Follows (t : Thread) (v : View) (index n : ℕ) (o : Op) : Type 0 where
+  pub may : MayMake t v index o (Some n)
+  pub made : IsSideEvent t o
+
+second_follows : (n : ℕ) (old new : View) (k index : ℕ) (a : Act) (answered : Reply) (o : Op) → IsLine (M n) a → Makes (M n) old new (entry_by (M n) index k (first_of a) answered None) nothing → second_of a answered ≡ Some o → Follows (M n) new index k o
+second_follows n old new k index (act.Bridge v kind b sort f) (says.Made p h) o is m e = subst (Follows (M n) new index k) (some_is (op.Adopt v kind b p h) o e) (record {
+  may = then_adopt n old new k index sort f p h None nothing v kind b m is;
+  made = record { peer = λ z. never_peer _ z; take = no_take (M n); managed = λ z q. ((is.0, is.1.0, (sort, is.1.1)), is.0) };
+})
+second_follows n old new k index (act.Pass v x) (says.H h) o is m e = subst (Follows (M n) new index k) (some_is (op.Land h x) o e) (record {
+  may = then_land n old new k index v x h None nothing m;
+  made = record { peer = λ z. (is.0, is.1.1); take = no_take (M n); managed = λ z q. never_managed _ z };
+})
+second_follows n old new k index (act.Surface v x) (says.Gripped p h sort f) o is m e = subst (Follows (M n) new index k) (some_is (op.Meet v p h sort f) o e) (record {
+  may = then_meet n old new k index x p h sort f None nothing v m;
+  made = record { peer = λ z. never_peer _ z; take = no_take (M n); managed = λ z q. ((is.0, is.1.0, grip_is_narrow n old new k index x p h sort f None nothing m), is.0) };
+})
+second_follows n old new k index (act.Dispose v) (says.H h) o is m e = subst (Follows (M n) new index k) (some_is (op.Release h) o e) (record {
+  may = then_release n old new k index v h None nothing m;
+  made = record { peer = λ z. is.0; take = no_take (M n); managed = λ z q. never_managed _ z };
+})
+second_follows n old new k index a answered o is m e = absurd (none_some o e)
+
+-- a peer thread's operation has no second event
+peers_have_none : (n : ℕ) (a : Act) (answered : Reply) (o : Op) → IsLine (P n) a → second_of a answered ≡ Some o → ⊥
+peers_have_none n (act.Bridge v kind b sort f) answered o is e = is.1
+peers_have_none n (act.Pass v x) answered o is e = is.1
+peers_have_none n (act.Surface v x) answered o is e = is.1
+peers_have_none n (act.Dispose v) answered o is e = is.1
+peers_have_none n a answered o is e = none_some o e
+
+pub second_comes : (t : Thread) (old new : View) (k index : ℕ) (a : Act) (answered : Reply) (o : Op) → IsOperationOf t a → Makes t old new (entry_by t index k (first_of a) answered None) nothing → second_of a answered ≡ Some o → Follows t new index k o
+second_comes (M n) old new k index a answered o is m e = second_follows n old new k index a answered o is m e
+second_comes (P n) old new k index a answered o is m e = absurd (peers_have_none n a answered o is.0 e)
+second_comes C old new k index a answered o is m e = absurd is
+
+-- only a meet has a third event after it
+met_by : (v : Var) (p : PNum) (h : HNum) (sort : Sort) (f : ℕ) (reply : Reply) (third : Op) → third_of (op.Meet v p h sort f) reply ≡ Some third → (op.Release h ≡ third) × ((k index : ℕ) → doing_after k index (op.Meet v p h sort f) reply ≡ met k index h.0)
+met_by v p h sort f (says.New m) third e = absurd (none_some third e)
+met_by v p h sort f reply third e = (some_is (op.Release h) third e, λ k index. refl)
+
+third_follows : (n : ℕ) (old new : View) (j k index : ℕ) (second : Op) (reply : Reply) (third : Op) → IsManagedThread (M n) → Makes (M n) old new (entry_by (M n) index k second reply (Some j)) nothing → third_of second reply ≡ Some third → Follows (M n) new index k third
+third_follows n old new j k index (op.Meet v p h sort f) reply third is m e =
+    let w = met_by v p h sort f reply third e in
+    subst (Follows (M n) new index k) w.0 (record {
+      may = met_then_release n old new k index v p h sort f reply (Some j) nothing m (w.1 k index);
+      made = record { peer = λ z. is; take = no_take (M n); managed = λ z q. never_managed _ z };
+    })
+third_follows n old new j k index second reply third is m e = absurd (none_some third e)
+
+pub third_comes : (t : Thread) (old new : View) (j k index : ℕ) (a : Act) (answered : Reply) (second : Op) (reply : Reply) (third : Op) → IsOperationOf t a → second_of a answered ≡ Some second → Makes t old new (entry_by t index k second reply (Some j)) nothing → third_of second reply ≡ Some third → Follows t new index k third
+third_comes (M n) old new j k index a answered second reply third is f m e = third_follows n old new j k index second reply third is.0 m e
+third_comes (P n) old new j k index a answered second reply third is f m e = absurd (peers_have_none n a answered second is.0 f)
+third_comes C old new j k index a answered second reply third is f m e = absurd is
+
+-- the third event is a release, which takes no memory
+pub third_is_release : (second : Op) (reply : Reply) (third : Op) → third_of second reply ≡ Some third → IsRelease third
+third_is_release (op.Meet v p h sort f) reply third e = subst IsRelease (met_by v p h sort f reply third e).0 tt
+third_is_release second reply third e = absurd (none_some third e)
+
+-- where an operation may end nothing is left to release
+ends_first : (n k index : ℕ) (a : Act) (answered : Reply) → second_of a answered ≡ None → IsDone (doing_after k index (first_of a) answered)
+ends_first n k index (act.Bridge v kind b sort f) (says.Made p h) e = tt
+ends_first n k index (act.Bridge v kind b sort f) answered e = tt
+ends_first n k index (act.Pass v x) (says.H h) e = tt
+ends_first n k index (act.Pass v x) answered e = tt
+ends_first n k index (act.Surface v x) (says.Gripped p h sort f) e = tt
+ends_first n k index (act.Surface v x) answered e = tt
+ends_first n k index (act.Dispose v) (says.H h) e = absurd (none_some (op.Release h) (sym e))
+ends_first n k index (act.Dispose v) answered e = tt
+ends_first n k index a answered e = tt
+
+stays_first : (n k index : ℕ) (a : Act) (answered : Reply) (second : Op) → second_of a answered ≡ Some second → (IsRelease second → ⊥) → IsDone (doing_after k index (first_of a) answered)
+stays_first n k index (act.Bridge v kind b sort f) (says.Made p h) second e keeps = tt
+stays_first n k index (act.Pass v x) (says.H h) second e keeps = tt
+stays_first n k index (act.Surface v x) (says.Gripped p h sort f) second e keeps = tt
+stays_first n k index (act.Dispose v) (says.H h) second e keeps = absurd (keeps (subst IsRelease (some_is (op.Release h) second e) tt))
+stays_first n k index a answered second e keeps = absurd (none_some second e)
+
+met_done : (k index : ℕ) (v : Var) (p : PNum) (h : HNum) (sort : Sort) (f : ℕ) (reply : Reply) → third_of (op.Meet v p h sort f) reply ≡ None → IsDone (doing_after k index (op.Meet v p h sort f) reply)
+met_done k index v p h sort f (says.New m) e = tt
+met_done k index v p h sort f reply e = absurd (none_some (op.Release h) (sym e))
+
+ends_second : (n k index : ℕ) (a : Act) (answered : Reply) (second : Op) (reply : Reply) → second_of a answered ≡ Some second → third_of second reply ≡ None → IsDone (doing_after k index second reply)
+ends_second n k index (act.Bridge v kind b sort f) (says.Made p h) second reply e ends = subst (λ o. IsDone (doing_after k index o reply)) (some_is (op.Adopt v kind b p h) second e) tt
+ends_second n k index (act.Pass v x) (says.H h) second reply e ends = subst (λ o. IsDone (doing_after k index o reply)) (some_is (op.Land h x) second e) tt
+ends_second n k index (act.Surface v x) (says.Gripped p h sort f) second reply e ends =
+    let is = some_is (op.Meet v p h sort f) second e in
+    subst (λ o. IsDone (doing_after k index o reply)) is (met_done k index v p h sort f reply (subst (λ o. third_of o reply ≡ None) (sym is) ends))
+ends_second n k index (act.Dispose v) (says.H h) second reply e ends = subst (λ o. IsDone (doing_after k index o reply)) (some_is (op.Release h) second e) tt
+ends_second n k index a answered second reply e ends = absurd (none_some second e)
+
+ends_third : (n k index : ℕ) (third : Op) (reply : Reply) → IsRelease third → IsDone (doing_after k index third reply)
+ends_third n k index (op.Release h) reply is = tt
+ends_third n k index third reply is = absurd is
+
+-- so the caller knows a past at whose end it has released all
+of_thread : (t : Thread) (e : Entry) → ((n : ℕ) → t ≡ M n → IsDone (doing_after e.number e.made.index e.made.op e.made.reply)) → IsDone (doing_from t e)
+of_thread (M n) e w = w n refl
+of_thread (P n) e w = tt
+of_thread C e w = tt
+
+pub begins_after : (t : Thread) (old new : View) (e : Entry) (told : Told) → Makes t old new e told → IsDone (doing_from t e) → MayBegin t new e.made.index
+begins_after t old new e told m d = record { doing = doing_from t e; stands = m.stands; done = d }
+
+-- who may begin knows a past at whose end it has nothing to release, and its last line isn't above
+pub beginner_knows : (t : Thread) (v : View) (index : ℕ) → MayBegin t v index → CallerKnows t v
+beginner_knows t v index b = stands_knows t v index b.doing b.stands b.done
+
+pub beginner_is_below : (t : Thread) (v : View) (index : ℕ) → IsThread t → MayBegin t v index → last_index (line_known v (caller_line t)) ≤ index
+beginner_is_below t v index is b =
+    let e = last_line_is b.stands.known.past t is ∙ ap last_index (sym (b.stands.known.same (caller_line t))) in
+    let l = b.stands.last in
+    omega (arith, e, l)
+
+-- the ends of an operation, at the numbers and replies of its events
+module _ (t : Thread) (index : ℕ) (a : Act) (old one : View) (first : ℕ) (answered : Reply) (start : Op) (begins : start ≡ first_of a) (makes : Makes t old one (entry_by t index first start answered None) nothing) where
+  m : Makes t old one (entry_by t index first (first_of a) answered None) nothing
+  m = subst (λ o. Makes t old one (entry_by t index first o answered None) nothing) begins makes
+
+  pub then_second : (second : Op) → IsOperationOf t a → second_of a answered ≡ Some second → Follows t one index first second
+  then_second second is f = second_comes t old one first index a answered second is m f
+
+  pub first_begins : second_of a answered ≡ None → MayBegin t one index
+  first_begins e = begins_after t old one _ nothing m (of_thread t _ (λ n q. ends_first n first index a answered e))
+
+  pub first_ends : second_of a answered ≡ None → Runs t old one index a (record { first = first; last = first; reply = answered })
+  first_ends e = record {
+    entries = entry_by t index first (first_of a) answered None ∷ [];
+    made = makes_first t old one _ nothing m;
+    operation = record { answered = answered; rest = []; all = refl; ends = inl (record { no_second = e; nothing_more = refl; last = refl; answer = refl }) };
+  }
+
+  -- no memory for the second event
+  module _ (new : View) (second : Op) (f : second_of a answered ≡ Some second) (none : MakesNone t one new) (keeps : IsRelease second → ⊥) where
+    pub broken_begins : MayBegin t new index
+    broken_begins = record { doing = doing_from t (entry_by t index first (first_of a) answered None); stands = none.stands index _ m.stands; done = of_thread t _ (λ n q. stays_first n first index a answered second f keeps) }
+
+    pub broken_off : BreaksOff t old new index a
+    broken_off = record {
+      entries = entry_by t index first (first_of a) answered None ∷ [];
+      made = makes_no_more t old one new _ (makes_first t old one _ nothing m) none;
+      begun = inr (record { number = first; answered = answered; second = second; one = refl; follows = f; takes_memory = keeps });
+    }
+
+  module _ (two : View) (second : Op) (f : second_of a answered ≡ Some second) (number : ℕ) (reply : Reply) (m2 : Makes t one two (entry_by t index number second reply (Some first)) nothing) where
+    pub both : MakesAll t old two (entry_by t index first (first_of a) answered None ∷ entry_by t index number second reply (Some first) ∷ [])
+    both = makes_next t old one two (entry_by t index first (first_of a) answered None ∷ []) _ nothing (makes_first t old one _ nothing m) m2
+
+    pub second_begins : third_of second reply ≡ None → MayBegin t two index
+    second_begins e = begins_after t one two _ nothing m2 (of_thread t _ (λ n q. ends_second n number index a answered second reply f e))
+
+    pub second_ends : third_of second reply ≡ None → Runs t old two index a (record { first = first; last = number; reply = answer_of a answered reply })
+    second_ends e = record {
+      entries = entry_by t index first (first_of a) answered None ∷ entry_by t index number second reply (Some first) ∷ [];
+      made = both;
+      operation = record {
+        answered = answered;
+        rest = entry_by t index number second reply (Some first) ∷ [];
+        all = refl;
+        ends = inr (inl (record { second = second; reply = reply; follows = f; no_third = e; one_more = refl; answer = refl }));
+      };
+    }
+
+    module _ (three : View) (third : Op) (g : third_of second reply ≡ Some third) (last : ℕ) (released : Reply) (m3 : Makes t two three (entry_by t index last third released (Some number)) nothing) where
+      pub third_begins : MayBegin t three index
+      third_begins = begins_after t two three _ nothing m3 (of_thread t _ (λ n q. ends_third n last index third released (third_is_release second reply third g)))
+
+      pub third_ends : Runs t old three index a (record { first = first; last = last; reply = reply })
+      third_ends = record {
+        entries = entry_by t index first (first_of a) answered None ∷ entry_by t index number second reply (Some first) ∷ entry_by t index last third released (Some number) ∷ [];
+        made = makes_next t old two three (entry_by t index first (first_of a) answered None ∷ entry_by t index number second reply (Some first) ∷ []) _ nothing both m3;
+        operation = record {
+          answered = answered;
+          rest = entry_by t index number second reply (Some first) ∷ entry_by t index last third released (Some number) ∷ [];
+          all = refl;
+          ends = inr (inr (record { second = second; reply = reply; number = number; third = third; released = released; follows = f; then_follows = g; two_more = refl; answer = refl }));
+        };
+      }
+
+pub nothing_begun : (t : Thread) (old new : View) (index : ℕ) (a : Act) → MakesNone t old new → BreaksOff t old new index a
+nothing_begun t old new index a m = record { entries = []; made = makes_nothing t old new m; begun = inl refl }
+
+-- which threads and lines an operation has
+pub managed_is_own : (t : Thread) → IsManagedThread t → IsOwnThread t
+managed_is_own (M n) is = is
+managed_is_own (P n) is = absurd is
+managed_is_own C is = absurd is
+
+pub peer_is_own : (t : Thread) → IsPeerThread t → IsOwnThread t
+peer_is_own (M n) is = absurd is
+peer_is_own (P n) is = is
+peer_is_own C is = absurd is
+
+pub managed_operation : (t : Thread) (a : Act) → IsManagedThread t → IsLine t a → IsOperationOf t a
+managed_operation (M n) a is line = line
+managed_operation (P n) a is line = absurd is
+managed_operation C a is line = absurd is
+
+pub peer_operation : (t : Thread) (a : Act) → IsPeerThread t → IsLine t a → IsStepLine a → IsOperationOf t a
+peer_operation (M n) a is line step = absurd is
+peer_operation (P n) a is line step = (line, step)
+peer_operation C a is line step = absurd is
+
+-- a peer thread's operation that found no memory made nothing
+pub peer_makes_none : (t : Thread) (old new : View) (index : ℕ) (a : Act) → IsPeerThread t → IsLine t a → BreaksOff t old new index a → MakesAll t old new []
+peer_makes_none (M n) old new index a is line b = absurd is
+peer_makes_none (P n) old new index a is line b = ⊎_elim
+    (λ e. subst (MakesAll (P n) old new) e b.made)
+    (λ f. absurd (peers_have_none n a f.answered f.second line f.follows))
+    b.begun
+peer_makes_none C old new index a is line b = absurd is
+
+pub breaks_none : {A E : Type 0} (t : Thread) (old new : View) (index : ℕ) (a : Act) (result : Result A E) → IsPeerThread t → IsLine t a → OnErr result (BreaksOff t old new index a) → OnErr result (MakesAll t old new [])
+breaks_none t old new index a (Ok x) is line b = tt
+breaks_none t old new index a (Err x) is line b = peer_makes_none t old new index a is line b
