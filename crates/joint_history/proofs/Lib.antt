@@ -13,6 +13,7 @@ pub mod Turning
 pub mod DeadParts
 pub mod DriverSteps
 pub mod DriverPeerSteps
+pub mod DriverMarks
 pub mod DriverCalls
 pub mod DriverSnaps
 pub mod DriverHears
