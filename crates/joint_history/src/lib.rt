@@ -10,6 +10,7 @@
 mod callers;
 mod desks;
 mod driven;
+mod driving;
 mod gathers;
 mod laws;
 mod managed;
