@@ -13,6 +13,8 @@ pub mod Turning
 pub mod DeadParts
 pub mod DriverSteps
 pub mod DriverPeerSteps
+pub mod DriverMarks
+pub mod DriverCallers
 pub mod DriverCalls
 pub mod DriverSnaps
 pub mod DriverHears

@@ -8,3 +8,4 @@ pub mod Operations
 pub mod Driven
 pub mod DriverDraws
 pub mod DriverSnaps
+pub mod DriverMarks

@@ -10,9 +10,11 @@
 mod callers;
 mod desks;
 mod driven;
+mod driving;
 mod gathers;
 mod laws;
 mod managed;
+mod marks;
 mod operations;
 mod peer;
 mod seats;
@@ -23,5 +25,6 @@ pub use callers::{Caller, Receipt};
 pub use desks::Desk;
 pub use laws::views_are_pasts;
 pub use managed::LockedManaged;
+pub use marks::Begun;
 pub use peer::LockedPeer;
 pub use shared::Shared;

@@ -24,8 +24,8 @@ use std::marker::{Model, PhantomData};
 /// peer side is as this one.
 #[derive(Drop)]
 pub struct LockedPeer<N: OrderName> {
-    side: PeerSide,
-    seat: Seat,
+    pub(crate) side: PeerSide,
+    pub(crate) seat: Seat,
     of: PhantomData<N>,
 }
 

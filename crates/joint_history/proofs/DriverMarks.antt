@@ -1,0 +1,211 @@
+-- The driver's marking under the peer lock: after its sweep no marking is open, so its begin gives a number; and in its marked phase its own is open.
+use Rattle.std.proofs.Common.{◌≡◌, ◌⊎◌, inl, ⊎_elim, ℕ, ◌<◌, ◌^◌, Bool, true, false, List, length, Option, Some, None, refl, sym, ap, ◌∙◌, subst}
+use Rattle.std.specs.Prelude.{IsSome, Result, Ok, Err, IfOk, OnErr}
+use mathlib.Core.List.{IsPrefix}
+use base.Growing.{prefix_refl, prefix_trans}
+use Rattle.joint_model.specs.declared.names.Marking.{Marking as Number}
+use Rattle.joint_model.specs.declared.names.Span.{Span}
+use Rattle.joint_model.specs.declared.names.Thread.{Thread}
+use Rattle.joint_model.specs.declared.names.Thread.TheVariants.{C}
+use Rattle.joint_model.specs.declared.events.Entry.{Entry}
+use Rattle.joint_model.specs.declared.events.Op.TheVariants as op
+use Rattle.joint_model.specs.declared.events.Reply.{Reply}
+use Rattle.joint_model.specs.declared.events.Reply.TheVariants as says
+use Rattle.joint_model.specs.Control.{Opened, Stand, idle, snapped, contracted, weakening, marked, restoring, restored, candidates_of, MaySweepNow, stand_after}
+use Rattle.joint_model.specs.Lines.{IsDriver}
+use Rattle.joint_model.specs.Managed.{Managed}
+use Rattle.joint_model.specs.PeerReplay.{PeerReplay, Marking, swept}
+use Rattle.joint_model.specs.Sides.{Side, peer_rules}
+use Rattle.joint_model.specs.Told.{Told, nothing, sweep_of}
+use Rattle.known_laws.proofs.Conditions.{marked_is_the_drivers, sweep_leaves_none}
+use Rattle.peer_side.specs.declared.side.Swept.{Swept}
+use Rattle.peer_side.specs.Sides.{IsMarkingOf, MayEnd}
+use Rattle.order_table.specs.declared.views.View.{View}
+use Rattle.order_table.specs.Views.{OrderId, Shown, known, Owns}
+use Rattle.joint_history.specs.declared.marks.Begun.{Begun}
+use Rattle.joint_history.specs.Callers.{CallerKnows, HoldsPass}
+use Rattle.joint_history.specs.Driven.{DriverMakesNone, DriverStands, driver_entry}
+use Rattle.joint_history.specs.DriverMarks.{DrawsSweep, EndsFirst, HasBegunMarking, MakesBegin, MakesMark, MakesNoMark, MakesSweep, MayBeginMarking, MayEndMarking, MayMarkCycle, after_sweep}
+use Rattle.joint_history.specs.Locked.{Drew, PeerKnows}
+use Rattle.joint_history.specs.Passing.{Lends, Returns}
+use Rattle.joint_history.proofs.DeadParts.{count_same}
+use Rattle.joint_history.proofs.DriverHears.{driver_knows}
+use Rattle.joint_history.proofs.DriverPeerSteps.{DrivenUnderPeers, IsUnderPeers, driven_peers, driven_peers_none, under_peers}
+use Rattle.joint_history.proofs.LockedSteps.{grows_more, owns_on}
+
+-- the driver may end any marking
+pub driver_ends : (o : Option Marking) → MayEnd o C
+driver_ends None = tt
+driver_ends (Some mk) = inl refl
+
+some_marking : (o : Option Marking) (mk : Marking) → o ≡ Some mk → IsSome o
+some_marking o mk e = subst IsSome (sym e) refl
+
+-- in the marked phase the own marking is open
+marked_open : (side : PeerReplay) (o : Opened) (seen : Managed) → IsUnderPeers side (marked o) seen → IsSome side.marking
+marked_open side o seen u =
+    let w = marked_is_the_drivers u.state u.kept o u.stood in
+    subst (λ (s : PeerReplay). IsSome s.marking) u.peer (some_marking u.state.peer.marking w.0 w.1)
+
+pub is_open : (locked mine lent mine1 : View) (side : Side PeerReplay) (index : ℕ) → HoldsPass C mine → Owns locked 1 → PeerKnows locked side → Lends C locked mine lent mine1 → IsSome side.state.marking ⊎ HasBegunMarking mine index → IsSome side.state.marking
+is_open locked mine lent mine1 side index pass owns ks l w = ⊎_elim
+    (λ (i : IsSome side.state.marking). i)
+    (λ (m : HasBegunMarking mine index). marked_open side.state m.opened m.seen (under_peers locked mine lent mine1 side index (marked m.opened) m.seen pass owns ks m.stands l))
+    w
+
+-- where the driver stands after it has ended a marking
+sweep_next : (stand : Stand) (n : ℕ) (reply : Reply) (told : Told) → stand_after stand n op.Sweep reply told ≡ after_sweep stand
+sweep_next idle n reply told = refl
+sweep_next (snapped o) n reply told = refl
+sweep_next (contracted o comps pairs) n reply told = refl
+sweep_next (weakening o count weakened swept) n reply told = refl
+sweep_next (marked o) n reply told = refl
+sweep_next (restoring o answers) n reply told = refl
+sweep_next (restored o answers clear) n reply told = refl
+
+-- a sweep that was done says how many it freed
+abbrev count_in : Reply → ℕ
+count_in (says.Swept j span) = span.count
+count_in r = 0
+
+sweep_counts : (s : PeerReplay) (o : Option Marking) (freed : List ℕ) (j : Number) (span : Span) → says.Swept j span ≡ (swept s o C freed).reply → span.count ≡ length freed
+sweep_counts s None freed j span e = (let f : says.Swept j span ≡ says.NoMark = e in cc)
+sweep_counts s (Some mk) freed j span e = ap count_in e
+
+-- a call under the lock that may find no memory
+pub record CalledPeers {X E : Type 0} (mine locked2 mine2 : View) (side : Side PeerReplay) (result : Result X E) (Q : X → Type 0) : Type 0 where
+  pub knows : PeerKnows locked2 side
+  pub ok : IfOk result Q
+  pub err : OnErr result (DriverMakesNone mine mine2)
+
+-- after a draw under the lock
+module _ (locked mine mine1 locked2 mine2 : View) (order : OrderId) (seat seat' : Shown) (old new : Side PeerReplay) (index : ℕ) (pass : HoldsPass C mine) (owns : Owns locked 1) (short : index < 2 ^ 32) (ks : PeerKnows locked old) (l : Lends C locked mine seat.view mine1) (b : Returns C seat'.view mine1 locked2 mine2) where
+  -- the sweep
+  with_sweep : (n : ℕ) (out : Swept) (d : DrawsSweep order seat seat' old new index n out) (stand : Stand) (m : Managed) → DriverStands mine index stand m → MaySweepNow stand (length (candidates_of m)) None
+      → DrivenUnderPeers mine locked2 mine2 old new index stand m (driver_entry n index op.Sweep (says.Swept out.marking out.freed) None) (sweep_of d.freed)
+  with_sweep n out d stand m s now =
+      driven_peers locked mine mine1 locked2 mine2 order seat seat' old new index stand m (driver_entry n index op.Sweep (says.Swept out.marking out.freed) None) (sweep_of d.freed) pass owns refl refl short ks s
+      (λ u. subst (λ (c : ℕ). MaySweepNow stand c None) (count_same m u.state.managed.managed u.dead) now) l d.drew b
+
+  pub sweep_made : (n : ℕ) (out : Swept) → DrawsSweep order seat seat' old new index n out → MakesSweep mine mine2 index n out
+  sweep_made n out d stand m s now =
+      let w = (with_sweep n out d stand m s now).driven in
+      record {
+        freed = d.freed;
+        count = sweep_counts old.state old.state.marking d.freed out.marking out.freed d.drew.goes.lawful.1.replies;
+        makes = w.makes;
+        stands = subst (λ (z : Stand). DriverStands mine2 index z m) (sweep_next stand n (says.Swept out.marking out.freed) w.told_now) w.stands;
+      }
+
+  pub sweep_knows : (n : ℕ) (out : Swept) → DrawsSweep order seat seat' old new index n out → MayEndMarking mine index → PeerKnows locked2 new
+  sweep_knows n out d w = (with_sweep n out d w.stand w.seen w.stands w.now).knows
+
+  pub sweep_closes : (n : ℕ) (out : Swept) → DrawsSweep order seat seat' old new index n out → new.state.marking ≡ None
+  sweep_closes n out d = ap (λ (s : PeerReplay). s.marking) d.drew.goes.state ∙ sweep_leaves_none old.state None (sweep_of d.freed)
+
+  -- the begin
+  with_begin : (n : ℕ) (j : Number) → Drew peer_rules 1 order seat seat' old new (driver_entry n index op.Begin (says.Mark j) None) nothing → (o : Opened) (count : ℕ) (weakened swept : Bool) (m : Managed) → DriverStands mine index (weakening o count weakened swept) m
+      → count ≡ length (candidates_of m) → DrivenUnderPeers mine locked2 mine2 old new index (weakening o count weakened swept) m (driver_entry n index op.Begin (says.Mark j) None) nothing
+  with_begin n j d o count weakened swept m s all =
+      driven_peers locked mine mine1 locked2 mine2 order seat seat' old new index (weakening o count weakened swept) m (driver_entry n index op.Begin (says.Mark j) None) nothing pass owns refl refl short ks s
+      (λ u. (all ∙ count_same m u.state.managed.managed u.dead, refl)) l d b
+
+  begin_made : (n : ℕ) (j : Number) → Drew peer_rules 1 order seat seat' old new (driver_entry n index op.Begin (says.Mark j) None) nothing → MakesBegin mine mine2 index n j
+  begin_made n j d o count weakened swept m s all = let w = (with_begin n j d o count weakened swept m s all).driven in record { makes = w.makes; stands = w.stands }
+
+  pub begin_called : {E : Type 0} (result : Result (ℕ × Number) E) → MayBeginMarking mine index → IfOk result (λ x. Drew peer_rules 1 order seat seat' old new (driver_entry x.0 index op.Begin (says.Mark x.1) None) nothing)
+      → OnErr result ((seat' ≡ seat) × (new ≡ old)) → CalledPeers mine locked2 mine2 new result (λ x. MakesBegin mine mine2 index x.0 x.1)
+  begin_called (Ok x) w d e = record { knows = (with_begin x.0 x.1 d w.opened w.count w.weakened w.swept w.seen w.stands w.all).knows; ok = begin_made x.0 x.1 d; err = tt }
+  begin_called (Err x) w d e =
+      let back : Returns C seat.view mine1 locked2 mine2 = subst (λ (s : Shown). Returns C s.view mine1 locked2 mine2) e.0 b in
+      let n = driven_peers_none locked mine seat.view mine1 locked2 mine2 old pass owns ks w.stands.known l back in
+      record { knows = subst (PeerKnows locked2) (sym e.1) n.knows; ok = tt; err = n.makes }
+
+-- what the seat knew and owned after a draw
+module _ (order : OrderId) (seat seat' : Shown) (old new : Side PeerReplay) (e : Entry) (told : Told) (d : Drew peer_rules 1 order seat seat' old new e told) where
+  pub peer_prefix : (i : ℕ) → IsPrefix (known seat.view i) (known seat'.view i)
+  peer_prefix i = grows_more seat.view seat'.view 1 d.kept d.appends.grows i
+
+  pub peer_keeps : (i : ℕ) → Owns seat.view i → Owns seat'.view i
+  peer_keeps i o = owns_on seat.view seat'.view 1 d.kept d.appends.grows i o
+
+-- and after a begin, whether it was drawn or not
+module _ {E : Type 0} (order : OrderId) (seat seat' : Shown) (old new : Side PeerReplay) (index : ℕ) where
+  pub begin_prefix : (result : Result (ℕ × Number) E) → IfOk result (λ x. Drew peer_rules 1 order seat seat' old new (driver_entry x.0 index op.Begin (says.Mark x.1) None) nothing) → OnErr result ((seat' ≡ seat) × (new ≡ old)) → (i : ℕ) → IsPrefix (known seat.view i) (known seat'.view i)
+  begin_prefix (Ok x) d e i = grows_more seat.view seat'.view 1 d.kept d.appends.grows i
+  begin_prefix (Err x) d e i = subst (λ (s : Shown). IsPrefix (known seat.view i) (known s.view i)) (sym e.0) (prefix_refl (known seat.view i))
+
+  pub begin_keeps : (result : Result (ℕ × Number) E) → IfOk result (λ x. Drew peer_rules 1 order seat seat' old new (driver_entry x.0 index op.Begin (says.Mark x.1) None) nothing) → OnErr result ((seat' ≡ seat) × (new ≡ old)) → (i : ℕ) → Owns seat.view i → Owns seat'.view i
+  begin_keeps (Ok x) d e i w = owns_on seat.view seat'.view 1 d.kept d.appends.grows i w
+  begin_keeps (Err x) d e i w = subst (λ (s : Shown). Owns s.view i) (sym e.0) w
+
+  pub begin_order : (result : Result (ℕ × Number) E) → IfOk result (λ x. Drew peer_rules 1 order seat seat' old new (driver_entry x.0 index op.Begin (says.Mark x.1) None) nothing) → OnErr result ((seat' ≡ seat) × (new ≡ old)) → seat'.order ≡ seat.order
+  begin_order (Ok x) d e = d.appends.same
+  begin_order (Err x) d e = ap (λ (s : Shown). s.order) e.0
+
+-- no marking is open where none is named, and one is open where one is named
+pub none_open : (n : Option (Number × Thread)) (o : Option Marking) → IsMarkingOf n o → n ≡ None → o ≡ None
+none_open None None w e = refl
+none_open None (Some mk) w e = absurd w
+none_open (Some m) o w e = (let f : Some m ≡ None = e in cc)
+
+pub some_open : (n : Option (Number × Thread)) (o : Option Marking) → IsMarkingOf n o → IsSome n → IsSome o
+some_open None o w i = (let f : false ≡ true = i in cc)
+some_open (Some m) None w i = absurd w
+some_open (Some m) (Some mk) w i = refl
+
+-- who made nothing stands where it stood
+pub made_none : (v : View) → DriverMakesNone v v
+made_none v = record { own = refl; more = λ i. prefix_refl (known v i); stands = λ index stand m s. s }
+
+-- a marking may be ended before the own one begins, and in the marked phase
+pub may_end_first : (v : View) (index : ℕ) → MayMarkCycle v index → MayEndMarking v index
+may_end_first v index w = record { stand = weakening w.opened w.count w.weakened false; seen = w.seen; stands = w.stands; now = (w.all, refl, refl) }
+
+pub may_end_own : (v : View) (index : ℕ) → HasBegunMarking v index → MayEndMarking v index
+may_end_own v index w = record { stand = marked w.opened; seen = w.seen; stands = w.stands; now = refl }
+
+-- and then the own one may begin
+pub may_begin : (old between : View) (index : ℕ) (ended : Option (ℕ × Swept)) → EndsFirst old between index ended → MayMarkCycle old index → MayBeginMarking between index
+may_begin old between index None e w = record { opened = w.opened; count = w.count; weakened = w.weakened; swept = false; seen = w.seen; stands = e.stands index (weakening w.opened w.count w.weakened false) w.seen w.stands; all = w.all }
+may_begin old between index (Some r) e w =
+    let d = e (weakening w.opened w.count w.weakened false) w.seen w.stands (w.all, refl, refl) in
+    record { opened = w.opened; count = w.count; weakened = true; swept = true; seen = w.seen; stands = d.stands; all = w.all }
+
+-- the begin follows
+pub mark_fails : (old between new : View) (index : ℕ) (ended : Option (ℕ × Swept)) → EndsFirst old between index ended → DriverMakesNone between new → MakesNoMark old new index
+mark_fails old between new index None e n = record {
+  ended = None;
+  ends = record {
+    own = n.own ∙ e.own;
+    more = λ i. prefix_trans (known old i) (known between i) (known new i) (e.more i) (n.more i);
+    stands = λ j stand m s. n.stands j stand m (e.stands j stand m s);
+  };
+}
+mark_fails old between new index (Some r) e n = record {
+  ended = Some r;
+  ends = λ stand m s now. (let d = e stand m s now in record {
+    freed = d.freed;
+    count = d.count;
+    makes = record {
+      own = n.own ∙ d.makes.own;
+      more = λ i. prefix_trans (known old i) (known between i) (known new i) (d.makes.more i) (n.more i);
+      above = d.makes.above;
+      state = d.makes.state;
+      comes = d.makes.comes;
+      kept = d.makes.kept;
+      stood = d.makes.stood;
+      dead = d.makes.dead;
+    };
+    stands = n.stands index (after_sweep stand) m d.stands;
+  });
+}
+
+-- the driver's caller knows a past after it
+pub mark_knows : {E : Type 0} (t : Thread) (old new : View) (index : ℕ) (result : Result Begun E) → IsDriver t → MayMarkCycle old index → IfOk result (λ b. MakesMark old new index b) → OnErr result (MakesNoMark old new index) → CallerKnows t new
+mark_knows t old new index (Ok b) is w m e =
+    let n = may_begin old m.between index b.ended m.ends w in
+    driver_knows t new index (marked n.opened) n.seen is (m.begins n.opened n.count n.weakened n.swept n.seen n.stands n.all).stands
+mark_knows t old new index (Err x) is w m e =
+    let n = may_begin old new index e.ended e.ends w in
+    driver_knows t new index (weakening n.opened n.count n.weakened n.swept) n.seen is n.stands

@@ -1,0 +1,14 @@
+use Rattle.joint_history.proofs.DriverMarks.{driver_ends}
+use Rattle.joint_history.proofs.Floors.{below_floor, room_left}
+use Rattle.joint_history.proofs.marks.draw_sweep.Goals as goal
+
+pub sweep-requires-clause-own : goal.sweep-requires-clause-own
+sweep-requires-clause-own c = driver_ends c.args.side.now.state.marking
+
+pub sweep-requires-clause-may : goal.sweep-requires-clause-may
+sweep-requires-clause-may c = record {
+  below = below_floor c.args.seat.now.view 1 c.args.side.now.entries c.requires.entries;
+  room = room_left c.args.seat.now.view 1 c.args.side.now.entries c.requires.entries;
+  bare = c.requires.may;
+  targets = λ m x. c.requires.may;
+}

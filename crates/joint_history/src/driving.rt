@@ -1,0 +1,169 @@
+// The driver's calls on a shared bridge: each takes one lock, makes the driver's entries in one hold of it, and gives it back. What the driver knows goes
+// with its caller, so a call is asked for where the driver stands, and answers where it stands then.
+
+ghost use Rattle.std.specs.Prelude.{◌≡◌, ◌≤◌, IfErr, IfOk, OnErr, count_by};
+ghost use Rattle.joint_model.specs.Lines.{IsDriver};
+ghost use Rattle.joint_model.specs.Listed.{answers_of};
+ghost use Rattle.joint_history.specs.Driven.{DriverMakesNone, DriverRests, MakesAbandon, MakesContraction, MakesFinalise, MakesRefusal, MakesResolution, MayAbandonCycle, MayContractCycle, MayFinalise, MayRefuseWord, MayResolveCycle};
+ghost use Rattle.joint_history.specs.DriverMarks.{HasBegunMarking, MakesMark, MakesNoMark, MakesSweep, MayMarkCycle};
+ghost use Rattle.joint_history.specs.DriverSnaps.{MakesSnapshot};
+
+use crate::callers::Caller;
+use crate::marks::Begun;
+use crate::shared::Shared;
+use joint_model::{Alive, Phase, PhaseWord, Reply};
+use managed_side::{Opened, ResolveOut, SnapFault};
+use order_table::OrderName;
+use peer_side::Swept;
+use std::alloc::AllocError;
+use std::sync::Wait;
+
+impl<N: OrderName> Shared<N> {
+    /// The driver makes the entry of its open cycle's contraction, which has so many components and cross-references. Answers the entry's number. It
+    /// takes no memory.
+    pub fn contracted(
+        &self,
+        rt: &impl Wait,
+        driver: &mut Caller<N>,
+        index: u32,
+        sccs: u32,
+        xrefs: u32,
+    ) -> u64
+        requires driver { IsDriver driver.old.thread }
+        requires may { MayContractCycle driver.old.view index sccs xrefs }
+        ensures thread { driver.new.thread ≡ driver.old.thread }
+        ensures makes { MakesContraction driver.old.view driver.new.view index sccs xrefs result }
+    {
+        self.managed
+            .lock(rt)
+            .contracted(&self.order, &mut driver.seat, index, sccs, xrefs)
+    }
+
+    /// The driver abandons its open cycle, which isn't mirrored yet: nothing is freed. Answers the entry's number. It takes no memory.
+    pub fn abandon(&self, rt: &impl Wait, driver: &mut Caller<N>, index: u32) -> u64
+        requires driver { IsDriver driver.old.thread }
+        requires may { MayAbandonCycle driver.old.view index }
+        ensures thread { driver.new.thread ≡ driver.old.thread }
+        ensures makes { MakesAbandon driver.old.view driver.new.view index result }
+    {
+        self.managed
+            .lock(rt)
+            .abandon(&self.order, &mut driver.seat, index)
+    }
+
+    /// The driver resolves its open cycle by the answers of its restores, one for each candidate; the entry cites that of the clear. Answers the entry's
+    /// number, where the freed objects stand among all that were freed, and how many candidates were kept. It takes no memory.
+    pub fn resolve(
+        &self,
+        rt: &impl Wait,
+        driver: &mut Caller<N>,
+        index: u32,
+        clear: u64,
+        alive: &Alive,
+    ) -> (u64, ResolveOut)
+        requires driver { IsDriver driver.old.thread }
+        requires may { MayResolveCycle driver.old.view index clear (answers_of alive.now.values) }
+        ensures thread { driver.new.thread ≡ driver.old.thread }
+        ensures makes { MakesResolution driver.old.view driver.new.view index clear result.0 (answers_of alive.now.values) result.1.freed }
+        ensures kept { result.1.kept ≡ count_by (λ b. b) alive.now.values }
+    {
+        self.managed
+            .lock(rt)
+            .resolve(&self.order, &mut driver.seat, index, clear, alive)
+    }
+
+    /// The driver's phase word is refused in its phase; nothing else changes. Answers the entry's number and the reply. Answers `AllocError` where there is
+    /// no memory, or where the entries would pass their limit: no entry is made then.
+    pub fn refused(
+        &self,
+        rt: &impl Wait,
+        driver: &mut Caller<N>,
+        index: u32,
+        word: PhaseWord,
+        phase: Phase,
+    ) -> Result<(u64, Reply), AllocError>
+        requires driver { IsDriver driver.old.thread }
+        requires may { MayRefuseWord driver.old.view index word phase }
+        ensures thread { driver.new.thread ≡ driver.old.thread }
+        ensures ok { IfOk result (λ r. MakesRefusal driver.old.view driver.new.view index r.0 word phase r.1) }
+        ensures err { OnErr result (DriverMakesNone driver.old.view driver.new.view) }
+    {
+        self.managed
+            .lock(rt)
+            .refused(&self.order, &mut driver.seat, index, word, phase)
+    }
+
+    /// The driver takes so many waiting notices, or all where there are fewer. Answers the entry's number and the reply. Answers `AllocError` where there is
+    /// no memory, or where the entries would pass their limit: no entry is made then.
+    pub fn finalise(
+        &self,
+        rt: &impl Wait,
+        driver: &mut Caller<N>,
+        index: u32,
+        count: u32,
+    ) -> Result<(u64, Reply), AllocError>
+        requires driver { IsDriver driver.old.thread }
+        requires count { (1 ≤ count) × (count ≤ 65535) }
+        requires may { MayFinalise driver.old.view index }
+        ensures thread { driver.new.thread ≡ driver.old.thread }
+        ensures ok { IfOk result (λ r. MakesFinalise driver.old.view driver.new.view index r.0 count r.1) }
+        ensures err { OnErr result (DriverMakesNone driver.old.view driver.new.view) }
+    {
+        self.managed
+            .lock(rt)
+            .finalise(&self.order, &mut driver.seat, index, count)
+    }
+
+    /// The driver takes a snapshot and opens the next cycle. Answers the cycle, its entry's number, and its dead part as a graph. Answers `OutOfMemory`
+    /// where there is no memory, or no room for the entries that the cycle owes: no entry is made then. It never answers `CycleOpen`.
+    pub fn snap(
+        &self,
+        rt: &impl Wait,
+        driver: &mut Caller<N>,
+        index: u32,
+    ) -> Result<Opened, SnapFault>
+        requires driver { IsDriver driver.old.thread }
+        requires may { DriverRests driver.old.view index }
+        ensures thread { driver.new.thread ≡ driver.old.thread }
+        ensures ok { IfOk result (λ o. MakesSnapshot driver.old.view driver.new.view index o) }
+        ensures fault { IfErr result (λ e. e ≡ SnapFault.OutOfMemory) }
+        ensures err { OnErr result (DriverMakesNone driver.old.view driver.new.view) }
+    {
+        self.managed
+            .lock(rt)
+            .snap(&self.order, &mut driver.seat, index)
+    }
+
+    /// The driver, which has weakened all handles of its cycle, begins the cycle's own marking; one that a peer thread left open is ended first, in the
+    /// same hold of the peer lock, so the begin always gives a number. Answers that number and those of the entries. Answers `AllocError` where there is
+    /// no memory for the begin; an open marking is ended all the same.
+    pub fn mark(
+        &self,
+        rt: &impl Wait,
+        driver: &mut Caller<N>,
+        index: u32,
+    ) -> Result<Begun, AllocError>
+        requires driver { IsDriver driver.old.thread }
+        requires may { MayMarkCycle driver.old.view index }
+        ensures thread { driver.new.thread ≡ driver.old.thread }
+        ensures ok { IfOk result (λ b. MakesMark driver.old.view driver.new.view index b) }
+        ensures err { OnErr result (MakesNoMark driver.old.view driver.new.view index) }
+    {
+        self.peers
+            .lock(rt)
+            .mark(&self.order, &mut driver.seat, index)
+    }
+
+    /// The driver ends its cycle's own marking: the peers that it doesn't reach are freed. Answers the entry's number, the marking, and where the freed
+    /// peers stand among all that were freed. It takes no memory.
+    pub fn sweep(&self, rt: &impl Wait, driver: &mut Caller<N>, index: u32) -> (u64, Swept)
+        requires driver { IsDriver driver.old.thread }
+        requires may { HasBegunMarking driver.old.view index }
+        ensures thread { driver.new.thread ≡ driver.old.thread }
+        ensures makes { MakesSweep driver.old.view driver.new.view index result.0 result.1 }
+    {
+        self.peers
+            .lock(rt)
+            .sweep(&self.order, &mut driver.seat, index)
+    }
+}

@@ -1,0 +1,159 @@
+// The driver's marking under the peer lock. A begin of the driver always gives a number: whatever marking a peer thread left open is ended in the same
+// hold of the lock.
+
+ghost use Rattle.std.specs.Prelude.{◌≡◌, ◌⊎◌, IfOk, IsSome, None, OnErr};
+ghost use Rattle.joint_model.specs.declared.names.Thread.TheVariants.{C};
+ghost use Rattle.joint_model.specs.declared.events.Op.TheVariants as op;
+ghost use Rattle.joint_model.specs.declared.events.Reply.TheVariants as says;
+ghost use Rattle.joint_model.specs.Sides.{peer_rules};
+ghost use Rattle.joint_model.specs.Told.{nothing};
+ghost use Rattle.joint_history.specs.Callers.{HoldsPass};
+ghost use Rattle.joint_history.specs.Driven.{DriverMakesNone, driver_entry};
+ghost use Rattle.joint_history.specs.DriverMarks.{DrawsSweep, EndsFirst, HasBegunMarking, MakesBegin, MakesMark, MakesNoMark, MakesSweep, MayBeginMarking, MayEndMarking, MayMarkCycle};
+ghost use Rattle.joint_history.specs.Knowing.{line_known};
+ghost use Rattle.joint_history.specs.Locked.{Drew};
+ghost use Rattle.joint_history.specs.Passing.{MayAppend};
+
+use crate::peer::LockedPeer;
+use crate::seats::{Drawing, give_back, lend};
+use joint_model::{Marking, Thread};
+use order_table::{Order, OrderName, Role, Seat};
+use peer_side::{PeerSide, Swept};
+use std::alloc::AllocError;
+
+/// A marking that the driver began, with its entry's number; and the marking that was open before and was ended, with the number of that entry.
+#[derive(Drop)]
+pub struct Begun {
+    pub ended: Option<(u64, Swept)>,
+    pub number: u64,
+    pub marking: Marking,
+}
+
+// The side draws the sweep of its open marking by the seat. It takes no memory.
+fn draw_sweep(side: &mut PeerSide, order: &Order, seat: &mut Seat, index: u32) -> (u64, Swept)
+    requires open { IsSome side.old.state.marking }
+    requires may { MayAppend order.now seat.old 1 C op.Sweep }
+    requires entries { line_known seat.old.view 1 ≡ side.old.entries }
+    ensures { DrawsSweep order.now seat.old seat.new side.old side.new index result.0 result.1 }
+{
+    let mut drawing = Drawing {
+        order,
+        seat,
+        role: Role::Peer,
+        last: 0,
+    };
+    match side.sweep(&mut drawing, Thread::C, index) {
+        Ok(swept) => (drawing.last, swept),
+        Err(_) => unreachable!(),
+    }
+}
+
+// The side draws a begin by the seat. No marking is open.
+fn draw_begin(
+    side: &mut PeerSide,
+    order: &Order,
+    seat: &mut Seat,
+    index: u32,
+) -> Result<(u64, Marking), AllocError>
+    requires closed { side.old.state.marking ≡ None }
+    requires may { MayAppend order.now seat.old 1 C op.Begin }
+    requires entries { line_known seat.old.view 1 ≡ side.old.entries }
+    ensures drew { IfOk result (λ r. Drew peer_rules 1 order.now seat.old seat.new side.old side.new (driver_entry r.0 index op.Begin (says.Mark r.1) None) nothing) }
+    ensures err { OnErr result ((seat.new ≡ seat.old) × (side.new ≡ side.old)) }
+{
+    let mut drawing = Drawing {
+        order,
+        seat,
+        role: Role::Peer,
+        last: 0,
+    };
+    match side.mark_begin(&mut drawing, Thread::C, index) {
+        Ok(marking) => Ok((drawing.last, marking)),
+        Err(_) => Err(AllocError),
+    }
+}
+
+impl<N: OrderName> LockedPeer<N> {
+    /// Ends the open marking, which is the cycle's own or one that a peer thread left open, and answers the entry's number, the marking, and where the
+    /// peers that it freed stand among all that were freed. `mine` is the driver's seat, which knows the entry then. It takes no memory.
+    pub(crate) fn sweep(&mut self, order: &Order, mine: &mut Seat, index: u32) -> (u64, Swept)
+        requires order { (order.now ≡ N.order) × (mine.old.order ≡ N.order) }
+        requires pass { HoldsPass C mine.old.view }
+        requires open { IsSome self.old.side.state.marking ⊎ HasBegunMarking mine.old.view index }
+        requires may { MayEndMarking mine.old.view index }
+        ensures order { mine.new.order ≡ N.order }
+        ensures pass { HoldsPass C mine.new.view }
+        ensures closed { self.new.side.state.marking ≡ None }
+        ensures makes { MakesSweep mine.old.view mine.new.view index result.0 result.1 }
+    {
+        lend(order, &mut self.seat, mine, Thread::C);
+        let out = draw_sweep(&mut self.side, order, &mut self.seat, index);
+        give_back(order, &mut self.seat, mine, Thread::C);
+        out
+    }
+
+    // Begins the cycle's own marking, where none is open.
+    fn begin(
+        &mut self,
+        order: &Order,
+        mine: &mut Seat,
+        index: u32,
+    ) -> Result<(u64, Marking), AllocError>
+        requires order { (order.now ≡ N.order) × (mine.old.order ≡ N.order) }
+        requires pass { HoldsPass C mine.old.view }
+        requires closed { self.old.side.state.marking ≡ None }
+        requires may { MayBeginMarking mine.old.view index }
+        ensures order { mine.new.order ≡ N.order }
+        ensures pass { HoldsPass C mine.new.view }
+        ensures ok { IfOk result (λ r. MakesBegin mine.old.view mine.new.view index r.0 r.1) }
+        ensures err { OnErr result (DriverMakesNone mine.old.view mine.new.view) }
+    {
+        lend(order, &mut self.seat, mine, Thread::C);
+        let made = draw_begin(&mut self.side, order, &mut self.seat, index);
+        give_back(order, &mut self.seat, mine, Thread::C);
+        made
+    }
+
+    // Ends the open marking, if there is one.
+    fn end_open(&mut self, order: &Order, mine: &mut Seat, index: u32) -> Option<(u64, Swept)>
+        requires order { (order.now ≡ N.order) × (mine.old.order ≡ N.order) }
+        requires pass { HoldsPass C mine.old.view }
+        requires may { MayMarkCycle mine.old.view index }
+        ensures order { mine.new.order ≡ N.order }
+        ensures pass { HoldsPass C mine.new.view }
+        ensures closed { self.new.side.state.marking ≡ None }
+        ensures ends { EndsFirst mine.old.view mine.new.view index result }
+    {
+        if self.side.marking().is_none() {
+            return None;
+        }
+        Some(self.sweep(order, mine, index))
+    }
+
+    /// Begins the driver's own marking, after it has ended one that a peer thread left open; so the begin always gives a number. `mine` is the driver's
+    /// seat, which knows the entries then. Answers `AllocError` where there is no memory for the begin; an open marking is ended all the same.
+    pub(crate) fn mark(
+        &mut self,
+        order: &Order,
+        mine: &mut Seat,
+        index: u32,
+    ) -> Result<Begun, AllocError>
+        requires order { (order.now ≡ N.order) × (mine.old.order ≡ N.order) }
+        requires pass { HoldsPass C mine.old.view }
+        requires may { MayMarkCycle mine.old.view index }
+        ensures order { mine.new.order ≡ N.order }
+        ensures pass { HoldsPass C mine.new.view }
+        ensures ok { IfOk result (λ b. MakesMark mine.old.view mine.new.view index b) }
+        ensures err { OnErr result (MakesNoMark mine.old.view mine.new.view index) }
+    {
+        let ended = self.end_open(order, mine, index);
+        match self.begin(order, mine, index) {
+            Ok((number, marking)) => Ok(Begun {
+                ended,
+                number,
+                marking,
+            }),
+            Err(error) => Err(error),
+        }
+    }
+}
