@@ -1,7 +1,8 @@
 -- A begin and an end of a marking, with their entries. A begin keeps the rows of its moment, so what is kept shows the definition's new
 -- marking; an end frees what the definition's sweep frees. Either leads from one side to another.
 use Rattle.std.proofs.Common.{◌≡◌, ℕ, ◌+◌, ◌≤◌, ◌⊎◌, ◌↔◌, inl, inr, Bool, true, false, ◌||◌, List, [], ◌∷◌, ◌++◌, length, drop, Option, Some, None, if◌then◌else◌, refl, sym, ap, subst, ◌∙◌, arith, length-append}
-use Rattle.std.specs.Prelude.{flat_map}
+use Rattle.std.specs.Prelude.{All}
+use Rattle.std.specs.Option.{option_map}
 use Rattle.std.proofs.lemmas.Bool.{eq-eqb}
 use Rattle.std.proofs.lemmas.List.{drop_all, length_push}
 use Rattle.joint_model.specs.declared.names.Marking.{Marking as Number}
@@ -20,7 +21,7 @@ use Rattle.joint_model.specs.declared.events.Op.{Op}
 use Rattle.peer_side.specs.Makings.{IsMarkEvent, Passes}
 use Rattle.peer_side.specs.Rows.{marking_after}
 use Rattle.joint_model.specs.Listed.{Stock}
-use Rattle.joint_model.specs.PeerReplay.{PeerReplay, Marking, IsSweep, opening_peer_replay, strong_peers, begun, swept, swept_of, is_thread, peer_answer}
+use Rattle.joint_model.specs.PeerReplay.{PeerReplay, Marking, Mirror, IsSweep, opening_peer_replay, strong_peers, begun, swept, swept_of, is_thread, peer_answer}
 use Rattle.joint_model.specs.Sides.{GoesOn, peer_rules}
 use Rattle.joint_model.specs.Told.{Told, nothing, sweep_of}
 use Rattle.joint_model.specs.Walks.{Reached}
@@ -29,71 +30,94 @@ use Rattle.joint_laws.proofs.PeerEntries.{MirrorsSafely}
 use Rattle.reachability.specs.Marks.{IsMarked}
 use Rattle.row_heap.specs.Marks.{AreEndsLive, AreWhite, EdgeOf}
 use Rattle.peer_side.specs.declared.side.BeginFault.TheVariants.{OutOfMemory, MarkOpen}
+use Rattle.peer_side.specs.declared.mirroring.OpenMirror.{OpenMirror}
 use Rattle.peer_side.specs.declared.side.OpenMarking.{OpenMarking}
 use Rattle.peer_side.specs.Marking.{AreMarksKept, IsRoot, IsWholeMarking, with_marking}
 use Rattle.peer_side.specs.Marks.{IsExact}
 use Rattle.peer_side.specs.Rows.{Rows}
-use Rattle.peer_side.specs.Sides.{IsSide, IsFrom, begins, ends, brought_at, brought_since, marking_as, marking_in, state_with, side_with, owed, IsEnded, IsFaultAt, IsMarkingOf, MayEnd}
+use Rattle.peer_side.specs.Mirrors.{Mirrors, AreMirrored, marked_one, mirror_in, mirrors_begun, mirrors_in, owes}
+use Rattle.joint_model.specs.Peers.{Issued}
+use Rattle.peer_side.specs.Sides.{IsSide, IsFrom, IsKnown, begins, ends, brought_by, brought_since, marking_as, marking_in, mirror_state, state_with, side_with, owed, IsEnded, IsFaultAt, IsMarkingOf, MayEnd}
 use Rattle.peer_side.proofs.Opened.{begun_with, with_begun, with_swept, opened-state, opened-marks, closed-state, closed-sweep}
+use Rattle.peer_side.proofs.Quiet.{IsQuiet, known-next, mark-quiet, mirrored-still, not-grown, state-still}
 use Rattle.peer_side.proofs.Sides.{opened, marking-next, from-more}
 use Rattle.peer_side.proofs.Steps.{goes-told, kept-told, replayed-told, safe-nothing}
 use Rattle.peer_side.proofs.Whole.{whole-side}
 
 -- what a live peer's reference leads to is live
-pub ends-live : (rows : Rows) (o : Option OpenMarking) (n : ℕ) (stock : Stock) → IsSide rows o n stock → AreEndsLive rows.rows
-ends-live rows o n stock side = side.kept.references.live
+pub ends-live : (rows : Rows) (o : Option OpenMarking) (n : ℕ) (m : Mirrors) (stock : Stock) → IsSide rows o n m stock → AreEndsLive rows.rows
+ends-live rows o n m stock side = side.kept.references.live
 
 -- nothing is brought back after the last entry
-since-end : (es : List Entry) → brought_since (length es) es ≡ []
-since-end es = ap (flat_map (λ (e : Entry). brought_at e.made.op e.made.reply)) (drop_all (length es) es (omega arith))
+since-end : (issued : List Issued) (es : List Entry) → brought_since issued (length es) es ≡ []
+since-end issued es = ap (λ l. brought_by issued l) (drop_all (length es) es (omega arith))
 
 -- a marking that these begin, with these peers brought back
 abbrev mark-with : ℕ → Thread → Rows → List ℕ → Marking
 mark-with n t v back = record { number = n; by = t; heap = v.rows.heap; refs = v.rows.refs; strong_peers = strong_peers v.issued v.table; brought = back; blackened = 0 }
 
 -- what is kept at a begin shows the definition's marking
-begun-mark : (old : Rows) (after : List Entry) (m : OpenMarking) (n : ℕ) (t : Thread) → m.number.0 ≡ n → m.by ≡ t → m.from ≡ length after → m.begin.value ≡ old → marking_as after m ≡ begun_with n t old
-begun-mark old after m n t number thread from begin =
-    let back : brought_since m.from after ≡ [] = ap (λ k. brought_since k after) from ∙ since-end after in
-    ap (λ k. mark-with k m.by m.begin.value (brought_since m.from after)) number
-    ∙ (ap (λ u. mark-with n u m.begin.value (brought_since m.from after)) thread
-    ∙ (ap (λ v. mark-with n t v (brought_since m.from after)) begin
+begun-mark : (old : Rows) (issued : List Issued) (after : List Entry) (o : OpenMarking) (n : ℕ) (t : Thread) → o.number.0 ≡ n → o.by ≡ t → o.from ≡ length after → o.begin.value ≡ old → marking_as issued after o ≡ begun_with n t old
+begun-mark old issued after o n t number thread from begin =
+    let back : brought_since issued o.from after ≡ [] = ap (λ k. brought_since issued k after) from ∙ since-end issued after in
+    ap (λ k. mark-with k o.by o.begin.value (brought_since issued o.from after)) number
+    ∙ (ap (λ u. mark-with n u o.begin.value (brought_since issued o.from after)) thread
+    ∙ (ap (λ v. mark-with n t v (brought_since issued o.from after)) begin
     ∙ ap (λ l. mark-with n t old l) back))
 
--- a begin leads to the state that is kept
-module _ (old w : Rows) (m : OpenMarking) (n : ℕ) (after : List Entry) (t : Thread) (rest : w ≡ with_begun old w.rows) (number : m.number.0 ≡ n + 1) (thread : m.by ≡ t) (from : m.from ≡ length after) (begin : m.begin.value ≡ old) where
-  begun-end : (begun (with_marking opening_peer_replay old None n) None t).state ≡ state_with after w (Some m) (n + 1)
-  begun-end = opened-state opening_peer_replay old w old n t refl rest ∙ ap (λ mk. with_marking opening_peer_replay w (Some mk) (n + 1)) (sym (begun-mark old after m (n + 1) t number thread from begin))
+-- a begin leads to the state that is kept; what is mirrored stays
+module _ (old w : Rows) (opens : OpenMarking) (n : ℕ) (m : Mirrors) (es after : List Entry) (t : Thread) (rest : w ≡ with_begun old w.rows) (number : opens.number.0 ≡ n + 1) (thread : opens.by ≡ t) (from : opens.from ≡ length after) (begin : opens.begin.value ≡ old)
+    (still : mirror_state after m ≡ mirror_state es m) where
+  begun-end : (begun (with_marking (mirror_state es m) old None n) None t).state ≡ state_with after w (Some opens) (n + 1) m
+  begun-end =
+      opened-state (mirror_state es m) old w old n t refl rest
+      ∙ (ap (λ k. with_marking (mirror_state es m) w (Some k) (n + 1)) (sym (begun-mark old w.issued after opens (n + 1) t number thread from begin))
+      ∙ ap (λ z. with_marking z w (marking_in w.issued after (Some opens)) (n + 1)) (sym still))
 
-  begun-state : (es : List Entry) (o : Option OpenMarking) → (begun (state_with es old o n) None t).state ≡ state_with after w (Some m) (n + 1)
-  begun-state es o = begun-end
+  begun-state : (o : Option OpenMarking) → (begun (state_with es old o n m) None t).state ≡ state_with after w (Some opens) (n + 1) m
+  begun-state o = begun-end
 
   -- the entry may come next
-  pub begun-goes : (es : List Entry) (o : Option OpenMarking) (i : ℕ) (j : Number) → marking_in es o ≡ None → j.0 ≡ n + 1 → (IsPeerThread t ⊎ IsDriver t) → GoesOn peer_rules (state_with es old o n) (begins t i j) nothing (state_with after w (Some m) (n + 1))
-  begun-goes es o i j closed place caller =
-      let s = state_with es old o n in
+  pub begun-goes : (o : Option OpenMarking) (i : ℕ) (j : Number) → marking_in old.issued es o ≡ None → j.0 ≡ n + 1 → (IsPeerThread t ⊎ IsDriver t) → GoesOn peer_rules (state_with es old o n m) (begins t i j) nothing (state_with after w (Some opens) (n + 1) m)
+  begun-goes o i j closed place caller =
+      let s = state_with es old o n m in
       let said : says.Mark record { 0 = n + 1 } ≡ says.Mark j = ap (λ (k : ℕ). says.Mark record { 0 = k }) (sym place) in
-      let e : peer_answer s t op.Begin None nothing ≡ answer (says.Mark j) (state_with after w (Some m) (n + 1)) =
-      ap (λ z. begun s z t) closed ∙ (ap (λ z. answer (says.Mark record { 0 = n + 1 }) z) (begun-state es o) ∙ ap (λ r. answer r (state_with after w (Some m) (n + 1))) said) in
-      goes-told s (state_with after w (Some m) (n + 1)) (begins t i j) nothing (record { event = caller; side = refl }) tt e
+      let e : peer_answer s t op.Begin None nothing ≡ answer (says.Mark j) (state_with after w (Some opens) (n + 1) m) =
+      ap (λ z. begun s z t) closed ∙ (ap (λ z. answer (says.Mark record { 0 = n + 1 }) z) (begun-state o) ∙ ap (λ r. answer r (state_with after w (Some opens) (n + 1) m)) said) in
+      goes-told s (state_with after w (Some opens) (n + 1) m) (begins t i j) nothing (record { event = caller; side = refl }) tt e
 
   -- and the marks are exact
-  pub begun-exact : ((p : ℕ) → IsMarked w.rows.marks p ↔ Reached (IsRoot old.rows.heap (strong_peers old.issued old.table)) (EdgeOf w.rows) p) → (mk : Marking) → marking_in after (Some m) ≡ Some mk → IsExact (state_with after w (Some m) (n + 1)) mk w.rows
-  begun-exact marks = subst (λ (s : PeerReplay). AreMarksKept s w.rows.follows w.rows.marks) begun-end (opened-marks opening_peer_replay old w n t rest marks)
+  pub begun-exact : ((p : ℕ) → IsMarked w.rows.marks p ↔ Reached (IsRoot old.rows.heap (strong_peers old.issued old.table)) (EdgeOf w.rows) p) → (mk : Marking) → marking_in w.issued after (Some opens) ≡ Some mk → IsExact (state_with after w (Some opens) (n + 1) m) mk w.rows
+  begun-exact marks = subst (λ (s : PeerReplay). AreMarksKept s w.rows.follows w.rows.marks) begun-end (opened-marks (mirror_state es m) old w n t rest marks)
 
 -- a side after one entry
-pub IsSide-next : (old new : Rows) (o p : Option OpenMarking) (n k : ℕ) (stock later : Stock) (number floor : ℕ) (m : Made) (told : Told) → later.entries ≡ stock.entries ++ numbered number m ∷ [] → AllBelow stock.entries floor → floor ≤ number
-    → GoesOn peer_rules (state_with stock.entries old o n) m told (state_with later.entries new p k) → MirrorsSafely (state_with stock.entries old o n) m.op told → new.tabled + owed p ≤ later.spare → length later.entries + later.spare ≤ 4294967295 → k ≤ n + 1 → IsFrom p (length later.entries)
-    → ((mk : Marking) → marking_in later.entries p ≡ Some mk → IsExact (state_with later.entries new p k) mk new.rows) → IsSide old o n stock → IsSide new p k later
-IsSide-next old new o p n k stock later number floor m told added below above goes safe room limit count from exact side = record {
-  replayed = replayed-told (side_with stock.entries old o n) (side_with later.entries new p k) number floor m told below above added goes side.replayed;
-  kept = kept-told (state_with stock.entries old o n) (state_with later.entries new p k) m told goes safe side.kept;
+pub IsSide-told : (old new : Rows) (o p : Option OpenMarking) (n k : ℕ) (m mm : Mirrors) (stock later : Stock) (number floor : ℕ) (made : Made) (told : Told) → later.entries ≡ stock.entries ++ numbered number made ∷ [] → AllBelow stock.entries floor → floor ≤ number
+    → GoesOn peer_rules (state_with stock.entries old o n m) made told (state_with later.entries new p k mm) → MirrorsSafely (state_with stock.entries old o n m) made.op told → new.tabled + owed p + owes mm ≤ later.spare → length later.entries + later.spare ≤ 4294967295 → k ≤ n + 1 → IsFrom p (length later.entries)
+    → ((mk : Marking) → marking_in new.issued later.entries p ≡ Some mk → IsExact (state_with later.entries new p k mm) mk new.rows) → AreMirrored later.entries mm.mirror → All (IsKnown new.issued) later.entries → length mm.waiting + mm.room ≤ new.rows.room → length new.rows.refs ≤ 4294967295
+    → IsSide old o n m stock → IsSide new p k mm later
+IsSide-told old new o p n k m mm stock later number floor made told added below above goes safe room limit count from exact mirrored known refs few side = record {
+  replayed = replayed-told (side_with stock.entries old o n m) (side_with later.entries new p k mm) number floor made told below above added goes side.replayed;
+  kept = kept-told (state_with stock.entries old o n m) (state_with later.entries new p k mm) made told goes safe side.kept;
   room = room;
   limit = limit;
-  few = omega (arith, count, side.few, ap length added, length_push stock.entries (numbered number m));
+  few = omega (arith, count, side.few, ap length added, length_push stock.entries (numbered number made));
   from = from;
   exact = exact;
+  mirrored = mirrored;
+  known = known;
+  refs_room = refs;
+  few_refs = few;
 }
+
+-- and where that entry begins or ends a marking, or is refused: what is mirrored stays
+pub IsSide-next : (old new : Rows) (o p : Option OpenMarking) (n k : ℕ) (m : Mirrors) (stock later : Stock) (number floor : ℕ) (made : Made) (told : Told) → later.entries ≡ stock.entries ++ numbered number made ∷ [] → AllBelow stock.entries floor → floor ≤ number
+    → GoesOn peer_rules (state_with stock.entries old o n m) made told (state_with later.entries new p k m) → MirrorsSafely (state_with stock.entries old o n m) made.op told → new.tabled + owed p + owes m ≤ later.spare → length later.entries + later.spare ≤ 4294967295 → k ≤ n + 1 → IsFrom p (length later.entries)
+    → ((mk : Marking) → marking_in new.issued later.entries p ≡ Some mk → IsExact (state_with later.entries new p k m) mk new.rows) → IsQuiet made.op → new.issued ≡ old.issued → new.rows.room ≡ old.rows.room → new.rows.refs ≡ old.rows.refs → IsSide old o n m stock → IsSide new p k m later
+IsSide-next old new o p n k m stock later number floor made told added below above goes safe room limit count from exact quiet issued roomy refs side =
+    IsSide-told old new o p n k m m stock later number floor made told added below above goes safe room limit count from exact
+    (mirrored-still stock.entries later.entries (numbered number made) m.mirror added side.mirrored quiet)
+    (known-next old.issued new.issued stock.entries later.entries (numbered number made) added (not-grown old.issued new.issued issued) quiet side.known)
+    (omega (arith, side.refs_room, roomy)) (omega (arith, side.few_refs, ap length refs)) side
 
 -- a thread is itself
 same-thread : (t : Thread) → is_thread t t ≡ true
@@ -110,80 +134,123 @@ may-end t u (inl e) = subst (λ z. (is_thread z C || is_thread z u) ≡ true) (s
 may-end t u (inr e) = or-true (is_thread t C) (is_thread t u) (subst (λ z. is_thread t z ≡ true) e (same-thread t))
 
 -- a marking that may be ended is at its end
-pub ended-whole : (rows : Rows) (o : Option OpenMarking) (n : ℕ) (stock : Stock) (t : Thread) (j : Number) → IsSide rows o n stock → IsEnded (marking_in stock.entries o) t j → IsWholeMarking rows
-ended-whole rows None n stock t j side e = absurd e
-ended-whole rows (Some m) n stock t j side e = whole-side opening_peer_replay rows (marking_in stock.entries (Some m)) n (marking_as stock.entries m) (opened rows m n stock side)
+pub ended-whole : (rows : Rows) (o : Option OpenMarking) (n : ℕ) (m : Mirrors) (stock : Stock) (t : Thread) (j : Number) → IsSide rows o n m stock → IsEnded (marking_in rows.issued stock.entries o) t j → IsWholeMarking rows
+ended-whole rows None n m stock t j side e = absurd e
+ended-whole rows (Some o) n m stock t j side e = whole-side (mirror_state stock.entries m) rows (marking_in rows.issued stock.entries (Some o)) n (marking_as rows.issued stock.entries o) (opened rows o n m stock side)
 
 -- what was freed before a sweep is freed after it
 pub freed-less : (old w : Rows) → w ≡ with_swept old w.rows → length old.rows.heap.freed ≤ length w.rows.heap.freed
 freed-less old w rest = omega (arith, ap (λ (z : Rows). length z.rows.heap.freed) rest, length-append old.rows.heap.freed (drop (length old.rows.heap.freed) w.rows.heap.freed))
 
 -- an open marking owes an entry, for which there is room
-pub ended-spare : (rows : Rows) (o : Option OpenMarking) (n : ℕ) (stock : Stock) (t : Thread) (j : Number) → IsSide rows o n stock → IsEnded (marking_in stock.entries o) t j → 1 ≤ stock.spare
-ended-spare rows None n stock t j side e = absurd e
-ended-spare rows (Some m) n stock t j side e = (let had : rows.tabled + 1 ≤ stock.spare = side.room in omega (arith, had))
+pub ended-spare : (rows : Rows) (o : Option OpenMarking) (n : ℕ) (m : Mirrors) (stock : Stock) (t : Thread) (j : Number) → IsSide rows o n m stock → IsEnded (marking_in rows.issued stock.entries o) t j → 1 ≤ stock.spare
+ended-spare rows None n m stock t j side e = absurd e
+ended-spare rows (Some o) n m stock t j side e = (let had : rows.tabled + 1 + owes m ≤ stock.spare = side.room in omega (arith, had))
 
 -- what a sweep freed
 abbrev freed-by : Rows → Rows → List ℕ
 freed-by old w = drop (length old.rows.heap.freed) w.rows.heap.freed
 
 -- an end leads to the state without a marking
-module _ (old w : Rows) (m : OpenMarking) (n : ℕ) (stock : Stock) (after : List Entry) (t : Thread) (side : IsSide old (Some m) n stock) (rest : w ≡ with_swept old w.rows) where
-  swept-end : (swept_of (state_with stock.entries old (Some m) n) (marking_as stock.entries m) (freed-by old w)).state ≡ state_with after w None n
-  swept-end = closed-state opening_peer_replay old w (marking_in stock.entries (Some m)) n (marking_as stock.entries m) rest
+module _ (old w : Rows) (opens : OpenMarking) (n : ℕ) (m : Mirrors) (stock : Stock) (after : List Entry) (t : Thread) (side : IsSide old (Some opens) n m stock) (rest : w ≡ with_swept old w.rows) (still : mirror_state after m ≡ mirror_state stock.entries m) where
+  swept-end : (swept_of (state_with stock.entries old (Some opens) n m) (marking_as old.issued stock.entries opens) (freed-by old w)).state ≡ state_with after w None n m
+  swept-end = closed-state (mirror_state stock.entries m) old w (marking_in old.issued stock.entries (Some opens)) n (marking_as old.issued stock.entries opens) rest ∙ ap (λ z. with_marking z w None n) (sym still)
 
-  swept-sweep : AreWhite old.rows (freed-by old w) → IsSweep (state_with stock.entries old (Some m) n) (marking_as stock.entries m) (freed-by old w)
-  swept-sweep white = closed-sweep opening_peer_replay old (marking_in stock.entries (Some m)) n (marking_as stock.entries m) (freed-by old w) (opened old m n stock side) white
+  swept-sweep : AreWhite old.rows (freed-by old w) → IsSweep (state_with stock.entries old (Some opens) n m) (marking_as old.issued stock.entries opens) (freed-by old w)
+  swept-sweep white = closed-sweep (mirror_state stock.entries m) old (marking_in old.issued stock.entries (Some opens)) n (marking_as old.issued stock.entries opens) (freed-by old w) (opened old opens n m stock side) white
 
-  swept-goes : (i : ℕ) (j : Number) (span : Span) → AreWhite old.rows (freed-by old w) → ((t ≡ C) ⊎ (t ≡ m.by)) → (IsPeerThread t ⊎ IsDriver t) → j.0 ≡ m.number.0 → span.first ≡ length old.rows.heap.freed → span.count ≡ length (freed-by old w)
-      → GoesOn peer_rules (state_with stock.entries old (Some m) n) (ends t i j span) (sweep_of (freed-by old w)) (state_with after w None n)
+  swept-goes : (i : ℕ) (j : Number) (span : Span) → AreWhite old.rows (freed-by old w) → ((t ≡ C) ⊎ (t ≡ opens.by)) → (IsPeerThread t ⊎ IsDriver t) → j.0 ≡ opens.number.0 → span.first ≡ length old.rows.heap.freed → span.count ≡ length (freed-by old w)
+      → GoesOn peer_rules (state_with stock.entries old (Some opens) n m) (ends t i j span) (sweep_of (freed-by old w)) (state_with after w None n m)
   swept-goes i j span white may caller number first count =
-      let s = state_with after w None n in
-      let named : j ≡ record { 0 = m.number.0 } = ap (λ (k : ℕ). (let q : Number = record { 0 = k } in q)) number in
+      let old-state = state_with stock.entries old (Some opens) n m in
+      let mk = marking_as old.issued stock.entries opens in
+      let s = state_with after w None n m in
+      let named : j ≡ record { 0 = opens.number.0 } = ap (λ (k : ℕ). (let q : Number = record { 0 = k } in q)) number in
       let starts : span ≡ record { first = length old.rows.heap.freed; count = span.count } = ap (λ (k : ℕ). (let q : Span = record { first = k; count = span.count } in q)) first in
       let spans : span ≡ record { first = length old.rows.heap.freed; count = length (freed-by old w) } = starts ∙ ap (λ (k : ℕ). (let q : Span = record { first = length old.rows.heap.freed; count = k } in q)) count in
-      let chosen : swept (state_with stock.entries old (Some m) n) (Some (marking_as stock.entries m)) t (freed-by old w) ≡ swept_of (state_with stock.entries old (Some m) n) (marking_as stock.entries m) (freed-by old w) = ap (λ (b : Bool). if b then swept_of (state_with stock.entries old (Some m) n) (marking_as stock.entries m) (freed-by old w) else answer (says.MarkOpen record { 0 = (marking_as stock.entries m).number }) (state_with stock.entries old (Some m) n)) (may-end t m.by may) in
-      let e : peer_answer (state_with stock.entries old (Some m) n) t op.Sweep None (sweep_of (freed-by old w)) ≡ answer (says.Swept j span) s =
+      let chosen : swept old-state (Some mk) t (freed-by old w) ≡ swept_of old-state mk (freed-by old w) = ap (λ (b : Bool). if b then swept_of old-state mk (freed-by old w) else answer (says.MarkOpen record { 0 = mk.number }) old-state) (may-end t opens.by may) in
+      let e : peer_answer old-state t op.Sweep None (sweep_of (freed-by old w)) ≡ answer (says.Swept j span) s =
       chosen
-      ∙ (ap (λ z. answer (swept_of (state_with stock.entries old (Some m) n) (marking_as stock.entries m) (freed-by old w)).reply z) swept-end
+      ∙ (ap (λ z. answer (swept_of old-state mk (freed-by old w)).reply z) swept-end
       ∙ (ap (λ (z : Number). answer (says.Swept z record { first = length old.rows.heap.freed; count = length (freed-by old w) }) s) (sym named)
       ∙ ap (λ (z : Span). answer (says.Swept j z) s) (sym spans))) in
-      goes-told (state_with stock.entries old (Some m) n) s (ends t i j span) (sweep_of (freed-by old w)) (record { event = caller; side = refl }) (may, swept-sweep white) e
+      goes-told old-state s (ends t i j span) (sweep_of (freed-by old w)) (record { event = caller; side = refl }) (may, swept-sweep white) e
+
+-- what is mirrored stays at a begin and at an end
+pub begin-still : (rows : Rows) (o : Option OpenMarking) (n : ℕ) (m : Mirrors) (stock : Stock) (after : List Entry) (k : ℕ) (made : Made) → IsSide rows o n m stock → after ≡ stock.entries ++ numbered k made ∷ [] → IsMarkEvent made.op → mirror_state after m ≡ mirror_state stock.entries m
+begin-still rows o n m stock after k made side added event = ap (λ l. mirror_state l m) added ∙ state-still stock.entries (numbered k made) m side.mirrored (mark-quiet made.op event)
+
+-- what is owed to the cycle's own marking is no part of the state
+marked-same : (es : List Entry) (o : Option OpenMirror) → mirror_in es (option_map marked_one o) ≡ mirror_in es o
+marked-same es None = refl
+marked-same es (Some x) = refl
+
+begun-same : (es : List Entry) (own : Bool) (m : Mirrors) → mirror_state es (mirrors_begun own m) ≡ mirror_state es m
+begun-same es true m = ap (λ (z : Option Mirror). (let s : PeerReplay = record opening_peer_replay { mirror = z; mirrors = mirrors_in es } in s)) (marked-same es m.mirror)
+begun-same es false m = refl
+
+pub begun-with : (es : List Entry) (own : Bool) (m : Mirrors) (w : Rows) (o : Option OpenMarking) (n : ℕ) → state_with es w o n (mirrors_begun own m) ≡ state_with es w o n m
+begun-with es own m w o n = ap (λ z. with_marking z w (marking_in w.issued es o) n) (begun-same es own m)
+
+pub own-goes : (old w : Rows) (o : Option OpenMarking) (opens : OpenMarking) (n k : ℕ) (m : Mirrors) (own : Bool) (es after : List Entry) (made : Made) (told : Told) → GoesOn peer_rules (state_with es old o n m) made told (state_with after w (Some opens) k m) → GoesOn peer_rules (state_with es old o n m) made told (state_with after w (Some opens) k (mirrors_begun own m))
+own-goes old w o opens n k m own es after made told goes = subst (λ (z : PeerReplay). GoesOn peer_rules (state_with es old o n m) made told z) (sym (begun-with after own m w (Some opens) k)) goes
+
+-- and the cycle stays as it is but for that
+marked-there : (es : List Entry) (o : Option OpenMirror) → AreMirrored es o → AreMirrored es (option_map marked_one o)
+marked-there es None a = tt
+marked-there es (Some x) a = record { from = a.from; due = a.due }
+
+begun-there : (es : List Entry) (own : Bool) (m : Mirrors) → AreMirrored es m.mirror → AreMirrored es (mirrors_begun own m).mirror
+begun-there es true m a = marked-there es m.mirror a
+begun-there es false m a = a
+
+begun-room : (own : Bool) (m : Mirrors) → length (mirrors_begun own m).waiting + (mirrors_begun own m).room ≡ length m.waiting + m.room
+begun-room true m = refl
+begun-room false m = refl
 
 -- the side after a begin
-pub IsSide-begun : (old w : Rows) (o : Option OpenMarking) (m : OpenMarking) (n : ℕ) (stock later : Stock) (k floor : ℕ) (t : Thread) (i : ℕ) (j : Number) → IsSide old o n stock → w ≡ with_begun old w.rows
-    → ((p : ℕ) → IsMarked w.rows.marks p ↔ Reached (IsRoot old.rows.heap (strong_peers old.issued old.table)) (EdgeOf w.rows) p) → marking_in stock.entries o ≡ None → m.number.0 ≡ n + 1 → m.by ≡ t → m.from ≡ length later.entries → m.begin.value ≡ old → j.0 ≡ n + 1
-    → (IsPeerThread t ⊎ IsDriver t) → later.entries ≡ stock.entries ++ numbered k (begins t i j) ∷ [] → AllBelow stock.entries floor → floor ≤ k → old.tabled + 1 ≤ later.spare → length later.entries + later.spare ≤ 4294967295 → IsSide w (Some m) (n + 1) later
-IsSide-begun old w o m n stock later k floor t i j side rest marks closed number thread from begin place caller added below above room limit =
+pub IsSide-begun : (old w : Rows) (o : Option OpenMarking) (opens : OpenMarking) (n : ℕ) (m : Mirrors) (own : Bool) (stock later : Stock) (k floor : ℕ) (t : Thread) (i : ℕ) (j : Number) → IsSide old o n m stock → w ≡ with_begun old w.rows
+    → ((p : ℕ) → IsMarked w.rows.marks p ↔ Reached (IsRoot old.rows.heap (strong_peers old.issued old.table)) (EdgeOf w.rows) p) → marking_in old.issued stock.entries o ≡ None → opens.number.0 ≡ n + 1 → opens.by ≡ t → opens.from ≡ length later.entries → opens.begin.value ≡ old → j.0 ≡ n + 1
+    → (IsPeerThread t ⊎ IsDriver t) → later.entries ≡ stock.entries ++ numbered k (begins t i j) ∷ [] → AllBelow stock.entries floor → floor ≤ k → old.tabled + 1 + owes (mirrors_begun own m) ≤ later.spare → length later.entries + later.spare ≤ 4294967295 → IsSide w (Some opens) (n + 1) (mirrors_begun own m) later
+IsSide-begun old w o opens n m own stock later k floor t i j side rest marks closed number thread from begin place caller added below above room limit =
     let tabled : w.tabled ≡ old.tabled = ap (λ (z : Rows). z.tabled) rest in
-    let roomy : w.tabled + 1 ≤ later.spare = omega (arith, room, tabled) in
-    let started : m.from ≤ length later.entries = omega (arith, from) in
-    IsSide-next old w o (Some m) n (n + 1) stock later k floor (begins t i j) nothing added below above
-    (begun-goes old w m n later.entries t rest number thread from begin stock.entries o i j closed place caller) tt
+    let roomy : w.tabled + 1 + owes (mirrors_begun own m) ≤ later.spare = omega (arith, room, tabled) in
+    let started : opens.from ≤ length later.entries = omega (arith, from) in
+    let still = begin-still old o n m stock later.entries k (begins t i j) side added tt in
+    let same = sym (begun-with later.entries own m w (Some opens) (n + 1)) in
+    let quiet = mark-quiet op.Begin tt in
+    IsSide-told old w o (Some opens) n (n + 1) m (mirrors_begun own m) stock later k floor (begins t i j) nothing added below above
+    (own-goes old w o opens n (n + 1) m own stock.entries later.entries (begins t i j) nothing (begun-goes old w opens n m stock.entries later.entries t rest number thread from begin still o i j closed place caller)) tt
     roomy limit (omega arith) started
-    (begun-exact old w m n later.entries t rest number thread from begin marks) side
+    (λ mk q. subst (λ (z : PeerReplay). IsExact z mk w.rows) same (begun-exact old w opens n m stock.entries later.entries t rest number thread from begin still marks mk q))
+    (begun-there later.entries own m (mirrored-still stock.entries later.entries (numbered k (begins t i j)) m.mirror added side.mirrored quiet))
+    (known-next old.issued w.issued stock.entries later.entries (numbered k (begins t i j)) added (not-grown old.issued w.issued (ap (λ (z : Rows). z.issued) rest)) quiet side.known)
+    (omega (arith, side.refs_room, begun-room own m, ap (λ (z : Rows). z.rows.room) rest)) (omega (arith, side.few_refs, ap (λ (z : Rows). length z.rows.refs) rest)) side
 
 -- the entry of a sweep may come next
-pub side-swept : (old w : Rows) (o : Option OpenMarking) (n : ℕ) (stock : Stock) (after : List Entry) (t : Thread) (i : ℕ) (j : Number) (span : Span) → IsSide old o n stock → w ≡ with_swept old w.rows → AreWhite old.rows (drop (length old.rows.heap.freed) w.rows.heap.freed)
-    → IsEnded (marking_in stock.entries o) t j → (IsPeerThread t ⊎ IsDriver t) → span.first ≡ length old.rows.heap.freed → span.count ≡ length (drop (length old.rows.heap.freed) w.rows.heap.freed)
-    → GoesOn peer_rules (state_with stock.entries old o n) (ends t i j span) (sweep_of (drop (length old.rows.heap.freed) w.rows.heap.freed)) (state_with after w None n)
-side-swept old w None n stock after t i j span side rest white may caller first count = absurd may
-side-swept old w (Some m) n stock after t i j span side rest white may caller first count = swept-goes old w m n stock after t side rest i j span white may.0 caller may.1 first count
+pub side-swept : (old w : Rows) (o : Option OpenMarking) (n : ℕ) (m : Mirrors) (stock : Stock) (after : List Entry) (k : ℕ) (t : Thread) (i : ℕ) (j : Number) (span : Span) → IsSide old o n m stock → w ≡ with_swept old w.rows → AreWhite old.rows (drop (length old.rows.heap.freed) w.rows.heap.freed)
+    → IsEnded (marking_in old.issued stock.entries o) t j → (IsPeerThread t ⊎ IsDriver t) → span.first ≡ length old.rows.heap.freed → span.count ≡ length (drop (length old.rows.heap.freed) w.rows.heap.freed) → after ≡ stock.entries ++ numbered k (ends t i j span) ∷ []
+    → GoesOn peer_rules (state_with stock.entries old o n m) (ends t i j span) (sweep_of (drop (length old.rows.heap.freed) w.rows.heap.freed)) (state_with after w None n m)
+side-swept old w None n m stock after k t i j span side rest white may caller first count added = absurd may
+side-swept old w (Some opens) n m stock after k t i j span side rest white may caller first count added =
+    let still = begin-still old (Some opens) n m stock after k (ends t i j span) side added tt in
+    swept-goes old w opens n m stock after t side rest still i j span white may.0 caller may.1 first count
 
 -- and the side after it
-pub IsSide-swept : (old w : Rows) (o : Option OpenMarking) (n : ℕ) (stock later : Stock) (k floor : ℕ) (t : Thread) (i : ℕ) (j : Number) (span : Span) → IsSide old o n stock → w ≡ with_swept old w.rows → AreWhite old.rows (drop (length old.rows.heap.freed) w.rows.heap.freed)
-    → IsEnded (marking_in stock.entries o) t j → (IsPeerThread t ⊎ IsDriver t) → span.first ≡ length old.rows.heap.freed → span.count ≡ length (drop (length old.rows.heap.freed) w.rows.heap.freed)
-    → later.entries ≡ stock.entries ++ numbered k (ends t i j span) ∷ [] → AllBelow stock.entries floor → floor ≤ k → later.spare + 1 ≡ stock.spare → IsSide w None n later
-IsSide-swept old w None n stock later k floor t i j span side rest white may caller first count added below above spare = absurd may
-IsSide-swept old w (Some m) n stock later k floor t i j span side rest white may caller first count added below above spare =
+pub IsSide-swept : (old w : Rows) (o : Option OpenMarking) (n : ℕ) (m : Mirrors) (stock later : Stock) (k floor : ℕ) (t : Thread) (i : ℕ) (j : Number) (span : Span) → IsSide old o n m stock → w ≡ with_swept old w.rows → AreWhite old.rows (drop (length old.rows.heap.freed) w.rows.heap.freed)
+    → IsEnded (marking_in old.issued stock.entries o) t j → (IsPeerThread t ⊎ IsDriver t) → span.first ≡ length old.rows.heap.freed → span.count ≡ length (drop (length old.rows.heap.freed) w.rows.heap.freed)
+    → later.entries ≡ stock.entries ++ numbered k (ends t i j span) ∷ [] → AllBelow stock.entries floor → floor ≤ k → later.spare + 1 ≡ stock.spare → IsSide w None n m later
+IsSide-swept old w None n m stock later k floor t i j span side rest white may caller first count added below above spare = absurd may
+IsSide-swept old w (Some opens) n m stock later k floor t i j span side rest white may caller first count added below above spare =
     let tabled : w.tabled ≡ old.tabled = ap (λ (z : Rows). z.tabled) rest in
-    let had : old.tabled + 1 ≤ stock.spare = side.room in
-    let roomy : w.tabled + 0 ≤ later.spare = omega (arith, spare, had, tabled) in
-    IsSide-next old w (Some m) None n n stock later k floor (ends t i j span) (sweep_of (drop (length old.rows.heap.freed) w.rows.heap.freed)) added below above
-    (side-swept old w (Some m) n stock later.entries t i j span side rest white may caller first count) tt
+    let had : old.tabled + 1 + owes m ≤ stock.spare = side.room in
+    let roomy : w.tabled + 0 + owes m ≤ later.spare = omega (arith, spare, had, tabled) in
+    IsSide-next old w (Some opens) None n n m stock later k floor (ends t i j span) (sweep_of (drop (length old.rows.heap.freed) w.rows.heap.freed)) added below above
+    (side-swept old w (Some opens) n m stock later.entries k t i j span side rest white may caller first count added) tt
     roomy
     (omega (arith, spare, side.limit, ap length added, length_push stock.entries (numbered k (ends t i j span))))
-    (omega arith) tt (λ mk e. absurd (none_some mk e)) side
+    (omega arith) tt (λ mk e. absurd (none_some mk e))
+    (mark-quiet op.Sweep tt) (ap (λ (z : Rows). z.issued) rest) (ap (λ (z : Rows). z.rows.room) rest) (ap (λ (z : Rows). z.rows.refs) rest) side
 
 -- what the side tells of its marking
 pub none-open : (o : Option Marking) → IsMarkingOf None o → o ≡ None
@@ -212,21 +279,29 @@ mark-side t op.Begin w caller = (caller, refl)
 mark-side t op.Sweep w caller = (caller, refl)
 mark-side t _ w caller = absurd w
 
-module _ (rows : Rows) (o : Option OpenMarking) (n : ℕ) (stock : Stock) (after : List Entry) (k : ℕ) (m : Made) (side : IsSide rows o n stock) (added : after ≡ stock.entries ++ numbered k m ∷ []) (passes : Passes (state_with stock.entries rows o n) m) where
-  pass-state : state_with after rows o n ≡ state_with stock.entries rows o n
-  pass-state = ap (λ mk. record (state_with stock.entries rows o n) { marking = mk }) (ap (λ l. marking_in l o) added ∙ (marking-next stock.entries (numbered k m) o side.from ∙ marking-still (marking_in stock.entries o) m.op m.reply passes.event))
+module _ (rows : Rows) (o : Option OpenMarking) (n : ℕ) (m : Mirrors) (stock : Stock) (after : List Entry) (k : ℕ) (made : Made) (side : IsSide rows o n m stock) (added : after ≡ stock.entries ++ numbered k made ∷ []) (passes : Passes (state_with stock.entries rows o n m) made) where
+  pass-marking : marking_in rows.issued after o ≡ marking_in rows.issued stock.entries o
+  pass-marking =
+      ap (λ l. marking_in rows.issued l o) added
+      ∙ (marking-next rows.issued rows.issued stock.entries (numbered k made) o (not-grown rows.issued rows.issued refl) side.known side.from (mark-quiet made.op passes.event)
+      ∙ marking-still (marking_in rows.issued stock.entries o) made.op made.reply passes.event)
 
-  pub pass-goes : GoesOn peer_rules (state_with stock.entries rows o n) m nothing (state_with after rows o n)
+  pass-state : state_with after rows o n m ≡ state_with stock.entries rows o n m
+  pass-state =
+      ap (λ z. with_marking z rows (marking_in rows.issued after o) n) (begin-still rows o n m stock after k made side added passes.event)
+      ∙ ap (λ mk. with_marking (mirror_state stock.entries m) rows mk n) pass-marking
+
+  pub pass-goes : GoesOn peer_rules (state_with stock.entries rows o n m) made nothing (state_with after rows o n m)
   pass-goes =
-      let here = mark-side m.caller m.op passes.event passes.caller in
-      goes-told (state_with stock.entries rows o n) (state_with after rows o n) m nothing (record { event = here.0; side = here.1 }) passes.allowed (passes.answers ∙ ap (λ s. answer m.reply s) (sym pass-state))
+      let here = mark-side made.caller made.op passes.event passes.caller in
+      goes-told (state_with stock.entries rows o n m) (state_with after rows o n m) made nothing (record { event = here.0; side = here.1 }) passes.allowed (passes.answers ∙ ap (λ s. answer made.reply s) (sym pass-state))
 
-  pass-exact : (mk : Marking) → marking_in after o ≡ Some mk → IsExact (state_with after rows o n) mk rows.rows
+  pass-exact : (mk : Marking) → marking_in rows.issued after o ≡ Some mk → IsExact (state_with after rows o n m) mk rows.rows
   pass-exact mk e = subst (λ s. IsExact s mk rows.rows) (sym pass-state) (side.exact mk (sym (ap (λ (s : PeerReplay). s.marking) pass-state) ∙ e))
 
-pub IsSide-pass : (rows : Rows) (o : Option OpenMarking) (n : ℕ) (stock later : Stock) (k floor : ℕ) (m : Made) → IsSide rows o n stock → later.entries ≡ stock.entries ++ numbered k m ∷ [] → Passes (state_with stock.entries rows o n) m → AllBelow stock.entries floor → floor ≤ k
-    → rows.tabled + owed o ≤ later.spare → length later.entries + later.spare ≤ 4294967295 → IsSide rows o n later
-IsSide-pass rows o n stock later k floor m side added passes below above room limit =
-    IsSide-next rows rows o o n n stock later k floor m nothing added below above (pass-goes rows o n stock later.entries k m side added passes) (safe-nothing (state_with stock.entries rows o n) m.op) room limit (omega arith)
-    (from-more o (length stock.entries) (length later.entries) (omega (arith, ap length added, length_push stock.entries (numbered k m))) side.from)
-    (pass-exact rows o n stock later.entries k m side added passes) side
+pub IsSide-pass : (rows : Rows) (o : Option OpenMarking) (n : ℕ) (m : Mirrors) (stock later : Stock) (k floor : ℕ) (made : Made) → IsSide rows o n m stock → later.entries ≡ stock.entries ++ numbered k made ∷ [] → Passes (state_with stock.entries rows o n m) made → AllBelow stock.entries floor → floor ≤ k
+    → rows.tabled + owed o + owes m ≤ later.spare → length later.entries + later.spare ≤ 4294967295 → IsSide rows o n m later
+IsSide-pass rows o n m stock later k floor made side added passes below above room limit =
+    IsSide-next rows rows o o n n m stock later k floor made nothing added below above (pass-goes rows o n m stock later.entries k made side added passes) (safe-nothing (state_with stock.entries rows o n m) made.op) room limit (omega arith)
+    (from-more o (length stock.entries) (length later.entries) (omega (arith, ap length added, length_push stock.entries (numbered k made))) side.from)
+    (pass-exact rows o n m stock later.entries k made side added passes) (mark-quiet made.op passes.event) refl refl refl side

@@ -3,6 +3,7 @@ pub mod Lengths
 pub mod Events
 pub mod Steps
 pub mod Marks
+pub mod Quiet
 pub mod Sides
 pub mod Roots
 pub mod Clearing
@@ -15,3 +16,6 @@ pub mod Reset
 pub mod Mirrored
 pub mod Dues
 pub mod Grown
+pub mod Cycles
+pub mod Restoring
+pub mod Ending

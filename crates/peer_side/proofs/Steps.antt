@@ -160,7 +160,7 @@ pub kept-step : (s t : PeerReplay) (m : Made) → GoesOn peer_rules s m nothing 
 kept-step s t m goes kept = kept-told s t m nothing goes (safe-nothing s m.op) kept
 
 -- a row that the replay finds stands in the table
-row-tabled : (o : Option (Option TableRow)) (row : TableRow) → elim o [ None ↦ None | Some r ↦ r ] ≡ Some row → o ≡ Some (Some row)
+pub row-tabled : (o : Option (Option TableRow)) (row : TableRow) → elim o [ None ↦ None | Some r ↦ r ] ≡ Some row → o ≡ Some (Some row)
 row-tabled None row e = absurd (none_some row e)
 row-tabled (Some None) row e = absurd (none_some row e)
 row-tabled (Some (Some r)) row e = ap (λ z. Some z) e

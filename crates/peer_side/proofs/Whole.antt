@@ -13,8 +13,9 @@ use Rattle.joint_model.specs.Peers.{Issued, Strength as JointStrength, is_strong
 use Rattle.joint_model.specs.PeerReplay.{PeerReplay, TableRow, Marking, strong_peers}
 use Rattle.joint_model.proofs.Deciding.{neq-eqb}
 use Rattle.joint_model.proofs.Members.{Contains-cons_cases, Contains-map, Contains-nil}
-use Rattle.joint_laws.specs.PeerInvariants.{IsPeerKept, IsTabled, IsIssued}
+use Rattle.joint_laws.specs.PeerInvariants.{IsPeerKept, IsSpared, IsTabled, IsIssued}
 use Rattle.joint_laws.proofs.MarkingKeeping.{strong-listed}
+use Rattle.joint_laws.proofs.PeerMoves.{IsSafe}
 use Rattle.global_handles.specs.declared.HandleRow.{HandleRow}
 use Rattle.global_handles.specs.declared.Strength.{Strength}
 use Rattle.global_handles.specs.declared.Strength.TheVariants.{Strong, Weak}
@@ -114,6 +115,12 @@ pub strong-live : (s : PeerReplay) → IsPeerKept s → (p : ℕ) → Contains (
 strong-live s k p c =
     let w = strong-at s.peers.issued s.table p c in
     subst (IsLive s.peers.heap) w.peer (k.handles.uncleared (suc w.place) w.row w.issue w.tabled w.made (k.handles.sure (suc w.place) w.row w.tabled w.sure))
+
+-- and an open marking spares it
+pub strong-safe : (s : PeerReplay) → IsPeerKept s → (p : ℕ) → Contains (strong_peers s.peers.issued s.table) p → IsSafe s p
+strong-safe s k p c = λ mk e.
+    let w = strong-at s.peers.issued s.table p c in
+    subst (IsSpared mk) w.peer ((k.marking mk e).strong_ones (suc w.place) w.row w.issue w.tabled w.sure w.made)
 
 -- and has a mark
 pub strong-marked : (s : PeerReplay) (mk : Marking) (follows : Bool) (marks : List Bool) → IsMarkedSide s mk follows marks → (p : ℕ) → Contains (strong_peers s.peers.issued s.table) p → IsMarked marks p

@@ -7,3 +7,4 @@ pub mod Makings
 pub mod Mirroring
 pub mod Mirrors
 pub mod MirrorLaws
+pub mod Cycles

@@ -1,6 +1,6 @@
 -- The mirrored cycle, as the peer side keeps it: what stands is read off the rows and the entries, and beside it there is what was reserved and
 -- what waits. (This project's own.)
-use Rattle.std.specs.Prelude.{◌≡◌, ℕ, ◌+◌, ◌-◌, ◌*◌, ◌≤◌, false, if◌then◌else◌, List, [], ◌∷◌, length, drop, flat_map, Contains, Option, Some, None}
+use Rattle.std.specs.Prelude.{◌≡◌, ℕ, ◌+◌, ◌-◌, ◌*◌, ◌≤◌, Bool, true, false, if◌then◌else◌, List, [], ◌∷◌, length, drop, flat_map, Contains, Option, Some, None}
 use Rattle.std.specs.Option.{option_map}
 use Rattle.joint_model.specs.declared.events.Entry.{Entry}
 use Rattle.joint_model.specs.declared.events.Op.{Op}
@@ -83,6 +83,11 @@ restored_one m = record m { due = m.due - 1 }
 
 abbrev pub marked_one : OpenMirror → OpenMirror
 marked_one m = record m { marking = false }
+
+-- a begin of the cycle's own marking takes what is owed to it; another changes nothing
+abbrev pub mirrors_begun : Bool → Mirrors → Mirrors
+mirrors_begun true m = record m { mirror = option_map marked_one m.mirror }
+mirrors_begun false m = m
 
 -- the handles that are weakened and not restored are no more than the restores that are owed
 pub record IsDue (m : Mirror) (due : ℕ) : Type 0 where

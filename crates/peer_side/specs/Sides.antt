@@ -1,5 +1,5 @@
 -- The peer side, as its contracts see it: its entries, and the state of their replay. (This project's own.)
-use Rattle.std.specs.Prelude.{◌≡◌, ℕ, ◌+◌, ◌≤◌, ◌⊎◌, List, length, [], ◌∷◌, drop, flat_map, Option, Some, None}
+use Rattle.std.specs.Prelude.{◌≡◌, ℕ, ◌+◌, ◌≤◌, ◌⊎◌, All, Bool, true, false, Contains, List, length, [], ◌∷◌, drop, flat_map, Option, Some, None}
 use Rattle.std.specs.Option.{option_map}
 use Rattle.joint_model.specs.declared.names.Marking.{Marking as Number}
 use Rattle.joint_model.specs.declared.names.Span.{Span}
@@ -12,57 +12,131 @@ use Rattle.joint_model.specs.declared.events.Op.{Op}
 use Rattle.joint_model.specs.declared.events.Op.TheVariants as op
 use Rattle.joint_model.specs.declared.events.Reply.{Reply}
 use Rattle.joint_model.specs.declared.events.Reply.TheVariants as says
+use Rattle.joint_model.specs.Heaps.{numbered_at}
 use Rattle.joint_model.specs.Listed.{Stock}
+use Rattle.joint_model.specs.Peers.{Issued, peer_of}
 use Rattle.joint_model.specs.PeerReplay.{PeerReplay, Marking, opening_peer_replay, strong_peers}
 use Rattle.joint_model.specs.Sides.{Side, peer_rules, IsReplayed}
 use Rattle.joint_laws.specs.PeerInvariants.{IsPeerKept}
+use Rattle.peer_side.specs.declared.mirroring.OpenMirror.{OpenMirror}
 use Rattle.peer_side.specs.declared.side.BeginFault.{BeginFault}
 use Rattle.peer_side.specs.declared.side.BeginFault.TheVariants.{OutOfMemory, MarkOpen}
 use Rattle.peer_side.specs.declared.side.OpenMarking.{OpenMarking}
 use Rattle.peer_side.specs.Marks.{IsExact}
+use Rattle.peer_side.specs.Mirrors.{Mirrors, AreMirrored, mirror_in, mirrors_in, owes, restored_at}
 use Rattle.peer_side.specs.Rows.{Rows, with_rows}
 
+-- what is reserved for mirrored cycles: the references that wait, and for how many more there is room; for how many handles room is taken for
+-- the cycle that is mirrored next; and how many handles the mirrored one may still weaken, and whether its own marking is still to come
+pub record Reserve : Type 0 where
+  pub waiting : List (ℕ × ℕ)
+  pub refs : ℕ
+  pub next : Option ℕ
+  pub left : ℕ
+  pub marking : Bool
+
+-- how many handles the mirrored cycle may still weaken, and whether its own marking is still to come; none and not where no cycle is mirrored
+abbrev pub left_of : Option OpenMirror → ℕ
+left_of None = 0
+left_of (Some m) = m.left
+
+abbrev pub is_to_mark : Option OpenMirror → Bool
+is_to_mark None = false
+is_to_mark (Some m) = m.marking
+
+abbrev pub reserve_of : Mirrors → Reserve
+reserve_of m = record { waiting = m.waiting; refs = m.room; next = m.next; left = left_of m.mirror; marking = is_to_mark m.mirror }
+
+-- a begin is that of the mirrored cycle's own marking: the driver makes it, and it is still to come
+abbrev pub is_own : Thread → Bool → Bool
+is_own C b = b
+is_own t b = false
+
+-- what a begin leaves reserved: that of the cycle's own marking takes what was reserved for it
+abbrev pub reserve_begun : Bool → Reserve → Reserve
+reserve_begun true r = record r { marking = false }
+reserve_begun false r = r
+
+-- nothing is reserved
+abbrev pub no_reserve : Reserve
+no_reserve = record { waiting = []; refs = 0; next = None; left = 0; marking = false }
+
+-- what is seen of the peer side: its entries, the state of their replay, and beside these what is reserved
+pub record PeerModel : Type 0 where
+  pub entries : List Entry
+  pub state : PeerReplay
+  pub reserve : Reserve
+
+-- the entries and the state
+abbrev pub seen : PeerModel → Side PeerReplay
+seen m = record { entries = m.entries; state = m.state }
+
 -- nothing was made
-abbrev pub opening_side : Side PeerReplay
-opening_side = record { entries = []; state = opening_peer_replay }
+abbrev pub opening_side : PeerModel
+opening_side = record { entries = []; state = opening_peer_replay; reserve = no_reserve }
 
 -- the peer that a reply names
 abbrev pub named_in : Reply → List ℕ
 named_in (says.P p) = p.0 ∷ []
 named_in r = []
 
--- the peer that an event of a name or a handle gave, which is brought back if a marking is open
-abbrev pub brought_at : Op → Reply → List ℕ
-brought_at (op.Line (act.WRead v g)) r = named_in r
-brought_at (op.Land h x) r = named_in r
-brought_at o r = []
+-- the peer of a handle, where one was issued
+abbrev pub peers_at : Option ℕ → List ℕ
+peers_at None = []
+peers_at (Some p) = p ∷ []
 
--- the peers that the entries from the nth on brought back
-abbrev pub brought_since : ℕ → List Entry → List ℕ
-brought_since n es = flat_map (λ e. brought_at e.made.op e.made.reply) (drop n es)
+-- the peer of a handle, where a restore answered alive
+abbrev pub revived_in : List Issued → ℕ → Reply → List ℕ
+revived_in issued h says.Alive = peers_at (peer_of issued h)
+revived_in issued h r = []
+
+-- the peer that an event of a name or a handle gave, or that a restore found alive: it is brought back if a marking is open
+abbrev pub brought_at : List Issued → Op → Reply → List ℕ
+brought_at issued (op.Line (act.WRead v g)) r = named_in r
+brought_at issued (op.Land h x) r = named_in r
+brought_at issued (op.Restore h) r = revived_in issued h.0 r
+brought_at issued o r = []
+
+-- the peers that these entries brought back, and those from the nth on
+abbrev pub brought_by : List Issued → List Entry → List ℕ
+brought_by issued es = flat_map (λ e. brought_at issued e.made.op e.made.reply) es
+
+abbrev pub brought_since : List Issued → ℕ → List Entry → List ℕ
+brought_since issued n es = brought_by issued (drop n es)
 
 -- an open marking: the rows are kept as they stood at its begin, and what was brought back since stands in the entries
-abbrev pub marking_as : List Entry → OpenMarking → Marking
-marking_as es m = record {
+abbrev pub marking_as : List Issued → List Entry → OpenMarking → Marking
+marking_as issued es m = record {
   number = m.number.0;
   by = m.by;
   heap = m.begin.value.rows.heap;
   refs = m.begin.value.rows.refs;
   strong_peers = strong_peers m.begin.value.issued m.begin.value.table;
-  brought = brought_since m.from es;
+  brought = brought_since issued m.from es;
   blackened = 0;
 }
 
-abbrev pub marking_in : List Entry → Option OpenMarking → Option Marking
-marking_in es o = option_map (marking_as es) o
+abbrev pub marking_in : List Issued → List Entry → Option OpenMarking → Option Marking
+marking_in issued es o = option_map (marking_as issued es) o
+
+-- a state in which nothing is there but a mirrored cycle
+abbrev pub mirror_state : List Entry → Mirrors → PeerReplay
+mirror_state es m = record opening_peer_replay { mirror = mirror_in es m.mirror; mirrors = mirrors_in es }
 
 -- the state that the parts show
-abbrev pub state_with : List Entry → Rows → Option OpenMarking → ℕ → PeerReplay
-state_with es rows o markings = record (with_rows opening_peer_replay rows) { refs = rows.rows.refs; marking = marking_in es o; markings = markings }
+abbrev pub state_with : List Entry → Rows → Option OpenMarking → ℕ → Mirrors → PeerReplay
+state_with es rows o markings m = record (with_rows (mirror_state es m) rows) { refs = rows.rows.refs; marking = marking_in rows.issued es o; markings = markings }
 
 -- the entries, and the state
-abbrev pub side_with : List Entry → Rows → Option OpenMarking → ℕ → Side PeerReplay
-side_with es rows o markings = record { entries = es; state = state_with es rows o markings }
+abbrev pub side_with : List Entry → Rows → Option OpenMarking → ℕ → Mirrors → Side PeerReplay
+side_with es rows o markings m = record { entries = es; state = state_with es rows o markings m }
+
+abbrev pub model_with : List Entry → Rows → Option OpenMarking → ℕ → Mirrors → PeerModel
+model_with es rows o markings m = record { entries = es; state = state_with es rows o markings m; reserve = reserve_of m }
+
+-- the handle that an entry restores was issued
+abbrev pub IsKnown : List Issued → Entry → Type 0
+IsKnown issued e = (h : ℕ) → Contains (restored_at e.made.op) h → (i : Issued) × (numbered_at issued h ≡ Some i)
 
 -- the entries of an open marking begin within the list
 abbrev pub IsFrom : Option OpenMarking → ℕ → Type 0
@@ -104,12 +178,17 @@ IsMarkingOf (Some m) (Some mk) = (m.0.0 ≡ mk.number) × (m.1 ≡ mk.by)
 IsMarkingOf _ _ = ⊥
 
 -- the side is the replay of its entries, in a state as lawful lists lead to; there is room for the release of each handle of the table,
--- and for the sweep of an open marking; each marking has an entry; and the marks of an open marking are exact
-pub record IsSide (rows : Rows) (o : Option OpenMarking) (markings : ℕ) (stock : Stock) : Type 0 where
-  pub replayed : IsReplayed peer_rules (side_with stock.entries rows o markings)
-  pub kept : IsPeerKept (state_with stock.entries rows o markings)
-  pub room : rows.tabled + owed o ≤ stock.spare
+-- for the sweep of an open marking, and for what mirrored cycles owe; each marking has an entry; the marks of an open marking are exact; the
+-- entries have what is told of a mirrored cycle, and name handles that were issued; and there is room for the references that wait
+pub record IsSide (rows : Rows) (o : Option OpenMarking) (markings : ℕ) (m : Mirrors) (stock : Stock) : Type 0 where
+  pub replayed : IsReplayed peer_rules (side_with stock.entries rows o markings m)
+  pub kept : IsPeerKept (state_with stock.entries rows o markings m)
+  pub room : rows.tabled + owed o + owes m ≤ stock.spare
   pub limit : length stock.entries + stock.spare ≤ 4294967295
   pub few : markings ≤ length stock.entries
   pub from : IsFrom o (length stock.entries)
-  pub exact : (mk : Marking) → marking_in stock.entries o ≡ Some mk → IsExact (state_with stock.entries rows o markings) mk rows.rows
+  pub exact : (mk : Marking) → marking_in rows.issued stock.entries o ≡ Some mk → IsExact (state_with stock.entries rows o markings m) mk rows.rows
+  pub mirrored : AreMirrored stock.entries m.mirror
+  pub known : All (IsKnown rows.issued) stock.entries
+  pub refs_room : length m.waiting + m.room ≤ rows.rows.room
+  pub few_refs : length rows.rows.refs ≤ 4294967295

@@ -19,9 +19,12 @@
 //
 // `mirror.rt` has what a mirrored cycle does to the rows: references come to stand and go, and handles are made weak and strong again. No
 // marking follows a reference that waits: it stands in no row until all of a cycle's references come to stand together. `mirroring.rt` has what is
-// kept of a cycle beside rows and entries: what waits, what is reserved, and what is owed. `mirror_laws.rt` has what the calls for a cycle rest on.
+// kept of a cycle beside rows and entries: what waits, what is reserved, and what is owed. `mirror_laws.rt` has what the calls for a cycle rest on,
+// and `cycle.rt` has those calls, each with its entry. They take no memory, nor does the driver's begin of a cycle's own marking: all of it is
+// taken by `reserve_refs`, before.
 #![tactic(auto)]
 
+mod cycle;
 mod laws;
 mod marking;
 mod mirror;

@@ -2,7 +2,7 @@
 //
 // References that wait stand here, and in no row: so no marking follows them, and one that is open stays exact. They come to stand all together.
 
-ghost use Rattle.std.specs.Prelude.{◌≡◌, ◌+◌, ◌-◌, ◌^◌, ◌≤◌, ◌++◌, [], ◌∷◌, Some, true, OnOk, OnErr, length};
+ghost use Rattle.std.specs.Prelude.{◌≡◌, ◌+◌, ◌-◌, ◌^◌, ◌≤◌, ◌++◌, [], ◌∷◌, Some, true, IfOk, OnOk, OnErr, length};
 ghost use Rattle.peer_side.specs.Mirrors.{AreFew, no_mirrors, owed_by, owed_next, owes};
 
 use joint_model::Cycle;
@@ -58,14 +58,16 @@ impl Mirroring {
 
     /// How many entries are owed: by the mirrored cycle, and by the one for which room is taken.
     pub(crate) fn owes(&self) -> u64
-        ensures { result ≡ owes self.now }
+        ensures owes { result ≡ owes self.now }
+        ensures most { result ≤ 2 ^ 41 }
     {
         owed_by(self.mirror) + owed_next(self.next)
     }
 
     /// The mirrored cycle.
     pub(crate) fn mirror(&self) -> Option<OpenMirror>
-        ensures { result ≡ self.now.mirror }
+        ensures mirror { result ≡ self.now.mirror }
+        ensures few { AreFew result }
     {
         self.mirror
     }
@@ -83,6 +85,18 @@ impl Mirroring {
         ensures most { length result.now + self.now.room ≤ 4294967295 }
     {
         self.waiting.as_slice()
+    }
+
+    /// How many references wait and have room once there is room for so many more: never fewer than now. Answers `AllocError` past 4,294,967,295.
+    pub(crate) fn room_with(&self, refs: u32) -> Result<u32, AllocError>
+        ensures more { IfOk result (λ n. length self.now.waiting + refs ≤ n) }
+        ensures now { IfOk result (λ n. length self.now.waiting + self.now.room ≤ n) }
+    {
+        let waiting = self.waiting.len();
+        if refs as usize > u32::MAX as usize - waiting {
+            return Err(AllocError);
+        }
+        Ok(waiting as u32 + refs.max(self.ready))
     }
 
     /// Takes room for so many more references that wait, and counts the handles of the cycle that is mirrored next. Answers `AllocError`, with

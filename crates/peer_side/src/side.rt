@@ -1,6 +1,6 @@
 // The peer side: its peers and handles, with the entries of what was done.
 
-ghost use Rattle.std.specs.Prelude.{◌≡◌, ℕ, ◌+◌, ◌≤◌, ◌⊎◌, None, IsSome, MatchBool, map, length, drop, IfErr, IfOk, IsOk, OnErr, OnOk};
+ghost use Rattle.std.specs.Prelude.{◌≡◌, ℕ, ◌+◌, ◌≤◌, ◌^◌, ◌⊎◌, None, IsSome, MatchBool, map, length, drop, true, IfErr, IfOk, IsOk, OnErr, OnOk};
 ghost use Rattle.std.specs.Option.{option_map};
 ghost use Rattle.joint_model.specs.Draws.{AllBelow};
 ghost use Rattle.joint_model.specs.Histories.{peer_numbers};
@@ -12,9 +12,11 @@ ghost use Rattle.joint_laws.specs.PeerInvariants.{IsPeerKept};
 ghost use Rattle.global_handles.specs.Rows.{row_in};
 ghost use Rattle.peer_side.specs.Rows.{row_as};
 ghost use Rattle.peer_side.specs.Makings.{IsSideStep, MayDrawStep, MayStep, Passes, collect_makings, gone_since, step_makings};
-ghost use Rattle.peer_side.specs.Sides.{begins, ends, opening_side, owed, IsEnded, IsFaultAt, IsMarkingOf, MayEnd};
+ghost use Rattle.peer_side.specs.Sides.{begins, ends, is_own, is_to_mark, opening_side, owed, reserve_begun, seen, IsEnded, IsFaultAt, IsMarkingOf, MayEnd};
+ghost use Rattle.peer_side.specs.Mirrors.{mirrors_begun, owes};
 ghost use Rattle.peer_side.specs.Steps.{IsPeerStep, IsRelease, room_for};
 
+use crate::mirroring::{Mirroring, OpenMirror};
 use crate::rows::PeerRows;
 use global_handles::HandleTable;
 use joint_model::{Act, Draw, Entries, Made, Marking, Op, PNum, Reply, Span, Thread, enter};
@@ -59,22 +61,21 @@ pub(crate) struct OpenMarking {
 /// The peers, their slots and names, the handles on them, the open marking, and the entries of what was done.
 #[derive(Drop)]
 pub struct PeerSide {
-    rows: PeerRows,
-    marking: Option<OpenMarking>,
+    pub(crate) rows: PeerRows,
+    pub(crate) marking: Option<OpenMarking>,
     markings: u32,
-    entries: Entries,
+    pub(crate) mirroring: Mirroring,
+    pub(crate) entries: Entries,
 }
 
 impl Model for PeerSide {
-    ghost use Rattle.joint_model.specs.PeerReplay.{PeerReplay};
-    ghost use Rattle.joint_model.specs.Sides.{Side};
-    ghost use Rattle.peer_side.specs.Sides.{side_with, IsSide};
+    ghost use Rattle.peer_side.specs.Sides.{PeerModel, model_with, IsSide};
 
-    ghost Value = { Side PeerReplay };
+    ghost Value = { PeerModel };
 
-    ghost view = { λ s. side_with s.entries.entries s.rows s.marking s.markings };
+    ghost view = { λ s. model_with s.entries.entries s.rows s.marking s.markings s.mirroring };
 
-    ghost invariant = { λ s. IsSide s.rows s.marking s.markings s.entries };
+    ghost invariant = { λ s. IsSide s.rows s.marking s.markings s.mirroring s.entries };
 }
 
 impl PeerSide {
@@ -89,6 +90,7 @@ impl PeerSide {
             rows: PeerRows::new(alloc),
             marking: None,
             markings: 0,
+            mirroring: Mirroring::new(alloc),
             entries: Entries::new(alloc),
         })
     }
@@ -96,7 +98,7 @@ impl PeerSide {
     /// What holds of every side, for the proofs of callers: it is the replay of its entries, in a state as lawful lists lead to. It does
     /// nothing.
     pub fn replays(&self)
-        ensures replayed { IsReplayed peer_rules self.now }
+        ensures replayed { IsReplayed peer_rules (seen self.now) }
         ensures kept { IsPeerKept self.now.state }
     {
         let _ = &self.entries;
@@ -117,10 +119,11 @@ impl PeerSide {
     ) -> Result<Reply, AllocError>
         requires step { IsSideStep caller op.now }
         requires allowed { MayStep self.old.state caller op.now cites }
-        requires may { MayDrawStep (record { floor = D.floor; left = D.left; may = D.may; drew = D.drew }) draw.old self.old caller op.now }
-        ensures adds { IfOk result (λ r. AddsInTurn peer_rules (record { floor = D.floor; left = D.left; may = D.may; drew = D.drew }) draw.old draw.new self.old self.new (step_makings caller index op.now cites r (gone_since self.old.state self.new.state))) }
+        requires may { MayDrawStep (record { floor = D.floor; left = D.left; may = D.may; drew = D.drew }) draw.old (seen self.old) caller op.now }
+        ensures adds { IfOk result (λ r. AddsInTurn peer_rules (record { floor = D.floor; left = D.left; may = D.may; drew = D.drew }) draw.old draw.new (seen self.old) (seen self.new) (step_makings caller index op.now cites r (gone_since self.old.state self.new.state))) }
         ensures release { IsRelease op.now → IsOk result }
         ensures err { OnErr result ((self.new ≡ self.old) × (draw.new ≡ draw.old)) }
+        ensures reserve { self.new.reserve ≡ self.old.reserve }
     {
         match op {
             Op::Begin => self.begin(draw, caller, index),
@@ -141,9 +144,10 @@ impl PeerSide {
     ) -> Result<Reply, AllocError>
         requires step { IsSideStep caller (Op.Line act.now) }
         requires allowed { MayStep self.old.state caller (Op.Line act.now) cites }
-        requires may { MayDrawStep (record { floor = D.floor; left = D.left; may = D.may; drew = D.drew }) draw.old self.old caller (Op.Line act.now) }
-        ensures adds { IfOk result (λ r. AddsInTurn peer_rules (record { floor = D.floor; left = D.left; may = D.may; drew = D.drew }) draw.old draw.new self.old self.new (step_makings caller index (Op.Line act.now) cites r (gone_since self.old.state self.new.state))) }
+        requires may { MayDrawStep (record { floor = D.floor; left = D.left; may = D.may; drew = D.drew }) draw.old (seen self.old) caller (Op.Line act.now) }
+        ensures adds { IfOk result (λ r. AddsInTurn peer_rules (record { floor = D.floor; left = D.left; may = D.may; drew = D.drew }) draw.old draw.new (seen self.old) (seen self.new) (step_makings caller index (Op.Line act.now) cites r (gone_since self.old.state self.new.state))) }
         ensures err { OnErr result ((self.new ≡ self.old) × (draw.new ≡ draw.old)) }
+        ensures reserve { self.new.reserve ≡ self.old.reserve }
     {
         match act {
             Act::Collect => self.collect(draw, caller, index),
@@ -165,13 +169,14 @@ impl PeerSide {
     ) -> Result<Reply, AllocError>
         requires step { IsPeerStep caller op.now }
         requires allowed { PeerAllows self.old.state caller op.now cites nothing }
-        requires may { MayDraw peer_rules (record { floor = D.floor; left = D.left; may = D.may; drew = D.drew }) draw.old self.old caller op.now }
-        ensures adds { IfOk result (λ r. AddsLawful peer_rules (record { floor = D.floor; left = D.left; may = D.may; drew = D.drew }) draw.old draw.new self.old self.new (record { caller = caller; index = index; op = op.now; reply = r; cites = cites }) nothing) }
+        requires may { MayDraw peer_rules (record { floor = D.floor; left = D.left; may = D.may; drew = D.drew }) draw.old (seen self.old) caller op.now }
+        ensures adds { IfOk result (λ r. AddsLawful peer_rules (record { floor = D.floor; left = D.left; may = D.may; drew = D.drew }) draw.old draw.new (seen self.old) (seen self.new) (record { caller = caller; index = index; op = op.now; reply = r; cites = cites }) nothing) }
         ensures release { IsRelease op.now → IsOk result }
         ensures err { OnErr result ((self.new ≡ self.old) × (draw.new ≡ draw.old)) }
+        ensures reserve { self.new.reserve ≡ self.old.reserve }
     {
-        let most = self.rows.tabled() + owed(&self.marking);
-        make_room(&mut self.entries, most, op)?;
+        let kept = kept(&self.rows, &self.marking, &self.mirroring);
+        make_room(&mut self.entries, kept, op)?;
         let is_open = self.marking.is_some();
         let reply = self.rows.event(caller, op, is_open)?;
         let made = Made {
@@ -193,16 +198,17 @@ impl PeerSide {
         index: u32,
     ) -> Result<Reply, AllocError>
         requires caller { IsPeerThread caller ⊎ IsDriver caller }
-        requires may { MayDraw peer_rules (record { floor = D.floor; left = D.left; may = D.may; drew = D.drew }) draw.old self.old caller Op.Begin }
-        ensures adds { IfOk result (λ r. AddsInTurn peer_rules (record { floor = D.floor; left = D.left; may = D.may; drew = D.drew }) draw.old draw.new self.old self.new (step_makings caller index Op.Begin None r (gone_since self.old.state self.new.state))) }
+        requires may { MayDraw peer_rules (record { floor = D.floor; left = D.left; may = D.may; drew = D.drew }) draw.old (seen self.old) caller Op.Begin }
+        ensures adds { IfOk result (λ r. AddsInTurn peer_rules (record { floor = D.floor; left = D.left; may = D.may; drew = D.drew }) draw.old draw.new (seen self.old) (seen self.new) (step_makings caller index Op.Begin None r (gone_since self.old.state self.new.state))) }
         ensures err { OnErr result ((self.new ≡ self.old) × (draw.new ≡ draw.old)) }
+        ensures reserve { self.new.reserve ≡ self.old.reserve }
     {
         match self.marking() {
             Some((marking, _)) => {
                 self.refuse(draw, caller, index, Op::Begin, Reply::MarkOpen(marking))
             }
             None => {
-                let marking = self.open_marking(draw, caller, index)?;
+                let marking = self.open_marking(draw, caller, index, false)?;
                 Ok(Reply::Mark(marking))
             }
         }
@@ -217,9 +223,10 @@ impl PeerSide {
     ) -> Result<Reply, AllocError>
         requires caller { IsPeerThread caller ⊎ IsDriver caller }
         requires open { IsDriver caller → IsSome self.old.state.marking }
-        requires may { MayDraw peer_rules (record { floor = D.floor; left = D.left; may = D.may; drew = D.drew }) draw.old self.old caller Op.Sweep }
-        ensures adds { IfOk result (λ r. AddsInTurn peer_rules (record { floor = D.floor; left = D.left; may = D.may; drew = D.drew }) draw.old draw.new self.old self.new (step_makings caller index Op.Sweep None r (gone_since self.old.state self.new.state))) }
+        requires may { MayDraw peer_rules (record { floor = D.floor; left = D.left; may = D.may; drew = D.drew }) draw.old (seen self.old) caller Op.Sweep }
+        ensures adds { IfOk result (λ r. AddsInTurn peer_rules (record { floor = D.floor; left = D.left; may = D.may; drew = D.drew }) draw.old draw.new (seen self.old) (seen self.new) (step_makings caller index Op.Sweep None r (gone_since self.old.state self.new.state))) }
         ensures err { OnErr result ((self.new ≡ self.old) × (draw.new ≡ draw.old)) }
+        ensures reserve { self.new.reserve ≡ self.old.reserve }
     {
         match self.marking() {
             None => self.refuse(draw, caller, index, Op::Sweep, Reply::NoMark),
@@ -245,17 +252,18 @@ impl PeerSide {
         index: u32,
     ) -> Result<Reply, AllocError>
         requires caller { IsPeerThread caller }
-        requires may_begin { MayDraw peer_rules (record { floor = D.floor; left = D.left; may = D.may; drew = D.drew }) draw.old self.old caller Op.Begin }
-        requires may_sweep { MayDraw peer_rules (record { floor = D.floor; left = D.left; may = D.may; drew = D.drew }) draw.old self.old caller Op.Sweep }
-        ensures adds { IfOk result (λ r. AddsInTurn peer_rules (record { floor = D.floor; left = D.left; may = D.may; drew = D.drew }) draw.old draw.new self.old self.new (collect_makings caller index r (gone_since self.old.state self.new.state))) }
+        requires may_begin { MayDraw peer_rules (record { floor = D.floor; left = D.left; may = D.may; drew = D.drew }) draw.old (seen self.old) caller Op.Begin }
+        requires may_sweep { MayDraw peer_rules (record { floor = D.floor; left = D.left; may = D.may; drew = D.drew }) draw.old (seen self.old) caller Op.Sweep }
+        ensures adds { IfOk result (λ r. AddsInTurn peer_rules (record { floor = D.floor; left = D.left; may = D.may; drew = D.drew }) draw.old draw.new (seen self.old) (seen self.new) (collect_makings caller index r (gone_since self.old.state self.new.state))) }
         ensures err { OnErr result ((self.new ≡ self.old) × (draw.new ≡ draw.old)) }
+        ensures reserve { self.new.reserve ≡ self.old.reserve }
     {
         match self.marking() {
             Some((marking, _)) => {
                 self.refuse(draw, caller, index, Op::Begin, Reply::MarkOpen(marking))
             }
             None => {
-                let marking = self.open_marking(draw, caller, index)?;
+                let marking = self.open_marking(draw, caller, index, false)?;
                 let freed = self.close_marking(draw, caller, index, marking);
                 Ok(Reply::Swept(marking, freed))
             }
@@ -272,13 +280,14 @@ impl PeerSide {
         reply: Reply,
     ) -> Result<Reply, AllocError>
         requires passes { Passes self.old.state (record { caller = caller; index = index; op = op; reply = reply; cites = None }) }
-        requires may { MayDraw peer_rules (record { floor = D.floor; left = D.left; may = D.may; drew = D.drew }) draw.old self.old caller op }
+        requires may { MayDraw peer_rules (record { floor = D.floor; left = D.left; may = D.may; drew = D.drew }) draw.old (seen self.old) caller op }
         ensures reply { IfOk result (λ r. r ≡ reply) }
-        ensures adds { OnOk result (AddsLawful peer_rules (record { floor = D.floor; left = D.left; may = D.may; drew = D.drew }) draw.old draw.new self.old self.new (record { caller = caller; index = index; op = op; reply = reply; cites = None }) nothing) }
+        ensures adds { OnOk result (AddsLawful peer_rules (record { floor = D.floor; left = D.left; may = D.may; drew = D.drew }) draw.old draw.new (seen self.old) (seen self.new) (record { caller = caller; index = index; op = op; reply = reply; cites = None }) nothing) }
         ensures err { OnErr result ((self.new ≡ self.old) × (draw.new ≡ draw.old)) }
+        ensures reserve { self.new.reserve ≡ self.old.reserve }
     {
-        let most = self.rows.tabled() + owed(&self.marking);
-        self.entries.reserve(most + 1)?;
+        let kept = kept(&self.rows, &self.marking, &self.mirroring);
+        take_room(&mut self.entries, kept, 1)?;
         let made = Made {
             caller,
             index,
@@ -294,7 +303,7 @@ impl PeerSide {
     /// marking's number is answered.
     ///
     /// Answers `MarkOpen` exactly where a marking is open, and `OutOfMemory` where there is no memory; the side and the draw are then as
-    /// before.
+    /// before. The driver's begin of a mirrored cycle's own marking takes no memory: `reserve_refs` took it.
     pub fn mark_begin<D: Draw>(
         &mut self,
         draw: &mut D,
@@ -302,35 +311,54 @@ impl PeerSide {
         index: u32,
     ) -> Result<Marking, BeginFault>
         requires caller { IsPeerThread caller ⊎ IsDriver caller }
-        requires may { MayDraw peer_rules (record { floor = D.floor; left = D.left; may = D.may; drew = D.drew }) draw.old self.old caller Op.Begin }
-        ensures begun { IfOk result (λ j. AddsLawful peer_rules (record { floor = D.floor; left = D.left; may = D.may; drew = D.drew }) draw.old draw.new self.old self.new (begins caller index j) nothing) }
+        requires may { MayDraw peer_rules (record { floor = D.floor; left = D.left; may = D.may; drew = D.drew }) draw.old (seen self.old) caller Op.Begin }
+        ensures begun { IfOk result (λ j. AddsLawful peer_rules (record { floor = D.floor; left = D.left; may = D.may; drew = D.drew }) draw.old draw.new (seen self.old) (seen self.new) (begins caller index j) nothing) }
         ensures fault { IfErr result (λ f. IsFaultAt f self.old.state.marking) }
+        ensures own { is_own caller self.old.reserve.marking ≡ true → self.old.state.marking ≡ None → IsOk result }
         ensures err { OnErr result ((self.new ≡ self.old) × (draw.new ≡ draw.old)) }
+        ensures reserve { OnOk result (self.new.reserve ≡ reserve_begun (is_own caller self.old.reserve.marking) self.old.reserve) }
     {
+        let own = self.own(caller);
         match self.marking() {
             Some((marking, _)) => Err(BeginFault::MarkOpen { marking }),
-            None => match self.open_marking(draw, caller, index) {
+            None => match self.open_marking(draw, caller, index, own) {
                 Ok(marking) => Ok(marking),
                 Err(_) => Err(BeginFault::OutOfMemory),
             },
         }
     }
 
-    // Opens the next marking, with its entry.
+    // Whether a begin of this thread is that of the mirrored cycle's own marking.
+    fn own(&self, caller: Thread) -> bool
+        ensures { result ≡ is_own caller self.now.reserve.marking }
+    {
+        match caller {
+            Thread::C => to_mark(self.mirroring.mirror()),
+            Thread::M(_) => false,
+            Thread::P(_) => false,
+        }
+    }
+
+    // Opens the next marking, with its entry. The mirrored cycle's own one has its room.
     fn open_marking<D: Draw>(
         &mut self,
         draw: &mut D,
         caller: Thread,
         index: u32,
+        own: bool,
     ) -> Result<Marking, AllocError>
         requires caller { IsPeerThread caller ⊎ IsDriver caller }
         requires closed { self.old.state.marking ≡ None }
-        requires may { MayDraw peer_rules (record { floor = D.floor; left = D.left; may = D.may; drew = D.drew }) draw.old self.old caller Op.Begin }
-        ensures begun { IfOk result (λ j. AddsLawful peer_rules (record { floor = D.floor; left = D.left; may = D.may; drew = D.drew }) draw.old draw.new self.old self.new (begins caller index j) nothing) }
+        requires own { own ≡ true → self.old.reserve.marking ≡ true }
+        requires may { MayDraw peer_rules (record { floor = D.floor; left = D.left; may = D.may; drew = D.drew }) draw.old (seen self.old) caller Op.Begin }
+        ensures begun { IfOk result (λ j. AddsLawful peer_rules (record { floor = D.floor; left = D.left; may = D.may; drew = D.drew }) draw.old draw.new (seen self.old) (seen self.new) (begins caller index j) nothing) }
+        ensures own { own ≡ true → IsOk result }
         ensures err { OnErr result ((self.new ≡ self.old) × (draw.new ≡ draw.old)) }
+        ensures reserve { OnOk result (self.new.reserve ≡ reserve_begun own self.old.reserve) }
     {
-        // the one place where a begin takes memory: room for its entry, for its sweep's, and for the releases of the handles of the table
-        self.entries.reserve(self.rows.tabled() + 2)?;
+        // the one place where a begin takes memory: room for its entry, for its sweep's, and for what was kept before
+        let kept = kept(&self.rows, &self.marking, &self.mirroring);
+        room_to_mark(&mut self.entries, &mut self.mirroring, kept, own)?;
         let begin = Snapshot::of(&self.rows);
         self.rows.mark();
         self.markings += 1;
@@ -365,9 +393,10 @@ impl PeerSide {
     ) -> Result<Swept, NoMark>
         requires caller { IsPeerThread caller ⊎ IsDriver caller }
         requires own { MayEnd self.old.state.marking caller }
-        requires may { MayDraw peer_rules (record { floor = D.floor; left = D.left; may = D.may; drew = D.drew }) draw.old self.old caller Op.Sweep }
-        ensures swept { IfOk result (λ w. AddsLawful peer_rules (record { floor = D.floor; left = D.left; may = D.may; drew = D.drew }) draw.old draw.new self.old self.new (ends caller index w.marking w.freed) (sweep_of (drop (length self.old.state.peers.heap.freed) self.new.state.peers.heap.freed))) }
+        requires may { MayDraw peer_rules (record { floor = D.floor; left = D.left; may = D.may; drew = D.drew }) draw.old (seen self.old) caller Op.Sweep }
+        ensures swept { IfOk result (λ w. AddsLawful peer_rules (record { floor = D.floor; left = D.left; may = D.may; drew = D.drew }) draw.old draw.new (seen self.old) (seen self.new) (ends caller index w.marking w.freed) (sweep_of (drop (length self.old.state.peers.heap.freed) self.new.state.peers.heap.freed))) }
         ensures err { OnErr result ((self.old.state.marking ≡ None) × (self.new ≡ self.old) × (draw.new ≡ draw.old)) }
+        ensures reserve { self.new.reserve ≡ self.old.reserve }
     {
         match self.marking() {
             None => Err(NoMark),
@@ -391,8 +420,9 @@ impl PeerSide {
     ) -> Span
         requires caller { IsPeerThread caller ⊎ IsDriver caller }
         requires ended { IsEnded self.old.state.marking caller marking }
-        requires may { MayDraw peer_rules (record { floor = D.floor; left = D.left; may = D.may; drew = D.drew }) draw.old self.old caller Op.Sweep }
-        ensures { AddsLawful peer_rules (record { floor = D.floor; left = D.left; may = D.may; drew = D.drew }) draw.old draw.new self.old self.new (ends caller index marking result) (sweep_of (drop (length self.old.state.peers.heap.freed) self.new.state.peers.heap.freed)) }
+        requires may { MayDraw peer_rules (record { floor = D.floor; left = D.left; may = D.may; drew = D.drew }) draw.old (seen self.old) caller Op.Sweep }
+        ensures swept { AddsLawful peer_rules (record { floor = D.floor; left = D.left; may = D.may; drew = D.drew }) draw.old draw.new (seen self.old) (seen self.new) (ends caller index marking result) (sweep_of (drop (length self.old.state.peers.heap.freed) self.new.state.peers.heap.freed)) }
+        ensures reserve { self.new.reserve ≡ self.old.reserve }
     {
         let first = self.rows.freed();
         self.rows.sweep();
@@ -467,6 +497,44 @@ fn may_end(caller: Thread, by: Thread) -> bool
     caller == Thread::C || caller == by
 }
 
+// Whether the mirrored cycle's own marking is still to come.
+fn to_mark(mirror: Option<OpenMirror>) -> bool
+    ensures { result ≡ is_to_mark mirror }
+{
+    match mirror {
+        None => false,
+        Some(m) => m.marking,
+    }
+}
+
+// Takes the room for a begin and for its sweep. A mirrored cycle's own marking has it, and the cycle owes it no more.
+fn room_to_mark(
+    entries: &mut Entries,
+    mirroring: &mut Mirroring,
+    kept: u64,
+    own: bool,
+) -> Result<(), AllocError>
+    requires most { kept ≤ 2 ^ 42 }
+    requires own { own ≡ true → is_to_mark mirroring.old.mirror ≡ true }
+    requires room { kept ≤ entries.old.spare }
+    requires limit { length entries.old.entries + entries.old.spare ≤ 4294967295 }
+    ensures room { OnOk result (kept + owes mirroring.new + 2 ≤ entries.new.spare + owes mirroring.old) }
+    ensures limit { OnOk result (length entries.new.entries + entries.new.spare ≤ 4294967295) }
+    ensures entries { entries.new.entries ≡ entries.old.entries }
+    ensures mirroring { OnOk result (mirroring.new ≡ mirrors_begun own mirroring.old) }
+    ensures own { own ≡ true → IsOk result }
+    ensures err { OnErr result ((entries.new ≡ entries.old) × (mirroring.new ≡ mirroring.old)) }
+{
+    if !own {
+        return take_room(entries, kept, 2);
+    }
+    let Some(mirror) = mirroring.mirror() else {
+        unreachable!();
+    };
+    mirroring.set_mirror(Some(mirror.marked()));
+    Ok(())
+}
+
 // How many entries an open marking owes: that of its sweep.
 fn owed(marking: &Option<OpenMarking>) -> u32
     ensures owed { result ≡ owed marking.now }
@@ -478,13 +546,36 @@ fn owed(marking: &Option<OpenMarking>) -> u32
     }
 }
 
-// Takes the room for an event: for its own entry, for the releases of the handles that the table has then, and for the sweep of an open
-// marking, which counts here as one handle more.
-fn make_room(entries: &mut Entries, tabled: u32, op: &Op) -> Result<(), AllocError>
-    requires most { tabled ≤ 65536 }
-    requires room { tabled ≤ entries.old.spare }
+// For how many entries room is kept: the release of each handle of the table, the sweep of an open marking, and what mirrored cycles owe.
+pub(crate) fn kept(rows: &PeerRows, marking: &Option<OpenMarking>, mirroring: &Mirroring) -> u64
+    ensures kept { result ≡ rows.now.tabled + owed marking.now + owes mirroring.now }
+    ensures most { result ≤ 2 ^ 42 }
+{
+    rows.tabled() as u64 + owed(marking) as u64 + mirroring.owes()
+}
+
+// Takes room for so many more entries than those for which room is kept.
+pub(crate) fn take_room(entries: &mut Entries, kept: u64, more: u32) -> Result<(), AllocError>
+    requires most { kept ≤ 2 ^ 42 }
+    ensures room { OnOk result (kept + more ≤ entries.new.spare) }
+    ensures kept { entries.old.spare ≤ entries.new.spare }
+    ensures entries { entries.new.entries ≡ entries.old.entries }
+    ensures limit { OnOk result (length entries.new.entries + entries.new.spare ≤ 4294967295) }
+    ensures err { OnErr result (entries.new ≡ entries.old) }
+{
+    let all = kept + more as u64;
+    if all > u32::MAX as u64 {
+        return Err(AllocError);
+    }
+    entries.reserve(all as u32)
+}
+
+// Takes the room for an event: for its own entry, and for that of the release of a handle that it may issue. A release has its room.
+fn make_room(entries: &mut Entries, kept: u64, op: &Op) -> Result<(), AllocError>
+    requires most { kept ≤ 2 ^ 42 }
+    requires room { kept ≤ entries.old.spare }
     requires limit { length entries.old.entries + entries.old.spare ≤ 4294967295 }
-    ensures room { OnOk result (room_for op.now tabled ≤ entries.new.spare) }
+    ensures room { OnOk result (room_for op.now kept ≤ entries.new.spare) }
     ensures kept { entries.old.spare ≤ entries.new.spare }
     ensures entries { entries.new.entries ≡ entries.old.entries }
     ensures limit { length entries.new.entries + entries.new.spare ≤ 4294967295 }
@@ -493,6 +584,6 @@ fn make_room(entries: &mut Entries, tabled: u32, op: &Op) -> Result<(), AllocErr
 {
     match op {
         Op::Release { h: _ } => Ok(()),
-        _ => entries.reserve(tabled + 2),
+        _ => take_room(entries, kept, 2),
     }
 }

@@ -8,7 +8,7 @@ use Rattle.peer_side.proofs.side.PeerSide.close_marking.Goals as goal
 pub sweep-requires : goal.sweep-requires
 sweep-requires g c =
     let i = c.self.inside in
-    ended-whole i.rows i.marking i.markings i.entries c.args.caller c.args.marking c.self.invariant (rw (sym c.self.view_is) at c.requires.ended)
+    ended-whole i.rows i.marking i.markings i.mirroring i.entries c.args.caller c.args.marking c.self.invariant (rw (sym c.self.view_is) at c.requires.ended)
 
 pub overflow_sub-count : goal.overflow_sub-count
 overflow_sub-count g c = omega (arith, c.freed-first.ensures, c.freed.ensures, freed-less c.self.inside.rows c.sweep.new.self c.sweep.ensures.rest)
@@ -16,7 +16,7 @@ overflow_sub-count g c = omega (arith, c.freed-first.ensures, c.freed.ensures, f
 pub enter-requires-clause-spare : goal.enter-requires-clause-spare
 enter-requires-clause-spare g c =
     let i = c.self.inside in
-    ended-spare i.rows i.marking i.markings i.entries c.args.caller c.args.marking c.self.invariant (rw (sym c.self.view_is) at c.requires.ended)
+    ended-spare i.rows i.marking i.markings i.mirroring i.entries c.args.caller c.args.marking c.self.invariant (rw (sym c.self.view_is) at c.requires.ended)
 
 pub invariant_of-self : goal.invariant_of-self
 invariant_of-self g c =
@@ -26,15 +26,15 @@ invariant_of-self g c =
     let below = (rw (sym c.self.view_is) at c.requires.may).below in
     let draws = c.enter.ensures.draws in
     let span : Span = record { first = c.freed-first.result; count = c.freed.result - c.freed-first.result } in
-    IsSide-swept i.rows w i.marking i.markings i.entries c.enter.new.entries draws.adds.number _ c.args.caller c.args.index c.args.marking span c.self.invariant c.sweep.ensures.rest c.sweep.ensures.white ended c.requires.caller c.freed-first.ensures
+    IsSide-swept i.rows w i.marking i.markings i.mirroring i.entries c.enter.new.entries draws.adds.number _ c.args.caller c.args.index c.args.marking span c.self.invariant c.sweep.ensures.rest c.sweep.ensures.white ended c.requires.caller c.freed-first.ensures
     (omega (arith, c.freed.ensures, c.freed-first.ensures, length-drop (length i.rows.rows.heap.freed) w.rows.heap.freed)) draws.adds.added below draws.above c.enter.ensures.spare
 
-pub returns : goal.returns
-returns g c =
+pub returns-clause-swept : goal.returns-clause-swept
+returns-clause-swept g c =
     let i = c.self.inside in
     let w = c.sweep.new.self in
     let ended = rw (sym c.self.view_is) at c.requires.ended in
     let span : Span = record { first = c.freed-first.result; count = c.freed.result - c.freed-first.result } in
-    let goes = side-swept i.rows w i.marking i.markings i.entries c.enter.new.entries.entries c.args.caller c.args.index c.args.marking span c.self.invariant c.sweep.ensures.rest c.sweep.ensures.white ended c.requires.caller c.freed-first.ensures
-    (omega (arith, c.freed.ensures, c.freed-first.ensures, length-drop (length i.rows.rows.heap.freed) w.rows.heap.freed)) in
+    let goes = side-swept i.rows w i.marking i.markings i.mirroring i.entries c.enter.new.entries.entries c.enter.ensures.draws.adds.number c.args.caller c.args.index c.args.marking span c.self.invariant c.sweep.ensures.rest c.sweep.ensures.white ended c.requires.caller c.freed-first.ensures
+    (omega (arith, c.freed.ensures, c.freed-first.ensures, length-drop (length i.rows.rows.heap.freed) w.rows.heap.freed)) c.enter.ensures.draws.adds.added in
     rw (sym c.self.view_is) (record { draws = c.enter.ensures.draws; goes = goes })

@@ -24,4 +24,4 @@ pub returns-in-Some-clause-adds : goal.returns-in-Some-clause-adds
 returns-in-Some-clause-adds g c = turn-refused _ _ _ _ _ c.args.caller c.args.index op.Begin _ c.refuse.result (λ r. collect_makings c.args.caller c.args.index r (gone_since c.args.self.now.state c.refuse.new.self.state)) refl c.refuse.ensures.reply c.refuse.ensures.adds
 
 pub returns-in_ok-marking-in-None-clause-adds : goal.returns-in_ok-marking-in-None-clause-adds
-returns-in_ok-marking-in-None-clause-adds g c = turn-collect _ _ _ _ _ _ _ c.args.caller c.args.index c.in_ok-marking-in-None.marking _ c.in_ok-marking-in-None.ensures.begun c.close_marking-freed.ensures
+returns-in_ok-marking-in-None-clause-adds g c = turn-collect _ _ _ _ _ _ _ c.args.caller c.args.index c.in_ok-marking-in-None.marking _ c.in_ok-marking-in-None.ensures.begun c.close_marking-freed.ensures.swept

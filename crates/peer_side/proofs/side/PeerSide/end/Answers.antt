@@ -21,7 +21,7 @@ returns-in-None-clause-adds g c = turn-refused _ _ _ _ _ c.args.caller c.args.in
 
 pub returns-then-may_end-clause-adds : goal.returns-then-may_end-clause-adds
 returns-then-may_end-clause-adds g c =
-    turn-one _ _ _ _ _ (ends c.args.caller c.args.index c.in-Some.marking c.close_marking-span.result) (sweep_of (gone_since c.args.self.now.state c.close_marking-span.new.self.state)) c.close_marking-span.ensures
+    turn-one _ _ _ _ _ (ends c.args.caller c.args.index c.in-Some.marking c.close_marking-span.result) (sweep_of (gone_since c.args.self.now.state c.close_marking-span.new.self.state)) c.close_marking-span.ensures.swept
 
 pub returns-else-may_end-clause-adds : goal.returns-else-may_end-clause-adds
 returns-else-may_end-clause-adds g c =

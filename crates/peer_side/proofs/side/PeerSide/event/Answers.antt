@@ -1,11 +1,12 @@
 -- The rows did the event of the replay, so the list goes on by its entry, and the side stays one.
-use Rattle.std.proofs.Common.{◌≡◌, ◌+◌, sym, ap, subst, length, ◌∙◌, arith}
+use Rattle.std.proofs.Common.{◌+◌, refl, sym, ap, subst, length, ◌∙◌, arith}
 use Rattle.std.proofs.lemmas.List.{length_push}
 use Rattle.joint_model.specs.declared.events.Made.{Made}
 use Rattle.joint_model.specs.Draws.{numbered}
 use Rattle.peer_side.specs.Marks.{MarksAfter}
-use Rattle.peer_side.proofs.Sides.{IsSide-step, refs-after, side-goes, targets-live, marks-closed}
+use Rattle.peer_side.proofs.Sides.{IsSide-roomy, IsSide-step, side-goes, targets-live, marks-closed}
 use Rattle.peer_side.proofs.Steps.{releases-tabled, room-more}
+use Rattle.peer_side.specs.Mirrors.{owes}
 use Rattle.peer_side.specs.Sides.{state_with, owed}
 use Rattle.peer_side.specs.Steps.{room_for}
 use Rattle.peer_side.proofs.side.PeerSide.event.Goals as goal
@@ -14,25 +15,25 @@ pub event-requires-clause-tabled : goal.event-requires-clause-tabled
 event-requires-clause-tabled g c =
     let i = c.self.inside in
     let allowed = rw (sym c.self.view_is) at c.requires.allowed in
-    releases-tabled (state_with i.entries.entries i.rows i.marking i.markings) c.args.caller c.args.op.now c.args.cites allowed
+    releases-tabled (state_with i.entries.entries i.rows i.marking i.markings i.mirroring) c.args.caller c.args.op.now c.args.cites allowed
 
 pub event-requires-clause-live : goal.event-requires-clause-live
 event-requires-clause-live g c =
     let i = c.self.inside in
-    targets-live i.rows i.marking i.markings i.entries c.self.invariant
+    targets-live i.rows i.marking i.markings i.mirroring i.entries c.self.invariant
 
 pub event-requires-clause-shut : goal.event-requires-clause-shut
 event-requires-clause-shut g c = λ up.
     let i = c.self.inside in
-    marks-closed i.rows i.marking i.markings i.entries c.self.invariant (sym c.is_some-is_open.ensures ∙ up)
+    marks-closed i.rows i.marking i.markings i.mirroring i.entries c.self.invariant (sym c.is_some-is_open.ensures ∙ up)
 
 pub enter-requires-clause-spare : goal.enter-requires-clause-spare
 enter-requires-clause-spare g c =
     let i = c.self.inside in
+    let counted = ap (λ k. room_for c.args.op.now k) c.kept-kept.ensures.kept in
     let more = room-more c.args.op.now i.rows.tabled (owed i.marking) in
-    let both : c.tabled.result + c.owed.result ≡ i.rows.tabled + owed i.marking = omega (arith, c.tabled.ensures.tabled, c.owed.ensures.owed) in
-    let counted = ap (λ k. room_for c.args.op.now k) both in
-    omega (arith, c.in_ok-make_room.ensures.room, more, counted, c.in_ok-reply.ensures.room)
+    let all = room-more c.args.op.now (i.rows.tabled + owed i.marking) (owes i.mirroring) in
+    omega (arith, c.in_ok-make_room.ensures.room, more, all, counted, c.in_ok-reply.ensures.room)
 
 pub invariant_of-self-2 : goal.invariant_of-self-2
 invariant_of-self-2 g c =
@@ -41,13 +42,13 @@ invariant_of-self-2 g c =
     let allowed = rw (sym c.self.view_is) at c.requires.allowed in
     let draws = rw c.in_ok-make_room.ensures.entries at c.enter.ensures.draws in
     let made-room = c.in_ok-make_room.ensures.room in
+    let counted = ap (λ k. room_for c.args.op.now k) c.kept-kept.ensures.kept in
     let more = room-more c.args.op.now i.rows.tabled (owed i.marking) in
-    let both : c.tabled.result + c.owed.result ≡ i.rows.tabled + owed i.marking = omega (arith, c.tabled.ensures.tabled, c.owed.ensures.owed) in
-    let counted = ap (λ k. room_for c.args.op.now k) both in
+    let all = room-more c.args.op.now (i.rows.tabled + owed i.marking) (owes i.mirroring) in
     let below = (rw (sym c.self.view_is) at c.requires.may).below in
     let marks = subst (λ b. MarksAfter b i.rows.rows c.args.op.now c.in_ok-reply.reply c.event.new.self.rows) c.is_some-is_open.ensures c.in_ok-reply.ensures.marks in
-    IsSide-step i.rows c.event.new.self i.marking i.markings i.entries c.enter.new.entries draws.adds.number _ made draws.adds.added below draws.above c.requires.step allowed c.in_ok-reply.ensures.goes marks
-    (omega (arith, made-room, more, counted, c.in_ok-reply.ensures.room, c.enter.ensures.spare))
+    IsSide-step i.rows c.event.new.self i.marking i.markings i.mirroring i.entries c.enter.new.entries draws.adds.number _ made draws.adds.added below draws.above c.requires.step allowed c.in_ok-reply.ensures.goes marks
+    (omega (arith, made-room, more, all, counted, c.in_ok-reply.ensures.room, c.enter.ensures.spare))
     (omega (arith, c.in_ok-make_room.ensures.limit, c.enter.ensures.spare, ap length draws.adds.added, length_push i.entries.entries (numbered draws.adds.number made), ap length c.in_ok-make_room.ensures.entries))
     c.self.invariant
 
@@ -57,5 +58,13 @@ returns-clause-adds g c =
     let made : Made = record { caller = c.args.caller; index = c.args.index; op = c.args.op.now; reply = c.in_ok-reply.reply; cites = c.args.cites } in
     let allowed = rw (sym c.self.view_is) at c.requires.allowed in
     let draws = rw c.in_ok-make_room.ensures.entries at c.enter.ensures.draws in
-    let goes = side-goes i.rows c.event.new.self i.marking i.markings i.entries.entries c.enter.new.entries.entries draws.adds.number made draws.adds.added c.self.invariant.from (refs-after _ i.rows.rows c.args.op.now c.in_ok-reply.reply c.event.new.self.rows c.in_ok-reply.ensures.marks) c.requires.step allowed c.in_ok-reply.ensures.goes in
+    let marks = subst (λ b. MarksAfter b i.rows.rows c.args.op.now c.in_ok-reply.reply c.event.new.self.rows) c.is_some-is_open.ensures c.in_ok-reply.ensures.marks in
+    let goes = side-goes i.rows c.event.new.self i.marking i.markings i.mirroring i.entries c.enter.new.entries.entries draws.adds.number made c.self.invariant draws.adds.added c.requires.step c.in_ok-reply.ensures.goes marks allowed in
     rw (sym c.self.view_is) (record { draws = draws; goes = goes })
+
+pub invariant_of-self-in_err-reply : goal.invariant_of-self-in_err-reply
+invariant_of-self-in_err-reply g c =
+    let i = c.self.inside in
+    let room = c.in_ok-make_room.ensures in
+    IsSide-roomy i.rows c.event.new.self i.marking i.markings i.mirroring i.mirroring i.entries c.make_room.new.entries i.rows.rows.room c.in_err-reply.ensures.err refl room.entries
+    (omega (arith, c.self.invariant.room, room.kept)) room.limit c.self.invariant.refs_room c.self.invariant

@@ -12,15 +12,15 @@ invariant_of-self-2 g c =
     let made : Made = record { caller = c.args.caller; index = c.args.index; op = c.args.op; reply = c.args.reply; cites = None } in
     let passes = rw (sym c.self.view_is) at c.requires.passes in
     let below = (rw (sym c.self.view_is) at c.requires.may).below in
-    let draws = rw c.in_ok-reserve.ensures.entries at c.enter.ensures.draws in
-    IsSide-pass i.rows i.marking i.markings i.entries c.enter.new.entries draws.adds.number _ made c.self.invariant draws.adds.added passes below draws.above
-    (omega (arith, c.in_ok-reserve.ensures.room, c.tabled.ensures.tabled, c.owed.ensures.owed, c.enter.ensures.spare))
-    (omega (arith, c.in_ok-reserve.ensures.limit, c.enter.ensures.spare, ap length draws.adds.added, length_push i.entries.entries (numbered draws.adds.number made), ap length c.in_ok-reserve.ensures.entries))
+    let draws = rw c.in_ok-take_room.ensures.entries at c.enter.ensures.draws in
+    IsSide-pass i.rows i.marking i.markings i.mirroring i.entries c.enter.new.entries draws.adds.number _ made c.self.invariant draws.adds.added passes below draws.above
+    (omega (arith, c.in_ok-take_room.ensures.room, c.kept-kept.ensures.kept, c.enter.ensures.spare))
+    (omega (arith, c.in_ok-take_room.ensures.limit, c.enter.ensures.spare, ap length draws.adds.added, length_push i.entries.entries (numbered draws.adds.number made), ap length c.in_ok-take_room.ensures.entries))
 
 pub returns-clause-adds : goal.returns-clause-adds
 returns-clause-adds g c =
     let i = c.self.inside in
     let made : Made = record { caller = c.args.caller; index = c.args.index; op = c.args.op; reply = c.args.reply; cites = None } in
     let passes = rw (sym c.self.view_is) at c.requires.passes in
-    let draws = rw c.in_ok-reserve.ensures.entries at c.enter.ensures.draws in
-    rw (sym c.self.view_is) (record { draws = draws; goes = pass-goes i.rows i.marking i.markings i.entries c.enter.new.entries.entries draws.adds.number made c.self.invariant draws.adds.added passes })
+    let draws = rw c.in_ok-take_room.ensures.entries at c.enter.ensures.draws in
+    rw (sym c.self.view_is) (record { draws = draws; goes = pass-goes i.rows i.marking i.markings i.mirroring i.entries c.enter.new.entries.entries draws.adds.number made c.self.invariant draws.adds.added passes })

@@ -1,0 +1,230 @@
+-- The calls of a mirrored cycle over its handles, and its end: a handle is weak, is strong again or is gone, and the references go. The replay's
+-- answer is what the parts show, and the side stays one.
+use Rattle.std.proofs.Common.{◌≡◌, ℕ, ◌+◌, ◌-◌, ◌*◌, ◌≤◌, inl, inr, Bool, true, List, [], ◌∷◌, ◌++◌, length, Option, Some, None, if◌then◌else◌, refl, sym, ap, subst, ◌∙◌, arith}
+use Rattle.std.specs.Prelude.{All, Contains}
+use Rattle.std.specs.Option.{is_some}
+use Rattle.std.proofs.lemmas.List.{append-nil, length_push}
+use Rattle.std.proofs.lemmas.Option.{same_Some}
+use Rattle.joint_model.specs.declared.names.HNum.{HNum}
+use Rattle.joint_model.specs.declared.names.Thread.TheVariants.{C}
+use Rattle.joint_model.specs.declared.events.Entry.{Entry}
+use Rattle.joint_model.specs.declared.events.Op.TheVariants as op
+use Rattle.joint_model.specs.declared.events.Reply.TheVariants as says
+use Rattle.joint_model.specs.Draws.{AllBelow, numbered}
+use Rattle.joint_model.specs.Heaps.{answer, numbered_at}
+use Rattle.joint_model.specs.Listed.{Stock}
+use Rattle.joint_model.specs.PeerReplay.{PeerReplay, Marking, MayRestore, MayWeaken, Mirror, brought_to, peer_answer}
+use Rattle.joint_model.specs.Sides.{GoesOn, peer_rules}
+use Rattle.joint_model.specs.Told.{nothing}
+use Rattle.joint_model.proofs.Deciding.{none_some}
+use Rattle.joint_model.proofs.Members.{Contains-cons_cases, Contains-nil}
+use Rattle.joint_laws.specs.PeerInvariants.{IsPeerKept}
+use Rattle.global_handles.specs.declared.Back.{Back}
+use Rattle.global_handles.specs.declared.Back.TheVariants.{Alive, Cleared}
+use Rattle.row_heap.specs.Rows.{HeapRows}
+use Rattle.marking_laws.specs.Marks.{AreMarksExact}
+use Rattle.marking_laws.proofs.MarkEvents.{marks-same}
+use Rattle.peer_side.specs.declared.mirroring.OpenMirror.{OpenMirror}
+use Rattle.peer_side.specs.declared.side.OpenMarking.{OpenMarking}
+use Rattle.peer_side.specs.Cycles.{reply_of, restores, weakens}
+use Rattle.peer_side.specs.Marks.{IsExact}
+use Rattle.peer_side.specs.Mirroring.{IsRemoved, IsRestored, IsStrongAgain, weak_row, with_row}
+use Rattle.peer_side.specs.MirrorLaws.{restored_more, state_of, weakened_more}
+use Rattle.peer_side.specs.Mirrors.{Mirrors, AreMirrored, IsDue, mirror_as, mirror_in, mirrors_in, owed_by, owed_next, told_since, restored_at, restored_one, weakened_at, weakened_one}
+use Rattle.peer_side.specs.Rows.{Rows}
+use Rattle.peer_side.specs.Sides.{IsSide, IsKnown, marking_as, marking_in, owed, peers_at, state_with}
+use Rattle.peer_side.proofs.Cycles.{cycle-next, cycles-next, marking-more, marking-same, state-eq}
+use Rattle.peer_side.proofs.Dues.{IsDue-restored, IsDue-weakened, due-some}
+use Rattle.peer_side.proofs.Ends.{IsSide-told}
+use Rattle.peer_side.proofs.Mirrored.{again-answer, again-exact, removed-answer, weakened-answer}
+use Rattle.peer_side.proofs.Quiet.{known-push}
+use Rattle.peer_side.proofs.Sides.{from-more, opened}
+use Rattle.peer_side.proofs.Steps.{goes-told, safe-nothing}
+
+-- the mirrored cycle goes on as this
+abbrev pub on_mirror : Mirrors → OpenMirror → Mirrors
+on_mirror m x = record m { mirror = Some x }
+
+-- a handle is weakened
+module _ (old w : Rows) (o : Option OpenMarking) (n : ℕ) (m : Mirrors) (x : OpenMirror) (stock : Stock) (after : List Entry) (k index : ℕ) (h : HNum) (snap : ℕ) (side : IsSide old o n m stock)
+    (added : after ≡ stock.entries ++ numbered k (weakens index h snap) ∷ []) (put : w ≡ with_row old h.0 weak_row) (here : m.mirror ≡ Some x) where
+  mirrored : AreMirrored stock.entries (Some x)
+  mirrored = subst (AreMirrored stock.entries) here side.mirrored
+
+  pub weaker : mirror_as after (weakened_one x) ≡ weakened_more (mirror_as stock.entries x) h.0
+  weaker =
+      cycle-next stock.entries after (numbered k (weakens index h snap)) added (weakened_one x) mirrored.from
+      ∙ ap (λ l. record (weakened_more (mirror_as stock.entries x) h.0) { restored = l }) (append-nil (told_since restored_at x.from stock.entries))
+
+  marking-stays : marking_in w.issued after o ≡ marking_in old.issued stock.entries o
+  marking-stays = ap (λ is. marking_in is after o) (ap (λ (z : Rows). z.issued) put) ∙ marking-same stock.entries after (numbered k (weakens index h snap)) added old.issued o side.known side.from refl
+
+  told : peer_answer (state_with stock.entries old o n m) C (op.Weaken h) (Some snap) nothing ≡ answer says.Ok (state_with after w o n (on_mirror m (weakened_one x)))
+  told =
+      let es = stock.entries in
+      let mk = marking_in old.issued es o in
+      ap (λ y. peer_answer (state_of old (mirror_in es y) (mirrors_in es) mk n) C (op.Weaken h) (Some snap) nothing) here
+      ∙ (weakened-answer old w (mirror_as es x) (mirrors_in es) mk n h (Some snap) put
+      ∙ ap (λ z. answer says.Ok z) (sym (state-eq w (Some (mirror_as after (weakened_one x))) (Some (weakened_more (mirror_as es x) h.0)) (mirrors_in after) (mirrors_in es) (marking_in w.issued after o) mk n
+      (ap (λ z. Some z) weaker) (cycles-next es after (numbered k (weakens index h snap)) added ∙ append-nil (mirrors_in es)) marking-stays)))
+
+  pub weaken-goes : MayWeaken (state_with stock.entries old o n m) h.0 (Some snap) → GoesOn peer_rules (state_with stock.entries old o n m) (weakens index h snap) nothing (state_with after w o n (on_mirror m (weakened_one x)))
+  weaken-goes may = goes-told (state_with stock.entries old o n m) (state_with after w o n (on_mirror m (weakened_one x))) (weakens index h snap) nothing (record { event = tt; side = refl }) may told
+
+  weaken-marks : (mk : Marking) → marking_in w.issued after o ≡ Some mk → IsExact (state_with after w o n (on_mirror m (weakened_one x))) mk w.rows
+  weaken-marks mk q =
+      let s = state_with stock.entries old o n m in
+      let t = state_with after w o n (on_mirror m (weakened_one x)) in
+      let rows = ap (λ (z : Rows). z.rows) put in
+      let was = side.exact mk (sym marking-stays ∙ q) in
+      subst (λ (z : HeapRows). AreMarksExact t mk z.follows z.marks) (sym rows)
+      (marks-same s t mk old.rows.follows old.rows.marks (ap (λ (z : Rows). z.rows.heap.fields) put) (ap (λ (z : Rows). z.rows.heap.freed) put) (ap (λ (z : Rows). z.rows.refs) put) was)
+
+pub IsSide-weakened : (old w : Rows) (o : Option OpenMarking) (n : ℕ) (m : Mirrors) (x : OpenMirror) (stock later : Stock) (k floor index : ℕ) (h : HNum) (snap : ℕ) → IsSide old o n m stock → later.entries ≡ stock.entries ++ numbered k (weakens index h snap) ∷ [] → AllBelow stock.entries floor → floor ≤ k
+    → w ≡ with_row old h.0 weak_row → m.mirror ≡ Some x → 1 ≤ x.left → MayWeaken (state_with stock.entries old o n m) h.0 (Some snap) → later.spare + 1 ≡ stock.spare → IsSide w o n (on_mirror m (weakened_one x)) later
+IsSide-weakened old w o n m x stock later k floor index h snap side added below above put here left may spare =
+    let made = weakens index h snap in
+    let e : Entry = numbered k made in
+    let grows = length_push stock.entries e in
+    let had : owed_by m.mirror ≡ 2 * x.left + x.due + 1 + (if x.marking then 2 else 0) = ap owed_by here in
+    let room : w.tabled + owed o + (2 * (x.left - 1) + (x.due + 1) + 1 + (if x.marking then 2 else 0) + owed_next m.next) ≤ later.spare = omega (arith, side.room, ap (λ (z : Rows). z.tabled) put, had, left, spare) in
+    let was = mirrored old w o n m x stock later.entries k index h snap side added put here in
+    IsSide-told old w o o n n m (on_mirror m (weakened_one x)) stock later k floor made nothing added below above
+    (weaken-goes old w o n m x stock later.entries k index h snap side added put here may)
+    (safe-nothing (state_with stock.entries old o n m) (op.Weaken h))
+    room
+    (omega (arith, side.limit, spare, ap length added, grows)) (omega arith)
+    (from-more o (length stock.entries) (length later.entries) (omega (arith, ap length added, grows)) side.from)
+    (weaken-marks old w o n m x stock later.entries k index h snap side added put here)
+    (record { from = omega (arith, was.from, ap length added, grows); due = subst (λ z. IsDue z (x.due + 1)) (sym (weaker old w o n m x stock later.entries k index h snap side added put here)) (IsDue-weakened (mirror_as stock.entries x) x.due h.0 was.due) })
+    (subst (λ is. All (IsKnown is) later.entries) (sym (ap (λ (z : Rows). z.issued) put)) (known-push old.issued stock.entries later.entries e added (λ g c. absurd (Contains-nil g c)) side.known))
+    (omega (arith, side.refs_room, ap (λ (z : Rows). z.rows.room) put))
+    (omega (arith, side.few_refs, ap (λ (z : Rows). length z.rows.refs) put))
+    side
+
+-- the mirror that a restore or a clear names is the one that is kept
+pub same-mirror : (es : List Entry) (o : Option OpenMirror) (x : OpenMirror) (z : Mirror) → o ≡ Some x → mirror_in es o ≡ Some z → mirror_as es x ≡ z
+same-mirror es o x z here stands = same_Some (mirror_as es x) z (sym (ap (mirror_in es) here) ∙ stands)
+
+-- the handle that is restored was issued
+restored-known : (s : PeerReplay) (h : HNum) (k index : ℕ) (back : Back) → IsPeerKept s → MayRestore s h.0 → IsKnown s.peers.issued (numbered k (restores index h back))
+restored-known s h k index back kept may = λ g c.
+    let w = kept.references.weakened may.mirror h.0 may.stands may.weakened in
+    elim (Contains-cons_cases h.0 [] g c) [ inl e ↦ (w.0, subst (λ z. numbered_at s.peers.issued z ≡ Some w.0) e w.1) | inr r ↦ absurd (Contains-nil g r) ]
+
+-- a restore
+module _ (old w : Rows) (o : Option OpenMarking) (n : ℕ) (m : Mirrors) (x : OpenMirror) (stock : Stock) (after : List Entry) (k index : ℕ) (h : HNum) (back : Back) (side : IsSide old o n m stock)
+    (added : after ≡ stock.entries ++ numbered k (restores index h back) ∷ []) (here : m.mirror ≡ Some x) where
+  was-mirrored : AreMirrored stock.entries (Some x)
+  was-mirrored = subst (AreMirrored stock.entries) here side.mirrored
+
+  pub fewer-owed : mirror_as after (restored_one x) ≡ restored_more (mirror_as stock.entries x) h.0
+  fewer-owed =
+      cycle-next stock.entries after (numbered k (restores index h back)) added (restored_one x) was-mirrored.from
+      ∙ ap (λ l. record (restored_more (mirror_as stock.entries x) h.0) { weakened = l }) (append-nil (told_since weakened_at x.from stock.entries))
+
+  no-cycle : mirrors_in after ≡ mirrors_in stock.entries
+  no-cycle = cycles-next stock.entries after (numbered k (restores index h back)) added ∙ append-nil (mirrors_in stock.entries)
+
+  told-by : (mk : Option Marking) → marking_in w.issued after o ≡ mk
+      → peer_answer (state_of old (Some (mirror_as stock.entries x)) (mirrors_in stock.entries) (marking_in old.issued stock.entries o) n) C (op.Restore h) None nothing ≡ answer (reply_of back) (state_of w (Some (restored_more (mirror_as stock.entries x) h.0)) (mirrors_in stock.entries) mk n)
+      → peer_answer (state_with stock.entries old o n m) C (op.Restore h) None nothing ≡ answer (reply_of back) (state_with after w o n (on_mirror m (restored_one x)))
+  told-by mk marking answers =
+      let es = stock.entries in
+      ap (λ y. peer_answer (state_of old (mirror_in es y) (mirrors_in es) (marking_in old.issued es o) n) C (op.Restore h) None nothing) here
+      ∙ (answers
+      ∙ ap (λ z. answer (reply_of back) z) (sym (state-eq w (Some (mirror_as after (restored_one x))) (Some (restored_more (mirror_as es x) h.0)) (mirrors_in after) (mirrors_in es) (marking_in w.issued after o) mk n
+      (ap (λ z. Some z) fewer-owed) no-cycle marking)))
+
+-- a cleared handle leaves the marking; another's peer is brought back
+removed-marking : (old w : Rows) (o : Option OpenMarking) (n : ℕ) (m : Mirrors) (stock : Stock) (after : List Entry) (k index : ℕ) (h : HNum) → IsSide old o n m stock → after ≡ stock.entries ++ numbered k (restores index h Cleared) ∷ [] → IsRemoved old h.0 w → marking_in w.issued after o ≡ marking_in old.issued stock.entries o
+removed-marking old w o n m stock after k index h side added r =
+    ap (λ is. marking_in is after o) (ap (λ (z : Rows). z.issued) r.rest) ∙ marking-same stock.entries after (numbered k (restores index h Cleared)) added old.issued o side.known side.from refl
+
+again-marking : (old w : Rows) (o : Option OpenMarking) (n : ℕ) (m : Mirrors) (stock : Stock) (after : List Entry) (k index : ℕ) (h : HNum) (b : Bool) → IsSide old o n m stock → after ≡ stock.entries ++ numbered k (restores index h Alive) ∷ [] → (r : IsStrongAgain b old h.0 w)
+    → marking_in w.issued after o ≡ brought_to (marking_in old.issued stock.entries o) r.peer
+again-marking old w o n m stock after k index h b side added r =
+    ap (λ is. marking_in is after o) (ap (λ (z : Rows). z.issued) r.rest) ∙ marking-more stock.entries after (numbered k (restores index h Alive)) added old.issued o r.peer side.known side.from (ap peers_at r.issued)
+
+-- the entry may come next
+restore-told : (old w : Rows) (o : Option OpenMarking) (n : ℕ) (m : Mirrors) (x : OpenMirror) (stock : Stock) (after : List Entry) (k index : ℕ) (h : HNum) (back : Back) (b : Bool) → IsSide old o n m stock → after ≡ stock.entries ++ numbered k (restores index h back) ∷ [] → m.mirror ≡ Some x → IsRestored b old h.0 back w
+    → peer_answer (state_with stock.entries old o n m) C (op.Restore h) None nothing ≡ answer (reply_of back) (state_with after w o n (on_mirror m (restored_one x)))
+restore-told old w o n m x stock after k index h Cleared b side added here r =
+    let es = stock.entries in
+    told-by old w o n m x stock after k index h Cleared side added here (marking_in old.issued es o) (removed-marking old w o n m stock after k index h side added r)
+    (removed-answer old w (mirror_as es x) (mirrors_in es) (marking_in old.issued es o) n h None r)
+restore-told old w o n m x stock after k index h Alive b side added here r =
+    let es = stock.entries in
+    told-by old w o n m x stock after k index h Alive side added here (brought_to (marking_in old.issued es o) r.peer) (again-marking old w o n m stock after k index h b side added r)
+    (again-answer b old w (mirror_as es x) (mirrors_in es) (marking_in old.issued es o) n h None r)
+
+pub restore-goes : (old w : Rows) (o : Option OpenMarking) (n : ℕ) (m : Mirrors) (x : OpenMirror) (stock : Stock) (after : List Entry) (k index : ℕ) (h : HNum) (back : Back) (b : Bool) → IsSide old o n m stock → after ≡ stock.entries ++ numbered k (restores index h back) ∷ [] → m.mirror ≡ Some x → IsRestored b old h.0 back w
+    → MayRestore (state_with stock.entries old o n m) h.0 → GoesOn peer_rules (state_with stock.entries old o n m) (restores index h back) nothing (state_with after w o n (on_mirror m (restored_one x)))
+restore-goes old w o n m x stock after k index h back b side added here r may =
+    goes-told (state_with stock.entries old o n m) (state_with after w o n (on_mirror m (restored_one x))) (restores index h back) nothing (record { event = tt; side = refl }) may (restore-told old w o n m x stock after k index h back b side added here r)
+
+-- the marks stay exact
+restore-marks : (old w : Rows) (o : Option OpenMarking) (n : ℕ) (m : Mirrors) (x : OpenMirror) (stock : Stock) (after : List Entry) (k index : ℕ) (h : HNum) (back : Back) → IsSide old o n m stock → after ≡ stock.entries ++ numbered k (restores index h back) ∷ [] → m.mirror ≡ Some x → IsRestored (is_some o) old h.0 back w
+    → (mk : Marking) → marking_in w.issued after o ≡ Some mk → IsExact (state_with after w o n (on_mirror m (restored_one x))) mk w.rows
+restore-marks old w o n m x stock after k index h Cleared side added here r mk q =
+    let s = state_with stock.entries old o n m in
+    let t = state_with after w o n (on_mirror m (restored_one x)) in
+    let was = side.exact mk (sym (removed-marking old w o n m stock after k index h side added r) ∙ q) in
+    subst (λ (z : HeapRows). AreMarksExact t mk z.follows z.marks) (sym (ap (λ (z : Rows). z.rows) r.rest))
+    (marks-same s t mk old.rows.follows old.rows.marks (ap (λ (z : Rows). z.rows.heap.fields) r.rest) (ap (λ (z : Rows). z.rows.heap.freed) r.rest) (ap (λ (z : Rows). z.rows.refs) r.rest) was)
+restore-marks old w None n m x stock after k index h Alive side added here r mk q = absurd (none_some mk q)
+restore-marks old w (Some o) n m x stock after k index h Alive side added here r mk q =
+    let es = stock.entries in
+    let before = marking_as old.issued es o in
+    let more : Marking = record before { brought = before.brought ++ r.peer ∷ [] } in
+    let t = state_with after w (Some o) n (on_mirror m (restored_one x)) in
+    let marking = again-marking old w (Some o) n m stock after k index h true side added r in
+    let later = mirror_in after (Some (restored_one x)) in
+    let same : state_of w later (mirrors_in es) (Some more) n ≡ t = sym (state-eq w later later (mirrors_in after) (mirrors_in es) (marking_in w.issued after (Some o)) (Some more) n refl (no-cycle old w (Some o) n m x stock after k index h Alive side added here) marking) in
+    let exact = again-exact old w (mirror_in es m.mirror) later (mirrors_in es) before n h.0 r (opened old o n m stock side) in
+    subst (λ z. AreMarksExact t z w.rows.follows w.rows.marks) (same_Some more mk (sym marking ∙ q)) (subst (λ z. AreMarksExact z more w.rows.follows w.rows.marks) same exact)
+
+-- what a restore leaves of the rows
+record IsRestoredRest (old w : Rows) : Type 0 where
+  tabled : w.tabled ≤ old.tabled
+  issued : w.issued ≡ old.issued
+  room : w.rows.room ≡ old.rows.room
+  refs : w.rows.refs ≡ old.rows.refs
+
+restored-rest : (b : Bool) (old : Rows) (h : ℕ) (back : Back) (w : Rows) → IsRestored b old h back w → IsRestoredRest old w
+restored-rest b old h Cleared w r = record { tabled = omega (arith, r.fewer); issued = ap (λ (z : Rows). z.issued) r.rest; room = ap (λ (z : Rows). z.rows.room) r.rest; refs = ap (λ (z : Rows). z.rows.refs) r.rest }
+restored-rest b old h Alive w r = record { tabled = omega (arith, ap (λ (z : Rows). z.tabled) r.rest); issued = ap (λ (z : Rows). z.issued) r.rest; room = ap (λ (z : Rows). z.rows.room) r.rest; refs = ap (λ (z : Rows). z.rows.refs) r.rest }
+
+-- one restore is owed at least
+pub restore-owed : (rows : Rows) (o : Option OpenMarking) (n : ℕ) (m : Mirrors) (x : OpenMirror) (stock : Stock) (h : HNum) → IsSide rows o n m stock → m.mirror ≡ Some x → MayRestore (state_with stock.entries rows o n m) h.0 → 1 ≤ x.due
+restore-owed rows o n m x stock h side here may =
+    let same = same-mirror stock.entries m.mirror x may.mirror here may.stands in
+    let was : AreMirrored stock.entries (Some x) = subst (AreMirrored stock.entries) here side.mirrored in
+    due-some (mirror_as stock.entries x) x.due h.0 was.due (subst (λ (z : Mirror). Contains z.weakened h.0) (sym same) may.weakened) (λ c. may.waiting (subst (λ (z : Mirror). Contains z.restored h.0) same c))
+
+-- the side after it
+pub IsSide-restored : (old w : Rows) (o : Option OpenMarking) (n : ℕ) (m : Mirrors) (x : OpenMirror) (stock later : Stock) (k floor index : ℕ) (h : HNum) (back : Back) → IsSide old o n m stock → later.entries ≡ stock.entries ++ numbered k (restores index h back) ∷ [] → AllBelow stock.entries floor → floor ≤ k
+    → m.mirror ≡ Some x → IsRestored (is_some o) old h.0 back w → MayRestore (state_with stock.entries old o n m) h.0 → later.spare + 1 ≡ stock.spare → IsSide w o n (on_mirror m (restored_one x)) later
+IsSide-restored old w o n m x stock later k floor index h back side added below above here r may spare =
+    let made = restores index h back in
+    let e : Entry = numbered k made in
+    let grows = length_push stock.entries e in
+    let rest = restored-rest (is_some o) old h.0 back w r in
+    let some = restore-owed old o n m x stock h side here may in
+    let same = same-mirror stock.entries m.mirror x may.mirror here may.stands in
+    let had : owed_by m.mirror ≡ 2 * x.left + x.due + 1 + (if x.marking then 2 else 0) = ap owed_by here in
+    let room : w.tabled + owed o + (2 * x.left + (x.due - 1) + 1 + (if x.marking then 2 else 0) + owed_next m.next) ≤ later.spare = omega (arith, side.room, rest.tabled, had, some, spare) in
+    let was : AreMirrored stock.entries (Some x) = subst (AreMirrored stock.entries) here side.mirrored in
+    let due = IsDue-restored (mirror_as stock.entries x) x.due h.0 was.due (subst (λ (z : Mirror). Contains z.weakened h.0) (sym same) may.weakened) (λ c. may.waiting (subst (λ (z : Mirror). Contains z.restored h.0) same c)) in
+    IsSide-told old w o o n n m (on_mirror m (restored_one x)) stock later k floor made nothing added below above
+    (restore-goes old w o n m x stock later.entries k index h back (is_some o) side added here r may)
+    (safe-nothing (state_with stock.entries old o n m) (op.Restore h))
+    room
+    (omega (arith, side.limit, spare, ap length added, grows)) (omega arith)
+    (from-more o (length stock.entries) (length later.entries) (omega (arith, ap length added, grows)) side.from)
+    (restore-marks old w o n m x stock later.entries k index h back side added here r)
+    (record { from = omega (arith, was.from, ap length added, grows); due = subst (λ z. IsDue z (x.due - 1)) (sym (fewer-owed old w o n m x stock later.entries k index h back side added here)) due })
+    (subst (λ is. All (IsKnown is) later.entries) (sym rest.issued) (known-push old.issued stock.entries later.entries e added (restored-known (state_with stock.entries old o n m) h k index back side.kept may) side.known))
+    (omega (arith, side.refs_room, rest.room))
+    (omega (arith, side.few_refs, ap length rest.refs))
+    side

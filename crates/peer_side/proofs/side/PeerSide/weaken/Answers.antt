@@ -1,0 +1,21 @@
+-- The handle is weak, and one restore more is owed.
+use Rattle.std.proofs.Common.{◌≡◌, ◌≤◌, Option, Some, sym, ap, subst, ◌∙◌}
+use Rattle.peer_side.specs.declared.mirroring.OpenMirror.{OpenMirror}
+use Rattle.peer_side.specs.Sides.{IsSide, left_of}
+use Rattle.peer_side.proofs.Restoring.{IsSide-weakened, on_mirror}
+use Rattle.peer_side.proofs.side.PeerSide.weaken.Goals as goal
+
+pub weaken-requires : goal.weaken-requires
+weaken-requires g c = (rw (sym c.self.view_is) at c.requires.weakens).strong_now
+
+pub invariant_of-self : goal.invariant_of-self
+invariant_of-self g c =
+    let i = c.self.inside in
+    let x = c.in-Some.mirror in
+    let may = rw (sym c.self.view_is) at c.requires.weakens in
+    let below = (rw (sym c.self.view_is) at c.requires.may).below in
+    let here : i.mirroring.mirror ≡ Some x = sym c.in-Some.ensures.mirror in
+    let left : 1 ≤ x.left = subst (λ (o : Option OpenMirror). 1 ≤ left_of o) here (rw (sym c.self.view_is) at c.requires.left) in
+    let draws = c.note.ensures.draws in
+    subst (λ z. IsSide c.weaken.new.self i.marking i.markings z c.note.new.entries) (sym (◌∙◌ {b = on_mirror i.mirroring c.weakened.result} c.set_mirror.ensures (ap (on_mirror i.mirroring) c.weakened.ensures)))
+    (IsSide-weakened i.rows c.weaken.new.self i.marking i.markings i.mirroring x i.entries c.note.new.entries draws.adds.number _ c.args.index c.args.h c.args.cites c.self.invariant draws.adds.added below draws.above c.weaken.ensures here left may c.note.ensures.spare)
