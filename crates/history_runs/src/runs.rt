@@ -1,0 +1,149 @@
+// Runs of a managed and a peer thread.
+
+ghost use Rattle.std.specs.Prelude.{◌≡◌, ◌≤◌};
+ghost use Rattle.joint_model.specs.Lines.{IsLine};
+ghost use Rattle.joint_model.specs.declared.names.Thread.TheVariants.{M, P};
+ghost use Rattle.order_table.specs.Views.{OwnsAll};
+ghost use Rattle.peer_side.specs.Steps.{IsStepLine};
+ghost use Rattle.joint_history.specs.Callers.{KnowsNothing, last_index, own};
+
+use joint_history::{Caller, Shared};
+use joint_model::{Act, GName, HNum, History, Kind, MNum, PNum, Reply, Sort, Thread, Var};
+use order_table::{Order, OrderName, Seat};
+use std::alloc::{AllocError, Global};
+use std::marker::Brand;
+use std::sync::Wait;
+use std::test::Fail;
+
+// What m1 does, a line after that of its last entry.
+fn managed<N: OrderName>(
+    rt: &impl Wait,
+    shared: &Shared<N>,
+    caller: &mut Caller<N>,
+    index: u32,
+    act: &Act,
+) -> Result<Reply, AllocError>
+    requires thread { caller.old.thread ≡ M 1 }
+    requires act { IsLine (M 1) act.now }
+    requires index { last_index (own caller.old) ≤ index }
+    ensures thread { caller.new.thread ≡ M 1 }
+    ensures index { last_index (own caller.new) ≤ index }
+{
+    Ok(shared.managed(rt, caller, index, act)?.reply)
+}
+
+// What p1 does.
+fn peer<N: OrderName>(
+    rt: &impl Wait,
+    shared: &Shared<N>,
+    caller: &mut Caller<N>,
+    index: u32,
+    act: &Act,
+) -> Result<Reply, AllocError>
+    requires thread { caller.old.thread ≡ P 1 }
+    requires act { IsLine (P 1) act.now × IsStepLine act.now }
+    requires index { last_index (own caller.old) ≤ index }
+    ensures thread { caller.new.thread ≡ P 1 }
+    ensures index { last_index (own caller.new) ≤ index }
+{
+    Ok(shared.peer(rt, caller, index, act)?.reply)
+}
+
+// Both threads in turn: m1 makes an object with a peer, sets its field to itself and drops it, and p1 makes a peer and names a handle on it.
+fn in_turn<N: OrderName>(
+    rt: &impl Wait,
+    alloc: Global,
+    shared: &Shared<N>,
+    one: &mut Caller<N>,
+    two: &mut Caller<N>,
+) -> Result<Vec<Reply>, AllocError>
+    requires threads { (one.old.thread ≡ M 1) × (two.old.thread ≡ P 1) }
+    requires indices { (last_index (own one.old) ≤ 1) × (last_index (own two.old) ≤ 2) }
+    ensures threads { (one.new.thread ≡ M 1) × (two.new.thread ≡ P 1) }
+{
+    let bridge = Act::Bridge {
+        v: Var(0),
+        kind: Kind::Bridge,
+        fields: 1,
+        sort: Sort::User,
+        peer_fields: 0,
+    };
+    let new = Act::NewPeer {
+        v: Var(0),
+        fields: 1,
+    };
+    let set = Act::Set {
+        v: Var(0),
+        i: 0,
+        w: Some(Var(0)),
+    };
+    let global = Act::Global {
+        g: GName(0),
+        v: Var(0),
+    };
+    let drop = Act::Drop { v: Var(0) };
+    let mut replies = Vec::new(alloc);
+    replies.push(managed(rt, shared, one, 1, &bridge)?)?;
+    replies.push(peer(rt, shared, two, 2, &new)?)?;
+    replies.push(managed(rt, shared, one, 3, &set)?)?;
+    replies.push(peer(rt, shared, two, 4, &global)?)?;
+    replies.push(managed(rt, shared, one, 5, &drop)?)?;
+    Ok(replies)
+}
+
+// The replies of all entries.
+fn replies_of(alloc: Global, history: &History) -> Result<Vec<Reply>, AllocError> {
+    let mut replies = Vec::new(alloc);
+    for i in 0..history.len() {
+        if let Some(entry) = history.entry(i) {
+            replies.push(entry.made.reply)?;
+        }
+    }
+    Ok(replies)
+}
+
+// The replies of the operations, and those of all entries; None where the desk gives a thread no caller.
+fn run<N: OrderName>(
+    rt: &impl Wait,
+    alloc: Global,
+    order: Order,
+    seat: Seat,
+) -> Result<Option<(Vec<Reply>, Vec<Reply>)>, AllocError>
+    requires order { order ≡ N.order }
+    requires seat { (seat.order ≡ N.order) × OwnsAll seat.view × KnowsNothing seat.view }
+{
+    let (shared, mut desk) = Shared::<N>::new(alloc, order, seat, 1, 1)?;
+    let Some(mut one) = desk.caller(Thread::M(1)) else {
+        return Ok(None);
+    };
+    let Some(mut two) = desk.caller(Thread::P(1)) else {
+        return Ok(None);
+    };
+    let told = in_turn(rt, alloc, &shared, &mut one, &mut two)?;
+    let callers = vec![in alloc; two, one]?;
+    let history = shared.finish(desk, callers)?;
+    let made = replies_of(alloc, &history)?;
+    Ok(Some((told, made)))
+}
+
+#[test]
+fn a_finished_history_has_the_events_of_both_threads(rt: HostRuntime) -> Result<(), Fail> {
+    let (order, seat) = Order::new(rt.alloc(), 1)?;
+    let ended = run::<Brand>(&rt, rt.alloc(), order, seat)?;
+    let object = Reply::M(MNum(1));
+    let peer = Reply::P(PNum(2));
+    let handle = Reply::H(HNum(2));
+    let pair = Reply::Made(PNum(1), HNum(1));
+    assert!(rt; ended.is_some());
+    if let Some((told, made)) = ended {
+        assert_eq!(rt;
+            told.as_slice(),
+            [object, peer, Reply::Ok, handle, Reply::Ok].as_slice()
+        );
+        assert_eq!(rt;
+            made.as_slice(),
+            [pair, object, peer, Reply::Ok, handle, Reply::Ok].as_slice()
+        );
+    }
+    Ok(())
+}
