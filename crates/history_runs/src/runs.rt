@@ -1,6 +1,6 @@
 // Runs of a managed and a peer thread.
 
-ghost use Rattle.std.specs.Prelude.{◌≡◌, ◌≤◌};
+ghost use Rattle.std.specs.Prelude.{◌≡◌, ◌≤◌, IfOk};
 ghost use Rattle.joint_model.specs.Lines.{IsLine};
 ghost use Rattle.joint_model.specs.declared.names.Thread.TheVariants.{M, P};
 ghost use Rattle.order_table.specs.Views.{OwnsAll};
@@ -8,7 +8,9 @@ ghost use Rattle.peer_side.specs.Steps.{IsStepLine};
 ghost use Rattle.joint_history.specs.Callers.{KnowsNothing, last_index, own};
 
 use joint_history::{Caller, Shared};
-use joint_model::{Act, GName, HNum, History, Kind, MNum, PNum, Reply, Sort, Thread, Var};
+use joint_model::{
+    Act, GName, HNum, History, Kind, MNum, PNum, Reply, Sort, StaticNo, Thread, Var,
+};
 use order_table::{Order, OrderName, Seat};
 use std::alloc::{AllocError, Global};
 use std::marker::Brand;
@@ -60,6 +62,7 @@ fn in_turn<N: OrderName>(
     requires threads { (one.old.thread ≡ M 1) × (two.old.thread ≡ P 1) }
     requires indices { (last_index (own one.old) ≤ 1) × (last_index (own two.old) ≤ 2) }
     ensures threads { (one.new.thread ≡ M 1) × (two.new.thread ≡ P 1) }
+    ensures indices { IfOk result (λ _. (last_index (own one.new) ≤ 5) × (last_index (own two.new) ≤ 4)) }
 {
     let bridge = Act::Bridge {
         v: Var(0),
@@ -91,6 +94,59 @@ fn in_turn<N: OrderName>(
     Ok(replies)
 }
 
+// An object's peer goes to the peer heap, where p1 loads it; m1 meets its own object there, and the handle of the meeting is released.
+fn across<N: OrderName>(
+    rt: &impl Wait,
+    shared: &Shared<N>,
+    one: &mut Caller<N>,
+    two: &mut Caller<N>,
+    replies: &mut Vec<Reply>,
+) -> Result<(), AllocError>
+    requires threads { (one.old.thread ≡ M 1) × (two.old.thread ≡ P 1) }
+    requires indices { (last_index (own one.old) ≤ 5) × (last_index (own two.old) ≤ 4) }
+    ensures threads { (one.new.thread ≡ M 1) × (two.new.thread ≡ P 1) }
+    ensures indices { IfOk result (λ _. (last_index (own one.new) ≤ 9) × (last_index (own two.new) ≤ 8)) }
+{
+    let (v, x) = (Var(1), StaticNo(0));
+    let bridge = Act::Bridge {
+        v,
+        kind: Kind::Bridge,
+        fields: 1,
+        sort: Sort::User,
+        peer_fields: 2,
+    };
+    let surface = Act::Surface { v: Var(2), x };
+    replies.push(managed(rt, shared, one, 6, &bridge)?)?;
+    replies.push(managed(rt, shared, one, 7, &Act::Pass { v, x })?)?;
+    replies.push(peer(rt, shared, two, 8, &Act::Load { v, x })?)?;
+    replies.push(managed(rt, shared, one, 9, &surface)?)?;
+    Ok(())
+}
+
+// m1 disposes of the object, which has no peer then, and meets its peer anew, as another object; p1 empties the static.
+fn given_up<N: OrderName>(
+    rt: &impl Wait,
+    shared: &Shared<N>,
+    one: &mut Caller<N>,
+    two: &mut Caller<N>,
+    replies: &mut Vec<Reply>,
+) -> Result<(), AllocError>
+    requires threads { (one.old.thread ≡ M 1) × (two.old.thread ≡ P 1) }
+    requires indices { (last_index (own one.old) ≤ 9) × (last_index (own two.old) ≤ 8) }
+    ensures threads { (one.new.thread ≡ M 1) × (two.new.thread ≡ P 1) }
+{
+    let (v, x) = (Var(2), StaticNo(0));
+    let surface = Act::Surface { v: Var(3), x };
+    let clear = Act::Store { x, v: None };
+    replies.push(managed(rt, shared, one, 10, &Act::Dispose { v })?)?;
+    replies.push(managed(rt, shared, one, 11, &surface)?)?;
+    replies.push(managed(rt, shared, one, 12, &Act::Pass { v, x })?)?;
+    replies.push(managed(rt, shared, one, 13, &Act::Take { v })?)?;
+    replies.push(peer(rt, shared, two, 14, &clear)?)?;
+    replies.push(managed(rt, shared, one, 15, &surface)?)?;
+    Ok(())
+}
+
 // The replies of all entries.
 fn replies_of(alloc: Global, history: &History) -> Result<Vec<Reply>, AllocError> {
     let mut replies = Vec::new(alloc);
@@ -119,31 +175,68 @@ fn run<N: OrderName>(
     let Some(mut two) = desk.caller(Thread::P(1)) else {
         return Ok(None);
     };
-    let told = in_turn(rt, alloc, &shared, &mut one, &mut two)?;
+    let mut told = in_turn(rt, alloc, &shared, &mut one, &mut two)?;
+    across(rt, &shared, &mut one, &mut two, &mut told)?;
+    given_up(rt, &shared, &mut one, &mut two, &mut told)?;
     let callers = vec![in alloc; two, one]?;
     let history = shared.finish(desk, callers)?;
     let made = replies_of(alloc, &history)?;
     Ok(Some((told, made)))
 }
 
+// The replies of the operations: those of both threads in turn, then those across, then those of what is given up.
+const TOLD: [Reply; 15] = [
+    Reply::M(MNum(1)),
+    Reply::P(PNum(2)),
+    Reply::Ok,
+    Reply::H(HNum(2)),
+    Reply::Ok,
+    Reply::M(MNum(2)),
+    Reply::P(PNum(3)),
+    Reply::P(PNum(3)),
+    Reply::Twin(MNum(2)),
+    Reply::H(HNum(3)),
+    Reply::New(MNum(3)),
+    Reply::Plain,
+    Reply::Empty,
+    Reply::Ok,
+    Reply::Null,
+];
+
+// The replies of their entries.
+const MADE: [Reply; 22] = [
+    Reply::Made(PNum(1), HNum(1)),
+    Reply::M(MNum(1)),
+    Reply::P(PNum(2)),
+    Reply::Ok,
+    Reply::H(HNum(2)),
+    Reply::Ok,
+    Reply::Made(PNum(3), HNum(3)),
+    Reply::M(MNum(2)),
+    Reply::H(HNum(3)),
+    Reply::P(PNum(3)),
+    Reply::P(PNum(3)),
+    Reply::Gripped(PNum(3), HNum(4), Sort::User, 2),
+    Reply::Twin(MNum(2)),
+    Reply::Ok,
+    Reply::H(HNum(3)),
+    Reply::Ok,
+    Reply::Gripped(PNum(3), HNum(5), Sort::User, 2),
+    Reply::New(MNum(3)),
+    Reply::Plain,
+    Reply::Empty,
+    Reply::Ok,
+    Reply::Null,
+];
+
 #[test]
 fn a_finished_history_has_the_events_of_both_threads(rt: HostRuntime) -> Result<(), Fail> {
     let (order, seat) = Order::new(rt.alloc(), 1)?;
     let ended = run::<Brand>(&rt, rt.alloc(), order, seat)?;
-    let object = Reply::M(MNum(1));
-    let peer = Reply::P(PNum(2));
-    let handle = Reply::H(HNum(2));
-    let pair = Reply::Made(PNum(1), HNum(1));
     assert!(rt; ended.is_some());
     if let Some((told, made)) = ended {
-        assert_eq!(rt;
-            told.as_slice(),
-            [object, peer, Reply::Ok, handle, Reply::Ok].as_slice()
-        );
-        assert_eq!(rt;
-            made.as_slice(),
-            [pair, object, peer, Reply::Ok, handle, Reply::Ok].as_slice()
-        );
+        assert_eq!(rt; told.as_slice(), TOLD.as_slice());
+        assert_eq!(rt; made.as_slice(), MADE.as_slice());
     }
     Ok(())
 }
