@@ -7,6 +7,7 @@ ghost use Rattle.joint_model.specs.declared.events.Op.TheVariants as op;
 ghost use Rattle.joint_model.specs.declared.events.Reply.TheVariants as says;
 ghost use Rattle.joint_model.specs.Sides.{peer_rules};
 ghost use Rattle.joint_model.specs.Told.{nothing};
+ghost use Rattle.peer_side.specs.Sides.{seen};
 ghost use Rattle.joint_history.specs.Callers.{HoldsPass};
 ghost use Rattle.joint_history.specs.Driven.{DriverMakesNone, driver_entry};
 ghost use Rattle.joint_history.specs.DriverMarks.{DrawsSweep, EndsFirst, HasBegunMarking, MakesBegin, MakesMark, MakesNoMark, MakesSweep, MayBeginMarking, MayEndMarking, MayMarkCycle};
@@ -34,7 +35,7 @@ fn draw_sweep(side: &mut PeerSide, order: &Order, seat: &mut Seat, index: u32) -
     requires open { IsSome side.old.state.marking }
     requires may { MayAppend order.now seat.old 1 C op.Sweep }
     requires entries { line_known seat.old.view 1 ≡ side.old.entries }
-    ensures { DrawsSweep order.now seat.old seat.new side.old side.new index result.0 result.1 }
+    ensures { DrawsSweep order.now seat.old seat.new (seen side.old) (seen side.new) index result.0 result.1 }
 {
     let mut drawing = Drawing {
         order,
@@ -58,8 +59,8 @@ fn draw_begin(
     requires closed { side.old.state.marking ≡ None }
     requires may { MayAppend order.now seat.old 1 C op.Begin }
     requires entries { line_known seat.old.view 1 ≡ side.old.entries }
-    ensures drew { IfOk result (λ r. Drew peer_rules 1 order.now seat.old seat.new side.old side.new (driver_entry r.0 index op.Begin (says.Mark r.1) None) nothing) }
-    ensures err { OnErr result ((seat.new ≡ seat.old) × (side.new ≡ side.old)) }
+    ensures drew { IfOk result (λ r. Drew peer_rules 1 order.now seat.old seat.new (seen side.old) (seen side.new) (driver_entry r.0 index op.Begin (says.Mark r.1) None) nothing) }
+    ensures err { OnErr result ((seat.new ≡ seat.old) × (seen side.new ≡ seen side.old)) }
 {
     let mut drawing = Drawing {
         order,

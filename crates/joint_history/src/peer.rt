@@ -7,6 +7,7 @@ ghost use Rattle.joint_model.specs.PeerReplay.{PeerAllows};
 ghost use Rattle.joint_model.specs.Sides.{peer_rules};
 ghost use Rattle.joint_model.specs.Told.{nothing};
 ghost use Rattle.order_table.specs.Views.{Owns};
+ghost use Rattle.peer_side.specs.Sides.{seen};
 ghost use Rattle.peer_side.specs.Steps.{IsPeerStep, IsRelease};
 ghost use Rattle.joint_history.specs.Callers.{HoldsPass, KnowsNothing};
 ghost use Rattle.joint_history.specs.Knowing.{line_known};
@@ -33,12 +34,13 @@ impl<N: OrderName> Model for LockedPeer<N> {
     ghost use Rattle.std.specs.Prelude.{◌≡◌};
     ghost use Rattle.order_table.specs.Views.{Owns};
     ghost use Rattle.joint_history.specs.Locked.{PeerKnows, UnderPeer};
+    ghost use Rattle.peer_side.specs.Sides.{seen};
 
     ghost Value = { UnderPeer };
 
-    ghost view = { λ l. record { side = l.side; view = l.seat.view } };
+    ghost view = { λ l. record { side = seen l.side; view = l.seat.view } };
 
-    ghost invariant = { λ l. (l.seat.order ≡ N.order) × Owns l.seat.view 1 × PeerKnows l.seat.view l.side };
+    ghost invariant = { λ l. (l.seat.order ≡ N.order) × Owns l.seat.view 1 × PeerKnows l.seat.view (seen l.side) };
 }
 
 // The side draws by the seat: what is said here is what that leaves in both, and nothing else.
@@ -55,9 +57,9 @@ fn draw_step(
     requires allowed { PeerAllows side.old.state caller op.now cites nothing }
     requires may { MayAppend order.now seat.old 1 caller op.now }
     requires entries { line_known seat.old.view 1 ≡ side.old.entries }
-    ensures drew { IfOk result (λ r. Drew peer_rules 1 order.now seat.old seat.new side.old side.new (numbered r.0 (made_by caller index op.now r.1 cites)) nothing) }
+    ensures drew { IfOk result (λ r. Drew peer_rules 1 order.now seat.old seat.new (seen side.old) (seen side.new) (numbered r.0 (made_by caller index op.now r.1 cites)) nothing) }
     ensures release { IsRelease op.now → IsOk result }
-    ensures err { OnErr result ((seat.new ≡ seat.old) × (side.new ≡ side.old)) }
+    ensures err { OnErr result ((seat.new ≡ seat.old) × (seen side.new ≡ seen side.old)) }
 {
     let mut drawing = Drawing {
         order,
@@ -85,9 +87,9 @@ impl<N: OrderName> LockedPeer<N> {
 
     /// The side and its seat.
     pub(crate) fn into_parts(self) -> (PeerSide, Seat)
-        ensures side { result.0 ≡ self.side }
+        ensures side { seen result.0 ≡ self.side }
         ensures seat { (result.1.order ≡ N.order) × (result.1.view ≡ self.view) × Owns result.1.view 1 }
-        ensures knows { PeerKnows result.1.view result.0 }
+        ensures knows { PeerKnows result.1.view (seen result.0) }
     {
         let LockedPeer { side, seat, of: _ } = self;
         (side, seat)

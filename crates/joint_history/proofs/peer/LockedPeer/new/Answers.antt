@@ -1,8 +1,7 @@
 use Rattle.std.proofs.Common.{ap}
-use Rattle.joint_model.specs.PeerReplay.{PeerReplay}
-use Rattle.joint_model.specs.Sides.{Side}
+use Rattle.peer_side.specs.Sides.{seen, PeerModel}
 use Rattle.joint_history.proofs.LockedSteps.{opening_peer_knows}
 use Rattle.joint_history.proofs.peer.LockedPeer.new.Goals as goal
 
 pub invariant_of-result : goal.invariant_of-result
-invariant_of-result g c = (c.requires.seat.0, c.requires.seat.1, opening_peer_knows c.args.seat.view c.in_ok-side.side c.requires.seat.2 (ap (λ (s : Side PeerReplay). s.entries) c.in_ok-side.ensures) (ap (λ (s : Side PeerReplay). s.state) c.in_ok-side.ensures))
+invariant_of-result g c = (c.requires.seat.0, c.requires.seat.1, opening_peer_knows c.args.seat.view (seen c.in_ok-side.side) c.requires.seat.2 (ap (λ (s : PeerModel). s.entries) c.in_ok-side.ensures) (ap (λ (s : PeerModel). s.state) c.in_ok-side.ensures))
