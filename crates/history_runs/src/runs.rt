@@ -9,7 +9,7 @@ ghost use Rattle.joint_history.specs.Callers.{KnowsNothing, last_index, own};
 
 use joint_history::{Caller, Shared};
 use joint_model::{
-    Act, GName, HNum, History, Kind, MNum, PNum, Reply, Sort, StaticNo, Thread, Var,
+    Act, Cell, GName, HNum, History, Kind, MNum, PNum, Reply, Sort, StaticNo, Thread, Var,
 };
 use order_table::{Order, OrderName, Seat};
 use std::alloc::{AllocError, Global};
@@ -134,6 +134,7 @@ fn given_up<N: OrderName>(
     requires threads { (one.old.thread ≡ M 1) × (two.old.thread ≡ P 1) }
     requires indices { (last_index (own one.old) ≤ 9) × (last_index (own two.old) ≤ 8) }
     ensures threads { (one.new.thread ≡ M 1) × (two.new.thread ≡ P 1) }
+    ensures indices { IfOk result (λ _. (last_index (own one.new) ≤ 15) × (last_index (own two.new) ≤ 14)) }
 {
     let (v, x) = (Var(2), StaticNo(0));
     let surface = Act::Surface { v: Var(3), x };
@@ -144,6 +145,69 @@ fn given_up<N: OrderName>(
     replies.push(managed(rt, shared, one, 13, &Act::Take { v })?)?;
     replies.push(peer(rt, shared, two, 14, &clear)?)?;
     replies.push(managed(rt, shared, one, 15, &surface)?)?;
+    Ok(())
+}
+
+// The other lines of p1.
+fn lines_of_p1<N: OrderName>(
+    rt: &impl Wait,
+    shared: &Shared<N>,
+    two: &mut Caller<N>,
+    replies: &mut Vec<Reply>,
+) -> Result<(), AllocError>
+    requires thread { two.old.thread ≡ P 1 }
+    requires index { last_index (own two.old) ≤ 16 }
+    ensures thread { two.new.thread ≡ P 1 }
+{
+    let (a, b, c, d) = (Var(0), Var(1), Var(2), Var(3));
+    let (g, h) = (GName(0), GName(1));
+    let set = Act::Set {
+        v: b,
+        i: 1,
+        w: Some(a),
+    };
+    let get = Act::Get { v: c, w: b, i: 1 };
+    replies.push(peer(rt, shared, two, 16, &set)?)?;
+    replies.push(peer(rt, shared, two, 17, &get)?)?;
+    replies.push(peer(rt, shared, two, 18, &Act::Copy { v: d, w: c })?)?;
+    replies.push(peer(rt, shared, two, 19, &Act::WGlobal { g: h, v: d })?)?;
+    replies.push(peer(rt, shared, two, 20, &Act::WRead { v: c, g: h })?)?;
+    replies.push(peer(rt, shared, two, 21, &Act::UnGlobal { g })?)?;
+    replies.push(peer(rt, shared, two, 22, &Act::WRead { v: c, g })?)?;
+    replies.push(peer(rt, shared, two, 23, &Act::Drop { v: a })?)?;
+    Ok(())
+}
+
+// The other lines of m1.
+fn lines_of_m1<N: OrderName>(
+    rt: &impl Wait,
+    shared: &Shared<N>,
+    one: &mut Caller<N>,
+    replies: &mut Vec<Reply>,
+) -> Result<(), AllocError>
+    requires thread { one.old.thread ≡ M 1 }
+    requires index { last_index (own one.old) ≤ 24 }
+    ensures thread { one.new.thread ≡ M 1 }
+{
+    let (a, b, d) = (Var(0), Var(1), Var(3));
+    let (x, k) = (StaticNo(0), Cell(0));
+    let new = Act::New {
+        v: a,
+        kind: Kind::Plain,
+        fields: 0,
+    };
+    let get = Act::Get { v: b, w: d, i: 0 };
+    let store = Act::Store { x, v: Some(a) };
+    replies.push(managed(rt, shared, one, 24, &new)?)?;
+    replies.push(managed(rt, shared, one, 25, &get)?)?;
+    replies.push(managed(rt, shared, one, 26, &store)?)?;
+    replies.push(managed(rt, shared, one, 27, &Act::Load { v: b, x })?)?;
+    replies.push(managed(rt, shared, one, 28, &Act::Weak { k, v: b })?)?;
+    replies.push(managed(rt, shared, one, 29, &Act::Read { k })?)?;
+    replies.push(managed(rt, shared, one, 30, &Act::Await { k })?)?;
+    replies.push(managed(rt, shared, one, 31, &Act::Take { v: b })?)?;
+    replies.push(managed(rt, shared, one, 32, &Act::Handle { v: d })?)?;
+    replies.push(managed(rt, shared, one, 33, &Act::Copy { v: a, w: d })?)?;
     Ok(())
 }
 
@@ -178,14 +242,17 @@ fn run<N: OrderName>(
     let mut told = in_turn(rt, alloc, &shared, &mut one, &mut two)?;
     across(rt, &shared, &mut one, &mut two, &mut told)?;
     given_up(rt, &shared, &mut one, &mut two, &mut told)?;
+    lines_of_p1(rt, &shared, &mut two, &mut told)?;
+    lines_of_m1(rt, &shared, &mut one, &mut told)?;
     let callers = vec![in alloc; two, one]?;
     let history = shared.finish(desk, callers)?;
     let made = replies_of(alloc, &history)?;
     Ok(Some((told, made)))
 }
 
-// The replies of the operations: those of both threads in turn, then those across, then those of what is given up.
-const TOLD: [Reply; 15] = [
+// The replies of the operations: those of both threads in turn, then those across, those of what is given up, and those of
+// further lines of each.
+const TOLD: [Reply; 33] = [
     Reply::M(MNum(1)),
     Reply::P(PNum(2)),
     Reply::Ok,
@@ -201,10 +268,28 @@ const TOLD: [Reply; 15] = [
     Reply::Empty,
     Reply::Ok,
     Reply::Null,
+    Reply::Ok,
+    Reply::P(PNum(2)),
+    Reply::P(PNum(2)),
+    Reply::H(HNum(6)),
+    Reply::P(PNum(2)),
+    Reply::Ok,
+    Reply::Unset,
+    Reply::Ok,
+    Reply::M(MNum(4)),
+    Reply::Null,
+    Reply::Ok,
+    Reply::M(MNum(4)),
+    Reply::Ok,
+    Reply::M(MNum(4)),
+    Reply::Pinned(MNum(4)),
+    Reply::M(MNum(4)),
+    Reply::H(HNum(5)),
+    Reply::M(MNum(3)),
 ];
 
 // The replies of their entries.
-const MADE: [Reply; 22] = [
+const MADE: [Reply; 40] = [
     Reply::Made(PNum(1), HNum(1)),
     Reply::M(MNum(1)),
     Reply::P(PNum(2)),
@@ -227,6 +312,24 @@ const MADE: [Reply; 22] = [
     Reply::Empty,
     Reply::Ok,
     Reply::Null,
+    Reply::Ok,
+    Reply::P(PNum(2)),
+    Reply::P(PNum(2)),
+    Reply::H(HNum(6)),
+    Reply::P(PNum(2)),
+    Reply::Ok,
+    Reply::Unset,
+    Reply::Ok,
+    Reply::M(MNum(4)),
+    Reply::Null,
+    Reply::Ok,
+    Reply::M(MNum(4)),
+    Reply::Ok,
+    Reply::M(MNum(4)),
+    Reply::Pinned(MNum(4)),
+    Reply::M(MNum(4)),
+    Reply::H(HNum(5)),
+    Reply::M(MNum(3)),
 ];
 
 #[test]

@@ -4,5 +4,5 @@ use Rattle.history_runs.proofs.runs.run.Goals as goal
 
 pub finish-requires-clause-all : goal.finish-requires-clause-all
 finish-requires-clause-all g c =
-    both_given c.in_ok-shared.desk c.caller.new.self c.caller-2.new.self c.caller.result c.caller-2.result c.in-Some.one c.in-Some-caller.two c.given_up.new.one c.given_up.new.two (M 1) (P 1) c.in_ok-callers.callers.items
-    c.in_ok-shared.ensures.all c.caller.ensures.all c.caller-2.ensures.all c.in-Some.is c.in-Some-caller.is c.in-Some.ensures.thread c.in-Some-caller.ensures.thread c.given_up.ensures.threads.0 c.given_up.ensures.threads.1 c.in_ok-callers.ensures.items
+    both_given c.in_ok-shared.desk c.caller.new.self c.caller-2.new.self c.caller.result c.caller-2.result c.in-Some.one c.in-Some-caller.two c.lines_of_m1.new.one c.lines_of_p1.new.two (M 1) (P 1) c.in_ok-callers.callers.items
+    c.in_ok-shared.ensures.all c.caller.ensures.all c.caller-2.ensures.all c.in-Some.is c.in-Some-caller.is c.in-Some.ensures.thread c.in-Some-caller.ensures.thread c.lines_of_m1.ensures.thread c.lines_of_p1.ensures.thread c.in_ok-callers.ensures.items
