@@ -1,4 +1,4 @@
-// A marking of five rows: row x leads to row x % 3 + 3 by its first field, and row 1 to row 2 by a reference.
+// A marking of five rows: the xth leads to the one at x % 3 + 3 by its first field, and the first to the second by a reference.
 
 ghost use Rattle.std.specs.Prelude.{◌≡◌, ◌+◌, ◌<◌, ◌%◌, [], ◌∷◌, Some, None, false, replicate};
 

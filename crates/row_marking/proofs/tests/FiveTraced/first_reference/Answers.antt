@@ -1,4 +1,4 @@
--- The one reference is row 1's.
+-- The one reference leads from the first row.
 use Rattle.std.proofs.Common.{refl, arith}
 use Rattle.row_marking.proofs.tests.FiveTraced.first_reference.Goals as goal
 
