@@ -2,7 +2,7 @@
 use Rattle.std.proofs.Common.{◌≡◌, ◌⊎◌, inl, inr, ⊎_elim, ℕ, ◌-◌, ◌<◌, ◌≤◌, List, [], ◌∷◌, ◌++◌, length, take, map, Some, None, refl, sym, ap, ◌∙◌, subst, arith}
 use Rattle.std.specs.Prelude.{Contains}
 use Rattle.std.proofs.lemmas.List.Elements.{Contains-push_cases}
-use Rattle.joint_history.specs.Ending.{AtRest, Gathered, GathersAll, IsIdle, Rests}
+use Rattle.joint_history.specs.Ending.{AtRest, Gathered, GathersAll, IsFinished, IsIdle, Rests}
 use Rattle.std.proofs.lemmas.List.{append-nil, append_assoc}
 use Rattle.joint_model.proofs.Members.{Contains-nil}
 use Rattle.joint_history.specs.Callers.{CallerKnows}
@@ -43,7 +43,7 @@ use Rattle.joint_history.specs.Knowing.{line_known}
 use Rattle.joint_history.specs.Callers.{HoldsPass}
 use Rattle.joint_history.proofs.Finishing.{lines_shuffle, shuffle_is_one}
 use Rattle.joint_history.proofs.KnownCallers.{own_line}
-use Rattle.joint_history.proofs.KnownViews.{views_join, whole_view_is_linked}
+use Rattle.joint_history.proofs.KnownViews.{views_join, whole_view_is_finished}
 use Rattle.joint_history.proofs.Standing.{widths}
 
 rests_so : (t : Thread) (a b : List Noted) → line (caller_line t) a ≡ line (caller_line t) b → Rests t (end_of b) → Rests t (end_of a)
@@ -119,7 +119,7 @@ all_rest v l r ts g all = record {
 -- and the history of both sides' lists is linked
 pub record Ends (l : Side ManagedReplay) (r : Side PeerReplay) (freed_managed : List MNum) (freed_peers : List PNum) (notices : List MNum) (w : List (List Entry)) (whole : List Entry) : Type 0 where
   pub joinable : IsJoinable w freed_managed freed_peers notices
-  pub linked : (h : Finished) → IsShuffle w h.entries → h.freed_managed ≡ freed_managed → h.freed_peers ≡ freed_peers → h.notices ≡ notices → IsLinked h × (h.entries ≡ whole)
+  pub finished : (h : Finished) → IsShuffle w h.entries → h.freed_managed ≡ freed_managed → h.freed_peers ≡ freed_peers → h.notices ≡ notices → IsFinished h × (h.entries ≡ whole)
 
 pub all_gathered : (v : View) (l : Side ManagedReplay) (r : Side PeerReplay) (ts : List Thread) (g : Gathered v l r ts) → ((t : Thread) → IsThread t → Contains ts t) → (w : AllKnown v.known) → (freed_managed : List MNum) (freed_peers : List PNum) (notices : List MNum)
     → managed_numbers freed_managed ≡ l.state.managed.heap.freed → peer_numbers freed_peers ≡ r.state.peers.heap.freed → managed_numbers notices ≡ l.state.managed.notices
@@ -135,7 +135,7 @@ all_gathered v l r ts g all w freed_managed freed_peers notices fm fp ns =
       freed_peers = fp ∙ ap (λ (p : PeerReplay). p.peers.heap.freed) (sym g.peer);
       notices = ap (λ ms. take s.managed.managed.taken ms) (ns ∙ ap (λ (m : ManagedReplay). m.managed.notices) (sym g.managed));
     } in
-    let is = whole_view_is_linked h v g.known w refl ended in
+    let is = whole_view_is_finished h v g.known w refl ended (ns ∙ ap (λ (m : ManagedReplay). m.managed.notices) (sym g.managed)) in
     let left : line_known v 0 ≡ entries_in 0 whole = ap line_entries (w.each 0 (omega arith)) ∙ told.lines 0 in
     let right : line_known v 1 ≡ entries_in 1 whole = ap line_entries (w.each 1 (omega arith)) ∙ told.lines 1 in
     let lists = known_lists_are_lawful g.known.past g.known.lawful in
@@ -143,9 +143,9 @@ all_gathered v l r ts g all w freed_managed freed_peers notices fm fp ns =
     let rise1 = subst (λ es. Rises (map (λ (e : Entry). e.number) es)) (sym (g.known.same 1) ∙ right) (lists.rise 1) in
     let shuffle = subst (λ a. IsShuffle (a ∷ r.entries ∷ []) whole) (sym left ∙ g.managed_entries) (subst (λ b. IsShuffle (entries_in 0 whole ∷ b ∷ []) whole) (sym right ∙ g.peer_entries) (lines_shuffle whole told.numbered rise0 rise1)) in
     record {
-      joinable = record { whole = whole; shuffle = shuffle; fits = (linked_is_history h is.noted is.linked).fits };
-      linked = λ k sh a b c. let same = shuffle_is_one (l.entries ∷ r.entries ∷ []) k.entries whole sh shuffle in
-          (subst IsLinked (λ i. record { entries = sym same i; freed_managed = sym a i; freed_peers = sym b i; notices = sym c i }) is, same);
+      joinable = record { whole = whole; shuffle = shuffle; fits = (linked_is_history h is.noted is.finished.linked).fits };
+      finished = λ k sh a b c. let same = shuffle_is_one (l.entries ∷ r.entries ∷ []) k.entries whole sh shuffle in
+          (subst IsFinished (λ i. record { entries = sym same i; freed_managed = sym a i; freed_peers = sym b i; notices = sym c i }) is, same);
     }
 
 -- who has gathered all threads' seats owns every line

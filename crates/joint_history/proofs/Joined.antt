@@ -19,7 +19,7 @@ use Rattle.order_table.specs.Rule.{IsWhole as AllKnown}
 use Rattle.order_table.specs.Views.{OwnsAll}
 use Rattle.joint_history.specs.Callers.{Pass}
 use Rattle.joint_history.specs.Desks.{Waiting}
-use Rattle.joint_history.specs.Ending.{AllAreIn, HasOwn, StillWaits, TakesOwn}
+use Rattle.joint_history.specs.Ending.{AllAreIn, HasOwn, IsFinished, StillWaits, TakesOwn}
 use Rattle.joint_history.specs.Knowing.{line_known}
 use Rattle.joint_history.proofs.Ended.{all_have_own, made_none}
 use Rattle.joint_history.proofs.Gathering.{Ends, all_gathered, owns_all}
@@ -30,6 +30,7 @@ owns_every y l r g = owns_all y l r g.threads g.gathered g.all
 -- what a finished run's result has
 pub record EndsRun {E : Type 0} (result : Result Finished E) (callers : List Pass) (d : Waiting) : Type 0 where
   pub linked : IfOk result (λ h. IsLinked h)
+  pub finished : IfOk result (λ h. IsFinished h)
   pub own : IfOk result (λ h. All (HasOwn h.entries) callers)
   pub none : IfOk result (λ h. (t : Thread) → IsThread t → StillWaits d t → made_by t h.entries ≡ [])
 
@@ -46,10 +47,11 @@ module _ (v y : View) (l : Side ManagedReplay) (r : Side PeerReplay) (g : AllAre
   pub run_ends : {E : Type 0} (result : Result Finished E) (callers others : List Pass) (d : Waiting) → IfOk result (λ h. IsShuffle (left ∷ right ∷ []) h.entries) → IfOk result (λ h. h.freed_managed ≡ freed_managed) → IfOk result (λ h. h.freed_peers ≡ freed_peers) → IfOk result (λ h. h.notices ≡ notices)
       → TakesOwn v y (callers ++ others) → ((t : Thread) → IsThread t → StillWaits d t → line_known y (caller_line t) ≡ []) → EndsRun result callers d
   run_ends (Ok h) callers others d shuffle a b c own waiting =
-      let e = ends.linked h shuffle a b c in
+      let e = ends.finished h shuffle a b c in
       record {
-        linked = e.0;
+        linked = record { noted = e.0.noted; linked = e.0.finished.linked };
+        finished = e.0;
         own = all_have_own v y g.gathered.known w h.entries e.1 callers others own;
         none = λ t is s. made_none y g.gathered.known w h.entries e.1 t is (waiting t is s);
       }
-  run_ends (Err x) callers others d shuffle a b c own waiting = record { linked = tt; own = tt; none = tt }
+  run_ends (Err x) callers others d shuffle a b c own waiting = record { linked = tt; finished = tt; own = tt; none = tt }

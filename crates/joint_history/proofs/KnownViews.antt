@@ -1,23 +1,27 @@
 -- What a seat knows stays a past.
 use Rattle.std.proofs.Common.{◌≡◌, ◌⊎◌, inl, inr, ⊎_elim, ℕ, ◌<◌, true, false, List, [], ◌∷◌, ◌++◌, refl, sym, ap, ◌∙◌, subst, arith}
-use Rattle.std.specs.Prelude.{if◌then◌else◌}
+use Rattle.std.specs.Prelude.{if◌then◌else◌, take}
 use Rattle.std.proofs.lemmas.Bool.{cases_Bool, cases_eq, both_ways}
 use mathlib.Core.List.{IsPrefix}
 use base.Growing.{prefix_trans}
 use Rattle.joint_model.specs.declared.events.Entry.{Entry}
+use Rattle.joint_model.specs.Histories.{Finished, managed_numbers, peer_numbers}
 use Rattle.joint_model.specs.HistoryLines.{caller_line, side_line, stands_in, entries_in}
-use Rattle.known_laws.specs.Growing.{AreJoined, AreBelow, Begin, grown}
+use Rattle.joint_model.specs.Linked.{Linkage, IsWhole as NothingFollows}
+use Rattle.known_laws.specs.Growing.{AreJoined, AreBelow, Begin, HasEnded, grown, turned}
 use Rattle.known_laws.proofs.Growing.{nothing_is_known, known_lines_grow, known_lines_join}
-use Rattle.known_laws.proofs.Ending.{known_whole_is_linked}
+use Rattle.known_laws.specs.Pasts.{end_of}
+use Rattle.known_laws.proofs.Ending.{known_whole_is_history, known_whole_is_linked}
 use Rattle.order_table.specs.declared.views.Kept.{Kept}
 use Rattle.order_table.specs.declared.views.View.{View}
 use Rattle.order_table.specs.Facts.{entries_of, line_entries}
-use Rattle.order_table.specs.Rule.{Item, IsBelow, of_line}
+use Rattle.order_table.specs.Rule.{Item, IsBelow, IsWhole, of_line}
 use Rattle.order_table.specs.Tells.{Grows, IsOneHistory}
 use Rattle.order_table.specs.Views.{IsInRole, known}
 use Rattle.order_table.proofs.Lines.{role_in, caller_in, in_cases}
 use Rattle.order_table.proofs.Wholes.{tell_lines}
 use Rattle.joint_model.specs.Draws.{NumberedFrom}
+use Rattle.joint_history.specs.Ending.{IsFinished}
 use Rattle.joint_history.specs.Knowing.{line_known, IsKnownView, note_of, FirstIsKnown, ViewsGrow, ViewsJoin, SameIsKnown, WholeViewIsLinked}
 
 -- the entries of lists
@@ -105,6 +109,32 @@ pub whole_view_is_linked : WholeViewIsLinked
 whole_view_is_linked h v a w same ended =
     let t = tell_lines w.whole w.numbers in
     known_whole_is_linked h (line_known v) a (subst (NumberedFrom 0) (sym same) t.numbered) (side 0 (omega arith)) (side 1 (omega arith)) ended
+  where
+    side : (i : ℕ) → i < 27 → line_known v i ≡ entries_in i h.entries
+    side i l = ap line_entries (w.each i l) ∙ ((tell_lines w.whole w.numbers).lines i ∙ ap (λ es. entries_in i es) (sym same))
+
+-- and where the history's list of notices is all that the past has queued, it has all that was ever queued
+pub whole_view_is_finished : (h : Finished) (v : View) (a : IsKnownView v) (w : IsWhole v.known) → h.entries ≡ entries_of w.whole → HasEnded h (end_of a.past)
+    → managed_numbers h.notices ≡ (end_of a.past).managed.managed.notices → IsFinished h
+whole_view_is_finished h v a w same ended queued =
+    let numbered = subst (NumberedFrom 0) (sym same) (tell_lines w.whole w.numbers).numbered in
+    let history = known_whole_is_history h.entries (line_known v) a numbered (side 0 (omega arith)) (side 1 (omega arith)) in
+    let back = sym history.ends in
+    record {
+      noted = turned [] a.past;
+      finished = record {
+        linked = record {
+          same = history.same;
+          numbers = numbered;
+          lawful = history.lawful;
+          whole = subst NothingFollows back ended.whole;
+          freed_managed = subst (λ (s : Linkage). managed_numbers h.freed_managed ≡ s.managed.managed.heap.freed) back ended.freed_managed;
+          freed_peers = subst (λ (s : Linkage). peer_numbers h.freed_peers ≡ s.peer.peers.heap.freed) back ended.freed_peers;
+          notices = subst (λ (s : Linkage). take s.managed.managed.taken (managed_numbers h.notices) ≡ take s.managed.managed.taken s.managed.managed.notices) back ended.notices;
+        };
+        queued = queued ∙ ap (λ (s : Linkage). s.managed.managed.notices) back;
+      };
+    }
   where
     side : (i : ℕ) → i < 27 → line_known v i ≡ entries_in i h.entries
     side i l = ap line_entries (w.each i l) ∙ ((tell_lines w.whole w.numbers).lines i ∙ ap (λ es. entries_in i es) (sym same))

@@ -3,12 +3,14 @@ use Rattle.std.specs.Prelude.{◌≡◌, ◌⊎◌, ℕ, List, ◌++◌, map, Co
 use Rattle.joint_model.specs.declared.names.Thread.{Thread}
 use Rattle.joint_model.specs.declared.names.Thread.TheVariants.{M, P, C}
 use Rattle.joint_model.specs.declared.events.Entry.{Entry}
+use Rattle.joint_model.specs.Histories.{Finished}
 use Rattle.joint_model.specs.Control.{idle, caller_place, doing_at, IsDone}
 use Rattle.joint_model.specs.HistoryLines.{caller_line}
-use Rattle.joint_model.specs.Linked.{Linkage}
+use Rattle.joint_model.specs.Linked.{Linkage, IsLinkedBy, HasQueued}
 use Rattle.joint_model.specs.ManagedReplay.{ManagedReplay}
 use Rattle.joint_model.specs.PeerReplay.{PeerReplay}
 use Rattle.joint_model.specs.Sides.{Side}
+use Rattle.joint_model.specs.Told.{Noted}
 use Rattle.known_laws.specs.Lists.{made_by}
 use Rattle.known_laws.specs.Pasts.{end_of}
 use Rattle.order_table.specs.declared.views.View.{View}
@@ -77,3 +79,13 @@ HasAll d ps = (t : Thread) → IsThread t → StillWaits d t ⊎ Contains (threa
 -- of the entries of a history just these were made by the caller
 abbrev pub HasOwn : List Entry → Pass → Type 0
 HasOwn entries p = made_by p.thread entries ≡ own p
+
+-- a history is linked by these notes, and its list of notices is all that was ever queued
+pub record IsFinishedBy (h : Finished) (noted : List Noted) : Type 0 where
+  pub linked : IsLinkedBy h noted
+  pub queued : HasQueued h noted
+
+-- so it is by some notes
+pub record IsFinished (h : Finished) : Type 0 where
+  pub noted : List Noted
+  pub finished : IsFinishedBy h noted

@@ -9,7 +9,7 @@ ghost use Rattle.order_table.specs.Views.{OwnsAll};
 ghost use Rattle.joint_history.specs.Callers.{Hears, KnowsNothing, Tells};
 ghost use Rattle.joint_history.specs.Desks.{AreAll};
 ghost use Rattle.joint_history.specs.Driven.{StillStands};
-ghost use Rattle.joint_history.specs.Ending.{HasAll, HasOwn, IsIdle, StillWaits};
+ghost use Rattle.joint_history.specs.Ending.{HasAll, HasOwn, IsFinished, IsIdle, StillWaits};
 
 use crate::callers::{Caller, tell};
 use crate::desks::Desk;
@@ -87,13 +87,15 @@ impl<N: OrderName> Shared<N> {
         tell(&self.order, from, to);
     }
 
-    /// Ends the run: one history of all entries, which is linked, and in which each caller has just the entries that it made. Each thread's
+    /// Ends the run: one history of all entries, which is linked, has all notices that were ever queued, and in which each caller has just the
+    /// entries that it made. Each thread's
     /// caller is still at the desk or is given back here, and the driver's is idle. Answers `AllocError` where there is no memory for the
     /// history.
     pub fn finish(self, desk: Desk<N>, callers: Vec<Caller<N>>) -> Result<History, AllocError>
         requires all { HasAll desk callers.items }
         requires idle { All IsIdle callers.items }
         ensures linked { IfOk result (λ h. IsLinked h) }
+        ensures finished { IfOk result (λ h. IsFinished h) }
         ensures own { IfOk result (λ h. All (HasOwn h.entries) callers.items) }
         ensures none { IfOk result (λ h. (t : Thread) → IsThread t → StillWaits desk t → made_by t h.entries ≡ []) }
     {
