@@ -13,7 +13,7 @@ ghost use Rattle.joint_model.specs.Walks.{Reached};
 ghost use Rattle.reachability.specs.Marks.{IsClosed, IsMarked};
 ghost use Rattle.row_heap.specs.Marks.{EdgeOf};
 ghost use Rattle.peer_side.specs.Marks.{AreMarksSame, MarksNew, MarksBrought, MarksAfter};
-ghost use Rattle.global_handles.specs.Rows.{row_in};
+ghost use Rattle.global_handles.specs.Rows.{row_in, target_in};
 ghost use Rattle.object_heap.specs.Done.{say};
 ghost use Rattle.peer_side.specs.Rows.{Answers, AreTargetsLive, GoesBy, issued_to, number_of, row_as, strength_as, no_rows, peers_in, with_rows};
 ghost use Rattle.peer_side.specs.Steps.{IsPeerStep, IsRelease, ReleasesTabled, room_for};
@@ -106,9 +106,10 @@ impl PeerRows {
         self.heap.into_freed()
     }
 
-    /// The handles: what the replay has as the row of a handle is the row here.
+    /// The handles: what the replay has as the row of a handle is the row here, and a handle leads here where it leads in the replay.
     pub(crate) fn handles(&self) -> &HandleTable
-        ensures { (h : ℕ) → row_of (with_rows opening_peer_replay self.now) h ≡ option_map row_as (row_in result.now.rows (record { 0 = h })) }
+        ensures rows { (h : ℕ) → row_of (with_rows opening_peer_replay self.now) h ≡ option_map row_as (row_in result.now.rows (record { 0 = h })) }
+        ensures targets { (h : HNum) → table_target (with_rows opening_peer_replay self.now) h.0 ≡ number_of (target_in result.now.rows h) }
     {
         &self.table
     }

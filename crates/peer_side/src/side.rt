@@ -2,15 +2,16 @@
 
 ghost use Rattle.std.specs.Prelude.{◌≡◌, ℕ, ◌+◌, ◌≤◌, ◌^◌, ◌⊎◌, None, IsSome, MatchBool, map, length, drop, true, IfErr, IfOk, IsOk, OnErr, OnOk};
 ghost use Rattle.std.specs.Option.{option_map};
+ghost use Rattle.joint_model.specs.declared.names.HNum.{HNum};
 ghost use Rattle.joint_model.specs.Draws.{AllBelow};
 ghost use Rattle.joint_model.specs.Histories.{peer_numbers};
 ghost use Rattle.joint_model.specs.Lines.{IsDriver, IsPeerThread};
-ghost use Rattle.joint_model.specs.PeerReplay.{PeerAllows, row_of};
+ghost use Rattle.joint_model.specs.PeerReplay.{PeerAllows, row_of, table_target};
 ghost use Rattle.joint_model.specs.Sides.{peer_rules, MayDraw, AddsInTurn, AddsLawful, IsReplayed};
 ghost use Rattle.joint_model.specs.Told.{nothing, sweep_of};
 ghost use Rattle.joint_laws.specs.PeerInvariants.{IsPeerKept};
-ghost use Rattle.global_handles.specs.Rows.{row_in};
-ghost use Rattle.peer_side.specs.Rows.{row_as};
+ghost use Rattle.global_handles.specs.Rows.{row_in, target_in};
+ghost use Rattle.peer_side.specs.Rows.{number_of, row_as};
 ghost use Rattle.peer_side.specs.Makings.{IsSideStep, MayDrawStep, MayStep, Passes, collect_makings, gone_since, step_makings};
 ghost use Rattle.peer_side.specs.Sides.{begins, ends, is_own, is_to_mark, opening_side, owed, reserve_begun, seen, IsEnded, IsFaultAt, IsMarkingOf, MayEnd};
 ghost use Rattle.peer_side.specs.Mirrors.{mirrors_begun, owes};
@@ -471,9 +472,10 @@ impl PeerSide {
         }
     }
 
-    /// The handles: what the state has as the row of a handle is the row here.
+    /// The handles: what the state has as the row of a handle is the row here, and a handle leads here where it leads in the state.
     pub fn handles(&self) -> &HandleTable
-        ensures { (h : ℕ) → row_of self.now.state h ≡ option_map row_as (row_in result.now.rows (record { 0 = h })) }
+        ensures rows { (h : ℕ) → row_of self.now.state h ≡ option_map row_as (row_in result.now.rows (record { 0 = h })) }
+        ensures targets { (h : HNum) → table_target self.now.state h.0 ≡ number_of (target_in result.now.rows h) }
     {
         self.rows.handles()
     }

@@ -1,0 +1,154 @@
+-- Restoring handles one after another: what may still be restored stays so.
+use Rattle.std.proofs.Common.{◌≡◌, ◌≢◌, ℕ, ◌+◌, ◌≤◌, inl, inr, Bool, true, false, List, [], ◌∷◌, ◌++◌, length, Option, Some, None, refl, sym, ap, subst, ◌∙◌, arith, append_assoc, append-nil, length-append, if◌then◌else◌, take, drop, get_or}
+use Rattle.std.specs.Prelude.{All, AllPairs}
+use Rattle.std.specs.Option.{option_to_list}
+use Rattle.std.proofs.lemmas.Option.{get_or_from_slice_get, slice_get_within}
+use Rattle.std.proofs.lemmas.List.Folds.{length-flat_map-take}
+use Rattle.std.proofs.lemmas.List.Elements.{All-contains, All-head, Contains-push_cases}
+use Rattle.joint_model.specs.declared.names.HNum.{HNum}
+use Rattle.joint_model.specs.declared.names.Thread.TheVariants.{C}
+use Rattle.joint_model.specs.declared.events.Op.TheVariants as op
+use Rattle.joint_model.specs.declared.events.Reply.TheVariants as says
+use Rattle.joint_model.specs.Heaps.{Answered, answer, numbered_at, numbered_set}
+use Rattle.joint_model.specs.Peers.{peer_of, strong}
+use Rattle.joint_model.specs.PeerReplay.{PeerReplay, TableRow, MayRestore, brought_handle, restored_by, row_of, with_restored}
+use Rattle.joint_model.specs.Sides.{Drawing, AddsInTurn, AddsLawful, MayDraw, peer_rules}
+use Rattle.joint_model.specs.Told.{nothing}
+use Rattle.joint_model.proofs.Members.{All-members, Contains-there}
+use Rattle.joint_model.proofs.Numbered.{numbered_set-other}
+use Rattle.global_handles.specs.declared.Back.{Back}
+use Rattle.peer_side.specs.Cycles.{restores}
+use Rattle.peer_side.specs.Sides.{PeerModel, seen}
+use Rattle.peer_side.proofs.Makings.{draws-on}
+use Rattle.handle_weaken.specs.Entries.{RestoresInTurn, back_of, restorings}
+use Rattle.handle_weaken.proofs.Turns.{apart-first, apart-rest, done-none, done-some, left-none, left-some, turn-more}
+use Rattle.bridge_graph.specs.declared.graph.Node.{Node}
+use Rattle.bridge_graph.specs.Handles.{handles_of}
+use Rattle.bridge_graph.specs.Parts.{HasNode}
+
+-- these handles are restored since a start, and these others may be
+pub record IsRestoring {D : Type 0} (d : Drawing D) (start now : D) (old new : PeerModel) (index : ℕ) (done rest : List HNum) (values later : List Bool) : Type 0 where
+  pub turns : RestoresInTurn d start now (seen old) (seen new) index done values later
+  pub reserve : new.reserve ≡ old.reserve
+  pub peers : new.state.peers ≡ old.state.peers
+  pub apart : AllPairs (λ h k. h.0 ≢ k.0) rest
+  pub restores : All (λ h. MayRestore new.state h.0) rest
+  pub may : All (λ h. MayDraw peer_rules d now (seen new) C (op.Restore h)) rest
+
+-- what a restore changes: its handle's place in the table, and the mirrored cycle; and where that marks, the open marking
+record IsRestoredAt (s t : PeerReplay) (h : ℕ) : Type 0 where
+  row : Option TableRow
+  table : t.table ≡ numbered_set s.table h row
+  mirror : t.mirror ≡ with_restored s.mirror h
+  peers : t.peers ≡ s.peers
+
+restored-at : (s : PeerReplay) (h : ℕ) (row : TableRow) → row_of s h ≡ Some row → IsRestoredAt s (restored_by s h (row_of s h)).state h
+restored-at s h row tabled = subst (λ o. IsRestoredAt s (restored_by s h o).state h) (sym tabled) (by row.cleared)
+  where
+    gone : PeerReplay
+    gone = record s { table = numbered_set s.table h None; mirror = with_restored s.mirror h }
+
+    again : PeerReplay
+    again = record s { table = numbered_set s.table h (Some (record row { strength = strong })); mirror = with_restored s.mirror h; marking = brought_handle s.marking (peer_of s.peers.issued h) }
+
+    by : (b : Bool) → IsRestoredAt s (let a : Answered PeerReplay = if b then answer says.Cleared gone else answer says.Alive again in a.state) h
+    by true = record { row = None; table = refl; mirror = refl; peers = refl }
+    by false = record { row = Some (record row { strength = strong }); table = refl; mirror = refl; peers = refl }
+
+-- peers stay
+pub restored-peers : (s t : PeerReplay) (h : ℕ) → t ≡ (restored_by s h (row_of s h)).state → MayRestore s h → t.peers ≡ s.peers
+restored-peers s t h is may = ap (λ (z : PeerReplay). z.peers) is ∙ (restored-at s h may.row may.tabled).peers
+
+-- a handle that may be restored may be so after another one was
+restores-on : (s t : PeerReplay) (h k : ℕ) → t ≡ (restored_by s h (row_of s h)).state → MayRestore s h → k ≢ h → MayRestore s k → MayRestore t k
+restores-on s t h k is first apart may =
+    let at : IsRestoredAt s t h = subst (λ z. IsRestoredAt s z h) (sym is) (restored-at s h first.row first.tabled) in
+    record {
+      mirror = record may.mirror { restored = may.mirror.restored ++ h ∷ [] };
+      stands = at.mirror ∙ ap (λ m. with_restored m h) may.stands;
+      weakened = may.weakened;
+      waiting = λ there. elim (Contains-push_cases may.mirror.restored h k there) [ inl old ↦ may.waiting old | inr new ↦ apart (sym new) ];
+      row = may.row;
+      tabled = ap (λ (o : Option (Option TableRow)). elim o [ None ↦ None | Some row ↦ row ]) (ap (λ l. numbered_at l k) at.table ∙ numbered_set-other s.table h k at.row apart) ∙ may.tabled;
+    }
+
+-- the entries that restore one more handle
+restorings-more : (index : ℕ) (hs : List HNum) (h : HNum) (bs : List Bool) (b : Bool) → length bs ≡ length hs → restorings index (hs ++ h ∷ []) (bs ++ b ∷ []) ≡ restorings index hs bs ++ record { made = restores index h (back_of b); told = nothing } ∷ []
+restorings-more index [] h [] b e = refl
+restorings-more index [] h (c ∷ bs) b e = absurd (omega (arith, e))
+restorings-more index (k ∷ hs) h [] b e = absurd (omega (arith, e))
+restorings-more index (k ∷ hs) h (c ∷ bs) b e = ap (λ ms. record { made = restores index k (back_of c); told = nothing } ∷ ms) (restorings-more index hs h bs b (omega (arith, e)))
+
+-- no handle is restored yet
+pub IsRestoring-none : {D : Type 0} (d : Drawing D) (draw : D) (model : PeerModel) (index : ℕ) (rest : List HNum) (values : List Bool) → AllPairs (λ h k. h.0 ≢ k.0) rest → All (λ h. MayRestore model.state h.0) rest → All (λ h. MayDraw peer_rules d draw (seen model) C (op.Restore h)) rest
+    → IsRestoring d draw draw model model index [] rest values values
+IsRestoring-none d draw model index rest values apart restores may = record {
+  turns = record { answers = []; each = refl; put = sym (append-nil values); adds = (refl, refl) };
+  reserve = refl;
+  peers = refl;
+  apart = apart;
+  restores = restores;
+  may = may;
+}
+
+-- one more handle is restored
+pub IsRestoring-next : {D : Type 0} (d : Drawing D) (start now next : D) (old new later : PeerModel) (index : ℕ) (h : HNum) (b : Bool) (done rest : List HNum) (values mid after : List Bool) → IsRestoring d start now old new index done (h ∷ rest) values mid
+    → AddsLawful peer_rules d now next (seen new) (seen later) (restores index h (back_of b)) nothing → later.reserve ≡ new.reserve → later.state.peers ≡ new.state.peers → after ≡ mid ++ b ∷ [] → IsRestoring d start next old later index (done ++ h ∷ []) rest values after
+IsRestoring-next d start now next old new later index h b done rest values mid after r adds reserve peers pushed =
+    let t = r.turns in
+    let first : MayRestore new.state h.0 = All-head (λ (k : HNum). MayRestore new.state k.0) h rest r.restores in
+    record {
+      turns = record {
+        answers = t.answers ++ b ∷ [];
+        each = omega (arith, t.each, length-append t.answers (b ∷ []), length-append done (h ∷ []));
+        put = pushed ∙ (ap (λ l. l ++ b ∷ []) t.put ∙ append_assoc values t.answers (b ∷ []));
+        adds = subst (AddsInTurn peer_rules d start next (seen old) (seen later)) (sym (restorings-more index done h t.answers b t.each))
+            (turn-more peer_rules d start now next (seen old) (seen new) (seen later) (restorings index done t.answers) (record { made = restores index h (back_of b); told = nothing }) t.adds adds);
+      };
+      reserve = reserve ∙ r.reserve;
+      peers = peers ∙ r.peers;
+      apart = apart-rest h rest r.apart;
+      restores = All-members (λ k. MayRestore later.state k.0) rest (λ k there. restores-on new.state later.state h.0 k.0 adds.goes.state first (apart-first h rest k r.apart there)
+          (All-contains (λ k. MayRestore new.state k.0) (h ∷ rest) k r.restores (Contains-there k h rest there)));
+      may = All-members (λ k. MayDraw peer_rules d next (seen later) C (op.Restore k)) rest (λ k there. draws-on d now next (seen new) (seen later) (restores index h (back_of b)) nothing C (op.Restore k) adds refl
+          (All-contains (λ k. MayDraw peer_rules d now (seen new) C (op.Restore k)) (h ∷ rest) k r.may (Contains-there k h rest there)));
+    }
+
+-- the nodes of a part, one after another
+module _ {D : Type 0} (d : Drawing D) (start now : D) (old new : PeerModel) (index : ℕ) (nodes : List Node) (i : ℕ) (values mid : List Bool) (r : IsRestoring d start now old new index (handles_of (take i nodes)) (handles_of (drop i nodes)) values mid) where
+  module _ (h : HNum) (at : HasNode nodes i (λ n. n.handle ≡ Some h)) where
+    -- the handle of the next bridge node may be restored
+    first : IsRestoring d start now old new index (handles_of (take i nodes)) (h ∷ handles_of (drop (i + 1) nodes)) values mid
+    first = subst (λ hs. IsRestoring d start now old new index (handles_of (take i nodes)) hs values mid) (left-some nodes i h at) r
+
+    pub next-restores : MayRestore new.state h.0
+    next-restores = All-head (λ (k : HNum). MayRestore new.state k.0) h (handles_of (drop (i + 1) nodes)) first.restores
+
+    pub next-may : MayDraw peer_rules d now (seen new) C (op.Restore h)
+    next-may = All-head (λ (k : HNum). MayDraw peer_rules d now (seen new) C (op.Restore k)) h (handles_of (drop (i + 1) nodes)) first.may
+
+    -- and is restored
+    pub IsRestoring-node : (next : D) (later : PeerModel) (back : Back) (b : Bool) (after : List Bool) → AddsLawful peer_rules d now next (seen new) (seen later) (restores index h back) nothing → back_of b ≡ back → later.reserve ≡ new.reserve → later.state.peers ≡ new.state.peers → after ≡ mid ++ b ∷ []
+        → IsRestoring d start next old later index (handles_of (take (i + 1) nodes)) (handles_of (drop (i + 1) nodes)) values after
+    IsRestoring-node next later back b after adds is reserve peers pushed = subst (λ hs. IsRestoring d start next old later index hs (handles_of (drop (i + 1) nodes)) values after) (sym (done-some nodes i h at))
+        (IsRestoring-next d start now next old new later index h b (handles_of (take i nodes)) (handles_of (drop (i + 1) nodes)) values mid after first (subst (λ k. AddsLawful peer_rules d now next (seen new) (seen later) (restores index h k) nothing) (sym is) adds) reserve peers pushed)
+
+  -- another node is passed
+  pub IsRestoring-passed : HasNode nodes i (λ n. n.handle ≡ None) → IsRestoring d start now old new index (handles_of (take (i + 1) nodes)) (handles_of (drop (i + 1) nodes)) values mid
+  IsRestoring-passed at =
+      subst (λ hs. IsRestoring d start now old new index hs (handles_of (drop (i + 1) nodes)) values mid) (sym (done-none nodes i at))
+      (subst (λ hs. IsRestoring d start now old new index (handles_of (take i nodes)) hs values mid) (left-none nodes i at) r)
+
+-- so many answers were put
+pub count-some : (nodes : List Node) (i : ℕ) (h : HNum) → HasNode nodes i (λ n. n.handle ≡ Some h) → length (handles_of (take (i + 1) nodes)) ≡ length (handles_of (take i nodes)) + 1
+count-some nodes i h at = ap length (done-some nodes i h at) ∙ length-append (handles_of (take i nodes)) (h ∷ [])
+
+pub count-none : (nodes : List Node) (i : ℕ) → HasNode nodes i (λ n. n.handle ≡ None) → length (handles_of (take (i + 1) nodes)) ≡ length (handles_of (take i nodes))
+count-none nodes i at = ap length (done-none nodes i at)
+
+-- and there is room for one more answer
+pub answers-room : (nodes : List Node) (i : ℕ) (h : HNum) → HasNode nodes i (λ n. n.handle ≡ Some h) → length (handles_of (take i nodes)) + 1 ≤ length (handles_of nodes)
+answers-room nodes i h at =
+    let here = get_or_from_slice_get nodes i at.0 at.0 at.1 in
+    let one : length (option_to_list (get_or nodes i at.0).handle) ≡ 1 = ap (λ (n : Node). length (option_to_list n.handle)) here ∙ ap (λ o. length (option_to_list o)) at.2 in
+    omega (arith, one, length-flat_map-take (λ (n : Node). option_to_list n.handle) nodes i at.0 (slice_get_within nodes i at.0 at.1))
