@@ -6,19 +6,24 @@ use mathlib.Core.List.{IsPrefix}
 use base.Growing.{prefix_refl}
 use Rattle.joint_model.specs.declared.names.Thread.TheVariants.{C}
 use Rattle.joint_model.specs.declared.events.Entry.{Entry}
+use Rattle.joint_model.specs.declared.names.Span.{Span}
 use Rattle.joint_model.specs.declared.events.Op.TheVariants as op
+use Rattle.joint_model.specs.declared.events.Reply.{Reply}
+use Rattle.joint_model.specs.declared.events.Reply.TheVariants as says
 use Rattle.joint_model.specs.Control.{idle, snapped}
 use Rattle.joint_model.specs.Cycles.{snap_reply}
 use Rattle.joint_model.specs.Managed.{Managed, OpenCycle}
 use Rattle.joint_model.specs.ManagedReplay.{ManagedReplay}
 use Rattle.joint_model.specs.Sides.{Side, managed_rules}
 use Rattle.joint_model.specs.Told.{snap_of}
+use Rattle.joint_laws.specs.ManagedInvariants.{IsManagedKept}
 use Rattle.known_laws.proofs.Conditions.{idle_is_closed}
+use Rattle.known_laws.proofs.KnownPasts.{known_past_is_kept}
 use Rattle.managed_side.specs.declared.opening.Opened.{Opened}
 use Rattle.order_table.specs.declared.views.View.{View}
 use Rattle.order_table.specs.Views.{OrderId, Shown, known, Owns}
 use Rattle.joint_history.specs.Callers.{HoldsPass}
-use Rattle.joint_history.specs.Driven.{DriverRests, DriverStands, driver_entry}
+use Rattle.joint_history.specs.Driven.{DriverMakes, DriverRests, DriverStands, driver_entry}
 use Rattle.joint_history.specs.DriverSnaps.{DrawsSnapshot, MakesSnapshot}
 use Rattle.joint_history.specs.Locked.{Drew, ManagedKnows}
 use Rattle.joint_history.specs.Passing.{Lends, Returns}
@@ -55,14 +60,16 @@ module _ (locked mine mine1 locked2 mine2 : View) (order : OrderId) (seat seat' 
   pub snapshot_made : (out : Opened) → DrawsSnapshot order seat seat' old new index out → MakesSnapshot mine mine2 index out
   snapshot_made out d m s =
       let w = (with_snapshot_of out d m s).driven in
+      let reply : says.Snapped out.candidates out.freed ≡ snap_reply old.state.managed d.freed d.candidates = rw (d.counted, d.span) refl in
       record {
         freed = d.freed;
         candidates = d.candidates;
         dead = d.dead;
-        span = record { first = length old.state.managed.heap.freed; count = length d.freed };
-        count = refl;
-        makes = w.makes;
+        counted = d.counted;
+        count = ap (λ (s : Span). s.count) d.span;
+        makes = subst (λ (r : Reply). DriverMakes mine mine2 idle m (driver_entry out.number index (op.Snap out.cycle) r None) (snap_of d.freed d.candidates d.dead)) (sym reply) w.makes;
         seen = new.state.managed;
+        kept = subst (λ (r : ManagedReplay). IsManagedKept r.managed) w.after (known_past_is_kept w.known.past w.known.lawful).kept.managed.managed;
         opened = ap (λ (r : ManagedReplay). r.managed.cycle) d.drew.goes.state ∙ ap (λ (k : ℕ). cycle_of k d.candidates d.dead) (sym d.cycle);
         graph = d.graph;
         stands = stands_anew mine mine2 old new index idle (snapped record { cycle = out.cycle.0; snap = out.number }) m (driver_entry out.number index (op.Snap out.cycle) (snap_reply old.state.managed d.freed d.candidates) None) (snap_of d.freed d.candidates d.dead) w refl;

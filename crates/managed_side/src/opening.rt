@@ -17,11 +17,14 @@ pub struct Pins {
     pub at: [Option<MNum>; 8],
 }
 
-/// What a snapshot answers: the cycle that it opened, the number of its entry, and the dead part.
+/// What a snapshot answers: the cycle that it opened, the number of its entry, how many candidates the cycle has, where the objects that it freed stand
+/// among all that were freed, and the dead part.
 #[derive(Drop)]
 pub struct Opened {
     pub cycle: Cycle,
     pub number: u64,
+    pub candidates: u32,
+    pub freed: Span,
     pub graph: DeadGraph,
 }
 
@@ -89,6 +92,8 @@ impl ManagedSide {
         Ok(Opened {
             cycle,
             number,
+            candidates: snap.candidates,
+            freed: span,
             graph: snap.graph,
         })
     }

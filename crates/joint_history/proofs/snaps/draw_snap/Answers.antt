@@ -24,5 +24,7 @@ returns-clause-drew c = if_ok_map _ _ c.snap.result c.snap.ensures.snaps (λ o w
       (last_same c.args.side.now.entries (numbered w.adds.draws.adds.number (snap_made c.args.side.now.state.managed c.args.index w.freed w.candidates)) (numbered o.number (snap_made c.args.side.now.state.managed c.args.index w.freed w.candidates)) (sym w.adds.draws.adds.added ∙ w.number));
   drew = (let a = w.adds in search rules);
   cycle = w.cycle;
+  counted = w.counted;
+  span = w.span;
   graph = w.graph;
 })

@@ -62,6 +62,8 @@ returns-clause-snaps g c =
       dead = t.dead;
       adds = adds-lawful (record { floor = g.D.Draw.floor; left = g.D.Draw.left; may = g.D.Draw.may; drew = g.D.Draw.drew }) c.args.draw.now c.enter-number.new.draw i.entries.entries c.enter-number.new.entries.entries i.rows c.snap.new.self (snap_made s c.args.index freed t.candidates) (snap_of freed t.candidates t.dead) c.deref.result.now draws refl (objects-numbers ms ∙ sym c.deref.ensures.value) goes;
       cycle = t.snapshot.next;
+      counted = t.counted;
+      span = rw (t.before, many) refl;
       number = number;
       graph = t.pictured;
     })
