@@ -1,4 +1,4 @@
-// A line of a report, put together in a fixed buffer: it takes no memory, so it can't fail.
+// A line of a report or another short text, put together in a fixed buffer: it takes no memory, so it can't fail.
 
 ghost use Rattle.std.specs.Prelude.{◌≡◌, ◌+◌, ◌≤◌, [], ◌∷◌, ◌++◌, length, codes, decimal};
 ghost use Rattle.bridge_script.specs.Drafts.{Adds, AddsWords};
@@ -14,7 +14,7 @@ use std::marker::Model;
 /// The bytes of the buffer: more than a line without its list has.
 const SIZE: usize = 512;
 
-/// A line that is put together.
+/// A line or a few that are put together, of at most 512 bytes in all. A call that puts something behind it asks for the room.
 #[derive(Drop)]
 pub struct Line {
     bytes: [u8; 512],

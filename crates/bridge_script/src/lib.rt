@@ -13,7 +13,8 @@
 // 3. `Script::line` gives the lines, counted from 1, to whoever runs them: each is a thread and an `Act` of
 //    `joint_model`, and lawful there. A worker calls `Turnstile::pass` before each.
 // 4. When all have run, `write_report` writes the report of the history, the whole of it or, where the sink
-//    fails, a beginning. It takes no memory: the sink gets the report in blocks from a fixed buffer.
+//    fails, a beginning. It takes no memory: the sink gets the report in blocks from a fixed buffer. Another short
+//    text is put together in a `Line`, a fixed buffer too, and written by `write_text`.
 //
 // `specs/Scripts.antt` says which bytes are a script's text and which line is the first faulty one, by the texts
 // that `specs/Words.antt` gives lines, and not by how they are read. `specs/Grammar.antt` has the table of all
@@ -42,6 +43,7 @@ mod scripts;
 mod tests;
 mod words;
 
+pub use drafts::Line;
 pub use faults::{Cause, ScriptError, ScriptFault};
 pub use laws::{lines_fit_table, texts_tell_scripts};
 pub use memory::{ByteSink, ByteSource, CountSink, PlainSource};
