@@ -1,0 +1,35 @@
+-- The mirror edges between nodes of a dead part, carried to the peers of their handles. (The Xamarin.Android documentation: a bridge collection adds
+-- references between the peers of a component and along cross-references.)
+use Rattle.std.specs.Prelude.{◌≡◌, ℕ, ◌-◌, List, [], length, map, All, true, Some, None}
+use Rattle.joint_model.specs.Components.{IsMember}
+use Rattle.joint_model.specs.Peers.{Issued, peer_of}
+use Rattle.joint_model.specs.PeerReplay.{PeerReplay, row_of}
+use Rattle.bridge_graph.specs.declared.graph.Node.{Node}
+use Rattle.bridge_graph.specs.Handles.{handle_at, handles_of}
+use Rattle.bridge_graph.specs.Parts.{IsBridge}
+use Rattle.peer_side.specs.Mirroring.{strong_row}
+use Rattle.peer_side.specs.Sides.{PeerModel, Reserve}
+
+-- the peer of the handle of the node with that index; 0 where there is none
+abbrev pub peer_of_node : List Issued → List Node → ℕ → ℕ
+peer_of_node issued nodes i = elim (handle_at nodes i) [ None ↦ 0 | Some h ↦ elim (peer_of issued h.0) [ None ↦ 0 | Some p ↦ p ] ]
+
+-- edges between nodes, carried to the peers of their handles
+abbrev pub carried_to_peers : List Issued → List Node → List (ℕ × ℕ) → List (ℕ × ℕ)
+carried_to_peers issued nodes edges = map (λ e. (peer_of_node issued nodes e.0, peer_of_node issued nodes e.1)) edges
+
+-- each member of a component is a bridge node
+abbrev pub AreBridgeNodes : List Node → List (List ℕ) → Type 0
+AreBridgeNodes nodes comps = (i x : ℕ) → IsMember comps i x → IsBridge nodes x
+
+-- each handle of a part is in the table and strong
+abbrev pub AreHandlesStrong : PeerReplay → List Node → Type 0
+AreHandlesStrong s nodes = All (λ h. row_of s h.0 ≡ Some strong_row) (handles_of nodes)
+
+-- these references wait, in the room that was taken for them
+abbrev pub with_pushed : PeerModel → List (ℕ × ℕ) → PeerModel
+with_pushed m refs = record m { reserve = record m.reserve { waiting = refs; refs = m.reserve.refs - length refs } }
+
+-- what is reserved once a cycle over so many handles is mirrored: its own, and nothing more
+abbrev pub reserve_installed : ℕ → Reserve
+reserve_installed handles = record { waiting = []; refs = 0; next = None; left = handles; marking = true }

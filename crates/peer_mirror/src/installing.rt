@@ -1,0 +1,115 @@
+// The references come to stand.
+
+ghost use Rattle.std.specs.Prelude.{◌≡◌, ℕ, ◌-◌, ◌≤◌, [], length, All, Contains, IfOk, OnErr, OnOk, Some, None};
+ghost use Rattle.joint_model.specs.Components.{IsMember, mirror_edges};
+ghost use Rattle.joint_model.specs.Heaps.{IsLive};
+ghost use Rattle.joint_model.specs.PeerReplay.{MayMirror, row_of};
+ghost use Rattle.joint_model.specs.Sides.{peer_rules, AddsLawful, MayDraw};
+ghost use Rattle.joint_model.specs.Told.{references_of};
+ghost use Rattle.bridge_graph.specs.Handles.{handles_of};
+ghost use Rattle.bridge_graph.specs.Parts.{IsBridge};
+ghost use Rattle.peer_side.specs.Cycles.{mirrors, reserve_pushed};
+ghost use Rattle.peer_side.specs.Mirroring.{strong_row};
+ghost use Rattle.peer_side.specs.Sides.{seen};
+ghost use Rattle.peer_mirror.specs.Carried.{carried_to_peers, peer_of_node, reserve_installed, with_pushed, AreBridgeNodes, AreHandlesStrong};
+
+use bridge_graph::DeadGraph;
+use joint_model::{Cycle, Draw, Op, PNum, Thread};
+use peer_side::PeerSide;
+use std::alloc::AllocError;
+use xref_list::Components;
+
+/// Mirrors a cycle's dead part: references come to stand between the peers of its handles, one for each mirror edge of its components, in their order,
+/// and no other. One entry is drawn and put last, and their number is answered. Each member of a component has to be a bridge node of the part, and each
+/// handle of the part strong.
+///
+/// All room is taken first, by one `reserve_refs` for these references, and for as many handles as the part has bridge nodes; so the cycle's weakenings,
+/// marking, restores and clear take none. Answers `AllocError`, with the side and the draw as before, where there is no memory. It takes time linear in
+/// nodes and references.
+pub fn install<D: Draw>(
+    side: &mut PeerSide,
+    draw: &mut D,
+    index: u32,
+    cycle: Cycle,
+    cites: u64,
+    graph: &DeadGraph,
+    comps: &Components,
+) -> Result<u32, AllocError>
+    requires members { AreBridgeNodes graph.now.nodes comps.now.comps }
+    requires strong_ones { AreHandlesStrong side.old.state graph.now.nodes }
+    requires none_waits { side.old.reserve.waiting ≡ [] }
+    requires mirrors { MayMirror side.old.state cycle.0 (Some cites) }
+    requires may { MayDraw peer_rules (record { floor = D.floor; left = D.left; may = D.may; drew = D.drew }) draw.old (seen side.old) Thread.C (Op.Mirror cycle) }
+    ensures adds { IfOk result (λ refs. AddsLawful peer_rules (record { floor = D.floor; left = D.left; may = D.may; drew = D.drew }) draw.old draw.new (seen side.old) (seen side.new) (mirrors index cycle refs cites) (references_of (carried_to_peers side.old.state.peers.issued graph.now.nodes (mirror_edges comps.now.comps comps.now.pairs)))) }
+    ensures number { IfOk result (λ refs. refs ≡ length (mirror_edges comps.now.comps comps.now.pairs)) }
+    ensures refs { OnOk result (side.new.state.refs ≡ carried_to_peers side.old.state.peers.issued graph.now.nodes (mirror_edges comps.now.comps comps.now.pairs)) }
+    ensures peers { side.new.state.peers ≡ side.old.state.peers }
+    ensures reserve { OnOk result (side.new.reserve ≡ reserve_installed (length (handles_of graph.now.nodes))) }
+    ensures err { OnErr result ((side.new ≡ side.old) × (draw.new ≡ draw.old)) }
+{
+    side.replays();
+    let _ = comps.len();
+    let handles = bridge_nodes(graph);
+    side.reserve_refs(comps.refs(), handles)?;
+    push_edges(side, graph, comps);
+    Ok(side.stand(draw, index, cycle, cites))
+}
+
+// How many bridge nodes a part has.
+fn bridge_nodes(graph: &DeadGraph) -> u32
+    ensures { result ≡ length (handles_of graph.now.nodes) }
+{
+    let mut count = 0;
+    for i in 0..graph.nodes() {
+        if let Some(_) = graph.handle(i) {
+            count += 1;
+        }
+    }
+    count
+}
+
+// A reference waits for each mirror edge. There is room for them.
+fn push_edges(side: &mut PeerSide, graph: &DeadGraph, comps: &Components)
+    requires members { AreBridgeNodes graph.now.nodes comps.now.comps }
+    requires strong_ones { AreHandlesStrong side.old.state graph.now.nodes }
+    requires closed { side.old.state.mirror ≡ None }
+    requires none_waits { side.old.reserve.waiting ≡ [] }
+    requires room { length (mirror_edges comps.now.comps comps.now.pairs) ≤ side.old.reserve.refs }
+    ensures { side.new ≡ with_pushed side.old (carried_to_peers side.old.state.peers.issued graph.now.nodes (mirror_edges comps.now.comps comps.now.pairs)) }
+{
+    let _ = comps.len();
+    for i in 0..comps.refs() {
+        push_edge(side, graph, comps.mirror_edge(i));
+    }
+}
+
+// A reference waits from the peer of one node's handle to that of another's.
+fn push_edge(side: &mut PeerSide, graph: &DeadGraph, edge: (u32, u32))
+    requires from { IsBridge graph.now.nodes edge.0 }
+    requires to { IsBridge graph.now.nodes edge.1 }
+    requires strong_ones { AreHandlesStrong side.old.state graph.now.nodes }
+    requires closed { side.old.state.mirror ≡ None }
+    requires room { 1 ≤ side.old.reserve.refs }
+    ensures { side.new ≡ record side.old { reserve = reserve_pushed side.old.reserve (peer_of_node side.old.state.peers.issued graph.now.nodes edge.0) (peer_of_node side.old.state.peers.issued graph.now.nodes edge.1) } }
+{
+    let from = peer_at(side, graph, edge.0);
+    let to = peer_at(side, graph, edge.1);
+    side.push_ref(from, to);
+}
+
+// The peer of a bridge node's handle.
+fn peer_at(side: &PeerSide, graph: &DeadGraph, i: u32) -> PNum
+    requires node { IsBridge graph.now.nodes i }
+    requires strong_ones { AreHandlesStrong side.now.state graph.now.nodes }
+    ensures peer { result.0 ≡ peer_of_node side.now.state.peers.issued graph.now.nodes i }
+    ensures live { IsLive side.now.state.peers.heap result.0 }
+{
+    side.replays();
+    let Some(h) = graph.handle(i) else {
+        unreachable!();
+    };
+    let Some(p) = side.handles().target(h) else {
+        unreachable!();
+    };
+    p
+}
