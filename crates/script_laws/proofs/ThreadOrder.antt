@@ -15,18 +15,18 @@ use Rattle.joint_laws.proofs.PeerEntries.{same_thread}
 use Rattle.script_laws.specs.Holding.{Standing, opening_standing, AreEvents, standing_after, AreOnLine, AreLine, AreLeft, HoldsLines, numbered_from, lines_of, entries_by}
 use Rattle.script_laws.specs.Laws.{LineOrderGivesThreadOrder}
 
-thread_itself : (t : Thread) → is_thread t t ≡ true
+pub thread_itself : (t : Thread) → is_thread t t ≡ true
 thread_itself (M n) = eq-eqb n n refl
 thread_itself (P n) = eq-eqb n n refl
 thread_itself C = refl
 
 -- a thread's entries among those of one line
-all-by : (number : ℕ) (t : Thread) (es : List Entry) → AreOnLine number t es → entries_by t es ≡ es
+pub all-by : (number : ℕ) (t : Thread) (es : List Entry) → AreOnLine number t es → entries_by t es ≡ es
 all-by number t [] a = refl
 all-by number t (e ∷ es) a =
     ap (λ b. if b then e ∷ entries_by t es else entries_by t es) (ap (is_thread t) a.0.caller ∙ thread_itself t) ∙ ap (λ l. e ∷ l) (all-by number t es a.1)
 
-none-by : (number : ℕ) (t u : Thread) (es : List Entry) → is_thread t u ≡ false → AreOnLine number u es → entries_by t es ≡ []
+pub none-by : (number : ℕ) (t u : Thread) (es : List Entry) → is_thread t u ≡ false → AreOnLine number u es → entries_by t es ≡ []
 none-by number t u [] n a = refl
 none-by number t u (e ∷ es) n a =
     ap (λ b. if b then e ∷ entries_by t es else entries_by t es) (ap (is_thread t) a.0.caller ∙ n) ∙ none-by number t u es n a.1
