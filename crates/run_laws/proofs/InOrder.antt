@@ -1,0 +1,218 @@
+-- Line after line. The driver's seat tells a caller all that it knows before the caller's line, and so the line's entries have numbers above
+-- all that was made; and it hears of them afterwards. What one line makes is its thread's own, so each caller keeps just its own entries of all that
+-- was made; and since a later line's numbers are all greater, numbers rise over all lines where they rise within each caller's.
+use Rattle.std.proofs.Common.{◌≡◌, ◌⊎◌, inl, inr, ⊎_elim, ℕ, ◌+◌, ◌<◌, true, false, List, [], ◌∷◌, ◌++◌, length, map, Some, refl, sym, ◌∙◌, ap, subst, arith, append_assoc}
+use Rattle.std.specs.Prelude.{All, Contains, if◌then◌else◌, slice_get, slice_set}
+use Rattle.std.proofs.lemmas.Bool.{cases_Bool}
+use Rattle.std.proofs.lemmas.List.{append-nil, map-append}
+use Rattle.std.proofs.lemmas.Option.{slice_get_within}
+use Rattle.std.proofs.lemmas.List.Elements.{Contains-append_cases, Contains-append_left, Contains-append_right, All-contains, filter-append}
+use mathlib.Core.List.{IsPrefix}
+use Rattle.joint_model.specs.declared.names.Thread.{Thread}
+use Rattle.joint_model.specs.declared.names.Thread.TheVariants.{C}
+use Rattle.joint_model.specs.declared.lines.Act.{Act}
+use Rattle.joint_model.specs.declared.events.Entry.{Entry}
+use Rattle.joint_model.specs.Components.{Rises}
+use Rattle.joint_model.specs.Control.{caller_place}
+use Rattle.joint_model.specs.HistoryLines.{caller_line}
+use Rattle.joint_model.specs.Lines.{IsThread}
+use Rattle.joint_model.specs.PeerReplay.{is_thread}
+use Rattle.joint_model.proofs.Joining.{same_or_not, slice_get-set_same, slice_get-set_other}
+use Rattle.joint_model.proofs.Members.{All-members, Contains-here, Contains-there, Contains-nil, Contains-cons_cases, Contains-map, Contains-map_cases}
+use Rattle.joint_laws.proofs.PeerEntries.{same_thread}
+use Rattle.bridge_script.proofs.Fitting.{lawful_thread}
+use Rattle.order_table.specs.declared.views.Kept.{Kept}
+use Rattle.order_table.specs.declared.views.View.{View}
+use Rattle.order_table.specs.Facts.{line_entries}
+use Rattle.order_table.specs.Rule.{IsBelow}
+use Rattle.order_table.specs.Views.{known}
+use Rattle.joint_history.specs.Callers.{Hears, Pass, Tells, own}
+use Rattle.joint_history.specs.Desks.{thread_of}
+use Rattle.joint_history.specs.Knowing.{line_known}
+use Rattle.joint_history.specs.Operations.{AreAbove, MakesAll}
+use Rattle.joint_history.proofs.Desking.{thread_is}
+use Rattle.script_laws.specs.Growing.{numbers_of}
+use Rattle.script_laws.specs.Holding.{Standing, opening_standing, standing_after, AreLine, AreOnLine, HoldsSoFar, entries_by}
+use Rattle.script_laws.proofs.Growing.{held_lines_grow}
+use Rattle.script_laws.proofs.ThreadOrder.{all-by, none-by}
+use Rattle.run_laws.proofs.ByThreads.{is-either}
+use Rattle.run_laws.specs.Serial.{Adds, ToldCallersAdd, DriversAdd, AreOthers, IsRunSoFar, NothingIsRun, OthersRunOn, DriverRunsOn}
+
+-- beginnings of lists
+prefix-then : {A : Type 0} (xs ys zs : List A) → IsPrefix xs ys → IsPrefix ys zs → IsPrefix xs zs
+prefix-then xs ys zs p q = (p.0 ++ q.0, sym (append_assoc xs p.0 q.0) ∙ (ap (λ l. l ++ q.0) p.1 ∙ q.1))
+
+prefix-map : {A B : Type 0} (f : A → B) (xs ys : List A) → IsPrefix xs ys → IsPrefix (map f xs) (map f ys)
+prefix-map f xs ys p = (map f p.0, sym (map-append f xs p.0) ∙ ap (map f) p.1)
+
+pub prefix-in : {A : Type 0} (xs ys : List A) (x : A) → IsPrefix xs ys → Contains xs x → Contains ys x
+prefix-in xs ys x p c = subst (λ l. Contains l x) p.1 (Contains-append_left xs p.0 x c)
+
+below-first : (n : ℕ) (xs ys : List Kept) → IsBelow n (xs ++ ys) → IsBelow n xs
+below-first n [] ys b = tt
+below-first n (x ∷ xs) ys b = (b.0, below-first n xs ys b.1)
+
+-- what is above more is above less
+above-less : (old new : View) (es : List Entry) → ((i : ℕ) → IsPrefix (known old i) (known new i)) → AreAbove new es → AreAbove old es
+above-less old new [] p a = tt
+above-less old new (e ∷ es) p a = (λ i. below-first e.number (known old i) (p i).0 (subst (IsBelow e.number) (sym (p i).1) (a.0 i)), above-less old new es p a.1)
+
+pub told_callers_add : ToldCallersAdd
+told_callers_add driver told heard before after ended left es tells hears same makes tells' hears' =
+    let line = caller_line before.thread in
+    let own_left : own left ≡ line_known ended.view (caller_line after.thread) = ap line_entries (tells'.same (caller_line left.thread)) ∙ ap (λ t. line_known ended.view (caller_line t)) (tells'.thread ∙ same) in
+    record {
+      more = λ i. subst (λ l. IsPrefix l (known heard.view i)) (tells.same i) (hears'.knew i);
+      above = above-less driver.view after.view es hears.heard makes.above;
+      own_more = own_left ∙ (makes.own_more ∙ ap (λ l. l ++ es) hears.own_stay);
+      heard = subst (λ l. IsPrefix l (line_known heard.view line)) (sym (own_left ∙ ap (λ t. line_known ended.view (caller_line t)) hears.thread)) (prefix-map (λ (k : Kept). k.entry) (known ended.view line) (known heard.view line) (hears'.heard line));
+    }
+
+pub drivers_add : DriversAdd
+drivers_add driver after es same makes =
+    let own_is : own after ≡ line_known after.view (caller_line driver.thread) = ap (λ t. line_known after.view (caller_line t)) same in
+    record {
+      more = makes.more;
+      above = makes.above;
+      own_more = own_is ∙ makes.own_more;
+      heard = ([], append-nil (own after) ∙ own_is);
+    }
+
+-- an entry that was made is below those that come above all that is known
+below-in : (n : ℕ) (ks : List Kept) (e : Entry) → IsBelow n ks → Contains (line_entries ks) e → e.number < n
+below-in n [] e b c = absurd (Contains-nil e c)
+below-in n (k ∷ ks) e b c = ⊎_elim (λ (q : k.entry ≡ e). subst (λ z. z.number < n) q b.0) (λ d. below-in n ks e b.1 d) (Contains-cons_cases k.entry (line_entries ks) e c)
+
+above-in : (v : View) (es : List Entry) (e f : Entry) (i : ℕ) → AreAbove v es → Contains (line_known v i) e → Contains es f → e.number < f.number
+above-in v [] e f i a c d = absurd (Contains-nil f d)
+above-in v (x ∷ es) e f i a c d = ⊎_elim (λ (q : x ≡ f). subst (λ z. e.number < z.number) q (below-in x.number (known v i) e (a.0 i) c)) (λ d'. above-in v es e f i a.1 c d') (Contains-cons_cases x es f d)
+
+-- lists that rise, and a list behind one with greater numbers
+rises-first : (xs ys : List Entry) → Rises (numbers_of (xs ++ ys)) → Rises (numbers_of xs)
+rises-first [] ys r = tt
+rises-first (x ∷ xs) ys r = (All-members (λ m. x.number < m) (numbers_of xs) (λ m c. All-contains (λ y. x.number < y) (numbers_of (xs ++ ys)) m r.0 (number-left xs ys m c)), rises-first xs ys r.1)
+  where
+    number-left : (xs ys : List Entry) (m : ℕ) → Contains (numbers_of xs) m → Contains (numbers_of (xs ++ ys)) m
+    number-left xs ys m c = let w = Contains-map_cases (λ (e : Entry). e.number) xs m c in subst (Contains (numbers_of (xs ++ ys))) w.2 (Contains-map (λ (e : Entry). e.number) (xs ++ ys) w.0 (Contains-append_left xs ys w.0 w.1))
+
+rises-last : (xs ys : List Entry) → Rises (numbers_of (xs ++ ys)) → Rises (numbers_of ys)
+rises-last [] ys r = r
+rises-last (x ∷ xs) ys r = rises-last xs ys r.1
+
+rises-both : (xs ys : List Entry) → Rises (numbers_of xs) → Rises (numbers_of ys) → ((e f : Entry) → Contains xs e → Contains ys f → e.number < f.number) → Rises (numbers_of (xs ++ ys))
+rises-both [] ys r q f = q
+rises-both (x ∷ xs) ys r q f = (
+  All-members (λ m. x.number < m) (numbers_of (xs ++ ys)) (λ m c.
+      let w = Contains-map_cases (λ (e : Entry). e.number) (xs ++ ys) m c in
+      subst (λ n. x.number < n) w.2 (⊎_elim
+      (λ d. All-contains (λ y. x.number < y) (numbers_of xs) w.0.number r.0 (Contains-map (λ (e : Entry). e.number) xs w.0 d))
+      (λ d. f x w.0 (Contains-here x xs) d)
+      (Contains-append_cases xs ys w.0 w.1))),
+  rises-both xs ys r.1 q (λ e g c d. f e g (Contains-there e x xs c) d),
+)
+
+-- a list of one thread's entries on one line
+by-one : (number : ℕ) (t : Thread) (es : List Entry) (e : Entry) → AreOnLine number t es → Contains es e → e.made.caller ≡ t
+by-one number t [] e a c = absurd (Contains-nil e c)
+by-one number t (x ∷ es) e a c = ⊎_elim (λ (q : x ≡ e). ap (λ (z : Entry). z.made.caller) (sym q) ∙ a.0.caller) (λ d. by-one number t es e a.1 d) (Contains-cons_cases x es e c)
+
+-- what each thread has of what was made, with a line of one thread more
+pub own-with : (number : ℕ) (t : Thread) (made es : List Entry) → AreOnLine number t es → entries_by t (made ++ es) ≡ entries_by t made ++ es
+own-with number t made es a = filter-append (λ e. is_thread t e.made.caller) made es ∙ ap (λ l. entries_by t made ++ l) (all-by number t es a)
+
+pub own-without : (number : ℕ) (t u : Thread) (made es : List Entry) → is_thread t u ≡ false → AreOnLine number u es → entries_by t (made ++ es) ≡ entries_by t made
+own-without number t u made es other a = filter-append (λ e. is_thread t e.made.caller) made es ∙ (ap (λ l. entries_by t made ++ l) (none-by number t u es other a) ∙ append-nil (entries_by t made))
+
+-- one thread's entries more, which are known now
+module _ (driver heard : View) (t : Thread) (mine mine' made es : List Entry) (number : ℕ) (a : Adds driver heard t mine mine' es) (on : AreOnLine number t es) where
+  pub heard-all : ((e : Entry) → Contains made e → Contains (line_known driver (caller_line e.made.caller)) e) → (e : Entry) → Contains (made ++ es) e → Contains (line_known heard (caller_line e.made.caller)) e
+  heard-all known_so e c = ⊎_elim
+      (λ d. prefix-in (line_known driver (caller_line e.made.caller)) (line_known heard (caller_line e.made.caller)) e
+      (prefix-map (λ (k : Kept). k.entry) (known driver (caller_line e.made.caller)) (known heard (caller_line e.made.caller)) (a.more (caller_line e.made.caller))) (known_so e d))
+      (λ d. subst (λ u. Contains (line_known heard (caller_line u)) e) (sym (by-one number t es e on d))
+      (prefix-in mine' (line_known heard (caller_line t)) e a.heard (subst (λ l. Contains l e) (sym a.own_more) (Contains-append_right mine es e d))))
+      (Contains-append_cases made es e c)
+
+  pub all-rise : ((e : Entry) → Contains made e → Contains (line_known driver (caller_line e.made.caller)) e) → (((u : Thread) → IsThread u → Rises (numbers_of (entries_by u made))) → Rises (numbers_of made))
+      → IsThread t → ((u : Thread) → IsThread u → Rises (numbers_of (entries_by u (made ++ es)))) → Rises (numbers_of (made ++ es))
+  all-rise known_so before is each =
+      rises-both made es
+      (before (λ u its. rises-first (entries_by u made) (entries_by u es) (subst (λ l. Rises (numbers_of l)) (filter-append (λ e. is_thread u e.made.caller) made es) (each u its))))
+      (rises-last (entries_by t made) es (subst (λ l. Rises (numbers_of l)) (own-with number t made es on) (each t is)))
+      (λ e f c d. above-in driver es e f (caller_line e.made.caller) a.above (known_so e c) d)
+
+  pub all-threads : IsThread t → ((e : Entry) → Contains made e → IsThread e.made.caller) → (e : Entry) → Contains (made ++ es) e → IsThread e.made.caller
+  all-threads is before e c = ⊎_elim (λ d. before e d) (λ d. subst IsThread (sym (by-one number t es e on d)) is) (Contains-append_cases made es e c)
+
+-- no two places have one thread, and none is the driver's
+other-place : (others : List Pass) (i j : ℕ) (p q : Pass) → AreOthers others → slice_get others i ≡ Some p → slice_get others j ≡ Some q → (j ≡ i → ⊥) → is_thread q.thread p.thread ≡ false
+other-place others i j p q k at_i at_j differ = ⊎_elim
+    (λ (e : is_thread q.thread p.thread ≡ true).
+    let l = slice_get_within others i p at_i in let m = slice_get_within others j q at_j in let n = k.count in
+    let a = (thread_is (i + 1) (omega (arith, l, n))).1 in
+    let b = (thread_is (j + 1) (omega (arith, m, n))).1 in
+    let same : thread_of (j + 1) ≡ thread_of (i + 1) = sym (k.each j q at_j) ∙ (same_thread q.thread p.thread e ∙ k.each i p at_i) in
+    absurd (differ (let c = sym b ∙ (ap caller_place same ∙ a) in omega (arith, c))))
+    (λ e. e)
+    (cases_Bool (is_thread q.thread p.thread))
+
+pub not-driver : (others : List Pass) (i : ℕ) (p : Pass) → AreOthers others → slice_get others i ≡ Some p → is_thread C p.thread ≡ false
+not-driver others i p k at = ⊎_elim
+    (λ (e : is_thread C p.thread ≡ true).
+    let l = slice_get_within others i p at in let n = k.count in
+    let a = (thread_is (i + 1) (omega (arith, l, n))).1 in
+    let same : C ≡ thread_of (i + 1) = same_thread C p.thread e ∙ k.each i p at in
+    absurd (let c = ap caller_place same ∙ a in omega (arith, c)))
+    (λ e. e)
+    (cases_Bool (is_thread C p.thread))
+
+pub is-other : (others : List Pass) (i : ℕ) (p : Pass) → AreOthers others → slice_get others i ≡ Some p → IsThread p.thread
+is-other others i p k at = let l = slice_get_within others i p at in let n = k.count in subst IsThread (sym (k.each i p at)) (thread_is (i + 1) (omega (arith, l, n))).0
+
+pub nothing_is_run : NothingIsRun
+nothing_is_run driver others is none each = record {
+  made = [];
+  holds = (refl, refl);
+  thread = is;
+  driven = none;
+  each = each;
+  callers = λ e c. absurd (Contains-nil e c);
+  heard = λ e c. absurd (Contains-nil e c);
+  rises = λ w. tt;
+}
+
+pub others_run_on : OthersRunOn
+others_run_on lines s driver heard others i p q number act es k at same still own_still adds line h = record {
+  made = h.made ++ es;
+  holds = held_lines_grow opening_standing s lines h.made h.holds (number, (p.thread, act)) es line;
+  thread = still ∙ h.thread;
+  driven = own_still ∙ (h.driven ∙ sym (own-without number C p.thread h.made es (not-driver others i p k at) line.places));
+  each = λ j r there. ⊎_elim
+      (λ (e : j ≡ i).
+      let l = slice_get_within others i p at in
+      let is : q ≡ r = some-same q r (sym (slice_get-set_same others i q l) ∙ subst (λ z. slice_get (slice_set others i q) z ≡ Some r) e there) in
+      subst (λ z. own z ≡ entries_by z.thread (h.made ++ es)) is
+      (adds.own_more ∙ (ap (λ l. l ++ es) (h.each i p at) ∙ (sym (own-with number p.thread h.made es line.places) ∙ ap (λ t. entries_by t (h.made ++ es)) (sym same)))))
+      (λ ne.
+      let old = sym (slice_get-set_other others i j q ne) ∙ there in
+      h.each j r old ∙ sym (own-without number r.thread p.thread h.made es (other-place others i j p r k at old ne) line.places))
+      (same_or_not j i);
+  callers = all-threads driver.view heard.view p.thread (own p) (own q) h.made es number adds line.places (is-other others i p k at) h.callers;
+  heard = heard-all driver.view heard.view p.thread (own p) (own q) h.made es number adds line.places h.heard;
+  rises = all-rise driver.view heard.view p.thread (own p) (own q) h.made es number adds line.places h.heard h.rises (is-other others i p k at);
+}
+  where
+    some-same : {A : Type 0} (x y : A) → Some x ≡ Some y → x ≡ y
+    some-same x y e = cc
+
+pub driver_runs_on : DriverRunsOn
+driver_runs_on lines s driver after others number act es k same adds line h = record {
+  made = h.made ++ es;
+  holds = held_lines_grow opening_standing s lines h.made h.holds (number, (C, act)) es line;
+  thread = same ∙ h.thread;
+  driven = adds.own_more ∙ (ap (λ l. l ++ es) h.driven ∙ sym (own-with number C h.made es line.places));
+  each = λ j r there. h.each j r there ∙ sym (own-without number r.thread C h.made es (is-either r.thread C ∙ not-driver others j r k there) line.places);
+  callers = all-threads driver.view after.view C (own driver) (own after) h.made es number adds line.places tt h.callers;
+  heard = heard-all driver.view after.view C (own driver) (own after) h.made es number adds line.places h.heard;
+  rises = all-rise driver.view after.view C (own driver) (own after) h.made es number adds line.places h.heard h.rises tt;
+}

@@ -1,0 +1,5 @@
+pub mod Lining
+pub mod ByThreads
+pub mod InOrder
+pub mod InOrderEnds
+pub mod Finals

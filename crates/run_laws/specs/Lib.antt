@@ -1,0 +1,4 @@
+pub mod Lines
+pub mod Threads
+pub mod Serial
+pub mod Final

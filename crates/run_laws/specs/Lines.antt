@@ -1,0 +1,16 @@
+-- The entries of one call are those of one line of a script.
+use Rattle.std.specs.Prelude.{◌≡◌, ℕ, List}
+use Rattle.joint_model.specs.declared.names.Thread.{Thread}
+use Rattle.joint_model.specs.declared.lines.Act.{Act}
+use Rattle.joint_model.specs.declared.events.Entry.{Entry}
+use Rattle.joint_history.specs.declared.callers.Receipt.{Receipt}
+use Rattle.joint_history.specs.Operations.{IsOperation, IsOperationOf}
+use Rattle.script_laws.specs.Holding.{Standing, standing_after, AreLine}
+
+-- the entries of a thread's operation are those of its line, wherever the driver stands
+abbrev pub OperationsAreLines : Type 0
+OperationsAreLines = (s : Standing) (t : Thread) (index : ℕ) (a : Act) (es : List Entry) (r : Receipt) → IsOperationOf t a → IsOperation t index a es r → AreLine s index (t, a) es
+
+-- and leave the driver where it stands
+abbrev pub OthersKeepStanding : Type 0
+OthersKeepStanding = (s : Standing) (t : Thread) (index : ℕ) (a : Act) (es : List Entry) → IsOperationOf t a → standing_after s index a es ≡ s

@@ -1,0 +1,41 @@
+// Laws on the runs of scripts, each the contract of a function that does nothing.
+
+ghost use Rattle.run_laws.specs.Final.{HeldByThreadsIsRun, HeldInOrderIsRun};
+ghost use Rattle.run_laws.specs.Lines.{OperationsAreLines, OthersKeepStanding};
+ghost use Rattle.run_laws.specs.Serial.{AllAreGiven, DriverRunsOn, DriversAdd, NothingIsRun, OthersRunOn, RunsHoldScript, ToldCallersAdd};
+ghost use Rattle.run_laws.specs.Threads.{OthersLinesPass, OwnLinesAdd, OwnLinesEnd, ThreadsHoldScript};
+
+/// The entries of a thread's operation are those of its line, and leave the driver where it stands.
+pub fn operations_are_lines()
+    ensures lines { OperationsAreLines }
+    ensures standing { OthersKeepStanding }
+{}
+
+/// Thread by thread: a caller that passes over the lines of others, and makes the entries of each of its own lines and at the end those of
+/// the phases left, holds its thread's lines. Where each caller that was given out does, and nobody else has a line, the finished history holds the
+/// script thread by thread.
+pub fn threads_hold_scripts()
+    ensures pass { OthersLinesPass }
+    ensures add { OwnLinesAdd }
+    ensures end { OwnLinesEnd }
+    ensures hold { ThreadsHoldScript }
+{}
+
+/// Line after line: where the driver's seat tells each line's caller what it knows and hears of its entries, the run holds a line more, and
+/// once all lines have been run and the phases left are made, the finished history holds the script in line order.
+pub fn runs_hold_scripts()
+    ensures told { ToldCallersAdd }
+    ensures driven { DriversAdd }
+    ensures first { NothingIsRun }
+    ensures others { OthersRunOn }
+    ensures driver { DriverRunsOn }
+    ensures hold { RunsHoldScript }
+    ensures given { AllAreGiven }
+{}
+
+/// A linked history with all notices that were queued, which holds the lines of a script, is the history of its run: in line order the only
+/// one, and thread by thread one of those that can be.
+pub fn held_scripts_are_runs()
+    ensures in_order { HeldInOrderIsRun }
+    ensures by_threads { HeldByThreadsIsRun }
+{}

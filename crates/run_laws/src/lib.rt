@@ -1,0 +1,18 @@
+// Laws of the run of a script over the shared bridge: that what the callers of a run have made is the script, and what its history is then.
+//
+// A run gives each line to its thread's caller. A call promises its own entries, and that their numbers are above all that the caller
+// knew; `finish` of the shared bridge promises a linked history in which each caller has just its own. The laws say how these promises add up:
+//
+// - thread by thread each caller holds its own lines, so the history holds each thread's lines in their order, whatever came between;
+// - line after line, where each line's caller is told of all entries before, the history holds all lines in their order;
+// - such a history is a run of the one machine whose graph joins both heaps, sound and complete, in which each cycle ends; and line after line it
+//   is the only history of its script.
+//
+// `specs/` read alone tells what is true: Lines first, then Threads and Serial, and last Final, which says what a finished run's history is.
+#![tactic(auto)]
+
+mod laws;
+
+pub use laws::{
+    held_scripts_are_runs, operations_are_lines, runs_hold_scripts, threads_hold_scripts,
+};
