@@ -14,6 +14,7 @@ pub mod DeadParts
 pub mod DriverSteps
 pub mod DriverPeerSteps
 pub mod DriverMarks
+pub mod DriverHandles
 pub mod DriverCallers
 pub mod DriverCalls
 pub mod DriverSnaps

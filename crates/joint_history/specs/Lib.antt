@@ -9,3 +9,4 @@ pub mod Driven
 pub mod DriverDraws
 pub mod DriverSnaps
 pub mod DriverMarks
+pub mod DriverHandles

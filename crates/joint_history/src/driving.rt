@@ -5,13 +5,15 @@ ghost use Rattle.std.specs.Prelude.{◌≡◌, ◌≤◌, IfErr, IfOk, OnErr, co
 ghost use Rattle.joint_model.specs.Lines.{IsDriver};
 ghost use Rattle.joint_model.specs.Listed.{answers_of};
 ghost use Rattle.joint_history.specs.Driven.{DriverMakesNone, DriverRests, MakesAbandon, MakesContraction, MakesFinalise, MakesRefusal, MakesResolution, MayAbandonCycle, MayContractCycle, MayFinalise, MayRefuseWord, MayResolveCycle};
+ghost use Rattle.joint_history.specs.DriverHandles.{MakesClear, MakesRestore, MayClearCycle, MayRestoreHandle};
 ghost use Rattle.joint_history.specs.DriverMarks.{HasBegunMarking, MakesMark, MakesNoMark, MakesSweep, MayMarkCycle};
 ghost use Rattle.joint_history.specs.DriverSnaps.{MakesSnapshot};
 
 use crate::callers::Caller;
 use crate::marks::Begun;
 use crate::shared::Shared;
-use joint_model::{Alive, Phase, PhaseWord, Reply};
+use global_handles::Back;
+use joint_model::{Alive, Cycle, HNum, Phase, PhaseWord, Reply};
 use managed_side::{Opened, ResolveOut, SnapFault};
 use order_table::OrderName;
 use peer_side::Swept;
@@ -165,5 +167,43 @@ impl<N: OrderName> Shared<N> {
         self.peers
             .lock(rt)
             .sweep(&self.order, &mut driver.seat, index)
+    }
+
+    /// The driver restores the handle of the next candidate of its cycle: it is strong again, or it left the table since its peer was freed. Answers the
+    /// entry's number and which. It takes no memory.
+    pub fn restore(
+        &self,
+        rt: &impl Wait,
+        driver: &mut Caller<N>,
+        index: u32,
+        h: HNum,
+    ) -> (u64, Back)
+        requires driver { IsDriver driver.old.thread }
+        requires may { MayRestoreHandle driver.old.view index h.0 }
+        ensures thread { driver.new.thread ≡ driver.old.thread }
+        ensures makes { MakesRestore driver.old.view driver.new.view index h result.1 result.0 }
+    {
+        self.peers
+            .lock(rt)
+            .restore(&self.order, &mut driver.seat, index, h)
+    }
+
+    /// The driver clears the references of its cycle, all of whose handles are restored: no reference is mirrored any more. Answers the entry's number,
+    /// which the cycle's resolve cites. It takes no memory.
+    pub fn clear(
+        &self,
+        rt: &impl Wait,
+        driver: &mut Caller<N>,
+        index: u32,
+        cycle: Cycle,
+    ) -> u64
+        requires driver { IsDriver driver.old.thread }
+        requires may { MayClearCycle driver.old.view index cycle.0 }
+        ensures thread { driver.new.thread ≡ driver.old.thread }
+        ensures makes { MakesClear driver.old.view driver.new.view index cycle result }
+    {
+        self.peers
+            .lock(rt)
+            .clear(&self.order, &mut driver.seat, index, cycle)
     }
 }

@@ -12,6 +12,7 @@ mod desks;
 mod driven;
 mod driving;
 mod gathers;
+mod handles;
 mod laws;
 mod managed;
 mod marks;

@@ -1,0 +1,105 @@
+-- The driver's calls on the handles of its mirrored cycle: what each asks of the side under the peer lock holds by where the driver stands, since the
+-- candidates' handles are those that its seat has seen; and what each leaves the driver with.
+use Rattle.std.proofs.Common.{◌≡◌, ℕ, ◌<◌, ◌^◌, List, length, Option, Some, None, refl, sym, ap, ◌∙◌, subst}
+use Rattle.std.specs.Prelude.{Contains}
+use Rattle.std.proofs.lemmas.Option.{same_Some, slice_get_within}
+use Rattle.joint_model.specs.declared.names.Cycle.{Cycle}
+use Rattle.joint_model.specs.declared.names.HNum.{HNum}
+use Rattle.joint_model.specs.declared.names.Thread.TheVariants.{C}
+use Rattle.joint_model.specs.declared.events.Op.TheVariants as op
+use Rattle.joint_model.specs.declared.events.Reply.TheVariants as says
+use Rattle.joint_model.specs.Control.{Opened, restoring, candidates_of, IsCandidateHandle, MayClearNow, MayRestoreNow}
+use Rattle.joint_model.specs.Heaps.{numbered_at}
+use Rattle.joint_model.specs.Linked.{Linkage}
+use Rattle.joint_model.specs.Managed.{Managed}
+use Rattle.joint_model.specs.PeerReplay.{PeerReplay, TableRow, Mirror, row_of, MayClear, MayRestore}
+use Rattle.joint_model.specs.Peers.{strong}
+use Rattle.joint_model.specs.Sides.{Side, peer_rules}
+use Rattle.joint_model.specs.Told.{Answer, said_alive, nothing}
+use Rattle.joint_laws.specs.LinkedInvariants.{HasStrength}
+use Rattle.joint_laws.proofs.PeerEntries.{peer_of-issued}
+use Rattle.known_laws.specs.Driving.{IsMirrorOf, MirrorFits, IsPastKept}
+use Rattle.known_laws.proofs.Conditions.{all_may_be_cleared, next_may_be_restored, targets_are_strong}
+use Rattle.global_handles.specs.declared.Back.{Back}
+use Rattle.peer_side.specs.Cycles.{reply_of}
+use Rattle.peer_side.specs.Mirroring.{strong_row}
+use Rattle.peer_side.specs.Mirrors.{AreTargetsRestored}
+use Rattle.order_table.specs.declared.views.View.{View}
+use Rattle.order_table.specs.Views.{OrderId, Shown, Owns}
+use Rattle.joint_history.specs.Callers.{HoldsPass}
+use Rattle.joint_history.specs.Driven.{DriverStands, driver_entry}
+use Rattle.joint_history.specs.DriverHandles.{MakesClear, MakesRestore, MayClearCycle, MayRestoreHandle}
+use Rattle.joint_history.specs.Locked.{Drew, PeerKnows}
+use Rattle.joint_history.specs.Passing.{Lends, Returns}
+use Rattle.joint_history.proofs.DeadParts.{candidate_handle_on, count_same}
+use Rattle.joint_history.proofs.DriverPeerSteps.{DrivenUnderPeers, IsUnderPeers, driven_peers}
+
+-- `restore`
+candidate_here : (side : PeerReplay) (o : Opened) (answers : List Answer) (h : ℕ) (seen : Managed) (u : IsUnderPeers side (restoring o answers) seen) → IsCandidateHandle seen (length answers) h → IsCandidateHandle u.state.managed.managed (length answers) h
+candidate_here side o answers h seen u cand = candidate_handle_on seen u.state.managed.managed u.dead u.kept.kept.managed.managed (length answers) h cand
+
+pub may_restore : (side : PeerReplay) (o : Opened) (answers : List Answer) (h : ℕ) (seen : Managed) → IsUnderPeers side (restoring o answers) seen → IsCandidateHandle seen (length answers) h → MayRestore side h
+may_restore side o answers h seen u cand = subst (λ (s : PeerReplay). MayRestore s h) u.peer (next_may_be_restored u.state u.kept o answers h u.stood (candidate_here side o answers h seen u cand))
+
+restore_allowed : (side : PeerReplay) (o : Opened) (answers : List Answer) (h : ℕ) (seen : Managed) (u : IsUnderPeers side (restoring o answers) seen) → IsCandidateHandle seen (length answers) h → MayRestoreNow (restoring o answers) u.state.managed.managed h None
+restore_allowed side o answers h seen u cand = (refl, candidate_here side o answers h seen u cand)
+
+-- `clear`
+pub may_clear : (side : PeerReplay) (o : Opened) (answers : List Answer) (k : ℕ) (seen : Managed) → IsUnderPeers side (restoring o answers) seen → length answers ≡ length (candidates_of seen) → o.cycle ≡ k → MayClear side k
+may_clear side o answers k seen u all same = subst (MayClear side) same (subst (λ (s : PeerReplay). MayClear s o.cycle) u.peer
+    (all_may_be_cleared u.state u.kept o answers u.stood (all ∙ count_same seen u.state.managed.managed u.dead)))
+
+clear_allowed : (side : PeerReplay) (o : Opened) (answers : List Answer) (k : ℕ) (seen : Managed) (u : IsUnderPeers side (restoring o answers) seen) → length answers ≡ length (candidates_of seen) → o.cycle ≡ k → MayClearNow (restoring o answers) (length (candidates_of u.state.managed.managed)) k None
+clear_allowed side o answers k seen u all same = (refl, all ∙ count_same seen u.state.managed.managed u.dead, same)
+
+-- a strong row of the table isn't cleared
+row_there : (s : Linkage) (h : ℕ) → IsPastKept s → HasStrength s.peer h strong → row_of s.peer h ≡ Some strong_row
+row_there s h k st =
+    let sure = k.kept.peer.handles.sure h st.0 st.1 st.2 in
+    tabled s.peer st.0 st.1 ∙ ap Some (λ i. record { strength = st.2 i; cleared = sure i })
+  where
+    tabled : (r : PeerReplay) (row : TableRow) → numbered_at r.table h ≡ Some (Some row) → row_of r h ≡ Some row
+    tabled r row e = ap (λ (o : Option (Option TableRow)). elim o [ None ↦ None | Some x ↦ x ]) e
+
+-- each unfreed peer that a reference leads to is restored strong, as the side asks
+targets_here : (s : Linkage) → IsPastKept s → (o : Opened) (answers : List Answer) → s.control.stand ≡ restoring o answers → length answers ≡ length (candidates_of s.managed.managed) → AreTargetsRestored s.peer
+targets_here s k o answers e all m is p q r =
+    let w : IsMirrorOf s.managed s.peer o (length (candidates_of s.managed.managed)) (length answers) = subst (MirrorFits s.managed s.peer) e k.mirror in
+    let t = targets_are_strong s k o answers e all p q r.reference r.there in
+    record {
+      handle = t.handle;
+      restored = subst (λ (z : Mirror). Contains z.restored t.handle) (same_Some w.mirror m (sym w.stands ∙ is)) ((w.back t.handle).1 (t.place, slice_get_within answers t.place said_alive t.alive, t.candidate));
+      strong_now = row_there s t.handle k t.strong_one;
+      peer = peer_of-issued s.peer.peers.issued t.handle t.row t.is_issued ∙ ap Some t.leads;
+    }
+
+pub targets_restored : (side : PeerReplay) (o : Opened) (answers : List Answer) (seen : Managed) → IsUnderPeers side (restoring o answers) seen → length answers ≡ length (candidates_of seen) → AreTargetsRestored side
+targets_restored side o answers seen u all = subst AreTargetsRestored u.peer (targets_here u.state u.kept o answers u.stood (all ∙ count_same seen u.state.managed.managed u.dead))
+
+-- after a draw under the lock
+module _ (locked mine mine1 locked2 mine2 : View) (order : OrderId) (seat seat' : Shown) (old new : Side PeerReplay) (index : ℕ) (pass : HoldsPass C mine) (owns : Owns locked 1) (short : index < 2 ^ 32) (ks : PeerKnows locked old) (l : Lends C locked mine seat.view mine1) (b : Returns C seat'.view mine1 locked2 mine2) where
+  -- the restore
+  with_restore : (n : ℕ) (h : HNum) (back : Back) → Drew peer_rules 1 order seat seat' old new (driver_entry n index (op.Restore h) (reply_of back) None) nothing → (o : Opened) (answers : List Answer) (m : Managed) → DriverStands mine index (restoring o answers) m
+      → IsCandidateHandle m (length answers) h.0 → DrivenUnderPeers mine locked2 mine2 old new index (restoring o answers) m (driver_entry n index (op.Restore h) (reply_of back) None) nothing
+  with_restore n h back d o answers m s cand =
+      driven_peers locked mine mine1 locked2 mine2 order seat seat' old new index (restoring o answers) m (driver_entry n index (op.Restore h) (reply_of back) None) nothing pass owns refl refl short ks s
+      (λ u. restore_allowed old.state o answers h.0 m u cand) l d b
+
+  pub restore_made : (n : ℕ) (h : HNum) (back : Back) → Drew peer_rules 1 order seat seat' old new (driver_entry n index (op.Restore h) (reply_of back) None) nothing → MakesRestore mine mine2 index h back n
+  restore_made n h back d o answers m s cand = let w = (with_restore n h back d o answers m s cand).driven in (w.makes, w.stands)
+
+  pub restore_knows : (n : ℕ) (h : HNum) (back : Back) → Drew peer_rules 1 order seat seat' old new (driver_entry n index (op.Restore h) (reply_of back) None) nothing → MayRestoreHandle mine index h.0 → PeerKnows locked2 new
+  restore_knows n h back d w = (with_restore n h back d w.opened w.answers w.seen w.stands w.next).knows
+
+  -- the clear
+  with_clear : (n : ℕ) (k : Cycle) → Drew peer_rules 1 order seat seat' old new (driver_entry n index (op.Clear k) says.Ok None) nothing → (o : Opened) (answers : List Answer) (m : Managed) → DriverStands mine index (restoring o answers) m
+      → length answers ≡ length (candidates_of m) → o.cycle ≡ k.0 → DrivenUnderPeers mine locked2 mine2 old new index (restoring o answers) m (driver_entry n index (op.Clear k) says.Ok None) nothing
+  with_clear n k d o answers m s all same =
+      driven_peers locked mine mine1 locked2 mine2 order seat seat' old new index (restoring o answers) m (driver_entry n index (op.Clear k) says.Ok None) nothing pass owns refl refl short ks s
+      (λ u. clear_allowed old.state o answers k.0 m u all same) l d b
+
+  pub clear_made : (n : ℕ) (k : Cycle) → Drew peer_rules 1 order seat seat' old new (driver_entry n index (op.Clear k) says.Ok None) nothing → MakesClear mine mine2 index k n
+  clear_made n k d o answers m s all same = let w = (with_clear n k d o answers m s all same).driven in (w.makes, w.stands)
+
+  pub clear_knows : (n : ℕ) (k : Cycle) → Drew peer_rules 1 order seat seat' old new (driver_entry n index (op.Clear k) says.Ok None) nothing → MayClearCycle mine index k.0 → PeerKnows locked2 new
+  clear_knows n k d w = (with_clear n k d w.opened w.answers w.seen w.stands w.all w.same).knows

@@ -1,0 +1,118 @@
+// The driver's calls on the handles of its mirrored cycle, under the peer lock. Each makes one entry and takes no memory.
+
+ghost use Rattle.std.specs.Prelude.{◌≡◌, None};
+ghost use Rattle.joint_model.specs.declared.names.Thread.TheVariants.{C};
+ghost use Rattle.joint_model.specs.declared.events.Op.TheVariants as op;
+ghost use Rattle.joint_model.specs.declared.events.Reply.TheVariants as says;
+ghost use Rattle.joint_model.specs.PeerReplay.{MayClear, MayRestore};
+ghost use Rattle.joint_model.specs.Sides.{peer_rules};
+ghost use Rattle.joint_model.specs.Told.{nothing};
+ghost use Rattle.peer_side.specs.Cycles.{reply_of};
+ghost use Rattle.peer_side.specs.Mirrors.{AreTargetsRestored};
+ghost use Rattle.peer_side.specs.Sides.{seen};
+ghost use Rattle.joint_history.specs.Callers.{HoldsPass};
+ghost use Rattle.joint_history.specs.Driven.{driver_entry};
+ghost use Rattle.joint_history.specs.DriverHandles.{MakesClear, MakesRestore, MayClearCycle, MayRestoreHandle};
+ghost use Rattle.joint_history.specs.Knowing.{line_known};
+ghost use Rattle.joint_history.specs.Locked.{Drew};
+ghost use Rattle.joint_history.specs.Passing.{MayAppend};
+
+use crate::peer::LockedPeer;
+use crate::seats::{Drawing, give_back, lend};
+use global_handles::Back;
+use joint_model::{Cycle, HNum, Thread};
+use order_table::{Order, OrderName, Role, Seat};
+use peer_side::PeerSide;
+
+// The side draws the restore of a handle by the seat.
+fn draw_restore(
+    side: &mut PeerSide,
+    order: &Order,
+    seat: &mut Seat,
+    index: u32,
+    h: HNum,
+) -> (u64, Back)
+    requires restores { MayRestore side.old.state h.0 }
+    requires may { MayAppend order.now seat.old 1 C (op.Restore h) }
+    requires entries { line_known seat.old.view 1 ≡ side.old.entries }
+    ensures { Drew peer_rules 1 order.now seat.old seat.new (seen side.old) (seen side.new) (driver_entry result.0 index (op.Restore h) (reply_of result.1) None) nothing }
+{
+    let mut drawing = Drawing {
+        order,
+        seat,
+        role: Role::Peer,
+        last: 0,
+    };
+    let back = side.restore(&mut drawing, index, h);
+    (drawing.last, back)
+}
+
+// The side draws the clear of the mirrored references by the seat.
+fn draw_clear(
+    side: &mut PeerSide,
+    order: &Order,
+    seat: &mut Seat,
+    index: u32,
+    cycle: Cycle,
+) -> u64
+    requires clears { MayClear side.old.state cycle.0 }
+    requires targets { AreTargetsRestored side.old.state }
+    requires may { MayAppend order.now seat.old 1 C (op.Clear cycle) }
+    requires entries { line_known seat.old.view 1 ≡ side.old.entries }
+    ensures { Drew peer_rules 1 order.now seat.old seat.new (seen side.old) (seen side.new) (driver_entry result index (op.Clear cycle) says.Ok None) nothing }
+{
+    let mut drawing = Drawing {
+        order,
+        seat,
+        role: Role::Peer,
+        last: 0,
+    };
+    side.clear_refs(&mut drawing, index, cycle);
+    drawing.last
+}
+
+impl<N: OrderName> LockedPeer<N> {
+    /// Restores the handle of the next candidate of the driver's cycle: it is strong again, or it left the table since its peer was freed. Answers the
+    /// entry's number and which. `mine` is the driver's seat, which knows the entry then. It takes no memory.
+    pub(crate) fn restore(
+        &mut self,
+        order: &Order,
+        mine: &mut Seat,
+        index: u32,
+        h: HNum,
+    ) -> (u64, Back)
+        requires order { (order.now ≡ N.order) × (mine.old.order ≡ N.order) }
+        requires pass { HoldsPass C mine.old.view }
+        requires may { MayRestoreHandle mine.old.view index h.0 }
+        ensures order { mine.new.order ≡ N.order }
+        ensures pass { HoldsPass C mine.new.view }
+        ensures makes { MakesRestore mine.old.view mine.new.view index h result.1 result.0 }
+    {
+        lend(order, &mut self.seat, mine, Thread::C);
+        let made = draw_restore(&mut self.side, order, &mut self.seat, index, h);
+        give_back(order, &mut self.seat, mine, Thread::C);
+        made
+    }
+
+    /// Clears the references of the driver's cycle, all of whose handles are restored. Answers the entry's number. `mine` is the driver's seat, which
+    /// knows the entry then. It takes no memory.
+    pub(crate) fn clear(
+        &mut self,
+        order: &Order,
+        mine: &mut Seat,
+        index: u32,
+        cycle: Cycle,
+    ) -> u64
+        requires order { (order.now ≡ N.order) × (mine.old.order ≡ N.order) }
+        requires pass { HoldsPass C mine.old.view }
+        requires may { MayClearCycle mine.old.view index cycle.0 }
+        ensures order { mine.new.order ≡ N.order }
+        ensures pass { HoldsPass C mine.new.view }
+        ensures makes { MakesClear mine.old.view mine.new.view index cycle result }
+    {
+        lend(order, &mut self.seat, mine, Thread::C);
+        let made = draw_clear(&mut self.side, order, &mut self.seat, index, cycle);
+        give_back(order, &mut self.seat, mine, Thread::C);
+        made
+    }
+}
