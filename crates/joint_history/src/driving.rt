@@ -190,13 +190,7 @@ impl<N: OrderName> Shared<N> {
 
     /// The driver clears the references of its cycle, all of whose handles are restored: no reference is mirrored any more. Answers the entry's number,
     /// which the cycle's resolve cites. It takes no memory.
-    pub fn clear(
-        &self,
-        rt: &impl Wait,
-        driver: &mut Caller<N>,
-        index: u32,
-        cycle: Cycle,
-    ) -> u64
+    pub fn clear(&self, rt: &impl Wait, driver: &mut Caller<N>, index: u32, cycle: Cycle) -> u64
         requires driver { IsDriver driver.old.thread }
         requires may { MayClearCycle driver.old.view index cycle.0 }
         ensures thread { driver.new.thread ≡ driver.old.thread }
