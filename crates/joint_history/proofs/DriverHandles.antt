@@ -1,6 +1,6 @@
 -- The driver's calls on the handles of its mirrored cycle: what each asks of the side under the peer lock holds by where the driver stands, since the
 -- candidates' handles are those that its seat has seen; and what each leaves the driver with.
-use Rattle.std.proofs.Common.{◌≡◌, ℕ, ◌<◌, ◌^◌, List, length, Option, Some, None, refl, sym, ap, ◌∙◌, subst}
+use Rattle.std.proofs.Common.{◌≡◌, ℕ, ◌<◌, ◌^◌, Bool, false, List, length, Option, Some, None, refl, sym, ap, ◌∙◌, subst}
 use Rattle.std.specs.Prelude.{Contains}
 use Rattle.std.proofs.lemmas.Option.{same_Some, slice_get_within}
 use Rattle.joint_model.specs.declared.names.Cycle.{Cycle}
@@ -8,18 +8,18 @@ use Rattle.joint_model.specs.declared.names.HNum.{HNum}
 use Rattle.joint_model.specs.declared.names.Thread.TheVariants.{C}
 use Rattle.joint_model.specs.declared.events.Op.TheVariants as op
 use Rattle.joint_model.specs.declared.events.Reply.TheVariants as says
-use Rattle.joint_model.specs.Control.{Opened, restoring, candidates_of, IsCandidateHandle, MayClearNow, MayRestoreNow}
+use Rattle.joint_model.specs.Control.{Opened, weakening, restoring, candidates_of, IsCandidateHandle, MayClearNow, MayRestoreNow, MayWeakenNow}
 use Rattle.joint_model.specs.Heaps.{numbered_at}
 use Rattle.joint_model.specs.Linked.{Linkage}
 use Rattle.joint_model.specs.Managed.{Managed}
-use Rattle.joint_model.specs.PeerReplay.{PeerReplay, TableRow, Mirror, row_of, MayClear, MayRestore}
+use Rattle.joint_model.specs.PeerReplay.{PeerReplay, TableRow, Mirror, row_of, MayClear, MayRestore, MayWeaken}
 use Rattle.joint_model.specs.Peers.{strong}
 use Rattle.joint_model.specs.Sides.{Side, peer_rules}
 use Rattle.joint_model.specs.Told.{Answer, said_alive, nothing}
 use Rattle.joint_laws.specs.LinkedInvariants.{HasStrength}
 use Rattle.joint_laws.proofs.PeerEntries.{peer_of-issued}
 use Rattle.known_laws.specs.Driving.{IsMirrorOf, MirrorFits, IsPastKept}
-use Rattle.known_laws.proofs.Conditions.{all_may_be_cleared, next_may_be_restored, targets_are_strong}
+use Rattle.known_laws.proofs.Conditions.{all_may_be_cleared, next_may_be_restored, next_may_be_weakened, targets_are_strong}
 use Rattle.global_handles.specs.declared.Back.{Back}
 use Rattle.peer_side.specs.Cycles.{reply_of}
 use Rattle.peer_side.specs.Mirroring.{strong_row}
@@ -28,11 +28,19 @@ use Rattle.order_table.specs.declared.views.View.{View}
 use Rattle.order_table.specs.Views.{OrderId, Shown, Owns}
 use Rattle.joint_history.specs.Callers.{HoldsPass}
 use Rattle.joint_history.specs.Driven.{DriverStands, driver_entry}
-use Rattle.joint_history.specs.DriverHandles.{MakesClear, MakesRestore, MayClearCycle, MayRestoreHandle}
+use Rattle.joint_history.specs.DriverHandles.{MakesClear, MakesRestore, MakesWeaken, MayClearCycle, MayRestoreHandle, MayWeakenHandle}
 use Rattle.joint_history.specs.Locked.{Drew, PeerKnows}
 use Rattle.joint_history.specs.Passing.{Lends, Returns}
 use Rattle.joint_history.proofs.DeadParts.{candidate_handle_on, count_same}
 use Rattle.joint_history.proofs.DriverPeerSteps.{DrivenUnderPeers, IsUnderPeers, driven_peers}
+
+-- `weaken`
+pub may_weaken : (side : PeerReplay) (o : Opened) (count snap h : ℕ) (weakened : Bool) (seen : Managed) → IsUnderPeers side (weakening o count weakened false) seen → IsCandidateHandle seen count h → o.snap ≡ snap → MayWeaken side h (Some snap)
+may_weaken side o count snap h weakened seen u cand same = subst (λ (n : ℕ). MayWeaken side h (Some n)) same (subst (λ (s : PeerReplay). MayWeaken s h (Some o.snap)) u.peer
+    (next_may_be_weakened u.state u.kept o count h weakened false u.stood (candidate_handle_on seen u.state.managed.managed u.dead u.kept.kept.managed.managed count h cand)))
+
+weaken_allowed : (side : PeerReplay) (o : Opened) (count snap h : ℕ) (weakened : Bool) (seen : Managed) (u : IsUnderPeers side (weakening o count weakened false) seen) → IsCandidateHandle seen count h → o.snap ≡ snap → MayWeakenNow (weakening o count weakened false) u.state.managed.managed h (Some snap)
+weaken_allowed side o count snap h weakened seen u cand same = (ap Some (sym same), refl, candidate_handle_on seen u.state.managed.managed u.dead u.kept.kept.managed.managed count h cand)
 
 -- `restore`
 candidate_here : (side : PeerReplay) (o : Opened) (answers : List Answer) (h : ℕ) (seen : Managed) (u : IsUnderPeers side (restoring o answers) seen) → IsCandidateHandle seen (length answers) h → IsCandidateHandle u.state.managed.managed (length answers) h
@@ -78,6 +86,19 @@ targets_restored side o answers seen u all = subst AreTargetsRestored u.peer (ta
 
 -- after a draw under the lock
 module _ (locked mine mine1 locked2 mine2 : View) (order : OrderId) (seat seat' : Shown) (old new : Side PeerReplay) (index : ℕ) (pass : HoldsPass C mine) (owns : Owns locked 1) (short : index < 2 ^ 32) (ks : PeerKnows locked old) (l : Lends C locked mine seat.view mine1) (b : Returns C seat'.view mine1 locked2 mine2) where
+  -- the weakening
+  with_weaken : (n snap : ℕ) (h : HNum) → Drew peer_rules 1 order seat seat' old new (driver_entry n index (op.Weaken h) says.Ok (Some snap)) nothing → (o : Opened) (count : ℕ) (weakened : Bool) (m : Managed) → DriverStands mine index (weakening o count weakened false) m
+      → IsCandidateHandle m count h.0 → o.snap ≡ snap → DrivenUnderPeers mine locked2 mine2 old new index (weakening o count weakened false) m (driver_entry n index (op.Weaken h) says.Ok (Some snap)) nothing
+  with_weaken n snap h d o count weakened m s cand same =
+      driven_peers locked mine mine1 locked2 mine2 order seat seat' old new index (weakening o count weakened false) m (driver_entry n index (op.Weaken h) says.Ok (Some snap)) nothing pass owns refl refl short ks s
+      (λ u. weaken_allowed old.state o count snap h.0 weakened m u cand same) l d b
+
+  pub weaken_made : (n snap : ℕ) (h : HNum) → Drew peer_rules 1 order seat seat' old new (driver_entry n index (op.Weaken h) says.Ok (Some snap)) nothing → MakesWeaken mine mine2 index snap h n
+  weaken_made n snap h d o count weakened m s cand same = let w = (with_weaken n snap h d o count weakened m s cand same).driven in (w.makes, w.stands)
+
+  pub weaken_knows : (n snap : ℕ) (h : HNum) → Drew peer_rules 1 order seat seat' old new (driver_entry n index (op.Weaken h) says.Ok (Some snap)) nothing → MayWeakenHandle mine index snap h.0 → PeerKnows locked2 new
+  weaken_knows n snap h d w = (with_weaken n snap h d w.opened w.count w.weakened w.seen w.stands w.next w.same).knows
+
   -- the restore
   with_restore : (n : ℕ) (h : HNum) (back : Back) → Drew peer_rules 1 order seat seat' old new (driver_entry n index (op.Restore h) (reply_of back) None) nothing → (o : Opened) (answers : List Answer) (m : Managed) → DriverStands mine index (restoring o answers) m
       → IsCandidateHandle m (length answers) h.0 → DrivenUnderPeers mine locked2 mine2 old new index (restoring o answers) m (driver_entry n index (op.Restore h) (reply_of back) None) nothing

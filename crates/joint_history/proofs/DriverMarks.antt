@@ -25,7 +25,7 @@ use Rattle.order_table.specs.Views.{OrderId, Shown, known, Owns}
 use Rattle.joint_history.specs.declared.marks.Begun.{Begun}
 use Rattle.joint_history.specs.Callers.{CallerKnows, HoldsPass}
 use Rattle.joint_history.specs.Driven.{DriverMakesNone, DriverStands, driver_entry}
-use Rattle.joint_history.specs.DriverMarks.{DrawsSweep, EndsFirst, HasBegunMarking, MakesBegin, MakesMark, MakesNoMark, MakesSweep, MayBeginMarking, MayEndMarking, MayMarkCycle, after_sweep}
+use Rattle.joint_history.specs.DriverMarks.{DrawsSweep, EndsFirst, HasBegunMarking, MakesBegin, MakesMark, MakesSweep, MayBeginMarking, MayEndMarking, MayMarkCycle, after_sweep}
 use Rattle.joint_history.specs.Locked.{Drew, PeerKnows}
 use Rattle.joint_history.specs.Passing.{Lends, Returns}
 use Rattle.joint_history.proofs.DeadParts.{count_same}
@@ -72,12 +72,6 @@ sweep_counts : (s : PeerReplay) (o : Option Marking) (freed : List ℕ) (j : Num
 sweep_counts s None freed j span e = (let f : says.Swept j span ≡ says.NoMark = e in cc)
 sweep_counts s (Some mk) freed j span e = ap count_in e
 
--- a call under the lock that may find no memory
-pub record CalledPeers {X E : Type 0} (mine locked2 mine2 : View) (side : Side PeerReplay) (result : Result X E) (Q : X → Type 0) : Type 0 where
-  pub knows : PeerKnows locked2 side
-  pub ok : IfOk result Q
-  pub err : OnErr result (DriverMakesNone mine mine2)
-
 -- after a draw under the lock
 module _ (locked mine mine1 locked2 mine2 : View) (order : OrderId) (seat seat' : Shown) (old new : Side PeerReplay) (index : ℕ) (pass : HoldsPass C mine) (owns : Owns locked 1) (short : index < 2 ^ 32) (ks : PeerKnows locked old) (l : Lends C locked mine seat.view mine1) (b : Returns C seat'.view mine1 locked2 mine2) where
   -- the sweep
@@ -110,16 +104,11 @@ module _ (locked mine mine1 locked2 mine2 : View) (order : OrderId) (seat seat' 
       driven_peers locked mine mine1 locked2 mine2 order seat seat' old new index (weakening o count weakened swept) m (driver_entry n index op.Begin (says.Mark j) None) nothing pass owns refl refl short ks s
       (λ u. (all ∙ count_same m u.state.managed.managed u.dead, refl)) l d b
 
-  begin_made : (n : ℕ) (j : Number) → Drew peer_rules 1 order seat seat' old new (driver_entry n index op.Begin (says.Mark j) None) nothing → MakesBegin mine mine2 index n j
+  pub begin_made : (n : ℕ) (j : Number) → Drew peer_rules 1 order seat seat' old new (driver_entry n index op.Begin (says.Mark j) None) nothing → MakesBegin mine mine2 index n j
   begin_made n j d o count weakened swept m s all = let w = (with_begin n j d o count weakened swept m s all).driven in record { makes = w.makes; stands = w.stands }
 
-  pub begin_called : {E : Type 0} (result : Result (ℕ × Number) E) → MayBeginMarking mine index → IfOk result (λ x. Drew peer_rules 1 order seat seat' old new (driver_entry x.0 index op.Begin (says.Mark x.1) None) nothing)
-      → OnErr result ((seat' ≡ seat) × (new ≡ old)) → CalledPeers mine locked2 mine2 new result (λ x. MakesBegin mine mine2 index x.0 x.1)
-  begin_called (Ok x) w d e = record { knows = (with_begin x.0 x.1 d w.opened w.count w.weakened w.swept w.seen w.stands w.all).knows; ok = begin_made x.0 x.1 d; err = tt }
-  begin_called (Err x) w d e =
-      let back : Returns C seat.view mine1 locked2 mine2 = subst (λ (s : Shown). Returns C s.view mine1 locked2 mine2) e.0 b in
-      let n = driven_peers_none locked mine seat.view mine1 locked2 mine2 old pass owns ks w.stands.known l back in
-      record { knows = subst (PeerKnows locked2) (sym e.1) n.knows; ok = tt; err = n.makes }
+  pub begin_knows : (n : ℕ) (j : Number) → Drew peer_rules 1 order seat seat' old new (driver_entry n index op.Begin (says.Mark j) None) nothing → MayBeginMarking mine index → PeerKnows locked2 new
+  begin_knows n j d w = (with_begin n j d w.opened w.count w.weakened w.swept w.seen w.stands w.all).knows
 
 -- what the seat knew and owned after a draw
 module _ (order : OrderId) (seat seat' : Shown) (old new : Side PeerReplay) (e : Entry) (told : Told) (d : Drew peer_rules 1 order seat seat' old new e told) where
@@ -128,20 +117,6 @@ module _ (order : OrderId) (seat seat' : Shown) (old new : Side PeerReplay) (e :
 
   pub peer_keeps : (i : ℕ) → Owns seat.view i → Owns seat'.view i
   peer_keeps i o = owns_on seat.view seat'.view 1 d.kept d.appends.grows i o
-
--- and after a begin, whether it was drawn or not
-module _ {E : Type 0} (order : OrderId) (seat seat' : Shown) (old new : Side PeerReplay) (index : ℕ) where
-  pub begin_prefix : (result : Result (ℕ × Number) E) → IfOk result (λ x. Drew peer_rules 1 order seat seat' old new (driver_entry x.0 index op.Begin (says.Mark x.1) None) nothing) → OnErr result ((seat' ≡ seat) × (new ≡ old)) → (i : ℕ) → IsPrefix (known seat.view i) (known seat'.view i)
-  begin_prefix (Ok x) d e i = grows_more seat.view seat'.view 1 d.kept d.appends.grows i
-  begin_prefix (Err x) d e i = subst (λ (s : Shown). IsPrefix (known seat.view i) (known s.view i)) (sym e.0) (prefix_refl (known seat.view i))
-
-  pub begin_keeps : (result : Result (ℕ × Number) E) → IfOk result (λ x. Drew peer_rules 1 order seat seat' old new (driver_entry x.0 index op.Begin (says.Mark x.1) None) nothing) → OnErr result ((seat' ≡ seat) × (new ≡ old)) → (i : ℕ) → Owns seat.view i → Owns seat'.view i
-  begin_keeps (Ok x) d e i w = owns_on seat.view seat'.view 1 d.kept d.appends.grows i w
-  begin_keeps (Err x) d e i w = subst (λ (s : Shown). Owns s.view i) (sym e.0) w
-
-  pub begin_order : (result : Result (ℕ × Number) E) → IfOk result (λ x. Drew peer_rules 1 order seat seat' old new (driver_entry x.0 index op.Begin (says.Mark x.1) None) nothing) → OnErr result ((seat' ≡ seat) × (new ≡ old)) → seat'.order ≡ seat.order
-  begin_order (Ok x) d e = d.appends.same
-  begin_order (Err x) d e = ap (λ (s : Shown). s.order) e.0
 
 -- no marking is open where none is named, and one is open where one is named
 pub none_open : (n : Option (Number × Thread)) (o : Option Marking) → IsMarkingOf n o → n ≡ None → o ≡ None
@@ -172,40 +147,8 @@ may_begin old between index (Some r) e w =
     let d = e (weakening w.opened w.count w.weakened false) w.seen w.stands (w.all, refl, refl) in
     record { opened = w.opened; count = w.count; weakened = true; swept = true; seen = w.seen; stands = d.stands; all = w.all }
 
--- the begin follows
-pub mark_fails : (old between new : View) (index : ℕ) (ended : Option (ℕ × Swept)) → EndsFirst old between index ended → DriverMakesNone between new → MakesNoMark old new index
-mark_fails old between new index None e n = record {
-  ended = None;
-  ends = record {
-    own = n.own ∙ e.own;
-    more = λ i. prefix_trans (known old i) (known between i) (known new i) (e.more i) (n.more i);
-    stands = λ j stand m s. n.stands j stand m (e.stands j stand m s);
-  };
-}
-mark_fails old between new index (Some r) e n = record {
-  ended = Some r;
-  ends = λ stand m s now. (let d = e stand m s now in record {
-    freed = d.freed;
-    count = d.count;
-    makes = record {
-      own = n.own ∙ d.makes.own;
-      more = λ i. prefix_trans (known old i) (known between i) (known new i) (d.makes.more i) (n.more i);
-      above = d.makes.above;
-      state = d.makes.state;
-      comes = d.makes.comes;
-      kept = d.makes.kept;
-      stood = d.makes.stood;
-      dead = d.makes.dead;
-    };
-    stands = n.stands index (after_sweep stand) m d.stands;
-  });
-}
-
 -- the driver's caller knows a past after it
-pub mark_knows : {E : Type 0} (t : Thread) (old new : View) (index : ℕ) (result : Result Begun E) → IsDriver t → MayMarkCycle old index → IfOk result (λ b. MakesMark old new index b) → OnErr result (MakesNoMark old new index) → CallerKnows t new
-mark_knows t old new index (Ok b) is w m e =
-    let n = may_begin old m.between index b.ended m.ends w in
+pub mark_knows : (t : Thread) (old new : View) (index : ℕ) (out : Begun) → IsDriver t → MayMarkCycle old index → MakesMark old new index out → CallerKnows t new
+mark_knows t old new index out is w m =
+    let n = may_begin old m.between index out.ended m.ends w in
     driver_knows t new index (marked n.opened) n.seen is (m.begins n.opened n.count n.weakened n.swept n.seen n.stands n.all).stands
-mark_knows t old new index (Err x) is w m e =
-    let n = may_begin old new index e.ended e.ends w in
-    driver_knows t new index (weakening n.opened n.count n.weakened n.swept) n.seen is n.stands

@@ -4,6 +4,7 @@ pub mod Handing
 pub mod KnownCallers
 pub mod Standing
 pub mod LockedSteps
+pub mod Reserving
 pub mod Fresh
 pub mod LastLines
 pub mod Desking

@@ -89,8 +89,3 @@ pub record MakesMark (old new : View) (index : ℕ) (out : Begun) : Type 0 where
   pub between : View
   pub ends : EndsFirst old between index out.ended
   pub begins : MakesBegin between new index out.number out.marking
-
--- there was no memory for the begin: the driver made nothing, or ended a marking that was open
-pub record MakesNoMark (old new : View) (index : ℕ) : Type 0 where
-  pub ended : Option (ℕ × Swept)
-  pub ends : EndsFirst old new index ended

@@ -1,20 +1,22 @@
 -- What a side's seat knows under its lock, and what a locked call does to the caller's seat.
-use Rattle.std.specs.Prelude.{◌≡◌, ℕ, ◌≤◌, [], ◌∷◌, ◌++◌, Option, None}
+use Rattle.std.specs.Prelude.{◌≡◌, ℕ, ◌+◌, ◌≤◌, Bool, true, false, List, [], ◌∷◌, ◌++◌, length, Option, Some, None}
 use mathlib.Core.List.{IsPrefix}
 use Rattle.joint_model.specs.declared.names.Thread.{Thread}
 use Rattle.joint_model.specs.declared.names.Thread.TheVariants.{M, P, C}
 use Rattle.joint_model.specs.declared.events.Entry.{Entry}
 use Rattle.joint_model.specs.declared.events.Made.{Made}
 use Rattle.joint_model.specs.declared.events.Op.{Op}
+use Rattle.joint_model.specs.declared.events.Op.TheVariants as op
 use Rattle.joint_model.specs.declared.events.Reply.{Reply}
-use Rattle.joint_model.specs.Control.{Control, Doing, free, doing_at, doing_after, last_line, ThreadAllows}
+use Rattle.joint_model.specs.Control.{Control, Doing, candidates_of, free, doing_at, doing_after, last_line, ThreadAllows}
 use Rattle.joint_model.specs.HistoryLines.{caller_line}
 use Rattle.joint_model.specs.Linked.{Linkage, MayCome}
 use Rattle.joint_model.specs.ManagedReplay.{ManagedReplay}
-use Rattle.joint_model.specs.PeerReplay.{PeerReplay}
+use Rattle.joint_model.specs.PeerReplay.{PeerReplay, Mirror}
 use Rattle.joint_model.specs.Sides.{Side, SideRules, GoesOn}
 use Rattle.joint_model.specs.Told.{Told}
 use Rattle.known_laws.specs.Pasts.{end_of}
+use Rattle.peer_side.specs.Sides.{PeerModel}
 use Rattle.order_table.specs.declared.views.Kept.{Kept}
 use Rattle.order_table.specs.declared.views.View.{View}
 use Rattle.order_table.specs.Rule.{IsBelow}
@@ -33,6 +35,32 @@ pub record PeerKnows (v : View) (s : Side PeerReplay) : Type 0 where
   pub known : IsKnownView v
   pub entries : line_known v 1 ≡ s.entries
   pub state : (end_of known.past).peer ≡ s.state
+
+-- the own marking of a mirrored cycle is still to come: a mirror brings that about, and the driver's begin and its clear end it
+abbrev pub due_after : Thread → Op → Bool → Bool
+due_after C (op.Mirror k) due = true
+due_after C op.Begin due = false
+due_after C (op.Clear k) due = false
+due_after t o due = due
+
+abbrev pub due_from : Bool → List Entry → Bool
+due_from due [] = due
+due_from due (e ∷ es) = due_from (due_after e.made.caller e.made.op due) es
+
+-- so it is after these entries
+abbrev pub is_marking_due : List Entry → Bool
+is_marking_due es = due_from false es
+
+-- while a cycle is mirrored, the handles that were weakened in it and those that may still be are together at least its candidates
+abbrev pub HasRoomToWeaken : Linkage → ℕ → Type 0
+HasRoomToWeaken s left = (m : Mirror) → s.peer.mirror ≡ Some m → length (candidates_of s.managed.managed) ≤ length m.weakened + left
+
+-- what is reserved on the peer side while its lock is free, by what its seat knows: no reference waits; each candidate of a mirrored cycle can be weakened;
+-- and there is room for the cycle's own marking as long as that is still to come
+pub record PeerReserves (v : View) (s : PeerModel) : Type 0 where
+  pub none_waits : s.reserve.waiting ≡ []
+  pub room : (k : IsKnownView v) → (end_of k.past).peer ≡ s.state → HasRoomToWeaken (end_of k.past) s.reserve.left
+  pub marking : s.reserve.marking ≡ is_marking_due s.entries
 
 -- what a thread is in the midst of; only a managed thread's operations have more than one entry
 abbrev pub doing_of : Thread → Control → Doing
@@ -96,5 +124,5 @@ pub record UnderManaged : Type 0 where
   pub view : View
 
 pub record UnderPeer : Type 0 where
-  pub side : Side PeerReplay
+  pub side : PeerModel
   pub view : View

@@ -5,8 +5,8 @@ ghost use Rattle.std.specs.Prelude.{◌≡◌, ◌≤◌, IfErr, IfOk, OnErr, co
 ghost use Rattle.joint_model.specs.Lines.{IsDriver};
 ghost use Rattle.joint_model.specs.Listed.{answers_of};
 ghost use Rattle.joint_history.specs.Driven.{DriverMakesNone, DriverRests, MakesAbandon, MakesContraction, MakesFinalise, MakesRefusal, MakesResolution, MayAbandonCycle, MayContractCycle, MayFinalise, MayRefuseWord, MayResolveCycle};
-ghost use Rattle.joint_history.specs.DriverHandles.{MakesClear, MakesRestore, MayClearCycle, MayRestoreHandle};
-ghost use Rattle.joint_history.specs.DriverMarks.{HasBegunMarking, MakesMark, MakesNoMark, MakesSweep, MayMarkCycle};
+ghost use Rattle.joint_history.specs.DriverHandles.{MakesClear, MakesRestore, MakesWeaken, MayClearCycle, MayRestoreHandle, MayWeakenHandle};
+ghost use Rattle.joint_history.specs.DriverMarks.{HasBegunMarking, MakesMark, MakesSweep, MayMarkCycle};
 ghost use Rattle.joint_history.specs.DriverSnaps.{MakesSnapshot};
 
 use crate::callers::Caller;
@@ -136,20 +136,33 @@ impl<N: OrderName> Shared<N> {
             .snap(&self.order, &mut driver.seat, index)
     }
 
-    /// The driver, which has weakened all handles of its cycle, begins the cycle's own marking; one that a peer thread left open is ended first, in the
-    /// same hold of the peer lock, so the begin always gives a number. Answers that number and those of the entries. Answers `AllocError` where there is
-    /// no memory for the begin; an open marking is ended all the same.
-    pub fn mark(
+    /// The driver weakens the handle of the next candidate of its cycle, whose snapshot is the entry with that number. Answers the entry's number. It
+    /// takes no memory, nor does any later call of the cycle.
+    pub fn weaken(
         &self,
         rt: &impl Wait,
         driver: &mut Caller<N>,
         index: u32,
-    ) -> Result<Begun, AllocError>
+        snap: u64,
+        h: HNum,
+    ) -> u64
+        requires driver { IsDriver driver.old.thread }
+        requires may { MayWeakenHandle driver.old.view index snap h.0 }
+        ensures thread { driver.new.thread ≡ driver.old.thread }
+        ensures makes { MakesWeaken driver.old.view driver.new.view index snap h result }
+    {
+        self.peers
+            .lock(rt)
+            .weaken(&self.order, &mut driver.seat, index, snap, h)
+    }
+
+    /// The driver, which has weakened all handles of its cycle, begins the cycle's own marking; one that a peer thread left open is ended first, in the
+    /// same hold of the peer lock, so the begin always gives a number. Answers that number and those of the entries. It takes no memory.
+    pub fn mark(&self, rt: &impl Wait, driver: &mut Caller<N>, index: u32) -> Begun
         requires driver { IsDriver driver.old.thread }
         requires may { MayMarkCycle driver.old.view index }
         ensures thread { driver.new.thread ≡ driver.old.thread }
-        ensures ok { IfOk result (λ b. MakesMark driver.old.view driver.new.view index b) }
-        ensures err { OnErr result (MakesNoMark driver.old.view driver.new.view index) }
+        ensures makes { MakesMark driver.old.view driver.new.view index result }
     {
         self.peers
             .lock(rt)

@@ -1,18 +1,19 @@
-// The driver's calls on the handles of its mirrored cycle, under the peer lock. Each makes one entry and takes no memory.
+// The driver's calls on the handles of its mirrored cycle, under the peer lock. Each makes one entry and takes no memory: what they want was reserved before the
+// cycle was mirrored.
 
-ghost use Rattle.std.specs.Prelude.{◌≡◌, None};
+ghost use Rattle.std.specs.Prelude.{◌≡◌, ◌≤◌, None, Some};
 ghost use Rattle.joint_model.specs.declared.names.Thread.TheVariants.{C};
 ghost use Rattle.joint_model.specs.declared.events.Op.TheVariants as op;
 ghost use Rattle.joint_model.specs.declared.events.Reply.TheVariants as says;
-ghost use Rattle.joint_model.specs.PeerReplay.{MayClear, MayRestore};
+ghost use Rattle.joint_model.specs.PeerReplay.{MayClear, MayRestore, MayWeaken};
 ghost use Rattle.joint_model.specs.Sides.{peer_rules};
 ghost use Rattle.joint_model.specs.Told.{nothing};
-ghost use Rattle.peer_side.specs.Cycles.{reply_of};
+ghost use Rattle.peer_side.specs.Cycles.{reply_of, reserve_left, reserve_over};
 ghost use Rattle.peer_side.specs.Mirrors.{AreTargetsRestored};
 ghost use Rattle.peer_side.specs.Sides.{seen};
 ghost use Rattle.joint_history.specs.Callers.{HoldsPass};
 ghost use Rattle.joint_history.specs.Driven.{driver_entry};
-ghost use Rattle.joint_history.specs.DriverHandles.{MakesClear, MakesRestore, MayClearCycle, MayRestoreHandle};
+ghost use Rattle.joint_history.specs.DriverHandles.{MakesClear, MakesRestore, MakesWeaken, MayClearCycle, MayRestoreHandle, MayWeakenHandle};
 ghost use Rattle.joint_history.specs.Knowing.{line_known};
 ghost use Rattle.joint_history.specs.Locked.{Drew};
 ghost use Rattle.joint_history.specs.Passing.{MayAppend};
@@ -23,6 +24,32 @@ use global_handles::Back;
 use joint_model::{Cycle, HNum, Thread};
 use order_table::{Order, OrderName, Role, Seat};
 use peer_side::PeerSide;
+
+// The side draws the weakening of a handle by the seat.
+fn draw_weaken(
+    side: &mut PeerSide,
+    order: &Order,
+    seat: &mut Seat,
+    index: u32,
+    snap: u64,
+    h: HNum,
+) -> u64
+    requires left { 1 ≤ side.old.reserve.left }
+    requires weakens { MayWeaken side.old.state h.0 (Some snap) }
+    requires may { MayAppend order.now seat.old 1 C (op.Weaken h) }
+    requires entries { line_known seat.old.view 1 ≡ side.old.entries }
+    ensures drew { Drew peer_rules 1 order.now seat.old seat.new (seen side.old) (seen side.new) (driver_entry result index (op.Weaken h) says.Ok (Some snap)) nothing }
+    ensures reserve { side.new.reserve ≡ reserve_left side.old.reserve }
+{
+    let mut drawing = Drawing {
+        order,
+        seat,
+        role: Role::Peer,
+        last: 0,
+    };
+    side.weaken(&mut drawing, index, snap, h);
+    drawing.last
+}
 
 // The side draws the restore of a handle by the seat.
 fn draw_restore(
@@ -35,7 +62,8 @@ fn draw_restore(
     requires restores { MayRestore side.old.state h.0 }
     requires may { MayAppend order.now seat.old 1 C (op.Restore h) }
     requires entries { line_known seat.old.view 1 ≡ side.old.entries }
-    ensures { Drew peer_rules 1 order.now seat.old seat.new (seen side.old) (seen side.new) (driver_entry result.0 index (op.Restore h) (reply_of result.1) None) nothing }
+    ensures drew { Drew peer_rules 1 order.now seat.old seat.new (seen side.old) (seen side.new) (driver_entry result.0 index (op.Restore h) (reply_of result.1) None) nothing }
+    ensures reserve { side.new.reserve ≡ side.old.reserve }
 {
     let mut drawing = Drawing {
         order,
@@ -53,7 +81,8 @@ fn draw_clear(side: &mut PeerSide, order: &Order, seat: &mut Seat, index: u32, c
     requires targets { AreTargetsRestored side.old.state }
     requires may { MayAppend order.now seat.old 1 C (op.Clear cycle) }
     requires entries { line_known seat.old.view 1 ≡ side.old.entries }
-    ensures { Drew peer_rules 1 order.now seat.old seat.new (seen side.old) (seen side.new) (driver_entry result index (op.Clear cycle) says.Ok None) nothing }
+    ensures drew { Drew peer_rules 1 order.now seat.old seat.new (seen side.old) (seen side.new) (driver_entry result index (op.Clear cycle) says.Ok None) nothing }
+    ensures reserve { side.new.reserve ≡ reserve_over side.old.reserve }
 {
     let mut drawing = Drawing {
         order,
@@ -66,6 +95,29 @@ fn draw_clear(side: &mut PeerSide, order: &Order, seat: &mut Seat, index: u32, c
 }
 
 impl<N: OrderName> LockedPeer<N> {
+    /// Weakens the handle of the next candidate of the driver's cycle, whose snapshot is the entry with that number. Answers the entry's number. `mine` is the
+    /// driver's seat, which knows the entry then. It takes no memory.
+    pub(crate) fn weaken(
+        &mut self,
+        order: &Order,
+        mine: &mut Seat,
+        index: u32,
+        snap: u64,
+        h: HNum,
+    ) -> u64
+        requires order { (order.now ≡ N.order) × (mine.old.order ≡ N.order) }
+        requires pass { HoldsPass C mine.old.view }
+        requires may { MayWeakenHandle mine.old.view index snap h.0 }
+        ensures order { mine.new.order ≡ N.order }
+        ensures pass { HoldsPass C mine.new.view }
+        ensures makes { MakesWeaken mine.old.view mine.new.view index snap h result }
+    {
+        lend(order, &mut self.seat, mine, Thread::C);
+        let made = draw_weaken(&mut self.side, order, &mut self.seat, index, snap, h);
+        give_back(order, &mut self.seat, mine, Thread::C);
+        made
+    }
+
     /// Restores the handle of the next candidate of the driver's cycle: it is strong again, or it left the table since its peer was freed. Answers the
     /// entry's number and which. `mine` is the driver's seat, which knows the entry then. It takes no memory.
     pub(crate) fn restore(

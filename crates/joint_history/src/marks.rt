@@ -1,16 +1,16 @@
 // The driver's marking under the peer lock. A begin of the driver always gives a number: whatever marking a peer thread left open is ended in the same
-// hold of the lock.
+// hold of the lock, and the memory was reserved before the cycle was mirrored.
 
-ghost use Rattle.std.specs.Prelude.{◌≡◌, ◌⊎◌, IfOk, IsSome, None, OnErr};
+ghost use Rattle.std.specs.Prelude.{◌≡◌, ◌⊎◌, IsSome, None, true};
 ghost use Rattle.joint_model.specs.declared.names.Thread.TheVariants.{C};
 ghost use Rattle.joint_model.specs.declared.events.Op.TheVariants as op;
 ghost use Rattle.joint_model.specs.declared.events.Reply.TheVariants as says;
 ghost use Rattle.joint_model.specs.Sides.{peer_rules};
 ghost use Rattle.joint_model.specs.Told.{nothing};
-ghost use Rattle.peer_side.specs.Sides.{seen};
+ghost use Rattle.peer_side.specs.Sides.{is_own, reserve_begun, seen};
 ghost use Rattle.joint_history.specs.Callers.{HoldsPass};
-ghost use Rattle.joint_history.specs.Driven.{DriverMakesNone, driver_entry};
-ghost use Rattle.joint_history.specs.DriverMarks.{DrawsSweep, EndsFirst, HasBegunMarking, MakesBegin, MakesMark, MakesNoMark, MakesSweep, MayBeginMarking, MayEndMarking, MayMarkCycle};
+ghost use Rattle.joint_history.specs.Driven.{driver_entry};
+ghost use Rattle.joint_history.specs.DriverMarks.{DrawsSweep, EndsFirst, HasBegunMarking, MakesBegin, MakesMark, MakesSweep, MayBeginMarking, MayEndMarking, MayMarkCycle};
 ghost use Rattle.joint_history.specs.Knowing.{line_known};
 ghost use Rattle.joint_history.specs.Locked.{Drew};
 ghost use Rattle.joint_history.specs.Passing.{MayAppend};
@@ -20,7 +20,6 @@ use crate::seats::{Drawing, give_back, lend};
 use joint_model::{Marking, Thread};
 use order_table::{Order, OrderName, Role, Seat};
 use peer_side::{PeerSide, Swept};
-use std::alloc::AllocError;
 
 /// A marking that the driver began, with its entry's number; and the marking that was open before and was ended, with the number of that entry.
 #[derive(Drop)]
@@ -35,7 +34,8 @@ fn draw_sweep(side: &mut PeerSide, order: &Order, seat: &mut Seat, index: u32) -
     requires open { IsSome side.old.state.marking }
     requires may { MayAppend order.now seat.old 1 C op.Sweep }
     requires entries { line_known seat.old.view 1 ≡ side.old.entries }
-    ensures { DrawsSweep order.now seat.old seat.new (seen side.old) (seen side.new) index result.0 result.1 }
+    ensures drew { DrawsSweep order.now seat.old seat.new (seen side.old) (seen side.new) index result.0 result.1 }
+    ensures reserve { side.new.reserve ≡ side.old.reserve }
 {
     let mut drawing = Drawing {
         order,
@@ -49,18 +49,14 @@ fn draw_sweep(side: &mut PeerSide, order: &Order, seat: &mut Seat, index: u32) -
     }
 }
 
-// The side draws a begin by the seat. No marking is open.
-fn draw_begin(
-    side: &mut PeerSide,
-    order: &Order,
-    seat: &mut Seat,
-    index: u32,
-) -> Result<(u64, Marking), AllocError>
+// The side draws a begin by the seat. No marking is open, and the room for the mirrored cycle's own is reserved: so it takes no memory.
+fn draw_begin(side: &mut PeerSide, order: &Order, seat: &mut Seat, index: u32) -> (u64, Marking)
     requires closed { side.old.state.marking ≡ None }
+    requires reserved { side.old.reserve.marking ≡ true }
     requires may { MayAppend order.now seat.old 1 C op.Begin }
     requires entries { line_known seat.old.view 1 ≡ side.old.entries }
-    ensures drew { IfOk result (λ r. Drew peer_rules 1 order.now seat.old seat.new (seen side.old) (seen side.new) (driver_entry r.0 index op.Begin (says.Mark r.1) None) nothing) }
-    ensures err { OnErr result ((seat.new ≡ seat.old) × (seen side.new ≡ seen side.old)) }
+    ensures drew { Drew peer_rules 1 order.now seat.old seat.new (seen side.old) (seen side.new) (driver_entry result.0 index op.Begin (says.Mark result.1) None) nothing }
+    ensures reserve { side.new.reserve ≡ reserve_begun (is_own C side.old.reserve.marking) side.old.reserve }
 {
     let mut drawing = Drawing {
         order,
@@ -69,8 +65,8 @@ fn draw_begin(
         last: 0,
     };
     match side.mark_begin(&mut drawing, Thread::C, index) {
-        Ok(marking) => Ok((drawing.last, marking)),
-        Err(_) => Err(AllocError),
+        Ok(marking) => (drawing.last, marking),
+        Err(_) => unreachable!(),
     }
 }
 
@@ -93,21 +89,15 @@ impl<N: OrderName> LockedPeer<N> {
         out
     }
 
-    // Begins the cycle's own marking, where none is open.
-    fn begin(
-        &mut self,
-        order: &Order,
-        mine: &mut Seat,
-        index: u32,
-    ) -> Result<(u64, Marking), AllocError>
+    // Begins the cycle's own marking, where none is open. It takes no memory.
+    fn begin(&mut self, order: &Order, mine: &mut Seat, index: u32) -> (u64, Marking)
         requires order { (order.now ≡ N.order) × (mine.old.order ≡ N.order) }
         requires pass { HoldsPass C mine.old.view }
         requires closed { self.old.side.state.marking ≡ None }
         requires may { MayBeginMarking mine.old.view index }
         ensures order { mine.new.order ≡ N.order }
         ensures pass { HoldsPass C mine.new.view }
-        ensures ok { IfOk result (λ r. MakesBegin mine.old.view mine.new.view index r.0 r.1) }
-        ensures err { OnErr result (DriverMakesNone mine.old.view mine.new.view) }
+        ensures makes { MakesBegin mine.old.view mine.new.view index result.0 result.1 }
     {
         lend(order, &mut self.seat, mine, Thread::C);
         let made = draw_begin(&mut self.side, order, &mut self.seat, index);
@@ -132,29 +122,21 @@ impl<N: OrderName> LockedPeer<N> {
     }
 
     /// Begins the driver's own marking, after it has ended one that a peer thread left open; so the begin always gives a number. `mine` is the driver's
-    /// seat, which knows the entries then. Answers `AllocError` where there is no memory for the begin; an open marking is ended all the same.
-    pub(crate) fn mark(
-        &mut self,
-        order: &Order,
-        mine: &mut Seat,
-        index: u32,
-    ) -> Result<Begun, AllocError>
+    /// seat, which knows the entries then. It takes no memory.
+    pub(crate) fn mark(&mut self, order: &Order, mine: &mut Seat, index: u32) -> Begun
         requires order { (order.now ≡ N.order) × (mine.old.order ≡ N.order) }
         requires pass { HoldsPass C mine.old.view }
         requires may { MayMarkCycle mine.old.view index }
         ensures order { mine.new.order ≡ N.order }
         ensures pass { HoldsPass C mine.new.view }
-        ensures ok { IfOk result (λ b. MakesMark mine.old.view mine.new.view index b) }
-        ensures err { OnErr result (MakesNoMark mine.old.view mine.new.view index) }
+        ensures makes { MakesMark mine.old.view mine.new.view index result }
     {
         let ended = self.end_open(order, mine, index);
-        match self.begin(order, mine, index) {
-            Ok((number, marking)) => Ok(Begun {
-                ended,
-                number,
-                marking,
-            }),
-            Err(error) => Err(error),
+        let (number, marking) = self.begin(order, mine, index);
+        Begun {
+            ended,
+            number,
+            marking,
         }
     }
 }

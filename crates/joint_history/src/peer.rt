@@ -22,7 +22,7 @@ use std::alloc::{AllocError, Global};
 use std::marker::{Model, PhantomData};
 
 /// The peer side with the seat that owns its role. The seat knows a past, whose peer entries are the side's list and at whose end the
-/// peer side is as this one.
+/// peer side is as this one. While the lock is free no reference waits, and what the mirrored cycle will weaken and mark is reserved.
 #[derive(Drop)]
 pub struct LockedPeer<N: OrderName> {
     pub(crate) side: PeerSide,
@@ -33,14 +33,14 @@ pub struct LockedPeer<N: OrderName> {
 impl<N: OrderName> Model for LockedPeer<N> {
     ghost use Rattle.std.specs.Prelude.{◌≡◌};
     ghost use Rattle.order_table.specs.Views.{Owns};
-    ghost use Rattle.joint_history.specs.Locked.{PeerKnows, UnderPeer};
+    ghost use Rattle.joint_history.specs.Locked.{PeerKnows, PeerReserves, UnderPeer};
     ghost use Rattle.peer_side.specs.Sides.{seen};
 
     ghost Value = { UnderPeer };
 
-    ghost view = { λ l. record { side = seen l.side; view = l.seat.view } };
+    ghost view = { λ l. record { side = l.side; view = l.seat.view } };
 
-    ghost invariant = { λ l. (l.seat.order ≡ N.order) × Owns l.seat.view 1 × PeerKnows l.seat.view (seen l.side) };
+    ghost invariant = { λ l. (l.seat.order ≡ N.order) × Owns l.seat.view 1 × PeerKnows l.seat.view (seen l.side) × PeerReserves l.seat.view l.side };
 }
 
 // The side draws by the seat: what is said here is what that leaves in both, and nothing else.
@@ -60,6 +60,7 @@ fn draw_step(
     ensures drew { IfOk result (λ r. Drew peer_rules 1 order.now seat.old seat.new (seen side.old) (seen side.new) (numbered r.0 (made_by caller index op.now r.1 cites)) nothing) }
     ensures release { IsRelease op.now → IsOk result }
     ensures err { OnErr result ((seat.new ≡ seat.old) × (seen side.new ≡ seen side.old)) }
+    ensures reserve { side.new.reserve ≡ side.old.reserve }
 {
     let mut drawing = Drawing {
         order,
@@ -87,7 +88,7 @@ impl<N: OrderName> LockedPeer<N> {
 
     /// The side and its seat.
     pub(crate) fn into_parts(self) -> (PeerSide, Seat)
-        ensures side { seen result.0 ≡ self.side }
+        ensures side { result.0 ≡ self.side }
         ensures seat { (result.1.order ≡ N.order) × (result.1.view ≡ self.view) × Owns result.1.view 1 }
         ensures knows { PeerKnows result.1.view (seen result.0) }
     {

@@ -1,21 +1,36 @@
-use Rattle.std.proofs.Common.{arith, ◌∙◌}
+use Rattle.std.proofs.Common.{None, refl, arith, ◌∙◌}
 use Rattle.joint_model.specs.declared.names.Thread.TheVariants.{C}
+use Rattle.joint_model.specs.declared.events.Op.TheVariants as op
+use Rattle.joint_model.specs.declared.events.Reply.TheVariants as says
+use Rattle.joint_model.specs.Told.{nothing}
 use Rattle.peer_side.specs.Sides.{seen}
-use Rattle.joint_history.proofs.DriverMarks.{begin_called, begin_keeps, begin_prefix}
+use Rattle.joint_history.specs.Driven.{driver_entry}
+use Rattle.joint_history.proofs.DriverMarks.{begin_knows, begin_made, peer_keeps, peer_prefix}
 use Rattle.joint_history.proofs.LockedSteps.{did, more_back}
+use Rattle.joint_history.proofs.Reserving.{begin_kept, drew_reserves, marking_is_due}
 use Rattle.joint_history.proofs.peer.LockedPeer.begin.Goals as goal
 
+pub draw_begin-made-requires-clause-reserved : goal.draw_begin-made-requires-clause-reserved
+draw_begin-made-requires-clause-reserved g c =
+    let w = c.requires.may in
+    marking_is_due c.self.inside.seat.view c.args.mine.now.view c.lend.new.locked.view c.lend.new.mine.view c.self.inside.side c.args.index w.opened w.count w.weakened w.swept w.seen c.requires.pass c.self.invariant.1 c.self.invariant.2 c.self.invariant.3 w.stands c.lend.ensures.lent
+
+pub give_back-requires-clause-order : goal.give_back-requires-clause-order
+give_back-requires-clause-order g c = (c.draw_begin-made.ensures.drew.appends.same ∙ c.lend.ensures.order.0, c.lend.ensures.order.1)
+
+pub give_back-requires-clause-pass : goal.give_back-requires-clause-pass
+give_back-requires-clause-pass g c = (tt, peer_keeps c.args.order.now c.lend.new.locked c.draw_begin-made.new.seat (seen c.self.inside.side) (seen c.draw_begin-made.new.side) (driver_entry c.draw_begin-made.result.0 c.args.index op.Begin (says.Mark c.draw_begin-made.result.1) None) nothing c.draw_begin-made.ensures.drew 10 (c.lend.ensures.lent.lines 10 refl (c.requires.pass 10 refl)))
+
 pub give_back-requires-clause-more : goal.give_back-requires-clause-more
-give_back-requires-clause-more g c = more_back C c.self.inside.seat.view c.args.mine.now.view c.lend.new.locked.view c.lend.new.mine.view c.draw_begin-made.new.seat.view c.lend.ensures.lent (begin_prefix c.args.order.now c.lend.new.locked c.draw_begin-made.new.seat (seen c.self.inside.side) (seen c.draw_begin-made.new.side) c.args.index c.draw_begin-made.result c.draw_begin-made.ensures.drew c.draw_begin-made.ensures.err)
+give_back-requires-clause-more g c = more_back C c.self.inside.seat.view c.args.mine.now.view c.lend.new.locked.view c.lend.new.mine.view c.draw_begin-made.new.seat.view c.lend.ensures.lent (peer_prefix c.args.order.now c.lend.new.locked c.draw_begin-made.new.seat (seen c.self.inside.side) (seen c.draw_begin-made.new.side) (driver_entry c.draw_begin-made.result.0 c.args.index op.Begin (says.Mark c.draw_begin-made.result.1) None) nothing c.draw_begin-made.ensures.drew)
 
 pub invariant_of-self : goal.invariant_of-self
 invariant_of-self g c =
-    let d = did C c.self.inside.seat.view c.args.mine.now.view c.lend.new.locked.view c.lend.new.mine.view c.draw_begin-made.new.seat.view c.give_back.new.locked.view c.give_back.new.mine.view 1 tt (omega arith) c.requires.pass c.self.invariant.1 c.lend.ensures.lent (begin_keeps c.args.order.now c.lend.new.locked c.draw_begin-made.new.seat (seen c.self.inside.side) (seen c.draw_begin-made.new.side) c.args.index c.draw_begin-made.result c.draw_begin-made.ensures.drew c.draw_begin-made.ensures.err) c.give_back.ensures.returned in
-    let w = begin_called c.self.inside.seat.view c.args.mine.now.view c.lend.new.mine.view c.give_back.new.locked.view c.give_back.new.mine.view c.args.order.now c.lend.new.locked c.draw_begin-made.new.seat (seen c.self.inside.side) (seen c.draw_begin-made.new.side) c.args.index c.requires.pass c.self.invariant.1 (omega (arith, c.ranges.index.fits)) c.self.invariant.2 c.lend.ensures.lent c.give_back.ensures.returned c.draw_begin-made.result c.requires.may c.draw_begin-made.ensures.drew c.draw_begin-made.ensures.err in
-    (c.give_back.ensures.order.0 ∙ c.requires.order.0, d.owns, w.knows)
+    let d = did C c.self.inside.seat.view c.args.mine.now.view c.lend.new.locked.view c.lend.new.mine.view c.draw_begin-made.new.seat.view c.give_back.new.locked.view c.give_back.new.mine.view 1 tt (omega arith) c.requires.pass c.self.invariant.1 c.lend.ensures.lent (peer_keeps c.args.order.now c.lend.new.locked c.draw_begin-made.new.seat (seen c.self.inside.side) (seen c.draw_begin-made.new.side) (driver_entry c.draw_begin-made.result.0 c.args.index op.Begin (says.Mark c.draw_begin-made.result.1) None) nothing c.draw_begin-made.ensures.drew) c.give_back.ensures.returned in
+    let k = begin_knows c.self.inside.seat.view c.args.mine.now.view c.lend.new.mine.view c.give_back.new.locked.view c.give_back.new.mine.view c.args.order.now c.lend.new.locked c.draw_begin-made.new.seat (seen c.self.inside.side) (seen c.draw_begin-made.new.side) c.args.index c.requires.pass c.self.invariant.1 (omega (arith, c.ranges.index.fits)) c.self.invariant.2 c.lend.ensures.lent c.give_back.ensures.returned c.draw_begin-made.result.0 c.draw_begin-made.result.1 c.draw_begin-made.ensures.drew c.requires.may in
+    let r = drew_reserves C c.self.inside.seat.view c.args.mine.now.view c.lend.new.mine.view c.give_back.new.locked.view c.give_back.new.mine.view c.args.order.now c.lend.new.locked c.draw_begin-made.new.seat c.self.inside.side c.draw_begin-made.new.side (driver_entry c.draw_begin-made.result.0 c.args.index op.Begin (says.Mark c.draw_begin-made.result.1) None) nothing c.self.invariant.2 c.self.invariant.3 c.lend.ensures.lent c.draw_begin-made.ensures.drew c.give_back.ensures.returned
+    (begin_kept c.args.order.now c.lend.new.locked c.draw_begin-made.new.seat c.self.inside.side c.draw_begin-made.new.side c.draw_begin-made.result.0 c.args.index (says.Mark c.draw_begin-made.result.1) c.draw_begin-made.ensures.drew (marking_is_due c.self.inside.seat.view c.args.mine.now.view c.lend.new.locked.view c.lend.new.mine.view c.self.inside.side c.args.index c.requires.may.opened c.requires.may.count c.requires.may.weakened c.requires.may.swept c.requires.may.seen c.requires.pass c.self.invariant.1 c.self.invariant.2 c.self.invariant.3 c.requires.may.stands c.lend.ensures.lent) c.draw_begin-made.ensures.reserve) in
+    (c.give_back.ensures.order.0 ∙ c.requires.order.0, d.owns, k, r)
 
-pub returns-clause-ok : goal.returns-clause-ok
-returns-clause-ok g c = (begin_called c.self.inside.seat.view c.args.mine.now.view c.lend.new.mine.view c.give_back.new.locked.view c.give_back.new.mine.view c.args.order.now c.lend.new.locked c.draw_begin-made.new.seat (seen c.self.inside.side) (seen c.draw_begin-made.new.side) c.args.index c.requires.pass c.self.invariant.1 (omega (arith, c.ranges.index.fits)) c.self.invariant.2 c.lend.ensures.lent c.give_back.ensures.returned c.draw_begin-made.result c.requires.may c.draw_begin-made.ensures.drew c.draw_begin-made.ensures.err).ok
-
-pub returns-clause-err : goal.returns-clause-err
-returns-clause-err g c = (begin_called c.self.inside.seat.view c.args.mine.now.view c.lend.new.mine.view c.give_back.new.locked.view c.give_back.new.mine.view c.args.order.now c.lend.new.locked c.draw_begin-made.new.seat (seen c.self.inside.side) (seen c.draw_begin-made.new.side) c.args.index c.requires.pass c.self.invariant.1 (omega (arith, c.ranges.index.fits)) c.self.invariant.2 c.lend.ensures.lent c.give_back.ensures.returned c.draw_begin-made.result c.requires.may c.draw_begin-made.ensures.drew c.draw_begin-made.ensures.err).err
+pub returns-clause-makes : goal.returns-clause-makes
+returns-clause-makes g c = begin_made c.self.inside.seat.view c.args.mine.now.view c.lend.new.mine.view c.give_back.new.locked.view c.give_back.new.mine.view c.args.order.now c.lend.new.locked c.draw_begin-made.new.seat (seen c.self.inside.side) (seen c.draw_begin-made.new.side) c.args.index c.requires.pass c.self.invariant.1 (omega (arith, c.ranges.index.fits)) c.self.invariant.2 c.lend.ensures.lent c.give_back.ensures.returned c.draw_begin-made.result.0 c.draw_begin-made.result.1 c.draw_begin-made.ensures.drew

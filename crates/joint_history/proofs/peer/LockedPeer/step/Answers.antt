@@ -8,6 +8,7 @@ use Rattle.peer_side.specs.Sides.{seen}
 use Rattle.joint_history.specs.Locked.{made_by}
 use Rattle.joint_history.proofs.Allowed.{turn_is_allowed}
 use Rattle.joint_history.proofs.LockedSteps.{called_peer, did, drew_more, drew_owns, more_back}
+use Rattle.joint_history.proofs.Reserving.{step_reserves}
 use Rattle.joint_history.proofs.peer.LockedPeer.step.Goals as goal
 
 pub give_back-requires-clause-more : goal.give_back-requires-clause-more
@@ -23,7 +24,9 @@ invariant_of-self g c =
     (drew_owns peer_rules 1 c.args.order.now c.lend.new.locked c.draw_step-made.new.seat (seen c.self.inside.side) (seen c.draw_step-made.new.side) make nothing c.draw_step-made.result c.draw_step-made.ensures.drew c.draw_step-made.ensures.err) c.give_back.ensures.returned in
     let w = called_peer c.args.caller c.args.index c.args.op.now c.args.cites nothing c.args.order.now c.self.inside.seat.view c.args.mine.now.view c.lend.new.mine.view c.give_back.new.locked.view c.give_back.new.mine.view c.lend.new.locked c.draw_step-made.new.seat (seen c.self.inside.side) (seen c.draw_step-made.new.side) c.draw_step-made.result
     c.requires.pass.0 c.requires.pass.1 c.self.invariant.1 (omega (arith, c.ranges.index.fits)) c.self.invariant.2 c.requires.may c.lend.ensures.lent c.draw_step-made.ensures.drew c.draw_step-made.ensures.err c.give_back.ensures.returned in
-    (c.give_back.ensures.order.0 ∙ c.requires.order.0, d.owns, w.knows)
+    let r = step_reserves c.args.caller c.args.index c.args.op.now c.args.cites c.args.order.now c.self.inside.seat.view c.args.mine.now.view c.lend.new.mine.view c.give_back.new.locked.view c.give_back.new.mine.view c.lend.new.locked c.draw_step-made.new.seat c.self.inside.side c.draw_step-made.new.side c.draw_step-made.result
+    c.requires.event c.self.invariant.2 c.self.invariant.3 c.lend.ensures.lent c.draw_step-made.ensures.drew c.draw_step-made.ensures.err c.draw_step-made.ensures.reserve c.give_back.ensures.returned in
+    (c.give_back.ensures.order.0 ∙ c.requires.order.0, d.owns, w.knows, r)
 
 pub returns-clause-ok : goal.returns-clause-ok
 returns-clause-ok g c =

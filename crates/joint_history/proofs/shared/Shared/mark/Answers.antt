@@ -1,8 +1,7 @@
 use Rattle.std.proofs.Common.{sym, subst}
-use Rattle.std.specs.Prelude.{IfOk, OnErr}
 use Rattle.joint_model.specs.Lines.{IsDriver}
 use Rattle.joint_history.specs.Callers.{Pass}
-use Rattle.joint_history.specs.DriverMarks.{MakesMark, MakesNoMark, MayMarkCycle}
+use Rattle.joint_history.specs.DriverMarks.{MakesMark, MayMarkCycle}
 use Rattle.joint_history.proofs.DriverHears.{driver_pass, driver_pass_back}
 use Rattle.joint_history.proofs.DriverMarks.{mark_knows}
 use Rattle.joint_history.proofs.shared.Shared.mark.Goals as goal
@@ -17,10 +16,7 @@ pub invariant_of-driver : goal.invariant_of-driver
 invariant_of-driver g c =
     let driver = subst (λ (p : Pass). IsDriver p.thread) (sym c.driver.view_is) c.requires.driver in
     let may = subst (λ (p : Pass). MayMarkCycle p.view c.args.index) (sym c.driver.view_is) c.requires.may in
-    (c.driver.invariant.0, c.mark.ensures.order, driver_pass_back c.driver.inside.thread c.mark.new.mine.view driver c.mark.ensures.pass, mark_knows c.driver.inside.thread c.driver.inside.seat.view c.mark.new.mine.view c.args.index c.mark.result driver may c.mark.ensures.ok c.mark.ensures.err)
+    (c.driver.invariant.0, c.mark.ensures.order, driver_pass_back c.driver.inside.thread c.mark.new.mine.view driver c.mark.ensures.pass, mark_knows c.driver.inside.thread c.driver.inside.seat.view c.mark.new.mine.view c.args.index c.mark.result driver may c.mark.ensures.makes)
 
-pub returns-clause-ok : goal.returns-clause-ok
-returns-clause-ok g c = subst (λ (p : Pass). IfOk c.mark.result (λ b. MakesMark p.view c.mark.new.mine.view c.args.index b)) c.driver.view_is c.mark.ensures.ok
-
-pub returns-clause-err : goal.returns-clause-err
-returns-clause-err g c = subst (λ (p : Pass). OnErr c.mark.result (MakesNoMark p.view c.mark.new.mine.view c.args.index)) c.driver.view_is c.mark.ensures.err
+pub returns-clause-makes : goal.returns-clause-makes
+returns-clause-makes g c = subst (λ (p : Pass). MakesMark p.view c.mark.new.mine.view c.args.index c.mark.result) c.driver.view_is c.mark.ensures.makes
