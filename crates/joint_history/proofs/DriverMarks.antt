@@ -1,8 +1,8 @@
 -- The driver's marking under the peer lock: after its sweep no marking is open, so its begin gives a number; and in its marked phase its own is open.
 use Rattle.std.proofs.Common.{◌≡◌, ◌⊎◌, inl, ⊎_elim, ℕ, ◌<◌, ◌^◌, Bool, true, false, List, length, Option, Some, None, refl, sym, ap, ◌∙◌, subst}
-use Rattle.std.specs.Prelude.{IsSome, Result, Ok, Err, IfOk, OnErr}
+use Rattle.std.specs.Prelude.{IsSome}
 use mathlib.Core.List.{IsPrefix}
-use base.Growing.{prefix_refl, prefix_trans}
+use base.Growing.{prefix_refl}
 use Rattle.joint_model.specs.declared.names.Marking.{Marking as Number}
 use Rattle.joint_model.specs.declared.names.Span.{Span}
 use Rattle.joint_model.specs.declared.names.Thread.{Thread}
@@ -30,7 +30,7 @@ use Rattle.joint_history.specs.Locked.{Drew, PeerKnows}
 use Rattle.joint_history.specs.Passing.{Lends, Returns}
 use Rattle.joint_history.proofs.DeadParts.{count_same}
 use Rattle.joint_history.proofs.DriverHears.{driver_knows}
-use Rattle.joint_history.proofs.DriverPeerSteps.{DrivenUnderPeers, IsUnderPeers, driven_peers, driven_peers_none, under_peers}
+use Rattle.joint_history.proofs.DriverPeerSteps.{DrivenUnderPeers, IsUnderPeers, driven_peers, under_peers}
 use Rattle.joint_history.proofs.LockedSteps.{grows_more, owns_on}
 
 -- the driver may end any marking
