@@ -8,141 +8,54 @@ use std::process::Abort;
 use std::test::Fail;
 use xref_list::Components;
 
-/// A graph of nodes, which are bridge nodes or plain ones, and edges.
-fn graph(
-    rt: &impl Abort,
-    alloc: Global,
-    bridges: &[bool],
-    edges: &[(u32, u32)],
-) -> Result<DeadGraph, AllocError> {
-    let mut builder = GraphBuilder::new(alloc);
-    for (i, bridge) in bridges.iter().enumerate() {
-        assert!(rt; i < 1000);
-        let number = i as u32 + 1;
-        assert!(rt; builder.next_is(MNum(number)));
-        builder.node(
-            MNum(number),
-            if *bridge { Some(HNum(number)) } else { None },
-            false,
-        )?;
-    }
-    for edge in edges {
-        assert!(rt; builder.may_lead(edge.0, edge.1));
-        builder.edge(edge.0, edge.1)?;
-    }
-    Ok(builder.finish())
-}
+/// A pair of nodes or of components.
+type Pair = (u32, u32);
 
-/// Checks components, pairs and mirror edges.
-fn expect(
-    rt: &impl Abort,
-    found: &Components,
-    components: &[&[u32]],
-    pairs: &[(u32, u32)],
-    mirror: &[(u32, u32)],
-) {
-    assert_eq!(rt; found.len() as usize, components.len());
-    for (i, members) in components.iter().enumerate() {
-        assert!(rt; i < found.len() as usize);
-        assert_eq!(rt; found.objs(i as u32), *members);
-    }
-    assert_eq!(rt; found.xrefs() as usize, pairs.len());
-    for (i, pair) in pairs.iter().enumerate() {
-        assert!(rt; i < found.xrefs() as usize);
-        assert_eq!(rt; found.xref(i as u32), *pair);
-    }
-    assert_eq!(rt; found.refs() as usize, mirror.len());
-    for (i, edge) in mirror.iter().enumerate() {
-        assert!(rt; i < found.refs() as usize);
-        assert_eq!(rt; found.mirror_edge(i as u32), *edge);
-    }
-}
+/// Nodes, which are bridge nodes or plain ones, and edges; and the components, the cross-references and the mirror edges.
+type Case = (
+    &'static [bool],
+    &'static [Pair],
+    &'static [&'static [u32]],
+    &'static [Pair],
+    &'static [Pair],
+);
 
-/// Runs both passes.
-fn both(
-    rt: &impl Abort,
-    alloc: Global,
-    bridges: &[bool],
-    edges: &[(u32, u32)],
-    components: &[&[u32]],
-    pairs: &[(u32, u32)],
-    mirror: &[(u32, u32)],
-) -> Result<(), AllocError> {
-    let graph = graph(rt, alloc, bridges, edges)?;
-    expect(rt, &contract(alloc, &graph)?, components, pairs, mirror);
-    expect(
-        rt,
-        &plain_contract(alloc, &graph)?,
-        components,
-        pairs,
-        mirror,
-    );
-    Ok(())
-}
-
-/// A walk that passes a bridge component is no cross-reference.
-#[test]
-fn through_plain_nodes(rt: HostRuntime) -> Result<(), Fail> {
-    both(
-        &rt,
-        rt.alloc(),
+const CASES: [Case; 8] = [
+    // a walk that passes a bridge component is no cross-reference
+    (
         &[true, false, false, true, true],
         &[(0, 1), (0, 2), (1, 3), (2, 3), (3, 4)],
         &[&[0], &[3], &[4]],
         &[(0, 1), (1, 2)],
         &[(0, 3), (3, 4)],
-    )?;
-    Ok(())
-}
-
-/// Cycles of three nodes, one node alone, and nothing.
-#[test]
-fn circles(rt: HostRuntime) -> Result<(), Fail> {
-    let edges = [(0, 1), (1, 2), (2, 0)];
-    both(
-        &rt,
-        rt.alloc(),
+    ),
+    // cycles of three nodes, one node alone, and nothing
+    (
         &[true, true, true],
-        &edges,
+        &[(0, 1), (1, 2), (2, 0)],
         &[&[0, 1, 2]],
         &[],
         &[(0, 1), (1, 2), (2, 0)],
-    )?;
-    both(
-        &rt,
-        rt.alloc(),
+    ),
+    (
         &[true, false, true],
-        &edges,
+        &[(0, 1), (1, 2), (2, 0)],
         &[&[0, 2]],
         &[],
         &[(0, 2), (2, 0)],
-    )?;
-    both(&rt, rt.alloc(), &[true], &[], &[&[0]], &[], &[])?;
-    both(&rt, rt.alloc(), &[], &[], &[], &[], &[])?;
-    Ok(())
-}
-
-/// References leave a cycle from several of its objects: no walk leads from node 0 to node 1.
-#[test]
-fn leaves_from_several(rt: HostRuntime) -> Result<(), Fail> {
-    both(
-        &rt,
-        rt.alloc(),
+    ),
+    (&[true], &[], &[&[0]], &[], &[]),
+    (&[], &[], &[], &[], &[]),
+    // references leave a cycle from several of its objects: no walk leads from node 0 to node 1
+    (
         &[true, true, true, true],
         &[(2, 0), (2, 3), (3, 1), (3, 2)],
         &[&[0], &[1], &[2, 3]],
         &[(2, 0), (2, 1)],
         &[(2, 3), (3, 2), (2, 0), (2, 1)],
-    )?;
-    Ok(())
-}
-
-/// A cycle of plain nodes is passed through, and one that has a bridge node is not.
-#[test]
-fn plain_cycles(rt: HostRuntime) -> Result<(), Fail> {
-    both(
-        &rt,
-        rt.alloc(),
+    ),
+    // a cycle of plain nodes is passed through, and one that has a bridge node is not
+    (
         &[true, false, false, true, false, true],
         &[
             (0, 1),
@@ -157,16 +70,9 @@ fn plain_cycles(rt: HostRuntime) -> Result<(), Fail> {
         &[&[0], &[3], &[5]],
         &[(0, 1), (1, 2)],
         &[(0, 3), (3, 5)],
-    )?;
-    Ok(())
-}
-
-/// Plain nodes that lead to the same components: along a chain, and where two ways meet.
-#[test]
-fn shared_sets(rt: HostRuntime) -> Result<(), Fail> {
-    both(
-        &rt,
-        rt.alloc(),
+    ),
+    // plain nodes that lead to the same components: along a chain, and where two ways meet
+    (
         &[
             true, true, true, true, false, false, false, false, false, false, false,
         ],
@@ -189,50 +95,109 @@ fn shared_sets(rt: HostRuntime) -> Result<(), Fail> {
         &[&[0], &[1], &[2], &[3]],
         &[(0, 2), (0, 3), (1, 2), (1, 3)],
         &[(0, 2), (0, 3), (1, 2), (1, 3)],
-    )?;
+    ),
+];
+
+/// A graph of nodes, which are bridge nodes or plain ones, and edges.
+fn graph(
+    rt: &impl Abort,
+    alloc: Global,
+    bridges: &[bool],
+    edges: &[Pair],
+) -> Result<DeadGraph, AllocError> {
+    let mut builder = GraphBuilder::new(alloc);
+    let mut number = 0u32;
+    for bridge in bridges {
+        number = number.saturating_add(1);
+        assert!(rt; builder.next_is(MNum(number)));
+        let handle = if *bridge { Some(HNum(number)) } else { None };
+        builder.node(MNum(number), handle, false)?;
+    }
+    for edge in edges {
+        assert!(rt; builder.may_lead(edge.0, edge.1));
+        builder.edge(edge.0, edge.1)?;
+    }
+    Ok(builder.finish())
+}
+
+/// Compares two pairs.
+fn expect_pair(rt: &impl Abort, found: Pair, wanted: Option<&Pair>) {
+    assert_eq!(rt; Some(&found), wanted);
+}
+
+/// Checks components, pairs and mirror edges.
+fn expect(rt: &impl Abort, found: &Components, case: &Case) {
+    for i in 0..found.len() {
+        assert_eq!(rt; Some(&found.objs(i)), case.2.get(i as usize));
+    }
+    for i in 0..found.xrefs() {
+        expect_pair(rt, found.xref(i), case.3.get(i as usize));
+    }
+    for i in 0..found.refs() {
+        expect_pair(rt, found.mirror_edge(i), case.4.get(i as usize));
+    }
+    let sizes = (
+        found.len() as usize,
+        found.xrefs() as usize,
+        found.refs() as usize,
+    );
+    assert_eq!(rt; sizes, (case.2.len(), case.3.len(), case.4.len()));
+}
+
+#[test]
+fn worked_graphs(rt: HostRuntime) -> Result<(), Fail> {
+    for case in &CASES {
+        let graph = graph(&rt, rt.alloc(), case.0, case.1)?;
+        expect(&rt, &contract(rt.alloc(), &graph)?, case);
+        expect(&rt, &plain_contract(rt.alloc(), &graph)?, case);
+    }
     Ok(())
 }
 
-/// Both passes say the same of graphs that are drawn at random.
+/// Both passes say the same.
+fn compare(rt: &impl Abort, fast: &Components, plain: &Components) {
+    assert!(rt; fast.len() == plain.len() && fast.xrefs() == plain.xrefs());
+    for i in 0..fast.len() {
+        assert!(rt; fast.objs(i) == plain.objs(i));
+    }
+    for i in 0..fast.xrefs() {
+        expect_pair(rt, fast.xref(i), Some(&plain.xref(i)));
+    }
+}
+
+/// The next number that is drawn, below a limit.
+fn draw(seed: &mut u32, below: u32) -> u32 {
+    *seed = seed.wrapping_mul(1_664_525).wrapping_add(1_013_904_223);
+    (*seed >> 16).checked_rem(below).unwrap_or(0)
+}
+
+/// A graph of so many nodes and edges that is drawn at random.
+fn drawn(
+    rt: &impl Abort,
+    alloc: Global,
+    seed: &mut u32,
+    nodes: u32,
+    edges: u32,
+) -> Result<DeadGraph, AllocError> {
+    let mut bridges = Vec::new(alloc);
+    for _ in 0..nodes {
+        bridges.push(draw(seed, 2) == 0)?;
+    }
+    let mut pairs = Vec::new(alloc);
+    for _ in 0..edges {
+        pairs.push((draw(seed, nodes), draw(seed, nodes)))?;
+    }
+    graph(rt, alloc, &bridges, &pairs)
+}
+
 #[test]
 fn drawn_graphs(rt: HostRuntime) -> Result<(), Fail> {
-    let alloc = rt.alloc();
-    let mut seed = 1u32;
+    let mut seed = 1;
     for round in 0..3000u32 {
-        let n = 4 + round % 9;
-        let mut builder = GraphBuilder::new(alloc);
-        for i in 0..n {
-            seed = seed.wrapping_mul(1_664_525).wrapping_add(1_013_904_223);
-            let number = i + 1;
-            assert!(rt; builder.next_is(MNum(number)));
-            let handle = if (seed >> 16) % 2 == 0 {
-                Some(HNum(number))
-            } else {
-                None
-            };
-            builder.node(MNum(number), handle, false)?;
-        }
-        for _ in 0..n + round % 7 {
-            seed = seed.wrapping_mul(1_664_525).wrapping_add(1_013_904_223);
-            let from = (seed >> 16) % n;
-            seed = seed.wrapping_mul(1_664_525).wrapping_add(1_013_904_223);
-            let to = (seed >> 16) % n;
-            assert!(rt; builder.may_lead(from, to));
-            builder.edge(from, to)?;
-        }
-        let graph = builder.finish();
-        let fast = contract(alloc, &graph)?;
-        let plain = plain_contract(alloc, &graph)?;
-        assert_eq!(rt; fast.len(), plain.len());
-        assert_eq!(rt; fast.xrefs(), plain.xrefs());
-        for i in 0..fast.len() {
-            assert!(rt; i < plain.len());
-            assert_eq!(rt; fast.objs(i), plain.objs(i));
-        }
-        for i in 0..fast.xrefs() {
-            assert!(rt; i < plain.xrefs());
-            assert_eq!(rt; fast.xref(i), plain.xref(i));
-        }
+        let nodes = 4 + round % 9;
+        let graph = drawn(&rt, rt.alloc(), &mut seed, nodes, nodes + round % 7)?;
+        let fast = contract(rt.alloc(), &graph)?;
+        compare(&rt, &fast, &plain_contract(rt.alloc(), &graph)?);
     }
     Ok(())
 }
