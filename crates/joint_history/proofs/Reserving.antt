@@ -1,5 +1,5 @@
--- What is reserved on the peer side stays so, whatever more its seat gets to know: the candidates of a mirrored cycle are the same to all who know its mirror,
--- and whether the cycle's own marking is still to come stands in the side's own entries.
+-- What is reserved on the peer side stays so, whatever more its seat gets to know: the candidates of a mirrored cycle are the same to all who know
+-- its mirror, and whether the cycle's own marking is still to come stands in the side's own entries.
 use Rattle.std.proofs.Common.{◌≡◌, ℕ, ◌+◌, ◌-◌, ◌≤◌, ◌==◌, ◌||◌, Bool, true, false, List, [], ◌∷◌, ◌++◌, length, Option, Some, None, refl, sym, ap, ◌∙◌, subst, arith, length-append}
 use Rattle.std.specs.Prelude.{if◌then◌else◌, Result, Ok, Err, IfOk, OnErr}
 use Rattle.std.proofs.lemmas.Bool.{both_ways}

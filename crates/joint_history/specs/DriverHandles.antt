@@ -1,5 +1,5 @@
--- The driver's calls on the handles of its mirrored cycle, under the peer lock: each candidate's handle is weakened, one after another; once the cycle's
--- own marking is over each is restored, in the same order; and then the mirrored references are cleared.
+-- The driver's calls on the handles of its mirrored cycle, under the peer lock: each candidate's handle is weakened, one after another; once the
+-- cycle's own marking is over each is restored, in the same order; and then the mirrored references are cleared.
 use Rattle.std.specs.Prelude.{◌≡◌, ℕ, ◌+◌, Bool, true, false, List, [], ◌∷◌, ◌++◌, length, Some, None}
 use Rattle.joint_model.specs.declared.names.Cycle.{Cycle}
 use Rattle.joint_model.specs.declared.names.HNum.{HNum}
@@ -13,7 +13,8 @@ use Rattle.peer_side.specs.Cycles.{reply_of}
 use Rattle.order_table.specs.declared.views.View.{View}
 use Rattle.joint_history.specs.Driven.{DriverMakes, DriverStands, driver_entry}
 
--- the handles of the first candidates of the driver's cycle are weakened, and this is the next one's; the cycle's snapshot is the entry with that number
+-- the handles of the first candidates of the driver's cycle are weakened, and this is the next one's; the cycle's snapshot is the entry with that
+-- number
 pub record MayWeakenHandle (v : View) (index snap h : ℕ) : Type 0 where
   pub opened : Opened
   pub count : ℕ

@@ -55,8 +55,8 @@ is_marking_due es = due_from false es
 abbrev pub HasRoomToWeaken : Linkage → ℕ → Type 0
 HasRoomToWeaken s left = (m : Mirror) → s.peer.mirror ≡ Some m → length (candidates_of s.managed.managed) ≤ length m.weakened + left
 
--- what is reserved on the peer side while its lock is free, by what its seat knows: no reference waits; each candidate of a mirrored cycle can be weakened;
--- and there is room for the cycle's own marking as long as that is still to come
+-- what is reserved on the peer side while its lock is free, by what its seat knows: no reference waits; each candidate of a mirrored cycle can be
+-- weakened; and there is room for the cycle's own marking as long as that is still to come
 pub record PeerReserves (v : View) (s : PeerModel) : Type 0 where
   pub none_waits : s.reserve.waiting ≡ []
   pub room : (k : IsKnownView v) → (end_of k.past).peer ≡ s.state → HasRoomToWeaken (end_of k.past) s.reserve.left

@@ -182,8 +182,8 @@ impl<N: OrderName> Shared<N> {
             .sweep(&self.order, &mut driver.seat, index)
     }
 
-    /// The driver restores the handle of the next candidate of its cycle: it is strong again, or it left the table since its peer was freed. Answers the
-    /// entry's number and which. It takes no memory.
+    /// The driver restores the handle of the next candidate of its cycle: it is strong again, or it left the table since its peer was freed. Answers
+    /// the entry's number and which. It takes no memory.
     pub fn restore(
         &self,
         rt: &impl Wait,
@@ -201,8 +201,8 @@ impl<N: OrderName> Shared<N> {
             .restore(&self.order, &mut driver.seat, index, h)
     }
 
-    /// The driver clears the references of its cycle, all of whose handles are restored: no reference is mirrored any more. Answers the entry's number,
-    /// which the cycle's resolve cites. It takes no memory.
+    /// The driver clears the references of its cycle, all of whose handles are restored: no reference is mirrored any more. Answers the entry's
+    /// number, which the cycle's resolve cites. It takes no memory.
     pub fn clear(&self, rt: &impl Wait, driver: &mut Caller<N>, index: u32, cycle: Cycle) -> u64
         requires driver { IsDriver driver.old.thread }
         requires may { MayClearCycle driver.old.view index cycle.0 }

@@ -1,5 +1,5 @@
-// The driver's calls on the handles of its mirrored cycle, under the peer lock. Each makes one entry and takes no memory: what they want was reserved before the
-// cycle was mirrored.
+// The driver's calls on the handles of its mirrored cycle, under the peer lock. Each makes one entry and takes no memory: what they want was reserved
+// before the cycle was mirrored.
 
 ghost use Rattle.std.specs.Prelude.{◌≡◌, ◌≤◌, None, Some};
 ghost use Rattle.joint_model.specs.declared.names.Thread.TheVariants.{C};
@@ -95,8 +95,8 @@ fn draw_clear(side: &mut PeerSide, order: &Order, seat: &mut Seat, index: u32, c
 }
 
 impl<N: OrderName> LockedPeer<N> {
-    /// Weakens the handle of the next candidate of the driver's cycle, whose snapshot is the entry with that number. Answers the entry's number. `mine` is the
-    /// driver's seat, which knows the entry then. It takes no memory.
+    /// Weakens the handle of the next candidate of the driver's cycle, whose snapshot is the entry with that number. Answers the entry's number.
+    /// `mine` is the driver's seat, which knows the entry then. It takes no memory.
     pub(crate) fn weaken(
         &mut self,
         order: &Order,
@@ -118,8 +118,8 @@ impl<N: OrderName> LockedPeer<N> {
         made
     }
 
-    /// Restores the handle of the next candidate of the driver's cycle: it is strong again, or it left the table since its peer was freed. Answers the
-    /// entry's number and which. `mine` is the driver's seat, which knows the entry then. It takes no memory.
+    /// Restores the handle of the next candidate of the driver's cycle: it is strong again, or it left the table since its peer was freed. Answers
+    /// the entry's number and which. `mine` is the driver's seat, which knows the entry then. It takes no memory.
     pub(crate) fn restore(
         &mut self,
         order: &Order,
