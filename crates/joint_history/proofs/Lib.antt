@@ -28,3 +28,4 @@ pub mod Joined
 pub mod Narrow
 pub mod Giving
 pub mod Running
+pub mod Collecting

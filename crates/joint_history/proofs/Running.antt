@@ -31,7 +31,8 @@ use Rattle.peer_side.specs.Steps.{IsRelease, IsStepLine}
 use Rattle.joint_history.specs.Callers.{CallerKnows, last_index}
 use Rattle.joint_history.specs.Knowing.{line_known}
 use Rattle.joint_history.specs.Locked.{Makes, MakesNone, MayMake, doing_from, made_by}
-use Rattle.joint_history.specs.Operations.{AreAbove, BreaksOff, IsFirst, IsOperationOf, IsOwnThread, IsSideEvent, MakesAll, MayBegin, Runs, answer_of, entry_by, first_of, second_of, third_of}
+use Rattle.joint_history.specs.Collecting.{IsPeerOperation}
+use Rattle.joint_history.specs.Operations.{AreAbove, BreaksOff, IsFirst, IsOperationOf, IsOwnThread, IsSideEvent, MakesAll, MayBegin, Runs, answer_of, cited_by, entry_by, first_of, second_of, third_of}
 use Rattle.joint_history.proofs.LastLines.{last_line_is}
 use Rattle.joint_history.proofs.Narrow.{GripsFew, past_grips_few}
 use Rattle.joint_history.proofs.Turning.{first_may, met_then_release, stands_knows, then_adopt, then_land, then_meet, then_release}
@@ -62,7 +63,7 @@ on_err (Err x) p w = w
 pub makes_first : (t : Thread) (old new : View) (e : Entry) (told : Told) → Makes t old new e told → MakesAll t old new (e ∷ [])
 makes_first t old new e told m = record { own_more = m.own; more = m.more; above = (m.above, tt) }
 
-above_more : (v w : View) (es : List Entry) (e : Entry) → ((i : ℕ) → IsPrefix (known v i) (known w i)) → AreAbove v es → ((i : ℕ) → IsBelow e.number (known w i)) → AreAbove v (es ++ e ∷ [])
+pub above_more : (v w : View) (es : List Entry) (e : Entry) → ((i : ℕ) → IsPrefix (known v i) (known w i)) → AreAbove v es → ((i : ℕ) → IsBelow e.number (known w i)) → AreAbove v (es ++ e ∷ [])
 above_more v w [] e more a b = (λ i. below_begins e.number (known v i) (known w i) (more i) (b i), tt)
 above_more v w (x ∷ es) e more a b = (a.0, above_more v w es e more a.1 b)
 
@@ -167,19 +168,21 @@ second_follows n old new k index (act.Dispose v) (says.H h) o is m e = subst (Fo
   may = then_release n old new k index v h None nothing m;
   made = record { peer = λ z. is.0; take = no_take (M n); managed = λ z q. never_managed _ z };
 })
+second_follows n old new k index act.Collect answered o is m e = absurd is.1
 second_follows n old new k index a answered o is m e = absurd (none_some o e)
 
--- a peer thread's operation has no second event
-peers_have_none : (n : ℕ) (a : Act) (answered : Reply) (o : Op) → IsLine (P n) a → second_of a answered ≡ Some o → ⊥
-peers_have_none n (act.Bridge v kind b sort f) answered o is e = is.1
-peers_have_none n (act.Pass v x) answered o is e = is.1
-peers_have_none n (act.Surface v x) answered o is e = is.1
-peers_have_none n (act.Dispose v) answered o is e = is.1
+-- a peer thread's line of one event has no second one
+peers_have_none : (n : ℕ) (a : Act) (answered : Reply) (o : Op) → IsStepLine a → second_of a answered ≡ Some o → ⊥
+peers_have_none n (act.Bridge v kind b sort f) answered o is e = is
+peers_have_none n (act.Pass v x) answered o is e = is
+peers_have_none n (act.Surface v x) answered o is e = is
+peers_have_none n (act.Dispose v) answered o is e = is
+peers_have_none n act.Collect answered o is e = is
 peers_have_none n a answered o is e = none_some o e
 
 pub second_comes : (t : Thread) (old new : View) (k index : ℕ) (a : Act) (answered : Reply) (o : Op) → IsOperationOf t a → Makes t old new (entry_by t index k (first_of a) answered None) nothing → second_of a answered ≡ Some o → Follows t new index k o
 second_comes (M n) old new k index a answered o is m e = second_follows n old new k index a answered o is m e
-second_comes (P n) old new k index a answered o is m e = absurd (peers_have_none n a answered o is.0 e)
+second_comes (P n) old new k index a answered o is m e = absurd (peers_have_none n a answered o is.1 e)
 second_comes C old new k index a answered o is m e = absurd is
 
 -- only a meet has a third event after it
@@ -198,7 +201,7 @@ third_follows n old new j k index second reply third is m e = absurd (none_some 
 
 pub third_comes : (t : Thread) (old new : View) (j k index : ℕ) (a : Act) (answered : Reply) (second : Op) (reply : Reply) (third : Op) → IsOperationOf t a → second_of a answered ≡ Some second → Makes t old new (entry_by t index k second reply (Some j)) nothing → third_of second reply ≡ Some third → Follows t new index k third
 third_comes (M n) old new j k index a answered second reply third is f m e = third_follows n old new j k index second reply third is.0 m e
-third_comes (P n) old new j k index a answered second reply third is f m e = absurd (peers_have_none n a answered second is.0 f)
+third_comes (P n) old new j k index a answered second reply third is f m e = absurd (peers_have_none n a answered second is.1 f)
 third_comes C old new j k index a answered second reply third is f m e = absurd is
 
 -- the third event is a release, which takes no memory
@@ -223,6 +226,7 @@ stays_first n k index (act.Bridge v kind b sort f) (says.Made p h) second e keep
 stays_first n k index (act.Pass v x) (says.H h) second e keeps = tt
 stays_first n k index (act.Surface v x) (says.Gripped p h sort f) second e keeps = tt
 stays_first n k index (act.Dispose v) (says.H h) second e keeps = absurd (keeps (subst IsRelease (some_is (op.Release h) second e) tt))
+stays_first n k index act.Collect answered second e keeps = tt
 stays_first n k index a answered second e keeps = absurd (none_some second e)
 
 met_done : (k index : ℕ) (v : Var) (p : PNum) (h : HNum) (sort : Sort) (f : ℕ) (reply : Reply) → third_of (op.Meet v p h sort f) reply ≡ None → IsDone (doing_after k index (op.Meet v p h sort f) reply)
@@ -236,6 +240,7 @@ ends_second n k index (act.Surface v x) (says.Gripped p h sort f) second reply e
     let is = some_is (op.Meet v p h sort f) second e in
     subst (λ o. IsDone (doing_after k index o reply)) is (met_done k index v p h sort f reply (subst (λ o. third_of o reply ≡ None) (sym is) ends))
 ends_second n k index (act.Dispose v) (says.H h) second reply e ends = subst (λ o. IsDone (doing_after k index o reply)) (some_is (op.Release h) second e) tt
+ends_second n k index act.Collect (says.Mark j) second reply e ends = subst (λ o. IsDone (doing_after k index o reply)) (some_is op.Sweep second e) tt
 ends_second n k index a answered second reply e ends = absurd (none_some second e)
 
 ends_third : (n k index : ℕ) (third : Op) (reply : Reply) → IsRelease third → IsDone (doing_after k index third reply)
@@ -260,6 +265,20 @@ beginner_is_below t v index is b =
     let e = last_line_is b.stands.known.past t is ∙ ap last_index (sym (b.stands.known.same (caller_line t))) in
     let l = b.stands.last in
     omega (arith, e, l)
+
+-- but for a collect, which is made in one hold of a lock, the second event cites the first
+managed_cites : (n : ℕ) (a : Act) (answered : Reply) (second : Op) (first : ℕ) → IsLine (M n) a → second_of a answered ≡ Some second → cited_by second first ≡ Some first
+managed_cites n (act.Bridge v kind b sort f) (says.Made p h) second first is e = subst (λ o. cited_by o first ≡ Some first) (some_is (op.Adopt v kind b p h) second e) refl
+managed_cites n (act.Pass v x) (says.H h) second first is e = subst (λ o. cited_by o first ≡ Some first) (some_is (op.Land h x) second e) refl
+managed_cites n (act.Surface v x) (says.Gripped p h sort f) second first is e = subst (λ o. cited_by o first ≡ Some first) (some_is (op.Meet v p h sort f) second e) refl
+managed_cites n (act.Dispose v) (says.H h) second first is e = subst (λ o. cited_by o first ≡ Some first) (some_is (op.Release h) second e) refl
+managed_cites n act.Collect answered second first is e = absurd is.1
+managed_cites n a answered second first is e = absurd (none_some second e)
+
+cites_first : (t : Thread) (a : Act) (answered : Reply) (second : Op) (first : ℕ) → IsOperationOf t a → second_of a answered ≡ Some second → cited_by second first ≡ Some first
+cites_first (M n) a answered second first is e = managed_cites n a answered second first is e
+cites_first (P n) a answered second first is e = absurd (peers_have_none n a answered second is.1 e)
+cites_first C a answered second first is e = absurd is
 
 -- the ends of an operation, at the numbers and replies of its events
 module _ (t : Thread) (index : ℕ) (a : Act) (old one : View) (first : ℕ) (answered : Reply) (start : Op) (begins : start ≡ first_of a) (makes : Makes t old one (entry_by t index first start answered None) nothing) where
@@ -298,15 +317,15 @@ module _ (t : Thread) (index : ℕ) (a : Act) (old one : View) (first : ℕ) (an
     pub second_begins : third_of second reply ≡ None → MayBegin t two index
     second_begins e = begins_after t one two _ nothing m2 (of_thread t _ (λ n q. ends_second n number index a answered second reply f e))
 
-    pub second_ends : third_of second reply ≡ None → Runs t old two index a (record { first = first; last = number; reply = answer_of a answered reply })
-    second_ends e = record {
+    pub second_ends : IsOperationOf t a → third_of second reply ≡ None → Runs t old two index a (record { first = first; last = number; reply = answer_of a answered reply })
+    second_ends is e = record {
       entries = entry_by t index first (first_of a) answered None ∷ entry_by t index number second reply (Some first) ∷ [];
       made = both;
       operation = record {
         answered = answered;
         rest = entry_by t index number second reply (Some first) ∷ [];
         all = refl;
-        ends = inr (inl (record { second = second; reply = reply; follows = f; no_third = e; one_more = refl; answer = refl }));
+        ends = inr (inl (record { second = second; reply = reply; follows = f; no_third = e; one_more = ap (λ c. entry_by t index number second reply c ∷ []) (sym (cites_first t a answered second first is f)); answer = refl }));
       };
     }
 
@@ -345,20 +364,24 @@ managed_operation (M n) a is line = line
 managed_operation (P n) a is line = absurd is
 managed_operation C a is line = absurd is
 
-pub peer_operation : (t : Thread) (a : Act) → IsPeerThread t → IsLine t a → IsStepLine a → IsOperationOf t a
-peer_operation (M n) a is line step = absurd is
-peer_operation (P n) a is line step = (line, step)
-peer_operation C a is line step = absurd is
+step_line : (a : Act) → IsPeerOperation a → (a ≡ act.Collect → ⊥) → IsStepLine a
+step_line act.Collect is other = absurd (other refl)
+step_line a is other = is
 
--- a peer thread's operation that found no memory made nothing
-pub peer_makes_none : (t : Thread) (old new : View) (index : ℕ) (a : Act) → IsPeerThread t → IsLine t a → BreaksOff t old new index a → MakesAll t old new []
+pub peer_operation : (t : Thread) (a : Act) → IsPeerThread t → IsLine t a → IsPeerOperation a → (a ≡ act.Collect → ⊥) → IsOperationOf t a
+peer_operation (M n) a is line step other = absurd is
+peer_operation (P n) a is line step other = (line, step_line a step other)
+peer_operation C a is line step other = absurd is
+
+-- a peer thread's line of one event that found no memory made nothing
+pub peer_makes_none : (t : Thread) (old new : View) (index : ℕ) (a : Act) → IsPeerThread t → IsOperationOf t a → BreaksOff t old new index a → MakesAll t old new []
 peer_makes_none (M n) old new index a is line b = absurd is
 peer_makes_none (P n) old new index a is line b = ⊎_elim
     (λ e. subst (MakesAll (P n) old new) e b.made)
-    (λ f. absurd (peers_have_none n a f.answered f.second line f.follows))
+    (λ f. absurd (peers_have_none n a f.answered f.second line.1 f.follows))
     b.begun
 peer_makes_none C old new index a is line b = absurd is
 
-pub breaks_none : {A E : Type 0} (t : Thread) (old new : View) (index : ℕ) (a : Act) (result : Result A E) → IsPeerThread t → IsLine t a → OnErr result (BreaksOff t old new index a) → OnErr result (MakesAll t old new [])
+pub breaks_none : {A E : Type 0} (t : Thread) (old new : View) (index : ℕ) (a : Act) (result : Result A E) → IsPeerThread t → IsOperationOf t a → OnErr result (BreaksOff t old new index a) → OnErr result (MakesAll t old new [])
 breaks_none t old new index a (Ok x) is line b = tt
 breaks_none t old new index a (Err x) is line b = peer_makes_none t old new index a is line b

@@ -5,6 +5,7 @@ pub mod Locked
 pub mod Desks
 pub mod Ending
 pub mod Operations
+pub mod Collecting
 pub mod Driven
 pub mod DriverDraws
 pub mod DriverSnaps

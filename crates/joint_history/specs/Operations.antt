@@ -56,6 +56,7 @@ first_of (act.Bridge v kind n sort f) = op.Make sort f
 first_of (act.Pass v x) = op.Lend v x
 first_of (act.Surface v x) = op.Grip x
 first_of (act.Dispose v) = op.Give v
+first_of act.Collect = op.Begin
 first_of a = op.Line a
 
 -- the second event, by the reply to the first one; none where the operation ends with its first
@@ -64,7 +65,13 @@ second_of (act.Bridge v kind n sort f) (says.Made p h) = Some (op.Adopt v kind n
 second_of (act.Pass v x) (says.H h) = Some (op.Land h x)
 second_of (act.Surface v x) (says.Gripped p h sort f) = Some (op.Meet v p h sort f)
 second_of (act.Dispose v) (says.H h) = Some (op.Release h)
+second_of act.Collect (says.Mark j) = Some op.Sweep
 second_of a reply = None
+
+-- what the second event cites: the first one, but the sweep of a collect cites nothing
+abbrev pub cited_by : Op → ℕ → Option ℕ
+cited_by op.Sweep n = None
+cited_by o n = Some n
 
 -- the third event, by the second one and its reply: the release of a handle that a meet didn't take
 abbrev pub third_of : Op → Reply → Option Op
@@ -110,13 +117,13 @@ pub record EndsWithFirst (a : Act) (answered : Reply) (rest : List Entry) (r : R
   pub last : r.last ≡ r.first
   pub answer : r.reply ≡ answered
 
--- it ended with its second event, which cites the first
+-- it ended with its second event
 pub record EndsWithSecond (t : Thread) (index : ℕ) (a : Act) (answered : Reply) (rest : List Entry) (r : Receipt) : Type 0 where
   pub second : Op
   pub reply : Reply
   pub follows : second_of a answered ≡ Some second
   pub no_third : third_of second reply ≡ None
-  pub one_more : rest ≡ entry_by t index r.last second reply (Some r.first) ∷ []
+  pub one_more : rest ≡ entry_by t index r.last second reply (cited_by second r.first) ∷ []
   pub answer : r.reply ≡ answer_of a answered reply
 
 -- it ended with its third event, which cites the second

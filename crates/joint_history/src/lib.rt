@@ -9,6 +9,7 @@
 #![tactic(auto)]
 
 mod callers;
+mod collects;
 mod desks;
 mod driven;
 mod driving;

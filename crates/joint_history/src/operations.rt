@@ -5,8 +5,9 @@
 ghost use Rattle.std.specs.Prelude.{◌≡◌, ◌≤◌, [], IfOk, IsOk, None, OnErr, Some};
 ghost use Rattle.joint_model.specs.Lines.{IsLine, IsManagedThread, IsPeerThread, is_peer_event};
 ghost use Rattle.joint_model.specs.Told.{nothing};
-ghost use Rattle.peer_side.specs.Steps.{IsRelease, IsStepLine};
+ghost use Rattle.peer_side.specs.Steps.{IsRelease};
 ghost use Rattle.joint_history.specs.Callers.{HoldsPass, last_index, own};
+ghost use Rattle.joint_history.specs.Collecting.{Collects, IsPeerOperation};
 ghost use Rattle.joint_history.specs.Locked.{MayMake, Makes, MakesNone};
 ghost use Rattle.joint_history.specs.Operations.{BreaksOff, IsOperationOf, IsOwnThread, IsSideEvent, MakesAll, MayBegin, Runs, answer_of, entry_by, first_of, second_of, taken_by, third_of};
 
@@ -35,6 +36,7 @@ fn first_of(act: &Act) -> Op
         Act::Pass { v, x } => Op::Lend { v, x },
         Act::Surface { v: _, x } => Op::Grip { x },
         Act::Dispose { v } => Op::Give { v },
+        Act::Collect => Op::Begin,
         _ => Op::Line(*act),
     }
 }
@@ -68,6 +70,7 @@ fn second_of(act: &Act, reply: Reply) -> Option<Op>
             fields,
         }),
         (Act::Dispose { v: _ }, Reply::H(h)) => Some(Op::Release { h }),
+        (Act::Collect, Reply::Mark(_)) => Some(Op::Sweep),
         _ => None,
     }
 }
@@ -223,8 +226,9 @@ impl<N: OrderName> Shared<N> {
         self.run(rt, &mut caller.seat, caller.thread, index, act)
     }
 
-    /// Runs an operation of a peer thread that is one event, on a script line that isn't below that of the caller's last entry. The caller knows
-    /// the event afterwards. Answers `AllocError` where there is no memory, and no entry is made then.
+    /// Runs an operation of a peer thread, on a script line that isn't below that of the caller's last entry. The caller knows its entries
+    /// afterwards. An operation is one event, but a `collect` is a begin and, if that gave a number, the sweep of that marking, made in one hold
+    /// of the peer lock. Answers `AllocError` where there is no memory, and no entry is made then.
     pub fn peer(
         &self,
         rt: &impl Wait,
@@ -232,13 +236,20 @@ impl<N: OrderName> Shared<N> {
         index: u32,
         act: &Act,
     ) -> Result<Receipt, AllocError>
-        requires act { IsPeerThread caller.old.thread × IsLine caller.old.thread act.now × IsStepLine act.now }
+        requires act { IsPeerThread caller.old.thread × IsLine caller.old.thread act.now × IsPeerOperation act.now }
         requires index { last_index (own caller.old) ≤ index }
         ensures thread { caller.new.thread ≡ caller.old.thread }
         ensures index { last_index (own caller.new) ≤ index }
         ensures ok { IfOk result (λ r. Runs caller.old.thread caller.old.view caller.new.view index act.now r) }
+        ensures collect { act.now ≡ Act.Collect → IfOk result (λ r. Collects caller.old.thread caller.old.view caller.new.view index r) }
         ensures err { OnErr result (MakesAll caller.old.thread caller.old.view caller.new.view []) }
     {
+        if let Act::Collect = act {
+            return self
+                .peers
+                .lock(rt)
+                .collect(&self.order, &mut caller.seat, caller.thread, index);
+        }
         self.run(rt, &mut caller.seat, caller.thread, index, act)
     }
 }

@@ -1,0 +1,377 @@
+-- A collect under the peer lock: what the side's call draws by a seat, and what the locked seat and the caller know after it.
+use Rattle.std.proofs.Common.{◌≡◌, ◌⊎◌, inl, inr, ⊎_elim, ℕ, Bool, true, false, ◌||◌, ◌+◌, ◌<◌, ◌≤◌, ◌^◌, List, [], ◌∷◌, ◌++◌, length, Option, Some, None, refl, sym, ap, ◌∙◌, subst, append-nil, append_assoc, arith}
+use Rattle.std.specs.Prelude.{if◌then◌else◌, nat_eq, Result, Ok, Err, IfOk, OnErr, slice_get}
+use mathlib.Core.List.{IsPrefix}
+use base.Growing.{prefix_refl, prefix_trans}
+use Rattle.std.proofs.lemmas.Cmp.{nat_eq_equiv}
+use Rattle.joint_model.specs.declared.names.MNum.{MNum}
+use Rattle.joint_model.specs.declared.names.Marking.{Marking as Number}
+use Rattle.joint_model.specs.declared.names.Span.{Span}
+use Rattle.joint_model.specs.declared.names.Thread.{Thread}
+use Rattle.joint_model.specs.declared.names.Thread.TheVariants.{M, P, C}
+use Rattle.joint_model.specs.declared.lines.Act.TheVariants as act
+use Rattle.joint_model.specs.declared.events.Entry.{Entry}
+use Rattle.joint_model.specs.declared.events.Made.{Made}
+use Rattle.joint_model.specs.declared.events.Op.{Op}
+use Rattle.joint_model.specs.declared.events.Op.TheVariants as op
+use Rattle.joint_model.specs.declared.events.Reply.{Reply}
+use Rattle.joint_model.specs.declared.events.Reply.TheVariants as says
+use Rattle.joint_model.specs.Control.{free, last_line}
+use Rattle.joint_model.specs.Draws.{numbered}
+use Rattle.joint_model.specs.Heaps.{answer}
+use Rattle.joint_model.specs.HistoryLines.{caller_line}
+use Rattle.joint_model.specs.Lines.{IsPeerThread, IsThread}
+use Rattle.joint_model.specs.Linked.{peer_after}
+use Rattle.joint_model.specs.PeerReplay.{Marking, PeerReplay, SweepAllows, is_thread, peer_answer, swept, swept_of}
+use Rattle.joint_model.specs.Sides.{Drawing, Side, GoesOn, AddsLawful, AddsInTurn, peer_rules}
+use Rattle.joint_model.specs.Told.{Told, Noted, nothing, sweep_of}
+use Rattle.known_laws.specs.Pasts.{end_of}
+use Rattle.order_table.specs.declared.views.Kept.{Kept}
+use Rattle.order_table.specs.declared.views.Role.TheVariants as role
+use Rattle.order_table.specs.declared.views.View.{View}
+use Rattle.order_table.specs.Facts.{line_entries}
+use Rattle.order_table.specs.Rule.{IsBelow}
+use Rattle.order_table.specs.Views.{OrderId, Shown, known, kept, Owns, role_line}
+use Rattle.order_table.proofs.Lines.{below_begins}
+use Rattle.peer_side.specs.Makings.{collect_makings, number_in}
+use Rattle.joint_history.specs.declared.callers.Receipt.{Receipt}
+use Rattle.joint_history.specs.declared.seats.Drawing.{Drawing as SeatDrawing}
+use Rattle.joint_history.specs.Callers.{HoldsPass}
+use Rattle.joint_history.specs.Collecting.{Collects, DrawsCollect, DrawsRefusal, DrawsWhole, began_at, refused_at, swept_at}
+use Rattle.joint_history.specs.Knowing.{IsKnownView, line_known, note_of}
+use Rattle.joint_history.specs.Locked.{Drew, MakesNone, PeerKnows, Stands}
+use Rattle.joint_history.specs.Operations.{MakesAll, MayBegin, Runs, entry_by}
+use Rattle.joint_history.specs.Passing.{Appends, Lends, Returns}
+use Rattle.joint_history.proofs.KnownCallers.{own_line}
+use Rattle.joint_history.proofs.KnownViews.{entries_snoc}
+use Rattle.joint_history.proofs.LockedSteps.{entered_by, grows_more, knows_peers_still, last_told, lent_joined, makes_none, own_told, owns_on, stands_same}
+use Rattle.joint_history.proofs.Running.{above_more, makes_nothing}
+use Rattle.joint_history.proofs.Standing.{last_of_own}
+use Rattle.joint_history.proofs.Turning.{begins_still}
+
+-- what stands after a list is found at its end
+at_end : (es fs : List Entry) (e : Entry) → slice_get (es ++ e ∷ fs) (length es) ≡ Some e
+at_end [] fs e = refl
+at_end (x ∷ es) fs e = at_end es fs e
+
+number_of : (e f : Entry) → Some e ≡ Some f → e.number ≡ f.number
+number_of e f w = ap (λ (o : Option Entry). elim o [ None ↦ 0 | Some x ↦ x.number ]) w
+
+-- a sweep that tells what it freed answers which marking it ended
+record AnswersSwept (reply : Reply) : Type 0 where
+  pub marking : Number
+  pub freed : Span
+  pub is : reply ≡ says.Swept marking freed
+
+same_number : (n : ℕ) → nat_eq n n ≡ true
+same_number n = nat_eq_equiv.refl n
+
+by_itself : (t : Thread) → (is_thread t C || is_thread t t) ≡ true
+by_itself (M n) = same_number n
+by_itself (P n) = same_number n
+by_itself C = refl
+
+may_sweep : (t by : Thread) → (t ≡ C) ⊎ (t ≡ by) → (is_thread t C || is_thread t by) ≡ true
+may_sweep t by (inl e) = subst (λ u. (is_thread u C || is_thread u by) ≡ true) (sym e) refl
+may_sweep t by (inr e) = subst (λ u. (is_thread t C || is_thread t u) ≡ true) e (by_itself t)
+
+swept_so : (s : PeerReplay) (o : Option Marking) (t : Thread) (gone : List ℕ) → SweepAllows s o t (sweep_of gone) → AnswersSwept (swept s o t gone).reply
+swept_so s None (M n) gone w = absurd w
+swept_so s None (P n) gone w = absurd w
+swept_so s None C gone w = absurd w
+swept_so s (Some mk) t gone w = record {
+  marking = record { 0 = mk.number };
+  freed = record { first = length s.peers.heap.freed; count = length gone };
+  is = ap (λ (b : Bool). (if b then swept_of s mk gone else answer (says.MarkOpen record { 0 = mk.number }) s).reply) (may_sweep t mk.by w.0);
+}
+
+-- a draw by a seat keeps which seat it is and the role, and leaves the number of its entry and the seat with that entry
+abbrev DrewBy : SeatDrawing → Entry → Option MNum → List MNum → SeatDrawing → Type 0
+DrewBy a e m freed b = (b.seat.ghost_name ≡ a.seat.ghost_name) × (b.role ≡ a.role) × (b.last ≡ e.number) × Appends a.order.now b.order.now a.seat.now b.seat.now (role_line a.role) (kept a.seat.now.view e.made m freed e.number)
+
+module _ (d : Drawing SeatDrawing) (reads : (a b : SeatDrawing) (e : Entry) (m : Option MNum) (freed : List MNum) → d.drew a e m freed b → DrewBy a e m freed b) (order : OrderId) where
+  record DrewOne (a b : SeatDrawing) (old new : Side PeerReplay) (m : Made) (told : Told) : Type 0 where
+    pub number : ℕ
+    pub drew : Drew peer_rules 1 order a.seat.now b.seat.now old new (numbered number m) told
+    pub name : b.seat.ghost_name ≡ a.seat.ghost_name
+    pub role_is : b.role ≡ role.Peer
+    pub order_is : b.order.now ≡ order
+    pub last : b.last ≡ number
+
+  drew_one : (a b : SeatDrawing) (old new : Side PeerReplay) (m : Made) (told : Told) → a.order.now ≡ order → a.role ≡ role.Peer → AddsLawful peer_rules d a b old new m told → DrewOne a b old new m told
+  drew_one a b old new m told o r w =
+      let n = w.draws.adds.number in
+      let x = reads a b (numbered n m) _ _ w.draws.adds.drawn in
+      let k = kept a.seat.now.view m _ _ n in
+      let y = subst (λ l. Appends a.order.now b.order.now a.seat.now b.seat.now l k) (ap role_line r) x.3 in
+      let z = subst (λ p. Appends a.order.now p a.seat.now b.seat.now 1 k) (y.same_order ∙ o) y in
+      record {
+        number = n;
+        drew = record { kept = k; entry = refl; appends = subst (λ p. Appends p order a.seat.now b.seat.now 1 k) o z; added = w.draws.adds.added; goes = w.goes };
+        name = x.0;
+        role_is = x.1 ∙ r;
+        order_is = y.same_order ∙ o;
+        last = x.2;
+      }
+
+  pub record CollectDrew (a b : SeatDrawing) (old new : Side PeerReplay) (t : Thread) (index : ℕ) (reply : Reply) : Type 0 where
+    pub first : ℕ
+    pub stands : (e : Entry) → slice_get new.entries (length old.entries) ≡ Some e → e.number ≡ first
+    pub there : slice_get new.entries (length old.entries) ≡ None → ⊥
+    pub name : b.seat.ghost_name ≡ a.seat.ghost_name
+    pub drew : DrawsCollect order a.seat.now b.seat.now old new t index (record { first = first; last = b.last; reply = reply })
+
+  refused_drew : (a b : SeatDrawing) (old new : Side PeerReplay) (t : Thread) (index : ℕ) (j : Number) (gone : List ℕ) → a.order.now ≡ order → a.role ≡ role.Peer
+      → AddsInTurn peer_rules d a b old new (collect_makings t index (says.MarkOpen j) gone) → CollectDrew a b old new t index (says.MarkOpen j)
+  refused_drew a b old new t index j gone o r w =
+      let one = drew_one a w.0 old w.1 _ nothing o r w.2 in
+      let is = w.3 in
+      let at : slice_get new.entries (length old.entries) ≡ Some (refused_at t index one.number j) = ap (λ (s : Side PeerReplay). slice_get s.entries (length old.entries)) is.1 ∙ (ap (λ es. slice_get es (length old.entries)) one.drew.added ∙ at_end old.entries [] _) in
+      record {
+        first = one.number;
+        stands = λ e q. number_of e (refused_at t index one.number j) (sym q ∙ at);
+        there = λ q. (let v : None ≡ Some (refused_at t index one.number j) = sym q ∙ at in cc);
+        name = ap (λ (x : SeatDrawing). x.seat.ghost_name) is.0 ∙ one.name;
+        drew = inr (record {
+          marking = j;
+          drew = subst (λ (s : Side PeerReplay). Drew peer_rules 1 order a.seat.now b.seat.now old s (refused_at t index one.number j) nothing) (sym is.1)
+              (subst (λ (x : SeatDrawing). Drew peer_rules 1 order a.seat.now x.seat.now old w.1 (refused_at t index one.number j) nothing) (sym is.0) one.drew);
+          last = ap (λ (x : SeatDrawing). x.last) is.0 ∙ one.last;
+          answer = refl;
+        });
+      }
+
+  whole_drew : (a b : SeatDrawing) (old new : Side PeerReplay) (t : Thread) (index : ℕ) (j : Number) (freed : Span) (gone : List ℕ) → a.order.now ≡ order → a.role ≡ role.Peer
+      → AddsInTurn peer_rules d a b old new (collect_makings t index (says.Swept j freed) gone) → CollectDrew a b old new t index (says.Swept j freed)
+  whole_drew a b old new t index j freed gone o r w =
+      let one = drew_one a w.0 old w.1 _ nothing o r w.2 in
+      let v = w.3 in
+      let two = drew_one w.0 v.0 w.1 v.1 _ (sweep_of gone) one.order_is one.role_is v.2 in
+      let is = v.3 in
+      let last : b.last ≡ two.number = ap (λ (x : SeatDrawing). x.last) is.0 ∙ two.last in
+      let all : new.entries ≡ old.entries ++ began_at t index one.number j ∷ swept_at t index two.number j freed ∷ [] = ap (λ (s : Side PeerReplay). s.entries) is.1 ∙ (two.drew.added ∙ (ap (λ es. es ++ swept_at t index two.number j freed ∷ []) one.drew.added ∙ append_assoc old.entries (began_at t index one.number j ∷ []) (swept_at t index two.number j freed ∷ []))) in
+      let at : slice_get new.entries (length old.entries) ≡ Some (began_at t index one.number j) = ap (λ es. slice_get es (length old.entries)) all ∙ at_end old.entries _ _ in
+      record {
+        first = one.number;
+        stands = λ e q. number_of e (began_at t index one.number j) (sym q ∙ at);
+        there = λ q. (let z : None ≡ Some (began_at t index one.number j) = sym q ∙ at in cc);
+        name = ap (λ (x : SeatDrawing). x.seat.ghost_name) is.0 ∙ (two.name ∙ one.name);
+        drew = inl (record {
+          marking = j;
+          freed = freed;
+          gone = gone;
+          between = w.0.seat.now;
+          begun = w.1;
+          begins = one.drew;
+          ends = subst (λ n. Drew peer_rules 1 order w.0.seat.now b.seat.now w.1 new (swept_at t index n j freed) (sweep_of gone)) (sym last)
+              (subst (λ (s : Side PeerReplay). Drew peer_rules 1 order w.0.seat.now b.seat.now w.1 s (swept_at t index two.number j freed) (sweep_of gone)) (sym is.1)
+              (subst (λ (x : SeatDrawing). Drew peer_rules 1 order w.0.seat.now x.seat.now w.1 v.1 (swept_at t index two.number j freed) (sweep_of gone)) (sym is.0) two.drew));
+          answer = refl;
+        });
+      }
+
+  -- a sweep that was made answers so
+  swept_drew : (a b : SeatDrawing) (old new : Side PeerReplay) (t : Thread) (index : ℕ) (reply : Reply) (gone : List ℕ) (s : PeerReplay) → a.order.now ≡ order → a.role ≡ role.Peer
+      → AddsInTurn peer_rules d a b old new (collect_makings t index reply gone) → SweepAllows s s.marking t (sweep_of gone) → reply ≡ (swept s s.marking t gone).reply → CollectDrew a b old new t index reply
+  swept_drew a b old new t index reply gone s o r w allowed is =
+      let x = swept_so s s.marking t gone allowed in
+      let e = is ∙ x.is in
+      subst (CollectDrew a b old new t index) (sym e) (whole_drew a b old new t index x.marking x.freed gone o r (subst (λ y. AddsInTurn peer_rules d a b old new (collect_makings t index y gone)) e w))
+
+  pub collect_drew : (a b : SeatDrawing) (old new : Side PeerReplay) (t : Thread) (index : ℕ) (reply : Reply) (gone : List ℕ) → a.order.now ≡ order → a.role ≡ role.Peer
+      → AddsInTurn peer_rules d a b old new (collect_makings t index reply gone) → CollectDrew a b old new t index reply
+  collect_drew a b old new t index (says.MarkOpen j) gone o r w = refused_drew a b old new t index j gone o r w
+  collect_drew a b old new t index reply gone o r w = swept_drew a b old new t index reply gone w.1.state o r w w.3.2.goes.lawful.1.allowed w.3.2.goes.lawful.1.replies
+
+-- the locked seat knows the side, and the thread's last line isn't above this one
+record KnowsAt (t : Thread) (v : View) (side : Side PeerReplay) (index : ℕ) : Type 0 where
+  pub knows : PeerKnows v side
+  pub last : last_line (end_of knows.known.past).control t ≤ index
+
+-- after the caller's lines were handed over
+lent_at : (t : Thread) (locked mine lent mine1 : View) (side : Side PeerReplay) (index : ℕ) → HoldsPass t mine → Owns locked 1 → PeerKnows locked side → MayBegin t mine index → Lends t locked mine lent mine1 → KnowsAt t lent side index
+lent_at t locked mine lent mine1 side index pass owns ks b l =
+    let j = lent_joined t locked mine lent mine1 l ks.known b.stands.known in
+    record {
+      knows = record {
+        known = j.joined;
+        entries = ap line_entries (l.whole 1 owns) ∙ ks.entries;
+        state = j.peer_first (ap line_entries (l.whole 1 owns)) ∙ ks.state;
+      };
+      last = last_told t j.joined.past b.stands.known.past index (own_told t locked mine lent mine1 l ks.known b.stands.known pass) b.stands.last;
+    }
+
+-- after an entry of the thread
+drew_at : (n : ℕ) (order : OrderId) (seat seat' : Shown) (old new : Side PeerReplay) (index number : ℕ) (o : Op) (reply : Reply) (told : Told) → IsThread (P n) → index < 2 ^ 32 → KnowsAt (P n) seat.view old index
+    → Drew peer_rules 1 order seat seat' old new (entry_by (P n) index number o reply None) told → KnowsAt (P n) seat'.view new index
+drew_at n order seat seat' old new index number o reply told is short w d =
+    let k = d.kept in
+    let a = w.knows.known in
+    let grows = d.appends.grows in
+    let goes : GoesOn peer_rules old.state k.entry.made told new.state = subst (λ (z : Entry). GoesOn peer_rules old.state z.made told new.state) (sym d.entry) d.goes in
+    let side = goes.lawful.0.side in
+    let caller : k.entry.made.caller ≡ P n = ap (λ (z : Entry). z.made.caller) d.entry in
+    let e = entered_by (P n) seat.view seat.view seat'.view 1 k told a is caller
+    (record { last = subst (λ (z : Entry). last_line (end_of a.past).control (P n) ≤ z.made.index) (sym d.entry) w.last; allows = ap (λ (z : Entry). z.made.cites) d.entry }) (subst (λ (z : Entry). z.made.index < 2 ^ 32) (sym d.entry) short) grows
+    (record { one = omega arith; managed = λ z. absurd (omega arith); peer = λ z. side }) d.appends.number (inr (subst (λ s. peer_rules.lawful s k.entry.made told) (sym w.knows.state) goes.lawful)) in
+    let known' = e.grown.known in
+    record {
+      knows = record {
+        known = known';
+        entries = ap line_entries grows.role ∙ (entries_snoc (known seat.view 1) k ∙ (ap (λ es. es ++ k.entry ∷ []) w.knows.entries ∙ (ap (λ z. old.entries ++ z ∷ []) d.entry ∙ sym d.added)));
+        state = e.grown.peer ∙ (ap (peer_after (end_of a.past).peer k.entry.made told) side ∙ (ap (λ (s : PeerReplay). (peer_answer s k.entry.made.caller k.entry.made.op k.entry.made.cites told).state) w.knows.state ∙ sym goes.state));
+      };
+      last = subst (λ m. last_line (end_of known'.past).control (P n) ≤ m) (ap (λ (z : Entry). z.made.index) d.entry)
+          (subst (λ h. last_line (end_of h).control (P n) ≤ k.entry.made.index) (sym e.grown.past_is) (let l = last_of_own a.past (note_of k.entry e.grown.told) (P n) caller is in omega arith));
+    }
+
+-- what the caller has made so far, and knows
+own_after : (t : Thread) (order : OrderId) (seat seat' : Shown) (old new : Side PeerReplay) (e : Entry) (told : Told) → e.made.caller ≡ t → Drew peer_rules 1 order seat seat' old new e told → line_known seat'.view (caller_line t) ≡ line_known seat.view (caller_line t) ++ e ∷ []
+own_after t order seat seat' old new e told is d =
+    let k = d.kept in
+    let caller : k.entry.made.caller ≡ t = ap (λ (z : Entry). z.made.caller) d.entry ∙ is in
+    ap line_entries (subst (λ u. known seat'.view (caller_line u) ≡ known seat.view (caller_line u) ++ k ∷ []) caller d.appends.grows.caller) ∙ (entries_snoc (known seat.view (caller_line t)) k ∙ ap (λ z. line_known seat.view (caller_line t) ++ z ∷ []) d.entry)
+
+lent_made : (t : Thread) (locked mine lent mine1 : View) → HoldsPass t mine → Lends t locked mine lent mine1 → MakesAll t mine lent []
+lent_made t locked mine lent mine1 pass l = record {
+  own_more = ap line_entries (l.own (caller_line t) (own_line t) (pass (caller_line t) (own_line t))) ∙ sym (append-nil (line_known mine (caller_line t)));
+  more = l.heard;
+  above = tt;
+}
+
+drew_made : (t : Thread) (order : OrderId) (mine : View) (seat seat' : Shown) (old new : Side PeerReplay) (es : List Entry) (e : Entry) (told : Told) → e.made.caller ≡ t → MakesAll t mine seat.view es → Drew peer_rules 1 order seat seat' old new e told → MakesAll t mine seat'.view (es ++ e ∷ [])
+drew_made t order mine seat seat' old new es e told is a d = record {
+  own_more = own_after t order seat seat' old new e told is d ∙ (ap (λ xs. xs ++ e ∷ []) a.own_more ∙ append_assoc (line_known mine (caller_line t)) es (e ∷ []));
+  more = λ i. prefix_trans (known mine i) (known seat.view i) (known seat'.view i) (a.more i) (grows_more seat.view seat'.view 1 d.kept d.appends.grows i);
+  above = above_more mine seat.view es e a.more a.above (λ i. subst (λ (z : Entry). IsBelow z.number (known seat.view i)) d.entry (d.appends.number i));
+}
+
+back_made : (t : Thread) (mine lent mine1 locked2 mine2 : View) (es : List Entry) → MakesAll t mine lent es → Returns t lent mine1 locked2 mine2 → MakesAll t mine mine2 es
+back_made t mine lent mine1 locked2 mine2 es a b = record {
+  own_more = ap line_entries (b.same (caller_line t)) ∙ a.own_more;
+  more = λ i. subst (IsPrefix (known mine i)) (sym (b.same i)) (a.more i);
+  above = a.above;
+}
+
+-- after the lines were handed back
+record BackAt (t : Thread) (locked2 mine2 : View) (side : Side PeerReplay) (index : ℕ) : Type 0 where
+  pub knows : PeerKnows locked2 side
+  pub begins : MayBegin t mine2 index
+
+back_at : (n : ℕ) (lent mine1 locked2 mine2 : View) (side : Side PeerReplay) (index : ℕ) → KnowsAt (P n) lent side index → Returns (P n) lent mine1 locked2 mine2 → BackAt (P n) locked2 mine2 side index
+back_at n lent mine1 locked2 mine2 side index w b = record {
+  knows = record {
+    known = record { past = w.knows.known.past; lawful = w.knows.known.lawful; same = λ i. ap line_entries (b.stays i) ∙ w.knows.known.same i };
+    entries = ap line_entries (b.stays 1) ∙ w.knows.entries;
+    state = w.knows.state;
+  };
+  begins = record { doing = free; stands = stands_same (P n) lent mine2 index free b.same (record { known = w.knows.known; last = w.last; doing = refl }); done = tt };
+}
+
+-- a collect under the lock
+pub record CalledCollect {E : Type 0} (t : Thread) (mine locked2 mine2 : View) (side : Side PeerReplay) (index : ℕ) (result : Result Receipt E) : Type 0 where
+  pub knows : PeerKnows locked2 side
+  pub begins : MayBegin t mine2 index
+  pub ok : IfOk result (λ r. Collects t mine mine2 index r)
+  pub err : OnErr result (MakesNone t mine mine2)
+
+module _ {E : Type 0} (order : OrderId) (seat seat' : Shown) (old new : Side PeerReplay) (index : ℕ) where
+  whole_called : (n : ℕ) (locked mine mine1 locked2 mine2 : View) (r : Receipt) → IsThread (P n) → HoldsPass (P n) mine → index < 2 ^ 32 → KnowsAt (P n) seat.view old index → Lends (P n) locked mine seat.view mine1 → Returns (P n) seat'.view mine1 locked2 mine2
+      → DrawsWhole order seat seat' old new (P n) index r → CalledCollect {E = E} (P n) mine locked2 mine2 new index (Ok r)
+  whole_called n locked mine mine1 locked2 mine2 r is pass short w l b d =
+      let begun = drew_at n order seat d.between old d.begun index r.first op.Begin (says.Mark d.marking) nothing is short w d.begins in
+      let ended = drew_at n order d.between seat' d.begun new index r.last op.Sweep (says.Swept d.marking d.freed) (sweep_of d.gone) is short begun d.ends in
+      let first = drew_made (P n) order mine seat d.between old d.begun [] (began_at (P n) index r.first d.marking) nothing refl (lent_made (P n) locked mine seat.view mine1 pass l) d.begins in
+      let both = drew_made (P n) order mine d.between seat' d.begun new (began_at (P n) index r.first d.marking ∷ []) (swept_at (P n) index r.last d.marking d.freed) (sweep_of d.gone) refl first d.ends in
+      let back = back_at n seat'.view mine1 locked2 mine2 new index ended b in
+      record {
+        knows = back.knows;
+        begins = back.begins;
+        ok = inl (record { marking = d.marking; freed = d.freed; made = back_made (P n) mine seat'.view mine1 locked2 mine2 _ both b; answer = d.answer });
+        err = tt;
+      }
+
+  refusal_called : (n : ℕ) (locked mine mine1 locked2 mine2 : View) (r : Receipt) → IsThread (P n) → HoldsPass (P n) mine → index < 2 ^ 32 → KnowsAt (P n) seat.view old index → Lends (P n) locked mine seat.view mine1 → Returns (P n) seat'.view mine1 locked2 mine2
+      → DrawsRefusal order seat seat' old new (P n) index r → CalledCollect {E = E} (P n) mine locked2 mine2 new index (Ok r)
+  refusal_called n locked mine mine1 locked2 mine2 r is pass short w l b d =
+      let refused = drew_at n order seat seat' old new index r.first op.Begin (says.MarkOpen d.marking) nothing is short w d.drew in
+      let one = drew_made (P n) order mine seat seat' old new [] (refused_at (P n) index r.first d.marking) nothing refl (lent_made (P n) locked mine seat.view mine1 pass l) d.drew in
+      let back = back_at n seat'.view mine1 locked2 mine2 new index refused b in
+      record {
+        knows = back.knows;
+        begins = back.begins;
+        ok = inr (record { marking = d.marking; made = back_made (P n) mine seat'.view mine1 locked2 mine2 _ one b; last = d.last; answer = d.answer });
+        err = tt;
+      }
+
+  collect_called_by : (n : ℕ) (locked mine mine1 locked2 mine2 : View) (result : Result Receipt E) → IsThread (P n) → HoldsPass (P n) mine → Owns locked 1 → index < 2 ^ 32 → PeerKnows locked old → MayBegin (P n) mine index → Lends (P n) locked mine seat.view mine1
+      → IfOk result (λ r. DrawsCollect order seat seat' old new (P n) index r) → OnErr result ((seat' ≡ seat) × (new ≡ old)) → Returns (P n) seat'.view mine1 locked2 mine2 → CalledCollect (P n) mine locked2 mine2 new index result
+  collect_called_by n locked mine mine1 locked2 mine2 (Ok r) is pass owns short ks may l d e b =
+      let w = lent_at (P n) locked mine seat.view mine1 old index pass owns ks may l in
+      ⊎_elim
+      (λ (x : DrawsWhole order seat seat' old new (P n) index r). whole_called n locked mine mine1 locked2 mine2 r is pass short w l b x)
+      (λ (x : DrawsRefusal order seat seat' old new (P n) index r). refusal_called n locked mine mine1 locked2 mine2 r is pass short w l b x)
+      d
+  collect_called_by n locked mine mine1 locked2 mine2 (Err x) is pass owns short ks may l d e b =
+      let back : Returns (P n) seat.view mine1 locked2 mine2 = subst (λ (s : Shown). Returns (P n) s.view mine1 locked2 mine2) e.0 b in
+      let none = makes_none (P n) locked mine seat.view mine1 locked2 mine2 ks.known pass l back in
+      record {
+        knows = subst (PeerKnows locked2) (sym e.1) (knows_peers_still (P n) locked mine seat.view mine1 locked2 mine2 old owns ks may.stands.known l back);
+        begins = begins_still (P n) mine mine2 index none may;
+        ok = tt;
+        err = none;
+      }
+
+  pub collect_called : (t : Thread) (locked mine mine1 locked2 mine2 : View) (result : Result Receipt E) → IsPeerThread t → HoldsPass t mine → Owns locked 1 → index < 2 ^ 32 → PeerKnows locked old → MayBegin t mine index → Lends t locked mine seat.view mine1
+      → IfOk result (λ r. DrawsCollect order seat seat' old new t index r) → OnErr result ((seat' ≡ seat) × (new ≡ old)) → Returns t seat'.view mine1 locked2 mine2 → CalledCollect t mine locked2 mine2 new index result
+  collect_called (M n) locked mine mine1 locked2 mine2 result is pass owns short ks may l d e b = absurd is
+  collect_called (P n) locked mine mine1 locked2 mine2 result is pass owns short ks may l d e b = collect_called_by n locked mine mine1 locked2 mine2 result is pass owns short ks may l d e b
+  collect_called C locked mine mine1 locked2 mine2 result is pass owns short ks may l d e b = absurd is
+
+-- what the seat knew and owned after the draw, and that it is of the order
+module _ {E : Type 0} (order : OrderId) (seat seat' : Shown) (old new : Side PeerReplay) (t : Thread) (index : ℕ) where
+  pub collect_more : (result : Result Receipt E) → IfOk result (λ r. DrawsCollect order seat seat' old new t index r) → OnErr result ((seat' ≡ seat) × (new ≡ old)) → (i : ℕ) → IsPrefix (known seat.view i) (known seat'.view i)
+  collect_more (Ok r) (inl d) e i = prefix_trans (known seat.view i) (known d.between.view i) (known seat'.view i) (grows_more seat.view d.between.view 1 d.begins.kept d.begins.appends.grows i) (grows_more d.between.view seat'.view 1 d.ends.kept d.ends.appends.grows i)
+  collect_more (Ok r) (inr d) e i = grows_more seat.view seat'.view 1 d.drew.kept d.drew.appends.grows i
+  collect_more (Err x) d e i = subst (λ (s : Shown). IsPrefix (known seat.view i) (known s.view i)) (sym e.0) (prefix_refl (known seat.view i))
+
+  pub collect_owns : (result : Result Receipt E) → IfOk result (λ r. DrawsCollect order seat seat' old new t index r) → OnErr result ((seat' ≡ seat) × (new ≡ old)) → (i : ℕ) → Owns seat.view i → Owns seat'.view i
+  collect_owns (Ok r) (inl d) e i w = owns_on d.between.view seat'.view 1 d.ends.kept d.ends.appends.grows i (owns_on seat.view d.between.view 1 d.begins.kept d.begins.appends.grows i w)
+  collect_owns (Ok r) (inr d) e i w = owns_on seat.view seat'.view 1 d.drew.kept d.drew.appends.grows i w
+  collect_owns (Err x) d e i w = subst (λ (s : Shown). Owns s.view i) (sym e.0) w
+
+  pub collect_order : (result : Result Receipt E) → IfOk result (λ r. DrawsCollect order seat seat' old new t index r) → OnErr result ((seat' ≡ seat) × (new ≡ old)) → seat'.order ≡ seat.order
+  collect_order (Ok r) (inl d) e = d.ends.appends.same ∙ d.begins.appends.same
+  collect_order (Ok r) (inr d) e = d.drew.appends.same
+  collect_order (Err x) d e = ap (λ (s : Shown). s.order) e.0
+
+-- the numbers, the entries and the reply are those of the operation
+pub collects_run : (t : Thread) (old new : View) (index : ℕ) (r : Receipt) → Collects t old new index r → Runs t old new index act.Collect r
+collects_run t old new index r (inl d) = record {
+  entries = began_at t index r.first d.marking ∷ swept_at t index r.last d.marking d.freed ∷ [];
+  made = d.made;
+  operation = record {
+    answered = says.Mark d.marking;
+    rest = swept_at t index r.last d.marking d.freed ∷ [];
+    all = refl;
+    ends = inr (inl (record { second = op.Sweep; reply = says.Swept d.marking d.freed; follows = refl; no_third = refl; one_more = refl; answer = d.answer }));
+  };
+}
+collects_run t old new index r (inr d) = record {
+  entries = refused_at t index r.first d.marking ∷ [];
+  made = d.made;
+  operation = record { answered = says.MarkOpen d.marking; rest = []; all = refl; ends = inl (record { no_second = refl; nothing_more = refl; last = d.last; answer = d.answer }) };
+}
+
+pub all_run : {E : Type 0} (t : Thread) (old new : View) (index : ℕ) (result : Result Receipt E) → IfOk result (λ r. Collects t old new index r) → IfOk result (λ r. Runs t old new index act.Collect r)
+all_run t old new index (Ok r) w = collects_run t old new index r w
+all_run t old new index (Err x) w = tt
+
+pub none_made : {A E : Type 0} (t : Thread) (old new : View) (result : Result A E) → OnErr result (MakesNone t old new) → OnErr result (MakesAll t old new [])
+none_made t old new (Ok x) w = tt
+none_made t old new (Err x) w = makes_nothing t old new w
+
+pub peer_is_thread : (t : Thread) → IsPeerThread t → IsThread t
+peer_is_thread (M n) is = absurd is
+peer_is_thread (P n) is = is
+peer_is_thread C is = absurd is

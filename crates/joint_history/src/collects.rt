@@ -1,0 +1,99 @@
+// A collect of a peer thread under the peer lock: a begin and, if that gave a number, the sweep of that marking, in one hold of the lock.
+
+ghost use Rattle.std.specs.Prelude.{◌≡◌, IfOk, OnErr};
+ghost use Rattle.joint_model.specs.Lines.{IsPeerThread};
+ghost use Rattle.peer_side.specs.Sides.{seen};
+ghost use Rattle.joint_history.specs.Callers.{HoldsPass};
+ghost use Rattle.joint_history.specs.Collecting.{Collects, DrawsCollect};
+ghost use Rattle.joint_history.specs.Knowing.{line_known};
+ghost use Rattle.joint_history.specs.Locked.{MakesNone};
+ghost use Rattle.joint_history.specs.Operations.{MayBegin};
+ghost use Rattle.joint_history.specs.Passing.{MayAppend};
+
+use crate::callers::Receipt;
+use crate::peer::LockedPeer;
+use crate::seats::{Drawing, give_back, lend};
+use joint_model::{Op, Thread};
+use order_table::{Order, OrderName, Role, Seat};
+use peer_side::PeerSide;
+use std::alloc::AllocError;
+
+// The side makes a collect. The first of its entries stands where its list ended before.
+fn collect_by(
+    side: &mut PeerSide,
+    drawing: &mut Drawing<'_>,
+    caller: Thread,
+    index: u32,
+) -> Result<Receipt, AllocError>
+    requires role { drawing.old.role ≡ Role.Peer }
+    requires thread { IsPeerThread caller }
+    requires may_begin { MayAppend drawing.old.order.now drawing.old.seat.now 1 caller Op.Begin }
+    requires may_sweep { MayAppend drawing.old.order.now drawing.old.seat.now 1 caller Op.Sweep }
+    requires entries { line_known drawing.old.seat.now.view 1 ≡ side.old.entries }
+    ensures same_reference { drawing.new.seat.ghost_name ≡ drawing.old.seat.ghost_name }
+    ensures drew { IfOk result (λ r. DrawsCollect drawing.old.order.now drawing.old.seat.now drawing.new.seat.now (seen side.old) (seen side.new) caller index r) }
+    ensures err { OnErr result ((drawing.new.seat.now ≡ drawing.old.seat.now) × (seen side.new ≡ seen side.old)) }
+{
+    let count = side.entries().len();
+    let reply = side.collect(drawing, caller, index)?;
+    let first = match side.entries().at(count) {
+        Some(entry) => entry.number,
+        None => unreachable!(),
+    };
+    Ok(Receipt {
+        first,
+        last: drawing.last,
+        reply,
+    })
+}
+
+// The side draws a collect by the seat.
+fn draw_collect(
+    side: &mut PeerSide,
+    order: &Order,
+    seat: &mut Seat,
+    caller: Thread,
+    index: u32,
+) -> Result<Receipt, AllocError>
+    requires thread { IsPeerThread caller }
+    requires may_begin { MayAppend order.now seat.old 1 caller Op.Begin }
+    requires may_sweep { MayAppend order.now seat.old 1 caller Op.Sweep }
+    requires entries { line_known seat.old.view 1 ≡ side.old.entries }
+    ensures drew { IfOk result (λ r. DrawsCollect order.now seat.old seat.new (seen side.old) (seen side.new) caller index r) }
+    ensures err { OnErr result ((seat.new ≡ seat.old) × (seen side.new ≡ seen side.old)) }
+{
+    let mut drawing = Drawing {
+        order,
+        seat,
+        role: Role::Peer,
+        last: 0,
+    };
+    collect_by(side, &mut drawing, caller, index)
+}
+
+impl<N: OrderName> LockedPeer<N> {
+    /// Makes a collect of a peer thread, in this one hold of the lock: a begin and, if that gave a number, the sweep of that marking. Answers the
+    /// numbers of its first and its last entry and the reply of the last one. The caller's seat knows the entries then. Answers `AllocError`
+    /// where there is no memory, and no entry is made then: room for both is taken before the first.
+    pub(crate) fn collect(
+        &mut self,
+        order: &Order,
+        mine: &mut Seat,
+        caller: Thread,
+        index: u32,
+    ) -> Result<Receipt, AllocError>
+        requires order { (order.now ≡ N.order) × (mine.old.order ≡ N.order) }
+        requires pass { IsPeerThread caller × HoldsPass caller mine.old.view }
+        requires begins { MayBegin caller mine.old.view index }
+        ensures order { mine.new.order ≡ N.order }
+        ensures pass { HoldsPass caller mine.new.view }
+        ensures begins { MayBegin caller mine.new.view index }
+        ensures ok { IfOk result (λ r. Collects caller mine.old.view mine.new.view index r) }
+        ensures err { OnErr result (MakesNone caller mine.old.view mine.new.view) }
+    {
+        lend(order, &mut self.seat, mine, caller);
+        let made = draw_collect(&mut self.side, order, &mut self.seat, caller, index);
+        give_back(order, &mut self.seat, mine, caller);
+        made
+    }
+}
