@@ -31,8 +31,7 @@ use Rattle.peer_side.specs.Steps.{IsRelease, IsStepLine}
 use Rattle.joint_history.specs.Callers.{CallerKnows, last_index}
 use Rattle.joint_history.specs.Knowing.{line_known}
 use Rattle.joint_history.specs.Locked.{Makes, MakesNone, MayMake, doing_from, made_by}
-use Rattle.joint_history.specs.Collecting.{IsPeerOperation}
-use Rattle.joint_history.specs.Operations.{AreAbove, BreaksOff, IsFirst, IsOperationOf, IsOwnThread, IsSideEvent, MakesAll, MayBegin, Runs, answer_of, cited_by, entry_by, first_of, second_of, third_of}
+use Rattle.joint_history.specs.Operations.{AreAbove, BreaksOff, IsFirst, IsMadeByEvents, IsOwnThread, IsPeerOperation, IsSideEvent, MakesAll, MayBegin, Runs, answer_of, cited_by, entry_by, first_of, second_of, third_of}
 use Rattle.joint_history.proofs.LastLines.{last_line_is}
 use Rattle.joint_history.proofs.Narrow.{GripsFew, past_grips_few}
 use Rattle.joint_history.proofs.Turning.{first_may, met_then_release, stands_knows, then_adopt, then_land, then_meet, then_release}
@@ -137,7 +136,7 @@ peer_first n (act.UnGlobal g) is b = record { peer = λ z. (is.0, is.1, b); take
 peer_first n (act.WRead v g) is b = record { peer = λ z. (is.0, is.1, b); take = no_take (P n); managed = λ z q. never_managed _ z }
 peer_first n a is b = absurd b
 
-pub first_is_made : (t : Thread) (a : Act) → IsOperationOf t a → IsSideEvent t (first_of a)
+pub first_is_made : (t : Thread) (a : Act) → IsMadeByEvents t a → IsSideEvent t (first_of a)
 first_is_made (M n) a is = managed_first n a is
 first_is_made (P n) a is = peer_first n a is.0 is.1
 first_is_made C a is = absurd is
@@ -180,7 +179,7 @@ peers_have_none n (act.Dispose v) answered o is e = is
 peers_have_none n act.Collect answered o is e = is
 peers_have_none n a answered o is e = none_some o e
 
-pub second_comes : (t : Thread) (old new : View) (k index : ℕ) (a : Act) (answered : Reply) (o : Op) → IsOperationOf t a → Makes t old new (entry_by t index k (first_of a) answered None) nothing → second_of a answered ≡ Some o → Follows t new index k o
+pub second_comes : (t : Thread) (old new : View) (k index : ℕ) (a : Act) (answered : Reply) (o : Op) → IsMadeByEvents t a → Makes t old new (entry_by t index k (first_of a) answered None) nothing → second_of a answered ≡ Some o → Follows t new index k o
 second_comes (M n) old new k index a answered o is m e = second_follows n old new k index a answered o is m e
 second_comes (P n) old new k index a answered o is m e = absurd (peers_have_none n a answered o is.1 e)
 second_comes C old new k index a answered o is m e = absurd is
@@ -199,7 +198,7 @@ third_follows n old new j k index (op.Meet v p h sort f) reply third is m e =
     })
 third_follows n old new j k index second reply third is m e = absurd (none_some third e)
 
-pub third_comes : (t : Thread) (old new : View) (j k index : ℕ) (a : Act) (answered : Reply) (second : Op) (reply : Reply) (third : Op) → IsOperationOf t a → second_of a answered ≡ Some second → Makes t old new (entry_by t index k second reply (Some j)) nothing → third_of second reply ≡ Some third → Follows t new index k third
+pub third_comes : (t : Thread) (old new : View) (j k index : ℕ) (a : Act) (answered : Reply) (second : Op) (reply : Reply) (third : Op) → IsMadeByEvents t a → second_of a answered ≡ Some second → Makes t old new (entry_by t index k second reply (Some j)) nothing → third_of second reply ≡ Some third → Follows t new index k third
 third_comes (M n) old new j k index a answered second reply third is f m e = third_follows n old new j k index second reply third is.0 m e
 third_comes (P n) old new j k index a answered second reply third is f m e = absurd (peers_have_none n a answered second is.1 f)
 third_comes C old new j k index a answered second reply third is f m e = absurd is
@@ -275,7 +274,7 @@ managed_cites n (act.Dispose v) (says.H h) second first is e = subst (λ o. cite
 managed_cites n act.Collect answered second first is e = absurd is.1
 managed_cites n a answered second first is e = absurd (none_some second e)
 
-cites_first : (t : Thread) (a : Act) (answered : Reply) (second : Op) (first : ℕ) → IsOperationOf t a → second_of a answered ≡ Some second → cited_by second first ≡ Some first
+cites_first : (t : Thread) (a : Act) (answered : Reply) (second : Op) (first : ℕ) → IsMadeByEvents t a → second_of a answered ≡ Some second → cited_by second first ≡ Some first
 cites_first (M n) a answered second first is e = managed_cites n a answered second first is e
 cites_first (P n) a answered second first is e = absurd (peers_have_none n a answered second is.1 e)
 cites_first C a answered second first is e = absurd is
@@ -285,7 +284,7 @@ module _ (t : Thread) (index : ℕ) (a : Act) (old one : View) (first : ℕ) (an
   m : Makes t old one (entry_by t index first (first_of a) answered None) nothing
   m = subst (λ o. Makes t old one (entry_by t index first o answered None) nothing) begins makes
 
-  pub then_second : (second : Op) → IsOperationOf t a → second_of a answered ≡ Some second → Follows t one index first second
+  pub then_second : (second : Op) → IsMadeByEvents t a → second_of a answered ≡ Some second → Follows t one index first second
   then_second second is f = second_comes t old one first index a answered second is m f
 
   pub first_begins : second_of a answered ≡ None → MayBegin t one index
@@ -317,7 +316,7 @@ module _ (t : Thread) (index : ℕ) (a : Act) (old one : View) (first : ℕ) (an
     pub second_begins : third_of second reply ≡ None → MayBegin t two index
     second_begins e = begins_after t one two _ nothing m2 (of_thread t _ (λ n q. ends_second n number index a answered second reply f e))
 
-    pub second_ends : IsOperationOf t a → third_of second reply ≡ None → Runs t old two index a (record { first = first; last = number; reply = answer_of a answered reply })
+    pub second_ends : IsMadeByEvents t a → third_of second reply ≡ None → Runs t old two index a (record { first = first; last = number; reply = answer_of a answered reply })
     second_ends is e = record {
       entries = entry_by t index first (first_of a) answered None ∷ entry_by t index number second reply (Some first) ∷ [];
       made = both;
@@ -359,7 +358,7 @@ peer_is_own (M n) is = absurd is
 peer_is_own (P n) is = is
 peer_is_own C is = absurd is
 
-pub managed_operation : (t : Thread) (a : Act) → IsManagedThread t → IsLine t a → IsOperationOf t a
+pub managed_operation : (t : Thread) (a : Act) → IsManagedThread t → IsLine t a → IsMadeByEvents t a
 managed_operation (M n) a is line = line
 managed_operation (P n) a is line = absurd is
 managed_operation C a is line = absurd is
@@ -368,13 +367,13 @@ step_line : (a : Act) → IsPeerOperation a → (a ≡ act.Collect → ⊥) → 
 step_line act.Collect is other = absurd (other refl)
 step_line a is other = is
 
-pub peer_operation : (t : Thread) (a : Act) → IsPeerThread t → IsLine t a → IsPeerOperation a → (a ≡ act.Collect → ⊥) → IsOperationOf t a
+pub peer_operation : (t : Thread) (a : Act) → IsPeerThread t → IsLine t a → IsPeerOperation a → (a ≡ act.Collect → ⊥) → IsMadeByEvents t a
 peer_operation (M n) a is line step other = absurd is
 peer_operation (P n) a is line step other = (line, step_line a step other)
 peer_operation C a is line step other = absurd is
 
 -- a peer thread's line of one event that found no memory made nothing
-pub peer_makes_none : (t : Thread) (old new : View) (index : ℕ) (a : Act) → IsPeerThread t → IsOperationOf t a → BreaksOff t old new index a → MakesAll t old new []
+pub peer_makes_none : (t : Thread) (old new : View) (index : ℕ) (a : Act) → IsPeerThread t → IsMadeByEvents t a → BreaksOff t old new index a → MakesAll t old new []
 peer_makes_none (M n) old new index a is line b = absurd is
 peer_makes_none (P n) old new index a is line b = ⊎_elim
     (λ e. subst (MakesAll (P n) old new) e b.made)
@@ -382,6 +381,6 @@ peer_makes_none (P n) old new index a is line b = ⊎_elim
     b.begun
 peer_makes_none C old new index a is line b = absurd is
 
-pub breaks_none : {A E : Type 0} (t : Thread) (old new : View) (index : ℕ) (a : Act) (result : Result A E) → IsPeerThread t → IsOperationOf t a → OnErr result (BreaksOff t old new index a) → OnErr result (MakesAll t old new [])
+pub breaks_none : {A E : Type 0} (t : Thread) (old new : View) (index : ℕ) (a : Act) (result : Result A E) → IsPeerThread t → IsMadeByEvents t a → OnErr result (BreaksOff t old new index a) → OnErr result (MakesAll t old new [])
 breaks_none t old new index a (Ok x) is line b = tt
 breaks_none t old new index a (Err x) is line b = peer_makes_none t old new index a is line b

@@ -4,8 +4,6 @@ use Rattle.std.specs.Prelude.{◌≡◌, ◌⊎◌, ℕ, List, [], ◌∷◌, No
 use Rattle.joint_model.specs.declared.names.Marking.{Marking}
 use Rattle.joint_model.specs.declared.names.Span.{Span}
 use Rattle.joint_model.specs.declared.names.Thread.{Thread}
-use Rattle.joint_model.specs.declared.lines.Act.{Act}
-use Rattle.joint_model.specs.declared.lines.Act.TheVariants as act
 use Rattle.joint_model.specs.declared.events.Entry.{Entry}
 use Rattle.joint_model.specs.declared.events.Op.TheVariants as op
 use Rattle.joint_model.specs.declared.events.Reply.TheVariants as says
@@ -14,15 +12,9 @@ use Rattle.joint_model.specs.Sides.{Side, peer_rules}
 use Rattle.joint_model.specs.Told.{nothing, sweep_of}
 use Rattle.order_table.specs.declared.views.View.{View}
 use Rattle.order_table.specs.Views.{OrderId, Shown}
-use Rattle.peer_side.specs.Steps.{IsStepLine}
 use Rattle.joint_history.specs.declared.callers.Receipt.{Receipt}
 use Rattle.joint_history.specs.Locked.{Drew}
 use Rattle.joint_history.specs.Operations.{MakesAll, entry_by}
-
--- an operation of a peer thread: a line that is one event, or a collect
-abbrev pub IsPeerOperation : Act → Type 0
-IsPeerOperation act.Collect = Unit {0}
-IsPeerOperation a = IsStepLine a
 
 -- the entry of a begin that gave a number, of one that an open marking refused, and of the sweep that ended a marking
 abbrev pub began_at : Thread → ℕ → ℕ → Marking → Entry

@@ -44,11 +44,22 @@ pub record MayBegin (t : Thread) (v : View) (index : ℕ) : Type 0 where
   pub stands : Stands t v index doing
   pub done : IsDone doing
 
--- an operation of a managed thread, or one of a peer thread that is one event
+-- a peer thread's operation: a line that is one event, or a collect
+abbrev pub IsPeerOperation : Act → Type 0
+IsPeerOperation act.Collect = Unit {0}
+IsPeerOperation a = IsStepLine a
+
+-- an operation of a managed thread, or one of a peer thread
 abbrev pub IsOperationOf : Thread → Act → Type 0
 IsOperationOf (M n) a = IsLine (M n) a
-IsOperationOf (P n) a = IsLine (P n) a × IsStepLine a
+IsOperationOf (P n) a = IsLine (P n) a × IsPeerOperation a
 IsOperationOf C a = ⊥
+
+-- each event of the operation is made in a hold of its own side's lock; of a collect both are made in one
+abbrev pub IsMadeByEvents : Thread → Act → Type 0
+IsMadeByEvents (M n) a = IsLine (M n) a
+IsMadeByEvents (P n) a = IsLine (P n) a × IsStepLine a
+IsMadeByEvents C a = ⊥
 
 -- the first event of an operation
 abbrev pub first_of : Act → Op

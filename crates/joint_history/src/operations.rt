@@ -7,9 +7,9 @@ ghost use Rattle.joint_model.specs.Lines.{IsLine, IsManagedThread, IsPeerThread,
 ghost use Rattle.joint_model.specs.Told.{nothing};
 ghost use Rattle.peer_side.specs.Steps.{IsRelease};
 ghost use Rattle.joint_history.specs.Callers.{HoldsPass, last_index, own};
-ghost use Rattle.joint_history.specs.Collecting.{Collects, IsPeerOperation};
+ghost use Rattle.joint_history.specs.Collecting.{Collects};
 ghost use Rattle.joint_history.specs.Locked.{MayMake, Makes, MakesNone};
-ghost use Rattle.joint_history.specs.Operations.{BreaksOff, IsOperationOf, IsOwnThread, IsSideEvent, MakesAll, MayBegin, Runs, answer_of, entry_by, first_of, second_of, taken_by, third_of};
+ghost use Rattle.joint_history.specs.Operations.{BreaksOff, IsMadeByEvents, IsOwnThread, IsPeerOperation, IsSideEvent, MakesAll, MayBegin, Runs, answer_of, entry_by, first_of, second_of, taken_by, third_of};
 
 use crate::callers::{Caller, Receipt};
 use crate::shared::Shared;
@@ -161,7 +161,7 @@ impl<N: OrderName> Shared<N> {
             .step(&self.order, mine, t, index, op, cites)
     }
 
-    // Runs an operation with the thread's seat.
+    // Runs an operation with the thread's seat, each event in a hold of its own side's lock.
     fn run(
         &self,
         rt: &impl Wait,
@@ -173,7 +173,7 @@ impl<N: OrderName> Shared<N> {
         requires order { mine.old.order ≡ N.order }
         requires pass { IsOwnThread t × HoldsPass t mine.old.view }
         requires begins { MayBegin t mine.old.view index }
-        requires act { IsOperationOf t act.now }
+        requires act { IsMadeByEvents t act.now }
         ensures order { mine.new.order ≡ N.order }
         ensures pass { HoldsPass t mine.new.view }
         ensures begins { MayBegin t mine.new.view index }

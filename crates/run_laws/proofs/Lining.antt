@@ -18,7 +18,6 @@ use Rattle.run_laws.specs.Lines.{OperationsAreLines, OthersKeepStanding}
 
 -- acts whose first event follows from the act alone, and whose others follow from its replies
 abbrev IsPlain : Act → Type 0
-IsPlain act.Collect = ⊥
 IsPlain act.BeginMark = ⊥
 IsPlain act.SweepMark = ⊥
 IsPlain (act.PhaseLine w) = ⊥
@@ -27,13 +26,11 @@ IsPlain _ = Unit {0}
 
 operation-plain : (t : Thread) (a : Act) → IsOperationOf t a → IsPlain a
 operation-plain C a o = absurd o
-operation-plain (M n) act.Collect o = o.1
 operation-plain (M n) act.BeginMark o = o.1
 operation-plain (M n) act.SweepMark o = o.1
 operation-plain (M n) (act.PhaseLine w) o = o.1
 operation-plain (M n) (act.Finalise k) o = o.1
 operation-plain (M n) a o = tt
-operation-plain (P n) act.Collect o = o.1
 operation-plain (P n) act.BeginMark o = o.1
 operation-plain (P n) act.SweepMark o = o.1
 operation-plain (P n) (act.PhaseLine w) o = o.1
@@ -41,7 +38,6 @@ operation-plain (P n) (act.Finalise k) o = o.1
 operation-plain (P n) a o = tt
 
 first-is : (a : Act) → IsPlain a → next_event a [] ≡ Some (first_of a)
-first-is act.Collect p = absurd p
 first-is act.BeginMark p = absurd p
 first-is act.SweepMark p = absurd p
 first-is (act.PhaseLine w) p = absurd p
@@ -49,7 +45,6 @@ first-is (act.Finalise n) p = absurd p
 first-is a p = refl
 
 second-is : (a : Act) (r : Reply) → IsPlain a → next_event a (r ∷ []) ≡ second_of a r
-second-is act.Collect r p = absurd p
 second-is act.BeginMark r p = absurd p
 second-is act.SweepMark r p = absurd p
 second-is (act.PhaseLine w) r p = absurd p
@@ -62,6 +57,8 @@ second-is (act.Surface v x) (says.Gripped q h sort f) p = refl
 second-is (act.Surface v x) r p = refl
 second-is (act.Dispose v) (says.H h) p = refl
 second-is (act.Dispose v) r p = refl
+second-is act.Collect (says.Mark j) p = refl
+second-is act.Collect r p = refl
 second-is a r p = refl
 
 -- the third event is that of the second one and its reply
@@ -72,7 +69,6 @@ none-some : {A : Type 0} (x : A) → None ≡ Some x → ⊥
 none-some x e = cc
 
 third-is : (a : Act) (r r' : Reply) (second : Op) → IsPlain a → second_of a r ≡ Some second → next_event a (r ∷ r' ∷ []) ≡ third_of second r'
-third-is act.Collect r r' second p e = absurd p
 third-is act.BeginMark r r' second p e = absurd p
 third-is act.SweepMark r r' second p e = absurd p
 third-is (act.PhaseLine w) r r' second p e = absurd p
@@ -82,11 +78,11 @@ third-is (act.Pass v x) (says.H h) r' second p e = by-second (op.Land h x) secon
 third-is (act.Surface v x) (says.Gripped q h sort f) (says.New m) second p e = by-second (op.Meet v q h sort f) second (says.New m) None e refl
 third-is (act.Surface v x) (says.Gripped q h sort f) r' second p e = by-second (op.Meet v q h sort f) second r' (Some (op.Release h)) e refl
 third-is (act.Dispose v) (says.H h) r' second p e = by-second (op.Release h) second r' None e refl
+third-is act.Collect (says.Mark j) r' second p e = by-second op.Sweep second r' None e refl
 third-is a r r' second p e = absurd (none-some second e)
 
 -- and nothing follows the third
 none-after : (a : Act) (r r' r'' : Reply) → IsPlain a → next_event a (r ∷ r' ∷ r'' ∷ []) ≡ None
-none-after act.Collect r r' r'' p = absurd p
 none-after act.BeginMark r r' r'' p = absurd p
 none-after act.SweepMark r r' r'' p = absurd p
 none-after (act.PhaseLine w) r r' r'' p = absurd p
@@ -100,6 +96,8 @@ none-after (act.Pass v x) (says.H h) r' r'' p = refl
 none-after (act.Pass v x) r r' r'' p = refl
 none-after (act.Dispose v) (says.H h) r' r'' p = refl
 none-after (act.Dispose v) r r' r'' p = refl
+none-after act.Collect (says.Mark j) r' r'' p = refl
+none-after act.Collect r r' r'' p = refl
 none-after a r r' r'' p = refl
 
 -- the events of an operation that isn't the driver's
