@@ -34,17 +34,19 @@ use Rattle.order_table.specs.Rule.{IsBelow}
 use Rattle.order_table.specs.Views.{OrderId, Shown, known, kept, Owns, role_line}
 use Rattle.order_table.proofs.Lines.{below_begins}
 use Rattle.peer_side.specs.Makings.{collect_makings, number_in}
+use Rattle.peer_side.specs.Sides.{PeerModel, seen}
 use Rattle.joint_history.specs.declared.callers.Receipt.{Receipt}
 use Rattle.joint_history.specs.declared.seats.Drawing.{Drawing as SeatDrawing}
 use Rattle.joint_history.specs.Callers.{HoldsPass}
 use Rattle.joint_history.specs.Collecting.{Collects, DrawsCollect, DrawsRefusal, DrawsWhole, began_at, refused_at, swept_at}
 use Rattle.joint_history.specs.Knowing.{IsKnownView, line_known, note_of}
-use Rattle.joint_history.specs.Locked.{Drew, MakesNone, PeerKnows, Stands}
+use Rattle.joint_history.specs.Locked.{Drew, MakesNone, PeerKnows, PeerReserves, Stands}
 use Rattle.joint_history.specs.Operations.{MakesAll, MayBegin, Runs, entry_by}
 use Rattle.joint_history.specs.Passing.{Appends, Lends, Returns}
 use Rattle.joint_history.proofs.KnownCallers.{own_line}
 use Rattle.joint_history.proofs.KnownViews.{entries_snoc}
 use Rattle.joint_history.proofs.LockedSteps.{entered_by, grows_more, knows_peers_still, last_told, lent_joined, makes_none, own_told, owns_on, stands_same}
+use Rattle.joint_history.proofs.Reserving.{KeepsReserve, KnowsOn, back_on, drew_on, drew_reserves, lent_on, nothing_kept, quiet_kept, reserves_on}
 use Rattle.joint_history.proofs.Running.{above_more, makes_nothing}
 use Rattle.joint_history.proofs.Standing.{last_of_own}
 use Rattle.joint_history.proofs.Turning.{begins_still}
@@ -344,6 +346,40 @@ module _ {E : Type 0} (order : OrderId) (seat seat' : Shown) (old new : Side Pee
   collect_order (Ok r) (inl d) e = d.ends.appends.same ∙ d.begins.appends.same
   collect_order (Ok r) (inr d) e = d.drew.appends.same
   collect_order (Err x) d e = ap (λ (s : Shown). s.order) e.0
+
+-- what is reserved stays so: an entry of a thread neither mirrors a cycle nor begins its own marking
+keeps_then : (a b c : PeerModel) → KeepsReserve a b → KeepsReserve b c → KeepsReserve a c
+keeps_then a b c k l = record {
+  waiting = l.waiting ∙ k.waiting;
+  room = λ n e. (let y = l.room n e in let x = k.room y.0 y.1 in let p = x.3 in let q = y.3 in (x.0, x.1, x.2 ∙ y.2, omega (arith, p, q)));
+  marking = λ q. l.marking (k.marking q);
+}
+
+whole_reserves : (n : ℕ) (index : ℕ) (order : OrderId) (locked mine mine1 locked2 mine2 : View) (seat seat' : Shown) (old new : PeerModel) (r : Receipt) → PeerKnows locked (seen old) → PeerReserves locked old → Lends (P n) locked mine seat.view mine1
+    → DrawsWhole order seat seat' (seen old) (seen new) (P n) index r → new.reserve ≡ old.reserve → Returns (P n) seat'.view mine1 locked2 mine2 → PeerReserves locked2 new
+whole_reserves n index order locked mine mine1 locked2 mine2 seat seat' old new r ks rs l d same b =
+    let mid : PeerModel = record { entries = d.begun.entries; state = d.begun.state; reserve = old.reserve } in
+    let began = began_at (P n) index r.first d.marking in
+    let ended = swept_at (P n) index r.last d.marking d.freed in
+    let on = drew_on (P n) locked mine mine1 order seat d.between old mid began nothing l d.begins in
+    let all : KnowsOn locked seat'.view = record { more = λ i. prefix_trans (known locked i) (known d.between.view i) (known seat'.view i) (on.more i) (grows_more d.between.view seat'.view 1 d.ends.kept d.ends.appends.grows i); one_history = d.ends.appends.one_history } in
+    reserves_on locked locked2 old new ks (back_on (P n) locked seat'.view mine1 locked2 mine2 all b)
+    (keeps_then old mid new (quiet_kept order seat d.between old mid began nothing d.begins refl tt (λ due. refl)) (quiet_kept order d.between seat' mid new ended (sweep_of d.gone) d.ends same tt (λ due. refl))) rs
+
+reserves_by : {E : Type 0} (n : ℕ) (index : ℕ) (order : OrderId) (locked mine mine1 locked2 mine2 : View) (seat seat' : Shown) (old new : PeerModel) (result : Result Receipt E) → PeerKnows locked (seen old) → PeerReserves locked old → Lends (P n) locked mine seat.view mine1
+    → IfOk result (λ r. DrawsCollect order seat seat' (seen old) (seen new) (P n) index r) → OnErr result ((seat' ≡ seat) × (seen new ≡ seen old)) → new.reserve ≡ old.reserve → Returns (P n) seat'.view mine1 locked2 mine2 → PeerReserves locked2 new
+reserves_by n index order locked mine mine1 locked2 mine2 seat seat' old new (Ok r) ks rs l (inl d) e same b = whole_reserves n index order locked mine mine1 locked2 mine2 seat seat' old new r ks rs l d same b
+reserves_by n index order locked mine mine1 locked2 mine2 seat seat' old new (Ok r) ks rs l (inr d) e same b =
+    let refused = refused_at (P n) index r.first d.marking in
+    drew_reserves (P n) locked mine mine1 locked2 mine2 order seat seat' old new refused nothing ks rs l d.drew b (quiet_kept order seat seat' old new refused nothing d.drew same tt (λ due. refl))
+reserves_by n index order locked mine mine1 locked2 mine2 seat seat' old new (Err x) ks rs l d e same b =
+    reserves_on locked locked2 old new ks (back_on (P n) locked seat'.view mine1 locked2 mine2 (subst (λ (s : Shown). KnowsOn locked s.view) (sym e.0) (lent_on (P n) locked mine seat.view mine1 l)) b) (nothing_kept old new e.1 same) rs
+
+pub collect_reserves : {E : Type 0} (t : Thread) (index : ℕ) (order : OrderId) (locked mine mine1 locked2 mine2 : View) (seat seat' : Shown) (old new : PeerModel) (result : Result Receipt E) → IsPeerThread t → PeerKnows locked (seen old) → PeerReserves locked old → Lends t locked mine seat.view mine1
+    → IfOk result (λ r. DrawsCollect order seat seat' (seen old) (seen new) t index r) → OnErr result ((seat' ≡ seat) × (seen new ≡ seen old)) → new.reserve ≡ old.reserve → Returns t seat'.view mine1 locked2 mine2 → PeerReserves locked2 new
+collect_reserves (M n) index order locked mine mine1 locked2 mine2 seat seat' old new result is ks rs l d e same b = absurd is
+collect_reserves (P n) index order locked mine mine1 locked2 mine2 seat seat' old new result is ks rs l d e same b = reserves_by n index order locked mine mine1 locked2 mine2 seat seat' old new result ks rs l d e same b
+collect_reserves C index order locked mine mine1 locked2 mine2 seat seat' old new result is ks rs l d e same b = absurd is
 
 -- the numbers, the entries and the reply are those of the operation
 pub collects_run : (t : Thread) (old new : View) (index : ℕ) (r : Receipt) → Collects t old new index r → Runs t old new index act.Collect r

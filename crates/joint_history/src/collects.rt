@@ -33,6 +33,7 @@ fn collect_by(
     ensures same_reference { drawing.new.seat.ghost_name ≡ drawing.old.seat.ghost_name }
     ensures drew { IfOk result (λ r. DrawsCollect drawing.old.order.now drawing.old.seat.now drawing.new.seat.now (seen side.old) (seen side.new) caller index r) }
     ensures err { OnErr result ((drawing.new.seat.now ≡ drawing.old.seat.now) × (seen side.new ≡ seen side.old)) }
+    ensures reserve { side.new.reserve ≡ side.old.reserve }
 {
     let count = side.entries().len();
     let reply = side.collect(drawing, caller, index)?;
@@ -61,6 +62,7 @@ fn draw_collect(
     requires entries { line_known seat.old.view 1 ≡ side.old.entries }
     ensures drew { IfOk result (λ r. DrawsCollect order.now seat.old seat.new (seen side.old) (seen side.new) caller index r) }
     ensures err { OnErr result ((seat.new ≡ seat.old) × (seen side.new ≡ seen side.old)) }
+    ensures reserve { side.new.reserve ≡ side.old.reserve }
 {
     let mut drawing = Drawing {
         order,
