@@ -1,5 +1,5 @@
 -- What a step of the peer side asks for holds in its thread's turn: a release names a handle that the thread gave up, or met and didn't take.
-use Rattle.std.proofs.Common.{◌≡◌, ℕ, Option, Some, None, refl, sym, ap, ◌∙◌, subst}
+use Rattle.std.proofs.Common.{◌≡◌, ℕ, Option, sym, ap, ◌∙◌, subst}
 use Rattle.joint_model.specs.declared.names.Thread.{Thread}
 use Rattle.joint_model.specs.declared.names.Thread.TheVariants.{M, P, C}
 use Rattle.joint_model.specs.declared.names.HNum.{HNum}

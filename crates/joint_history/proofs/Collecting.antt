@@ -1,5 +1,5 @@
 -- A collect under the peer lock: what the side's call draws by a seat, and what the locked seat and the caller know after it.
-use Rattle.std.proofs.Common.{◌≡◌, ◌⊎◌, inl, inr, ⊎_elim, ℕ, Bool, true, false, ◌||◌, ◌+◌, ◌<◌, ◌≤◌, ◌^◌, List, [], ◌∷◌, ◌++◌, length, Option, Some, None, refl, sym, ap, ◌∙◌, subst, append-nil, append_assoc, arith}
+use Rattle.std.proofs.Common.{◌≡◌, ◌⊎◌, inl, inr, ⊎_elim, ℕ, Bool, true, ◌||◌, ◌<◌, ◌≤◌, ◌^◌, List, [], ◌∷◌, ◌++◌, length, Option, Some, None, refl, sym, ap, ◌∙◌, subst, append-nil, append_assoc, arith}
 use Rattle.std.specs.Prelude.{if◌then◌else◌, nat_eq, Result, Ok, Err, IfOk, OnErr, slice_get}
 use mathlib.Core.List.{IsPrefix}
 use base.Growing.{prefix_refl, prefix_trans}
@@ -24,23 +24,21 @@ use Rattle.joint_model.specs.Lines.{IsPeerThread, IsThread}
 use Rattle.joint_model.specs.Linked.{peer_after}
 use Rattle.joint_model.specs.PeerReplay.{Marking, PeerReplay, SweepAllows, is_thread, peer_answer, swept, swept_of}
 use Rattle.joint_model.specs.Sides.{Drawing, Side, GoesOn, AddsLawful, AddsInTurn, peer_rules}
-use Rattle.joint_model.specs.Told.{Told, Noted, nothing, sweep_of}
+use Rattle.joint_model.specs.Told.{Told, nothing, sweep_of}
 use Rattle.known_laws.specs.Pasts.{end_of}
-use Rattle.order_table.specs.declared.views.Kept.{Kept}
 use Rattle.order_table.specs.declared.views.Role.TheVariants as role
 use Rattle.order_table.specs.declared.views.View.{View}
 use Rattle.order_table.specs.Facts.{line_entries}
 use Rattle.order_table.specs.Rule.{IsBelow}
 use Rattle.order_table.specs.Views.{OrderId, Shown, known, kept, Owns, role_line}
-use Rattle.order_table.proofs.Lines.{below_begins}
-use Rattle.peer_side.specs.Makings.{collect_makings, number_in}
+use Rattle.peer_side.specs.Makings.{collect_makings}
 use Rattle.peer_side.specs.Sides.{PeerModel, seen}
 use Rattle.joint_history.specs.declared.callers.Receipt.{Receipt}
 use Rattle.joint_history.specs.declared.seats.Drawing.{Drawing as SeatDrawing}
 use Rattle.joint_history.specs.Callers.{HoldsPass}
 use Rattle.joint_history.specs.Collecting.{Collects, DrawsCollect, DrawsRefusal, DrawsWhole, began_at, refused_at, swept_at}
-use Rattle.joint_history.specs.Knowing.{IsKnownView, line_known, note_of}
-use Rattle.joint_history.specs.Locked.{Drew, MakesNone, PeerKnows, PeerReserves, Stands}
+use Rattle.joint_history.specs.Knowing.{line_known, note_of}
+use Rattle.joint_history.specs.Locked.{Drew, MakesNone, PeerKnows, PeerReserves}
 use Rattle.joint_history.specs.Operations.{MakesAll, MayBegin, Runs, entry_by}
 use Rattle.joint_history.specs.Passing.{Appends, Lends, Returns}
 use Rattle.joint_history.proofs.KnownCallers.{own_line}

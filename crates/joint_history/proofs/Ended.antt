@@ -1,5 +1,5 @@
 -- The end of a run: every thread's seat is taken in, and the history has of each thread just the entries that its caller made.
-use Rattle.std.proofs.Common.{◌≡◌, ◌⊎◌, inl, inr, ⊎_elim, ℕ, zero, suc, ◌+◌, ◌<◌, List, [], ◌∷◌, ◌++◌, Option, Some, None, true, false, refl, sym, ap, ◌∙◌, subst, arith}
+use Rattle.std.proofs.Common.{◌≡◌, inl, inr, ⊎_elim, ℕ, zero, suc, ◌<◌, List, [], ◌∷◌, ◌++◌, Option, Some, None, true, false, refl, sym, ap, ◌∙◌, subst, arith}
 use Rattle.std.specs.Prelude.{All, Contains, IsSome, slice_get}
 use Rattle.std.proofs.lemmas.List.Elements.{Contains-append_cases, Contains-append_left, Contains-append_right}
 use Rattle.joint_model.specs.declared.names.Thread.{Thread}
@@ -11,18 +11,18 @@ use Rattle.joint_model.specs.Lines.{IsThread}
 use Rattle.joint_model.specs.ManagedReplay.{ManagedReplay}
 use Rattle.joint_model.specs.PeerReplay.{PeerReplay}
 use Rattle.joint_model.specs.Sides.{Side}
-use Rattle.joint_model.proofs.Members.{All-members, Contains-here, Contains-there, Contains-map, Contains-cons_cases, Contains-nil, Contains-at}
+use Rattle.joint_model.proofs.Members.{All-members, Contains-here, Contains-there, Contains-map, Contains-cons_cases, Contains-nil}
 use Rattle.known_laws.specs.Lists.{made_by}
 use Rattle.known_laws.proofs.Lists.{own_line_is_made_by_caller}
 use Rattle.order_table.specs.declared.views.View.{View}
 use Rattle.order_table.specs.Facts.{entries_of, line_entries}
 use Rattle.order_table.specs.Rule.{IsWhole as AllKnown}
 use Rattle.order_table.specs.Tells.{TakesIn, IsOneHistory}
-use Rattle.order_table.specs.Views.{Owns, known}
+use Rattle.order_table.specs.Views.{Owns}
 use Rattle.order_table.proofs.Wholes.{tell_lines}
 use Rattle.joint_history.specs.Callers.{HoldsPass, Pass, own}
 use Rattle.joint_history.specs.Desks.{Waiting, WaitsAt, flat, present, thread_of}
-use Rattle.joint_history.specs.Ending.{AllAreIn, Gathered, GathersAll, HasAll, HasOwn, StillWaits, TakesOwn, threads_of}
+use Rattle.joint_history.specs.Ending.{AllAreIn, GathersAll, HasAll, HasOwn, StillWaits, TakesOwn, threads_of}
 use Rattle.joint_history.specs.Knowing.{IsKnownView, line_known}
 use Rattle.joint_history.specs.Locked.{ManagedKnows, PeerKnows}
 use Rattle.joint_history.proofs.Desking.{thread_is}

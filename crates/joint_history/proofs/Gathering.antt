@@ -22,7 +22,7 @@ use Rattle.joint_model.specs.Components.{Rises}
 use Rattle.joint_model.specs.Histories.{Finished, IsJoinable, IsShuffle, managed_numbers, peer_numbers}
 use Rattle.joint_model.specs.HistoryLines.{caller_line, entries_in}
 use Rattle.joint_model.specs.Lines.{IsThread, IsEvent, IsManagedThread}
-use Rattle.joint_model.specs.Linked.{IsWhole, IsLinked}
+use Rattle.joint_model.specs.Linked.{IsWhole}
 use Rattle.joint_model.specs.ManagedReplay.{ManagedReplay}
 use Rattle.joint_model.specs.PeerReplay.{PeerReplay}
 use Rattle.joint_model.specs.Sides.{Side}

@@ -1,12 +1,11 @@
 -- As callers' seats are taken in one by one: what was taken in so far, and what is known of the one that is taken next.
-use Rattle.std.proofs.Common.{◌≡◌, ℕ, List, [], ◌∷◌, ◌++◌, length, map, Option, Some, None, refl, sym, ap, ◌∙◌, subst, arith}
+use Rattle.std.proofs.Common.{◌≡◌, ℕ, List, [], ◌∷◌, ◌++◌, length, Option, Some, None, refl, ap, subst, arith}
 use Rattle.std.specs.Prelude.{All, Contains, slice_get}
 use Rattle.std.proofs.lemmas.List.Elements.{All-contains}
-use Rattle.joint_model.specs.declared.names.Thread.{Thread}
 use Rattle.joint_model.proofs.Members.{Contains-here, Contains-there}
 use Rattle.order_table.specs.declared.views.View.{View}
 use Rattle.order_table.specs.Facts.{line_entries}
-use Rattle.joint_history.specs.Callers.{KnowsNothing, Pass}
+use Rattle.joint_history.specs.Callers.{Pass}
 use Rattle.joint_history.specs.Desks.{WaitsAt, present}
 use Rattle.joint_history.specs.Ending.{GathersAll, IsIdle, TakesOwn, threads_of}
 use Rattle.joint_history.proofs.Ended.{takes_then}

@@ -1,4 +1,4 @@
-use Rattle.std.proofs.Common.{◌≡◌, ◌++◌, [], ◌∷◌, Some, None, Option, ◌∙◌, sym, ap, subst, refl, append_assoc, append-nil, length, arith}
+use Rattle.std.proofs.Common.{◌≡◌, ◌++◌, [], ◌∷◌, Some, Option, ◌∙◌, sym, ap, subst, refl, append_assoc, append-nil, length, arith}
 use Rattle.std.specs.Vec.Iter.{into_iter_items}
 use Rattle.joint_history.specs.Callers.{Pass}
 use Rattle.joint_history.specs.Desks.{present}

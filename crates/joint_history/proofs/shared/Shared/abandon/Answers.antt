@@ -1,4 +1,4 @@
-use Rattle.std.proofs.Common.{sym, subst, ◌∙◌}
+use Rattle.std.proofs.Common.{sym, subst}
 use Rattle.joint_model.specs.Lines.{IsDriver}
 use Rattle.joint_model.specs.Control.{idle}
 use Rattle.joint_history.specs.Callers.{Pass}

@@ -1,13 +1,12 @@
 use Rattle.std.proofs.Common.{[], ◌≤◌, sym, ap, subst}
 use Rattle.std.specs.Prelude.{IfOk, OnErr}
 use Rattle.joint_model.specs.declared.lines.Act.{Act}
-use Rattle.joint_model.specs.declared.lines.Act.TheVariants as act
 use Rattle.joint_model.specs.Lines.{IsLine, IsPeerThread}
 use Rattle.joint_history.specs.Callers.{Pass, last_index, own}
 use Rattle.joint_history.specs.Collecting.{Collects}
 use Rattle.joint_history.specs.Locked.{MakesNone}
 use Rattle.joint_history.specs.Operations.{MakesAll, Runs}
-use Rattle.joint_history.proofs.Collecting.{all_run, none_made, peer_is_thread}
+use Rattle.joint_history.proofs.Collecting.{all_run, none_made}
 use Rattle.joint_history.proofs.Running.{beginner_is_below, beginner_knows, breaks_none, peer_is_own, peer_operation}
 use Rattle.joint_history.proofs.Turning.{caller_begins}
 use Rattle.joint_history.proofs.shared.Shared.peer.Goals as goal

@@ -1,4 +1,4 @@
-use Rattle.std.proofs.Common.{sym, subst, ◌∙◌}
+use Rattle.std.proofs.Common.{sym, subst}
 use Rattle.std.specs.Prelude.{IfOk}
 use Rattle.joint_model.specs.Lines.{IsDriver}
 use Rattle.joint_history.specs.Driven.{MakesRefusal, MayRefuseWord}
