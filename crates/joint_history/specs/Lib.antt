@@ -11,3 +11,4 @@ pub mod DriverDraws
 pub mod DriverSnaps
 pub mod DriverMarks
 pub mod DriverHandles
+pub mod DriverMirrors

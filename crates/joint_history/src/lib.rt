@@ -18,6 +18,8 @@ mod handles;
 mod laws;
 mod managed;
 mod marks;
+mod mirroring;
+mod mirrors;
 mod operations;
 mod peer;
 mod seats;
