@@ -1,0 +1,8 @@
+use Rattle.summary_laws.proofs.Counting.{tallies_are_of_states, tallies_of_linked}
+use Rattle.summary_laws.proofs.laws.tallies_are_of_states.Goals as goal
+
+pub returns-clause-list : goal.returns-clause-list
+returns-clause-list c = tallies_are_of_states
+
+pub returns-clause-linked : goal.returns-clause-linked
+returns-clause-linked c = tallies_of_linked
