@@ -19,20 +19,20 @@ abbrev Named : PeerReplay → Type 0
 Named s = AreNamesKept s.peers.names s.table
 
 -- two tallies with the same numbers
-record HasNumbers (t u : Tally) : Type 0 where
-  cycles : t.cycles ≡ u.cycles
-  managed : t.made.managed ≡ u.made.managed
-  peers : t.made.peers ≡ u.made.peers
-  handles : t.made.handles ≡ u.made.handles
-  managed_left : t.left.managed ≡ u.left.managed
-  peers_left : t.left.peers ≡ u.left.peers
-  handles_left : t.left.handles ≡ u.left.handles
+pub record HasNumbers (t u : Tally) : Type 0 where
+  pub cycles : t.cycles ≡ u.cycles
+  pub managed : t.made.managed ≡ u.made.managed
+  pub peers : t.made.peers ≡ u.made.peers
+  pub handles : t.made.handles ≡ u.made.handles
+  pub managed_left : t.left.managed ≡ u.left.managed
+  pub peers_left : t.left.peers ≡ u.left.peers
+  pub handles_left : t.left.handles ≡ u.left.handles
 
-same_tally : (t u : Tally) → HasNumbers t u → t ≡ u
+pub same_tally : (t u : Tally) → HasNumbers t u → t ≡ u
 same_tally t u h = λ i. record { cycles = h.cycles i; made = record { managed = h.managed i; peers = h.peers i; handles = h.handles i }; left = record { managed = h.managed_left i; peers = h.peers_left i; handles = h.handles_left i } }
 
 -- the numbers of two sides
-abbrev sides : ManagedReplay → PeerReplay → Tally
+abbrev pub sides : ManagedReplay → PeerReplay → Tally
 sides m p = tally_in (record { managed = m; peer = p; control = opening_linkage.control })
 
 -- one entry

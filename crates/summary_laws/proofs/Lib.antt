@@ -6,3 +6,4 @@ pub mod Names
 pub mod PeerCounts
 pub mod Quiet
 pub mod Counting
+pub mod Readings
