@@ -1,0 +1,228 @@
+-- Phases one after another: each runs in the phase in which its word is due, and what was run so far goes on by it.
+use Rattle.std.proofs.Common.{◌≡◌, ℕ, ◌<◌, List, [], ◌∷◌, ◌++◌, length, Option, Some, None, refl, sym, ap, ◌∙◌, subst, append_assoc, arith}
+use Rattle.std.specs.Prelude.{Result, Ok, Err, IfOk, OnErr}
+use Rattle.joint_model.specs.declared.names.Phase.{Phase}
+use Rattle.joint_model.specs.declared.names.Phase.TheVariants as at
+use Rattle.joint_model.specs.declared.names.PhaseWord.{PhaseWord}
+use Rattle.joint_model.specs.declared.names.PhaseWord.TheVariants as word
+use Rattle.joint_model.specs.declared.lines.Act.TheVariants as act
+use Rattle.joint_model.specs.declared.events.Entry.{Entry}
+use Rattle.joint_model.specs.declared.events.Reply.{Reply}
+use Rattle.joint_model.specs.Phases.{next_phase, phases_left, phases_of}
+use Rattle.joint_model.proofs.Deciding.{none_some, some-same}
+use Rattle.bridge_cycle.specs.Progress.{Answers, BreaksLine, BreaksOff, BreaksWord, LeadTo, Progress, Runs, RunsLine, RunsPhases, RunsWord, last_reply}
+use Rattle.bridge_cycle.specs.Words.{Closes, IsOnePhase, IsPartway, Lacks, due_in, next_word}
+use Rattle.bridge_cycle.proofs.Making.{append_nil, ran_nothing, runs_more}
+
+-- a word that isn't refused is due
+pub turn : (p : Phase) (w : PhaseWord) (next : Phase) → IsOnePhase w → next_phase p w ≡ Some next → p ≡ due_in w
+turn at.Idle word.Cycle next o e = refl
+turn at.Idle word.Snap next o e = refl
+turn at.Snapped word.Contract next o e = refl
+turn at.Contracted word.Mirror next o e = refl
+turn at.Mirrored word.Weaken next o e = refl
+turn at.Weakened word.Mark next o e = refl
+turn at.Marked word.Sweep next o e = refl
+turn at.Swept word.Restore next o e = refl
+turn at.Restored word.Resolve next o e = refl
+turn p w next o e = absurd (none_some next e)
+
+pub turn_cycle : (p : Phase) (next : Phase) → next_phase p word.Cycle ≡ Some next → p ≡ at.Idle
+turn_cycle at.Idle next e = refl
+turn_cycle p next e = absurd (none_some next e)
+
+pub next_is_due : (p : Phase) → p ≡ due_in (next_word p)
+next_is_due at.Idle = refl
+next_is_due at.Snapped = refl
+next_is_due at.Contracted = refl
+next_is_due at.Mirrored = refl
+next_is_due at.Weakened = refl
+next_is_due at.Marked = refl
+next_is_due at.Swept = refl
+next_is_due at.Restored = refl
+
+pub next_is_one : (p : Phase) → IsOnePhase (next_word p)
+next_is_one at.Idle = tt
+next_is_one at.Snapped = tt
+next_is_one at.Contracted = tt
+next_is_one at.Mirrored = tt
+next_is_one at.Weakened = tt
+next_is_one at.Marked = tt
+next_is_one at.Swept = tt
+next_is_one at.Restored = tt
+
+-- where a phase's word leads
+leads_one : (p q : Phase) (w : PhaseWord) (next : Phase) → next_phase p w ≡ Some next → LeadTo p (w ∷ []) q → q ≡ next
+leads_one p q w next e l = l.2 ∙ some-same l.0 next (sym l.1 ∙ e)
+
+-- what is left before a phase and after it, but for the last one
+record Goes (p q : Phase) : Type 0 where
+  left : phases_left p ≡ next_word p ∷ phases_left q
+  busy : q ≡ at.Idle → ⊥
+  less : length (phases_left q) < length (phases_left p)
+
+busy_now : (p q : Phase) → q ≡ p → (p ≡ at.Idle → ⊥) → q ≡ at.Idle → ⊥
+busy_now p q e n i = n (sym e ∙ i)
+
+goes : (p q : Phase) → (p ≡ at.Idle → ⊥) → (p ≡ at.Restored → ⊥) → LeadTo p (next_word p ∷ []) q → Goes p q
+goes at.Idle q n r l = absurd (n refl)
+goes at.Snapped q n r l =
+    let e = leads_one at.Snapped q word.Contract at.Contracted refl l in
+    subst (λ (z : Phase). Goes at.Snapped z) (sym e) (record { left = refl; busy = λ i. cc; less = omega arith })
+goes at.Contracted q n r l =
+    let e = leads_one at.Contracted q word.Mirror at.Mirrored refl l in
+    subst (λ (z : Phase). Goes at.Contracted z) (sym e) (record { left = refl; busy = λ i. cc; less = omega arith })
+goes at.Mirrored q n r l =
+    let e = leads_one at.Mirrored q word.Weaken at.Weakened refl l in
+    subst (λ (z : Phase). Goes at.Mirrored z) (sym e) (record { left = refl; busy = λ i. cc; less = omega arith })
+goes at.Weakened q n r l =
+    let e = leads_one at.Weakened q word.Mark at.Marked refl l in
+    subst (λ (z : Phase). Goes at.Weakened z) (sym e) (record { left = refl; busy = λ i. cc; less = omega arith })
+goes at.Marked q n r l =
+    let e = leads_one at.Marked q word.Sweep at.Swept refl l in
+    subst (λ (z : Phase). Goes at.Marked z) (sym e) (record { left = refl; busy = λ i. cc; less = omega arith })
+goes at.Swept q n r l =
+    let e = leads_one at.Swept q word.Restore at.Restored refl l in
+    subst (λ (z : Phase). Goes at.Swept z) (sym e) (record { left = refl; busy = λ i. cc; less = omega arith })
+goes at.Restored q n r l = absurd (r refl)
+
+-- what is left is one phase at least
+left_some : (p : Phase) → (p ≡ at.Idle → ⊥) → (ws : List PhaseWord) × (phases_left p ≡ next_word p ∷ ws)
+left_some at.Idle n = absurd (n refl)
+left_some at.Snapped n = (word.Mirror ∷ word.Weaken ∷ word.Mark ∷ word.Sweep ∷ word.Restore ∷ word.Resolve ∷ [], refl)
+left_some at.Contracted n = (word.Weaken ∷ word.Mark ∷ word.Sweep ∷ word.Restore ∷ word.Resolve ∷ [], refl)
+left_some at.Mirrored n = (word.Mark ∷ word.Sweep ∷ word.Restore ∷ word.Resolve ∷ [], refl)
+left_some at.Weakened n = (word.Sweep ∷ word.Restore ∷ word.Resolve ∷ [], refl)
+left_some at.Marked n = (word.Restore ∷ word.Resolve ∷ [], refl)
+left_some at.Swept n = (word.Resolve ∷ [], refl)
+left_some at.Restored n = ([], refl)
+
+pub runs_on : (old mid new : Progress) (index : ℕ) (ws vs : List PhaseWord) → Runs old mid index ws → Runs mid new index vs → Runs old new index (ws ++ vs)
+runs_on old mid new index ws vs a b = (a.0 ++ b.0, runs_more old mid new index ws vs a.0 b.0 a.1 b.1)
+
+pub partway_first : (old : Progress) (index : ℕ) → (old.phase ≡ at.Idle → ⊥) → IsPartway old old index
+partway_first old index busy = record { busy = busy; run = []; all = refl; runs = ran_nothing old index }
+
+-- one phase more
+pub partway_more : (old mid new : Progress) (index : ℕ) (w : PhaseWord) (reply : Reply) → IsPartway old mid index → (mid.phase ≡ at.Restored → ⊥) → w ≡ next_word mid.phase → Answers mid new index (w ∷ []) reply → IsPartway old new index × (length (phases_left new.phase) < length (phases_left mid.phase))
+partway_more old mid new index w reply p n is a =
+    let runs = a.runs in
+    let g = goes mid.phase new.phase p.busy n (subst (λ (v : PhaseWord). LeadTo mid.phase (v ∷ []) new.phase) is runs.leads) in (
+      record {
+        busy = g.busy;
+        run = p.run ++ w ∷ [];
+        all = p.all ∙ (ap (λ ws. p.run ++ ws) (g.left ∙ ap (λ v. v ∷ phases_left new.phase) (sym is)) ∙ sym (append_assoc p.run (w ∷ []) (phases_left new.phase)));
+        runs = runs_on old mid new index p.run (w ∷ []) p.runs (a.entries, runs);
+      },
+      g.less,
+    )
+
+-- a phase that found no memory
+pub partway_lacks : (old mid new : Progress) (index : ℕ) (w : PhaseWord) → IsPartway old mid index → w ≡ next_word mid.phase → Lacks mid new index w → BreaksOff old new index (phases_left old.phase)
+partway_lacks old mid new index w p is lacks =
+    let left = left_some mid.phase p.busy in
+    record {
+      run = p.run;
+      failed = w;
+      left = left.0;
+      all = p.all ∙ ap (λ ws. p.run ++ ws) (left.1 ∙ ap (λ v. v ∷ left.0) (sym is));
+      takes = lacks.takes;
+      runs = subst (λ (ws : List PhaseWord). Runs old new index ws) (append_nil p.run) (runs_on old mid new index p.run [] p.runs lacks.runs);
+    }
+
+-- the last phase
+snoc_of : (es : List Entry) → length es ≡ 1 → (e : Entry) × (es ≡ e ∷ [])
+snoc_of [] l = absurd (omega (arith, l))
+snoc_of (e ∷ []) l = (e, refl)
+snoc_of (e ∷ f ∷ es) l = absurd (omega (arith, l))
+
+pub closes_now : (old mid new : Progress) (index : ℕ) (reply : Reply) → IsPartway old mid index → mid.phase ≡ at.Restored → Answers mid new index (word.Resolve ∷ []) reply → Closes old new index (phases_left old.phase) reply
+closes_now old mid new index reply p e a =
+    let runs = a.runs in
+    let own = runs.events in
+    let one = snoc_of own.0 own.3.count in
+    let only : a.entries ≡ one.0 ∷ [] = own.2 ∙ (ap (λ es. own.0 ++ es) own.4 ∙ (append_nil own.0 ∙ one.1)) in
+    let all : phases_left old.phase ≡ p.run ++ word.Resolve ∷ [] = p.all ∙ ap (λ q. p.run ++ phases_left q) e in
+    record {
+      before = p.runs.0;
+      last = one.0;
+      replies = a.last ∙ ap last_reply only;
+      runs = subst (λ (ws : List PhaseWord). RunsPhases old new index ws (p.runs.0 ++ one.0 ∷ [])) (sym all)
+          (subst (λ (es : List Entry). RunsPhases old new index (p.run ++ word.Resolve ∷ []) (p.runs.0 ++ es)) only (runs_more old mid new index p.run (word.Resolve ∷ []) p.runs.0 a.entries p.runs.1 runs));
+    }
+
+last_snoc : (es : List Entry) (e : Entry) → last_reply (es ++ e ∷ []) ≡ e.made.reply
+last_snoc [] e = refl
+last_snoc (x ∷ []) e = refl
+last_snoc (x ∷ y ∷ es) e = last_snoc (y ∷ es) e
+
+pub closes_answers : (old new : Progress) (index : ℕ) (ws : List PhaseWord) (reply : Reply) → Closes old new index ws reply → Answers old new index ws reply
+closes_answers old new index ws reply c = record { entries = c.before ++ c.last ∷ []; runs = c.runs; last = c.replies ∙ sym (last_snoc c.before c.last) }
+
+-- a whole cycle
+snapped_now : (p q : Phase) → p ≡ at.Idle → LeadTo p (word.Snap ∷ []) q → q ≡ at.Snapped
+snapped_now p q e l = leads_one p q word.Snap at.Snapped (ap (λ z. next_phase z word.Snap) e) l
+
+pub cycle_closes : (old mid new : Progress) (index : ℕ) (first reply : Reply) → old.phase ≡ at.Idle → Answers old mid index (word.Snap ∷ []) first → Closes mid new index (phases_left mid.phase) reply → Answers old new index (phases_of word.Cycle) reply
+cycle_closes old mid new index first reply idle a c =
+    let runs = a.runs in
+    let at_snapped = snapped_now old.phase mid.phase idle runs.leads in
+    let rest = subst (λ (p : Phase). RunsPhases mid new index (phases_left p) (c.before ++ c.last ∷ [])) at_snapped c.runs in
+    record {
+      entries = a.entries ++ (c.before ++ c.last ∷ []);
+      runs = runs_more old mid new index (word.Snap ∷ []) (phases_left at.Snapped) a.entries (c.before ++ c.last ∷ []) runs rest;
+      last = c.replies ∙ sym (ap last_reply (sym (append_assoc a.entries c.before (c.last ∷ []))) ∙ last_snoc (a.entries ++ c.before) c.last);
+    }
+
+pub cycle_lacks : (old new : Progress) (index : ℕ) → Runs old new index [] → BreaksOff old new index (phases_of word.Cycle)
+cycle_lacks old new index none = record { run = []; failed = word.Snap; left = phases_left at.Snapped; all = refl; takes = tt; runs = none }
+
+pub cycle_breaks : (old mid new : Progress) (index : ℕ) (first : Reply) → old.phase ≡ at.Idle → Answers old mid index (word.Snap ∷ []) first → BreaksOff mid new index (phases_left mid.phase) → BreaksOff old new index (phases_of word.Cycle)
+cycle_breaks old mid new index first idle a b =
+    let runs = a.runs in
+    let at_snapped = snapped_now old.phase mid.phase idle runs.leads in
+    record {
+      run = word.Snap ∷ b.run;
+      failed = b.failed;
+      left = b.left;
+      all = ap (λ ws. word.Snap ∷ ws) (sym (ap phases_left at_snapped) ∙ b.all);
+      takes = b.takes;
+      runs = runs_on old mid new index (word.Snap ∷ []) b.run (a.entries, runs) b.runs;
+    }
+
+-- a line with a phase word that is due
+one_word : (w : PhaseWord) → IsOnePhase w → phases_of w ≡ w ∷ []
+one_word word.Cycle o = absurd o
+one_word word.Snap o = refl
+one_word word.Contract o = refl
+one_word word.Mirror o = refl
+one_word word.Weaken o = refl
+one_word word.Mark o = refl
+one_word word.Sweep o = refl
+one_word word.Restore o = refl
+one_word word.Resolve o = refl
+
+pub line_runs : (old new : Progress) (index : ℕ) (w : PhaseWord) (next : Phase) (reply : Reply) → next_phase old.phase w ≡ Some next → Answers old new index (phases_of w) reply → RunsLine old new index (act.PhaseLine w) reply
+line_runs old new index w next reply e a = record { entries = a.entries; runs = subst (λ (o : Option Phase). RunsWord old new index w o a.entries) (sym e) a.runs; last = a.last }
+
+pub line_breaks : (old new : Progress) (index : ℕ) (w : PhaseWord) (next : Phase) → next_phase old.phase w ≡ Some next → BreaksOff old new index (phases_of w) → BreaksLine old new index (act.PhaseLine w)
+line_breaks old new index w next e b = subst (λ (o : Option Phase). BreaksWord old new index w o) (sym e) b
+
+pub one_runs : (old new : Progress) (index : ℕ) (w : PhaseWord) (reply : Reply) → IsOnePhase w → Answers old new index (w ∷ []) reply → Answers old new index (phases_of w) reply
+one_runs old new index w reply o a = subst (λ (ws : List PhaseWord). Answers old new index ws reply) (sym (one_word w o)) a
+
+pub one_lacks : (old new : Progress) (index : ℕ) (w : PhaseWord) → IsOnePhase w → Lacks old new index w → BreaksOff old new index (phases_of w)
+one_lacks old new index w o lacks = record { run = []; failed = w; left = []; all = one_word w o; takes = lacks.takes; runs = lacks.runs }
+
+-- a word that is refused found no memory for its refusal
+pub line_lacks : (old new : Progress) (index : ℕ) (w : PhaseWord) → next_phase old.phase w ≡ None → Runs old new index [] → BreaksLine old new index (act.PhaseLine w)
+line_lacks old new index w e none = subst (λ (o : Option Phase). BreaksWord old new index w o) (sym e) none
+
+-- what holds of an answer, by another fact of it
+pub if_ok_map : {X E : Type 0} (P Q : X → Type 0) (r : Result X E) → IfOk r P → ((x : X) → P x → Q x) → IfOk r Q
+if_ok_map P Q (Ok x) p f = f x p
+if_ok_map P Q (Err e) p f = tt
+
+pub on_err_map : {X E : Type 0} (P Q : Type 0) (r : Result X E) → OnErr r P → (P → Q) → OnErr r Q
+on_err_map P Q (Ok x) p f = tt
+on_err_map P Q (Err e) p f = f p

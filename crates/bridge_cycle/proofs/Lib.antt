@@ -1,0 +1,12 @@
+pub mod Renumbered
+pub mod DeadContraction
+pub mod Candidates
+pub mod Making
+pub mod Openings
+pub mod Mirrored
+pub mod Turned
+pub mod Weakened
+pub mod Restored
+pub mod Endings
+pub mod Refusals
+pub mod Composed

@@ -1,0 +1,6 @@
+pub mod Progress
+pub mod Contracting
+pub mod Handles
+pub mod Held
+pub mod Turns
+pub mod Words

@@ -1,0 +1,71 @@
+-- The handles of a graph's bridge nodes, weakened or restored one after another: an entry of the driver for each, under a hold of the peer lock of its own.
+use Rattle.std.specs.Prelude.{◌≡◌, ℕ, Bool, true, false, List, [], length}
+use Rattle.joint_model.specs.declared.names.Cycle.{Cycle}
+use Rattle.joint_model.specs.declared.names.HNum.{HNum}
+use Rattle.joint_model.specs.declared.names.PhaseWord.{PhaseWord}
+use Rattle.joint_model.specs.declared.names.PhaseWord.TheVariants as word
+use Rattle.joint_model.specs.declared.names.Thread.TheVariants.{C}
+use Rattle.joint_model.specs.declared.events.Entry.{Entry}
+use Rattle.joint_model.specs.declared.events.Reply.TheVariants as says
+use Rattle.joint_model.specs.Control.{Opened, weakening, restoring}
+use Rattle.joint_model.specs.Listed.{answers_of}
+use Rattle.joint_model.specs.Managed.{Managed}
+use Rattle.joint_model.specs.Phases.{AreTimes, candidates_after}
+use Rattle.bridge_graph.specs.declared.graph.Node.{Node}
+use Rattle.global_handles.specs.declared.Back.{Back}
+use Rattle.global_handles.specs.declared.Back.TheVariants.{Alive, Cleared}
+use Rattle.order_table.specs.declared.views.View.{View}
+use Rattle.joint_history.specs.Driven.{DriverStands}
+use Rattle.joint_history.specs.Operations.{MakesAll}
+use Rattle.bridge_cycle.specs.Handles.{AreCandidates}
+use Rattle.bridge_cycle.specs.Progress.{AreOnLine, cycle_after, last_reply}
+
+-- the driver made so many entries of a phase, which open no cycle and count no candidates
+pub record MakesTimes (old new : View) (index : ℕ) (w : PhaseWord) (n : ℕ) (entries : List Entry) : Type 0 where
+  pub made : MakesAll C old new entries
+  pub places : AreOnLine index entries
+  pub times : AreTimes w n entries
+  pub cycle : (k : Cycle) → cycle_after k entries ≡ k
+  pub candidates : (c : ℕ) → candidates_after c entries ≡ c
+
+-- no handle of the driver's cycle is weakened yet
+pub record MayWeakenAll (v : View) (index snap : ℕ) (nodes : List Node) : Type 0 where
+  pub opened : Opened
+  pub weakened : Bool
+  pub seen : Managed
+  pub stands : DriverStands v index (weakening opened 0 weakened false) seen
+  pub candidates : AreCandidates seen nodes
+  pub same : opened.snap ≡ snap
+
+-- so many handles are weakened
+pub record Weakens (old new : View) (index n : ℕ) (o : Opened) (m : Managed) : Type 0 where
+  pub entries : List Entry
+  pub makes : MakesTimes old new index word.Weaken n entries
+  pub last : last_reply entries ≡ says.Ok
+  pub weakened : Bool
+  pub stands : DriverStands new index (weakening o n weakened false) m
+
+abbrev pub WeakensAll : View → View → ℕ → ℕ → List Node → List HNum → Type 0
+WeakensAll old new index snap nodes hs = (o : Opened) (weakened : Bool) (m : Managed) → DriverStands old index (weakening o 0 weakened false) m → AreCandidates m nodes → o.snap ≡ snap → Weakens old new index (length hs) o m
+
+-- whether a restored handle's peer is there
+abbrev pub is_alive : Back → Bool
+is_alive Alive = true
+is_alive Cleared = false
+
+-- no handle of the driver's cycle is restored yet
+pub record MayRestoreAll (v : View) (index : ℕ) (nodes : List Node) : Type 0 where
+  pub opened : Opened
+  pub seen : Managed
+  pub stands : DriverStands v index (restoring opened []) seen
+  pub candidates : AreCandidates seen nodes
+
+-- so many handles are restored, with these answers
+pub record Restores (old new : View) (index n : ℕ) (values : List Bool) (o : Opened) (m : Managed) : Type 0 where
+  pub entries : List Entry
+  pub makes : MakesTimes old new index word.Restore n entries
+  pub count : length values ≡ n
+  pub stands : DriverStands new index (restoring o (answers_of values)) m
+
+abbrev pub RestoresAll : View → View → ℕ → List Node → List HNum → List Bool → Type 0
+RestoresAll old new index nodes hs values = (o : Opened) (m : Managed) → DriverStands old index (restoring o []) m → AreCandidates m nodes → Restores old new index (length hs) values o m

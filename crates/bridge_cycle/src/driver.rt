@@ -1,0 +1,106 @@
+// The driver and what it keeps.
+
+ghost use Rattle.std.specs.Prelude.{◌≡◌};
+ghost use Rattle.joint_model.specs.Lines.{IsDriver};
+ghost use Rattle.joint_model.specs.declared.names.Phase.TheVariants.{Idle};
+ghost use Rattle.joint_history.specs.Callers.{Hears, Tells};
+ghost use Rattle.joint_history.specs.Ending.{IsIdle};
+ghost use Rattle.bridge_cycle.specs.Progress.{Progress, pass_of};
+
+use joint_history::{Caller, Shared};
+use joint_model::{Alive, Cycle, Phase};
+use managed_side::Opened;
+use order_table::OrderName;
+use std::marker::Model;
+use xref_list::Components;
+
+/// The driver of the bridge: the caller of thread `c`, its phase, and what it keeps of the open cycle. Contracts see what it knows, its phase, and the number
+/// of the cycle that it opened last and of that cycle's candidates.
+#[derive(Drop)]
+pub struct Driver<N: OrderName> {
+    pub(crate) caller: Caller<N>,
+    pub(crate) phase: Phase,
+    pub(crate) cycle: Cycle,
+    pub(crate) candidates: u32,
+    pub(crate) opened: Option<Opened>,
+    pub(crate) comps: Option<Components>,
+    pub(crate) alive: Option<Alive>,
+    pub(crate) clear: u64,
+}
+
+impl<N: OrderName> Model for Driver<N> {
+    ghost use Rattle.joint_model.specs.Lines.{IsDriver};
+    ghost use Rattle.bridge_cycle.specs.Held.{IsHeld};
+    ghost use Rattle.bridge_cycle.specs.Progress.{Progress};
+
+    ghost Value = { Progress };
+
+    ghost view = { λ d. record { view = d.caller.view; phase = d.phase; cycle = d.cycle; candidates = d.candidates } };
+
+    ghost invariant = { λ d. IsDriver d.caller.thread × IsHeld record { progress = record { view = d.caller.view; phase = d.phase; cycle = d.cycle; candidates = d.candidates }; snapshot = d.opened; listing = d.comps; alive = d.alive; clear = d.clear } };
+}
+
+/// Why a call of the driver made nothing of what it was asked for.
+#[derive(Clone, Copy, PartialEq, Eq, Debug)]
+pub enum DriverFault {
+    /// There is no memory.
+    OutOfMemory,
+    /// A cycle is open: this one.
+    CycleOpen { cycle: Cycle },
+    /// It isn't the turn of that phase: the driver is in this one.
+    WrongPhase { at: Phase },
+}
+
+impl<N: OrderName> Driver<N> {
+    /// The driver, with the caller of thread `c`, which is idle.
+    pub fn new(caller: Caller<N>) -> Driver<N>
+        requires driver { IsDriver caller.thread }
+        requires idle { IsIdle caller }
+        ensures { result ≡ record { view = caller.view; phase = Idle; cycle = record { 0 = 0 }; candidates = 0 } }
+    {
+        Driver {
+            caller,
+            phase: Phase::Idle,
+            cycle: Cycle(0),
+            candidates: 0,
+            opened: None,
+            comps: None,
+            alive: None,
+            clear: 0,
+        }
+    }
+
+    /// The phase that the driver has come to.
+    pub fn phase(&self) -> Phase
+        ensures { result ≡ self.now.phase }
+    {
+        self.phase
+    }
+
+    /// The driver's caller again. The driver is idle.
+    pub fn retire(self) -> Caller<N>
+        requires { self.phase ≡ Idle }
+        ensures pass { result ≡ pass_of self }
+        ensures idle { IsIdle result }
+    {
+        self.caller
+    }
+
+    /// The driver is told all that a caller knows. It makes no entry, changes nothing else of the driver, and takes no lock and no memory.
+    pub fn hear(&mut self, shared: &Shared<N>, from: &mut Caller<N>)
+        ensures from { Tells from.old from.new }
+        ensures hears { Hears from.old (pass_of self.old) (pass_of self.new) }
+        ensures same { self.new ≡ record self.old { view = self.new.view } }
+    {
+        shared.tell(from, &mut self.caller);
+    }
+
+    /// Tells a caller all that the driver knows. It makes no entry, changes nothing else of the driver, and takes no lock and no memory.
+    pub fn tell(&mut self, shared: &Shared<N>, to: &mut Caller<N>)
+        ensures tells { Tells (pass_of self.old) (pass_of self.new) }
+        ensures to { Hears (pass_of self.old) to.old to.new }
+        ensures same { self.new ≡ record self.old { view = self.new.view } }
+    {
+        shared.tell(&mut self.caller, to);
+    }
+}

@@ -1,0 +1,186 @@
+// The phases that take memory: the snapshot, the contraction and the mirror.
+
+ghost use Rattle.std.specs.Prelude.{◌≡◌, ◌≤◌, [], ◌∷◌, Err, IfErr, IfOk, OnErr, OnOk};
+ghost use Rattle.joint_model.specs.declared.names.Phase.TheVariants as at;
+ghost use Rattle.joint_model.specs.declared.names.PhaseWord.TheVariants as word;
+ghost use Rattle.bridge_graph.specs.Parts.{IsPart};
+ghost use Rattle.bridge_cycle.specs.Progress.{Answers, Runs, line_of};
+
+use crate::driver::{Driver, DriverFault};
+use bridge_graph::DeadGraph;
+use joint_history::Shared;
+use joint_model::{Alive, Phase, Reply};
+use order_table::OrderName;
+use std::alloc::{AllocError, Global};
+use std::sync::Wait;
+
+// A graph is one that a dead part can have.
+fn graph_is_part(graph: &DeadGraph)
+    ensures { IsPart graph.now.nodes graph.now.edges }
+{
+    let _ = graph.nodes();
+}
+
+impl<N: OrderName> Driver<N> {
+    // Takes the snapshot; the phase is the one for it.
+    pub(crate) fn take_snapshot(
+        &mut self,
+        rt: &impl Wait,
+        shared: &Shared<N>,
+        index: u32,
+    ) -> Result<Reply, AllocError>
+        requires phase { self.old.phase ≡ at.Idle }
+        requires index { line_of self.old ≤ index }
+        ensures index { line_of self.new ≤ index }
+        ensures ok { IfOk result (λ reply. Answers self.old self.new index (word.Snap ∷ []) reply) }
+        ensures err { OnErr result (Runs self.old self.new index []) }
+    {
+        let Ok(opened) = shared.snap(rt, &mut self.caller, index) else {
+            return Err(AllocError);
+        };
+        graph_is_part(&opened.graph);
+        let reply = Reply::Snapped(opened.candidates, opened.freed);
+        self.phase = Phase::Snapped;
+        self.cycle = opened.cycle;
+        self.candidates = opened.candidates;
+        self.opened = Some(opened);
+        Ok(reply)
+    }
+
+    // Makes the contraction; the phase is the one for it. All memory is taken before the entry, room for the answers of the restores too.
+    pub(crate) fn make_contraction(
+        &mut self,
+        rt: &impl Wait,
+        alloc: Global,
+        shared: &Shared<N>,
+        index: u32,
+    ) -> Result<Reply, AllocError>
+        requires phase { self.old.phase ≡ at.Snapped }
+        requires index { line_of self.old ≤ index }
+        ensures index { line_of self.new ≤ index }
+        ensures ok { IfOk result (λ reply. Answers self.old self.new index (word.Contract ∷ []) reply) }
+        ensures err { OnErr result (self.new ≡ self.old) }
+    {
+        let Some(opened) = &self.opened else {
+            unreachable!()
+        };
+        let comps = component_pass::contract(alloc, &opened.graph)?;
+        let alive = Alive::new(alloc, self.candidates)?;
+        let sccs = comps.len();
+        let xrefs = comps.xrefs();
+        shared.contracted(rt, &mut self.caller, index, sccs, xrefs);
+        self.comps = Some(comps);
+        self.alive = Some(alive);
+        self.phase = Phase::Contracted;
+        Ok(Reply::Sccs(sccs, xrefs))
+    }
+
+    // Mirrors the cycle; the phase is the one for it.
+    pub(crate) fn add_references(
+        &mut self,
+        rt: &impl Wait,
+        shared: &Shared<N>,
+        index: u32,
+    ) -> Result<Reply, AllocError>
+        requires phase { self.old.phase ≡ at.Contracted }
+        requires index { line_of self.old ≤ index }
+        ensures index { line_of self.new ≤ index }
+        ensures ok { IfOk result (λ reply. Answers self.old self.new index (word.Mirror ∷ []) reply) }
+        ensures err { OnErr result (Runs self.old self.new index []) }
+    {
+        let Some(opened) = &self.opened else {
+            unreachable!()
+        };
+        let Some(comps) = &self.comps else {
+            unreachable!()
+        };
+        let (_, refs) = shared.mirror(
+            rt,
+            &mut self.caller,
+            index,
+            self.cycle,
+            opened.number,
+            &opened.graph,
+            comps,
+        )?;
+        self.phase = Phase::Mirrored;
+        Ok(Reply::Refs(refs))
+    }
+
+    /// Takes a snapshot of the managed heap, which opens the next cycle. Answers `CycleOpen` exactly where the phase isn't `Idle`, and `OutOfMemory` where
+    /// there is no memory; no entry is made then.
+    pub fn snap(
+        &mut self,
+        rt: &impl Wait,
+        alloc: Global,
+        shared: &Shared<N>,
+        index: u32,
+    ) -> Result<(), DriverFault>
+        requires index { line_of self.old ≤ index }
+        ensures index { line_of self.new ≤ index }
+        ensures open { ¬ (self.old.phase ≡ at.Idle) → (result ≡ Err (DriverFault.CycleOpen self.old.cycle)) × (self.new ≡ self.old) }
+        ensures idle { self.old.phase ≡ at.Idle → IfErr result (λ e. e ≡ DriverFault.OutOfMemory) }
+        ensures ok { OnOk result (Runs self.old self.new index (word.Snap ∷ [])) }
+        ensures err { OnErr result (Runs self.old self.new index []) }
+    {
+        let _ = alloc;
+        if self.phase != Phase::Idle {
+            return Err(DriverFault::CycleOpen { cycle: self.cycle });
+        }
+        match self.take_snapshot(rt, shared, index) {
+            Ok(_) => Ok(()),
+            Err(_) => Err(DriverFault::OutOfMemory),
+        }
+    }
+
+    /// Finds the components of the dead part, with no lock held, and makes the contraction's entry. Answers `WrongPhase` exactly where the phase isn't
+    /// `Snapped`, and `OutOfMemory` where there is no memory; the driver is as before then.
+    pub fn contract(
+        &mut self,
+        rt: &impl Wait,
+        alloc: Global,
+        shared: &Shared<N>,
+        index: u32,
+    ) -> Result<(), DriverFault>
+        requires index { line_of self.old ≤ index }
+        ensures index { line_of self.new ≤ index }
+        ensures wrong { ¬ (self.old.phase ≡ at.Snapped) → result ≡ Err (DriverFault.WrongPhase self.old.phase) }
+        ensures due { self.old.phase ≡ at.Snapped → IfErr result (λ e. e ≡ DriverFault.OutOfMemory) }
+        ensures ok { OnOk result (Runs self.old self.new index (word.Contract ∷ [])) }
+        ensures err { OnErr result (self.new ≡ self.old) }
+    {
+        if self.phase != Phase::Snapped {
+            return Err(DriverFault::WrongPhase { at: self.phase });
+        }
+        match self.make_contraction(rt, alloc, shared, index) {
+            Ok(_) => Ok(()),
+            Err(_) => Err(DriverFault::OutOfMemory),
+        }
+    }
+
+    /// Adds the references that the components stand for between the peers, all at once. Answers `WrongPhase` exactly where the phase isn't `Contracted`,
+    /// and `OutOfMemory` where there is no memory; no entry is made then.
+    pub fn mirror(
+        &mut self,
+        rt: &impl Wait,
+        alloc: Global,
+        shared: &Shared<N>,
+        index: u32,
+    ) -> Result<(), DriverFault>
+        requires index { line_of self.old ≤ index }
+        ensures index { line_of self.new ≤ index }
+        ensures wrong { ¬ (self.old.phase ≡ at.Contracted) → (result ≡ Err (DriverFault.WrongPhase self.old.phase)) × (self.new ≡ self.old) }
+        ensures due { self.old.phase ≡ at.Contracted → IfErr result (λ e. e ≡ DriverFault.OutOfMemory) }
+        ensures ok { OnOk result (Runs self.old self.new index (word.Mirror ∷ [])) }
+        ensures err { OnErr result (Runs self.old self.new index []) }
+    {
+        let _ = alloc;
+        if self.phase != Phase::Contracted {
+            return Err(DriverFault::WrongPhase { at: self.phase });
+        }
+        match self.add_references(rt, shared, index) {
+            Ok(_) => Ok(()),
+            Err(_) => Err(DriverFault::OutOfMemory),
+        }
+    }
+}
