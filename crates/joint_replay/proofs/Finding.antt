@@ -16,13 +16,13 @@ use Rattle.object_heap.proofs.Sound.{IsLive-as}
 use Rattle.object_heap.proofs.Targets.{live_fields-live, live_fields-held}
 use Rattle.reachability.specs.Marks.{Leads, IsMarked}
 use Rattle.reachability.proofs.Marking.{take-next}
-use Rattle.managed_heap.specs.Found.{IsUnreachedRow, IsCandidateRow}
-use Rattle.managed_heap.specs.Unmarked.{marked}
-use Rattle.managed_heap.proofs.Gathering.{IsMarked-test, test-IsMarked}
+use Rattle.joint_replay.specs.Found.{IsUnreachedRow, IsCandidateRow}
+use Rattle.joint_replay.specs.Unmarked.{marked}
+use Rattle.joint_replay.proofs.Gathering.{IsMarked-test, test-IsMarked}
 use Rattle.joint_replay.specs.Plain.{cleaned, kept_target, is_live}
 use Rattle.joint_marking.specs.Gathered.{Gains}
 use Rattle.joint_replay.specs.Roots.{IsNamedLive, Lists}
-use Rattle.managed_heap.specs.Found.{IsSlotReached, IsHandleReached}
+use Rattle.joint_replay.specs.Found.{IsSlotReached, IsHandleReached}
 use Rattle.joint_replay.specs.Finding.{Finds}
 use Rattle.joint_replay.proofs.Flags.{is_live-exact}
 

@@ -8,3 +8,5 @@ pub mod Rising
 pub mod Gaining
 pub mod Rooting
 pub mod Sweeping
+mod Gathering
+mod Snapshots

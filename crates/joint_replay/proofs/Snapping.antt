@@ -18,13 +18,13 @@ use Rattle.joint_model.specs.Walks.{Reached}
 use Rattle.joint_model.proofs.Members.{All-members, Contains-filter_from, Contains-filter_to, Rises-one}
 use Rattle.joint_model.proofs.Deciding.{true-false, not-from, some-same}
 use Rattle.joint_model.proofs.HeapLemmas.{Holds-handle_of}
-use Rattle.managed_heap.proofs.Snapshots.{slot-reached, handle-reached, bridge-row, row-bridge}
+use Rattle.joint_replay.proofs.Snapshots.{slot-reached, handle-reached, bridge-row, row-bridge}
 use Rattle.object_heap.specs.Tidy.{live_fields}
 use Rattle.reachability.specs.Marks.{Leads, IsMarked}
-use Rattle.managed_heap.specs.Unmarked.{unmarked_of}
-use Rattle.managed_heap.proofs.Gathering.{Rises-filter, unmarked_of-exact}
+use Rattle.joint_replay.specs.Unmarked.{unmarked_of}
+use Rattle.joint_replay.proofs.Gathering.{Rises-filter, unmarked_of-exact}
 use Rattle.joint_replay.specs.Judging.{named_objects}
-use Rattle.managed_heap.specs.Found.{IsSlotReached, IsHandleReached}
+use Rattle.joint_replay.specs.Found.{IsSlotReached, IsHandleReached}
 use Rattle.joint_replay.specs.Finding.{Finds}
 use Rattle.joint_replay.specs.Plain.{cleaned}
 use Rattle.joint_replay.specs.Snaps.{Snaps, SaysSnap, SaysFreed, OwesDead, keeps, Settles, SnapsJoint}

@@ -2,7 +2,7 @@
 -- bridge objects that the program doesn't reach stay with all that they reach, until the other heap has spoken.)
 use Rattle.std.specs.Prelude.{ℕ, ◌⊎◌, List, Option}
 use Rattle.joint_model.specs.Heaps.{Heap, IsLive}
-use Rattle.managed_heap.specs.Found.{IsBridgeRow, IsSlotReached, IsHandleReached}
+use Rattle.joint_replay.specs.Found.{IsBridgeRow, IsSlotReached, IsHandleReached}
 use Rattle.joint_replay.specs.Roots.{Lists}
 
 -- the lists of a snapshot, each of them rising and exact

@@ -4,3 +4,5 @@ pub mod Roots
 pub mod Finding
 pub mod Snaps
 pub mod Graphs
+pub mod Unmarked
+pub mod Found

@@ -3,7 +3,7 @@
 ghost use Rattle.std.specs.Prelude.{◌≡◌, ℕ, ◌+◌, ◌<◌, ◌≤◌, ◌↔◌, Bool, true, false, Contains, IfOk, IsTrue, length};
 ghost use Rattle.joint_model.specs.Heaps.{Heap, IsLive};
 ghost use Rattle.joint_model.specs.Managed.{IsBridge};
-ghost use Rattle.managed_heap.specs.Found.{IsUnreachedRow, IsCandidateRow};
+ghost use Rattle.joint_replay.specs.Found.{IsUnreachedRow, IsCandidateRow};
 ghost use Rattle.joint_replay.specs.Roots.{Lists};
 ghost use Rattle.joint_replay.specs.Finding.{Finds};
 

@@ -12,7 +12,7 @@ ghost use Rattle.joint_model.specs.Run.{on_managed, on_peers, thread_number, Joi
 ghost use Rattle.joint_model.specs.Told.{sweep_of};
 ghost use Rattle.joint_replay.specs.Plain.{HasOpen};
 ghost use Rattle.joint_replay.specs.Snaps.{SnapsJoint, SweepsJoint, MayEnd, MaySweep, SaysSwept, Settles, SaysFreed, keeps};
-ghost use Rattle.managed_heap.specs.Unmarked.{marked, unmarked_of};
+ghost use Rattle.joint_replay.specs.Unmarked.{marked, unmarked_of};
 ghost use Rattle.joint_replay.specs.Judging.{Judges, Decides, Gives, IsCovered, IsEntry, named_objects, named_peers};
 
 use crate::callers::{can_make, covers_event, place_of, place_or_none};

@@ -1,8 +1,8 @@
 -- Both markings start from live rows, so they mark exactly what is reached.
 use Rattle.std.proofs.Common.{◌<◌, ◌+◌, All, length, subst, sym}
 use Rattle.joint_model.specs.Heaps.{IsLive, InSlot}
-use Rattle.managed_heap.proofs.Snapshots.{roots-within}
-use Rattle.managed_heap.specs.Found.{IsBridgeRow}
+use Rattle.joint_replay.proofs.Snapshots.{roots-within}
+use Rattle.joint_replay.specs.Found.{IsBridgeRow}
 use Rattle.joint_replay.proofs.Finding.{marks-open, live-reached, Finds-from}
 use Rattle.joint_replay.proofs.found.find.Goals as goal
 

@@ -1,5 +1,5 @@
 -- The wanted rows so far are gathered.
-use Rattle.managed_heap.specs.Found.{IsCandidateRow}
+use Rattle.joint_replay.specs.Found.{IsCandidateRow}
 use Rattle.object_heap.specs.Gathered.{Gathered}
 use Rattle.joint_replay.proofs.found.pick.Given as goal
 

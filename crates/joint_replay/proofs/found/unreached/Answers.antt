@@ -1,7 +1,7 @@
 -- Each turn asks one row more.
 use Rattle.std.proofs.Common.{arith}
-use Rattle.managed_heap.specs.Found.{IsUnreachedRow}
-use Rattle.managed_heap.proofs.Gathering.{Gathered-all, made-below}
+use Rattle.joint_replay.specs.Found.{IsUnreachedRow}
+use Rattle.joint_replay.proofs.Gathering.{Gathered-all, made-below}
 use Rattle.joint_replay.proofs.found.unreached.Goals as goal
 use Rattle.joint_replay.proofs.found.unreached.Goals.{then-is_unreached+in_ok-push, else-is_unreached}
 use Rattle.joint_model.proofs.Deciding.{test-true, test-false}

@@ -1,5 +1,5 @@
 -- The wanted rows so far are gathered.
-use Rattle.managed_heap.specs.Found.{IsUnreachedRow}
+use Rattle.joint_replay.specs.Found.{IsUnreachedRow}
 use Rattle.object_heap.specs.Gathered.{Gathered}
 use Rattle.joint_replay.proofs.found.unreached.Given as goal
 

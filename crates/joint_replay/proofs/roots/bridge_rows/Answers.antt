@@ -1,7 +1,7 @@
 -- Each turn asks one row more.
 use Rattle.std.proofs.Common.{arith}
-use Rattle.managed_heap.specs.Found.{IsBridgeRow}
-use Rattle.managed_heap.proofs.Gathering.{Gathered-all, made-below}
+use Rattle.joint_replay.specs.Found.{IsBridgeRow}
+use Rattle.joint_replay.proofs.Gathering.{Gathered-all, made-below}
 use Rattle.joint_replay.proofs.roots.bridge_rows.Goals as goal
 use Rattle.joint_replay.proofs.roots.bridge_rows.Goals.{then-is_bridge+in_ok-push, else-is_bridge}
 use Rattle.joint_model.proofs.Deciding.{test-true, test-false}

@@ -1,5 +1,5 @@
 -- The wanted rows so far are gathered.
-use Rattle.managed_heap.specs.Found.{IsBridgeRow}
+use Rattle.joint_replay.specs.Found.{IsBridgeRow}
 use Rattle.object_heap.specs.Gathered.{Gathered}
 use Rattle.joint_replay.proofs.roots.bridge_rows.Given as goal
 
