@@ -178,6 +178,7 @@ module _ (f : Fields) (index : ℕ) (h : IsHeld f) (l : line_of f.progress ≤ i
           candidates = sym (ap (told_by f.progress.candidates) v.answers ∙ refusal_tells w f.progress.phase h.seen f.progress.candidates);
         };
         phase = refl;
+        same_candidates = refl;
       } in
       let refusal : AreRefusal f.progress.phase w (e ∷ []) = record { entry = e; all = refl; refuses = refl; names = subst (λ (z : Reply). NamesPhase w f.progress.phase z) (sym v.answers) (names w f.progress.phase f h.stand h.seen h.at r) } in
       record {
@@ -196,6 +197,7 @@ module _ (f : Fields) (index : ℕ) (h : IsHeld f) (l : line_of f.progress ≤ i
       let one : MakesOne f.progress (knowing f new).progress index (e ∷ []) = record {
         enters = record { made = makes_one f.progress.view new h.stand h.seen e nothing v.0; places = (refl, refl, tt); cycle = refl; candidates = sym (ap (told_by f.progress.candidates) v.0.comes.lawful.replies) };
         phase = refl;
+        same_candidates = refl;
       } in
       record {
         held = record { stand = h.stand; seen = h.seen; stands = at_own_line new index h.stand h.seen v.1; at = on_at f.progress.phase f new h.stand h.seen h.at };

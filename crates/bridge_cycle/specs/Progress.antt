@@ -89,10 +89,11 @@ pub record BreaksOff (old new : Progress) (index : ℕ) (ws : List PhaseWord) : 
   pub takes : TakesMemory failed
   pub runs : Runs old new index run
 
--- the driver made one entry that leaves it in its phase
+-- the driver made one entry that leaves it in its phase, with the candidates that it had
 pub record MakesOne (old new : Progress) (index : ℕ) (entries : List Entry) : Type 0 where
   pub enters : Enters old new index entries
   pub phase : new.phase ≡ old.phase
+  pub same_candidates : new.candidates ≡ old.candidates
 
 -- the entry of a `finalise` line
 pub record AreNotices (count : ℕ) (entries : List Entry) : Type 0 where
