@@ -29,14 +29,14 @@ use Rattle.run_laws.specs.Threads.{thread_lines, HoldsItsLines, HoldsItsFirst, O
 next-line : (script : List (Thread × Act)) (n : ℕ) (line : Thread × Act) → slice_get script n ≡ Some line → take (n + 1) script ≡ take n script ++ line ∷ []
 next-line script n line e = take_more script n line (slice_get_within script n line e) ∙ ap (λ z. take n script ++ z ∷ []) (get_or_from_slice_get script n line line e)
 
-numbered-next : (script : List (Thread × Act)) (n : ℕ) (line : Thread × Act) → slice_get script n ≡ Some line → numbered_from 1 (take (n + 1) script) ≡ numbered_from 1 (take n script) ++ (n + 1, line) ∷ []
+pub numbered-next : (script : List (Thread × Act)) (n : ℕ) (line : Thread × Act) → slice_get script n ≡ Some line → numbered_from 1 (take (n + 1) script) ≡ numbered_from 1 (take n script) ++ (n + 1, line) ∷ []
 numbered-next script n line e =
     ap (numbered_from 1) (next-line script n line e)
     ∙ (numbers_go_on 1 (take n script) line
     ∙ ap (λ k. numbered_from 1 (take n script) ++ (k, line) ∷ []) (let l = slice_get_within script n line e in let m = length-take-le n script (omega (arith, l)) in omega (arith, m)))
 
 -- the lines of a thread among them
-lines-next : (t : Thread) (script : List (Thread × Act)) (n : ℕ) (line : Thread × Act) → slice_get script n ≡ Some line
+pub lines-next : (t : Thread) (script : List (Thread × Act)) (n : ℕ) (line : Thread × Act) → slice_get script n ≡ Some line
     → thread_lines t (take (n + 1) script) ≡ thread_lines t (take n script) ++ (if is_thread t line.0 then (n + 1, line) ∷ [] else [])
 lines-next t script n line e = ap (lines_of t) (numbered-next script n line e) ∙ lines_of_go_on t (numbered_from 1 (take n script)) ((n + 1, line) ∷ [])
 
