@@ -31,3 +31,4 @@ pub mod Narrow
 pub mod Giving
 pub mod Running
 pub mod Collecting
+pub mod SeatsKnow

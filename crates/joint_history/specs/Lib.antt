@@ -4,6 +4,7 @@ pub mod Callers
 pub mod Locked
 pub mod Desks
 pub mod Ending
+pub mod SeatFacts
 pub mod Operations
 pub mod Collecting
 pub mod Driven

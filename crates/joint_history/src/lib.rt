@@ -4,8 +4,8 @@
 // its seat is that these lines are those of a lawful past: a list of entries, each of which may come after those behind it. So whatever a
 // lawful past keeps holds under each lock and for each caller, although no lock covers both sides, and nothing has to be proved of threads.
 //
-// `specs/` read alone tells what is true: Knowing first, then Passing, Callers, Locked and Desks, then Operations and Driven with the other files of
-// the driver, and last Ending.
+// `specs/` read alone tells what is true: Knowing first, then Passing, Callers, Locked, SeatFacts and Desks, then Operations, Collecting and
+// Driven with the other files of the driver, and last Ending.
 #![tactic(auto)]
 
 mod callers;
@@ -13,6 +13,7 @@ mod collects;
 mod desks;
 mod driven;
 mod driving;
+mod facts;
 mod gathers;
 mod handles;
 mod laws;

@@ -1,8 +1,9 @@
 // The managed side under its lock.
 
-ghost use Rattle.std.specs.Prelude.{◌≡◌, ◌≤◌, ℕ, IfOk, None, OnErr};
+ghost use Rattle.std.specs.Prelude.{◌≡◌, ◌≤◌, ℕ, [], IfOk, None, OnErr};
 ghost use Rattle.joint_model.specs.Draws.{numbered};
 ghost use Rattle.joint_model.specs.Lines.{IsManagedThread, IsThread, IsVar};
+ghost use Rattle.joint_model.specs.ManagedReplay.{opening_replay};
 ghost use Rattle.joint_model.specs.Sides.{managed_rules};
 ghost use Rattle.joint_model.specs.Told.{nothing};
 ghost use Rattle.order_table.specs.Views.{Owns};
@@ -104,6 +105,8 @@ impl<N: OrderName> LockedManaged<N> {
     ) -> Result<LockedManaged<N>, AllocError>
         requires threads { threads ≤ 8 }
         requires seat { (seat.order ≡ N.order) × Owns seat.view 0 × KnowsNothing seat.view }
+        ensures side { IfOk result (λ l. (l.side.entries ≡ []) × (l.side.state ≡ opening_replay)) }
+        ensures seat { IfOk result (λ l. l.view ≡ seat.view) }
     {
         let side = ManagedSide::new(alloc, threads)?;
         Ok(LockedManaged {

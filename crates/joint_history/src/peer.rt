@@ -7,7 +7,7 @@ ghost use Rattle.joint_model.specs.PeerReplay.{PeerAllows};
 ghost use Rattle.joint_model.specs.Sides.{peer_rules};
 ghost use Rattle.joint_model.specs.Told.{nothing};
 ghost use Rattle.order_table.specs.Views.{Owns};
-ghost use Rattle.peer_side.specs.Sides.{seen};
+ghost use Rattle.peer_side.specs.Sides.{opening_side, seen};
 ghost use Rattle.peer_side.specs.Steps.{IsPeerStep, IsRelease};
 ghost use Rattle.joint_history.specs.Callers.{HoldsPass, KnowsNothing};
 ghost use Rattle.joint_history.specs.Knowing.{line_known};
@@ -77,6 +77,8 @@ impl<N: OrderName> LockedPeer<N> {
     pub(crate) fn new(alloc: Global, threads: u8, seat: Seat) -> Result<LockedPeer<N>, AllocError>
         requires threads { threads ≤ 8 }
         requires seat { (seat.order ≡ N.order) × Owns seat.view 1 × KnowsNothing seat.view }
+        ensures side { IfOk result (λ l. l.side ≡ opening_side) }
+        ensures seat { IfOk result (λ l. l.view ≡ seat.view) }
     {
         let side = PeerSide::new(alloc, threads)?;
         Ok(LockedPeer {

@@ -1,0 +1,21 @@
+use Rattle.std.proofs.Common.{subst}
+use Rattle.peer_side.specs.Sides.{seen}
+use Rattle.joint_history.specs.Locked.{UnderPeer}
+use Rattle.joint_history.specs.SeatFacts.{HandlesLeft, NoneLeadsToFreedIn, PeerListCites, WeakIsWaitingIn}
+use Rattle.joint_history.proofs.SeatsKnow.{handles_left, none_to_cleared, none_to_freed, peer_list_cites, weak_waits}
+use Rattle.joint_history.proofs.peer.LockedPeer.facts.Goals as goal
+
+pub returns-clause-cites : goal.returns-clause-cites
+returns-clause-cites g c = subst (λ (u : UnderPeer). PeerListCites u.view u.side.entries) c.self.view_is (peer_list_cites c.self.inside.seat.view (seen c.self.inside.side) c.self.invariant.2)
+
+pub returns-clause-left : goal.returns-clause-left
+returns-clause-left g c = subst (λ (u : UnderPeer). HandlesLeft (seen u.side)) c.self.view_is (handles_left c.self.inside.seat.view (seen c.self.inside.side) c.self.invariant.2)
+
+pub returns-clause-weak : goal.returns-clause-weak
+returns-clause-weak g c = subst (λ (u : UnderPeer). WeakIsWaitingIn u.side.state) c.self.view_is (weak_waits c.self.inside.seat.view (seen c.self.inside.side) c.self.invariant.2)
+
+pub returns-clause-freed : goal.returns-clause-freed
+returns-clause-freed g c = subst (λ (u : UnderPeer). NoneLeadsToFreedIn u.side.state) c.self.view_is (none_to_freed c.self.inside.seat.view (seen c.self.inside.side) c.self.invariant.2)
+
+pub returns-clause-cleared : goal.returns-clause-cleared
+returns-clause-cleared g c = none_to_cleared c.args.self.now.view
