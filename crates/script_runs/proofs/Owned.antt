@@ -1,0 +1,98 @@
+-- A thread runs its own lines: each line that isn't its own passes, each of its own is held with the entries that its caller made, and at the end
+-- the driver holds the phases that were left too.
+use Rattle.std.proofs.Common.{◌≡◌, ℕ, ◌+◌, true, false, List, [], ◌++◌, length, Some, refl, sym, ◌∙◌, ap, subst}
+use Rattle.std.specs.Prelude.{slice_get}
+use Rattle.std.proofs.lemmas.List.{append-nil}
+use Rattle.joint_model.specs.declared.names.Thread.{Thread}
+use Rattle.joint_model.specs.declared.names.Thread.TheVariants.{M, P, C}
+use Rattle.joint_model.specs.declared.names.Phase.TheVariants.{Idle}
+use Rattle.joint_model.specs.declared.lines.Act.{Act}
+use Rattle.joint_model.specs.HistoryLines.{caller_line}
+use Rattle.joint_model.specs.Lines.{IsDriver}
+use Rattle.joint_model.specs.PeerReplay.{is_thread}
+use Rattle.joint_laws.proofs.PeerEntries.{same_thread}
+use Rattle.order_table.specs.Facts.{line_entries}
+use Rattle.joint_history.specs.Callers.{KnowsNothing, Pass, own}
+use Rattle.joint_history.specs.Ending.{IsIdle}
+use Rattle.joint_history.specs.Knowing.{line_known}
+use Rattle.joint_history.specs.Operations.{IsOwnThread}
+use Rattle.joint_history.proofs.DriverHears.{driver_first}
+use Rattle.bridge_cycle.specs.Progress.{Progress, pass_of}
+use Rattle.script_laws.specs.Holding.{Standing, opening_standing, standing_after, AreLine}
+use Rattle.script_laws.proofs.Growing.{idle_leaves_nothing}
+use Rattle.run_laws.specs.Threads.{HoldsItsFirst, HoldsItsLines}
+use Rattle.run_laws.proofs.ByThreads.{others_lines_pass, own_lines_add, own_lines_end}
+use Rattle.script_runs.specs.Running.{DrivesLeft, DrivesLine, HasRun, MakesLine, StandsAt}
+
+-- who knows nothing has made nothing, and is idle
+pub own_nothing : (p : Pass) → KnowsNothing p.view → own p ≡ []
+own_nothing p k = ap line_entries (k (caller_line p.thread))
+
+pub idle_first : (p : Pass) → KnowsNothing p.view → IsIdle p
+idle_first p k is = let r = driver_first p.view k in (r.stands.known, r.stands.stands.come)
+
+pub first_holds : (script : List (Thread × Act)) (p : Pass) → KnowsNothing p.view → HoldsItsFirst script 0 p opening_standing
+first_holds script p k = (own_nothing p k, refl)
+
+pub own_idle : (p : Pass) → IsOwnThread p.thread → IsIdle p
+own_idle p o is = absurd (by p.thread o is)
+  where
+    by : (t : Thread) → IsOwnThread t → IsDriver t → ⊥
+    by (M n) a b = b
+    by (P n) a b = b
+    by C a b = a
+
+-- a line more of a thread that isn't the driver's
+pub own_holds : (script : List (Thread × Act)) (n : ℕ) (p q : Pass) (line : Thread × Act) → slice_get script n ≡ Some line → is_thread p.thread line.0 ≡ true → q.thread ≡ p.thread → MakesLine p.thread p.view q.view (n + 1) line.1
+    → HoldsItsFirst script n p opening_standing → HoldsItsFirst script (n + 1) q opening_standing
+own_holds script n p q line e is same k h =
+    let its : line.0 ≡ p.thread = sym (same_thread p.thread line.0 is) in
+    let more : own q ≡ own p ++ k.entries = ap (λ t. line_known q.view (caller_line t)) same ∙ k.made.own_more in
+    let are : AreLine opening_standing (n + 1) line k.entries = subst (λ t. AreLine opening_standing (n + 1) (t, line.1) k.entries) (sym its) (k.line opening_standing) in
+    subst (HoldsItsFirst script (n + 1) q) (k.still opening_standing) (own_lines_add script n p q opening_standing line k.entries e its same more are h)
+
+pub other_holds : (script : List (Thread × Act)) (n : ℕ) (p : Pass) (line : Thread × Act) → slice_get script n ≡ Some line → is_thread p.thread line.0 ≡ false → HoldsItsFirst script n p opening_standing → HoldsItsFirst script (n + 1) p opening_standing
+other_holds script n p line e other h = others_lines_pass script n p opening_standing line e other h
+
+pub own_ends : (script : List (Thread × Act)) (p : Pass) → IsOwnThread p.thread → HoldsItsFirst script (length script) p opening_standing → HasRun script p.thread p
+own_ends script p o h = record {
+  thread = refl;
+  holds = own_lines_end script p p opening_standing [] refl (sym (append-nil (own p))) (idle_leaves_nothing opening_standing refl) h;
+  idle = own_idle p o;
+}
+
+-- the driver's lines among the first, where it stands after them, and the number of the last one
+pub record DriverHolds (script : List (Thread × Act)) (n last : ℕ) (d : Progress) : Type 0 where
+  pub standing : Standing
+  pub holds : HoldsItsFirst script n (pass_of d) standing
+  pub stands : StandsAt standing d
+  pub line : standing.line ≡ last
+
+pub driver_starts : (script : List (Thread × Act)) (d : Progress) → KnowsNothing d.view → Idle ≡ d.phase → 0 ≡ d.candidates → DriverHolds script 0 0 d
+driver_starts script d k idle none = record {
+  standing = opening_standing;
+  holds = first_holds script (pass_of d) k;
+  stands = record { phase = idle; candidates = none };
+  line = refl;
+}
+
+pub driver_holds : (script : List (Thread × Act)) (n last : ℕ) (d f : Progress) (line : Thread × Act) → slice_get script n ≡ Some line → is_thread C line.0 ≡ true → DrivesLine d f (n + 1) line.1 → DriverHolds script n last d → DriverHolds script (n + 1) (n + 1) f
+driver_holds script n last d f line e is k h =
+    let its : line.0 ≡ C = sym (same_thread C line.0 is) in
+    let are : AreLine h.standing (n + 1) line k.entries = subst (λ t. AreLine h.standing (n + 1) (t, line.1) k.entries) (sym its) (k.line h.standing h.stands) in
+    record {
+      standing = standing_after h.standing (n + 1) line.1 k.entries;
+      holds = own_lines_add script n (pass_of d) (pass_of f) h.standing line k.entries e its refl k.made.own_more are h.holds;
+      stands = k.stands h.standing h.stands;
+      line = k.last h.standing;
+    }
+
+pub driver_passes : (script : List (Thread × Act)) (n last : ℕ) (d : Progress) (line : Thread × Act) → slice_get script n ≡ Some line → is_thread C line.0 ≡ false → DriverHolds script n last d → DriverHolds script (n + 1) last d
+driver_passes script n last d line e other h = record { standing = h.standing; holds = others_lines_pass script n (pass_of d) h.standing line e other h.holds; stands = h.stands; line = h.line }
+
+pub driver_ends : (script : List (Thread × Act)) (last : ℕ) (d f : Progress) (p : Pass) → p ≡ pass_of f → IsIdle p → DrivesLeft d f last → DriverHolds script (length script) last d → HasRun script C p
+driver_ends script last d f p is idle k h = record {
+  thread = ap (λ (q : Pass). q.thread) is;
+  holds = subst (HoldsItsLines script) (sym is) (own_lines_end script (pass_of d) (pass_of f) h.standing k.entries refl k.made.own_more (k.left h.standing h.stands h.line) h.holds);
+  idle = idle;
+}

@@ -1,0 +1,96 @@
+-- Which lines can be run, and what running them makes.
+use Rattle.std.specs.Prelude.{◌≡◌, ℕ, ◌≤◌, if◌then◌else◌, List, [], ◌∷◌, ◌++◌, All, Result, IfOk, length, Some, slice_get}
+use Rattle.joint_model.specs.declared.names.Thread.{Thread}
+use Rattle.joint_model.specs.declared.names.Thread.TheVariants.{C}
+use Rattle.joint_model.specs.declared.lines.Act.{Act}
+use Rattle.joint_model.specs.declared.events.Entry.{Entry}
+use Rattle.joint_model.specs.Lines.{IsLine, IsPeerThread}
+use Rattle.joint_model.specs.PeerReplay.{is_thread}
+use Rattle.order_table.specs.declared.views.View.{View}
+use Rattle.joint_history.specs.Callers.{Pass, last_index, own}
+use Rattle.joint_history.specs.Ending.{IsIdle}
+use Rattle.joint_history.specs.Operations.{IsPeerOperation, MakesAll}
+use Rattle.bridge_cycle.specs.Progress.{Progress, pass_of, line_of}
+use Rattle.script_laws.specs.Holding.{Standing, standing_after, AreLine, AreLeft, numbered_from}
+use Rattle.run_laws.specs.Serial.{Adds, AreOthers, IsRunSoFar}
+use Rattle.run_laws.specs.Threads.{HoldsItsLines}
+
+-- a line of a script that can be run: one of a peer thread is one event or a collect
+pub record IsRunnable (line : Thread × Act) : Type 0 where
+  pub lawful : IsLine line.0 line.1
+  pub peer : IsPeerThread line.0 → IsPeerOperation line.1
+
+-- the lines can be run: each of them can, and their numbers are of 32 bits
+pub record CanRun (script : List (Thread × Act)) : Type 0 where
+  pub each : All IsRunnable script
+  pub count : length script ≤ 4294967295
+
+-- a caller made the entries of a line, and the driver stands where it stood
+pub record MakesLine (t : Thread) (old new : View) (index : ℕ) (a : Act) : Type 0 where
+  pub entries : List Entry
+  pub made : MakesAll t old new entries
+  pub line : (s : Standing) → AreLine s index (t, a) entries
+  pub still : (s : Standing) → standing_after s index a entries ≡ s
+
+-- the driver stands there, by its phase and its candidates
+pub record StandsAt (s : Standing) (d : Progress) : Type 0 where
+  pub phase : s.phase ≡ d.phase
+  pub candidates : s.candidates ≡ d.candidates
+
+-- the driver made the entries of its line, and stands where they lead
+pub record DrivesLine (old new : Progress) (index : ℕ) (a : Act) : Type 0 where
+  pub entries : List Entry
+  pub made : MakesAll C old.view new.view entries
+  pub line : (s : Standing) → StandsAt s old → AreLine s index (C, a) entries
+  pub stands : (s : Standing) → StandsAt s old → StandsAt (standing_after s index a entries) new
+  pub last : (s : Standing) → (standing_after s index a entries).line ≡ index
+
+-- the driver made the entries of the phases that were left
+pub record DrivesLeft (old new : Progress) (index : ℕ) : Type 0 where
+  pub entries : List Entry
+  pub made : MakesAll C old.view new.view entries
+  pub left : (s : Standing) → StandsAt s old → s.line ≡ index → AreLeft s entries
+
+-- a caller holds the lines of its thread, and is idle if it is the driver's
+pub record HasRun (script : List (Thread × Act)) (t : Thread) (p : Pass) : Type 0 where
+  pub thread : p.thread ≡ t
+  pub holds : HoldsItsLines script p
+  pub idle : IsIdle p
+
+-- so it is of what a thread ends with, unless it found no memory
+abbrev pub EndsSo : {E : Type 0} → List (Thread × Act) → Pass → Result Pass E → Type 0
+EndsSo script caller result = IfOk result (HasRun script caller.thread)
+
+-- one of the others made the entries of a line, told of all that the driver knew, and the driver has heard of them
+pub record TellsLine (old new : Progress) (before after : Pass) (index : ℕ) (a : Act) : Type 0 where
+  pub entries : List Entry
+  pub adds : Adds old.view new.view before.thread (own before) (own after) entries
+  pub line : (s : Standing) → AreLine s index (before.thread, a) entries
+  pub still : (s : Standing) → standing_after s index a entries ≡ s
+  pub own_stay : own (pass_of new) ≡ own (pass_of old)
+  pub stands : (s : Standing) → StandsAt s old → StandsAt s new
+
+-- these lines were run, the driver stands where they lead, and its last line was this one
+pub record HasCome (lines : List (ℕ × (Thread × Act))) (last : ℕ) (d : Progress) (others : List Pass) : Type 0 where
+  pub standing : Standing
+  pub run : IsRunSoFar lines standing (pass_of d) others
+  pub stands : StandsAt standing d
+  pub line : standing.line ≡ last
+
+-- the line of the driver's last line, after a line more
+abbrev pub last_after : ℕ → ℕ → Thread → ℕ
+last_after last number t = if is_thread C t then number else last
+
+-- a line was run: whatever had come before, it comes behind it
+abbrev pub RunsOn : ℕ → Thread → Act → Progress → Progress → List Pass → List Pass → Type 0
+RunsOn number t a old new others others' = (lines : List (ℕ × (Thread × Act))) (last : ℕ) → HasCome lines last old others → HasCome (lines ++ (number, (t, a)) ∷ []) (last_after last number t) new others'
+
+-- none of the others has come past the line
+abbrev pub AreUpTo : ℕ → List Pass → Type 0
+AreUpTo line others = (i : ℕ) (p : Pass) → slice_get others i ≡ Some p → last_index (own p) ≤ line
+
+-- all lines were run
+pub record HasComeThrough (script : List (Thread × Act)) (last : ℕ) (d : Progress) (others : List Pass) : Type 0 where
+  pub come : HasCome (numbered_from 1 script) last d others
+  pub others_are : AreOthers others
+  pub driven : line_of d ≤ last

@@ -1,0 +1,73 @@
+// One line of a thread, and the phases that the driver's lines have left.
+
+ghost use Rattle.std.specs.Prelude.{◌≡◌, ◌≤◌, OnOk};
+ghost use Rattle.joint_history.specs.Callers.{last_index, own};
+ghost use Rattle.joint_history.specs.Operations.{IsOperationOf};
+ghost use Rattle.joint_model.specs.Lines.{IsLine};
+ghost use Rattle.joint_model.specs.declared.names.Phase.TheVariants.{Idle};
+ghost use Rattle.joint_model.specs.declared.names.Thread.TheVariants.{C};
+ghost use Rattle.bridge_cycle.specs.Progress.{line_of};
+ghost use Rattle.script_runs.specs.Running.{DrivesLeft, DrivesLine, MakesLine};
+
+use bridge_cycle::Driver;
+use joint_history::{Caller, Shared};
+use joint_model::{Act, Thread};
+use order_table::OrderName;
+use std::alloc::{AllocError, Global};
+use std::sync::Wait;
+
+/// Runs a line of a thread that isn't the driver's: the caller makes the line's entries. Answers `AllocError` where there is no memory; the
+/// caller may have made the first of them then.
+pub(crate) fn run_line<N: OrderName>(
+    rt: &impl Wait,
+    shared: &Shared<N>,
+    caller: &mut Caller<N>,
+    index: u32,
+    act: &Act,
+) -> Result<(), AllocError>
+    requires act { IsOperationOf caller.old.thread act.now }
+    requires index { last_index (own caller.old) ≤ index }
+    ensures thread { caller.new.thread ≡ caller.old.thread }
+    ensures index { last_index (own caller.new) ≤ index }
+    ensures ok { OnOk result (MakesLine caller.old.thread caller.old.view caller.new.view index act.now) }
+{
+    match caller.thread() {
+        Thread::M(_) => shared.managed(rt, caller, index, act)?,
+        Thread::P(_) => shared.peer(rt, caller, index, act)?,
+        Thread::C => unreachable!(),
+    };
+    Ok(())
+}
+
+/// Runs a line of the driver: it makes the line's entries, and stands where they lead. Answers `AllocError` where there is no memory.
+pub(crate) fn drive_line<N: OrderName>(
+    rt: &impl Wait,
+    alloc: Global,
+    shared: &Shared<N>,
+    driver: &mut Driver<N>,
+    index: u32,
+    act: &Act,
+) -> Result<(), AllocError>
+    requires act { IsLine C act.now }
+    requires index { line_of driver.old ≤ index }
+    ensures index { line_of driver.new ≤ index }
+    ensures ok { OnOk result (DrivesLine driver.old driver.new index act.now) }
+{
+    driver.line(rt, alloc, shared, index, act)?;
+    Ok(())
+}
+
+/// Makes the phases that are left of an open cycle, on the driver's last line; it is idle then. Answers `AllocError` where there is no memory.
+pub(crate) fn drive_left<N: OrderName>(
+    rt: &impl Wait,
+    alloc: Global,
+    shared: &Shared<N>,
+    driver: &mut Driver<N>,
+    last: u32,
+) -> Result<(), AllocError>
+    requires index { line_of driver.old ≤ last }
+    ensures idle { OnOk result (driver.new.phase ≡ Idle) }
+    ensures ok { OnOk result (DrivesLeft driver.old driver.new last) }
+{
+    driver.end(rt, alloc, shared, last)
+}

@@ -1,0 +1,47 @@
+// Threads and the places of their callers.
+
+ghost use Rattle.std.specs.Prelude.{◌≡◌, ◌+◌, ◌<◌};
+ghost use Rattle.joint_model.specs.Control.{caller_place};
+ghost use Rattle.joint_model.specs.PeerReplay.{is_thread};
+ghost use Rattle.joint_history.specs.Desks.{thread_of};
+ghost use Rattle.joint_history.specs.Operations.{IsOwnThread};
+
+use joint_model::Thread;
+
+/// Whether two threads are one.
+pub(crate) fn is_thread(t: Thread, u: Thread) -> bool
+    ensures { result ≡ is_thread t u }
+{
+    match (t, u) {
+        (Thread::M(a), Thread::M(b)) | (Thread::P(a), Thread::P(b)) => a == b,
+        (Thread::C, Thread::C) => true,
+        _ => false,
+    }
+}
+
+/// The thread whose caller has that place at the desk.
+pub(crate) fn thread_at(place: u8) -> Thread
+    requires { place < 17 }
+    ensures { result ≡ thread_of place }
+{
+    if place == 0 {
+        return Thread::C;
+    }
+    if place <= 8 {
+        return Thread::M(place);
+    }
+    Thread::P(place - 8)
+}
+
+/// The place of a thread's caller among those of all threads but the driver's.
+pub(crate) fn place_among(t: Thread) -> usize
+    requires { IsOwnThread t }
+    ensures place { result + 1 ≡ caller_place t }
+    ensures few { result < 16 }
+{
+    match t {
+        Thread::M(n) => (n - 1) as usize,
+        Thread::P(n) => (n + 7) as usize,
+        Thread::C => unreachable!(),
+    }
+}

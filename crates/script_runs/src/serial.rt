@@ -1,0 +1,160 @@
+// The run of a script on one thread: its lines one after another.
+
+ghost use Rattle.std.specs.Prelude.{◌≡◌, ℕ, ◌+◌, ◌≤◌, ◌<◌, [], Some, IfOk, OnOk, OnErr, length, slice_get};
+ghost use Rattle.order_table.specs.Views.{OwnsAll};
+ghost use Rattle.joint_history.specs.Callers.{KnowsNothing, Pass, last_index, own};
+ghost use Rattle.joint_history.specs.Desks.{AreAll};
+ghost use Rattle.joint_history.specs.Operations.{IsOperationOf};
+ghost use Rattle.bridge_cycle.specs.Progress.{line_of};
+ghost use Rattle.run_laws.specs.Final.{IsRunInOrder};
+ghost use Rattle.run_laws.specs.Serial.{AreOthers};
+ghost use Rattle.script_runs.specs.Running.{AreUpTo, CanRun, HasCome, HasComeThrough, IsRunnable, RunsOn, TellsLine, last_after};
+
+use crate::lines::{drive_left, drive_line, run_line};
+use crate::places::{is_thread, place_among, thread_at};
+use bridge_cycle::Driver;
+use joint_history::{Caller, Desk, Shared};
+use joint_model::{Act, History, Thread};
+use order_table::{Order, OrderName, Seat};
+use std::alloc::{AllocError, Global};
+use std::marker::Brand;
+use std::sync::Wait;
+
+// Runs a line of a thread that isn't the driver's. The driver tells the thread's caller all that it knows, and hears of what the caller made.
+fn run_told<N: OrderName>(
+    rt: &impl Wait,
+    shared: &Shared<N>,
+    driver: &mut Driver<N>,
+    caller: &mut Caller<N>,
+    index: u32,
+    act: &Act,
+) -> Result<(), AllocError>
+    requires act { IsOperationOf caller.old.thread act.now }
+    requires index { last_index (own caller.old) ≤ index }
+    ensures thread { caller.new.thread ≡ caller.old.thread }
+    ensures index { OnOk result (last_index (own caller.new) ≤ index) }
+    ensures ok { OnOk result (TellsLine driver.old driver.new caller.old caller.new index act.now) }
+{
+    driver.tell(shared, caller);
+    run_line(rt, shared, caller, index, act)?;
+    driver.hear(shared, caller);
+    Ok(())
+}
+
+// The callers of all threads but the driver's.
+fn all_others<N: OrderName>(alloc: Global, desk: &mut Desk<N>) -> Result<Vec<Caller<N>>, AllocError>
+    requires desk { (desk.old.managed ≡ 8) × (desk.old.peers ≡ 8) }
+    requires all { (i : ℕ) → 1 ≤ i → i < 17 → (p : Pass) × (slice_get desk.old.callers i ≡ Some (Some p)) }
+    ensures others { IfOk result (λ v. AreOthers v.items) }
+    ensures new { IfOk result (λ v. (i : ℕ) (p : Pass) → slice_get v.items i ≡ Some p → KnowsNothing p.view) }
+{
+    let mut others = Vec::new(alloc);
+    for place in 1..17_u8 {
+        let Some(caller) = desk.caller(thread_at(place)) else {
+            unreachable!()
+        };
+        others.push(caller)?;
+    }
+    Ok(others)
+}
+
+// Runs one line, and answers the number of the driver's last line.
+fn run_next<N: OrderName>(
+    rt: &impl Wait,
+    alloc: Global,
+    shared: &Shared<N>,
+    driver: &mut Driver<N>,
+    others: &mut Vec<Caller<N>>,
+    last: u32,
+    number: u32,
+    line: &(Thread, Act),
+) -> Result<u32, AllocError>
+    requires line { IsRunnable line.now }
+    requires others { AreOthers others.old.items }
+    requires up_to { AreUpTo number others.old.items }
+    requires driven { (line_of driver.old ≤ last) × (last ≤ number) }
+    ensures others { OnOk result (AreOthers others.new.items) }
+    ensures up_to { OnOk result (AreUpTo number others.new.items) }
+    ensures driven { IfOk result (λ last. (line_of driver.new ≤ last) × (last ≤ number)) }
+    ensures last { IfOk result (λ r. r ≡ last_after last number line.now.0) }
+    ensures runs { OnOk result (RunsOn number line.now.0 line.now.1 driver.old driver.new others.old.items others.new.items) }
+{
+    let (thread, act) = line;
+    if is_thread(Thread::C, *thread) {
+        drive_line(rt, alloc, shared, driver, number, act)?;
+        return Ok(number);
+    }
+    run_told(
+        rt,
+        shared,
+        driver,
+        &mut others[place_among(*thread)],
+        number,
+        act,
+    )?;
+    Ok(last)
+}
+
+// Runs all lines, one after another, and answers the number of the driver's last line.
+fn run_all<N: OrderName>(
+    rt: &impl Wait,
+    alloc: Global,
+    shared: &Shared<N>,
+    driver: &mut Driver<N>,
+    others: &mut Vec<Caller<N>>,
+    script: &[(Thread, Act)],
+) -> Result<u32, AllocError>
+    requires lines { CanRun script.now }
+    requires others { AreOthers others.old.items }
+    requires up_to { AreUpTo 0 others.old.items }
+    requires driven { line_of driver.old ≤ 0 }
+    requires nothing { HasCome [] 0 driver.old others.old.items }
+    ensures { IfOk result (λ last. HasComeThrough script.now last driver.new others.new.items) }
+{
+    let mut last = 0;
+    let mut number = 0;
+    for line in script {
+        number += 1;
+        last = run_next(rt, alloc, shared, driver, others, last, number, line)?;
+    }
+    Ok(last)
+}
+
+// Runs a script by the callers of one order.
+fn run_named<N: OrderName>(
+    rt: &impl Wait,
+    alloc: Global,
+    order: Order,
+    seat: Seat,
+    script: &[(Thread, Act)],
+) -> Result<History, AllocError>
+    requires order { order ≡ N.order }
+    requires seat { (seat.order ≡ N.order) × OwnsAll seat.view × KnowsNothing seat.view }
+    requires lines { CanRun script.now }
+    ensures { IfOk result (IsRunInOrder script.now) }
+{
+    let (shared, mut desk) = Shared::<N>::new(alloc, order, seat, 8, 8)?;
+    let Some(caller) = desk.caller(Thread::C) else {
+        unreachable!()
+    };
+    let mut driver = Driver::new(caller);
+    let mut others = all_others(alloc, &mut desk)?;
+    let last = run_all(rt, alloc, &shared, &mut driver, &mut others, script)?;
+    drive_left(rt, alloc, &shared, &mut driver, last)?;
+    others.push(driver.retire())?;
+    shared.finish(desk, others)
+}
+
+/// Runs the lines of a script one after another, each by its thread's caller, and then the phases that the driver's lines have left; and answers
+/// the finished history, the only one that a run of these lines in their order can have. Answers `AllocError` where there is no memory.
+pub fn run_serial(
+    rt: &impl Wait,
+    alloc: Global,
+    script: &[(Thread, Act)],
+) -> Result<History, AllocError>
+    requires lines { CanRun script.now }
+    ensures history { IfOk result (IsRunInOrder script.now) }
+{
+    let (order, seat) = Order::new(alloc, 8)?;
+    run_named::<Brand>(rt, alloc, order, seat, script)
+}
