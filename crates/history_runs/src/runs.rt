@@ -18,7 +18,7 @@ use std::sync::Wait;
 use std::test::Fail;
 
 // What m1 does, a line after that of its last entry.
-fn managed<N: OrderName>(
+pub(crate) fn managed<N: OrderName>(
     rt: &impl Wait,
     shared: &Shared<N>,
     caller: &mut Caller<N>,
