@@ -3,7 +3,6 @@
 use Rattle.std.specs.Prelude.{ℕ, Bool, true, false, List, [], ◌∷◌, Option, Some, None, codes}
 use Rattle.joint_model.specs.declared.names.Thread.{Thread}
 use Rattle.joint_model.specs.declared.names.Thread.TheVariants.{M, P, C}
-use Rattle.joint_model.specs.declared.names.PhaseWord.TheVariants as phase
 use Rattle.joint_model.specs.declared.lines.Act.{Act}
 use Rattle.joint_model.specs.declared.lines.Act.TheVariants as act
 use Rattle.bridge_script.specs.declared.grammar.Operation.{Operation}
@@ -133,19 +132,15 @@ form_of (M n) o = managed_form o
 form_of (P n) o = peer_form o
 form_of C o = driver_form o
 
--- the operations that are built: the one part of the grammar that grows
-abbrev pub is_built_managed : Operation → Bool
-is_built_managed operation.Bridge = true
-is_built_managed operation.Set = true
-is_built_managed operation.Drop = true
-is_built_managed _ = false
-
-abbrev pub is_built_driver : Operation → Bool
-is_built_driver (operation.Phase phase.Cycle) = true
-is_built_driver _ = false
+-- the operations that are built: the one part of the grammar that grows. All are, but for a peer thread's marking in slices
+abbrev pub is_built_peer : Operation → Bool
+is_built_peer operation.BeginMark = false
+is_built_peer operation.Slice = false
+is_built_peer operation.SweepMark = false
+is_built_peer _ = true
 
 -- whether a thread's operation is built
 abbrev pub is_built : Thread → Operation → Bool
-is_built (M n) o = is_built_managed o
-is_built (P n) o = false
-is_built C o = is_built_driver o
+is_built (M n) o = true
+is_built (P n) o = is_built_peer o
+is_built C o = true

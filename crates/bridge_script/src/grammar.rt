@@ -170,8 +170,7 @@ pub fn is_built(thread: Thread, operation: Operation) -> bool
     ensures { result ≡ is_built thread operation }
 {
     match (thread, operation) {
-        (Thread::M(_), Operation::Bridge | Operation::Set | Operation::Drop) => true,
-        (Thread::C, Operation::Phase(PhaseWord::Cycle)) => true,
-        _ => false,
+        (Thread::P(_), Operation::BeginMark | Operation::Slice | Operation::SweepMark) => false,
+        _ => true,
     }
 }

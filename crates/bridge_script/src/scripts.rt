@@ -3,7 +3,7 @@
 ghost use Rattle.std.specs.Prelude.{◌≡◌, ◌+◌, ◌≤◌, ◌<◌, ◌==◌, [], cond, slice_get, length, IfOk, IfErr, IfSome, MatchResult};
 ghost use Rattle.joint_model.specs.Lines.{IsLine};
 ghost use Rattle.bridge_script.specs.declared.faults.ScriptError.{ScriptError};
-ghost use Rattle.bridge_script.specs.Scripts.{IsBuilt, IsScript, IsText, IsRefusal, is_cycle, line_at};
+ghost use Rattle.bridge_script.specs.Scripts.{IsBuilt, IsScript, IsText, IsRefusal, cycles_of, is_cycle, line_at};
 ghost use Rattle.bridge_script.specs.Steps.{Grows, Stops, EndsLine};
 
 use crate::faults::{Cause, ScriptError, ScriptFault};
@@ -59,8 +59,8 @@ impl Script {
         self.lines.is_empty()
     }
 
-    /// All lines in order.
-    pub(crate) fn lines(&self) -> &[(Thread, Act)]
+    /// All lines in order: line 1 stands first.
+    pub fn lines(&self) -> &[(Thread, Act)]
         ensures lines { result.now ≡ self.now }
         ensures script { IsScript self.now }
     {
@@ -88,6 +88,15 @@ impl Script {
             lines: Vec::new(alloc),
             cycles: 0,
         }
+    }
+
+    /// The script of lines that are one.
+    pub fn of_lines(lines: Vec<(Thread, Act)>) -> Script
+        requires { IsScript lines.items }
+        ensures { result ≡ lines.items }
+    {
+        let cycles = cycles_of(&lines);
+        Script { lines, cycles }
     }
 
     /// Puts the line with this text last, of which `end` is the number of bytes up to its end. `Refused` where it
@@ -147,6 +156,17 @@ fn cycle_count(line: &(Thread, Act)) -> usize
         ) => 1,
         _ => 0,
     }
+}
+
+/// How many lines are `c cycle` or `c snap`.
+fn cycles_of(lines: &[(Thread, Act)]) -> usize
+    ensures { result ≡ cycles_of lines.now }
+{
+    let mut cycles = 0;
+    for line in lines {
+        cycles += cycle_count(line);
+    }
+    cycles
 }
 
 /// Where the line that begins at a place ends: the place of its newline, or the length where it has none.

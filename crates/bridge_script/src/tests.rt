@@ -2,10 +2,7 @@
 // one loop reads each, and a comparison is a call.
 
 use crate::blocks::Block;
-use crate::grammar::{COUNT, FIELDS, Place};
-use crate::operands::{operand_at, read_operands};
 use crate::reports::write_entry;
-use crate::words::Words;
 use crate::{
     ByteSink, ByteSource, CountSink, PlainSource, ScriptError, Source, parse, read_script,
     script_text, write_report,
@@ -53,6 +50,18 @@ const CAUSES: &[u8] = b"0 m8 drop h
 0 m1 bridge h bridge 16 user 16
 0 m7 bridge a leafbridge 0 framework 16
 0 c cycle
+0 m1 new a plain 16
+0 m1 new a leaf 0
+0 m1 load a g15
+0 m1 store g0 -
+0 m1 weak k63 a
+0 m1 pass a s15
+0 p1 drop a
+0 p8 new h 16
+0 p1 global G0 a
+0 p1 wread a G63
+0 p1 collect
+0 c finalise 65535
 1 m1
 1 m1\x20
 1  m1 drop a
@@ -61,13 +70,19 @@ const CAUSES: &[u8] = b"0 m8 drop h
 1 m9 drop a
 1 m01 drop a
 1 m18446744073709551617 drop a
-1 p1 drop a
 1 c1 cycle
-1 c snap
-1 c finalise 1
 1 m1 cycle
-1 m1 copy a b
 1 m1 Drop a
+1 m1 global G0 a
+1 m1 collect
+1 m1 finalise 1
+1 p1 begin
+1 p1 slice 1
+1 p1 sweep
+1 p1 bridge a bridge 1 user 0
+1 p1 handle a
+1 c begin
+1 c drop a
 2 m1 drop
 2 m1 drop a\x20
 2 m1 drop i j
@@ -75,6 +90,10 @@ const CAUSES: &[u8] = b"0 m8 drop h
 2 m1 bridge a bridge 1 user
 2 m1 bridge a bridge 1 user 0 0
 2 c cycle cycle
+2 c finalise
+2 m1 new a plain
+2 p1 new a plain 0
+2 p1 collect a
 3 m1 drop\x20
 3 m1 drop i
 3 m1 drop -
@@ -82,22 +101,50 @@ const CAUSES: &[u8] = b"0 m8 drop h
 3 m1 set a x i
 3 m1 set a 256 i
 3 m1 bridge - leaf x sort 17
+3 m1 new i plain 007
+3 m1 load a g16
+3 m1 load a g00
+3 m1 load a s0
+3 m1 load a g
+3 p1 load a s16
+3 p1 load a s015
+3 p1 load a g0
+3 p1 load a\x20
+3 m1 pass a g0
+3 p1 unglobal G64
+3 p1 unglobal g0
+3 p1 unglobal G1x
+3 m1 read k64
+3 m1 wait K0
+3 m1 weak k-1 a
+3 p1 copy a -
 4 m1 set a  b
 4 m1 set a 01 b
 4 m1 set a +1 b
 4 m1 set a 18446744073709551616 b
 4 m1 bridge a plain x user 17
 4 m1 bridge a bridge 17 user x
+4 m1 new a plain 007
+4 p1 new a x
+4 c finalise 065535
 5 m1 set a 256 b
 5 m1 set a 18446744073709551615 b
 5 m1 bridge a bridge 16 user 17
 5 m1 bridge a plain 17 user 0
 5 m1 bridge a bridge 17 framework 0
+5 m1 new a leaf 17
+5 p1 new a 17
+5 p1 get a b 256
+5 c finalise 0
+5 c finalise 65536
 6 m1 bridge a plain 0 user 0
 6 m1 bridge a  0 user 0
 6 m1 bridge a bridge 0 users 0
 6 m1 bridge a bridge 0 framework 0
 6 m1 bridge a leafbridge 1 user 0
+6 m1 new a leaf 1
+6 m1 new a bridge 0
+6 m1 new a leafbridge 0
 ";
 
 #[test]
@@ -111,94 +158,12 @@ fn each_line_has_its_first_cause(rt: HostRuntime) {
     }
 }
 
-/// In each row the number of a word's cause at a place that no line has yet, 0 where it has none, a letter for the place
-/// and the word: a static of the managed or of the peer heap, a global name, a cell, a count, or a kind without a peer.
-const WORDS: &[u8] = b"0 g g0
-0 g g15
-3 g g16
-3 g g00
-3 g s0
-3 g g
-0 s s0
-0 s s15
-3 s s16
-3 s s015
-3 s g0
-3 s\x20
-0 G G0
-0 G G63
-3 G G64
-3 G g0
-3 G G1x
-0 k k0
-0 k k63
-3 k k64
-3 k K0
-3 k k-1
-5 n 0
-0 n 1
-0 n 65535
-5 n 65536
-4 n 065535
-0 p plain
-0 p leaf
-6 p bridge
-6 p leafbridge
-";
-
-#[test]
-fn words_have_their_causes_at_places_to_come(rt: HostRuntime) {
-    for row in WORDS.split(|b| *b == b'\n') {
-        let [cause, _, letter, _, word @ ..] = row else {
-            continue;
-        };
-        let place = match *letter {
-            b'g' => Place::ManagedStatic,
-            b's' => Place::PeerStatic,
-            b'G' => Place::Global,
-            b'k' => Place::Cell,
-            b'n' => COUNT,
-            _ => Place::PlainKind,
-        };
-        let found = match operand_at(place, word) {
-            Ok(_) => 0,
-            Err(cause) => cause.number() as u64,
-        };
-        expect_at(&rt, row, found, cause.saturating_sub(b'0') as u64);
-    }
-}
-
-/// In each row the number of the first cause of words at the places of a `new`, 0 where they have none, and the words.
-const NEWS: &[u8] = b"0 a plain 16
-0 a leaf 0
-2 a plain
-3 i plain 007
-4 a plain 007
-5 a leaf 17
-6 a bridge 0
-";
-
-#[test]
-fn words_have_their_first_cause_behind_an_operation_to_come(rt: HostRuntime) {
-    let places = [Place::Var, Place::PlainKind, FIELDS];
-    for row in NEWS.split(|b| *b == b'\n') {
-        let [cause, _, words @ ..] = row else {
-            continue;
-        };
-        let found = match read_operands(&places, &mut Words::of(words)) {
-            Ok(_) => 0,
-            Err(cause) => cause.number() as u64,
-        };
-        expect_at(&rt, row, found, cause.saturating_sub(b'0') as u64);
-    }
-}
-
 /// A text: a line so many times, then so many bytes `x`, then an end. And a thousand times the number of its first faulty line and the
 /// number of the cause.
 type Faulty = (&'static [u8], usize, usize, &'static [u8], u64);
 
 /// Texts with few lines, and texts at the limits of a script.
-const FAULTS: [Faulty; 21] = [
+const FAULTS: [Faulty; 22] = [
     (b"", 0, 0, b"", 0),
     (b"", 0, 0, b"m1 drop a", 0),
     (b"", 0, 0, b"\n", 1_001),
@@ -215,7 +180,8 @@ const FAULTS: [Faulty; 21] = [
     (b"c cycle\n", 257, 0, b"", 257_007),
     (b"c cycle\n", 256, 0, b"c cycle", 257_007),
     (b"c cycle\n", 256, 0, b"c cycle a", 257_002),
-    (b"c cycle\n", 256, 0, b"c snap", 257_001),
+    (b"c cycle\n", 256, 0, b"c snap", 257_007),
+    (b"c snap\n", 256, 0, b"c resolve", 0),
     (b"", 0, 8_388_607, b"\n", 1_001),
     (b"", 0, 8_388_607, b"\nm1 drop i\n", 1_001),
     (b"", 0, 8_388_608, b"", 1_001),
@@ -236,11 +202,12 @@ fn the_first_faulty_line_is_named(rt: HostRuntime) -> Result<(), Fail> {
     Ok(())
 }
 
-/// Scripts in which each line has its newline.
-const SCRIPTS: [&[u8]; 3] = [
+/// Scripts in which each line has its newline, the last with every operation.
+const SCRIPTS: [&[u8]; 4] = [
     b"",
     LINKED,
     b"m8 bridge h leafbridge 0 framework 16\nm2 set a 255 -\nc cycle\nm3 bridge a leafbridge 0 user 0\n",
+    b"m1 new a plain 16\nm2 new b leaf 0\nm3 bridge c bridge 1 user 2\nm4 copy d e\nm5 set f 3 g\nm6 get h a 255\nm7 drop b\nm8 load c g15\nm1 store g0 -\nm1 store g1 d\nm2 weak k0 e\nm3 read k63\nm4 wait k1\nm5 take f\nm6 pass g s2\nm7 surface h s3\nm8 dispose a\nm1 handle b\np1 new a 16\np2 set b 0 -\np3 get c d 1\np4 copy e f\np5 drop g\np6 load h s15\np7 store s0 a\np8 global G0 b\np1 wglobal G63 c\np2 unglobal G1\np3 wread d G2\np4 collect\nc cycle\nc snap\nc contract\nc mirror\nc weaken\nc mark\nc sweep\nc restore\nc resolve\nc finalise 65535\n",
 ];
 
 #[test]

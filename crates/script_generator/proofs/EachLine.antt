@@ -1,5 +1,5 @@
 -- What holds of each line of a generated script: its thread has such a line, and writes a static only that no other thread writes.
-use Rattle.std.proofs.Common.{◌≡◌, ℕ, zero, suc, ◌+◌, ◌%◌, ◌<◌, ◌≤◌, [], ◌++◌, subst, sym, arith}
+use Rattle.std.proofs.Common.{◌≡◌, ℕ, zero, suc, ◌+◌, ◌%◌, ◌<◌, ◌≤◌, [], ◌++◌, subst, sym, refl, arith}
 use Rattle.std.specs.Prelude.{All}
 use Rattle.std.proofs.lemmas.List.Elements.{All-nil, All-cons, All-append, All-from_recursion}
 use Rattle.joint_model.specs.declared.names.StaticNo.{StaticNo}
@@ -8,8 +8,9 @@ use Rattle.joint_model.specs.declared.names.Thread.TheVariants.{C}
 use Rattle.joint_model.specs.declared.names.PhaseWord.TheVariants.{Cycle}
 use Rattle.joint_model.specs.declared.lines.Act.{Act}
 use Rattle.joint_model.specs.declared.lines.Act.TheVariants.{PhaseLine}
+use Rattle.bridge_script.specs.Scripts.{IsBuilt, IsScript}
 use Rattle.script_generator.specs.Families.{family_of}
-use Rattle.script_generator.specs.Generated.{shape_of, thread_of, static_of, family, cycle_after, generated, IsLawful, IsWithinLimits}
+use Rattle.script_generator.specs.Generated.{shape_of, thread_of, static_of, family, cycle_after, generated}
 use Rattle.script_generator.specs.Laws.{WritesOwnStatic}
 use Rattle.script_generator.proofs.Counts.{here, none, after, generated_length, generated_cycles, most_lines}
 
@@ -23,14 +24,14 @@ whole P c f seed (suc i) =
     ] in
     All-append P (generated seed i ++ family seed i) (cycle_after i) (All-append P (generated seed i) (family seed i) (whole P c f seed i) (f seed i)) last
 
-lawful_family : (k t : ℕ) (x : StaticNo) → 1 ≤ t → t ≤ 8 → x.0 < 16 → All IsLawful (family_of k t x)
-lawful_family zero t x a b s = All-from_recursion IsLawful (family_of 0 t x) (search arith)
-lawful_family (suc zero) t x a b s = All-from_recursion IsLawful (family_of 1 t x) (search arith)
-lawful_family (suc (suc zero)) t x a b s = All-from_recursion IsLawful (family_of 2 t x) (search arith)
-lawful_family (suc (suc (suc n))) t x a b s = All-from_recursion IsLawful (family_of 3 t x) (search arith)
+built_family : (k t : ℕ) (x : StaticNo) → 1 ≤ t → t ≤ 8 → x.0 < 16 → All IsBuilt (family_of k t x)
+built_family zero t x a b s = All-from_recursion IsBuilt (family_of 0 t x) (search arith)
+built_family (suc zero) t x a b s = All-from_recursion IsBuilt (family_of 1 t x) (search arith)
+built_family (suc (suc zero)) t x a b s = All-from_recursion IsBuilt (family_of 2 t x) (search arith)
+built_family (suc (suc (suc n))) t x a b s = All-from_recursion IsBuilt (family_of 3 t x) (search arith)
 
-pub lawful : (seed size : ℕ) → All IsLawful (generated seed size)
-lawful = whole IsLawful tt (λ seed i. lawful_family (shape_of seed i) (thread_of i) (static_of i) (omega arith) (omega arith) (omega arith))
+pub built : (seed size : ℕ) → All IsBuilt (generated seed size)
+built = whole IsBuilt record { lawful = tt; built = refl } (λ seed i. built_family (shape_of seed i) (thread_of i) (static_of i) (omega arith) (omega arith) (omega arith))
 
 own_family : (k t : ℕ) (x : StaticNo) → t ≡ 1 + x.0 % 4 → All WritesOwnStatic (family_of k t x)
 own_family zero t x e = All-from_recursion WritesOwnStatic (family_of 0 t x) (search arith)
@@ -41,9 +42,9 @@ own_family (suc (suc (suc n))) t x e = All-from_recursion WritesOwnStatic (famil
 pub own : (seed size : ℕ) → All WritesOwnStatic (generated seed size)
 own = whole WritesOwnStatic tt (λ seed i. own_family (shape_of seed i) (thread_of i) (static_of i) (omega arith))
 
-pub limits : (seed size : ℕ) → size ≤ 2800 → IsWithinLimits (generated seed size)
-limits seed size h = record {
-  lawful = lawful seed size;
+pub is_script : (seed size : ℕ) → size ≤ 2800 → IsScript (generated seed size)
+is_script seed size h = record {
+  built = built seed size;
   lines = rw (generated_length seed size) (most_lines seed size h);
   cycles = rw (generated_cycles seed size) (omega arith);
 }

@@ -1,13 +1,11 @@
 -- The script that the generator makes of a seed and a size: so many families one after another, and a cycle after each hundred.
-use Rattle.std.specs.Prelude.{ℕ, zero, suc, ◌+◌, ◌≤◌, ◌%◌, ◌==◌, if◌then◌else◌, List, [], ◌∷◌, ◌++◌, length, All}
+use Rattle.std.specs.Prelude.{ℕ, zero, suc, ◌+◌, ◌%◌, ◌==◌, if◌then◌else◌, List, [], ◌∷◌, ◌++◌}
 use Rattle.joint_model.specs.declared.names.StaticNo.{StaticNo}
 use Rattle.joint_model.specs.declared.names.Thread.{Thread}
 use Rattle.joint_model.specs.declared.names.Thread.TheVariants.{C}
 use Rattle.joint_model.specs.declared.names.PhaseWord.TheVariants.{Cycle}
 use Rattle.joint_model.specs.declared.lines.Act.{Act}
 use Rattle.joint_model.specs.declared.lines.Act.TheVariants.{PhaseLine}
-use Rattle.joint_model.specs.Lines.{IsLine}
-use Rattle.bridge_script.specs.Scripts.{cycles_of}
 use Rattle.script_generator.specs.Families.{family_of}
 
 -- the shape of family i: the shapes come in turn, from that of the seed on
@@ -34,13 +32,3 @@ cycle_after i = if i % 100 == 99 then (C, PhaseLine Cycle) ∷ [] else []
 abbrev pub generated : ℕ → ℕ → List (Thread × Act)
 generated seed zero = []
 generated seed (suc i) = generated seed i ++ family seed i ++ cycle_after i
-
--- the thread has such a line
-abbrev pub IsLawful : Thread × Act → Type 0
-IsLawful line = IsLine line.0 line.1
-
--- the lines are within the limits of a script, whether or not each operation is built
-pub record IsWithinLimits (script : List (Thread × Act)) : Type 0 where
-  pub lawful : All IsLawful script
-  pub lines : length script ≤ 20000
-  pub cycles : cycles_of script ≤ 256

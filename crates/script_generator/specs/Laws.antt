@@ -4,9 +4,9 @@ use Rattle.joint_model.specs.declared.names.Thread.{Thread}
 use Rattle.joint_model.specs.declared.names.Thread.TheVariants.{M, P}
 use Rattle.joint_model.specs.declared.lines.Act.{Act}
 use Rattle.joint_model.specs.declared.lines.Act.TheVariants as act
-use Rattle.bridge_script.specs.Scripts.{IsScript, IsBuilt, cycles_of, script_text_of}
+use Rattle.bridge_script.specs.Scripts.{IsScript, cycles_of, script_text_of}
 use Rattle.script_generator.specs.Families.{lines_by, cached_leaf}
-use Rattle.script_generator.specs.Generated.{family, cycle_after, generated, IsWithinLimits}
+use Rattle.script_generator.specs.Generated.{family, cycle_after, generated}
 
 -- how many families among so many from that of the seed on have the shape of nine lines; the others have six
 abbrev pub circles_of : ℕ → ℕ → ℕ
@@ -46,13 +46,9 @@ pub record HasKnownTexts : Type 0 where
   pub hundredth : script_text_of (family 2 99 ++ cycle_after 99) ≡ codes "m4 bridge a leafbridge 0 framework 1\nm4 new b plain 1\nm4 set b 0 a\nm4 store g3 b\nm4 drop a\nm4 drop b\nc cycle\n"
   pub great : family (2 ^ 64 - 1) 2 ≡ lines_by (M 3) (cached_leaf record { 0 = 2 })
 
--- a script of at most 2,800 families is within the limits, so it is a script where each of its operations is built
-pub record FitsScripts (seed size : ℕ) : Type 0 where
-  pub within : IsWithinLimits (generated seed size)
-  pub script : All IsBuilt (generated seed size) → IsScript (generated seed size)
-
-abbrev pub GeneratedFits : Type 0
-GeneratedFits = (seed size : ℕ) → size ≤ 2800 → FitsScripts seed size
+-- what the generator makes of at most 2,800 families is a script
+abbrev pub AreScripts : Type 0
+AreScripts = (seed size : ℕ) → size ≤ 2800 → IsScript (generated seed size)
 
 -- the line writes no static, or one that is written by its thread alone: in each heap a static is written by the managed thread with
 -- one more than the remainder of its number by four

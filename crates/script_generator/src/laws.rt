@@ -1,14 +1,13 @@
 // Laws on generated scripts, each the contract of a function that does nothing.
 
-ghost use Rattle.script_generator.specs.Laws.{HasLines, HasCycles, HasKnownLengths, HasKnownTexts, GeneratedFits, WritesAreApart};
+ghost use Rattle.script_generator.specs.Laws.{HasLines, HasCycles, HasKnownLengths, HasKnownTexts, AreScripts, WritesAreApart};
 
-/// How many lines and how many cycles a generated script has. One of at most 2,800 families is within the limits of a script, and is one
-/// where each of its operations is built.
+/// How many lines and how many cycles a generated script has. One of at most 2,800 families is a script.
 pub fn generated_scripts_fit()
     ensures lines { HasLines }
     ensures cycles { HasCycles }
     ensures known { HasKnownLengths }
-    ensures fits { GeneratedFits }
+    ensures scripts { AreScripts }
 {}
 
 /// Each static is written by one thread alone.

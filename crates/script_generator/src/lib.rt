@@ -13,4 +13,4 @@ mod scripts;
 mod tests;
 
 pub use laws::{generated_scripts_fit, known_scripts, statics_have_one_writer};
-pub use scripts::{GeneratedScript, generate};
+pub use scripts::generate;

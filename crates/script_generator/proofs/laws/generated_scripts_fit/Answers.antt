@@ -1,5 +1,5 @@
 use Rattle.script_generator.proofs.Counts.{generated_length, generated_cycles, of_known}
-use Rattle.script_generator.proofs.EachLine.{limits}
+use Rattle.script_generator.proofs.EachLine.{is_script}
 use Rattle.script_generator.proofs.laws.generated_scripts_fit.Goals as goal
 
 pub returns-clause-lines : goal.returns-clause-lines
@@ -15,7 +15,5 @@ returns-clause-known c = record {
   most = λ seed. of_known seed 700;
 }
 
-pub returns-clause-fits : goal.returns-clause-fits
-returns-clause-fits c seed size h =
-    let within = limits seed size h in
-    record { within = within; script = λ built. record { built = built; lines = within.lines; cycles = within.cycles } }
+pub returns-clause-scripts : goal.returns-clause-scripts
+returns-clause-scripts c = is_script

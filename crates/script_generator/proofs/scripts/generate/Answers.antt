@@ -1,5 +1,5 @@
-use Rattle.script_generator.proofs.EachLine.{limits}
+use Rattle.script_generator.proofs.EachLine.{is_script}
 use Rattle.script_generator.proofs.scripts.generate.Goals as goal
 
-pub invariant_of-result : goal.invariant_of-result
-invariant_of-result c = rw c.in_ok-lines.ensures (limits c.args.seed c.args.size c.requires)
+pub of_lines-requires : goal.of_lines-requires
+of_lines-requires c = rw c.in_ok-lines_of.ensures (is_script c.args.seed c.args.size c.requires)
