@@ -1,12 +1,2 @@
-pub mod Pushed
-pub mod Spans
-pub mod Ran
-pub mod Telling
-pub mod ManagedEvents
-pub mod Stepping
-pub mod Bridging
-pub mod Cycling
-pub mod Keeping
-pub mod Firsts
-pub mod Running
-pub mod OneWord
+pub mod NoWords
+pub mod Runnable

@@ -5,7 +5,7 @@ use Rattle.std.specs.Vec.Iter.{into_iter_items}
 use Rattle.std.specs.declared.string.String.{String}
 use Rattle.std.specs.declared.vec.IntoIter.{IntoIter}
 use Rattle.bridge_script.specs.Outside.{Rose}
-use Rattle.bridge_run.specs.Top.{IsSerial, usage_text, Printed, Refuses, BrokeOff, MayRun}
+use Rattle.bridge_run.specs.Top.{BrokeOff, IsCommand, MayRun, Printed, Refuses, usage_text}
 
 -- the words after the program's name, as bytes; none where the arguments couldn't be had as text
 abbrev pub words_told : {A Z E : Type 0} → Result (IntoIter (String A) Z) E → List (List ℕ)
@@ -15,10 +15,10 @@ words_told (Err e) = []
 -- how the program ends that was asked by these words: with the status, the bytes and the counts of faults that `bridge_main` promises;
 -- only that memory may be wanting before the words are judged
 pub record Ends (words : List (List ℕ)) (left rest : Option (List ℕ)) (read_before read_now : ℕ) (held after : Option (List ℕ)) (write_before write_now status : ℕ) : Type 0 where
-  pub printed : status ≡ 0 → Printed left rest held after
-  pub usage : status ≡ 1 → (IsSerial words → ⊥) × Appends held after usage_text
-  pub no_command : (IsSerial words → ⊥) → (status ≡ 1) ⊎ (status ≡ 4) ⊎ (status ≡ 5)
-  pub untouched : (IsSerial words → ⊥) → (rest ≡ left) × (read_now ≡ read_before)
+  pub printed : status ≡ 0 → Printed words left rest held after
+  pub usage : status ≡ 1 → (IsCommand words → ⊥) × Appends held after usage_text
+  pub no_command : (IsCommand words → ⊥) → (status ≡ 1) ⊎ (status ≡ 4) ⊎ (status ≡ 5)
+  pub untouched : (IsCommand words → ⊥) → (rest ≡ left) × (read_now ≡ read_before)
   pub read : status ≡ 2 → Rose read_before read_now × Keeps held after
   pub refused : status ≡ 3 → Refuses left rest held after
   pub write : status ≡ 4 → Rose write_before write_now

@@ -1,6 +1,2 @@
 pub mod Top
 pub mod Ends
-pub mod Wholes
-pub mod Runs
-pub mod Going
-pub mod Kept

@@ -1,11 +1,9 @@
 // The program `bridge_run`: the bridge between two heaps, run over a script.
 #![tactic(auto)]
 
-mod answers;
-mod cycle;
 mod program;
-mod serial;
-mod sides;
+#[cfg(test)]
+mod rows;
 mod streams;
 #[cfg(test)]
 mod tests;

@@ -1,14 +1,11 @@
-// The top call by worked examples: printed reports, and each status.
+// The top call by worked examples: printed reports, and each status. What is compared stands in tables, which one loop reads each.
 
 ghost use Rattle.std.specs.Prelude.{Some};
 
 use crate::program::run_program;
-use crate::serial::run;
 use crate::streams::{StdSink, StdSource};
 use crate::top::bridge_main;
-use bridge_script::{ByteSink, ByteSource, FreeTurn, PlainSource, parse};
-use joint_model::History;
-use joint_replay::{JointState, Verdict};
+use bridge_script::{ByteSink, ByteSource, FreeTurn, PlainSource};
 use std::alloc::{AllocError, Global};
 use std::env::{Env, FillError};
 use std::io;
@@ -17,13 +14,236 @@ use std::sync::Wait;
 use std::test::Fail;
 use std::thread::Threads;
 
-const TWO_LINKED: &[u8] =
-    b"m1 bridge a bridge 1 user 0\nm1 bridge b bridge 1 user 0\nm1 set a 0 b\nm1 drop b\nc cycle\nm1 drop a\nc cycle\n";
+const LINKED: &[u8] = b"m1 bridge a bridge 1 user 0
+m1 bridge b bridge 1 user 0
+m1 set a 0 b
+m1 drop b
+c cycle
+m1 drop a
+c cycle
+";
 
-const TWO_LINKED_REPORT: &[u8] =
-    b"0 m1.1 make user 0 = p1 h1\n1 m1.1 adopt a bridge 1 p1 h1 = m1 @0\n2 m1.2 make user 0 = p2 h2\n3 m1.2 adopt b bridge 1 p2 h2 = m2 @2\n4 m1.3 set a 0 b = ok\n5 m1.4 drop b = ok\n6 c.5 snap 1 = 0 freed -\n7 c.5 begin = 1\n8 c.5 sweep = 1 freed -\n9 c.5 resolve 1 = freed -\n10 m1.6 drop a = ok\n11 c.7 snap 2 = 2 freed -\n12 c.7 begin = 2\n13 c.7 sweep = 2 freed p1 p2\n14 c.7 resolve 2 = freed m1 m2\nend 15\n";
+const LINKED_REPORT: &[u8] = b"0 m1.1 make user 0 = p1 h1
+1 m1.1 adopt a bridge 1 p1 h1 = m1 @0
+2 m1.2 make user 0 = p2 h2
+3 m1.2 adopt b bridge 1 p2 h2 = m2 @2
+4 m1.3 set a 0 b = ok
+5 m1.4 drop b = ok
+6 c.5 snap 1 = 0 freed -
+7 c.5 contract 1 = 0 sccs 0 xrefs
+8 c.5 mirror 1 = 0 refs @6
+9 c.5 begin = 1
+10 c.5 sweep = 1 freed -
+11 c.5 clear 1 = ok
+12 c.5 resolve 1 = freed - @11
+13 m1.6 drop a = ok
+14 c.7 snap 2 = 2 freed -
+15 c.7 contract 2 = 2 sccs 1 xrefs
+16 c.7 mirror 2 = 1 refs @14
+17 c.7 weaken h1 = ok @14
+18 c.7 weaken h2 = ok @14
+19 c.7 begin = 2
+20 c.7 sweep = 2 freed p1 p2
+21 c.7 restore h1 = cleared
+22 c.7 restore h2 = cleared
+23 c.7 clear 2 = ok
+24 c.7 resolve 2 = freed m1 m2 @23
+end 25
+";
 
-// The words of a command.
+const USAGE: &[u8] = b"usage: bridge_run COMMAND\n";
+
+const SERIAL: &[&str] = &["serial"];
+
+/// The words, the text, the number of the source's call that fails and of the sink's, 0 for none; and the status and what is written.
+/// A sink of which a call fails takes one byte a call.
+type Run = (
+    &'static [&'static str],
+    &'static [u8],
+    u32,
+    u32,
+    u8,
+    &'static [u8],
+);
+
+const RUNS: [Run; 29] = [
+    (SERIAL, LINKED, 0, 0, 0, LINKED_REPORT),
+    (SERIAL, b"", 0, 0, 0, b"end 0\n"),
+    // words that are no command
+    (&[], b"", 0, 0, 1, USAGE),
+    (&["serial", "x"], b"", 0, 0, 1, USAGE),
+    // faults of the source
+    (SERIAL, LINKED, 1, 0, 2, b""),
+    (SERIAL, LINKED, 2, 0, 2, b""),
+    // faults of the sink
+    (SERIAL, LINKED, 0, 1, 4, b""),
+    (
+        SERIAL,
+        LINKED,
+        0,
+        41,
+        4,
+        b"0 m1.1 make user 0 = p1 h1\n1 m1.1 adopt ",
+    ),
+    (SERIAL, b"", 0, 2, 4, b"e"),
+    (&["help"], b"", 0, 6, 4, b"usage"),
+    (SERIAL, b"\n", 0, 7, 4, b"line 1"),
+    // texts that are no script
+    (
+        SERIAL,
+        b"m1 drop a\nm1 drop i\nm1 jump a\n",
+        0,
+        0,
+        3,
+        b"line 2: cause 3 name\n",
+    ),
+    (
+        SERIAL,
+        b"m1 bridge a bridge 1 framework 0\n",
+        0,
+        0,
+        3,
+        b"line 1: cause 6 kind\n",
+    ),
+    (SERIAL, b"\n", 0, 0, 3, b"line 1: cause 1 unknown\n"),
+    (SERIAL, b"m1", 0, 0, 3, b"line 1: cause 1 unknown\n"),
+    (SERIAL, b"m1 bridge", 0, 0, 3, b"line 1: cause 2 arity\n"),
+    (
+        SERIAL,
+        b"m1 bridge a bridge 1 user",
+        0,
+        0,
+        3,
+        b"line 1: cause 2 arity\n",
+    ),
+    (
+        SERIAL,
+        b"m1 bridge a bridge 1 user ",
+        0,
+        0,
+        3,
+        b"line 1: cause 4 number\n",
+    ),
+    (
+        SERIAL,
+        b"m1 bridge h bridge 17 user 16\n",
+        0,
+        0,
+        3,
+        b"line 1: cause 5 limit\n",
+    ),
+    (
+        SERIAL,
+        b"m1 set h 256 h\n",
+        0,
+        0,
+        3,
+        b"line 1: cause 5 limit\n",
+    ),
+    (
+        SERIAL,
+        b"m9 drop h\n",
+        0,
+        0,
+        3,
+        b"line 1: cause 1 unknown\n",
+    ),
+    // scripts of one line, and places up to their limits
+    (
+        SERIAL,
+        b"m1 bridge a leafbridge 0 framework 3\n",
+        0,
+        0,
+        0,
+        b"0 m1.1 make framework 3 = p1 h1\n1 m1.1 adopt a leafbridge 0 p1 h1 = m1 @0\nend 2\n",
+    ),
+    (
+        SERIAL,
+        b"m1 bridge h bridge 16 user 16\n",
+        0,
+        0,
+        0,
+        b"0 m1.1 make user 16 = p1 h1\n1 m1.1 adopt h bridge 16 p1 h1 = m1 @0\nend 2\n",
+    ),
+    (
+        SERIAL,
+        b"m1 drop a",
+        0,
+        0,
+        0,
+        b"0 m1.1 drop a = ok\nend 1\n",
+    ),
+    (
+        SERIAL,
+        b"m8 drop h\n",
+        0,
+        0,
+        0,
+        b"0 m8.1 drop h = ok\nend 1\n",
+    ),
+    (
+        SERIAL,
+        b"m1 set h 255 h\n",
+        0,
+        0,
+        0,
+        b"0 m1.1 set h 255 h = empty\nend 1\n",
+    ),
+    (
+        SERIAL,
+        b"p8 drop h\n",
+        0,
+        0,
+        0,
+        b"0 p8.1 drop h = ok\nend 1\n",
+    ),
+    (
+        SERIAL,
+        b"p9 drop h\n",
+        0,
+        0,
+        3,
+        b"line 1: cause 1 unknown\n",
+    ),
+    // each thread has its own variables
+    (
+        SERIAL,
+        b"m1 bridge a bridge 1 user 0
+m8 bridge a leafbridge 0 user 2
+m1 set a 0 b
+m8 set a 0 -
+m1 set a 0 a
+m8 drop a
+m2 set a 0 a
+c cycle
+",
+        0,
+        0,
+        0,
+        b"0 m1.1 make user 0 = p1 h1
+1 m1.1 adopt a bridge 1 p1 h1 = m1 @0
+2 m8.2 make user 2 = p2 h2
+3 m8.2 adopt a leafbridge 0 p2 h2 = m2 @2
+4 m1.3 set a 0 b = empty
+5 m8.4 set a 0 - = range
+6 m1.5 set a 0 a = ok
+7 m8.6 drop a = ok
+8 m2.7 set a 0 a = empty
+9 c.8 snap 1 = 1 freed -
+10 c.8 contract 1 = 1 sccs 0 xrefs
+11 c.8 mirror 1 = 0 refs @9
+12 c.8 weaken h2 = ok @9
+13 c.8 begin = 1
+14 c.8 sweep = 1 freed p2
+15 c.8 restore h2 = cleared
+16 c.8 clear 1 = ok
+17 c.8 resolve 1 = freed m2 @16
+end 18
+",
+    ),
+];
+
+/// The words of a command.
 fn words_of(alloc: Global, words: &[&str]) -> Result<Vec<String>, AllocError> {
     let mut owned = Vec::new(alloc);
     for word in words {
@@ -32,143 +252,76 @@ fn words_of(alloc: Global, words: &[&str]) -> Result<Vec<String>, AllocError> {
     Ok(owned)
 }
 
-// Runs the command over a text, with a sink that takes so many bytes a call; the calls whose numbers are given fail.
-fn status_of<R: Threads + Wait + Sync>(
+/// Runs the command over a text, and compares the status.
+pub fn expect<R: Threads + Wait + Sync + Abort>(
     rt: &R,
     alloc: Global,
     words: &[&str],
     text: &[u8],
-    read_fails: &[u32],
+    read_fault: u32,
     out: &mut ByteSink,
-) -> Result<u8, AllocError> {
+    wanted: u8,
+) -> Result<(), AllocError> {
     let words = words_of(alloc, words)?;
-    let fails = read_fails.to_vec(alloc)?;
+    let fails = [read_fault].to_vec(alloc)?;
     let mut source = ByteSource::new(text.to_vec(alloc)?, fails);
-    Ok(bridge_main(rt, alloc, &words, &mut source, out, &FreeTurn))
-}
-
-#[test]
-fn two_linked_objects_are_freed_by_the_second_cycle(rt: HostRuntime) -> Result<(), Fail> {
-    let alloc = rt.alloc();
-    let mut out = ByteSink::new(alloc, 7, Vec::new(alloc));
-    let status = status_of(&rt, alloc, &["serial"], TWO_LINKED, &[], &mut out)?;
-    assert_eq!(rt; status, 0);
-    assert_eq!(rt; out.bytes(), TWO_LINKED_REPORT);
+    let status = bridge_main(rt, alloc, &words, &mut source, out, &FreeTurn);
+    assert_eq!(rt; status, wanted, "for {text:?}");
     Ok(())
 }
 
-#[test]
-fn no_input_is_the_empty_history(rt: HostRuntime) -> Result<(), Fail> {
-    let alloc = rt.alloc();
-    let mut out = ByteSink::new(alloc, 100, Vec::new(alloc));
-    let status = status_of(&rt, alloc, &["serial"], b"", &[], &mut out)?;
-    assert_eq!(rt; status, 0);
-    assert_eq!(rt; out.bytes(), b"end 0\n".as_slice());
-    Ok(())
+/// Compares what was written.
+pub fn expect_text(rt: &impl Abort, found: &[u8], wanted: &[u8]) {
+    assert_eq!(rt; found, wanted);
 }
 
 #[test]
-fn other_words_get_the_usage_line(rt: HostRuntime) -> Result<(), Fail> {
-    let alloc = rt.alloc();
-    let mut out = ByteSink::new(alloc, 100, Vec::new(alloc));
-    let none = status_of(&rt, alloc, &[], b"", &[], &mut out)?;
-    assert_eq!(rt; none, 1);
-    assert_eq!(rt; out.bytes(), b"usage: bridge_run COMMAND\n".as_slice());
-    let mut again = ByteSink::new(alloc, 100, Vec::new(alloc));
-    let more = status_of(&rt, alloc, &["serial", "x"], b"", &[], &mut again)?;
-    assert_eq!(rt; more, 1);
-    Ok(())
-}
-
-#[test]
-fn a_sink_that_fails_holds_a_beginning(rt: HostRuntime) -> Result<(), Fail> {
-    let alloc = rt.alloc();
-    let fails = [2u32].to_vec(alloc)?;
-    let mut out = ByteSink::new(alloc, 1, fails);
-    let status = status_of(&rt, alloc, &["serial"], b"", &[], &mut out)?;
-    assert_eq!(rt; status, 4);
-    assert_eq!(rt; out.bytes(), b"e".as_slice());
-    Ok(())
-}
-
-#[test]
-fn the_first_faulty_line_is_named(rt: HostRuntime) -> Result<(), Fail> {
-    let alloc = rt.alloc();
-    let mut out = ByteSink::new(alloc, 100, Vec::new(alloc));
-    let text = b"m1 drop a\nm1 drop i\nm1 jump a\n";
-    let status = status_of(&rt, alloc, &["serial"], text, &[], &mut out)?;
-    assert_eq!(rt; status, 3);
-    assert_eq!(rt; out.bytes(), b"line 2: cause 3 name\n".as_slice());
-    Ok(())
-}
-
-#[test]
-fn sources_that_fail_at_each_of_their_first_calls_write_nothing(
-    rt: HostRuntime,
-) -> Result<(), Fail> {
-    let alloc = rt.alloc();
-    for before in 0..2u32 {
-        let mut out = ByteSink::new(alloc, 100, Vec::new(alloc));
-        let status = status_of(&rt, alloc, &["serial"], TWO_LINKED, &[before + 1], &mut out)?;
-        assert_eq!(rt; status, 2);
-        assert_eq!(rt; out.bytes(), b"".as_slice());
+fn each_run_has_its_status_and_its_text(rt: HostRuntime) -> Result<(), Fail> {
+    for (words, text, read_fault, write_fault, status, written) in &RUNS {
+        let most = if *write_fault == 0 { 7 } else { 1 };
+        let fails = [*write_fault].to_vec(rt.alloc())?;
+        let mut out = ByteSink::new(rt.alloc(), most, fails);
+        expect(&rt, rt.alloc(), words, text, *read_fault, &mut out, *status)?;
+        expect_text(&rt, out.bytes(), written);
     }
     Ok(())
 }
 
+/// A line so many times, the status, and how the text that is written ends.
+type Repeated = (&'static [u8], usize, u8, &'static [u8]);
+
+const LARGE_RUNS: [Repeated; 4] = [
+    (
+        b"c cycle\n",
+        256,
+        0,
+        b"1791 c.256 resolve 256 = freed - @1790\nend 1792\n",
+    ),
+    (b"c cycle\n", 257, 3, b"line 257: cause 7 cycles\n"),
+    (
+        b"m1 drop a\n",
+        20_000,
+        0,
+        b"19999 m1.20000 drop a = ok\nend 20000\n",
+    ),
+    (b"m1 drop a\n", 20_001, 3, b"line 20001: cause 8 lines\n"),
+];
+
 #[test]
-fn sinks_that_fail_at_each_of_their_first_calls_hold_a_beginning(
-    rt: HostRuntime,
-) -> Result<(), Fail> {
-    let alloc = rt.alloc();
-    for before in 0..50u32 {
-        let fails = [before + 1].to_vec(alloc)?;
-        let mut out = ByteSink::new(alloc, 1, fails);
-        let status = status_of(&rt, alloc, &["serial"], TWO_LINKED, &[], &mut out)?;
-        assert_eq!(rt; status, 4);
-        assert_eq!(rt; out.bytes().len(), before as usize);
-        assert!(rt; TWO_LINKED_REPORT.starts_with(out.bytes()));
+fn large_scripts_are_run_to_their_end(rt: HostRuntime) -> Result<(), Fail> {
+    for (line, often, status, end) in &LARGE_RUNS {
+        let mut text = Vec::new(rt.alloc());
+        for _ in 0..*often {
+            text.extend_from_slice(line)?;
+        }
+        let mut out = ByteSink::new(rt.alloc(), 4096, Vec::new(rt.alloc()));
+        expect(&rt, rt.alloc(), SERIAL, &text, 0, &mut out, *status)?;
+        assert!(rt; out.bytes().ends_with(end));
     }
     Ok(())
 }
 
-#[test]
-fn each_text_may_break_off(rt: HostRuntime) -> Result<(), Fail> {
-    let alloc = rt.alloc();
-    let mut usage = ByteSink::new(alloc, 1, [6u32].to_vec(alloc)?);
-    let status = status_of(&rt, alloc, &["threads"], b"", &[], &mut usage)?;
-    assert_eq!(rt; status, 4);
-    assert_eq!(rt; usage.bytes(), b"usage".as_slice());
-    let mut refusal = ByteSink::new(alloc, 1, [7u32].to_vec(alloc)?);
-    let status = status_of(&rt, alloc, &["serial"], b"\n", &[], &mut refusal)?;
-    assert_eq!(rt; status, 4);
-    assert_eq!(rt; refusal.bytes(), b"line 1".as_slice());
-    Ok(())
-}
-
-#[test]
-fn places_are_taken_up_to_their_limits(rt: HostRuntime) -> Result<(), Fail> {
-    let alloc = rt.alloc();
-    for (text, wanted) in [
-        (b"m1 bridge h bridge 16 user 16\n".as_slice(), 0),
-        (b"m1 bridge h bridge 17 user 16\n".as_slice(), 3),
-        (b"m1 bridge h bridge 16 user 17\n".as_slice(), 3),
-        (b"m1 bridge i bridge 16 user 16\n".as_slice(), 3),
-        (b"m1 set h 255 h\n".as_slice(), 0),
-        (b"m1 set h 256 h\n".as_slice(), 3),
-        (b"m1 set h 255 i\n".as_slice(), 3),
-        (b"m8 drop h\n".as_slice(), 0),
-        (b"m9 drop h\n".as_slice(), 3),
-        (b"p1 drop h\n".as_slice(), 3),
-    ] {
-        let mut out = ByteSink::new(alloc, 100, Vec::new(alloc));
-        let status = status_of(&rt, alloc, &["serial"], text, &[], &mut out)?;
-        assert_eq!(rt; status, wanted);
-    }
-    Ok(())
-}
-
-// A reader and writer that fails at each call.
+/// A reader and writer that fails at each call.
 #[derive(Drop)]
 struct Broken;
 
@@ -188,47 +341,7 @@ impl io::Write for Broken {
     }
 }
 
-// A writer that takes nothing.
-#[derive(Drop)]
-struct Full;
-
-impl io::Write for Full {
-    fn write(&mut self, _: &[u8]) -> io::Result<usize> {
-        Ok(0)
-    }
-
-    fn flush(&mut self) -> io::Result<()> {
-        Ok(())
-    }
-}
-
-#[test]
-fn a_reader_that_fails_is_a_source_that_fails(rt: HostRuntime) -> Result<(), Fail> {
-    let alloc = rt.alloc();
-    let words = words_of(alloc, &["serial"])?;
-    let mut source = StdSource::new(Broken);
-    let mut out = ByteSink::new(alloc, 100, Vec::new(alloc));
-    let status = bridge_main(&rt, alloc, &words, &mut source, &mut out, &FreeTurn);
-    assert_eq!(rt; status, 2);
-    assert_eq!(rt; out.bytes(), b"".as_slice());
-    Ok(())
-}
-
-#[test]
-fn writers_that_fail_or_take_nothing_are_sinks_that_fail(rt: HostRuntime) -> Result<(), Fail> {
-    let alloc = rt.alloc();
-    let words = words_of(alloc, &["serial"])?;
-    let mut source = PlainSource::new(Vec::new(alloc));
-    let mut broken = StdSink::new(Broken);
-    let status = bridge_main(&rt, alloc, &words, &mut source, &mut broken, &FreeTurn);
-    assert_eq!(rt; status, 4);
-    let mut full = StdSink::new(Full);
-    let status = bridge_main(&rt, alloc, &words, &mut source, &mut full, &FreeTurn);
-    assert_eq!(rt; status, 4);
-    Ok(())
-}
-
-// A reader in memory that gives one byte a call.
+/// A reader in memory that gives one byte a call.
 #[derive(Drop)]
 struct Drip<'a> {
     bytes: &'a [u8],
@@ -243,7 +356,7 @@ impl io::Read for Drip<'_> {
     }
 }
 
-// A writer in memory that takes at most `most` bytes of a piece, and no more than half of it, rounded up.
+/// A writer in memory that takes at most `most` bytes of a piece, and no more than half of it, rounded up.
 #[derive(Drop)]
 struct Slow {
     most: usize,
@@ -264,143 +377,37 @@ impl io::Write for Slow {
     }
 }
 
+/// The status of a run of the example over these streams.
+fn status_over<R: Threads + Wait + Sync, I: io::Read + Drop, O: io::Write + Drop>(
+    rt: &R,
+    alloc: Global,
+    reader: I,
+    writer: O,
+) -> Result<u8, AllocError> {
+    let words = words_of(alloc, SERIAL)?;
+    let mut source = StdSource::new(reader);
+    let mut out = StdSink::new(writer);
+    Ok(bridge_main(rt, alloc, &words, &mut source, &mut out, &FreeTurn))
+}
+
 #[test]
-fn adapters_pass_each_byte_on_however_little_a_stream_takes(rt: HostRuntime) -> Result<(), Fail> {
+fn streams_pass_each_byte_on_or_fail(rt: HostRuntime) -> Result<(), Fail> {
     let alloc = rt.alloc();
-    let words = words_of(alloc, &["serial"])?;
-    for most in [1, usize::MAX] {
-        let mut source = StdSource::new(Drip { bytes: TWO_LINKED });
+    for (most, wanted) in [(0, 4), (1, 0), (usize::MAX, 0)] {
         let mut slow = Slow {
             most,
             bytes: Vec::new(alloc),
         };
-        let status = bridge_main(
-            &rt,
-            alloc,
-            &words,
-            &mut source,
-            &mut StdSink::new(&mut slow),
-            &FreeTurn,
-        );
-        assert_eq!(rt; status, 0);
-        assert_eq!(rt; slow.bytes.as_slice(), TWO_LINKED_REPORT);
+        let status = status_over(&rt, alloc, Drip { bytes: LINKED }, &mut slow)?;
+        assert!(rt; status == wanted && LINKED_REPORT.starts_with(&slow.bytes));
+        assert!(rt; status == 4 || slow.bytes.len() == LINKED_REPORT.len());
     }
+    assert!(rt; status_over(&rt, alloc, Drip { bytes: LINKED }, Broken)? == 4);
+    assert!(rt; status_over(&rt, alloc, Broken, Broken)? == 2);
     Ok(())
 }
 
-#[test]
-fn scripts_of_one_line_and_what_is_written(rt: HostRuntime) -> Result<(), Fail> {
-    let alloc = rt.alloc();
-    for (text, wanted, written) in [
-        (
-            b"m1 bridge a leafbridge 0 framework 3\n".as_slice(),
-            0,
-            b"0 m1.1 make framework 3 = p1 h1\n1 m1.1 adopt a leafbridge 0 p1 h1 = m1 @0\nend 2\n".as_slice(),
-        ),
-        (
-            b"m1 bridge a bridge 1 framework 0\n".as_slice(),
-            3,
-            b"line 1: cause 6 kind\n".as_slice(),
-        ),
-        (
-            b"m1 drop a".as_slice(),
-            0,
-            b"0 m1.1 drop a = ok\nend 1\n".as_slice(),
-        ),
-        (b"\n".as_slice(), 3, b"line 1: cause 1 unknown\n".as_slice()),
-        (b"m1".as_slice(), 3, b"line 1: cause 1 unknown\n".as_slice()),
-        (
-            b"m1 bridge".as_slice(),
-            3,
-            b"line 1: cause 2 arity\n".as_slice(),
-        ),
-        (
-            b"m1 bridge a bridge 1 user".as_slice(),
-            3,
-            b"line 1: cause 2 arity\n".as_slice(),
-        ),
-        (
-            b"m1 bridge a bridge 1 user ".as_slice(),
-            3,
-            b"line 1: cause 4 number\n".as_slice(),
-        ),
-        (
-            b"m1 bridge a bridge 1 user 1".as_slice(),
-            0,
-            b"0 m1.1 make user 1 = p1 h1\n1 m1.1 adopt a bridge 1 p1 h1 = m1 @0\nend 2\n".as_slice(),
-        ),
-    ] {
-        let mut out = ByteSink::new(alloc, 100, Vec::new(alloc));
-        let status = status_of(&rt, alloc, &["serial"], text, &[], &mut out)?;
-        assert_eq!(rt; status, wanted);
-        assert_eq!(rt; out.bytes(), written);
-    }
-    Ok(())
-}
-
-#[test]
-fn each_thread_has_its_own_variables(rt: HostRuntime) -> Result<(), Fail> {
-    let alloc = rt.alloc();
-    let text =
-        b"m1 bridge a bridge 1 user 0\nm8 bridge a leafbridge 0 user 2\nm1 set a 0 b\nm8 set a 0 -\nm1 set a 0 a\nm8 drop a\nm2 set a 0 a\nc cycle\n";
-    let wanted =
-        b"0 m1.1 make user 0 = p1 h1\n1 m1.1 adopt a bridge 1 p1 h1 = m1 @0\n2 m8.2 make user 2 = p2 h2\n3 m8.2 adopt a leafbridge 0 p2 h2 = m2 @2\n4 m1.3 set a 0 b = empty\n5 m8.4 set a 0 - = range\n6 m1.5 set a 0 a = ok\n7 m8.6 drop a = ok\n8 m2.7 set a 0 a = empty\n9 c.8 snap 1 = 1 freed -\n10 c.8 begin = 1\n11 c.8 sweep = 1 freed p2\n12 c.8 resolve 1 = freed m2\nend 13\n";
-    let mut out = ByteSink::new(alloc, 100, Vec::new(alloc));
-    let status = status_of(&rt, alloc, &["serial"], text, &[], &mut out)?;
-    assert_eq!(rt; status, 0);
-    assert_eq!(rt; out.bytes(), wanted.as_slice());
-    Ok(())
-}
-
-#[test]
-fn a_script_has_at_most_so_many_cycles(rt: HostRuntime) -> Result<(), Fail> {
-    let alloc = rt.alloc();
-    let mut text = Vec::new(alloc);
-    for _ in 0..256 {
-        text.extend_from_slice(b"c cycle\n")?;
-    }
-    let mut out = ByteSink::new(alloc, 4096, Vec::new(alloc));
-    let status = status_of(&rt, alloc, &["serial"], &text, &[], &mut out)?;
-    assert_eq!(rt; status, 0);
-    assert!(rt;
-        out.bytes()
-            .ends_with(b"1023 c.256 resolve 256 = freed -\nend 1024\n")
-    );
-    text.extend_from_slice(b"c cycle\n")?;
-    let mut more = ByteSink::new(alloc, 4096, Vec::new(alloc));
-    let status = status_of(&rt, alloc, &["serial"], &text, &[], &mut more)?;
-    assert_eq!(rt; status, 3);
-    assert_eq!(rt; more.bytes(), b"line 257: cause 7 cycles\n".as_slice());
-    Ok(())
-}
-
-#[test]
-fn a_script_has_at_most_so_many_lines(rt: HostRuntime) -> Result<(), Fail> {
-    let alloc = rt.alloc();
-    let mut text = Vec::new(alloc);
-    for _ in 0..20_000 {
-        text.extend_from_slice(b"m1 drop a\n")?;
-    }
-    let mut out = ByteSink::new(alloc, 4096, Vec::new(alloc));
-    let status = status_of(&rt, alloc, &["serial"], &text, &[], &mut out)?;
-    assert_eq!(rt; status, 0);
-    assert!(rt;
-        out.bytes()
-            .starts_with(b"0 m1.1 drop a = ok\n1 m1.2 drop a = ok\n")
-    );
-    assert!(rt;
-        out.bytes()
-            .ends_with(b"19999 m1.20000 drop a = ok\nend 20000\n")
-    );
-    text.extend_from_slice(b"m1 drop a\n")?;
-    let mut more = ByteSink::new(alloc, 4096, Vec::new(alloc));
-    let status = status_of(&rt, alloc, &["serial"], &text, &[], &mut more)?;
-    assert_eq!(rt; status, 3);
-    assert_eq!(rt; more.bytes(), b"line 20001: cause 8 lines\n".as_slice());
-    Ok(())
-}
-
-// The arguments of a process, which need not be text.
+/// The arguments of a process, which need not be text.
 #[derive(Drop)]
 struct Given<'a> {
     args: &'a [&'a [u8]],
@@ -428,95 +435,31 @@ impl Env for Given<'_> {
     }
 }
 
+/// The arguments of a process, its input, the exit code, and what is written.
+type Process = ([&'static [u8]; 2], &'static [u8], u8, &'static [u8]);
+
+const PROCESSES: [Process; 4] = [
+    ([b"run", b"serial"], b"", 0, b"end 0\n"),
+    ([b"serial", b"run"], b"", 1, USAGE),
+    ([b"run", b"ser\xffial"], b"", 1, USAGE),
+    ([b"run", b"serial"], b"\n", 3, b"line 1: cause 1 unknown\n"),
+];
+
 #[test]
 fn the_exit_code_is_the_status_for_the_words_that_were_given(rt: HostRuntime) -> Result<(), Fail> {
     let alloc = rt.alloc();
-    let usage = b"usage: bridge_run COMMAND\n".as_slice();
-    for (first, second, text, wanted, written) in [
-        (
-            b"run".as_slice(),
-            b"serial".as_slice(),
-            b"".as_slice(),
-            0,
-            b"end 0\n".as_slice(),
-        ),
-        (
-            b"serial".as_slice(),
-            b"run".as_slice(),
-            b"".as_slice(),
-            1,
-            usage,
-        ),
-        (
-            b"run".as_slice(),
-            b"ser\xffial".as_slice(),
-            b"".as_slice(),
-            1,
-            usage,
-        ),
-        (
-            b"run".as_slice(),
-            b"serial".as_slice(),
-            b"\n".as_slice(),
-            3,
-            b"line 1: cause 1 unknown\n".as_slice(),
-        ),
-    ] {
-        let given = Given {
-            args: &[first, second],
-        };
-        let args = std::env::args(&(given, alloc));
+    for (given, text, wanted, written) in &PROCESSES {
+        let args = std::env::args(&(Given { args: given }, alloc));
         let mut source = PlainSource::new(text.to_vec(alloc)?);
         let mut out = ByteSink::new(alloc, 100, Vec::new(alloc));
         let code = run_program(&rt, alloc, args, &mut source, &mut out, &FreeTurn);
-        assert_eq!(rt; code, ExitCode::from(wanted));
-        assert_eq!(rt; out.bytes(), written);
+        assert!(rt; code == ExitCode::from(*wanted));
+        expect_text(&rt, out.bytes(), written);
     }
     let mut source = PlainSource::new(Vec::new(alloc));
     let mut out = ByteSink::new(alloc, 100, Vec::new(alloc));
     let full = Err(io::Error::from(io::ErrorKind::OutOfMemory));
     let code = run_program(&rt, alloc, full, &mut source, &mut out, &FreeTurn);
-    assert_eq!(rt; code, ExitCode::from(5));
-    assert_eq!(rt; out.bytes(), b"".as_slice());
-    Ok(())
-}
-
-// The verdict of the joint machine on entry `i` of a history.
-fn replay(
-    rt: &impl Abort,
-    state: &mut JointState,
-    h: &History,
-    i: u64,
-) -> Result<Verdict, AllocError> {
-    assert!(rt; i < h.len());
-    match h.entry(i) {
-        None => unreachable!(),
-        Some(entry) => {
-            assert!(rt; JointState::covers(&entry));
-            state.replay_step(h, i)
-        }
-    }
-}
-
-#[test]
-fn the_joint_machine_finds_each_entry_of_the_example_lawful(rt: HostRuntime) -> Result<(), Fail> {
-    let alloc = rt.alloc();
-    let h = run(alloc, &parse(alloc, TWO_LINKED)?)?;
-    assert_eq!(rt; h.len(), 15);
-    let mut state = JointState::new(alloc)?;
-    for i in 0..15 {
-        assert_eq!(rt; replay(&rt, &mut state, &h, i)?, Verdict::Lawful);
-    }
-    Ok(())
-}
-
-#[test]
-fn the_second_sweep_is_no_step_from_the_opening_state(rt: HostRuntime) -> Result<(), Fail> {
-    let alloc = rt.alloc();
-    let h = run(alloc, &parse(alloc, TWO_LINKED)?)?;
-    let mut state = JointState::new(alloc)?;
-    assert_eq!(rt; replay(&rt, &mut state, &h, 13)?, Verdict::Unlawful);
-    assert_eq!(rt; replay(&rt, &mut state, &h, 0)?, Verdict::Lawful);
-    assert_eq!(rt; replay(&rt, &mut state, &h, 1)?, Verdict::Lawful);
+    assert!(rt; code == ExitCode::from(5) && out.bytes().is_empty());
     Ok(())
 }

@@ -1,11 +1,18 @@
-// The words of the command line.
+// The words of the command line that run a script.
 
-ghost use Rattle.std.specs.Prelude.{IsTrue, ◌↔◌, map, string_bytes};
-ghost use Rattle.bridge_run.specs.Top.{IsSerial};
+ghost use Rattle.std.specs.Prelude.{MatchBool, map, string_bytes};
+ghost use Rattle.bridge_run.specs.Top.{IsCommand};
 
-/// Whether the words are the one command, `serial`.
-pub fn is_serial(words: &Vec<String>) -> bool
-    ensures { IsTrue result ↔ IsSerial (map string_bytes words.now.items) }
+use command_words::{Command, command_of, words_tell_commands};
+
+/// Whether the words are a command that is built. It takes no memory.
+pub fn is_command(words: &Vec<String>) -> bool
+    ensures { MatchBool result (IsCommand (map string_bytes words.now.items)) (IsCommand (map string_bytes words.now.items) → ⊥) }
 {
-    words.len() == 1 && words[0].as_str() == "serial"
+    words_tell_commands();
+    match command_of(words) {
+        Some(Command::Serial) => true,
+        Some(_) => false,
+        None => false,
+    }
 }

@@ -1,5 +1,10 @@
 -- The exit code is the status of the top call, and the words that it was given are those that were told.
-use Rattle.std.proofs.Common.{sym, inl, inr}
+use Rattle.std.proofs.Common.{◌≡◌, ◌⊎◌, sym, inl, inr, map, string_bytes}
+use Rattle.std.specs.Prelude.{◌≢◌}
+use Rattle.std.specs.IoError.{error_kind}
+use Rattle.std.specs.Process.{exit_status}
+use Rattle.std.specs.declared.io.ErrorKind.{ErrorKind}
+use Rattle.bridge_run.proofs.NoWords.{without_text}
 use Rattle.bridge_run.proofs.program.run_program.Goals as goal
 
 pub returns-in-Ok-clause-ends : goal.returns-in-Ok-clause-ends
@@ -18,3 +23,8 @@ returns-in-Ok-clause-ends g c =
       complete = e.complete;
       known = e.status;
     }))
+
+pub returns-in-Ok-clause-no_text : goal.returns-in-Ok-clause-no_text
+returns-in-Ok-clause-no_text g c =
+    without_text c.args.args (map string_bytes c.in-Ok.words.items) (λ e. error_kind e ≢ ErrorKind.OutOfMemory) ((exit_status c.from.result ≡ 1) ⊎ (exit_status c.from.result ≡ 4)) c.in-Ok.ensures.words
+    (λ n. rw (c.from.ensures) (c.bridge_main.ensures.no_command n))

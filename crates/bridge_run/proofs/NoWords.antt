@@ -1,0 +1,19 @@
+-- No words are no command.
+use Rattle.std.proofs.Common.{◌≡◌, ◌⊎◌, ⊎_elim, ℕ, List, [], ◌∷◌, subst}
+use Rattle.std.specs.Prelude.{Contains, IfErr, Result, Ok, Err, codes}
+use Rattle.std.specs.declared.string.String.{String}
+use Rattle.std.specs.declared.vec.IntoIter.{IntoIter}
+use Rattle.joint_model.proofs.Members.{Contains-cons_cases, Contains-nil}
+use Rattle.bridge_run.specs.Ends.{words_told}
+use Rattle.bridge_run.specs.Top.{IsCommand}
+
+no_one : (w : List ℕ) → Contains ((w ∷ []) ∷ []) [] → ⊥
+no_one w c = ⊎_elim (λ (e : (w ∷ []) ≡ []). cc) (λ n. Contains-nil [] n) (Contains-cons_cases (w ∷ []) [] [] c)
+
+pub no_words : IsCommand [] → ⊥
+no_words a = no_one (codes "serial") a.given
+
+-- so what follows for words that are no command follows where the arguments aren't text
+pub without_text : {A Z E : Type 0} (args : Result (IntoIter (String A) Z) E) (words : List (List ℕ)) (Q : E → Type 0) (R : Type 0) → words ≡ words_told args → ((IsCommand words → ⊥) → R) → IfErr args (λ e. Q e → R)
+without_text (Ok x) words Q R w f = tt
+without_text (Err e) words Q R w f = λ q. f (λ c. no_words (subst IsCommand w c))

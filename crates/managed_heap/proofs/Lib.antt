@@ -1,4 +1,0 @@
-pub mod Gathering
-pub mod Freezing
-pub mod Snapshots
-pub mod Replays

@@ -1,8 +1,0 @@
--- The wanted rows so far are gathered.
-use Rattle.joint_model.specs.Histories.{managed_numbers}
-use Rattle.managed_heap.specs.Found.{IsUnreachedRow}
-use Rattle.object_heap.specs.Gathered.{Gathered}
-use Rattle.managed_heap.proofs.found.unreached.Given as goal
-
-abbrev pub invariant-loop-m : goal.invariant-loop-m
-invariant-loop-m l = Gathered (IsUnreachedRow l.heap l.slots l.bridges l.stays) l.m (managed_numbers l.rows.items)

@@ -1,5 +1,0 @@
-pub mod Mapped
-pub mod Rows
-pub mod Kept
-pub mod Fresh
-pub mod Replays
