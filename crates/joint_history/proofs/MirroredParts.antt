@@ -78,7 +78,7 @@ module _ (f : ℕ → ℕ) where
 pub edges-count : (l : Listing) (g : Part) → IsListing l.comps l.pairs → length (mirror_edges (numbered_comps g l.comps) l.pairs) ≡ length (mirror_edges l.comps l.pairs)
 edges-count l g listing = ap length (edges-map (number_at g) l.comps l.pairs listing) ∙ length-map (mirror_edges l.comps l.pairs) (both (number_at g))
 
--- row 0 is nobody's
+-- no managed object has the number 0, so nothing there holds a handle
 no-row : (t : Managed) → handle_of t 0 ≡ None
 no-row t = by (is_freed t.heap 0)
   where
