@@ -16,7 +16,8 @@ use Rattle.script_laws.proofs.OwnCycles.{linked-end}
 use Rattle.script_laws.proofs.ThreadEnding.{thread_history_ends}
 use Rattle.run_laws.specs.Final.{IsBridgeRun, HeldInOrderIsRun, HeldByThreadsIsRun}
 
-abbrev kept : (h : Finished) (w : IsFinished h) → AllCyclesEnd h.entries → IsBridgeRun h w.noted
+-- by what ends each cycle a finished history is a run's
+abbrev pub kept : (h : Finished) (w : IsFinished h) → AllCyclesEnd h.entries → IsBridgeRun h w.noted
 kept h w ends =
     let run = linked_is_complete h w.noted w.finished.linked in
     record {

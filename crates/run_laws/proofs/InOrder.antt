@@ -39,10 +39,10 @@ use Rattle.run_laws.proofs.ByThreads.{is-either}
 use Rattle.run_laws.specs.Serial.{Adds, ToldCallersAdd, DriversAdd, AreOthers, IsRunSoFar, NothingIsRun, OthersRunOn, DriverRunsOn}
 
 -- beginnings of lists
-prefix-then : {A : Type 0} (xs ys zs : List A) → IsPrefix xs ys → IsPrefix ys zs → IsPrefix xs zs
+pub prefix-then : {A : Type 0} (xs ys zs : List A) → IsPrefix xs ys → IsPrefix ys zs → IsPrefix xs zs
 prefix-then xs ys zs p q = (p.0 ++ q.0, sym (append_assoc xs p.0 q.0) ∙ (ap (λ l. l ++ q.0) p.1 ∙ q.1))
 
-prefix-map : {A B : Type 0} (f : A → B) (xs ys : List A) → IsPrefix xs ys → IsPrefix (map f xs) (map f ys)
+pub prefix-map : {A B : Type 0} (f : A → B) (xs ys : List A) → IsPrefix xs ys → IsPrefix (map f xs) (map f ys)
 prefix-map f xs ys p = (map f p.0, sym (map-append f xs p.0) ∙ ap (map f) p.1)
 
 pub prefix-in : {A : Type 0} (xs ys : List A) (x : A) → IsPrefix xs ys → Contains xs x → Contains ys x
@@ -83,7 +83,7 @@ below-in : (n : ℕ) (ks : List Kept) (e : Entry) → IsBelow n ks → Contains 
 below-in n [] e b c = absurd (Contains-nil e c)
 below-in n (k ∷ ks) e b c = ⊎_elim (λ (q : k.entry ≡ e). subst (λ z. z.number < n) q b.0) (λ d. below-in n ks e b.1 d) (Contains-cons_cases k.entry (line_entries ks) e c)
 
-above-in : (v : View) (es : List Entry) (e f : Entry) (i : ℕ) → AreAbove v es → Contains (line_known v i) e → Contains es f → e.number < f.number
+pub above-in : (v : View) (es : List Entry) (e f : Entry) (i : ℕ) → AreAbove v es → Contains (line_known v i) e → Contains es f → e.number < f.number
 above-in v [] e f i a c d = absurd (Contains-nil f d)
 above-in v (x ∷ es) e f i a c d = ⊎_elim (λ (q : x ≡ f). subst (λ z. e.number < z.number) q (below-in x.number (known v i) e (a.0 i) c)) (λ d'. above-in v es e f i a.1 c d') (Contains-cons_cases x es f d)
 
@@ -95,7 +95,7 @@ rises-first (x ∷ xs) ys r = (All-members (λ m. x.number < m) (numbers_of xs) 
     number-left : (xs ys : List Entry) (m : ℕ) → Contains (numbers_of xs) m → Contains (numbers_of (xs ++ ys)) m
     number-left xs ys m c = let w = Contains-map_cases (λ (e : Entry). e.number) xs m c in subst (Contains (numbers_of (xs ++ ys))) w.2 (Contains-map (λ (e : Entry). e.number) (xs ++ ys) w.0 (Contains-append_left xs ys w.0 w.1))
 
-rises-last : (xs ys : List Entry) → Rises (numbers_of (xs ++ ys)) → Rises (numbers_of ys)
+pub rises-last : (xs ys : List Entry) → Rises (numbers_of (xs ++ ys)) → Rises (numbers_of ys)
 rises-last [] ys r = r
 rises-last (x ∷ xs) ys r = rises-last xs ys r.1
 

@@ -71,7 +71,7 @@ numbered-below n (x ∷ es) w e c = ⊎_elim
     (λ d. let a = numbered-below (n + 1) es w.1 e d in omega (arith, a))
     (Contains-cons_cases x es e c)
 
-numbered-rise : (n : ℕ) (es : List Entry) → NumberedFrom n es → Rises (numbers_of es)
+pub numbered-rise : (n : ℕ) (es : List Entry) → NumberedFrom n es → Rises (numbers_of es)
 numbered-rise n [] w = tt
 numbered-rise n (x ∷ es) w = (
   All-members (λ m. x.number < m) (numbers_of es) (λ m c.
@@ -79,7 +79,7 @@ numbered-rise n (x ∷ es) w = (
   numbered-rise (n + 1) es w.1,
 )
 
-filter-rise : (f : Entry → Bool) (es : List Entry) → Rises (numbers_of es) → Rises (numbers_of (filter f es))
+pub filter-rise : (f : Entry → Bool) (es : List Entry) → Rises (numbers_of es) → Rises (numbers_of (filter f es))
 filter-rise f [] r = tt
 filter-rise f (x ∷ es) r = by (f x) (filter-rise f es r.1)
   where
@@ -93,7 +93,7 @@ filter-rise f (x ∷ es) r = by (f x) (filter-rise f es r.1)
     by false w = w
 
 -- an entry of a linked history is one of a thread's
-linked-threads : (s : Linkage) (ns : List Noted) → AllMayCome s ns → (e : Entry) → Contains (entries ns) e → IsThread e.made.caller
+pub linked-threads : (s : Linkage) (ns : List Noted) → AllMayCome s ns → (e : Entry) → Contains (entries ns) e → IsThread e.made.caller
 linked-threads s [] a e c = absurd (Contains-nil e c)
 linked-threads s (n ∷ ns) a e c = ⊎_elim
     (λ (q : n.entry ≡ e). subst (λ (z : Entry). IsThread z.made.caller) q (caller-is n.entry.made.caller n.entry.made.op a.0.event))

@@ -3,3 +3,4 @@ pub mod ByThreads
 pub mod InOrder
 pub mod InOrderEnds
 pub mod Finals
+pub mod LastCycle

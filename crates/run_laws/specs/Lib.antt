@@ -2,3 +2,4 @@ pub mod Lines
 pub mod Threads
 pub mod Serial
 pub mod Final
+pub mod LastCycle

@@ -1,6 +1,7 @@
 // Laws on the runs of scripts, each the contract of a function that does nothing.
 
 ghost use Rattle.run_laws.specs.Final.{HeldByThreadsIsRun, HeldInOrderIsRun};
+ghost use Rattle.run_laws.specs.LastCycle.{CycleLinesEndRuns, CyclesEndRuns};
 ghost use Rattle.run_laws.specs.Lines.{OperationsAreLines, OthersKeepStanding};
 ghost use Rattle.run_laws.specs.Serial.{AllAreGiven, DriverRunsOn, DriversAdd, NothingIsRun, OthersRunOn, RunsHoldScript, ToldCallersAdd};
 ghost use Rattle.run_laws.specs.Threads.{OthersLinesPass, OwnLinesAdd, OwnLinesEnd, ThreadsHoldScript};
@@ -38,4 +39,12 @@ pub fn runs_hold_scripts()
 pub fn held_scripts_are_runs()
     ensures in_order { HeldInOrderIsRun }
     ensures by_threads { HeldByThreadsIsRun }
+{}
+
+/// Where the driver, once all threads have ended, hears of what each has made and then runs a cycle more, the finished history is that of the
+/// script's run thread by thread with the cycle's entries behind all others. So is the history of a run line after line whose last line is a cycle, where all
+/// other lines of the driver are cycles too.
+pub fn cycles_end_runs()
+    ensures threads { CyclesEndRuns }
+    ensures in_order { CycleLinesEndRuns }
 {}

@@ -6,13 +6,16 @@
 // - thread by thread each caller holds its own lines, so the history holds each thread's lines in their order, whatever came between;
 // - line after line, where each line's caller is told of all entries before, the history holds all lines in their order;
 // - such a history is a run of the one machine whose graph joins both heaps, sound and complete, in which each cycle ends; and line after line it
-//   is the only history of its script.
+//   is the only history of its script;
+// - a cycle that the driver runs once all threads have ended, and it has heard of what each made, stands behind all else.
 //
-// `specs/` read alone tells what is true: Lines first, then Threads and Serial, and last Final, which says what a finished run's history is.
+// `specs/` read alone tells what is true: Lines first, then Threads and Serial, then Final, which says what a finished run's history is, and last
+// LastCycle.
 #![tactic(auto)]
 
 mod laws;
 
 pub use laws::{
-    held_scripts_are_runs, operations_are_lines, runs_hold_scripts, threads_hold_scripts,
+    cycles_end_runs, held_scripts_are_runs, operations_are_lines, runs_hold_scripts,
+    threads_hold_scripts,
 };

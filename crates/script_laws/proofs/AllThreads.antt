@@ -25,7 +25,7 @@ numbered n = ⊎_elim
     (λ (l : n ≤ 0). inr (λ w. let a = w.0 in omega (arith, l, a)))
     (cases_lt 0 n)
 
-is_one : (t : Thread) → IsThread t ⊎ (IsThread t → ⊥)
+pub is_one : (t : Thread) → IsThread t ⊎ (IsThread t → ⊥)
 is_one (M n) = numbered n
 is_one (P n) = numbered n
 is_one C = inl tt
@@ -34,7 +34,7 @@ is_one C = inl tt
 not-it : (t u : Thread) → (IsThread t → ⊥) → IsThread u → is_thread t u ≡ false
 not-it t u n y = ⊎_elim (λ (e : is_thread t u ≡ true). absurd (n (subst IsThread (sym (same_thread t u e)) y))) (λ (e : is_thread t u ≡ false). e) (cases_Bool (is_thread t u))
 
-no-lines : (t : Thread) (k : ℕ) (script : List (Thread × Act)) → (IsThread t → ⊥) → ((line : Thread × Act) → Contains script line → IsLine line.0 line.1) → lines_of t (numbered_from k script) ≡ []
+pub no-lines : (t : Thread) (k : ℕ) (script : List (Thread × Act)) → (IsThread t → ⊥) → ((line : Thread × Act) → Contains script line → IsLine line.0 line.1) → lines_of t (numbered_from k script) ≡ []
 no-lines t k [] n l = refl
 no-lines t k (x ∷ script) n l =
     ap (λ b. if b then (k, x) ∷ lines_of t (numbered_from (k + 1) script) else lines_of t (numbered_from (k + 1) script)) (not-it t x.0 n (lawful_thread x.0 x.1 (l x (Contains-here x script))))

@@ -6,7 +6,8 @@ use Rattle.joint_model.specs.declared.events.Op.{Op}
 use Rattle.joint_model.specs.declared.events.Op.TheVariants as op
 use Rattle.joint_model.specs.declared.events.Entry.{Entry}
 use Rattle.joint_model.specs.Lines.{IsEvent}
-use Rattle.joint_model.specs.Linked.{Linkage, AllMayCome, linkage_after, opening_linkage}
+use Rattle.joint_model.specs.Histories.{Finished}
+use Rattle.joint_model.specs.Linked.{IsLinkedBy, Linkage, AllMayCome, linkage_after, opening_linkage}
 use Rattle.joint_model.specs.Told.{Noted}
 use Rattle.joint_model.specs.PeerReplay.{is_thread}
 use Rattle.std.specs.Prelude.{if◌then◌else◌}
@@ -69,5 +70,9 @@ ended-among (e ∷ es) a d = by e.made.caller a.0 (ended-among es a.1) d
     by (M u) v f d = (other-ended (M u) e.made.op es (λ z. cc) v, f d)
     by (P u) v f d = (other-ended (P u) e.made.op es (λ z. cc) v, f d)
 
+-- where the driver's entries end each cycle, a linked history does
+pub drivers_ends : (h : Finished) (noted : List Noted) → IsLinkedBy h noted → AllCyclesEnd (entries_by C h.entries) → AllCyclesEnd h.entries
+drivers_ends h noted l ends = ended-among h.entries (subst AreAllEvents l.same (all-events opening_linkage noted l.lawful)) ends
+
 pub thread_history_ends : ThreadHistoryEnds
-thread_history_ends script h noted l p = ended-among h.entries (subst AreAllEvents l.same (all-events opening_linkage noted l.lawful)) (held-thread-end script h.entries p)
+thread_history_ends script h noted l p = drivers_ends h noted l (held-thread-end script h.entries p)
