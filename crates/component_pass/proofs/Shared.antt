@@ -45,6 +45,10 @@ pub set-last : (count : ℕ) (lists : List (List ℕ)) (union : List ℕ) → se
 set-last count lists union =
     set-list count (lists ++ union ∷ []) (count + length lists) (omega arith) ∙ get_or_push lists union [] (count + length lists - count) (omega arith)
 
+-- the first list is the empty set
+pub set-none : (count : ℕ) (lists : List (List ℕ)) → row_at lists 0 ≡ [] → set_at count lists count ≡ []
+set-none count lists none = set-list count lists count (omega arith) ∙ ap (λ (k : ℕ). row_at lists k) (let e : count - count ≡ 0 = omega arith in e) ∙ none
+
 -- a list more
 pub found-new : (sets : List ℕ) (lists : List (List ℕ)) (count numbers : ℕ) (union : List ℕ) → AreSets sets lists count numbers → Rises union → All (λ j. j < count) union
     → IsFound sets lists (lists ++ union ∷ []) count (numbers + 1) (count + length lists)
@@ -56,6 +60,8 @@ found-new sets lists count numbers union a r b =
         known = All-weaker (λ s. s < numbers) (λ s. s < numbers + 1) (λ s lt. omega arith) sets a.known;
         below = All-push (All (λ j. j < count)) lists union a.below b;
         rising = All-push Rises lists union a.rising r;
+        some = omega (arith, len);
+        none = get_or_append_left lists (union ∷ []) [] 0 a.some ∙ a.none;
       };
       known = omega (arith, a.all);
       kept = λ k lt. get_or_append_left lists (union ∷ []) [] k lt;
@@ -86,11 +92,18 @@ shared-more edges nodes labels links indexes count n numbers before_numbers sets
   ];
 }
 
-pub shared-none : (edges : List (List ℕ)) (nodes : ℕ) (labels : List ℕ) (links : List Link) (indexes : List ℕ) (count : ℕ) → AreShared edges nodes labels links indexes count 0 [] []
+pub shared-none : (edges : List (List ℕ)) (nodes : ℕ) (labels : List ℕ) (links : List Link) (indexes : List ℕ) (count : ℕ) → AreShared edges nodes labels links indexes count 0 [] ([] ∷ [])
 shared-none edges nodes labels links indexes count = record { size = refl; exact = λ x j lt h. absurd (omega (arith, h)) }
 
-pub sets-none : (count : ℕ) → AreSets [] [] count count
-sets-none count = record { all = omega arith; known = All-nil (λ s. s < count); below = All-nil (All (λ j. j < count)); rising = All-nil Rises }
+pub sets-none : (count : ℕ) → AreSets [] ([] ∷ []) count (count + 1)
+sets-none count = record {
+  all = omega arith;
+  known = All-nil (λ s. s < count + 1);
+  below = All-push (All (λ j. j < count)) [] [] (All-nil (All (λ j. j < count))) (All-nil (λ j. j < count));
+  rising = All-push Rises [] [] (All-nil Rises) tt;
+  some = omega arith;
+  none = refl;
+}
 
 pub sets-more : (sets : List ℕ) (before after : List (List ℕ)) (count numbers s : ℕ) → IsFound sets before after count numbers s → AreSets (sets ++ s ∷ []) after count numbers
 sets-more sets before after count numbers s f = record {
@@ -98,6 +111,8 @@ sets-more sets before after count numbers s f = record {
   known = All-push (λ k. k < numbers) sets s f.valid.known f.known;
   below = f.valid.below;
   rising = f.valid.rising;
+  some = f.valid.some;
+  none = f.valid.none;
 }
 
 pub setting_of : (nodes : List Node) (edges : List (List ℕ)) (labels : List ℕ) (links : List Link) (comps : List (List ℕ)) (indexes : List ℕ)

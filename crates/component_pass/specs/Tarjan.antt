@@ -1,7 +1,7 @@
 -- What Tarjan's algorithm keeps. A node is unseen (mark 0), on the stack at place p (mark p + 1), or done.
 -- The frames are the nodes that the search is in, the innermost first; between the place of one and the
 -- place of the next lie the nodes that were finished under it and whose class is not complete.
-use Rattle.std.specs.Prelude.{◌≡◌, ◌⊎◌, ◌↔◌, ℕ, ◌+◌, ◌-◌, ◌<◌, ◌≤◌, ◌==◌, cond, List, [], ◌∷◌, length, Contains, slice_index}
+use Rattle.std.specs.Prelude.{◌≡◌, ◌⊎◌, ◌↔◌, ℕ, ◌+◌, ◌-◌, ◌<◌, ◌≤◌, ◌==◌, cond, Option, Some, None, List, [], ◌∷◌, length, Contains, slice_index}
 use Rattle.joint_model.specs.Walks.{Reaches, Mutual}
 use Rattle.bridge_graph.specs.Parts.{Leads, row_at}
 use Rattle.component_pass.specs.declared.tarjan.Frame.{Frame}
@@ -26,6 +26,11 @@ pub record IsSegment (edges : List (List ℕ)) (stack marks : List ℕ) (f : Fra
 abbrev pub AreSegments : List (List ℕ) → List ℕ → List ℕ → List Frame → ℕ → Type 0
 AreSegments edges stack marks [] end = end ≡ 0
 AreSegments edges stack marks (f ∷ fs) end = IsSegment edges stack marks f end × AreSegments edges stack marks fs f.at
+
+-- the frames with the one that the search goes on in, if there is one
+abbrev pub with_current : Option Frame → List Frame → List Frame
+with_current None frames = frames
+with_current (Some f) frames = f ∷ frames
 
 -- how many nodes are unseen
 abbrev pub unseen : List ℕ → ℕ

@@ -9,7 +9,7 @@
 // class leads to several different sets, the elements of each are read once for that class; and a union is
 // sorted, in linear time where it is made of a few sorted runs.
 
-ghost use Rattle.std.specs.Prelude.{◌≡◌, ◌≢◌, ◌↔◌, ℕ, ◌+◌, ◌<◌, ◌≤◌, [], length, All, Contains, IfOk, OnOk, IfSome, false, slice_index};
+ghost use Rattle.std.specs.Prelude.{◌≡◌, ◌≢◌, ◌↔◌, ℕ, ◌+◌, ◌<◌, ◌≤◌, [], ◌∷◌, length, All, Contains, IfOk, OnOk, IfSome, false, slice_index};
 ghost use Rattle.joint_model.specs.Components.{Rises};
 ghost use Rattle.bridge_graph.specs.Parts.{IsBridge, IsPart, Leads, row_at};
 ghost use Rattle.component_pass.specs.Classes.{AreClasses, AreInOrder};
@@ -47,8 +47,9 @@ pub(crate) fn share_references(
     ensures comps { builder.new.comps ≡ builder.old.comps }
 {
     let count = builder.len();
-    let mut work = new_work(alloc, count as usize)?;
+    let mut work = new_work(alloc, count)?;
     let mut lists = Lists::new(alloc);
+    lists.push(&[])?;
     let mut sets = Vec::new(alloc);
     number_all(
         graph, labels, rows, groups, indexes, count, &mut sets, &mut lists, &mut work,
@@ -78,8 +79,8 @@ fn number_all(
     requires count { count ≤ length graph.now.nodes }
     requires part { IsPart graph.now.nodes graph.now.edges }
     requires sets { sets.old.items ≡ [] }
-    requires lists { lists.old ≡ [] }
-    requires known { length work.old.known.items ≡ count }
+    requires lists { lists.old ≡ [] ∷ [] }
+    requires known { length work.old.known.items ≡ count + 1 }
     requires marks { length work.old.marks.items ≡ count }
     requires clear { IsClear work.old }
     ensures shared { OnOk result (AreShared graph.now.edges (length graph.now.nodes) labels.now groups.now.links.items indexes.now count (length rows.now) sets.new.items lists.new) }
@@ -118,7 +119,7 @@ fn number(
     requires part { IsPart graph.now.nodes graph.now.edges }
     requires own { own < length rows.now }
     requires count { count ≤ length graph.now.nodes }
-    requires few { length lists.old ≤ own }
+    requires few { length lists.old ≤ own + 1 }
     requires shared { AreShared graph.now.edges (length graph.now.nodes) labels.now groups.now.links.items indexes.now count own sets.now lists.old }
     requires sets { AreSets sets.now lists.old count (length work.old.known.items) }
     requires marks { length work.old.marks.items ≡ count }

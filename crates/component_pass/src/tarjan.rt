@@ -1,9 +1,9 @@
 // Tarjan's algorithm for strongly connected classes, with the search's frames in a list on the heap.
 
-ghost use Rattle.std.specs.Prelude.{◌≡◌, ◌≢◌, ◌⊎◌, ℕ, ◌+◌, ◌*◌, ◌<◌, ◌≤◌, List, [], ◌∷◌, ◌++◌, length, min, take, drop, All, Contains, IfOk, OnOk, OnErr, reverse, slice_index, slice_set};
+ghost use Rattle.std.specs.Prelude.{◌≡◌, ◌≢◌, ◌⊎◌, ℕ, ◌+◌, ◌*◌, ◌<◌, ◌≤◌, List, [], ◌∷◌, ◌++◌, length, min, take, drop, All, Contains, IfOk, OnOk, IfNone, reverse, slice_index, slice_set};
 ghost use Rattle.bridge_graph.specs.Parts.{IsPart, Leads, row_at};
 ghost use Rattle.component_pass.specs.Classes.{AreClasses, AreInOrder};
-ghost use Rattle.component_pass.specs.Tarjan.{IsGoing, AreSorted, IsSegment, Scans, unseen, done_mark};
+ghost use Rattle.component_pass.specs.Tarjan.{IsGoing, Scans, unseen, with_current, done_mark};
 
 use crate::lists::Lists;
 use bridge_graph::DeadGraph;
@@ -49,7 +49,7 @@ pub(crate) fn classes(alloc: Global, graph: &DeadGraph) -> Result<StrongClasses,
     let mut labels = vec![in alloc; 0u32; n]?;
     let mut rows = Lists::new(alloc);
     let mut stack = Vec::with_capacity(alloc, n)?;
-    let mut frames = Vec::new(alloc);
+    let mut frames = Vec::with_capacity(alloc, n)?;
     visit_all(
         graph,
         &mut marks,
@@ -107,40 +107,34 @@ fn walk(
     ensures root { OnOk result (slice_index marks.new root ≢ 0) }
     ensures kept { OnOk result ((x : ℕ) → slice_index marks.old x ≢ 0 → slice_index marks.new x ≢ 0) }
 {
-    enter(root, marks, stack, frames)?;
-    while let Some(frame) = frames.pop() {
-        advance(graph, frame, marks, labels, rows, stack, frames)?;
+    let mut current = Some(enter(root, marks, stack)?);
+    while let Some(frame) = current {
+        current = advance(graph, frame, marks, labels, rows, stack, frames)?;
     }
     Ok(())
 }
 
-/// Puts an unseen node on the stack and starts its frame.
-fn enter(
-    node: u32,
-    marks: &mut [u32],
-    stack: &mut Vec<u32>,
-    frames: &mut Vec<Frame>,
-) -> Result<(), AllocError>
+/// Puts an unseen node on the stack, and answers its frame.
+fn enter(node: u32, marks: &mut [u32], stack: &mut Vec<u32>) -> Result<Frame, AllocError>
     requires node { node < length marks.old }
     requires few { length stack.old.items < 65536 }
     ensures marks { OnOk result (marks.new ≡ slice_set marks.old node (length stack.old.items + 1)) }
     ensures stack { OnOk result (stack.new.items ≡ stack.old.items ++ node ∷ []) }
-    ensures frames { OnOk result (frames.new.items ≡ frames.old.items ++ record { node = node; at = length stack.old.items; next = 0; low = length stack.old.items } ∷ []) }
-    ensures err { OnErr result (marks.new ≡ marks.old) }
+    ensures frame { IfOk result (λ f. f ≡ record { node = node; at = length stack.old.items; next = 0; low = length stack.old.items }) }
 {
     let at = stack.len() as u32;
     stack.push(node)?;
-    frames.push(Frame {
+    marks[node as usize] = at + 1;
+    Ok(Frame {
         node,
         at,
         next: 0,
         low: at,
-    })?;
-    marks[node as usize] = at + 1;
-    Ok(())
+    })
 }
 
-/// Goes on in a frame: into the next unseen node, back to the frame below, or to the end of a class.
+/// Goes on in a frame: into the next unseen node, back to the frame below, or to the end of a class. Answers
+/// the frame to go on in.
 fn advance(
     graph: &DeadGraph,
     frame: Frame,
@@ -149,10 +143,11 @@ fn advance(
     rows: &mut Lists,
     stack: &mut Vec<u32>,
     frames: &mut Vec<Frame>,
-) -> Result<(), AllocError>
+) -> Result<Option<Frame>, AllocError>
     requires going { IsGoing graph.now.edges (length graph.now.nodes) stack.old.items marks.old labels.old rows.old (frame ∷ reverse frames.old.items) }
-    ensures going { OnOk result (IsGoing graph.now.edges (length graph.now.nodes) stack.new.items marks.new labels.new rows.new (reverse frames.new.items)) }
-    ensures less { OnOk result (2 * unseen marks.new + length frames.new.items ≤ 2 * unseen marks.old + length frames.old.items) }
+    ensures going { IfOk result (λ f. IsGoing graph.now.edges (length graph.now.nodes) stack.new.items marks.new labels.new rows.new (with_current f (reverse frames.new.items))) }
+    ensures none { IfOk result (λ f. IfNone f (frames.new.items ≡ [])) }
+    ensures less { IfOk result (λ f. 2 * unseen marks.new + length (with_current f frames.new.items) < 2 * unseen marks.old + length frames.old.items + 1) }
     ensures kept { OnOk result ((x : ℕ) → slice_index marks.old x ≢ 0 → slice_index marks.new x ≢ 0) }
 {
     let row = graph.row(frame.node);
@@ -164,15 +159,14 @@ fn advance(
             next: scan.next + 1,
             low: scan.low,
         })?;
-        enter(row[scan.next as usize], marks, stack, frames)?;
-        return Ok(());
+        let inner = enter(row[scan.next as usize], marks, stack)?;
+        return Ok(Some(inner));
     }
     if scan.low < frame.at {
-        merge(frames, scan.low);
-        return Ok(());
+        return Ok(Some(lowered(frames.take_last(), scan.low)));
     }
     close(frame.at, marks, labels, rows, stack)?;
-    Ok(())
+    Ok(frames.pop())
 }
 
 /// Goes over the seen targets of a row, and keeps the lowest place among them.
@@ -196,14 +190,15 @@ fn scan_row(row: &[u32], marks: &[u32], from: u32, low: u32) -> Scan
     Scan { next, low: lowest }
 }
 
-/// Hands the lowest place on to the frame below.
-fn merge(frames: &mut Vec<Frame>, low: u32)
-    requires { 0 < length frames.old.items }
-    ensures { (f : Frame) × (fs : List Frame) × (frames.old.items ≡ fs ++ f ∷ []) × (frames.new.items ≡ fs ++ record { node = f.node; at = f.at; next = f.next; low = min f.low low } ∷ []) }
+/// The frame below, to which the lowest place is handed on.
+fn lowered(below: Frame, low: u32) -> Frame
+    ensures { result ≡ record { node = below.node; at = below.at; next = below.next; low = min below.low low } }
 {
-    if let Some(mut frame) = frames.pop() {
-        frame.low = frame.low.min(low);
-        frames.push_reserved(frame);
+    Frame {
+        node: below.node,
+        at: below.at,
+        next: below.next,
+        low: below.low.min(low),
     }
 }
 

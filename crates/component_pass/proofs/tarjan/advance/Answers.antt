@@ -1,11 +1,11 @@
-use Rattle.std.proofs.Common.{◌≡◌, ◌+◌, ◌<◌, ◌++◌, ◌∷◌, [], List, ℕ, length, reverse, get_or, ◌∙◌, ap, arith}
+use Rattle.std.proofs.Common.{◌≡◌, ◌+◌, ◌<◌, ◌++◌, ◌∷◌, [], List, ℕ, Some, length, take, drop, reverse, get_or, sym, ap, subst, arith}
 use Rattle.std.proofs.lemmas.List.{length_push, get_or_default}
 use Rattle.component_pass.specs.declared.tarjan.Frame.{Frame}
-use Rattle.component_pass.specs.Tarjan.{unseen}
+use Rattle.component_pass.specs.Tarjan.{IsGoing, unseen}
 use Rattle.bridge_graph.specs.Parts.{row_at}
 use Rattle.component_pass.proofs.Strong.{descended, merged, completed, unseen-set}
 use Rattle.component_pass.proofs.tarjan.advance.Goals as goal
-use Rattle.component_pass.proofs.Ordered.{reverse-push}
+use Rattle.component_pass.proofs.Ordered.{reverse-push, popped-frames, popped-length, popped-none}
 
 pub returns-then-scan-row-clause-going : goal.returns-then-scan-row-clause-going
 returns-then-scan-row-clause-going c =
@@ -14,45 +14,31 @@ returns-then-scan-row-clause-going c =
     let f : Frame = c.args.frame in
     let lower : Frame = record { node = f.node; at = f.at; next = c.scan_row-scan.result.next + 1; low = c.scan_row-scan.result.low } in
     let w : ℕ = get_or c.row-row.result.now c.scan_row-scan.result.next 0 in
-    let upper : Frame = record { node = w; at = length c.args.stack.now.items; next = 0; low = length c.args.stack.now.items } in
-    let frames : c.enter.new.frames.items ≡ (c.args.frames.now.items ++ lower ∷ []) ++ upper ∷ [] =
-    c.in_ok-enter.ensures.frames ∙ ap (λ (xs : List Frame). xs ++ upper ∷ []) c.in_ok-push.ensures.items in
     let next : c.scan_row-scan.result.next < length (row_at c.args.graph.now.edges f.node) = omega (arith, c.if-scan-row.true, ap length c.row-row.ensures.row) in
     let is : w ≡ get_or (row_at c.args.graph.now.edges f.node) c.scan_row-scan.result.next 0 = ap (λ (r : List ℕ). get_or r c.scan_row-scan.result.next 0) c.row-row.ensures.row in
-    rw (frames, reverse-push (c.args.frames.now.items ++ lower ∷ []) upper, reverse-push c.args.frames.now.items lower, c.in_ok-enter.ensures.stack, c.in_ok-enter.ensures.marks)
+    rw (c.in_ok-inner.ensures.frame, c.in_ok-push.ensures.items, reverse-push c.args.frames.now.items lower, c.in_ok-inner.ensures.stack, c.in_ok-inner.ensures.marks)
     (descended c.args.graph.now.edges (length c.args.graph.now.nodes) part.in_range part.few c.args.stack.now.items c.args.marks.now c.args.labels.now c.args.rows.now f (reverse c.args.frames.now.items)
     c.scan_row-scan.result.next c.scan_row-scan.result.low w c.requires.going scan next is)
 
 pub returns-then-scan-row-clause-less : goal.returns-then-scan-row-clause-less
 returns-then-scan-row-clause-less c =
     let o = c.requires.going.sorted in
-    let part = c.row-row.ensures.part in
     let w : ℕ = get_or c.row-row.result.now c.scan_row-scan.result.next 0 in
     let lt : w < length c.args.marks.now = omega (arith, c.row-row.ensures.in_range c.scan_row-scan.result.next 0 c.if-scan-row.true, o.marks_whole) in
     let z = c.scan_row-scan.ensures.unseen_next c.if-scan-row.true in
     let fewer = unseen-set c.args.marks.now w (length c.args.stack.now.items + 1) lt z (omega arith) in
     let f : Frame = c.args.frame in
     let lower : Frame = record { node = f.node; at = f.at; next = c.scan_row-scan.result.next + 1; low = c.scan_row-scan.result.low } in
-    let upper : Frame = record { node = w; at = length c.args.stack.now.items; next = 0; low = length c.args.stack.now.items } in
-    omega (
-      arith,
-      fewer,
-      ap unseen c.in_ok-enter.ensures.marks,
-      ap length c.in_ok-enter.ensures.frames,
-      length_push c.push.new.self.items upper,
-      ap length c.in_ok-push.ensures.items,
-      length_push c.args.frames.now.items lower,
-    )
+    omega (arith, fewer, ap unseen c.in_ok-inner.ensures.marks, ap length c.in_ok-push.ensures.items, length_push c.args.frames.now.items lower)
 
 pub returns-then-scan-frame-clause-going : goal.returns-then-scan-frame-clause-going
 returns-then-scan-frame-clause-going c =
     let part = c.row-row.ensures.part in
     let scan = rw c.row-row.ensures.row at c.scan_row-scan.ensures in
-    let m = c.merge.ensures in
     let f : Frame = c.args.frame in
-    let going = rw (m.2, reverse-push m.1 m.0) at c.requires.going in
-    rw (m.3, reverse-push)
-    (merged c.args.graph.now.edges (length c.args.graph.now.nodes) part.in_range part.few c.args.stack.now.items c.args.marks.now c.args.labels.now c.args.rows.now f m.0 (reverse m.1)
+    let going = rw (c.take_last.ensures.items, reverse-push c.take_last.new.self.items c.take_last.result) at c.requires.going in
+    rw c.lowered.ensures
+    (merged c.args.graph.now.edges (length c.args.graph.now.nodes) part.in_range part.few c.args.stack.now.items c.args.marks.now c.args.labels.now c.args.rows.now f c.take_last.result (reverse c.take_last.new.self.items)
     c.scan_row-scan.result.next c.scan_row-scan.result.low going scan (omega (arith, c.if-scan-row.false, ap length c.row-row.ensures.row)) (omega arith))
 
 pub close-requires-clause-marks : goal.close-requires-clause-marks
@@ -69,10 +55,14 @@ pub returns-clause-going : goal.returns-clause-going
 returns-clause-going c =
     let part = c.row-row.ensures.part in
     let scan = rw c.row-row.ensures.row at c.scan_row-scan.ensures in
-    rw (c.in_ok-close.ensures.stack, c.in_ok-close.ensures.rows)
-    (completed c.args.graph.now.edges (length c.args.graph.now.nodes) part.in_range part.few c.args.stack.now.items c.args.marks.now c.args.labels.now c.close.new.marks c.close.new.labels c.args.rows.now
+    let done = (completed c.args.graph.now.edges (length c.args.graph.now.nodes) part.in_range part.few c.args.stack.now.items c.args.marks.now c.args.labels.now c.close.new.marks c.close.new.labels c.args.rows.now
     c.args.frame (reverse c.args.frames.now.items) c.scan_row-scan.result.next c.scan_row-scan.result.low c.requires.going scan
-    (omega (arith, c.if-scan-row.false, ap length c.row-row.ensures.row)) c.if-scan-frame.false (omega arith) (omega arith) c.in_ok-close.ensures.taken c.in_ok-close.ensures.others).0
+    (omega (arith, c.if-scan-row.false, ap length c.row-row.ensures.row)) c.if-scan-frame.false (omega arith) (omega arith) c.in_ok-close.ensures.taken c.in_ok-close.ensures.others).0 in
+    rw (c.in_ok-close.ensures.stack, c.in_ok-close.ensures.rows)
+    (subst (λ (fs : List Frame). IsGoing c.args.graph.now.edges (length c.args.graph.now.nodes) (take c.args.frame.at c.args.stack.now.items) c.close.new.marks c.close.new.labels (c.args.rows.now ++ drop c.args.frame.at c.args.stack.now.items ∷ []) fs) (sym (popped-frames c.args.frames.now.items c.pop.new.self.items c.pop.result c.pop.ensures.items)) done)
+
+pub returns-clause-none : goal.returns-clause-none
+returns-clause-none c = popped-none c.args.frames.now.items c.pop.new.self.items c.pop.result _ _ _ c.pop.ensures.cases (omega arith)
 
 pub returns-clause-less : goal.returns-clause-less
 returns-clause-less c =
@@ -81,4 +71,4 @@ returns-clause-less c =
     let fewer = (completed c.args.graph.now.edges (length c.args.graph.now.nodes) part.in_range part.few c.args.stack.now.items c.args.marks.now c.args.labels.now c.close.new.marks c.close.new.labels c.args.rows.now
     c.args.frame (reverse c.args.frames.now.items) c.scan_row-scan.result.next c.scan_row-scan.result.low c.requires.going scan
     (omega (arith, c.if-scan-row.false, ap length c.row-row.ensures.row)) c.if-scan-frame.false (omega arith) (omega arith) c.in_ok-close.ensures.taken c.in_ok-close.ensures.others).1 in
-    omega (arith, fewer)
+    omega (arith, fewer, popped-length c.args.frames.now.items c.pop.new.self.items c.pop.result c.pop.ensures.items)

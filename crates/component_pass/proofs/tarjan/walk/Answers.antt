@@ -1,23 +1,21 @@
-use Rattle.std.proofs.Common.{◌≡◌, ◌+◌, ◌++◌, ◌∷◌, [], List, ℕ, length, get_or, sym, ◌∙◌, ap, arith, inl, inr}
+use Rattle.std.proofs.Common.{◌≡◌, ◌+◌, ◌∷◌, [], List, ℕ, Some, length, get_or, sym, ◌∙◌, ap, arith, inl, inr}
 use Rattle.std.proofs.lemmas.List.{get_or-set_same, get_or-set_other}
 use Rattle.std.proofs.lemmas.Bool.{cases_eq}
-use Rattle.component_pass.specs.declared.tarjan.Frame.{Frame}
 use Rattle.component_pass.proofs.Strong.{started}
 use Rattle.component_pass.proofs.tarjan.walk.Goals as goal
 
-pub loop-frame-init : goal.loop-frame-init
-loop-frame-init c =
+pub loop-current-init : goal.loop-current-init
+loop-current-init c =
     let part = c.requires.part in
     let marks = c.args.marks.now in
     let stack = c.args.stack.now.items in
     let root = c.args.root in
-    let first : Frame = record { node = root; at = length stack; next = 0; low = length stack } in
-    let frames : c.enter.new.frames.items ≡ first ∷ [] = c.in_ok-enter.ensures.frames ∙ ap (λ (xs : List Frame). xs ++ first ∷ []) c.requires.frames in
     let here : get_or c.enter.new.marks root 0 ≡ length stack + 1 =
     ap (λ (xs : List ℕ). get_or xs root 0) c.in_ok-enter.ensures.marks ∙ get_or-set_same marks root (length stack + 1) 0 (omega (arith, c.requires.going.sorted.marks_whole)) in
     record {
-      going = rw (frames, c.in_ok-enter.ensures.stack, c.in_ok-enter.ensures.marks)
+      going = rw (c.requires.frames, c.in_ok-enter.ensures.frame, c.in_ok-enter.ensures.stack, c.in_ok-enter.ensures.marks)
           (started c.args.graph.now.edges (length c.args.graph.now.nodes) part.in_range part.few stack marks c.args.labels.now c.args.rows.now root c.requires.root c.requires.fresh c.requires.going);
+      none = tt;
       root = λ z. absurd (omega (arith, z, here));
       kept = λ x n z. elim (cases_eq x root) [
         | inl e ↦ absurd (omega (arith, here, z, ap (λ (y : ℕ). get_or c.enter.new.marks y 0) e))
