@@ -1,6 +1,6 @@
 // Lists of numbers, one behind the other in one flat list.
 
-ghost use Rattle.std.specs.Prelude.{◌≡◌, ◌<◌, [], ◌∷◌, ◌++◌, length, OnOk, OnErr};
+ghost use Rattle.std.specs.Prelude.{◌≡◌, ◌+◌, ◌<◌, ◌≤◌, [], ◌∷◌, ◌++◌, length, vec_len, vec_capacity, OnOk, OnErr};
 ghost use Rattle.bridge_graph.specs.Packing.{packed_row, IsCut};
 ghost use Rattle.bridge_graph.specs.Parts.{row_at};
 
@@ -58,8 +58,9 @@ impl Lists {
         ensures err { OnErr result (self.new ≡ self.old) }
     {
         self.starts.reserve(1)?;
+        self.items.reserve(row.len())?;
         let start = self.items.len();
-        self.items.extend_from_slice(row)?;
+        append(&mut self.items, row);
         self.starts.push_reserved(start);
         Ok(())
     }
@@ -78,4 +79,14 @@ fn cut_row<'a>(starts: &[usize], items: &'a [u32], i: usize) -> &'a [u32]
         items.len()
     };
     &items[start..end]
+}
+
+/// Puts a list last, for which there is room. Most lists have one element, so it is a loop, and no copy.
+fn append(items: &mut Vec<u32>, row: &[u32])
+    requires { vec_len items.old + length row.now ≤ vec_capacity items.old }
+    ensures { items.new.items ≡ items.old.items ++ row.now }
+{
+    for x in row {
+        items.push_reserved(*x);
+    }
 }

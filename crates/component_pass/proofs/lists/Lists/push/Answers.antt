@@ -6,11 +6,11 @@ use Rattle.component_pass.proofs.lists.Lists.push.Goals as goal
 pub invariant_of-self-2 : goal.invariant_of-self-2
 invariant_of-self-2 c =
     let start : c.len-start.result ≡ length c.self.inside.items.items = omega arith in
-    rw (c.in_ok-extend_from_slice.ensures.items, c.push_reserved.ensures.items, c.reserve.ensures.items, start)
+    rw (c.append.ensures, c.push_reserved.ensures.items, c.reserve.ensures.items, c.reserve-2.ensures.items, start)
     (cut-more c.self.inside.starts.items c.self.inside.items.items c.args.row.now c.self.invariant)
 
 pub returns-clause-lists : goal.returns-clause-lists
 returns-clause-lists c =
     let start : c.len-start.result ≡ length c.self.inside.items.items = omega arith in
-    rw (← c.self.view_is, c.in_ok-extend_from_slice.ensures.items, c.push_reserved.ensures.items, c.reserve.ensures.items, start, length_push)
+    rw (← c.self.view_is, c.append.ensures, c.push_reserved.ensures.items, c.reserve.ensures.items, c.reserve-2.ensures.items, start, length_push)
     (packed_rows-more c.self.inside.starts.items c.self.inside.items.items c.args.row.now (length c.self.inside.starts.items) refl c.self.invariant)
