@@ -20,6 +20,7 @@ use Rattle.component_pass.specs.Classes.{AreClasses}
 use Rattle.component_pass.specs.Grouping.{AreGrouped, AreListed, ArePlain, IsFirst, group}
 use Rattle.component_pass.specs.Referring.{ComesTo, AreDestinations, AreReferences}
 use Rattle.component_pass.proofs.Grouped.{group-members, group-has, bridge-below}
+use Rattle.component_pass.proofs.Linked.{node_at, rises_at, next-up, next-down, none-before, link-here}
 use Rattle.component_pass.proofs.Listed.{head_is}
 use Rattle.component_pass.proofs.Finding.{walk_inside}
 
@@ -140,12 +141,6 @@ module _ (nodes : List Node) (edges : List (List ℕ)) (labels : List ℕ) (flag
       let f : get_or gr 0 0 ≡ first_at comps i = head_is gr ∙ sym (ap first_of e.2) ∙ sym (first_is i lt) in
       (subst (λ (z : ℕ). IsBridge nodes z) f m.2, e.2 ∙ ap (λ (l : ℕ). group links l) (sym m.1 ∙ ap (λ (z : ℕ). get_or labels z 0) f))
 
-  rises_at : (xs : List ℕ) (i j : ℕ) → Rises xs → i < j → j < length xs → get_or xs i 0 < get_or xs j 0
-  rises_at [] i j r lt le = absurd (omega (arith, le))
-  rises_at (x ∷ xs) zero (suc j) r lt le = r.0 j 0 (omega (arith, le))
-  rises_at (x ∷ xs) (suc i) (suc j) r lt le = rises_at xs i j r.1 (omega (arith, lt)) (omega (arith, le))
-  rises_at (x ∷ xs) i zero r lt le = absurd (omega (arith, lt))
-
   -- first members tell components apart, and are in their order
   pub same_index : (i j : ℕ) → i < length comps → j < length comps → first_at comps i ≡ first_at comps j → i ≡ j
   same_index i j il jl e =
@@ -223,6 +218,28 @@ module _ (nodes : List Node) (edges : List (List ℕ)) (labels : List ℕ) (flag
         let same = (s.classes.exact (first_at comps j) y.0 (bridge-below nodes (first_at comps j) c.0) yl).1 y.3 in
         (y.0, y.1, y.2, ap (λ (l : ℕ). get_or indexes l 0) (sym same) ∙ at_label j t.0)),
   )
+
+  -- where there is no bridge node between, it is the same
+  refs_jump : (x z : ℕ) (pairs : List (ℕ × ℕ)) → ((y : ℕ) → IsBridge nodes y → y < x → y < z) → ((y : ℕ) → IsBridge nodes y → y < z → y < x)
+      → AreReferences (IsBridge nodes) E comps x pairs → AreReferences (IsBridge nodes) E comps z pairs
+  refs_jump x z pairs up down a = record {
+    exact = λ i j. (
+      (λ c. let t = (a.exact i j).0 c in (t.0, t.1, up (first_at comps i) (comp_at i t.0).0 t.2, t.3)),
+      (λ t. (a.exact i j).1 (t.0, t.1, down (first_at comps i) (comp_at i t.0).0 t.2, t.3)),
+    );
+  }
+
+  pub refs_begin : AreReferences (IsBridge nodes) E comps (node_at links (length nodes) 0) []
+  refs_begin = refs_jump 0 (node_at links (length nodes) 0) [] (λ y b h. absurd (omega (arith, h))) (λ y b h. absurd (none-before nodes labels links y s.grouped b h))
+      (record { exact = λ i j. ((λ c. absurd (omega (arith, c.1))), (λ t. absurd (omega (arith, t.2)))) })
+
+  pub refs_next : (k x : ℕ) (pairs : List (ℕ × ℕ)) → k < length links → x ≡ get_or (map (λ (l : Link). l.to) links) k 0
+      → AreReferences (IsBridge nodes) E comps (x + 1) pairs → AreReferences (IsBridge nodes) E comps (node_at links (length nodes) (k + 1)) pairs
+  refs_next k x pairs lt is a =
+      let here = link-here nodes links k x lt is in
+      refs_jump (x + 1) (node_at links (length nodes) (k + 1)) pairs
+      (λ y b h. next-up nodes labels links k y s.grouped lt b (omega (arith, h, here)))
+      (λ y b h. omega (arith, next-down nodes labels links k y s.grouped lt b h, here)) a
 
   pub refs_none : AreReferences (IsBridge nodes) E comps 0 []
   refs_none = record { exact = λ i j. ((λ c. absurd (omega (arith, c.1))), (λ t. absurd (omega (arith, t.2)))) }

@@ -20,7 +20,7 @@ ghost use Rattle.component_pass.specs.Referring.{AreReferences};
 ghost use Rattle.component_pass.specs.Sharing.{AreShared, ComesOut, IsFound};
 
 use crate::gathering::{Work, gather, new_work, set_of};
-use crate::groups::{Groups, is_first, members};
+use crate::groups::{Groups, bridge_node, is_first, members};
 use crate::lists::Lists;
 use bridge_graph::DeadGraph;
 use std::alloc::{AllocError, Global};
@@ -211,6 +211,7 @@ fn refer_all(
     requires groups { AreGroups graph.now.nodes labels.now groups.now }
     requires indexes { length indexes.now ≡ length graph.now.nodes }
     requires listed { AreListed graph.now.nodes labels.now groups.now.links.items (length graph.now.nodes) builder.old.comps indexes.now }
+    requires part { IsPart graph.now.nodes graph.now.edges }
     requires empty { builder.old.pairs ≡ [] }
     requires shared { AreShared graph.now.edges (length graph.now.nodes) labels.now groups.now.links.items indexes.now count (length rows.now) sets.now lists.now }
     requires sets { AreSets sets.now lists.now count (length work.old.known.items) }
@@ -219,7 +220,8 @@ fn refer_all(
     ensures pairs { OnOk result (AreReferences (IsBridge graph.now.nodes) (Leads graph.now.edges) builder.new.comps (length graph.now.nodes) builder.new.pairs) }
     ensures comps { builder.new.comps ≡ builder.old.comps }
 {
-    for x in 0..graph.nodes() {
+    for k in 0..groups.links.len() {
+        let x = bridge_node(groups, k);
         refer(
             graph, labels, rows, groups, indexes, x, count, sets, lists, work, builder,
         )?;
