@@ -49,6 +49,3 @@ mod sharing;
 mod tarjan;
 
 pub use contraction::{contract, plain_contract};
-
-#[cfg(test)]
-mod tests;

@@ -5,6 +5,8 @@
 #![tactic(auto)]
 
 mod list;
+#[cfg(test)]
+mod tests;
 
 use component_pass::contract;
 use list::{read_list, what};
