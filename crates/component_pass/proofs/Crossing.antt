@@ -1,7 +1,7 @@
 -- The search from x goes through x's own class and through plain classes. It comes to a node of another
 -- class with a bridge node exactly where there is a cross-reference: the part of its walk behind the last
 -- node of the own class has plain classes only, and the way to where a cross-reference leaves lies in the class.
-use Rattle.std.proofs.Common.{◌≡◌, ◌↔◌, ◌⊎◌, ℕ, suc, zero, ◌+◌, ◌<◌, Bool, true, false, List, [], ◌∷◌, ◌++◌, Some, length, map, get_or, refl, sym, ◌∙◌, ap, subst, arith, inl, inr}
+use Rattle.std.proofs.Common.{◌≡◌, ◌↔◌, ◌⊎◌, ℕ, ◌+◌, ◌<◌, Bool, true, false, List, [], ◌∷◌, ◌++◌, Some, length, map, get_or, refl, sym, ◌∙◌, ap, subst, arith, inl, inr}
 use Rattle.std.proofs.lemmas.List.{length-map, get_or-map}
 use Rattle.std.proofs.lemmas.List.Elements.{All-nil, All-head, All-tail, All-push, All-contains, Contains-get_or, Contains-append_left, Contains-append_right, Contains-append_cases}
 use Rattle.std.proofs.lemmas.Option.{slice_get-get_or, slice_get_within, get_or_from_slice_get}
@@ -10,7 +10,7 @@ use Rattle.std.specs.List.Sorted.{IsPermutation}
 use Rattle.std.proofs.lemmas.Bool.{cases_lt, cases_eq, cases_Bool, cases_order}
 use Rattle.std.specs.List.{All, Contains}
 use Rattle.joint_model.specs.Walks.{Walks, Reaches, Mutual}
-use Rattle.joint_model.specs.Components.{Rises, first_of, first_at, IsCrossReference, IsPlainClass, IsMember, IsCanonical, IsContraction}
+use Rattle.joint_model.specs.Components.{first_of, first_at, IsCrossReference, IsPlainClass, IsMember, IsCanonical, IsContraction}
 use Rattle.joint_model.proofs.WalkLemmas.{Walks-join, Reaches-self, Reaches-then, Reaches-keeps, Mutual-self, Mutual-sym, Mutual-trans}
 use Rattle.bridge_graph.specs.declared.graph.Node.{Node}
 use Rattle.bridge_graph.specs.declared.packing.Link.{Link}

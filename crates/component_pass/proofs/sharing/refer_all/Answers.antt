@@ -1,4 +1,4 @@
-use Rattle.std.proofs.Common.{◌≡◌, length, refl, ◌∙◌, arith}
+use Rattle.std.proofs.Common.{refl, ◌∙◌, arith}
 use Rattle.component_pass.proofs.Crossing.{refs_begin, refs_next}
 use Rattle.component_pass.proofs.Linked.{link-here, link-below, none-after}
 use Rattle.component_pass.proofs.Shared.{setting_of}

@@ -1,4 +1,4 @@
-use Rattle.std.proofs.Common.{◌≡◌, ◌+◌, ◌<◌, ◌++◌, ◌∷◌, [], List, ℕ, Some, length, take, drop, reverse, get_or, sym, ap, subst, arith}
+use Rattle.std.proofs.Common.{◌≡◌, ◌+◌, ◌<◌, ◌++◌, ◌∷◌, [], List, ℕ, length, take, drop, reverse, get_or, sym, ap, subst, arith}
 use Rattle.std.proofs.lemmas.List.{length_push, get_or_default}
 use Rattle.component_pass.specs.declared.tarjan.Frame.{Frame}
 use Rattle.component_pass.specs.Tarjan.{IsGoing, unseen}
