@@ -1,10 +1,10 @@
 -- What calls keep that draw from a plain count.
-use Rattle.std.specs.Prelude.{◌≡◌, ℕ, ◌+◌, ◌-◌, ◌^◌, ◌≤◌, List, [], ◌∷◌, length, ⊤}
+use Rattle.std.specs.Prelude.{◌≡◌, ℕ, ◌-◌, ◌^◌, List, [], ◌∷◌, ⊤}
 use Rattle.std.proofs.Common.{sym, subst}
 use Rattle.joint_model.specs.declared.names.Thread.{Thread}
 use Rattle.joint_model.specs.declared.events.Made.{Made}
 use Rattle.joint_model.specs.declared.events.Op.{Op}
-use Rattle.joint_model.specs.Draws.{AllBelow, CountDrew}
+use Rattle.joint_model.specs.Draws.{CountDrew}
 use Rattle.joint_model.specs.Sides.{Side, SideRules, Drawing, Making, MayDraw, AddsLawful, AddsInTurn}
 use Rattle.joint_model.specs.Told.{Told}
 use Rattle.side_tests.specs.Drives.{IsCounted}

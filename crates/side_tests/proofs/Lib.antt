@@ -1,2 +1,4 @@
 pub mod Counting
+pub mod ManagedDrives
 pub mod PeerSteps
+pub mod Snapshots

@@ -1,8 +1,24 @@
 -- What the tests keep of a side that a plain count drives.
-use Rattle.std.specs.Prelude.{ℕ, ◌+◌, ◌-◌, ◌^◌, ◌≤◌, length}
+use Rattle.std.specs.Prelude.{◌≡◌, ℕ, ◌+◌, ◌-◌, ◌^◌, ◌<◌, ◌≤◌, Contains, length, Some}
+use Rattle.joint_model.specs.declared.events.Op.{Op}
+use Rattle.joint_model.specs.declared.events.Op.TheVariants as op
 use Rattle.joint_model.specs.Draws.{AllBelow}
+use Rattle.joint_model.specs.Managed.{OpenCycle}
+use Rattle.joint_model.specs.ManagedReplay.{ManagedReplay}
 use Rattle.joint_model.specs.Sides.{Side}
 
 -- each entry's number is below the count, and the count has room for a full list
 abbrev pub IsCounted : {S : Type 0} → Side S → ℕ → Type 0
 IsCounted s count = AllBelow s.entries count × (4294967295 ≤ 2 ^ 63 - count + length s.entries)
+
+-- beside it each handle that the managed side adopted is below the number of its entries, and an open cycle has so many candidates
+pub record IsDriven (s : Side ManagedReplay) (count waiting : ℕ) : Type 0 where
+  pub counted : IsCounted s count
+  pub adopts : (h : ℕ) → Contains s.state.adopted h → h < length s.entries
+  pub waits : (c : OpenCycle) → s.state.managed.cycle ≡ Some c → length c.candidates ≡ waiting
+
+-- the handle that an `adopt` or a `meet` names has this number
+abbrev pub NamesNext : Op → ℕ → Type 0
+NamesNext (op.Adopt v kind n p h) next = h.0 ≡ next
+NamesNext (op.Meet v p h sort n) next = h.0 ≡ next
+NamesNext o next = Unit {0}

@@ -1,11 +1,12 @@
 // A peer side by its calls.
 
 ghost use Rattle.std.specs.Prelude.{◌≡◌, IsTrue, None};
-ghost use Rattle.joint_model.specs.Lines.{IsManagedThread, IsPeerAct, IsPeerThread, IsVarOrNone};
+ghost use Rattle.joint_model.specs.Lines.{IsPeerAct, IsPeerThread};
 ghost use Rattle.joint_model.specs.PeerReplay.{PeerReplay};
 ghost use Rattle.peer_side.specs.Makings.{IsSideStep, MayStep};
 ghost use Rattle.peer_side.specs.Steps.{IsStepLine};
 
+use crate::callers::{is_managed, is_var_or_none};
 use joint_model::Reply::{
     self, Empty, Full, Gone, Gripped, H, Made, Mark, MarkOpen, NoMark, Null, P, Range, Swept,
     Taken, Unset,
@@ -262,26 +263,6 @@ fn is_peer(caller: Thread) -> bool
     match caller {
         Thread::P(n) => 1 <= n && n <= 8,
         _ => false,
-    }
-}
-
-// Whether this is one of the threads m1 to m8.
-fn is_managed(caller: Thread) -> bool
-    ensures { IsTrue result → IsManagedThread caller }
-{
-    match caller {
-        Thread::M(n) => 1 <= n && n <= 8,
-        _ => false,
-    }
-}
-
-// Whether this is a variable, if one is given.
-fn is_var_or_none(v: &Option<Var>) -> bool
-    ensures { IsTrue result → IsVarOrNone v.now }
-{
-    match v {
-        None => true,
-        Some(w) => w.0 < 8,
     }
 }
 

@@ -1,5 +1,5 @@
 -- A step draws in turn, from a plain count.
-use Rattle.std.proofs.Common.{ap, refl}
+use Rattle.std.proofs.Common.{ap}
 use Rattle.joint_model.specs.Sides.{peer_rules}
 use Rattle.peer_side.specs.Sides.{seen}
 use Rattle.side_tests.proofs.Counting.{counted-in-turn, counted-same}

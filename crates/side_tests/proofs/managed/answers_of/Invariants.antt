@@ -1,0 +1,8 @@
+use Rattle.std.proofs.Common.{◌≡◌, ◌+◌, ◌-◌, length}
+use Rattle.side_tests.proofs.managed.answers_of.Given as goal
+
+abbrev pub invariant-answers : goal.invariant-answers
+invariant-answers l = length l.answers.values + l.answers.room ≡ l.count
+
+abbrev pub decreases-answers : goal.decreases-answers
+decreases-answers l = l.count - length l.answers.values
