@@ -21,8 +21,8 @@ use Rattle.joint_replay.specs.Unmarked.{marked}
 use Rattle.joint_replay.proofs.Gathering.{IsMarked-test, test-IsMarked}
 use Rattle.joint_replay.specs.Plain.{cleaned, kept_target, is_live}
 use Rattle.joint_marking.specs.Gathered.{Gains}
-use Rattle.joint_replay.specs.Roots.{IsNamedLive, Lists}
-use Rattle.joint_replay.specs.Found.{IsSlotReached, IsHandleReached}
+use Rattle.joint_replay.specs.Roots.{IsNamedLive, IsRoot, Lists}
+use Rattle.joint_replay.specs.Found.{IsRootReached, IsHandleReached}
 use Rattle.joint_replay.specs.Finding.{Finds}
 use Rattle.joint_replay.proofs.Flags.{is_live-exact}
 
@@ -100,12 +100,12 @@ decided R marks m true e r = inl (r.0 (IsMarked-test marks m e))
 decided R marks m false e r = inr ((apart R marks m r).0 e)
 
 -- the lists by their marks
-pub Finds-from : (h : Heap) (held : List (Option ℕ)) (slots bridges : List Bool) (freed candidates dead : List ℕ)
-    → ((k : ℕ) → IsLive h k → IsMarked slots k ↔ IsSlotReached h k) → ((k : ℕ) → IsMarked bridges k ↔ IsHandleReached h held k)
+pub Finds-from : (h : Heap) (held pins : List (Option ℕ)) (slots bridges : List Bool) (freed candidates dead : List ℕ)
+    → ((k : ℕ) → IsLive h k → IsMarked slots k ↔ IsRootReached h pins k) → ((k : ℕ) → IsMarked bridges k ↔ IsHandleReached h held k)
     → Lists (IsUnreachedRow h slots bridges false) freed → Lists (IsUnreachedRow h slots bridges true) dead → Lists (IsCandidateRow h held slots) candidates
-    → Finds h held freed candidates dead
-Finds-from h held slots bridges freed candidates dead s b f d c =
-    let S : (m : ℕ) → IsLive h m → (marked slots m ≡ false) ↔ (IsSlotReached h m → ⊥) = λ m l. apart (IsSlotReached h m) slots m (s m l) in
+    → Finds h held pins freed candidates dead
+Finds-from h held pins slots bridges freed candidates dead s b f d c =
+    let S : (m : ℕ) → IsLive h m → (marked slots m ≡ false) ↔ (IsRootReached h pins m → ⊥) = λ m l. apart (IsRootReached h pins m) slots m (s m l) in
     let B : (m : ℕ) → (marked bridges m ≡ false) ↔ (IsHandleReached h held m → ⊥) = λ m. apart (IsHandleReached h held m) bridges m (b m) in
     record {
       frees = record {
@@ -171,4 +171,11 @@ named-both h none first both e v s x = (
     | inr w ↦ (w.0, inr w.1)
   ],
   λ w. elim w.1 [ inl a ↦ (s x).1 (inl ((v x).1 (inr (w.0, a)))) | inr a ↦ (s x).1 (inr (w.0, a)) ],
+)
+
+-- the slots and the pins were read
+pub pinned-both : (h : Heap) (pins : List (Option ℕ)) (named all : List ℕ) → ((x : ℕ) → Contains named x ↔ (IsLive h x × InSlot h x)) → Gains (IsNamedLive h pins) named all → (x : ℕ) → Contains all x ↔ (IsLive h x × IsRoot h pins x)
+pinned-both h pins named all n g x = (
+  λ c. elim ((g x).0 c) [ inl w ↦ (let u = (n x).0 w in (u.0, inl u.1)) | inr w ↦ (w.0, inr w.1) ],
+  λ w. elim w.1 [ inl a ↦ (g x).1 (inl ((n x).1 (w.0, a))) | inr a ↦ (g x).1 (inr (w.0, a)) ],
 )

@@ -10,3 +10,6 @@ pub mod Rooting
 pub mod Sweeping
 mod Gathering
 mod Snapshots
+mod Twinning
+pub mod PlainActs
+pub mod Lifting

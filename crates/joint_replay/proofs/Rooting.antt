@@ -1,6 +1,6 @@
--- The live joint roots of a joint state in which nothing is pinned and no handle is raw: the live rows that a variable or
--- a static names, and the live peers of the handles that aren't removed and that no live object holds.
-use Rattle.std.proofs.Common.{◌≡◌, ℕ, ◌+◌, ◌↔◌, ◌⊎◌, inl, inr, Bool, true, List, [], ◌∷◌, ◌++◌, ◌<◌, ◌≤◌, length, replicate, set, take, Some, None, refl, sym, ap, subst, ◌∙◌, arith}
+-- The live joint roots of a joint state: the live rows that a variable, a static or a pin names, and the live peers of the
+-- handles that aren't removed and are raw and strong, or held and loose.
+use Rattle.std.proofs.Common.{◌≡◌, ℕ, ◌+◌, ◌↔◌, ◌⊎◌, inl, inr, Bool, true, List, [], ◌∷◌, ◌++◌, ◌<◌, ◌≤◌, length, set, take, Some, sym, ap, subst, ◌∙◌, arith}
 use Rattle.std.specs.Prelude.{Contains, All, slice_get}
 use Rattle.std.proofs.lemmas.List.{map-append}
 use Rattle.std.proofs.lemmas.List.Elements.{Contains-push, Contains-push_cases, Contains-append_left}
@@ -8,30 +8,24 @@ use Rattle.joint_model.specs.declared.names.PNum.{PNum}
 use Rattle.joint_model.specs.First.{AreUnreached}
 use Rattle.joint_model.specs.Heaps.{IsLive, InSlot}
 use Rattle.joint_model.specs.Histories.{peer_numbers}
-use Rattle.joint_model.specs.Joint.{Graph, IsRawRoot, IsLooseRoot, IsReachedIn, object, peer}
+use Rattle.joint_model.specs.Joint.{Graph, IsHandle, IsRawRoot, IsLooseRoot, IsReachedIn, object, peer}
 use Rattle.joint_model.specs.Managed.{Managed, IsManagedRoot}
-use Rattle.joint_model.specs.Peers.{Peers, Issued, held}
+use Rattle.joint_model.specs.Peers.{Peers}
 use Rattle.joint_model.proofs.Members.{Contains-map, All-members}
-use Rattle.joint_model.proofs.Numbered.{numbered-within, replicate-none}
+use Rattle.joint_model.proofs.Numbered.{numbered-within}
 use Rattle.reachability.specs.Marks.{IsMarked}
 use Rattle.reachability.proofs.Marking.{take-next, set-marked, set-keeps, set-fresh}
 use Rattle.joint_marking.specs.Gathered.{Gains}
 use Rattle.joint_marking.specs.Nodes.{IsLiveRoot}
 use Rattle.joint_marking.specs.Owned.{IsOwned}
-use Rattle.joint_marking.proofs.Handles.{numbered-All, issued-at, peer-issued, held_raw}
-use Rattle.joint_replay.specs.Graphs.{clean_graph, parts_graph, IsLooseIn}
+use Rattle.joint_replay.specs.Graphs.{clean_graph, parts_graph, IsRootedIn}
+use Rattle.joint_replay.specs.Roots.{IsRoot}
 use Rattle.joint_replay.proofs.Cleaning.{live_root-clean, reached-clean}
 use Rattle.joint_replay.proofs.Finding.{live-cleaned, cleaned-live}
 
--- a joint state without pins: its managed roots are what a variable or a static names
-pub unpinned-roots : (s : Managed) (xs ys : List ℕ) → s.pins ≡ replicate 9 None → ys ≡ xs → ((x : ℕ) → Contains xs x ↔ (IsLive s.heap x × InSlot s.heap x)) → (x : ℕ) → Contains ys x ↔ (IsLive s.heap x × IsManagedRoot s x)
-unpinned-roots s xs ys pins same named x = rw same (
-  λ c. (let w = (named x).0 c in (w.0, inl w.1)),
-  λ w. elim w.1 [
-    | inl n ↦ (named x).1 (w.0, n)
-    | inr p ↦ absurd (replicate-none 9 x (subst (λ z. Contains z (Some x)) pins p))
-  ],
-)
+-- the managed roots, in another list of the same numbers
+pub numbered-roots : (s : Managed) (xs ys : List ℕ) → ys ≡ xs → ((x : ℕ) → Contains xs x ↔ (IsLive s.heap x × IsRoot s.heap s.pins x)) → (x : ℕ) → Contains ys x ↔ (IsLive s.heap x × IsManagedRoot s x)
+numbered-roots s xs ys same named x = rw same (named x)
 
 -- the objects among them
 pub object-roots : (g : Graph) (xs : List ℕ) → ((x : ℕ) → Contains xs x ↔ (IsLive g.managed.heap x × IsManagedRoot g.managed x)) → (x : ℕ) → Contains xs x ↔ IsLiveRoot (clean_graph g) (object x)
@@ -40,32 +34,37 @@ object-roots g xs named x = (
   λ r. (named x).1 ((live_root-clean g (object x)).0 r),
 )
 
--- the peers of loose handles are exactly the live peers of raw and of loose handles, since none is raw
-loose-root : (s : Managed) (p : Peers) (removed owned : List Bool) → All (λ i. i.hold ≡ held) p.issued
+-- the peers of the handles that are roots by themselves are exactly the live peers of raw strong and of loose handles
+handle-root : (s : Managed) (p : Peers) (removed owned : List Bool)
     → ((h : ℕ) → IsMarked owned h ↔ IsOwned s (length p.issued + 1) h)
-    → (k : ℕ) → IsLooseIn p removed owned k ↔ (IsLive p.heap k × (IsRawRoot (parts_graph s p removed) k ⊎ IsLooseRoot (parts_graph s p removed) k))
-loose-root s p removed owned all exact k = (
+    → (k : ℕ) → IsRootedIn p removed owned k ↔ (IsLive p.heap k × (IsRawRoot (parts_graph s p removed) k ⊎ IsLooseRoot (parts_graph s p removed) k))
+handle-root s p removed owned exact k = (
   λ w.
       let l = w.1 in
-      let i = issued-at p w.0 k _ refl l.leads in (
+      let same : IsHandle (parts_graph s p removed) w.0 l.row = record { issued = l.issued; kept = l.kept } in (
         l.live,
-        inr (record {
-          handle = w.0;
-          row = i.0;
-          is_handle = record { issued = i.1; kept = l.kept };
-          held_hold = numbered-All (λ (j : Issued). j.hold ≡ held) p.issued w.0 i.0 all i.1;
-          loose = λ m o. l.unowned ((exact w.0).1 (record { owner = m; holds = o; marked = omega (arith, (numbered-within p.issued w.0 i.0 i.1).1) }));
-          leads = i.2;
-        }),
+        elim l.root [
+          | inl r ↦ inl (record { handle = w.0; row = l.row; is_handle = same; raw_hold = r.0; strong_made = r.1; leads = l.leads })
+          | inr r ↦ inr (record {
+            handle = w.0;
+            row = l.row;
+            is_handle = same;
+            held_hold = r.0;
+            loose = λ m o. r.1 ((exact w.0).1 (record { owner = m; holds = o; marked = omega (arith, (numbered-within p.issued w.0 l.row l.issued).1) }));
+            leads = l.leads;
+          })
+        ],
       ),
   λ w. elim w.1 [
-    | inl r ↦ absurd (held_raw (sym (numbered-All (λ (j : Issued). j.hold ≡ held) p.issued r.handle r.row all r.is_handle.issued) ∙ r.raw_hold))
+    | inl r ↦ (r.handle, record { row = r.row; issued = r.is_handle.issued; kept = r.is_handle.kept; root = inl (r.raw_hold, r.strong_made); leads = r.leads; live = w.0 })
     | inr r ↦ (
       r.handle,
       record {
+        row = r.row;
+        issued = r.is_handle.issued;
         kept = r.is_handle.kept;
-        unowned = λ m. (let o = (exact r.handle).0 m in r.loose o.owner o.holds);
-        leads = peer-issued p r.handle r.row r.is_handle.issued ∙ ap Some r.leads;
+        root = inr (r.held_hold, λ m. (let o = (exact r.handle).0 m in r.loose o.owner o.holds));
+        leads = r.leads;
         live = w.0;
       },
     )
@@ -73,14 +72,14 @@ loose-root s p removed owned all exact k = (
 )
 
 -- the peers among them
-pub peer-roots : (s : Managed) (p : Peers) (removed owned : List Bool) (named roots : List ℕ) → All (λ i. i.hold ≡ held) p.issued
+pub peer-roots : (s : Managed) (p : Peers) (removed owned : List Bool) (named roots : List ℕ)
     → ((h : ℕ) → IsMarked owned h ↔ IsOwned s (length p.issued + 1) h)
     → ((x : ℕ) → Contains named x ↔ (IsLive p.heap x × InSlot p.heap x))
-    → Gains (IsLooseIn p removed owned) named roots
+    → Gains (IsRootedIn p removed owned) named roots
     → (k : ℕ) → Contains roots k ↔ IsLiveRoot (clean_graph (parts_graph s p removed)) (peer k)
-peer-roots s p removed owned named roots all exact slots gains k =
+peer-roots s p removed owned named roots exact slots gains k =
     let g = parts_graph s p removed in
-    let loose = loose-root s p removed owned all exact k in (
+    let loose = handle-root s p removed owned exact k in (
       λ c. (live_root-clean g (peer k)).1 (elim ((gains k).0 c) [
         | inl n ↦ (let w = (slots k).0 n in (w.0, inl w.1))
         | inr l ↦ (let w = loose.0 l in (w.0, inr w.1))

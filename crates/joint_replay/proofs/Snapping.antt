@@ -1,6 +1,6 @@
 -- Snapshots and resolutions from what was found. Both are exact and rising lists, so there is only one of each: a reply
 -- that names other rows is no step.
-use Rattle.std.proofs.Common.{◌≡◌, ℕ, ◌+◌, ◌<◌, ◌≤◌, ◌↔◌, inl, inr, Bool, true, false, not, List, length, replicate, Option, Some, None, refl, sym, ap, subst, ◌∙◌, arith, if◌then◌else◌}
+use Rattle.std.proofs.Common.{◌≡◌, ℕ, ◌+◌, ◌<◌, ◌≤◌, ◌↔◌, inl, inr, Bool, true, false, not, List, length, Option, Some, None, refl, sym, ap, subst, ◌∙◌, arith, if◌then◌else◌}
 use Rattle.std.specs.Prelude.{Contains, All, filter}
 use Rattle.std.proofs.lemmas.List.Elements.{All-contains}
 use Rattle.joint_model.specs.declared.names.Span.{Span}
@@ -11,20 +11,20 @@ use Rattle.joint_model.specs.Cycles.{IsSnapshot, snap_reply, IsResolution, resol
 use Rattle.joint_model.specs.Heaps.{Heap, IsMade, numbered_at, is_freed}
 use Rattle.joint_model.specs.Histories.{Finished}
 use Rattle.joint_model.specs.Joint.{Joint, with_managed}
-use Rattle.joint_model.specs.Managed.{Managed, OpenCycle, Holds, IsManagedReached, IsBridgeReached, handle_of, with_snapshot}
+use Rattle.joint_model.specs.Managed.{Managed, OpenCycle, Holds, IsBridgeReached, handle_of, with_snapshot}
 use Rattle.joint_model.specs.Peers.{Peers, peer_of}
 use Rattle.joint_model.specs.Run.{IsKept, JointResolve}
 use Rattle.joint_model.specs.Walks.{Reached}
 use Rattle.joint_model.proofs.Members.{All-members, Contains-filter_from, Contains-filter_to, Rises-one}
 use Rattle.joint_model.proofs.Deciding.{true-false, not-from, some-same}
 use Rattle.joint_model.proofs.HeapLemmas.{Holds-handle_of}
-use Rattle.joint_replay.proofs.Snapshots.{slot-reached, handle-reached, bridge-row, row-bridge}
+use Rattle.joint_replay.proofs.Snapshots.{handle-reached, bridge-row, row-bridge}
 use Rattle.object_heap.specs.Tidy.{live_fields}
 use Rattle.reachability.specs.Marks.{Leads, IsMarked}
 use Rattle.joint_replay.specs.Unmarked.{unmarked_of}
 use Rattle.joint_replay.proofs.Gathering.{Rises-filter, unmarked_of-exact}
 use Rattle.joint_replay.specs.Judging.{named_objects}
-use Rattle.joint_replay.specs.Found.{IsSlotReached, IsHandleReached}
+use Rattle.joint_replay.specs.Found.{IsHandleReached}
 use Rattle.joint_replay.specs.Finding.{Finds}
 use Rattle.joint_replay.specs.Plain.{cleaned}
 use Rattle.joint_replay.specs.Snaps.{Snaps, SaysSnap, SaysFreed, OwesDead, keeps, Settles, SnapsJoint}
@@ -32,39 +32,38 @@ use Rattle.joint_replay.proofs.Finding.{marks-open}
 use Rattle.joint_replay.proofs.Flags.{is_freed-exact}
 
 -- what was found is a snapshot
-pub snapshot-found : (s : Managed) (k : ℕ) (freed candidates dead : List ℕ) → s.cycle ≡ None → k ≡ s.cycles + 1 → s.pins ≡ replicate 9 None → Finds s.heap s.held freed candidates dead → IsSnapshot s k freed candidates dead
-snapshot-found s k freed candidates dead o n p f =
-    let S : (m : ℕ) → IsManagedReached s m ↔ IsSlotReached s.heap m = λ m. slot-reached s p m in
+pub snapshot-found : (s : Managed) (k : ℕ) (freed candidates dead : List ℕ) → s.cycle ≡ None → k ≡ s.cycles + 1 → Finds s.heap s.held s.pins freed candidates dead → IsSnapshot s k freed candidates dead
+snapshot-found s k freed candidates dead o n f =
     let B : (m : ℕ) → IsBridgeReached s m ↔ IsHandleReached s.heap s.held m = λ m. handle-reached s m in
     record {
       closed = o;
       next = n;
       freed_rise = f.frees.rise;
       frees = λ m. (
-        λ c. (let u = (f.frees.exact m).0 c in (u.0, λ r. u.1 ((S m).0 r), λ r. u.2 ((B m).0 r))),
-        λ u. (f.frees.exact m).1 (u.0, λ r. u.1 ((S m).1 r), λ r. u.2 ((B m).1 r)),
+        λ c. (let u = (f.frees.exact m).0 c in (u.0, u.1, λ r. u.2 ((B m).0 r))),
+        λ u. (f.frees.exact m).1 (u.0, u.1, λ r. u.2 ((B m).1 r)),
       );
       candidates_rise = f.picks.rise;
       picks = λ m. (
-        λ c. (let u = (f.picks.exact m).0 c in (row-bridge s m u.0, λ r. u.1 ((S m).0 r))),
-        λ u. (f.picks.exact m).1 (bridge-row s m u.0, λ r. u.1 ((S m).1 r)),
+        λ c. (let u = (f.picks.exact m).0 c in (row-bridge s m u.0, u.1)),
+        λ u. (f.picks.exact m).1 (bridge-row s m u.0, u.1),
       );
       dead_rise = f.leaves.rise;
       leaves = λ m. (
-        λ c. (let u = (f.leaves.exact m).0 c in (u.0, λ r. u.1 ((S m).0 r), λ k. ((f.frees.exact m).0 k).2 u.2)),
+        λ c. (let u = (f.leaves.exact m).0 c in (u.0, u.1, λ k. ((f.frees.exact m).0 k).2 u.2)),
         λ u. elim (f.decides m u.0) [
-          | inl r ↦ (f.leaves.exact m).1 (u.0, λ r. u.1 ((S m).1 r), r)
-          | inr n ↦ absurd (u.2 ((f.frees.exact m).1 (u.0, λ r. u.1 ((S m).1 r), n)))
+          | inl r ↦ (f.leaves.exact m).1 (u.0, u.1, r)
+          | inr n ↦ absurd (u.2 ((f.frees.exact m).1 (u.0, u.1, n)))
         ],
       );
     }
 
 -- the rows of what was found were made
-pub found-freed : (h : Heap) (held : List (Option ℕ)) (freed candidates dead : List ℕ) → Finds h held freed candidates dead → All (IsMade h) freed
-found-freed h held freed candidates dead f = All-members (IsMade h) freed (λ m c. ((f.frees.exact m).0 c).0.made)
+pub found-freed : (h : Heap) (held pins : List (Option ℕ)) (freed candidates dead : List ℕ) → Finds h held pins freed candidates dead → All (IsMade h) freed
+found-freed h held pins freed candidates dead f = All-members (IsMade h) freed (λ m c. ((f.frees.exact m).0 c).0.made)
 
-pub found-owed : (h : Heap) (held : List (Option ℕ)) (freed candidates dead : List ℕ) (n k : ℕ) → length h.fields ≡ n → Finds h held freed candidates dead → OwesDead n (Some record { number = k; candidates = candidates; dead = dead })
-found-owed h held freed candidates dead n k e f = (
+pub found-owed : (h : Heap) (held pins : List (Option ℕ)) (freed candidates dead : List ℕ) (n k : ℕ) → length h.fields ≡ n → Finds h held pins freed candidates dead → OwesDead n (Some record { number = k; candidates = candidates; dead = dead })
+found-owed h held pins freed candidates dead n k e f = (
   f.leaves.rise,
   All-members (λ m. (1 ≤ m) × (m ≤ n)) dead (λ m c. (let l = ((f.leaves.exact m).0 c).0.made in (l.0, omega (arith, l.1, e)))),
   All-members (λ m. (1 ≤ m) × (m ≤ n)) candidates (λ m c. (let l = ((f.picks.exact m).0 c).0.0.made in (l.0, omega (arith, l.1, e)))),

@@ -1,14 +1,12 @@
--- The managed objects and their heap in one another's words: the rows that hold a handle, and what the slots and these
--- rows reach.
-use Rattle.std.proofs.Common.{◌≡◌, ℕ, ◌+◌, ◌<◌, ◌↔◌, inl, inr, true, false, List, length, Option, Some, None, replicate, refl, sym, ap, subst, arith}
+-- The managed objects and their heap in one another's words: the rows that hold a handle, and what these reach.
+use Rattle.std.proofs.Common.{◌≡◌, ℕ, ◌+◌, ◌<◌, ◌↔◌, true, false, List, length, Option, Some, None, refl, sym, ap, subst, arith}
 use Rattle.std.specs.Prelude.{Contains, All, is_some}
-use Rattle.joint_model.specs.Heaps.{Heap, IsLive, HasField, InSlot, numbered_at}
-use Rattle.joint_model.specs.Managed.{Managed, IsBridge, IsManagedRoot, ManagedEdge, IsManagedReached, IsBridgeReached}
+use Rattle.joint_model.specs.Heaps.{Heap, IsLive, HasField, numbered_at}
+use Rattle.joint_model.specs.Managed.{Managed, IsBridge, ManagedEdge, IsBridgeReached}
 use Rattle.joint_model.proofs.WalkLemmas.{Reached-mono}
 use Rattle.joint_model.proofs.Members.{All-members}
-use Rattle.joint_model.proofs.Numbered.{replicate-none}
 use Rattle.joint_model.proofs.Deciding.{some-true, true-false}
-use Rattle.joint_replay.specs.Found.{IsBridgeRow, IsSlotReached, IsHandleReached}
+use Rattle.joint_replay.specs.Found.{IsBridgeRow, IsHandleReached}
 
 made-within : (h : Heap) (x : ℕ) → IsLive h x → x < length h.fields + 1
 made-within h x i = omega (arith, i.made.1)
@@ -30,13 +28,6 @@ bridge-row s m b = (b.1.live, handle-test (numbered_at s.held m) b.0 b.1.held)
 
 pub row-bridge : (s : Managed) (m : ℕ) → IsBridgeRow s.heap s.held m → IsBridge s m
 row-bridge s m b = (let r = handle-there (numbered_at s.held m) b.1 in (r.0, record { live = b.0; held = r.1 }))
-
--- with no pin filled, the managed roots are the slots
-pub slot-reached : (s : Managed) → s.pins ≡ replicate 9 None → (m : ℕ) → IsManagedReached s m ↔ IsSlotReached s.heap m
-slot-reached s p m = (
-  λ r. Reached-mono (IsManagedRoot s) (InSlot s.heap) (ManagedEdge s) (HasField s.heap) (λ x i. elim i [ inl w ↦ w | inr w ↦ absurd (replicate-none 9 x (subst (λ z. Contains z (Some x)) p w)) ]) (λ x y e. e) m r,
-  λ r. Reached-mono (InSlot s.heap) (IsManagedRoot s) (HasField s.heap) (ManagedEdge s) (λ x i. inl i) (λ x y e. e) m r,
-)
 
 pub handle-reached : (s : Managed) (m : ℕ) → IsBridgeReached s m ↔ IsHandleReached s.heap s.held m
 handle-reached s m = (

@@ -1,31 +1,31 @@
 -- Verdicts under another name of their steps. An entry's event has one of the joint machine's steps, so a verdict on
 -- that step is the verdict on the entry.
-use Rattle.std.proofs.Common.{[], ◌≡◌, ℕ, ◌⊎◌, inl, inr, true, false, Option, Some, None, Result, Ok, Err, IfOk, refl, sym, ap, subst, ◌∙◌}
+use Rattle.std.proofs.Common.{[], ◌≡◌, ℕ, ◌⊎◌, inl, inr, true, Option, Some, None, Result, Ok, Err, IfOk, refl, sym, ap, subst, ◌∙◌}
 use Rattle.joint_model.specs.declared.names.Thread.{Thread}
-use Rattle.joint_model.specs.declared.names.Thread.TheVariants.{M, P, C}
+use Rattle.joint_model.specs.declared.names.Cycle.{Cycle}
 use Rattle.joint_model.specs.declared.names.Var.{Var}
 use Rattle.joint_model.specs.declared.names.Kind.{Kind}
 use Rattle.joint_model.specs.declared.names.Sort.{Sort}
 use Rattle.joint_model.specs.declared.names.PNum.{PNum}
 use Rattle.joint_model.specs.declared.names.HNum.{HNum}
-use Rattle.joint_model.specs.declared.names.Cycle.{Cycle}
+use Rattle.joint_model.specs.declared.names.StaticNo.{StaticNo}
+use Rattle.joint_model.specs.declared.lines.Act.{Act}
 use Rattle.joint_model.specs.declared.lines.Act.TheVariants as act
 use Rattle.joint_model.specs.declared.events.Op.{Op}
 use Rattle.joint_model.specs.declared.events.Op.TheVariants as op
 use Rattle.joint_model.specs.declared.events.Reply.{Reply}
 use Rattle.joint_model.specs.declared.events.Entry.{Entry}
-use Rattle.joint_model.specs.Heaps.{Answered, place, field_set, dropped}
+use Rattle.joint_model.specs.Heaps.{Answered}
 use Rattle.joint_model.specs.Histories.{Finished}
 use Rattle.joint_model.specs.Joint.{Joint, JointMarking, with_managed}
-use Rattle.joint_model.specs.Lines.{IsEvent, IsManagedThread}
+use Rattle.joint_model.specs.Lines.{IsEvent}
 use Rattle.joint_model.specs.Linked.{is_joint}
-use Rattle.joint_model.specs.Managed.{Managed, on_heap, adopted, place_or_none}
-use Rattle.joint_model.specs.Peers.{pair_made}
-use Rattle.joint_model.specs.Run.{JointEvent, JointComputed, JointAbandon, JointSnap, JointBegin, JointSweep, JointResolve, IsComputed, joint_answer, on_managed, on_peers, thread_number}
+use Rattle.joint_model.specs.Managed.{Managed}
+use Rattle.joint_model.specs.Run.{JointEvent, JointComputed, JointAbandon, JointSnap, JointBegin, JointSweep, JointResolve, IsComputed, joint_answer, joint_line}
 use Rattle.joint_model.specs.Told.{Told, nothing, snap_of, contraction_of, references_of, begin_of, slice_of, sweep_of, resolution_of, phase_of}
 use Rattle.joint_replay.specs.declared.state.Verdict.{Verdict}
 use Rattle.joint_replay.specs.declared.state.Verdict.TheVariants.{Lawful, Unlawful}
-use Rattle.joint_replay.specs.Judging.{Decides, Judges, MayStep, IsTold, Gives, IsCovered, IsCoveredEvent, named_objects, named_peers}
+use Rattle.joint_replay.specs.Judging.{Decides, Judges, MayStep, IsTold, Gives, named_objects, named_peers}
 use Rattle.joint_replay.specs.Snaps.{SnapsJoint}
 
 -- steps of another kind that are the same
@@ -61,55 +61,44 @@ given j t o reply a next e s = record { replies = s.replies ∙ ap (λ (x : Answ
 computed : (j : Joint) (t : Thread) (o : Op) (reply : Reply) (a : Answered Joint) (next : Joint) → IsComputed o → joint_answer j t o ≡ a → Gives a reply next → JointComputed j t o reply next
 computed j t o reply a next c e s = record { computed = c; replies = s.replies ∙ ap (λ (x : Answered Joint). x.reply) (sym e); state = s.state ∙ ap (λ (x : Answered Joint). x.state) (sym e) }
 
-set-answer : (j : Joint) (t : Thread) (v : Var) (i : ℕ) (w : Option Var) → IsManagedThread t → joint_answer j t (op.Line (act.Set v i w)) ≡ on_managed j (on_heap j.graph.managed (field_set j.graph.managed.heap (place (thread_number t) v.0) i (place_or_none (thread_number t) w)))
-set-answer j (M n) v i w m = refl
-set-answer j (P n) v i w m = absurd m
-set-answer j C v i w m = absurd m
+-- a verdict on the steps of a computed event
+judged-computed : (h : Finished) (e : Entry) (j : Joint) (o : Op) → IsComputed o → ((told : Told) (n : Joint) → JointEvent j e.made.caller o e.made.reply told n → JointComputed j e.made.caller o e.made.reply n)
+    → ((n : Joint) → JointComputed j e.made.caller o e.made.reply n → JointEvent j e.made.caller o e.made.reply nothing n)
+    → e.made.op ≡ o → IsEvent e.made.caller e.made.op → (d : Verdict) (new : Joint) → Decides (Gives (joint_answer j e.made.caller o) e.made.reply) d j new → Judges h e d j new
+judged-computed h e j o c from to same event = judged h e j o _ same event
+    (λ n s. given j e.made.caller o e.made.reply _ n refl (from s.told n s.step))
+    (λ n s. record { told = nothing; named = tt; step = to n (computed j e.made.caller o e.made.reply _ n c refl s) })
 
-drop-answer : (j : Joint) (t : Thread) (v : Var) → IsManagedThread t → joint_answer j t (op.Line (act.Drop v)) ≡ on_managed j (on_heap j.graph.managed (dropped j.graph.managed.heap (place (thread_number t) v.0)))
-drop-answer j (M n) v m = refl
-drop-answer j (P n) v m = absurd m
-drop-answer j C v m = absurd m
+-- a line of the joint machine is computed
+line-computed : (a : Act) → is_joint (op.Line a) ≡ true → IsComputed (op.Line a)
+line-computed (act.Slice n) e = cc
+line-computed _ e = tt
 
--- a covered line that a caller can make is a managed thread's
-thread-set : (t : Thread) (v : Var) (i : ℕ) (w : Option Var) → IsCoveredEvent t (op.Line (act.Set v i w)) ⊎ (true ≡ false) → IsEvent t (op.Line (act.Set v i w)) → IsManagedThread t
-thread-set (M n) v i w c e = e.0.0
-thread-set (P n) v i w c e = elim c [ inl x ↦ absurd x | inr f ↦ cc ]
-thread-set C v i w c e = absurd e.0
+pub judged-line : (h : Finished) (e : Entry) (j : Joint) (a : Act) → e.made.op ≡ op.Line a → IsEvent e.made.caller e.made.op → is_joint e.made.op ≡ true → (d : Verdict) (new : Joint)
+    → Decides (Gives (joint_line j e.made.caller a) e.made.reply) d j new → Judges h e d j new
+judged-line h e j a same event joint = judged-computed h e j (op.Line a) (line-computed a (subst (λ o. is_joint o ≡ true) same joint)) (λ told n s. s) (λ n s. s) same event
 
-thread-drop : (t : Thread) (v : Var) → IsCoveredEvent t (op.Line (act.Drop v)) ⊎ (true ≡ false) → IsEvent t (op.Line (act.Drop v)) → IsManagedThread t
-thread-drop (M n) v c e = e.0.0
-thread-drop (P n) v c e = elim c [ inl x ↦ absurd x | inr f ↦ cc ]
-thread-drop C v c e = absurd e.0
+-- an operation of a managed thread on the peers and handles
+abbrev pub IsOnHandles : Op → Type 0
+IsOnHandles o = ((sort : Sort) × (n : ℕ) × (o ≡ op.Make sort n)) ⊎ (((h : HNum) × (x : StaticNo) × (o ≡ op.Land h x)) ⊎ (((x : StaticNo) × (o ≡ op.Grip x)) ⊎ ((h : HNum) × (o ≡ op.Release h))))
 
-abbrev AreCovered : Thread → Op → Type 0
-AreCovered t o = IsCoveredEvent t o ⊎ (is_joint o ≡ false)
+pub judged-handles : (h : Finished) (e : Entry) (j : Joint) → IsOnHandles e.made.op → IsEvent e.made.caller e.made.op → (d : Verdict) (new : Joint)
+    → Decides (Gives (joint_answer j e.made.caller e.made.op) e.made.reply) d j new → Judges h e d j new
+judged-handles h e j (inl w) event d new x = judged-computed h e j (op.Make w.0 w.1) tt (λ told n s. s) (λ n s. s) w.2 event d new (subst (λ o. Decides (Gives (joint_answer j e.made.caller o) e.made.reply) d j new) w.2 x)
+judged-handles h e j (inr (inl w)) event d new x = judged-computed h e j (op.Land w.0 w.1) tt (λ told n s. s) (λ n s. s) w.2 event d new (subst (λ o. Decides (Gives (joint_answer j e.made.caller o) e.made.reply) d j new) w.2 x)
+judged-handles h e j (inr (inr (inl w))) event d new x = judged-computed h e j (op.Grip w.0) tt (λ told n s. s) (λ n s. s) w.1 event d new (subst (λ o. Decides (Gives (joint_answer j e.made.caller o) e.made.reply) d j new) w.1 x)
+judged-handles h e j (inr (inr (inr w))) event d new x = judged-computed h e j (op.Release w.0) tt (λ told n s. s) (λ n s. s) w.1 event d new (subst (λ o. Decides (Gives (joint_answer j e.made.caller o) e.made.reply) d j new) w.1 x)
 
-pub judged-set : (h : Finished) (e : Entry) (j : Joint) (v : Var) (i : ℕ) (w : Option Var) → e.made.op ≡ op.Line (act.Set v i w) → IsEvent e.made.caller e.made.op → IsCovered e → (d : Verdict) (new : Joint)
-    → Decides (Gives (on_managed j (on_heap j.graph.managed (field_set j.graph.managed.heap (place (thread_number e.made.caller) v.0) i (place_or_none (thread_number e.made.caller) w)))) e.made.reply) d j new → Judges h e d j new
-judged-set h e j v i w same event covered =
-    let o : Op = op.Line (act.Set v i w) in
-    let m : IsManagedThread e.made.caller = thread-set e.made.caller v i w (subst (AreCovered e.made.caller) same covered) (subst (IsEvent e.made.caller) same event) in
-    let a = set-answer j e.made.caller v i w m in
-    judged h e j o _ same event (λ n s. given j e.made.caller o e.made.reply _ n a s.step) (λ n s. record { told = nothing; named = tt; step = computed j e.made.caller o e.made.reply _ n tt a s })
+-- an operation of a managed thread on the objects
+abbrev pub IsOnObjects : Op → Type 0
+IsOnObjects o = ((v : Var) × (kind : Kind) × (n : ℕ) × (p : PNum) × (h : HNum) × (o ≡ op.Adopt v kind n p h)) ⊎ (((v : Var) × (x : StaticNo) × (o ≡ op.Lend v x)) ⊎ (((v : Var) × (p : PNum) × (h : HNum) × (sort : Sort) × (n : ℕ) × (o ≡ op.Meet v p h sort n)) ⊎ ((v : Var) × (o ≡ op.Give v))))
 
-pub judged-drop : (h : Finished) (e : Entry) (j : Joint) (v : Var) → e.made.op ≡ op.Line (act.Drop v) → IsEvent e.made.caller e.made.op → IsCovered e → (d : Verdict) (new : Joint)
-    → Decides (Gives (on_managed j (on_heap j.graph.managed (dropped j.graph.managed.heap (place (thread_number e.made.caller) v.0)))) e.made.reply) d j new → Judges h e d j new
-judged-drop h e j v same event covered =
-    let o : Op = op.Line (act.Drop v) in
-    let m : IsManagedThread e.made.caller = thread-drop e.made.caller v (subst (AreCovered e.made.caller) same covered) (subst (IsEvent e.made.caller) same event) in
-    let a = drop-answer j e.made.caller v m in
-    judged h e j o _ same event (λ n s. given j e.made.caller o e.made.reply _ n a s.step) (λ n s. record { told = nothing; named = tt; step = computed j e.made.caller o e.made.reply _ n tt a s })
-
-pub judged-make : (h : Finished) (e : Entry) (j : Joint) (sort : Sort) (k : ℕ) → e.made.op ≡ op.Make sort k → IsEvent e.made.caller e.made.op → (d : Verdict) (new : Joint)
-    → Decides (Gives (on_peers j (pair_made j.graph.peers sort k)) e.made.reply) d j new → Judges h e d j new
-judged-make h e j sort k same event = let o : Op = op.Make sort k in
-    judged h e j o _ same event (λ n s. given j e.made.caller o e.made.reply _ n refl s.step) (λ n s. record { told = nothing; named = tt; step = computed j e.made.caller o e.made.reply _ n tt refl s })
-
-pub judged-adopt : (h : Finished) (e : Entry) (j : Joint) (v : Var) (kind : Kind) (k : ℕ) (p : PNum) (x : HNum) → e.made.op ≡ op.Adopt v kind k p x → IsEvent e.made.caller e.made.op → (d : Verdict) (new : Joint)
-    → Decides (Gives (on_managed j (adopted j.graph.managed (place (thread_number e.made.caller) v.0) kind k x.0)) e.made.reply) d j new → Judges h e d j new
-judged-adopt h e j v kind k p x same event = let o : Op = op.Adopt v kind k p x in
-    judged h e j o _ same event (λ n s. given j e.made.caller o e.made.reply _ n refl s.step) (λ n s. record { told = nothing; named = tt; step = computed j e.made.caller o e.made.reply _ n tt refl s })
+pub judged-objects : (h : Finished) (e : Entry) (j : Joint) → IsOnObjects e.made.op → IsEvent e.made.caller e.made.op → (d : Verdict) (new : Joint)
+    → Decides (Gives (joint_answer j e.made.caller e.made.op) e.made.reply) d j new → Judges h e d j new
+judged-objects h e j (inl w) event d new x = judged-computed h e j (op.Adopt w.0 w.1 w.2 w.3 w.4) tt (λ told n s. s) (λ n s. s) w.5 event d new (subst (λ o. Decides (Gives (joint_answer j e.made.caller o) e.made.reply) d j new) w.5 x)
+judged-objects h e j (inr (inl w)) event d new x = judged-computed h e j (op.Lend w.0 w.1) tt (λ told n s. s) (λ n s. s) w.2 event d new (subst (λ o. Decides (Gives (joint_answer j e.made.caller o) e.made.reply) d j new) w.2 x)
+judged-objects h e j (inr (inr (inl w))) event d new x = judged-computed h e j (op.Meet w.0 w.1 w.2 w.3 w.4) tt (λ told n s. s) (λ n s. s) w.5 event d new (subst (λ o. Decides (Gives (joint_answer j e.made.caller o) e.made.reply) d j new) w.5 x)
+judged-objects h e j (inr (inr (inr w))) event d new x = judged-computed h e j (op.Give w.0) tt (λ told n s. s) (λ n s. s) w.1 event d new (subst (λ o. Decides (Gives (joint_answer j e.made.caller o) e.made.reply) d j new) w.1 x)
 
 pub judged-abandon : (h : Finished) (e : Entry) (j : Joint) (k : Cycle) → e.made.op ≡ op.Abandon k → IsEvent e.made.caller e.made.op → (d : Verdict) (new : Joint)
     → Decides (JointAbandon j k.0 e.made.reply) d j new → Judges h e d j new

@@ -2,12 +2,12 @@
 -- bridge objects that the program doesn't reach stay with all that they reach, until the other heap has spoken.)
 use Rattle.std.specs.Prelude.{ℕ, ◌⊎◌, List, Option}
 use Rattle.joint_model.specs.Heaps.{Heap, IsLive}
-use Rattle.joint_replay.specs.Found.{IsBridgeRow, IsSlotReached, IsHandleReached}
+use Rattle.joint_replay.specs.Found.{IsBridgeRow, IsRootReached, IsHandleReached}
 use Rattle.joint_replay.specs.Roots.{Lists}
 
 -- the lists of a snapshot, each of them rising and exact
-pub record Finds (h : Heap) (held : List (Option ℕ)) (freed candidates dead : List ℕ) : Type 0 where
-  pub frees : Lists (λ m. IsLive h m × (IsSlotReached h m → ⊥) × (IsHandleReached h held m → ⊥)) freed
-  pub picks : Lists (λ m. IsBridgeRow h held m × (IsSlotReached h m → ⊥)) candidates
-  pub leaves : Lists (λ m. IsLive h m × (IsSlotReached h m → ⊥) × IsHandleReached h held m) dead
+pub record Finds (h : Heap) (held pins : List (Option ℕ)) (freed candidates dead : List ℕ) : Type 0 where
+  pub frees : Lists (λ m. IsLive h m × (IsRootReached h pins m → ⊥) × (IsHandleReached h held m → ⊥)) freed
+  pub picks : Lists (λ m. IsBridgeRow h held m × (IsRootReached h pins m → ⊥)) candidates
+  pub leaves : Lists (λ m. IsLive h m × (IsRootReached h pins m → ⊥) × IsHandleReached h held m) dead
   pub decides : (m : ℕ) → IsLive h m → IsHandleReached h held m ⊎ (IsHandleReached h held m → ⊥)

@@ -2,8 +2,9 @@
 -- objects that the program doesn't reach stay with all that they reach, until the other heap's collector has said which
 -- of them live.)
 use Rattle.std.specs.Prelude.{◌≡◌, ℕ, Bool, true, false, List, Option, None, Some, is_some}
-use Rattle.joint_model.specs.Heaps.{Heap, IsLive, HasField, InSlot, numbered_at}
+use Rattle.joint_model.specs.Heaps.{Heap, IsLive, HasField, numbered_at}
 use Rattle.joint_model.specs.Walks.{Reached}
+use Rattle.joint_replay.specs.Roots.{IsRoot}
 use Rattle.joint_replay.specs.Unmarked.{marked}
 
 -- the handle at the row's place of a list of held handles
@@ -26,9 +27,9 @@ IsUnreachedRow h slots bridges stays m = IsLive h m × (marked slots m ≡ false
 abbrev pub IsCandidateRow : Heap → List (Option ℕ) → List Bool → ℕ → Type 0
 IsCandidateRow h held slots m = IsLive h m × (has_handle held m ≡ true) × (marked slots m ≡ false)
 
--- a slot reaches the row
-abbrev pub IsSlotReached : Heap → ℕ → Type 0
-IsSlotReached h m = Reached (InSlot h) (HasField h) m
+-- a variable, a static or a pin reaches the row
+abbrev pub IsRootReached : Heap → List (Option ℕ) → ℕ → Type 0
+IsRootReached h pins m = Reached (IsRoot h pins) (HasField h) m
 
 -- a row that holds a handle reaches the row
 abbrev pub IsHandleReached : Heap → List (Option ℕ) → ℕ → Type 0

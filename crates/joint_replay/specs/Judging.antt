@@ -1,10 +1,6 @@
 -- What it means to replay an entry of a history: whether it is a step of the joint machine from a state, with what is
 -- told beside it read from the history's own lists. (The joint machine is the one of the joint model.)
-use Rattle.std.specs.Prelude.{◌≡◌, ℕ, ◌⊎◌, false, List, [], Some, slice_get}
-use Rattle.joint_model.specs.declared.names.Thread.{Thread}
-use Rattle.joint_model.specs.declared.names.Thread.TheVariants.{M}
-use Rattle.joint_model.specs.declared.lines.Act.{Act}
-use Rattle.joint_model.specs.declared.lines.Act.TheVariants as act
+use Rattle.std.specs.Prelude.{◌≡◌, ℕ, ◌<◌, List, [], Some, slice_get}
 use Rattle.joint_model.specs.declared.events.Op.{Op}
 use Rattle.joint_model.specs.declared.events.Op.TheVariants as op
 use Rattle.joint_model.specs.declared.events.Reply.{Reply}
@@ -13,7 +9,7 @@ use Rattle.joint_model.specs.declared.events.Entry.{Entry}
 use Rattle.joint_model.specs.Heaps.{Answered}
 use Rattle.joint_model.specs.Histories.{Finished, managed_numbers, peer_numbers, stretch}
 use Rattle.joint_model.specs.Joint.{Joint}
-use Rattle.joint_model.specs.Linked.{is_joint}
+use Rattle.joint_model.specs.Lines.{IsVar}
 use Rattle.joint_model.specs.Run.{JointStep}
 use Rattle.joint_model.specs.Told.{Told, snap_of, sweep_of, resolution_of}
 use Rattle.joint_replay.specs.declared.state.Verdict.{Verdict}
@@ -58,27 +54,21 @@ pub record Gives {S : Type 0} (a : Answered S) (reply : Reply) (next : S) : Type
   pub replies : reply ≡ a.reply
   pub state : next ≡ a.state
 
--- the lines that can be judged yet: `set` and `drop`
-abbrev pub IsCoveredAct : Act → Type 0
-IsCoveredAct (act.Set v i w) = Unit {0}
-IsCoveredAct (act.Drop v) = Unit {0}
-IsCoveredAct _ = ⊥
+-- an event of a managed thread on the peers and handles
+abbrev pub IsHandleEvent : Op → Type 0
+IsHandleEvent (op.Make s n) = Unit {0}
+IsHandleEvent (op.Land h x) = x.0 < 16
+IsHandleEvent (op.Grip x) = x.0 < 16
+IsHandleEvent (op.Release h) = Unit {0}
+IsHandleEvent _ = ⊥
 
--- the events that can be judged yet
-abbrev pub IsCoveredEvent : Thread → Op → Type 0
-IsCoveredEvent (M n) (op.Line a) = IsCoveredAct a
-IsCoveredEvent t (op.Make s n) = Unit {0}
-IsCoveredEvent t (op.Adopt v k n p h) = Unit {0}
-IsCoveredEvent t (op.Snap k) = Unit {0}
-IsCoveredEvent t op.Begin = Unit {0}
-IsCoveredEvent t op.Sweep = Unit {0}
-IsCoveredEvent t (op.Resolve k) = Unit {0}
-IsCoveredEvent t (op.Abandon k) = Unit {0}
-IsCoveredEvent t _ = ⊥
-
--- the entry's event can be judged yet, or lies outside the joint machine
-abbrev pub IsCovered : Entry → Type 0
-IsCovered e = IsCoveredEvent e.made.caller e.made.op ⊎ (is_joint e.made.op ≡ false)
+-- an event of a managed thread on the objects
+abbrev pub IsObjectEvent : Op → Type 0
+IsObjectEvent (op.Adopt v k n p h) = IsVar v
+IsObjectEvent (op.Lend v x) = IsVar v
+IsObjectEvent (op.Meet v p h s n) = IsVar v
+IsObjectEvent (op.Give v) = IsVar v
+IsObjectEvent _ = ⊥
 
 -- the entry of a history with that number
 abbrev pub IsEntry : Finished → ℕ → Entry → Type 0

@@ -5,7 +5,12 @@ use Rattle.joint_model.specs.declared.events.Reply.TheVariants as says
 use Rattle.joint_model.specs.Heaps.{Heap, MOST, IsMade, is_freed, numbered_at}
 use Rattle.joint_model.specs.Cycles.{IsOpen}
 use Rattle.joint_model.specs.Managed.{Managed, OpenCycle}
-use Rattle.joint_model.specs.Peers.{Issued, held, strong}
+use Rattle.joint_model.specs.Peers.{Issued, Hold as JointHold, Strength as JointStrength, held, raw, strong, weak}
+use Rattle.joint_replay.specs.declared.peers.Handle.{Handle}
+use Rattle.joint_replay.specs.declared.peers.Hold.{Hold}
+use Rattle.joint_replay.specs.declared.peers.Hold.TheVariants.{Held, Raw}
+use Rattle.joint_replay.specs.declared.peers.Strength.{Strength}
+use Rattle.joint_replay.specs.declared.peers.Strength.TheVariants.{Strong, Weak}
 use Rattle.joint_replay.specs.declared.heap.Refusal.{Refusal}
 use Rattle.joint_replay.specs.declared.heap.Refusal.TheVariants.{Empty, Range}
 
@@ -32,9 +37,19 @@ kept_target h (Some y) = if is_live h y then Some y else None
 abbrev pub cleaned : Heap → Heap
 cleaned h = record h { fields = map (map (kept_target h)) h.fields }
 
--- a held strong handle on the peer
-abbrev pub held_on : ℕ → Issued
-held_on p = record { peer = p; hold = held; strength = strong }
+-- who a handle was made for, in the model's words
+abbrev pub hold_as : Hold → JointHold
+hold_as Held = held
+hold_as Raw = raw
+
+-- whether a handle was made strong, in the model's words
+abbrev pub strength_as : Strength → JointStrength
+strength_as Strong = strong
+strength_as Weak = weak
+
+-- a handle as it was issued
+abbrev pub issued_as : Handle → Issued
+issued_as h = record { peer = h.peer; hold = hold_as h.hold; strength = strength_as h.strength }
 
 -- the reply of a refusal
 abbrev pub refusal_reply : Refusal → Reply

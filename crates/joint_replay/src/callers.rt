@@ -1,29 +1,23 @@
 // Which events a caller can make.
 
-ghost use Rattle.std.specs.Prelude.{◌≡◌, ◌↔◌, ◌<◌, ◌⊎◌, IsTrue, true, false};
+ghost use Rattle.std.specs.Prelude.{◌≡◌, ◌↔◌, ◌<◌, IsTrue, true, false};
 ghost use Rattle.std.specs.Option.{ForSome};
 ghost use Rattle.joint_model.specs.Heaps.{place};
-ghost use Rattle.joint_model.specs.Lines.{IsEvent, IsManagedThread, IsPeerThread, IsVar, IsVarOrNone, IsBridgeObject};
+ghost use Rattle.joint_model.specs.Lines.{IsEvent, IsLine, IsOneEvent, IsManagedAct, IsPeerAct, IsDriverAct, IsManagedThread, IsPeerThread, IsThread, IsVar, IsVarOrNone, IsPlainObject, IsBridgeObject};
 ghost use Rattle.joint_model.specs.Linked.{is_joint};
 ghost use Rattle.joint_model.specs.Managed.{place_or_none};
 ghost use Rattle.joint_model.specs.Run.{thread_number};
+ghost use Rattle.joint_model.specs.declared.events.Op.TheVariants.{Line};
 ghost use Rattle.joint_model.specs.declared.names.Sort.{Sort};
-ghost use Rattle.joint_replay.specs.Judging.{IsCoveredEvent};
 
-use joint_model::{Act, Kind, Op, Thread, Var};
+use joint_model::{Act, Cell, GName, Kind, Op, StaticNo, Thread, Var};
 
 /// Whether the caller can make the event, and the event is one of the joint machine.
 pub(crate) fn can_make(caller: Thread, op: &Op) -> bool
-    requires { IsCoveredEvent caller op.now ⊎ (is_joint op.now ≡ false) }
     ensures { IsTrue result ↔ (IsEvent caller op.now × (is_joint op.now ≡ true)) }
 {
     match op {
-        Op::Line(Act::Set { v, i, w }) => {
-            // an index is a byte, so it is within its limit
-            let _index = *i;
-            is_managed(caller) && is_var(*v) && is_var_or_none(*w)
-        }
-        Op::Line(Act::Drop { v }) => is_managed(caller) && is_var(*v),
+        Op::Line(act) => is_line(caller, act),
         Op::Make { sort: _, fields } => is_managed(caller) && *fields <= 16,
         Op::Adopt {
             v,
@@ -32,6 +26,18 @@ pub(crate) fn can_make(caller: Thread, op: &Op) -> bool
             p: _,
             h: _,
         } => { is_managed(caller) && is_var(*v) && is_bridge_object(*kind, *fields) }
+        Op::Lend { v, x } => is_managed(caller) && is_var(*v) && is_static(*x),
+        Op::Land { h: _, x } => is_managed(caller) && is_static(*x),
+        Op::Grip { x } => is_managed(caller) && is_static(*x),
+        Op::Meet {
+            v,
+            p: _,
+            h: _,
+            sort: _,
+            fields,
+        } => { is_managed(caller) && is_var(*v) && *fields <= 16 }
+        Op::Give { v } => is_managed(caller) && is_var(*v),
+        Op::Release { h: _ } => is_managed(caller),
         Op::Snap { cycle: _ } => matches!(caller, Thread::C),
         Op::Begin => is_peer(caller) || matches!(caller, Thread::C),
         Op::Sweep => is_peer(caller) || matches!(caller, Thread::C),
@@ -41,17 +47,78 @@ pub(crate) fn can_make(caller: Thread, op: &Op) -> bool
     }
 }
 
-/// Whether the event of the caller can be judged yet, or is outside the joint machine.
-pub(crate) fn covers_event(caller: Thread, op: &Op) -> bool
-    ensures { IsTrue result ↔ (IsCoveredEvent caller op.now ⊎ (is_joint op.now ≡ false)) }
+// Whether the caller can have a line that is one event of that operation, and the event is one of the joint machine.
+fn is_line(caller: Thread, act: &Act) -> bool
+    ensures { IsTrue result ↔ ((IsLine caller act.now × IsOneEvent act.now) × (is_joint (Line act.now) ≡ true)) }
 {
-    match op {
-        Op::Line(Act::Set { .. } | Act::Drop { .. }) => matches!(caller, Thread::M(_)),
-        Op::Line(Act::Slice { .. }) => true,
-        Op::Line(_) => false,
-        Op::Lend { .. } | Op::Land { .. } | Op::Grip { .. } => false,
-        Op::Meet { .. } | Op::Give { .. } | Op::Release { .. } => false,
-        _ => true,
+    match caller {
+        Thread::M(_) => is_managed(caller) && is_managed_act(act),
+        Thread::P(_) => is_peer(caller) && is_peer_act(act),
+        Thread::C => is_driver_act(act),
+    }
+}
+
+// Whether a managed thread can have the operation, as one event.
+fn is_managed_act(act: &Act) -> bool
+    ensures { IsTrue result ↔ ((IsManagedAct act.now × IsOneEvent act.now) × (is_joint (Line act.now) ≡ true)) }
+{
+    match act {
+        Act::New { v, kind, fields } => is_var(*v) && is_plain_object(*kind, *fields),
+        Act::Copy { v, w } => is_var(*v) && is_var(*w),
+        Act::Set { v, i, w } => {
+            // an index is a byte, so it is within its limit
+            let _index = *i;
+            is_var(*v) && is_var_or_none(*w)
+        }
+        Act::Get { v, w, i } => {
+            let _index = *i;
+            is_var(*v) && is_var(*w)
+        }
+        Act::Drop { v } => is_var(*v),
+        Act::Load { v, x } => is_var(*v) && is_static(*x),
+        Act::Store { x, v } => is_static(*x) && is_var_or_none(*v),
+        Act::Weak { k, v } => is_cell(*k) && is_var(*v),
+        Act::Read { k } => is_cell(*k),
+        Act::Await { k } => is_cell(*k),
+        Act::Take { v } => is_var(*v),
+        Act::Handle { v } => is_var(*v),
+        _ => false,
+    }
+}
+
+// Whether a peer thread can have the operation, as one event of the joint machine.
+fn is_peer_act(act: &Act) -> bool
+    ensures { IsTrue result ↔ ((IsPeerAct act.now × IsOneEvent act.now) × (is_joint (Line act.now) ≡ true)) }
+{
+    match act {
+        Act::NewPeer { v, fields } => is_var(*v) && *fields <= 16,
+        Act::Copy { v, w } => is_var(*v) && is_var(*w),
+        Act::Set { v, i, w } => {
+            let _index = *i;
+            is_var(*v) && is_var_or_none(*w)
+        }
+        Act::Get { v, w, i } => {
+            let _index = *i;
+            is_var(*v) && is_var(*w)
+        }
+        Act::Drop { v } => is_var(*v),
+        Act::Load { v, x } => is_var(*v) && is_static(*x),
+        Act::Store { x, v } => is_static(*x) && is_var_or_none(*v),
+        Act::Global { g, v } => is_name(*g) && is_var(*v),
+        Act::WGlobal { g, v } => is_name(*g) && is_var(*v),
+        Act::UnGlobal { g } => is_name(*g),
+        Act::WRead { v, g } => is_var(*v) && is_name(*g),
+        _ => false,
+    }
+}
+
+// Whether the driver can have the operation, as one event.
+fn is_driver_act(act: &Act) -> bool
+    ensures { IsTrue result ↔ ((IsDriverAct act.now × IsOneEvent act.now) × (is_joint (Line act.now) ≡ true)) }
+{
+    match act {
+        Act::Finalise { n } => 1 <= *n && *n <= 65_535,
+        _ => false,
     }
 }
 
@@ -90,6 +157,36 @@ fn is_var_or_none(w: Option<Var>) -> bool
     }
 }
 
+fn is_static(x: StaticNo) -> bool
+    ensures { IsTrue result ↔ (x.0 < 16) }
+{
+    x.0 < 16
+}
+
+fn is_cell(k: Cell) -> bool
+    ensures { IsTrue result ↔ (k.0 < 64) }
+{
+    k.0 < 64
+}
+
+fn is_name(g: GName) -> bool
+    ensures { IsTrue result ↔ (g.0 < 64) }
+{
+    g.0 < 64
+}
+
+// Whether there are objects without a peer of that kind with so many fields.
+fn is_plain_object(kind: Kind, fields: u8) -> bool
+    ensures { IsTrue result ↔ IsPlainObject kind fields }
+{
+    match kind {
+        Kind::Plain => fields <= 16,
+        Kind::Leaf => fields == 0,
+        Kind::Bridge => false,
+        Kind::LeafBridge => false,
+    }
+}
+
 // Whether there are bridge objects of that kind with so many fields.
 fn is_bridge_object(kind: Kind, fields: u8) -> bool
     ensures { IsTrue result ↔ ((s : Sort) × IsBridgeObject kind fields s) }
@@ -102,22 +199,32 @@ fn is_bridge_object(kind: Kind, fields: u8) -> bool
     }
 }
 
-/// The place of a managed thread's variable.
+/// The number of a managed or a peer thread; 0 for the driver's.
+pub(crate) fn number(caller: Thread) -> u8
+    requires { IsThread caller }
+    ensures number { result ≡ thread_number caller }
+    ensures within { result < 9 }
+{
+    match caller {
+        Thread::M(n) => n,
+        Thread::P(n) => n,
+        Thread::C => 0,
+    }
+}
+
+/// The place of a thread's variable.
 pub(crate) fn place_of(caller: Thread, v: Var) -> usize
-    requires thread { IsManagedThread caller }
+    requires thread { IsThread caller }
     requires var { IsVar v }
     ensures place { result ≡ place (thread_number caller) v.0 }
     ensures within { result < 72 }
 {
-    match caller {
-        Thread::M(n) => 8 * n as usize + v.0 as usize,
-        _ => unreachable!(),
-    }
+    8 * number(caller) as usize + v.0 as usize
 }
 
-/// The place of a managed thread's variable, or none.
+/// The place of a thread's variable, or none.
 pub(crate) fn place_or_none(caller: Thread, w: Option<Var>) -> Option<usize>
-    requires thread { IsManagedThread caller }
+    requires thread { IsThread caller }
     requires var { IsVarOrNone w }
     ensures place { result ≡ place_or_none (thread_number caller) w }
     ensures within { ForSome result (λ place. place < 72) }

@@ -8,11 +8,12 @@ ghost use Rattle.joint_model.specs.Managed.{Holds};
 ghost use Rattle.reachability.specs.Marks.{IsMarked};
 ghost use Rattle.joint_marking.specs.Gathered.{Gains};
 ghost use Rattle.joint_marking.specs.Owned.{IsOwned};
-ghost use Rattle.joint_replay.specs.Graphs.{parts_graph, IsLoose, IsLooseIn};
+ghost use Rattle.joint_replay.specs.Plain.{issued_as};
+ghost use Rattle.joint_replay.specs.Graphs.{parts_graph, IsRooted, IsRootedIn, IsRootHandle};
 
 use crate::both::Both;
 use crate::managed::ManagedPart;
-use crate::peers::PeerPart;
+use crate::peers::{Handle, Hold, PeerPart, Strength};
 use crate::roots::named_roots;
 use joint_marking::unreached_peers;
 use joint_model::PNum;
@@ -31,7 +32,7 @@ pub(crate) fn dead_peers(
     let objects = managed.roots(alloc)?;
     let owned = owned_handles(alloc, managed, peers.handles())?;
     let mut roots = named_roots(alloc, peers.heap())?;
-    push_loose(peers, removed, &owned, &mut roots)?;
+    push_rooted(peers, removed, &owned, &mut roots)?;
     let roots = as_peers(alloc, &roots)?;
     let both = Both {
         managed,
@@ -86,41 +87,52 @@ fn mark_held(managed: &ManagedPart, m: u32, owned: &mut [bool])
     }
 }
 
-// Puts the live peers of the handles that aren't removed and that no live object holds.
-fn push_loose(
+// Puts the live peers of the handles that aren't removed and are roots by themselves.
+fn push_rooted(
     peers: &PeerPart,
     removed: &[bool],
     owned: &[bool],
     roots: &mut Vec<u32>,
 ) -> Result<(), AllocError>
     requires { length owned.now ≡ length peers.now.issued + 1 }
-    ensures { OnOk result (Gains (IsLooseIn peers.now removed.now owned.now) roots.old.items roots.new.items) }
+    ensures { OnOk result (Gains (IsRootedIn peers.now removed.now owned.now) roots.old.items roots.new.items) }
 {
     for h in 1..peers.handles() + 1 {
-        if let Some(p) = loose_peer(peers, removed, owned, h) {
+        if let Some(p) = rooted_peer(peers, removed, owned, h) {
             roots.push(p)?;
         }
     }
     Ok(())
 }
 
-// The live peer of a handle that isn't removed and that no live object holds.
-fn loose_peer(peers: &PeerPart, removed: &[bool], owned: &[bool], h: u32) -> Option<u32>
+// The live peer of a handle that isn't removed and is a root by itself.
+fn rooted_peer(peers: &PeerPart, removed: &[bool], owned: &[bool], h: u32) -> Option<u32>
     requires marks { h < length owned.now }
-    ensures { (p : ℕ) → (result ≡ Some p) ↔ IsLoose peers.now removed.now owned.now h p }
+    ensures { (p : ℕ) → (result ≡ Some p) ↔ IsRooted peers.now removed.now owned.now h p }
 {
-    if owned[h as usize] || !is_kept(removed, h) {
+    if !is_kept(removed, h) {
         return None;
     }
-    match peers.peer_of(h) {
+    match peers.handle(h) {
         None => None,
-        Some(p) => {
-            if peers.heap().is_live(p) {
-                Some(p)
+        Some(row) => {
+            if is_root(row, owned, h) && peers.heap().is_live(row.peer) {
+                Some(row.peer)
             } else {
                 None
             }
         }
+    }
+}
+
+// Whether handle `h`, which was issued so, is a root by itself: a raw strong one, or a held one that no live object holds.
+fn is_root(row: Handle, owned: &[bool], h: u32) -> bool
+    requires { h < length owned.now }
+    ensures { IsTrue result ↔ IsRootHandle owned.now h (issued_as row) }
+{
+    match row.hold {
+        Hold::Raw => matches!(row.strength, Strength::Strong),
+        Hold::Held => !owned[h as usize],
     }
 }
 

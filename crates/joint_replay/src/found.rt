@@ -8,7 +8,7 @@ ghost use Rattle.joint_replay.specs.Roots.{Lists};
 ghost use Rattle.joint_replay.specs.Finding.{Finds};
 
 use crate::heap::PlainHeap;
-use crate::roots::{bridge_rows, handle_at, named_roots};
+use crate::roots::{bridge_rows, handle_at, pinned_roots};
 use reachability::reached;
 use std::alloc::{AllocError, Global};
 
@@ -20,17 +20,18 @@ pub(crate) struct Found {
     pub(crate) candidates: Vec<u32>,
 }
 
-/// Finds the rows that neither a slot nor a row with a handle reaches, which go; the rows that no slot but such a row
-/// reaches, which are the dead part; and the rows with a handle that no slot reaches. Answers `AllocError` where there
-/// is no memory.
+/// Finds the rows that neither a root nor a row with a handle reaches, which go; the rows that no root but such a row
+/// reaches, which are the dead part; and the rows with a handle that no root reaches. The variables, the statics and
+/// the pins name the roots. Answers `AllocError` where there is no memory.
 pub(crate) fn find(
     alloc: Global,
     heap: &PlainHeap,
     held: &[Option<u32>],
+    pins: &[Option<u32>],
 ) -> Result<Found, AllocError>
-    ensures { IfOk result (λ f. Finds heap.now held.now f.freed.items f.candidates.items f.dead.items) }
+    ensures { IfOk result (λ f. Finds heap.now held.now pins.now f.freed.items f.candidates.items f.dead.items) }
 {
-    let roots = named_roots(alloc, heap)?;
+    let roots = pinned_roots(alloc, heap, pins)?;
     let slots = reached(alloc, heap, &roots)?;
     let bridge_roots = bridge_rows(alloc, heap, held)?;
     let bridges = reached(alloc, heap, &bridge_roots)?;

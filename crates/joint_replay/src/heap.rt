@@ -2,7 +2,7 @@
 
 ghost use Rattle.std.specs.Prelude.{◌≡◌, ℕ, ◌+◌, ◌<◌, ◌≤◌, ◌↔◌, ◌++◌, List, Contains, All, Some, None, IsTrue, IfOk, OnOk, OnErr, MatchResult, IfSome, length, take, vec_capacity};
 ghost use Rattle.std.specs.Option.{ForSome};
-ghost use Rattle.joint_model.specs.Heaps.{Heap, MOST, IsMade, IsLive, is_freed, answer, slot, fields_of, is_full, opening_heap, with_object, with_var, with_field, with_freed, field_set};
+ghost use Rattle.joint_model.specs.Heaps.{Heap, MOST, IsMade, IsLive, is_freed, answer, slot, fields_of, is_full, opening_heap, with_object, with_var, with_static, with_field, with_freed, field_set};
 ghost use Rattle.object_heap.specs.Tidy.{live_fields};
 ghost use Rattle.joint_replay.specs.Plain.{refusal_reply, is_live, kept_target, cleaned, Lowers};
 
@@ -19,6 +19,18 @@ const MOST_OBJECTS: usize = 65_535;
 pub(crate) enum Refusal {
     Empty,
     Range,
+}
+
+impl Refusal {
+    /// Whether the reply is that of the refusal.
+    pub(crate) fn is_said(self, reply: &Reply) -> bool
+        ensures { IsTrue result ↔ (reply.now ≡ refusal_reply self) }
+    {
+        match self {
+            Refusal::Empty => matches!(reply, Reply::Empty),
+            Refusal::Range => matches!(reply, Reply::Range),
+        }
+    }
 }
 
 /// A field of an object, and what it is to hold.
@@ -236,6 +248,22 @@ impl PlainHeap {
         ensures { self.new ≡ with_var self.old place x }
     {
         self.vars[place] = x;
+    }
+
+    /// What a static holds.
+    pub(crate) fn static_at(&self, x: usize) -> Option<u32>
+        requires { x < 16 }
+        ensures { slot self.now.statics x ≡ result }
+    {
+        self.statics[x]
+    }
+
+    /// The static holds object `y`, or nothing.
+    pub(crate) fn set_static(&mut self, x: usize, y: Option<u32>)
+        requires { x < 16 }
+        ensures { self.new ≡ with_static self.old x y }
+    {
+        self.statics[x] = y;
     }
 
     /// What `set V I W` is to write, by the places of its variables, or why it writes nothing.

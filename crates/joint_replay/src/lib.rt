@@ -8,21 +8,35 @@
 // An open marking keeps a mark for each peer that was live and unreached at its begin. What its sweep frees must have
 // such a mark, and be unreached still; the state makes a second marking for that.
 //
+// Every event is judged. What a cycle does between its snapshot and its end is no step of this machine, but for the
+// marking: the contraction, the references between peers, the weakening and restoring of handles, what clears a cycle,
+// a refused phase, and a slice of a marking. An entry of such an event is unlawful, as is one that its caller can't make.
+//
 // Nothing is asked of a history: an `adopt` may name any handle, and a sweep may free a peer that a live one still has
 // in a field. So the heaps are plain lists, and an edge has two live ends.
 #![tactic(auto)]
 
 mod both;
 mod callers;
+mod cycles;
 mod dead;
 mod found;
+mod handles;
 mod heap;
+mod lines;
 mod managed;
 mod marking;
 mod named;
+mod objects;
+mod open_cycle;
+mod operations;
 mod peers;
+mod pins;
+mod removed;
 mod roots;
 mod state;
+mod sweeps;
+mod twins;
 
 pub use state::{JointState, Verdict};
 

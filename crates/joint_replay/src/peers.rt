@@ -1,37 +1,67 @@
-// The peers of the joint state, with the handles as they were issued.
+// The peers of the joint state, with the global names and the handles as they were issued.
 
-ghost use Rattle.std.specs.Prelude.{◌≡◌, ℕ, ◌+◌, ◌<◌, ◌≤◌, ◌↔◌, ◌||◌, IsTrue, OnErr, OnOk, All, length, false};
-ghost use Rattle.joint_model.specs.Heaps.{MOST, IsMade, is_full, next_number, with_freed};
-ghost use Rattle.joint_model.specs.Peers.{opening_peers, handles_full, pair_made, with_handle, with_peer, held, strong, next_handle, peer_of};
+ghost use Rattle.std.specs.Prelude.{◌≡◌, ◌<◌, ◌≤◌, ◌↔◌, ◌||◌, IsTrue, IfOk, OnErr, OnOk, All, length, slice_set, false};
+ghost use Rattle.std.specs.Option.{option_map};
+ghost use Rattle.joint_model.specs.Heaps.{MOST, IsMade, is_full, next_number, numbered_at, slot, with_static, fields_of, with_freed};
+ghost use Rattle.joint_model.specs.Lines.{IsPeerThread};
+ghost use Rattle.joint_model.specs.Peers.{opening_peers, handles_full, with_handle, with_peer, held, strong, next_handle, peer_of, sort_of, on_peer_heap, peer_made, peer_name, peer_read, handle_name, landed};
+ghost use Rattle.joint_model.specs.Run.{thread_number};
+ghost use Rattle.joint_replay.specs.Judging.{Decides, Gives};
+ghost use Rattle.joint_replay.specs.Operations.{IsPlainAct, plain_line};
+ghost use Rattle.joint_replay.specs.Plain.{hold_as, strength_as, issued_as};
 
 use crate::heap::PlainHeap;
-use joint_model::{Reply, Sort};
+use crate::operations::Naming;
+use crate::state::Verdict;
+use joint_model::{Act, Reply, Sort, Thread};
 use std::alloc::{AllocError, Global};
 use std::marker::Model;
 
 /// The most handles that are issued.
 const MOST_HANDLES: usize = 65_535;
 
-/// The peers with their sorts, and for each handle that was issued its peer. Each is held and strong, since no peer
-/// thread makes one yet.
+/// Who a handle was made for: a managed object holds it, or a peer thread has it by a global name.
+#[derive(Clone, Copy, PartialEq, Eq, Debug)]
+pub(crate) enum Hold {
+    Held,
+    Raw,
+}
+
+/// Whether a handle was made as one that keeps its peer alive.
+#[derive(Clone, Copy, PartialEq, Eq, Debug)]
+pub(crate) enum Strength {
+    Strong,
+    Weak,
+}
+
+/// A handle as it was issued.
+#[derive(Clone, Copy)]
+pub(crate) struct Handle {
+    pub(crate) peer: u32,
+    pub(crate) hold: Hold,
+    pub(crate) strength: Strength,
+}
+
+/// The peers with their sorts, the handle that each global name has, and the handles.
 #[derive(Drop)]
 pub(crate) struct PeerPart {
     heap: PlainHeap,
     sorts: Vec<Sort>,
-    handles: Vec<u32>,
+    names: [Option<u32>; 64],
+    handles: Vec<Handle>,
 }
 
 impl Model for PeerPart {
-    ghost use Rattle.std.specs.Prelude.{◌≤◌, replicate, map, length, None};
+    ghost use Rattle.std.specs.Prelude.{◌≡◌, ◌≤◌, map, length};
     ghost use Rattle.joint_model.specs.Heaps.{MOST};
     ghost use Rattle.joint_model.specs.Peers.{Peers};
-    ghost use Rattle.joint_replay.specs.Plain.{held_on};
+    ghost use Rattle.joint_replay.specs.Plain.{issued_as};
 
     ghost Value = { Peers };
 
-    ghost view = { λ s. record { heap = s.heap; sorts = s.sorts.items; names = replicate 64 None; issued = map held_on s.handles.items } };
+    ghost view = { λ s. record { heap = s.heap; sorts = s.sorts.items; names = s.names; issued = map issued_as s.handles.items } };
 
-    ghost invariant = { λ s. length s.handles.items ≤ MOST };
+    ghost invariant = { λ s. (length s.handles.items ≤ MOST) × (length s.names ≡ 64) };
 }
 
 impl PeerPart {
@@ -42,6 +72,7 @@ impl PeerPart {
         PeerPart {
             heap: PlainHeap::new(alloc),
             sorts: Vec::new(alloc),
+            names: [None; 64],
             handles: Vec::new(alloc),
         }
     }
@@ -53,11 +84,10 @@ impl PeerPart {
         &self.heap
     }
 
-    /// How many handles were issued: the number of the last one. Each is held.
+    /// How many handles were issued: the number of the last one.
     pub(crate) fn handles(&self) -> u32
         ensures issued { result ≡ length self.now.issued }
         ensures most { result ≤ MOST }
-        ensures held { All (λ i. i.hold ≡ held) self.now.issued }
     {
         self.handles.len() as u32
     }
@@ -71,14 +101,185 @@ impl PeerPart {
         self.heap.free(freed)
     }
 
-    /// The peer of handle `h`; None where none was issued with that number.
-    pub(crate) fn peer_of(&self, h: u32) -> Option<u32>
-        ensures { result ≡ peer_of self.now.issued h }
+    /// Handle `h` as it was issued; None where none was issued with that number.
+    pub(crate) fn handle(&self, h: u32) -> Option<Handle>
+        ensures { numbered_at self.now.issued h ≡ option_map issued_as result }
     {
         if h == 0 || h as usize > self.handles.len() {
             return None;
         }
         Some(self.handles[h as usize - 1])
+    }
+
+    /// The peer of handle `h`; None where none was issued with that number.
+    pub(crate) fn peer_of(&self, h: u32) -> Option<u32>
+        ensures { result ≡ peer_of self.now.issued h }
+    {
+        match self.handle(h) {
+            None => None,
+            Some(row) => Some(row.peer),
+        }
+    }
+
+    /// The handle that global name `g` has.
+    pub(crate) fn name(&self, g: usize) -> Option<u32>
+        requires { g < 64 }
+        ensures { slot self.now.names g ≡ result }
+    {
+        self.names[g]
+    }
+
+    /// Global name `g` has a handle, or none.
+    pub(crate) fn set_name(&mut self, g: usize, h: Option<u32>)
+        requires { g < 64 }
+        ensures { self.new ≡ record self.old { names = slice_set self.old.names g h } }
+    {
+        self.names[g] = h;
+    }
+
+    /// The sort of a peer; `Framework` where there is no such peer.
+    pub(crate) fn sort(&self, p: u32) -> Sort
+        ensures { result ≡ sort_of self.now p }
+    {
+        if p == 0 || p as usize > self.sorts.len() {
+            return Sort::Framework;
+        }
+        self.sorts[p as usize - 1]
+    }
+
+    /// Whether all handles are given out.
+    pub(crate) fn are_handles_full(&self) -> bool
+        ensures { result ≡ handles_full self.now }
+    {
+        self.handles.len() >= MOST_HANDLES
+    }
+
+    /// Whether the number is the next handle's.
+    pub(crate) fn is_next_handle(&self, h: u32) -> bool
+        ensures { IsTrue result ↔ (h ≡ next_handle self.now) }
+    {
+        h as usize == self.handles.len() + 1
+    }
+
+    /// Whether the reply names peer `p`, the next handle, and the peer's sort and number of fields.
+    pub(crate) fn names_gripped(&self, p: u32, reply: &Reply) -> bool
+        ensures { IsTrue result ↔ (reply.now ≡ Reply.Gripped record { 0 = p } record { 0 = next_handle self.now } (sort_of self.now p) (length (fields_of self.now.heap p))) }
+    {
+        match reply {
+            Reply::Gripped(peer, h, sort, fields) => {
+                peer.0 == p
+                    && self.is_next_handle(h.0)
+                    && *sort == self.sort(p)
+                    && *fields as usize == self.heap.fields_len(p)
+            }
+            _ => false,
+        }
+    }
+
+    /// Whether the reply names the next handle.
+    pub(crate) fn names_handle(&self, reply: &Reply) -> bool
+        ensures { IsTrue result ↔ (reply.now ≡ handle_name (next_handle self.now)) }
+    {
+        match reply {
+            Reply::H(h) => self.is_next_handle(h.0),
+            _ => false,
+        }
+    }
+
+    /// A further handle on a peer. Answers `AllocError` where there is no memory; the part is then as before.
+    pub(crate) fn add_handle(
+        &mut self,
+        peer: u32,
+        hold: Hold,
+        strength: Strength,
+    ) -> Result<(), AllocError>
+        requires { handles_full self.old ≡ false }
+        ensures ok { OnOk result (self.new ≡ with_handle self.old peer (hold_as hold) (strength_as strength)) }
+        ensures err { OnErr result (self.new ≡ self.old) }
+    {
+        self.handles.push(Handle {
+            peer,
+            hold,
+            strength,
+        })?;
+        Ok(())
+    }
+
+    /// An operation of a peer thread that both heaps have.
+    pub(crate) fn plain(&mut self, caller: Thread, act: &Act, reply: &Reply) -> Verdict
+        requires thread { IsPeerThread caller }
+        requires act { IsPlainAct act.now }
+        ensures verdict { Decides (Gives (on_peer_heap self.old (plain_line peer_name self.old.heap (thread_number caller) act.now)) reply.now) result self.old self.new }
+        ensures issued { self.new.issued ≡ self.old.issued }
+        ensures freed { self.new.heap.freed ≡ self.old.heap.freed }
+        ensures made { length self.new.heap.fields ≡ length self.old.heap.fields }
+    {
+        self.heap.line(Naming::Peers, caller, act, reply)
+    }
+
+    /// `new` of a peer thread: a further framework peer that the variable at place `v` names. Answers `AllocError`
+    /// where there is no memory; the part is then as before.
+    pub(crate) fn make(
+        &mut self,
+        v: usize,
+        fields: u8,
+        reply: &Reply,
+    ) -> Result<Verdict, AllocError>
+        requires { v < 72 }
+        ensures ok { IfOk result (λ d. Decides (Gives (peer_made self.old v fields) reply.now) d self.old self.new) }
+        ensures err { OnErr result (self.new ≡ self.old) }
+        ensures issued { self.new.issued ≡ self.old.issued }
+        ensures freed { self.new.heap.freed ≡ self.old.heap.freed }
+        ensures made { length self.old.heap.fields ≤ length self.new.heap.fields }
+    {
+        if self.heap.is_full() {
+            return Ok(Verdict::of(matches!(reply, Reply::Full)));
+        }
+        let p = self.heap.made() + 1;
+        if !Naming::Peers.names(p, reply) {
+            return Ok(Verdict::Unlawful);
+        }
+        self.sorts.reserve(1)?;
+        self.heap.add_object(fields)?;
+        self.sorts.push_reserved(Sort::Framework);
+        self.heap.set_var(v, Some(p));
+        Ok(Verdict::Lawful)
+    }
+
+    /// `wread`: the variable at place `v` names the peer to which a handle leads.
+    pub(crate) fn read(&mut self, v: usize, target: Option<u32>, reply: &Reply) -> Verdict
+        requires { v < 72 }
+        ensures verdict { Decides (Gives (peer_read self.old v target) reply.now) result self.old self.new }
+        ensures issued { self.new.issued ≡ self.old.issued }
+        ensures freed { self.new.heap.freed ≡ self.old.heap.freed }
+        ensures made { length self.new.heap.fields ≡ length self.old.heap.fields }
+    {
+        let Some(p) = target else {
+            return Verdict::of(matches!(reply, Reply::Gone));
+        };
+        if !Naming::Peers.names(p, reply) {
+            return Verdict::Unlawful;
+        }
+        self.heap.set_var(v, Some(p));
+        Verdict::Lawful
+    }
+
+    /// `land`: the static holds the peer to which a handle leads.
+    pub(crate) fn land(&mut self, x: usize, target: Option<u32>, reply: &Reply) -> Verdict
+        requires { x < 16 }
+        ensures verdict { Decides (Gives (landed self.old x target) reply.now) result self.old self.new }
+        ensures issued { self.new.issued ≡ self.old.issued }
+        ensures freed { self.new.heap.freed ≡ self.old.heap.freed }
+        ensures made { length self.new.heap.fields ≡ length self.old.heap.fields }
+    {
+        let Some(p) = target else {
+            return Verdict::of(matches!(reply, Reply::Gone));
+        };
+        if !Naming::Peers.names(p, reply) {
+            return Verdict::Unlawful;
+        }
+        self.heap.set_static(x, Some(p));
+        Verdict::Lawful
     }
 
     /// Whether no further peer or no further handle can be made.
@@ -112,7 +313,11 @@ impl PeerPart {
         self.handles.reserve(1)?;
         self.heap.add_object(fields)?;
         self.sorts.push_reserved(sort);
-        self.handles.push_reserved(p);
+        self.handles.push_reserved(Handle {
+            peer: p,
+            hold: Hold::Held,
+            strength: Strength::Strong,
+        });
         Ok(())
     }
 }

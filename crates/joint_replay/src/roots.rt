@@ -5,7 +5,7 @@ ghost use Rattle.joint_model.specs.Heaps.{IsLive, InSlot};
 ghost use Rattle.joint_model.specs.Histories.{managed_numbers};
 ghost use Rattle.joint_replay.specs.Found.{IsBridgeRow, has_handle, held_at};
 ghost use Rattle.joint_marking.specs.Gathered.{Gains};
-ghost use Rattle.joint_replay.specs.Roots.{IsNamedLive};
+ghost use Rattle.joint_replay.specs.Roots.{IsNamedLive, IsRoot};
 
 use crate::heap::PlainHeap;
 use joint_model::MNum;
@@ -18,6 +18,19 @@ pub(crate) fn named_roots(alloc: Global, heap: &PlainHeap) -> Result<Vec<u32>, A
     let mut roots = Vec::new(alloc);
     push_named(heap, heap.vars(), &mut roots)?;
     push_named(heap, heap.statics(), &mut roots)?;
+    Ok(roots)
+}
+
+/// The live objects that a variable, a static or a pin names.
+pub(crate) fn pinned_roots(
+    alloc: Global,
+    heap: &PlainHeap,
+    pins: &[Option<u32>],
+) -> Result<Vec<u32>, AllocError>
+    ensures { IfOk result (λ v. (x : ℕ) → Contains v.items x ↔ (IsLive heap.now x × IsRoot heap.now pins.now x)) }
+{
+    let mut roots = named_roots(alloc, heap)?;
+    push_named(heap, pins, &mut roots)?;
     Ok(roots)
 }
 

@@ -3,7 +3,7 @@ use Rattle.std.proofs.Common.{◌≡◌, ◌∙◌, ◌++◌, ℕ, Bool, true, L
 use Rattle.std.proofs.lemmas.List.{take_more, take_all}
 use Rattle.joint_model.specs.Heaps.{numbered_set}
 use Rattle.joint_model.specs.Run.{removed_all}
-use Rattle.joint_replay.proofs.state.remove_all.Goals as goal
+use Rattle.joint_replay.proofs.removed.remove_all.Goals as goal
 
 removed-more : (flags : List Bool) (xs : List ℕ) (h : ℕ) → removed_all flags (xs ++ h ∷ []) ≡ numbered_set (removed_all flags xs) h true
 removed-more flags [] h = refl
