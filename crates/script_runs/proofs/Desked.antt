@@ -3,22 +3,23 @@ use Rattle.std.proofs.Common.{◌≡◌, inl, inr, ⊎_elim, ℕ, ◌+◌, ◌<�
 use Rattle.std.specs.Prelude.{All, Contains, IsSome, if◌then◌else◌, nat_le, option_to_list, slice_get, slice_set}
 use Rattle.std.proofs.lemmas.Bool.{cases_lt, le-leb}
 use Rattle.std.proofs.lemmas.List.{length-set}
-use Rattle.std.proofs.lemmas.List.Elements.{All-push, Contains-append_left, Contains-append_right}
+use Rattle.std.proofs.lemmas.List.Elements.{All-push, Contains-append_cases, Contains-append_left, Contains-append_right}
 use Rattle.std.proofs.lemmas.Option.{slice_get_past}
 use Rattle.joint_model.specs.declared.names.Thread.{Thread}
 use Rattle.joint_model.specs.declared.names.Thread.TheVariants.{M, P, C}
 use Rattle.joint_model.specs.declared.lines.Act.{Act}
 use Rattle.joint_model.specs.Control.{caller_place}
-use Rattle.joint_model.specs.Lines.{IsThread}
+use Rattle.joint_model.specs.Lines.{IsDriver, IsThread}
 use Rattle.joint_model.proofs.Joining.{same_or_not, slice_get-set_same, slice_get-set_other}
-use Rattle.joint_model.proofs.Members.{Contains-here, Contains-cons_cases, Contains-map, Contains-map_cases}
+use Rattle.joint_model.proofs.Members.{Contains-here, Contains-nil, Contains-cons_cases, Contains-map, Contains-map_cases}
 use Rattle.joint_history.specs.Callers.{KnowsNothing, Pass}
-use Rattle.joint_history.specs.Desks.{Waiting, flat, has_thread, thread_of, without_caller}
+use Rattle.joint_history.specs.Desks.{Waiting, flat, has_thread, thread_of, waits, without_caller}
 use Rattle.joint_history.specs.Ending.{HasAll, StillWaits, threads_of}
 use Rattle.joint_history.proofs.Desking.{thread_is}
 use Rattle.joint_history.proofs.Ended.{one_at_place}
 use Rattle.joint_history.proofs.LastLines.{place_small}
 use Rattle.run_laws.specs.Threads.{NoneIsLeft, thread_lines}
+use Rattle.script_runs.specs.Running.{DriverIsFirst}
 
 -- with eight threads of each kind the desk has every thread
 both : (b c : Bool) → b ≡ true → c ≡ true → (b && c) ≡ true
@@ -128,3 +129,32 @@ module _ (script : List (Thread × Act)) (d d' : Waiting) (callers : List Pass) 
   not_there r is all none =
       let a = asked_for is in
       (subst (λ o. HasAll d' (option_to_list o ++ callers)) none (all callers w.0), a.0, a.1, a.2, w.4)
+
+-- before anybody was asked for the driver's caller waits
+pub driver_waits : (d : Waiting) → HasAll d [] → waits d C ≡ None → ⊥
+driver_waits d all none = ⊎_elim (λ (s : StillWaits d C). nothing-there (flat (slice_get d.callers (caller_place C))) none s) (λ c. absurd (Contains-nil C c)) (all C tt)
+  where
+    nothing-there : (o : Option Pass) → o ≡ None → IsSome o → ⊥
+    nothing-there None e w = cc
+    nothing-there (Some p) e w = cc
+
+-- no other place has the driver
+pub others_stay : (callers : List Pass) (p : Pass) (n : ℕ) → 1 ≤ n → n < 17 → p.thread ≡ thread_of n → DriverIsFirst callers → DriverIsFirst (callers ++ p ∷ [])
+others_stay callers p n low few thread w = record {
+  driver = w.driver;
+  others = w.others ++ p ∷ [];
+  all = ap (λ l. l ++ p ∷ []) w.all;
+  is_driver = w.is_driver;
+  others_are = λ q c. ⊎_elim
+      (λ o. w.others_are q o)
+      (λ o. ⊎_elim (λ (e : p ≡ q). λ is. no-driver (thread_of n) (thread_is n few).1 (subst IsDriver (ap (λ (z : Pass). z.thread) (sym e) ∙ thread) is)) (λ z. absurd (Contains-nil q z)) (Contains-cons_cases p [] q o))
+      (Contains-append_cases w.others (p ∷ []) q c);
+}
+  where
+    no-driver : (t : Thread) → caller_place t ≡ n → IsDriver t → ⊥
+    no-driver (M k) e is = is
+    no-driver (P k) e is = is
+    no-driver C e is = omega (arith, e, low)
+
+pub driver_alone : (p : Pass) → p.thread ≡ C → DriverIsFirst (p ∷ [])
+driver_alone p is = record { driver = p; others = []; all = refl; is_driver = is; others_are = λ q c. absurd (Contains-nil q c) }

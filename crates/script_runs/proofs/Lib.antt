@@ -1,7 +1,10 @@
 pub mod Making
+pub mod Crosses
 pub mod Reading
 pub mod Driving
 pub mod Told
 pub mod Owned
 pub mod Seated
+pub mod Ran
 pub mod Desked
+pub mod Last

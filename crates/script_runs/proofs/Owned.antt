@@ -1,6 +1,6 @@
 -- A thread runs its own lines: each line that isn't its own passes, each of its own is held with the entries that its caller made, and at the end
 -- the driver holds the phases that were left too.
-use Rattle.std.proofs.Common.{◌≡◌, ℕ, ◌+◌, true, false, List, [], ◌++◌, length, Some, refl, sym, ◌∙◌, ap, subst}
+use Rattle.std.proofs.Common.{◌≡◌, ℕ, ◌+◌, ◌≤◌, true, false, List, [], ◌++◌, length, Some, refl, sym, ◌∙◌, ap, subst}
 use Rattle.std.specs.Prelude.{slice_get}
 use Rattle.std.proofs.lemmas.List.{append-nil}
 use Rattle.joint_model.specs.declared.names.Thread.{Thread}
@@ -12,7 +12,7 @@ use Rattle.joint_model.specs.Lines.{IsDriver}
 use Rattle.joint_model.specs.PeerReplay.{is_thread}
 use Rattle.joint_laws.proofs.PeerEntries.{same_thread}
 use Rattle.order_table.specs.Facts.{line_entries}
-use Rattle.joint_history.specs.Callers.{KnowsNothing, Pass, own}
+use Rattle.joint_history.specs.Callers.{KnowsNothing, Pass, last_index, own}
 use Rattle.joint_history.specs.Ending.{IsIdle}
 use Rattle.joint_history.specs.Knowing.{line_known}
 use Rattle.joint_history.specs.Operations.{IsOwnThread}
@@ -54,10 +54,11 @@ own_holds script n p q line e is same k h =
 pub other_holds : (script : List (Thread × Act)) (n : ℕ) (p : Pass) (line : Thread × Act) → slice_get script n ≡ Some line → is_thread p.thread line.0 ≡ false → HoldsItsFirst script n p opening_standing → HoldsItsFirst script (n + 1) p opening_standing
 other_holds script n p line e other h = others_lines_pass script n p opening_standing line e other h
 
-pub own_ends : (script : List (Thread × Act)) (p : Pass) → IsOwnThread p.thread → HoldsItsFirst script (length script) p opening_standing → HasRun script p.thread p
-own_ends script p o h = record {
+pub own_ends : (script : List (Thread × Act)) (p : Pass) → IsOwnThread p.thread → last_index (own p) ≤ length script → HoldsItsFirst script (length script) p opening_standing → HasRun script p.thread p
+own_ends script p o up h = record {
   thread = refl;
   holds = own_lines_end script p p opening_standing [] refl (sym (append-nil (own p))) (idle_leaves_nothing opening_standing refl) h;
+  up_to = up;
   idle = own_idle p o;
 }
 
@@ -90,9 +91,10 @@ driver_holds script n last d f line e is k h =
 pub driver_passes : (script : List (Thread × Act)) (n last : ℕ) (d : Progress) (line : Thread × Act) → slice_get script n ≡ Some line → is_thread C line.0 ≡ false → DriverHolds script n last d → DriverHolds script (n + 1) last d
 driver_passes script n last d line e other h = record { standing = h.standing; holds = others_lines_pass script n (pass_of d) h.standing line e other h.holds; stands = h.stands; line = h.line }
 
-pub driver_ends : (script : List (Thread × Act)) (last : ℕ) (d f : Progress) (p : Pass) → p ≡ pass_of f → IsIdle p → DrivesLeft d f last → DriverHolds script (length script) last d → HasRun script C p
-driver_ends script last d f p is idle k h = record {
+pub driver_ends : (script : List (Thread × Act)) (last : ℕ) (d f : Progress) (p : Pass) → p ≡ pass_of f → IsIdle p → last_index (own (pass_of f)) ≤ length script → DrivesLeft d f last → DriverHolds script (length script) last d → HasRun script C p
+driver_ends script last d f p is idle up k h = record {
   thread = ap (λ (q : Pass). q.thread) is;
   holds = subst (HoldsItsLines script) (sym is) (own_lines_end script (pass_of d) (pass_of f) h.standing k.entries refl k.made.own_more (k.left h.standing h.stands h.line) h.holds);
+  up_to = subst (λ (q : Pass). last_index (own q) ≤ length script) (sym is) up;
   idle = idle;
 }

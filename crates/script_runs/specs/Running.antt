@@ -1,17 +1,20 @@
 -- Which lines can be run, and what running them makes.
-use Rattle.std.specs.Prelude.{◌≡◌, ℕ, ◌≤◌, if◌then◌else◌, List, [], ◌∷◌, ◌++◌, All, Result, IfOk, length, Some, slice_get}
+use Rattle.std.specs.Prelude.{◌≡◌, ℕ, ◌≤◌, if◌then◌else◌, List, [], ◌∷◌, ◌++◌, All, Contains, Result, IfOk, length, Some, slice_get}
+use mathlib.Core.List.{IsPrefix}
 use Rattle.joint_model.specs.declared.names.Thread.{Thread}
 use Rattle.joint_model.specs.declared.names.Thread.TheVariants.{C}
 use Rattle.joint_model.specs.declared.lines.Act.{Act}
 use Rattle.joint_model.specs.declared.events.Entry.{Entry}
-use Rattle.joint_model.specs.Lines.{IsLine, IsPeerThread}
+use Rattle.joint_model.specs.Lines.{IsDriver, IsLine, IsPeerThread}
 use Rattle.joint_model.specs.PeerReplay.{is_thread}
 use Rattle.order_table.specs.declared.views.View.{View}
+use Rattle.order_table.specs.Views.{known}
 use Rattle.joint_history.specs.Callers.{Pass, last_index, own}
 use Rattle.joint_history.specs.Ending.{IsIdle}
 use Rattle.joint_history.specs.Operations.{IsPeerOperation, MakesAll}
 use Rattle.bridge_cycle.specs.Progress.{Progress, pass_of, line_of}
 use Rattle.script_laws.specs.Holding.{Standing, standing_after, AreLine, AreLeft, numbered_from}
+use Rattle.run_laws.specs.LastCycle.{HasHeardOf}
 use Rattle.run_laws.specs.Serial.{Adds, AreOthers, IsRunSoFar}
 use Rattle.run_laws.specs.Threads.{HoldsItsLines}
 
@@ -51,11 +54,20 @@ pub record DrivesLeft (old new : Progress) (index : ℕ) : Type 0 where
   pub made : MakesAll C old.view new.view entries
   pub left : (s : Standing) → StandsAt s old → s.line ≡ index → AreLeft s entries
 
--- a caller holds the lines of its thread, and is idle if it is the driver's
+-- a caller holds the lines of its thread, up to the last of the script, and is idle if it is the driver's
 pub record HasRun (script : List (Thread × Act)) (t : Thread) (p : Pass) : Type 0 where
   pub thread : p.thread ≡ t
   pub holds : HoldsItsLines script p
+  pub up_to : last_index (own p) ≤ length script
   pub idle : IsIdle p
+
+-- the driver's caller stands first, and no other is the driver's
+pub record DriverIsFirst (callers : List Pass) : Type 0 where
+  pub driver : Pass
+  pub others : List Pass
+  pub all : callers ≡ driver ∷ others
+  pub is_driver : driver.thread ≡ C
+  pub others_are : (p : Pass) → Contains others p → IsDriver p.thread → ⊥
 
 -- so it is of what a thread ends with, unless it found no memory
 abbrev pub EndsSo : {E : Type 0} → List (Thread × Act) → Pass → Result Pass E → Type 0
@@ -94,3 +106,21 @@ pub record HasComeThrough (script : List (Thread × Act)) (last : ℕ) (d : Prog
   pub come : HasCome (numbered_from 1 script) last d others
   pub others_are : AreOthers others
   pub driven : line_of d ≤ last
+
+-- a caller stands where one stood that made the same entries, and is of the same thread
+pub record IsSame (old new : Pass) : Type 0 where
+  pub thread : new.thread ≡ old.thread
+  pub own_same : own new ≡ own old
+
+-- so it is of each of them
+pub record AreSame (old new : List Pass) : Type 0 where
+  pub count : length new ≡ length old
+  pub each : (i : ℕ) (p : Pass) → slice_get new i ≡ Some p → (q : Pass) × (slice_get old i ≡ Some q) × IsSame q p
+
+-- the driver has heard of all that the others have made, and knows all that it knew
+pub record HearsAll (old new : Progress) (before after : List Pass) : Type 0 where
+  pub same : AreSame before after
+  pub heard : All (HasHeardOf new.view) after
+  pub knew : (i : ℕ) → IsPrefix (known old.view i) (known new.view i)
+  pub own_stay : own (pass_of new) ≡ own (pass_of old)
+  pub stands : new ≡ record old { view = new.view }

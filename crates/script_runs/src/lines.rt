@@ -66,6 +66,7 @@ pub(crate) fn drive_left<N: OrderName>(
     last: u32,
 ) -> Result<(), AllocError>
     requires index { line_of driver.old ≤ last }
+    ensures index { line_of driver.new ≤ last }
     ensures idle { OnOk result (driver.new.phase ≡ Idle) }
     ensures ok { OnOk result (DrivesLeft driver.old driver.new last) }
 {

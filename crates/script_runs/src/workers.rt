@@ -7,7 +7,7 @@ ghost use Rattle.joint_history.specs.Callers.{KnowsNothing};
 ghost use Rattle.joint_history.specs.Ending.{HasAll};
 ghost use Rattle.joint_history.specs.Operations.{IsOwnThread};
 ghost use Rattle.run_laws.specs.Threads.{NoneIsLeft, thread_lines};
-ghost use Rattle.script_runs.specs.Running.{CanRun, EndsSo};
+ghost use Rattle.script_runs.specs.Running.{CanRun, DriverIsFirst, EndsSo};
 
 use crate::lines::{drive_left, drive_line, run_line};
 use crate::places::{is_thread, thread_at};
@@ -31,14 +31,8 @@ fn has_line(script: &[(Thread, Act)], t: Thread) -> bool
     false
 }
 
-// Whether there is a job for the thread: always for the driver's, and for another if it has a line.
-fn has_job(script: &[(Thread, Act)], t: Thread) -> bool
-    ensures { result ≡ false → thread_lines t script.now ≡ [] }
-{
-    is_thread(Thread::C, t) || has_line(script, t)
-}
-
-/// The callers of `c` and of each other thread that has a line, in the order of their places. Answers `AllocError` where there is no memory.
+/// The callers of `c`, first of all, and of each other thread that has a line, in the order of their places. Answers `AllocError` where there is no
+/// memory.
 pub(crate) fn workers<N: OrderName>(
     alloc: Global,
     desk: &mut Desk<N>,
@@ -49,11 +43,16 @@ pub(crate) fn workers<N: OrderName>(
     ensures all { IfOk result (λ v. HasAll desk.new v.items) }
     ensures none { OnOk result (NoneIsLeft script.now desk.new) }
     ensures new { IfOk result (λ v. All (λ p. IsThread p.thread × KnowsNothing p.view) v.items) }
+    ensures driver { IfOk result (λ v. DriverIsFirst v.items) }
 {
     let mut callers = Vec::new(alloc);
-    for place in 0..17_u8 {
+    let Some(driver) = desk.caller(Thread::C) else {
+        unreachable!()
+    };
+    callers.push(driver)?;
+    for place in 1..17_u8 {
         let thread = thread_at(place);
-        if has_job(script, thread) {
+        if has_line(script, thread) {
             if let Some(caller) = desk.caller(thread) {
                 callers.push(caller)?;
             }

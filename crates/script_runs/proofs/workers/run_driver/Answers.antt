@@ -42,5 +42,6 @@ pub returns : goal.returns
 returns g c =
     let end : c.loop-t.t-index ≡ length c.args.script.now = omega arith in
     subst (λ t. HasRun c.args.script.now t c.retire.result) (sym c.requires.thread)
-    (driver_ends c.args.script.now c.loop-t.last c.loop-t.driver c.drive_left-2.new.driver c.retire.result c.retire.ensures.pass c.retire.ensures.idle c.in_ok-drive_left.ensures.ok
+    (driver_ends c.args.script.now c.loop-t.last c.loop-t.driver c.drive_left-2.new.driver c.retire.result c.retire.ensures.pass c.retire.ensures.idle
+    (let a = c.loop-t.invariant.0 in let b = c.loop-t.invariant.1 in let u = c.drive_left-2.ensures.index in omega (arith, a, b, u, end)) c.in_ok-drive_left.ensures.ok
     (subst (λ n. DriverHolds c.args.script.now n c.loop-t.last c.loop-t.driver) end c.loop-t.invariant.3))

@@ -39,4 +39,4 @@ returns g c =
     let same = c.loop-t.invariant.1 ∙ c.thread-thread.ensures in
     let end : c.loop-t.t-index ≡ length c.args.script.now = omega arith in
     subst (λ t. HasRun c.args.script.now t p) same
-    (own_ends c.args.script.now p (subst IsOwnThread (sym same) c.requires.thread) (subst (λ n. HoldsItsFirst c.args.script.now n p opening_standing) end c.loop-t.invariant.3))
+    (own_ends c.args.script.now p (subst IsOwnThread (sym same) c.requires.thread) (let a = c.loop-t.invariant.0 in let b = c.loop-t.invariant.2 in omega (arith, a, b, end)) (subst (λ n. HoldsItsFirst c.args.script.now n p opening_standing) end c.loop-t.invariant.3))

@@ -1,5 +1,7 @@
+use Rattle.std.proofs.Common.{◌≤◌}
+use Rattle.script_runs.specs.Running.{DriverIsFirst}
 use Rattle.script_runs.proofs.Desked.{Working}
 use Rattle.script_runs.proofs.workers.workers.Given as goal
 
 abbrev pub invariant-loop-place : goal.invariant-loop-place
-invariant-loop-place g l = Working l.script l.desk l.callers.items l.place
+invariant-loop-place g l = Working l.script l.desk l.callers.items l.place × DriverIsFirst l.callers.items × (1 ≤ l.place)

@@ -1,0 +1,28 @@
+use mir.Syntax.{named}
+use denote.Param.{param}
+use denote.Param.Send.{shr_slice_sync, shr_sync}
+use Rattle.std.proofs.Common.{[]}
+use Rattle.std.proofs.Crossing.{sync as heap}
+use Rattle.script_runs.proofs.Crosses.{line, shared}
+use Rattle.script_runs.proofs.threads.run_jobs.Goals as goal
+
+-- the closure holds the runtime, the allocator, the shared bridge, the script and the turnstile, each by a reference
+pub map_vec-requires-sync-F : goal.map_vec-requires-sync-F
+map_vec-requires-sync-F g c κs within = record {
+  shared = λ x b o ν. (
+    (
+      (shr_sync (named 0) _ _ c.type_bounds.sync-R).shared x.0 b o ν,
+      (
+        (shr_sync (named 0) [] _ heap).shared x.1 b o ν,
+        (
+          (shr_sync (named 0) _ _ (shared (param 0 g.row.N) g.N.OrderName)).shared x.2 b o ν,
+          (
+            (shr_slice_sync (named 0) _ _ line).shared x.3 b o ν,
+            ((shr_sync (named 0) _ _ c.type_bounds.sync-T).shared x.4 b o ν, tt),
+          ),
+        ),
+      ),
+    ),
+    λ q. tt,
+  );
+}

@@ -1,0 +1,128 @@
+// The run of a script with one cycle more: the driver runs it once all threads have ended.
+
+ghost use Rattle.std.specs.Prelude.{◌≡◌, ◌+◌, ◌<◌, ◌≤◌, [], ◌∷◌, ◌++◌, IfOk, All, length};
+ghost use Rattle.joint_model.specs.Lines.{IsDriver};
+ghost use Rattle.joint_history.specs.Callers.{KnowsNothing, last_index, own};
+ghost use Rattle.joint_history.specs.Ending.{IsIdle};
+ghost use Rattle.order_table.specs.Views.{OwnsAll};
+ghost use Rattle.run_laws.specs.Final.{IsRunInOrder};
+ghost use Rattle.run_laws.specs.LastCycle.{DrivesCycles, EndsWithCycle, IsRunThenCycle, cycle_line};
+ghost use Rattle.script_runs.specs.Running.{AreSame, CanRun, HearsAll};
+
+use crate::lines::drive_line;
+use crate::serial::run_serial;
+use crate::threads::{all_ended, run_jobs};
+use crate::workers::workers;
+use bridge_cycle::Driver;
+use bridge_script::Turnstile;
+use joint_history::{Caller, Shared};
+use joint_model::{Act, History, PhaseWord, Thread};
+use order_table::{Order, OrderName, Seat};
+use std::alloc::{AllocError, Global};
+use std::marker::Brand;
+use std::sync::Wait;
+use std::thread::Threads;
+
+/// The line of a whole cycle.
+const CYCLE: Act = Act::PhaseLine {
+    word: PhaseWord::Cycle,
+};
+
+// The driver hears of all that the others have made.
+fn hear_all<N: OrderName>(shared: &Shared<N>, driver: &mut Driver<N>, others: &mut Vec<Caller<N>>)
+    ensures { HearsAll driver.old driver.new others.old.items others.new.items }
+{
+    for i in 0..others.len() {
+        driver.hear(shared, &mut others[i]);
+    }
+}
+
+// Runs a whole cycle, on a line of its own, by the driver's caller, which hears of all that the others have made before.
+fn cycle_last<N: OrderName>(
+    rt: &impl Wait,
+    alloc: Global,
+    shared: &Shared<N>,
+    number: u32,
+    driver: Caller<N>,
+    others: &mut Vec<Caller<N>>,
+) -> Result<Caller<N>, AllocError>
+    requires driver { IsDriver driver.thread }
+    requires idle { IsIdle driver }
+    requires number { last_index (own driver) ≤ number }
+    ensures same { AreSame others.old.items others.new.items }
+    ensures idle { IfOk result IsIdle }
+    ensures ends { IfOk result (λ after. EndsWithCycle number driver after others.new.items) }
+{
+    let mut driver = Driver::new(driver);
+    hear_all(shared, &mut driver, others);
+    drive_line(rt, alloc, shared, &mut driver, number, &CYCLE)?;
+    Ok(driver.retire())
+}
+
+// Runs a script by the callers of one order, and a cycle more.
+fn run_named<N: OrderName + Send + Sync, R: Threads + Wait + Sync, T: Turnstile + Sync>(
+    rt: &R,
+    alloc: Global,
+    order: Order,
+    seat: Seat,
+    script: &[(Thread, Act)],
+    turn: &T,
+) -> Result<History, AllocError>
+    requires order { order ≡ N.order }
+    requires seat { (seat.order ≡ N.order) × OwnsAll seat.view × KnowsNothing seat.view }
+    requires lines { CanRun script.now }
+    requires room { length script.now < 4294967295 }
+    ensures { IfOk result (IsRunThenCycle script.now) }
+{
+    let (shared, mut desk) = Shared::<N>::new(alloc, order, seat, 8, 8)?;
+    let jobs = workers(alloc, &mut desk, script)?;
+    let ended = run_jobs(rt, alloc, &shared, script, turn, jobs)?;
+    let mut callers = all_ended(alloc, ended)?;
+    let driver = callers.remove(0);
+    let number = script.len() as u32 + 1;
+    let driver = cycle_last(rt, alloc, &shared, number, driver, &mut callers)?;
+    callers.push(driver)?;
+    shared.finish(desk, callers)
+}
+
+/// Runs the lines of each thread of a script in a thread of its own, as `run_threads` does; and once all of them have ended the driver hears of what
+/// each has made and runs a whole cycle, on a line of its own behind the script's. Answers the finished history, or `AllocError` where there is no memory.
+pub fn run_threads_then_cycle<R: Threads + Wait + Sync, T: Turnstile + Sync>(
+    rt: &R,
+    alloc: Global,
+    script: &[(Thread, Act)],
+    turn: &T,
+) -> Result<History, AllocError>
+    requires lines { CanRun script.now }
+    requires room { length script.now < 4294967295 }
+    ensures history { IfOk result (IsRunThenCycle script.now) }
+{
+    let (order, seat) = Order::new(alloc, 8)?;
+    run_named::<Brand, R, T>(rt, alloc, order, seat, script, turn)
+}
+
+// The lines of a script with the line of a cycle behind them.
+fn with_cycle(alloc: Global, script: &[(Thread, Act)]) -> Result<Vec<(Thread, Act)>, AllocError>
+    ensures { IfOk result (λ v. v.items ≡ script.now ++ cycle_line ∷ []) }
+{
+    let mut lines = script.to_vec(alloc)?;
+    lines.push((Thread::C, CYCLE))?;
+    Ok(lines)
+}
+
+/// Runs the lines of a script one after another, as `run_serial` does, and then a whole cycle, on a line of its own. All lines of the driver are whole cycles
+/// too. Answers the finished history, or `AllocError` where there is no memory.
+pub fn run_serial_then_cycle(
+    rt: &impl Wait,
+    alloc: Global,
+    script: &[(Thread, Act)],
+) -> Result<History, AllocError>
+    requires lines { CanRun script.now }
+    requires cycles { DrivesCycles script.now }
+    requires room { length script.now < 4294967295 }
+    ensures in_order { IfOk result (IsRunInOrder (script.now ++ cycle_line ∷ [])) }
+    ensures history { IfOk result (IsRunThenCycle script.now) }
+{
+    let lines = with_cycle(alloc, script)?;
+    run_serial(rt, alloc, &lines)
+}

@@ -1,0 +1,94 @@
+// The run of a script by a thread of its own for each of its threads.
+
+ghost use Rattle.std.specs.Prelude.{◌≡◌, ◌<◌, ℕ, map, All, IfOk, Ok, slice_index_or, vec_len};
+ghost use Rattle.joint_model.specs.Lines.{IsThread};
+ghost use Rattle.order_table.specs.Views.{OwnsAll};
+ghost use Rattle.joint_history.specs.Callers.{KnowsNothing};
+ghost use Rattle.run_laws.specs.Final.{IsRunByThreads};
+ghost use Rattle.script_runs.specs.Running.{CanRun, EndsSo};
+
+use crate::workers::{run_thread, workers};
+use bridge_script::Turnstile;
+use joint_history::{Caller, Shared};
+use joint_model::{Act, History, Thread};
+use order_table::{Order, OrderName, Seat};
+use std::alloc::{AllocError, Global};
+use std::marker::Brand;
+use std::sync::Wait;
+use std::thread;
+use std::thread::Threads;
+
+/// The callers with which the threads ended, or `AllocError` where one of them found no memory.
+pub(crate) fn all_ended<N: OrderName>(
+    alloc: Global,
+    ended: Vec<Result<Caller<N>, AllocError>>,
+) -> Result<Vec<Caller<N>>, AllocError>
+    ensures { IfOk result (λ v. map (λ p. Ok p) v.items ≡ ended.items) }
+{
+    let mut callers = Vec::new(alloc);
+    for end in ended {
+        callers.push(end?)?;
+    }
+    Ok(callers)
+}
+
+/// Runs each job's lines in a thread of its own; and answers with what each ended.
+pub(crate) fn run_jobs<N: OrderName + Send + Sync, R: Threads + Wait + Sync, T: Turnstile + Sync>(
+    rt: &R,
+    alloc: Global,
+    shared: &Shared<N>,
+    script: &[(Thread, Act)],
+    turn: &T,
+    jobs: Vec<Caller<N>>,
+) -> Result<Vec<Result<Caller<N>, AllocError>>, AllocError>
+    requires lines { CanRun script.now }
+    requires jobs { All (λ p. IsThread p.thread × KnowsNothing p.view) jobs.items }
+    ensures len { IfOk result (λ v. vec_len v ≡ vec_len jobs) }
+    ensures each { IfOk result (λ v. (i : ℕ) (d : _) (e : _) → i < vec_len jobs → EndsSo script.now (slice_index_or jobs.items i d) (slice_index_or v.items i e)) }
+{
+    thread::map_vec(
+        rt,
+        jobs,
+        &|caller: Caller<N>| -> Result<Caller<N>, AllocError>
+            requires { IsThread caller.thread × KnowsNothing caller.view × CanRun script.now }
+            ensures { EndsSo script.entry.now caller result }
+        { run_thread(rt, alloc, shared, script, turn, caller) },
+    )
+}
+
+// Runs a script by the callers of one order.
+fn run_named<N: OrderName + Send + Sync, R: Threads + Wait + Sync, T: Turnstile + Sync>(
+    rt: &R,
+    alloc: Global,
+    order: Order,
+    seat: Seat,
+    script: &[(Thread, Act)],
+    turn: &T,
+) -> Result<History, AllocError>
+    requires order { order ≡ N.order }
+    requires seat { (seat.order ≡ N.order) × OwnsAll seat.view × KnowsNothing seat.view }
+    requires lines { CanRun script.now }
+    ensures { IfOk result (IsRunByThreads script.now) }
+{
+    let (shared, mut desk) = Shared::<N>::new(alloc, order, seat, 8, 8)?;
+    let jobs = workers(alloc, &mut desk, script)?;
+    let ended = run_jobs(rt, alloc, &shared, script, turn, jobs)?;
+    let callers = all_ended(alloc, ended)?;
+    shared.finish(desk, callers)
+}
+
+/// Runs the lines of each thread of a script in a thread of its own, in their order and each after its turn, and then the phases that the
+/// driver's lines have left; and answers the finished history. There is one job for the driver and one for each other thread that has a line;
+/// where no thread can be made the jobs run one after another. Answers `AllocError` where there is no memory, after all jobs have ended.
+pub fn run_threads<R: Threads + Wait + Sync, T: Turnstile + Sync>(
+    rt: &R,
+    alloc: Global,
+    script: &[(Thread, Act)],
+    turn: &T,
+) -> Result<History, AllocError>
+    requires lines { CanRun script.now }
+    ensures history { IfOk result (IsRunByThreads script.now) }
+{
+    let (order, seat) = Order::new(alloc, 8)?;
+    run_named::<Brand, R, T>(rt, alloc, order, seat, script, turn)
+}
