@@ -1,6 +1,5 @@
 -- A script that was read can be run: each of its lines is one that is built, so a peer thread's is no marking in slices.
-use Rattle.std.proofs.Common.{◌≡◌, ℕ, Bool, true, false, List, arith}
-use Rattle.std.specs.Prelude.{◌≤◌, All, length}
+use Rattle.std.proofs.Common.{◌≡◌, true, List, arith}
 use Rattle.std.proofs.lemmas.List.Elements.{All-contains}
 use Rattle.joint_model.specs.declared.names.Thread.{Thread}
 use Rattle.joint_model.specs.declared.names.Thread.TheVariants.{M, P, C}

@@ -1,14 +1,15 @@
-// The program `bridge_run`: the bridge between two heaps, run over a script.
+// The program `bridge_run`: the bridge between two heaps, run over a script that is read, or over one that is made.
 #![tactic(auto)]
 
+mod generated;
 mod program;
 #[cfg(test)]
 mod rows;
+mod statuses;
 mod streams;
 #[cfg(test)]
 mod tests;
 mod top;
-mod words;
 
 use bridge_script::FreeTurn;
 use program::run_program;

@@ -5,6 +5,7 @@ ghost use Rattle.std.specs.IoError.{error_kind};
 ghost use Rattle.std.specs.Process.{exit_status};
 ghost use Rattle.bridge_run.specs.Ends.{Ends, words_told};
 
+use crate::statuses::NO_MEMORY;
 use crate::top::bridge_main;
 use bridge_script::{Sink, Source, Turnstile};
 use std::alloc::{AllocError, Global};
@@ -14,9 +15,6 @@ use std::io::ErrorKind;
 use std::process::ExitCode;
 use std::sync::Wait;
 use std::thread::Threads;
-
-/// There was no memory for the words.
-const NO_MEMORY: u8 = 5;
 
 /// Makes the top call for the words after the program's name, and answers the exit code of the process, which is the
 /// status of that call.

@@ -5,12 +5,14 @@ ghost use Rattle.std.specs.Prelude.{Some};
 use crate::program::run_program;
 use crate::streams::{StdSink, StdSource};
 use crate::top::bridge_main;
-use bridge_script::{ByteSink, ByteSource, FreeTurn, PlainSource};
+use bridge_script::{ByteSink, ByteSource, FreeTurn, PlainSource, Turnstile};
+use joint_model::Thread;
 use std::alloc::{AllocError, Global};
 use std::env::{Env, FillError};
 use std::io;
 use std::process::{Abort, ExitCode};
 use std::sync::Wait;
+use std::sync::atomic::{AtomicU64, Ordering};
 use std::test::Fail;
 use std::thread::Threads;
 
@@ -55,6 +57,17 @@ const USAGE: &[u8] = b"usage: bridge_run COMMAND\n";
 
 const SERIAL: &[&str] = &["serial"];
 
+const THREADS: &[&str] = &["threads"];
+
+const GENERATED: &[&str] = &["gen", "--seed", "0", "--size", "4", "--mode", "serial"];
+
+/// Four families, one of each shape: of the objects those stay that the statics g1 and s2 hold.
+const GENERATED_SUMMARY: &[u8] = b"seed 0 size 4 mode serial
+lines 27 cycles 1
+made managed 7 peers 6 handles 4
+live managed 4 peers 2 handles 2
+";
+
 /// The words, the text, the number of the source's call that fails and of the sink's, 0 for none; and the status and what is written.
 /// A sink of which a call fails takes one byte a call.
 type Run = (
@@ -66,7 +79,7 @@ type Run = (
     &'static [u8],
 );
 
-const RUNS: [Run; 29] = [
+const RUNS: [Run; 47] = [
     (SERIAL, LINKED, 0, 0, 0, LINKED_REPORT),
     (SERIAL, b"", 0, 0, 0, b"end 0\n"),
     // words that are no command
@@ -241,6 +254,134 @@ c cycle
 end 18
 ",
     ),
+    // scripts of one thread, and what is no script, have one answer on threads too
+    (THREADS, b"", 0, 0, 0, b"end 0\n"),
+    (
+        THREADS,
+        b"m1 bridge a leafbridge 0 framework 3\n",
+        0,
+        0,
+        0,
+        b"0 m1.1 make framework 3 = p1 h1\n1 m1.1 adopt a leafbridge 0 p1 h1 = m1 @0\nend 2\n",
+    ),
+    (
+        THREADS,
+        b"m1 bridge a bridge 1 framework 0\n",
+        0,
+        0,
+        3,
+        b"line 1: cause 6 kind\n",
+    ),
+    (
+        THREADS,
+        b"m1 new a leaf 1\n",
+        0,
+        0,
+        3,
+        b"line 1: cause 6 kind\n",
+    ),
+    (
+        THREADS,
+        b"m1 new a plain 0\nm1 jump a\n",
+        0,
+        0,
+        3,
+        b"line 2: cause 1 unknown\n",
+    ),
+    (
+        THREADS,
+        b"c sweep\n",
+        0,
+        0,
+        0,
+        b"0 c.1 refused sweep = at idle\nend 1\n",
+    ),
+    (&["threads", "x"], b"", 0, 0, 1, USAGE),
+    (THREADS, b"p8 drop h\n", 0, 9, 4, b"0 p8.1 d"),
+    // generated scripts, for which nothing is read
+    (GENERATED, LINKED, 1, 0, 0, GENERATED_SUMMARY),
+    (
+        &["gen", "--mode", "threads", "--size", "4", "--seed", "0"],
+        b"",
+        0,
+        0,
+        0,
+        b"seed 0 size 4 mode threads
+lines 27 cycles 1
+made managed 7 peers 6 handles 4
+live managed 4 peers 2 handles 2
+",
+    ),
+    (
+        &[
+            "gen",
+            "--seed",
+            "18446744073709551615",
+            "--size",
+            "0",
+            "--mode",
+            "threads",
+        ],
+        b"",
+        0,
+        0,
+        0,
+        b"seed 18446744073709551615 size 0 mode threads
+lines 0 cycles 1
+made managed 0 peers 0 handles 0
+live managed 0 peers 0 handles 0
+",
+    ),
+    (GENERATED, b"", 0, 9, 4, b"seed 0 s"),
+    (
+        &["gen", "--seed=7", "--size", "4", "--mode", "serial"],
+        b"",
+        0,
+        0,
+        1,
+        USAGE,
+    ),
+    (&["--help"], b"", 0, 0, 1, USAGE),
+    (
+        &["gen", "--seed", "7", "--seed", "7", "--mode", "serial"],
+        b"",
+        0,
+        0,
+        1,
+        USAGE,
+    ),
+    (
+        &["gen", "--seed", "7", "--size", "2801", "--mode", "serial"],
+        b"",
+        0,
+        0,
+        1,
+        USAGE,
+    ),
+    (
+        &[
+            "gen",
+            "--seed",
+            "18446744073709551616",
+            "--size",
+            "4",
+            "--mode",
+            "serial",
+        ],
+        b"",
+        0,
+        0,
+        1,
+        USAGE,
+    ),
+    (
+        &["gen", "--seed", "07", "--size", "4", "--mode", "serial"],
+        b"",
+        0,
+        0,
+        1,
+        USAGE,
+    ),
 ];
 
 /// The words of a command.
@@ -287,35 +428,56 @@ fn each_run_has_its_status_and_its_text(rt: HostRuntime) -> Result<(), Fail> {
     Ok(())
 }
 
-/// A line so many times, the status, and how the text that is written ends.
-type Repeated = (&'static [u8], usize, u8, &'static [u8]);
+/// The words, lines so many times, the status, and how the text that is written ends.
+type Repeated = (
+    &'static [&'static str],
+    &'static [u8],
+    usize,
+    u8,
+    &'static [u8],
+);
 
-const LARGE_RUNS: [Repeated; 4] = [
+const LARGE_RUNS: [Repeated; 5] = [
     (
+        SERIAL,
         b"c cycle\n",
         256,
         0,
         b"1791 c.256 resolve 256 = freed - @1790\nend 1792\n",
     ),
-    (b"c cycle\n", 257, 3, b"line 257: cause 7 cycles\n"),
+    (SERIAL, b"c cycle\n", 257, 3, b"line 257: cause 7 cycles\n"),
     (
+        SERIAL,
         b"m1 drop a\n",
         20_000,
         0,
         b"19999 m1.20000 drop a = ok\nend 20000\n",
     ),
-    (b"m1 drop a\n", 20_001, 3, b"line 20001: cause 8 lines\n"),
+    (
+        SERIAL,
+        b"m1 drop a\n",
+        20_001,
+        3,
+        b"line 20001: cause 8 lines\n",
+    ),
+    (
+        THREADS,
+        b"m1 new a plain 0\nm2 bridge a bridge 1 user 1\np1 new a 1\np2 copy b a\n",
+        5_000,
+        0,
+        b"\nend 25000\n",
+    ),
 ];
 
 #[test]
 fn large_scripts_are_run_to_their_end(rt: HostRuntime) -> Result<(), Fail> {
-    for (line, often, status, end) in &LARGE_RUNS {
+    for (words, lines, often, status, end) in &LARGE_RUNS {
         let mut text = Vec::new(rt.alloc());
         for _ in 0..*often {
-            text.extend_from_slice(line)?;
+            text.extend_from_slice(lines)?;
         }
         let mut out = ByteSink::new(rt.alloc(), 4096, Vec::new(rt.alloc()));
-        expect(&rt, rt.alloc(), SERIAL, &text, 0, &mut out, *status)?;
+        expect(&rt, rt.alloc(), words, &text, 0, &mut out, *status)?;
         assert!(rt; out.bytes().ends_with(end));
     }
     Ok(())
@@ -461,5 +623,101 @@ fn the_exit_code_is_the_status_for_the_words_that_were_given(rt: HostRuntime) ->
     let full = Err(io::Error::from(io::ErrorKind::OutOfMemory));
     let code = run_program(&rt, alloc, full, &mut source, &mut out, &FreeTurn);
     assert!(rt; code == ExitCode::from(5) && out.bytes().is_empty());
+    Ok(())
+}
+
+/// A turnstile at which a managed and a peer thread wait for each other, for so many turns at most.
+#[derive(Drop)]
+struct Meeting {
+    managed: AtomicU64,
+    peer: AtomicU64,
+    missed: AtomicU64,
+}
+
+impl Turnstile for Meeting {
+    fn pass(&self, thread: Thread, _line: u32) {
+        let (mine, other) = match thread {
+            Thread::M(_) => (&self.managed, &self.peer),
+            Thread::P(_) => (&self.peer, &self.managed),
+            Thread::C => return,
+        };
+        mine.store(1, Ordering::SeqCst);
+        for _ in 0..200_000_000u32 {
+            if other.load(Ordering::SeqCst) == 1 {
+                return;
+            }
+        }
+        self.missed.store(1, Ordering::SeqCst);
+    }
+}
+
+#[test]
+fn two_threads_meet(rt: HostRuntime) -> Result<(), Fail> {
+    let alloc = rt.alloc();
+    let meeting = Meeting {
+        managed: AtomicU64::new(0),
+        peer: AtomicU64::new(0),
+        missed: AtomicU64::new(0),
+    };
+    let words = words_of(alloc, THREADS)?;
+    let mut source = PlainSource::new(b"m1 new a plain 0\np1 new a 0\n".to_vec(alloc)?);
+    let mut out = ByteSink::new(alloc, 100, Vec::new(alloc));
+    let status = bridge_main(&rt, alloc, &words, &mut source, &mut out, &meeting);
+    let missed = meeting.missed.load(Ordering::SeqCst);
+    assert!(rt; status == 0 && missed == 0 && out.bytes().ends_with(b"end 2\n"));
+    Ok(())
+}
+
+/// A turnstile at which every thread waits until the managed thread has come to its third line, for so many turns at most.
+#[derive(Drop)]
+struct AfterTwoLines {
+    managed: AtomicU64,
+}
+
+impl Turnstile for AfterTwoLines {
+    fn pass(&self, thread: Thread, line: u32) {
+        if let Thread::M(_) = thread {
+            self.managed.store(line as u64, Ordering::SeqCst);
+            return;
+        }
+        for _ in 0..200_000_000u32 {
+            if self.managed.load(Ordering::SeqCst) == 3 {
+                return;
+            }
+        }
+    }
+}
+
+/// What a managed thread hands over in its first two lines; the third one does nothing.
+const HANDED: &[u8] = b"m1 bridge a bridge 1 user 1
+m1 pass a s0
+m1 drop h
+p1 load a s0
+";
+
+const HANDED_START: &[u8] = b"0 m1.1 make user 1 = p1 h1
+1 m1.1 adopt a bridge 1 p1 h1 = m1 @0
+2 m1.2 lend a s0 = h1
+3 m1.2 land h1 s0 = p1 @2
+";
+
+const HANDED_ENDS: [&[u8]; 2] = [
+    b"4 m1.3 drop h = ok\n5 p1.4 load a s0 = p1\nend 6\n",
+    b"4 p1.4 load a s0 = p1\n5 m1.3 drop h = ok\nend 6\n",
+];
+
+#[test]
+fn what_is_handed_over_arrives(rt: HostRuntime) -> Result<(), Fail> {
+    let alloc = rt.alloc();
+    let turn = AfterTwoLines {
+        managed: AtomicU64::new(0),
+    };
+    let words = words_of(alloc, THREADS)?;
+    let mut source = PlainSource::new(HANDED.to_vec(alloc)?);
+    let mut out = ByteSink::new(alloc, 100, Vec::new(alloc));
+    let status = bridge_main(&rt, alloc, &words, &mut source, &mut out, &turn);
+    assert!(rt; status == 0 && out.bytes().starts_with(HANDED_START));
+    let end = &out.bytes()[HANDED_START.len().min(out.bytes().len())..];
+    assert!(rt; end == HANDED_ENDS[0] || end == HANDED_ENDS[1]);
     Ok(())
 }

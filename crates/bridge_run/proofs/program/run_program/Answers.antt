@@ -21,6 +21,7 @@ returns-in-Ok-clause-ends g c =
       part = e.part;
       memory = e.memory;
       complete = e.complete;
+      generated = e.generated;
       known = e.status;
     }))
 

@@ -1,0 +1,70 @@
+// The run of a generated script, and its summary.
+
+ghost use Rattle.std.specs.Prelude.{◌≡◌, ◌≤◌, ◌⊎◌, IfOk, length};
+ghost use Rattle.std.specs.Io.KnownBytes.{Appends, Keeps};
+ghost use Rattle.bridge_run.specs.Top.{IsGeneratedRunIn};
+ghost use Rattle.bridge_script.specs.Outside.{AppendsPart, Rose};
+ghost use Rattle.joint_model.specs.Histories.{Finished};
+ghost use Rattle.run_laws.specs.LastCycle.{DrivesCycles};
+ghost use Rattle.run_summary.specs.Summary.{summary_text};
+ghost use Rattle.run_summary.specs.Tallies.{tally_of};
+ghost use Rattle.script_generator.specs.Generated.{generated};
+
+use crate::statuses::{DONE, NO_MEMORY, WRITE_FAULT};
+use bridge_script::{Script, Sink, Turnstile};
+use command_words::Mode;
+use joint_model::History;
+use run_summary::write_summary;
+use script_generator::generate;
+use script_runs::{run_serial_then_cycle, run_threads_then_cycle};
+use std::alloc::{AllocError, Global};
+use std::sync::Wait;
+use std::thread::Threads;
+
+/// Makes the script of a seed and a size, runs it in that mode and one cycle more once all threads have ended, and writes the summary of that run. Answers the
+/// program's exit status: 0, 4 where the sink failed, or 5 where there was no memory, and nothing is written then.
+pub fn print_generated<R: Threads + Wait + Sync, K: Sink, T: Turnstile + Sync>(
+    rt: &R,
+    alloc: Global,
+    seed: u64,
+    size: u32,
+    mode: Mode,
+    out: &mut K,
+    turn: &T,
+) -> u8
+    requires { size ≤ 2800 }
+    ensures done { result ≡ 0 → (h : Finished) × IsGeneratedRunIn mode (generated seed size) h × Appends (K.held out.old) (K.held out.new) (summary_text seed size mode (length (generated seed size)) (tally_of h.entries)) }
+    ensures write { result ≡ 4 → Rose (K.faults out.old) (K.faults out.new) }
+    ensures part { result ≡ 4 → (h : Finished) × IsGeneratedRunIn mode (generated seed size) h × AppendsPart (K.held out.old) (K.held out.new) (summary_text seed size mode (length (generated seed size)) (tally_of h.entries)) }
+    ensures memory { result ≡ 5 → Keeps (K.held out.old) (K.held out.new) }
+    ensures status { (result ≡ 0) ⊎ (result ≡ 4) ⊎ (result ≡ 5) }
+{
+    let Ok(script) = generate(alloc, seed, size) else {
+        return NO_MEMORY;
+    };
+    let Ok(history) = run(rt, alloc, mode, &script, turn) else {
+        return NO_MEMORY;
+    };
+    match write_summary(seed, size, mode, script.len(), &history, out) {
+        Ok(()) => DONE,
+        Err(_) => WRITE_FAULT,
+    }
+}
+
+// Runs the script in that mode and one cycle more. Answers `AllocError` where there is no memory.
+#[tactic(auto, using(crate::proofs::Runnable::can_run))]
+fn run<R: Threads + Wait + Sync, T: Turnstile + Sync>(
+    rt: &R,
+    alloc: Global,
+    mode: Mode,
+    script: &Script,
+    turn: &T,
+) -> Result<History, AllocError>
+    requires { DrivesCycles script.now }
+    ensures { IfOk result (λ h. IsGeneratedRunIn mode script.now h) }
+{
+    match mode {
+        Mode::Serial => run_serial_then_cycle(rt, alloc, script.lines()),
+        Mode::Threads => run_threads_then_cycle(rt, alloc, script.lines(), turn),
+    }
+}
