@@ -39,6 +39,3 @@ mod sweeps;
 mod twins;
 
 pub use state::{JointState, Verdict};
-
-#[cfg(test)]
-mod tests;

@@ -1,6 +1,0 @@
--- No lists of entries join to the history of no entries, whatever was freed.
-use Rattle.joint_model.proofs.Joining.{joins_none}
-use Rattle.joint_replay.proofs.tests.freed.Goals as goal
-
-pub join-requires : goal.join-requires
-join-requires c = rw (c.new.ensures.items) (joins_none _ _ _)
