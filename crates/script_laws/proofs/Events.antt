@@ -25,9 +25,9 @@ use Rattle.joint_model.specs.Told.{Told}
 use Rattle.bridge_script.specs.Words.{phase_word_text}
 use Rattle.bridge_script.specs.Report.{event_words}
 use Rattle.bridge_script.proofs.Fitting.{lawful_thread}
-use Rattle.script_histories.proofs.Digits.{decimal-one}
-use Rattle.script_histories.proofs.Reading.{Names, is_word, code}
-use Rattle.script_histories.proofs.Known.{IsBounded, IsKnown, same-event}
+use Rattle.script_laws.proofs.Digits.{decimal-one}
+use Rattle.script_laws.proofs.Reading.{Names, is_word, code}
+use Rattle.script_laws.proofs.Known.{IsBounded, IsKnown, same-event}
 use Rattle.script_laws.proofs.OneNote.{Allowed}
 use Rattle.script_laws.proofs.Sharing.{Comes, phase-op, clear-op, same-cycle}
 
@@ -52,7 +52,7 @@ doing_of s C = free
 
 -- what the state says of a thread's next event
 abbrev names_of : Linkage → Thread → Names
-names_of s t = record { peer = peer_in (doing_of s t); handle = handle_in (doing_of s t); next = 0; opened = 0 }
+names_of s t = record { peer = peer_in (doing_of s t); handle = handle_in (doing_of s t) }
 
 plain-fields : (k : Kind) (n : ℕ) → IsPlainObject k n → n ≤ 16
 plain-fields kind.Plain n h = h

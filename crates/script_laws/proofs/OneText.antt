@@ -18,15 +18,15 @@ use Rattle.joint_model.specs.Linked.{Linkage, IsLinked, linkage_after, opening_l
 use Rattle.joint_model.specs.Told.{Noted}
 use Rattle.bridge_script.specs.Lists.{after_spaces}
 use Rattle.bridge_script.specs.Report.{event_words, reply_words, entries_text, end_text, report}
-use Rattle.script_histories.proofs.Cutting.{cut-first, words-one}
-use Rattle.script_histories.proofs.Reading.{is_word}
+use Rattle.script_laws.proofs.Cutting.{cut-first, words-one}
+use Rattle.script_laws.proofs.Reading.{is_word}
 use Rattle.script_laws.specs.Laws.{IsOneHistory}
 use Rattle.script_laws.proofs.OneNote.{Agree, Allowed, one-note}
 use Rattle.known_laws.specs.Growing.{entries}
 use Rattle.known_laws.proofs.Retelling.{AllPlain, plain_list, PlainComes}
 use Rattle.script_laws.proofs.Sharing.{comes-of}
 use Rattle.script_laws.proofs.Finishing.{notes-tell}
-use Rattle.script_histories.proofs.TextLines.{rest_words, whole_words, line_of, line-first, words-lack, line-whole, no-entry, place-one, words-tell}
+use Rattle.script_laws.proofs.TextLines.{rest_words, whole_words, line_of, line-first, words-lack, line-whole, no-entry, place-one, words-tell}
 use Rattle.script_laws.proofs.Events.{words-same, caller-is}
 use Rattle.std.specs.Prelude.{if◌then◌else◌}
 

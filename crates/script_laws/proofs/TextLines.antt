@@ -16,9 +16,9 @@ use Rattle.bridge_script.specs.declared.lists.Numbers.TheVariants.{Freed, FreedP
 use Rattle.bridge_script.specs.Words.{thread_text}
 use Rattle.bridge_script.specs.Lists.{after_spaces, list_words}
 use Rattle.bridge_script.specs.Report.{event_words, reply_words, list_of, shown, cite_words, place_text, head_words, entry_text, entries_text}
-use Rattle.script_histories.proofs.Cutting.{Lacks, every-append, cut-first}
-use Rattle.script_histories.proofs.Digits.{IsDigit, decimal-digits, decimal-one}
-use Rattle.script_histories.proofs.Plain.{AllPlain, plain-listed, plain-event, plain-reply, plain-cites, plain-place, plain-decimal, no-byte, no-bytes, no-equals}
+use Rattle.script_laws.proofs.Cutting.{Lacks, every-append, cut-first}
+use Rattle.script_laws.proofs.Digits.{IsDigit, decimal-digits, decimal-one}
+use Rattle.script_laws.proofs.Plain.{AllPlain, plain-listed, plain-event, plain-reply, plain-cites, plain-place, plain-decimal, no-byte, no-bytes, no-equals}
 
 -- the words of an entry's line, and the line without its newline
 abbrev pub rest_words : Finished → Entry → List (List ℕ)

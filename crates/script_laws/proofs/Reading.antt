@@ -1,5 +1,5 @@
--- An event is read back from its words by the first of them. The peer, the handle and the cycle that an event names are
--- those of the state, so they are taken from there.
+-- An event of a managed or a peer thread is read back from its words by the first of them. The peer and the handle that an
+-- event names are those of the state, so they are taken from there.
 use Rattle.std.proofs.Common.{◌≡◌, ℕ, ◌+◌, ◌-◌, ◌*◌, ◌<◌, ◌^◌, min, Bool, false, cond, List, [], ◌∷◌, get_or, Option, Some, None, codes, decimal, refl, ◌∙◌, ap, arith}
 use Rattle.std.specs.Prelude.{nat_eq, if◌then◌else◌}
 use Rattle.std.specs.Str.Parse.{digits_value}
@@ -12,7 +12,6 @@ use Rattle.joint_model.specs.declared.names.Cell.{Cell}
 use Rattle.joint_model.specs.declared.names.GName.{GName}
 use Rattle.joint_model.specs.declared.names.PNum.{PNum}
 use Rattle.joint_model.specs.declared.names.HNum.{HNum}
-use Rattle.joint_model.specs.declared.names.Cycle.{Cycle}
 use Rattle.joint_model.specs.declared.names.Thread.{Thread}
 use Rattle.joint_model.specs.declared.names.Thread.TheVariants.{M, P, C}
 use Rattle.joint_model.specs.declared.names.Kind.{Kind}
@@ -26,13 +25,10 @@ use Rattle.joint_model.specs.declared.events.Op.TheVariants as op
 use Rattle.joint_model.specs.Lines.{IsVar, IsVarOrNone}
 use Rattle.bridge_script.specs.Words.{var_text, optional_text, own_static, kind_text, sort_text}
 
--- what the state says of an event's names: the peer and the handle that a managed thread is in the midst of, the number
--- of the next cycle, and that of the open one
+-- what the state says of an event's names: the peer and the handle that a managed thread is in the midst of
 pub record Names : Type 0 where
   pub peer : ℕ
   pub handle : ℕ
-  pub next : ℕ
-  pub opened : ℕ
 
 -- a word as a number, so that words are compared by computing
 abbrev pub code : List ℕ → ℕ
@@ -80,12 +76,6 @@ peer_of s = record { 0 = s.peer }
 abbrev pub handle_of : Names → HNum
 handle_of s = record { 0 = s.handle }
 
-abbrev pub next_of : Names → Cycle
-next_of s = record { 0 = s.next }
-
-abbrev pub opened_of : Names → Cycle
-opened_of s = record { 0 = s.opened }
-
 -- the word at a place
 abbrev pub at : List (List ℕ) → ℕ → List ℕ
 at ws i = get_or ws i []
@@ -124,12 +114,9 @@ read_event s (w ∷ ws) = if is_word w (codes "make") then op.Make (sort_of (at 
     else (if is_word w (codes "meet") then op.Meet (var_of (at ws 0)) (peer_of s) (handle_of s) (sort_of (at ws 3)) (number_of (at ws 4))
     else (if is_word w (codes "give") then op.Give (var_of (at ws 0))
     else (if is_word w (codes "release") then op.Release (handle_of s)
-    else (if is_word w (codes "snap") then op.Snap (next_of s)
     else (if is_word w (codes "begin") then op.Begin
     else (if is_word w (codes "sweep") then op.Sweep
-    else (if is_word w (codes "resolve") then op.Resolve (opened_of s)
-    else (if is_word w (codes "abandon") then op.Abandon (opened_of s)
-    else op.Line (read_act w ws)))))))))))))
+    else op.Line (read_act w ws))))))))))
 
 -- each place is read back from its word
 pub read-number : (n : ℕ) → n < 2 ^ 64 → digits_value 10 (decimal n) ≡ n

@@ -1,5 +1,4 @@
--- What the words of an event and the state together tell of the event, for each event that may come in the form of the
--- first steps: all of it.
+-- What the words of an event and the state together tell of the event, for each event of a managed or a peer thread: all of it.
 use Rattle.std.proofs.Common.{◌≡◌, ◌<◌, ◌≤◌, ◌∷◌, decimal, refl, sym, ◌∙◌, ap, arith}
 use Rattle.joint_model.specs.declared.names.Thread.{Thread}
 use Rattle.joint_model.specs.declared.lines.Act.{Act}
@@ -9,7 +8,7 @@ use Rattle.joint_model.specs.declared.events.Op.TheVariants as op
 use Rattle.joint_model.specs.Lines.{IsVar, IsVarOrNone}
 use Rattle.bridge_script.specs.Words.{act_words}
 use Rattle.bridge_script.specs.Report.{event_words}
-use Rattle.script_histories.proofs.Reading.{Names, read_event, read-number, read-var, read-optional, read-kind, read-sort, read-static, read-own, read-cell, read-global}
+use Rattle.script_laws.proofs.Reading.{Names, read_event, read-number, read-var, read-optional, read-kind, read-sort, read-static, read-own, read-cell, read-global}
 
 -- an act that is one event of a managed or a peer thread, with its places within their limits
 abbrev pub IsBounded : Act → Type 0
@@ -33,7 +32,7 @@ IsBounded (act.WRead v g) = IsVar v × (g.0 < 64)
 IsBounded (act.Slice n) = n ≤ 65535
 IsBounded _ = ⊥
 
--- an event of the first steps, with its places within their limits, and the state's own names
+-- an event of a managed or a peer thread, with its places within their limits, and the state's own names
 abbrev pub IsKnown : Names → Op → Type 0
 IsKnown s (op.Line a) = IsBounded a
 IsKnown s (op.Make k n) = n ≤ 16
@@ -44,11 +43,8 @@ IsKnown s (op.Grip x) = x.0 < 16
 IsKnown s (op.Meet v p h k n) = IsVar v × (n ≤ 16) × (s.peer ≡ p.0) × (s.handle ≡ h.0)
 IsKnown s (op.Give v) = IsVar v
 IsKnown s (op.Release h) = s.handle ≡ h.0
-IsKnown s (op.Snap k) = s.next ≡ k.0
 IsKnown s op.Begin = Unit {0}
 IsKnown s op.Sweep = Unit {0}
-IsKnown s (op.Resolve k) = s.opened ≡ k.0
-IsKnown s (op.Abandon k) = s.opened ≡ k.0
 IsKnown s _ = ⊥
 
 read-act : (s : Names) (t : Thread) (a : Act) → IsBounded a → read_event s (act_words t a) ≡ op.Line a
@@ -82,11 +78,8 @@ read-known s t (op.Grip x) k = λ i. op.Grip (read-static x (115 ∷ decimal x.0
 read-known s t (op.Meet v p h o n) k = λ i. op.Meet (read-var v k.0 i) record { 0 = k.2 i } record { 0 = k.3 i } (read-sort o i) (read-number n (omega (arith, k.1)) i)
 read-known s t (op.Give v) k = λ i. op.Give (read-var v k i)
 read-known s t (op.Release h) k = λ i. op.Release record { 0 = k i }
-read-known s t (op.Snap c) k = λ i. op.Snap record { 0 = k i }
 read-known s t op.Begin k = refl
 read-known s t op.Sweep k = refl
-read-known s t (op.Resolve c) k = λ i. op.Resolve record { 0 = k i }
-read-known s t (op.Abandon c) k = λ i. op.Abandon record { 0 = k i }
 read-known s t o k = absurd k
 
 -- two events of one state with the same words

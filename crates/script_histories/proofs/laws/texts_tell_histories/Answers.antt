@@ -1,5 +1,0 @@
-use Rattle.script_histories.proofs.OneText.{one-text}
-use Rattle.script_histories.proofs.laws.texts_tell_histories.Goals as goal
-
-pub returns : goal.returns
-returns c = one-text
