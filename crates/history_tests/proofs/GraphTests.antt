@@ -4,9 +4,8 @@ use Rattle.std.proofs.Common.{◌≡◌, ℕ, ◌≤◌, ◌⊎◌, inl, inr, �
 use Rattle.std.specs.List.{Contains}
 use Rattle.joint_model.proofs.Members.{Contains-map, Contains-map_cases}
 use Rattle.joint_model.proofs.Numbered.{numbered-within}
-use Rattle.joint_model.specs.First.{AreUnreached}
 use Rattle.joint_model.specs.Heaps.{Heap, IsLive, HasField, InSlot, numbered_at}
-use Rattle.joint_model.specs.Joint.{Graph, Row, object, peer, IsJoined, JointEdge, IsHandle, IsRawRoot, IsLooseRoot, IsJointRoot, IsReachedIn}
+use Rattle.joint_model.specs.Joint.{Graph, Row, object, peer, IsJoined, JointEdge, IsHandle, IsRawRoot, IsLooseRoot, IsJointRoot, IsReachedIn, AreUnreached}
 use Rattle.joint_model.specs.Managed.{Managed, Holds, IsManagedRoot}
 use Rattle.joint_model.specs.Peers.{Issued, Hold, held, raw, strong, peer_of, is_held}
 use Rattle.history_tests.specs.Lists.{mem, has, count_from}

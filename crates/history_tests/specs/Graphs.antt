@@ -1,9 +1,8 @@
 -- What the one graph of both heaps reaches from its roots, and the peers that nothing reaches, by computing.
 use Rattle.std.specs.Prelude.{ℕ, ◌↔◌, Bool, false, not, ◌&&◌, nat_eq, IsTrue, List, [], ◌∷◌, ◌++◌, length, map, filter, flat_map, Option, Some, None}
 use Rattle.std.specs.List.{list_any}
-use Rattle.joint_model.specs.First.{AreUnreached}
 use Rattle.joint_model.specs.Heaps.{Heap, numbered_at}
-use Rattle.joint_model.specs.Joint.{Graph, Row, object, peer, IsReachedIn}
+use Rattle.joint_model.specs.Joint.{Graph, Row, object, peer, IsReachedIn, AreUnreached}
 use Rattle.joint_model.specs.Managed.{Managed}
 use Rattle.joint_model.specs.Peers.{Issued, peer_of, is_held, is_strong}
 use Rattle.history_tests.specs.Lists.{mem, has, reach, count_from, rises_exactly, where_true}

@@ -4,9 +4,8 @@
 -- twin, that twin isn't listed either.
 use Rattle.std.proofs.Common.{ℕ, List, Some, inl}
 use Rattle.std.specs.Prelude.{Contains}
-use Rattle.joint_model.specs.First.{AreUnreached}
 use Rattle.joint_model.specs.Heaps.{IsLive, HasField, fields_of}
-use Rattle.joint_model.specs.Joint.{Graph, Row, object, peer, IsJoined, JointEdge, IsJointRoot, IsReachedIn}
+use Rattle.joint_model.specs.Joint.{Graph, Row, object, peer, IsJoined, JointEdge, IsJointRoot, IsReachedIn, AreUnreached}
 use Rattle.joint_model.specs.Managed.{IsManagedRoot}
 use Rattle.joint_model.specs.Walks.{Reaches}
 use Rattle.joint_model.proofs.WalkLemmas.{Reached-start, Reached-then, Reaches-keeps}

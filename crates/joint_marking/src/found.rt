@@ -1,10 +1,9 @@
 // The peers that no joint root reaches.
 
 ghost use Rattle.std.specs.Prelude.{◌≡◌, ℕ, ◌+◌, ◌++◌, ◌↔◌, ◌⊎◌, Contains, IfOk, OnOk, IsTrue, length, map};
-ghost use Rattle.joint_model.specs.First.{AreUnreached};
 ghost use Rattle.joint_model.specs.Heaps.{IsLive};
 ghost use Rattle.joint_model.specs.Histories.{managed_numbers, peer_numbers};
-ghost use Rattle.joint_model.specs.Joint.{IsReachedIn, object, peer};
+ghost use Rattle.joint_model.specs.Joint.{IsReachedIn, object, peer, AreUnreached};
 ghost use Rattle.joint_marking.specs.Nodes.{AreLive, IsLiveRoot, IsRootNode, IsUnmarkedPeer, node_count, objects_in};
 ghost use Rattle.joint_marking.specs.Gathered.{RisesWith};
 

@@ -1,6 +1,7 @@
 -- The joint machine's state, and its one graph that joins managed objects, peers and handles.
-use Rattle.std.specs.Prelude.{◌≡◌, ℕ, ◌⊎◌, ◌+◌, Bool, false, ◌&&◌, nat_eq, if◌then◌else◌, List, [], ◌∷◌, Option, Some, None}
+use Rattle.std.specs.Prelude.{◌≡◌, ℕ, ◌⊎◌, ◌+◌, Bool, false, ◌&&◌, nat_eq, if◌then◌else◌, List, [], ◌∷◌, ◌↔◌, Contains, Option, Some, None}
 use Rattle.joint_model.specs.declared.names.Thread.{Thread}
+use Rattle.joint_model.specs.Components.{Rises}
 use Rattle.joint_model.specs.Heaps.{IsLive, HasField, InSlot, numbered_at, is_freed}
 use Rattle.joint_model.specs.Managed.{Managed, opening_managed, Holds, IsManagedRoot, handle_of}
 use Rattle.joint_model.specs.Peers.{Peers, opening_peers, Issued, held, raw, strong, peer_of, is_held}
@@ -85,6 +86,11 @@ IsJointRoot g (peer p) = InSlot g.peers.heap p ⊎ IsRawRoot g p ⊎ IsLooseRoot
 -- a walk over joint edges leads to the row from a joint root
 abbrev pub IsReachedIn : Graph → Row → Type 0
 IsReachedIn g x = Reached (IsJointRoot g) (JointEdge g) x
+
+-- the peers of a list are exactly the unfreed ones that aren't reached, and the list rises
+pub record AreUnreached (g : Graph) (peers : List ℕ) : Type 0 where
+  pub rise : Rises peers
+  pub exact : (p : ℕ) → Contains peers p ↔ (IsLive g.peers.heap p × (IsReachedIn g (peer p) → ⊥))
 
 -- the row is reached in a state
 abbrev pub IsReached : Joint → Row → Type 0

@@ -21,4 +21,3 @@ pub mod Joined
 pub mod Readers
 pub mod Sides
 pub mod Phases
-pub mod First

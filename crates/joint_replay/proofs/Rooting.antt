@@ -5,10 +5,9 @@ use Rattle.std.specs.Prelude.{Contains, All, slice_get}
 use Rattle.std.proofs.lemmas.List.{map-append}
 use Rattle.std.proofs.lemmas.List.Elements.{Contains-push, Contains-push_cases, Contains-append_left}
 use Rattle.joint_model.specs.declared.names.PNum.{PNum}
-use Rattle.joint_model.specs.First.{AreUnreached}
 use Rattle.joint_model.specs.Heaps.{IsLive, InSlot}
 use Rattle.joint_model.specs.Histories.{peer_numbers}
-use Rattle.joint_model.specs.Joint.{Graph, IsHandle, IsRawRoot, IsLooseRoot, IsReachedIn, object, peer}
+use Rattle.joint_model.specs.Joint.{Graph, IsHandle, IsRawRoot, IsLooseRoot, IsReachedIn, object, peer, AreUnreached}
 use Rattle.joint_model.specs.Managed.{Managed, IsManagedRoot}
 use Rattle.joint_model.specs.Peers.{Peers}
 use Rattle.joint_model.proofs.Members.{Contains-map, All-members}

@@ -1,16 +1,11 @@
 -- The worked histories, each by computing.
-use Rattle.std.proofs.Common.{refl, subst, [], ◌∷◌}
-use Rattle.joint_model.specs.First.{AllFirstMayCome, opening_first, first_replayed}
-use Rattle.joint_model.specs.Linked.{AllMayCome, opening_linkage, replayed, joint_projection}
-use Rattle.joint_model.specs.Run.{IsRun}
+use Rattle.std.proofs.Common.{refl, [], ◌∷◌}
+use Rattle.joint_model.specs.Linked.{AllMayCome, opening_linkage, replayed}
 use Rattle.history_tests.proofs.HistoryTests.{numbered, whole}
-use Rattle.history_tests.proofs.StepTests.{runs_tested}
 use Rattle.worked_histories.specs.CrossHeap.{cross_heap_cycle}
 use Rattle.worked_histories.specs.Deletion.{deletion}
 use Rattle.worked_histories.specs.Abandoned.{abandoned, AbandonedHolds}
 use Rattle.worked_histories.specs.EndedMarking.{ended_marking, EndedMarkingHolds}
-use Rattle.worked_histories.specs.FirstNames.{first_names, FirstNamesHold}
-use Rattle.worked_histories.specs.FirstSteps.{two_linked}
 use Rattle.worked_histories.specs.GlobalNames.{global_names, GlobalNamesHold}
 use Rattle.worked_histories.specs.HeldPeer.{held_peer, HeldPeerHolds}
 use Rattle.worked_histories.specs.MovedPeer.{moved_peer, MovedPeerHolds}
@@ -24,10 +19,9 @@ use Rattle.worked_histories.specs.Resurrected.{resurrected, ResurrectedHolds}
 use Rattle.worked_histories.specs.TwoMarkings.{two_markings, TwoMarkingsHold}
 use Rattle.worked_histories.specs.Phases.{two_phased}
 use Rattle.worked_histories.specs.Pins.{pinned_object}
-use Rattle.worked_histories.specs.Runs.{TwoLinkedRun, TwoPhasedRun, CrossHeapRun, SurfacedRun, PinnedRun, DeletionRun}
+use Rattle.worked_histories.specs.Runs.{TwoPhasedRun, CrossHeapRun, SurfacedRun, PinnedRun, DeletionRun}
 use Rattle.worked_histories.specs.Surfaced.{disposed_and_surfaced}
-use Rattle.worked_histories.specs.Wholes.{cross_heap_finished, two_linked_finished, HistoriesAreWhole}
-use Rattle.worked_histories.proofs.FirstTests.{all_come, first_whole}
+use Rattle.worked_histories.specs.Wholes.{cross_heap_finished, two_phased_finished, HistoriesAreWhole}
 use Rattle.worked_histories.proofs.Worked.{worked}
 
 pub abandoned-holds : AbandonedHolds
@@ -99,16 +93,6 @@ deletion-run = worked deletion ([] ∷ []) refl
 pub deletion-lawful : AllMayCome opening_linkage deletion
 deletion-lawful = deletion-run.linked.lawful
 
--- the form of the first steps
-pub two_linked-lawful : AllFirstMayCome opening_first two_linked
-two_linked-lawful = (all_come opening_first two_linked).holds refl
-
-pub first_names-holds : FirstNamesHold
-first_names-holds = (all_come opening_first first_names).holds refl
-
-pub two_linked-run : TwoLinkedRun
-two_linked-run = subst (IsRun (joint_projection two_linked)) refl (runs_tested (joint_projection two_linked) refl)
-
 -- finished histories
 pub histories-whole : HistoriesAreWhole
 histories-whole = record {
@@ -122,11 +106,11 @@ histories-whole = record {
     notices = refl;
   };
   queued = refl;
-  first_steps = record {
+  no_notices = record {
     same = refl;
-    numbers = (numbered 0 two_linked_finished.entries).holds refl;
-    lawful = two_linked-lawful;
-    whole = first_whole (first_replayed opening_first two_linked) refl refl;
+    numbers = (numbered 0 two_phased_finished.entries).holds refl;
+    lawful = two_phased-lawful;
+    whole = (whole (replayed opening_linkage two_phased)).holds refl;
     freed_managed = refl;
     freed_peers = refl;
     notices = refl;

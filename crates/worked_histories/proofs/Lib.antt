@@ -1,6 +1,5 @@
 mod Worked
 mod SideLists
-mod FirstTests
 mod Examples
 mod PairGraphs
 mod Places

@@ -12,8 +12,7 @@ use Rattle.joint_model.specs.Linked.{Linkage, opening_linkage, replayed, AllMayC
 use Rattle.joint_model.specs.PeerReplay.{MayClear}
 use Rattle.joint_model.specs.Told.{Told, nothing, snap_of, contraction_of, references_of, sweep_of, Noted}
 use Rattle.worked_histories.specs.Notes.{note, var, static_no, name_no, object_no, peer_no, handle_no, cycle_no, marking_no, span}
-use Rattle.worked_histories.specs.FirstSteps.{two_made}
-use Rattle.worked_histories.specs.Phases.{reached_cycle, dead_snap, weakened_both, swept_both, restored_first, restored_last}
+use Rattle.worked_histories.specs.Phases.{two_made, reached_cycle, dead_snap, weakened_both, swept_both, restored_first, restored_last}
 
 -- the history of two linked objects until its own sweep, and until the last restore
 abbrev pub until_own_sweep : List Noted

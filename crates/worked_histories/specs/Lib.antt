@@ -1,6 +1,5 @@
 pub mod Graphs
 pub mod Notes
-pub mod FirstSteps
 pub mod Phases
 pub mod CrossHeap
 pub mod Surfaced
@@ -24,7 +23,6 @@ pub mod SideLists
 pub mod Freeing
 pub mod Readings
 pub mod TwoMarkings
-pub mod FirstNames
 pub mod Wholes
 pub mod Broken
 pub mod Lines

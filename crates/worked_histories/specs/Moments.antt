@@ -2,9 +2,8 @@
 use Rattle.std.specs.Prelude.{ℕ, Bool, true, false, List, [], ◌∷◌}
 use Rattle.joint_model.specs.declared.events.Reply.{Reply}
 use Rattle.joint_model.specs.declared.events.Reply.TheVariants as says
-use Rattle.joint_model.specs.First.{AreUnreached}
 use Rattle.joint_model.specs.Joined.{joint_since, graph_at}
-use Rattle.joint_model.specs.Joint.{Joint, Graph, opening}
+use Rattle.joint_model.specs.Joint.{Joint, Graph, opening, AreUnreached}
 use Rattle.joint_model.specs.Linked.{Linkage, opening_linkage, linkage_after, is_joint, joint_projection, IsLinkedBy}
 use Rattle.joint_model.specs.Run.{Moment, IsRun}
 use Rattle.joint_model.specs.Told.{Noted}

@@ -1,15 +1,27 @@
 -- Two bridge objects, of which the first has the second in a field, with cycles of eight phases: the first cycle finds both
 -- reached, and the second frees both with their peers.
-use Rattle.std.specs.Prelude.{◌≡◌, ℕ, List, [], ◌∷◌, ◌++◌, Contains, Some, None}
+use Rattle.std.specs.Prelude.{◌≡◌, ℕ, List, [], ◌∷◌, ◌++◌, take, Contains, Some, None}
 use Rattle.joint_model.specs.declared.names.Thread.TheVariants.{M, C}
+use Rattle.joint_model.specs.declared.names.Sort.TheVariants.{User}
+use Rattle.joint_model.specs.declared.names.Kind.TheVariants as kind
 use Rattle.joint_model.specs.declared.lines.Act.TheVariants as act
 use Rattle.joint_model.specs.declared.events.Op.TheVariants as op
 use Rattle.joint_model.specs.declared.events.Reply.{Reply}
 use Rattle.joint_model.specs.declared.events.Reply.TheVariants as says
 use Rattle.joint_model.specs.Linked.{Linkage, opening_linkage, replayed, MayCome}
 use Rattle.joint_model.specs.Told.{nothing, snap_of, contraction_of, references_of, sweep_of, resolution_of, Noted, said_cleared, Answer}
-use Rattle.worked_histories.specs.FirstSteps.{two_made}
-use Rattle.worked_histories.specs.Notes.{note, var, handle_no, cycle_no, marking_no, span}
+use Rattle.worked_histories.specs.Notes.{note, var, object_no, peer_no, handle_no, cycle_no, marking_no, span}
+
+-- both objects are made, the first gets the second into its field, and the second's variable is emptied
+abbrev pub two_made : List Noted
+two_made =
+    note 0 (M 1) 1 (op.Make User 0) (says.Made (peer_no 1) (handle_no 1)) None nothing
+    ∷ note 1 (M 1) 1 (op.Adopt (var 0) kind.Bridge 1 (peer_no 1) (handle_no 1)) (says.M (object_no 1)) (Some 0) nothing
+    ∷ note 2 (M 1) 2 (op.Make User 0) (says.Made (peer_no 2) (handle_no 2)) None nothing
+    ∷ note 3 (M 1) 2 (op.Adopt (var 1) kind.Bridge 1 (peer_no 2) (handle_no 2)) (says.M (object_no 2)) (Some 2) nothing
+    ∷ note 4 (M 1) 3 (op.Line (act.Set (var 0) 0 (Some (var 1)))) says.Ok None nothing
+    ∷ note 5 (M 1) 4 (op.Line (act.Drop (var 1))) says.Ok None nothing
+    ∷ []
 
 -- the first cycle, while the first object's variable holds it: it has no candidates
 abbrev pub reached_cycle : List Noted
@@ -67,7 +79,10 @@ dead_end = note 24 C 7 (op.Resolve (cycle_no 2)) (says.Freed (span 0 2)) (Some 2
 abbrev pub two_phased : List Noted
 two_phased = two_made ++ (reached_cycle ++ (dead_snap ++ (dead_peers ++ dead_end)))
 
--- the state once both objects are made, after the first cycle, before the second one's mirror, and before its resolution
+-- the state before the set, once both objects are made, after the first cycle, before the second one's mirror, and before its resolution
+abbrev pub before_set : Linkage
+before_set = replayed opening_linkage (take 4 two_made)
+
 abbrev pub making_phased : Linkage
 making_phased = replayed opening_linkage two_made
 
@@ -79,6 +94,14 @@ before_mirror = replayed after_reached dead_snap
 
 abbrev pub before_resolve : Linkage
 before_resolve = replayed before_mirror dead_peers
+
+-- the set that may come there answers ok, and nothing else
+abbrev pub SetsField : Type 0
+SetsField = (reply : Reply) → MayCome before_set (note 4 (M 1) 3 (op.Line (act.Set (var 0) 0 (Some (var 1)))) reply None nothing) → reply ≡ says.Ok
+
+-- no snap that frees the first object may come after the making
+abbrev pub KeepsReached : Type 0
+KeepsReached = (freed candidates dead : List ℕ) (reply : Reply) → Contains freed 1 → MayCome making_phased (note 6 C 5 (op.Snap (cycle_no 1)) reply None (snap_of freed candidates dead)) → ⊥
 
 -- a mirror that may come there adds the one reference, and no other list
 abbrev pub MirrorsBoth : Type 0

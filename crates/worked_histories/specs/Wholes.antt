@@ -1,12 +1,11 @@
 -- Finished histories that are linked by their notes: nothing is left half done, and the lists that spans name are what was
 -- freed and queued.
 use Rattle.std.specs.Prelude.{[], ◌∷◌, map}
-use Rattle.joint_model.specs.First.{IsFirstLinkedBy}
 use Rattle.joint_model.specs.Histories.{Finished}
 use Rattle.joint_model.specs.Linked.{IsLinkedBy, HasQueued}
 use Rattle.worked_histories.specs.CrossHeap.{cross_heap_cycle}
-use Rattle.worked_histories.specs.FirstSteps.{two_linked}
 use Rattle.worked_histories.specs.Notes.{object_no, peer_no}
+use Rattle.worked_histories.specs.Phases.{two_phased}
 
 -- the history of the cycle across both heaps: it frees two objects and two peers, and queues two notices
 abbrev pub cross_heap_finished : Finished
@@ -17,10 +16,10 @@ cross_heap_finished = record {
   notices = object_no 1 ∷ object_no 2 ∷ [];
 }
 
--- the history of the two linked objects in the form of the first steps, in which nobody takes notices
-abbrev pub two_linked_finished : Finished
-two_linked_finished = record {
-  entries = map (λ n. n.entry) two_linked;
+-- the history of the two linked objects, in which nobody takes notices: its list may leave out those that are only queued
+abbrev pub two_phased_finished : Finished
+two_phased_finished = record {
+  entries = map (λ n. n.entry) two_phased;
   freed_managed = object_no 1 ∷ object_no 2 ∷ [];
   freed_peers = peer_no 1 ∷ peer_no 2 ∷ [];
   notices = [];
@@ -30,4 +29,4 @@ two_linked_finished = record {
 pub record HistoriesAreWhole : Type 0 where
   pub cross_heap : IsLinkedBy cross_heap_finished cross_heap_cycle
   pub queued : HasQueued cross_heap_finished cross_heap_cycle
-  pub first_steps : IsFirstLinkedBy two_linked_finished two_linked
+  pub no_notices : IsLinkedBy two_phased_finished two_phased

@@ -1,9 +1,7 @@
-// Further histories: but for those of the first steps the notes of each make a linked history, and its projection is a run of the
-// joint machine.
+// Further histories: the notes of each make a linked history, and its projection is a run of the joint machine.
 
 ghost use Rattle.worked_histories.specs.Abandoned.{AbandonedHolds};
 ghost use Rattle.worked_histories.specs.EndedMarking.{EndedMarkingHolds};
-ghost use Rattle.worked_histories.specs.FirstNames.{FirstNamesHold};
 ghost use Rattle.worked_histories.specs.Freeing.{FreesOneObject};
 ghost use Rattle.worked_histories.specs.GlobalNames.{GlobalNamesHold};
 ghost use Rattle.worked_histories.specs.HeldPeer.{HeldPeerHolds};
@@ -91,9 +89,4 @@ pub fn one_object_is_freed_in_time()
 /// What threads are answered while a marking or a cycle of another is open.
 pub fn two_markings_is_lawful()
     ensures { TwoMarkingsHold }
-{}
-
-/// Global names in the form of the first steps.
-pub fn first_names_is_lawful()
-    ensures { FirstNamesHold }
 {}

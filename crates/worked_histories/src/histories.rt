@@ -3,7 +3,7 @@
 ghost use Rattle.joint_model.specs.Linked.{AllMayCome, opening_linkage};
 ghost use Rattle.worked_histories.specs.CrossHeap.{cross_heap_cycle};
 ghost use Rattle.worked_histories.specs.Deletion.{deletion, KeepsDeleted};
-ghost use Rattle.worked_histories.specs.Phases.{two_phased, MirrorsBoth, ResolvesBoth};
+ghost use Rattle.worked_histories.specs.Phases.{two_phased, SetsField, KeepsReached, MirrorsBoth, ResolvesBoth};
 ghost use Rattle.worked_histories.specs.Pins.{pinned_object, ReadsPinned};
 ghost use Rattle.worked_histories.specs.Surfaced.{disposed_and_surfaced};
 ghost use Rattle.worked_histories.specs.Wholes.{HistoriesAreWhole};
@@ -11,6 +11,16 @@ ghost use Rattle.worked_histories.specs.Wholes.{HistoriesAreWhole};
 /// Two linked bridge objects: every entry may come when it comes.
 pub fn two_linked_objects_by_phases()
     ensures { AllMayCome opening_linkage two_phased }
+{}
+
+/// The set of the first object's field answers ok: an answer that the variable is empty isn't lawful.
+pub fn set_answers_ok()
+    ensures { SetsField }
+{}
+
+/// The first snap can't free the object that a variable holds, whatever else is told of it.
+pub fn reached_object_stays()
+    ensures { KeepsReached }
 {}
 
 /// The mirror of their dead part adds the one reference: a list without it isn't lawful.

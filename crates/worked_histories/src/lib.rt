@@ -5,7 +5,6 @@
 #![tactic(auto)]
 
 mod broken;
-mod first_steps;
 mod further;
 mod gaps;
 mod graphs;
@@ -17,9 +16,8 @@ pub use broken::{
     mirror_holds_the_second_peer, mirror_outlasts_the_restores, promoted_peer_is_kept,
     weak_handle_is_no_root,
 };
-pub use first_steps::{reached_object_stays, set_answers_ok, two_linked_objects};
 pub use further::{
-    abandoned_is_lawful, ended_marking_is_lawful, first_names_is_lawful, global_names_is_lawful,
+    abandoned_is_lawful, ended_marking_is_lawful, global_names_is_lawful,
     held_peer_is_lawful, moved_peer_is_lawful, one_object_has_two_lists,
     one_object_is_freed_in_time, one_object_is_lawful, peer_marking_is_lawful,
     pending_read_is_lawful, plain_between_is_lawful, plain_object_is_lawful, refusals_is_lawful,
@@ -33,13 +31,13 @@ pub use graphs::{components_of_a_circle, components_of_a_diamond, components_wit
 pub use histories::{
     cycle_across_both_heaps, deleted_reference_holds, disposed_and_surfaced_object,
     field_emptied_in_a_marking, filled_pin_is_told, finished_histories_are_linked,
-    mirror_leaves_nothing_out, object_in_a_pin, resolution_keeps_the_answered,
-    two_linked_objects_by_phases,
+    mirror_leaves_nothing_out, object_in_a_pin, reached_object_stays,
+    resolution_keeps_the_answered, set_answers_ok, two_linked_objects_by_phases,
 };
 pub use readings::{
     own_cell_is_set, pending_reads_by_readers, pending_reads_end, pinned_reads_by_readers,
 };
 pub use runs::{
     cycle_across_both_heaps_run, disposed_and_surfaced_object_run, field_emptied_in_a_marking_run,
-    object_in_a_pin_run, two_linked_objects_by_phases_run, two_linked_objects_run,
+    object_in_a_pin_run, two_linked_objects_by_phases_run,
 };

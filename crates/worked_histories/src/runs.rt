@@ -1,13 +1,8 @@
-// The worked histories as runs of the joint machine; those with cycles of eight phases are whole.
+// The worked histories as runs of the joint machine; each is whole.
 
-ghost use Rattle.worked_histories.specs.Runs.{TwoLinkedRun, TwoPhasedRun, CrossHeapRun, SurfacedRun, PinnedRun, DeletionRun};
+ghost use Rattle.worked_histories.specs.Runs.{TwoPhasedRun, CrossHeapRun, SurfacedRun, PinnedRun, DeletionRun};
 
-/// The two linked objects in the form of the first steps.
-pub fn two_linked_objects_run()
-    ensures { TwoLinkedRun }
-{}
-
-/// The two linked objects with cycles of eight phases.
+/// The two linked objects.
 pub fn two_linked_objects_by_phases_run()
     ensures { TwoPhasedRun }
 {}
