@@ -10,7 +10,7 @@ use Rattle.joint_model.specs.declared.names.PhaseWord.TheVariants as word
 use Rattle.joint_model.specs.declared.events.Entry.{Entry}
 use Rattle.joint_model.specs.declared.events.Op.TheVariants as op
 use Rattle.joint_model.specs.declared.events.Reply.TheVariants as says
-use Rattle.joint_model.specs.Control.{Opened, idle, weakening, marked, restoring, restored, candidates_of}
+use Rattle.joint_model.specs.Control.{OpenSnap, idle, weakening, marked, restoring, restored, candidates_of}
 use Rattle.joint_model.specs.Listed.{Answers as Stock, answers_of}
 use Rattle.joint_model.specs.Managed.{Managed}
 use Rattle.joint_model.specs.Phases.{ArePhase, candidates_after, next_phase}
@@ -71,7 +71,7 @@ module _ (f : Fields) (index : ℕ) (h : IsHeld f) (e : f.progress.phase ≡ at.
       }
 
 -- the cycle's own marking was begun, after one that was open was ended, or there was none
-module _ (old between new : View) (index : ℕ) (o : Opened) (count : ℕ) (weakened : Bool) (m : Managed) (stands : DriverStands old index (weakening o count weakened false) m) (all : count ≡ length (candidates_of m)) (n : ℕ) (j : Marking) (begins : MakesBegin between new index n j) where
+module _ (old between new : View) (index : ℕ) (o : OpenSnap) (count : ℕ) (weakened : Bool) (m : Managed) (stands : DriverStands old index (weakening o count weakened false) m) (all : count ≡ length (candidates_of m)) (n : ℕ) (j : Marking) (begins : MakesBegin between new index n j) where
   abbrev begin : Entry
   begin = driver_entry n index op.Begin (says.Mark j) None
 

@@ -3,7 +3,7 @@
 use Rattle.std.specs.Prelude.{◌≡◌, ℕ, Bool, false, [], length, Option, Some}
 use Rattle.joint_model.specs.declared.names.Phase.{Phase}
 use Rattle.joint_model.specs.declared.names.Phase.TheVariants as at
-use Rattle.joint_model.specs.Control.{Opened, Stand, idle, snapped, contracted, weakening, marked, restoring, restored, candidates_of}
+use Rattle.joint_model.specs.Control.{OpenSnap, Stand, idle, snapped, contracted, weakening, marked, restoring, restored, candidates_of}
 use Rattle.joint_model.specs.Listed.{Answers, answers_of}
 use Rattle.joint_model.specs.Managed.{Managed, OpenCycle}
 use Rattle.joint_laws.specs.ManagedInvariants.{IsManagedKept}
@@ -25,7 +25,7 @@ pub record Fields : Type 0 where
   pub clear : ℕ
 
 -- the open cycle, as the history names it
-abbrev pub opened_of : Snapshot → Opened
+abbrev pub opened_of : Snapshot → OpenSnap
 opened_of o = record { cycle = o.cycle.0; snap = o.number }
 
 -- a cycle is open: the snapshot is that of the cycle, and its graph is the dead part's

@@ -7,7 +7,7 @@ use Rattle.joint_model.specs.declared.names.PhaseWord.TheVariants as word
 use Rattle.joint_model.specs.declared.names.Thread.TheVariants.{C}
 use Rattle.joint_model.specs.declared.events.Entry.{Entry}
 use Rattle.joint_model.specs.declared.events.Reply.TheVariants as says
-use Rattle.joint_model.specs.Control.{Opened, weakening, restoring}
+use Rattle.joint_model.specs.Control.{OpenSnap, weakening, restoring}
 use Rattle.joint_model.specs.Listed.{answers_of}
 use Rattle.joint_model.specs.Managed.{Managed}
 use Rattle.joint_model.specs.Phases.{AreTimes, candidates_after}
@@ -30,7 +30,7 @@ pub record MakesTimes (old new : View) (index : ℕ) (w : PhaseWord) (n : ℕ) (
 
 -- no handle of the driver's cycle is weakened yet
 pub record MayWeakenAll (v : View) (index snap : ℕ) (nodes : List Node) : Type 0 where
-  pub opened : Opened
+  pub opened : OpenSnap
   pub weakened : Bool
   pub seen : Managed
   pub stands : DriverStands v index (weakening opened 0 weakened false) seen
@@ -38,7 +38,7 @@ pub record MayWeakenAll (v : View) (index snap : ℕ) (nodes : List Node) : Type
   pub same : opened.snap ≡ snap
 
 -- so many handles are weakened
-pub record Weakens (old new : View) (index n : ℕ) (o : Opened) (m : Managed) : Type 0 where
+pub record Weakens (old new : View) (index n : ℕ) (o : OpenSnap) (m : Managed) : Type 0 where
   pub entries : List Entry
   pub makes : MakesTimes old new index word.Weaken n entries
   pub last : last_reply entries ≡ says.Ok
@@ -46,7 +46,7 @@ pub record Weakens (old new : View) (index n : ℕ) (o : Opened) (m : Managed) :
   pub stands : DriverStands new index (weakening o n weakened false) m
 
 abbrev pub WeakensAll : View → View → ℕ → ℕ → List Node → List HNum → Type 0
-WeakensAll old new index snap nodes hs = (o : Opened) (weakened : Bool) (m : Managed) → DriverStands old index (weakening o 0 weakened false) m → AreCandidates m nodes → o.snap ≡ snap → Weakens old new index (length hs) o m
+WeakensAll old new index snap nodes hs = (o : OpenSnap) (weakened : Bool) (m : Managed) → DriverStands old index (weakening o 0 weakened false) m → AreCandidates m nodes → o.snap ≡ snap → Weakens old new index (length hs) o m
 
 -- whether a restored handle's peer is there
 abbrev pub is_alive : Back → Bool
@@ -55,17 +55,17 @@ is_alive Cleared = false
 
 -- no handle of the driver's cycle is restored yet
 pub record MayRestoreAll (v : View) (index : ℕ) (nodes : List Node) : Type 0 where
-  pub opened : Opened
+  pub opened : OpenSnap
   pub seen : Managed
   pub stands : DriverStands v index (restoring opened []) seen
   pub candidates : AreCandidates seen nodes
 
 -- so many handles are restored, with these answers
-pub record Restores (old new : View) (index n : ℕ) (values : List Bool) (o : Opened) (m : Managed) : Type 0 where
+pub record Restores (old new : View) (index n : ℕ) (values : List Bool) (o : OpenSnap) (m : Managed) : Type 0 where
   pub entries : List Entry
   pub makes : MakesTimes old new index word.Restore n entries
   pub count : length values ≡ n
   pub stands : DriverStands new index (restoring o (answers_of values)) m
 
 abbrev pub RestoresAll : View → View → ℕ → List Node → List HNum → List Bool → Type 0
-RestoresAll old new index nodes hs values = (o : Opened) (m : Managed) → DriverStands old index (restoring o []) m → AreCandidates m nodes → Restores old new index (length hs) values o m
+RestoresAll old new index nodes hs values = (o : OpenSnap) (m : Managed) → DriverStands old index (restoring o []) m → AreCandidates m nodes → Restores old new index (length hs) values o m

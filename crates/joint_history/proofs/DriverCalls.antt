@@ -17,7 +17,7 @@ use Rattle.joint_model.specs.declared.events.Entry.{Entry}
 use Rattle.joint_model.specs.declared.events.Op.TheVariants as op
 use Rattle.joint_model.specs.declared.events.Reply.{Reply}
 use Rattle.joint_model.specs.declared.events.Reply.TheVariants as says
-use Rattle.joint_model.specs.Control.{Opened, Stand, idle, snapped, contracted, weakening, marked, restoring, restored, candidates_of, IsPhaseOf, IsAtRest, MayAbandonNow, seen_weakened, stand_after}
+use Rattle.joint_model.specs.Control.{OpenSnap, Stand, idle, snapped, contracted, weakening, marked, restoring, restored, candidates_of, IsPhaseOf, IsAtRest, MayAbandonNow, seen_weakened, stand_after}
 use Rattle.joint_model.specs.Cycles.{IsOpen}
 use Rattle.joint_model.specs.Linked.{Linkage}
 use Rattle.joint_model.specs.Listed.{answer_of, answers_of}
@@ -76,7 +76,7 @@ dead_here : (side : ManagedReplay) (stand : Stand) (seen : Managed) (u : IsUnder
 dead_here side stand seen u = subst (λ (r : ManagedReplay). HasSameDeadPart seen r.managed) u.managed u.dead
 
 -- the contraction of the dead part that the driver has seen is that of the open cycle
-contraction_may : (side : ManagedReplay) (o : Opened) (seen : Managed) (sccs xrefs : ℕ) (comps : List (List ℕ)) (pairs : List (ℕ × ℕ)) → IsUnderLock side (snapped o) seen → HasContraction seen sccs xrefs comps pairs → MayContract side o.cycle comps pairs
+contraction_may : (side : ManagedReplay) (o : OpenSnap) (seen : Managed) (sccs xrefs : ℕ) (comps : List (List ℕ)) (pairs : List (ℕ × ℕ)) → IsUnderLock side (snapped o) seen → HasContraction seen sccs xrefs comps pairs → MayContract side o.cycle comps pairs
 contraction_may side o seen sccs xrefs comps pairs u h =
     subst (λ (r : ManagedReplay). MayContract r o.cycle comps pairs) u.managed
     (snapped_may_be_contracted u.state u.kept o u.stood comps pairs (λ c e. u.dead.contraction c (u.dead.cycle ∙ e) comps pairs (h.exact c (u.dead.cycle ∙ e))))
@@ -116,25 +116,25 @@ same_objects : (s t : ManagedReplay) → t.managed ≡ s.managed → HasSameDead
 same_objects s t e = subst (λ (m : Managed). HasSameDeadPart s.managed m) (sym e) (dead_part_self s.managed)
 
 -- an unmirrored cycle is open
-abandon_open : (u : Linkage) → IsPastKept u → (stand : Stand) (o : Opened) → u.control.stand ≡ stand → IsUnmirrored stand o → IsOpenHere u o
+abandon_open : (u : Linkage) → IsPastKept u → (stand : Stand) (o : OpenSnap) → u.control.stand ≡ stand → IsUnmirrored stand o → IsOpenHere u o
 abandon_open u k (snapped p) o e i = (unmirrored_may_be_abandoned u k o).0 (e ∙ ap snapped i)
-abandon_open u k (contracted p comps pairs) o e i = (unmirrored_may_be_abandoned u k o).1 comps pairs (e ∙ ap (λ (z : Opened). contracted z comps pairs) i)
+abandon_open u k (contracted p comps pairs) o e i = (unmirrored_may_be_abandoned u k o).1 comps pairs (e ∙ ap (λ (z : OpenSnap). contracted z comps pairs) i)
 abandon_open u k idle o e i = absurd i
 abandon_open u k (weakening p count weakened swept) o e i = absurd i
 abandon_open u k (marked p) o e i = absurd i
 abandon_open u k (restoring p answers) o e i = absurd i
 abandon_open u k (restored p answers clear) o e i = absurd i
 
-abandon_allowed : (stand : Stand) (o : Opened) → IsUnmirrored stand o → MayAbandonNow stand o.cycle None
-abandon_allowed (snapped p) o i = (ap (λ (z : Opened). z.cycle) i, refl)
-abandon_allowed (contracted p comps pairs) o i = (ap (λ (z : Opened). z.cycle) i, refl)
+abandon_allowed : (stand : Stand) (o : OpenSnap) → IsUnmirrored stand o → MayAbandonNow stand o.cycle None
+abandon_allowed (snapped p) o i = (ap (λ (z : OpenSnap). z.cycle) i, refl)
+abandon_allowed (contracted p comps pairs) o i = (ap (λ (z : OpenSnap). z.cycle) i, refl)
 abandon_allowed idle o i = absurd i
 abandon_allowed (weakening p count weakened swept) o i = absurd i
 abandon_allowed (marked p) o i = absurd i
 abandon_allowed (restoring p answers) o i = absurd i
 abandon_allowed (restored p answers clear) o i = absurd i
 
-abandon_idle : (stand : Stand) (o : Opened) (n : ℕ) (k : Cycle) (reply : Reply) (told : Told) → IsUnmirrored stand o → stand_after stand n (op.Abandon k) reply told ≡ idle
+abandon_idle : (stand : Stand) (o : OpenSnap) (n : ℕ) (k : Cycle) (reply : Reply) (told : Told) → IsUnmirrored stand o → stand_after stand n (op.Abandon k) reply told ≡ idle
 abandon_idle (snapped p) o n k reply told i = refl
 abandon_idle (contracted p comps pairs) o n k reply told i = refl
 abandon_idle idle o n k reply told i = absurd i
@@ -183,7 +183,7 @@ unseen : (seen : Bool) (phase : Phase) → IsOther phase → seen_weakened seen 
 unseen seen at.Weakened o = absurd o
 unseen seen phase o = refl
 
-still_other : (o : Opened) (count : ℕ) (weakened swept : Bool) (phase : Phase) (next : Stand) → IsOther phase → next ≡ weakening o count weakened swept → IsStillAt (weakening o count weakened swept) phase next
+still_other : (o : OpenSnap) (count : ℕ) (weakened swept : Bool) (phase : Phase) (next : Stand) → IsOther phase → next ≡ weakening o count weakened swept → IsStillAt (weakening o count weakened swept) phase next
 still_other o count weakened swept at.Weakened next other e = absurd other
 still_other o count weakened swept phase next other e = e
 
@@ -227,7 +227,7 @@ module _ (locked mine mine1 locked2 mine2 : View) (order : OrderId) (seat seat' 
   under stand seen s = under_lock locked mine seat.view mine1 old index stand seen pass owns ks s l
 
   -- the contraction
-  with_contraction : (sccs xrefs n : ℕ) → DrawsContraction order seat seat' old new index sccs xrefs n → (o : Opened) (seen : Managed) (comps : List (List ℕ)) (pairs : List (ℕ × ℕ)) → DriverStands mine index (snapped o) seen → HasContraction seen sccs xrefs comps pairs
+  with_contraction : (sccs xrefs n : ℕ) → DrawsContraction order seat seat' old new index sccs xrefs n → (o : OpenSnap) (seen : Managed) (comps : List (List ℕ)) (pairs : List (ℕ × ℕ)) → DriverStands mine index (snapped o) seen → HasContraction seen sccs xrefs comps pairs
       → DrivenUnder mine locked2 mine2 old new index (snapped o) seen (driver_entry n index (op.Contract record { 0 = o.cycle }) (says.Sccs sccs xrefs) None) (contraction_of comps pairs)
   with_contraction sccs xrefs n d o seen comps pairs s h =
       let may = contraction_may old.state o seen sccs xrefs comps pairs (under (snapped o) seen s) h in
@@ -250,7 +250,7 @@ module _ (locked mine mine1 locked2 mine2 : View) (order : OrderId) (seat seat' 
   contraction_knows sccs xrefs n d w = (with_contraction sccs xrefs n d w.opened w.seen w.comps w.pairs w.stands w.contraction).knows
 
   -- the abandoning
-  with_abandon : (n : ℕ) → DrawsAbandon order seat seat' old new index n → (o : Opened) (stand : Stand) (seen : Managed) → DriverStands mine index stand seen → IsUnmirrored stand o
+  with_abandon : (n : ℕ) → DrawsAbandon order seat seat' old new index n → (o : OpenSnap) (stand : Stand) (seen : Managed) → DriverStands mine index stand seen → IsUnmirrored stand o
       → DrivenUnder mine locked2 mine2 old new index stand seen (driver_entry n index (op.Abandon record { 0 = o.cycle }) says.Ok None) nothing
   with_abandon n d o stand seen s i =
       let u = under stand seen s in
@@ -268,7 +268,7 @@ module _ (locked mine mine1 locked2 mine2 : View) (order : OrderId) (seat seat' 
   abandon_knows n d w = (with_abandon n d w.opened w.stand w.seen w.stands w.unmirrored).knows
 
   -- the resolution
-  with_resolution : (clear n : ℕ) (alive : List Bool) (out : ResolveOut) (d : DrawsResolution order seat seat' old new index clear n alive out) (o : Opened) (seen : Managed) → DriverStands mine index (restored o (answers_of alive) clear) seen
+  with_resolution : (clear n : ℕ) (alive : List Bool) (out : ResolveOut) (d : DrawsResolution order seat seat' old new index clear n alive out) (o : OpenSnap) (seen : Managed) → DriverStands mine index (restored o (answers_of alive) clear) seen
       → DrivenUnder mine locked2 mine2 old new index (restored o (answers_of alive) clear) seen (driver_entry n index (op.Resolve record { 0 = o.cycle }) (says.Freed out.freed) (Some clear)) (resolution_of (answers_of alive) d.freed)
   with_resolution clear n alive out d o seen s =
       let u = under (restored o (answers_of alive) clear) seen s in

@@ -11,7 +11,7 @@ use Rattle.joint_model.specs.declared.events.Entry.{Entry}
 use Rattle.joint_model.specs.declared.events.Op.TheVariants as op
 use Rattle.joint_model.specs.declared.events.Reply.{Reply}
 use Rattle.joint_model.specs.declared.events.Reply.TheVariants as says
-use Rattle.joint_model.specs.Control.{Opened, Stand, idle, snapped, contracted, weakening, marked, restoring, restored, candidates_of, MaySweepNow, stand_after}
+use Rattle.joint_model.specs.Control.{OpenSnap, Stand, idle, snapped, contracted, weakening, marked, restoring, restored, candidates_of, MaySweepNow, stand_after}
 use Rattle.joint_model.specs.Lines.{IsDriver}
 use Rattle.joint_model.specs.Managed.{Managed}
 use Rattle.joint_model.specs.PeerReplay.{PeerReplay, Marking, swept}
@@ -42,7 +42,7 @@ some_marking : (o : Option Marking) (mk : Marking) → o ≡ Some mk → IsSome 
 some_marking o mk e = subst IsSome (sym e) refl
 
 -- in the marked phase the own marking is open
-marked_open : (side : PeerReplay) (o : Opened) (seen : Managed) → IsUnderPeers side (marked o) seen → IsSome side.marking
+marked_open : (side : PeerReplay) (o : OpenSnap) (seen : Managed) → IsUnderPeers side (marked o) seen → IsSome side.marking
 marked_open side o seen u =
     let w = marked_is_the_drivers u.state u.kept o u.stood in
     subst (λ (s : PeerReplay). IsSome s.marking) u.peer (some_marking u.state.peer.marking w.0 w.1)
@@ -98,7 +98,7 @@ module _ (locked mine mine1 locked2 mine2 : View) (order : OrderId) (seat seat' 
   sweep_closes n out d = ap (λ (s : PeerReplay). s.marking) d.drew.goes.state ∙ sweep_leaves_none old.state None (sweep_of d.freed)
 
   -- the begin
-  with_begin : (n : ℕ) (j : Number) → Drew peer_rules 1 order seat seat' old new (driver_entry n index op.Begin (says.Mark j) None) nothing → (o : Opened) (count : ℕ) (weakened swept : Bool) (m : Managed) → DriverStands mine index (weakening o count weakened swept) m
+  with_begin : (n : ℕ) (j : Number) → Drew peer_rules 1 order seat seat' old new (driver_entry n index op.Begin (says.Mark j) None) nothing → (o : OpenSnap) (count : ℕ) (weakened swept : Bool) (m : Managed) → DriverStands mine index (weakening o count weakened swept) m
       → count ≡ length (candidates_of m) → DrivenUnderPeers mine locked2 mine2 old new index (weakening o count weakened swept) m (driver_entry n index op.Begin (says.Mark j) None) nothing
   with_begin n j d o count weakened swept m s all =
       driven_peers locked mine mine1 locked2 mine2 order seat seat' old new index (weakening o count weakened swept) m (driver_entry n index op.Begin (says.Mark j) None) nothing pass owns refl refl short ks s

@@ -9,7 +9,7 @@ use Rattle.joint_model.specs.declared.names.Thread.TheVariants.{C}
 use Rattle.joint_model.specs.declared.events.Op.TheVariants as op
 use Rattle.joint_model.specs.declared.events.Reply.TheVariants as says
 use Rattle.joint_model.specs.Components.{mirror_edges}
-use Rattle.joint_model.specs.Control.{Opened, Stand, contracted, candidates_of, carried_edges, MayMirrorNow, DriverAllows}
+use Rattle.joint_model.specs.Control.{OpenSnap, Stand, contracted, candidates_of, carried_edges, MayMirrorNow, DriverAllows}
 use Rattle.joint_model.specs.Cycles.{IsDeadContraction}
 use Rattle.joint_model.specs.Linked.{Linkage}
 use Rattle.joint_model.specs.Managed.{Managed}
@@ -41,7 +41,7 @@ use Rattle.joint_history.proofs.MirroredParts.{ShowsHandles, candidates-few, car
 use Rattle.joint_history.proofs.Reserving.{KnowsOn, back_on, drew_on, due_snoc, lent_on, nothing_kept, reserves_on, room_by_one}
 
 -- what holds under the lock where the driver has contracted its cycle to what the listing has of the graph's nodes
-module _ (side : PeerReplay) (o : Opened) (comps : List (List ℕ)) (pairs : List (ℕ × ℕ)) (m : Managed) (g : Part) (l : Listing) (u : IsUnderPeers side (contracted o comps pairs) m) (w : IsListedBy g l m comps pairs) where
+module _ (side : PeerReplay) (o : OpenSnap) (comps : List (List ℕ)) (pairs : List (ℕ × ℕ)) (m : Managed) (g : Part) (l : Listing) (u : IsUnderPeers side (contracted o comps pairs) m) (w : IsListedBy g l m comps pairs) where
   may : MayBeInstalled u.state o comps pairs
   may = contracted_may_be_installed u.state u.kept o comps pairs u.stood
 
@@ -94,7 +94,7 @@ pub record CalledMirror {E : Type 0} (mine locked2 mine2 : View) (new : PeerMode
 -- after a draw under the lock
 module _ (locked mine mine1 locked2 mine2 : View) (order : OrderId) (seat seat' : Shown) (old new : PeerModel) (index : ℕ) (pass : HoldsPass C mine) (owns : Owns locked 1) (short : index < 2 ^ 32) (ks : PeerKnows locked (seen old)) (lends : Lends C locked mine seat.view mine1) (b : Returns C seat'.view mine1 locked2 mine2)
     (k : Cycle) (snap : ℕ) (g : Part) (l : Listing) (part : IsPart g.nodes g.edges) (listing : IsListing l.comps l.pairs) where
-  with_mirror : (n refs : ℕ) → DrawsMirror order seat seat' (seen old) (seen new) index k snap g l n refs → (o : Opened) (comps : List (List ℕ)) (pairs : List (ℕ × ℕ)) (m : Managed) → DriverStands mine index (contracted o comps pairs) m → IsListedBy g l m comps pairs → o.cycle ≡ k.0 → o.snap ≡ snap
+  with_mirror : (n refs : ℕ) → DrawsMirror order seat seat' (seen old) (seen new) index k snap g l n refs → (o : OpenSnap) (comps : List (List ℕ)) (pairs : List (ℕ × ℕ)) (m : Managed) → DriverStands mine index (contracted o comps pairs) m → IsListedBy g l m comps pairs → o.cycle ≡ k.0 → o.snap ≡ snap
       → DrivenUnderPeers mine locked2 mine2 (seen old) (seen new) index (contracted o comps pairs) m (driver_entry n index (op.Mirror k) (says.Refs refs) (Some snap)) (references_of (carried_to_peers old.state.peers.issued g.nodes (mirror_edges l.comps l.pairs)))
   with_mirror n refs d o comps pairs m s w same_cycle same_snap =
       driven_peers locked mine mine1 locked2 mine2 order seat seat' (seen old) (seen new) index (contracted o comps pairs) m (driver_entry n index (op.Mirror k) (says.Refs refs) (Some snap)) (references_of (carried_to_peers old.state.peers.issued g.nodes (mirror_edges l.comps l.pairs))) pass owns refl refl short ks s

@@ -15,7 +15,7 @@ use Rattle.joint_model.specs.declared.events.Op.{Op}
 use Rattle.joint_model.specs.declared.events.Op.TheVariants as op
 use Rattle.joint_model.specs.declared.events.Reply.{Reply}
 use Rattle.joint_model.specs.declared.events.Reply.TheVariants as says
-use Rattle.joint_model.specs.Control.{Opened, Stand, idle, snapped, contracted, weakening, marked, restoring, restored, stand_after, control_after, CallerAllows, DriverAllows, IsCandidateHandle}
+use Rattle.joint_model.specs.Control.{OpenSnap, Stand, idle, snapped, contracted, weakening, marked, restoring, restored, stand_after, control_after, CallerAllows, DriverAllows, IsCandidateHandle}
 use Rattle.joint_model.specs.Draws.{numbered}
 use Rattle.joint_model.specs.HistoryLines.{caller_line, stands_in}
 use Rattle.joint_model.specs.Lines.{is_peer_event}
@@ -276,7 +276,7 @@ step_reserves t index o cites order locked mine mine1 locked2 mine2 seat seat' o
     reserves_on locked locked2 old new ks (back_on t locked seat'.view mine1 locked2 mine2 (subst (λ (s : Shown). KnowsOn locked s.view) (sym e.0) (lent_on t locked mine seat.view mine1 l)) b) (nothing_kept old new e.1 same) r
 
 -- before the driver's own marking begins there is room for it
-pub marking_is_due : (locked mine lent mine1 : View) (side : PeerModel) (index : ℕ) (o : Opened) (count : ℕ) (weakened swept : Bool) (m : Managed) → HoldsPass C mine → Owns locked 1 → PeerKnows locked (seen side) → PeerReserves locked side → DriverStands mine index (weakening o count weakened swept) m
+pub marking_is_due : (locked mine lent mine1 : View) (side : PeerModel) (index : ℕ) (o : OpenSnap) (count : ℕ) (weakened swept : Bool) (m : Managed) → HoldsPass C mine → Owns locked 1 → PeerKnows locked (seen side) → PeerReserves locked side → DriverStands mine index (weakening o count weakened swept) m
     → Lends C locked mine lent mine1 → side.reserve.marking ≡ true
 marking_is_due locked mine lent mine1 side index o count weakened swept m pass owns ks r s l =
     let j = lent_joined C locked mine lent mine1 l ks.known s.known in
@@ -285,7 +285,7 @@ marking_is_due locked mine lent mine1 side index o count weakened swept m pass o
     r.marking ∙ (ap is_marking_due same ∙ due_at_end j.joined.past j.joined.lawful (subst IsToMark (sym at.come) tt))
 
 -- before the driver weakens the next candidate's handle there is room for it
-pub weakening_has_room : (locked mine lent mine1 : View) (side : PeerModel) (index : ℕ) (o : Opened) (count h : ℕ) (weakened swept : Bool) (m : Managed) → HoldsPass C mine → Owns locked 1 → PeerKnows locked (seen side) → PeerReserves locked side
+pub weakening_has_room : (locked mine lent mine1 : View) (side : PeerModel) (index : ℕ) (o : OpenSnap) (count h : ℕ) (weakened swept : Bool) (m : Managed) → HoldsPass C mine → Owns locked 1 → PeerKnows locked (seen side) → PeerReserves locked side
     → DriverStands mine index (weakening o count weakened swept) m → IsCandidateHandle m count h → Lends C locked mine lent mine1 → 1 ≤ side.reserve.left
 weakening_has_room locked mine lent mine1 side index o count h weakened swept m pass owns ks r s cand l =
     let j = lent_joined C locked mine lent mine1 l ks.known s.known in

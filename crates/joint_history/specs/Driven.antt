@@ -13,7 +13,7 @@ use Rattle.joint_model.specs.declared.events.Op.{Op}
 use Rattle.joint_model.specs.declared.events.Op.TheVariants as op
 use Rattle.joint_model.specs.declared.events.Reply.{Reply}
 use Rattle.joint_model.specs.declared.events.Reply.TheVariants as says
-use Rattle.joint_model.specs.Control.{Opened, Stand, idle, snapped, contracted, weakening, restored, candidates_of, last_line, IsPhaseOf, IsAtRest}
+use Rattle.joint_model.specs.Control.{OpenSnap, Stand, idle, snapped, contracted, weakening, restored, candidates_of, last_line, IsPhaseOf, IsAtRest}
 use Rattle.joint_model.specs.Cycles.{IsDeadContraction}
 use Rattle.joint_model.specs.Draws.{numbered}
 use Rattle.joint_model.specs.HistoryLines.{caller_line}
@@ -80,7 +80,7 @@ pub record HasContraction (seen : Managed) (sccs xrefs : ℕ) (comps : List (Lis
 
 -- the driver has taken the snapshot, and these are the numbers of its dead part's components and cross-references
 pub record MayContractCycle (v : View) (index sccs xrefs : ℕ) : Type 0 where
-  pub opened : Opened
+  pub opened : OpenSnap
   pub seen : Managed
   pub comps : List (List ℕ)
   pub pairs : List (ℕ × ℕ)
@@ -89,18 +89,18 @@ pub record MayContractCycle (v : View) (index sccs xrefs : ℕ) : Type 0 where
 
 -- the driver made the contraction of its cycle, and stands there with the same dead part
 abbrev pub MakesContraction : View → View → ℕ → ℕ → ℕ → ℕ → Type 0
-MakesContraction old new index sccs xrefs n = (o : Opened) (m : Managed) (comps : List (List ℕ)) (pairs : List (ℕ × ℕ)) → DriverStands old index (snapped o) m → HasContraction m sccs xrefs comps pairs
+MakesContraction old new index sccs xrefs n = (o : OpenSnap) (m : Managed) (comps : List (List ℕ)) (pairs : List (ℕ × ℕ)) → DriverStands old index (snapped o) m → HasContraction m sccs xrefs comps pairs
     → DriverMakes old new (snapped o) m (driver_entry n index (op.Contract record { 0 = o.cycle }) (says.Sccs sccs xrefs) None) (contraction_of comps pairs) × DriverStands new index (contracted o comps pairs) m
 
 -- the driver's cycle is open, and not yet mirrored
-abbrev pub IsUnmirrored : Stand → Opened → Type 0
+abbrev pub IsUnmirrored : Stand → OpenSnap → Type 0
 IsUnmirrored (snapped o) p = o ≡ p
 IsUnmirrored (contracted o comps pairs) p = o ≡ p
 IsUnmirrored _ p = ⊥
 
 -- so it is by what the driver's seat knows
 pub record MayAbandonCycle (v : View) (index : ℕ) : Type 0 where
-  pub opened : Opened
+  pub opened : OpenSnap
   pub stand : Stand
   pub seen : Managed
   pub stands : DriverStands v index stand seen
@@ -108,24 +108,24 @@ pub record MayAbandonCycle (v : View) (index : ℕ) : Type 0 where
 
 -- the driver abandoned its cycle, and is idle
 abbrev pub MakesAbandon : View → View → ℕ → ℕ → Type 0
-MakesAbandon old new index n = (o : Opened) (stand : Stand) (m : Managed) → DriverStands old index stand m → IsUnmirrored stand o
+MakesAbandon old new index n = (o : OpenSnap) (stand : Stand) (m : Managed) → DriverStands old index stand m → IsUnmirrored stand o
     → DriverMakes old new stand m (driver_entry n index (op.Abandon record { 0 = o.cycle }) says.Ok None) nothing × DriverRests new index
 
 -- all handles of the driver's cycle are restored, with these answers, and the references cleared by the entry with that number
 pub record MayResolveCycle (v : View) (index clear : ℕ) (answers : List Answer) : Type 0 where
-  pub opened : Opened
+  pub opened : OpenSnap
   pub seen : Managed
   pub stands : DriverStands v index (restored opened answers clear) seen
 
 -- the driver resolved its cycle: so many objects were freed, whose place among the freed ones is this; and it is idle
-pub record ResolvesCycle (old new : View) (index clear n : ℕ) (answers : List Answer) (span : Span) (o : Opened) (m : Managed) : Type 0 where
+pub record ResolvesCycle (old new : View) (index clear n : ℕ) (answers : List Answer) (span : Span) (o : OpenSnap) (m : Managed) : Type 0 where
   pub freed : List ℕ
   pub count : span.count ≡ length freed
   pub makes : DriverMakes old new (restored o answers clear) m (driver_entry n index (op.Resolve record { 0 = o.cycle }) (says.Freed span) (Some clear)) (resolution_of answers freed)
   pub rests : DriverRests new index
 
 abbrev pub MakesResolution : View → View → ℕ → ℕ → ℕ → List Answer → Span → Type 0
-MakesResolution old new index clear n answers span = (o : Opened) (m : Managed) → DriverStands old index (restored o answers clear) m → ResolvesCycle old new index clear n answers span o m
+MakesResolution old new index clear n answers span = (o : OpenSnap) (m : Managed) → DriverStands old index (restored o answers clear) m → ResolvesCycle old new index clear n answers span o m
 
 -- the driver is in that phase, in which the word is refused
 pub record MayRefuseWord (v : View) (index : ℕ) (w : PhaseWord) (phase : Phase) : Type 0 where

@@ -5,7 +5,7 @@ use Rattle.joint_model.specs.declared.names.Cycle.{Cycle}
 use Rattle.joint_model.specs.declared.names.HNum.{HNum}
 use Rattle.joint_model.specs.declared.events.Op.TheVariants as op
 use Rattle.joint_model.specs.declared.events.Reply.TheVariants as says
-use Rattle.joint_model.specs.Control.{Opened, weakening, restoring, restored, answer_in, candidates_of, IsCandidateHandle}
+use Rattle.joint_model.specs.Control.{OpenSnap, weakening, restoring, restored, answer_in, candidates_of, IsCandidateHandle}
 use Rattle.joint_model.specs.Managed.{Managed}
 use Rattle.joint_model.specs.Told.{Answer, nothing}
 use Rattle.global_handles.specs.declared.Back.{Back}
@@ -16,7 +16,7 @@ use Rattle.joint_history.specs.Driven.{DriverMakes, DriverStands, driver_entry}
 -- the handles of the first candidates of the driver's cycle are weakened, and this is the next one's; the cycle's snapshot is the entry with that
 -- number
 pub record MayWeakenHandle (v : View) (index snap h : ℕ) : Type 0 where
-  pub opened : Opened
+  pub opened : OpenSnap
   pub count : ℕ
   pub weakened : Bool
   pub seen : Managed
@@ -26,12 +26,12 @@ pub record MayWeakenHandle (v : View) (index snap h : ℕ) : Type 0 where
 
 -- the driver weakened that handle
 abbrev pub MakesWeaken : View → View → ℕ → ℕ → HNum → ℕ → Type 0
-MakesWeaken old new index snap h n = (o : Opened) (count : ℕ) (weakened : Bool) (m : Managed) → DriverStands old index (weakening o count weakened false) m → IsCandidateHandle m count h.0 → o.snap ≡ snap
+MakesWeaken old new index snap h n = (o : OpenSnap) (count : ℕ) (weakened : Bool) (m : Managed) → DriverStands old index (weakening o count weakened false) m → IsCandidateHandle m count h.0 → o.snap ≡ snap
     → DriverMakes old new (weakening o count weakened false) m (driver_entry n index (op.Weaken h) says.Ok (Some snap)) nothing × DriverStands new index (weakening o (count + 1) true false) m
 
 -- the cycle's own marking is over and the handles of the first candidates are restored, with these answers; and this is the next one's
 pub record MayRestoreHandle (v : View) (index h : ℕ) : Type 0 where
-  pub opened : Opened
+  pub opened : OpenSnap
   pub answers : List Answer
   pub seen : Managed
   pub stands : DriverStands v index (restoring opened answers) seen
@@ -39,12 +39,12 @@ pub record MayRestoreHandle (v : View) (index h : ℕ) : Type 0 where
 
 -- the driver restored that handle, which is alive or cleared
 abbrev pub MakesRestore : View → View → ℕ → HNum → Back → ℕ → Type 0
-MakesRestore old new index h back n = (o : Opened) (answers : List Answer) (m : Managed) → DriverStands old index (restoring o answers) m → IsCandidateHandle m (length answers) h.0
+MakesRestore old new index h back n = (o : OpenSnap) (answers : List Answer) (m : Managed) → DriverStands old index (restoring o answers) m → IsCandidateHandle m (length answers) h.0
     → DriverMakes old new (restoring o answers) m (driver_entry n index (op.Restore h) (reply_of back) None) nothing × DriverStands new index (restoring o (answers ++ answer_in (reply_of back) ∷ [])) m
 
 -- all handles of the driver's cycle, which is this one, are restored
 pub record MayClearCycle (v : View) (index k : ℕ) : Type 0 where
-  pub opened : Opened
+  pub opened : OpenSnap
   pub answers : List Answer
   pub seen : Managed
   pub stands : DriverStands v index (restoring opened answers) seen
@@ -53,5 +53,5 @@ pub record MayClearCycle (v : View) (index k : ℕ) : Type 0 where
 
 -- the driver cleared the references of its cycle: no reference is mirrored any more
 abbrev pub MakesClear : View → View → ℕ → Cycle → ℕ → Type 0
-MakesClear old new index k n = (o : Opened) (answers : List Answer) (m : Managed) → DriverStands old index (restoring o answers) m → length answers ≡ length (candidates_of m) → o.cycle ≡ k.0
+MakesClear old new index k n = (o : OpenSnap) (answers : List Answer) (m : Managed) → DriverStands old index (restoring o answers) m → length answers ≡ length (candidates_of m) → o.cycle ≡ k.0
     → DriverMakes old new (restoring o answers) m (driver_entry n index (op.Clear k) says.Ok None) nothing × DriverStands new index (restored o answers n) m

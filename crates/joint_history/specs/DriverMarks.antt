@@ -4,7 +4,7 @@ use Rattle.std.specs.Prelude.{◌≡◌, ℕ, Bool, true, false, List, [], lengt
 use Rattle.joint_model.specs.declared.names.Marking.{Marking}
 use Rattle.joint_model.specs.declared.events.Op.TheVariants as op
 use Rattle.joint_model.specs.declared.events.Reply.TheVariants as says
-use Rattle.joint_model.specs.Control.{Opened, Stand, weakening, marked, restoring, candidates_of, MaySweepNow}
+use Rattle.joint_model.specs.Control.{OpenSnap, Stand, weakening, marked, restoring, candidates_of, MaySweepNow}
 use Rattle.joint_model.specs.Managed.{Managed}
 use Rattle.joint_model.specs.PeerReplay.{PeerReplay}
 use Rattle.joint_model.specs.Sides.{Side, peer_rules}
@@ -30,7 +30,7 @@ pub record MayEndMarking (v : View) (index : ℕ) : Type 0 where
 
 -- the cycle's own marking is begun
 pub record HasBegunMarking (v : View) (index : ℕ) : Type 0 where
-  pub opened : Opened
+  pub opened : OpenSnap
   pub seen : Managed
   pub stands : DriverStands v index (marked opened) seen
 
@@ -53,7 +53,7 @@ MakesSweep old new index n out = (stand : Stand) (m : Managed) → DriverStands 
 
 -- all handles of the driver's cycle are weakened, and no marking was begun or ended in it
 pub record MayMarkCycle (v : View) (index : ℕ) : Type 0 where
-  pub opened : Opened
+  pub opened : OpenSnap
   pub count : ℕ
   pub weakened : Bool
   pub seen : Managed
@@ -62,7 +62,7 @@ pub record MayMarkCycle (v : View) (index : ℕ) : Type 0 where
 
 -- all handles of the driver's cycle are weakened, and its own marking isn't begun
 pub record MayBeginMarking (v : View) (index : ℕ) : Type 0 where
-  pub opened : Opened
+  pub opened : OpenSnap
   pub count : ℕ
   pub weakened : Bool
   pub swept : Bool
@@ -71,13 +71,13 @@ pub record MayBeginMarking (v : View) (index : ℕ) : Type 0 where
   pub all : count ≡ length (candidates_of seen)
 
 -- the driver began its cycle's own marking, which has that number
-pub record BeginsMarking (old new : View) (index n : ℕ) (j : Marking) (stand : Stand) (o : Opened) (m : Managed) : Type 0 where
+pub record BeginsMarking (old new : View) (index n : ℕ) (j : Marking) (stand : Stand) (o : OpenSnap) (m : Managed) : Type 0 where
   pub makes : DriverMakes old new stand m (driver_entry n index op.Begin (says.Mark j) None) nothing
   pub stands : DriverStands new index (marked o) m
 
 -- so it is from wherever the driver might begin it
 abbrev pub MakesBegin : View → View → ℕ → ℕ → Marking → Type 0
-MakesBegin old new index n j = (o : Opened) (count : ℕ) (weakened swept : Bool) (m : Managed) → DriverStands old index (weakening o count weakened swept) m → count ≡ length (candidates_of m) → BeginsMarking old new index n j (weakening o count weakened swept) o m
+MakesBegin old new index n j = (o : OpenSnap) (count : ℕ) (weakened swept : Bool) (m : Managed) → DriverStands old index (weakening o count weakened swept) m → count ≡ length (candidates_of m) → BeginsMarking old new index n j (weakening o count weakened swept) o m
 
 -- the driver ended a marking that was open, or there was none and it made nothing
 abbrev pub EndsFirst : View → View → ℕ → Option (ℕ × Swept) → Type 0

@@ -5,7 +5,7 @@ use Rattle.joint_model.specs.declared.names.Cycle.{Cycle}
 use Rattle.joint_model.specs.declared.events.Op.TheVariants as op
 use Rattle.joint_model.specs.declared.events.Reply.TheVariants as says
 use Rattle.joint_model.specs.Components.{mirror_edges}
-use Rattle.joint_model.specs.Control.{Opened, contracted, weakening, carried_edges}
+use Rattle.joint_model.specs.Control.{OpenSnap, contracted, weakening, carried_edges}
 use Rattle.joint_model.specs.Managed.{Managed, OpenCycle}
 use Rattle.joint_model.specs.PeerReplay.{PeerReplay}
 use Rattle.joint_model.specs.Sides.{Side, peer_rules}
@@ -42,7 +42,7 @@ pub record DrawsMirror (order : OrderId) (seat seat' : Shown) (side side' : Side
 
 -- the driver has contracted its cycle, which is this one and was opened by the entry with that number, to what the listing has of the graph's nodes
 pub record MayMirrorCycle (v : View) (index k snap : ℕ) (g : Part) (l : Listing) : Type 0 where
-  pub opened : Opened
+  pub opened : OpenSnap
   pub comps : List (List ℕ)
   pub pairs : List (ℕ × ℕ)
   pub seen : Managed
@@ -52,7 +52,7 @@ pub record MayMirrorCycle (v : View) (index k snap : ℕ) (g : Part) (l : Listin
   pub same_snap : opened.snap ≡ snap
 
 -- the driver mirrored its cycle, with so many references: they are the mirror edges, carried to the peers of the handles as both stood before the entry
-pub record MirrorsCycle (old new : View) (index n refs : ℕ) (k : Cycle) (o : Opened) (comps : List (List ℕ)) (pairs : List (ℕ × ℕ)) (m : Managed) : Type 0 where
+pub record MirrorsCycle (old new : View) (index n refs : ℕ) (k : Cycle) (o : OpenSnap) (comps : List (List ℕ)) (pairs : List (ℕ × ℕ)) (m : Managed) : Type 0 where
   pub told : List (ℕ × ℕ)
   pub makes : DriverMakes old new (contracted o comps pairs) m (driver_entry n index (op.Mirror k) (says.Refs refs) (Some o.snap)) (references_of told)
   pub carried : told ≡ carried_edges makes.state.managed.managed makes.state.peer.peers.issued (mirror_edges comps pairs)
@@ -61,5 +61,5 @@ pub record MirrorsCycle (old new : View) (index n refs : ℕ) (k : Cycle) (o : O
 
 -- so it is from wherever the driver might mirror it
 abbrev pub MakesMirror : View → View → ℕ → Cycle → ℕ → Part → Listing → ℕ → ℕ → Type 0
-MakesMirror old new index k snap g l refs n = (o : Opened) (comps : List (List ℕ)) (pairs : List (ℕ × ℕ)) (m : Managed) → DriverStands old index (contracted o comps pairs) m → IsListedBy g l m comps pairs → o.cycle ≡ k.0 → o.snap ≡ snap
+MakesMirror old new index k snap g l refs n = (o : OpenSnap) (comps : List (List ℕ)) (pairs : List (ℕ × ℕ)) (m : Managed) → DriverStands old index (contracted o comps pairs) m → IsListedBy g l m comps pairs → o.cycle ≡ k.0 → o.snap ≡ snap
     → MirrorsCycle old new index n refs k o comps pairs m

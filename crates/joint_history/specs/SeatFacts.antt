@@ -6,7 +6,7 @@ use Rattle.joint_model.specs.declared.events.Entry.{Entry}
 use Rattle.joint_model.specs.declared.events.Made.{Made}
 use Rattle.joint_model.specs.declared.events.Op.{Op}
 use Rattle.joint_model.specs.declared.events.Op.TheVariants as op
-use Rattle.joint_model.specs.Control.{Opened, candidates_of, restoring}
+use Rattle.joint_model.specs.Control.{OpenSnap, candidates_of, restoring}
 use Rattle.joint_model.specs.Heaps.{IsLive, fields_of}
 use Rattle.joint_model.specs.Peers.{weak}
 use Rattle.joint_model.specs.PeerReplay.{Mirror, PeerReplay, Refers, TableRow}
@@ -65,7 +65,7 @@ NoneLeadsToFreedIn s = (p q : ℕ) → IsLive s.peers.heap p → Contains (field
 
 -- no mirrored reference leads from a peer whose restore in the mirrored cycle answered alive to one whose restore answered cleared
 abbrev pub NoneLeadsToClearedIn : View → Type 0
-NoneLeadsToClearedIn v = (a : IsKnownView v) (o : Opened) (answers : List Answer) → (end_of a.past).control.stand ≡ restoring o answers → (p q : ℕ) → Refers (end_of a.past).peer.refs p q
+NoneLeadsToClearedIn v = (a : IsKnownView v) (o : OpenSnap) (answers : List Answer) → (end_of a.past).control.stand ≡ restoring o answers → (p q : ℕ) → Refers (end_of a.past).peer.refs p q
     → (alive : Answer) → IsKept alive → IsAnswered (end_of a.past) answers alive p → IsAnswered (end_of a.past) answers said_cleared q → ⊥
 
 -- the latest entry of a past, where it is a resolve, freed of its candidates exactly those whose restore answered cleared

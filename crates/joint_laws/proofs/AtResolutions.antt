@@ -3,7 +3,7 @@
 use Rattle.std.proofs.Common.{◌≡◌, ℕ, inl, inr, List, ◌++◌, length, sym, subst, ◌∙◌}
 use Rattle.std.specs.Prelude.{Contains}
 use Rattle.std.proofs.lemmas.Option.{same_Some, slice_get_within}
-use Rattle.joint_model.specs.Control.{Opened}
+use Rattle.joint_model.specs.Control.{OpenSnap}
 use Rattle.joint_model.specs.Cycles.{IsResolution, IsAnsweredAlive}
 use Rattle.joint_model.specs.Headline.{DriverBeginsAt, SweepsAt, IsMadeBefore, SnapsAt, IsUnreachedThroughout, IsCompleteCycle}
 use Rattle.joint_model.specs.Heaps.{IsMade}
@@ -20,7 +20,7 @@ use Rattle.joint_laws.proofs.MarkSteps.{IsSweptWatch}
 use Rattle.joint_laws.proofs.Watching.{get-more}
 use Rattle.joint_model.specs.Told.{Answer}
 
-module _ (s : Linkage) (w : Stands s) (past more : List Moment) (o : Opened) (answers : List Answer) (d : IsRestored s.managed s.peer o answers) (b : IsBehindSweep past s o)
+module _ (s : Linkage) (w : Stands s) (past more : List Moment) (o : OpenSnap) (answers : List Answer) (d : IsRestored s.managed s.peer o answers) (b : IsBehindSweep past s o)
     (resolved : List ℕ) (p : IsResolution s.managed.managed d.cycle.dead (IsAnsweredAlive d.cycle.candidates answers) resolved) where
   same_cycle : b.cycle ≡ d.cycle
   same_cycle = same_Some b.cycle d.cycle (sym b.open_now ∙ d.opened.cycle)

@@ -2,7 +2,7 @@
 -- candidates hold the same handles, and its rows lead to each other as before.
 use Rattle.std.proofs.Common.{◌≡◌, ℕ, ◌↔◌, List, Some, sym, subst, ◌∙◌}
 use Rattle.std.specs.Prelude.{Contains}
-use Rattle.joint_model.specs.Control.{Opened, Stand, idle, snapped, contracted, weakening, marked, restoring, restored}
+use Rattle.joint_model.specs.Control.{OpenSnap, Stand, idle, snapped, contracted, weakening, marked, restoring, restored}
 use Rattle.joint_model.specs.Cycles.{IsDeadContraction, DeadEdge}
 use Rattle.joint_model.specs.Managed.{OpenCycle, Holds, IsBridge, ManagedEdge}
 use Rattle.joint_model.specs.ManagedReplay.{ManagedReplay}
@@ -79,10 +79,10 @@ module _ (r u : ManagedReplay) (s : PeerReplay) (k : IsManagedKept r.managed) (g
       w a b p q ca cb back (row_back a p (candidate_dead a ca) ra) (row_back b q db rb) live
 
 module _ (r u : ManagedReplay) (s : PeerReplay) (k : IsManagedKept r.managed) (g : GoesOn r.managed u.managed) where
-  abbrev opened_on : (o : Opened) (c : OpenCycle) → IsOpenedAs r o c → IsOpenedAs u o c
+  abbrev opened_on : (o : OpenSnap) (c : OpenCycle) → IsOpenedAs r o c → IsOpenedAs u o c
   opened_on o c w = record { cycle = g.cycle ∙ w.cycle; number = w.number }
 
-  abbrev before_on : (o : Opened) → IsBeforeMirror r s o → IsBeforeMirror u s o
+  abbrev before_on : (o : OpenSnap) → IsBeforeMirror r s o → IsBeforeMirror u s o
   before_on o b = record {
     cycle = b.cycle;
     opened = opened_on o b.cycle b.opened;

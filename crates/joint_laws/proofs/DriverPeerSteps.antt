@@ -8,7 +8,7 @@ use Rattle.std.proofs.lemmas.Cmp.{nat_eq_equiv}
 use Rattle.std.proofs.lemmas.Option.{same_Some}
 use Rattle.std.proofs.lemmas.List.Elements.{All-contains, Contains-append_left}
 use Rattle.joint_model.specs.Components.{Rises, mirror_edges}
-use Rattle.joint_model.specs.Control.{Opened, carried_edges, peer_of_row}
+use Rattle.joint_model.specs.Control.{OpenSnap, carried_edges, peer_of_row}
 use Rattle.joint_model.specs.Cycles.{DeadEdge}
 use Rattle.joint_model.specs.Heaps.{IsLive, numbered_at, numbered_set, is_freed}
 use Rattle.joint_model.specs.Managed.{Managed, OpenCycle, Holds, IsBridge, handle_of}
@@ -61,7 +61,7 @@ abbrev carry : Managed → List Issued → ℕ × ℕ → ℕ × ℕ
 carry s issued e = (peer_of_row s issued e.0, peer_of_row s issued e.1)
 
 -- the mirror comes to stand
-module _ (r : ManagedReplay) (s : PeerReplay) (op : Opened) (comps : List (List ℕ)) (xrefs : List (ℕ × ℕ)) (k : IsReplayKept r) (pk : IsPeerKept s) (o : AreOwnersKept r s) (d : IsContracted r s op comps xrefs) where
+module _ (r : ManagedReplay) (s : PeerReplay) (op : OpenSnap) (comps : List (List ℕ)) (xrefs : List (ℕ × ℕ)) (k : IsReplayKept r) (pk : IsPeerKept s) (o : AreOwnersKept r s) (d : IsContracted r s op comps xrefs) where
   abbrev cyc : OpenCycle
   cyc = d.before.cycle
 

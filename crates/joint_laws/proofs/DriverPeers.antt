@@ -6,7 +6,7 @@ use Rattle.std.specs.Prelude.{Contains, if◌then◌else◌}
 use Rattle.std.proofs.lemmas.Bool.{cases_lt}
 use Rattle.std.proofs.lemmas.Option.{same_Some}
 use Rattle.joint_model.specs.declared.names.Thread.TheVariants.{C}
-use Rattle.joint_model.specs.Control.{Doing, free, made, lent, gripped, given, met, Opened, Stand, idle, snapped, contracted, weakening, marked, restoring, restored}
+use Rattle.joint_model.specs.Control.{Doing, free, made, lent, gripped, given, met, OpenSnap, Stand, idle, snapped, contracted, weakening, marked, restoring, restored}
 use Rattle.joint_model.specs.Heaps.{IsMade, IsLive, InSlot, numbered_at, fields_of}
 use Rattle.joint_model.specs.Managed.{OpenCycle, Holds}
 use Rattle.joint_model.specs.ManagedReplay.{ManagedReplay}
@@ -45,7 +45,7 @@ module _ (touched : ℕ → Type 0) (r : ManagedReplay) (s t : PeerReplay) (a : 
       );
     }
 
-    abbrev before_on : (o : Opened) → IsBeforeMirror r s o → IsBeforeMirror r t o
+    abbrev before_on : (o : OpenSnap) → IsBeforeMirror r s o → IsBeforeMirror r t o
     before_on o b = record {
       cycle = b.cycle;
       opened = b.opened;
@@ -53,7 +53,7 @@ module _ (touched : ℕ → Type 0) (r : ManagedReplay) (s t : PeerReplay) (a : 
       handles = candidates_on b.cycle (λ l h. HasStrength s h strong) (λ l h. HasStrength t h strong) (λ l h n w q. a.on h strong w n q) b.handles;
     }
 
-    pub driver_on : (d : Stand) → ((o : Opened) → d ≡ marked o → StillOwn s t) → StaysClosed r s t → IsDriverKept r s d → IsDriverKept r t d
+    pub driver_on : (d : Stand) → ((o : OpenSnap) → d ≡ marked o → StillOwn s t) → StaysClosed r s t → IsDriverKept r s d → IsDriverKept r t d
     driver_on idle own closed k = record { closed = k.closed; none = mirror ∙ k.none }
     driver_on (snapped o) own closed k = before_on o k
     driver_on (contracted o comps xrefs) own closed k = record { before = before_on o k.before; contraction = k.contraction }

@@ -4,7 +4,7 @@ use Rattle.std.proofs.Common.{◌≡◌, ℕ, ◌+◌, ◌⊎◌, inl, inr, fals
 use Rattle.std.specs.Prelude.{Contains, slice_get}
 use Rattle.std.proofs.lemmas.Option.{same_Some, slice_get_within, slice_get-get_or}
 use Rattle.std.proofs.lemmas.List.Elements.{Contains-append_right}
-use Rattle.joint_model.specs.Control.{Doing, Opened, candidates_of}
+use Rattle.joint_model.specs.Control.{Doing, OpenSnap, candidates_of}
 use Rattle.joint_model.specs.Cycles.{IsSnapshot, IsResolution, IsAnsweredAlive}
 use Rattle.joint_model.specs.Heaps.{IsLive}
 use Rattle.joint_model.specs.Managed.{Managed, OpenCycle, Holds, IsBridge, ManagedEdge, with_snapshot, resolved, abandoned}
@@ -73,7 +73,7 @@ module _ (r : ManagedReplay) (s : PeerReplay) (n : ℕ) (freed candidates dead :
   }
 
 -- the candidates' answers tell which of their peers are unfreed
-module _ (r : ManagedReplay) (s : PeerReplay) (op : Opened) (answers : List Answer) (k : IsReplayKept r) (pk : IsPeerKept s) (o : AreOwnersKept r s) (d : IsRestored r s op answers) where
+module _ (r : ManagedReplay) (s : PeerReplay) (op : OpenSnap) (answers : List Answer) (k : IsReplayKept r) (pk : IsPeerKept s) (o : AreOwnersKept r s) (d : IsRestored r s op answers) where
   abbrev c : OpenCycle
   c = d.cycle
 
@@ -196,7 +196,7 @@ module _ (r : ManagedReplay) (s : PeerReplay) (op : Opened) (answers : List Answ
     driver_resolved = record { closed = refl; none = d.none }
 
 -- an abandonment, before the mirror
-module _ (r : ManagedReplay) (s : PeerReplay) (op : Opened) (o : AreOwnersKept r s) (d : IsBeforeMirror r s op) where
+module _ (r : ManagedReplay) (s : PeerReplay) (op : OpenSnap) (o : AreOwnersKept r s) (d : IsBeforeMirror r s op) where
   abbrev leaving : ManagedReplay
   leaving = record r { managed = abandoned r.managed }
 

@@ -1,7 +1,7 @@
 -- The strength of each held handle by the driver's stand, as the driver keeps it for the candidates of the cycle that it opened.
 use Rattle.std.proofs.Common.{◌≡◌, ℕ, Some, subst}
 use Rattle.std.specs.Prelude.{slice_get}
-use Rattle.joint_model.specs.Control.{Opened, Stand, idle, snapped, contracted, weakening, marked, restoring, restored, candidates_of}
+use Rattle.joint_model.specs.Control.{OpenSnap, Stand, idle, snapped, contracted, weakening, marked, restoring, restored, candidates_of}
 use Rattle.joint_model.specs.Managed.{OpenCycle, Holds}
 use Rattle.joint_model.specs.ManagedReplay.{ManagedReplay}
 use Rattle.joint_model.specs.PeerReplay.{PeerReplay}
@@ -14,7 +14,7 @@ use Rattle.joint_laws.proofs.DriverSteps.{no_candidates}
 use Rattle.joint_laws.proofs.LinkedStates.{all_kept}
 
 module _ (r : ManagedReplay) (s : PeerReplay) (l m h : ℕ) (e : slice_get (candidates_of r.managed) l ≡ Some m) (q : Holds r.managed m h) where
-  of_opened : (o : Opened) (c : OpenCycle) (Q : ℕ → ℕ → Type 0) → IsOpenedAs r o c → ForCandidates r.managed c Q → Q l h
+  of_opened : (o : OpenSnap) (c : OpenCycle) (Q : ℕ → ℕ → Type 0) → IsOpenedAs r o c → ForCandidates r.managed c Q → Q l h
   of_opened o c Q w handles = handles l m h (subst (λ z. slice_get z l ≡ Some m) (candidates_of-open r.managed c w.cycle) e) q
 
   by_stand : (d : Stand) → IsDriverKept r s d → IsByPhase s d l h

@@ -6,7 +6,7 @@ use Rattle.std.specs.Prelude.{Contains, filter_map}
 use Rattle.std.specs.List.{cons_option}
 use Rattle.std.proofs.lemmas.Option.{same_Some, slice_get_within}
 use Rattle.std.proofs.lemmas.List.Elements.{Contains-append_right}
-use Rattle.joint_model.specs.Control.{Doing, Opened, Stand, restored, candidates_of}
+use Rattle.joint_model.specs.Control.{Doing, OpenSnap, Stand, restored, candidates_of}
 use Rattle.joint_model.specs.Cycles.{IsResolution, IsAnsweredAlive}
 use Rattle.joint_model.specs.Joint.{Joint, JointMarking}
 use Rattle.joint_model.specs.Managed.{Managed, OpenCycle, Holds, ManagedEdge, handle_of, resolved as resolved_state}
@@ -75,7 +75,7 @@ flags_all_strong m n s flags f strong_ones back = AreFlags-same m n s s flags f 
 pub idle-strong : (r : ManagedReplay) (s : PeerReplay) → AreOwnersKept r s → r.managed.cycle ≡ None → (x h : ℕ) → Holds r.managed x h → HasStrength s h strong
 idle-strong r s o e x h q = o.strong_ones x h q (no_candidates r.managed x e)
 
-pub before-strong : (r : ManagedReplay) (s : PeerReplay) (op : Opened) → AreOwnersKept r s → IsBeforeMirror r s op → (x h : ℕ) → Holds r.managed x h → HasStrength s h strong
+pub before-strong : (r : ManagedReplay) (s : PeerReplay) (op : OpenSnap) → AreOwnersKept r s → IsBeforeMirror r s op → (x h : ℕ) → Holds r.managed x h → HasStrength s h strong
 before-strong r s op o v x h q = elim (Contains-decided v.cycle.candidates x) [
   | inl c ↦ (let at = at-Contains v.cycle.candidates x c in v.handles at.0 x h at.1 q)
   | inr out ↦ o.strong_ones x h q (λ w. out (subst (λ z. Contains z x) (candidates_of-open r.managed v.cycle v.opened.cycle) w))
@@ -108,7 +108,7 @@ into-handles m (y ∷ ys) x h c e = by (handle_of m y) refl (λ d. into-handles 
     ]
 
 -- a resolution
-module _ (r : ManagedReplay) (s : PeerReplay) (ds : List Doing) (op : Opened) (answers : List Answer) (clear : ℕ) (k : AreKept r s ds (restored op answers clear)) (flags : List Bool) (jm : Option JointMarking) (fl : AreFlags r.managed s flags) (freed : List ℕ) where
+module _ (r : ManagedReplay) (s : PeerReplay) (ds : List Doing) (op : OpenSnap) (answers : List Answer) (clear : ℕ) (k : AreKept r s ds (restored op answers clear)) (flags : List Bool) (jm : Option JointMarking) (fl : AreFlags r.managed s flags) (freed : List ℕ) where
   abbrev v : IsRestored r s op answers
   v = k.driver
 

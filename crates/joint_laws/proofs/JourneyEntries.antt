@@ -11,7 +11,7 @@ use Rattle.joint_model.specs.declared.lines.Act.{Act}
 use Rattle.joint_model.specs.declared.events.Op.{Op}
 use Rattle.joint_model.specs.declared.events.Op.TheVariants as op
 use Rattle.joint_model.specs.declared.events.Reply.{Reply}
-use Rattle.joint_model.specs.Control.{Opened, Stand, idle, snapped, contracted, weakening, marked, restoring, restored, candidates_of, stand_after, MayContractNow, MayMirrorNow, MayWeakenNow, MayBeginNow, MaySweepNow, MayRestoreNow, MayClearNow, MayResolveNow}
+use Rattle.joint_model.specs.Control.{OpenSnap, Stand, idle, snapped, contracted, weakening, marked, restoring, restored, candidates_of, stand_after, MayContractNow, MayMirrorNow, MayWeakenNow, MayBeginNow, MaySweepNow, MayRestoreNow, MayClearNow, MayResolveNow}
 use Rattle.joint_model.specs.Cycles.{IsResolution, IsAnsweredAlive}
 use Rattle.joint_model.specs.Headline.{IsCompleteCycle}
 use Rattle.joint_model.specs.Lines.{IsEvent}
@@ -68,7 +68,7 @@ module _ (s : Linkage) (w : Stands s) (past : List Moment) (number line : ℕ) (
   Kept t o told y = IsDriverKept (After t o told).managed (After t o told).peer y
 
   -- the begin of the own marking
-  none-open : (o : Opened) (count : ℕ) (seen sw : Bool) (x : Option Marking) → reply ≡ (begun s.peer x C).reply → MayBeginNow (weakening o count seen sw) (length (candidates_of s.managed.managed)) reply cites → x ≡ None
+  none-open : (o : OpenSnap) (count : ℕ) (seen sw : Bool) (x : Option Marking) → reply ≡ (begun s.peer x C).reply → MayBeginNow (weakening o count seen sw) (length (candidates_of s.managed.managed)) reply cites → x ≡ None
   none-open o count seen sw None e a = refl
   none-open o count seen sw (Some mk) e a = absurd (subst (λ z. MayBeginNow (weakening o count seen sw) (length (candidates_of s.managed.managed)) z cites) e a)
 

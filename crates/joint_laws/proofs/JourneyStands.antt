@@ -1,7 +1,7 @@
 -- What is known of the run at each of the driver's stands: nothing where it is idle; the snapshot's place and what was seen
 -- since, before the own sweep; in the marking what that has seen too; and behind the sweep what that freed.
 use Rattle.std.proofs.Common.{◌≡◌, List, [], ◌∷◌, ◌++◌, length, Some, ◌∙◌}
-use Rattle.joint_model.specs.Control.{Opened, Stand, idle, snapped, contracted, weakening, marked, restoring, restored}
+use Rattle.joint_model.specs.Control.{OpenSnap, Stand, idle, snapped, contracted, weakening, marked, restoring, restored}
 use Rattle.joint_model.specs.Linked.{Linkage, MayCome, linkage_after}
 use Rattle.joint_model.specs.Managed.{OpenCycle}
 use Rattle.joint_model.specs.PeerReplay.{Marking}
@@ -13,7 +13,7 @@ use Rattle.joint_laws.proofs.JointRuns.{Stands}
 use Rattle.joint_laws.proofs.MarkWatching.{IsMarkWatched}
 
 -- in the own marking
-pub record IsUnderWay (past : List Moment) (s : Linkage) (w : Stands s) (o : Opened) : Type 0 where
+pub record IsUnderWay (past : List Moment) (s : Linkage) (w : Stands s) (o : OpenSnap) : Type 0 where
   pub way : IsOnTheWay past s w o
   pub own : Marking
   pub open_mark : s.peer.marking ≡ Some own
@@ -31,7 +31,7 @@ Journey past s w (restoring o answers) = IsBehindSweep past s o
 Journey past s w (restored o answers clear) = IsBehindSweep past s o
 
 -- behind the sweep, at a step of the joint machine and at an entry that is none
-pub behind-next : (s : Linkage) (n : Noted) (may : MayCome s n) (w : Stands s) (v : Stands (linkage_after s n)) (past : List Moment) (o : Opened) (m : Moment) (e : OpenCycle) → (linkage_after s n).managed.managed.cycle ≡ Some e → IsBehindSweep past s o → IsBehindSweep (past ++ m ∷ []) (linkage_after s n) o
+pub behind-next : (s : Linkage) (n : Noted) (may : MayCome s n) (w : Stands s) (v : Stands (linkage_after s n)) (past : List Moment) (o : OpenSnap) (m : Moment) (e : OpenCycle) → (linkage_after s n).managed.managed.cycle ≡ Some e → IsBehindSweep past s o → IsBehindSweep (past ++ m ∷ []) (linkage_after s n) o
 behind-next s n may w v past o m e q k =
     let g = goes-open s n may w k.cycle e k.open_now q in
     record {
@@ -43,7 +43,7 @@ behind-next s n may w v past o m e q k =
       swept = swept-moves s n w v g k.cycle k.open_now past k.snap m k.swept;
     }
 
-pub behind-rests : (s : Linkage) (n : Noted) (may : MayCome s n) (w : Stands s) (v : Stands (linkage_after s n)) (past : List Moment) (o : Opened) (e : OpenCycle) → (linkage_after s n).managed.managed.cycle ≡ Some e → IsBehindSweep past s o → IsBehindSweep past (linkage_after s n) o
+pub behind-rests : (s : Linkage) (n : Noted) (may : MayCome s n) (w : Stands s) (v : Stands (linkage_after s n)) (past : List Moment) (o : OpenSnap) (e : OpenCycle) → (linkage_after s n).managed.managed.cycle ≡ Some e → IsBehindSweep past s o → IsBehindSweep past (linkage_after s n) o
 behind-rests s n may w v past o e q k =
     let g = goes-open s n may w k.cycle e k.open_now q in
     record {

@@ -6,7 +6,7 @@ use Rattle.joint_model.specs.declared.names.Cycle.{Cycle}
 use Rattle.joint_model.specs.declared.names.HNum.{HNum}
 use Rattle.joint_model.specs.declared.events.Op.{Op}
 use Rattle.joint_model.specs.declared.events.Op.TheVariants as op
-use Rattle.joint_model.specs.Control.{Opened, Stand, idle, snapped, contracted, weakening, marked, restoring, restored}
+use Rattle.joint_model.specs.Control.{OpenSnap, Stand, idle, snapped, contracted, weakening, marked, restoring, restored}
 use Rattle.joint_model.specs.Linked.{Linkage, MayCome, linkage_after}
 use Rattle.joint_model.specs.Managed.{OpenCycle}
 use Rattle.joint_model.specs.PeerReplay.{Marking}
@@ -34,7 +34,7 @@ module _ (s : Linkage) (n : Noted) (may : MayCome s n) (w : Stands s) (v : Stand
   t = linkage_after s n
 
   -- the own marking goes on
-  module _ (inside : IsInside n.entry.made.op) (past : List Moment) (o : Opened) (to : IsInMarking t.managed t.peer o) (k : IsUnderWay past s w o) where
+  module _ (inside : IsInside n.entry.made.op) (past : List Moment) (o : OpenSnap) (to : IsInMarking t.managed t.peer o) (k : IsUnderWay past s w o) where
     goes : GoesOn s.managed.managed t.managed.managed
     goes = goes-open s n may w k.way.cycle to.cycle k.way.open_now to.opened.cycle
 

@@ -7,7 +7,7 @@ use Rattle.joint_model.specs.declared.names.Thread.TheVariants.{C}
 use Rattle.joint_model.specs.declared.names.Span.{Span}
 use Rattle.joint_model.specs.declared.events.Op.TheVariants as op
 use Rattle.joint_model.specs.declared.events.Reply.TheVariants as says
-use Rattle.joint_model.specs.Control.{Opened}
+use Rattle.joint_model.specs.Control.{OpenSnap}
 use Rattle.joint_model.specs.Cycles.{IsSnapshot}
 use Rattle.joint_model.specs.Headline.{SnapsAt, SweepsAt, IsMadeBefore}
 use Rattle.joint_model.specs.Heaps.{IsMade}
@@ -31,7 +31,7 @@ use Rattle.joint_laws.proofs.Watching.{get-last}
 abbrev pub moment_of : (s : Linkage) (n : Noted) → Stands s → Stands (linkage_after s n) → Moment
 moment_of s n w v = record { before = state_of s w; noted = n; after = state_of (linkage_after s n) v }
 
-module _ (s : Linkage) (n : Noted) (w : Stands s) (v : Stands (linkage_after s n)) (past : List Moment) (o : Opened) where
+module _ (s : Linkage) (n : Noted) (w : Stands s) (v : Stands (linkage_after s n)) (past : List Moment) (o : OpenSnap) where
   abbrev t : Linkage
   t = linkage_after s n
 

@@ -12,7 +12,7 @@ use Rattle.joint_model.specs.declared.events.Op.TheVariants as op
 use Rattle.joint_model.specs.declared.events.Reply.{Reply}
 use Rattle.joint_model.specs.declared.events.Reply.TheVariants as says
 use Rattle.joint_model.specs.declared.events.Made.{Made}
-use Rattle.joint_model.specs.Control.{Opened}
+use Rattle.joint_model.specs.Control.{OpenSnap}
 use Rattle.joint_model.specs.Headline.{SnapsAt}
 use Rattle.joint_model.specs.Heaps.{Answered, answer, slot, numbered_set}
 use Rattle.joint_model.specs.Joint.{Joint}
@@ -110,7 +110,7 @@ goes-open s n may w c e o q = by (ManagedStep-entry s n may w.kept.managed)
     by (abandoning p) = absurd (none_some e (sym (ap (λ (z : Managed). z.cycle) p.is) ∙ q))
 
 -- a cycle that is open before its own sweep
-pub record IsOnTheWay (past : List Moment) (s : Linkage) (w : Stands s) (o : Opened) : Type 0 where
+pub record IsOnTheWay (past : List Moment) (s : Linkage) (w : Stands s) (o : OpenSnap) : Type 0 where
   pub snap : ℕ
   pub freed : List ℕ
   pub cycle : OpenCycle
@@ -119,7 +119,7 @@ pub record IsOnTheWay (past : List Moment) (s : Linkage) (w : Stands s) (o : Ope
   pub watched : IsWatched past snap cycle.candidates (state_of s w)
 
 -- and one after it
-pub record IsBehindSweep (past : List Moment) (s : Linkage) (o : Opened) : Type 0 where
+pub record IsBehindSweep (past : List Moment) (s : Linkage) (o : OpenSnap) : Type 0 where
   pub snap : ℕ
   pub freed : List ℕ
   pub cycle : OpenCycle
@@ -130,7 +130,7 @@ pub record IsBehindSweep (past : List Moment) (s : Linkage) (o : Opened) : Type 
 pub snaps-more : (past more : List Moment) (a k : ℕ) (freed candidates : List ℕ) → SnapsAt past a k freed candidates → SnapsAt (past ++ more) a k freed candidates
 snaps-more past more a k freed candidates w = record { moment = w.moment; there = get-more past more a w.moment w.there; event = w.event; dead = w.dead; frees = w.frees }
 
-unfoldable pub way-next : (s : Linkage) (n : Noted) (may : MayCome s n) (w : Stands s) (v : Stands (linkage_after s n)) (past : List Moment) (o : Opened) (m : Moment) → m.after ≡ state_of (linkage_after s n) v → (e : OpenCycle) → (linkage_after s n).managed.managed.cycle ≡ Some e
+unfoldable pub way-next : (s : Linkage) (n : Noted) (may : MayCome s n) (w : Stands s) (v : Stands (linkage_after s n)) (past : List Moment) (o : OpenSnap) (m : Moment) → m.after ≡ state_of (linkage_after s n) v → (e : OpenCycle) → (linkage_after s n).managed.managed.cycle ≡ Some e
     → IsOnTheWay past s w o → IsOnTheWay (past ++ m ∷ []) (linkage_after s n) v o
 way-next s n may w v past o m after e q k =
     let g = goes-open s n may w k.cycle e k.open_now q in
@@ -143,7 +143,7 @@ way-next s n may w v past o m after e q k =
       watched = watched-next s n may w v g past k.snap k.cycle.candidates k.watched m after;
     }
 
-unfoldable pub way-rests : (s t : Linkage) (w : Stands s) (v : Stands t) (past : List Moment) (o : Opened) → state_of t v ≡ state_of s w → IsOnTheWay past s w o → IsOnTheWay past t v o
+unfoldable pub way-rests : (s t : Linkage) (w : Stands s) (v : Stands t) (past : List Moment) (o : OpenSnap) → state_of t v ≡ state_of s w → IsOnTheWay past s w o → IsOnTheWay past t v o
 way-rests s t w v past o same k = record {
   snap = k.snap;
   freed = k.freed;

@@ -8,7 +8,7 @@ use Rattle.joint_model.specs.declared.names.PhaseWord.{PhaseWord}
 use Rattle.joint_model.specs.declared.events.Op.TheVariants as op
 use Rattle.joint_model.specs.declared.events.Reply.{Reply}
 use Rattle.joint_model.specs.Components.{mirror_edges}
-use Rattle.joint_model.specs.Control.{Doing, Opened, Stand, idle, snapped, contracted, weakening, marked, restoring, restored, carried_edges, stand_after, IsCandidateHandle, MaySnap, MayContractNow, MayMirrorNow, MayWeakenNow, MayResolveNow, MayAbandonNow}
+use Rattle.joint_model.specs.Control.{Doing, OpenSnap, Stand, idle, snapped, contracted, weakening, marked, restoring, restored, carried_edges, stand_after, IsCandidateHandle, MaySnap, MayContractNow, MayMirrorNow, MayWeakenNow, MayResolveNow, MayAbandonNow}
 use Rattle.joint_model.specs.Cycles.{IsSnapshot, IsAnsweredAlive, IsResolution, IsDeadContraction}
 use Rattle.joint_model.specs.Heaps.{numbered_at, numbered_set}
 use Rattle.joint_model.specs.Managed.{Managed, OpenCycle, Holds, with_snapshot as snapped_state, resolved as resolved_state, abandoned as abandoned_state}
@@ -96,7 +96,7 @@ kept-resolve r s ds (weakening o count seen sw) n alive freed cites k w p m = ab
 kept-resolve r s ds (marked o) n alive freed cites k w p m = absurd w
 kept-resolve r s ds (restoring o answers) n alive freed cites k w p m = absurd w
 
-abandon-before : (r : ManagedReplay) (s : PeerReplay) (ds : List Doing) (d : Stand) (o : Opened) → AreKept r s ds d → IsBeforeMirror r s o → IsReplayKept (record r { managed = abandoned_state r.managed }) → AreKept (record r { managed = abandoned_state r.managed }) s ds idle
+abandon-before : (r : ManagedReplay) (s : PeerReplay) (ds : List Doing) (d : Stand) (o : OpenSnap) → AreKept r s ds d → IsBeforeMirror r s o → IsReplayKept (record r { managed = abandoned_state r.managed }) → AreKept (record r { managed = abandoned_state r.managed }) s ds idle
 abandon-before r s ds d o k b m = record {
   managed = m;
   peer = k.peer;

@@ -9,7 +9,7 @@ use Rattle.joint_model.specs.declared.names.Marking.{Marking as MarkingNumber}
 use Rattle.joint_model.specs.declared.events.Op.TheVariants as op
 use Rattle.joint_model.specs.declared.events.Reply.{Reply}
 use Rattle.joint_model.specs.declared.events.Reply.TheVariants as says
-use Rattle.joint_model.specs.Control.{Doing, Opened, Stand, idle, snapped, contracted, weakening, marked, restoring, restored, candidates_of, stand_after, answer_in, IsCandidateHandle, MayBeginNow, MaySweepNow, MayRestoreNow, MayClearNow}
+use Rattle.joint_model.specs.Control.{Doing, OpenSnap, Stand, idle, snapped, contracted, weakening, marked, restoring, restored, candidates_of, stand_after, answer_in, IsCandidateHandle, MayBeginNow, MaySweepNow, MayRestoreNow, MayClearNow}
 use Rattle.joint_model.specs.Heaps.{IsLive, InSlot, fields_of, answer, numbered_at, numbered_set}
 use Rattle.joint_model.specs.ManagedReplay.{ManagedReplay}
 use Rattle.joint_model.specs.Peers.{strong, peer_of}
@@ -31,7 +31,7 @@ use Rattle.joint_laws.proofs.LinkedSweeps.{kept-swept, kept-own_swept}
 use Rattle.joint_laws.proofs.LinkedDriver.{turn}
 
 -- the own marking begins: all candidates' handles are weak
-own_begin : (r : ManagedReplay) (s : PeerReplay) (ds : List Doing) (o : Opened) (count : ℕ) (seen sw : Bool) (x : Option Marking) → AreKept r s ds (weakening o count seen sw) → s.marking ≡ x → count ≡ length (candidates_of r.managed) → x ≡ None
+own_begin : (r : ManagedReplay) (s : PeerReplay) (ds : List Doing) (o : OpenSnap) (count : ℕ) (seen sw : Bool) (x : Option Marking) → AreKept r s ds (weakening o count seen sw) → s.marking ≡ x → count ≡ length (candidates_of r.managed) → x ≡ None
     → IsPeerKept (begun s x C).state → AreKept r (begun s x C).state ds (marked o)
 own_begin r s ds o count seen sw (Some mk) k e w n m = absurd (none_some mk (sym n))
 own_begin r s ds o count seen sw None k e w n m =
@@ -96,7 +96,7 @@ kept-own_sweep r s t ds (restoring o answers) number reply told seen_told cites 
 kept-own_sweep r s t ds (restored o answers clear) number reply told seen_told cites k w a f = absurd w
 
 -- a restore, by whether the handle's peer was freed
-module _ (r : ManagedReplay) (s : PeerReplay) (ds : List Doing) (o : Opened) (answers : List Answer) (h : ℕ) (k : AreKept r s ds (restoring o answers)) (w : IsCandidateHandle r.managed (length answers) h) (row : TableRow) (u : IsTabled s.table h row) where
+module _ (r : ManagedReplay) (s : PeerReplay) (ds : List Doing) (o : OpenSnap) (answers : List Answer) (h : ℕ) (k : AreKept r s ds (restoring o answers)) (w : IsCandidateHandle r.managed (length answers) h) (row : TableRow) (u : IsTabled s.table h row) where
   v : IsRestoring r s o answers
   v = k.driver
 
@@ -141,7 +141,7 @@ module _ (r : ManagedReplay) (s : PeerReplay) (ds : List Doing) (o : Opened) (an
       let t : PeerReplay = record s { table = numbered_set s.table h (Some (record row { strength = strong })); mirror = with_restored s.mirror h; marking = brought_handle s.marking (peer_of s.peers.issued h) } in
       subst (λ z. AreKept r t ds (restoring o (answers ++ answer_in z ∷ []))) (sym f) (restore-by t (Some (record row { strength = strong })) said_alive refl refl refl refl m (λ a. inl (refl, written-strength s t h row (record row { strength = strong }) u refl)))
 
-restored-at : (r : ManagedReplay) (s : PeerReplay) (ds : List Doing) (o : Opened) (answers : List Answer) (h : ℕ) (x : Option TableRow) (row : TableRow) (reply : Reply) → AreKept r s ds (restoring o answers) → IsCandidateHandle r.managed (length answers) h → row_of s h ≡ x → x ≡ Some row
+restored-at : (r : ManagedReplay) (s : PeerReplay) (ds : List Doing) (o : OpenSnap) (answers : List Answer) (h : ℕ) (x : Option TableRow) (row : TableRow) (reply : Reply) → AreKept r s ds (restoring o answers) → IsCandidateHandle r.managed (length answers) h → row_of s h ≡ x → x ≡ Some row
     → reply ≡ (restored_by s h x).reply → IsPeerKept (restored_by s h x).state → AreKept r (restored_by s h x).state ds (restoring o (answers ++ answer_in reply ∷ []))
 restored-at r s ds o answers h None row reply k w e f g m = absurd (none_some row f)
 restored-at r s ds o answers h (Some y) row reply k w e f g m = restored-row r s ds o answers h k w y (slot-named (numbered_at s.table h) y e) y.cleared reply refl g m

@@ -11,7 +11,7 @@ use Rattle.joint_model.specs.declared.names.HNum.{HNum}
 use Rattle.joint_model.specs.declared.events.Op.{Op}
 use Rattle.joint_model.specs.declared.events.Op.TheVariants as op
 use Rattle.joint_model.specs.declared.events.Reply.{Reply}
-use Rattle.joint_model.specs.Control.{Doing, Opened, restored, CallerAllows}
+use Rattle.joint_model.specs.Control.{Doing, OpenSnap, restored, CallerAllows}
 use Rattle.joint_model.specs.Cycles.{IsAnsweredAlive}
 use Rattle.joint_model.specs.Lines.{IsEvent}
 use Rattle.joint_model.specs.Linked.{Linkage, AllMayCome, opening_linkage}
@@ -38,7 +38,7 @@ all_kept noted a i = everywhere (λ s. AreKept s.managed s.peer s.control.doing 
 pub linkage_is_kept : LinkageIsKept
 linkage_is_kept noted a i = let k = all_kept noted a i in record { managed = k.managed; peer = k.peer; owners = k.owners; callers = k.callers; driver = k.driver }
 
-alive-to_alive : (r : ManagedReplay) (s : PeerReplay) (ds : List Doing) (o : Opened) (answers : List Answer) (clear : ℕ) (c : OpenCycle) → AreKept r s ds (restored o answers clear) → r.managed.cycle ≡ Some c
+alive-to_alive : (r : ManagedReplay) (s : PeerReplay) (ds : List Doing) (o : OpenSnap) (answers : List Answer) (clear : ℕ) (c : OpenCycle) → AreKept r s ds (restored o answers clear) → r.managed.cycle ≡ Some c
     → (a b : ℕ) → IsAnsweredAlive c.candidates answers a → Contains c.candidates b → Reaches (ManagedEdge r.managed) a b → IsAnsweredAlive c.candidates answers b
 alive-to_alive r s ds o answers clear c k e a b alive cb walk =
     subst (λ (z : OpenCycle). IsAnsweredAlive z.candidates answers b) same (go (subst (λ (z : OpenCycle). IsAnsweredAlive z.candidates answers a) (sym same) alive) (subst (λ (z : OpenCycle). Contains z.candidates b) (sym same) cb))

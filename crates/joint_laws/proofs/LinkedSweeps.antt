@@ -7,7 +7,7 @@ use Rattle.std.proofs.lemmas.List.Elements.{Contains-append_left, Contains-appen
 use Rattle.joint_model.specs.declared.names.Thread.{Thread}
 use Rattle.joint_model.specs.declared.names.Thread.TheVariants.{P, C}
 use Rattle.joint_model.specs.declared.events.Reply.TheVariants as says
-use Rattle.joint_model.specs.Control.{Doing, Opened, Stand, marked, restoring}
+use Rattle.joint_model.specs.Control.{Doing, OpenSnap, Stand, marked, restoring}
 use Rattle.joint_model.specs.Heaps.{IsLive, answer}
 use Rattle.joint_model.specs.ManagedReplay.{ManagedReplay}
 use Rattle.joint_model.specs.Peers.{weak}
@@ -50,7 +50,7 @@ module _ (r : ManagedReplay) (s : PeerReplay) (ds : List Doing) (d : Stand) (k :
         ]
       ]
 
-  driver_swept : (x : Stand) → ((o : Opened) → x ≡ marked o → ⊥) → IsDriverKept r s x → IsDriverKept r after x
+  driver_swept : (x : Stand) → ((o : OpenSnap) → x ≡ marked o → ⊥) → IsDriverKept r s x → IsDriverKept r after x
   driver_swept x n h = driver_on nothing_touched r s after swept-alike k.owners (λ m g t q. t) refl refl x (λ o q. absurd (n o q)) closed_swept h
 
   kept_swept : (x : Stand) → IsDriverKept r after x → AreKept r after ds x
@@ -63,11 +63,11 @@ module _ (r : ManagedReplay) (s : PeerReplay) (ds : List Doing) (d : Stand) (k :
   }
 
   -- not in the driver's own marking
-  pub kept-swept : ((o : Opened) → d ≡ marked o → ⊥) → AreKept r after ds d
+  pub kept-swept : ((o : OpenSnap) → d ≡ marked o → ⊥) → AreKept r after ds d
   kept-swept n = kept_swept d (driver_swept d n k.driver)
 
   -- the driver's own: all candidates' handles are weak, and none is restored
-  pub restoring-swept : (o : Opened) → IsInMarking r s o → IsRestoring r after o []
+  pub restoring-swept : (o : OpenSnap) → IsInMarking r s o → IsRestoring r after o []
   restoring-swept o h = record {
     cycle = h.cycle;
     opened = h.opened;
@@ -75,7 +75,7 @@ module _ (r : ManagedReplay) (s : PeerReplay) (ds : List Doing) (d : Stand) (k :
     handles = λ l m g f q. inr (inr (omega arith, swept-alike.on g weak (k.owners.held_ones m g q) (λ t. t) (h.handles l m g f q)));
   }
 
-  pub kept-own_swept : (o : Opened) → IsInMarking r s o → AreKept r after ds (restoring o [])
+  pub kept-own_swept : (o : OpenSnap) → IsInMarking r s o → AreKept r after ds (restoring o [])
   kept-own_swept o h = kept_swept (restoring o []) (restoring-swept o h)
 
 -- a sweep leaves all as it is, or frees what an open marking that the thread may end doesn't spare
@@ -98,10 +98,10 @@ pub kept-peer_sweep : (r : ManagedReplay) (s t : PeerReplay) (ds : List Doing) (
 kept-peer_sweep r s t ds d n k (same e) = subst (λ z. AreKept r z ds d) (sym e) k
 kept-peer_sweep r s t ds d n k (ends mk freed e by w q) = subst (λ z. AreKept r z ds d) (sym q) (kept-swept r s ds d k mk freed e w not_own)
   where
-    own-by : (x : Stand) (o : Opened) → x ≡ marked o → IsDriverKept r s x → IsInMarking r s o
+    own-by : (x : Stand) (o : OpenSnap) → x ≡ marked o → IsDriverKept r s x → IsInMarking r s o
     own-by x o f h = subst (λ z. IsDriverKept r s z) f h
 
-    not_own : (o : Opened) → d ≡ marked o → ⊥
+    not_own : (o : OpenSnap) → d ≡ marked o → ⊥
     not_own o f =
         let h = own-by d o f k.driver in
         let same_marking : h.marking ≡ mk = same_Some h.marking mk (sym h.own ∙ e) in

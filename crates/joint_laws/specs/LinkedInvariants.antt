@@ -2,7 +2,7 @@
 -- managed thread is in the midst of, and how far the driver has come.
 use Rattle.std.specs.Prelude.{◌≡◌, ℕ, ◌<◌, ◌≤◌, ◌↔◌, ◌⊎◌, List, length, Contains, Some, None, slice_get}
 use Rattle.joint_model.specs.declared.names.Thread.TheVariants.{C}
-use Rattle.joint_model.specs.Control.{Doing, free, made, lent, gripped, given, met, Opened, Stand, idle, snapped, contracted, weakening, marked, restoring, restored, candidates_of}
+use Rattle.joint_model.specs.Control.{Doing, free, made, lent, gripped, given, met, OpenSnap, Stand, idle, snapped, contracted, weakening, marked, restoring, restored, candidates_of}
 use Rattle.joint_model.specs.Cycles.{IsDeadContraction}
 use Rattle.joint_model.specs.Heaps.{InSlot, IsLive, fields_of}
 use Rattle.joint_model.specs.Linked.{Linkage}
@@ -94,7 +94,7 @@ pub record AreCallersKept (r : ManagedReplay) (s : PeerReplay) (ds : List Doing)
   pub lent_ones : (t h : ℕ) → HasLent (doing_in ds t) h → Contains r.adopted h
 
 -- the cycle is the one that the driver opened
-pub record IsOpenedAs (r : ManagedReplay) (o : Opened) (c : OpenCycle) : Type 0 where
+pub record IsOpenedAs (r : ManagedReplay) (o : OpenSnap) (c : OpenCycle) : Type 0 where
   pub cycle : r.managed.cycle ≡ Some c
   pub number : c.number ≡ o.cycle
 
@@ -133,23 +133,23 @@ pub record IsIdle (r : ManagedReplay) (s : PeerReplay) : Type 0 where
   pub closed : r.managed.cycle ≡ None
   pub none : s.mirror ≡ None
 
-pub record IsBeforeMirror (r : ManagedReplay) (s : PeerReplay) (o : Opened) : Type 0 where
+pub record IsBeforeMirror (r : ManagedReplay) (s : PeerReplay) (o : OpenSnap) : Type 0 where
   pub cycle : OpenCycle
   pub opened : IsOpenedAs r o cycle
   pub none : s.mirror ≡ None
   pub handles : ForCandidates r.managed cycle (λ l h. HasStrength s h strong)
 
-pub record IsContracted (r : ManagedReplay) (s : PeerReplay) (o : Opened) (comps : List (List ℕ)) (xrefs : List (ℕ × ℕ)) : Type 0 where
+pub record IsContracted (r : ManagedReplay) (s : PeerReplay) (o : OpenSnap) (comps : List (List ℕ)) (xrefs : List (ℕ × ℕ)) : Type 0 where
   pub before : IsBeforeMirror r s o
   pub contraction : IsDeadContraction r.managed before.cycle.dead comps xrefs
 
-pub record IsWeakening (r : ManagedReplay) (s : PeerReplay) (o : Opened) (count : ℕ) : Type 0 where
+pub record IsWeakening (r : ManagedReplay) (s : PeerReplay) (o : OpenSnap) (count : ℕ) : Type 0 where
   pub cycle : OpenCycle
   pub opened : IsOpenedAs r o cycle
   pub mirror : IsMirrored r s cycle
   pub handles : ForCandidates r.managed cycle (IsWeakenedBy s count)
 
-pub record IsInMarking (r : ManagedReplay) (s : PeerReplay) (o : Opened) : Type 0 where
+pub record IsInMarking (r : ManagedReplay) (s : PeerReplay) (o : OpenSnap) : Type 0 where
   pub cycle : OpenCycle
   pub opened : IsOpenedAs r o cycle
   pub mirror : IsMirrored r s cycle
@@ -158,13 +158,13 @@ pub record IsInMarking (r : ManagedReplay) (s : PeerReplay) (o : Opened) : Type 
   pub own : s.marking ≡ Some marking
   pub by_driver : marking.by ≡ C
 
-pub record IsRestoring (r : ManagedReplay) (s : PeerReplay) (o : Opened) (answers : List Answer) : Type 0 where
+pub record IsRestoring (r : ManagedReplay) (s : PeerReplay) (o : OpenSnap) (answers : List Answer) : Type 0 where
   pub cycle : OpenCycle
   pub opened : IsOpenedAs r o cycle
   pub mirror : IsMirrored r s cycle
   pub handles : ForCandidates r.managed cycle (IsRestoredBy s answers)
 
-pub record IsRestored (r : ManagedReplay) (s : PeerReplay) (o : Opened) (answers : List Answer) : Type 0 where
+pub record IsRestored (r : ManagedReplay) (s : PeerReplay) (o : OpenSnap) (answers : List Answer) : Type 0 where
   pub cycle : OpenCycle
   pub opened : IsOpenedAs r o cycle
   pub none : s.mirror ≡ None

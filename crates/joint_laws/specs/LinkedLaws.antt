@@ -5,7 +5,7 @@ use Rattle.joint_model.specs.declared.names.Var.{Var}
 use Rattle.joint_model.specs.declared.names.Kind.{Kind}
 use Rattle.joint_model.specs.declared.names.PNum.{PNum}
 use Rattle.joint_model.specs.declared.names.HNum.{HNum}
-use Rattle.joint_model.specs.Control.{Opened, Stand, idle, snapped, contracted, weakening, marked, restoring, restored, candidates_of}
+use Rattle.joint_model.specs.Control.{OpenSnap, Stand, idle, snapped, contracted, weakening, marked, restoring, restored, candidates_of}
 use Rattle.joint_model.specs.Cycles.{IsAnsweredAlive}
 use Rattle.joint_model.specs.Linked.{Linkage, AllMayCome, MayCome, opening_linkage}
 use Rattle.joint_model.specs.Managed.{OpenCycle, Holds, ManagedEdge}
@@ -48,7 +48,7 @@ HeldByPhase = (noted : List Noted) → AllMayCome opening_linkage noted → (i :
 
 -- once all handles are restored, no candidate that was answered alive leads to one that wasn't
 abbrev pub AliveLeadToAlive : Type 0
-AliveLeadToAlive = (noted : List Noted) → AllMayCome opening_linkage noted → (i : ℕ) (o : Opened) (answers : List Answer) (clear : ℕ) (c : OpenCycle)
+AliveLeadToAlive = (noted : List Noted) → AllMayCome opening_linkage noted → (i : ℕ) (o : OpenSnap) (answers : List Answer) (clear : ℕ) (c : OpenCycle)
     → (state_at noted i).control.stand ≡ restored o answers clear → (state_at noted i).managed.managed.cycle ≡ Some c
     → (a b : ℕ) → IsAnsweredAlive c.candidates answers a → Contains c.candidates b → Reaches (ManagedEdge (state_at noted i).managed.managed) a b → IsAnsweredAlive c.candidates answers b
 

@@ -29,7 +29,7 @@ pub data Doing : Type 0 where
   met : (number line h : ℕ) → Doing
 
 -- the driver's open cycle, and the number of its snap entry
-pub record Opened : Type 0 where
+pub record OpenSnap : Type 0 where
   pub cycle : ℕ
   pub snap : ℕ
 
@@ -38,12 +38,12 @@ pub record Opened : Type 0 where
 -- answered; all are restored, and this is the number of the clear entry
 pub data Stand : Type 0 where
   idle : Stand
-  snapped : Opened → Stand
-  contracted : Opened → (comps : List (List ℕ)) (xrefs : List (ℕ × ℕ)) → Stand
-  weakening : Opened → (count : ℕ) (weakened swept : Bool) → Stand
-  marked : Opened → Stand
-  restoring : Opened → (answers : List Answer) → Stand
-  restored : Opened → (answers : List Answer) (clear : ℕ) → Stand
+  snapped : OpenSnap → Stand
+  contracted : OpenSnap → (comps : List (List ℕ)) (xrefs : List (ℕ × ℕ)) → Stand
+  weakening : OpenSnap → (count : ℕ) (weakened swept : Bool) → Stand
+  marked : OpenSnap → Stand
+  restoring : OpenSnap → (answers : List Answer) → Stand
+  restored : OpenSnap → (answers : List Answer) (clear : ℕ) → Stand
 
 -- what each managed thread is in the midst of, the line of each caller's last entry, and where the driver stands
 pub record Control : Type 0 where

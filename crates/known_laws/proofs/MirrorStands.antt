@@ -12,7 +12,7 @@ use Rattle.joint_model.specs.declared.events.Op.TheVariants as op
 use Rattle.joint_model.specs.declared.events.Made.{Made}
 use Rattle.joint_model.specs.declared.events.Reply.{Reply}
 use Rattle.joint_model.specs.declared.events.Reply.TheVariants as says
-use Rattle.joint_model.specs.Control.{CallerAllows, Opened, Stand, idle, snapped, contracted, weakening, marked, restoring, restored, stand_after, control_after, candidates_of, IsCandidateHandle, answer_in, MayContractNow, MayMirrorNow, MayWeakenNow, MayBeginNow, MaySweepNow, MayRestoreNow, MayClearNow}
+use Rattle.joint_model.specs.Control.{CallerAllows, OpenSnap, Stand, idle, snapped, contracted, weakening, marked, restoring, restored, stand_after, control_after, candidates_of, IsCandidateHandle, answer_in, MayContractNow, MayMirrorNow, MayWeakenNow, MayBeginNow, MaySweepNow, MayRestoreNow, MayClearNow}
 use Rattle.joint_model.specs.Lines.{IsEvent, is_peer_event}
 use Rattle.joint_model.specs.Linked.{Linkage, MayCome, SideLawful, managed_after, peer_after, linkage_after}
 use Rattle.joint_model.specs.Managed.{Managed, OpenCycle, handle_of}
@@ -59,7 +59,7 @@ goes-same s u k g = record {
     handle : (m : ℕ) → Contains (candidates_of s) m → handle_of u m ≡ handle_of s m
     handle m c = by s.cycle refl m c
 
-mirror_on : (r r' : ManagedReplay) (s s' : PeerReplay) (o : Opened) (a b : ℕ) → SameCandidates r.managed r'.managed → s'.mirror ≡ s.mirror → IsMirrorOf r s o a b → IsMirrorOf r' s' o a b
+mirror_on : (r r' : ManagedReplay) (s s' : PeerReplay) (o : OpenSnap) (a b : ℕ) → SameCandidates r.managed r'.managed → s'.mirror ≡ s.mirror → IsMirrorOf r s o a b → IsMirrorOf r' s' o a b
 mirror_on r r' s s' o a b c e m = record {
   mirror = m.mirror;
   stands = e ∙ m.stands;
@@ -99,7 +99,7 @@ none_yet : (m : Managed) (g : ℕ) → Contains [] g ↔ ((l : ℕ) × (l < 0) �
 none_yet m g = (λ w. absurd (Contains-nil g w), λ w. let l = w.1 in absurd (omega (arith, l)))
 
 module _ (r : ManagedReplay) (s : PeerReplay) where
-  begun_mirror : (o : Opened) (k : ℕ) (refs : List (ℕ × ℕ)) (cites : Option ℕ) → o.cycle ≡ k → cites ≡ Some o.snap → IsMirrorOf r (mirrored s k cites refs) o 0 0
+  begun_mirror : (o : OpenSnap) (k : ℕ) (refs : List (ℕ × ℕ)) (cites : Option ℕ) → o.cycle ≡ k → cites ≡ Some o.snap → IsMirrorOf r (mirrored s k cites refs) o 0 0
   begun_mirror o k refs cites e f = subst (λ c. IsMirrorOf r (mirrored s k c refs) o 0 0) (sym f) (record {
     mirror = record { cycle = k; snap = o.snap; weakened = []; restored = [] };
     stands = refl;
@@ -110,7 +110,7 @@ module _ (r : ManagedReplay) (s : PeerReplay) where
     weak_count = refl;
   })
 
-  weakened_mirror : (t : PeerReplay) (o : Opened) (n b h : ℕ) → ((m : Mirror) → s.mirror ≡ Some m → t.mirror ≡ Some (record m { weakened = m.weakened ++ h ∷ [] })) → IsCandidateHandle r.managed n h → IsMirrorOf r s o n b → IsMirrorOf r t o (n + 1) b
+  weakened_mirror : (t : PeerReplay) (o : OpenSnap) (n b h : ℕ) → ((m : Mirror) → s.mirror ≡ Some m → t.mirror ≡ Some (record m { weakened = m.weakened ++ h ∷ [] })) → IsCandidateHandle r.managed n h → IsMirrorOf r s o n b → IsMirrorOf r t o (n + 1) b
   weakened_mirror t o n b h e c m = record {
     mirror = record m.mirror { weakened = m.mirror.weakened ++ h ∷ [] };
     stands = e m.mirror m.stands;
@@ -121,7 +121,7 @@ module _ (r : ManagedReplay) (s : PeerReplay) where
     weak_count = length-append m.mirror.weakened (h ∷ []) ∙ ap (λ z. z + 1) m.weak_count;
   }
 
-  restored_mirror : (t : PeerReplay) (o : Opened) (a n h : ℕ) → ((m : Mirror) → s.mirror ≡ Some m → t.mirror ≡ Some (record m { restored = m.restored ++ h ∷ [] })) → IsCandidateHandle r.managed n h → IsMirrorOf r s o a n → IsMirrorOf r t o a (n + 1)
+  restored_mirror : (t : PeerReplay) (o : OpenSnap) (a n h : ℕ) → ((m : Mirror) → s.mirror ≡ Some m → t.mirror ≡ Some (record m { restored = m.restored ++ h ∷ [] })) → IsCandidateHandle r.managed n h → IsMirrorOf r s o a n → IsMirrorOf r t o a (n + 1)
   restored_mirror t o a n h e c m = record {
     mirror = record m.mirror { restored = m.mirror.restored ++ h ∷ [] };
     stands = e m.mirror m.stands;

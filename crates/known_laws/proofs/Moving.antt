@@ -10,7 +10,7 @@ use Rattle.joint_model.specs.declared.events.Op.{Op}
 use Rattle.joint_model.specs.declared.events.Op.TheVariants as op
 use Rattle.joint_model.specs.declared.events.Reply.{Reply}
 use Rattle.joint_model.specs.Components.{mirror_edges}
-use Rattle.joint_model.specs.Control.{free, Stand, Opened, contracted, weakening, restoring, caller_place, candidates_of, carried_edges, IsCandidateHandle, CallerAllows, DriverAllows, ThreadAllows, IsAtRest, MayMirrorNow, MayWeakenNow, MayBeginNow, MaySweepNow, MayRestoreNow, MayClearNow, MayRefuseNow}
+use Rattle.joint_model.specs.Control.{free, Stand, OpenSnap, contracted, weakening, restoring, caller_place, candidates_of, carried_edges, IsCandidateHandle, CallerAllows, DriverAllows, ThreadAllows, IsAtRest, MayMirrorNow, MayWeakenNow, MayBeginNow, MaySweepNow, MayRestoreNow, MayClearNow, MayRefuseNow}
 use Rattle.joint_model.specs.Lines.{IsEvent, is_peer_event}
 use Rattle.joint_model.specs.Linked.{SideLawful, PeerLawful, ManagedLawful}
 use Rattle.joint_model.specs.Managed.{Managed}
@@ -27,7 +27,7 @@ use Rattle.known_laws.proofs.Parts.{SameAt, same_managed, same_peer, same_contro
 record Alike (st : Stand) (m m' : Managed) : Type 0 where
   candidates : candidates_of m ≡ candidates_of m'
   handles : (i h : ℕ) → IsCandidateHandle m i h → IsCandidateHandle m' i h
-  edges : (o : Opened) (comps : List (List ℕ)) (xrefs : List (ℕ × ℕ)) (issued : List Issued) → st ≡ contracted o comps xrefs → carried_edges m issued (mirror_edges comps xrefs) ≡ carried_edges m' issued (mirror_edges comps xrefs)
+  edges : (o : OpenSnap) (comps : List (List ℕ)) (xrefs : List (ℕ × ℕ)) (issued : List Issued) → st ≡ contracted o comps xrefs → carried_edges m issued (mirror_edges comps xrefs) ≡ carried_edges m' issued (mirror_edges comps xrefs)
 
 mirror_move : (st : Stand) (m m' : Managed) (i i' : List Issued) (k : ℕ) (cites : Option ℕ) (told : Told) → Alike st m m' → i ≡ i' → MayMirrorNow st m i k cites told → MayMirrorNow st m' i' k cites told
 mirror_move (contracted o comps xrefs) m m' i i' k cites (references_of refs) a e w =

@@ -7,7 +7,7 @@ use Rattle.joint_model.specs.declared.events.Op.{Op}
 use Rattle.joint_model.specs.declared.events.Op.TheVariants as op
 use Rattle.joint_model.specs.declared.events.Made.{Made}
 use Rattle.joint_model.specs.declared.events.Reply.{Reply}
-use Rattle.joint_model.specs.Control.{CallerAllows, DriverAllows, Opened, Stand, weakening, marked, stand_after, control_after, MayBeginNow}
+use Rattle.joint_model.specs.Control.{CallerAllows, DriverAllows, OpenSnap, Stand, weakening, marked, stand_after, control_after, MayBeginNow}
 use Rattle.joint_model.specs.Lines.{is_peer_event}
 use Rattle.joint_model.specs.Linked.{Linkage, MayCome, peer_after, linkage_after}
 use Rattle.joint_model.specs.Managed.{Managed}
@@ -26,14 +26,14 @@ IsAside op.Sweep = ⊥
 IsAside _ = Unit {0}
 
 -- in the marked phase the driver's other events leave it there
-stays : (w : Opened) (m : Managed) (i : List Issued) (num : ℕ) (o : Op) (reply : Reply) (cites : Option ℕ) (told : Told) → IsAside o → DriverAllows (marked w) m i o reply cites told → stand_after (marked w) num o reply told ≡ marked w
+stays : (w : OpenSnap) (m : Managed) (i : List Issued) (num : ℕ) (o : Op) (reply : Reply) (cites : Option ℕ) (told : Told) → IsAside o → DriverAllows (marked w) m i o reply cites told → stand_after (marked w) num o reply told ≡ marked w
 stays w m i num (op.Line x) reply cites told y a = refl
 stays w m i num (op.Refused r) reply cites told y a = refl
 stays w m i num op.Begin reply cites told y a = absurd y
 stays w m i num op.Sweep reply cites told y a = absurd y
 stays w m i num o reply cites told y a = absurd a
 
-begins : (st : Stand) (c num : ℕ) (reply : Reply) (cites : Option ℕ) (told : Told) → MayBeginNow st c reply cites → (o : Opened) × (stand_after st num op.Begin reply told ≡ marked o)
+begins : (st : Stand) (c num : ℕ) (reply : Reply) (cites : Option ℕ) (told : Told) → MayBeginNow st c reply cites → (o : OpenSnap) × (stand_after st num op.Begin reply told ≡ marked o)
 begins (weakening o count x y) c num reply cites told a = (o, refl)
 begins _ c num reply cites told a = absurd a
 
@@ -56,9 +56,9 @@ marking-step s n k may w = by n.entry.made.caller n.entry.made.op n.told may.ord
     Allows t o told = CallerAllows s.control s.managed.managed s.peer.peers.issued t n.entry.made.index o n.entry.made.reply n.entry.made.cites told
 
     Goal : Thread → Op → Told → Type 0
-    Goal t o told = (mk : Marking) → (S t o told).marking ≡ Some mk → mk.by ≡ C → (w : Opened) × ((control_after s.control t num n.entry.made.index o n.entry.made.reply told).stand ≡ marked w)
+    Goal t o told = (mk : Marking) → (S t o told).marking ≡ Some mk → mk.by ≡ C → (w : OpenSnap) × ((control_after s.control t num n.entry.made.index o n.entry.made.reply told).stand ≡ marked w)
 
-    others : (t : Thread) (o : Op) (told : Told) → (t ≡ C → ⊥) → (mk : Marking) → (S t o told).marking ≡ Some mk → mk.by ≡ C → (w : Opened) × (s.control.stand ≡ marked w)
+    others : (t : Thread) (o : Op) (told : Told) → (t ≡ C → ⊥) → (mk : Marking) → (S t o told).marking ≡ Some mk → mk.by ≡ C → (w : OpenSnap) × (s.control.stand ≡ marked w)
     others t o told x mk e c = let z = marking_before s.peer (made t o) told (is_peer_event t o) (λ q r. x r) mk e c in w z.0 z.1 z.2
 
     own : (o : Op) (told : Told) → IsAside o → Allows C o told → Goal C o told

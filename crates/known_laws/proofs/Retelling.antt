@@ -10,7 +10,7 @@ use Rattle.joint_model.specs.declared.events.Op.{Op}
 use Rattle.joint_model.specs.declared.events.Op.TheVariants as op
 use Rattle.joint_model.specs.declared.events.Reply.{Reply}
 use Rattle.joint_model.specs.declared.events.Made.{Made}
-use Rattle.joint_model.specs.Control.{Stand, Opened, idle, snapped, contracted, weakening, marked, restoring, restored, candidates_of, stand_after, seen_weakened, DriverAllows, IsPhaseOf}
+use Rattle.joint_model.specs.Control.{Stand, OpenSnap, idle, snapped, contracted, weakening, marked, restoring, restored, candidates_of, stand_after, seen_weakened, DriverAllows, IsPhaseOf}
 use Rattle.joint_model.specs.Linked.{Linkage, MayCome, AllMayCome, linkage_after, replayed}
 use Rattle.joint_model.specs.Managed.{Managed}
 use Rattle.joint_model.specs.ManagedReplay.{ManagedReplay, MayRefuse, refusal_to}
@@ -37,13 +37,13 @@ AllPlain s (n ∷ ns) = PlainComes s n × AllPlain (linkage_after s n) ns
 
 -- the stands are the same, but that it may be seen in the one alone that the driver has come to the weakened phase
 abbrev Near : Stand → Stand → Type 0
-Near x y = (x ≡ y) ⊎ ((o : Opened) × (x ≡ weakening o 0 true false) × (y ≡ weakening o 0 false false))
+Near x y = (x ≡ y) ⊎ ((o : OpenSnap) × (x ≡ weakening o 0 true false) × (y ≡ weakening o 0 false false))
 
 abbrev with_stand : Linkage → Stand → Linkage
 with_stand s y = record s { control = record s.control { stand = y } }
 
 -- a driver's event but a refusal asks for the same at both
-drive : (q : Opened) (m : Managed) (i : List Issued) (o : Op) (r : Reply) (c : Option ℕ) (x : Told) → IsTelling o → DriverAllows (weakening q 0 true false) m i o r c x → DriverAllows (weakening q 0 false false) m i o r c x
+drive : (q : OpenSnap) (m : Managed) (i : List Issued) (o : Op) (r : Reply) (c : Option ℕ) (x : Told) → IsTelling o → DriverAllows (weakening q 0 true false) m i o r c x → DriverAllows (weakening q 0 false false) m i o r c x
 drive q m i (op.Refused w) r c x t a = absurd t
 drive q m i o r c x t a = a
 
@@ -52,7 +52,7 @@ drive-near y z m i o r c x (inl e) t a = subst (λ w. DriverAllows w m i o r c x
 drive-near y z m i o r c x (inr e) t a = subst (λ w. DriverAllows w m i o r c x) (sym e.2) (drive e.0 m i o r c x t (subst (λ w. DriverAllows w m i o r c x) e.1 a))
 
 -- and leads to stands that are near again
-go : (q : Opened) (n : ℕ) (o : Op) (r : Reply) (x : Told) → IsTelling o → Near (stand_after (weakening q 0 true false) n o r x) (stand_after (weakening q 0 false false) n o r x)
+go : (q : OpenSnap) (n : ℕ) (o : Op) (r : Reply) (x : Told) → IsTelling o → Near (stand_after (weakening q 0 true false) n o r x) (stand_after (weakening q 0 false false) n o r x)
 go q n (op.Refused w) r x t = absurd t
 go q n (op.Snap k) r x t = inl refl
 go q n (op.Weaken h) r x t = inl refl
@@ -75,7 +75,7 @@ record Refuses (s : ManagedReplay) (y z : Stand) (c n : ℕ) (w : PhaseWord) (r 
   pub plain : TellsPlainly z (op.Refused w) (phase_of phase)
   pub near : Near (stand_after y n (op.Refused w) r (phase_of p)) (stand_after z n (op.Refused w) r (phase_of phase))
 
-seen-near : (o : Opened) (p : Phase) → Near (weakening o 0 (seen_weakened false (phase_of p)) false) (weakening o 0 false false)
+seen-near : (o : OpenSnap) (p : Phase) → Near (weakening o 0 (seen_weakened false (phase_of p)) false) (weakening o 0 false false)
 seen-near o at.Weakened = inr (o, refl, refl)
 seen-near o p = inl refl
 
@@ -108,15 +108,15 @@ seen-true at.Weakened = refl
 seen-true p = refl
 
 -- the phase that is told is the weakened one
-weak-phase : (o : Opened) (c : ℕ) (p : Phase) → IsPhaseOf (weakening o 0 true false) c p → IsPhaseOf (weakening o 0 false false) c p
+weak-phase : (o : OpenSnap) (c : ℕ) (p : Phase) → IsPhaseOf (weakening o 0 true false) c p → IsPhaseOf (weakening o 0 false false) c p
 weak-phase o c p a = (a.0, ⊎_elim (λ u. absurd (true≢false u.2)) (λ u. inr u) a.1)
 
-refuse-seen : (s : ManagedReplay) (o : Opened) (c n : ℕ) (w : PhaseWord) (r : Reply) (p : Phase) → IsPhaseOf (weakening o 0 true false) c p → MayRefuse s w p → Refuses s (weakening o 0 true false) (weakening o 0 false false) c n w r p
+refuse-seen : (s : ManagedReplay) (o : OpenSnap) (c n : ℕ) (w : PhaseWord) (r : Reply) (p : Phase) → IsPhaseOf (weakening o 0 true false) c p → MayRefuse s w p → Refuses s (weakening o 0 true false) (weakening o 0 false false) c n w r p
 refuse-seen s o c n w r p a m =
     let k = refuse-same s (weakening o 0 false false) c n w r p (weak-phase o c p a) m in
     record { phase = k.phase; is = k.is; may = k.may; reply = k.reply; plain = k.plain; near = subst (λ (z : Bool). Near (weakening o 0 z false) (weakening o 0 (seen_weakened false (phase_of k.phase)) false)) (sym (seen-true p)) (back o k.phase) }
   where
-    back : (o : Opened) (q : Phase) → Near (weakening o 0 true false) (weakening o 0 (seen_weakened false (phase_of q)) false)
+    back : (o : OpenSnap) (q : Phase) → Near (weakening o 0 true false) (weakening o 0 (seen_weakened false (phase_of q)) false)
     back o at.Weakened = inl refl
     back o q = inr (o, refl, refl)
 

@@ -4,7 +4,7 @@ use Rattle.joint_model.specs.declared.names.Thread.TheVariants.{M, P}
 use Rattle.joint_model.specs.declared.names.Phase.TheVariants as at
 use Rattle.joint_model.specs.declared.events.Entry.{Entry}
 use Rattle.joint_model.specs.Components.{Rises}
-use Rattle.joint_model.specs.Control.{Opened}
+use Rattle.joint_model.specs.Control.{OpenSnap}
 use Rattle.joint_model.specs.Cycles.{IsSnapshot}
 use Rattle.joint_model.specs.Draws.{Drawn, NumberedFrom}
 use Rattle.joint_model.specs.Heaps.{IsLive}
@@ -159,7 +159,7 @@ no_restore h w = none_some w.mirror w.stands
 pub no_clear : (k : ℕ) → MayClear opening_peer_replay k → ⊥
 no_clear k w = none_some w.mirror w.stands
 
-pub no_cycle : (o : Opened) → IsOpenHere opening_linkage o → ⊥
+pub no_cycle : (o : OpenSnap) → IsOpenHere opening_linkage o → ⊥
 no_cycle o w = none_some w.0 w.1.0
 
 pub snapped_open : (end_of (a_snap ∷ [])).managed.managed.cycle ≡ None → ⊥

@@ -10,7 +10,7 @@ use Rattle.joint_model.specs.declared.events.Op.{Op}
 use Rattle.joint_model.specs.declared.events.Op.TheVariants as op
 use Rattle.joint_model.specs.declared.events.Reply.{Reply}
 use Rattle.joint_model.specs.declared.events.Made.{Made}
-use Rattle.joint_model.specs.Control.{Opened, control_after}
+use Rattle.joint_model.specs.Control.{OpenSnap, control_after}
 use Rattle.joint_model.specs.Lines.{IsEvent, is_peer_event}
 use Rattle.joint_model.specs.Linked.{SideLawful, managed_after}
 use Rattle.joint_model.specs.Managed.{Managed}
@@ -49,11 +49,11 @@ driver_goes r index reply cites (op.Give v) told k x e = absurd e.0
 driver_goes r index reply cites _ told k x e = GoesOn-stay r.managed
 
 -- an entry behind which the driver has the same cycle open goes on
-record Keeps (y : Noted) (h : List Noted) (o : Opened) : Type 0 where
+record Keeps (y : Noted) (h : List Noted) (o : OpenSnap) : Type 0 where
   opened : opened_of (end_of h).control.stand ≡ Some o
   goes : GoesOn (end_of h).managed.managed (end_of (y ∷ h)).managed.managed
 
-keeps : (y : Noted) (h : List Noted) → Lawful (y ∷ h) → (o : Opened) → opened_of (end_of (y ∷ h)).control.stand ≡ Some o → (y.entry.number ≡ o.snap → ⊥) → Keeps y h o
+keeps : (y : Noted) (h : List Noted) → Lawful (y ∷ h) → (o : OpenSnap) → opened_of (end_of (y ∷ h)).control.stand ≡ Some o → (y.entry.number ≡ o.snap → ⊥) → Keeps y h o
 keeps y h l o e later = by y.entry.made.caller y.entry.made.op refl refl l.0.comes.event l.0.comes.lawful
   where
     made : Thread → Op → Made
@@ -62,7 +62,7 @@ keeps y h l o e later = by y.entry.made.caller y.entry.made.op refl refl l.0.com
     R : Thread → Op → Managed
     R t p = (managed_after (end_of h).managed (made t p) y.told (is_peer_event t p)).managed
 
-    Stood : Thread → Op → Option Opened
+    Stood : Thread → Op → Option OpenSnap
     Stood t p = opened_of (control_after (end_of h).control t y.entry.number y.entry.made.index p y.entry.made.reply y.told).stand
 
     goes : (t : Thread) (p : Op) → y.entry.made.caller ≡ t → y.entry.made.op ≡ p → GoesOn (end_of h).managed.managed (R t p) → GoesOn (end_of h).managed.managed (end_of (y ∷ h)).managed.managed
@@ -77,7 +77,7 @@ keeps y h l o e later = by y.entry.made.caller y.entry.made.op refl refl l.0.com
     by : (t : Thread) (p : Op) → y.entry.made.caller ≡ t → y.entry.made.op ≡ p → IsEvent t p → SideLawful (is_peer_event t p) (end_of h) (made t p) y.told → Keeps y h o
     by (M u) p c f v s = record { opened = stood (M u) p c f; goes = others (M u) p c f (λ z. cc) v s }
     by (P u) p c f v s = record { opened = stood (P u) p c f; goes = others (P u) p c f (λ z. cc) v s }
-    by C (op.Snap k) c f v s = absurd (later (ap (λ (z : Opened). z.snap) (same_Some _ _ (stood C (op.Snap k) c f))))
+    by C (op.Snap k) c f v s = absurd (later (ap (λ (z : OpenSnap). z.snap) (same_Some _ _ (stood C (op.Snap k) c f))))
     by C (op.Resolve k) c f v s = absurd (none_some o (stood C (op.Resolve k) c f))
     by C (op.Abandon k) c f v s = absurd (none_some o (stood C (op.Abandon k) c f))
     by C p c f v s = record {
@@ -85,7 +85,7 @@ keeps y h l o e later = by y.entry.made.caller y.entry.made.op refl refl l.0.com
       goes = goes C p c f (driver_goes (end_of h).managed y.entry.made.index y.entry.made.reply y.entry.made.cites p y.told (kept_end h l.1).managed tt v);
     }
 
-stays_alike : (h front back : List Noted) (x : Noted) → Lawful h → h ≡ front ++ x ∷ back → (o : Opened) → opened_of (end_of h).control.stand ≡ Some o → x.entry.number ≡ o.snap → Alike (end_of h).managed.managed (end_of (x ∷ back)).managed.managed
+stays_alike : (h front back : List Noted) (x : Noted) → Lawful h → h ≡ front ++ x ∷ back → (o : OpenSnap) → opened_of (end_of h).control.stand ≡ Some o → x.entry.number ≡ o.snap → Alike (end_of h).managed.managed (end_of (x ∷ back)).managed.managed
 stays_alike h [] back x l e o q n = subst (λ z. Alike (end_of z).managed.managed (end_of (x ∷ back)).managed.managed) (sym e) (alike_self _)
 stays_alike [] (y ∷ front) back x l e o q n = absurd (cc)
 stays_alike (y ∷ h) (z ∷ front) back x l e o q n =

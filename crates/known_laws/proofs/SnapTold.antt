@@ -10,7 +10,7 @@ use Rattle.joint_model.specs.declared.events.Op.{Op}
 use Rattle.joint_model.specs.declared.events.Op.TheVariants as op
 use Rattle.joint_model.specs.declared.events.Made.{Made}
 use Rattle.joint_model.specs.declared.events.Reply.{Reply}
-use Rattle.joint_model.specs.Control.{Opened, Stand, idle, snapped, contracted, weakening, marked, restoring, restored, stand_after, control_after}
+use Rattle.joint_model.specs.Control.{OpenSnap, Stand, idle, snapped, contracted, weakening, marked, restoring, restored, stand_after, control_after}
 use Rattle.joint_model.specs.Lines.{IsEvent, is_peer_event}
 use Rattle.joint_model.specs.Linked.{SideLawful, managed_after}
 use Rattle.joint_model.specs.ManagedReplay.{ManagedReplay}
@@ -73,10 +73,10 @@ cycle_on r index reply cites (op.Give v) told k x e = absurd e.0
 cycle_on r index reply cites _ told k x e = refl
 
 -- the same open cycle with one entry more
-later : (x : Noted) (h : List Noted) (o : Opened) → (end_of (x ∷ h)).managed.managed.cycle ≡ (end_of h).managed.managed.cycle → HasSnap h o → HasSnap (x ∷ h) o
+later : (x : Noted) (h : List Noted) (o : OpenSnap) → (end_of (x ∷ h)).managed.managed.cycle ≡ (end_of h).managed.managed.cycle → HasSnap h o → HasSnap (x ∷ h) o
 later x h o e s = record { cycle = s.cycle; open_cycle = e ∙ s.open_cycle; freed = s.freed; entry = s.entry; there = inr s.there; number = s.number; event = s.event; tells = s.tells }
 
-step : (x : Noted) (h : List Noted) → Lawful (x ∷ h) → ((o : Opened) → opened_of (end_of h).control.stand ≡ Some o → HasSnap h o) → (o : Opened) → opened_of (end_of (x ∷ h)).control.stand ≡ Some o → HasSnap (x ∷ h) o
+step : (x : Noted) (h : List Noted) → Lawful (x ∷ h) → ((o : OpenSnap) → opened_of (end_of h).control.stand ≡ Some o → HasSnap h o) → (o : OpenSnap) → opened_of (end_of (x ∷ h)).control.stand ≡ Some o → HasSnap (x ∷ h) o
 step x h l b = by x.entry.made.caller x.entry.made.op x.told refl refl refl l.0.comes.event l.0.comes.lawful
   where
     made : Thread → Op → Made
@@ -89,16 +89,16 @@ step x h l b = by x.entry.made.caller x.entry.made.op x.told refl refl refl l.0.
     cycle_is : (t : Thread) (o : Op) (told : Told) → x.entry.made.caller ≡ t → x.entry.made.op ≡ o → x.told ≡ told → (end_of (x ∷ h)).managed.managed.cycle ≡ (R t o told).managed.cycle
     cycle_is t o told e f g = λ i. (R (e i) (f i) (g i)).managed.cycle
 
-    Stood : Thread → Op → Told → Opened → Type 0
+    Stood : Thread → Op → Told → OpenSnap → Type 0
     Stood t o told w = opened_of (control_after (end_of h).control t x.entry.number x.entry.made.index o x.entry.made.reply told).stand ≡ Some w
 
-    stood_is : (t : Thread) (o : Op) (told : Told) (w : Opened) → x.entry.made.caller ≡ t → x.entry.made.op ≡ o → x.told ≡ told → opened_of (end_of (x ∷ h)).control.stand ≡ Some w → Stood t o told w
+    stood_is : (t : Thread) (o : Op) (told : Told) (w : OpenSnap) → x.entry.made.caller ≡ t → x.entry.made.op ≡ o → x.told ≡ told → opened_of (end_of (x ∷ h)).control.stand ≡ Some w → Stood t o told w
     stood_is t o told w e f g q = subst (λ z. z ≡ Some w) (λ i. opened_of (control_after (end_of h).control (e i) x.entry.number x.entry.made.index (f i) x.entry.made.reply (g i)).stand) q
 
-    others : (t : Thread) (o : Op) (told : Told) → x.entry.made.caller ≡ t → x.entry.made.op ≡ o → x.told ≡ told → (t ≡ C → ⊥) → IsEvent t o → SideLawful (is_peer_event t o) (end_of h) (made t o) told → (w : Opened) → opened_of (end_of h).control.stand ≡ Some w → HasSnap (x ∷ h) w
+    others : (t : Thread) (o : Op) (told : Told) → x.entry.made.caller ≡ t → x.entry.made.op ≡ o → x.told ≡ told → (t ≡ C → ⊥) → IsEvent t o → SideLawful (is_peer_event t o) (end_of h) (made t o) told → (w : OpenSnap) → opened_of (end_of h).control.stand ≡ Some w → HasSnap (x ∷ h) w
     others t o told e f g n v s w q = later x h w (cycle_is t o told e f g ∙ (goes_by (end_of h).managed (made t o) told (is_peer_event t o) (end_of h) refl n v (kept_end h l.1).managed s).cycle) (b w q)
 
-    by : (t : Thread) (o : Op) (told : Told) → x.entry.made.caller ≡ t → x.entry.made.op ≡ o → x.told ≡ told → IsEvent t o → SideLawful (is_peer_event t o) (end_of h) (made t o) told → (w : Opened) → opened_of (end_of (x ∷ h)).control.stand ≡ Some w → HasSnap (x ∷ h) w
+    by : (t : Thread) (o : Op) (told : Told) → x.entry.made.caller ≡ t → x.entry.made.op ≡ o → x.told ≡ told → IsEvent t o → SideLawful (is_peer_event t o) (end_of h) (made t o) told → (w : OpenSnap) → opened_of (end_of (x ∷ h)).control.stand ≡ Some w → HasSnap (x ∷ h) w
     by (M u) o told e f g v s w q = others (M u) o told e f g (λ z. cc) v s w (stood_is (M u) o told w e f g q)
     by (P u) o told e f g v s w q = others (P u) o told e f g (λ z. cc) v s w (stood_is (P u) o told w e f g q)
     by C (op.Snap k) (snap_of freed candidates dead) e f g v s w q =
@@ -109,8 +109,8 @@ step x h l b = by x.entry.made.caller x.entry.made.op x.told refl refl refl l.0.
           freed = freed;
           entry = x;
           there = inl refl;
-          number = ap (λ (z : Opened). z.snap) same;
-          event = f ∙ ap (λ (z : Opened). op.Snap record { 0 = z.cycle }) same;
+          number = ap (λ (z : OpenSnap). z.snap) same;
+          event = f ∙ ap (λ (z : OpenSnap). op.Snap record { 0 = z.cycle }) same;
           tells = g;
         }
     by C (op.Snap k) told e f g v s w q = absurd s.allowed
@@ -134,7 +134,7 @@ numbers_are_once (z ∷ h) l x y p q e = ⊎_elim
     (λ b. numbers_are_once h l.1 x y a b e) q)
     p
 
-opened_by : (r : ManagedReplay) (s : PeerReplay) (o : Opened) (a b : ℕ) (m : Mirror) → IsMirrorOf r s o a b → s.mirror ≡ Some m → Some o ≡ Some record { cycle = m.cycle; snap = m.snap }
+opened_by : (r : ManagedReplay) (s : PeerReplay) (o : OpenSnap) (a b : ℕ) (m : Mirror) → IsMirrorOf r s o a b → s.mirror ≡ Some m → Some o ≡ Some record { cycle = m.cycle; snap = m.snap }
 opened_by r s o a b m f e =
     let same : f.mirror ≡ m = same_Some _ _ (sym f.stands ∙ e) in
     let c : o.cycle ≡ m.cycle = sym f.cycle ∙ ap (λ (z : Mirror). z.cycle) same in

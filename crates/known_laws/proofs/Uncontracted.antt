@@ -8,7 +8,7 @@ use Rattle.joint_model.specs.declared.events.Made.{Made}
 use Rattle.joint_model.specs.declared.events.Op.TheVariants as op
 use Rattle.joint_model.specs.declared.events.Reply.{Reply}
 use Rattle.joint_model.specs.declared.events.Reply.TheVariants as says
-use Rattle.joint_model.specs.Control.{CallerAllows, MayContractNow, Stand, Opened, snapped, contracted, weakening, marked, restoring, stand_after, control_after}
+use Rattle.joint_model.specs.Control.{CallerAllows, MayContractNow, Stand, OpenSnap, snapped, contracted, weakening, marked, restoring, stand_after, control_after}
 use Rattle.joint_model.specs.Heaps.{Answered}
 use Rattle.joint_model.specs.Lines.{IsEvent, is_peer_event}
 use Rattle.joint_model.specs.Linked.{Linkage, MayCome, SideLawful, managed_after, linkage_after}
@@ -63,7 +63,7 @@ other_of C o n e = absurd (n refl)
 other_of t _ n e = tt
 
 -- after other events the driver is at the snapshot only where it was
-back : (st : Stand) (num : ℕ) (o : Op) (reply : Reply) (told : Told) (w : Opened) → IsOther o → stand_after st num o reply told ≡ snapped w → st ≡ snapped w
+back : (st : Stand) (num : ℕ) (o : Op) (reply : Reply) (told : Told) (w : OpenSnap) → IsOther o → stand_after st num o reply told ≡ snapped w → st ≡ snapped w
 back st num (op.Snap k) reply told w x e = absurd x
 back st num (op.Contract k) reply told w x e = absurd x
 back (contracted o comps xrefs) num (op.Mirror k) reply told w x e = absurd (cc)
@@ -92,7 +92,7 @@ uncontracted-step s n may u = by n.entry.made.caller n.entry.made.op n.told may.
     made t o = record { caller = t; index = n.entry.made.index; op = o; reply = n.entry.made.reply; cites = n.entry.made.cites }
 
     Goal : Thread → Op → Told → Type 0
-    Goal t o told = (w : Opened) → (control_after s.control t num n.entry.made.index o n.entry.made.reply told).stand ≡ snapped w → (managed_after s.managed (made t o) told (is_peer_event t o)).contracted ≡ false
+    Goal t o told = (w : OpenSnap) → (control_after s.control t num n.entry.made.index o n.entry.made.reply told).stand ≡ snapped w → (managed_after s.managed (made t o) told (is_peer_event t o)).contracted ≡ false
 
     Allows : Thread → Op → Told → Type 0
     Allows t o told = CallerAllows s.control s.managed.managed s.peer.peers.issued t n.entry.made.index o n.entry.made.reply n.entry.made.cites told

@@ -2,7 +2,7 @@
 use Rattle.std.specs.Prelude.{◌≡◌, ℕ, ◌+◌, ◌≤◌, ◌⊎◌, Bool, if◌then◌else◌, List, [], ◌∷◌, ◌++◌, map, Contains, Some}
 use mathlib.Core.List.{IsPrefix}
 use Rattle.joint_model.specs.Components.{mirror_edges}
-use Rattle.joint_model.specs.Control.{Opened, contracted, candidates_of, IsCandidateHandle, carried_edges}
+use Rattle.joint_model.specs.Control.{OpenSnap, contracted, candidates_of, IsCandidateHandle, carried_edges}
 use Rattle.joint_model.specs.Cycles.{IsDeadContraction}
 use Rattle.joint_model.specs.Heaps.{fields_of}
 use Rattle.joint_model.specs.HistoryLines.{caller_line, side_line, stands_in}
@@ -78,7 +78,7 @@ pub record HasSameDeadPart (s t : Managed) : Type 0 where
 pub record IsSameForDriver (s t : Linkage) : Type 0 where
   pub candidates : candidates_of s.managed.managed ≡ candidates_of t.managed.managed
   pub handles : (i h : ℕ) → IsCandidateHandle s.managed.managed i h → IsCandidateHandle t.managed.managed i h
-  pub edges : (o : Opened) (comps : List (List ℕ)) (xrefs : List (ℕ × ℕ)) (issued : List Issued) → t.control.stand ≡ contracted o comps xrefs
+  pub edges : (o : OpenSnap) (comps : List (List ℕ)) (xrefs : List (ℕ × ℕ)) (issued : List Issued) → t.control.stand ≡ contracted o comps xrefs
       → carried_edges s.managed.managed issued (mirror_edges comps xrefs) ≡ carried_edges t.managed.managed issued (mirror_edges comps xrefs)
 
 -- the open cycle's dead part is frozen: two pasts in which the driver did the same have the same for the driver

@@ -19,7 +19,7 @@ use Rattle.joint_model.specs.declared.events.Reply.{Reply}
 use Rattle.joint_model.specs.declared.events.Reply.TheVariants as says
 use Rattle.joint_model.specs.declared.events.Made.{Made}
 use Rattle.joint_model.specs.Components.{mirror_edges}
-use Rattle.joint_model.specs.Control.{Opened, made, lent, gripped, given, met, idle, snapped, contracted, weakening, marked, restoring, restored, doing_at, last_line, candidates_of, carried_edges, IsCandidateHandle, IsPhaseOf, IsAtRest, IsDone, MayStart, ThreadAllows, DriverAllows, CallerAllows}
+use Rattle.joint_model.specs.Control.{OpenSnap, made, lent, gripped, given, met, idle, snapped, contracted, weakening, marked, restoring, restored, doing_at, last_line, candidates_of, carried_edges, IsCandidateHandle, IsPhaseOf, IsAtRest, IsDone, MayStart, ThreadAllows, DriverAllows, CallerAllows}
 use Rattle.joint_model.specs.Lines.{IsLine}
 use Rattle.joint_model.specs.Linked.{Linkage, MayCome}
 use Rattle.joint_model.specs.Sides.{managed_rules, peer_rules}
@@ -53,18 +53,18 @@ ThreadsHaveTurns = (s : Linkage) (t : ℕ) → AreThreadTurns s t
 -- the driver's events by where it stands
 pub record AreDriverTurns (s : Linkage) : Type 0 where
   pub snap : (k : Cycle) (reply : Reply) (told : Told) → s.control.stand ≡ idle → DriverTurn s (op.Snap k) reply None told
-  pub contract : (o : Opened) (reply : Reply) (told : Told) → s.control.stand ≡ snapped o → DriverTurn s (op.Contract record { 0 = o.cycle }) reply None told
-  pub mirror : (o : Opened) (comps : List (List ℕ)) (xrefs : List (ℕ × ℕ)) (reply : Reply) → s.control.stand ≡ contracted o comps xrefs
+  pub contract : (o : OpenSnap) (reply : Reply) (told : Told) → s.control.stand ≡ snapped o → DriverTurn s (op.Contract record { 0 = o.cycle }) reply None told
+  pub mirror : (o : OpenSnap) (comps : List (List ℕ)) (xrefs : List (ℕ × ℕ)) (reply : Reply) → s.control.stand ≡ contracted o comps xrefs
       → DriverTurn s (op.Mirror record { 0 = o.cycle }) reply (Some o.snap) (references_of (carried_edges s.managed.managed s.peer.peers.issued (mirror_edges comps xrefs)))
-  pub weaken : (o : Opened) (count : ℕ) (weakened : Bool) (h : HNum) (reply : Reply) (told : Told) → s.control.stand ≡ weakening o count weakened false → IsCandidateHandle s.managed.managed count h.0 → DriverTurn s (op.Weaken h) reply (Some o.snap) told
-  pub mark_sweep : (o : Opened) (weakened : Bool) (reply : Reply) (told : Told) → s.control.stand ≡ weakening o (length (candidates_of s.managed.managed)) weakened false → DriverTurn s op.Sweep reply None told
-  pub begin : (o : Opened) (weakened swept : Bool) (j : Marking) (told : Told) → s.control.stand ≡ weakening o (length (candidates_of s.managed.managed)) weakened swept → DriverTurn s op.Begin (says.Mark j) None told
-  pub sweep : (o : Opened) (reply : Reply) (told : Told) → s.control.stand ≡ marked o → DriverTurn s op.Sweep reply None told
-  pub restore : (o : Opened) (answers : List Answer) (h : HNum) (reply : Reply) (told : Told) → s.control.stand ≡ restoring o answers → IsCandidateHandle s.managed.managed (length answers) h.0 → DriverTurn s (op.Restore h) reply None told
-  pub clear : (o : Opened) (answers : List Answer) (reply : Reply) (told : Told) → s.control.stand ≡ restoring o answers → length answers ≡ length (candidates_of s.managed.managed) → DriverTurn s (op.Clear record { 0 = o.cycle }) reply None told
-  pub resolve : (o : Opened) (answers : List Answer) (clear : ℕ) (freed : List ℕ) (reply : Reply) → s.control.stand ≡ restored o answers clear → DriverTurn s (op.Resolve record { 0 = o.cycle }) reply (Some clear) (resolution_of answers freed)
-  pub abandon_snapped : (o : Opened) (reply : Reply) (told : Told) → s.control.stand ≡ snapped o → DriverTurn s (op.Abandon record { 0 = o.cycle }) reply None told
-  pub abandon_contracted : (o : Opened) (comps : List (List ℕ)) (xrefs : List (ℕ × ℕ)) (reply : Reply) (told : Told) → s.control.stand ≡ contracted o comps xrefs → DriverTurn s (op.Abandon record { 0 = o.cycle }) reply None told
+  pub weaken : (o : OpenSnap) (count : ℕ) (weakened : Bool) (h : HNum) (reply : Reply) (told : Told) → s.control.stand ≡ weakening o count weakened false → IsCandidateHandle s.managed.managed count h.0 → DriverTurn s (op.Weaken h) reply (Some o.snap) told
+  pub mark_sweep : (o : OpenSnap) (weakened : Bool) (reply : Reply) (told : Told) → s.control.stand ≡ weakening o (length (candidates_of s.managed.managed)) weakened false → DriverTurn s op.Sweep reply None told
+  pub begin : (o : OpenSnap) (weakened swept : Bool) (j : Marking) (told : Told) → s.control.stand ≡ weakening o (length (candidates_of s.managed.managed)) weakened swept → DriverTurn s op.Begin (says.Mark j) None told
+  pub sweep : (o : OpenSnap) (reply : Reply) (told : Told) → s.control.stand ≡ marked o → DriverTurn s op.Sweep reply None told
+  pub restore : (o : OpenSnap) (answers : List Answer) (h : HNum) (reply : Reply) (told : Told) → s.control.stand ≡ restoring o answers → IsCandidateHandle s.managed.managed (length answers) h.0 → DriverTurn s (op.Restore h) reply None told
+  pub clear : (o : OpenSnap) (answers : List Answer) (reply : Reply) (told : Told) → s.control.stand ≡ restoring o answers → length answers ≡ length (candidates_of s.managed.managed) → DriverTurn s (op.Clear record { 0 = o.cycle }) reply None told
+  pub resolve : (o : OpenSnap) (answers : List Answer) (clear : ℕ) (freed : List ℕ) (reply : Reply) → s.control.stand ≡ restored o answers clear → DriverTurn s (op.Resolve record { 0 = o.cycle }) reply (Some clear) (resolution_of answers freed)
+  pub abandon_snapped : (o : OpenSnap) (reply : Reply) (told : Told) → s.control.stand ≡ snapped o → DriverTurn s (op.Abandon record { 0 = o.cycle }) reply None told
+  pub abandon_contracted : (o : OpenSnap) (comps : List (List ℕ)) (xrefs : List (ℕ × ℕ)) (reply : Reply) (told : Told) → s.control.stand ≡ contracted o comps xrefs → DriverTurn s (op.Abandon record { 0 = o.cycle }) reply None told
   pub refused : (w : PhaseWord) (p : Phase) (reply : Reply) → IsPhaseOf s.control.stand (length (candidates_of s.managed.managed)) p → DriverTurn s (op.Refused w) reply None (phase_of p)
   pub finalise : (n : ℕ) (reply : Reply) (told : Told) → IsAtRest s.control.stand (length (candidates_of s.managed.managed)) → DriverTurn s (op.Line (act.Finalise n)) reply None told
 

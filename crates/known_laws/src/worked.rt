@@ -3,7 +3,7 @@
 ghost use Rattle.std.specs.Prelude.{◌≡◌, ℕ, List, [], ◌∷◌, None};
 ghost use Rattle.joint_model.specs.declared.events.Entry.{Entry};
 ghost use Rattle.joint_model.specs.declared.names.Phase.TheVariants as at;
-ghost use Rattle.joint_model.specs.Control.{opening_control, snapped, Opened};
+ghost use Rattle.joint_model.specs.Control.{opening_control, snapped, OpenSnap};
 ghost use Rattle.joint_model.specs.Draws.{NumberedFrom};
 ghost use Rattle.joint_model.specs.Linked.{MayCome, opening_linkage};
 ghost use Rattle.joint_model.specs.Managed.{OpenCycle};
@@ -77,7 +77,7 @@ pub fn calls_need_their_stand()
     ensures weaken { (h : ℕ) → MayWeaken opening_peer_replay h None → ⊥ }
     ensures restore { (h : ℕ) → MayRestore opening_peer_replay h → ⊥ }
     ensures clear { (k : ℕ) → MayClear opening_peer_replay k → ⊥ }
-    ensures open_cycle { (o : Opened) → IsOpenHere opening_linkage o → ⊥ }
+    ensures open_cycle { (o : OpenSnap) → IsOpenHere opening_linkage o → ⊥ }
     ensures snapped { (end_of (a_snap ∷ [])).control.stand ≡ snapped record { cycle = 1; snap = 0 } }
     ensures snap { (end_of (a_snap ∷ [])).managed.managed.cycle ≡ None → ⊥ }
 {}
