@@ -17,11 +17,10 @@ pub use broken::{
     weak_handle_is_no_root,
 };
 pub use further::{
-    abandoned_is_lawful, ended_marking_is_lawful, global_names_is_lawful,
-    held_peer_is_lawful, moved_peer_is_lawful, one_object_has_two_lists,
-    one_object_is_freed_in_time, one_object_is_lawful, peer_marking_is_lawful,
-    pending_read_is_lawful, plain_between_is_lawful, plain_object_is_lawful, refusals_is_lawful,
-    resurrected_is_lawful, two_markings_is_lawful,
+    abandoned_is_lawful, ended_marking_is_lawful, global_names_is_lawful, held_peer_is_lawful,
+    moved_peer_is_lawful, one_object_has_two_lists, one_object_is_freed_in_time,
+    one_object_is_lawful, peer_marking_is_lawful, pending_read_is_lawful, plain_between_is_lawful,
+    plain_object_is_lawful, refusals_is_lawful, resurrected_is_lawful, two_markings_is_lawful,
 };
 pub use gaps::{
     begins_in_gaps, collections_in_gaps, drops_in_gaps, reads_in_gaps, stores_in_gaps,
