@@ -39,8 +39,6 @@ mod reading;
 mod refusals;
 mod reports;
 mod scripts;
-#[cfg(test)]
-mod tests;
 mod words;
 
 pub use drafts::Line;

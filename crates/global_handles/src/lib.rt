@@ -470,6 +470,3 @@ fn clear_chain(slots: &mut Vec<Slot>, p: PNum, from: u32)
         at = slot.next;
     }
 }
-
-#[cfg(test)]
-mod tests;

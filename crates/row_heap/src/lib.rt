@@ -27,6 +27,3 @@ mod sweeping;
 mod tracing;
 
 pub use heap::RowHeap;
-
-#[cfg(test)]
-mod tests;

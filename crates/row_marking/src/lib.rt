@@ -176,6 +176,3 @@ pub fn mark_from<G: Traced>(g: &mut G, roots: &[u32])
     mark_roots(g, roots, &mut grey);
     finish(g, grey);
 }
-
-#[cfg(test)]
-mod tests;

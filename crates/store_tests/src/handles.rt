@@ -1,4 +1,7 @@
-use super::*;
+// Tables of handles: how rows are made, cleared, restored and removed, at the last number and with many handles of a peer.
+
+use global_handles::{Back, HandleFault, HandleRow, HandleTable, Hold, NotLive, Strength};
+use joint_model::{HNum, PNum};
 use std::test::Fail;
 
 #[test]

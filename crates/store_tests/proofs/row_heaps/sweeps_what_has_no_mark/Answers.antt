@@ -3,7 +3,7 @@ use Rattle.std.proofs.Common.{◌≡◌, inl, inr, subst, sym, ap, ◌∙◌}
 use Rattle.joint_model.specs.Heaps.{InSlot, opening_heap, with_object}
 use Rattle.joint_model.proofs.Numbered.{replicate-none}
 use Rattle.row_heap.specs.Rows.{HeapRows}
-use Rattle.row_heap.proofs.tests.sweeps_what_has_no_mark.Goals as goal
+use Rattle.store_tests.proofs.row_heaps.sweeps_what_has_no_mark.Goals as goal
 
 pub sweep-requires-clause-slots : goal.sweep-requires-clause-slots
 sweep-requires-clause-slots g c = λ x i.

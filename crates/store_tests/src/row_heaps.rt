@@ -1,8 +1,8 @@
-// Calls on small heaps.
+// Small heaps of rows: operations, references and a sweep.
 
-use crate::RowHeap;
 use joint_model::PNum;
 use object_heap::Done;
+use row_heap::RowHeap;
 use std::alloc::AllocError;
 
 #[test]

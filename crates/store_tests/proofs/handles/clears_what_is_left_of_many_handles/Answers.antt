@@ -6,7 +6,7 @@ use Rattle.joint_model.specs.declared.names.PNum.{PNum}
 use Rattle.global_handles.specs.declared.HandleRow.{HandleRow}
 use Rattle.global_handles.specs.declared.Strength.TheVariants.{Weak}
 use Rattle.global_handles.specs.Rows.{cleared_row, cleared_for, without, IsWeakFor}
-use Rattle.global_handles.proofs.tests.clears_what_is_left_of_many_handles.Goals as goal
+use Rattle.store_tests.proofs.handles.clears_what_is_left_of_many_handles.Goals as goal
 
 -- all rows are weak
 abbrev AreWeak : List HandleRow → Type 0

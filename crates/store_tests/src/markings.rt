@@ -2,7 +2,7 @@
 
 ghost use Rattle.std.specs.Prelude.{◌≡◌, ◌+◌, ◌<◌, ◌%◌, [], ◌∷◌, Some, None, false, replicate};
 
-use crate::{Traced, finish, mark_from, visit};
+use row_marking::{Traced, mark_from, visit};
 use std::test::Fail;
 
 #[derive(Drop)]

@@ -1,0 +1,12 @@
+// Tests of `bridge_script` by its public calls: scripts and their first faults, sources, sinks, and the reports of worked histories.
+//
+// They stand in a crate of their own since a crate with tests is proved twice, with them and without, and `bridge_script` is large. Nothing
+// but tests stands here, and no other crate builds on it.
+#![tactic(auto)]
+
+#[cfg(test)]
+mod comparing;
+#[cfg(test)]
+mod reports;
+#[cfg(test)]
+mod scripts;

@@ -1,0 +1,17 @@
+// Tests of the crates that keep something, by their public calls, where memory is ample: marked rows, the heap of rows, the table of
+// handles, the dead part as a graph, and the list of components.
+//
+// They stand in a crate of their own since a crate with tests is proved twice, with them and without. Nothing but tests stands here, and no
+// other crate builds on it.
+#![tactic(auto)]
+
+#[cfg(test)]
+mod components;
+#[cfg(test)]
+mod graphs;
+#[cfg(test)]
+mod handles;
+#[cfg(test)]
+mod markings;
+#[cfg(test)]
+mod row_heaps;
