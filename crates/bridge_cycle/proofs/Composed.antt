@@ -10,7 +10,7 @@ use Rattle.joint_model.specs.declared.events.Entry.{Entry}
 use Rattle.joint_model.specs.declared.events.Reply.{Reply}
 use Rattle.joint_model.specs.Phases.{next_phase, phases_left, phases_of}
 use Rattle.joint_model.proofs.Deciding.{none_some, some-same}
-use Rattle.bridge_cycle.specs.Progress.{Answers, BreaksLine, BreaksOff, BreaksWord, LeadTo, Progress, Runs, RunsLine, RunsPhases, RunsWord, last_reply}
+use Rattle.bridge_cycle.specs.Progress.{EndsWithReply, BreaksLine, StopsForMemory, BreaksWord, LeadTo, Progress, Runs, RunsLine, RunsPhases, RunsWord, last_reply}
 use Rattle.bridge_cycle.specs.Words.{Closes, IsOnePhase, IsPartway, Lacks, due_in, next_word}
 use Rattle.bridge_cycle.proofs.Making.{append_nil, ran_nothing, runs_more}
 
@@ -104,7 +104,7 @@ pub partway_first : (old : Progress) (index : ℕ) → (old.phase ≡ at.Idle �
 partway_first old index busy = record { busy = busy; run = []; all = refl; runs = ran_nothing old index }
 
 -- one phase more
-pub partway_more : (old mid new : Progress) (index : ℕ) (w : PhaseWord) (reply : Reply) → IsPartway old mid index → (mid.phase ≡ at.Restored → ⊥) → w ≡ next_word mid.phase → Answers mid new index (w ∷ []) reply → IsPartway old new index × (length (phases_left new.phase) < length (phases_left mid.phase))
+pub partway_more : (old mid new : Progress) (index : ℕ) (w : PhaseWord) (reply : Reply) → IsPartway old mid index → (mid.phase ≡ at.Restored → ⊥) → w ≡ next_word mid.phase → EndsWithReply mid new index (w ∷ []) reply → IsPartway old new index × (length (phases_left new.phase) < length (phases_left mid.phase))
 partway_more old mid new index w reply p n is a =
     let runs = a.runs in
     let g = goes mid.phase new.phase p.busy n (subst (λ (v : PhaseWord). LeadTo mid.phase (v ∷ []) new.phase) is runs.leads) in (
@@ -118,7 +118,7 @@ partway_more old mid new index w reply p n is a =
     )
 
 -- a phase that found no memory
-pub partway_lacks : (old mid new : Progress) (index : ℕ) (w : PhaseWord) → IsPartway old mid index → w ≡ next_word mid.phase → Lacks mid new index w → BreaksOff old new index (phases_left old.phase)
+pub partway_lacks : (old mid new : Progress) (index : ℕ) (w : PhaseWord) → IsPartway old mid index → w ≡ next_word mid.phase → Lacks mid new index w → StopsForMemory old new index (phases_left old.phase)
 partway_lacks old mid new index w p is lacks =
     let left = left_some mid.phase p.busy in
     record {
@@ -136,7 +136,7 @@ snoc_of [] l = absurd (omega (arith, l))
 snoc_of (e ∷ []) l = (e, refl)
 snoc_of (e ∷ f ∷ es) l = absurd (omega (arith, l))
 
-pub closes_now : (old mid new : Progress) (index : ℕ) (reply : Reply) → IsPartway old mid index → mid.phase ≡ at.Restored → Answers mid new index (word.Resolve ∷ []) reply → Closes old new index (phases_left old.phase) reply
+pub closes_now : (old mid new : Progress) (index : ℕ) (reply : Reply) → IsPartway old mid index → mid.phase ≡ at.Restored → EndsWithReply mid new index (word.Resolve ∷ []) reply → Closes old new index (phases_left old.phase) reply
 closes_now old mid new index reply p e a =
     let runs = a.runs in
     let own = runs.events in
@@ -156,14 +156,14 @@ last_snoc [] e = refl
 last_snoc (x ∷ []) e = refl
 last_snoc (x ∷ y ∷ es) e = last_snoc (y ∷ es) e
 
-pub closes_answers : (old new : Progress) (index : ℕ) (ws : List PhaseWord) (reply : Reply) → Closes old new index ws reply → Answers old new index ws reply
+pub closes_answers : (old new : Progress) (index : ℕ) (ws : List PhaseWord) (reply : Reply) → Closes old new index ws reply → EndsWithReply old new index ws reply
 closes_answers old new index ws reply c = record { entries = c.before ++ c.last ∷ []; runs = c.runs; last = c.replies ∙ sym (last_snoc c.before c.last) }
 
 -- a whole cycle
 snapped_now : (p q : Phase) → p ≡ at.Idle → LeadTo p (word.Snap ∷ []) q → q ≡ at.Snapped
 snapped_now p q e l = leads_one p q word.Snap at.Snapped (ap (λ z. next_phase z word.Snap) e) l
 
-pub cycle_closes : (old mid new : Progress) (index : ℕ) (first reply : Reply) → old.phase ≡ at.Idle → Answers old mid index (word.Snap ∷ []) first → Closes mid new index (phases_left mid.phase) reply → Answers old new index (phases_of word.Cycle) reply
+pub cycle_closes : (old mid new : Progress) (index : ℕ) (first reply : Reply) → old.phase ≡ at.Idle → EndsWithReply old mid index (word.Snap ∷ []) first → Closes mid new index (phases_left mid.phase) reply → EndsWithReply old new index (phases_of word.Cycle) reply
 cycle_closes old mid new index first reply idle a c =
     let runs = a.runs in
     let at_snapped = snapped_now old.phase mid.phase idle runs.leads in
@@ -174,10 +174,10 @@ cycle_closes old mid new index first reply idle a c =
       last = c.replies ∙ sym (ap last_reply (sym (append_assoc a.entries c.before (c.last ∷ []))) ∙ last_snoc (a.entries ++ c.before) c.last);
     }
 
-pub cycle_lacks : (old new : Progress) (index : ℕ) → Runs old new index [] → BreaksOff old new index (phases_of word.Cycle)
+pub cycle_lacks : (old new : Progress) (index : ℕ) → Runs old new index [] → StopsForMemory old new index (phases_of word.Cycle)
 cycle_lacks old new index none = record { run = []; failed = word.Snap; left = phases_left at.Snapped; all = refl; takes = tt; runs = none }
 
-pub cycle_breaks : (old mid new : Progress) (index : ℕ) (first : Reply) → old.phase ≡ at.Idle → Answers old mid index (word.Snap ∷ []) first → BreaksOff mid new index (phases_left mid.phase) → BreaksOff old new index (phases_of word.Cycle)
+pub cycle_breaks : (old mid new : Progress) (index : ℕ) (first : Reply) → old.phase ≡ at.Idle → EndsWithReply old mid index (word.Snap ∷ []) first → StopsForMemory mid new index (phases_left mid.phase) → StopsForMemory old new index (phases_of word.Cycle)
 cycle_breaks old mid new index first idle a b =
     let runs = a.runs in
     let at_snapped = snapped_now old.phase mid.phase idle runs.leads in
@@ -202,16 +202,16 @@ one_word word.Sweep o = refl
 one_word word.Restore o = refl
 one_word word.Resolve o = refl
 
-pub line_runs : (old new : Progress) (index : ℕ) (w : PhaseWord) (next : Phase) (reply : Reply) → next_phase old.phase w ≡ Some next → Answers old new index (phases_of w) reply → RunsLine old new index (act.PhaseLine w) reply
+pub line_runs : (old new : Progress) (index : ℕ) (w : PhaseWord) (next : Phase) (reply : Reply) → next_phase old.phase w ≡ Some next → EndsWithReply old new index (phases_of w) reply → RunsLine old new index (act.PhaseLine w) reply
 line_runs old new index w next reply e a = record { entries = a.entries; runs = subst (λ (o : Option Phase). RunsWord old new index w o a.entries) (sym e) a.runs; last = a.last }
 
-pub line_breaks : (old new : Progress) (index : ℕ) (w : PhaseWord) (next : Phase) → next_phase old.phase w ≡ Some next → BreaksOff old new index (phases_of w) → BreaksLine old new index (act.PhaseLine w)
+pub line_breaks : (old new : Progress) (index : ℕ) (w : PhaseWord) (next : Phase) → next_phase old.phase w ≡ Some next → StopsForMemory old new index (phases_of w) → BreaksLine old new index (act.PhaseLine w)
 line_breaks old new index w next e b = subst (λ (o : Option Phase). BreaksWord old new index w o) (sym e) b
 
-pub one_runs : (old new : Progress) (index : ℕ) (w : PhaseWord) (reply : Reply) → IsOnePhase w → Answers old new index (w ∷ []) reply → Answers old new index (phases_of w) reply
-one_runs old new index w reply o a = subst (λ (ws : List PhaseWord). Answers old new index ws reply) (sym (one_word w o)) a
+pub one_runs : (old new : Progress) (index : ℕ) (w : PhaseWord) (reply : Reply) → IsOnePhase w → EndsWithReply old new index (w ∷ []) reply → EndsWithReply old new index (phases_of w) reply
+one_runs old new index w reply o a = subst (λ (ws : List PhaseWord). EndsWithReply old new index ws reply) (sym (one_word w o)) a
 
-pub one_lacks : (old new : Progress) (index : ℕ) (w : PhaseWord) → IsOnePhase w → Lacks old new index w → BreaksOff old new index (phases_of w)
+pub one_lacks : (old new : Progress) (index : ℕ) (w : PhaseWord) → IsOnePhase w → Lacks old new index w → StopsForMemory old new index (phases_of w)
 one_lacks old new index w o lacks = record { run = []; failed = w; left = []; all = one_word w o; takes = lacks.takes; runs = lacks.runs }
 
 -- a word that is refused found no memory for its refusal

@@ -21,7 +21,7 @@ use Rattle.joint_history.specs.declared.marks.Begun.{Begun}
 use Rattle.joint_history.specs.Driven.{DriverStands, MakesResolution, MayResolveCycle, driver_entry}
 use Rattle.joint_history.specs.DriverMarks.{EndsFirst, HasBegunMarking, MakesBegin, MakesMark, MakesSweep, MayMarkCycle}
 use Rattle.joint_history.specs.Operations.{MakesAll}
-use Rattle.bridge_cycle.specs.Held.{Fields, IsHeld, IsMarked, IsRestored, IsWeakened, opened_of}
+use Rattle.bridge_cycle.specs.Held.{Fields, IsHeld, IsCycleMarked, IsCycleRestored, IsCycleWeakened, opened_of}
 use Rattle.bridge_cycle.specs.Progress.{AreOnLine, cycle_after, line_of, last_reply}
 use Rattle.bridge_cycle.proofs.Making.{Steps, append_nil, at_own_line, cycle_on, line_below, makes_more, makes_nothing, makes_one, ran_one, room_on, stands_in, stands_on}
 
@@ -30,7 +30,7 @@ abbrev pub then_in : Fields → View → Fields
 then_in f new = record f { progress = record f.progress { view = new } }
 
 module _ (f : Fields) (index : ℕ) (h : IsHeld f) (e : f.progress.phase ≡ at.Marked) (l : line_of f.progress ≤ index) where
-  abbrev in_marked : IsMarked f h.stand h.seen
+  abbrev in_marked : IsCycleMarked f h.stand h.seen
   in_marked = stands_in f at.Marked h e
 
   pub has_begun : HasBegunMarking f.progress.view index
@@ -49,7 +49,7 @@ module _ (f : Fields) (index : ℕ) (h : IsHeld f) (e : f.progress.phase ≡ at.
       }
 
 module _ (f : Fields) (index : ℕ) (h : IsHeld f) (e : f.progress.phase ≡ at.Restored) (l : line_of f.progress ≤ index) (stock : Stock) (there : f.alive ≡ Some stock) where
-  abbrev in_restored : IsRestored f h.stand h.seen
+  abbrev in_restored : IsCycleRestored f h.stand h.seen
   in_restored = stands_in f at.Restored h e
 
   stands : DriverStands f.progress.view index (restored (opened_of in_restored.cycle.snapshot) (answers_of stock.values) f.clear) h.seen
@@ -115,7 +115,7 @@ module _ (old between new : View) (index : ℕ) (o : OpenSnap) (count : ℕ) (we
       }
 
 module _ (f : Fields) (index : ℕ) (h : IsHeld f) (e : f.progress.phase ≡ at.Weakened) (l : line_of f.progress ≤ index) where
-  abbrev in_weakened : IsWeakened f h.stand h.seen
+  abbrev in_weakened : IsCycleWeakened f h.stand h.seen
   in_weakened = stands_in f at.Weakened h e
 
   pub may_mark : MayMarkCycle f.progress.view index

@@ -26,7 +26,7 @@ use Rattle.joint_history.specs.Operations.{AreAbove, MakesAll}
 use Rattle.joint_history.proofs.LastLines.{last_line_is}
 use Rattle.joint_history.proofs.DriverHears.{driver_later}
 use Rattle.bridge_cycle.specs.Held.{Fields, HasCycle, HasRoom, IsAt, IsHeld}
-use Rattle.bridge_cycle.specs.Progress.{AreOnLine, Answers, Enters, LeadTo, Progress, Runs, RunsPhases, cycle_after, line_of, opened_by}
+use Rattle.bridge_cycle.specs.Progress.{AreOnLine, EndsWithReply, Enters, LeadTo, Progress, Runs, RunsPhases, cycle_after, line_of, opened_by}
 
 -- the line of the driver's last entry
 own_line_is : (v : View) (index : ℕ) (stand : Stand) (seen : Managed) (s : DriverStands v index stand seen) → control_line (end_of s.known.past).control C ≡ last_index (line_known v (caller_line C))
@@ -67,7 +67,7 @@ room_on f next a n r = record { answers = r.answers; there = a ∙ r.there; none
 pub record Steps (old : Progress) (next : Fields) (index : ℕ) (ws : List PhaseWord) (reply : Reply) : Type 0 where
   pub held : IsHeld next
   pub line : line_of next.progress ≤ index
-  pub answers : Answers old next.progress index ws reply
+  pub answers : EndsWithReply old next.progress index ws reply
 
 -- and where it found no memory
 pub record Stays (old : Progress) (next : Fields) (index : ℕ) : Type 0 where
@@ -96,7 +96,7 @@ makes_one old new stand seen e told d = record { own_more = d.own; more = d.more
 
 -- a phase of one entry
 pub ran_one : (old new : Progress) (index : ℕ) (w : PhaseWord) (e : Entry) → MakesAll C old.view new.view (e ∷ []) → e.made.caller ≡ C → e.made.index ≡ index → new.cycle ≡ cycle_after old.cycle (e ∷ []) → new.candidates ≡ candidates_after old.candidates (e ∷ [])
-    → ArePhase old.candidates w (e ∷ []) → LeadTo old.phase (w ∷ []) new.phase → Answers old new index (w ∷ []) e.made.reply
+    → ArePhase old.candidates w (e ∷ []) → LeadTo old.phase (w ∷ []) new.phase → EndsWithReply old new index (w ∷ []) e.made.reply
 ran_one old new index w e made caller line cycle candidates phase leads = record {
   entries = e ∷ [];
   runs = record {
@@ -133,7 +133,7 @@ ran_nothing d index = (
 )
 
 -- what an answer of phases holds
-pub answers_run : (old new : Progress) (index : ℕ) (ws : List PhaseWord) (reply : Reply) → Answers old new index ws reply → Runs old new index ws
+pub answers_run : (old new : Progress) (index : ℕ) (ws : List PhaseWord) (reply : Reply) → EndsWithReply old new index ws reply → Runs old new index ws
 answers_run old new index ws reply a = (a.entries, a.runs)
 
 -- entries after entries

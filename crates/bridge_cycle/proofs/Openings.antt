@@ -21,7 +21,7 @@ use Rattle.order_table.specs.declared.views.View.{View}
 use Rattle.joint_history.specs.Driven.{DriverRests, HasContraction, MakesContraction, MayContractCycle, driver_entry}
 use Rattle.joint_history.specs.DriverSnaps.{MakesSnapshot}
 use Rattle.joint_history.specs.DriverMirrors.{numbered_comps}
-use Rattle.bridge_cycle.specs.Held.{Fields, HasCycle, IsHeld, IsSnapped, opened_of}
+use Rattle.bridge_cycle.specs.Held.{Fields, HasCycle, IsHeld, IsCycleSnapped, opened_of}
 use Rattle.bridge_cycle.specs.Progress.{line_of}
 use Rattle.bridge_cycle.proofs.Candidates.{are_candidates}
 use Rattle.bridge_cycle.proofs.DeadContraction.{a_graphs_contraction}
@@ -72,7 +72,7 @@ the_snapshot f seen c out e = same_Some _ _ (sym c.there ∙ e)
 
 module _ (f : Fields) (index : ℕ) (h : IsHeld f) (e : f.progress.phase ≡ at.Snapped) (l : line_of f.progress ≤ index) (out : Snapshot) (there : f.snapshot ≡ Some out) (listing : Listing)
     (exact : IsContraction (IsBridge out.graph.nodes) (Leads out.graph.edges) listing.comps listing.pairs) (sccs xrefs : ℕ) (components : sccs ≡ length listing.comps) (references : xrefs ≡ length listing.pairs) where
-  s : IsSnapped f h.stand h.seen
+  s : IsCycleSnapped f h.stand h.seen
   s = stands_in f at.Snapped h e
 
   contraction_is : HasContraction h.seen sccs xrefs (numbered_comps s.cycle.snapshot.graph listing.comps) listing.pairs

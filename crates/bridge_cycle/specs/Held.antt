@@ -49,12 +49,12 @@ pub record HasRoom (f : Fields) : Type 0 where
   pub room : answers.room ≡ f.progress.candidates
 
 -- the snapshot is taken
-pub record IsSnapped (f : Fields) (stand : Stand) (seen : Managed) : Type 0 where
+pub record IsCycleSnapped (f : Fields) (stand : Stand) (seen : Managed) : Type 0 where
   pub cycle : HasCycle f seen
   pub stands : stand ≡ snapped (opened_of cycle.snapshot)
 
 -- the contraction is made, and is the one at hand
-pub record IsContracted (f : Fields) (stand : Stand) (seen : Managed) : Type 0 where
+pub record IsCycleContracted (f : Fields) (stand : Stand) (seen : Managed) : Type 0 where
   pub cycle : HasCycle f seen
   pub room : HasRoom f
   pub listing : Listing
@@ -62,32 +62,32 @@ pub record IsContracted (f : Fields) (stand : Stand) (seen : Managed) : Type 0 w
   pub stands : stand ≡ contracted (opened_of cycle.snapshot) (numbered_comps cycle.snapshot.graph listing.comps) listing.pairs
 
 -- the cycle is mirrored
-pub record IsMirrored (f : Fields) (stand : Stand) (seen : Managed) : Type 0 where
+pub record IsCycleMirrored (f : Fields) (stand : Stand) (seen : Managed) : Type 0 where
   pub cycle : HasCycle f seen
   pub room : HasRoom f
   pub stands : stand ≡ weakening (opened_of cycle.snapshot) 0 false false
 
 -- all handles are weakened
-pub record IsWeakened (f : Fields) (stand : Stand) (seen : Managed) : Type 0 where
+pub record IsCycleWeakened (f : Fields) (stand : Stand) (seen : Managed) : Type 0 where
   pub cycle : HasCycle f seen
   pub room : HasRoom f
   pub weakened : Bool
   pub stands : stand ≡ weakening (opened_of cycle.snapshot) f.progress.candidates weakened false
 
 -- the own marking is begun
-pub record IsMarked (f : Fields) (stand : Stand) (seen : Managed) : Type 0 where
+pub record IsCycleMarked (f : Fields) (stand : Stand) (seen : Managed) : Type 0 where
   pub cycle : HasCycle f seen
   pub room : HasRoom f
   pub stands : stand ≡ marked (opened_of cycle.snapshot)
 
 -- it is swept
-pub record IsSwept (f : Fields) (stand : Stand) (seen : Managed) : Type 0 where
+pub record IsCycleSwept (f : Fields) (stand : Stand) (seen : Managed) : Type 0 where
   pub cycle : HasCycle f seen
   pub room : HasRoom f
   pub stands : stand ≡ restoring (opened_of cycle.snapshot) []
 
 -- all handles are restored, and the references cleared
-pub record IsRestored (f : Fields) (stand : Stand) (seen : Managed) : Type 0 where
+pub record IsCycleRestored (f : Fields) (stand : Stand) (seen : Managed) : Type 0 where
   pub cycle : HasCycle f seen
   pub answers : Answers
   pub there : f.alive ≡ Some answers
@@ -96,13 +96,13 @@ pub record IsRestored (f : Fields) (stand : Stand) (seen : Managed) : Type 0 whe
 -- where the driver stands in a phase
 abbrev pub IsAt : Phase → Fields → Stand → Managed → Type 0
 IsAt at.Idle f stand seen = stand ≡ idle
-IsAt at.Snapped f stand seen = IsSnapped f stand seen
-IsAt at.Contracted f stand seen = IsContracted f stand seen
-IsAt at.Mirrored f stand seen = IsMirrored f stand seen
-IsAt at.Weakened f stand seen = IsWeakened f stand seen
-IsAt at.Marked f stand seen = IsMarked f stand seen
-IsAt at.Swept f stand seen = IsSwept f stand seen
-IsAt at.Restored f stand seen = IsRestored f stand seen
+IsAt at.Snapped f stand seen = IsCycleSnapped f stand seen
+IsAt at.Contracted f stand seen = IsCycleContracted f stand seen
+IsAt at.Mirrored f stand seen = IsCycleMirrored f stand seen
+IsAt at.Weakened f stand seen = IsCycleWeakened f stand seen
+IsAt at.Marked f stand seen = IsCycleMarked f stand seen
+IsAt at.Swept f stand seen = IsCycleSwept f stand seen
+IsAt at.Restored f stand seen = IsCycleRestored f stand seen
 
 -- so it is by what the driver knows
 pub record IsHeld (f : Fields) : Type 0 where

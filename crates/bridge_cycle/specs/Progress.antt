@@ -81,7 +81,7 @@ TakesMemory word.Mirror = Unit {0}
 TakesMemory w = ⊥
 
 -- the driver ran the first of these phases, and stands before one that found no memory
-pub record BreaksOff (old new : Progress) (index : ℕ) (ws : List PhaseWord) : Type 0 where
+pub record StopsForMemory (old new : Progress) (index : ℕ) (ws : List PhaseWord) : Type 0 where
   pub run : List PhaseWord
   pub failed : PhaseWord
   pub left : List PhaseWord
@@ -121,14 +121,14 @@ pub record RunsLine (old new : Progress) (index : ℕ) (a : Act) (reply : Reply)
 -- a line found no memory: it made nothing, or its first phases
 abbrev pub BreaksWord : Progress → Progress → ℕ → PhaseWord → Option Phase → Type 0
 BreaksWord old new index w None = Runs old new index []
-BreaksWord old new index w (Some next) = BreaksOff old new index (phases_of w)
+BreaksWord old new index w (Some next) = StopsForMemory old new index (phases_of w)
 
 abbrev pub BreaksLine : Progress → Progress → ℕ → Act → Type 0
 BreaksLine old new index (act.PhaseLine w) = BreaksWord old new index w (next_phase old.phase w)
 BreaksLine old new index a = Runs old new index []
 
 -- the driver ran phases, the last entry of which replied this
-pub record Answers (old new : Progress) (index : ℕ) (ws : List PhaseWord) (reply : Reply) : Type 0 where
+pub record EndsWithReply (old new : Progress) (index : ℕ) (ws : List PhaseWord) (reply : Reply) : Type 0 where
   pub entries : List Entry
   pub runs : RunsPhases old new index ws entries
   pub last : reply ≡ last_reply entries

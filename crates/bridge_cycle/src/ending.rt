@@ -3,7 +3,7 @@
 ghost use Rattle.std.specs.Prelude.{◌≡◌, ◌≤◌, [], ◌∷◌, Err, IsOk, OnErr, OnOk};
 ghost use Rattle.joint_model.specs.declared.names.Phase.TheVariants as at;
 ghost use Rattle.joint_model.specs.declared.names.PhaseWord.TheVariants as word;
-ghost use Rattle.bridge_cycle.specs.Progress.{Answers, Runs, line_of};
+ghost use Rattle.bridge_cycle.specs.Progress.{EndsWithReply, Runs, line_of};
 
 use crate::driver::{Driver, DriverFault};
 use joint_history::Shared;
@@ -18,7 +18,7 @@ impl<N: OrderName> Driver<N> {
         requires phase { self.old.phase ≡ at.Weakened }
         requires index { line_of self.old ≤ index }
         ensures index { line_of self.new ≤ index }
-        ensures answers { Answers self.old self.new index (word.Mark ∷ []) result }
+        ensures answers { EndsWithReply self.old self.new index (word.Mark ∷ []) result }
     {
         let begun = shared.mark(rt, &mut self.caller, index);
         self.phase = Phase::Marked;
@@ -30,7 +30,7 @@ impl<N: OrderName> Driver<N> {
         requires phase { self.old.phase ≡ at.Marked }
         requires index { line_of self.old ≤ index }
         ensures index { line_of self.new ≤ index }
-        ensures answers { Answers self.old self.new index (word.Sweep ∷ []) result }
+        ensures answers { EndsWithReply self.old self.new index (word.Sweep ∷ []) result }
     {
         let (_, swept) = shared.sweep(rt, &mut self.caller, index);
         self.phase = Phase::Swept;
@@ -42,7 +42,7 @@ impl<N: OrderName> Driver<N> {
         requires phase { self.old.phase ≡ at.Restored }
         requires index { line_of self.old ≤ index }
         ensures index { line_of self.new ≤ index }
-        ensures answers { Answers self.old self.new index (word.Resolve ∷ []) result }
+        ensures answers { EndsWithReply self.old self.new index (word.Resolve ∷ []) result }
     {
         let Some(alive) = &self.alive else {
             unreachable!()

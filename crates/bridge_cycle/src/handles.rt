@@ -6,7 +6,7 @@ ghost use Rattle.joint_model.specs.Lines.{IsDriver};
 ghost use Rattle.joint_model.specs.declared.names.Phase.TheVariants as at;
 ghost use Rattle.joint_model.specs.declared.names.PhaseWord.TheVariants as word;
 ghost use Rattle.bridge_graph.specs.Handles.{handles_of};
-ghost use Rattle.bridge_cycle.specs.Progress.{Answers, Runs, line_of};
+ghost use Rattle.bridge_cycle.specs.Progress.{EndsWithReply, Runs, line_of};
 ghost use Rattle.bridge_cycle.specs.Turns.{MayRestoreAll, MayWeakenAll, RestoresAll, WeakensAll, is_alive};
 
 use crate::driver::{Driver, DriverFault};
@@ -79,7 +79,7 @@ impl<N: OrderName> Driver<N> {
         requires phase { self.old.phase ≡ at.Mirrored }
         requires index { line_of self.old ≤ index }
         ensures index { line_of self.new ≤ index }
-        ensures answers { Answers self.old self.new index (word.Weaken ∷ []) result }
+        ensures answers { EndsWithReply self.old self.new index (word.Weaken ∷ []) result }
     {
         let Some(opened) = &self.opened else {
             unreachable!()
@@ -106,7 +106,7 @@ impl<N: OrderName> Driver<N> {
         requires phase { self.old.phase ≡ at.Swept }
         requires index { line_of self.old ≤ index }
         ensures index { line_of self.new ≤ index }
-        ensures answers { Answers self.old self.new index (word.Restore ∷ []) result }
+        ensures answers { EndsWithReply self.old self.new index (word.Restore ∷ []) result }
     {
         let Some(opened) = &self.opened else {
             unreachable!()

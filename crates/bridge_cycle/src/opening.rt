@@ -4,7 +4,7 @@ ghost use Rattle.std.specs.Prelude.{◌≡◌, ◌≤◌, [], ◌∷◌, Err, If
 ghost use Rattle.joint_model.specs.declared.names.Phase.TheVariants as at;
 ghost use Rattle.joint_model.specs.declared.names.PhaseWord.TheVariants as word;
 ghost use Rattle.bridge_graph.specs.Parts.{IsPart};
-ghost use Rattle.bridge_cycle.specs.Progress.{Answers, Runs, line_of};
+ghost use Rattle.bridge_cycle.specs.Progress.{EndsWithReply, Runs, line_of};
 
 use crate::driver::{Driver, DriverFault};
 use bridge_graph::DeadGraph;
@@ -32,7 +32,7 @@ impl<N: OrderName> Driver<N> {
         requires phase { self.old.phase ≡ at.Idle }
         requires index { line_of self.old ≤ index }
         ensures index { line_of self.new ≤ index }
-        ensures ok { IfOk result (λ reply. Answers self.old self.new index (word.Snap ∷ []) reply) }
+        ensures ok { IfOk result (λ reply. EndsWithReply self.old self.new index (word.Snap ∷ []) reply) }
         ensures err { OnErr result (Runs self.old self.new index []) }
     {
         let Ok(opened) = shared.snap(rt, &mut self.caller, index) else {
@@ -58,7 +58,7 @@ impl<N: OrderName> Driver<N> {
         requires phase { self.old.phase ≡ at.Snapped }
         requires index { line_of self.old ≤ index }
         ensures index { line_of self.new ≤ index }
-        ensures ok { IfOk result (λ reply. Answers self.old self.new index (word.Contract ∷ []) reply) }
+        ensures ok { IfOk result (λ reply. EndsWithReply self.old self.new index (word.Contract ∷ []) reply) }
         ensures err { OnErr result (self.new ≡ self.old) }
     {
         let Some(opened) = &self.opened else {
@@ -85,7 +85,7 @@ impl<N: OrderName> Driver<N> {
         requires phase { self.old.phase ≡ at.Contracted }
         requires index { line_of self.old ≤ index }
         ensures index { line_of self.new ≤ index }
-        ensures ok { IfOk result (λ reply. Answers self.old self.new index (word.Mirror ∷ []) reply) }
+        ensures ok { IfOk result (λ reply. EndsWithReply self.old self.new index (word.Mirror ∷ []) reply) }
         ensures err { OnErr result (Runs self.old self.new index []) }
     {
         let Some(opened) = &self.opened else {

@@ -7,7 +7,7 @@ ghost use Rattle.joint_model.specs.declared.names.PhaseWord.TheVariants as word;
 ghost use Rattle.joint_model.specs.declared.names.Thread.TheVariants.{C};
 ghost use Rattle.joint_model.specs.Lines.{IsLine};
 ghost use Rattle.joint_model.specs.Phases.{next_phase, phases_left, phases_of};
-ghost use Rattle.bridge_cycle.specs.Progress.{Answers, BreaksLine, BreaksOff, Runs, RunsLine, line_of};
+ghost use Rattle.bridge_cycle.specs.Progress.{EndsWithReply, BreaksLine, StopsForMemory, Runs, RunsLine, line_of};
 ghost use Rattle.bridge_cycle.specs.Words.{Closes, IsOnePhase, IsPartway, Lacks, due_in, next_word};
 
 use crate::driver::{Driver, DriverFault};
@@ -65,7 +65,7 @@ impl<N: OrderName> Driver<N> {
         requires due { self.old.phase ≡ due_in word }
         requires index { line_of self.old ≤ index }
         ensures index { line_of self.new ≤ index }
-        ensures ok { IfOk result (λ reply. Answers self.old self.new index (word ∷ []) reply) }
+        ensures ok { IfOk result (λ reply. EndsWithReply self.old self.new index (word ∷ []) reply) }
         ensures err { OnErr result (Lacks self.old self.new index word) }
     {
         match word {
@@ -94,7 +94,7 @@ impl<N: OrderName> Driver<N> {
         ensures index { line_of self.new ≤ index }
         ensures phase { OnOk result (self.new.phase ≡ at.Restored) }
         ensures ok { OnOk result (IsPartway self.old self.new index) }
-        ensures err { OnErr result (BreaksOff self.old self.new index (phases_left self.old.phase)) }
+        ensures err { OnErr result (StopsForMemory self.old self.new index (phases_left self.old.phase)) }
     {
         'phases: while self.phase != Phase::Restored {
             let word = next_word(self.phase);
@@ -115,7 +115,7 @@ impl<N: OrderName> Driver<N> {
         requires index { line_of self.old ≤ index }
         ensures index { line_of self.new ≤ index }
         ensures ok { IfOk result (λ reply. Closes self.old self.new index (phases_left self.old.phase) reply) }
-        ensures err { OnErr result (BreaksOff self.old self.new index (phases_left self.old.phase)) }
+        ensures err { OnErr result (StopsForMemory self.old self.new index (phases_left self.old.phase)) }
     {
         self.run_to_restored(rt, alloc, shared, index)?;
         Ok(self.end_cycle(rt, shared, index))
@@ -132,8 +132,8 @@ impl<N: OrderName> Driver<N> {
         requires phase { self.old.phase ≡ at.Idle }
         requires index { line_of self.old ≤ index }
         ensures index { line_of self.new ≤ index }
-        ensures ok { IfOk result (λ reply. Answers self.old self.new index (phases_of word.Cycle) reply) }
-        ensures err { OnErr result (BreaksOff self.old self.new index (phases_of word.Cycle)) }
+        ensures ok { IfOk result (λ reply. EndsWithReply self.old self.new index (phases_of word.Cycle) reply) }
+        ensures err { OnErr result (StopsForMemory self.old self.new index (phases_of word.Cycle)) }
     {
         self.take_snapshot(rt, shared, index)?;
         self.finish_cycle(rt, alloc, shared, index)
@@ -212,7 +212,7 @@ impl<N: OrderName> Driver<N> {
         ensures open { ¬ (self.old.phase ≡ at.Idle) → (result ≡ Err (DriverFault.CycleOpen self.old.cycle)) × (self.new ≡ self.old) }
         ensures idle { self.old.phase ≡ at.Idle → IfErr result (λ e. e ≡ DriverFault.OutOfMemory) }
         ensures ok { OnOk result (Runs self.old self.new index (phases_of word.Cycle)) }
-        ensures err { self.old.phase ≡ at.Idle → OnErr result (BreaksOff self.old self.new index (phases_of word.Cycle)) }
+        ensures err { self.old.phase ≡ at.Idle → OnErr result (StopsForMemory self.old self.new index (phases_of word.Cycle)) }
     {
         if self.phase != Phase::Idle {
             return Err(DriverFault::CycleOpen { cycle: self.cycle });
@@ -259,7 +259,7 @@ impl<N: OrderName> Driver<N> {
         requires index { line_of self.old ≤ index }
         ensures index { line_of self.new ≤ index }
         ensures ok { OnOk result (Runs self.old self.new index (phases_left self.old.phase)) }
-        ensures err { OnErr result (BreaksOff self.old self.new index (phases_left self.old.phase)) }
+        ensures err { OnErr result (StopsForMemory self.old self.new index (phases_left self.old.phase)) }
     {
         if self.phase == Phase::Idle {
             return Ok(());

@@ -571,11 +571,11 @@ fn streams_pass_each_byte_on_or_fail(rt: HostRuntime) -> Result<(), Fail> {
 
 /// The arguments of a process, which need not be text.
 #[derive(Drop)]
-struct Given<'a> {
+struct GivenArgs<'a> {
     args: &'a [&'a [u8]],
 }
 
-impl Env for Given<'_> {
+impl Env for GivenArgs<'_> {
     fn arg(&self, i: usize, buf: &mut [u8]) -> Result<usize, FillError> {
         if i >= self.args.len() {
             return Err(FillError::NotPresent);
@@ -611,7 +611,7 @@ const PROCESSES: [Process; 4] = [
 fn the_exit_code_is_the_status_for_the_words_that_were_given(rt: HostRuntime) -> Result<(), Fail> {
     let alloc = rt.alloc();
     for (given, text, wanted, written) in &PROCESSES {
-        let args = std::env::args(&(Given { args: given }, alloc));
+        let args = std::env::args(&(GivenArgs { args: given }, alloc));
         let mut source = PlainSource::new(text.to_vec(alloc)?);
         let mut out = ByteSink::new(alloc, 100, Vec::new(alloc));
         let code = run_program(&rt, alloc, args, &mut source, &mut out, &FreeTurn);

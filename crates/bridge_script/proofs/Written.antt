@@ -8,7 +8,7 @@ use Rattle.std.proofs.lemmas.Option.{slice_get_cases}
 use Rattle.joint_model.specs.declared.events.Entry.{Entry}
 use Rattle.joint_model.specs.Histories.{Finished}
 use Rattle.bridge_script.specs.Outside.{Writes}
-use Rattle.bridge_script.specs.Blocks.{Passes, Sends}
+use Rattle.bridge_script.specs.Blocks.{BuffersText, Sends}
 use Rattle.bridge_script.specs.Lists.{after_spaces, lettered, listed}
 use Rattle.bridge_script.specs.Report.{entry_text, entries_text}
 
@@ -46,24 +46,24 @@ Appends-none None = tt
 Appends-none (Some s) = sym (append-nil s)
 
 -- nothing was written
-pub Passes-none : (a : Option (List ℕ)) (p : List ℕ) → Passes a a p p []
-Passes-none a p = record { sent = []; appends = Appends-none a; whole = append-nil p }
+pub BuffersText-none : (a : Option (List ℕ)) (p : List ℕ) → BuffersText a a p p []
+BuffersText-none a p = record { sent = []; appends = Appends-none a; whole = append-nil p }
 
 -- what was put behind what is pending
-pub Passes-push : (a b : Option (List ℕ)) (p q r x : List ℕ) → Passes a b p q [] → r ≡ q ++ x → Passes a b p r x
-Passes-push a b p q r x w e = record { sent = w.sent; appends = w.appends; whole = rw e (ap (λ t. t ++ x) (sym (append-nil p) ∙ w.whole) ∙ append_assoc w.sent q x) }
+pub BuffersText-push : (a b : Option (List ℕ)) (p q r x : List ℕ) → BuffersText a b p q [] → r ≡ q ++ x → BuffersText a b p r x
+BuffersText-push a b p q r x w e = record { sent = w.sent; appends = w.appends; whole = rw e (ap (λ t. t ++ x) (sym (append-nil p) ∙ w.whole) ∙ append_assoc w.sent q x) }
 
 -- one text after another
-pub Passes-then : (a b c : Option (List ℕ)) (p q r x y : List ℕ) → Passes a b p q x → Passes b c q r y → Passes a c p r (x ++ y)
-Passes-then a b c p q r x y v w = record {
+pub BuffersText-then : (a b c : Option (List ℕ)) (p q r x y : List ℕ) → BuffersText a b p q x → BuffersText b c q r y → BuffersText a c p r (x ++ y)
+BuffersText-then a b c p q r x y v w = record {
   sent = v.sent ++ w.sent;
   appends = Appends-then a b c v.sent w.sent v.appends w.appends;
   whole = sym (append_assoc p x y) ∙ (ap (λ t. t ++ y) v.whole ∙ (append_assoc v.sent q y ∙ (ap (λ t. v.sent ++ t) w.whole ∙ sym (append_assoc v.sent w.sent r))));
 }
 
 -- what was written after a text that was written
-pub Sends-after : {E : Type 0} (a b c : Option (List ℕ)) (p q r : List ℕ) (f g k : ℕ) (z : Result (Unit {0}) E) (x y : List ℕ) → Passes a b p q x → f ≤ g → Sends b c q r g k z y → Sends a c p r f k z (x ++ y)
-Sends-after a b c p q r f g k (Ok u) x y v l w = record { whole = Passes-then a b c p q r x y v w.whole; part = tt; cause = record { later = omega (arith, w.cause.later); failed = tt } }
+pub Sends-after : {E : Type 0} (a b c : Option (List ℕ)) (p q r : List ℕ) (f g k : ℕ) (z : Result (Unit {0}) E) (x y : List ℕ) → BuffersText a b p q x → f ≤ g → Sends b c q r g k z y → Sends a c p r f k z (x ++ y)
+Sends-after a b c p q r f g k (Ok u) x y v l w = record { whole = BuffersText-then a b c p q r x y v w.whole; part = tt; cause = record { later = omega (arith, w.cause.later); failed = tt } }
 Sends-after a b c p q r f g k (Err e) x y v l w = record {
   whole = tt;
   part = record {
@@ -84,11 +84,11 @@ Sends-short a b p q f g e x y w = record {
 }
 
 -- a text that begins with what was written before, and goes on with what was written now
-pub Passes-into : (a b c : Option (List ℕ)) (p q r before piece whole : List ℕ) → whole ≡ before ++ piece → Passes a b p q before → Passes b c q r piece → Passes a c p r whole
-Passes-into a b c p q r before piece whole e v w = rw e (Passes-then a b c p q r before piece v w)
+pub BuffersText-into : (a b c : Option (List ℕ)) (p q r before piece whole : List ℕ) → whole ≡ before ++ piece → BuffersText a b p q before → BuffersText b c q r piece → BuffersText a c p r whole
+BuffersText-into a b c p q r before piece whole e v w = rw e (BuffersText-then a b c p q r before piece v w)
 
 -- a text that begins with what was written before, and goes on with a piece that failed
-pub Sends-into : {E : Type 0} (a b c : Option (List ℕ)) (p q r : List ℕ) (f g k : ℕ) (z : E) (before piece rest whole : List ℕ) → whole ≡ (before ++ piece) ++ rest → Passes a b p q before → f ≤ g → Sends {E = E} b c q r g k (Err z) piece → Sends {E = E} a c p r f k (Err z) whole
+pub Sends-into : {E : Type 0} (a b c : Option (List ℕ)) (p q r : List ℕ) (f g k : ℕ) (z : E) (before piece rest whole : List ℕ) → whole ≡ (before ++ piece) ++ rest → BuffersText a b p q before → f ≤ g → Sends {E = E} b c q r g k (Err z) piece → Sends {E = E} a c p r f k (Err z) whole
 Sends-into a b c p q r f g k z before piece rest whole e v l w = rw e (Sends-short a c p r f k z (before ++ piece) rest (Sends-after a b c p q r f g k (Err z) before piece v l w))
 
 -- all that was pending was written
@@ -97,7 +97,7 @@ Sends-flushed a b p q f g (Ok u) w e = record { whole = record { sent = p; appen
 Sends-flushed a b p q f g (Err e) w n = record { whole = tt; part = record { part = w.part.part; rest = w.part.rest; whole = append-nil p ∙ w.part.whole; appends = w.part.appends }; cause = w.cause }
 
 -- a text of which the rest was pending, and was written
-pub Writes-flushed : {E : Type 0} (a b c : Option (List ℕ)) (q : List ℕ) (f g k : ℕ) (z : Result (Unit {0}) E) (x : List ℕ) → Passes a b [] q x → f ≤ g → Writes b c g k z q → Writes a c f k z x
+pub Writes-flushed : {E : Type 0} (a b c : Option (List ℕ)) (q : List ℕ) (f g k : ℕ) (z : Result (Unit {0}) E) (x : List ℕ) → BuffersText a b [] q x → f ≤ g → Writes b c g k z q → Writes a c f k z x
 Writes-flushed {E} a b c q f g k z x v l w = let F : List ℕ → Type 0 = λ t. Writes {E = E} a c f k z t in subst F (sym v.whole) (Writes-after a b c f g k z v.sent q v.appends l w)
 
 -- where nothing was pending before

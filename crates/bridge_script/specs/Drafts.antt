@@ -8,10 +8,10 @@ pub record Draft : Type 0 where
   pub room : ℕ
 
 -- a text was put behind a line, which took at most that many bytes
-pub record Adds (old new : Draft) (text : List ℕ) (most : ℕ) : Type 0 where
+pub record AddsText (old new : Draft) (text : List ℕ) (most : ℕ) : Type 0 where
   pub added : new.text ≡ old.text ++ text
   pub left : old.room ≤ new.room + most
 
 -- words were put behind a line, each with a space before it
 abbrev pub AddsWords : Draft → Draft → List (List ℕ) → ℕ → Type 0
-AddsWords old new words most = Adds old new (after_spaces words) most
+AddsWords old new words most = AddsText old new (after_spaces words) most

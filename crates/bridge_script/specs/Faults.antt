@@ -84,14 +84,14 @@ WordsHave words c = ReadsWith words c
 
 -- a line where it stands: its words, its number, how many lines before it are `c cycle` or `c snap`, and how
 -- many bytes there are up to its end
-pub record Standing : Type 0 where
+pub record PlacedLine : Type 0 where
   pub words : List (List ℕ)
   pub number : ℕ
   pub cycles : ℕ
   pub end : ℕ
 
 -- the line is within the bytes and the lines of a script
-abbrev pub IsWithin : Standing → Type 0
+abbrev pub IsWithin : PlacedLine → Type 0
 IsWithin l = (l.end ≤ 8388608) × (l.number ≤ 20000)
 
 -- the words ask for a cycle, whole or begun
@@ -99,7 +99,7 @@ abbrev pub AskCycle : List (List ℕ) → Type 0
 AskCycle words = (words ≡ codes "c" ∷ codes "cycle" ∷ []) ⊎ (words ≡ codes "c" ∷ codes "snap" ∷ [])
 
 -- a cause of a line where it stands: that of bytes excludes all others, and that of lines all but that of bytes
-abbrev pub Has : Standing → Cause → Type 0
+abbrev pub Has : PlacedLine → Cause → Type 0
 Has l cause.Bytes = 8388608 < l.end
 Has l cause.Lines = (l.end ≤ 8388608) × (20000 < l.number)
 Has l cause.Cycles = IsWithin l × AskCycle l.words × (256 ≤ l.cycles)

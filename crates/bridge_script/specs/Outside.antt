@@ -27,7 +27,7 @@ pub record Writes {E : Type 0} (old new : Option (List ℕ)) (before now : ℕ) 
 
 -- what contracts see of a source in memory: the bytes that are left, the count of faults, the number of
 -- calls so far, and the numbers of the calls that fail
-pub record Given : Type 0 where
+pub record MemorySource : Type 0 where
   pub left : List ℕ
   pub faults : ℕ
   pub calls : ℕ
@@ -35,7 +35,7 @@ pub record Given : Type 0 where
 
 -- what contracts see of a sink in memory: the bytes that it holds, the most that it takes in one call, the
 -- count of faults, the number of calls so far, and the numbers of the calls that fail
-pub record Kept : Type 0 where
+pub record MemorySink : Type 0 where
   pub held : List ℕ
   pub most : ℕ
   pub faults : ℕ

@@ -11,7 +11,7 @@ use Rattle.bridge_script.specs.declared.faults.ScriptError.TheVariants.{OutOfMem
 use Rattle.joint_model.specs.Lines.{IsLine}
 use Rattle.bridge_script.specs.Words.{line_text}
 use Rattle.bridge_script.specs.Grammar.{operation_of, is_built}
-use Rattle.bridge_script.specs.Faults.{Standing, IsFirst, Has, words_of}
+use Rattle.bridge_script.specs.Faults.{PlacedLine, IsFirst, Has, words_of}
 
 -- the line is one of those that are built
 pub record IsBuilt (line : Thread × Act) : Type 0 where
@@ -53,7 +53,7 @@ abbrev pub end_of : List ℕ → List ℕ → List ℕ → ℕ
 end_of bytes before line = min (length before + length line + 1) (length bytes)
 
 -- a line where it stands: behind the lines `before` it, in these bytes
-abbrev pub standing : List ℕ → List (Thread × Act) → List ℕ → Standing
+abbrev pub standing : List ℕ → List (Thread × Act) → List ℕ → PlacedLine
 standing bytes before line = record { words = words_of line; number = length before + 1; cycles = cycles_of before; end = end_of bytes (script_text_of before) line }
 
 -- the fault names the first line that is no line of a script, and its first cause: the lines `before` it are a

@@ -7,7 +7,7 @@ use Rattle.bridge_script.specs.declared.faults.Cause.{Cause}
 use Rattle.bridge_script.specs.declared.faults.ScriptError.{ScriptError}
 use Rattle.bridge_script.specs.declared.faults.ScriptError.TheVariants.{OutOfMemory, ReadFault, Refused}
 use Rattle.bridge_script.specs.Words.{line_text}
-use Rattle.bridge_script.specs.Faults.{WordsHave, Standing, IsFirst, Has, words_of}
+use Rattle.bridge_script.specs.Faults.{WordsHave, PlacedLine, IsFirst, Has, words_of}
 use Rattle.bridge_script.specs.Scripts.{IsBuilt, IsScript, cycles_of}
 
 -- what a reader of a line's text answers: the line that has the text, or its words' first cause
@@ -15,7 +15,7 @@ abbrev pub ReadsLine : List ℕ → Result (Thread × Act) Cause → Type 0
 ReadsLine text result = MatchResult result (λ line. IsBuilt line × (line_text line ≡ text)) (λ c. IsFirst (WordsHave (words_of text)) c)
 
 -- a list of lines grew by one line, which has that text and ends at a byte within the limit
-pub record Grows (old new : List (Thread × Act)) (text : List ℕ) (end : ℕ) : Type 0 where
+pub record GainsLine (old new : List (Thread × Act)) (text : List ℕ) (end : ℕ) : Type 0 where
   pub line : Thread × Act
   pub grown : new ≡ old ++ line ∷ []
   pub lawful : IsScript new
@@ -23,7 +23,7 @@ pub record Grows (old new : List (Thread × Act)) (text : List ℕ) (end : ℕ) 
   pub size : end ≤ 8388608
 
 -- a line with that text that ends there, behind the lines of a script
-abbrev pub behind : List (Thread × Act) → List ℕ → ℕ → Standing
+abbrev pub behind : List (Thread × Act) → List ℕ → ℕ → PlacedLine
 behind old text end = record { words = words_of text; number = length old + 1; cycles = cycles_of old; end = end }
 
 -- why a script doesn't go on with a line that has that text and ends there: no memory, or its first cause

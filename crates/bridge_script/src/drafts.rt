@@ -1,7 +1,7 @@
 // A line of a report or another short text, put together in a fixed buffer: it takes no memory, so it can't fail.
 
 ghost use Rattle.std.specs.Prelude.{◌≡◌, ◌+◌, ◌≤◌, [], ◌∷◌, ◌++◌, length, codes, decimal};
-ghost use Rattle.bridge_script.specs.Drafts.{Adds, AddsWords};
+ghost use Rattle.bridge_script.specs.Drafts.{AddsText, AddsWords};
 ghost use Rattle.bridge_script.specs.Words.{var_text, optional_text, kind_text, sort_text, peer_static, managed_static, own_static, global_text, cell_text, phase_word_text};
 ghost use Rattle.bridge_script.specs.Report.{managed_text, peer_text, handle_text, phase_text};
 
@@ -55,7 +55,7 @@ impl Line {
     /// Puts a text behind it.
     pub fn text(&mut self, piece: &[u8])
         requires { length piece.now ≤ self.old.room }
-        ensures { Adds self.old self.new piece.now (length piece.now) }
+        ensures { AddsText self.old self.new piece.now (length piece.now) }
     {
         self.bytes[self.len..self.len + piece.len()].copy_from_slice(piece);
         self.len += piece.len();
@@ -64,7 +64,7 @@ impl Line {
     /// Puts a number behind it, in decimal.
     pub fn number(&mut self, n: u64)
         requires { 20 ≤ self.old.room }
-        ensures { Adds self.old self.new (decimal n) 20 }
+        ensures { AddsText self.old self.new (decimal n) 20 }
     {
         self.text(Buffer::new().format(n).as_bytes());
     }
@@ -72,7 +72,7 @@ impl Line {
     /// Puts a word behind it, with a space before the word.
     pub fn word(&mut self, word: &[u8])
         requires { length word.now + 1 ≤ self.old.room }
-        ensures { Adds self.old self.new (32 ∷ word.now) (length word.now + 1) }
+        ensures { AddsText self.old self.new (32 ∷ word.now) (length word.now + 1) }
     {
         self.text(b" ");
         self.text(word);
@@ -81,7 +81,7 @@ impl Line {
     /// Puts a number behind it, with a space before it.
     pub fn decimal(&mut self, n: u64)
         requires { 21 ≤ self.old.room }
-        ensures { Adds self.old self.new (32 ∷ decimal n) 21 }
+        ensures { AddsText self.old self.new (32 ∷ decimal n) 21 }
     {
         self.text(b" ");
         self.number(n);
@@ -90,7 +90,7 @@ impl Line {
     /// Puts a letter and a number behind it, with a space before them.
     pub fn lettered(&mut self, letter: u8, n: u64)
         requires { 22 ≤ self.old.room }
-        ensures { Adds self.old self.new (32 ∷ letter ∷ decimal n) 22 }
+        ensures { AddsText self.old self.new (32 ∷ letter ∷ decimal n) 22 }
     {
         self.text(&[b' ', letter]);
         self.number(n);
@@ -99,7 +99,7 @@ impl Line {
     /// A variable.
     pub fn var(&mut self, v: Var)
         requires { 2 ≤ self.old.room }
-        ensures { Adds self.old self.new (32 ∷ var_text v) 2 }
+        ensures { AddsText self.old self.new (32 ∷ var_text v) 2 }
     {
         self.text(&[b' ', b'a'.saturating_add(v.0)]);
     }
@@ -107,7 +107,7 @@ impl Line {
     /// A variable, or `-` where none is given.
     pub fn optional(&mut self, v: Option<Var>)
         requires { 2 ≤ self.old.room }
-        ensures { Adds self.old self.new (32 ∷ optional_text v) 2 }
+        ensures { AddsText self.old self.new (32 ∷ optional_text v) 2 }
     {
         match v {
             Some(v) => self.var(v),
@@ -118,7 +118,7 @@ impl Line {
     /// A kind.
     pub fn kind(&mut self, kind: Kind)
         requires { 11 ≤ self.old.room }
-        ensures { Adds self.old self.new (32 ∷ kind_text kind) 11 }
+        ensures { AddsText self.old self.new (32 ∷ kind_text kind) 11 }
     {
         match kind {
             Kind::Plain => self.word(b"plain"),
@@ -131,7 +131,7 @@ impl Line {
     /// A sort.
     pub fn sort(&mut self, sort: Sort)
         requires { 10 ≤ self.old.room }
-        ensures { Adds self.old self.new (32 ∷ sort_text sort) 10 }
+        ensures { AddsText self.old self.new (32 ∷ sort_text sort) 10 }
     {
         match sort {
             Sort::User => self.word(b"user"),
@@ -142,7 +142,7 @@ impl Line {
     /// A static of the peer heap.
     pub fn peer_static(&mut self, x: StaticNo)
         requires { 22 ≤ self.old.room }
-        ensures { Adds self.old self.new (32 ∷ peer_static x) 22 }
+        ensures { AddsText self.old self.new (32 ∷ peer_static x) 22 }
     {
         self.lettered(b's', x.0 as u64);
     }
@@ -150,7 +150,7 @@ impl Line {
     /// A static of a thread's own heap.
     pub fn own_static(&mut self, thread: Thread, x: StaticNo)
         requires { 22 ≤ self.old.room }
-        ensures { Adds self.old self.new (32 ∷ own_static thread x) 22 }
+        ensures { AddsText self.old self.new (32 ∷ own_static thread x) 22 }
     {
         match thread {
             Thread::M(_) => self.lettered(b'g', x.0 as u64),
@@ -161,7 +161,7 @@ impl Line {
     /// A global name.
     pub fn global(&mut self, g: GName)
         requires { 22 ≤ self.old.room }
-        ensures { Adds self.old self.new (32 ∷ global_text g) 22 }
+        ensures { AddsText self.old self.new (32 ∷ global_text g) 22 }
     {
         self.lettered(b'G', g.0 as u64);
     }
@@ -169,7 +169,7 @@ impl Line {
     /// A weak cell.
     pub fn cell(&mut self, k: Cell)
         requires { 22 ≤ self.old.room }
-        ensures { Adds self.old self.new (32 ∷ cell_text k) 22 }
+        ensures { AddsText self.old self.new (32 ∷ cell_text k) 22 }
     {
         self.lettered(b'k', k.0 as u64);
     }
@@ -177,7 +177,7 @@ impl Line {
     /// A managed object.
     pub fn managed(&mut self, m: MNum)
         requires { 22 ≤ self.old.room }
-        ensures { Adds self.old self.new (32 ∷ managed_text m) 22 }
+        ensures { AddsText self.old self.new (32 ∷ managed_text m) 22 }
     {
         self.lettered(b'm', m.0 as u64);
     }
@@ -185,7 +185,7 @@ impl Line {
     /// A peer.
     pub fn peer(&mut self, p: PNum)
         requires { 22 ≤ self.old.room }
-        ensures { Adds self.old self.new (32 ∷ peer_text p) 22 }
+        ensures { AddsText self.old self.new (32 ∷ peer_text p) 22 }
     {
         self.lettered(b'p', p.0 as u64);
     }
@@ -193,7 +193,7 @@ impl Line {
     /// A handle.
     pub fn handle(&mut self, h: HNum)
         requires { 22 ≤ self.old.room }
-        ensures { Adds self.old self.new (32 ∷ handle_text h) 22 }
+        ensures { AddsText self.old self.new (32 ∷ handle_text h) 22 }
     {
         self.lettered(b'h', h.0 as u64);
     }
@@ -201,7 +201,7 @@ impl Line {
     /// A word that asks the driver for a phase.
     pub fn phase_word(&mut self, word: PhaseWord)
         requires { 9 ≤ self.old.room }
-        ensures { Adds self.old self.new (32 ∷ phase_word_text word) 9 }
+        ensures { AddsText self.old self.new (32 ∷ phase_word_text word) 9 }
     {
         match word {
             PhaseWord::Cycle => self.word(b"cycle"),
@@ -219,7 +219,7 @@ impl Line {
     /// A phase.
     pub fn phase(&mut self, phase: Phase)
         requires { 11 ≤ self.old.room }
-        ensures { Adds self.old self.new (32 ∷ phase_text phase) 11 }
+        ensures { AddsText self.old self.new (32 ∷ phase_text phase) 11 }
     {
         match phase {
             Phase::Idle => self.word(b"idle"),

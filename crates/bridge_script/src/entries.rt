@@ -1,7 +1,7 @@
 // The words of an entry's event and of its reply.
 
 ghost use Rattle.std.specs.Prelude.{◌≡◌, ◌+◌, ◌≤◌, [], ◌∷◌, codes, decimal, length};
-ghost use Rattle.bridge_script.specs.Drafts.{Adds, AddsWords};
+ghost use Rattle.bridge_script.specs.Drafts.{AddsText, AddsWords};
 ghost use Rattle.bridge_script.specs.Words.{thread_text, act_words, line_text, var_text, optional_text, kind_text, sort_text, cell_text, global_text, own_static, peer_static};
 ghost use Rattle.bridge_script.specs.Report.{event_words, reply_words, managed_text, peer_text, handle_text, list_of, head_text, tail_text, place_text};
 
@@ -221,7 +221,7 @@ fn add_act(line: &mut Line, thread: Thread, act: &Act)
 /// A thread.
 fn add_thread(line: &mut Line, thread: Thread)
     requires { 21 ≤ line.old.room }
-    ensures { Adds line.old line.new (thread_text thread) 21 }
+    ensures { AddsText line.old line.new (thread_text thread) 21 }
 {
     match thread {
         Thread::M(n) => {
@@ -239,7 +239,7 @@ fn add_thread(line: &mut Line, thread: Thread)
 /// A line of a script, without its newline.
 pub fn add_line(line: &mut Line, thread: Thread, act: &Act)
     requires { 121 ≤ line.old.room }
-    ensures { Adds line.old line.new (line_text (thread, act.now)) 121 }
+    ensures { AddsText line.old line.new (line_text (thread, act.now)) 121 }
 {
     add_thread(line, thread);
     add_act(line, thread, act);
@@ -454,7 +454,7 @@ pub fn list_of(reply: &Reply) -> Option<(Numbers, Span)>
 /// The line of an entry up to its list: its number, who made it on which line, its event and its reply.
 pub fn add_head(line: &mut Line, entry: &Entry)
     requires { 300 ≤ line.old.room }
-    ensures { Adds line.old line.new (head_text entry.now) 300 }
+    ensures { AddsText line.old line.new (head_text entry.now) 300 }
 {
     line.number(entry.number);
     add_place(line, entry.made.caller, entry.made.index);
@@ -480,7 +480,7 @@ fn add_place(line: &mut Line, thread: Thread, index: u32)
 /// The end of an entry's line: the entry that it cites, where it cites one, and the newline.
 pub fn add_tail(line: &mut Line, cites: Option<u64>)
     requires { 30 ≤ line.old.room }
-    ensures { Adds line.old line.new (tail_text cites) 30 }
+    ensures { AddsText line.old line.new (tail_text cites) 30 }
 {
     if let Some(number) = cites {
         line.lettered(b'@', number);

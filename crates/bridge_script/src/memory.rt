@@ -39,9 +39,9 @@ pub struct ByteSource {
 
 impl Model for ByteSource {
     ghost use Rattle.std.specs.Prelude.{◌≤◌, drop, length};
-    ghost use Rattle.bridge_script.specs.Outside.{Given};
+    ghost use Rattle.bridge_script.specs.Outside.{MemorySource};
 
-    ghost Value = { Given };
+    ghost Value = { MemorySource };
 
     ghost view = { λ s. record { left = drop s.at s.bytes.items; faults = s.faults; calls = s.calls; fails = s.fails.items } };
 
@@ -147,9 +147,9 @@ pub struct ByteSink {
 
 impl Model for ByteSink {
     ghost use Rattle.std.specs.Prelude.{◌≤◌};
-    ghost use Rattle.bridge_script.specs.Outside.{Kept};
+    ghost use Rattle.bridge_script.specs.Outside.{MemorySink};
 
-    ghost Value = { Kept };
+    ghost Value = { MemorySink };
 
     ghost view = { λ s. record { held = s.held.items; most = s.most; faults = s.faults; calls = s.calls; fails = s.fails.items } };
 

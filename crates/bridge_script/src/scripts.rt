@@ -4,7 +4,7 @@ ghost use Rattle.std.specs.Prelude.{◌≡◌, ◌+◌, ◌≤◌, ◌<◌, ◌=
 ghost use Rattle.joint_model.specs.Lines.{IsLine};
 ghost use Rattle.bridge_script.specs.declared.faults.ScriptError.{ScriptError};
 ghost use Rattle.bridge_script.specs.Scripts.{IsBuilt, IsScript, IsText, IsRefusal, cycles_of, is_cycle, line_at};
-ghost use Rattle.bridge_script.specs.Steps.{Grows, Stops, EndsLine};
+ghost use Rattle.bridge_script.specs.Steps.{GainsLine, Stops, EndsLine};
 
 use crate::faults::{Cause, ScriptError, ScriptFault};
 use crate::lines::read_line;
@@ -102,7 +102,7 @@ impl Script {
     /// Puts the line with this text last, of which `end` is the number of bytes up to its end. `Refused` where it
     /// has a cause, with the first of them.
     fn grow(&mut self, text: &[u8], end: usize) -> Result<(), ScriptError>
-        ensures { MatchResult result (λ _. Grows self.old self.new text.now end) (λ error. Stops self.old text.now end error) }
+        ensures { MatchResult result (λ _. GainsLine self.old self.new text.now end) (λ error. Stops self.old text.now end error) }
     {
         if end > MOST_BYTES {
             return Err(self.refusal(Cause::Bytes));

@@ -18,7 +18,7 @@ use Rattle.bridge_graph.specs.Parts.{IsBridge, IsPart, Leads}
 use Rattle.component_pass.specs.Searching.{Opens, Goes}
 use Rattle.component_pass.specs.Classes.{AreClasses}
 use Rattle.component_pass.specs.Grouping.{AreGrouped, AreListed, ArePlain, IsFirst, group}
-use Rattle.component_pass.specs.Referring.{ComesTo, AreDestinations, AreReferences}
+use Rattle.component_pass.specs.Referring.{ComesTo, AreDestinations, AreReferencesBelow}
 use Rattle.component_pass.proofs.Grouped.{group-members, group-has, bridge-below}
 use Rattle.component_pass.proofs.Linked.{node_at, rises_at, next-up, next-down, none-before, link-here}
 use Rattle.component_pass.proofs.Listed.{head_is}
@@ -221,7 +221,7 @@ module _ (nodes : List Node) (edges : List (List ℕ)) (labels : List ℕ) (flag
 
   -- where there is no bridge node between, it is the same
   refs_jump : (x z : ℕ) (pairs : List (ℕ × ℕ)) → ((y : ℕ) → IsBridge nodes y → y < x → y < z) → ((y : ℕ) → IsBridge nodes y → y < z → y < x)
-      → AreReferences (IsBridge nodes) E comps x pairs → AreReferences (IsBridge nodes) E comps z pairs
+      → AreReferencesBelow (IsBridge nodes) E comps x pairs → AreReferencesBelow (IsBridge nodes) E comps z pairs
   refs_jump x z pairs up down a = record {
     exact = λ i j. (
       (λ c. let t = (a.exact i j).0 c in (t.0, t.1, up (first_at comps i) (comp_at i t.0).0 t.2, t.3)),
@@ -229,23 +229,23 @@ module _ (nodes : List Node) (edges : List (List ℕ)) (labels : List ℕ) (flag
     );
   }
 
-  pub refs_begin : AreReferences (IsBridge nodes) E comps (node_at links (length nodes) 0) []
+  pub refs_begin : AreReferencesBelow (IsBridge nodes) E comps (node_at links (length nodes) 0) []
   refs_begin = refs_jump 0 (node_at links (length nodes) 0) [] (λ y b h. absurd (omega (arith, h))) (λ y b h. absurd (none-before nodes labels links y s.grouped b h))
       (record { exact = λ i j. ((λ c. absurd (omega (arith, c.1))), (λ t. absurd (omega (arith, t.2)))) })
 
   pub refs_next : (k x : ℕ) (pairs : List (ℕ × ℕ)) → k < length links → x ≡ get_or (map (λ (l : Link). l.to) links) k 0
-      → AreReferences (IsBridge nodes) E comps (x + 1) pairs → AreReferences (IsBridge nodes) E comps (node_at links (length nodes) (k + 1)) pairs
+      → AreReferencesBelow (IsBridge nodes) E comps (x + 1) pairs → AreReferencesBelow (IsBridge nodes) E comps (node_at links (length nodes) (k + 1)) pairs
   refs_next k x pairs lt is a =
       let here = link-here nodes links k x lt is in
       refs_jump (x + 1) (node_at links (length nodes) (k + 1)) pairs
       (λ y b h. next-up nodes labels links k y s.grouped lt b (omega (arith, h, here)))
       (λ y b h. omega (arith, next-down nodes labels links k y s.grouped lt b h, here)) a
 
-  pub refs_none : AreReferences (IsBridge nodes) E comps 0 []
+  pub refs_none : AreReferencesBelow (IsBridge nodes) E comps 0 []
   refs_none = record { exact = λ i j. ((λ c. absurd (omega (arith, c.1))), (λ t. absurd (omega (arith, t.2)))) }
 
-  pub refs_skip : (x : ℕ) (pairs : List (ℕ × ℕ)) → (IsFirst (group links (get_or labels x 0)) x → ⊥) → AreReferences (IsBridge nodes) E comps x pairs
-      → AreReferences (IsBridge nodes) E comps (x + 1) pairs
+  pub refs_skip : (x : ℕ) (pairs : List (ℕ × ℕ)) → (IsFirst (group links (get_or labels x 0)) x → ⊥) → AreReferencesBelow (IsBridge nodes) E comps x pairs
+      → AreReferencesBelow (IsBridge nodes) E comps (x + 1) pairs
   refs_skip x pairs none a = record {
     exact = λ i j. (
       (λ c. let t = (a.exact i j).0 c in (t.0, t.1, omega (arith, t.2), t.3)),
@@ -278,8 +278,8 @@ module _ (nodes : List Node) (edges : List (List ℕ)) (labels : List ℕ) (flag
       )
 
   pub refs_more : (x : ℕ) (pairs : List (ℕ × ℕ)) (outs : List ℕ) → x < length nodes → IsFirst (group links (get_or labels x 0)) x
-      → AreDestinations edges flags labels indexes (get_or labels x 0) x outs → AreReferences (IsBridge nodes) E comps x pairs
-      → AreReferences (IsBridge nodes) E comps (x + 1) (pairs ++ map (λ (d : ℕ). let r : ℕ × ℕ = (get_or indexes (get_or labels x 0) 0, d) in r) outs)
+      → AreDestinations edges flags labels indexes (get_or labels x 0) x outs → AreReferencesBelow (IsBridge nodes) E comps x pairs
+      → AreReferencesBelow (IsBridge nodes) E comps (x + 1) (pairs ++ map (λ (d : ℕ). let r : ℕ × ℕ = (get_or indexes (get_or labels x 0) 0, d) in r) outs)
   refs_more x pairs outs lt f o a =
       let k = first_index x f in
       let at : ℕ = get_or indexes (get_or labels x 0) 0 in
@@ -306,7 +306,7 @@ module _ (nodes : List Node) (edges : List (List ℕ)) (labels : List ℕ) (flag
             );
       }
 
-  pub refs_fresh : (x : ℕ) (pairs : List (ℕ × ℕ)) → IsFirst (group links (get_or labels x 0)) x → AreReferences (IsBridge nodes) E comps x pairs
+  pub refs_fresh : (x : ℕ) (pairs : List (ℕ × ℕ)) → IsFirst (group links (get_or labels x 0)) x → AreReferencesBelow (IsBridge nodes) E comps x pairs
       → All (λ p. p.0 < get_or indexes (get_or labels x 0) 0) pairs
   refs_fresh x pairs f a = λ k d lt.
       let p : ℕ × ℕ = get_or pairs k d in
@@ -343,7 +343,7 @@ module _ (nodes : List Node) (edges : List (List ℕ)) (labels : List ℕ) (flag
       )
 
   -- the listed components with all their cross-references are the contraction
-  pub contraction_of : (pairs ordered : List (ℕ × ℕ)) → AreReferences (IsBridge nodes) E comps (length nodes) pairs → IsPermutation pairs ordered
+  pub contraction_of : (pairs ordered : List (ℕ × ℕ)) → AreReferencesBelow (IsBridge nodes) E comps (length nodes) pairs → IsPermutation pairs ordered
       → IsCanonical comps ordered → IsContraction (IsBridge nodes) E comps ordered
   contraction_of pairs ordered a perm canon = record {
     canonical = canon;

@@ -8,7 +8,7 @@ use Rattle.std.specs.List.{All, Contains}
 use Rattle.joint_model.specs.Walks.{Walks, Reaches, Mutual}
 use Rattle.joint_model.proofs.WalkLemmas.{Reaches-keeps, Reaches-self, Reaches-then, Reaches-trans}
 use Rattle.bridge_graph.specs.Parts.{Leads}
-use Rattle.component_pass.specs.Searching.{unmarked, AreMarked, Visits, Finds}
+use Rattle.component_pass.specs.Searching.{unmarked, AreMarked, Visits, FindsReached}
 
 -- an edge begins at a node
 pub leads_from : (edges : List (List ℕ)) (x y : ℕ) → Leads edges x y → x < length edges
@@ -147,7 +147,7 @@ search-more step start marks marks' found found' row at x lt e go row_of m v s =
       root = grown start s.root;
     }
 
-pub search-found : (step : ℕ → ℕ → Type 0) (start : ℕ) (marks : List Bool) (found : List ℕ) (at : ℕ) → length found ≤ at → Searching step start marks found at → Finds step start marks found
+pub search-found : (step : ℕ → ℕ → Type 0) (start : ℕ) (marks : List Bool) (found : List ℕ) (at : ℕ) → length found ≤ at → Searching step start marks found at → FindsReached step start marks found
 search-found step start marks found at ge s = record {
   exact = λ y. exact_from_closed step start found s.root s.sound (λ k z lt t. s.closed k z (omega (arith, s.done)) t) y;
   marking = s.marking;

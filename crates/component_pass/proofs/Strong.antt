@@ -14,7 +14,7 @@ use Rattle.bridge_graph.specs.Parts.{Leads, row_at}
 use Rattle.component_pass.specs.declared.tarjan.Frame.{Frame}
 use Rattle.component_pass.specs.Classes.{AreClasses, AreInOrder}
 use Rattle.component_pass.proofs.Finding.{leads_from}
-use Rattle.component_pass.specs.Tarjan.{IsSegment, AreSegments, AreSorted, IsGoing, Scans, unseen, done_mark}
+use Rattle.component_pass.specs.Tarjan.{IsSegment, AreSegments, AreSorted, IsGoing, ScansRow, unseen, done_mark}
 
 pub unseen-set : (marks : List ℕ) (w v : ℕ) → w < length marks → get_or marks w 0 ≡ 0 → 0 < v → unseen (set marks w v) + 1 ≡ unseen marks
 unseen-set [] w v lt f p = absurd (omega (arith, lt))
@@ -90,7 +90,7 @@ module _ (edges : List (List ℕ)) (count : ℕ) (in_range : (x y : ℕ) → Lea
 
   -- what a scan found belongs to the segment
   pub seg-scanned : (stack marks labels : List ℕ) (rows : List (List ℕ)) (f : Frame) (next low : ℕ) → AreSorted edges count stack marks labels rows → IsSegment edges stack marks f (length stack)
-      → Scans (row_at edges f.node) marks f.next f.low next low
+      → ScansRow (row_at edges f.node) marks f.next f.low next low
       → IsSegment edges stack marks (record { node = f.node; at = f.at; next = next; low = low }) (length stack)
   seg-scanned stack marks labels rows f next low o s c =
       let row = row_at edges f.node in
@@ -202,7 +202,7 @@ module _ (edges : List (List ℕ)) (count : ℕ) (in_range : (x y : ℕ) → Lea
 
   -- into the next unseen node
   pub descended : (stack marks labels : List ℕ) (rows : List (List ℕ)) (f : Frame) (fs : List Frame) (next low w : ℕ) → IsGoing edges count stack marks labels rows (f ∷ fs)
-      → Scans (row_at edges f.node) marks f.next f.low next low → next < length (row_at edges f.node) → w ≡ get_or (row_at edges f.node) next 0
+      → ScansRow (row_at edges f.node) marks f.next f.low next low → next < length (row_at edges f.node) → w ≡ get_or (row_at edges f.node) next 0
       → IsGoing edges count (stack ++ w ∷ []) (set marks w (length stack + 1)) labels rows
       (record { node = w; at = length stack; next = 0; low = length stack } ∷ record { node = f.node; at = f.at; next = next + 1; low = low } ∷ fs)
   descended stack marks labels rows f fs next low w g c lt is =
@@ -259,7 +259,7 @@ module _ (edges : List (List ℕ)) (count : ℕ) (in_range : (x y : ℕ) → Lea
 
   -- back to the frame below, which takes over the segment
   pub merged : (stack marks labels : List ℕ) (rows : List (List ℕ)) (f p : Frame) (ps : List Frame) (next low : ℕ) → IsGoing edges count stack marks labels rows (f ∷ p ∷ ps)
-      → Scans (row_at edges f.node) marks f.next f.low next low → length (row_at edges f.node) ≤ next → low < f.at
+      → ScansRow (row_at edges f.node) marks f.next f.low next low → length (row_at edges f.node) ≤ next → low < f.at
       → IsGoing edges count stack marks labels rows (record { node = p.node; at = p.at; next = p.next; low = min p.low low } ∷ ps)
   merged stack marks labels rows f p ps next low g c all lt =
       let s = seg-scanned stack marks labels rows f next low g.sorted g.segments.0 c in
@@ -342,7 +342,7 @@ module _ (edges : List (List ℕ)) (count : ℕ) (in_range : (x y : ℕ) → Lea
 
   -- a complete class is taken from the stack
   pub completed : (stack marks labels marks' labels' : List ℕ) (rows : List (List ℕ)) (f : Frame) (fs : List Frame) (next low : ℕ) → IsGoing edges count stack marks labels rows (f ∷ fs)
-      → Scans (row_at edges f.node) marks f.next f.low next low → length (row_at edges f.node) ≤ next → f.at ≤ low
+      → ScansRow (row_at edges f.node) marks f.next f.low next low → length (row_at edges f.node) ≤ next → f.at ≤ low
       → length marks' ≡ length marks → length labels' ≡ length labels
       → ((k : ℕ) → f.at ≤ k → k < length stack → (get_or marks' (get_or stack k 0) 0 ≡ done_mark) × (get_or labels' (get_or stack k 0) 0 ≡ length rows))
       → ((x : ℕ) → (get_or marks x 0 ≤ f.at) ⊎ (length stack < get_or marks x 0) → (get_or marks' x 0 ≡ get_or marks x 0) × (get_or labels' x 0 ≡ get_or labels x 0))

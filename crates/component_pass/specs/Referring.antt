@@ -15,6 +15,6 @@ pub record AreDestinations (edges : List (List ℕ)) (plain : List Bool) (labels
   pub exact : (j : ℕ) → Contains outs j ↔ ComesTo edges plain labels indexes own x j
 
 -- the pairs are exactly the cross-references of the components whose first members are below x
-pub record AreReferences (bridge : ℕ → Type 0) (edge : ℕ → ℕ → Type 0) (comps : List (List ℕ)) (x : ℕ) (pairs : List (ℕ × ℕ)) : Type 0 where
+pub record AreReferencesBelow (bridge : ℕ → Type 0) (edge : ℕ → ℕ → Type 0) (comps : List (List ℕ)) (x : ℕ) (pairs : List (ℕ × ℕ)) : Type 0 where
   pub exact : (i j : ℕ) → Contains pairs (i, j)
       ↔ ((i < length comps) × (j < length comps) × (first_at comps i < x) × IsCrossReference bridge edge (first_at comps i) (first_at comps j))

@@ -30,6 +30,6 @@ pub record Visits (row before after : List ℕ) : Type 0 where
   pub whole : All (Contains after) row
 
 -- exactly the nodes that are reached from the start are listed and marked
-pub record Finds (step : ℕ → ℕ → Type 0) (start : ℕ) (marks : List Bool) (found : List ℕ) : Type 0 where
+pub record FindsReached (step : ℕ → ℕ → Type 0) (start : ℕ) (marks : List Bool) (found : List ℕ) : Type 0 where
   pub exact : (y : ℕ) → Contains found y ↔ Reaches step start y
   pub marking : AreMarked marks found

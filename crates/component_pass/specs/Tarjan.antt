@@ -57,7 +57,7 @@ pub record IsGoing (edges : List (List ℕ)) (count : ℕ) (stack marks labels :
   pub segments : AreSegments edges stack marks frames (length stack)
 
 -- what a scan of a row finds: the targets up to next are seen, and low is below each of their marks
-pub record Scans (row marks : List ℕ) (start low next least : ℕ) : Type 0 where
+pub record ScansRow (row marks : List ℕ) (start low next least : ℕ) : Type 0 where
   pub later : start ≤ next
   pub within : next ≤ length row
   pub unseen_next : next < length row → slice_index marks (slice_index row next) ≡ 0

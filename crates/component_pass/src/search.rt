@@ -2,7 +2,7 @@
 
 ghost use Rattle.std.specs.Prelude.{◌≡◌, ℕ, ◌<◌, [], length, All, OnOk, false, Bool, MatchBool};
 ghost use Rattle.bridge_graph.specs.Parts.{Leads};
-ghost use Rattle.component_pass.specs.Searching.{Opens, Goes, AreMarked, Visits, Finds};
+ghost use Rattle.component_pass.specs.Searching.{Opens, Goes, AreMarked, Visits, FindsReached};
 
 use bridge_graph::DeadGraph;
 use std::alloc::AllocError;
@@ -24,7 +24,7 @@ pub(crate) fn search(
     requires marks { length marks.old ≡ length graph.now.nodes }
     requires clear { All (λ m. m ≡ false) marks.old }
     requires empty { found.old.items ≡ [] }
-    ensures { OnOk result (Finds (Goes graph.now.edges plain.now labels.now own) start marks.new found.new.items) }
+    ensures { OnOk result (FindsReached (Goes graph.now.edges plain.now labels.now own) start marks.new found.new.items) }
 {
     marks[start as usize] = true;
     found.push(start)?;

@@ -16,7 +16,7 @@ ghost use Rattle.component_pass.specs.Classes.{AreClasses, AreInOrder};
 ghost use Rattle.component_pass.specs.Gathering.{AreSets, Gathers, IsClear, set_at};
 ghost use Rattle.component_pass.specs.Grouping.{AreListed, group};
 ghost use Rattle.component_pass.specs.Groups.{AreGroups};
-ghost use Rattle.component_pass.specs.Referring.{AreReferences};
+ghost use Rattle.component_pass.specs.Referring.{AreReferencesBelow};
 ghost use Rattle.component_pass.specs.Sharing.{AreShared, ComesOut, IsFound};
 
 use crate::gathering::{Work, gather, new_work, set_of};
@@ -43,7 +43,7 @@ pub(crate) fn share_references(
     requires listed { AreListed graph.now.nodes labels.now groups.now.links.items (length graph.now.nodes) builder.old.comps indexes.now }
     requires part { IsPart graph.now.nodes graph.now.edges }
     requires empty { builder.old.pairs ≡ [] }
-    ensures pairs { OnOk result (AreReferences (IsBridge graph.now.nodes) (Leads graph.now.edges) builder.new.comps (length graph.now.nodes) builder.new.pairs) }
+    ensures pairs { OnOk result (AreReferencesBelow (IsBridge graph.now.nodes) (Leads graph.now.edges) builder.new.comps (length graph.now.nodes) builder.new.pairs) }
     ensures comps { builder.new.comps ≡ builder.old.comps }
 {
     let count = builder.len();
@@ -217,7 +217,7 @@ fn refer_all(
     requires sets { AreSets sets.now lists.now count (length work.old.known.items) }
     requires marks { length work.old.marks.items ≡ count }
     requires clear { IsClear work.old }
-    ensures pairs { OnOk result (AreReferences (IsBridge graph.now.nodes) (Leads graph.now.edges) builder.new.comps (length graph.now.nodes) builder.new.pairs) }
+    ensures pairs { OnOk result (AreReferencesBelow (IsBridge graph.now.nodes) (Leads graph.now.edges) builder.new.comps (length graph.now.nodes) builder.new.pairs) }
     ensures comps { builder.new.comps ≡ builder.old.comps }
 {
     for k in 0..groups.links.len() {
@@ -250,12 +250,12 @@ fn refer(
     requires listed { AreListed graph.now.nodes labels.now groups.now.links.items (length graph.now.nodes) builder.old.comps indexes.now }
     requires part { IsPart graph.now.nodes graph.now.edges }
     requires node { x < length graph.now.nodes }
-    requires pairs { AreReferences (IsBridge graph.now.nodes) (Leads graph.now.edges) builder.old.comps x builder.old.pairs }
+    requires pairs { AreReferencesBelow (IsBridge graph.now.nodes) (Leads graph.now.edges) builder.old.comps x builder.old.pairs }
     requires shared { AreShared graph.now.edges (length graph.now.nodes) labels.now groups.now.links.items indexes.now count (length rows.now) sets.now lists.now }
     requires sets { AreSets sets.now lists.now count (length work.old.known.items) }
     requires marks { length work.old.marks.items ≡ count }
     requires clear { IsClear work.old }
-    ensures pairs { OnOk result (AreReferences (IsBridge graph.now.nodes) (Leads graph.now.edges) builder.new.comps (x + 1) builder.new.pairs) }
+    ensures pairs { OnOk result (AreReferencesBelow (IsBridge graph.now.nodes) (Leads graph.now.edges) builder.new.comps (x + 1) builder.new.pairs) }
     ensures comps { builder.new.comps ≡ builder.old.comps }
     ensures sets { OnOk result (AreSets sets.now lists.now count (length work.new.known.items)) }
     ensures marks { OnOk result (length work.new.marks.items ≡ count) }

@@ -3,7 +3,7 @@
 ghost use Rattle.std.specs.Prelude.{◌≡◌, ◌≢◌, ◌⊎◌, ℕ, ◌+◌, ◌*◌, ◌<◌, ◌≤◌, List, [], ◌∷◌, ◌++◌, length, min, take, drop, All, Contains, IfOk, OnOk, IfNone, reverse, slice_index, slice_set};
 ghost use Rattle.bridge_graph.specs.Parts.{IsPart, Leads, row_at};
 ghost use Rattle.component_pass.specs.Classes.{AreClasses, AreInOrder};
-ghost use Rattle.component_pass.specs.Tarjan.{IsGoing, Scans, unseen, with_current, done_mark};
+ghost use Rattle.component_pass.specs.Tarjan.{IsGoing, ScansRow, unseen, with_current, done_mark};
 
 use crate::lists::Lists;
 use bridge_graph::DeadGraph;
@@ -175,7 +175,7 @@ fn scan_row(row: &[u32], marks: &[u32], from: u32, low: u32) -> Scan
     requires few { length row.now < 4294967296 }
     requires low { low < 4294967295 }
     requires from { from ≤ length row.now }
-    ensures { Scans row.now marks.now from low result.next result.low }
+    ensures { ScansRow row.now marks.now from low result.next result.low }
 {
     let mut next = from;
     let mut lowest = low;

@@ -10,7 +10,7 @@ use std::str::Lines;
 
 /// What is wrong with an edge list.
 #[derive(Clone, Copy, PartialEq, Eq, Debug)]
-pub enum Cause {
+pub enum ListFault {
     /// The first line is not two numbers.
     Counts,
     /// A node's line is neither `b` nor `p`.
@@ -29,53 +29,53 @@ pub enum Cause {
     Memory,
 }
 
-impl From<AllocError> for Cause {
-    ghost use Rattle.contract_tool.specs.declared.list.Cause.TheVariants as cause;
+impl From<AllocError> for ListFault {
+    ghost use Rattle.contract_tool.specs.declared.list.ListFault.TheVariants as cause;
 
     ghost from_gives = { λ _ e. e ≡ cause.Memory };
 
-    fn from(_error: AllocError) -> Cause {
-        Cause::Memory
+    fn from(_error: AllocError) -> ListFault {
+        ListFault::Memory
     }
 }
 
 /// What is wrong with an edge list, in words.
-pub fn what(cause: Cause) -> &'static str {
+pub fn what(cause: ListFault) -> &'static str {
     match cause {
-        Cause::Counts => "the first line is not two numbers",
-        Cause::Kind => "a node's line is neither b nor p",
-        Cause::Edge => "an edge's line is not two numbers",
-        Cause::Node => "an edge names no node",
-        Cause::Nodes => "there are more than 65535 nodes",
-        Cause::End => "the list ends too early",
-        Cause::More => "a line stands behind the last edge",
-        Cause::Memory => "there is no memory",
+        ListFault::Counts => "the first line is not two numbers",
+        ListFault::Kind => "a node's line is neither b nor p",
+        ListFault::Edge => "an edge's line is not two numbers",
+        ListFault::Node => "an edge names no node",
+        ListFault::Nodes => "there are more than 65535 nodes",
+        ListFault::End => "the list ends too early",
+        ListFault::More => "a line stands behind the last edge",
+        ListFault::Memory => "there is no memory",
     }
 }
 
 /// Reads an edge list.
-pub fn read_list(alloc: Global, text: &str) -> Result<DeadGraph, Cause> {
+pub fn read_list(alloc: Global, text: &str) -> Result<DeadGraph, ListFault> {
     let mut lines = text.lines();
-    let (nodes, edges) = pair(lines.next().ok_or(Cause::End)?).ok_or(Cause::Counts)?;
+    let (nodes, edges) = pair(lines.next().ok_or(ListFault::End)?).ok_or(ListFault::Counts)?;
     let mut builder = GraphBuilder::new(alloc);
     read_nodes(&mut builder, &mut lines, nodes)?;
     read_edges(&mut builder, &mut lines, edges)?;
     if lines.next().is_some() {
-        return Err(Cause::More);
+        return Err(ListFault::More);
     }
     Ok(builder.finish())
 }
 
 /// Reads the nodes' lines.
-fn read_nodes(builder: &mut GraphBuilder, lines: &mut Lines, nodes: u32) -> Result<(), Cause> {
+fn read_nodes(builder: &mut GraphBuilder, lines: &mut Lines, nodes: u32) -> Result<(), ListFault> {
     for i in 0..nodes {
-        let handle = match lines.next().ok_or(Cause::End)? {
+        let handle = match lines.next().ok_or(ListFault::End)? {
             "b" => true,
             "p" => false,
-            _ => return Err(Cause::Kind),
+            _ => return Err(ListFault::Kind),
         };
         if i == u32::MAX || !builder.next_is(MNum(i + 1)) {
-            return Err(Cause::Nodes);
+            return Err(ListFault::Nodes);
         }
         builder.node(
             MNum(i + 1),
@@ -87,11 +87,11 @@ fn read_nodes(builder: &mut GraphBuilder, lines: &mut Lines, nodes: u32) -> Resu
 }
 
 /// Reads the edges' lines.
-fn read_edges(builder: &mut GraphBuilder, lines: &mut Lines, edges: u32) -> Result<(), Cause> {
+fn read_edges(builder: &mut GraphBuilder, lines: &mut Lines, edges: u32) -> Result<(), ListFault> {
     for _ in 0..edges {
-        let (from, to) = pair(lines.next().ok_or(Cause::End)?).ok_or(Cause::Edge)?;
+        let (from, to) = pair(lines.next().ok_or(ListFault::End)?).ok_or(ListFault::Edge)?;
         if !builder.may_lead(from, to) {
-            return Err(Cause::Node);
+            return Err(ListFault::Node);
         }
         builder.edge(from, to)?;
     }

@@ -18,7 +18,7 @@ use xref_list::Components;
 
 /// What is asked for.
 #[derive(Clone, Copy)]
-enum Mode {
+enum OutputKind {
     Time,
     Dump,
 }
@@ -45,8 +45,8 @@ fn main(rt: HostRuntime) -> io::Result<ExitCode> {
     let components = contract(rt.alloc(), &graph)?;
     let spent = start.elapsed(&rt)?;
     match mode {
-        Mode::Dump => write_all(BufWriter::new(rt.alloc(), io::writer(&rt))?, &components)?,
-        Mode::Time => {
+        OutputKind::Dump => write_all(BufWriter::new(rt.alloc(), io::writer(&rt))?, &components)?,
+        OutputKind::Time => {
             let micros = u64::try_from(spent.as_micros()).unwrap_or(u64::MAX);
             println!(rt;
                 "{} sccs {} xrefs {}.{:03} ms",
@@ -61,10 +61,10 @@ fn main(rt: HostRuntime) -> io::Result<ExitCode> {
 }
 
 /// What a word asks for.
-fn mode_of(word: &str) -> Option<Mode> {
+fn mode_of(word: &str) -> Option<OutputKind> {
     match word {
-        "time" => Some(Mode::Time),
-        "dump" => Some(Mode::Dump),
+        "time" => Some(OutputKind::Time),
+        "dump" => Some(OutputKind::Dump),
         _ => None,
     }
 }

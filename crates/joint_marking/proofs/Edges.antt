@@ -13,7 +13,7 @@ use Rattle.joint_model.specs.Joint.{Graph, IsJoined}
 use Rattle.joint_model.proofs.Members.{Contains-nil, last-or}
 use Rattle.joint_model.proofs.Deciding.{none_some, some-same}
 use Rattle.reachability.proofs.Marking.{take-next}
-use Rattle.joint_marking.specs.Nodes.{Adds, AreWithin, HasNone, IsPair, IsRound, FieldEdge, ObjectField, ObjectEdge, objects_in, targets_at}
+use Rattle.joint_marking.specs.Nodes.{AddsEdges, AreWithin, HasNone, IsPair, IsRound, FieldEdge, ObjectField, ObjectEdge, objects_in, targets_at}
 
 -- what a row has after a write to a row: the written one has what was written, and each other what it had
 set-from : (rows : List (List ℕ)) (a k : ℕ) (r : List ℕ) (j : ℕ) → Contains (targets_at (set rows a r) k) j → ((k ≡ a) × Contains r j) ⊎ Contains (targets_at rows k) j
@@ -36,8 +36,8 @@ set-here (x ∷ rows) zero r j l c = c
 set-here (x ∷ rows) (suc a) r j l c = set-here rows a r j (omega (arith, l)) c
 
 -- a push to the row of a adds the edge from a
-pub Adds-one : (rows : List (List ℕ)) (a b : ℕ) (r : List ℕ) → a < length rows → targets_at rows a ≡ r → Adds (IsPair a b) rows (set rows a (r ++ b ∷ []))
-Adds-one rows a b r l e = record {
+pub AddsEdges-one : (rows : List (List ℕ)) (a b : ℕ) (r : List ℕ) → a < length rows → targets_at rows a ≡ r → AddsEdges (IsPair a b) rows (set rows a (r ++ b ∷ []))
+AddsEdges-one rows a b r l e = record {
   len = length-set rows a (r ++ b ∷ []);
   exact = λ k j. (
     λ c. elim (set-from rows a k (r ++ b ∷ []) j c) [
@@ -62,8 +62,8 @@ row-read f vs k r l e =
     rw (here, targets_at) refl
 
 -- a write to that row adds an edge, or leaves all as it is
-pub write-one : {A : Type 0} (f : A → List ℕ) (vs : List A) (k j : ℕ) (r t : A) → k < length vs → r ≡ get_or vs k r → f t ≡ f r ++ j ∷ [] → Adds (IsPair k j) (map f vs) (map f (set vs k t))
-write-one f vs k j r t l e p = rw (map-set f vs k t, p) (Adds-one (map f vs) k j (f r) (omega (arith, l, length-map vs f)) (row-read f vs k r l e))
+pub write-one : {A : Type 0} (f : A → List ℕ) (vs : List A) (k j : ℕ) (r t : A) → k < length vs → r ≡ get_or vs k r → f t ≡ f r ++ j ∷ [] → AddsEdges (IsPair k j) (map f vs) (map f (set vs k t))
+write-one f vs k j r t l e p = rw (map-set f vs k t, p) (AddsEdges-one (map f vs) k j (f r) (omega (arith, l, length-map vs f)) (row-read f vs k r l e))
 
 pub write-same : {A : Type 0} (f : A → List ℕ) (vs : List A) (k : ℕ) (r t : A) → k < length vs → r ≡ get_or vs k r → f t ≡ f r → AreWithin (map f vs) → AreWithin (map f (set vs k t))
 write-same f vs k r t l e p w i j c =
@@ -75,12 +75,12 @@ write-same f vs k r t l e p w i j c =
     ]
 
 -- no edge is added
-pub Adds-none : (edge : ℕ → ℕ → Type 0) (a : List (List ℕ)) → ((k j : ℕ) → edge k j → ⊥) → Adds edge a a
-Adds-none edge a none = record { len = refl; exact = λ k j. (λ c. inl c, λ h. elim h [ inl w ↦ w | inr w ↦ absurd (none k j w) ]) }
+pub AddsEdges-none : (edge : ℕ → ℕ → Type 0) (a : List (List ℕ)) → ((k j : ℕ) → edge k j → ⊥) → AddsEdges edge a a
+AddsEdges-none edge a none = record { len = refl; exact = λ k j. (λ c. inl c, λ h. elim h [ inl w ↦ w | inr w ↦ absurd (none k j w) ]) }
 
 -- the edges of two calls, one after the other
-pub Adds-then : (p q edge : ℕ → ℕ → Type 0) (a b c : List (List ℕ)) → ((k j : ℕ) → edge k j → p k j ⊎ q k j) → ((k j : ℕ) → p k j → edge k j) → ((k j : ℕ) → q k j → edge k j) → Adds p a b → Adds q b c → Adds edge a c
-Adds-then p q edge a b c split left right x y = record {
+pub AddsEdges-then : (p q edge : ℕ → ℕ → Type 0) (a b c : List (List ℕ)) → ((k j : ℕ) → edge k j → p k j ⊎ q k j) → ((k j : ℕ) → p k j → edge k j) → ((k j : ℕ) → q k j → edge k j) → AddsEdges p a b → AddsEdges q b c → AddsEdges edge a c
+AddsEdges-then p q edge a b c split left right x y = record {
   len = y.len ∙ x.len;
   exact = λ k j. (
     λ h. elim ((y.exact k j).0 h) [
@@ -95,15 +95,15 @@ Adds-then p q edge a b c split left right x y = record {
 }
 
 -- the same edges under another name
-pub Adds-as : (p edge : ℕ → ℕ → Type 0) (a b : List (List ℕ)) → ((k j : ℕ) → edge k j → p k j) → ((k j : ℕ) → p k j → edge k j) → Adds p a b → Adds edge a b
-Adds-as p edge a b there back x = Adds-then p (λ k j. ⊥) edge a b b (λ k j e. inl (there k j e)) back (λ k j f. absurd f) x (Adds-none (λ k j. ⊥) b (λ k j f. f))
+pub AddsEdges-as : (p edge : ℕ → ℕ → Type 0) (a b : List (List ℕ)) → ((k j : ℕ) → edge k j → p k j) → ((k j : ℕ) → p k j → edge k j) → AddsEdges p a b → AddsEdges edge a b
+AddsEdges-as p edge a b there back x = AddsEdges-then p (λ k j. ⊥) edge a b b (λ k j e. inl (there k j e)) back (λ k j f. absurd f) x (AddsEdges-none (λ k j. ⊥) b (λ k j f. f))
 
 -- the edges from a to b, and from b to a
-pub Adds-round : (x y : ℕ) (a b c : List (List ℕ)) → Adds (IsPair x y) a b → Adds (IsPair y x) b c → Adds (IsRound x y) a c
-Adds-round x y a b c = Adds-then (IsPair x y) (IsPair y x) (IsRound x y) a b c (λ k j e. e) (λ k j e. inl e) (λ k j e. inr e)
+pub AddsEdges-round : (x y : ℕ) (a b c : List (List ℕ)) → AddsEdges (IsPair x y) a b → AddsEdges (IsPair y x) b c → AddsEdges (IsRound x y) a c
+AddsEdges-round x y a b c = AddsEdges-then (IsPair x y) (IsPair y x) (IsRound x y) a b c (λ k j e. e) (λ k j e. inl e) (λ k j e. inr e)
 
 -- nodes lead to nodes still, once an edge to a node is added
-pub AreWithin-one : (x y : ℕ) (a b : List (List ℕ)) → y < length a → AreWithin a → Adds (IsPair x y) a b → AreWithin b
+pub AreWithin-one : (x y : ℕ) (a b : List (List ℕ)) → y < length a → AreWithin a → AddsEdges (IsPair x y) a b → AreWithin b
 AreWithin-one x y a b l w d k j c = elim ((d.exact k j).0 c) [ inl h ↦ omega (arith, w k j h, d.len) | inr h ↦ omega (arith, h.1, l, d.len) ]
 
 -- one node more that leads nowhere
@@ -132,8 +132,8 @@ pub record PlacesBelow (live : ℕ → Type 0) (node : ℕ → ℕ) (x : ℕ) (f
   pub there : live target
   pub ends : IsPair (node x) (node target) k j
 
-pub Places-none : (live : ℕ → Type 0) (node : ℕ → ℕ) (x : ℕ) (fields : List (Option ℕ)) (a : List (List ℕ)) → Adds (PlacesBelow live node x fields 0) a a
-Places-none live node x fields a = Adds-none (PlacesBelow live node x fields 0) a (λ k j e. Contains-nil (Some e.target) e.held)
+pub Places-none : (live : ℕ → Type 0) (node : ℕ → ℕ) (x : ℕ) (fields : List (Option ℕ)) (a : List (List ℕ)) → AddsEdges (PlacesBelow live node x fields 0) a a
+Places-none live node x fields a = AddsEdges-none (PlacesBelow live node x fields 0) a (λ k j e. Contains-nil (Some e.target) e.held)
 
 slot-some : (o : Option (Option ℕ)) (p q : Option ℕ) → o ≡ Some p → elim o [ None ↦ None | Some x ↦ x ] ≡ q → o ≡ Some q
 slot-some None p q e f = cc
@@ -144,10 +144,10 @@ slot-at : (xs : List (Option ℕ)) (i : ℕ) (o : Option ℕ) → i < length xs 
 slot-at xs i o l e = slot-some (slice_get xs i) (get_or xs i None) o (slice_get-get_or xs i None l) e
 
 -- one place more, which holds a target
-pub Places-push : (live : ℕ → Type 0) (node : ℕ → ℕ) (x : ℕ) (fields : List (Option ℕ)) (i y : ℕ) (a b c : List (List ℕ)) → i < length fields → slot fields i ≡ Some y → live y → Adds (PlacesBelow live node x fields i) a b → Adds (IsPair (node x) (node y)) b c → Adds (PlacesBelow live node x fields (i + 1)) a c
+pub Places-push : (live : ℕ → Type 0) (node : ℕ → ℕ) (x : ℕ) (fields : List (Option ℕ)) (i y : ℕ) (a b c : List (List ℕ)) → i < length fields → slot fields i ≡ Some y → live y → AddsEdges (PlacesBelow live node x fields i) a b → AddsEdges (IsPair (node x) (node y)) b c → AddsEdges (PlacesBelow live node x fields (i + 1)) a c
 Places-push live node x fields i y a b c l s v d f =
     let more = take-next fields i (Some y) (slot-at fields i (Some y) l s) in
-    Adds-then (PlacesBelow live node x fields i) (IsPair (node x) (node y)) (PlacesBelow live node x fields (i + 1)) a b c
+    AddsEdges-then (PlacesBelow live node x fields i) (IsPair (node x) (node y)) (PlacesBelow live node x fields (i + 1)) a b c
     (λ k j e. elim (Contains-push_cases (take i fields) (Some y) (Some e.target) (subst (λ t. Contains t (Some e.target)) more e.held)) [
       | inl h ↦ inl (record { target = e.target; held = h; there = e.there; ends = e.ends })
       | inr h ↦ inr (subst (λ t. IsPair (node x) (node t) k j) (sym (some-same y e.target h)) e.ends)
@@ -157,10 +157,10 @@ Places-push live node x fields i y a b c l s v d f =
     d f
 
 -- one place more, which is empty
-pub Places-skip : (live : ℕ → Type 0) (node : ℕ → ℕ) (x : ℕ) (fields : List (Option ℕ)) (i : ℕ) (a b : List (List ℕ)) → i < length fields → slot fields i ≡ None → Adds (PlacesBelow live node x fields i) a b → Adds (PlacesBelow live node x fields (i + 1)) a b
+pub Places-skip : (live : ℕ → Type 0) (node : ℕ → ℕ) (x : ℕ) (fields : List (Option ℕ)) (i : ℕ) (a b : List (List ℕ)) → i < length fields → slot fields i ≡ None → AddsEdges (PlacesBelow live node x fields i) a b → AddsEdges (PlacesBelow live node x fields (i + 1)) a b
 Places-skip live node x fields i a b l s d =
     let more = take-next fields i None (slot-at fields i None l s) in
-    Adds-as (PlacesBelow live node x fields i) (PlacesBelow live node x fields (i + 1)) a b
+    AddsEdges-as (PlacesBelow live node x fields i) (PlacesBelow live node x fields (i + 1)) a b
     (λ k j e. elim (Contains-push_cases (take i fields) None (Some e.target) (subst (λ t. Contains t (Some e.target)) more e.held)) [
       | inl h ↦ record { target = e.target; held = h; there = e.there; ends = e.ends }
       | inr h ↦ absurd (none_some e.target h)
@@ -169,17 +169,17 @@ Places-skip live node x fields i a b l s d =
     d
 
 -- all places of a live object: the edges over its fields
-pub Places-all : (h : Heap) (node : ℕ → ℕ) (x i : ℕ) (a b : List (List ℕ)) → IsLive h x → length (fields_of h x) ≤ i → Adds (PlacesBelow (IsLive h) node x (fields_of h x) i) a b → Adds (FieldEdge h node x) a b
+pub Places-all : (h : Heap) (node : ℕ → ℕ) (x i : ℕ) (a b : List (List ℕ)) → IsLive h x → length (fields_of h x) ≤ i → AddsEdges (PlacesBelow (IsLive h) node x (fields_of h x) i) a b → AddsEdges (FieldEdge h node x) a b
 Places-all h node x i a b v l d =
     let whole = take_all i (fields_of h x) l in
-    Adds-as (PlacesBelow (IsLive h) node x (fields_of h x) i) (FieldEdge h node x) a b
+    AddsEdges-as (PlacesBelow (IsLive h) node x (fields_of h x) i) (FieldEdge h node x) a b
     (λ k j e. record { target = e.target; held = subst (λ t. Contains t (Some e.target)) (sym whole) e.field.field; there = e.field.there; ends = e.ends })
     (λ k j e. record { target = e.target; field = record { live = v; field = subst (λ t. Contains t (Some e.target)) whole e.held; there = e.there }; ends = e.ends })
     d
 
 -- a managed object's fields, and then its twin
-pub Object-twin : (g : Graph) (x p : ℕ) (a b c : List (List ℕ)) → ((q : ℕ) → (Some p ≡ Some q) ↔ IsJoined g x q) → Adds (ObjectField g x) a b → Adds (IsRound x (objects_in g + p)) b c → Adds (ObjectEdge g x) a c
-Object-twin g x p a b c t = Adds-then (ObjectField g x) (IsRound x (objects_in g + p)) (ObjectEdge g x) a b c
+pub Object-twin : (g : Graph) (x p : ℕ) (a b c : List (List ℕ)) → ((q : ℕ) → (Some p ≡ Some q) ↔ IsJoined g x q) → AddsEdges (ObjectField g x) a b → AddsEdges (IsRound x (objects_in g + p)) b c → AddsEdges (ObjectEdge g x) a c
+Object-twin g x p a b c t = AddsEdges-then (ObjectField g x) (IsRound x (objects_in g + p)) (ObjectEdge g x) a b c
     (λ k j e. elim e [
       | inl w ↦ inl w
       | inr w ↦ inr (subst (λ q. IsRound x (objects_in g + q) k j) (sym (some-same p w.twin ((t w.twin).1 w.joined))) w.ends)
@@ -188,8 +188,8 @@ Object-twin g x p a b c t = Adds-then (ObjectField g x) (IsRound x (objects_in g
     (λ k j e. inr (record { twin = p; joined = (t p).0 refl; ends = e }))
 
 -- a managed object without a twin
-pub Object-alone : (g : Graph) (x : ℕ) (a b : List (List ℕ)) → ((q : ℕ) → (None ≡ Some q) ↔ IsJoined g x q) → Adds (ObjectField g x) a b → Adds (ObjectEdge g x) a b
-Object-alone g x a b t = Adds-as (ObjectField g x) (ObjectEdge g x) a b
+pub Object-alone : (g : Graph) (x : ℕ) (a b : List (List ℕ)) → ((q : ℕ) → (None ≡ Some q) ↔ IsJoined g x q) → AddsEdges (ObjectField g x) a b → AddsEdges (ObjectEdge g x) a b
+Object-alone g x a b t = AddsEdges-as (ObjectField g x) (ObjectEdge g x) a b
     (λ k j e. elim e [ inl w ↦ w | inr w ↦ absurd (none_some w.twin ((t w.twin).1 w.joined)) ])
     (λ k j e. inl e)
 
@@ -197,19 +197,19 @@ Object-alone g x a b t = Adds-as (ObjectField g x) (ObjectEdge g x) a b
 abbrev pub BroughtBelow : (ℕ → ℕ → ℕ → Type 0) → ℕ → ℕ → ℕ → Type 0
 BroughtBelow brings i k j = (x : ℕ) × (x < i) × brings x k j
 
-pub Brought-none : (brings : ℕ → ℕ → ℕ → Type 0) (i : ℕ) (a : List (List ℕ)) → ((x k j : ℕ) → x < i → brings x k j → ⊥) → Adds (BroughtBelow brings i) a a
-Brought-none brings i a none = Adds-none (BroughtBelow brings i) a (λ k j e. none e.0 k j e.1 e.2)
+pub Brought-none : (brings : ℕ → ℕ → ℕ → Type 0) (i : ℕ) (a : List (List ℕ)) → ((x k j : ℕ) → x < i → brings x k j → ⊥) → AddsEdges (BroughtBelow brings i) a a
+Brought-none brings i a none = AddsEdges-none (BroughtBelow brings i) a (λ k j e. none e.0 k j e.1 e.2)
 
-pub Brought-push : (brings : ℕ → ℕ → ℕ → Type 0) (i : ℕ) (a b c : List (List ℕ)) → Adds (BroughtBelow brings i) a b → Adds (brings i) b c → Adds (BroughtBelow brings (i + 1)) a c
-Brought-push brings i a b c = Adds-then (BroughtBelow brings i) (brings i) (BroughtBelow brings (i + 1)) a b c
+pub Brought-push : (brings : ℕ → ℕ → ℕ → Type 0) (i : ℕ) (a b c : List (List ℕ)) → AddsEdges (BroughtBelow brings i) a b → AddsEdges (brings i) b c → AddsEdges (BroughtBelow brings (i + 1)) a c
+Brought-push brings i a b c = AddsEdges-then (BroughtBelow brings i) (brings i) (BroughtBelow brings (i + 1)) a b c
     (λ k j e. elim (last-or e.0 i e.1) [ inl l ↦ inl (e.0, l, e.2) | inr s ↦ inr (subst (λ x. brings x k j) s e.2) ])
     (λ k j e. (e.0, omega (arith, e.1), e.2))
     (λ k j e. (i, omega arith, e))
 
-pub Brought-skip : (brings : ℕ → ℕ → ℕ → Type 0) (i : ℕ) (a b : List (List ℕ)) → ((k j : ℕ) → brings i k j → ⊥) → Adds (BroughtBelow brings i) a b → Adds (BroughtBelow brings (i + 1)) a b
-Brought-skip brings i a b none d = Brought-push brings i a b b d (Adds-none (brings i) b none)
+pub Brought-skip : (brings : ℕ → ℕ → ℕ → Type 0) (i : ℕ) (a b : List (List ℕ)) → ((k j : ℕ) → brings i k j → ⊥) → AddsEdges (BroughtBelow brings i) a b → AddsEdges (BroughtBelow brings (i + 1)) a b
+Brought-skip brings i a b none d = Brought-push brings i a b b d (AddsEdges-none (brings i) b none)
 
-pub Brought-all : (brings : ℕ → ℕ → ℕ → Type 0) (i : ℕ) (a b : List (List ℕ)) → ((x k j : ℕ) → brings x k j → x < i) → Adds (BroughtBelow brings i) a b → Adds (λ k j. (x : ℕ) × brings x k j) a b
-Brought-all brings i a b all = Adds-as (BroughtBelow brings i) (λ k j. (x : ℕ) × brings x k j) a b
+pub Brought-all : (brings : ℕ → ℕ → ℕ → Type 0) (i : ℕ) (a b : List (List ℕ)) → ((x k j : ℕ) → brings x k j → x < i) → AddsEdges (BroughtBelow brings i) a b → AddsEdges (λ k j. (x : ℕ) × brings x k j) a b
+Brought-all brings i a b all = AddsEdges-as (BroughtBelow brings i) (λ k j. (x : ℕ) × brings x k j) a b
     (λ k j e. (e.0, all e.0 k j e.1, e.1))
     (λ k j e. (e.0, e.2))

@@ -15,10 +15,10 @@ use Rattle.joint_model.proofs.WalkLemmas.{Reached-keeps, Reached-start, Reached-
 use Rattle.joint_model.proofs.Members.{Contains-map, Contains-map_cases, All-members}
 use Rattle.reachability.specs.Marks.{Leads, IsMarked}
 use Rattle.joint_marking.specs.Gathered.{RisesWith}
-use Rattle.joint_marking.specs.Nodes.{Adds, AreLive, HasEdges, HasNone, EdgesOfObjects, EdgesOfPeers, ObjectEdge, IsLiveRow, IsLiveRoot, IsRootNode, IsUnmarkedPeer, node_count, node_of, objects_in, targets_at}
+use Rattle.joint_marking.specs.Nodes.{AddsEdges, AreLive, HasEdges, HasNone, EdgesOfObjects, EdgesOfPeers, ObjectEdge, IsLiveRow, IsLiveRoot, IsRootNode, IsUnmarkedPeer, node_count, node_of, objects_in, targets_at}
 
 -- the rows have the edges of both heaps, which were added one after the other
-pub HasEdges-from : (g : Graph) (a b c : List (List ℕ)) → HasNone (node_count g) a → Adds (EdgesOfObjects g) a b → Adds (EdgesOfPeers g) b c → HasEdges g c
+pub HasEdges-from : (g : Graph) (a b c : List (List ℕ)) → HasNone (node_count g) a → AddsEdges (EdgesOfObjects g) a b → AddsEdges (EdgesOfPeers g) b c → HasEdges g c
 HasEdges-from g a b c n x y = record {
   len = y.len ∙ (x.len ∙ n.len);
   exact = λ k j. (

@@ -52,7 +52,7 @@ pub record HasNone (count : ℕ) (rows : List (List ℕ)) : Type 0 where
   pub none : (k j : ℕ) → Contains (targets_at rows k) j → ⊥
 
 -- `new` are the rows with these further edges, and no others
-pub record Adds (edge : ℕ → ℕ → Type 0) (old new : List (List ℕ)) : Type 0 where
+pub record AddsEdges (edge : ℕ → ℕ → Type 0) (old new : List (List ℕ)) : Type 0 where
   pub len : length new ≡ length old
   pub exact : (k j : ℕ) → Contains (targets_at new k) j ↔ (Contains (targets_at old k) j ⊎ edge k j)
 

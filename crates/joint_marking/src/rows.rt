@@ -2,7 +2,7 @@
 
 ghost use Rattle.std.specs.Prelude.{◌≡◌, ℕ, ◌+◌, ◌<◌, OnOk, IfOk, length, map, Some};
 ghost use Rattle.joint_model.specs.Heaps.{IsLive};
-ghost use Rattle.joint_marking.specs.Nodes.{Adds, HasEdges, ObjectEdge, PeerEdge, ObjectField, EdgesOfObjects, EdgesOfPeers, IsPair, IsRound, HasNone, node_count, objects_in, targets_at};
+ghost use Rattle.joint_marking.specs.Nodes.{AddsEdges, HasEdges, ObjectEdge, PeerEdge, ObjectField, EdgesOfObjects, EdgesOfPeers, IsPair, IsRound, HasNone, node_count, objects_in, targets_at};
 
 use crate::walked::JointWalked;
 use joint_model::{MNum, PNum};
@@ -44,7 +44,7 @@ impl NodeRows {
         requires from { k < length self.old }
         requires to { j < length self.old }
         ensures len { length self.new ≡ length self.old }
-        ensures adds { OnOk result (Adds (IsPair k j) self.old self.new) }
+        ensures adds { OnOk result (AddsEdges (IsPair k j) self.old self.new) }
     {
         self.rows[k as usize].push(j)?;
         Ok(())
@@ -54,7 +54,7 @@ impl NodeRows {
     fn link(&mut self, k: u32, j: u32) -> Result<(), AllocError>
         requires from { k < length self.old }
         requires to { j < length self.old }
-        ensures { OnOk result (Adds (IsRound k j) self.old self.new) }
+        ensures { OnOk result (AddsEdges (IsRound k j) self.old self.new) }
     {
         self.add(k, j)?;
         self.add(j, k)?;
@@ -104,7 +104,7 @@ pub(crate) fn joint_rows<G: JointWalked>(alloc: Global, g: &G) -> Result<NodeRow
 // Adds the edges of all managed objects.
 fn add_objects<G: JointWalked>(g: &G, rows: &mut NodeRows) -> Result<(), AllocError>
     requires { length rows.old ≡ node_count (G.graph g.now) }
-    ensures { OnOk result (Adds (EdgesOfObjects (G.graph g.now)) rows.old rows.new) }
+    ensures { OnOk result (AddsEdges (EdgesOfObjects (G.graph g.now)) rows.old rows.new) }
 {
     for x in 1..g.objects() + 1 {
         if g.is_live_object(MNum(x)) {
@@ -118,7 +118,7 @@ fn add_objects<G: JointWalked>(g: &G, rows: &mut NodeRows) -> Result<(), AllocEr
 fn add_object<G: JointWalked>(g: &G, x: MNum, rows: &mut NodeRows) -> Result<(), AllocError>
     requires len { length rows.old ≡ node_count (G.graph g.now) }
     requires live { IsLive (G.graph g.now).managed.heap x.0 }
-    ensures { OnOk result (Adds (ObjectEdge (G.graph g.now) x.0) rows.old rows.new) }
+    ensures { OnOk result (AddsEdges (ObjectEdge (G.graph g.now) x.0) rows.old rows.new) }
 {
     add_object_fields(g, x, rows)?;
     if let Some(p) = g.twin(x) {
@@ -130,7 +130,7 @@ fn add_object<G: JointWalked>(g: &G, x: MNum, rows: &mut NodeRows) -> Result<(),
 fn add_object_fields<G: JointWalked>(g: &G, x: MNum, rows: &mut NodeRows) -> Result<(), AllocError>
     requires len { length rows.old ≡ node_count (G.graph g.now) }
     requires live { IsLive (G.graph g.now).managed.heap x.0 }
-    ensures { OnOk result (Adds (ObjectField (G.graph g.now) x.0) rows.old rows.new) }
+    ensures { OnOk result (AddsEdges (ObjectField (G.graph g.now) x.0) rows.old rows.new) }
 {
     for i in 0..g.object_fields(x) {
         if let Some(y) = g.object_field(x, i) {
@@ -143,7 +143,7 @@ fn add_object_fields<G: JointWalked>(g: &G, x: MNum, rows: &mut NodeRows) -> Res
 // Adds the fields of all peers.
 fn add_peers<G: JointWalked>(g: &G, rows: &mut NodeRows) -> Result<(), AllocError>
     requires { length rows.old ≡ node_count (G.graph g.now) }
-    ensures { OnOk result (Adds (EdgesOfPeers (G.graph g.now)) rows.old rows.new) }
+    ensures { OnOk result (AddsEdges (EdgesOfPeers (G.graph g.now)) rows.old rows.new) }
 {
     for p in 1..g.peers() + 1 {
         if g.is_live_peer(PNum(p)) {
@@ -157,7 +157,7 @@ fn add_peers<G: JointWalked>(g: &G, rows: &mut NodeRows) -> Result<(), AllocErro
 fn add_peer<G: JointWalked>(g: &G, p: PNum, rows: &mut NodeRows) -> Result<(), AllocError>
     requires len { length rows.old ≡ node_count (G.graph g.now) }
     requires live { IsLive (G.graph g.now).peers.heap p.0 }
-    ensures { OnOk result (Adds (PeerEdge (G.graph g.now) p.0) rows.old rows.new) }
+    ensures { OnOk result (AddsEdges (PeerEdge (G.graph g.now) p.0) rows.old rows.new) }
 {
     for i in 0..g.peer_fields(p) {
         if let Some(q) = g.peer_field(p, i) {

@@ -15,7 +15,7 @@ use Rattle.joint_model.proofs.Numbered.{Contains-set_cases, numbered-within, num
 use Rattle.joint_model.proofs.HeapLemmas.{IsLive-before, IsLive-left, IsLive-later}
 use Rattle.joint_model.proofs.Deciding.{true_false}
 use Rattle.object_heap.specs.Tidy.{IsTidy, CanFree}
-use Rattle.object_heap.specs.Flags.{IsUp, AreFlags, IsSound, TakesDown, up_count}
+use Rattle.object_heap.specs.Flags.{IsUp, AreLiveFlags, IsSound, TakesDown, up_count}
 use Rattle.object_heap.proofs.Numbered.{number-at, map-take_more, numbered_set-index, row-is, row-set_cases, row-there}
 
 -- liveness depends on how many objects were made and on which were freed alone
@@ -121,7 +121,7 @@ IsSound-empty rows gone ups vs ss room e f u v t =
     }
 
 -- a flag tells whether an object is live
-pub IsLive-flag : (h : Heap) (ups : List Bool) (x : ℕ) (b : Bool) → AreFlags h ups → numbered_at ups x ≡ Some b → IsTrue b ↔ IsLive h x
+pub IsLive-flag : (h : Heap) (ups : List Bool) (x : ℕ) (b : Bool) → AreLiveFlags h ups → numbered_at ups x ≡ Some b → IsTrue b ↔ IsLive h x
 IsLive-flag h ups x true f e = (λ t. f.up x e, λ l. refl)
 IsLive-flag h ups x false f e = ((λ t. (let g : ⊥ = cc in absurd g)), λ l. absurd (l.kept (f.down x e)))
 
@@ -248,7 +248,7 @@ TakesDown-next f xs i x n a b t up rises l e m =
     (TakesDown-push (map f (take i xs)) n a b t h.0 h.1))
 
 -- a live object's flag is up
-pub IsUp-live : (h : Heap) (ups : List Bool) (x : ℕ) → AreFlags h ups → IsLive h x → IsUp ups x
+pub IsUp-live : (h : Heap) (ups : List Bool) (x : ℕ) → AreLiveFlags h ups → IsLive h x → IsUp ups x
 IsUp-live h ups x f l =
     let r = numbered-made ups x l.made.0 (omega (arith, l.made.1, f.len)) in
     r.1 ∙ ap (λ b. Some b) ((IsLive-flag h ups x r.0 f r.1).1 l)

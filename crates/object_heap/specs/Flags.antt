@@ -15,7 +15,7 @@ up_count (true ∷ flags) = up_count flags + 1
 up_count (false ∷ flags) = up_count flags
 
 -- the flags tell which objects are live
-pub record AreFlags (h : Heap) (flags : List Bool) : Type 0 where
+pub record AreLiveFlags (h : Heap) (flags : List Bool) : Type 0 where
   pub len : length flags ≡ length h.fields
   pub up : (x : ℕ) → IsUp flags x → IsLive h x
   pub down : (x : ℕ) → numbered_at flags x ≡ Some false → Contains h.freed x
@@ -31,5 +31,5 @@ pub record TakesDown (xs : List ℕ) (old new : List Bool) : Type 0 where
 -- what holds of a heap with its flags and the room of its list of freed objects
 pub record IsSound (h : Heap) (ups : List Bool) (capacity : ℕ) : Type 0 where
   pub tidy : IsTidy h
-  pub flags : AreFlags h ups
+  pub flags : AreLiveFlags h ups
   pub room : length h.fields ≤ capacity

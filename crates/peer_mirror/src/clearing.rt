@@ -7,7 +7,7 @@ ghost use Rattle.joint_model.specs.PeerReplay.{MayClear, Mirror, Refers};
 ghost use Rattle.joint_model.specs.Sides.{peer_rules, AddsLawful, MayDraw};
 ghost use Rattle.joint_model.specs.Told.{nothing};
 ghost use Rattle.peer_side.specs.Cycles.{clears, reserve_over};
-ghost use Rattle.peer_side.specs.Mirrors.{AreTargetsRestored, IsRestoredStrong};
+ghost use Rattle.peer_side.specs.Mirrors.{AreTargetsRestored, HasRestoredHandle};
 ghost use Rattle.peer_side.specs.Sides.{seen};
 
 use joint_model::{Cycle, Draw, Op, Thread};
@@ -24,7 +24,7 @@ pub fn clear<D: Draw>(side: &mut PeerSide, draw: &mut D, index: u32, cycle: Cycl
     ensures adds { AddsLawful peer_rules (record { floor = D.floor; left = D.left; may = D.may; drew = D.drew }) draw.old draw.new (seen side.old) (seen side.new) (clears index cycle) nothing }
     ensures number { side.new.entries ≡ side.old.entries ++ numbered result (clears index cycle) ∷ [] }
     ensures none { side.new.state.refs ≡ [] }
-    ensures kept { (m : Mirror) (p q : ℕ) → side.old.state.mirror ≡ Some m → Refers side.old.state.refs p q → IsRestoredStrong side.old.state m p → IsLive side.old.state.peers.heap q }
+    ensures kept { (m : Mirror) (p q : ℕ) → side.old.state.mirror ≡ Some m → Refers side.old.state.refs p q → HasRestoredHandle side.old.state m p → IsLive side.old.state.peers.heap q }
     ensures peers { side.new.state.peers ≡ side.old.state.peers }
     ensures reserve { side.new.reserve ≡ reserve_over side.old.reserve }
 {

@@ -27,7 +27,7 @@ use Rattle.peer_side.specs.Cycles.{clears}
 use Rattle.peer_side.specs.Marks.{IsExact}
 use Rattle.peer_side.specs.Mirroring.{strong_row}
 use Rattle.peer_side.specs.MirrorLaws.{state_of}
-use Rattle.peer_side.specs.Mirrors.{Mirrors, AreTargetsRestored, IsRestoredStrong, mirror_as, mirror_in, mirrors_in, owed_by, owed_next}
+use Rattle.peer_side.specs.Mirrors.{Mirrors, AreTargetsRestored, HasRestoredHandle, mirror_as, mirror_in, mirrors_in, owed_by, owed_next}
 use Rattle.peer_side.specs.Rows.{Rows}
 use Rattle.peer_side.specs.Sides.{IsSide, IsKnown, marking_in, owed, state_with}
 use Rattle.peer_side.proofs.Cycles.{cycles-next, marking-same, state-eq}
@@ -48,18 +48,18 @@ is-on None p e = absurd (none_some p e)
 is-on (Some i) p e = record { issue = i; made = refl; peer = same_Some i.peer p e }
 
 -- so it is live, and an open marking spares it
-restored-live : (s : PeerReplay) (m : Mirror) (p : ℕ) → IsPeerKept s → IsRestoredStrong s m p → IsLive s.peers.heap p
+restored-live : (s : PeerReplay) (m : Mirror) (p : ℕ) → IsPeerKept s → HasRestoredHandle s m p → IsLive s.peers.heap p
 restored-live s m p kept r =
     let i = is-on (numbered_at s.peers.issued r.handle) p r.peer in
     subst (IsLive s.peers.heap) i.peer (kept.handles.uncleared r.handle strong_row i.issue (row-tabled (numbered_at s.table r.handle) strong_row r.strong_now) i.made refl)
 
-restored-spared : (s : PeerReplay) (m : Mirror) (p : ℕ) (mk : Marking) → IsPeerKept s → s.marking ≡ Some mk → IsRestoredStrong s m p → IsSpared mk p
+restored-spared : (s : PeerReplay) (m : Mirror) (p : ℕ) (mk : Marking) → IsPeerKept s → s.marking ≡ Some mk → HasRestoredHandle s m p → IsSpared mk p
 restored-spared s m p mk kept e r =
     let i = is-on (numbered_at s.peers.issued r.handle) p r.peer in
     subst (IsSpared mk) i.peer ((kept.marking mk e).strong_ones r.handle strong_row i.issue (row-tabled (numbered_at s.table r.handle) strong_row r.strong_now) refl i.made)
 
 -- no reference led from such a peer to a freed one
-pub target-kept : (s : PeerReplay) (m : Mirror) (p q : ℕ) → IsPeerKept s → Refers s.refs p q → IsRestoredStrong s m p → IsLive s.peers.heap q
+pub target-kept : (s : PeerReplay) (m : Mirror) (p q : ℕ) → IsPeerKept s → Refers s.refs p q → HasRestoredHandle s m p → IsLive s.peers.heap q
 target-kept s m p q kept refers r = kept.references.live p q refers (restored-live s m p kept r)
 
 -- the mirrored cycle is kept

@@ -18,7 +18,7 @@ use Rattle.joint_model.specs.Draws.{AllBelow, numbered}
 use Rattle.joint_model.specs.Heaps.{answer}
 use Rattle.joint_model.specs.Lines.{IsPeerThread, IsDriver, IsEvent, is_peer_event}
 use Rattle.joint_model.specs.declared.events.Op.{Op}
-use Rattle.peer_side.specs.Makings.{IsMarkEvent, Passes}
+use Rattle.peer_side.specs.Makings.{IsMarkEvent, RefusesMarking}
 use Rattle.peer_side.specs.Rows.{marking_after}
 use Rattle.joint_model.specs.Listed.{Stock}
 use Rattle.joint_model.specs.PeerReplay.{PeerReplay, Marking, Mirror, IsSweep, opening_peer_replay, strong_peers, begun, swept, swept_of, is_thread, peer_answer}
@@ -279,7 +279,7 @@ mark-side t op.Begin w caller = (caller, refl)
 mark-side t op.Sweep w caller = (caller, refl)
 mark-side t _ w caller = absurd w
 
-module _ (rows : Rows) (o : Option OpenMarking) (n : ℕ) (m : Mirrors) (stock : Stock) (after : List Entry) (k : ℕ) (made : Made) (side : IsSide rows o n m stock) (added : after ≡ stock.entries ++ numbered k made ∷ []) (passes : Passes (state_with stock.entries rows o n m) made) where
+module _ (rows : Rows) (o : Option OpenMarking) (n : ℕ) (m : Mirrors) (stock : Stock) (after : List Entry) (k : ℕ) (made : Made) (side : IsSide rows o n m stock) (added : after ≡ stock.entries ++ numbered k made ∷ []) (passes : RefusesMarking (state_with stock.entries rows o n m) made) where
   pass-marking : marking_in rows.issued after o ≡ marking_in rows.issued stock.entries o
   pass-marking =
       ap (λ l. marking_in rows.issued l o) added
@@ -299,7 +299,7 @@ module _ (rows : Rows) (o : Option OpenMarking) (n : ℕ) (m : Mirrors) (stock :
   pass-exact : (mk : Marking) → marking_in rows.issued after o ≡ Some mk → IsExact (state_with after rows o n m) mk rows.rows
   pass-exact mk e = subst (λ s. IsExact s mk rows.rows) (sym pass-state) (side.exact mk (sym (ap (λ (s : PeerReplay). s.marking) pass-state) ∙ e))
 
-pub IsSide-pass : (rows : Rows) (o : Option OpenMarking) (n : ℕ) (m : Mirrors) (stock later : Stock) (k floor : ℕ) (made : Made) → IsSide rows o n m stock → later.entries ≡ stock.entries ++ numbered k made ∷ [] → Passes (state_with stock.entries rows o n m) made → AllBelow stock.entries floor → floor ≤ k
+pub IsSide-pass : (rows : Rows) (o : Option OpenMarking) (n : ℕ) (m : Mirrors) (stock later : Stock) (k floor : ℕ) (made : Made) → IsSide rows o n m stock → later.entries ≡ stock.entries ++ numbered k made ∷ [] → RefusesMarking (state_with stock.entries rows o n m) made → AllBelow stock.entries floor → floor ≤ k
     → rows.tabled + owed o + owes m ≤ later.spare → length later.entries + later.spare ≤ 4294967295 → IsSide rows o n m later
 IsSide-pass rows o n m stock later k floor made side added passes below above room limit =
     IsSide-next rows rows o o n n m stock later k floor made nothing added below above (pass-goes rows o n m stock later.entries k made side added passes) (safe-nothing (state_with stock.entries rows o n m) made.op) room limit (omega arith)

@@ -28,27 +28,27 @@ use Rattle.global_handles.specs.declared.Hold.TheVariants.{Held, Raw}
 use Rattle.global_handles.specs.declared.Strength.{Strength}
 use Rattle.global_handles.specs.declared.Strength.TheVariants.{Strong}
 use Rattle.peer_side.specs.declared.rows.Issue.{Issue}
-use Rattle.peer_side.specs.Rows.{Rows, Answers, peers_in, with_rows, issued_to, issued_as, strength_as, marking_by, marking_after, GoesBy}
+use Rattle.peer_side.specs.Rows.{Rows, PeersAnswer, peers_in, with_rows, issued_to, issued_as, strength_as, marking_by, marking_after, GoesBy}
 
 -- an event that issues no handle
-pub answers-still : (old new : Rows) (a : Answered Peers) (r : Reply) → a ≡ answer r (peers_in new) → new.issued ≡ old.issued → new.table ≡ old.table → Answers old a r new
+pub answers-still : (old new : Rows) (a : Answered Peers) (r : Reply) → a ≡ answer r (peers_in new) → new.issued ≡ old.issued → new.table ≡ old.table → PeersAnswer old a r new
 answers-still old new a r e issued table = record { peers = e; table = table ∙ sym (table-still (with_rows opening_peer_replay old) (peers_in new) issued) }
 
 -- the heap's own events
-pub answers-heap : (old : Rows) (rows : HeapRows) (operation : (ℕ → Reply) → Answered Heap) (d : Done) (r : Reply) → Did operation d rows.heap → r ≡ say peer_name d → Answers old (on_peer_heap (peers_in old) (operation peer_name)) r (record old { rows = rows })
+pub answers-heap : (old : Rows) (rows : HeapRows) (operation : (ℕ → Reply) → Answered Heap) (d : Done) (r : Reply) → Did operation d rows.heap → r ≡ say peer_name d → PeersAnswer old (on_peer_heap (peers_in old) (operation peer_name)) r (record old { rows = rows })
 answers-heap old rows operation d r did said = answers-still old (record old { rows = rows }) _ r
     (ap (on_peer_heap (peers_in old)) (did peer_name) ∙ ap (λ z. answer z (record (peers_in old) { heap = rows.heap })) (sym said)) refl refl
 
 -- an event of the peers, as one of the replay
-pub goes-answers : (old new : Rows) (a : Answered Peers) (r : Reply) → Answers old a r new → (s : PeerReplay) → on_table (with_rows s old) a ≡ answer r (with_rows s new)
+pub goes-answers : (old new : Rows) (a : Answered Peers) (r : Reply) → PeersAnswer old a r new → (s : PeerReplay) → on_table (with_rows s old) a ≡ answer r (with_rows s new)
 goes-answers old new a r w s = ap (on_table (with_rows s old)) w.peers ∙ ap (λ t. answer r (record s { peers = peers_in new; table = t })) (sym w.table)
 
 -- `new`: refused, or done
-pub answers-full : (old : Rows) (v n : ℕ) → is_full old.rows.heap.fields ≡ true → Answers old (peer_made (peers_in old) v n) says.Full old
+pub answers-full : (old : Rows) (v n : ℕ) → is_full old.rows.heap.fields ≡ true → PeersAnswer old (peer_made (peers_in old) v n) says.Full old
 answers-full old v n full = answers-still old old _ says.Full (rw full refl) refl refl
 
 pub answers-made : (old : Rows) (rows : HeapRows) (sorts : List Sort) (v n : ℕ) (p : PNum) → is_full old.rows.heap.fields ≡ false → p.0 ≡ next_number old.rows.heap → rows.heap ≡ with_var (with_object old.rows.heap n) v (Some p.0) → sorts ≡ old.sorts ++ Framework ∷ []
-    → Answers old (peer_made (peers_in old) v n) (says.P p) (record old { rows = rows; sorts = sorts })
+    → PeersAnswer old (peer_made (peers_in old) v n) (says.P p) (record old { rows = rows; sorts = sorts })
 answers-made old rows sorts v n p full number grown more =
     let peer : p ≡ record { 0 = next_number old.rows.heap } = ap (λ (m : ℕ). (let q : PNum = record { 0 = m } in q)) number in
     answers-still old (record old { rows = rows; sorts = sorts }) _ (says.P p) (rw (full, grown, more, peer) refl) refl refl
@@ -57,14 +57,14 @@ answers-made old rows sorts v n p full number grown more =
 pub globalised-some : (old : Rows) (g v p : ℕ) (st : Strength) → slot old.rows.heap.vars v ≡ Some p → globalised (peers_in old) g v (strength_as st) ≡ name_given (peers_in old) g p (strength_as st) (slot old.names g)
 globalised-some old g v p st var = ap (λ o. elim o [ None ↦ answer says.Empty (peers_in old) | Some q ↦ name_given (peers_in old) g q (strength_as st) (slot old.names g) ]) var
 
-pub answers-taken : (old : Rows) (g p : ℕ) (st : Strength) (o : Option ℕ) (h : ℕ) → o ≡ Some h → Answers old (name_given (peers_in old) g p (strength_as st) o) says.Taken old
+pub answers-taken : (old : Rows) (g p : ℕ) (st : Strength) (o : Option ℕ) (h : ℕ) → o ≡ Some h → PeersAnswer old (name_given (peers_in old) g p (strength_as st) o) says.Taken old
 answers-taken old g p st o h name = answers-still old old (name_given (peers_in old) g p (strength_as st) o) says.Taken (rw name refl) refl refl
 
-pub answers-no_handle : (old : Rows) (g p : ℕ) (st : Strength) (o : Option ℕ) → o ≡ None → is_full old.issued ≡ true → Answers old (name_given (peers_in old) g p (strength_as st) o) says.Full old
+pub answers-no_handle : (old : Rows) (g p : ℕ) (st : Strength) (o : Option ℕ) → o ≡ None → is_full old.issued ≡ true → PeersAnswer old (name_given (peers_in old) g p (strength_as st) o) says.Full old
 answers-no_handle old g p st o name full = answers-still old old (name_given (peers_in old) g p (strength_as st) o) says.Full (rw (name, full) refl) refl refl
 
 pub answers-named : (old : Rows) (g : ℕ) (p : PNum) (st : Strength) (o : Option ℕ) (h : HNum) → o ≡ None → is_full old.issued ≡ false → h.0 ≡ length old.issued + 1
-    → Answers old (name_given (peers_in old) g p.0 (strength_as st) o) (says.H h) (record (issued_to old record { peer = p; hold = Raw; strength = st }) { names = slice_set old.names g (Some h.0) })
+    → PeersAnswer old (name_given (peers_in old) g p.0 (strength_as st) o) (says.H h) (record (issued_to old record { peer = p; hold = Raw; strength = st }) { names = slice_set old.names g (Some h.0) })
 answers-named old g p st o h name full number =
     let i : Issue = record { peer = p; hold = Raw; strength = st } in
     let new : Rows = record (issued_to old i) { names = slice_set old.names g (Some h.0) } in
@@ -81,15 +81,15 @@ goes-unnamed old g h n some s =
     rw (some, name_freed) (ap (λ t. answer says.Ok (record s { peers = peers_in new; table = t })) (table-still (with_rows s (record old { table = numbered_set old.table h None })) (peers_in new) refl))
 
 -- `make`: refused, or done
-pub answers-no_peer : (old : Rows) (sort : Sort) (n : ℕ) → is_full old.rows.heap.fields ≡ true → Answers old (pair_made (peers_in old) sort n) says.Full old
+pub answers-no_peer : (old : Rows) (sort : Sort) (n : ℕ) → is_full old.rows.heap.fields ≡ true → PeersAnswer old (pair_made (peers_in old) sort n) says.Full old
 answers-no_peer old sort n full = answers-still old old _ says.Full (rw full refl) refl refl
 
-pub answers-no_pair : (old : Rows) (sort : Sort) (n : ℕ) → is_full old.rows.heap.fields ≡ false → is_full old.issued ≡ true → Answers old (pair_made (peers_in old) sort n) says.Full old
+pub answers-no_pair : (old : Rows) (sort : Sort) (n : ℕ) → is_full old.rows.heap.fields ≡ false → is_full old.issued ≡ true → PeersAnswer old (pair_made (peers_in old) sort n) says.Full old
 answers-no_pair old sort n room full = answers-still old old _ says.Full (rw (room, full) refl) refl refl
 
 pub answers-pair : (old : Rows) (rows : HeapRows) (sorts : List Sort) (sort : Sort) (n : ℕ) (p : PNum) (h : HNum) → is_full old.rows.heap.fields ≡ false → is_full old.issued ≡ false → p.0 ≡ next_number old.rows.heap → h.0 ≡ length old.issued + 1
     → rows.heap ≡ with_object old.rows.heap n → sorts ≡ old.sorts ++ sort ∷ []
-    → Answers old (pair_made (peers_in old) sort n) (says.Made p h) (record (issued_to old record { peer = p; hold = Held; strength = Strong }) { rows = rows; sorts = sorts })
+    → PeersAnswer old (pair_made (peers_in old) sort n) (says.Made p h) (record (issued_to old record { peer = p; hold = Held; strength = Strong }) { rows = rows; sorts = sorts })
 answers-pair old rows sorts sort n p h room left number next grown more =
     let i : Issue = record { peer = p; hold = Held; strength = Strong } in
     let new : Rows = record (issued_to old i) { rows = rows; sorts = sorts } in
@@ -98,14 +98,14 @@ answers-pair old rows sorts sort n p h room left number next grown more =
     record { peers = rw (room, left, grown, more, peer, handle) refl; table = sym (table-issued (with_rows opening_peer_replay old) (peers_in new) (issued_as i) refl) }
 
 -- `grip`: refused, or done
-pub answers-null : (old : Rows) (x : ℕ) → slot old.rows.heap.statics x ≡ None → Answers old (gripped (peers_in old) x) says.Null old
+pub answers-null : (old : Rows) (x : ℕ) → slot old.rows.heap.statics x ≡ None → PeersAnswer old (gripped (peers_in old) x) says.Null old
 answers-null old x none = answers-still old old _ says.Null (rw (none, gripped) refl) refl refl
 
-pub answers-no_grip : (old : Rows) (x p : ℕ) → slot old.rows.heap.statics x ≡ Some p → is_full old.issued ≡ true → Answers old (gripped (peers_in old) x) says.Full old
+pub answers-no_grip : (old : Rows) (x p : ℕ) → slot old.rows.heap.statics x ≡ Some p → is_full old.issued ≡ true → PeersAnswer old (gripped (peers_in old) x) says.Full old
 answers-no_grip old x p some full = answers-still old old _ says.Full (rw (some, full, gripped) refl) refl refl
 
 pub answers-gripped : (old : Rows) (x : ℕ) (p : PNum) (h : HNum) (sort : Sort) (n : ℕ) → slot old.rows.heap.statics x ≡ Some p.0 → is_full old.issued ≡ false → h.0 ≡ length old.issued + 1 → sort ≡ sort_of (peers_in old) p.0 → n ≡ length (fields_of old.rows.heap p.0)
-    → Answers old (gripped (peers_in old) x) (says.Gripped p h sort n) (issued_to old record { peer = p; hold = Held; strength = Strong })
+    → PeersAnswer old (gripped (peers_in old) x) (says.Gripped p h sort n) (issued_to old record { peer = p; hold = Held; strength = Strong })
 answers-gripped old x p h sort n some full number kind len =
     let i : Issue = record { peer = p; hold = Held; strength = Strong } in
     let new : Rows = issued_to old i in
@@ -113,23 +113,23 @@ answers-gripped old x p h sort n some full number kind len =
     record { peers = rw (some, full, handle, kind, len, gripped) refl; table = sym (table-issued (with_rows opening_peer_replay old) (peers_in new) (issued_as i) refl) }
 
 -- `wread`: refused, or done
-pub answers-unread : (old : Rows) (target : ℕ → Option ℕ) (v g : ℕ) → slot old.names g ≡ None → Answers old (name_read target (peers_in old) v g) says.Unset old
+pub answers-unread : (old : Rows) (target : ℕ → Option ℕ) (v g : ℕ) → slot old.names g ≡ None → PeersAnswer old (name_read target (peers_in old) v g) says.Unset old
 answers-unread old target v g none = answers-still old old _ says.Unset (rw (none, name_read) refl) refl refl
 
 pub name_read-some : (old : Rows) (target : ℕ → Option ℕ) (v g h : ℕ) → slot old.names g ≡ Some h → name_read target (peers_in old) v g ≡ peer_read (peers_in old) v (target h)
 name_read-some old target v g h name = ap (λ o. elim o [ None ↦ answer says.Unset (peers_in old) | Some k ↦ peer_read (peers_in old) v (target k) ]) name
 
-pub answers-no_read : (old : Rows) (v : ℕ) (o : Option ℕ) → o ≡ None → Answers old (peer_read (peers_in old) v o) says.Gone old
+pub answers-no_read : (old : Rows) (v : ℕ) (o : Option ℕ) → o ≡ None → PeersAnswer old (peer_read (peers_in old) v o) says.Gone old
 answers-no_read old v o none = answers-still old old (peer_read (peers_in old) v o) says.Gone (rw none refl) refl refl
 
-pub answers-read : (old : Rows) (rows : HeapRows) (v : ℕ) (o : Option ℕ) (p : PNum) → o ≡ Some p.0 → rows.heap ≡ with_var old.rows.heap v (Some p.0) → Answers old (peer_read (peers_in old) v o) (says.P p) (record old { rows = rows })
+pub answers-read : (old : Rows) (rows : HeapRows) (v : ℕ) (o : Option ℕ) (p : PNum) → o ≡ Some p.0 → rows.heap ≡ with_var old.rows.heap v (Some p.0) → PeersAnswer old (peer_read (peers_in old) v o) (says.P p) (record old { rows = rows })
 answers-read old rows v o p some named = answers-still old (record old { rows = rows }) (peer_read (peers_in old) v o) (says.P p) (rw (some, named) refl) refl refl
 
 -- `land`: refused, or done
-pub answers-no_land : (old : Rows) (x : ℕ) (o : Option ℕ) → o ≡ None → Answers old (landed (peers_in old) x o) says.Gone old
+pub answers-no_land : (old : Rows) (x : ℕ) (o : Option ℕ) → o ≡ None → PeersAnswer old (landed (peers_in old) x o) says.Gone old
 answers-no_land old x o none = answers-still old old (landed (peers_in old) x o) says.Gone (rw none refl) refl refl
 
-pub answers-landed : (old : Rows) (rows : HeapRows) (x : ℕ) (o : Option ℕ) (p : PNum) → o ≡ Some p.0 → rows.heap ≡ with_static old.rows.heap x (Some p.0) → Answers old (landed (peers_in old) x o) (says.P p) (record old { rows = rows })
+pub answers-landed : (old : Rows) (rows : HeapRows) (x : ℕ) (o : Option ℕ) (p : PNum) → o ≡ Some p.0 → rows.heap ≡ with_static old.rows.heap x (Some p.0) → PeersAnswer old (landed (peers_in old) x o) (says.P p) (record old { rows = rows })
 answers-landed old rows x o p some named = answers-still old (record old { rows = rows }) (landed (peers_in old) x o) (says.P p) (rw (some, named) refl) refl refl
 
 -- what a name or a handle gave is brought back
@@ -138,14 +138,14 @@ brings-answer s (says.P p) = refl
 brings-answer s _ = refl
 
 -- the events of `wread` and `land`
-pub goes-read : (old new : Rows) (t : Thread) (o : Op) (v : Var) (g : GName) (r : Reply) (at : ℕ) → o ≡ op.Line (act.WRead v g) → at ≡ place (thread_number t) v.0 → Answers old (name_read (table_target (with_rows opening_peer_replay old)) (peers_in old) at g.0) r new → GoesBy old t o r new
+pub goes-read : (old new : Rows) (t : Thread) (o : Op) (v : Var) (g : GName) (r : Reply) (at : ℕ) → o ≡ op.Line (act.WRead v g) → at ≡ place (thread_number t) v.0 → PeersAnswer old (name_read (table_target (with_rows opening_peer_replay old)) (peers_in old) at g.0) r new → GoesBy old t o r new
 goes-read old new t o v g r at is place' w = λ s cites.
     let target = table_target (with_rows opening_peer_replay old) in
-    let here : Answers old (name_read target (peers_in old) (place (thread_number t) v.0) g.0) r new = subst (λ z. Answers old (name_read target (peers_in old) z g.0) r new) place' w in
+    let here : PeersAnswer old (name_read target (peers_in old) (place (thread_number t) v.0) g.0) r new = subst (λ z. PeersAnswer old (name_read target (peers_in old) z g.0) r new) place' w in
     let done : on_table (with_rows s old) (name_read target (peers_in old) (place (thread_number t) v.0) g.0) ≡ answer r (with_rows s new) = goes-answers old new _ r here s in
     subst (λ z. peer_answer (with_rows s old) t z cites nothing ≡ answer r (record (with_rows s new) { marking = marking_after s.marking z r })) (sym is) (ap brings done ∙ brings-answer (with_rows s new) r)
 
-pub goes-landed : (old new : Rows) (t : Thread) (o : Op) (h : HNum) (x : StaticNo) (r : Reply) → o ≡ op.Land h x → Answers old (landed (peers_in old) x.0 (table_target (with_rows opening_peer_replay old) h.0)) r new → GoesBy old t o r new
+pub goes-landed : (old new : Rows) (t : Thread) (o : Op) (h : HNum) (x : StaticNo) (r : Reply) → o ≡ op.Land h x → PeersAnswer old (landed (peers_in old) x.0 (table_target (with_rows opening_peer_replay old) h.0)) r new → GoesBy old t o r new
 goes-landed old new t o h x r is w = λ s cites.
     let done : on_table (with_rows s old) (landed (peers_in old) x.0 (table_target (with_rows opening_peer_replay old) h.0)) ≡ answer r (with_rows s new) = goes-answers old new _ r w s in
     subst (λ z. peer_answer (with_rows s old) t z cites nothing ≡ answer r (record (with_rows s new) { marking = marking_after s.marking z r })) (sym is) (ap brings done ∙ brings-answer (with_rows s new) r)

@@ -21,7 +21,7 @@ use Rattle.joint_model.specs.PeerReplay.{PeerReplay, Marking, PeerAllows, SweepA
 use Rattle.joint_model.specs.Sides.{Side, Drawing, Making, GoesOn, MayDraw, AddsLawful, AddsInTurn, peer_rules}
 use Rattle.joint_model.specs.Told.{Told, nothing, sweep_of}
 use Rattle.joint_model.proofs.Deciding.{true_false}
-use Rattle.peer_side.specs.Makings.{IsSideStep, MayStep, MayDrawStep, Passes, collect_makings, gone_since, step_makings}
+use Rattle.peer_side.specs.Makings.{IsSideStep, MayStep, MayDrawStep, RefusesMarking, collect_makings, gone_since, step_makings}
 use Rattle.peer_side.specs.Sides.{begins, ends, IsEnded, IsMarkingOf}
 use Rattle.peer_side.specs.Steps.{IsPeerStep}
 
@@ -78,7 +78,7 @@ draws-on d before after old new m told t o adds peer may = record {
 }
 
 -- a begin is refused where a marking is open
-pub begin-passes : (s : PeerReplay) (t : Thread) (i : ℕ) (p : Number × Thread) → IsMarkingOf (Some p) s.marking → (IsPeerThread t ⊎ IsDriver t) → Passes s (record { caller = t; index = i; op = op.Begin; reply = says.MarkOpen p.0; cites = None })
+pub begin-passes : (s : PeerReplay) (t : Thread) (i : ℕ) (p : Number × Thread) → IsMarkingOf (Some p) s.marking → (IsPeerThread t ⊎ IsDriver t) → RefusesMarking s (record { caller = t; index = i; op = op.Begin; reply = says.MarkOpen p.0; cites = None })
 begin-passes s t i p w caller = record { caller = caller; event = tt; allowed = tt; answers = by s.marking w }
   where
     by : (o : Option Marking) → IsMarkingOf (Some p) o → begun s o t ≡ answer (says.MarkOpen p.0) s
@@ -86,7 +86,7 @@ begin-passes s t i p w caller = record { caller = caller; event = tt; allowed = 
     by (Some mk) w = ap (λ (k : ℕ). answer (says.MarkOpen record { 0 = k }) s) (sym w.0)
 
 -- a sweep of a peer thread is refused where none is open
-pub none-passes : (s : PeerReplay) (t : Thread) (i : ℕ) → IsMarkingOf None s.marking → (IsPeerThread t ⊎ IsDriver t) → (IsDriver t → IsSome s.marking) → Passes s (record { caller = t; index = i; op = op.Sweep; reply = says.NoMark; cites = None })
+pub none-passes : (s : PeerReplay) (t : Thread) (i : ℕ) → IsMarkingOf None s.marking → (IsPeerThread t ⊎ IsDriver t) → (IsDriver t → IsSome s.marking) → RefusesMarking s (record { caller = t; index = i; op = op.Sweep; reply = says.NoMark; cites = None })
 none-passes s t i w caller open' = record { caller = caller; event = tt; allowed = allows t s.marking w caller open'; answers = by s.marking w }
   where
     allows : (t : Thread) (o : Option Marking) → IsMarkingOf None o → (IsPeerThread t ⊎ IsDriver t) → (IsDriver t → IsSome o) → SweepAllows s o t nothing
@@ -121,7 +121,7 @@ other-thread t u apart = by (is_thread t C) refl (is_thread t u) refl
 
 -- and where another thread's is open
 pub other-passes : (s : PeerReplay) (t : Thread) (i : ℕ) (p : Number × Thread) → IsMarkingOf (Some p) s.marking → (IsPeerThread t ⊎ IsDriver t) → ((t ≡ C) ⊎ (t ≡ p.1) → ⊥)
-    → Passes s (record { caller = t; index = i; op = op.Sweep; reply = says.MarkOpen p.0; cites = None })
+    → RefusesMarking s (record { caller = t; index = i; op = op.Sweep; reply = says.MarkOpen p.0; cites = None })
 other-passes s t i p w caller apart = record { caller = caller; event = tt; allowed = allows t s.marking w caller apart; answers = by s.marking w }
   where
     allows : (t : Thread) (o : Option Marking) → IsMarkingOf (Some p) o → (IsPeerThread t ⊎ IsDriver t) → ((t ≡ C) ⊎ (t ≡ p.1) → ⊥) → SweepAllows s o t nothing

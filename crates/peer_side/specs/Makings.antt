@@ -71,7 +71,7 @@ IsMarkEvent op.Sweep = Unit {0}
 IsMarkEvent _ = ⊥
 
 -- a begin or a sweep is refused: it may come next, and changes nothing
-pub record Passes (s : PeerReplay) (m : Made) : Type 0 where
+pub record RefusesMarking (s : PeerReplay) (m : Made) : Type 0 where
   pub caller : IsPeerThread m.caller ⊎ IsDriver m.caller
   pub event : IsMarkEvent m.op
   pub allowed : PeerAllows s m.caller m.op m.cites nothing

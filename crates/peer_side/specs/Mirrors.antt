@@ -96,17 +96,17 @@ pub record IsDue (m : Mirror) (due : ℕ) : Type 0 where
   pub there : (h : ℕ) → Contains m.weakened h → (Contains m.restored h → ⊥) → Contains weak_ones h
 
 -- what holds of a mirrored cycle, where the list has so many entries
-pub record IsMirrored (es : List Entry) (m : OpenMirror) : Type 0 where
+pub record IsOpenMirror (es : List Entry) (m : OpenMirror) : Type 0 where
   pub from : m.from ≤ length es
   pub due : IsDue (mirror_as es m) m.due
 
 abbrev pub AreMirrored : List Entry → Option OpenMirror → Type 0
 AreMirrored es None = Unit {0}
-AreMirrored es (Some m) = IsMirrored es m
+AreMirrored es (Some m) = IsOpenMirror es m
 
 -- a peer is restored strong: a restore in the mirrored cycle answered alive for a handle on it, and that handle is strong in the table now; a
 -- handle that a restore cleared is in the table no more
-pub record IsRestoredStrong (s : PeerReplay) (m : Mirror) (p : ℕ) : Type 0 where
+pub record HasRestoredHandle (s : PeerReplay) (m : Mirror) (p : ℕ) : Type 0 where
   pub handle : ℕ
   pub restored : Contains m.restored handle
   pub strong_now : row_of s handle ≡ Some strong_row
@@ -114,7 +114,7 @@ pub record IsRestoredStrong (s : PeerReplay) (m : Mirror) (p : ℕ) : Type 0 whe
 
 -- each unfreed peer that a mirrored reference leads to is restored strong
 abbrev pub AreTargetsRestored : PeerReplay → Type 0
-AreTargetsRestored s = (m : Mirror) → s.mirror ≡ Some m → (p q : ℕ) → HasReference s.peers.heap s.refs p q → IsRestoredStrong s m q
+AreTargetsRestored s = (m : Mirror) → s.mirror ≡ Some m → (p q : ℕ) → HasReference s.peers.heap s.refs p q → HasRestoredHandle s m q
 
 -- the ends of each reference are under strong handles
 abbrev pub AreEndsStrong : PeerReplay → List (ℕ × ℕ) → Type 0

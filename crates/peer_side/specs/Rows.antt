@@ -112,7 +112,7 @@ abbrev pub issued_to : Rows → Issue → Rows
 issued_to v i = record v { issued = v.issued ++ issued_as i ∷ []; table = v.table ++ fresh_row (issued_as i) ∷ []; tabled = v.tabled + 1 }
 
 -- an event of the peers has this reply and leads to these rows, and the handles that it issues come into the table
-pub record Answers (old : Rows) (a : Answered Peers) (r : Reply) (new : Rows) : Type 0 where
+pub record PeersAnswer (old : Rows) (a : Answered Peers) (r : Reply) (new : Rows) : Type 0 where
   pub peers : a ≡ answer r (peers_in new)
   pub table : new.table ≡ old.table ++ map fresh_row (issued_since (peers_in old) (peers_in new))
 

@@ -10,7 +10,7 @@ ghost use Rattle.joint_model.specs.PeerReplay.{MayClear, MayRestore, MayWeaken, 
 ghost use Rattle.joint_model.specs.Sides.{peer_rules, AddsLawful, DrawsLast, MayDraw};
 ghost use Rattle.joint_model.specs.Told.{nothing, references_of};
 ghost use Rattle.peer_side.specs.Cycles.{clears, mirrors, reply_of, reserve_left, reserve_more, reserve_over, reserve_pushed, reserve_stood, restores, weakens};
-ghost use Rattle.peer_side.specs.Mirrors.{AreEndsStrong, AreTargetsRestored, IsRestoredStrong};
+ghost use Rattle.peer_side.specs.Mirrors.{AreEndsStrong, AreTargetsRestored, HasRestoredHandle};
 ghost use Rattle.peer_side.specs.Sides.{seen};
 
 use crate::side::{PeerSide, kept, take_room};
@@ -142,7 +142,7 @@ impl PeerSide {
         ensures adds { AddsLawful peer_rules (record { floor = D.floor; left = D.left; may = D.may; drew = D.drew }) draw.old draw.new (seen self.old) (seen self.new) (clears index cycle) nothing }
         ensures number { self.new.entries ≡ self.old.entries ++ numbered result (clears index cycle) ∷ [] }
         ensures none { self.new.state.refs ≡ [] }
-        ensures kept { (m : Mirror) (p q : ℕ) → self.old.state.mirror ≡ Some m → Refers self.old.state.refs p q → IsRestoredStrong self.old.state m p → IsLive self.old.state.peers.heap q }
+        ensures kept { (m : Mirror) (p q : ℕ) → self.old.state.mirror ≡ Some m → Refers self.old.state.refs p q → HasRestoredHandle self.old.state m p → IsLive self.old.state.peers.heap q }
         ensures reserve { self.new.reserve ≡ reserve_over self.old.reserve }
     {
         self.rows.clear_refs();

@@ -15,7 +15,7 @@ ghost use Rattle.row_heap.specs.Marks.{EdgeOf};
 ghost use Rattle.peer_side.specs.Marks.{AreMarksSame, MarksNew, MarksBrought, MarksAfter};
 ghost use Rattle.global_handles.specs.Rows.{row_in, target_in};
 ghost use Rattle.object_heap.specs.Done.{say};
-ghost use Rattle.peer_side.specs.Rows.{Answers, AreTargetsLive, GoesBy, issued_to, number_of, row_as, strength_as, no_rows, peers_in, with_rows};
+ghost use Rattle.peer_side.specs.Rows.{PeersAnswer, AreTargetsLive, GoesBy, issued_to, number_of, row_as, strength_as, no_rows, peers_in, with_rows};
 ghost use Rattle.peer_side.specs.Steps.{IsPeerStep, IsRelease, ReleasesTabled, room_for};
 
 use global_handles::{HandleTable, Hold, Strength};
@@ -118,7 +118,7 @@ impl PeerRows {
     fn copy(&mut self, v: usize, w: usize) -> Reply
         requires v { v < 72 }
         requires w { w < 72 }
-        ensures answers { Answers self.old (on_peer_heap (peers_in self.old) (copied peer_name self.old.rows.heap v w)) result self.new }
+        ensures answers { PeersAnswer self.old (on_peer_heap (peers_in self.old) (copied peer_name self.old.rows.heap v w)) result self.new }
         ensures marks { AreMarksSame self.old.rows self.new.rows }
         ensures tabled { self.new.tabled ≡ self.old.tabled }
     {
@@ -130,7 +130,7 @@ impl PeerRows {
     fn set(&mut self, v: usize, i: usize, w: Option<usize>) -> Reply
         requires v { v < 72 }
         requires w { ForSome w (λ place. place < 72) }
-        ensures answers { Answers self.old (on_peer_heap (peers_in self.old) (field_set self.old.rows.heap v i w)) result self.new }
+        ensures answers { PeersAnswer self.old (on_peer_heap (peers_in self.old) (field_set self.old.rows.heap v i w)) result self.new }
         ensures marks { AreMarksSame self.old.rows self.new.rows }
         ensures tabled { self.new.tabled ≡ self.old.tabled }
     {
@@ -142,7 +142,7 @@ impl PeerRows {
     fn get(&mut self, v: usize, w: usize, i: usize) -> Reply
         requires v { v < 72 }
         requires w { w < 72 }
-        ensures answers { Answers self.old (on_peer_heap (peers_in self.old) (field_got peer_name self.old.rows.heap v w i)) result self.new }
+        ensures answers { PeersAnswer self.old (on_peer_heap (peers_in self.old) (field_got peer_name self.old.rows.heap v w i)) result self.new }
         ensures marks { AreMarksSame self.old.rows self.new.rows }
         ensures tabled { self.new.tabled ≡ self.old.tabled }
     {
@@ -153,7 +153,7 @@ impl PeerRows {
     // `drop V`.
     fn drop_var(&mut self, v: usize) -> Reply
         requires { v < 72 }
-        ensures answers { Answers self.old (on_peer_heap (peers_in self.old) (dropped self.old.rows.heap v)) result self.new }
+        ensures answers { PeersAnswer self.old (on_peer_heap (peers_in self.old) (dropped self.old.rows.heap v)) result self.new }
         ensures marks { AreMarksSame self.old.rows self.new.rows }
         ensures tabled { self.new.tabled ≡ self.old.tabled }
     {
@@ -165,7 +165,7 @@ impl PeerRows {
     fn load(&mut self, v: usize, x: usize) -> Reply
         requires v { v < 72 }
         requires x { x < 16 }
-        ensures answers { Answers self.old (on_peer_heap (peers_in self.old) (loaded peer_name self.old.rows.heap v x)) result self.new }
+        ensures answers { PeersAnswer self.old (on_peer_heap (peers_in self.old) (loaded peer_name self.old.rows.heap v x)) result self.new }
         ensures marks { AreMarksSame self.old.rows self.new.rows }
         ensures tabled { self.new.tabled ≡ self.old.tabled }
     {
@@ -177,7 +177,7 @@ impl PeerRows {
     fn store(&mut self, x: usize, v: Option<usize>) -> Reply
         requires x { x < 16 }
         requires v { ForSome v (λ place. place < 72) }
-        ensures answers { Answers self.old (on_peer_heap (peers_in self.old) (stored self.old.rows.heap x v)) result self.new }
+        ensures answers { PeersAnswer self.old (on_peer_heap (peers_in self.old) (stored self.old.rows.heap x v)) result self.new }
         ensures marks { AreMarksSame self.old.rows self.new.rows }
         ensures tabled { self.new.tabled ≡ self.old.tabled }
     {
@@ -215,7 +215,7 @@ impl PeerRows {
     // `new V F` of a peer thread.
     fn make_peer(&mut self, v: usize, fields: u8) -> Result<Reply, AllocError>
         requires { v < 72 }
-        ensures answers { IfOk result (λ r. Answers self.old (peer_made (peers_in self.old) v fields) r self.new) }
+        ensures answers { IfOk result (λ r. PeersAnswer self.old (peer_made (peers_in self.old) v fields) r self.new) }
         ensures marks { IfOk result (λ r. MarksNew self.old.rows r self.new.rows) }
         ensures tabled { self.new.tabled ≡ self.old.tabled }
         ensures err { OnErr result (self.new ≡ self.old) }
@@ -243,7 +243,7 @@ impl PeerRows {
     fn give_name(&mut self, g: usize, v: usize, strength: Strength) -> Result<Reply, AllocError>
         requires g { g < 64 }
         requires v { v < 72 }
-        ensures answers { IfOk result (λ r. Answers self.old (globalised (peers_in self.old) g v (strength_as strength)) r self.new) }
+        ensures answers { IfOk result (λ r. PeersAnswer self.old (globalised (peers_in self.old) g v (strength_as strength)) r self.new) }
         ensures marks { AreMarksSame self.old.rows self.new.rows }
         ensures tabled { self.new.tabled ≤ self.old.tabled + 1 }
         ensures err { OnErr result (self.new ≡ self.old) }
@@ -257,7 +257,7 @@ impl PeerRows {
     // Gives a peer a global name, unless that is given.
     fn name_peer(&mut self, g: usize, p: PNum, strength: Strength) -> Result<Reply, AllocError>
         requires { g < 64 }
-        ensures answers { IfOk result (λ r. Answers self.old (name_given (peers_in self.old) g p.0 (strength_as strength) (slot self.old.names g)) r self.new) }
+        ensures answers { IfOk result (λ r. PeersAnswer self.old (name_given (peers_in self.old) g p.0 (strength_as strength) (slot self.old.names g)) r self.new) }
         ensures marks { AreMarksSame self.old.rows self.new.rows }
         ensures tabled { self.new.tabled ≤ self.old.tabled + 1 }
         ensures err { OnErr result (self.new ≡ self.old) }
@@ -277,7 +277,7 @@ impl PeerRows {
 
     // `make SORT F` of a managed thread: a peer, and a held strong handle on it. The room for the handle is taken first.
     fn make_pair(&mut self, sort: Sort, fields: u8) -> Result<Reply, AllocError>
-        ensures answers { IfOk result (λ r. Answers self.old (pair_made (peers_in self.old) sort fields) r self.new) }
+        ensures answers { IfOk result (λ r. PeersAnswer self.old (pair_made (peers_in self.old) sort fields) r self.new) }
         ensures marks { IfOk result (λ r. MarksNew self.old.rows r self.new.rows) }
         ensures tabled { self.new.tabled ≤ self.old.tabled + 1 }
         ensures err { OnErr result (self.new ≡ self.old) }
@@ -308,7 +308,7 @@ impl PeerRows {
     // `grip x` of a managed thread: a held strong handle on the static's peer.
     fn grip(&mut self, x: usize) -> Result<Reply, AllocError>
         requires { x < 16 }
-        ensures answers { IfOk result (λ r. Answers self.old (gripped (peers_in self.old) x) r self.new) }
+        ensures answers { IfOk result (λ r. PeersAnswer self.old (gripped (peers_in self.old) x) r self.new) }
         ensures marks { AreMarksSame self.old.rows self.new.rows }
         ensures tabled { self.new.tabled ≤ self.old.tabled + 1 }
         ensures err { OnErr result (self.new ≡ self.old) }
@@ -353,7 +353,7 @@ impl PeerRows {
         requires g { g < 64 }
         requires live { AreTargetsLive self.old }
         requires shut { IsTrue is_open → IsClosed (EdgeOf self.old.rows) self.old.rows.marks }
-        ensures answers { Answers self.old (name_read (table_target (with_rows opening_peer_replay self.old)) (peers_in self.old) v g) result self.new }
+        ensures answers { PeersAnswer self.old (name_read (table_target (with_rows opening_peer_replay self.old)) (peers_in self.old) v g) result self.new }
         ensures marks { MarksBrought is_open self.old.rows result self.new.rows }
         ensures tabled { self.new.tabled ≡ self.old.tabled }
     {
@@ -368,7 +368,7 @@ impl PeerRows {
         requires v { v < 72 }
         requires live { AreTargetsLive self.old }
         requires shut { IsTrue is_open → IsClosed (EdgeOf self.old.rows) self.old.rows.marks }
-        ensures answers { Answers self.old (peer_read (peers_in self.old) v (table_target (with_rows opening_peer_replay self.old) h.0)) result self.new }
+        ensures answers { PeersAnswer self.old (peer_read (peers_in self.old) v (table_target (with_rows opening_peer_replay self.old) h.0)) result self.new }
         ensures marks { MarksBrought is_open self.old.rows result self.new.rows }
         ensures tabled { self.new.tabled ≡ self.old.tabled }
     {
@@ -387,7 +387,7 @@ impl PeerRows {
         requires x { x < 16 }
         requires live { AreTargetsLive self.old }
         requires shut { IsTrue is_open → IsClosed (EdgeOf self.old.rows) self.old.rows.marks }
-        ensures answers { Answers self.old (landed (peers_in self.old) x (table_target (with_rows opening_peer_replay self.old) h.0)) result self.new }
+        ensures answers { PeersAnswer self.old (landed (peers_in self.old) x (table_target (with_rows opening_peer_replay self.old) h.0)) result self.new }
         ensures marks { MarksBrought is_open self.old.rows result self.new.rows }
         ensures tabled { self.new.tabled ≡ self.old.tabled }
     {

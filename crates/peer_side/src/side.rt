@@ -12,7 +12,7 @@ ghost use Rattle.joint_model.specs.Told.{nothing, sweep_of};
 ghost use Rattle.joint_laws.specs.PeerInvariants.{IsPeerKept};
 ghost use Rattle.global_handles.specs.Rows.{row_in, target_in};
 ghost use Rattle.peer_side.specs.Rows.{number_of, row_as};
-ghost use Rattle.peer_side.specs.Makings.{IsSideStep, MayDrawStep, MayStep, Passes, collect_makings, gone_since, step_makings};
+ghost use Rattle.peer_side.specs.Makings.{IsSideStep, MayDrawStep, MayStep, RefusesMarking, collect_makings, gone_since, step_makings};
 ghost use Rattle.peer_side.specs.Sides.{begins, ends, is_own, is_to_mark, opening_side, owed, reserve_begun, seen, IsEnded, IsFaultAt, IsMarkingOf, MayEnd};
 ghost use Rattle.peer_side.specs.Mirrors.{mirrors_begun, owes};
 ghost use Rattle.peer_side.specs.Steps.{IsPeerStep, IsRelease, room_for};
@@ -280,7 +280,7 @@ impl PeerSide {
         op: Op,
         reply: Reply,
     ) -> Result<Reply, AllocError>
-        requires passes { Passes self.old.state (record { caller = caller; index = index; op = op; reply = reply; cites = None }) }
+        requires passes { RefusesMarking self.old.state (record { caller = caller; index = index; op = op; reply = reply; cites = None }) }
         requires may { MayDraw peer_rules (record { floor = D.floor; left = D.left; may = D.may; drew = D.drew }) draw.old (seen self.old) caller op }
         ensures reply { IfOk result (λ r. r ≡ reply) }
         ensures adds { OnOk result (AddsLawful peer_rules (record { floor = D.floor; left = D.left; may = D.may; drew = D.drew }) draw.old draw.new (seen self.old) (seen self.new) (record { caller = caller; index = index; op = op; reply = reply; cites = None }) nothing) }

@@ -13,8 +13,8 @@ use Rattle.object_heap.proofs.Numbered.{numbered-read, numbered_set-index}
 use Rattle.slab.specs.Slab.{Slab, get, Updates, with_value}
 use Rattle.slab.proofs.SlabLemmas.{Updates-with_value}
 use Rattle.row_heap.specs.declared.places.Row.{Row}
-use Rattle.row_heap.specs.declared.places.Place.{Place}
-use Rattle.row_heap.specs.declared.places.Place.TheVariants.{At, Gone}
+use Rattle.row_heap.specs.declared.places.RowPlace.{RowPlace}
+use Rattle.row_heap.specs.declared.places.RowPlace.TheVariants.{At, Gone}
 use Rattle.row_heap.specs.Places.{Seen, IsIndex, seen_at, row_at, standing, gone}
 
 -- a row that is there
@@ -29,18 +29,18 @@ stands-within (r ∷ rows) (suc zero) e = (omega arith, omega arith)
 stands-within (r ∷ rows) (suc (suc i)) e = (let w = stands-within rows (suc i) e in (omega arith, omega (arith, w.1)))
 
 -- the row at a place that was read
-pub read-row : (s : Slab Row) (places : List Place) (rows : List Seen) (x : ℕ) (r p : Place) → map (seen_at s) places ≡ rows → 1 ≤ x → x ≤ length rows → r ≡ p → r ≡ get_or places (x - 1) r → row_at rows x ≡ seen_at s p
+pub read-row : (s : Slab Row) (places : List RowPlace) (rows : List Seen) (x : ℕ) (r p : RowPlace) → map (seen_at s) places ≡ rows → 1 ≤ x → x ≤ length rows → r ≡ p → r ≡ get_or places (x - 1) r → row_at rows x ≡ seen_at s p
 read-row s places rows x r p view one le is e =
     row_at-is rows x (seen_at s p) (subst (λ l. numbered_at l x ≡ Some (seen_at s p)) view (numbered-read (seen_at s) places x r one (subst (λ l. x ≤ length l) (sym view) le) e ∙ ap (λ z. Some (seen_at s z)) is))
 
 -- and the place itself
-pub read-place : (s : Slab Row) (places : List Place) (rows : List Seen) (x : ℕ) (r p : Place) → map (seen_at s) places ≡ rows → 1 ≤ x → x ≤ length rows → r ≡ p → r ≡ get_or places (x - 1) r → slice_get places (x - 1) ≡ Some p
+pub read-place : (s : Slab Row) (places : List RowPlace) (rows : List Seen) (x : ℕ) (r p : RowPlace) → map (seen_at s) places ≡ rows → 1 ≤ x → x ≤ length rows → r ≡ p → r ≡ get_or places (x - 1) r → slice_get places (x - 1) ≡ Some p
 read-place s places rows x r p view one le is e = slice_get_read places (length places) (x - 1) r refl (let l : x ≤ length (map (seen_at s) places) = subst (λ t. x ≤ length t) (sym view) le in omega (arith, l, length-map places (seen_at s), one)) e ∙ ap (λ z. Some z) is
 
 pub seen-row : (s : Slab Row) (key : ℕ) (r : Row) → get s key ≡ Some r → seen_at s (At key) ≡ standing r
 seen-row s key r e = ap (λ o. elim o [ None ↦ gone [] | Some q ↦ standing q ]) e
 
-pub seen-stands : (s : Slab Row) (places : List Place) (i key : ℕ) → IsIndex s places → slice_get places i ≡ Some (At key) → (seen_at s (At key)).stands ≡ true
+pub seen-stands : (s : Slab Row) (places : List RowPlace) (i key : ℕ) → IsIndex s places → slice_get places i ≡ Some (At key) → (seen_at s (At key)).stands ≡ true
 seen-stands s places i key index at = (let w = index.there i key at in ap (λ z. z.stands) (seen-row s key w.0 w.1))
 
 pub stands-gone : (kept : Snapshot (Vec (Option ℕ))) (s : Slab Row) (r : Seen) → r ≡ seen_at s (Gone kept) → r.stands ≡ true → ⊥
@@ -62,16 +62,16 @@ set-self (y ∷ xs) zero x e = (let d : x ≡ y = cc in ap (λ z. z ∷ xs) d)
 set-self (y ∷ xs) (suc i) x e = ap (λ z. y ∷ z) (set-self xs i x e)
 
 -- what happens under a key is seen at no other place
-pub others-same : (s t : Slab Row) (places : List Place) (i key : ℕ) (slot : Option Row) → IsIndex s places → slice_get places i ≡ Some (At key) → Updates s t key slot
-    → (j : ℕ) (p : Place) → j ≢ i → slice_get places j ≡ Some p → seen_at t p ≡ seen_at s p
+pub others-same : (s t : Slab Row) (places : List RowPlace) (i key : ℕ) (slot : Option Row) → IsIndex s places → slice_get places i ≡ Some (At key) → Updates s t key slot
+    → (j : ℕ) (p : RowPlace) → j ≢ i → slice_get places j ≡ Some p → seen_at t p ≡ seen_at s p
 others-same s t places i key slot index at u j (Gone kept) n e = refl
 others-same s t places i key slot index at u j (At k) n e = ap (λ o. elim o [ None ↦ gone [] | Some r ↦ standing r ]) (u.others k (λ q. n (index.once j i key (subst (λ z. slice_get places j ≡ Some (At z)) q e) at)))
 
-pub key-there : (s : Slab Row) (places : List Place) (i key : ℕ) → IsIndex s places → slice_get places i ≡ Some (At key) → is_some (get s key) ≡ true
+pub key-there : (s : Slab Row) (places : List RowPlace) (i key : ℕ) → IsIndex s places → slice_get places i ≡ Some (At key) → is_some (get s key) ≡ true
 key-there s places i key index at = (let w = index.there i key at in ap is_some w.1)
 
 -- a row of the slab is written
-pub IsIndex-written : (s : Slab Row) (places : List Place) (key : ℕ) (r : Row) → is_some (get s key) ≡ true → IsIndex s places → IsIndex (with_value s key r) places
+pub IsIndex-written : (s : Slab Row) (places : List RowPlace) (key : ℕ) (r : Row) → is_some (get s key) ≡ true → IsIndex s places → IsIndex (with_value s key r) places
 IsIndex-written s places key r has index =
     let u = Updates-with_value s key r has in
     record {
@@ -82,7 +82,7 @@ IsIndex-written s places key r has index =
       once = index.once;
     }
 
-pub shown-written : (s : Slab Row) (places : List Place) (rows : List Seen) (x key : ℕ) (r : Row) (new : Seen) → map (seen_at s) places ≡ rows → IsIndex s places → 1 ≤ x → slice_get places (x - 1) ≡ Some (At key) → standing r ≡ new
+pub shown-written : (s : Slab Row) (places : List RowPlace) (rows : List Seen) (x key : ℕ) (r : Row) (new : Seen) → map (seen_at s) places ≡ rows → IsIndex s places → 1 ≤ x → slice_get places (x - 1) ≡ Some (At key) → standing r ≡ new
     → map (seen_at (with_value s key r)) places ≡ numbered_set rows x new
 shown-written s places rows x key r new view index one at is =
     let t = with_value s key r in
@@ -93,7 +93,7 @@ shown-written s places rows x key r new view index one at is =
     ∙ (ap (λ z. set z (x - 1) new) view ∙ numbered_set-index rows x new one)))
 
 -- a row is removed, and its place keeps the fields
-pub IsIndex-freed : (s t : Slab Row) (places : List Place) (i key : ℕ) (kept : Snapshot (Vec (Option ℕ))) → IsIndex s places → slice_get places i ≡ Some (At key) → Updates s t key None → IsIndex t (set places i (Gone kept))
+pub IsIndex-freed : (s t : Slab Row) (places : List RowPlace) (i key : ℕ) (kept : Snapshot (Vec (Option ℕ))) → IsIndex s places → slice_get places i ≡ Some (At key) → Updates s t key None → IsIndex t (set places i (Gone kept))
 IsIndex-freed s t places i key kept index at u = record {
   there = λ j k e. elim (set-at_or places i (Gone kept) j (At k) e) [
     | inl w ↦ (let d : ⊥ = cc in absurd d)
@@ -115,20 +115,20 @@ IsIndex-freed s t places i key kept index at u = record {
     set-at_or (z ∷ xs) (suc i) x zero y e = inr ((λ q. omega (arith, q)), e)
     set-at_or (z ∷ xs) (suc i) x (suc j) y e = elim (set-at_or xs i x j y e) [ inl w ↦ inl w | inr w ↦ inr ((λ q. w.0 (omega (arith, q))), w.1) ]
 
-pub shown-freed : (s t : Slab Row) (places : List Place) (rows : List Seen) (x key : ℕ) (kept : Snapshot (Vec (Option ℕ))) (new : Seen) → map (seen_at s) places ≡ rows → IsIndex s places → 1 ≤ x → slice_get places (x - 1) ≡ Some (At key) → Updates s t key None
+pub shown-freed : (s t : Slab Row) (places : List RowPlace) (rows : List Seen) (x key : ℕ) (kept : Snapshot (Vec (Option ℕ))) (new : Seen) → map (seen_at s) places ≡ rows → IsIndex s places → 1 ≤ x → slice_get places (x - 1) ≡ Some (At key) → Updates s t key None
     → gone kept.value.items ≡ new → map (seen_at t) (set places (x - 1) (Gone kept)) ≡ numbered_set rows x new
 shown-freed s t places rows x key kept new view index one at u is =
     map-set_others (seen_at s) (seen_at t) places (x - 1) (Gone kept) (others-same s t places (x - 1) key None index at u)
     ∙ (ap (λ z. set (map (seen_at s) places) (x - 1) z) is ∙ (ap (λ z. set z (x - 1) new) view ∙ numbered_set-index rows x new one))
 
 -- a row under a vacant key, at the end of the index
-differs : (s : Slab Row) (places : List Place) (key i k : ℕ) → IsIndex s places → get s key ≡ None → slice_get places i ≡ Some (At k) → k ≡ key → ⊥
+differs : (s : Slab Row) (places : List RowPlace) (key i k : ℕ) → IsIndex s places → get s key ≡ None → slice_get places i ≡ Some (At k) → k ≡ key → ⊥
 differs s places key i k index vacant at e = (let w = index.there i k at in let z : Some w.0 ≡ None = sym w.1 ∙ (ap (get s) e ∙ vacant) in cc)
 
 same-key : (k key : ℕ) → At key ≡ At k → k ≡ key
 same-key k key e = cc
 
-pub IsIndex-pushed : (s t : Slab Row) (places : List Place) (key : ℕ) (r : Row) → IsIndex s places → get s key ≡ None → Updates s t key (Some r) → IsIndex t (places ++ At key ∷ [])
+pub IsIndex-pushed : (s t : Slab Row) (places : List RowPlace) (key : ℕ) (r : Row) → IsIndex s places → get s key ≡ None → Updates s t key (Some r) → IsIndex t (places ++ At key ∷ [])
 IsIndex-pushed s t places key r index vacant u = record {
   there = λ i k e. elim (push-at_cases places (At key) i (At k) e) [
     | inl w ↦ (let old = index.there i k w in (old.0, u.others k (differs s places key i k index vacant w) ∙ old.1))
@@ -146,40 +146,40 @@ IsIndex-pushed s t places key r index vacant u = record {
   ];
 }
 
-pub shown-pushed : (s t : Slab Row) (places : List Place) (rows : List Seen) (key : ℕ) (r : Row) → IsIndex s places → map (seen_at s) places ≡ rows → get s key ≡ None → Updates s t key (Some r) → map (seen_at t) (places ++ At key ∷ []) ≡ rows ++ standing r ∷ []
+pub shown-pushed : (s t : Slab Row) (places : List RowPlace) (rows : List Seen) (key : ℕ) (r : Row) → IsIndex s places → map (seen_at s) places ≡ rows → get s key ≡ None → Updates s t key (Some r) → map (seen_at t) (places ++ At key ∷ []) ≡ rows ++ standing r ∷ []
 shown-pushed s t places rows key r index view vacant u =
     map-append (seen_at t) places (At key ∷ []) ∙ (ap (λ o. map (seen_at t) places ++ elim o [ None ↦ gone [] | Some q ↦ standing q ] ∷ []) u.changed ∙ ap (λ l. l ++ standing r ∷ []) (kept places (λ i k e. index.there i k e) ∙ view))
   where
-    kept : (ps : List Place) → ((i k : ℕ) → slice_get ps i ≡ Some (At k) → (q : Row) × (get s k ≡ Some q)) → map (seen_at t) ps ≡ map (seen_at s) ps
+    kept : (ps : List RowPlace) → ((i k : ℕ) → slice_get ps i ≡ Some (At k) → (q : Row) × (get s k ≡ Some q)) → map (seen_at t) ps ≡ map (seen_at s) ps
     kept [] there = refl
     kept (Gone fs ∷ ps) there = ap (λ l. gone fs.value.items ∷ l) (kept ps (λ i k e. there (suc i) k e))
     kept (At k ∷ ps) there = ap (λ l. seen_at t (At k) ∷ l) (kept ps (λ i k' e. there (suc i) k' e))
         ∙ ap (λ o. elim o [ None ↦ gone [] | Some q ↦ standing q ] ∷ map (seen_at s) ps) (u.others k (λ e. (let w = there 0 k refl in let z : Some w.0 ≡ None = sym w.1 ∙ (ap (get s) e ∙ vacant) in cc)))
 
 -- more room changes no row
-pub IsIndex-grown : (s t : Slab Row) (places : List Place) → t.slots ≡ s.slots → IsIndex s places → IsIndex t places
+pub IsIndex-grown : (s t : Slab Row) (places : List RowPlace) → t.slots ≡ s.slots → IsIndex s places → IsIndex t places
 IsIndex-grown s t places e index = record { there = λ i k a. (let w = index.there i k a in (w.0, ap (λ l. slice_index_or l k None) e ∙ w.1)); once = index.once }
 
-pub shown-grown : (s t : Slab Row) (places : List Place) → t.slots ≡ s.slots → map (seen_at t) places ≡ map (seen_at s) places
+pub shown-grown : (s t : Slab Row) (places : List RowPlace) → t.slots ≡ s.slots → map (seen_at t) places ≡ map (seen_at s) places
 shown-grown s t [] e = refl
 shown-grown s t (Gone kept ∷ places) e = ap (λ r. gone kept.value.items ∷ r) (shown-grown s t places e)
 shown-grown s t (At k ∷ places) e = ap (λ r. seen_at t (At k) ∷ r) (shown-grown s t places e) ∙ ap (λ o. elim o [ None ↦ gone [] | Some q ↦ standing q ] ∷ map (seen_at s) places) (ap (λ l. slice_index_or l k None) e)
 
 -- a row that stands has a key, by which it is the slab's row
-pub at-key : (s : Slab Row) (places : List Place) (rows : List Seen) (x : ℕ) (r : Place) (key : ℕ) → map (seen_at s) places ≡ rows → (row_at rows x).stands ≡ true → r ≡ At key → r ≡ get_or places (x - 1) r → slice_get places (x - 1) ≡ Some (At key)
+pub at-key : (s : Slab Row) (places : List RowPlace) (rows : List Seen) (x : ℕ) (r : RowPlace) (key : ℕ) → map (seen_at s) places ≡ rows → (row_at rows x).stands ≡ true → r ≡ At key → r ≡ get_or places (x - 1) r → slice_get places (x - 1) ≡ Some (At key)
 at-key s places rows x r key view up is e = (let w = stands-within rows x up in read-place s places rows x r (At key) view w.0 w.1 is e)
 
-pub row-of : (s : Slab Row) (places : List Place) (rows : List Seen) (x : ℕ) (r : Place) (key : ℕ) (row : Row) → map (seen_at s) places ≡ rows → (row_at rows x).stands ≡ true → r ≡ At key → r ≡ get_or places (x - 1) r → get s key ≡ Some row → row_at rows x ≡ standing row
+pub row-of : (s : Slab Row) (places : List RowPlace) (rows : List Seen) (x : ℕ) (r : RowPlace) (key : ℕ) (row : Row) → map (seen_at s) places ≡ rows → (row_at rows x).stands ≡ true → r ≡ At key → r ≡ get_or places (x - 1) r → get s key ≡ Some row → row_at rows x ≡ standing row
 row-of s places rows x r key row view up is e got = (let w = stands-within rows x up in read-row s places rows x r (At key) view w.0 w.1 is e ∙ seen-row s key row got)
 
-pub not-gone : (s : Slab Row) (places : List Place) (rows : List Seen) (x : ℕ) (r : Place) (kept : Snapshot (Vec (Option ℕ))) → map (seen_at s) places ≡ rows → (row_at rows x).stands ≡ true → r ≡ Gone kept → r ≡ get_or places (x - 1) r → ⊥
+pub not-gone : (s : Slab Row) (places : List RowPlace) (rows : List Seen) (x : ℕ) (r : RowPlace) (kept : Snapshot (Vec (Option ℕ))) → map (seen_at s) places ≡ rows → (row_at rows x).stands ≡ true → r ≡ Gone kept → r ≡ get_or places (x - 1) r → ⊥
 not-gone s places rows x r kept view up is e = (let w = stands-within rows x up in stands-gone kept s (row_at rows x) (read-row s places rows x r (Gone kept) view w.0 w.1 is e) up)
 
 -- its row is written
-pub index-written : (s : Slab Row) (places : List Place) (rows : List Seen) (x : ℕ) (r : Place) (key : ℕ) (new : Row) → map (seen_at s) places ≡ rows → (row_at rows x).stands ≡ true → r ≡ At key → r ≡ get_or places (x - 1) r → IsIndex s places → IsIndex (with_value s key new) places
+pub index-written : (s : Slab Row) (places : List RowPlace) (rows : List Seen) (x : ℕ) (r : RowPlace) (key : ℕ) (new : Row) → map (seen_at s) places ≡ rows → (row_at rows x).stands ≡ true → r ≡ At key → r ≡ get_or places (x - 1) r → IsIndex s places → IsIndex (with_value s key new) places
 index-written s places rows x r key new view up is e index = IsIndex-written s places key new (key-there s places (x - 1) key index (at-key s places rows x r key view up is e)) index
 
-pub rows-written : (s : Slab Row) (places : List Place) (rows : List Seen) (x : ℕ) (r : Place) (key : ℕ) (new : Row) (seen : Seen) → map (seen_at s) places ≡ rows → (row_at rows x).stands ≡ true → r ≡ At key → r ≡ get_or places (x - 1) r → IsIndex s places
+pub rows-written : (s : Slab Row) (places : List RowPlace) (rows : List Seen) (x : ℕ) (r : RowPlace) (key : ℕ) (new : Row) (seen : Seen) → map (seen_at s) places ≡ rows → (row_at rows x).stands ≡ true → r ≡ At key → r ≡ get_or places (x - 1) r → IsIndex s places
     → standing new ≡ seen → map (seen_at (with_value s key new)) places ≡ numbered_set rows x seen
 rows-written s places rows x r key new seen view up is e index same = shown-written s places rows x key new seen view index (stands-within rows x up).0 (at-key s places rows x r key view up is e) same
 
@@ -203,7 +203,7 @@ pub set-index : (rows : List Seen) (n : ℕ) (r : Seen) → numbered_set rows (n
 set-index rows n r = (let e : n + 1 ≡ suc n = omega arith in rw e refl)
 
 -- a row with a mark stands
-pub marked-stands : (s : Slab Row) (places : List Place) (x : ℕ) → (row_at (map (seen_at s) places) x).marked ≡ true → (row_at (map (seen_at s) places) x).stands ≡ true
+pub marked-stands : (s : Slab Row) (places : List RowPlace) (x : ℕ) → (row_at (map (seen_at s) places) x).marked ≡ true → (row_at (map (seen_at s) places) x).stands ≡ true
 marked-stands s places zero e = (let f : ⊥ = cc in absurd f)
 marked-stands s [] (suc i) e = (let f : ⊥ = cc in absurd f)
 marked-stands s (Gone kept ∷ places) (suc zero) e = (let f : ⊥ = cc in absurd f)

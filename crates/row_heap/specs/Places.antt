@@ -4,8 +4,8 @@ use Rattle.std.specs.Prelude.{◌≡◌, ℕ, Bool, true, false, not, ◌&&◌, 
 use Rattle.joint_model.specs.Heaps.{numbered_at}
 use Rattle.slab.specs.Slab.{Slab, get}
 use Rattle.row_heap.specs.declared.places.Row.{Row}
-use Rattle.row_heap.specs.declared.places.Place.{Place}
-use Rattle.row_heap.specs.declared.places.Place.TheVariants.{At, Gone}
+use Rattle.row_heap.specs.declared.places.RowPlace.{RowPlace}
+use Rattle.row_heap.specs.declared.places.RowPlace.TheVariants.{At, Gone}
 
 -- a row as it is seen: its fields, where its references begin, its mark, its link, and whether it stands
 pub record Seen : Type 0 where
@@ -24,7 +24,7 @@ abbrev pub gone : List (Option ℕ) → Seen
 gone fields = record { fields = fields; first = 0; marked = false; link = 0; stands = false }
 
 -- the row of a place
-abbrev pub seen_at : Slab Row → Place → Seen
+abbrev pub seen_at : Slab Row → RowPlace → Seen
 seen_at s (At key) = elim (get s key) [ None ↦ gone [] | Some r ↦ standing r ]
 seen_at s (Gone kept) = gone kept.value.items
 
@@ -41,6 +41,6 @@ abbrev pub is_white : Seen → Bool
 is_white r = r.stands && not r.marked
 
 -- each key of the index has a row, and stands in the index once
-pub record IsIndex (s : Slab Row) (places : List Place) : Type 0 where
+pub record IsIndex (s : Slab Row) (places : List RowPlace) : Type 0 where
   pub there : (i k : ℕ) → slice_get places i ≡ Some (At k) → (r : Row) × (get s k ≡ Some r)
   pub once : (i j k : ℕ) → slice_get places i ≡ Some (At k) → slice_get places j ≡ Some (At k) → i ≡ j

@@ -24,7 +24,7 @@ pub(crate) struct Row {
 
 /// Where the row of a number is: under a key of the slab, or nowhere, with the fields that it had.
 #[derive(Drop)]
-pub(crate) enum Place {
+pub(crate) enum RowPlace {
     At(u32),
     Gone(Snapshot<Vec<Option<u32>>>),
 }
@@ -33,7 +33,7 @@ pub(crate) enum Place {
 #[derive(Drop)]
 pub(crate) struct Rows {
     // The place of row x stands at x - 1.
-    places: Vec<Place>,
+    places: Vec<RowPlace>,
     slab: Slab<Row>,
 }
 
@@ -72,8 +72,8 @@ impl Rows {
         ensures { result ≡ (row_at self.now x).stands }
     {
         match self.places[x - 1] {
-            Place::At(_) => true,
-            Place::Gone(_) => false,
+            RowPlace::At(_) => true,
+            RowPlace::Gone(_) => false,
         }
     }
 
@@ -83,8 +83,8 @@ impl Rows {
         ensures { result ≡ is_white (row_at self.now x) }
     {
         match self.places[x - 1] {
-            Place::At(key) => !self.slab[key as usize].marked,
-            Place::Gone(_) => false,
+            RowPlace::At(key) => !self.slab[key as usize].marked,
+            RowPlace::Gone(_) => false,
         }
     }
 
@@ -94,8 +94,8 @@ impl Rows {
         ensures { row_at self.now x ≡ standing result.now }
     {
         match self.places[x - 1] {
-            Place::At(key) => &self.slab[key as usize],
-            Place::Gone(_) => unreachable!(),
+            RowPlace::At(key) => &self.slab[key as usize],
+            RowPlace::Gone(_) => unreachable!(),
         }
     }
 
@@ -106,8 +106,8 @@ impl Rows {
         ensures { self.new ≡ numbered_set self.old x (record (row_at self.old x) { fields = slice_set (row_at self.old x).fields i y }) }
     {
         match self.places[x - 1] {
-            Place::At(key) => self.slab[key as usize].fields[i] = y,
-            Place::Gone(_) => unreachable!(),
+            RowPlace::At(key) => self.slab[key as usize].fields[i] = y,
+            RowPlace::Gone(_) => unreachable!(),
         }
     }
 
@@ -117,8 +117,8 @@ impl Rows {
         ensures { self.new ≡ numbered_set self.old x (record (row_at self.old x) { first = first }) }
     {
         match self.places[x - 1] {
-            Place::At(key) => self.slab[key as usize].first = first,
-            Place::Gone(_) => unreachable!(),
+            RowPlace::At(key) => self.slab[key as usize].first = first,
+            RowPlace::Gone(_) => unreachable!(),
         }
     }
 
@@ -128,8 +128,8 @@ impl Rows {
         ensures { self.new ≡ numbered_set self.old x (record (row_at self.old x) { first = 0 }) }
     {
         match self.places[x - 1] {
-            Place::At(key) => self.slab[key as usize].first = 0,
-            Place::Gone(_) => {}
+            RowPlace::At(key) => self.slab[key as usize].first = 0,
+            RowPlace::Gone(_) => {}
         }
     }
 
@@ -139,12 +139,12 @@ impl Rows {
         ensures { self.new ≡ numbered_set self.old x (record (row_at self.old x) { marked = true; link = link }) }
     {
         match self.places[x - 1] {
-            Place::At(key) => {
+            RowPlace::At(key) => {
                 let row = &mut self.slab[key as usize];
                 row.marked = true;
                 row.link = link;
             }
-            Place::Gone(_) => unreachable!(),
+            RowPlace::Gone(_) => unreachable!(),
         }
     }
 
@@ -164,8 +164,8 @@ impl Rows {
         ensures { self.new ≡ numbered_set self.old x (unmarked_row (row_at self.old x)) }
     {
         match self.places[x - 1] {
-            Place::At(key) => self.slab[key as usize].marked = false,
-            Place::Gone(_) => {}
+            RowPlace::At(key) => self.slab[key as usize].marked = false,
+            RowPlace::Gone(_) => {}
         }
     }
 
@@ -202,7 +202,7 @@ impl Rows {
             marked: true,
             link: 0,
         });
-        self.places.push_reserved(Place::At(key as u32));
+        self.places.push_reserved(RowPlace::At(key as u32));
         Ok(())
     }
 
@@ -212,11 +212,11 @@ impl Rows {
         ensures { self.new ≡ numbered_set self.old x (gone (row_at self.old x).fields) }
     {
         match self.places[x - 1] {
-            Place::At(key) => {
+            RowPlace::At(key) => {
                 let row = self.slab.remove(key as usize);
-                self.places[x - 1] = Place::Gone(Snapshot::of(&row.fields));
+                self.places[x - 1] = RowPlace::Gone(Snapshot::of(&row.fields));
             }
-            Place::Gone(_) => unreachable!(),
+            RowPlace::Gone(_) => unreachable!(),
         }
     }
 }

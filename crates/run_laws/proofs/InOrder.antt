@@ -36,7 +36,7 @@ use Rattle.script_laws.specs.Holding.{Standing, opening_standing, standing_after
 use Rattle.script_laws.proofs.Growing.{held_lines_grow}
 use Rattle.script_laws.proofs.ThreadOrder.{all-by, none-by}
 use Rattle.run_laws.proofs.ByThreads.{is-either}
-use Rattle.run_laws.specs.Serial.{Adds, ToldCallersAdd, DriversAdd, AreOthers, IsRunSoFar, NothingIsRun, OthersRunOn, DriverRunsOn}
+use Rattle.run_laws.specs.Serial.{CallerAdds, ToldCallersAdd, DriversAdd, AreOthers, IsRunSoFar, NothingIsRun, OthersRunOn, DriverRunsOn}
 
 -- beginnings of lists
 pub prefix-then : {A : Type 0} (xs ys zs : List A) → IsPrefix xs ys → IsPrefix ys zs → IsPrefix xs zs
@@ -124,7 +124,7 @@ pub own-without : (number : ℕ) (t u : Thread) (made es : List Entry) → is_th
 own-without number t u made es other a = filter-append (λ e. is_thread t e.made.caller) made es ∙ (ap (λ l. entries_by t made ++ l) (none-by number t u es other a) ∙ append-nil (entries_by t made))
 
 -- one thread's entries more, which are known now
-module _ (driver heard : View) (t : Thread) (mine mine' made es : List Entry) (number : ℕ) (a : Adds driver heard t mine mine' es) (on : AreOnLine number t es) where
+module _ (driver heard : View) (t : Thread) (mine mine' made es : List Entry) (number : ℕ) (a : CallerAdds driver heard t mine mine' es) (on : AreOnLine number t es) where
   pub heard-all : ((e : Entry) → Contains made e → Contains (line_known driver (caller_line e.made.caller)) e) → (e : Entry) → Contains (made ++ es) e → Contains (line_known heard (caller_line e.made.caller)) e
   heard-all known_so e c = ⊎_elim
       (λ d. prefix-in (line_known driver (caller_line e.made.caller)) (line_known heard (caller_line e.made.caller)) e

@@ -31,7 +31,7 @@ use Rattle.script_laws.proofs.Growing.{held_lines_end, rising_entries_are_one}
 use Rattle.script_laws.proofs.ThreadOrder.{thread_itself}
 use Rattle.run_laws.proofs.ByThreads.{made_is_by, is-either}
 use Rattle.run_laws.proofs.InOrder.{own-with, own-without, not-driver, all-rise, all-threads}
-use Rattle.run_laws.specs.Serial.{Adds, AreOthers, IsRunSoFar, RunsHoldScript, AllAreGiven}
+use Rattle.run_laws.specs.Serial.{CallerAdds, AreOthers, IsRunSoFar, RunsHoldScript, AllAreGiven}
 
 -- each thread has its caller among all of them
 record Given (others : List Pass) (driver : Pass) (t : Thread) : Type 0 where

@@ -23,7 +23,7 @@ use Rattle.script_laws.specs.Holding.{Standing, opening_standing, standing_after
 
 -- a caller made these entries: they stand at the end of its own, their numbers are above all that the driver's seat knew, and the
 -- driver's seat knows them now
-pub record Adds (old new : View) (t : Thread) (mine mine' es : List Entry) : Type 0 where
+pub record CallerAdds (old new : View) (t : Thread) (mine mine' es : List Entry) : Type 0 where
   pub more : (i : ℕ) → IsPrefix (known old i) (known new i)
   pub above : AreAbove old es
   pub own_more : mine' ≡ mine ++ es
@@ -32,11 +32,11 @@ pub record Adds (old new : View) (t : Thread) (mine mine' es : List Entry) : Typ
 -- so it is where the driver tells the caller what it knows, the caller makes its entries, and the driver hears of them
 abbrev pub ToldCallersAdd : Type 0
 ToldCallersAdd = (driver told heard before after ended left : Pass) (es : List Entry) → Tells driver told → Hears driver before after → ended.thread ≡ after.thread → MakesAll after.thread after.view ended.view es → Tells ended left → Hears ended told heard
-    → Adds driver.view heard.view before.thread (own before) (own left) es
+    → CallerAdds driver.view heard.view before.thread (own before) (own left) es
 
 -- and where the driver makes them itself
 abbrev pub DriversAdd : Type 0
-DriversAdd = (driver after : Pass) (es : List Entry) → after.thread ≡ driver.thread → MakesAll driver.thread driver.view after.view es → Adds driver.view after.view driver.thread (own driver) (own after) es
+DriversAdd = (driver after : Pass) (es : List Entry) → after.thread ≡ driver.thread → MakesAll driver.thread driver.view after.view es → CallerAdds driver.view after.view driver.thread (own driver) (own after) es
 
 -- the callers of all threads but the driver's, by place
 pub record AreOthers (others : List Pass) : Type 0 where
@@ -44,7 +44,7 @@ pub record AreOthers (others : List Pass) : Type 0 where
   pub each : (i : ℕ) (p : Pass) → slice_get others i ≡ Some p → p.thread ≡ thread_of (i + 1)
 
 -- no caller has come past the line
-pub record AreUpTo (line : ℕ) (driver : Pass) (others : List Pass) : Type 0 where
+pub record AreCallersUpTo (line : ℕ) (driver : Pass) (others : List Pass) : Type 0 where
   pub driven : last_index (own driver) ≤ line
   pub each : (i : ℕ) (p : Pass) → slice_get others i ≡ Some p → last_index (own p) ≤ line
 
@@ -67,18 +67,18 @@ NothingIsRun = (driver : Pass) (others : List Pass) → driver.thread ≡ C → 
 -- a line more of one of the others
 abbrev pub OthersRunOn : Type 0
 OthersRunOn = (lines : List (ℕ × (Thread × Act))) (s : Standing) (driver heard : Pass) (others : List Pass) (i : ℕ) (p q : Pass) (number : ℕ) (act : Act) (es : List Entry) → AreOthers others → slice_get others i ≡ Some p
-    → q.thread ≡ p.thread → heard.thread ≡ driver.thread → own heard ≡ own driver → Adds driver.view heard.view p.thread (own p) (own q) es → AreLine s number (p.thread, act) es
+    → q.thread ≡ p.thread → heard.thread ≡ driver.thread → own heard ≡ own driver → CallerAdds driver.view heard.view p.thread (own p) (own q) es → AreLine s number (p.thread, act) es
     → IsRunSoFar lines s driver others → IsRunSoFar (lines ++ (number, (p.thread, act)) ∷ []) (standing_after s number act es) heard (slice_set others i q)
 
 -- a line more of the driver
 abbrev pub DriverRunsOn : Type 0
 DriverRunsOn = (lines : List (ℕ × (Thread × Act))) (s : Standing) (driver after : Pass) (others : List Pass) (number : ℕ) (act : Act) (es : List Entry) → AreOthers others → after.thread ≡ driver.thread
-    → Adds driver.view after.view C (own driver) (own after) es → AreLine s number (C, act) es → IsRunSoFar lines s driver others → IsRunSoFar (lines ++ (number, (C, act)) ∷ []) (standing_after s number act es) after others
+    → CallerAdds driver.view after.view C (own driver) (own after) es → AreLine s number (C, act) es → IsRunSoFar lines s driver others → IsRunSoFar (lines ++ (number, (C, act)) ∷ []) (standing_after s number act es) after others
 
 -- once all lines and the phases left have been run, the finished history holds the script in line order
 abbrev pub RunsHoldScript : Type 0
 RunsHoldScript = (script : List (Thread × Act)) (h : Finished) (s : Standing) (driver after : Pass) (others : List Pass) (left : List Entry) → IsLinked h → AreOthers others → after.thread ≡ driver.thread
-    → Adds driver.view after.view C (own driver) (own after) left → AreLeft s left → IsRunSoFar (numbered_from 1 script) s driver others → All (HasOwn h.entries) (others ++ after ∷ []) → HoldsInOrder script h.entries
+    → CallerAdds driver.view after.view C (own driver) (own after) left → AreLeft s left → IsRunSoFar (numbered_from 1 script) s driver others → All (HasOwn h.entries) (others ++ after ∷ []) → HoldsInOrder script h.entries
 
 -- the callers of all threads are given out then
 abbrev pub AllAreGiven : Type 0

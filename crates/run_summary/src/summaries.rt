@@ -1,7 +1,7 @@
 // The text of a summary, put together in a fixed buffer.
 
 ghost use Rattle.std.specs.Prelude.{◌≡◌, ◌≤◌, length, codes};
-ghost use Rattle.bridge_script.specs.Drafts.{Adds};
+ghost use Rattle.bridge_script.specs.Drafts.{AddsText};
 ghost use Rattle.bridge_script.specs.Outside.{Writes};
 ghost use Rattle.command_words.specs.Commands.{mode_text};
 ghost use Rattle.run_summary.specs.Summary.{objects_text, command_text, counts_text, summary_text};
@@ -26,7 +26,7 @@ fn word_of(mode: Mode) -> &'static [u8]
 /// The end of a line that counts objects.
 fn add_objects(line: &mut Line, objects: &Objects)
     requires { 87 ≤ line.old.room }
-    ensures { Adds line.old line.new (objects_text objects.now) 87 }
+    ensures { AddsText line.old line.new (objects_text objects.now) 87 }
 {
     line.text(b" managed ");
     line.number(objects.managed);
@@ -40,7 +40,7 @@ fn add_objects(line: &mut Line, objects: &Objects)
 /// The line of the words that asked for the run.
 fn add_command(line: &mut Line, seed: u64, size: u32, mode: Mode)
     requires { 66 ≤ line.old.room }
-    ensures { Adds line.old line.new (command_text seed size mode) 66 }
+    ensures { AddsText line.old line.new (command_text seed size mode) 66 }
 {
     line.text(b"seed ");
     line.number(seed);
@@ -54,7 +54,7 @@ fn add_command(line: &mut Line, seed: u64, size: u32, mode: Mode)
 /// The three lines of numbers.
 fn add_counts(line: &mut Line, lines: u32, tally: &Tally)
     requires { 237 ≤ line.old.room }
-    ensures { Adds line.old line.new (counts_text lines tally.now) 237 }
+    ensures { AddsText line.old line.new (counts_text lines tally.now) 237 }
 {
     line.text(b"lines ");
     line.number(lines as u64);

@@ -15,7 +15,7 @@ use Rattle.joint_history.specs.Operations.{IsPeerOperation, MakesAll}
 use Rattle.bridge_cycle.specs.Progress.{Progress, pass_of, line_of}
 use Rattle.script_laws.specs.Holding.{Standing, standing_after, AreLine, AreLeft, numbered_from}
 use Rattle.run_laws.specs.LastCycle.{HasHeardOf}
-use Rattle.run_laws.specs.Serial.{Adds, AreOthers, IsRunSoFar}
+use Rattle.run_laws.specs.Serial.{CallerAdds, AreOthers, IsRunSoFar}
 use Rattle.run_laws.specs.Threads.{HoldsItsLines}
 
 -- a line of a script that can be run: one of a peer thread is one event or a collect
@@ -76,7 +76,7 @@ EndsSo script caller result = IfOk result (HasRun script caller.thread)
 -- one of the others made the entries of a line, told of all that the driver knew, and the driver has heard of them
 pub record TellsLine (old new : Progress) (before after : Pass) (index : ℕ) (a : Act) : Type 0 where
   pub entries : List Entry
-  pub adds : Adds old.view new.view before.thread (own before) (own after) entries
+  pub adds : CallerAdds old.view new.view before.thread (own before) (own after) entries
   pub line : (s : Standing) → AreLine s index (before.thread, a) entries
   pub still : (s : Standing) → standing_after s index a entries ≡ s
   pub own_stay : own (pass_of new) ≡ own (pass_of old)

@@ -15,7 +15,7 @@ use Rattle.xref_list.specs.declared.pairs.Added.{Added}
 use Rattle.xref_list.specs.declared.pairs.Added.TheVariants.{New, Old}
 use Rattle.xref_list.specs.Adding.{Adds}
 use Rattle.xref_list.specs.Listing.{AreDisjoint, AreComponents, IsBetween, IsListing}
-use Rattle.xref_list.specs.Kept.{AreFlat, IsBuilding}
+use Rattle.xref_list.specs.Kept.{AreFlat, IsListingBegun}
 
 pub length-packed : (starts members : List ℕ) (n : ℕ) → length (packed_rows starts members n) ≡ n
 length-packed starts members n = length-map-range_with_len (packed_row starts members) 0 n
@@ -70,10 +70,10 @@ flat_more members starts circles objs a few most = record {
 between_more : (n : ℕ) (pairs : List (ℕ × ℕ)) → All (IsBetween n) pairs → All (IsBetween (n + 1)) pairs
 between_more n pairs h = All-weaker (IsBetween n) (IsBetween (n + 1)) (λ p b. record { source = omega (arith, b.source); destination = omega (arith, b.destination); apart = b.apart }) pairs h
 
-pub building_more : (members starts : List ℕ) (circles pairs : List (ℕ × ℕ)) (sorted : Bool) (objs : List ℕ) → IsBuilding members starts circles pairs sorted
+pub building_more : (members starts : List ℕ) (circles pairs : List (ℕ × ℕ)) (sorted : Bool) (objs : List ℕ) → IsListingBegun members starts circles pairs sorted
     → length members + length objs ≤ 65535 → 0 < length objs → Rises objs → All (λ x. x < 65535) objs
     → All (λ m. AreDisjoint m objs) (packed_rows starts members (length starts)) → All (λ m. first_of m < first_of objs) (packed_rows starts members (length starts))
-    → IsBuilding (members ++ objs) (starts ++ length members ∷ []) (circles ++ circle objs) pairs sorted
+    → IsListingBegun (members ++ objs) (starts ++ length members ∷ []) (circles ++ circle objs) pairs sorted
 building_more members starts circles pairs sorted objs b most s r l d f =
     let comps = packed_rows starts members (length starts) in
     let more = components_more comps objs b.components s r l d f in

@@ -13,7 +13,7 @@ pub record AreFlat (members starts : List ℕ) (circles : List (ℕ × ℕ)) : T
   pub edges : length circles ≤ length members
 
 -- flat lists of components with pairs between them, which rise where that is known
-pub record IsBuilding (members starts : List ℕ) (circles pairs : List (ℕ × ℕ)) (sorted : Bool) : Type 0 where
+pub record IsListingBegun (members starts : List ℕ) (circles pairs : List (ℕ × ℕ)) (sorted : Bool) : Type 0 where
   pub flat : AreFlat members starts circles
   pub components : AreComponents (packed_rows starts members (length starts))
   pub ends : All (IsBetween (length starts)) pairs
@@ -21,7 +21,7 @@ pub record IsBuilding (members starts : List ℕ) (circles pairs : List (ℕ × 
   pub count : length pairs ≤ 4294901760
 
 -- flat lists of a whole listing
-pub record IsWhole (members starts : List ℕ) (circles pairs : List (ℕ × ℕ)) : Type 0 where
+pub record IsWholeListing (members starts : List ℕ) (circles pairs : List (ℕ × ℕ)) : Type 0 where
   pub flat : AreFlat members starts circles
   pub listing : IsListing (packed_rows starts members (length starts)) pairs
   pub count : length pairs ≤ 4294901760

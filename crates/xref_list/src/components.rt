@@ -35,11 +35,11 @@ impl Model for ComponentsBuilder {
     ghost Value = { Listing };
 
     ghost use Rattle.bridge_graph.specs.Packing.{packed_rows};
-    ghost use Rattle.xref_list.specs.Kept.{IsBuilding};
+    ghost use Rattle.xref_list.specs.Kept.{IsListingBegun};
 
     ghost view = { λ b. record { comps = packed_rows b.starts.items b.members.items (length b.starts.items); pairs = b.pairs } };
 
-    ghost invariant = { λ b. IsBuilding b.members.items b.starts.items b.circles.items b.pairs b.sorted };
+    ghost invariant = { λ b. IsListingBegun b.members.items b.starts.items b.circles.items b.pairs b.sorted };
 }
 
 impl ComponentsBuilder {
@@ -171,11 +171,11 @@ impl Model for Components {
     ghost Value = { Listing };
 
     ghost use Rattle.bridge_graph.specs.Packing.{packed_rows};
-    ghost use Rattle.xref_list.specs.Kept.{IsWhole};
+    ghost use Rattle.xref_list.specs.Kept.{IsWholeListing};
 
     ghost view = { λ b. record { comps = packed_rows b.starts.items b.members.items (length b.starts.items); pairs = b.pairs.items } };
 
-    ghost invariant = { λ b. IsWhole b.members.items b.starts.items b.circles.items b.pairs.items };
+    ghost invariant = { λ b. IsWholeListing b.members.items b.starts.items b.circles.items b.pairs.items };
 }
 
 impl Components {

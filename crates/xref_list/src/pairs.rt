@@ -3,7 +3,7 @@
 ghost use Rattle.std.specs.Prelude.{◌≡◌, ◌≢◌, ℕ, ◌+◌, ◌<◌, ◌≤◌, [], ◌∷◌, ◌++◌, length, map, Contains, All, AllPairs, IsTrue, IfOk, OnOk, OnErr, slice_get, Some, IsPermutation, take, vec_len, vec_capacity};
 ghost use Rattle.std.specs.HashSet as bag;
 ghost use Rattle.xref_list.specs.Adding.{Adds};
-ghost use Rattle.xref_list.specs.Known.{AreKnown};
+ghost use Rattle.xref_list.specs.Known.{ArePairsKnown};
 ghost use Rattle.joint_model.specs.Components.{Rises, PairsRise};
 
 use std::alloc::{AllocError, Global};
@@ -30,11 +30,11 @@ impl Model for PairList {
 
     ghost Value = { List (ℕ × ℕ) };
 
-    ghost use Rattle.xref_list.specs.Known.{AreKnown};
+    ghost use Rattle.xref_list.specs.Known.{ArePairsKnown};
 
     ghost view = { λ s. s.pairs.items };
 
-    ghost invariant = { λ s. AreKnown s.pairs.items s.known.keys };
+    ghost invariant = { λ s. ArePairsKnown s.pairs.items s.known.keys };
 }
 
 impl PairList {
@@ -102,8 +102,8 @@ impl PairList {
 /// Puts the pairs that are not yet known into the set. Where there is no memory those before are in it, which
 /// no caller sees: the set then knows the first pairs, as before.
 fn catch_up(pairs: &[(u32, u32)], known: &mut HashSet<(u32, u32)>) -> Result<(), AllocError>
-    requires known { AreKnown pairs.now known.old.keys }
-    ensures known { AreKnown pairs.now known.new.keys }
+    requires known { ArePairsKnown pairs.now known.old.keys }
+    ensures known { ArePairsKnown pairs.now known.new.keys }
     ensures all { OnOk result (length known.new.keys ≡ length pairs.now) }
 {
     while known.len() < pairs.len() {

@@ -1,11 +1,11 @@
 use Rattle.std.proofs.Common.{◌+◌, ◌++◌, take, drop, ◌∙◌, ap, arith}
 use Rattle.bridge_script.specs.Report.{entry_text, entries_text}
 use Rattle.bridge_script.proofs.Passing.{passed_on}
-use Rattle.bridge_script.proofs.Written.{Passes-none, Passes-into, Sends-into, entries_more, entries_split}
+use Rattle.bridge_script.proofs.Written.{BuffersText-none, BuffersText-into, Sends-into, entries_more, entries_split}
 use Rattle.bridge_script.proofs.reports.write_entries.Goals as goal
 
 pub loop-i-init : goal.loop-i-init
-loop-i-init g c = record { so_far = Passes-none (g.K.Sink.held c.args.out.now) c.args.block.now; later = omega arith }
+loop-i-init g c = record { so_far = BuffersText-none (g.K.Sink.held c.args.out.now) c.args.block.now; later = omega arith }
 
 pub returns-in_err-write_entry : goal.returns-in_err-write_entry
 returns-in_err-write_entry g c =
@@ -21,7 +21,7 @@ loop-i-preserved g c =
     let h = c.args.h.now in
     let es = c.args.h.now.entries in
     record {
-      so_far = Passes-into (g.K.Sink.held c.args.out.now) (g.K.Sink.held c.loop-i.out) (g.K.Sink.held c.write_entry.new.out) c.args.block.now c.loop-i.block c.write_entry.new.block
+      so_far = BuffersText-into (g.K.Sink.held c.args.out.now) (g.K.Sink.held c.loop-i.out) (g.K.Sink.held c.write_entry.new.out) c.args.block.now c.loop-i.block c.write_entry.new.block
           (entries_text h (take c.loop-i.i es)) (entry_text h c.in-Some.entry) (entries_text h (take (c.loop-i.i + 1) es))
           (entries_more h es c.loop-i.i c.in-Some.entry c.in-Some.ensures) c.loop-i.invariant.so_far c.in_ok-write_entry.ensures.whole;
       later = omega (arith, c.in_ok-write_entry.ensures.cause.later);

@@ -1,10 +1,10 @@
 use Rattle.std.proofs.Common.{◌≤◌, take}
-use Rattle.bridge_script.specs.Blocks.{Passes}
+use Rattle.bridge_script.specs.Blocks.{BuffersText}
 use Rattle.bridge_script.specs.Report.{entries_text}
 use Rattle.bridge_script.proofs.reports.write_entries.Given as goal
 
 abbrev pub invariant-loop-i : goal.invariant-loop-i
 invariant-loop-i g l = record {
-  so_far : Passes (g.K.Sink.held l.fn.out) (g.K.Sink.held l.out) l.fn.block l.block (entries_text l.h (take l.i l.h.entries));
+  so_far : BuffersText (g.K.Sink.held l.fn.out) (g.K.Sink.held l.out) l.fn.block l.block (entries_text l.h (take l.i l.h.entries));
   later : g.K.Sink.faults l.fn.out ≤ g.K.Sink.faults l.out;
 }

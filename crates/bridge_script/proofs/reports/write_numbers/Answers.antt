@@ -1,11 +1,11 @@
 use Rattle.std.proofs.Common.{◌≡◌, ◌+◌, ◌∷◌, ◌++◌, take, drop, decimal, ◌∙◌, ap, arith}
 use Rattle.bridge_script.specs.Lists.{after_spaces, lettered, numbers_of, letter_of}
 use Rattle.bridge_script.proofs.Passing.{passed_on}
-use Rattle.bridge_script.proofs.Written.{Passes-none, Passes-into, Sends-into, piece_of, numbers_more, numbers_same, numbers_split}
+use Rattle.bridge_script.proofs.Written.{BuffersText-none, BuffersText-into, Sends-into, piece_of, numbers_more, numbers_same, numbers_split}
 use Rattle.bridge_script.proofs.reports.write_numbers.Goals as goal
 
 pub loop-k-init : goal.loop-k-init
-loop-k-init g c = record { so_far = Passes-none (g.K.Sink.held c.args.out.now) c.args.block.now; later = omega arith }
+loop-k-init g c = record { so_far = BuffersText-none (g.K.Sink.held c.args.out.now) c.args.block.now; later = omega arith }
 
 pub loop-k-preserved-in_default : goal.loop-k-preserved-in_default
 loop-k-preserved-in_default g c =
@@ -35,7 +35,7 @@ loop-k-preserved g c =
     let piece : c.bytes.result.now ≡ 32 ∷ letter ∷ decimal c.in-Some.n = piece_of c.bytes.result.now c.lettered.new.self.text c.new-line.result.text c.letter.result letter c.in-Some.n c.bytes.ensures.text c.lettered.ensures.added c.new-line.ensures.text c.letter.ensures in
     let w = rw piece at c.in_ok-put.ensures in
     record {
-      so_far = Passes-into (g.K.Sink.held c.args.out.now) (g.K.Sink.held c.loop-k.out) (g.K.Sink.held c.put.new.out) c.args.block.now c.loop-k.block c.put.new.self
+      so_far = BuffersText-into (g.K.Sink.held c.args.out.now) (g.K.Sink.held c.loop-k.out) (g.K.Sink.held c.put.new.out) c.args.block.now c.loop-k.block c.put.new.self
           (after_spaces (lettered letter (take c.loop-k.k ys))) (32 ∷ letter ∷ decimal c.in-Some.n) (after_spaces (lettered letter (take (c.loop-k.k + 1) ys)))
           (numbers_more letter xs c.args.span.first c.loop-k.k c.in-Some.n c.in-Some.ensures) c.loop-k.invariant.so_far w.whole;
       later = omega (arith, w.cause.later);

@@ -1,7 +1,7 @@
 use Rattle.std.proofs.Common.{[], length, arith}
 use Rattle.bridge_script.specs.Report.{entries_text, end_text}
 use Rattle.bridge_script.proofs.Passing.{passed_on}
-use Rattle.bridge_script.proofs.Written.{Passes-then, Sends-after, Sends-short, Writes-flushed, Writes-open}
+use Rattle.bridge_script.proofs.Written.{BuffersText-then, Sends-after, Sends-short, Writes-flushed, Writes-open}
 use Rattle.bridge_script.proofs.reports.write_report.Goals as goal
 
 pub returns-in_err-write_entries : goal.returns-in_err-write_entries
@@ -27,6 +27,6 @@ returns g c =
     let es = c.args.h.now.entries in
     let w = rw c.new-block.ensures at c.in_ok-write_entries.ensures in
     let v = rw c.len.ensures at c.in_ok-write_end.ensures in
-    let p = Passes-then (g.K.Sink.held c.args.out.now) (g.K.Sink.held c.write_entries.new.out) (g.K.Sink.held c.write_end.new.out) [] c.write_entries.new.block c.write_end.new.block (entries_text c.args.h.now es) (end_text (length es)) w.whole v.whole in
+    let p = BuffersText-then (g.K.Sink.held c.args.out.now) (g.K.Sink.held c.write_entries.new.out) (g.K.Sink.held c.write_end.new.out) [] c.write_entries.new.block c.write_end.new.block (entries_text c.args.h.now es) (end_text (length es)) w.whole v.whole in
     Writes-flushed (g.K.Sink.held c.args.out.now) (g.K.Sink.held c.write_end.new.out) (g.K.Sink.held c.flush.new.out) c.write_end.new.block (g.K.Sink.faults c.args.out.now) (g.K.Sink.faults c.write_end.new.out) (g.K.Sink.faults c.flush.new.out) c.flush.result _
     p (omega (arith, w.cause.later, v.cause.later)) c.flush.ensures.written

@@ -5,7 +5,7 @@ use Rattle.std.proofs.lemmas.List.Elements.{All-contains}
 use Rattle.joint_model.specs.Walks.{Reaches}
 use Rattle.joint_model.proofs.WalkLemmas.{Reaches-mono}
 use Rattle.bridge_graph.specs.Parts.{Leads}
-use Rattle.component_pass.specs.Searching.{Goes, Finds}
+use Rattle.component_pass.specs.Searching.{Goes, FindsReached}
 use Rattle.component_pass.proofs.Finding.{leads_from}
 use Rattle.component_pass.proofs.plain.reaches.Goals as goal
 
@@ -15,7 +15,7 @@ every edges plain labels own n x y p e l =
     (inl (ap (λ (bs : List Bool). get_or bs x false) p ∙ get_or-replicate n x true false (omega (arith, leads_from edges x y l))), l)
 
 marked : (step edge : ℕ → ℕ → Type 0) (x y : ℕ) (marks : List Bool) (found : List ℕ) (b : Bool) → ((u v : ℕ) → step u v → edge u v) → ((u v : ℕ) → edge u v → step u v)
-    → Finds step x marks found → b ≡ get_or marks y false → IsTrue b ↔ Reaches edge x y
+    → FindsReached step x marks found → b ≡ get_or marks y false → IsTrue b ↔ Reaches edge x y
 marked step edge x y marks found b to from f e = (
   λ t. Reaches-mono step edge to x y ((f.exact y).0 (f.marking.listed y (sym e ∙ t))),
   λ r. e ∙ All-contains (λ z. get_or marks z false ≡ true) found y f.marking.marked ((f.exact y).1 (Reaches-mono edge step from x y r)),

@@ -4,7 +4,7 @@ use Rattle.std.proofs.Common.{◌≡◌, List, ℕ, eqb, Bool, get_or, subst}
 use Rattle.std.specs.List.{All, Contains, dedup}
 use Rattle.std.specs.List.Sorted.{IsPermutation, IsSorted}
 use Rattle.std.specs.Ordering.{nat_cmp}
-use Rattle.component_pass.specs.Searching.{Opens, Goes, Finds}
+use Rattle.component_pass.specs.Searching.{Opens, Goes, FindsReached}
 use Rattle.component_pass.specs.Referring.{AreDestinations}
 use Rattle.std.proofs.lemmas.List.Filters.{dedup_is}
 use Rattle.std.proofs.lemmas.List.Elements.{All-contains}
@@ -12,7 +12,7 @@ use Rattle.component_pass.proofs.Gathered.{ordered-rises, ordered-same}
 use Rattle.component_pass.proofs.references.destinations.Goals as goal
 
 collected : (edges : List (List ℕ)) (plain : List Bool) (labels indexes : List ℕ) (own x : ℕ) (marks : List Bool) (found outs sorted out : List ℕ)
-    → Finds (Goes edges plain labels own) x marks found
+    → FindsReached (Goes edges plain labels own) x marks found
     → All (λ j. (y : ℕ) × Contains found y × (Opens plain labels own y → ⊥) × (get_or indexes (get_or labels y 0) 0 ≡ j)) outs
     → All (λ y. (Opens plain labels own y → ⊥) → Contains outs (get_or indexes (get_or labels y 0) 0)) found
     → IsPermutation outs sorted → IsSorted nat_cmp sorted → out ≡ dedup eqb sorted → AreDestinations edges plain labels indexes own x out

@@ -1,7 +1,7 @@
 use Rattle.std.proofs.Common.{◌≡◌, false, []}
 use Rattle.std.specs.List.{All}
 use Rattle.bridge_graph.specs.Parts.{IsBridge, Leads}
-use Rattle.component_pass.specs.Referring.{AreReferences}
+use Rattle.component_pass.specs.Referring.{AreReferencesBelow}
 use Rattle.component_pass.proofs.references.refer_all.Given as goal
 
 abbrev pub invariant-loop-x : goal.invariant-loop-x
@@ -10,5 +10,5 @@ invariant-loop-x l = record {
   found : l.found.items ≡ [];
   outs : l.outs.items ≡ [];
   comps : l.builder.comps ≡ l.initial.builder.comps;
-  pairs : AreReferences (IsBridge l.graph.nodes) (Leads l.graph.edges) l.builder.comps l.x l.builder.pairs;
+  pairs : AreReferencesBelow (IsBridge l.graph.nodes) (Leads l.graph.edges) l.builder.comps l.x l.builder.pairs;
 }

@@ -4,14 +4,14 @@ use Rattle.std.specs.declared.alloc.AllocError.{AllocError}
 use Rattle.std.proofs.lemmas.List.Elements.{Contains-get_or}
 use Rattle.bridge_graph.specs.Parts.{IsBridge, Leads, row_at}
 use Rattle.component_pass.specs.Gathering.{set_at}
-use Rattle.component_pass.specs.Referring.{AreReferences}
+use Rattle.component_pass.specs.Referring.{AreReferencesBelow}
 use Rattle.component_pass.proofs.Crossing.{refs_skip, refs_more, refs_fresh, outs_below, outs_apart, first_index}
 use Rattle.component_pass.proofs.Shared.{setting_of, destinations_of, set-rises}
 use Rattle.component_pass.proofs.sharing.refer.Goals as goal
 
 -- the pairs from one source are put last
 appended : (B : ℕ → Type 0) (E : ℕ → ℕ → Type 0) (r : Result (Unit {0}) AllocError) (comps before : List (List ℕ)) (x : ℕ) (pairs more : List (ℕ × ℕ)) → before ≡ comps
-    → OnOk r (pairs ≡ more) → AreReferences B E comps (x + 1) more → OnOk r (AreReferences B E before (x + 1) pairs)
+    → OnOk r (pairs ≡ more) → AreReferencesBelow B E comps (x + 1) more → OnOk r (AreReferencesBelow B E before (x + 1) pairs)
 appended B E (Ok u) comps before x pairs more c e h = rw (c, e) h
 appended B E (Err u) comps before x pairs more c e h = tt
 

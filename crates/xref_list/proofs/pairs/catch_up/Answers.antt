@@ -3,12 +3,12 @@ use Rattle.std.proofs.Common.{◌≡◌, ℕ, ◌+◌, ◌<◌, ◌∷◌, lengt
 use Rattle.std.proofs.lemmas.List.{take_more}
 use Rattle.std.proofs.lemmas.List.Sorted.{IsPermutation-push_more, length_permutation}
 use Rattle.std.specs.List.Sorted.{IsPermutation}
-use Rattle.xref_list.specs.Known.{AreKnown}
+use Rattle.xref_list.specs.Known.{ArePairsKnown}
 use Rattle.xref_list.proofs.Rising.{new_key}
 use Rattle.xref_list.proofs.pairs.catch_up.Goals as goal
 
 -- one pair more is known
-more : (pairs keys keys' : List (ℕ × ℕ)) → length keys < length pairs → AreKnown pairs keys → IsPermutation (get_or pairs (length keys) (0, 0) ∷ keys) keys' → AreKnown pairs keys'
+more : (pairs keys keys' : List (ℕ × ℕ)) → length keys < length pairs → ArePairsKnown pairs keys → IsPermutation (get_or pairs (length keys) (0, 0) ∷ keys) keys' → ArePairsKnown pairs keys'
 more pairs keys keys' lt k m =
     let d : ℕ × ℕ = (0, 0) in
     let size : length keys' ≡ length keys + 1 = omega (arith, length_permutation (get_or pairs (length keys) d ∷ keys) keys' m) in

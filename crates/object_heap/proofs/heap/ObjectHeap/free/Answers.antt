@@ -2,14 +2,14 @@
 use Rattle.std.proofs.Common.{◌∙◌, ap, map, subst}
 use Rattle.std.proofs.lemmas.List.{map-append}
 use Rattle.joint_model.specs.Heaps.{Heap}
-use Rattle.object_heap.specs.Flags.{AreFlags}
+use Rattle.object_heap.specs.Flags.{AreLiveFlags}
 use Rattle.object_heap.proofs.Sound.{IsUp-live, IsSound-gone}
 use Rattle.object_heap.proofs.heap.ObjectHeap.free.Goals as goal
 
 pub take_down-requires-clause-up : goal.take_down-requires-clause-up
 take_down-requires-clause-up g c =
     let ups = c.self.inside.live.items in
-    let flags : AreFlags c.args.self.now ups = subst (λ (h : Heap). AreFlags h ups) c.self.view_is c.self.invariant.flags in
+    let flags : AreLiveFlags c.args.self.now ups = subst (λ (h : Heap). AreLiveFlags h ups) c.self.view_is c.self.invariant.flags in
     λ k d l. IsUp-live c.args.self.now ups _ flags (c.requires.live k d l)
 
 pub invariant_of-self : goal.invariant_of-self

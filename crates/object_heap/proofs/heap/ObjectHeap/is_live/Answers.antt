@@ -1,7 +1,7 @@
 -- The flag of the object tells.
 use Rattle.std.proofs.Common.{◌≤◌, length, arith, subst}
 use Rattle.joint_model.specs.Heaps.{Heap}
-use Rattle.object_heap.specs.Flags.{AreFlags}
+use Rattle.object_heap.specs.Flags.{AreLiveFlags}
 use Rattle.object_heap.proofs.Numbered.{numbered-index}
 use Rattle.object_heap.proofs.Sound.{IsLive-flag}
 use Rattle.object_heap.proofs.heap.ObjectHeap.is_live.Goals as goal
@@ -9,7 +9,7 @@ use Rattle.object_heap.proofs.heap.ObjectHeap.is_live.Goals as goal
 pub returns : goal.returns
 returns g c =
     let ups = c.self.inside.live.items in
-    let flags : AreFlags c.args.self.now ups = subst (λ (h : Heap). AreFlags h ups) c.self.view_is c.self.invariant.flags in
+    let flags : AreLiveFlags c.args.self.now ups = subst (λ (h : Heap). AreLiveFlags h ups) c.self.view_is c.self.invariant.flags in
     let low : 1 ≤ c.args.x = omega (arith, c.if-x-eq0.false) in
     let high : c.args.x ≤ length ups = omega (arith, c.if-x-len.false, c.len.ensures, c.self.inside.live.ok) in
     IsLive-flag c.args.self.now ups c.args.x c.index.result.now flags (numbered-index ups c.args.x c.index.result.now low high c.index.ensures)

@@ -8,7 +8,7 @@ use Rattle.joint_model.specs.Peers.{gripped, sort_of}
 use Rattle.global_handles.specs.declared.Hold.TheVariants.{Held}
 use Rattle.global_handles.specs.declared.Strength.TheVariants.{Strong}
 use Rattle.peer_side.specs.declared.rows.Issue.{Issue}
-use Rattle.peer_side.specs.Rows.{Rows, Answers, peers_in, rows_with, issued_to}
+use Rattle.peer_side.specs.Rows.{Rows, PeersAnswer, peers_in, rows_with, issued_to}
 use Rattle.peer_side.proofs.Events.{answers-gripped, sort-read}
 use Rattle.peer_side.proofs.rows.PeerRows.grip.Goals as goal
 
@@ -26,5 +26,5 @@ returns-in_ok-h-in-Some-clause-answers c =
     let kind = subst (λ (z : Rows). c.index-sort.result.now ≡ sort_of (peers_in z) p.0) v (sort-read (rows_with i.heap i.sorts.items i.names i.issued.items i.table) p.0 c.index-sort.result.now live.made.0 there) in
     let len = subst (λ (z : Rows). c.fields_len-fields.result ≡ length (fields_of z.rows.heap p.0)) v c.fields_len-fields.ensures in
     let number = (let e = c.in_ok-h-in-Some.ensures.number in (let r : c.in_ok-h-in-Some.h.0 ≡ length c.args.self.now.issued + 1 = cc in r)) in
-    subst (λ (z : Rows). Answers c.args.self.now (gripped (peers_in c.args.self.now) c.args.x) (says.Gripped p c.in_ok-h-in-Some.h c.index-sort.result.now c.fields_len-fields.result) z) (sym issued)
+    subst (λ (z : Rows). PeersAnswer c.args.self.now (gripped (peers_in c.args.self.now) c.args.x) (says.Gripped p c.in_ok-h-in-Some.h c.index-sort.result.now c.fields_len-fields.result) z) (sym issued)
     (answers-gripped c.args.self.now c.args.x p c.in_ok-h-in-Some.h c.index-sort.result.now c.fields_len-fields.result static full number kind len)

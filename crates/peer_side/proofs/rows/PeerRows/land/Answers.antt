@@ -5,7 +5,7 @@ use Rattle.joint_model.specs.Heaps.{with_static}
 use Rattle.joint_model.specs.Peers.{landed}
 use Rattle.joint_model.specs.PeerReplay.{opening_peer_replay, table_target}
 use Rattle.row_heap.specs.Rows.{HeapRows}
-use Rattle.peer_side.specs.Rows.{Rows, Answers, peers_in, with_rows}
+use Rattle.peer_side.specs.Rows.{Rows, PeersAnswer, peers_in, with_rows}
 use Rattle.peer_side.proofs.Events.{answers-no_land, answers-landed}
 use Rattle.peer_side.proofs.Marks.{brought-back}
 use Rattle.peer_side.proofs.rows.PeerRows.land.Goals as goal
@@ -20,7 +20,7 @@ returns-in-Some-clause-answers c =
     let target = table_target (with_rows opening_peer_replay old) c.args.h.0 in
     let seen = c.self.view_is ∙ c.bring_back.ensures.rest in
     let named = ap (λ (v : HeapRows). v.heap) c.set_static.ensures ∙ ap (λ (z : Rows). with_static z.rows.heap c.args.x (Some p.0)) seen in
-    subst (λ (z : Rows). Answers old (landed (peers_in old) c.args.x target) (says.P p) (record z { rows = c.set_static.new.self })) (sym seen)
+    subst (λ (z : Rows). PeersAnswer old (landed (peers_in old) c.args.x target) (says.P p) (record z { rows = c.set_static.new.self })) (sym seen)
     (answers-landed old c.set_static.new.self c.args.x target p c.in-Some.ensures named)
 
 pub returns-in-Some-clause-marks : goal.returns-in-Some-clause-marks

@@ -11,7 +11,7 @@ use Rattle.global_handles.specs.Rows.{Table, fresh_row}
 use Rattle.row_heap.specs.Rows.{HeapRows}
 use Rattle.peer_side.specs.declared.rows.Issue.{Issue}
 use Rattle.peer_side.specs.Marks.{IsMarkedToo}
-use Rattle.peer_side.specs.Rows.{Rows, Answers, peers_in, rows_with, issued_as}
+use Rattle.peer_side.specs.Rows.{Rows, PeersAnswer, peers_in, rows_with, issued_as}
 use Rattle.peer_side.proofs.Events.{answers-pair}
 use Rattle.peer_side.proofs.Handles.{rows-issued, AreRowsIssued-pushed}
 use Rattle.peer_side.proofs.Lengths.{new-keeps}
@@ -57,8 +57,8 @@ returns-clause-answers c =
     let grown = ap (λ (z : HeapRows). z.heap) c.in_ok-add_object.ensures.ok in
     let answered = answers-pair old c.add_object.new.self c.push_reserved.new.self.items c.args.sort c.args.fields p c.in-Ok.h (sym c.if-is_full.ensures) left c.in_ok-add_object.ensures.number next grown sorts in
     let seen = rows-issued c.add_object.new.self c.push_reserved.new.self.items i.names i.issued.items c.push_reserved-2.new.self.items i.table c.make.new.self new c.in-Ok.h more number rows made kept.rising in
-    subst (λ (z : Rows). Answers z (pair_made (peers_in z) c.args.sort c.args.fields) (says.Made p c.in-Ok.h) (rows_with c.add_object.new.self c.push_reserved.new.self.items i.names c.push_reserved-2.new.self.items c.make.new.self)) v
-    (subst (λ (z : Rows). Answers old (pair_made (peers_in old) c.args.sort c.args.fields) (says.Made p c.in-Ok.h) z) (sym seen) answered)
+    subst (λ (z : Rows). PeersAnswer z (pair_made (peers_in z) c.args.sort c.args.fields) (says.Made p c.in-Ok.h) (rows_with c.add_object.new.self c.push_reserved.new.self.items i.names c.push_reserved-2.new.self.items c.make.new.self)) v
+    (subst (λ (z : Rows). PeersAnswer old (pair_made (peers_in old) c.args.sort c.args.fields) (says.Made p c.in-Ok.h) z) (sym seen) answered)
 
 pub returns-clause-marks : goal.returns-clause-marks
 returns-clause-marks c =

@@ -4,7 +4,7 @@ use Rattle.std.specs.Prelude.{slice_set}
 use Rattle.joint_model.specs.declared.events.Reply.TheVariants as says
 use Rattle.joint_model.specs.Heaps.{slot}
 use Rattle.joint_model.specs.Peers.{name_given}
-use Rattle.peer_side.specs.Rows.{Rows, Answers, peers_in, strength_as}
+use Rattle.peer_side.specs.Rows.{Rows, PeersAnswer, peers_in, strength_as}
 use Rattle.peer_side.proofs.Events.{answers-taken, answers-no_handle, answers-named}
 use Rattle.peer_side.proofs.rows.PeerRows.name_peer.Goals as goal
 
@@ -18,5 +18,5 @@ pub returns-in_ok-h-in-None-clause-answers : goal.returns-in_ok-h-in-None-clause
 returns-in_ok-h-in-None-clause-answers c =
     let old = c.args.self.now in
     let o = slot old.names c.args.g in
-    subst (λ (z : Rows). Answers old (name_given (peers_in old) c.args.g c.args.p.0 (strength_as c.args.strength) o) (says.H c.in_ok-h-in-None.h) (record z { names = slice_set z.names c.args.g (Some c.in_ok-h-in-None.h.0) }))
+    subst (λ (z : Rows). PeersAnswer old (name_given (peers_in old) c.args.g c.args.p.0 (strength_as c.args.strength) o) (says.H c.in_ok-h-in-None.h) (record z { names = slice_set z.names c.args.g (Some c.in_ok-h-in-None.h.0) }))
     (sym (c.self.view_is ∙ c.in_ok-h-in-None.ensures.issued)) (answers-named old c.args.g c.args.p c.args.strength o c.in_ok-h-in-None.h c.in-None.ensures (sym c.if-handles_full.ensures) c.in_ok-h-in-None.ensures.number)

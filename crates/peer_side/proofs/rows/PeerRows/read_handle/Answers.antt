@@ -5,7 +5,7 @@ use Rattle.joint_model.specs.Heaps.{with_var}
 use Rattle.joint_model.specs.Peers.{peer_read}
 use Rattle.joint_model.specs.PeerReplay.{opening_peer_replay, table_target}
 use Rattle.row_heap.specs.Rows.{HeapRows}
-use Rattle.peer_side.specs.Rows.{Rows, Answers, peers_in, with_rows}
+use Rattle.peer_side.specs.Rows.{Rows, PeersAnswer, peers_in, with_rows}
 use Rattle.peer_side.proofs.Events.{answers-no_read, answers-read}
 use Rattle.peer_side.proofs.Marks.{brought-back}
 use Rattle.peer_side.proofs.rows.PeerRows.read_handle.Goals as goal
@@ -20,7 +20,7 @@ returns-in-Some-clause-answers c =
     let target = table_target (with_rows opening_peer_replay old) c.args.h.0 in
     let seen = c.self.view_is ∙ c.bring_back.ensures.rest in
     let named = ap (λ (v : HeapRows). v.heap) c.set_var.ensures ∙ ap (λ (z : Rows). with_var z.rows.heap c.args.v (Some p.0)) seen in
-    subst (λ (z : Rows). Answers old (peer_read (peers_in old) c.args.v target) (says.P p) (record z { rows = c.set_var.new.self })) (sym seen)
+    subst (λ (z : Rows). PeersAnswer old (peer_read (peers_in old) c.args.v target) (says.P p) (record z { rows = c.set_var.new.self })) (sym seen)
     (answers-read old c.set_var.new.self c.args.v target p c.in-Some.ensures named)
 
 pub returns-in-Some-clause-marks : goal.returns-in-Some-clause-marks

@@ -3,7 +3,7 @@ use Rattle.std.proofs.Common.{sym, subst}
 use Rattle.joint_model.specs.Heaps.{Answered}
 use Rattle.joint_model.specs.Peers.{Peers}
 use Rattle.joint_model.specs.PeerReplay.{opening_peer_replay, table_target}
-use Rattle.peer_side.specs.Rows.{Answers, with_rows}
+use Rattle.peer_side.specs.Rows.{PeersAnswer, with_rows}
 use Rattle.peer_side.proofs.Events.{answers-unread, name_read-some}
 use Rattle.peer_side.proofs.rows.PeerRows.read_name.Goals as goal
 
@@ -12,5 +12,5 @@ returns-in-None-clause-answers c = answers-unread c.args.self.now (table_target 
 
 pub returns-in-Some-clause-answers : goal.returns-in-Some-clause-answers
 returns-in-Some-clause-answers c =
-    subst (λ (a : Answered Peers). Answers c.args.self.now a c.read_handle.result c.read_handle.new.self)
+    subst (λ (a : Answered Peers). PeersAnswer c.args.self.now a c.read_handle.result c.read_handle.new.self)
     (sym (name_read-some c.args.self.now (table_target (with_rows opening_peer_replay c.args.self.now)) c.args.v c.args.g c.in-Some.h c.in-Some.ensures)) c.read_handle.ensures.answers

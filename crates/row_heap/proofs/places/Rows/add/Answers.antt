@@ -1,6 +1,6 @@
 -- The key was vacant, so no place of the index has it.
 use Rattle.std.proofs.Common.{◌≡◌, ◌++◌, ◌∷◌, [], ◌∙◌, map, sym, ap}
-use Rattle.row_heap.specs.declared.places.Place.TheVariants.{At}
+use Rattle.row_heap.specs.declared.places.RowPlace.TheVariants.{At}
 use Rattle.row_heap.specs.Places.{seen_at}
 use Rattle.row_heap.proofs.Indexed.{shown-pushed, IsIndex-pushed, IsIndex-grown, shown-grown}
 use Rattle.row_heap.proofs.places.Rows.add.Goals as goal

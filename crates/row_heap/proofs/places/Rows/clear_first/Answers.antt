@@ -1,6 +1,6 @@
 -- The row under the one key is written; a removed one has no references.
 use Rattle.std.proofs.Common.{◌∙◌, sym, ap}
-use Rattle.row_heap.specs.declared.places.Place.TheVariants.{At, Gone}
+use Rattle.row_heap.specs.declared.places.RowPlace.TheVariants.{At, Gone}
 use Rattle.row_heap.specs.Places.{Seen, row_at}
 use Rattle.row_heap.proofs.Indexed.{IsIndex-written, shown-written, read-place, read-row, key-there, seen-row, rows-self}
 use Rattle.row_heap.proofs.places.Rows.clear_first.Goals as goal

@@ -1,7 +1,7 @@
 -- By the place; a removed row doesn't stand.
 use Rattle.std.proofs.Common.{sym, ap, ◌∙◌}
 use Rattle.row_heap.specs.Places.{is_white}
-use Rattle.row_heap.specs.declared.places.Place.TheVariants.{At, Gone}
+use Rattle.row_heap.specs.declared.places.RowPlace.TheVariants.{At, Gone}
 use Rattle.row_heap.proofs.Indexed.{read-row, seen-row}
 use Rattle.row_heap.proofs.places.Rows.is_white.Goals as goal
 

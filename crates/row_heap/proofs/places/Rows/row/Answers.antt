@@ -1,6 +1,6 @@
 -- A row that stands has its key in the index.
 use Rattle.std.proofs.Common.{◌∙◌}
-use Rattle.row_heap.specs.declared.places.Place.TheVariants.{At, Gone}
+use Rattle.row_heap.specs.declared.places.RowPlace.TheVariants.{At, Gone}
 use Rattle.row_heap.proofs.Indexed.{read-row, stands-gone, stands-within, seen-row}
 use Rattle.row_heap.proofs.places.Rows.row.Goals as goal
 

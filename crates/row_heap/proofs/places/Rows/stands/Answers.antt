@@ -1,6 +1,6 @@
 -- By the place.
 use Rattle.std.proofs.Common.{sym, ap, ◌∙◌}
-use Rattle.row_heap.specs.declared.places.Place.TheVariants.{At, Gone}
+use Rattle.row_heap.specs.declared.places.RowPlace.TheVariants.{At, Gone}
 use Rattle.row_heap.proofs.Indexed.{read-row, read-place, seen-stands}
 use Rattle.row_heap.proofs.places.Rows.stands.Goals as goal
 
