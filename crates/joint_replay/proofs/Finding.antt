@@ -23,7 +23,7 @@ use Rattle.joint_replay.specs.Plain.{cleaned, kept_target, is_live}
 use Rattle.joint_marking.specs.Gathered.{Gains}
 use Rattle.joint_replay.specs.Roots.{IsNamedLive, IsRoot, Lists}
 use Rattle.joint_replay.specs.Found.{IsRootReached, IsHandleReached}
-use Rattle.joint_replay.specs.Finding.{Finds}
+use Rattle.joint_replay.specs.Finding.{FindsRows}
 use Rattle.joint_replay.proofs.Flags.{is_live-exact}
 
 -- the open fields of an object
@@ -100,11 +100,11 @@ decided R marks m true e r = inl (r.0 (IsMarked-test marks m e))
 decided R marks m false e r = inr ((apart R marks m r).0 e)
 
 -- the lists by their marks
-pub Finds-from : (h : Heap) (held pins : List (Option ℕ)) (slots bridges : List Bool) (freed candidates dead : List ℕ)
+pub FindsRows-from : (h : Heap) (held pins : List (Option ℕ)) (slots bridges : List Bool) (freed candidates dead : List ℕ)
     → ((k : ℕ) → IsLive h k → IsMarked slots k ↔ IsRootReached h pins k) → ((k : ℕ) → IsMarked bridges k ↔ IsHandleReached h held k)
     → Lists (IsUnreachedRow h slots bridges false) freed → Lists (IsUnreachedRow h slots bridges true) dead → Lists (IsCandidateRow h held slots) candidates
-    → Finds h held pins freed candidates dead
-Finds-from h held pins slots bridges freed candidates dead s b f d c =
+    → FindsRows h held pins freed candidates dead
+FindsRows-from h held pins slots bridges freed candidates dead s b f d c =
     let S : (m : ℕ) → IsLive h m → (marked slots m ≡ false) ↔ (IsRootReached h pins m → ⊥) = λ m l. apart (IsRootReached h pins m) slots m (s m l) in
     let B : (m : ℕ) → (marked bridges m ≡ false) ↔ (IsHandleReached h held m → ⊥) = λ m. apart (IsHandleReached h held m) bridges m (b m) in
     record {

@@ -25,14 +25,14 @@ use Rattle.joint_replay.specs.Unmarked.{unmarked_of}
 use Rattle.joint_replay.proofs.Gathering.{Rises-filter, unmarked_of-exact}
 use Rattle.joint_replay.specs.Judging.{named_objects}
 use Rattle.joint_replay.specs.Found.{IsHandleReached}
-use Rattle.joint_replay.specs.Finding.{Finds}
+use Rattle.joint_replay.specs.Finding.{FindsRows}
 use Rattle.joint_replay.specs.Plain.{cleaned}
-use Rattle.joint_replay.specs.Snaps.{Snaps, SaysSnap, SaysFreed, OwesDead, keeps, Settles, SnapsJoint}
+use Rattle.joint_replay.specs.Snaps.{SnapsManaged, SaysSnap, SaysFreed, OwesDead, keeps, Settles, SnapsJoint}
 use Rattle.joint_replay.proofs.Finding.{marks-open}
 use Rattle.joint_replay.proofs.Flags.{is_freed-exact}
 
 -- what was found is a snapshot
-pub snapshot-found : (s : Managed) (k : ℕ) (freed candidates dead : List ℕ) → s.cycle ≡ None → k ≡ s.cycles + 1 → Finds s.heap s.held s.pins freed candidates dead → IsSnapshot s k freed candidates dead
+pub snapshot-found : (s : Managed) (k : ℕ) (freed candidates dead : List ℕ) → s.cycle ≡ None → k ≡ s.cycles + 1 → FindsRows s.heap s.held s.pins freed candidates dead → IsSnapshot s k freed candidates dead
 snapshot-found s k freed candidates dead o n f =
     let B : (m : ℕ) → IsBridgeReached s m ↔ IsHandleReached s.heap s.held m = λ m. handle-reached s m in
     record {
@@ -59,10 +59,10 @@ snapshot-found s k freed candidates dead o n f =
     }
 
 -- the rows of what was found were made
-pub found-freed : (h : Heap) (held pins : List (Option ℕ)) (freed candidates dead : List ℕ) → Finds h held pins freed candidates dead → All (IsMade h) freed
+pub found-freed : (h : Heap) (held pins : List (Option ℕ)) (freed candidates dead : List ℕ) → FindsRows h held pins freed candidates dead → All (IsMade h) freed
 found-freed h held pins freed candidates dead f = All-members (IsMade h) freed (λ m c. ((f.frees.exact m).0 c).0.made)
 
-pub found-owed : (h : Heap) (held pins : List (Option ℕ)) (freed candidates dead : List ℕ) (n k : ℕ) → length h.fields ≡ n → Finds h held pins freed candidates dead → OwesDead n (Some record { number = k; candidates = candidates; dead = dead })
+pub found-owed : (h : Heap) (held pins : List (Option ℕ)) (freed candidates dead : List ℕ) (n k : ℕ) → length h.fields ≡ n → FindsRows h held pins freed candidates dead → OwesDead n (Some record { number = k; candidates = candidates; dead = dead })
 found-owed h held pins freed candidates dead n k e f = (
   f.leaves.rise,
   All-members (λ m. (1 ≤ m) × (m ≤ n)) dead (λ m c. (let l = ((f.leaves.exact m).0 c).0.made in (l.0, omega (arith, l.1, e)))),
@@ -88,15 +88,15 @@ snap-said s h (says.Snapped n span) freed candidates w = (w.1.named, ap (λ m. s
 snap-said s h _ freed candidates w = absurd w
 
 -- a reply that says something else is no snapshot's
-pub snap-no : (s : Managed) (h : Finished) (reply : Reply) (k l : ℕ) (freed candidates dead : List ℕ) → IsSnapshot s k freed candidates dead → (SaysSnap s.heap h reply freed (length candidates) → ⊥) → (next : Managed) → Snaps s l (named_objects h reply) reply next → ⊥
+pub snap-no : (s : Managed) (h : Finished) (reply : Reply) (k l : ℕ) (freed candidates dead : List ℕ) → IsSnapshot s k freed candidates dead → (SaysSnap s.heap h reply freed (length candidates) → ⊥) → (next : Managed) → SnapsManaged s l (named_objects h reply) reply next → ⊥
 snap-no s h reply k l freed candidates dead x wrong next y =
     let one = snap-one s l k (named_objects h reply) y.candidates y.dead freed candidates dead y.snapshot x in
     wrong (says-snap s h reply freed candidates one.0 (y.replies ∙ (ap (λ f. snap_reply s f y.candidates) one.0 ∙ ap (snap_reply s freed) one.1)))
 
-pub snap-yes : (s : Managed) (h : Finished) (reply : Reply) (k : ℕ) (freed candidates dead : List ℕ) (next : Managed) → IsSnapshot s k freed candidates dead → SaysSnap s.heap h reply freed (length candidates) → next ≡ with_snapshot s freed candidates dead → Snaps s k (named_objects h reply) reply next
+pub snap-yes : (s : Managed) (h : Finished) (reply : Reply) (k : ℕ) (freed candidates dead : List ℕ) (next : Managed) → IsSnapshot s k freed candidates dead → SaysSnap s.heap h reply freed (length candidates) → next ≡ with_snapshot s freed candidates dead → SnapsManaged s k (named_objects h reply) reply next
 snap-yes s h reply k freed candidates dead next x w e =
     let r = snap-said s h reply freed candidates w in
-    subst (λ f. Snaps s k f reply next) (sym r.0) (record { candidates = candidates; dead = dead; snapshot = x; replies = r.1; state = e })
+    subst (λ f. SnapsManaged s k f reply next) (sym r.0) (record { candidates = candidates; dead = dead; snapshot = x; replies = r.1; state = e })
 
 -- which candidates are kept
 keeps-from : (s : Managed) (p : Peers) (m : ℕ) → keeps s p m ≡ true → (h : ℕ) × (handle_of s m ≡ Some h) × ((q : ℕ) × (peer_of p.issued h ≡ Some q) × (Contains p.heap.freed q → ⊥))
@@ -183,8 +183,8 @@ resolve-no j h reply k freed x wrong next y =
     wrong (says-freed j.graph.managed h reply freed one (y.replies ∙ ap (resolve_reply j.graph.managed) one))
 
 -- the managed snapshot is the joint one
-pub snap-joint : (j : Joint) (k : ℕ) (freed : List ℕ) (reply : Reply) (m : Managed) → Snaps j.graph.managed k freed reply m → SnapsJoint j k freed reply (with_managed j m)
+pub snap-joint : (j : Joint) (k : ℕ) (freed : List ℕ) (reply : Reply) (m : Managed) → SnapsManaged j.graph.managed k freed reply m → SnapsJoint j k freed reply (with_managed j m)
 snap-joint j k freed reply m x = record { candidates = x.candidates; dead = x.dead; snap = record { snapshot = x.snapshot; replies = x.replies; state = ap (λ (z : Managed). with_managed j z) x.state } }
 
-pub joint-snap : (j : Joint) (k : ℕ) (freed : List ℕ) (reply : Reply) (n : Joint) → SnapsJoint j k freed reply n → (m : Managed) × Snaps j.graph.managed k freed reply m
+pub joint-snap : (j : Joint) (k : ℕ) (freed : List ℕ) (reply : Reply) (n : Joint) → SnapsJoint j k freed reply n → (m : Managed) × SnapsManaged j.graph.managed k freed reply m
 joint-snap j k freed reply n x = (with_snapshot j.graph.managed freed x.candidates x.dead, record { candidates = x.candidates; dead = x.dead; snapshot = x.snap.snapshot; replies = x.snap.replies; state = refl })

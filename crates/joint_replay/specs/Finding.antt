@@ -6,7 +6,7 @@ use Rattle.joint_replay.specs.Found.{IsBridgeRow, IsRootReached, IsHandleReached
 use Rattle.joint_replay.specs.Roots.{Lists}
 
 -- the lists of a snapshot, each of them rising and exact
-pub record Finds (h : Heap) (held pins : List (Option ℕ)) (freed candidates dead : List ℕ) : Type 0 where
+pub record FindsRows (h : Heap) (held pins : List (Option ℕ)) (freed candidates dead : List ℕ) : Type 0 where
   pub frees : Lists (λ m. IsLive h m × (IsRootReached h pins m → ⊥) × (IsHandleReached h held m → ⊥)) freed
   pub picks : Lists (λ m. IsBridgeRow h held m × (IsRootReached h pins m → ⊥)) candidates
   pub leaves : Lists (λ m. IsLive h m × (IsRootReached h pins m → ⊥) × IsHandleReached h held m) dead

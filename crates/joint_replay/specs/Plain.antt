@@ -5,12 +5,12 @@ use Rattle.joint_model.specs.declared.events.Reply.TheVariants as says
 use Rattle.joint_model.specs.Heaps.{Heap, MOST, IsMade, is_freed, numbered_at}
 use Rattle.joint_model.specs.Cycles.{IsOpen}
 use Rattle.joint_model.specs.Managed.{Managed, OpenCycle}
-use Rattle.joint_model.specs.Peers.{Issued, Hold as JointHold, Strength as JointStrength, held, raw, strong, weak}
+use Rattle.joint_model.specs.Peers.{Issued, Hold, Strength, held, raw, strong, weak}
 use Rattle.joint_replay.specs.declared.peers.Handle.{Handle}
-use Rattle.joint_replay.specs.declared.peers.Hold.{Hold}
-use Rattle.joint_replay.specs.declared.peers.Hold.TheVariants.{Held, Raw}
-use Rattle.joint_replay.specs.declared.peers.Strength.{Strength}
-use Rattle.joint_replay.specs.declared.peers.Strength.TheVariants.{Strong, Weak}
+use Rattle.joint_replay.specs.declared.peers.IssuedHold.{IssuedHold}
+use Rattle.joint_replay.specs.declared.peers.IssuedHold.TheVariants.{Held, Raw}
+use Rattle.joint_replay.specs.declared.peers.IssuedStrength.{IssuedStrength}
+use Rattle.joint_replay.specs.declared.peers.IssuedStrength.TheVariants.{Strong, Weak}
 use Rattle.joint_replay.specs.declared.heap.Refusal.{Refusal}
 use Rattle.joint_replay.specs.declared.heap.Refusal.TheVariants.{Empty, Range}
 
@@ -38,12 +38,12 @@ abbrev pub cleaned : Heap → Heap
 cleaned h = record h { fields = map (map (kept_target h)) h.fields }
 
 -- who a handle was made for, in the model's words
-abbrev pub hold_as : Hold → JointHold
+abbrev pub hold_as : IssuedHold → Hold
 hold_as Held = held
 hold_as Raw = raw
 
 -- whether a handle was made strong, in the model's words
-abbrev pub strength_as : Strength → JointStrength
+abbrev pub strength_as : IssuedStrength → Strength
 strength_as Strong = strong
 strength_as Weak = weak
 

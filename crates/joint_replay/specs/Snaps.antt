@@ -16,7 +16,7 @@ use Rattle.joint_model.specs.Peers.{Peers, peer_of}
 use Rattle.joint_model.specs.Run.{IsKept, JointSnap, IsStored, EndsMarking}
 
 -- a snapshot that frees these rows
-pub record Snaps (s : Managed) (k : ℕ) (freed : List ℕ) (reply : Reply) (next : Managed) : Type 0 where
+pub record SnapsManaged (s : Managed) (k : ℕ) (freed : List ℕ) (reply : Reply) (next : Managed) : Type 0 where
   pub candidates : List ℕ
   pub dead : List ℕ
   pub snapshot : IsSnapshot s k freed candidates dead

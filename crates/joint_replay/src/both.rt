@@ -9,13 +9,13 @@ use joint_model::{MNum, PNum};
 
 /// The managed objects and the peers, as they stand.
 #[derive(Drop)]
-pub(crate) struct Both<'a> {
+pub(crate) struct BothParts<'a> {
     pub(crate) managed: &'a ManagedPart,
     pub(crate) peers: &'a PeerPart,
     pub(crate) removed: &'a [bool],
 }
 
-impl<'a> JointWalked for Both<'a> {
+impl<'a> JointWalked for BothParts<'a> {
     ghost graph = { λ b. clean_graph (parts_graph b.managed.now b.peers.now b.removed.now) };
 
     fn objects(&self) -> u32 {

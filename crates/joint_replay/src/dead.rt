@@ -11,9 +11,9 @@ ghost use Rattle.joint_marking.specs.Owned.{IsOwned};
 ghost use Rattle.joint_replay.specs.Plain.{issued_as};
 ghost use Rattle.joint_replay.specs.Graphs.{parts_graph, IsRooted, IsRootedIn, IsRootHandle};
 
-use crate::both::Both;
+use crate::both::BothParts;
 use crate::managed::ManagedPart;
-use crate::peers::{Handle, Hold, PeerPart, Strength};
+use crate::peers::{Handle, IssuedHold, IssuedStrength, PeerPart};
 use crate::roots::named_roots;
 use joint_marking::unreached_peers;
 use joint_model::PNum;
@@ -34,7 +34,7 @@ pub(crate) fn dead_peers(
     let mut roots = named_roots(alloc, peers.heap())?;
     push_rooted(peers, removed, &owned, &mut roots)?;
     let roots = as_peers(alloc, &roots)?;
-    let both = Both {
+    let both = BothParts {
         managed,
         peers,
         removed,
@@ -131,8 +131,8 @@ fn is_root(row: Handle, owned: &[bool], h: u32) -> bool
     ensures { IsTrue result ↔ IsRootHandle owned.now h (issued_as row) }
 {
     match row.hold {
-        Hold::Raw => matches!(row.strength, Strength::Strong),
-        Hold::Held => !owned[h as usize],
+        IssuedHold::Raw => matches!(row.strength, IssuedStrength::Strong),
+        IssuedHold::Held => !owned[h as usize],
     }
 }
 

@@ -5,7 +5,7 @@ ghost use Rattle.joint_model.specs.Heaps.{Heap, IsLive};
 ghost use Rattle.joint_model.specs.Managed.{IsBridge};
 ghost use Rattle.joint_replay.specs.Found.{IsUnreachedRow, IsCandidateRow};
 ghost use Rattle.joint_replay.specs.Roots.{Lists};
-ghost use Rattle.joint_replay.specs.Finding.{Finds};
+ghost use Rattle.joint_replay.specs.Finding.{FindsRows};
 
 use crate::heap::PlainHeap;
 use crate::roots::{bridge_rows, handle_at, pinned_roots};
@@ -14,7 +14,7 @@ use std::alloc::{AllocError, Global};
 
 /// The lists of a snapshot.
 #[derive(Drop)]
-pub(crate) struct Found {
+pub(crate) struct SnapshotRows {
     pub(crate) freed: Vec<u32>,
     pub(crate) dead: Vec<u32>,
     pub(crate) candidates: Vec<u32>,
@@ -28,8 +28,8 @@ pub(crate) fn find(
     heap: &PlainHeap,
     held: &[Option<u32>],
     pins: &[Option<u32>],
-) -> Result<Found, AllocError>
-    ensures { IfOk result (λ f. Finds heap.now held.now pins.now f.freed.items f.candidates.items f.dead.items) }
+) -> Result<SnapshotRows, AllocError>
+    ensures { IfOk result (λ f. FindsRows heap.now held.now pins.now f.freed.items f.candidates.items f.dead.items) }
 {
     let roots = pinned_roots(alloc, heap, pins)?;
     let slots = reached(alloc, heap, &roots)?;
@@ -38,7 +38,7 @@ pub(crate) fn find(
     let freed = unreached(alloc, heap, &slots, &bridges, false)?;
     let dead = unreached(alloc, heap, &slots, &bridges, true)?;
     let candidates = pick(alloc, heap, held, &slots)?;
-    Ok(Found {
+    Ok(SnapshotRows {
         freed,
         dead,
         candidates,

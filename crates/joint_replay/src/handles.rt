@@ -8,7 +8,7 @@ ghost use Rattle.joint_model.specs.Peers.{gripped, landed, pair_made};
 ghost use Rattle.joint_model.specs.Run.{on_peers, without, joint_answer};
 ghost use Rattle.joint_replay.specs.Judging.{Decides, Gives, IsHandleEvent};
 
-use crate::peers::{Hold, Strength};
+use crate::peers::{IssuedHold, IssuedStrength};
 use crate::removed::remove;
 use crate::state::{JointState, Verdict};
 use joint_model::{Op, Reply, Sort, Thread};
@@ -80,7 +80,8 @@ impl JointState {
             return Ok(Verdict::Unlawful);
         }
         self.removed.reserve(1)?;
-        self.peers.add_handle(p, Hold::Held, Strength::Strong)?;
+        self.peers
+            .add_handle(p, IssuedHold::Held, IssuedStrength::Strong)?;
         self.removed.push_reserved(false);
         Ok(Verdict::Lawful)
     }

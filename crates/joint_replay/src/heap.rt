@@ -35,7 +35,7 @@ impl Refusal {
 
 /// A field of an object, and what it is to hold.
 #[derive(Clone, Copy)]
-pub(crate) struct Place {
+pub(crate) struct FieldWrite {
     pub(crate) object: u32,
     pub(crate) field: usize,
     pub(crate) value: Option<u32>,
@@ -267,7 +267,7 @@ impl PlainHeap {
     }
 
     /// What `set V I W` is to write, by the places of its variables, or why it writes nothing.
-    pub(crate) fn target(&self, v: usize, i: usize, w: Option<usize>) -> Result<Place, Refusal>
+    pub(crate) fn target(&self, v: usize, i: usize, w: Option<usize>) -> Result<FieldWrite, Refusal>
         requires v { v < 72 }
         requires w { ForSome w (λ place. place < 72) }
         ensures ok { IfOk result (λ p. (field_set self.now v i w ≡ answer Reply.Ok (with_field self.now p.object p.field p.value)) × (p.field < length (fields_of self.now p.object))) }
@@ -289,7 +289,7 @@ impl PlainHeap {
                 y
             }
         };
-        Ok(Place {
+        Ok(FieldWrite {
             object: x,
             field: i,
             value,
@@ -297,7 +297,7 @@ impl PlainHeap {
     }
 
     /// Writes a field of an object.
-    pub(crate) fn write(&mut self, place: &Place)
+    pub(crate) fn write(&mut self, place: &FieldWrite)
         requires { place.now.field < length (fields_of self.old place.now.object) }
         ensures { self.new ≡ with_field self.old place.now.object place.now.field place.now.value }
     {

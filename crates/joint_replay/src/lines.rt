@@ -15,7 +15,7 @@ ghost use Rattle.joint_replay.specs.Plain.{strength_as};
 ghost use Rattle.joint_replay.specs.Judging.{Decides, Gives};
 
 use crate::callers::place_of;
-use crate::peers::{Hold, Strength};
+use crate::peers::{IssuedHold, IssuedStrength};
 use crate::removed::remove;
 use crate::state::{JointState, Verdict};
 use joint_model::{Act, Reply, Thread};
@@ -82,11 +82,11 @@ impl JointState {
             Act::NewPeer { v, fields } => self.make_peer(place_of(caller, *v), *fields, reply),
             Act::Global { g, v } => {
                 let v = place_of(caller, *v);
-                self.global(g.0 as usize, v, Strength::Strong, reply)
+                self.global(g.0 as usize, v, IssuedStrength::Strong, reply)
             }
             Act::WGlobal { g, v } => {
                 let v = place_of(caller, *v);
-                self.global(g.0 as usize, v, Strength::Weak, reply)
+                self.global(g.0 as usize, v, IssuedStrength::Weak, reply)
             }
             Act::UnGlobal { g } => Ok(self.unglobal(g.0 as usize, reply)),
             Act::WRead { v, g } => { Ok(self.read_name(place_of(caller, *v), g.0 as usize, reply)) }
@@ -117,7 +117,7 @@ impl JointState {
         &mut self,
         g: usize,
         v: usize,
-        strength: Strength,
+        strength: IssuedStrength,
         reply: &Reply,
     ) -> Result<Verdict, AllocError>
         requires g { g < 64 }
@@ -139,7 +139,7 @@ impl JointState {
         }
         self.removed.reserve(1)?;
         let h = self.peers.handles() + 1;
-        self.peers.add_handle(p, Hold::Raw, strength)?;
+        self.peers.add_handle(p, IssuedHold::Raw, strength)?;
         self.peers.set_name(g, Some(h));
         self.removed.push_reserved(false);
         Ok(Verdict::Lawful)

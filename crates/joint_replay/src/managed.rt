@@ -12,7 +12,7 @@ ghost use Rattle.joint_replay.specs.Snaps.{OwesDead};
 
 use crate::callers::{number, place_of};
 use crate::heap::PlainHeap;
-use crate::open_cycle::Open;
+use crate::open_cycle::SnappedCycle;
 use crate::operations::Naming;
 use crate::roots::{as_objects, handle_at, pinned_roots};
 use crate::state::Verdict;
@@ -31,7 +31,7 @@ pub(crate) struct ManagedPart {
     pub(crate) cells: [Option<u32>; 64],
     pub(crate) notices: Vec<u32>,
     pub(crate) taken: usize,
-    pub(crate) cycle: Option<Open>,
+    pub(crate) cycle: Option<SnappedCycle>,
     pub(crate) cycles: u32,
 }
 

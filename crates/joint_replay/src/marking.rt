@@ -18,7 +18,7 @@ use std::snapshot::Snapshot;
 /// An open marking: its number, the thread that began it, and for each peer whether it was live and unreached then. The
 /// graph at its begin stands in contracts alone.
 #[derive(Drop)]
-pub(crate) struct Marking {
+pub(crate) struct BegunMarking {
     number: u32,
     by: Thread,
     managed: Snapshot<ManagedPart>,
@@ -27,7 +27,7 @@ pub(crate) struct Marking {
     stored: Vec<bool>,
 }
 
-impl Model for Marking {
+impl Model for BegunMarking {
     ghost use Rattle.std.specs.Prelude.{ℕ, ◌↔◌};
     ghost use Rattle.joint_model.specs.Joint.{JointMarking};
     ghost use Rattle.joint_model.specs.Run.{IsStored};
@@ -41,7 +41,7 @@ impl Model for Marking {
     ghost invariant = { λ s. let m : JointMarking = record { number = s.number; by = s.by; begun = parts_graph s.managed.value s.peers.value s.removed.value.items } in (p : ℕ) → IsMarked s.stored.items p ↔ IsStored m p };
 }
 
-impl Marking {
+impl BegunMarking {
     /// The marking of that number that the thread begins now. Answers `AllocError` where there is no memory.
     pub(crate) fn begin(
         alloc: Global,
@@ -50,11 +50,11 @@ impl Marking {
         managed: &ManagedPart,
         peers: &PeerPart,
         removed: &Vec<bool>,
-    ) -> Result<Marking, AllocError>
+    ) -> Result<BegunMarking, AllocError>
         ensures { IfOk result (λ m. (m.number ≡ number) × (m.by ≡ by) × (m.begun ≡ parts_graph managed.now peers.now removed.now.items)) }
     {
         let stored = dead_peers(alloc, managed, peers, removed)?;
-        Ok(Marking {
+        Ok(BegunMarking {
             number,
             by,
             managed: Snapshot::of(managed),

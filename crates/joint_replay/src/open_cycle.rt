@@ -6,11 +6,11 @@ ghost use Rattle.joint_model.specs.Heaps.{IsMade};
 ghost use Rattle.joint_model.specs.Managed.{abandoned, holds_handle, notices_taken, with_snapshot, resolved};
 ghost use Rattle.joint_replay.specs.Plain.{HasOpen};
 ghost use Rattle.joint_replay.specs.Judging.{Decides, Gives, named_objects};
-ghost use Rattle.joint_replay.specs.Finding.{Finds};
-ghost use Rattle.joint_replay.specs.Snaps.{Snaps, OwesDead, NamesFreed, SaysSnap};
+ghost use Rattle.joint_replay.specs.Finding.{FindsRows};
+ghost use Rattle.joint_replay.specs.Snaps.{SnapsManaged, OwesDead, NamesFreed, SaysSnap};
 
 use crate::callers::number;
-use crate::found::{Found, find};
+use crate::found::{SnapshotRows, find};
 use crate::heap::put_all;
 use crate::managed::ManagedPart;
 use crate::named::freed_objects;
@@ -21,13 +21,13 @@ use std::marker::Model;
 
 /// An open cycle: its number, its candidates and its dead part.
 #[derive(Drop)]
-pub(crate) struct Open {
+pub(crate) struct SnappedCycle {
     number: u32,
     candidates: Vec<u32>,
     dead: Vec<u32>,
 }
 
-impl Model for Open {
+impl Model for SnappedCycle {
     ghost use Rattle.joint_model.specs.Managed.{OpenCycle};
 
     ghost Value = { OpenCycle };
@@ -35,7 +35,7 @@ impl Model for Open {
     ghost view = { λ s. record { number = s.number; candidates = s.candidates.items; dead = s.dead.items } };
 }
 
-impl Open {
+impl SnappedCycle {
     /// The cycle's number.
     pub(crate) fn number(&self) -> u32
         ensures { result ≡ self.now.number }
@@ -70,7 +70,7 @@ impl ManagedPart {
     }
 
     /// Cycle `k`, where it is open.
-    pub(crate) fn opened(&self, k: Cycle) -> Option<&Open>
+    pub(crate) fn opened(&self, k: Cycle) -> Option<&SnappedCycle>
         ensures { MatchOption result (HasOpen self.now k.0 → ⊥) (λ o. IsOpen self.now k.0 o.now × OwesDead (length self.now.heap.fields) (Some o.now)) }
     {
         match &self.cycle {
@@ -113,7 +113,7 @@ impl ManagedPart {
         k: Cycle,
         reply: &Reply,
     ) -> Result<Verdict, AllocError>
-        ensures ok { IfOk result (λ d. Decides (Snaps self.old k.0 (named_objects h.now reply.now) reply.now) d self.old self.new) }
+        ensures ok { IfOk result (λ d. Decides (SnapsManaged self.old k.0 (named_objects h.now reply.now) reply.now) d self.old self.new) }
         ensures err { OnErr result (self.new ≡ self.old) }
     {
         if !self.is_next(k) {
@@ -158,20 +158,20 @@ impl ManagedPart {
     }
 
     // Opens cycle `k` with what was found, and frees what goes.
-    fn open(&mut self, k: Cycle, found: Found) -> Result<(), AllocError>
+    fn open(&mut self, k: Cycle, found: SnapshotRows) -> Result<(), AllocError>
         requires next { k.0 ≡ self.old.cycles + 1 }
-        requires finds { Finds self.old.heap self.old.held self.old.pins found.freed.items found.candidates.items found.dead.items }
+        requires finds { FindsRows self.old.heap self.old.held self.old.pins found.freed.items found.candidates.items found.dead.items }
         ensures ok { OnOk result (self.new ≡ with_snapshot self.old found.freed.items found.candidates.items found.dead.items) }
         ensures err { OnErr result (self.new ≡ self.old) }
     {
-        let Found {
+        let SnapshotRows {
             freed,
             dead,
             candidates,
         } = found;
         self.heap.free(&freed)?;
         self.cycles = k.0;
-        self.cycle = Some(Open {
+        self.cycle = Some(SnappedCycle {
             number: k.0,
             candidates,
             dead,

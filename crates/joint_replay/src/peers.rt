@@ -22,14 +22,14 @@ const MOST_HANDLES: usize = 65_535;
 
 /// Who a handle was made for: a managed object holds it, or a peer thread has it by a global name.
 #[derive(Clone, Copy, PartialEq, Eq, Debug)]
-pub(crate) enum Hold {
+pub(crate) enum IssuedHold {
     Held,
     Raw,
 }
 
 /// Whether a handle was made as one that keeps its peer alive.
 #[derive(Clone, Copy, PartialEq, Eq, Debug)]
-pub(crate) enum Strength {
+pub(crate) enum IssuedStrength {
     Strong,
     Weak,
 }
@@ -38,8 +38,8 @@ pub(crate) enum Strength {
 #[derive(Clone, Copy)]
 pub(crate) struct Handle {
     pub(crate) peer: u32,
-    pub(crate) hold: Hold,
-    pub(crate) strength: Strength,
+    pub(crate) hold: IssuedHold,
+    pub(crate) strength: IssuedStrength,
 }
 
 /// The peers with their sorts, the handle that each global name has, and the handles.
@@ -190,8 +190,8 @@ impl PeerPart {
     pub(crate) fn add_handle(
         &mut self,
         peer: u32,
-        hold: Hold,
-        strength: Strength,
+        hold: IssuedHold,
+        strength: IssuedStrength,
     ) -> Result<(), AllocError>
         requires { handles_full self.old ≡ false }
         ensures ok { OnOk result (self.new ≡ with_handle self.old peer (hold_as hold) (strength_as strength)) }
@@ -315,8 +315,8 @@ impl PeerPart {
         self.sorts.push_reserved(sort);
         self.handles.push_reserved(Handle {
             peer: p,
-            hold: Hold::Held,
-            strength: Strength::Strong,
+            hold: IssuedHold::Held,
+            strength: IssuedStrength::Strong,
         });
         Ok(())
     }

@@ -9,7 +9,7 @@ ghost use Rattle.joint_replay.specs.Judging.{Judges, IsEntry};
 
 use crate::callers::can_make;
 use crate::managed::ManagedPart;
-use crate::marking::Marking;
+use crate::marking::BegunMarking;
 use crate::peers::PeerPart;
 use joint_model::{Entry, History, Op};
 use std::alloc::{AllocError, Global};
@@ -42,7 +42,7 @@ pub struct JointState {
     pub(crate) managed: ManagedPart,
     pub(crate) peers: PeerPart,
     pub(crate) removed: Vec<bool>,
-    pub(crate) marking: Option<Marking>,
+    pub(crate) marking: Option<BegunMarking>,
     pub(crate) markings: u32,
 }
 

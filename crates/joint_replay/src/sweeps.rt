@@ -9,7 +9,7 @@ ghost use Rattle.joint_replay.specs.Snaps.{SweepsJoint, MayEnd, MaySweep, SaysSw
 ghost use Rattle.joint_replay.specs.Judging.{Decides, named_peers};
 
 use crate::dead::dead_peers;
-use crate::marking::{Marking, all_marked, rises};
+use crate::marking::{BegunMarking, all_marked, rises};
 use crate::named::freed_peers;
 use crate::state::{JointState, Verdict};
 use joint_model::{History, Reply, Thread};
@@ -27,7 +27,7 @@ impl JointState {
         if !names_mark(reply, self.markings) {
             return Ok(Verdict::Unlawful);
         }
-        let marking = Marking::begin(
+        let marking = BegunMarking::begin(
             self.alloc,
             self.markings + 1,
             caller,

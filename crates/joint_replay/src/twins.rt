@@ -9,7 +9,7 @@ ghost use Rattle.joint_model.specs.Run.{on_managed, joint_answer};
 ghost use Rattle.joint_replay.specs.Judging.{Decides, Gives, IsObjectEvent};
 
 use crate::callers::place_of;
-use crate::peers::Hold;
+use crate::peers::IssuedHold;
 use crate::state::{JointState, Verdict};
 use joint_model::{Kind, Op, Reply, Sort, Thread};
 use std::alloc::AllocError;
@@ -122,7 +122,7 @@ impl JointState {
         };
         match self.peers.handle(h) {
             None => false,
-            Some(row) => matches!(row.hold, Hold::Held) && row.peer == p,
+            Some(row) => matches!(row.hold, IssuedHold::Held) && row.peer == p,
         }
     }
 

@@ -1,7 +1,7 @@
 -- The managed part alone moves.
 use Rattle.std.proofs.Common.{subst}
 use Rattle.joint_model.specs.Joint.{Joint, with_managed}
-use Rattle.joint_replay.specs.Snaps.{Snaps, SnapsJoint}
+use Rattle.joint_replay.specs.Snaps.{SnapsManaged, SnapsJoint}
 use Rattle.joint_replay.specs.Judging.{named_objects, Decides}
 use Rattle.joint_replay.proofs.Verdicts.{Decides-managed}
 use Rattle.joint_replay.proofs.Snapping.{snap-joint, joint-snap}
@@ -14,4 +14,4 @@ returns-clause-ok c =
     let reply = c.args.reply.now in
     let named = named_objects c.args.h.now reply in
     subst (λ (j : Joint). Decides (SnapsJoint j k named reply) c.in_ok-verdict.verdict j (with_managed i c.snap.new.self)) c.self.view_is
-    (Decides-managed i (Snaps i.graph.managed k named reply) (SnapsJoint i k named reply) (λ m. snap-joint i k named reply m) (λ n. joint-snap i k named reply n) c.in_ok-verdict.verdict c.snap.new.self c.in_ok-verdict.ensures.ok)
+    (Decides-managed i (SnapsManaged i.graph.managed k named reply) (SnapsJoint i k named reply) (λ m. snap-joint i k named reply m) (λ n. joint-snap i k named reply n) c.in_ok-verdict.verdict c.snap.new.self c.in_ok-verdict.ensures.ok)

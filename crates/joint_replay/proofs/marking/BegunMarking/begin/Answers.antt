@@ -1,7 +1,7 @@
 -- The marked peers are those that were live and unreached at the begin.
 use Rattle.joint_model.specs.Run.{IsStored}
 use Rattle.joint_replay.specs.Graphs.{parts_graph}
-use Rattle.joint_replay.proofs.marking.Marking.begin.Goals as goal
+use Rattle.joint_replay.proofs.marking.BegunMarking.begin.Goals as goal
 
 pub invariant_of-result : goal.invariant_of-result
 invariant_of-result c = let all = rw c.deref.ensures.value at c.in_ok-stored.ensures in λ p. (

@@ -5,7 +5,7 @@ use Rattle.joint_model.proofs.Deciding.{test-false}
 use Rattle.joint_marking.proofs.Twins.{twin-none, twin-freed}
 use Rattle.joint_replay.specs.Graphs.{clean_graph, parts_graph}
 use Rattle.joint_replay.proofs.Finding.{cleaned-live}
-use Rattle.joint_replay.proofs.both.BothJointWalked.twin.Goals as goal
+use Rattle.joint_replay.proofs.both.BothPartsJointWalked.twin.Goals as goal
 
 pub returns-in_default : goal.returns-in_default
 returns-in_default c = twin-none (clean_graph (parts_graph c.args.self.now.managed.now c.args.self.now.peers.now c.args.self.now.removed.now)) c.args.x.0 (sym c.in_default.ensures)

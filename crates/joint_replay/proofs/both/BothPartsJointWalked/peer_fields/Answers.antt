@@ -2,7 +2,7 @@
 use Rattle.std.proofs.Common.{◌∙◌, ap, length}
 use Rattle.joint_model.specs.Heaps.{Heap, fields_of}
 use Rattle.joint_replay.specs.Plain.{cleaned}
-use Rattle.joint_replay.proofs.both.BothJointWalked.peer_fields.Goals as goal
+use Rattle.joint_replay.proofs.both.BothPartsJointWalked.peer_fields.Goals as goal
 
 pub returns : goal.returns
 returns c = c.clean_len.ensures ∙ ap (λ (h : Heap). length (fields_of (cleaned h) c.args.p.0)) c.heap.ensures

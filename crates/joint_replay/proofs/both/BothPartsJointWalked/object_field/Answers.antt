@@ -2,7 +2,7 @@
 use Rattle.std.proofs.Common.{◌≡◌, ◌<◌, sym, subst, length, None, Some}
 use Rattle.joint_model.specs.Heaps.{Heap, fields_of, slot}
 use Rattle.joint_replay.specs.Plain.{cleaned}
-use Rattle.joint_replay.proofs.both.BothJointWalked.object_field.Goals as goal
+use Rattle.joint_replay.proofs.both.BothPartsJointWalked.object_field.Goals as goal
 
 pub clean_field-requires : goal.clean_field-requires
 clean_field-requires c = subst (λ (h : Heap). c.args.i < length (fields_of (cleaned h) c.args.x.0)) (sym c.heap.ensures) c.requires.index
