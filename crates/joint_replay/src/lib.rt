@@ -3,7 +3,8 @@
 // A [`JointState`] is the machine's state: the managed objects, the peers, and of each handle whether it was removed.
 // It begins as the opening state. [`JointState::replay_step`] takes an entry of a history and says whether it is a step
 // of the machine from there; if it is, the state is the one after it. What an entry's line doesn't have in full, the
-// rows that a snapshot, a sweep or a resolution frees, is read from the history's own lists.
+// rows that a snapshot, a sweep or a resolution frees, is read from the history's own lists. [`JointState::judge`] does
+// the same for an entry that is handed over, and that needn't stand in the history.
 //
 // An open marking keeps a mark for each peer that was live and unreached at its begin. What its sweep frees must have
 // such a mark, and be unreached still; the state makes a second marking for that.

@@ -86,8 +86,12 @@ impl JointState {
         }
     }
 
-    /// Replays an entry of the history. The answers are those of [`JointState::replay_step`].
-    pub(crate) fn judge(&mut self, h: &History, entry: &Entry) -> Result<Verdict, AllocError>
+    /// Replays a single entry, wherever it stands: of the history only the lists of freed rows are read, and of the entry
+    /// its caller, its event and its reply, not its number, nor its line, nor what it cites. Answers `Lawful` exactly
+    /// where the entry is a step of the joint machine from this state, with the freed rows that its reply names in the
+    /// history's lists, and then makes the step. Answers `Unlawful` otherwise, and `AllocError` where there is no memory;
+    /// the state is then as before. Nothing is asked of the entry or of the history.
+    pub fn judge(&mut self, h: &History, entry: &Entry) -> Result<Verdict, AllocError>
         ensures verdict { IfOk result (λ v. Judges h.now entry.now v self.old self.new) }
         ensures err { OnErr result (self.new ≡ self.old) }
     {
