@@ -8,7 +8,7 @@ use Rattle.joint_model.specs.Lines.{IsDriver}
 use Rattle.joint_model.specs.Managed.{Managed, opening_managed}
 use Rattle.order_table.specs.declared.views.View.{View}
 use Rattle.order_table.specs.Facts.{line_entries}
-use Rattle.order_table.specs.Tells.{TakesIn, IsOneHistory}
+use Rattle.order_table.specs.Tells.{TakesIn, BeginsOneHistory}
 use Rattle.order_table.specs.Views.{known}
 use Rattle.joint_history.specs.Callers.{CallerKnows, HoldsPass, KnowsNothing}
 use Rattle.joint_history.specs.Driven.{DriverRests, DriverStands}
@@ -18,7 +18,7 @@ use Rattle.joint_history.proofs.DriverSteps.{driver_in}
 use Rattle.joint_history.proofs.KnownCallers.{own_line}
 use Rattle.joint_history.proofs.KnownViews.{views_join}
 
-pub driver_hears : (mine other new : View) → IsKnownView other → TakesIn mine other new → IsOneHistory new → HoldsPass C mine → (index : ℕ) (stand : Stand) (seen : Managed) → DriverStands mine index stand seen → DriverStands new index stand seen
+pub driver_hears : (mine other new : View) → IsKnownView other → TakesIn mine other new → BeginsOneHistory new → HoldsPass C mine → (index : ℕ) (stand : Stand) (seen : Managed) → DriverStands mine index stand seen → DriverStands new index stand seen
 driver_hears mine other new b takes one pass index stand seen s =
     let j = views_join mine other new s.known b takes one in
     let whole = takes.owned (caller_line C) (pass (caller_line C) (own_line C)) in

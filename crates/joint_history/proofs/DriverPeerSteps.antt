@@ -16,11 +16,11 @@ use Rattle.known_laws.specs.Driving.{IsPastKept}
 use Rattle.known_laws.specs.Known.{TellsPlainly}
 use Rattle.known_laws.specs.Pasts.{HasSameDeadPart, end_of}
 use Rattle.known_laws.proofs.KnownPasts.{known_past_is_kept}
-use Rattle.order_table.specs.declared.views.Kept.{Kept}
+use Rattle.order_table.specs.declared.views.KeptEntry.{KeptEntry}
 use Rattle.order_table.specs.declared.views.View.{View}
 use Rattle.order_table.specs.Facts.{line_entries}
 use Rattle.order_table.specs.Rule.{IsBelow}
-use Rattle.order_table.specs.Tells.{Grows}
+use Rattle.order_table.specs.Tells.{GrowsByEntry}
 use Rattle.order_table.specs.Views.{OrderId, Shown, known, Owns}
 use Rattle.joint_history.specs.Callers.{HoldsPass}
 use Rattle.joint_history.specs.Driven.{DriverMakes, DriverMakesNone, DriverStands}
@@ -65,8 +65,8 @@ pub record DrivenUnderPeers (mine locked2 mine2 : View) (old new : Side PeerRepl
   pub knows : PeerKnows locked2 new
   pub driven : DrivenPeers mine mine2 old new index stand seen e told
 
-driven_peers_by : (locked mine lent mine1 lent2 locked2 mine2 : View) (old new : Side PeerReplay) (k : Kept) (told : Told) (index : ℕ) (stand : Stand) (seen : Managed) → HoldsPass C mine → Owns locked 1 → k.entry.made.caller ≡ C → k.entry.made.index ≡ index → index < 2 ^ 32
-    → PeerKnows locked old → DriverStands mine index stand seen → ((u : IsUnderPeers old.state stand seen) → DriverAllows stand u.state.managed.managed u.state.peer.peers.issued k.entry.made.op k.entry.made.reply k.entry.made.cites told) → Lends C locked mine lent mine1 → Grows lent lent2 1 k → ((i : ℕ) → IsBelow k.entry.number (known lent i))
+driven_peers_by : (locked mine lent mine1 lent2 locked2 mine2 : View) (old new : Side PeerReplay) (k : KeptEntry) (told : Told) (index : ℕ) (stand : Stand) (seen : Managed) → HoldsPass C mine → Owns locked 1 → k.entry.made.caller ≡ C → k.entry.made.index ≡ index → index < 2 ^ 32
+    → PeerKnows locked old → DriverStands mine index stand seen → ((u : IsUnderPeers old.state stand seen) → DriverAllows stand u.state.managed.managed u.state.peer.peers.issued k.entry.made.op k.entry.made.reply k.entry.made.cites told) → Lends C locked mine lent mine1 → GrowsByEntry lent lent2 1 k → ((i : ℕ) → IsBelow k.entry.number (known lent i))
     → new.entries ≡ old.entries ++ k.entry ∷ [] → GoesOn peer_rules old.state k.entry.made told new.state → Returns C lent2 mine1 locked2 mine2 → DrivenUnderPeers mine locked2 mine2 old new index stand seen k.entry told
 driven_peers_by locked mine lent mine1 lent2 locked2 mine2 old new k told index stand seen pass owns caller at_index short ks s allows l g below added goes b =
     let j = lent_joined C locked mine lent mine1 l ks.known s.known in

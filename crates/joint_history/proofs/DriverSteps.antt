@@ -16,11 +16,11 @@ use Rattle.known_laws.specs.Known.{TellsPlainly}
 use Rattle.known_laws.specs.Pasts.{HasSameDeadPart, end_of, line}
 use Rattle.known_laws.proofs.Growing.{dead_part_is_frozen, lines_give_parts}
 use Rattle.known_laws.proofs.KnownPasts.{known_past_is_kept}
-use Rattle.order_table.specs.declared.views.Kept.{Kept}
+use Rattle.order_table.specs.declared.views.KeptEntry.{KeptEntry}
 use Rattle.order_table.specs.declared.views.View.{View}
 use Rattle.order_table.specs.Facts.{entries_of, line_entries}
 use Rattle.order_table.specs.Rule.{IsBelow}
-use Rattle.order_table.specs.Tells.{Grows, IsOneHistory}
+use Rattle.order_table.specs.Tells.{GrowsByEntry, BeginsOneHistory}
 use Rattle.order_table.specs.Views.{OrderId, Shown, known, Owns}
 use Rattle.order_table.proofs.Wholes.{tell_lines}
 use Rattle.joint_history.specs.Callers.{HoldsPass}
@@ -35,7 +35,7 @@ use Rattle.joint_history.proofs.LockedSteps.{did_managed_by, lent_joined, own_to
 use Rattle.joint_history.proofs.Standing.{last_of_own}
 
 -- it stands so in whatever more is known of one history, as long as its own line is the same
-pub driver_in : (v w : View) (a : IsKnownView v) (j : IsKnownView w) → IsOneHistory w → ((i : ℕ) → IsPrefix (known v i) (known w i)) → line (caller_line C) j.past ≡ line (caller_line C) a.past → known w (caller_line C) ≡ known v (caller_line C) → (index : ℕ) (stand : Stand) (seen : Managed)
+pub driver_in : (v w : View) (a : IsKnownView v) (j : IsKnownView w) → BeginsOneHistory w → ((i : ℕ) → IsPrefix (known v i) (known w i)) → line (caller_line C) j.past ≡ line (caller_line C) a.past → known w (caller_line C) ≡ known v (caller_line C) → (index : ℕ) (stand : Stand) (seen : Managed)
     → IsDriverAt a.past index stand seen → IsDriverAt j.past index stand seen
 driver_in v w a j o more same whole index stand seen s =
     let begins = view_begins w o in
@@ -73,8 +73,8 @@ pub record DrivenUnder (mine locked2 mine2 : View) (old new : Side ManagedReplay
   pub knows : ManagedKnows locked2 new
   pub driven : Driven mine mine2 old new index stand seen e told
 
-driven_by : (locked mine lent mine1 lent2 locked2 mine2 : View) (old new : Side ManagedReplay) (k : Kept) (told : Told) (index : ℕ) (stand : Stand) (seen : Managed) → HoldsPass C mine → Owns locked 0 → k.entry.made.caller ≡ C → k.entry.made.index ≡ index → index < 2 ^ 32
-    → ManagedKnows locked old → DriverStands mine index stand seen → ((issued : List Issued) → DriverAllows stand old.state.managed issued k.entry.made.op k.entry.made.reply k.entry.made.cites told) → Lends C locked mine lent mine1 → Grows lent lent2 0 k → ((i : ℕ) → IsBelow k.entry.number (known lent i))
+driven_by : (locked mine lent mine1 lent2 locked2 mine2 : View) (old new : Side ManagedReplay) (k : KeptEntry) (told : Told) (index : ℕ) (stand : Stand) (seen : Managed) → HoldsPass C mine → Owns locked 0 → k.entry.made.caller ≡ C → k.entry.made.index ≡ index → index < 2 ^ 32
+    → ManagedKnows locked old → DriverStands mine index stand seen → ((issued : List Issued) → DriverAllows stand old.state.managed issued k.entry.made.op k.entry.made.reply k.entry.made.cites told) → Lends C locked mine lent mine1 → GrowsByEntry lent lent2 0 k → ((i : ℕ) → IsBelow k.entry.number (known lent i))
     → new.entries ≡ old.entries ++ k.entry ∷ [] → GoesOn managed_rules old.state k.entry.made told new.state → Returns C lent2 mine1 locked2 mine2 → DrivenUnder mine locked2 mine2 old new index stand seen k.entry told
 driven_by locked mine lent mine1 lent2 locked2 mine2 old new k told index stand seen pass owns caller at_index short ks s allows l g below added goes b =
     let j = lent_joined C locked mine lent mine1 l ks.known s.known in

@@ -16,8 +16,8 @@ use Rattle.known_laws.specs.Lists.{made_by}
 use Rattle.known_laws.proofs.Lists.{own_line_is_made_by_caller}
 use Rattle.order_table.specs.declared.views.View.{View}
 use Rattle.order_table.specs.Facts.{entries_of, line_entries}
-use Rattle.order_table.specs.Rule.{IsWhole as AllKnown}
-use Rattle.order_table.specs.Tells.{TakesIn, IsOneHistory}
+use Rattle.order_table.specs.Rule.{AreLinesOfOneHistory as AllKnown}
+use Rattle.order_table.specs.Tells.{TakesIn, BeginsOneHistory}
 use Rattle.order_table.specs.Views.{Owns}
 use Rattle.order_table.proofs.Wholes.{tell_lines}
 use Rattle.joint_history.specs.Callers.{HoldsPass, Pass, own}
@@ -118,7 +118,7 @@ waiter d t is waits s =
     }
 
 -- all threads' seats are in
-pub all_in : (v w u x y : View) (l : Side ManagedReplay) (r : Side PeerReplay) (callers : List Pass) (d : Waiting) → ManagedKnows v l → PeerKnows w r → Owns v 0 → Owns w 1 → TakesIn v w u → IsOneHistory u
+pub all_in : (v w u x y : View) (l : Side ManagedReplay) (r : Side PeerReplay) (callers : List Pass) (d : Waiting) → ManagedKnows v l → PeerKnows w r → Owns v 0 → Owns w 1 → TakesIn v w u → BeginsOneHistory u
     → GathersAll u x (threads_of callers) → GathersAll x y (threads_of (present d.callers)) → HasAll d callers → ((i : ℕ) (o : Option Pass) → slice_get d.callers i ≡ Some o → WaitsAt i o) → AllAreIn y l r
 all_in v w u x y l r callers d a b m p k o first then has waits =
     let given = threads_of callers in

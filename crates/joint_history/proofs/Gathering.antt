@@ -35,8 +35,8 @@ use Rattle.known_laws.proofs.Growing.{lines_give_parts}
 use Rattle.known_laws.proofs.Lists.{known_lists_are_lawful}
 use Rattle.order_table.specs.declared.views.View.{View}
 use Rattle.order_table.specs.Facts.{entries_of, line_entries}
-use Rattle.order_table.specs.Rule.{IsWhole as AllKnown}
-use Rattle.order_table.specs.Tells.{TakesIn, IsOneHistory}
+use Rattle.order_table.specs.Rule.{AreLinesOfOneHistory as AllKnown}
+use Rattle.order_table.specs.Tells.{TakesIn, BeginsOneHistory}
 use Rattle.order_table.specs.Views.{Owns, OwnsAll}
 use Rattle.order_table.proofs.Wholes.{tell_lines}
 use Rattle.joint_history.specs.Knowing.{line_known}
@@ -52,7 +52,7 @@ rests_so (P n) a b e d = tt
 rests_so C a b e d = (lines_give_parts a b).stand e ∙ d
 
 -- one thread's seat more
-pub gather : (t : Thread) (v w u : View) (l : Side ManagedReplay) (r : Side PeerReplay) (ts : List Thread) → Gathered v l r ts → AtRest t w → TakesIn v w u → IsOneHistory u → Gathered u l r (ts ++ t ∷ [])
+pub gather : (t : Thread) (v w u : View) (l : Side ManagedReplay) (r : Side PeerReplay) (ts : List Thread) → Gathered v l r ts → AtRest t w → TakesIn v w u → BeginsOneHistory u → Gathered u l r (ts ++ t ∷ [])
 gather t v w u l r ts g x k o =
     let j = views_join v w u g.known x.known k o in
     record {
@@ -176,7 +176,7 @@ caller_at_rest (M n) v k h i = record { known = k.known; pass = h; rests = k.rel
 caller_at_rest (P n) v k h i = record { known = k.known; pass = h; rests = tt }
 caller_at_rest C v k h i = let w = i tt in record { known = w.0; pass = h; rests = w.1 }
 
-pub gathers_one : (t : Thread) (v w u : View) → AtRest t w → TakesIn v w u → IsOneHistory u → GathersAll v u (t ∷ [])
+pub gathers_one : (t : Thread) (v w u : View) → AtRest t w → TakesIn v w u → BeginsOneHistory u → GathersAll v u (t ∷ [])
 gathers_one t v w u x k o l r ts g = gather t v w u l r ts g x k o
 
 pub gathers_none : (v : View) → GathersAll v v []
@@ -186,7 +186,7 @@ pub gathers_then : (v w u : View) (xs ys : List Thread) → GathersAll v w xs �
 gathers_then v w u xs ys a b l r ts g = subst (Gathered u l r) (append_assoc ts xs ys) (b l r (ts ++ xs) (a l r ts g))
 
 -- both sides' seats together
-pub gathered_first : (v w u : View) (l : Side ManagedReplay) (r : Side PeerReplay) → ManagedKnows v l → PeerKnows w r → Owns v 0 → Owns w 1 → TakesIn v w u → IsOneHistory u → Gathered u l r []
+pub gathered_first : (v w u : View) (l : Side ManagedReplay) (r : Side PeerReplay) → ManagedKnows v l → PeerKnows w r → Owns v 0 → Owns w 1 → TakesIn v w u → BeginsOneHistory u → Gathered u l r []
 gathered_first v w u l r a b m p k o =
     let j = views_join v w u a.known b.known k o in
     record {

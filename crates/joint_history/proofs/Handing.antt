@@ -4,11 +4,11 @@ use mathlib.Core.List.{IsPrefix}
 use base.Growing.{prefix_anti}
 use Rattle.joint_model.specs.declared.names.Thread.{Thread}
 use Rattle.order_table.specs.declared.views.View.{View}
-use Rattle.order_table.specs.Tells.{Parts, IsOfCaller, TakesIn, IsOneHistory}
+use Rattle.order_table.specs.Tells.{Parts, IsOfCaller, TakesIn, BeginsOneHistory}
 use Rattle.order_table.specs.Views.{known}
 use Rattle.joint_history.specs.Passing.{Lends, Returns}
 
-pub lends : (t : Thread) (locked mine locked' mine' pass : View) → Parts (IsOfCaller t) mine mine' pass → TakesIn locked pass locked' → IsOneHistory locked' → Lends t locked mine locked' mine'
+pub lends : (t : Thread) (locked mine locked' mine' pass : View) → Parts (IsOfCaller t) mine mine' pass → TakesIn locked pass locked' → BeginsOneHistory locked' → Lends t locked mine locked' mine'
 lends t locked mine locked' mine' pass p k o = record {
   kept = λ i q. (k.owns i).0 (inl q);
   lines = λ i g q. (k.owns i).0 (inr (p.went i g q));

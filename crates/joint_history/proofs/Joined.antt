@@ -15,7 +15,7 @@ use Rattle.joint_model.specs.Sides.{Side}
 use Rattle.known_laws.specs.Lists.{made_by}
 use Rattle.order_table.specs.declared.views.View.{View}
 use Rattle.order_table.specs.Facts.{entries_of}
-use Rattle.order_table.specs.Rule.{IsWhole as AllKnown}
+use Rattle.order_table.specs.Rule.{AreLinesOfOneHistory as AllKnown}
 use Rattle.order_table.specs.Views.{OwnsAll}
 use Rattle.joint_history.specs.Callers.{Pass}
 use Rattle.joint_history.specs.Desks.{Waiting}

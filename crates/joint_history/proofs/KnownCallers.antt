@@ -10,7 +10,7 @@ use Rattle.known_laws.specs.Pasts.{end_of, line}
 use Rattle.known_laws.proofs.Growing.{lines_give_parts}
 use Rattle.order_table.specs.declared.views.View.{View}
 use Rattle.order_table.specs.Facts.{line_entries}
-use Rattle.order_table.specs.Tells.{Parts, IsOfCaller, IsOfNone, TakesIn, IsOneHistory}
+use Rattle.order_table.specs.Tells.{Parts, IsOfCaller, IsOfNone, TakesIn, BeginsOneHistory}
 use Rattle.order_table.specs.Views.{known}
 use Rattle.joint_history.specs.Knowing.{IsKnownView}
 use Rattle.joint_history.specs.Callers.{CallerKnows, HasReleased, Hears, HoldsPass}
@@ -32,7 +32,7 @@ pub caller_same : (t : Thread) (v w : View) → CallerKnows t v → ((i : ℕ) �
 caller_same t v w k same = record { known = record { past = k.known.past; lawful = k.known.lawful; same = λ i. ap line_entries (same i) ∙ k.known.same i }; released = k.released }
 
 -- who takes another seat in keeps it
-pub caller_joins : (t : Thread) (mine other new : View) → CallerKnows t mine → IsKnownView other → TakesIn mine other new → IsOneHistory new → HoldsPass t mine → CallerKnows t new
+pub caller_joins : (t : Thread) (mine other new : View) → CallerKnows t mine → IsKnownView other → TakesIn mine other new → BeginsOneHistory new → HoldsPass t mine → CallerKnows t new
 caller_joins t mine other new k b takes one pass =
     let j = views_join mine other new k.known b takes one in
     record { known = j.joined; released = released_so t j.joined.past k.known.past (j.first (caller_line t) (ap line_entries (takes.owned (caller_line t) (pass (caller_line t) (own_line t))))) k.released }

@@ -12,11 +12,11 @@ use Rattle.known_laws.specs.Growing.{AreJoined, AreBelow, Begin, HasEnded, grown
 use Rattle.known_laws.proofs.Growing.{nothing_is_known, known_lines_grow, known_lines_join}
 use Rattle.known_laws.specs.Pasts.{end_of}
 use Rattle.known_laws.proofs.Ending.{known_whole_is_history, known_whole_is_linked}
-use Rattle.order_table.specs.declared.views.Kept.{Kept}
+use Rattle.order_table.specs.declared.views.KeptEntry.{KeptEntry}
 use Rattle.order_table.specs.declared.views.View.{View}
 use Rattle.order_table.specs.Facts.{entries_of, line_entries}
-use Rattle.order_table.specs.Rule.{Item, IsBelow, IsWhole, of_line}
-use Rattle.order_table.specs.Tells.{Grows, IsOneHistory}
+use Rattle.order_table.specs.Rule.{Item, IsBelow, AreLinesOfOneHistory, of_line}
+use Rattle.order_table.specs.Tells.{GrowsByEntry, BeginsOneHistory}
 use Rattle.order_table.specs.Views.{IsInRole, known}
 use Rattle.order_table.proofs.Lines.{role_in, caller_in, in_cases}
 use Rattle.order_table.proofs.Wholes.{tell_lines}
@@ -25,18 +25,18 @@ use Rattle.joint_history.specs.Ending.{IsFinished}
 use Rattle.joint_history.specs.Knowing.{line_known, IsKnownView, note_of, FirstIsKnown, ViewsGrow, ViewsJoin, SameIsKnown, WholeViewIsLinked}
 
 -- the entries of lists
-pub entries_snoc : (ks : List Kept) (k : Kept) → line_entries (ks ++ k ∷ []) ≡ line_entries ks ++ k.entry ∷ []
+pub entries_snoc : (ks : List KeptEntry) (k : KeptEntry) → line_entries (ks ++ k ∷ []) ≡ line_entries ks ++ k.entry ∷ []
 entries_snoc [] k = refl
 entries_snoc (x ∷ ks) k = ap (λ l. x.entry ∷ l) (entries_snoc ks k)
 
-entries_both : (ks ls : List Kept) → line_entries (ks ++ ls) ≡ line_entries ks ++ line_entries ls
+entries_both : (ks ls : List KeptEntry) → line_entries (ks ++ ls) ≡ line_entries ks ++ line_entries ls
 entries_both [] ls = refl
 entries_both (x ∷ ks) ls = ap (λ l. x.entry ∷ l) (entries_both ks ls)
 
-pub entries_begin : (xs ys : List Kept) → IsPrefix xs ys → IsPrefix (line_entries xs) (line_entries ys)
+pub entries_begin : (xs ys : List KeptEntry) → IsPrefix xs ys → IsPrefix (line_entries xs) (line_entries ys)
 entries_begin xs ys p = (line_entries p.0, sym (entries_both xs p.0) ∙ ap line_entries p.1)
 
-pub entries_below : (n : ℕ) (ks : List Kept) → IsBelow n ks → AreBelow n (line_entries ks)
+pub entries_below : (n : ℕ) (ks : List KeptEntry) → IsBelow n ks → AreBelow n (line_entries ks)
 entries_below n [] b = tt
 entries_below n (k ∷ ks) b = (b.0, entries_below n ks b.1)
 
@@ -51,7 +51,7 @@ role_side r e s = ⊎_elim
     (cases_eq r 0)
 
 -- the lines of entries after an entry
-pub grown_view : (v w : View) (r : ℕ) (k : Kept) → Grows v w r k → IsInRole r k.entry.made → (i : ℕ) → line_known w i ≡ grown (line_known v) k.entry i
+pub grown_view : (v w : View) (r : ℕ) (k : KeptEntry) → GrowsByEntry v w r k → IsInRole r k.entry.made → (i : ℕ) → line_known w i ≡ grown (line_known v) k.entry i
 grown_view v w r k g s i =
     let x : Item = record { role = side_line k.entry; kept = k } in
     let e = role_side r k.entry s in
@@ -81,14 +81,14 @@ views_grow v w r k a told g s below may =
     }
 
 -- what is known of one history begins its lines
-pub view_begins : (u : View) (o : IsOneHistory u) → Begin (entries_of o.whole) (line_known u)
+pub view_begins : (u : View) (o : BeginsOneHistory u) → Begin (entries_of o.whole) (line_known u)
 view_begins u o i = subst (IsPrefix (line_known u i)) ((tell_lines o.whole o.numbers).lines i) (entries_begin (known u i) (of_line i o.whole) (o.begins i))
 
 pub begins_before : (whole : List Entry) (v u : View) → ((i : ℕ) → IsPrefix (known v i) (known u i)) → Begin whole (line_known u) → Begin whole (line_known v)
 begins_before whole v u more b i = prefix_trans (line_known v i) (line_known u i) (entries_in i whole) (entries_begin (known v i) (known u i) (more i)) (b i)
 
 -- of each line the one or the other list, which both begin
-pub lines_join : (v w u : View) (a : IsKnownView v) (b : IsKnownView w) → ((i : ℕ) → (known u i ≡ known v i) ⊎ (known u i ≡ known w i)) → ((i : ℕ) → IsPrefix (known v i) (known u i)) → ((i : ℕ) → IsPrefix (known w i) (known u i)) → IsOneHistory u
+pub lines_join : (v w u : View) (a : IsKnownView v) (b : IsKnownView w) → ((i : ℕ) → (known u i ≡ known v i) ⊎ (known u i ≡ known w i)) → ((i : ℕ) → IsPrefix (known v i) (known u i)) → ((i : ℕ) → IsPrefix (known w i) (known u i)) → BeginsOneHistory u
     → AreJoined a.past b.past (line_known v) (line_known w) (line_known u)
 lines_join v w u a b either knew heard o =
     let whole = entries_of o.whole in
@@ -114,7 +114,7 @@ whole_view_is_linked h v a w same ended =
     side i l = ap line_entries (w.each i l) ∙ ((tell_lines w.whole w.numbers).lines i ∙ ap (λ es. entries_in i es) (sym same))
 
 -- and where the history's list of notices is all that the past has queued, it has all that was ever queued
-pub whole_view_is_finished : (h : Finished) (v : View) (a : IsKnownView v) (w : IsWhole v.known) → h.entries ≡ entries_of w.whole → HasEnded h (end_of a.past)
+pub whole_view_is_finished : (h : Finished) (v : View) (a : IsKnownView v) (w : AreLinesOfOneHistory v.known) → h.entries ≡ entries_of w.whole → HasEnded h (end_of a.past)
     → managed_numbers h.notices ≡ (end_of a.past).managed.managed.notices → IsFinished h
 whole_view_is_finished h v a w same ended queued =
     let numbered = subst (NumberedFrom 0) (sym same) (tell_lines w.whole w.numbers).numbered in

@@ -23,11 +23,11 @@ use Rattle.known_laws.specs.Growing.{AreJoined}
 use Rattle.known_laws.specs.Pasts.{end_of, line}
 use Rattle.known_laws.proofs.Growing.{lines_give_parts}
 use Rattle.known_laws.proofs.Turning.{side_entry_comes}
-use Rattle.order_table.specs.declared.views.Kept.{Kept}
+use Rattle.order_table.specs.declared.views.KeptEntry.{KeptEntry}
 use Rattle.order_table.specs.declared.views.View.{View}
 use Rattle.order_table.specs.Facts.{line_entries}
 use Rattle.order_table.specs.Rule.{IsBelow}
-use Rattle.order_table.specs.Tells.{Grows, IsOfCaller}
+use Rattle.order_table.specs.Tells.{GrowsByEntry, IsOfCaller}
 use Rattle.order_table.specs.Rows.{at}
 use Rattle.order_table.proofs.Lines.{below_begins}
 use Rattle.joint_model.specs.Draws.{numbered}
@@ -73,7 +73,7 @@ turn_allows (P n) s d index o reply cites told e w = w
 turn_allows C s d index o reply cites told e w = absurd w
 
 -- what the locked seat knows after the entry, and how the caller stands by it
-pub record Entered (t : Thread) (mine lent2 : View) (past : List Noted) (k : Kept) (told : Told) : Type 0 where
+pub record Entered (t : Thread) (mine lent2 : View) (past : List Noted) (k : KeptEntry) (told : Told) : Type 0 where
   pub grown : KnowsMore past (note_of k.entry told) lent2
   pub comes : MayCome (end_of past) (note_of k.entry told)
   pub stands : Stands t lent2 k.entry.made.index (doing_from t k.entry)
@@ -92,8 +92,8 @@ thread_may t past mine m told w same =
       allows = turn_allows t (end_of past) w.doing m.index m.op m.reply m.cites told doing w.turn;
     }
 
-pub entered_by : (t : Thread) (mine lent lent2 : View) (r : ℕ) (k : Kept) (told : Told) (j : IsKnownView lent) → IsThread t → k.entry.made.caller ≡ t → MayNow t (end_of j.past) k.entry.made told
-    → k.entry.made.index < 2 ^ 32 → Grows lent lent2 r k → IsInRole r k.entry.made → ((i : ℕ) → IsBelow k.entry.number (known lent i))
+pub entered_by : (t : Thread) (mine lent lent2 : View) (r : ℕ) (k : KeptEntry) (told : Told) (j : IsKnownView lent) → IsThread t → k.entry.made.caller ≡ t → MayNow t (end_of j.past) k.entry.made told
+    → k.entry.made.index < 2 ^ 32 → GrowsByEntry lent lent2 r k → IsInRole r k.entry.made → ((i : ℕ) → IsBelow k.entry.number (known lent i))
     → managed_rules.lawful (end_of j.past).managed k.entry.made told ⊎ peer_rules.lawful (end_of j.past).peer k.entry.made told → Entered t mine lent2 j.past k told
 entered_by t mine lent lent2 r k told j thread caller may short grows role below side =
     let comes = side_entry_comes (end_of j.past) k.entry.number k.entry.made told
@@ -112,7 +112,7 @@ entered_by t mine lent lent2 r k told j thread caller may short grows role below
     }
 
 -- what is known grows
-pub grows_more : (v w : View) (r : ℕ) (k : Kept) → Grows v w r k → (i : ℕ) → IsPrefix (known v i) (known w i)
+pub grows_more : (v w : View) (r : ℕ) (k : KeptEntry) → GrowsByEntry v w r k → (i : ℕ) → IsPrefix (known v i) (known w i)
 grows_more v w r k g i = ⊎_elim
     (λ (e : i ≡ r). subst (λ j. IsPrefix (known v j) (known w j)) (sym e) (k ∷ [], sym g.role))
     (λ (n : i ≡ r → ⊥). ⊎_elim
@@ -121,7 +121,7 @@ grows_more v w r k g i = ⊎_elim
     (cases_eq i (caller_line k.entry.made.caller)))
     (cases_eq i r)
 
-pub owns_on : (v w : View) (r : ℕ) (k : Kept) → Grows v w r k → (i : ℕ) → Owns v i → Owns w i
+pub owns_on : (v w : View) (r : ℕ) (k : KeptEntry) → GrowsByEntry v w r k → (i : ℕ) → Owns v i → Owns w i
 owns_on v w r k g i o = ap (λ os. at false os i) g.owns ∙ o
 
 -- a side's line is none of a caller's
@@ -136,7 +136,7 @@ pub more_back : (t : Thread) (locked mine lent mine1 lent2 : View) → Lends t l
 more_back t locked mine lent mine1 lent2 l more i = prefix_trans (known mine1 i) (known lent i) (known lent2 i) (subst (λ x. IsPrefix x (known lent i)) (sym (l.same i)) (l.heard i)) (more i)
 
 -- after the entry and the handing back
-pub makes : (t : Thread) (locked mine lent mine1 lent2 locked2 mine2 : View) (r : ℕ) (k : Kept) (told : Told) (j : IsKnownView lent) → HoldsPass t mine → k.entry.made.caller ≡ t → Lends t locked mine lent mine1 → Grows lent lent2 r k → ((i : ℕ) → IsBelow k.entry.number (known lent i))
+pub makes : (t : Thread) (locked mine lent mine1 lent2 locked2 mine2 : View) (r : ℕ) (k : KeptEntry) (told : Told) (j : IsKnownView lent) → HoldsPass t mine → k.entry.made.caller ≡ t → Lends t locked mine lent mine1 → GrowsByEntry lent lent2 r k → ((i : ℕ) → IsBelow k.entry.number (known lent i))
     → Entered t mine lent2 j.past k told → Returns t lent2 mine1 locked2 mine2 → Makes t mine mine2 k.entry told
 makes t locked mine lent mine1 lent2 locked2 mine2 r k told j pass caller l g below e b =
     let own : known lent2 (caller_line t) ≡ known lent (caller_line t) ++ k ∷ [] = subst (λ u. known lent2 (caller_line u) ≡ known lent (caller_line u) ++ k ∷ []) caller g.caller in
@@ -174,14 +174,14 @@ pub record DidManaged (t : Thread) (mine locked2 mine2 : View) (side : Side Mana
   pub makes : Makes t mine mine2 e told
 
 -- by what is known together after the caller's lines were handed over
-pub record DidManagedBy (t : Thread) (mine lent2 locked2 mine2 : View) (past : List Noted) (side : Side ManagedReplay) (k : Kept) (told : Told) : Type 0 where
+pub record DidManagedBy (t : Thread) (mine lent2 locked2 mine2 : View) (past : List Noted) (side : Side ManagedReplay) (k : KeptEntry) (told : Told) : Type 0 where
   pub entered : Entered t mine lent2 past k told
   pub knows : ManagedKnows locked2 side
   pub after : (end_of entered.grown.known.past).managed ≡ side.state
   pub makes : Makes t mine mine2 k.entry told
 
-pub did_managed_by : (t : Thread) (locked mine lent mine1 lent2 locked2 mine2 : View) (old new : Side ManagedReplay) (k : Kept) (told : Told) (m : IsKnownView mine) → IsThread t → HoldsPass t mine → Owns locked 0 → k.entry.made.caller ≡ t → k.entry.made.index < 2 ^ 32
-    → (ks : ManagedKnows locked old) (l : Lends t locked mine lent mine1) → MayNow t (end_of (lent_joined t locked mine lent mine1 l ks.known m).joined.past) k.entry.made told → Grows lent lent2 0 k → ((i : ℕ) → IsBelow k.entry.number (known lent i))
+pub did_managed_by : (t : Thread) (locked mine lent mine1 lent2 locked2 mine2 : View) (old new : Side ManagedReplay) (k : KeptEntry) (told : Told) (m : IsKnownView mine) → IsThread t → HoldsPass t mine → Owns locked 0 → k.entry.made.caller ≡ t → k.entry.made.index < 2 ^ 32
+    → (ks : ManagedKnows locked old) (l : Lends t locked mine lent mine1) → MayNow t (end_of (lent_joined t locked mine lent mine1 l ks.known m).joined.past) k.entry.made told → GrowsByEntry lent lent2 0 k → ((i : ℕ) → IsBelow k.entry.number (known lent i))
     → new.entries ≡ old.entries ++ k.entry ∷ [] → GoesOn managed_rules old.state k.entry.made told new.state → Returns t lent2 mine1 locked2 mine2 → DidManagedBy t mine lent2 locked2 mine2 (lent_joined t locked mine lent mine1 l ks.known m).joined.past new k told
 did_managed_by t locked mine lent mine1 lent2 locked2 mine2 old new k told m is pass owns caller short ks l may g below added goes b =
     let j = lent_joined t locked mine lent mine1 l ks.known m in
@@ -201,8 +201,8 @@ did_managed_by t locked mine lent mine1 lent2 locked2 mine2 old new k told m is 
       makes = makes t locked mine lent mine1 lent2 locked2 mine2 0 k told j.joined pass caller l g below e b;
     }
 
-pub did_managed : (t : Thread) (locked mine lent mine1 lent2 locked2 mine2 : View) (old new : Side ManagedReplay) (k : Kept) (told : Told) → IsThread t → HoldsPass t mine → Owns locked 0 → k.entry.made.caller ≡ t → k.entry.made.index < 2 ^ 32
-    → ManagedKnows locked old → MayMake t mine k.entry.made.index k.entry.made.op k.entry.made.cites → Lends t locked mine lent mine1 → Grows lent lent2 0 k → ((i : ℕ) → IsBelow k.entry.number (known lent i))
+pub did_managed : (t : Thread) (locked mine lent mine1 lent2 locked2 mine2 : View) (old new : Side ManagedReplay) (k : KeptEntry) (told : Told) → IsThread t → HoldsPass t mine → Owns locked 0 → k.entry.made.caller ≡ t → k.entry.made.index < 2 ^ 32
+    → ManagedKnows locked old → MayMake t mine k.entry.made.index k.entry.made.op k.entry.made.cites → Lends t locked mine lent mine1 → GrowsByEntry lent lent2 0 k → ((i : ℕ) → IsBelow k.entry.number (known lent i))
     → new.entries ≡ old.entries ++ k.entry ∷ [] → GoesOn managed_rules old.state k.entry.made told new.state → Returns t lent2 mine1 locked2 mine2 → DidManaged t mine locked2 mine2 new k.entry told
 did_managed t locked mine lent mine1 lent2 locked2 mine2 old new k told is pass owns caller short ks may l g below added goes b =
     let j = lent_joined t locked mine lent mine1 l ks.known may.stands.known in
@@ -225,14 +225,14 @@ pub record DidPeer (t : Thread) (mine locked2 mine2 : View) (side : Side PeerRep
   pub makes : Makes t mine mine2 e told
 
 -- by what is known together after the caller's lines were handed over
-pub record DidPeerBy (t : Thread) (mine lent2 locked2 mine2 : View) (past : List Noted) (side : Side PeerReplay) (k : Kept) (told : Told) : Type 0 where
+pub record DidPeerBy (t : Thread) (mine lent2 locked2 mine2 : View) (past : List Noted) (side : Side PeerReplay) (k : KeptEntry) (told : Told) : Type 0 where
   pub entered : Entered t mine lent2 past k told
   pub knows : PeerKnows locked2 side
   pub after : (end_of entered.grown.known.past).peer ≡ side.state
   pub makes : Makes t mine mine2 k.entry told
 
-pub did_peer_by : (t : Thread) (locked mine lent mine1 lent2 locked2 mine2 : View) (old new : Side PeerReplay) (k : Kept) (told : Told) (m : IsKnownView mine) → IsThread t → HoldsPass t mine → Owns locked 1 → k.entry.made.caller ≡ t → k.entry.made.index < 2 ^ 32
-    → (ks : PeerKnows locked old) (l : Lends t locked mine lent mine1) → MayNow t (end_of (lent_joined t locked mine lent mine1 l ks.known m).joined.past) k.entry.made told → Grows lent lent2 1 k → ((i : ℕ) → IsBelow k.entry.number (known lent i))
+pub did_peer_by : (t : Thread) (locked mine lent mine1 lent2 locked2 mine2 : View) (old new : Side PeerReplay) (k : KeptEntry) (told : Told) (m : IsKnownView mine) → IsThread t → HoldsPass t mine → Owns locked 1 → k.entry.made.caller ≡ t → k.entry.made.index < 2 ^ 32
+    → (ks : PeerKnows locked old) (l : Lends t locked mine lent mine1) → MayNow t (end_of (lent_joined t locked mine lent mine1 l ks.known m).joined.past) k.entry.made told → GrowsByEntry lent lent2 1 k → ((i : ℕ) → IsBelow k.entry.number (known lent i))
     → new.entries ≡ old.entries ++ k.entry ∷ [] → GoesOn peer_rules old.state k.entry.made told new.state → Returns t lent2 mine1 locked2 mine2 → DidPeerBy t mine lent2 locked2 mine2 (lent_joined t locked mine lent mine1 l ks.known m).joined.past new k told
 did_peer_by t locked mine lent mine1 lent2 locked2 mine2 old new k told m is pass owns caller short ks l may g below added goes b =
     let j = lent_joined t locked mine lent mine1 l ks.known m in
@@ -252,8 +252,8 @@ did_peer_by t locked mine lent mine1 lent2 locked2 mine2 old new k told m is pas
       makes = makes t locked mine lent mine1 lent2 locked2 mine2 1 k told j.joined pass caller l g below e b;
     }
 
-pub did_peer : (t : Thread) (locked mine lent mine1 lent2 locked2 mine2 : View) (old new : Side PeerReplay) (k : Kept) (told : Told) → IsThread t → HoldsPass t mine → Owns locked 1 → k.entry.made.caller ≡ t → k.entry.made.index < 2 ^ 32
-    → PeerKnows locked old → MayMake t mine k.entry.made.index k.entry.made.op k.entry.made.cites → Lends t locked mine lent mine1 → Grows lent lent2 1 k → ((i : ℕ) → IsBelow k.entry.number (known lent i))
+pub did_peer : (t : Thread) (locked mine lent mine1 lent2 locked2 mine2 : View) (old new : Side PeerReplay) (k : KeptEntry) (told : Told) → IsThread t → HoldsPass t mine → Owns locked 1 → k.entry.made.caller ≡ t → k.entry.made.index < 2 ^ 32
+    → PeerKnows locked old → MayMake t mine k.entry.made.index k.entry.made.op k.entry.made.cites → Lends t locked mine lent mine1 → GrowsByEntry lent lent2 1 k → ((i : ℕ) → IsBelow k.entry.number (known lent i))
     → new.entries ≡ old.entries ++ k.entry ∷ [] → GoesOn peer_rules old.state k.entry.made told new.state → Returns t lent2 mine1 locked2 mine2 → DidPeer t mine locked2 mine2 new k.entry told
 did_peer t locked mine lent mine1 lent2 locked2 mine2 old new k told is pass owns caller short ks may l g below added goes b =
     let j = lent_joined t locked mine lent mine1 l ks.known may.stands.known in

@@ -39,7 +39,7 @@ use Rattle.peer_side.specs.Steps.{IsPeerStep}
 use Rattle.order_table.specs.declared.views.View.{View}
 use Rattle.order_table.specs.Facts.{entries_of, line_entries}
 use Rattle.order_table.specs.Rule.{of_line}
-use Rattle.order_table.specs.Tells.{IsOneHistory}
+use Rattle.order_table.specs.Tells.{BeginsOneHistory}
 use Rattle.order_table.specs.Views.{OrderId, Shown, known, Owns}
 use Rattle.order_table.proofs.Wholes.{tell_lines}
 use Rattle.joint_history.specs.Callers.{HoldsPass, KnowsNothing}
@@ -123,9 +123,9 @@ due_at_end (x ∷ h) l w = due_line x h ∙ by x.entry.made.caller (due_at_end h
 -- more is known of one history
 pub record KnowsOn (v w : View) : Type 0 where
   pub more : (i : ℕ) → IsPrefix (known v i) (known w i)
-  pub one_history : IsOneHistory w
+  pub one_history : BeginsOneHistory w
 
-same_history : (v w : View) → ((i : ℕ) → known w i ≡ known v i) → IsOneHistory v → IsOneHistory w
+same_history : (v w : View) → ((i : ℕ) → known w i ≡ known v i) → BeginsOneHistory v → BeginsOneHistory w
 same_history v w same o = record { whole = o.whole; numbers = o.numbers; begins = λ i. subst (λ ks. IsPrefix ks (of_line i o.whole)) (sym (same i)) (o.begins i) }
 
 -- of the locked seat so it is once a caller's lines were handed over, and after an entry and the handing back
@@ -168,7 +168,7 @@ reserves_on v w old new ks on k r = record {
 }
 
 -- by one past that is known it holds by all
-pub room_by_one : (v : View) (s : PeerReplay) (left : ℕ) (a : IsKnownView v) → IsOneHistory v → (end_of a.past).peer ≡ s → HasRoomToWeaken (end_of a.past) left → (k : IsKnownView v) → (end_of k.past).peer ≡ s → HasRoomToWeaken (end_of k.past) left
+pub room_by_one : (v : View) (s : PeerReplay) (left : ℕ) (a : IsKnownView v) → BeginsOneHistory v → (end_of a.past).peer ≡ s → HasRoomToWeaken (end_of a.past) left → (k : IsKnownView v) → (end_of k.past).peer ≡ s → HasRoomToWeaken (end_of k.past) left
 room_by_one v s left a o e room k f = room_stays v v a k left left (record { more = λ i. prefix_refl (known v i); one_history = o })
     (λ n g. (n, ap (λ (r : PeerReplay). r.mirror) (e ∙ sym f) ∙ g, refl, (let same : length n.weakened + left ≡ length n.weakened + left = refl in omega (arith, same)))) room
 

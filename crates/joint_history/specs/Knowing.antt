@@ -8,11 +8,11 @@ use Rattle.joint_model.specs.Told.{Told, Noted}
 use Rattle.known_laws.specs.Growing.{AreKnown, AreJoined, HasEnded}
 use Rattle.known_laws.specs.Known.{TellsPlainly}
 use Rattle.known_laws.specs.Pasts.{end_of}
-use Rattle.order_table.specs.declared.views.Kept.{Kept}
+use Rattle.order_table.specs.declared.views.KeptEntry.{KeptEntry}
 use Rattle.order_table.specs.declared.views.View.{View}
 use Rattle.order_table.specs.Facts.{entries_of, line_entries}
-use Rattle.order_table.specs.Rule.{IsBelow, IsWhole}
-use Rattle.order_table.specs.Tells.{Grows, TakesIn, IsOneHistory}
+use Rattle.order_table.specs.Rule.{IsBelow, AreLinesOfOneHistory}
+use Rattle.order_table.specs.Tells.{GrowsByEntry, TakesIn, BeginsOneHistory}
 use Rattle.order_table.specs.Views.{IsInRole, known, first_view}
 
 -- the entries of a line that a view knows
@@ -42,12 +42,12 @@ pub record KnowsMore (past : List Noted) (n : Noted) (w : View) : Type 0 where
 
 -- a seat that made an entry which may come after its past, with a number above all that it knew, knows that past with the entry
 abbrev pub ViewsGrow : Type 0
-ViewsGrow = (v w : View) (r : ℕ) (k : Kept) (a : IsKnownView v) (told : Told) → Grows v w r k → IsInRole r k.entry.made → ((i : ℕ) → IsBelow k.entry.number (known v i)) → MayCome (end_of a.past) (note_of k.entry told)
+ViewsGrow = (v w : View) (r : ℕ) (k : KeptEntry) (a : IsKnownView v) (told : Told) → GrowsByEntry v w r k → IsInRole r k.entry.made → ((i : ℕ) → IsBelow k.entry.number (known v i)) → MayCome (end_of a.past) (note_of k.entry told)
     → KnowsMore a.past (note_of k.entry told) w
 
 -- a seat that took another one in knows a past again, in which each line, and what it gives, is that of the one or of the other
 abbrev pub ViewsJoin : Type 0
-ViewsJoin = (v w u : View) (a : IsKnownView v) (b : IsKnownView w) → TakesIn v w u → IsOneHistory u → AreJoined a.past b.past (line_known v) (line_known w) (line_known u)
+ViewsJoin = (v w u : View) (a : IsKnownView v) (b : IsKnownView w) → TakesIn v w u → BeginsOneHistory u → AreJoined a.past b.past (line_known v) (line_known w) (line_known u)
 
 -- the view is known by the same past
 pub record IsKnownBy (past : List Noted) (w : View) : Type 0 where
@@ -60,4 +60,4 @@ SameIsKnown = (v w : View) (a : IsKnownView v) → ((i : ℕ) → known w i ≡ 
 
 -- a history is linked if its entries are those of the whole that a view knows, and the view's past has ended
 abbrev pub WholeViewIsLinked : Type 0
-WholeViewIsLinked = (h : Finished) (v : View) (a : IsKnownView v) (w : IsWhole v.known) → h.entries ≡ entries_of w.whole → HasEnded h (end_of a.past) → IsLinked h
+WholeViewIsLinked = (h : Finished) (v : View) (a : IsKnownView v) (w : AreLinesOfOneHistory v.known) → h.entries ≡ entries_of w.whole → HasEnded h (end_of a.past) → IsLinked h

@@ -17,7 +17,7 @@ use Rattle.joint_model.specs.Sides.{Side, SideRules, GoesOn}
 use Rattle.joint_model.specs.Told.{Told}
 use Rattle.known_laws.specs.Pasts.{end_of}
 use Rattle.peer_side.specs.Sides.{PeerModel}
-use Rattle.order_table.specs.declared.views.Kept.{Kept}
+use Rattle.order_table.specs.declared.views.KeptEntry.{KeptEntry}
 use Rattle.order_table.specs.declared.views.View.{View}
 use Rattle.order_table.specs.Rule.{IsBelow}
 use Rattle.order_table.specs.Views.{OrderId, Shown, known}
@@ -112,7 +112,7 @@ made_by t index o reply cites = record { caller = t; index = index; op = o; repl
 
 -- the side drew one entry by its seat and put it last: the entry may come next in its list, and the side's state is the one after it
 pub record Drew {S : Type 0} (r : SideRules S) (line : ℕ) (order : OrderId) (seat seat' : Shown) (side side' : Side S) (e : Entry) (told : Told) : Type 0 where
-  pub kept : Kept
+  pub kept : KeptEntry
   pub entry : kept.entry ≡ e
   pub appends : Appends order order seat seat' line kept
   pub added : side'.entries ≡ side.entries ++ e ∷ []

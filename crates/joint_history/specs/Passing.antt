@@ -5,18 +5,18 @@ use Rattle.joint_model.specs.declared.names.Thread.{Thread}
 use Rattle.joint_model.specs.declared.events.Op.{Op}
 use Rattle.joint_model.specs.HistoryLines.{caller_line}
 use Rattle.joint_model.specs.Lines.{IsThread, is_peer_event}
-use Rattle.order_table.specs.declared.views.Kept.{Kept}
+use Rattle.order_table.specs.declared.views.KeptEntry.{KeptEntry}
 use Rattle.order_table.specs.declared.views.View.{View}
 use Rattle.order_table.specs.Rule.{IsBelow}
-use Rattle.order_table.specs.Tells.{Grows, IsOfCaller, IsOneHistory}
+use Rattle.order_table.specs.Tells.{GrowsByEntry, IsOfCaller, BeginsOneHistory}
 use Rattle.order_table.specs.Views.{OrderId, Shown, known, Owns, appended}
 
 -- the least number above all of a list, and above all of all lists
-abbrev pub top : List Kept → ℕ
+abbrev pub top : List KeptEntry → ℕ
 top [] = 0
 top (k ∷ ks) = max (k.entry.number + 1) (top ks)
 
-abbrev pub top_of : List (List Kept) → ℕ
+abbrev pub top_of : List (List KeptEntry) → ℕ
 top_of [] = 0
 top_of (ks ∷ lines) = max (top ks) (top_of lines)
 
@@ -39,13 +39,13 @@ pub record MayAppend (order : OrderId) (seat : Shown) (r : ℕ) (t : Thread) (o 
   pub pass : Owns seat.view (caller_line t)
 
 -- the seat made that entry: its number is above all that the seat knew, and what the seat knows now is of one history
-pub record Appends (order order' : OrderId) (old new : Shown) (r : ℕ) (k : Kept) : Type 0 where
+pub record Appends (order order' : OrderId) (old new : Shown) (r : ℕ) (k : KeptEntry) : Type 0 where
   pub same_order : order' ≡ order
   pub same : new.order ≡ old.order
   pub view : new.view ≡ appended old.view r k
-  pub grows : Grows old.view new.view r k
+  pub grows : GrowsByEntry old.view new.view r k
   pub number : (i : ℕ) → IsBelow k.entry.number (known old.view i)
-  pub one_history : IsOneHistory new.view
+  pub one_history : BeginsOneHistory new.view
 
 -- a caller's lines were handed to a locked seat: that seat owns what it owned and the caller's lines, and knows of each line the longer
 -- list; of the lines that it owned it knows what it knew, and of the caller's lines what the caller knew. The caller's own seat knows
@@ -59,7 +59,7 @@ pub record Lends (t : Thread) (locked mine locked' mine' : View) : Type 0 where
   pub whole : (i : ℕ) → Owns locked i → known locked' i ≡ known locked i
   pub own : (i : ℕ) → IsOfCaller t i → Owns mine i → known locked' i ≡ known mine i
   pub same : (i : ℕ) → known mine' i ≡ known mine i
-  pub one_history : IsOneHistory locked'
+  pub one_history : BeginsOneHistory locked'
 
 -- they were handed back: the locked seat owns its other lines and knows what it knew, and the caller's seat owns its lines and knows
 -- all that the locked one does

@@ -7,13 +7,13 @@ use Rattle.std.proofs.Common.{◌≡◌, ◌≢◌, ◌⊎◌, inl, inr, ⊎_eli
 use Rattle.std.specs.Prelude.{if◌then◌else◌, ◌==◌}
 use Rattle.std.proofs.lemmas.Bool.{cases_Bool, cases_eq, eqb-true, or_cases, both_ways}
 use mathlib.Core.List.{IsPrefix}
-use Rattle.order_table.specs.declared.views.Kept.{Kept}
+use Rattle.order_table.specs.declared.views.KeptEntry.{KeptEntry}
 use Rattle.order_table.specs.declared.views.View.{View}
 use Rattle.order_table.specs.Rows.{at}
 use Rattle.order_table.specs.Views.{known, grown, appended}
 use Rattle.joint_model.specs.HistoryLines.{caller_line}
 use Rattle.order_table.specs.Rule.{Item, IsItem, is_in, of_line, RunsFrom, IsBelow}
-use Rattle.order_table.specs.Tells.{Grows}
+use Rattle.order_table.specs.Tells.{GrowsByEntry}
 use Rattle.order_table.proofs.Places.{at_put_here, at_put_else}
 
 -- one entry more: the lines in which it stands are longer by it, and the others are the same
@@ -43,11 +43,11 @@ below_line i n k (x ∷ xs) r l = let rest = below_line i (n + 1) k xs r.1 (omeg
     either_way true small rest = (small, rest)
     either_way false small rest = rest
 
-below_front : (k : ℕ) (xs ys : List Kept) → IsBelow k (xs ++ ys) → IsBelow k xs
+below_front : (k : ℕ) (xs ys : List KeptEntry) → IsBelow k (xs ++ ys) → IsBelow k xs
 below_front k [] ys b = tt
 below_front k (x ∷ xs) ys b = (b.0, below_front k xs ys b.1)
 
-pub below_begins : (k : ℕ) (xs ys : List Kept) → IsPrefix xs ys → IsBelow k ys → IsBelow k xs
+pub below_begins : (k : ℕ) (xs ys : List KeptEntry) → IsPrefix xs ys → IsBelow k ys → IsBelow k xs
 below_begins k xs ys p b = below_front k xs p.0 (subst (IsBelow k) (sym p.1) b)
 
 -- an entry stands in its role's line and in its caller's, and in no other
@@ -99,15 +99,15 @@ bounded xs n r limit = let f = few xs n r in
     let g = limit 5 (omega arith) in let h = limit 6 (omega arith) in let j = limit 7 (omega arith) in let k = limit 8 (omega arith) in let l = limit 9 (omega arith) in omega arith
 
 -- what a view knows of a line when an entry is added to two of them
-at_grown_here : (ls : List (List Kept)) (i : ℕ) (k : Kept) → at [] (grown ls i k) i ≡ at [] ls i ++ k ∷ []
+at_grown_here : (ls : List (List KeptEntry)) (i : ℕ) (k : KeptEntry) → at [] (grown ls i k) i ≡ at [] ls i ++ k ∷ []
 at_grown_here ls i k = at_put_here [] ls i (at [] ls i ++ k ∷ [])
 
-at_grown_else : (ls : List (List Kept)) (i j : ℕ) (k : Kept) → j ≢ i → at [] (grown ls i k) j ≡ at [] ls j
+at_grown_else : (ls : List (List KeptEntry)) (i j : ℕ) (k : KeptEntry) → j ≢ i → at [] (grown ls i k) j ≡ at [] ls j
 at_grown_else ls i j k n = at_put_else [] ls i j (at [] ls i ++ k ∷ []) n
 
 pub appended_in : (v : View) (x : Item) (i : ℕ) → x.role < 10 → is_in i x ≡ true → known (appended v x.role x.kept) i ≡ known v i ++ x.kept ∷ []
 appended_in v x i small e =
-    let c : ℕ = caller_line x.kept.entry.made.caller in let once : List (List Kept) = grown v.known x.role x.kept in
+    let c : ℕ = caller_line x.kept.entry.made.caller in let once : List (List KeptEntry) = grown v.known x.role x.kept in
     ⊎_elim
     (λ (r : i ≡ x.role). subst (λ j. at [] (grown once c x.kept) j ≡ at [] v.known j ++ x.kept ∷ []) (sym r)
     (at_grown_else once c x.role x.kept (λ e. omega arith) ∙ at_grown_here v.known x.role x.kept))
@@ -117,10 +117,10 @@ appended_in v x i small e =
 
 pub appended_out : (v : View) (x : Item) (i : ℕ) → is_in i x ≡ false → known (appended v x.role x.kept) i ≡ known v i
 appended_out v x i e =
-    let c : ℕ = caller_line x.kept.entry.made.caller in let once : List (List Kept) = grown v.known x.role x.kept in
+    let c : ℕ = caller_line x.kept.entry.made.caller in let once : List (List KeptEntry) = grown v.known x.role x.kept in
     at_grown_else once c i x.kept (λ r. both_ways (is_in i x) e (caller_in i x r)) ∙ at_grown_else v.known x.role i x.kept (λ r. both_ways (is_in i x) e (role_in i x r))
 
-pub grows : (v : View) (r : ℕ) (k : Kept) → r < 10 → Grows v (appended v r k) r k
+pub grows : (v : View) (r : ℕ) (k : KeptEntry) → r < 10 → GrowsByEntry v (appended v r k) r k
 grows v r k small = let x : Item = record { role = r; kept = k } in record {
   role = appended_in v x r small (role_in r x refl);
   caller = appended_in v x (caller_line k.entry.made.caller) small (caller_in (caller_line k.entry.made.caller) x refl);

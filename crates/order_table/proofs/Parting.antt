@@ -8,12 +8,12 @@ use Rattle.joint_model.specs.declared.names.Thread.{Thread}
 use Rattle.joint_model.specs.declared.names.Thread.TheVariants.{M, P, C}
 use Rattle.joint_model.specs.Lines.{IsThread}
 use Rattle.order_table.specs.declared.views.Role.{Role}
-use Rattle.order_table.specs.declared.views.Kept.{Kept}
+use Rattle.order_table.specs.declared.views.KeptEntry.{KeptEntry}
 use Rattle.order_table.specs.declared.views.View.{View}
 use Rattle.order_table.specs.Rows.{at, put}
 use Rattle.order_table.specs.Views.{Owns, known, role_line, giving, given, hearing, lines_of_role, lines_of_caller, lines_of_none}
 use Rattle.joint_model.specs.HistoryLines.{caller_line}
-use Rattle.order_table.specs.Tells.{Compares, Grows, Parts, IsOfRole, IsOfCaller, IsOfNone, TakesIn}
+use Rattle.order_table.specs.Tells.{Compares, GrowsByEntry, Parts, IsOfRole, IsOfCaller, IsOfNone, TakesIn}
 use Rattle.order_table.proofs.Places.{at_put_here, at_put_else, at_joined, at_common, at_without, at_longest, longer_cases, or_true}
 
 -- the mask has just the lines of this kind
@@ -78,7 +78,7 @@ not_of_caller (P n) i is far e = ⊎_elim (λ l. omega arith) (λ l. omega arith
 not_of_caller C i is far e = ⊎_elim (λ l. omega arith) (λ l. omega arith) far
 
 -- who makes an entry owns what it owned
-pub still_owns : {v w : View} {r : ℕ} {k : Kept} → Grows v w r k → (i : ℕ) → Owns v i → Owns w i
+pub still_owns : {v w : View} {r : ℕ} {k : KeptEntry} → GrowsByEntry v w r k → (i : ℕ) → Owns v i → Owns w i
 still_owns g i o = subst (λ os. at false os i ≡ true) (sym g.owns) o
 
 -- what a seat learned of another, once it has compared the two

@@ -18,12 +18,12 @@ use Rattle.joint_model.specs.declared.names.MNum.{MNum}
 use Rattle.joint_model.specs.declared.events.Made.{Made}
 use Rattle.joint_model.specs.Control.{caller_place}
 use Rattle.joint_model.specs.Lines.{IsThread}
-use Rattle.order_table.specs.declared.views.Kept.{Kept}
+use Rattle.order_table.specs.declared.views.KeptEntry.{KeptEntry}
 use Rattle.order_table.specs.declared.views.View.{View}
 use Rattle.order_table.specs.Rows.{at, longer}
 use Rattle.order_table.specs.Views.{IsInRole, IsCompared, OwnsAll, kept, known, Owns, first_view, spent_view, appended, giving, given, hearing, learned, lines_of_none}
 use Rattle.joint_model.specs.HistoryLines.{caller_line}
-use Rattle.order_table.specs.Rule.{Item, is_in, of_line, RunsFrom, Knows, HasOwner, Ordered, IsWhole}
+use Rattle.order_table.specs.Rule.{Item, is_in, of_line, RunsFrom, Knows, HasOwner, Ordered, AreLinesOfOneHistory}
 use Rattle.order_table.specs.Tells.{Appended, Compared}
 use Rattle.order_table.proofs.Places.{begins_more, longer_begins, first_begins_longer, second_begins_longer, whole_longer, longer_whole, at_longest, at_joined, at_common, at_without, or_true}
 use Rattle.order_table.proofs.Lines.{of_line_in, of_line_out, runs_more, below_line, below_begins, bounded, in_cases, appended_in, appended_out}
@@ -73,7 +73,7 @@ knows_appended whole owner j v x k compared small a b =
     record {
       begins = λ i. ⊎_elim
           (λ e. subst (λ ks. IsPrefix ks (of_line i (whole ++ x ∷ []))) (sym (here i e)) (prefix_refl (of_line i (whole ++ x ∷ []))))
-          (λ e. subst (λ (z : List Kept × List Kept). IsPrefix z.0 z.1) (λ c. (sym (appended_out v x i e) c, sym (of_line_out i whole x e) c)) (k.begins i))
+          (λ e. subst (λ (z : List KeptEntry × List KeptEntry). IsPrefix z.0 z.1) (λ c. (sym (appended_out v x i e) c, sym (of_line_out i whole x e) c)) (k.begins i))
           (cases_Bool (is_in i x));
       heard = λ i. subst (λ h. IsPrefix (at [] h i) (of_line i (whole ++ x ∷ []))) (sym compared.heard) (of_line i (whole ++ x ∷ []), refl);
       owned = λ i o. ((k.owned i o).0, ⊎_elim (λ e. here i e) (λ e. appended_out v x i e ∙ ((k.owned i o).1 ∙ sym (of_line_out i whole x e))) (cases_Bool (is_in i x)));
@@ -85,11 +85,11 @@ knows_other : (whole : List Item) (owner : ℕ → ℕ) (j me : ℕ) (u v : View
     → Owns v x.role → Owns v (caller_line x.kept.entry.made.caller) → Knows (whole ++ x ∷ []) owner j u
 knows_other whole owner j me u v x other k mine a b =
     let owns_in : (i : ℕ) → is_in i x ≡ true → Owns v i = λ i e. ⊎_elim (λ r. subst (Owns v) (sym r) a) (λ r. subst (Owns v) (sym r) b) (in_cases i x e) in
-    let more : (i : ℕ) (ks : List Kept) → IsPrefix ks (of_line i whole) → IsPrefix ks (of_line i (whole ++ x ∷ [])) = λ i ks p. ⊎_elim
+    let more : (i : ℕ) (ks : List KeptEntry) → IsPrefix ks (of_line i whole) → IsPrefix ks (of_line i (whole ++ x ∷ [])) = λ i ks p. ⊎_elim
     (λ e. subst (IsPrefix ks) (sym (of_line_in i whole x e)) (begins_more ks (of_line i whole) (x.kept ∷ []) p))
     (λ e. subst (IsPrefix ks) (sym (of_line_out i whole x e)) p)
     (cases_Bool (is_in i x)) in
-    let whole_still : (i : ℕ) (ks : List Kept) → (owner i ≡ j) × (ks ≡ of_line i whole) → (owner i ≡ j) × (ks ≡ of_line i (whole ++ x ∷ [])) = λ i ks t. (
+    let whole_still : (i : ℕ) (ks : List KeptEntry) → (owner i ≡ j) × (ks ≡ of_line i whole) → (owner i ≡ j) × (ks ≡ of_line i (whole ++ x ∷ [])) = λ i ks t. (
       t.0,
       ⊎_elim (λ e. absurd (other (sym t.0 ∙ (mine.owned i (owns_in i e)).0))) (λ e. t.1 ∙ sym (of_line_out i whole x e)) (cases_Bool (is_in i x)),
     ) in
@@ -349,7 +349,7 @@ compares slots id me s r _ here _ =
     )
 
 -- a seat that owns all lines knows the whole history
-pub tells_all : (id : ℕ) (v : View) (s : St) → Ordered s → get_elem? s.views id ≡ some v → OwnsAll v → IsWhole v.known
+pub tells_all : (id : ℕ) (v : View) (s : St) → Ordered s → get_elem? s.views id ≡ some v → OwnsAll v → AreLinesOfOneHistory v.known
 tells_all id v s r here all = record {
   whole = r.whole;
   numbers = r.numbers;

@@ -13,7 +13,7 @@ use Rattle.joint_model.specs.Control.{caller_place}
 use Rattle.joint_model.specs.Draws.{NumberedFrom}
 use Rattle.joint_model.specs.Lines.{IsThread, is_peer_event}
 use Rattle.order_table.specs.declared.views.Role.TheVariants as role
-use Rattle.order_table.specs.declared.views.Kept.{Kept}
+use Rattle.order_table.specs.declared.views.KeptEntry.{KeptEntry}
 use Rattle.order_table.specs.Views.{IsInRole}
 use Rattle.joint_model.specs.HistoryLines.{caller_line}
 use Rattle.order_table.specs.Rule.{Item, IsItem, is_in, of_line, RunsFrom}
@@ -27,13 +27,13 @@ Has [] x = ⊥
 Has (y ∷ ys) x = (y ≡ x) ⊎ Has ys x
 
 -- what stands in a line is an entry of the history that is in the line, and the other way round
-record Comes (i : ℕ) (xs : List Item) (a : Kept) : Type 0 where
+record Comes (i : ℕ) (xs : List Item) (a : KeptEntry) : Type 0 where
   item : Item
   there : Has xs item
   into : is_in i item ≡ true
   same : item.kept ≡ a
 
-comes : (i : ℕ) (xs : List Item) (a : Kept) → In (of_line i xs) a → Comes i xs a
+comes : (i : ℕ) (xs : List Item) (a : KeptEntry) → In (of_line i xs) a → Comes i xs a
 comes i [] a s = absurd s
 comes i (x ∷ xs) a s = ⊎_elim
     (λ (e : is_in i x ≡ true). ⊎_elim
@@ -135,17 +135,17 @@ keeps_lists s r = record {
     stands = goes f.item.role r.whole f.item f.there (role_in f.item.role f.item refl);
     number = f.number ∙ omega arith;
   };
-  below = λ q a l st. let c = comes q r.whole a st in let high = (placed 0 r.whole c.item r.numbers c.there).high in let is = r.sequencer in let same = ap (λ (k : Kept). k.entry.number) c.same in omega arith;
+  below = λ q a l st. let c = comes q r.whole a st in let high = (placed 0 r.whole c.item r.numbers c.there).high in let is = r.sequencer in let same = ap (λ (k : KeptEntry). k.entry.number) c.same in omega arith;
   once = λ q p a b lq lp sa sb e. let c = comes q r.whole a sa in let d = comes p r.whole b sb in
-      let same = one_number 0 r.whole c.item d.item r.numbers c.there d.there (ap (λ (k : Kept). k.entry.number) c.same ∙ (e ∙ sym (ap (λ (k : Kept). k.entry.number) d.same))) in
+      let same = one_number 0 r.whole c.item d.item r.numbers c.there d.there (ap (λ (k : KeptEntry). k.entry.number) c.same ∙ (e ∙ sym (ap (λ (k : KeptEntry). k.entry.number) d.same))) in
       (of_role q c.item lq c.into ∙ (ap (λ x. x.role) same ∙ sym (of_role p d.item lp d.into)), sym c.same ∙ (ap (λ x. x.kept) same ∙ d.same));
   limit = r.limit;
   unwrapped = let long = bounded r.whole 0 r.numbers r.limit in let is = r.sequencer in omega arith;
   own = λ t a is st. let c = comes (caller_line t) r.whole a st in let p = placed 0 r.whole c.item r.numbers c.there in let one = p.is.stands.one in (
-    ap (λ (k : Kept). k.entry.made.caller) (sym c.same) ∙ of_own t c.item is p.is c.into,
+    ap (λ (k : KeptEntry). k.entry.made.caller) (sym c.same) ∙ of_own t c.item is p.is c.into,
     (c.item.role, omega arith, subst (In (of_line c.item.role r.whole)) c.same (goes c.item.role r.whole c.item c.there (role_in c.item.role c.item refl))),
   );
-  made = λ q a l st. let c = comes q r.whole a st in subst (λ (k : Kept). In (of_line (caller_line k.entry.made.caller) r.whole) k) c.same
+  made = λ q a l st. let c = comes q r.whole a st in subst (λ (k : KeptEntry). In (of_line (caller_line k.entry.made.caller) r.whole) k) c.same
       (goes (caller_line c.item.kept.entry.made.caller) r.whole c.item c.there (caller_in (caller_line c.item.kept.entry.made.caller) c.item refl));
 }
 

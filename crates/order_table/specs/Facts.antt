@@ -10,7 +10,7 @@ use Rattle.joint_model.specs.declared.events.Entry.{Entry}
 use Rattle.joint_model.specs.Draws.{NumberedFrom}
 use Rattle.joint_model.specs.Lines.{IsThread}
 use Rattle.order_table.specs.declared.views.Role.{Role}
-use Rattle.order_table.specs.declared.views.Kept.{Kept}
+use Rattle.order_table.specs.declared.views.KeptEntry.{KeptEntry}
 use Rattle.order_table.specs.declared.views.View.{View}
 use Rattle.order_table.specs.Rows.{at}
 use Rattle.order_table.specs.Views.{IsRole, role_line, known, Owns}
@@ -18,20 +18,20 @@ use Rattle.joint_model.specs.HistoryLines.{caller_line, entries_in}
 use Rattle.order_table.specs.Rule.{Item, Ordered, RunsFrom, of_line}
 
 -- the entry stands in the list
-abbrev pub In : List Kept → Kept → Type 0
+abbrev pub In : List KeptEntry → KeptEntry → Type 0
 In [] a = ⊥
 In (k ∷ ks) a = (k ≡ a) ⊎ In ks a
 
 -- some role's list has an entry with the number
-pub record IsNumberIn (lists : ℕ → List Kept) (n : ℕ) : Type 0 where
+pub record IsNumberIn (lists : ℕ → List KeptEntry) (n : ℕ) : Type 0 where
   pub role : ℕ
   pub one : role < 10
-  pub entry : Kept
+  pub entry : KeptEntry
   pub stands : In (lists role) entry
   pub number : entry.entry.number ≡ n
 
 -- some seat knows the whole list
-pub record IsKnownWhole (views : List View) (i : ℕ) (whole : List Kept) : Type 0 where
+pub record IsKnownBySomeSeat (views : List View) (i : ℕ) (whole : List KeptEntry) : Type 0 where
   pub seat : ℕ
   pub view : View
   pub there : get_elem? views seat ≡ some view
@@ -42,18 +42,18 @@ pub record IsKnownWhole (views : List View) (i : ℕ) (whole : List Kept) : Type
 -- numbers in the roles' lists are those below the sequencer word, each once; no list is too long, and the word is far from its end. A
 -- caller's list has just that caller's entries of the roles' lists.
 pub record HasWholeLists (s : State (Unit {0}) View) : Type 0 where
-  pub lists : ℕ → List Kept
+  pub lists : ℕ → List KeptEntry
   pub begins : (j : ℕ) (v : View) → get_elem? s.views j ≡ some v → (i : ℕ) → IsPrefix (known v i) (lists i)
-  pub longest : (i : ℕ) → i < 27 → IsKnownWhole s.views i (lists i)
+  pub longest : (i : ℕ) → i < 27 → IsKnownBySomeSeat s.views i (lists i)
   pub whole : (j : ℕ) (v : View) → get_elem? s.views j ≡ some v → (i : ℕ) → Owns v i → known v i ≡ lists i
   pub owner : (j k : ℕ) (v w : View) → get_elem? s.views j ≡ some v → get_elem? s.views k ≡ some w → (i : ℕ) → Owns v i → Owns w i → j ≡ k
   pub counted : (n : ℕ) → n < slice_index s.words 0 → IsNumberIn lists n
-  pub below : (r : ℕ) (a : Kept) → r < 10 → In (lists r) a → a.entry.number < slice_index s.words 0
-  pub once : (q r : ℕ) (a b : Kept) → q < 10 → r < 10 → In (lists q) a → In (lists r) b → a.entry.number ≡ b.entry.number → (q ≡ r) × (a ≡ b)
+  pub below : (r : ℕ) (a : KeptEntry) → r < 10 → In (lists r) a → a.entry.number < slice_index s.words 0
+  pub once : (q r : ℕ) (a b : KeptEntry) → q < 10 → r < 10 → In (lists q) a → In (lists r) b → a.entry.number ≡ b.entry.number → (q ≡ r) × (a ≡ b)
   pub limit : (r : ℕ) → r < 10 → length (lists r) ≤ 4294967295
   pub unwrapped : slice_index s.words 0 ≤ 42949672950
-  pub own : (t : Thread) (a : Kept) → IsThread t → In (lists (caller_line t)) a → (a.entry.made.caller ≡ t) × ((r : ℕ) × (r < 10) × In (lists r) a)
-  pub made : (r : ℕ) (a : Kept) → r < 10 → In (lists r) a → In (lists (caller_line a.entry.made.caller)) a
+  pub own : (t : Thread) (a : KeptEntry) → IsThread t → In (lists (caller_line t)) a → (a.entry.made.caller ≡ t) × ((r : ℕ) × (r < 10) × In (lists r) a)
+  pub made : (r : ℕ) (a : KeptEntry) → r < 10 → In (lists r) a → In (lists (caller_line a.entry.made.caller)) a
 
 abbrev pub RuleKeepsLists : Type 0
 RuleKeepsLists = (s : State (Unit {0}) View) → Ordered s → HasWholeLists s
@@ -69,7 +69,7 @@ CallersDiffer = (t u : Thread) → IsThread t → IsThread u → caller_line t �
 abbrev pub entries_of : List Item → List Entry
 entries_of xs = map (λ x. x.kept.entry) xs
 
-abbrev pub line_entries : List Kept → List Entry
+abbrev pub line_entries : List KeptEntry → List Entry
 line_entries ks = map (λ k. k.entry) ks
 
 -- the entries are numbered from 0 on, and each line has just those that stand in it by event and caller

@@ -7,14 +7,14 @@ use Rattle.joint_model.specs.declared.events.Op.{Op}
 use Rattle.joint_model.specs.declared.events.Op.TheVariants as op
 use Rattle.joint_model.specs.declared.events.Reply.{Reply}
 use Rattle.joint_model.specs.declared.events.Reply.TheVariants as says
-use Rattle.order_table.specs.declared.views.Kept.{Kept}
+use Rattle.order_table.specs.declared.views.KeptEntry.{KeptEntry}
 
 -- the cell that an event sets, and the object
 abbrev pub mark : Op → Option MNum → Option (ℕ × ℕ)
 mark (op.Line (act.Weak c v)) (Some m) = Some (c.0, m.0)
 mark _ _ = None
 
-abbrev pub marked : Kept → Option (ℕ × ℕ)
+abbrev pub marked : KeptEntry → Option (ℕ × ℕ)
 marked k = mark k.entry.made.op k.target
 
 -- a cell's target after an entry, and after all entries of a managed list
@@ -22,11 +22,11 @@ abbrev pub aims_at : ℕ → Option ℕ → Option (ℕ × ℕ) → Option ℕ
 aims_at c t None = t
 aims_at c t (Some p) = if p.0 == c then Some p.1 else t
 
-abbrev pub target_from : ℕ → Option ℕ → List Kept → Option ℕ
+abbrev pub target_from : ℕ → Option ℕ → List KeptEntry → Option ℕ
 target_from c t [] = t
 target_from c t (k ∷ ks) = target_from c (aims_at c t (marked k)) ks
 
-abbrev pub target : List Kept → ℕ → Option ℕ
+abbrev pub target : List KeptEntry → ℕ → Option ℕ
 target ks c = target_from c None ks
 
 -- the object is among these
@@ -43,13 +43,13 @@ abbrev pub frees_target : Option ℕ → List MNum → Bool
 frees_target None ms = false
 frees_target (Some m) ms = has ms m
 
-abbrev pub owes_after : List Kept → Kept → ℕ → Bool
+abbrev pub owes_after : List KeptEntry → KeptEntry → ℕ → Bool
 owes_after ml k c = sets_cell (marked k) c || frees_target (target ml c) k.freed
 
--- a row of n truth values
-abbrev pub row : ℕ → (ℕ → Bool) → List Bool
-row zero f = []
-row (suc n) f = f 0 ∷ row n (λ i. f (suc i))
+-- the truth values at the places below n
+abbrev pub by_place : ℕ → (ℕ → Bool) → List Bool
+by_place zero f = []
+by_place (suc n) f = f 0 ∷ by_place n (λ i. f (suc i))
 
 -- what an entry does to its caller's pin: it fills it with a word, it empties it, or neither
 pub data PinDeed : Type 0 where
@@ -68,15 +68,15 @@ pin_after p (fills w) = w
 pin_after p empties = 0
 pin_after p stays = p
 
-abbrev pub deed_of_pin : Kept → PinDeed
+abbrev pub deed_of_pin : KeptEntry → PinDeed
 deed_of_pin k = pin_deed k.entry.made.op k.entry.made.reply
 
 -- the word of a caller's pin after all of its own entries: 0 where it is empty, and else the object's number and 1
-abbrev pub pin_from : ℕ → List Kept → ℕ
+abbrev pub pin_from : ℕ → List KeptEntry → ℕ
 pin_from p [] = p
 pin_from p (k ∷ ks) = pin_from (pin_after p (deed_of_pin k)) ks
 
-abbrev pub pin : List Kept → ℕ
+abbrev pub pin : List KeptEntry → ℕ
 pin ks = pin_from 0 ks
 
 -- what an entry leaves to be stored at its caller's pin, which stood at p: an empty pin isn't cleared

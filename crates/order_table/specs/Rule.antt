@@ -6,7 +6,7 @@ use mathlib.Core.List.{IsPrefix}
 use lib.ListN.{get_elem?}
 use Rattle.atomic_table.specs.Table.{State}
 use Rattle.joint_model.specs.Lines.{IsThread}
-use Rattle.order_table.specs.declared.views.Kept.{Kept}
+use Rattle.order_table.specs.declared.views.KeptEntry.{KeptEntry}
 use Rattle.order_table.specs.declared.views.View.{View}
 use Rattle.order_table.specs.Rows.{at}
 use Rattle.order_table.specs.Views.{IsInRole, known, Owns}
@@ -15,14 +15,14 @@ use Rattle.joint_model.specs.HistoryLines.{caller_line}
 -- an entry of the history, with the line of the role in whose list it stands
 pub record Item : Type 0 where
   pub role : ℕ
-  pub kept : Kept
+  pub kept : KeptEntry
 
 -- the entry stands in the line: in that of its role, or in that of its caller
 abbrev pub is_in : ℕ → Item → Bool
 is_in i x = (i == x.role) || (i == caller_line x.kept.entry.made.caller)
 
 -- the entries of a line, in their order
-abbrev pub of_line : ℕ → List Item → List Kept
+abbrev pub of_line : ℕ → List Item → List KeptEntry
 of_line i [] = []
 of_line i (x ∷ xs) = if is_in i x then x.kept ∷ of_line i xs else of_line i xs
 
@@ -38,7 +38,7 @@ RunsFrom n [] = Unit {0}
 RunsFrom n (x ∷ xs) = IsItem n x × RunsFrom (n + 1) xs
 
 -- each number is below n
-abbrev pub IsBelow : ℕ → List Kept → Type 0
+abbrev pub IsBelow : ℕ → List KeptEntry → Type 0
 IsBelow n [] = Unit {0}
 IsBelow n (k ∷ ks) = (k.entry.number < n) × IsBelow n ks
 
@@ -68,7 +68,7 @@ pub record Ordered (s : State (Unit {0}) View) : Type 0 where
   pub each_line : (i : ℕ) → i < 27 → HasOwner s.views i (owner i)
 
 -- the lines are those of one whole history
-pub record IsWhole (lines : List (List Kept)) : Type 0 where
+pub record AreLinesOfOneHistory (lines : List (List KeptEntry)) : Type 0 where
   pub whole : List Item
   pub numbers : RunsFrom 0 whole
   pub each : (i : ℕ) → i < 27 → at [] lines i ≡ of_line i whole

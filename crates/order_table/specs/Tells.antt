@@ -7,7 +7,7 @@ use Rattle.joint_model.specs.declared.names.Thread.{Thread}
 use Rattle.joint_model.specs.declared.names.Thread.TheVariants.{M}
 use Rattle.joint_model.specs.declared.events.Made.{Made}
 use Rattle.order_table.specs.declared.views.Role.{Role}
-use Rattle.order_table.specs.declared.views.Kept.{Kept}
+use Rattle.order_table.specs.declared.views.KeptEntry.{KeptEntry}
 use Rattle.order_table.specs.declared.views.View.{View}
 use Rattle.order_table.specs.Rows.{at}
 use Rattle.order_table.specs.Views.{role_line, kept, known, Owns, appended, learned}
@@ -15,17 +15,17 @@ use Rattle.joint_model.specs.HistoryLines.{caller_line}
 use Rattle.order_table.specs.Rule.{Item, RunsFrom, of_line, IsBelow}
 
 -- what is known are beginnings of the lines of one history, whose entries have the numbers from 0 on
-pub record IsOneHistory (w : View) : Type 0 where
+pub record BeginsOneHistory (w : View) : Type 0 where
   pub whole : List Item
   pub numbers : RunsFrom 0 whole
   pub begins : (i : ℕ) → IsPrefix (known w i) (of_line i whole)
 
 -- the entry has the number found, which is greater than all that the seat knew and which no other entry of the one history has
 abbrev pub Appended : ℕ → Made → Option MNum → List MNum → Step (Unit {0}) → Me (Unit {0}) View → ℕ → Me (Unit {0}) View → Type 0
-Appended role made target freed st m n m' = (m'.1 ≡ m.1) × (m'.0 ≡ appended m.0 role (kept m.0 made target freed n)) × ((i : ℕ) → IsBelow n (known m.0 i)) × IsOneHistory m'.0
+Appended role made target freed st m n m' = (m'.1 ≡ m.1) × (m'.0 ≡ appended m.0 role (kept m.0 made target freed n)) × ((i : ℕ) → IsBelow n (known m.0 i)) × BeginsOneHistory m'.0
 
 -- an entry more in the line of its role and in that of its caller; all else is known as before, and owned as before
-pub record Grows (v w : View) (r : ℕ) (k : Kept) : Type 0 where
+pub record GrowsByEntry (v w : View) (r : ℕ) (k : KeptEntry) : Type 0 where
   pub role : known w r ≡ known v r ++ k ∷ []
   pub caller : known w (caller_line k.entry.made.caller) ≡ known v (caller_line k.entry.made.caller) ++ k ∷ []
   pub others : (i : ℕ) → (i ≡ r → ⊥) → (i ≡ caller_line k.entry.made.caller → ⊥) → known w i ≡ known v i
@@ -40,7 +40,7 @@ pub record Compares (v w : View) : Type 0 where
   pub taken : (i : ℕ) → at false v.heard_owns i ≡ true → known w i ≡ at [] v.heard i
 
 abbrev pub Compared : Step (Unit {0}) → Me (Unit {0}) View → ℕ → Me (Unit {0}) View → Type 0
-Compared st m n m' = (m'.1 ≡ m.1) × Compares m.0 m'.0 × IsOneHistory m'.0
+Compared st m n m' = (m'.1 ≡ m.1) × Compares m.0 m'.0 × BeginsOneHistory m'.0
 
 -- which lines a seat gives away: a role's; a caller's, and for a managed thread that of its reader; none
 abbrev pub IsOfRole : Role → ℕ → Type 0

@@ -16,10 +16,10 @@ use Rattle.joint_model.specs.Draws.{numbered}
 use Rattle.joint_model.specs.Lines.{is_peer_event}
 use Rattle.order_table.specs.declared.views.Role.{Role}
 use Rattle.order_table.specs.declared.views.Role.TheVariants as role
-use Rattle.order_table.specs.declared.views.Kept.{Kept}
+use Rattle.order_table.specs.declared.views.KeptEntry.{KeptEntry}
 use Rattle.order_table.specs.declared.views.View.{View}
 use Rattle.order_table.specs.Rows.{at, put, longest, joined, common, without}
-use Rattle.order_table.specs.Owed.{PinDeed, pin_deed, pin, owing, fill_after, empty_after, owes_after, row, words_of}
+use Rattle.order_table.specs.Owed.{PinDeed, pin_deed, pin, owing, fill_after, empty_after, owes_after, by_place, words_of}
 
 -- which order it is: the name of the table that its word lies in
 abbrev pub OrderId : Type 0
@@ -53,7 +53,7 @@ pub record IsInRole (r : ℕ) (m : Made) : Type 0 where
   pub peer : r ≡ 1 → is_peer_event m.caller m.op ≡ true
 
 -- the entries of a line that a view knows
-abbrev pub known : View → ℕ → List Kept
+abbrev pub known : View → ℕ → List KeptEntry
 known v i = at [] v.known i
 
 -- whether a view owns a line
@@ -77,7 +77,7 @@ pins_kept v t (op.Line (act.Take x)) = put 0 [] (caller_place t) (pin (known v (
 pins_kept v t _ = []
 
 -- what is kept of an entry that a seat with this view draws
-abbrev pub kept : View → Made → Option MNum → List MNum → ℕ → Kept
+abbrev pub kept : View → Made → Option MNum → List MNum → ℕ → KeptEntry
 kept v m target freed n = record { entry = numbered n m; target = target; freed = freed; pins = pins_kept v m.caller m.op }
 
 -- what an entry leaves to be stored at its caller's pin
@@ -93,17 +93,17 @@ abbrev pub spent_view : View
 spent_view = record { owns = []; known = []; heard = []; heard_owns = []; heard_holds = 0; inside = 0; owes = 0; found = 0; holds = 0; loads = []; debts = []; fill = 0; empty = 0; scanned = [] }
 
 -- an entry more in one line
-abbrev pub grown : List (List Kept) → ℕ → Kept → List (List Kept)
+abbrev pub grown : List (List KeptEntry) → ℕ → KeptEntry → List (List KeptEntry)
 grown lines i k = put [] lines i (at [] lines i ++ k ∷ [])
 
 -- a view after its entry in the line of a role and in that of its caller
-abbrev pub appended : View → ℕ → Kept → View
+abbrev pub appended : View → ℕ → KeptEntry → View
 appended v r k = record v {
   known = grown (grown v.known r k) (caller_line k.entry.made.caller) k;
   found = 0;
   loads = [];
   scanned = [];
-  debts = if r == 0 then row 64 (owes_after (known v 0) k) else v.debts;
+  debts = if r == 0 then by_place 64 (owes_after (known v 0) k) else v.debts;
   fill = fill_after (pin_owed v k.entry.made) (caller_place k.entry.made.caller) v.fill;
   empty = empty_after (pin_owed v k.entry.made) (caller_place k.entry.made.caller) v.empty;
 }

@@ -51,4 +51,4 @@ pub use finished::Linked;
 pub use laws::{entries_tell_lines, lines_differ, rule_keeps_lists};
 pub use orders::Order;
 pub use seats::{OrderName, Seat};
-pub use views::{Kept, Role, View};
+pub use views::{KeptEntry, Role, View};

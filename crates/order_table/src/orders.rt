@@ -2,8 +2,8 @@
 
 ghost use Rattle.std.specs.Prelude.{◌≡◌, ◌<◌, ◌≤◌, ℕ, length, IfOk};
 ghost use Rattle.joint_model.specs.Lines.{IsThread};
-ghost use Rattle.order_table.specs.Rule.{IsBelow, IsWhole};
-ghost use Rattle.order_table.specs.Tells.{Grows, Parts, IsOfRole, IsOfCaller, IsOfNone, TakesIn, IsOneHistory};
+ghost use Rattle.order_table.specs.Rule.{IsBelow, AreLinesOfOneHistory};
+ghost use Rattle.order_table.specs.Tells.{GrowsByEntry, Parts, IsOfRole, IsOfCaller, IsOfNone, TakesIn, BeginsOneHistory};
 ghost use Rattle.order_table.specs.Views.{IsRole, IsInRole, role_line, kept, known, Owns, OwnsAll, first_view, appended, giving, given, hearing, learned, lines_of_role, lines_of_caller, lines_of_none};
 ghost use Rattle.joint_model.specs.HistoryLines.{caller_line};
 
@@ -61,9 +61,9 @@ impl Order {
         requires role { Owns seat.old.view W.role × Owns seat.old.view (caller_line W.made.caller) }
         requires room { length (known seat.old.view W.role) < 4294967295 }
         ensures seat { (seat.new.order ≡ seat.old.order) × (seat.new.view ≡ appended seat.old.view W.role (kept seat.old.view W.made W.target W.freed result)) }
-        ensures grows { Grows seat.old.view seat.new.view W.role (kept seat.old.view W.made W.target W.freed result) }
+        ensures grows { GrowsByEntry seat.old.view seat.new.view W.role (kept seat.old.view W.made W.target W.freed result) }
         ensures number { (i : ℕ) → IsBelow result (known seat.old.view i) }
-        ensures one_history { IsOneHistory seat.new.view }
+        ensures one_history { BeginsOneHistory seat.new.view }
     {
         self.table
             .shared
@@ -89,9 +89,9 @@ impl Order {
         requires role { Owns seat.old.view (role_line role) × Owns seat.old.view (caller_line made.now.caller) }
         requires room { length (known seat.old.view (role_line role)) < 4294967295 }
         ensures seat { (seat.new.order ≡ seat.old.order) × (seat.new.view ≡ appended seat.old.view (role_line role) (kept seat.old.view made.now target freed.now result)) }
-        ensures grows { Grows seat.old.view seat.new.view (role_line role) (kept seat.old.view made.now target freed.now result) }
+        ensures grows { GrowsByEntry seat.old.view seat.new.view (role_line role) (kept seat.old.view made.now target freed.now result) }
         ensures number { (i : ℕ) → IsBelow result (known seat.old.view i) }
-        ensures one_history { IsOneHistory seat.new.view }
+        ensures one_history { BeginsOneHistory seat.new.view }
     {
         self.append_as::<Brand>(seat, role, made, target, freed)
     }
@@ -163,7 +163,7 @@ impl Order {
         requires other { other.order ≡ self.now }
         ensures seat { (seat.new.order ≡ seat.old.order) × (seat.new.view ≡ learned (hearing seat.old.view other.view)) }
         ensures takes { TakesIn seat.old.view other.view seat.new.view }
-        ensures one_history { IsOneHistory seat.new.view }
+        ensures one_history { BeginsOneHistory seat.new.view }
     {
         let shared = &self.table.shared;
         let Seat { inner } = other;
@@ -177,7 +177,7 @@ impl Order {
         requires seat { seat.order ≡ self }
         requires all { OwnsAll seat.view }
         ensures lines { result.known ≡ seat.view.known }
-        ensures whole { IsWhole result.known }
+        ensures whole { AreLinesOfOneHistory result.known }
     {
         let note = self.note(&mut seat);
         let Order { table } = self;

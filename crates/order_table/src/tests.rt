@@ -46,7 +46,7 @@ struct Look {
 // A thread with its pass. It keeps the numbers that it drew, its looks at the sides' lists, and whether each number that it drew was at least
 // `next`, which is above all that it knew.
 #[derive(Drop)]
-struct Caller<N: OrderName> {
+struct PassHolder<N: OrderName> {
     thread: Thread,
     seat: Seat,
     numbers: Vec<u64>,
@@ -56,7 +56,7 @@ struct Caller<N: OrderName> {
     of: PhantomData<N>,
 }
 
-impl<N: OrderName> Model for Caller<N> {
+impl<N: OrderName> Model for PassHolder<N> {
     ghost use Rattle.std.specs.Prelude.{◌≡◌};
     ghost use Rattle.joint_model.specs.declared.names.Thread.{Thread};
     ghost use Rattle.joint_model.specs.Lines.{IsThread};
@@ -72,7 +72,7 @@ impl<N: OrderName> Model for Caller<N> {
 
 // A side's list of numbers, with the seat that owns its role.
 #[derive(Drop)]
-struct Side<N: OrderName> {
+struct SideNumbers<N: OrderName> {
     role: Role,
     seat: Seat,
     numbers: Vec<u64>,
@@ -80,7 +80,7 @@ struct Side<N: OrderName> {
     of: PhantomData<N>,
 }
 
-impl<N: OrderName> Model for Side<N> {
+impl<N: OrderName> Model for SideNumbers<N> {
     ghost use Rattle.std.specs.Prelude.{◌≡◌, ◌<◌, length, vec_len};
     ghost use Rattle.order_table.specs.declared.views.Role.{Role};
     ghost use Rattle.order_table.specs.Views.{IsRole, Owns, known, role_line};
@@ -92,12 +92,12 @@ impl<N: OrderName> Model for Side<N> {
     ghost invariant = { λ s. IsRole s.role × (role_line s.role < 2) × (s.seat.order ≡ N.order) × Owns s.seat.view (role_line s.role) × (length (known s.seat.view (role_line s.role)) ≡ vec_len s.numbers) };
 }
 
-impl<N: OrderName> Side<N> {
-    fn new(alloc: Global, role: Role, seat: Seat) -> Side<N>
+impl<N: OrderName> SideNumbers<N> {
+    fn new(alloc: Global, role: Role, seat: Seat) -> SideNumbers<N>
         requires role { IsRole role × (role_line role < 2) }
         requires seat { (seat.order ≡ N.order) × Owns seat.view (role_line role) × (known seat.view (role_line role) ≡ []) }
     {
-        Side {
+        SideNumbers {
             role,
             seat,
             numbers: Vec::new(alloc),
@@ -107,7 +107,7 @@ impl<N: OrderName> Side<N> {
     }
 
     // One entry, with the caller's pass for as long as that takes.
-    fn draw(&mut self, order: &Order, caller: &mut Caller<N>) -> Result<u64, AllocError>
+    fn draw(&mut self, order: &Order, caller: &mut PassHolder<N>) -> Result<u64, AllocError>
         requires order { order.now ≡ N.order }
     {
         self.numbers.reserve(1)?;
@@ -124,7 +124,7 @@ impl<N: OrderName> Side<N> {
         Ok(number)
     }
 
-    fn make(&mut self, order: &Order, caller: &mut Caller<N>) -> Result<(), AllocError>
+    fn make(&mut self, order: &Order, caller: &mut PassHolder<N>) -> Result<(), AllocError>
         requires order { order.now ≡ N.order }
     {
         let number = self.draw(order, caller)?;
@@ -140,16 +140,16 @@ impl<N: OrderName> Side<N> {
 }
 
 #[derive(Drop)]
-struct Shared<N: OrderName> {
+struct LockedSides<N: OrderName> {
     order: Order,
-    managed: Mutex<Side<N>>,
-    peer: Mutex<Side<N>>,
+    managed: Mutex<SideNumbers<N>>,
+    peer: Mutex<SideNumbers<N>>,
     ghost named: { order ≡ N.order },
 }
 
-impl<N: OrderName> Shared<N> {
+impl<N: OrderName> LockedSides<N> {
     // Entries in both lists in turn; now and then a note that is dropped, and a look at the list.
-    fn run(&self, rt: &impl Wait, caller: &mut Caller<N>) -> Result<(), AllocError> {
+    fn run(&self, rt: &impl Wait, caller: &mut PassHolder<N>) -> Result<(), AllocError> {
         for k in 0..APPENDS {
             let peer = k % 2 == 1;
             let lock = if peer { &self.peer } else { &self.managed };
@@ -188,7 +188,7 @@ fn callers_of<N: OrderName>(
     alloc: Global,
     order: &Order,
     seat: &mut Seat,
-) -> Result<Vec<Caller<N>>, AllocError>
+) -> Result<Vec<PassHolder<N>>, AllocError>
     requires order { order.now ≡ N.order }
     requires seat { seat.old.order ≡ N.order }
     requires owns { (i : ℕ) → (i < 2) ⊎ ((10 < i) × (i < 27)) → Owns seat.old.view i }
@@ -200,7 +200,7 @@ fn callers_of<N: OrderName>(
     for k in 1..17u8 {
         let thread = thread_of(k);
         let pass = order.hand(seat, thread);
-        callers.push(Caller {
+        callers.push(PassHolder {
             thread,
             seat: pass,
             numbers: Vec::new(alloc),
@@ -248,7 +248,7 @@ fn are_right(alloc: Global, managed: &[u64], peer: &[u64]) -> Result<bool, Alloc
 // So have the callers' own lists, each of which is whole, with beginnings of both sides' lists.
 fn own_are_right<N: OrderName>(
     alloc: Global,
-    callers: &[Caller<N>],
+    callers: &[PassHolder<N>],
     managed: &[u64],
     peer: &[u64],
 ) -> Result<bool, AllocError> {
@@ -277,16 +277,16 @@ fn run<N: OrderName + Send + Sync, R: Threads + Wait + Sync>(
     drop(driver);
     let callers = callers_of::<N>(alloc, &order, &mut seat)?;
     let peer = order.share(&mut seat, Role::Peer);
-    let shared = Shared::<N> {
+    let shared = LockedSides::<N> {
         order,
-        managed: Mutex::new(Side::new(alloc, Role::Managed, seat)),
-        peer: Mutex::new(Side::new(alloc, Role::Peer, peer)),
+        managed: Mutex::new(SideNumbers::new(alloc, Role::Managed, seat)),
+        peer: Mutex::new(SideNumbers::new(alloc, Role::Peer, peer)),
     };
     let locks = &shared;
     let ended = thread::map_vec(
         rt,
         callers,
-        &|mut caller: Caller<N>| -> Option<Caller<N>> {
+        &|mut caller: PassHolder<N>| -> Option<PassHolder<N>> {
             match locks.run(rt, &mut caller) {
                 Ok(()) => Some(caller),
                 Err(_) => None,
@@ -300,7 +300,7 @@ fn run<N: OrderName + Send + Sync, R: Threads + Wait + Sync>(
         };
         callers.push(caller)?;
     }
-    let Shared {
+    let LockedSides {
         order: _,
         managed,
         peer,

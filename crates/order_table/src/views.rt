@@ -11,7 +11,7 @@ pub enum Role {
 }
 
 /// An entry with what is kept beside it. No value of it is made.
-pub struct Kept {
+pub struct KeptEntry {
     pub entry: Entry,
     /// The object to which the entry sets a cell, as it was told to `append`.
     pub target: Option<MNum>,
@@ -29,9 +29,9 @@ pub struct View {
     /// Which lines it owns.
     pub owns: [bool; 0],
     /// What it knows of each line.
-    pub known: [[Kept; 0]; 0],
+    pub known: [[KeptEntry; 0]; 0],
     /// What a seat that it took in knew, owned and held, until it has compared the two.
-    pub heard: [[Kept; 0]; 0],
+    pub heard: [[KeptEntry; 0]; 0],
     pub heard_owns: [bool; 0],
     pub heard_holds: u64,
     /// 0, or the bit with which it is inside.

@@ -21,7 +21,7 @@ use Rattle.joint_model.proofs.Joining.{same_or_not, slice_get-set_same, slice_ge
 use Rattle.joint_model.proofs.Members.{All-members, Contains-here, Contains-there, Contains-nil, Contains-cons_cases, Contains-map, Contains-map_cases}
 use Rattle.joint_laws.proofs.PeerEntries.{same_thread}
 use Rattle.bridge_script.proofs.Fitting.{lawful_thread}
-use Rattle.order_table.specs.declared.views.Kept.{Kept}
+use Rattle.order_table.specs.declared.views.KeptEntry.{KeptEntry}
 use Rattle.order_table.specs.declared.views.View.{View}
 use Rattle.order_table.specs.Facts.{line_entries}
 use Rattle.order_table.specs.Rule.{IsBelow}
@@ -48,7 +48,7 @@ prefix-map f xs ys p = (map f p.0, sym (map-append f xs p.0) ∙ ap (map f) p.1)
 pub prefix-in : {A : Type 0} (xs ys : List A) (x : A) → IsPrefix xs ys → Contains xs x → Contains ys x
 prefix-in xs ys x p c = subst (λ l. Contains l x) p.1 (Contains-append_left xs p.0 x c)
 
-below-first : (n : ℕ) (xs ys : List Kept) → IsBelow n (xs ++ ys) → IsBelow n xs
+below-first : (n : ℕ) (xs ys : List KeptEntry) → IsBelow n (xs ++ ys) → IsBelow n xs
 below-first n [] ys b = tt
 below-first n (x ∷ xs) ys b = (b.0, below-first n xs ys b.1)
 
@@ -65,7 +65,7 @@ told_callers_add driver told heard before after ended left es tells hears same m
       more = λ i. subst (λ l. IsPrefix l (known heard.view i)) (tells.same i) (hears'.knew i);
       above = above-less driver.view after.view es hears.heard makes.above;
       own_more = own_left ∙ (makes.own_more ∙ ap (λ l. l ++ es) hears.own_stay);
-      heard = subst (λ l. IsPrefix l (line_known heard.view line)) (sym (own_left ∙ ap (λ t. line_known ended.view (caller_line t)) hears.thread)) (prefix-map (λ (k : Kept). k.entry) (known ended.view line) (known heard.view line) (hears'.heard line));
+      heard = subst (λ l. IsPrefix l (line_known heard.view line)) (sym (own_left ∙ ap (λ t. line_known ended.view (caller_line t)) hears.thread)) (prefix-map (λ (k : KeptEntry). k.entry) (known ended.view line) (known heard.view line) (hears'.heard line));
     }
 
 pub drivers_add : DriversAdd
@@ -79,7 +79,7 @@ drivers_add driver after es same makes =
     }
 
 -- an entry that was made is below those that come above all that is known
-below-in : (n : ℕ) (ks : List Kept) (e : Entry) → IsBelow n ks → Contains (line_entries ks) e → e.number < n
+below-in : (n : ℕ) (ks : List KeptEntry) (e : Entry) → IsBelow n ks → Contains (line_entries ks) e → e.number < n
 below-in n [] e b c = absurd (Contains-nil e c)
 below-in n (k ∷ ks) e b c = ⊎_elim (λ (q : k.entry ≡ e). subst (λ z. z.number < n) q b.0) (λ d. below-in n ks e b.1 d) (Contains-cons_cases k.entry (line_entries ks) e c)
 
@@ -128,7 +128,7 @@ module _ (driver heard : View) (t : Thread) (mine mine' made es : List Entry) (n
   pub heard-all : ((e : Entry) → Contains made e → Contains (line_known driver (caller_line e.made.caller)) e) → (e : Entry) → Contains (made ++ es) e → Contains (line_known heard (caller_line e.made.caller)) e
   heard-all known_so e c = ⊎_elim
       (λ d. prefix-in (line_known driver (caller_line e.made.caller)) (line_known heard (caller_line e.made.caller)) e
-      (prefix-map (λ (k : Kept). k.entry) (known driver (caller_line e.made.caller)) (known heard (caller_line e.made.caller)) (a.more (caller_line e.made.caller))) (known_so e d))
+      (prefix-map (λ (k : KeptEntry). k.entry) (known driver (caller_line e.made.caller)) (known heard (caller_line e.made.caller)) (a.more (caller_line e.made.caller))) (known_so e d))
       (λ d. subst (λ u. Contains (line_known heard (caller_line u)) e) (sym (by-one number t es e on d))
       (prefix-in mine' (line_known heard (caller_line t)) e a.heard (subst (λ l. Contains l e) (sym a.own_more) (Contains-append_right mine es e d))))
       (Contains-append_cases made es e c)

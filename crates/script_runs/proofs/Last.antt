@@ -18,7 +18,7 @@ use Rattle.joint_model.proofs.Joining.{same_or_not, slice_get-set_same, slice_ge
 use Rattle.joint_model.proofs.Members.{All-members, Contains-at, Contains-here, Contains-there, Contains-nil, Contains-cons_cases, at-Contains}
 use Rattle.known_laws.specs.Lists.{made_by}
 use Rattle.order_table.specs.declared.views.View.{View}
-use Rattle.order_table.specs.declared.views.Kept.{Kept}
+use Rattle.order_table.specs.declared.views.KeptEntry.{KeptEntry}
 use Rattle.order_table.specs.Facts.{line_entries}
 use Rattle.order_table.specs.Views.{known}
 use Rattle.joint_history.specs.Callers.{Hears, Pass, Tells, own}
@@ -44,7 +44,7 @@ prefix-itself : {A : Type 0} (xs : List A) → IsPrefix xs xs
 prefix-itself xs = ([], append-nil xs)
 
 prefix-known : (v w : View) (i : ℕ) → IsPrefix (known v i) (known w i) → IsPrefix (line_known v i) (line_known w i)
-prefix-known v w i p = prefix-map (λ (k : Kept). k.entry) (known v i) (known w i) p
+prefix-known v w i p = prefix-map (λ (k : KeptEntry). k.entry) (known v i) (known w i) p
 
 -- the driver has heard of the first of the others
 pub record HearsFirst (n : ℕ) (old new : Progress) (before after : List Pass) : Type 0 where

@@ -1,6 +1,6 @@
 use Rattle.std.proofs.Common.{subst}
 use Rattle.peer_side.specs.Sides.{seen}
-use Rattle.order_table.specs.Rule.{IsWhole as AllKnown}
+use Rattle.order_table.specs.Rule.{AreLinesOfOneHistory as AllKnown}
 use Rattle.joint_history.specs.Desks.{present}
 use Rattle.joint_history.proofs.Joined.{lists_join, owns_every, run_ends}
 use Rattle.joint_history.proofs.shared.Shared.finish.Goals as goal
