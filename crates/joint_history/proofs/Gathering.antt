@@ -2,7 +2,7 @@
 use Rattle.std.proofs.Common.{◌≡◌, ◌⊎◌, inl, inr, ⊎_elim, ℕ, ◌-◌, ◌<◌, ◌≤◌, List, [], ◌∷◌, ◌++◌, length, take, map, Some, None, refl, sym, ap, ◌∙◌, subst, arith}
 use Rattle.std.specs.Prelude.{Contains}
 use Rattle.std.proofs.lemmas.List.Elements.{Contains-push_cases}
-use Rattle.joint_history.specs.Ending.{AtRest, Gathered, GathersAll, IsFinished, IsIdle, Rests}
+use Rattle.joint_history.specs.Ending.{AtRest, HasGatheredSeats, GathersAll, IsFinished, IsIdle, Rests}
 use Rattle.std.proofs.lemmas.List.{append-nil, append_assoc}
 use Rattle.joint_model.proofs.Members.{Contains-nil}
 use Rattle.joint_history.specs.Callers.{CallerKnows}
@@ -52,7 +52,7 @@ rests_so (P n) a b e d = tt
 rests_so C a b e d = (lines_give_parts a b).stand e ∙ d
 
 -- one thread's seat more
-pub gather : (t : Thread) (v w u : View) (l : Side ManagedReplay) (r : Side PeerReplay) (ts : List Thread) → Gathered v l r ts → AtRest t w → TakesIn v w u → BeginsOneHistory u → Gathered u l r (ts ++ t ∷ [])
+pub gather : (t : Thread) (v w u : View) (l : Side ManagedReplay) (r : Side PeerReplay) (ts : List Thread) → HasGatheredSeats v l r ts → AtRest t w → TakesIn v w u → BeginsOneHistory u → HasGatheredSeats u l r (ts ++ t ∷ [])
 gather t v w u l r ts g x k o =
     let j = views_join v w u g.known x.known k o in
     record {
@@ -104,7 +104,7 @@ late_free : (h : List Noted) (t : ℕ) → 9 ≤ t → doing_at (end_of h).contr
 late_free h t l = ap (λ w. elim w as (λ x. Doing) [ None ↦ free | Some d ↦ d ]) (slice_get_past (end_of h).control.doing t (let w = (widths h).doings in omega arith))
 
 -- once all threads' seats are in, nothing has to follow
-all_rest : (v : View) (l : Side ManagedReplay) (r : Side PeerReplay) (ts : List Thread) (g : Gathered v l r ts) → ((t : Thread) → IsThread t → Contains ts t) → IsWhole (end_of g.known.past)
+all_rest : (v : View) (l : Side ManagedReplay) (r : Side PeerReplay) (ts : List Thread) (g : HasGatheredSeats v l r ts) → ((t : Thread) → IsThread t → Contains ts t) → IsWhole (end_of g.known.past)
 all_rest v l r ts g all = record {
   threads = λ t. ⊎_elim
       (λ (z : t ≡ 0). subst (λ k. IsDone (doing_at (end_of g.known.past).control k)) (sym z) (subst IsDone (sym (zero_free g.known.past g.known.lawful)) tt))
@@ -121,7 +121,7 @@ pub record Ends (l : Side ManagedReplay) (r : Side PeerReplay) (freed_managed : 
   pub joinable : IsJoinable w freed_managed freed_peers notices
   pub finished : (h : Finished) → IsShuffle w h.entries → h.freed_managed ≡ freed_managed → h.freed_peers ≡ freed_peers → h.notices ≡ notices → IsFinished h × (h.entries ≡ whole)
 
-pub all_gathered : (v : View) (l : Side ManagedReplay) (r : Side PeerReplay) (ts : List Thread) (g : Gathered v l r ts) → ((t : Thread) → IsThread t → Contains ts t) → (w : AllKnown v.known) → (freed_managed : List MNum) (freed_peers : List PNum) (notices : List MNum)
+pub all_gathered : (v : View) (l : Side ManagedReplay) (r : Side PeerReplay) (ts : List Thread) (g : HasGatheredSeats v l r ts) → ((t : Thread) → IsThread t → Contains ts t) → (w : AllKnown v.known) → (freed_managed : List MNum) (freed_peers : List PNum) (notices : List MNum)
     → managed_numbers freed_managed ≡ l.state.managed.heap.freed → peer_numbers freed_peers ≡ r.state.peers.heap.freed → managed_numbers notices ≡ l.state.managed.notices
     → Ends l r freed_managed freed_peers notices (l.entries ∷ r.entries ∷ []) (entries_of w.whole)
 all_gathered v l r ts g all w freed_managed freed_peers notices fm fp ns =
@@ -149,7 +149,7 @@ all_gathered v l r ts g all w freed_managed freed_peers notices fm fp ns =
     }
 
 -- who has gathered all threads' seats owns every line
-pub owns_all : (v : View) (l : Side ManagedReplay) (r : Side PeerReplay) (ts : List Thread) → Gathered v l r ts → ((t : Thread) → IsThread t → Contains ts t) → OwnsAll v
+pub owns_all : (v : View) (l : Side ManagedReplay) (r : Side PeerReplay) (ts : List Thread) → HasGatheredSeats v l r ts → ((t : Thread) → IsThread t → Contains ts t) → OwnsAll v
 owns_all v l r ts g all i few = ⊎_elim
     (λ (z : i ≡ 0). subst (Owns v) (sym z) g.managed_role)
     (λ (n0 : i ≡ 0 → ⊥). ⊎_elim
@@ -180,13 +180,13 @@ pub gathers_one : (t : Thread) (v w u : View) → AtRest t w → TakesIn v w u �
 gathers_one t v w u x k o l r ts g = gather t v w u l r ts g x k o
 
 pub gathers_none : (v : View) → GathersAll v v []
-gathers_none v l r ts g = subst (Gathered v l r) (sym (append-nil ts)) g
+gathers_none v l r ts g = subst (HasGatheredSeats v l r) (sym (append-nil ts)) g
 
 pub gathers_then : (v w u : View) (xs ys : List Thread) → GathersAll v w xs → GathersAll w u ys → GathersAll v u (xs ++ ys)
-gathers_then v w u xs ys a b l r ts g = subst (Gathered u l r) (append_assoc ts xs ys) (b l r (ts ++ xs) (a l r ts g))
+gathers_then v w u xs ys a b l r ts g = subst (HasGatheredSeats u l r) (append_assoc ts xs ys) (b l r (ts ++ xs) (a l r ts g))
 
 -- both sides' seats together
-pub gathered_first : (v w u : View) (l : Side ManagedReplay) (r : Side PeerReplay) → ManagedKnows v l → PeerKnows w r → Owns v 0 → Owns w 1 → TakesIn v w u → BeginsOneHistory u → Gathered u l r []
+pub gathered_first : (v w u : View) (l : Side ManagedReplay) (r : Side PeerReplay) → ManagedKnows v l → PeerKnows w r → Owns v 0 → Owns w 1 → TakesIn v w u → BeginsOneHistory u → HasGatheredSeats u l r []
 gathered_first v w u l r a b m p k o =
     let j = views_join v w u a.known b.known k o in
     record {

@@ -32,3 +32,4 @@ pub mod Giving
 pub mod Running
 pub mod Collecting
 pub mod SeatsKnow
+pub mod Crosses

@@ -31,7 +31,7 @@ use Rattle.peer_side.specs.Steps.{IsRelease, IsStepLine}
 use Rattle.joint_history.specs.Callers.{CallerKnows, last_index}
 use Rattle.joint_history.specs.Knowing.{line_known}
 use Rattle.joint_history.specs.Locked.{Makes, MakesNone, MayMake, doing_from, made_by}
-use Rattle.joint_history.specs.Operations.{AreAbove, BreaksOff, IsFirst, IsMadeByEvents, IsOwnThread, IsPeerOperation, IsSideEvent, MakesAll, MayBegin, Runs, answer_of, cited_by, entry_by, first_of, second_of, third_of}
+use Rattle.joint_history.specs.Operations.{AreAbove, StopsWithoutMemory, IsFirst, IsMadeByEvents, IsOwnThread, IsPeerOperation, IsSideEvent, MakesAll, MayBegin, Runs, answer_of, cited_by, entry_by, first_of, second_of, third_of}
 use Rattle.joint_history.proofs.LastLines.{last_line_is}
 use Rattle.joint_history.proofs.Narrow.{GripsFew, past_grips_few}
 use Rattle.joint_history.proofs.Turning.{first_may, met_then_release, stands_knows, then_adopt, then_land, then_meet, then_release}
@@ -302,7 +302,7 @@ module _ (t : Thread) (index : ℕ) (a : Act) (old one : View) (first : ℕ) (an
     pub broken_begins : MayBegin t new index
     broken_begins = record { doing = doing_from t (entry_by t index first (first_of a) answered None); stands = none.stands index _ m.stands; done = of_thread t _ (λ n q. stays_first n first index a answered second f keeps) }
 
-    pub broken_off : BreaksOff t old new index a
+    pub broken_off : StopsWithoutMemory t old new index a
     broken_off = record {
       entries = entry_by t index first (first_of a) answered None ∷ [];
       made = makes_no_more t old one new _ (makes_first t old one _ nothing m) none;
@@ -344,7 +344,7 @@ module _ (t : Thread) (index : ℕ) (a : Act) (old one : View) (first : ℕ) (an
         };
       }
 
-pub nothing_begun : (t : Thread) (old new : View) (index : ℕ) (a : Act) → MakesNone t old new → BreaksOff t old new index a
+pub nothing_begun : (t : Thread) (old new : View) (index : ℕ) (a : Act) → MakesNone t old new → StopsWithoutMemory t old new index a
 nothing_begun t old new index a m = record { entries = []; made = makes_nothing t old new m; begun = inl refl }
 
 -- which threads and lines an operation has
@@ -373,7 +373,7 @@ peer_operation (P n) a is line step other = (line, step_line a step other)
 peer_operation C a is line step other = absurd is
 
 -- a peer thread's line of one event that found no memory made nothing
-pub peer_makes_none : (t : Thread) (old new : View) (index : ℕ) (a : Act) → IsPeerThread t → IsMadeByEvents t a → BreaksOff t old new index a → MakesAll t old new []
+pub peer_makes_none : (t : Thread) (old new : View) (index : ℕ) (a : Act) → IsPeerThread t → IsMadeByEvents t a → StopsWithoutMemory t old new index a → MakesAll t old new []
 peer_makes_none (M n) old new index a is line b = absurd is
 peer_makes_none (P n) old new index a is line b = ⊎_elim
     (λ e. subst (MakesAll (P n) old new) e b.made)
@@ -381,6 +381,6 @@ peer_makes_none (P n) old new index a is line b = ⊎_elim
     b.begun
 peer_makes_none C old new index a is line b = absurd is
 
-pub breaks_none : {A E : Type 0} (t : Thread) (old new : View) (index : ℕ) (a : Act) (result : Result A E) → IsPeerThread t → IsMadeByEvents t a → OnErr result (BreaksOff t old new index a) → OnErr result (MakesAll t old new [])
+pub breaks_none : {A E : Type 0} (t : Thread) (old new : View) (index : ℕ) (a : Act) (result : Result A E) → IsPeerThread t → IsMadeByEvents t a → OnErr result (StopsWithoutMemory t old new index a) → OnErr result (MakesAll t old new [])
 breaks_none t old new index a (Ok x) is line b = tt
 breaks_none t old new index a (Err x) is line b = peer_makes_none t old new index a is line b

@@ -41,7 +41,7 @@ after_sweep (marked o) = restoring o []
 after_sweep stand = stand
 
 -- the driver ended a marking, which freed so many peers
-pub record EndsMarking (old new : View) (index n : ℕ) (out : Swept) (stand : Stand) (m : Managed) : Type 0 where
+pub record DriverEndsMarking (old new : View) (index n : ℕ) (out : Swept) (stand : Stand) (m : Managed) : Type 0 where
   pub freed : List ℕ
   pub count : out.freed.count ≡ length freed
   pub makes : DriverMakes old new stand m (driver_entry n index op.Sweep (says.Swept out.marking out.freed) None) (sweep_of freed)
@@ -49,7 +49,7 @@ pub record EndsMarking (old new : View) (index n : ℕ) (out : Swept) (stand : S
 
 -- so it is from wherever the driver might end one
 abbrev pub MakesSweep : View → View → ℕ → ℕ → Swept → Type 0
-MakesSweep old new index n out = (stand : Stand) (m : Managed) → DriverStands old index stand m → MaySweepNow stand (length (candidates_of m)) None → EndsMarking old new index n out stand m
+MakesSweep old new index n out = (stand : Stand) (m : Managed) → DriverStands old index stand m → MaySweepNow stand (length (candidates_of m)) None → DriverEndsMarking old new index n out stand m
 
 -- all handles of the driver's cycle are weakened, and no marking was begun or ended in it
 pub record MayMarkCycle (v : View) (index : ℕ) : Type 0 where
@@ -71,13 +71,13 @@ pub record MayBeginMarking (v : View) (index : ℕ) : Type 0 where
   pub all : count ≡ length (candidates_of seen)
 
 -- the driver began its cycle's own marking, which has that number
-pub record BeginsMarking (old new : View) (index n : ℕ) (j : Marking) (stand : Stand) (o : OpenSnap) (m : Managed) : Type 0 where
+pub record DriverBeginsMarking (old new : View) (index n : ℕ) (j : Marking) (stand : Stand) (o : OpenSnap) (m : Managed) : Type 0 where
   pub makes : DriverMakes old new stand m (driver_entry n index op.Begin (says.Mark j) None) nothing
   pub stands : DriverStands new index (marked o) m
 
 -- so it is from wherever the driver might begin it
 abbrev pub MakesBegin : View → View → ℕ → ℕ → Marking → Type 0
-MakesBegin old new index n j = (o : OpenSnap) (count : ℕ) (weakened swept : Bool) (m : Managed) → DriverStands old index (weakening o count weakened swept) m → count ≡ length (candidates_of m) → BeginsMarking old new index n j (weakening o count weakened swept) o m
+MakesBegin old new index n j = (o : OpenSnap) (count : ℕ) (weakened swept : Bool) (m : Managed) → DriverStands old index (weakening o count weakened swept) m → count ≡ length (candidates_of m) → DriverBeginsMarking old new index n j (weakening o count weakened swept) o m
 
 -- the driver ended a marking that was open, or there was none and it made nothing
 abbrev pub EndsFirst : View → View → ℕ → Option (ℕ × Swept) → Type 0

@@ -33,7 +33,7 @@ pub record AtRest (t : Thread) (v : View) : Type 0 where
   pub rests : Rests t (end_of known.past)
 
 -- a seat that has taken in the seats of both sides and of these threads, which have come to rest
-pub record Gathered (v : View) (l : Side ManagedReplay) (r : Side PeerReplay) (ts : List Thread) : Type 0 where
+pub record HasGatheredSeats (v : View) (l : Side ManagedReplay) (r : Side PeerReplay) (ts : List Thread) : Type 0 where
   pub known : IsKnownView v
   pub managed_role : Owns v 0
   pub peer_role : Owns v 1
@@ -47,7 +47,7 @@ pub record Gathered (v : View) (l : Side ManagedReplay) (r : Side PeerReplay) (t
 -- a seat that has taken in the seats of both sides and of all threads
 pub record AllAreIn (v : View) (l : Side ManagedReplay) (r : Side PeerReplay) : Type 0 where
   pub threads : List Thread
-  pub gathered : Gathered v l r threads
+  pub gathered : HasGatheredSeats v l r threads
   pub all : (t : Thread) → IsThread t → Contains threads t
 
 -- the driver's caller is idle
@@ -56,7 +56,7 @@ IsIdle p = IsDriver p.thread → (a : IsKnownView p.view) × ((end_of a.past).co
 
 -- whatever was gathered, these threads' seats are now too
 abbrev pub GathersAll : View → View → List Thread → Type 0
-GathersAll old new more = (l : Side ManagedReplay) (r : Side PeerReplay) (ts : List Thread) → Gathered old l r ts → Gathered new l r (ts ++ more)
+GathersAll old new more = (l : Side ManagedReplay) (r : Side PeerReplay) (ts : List Thread) → HasGatheredSeats old l r ts → HasGatheredSeats new l r (ts ++ more)
 
 -- the threads of callers
 abbrev pub threads_of : List Pass → List Thread

@@ -172,7 +172,7 @@ pub record Runs (t : Thread) (old new : View) (index : ℕ) (a : Act) (r : Recei
   pub operation : IsOperation t index a entries r
 
 -- a caller's operation found no memory: it made nothing, or the first event alone
-pub record BreaksOff (t : Thread) (old new : View) (index : ℕ) (a : Act) : Type 0 where
+pub record StopsWithoutMemory (t : Thread) (old new : View) (index : ℕ) (a : Act) : Type 0 where
   pub entries : List Entry
   pub made : MakesAll t old new entries
   pub begun : (entries ≡ []) ⊎ IsFirstAlone t index a entries

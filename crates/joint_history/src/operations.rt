@@ -9,7 +9,7 @@ ghost use Rattle.peer_side.specs.Steps.{IsRelease};
 ghost use Rattle.joint_history.specs.Callers.{HoldsPass, last_index, own};
 ghost use Rattle.joint_history.specs.Collecting.{Collects};
 ghost use Rattle.joint_history.specs.Locked.{MayMake, Makes, MakesNone};
-ghost use Rattle.joint_history.specs.Operations.{BreaksOff, IsMadeByEvents, IsOwnThread, IsPeerOperation, IsSideEvent, MakesAll, MayBegin, Runs, answer_of, entry_by, first_of, second_of, taken_by, third_of};
+ghost use Rattle.joint_history.specs.Operations.{StopsWithoutMemory, IsMadeByEvents, IsOwnThread, IsPeerOperation, IsSideEvent, MakesAll, MayBegin, Runs, answer_of, entry_by, first_of, second_of, taken_by, third_of};
 
 use crate::callers::{Caller, Receipt};
 use crate::shared::Shared;
@@ -178,7 +178,7 @@ impl<N: OrderName> Shared<N> {
         ensures pass { HoldsPass t mine.new.view }
         ensures begins { MayBegin t mine.new.view index }
         ensures ok { IfOk result (λ r. Runs t mine.old.view mine.new.view index act.now r) }
-        ensures err { OnErr result (BreaksOff t mine.old.view mine.new.view index act.now) }
+        ensures err { OnErr result (StopsWithoutMemory t mine.old.view mine.new.view index act.now) }
     {
         let start = first_of(act);
         let (first, reply) = self.event(rt, mine, t, index, &start, None)?;
@@ -221,7 +221,7 @@ impl<N: OrderName> Shared<N> {
         ensures thread { caller.new.thread ≡ caller.old.thread }
         ensures index { last_index (own caller.new) ≤ index }
         ensures ok { IfOk result (λ r. Runs caller.old.thread caller.old.view caller.new.view index act.now r) }
-        ensures err { OnErr result (BreaksOff caller.old.thread caller.old.view caller.new.view index act.now) }
+        ensures err { OnErr result (StopsWithoutMemory caller.old.thread caller.old.view caller.new.view index act.now) }
     {
         self.run(rt, &mut caller.seat, caller.thread, index, act)
     }

@@ -3,7 +3,8 @@ use denote.Param.{param}
 use denote.Param.Send.{shr_slice_sync, shr_sync}
 use Rattle.std.proofs.Common.{[]}
 use Rattle.std.proofs.Crossing.{sync as heap}
-use Rattle.script_runs.proofs.Crosses.{line, shared}
+use Rattle.joint_history.proofs.Crosses.{shared}
+use Rattle.script_runs.proofs.Crosses.{line}
 use Rattle.script_runs.proofs.threads.run_jobs.Goals as goal
 
 -- the closure holds the runtime, the allocator, the shared bridge, the script and the turnstile, each by a reference

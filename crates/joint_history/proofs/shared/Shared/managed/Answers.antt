@@ -2,7 +2,7 @@ use Rattle.std.proofs.Common.{◌≤◌, sym, ap, subst}
 use Rattle.std.specs.Prelude.{IfOk, OnErr}
 use Rattle.joint_model.specs.Lines.{IsLine, IsManagedThread}
 use Rattle.joint_history.specs.Callers.{Pass, last_index, own}
-use Rattle.joint_history.specs.Operations.{BreaksOff, Runs}
+use Rattle.joint_history.specs.Operations.{StopsWithoutMemory, Runs}
 use Rattle.joint_history.proofs.Running.{beginner_is_below, beginner_knows, managed_is_own, managed_operation}
 use Rattle.joint_history.proofs.Turning.{caller_begins}
 use Rattle.joint_history.proofs.shared.Shared.managed.Goals as goal
@@ -32,4 +32,4 @@ pub returns-clause-ok : goal.returns-clause-ok
 returns-clause-ok g c = subst (λ (p : Pass). IfOk c.run.result (λ r. Runs p.thread p.view c.run.new.mine.view c.args.index c.args.act.now r)) c.caller.view_is c.run.ensures.ok
 
 pub returns-clause-err : goal.returns-clause-err
-returns-clause-err g c = subst (λ (p : Pass). OnErr c.run.result (BreaksOff p.thread p.view c.run.new.mine.view c.args.index c.args.act.now)) c.caller.view_is c.run.ensures.err
+returns-clause-err g c = subst (λ (p : Pass). OnErr c.run.result (StopsWithoutMemory p.thread p.view c.run.new.mine.view c.args.index c.args.act.now)) c.caller.view_is c.run.ensures.err
