@@ -1,5 +1,5 @@
 -- What contracts see of the registry: pairs of a peer and a managed number, in the order of their registration.
-use Rattle.std.specs.Prelude.{◌≡◌, ◌==◌, List, [], ◌∷◌, Option, None}
+use Rattle.std.specs.Prelude.{◌≡◌, ◌==◌, Bool, List, [], ◌∷◌, Option, None}
 use Rattle.std.specs.Map.{lookup, remove_entry}
 use Rattle.joint_model.specs.declared.names.MNum.{MNum}
 use Rattle.joint_model.specs.declared.names.PNum.{PNum}
@@ -16,3 +16,7 @@ without pairs p = remove_entry (λ q. p.0 == q.0) pairs
 abbrev pub PeersDistinct : List (PNum × MNum) → Type 0
 PeersDistinct [] = Unit {0}
 PeersDistinct (e ∷ es) = (twin_in es e.0 ≡ None) × PeersDistinct es
+
+-- each answer about a pair, which `says` relates to the peer and the managed number, is what the test tells of it
+abbrev pub IsToldBy : (PNum → MNum → Bool → Type 0) → (PNum × MNum → Bool) → Type 0
+IsToldBy says test = (p : PNum) (m : MNum) (b : Bool) → says p m b → b ≡ test (p, m)

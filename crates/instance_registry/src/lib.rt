@@ -6,12 +6,14 @@
 //
 // The life of a pair: `register` puts it last, when the managed half is made; it is refused where the peer has
 // a twin. `twin` finds the managed half by a hash of the peer's number. `forget` takes the pair out, when the
-// managed half is freed or disposed of. `len` and `entry` walk the pairs in the order of their registration.
-// No peer ever stands in two pairs.
+// managed half is freed or disposed of; `retain` takes many out in one pass. `len` and `entry` walk the pairs in
+// the order of their registration. No peer ever stands in two pairs.
 #![tactic(auto)]
 
-ghost use Rattle.std.specs.Prelude.{◌≡◌, ◌==◌, ◌↔◌, [], ◌∷◌, ◌++◌, length, slice_get, Ok, Err, None, Some, OnOk, OnErr, IfErr};
-ghost use Rattle.instance_registry.specs.Pairs.{twin_in, without, PeersDistinct};
+ghost use Rattle.std.specs.Prelude.{◌≡◌, ◌==◌, ◌↔◌, [], ◌∷◌, ◌++◌, Bool, filter, length, slice_get, Ok, Err, None, Some, OnOk, OnErr, IfErr};
+ghost use Rattle.instance_registry.specs.Pairs.{twin_in, without, IsToldBy, PeersDistinct};
+ghost use Rattle.joint_model.specs.declared.names.MNum.{MNum};
+ghost use Rattle.joint_model.specs.declared.names.PNum.{PNum};
 
 use indexmap::IndexMap;
 use joint_model::{MNum, PNum};
@@ -104,13 +106,28 @@ impl Registry {
 
     /// Takes out the pair of `p` and answers its managed number; None, with nothing changed, exactly where `p`
     /// has no twin. It takes no memory. The other pairs keep their order, so each later pair moves down by one
-    /// place: emptying a registry of 20,000 pairs from the front takes about half a second.
+    /// place: to take many pairs out, call [`Registry::retain`], which moves each at most once.
     pub fn forget(&mut self, p: PNum) -> Option<MNum>
         ensures twin { result ≡ twin_in self.old p }
         ensures pairs { self.new ≡ without self.old p }
         ensures distinct { PeersDistinct self.new }
     {
         self.pairs.shift_remove(&p)
+    }
+
+    /// Keeps the pairs for which `keep` answers true, in their order, and takes out the others, in one pass over all
+    /// of them. It takes no memory.
+    pub fn retain<F: Fn(PNum, MNum) -> bool>(&mut self, keep: F)
+        requires { F.IsAlwaysCallable keep }
+        ensures pairs { (test : PNum × MNum → Bool) → IsToldBy (F.post keep) test → self.new ≡ filter test self.old }
+        ensures distinct { PeersDistinct self.new }
+    {
+        self.pairs.retain(
+            |p: &PNum, m: &mut MNum| -> bool
+                requires { F.IsAlwaysCallable keep }
+                ensures { (F.post keep p.now m.old result) × (m.new ≡ m.old) }
+            { keep(*p, *m) },
+        );
     }
 
     /// The number of pairs.

@@ -28,3 +28,25 @@ fn keeps_the_order_of_the_others(rt: HostRuntime) {
     assert_eq!(rt; registry.entry(2), Some((PNum(4), MNum(40))));
     assert_eq!(rt; registry.entry(3), None);
 }
+
+#[test]
+fn takes_many_out_in_one_pass(rt: HostRuntime) {
+    let mut registry = Registry::new(rt.alloc());
+    for n in 1..7u32 {
+        assert_eq!(rt; registry.register(PNum(n), MNum(10 * n)), Ok(()));
+    }
+    registry.retain(|p, m| p.0 != 1 && m.0 % 20 != 0);
+    assert_eq!(rt; registry.len(), 2);
+    assert_eq!(rt; registry.entry(0), Some((PNum(3), MNum(30))));
+    assert_eq!(rt; registry.entry(1), Some((PNum(5), MNum(50))));
+    assert_eq!(rt; registry.twin(PNum(1)), None);
+    assert_eq!(rt; registry.twin(PNum(4)), None);
+    assert_eq!(rt; registry.twin(PNum(5)), Some(MNum(50)));
+    assert_eq!(rt; registry.register(PNum(4), MNum(70)), Ok(()));
+    assert_eq!(rt; registry.entry(2), Some((PNum(4), MNum(70))));
+    registry.retain(|_, _| true);
+    assert_eq!(rt; registry.len(), 3);
+    registry.retain(|_, _| false);
+    assert_eq!(rt; registry.is_empty(), true);
+    assert_eq!(rt; registry.twin(PNum(5)), None);
+}
