@@ -1,5 +1,5 @@
 -- Rising lists, filters and marks. What a filter keeps of a rising list rises, and a rising list of members of another has no more.
-use Rattle.std.proofs.Common.{◌≡◌, ℕ, suc, ◌+◌, ◌<◌, ◌≤◌, ◌-◌, ◌↔◌, zero, map, option_map, Bool, true, false, not, ◌&&◌, List, [], ◌∷◌, length, drop, get_or, cond, Option, Some, None, refl, sym, ap, subst, ◌∙◌, arith}
+use Rattle.std.proofs.Common.{◌≡◌, ℕ, suc, ◌+◌, ◌<◌, ◌≤◌, ◌-◌, ◌↔◌, zero, map, option_map, Bool, true, false, not, List, [], ◌∷◌, length, drop, get_or, cond, Option, Some, None, refl, sym, ap, subst, ◌∙◌, arith}
 use Rattle.std.specs.Prelude.{Contains, filter, slice_get, is_some}
 use Rattle.std.proofs.lemmas.Option.{slice_get-map, slice_get-get_or}
 use Rattle.joint_model.specs.declared.names.MNum.{MNum}
@@ -8,11 +8,11 @@ use Rattle.joint_model.specs.Histories.{managed_numbers}
 use Rattle.std.proofs.lemmas.List.Elements.{All-filter}
 use Rattle.std.proofs.lemmas.List.{drop_more}
 use Rattle.joint_model.specs.Components.{Rises}
-use Rattle.joint_model.proofs.Members.{Contains-filter_from, Contains-filter_to}
+use Rattle.joint_model.proofs.Members.{Contains-here, Contains-there, Contains-filter_from, Contains-filter_to}
 use Rattle.joint_model.proofs.Deciding.{not-true, not-from}
 use Rattle.reachability.specs.Marks.{IsMarked}
 use Rattle.managed_side.specs.declared.rows.Held.{Held}
-use Rattle.managed_side.specs.Resolving.{marked, unmarked_of, has_handle}
+use Rattle.managed_side.specs.Resolving.{marked, unmarked_of, has_handle, has_peer}
 
 pub Rises-filter : (p : ℕ → Bool) (xs : List ℕ) → Rises xs → Rises (filter p xs)
 Rises-filter p [] r = tt
@@ -21,15 +21,28 @@ Rises-filter p (x ∷ xs) r = elim (p x) as (λ b. Rises (cond b (x ∷ filter p
   | false ↦ Rises-filter p xs r.1
 ]
 
--- a filter after a filter
-pub filter-twice : {X : Type 0} (p q r : X → Bool) → ((x : X) → r x ≡ (q x && p x)) → (xs : List X) → filter p (filter q xs) ≡ filter r xs
-filter-twice p q r h [] = refl
-filter-twice {X} p q r h (x ∷ xs) = step (q x) (p x) refl (h x) (filter-twice p q r h xs)
+-- tests that agree on the members of a list keep the same of it
+pub filter-agree : {X : Type 0} (p q : X → Bool) (xs : List X) → ((x : X) → Contains xs x → p x ≡ q x) → filter p xs ≡ filter q xs
+filter-agree p q [] h = refl
+filter-agree p q (x ∷ xs) h =
+    let later : filter p xs ≡ filter q xs = filter-agree p q xs (λ y c. h y (Contains-there y x xs c)) in
+    ap (λ b. cond b (x ∷ filter p xs) (filter p xs)) (h x (Contains-here x xs)) ∙ ap (λ zs. cond (q x) (x ∷ zs) zs) later
+
+-- what passes for each member keeps the list
+pub filter-whole : {X : Type 0} (p : X → Bool) (xs : List X) → ((x : X) → Contains xs x → p x ≡ true) → filter p xs ≡ xs
+filter-whole p [] h = refl
+filter-whole p (x ∷ xs) h =
+    let later : filter p xs ≡ xs = filter-whole p xs (λ y c. h y (Contains-there y x xs c)) in
+    ap (λ b. cond b (x ∷ filter p xs) (filter p xs)) (h x (Contains-here x xs)) ∙ ap (λ zs. x ∷ zs) later
+
+-- a filter by what a map makes of the elements
+pub map-filter : {X Y : Type 0} (f : X → Y) (p : Y → Bool) (xs : List X) → map f (filter (λ x. p (f x)) xs) ≡ filter p (map f xs)
+map-filter f p [] = refl
+map-filter {X} {Y} f p (x ∷ xs) = by (p (f x)) (map-filter f p xs)
   where
-    step : (a b : Bool) → p x ≡ b → r x ≡ (a && b) → filter p (filter q xs) ≡ filter r xs → filter p (cond a (x ∷ filter q xs) (filter q xs)) ≡ cond (r x) (x ∷ filter r xs) (filter r xs)
-    step true true e k ih = ap (λ v. cond v (x ∷ filter p (filter q xs)) (filter p (filter q xs))) e ∙ (ap (λ zs. x ∷ zs) ih ∙ ap (λ v. cond v (x ∷ filter r xs) (filter r xs)) (sym k))
-    step true false e k ih = ap (λ v. cond v (x ∷ filter p (filter q xs)) (filter p (filter q xs))) e ∙ (ih ∙ ap (λ v. cond v (x ∷ filter r xs) (filter r xs)) (sym k))
-    step false b e k ih = ih ∙ ap (λ v. cond v (x ∷ filter r xs) (filter r xs)) (sym k)
+    by : (b : Bool) → map f (filter (λ y. p (f y)) xs) ≡ filter p (map f xs) → map f (cond b (x ∷ filter (λ y. p (f y)) xs) (filter (λ y. p (f y)) xs)) ≡ cond b (f x ∷ filter p (map f xs)) (filter p (map f xs))
+    by true e = ap (λ zs. f x ∷ zs) e
+    by false e = e
 
 -- what is left of a filter after a place has at most what was left before it
 pub filter-shorter : {X : Type 0} (p : X → Bool) (xs : List X) (i : ℕ) (d : X) → i < length xs → length (filter p (drop (i + 1) xs)) ≤ length (filter p (drop i xs))
@@ -69,12 +82,7 @@ unmarked_of-exact marks ms m = (
 
 -- the same list as numbers
 pub unmarked-numbers : (marks : List Bool) (ms : List MNum) → managed_numbers (filter (λ (m : MNum). not (marked marks m.0)) ms) ≡ unmarked_of marks (managed_numbers ms)
-unmarked-numbers marks [] = refl
-unmarked-numbers marks (m ∷ ms) = by (not (marked marks m.0)) (unmarked-numbers marks ms)
-  where
-    by : (b : Bool) → managed_numbers (filter (λ (m : MNum). not (marked marks m.0)) ms) ≡ unmarked_of marks (managed_numbers ms) → managed_numbers (cond b (m ∷ filter (λ (m : MNum). not (marked marks m.0)) ms) (filter (λ (m : MNum). not (marked marks m.0)) ms)) ≡ cond b (m.0 ∷ unmarked_of marks (managed_numbers ms)) (unmarked_of marks (managed_numbers ms))
-    by true e = ap (λ z. m.0 ∷ z) e
-    by false e = e
+unmarked-numbers marks ms = map-filter (λ (m : MNum). m.0) (λ m. not (marked marks m)) ms
 
 -- what stands beside a row
 pub beside-at : {A : Type 0} (f : Held → A) (infos : List Held) (m : ℕ) (d : Held) → 1 ≤ m → m ≤ length infos → numbered_at (map f infos) m ≡ Some (f (get_or infos (m - 1) d))
@@ -86,3 +94,6 @@ beside-at {A} f infos (suc i) d one few =
 
 pub has_handle-at : (infos : List Held) (m : ℕ) (d : Held) → 1 ≤ m → m ≤ length infos → has_handle (map (λ (i : Held). i.handle) infos) m ≡ is_some (get_or infos (m - 1) d).handle
 has_handle-at infos m d one few = ap (λ (o : Option (Option ℕ)). is_some (elim o [ None ↦ None | Some h ↦ h ])) (beside-at (λ (i : Held). i.handle) infos m d one few)
+
+pub has_peer-at : (infos : List Held) (m : ℕ) (d : Held) → 1 ≤ m → m ≤ length infos → has_peer (map (λ (i : Held). i.peer) infos) m ≡ is_some (get_or infos (m - 1) d).peer
+has_peer-at infos m d one few = ap (λ (o : Option (Option ℕ)). is_some (elim o [ None ↦ None | Some p ↦ p ])) (beside-at (λ (i : Held). i.peer) infos m d one few)

@@ -32,7 +32,7 @@ use Rattle.managed_side.specs.declared.rows.Held.{Held}
 use Rattle.managed_side.specs.Dues.{HasDue}
 use Rattle.managed_side.specs.Resolving.{marked, unmarked_of, has_handle}
 use Rattle.managed_side.specs.Rows.{rows_of, pairs_of}
-use Rattle.managed_side.proofs.Lists.{Rises-filter, IsMarked-test, test-IsMarked, unmarked_of-exact}
+use Rattle.managed_side.proofs.Lists.{Rises-filter, filter-agree, IsMarked-test, test-IsMarked, unmarked_of-exact}
 
 -- a mark decides
 pub mark-decided : (marks : List Bool) (m : ℕ) → IsMarked marks m ⊎ (IsMarked marks m → ⊥)
@@ -141,10 +141,7 @@ pub holds_handle-live : (s : Managed) (m : ℕ) → IsLive s.heap m → holds_ha
 holds_handle-live s m l = test-some (handle_of s m) ∙ ap (λ b. is_some (cond b None (elim (numbered_at s.held m) [ None ↦ None | Some h ↦ h ]))) (is_freed-live s.heap m l)
 
 pub filter-live : (s : Managed) (xs : List ℕ) → ((x : ℕ) → Contains xs x → IsLive s.heap x) → filter (has_handle s.held) xs ≡ filter (holds_handle s) xs
-filter-live s [] l = refl
-filter-live s (x ∷ xs) l =
-    let later : filter (has_handle s.held) xs ≡ filter (holds_handle s) xs = filter-live s xs (λ y c. l y (Contains-there y x xs c)) in
-    ap (λ b. cond b (x ∷ filter (has_handle s.held) xs) (filter (has_handle s.held) xs)) (sym (holds_handle-live s x (l x (Contains-here x xs)))) ∙ ap (λ zs. cond (holds_handle s x) (x ∷ zs) zs) later
+filter-live s xs l = filter-agree (has_handle s.held) (holds_handle s) xs (λ x c. sym (holds_handle-live s x (l x c)))
 
 -- the state after a resolution, from its parts
 pub resolved-is : (h k : Heap) (infos others : List Held) (ps qs : List (PNum × MNum)) (cells pins : List (Option ℕ)) (q p : Queue) (cycle : Option OpenCycle) (n : ℕ) (b : Bool) (freed : List ℕ)

@@ -1,5 +1,5 @@
 -- What a resolution does to the rows of a side.
-use Rattle.std.specs.Prelude.{◌≡◌, ℕ, ◌<◌, Bool, true, false, not, List, length, filter, count_by, Option, Some, None, is_some, slice_get}
+use Rattle.std.specs.Prelude.{◌≡◌, ℕ, ◌<◌, ◌↔◌, Bool, true, false, not, List, Contains, length, filter, count_by, Option, Some, None, is_some, slice_get}
 use Rattle.joint_model.specs.Cycles.{IsResolution, IsAnsweredAlive}
 use Rattle.joint_model.specs.Heaps.{numbered_at}
 use Rattle.joint_model.specs.Listed.{answers_of}
@@ -21,6 +21,14 @@ unmarked_of marks ms = filter (λ m. not (marked marks m)) ms
 -- whether there is a handle at the row's place of a list of held handles
 abbrev pub has_handle : List (Option ℕ) → ℕ → Bool
 has_handle held m = is_some (elim (numbered_at held m) [ None ↦ None | Some h ↦ h ])
+
+-- whether there is a peer at the row's place of a list of peers
+abbrev pub has_peer : List (Option ℕ) → ℕ → Bool
+has_peer peers m = is_some (elim (numbered_at peers m) [ None ↦ None | Some p ↦ p ])
+
+-- beside these rows stands no peer any more, and beside each other row what stood there
+abbrev pub AreCleared : List (Option ℕ) → List (Option ℕ) → List ℕ → Type 0
+AreCleared old new rows = (p m : ℕ) → (numbered_at new m ≡ Some (Some p)) ↔ ((numbered_at old m ≡ Some (Some p)) × (Contains rows m → ⊥))
 
 -- a cycle is open, and there is one answer for each candidate
 pub record MayClose (s : ManagedReplay) (alive : List Bool) : Type 0 where

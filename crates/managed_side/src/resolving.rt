@@ -4,7 +4,7 @@
 // is made since has its mark from the start. So a marking that goes on from the kept candidates stays within the dead part, and all that it
 // leaves out of it goes.
 
-ghost use Rattle.std.specs.Prelude.{◌≡◌, ℕ, ◌+◌, ◌<◌, ◌≤◌, ◌↔◌, ◌⊎◌, ◌∷◌, [], ◌++◌, Bool, true, not, Some, IsSome, Contains, All, IsTrue, length, map, filter, count_by, slice_get};
+ghost use Rattle.std.specs.Prelude.{◌≡◌, ℕ, ◌+◌, ◌<◌, ◌≤◌, ◌↔◌, ◌⊎◌, ◌∷◌, [], ◌++◌, Bool, true, false, not, Some, IsSome, Contains, All, IsTrue, length, map, filter, count_by, slice_get};
 ghost use Rattle.joint_model.specs.Cycles.{IsAnsweredAlive};
 ghost use Rattle.joint_model.specs.Heaps.{IsLive};
 ghost use Rattle.joint_model.specs.Histories.{managed_numbers};
@@ -14,15 +14,14 @@ ghost use Rattle.joint_model.specs.ManagedReplay.{without_twins};
 ghost use Rattle.joint_model.specs.Walks.{Reached};
 ghost use Rattle.reachability.specs.Marks.{IsClosed, IsMarked};
 ghost use Rattle.row_heap.specs.Marks.{EdgeOf};
-ghost use Rattle.instance_registry.specs.Pairs.{PeersDistinct};
-ghost use Rattle.managed_side.specs.Resolving.{MayClose, TakesResolution, has_handle, marked, unmarked_of};
+ghost use Rattle.managed_side.specs.Resolving.{AreCleared, MayClose, TakesResolution, has_handle, has_peer, marked, unmarked_of};
 ghost use Rattle.managed_side.specs.Rows.{AreKept, ArePeers, pairs_of};
 
 use crate::open::Open;
 use crate::rows::{Held, ManagedRows};
 use finaliser_queue::Notices;
 use instance_registry::Registry;
-use joint_model::{Alive, MNum, PNum};
+use joint_model::{Alive, MNum};
 use row_heap::RowHeap;
 
 /// What a resolution tells its caller: the number of the cycle that it closed, the rows that it freed, where they stand in the list of freed
@@ -69,8 +68,8 @@ impl ManagedRows {
     }
 
     /// A resolution: frees the rows of the dead part that no candidate reaches that was answered alive, queues a notice for each of them that
-    /// holds a handle, takes their pairs out of the registry, and closes the cycle. It takes no memory, and but for the registry its time goes by
-    /// the dead part.
+    /// holds a handle, takes their pairs out of the registry, and closes the cycle. It takes no memory. Its time goes by the dead part, and by
+    /// the registry's pairs, over which it passes once, where a freed row has one.
     pub(crate) fn resolve(&mut self, alive: &Alive) -> Resolution
         requires kept { AreKept self.old }
         requires open { MayClose self.old alive.now.values }
@@ -200,25 +199,52 @@ fn notify(rows: &[MNum], infos: &[Held], notices: &mut Notices)
     }
 }
 
-// The registry forgets the pair of a row, if it has one.
-fn forget_pair(m: MNum, infos: &mut Vec<Held>, registry: &mut Registry)
+// Whether there is a peer beside the row.
+fn has_peer(infos: &[Held], m: MNum) -> bool
+    ensures { result ≡ has_peer (map (λ i. i.peer) infos.now) m.0 }
+{
+    if m.0 == 0 || m.0 as usize > infos.len() {
+        return false;
+    }
+    infos[m.0 as usize - 1].peer.is_some()
+}
+
+// Clears the peer beside a row. Answers false only where there was none.
+fn clear_peer(m: MNum, infos: &mut Vec<Held>) -> bool
     requires row { (1 ≤ m.0) × (m.0 ≤ length infos.old.items) }
-    requires peers { ArePeers registry.old infos.old.items }
-    requires distinct { PeersDistinct registry.old }
-    ensures pairs { pairs_of registry.new ≡ without_twins (pairs_of registry.old) (m.0 ∷ []) }
-    ensures peers { ArePeers registry.new infos.new.items }
-    ensures distinct { PeersDistinct registry.new }
+    ensures cleared { AreCleared (map (λ i. i.peer) infos.old.items) (map (λ i. i.peer) infos.new.items) (m.0 ∷ []) }
+    ensures none { result ≡ false → infos.new.items ≡ infos.old.items }
     ensures kinds { map (λ i. i.kind) infos.new.items ≡ map (λ i. i.kind) infos.old.items }
     ensures handles { map (λ i. i.handle) infos.new.items ≡ map (λ i. i.handle) infos.old.items }
 {
     let at = m.0 as usize - 1;
-    if let Some(p) = infos[at].peer {
-        registry.forget(PNum(p));
-        infos[at].peer = None;
+    match infos[at].peer {
+        None => false,
+        Some(_) => {
+            infos[at].peer = None;
+            true
+        }
     }
 }
 
-// The registry forgets the pairs of the rows of a list. It takes no memory.
+// Clears the peers beside the rows of a list. Answers false only where there was none. It takes no memory.
+fn clear_peers(rows: &[MNum], infos: &mut Vec<Held>) -> bool
+    requires rows { All (λ m. (1 ≤ m.0) × (m.0 ≤ length infos.old.items)) rows.now }
+    ensures cleared { AreCleared (map (λ i. i.peer) infos.old.items) (map (λ i. i.peer) infos.new.items) (managed_numbers rows.now) }
+    ensures none { result ≡ false → infos.new.items ≡ infos.old.items }
+    ensures kinds { map (λ i. i.kind) infos.new.items ≡ map (λ i. i.kind) infos.old.items }
+    ensures handles { map (λ i. i.handle) infos.new.items ≡ map (λ i. i.handle) infos.old.items }
+{
+    let mut any = false;
+    for m in rows {
+        if clear_peer(*m, infos) {
+            any = true;
+        }
+    }
+    any
+}
+
+// The registry forgets the pairs of the rows of a list, in one pass over its pairs, if one of the rows has a pair at all. It takes no memory.
 fn forget_pairs(rows: &[MNum], infos: &mut Vec<Held>, registry: &mut Registry)
     requires rows { All (λ m. (1 ≤ m.0) × (m.0 ≤ length infos.old.items)) rows.now }
     requires peers { ArePeers registry.old infos.old.items }
@@ -227,9 +253,8 @@ fn forget_pairs(rows: &[MNum], infos: &mut Vec<Held>, registry: &mut Registry)
     ensures kinds { map (λ i. i.kind) infos.new.items ≡ map (λ i. i.kind) infos.old.items }
     ensures handles { map (λ i. i.handle) infos.new.items ≡ map (λ i. i.handle) infos.old.items }
 {
-    // no peer stands in two pairs
-    let _ = registry.twin(PNum(0));
-    for m in rows {
-        forget_pair(*m, infos, registry);
+    if clear_peers(rows, infos) {
+        let left: &[Held] = infos;
+        registry.retain(|_, m| has_peer(left, m));
     }
 }

@@ -1,17 +1,14 @@
--- The pairs of the rows so far are forgotten.
-use Rattle.std.proofs.Common.{◌≡◌, take, map}
+-- The peers beside the rows so far are cleared.
+use Rattle.std.proofs.Common.{◌≡◌, false, take, map}
 use Rattle.joint_model.specs.Histories.{managed_numbers}
-use Rattle.joint_model.specs.ManagedReplay.{without_twins}
-use Rattle.instance_registry.specs.Pairs.{PeersDistinct}
 use Rattle.managed_side.specs.declared.rows.Held.{Held}
-use Rattle.managed_side.specs.Rows.{ArePeers, pairs_of}
-use Rattle.managed_side.proofs.resolving.forget_pairs.Given as goal
+use Rattle.managed_side.specs.Resolving.{AreCleared}
+use Rattle.managed_side.proofs.resolving.clear_peers.Given as goal
 
 abbrev pub invariant-loop-m : goal.invariant-loop-m
 invariant-loop-m l = record {
-  pairs : pairs_of l.registry ≡ without_twins (pairs_of l.fn.registry) (managed_numbers (take l.m-index l.rows));
-  peers : ArePeers l.registry l.infos.items;
-  distinct : PeersDistinct l.registry;
+  cleared : AreCleared (map (λ (i : Held). i.peer) l.fn.infos.items) (map (λ (i : Held). i.peer) l.infos.items) (managed_numbers (take l.m-index l.rows));
+  none : l.any ≡ false → l.infos.items ≡ l.fn.infos.items;
   kinds : map (λ (i : Held). i.kind) l.infos.items ≡ map (λ (i : Held). i.kind) l.fn.infos.items;
   handles : map (λ (i : Held). i.handle) l.infos.items ≡ map (λ (i : Held). i.handle) l.fn.infos.items;
 }

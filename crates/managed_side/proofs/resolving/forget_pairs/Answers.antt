@@ -1,28 +1,30 @@
--- One row more in each turn.
-use Rattle.std.proofs.Common.{◌≡◌, ◌∙◌, ◌∷◌, [], ap, sym, arith, length, get_or, refl}
-use Rattle.std.proofs.lemmas.List.{length-map}
-use Rattle.joint_model.specs.ManagedReplay.{without_twins}
+-- The pairs stay whose row still has its peer beside it; where no peer was cleared, all stay.
+use Rattle.std.proofs.Common.{◌∙◌, List, ap, subst, rules}
+use Rattle.std.specs.Prelude.{filter}
+use Rattle.joint_model.specs.declared.names.MNum.{MNum}
+use Rattle.joint_model.specs.declared.names.PNum.{PNum}
+use Rattle.joint_model.specs.Histories.{managed_numbers}
 use Rattle.managed_side.specs.declared.rows.Held.{Held}
+use Rattle.managed_side.specs.Resolving.{AreCleared, has_peer}
 use Rattle.managed_side.specs.Rows.{pairs_of}
-use Rattle.managed_side.proofs.Forgetting.{without_twins-none, without_twins-push, numbers-more}
+use Rattle.managed_side.proofs.Forgetting.{pairs-left, pairs-same, ArePeers-left}
+use Rattle.managed_side.proofs.Peers.{peers_of}
 use Rattle.managed_side.proofs.resolving.forget_pairs.Goals as goal
 
-pub loop-m-init : goal.loop-m-init
-loop-m-init c = record { pairs = sym (without_twins-none (pairs_of c.args.registry.now)); peers = c.requires.peers; distinct = c.twin.ensures.distinct; kinds = refl; handles = refl }
+pub returns-then-clear_peers-clause-pairs : goal.returns-then-clear_peers-clause-pairs
+returns-then-clear_peers-clause-pairs c =
+    ap pairs_of (c.retain.ensures.pairs (λ (q : PNum × MNum). has_peer (peers_of c.deref-left.result.now) q.1.0) (λ p m b said. search rules)
+    ∙ ap (λ (z : List Held). filter (λ (q : PNum × MNum). has_peer (peers_of z) q.1.0) c.args.registry.now) c.deref-left.ensures.value)
+    ∙ pairs-left c.args.registry.now c.args.infos.now.items c.clear_peers.new.infos.items (managed_numbers c.args.rows.now) c.requires.peers c.clear_peers.ensures.cleared
 
-pub forget_pair-requires-clause-row : goal.forget_pair-requires-clause-row
-forget_pair-requires-clause-row c =
-    let many : length c.loop-m.infos.items ≡ length c.args.infos.now.items = sym (length-map c.loop-m.infos.items (λ (i : Held). i.kind)) ∙ (ap length c.loop-m.invariant.kinds ∙ length-map c.args.infos.now.items (λ (i : Held). i.kind)) in
-    let row = c.requires.rows c.loop-m.m-index record { 0 = 0 } c.loop-m-test.true in
-    (row.0, omega (arith, row.1, many))
+pub returns-then-clear_peers-clause-peers : goal.returns-then-clear_peers-clause-peers
+returns-then-clear_peers-clause-peers c = ArePeers-left c.args.registry.now c.retain.new.self c.args.infos.now.items c.clear_peers.new.infos.items (managed_numbers c.args.rows.now) c.requires.peers c.clear_peers.ensures.cleared (returns-then-clear_peers-clause-pairs c)
 
-pub loop-m-preserved : goal.loop-m-preserved
-loop-m-preserved c = record {
-  pairs = c.forget_pair.ensures.pairs ∙ (ap (λ z. without_twins z ((get_or c.args.rows.now c.loop-m.m-index record { 0 = 0 }).0 ∷ [])) c.loop-m.invariant.pairs
-      ∙ (without_twins-push (pairs_of c.args.registry.now) _ (get_or c.args.rows.now c.loop-m.m-index record { 0 = 0 }).0
-      ∙ ap (λ z. without_twins (pairs_of c.args.registry.now) z) (sym (numbers-more c.args.rows.now c.loop-m.m-index record { 0 = 0 } c.loop-m-test.true))));
-  peers = c.forget_pair.ensures.peers;
-  distinct = c.forget_pair.ensures.distinct;
-  kinds = c.forget_pair.ensures.kinds ∙ c.loop-m.invariant.kinds;
-  handles = c.forget_pair.ensures.handles ∙ c.loop-m.invariant.handles;
-}
+pub returns-else-clear_peers-clause-pairs : goal.returns-else-clear_peers-clause-pairs
+returns-else-clear_peers-clause-pairs c =
+    let infos = c.args.infos.now.items in
+    let ms = managed_numbers c.args.rows.now in
+    pairs-same c.args.registry.now infos ms c.requires.peers (subst (λ (z : List Held). AreCleared (peers_of infos) (peers_of z) ms) (c.clear_peers.ensures.none c.if-clear_peers.false) c.clear_peers.ensures.cleared)
+
+pub returns-else-clear_peers-clause-peers : goal.returns-else-clear_peers-clause-peers
+returns-else-clear_peers-clause-peers c = ArePeers-left c.args.registry.now c.args.registry.now c.args.infos.now.items c.clear_peers.new.infos.items (managed_numbers c.args.rows.now) c.requires.peers c.clear_peers.ensures.cleared (returns-else-clear_peers-clause-pairs c)
