@@ -22,7 +22,7 @@ use Rattle.managed_side.specs.declared.rows.Held.{Held}
 use Rattle.managed_side.specs.Dues.{HasDue}
 use Rattle.managed_side.specs.Resolving.{marked, has_handle}
 use Rattle.managed_side.specs.Rows.{rows_of}
-use Rattle.managed_side.specs.Snapshots.{Finds}
+use Rattle.managed_side.specs.Snapshots.{PartsUnmarked}
 use Rattle.managed_side.proofs.Lists.{Rises-filter, IsMarked-test, test-IsMarked, unmarked_of-exact}
 use Rattle.managed_side.proofs.Resolutions.{mark-decided, edge-field, handle-there}
 
@@ -45,13 +45,13 @@ field-edge v s x y e f = inl (subst (λ h. HasField h x y) (sym e) f)
 edge-fields : (v : HeapRows) (s : Managed) (x y : ℕ) → v.heap ≡ s.heap → v.follows ≡ false → EdgeOf v x y → HasField s.heap x y
 edge-fields v s x y e p f = subst (λ h. HasField h x y) e (edge-field v x y p f)
 
-white-is : (v w : HeapRows) (s : Managed) (freed candidates dead : List ℕ) → AreSlotMarks v s → (f : Finds v w s.held freed candidates dead) → (m : ℕ) → Contains f.white m ↔ (IsLive s.heap m × (IsManagedReached s m → ⊥))
+white-is : (v w : HeapRows) (s : Managed) (freed candidates dead : List ℕ) → AreSlotMarks v s → (f : PartsUnmarked v w s.held freed candidates dead) → (m : ℕ) → Contains f.white m ↔ (IsLive s.heap m × (IsManagedReached s m → ⊥))
 white-is v w s freed candidates dead a f m = (
   λ c. (let u = (f.are_white.exact m).0 c in (subst (λ h. IsLive h m) a.heap u.0, λ r. u.1 ((a.marks m).1 r))),
   λ u. (f.are_white.exact m).1 (subst (λ h. IsLive h m) (sym a.heap) u.0, λ k. u.1 ((a.marks m).0 k)),
 )
 
-picked-is : (v w : HeapRows) (s : Managed) (freed candidates dead : List ℕ) → AreSlotMarks v s → Finds v w s.held freed candidates dead → (m : ℕ) → Contains candidates m ↔ (IsBridge s m × (IsManagedReached s m → ⊥))
+picked-is : (v w : HeapRows) (s : Managed) (freed candidates dead : List ℕ) → AreSlotMarks v s → PartsUnmarked v w s.held freed candidates dead → (m : ℕ) → Contains candidates m ↔ (IsBridge s m × (IsManagedReached s m → ⊥))
 picked-is v w s freed candidates dead a f m = (
   λ c. (
       let r = Contains-filter_from (has_handle s.held) f.white m (subst (λ xs. Contains xs m) f.picked c) in
@@ -61,16 +61,16 @@ picked-is v w s freed candidates dead a f m = (
 )
 
 -- what is marked then is what slots or bridge rows reach
-reached-marked : (v w : HeapRows) (s : Managed) (freed candidates dead : List ℕ) → AreSlotMarks v s → Finds v w s.held freed candidates dead → (m : ℕ) → IsMarked w.marks m → IsManagedReached s m ⊎ IsBridgeReached s m
+reached-marked : (v w : HeapRows) (s : Managed) (freed candidates dead : List ℕ) → AreSlotMarks v s → PartsUnmarked v w s.held freed candidates dead → (m : ℕ) → IsMarked w.marks m → IsManagedReached s m ⊎ IsBridgeReached s m
 reached-marked v w s freed candidates dead a f m k = elim ((f.marks m).0 k) [
   | inl o ↦ inl ((a.marks m).0 o)
   | inr r ↦ inr (Reached-mono (Contains candidates) (IsBridge s) (EdgeOf v) (ManagedEdge s) (λ x c. ((picked-is v w s freed candidates dead a f x).0 c).0) (λ x y e. edge-fields v s x y a.heap a.plain e) m r)
 ]
 
-marked-slot : (v w : HeapRows) (s : Managed) (freed candidates dead : List ℕ) → AreSlotMarks v s → Finds v w s.held freed candidates dead → (m : ℕ) → IsManagedReached s m → IsMarked w.marks m
+marked-slot : (v w : HeapRows) (s : Managed) (freed candidates dead : List ℕ) → AreSlotMarks v s → PartsUnmarked v w s.held freed candidates dead → (m : ℕ) → IsManagedReached s m → IsMarked w.marks m
 marked-slot v w s freed candidates dead a f m r = (f.marks m).1 (inl ((a.marks m).1 r))
 
-marked-bridge : (v w : HeapRows) (s : Managed) (freed candidates dead : List ℕ) → AreSlotMarks v s → Finds v w s.held freed candidates dead → (m : ℕ) → IsBridgeReached s m → IsMarked w.marks m
+marked-bridge : (v w : HeapRows) (s : Managed) (freed candidates dead : List ℕ) → AreSlotMarks v s → PartsUnmarked v w s.held freed candidates dead → (m : ℕ) → IsBridgeReached s m → IsMarked w.marks m
 marked-bridge v w s freed candidates dead a f m r = elim (mark-decided v.marks r.root) [
   | inl k ↦ (f.marks m).1 (inl ((a.marks m).1 (Reached-further (IsManagedRoot s) (ManagedEdge s) r.root m ((a.marks r.root).0 k) r.reaches)))
   | inr n ↦ (f.marks m).1 (inr (Reached-mono (λ z. z ≡ r.root) (Contains candidates) (ManagedEdge s) (EdgeOf v)
@@ -78,35 +78,35 @@ marked-bridge v w s freed candidates dead a f m r = elim (mark-decided v.marks r
       (λ x y e. field-edge v s x y a.heap e) m (record { root = r.root; starts = refl; reaches = r.reaches })))
 ]
 
-freed-is : (v w : HeapRows) (held : List (Option ℕ)) (freed candidates dead : List ℕ) → (f : Finds v w held freed candidates dead) → (m : ℕ) → Contains freed m ↔ (Contains f.white m × (IsMarked w.marks m → ⊥))
+freed-is : (v w : HeapRows) (held : List (Option ℕ)) (freed candidates dead : List ℕ) → (f : PartsUnmarked v w held freed candidates dead) → (m : ℕ) → Contains freed m ↔ (Contains f.white m × (IsMarked w.marks m → ⊥))
 freed-is v w held freed candidates dead f m = subst (λ xs. Contains xs m ↔ (Contains f.white m × (IsMarked w.marks m → ⊥))) (sym f.goes) (unmarked_of-exact w.marks f.white m)
 
-dead-is : (v w : HeapRows) (held : List (Option ℕ)) (freed candidates dead : List ℕ) → (f : Finds v w held freed candidates dead) → (m : ℕ) → Contains dead m ↔ (Contains f.white m × IsMarked w.marks m)
+dead-is : (v w : HeapRows) (held : List (Option ℕ)) (freed candidates dead : List ℕ) → (f : PartsUnmarked v w held freed candidates dead) → (m : ℕ) → Contains dead m ↔ (Contains f.white m × IsMarked w.marks m)
 dead-is v w held freed candidates dead f m = (
   λ c. (let r = Contains-filter_from (marked w.marks) f.white m (subst (λ xs. Contains xs m) f.left c) in (r.0, IsMarked-test w.marks m r.1)),
   λ u. subst (λ xs. Contains xs m) (sym f.left) (Contains-filter_to (marked w.marks) f.white m u.0 (test-IsMarked w.marks m u.1)),
 )
 
-pub dead-rises : (v w : HeapRows) (held : List (Option ℕ)) (freed candidates dead : List ℕ) → Finds v w held freed candidates dead → Rises dead
+pub dead-rises : (v w : HeapRows) (held : List (Option ℕ)) (freed candidates dead : List ℕ) → PartsUnmarked v w held freed candidates dead → Rises dead
 dead-rises v w held freed candidates dead f = subst Rises (sym f.left) (Rises-filter (marked w.marks) f.white f.are_white.rises)
 
-pub freed-rises : (v w : HeapRows) (held : List (Option ℕ)) (freed candidates dead : List ℕ) → Finds v w held freed candidates dead → Rises freed
+pub freed-rises : (v w : HeapRows) (held : List (Option ℕ)) (freed candidates dead : List ℕ) → PartsUnmarked v w held freed candidates dead → Rises freed
 freed-rises v w held freed candidates dead f = subst Rises (sym f.goes) (Rises-filter (λ m. not (marked w.marks m)) f.white f.are_white.rises)
 
-pub candidates-rise : (v w : HeapRows) (held : List (Option ℕ)) (freed candidates dead : List ℕ) → Finds v w held freed candidates dead → Rises candidates
+pub candidates-rise : (v w : HeapRows) (held : List (Option ℕ)) (freed candidates dead : List ℕ) → PartsUnmarked v w held freed candidates dead → Rises candidates
 candidates-rise v w held freed candidates dead f = subst Rises (sym f.picked) (Rises-filter (has_handle held) f.white f.are_white.rises)
 
 -- the found rows are live
-pub dead-live : (v w : HeapRows) (held : List (Option ℕ)) (freed candidates dead : List ℕ) → Finds v w held freed candidates dead → (m : ℕ) → Contains dead m → IsLive v.heap m
+pub dead-live : (v w : HeapRows) (held : List (Option ℕ)) (freed candidates dead : List ℕ) → PartsUnmarked v w held freed candidates dead → (m : ℕ) → Contains dead m → IsLive v.heap m
 dead-live v w held freed candidates dead f m c = ((f.are_white.exact m).0 ((dead-is v w held freed candidates dead f m).0 c).0).0
 
-pub freed-live : (v w : HeapRows) (held : List (Option ℕ)) (freed candidates dead : List ℕ) → Finds v w held freed candidates dead → (m : ℕ) → Contains freed m → IsLive v.heap m
+pub freed-live : (v w : HeapRows) (held : List (Option ℕ)) (freed candidates dead : List ℕ) → PartsUnmarked v w held freed candidates dead → (m : ℕ) → Contains freed m → IsLive v.heap m
 freed-live v w held freed candidates dead f m c = ((f.are_white.exact m).0 ((freed-is v w held freed candidates dead f m).0 c).0).0
 
-pub candidates-live : (v w : HeapRows) (held : List (Option ℕ)) (freed candidates dead : List ℕ) → Finds v w held freed candidates dead → (m : ℕ) → Contains candidates m → IsLive v.heap m
+pub candidates-live : (v w : HeapRows) (held : List (Option ℕ)) (freed candidates dead : List ℕ) → PartsUnmarked v w held freed candidates dead → (m : ℕ) → Contains candidates m → IsLive v.heap m
 candidates-live v w held freed candidates dead f m c = ((f.are_white.exact m).0 (Contains-filter_from (has_handle held) f.white m (subst (λ xs. Contains xs m) f.picked c)).0).0
 
-pub IsSnapshot-found : (v w : HeapRows) (s : Managed) (freed candidates dead : List ℕ) → s.cycle ≡ None → AreSlotMarks v s → Finds v w s.held freed candidates dead → IsSnapshot s (s.cycles + 1) freed candidates dead
+pub IsSnapshot-found : (v w : HeapRows) (s : Managed) (freed candidates dead : List ℕ) → s.cycle ≡ None → AreSlotMarks v s → PartsUnmarked v w s.held freed candidates dead → IsSnapshot s (s.cycles + 1) freed candidates dead
 IsSnapshot-found v w s freed candidates dead o a f = record {
   closed = o;
   next = refl;
@@ -135,7 +135,7 @@ IsSnapshot-found v w s freed candidates dead o a f = record {
   );
 }
 
-pub CanFree-found : (v w : HeapRows) (s : Managed) (freed candidates dead : List ℕ) → w.heap ≡ v.heap → AreSlotMarks v s → Finds v w s.held freed candidates dead → CanFree w.heap freed
+pub CanFree-found : (v w : HeapRows) (s : Managed) (freed candidates dead : List ℕ) → w.heap ≡ v.heap → AreSlotMarks v s → PartsUnmarked v w s.held freed candidates dead → CanFree w.heap freed
 CanFree-found v w s freed candidates dead ew a f =
     let e : w.heap ≡ s.heap = ew ∙ a.heap in
     record {
@@ -166,7 +166,7 @@ reached-still h P freed out m = (
 )
 
 -- what the cycle owes is ready
-pub HasDue-found : (v w u : HeapRows) (s : Managed) (freed candidates dead : List ℕ) (spare n : ℕ) → AreSlotMarks v s → Finds v w s.held freed candidates dead → u.heap ≡ with_freed s.heap freed
+pub HasDue-found : (v w u : HeapRows) (s : Managed) (freed candidates dead : List ℕ) (spare n : ℕ) → AreSlotMarks v s → PartsUnmarked v w s.held freed candidates dead → u.heap ≡ with_freed s.heap freed
     → ((x : ℕ) → IsMarked u.marks x ↔ Reached (λ z. InSlot (with_freed s.heap freed) z ⊎ Contains s.pins (Some z)) (HasField (with_freed s.heap freed)) x) → length candidates ≤ spare → HasDue u spare (record { number = n; candidates = candidates; dead = dead })
 HasDue-found v w u s freed candidates dead spare n a f eu marks l =
     let out : (m : ℕ) → Contains freed m → IsManagedReached s m → ⊥ = λ m c. ((white-is v w s freed candidates dead a f m).0 ((freed-is v w s.held freed candidates dead f m).0 c).0).1 in

@@ -28,7 +28,7 @@ abbrev pub ArePins : List (Option MNum) → Managed → Type 0
 ArePins at s = (t : ℕ) → 1 ≤ t → t ≤ 8 → slice_get at (t - 1) ≡ Some (object_or_none (slot s.pins t))
 
 -- a snapshot opens the next cycle and makes one entry, whose number it answers and what the entry replies; the graph is the dead part's
-pub record Snaps {D : Type 0} (d : Drawing D) (before after : D) (old new : Side ManagedReplay) (index : ℕ) (out : Opened) : Type 0 where
+pub record OpensBySnap {D : Type 0} (d : Drawing D) (before after : D) (old new : Side ManagedReplay) (index : ℕ) (out : Opened) : Type 0 where
   pub freed : List ℕ
   pub candidates : List ℕ
   pub dead : List ℕ

@@ -9,7 +9,7 @@ use Rattle.managed_side.specs.Resolving.{marked, unmarked_of, has_handle}
 
 -- of the live rows that have no mark: those that hold a handle are the candidates; those that these reach, and that have a mark afterwards,
 -- stay; and the others go
-pub record Finds (v w : HeapRows) (held : List (Option ℕ)) (freed candidates dead : List ℕ) : Type 0 where
+pub record PartsUnmarked (v w : HeapRows) (held : List (Option ℕ)) (freed candidates dead : List ℕ) : Type 0 where
   pub white : List ℕ
   pub are_white : AreWhite v white
   pub picked : candidates ≡ filter (has_handle held) white
@@ -24,4 +24,4 @@ pub record Prepares (h : Heap) (pins held : List (Option ℕ)) (w : HeapRows) (f
   pub same : marked.heap ≡ h
   pub plain : marked.follows ≡ false
   pub slots : (x : ℕ) → IsMarked marked.marks x ↔ Reached (λ z. InSlot h z ⊎ Contains pins (Some z)) (HasField h) x
-  pub finds : Finds marked w held freed candidates dead
+  pub finds : PartsUnmarked marked w held freed candidates dead

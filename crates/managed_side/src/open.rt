@@ -7,13 +7,13 @@ use std::marker::Model;
 
 /// An open cycle: its number, its candidates and its dead part.
 #[derive(Drop)]
-pub(crate) struct Open {
+pub(crate) struct OpenParts {
     pub(crate) number: u32,
     pub(crate) candidates: Vec<u32>,
     pub(crate) dead: Vec<MNum>,
 }
 
-impl Model for Open {
+impl Model for OpenParts {
     ghost use Rattle.joint_model.specs.Histories.{managed_numbers};
     ghost use Rattle.joint_model.specs.Managed.{OpenCycle};
 
@@ -22,7 +22,7 @@ impl Model for Open {
     ghost view = { λ s. record { number = s.number; candidates = s.candidates.items; dead = managed_numbers s.dead.items } };
 }
 
-impl Open {
+impl OpenParts {
     /// The cycle's number.
     pub(crate) fn number(&self) -> u32
         ensures { result ≡ self.now.number }

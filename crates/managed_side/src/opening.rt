@@ -4,7 +4,7 @@ ghost use Rattle.std.specs.Prelude.{◌≡◌, Some, None, Err, IfOk, IfErr, OnE
 ghost use Rattle.joint_model.specs.declared.names.Thread.TheVariants.{C};
 ghost use Rattle.joint_model.specs.Managed.{OpenCycle};
 ghost use Rattle.joint_model.specs.Sides.{MayDraw, managed_rules};
-ghost use Rattle.managed_side.specs.Openings.{ArePins, Snaps, snap_op};
+ghost use Rattle.managed_side.specs.Openings.{ArePins, OpensBySnap, snap_op};
 
 use crate::side::ManagedSide;
 use bridge_graph::DeadGraph;
@@ -52,7 +52,7 @@ impl ManagedSide {
     ) -> Result<Opened, SnapFault>
         requires pins { ArePins pins.now.at self.old.state.managed }
         requires may { self.old.state.managed.cycle ≡ None → MayDraw managed_rules (record { floor = D.floor; left = D.left; may = D.may; drew = D.drew }) draw.old self.old C (snap_op self.old.state.managed) }
-        ensures snaps { IfOk result (λ o. Snaps (record { floor = D.floor; left = D.left; may = D.may; drew = D.drew }) draw.old draw.new self.old self.new index o) }
+        ensures snaps { IfOk result (λ o. OpensBySnap (record { floor = D.floor; left = D.left; may = D.may; drew = D.drew }) draw.old draw.new self.old self.new index o) }
         ensures busy { (c : OpenCycle) → self.old.state.managed.cycle ≡ Some c → result ≡ Err (SnapFault.CycleOpen record { 0 = c.number }) }
         ensures closed { self.old.state.managed.cycle ≡ None → IfErr result (λ e. e ≡ SnapFault.OutOfMemory) }
         ensures err { OnErr result ((self.new ≡ self.old) × (draw.new ≡ draw.old)) }
@@ -71,7 +71,7 @@ impl ManagedSide {
     fn snap_closed<D: Draw>(&mut self, draw: &mut D, index: u32) -> Result<Opened, AllocError>
         requires closed { self.old.state.managed.cycle ≡ None }
         requires may { MayDraw managed_rules (record { floor = D.floor; left = D.left; may = D.may; drew = D.drew }) draw.old self.old C (snap_op self.old.state.managed) }
-        ensures snaps { IfOk result (λ o. Snaps (record { floor = D.floor; left = D.left; may = D.may; drew = D.drew }) draw.old draw.new self.old self.new index o) }
+        ensures snaps { IfOk result (λ o. OpensBySnap (record { floor = D.floor; left = D.left; may = D.may; drew = D.drew }) draw.old draw.new self.old self.new index o) }
         ensures err { OnErr result ((self.new ≡ self.old) × (draw.new ≡ draw.old)) }
     {
         self.entries.reserve(3)?;

@@ -17,7 +17,7 @@ ghost use Rattle.row_heap.specs.Marks.{EdgeOf};
 ghost use Rattle.managed_side.specs.Resolving.{AreCleared, MayClose, TakesResolution, has_handle, has_peer, marked, unmarked_of};
 ghost use Rattle.managed_side.specs.Rows.{AreKept, ArePeers, pairs_of};
 
-use crate::open::Open;
+use crate::open::OpenParts;
 use crate::rows::{Held, ManagedRows};
 use finaliser_queue::Notices;
 use instance_registry::Registry;
@@ -157,7 +157,7 @@ pub(crate) fn keep_unmarked(heap: &RowHeap<MNum>, rows: &mut Vec<MNum>)
 }
 
 // Finds the rows of the dead part that no candidate reaches that was answered alive: those that have no mark afterwards. It takes no memory.
-fn settle(cycle: Open, heap: &mut RowHeap<MNum>, alive: &Alive) -> Vec<MNum>
+fn settle(cycle: OpenParts, heap: &mut RowHeap<MNum>, alive: &Alive) -> Vec<MNum>
     requires live { (m : ℕ) → Contains cycle.candidates m → IsLive heap.old.heap m }
     requires shut { IsClosed (EdgeOf heap.old) heap.old.marks }
     requires answers { length alive.now.values ≡ length cycle.candidates }
@@ -166,7 +166,7 @@ fn settle(cycle: Open, heap: &mut RowHeap<MNum>, alive: &Alive) -> Vec<MNum>
     ensures shut { IsClosed (EdgeOf heap.old) heap.new.marks }
     ensures rest { heap.new ≡ record heap.old { marks = heap.new.marks; links = heap.new.links } }
 {
-    let Open {
+    let OpenParts {
         number: _,
         candidates,
         mut dead,

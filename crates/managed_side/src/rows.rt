@@ -8,7 +8,7 @@ ghost use Rattle.joint_model.specs.Managed.{OpenCycle, made_new, managed_name, o
 ghost use Rattle.joint_model.specs.ManagedReplay.{opening_replay, refusal_to};
 
 use crate::lines::reply_of;
-use crate::open::Open;
+use crate::open::OpenParts;
 use finaliser_queue::Notices;
 use instance_registry::Registry;
 use joint_model::{Cycle, Kind, MNum, Phase, PhaseWord, Reply};
@@ -33,7 +33,7 @@ pub(crate) struct ManagedRows {
     pub(crate) cells: [Option<u32>; 64],
     pub(crate) pins: [Option<u32>; 9],
     pub(crate) notices: Notices,
-    pub(crate) cycle: Option<Open>,
+    pub(crate) cycle: Option<OpenParts>,
     pub(crate) cycles: u32,
     pub(crate) contracted: bool,
 }

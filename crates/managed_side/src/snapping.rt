@@ -8,9 +8,9 @@ ghost use Rattle.joint_model.specs.Histories.{managed_numbers};
 ghost use Rattle.managed_side.specs.Rows.{AreKept};
 ghost use Rattle.managed_side.specs.Snapping.{TakesSnapshot};
 
-use crate::open::Open;
+use crate::open::OpenParts;
 use crate::rows::ManagedRows;
-use crate::snapshots::{Found, Prepared, mark_slots, prepare};
+use crate::snapshots::{Prepared, SnapshotParts, mark_slots, prepare};
 use bridge_graph::DeadGraph;
 use joint_model::MNum;
 use std::alloc::AllocError;
@@ -44,7 +44,7 @@ impl ManagedRows {
             &self.pins,
             &mut self.notices,
         )?;
-        let Found {
+        let SnapshotParts {
             freed,
             candidates,
             dead,
@@ -54,7 +54,7 @@ impl ManagedRows {
         self.cycles += 1;
         self.contracted = false;
         let count = candidates.len() as u32;
-        self.cycle = Some(Open {
+        self.cycle = Some(OpenParts {
             number: self.cycles,
             candidates,
             dead,

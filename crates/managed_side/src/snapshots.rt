@@ -14,7 +14,7 @@ ghost use Rattle.row_marking.specs.Traces.{Greyed};
 ghost use Rattle.bridge_graph.specs.Parts.{Leads};
 ghost use Rattle.managed_side.specs.Graphs.{HasDeadField, node_of};
 ghost use Rattle.managed_side.specs.Resolving.{has_handle, marked};
-ghost use Rattle.managed_side.specs.Snapshots.{Finds, Prepares};
+ghost use Rattle.managed_side.specs.Snapshots.{PartsUnmarked, Prepares};
 
 use crate::graphs::graph_of;
 use crate::resolving::{has_mark, holds, keep_unmarked};
@@ -118,16 +118,20 @@ pub(crate) fn bring_back_all(heap: &mut RowHeap<MNum>, rows: &[u32])
 
 /// What a snapshot finds: the rows that go, the candidates and the dead part.
 #[derive(Drop)]
-pub(crate) struct Found {
+pub(crate) struct SnapshotParts {
     pub(crate) freed: Vec<MNum>,
     pub(crate) candidates: Vec<u32>,
     pub(crate) dead: Vec<MNum>,
 }
 
 // Parts the live rows that have no mark. What the candidates reach has a mark afterwards.
-fn find(alloc: Global, heap: &mut RowHeap<MNum>, infos: &[Held]) -> Result<Found, AllocError>
+fn find(
+    alloc: Global,
+    heap: &mut RowHeap<MNum>,
+    infos: &[Held],
+) -> Result<SnapshotParts, AllocError>
     requires shut { IsClosed (EdgeOf heap.old) heap.old.marks }
-    ensures finds { IfOk result (λ f. Finds heap.old heap.new (map (λ i. i.handle) infos.now) (managed_numbers f.freed.items) f.candidates.items (managed_numbers f.dead.items)) }
+    ensures finds { IfOk result (λ f. PartsUnmarked heap.old heap.new (map (λ i. i.handle) infos.now) (managed_numbers f.freed.items) f.candidates.items (managed_numbers f.dead.items)) }
     ensures rest { heap.new ≡ record heap.old { marks = heap.new.marks; links = heap.new.links } }
 {
     let mut freed = whites(alloc, heap)?;
@@ -135,7 +139,7 @@ fn find(alloc: Global, heap: &mut RowHeap<MNum>, infos: &[Held]) -> Result<Found
     bring_back_all(heap, &candidates);
     let dead = marked_rows(alloc, heap, &freed)?;
     keep_unmarked(heap, &mut freed);
-    Ok(Found {
+    Ok(SnapshotParts {
         freed,
         candidates,
         dead,
@@ -145,7 +149,7 @@ fn find(alloc: Global, heap: &mut RowHeap<MNum>, infos: &[Held]) -> Result<Found
 /// What a snapshot finds, with the graph of its dead part.
 #[derive(Drop)]
 pub(crate) struct Prepared {
-    pub(crate) found: Found,
+    pub(crate) found: SnapshotParts,
     pub(crate) graph: DeadGraph,
 }
 

@@ -18,7 +18,7 @@ use Rattle.joint_model.specs.Told.{nothing, phase_of}
 use Rattle.bridge_graph.specs.Parts.{numbers_of}
 use Rattle.joint_model.proofs.Members.{Contains-nil}
 use Rattle.managed_side.specs.Calls.{Abandons, Contracts, MayContractWith, Resolves}
-use Rattle.managed_side.specs.Openings.{Snaps}
+use Rattle.managed_side.specs.Openings.{OpensBySnap}
 use Rattle.managed_side.specs.Resolving.{MayClose}
 use Rattle.managed_side.specs.Steps.{step_made}
 use Rattle.managed_side.specs.declared.cycles.ResolveOut.{ResolveOut}
@@ -48,7 +48,7 @@ none-open : (o : Option OpenCycle) (waiting : ℕ) → o ≡ None → HasWaiting
 none-open o waiting e c q = absurd cc
 
 -- a snapshot opens a cycle with as many candidates as it tells
-pub snapped-on : (before after waiting : ℕ) (old new : Side ManagedReplay) (index : ℕ) (out : Opened) → Snaps counting before after old new index out → IsDriven old before waiting → IsDriven new after out.candidates
+pub snapped-on : (before after waiting : ℕ) (old new : Side ManagedReplay) (index : ℕ) (out : Opened) → OpensBySnap counting before after old new index out → IsDriven old before waiting → IsDriven new after out.candidates
 snapped-on before after waiting old new index out s d = driven-on old new before after waiting out.candidates _ _ s.adds (λ h k. inl k) (λ c o. ap (λ (z : OpenCycle). length z.candidates) (only-open _ _ c refl o) ∙ sym s.counted) d
 
 -- a resolution and an abandoning close the cycle
@@ -75,7 +75,7 @@ nothing-dead s dead e = record {
 }
 
 -- so a cycle with nothing dead may be contracted
-pub may-contract : (before after : ℕ) (old new : Side ManagedReplay) (index : ℕ) (out : Opened) → Snaps counting before after old new index out → length out.graph.nodes ≡ 0 → MayContractWith new.state 0 0
+pub may-contract : (before after : ℕ) (old new : Side ManagedReplay) (index : ℕ) (out : Opened) → OpensBySnap counting before after old new index out → length out.graph.nodes ≡ 0 → MayContractWith new.state 0 0
 may-contract before after old new index out s none =
     let c : OpenCycle = record { number = old.state.managed.cycles + 1; candidates = s.candidates; dead = s.dead } in
     let opened : new.state.managed.cycle ≡ Some c = ap (λ (z : ManagedReplay). z.managed.cycle) s.adds.goes.state in
