@@ -5,7 +5,7 @@ ghost use Rattle.joint_model.specs.Histories.{stretch};
 ghost use Rattle.bridge_script.specs.Outside.{Writes};
 ghost use Rattle.bridge_script.specs.Blocks.{Sends};
 ghost use Rattle.bridge_script.specs.Lists.{after_spaces, lettered, list_words, numbers_of, letter_of};
-ghost use Rattle.bridge_script.specs.Report.{entry_text, entries_text, end_text, report};
+ghost use Rattle.bridge_script.specs.Report.{entry_text, entries_text, end_text, tail_text, report};
 
 use crate::blocks::Block;
 use crate::drafts::Line;
@@ -31,6 +31,7 @@ fn write_numbers<K: Sink>(
     h: &History,
     numbers: Numbers,
     span: Span,
+    line: &mut Line,
     block: &mut Block,
     out: &mut K,
 ) -> Result<(), Failed>
@@ -40,7 +41,7 @@ fn write_numbers<K: Sink>(
         let Some(n) = numbers.at(h, span.first as u64 + k as u64) else {
             continue;
         };
-        let mut line = Line::new();
+        line.clear();
         line.lettered(numbers.letter(), n as u64);
         block.put(line.bytes(), out)?;
     }
@@ -52,6 +53,7 @@ fn write_list<K: Sink>(
     h: &History,
     numbers: Numbers,
     span: Span,
+    line: &mut Line,
     block: &mut Block,
     out: &mut K,
 ) -> Result<(), Failed>
@@ -61,48 +63,46 @@ fn write_list<K: Sink>(
         return block.put(b" -", out);
     }
     match numbers.at(h, span.first as u64) {
-        Some(_) => write_numbers(h, numbers, span, block, out),
+        Some(_) => write_numbers(h, numbers, span, line, block, out),
         None => block.put(b" -", out),
     }
 }
 
-/// Writes a line with a list between its head and its tail.
+/// Writes a line whose head was put together, with a list between it and the line's tail.
+#[inline(never)]
 fn write_listed<K: Sink>(
     h: &History,
-    head: &[u8],
     list: (Numbers, Span),
-    tail: &[u8],
+    cites: Option<u64>,
+    line: &mut Line,
     block: &mut Block,
     out: &mut K,
 ) -> Result<(), Failed>
-    requires head { length head.now ≤ 512 }
-    requires tail { length tail.now ≤ 512 }
-    ensures { Sends (K.held out.old) (K.held out.new) block.old block.new (K.faults out.old) (K.faults out.new) result (head.now ++ (after_spaces (list_words h.now list.0 list.1) ++ tail.now)) }
+    ensures { Sends (K.held out.old) (K.held out.new) block.old block.new (K.faults out.old) (K.faults out.new) result (line.old.text ++ (after_spaces (list_words h.now list.0 list.1) ++ tail_text cites)) }
 {
-    block.put(head, out)?;
-    write_list(h, list.0, list.1, block, out)?;
-    block.put(tail, out)
+    block.put(line.bytes(), out)?;
+    write_list(h, list.0, list.1, line, block, out)?;
+    line.clear();
+    add_tail(line, cites);
+    block.put(line.bytes(), out)
 }
 
 /// Writes the line of an entry.
 pub fn write_entry<K: Sink>(
     h: &History,
     entry: &Entry,
+    line: &mut Line,
     block: &mut Block,
     out: &mut K,
 ) -> Result<(), Failed>
     ensures { Sends (K.held out.old) (K.held out.new) block.old block.new (K.faults out.old) (K.faults out.new) result (entry_text h.now entry.now) }
 {
-    let mut line = Line::new();
-    add_head(&mut line, entry);
+    line.clear();
+    add_head(line, entry);
     match list_of(&entry.made.reply) {
-        Some(list) => {
-            let mut tail = Line::new();
-            add_tail(&mut tail, entry.made.cites);
-            write_listed(h, line.bytes(), list, tail.bytes(), block, out)
-        }
+        Some(list) => write_listed(h, list, entry.made.cites, line, block, out),
         None => {
-            add_tail(&mut line, entry.made.cites);
+            add_tail(line, entry.made.cites);
             block.put(line.bytes(), out)
         }
     }
@@ -112,11 +112,12 @@ pub fn write_entry<K: Sink>(
 fn write_entries<K: Sink>(h: &History, block: &mut Block, out: &mut K) -> Result<(), Failed>
     ensures { Sends (K.held out.old) (K.held out.new) block.old block.new (K.faults out.old) (K.faults out.new) result (entries_text h.now h.now.entries) }
 {
+    let mut line = Line::new();
     for i in 0..h.len() {
         let Some(entry) = h.entry(i) else {
             unreachable!();
         };
-        write_entry(h, &entry, block, out)?;
+        write_entry(h, &entry, &mut line, block, out)?;
     }
     Ok(())
 }

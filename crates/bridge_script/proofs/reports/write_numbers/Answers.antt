@@ -20,7 +20,7 @@ returns-in_err-put g c =
     let xs = take 4294967296 (numbers_of c.args.h.now c.args.numbers) in
     let letter = letter_of c.args.numbers in
     let ys = drop c.args.span.first xs in
-    let piece : c.bytes.result.now ≡ 32 ∷ letter ∷ decimal c.in-Some.n = piece_of c.bytes.result.now c.lettered.new.self.text c.new-line.result.text c.letter.result letter c.in-Some.n c.bytes.ensures.text c.lettered.ensures.added c.new-line.ensures.text c.letter.ensures in
+    let piece : c.bytes.result.now ≡ 32 ∷ letter ∷ decimal c.in-Some.n = piece_of c.bytes.result.now c.lettered.new.self.text c.clear.new.self.text c.letter.result letter c.in-Some.n c.bytes.ensures.text c.lettered.ensures.added c.clear.ensures.text c.letter.ensures in
     let w = rw piece at c.in_err-put.ensures in
     rw (passed_on c.from_residual.result c.in_err-put.field-0.0 c.from_residual.ensures.0 c.from_residual.ensures.1) (Sends-into (g.K.Sink.held c.args.out.now) (g.K.Sink.held c.loop-k.out) (g.K.Sink.held c.put.new.out) c.args.block.now c.loop-k.block c.put.new.self (g.K.Sink.faults c.args.out.now) (g.K.Sink.faults c.loop-k.out) (g.K.Sink.faults c.put.new.out) c.in_err-put.field-0.0
     (after_spaces (lettered letter (take c.loop-k.k ys))) (32 ∷ letter ∷ decimal c.in-Some.n) (after_spaces (lettered letter (drop (c.loop-k.k + 1) (take c.args.span.count ys)))) (after_spaces (lettered letter (take c.args.span.count ys)))
@@ -32,7 +32,7 @@ loop-k-preserved g c =
     let xs = take 4294967296 (numbers_of c.args.h.now c.args.numbers) in
     let letter = letter_of c.args.numbers in
     let ys = drop c.args.span.first xs in
-    let piece : c.bytes.result.now ≡ 32 ∷ letter ∷ decimal c.in-Some.n = piece_of c.bytes.result.now c.lettered.new.self.text c.new-line.result.text c.letter.result letter c.in-Some.n c.bytes.ensures.text c.lettered.ensures.added c.new-line.ensures.text c.letter.ensures in
+    let piece : c.bytes.result.now ≡ 32 ∷ letter ∷ decimal c.in-Some.n = piece_of c.bytes.result.now c.lettered.new.self.text c.clear.new.self.text c.letter.result letter c.in-Some.n c.bytes.ensures.text c.lettered.ensures.added c.clear.ensures.text c.letter.ensures in
     let w = rw piece at c.in_ok-put.ensures in
     record {
       so_far = BuffersText-into (g.K.Sink.held c.args.out.now) (g.K.Sink.held c.loop-k.out) (g.K.Sink.held c.put.new.out) c.args.block.now c.loop-k.block c.put.new.self
