@@ -2,9 +2,6 @@
 -- the thread by the first word, the operation by the second, and what stands at each place by its own.
 use Rattle.std.proofs.Common.{◌≡◌, ◌≢◌, ℕ, ◌<◌, List, [], ◌∷◌, codes, sym, ◌∙◌, ap, refl, arith, subst, lit<, inl, inr, IfSome, slice_get, get_or, length, length-append}
 use Rattle.std.specs.List.{All, AllByRecursion, slice_split}
-use Rattle.std.specs.Str.{IsUtf8}
-use Rattle.std.proofs.lemmas.Str.{IsUtf8-from_ascii}
-use Rattle.std.proofs.lemmas.Str.Ascii.{IsAscii-from_all}
 use Rattle.std.proofs.Math.Dec.{eqb}
 use Rattle.std.proofs.lemmas.Option.{slice_get_cases}
 use Rattle.std.proofs.lemmas.List.Elements.{All-from_recursion, All-append, All-cons, All-nil, All-weaker}
@@ -35,10 +32,6 @@ printed_thread C l = printed_code (codes "c") refl
 printed_operation : (o : Operation) → Printed (operation_text o)
 printed_operation (operation.Phase phase.Cycle) = printed_code (codes "cycle") refl
 printed_operation o = printed_code (operation_text o) refl
-
--- the word of an operation is text
-pub utf8_operation : (o : Operation) → IsUtf8 (operation_text o)
-utf8_operation o = IsUtf8-from_ascii (operation_text o) (IsAscii-from_all (operation_text o) (All-weaker IsPrinted (λ b. b < 128) (λ b l. l.1) (operation_text o) (printed_operation o)))
 
 pub printed_line : (line : Thread × Act) → IsBuilt line → AllByRecursion Printed (line_words line)
 printed_line line h =

@@ -6,6 +6,7 @@ ghost use Rattle.bridge_script.specs.declared.grammar.Operation.{Operation};
 ghost use Rattle.bridge_script.specs.declared.grammar.Place.{Place};
 ghost use Rattle.bridge_script.specs.Grammar.{operation_text, managed_form, peer_form, driver_form, form_of, is_built};
 
+use crate::words::is_same;
 use joint_model::{PhaseWord, Thread};
 
 /// What a line asks for, without its places. `New` makes a managed object and `NewPeer` a peer.
@@ -84,7 +85,7 @@ pub const COUNT: Place = Place::Number {
 pub type Row = (Operation, &'static [Place]);
 
 /// The operation that a word asks for of a thread, and its places. None where the thread has no such operation.
-pub fn form_of(thread: Thread, word: &str) -> Option<Row>
+pub fn form_of(thread: Thread, word: &[u8]) -> Option<Row>
     ensures { MatchOption result ((o : Operation) (places : List Place) → form_of thread o ≡ Some places → operation_text o ≢ word.now) (λ row. (form_of thread row.0 ≡ Some row.1.now) × (operation_text row.0 ≡ word.now)) }
 {
     match thread {
@@ -95,74 +96,150 @@ pub fn form_of(thread: Thread, word: &str) -> Option<Row>
 }
 
 /// The rows of a managed thread.
-fn managed_form(word: &str) -> Option<Row>
+fn managed_form(word: &[u8]) -> Option<Row>
     ensures { MatchOption result ((o : Operation) (places : List Place) → managed_form o ≡ Some places → operation_text o ≢ word.now) (λ row. (managed_form row.0 ≡ Some row.1.now) × (operation_text row.0 ≡ word.now)) }
 {
-    match word {
-        "new" => Some((Operation::New, &[Place::Var, Place::PlainKind, FIELDS])),
-        "bridge" => Some((
+    if is_same(word, b"new") {
+        return Some((Operation::New, &[Place::Var, Place::PlainKind, FIELDS]));
+    }
+    if is_same(word, b"bridge") {
+        return Some((
             Operation::Bridge,
             &[Place::Var, Place::BridgeKind, FIELDS, Place::Sort, FIELDS],
-        )),
-        "copy" => Some((Operation::Copy, &[Place::Var, Place::Var])),
-        "set" => Some((Operation::Set, &[Place::Var, INDEX, Place::VarOrNone])),
-        "get" => Some((Operation::Get, &[Place::Var, Place::Var, INDEX])),
-        "drop" => Some((Operation::Drop, &[Place::Var])),
-        "load" => Some((Operation::Load, &[Place::Var, Place::ManagedStatic])),
-        "store" => Some((Operation::Store, &[Place::ManagedStatic, Place::VarOrNone])),
-        "weak" => Some((Operation::Weak, &[Place::Cell, Place::Var])),
-        "read" => Some((Operation::Read, &[Place::Cell])),
-        "wait" => Some((Operation::Await, &[Place::Cell])),
-        "take" => Some((Operation::Take, &[Place::Var])),
-        "pass" => Some((Operation::Pass, &[Place::Var, Place::PeerStatic])),
-        "surface" => Some((Operation::Surface, &[Place::Var, Place::PeerStatic])),
-        "dispose" => Some((Operation::Dispose, &[Place::Var])),
-        "handle" => Some((Operation::Handle, &[Place::Var])),
-        _ => None,
+        ));
     }
+    if is_same(word, b"copy") {
+        return Some((Operation::Copy, &[Place::Var, Place::Var]));
+    }
+    if is_same(word, b"set") {
+        return Some((Operation::Set, &[Place::Var, INDEX, Place::VarOrNone]));
+    }
+    if is_same(word, b"get") {
+        return Some((Operation::Get, &[Place::Var, Place::Var, INDEX]));
+    }
+    if is_same(word, b"drop") {
+        return Some((Operation::Drop, &[Place::Var]));
+    }
+    if is_same(word, b"load") {
+        return Some((Operation::Load, &[Place::Var, Place::ManagedStatic]));
+    }
+    if is_same(word, b"store") {
+        return Some((Operation::Store, &[Place::ManagedStatic, Place::VarOrNone]));
+    }
+    if is_same(word, b"weak") {
+        return Some((Operation::Weak, &[Place::Cell, Place::Var]));
+    }
+    if is_same(word, b"read") {
+        return Some((Operation::Read, &[Place::Cell]));
+    }
+    if is_same(word, b"wait") {
+        return Some((Operation::Await, &[Place::Cell]));
+    }
+    if is_same(word, b"take") {
+        return Some((Operation::Take, &[Place::Var]));
+    }
+    if is_same(word, b"pass") {
+        return Some((Operation::Pass, &[Place::Var, Place::PeerStatic]));
+    }
+    if is_same(word, b"surface") {
+        return Some((Operation::Surface, &[Place::Var, Place::PeerStatic]));
+    }
+    if is_same(word, b"dispose") {
+        return Some((Operation::Dispose, &[Place::Var]));
+    }
+    if is_same(word, b"handle") {
+        return Some((Operation::Handle, &[Place::Var]));
+    }
+    None
 }
 
 /// The rows of a peer thread.
-fn peer_form(word: &str) -> Option<Row>
+fn peer_form(word: &[u8]) -> Option<Row>
     ensures { MatchOption result ((o : Operation) (places : List Place) → peer_form o ≡ Some places → operation_text o ≢ word.now) (λ row. (peer_form row.0 ≡ Some row.1.now) × (operation_text row.0 ≡ word.now)) }
 {
-    match word {
-        "copy" => Some((Operation::Copy, &[Place::Var, Place::Var])),
-        "set" => Some((Operation::Set, &[Place::Var, INDEX, Place::VarOrNone])),
-        "get" => Some((Operation::Get, &[Place::Var, Place::Var, INDEX])),
-        "drop" => Some((Operation::Drop, &[Place::Var])),
-        "load" => Some((Operation::Load, &[Place::Var, Place::PeerStatic])),
-        "store" => Some((Operation::Store, &[Place::PeerStatic, Place::VarOrNone])),
-        "new" => Some((Operation::NewPeer, &[Place::Var, FIELDS])),
-        "global" => Some((Operation::Global, &[Place::Global, Place::Var])),
-        "wglobal" => Some((Operation::WGlobal, &[Place::Global, Place::Var])),
-        "unglobal" => Some((Operation::UnGlobal, &[Place::Global])),
-        "wread" => Some((Operation::WRead, &[Place::Var, Place::Global])),
-        "collect" => Some((Operation::Collect, &[])),
-        "begin" => Some((Operation::BeginMark, &[])),
-        "slice" => Some((Operation::Slice, &[COUNT])),
-        "sweep" => Some((Operation::SweepMark, &[])),
-        _ => None,
+    if is_same(word, b"copy") {
+        return Some((Operation::Copy, &[Place::Var, Place::Var]));
     }
+    if is_same(word, b"set") {
+        return Some((Operation::Set, &[Place::Var, INDEX, Place::VarOrNone]));
+    }
+    if is_same(word, b"get") {
+        return Some((Operation::Get, &[Place::Var, Place::Var, INDEX]));
+    }
+    if is_same(word, b"drop") {
+        return Some((Operation::Drop, &[Place::Var]));
+    }
+    if is_same(word, b"load") {
+        return Some((Operation::Load, &[Place::Var, Place::PeerStatic]));
+    }
+    if is_same(word, b"store") {
+        return Some((Operation::Store, &[Place::PeerStatic, Place::VarOrNone]));
+    }
+    if is_same(word, b"new") {
+        return Some((Operation::NewPeer, &[Place::Var, FIELDS]));
+    }
+    if is_same(word, b"global") {
+        return Some((Operation::Global, &[Place::Global, Place::Var]));
+    }
+    if is_same(word, b"wglobal") {
+        return Some((Operation::WGlobal, &[Place::Global, Place::Var]));
+    }
+    if is_same(word, b"unglobal") {
+        return Some((Operation::UnGlobal, &[Place::Global]));
+    }
+    if is_same(word, b"wread") {
+        return Some((Operation::WRead, &[Place::Var, Place::Global]));
+    }
+    if is_same(word, b"collect") {
+        return Some((Operation::Collect, &[]));
+    }
+    if is_same(word, b"begin") {
+        return Some((Operation::BeginMark, &[]));
+    }
+    if is_same(word, b"slice") {
+        return Some((Operation::Slice, &[COUNT]));
+    }
+    if is_same(word, b"sweep") {
+        return Some((Operation::SweepMark, &[]));
+    }
+    None
 }
 
 /// The rows of the driver.
-fn driver_form(word: &str) -> Option<Row>
+fn driver_form(word: &[u8]) -> Option<Row>
     ensures { MatchOption result ((o : Operation) (places : List Place) → driver_form o ≡ Some places → operation_text o ≢ word.now) (λ row. (driver_form row.0 ≡ Some row.1.now) × (operation_text row.0 ≡ word.now)) }
 {
-    match word {
-        "cycle" => Some((Operation::Phase(PhaseWord::Cycle), &[])),
-        "snap" => Some((Operation::Phase(PhaseWord::Snap), &[])),
-        "contract" => Some((Operation::Phase(PhaseWord::Contract), &[])),
-        "mirror" => Some((Operation::Phase(PhaseWord::Mirror), &[])),
-        "weaken" => Some((Operation::Phase(PhaseWord::Weaken), &[])),
-        "mark" => Some((Operation::Phase(PhaseWord::Mark), &[])),
-        "sweep" => Some((Operation::Phase(PhaseWord::Sweep), &[])),
-        "restore" => Some((Operation::Phase(PhaseWord::Restore), &[])),
-        "resolve" => Some((Operation::Phase(PhaseWord::Resolve), &[])),
-        "finalise" => Some((Operation::Finalise, &[COUNT])),
-        _ => None,
+    if is_same(word, b"cycle") {
+        return Some((Operation::Phase(PhaseWord::Cycle), &[]));
     }
+    if is_same(word, b"snap") {
+        return Some((Operation::Phase(PhaseWord::Snap), &[]));
+    }
+    if is_same(word, b"contract") {
+        return Some((Operation::Phase(PhaseWord::Contract), &[]));
+    }
+    if is_same(word, b"mirror") {
+        return Some((Operation::Phase(PhaseWord::Mirror), &[]));
+    }
+    if is_same(word, b"weaken") {
+        return Some((Operation::Phase(PhaseWord::Weaken), &[]));
+    }
+    if is_same(word, b"mark") {
+        return Some((Operation::Phase(PhaseWord::Mark), &[]));
+    }
+    if is_same(word, b"sweep") {
+        return Some((Operation::Phase(PhaseWord::Sweep), &[]));
+    }
+    if is_same(word, b"restore") {
+        return Some((Operation::Phase(PhaseWord::Restore), &[]));
+    }
+    if is_same(word, b"resolve") {
+        return Some((Operation::Phase(PhaseWord::Resolve), &[]));
+    }
+    if is_same(word, b"finalise") {
+        return Some((Operation::Finalise, &[COUNT]));
+    }
+    None
 }
 
 /// Whether a thread's operation is built: a script has no line with one that isn't.

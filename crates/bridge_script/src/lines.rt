@@ -14,7 +14,6 @@ use crate::grammar::{Operation, Row, form_of, is_built};
 use crate::operands::{Operand, read_operands};
 use crate::words::Words;
 use joint_model::{Act, Kind, Sort, Thread};
-use std::str;
 
 /// The line that has this text, which is without its newline. Where there is no such line, the first of the causes
 /// that its words have: `Unknown`, `Arity`, `Name`, `Number`, `Limit` or `Kind`.
@@ -43,10 +42,7 @@ pub fn read_line(text: &[u8]) -> Result<(Thread, Act), Cause>
 fn take_operation(thread: Thread, words: &mut Words) -> Option<Row>
     ensures { MatchOption result ((o : Operation) (places : List Place) (rest : List (List ℕ)) → form_of thread o ≡ Some places → is_built thread o ≡ true → words.old ≢ operation_text o ∷ rest) (λ row. (form_of thread row.0 ≡ Some row.1.now) × (is_built thread row.0 ≡ true) × (words.old ≡ operation_text row.0 ∷ words.new) × (length row.1.now ≤ 5)) }
 {
-    let Ok(word) = str::from_utf8(words.next()?) else {
-        return None;
-    };
-    let row = form_of(thread, word)?;
+    let row = form_of(thread, words.next()?)?;
     if is_built(thread, row.0) {
         Some(row)
     } else {

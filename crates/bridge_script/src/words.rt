@@ -150,11 +150,21 @@ pub fn var(word: &[u8]) -> Option<Var>
     Some(Var(word[0] - b'a'))
 }
 
-/// Whether two texts are the same.
+/// Whether two texts are the same. Where one of them is written out in the code, this is a comparison of its length and
+/// then of its bytes in turn, without a call.
+#[inline(always)]
 pub fn is_same(a: &[u8], b: &[u8]) -> bool
     ensures { MatchBool result (a.now ≡ b.now) (a.now ≢ b.now) }
 {
-    a == b
+    if a.len() != b.len() {
+        return false;
+    }
+    for i in 0..a.len() {
+        if a[i] != b[i] {
+            return false;
+        }
+    }
+    true
 }
 
 /// The variable that a word names, or none for the word `-`.
@@ -168,7 +178,30 @@ pub fn optional(word: &[u8]) -> Option<Option<Var>>
 }
 
 /// The number that a word writes, in decimal digits without a needless zero and below 2^64.
+#[inline(always)]
 pub fn number(word: &[u8]) -> Option<u64>
+    ensures { MatchOption result ((n : ℕ) → n < 2 ^ 64 → decimal n ≢ word.now) (λ n. (n < 2 ^ 64) × (decimal n ≡ word.now)) }
+{
+    if word.len() == 1 {
+        digit(word[0])
+    } else {
+        long_number(word)
+    }
+}
+
+/// The number that a word of this one byte writes.
+#[inline(always)]
+fn digit(byte: u8) -> Option<u64>
+    ensures { MatchOption result ((n : ℕ) → n < 2 ^ 64 → decimal n ≢ byte ∷ []) (λ n. (n < 2 ^ 64) × (decimal n ≡ byte ∷ [])) }
+{
+    if byte < b'0' || byte > b'9' {
+        return None;
+    }
+    Some((byte - b'0') as u64)
+}
+
+/// The number that a word of any length writes.
+fn long_number(word: &[u8]) -> Option<u64>
     ensures { MatchOption result ((n : ℕ) → n < 2 ^ 64 → decimal n ≢ word.now) (λ n. (n < 2 ^ 64) × (decimal n ≡ word.now)) }
 {
     let Ok(text) = str::from_utf8(word) else {
