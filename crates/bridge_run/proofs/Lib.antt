@@ -1,3 +1,2 @@
 pub mod NoWords
-pub mod Runnable
 pub mod DriversLines

@@ -52,7 +52,7 @@ pub fn print_generated<R: Threads + Wait + Sync, K: Sink, T: Turnstile + Sync>(
 }
 
 // Runs the script in that mode and one cycle more. Answers `AllocError` where there is no memory.
-#[tactic(auto, using(crate::proofs::Runnable::can_run))]
+#[tactic(auto, using(script_runs::proofs::Runnable::can_run))]
 fn run<R: Threads + Wait + Sync, T: Turnstile + Sync>(
     rt: &R,
     alloc: Global,

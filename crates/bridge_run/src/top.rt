@@ -118,7 +118,7 @@ fn print_run<R: Threads + Wait + Sync, K: Sink, T: Turnstile + Sync>(
 }
 
 // Runs the script in that mode. Answers `AllocError` where there is no memory.
-#[tactic(auto, using(crate::proofs::Runnable::can_run))]
+#[tactic(auto, using(script_runs::proofs::Runnable::can_run))]
 fn run<R: Threads + Wait + Sync, T: Turnstile + Sync>(
     rt: &R,
     alloc: Global,

@@ -8,3 +8,4 @@ pub mod Seated
 pub mod Ran
 pub mod Desked
 pub mod Last
+pub mod Runnable
