@@ -1,4 +1,21 @@
 // The program `bridge_run`: the bridge between two heaps, run over a script that is read, or over one that is made.
+//
+// A run of the program is one top call, `bridge_main`:
+//
+//     words behind the program's name        serial, threads or gen with its three pairs, else the usage line
+//       source, read to its end              a script, else the line of its first fault; `gen` makes its script and reads nothing
+//         the run, by `script_runs`          one history of all that both heaps and the driver did
+//           sink                             the report of the history, or for `gen` its summary
+//
+// and the answer is the exit status. `main` hands the process's words and streams to `run_program`, which makes that call; `StdSource` and `StdSink` make
+// a source and a sink of any reader and writer, and each counts its errors.
+//
+// Who runs: with `serial` this thread alone. With `threads` each script thread has a thread of its own while the script runs; all have ended
+// before anything is written. Nobody else has the source, the sink or the heaps.
+//
+// What is promised, for every script and every schedule: the report is that of one linked history of the script's lines, which is a run of the one machine
+// whose graph joins both heaps, sound and complete; and each other status says what is wrong, and what was written then. `specs/Top.antt` and
+// `specs/Ends.antt` have it word by word, and docs/PROVED.md tells it promise by promise. That the program returns, or goes on, is not promised.
 #![tactic(auto)]
 
 mod generated;

@@ -2,6 +2,15 @@
 // numbers of components and pairs, and the milliseconds of the analysis alone; with the word `dump` a line
 // `scc LIST` for each component and a line `xref A B` for each pair, in their order. Any other words are
 // answered by the usage line and status 1, a bad edge list by what is wrong with it and status 2.
+//
+//     contract_tool dump < examples/crossed_cycle.graph
+//
+// A run has one graph: the input is read to its end, its lists become a `DeadGraph`, `component_pass::contract` makes
+// the components of that, and they are printed. All of it is done by one thread, and nothing outlives the run.
+//
+// What is promised is the pass's own, for every graph: the components and the cross-references are exactly those of the
+// definition. What this program adds, the reading of the list and the printing, is tested alone; the tests of the
+// pass stand here too, since a crate with tests is proved twice.
 #![tactic(auto)]
 
 mod list;
@@ -16,7 +25,7 @@ use std::process::ExitCode;
 use std::time::Instant;
 use xref_list::Components;
 
-/// What is asked for.
+// What is asked for.
 #[derive(Clone, Copy)]
 enum OutputKind {
     Time,
@@ -60,7 +69,7 @@ fn main(rt: HostRuntime) -> io::Result<ExitCode> {
     Ok(ExitCode::SUCCESS)
 }
 
-/// What a word asks for.
+// What a word asks for.
 fn mode_of(word: &str) -> Option<OutputKind> {
     match word {
         "time" => Some(OutputKind::Time),
@@ -69,7 +78,7 @@ fn mode_of(word: &str) -> Option<OutputKind> {
     }
 }
 
-/// Writes the components and the pairs, a line each.
+// Writes the components and the pairs, a line each.
 fn write_all<W: Write + Drop>(mut out: W, components: &Components) -> io::Result<()> {
     for c in 0..components.len() {
         write!(out, "scc")?;

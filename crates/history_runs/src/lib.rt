@@ -5,6 +5,7 @@
 //
 // A run makes its order first and does its work in a function that is generic over `N: OrderName`, which the test calls at `Brand`. What the
 // calls answer is compared with what the rules of the events say, check by check.
+// Nothing is promised to anybody. Unless a test says otherwise its callers run in turn on its own thread.
 #![tactic(auto)]
 
 #[cfg(test)]

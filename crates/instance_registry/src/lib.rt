@@ -8,6 +8,10 @@
 // a twin. `twin` finds the managed half by a hash of the peer's number. `forget` takes the pair out, when the
 // managed half is freed or disposed of; `retain` takes many out in one pass. `len` and `entry` walk the pairs in
 // the order of their registration. No peer ever stands in two pairs.
+//
+// The registry is a part of the managed side, which alone changes it, under that side's lock. What is promised: the
+// pairs after each call are those of the definition, no peer ever stands in two pairs, a second twin is refused exactly
+// where the peer has one, and none of the calls but `register` takes memory. A call that is refused changes nothing.
 #![tactic(auto)]
 
 ghost use Rattle.std.specs.Prelude.{◌≡◌, ◌==◌, ◌↔◌, [], ◌∷◌, ◌++◌, Bool, filter, length, slice_get, Ok, Err, None, Some, OnOk, OnErr, IfErr};
@@ -20,7 +24,7 @@ use joint_model::{MNum, PNum};
 use std::alloc::Global;
 use std::marker::Model;
 
-/// The most pairs that a [`Registry`] holds.
+// The most pairs that a [`Registry`] holds.
 const MOST: usize = 4_294_967_295;
 
 /// Why a pair wasn't registered.

@@ -1,5 +1,26 @@
 // Both sides of the bridge behind two locks, the callers that know what they saw, and the one linked history.
 //
+// The life of a run:
+//
+//     Order::new, Shared::new                        both sides without objects, and the desk at which a caller waits for each thread and for the driver
+//       Desk::caller                                 a thread's caller, given out once; whoever has it makes the thread's entries
+//         Shared::managed, peer                      an operation of the caller's thread: its events, one after another
+//         Shared::snap, contracted, mirror, weaken,
+//         mark, sweep, restore, clear, resolve       an event of a cycle, by the driver's caller
+//         Shared::abandon, refused, finalise         what else the driver does
+//         Shared::tell                               one caller hears what another knows, without an entry
+//     Shared::finish                                 all callers are given back or wait at the desk: the history
+//
+// A thread's whole use of it is `let receipt = shared.managed(rt, &mut caller, line, &act)?;` for each of its lines: a [`Receipt`] has the reply, and
+// the numbers of the first and the last entry.
+//
+// Who runs meanwhile: anybody who has a caller. Each event is made in one hold of its own side's lock, no call holds both locks, and between two events
+// of an operation others may come.
+//
+// What is promised: each call makes just its entries, each of which may come where it stands and has a number above all that its caller knew; without memory
+// it makes none, or the first of two alone. The finished history is linked, has all notices that were ever queued, and has of each caller just what
+// that one made. That a waiting call goes on is not promised.
+//
 // Each seat of the order knows a beginning of each side's list and of each caller's own entries. The one fact that every type here keeps of
 // its seat is that these lines are those of a lawful past: a list of entries, each of which may come after those behind it. So whatever a
 // lawful past keeps holds under each lock and for each caller, although no lock covers both sides, and nothing has to be proved of threads.

@@ -1,4 +1,4 @@
-// The managed side of the bridge in its final form: the managed heap with the handles that its objects hold, the registry of twins, weak
+// The managed side of the bridge: the managed heap with the handles that its objects hold, the registry of twins, weak
 // cells, pins and notices, and the list of what was done to them.
 //
 // The life of a side. `ManagedSide::new` makes one without objects. A thread's events come to `step`: each answers as the joint model says and
@@ -7,6 +7,9 @@
 // A side is seen as its entries and the state of their replay: what holds at any time is that a lawful list has these entries and leads to
 // this state. Each call that makes an entry promises that it drew this entry and put it last, that the entry may come next by the definition
 // of the managed list, and that the state is the one after it. After a refusal for want of memory the side and the draw are as before.
+//
+// A side is no thread's own and has no lock: whoever has it in hand, by `&mut`, makes its next entry, so nobody else changes it during a call.
+// `joint_history` puts it under one. Between two calls others may have made entries here, and the peer side goes on all the time.
 //
 // `snap` frees what nothing holds, opens a cycle and answers its dead part as a graph. While a cycle is open `contracted` makes the entry of its
 // contraction, and `resolve` or `abandon` closes it. There is room for the entries that it still owes and for a notice per candidate, and the rows
