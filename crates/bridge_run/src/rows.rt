@@ -4,7 +4,7 @@ use crate::tests::{expect, expect_text};
 use bridge_script::ByteSink;
 use std::test::Fail;
 
-/// Rows behind one another: `#`, a space, the status and a newline, the script, `=` and a newline, and what is written.
+// Rows behind one another: `#`, a space, the status and a newline, the script, `=` and a newline, and what is written.
 const ROWS: &[u8] = b"# 0
 m1 bridge a bridge 1 user 1
 m1 bridge b bridge 1 user 1

@@ -61,15 +61,15 @@ const THREADS: &[&str] = &["threads"];
 
 const GENERATED: &[&str] = &["gen", "--seed", "0", "--size", "4", "--mode", "serial"];
 
-/// Four families, one of each shape: of the objects those stay that the statics g1 and s2 hold.
+// Four families, one of each shape: of the objects those stay that the statics g1 and s2 hold.
 const GENERATED_SUMMARY: &[u8] = b"seed 0 size 4 mode serial
 lines 27 cycles 1
 made managed 7 peers 6 handles 4
 live managed 4 peers 2 handles 2
 ";
 
-/// The words, the text, the number of the source's call that fails and of the sink's, 0 for none; and the status and what is written.
-/// A sink of which a call fails takes one byte a call.
+// The words, the text, the number of the source's call that fails and of the sink's, 0 for none; and the status and what is written.
+// A sink of which a call fails takes one byte a call.
 type Run = (
     &'static [&'static str],
     &'static [u8],
@@ -384,7 +384,7 @@ live managed 0 peers 0 handles 0
     ),
 ];
 
-/// The words of a command.
+// The words of a command.
 fn words_of(alloc: Global, words: &[&str]) -> Result<Vec<String>, AllocError> {
     let mut owned = Vec::new(alloc);
     for word in words {
@@ -428,7 +428,7 @@ fn each_run_has_its_status_and_its_text(rt: HostRuntime) -> Result<(), Fail> {
     Ok(())
 }
 
-/// The words, lines so many times, the status, and how the text that is written ends.
+// The words, lines so many times, the status, and how the text that is written ends.
 type Repeated = (
     &'static [&'static str],
     &'static [u8],
@@ -483,7 +483,7 @@ fn large_scripts_are_run_to_their_end(rt: HostRuntime) -> Result<(), Fail> {
     Ok(())
 }
 
-/// A reader and writer that fails at each call.
+// A reader and writer that fails at each call.
 #[derive(Drop)]
 struct Broken;
 
@@ -503,7 +503,7 @@ impl io::Write for Broken {
     }
 }
 
-/// A reader in memory that gives one byte a call.
+// A reader in memory that gives one byte a call.
 #[derive(Drop)]
 struct Drip<'a> {
     bytes: &'a [u8],
@@ -518,7 +518,7 @@ impl io::Read for Drip<'_> {
     }
 }
 
-/// A writer in memory that takes at most `most` bytes of a piece, and no more than half of it, rounded up.
+// A writer in memory that takes at most `most` bytes of a piece, and no more than half of it, rounded up.
 #[derive(Drop)]
 struct Slow {
     most: usize,
@@ -539,7 +539,7 @@ impl io::Write for Slow {
     }
 }
 
-/// The status of a run of the example over these streams.
+// The status of a run of the example over these streams.
 fn status_over<R: Threads + Wait + Sync, I: io::Read + Drop, O: io::Write + Drop>(
     rt: &R,
     alloc: Global,
@@ -569,7 +569,7 @@ fn streams_pass_each_byte_on_or_fail(rt: HostRuntime) -> Result<(), Fail> {
     Ok(())
 }
 
-/// The arguments of a process, which need not be text.
+// The arguments of a process, which need not be text.
 #[derive(Drop)]
 struct GivenArgs<'a> {
     args: &'a [&'a [u8]],
@@ -597,7 +597,7 @@ impl Env for GivenArgs<'_> {
     }
 }
 
-/// The arguments of a process, its input, the exit code, and what is written.
+// The arguments of a process, its input, the exit code, and what is written.
 type Process = ([&'static [u8]; 2], &'static [u8], u8, &'static [u8]);
 
 const PROCESSES: [Process; 4] = [
@@ -626,7 +626,7 @@ fn the_exit_code_is_the_status_for_the_words_that_were_given(rt: HostRuntime) ->
     Ok(())
 }
 
-/// A turnstile at which a managed and a peer thread wait for each other, for so many turns at most.
+// A turnstile at which a managed and a peer thread wait for each other, for so many turns at most.
 #[derive(Drop)]
 struct Meeting {
     managed: AtomicU64,
@@ -668,7 +668,7 @@ fn two_threads_meet(rt: HostRuntime) -> Result<(), Fail> {
     Ok(())
 }
 
-/// A turnstile at which every thread waits until the managed thread has come to its third line, for so many turns at most.
+// A turnstile at which every thread waits until the managed thread has come to its third line, for so many turns at most.
 #[derive(Drop)]
 struct AfterTwoLines {
     managed: AtomicU64,
@@ -688,7 +688,7 @@ impl Turnstile for AfterTwoLines {
     }
 }
 
-/// What a managed thread hands over in its first two lines; the third one does nothing.
+// What a managed thread hands over in its first two lines; the third one does nothing.
 const HANDED: &[u8] = b"m1 bridge a bridge 1 user 1
 m1 pass a s0
 m1 drop h

@@ -9,7 +9,7 @@ ghost use Rattle.command_words.specs.declared.commands.Command.{Command as TheCo
 use crate::commands::{Command, Mode};
 use itoa::Buffer;
 
-/// The most families of a generated script.
+// The most families of a generated script.
 const MOST_FAMILIES: u64 = 2800;
 
 /// The command that the words give; None exactly where they give none. It takes no memory.
@@ -23,7 +23,7 @@ pub fn command_of(words: &Vec<String>) -> Option<Command>
     }
 }
 
-/// The command that one word gives.
+// The command that one word gives.
 fn one_word(words: &[String]) -> Option<Command>
     requires { length words.now ≡ 1 }
     ensures { MatchOption result ((c : TheCommand) → AreWordsOf (map string_bytes words.now) c → ⊥) (λ c. AreWordsOf (map string_bytes words.now) c) }
@@ -35,7 +35,7 @@ fn one_word(words: &[String]) -> Option<Command>
     }
 }
 
-/// The command that seven words give.
+// The command that seven words give.
 fn seven_words(words: &[String]) -> Option<Command>
     requires { length words.now ≡ 7 }
     ensures { MatchOption result ((c : TheCommand) → AreWordsOf (map string_bytes words.now) c → ⊥) (λ c. AreWordsOf (map string_bytes words.now) c) }
@@ -59,7 +59,7 @@ fn seven_words(words: &[String]) -> Option<Command>
     })
 }
 
-/// The number of at most `most` behind a name.
+// The number of at most `most` behind a name.
 fn number_of(words: &[String], name: &str, most: u64) -> Option<u64>
     requires { length words.now ≡ 7 }
     ensures { MatchOption result ((n : ℕ) → n ≤ most → value_of (map string_bytes words.now) name.now ≢ Some (decimal n)) (λ n. (n ≤ most) × (value_of (map string_bytes words.now) name.now ≡ Some (decimal n))) }
@@ -70,7 +70,7 @@ fn number_of(words: &[String], name: &str, most: u64) -> Option<u64>
     }
 }
 
-/// The mode behind its name.
+// The mode behind its name.
 fn asked_mode(words: &[String]) -> Option<Mode>
     requires { length words.now ≡ 7 }
     ensures { MatchOption result ((m : TheMode) → value_of (map string_bytes words.now) (codes "--mode") ≢ Some (mode_text m)) (λ m. value_of (map string_bytes words.now) (codes "--mode") ≡ Some (mode_text m)) }
@@ -81,7 +81,7 @@ fn asked_mode(words: &[String]) -> Option<Mode>
     }
 }
 
-/// Whether the word at a place is this text.
+// Whether the word at a place is this text.
 fn is_at(words: &[String], i: usize, text: &str) -> bool
     requires { i < length words.now }
     ensures { result ≡ bytes_eq (word_at (map string_bytes words.now) i) text.now }
@@ -89,7 +89,7 @@ fn is_at(words: &[String], i: usize, text: &str) -> bool
     words[i].as_str() == text
 }
 
-/// The word at a place.
+// The word at a place.
 fn word(words: &[String], i: usize) -> &str
     requires { i < length words.now }
     ensures { result.now ≡ word_at (map string_bytes words.now) i }
@@ -97,7 +97,7 @@ fn word(words: &[String], i: usize) -> &str
     words[i].as_str()
 }
 
-/// The word behind a name, where the name stands first in one of the three pairs.
+// The word behind a name, where the name stands first in one of the three pairs.
 fn value<'a>(words: &'a [String], name: &str) -> Option<&'a str>
     requires { length words.now ≡ 7 }
     ensures { MatchOption result (value_of (map string_bytes words.now) name.now ≡ None) (λ v. value_of (map string_bytes words.now) name.now ≡ Some v.now) }
@@ -113,7 +113,7 @@ fn value<'a>(words: &'a [String], name: &str) -> Option<&'a str>
     }
 }
 
-/// The mode that a word names.
+// The mode that a word names.
 fn mode_of(word: &str) -> Option<Mode>
     ensures { MatchOption result ((m : TheMode) → mode_text m ≢ word.now) (λ m. mode_text m ≡ word.now) }
 {
@@ -126,7 +126,7 @@ fn mode_of(word: &str) -> Option<Mode>
     None
 }
 
-/// The number of at most `most` that a word writes, in decimal digits without a needless zero.
+// The number of at most `most` that a word writes, in decimal digits without a needless zero.
 fn number(word: &str, most: u64) -> Option<u64>
     ensures { MatchOption result ((n : ℕ) → n ≤ most → decimal n ≢ word.now) (λ n. (n ≤ most) × (decimal n ≡ word.now)) }
 {
@@ -143,7 +143,7 @@ fn number(word: &str, most: u64) -> Option<u64>
     }
 }
 
-/// Whether two texts are the same.
+// Whether two texts are the same.
 fn is_same(a: &str, b: &str) -> bool
     ensures { MatchBool result (a.now ≡ b.now) (a.now ≢ b.now) }
 {

@@ -5,7 +5,7 @@ use crate::reading::command_of;
 use std::alloc::{AllocError, Global};
 use std::test::Fail;
 
-/// The command that the words give.
+// The command that the words give.
 fn command(alloc: Global, words: &[&str]) -> Result<Option<Command>, AllocError> {
     let mut list = Vec::new(alloc);
     for word in words {

@@ -66,7 +66,7 @@ pub fn read_list(alloc: Global, text: &str) -> Result<DeadGraph, ListFault> {
     Ok(builder.finish())
 }
 
-/// Reads the nodes' lines.
+// Reads the nodes' lines.
 fn read_nodes(builder: &mut GraphBuilder, lines: &mut Lines, nodes: u32) -> Result<(), ListFault> {
     for i in 0..nodes {
         let handle = match lines.next().ok_or(ListFault::End)? {
@@ -86,7 +86,7 @@ fn read_nodes(builder: &mut GraphBuilder, lines: &mut Lines, nodes: u32) -> Resu
     Ok(())
 }
 
-/// Reads the edges' lines.
+// Reads the edges' lines.
 fn read_edges(builder: &mut GraphBuilder, lines: &mut Lines, edges: u32) -> Result<(), ListFault> {
     for _ in 0..edges {
         let (from, to) = pair(lines.next().ok_or(ListFault::End)?).ok_or(ListFault::Edge)?;
@@ -98,7 +98,7 @@ fn read_edges(builder: &mut GraphBuilder, lines: &mut Lines, edges: u32) -> Resu
     Ok(())
 }
 
-/// The two numbers of a line.
+// The two numbers of a line.
 fn pair(line: &str) -> Option<(u32, u32)> {
     let (left, right) = line.split_once(' ')?;
     Some((left.parse().ok()?, right.parse().ok()?))

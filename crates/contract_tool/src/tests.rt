@@ -11,7 +11,7 @@ use std::process::Abort;
 use std::test::Fail;
 use xref_list::Components;
 
-/// An edge list, and the components and cross-references in it, line by line.
+// An edge list, and the components and cross-references in it, line by line.
 type Case = (&'static str, &'static str);
 
 const CASES: [Case; 8] = [
@@ -42,7 +42,7 @@ const CASES: [Case; 8] = [
     ),
 ];
 
-/// Components and cross-references as they are printed.
+// Components and cross-references as they are printed.
 fn printed(alloc: Global, found: &Components) -> io::Result<Vec<u8>> {
     let mut out = Vec::new(alloc);
     write_all(&mut out, found)?;
@@ -61,13 +61,13 @@ fn worked_graphs(rt: HostRuntime) -> Result<(), Fail> {
     Ok(())
 }
 
-/// The next number that is drawn, below a limit.
+// The next number that is drawn, below a limit.
 fn draw(seed: &mut u32, below: u32) -> u32 {
     *seed = seed.wrapping_mul(1_664_525).wrapping_add(1_013_904_223);
     (*seed >> 16).checked_rem(below).unwrap_or(0)
 }
 
-/// A graph of so many nodes and edges that is drawn at random.
+// A graph of so many nodes and edges that is drawn at random.
 fn drawn(
     rt: &impl Abort,
     alloc: Global,

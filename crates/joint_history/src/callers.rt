@@ -38,6 +38,7 @@ pub struct Receipt {
 }
 
 impl<N: OrderName> Caller<N> {
+    /// The caller of a thread, with a seat that holds its pass.
     pub(crate) fn new(thread: Thread, seat: Seat) -> Caller<N>
         requires thread { IsThread thread }
         requires order { seat.order ≡ N.order }

@@ -12,7 +12,7 @@ use bridge_script::{Failed, Line, Sink, write_text};
 use command_words::Mode;
 use joint_model::History;
 
-/// The word of a mode.
+// The word of a mode.
 fn word_of(mode: Mode) -> &'static [u8]
     ensures text { result.now ≡ mode_text mode }
     ensures short { length result.now ≤ 7 }
@@ -23,7 +23,7 @@ fn word_of(mode: Mode) -> &'static [u8]
     }
 }
 
-/// The end of a line that counts objects.
+// The end of a line that counts objects.
 fn add_objects(line: &mut Line, objects: &Objects)
     requires { 87 ≤ line.old.room }
     ensures { AddsText line.old line.new (objects_text objects.now) 87 }
@@ -37,7 +37,7 @@ fn add_objects(line: &mut Line, objects: &Objects)
     line.text(b"\n");
 }
 
-/// The line of the words that asked for the run.
+// The line of the words that asked for the run.
 fn add_command(line: &mut Line, seed: u64, size: u32, mode: Mode)
     requires { 66 ≤ line.old.room }
     ensures { AddsText line.old line.new (command_text seed size mode) 66 }
@@ -51,7 +51,7 @@ fn add_command(line: &mut Line, seed: u64, size: u32, mode: Mode)
     line.text(b"\n");
 }
 
-/// The three lines of numbers.
+// The three lines of numbers.
 fn add_counts(line: &mut Line, lines: u32, tally: &Tally)
     requires { 237 ≤ line.old.room }
     ensures { AddsText line.old line.new (counts_text lines tally.now) 237 }

@@ -21,21 +21,21 @@ pub struct Tally {
     pub left: Objects,
 }
 
-/// No object.
+// No object.
 const NONE: Objects = Objects {
     managed: 0,
     peers: 0,
     handles: 0,
 };
 
-/// Whether an event opens a cycle.
+// Whether an event opens a cycle.
 fn opens_cycle(op: &Op) -> bool
     ensures { result ≡ opens_cycle op.now }
 {
     matches!(op, Op::Snap { .. })
 }
 
-/// Whether an event with that reply made a managed object.
+// Whether an event with that reply made a managed object.
 fn makes_managed(op: &Op, reply: &Reply) -> bool
     ensures { result ≡ makes_managed op.now reply.now }
 {
@@ -46,7 +46,7 @@ fn makes_managed(op: &Op, reply: &Reply) -> bool
     }
 }
 
-/// Whether an event with that reply made a peer.
+// Whether an event with that reply made a peer.
 fn makes_peer(op: &Op, reply: &Reply) -> bool
     ensures { result ≡ makes_peer op.now reply.now }
 {
@@ -57,7 +57,7 @@ fn makes_peer(op: &Op, reply: &Reply) -> bool
     }
 }
 
-/// Whether an event with that reply made a handle.
+// Whether an event with that reply made a handle.
 fn makes_handle(op: &Op, reply: &Reply) -> bool
     ensures { result ≡ makes_handle op.now reply.now }
 {
@@ -69,7 +69,7 @@ fn makes_handle(op: &Op, reply: &Reply) -> bool
     }
 }
 
-/// Whether an event with that reply removed a handle.
+// Whether an event with that reply removed a handle.
 fn removes_handle(op: &Op, reply: &Reply) -> bool
     ensures { result ≡ removes_handle op.now reply.now }
 {
@@ -80,7 +80,7 @@ fn removes_handle(op: &Op, reply: &Reply) -> bool
     }
 }
 
-/// How many managed objects a reply says were freed.
+// How many managed objects a reply says were freed.
 fn freed_managed(reply: &Reply) -> u32
     ensures { result ≡ freed_managed_by reply.now }
 {
@@ -90,7 +90,7 @@ fn freed_managed(reply: &Reply) -> u32
     }
 }
 
-/// How many peers a reply says were freed.
+// How many peers a reply says were freed.
 fn freed_peers(reply: &Reply) -> u32
     ensures { result ≡ freed_peers_by reply.now }
 {
@@ -101,7 +101,7 @@ fn freed_peers(reply: &Reply) -> u32
 }
 
 impl Objects {
-    /// These and what an event with that reply made.
+    // These and what an event with that reply made.
     fn more(self, op: &Op, reply: &Reply) -> Objects
         requires { AreUpTo (2 ^ 64 - 2) self }
         ensures { result ≡ more self op.now reply.now }
@@ -113,7 +113,7 @@ impl Objects {
         }
     }
 
-    /// These without what an event with that reply freed or removed.
+    // These without what an event with that reply freed or removed.
     fn less(self, op: &Op, reply: &Reply) -> Objects
         ensures { result ≡ less self op.now reply.now }
     {

@@ -24,7 +24,7 @@ const NONE: Span = Span { first: 0, count: 0 };
 
 const ONE: Span = Span { first: 0, count: 1 };
 
-/// A bridge object that a cycle frees with its peer, and a peer of a peer thread with two global names, of which one is removed.
+// A bridge object that a cycle frees with its peer, and a peer of a peer thread with two global names, of which one is removed.
 const EVENTS: [(Op, Reply); 12] = [
     (
         Op::Make {
@@ -64,7 +64,7 @@ const EVENTS: [(Op, Reply); 12] = [
     (Op::Resolve { cycle: CYCLE }, Reply::Freed(ONE)),
 ];
 
-/// Whether each number may rise.
+// Whether each number may rise.
 fn has_room(tally: &Tally) -> bool
     ensures { IsTrue result → IsUpTo (2 ^ 64 - 2) tally.now }
 {
@@ -106,7 +106,7 @@ fn a_tally_counts_what_is_made_and_what_is_left(rt: HostRuntime) {
     assert!(rt; tally.cycles == 1 && tally.made == made && tally.left == left);
 }
 
-/// The history of no entries, by which two objects were freed.
+// The history of no entries, by which two objects were freed.
 fn no_entries(alloc: Global) -> Result<History, AllocError> {
     History::join(
         alloc,
@@ -117,7 +117,7 @@ fn no_entries(alloc: Global) -> Result<History, AllocError> {
     )
 }
 
-/// Its summary.
+// Its summary.
 const SUMMARY: &[u8] = b"seed 18446744073709551615 size 2800 mode threads
 lines 18928 cycles 0
 made managed 0 peers 0 handles 0

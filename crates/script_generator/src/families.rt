@@ -7,14 +7,14 @@ ghost use Rattle.script_generator.specs.Generated.{family, cycle_after};
 use joint_model::{Act, Kind, PhaseWord, Sort, StaticNo, Thread, Var};
 use std::alloc::{AllocError, Global};
 
-/// The variables that families use.
+// The variables that families use.
 const VAR_A: Var = Var(0);
 
 const VAR_B: Var = Var(1);
 
 const VAR_C: Var = Var(2);
 
-/// A user's bridge with one field, whose peer has none.
+// A user's bridge with one field, whose peer has none.
 fn user_bridge(v: Var) -> Act
     ensures { result ≡ Act.Bridge v Kind.Bridge 1 Sort.User 0 }
 {
@@ -27,7 +27,7 @@ fn user_bridge(v: Var) -> Act
     }
 }
 
-/// The first object's first field holds the second object.
+// The first object's first field holds the second object.
 fn set(v: Var, w: Var) -> Act
     ensures { result ≡ Act.Set v 0 (Some w) }
 {
@@ -38,7 +38,7 @@ fn set(v: Var, w: Var) -> Act
     }
 }
 
-/// Two bridges that hold each other, one of them over a plain object.
+// Two bridges that hold each other, one of them over a plain object.
 fn bridge_circle() -> [Act; 9]
     ensures { result ≡ bridge_circle_acts }
 {
@@ -59,7 +59,7 @@ fn bridge_circle() -> [Act; 9]
     ]
 }
 
-/// A framework's leaf bridge that a plain object holds, which a static of the managed heap holds.
+// A framework's leaf bridge that a plain object holds, which a static of the managed heap holds.
 fn cached_leaf(x: StaticNo) -> [Act; 6]
     ensures { result ≡ cached_leaf_acts x }
 {
@@ -83,7 +83,7 @@ fn cached_leaf(x: StaticNo) -> [Act; 6]
     ]
 }
 
-/// A bridge that holds a leaf, and whose peer a static of the peer heap holds.
+// A bridge that holds a leaf, and whose peer a static of the peer heap holds.
 fn passed_bridge(x: StaticNo) -> [Act; 6]
     ensures { result ≡ passed_bridge_acts x }
 {
@@ -101,7 +101,7 @@ fn passed_bridge(x: StaticNo) -> [Act; 6]
     ]
 }
 
-/// Two peers that hold each other.
+// Two peers that hold each other.
 fn peer_circle() -> [Act; 6]
     ensures { result ≡ peer_circle_acts }
 {
@@ -121,7 +121,7 @@ fn peer_circle() -> [Act; 6]
     ]
 }
 
-/// Puts the lines of a thread last.
+// Puts the lines of a thread last.
 fn push_lines(
     lines: &mut Vec<(Thread, Act)>,
     thread: Thread,

@@ -8,7 +8,7 @@ use bridge_script::Script;
 use joint_model::{Act, Thread};
 use std::alloc::{AllocError, Global};
 
-/// The lines of a script of so many families.
+// The lines of a script of so many families.
 fn lines_of(alloc: Global, seed: u64, size: u32) -> Result<Vec<(Thread, Act)>, AllocError>
     requires { size ≤ 2800 }
     ensures { IfOk result (λ lines. lines.items ≡ generated seed size) }

@@ -23,7 +23,7 @@ use std::marker::Brand;
 use std::sync::Wait;
 use std::thread::Threads;
 
-/// The line of a whole cycle.
+// The line of a whole cycle.
 const CYCLE: Act = Act::PhaseLine {
     word: PhaseWord::Cycle,
 };
