@@ -5,14 +5,13 @@ use Rattle.joint_model.specs.declared.names.Phase.{Phase}
 use Rattle.joint_model.specs.declared.names.Phase.TheVariants as at
 use Rattle.joint_model.specs.declared.names.PhaseWord.{PhaseWord}
 use Rattle.joint_model.specs.declared.names.PhaseWord.TheVariants as word
-use Rattle.joint_model.specs.declared.lines.Act.TheVariants as act
 use Rattle.joint_model.specs.declared.events.Entry.{Entry}
 use Rattle.joint_model.specs.declared.events.Reply.{Reply}
 use Rattle.joint_model.specs.Phases.{next_phase, phases_left, phases_of}
 use Rattle.joint_model.proofs.Deciding.{none_some, some-same}
-use Rattle.bridge_cycle.specs.Progress.{EndsWithReply, BreaksLine, StopsForMemory, BreaksWord, LeadTo, Progress, Runs, RunsLine, RunsPhases, RunsWord, last_reply}
+use Rattle.bridge_cycle.specs.Progress.{EndsWithReply, StopsForMemory, LeadTo, Progress, Runs, RunsPhases, last_reply}
 use Rattle.bridge_cycle.specs.Words.{Closes, IsOnePhase, IsPartway, Lacks, due_in, next_word}
-use Rattle.bridge_cycle.proofs.Making.{append_nil, ran_nothing, runs_more}
+use Rattle.bridge_cycle.proofs.Making.{append_nil, runs_more}
 
 -- a word that isn't refused is due
 pub turn : (p : Phase) (w : PhaseWord) (next : Phase) → IsOnePhase w → next_phase p w ≡ Some next → p ≡ due_in w
@@ -27,30 +26,6 @@ turn at.Swept word.Restore next o e = refl
 turn at.Restored word.Resolve next o e = refl
 turn p w next o e = absurd (none_some next e)
 
-pub turn_cycle : (p : Phase) (next : Phase) → next_phase p word.Cycle ≡ Some next → p ≡ at.Idle
-turn_cycle at.Idle next e = refl
-turn_cycle p next e = absurd (none_some next e)
-
-pub next_is_due : (p : Phase) → p ≡ due_in (next_word p)
-next_is_due at.Idle = refl
-next_is_due at.Snapped = refl
-next_is_due at.Contracted = refl
-next_is_due at.Mirrored = refl
-next_is_due at.Weakened = refl
-next_is_due at.Marked = refl
-next_is_due at.Swept = refl
-next_is_due at.Restored = refl
-
-pub next_is_one : (p : Phase) → IsOnePhase (next_word p)
-next_is_one at.Idle = tt
-next_is_one at.Snapped = tt
-next_is_one at.Contracted = tt
-next_is_one at.Mirrored = tt
-next_is_one at.Weakened = tt
-next_is_one at.Marked = tt
-next_is_one at.Swept = tt
-next_is_one at.Restored = tt
-
 -- where a phase's word leads
 leads_one : (p q : Phase) (w : PhaseWord) (next : Phase) → next_phase p w ≡ Some next → LeadTo p (w ∷ []) q → q ≡ next
 leads_one p q w next e l = l.2 ∙ some-same l.0 next (sym l.1 ∙ e)
@@ -60,9 +35,6 @@ record Goes (p q : Phase) : Type 0 where
   left : phases_left p ≡ next_word p ∷ phases_left q
   busy : q ≡ at.Idle → ⊥
   less : length (phases_left q) < length (phases_left p)
-
-busy_now : (p q : Phase) → q ≡ p → (p ≡ at.Idle → ⊥) → q ≡ at.Idle → ⊥
-busy_now p q e n i = n (sym e ∙ i)
 
 goes : (p q : Phase) → (p ≡ at.Idle → ⊥) → (p ≡ at.Restored → ⊥) → LeadTo p (next_word p ∷ []) q → Goes p q
 goes at.Idle q n r l = absurd (n refl)
@@ -99,9 +71,6 @@ left_some at.Restored n = ([], refl)
 
 pub runs_on : (old mid new : Progress) (index : ℕ) (ws vs : List PhaseWord) → Runs old mid index ws → Runs mid new index vs → Runs old new index (ws ++ vs)
 runs_on old mid new index ws vs a b = (a.0 ++ b.0, runs_more old mid new index ws vs a.0 b.0 a.1 b.1)
-
-pub partway_first : (old : Progress) (index : ℕ) → (old.phase ≡ at.Idle → ⊥) → IsPartway old old index
-partway_first old index busy = record { busy = busy; run = []; all = refl; runs = ran_nothing old index }
 
 -- one phase more
 pub partway_more : (old mid new : Progress) (index : ℕ) (w : PhaseWord) (reply : Reply) → IsPartway old mid index → (mid.phase ≡ at.Restored → ⊥) → w ≡ next_word mid.phase → EndsWithReply mid new index (w ∷ []) reply → IsPartway old new index × (length (phases_left new.phase) < length (phases_left mid.phase))
@@ -156,9 +125,6 @@ last_snoc [] e = refl
 last_snoc (x ∷ []) e = refl
 last_snoc (x ∷ y ∷ es) e = last_snoc (y ∷ es) e
 
-pub closes_answers : (old new : Progress) (index : ℕ) (ws : List PhaseWord) (reply : Reply) → Closes old new index ws reply → EndsWithReply old new index ws reply
-closes_answers old new index ws reply c = record { entries = c.before ++ c.last ∷ []; runs = c.runs; last = c.replies ∙ sym (last_snoc c.before c.last) }
-
 -- a whole cycle
 snapped_now : (p q : Phase) → p ≡ at.Idle → LeadTo p (word.Snap ∷ []) q → q ≡ at.Snapped
 snapped_now p q e l = leads_one p q word.Snap at.Snapped (ap (λ z. next_phase z word.Snap) e) l
@@ -173,9 +139,6 @@ cycle_closes old mid new index first reply idle a c =
       runs = runs_more old mid new index (word.Snap ∷ []) (phases_left at.Snapped) a.entries (c.before ++ c.last ∷ []) runs rest;
       last = c.replies ∙ sym (ap last_reply (sym (append_assoc a.entries c.before (c.last ∷ []))) ∙ last_snoc (a.entries ++ c.before) c.last);
     }
-
-pub cycle_lacks : (old new : Progress) (index : ℕ) → Runs old new index [] → StopsForMemory old new index (phases_of word.Cycle)
-cycle_lacks old new index none = record { run = []; failed = word.Snap; left = phases_left at.Snapped; all = refl; takes = tt; runs = none }
 
 pub cycle_breaks : (old mid new : Progress) (index : ℕ) (first : Reply) → old.phase ≡ at.Idle → EndsWithReply old mid index (word.Snap ∷ []) first → StopsForMemory mid new index (phases_left mid.phase) → StopsForMemory old new index (phases_of word.Cycle)
 cycle_breaks old mid new index first idle a b =
@@ -201,22 +164,6 @@ one_word word.Mark o = refl
 one_word word.Sweep o = refl
 one_word word.Restore o = refl
 one_word word.Resolve o = refl
-
-pub line_runs : (old new : Progress) (index : ℕ) (w : PhaseWord) (next : Phase) (reply : Reply) → next_phase old.phase w ≡ Some next → EndsWithReply old new index (phases_of w) reply → RunsLine old new index (act.PhaseLine w) reply
-line_runs old new index w next reply e a = record { entries = a.entries; runs = subst (λ (o : Option Phase). RunsWord old new index w o a.entries) (sym e) a.runs; last = a.last }
-
-pub line_breaks : (old new : Progress) (index : ℕ) (w : PhaseWord) (next : Phase) → next_phase old.phase w ≡ Some next → StopsForMemory old new index (phases_of w) → BreaksLine old new index (act.PhaseLine w)
-line_breaks old new index w next e b = subst (λ (o : Option Phase). BreaksWord old new index w o) (sym e) b
-
-pub one_runs : (old new : Progress) (index : ℕ) (w : PhaseWord) (reply : Reply) → IsOnePhase w → EndsWithReply old new index (w ∷ []) reply → EndsWithReply old new index (phases_of w) reply
-one_runs old new index w reply o a = subst (λ (ws : List PhaseWord). EndsWithReply old new index ws reply) (sym (one_word w o)) a
-
-pub one_lacks : (old new : Progress) (index : ℕ) (w : PhaseWord) → IsOnePhase w → Lacks old new index w → StopsForMemory old new index (phases_of w)
-one_lacks old new index w o lacks = record { run = []; failed = w; left = []; all = one_word w o; takes = lacks.takes; runs = lacks.runs }
-
--- a word that is refused found no memory for its refusal
-pub line_lacks : (old new : Progress) (index : ℕ) (w : PhaseWord) → next_phase old.phase w ≡ None → Runs old new index [] → BreaksLine old new index (act.PhaseLine w)
-line_lacks old new index w e none = subst (λ (o : Option Phase). BreaksWord old new index w o) (sym e) none
 
 -- what holds of an answer, by another fact of it
 pub if_ok_map : {X E : Type 0} (P Q : X → Type 0) (r : Result X E) → IfOk r P → ((x : X) → P x → Q x) → IfOk r Q

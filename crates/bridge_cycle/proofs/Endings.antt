@@ -25,10 +25,6 @@ use Rattle.bridge_cycle.specs.Held.{Fields, IsHeld, IsCycleMarked, IsCycleRestor
 use Rattle.bridge_cycle.specs.Progress.{AreOnLine, cycle_after, line_of, last_reply}
 use Rattle.bridge_cycle.proofs.Making.{Steps, append_nil, at_own_line, cycle_on, line_below, makes_more, makes_nothing, makes_one, ran_one, room_on, stands_in, stands_on}
 
--- the fields after a call that leaves the driver in a phase of the same cycle
-abbrev pub then_in : Fields → View → Fields
-then_in f new = record f { progress = record f.progress { view = new } }
-
 module _ (f : Fields) (index : ℕ) (h : IsHeld f) (e : f.progress.phase ≡ at.Marked) (l : line_of f.progress ≤ index) where
   abbrev in_marked : IsCycleMarked f h.stand h.seen
   in_marked = stands_in f at.Marked h e

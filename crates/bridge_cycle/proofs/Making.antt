@@ -122,20 +122,6 @@ ran_none old new index none cycle candidates phase = (
   },
 )
 
-pub ran_nothing : (d : Progress) (index : ℕ) → Runs d d index []
-ran_nothing d index = (
-  [],
-  record {
-    enters = record { made = record { own_more = sym (append_nil (line_known d.view (caller_line C))); more = λ i. prefix_refl (known d.view i); above = tt }; places = tt; cycle = refl; candidates = refl };
-    events = refl;
-    leads = refl;
-  },
-)
-
--- what an answer of phases holds
-pub answers_run : (old new : Progress) (index : ℕ) (ws : List PhaseWord) (reply : Reply) → EndsWithReply old new index ws reply → Runs old new index ws
-answers_run old new index ws reply a = (a.entries, a.runs)
-
 -- entries after entries
 above_more : (v w : View) (es fs : List Entry) → ((i : ℕ) → IsPrefix (known v i) (known w i)) → AreAbove v es → AreAbove w fs → AreAbove v (es ++ fs)
 above_more v w [] [] more a b = tt

@@ -15,7 +15,6 @@ use Rattle.joint_model.specs.declared.events.Op.TheVariants as op
 use Rattle.joint_model.specs.declared.events.Reply.{Reply}
 use Rattle.joint_model.specs.Control.{Stand, idle, snapped, contracted, weakening, marked, restoring, restored, candidates_of, IsAtRest, IsPhaseOf}
 use Rattle.joint_model.specs.Control.{last_line as control_line}
-use Rattle.joint_model.specs.HistoryLines.{caller_line}
 use Rattle.joint_model.specs.Lines.{IsDriver}
 use Rattle.joint_model.specs.Listed.{answers_of}
 use Rattle.joint_model.specs.Managed.{Managed, OpenCycle}
@@ -25,7 +24,6 @@ use Rattle.joint_model.specs.Told.{nothing, phase_of}
 use Rattle.joint_model.proofs.Deciding.{none_some}
 use Rattle.known_laws.specs.Pasts.{end_of}
 use Rattle.order_table.specs.declared.views.View.{View}
-use Rattle.order_table.specs.Facts.{line_entries}
 use Rattle.order_table.specs.Views.{known}
 use Rattle.joint_history.specs.Callers.{Hears, KnowsNothing, Pass, last_index}
 use Rattle.joint_history.specs.Driven.{DriverMakesNone, DriverStands, IsStillAt, MakesFinalise, MakesRefusal, MayFinalise, MayRefuseWord, driver_entry}
@@ -243,6 +241,3 @@ heard_of p a b d e h = record {
 -- a caller that knows nothing is idle, and has no entry
 pub idle_first : (p : Pass) → KnowsNothing p.view → IsIdle p
 idle_first p none is = let r = driver_first p.view none in (r.stands.known, r.stands.stands.come)
-
-pub line_first : (d : Progress) → KnowsNothing d.view → line_of d ≡ 0
-line_first d none = ap (λ ks. last_index (line_entries ks)) (none (caller_line C))

@@ -20,15 +20,6 @@ dead_part_on s t u p q = record {
   contraction = λ c e comps xrefs d. q.contraction c (sym p.cycle ∙ e) comps xrefs (p.contraction c e comps xrefs d);
 }
 
--- where no cycle is open there is none
-pub dead_part_closed : (s t : Managed) → s.cycle ≡ None → t.cycle ≡ None → HasSameDeadPart s t
-dead_part_closed s t p q = record {
-  cycle = p ∙ sym q;
-  handles = λ c e m w. absurd (none_some c (sym p ∙ e));
-  fields = λ c e m w. absurd (none_some c (sym p ∙ e));
-  contraction = λ c e comps xrefs d. absurd (none_some c (sym p ∙ e));
-}
-
 -- the candidates are the same
 pub candidates_same : (s t : Managed) → HasSameDeadPart s t → candidates_of s ≡ candidates_of t
 candidates_same s t d = ap (λ (o : Option OpenCycle). elim o [ None ↦ [] | Some c ↦ c.candidates ]) d.cycle

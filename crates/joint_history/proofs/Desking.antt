@@ -11,7 +11,7 @@ use Rattle.joint_model.specs.Lines.{IsThread}
 use Rattle.order_table.specs.declared.views.View.{View}
 use Rattle.order_table.specs.Facts.{line_entries}
 use Rattle.order_table.specs.Tells.{IsOfCaller, Parts}
-use Rattle.joint_history.specs.Callers.{CallerKnows, HasReleased, HoldsPass, KnowsNothing, Pass}
+use Rattle.joint_history.specs.Callers.{CallerKnows, HasReleased, KnowsNothing, Pass}
 use Rattle.joint_history.specs.Desks.{AreAll, ArePlaced, HoldsFrom, WaitsAt, thread_of}
 
 -- the thread of a place
@@ -52,9 +52,6 @@ pub holds_on : (n : ℕ) (old left right : View) → n < 17 → HoldsFrom n old 
 holds_on n old left right l h p j more few i q =
     p.stayed i (λ e. let a = thread_is n l in let b = thread_is j few in let same = lines_apart (thread_of n) (thread_of j) i a.0 b.0 e q in let x = a.1 in let y = b.1 in omega arith)
     (h j (omega arith) few i q)
-
-pub pass_went : (n : ℕ) (old left right : View) → HoldsFrom n old → n < 17 → Parts (IsOfCaller (thread_of n)) old left right → HoldsPass (thread_of n) right
-pass_went n old left right h l p i q = p.went i q (h n (omega arith) l i q)
 
 pub nothing_on : (G : ℕ → Type 0) (old left right : View) → Parts G old left right → KnowsNothing old → KnowsNothing left × KnowsNothing right
 nothing_on G old left right p k = (λ i. (p.know i).0 ∙ k i, λ i. (p.know i).1 ∙ k i)

@@ -19,7 +19,7 @@ use Rattle.joint_model.specs.Sides.{Side, peer_rules}
 use Rattle.joint_model.specs.Told.{Told, nothing, sweep_of}
 use Rattle.known_laws.proofs.Conditions.{marked_is_the_drivers, sweep_leaves_none}
 use Rattle.peer_side.specs.declared.side.Swept.{Swept}
-use Rattle.peer_side.specs.Sides.{IsMarkingOf, MayEnd}
+use Rattle.peer_side.specs.Sides.{MayEnd}
 use Rattle.order_table.specs.declared.views.View.{View}
 use Rattle.order_table.specs.Views.{OrderId, Shown, known, Owns}
 use Rattle.joint_history.specs.declared.marks.Begun.{Begun}
@@ -118,24 +118,9 @@ module _ (order : OrderId) (seat seat' : Shown) (old new : Side PeerReplay) (e :
   pub peer_keeps : (i : ℕ) → Owns seat.view i → Owns seat'.view i
   peer_keeps i o = owns_on seat.view seat'.view 1 d.kept d.appends.grows i o
 
--- no marking is open where none is named, and one is open where one is named
-pub none_open : (n : Option (Number × Thread)) (o : Option Marking) → IsMarkingOf n o → n ≡ None → o ≡ None
-none_open None None w e = refl
-none_open None (Some mk) w e = absurd w
-none_open (Some m) o w e = (let f : Some m ≡ None = e in cc)
-
-pub some_open : (n : Option (Number × Thread)) (o : Option Marking) → IsMarkingOf n o → IsSome n → IsSome o
-some_open None o w i = (let f : false ≡ true = i in cc)
-some_open (Some m) None w i = absurd w
-some_open (Some m) (Some mk) w i = refl
-
 -- who made nothing stands where it stood
 pub made_none : (v : View) → DriverMakesNone v v
 made_none v = record { own = refl; more = λ i. prefix_refl (known v i); stands = λ index stand m s. s }
-
--- a marking may be ended before the own one begins, and in the marked phase
-pub may_end_first : (v : View) (index : ℕ) → MayMarkCycle v index → MayEndMarking v index
-may_end_first v index w = record { stand = weakening w.opened w.count w.weakened false; seen = w.seen; stands = w.stands; now = (w.all, refl, refl) }
 
 pub may_end_own : (v : View) (index : ℕ) → HasBegunMarking v index → MayEndMarking v index
 may_end_own v index w = record { stand = marked w.opened; seen = w.seen; stands = w.stands; now = refl }

@@ -39,12 +39,6 @@ use Rattle.joint_history.proofs.Turning.{first_may, met_then_release, stands_kno
 some_is : {A : Type 0} (x y : A) → Some x ≡ Some y → x ≡ y
 some_is x y e = ap (λ o. unwrap_or o x) e
 
--- a thread that runs operations is a thread, and one that takes is a managed one
-pub own_is_thread : (t : Thread) → IsOwnThread t → IsThread t
-own_is_thread (M n) is = is
-own_is_thread (P n) is = is
-own_is_thread C is = absurd is
-
 -- what an event leaves by its result
 pub none_from : {A : Type 0} (o : Option A) → ((x : A) → o ≡ Some x → ⊥) → o ≡ None
 none_from None w = refl

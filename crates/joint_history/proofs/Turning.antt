@@ -81,10 +81,6 @@ first_may t v index o is b f = record { doing = b.doing; stands = b.stands; turn
 pub begins_still : (t : Thread) (old new : View) (index : ℕ) → MakesNone t old new → MayBegin t old index → MayBegin t new index
 begins_still t old new index m b = record { doing = b.doing; stands = m.stands index b.doing b.stands; done = b.done }
 
--- after an event that leaves nothing to release, it may begin the next operation
-pub begins_next : (t : Thread) (old new : View) (n index : ℕ) (o : Op) (reply : Reply) (cites : Option ℕ) (told : Told) → Makes t old new (numbered n (made_by t index o reply cites)) told → IsDone (doing_from t (numbered n (made_by t index o reply cites))) → MayBegin t new index
-begins_next t old new n index o reply cites told m w = record { doing = doing_from t (numbered n (made_by t index o reply cites)); stands = m.stands; done = w }
-
 -- an `adopt` after its make
 pub then_adopt : (n : ℕ) (old new : View) (k index : ℕ) (sort : Sort) (f : ℕ) (p : PNum) (h : HNum) (cites : Option ℕ) (told : Told) (v : Var) (kind : Kind) (fields : ℕ) → Makes (M n) old new (numbered k (made_by (M n) index (op.Make sort f) (says.Made p h) cites)) told → IsLine (M n) (act.Bridge v kind fields sort f)
     → MayMake (M n) new index (op.Adopt v kind fields p h) (Some k)

@@ -46,17 +46,6 @@ Rises-apart xs a b x r e f = elim (cases_eq a b) [
     by (inl l) = (let o = Rises-order xs a b x x r e f l in omega (arith, o))
     by (inr l) = (let o = Rises-order xs b a x x r f e l in omega (arith, o))
 
-zero-at : (n y v : ℕ) → slice_get (replicate n 0) y ≡ Some v → v ≡ 0
-zero-at zero y v e = absurd (none_some v e)
-zero-at (suc n) zero v e = sym (some-same 0 v e)
-zero-at (suc n) (suc y) v e = zero-at n y v e
-
-pub ArePlaces-none : (dead places : List ℕ) (n : ℕ) → places ≡ replicate n 0 → ArePlaces 0 dead places
-ArePlaces-none dead places n is = record {
-  sound = λ y k e. absurd (let z = zero-at n y (k + 1) (subst (λ ps. slice_get ps y ≡ Some (k + 1)) is e) in omega (arith, z));
-  full = λ k y l e. absurd (omega (arith, l));
-}
-
 -- one place more
 pub ArePlaces-next : (dead places : List ℕ) (i x : ℕ) → Rises dead → slice_get dead i ≡ Some x → x < length places → ArePlaces i dead places → ArePlaces (i + 1) dead (set places x (i + 1))
 ArePlaces-next dead places i x r at within p = record {
@@ -93,17 +82,6 @@ nodes-below h held ms i d r l =
     All-map (λ (n : Node). n.number.0 < (get_or ms i d).0) (node_of h held) (take i ms)
     (take-all (λ (m : MNum). m.0 < (get_or ms i d).0) ms i (λ k x w e. Rises-order (managed_numbers ms) k i x.0 (get_or ms i d).0 r (number-at ms k x e) (number-at ms i (get_or ms i d) (slice_get-get_or ms i d l)) w))
 
--- a node more
-pub nodes-more : (h : Heap) (held : List (Option ℕ)) (ms : List MNum) (i : ℕ) (d : MNum) → i < length ms → map (node_of h held) (take (i + 1) ms) ≡ map (node_of h held) (take i ms) ++ node_of h held (get_or ms i d) ∷ []
-nodes-more h held ms i d l = ap (map (node_of h held)) (take_more ms i d l) ∙ map-append (node_of h held) (take i ms) (get_or ms i d ∷ [])
-
--- a node more has no edge
-pub rows-push : (es : List (List ℕ)) → ((a : ℕ) → get_or es a [] ≡ []) → (a : ℕ) → get_or (es ++ [] ∷ []) a [] ≡ []
-rows-push [] h zero = refl
-rows-push [] h (suc a) = refl
-rows-push (e ∷ es) h zero = h zero
-rows-push (e ∷ es) h (suc a) = rows-push es (λ b. h (suc b)) a
-
 -- a row of edges gets one more
 pub leads-more : (es : List (List ℕ)) (from to a k : ℕ) → from < length es → Leads (set es from (get_or es from [] ++ to ∷ [])) a k ↔ (Leads es a k ⊎ ((a ≡ from) × (k ≡ to)))
 leads-more es from to a k l = elim (cases_eq a from) [
@@ -121,19 +99,6 @@ leads-more es from to a k l = elim (cases_eq a from) [
         λ c. elim c [ inl o ↦ subst (λ xs. Contains xs k) (sym row) o | inr e ↦ absurd (n e.0) ],
       ))
 ]
-
--- a field that holds nothing, or a row without a place, adds no edge
-pub no-place : (places : List ℕ) (es : List (List ℕ)) (i a k : ℕ) (field : Option ℕ) → (IsPlaceOf places field k → ⊥) → Leads es a k ↔ (Leads es a k ⊎ ((a ≡ i) × IsPlaceOf places field k))
-no-place places es i a k field n = (λ c. inl c, λ c. elim c [ inl o ↦ o | inr e ↦ absurd (n e.1) ])
-
-pub none-placed : (places : List ℕ) (k : ℕ) → IsPlaceOf places None k → ⊥
-none-placed places k p = none_some p.0 p.1
-
-pub zero-placed : (places : List ℕ) (y k place : ℕ) → slice_get places y ≡ Some place → place ≡ 0 → IsPlaceOf places (Some y) k → ⊥
-zero-placed places y k place at z p = (
-    let there : slice_get places y ≡ Some (k + 1) = subst (λ w. slice_get places w ≡ Some (k + 1)) (sym (some-same y p.0 p.1)) p.2 in
-    let same : place ≡ k + 1 = some-same place (k + 1) (sym at ∙ there) in
-    omega (arith, same, z))
 
 pub placed-more : (places : List ℕ) (es : List (List ℕ)) (i a k y place : ℕ) → i < length es → slice_get places y ≡ Some place → (place ≡ 0 → ⊥)
     → Leads (set es i (get_or es i [] ++ (place - 1) ∷ [])) a k ↔ (Leads es a k ⊎ ((a ≡ i) × IsPlaceOf places (Some y) k))
@@ -180,9 +145,6 @@ fields-more places fields j i o old mid new at f g a k =
       ],
     )
 
-pub fields-none : (places : List ℕ) (i : ℕ) (old : List (List ℕ)) (a k : ℕ) → Leads old a k ↔ (Leads old a k ⊎ ((a ≡ i) × HasPlaced places [] k))
-fields-none places i old a k = (λ c. inl c, λ c. elim c [ inl o ↦ o | inr p ↦ absurd (Contains-nil (Some p.1.0) p.1.1) ])
-
 -- the rows that have places are those of the dead part
 pub placed-dead : (h : Heap) (dead places : List ℕ) (i x k : ℕ) → ArePlaces (length dead) dead places → slice_get dead i ≡ Some x → HasPlaced places (fields_of h x) k ↔ HasDeadField h dead i k
 placed-dead h dead places i x k p at = (
@@ -208,9 +170,6 @@ rows-more h dead places i x old mid new p at f g a k = (
     ]
   ],
 )
-
-pub rows-none : (h : Heap) (dead : List ℕ) (old : List (List ℕ)) (a k : ℕ) → Leads old a k ↔ (Leads old a k ⊎ ((a < 0) × HasDeadField h dead a k))
-rows-none h dead old a k = (λ c. inl c, λ c. elim c [ inl o ↦ o | inr d ↦ absurd (omega (arith, d.0)) ])
 
 pub rows-all : (h : Heap) (dead : List ℕ) (n : ℕ) (old new : List (List ℕ)) → length dead ≤ n → ((a k : ℕ) → Leads new a k ↔ (Leads old a k ⊎ ((a < n) × HasDeadField h dead a k))) → (a k : ℕ) → Leads new a k ↔ (Leads old a k ⊎ HasDeadField h dead a k)
 rows-all h dead n old new l f a k = (

@@ -44,20 +44,6 @@ map-filter {X} {Y} f p (x ∷ xs) = by (p (f x)) (map-filter f p xs)
     by true e = ap (λ zs. f x ∷ zs) e
     by false e = e
 
--- what is left of a filter after a place has at most what was left before it
-pub filter-shorter : {X : Type 0} (p : X → Bool) (xs : List X) (i : ℕ) (d : X) → i < length xs → length (filter p (drop (i + 1) xs)) ≤ length (filter p (drop i xs))
-filter-shorter {X} p xs i d l = subst (λ ys. length (filter p (drop (i + 1) xs)) ≤ length (filter p ys)) (sym (drop_more xs i d l)) (by (p (get_or xs i d)))
-  where
-    by : (b : Bool) → length (filter p (drop (i + 1) xs)) ≤ length (cond b (get_or xs i d ∷ filter p (drop (i + 1) xs)) (filter p (drop (i + 1) xs)))
-    by true = omega arith
-    by false = omega arith
-
-pub filter-one_less : {X : Type 0} (p : X → Bool) (xs : List X) (i : ℕ) (d : X) → i < length xs → p (get_or xs i d) ≡ true → length (filter p (drop (i + 1) xs)) + 1 ≡ length (filter p (drop i xs))
-filter-one_less {X} p xs i d l t =
-    let longer : length (filter p (drop i xs)) ≡ length (cond (p (get_or xs i d)) (get_or xs i d ∷ filter p (drop (i + 1) xs)) (filter p (drop (i + 1) xs))) = ap (λ ys. length (filter p ys)) (drop_more xs i d l) in
-    let here : length (cond (p (get_or xs i d)) (get_or xs i d ∷ filter p (drop (i + 1) xs)) (filter p (drop (i + 1) xs))) ≡ suc (length (filter p (drop (i + 1) xs))) = ap (λ b. length (cond b (get_or xs i d ∷ filter p (drop (i + 1) xs)) (filter p (drop (i + 1) xs)))) t in
-    omega (arith, longer, here)
-
 -- the test of a mark
 marked-from : (o : Option Bool) → elim o [ None ↦ false | Some b ↦ b ] ≡ true → o ≡ Some true
 marked-from None e = cc

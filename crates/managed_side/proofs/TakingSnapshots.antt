@@ -67,9 +67,6 @@ reached-marked v w s freed candidates dead a f m k = elim ((f.marks m).0 k) [
   | inr r ↦ inr (Reached-mono (Contains candidates) (IsBridge s) (EdgeOf v) (ManagedEdge s) (λ x c. ((picked-is v w s freed candidates dead a f x).0 c).0) (λ x y e. edge-fields v s x y a.heap a.plain e) m r)
 ]
 
-marked-slot : (v w : HeapRows) (s : Managed) (freed candidates dead : List ℕ) → AreSlotMarks v s → PartsUnmarked v w s.held freed candidates dead → (m : ℕ) → IsManagedReached s m → IsMarked w.marks m
-marked-slot v w s freed candidates dead a f m r = (f.marks m).1 (inl ((a.marks m).1 r))
-
 marked-bridge : (v w : HeapRows) (s : Managed) (freed candidates dead : List ℕ) → AreSlotMarks v s → PartsUnmarked v w s.held freed candidates dead → (m : ℕ) → IsBridgeReached s m → IsMarked w.marks m
 marked-bridge v w s freed candidates dead a f m r = elim (mark-decided v.marks r.root) [
   | inl k ↦ (f.marks m).1 (inl ((a.marks m).1 (Reached-further (IsManagedRoot s) (ManagedEdge s) r.root m ((a.marks r.root).0 k) r.reaches)))

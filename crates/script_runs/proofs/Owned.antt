@@ -5,7 +5,6 @@ use Rattle.std.specs.Prelude.{slice_get}
 use Rattle.std.proofs.lemmas.List.{append-nil}
 use Rattle.joint_model.specs.declared.names.Thread.{Thread}
 use Rattle.joint_model.specs.declared.names.Thread.TheVariants.{M, P, C}
-use Rattle.joint_model.specs.declared.names.Phase.TheVariants.{Idle}
 use Rattle.joint_model.specs.declared.lines.Act.{Act}
 use Rattle.joint_model.specs.HistoryLines.{caller_line}
 use Rattle.joint_model.specs.Lines.{IsDriver}
@@ -30,9 +29,6 @@ own_nothing p k = ap line_entries (k (caller_line p.thread))
 
 pub idle_first : (p : Pass) → KnowsNothing p.view → IsIdle p
 idle_first p k is = let r = driver_first p.view k in (r.stands.known, r.stands.stands.come)
-
-pub first_holds : (script : List (Thread × Act)) (p : Pass) → KnowsNothing p.view → HoldsItsFirst script 0 p opening_standing
-first_holds script p k = (own_nothing p k, refl)
 
 pub own_idle : (p : Pass) → IsOwnThread p.thread → IsIdle p
 own_idle p o is = absurd (by p.thread o is)
@@ -68,14 +64,6 @@ pub record DriverHolds (script : List (Thread × Act)) (n last : ℕ) (d : Progr
   pub holds : HoldsItsFirst script n (pass_of d) standing
   pub stands : StandsAt standing d
   pub line : standing.line ≡ last
-
-pub driver_starts : (script : List (Thread × Act)) (d : Progress) → KnowsNothing d.view → Idle ≡ d.phase → 0 ≡ d.candidates → DriverHolds script 0 0 d
-driver_starts script d k idle none = record {
-  standing = opening_standing;
-  holds = first_holds script (pass_of d) k;
-  stands = record { phase = idle; candidates = none };
-  line = refl;
-}
 
 pub driver_holds : (script : List (Thread × Act)) (n last : ℕ) (d f : Progress) (line : Thread × Act) → slice_get script n ≡ Some line → is_thread C line.0 ≡ true → DrivesLine d f (n + 1) line.1 → DriverHolds script n last d → DriverHolds script (n + 1) (n + 1) f
 driver_holds script n last d f line e is k h =

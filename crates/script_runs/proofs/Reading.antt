@@ -6,18 +6,14 @@ use Rattle.std.proofs.lemmas.List.Elements.{All-contains}
 use Rattle.std.proofs.lemmas.Option.{slice_get-get_or}
 use Rattle.joint_model.specs.declared.names.Kind.TheVariants.{Plain}
 use Rattle.joint_model.specs.declared.names.Thread.{Thread}
-use Rattle.joint_model.specs.declared.names.Thread.TheVariants.{M, C}
+use Rattle.joint_model.specs.declared.names.Thread.TheVariants.{M}
 use Rattle.joint_model.specs.declared.lines.Act.{Act}
 use Rattle.joint_model.specs.declared.lines.Act.TheVariants as act
-use Rattle.joint_model.specs.Lines.{IsLine}
 use Rattle.joint_model.specs.PeerReplay.{is_thread}
 use Rattle.joint_model.proofs.Members.{Contains-at}
-use Rattle.joint_laws.proofs.PeerEntries.{same_thread}
-use Rattle.joint_history.specs.Operations.{IsOperationOf, IsOwnThread}
 use Rattle.run_laws.specs.Threads.{thread_lines}
 use Rattle.run_laws.proofs.ByThreads.{lines-next}
 use Rattle.script_runs.specs.Running.{CanRun, IsRunnable}
-use Rattle.script_runs.proofs.Making.{runnable_operation}
 
 -- what a loop reads past the end
 abbrev pub no_line : Thread × Act
@@ -31,12 +27,6 @@ there script i l = slice_get-get_or script i no_line l
 
 pub runnable : (script : List (Thread × Act)) (i : ℕ) → i < length script → CanRun script → IsRunnable (line_of script i)
 runnable script i l can = All-contains IsRunnable script (line_of script i) can.each (Contains-at script i (line_of script i) (there script i l))
-
-pub operation_there : (script : List (Thread × Act)) (i : ℕ) (t : Thread) → i < length script → CanRun script → IsOwnThread t → is_thread t (line_of script i).0 ≡ true → IsOperationOf t (line_of script i).1
-operation_there script i t l can own is = runnable_operation t (line_of script i).1 own (subst (λ u. IsRunnable (u, (line_of script i).1)) (sym (same_thread t (line_of script i).0 is)) (runnable script i l can))
-
-pub driven_there : (script : List (Thread × Act)) (i : ℕ) → i < length script → CanRun script → is_thread C (line_of script i).0 ≡ true → IsLine C (line_of script i).1
-driven_there script i l can is = subst (λ u. IsLine u (line_of script i).1) (sym (same_thread C (line_of script i).0 is)) (runnable script i l can).lawful
 
 pub none_so_far : (script : List (Thread × Act)) (i : ℕ) (t : Thread) → i < length script → is_thread t (line_of script i).0 ≡ false → thread_lines t (take i script) ≡ [] → thread_lines t (take (i + 1) script) ≡ []
 none_so_far script i t l other none =

@@ -116,12 +116,6 @@ pub record AreFirstOthers (others : List Pass) : Type 0 where
   pub thread : (i : ℕ) (p : Pass) → slice_get others i ≡ Some p → p.thread ≡ thread_of (i + 1)
   pub new : (i : ℕ) (p : Pass) → slice_get others i ≡ Some p → KnowsNothing p.view
 
-pub no_others : AreFirstOthers []
-no_others = record { thread = λ i p e. absurd (none-some p e); new = λ i p e. absurd (none-some p e) }
-  where
-    none-some : {A : Type 0} (x : A) → None ≡ Some x → ⊥
-    none-some x q = cc
-
 pub one_other : (others : List Pass) (p : Pass) (n : ℕ) → length others + 1 ≡ n → p.thread ≡ thread_of n → KnowsNothing p.view → AreFirstOthers others → AreFirstOthers (others ++ p ∷ [])
 one_other others p n e thread new h = record {
   thread = λ i q at. ⊎_elim (λ w. h.thread i q w) (λ w. ap (λ (z : Pass). z.thread) (sym w.1) ∙ (thread ∙ ap thread_of (let same : n ≡ i + 1 = (let a = w.0 in omega (arith, a, e)) in same))) (push_cases others p i q at);

@@ -11,11 +11,10 @@ use Rattle.joint_model.specs.declared.events.Reply.TheVariants as says
 use Rattle.joint_model.specs.Draws.{numbered}
 use Rattle.joint_model.specs.Heaps.{Answered, place, slot}
 use Rattle.joint_model.specs.Managed.{Managed, OpenCycle, adopted, met, given_up}
-use Rattle.joint_model.specs.ManagedReplay.{ManagedReplay, opening_replay, managed_answer, adopt_by, meet_by, give_by, registered}
+use Rattle.joint_model.specs.ManagedReplay.{ManagedReplay, managed_answer, adopt_by, meet_by, give_by, registered}
 use Rattle.joint_model.specs.Run.{thread_number}
 use Rattle.joint_model.specs.Sides.{Side, AddsLawful, managed_rules}
 use Rattle.joint_model.specs.Told.{Told, nothing}
-use Rattle.joint_model.proofs.Members.{Contains-nil}
 use Rattle.joint_model.proofs.HeapLemmas.{adopt_by-managed}
 use Rattle.joint_laws.specs.ManagedInvariants.{IsReplayKept}
 use Rattle.joint_laws.proofs.ManagedMoves.{managed_line-goes_on, adopted-goes_on, met-goes_on, given_up-goes_on}
@@ -31,15 +30,6 @@ AdoptsNext old new n = (h : ℕ) → Contains new.adopted h → Contains old.ado
 -- an open cycle has so many candidates
 abbrev pub HasWaiting : Option OpenCycle → ℕ → Type 0
 HasWaiting cycle waiting = (c : OpenCycle) → cycle ≡ Some c → length c.candidates ≡ waiting
-
--- nothing was made
-pub driven-opening : (s : Side ManagedReplay) (waiting : ℕ) → s.entries ≡ [] → s.state ≡ opening_replay → IsDriven s 0 waiting
-driven-opening s waiting e q =
-    let none : length s.entries ≡ 0 = ap length e in record {
-      counted = (λ k d l. absurd (omega (arith, l, none)), omega (arith, none));
-      adopts = λ h c. absurd (Contains-nil h (subst (λ (z : ManagedReplay). Contains z.adopted h) q c));
-      waits = λ c o. (let closed = ap (λ (z : ManagedReplay). z.managed.cycle) q in absurd cc);
-    }
 
 -- a call that adopts no handle but the one with the number of the entries so far, and leaves so many candidates
 pub driven-on : (old new : Side ManagedReplay) (before after waiting waits : ℕ) (m : Made) (told : Told) → AddsLawful managed_rules counting before after old new m told
