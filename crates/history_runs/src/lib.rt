@@ -12,3 +12,5 @@
 mod memory;
 #[cfg(test)]
 mod runs;
+#[cfg(test)]
+mod threads;
