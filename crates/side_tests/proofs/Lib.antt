@@ -1,4 +1,6 @@
+pub mod Circles
 pub mod Counting
 pub mod ManagedDrives
+pub mod Moves
 pub mod PeerSteps
 pub mod Snapshots

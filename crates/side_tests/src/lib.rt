@@ -12,4 +12,6 @@ mod callers;
 #[cfg(test)]
 mod managed;
 #[cfg(test)]
+mod mirrors;
+#[cfg(test)]
 mod peers;

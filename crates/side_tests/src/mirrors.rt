@@ -1,0 +1,416 @@
+// A mirrored cycle on a peer side, by its calls: two peers, each under a handle of m1's making, whose managed objects lead to one another.
+
+ghost use Rattle.std.specs.Prelude.{◌≡◌, [], ◌∷◌, IfOk, IsTrue, None, OnOk, Some};
+ghost use Rattle.joint_model.specs.PeerReplay.{TableRow, peer_answer, row_of};
+ghost use Rattle.joint_model.specs.Told.{nothing};
+ghost use Rattle.peer_side.specs.Makings.{IsSideStep};
+ghost use Rattle.peer_side.specs.Mirroring.{strong_row};
+ghost use Rattle.peer_side.specs.Sides.{seen};
+ghost use Rattle.side_tests.specs.Circles.{circle, nodes, with_pair, IsPlainOp, IsStillOp};
+ghost use Rattle.side_tests.specs.Drives.{IsCounted};
+
+use bridge_graph::{DeadGraph, GraphBuilder};
+use global_handles::{Back, Strength};
+use handle_weaken::{restore_all, restore_one, weaken_all, weaken_one};
+use joint_model::Reply::{self, Cleared, Mark, MarkOpen, NoMark, P, Refs, Swept};
+use joint_model::{
+    Act, Alive, Counter, Cycle, HNum, MNum, Marking, Op, PNum, Sort, Span, StaticNo, Thread,
+};
+use peer_mirror::{clear, install};
+use peer_side::{BeginFault, PeerSide};
+use std::alloc::{AllocError, Global};
+use std::marker::Model;
+use std::test::Fail;
+use xref_list::{Components, ComponentsBuilder};
+
+// What is done, and what that answers.
+type Row = (Call, Reply);
+
+// No peers, in the list of freed ones.
+const NONE: Span = Span { first: 0, count: 0 };
+
+// What is done to a side, in short.
+#[derive(Clone, Copy)]
+enum Call {
+    // the circle is mirrored, and its references go
+    Install,
+    Clear,
+    // the next handle is weakened, and restored; and both are
+    Weaken,
+    WeakenAll,
+    Restore,
+    RestoreAll,
+    // the driver's begin and sweep
+    MarkBegin,
+    MarkSweep,
+    // m1 lands the first handle in the first static; p1 empties it, and collects
+    Land,
+    Empty,
+    Collect,
+    // a look at how many references stand
+    References,
+}
+
+impl Call {
+    // The operation of a step in full; None where it is another call.
+    fn op(self) -> Option<(Thread, Op)> {
+        let x = StaticNo(0);
+        match self {
+            Call::Land => Some((Thread::M(1), Op::Land { h: HNum(1), x })),
+            Call::Empty => Some((Thread::P(1), Op::Line(Act::Store { x, v: None }))),
+            Call::Collect => Some((Thread::P(1), Op::Line(Act::Collect))),
+            _ => None,
+        }
+    }
+}
+
+// A side with the count that numbers its entries; whether its cycle was mirrored, and whether its references stand; and how many of its handles it
+// has weakened, and restored.
+#[derive(Drop)]
+struct Driven {
+    side: PeerSide,
+    draw: Counter,
+    mirrored: bool,
+    standing: bool,
+    weak: u32,
+    back: u32,
+}
+
+impl Model for Driven {
+    ghost use Rattle.joint_model.specs.PeerReplay.{PeerReplay};
+    ghost use Rattle.side_tests.specs.Circles.{IsCircle};
+
+    ghost Value = { PeerReplay };
+
+    ghost view = { λ s. s.side.state };
+
+    ghost invariant = { λ s. IsCircle s.side s.draw s.mirrored s.standing s.weak s.back };
+}
+
+impl Driven {
+    // The circle is mirrored; None where it was, or a handle isn't strong.
+    fn installs(&mut self, alloc: Global) -> Result<Option<Reply>, AllocError> {
+        if self.mirrored || !is_strong(&self.side, 1) || !is_strong(&self.side, 2) {
+            return Ok(None);
+        }
+        let graph = two_nodes(alloc)?;
+        let comps = one_component(alloc)?;
+        let refs = install(
+            &mut self.side,
+            &mut self.draw,
+            2,
+            Cycle(1),
+            0,
+            &graph,
+            &comps,
+        )?;
+        self.mirrored = true;
+        self.standing = true;
+        self.weak = 0;
+        self.back = 0;
+        Ok(Some(Refs(refs)))
+    }
+
+    // The next handle is weakened; None where it isn't its turn, or it isn't strong.
+    fn weakens(&mut self) -> Option<Reply> {
+        let h = self.weak + 1;
+        if !self.standing || h > 2 || !is_strong(&self.side, h) {
+            return None;
+        }
+        weaken_one(&mut self.side, &mut self.draw, 3, 0, HNum(h));
+        self.weak = h;
+        Some(Reply::Ok)
+    }
+
+    // Both handles are weakened; None where it isn't their turn, or one isn't strong.
+    fn weakens_all(&mut self, alloc: Global) -> Result<Option<Reply>, AllocError> {
+        if !self.standing || self.weak != 0 {
+            return Ok(None);
+        }
+        if !is_strong(&self.side, 1) || !is_strong(&self.side, 2) {
+            return Ok(None);
+        }
+        let graph = two_nodes(alloc)?;
+        weaken_all(&mut self.side, &mut self.draw, 3, 0, &graph);
+        self.weak = 2;
+        Ok(Some(Reply::Ok))
+    }
+
+    // The next handle is restored; None where it isn't its turn, or it isn't in the table.
+    fn restores(&mut self) -> Option<Reply> {
+        let h = self.back + 1;
+        if !self.standing || h > self.weak || !is_tabled(&self.side, h) {
+            return None;
+        }
+        let back = restore_one(&mut self.side, &mut self.draw, 4, HNum(h));
+        self.back = h;
+        Some(match back {
+            Back::Alive => Reply::Alive,
+            Back::Cleared => Cleared,
+        })
+    }
+
+    // Both handles are restored, with one answer; None where it isn't their turn, one isn't in the table, or their answers differ.
+    fn restores_all(&mut self, alloc: Global) -> Result<Option<Reply>, AllocError> {
+        if !self.standing || self.weak != 2 || self.back != 0 {
+            return Ok(None);
+        }
+        if !is_tabled(&self.side, 1) || !is_tabled(&self.side, 2) {
+            return Ok(None);
+        }
+        let graph = two_nodes(alloc)?;
+        let mut alive = Alive::new(alloc, 2)?;
+        restore_all(&mut self.side, &mut self.draw, 4, &graph, &mut alive);
+        self.back = 2;
+        Ok(both(alive.at(0), alive.at(1)))
+    }
+
+    // The references go; None where it isn't their turn, or a handle isn't strong.
+    fn clears(&mut self) -> Option<Reply> {
+        if !self.standing || self.back != 2 {
+            return None;
+        }
+        if !is_strong(&self.side, 1) || !is_strong(&self.side, 2) {
+            return None;
+        }
+        clear(&mut self.side, &mut self.draw, 4, Cycle(1));
+        self.standing = false;
+        Some(Reply::Ok)
+    }
+
+    // The driver's begin: the marking that it opened, or the open one.
+    fn begins(&mut self) -> Result<Reply, AllocError> {
+        match self.side.mark_begin(&mut self.draw, Thread::C, 3) {
+            Ok(marking) => Ok(Mark(marking)),
+            Err(BeginFault::MarkOpen { marking }) => Ok(MarkOpen(marking)),
+            Err(BeginFault::OutOfMemory) => Err(AllocError),
+        }
+    }
+
+    // The driver's sweep: the marking that it ended, with what it freed, or that none is open.
+    fn sweeps(&mut self) -> Reply {
+        match self.side.sweep(&mut self.draw, Thread::C, 3) {
+            Ok(swept) => Swept(swept.marking, swept.freed),
+            Err(_) => NoMark,
+        }
+    }
+
+    // The answer to a call that is a step; None where it is another.
+    fn steps(&mut self, call: Call) -> Result<Option<Reply>, AllocError> {
+        match call.op() {
+            None => Ok(None),
+            Some((caller, op)) => self.does(caller, op),
+        }
+    }
+
+    // The answer to a step that leaves the cycle as it is; None where it is none.
+    fn does(&mut self, caller: Thread, op: Op) -> Result<Option<Reply>, AllocError> {
+        if !is_still(caller, &op) {
+            return Ok(None);
+        }
+        let reply = self.side.step(&mut self.draw, caller, 1, &op, None)?;
+        Ok(Some(reply))
+    }
+
+    // The answer to a call; None where it is none that may be made.
+    fn answer(&mut self, alloc: Global, call: Call) -> Result<Option<Reply>, AllocError> {
+        match call {
+            Call::Install => self.installs(alloc),
+            Call::Clear => Ok(self.clears()),
+            Call::Weaken => Ok(self.weakens()),
+            Call::WeakenAll => self.weakens_all(alloc),
+            Call::Restore => Ok(self.restores()),
+            Call::RestoreAll => self.restores_all(alloc),
+            Call::MarkBegin => Ok(Some(self.begins()?)),
+            Call::MarkSweep => Ok(Some(self.sweeps())),
+            Call::References => Ok(Some(Refs(self.side.refs()))),
+            _ => self.steps(call),
+        }
+    }
+
+    // The place of the first row that is answered otherwise than it says; None where all are answered so.
+    fn first_miss(&mut self, alloc: Global, rows: &[Row]) -> Result<Option<usize>, AllocError> {
+        for i in 0..rows.len() {
+            let (call, reply) = rows[i];
+            if self.answer(alloc, call)? != Some(reply) {
+                return Ok(Some(i));
+            }
+        }
+        Ok(None)
+    }
+}
+
+// The one answer of two restores; None where they differ.
+fn both(first: Option<bool>, second: Option<bool>) -> Option<Reply> {
+    match (first, second) {
+        (Some(true), Some(true)) => Some(Reply::Alive),
+        (Some(false), Some(false)) => Some(Cleared),
+        _ => None,
+    }
+}
+
+// Whether the handle is strong, and its peer isn't freed.
+fn is_strong(side: &PeerSide, h: u32) -> bool
+    ensures { IsTrue result → row_of side.now.state h ≡ Some strong_row }
+{
+    match side.handles().row(HNum(h)) {
+        Some(row) => row.strength == Strength::Strong && !row.cleared,
+        None => false,
+    }
+}
+
+// Whether the handle is in the table.
+pub(crate) fn is_tabled(side: &PeerSide, h: u32) -> bool
+    ensures { IsTrue result → (row : TableRow) × (row_of side.now.state h ≡ Some row) }
+{
+    side.handles().row(HNum(h)).is_some()
+}
+
+// Whether this is a step that leaves the cycle as it is, by this caller.
+pub(crate) fn is_still(caller: Thread, op: &Op) -> bool
+    ensures { IsTrue result → IsStillOp caller op.now }
+{
+    match op {
+        Op::Line(Act::Collect) => caller == Thread::P(1),
+        Op::Line(Act::Store { x, v: None }) => caller == Thread::P(1) && x.0 < 16,
+        Op::Land { h: _, x } => caller == Thread::M(1) && x.0 < 16,
+        _ => false,
+    }
+}
+
+// Makes an event that asks nothing of the side.
+pub(crate) fn makes(
+    side: &mut PeerSide,
+    draw: &mut Counter,
+    caller: Thread,
+    op: Op,
+) -> Result<(), AllocError>
+    requires step { IsSideStep caller op }
+    requires plain { IsPlainOp op }
+    requires counted { IsCounted (seen side.old) draw.old }
+    ensures state { OnOk result (side.new.state ≡ (peer_answer side.old.state caller op None nothing).state) }
+    ensures reserve { side.new.reserve ≡ side.old.reserve }
+    ensures counted { OnOk result (IsCounted (seen side.new) draw.new) }
+{
+    side.step(draw, caller, 1, &op, None)?;
+    Ok(())
+}
+
+// m1 makes a peer with a field, and a handle on it.
+pub(crate) fn make(side: &mut PeerSide, draw: &mut Counter) -> Result<(), AllocError>
+    requires { IsCounted (seen side.old) draw.old }
+    ensures state { OnOk result (side.new.state ≡ with_pair side.old.state) }
+    ensures reserve { side.new.reserve ≡ side.old.reserve }
+    ensures counted { OnOk result (IsCounted (seen side.new) draw.new) }
+{
+    let op = Op::Make {
+        sort: Sort::Framework,
+        fields: 1,
+    };
+    makes(side, draw, Thread::M(1), op)?;
+    Ok(())
+}
+
+// The dead part of two bridge objects.
+fn two_nodes(alloc: Global) -> Result<DeadGraph, AllocError>
+    ensures { IfOk result (λ g. g.nodes ≡ nodes) }
+{
+    let mut builder = GraphBuilder::new(alloc);
+    builder.node(MNum(1), Some(HNum(1)), false)?;
+    builder.node(MNum(2), Some(HNum(2)), false)?;
+    Ok(builder.finish())
+}
+
+// Their only component.
+fn one_component(alloc: Global) -> Result<Components, AllocError>
+    ensures comps { IfOk result (λ c. c.comps ≡ circle) }
+    ensures pairs { IfOk result (λ c. c.pairs ≡ []) }
+{
+    let mut builder = ComponentsBuilder::new(alloc);
+    builder.component(&[0, 1])?;
+    let listing = builder.finish()?;
+    Ok(listing)
+}
+
+// A side with both peers.
+fn start(alloc: Global) -> Result<Driven, AllocError> {
+    let mut side = PeerSide::new(alloc, 1)?;
+    let mut draw = Counter::new();
+    make(&mut side, &mut draw)?;
+    make(&mut side, &mut draw)?;
+    Ok(Driven {
+        side,
+        draw,
+        mirrored: false,
+        standing: false,
+        weak: 0,
+        back: 0,
+    })
+}
+
+// The place of the first row of a table that is answered otherwise than it says, on a new side.
+fn play(alloc: Global, rows: &[Row]) -> Result<Option<usize>, AllocError> {
+    let mut driven = start(alloc)?;
+    driven.first_miss(alloc, rows)
+}
+
+// While one handle is strong, its peer holds the other one over the circle; and while neither is, a peer in a static does.
+const CIRCLE: [Row; 19] = [
+    (Call::References, Refs(0)),
+    (Call::Install, Refs(2)),
+    (Call::References, Refs(2)),
+    (Call::Weaken, Reply::Ok),
+    (Call::Collect, Swept(Marking(1), NONE)),
+    (Call::Weaken, Reply::Ok),
+    (Call::Land, P(PNum(1))),
+    (Call::MarkBegin, Mark(Marking(2))),
+    (Call::MarkBegin, MarkOpen(Marking(2))),
+    (Call::MarkSweep, Swept(Marking(2), NONE)),
+    (Call::MarkSweep, NoMark),
+    (Call::Restore, Reply::Alive),
+    (Call::Empty, Reply::Ok),
+    (Call::Collect, Swept(Marking(3), NONE)),
+    (Call::Restore, Reply::Alive),
+    (Call::References, Refs(2)),
+    (Call::Clear, Reply::Ok),
+    (Call::References, Refs(0)),
+    (Call::Collect, Swept(Marking(4), NONE)),
+];
+
+// Both are weakened and restored at once, with a landing in between that brings both peers back.
+const AT_ONCE: [Row; 9] = [
+    (Call::Install, Refs(2)),
+    (Call::WeakenAll, Reply::Ok),
+    (Call::MarkBegin, Mark(Marking(1))),
+    (Call::Land, P(PNum(1))),
+    (Call::Empty, Reply::Ok),
+    (Call::MarkSweep, Swept(Marking(1), NONE)),
+    (Call::RestoreAll, Reply::Alive),
+    (Call::Clear, Reply::Ok),
+    (Call::References, Refs(0)),
+];
+
+// Nothing holds two peers under weak handles, whatever references stand between them.
+const FREED: [Row; 5] = [
+    (Call::Install, Refs(2)),
+    (Call::WeakenAll, Reply::Ok),
+    (
+        Call::Collect,
+        Swept(Marking(1), Span { first: 0, count: 2 }),
+    ),
+    (Call::RestoreAll, Cleared),
+    (Call::References, Refs(2)),
+];
+
+#[test]
+fn one_peer_of_a_circle_holds_the_other(rt: HostRuntime) -> Result<(), Fail> {
+    assert_eq!(rt; play(rt.alloc(), CIRCLE.as_slice())?, None);
+    Ok(())
+}
+
+#[test]
+fn handles_are_weakened_and_restored_at_once(rt: HostRuntime) -> Result<(), Fail> {
+    assert_eq!(rt; play(rt.alloc(), AT_ONCE.as_slice())?, None);
+    assert_eq!(rt; play(rt.alloc(), FREED.as_slice())?, None);
+    Ok(())
+}
