@@ -1,5 +1,6 @@
 pub mod Circles
 pub mod Counting
+pub mod Holding
 pub mod ManagedDrives
 pub mod Moves
 pub mod PeerSteps

@@ -10,6 +10,8 @@
 #[cfg(test)]
 mod callers;
 #[cfg(test)]
+mod loose;
+#[cfg(test)]
 mod managed;
 #[cfg(test)]
 mod mirrors;

@@ -32,7 +32,7 @@ type Row = (Thread, Call, Reply);
 
 // What is done to a side, in short: variables, fields, statics, cells, objects and peers stand by their numbers.
 #[derive(Clone, Copy)]
-enum Call {
+pub(crate) enum Call {
     New(u8, u8),
     Copy(u8, u8),
     Set(u8, u8, u8),
@@ -156,7 +156,7 @@ impl Call {
 // A side with the count that numbers its entries, how many candidates an open cycle has, and how many nodes the last snapshot's graph had. Each
 // handle that was adopted is below the number of the entries.
 #[derive(Drop)]
-struct Driven {
+pub(crate) struct Driven {
     side: ManagedSide,
     draw: Counter,
     waiting: u32,
@@ -311,7 +311,7 @@ impl Driven {
     }
 
     // The answer to a call; None where it is none that may be made.
-    fn answer(
+    pub(crate) fn answer(
         &mut self,
         alloc: Global,
         caller: Thread,
@@ -354,14 +354,19 @@ struct Played {
     lists: ManagedLists,
 }
 
-// Makes the calls of a table on a new side.
-fn play(alloc: Global, rows: &[Row]) -> Result<Played, AllocError> {
-    let mut driven = Driven {
+// A new side.
+pub(crate) fn start(alloc: Global) -> Result<Driven, AllocError> {
+    Ok(Driven {
         side: ManagedSide::new(alloc, 8)?,
         draw: Counter::new(),
         waiting: 0,
         nodes: 0,
-    };
+    })
+}
+
+// Makes the calls of a table on a new side.
+fn play(alloc: Global, rows: &[Row]) -> Result<Played, AllocError> {
+    let mut driven = start(alloc)?;
     let miss = driven.first_miss(alloc, rows)?;
     Ok(Played {
         miss,
