@@ -1,0 +1,9 @@
+// Tests of the driver of the bridge, by its public calls over a shared bridge, beside a managed thread: tables of calls with what each answers, by the
+// rules of the phases and events.
+//
+// They stand in a crate of their own since a crate with tests is proved twice, with them and without, and `bridge_cycle` is large. Nothing but tests
+// stands here, and no other crate builds on it.
+#![tactic(auto)]
+
+#[cfg(test)]
+mod runs;

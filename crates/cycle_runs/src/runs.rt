@@ -1,0 +1,364 @@
+// The driver beside a managed thread.
+
+ghost use Rattle.std.specs.Prelude.{◌≡◌, ◌≤◌, IfSome};
+ghost use Rattle.joint_model.specs.Lines.{IsLine};
+ghost use Rattle.joint_model.specs.declared.names.Thread.TheVariants.{C, M};
+ghost use Rattle.order_table.specs.Views.{OwnsAll};
+ghost use Rattle.joint_history.specs.Callers.{KnowsNothing};
+ghost use Rattle.bridge_cycle.specs.Progress.{line_of};
+
+use bridge_cycle::{Driver, DriverFault};
+use joint_history::{Caller, Shared};
+use joint_model::Reply::{
+    self, At, CycleOpen, Freed, Gone, M, Mark, Pending, Refs, Sccs, Snapped, Swept, Took,
+};
+use joint_model::{
+    Act, Cell, Cycle, Kind, MNum, Marking, Phase, PhaseWord, Sort, Span, Thread, Var,
+};
+use order_table::{Order, OrderName, Seat};
+use std::alloc::{AllocError, Global};
+use std::marker::{Brand, Model};
+use std::sync::Wait;
+use std::test::Fail;
+
+// What is done, and what that answers.
+type Row = (Call, Reply);
+
+// What m1 and the driver do, in short: variables stand by their numbers, and all that has a field has one.
+#[derive(Clone, Copy)]
+enum Call {
+    // lines of m1
+    Bridge(u8),
+    Set(u8, u8),
+    Drop(u8),
+    Weak(u8),
+    Read,
+    // lines of c
+    Line(PhaseWord),
+    Finalise(u32),
+    // the driver's call of that name; `Cycle` is all eight
+    Phase(PhaseWord),
+    // what is left of an open cycle
+    End,
+    // a look at the driver's phase
+    Now,
+}
+
+impl Call {
+    // The line of m1; None where it is another call, or one of no line.
+    fn of_m1(self) -> Option<Act>
+        ensures { IfSome result (λ a. IsLine (M 1) a) }
+    {
+        match self {
+            Call::Bridge(v) if v < 8 => Some(Act::Bridge {
+                v: Var(v),
+                kind: Kind::Bridge,
+                fields: 1,
+                sort: Sort::User,
+                peer_fields: 1,
+            }),
+            Call::Set(v, w) if v < 8 && w < 8 => Some(Act::Set {
+                v: Var(v),
+                i: 0,
+                w: Some(Var(w)),
+            }),
+            Call::Drop(v) if v < 8 => Some(Act::Drop { v: Var(v) }),
+            Call::Weak(v) if v < 8 => Some(Act::Weak {
+                k: Cell(0),
+                v: Var(v),
+            }),
+            Call::Read => Some(Act::Read { k: Cell(0) }),
+            _ => None,
+        }
+    }
+
+    // The line of c; None where it is another call, or one of no line.
+    fn of_c(self) -> Option<Act>
+        ensures { IfSome result (λ a. IsLine C a) }
+    {
+        match self {
+            Call::Line(word) => Some(Act::PhaseLine { word }),
+            Call::Finalise(n) if 1 <= n && n <= 65535 => Some(Act::Finalise { n }),
+            _ => None,
+        }
+    }
+}
+
+// A shared bridge with a managed thread and the driver, both on the first line.
+#[derive(Drop)]
+struct Driven<N: OrderName> {
+    shared: Shared<N>,
+    one: Caller<N>,
+    driver: Driver<N>,
+}
+
+impl<N: OrderName> Model for Driven<N> {
+    ghost use Rattle.std.specs.Prelude.{◌≡◌, ◌≤◌};
+    ghost use Rattle.joint_model.specs.declared.names.Phase.{Phase};
+    ghost use Rattle.joint_model.specs.declared.names.Thread.TheVariants.{M};
+    ghost use Rattle.joint_history.specs.Callers.{last_index, own};
+    ghost use Rattle.bridge_cycle.specs.Progress.{line_of};
+
+    ghost Value = { Phase };
+
+    ghost view = { λ d. d.driver.phase };
+
+    ghost invariant = { λ d. (d.one.thread ≡ M 1) × (last_index (own d.one) ≤ 1) × (line_of d.driver ≤ 1) };
+}
+
+// Runs the driver's call of that name.
+fn run<N: OrderName>(
+    rt: &impl Wait,
+    alloc: Global,
+    shared: &Shared<N>,
+    driver: &mut Driver<N>,
+    word: PhaseWord,
+) -> Result<(), DriverFault>
+    requires { line_of driver.old ≤ 1 }
+    ensures { line_of driver.new ≤ 1 }
+{
+    match word {
+        PhaseWord::Cycle => driver.cycle(rt, alloc, shared, 1),
+        PhaseWord::Snap => driver.snap(rt, alloc, shared, 1),
+        PhaseWord::Contract => driver.contract(rt, alloc, shared, 1),
+        PhaseWord::Mirror => driver.mirror(rt, alloc, shared, 1),
+        PhaseWord::Weaken => driver.weaken(rt, alloc, shared, 1),
+        PhaseWord::Mark => driver.mark(rt, alloc, shared, 1),
+        PhaseWord::Sweep => driver.sweep(rt, alloc, shared, 1),
+        PhaseWord::Restore => driver.restore(rt, alloc, shared, 1),
+        PhaseWord::Resolve => driver.resolve(rt, alloc, shared, 1),
+    }
+}
+
+impl<N: OrderName> Driven<N> {
+    // The answer to a line of m1.
+    fn managed(&mut self, rt: &impl Wait, call: Call) -> Result<Option<Reply>, AllocError> {
+        let Some(act) = call.of_m1() else {
+            return Ok(None);
+        };
+        let receipt = self.shared.managed(rt, &mut self.one, 1, &act)?;
+        Ok(Some(receipt.reply))
+    }
+
+    // The answer to a line of c.
+    fn line(
+        &mut self,
+        rt: &impl Wait,
+        alloc: Global,
+        call: Call,
+    ) -> Result<Option<Reply>, AllocError> {
+        let Some(act) = call.of_c() else {
+            return Ok(None);
+        };
+        let reply = self.driver.line(rt, alloc, &self.shared, 1, &act)?;
+        Ok(Some(reply))
+    }
+
+    // What the driver's call of that name answers.
+    fn phase(
+        &mut self,
+        rt: &impl Wait,
+        alloc: Global,
+        word: PhaseWord,
+    ) -> Result<Reply, AllocError> {
+        match run(rt, alloc, &self.shared, &mut self.driver, word) {
+            Ok(()) => Ok(Reply::Ok),
+            Err(DriverFault::CycleOpen { cycle }) => Ok(CycleOpen(cycle)),
+            Err(DriverFault::WrongPhase { at }) => Ok(At(at)),
+            Err(DriverFault::OutOfMemory) => Err(AllocError),
+        }
+    }
+
+    // Runs the phases that are left.
+    fn end(&mut self, rt: &impl Wait, alloc: Global) -> Result<Reply, AllocError> {
+        self.driver.end(rt, alloc, &self.shared, 1)?;
+        Ok(Reply::Ok)
+    }
+
+    // The answer to a call; None where it is none that may be made.
+    fn answer(
+        &mut self,
+        rt: &impl Wait,
+        alloc: Global,
+        call: Call,
+    ) -> Result<Option<Reply>, AllocError> {
+        match call {
+            Call::Line(_) | Call::Finalise(_) => self.line(rt, alloc, call),
+            Call::Phase(word) => Ok(Some(self.phase(rt, alloc, word)?)),
+            Call::End => Ok(Some(self.end(rt, alloc)?)),
+            Call::Now => Ok(Some(At(self.driver.phase()))),
+            _ => self.managed(rt, call),
+        }
+    }
+
+    // The place of the first row that is answered otherwise than it says; None where all are answered so.
+    fn first_miss(
+        &mut self,
+        rt: &impl Wait,
+        alloc: Global,
+        rows: &[Row],
+    ) -> Result<Option<usize>, AllocError> {
+        for i in 0..rows.len() {
+            let (call, reply) = rows[i];
+            if self.answer(rt, alloc, call)? != Some(reply) {
+                return Ok(Some(i));
+            }
+        }
+        Ok(None)
+    }
+}
+
+// The callers of m1 and of the driver over a new bridge; None where the desk has none for them.
+fn start<N: OrderName>(
+    alloc: Global,
+    order: Order,
+    seat: Seat,
+) -> Result<Option<Driven<N>>, AllocError>
+    requires order { order ≡ N.order }
+    requires seat { (seat.order ≡ N.order) × OwnsAll seat.view × KnowsNothing seat.view }
+{
+    let (shared, mut desk) = Shared::<N>::new(alloc, order, seat, 1, 1)?;
+    let Some(one) = desk.caller(Thread::M(1)) else {
+        return Ok(None);
+    };
+    let Some(caller) = desk.caller(Thread::C) else {
+        return Ok(None);
+    };
+    let driver = Driver::new(caller);
+    Ok(Some(Driven {
+        shared,
+        one,
+        driver,
+    }))
+}
+
+// The place of the first row of a table that is answered otherwise than it says on a new bridge; None where the desk lacks a caller.
+fn miss_of<N: OrderName>(
+    rt: &impl Wait,
+    alloc: Global,
+    order: Order,
+    seat: Seat,
+    rows: &[Row],
+) -> Result<Option<Option<usize>>, AllocError>
+    requires order { order ≡ N.order }
+    requires seat { (seat.order ≡ N.order) × OwnsAll seat.view × KnowsNothing seat.view }
+{
+    let Some(mut driven) = start::<N>(alloc, order, seat)? else {
+        return Ok(None);
+    };
+    Ok(Some(driven.first_miss(rt, alloc, rows)?))
+}
+
+// The same, with a new order.
+fn play(rt: &impl Wait, alloc: Global, rows: &[Row]) -> Result<Option<Option<usize>>, AllocError> {
+    let (order, seat) = Order::new(alloc, 1)?;
+    miss_of::<Brand>(rt, alloc, order, seat, rows)
+}
+
+// Each phase runs where it is due and is refused elsewhere; the driver's own calls make no entry of a refusal.
+const PHASES: [Row; 26] = [
+    (Call::Phase(PhaseWord::Sweep), At(Phase::Idle)),
+    (Call::Phase(PhaseWord::Snap), Reply::Ok),
+    (Call::Phase(PhaseWord::Snap), CycleOpen(Cycle(1))),
+    (Call::Phase(PhaseWord::Contract), Reply::Ok),
+    (Call::Now, At(Phase::Contracted)),
+    (Call::Phase(PhaseWord::Contract), At(Phase::Contracted)),
+    (Call::Phase(PhaseWord::Mirror), Reply::Ok),
+    (Call::Phase(PhaseWord::Mirror), At(Phase::Mirrored)),
+    (Call::Phase(PhaseWord::Weaken), Reply::Ok),
+    (Call::Phase(PhaseWord::Weaken), At(Phase::Weakened)),
+    (Call::Phase(PhaseWord::Mark), Reply::Ok),
+    (Call::Phase(PhaseWord::Mark), At(Phase::Marked)),
+    (Call::Phase(PhaseWord::Sweep), Reply::Ok),
+    (Call::Phase(PhaseWord::Resolve), At(Phase::Swept)),
+    (Call::Phase(PhaseWord::Restore), Reply::Ok),
+    (Call::Phase(PhaseWord::Restore), At(Phase::Restored)),
+    (Call::Phase(PhaseWord::Cycle), CycleOpen(Cycle(1))),
+    (Call::Phase(PhaseWord::Resolve), Reply::Ok),
+    (Call::Now, At(Phase::Idle)),
+    (Call::Phase(PhaseWord::Cycle), Reply::Ok),
+    (Call::Now, At(Phase::Idle)),
+    (Call::End, Reply::Ok),
+    (Call::Phase(PhaseWord::Snap), Reply::Ok),
+    (Call::Phase(PhaseWord::Cycle), CycleOpen(Cycle(3))),
+    (Call::End, Reply::Ok),
+    (Call::Now, At(Phase::Idle)),
+];
+
+// A linked pair that is dropped: the first cycle phase by phase, with a word that isn't due, and a second at once.
+const PAIR: [Row; 16] = [
+    (Call::Bridge(0), M(MNum(1))),
+    (Call::Bridge(1), M(MNum(2))),
+    (Call::Set(0, 1), Reply::Ok),
+    (Call::Drop(0), Reply::Ok),
+    (Call::Drop(1), Reply::Ok),
+    (
+        Call::Line(PhaseWord::Snap),
+        Snapped(2, Span { first: 0, count: 0 }),
+    ),
+    (Call::Line(PhaseWord::Contract), Sccs(2, 1)),
+    (Call::Line(PhaseWord::Mirror), Refs(1)),
+    (Call::Line(PhaseWord::Resolve), At(Phase::Mirrored)),
+    (Call::Line(PhaseWord::Weaken), Reply::Ok),
+    (Call::Line(PhaseWord::Mark), Mark(Marking(1))),
+    (
+        Call::Line(PhaseWord::Sweep),
+        Swept(Marking(1), Span { first: 0, count: 2 }),
+    ),
+    (Call::Line(PhaseWord::Restore), Reply::Ok),
+    (
+        Call::Line(PhaseWord::Resolve),
+        Freed(Span { first: 0, count: 2 }),
+    ),
+    (
+        Call::Line(PhaseWord::Cycle),
+        Freed(Span { first: 2, count: 0 }),
+    ),
+    (Call::Finalise(9), Took(Span { first: 0, count: 2 })),
+];
+
+// A circle is mirrored by two references. A cell is read while the cycle is open, and once it is closed.
+const CIRCLE: [Row; 18] = [
+    (Call::Bridge(0), M(MNum(1))),
+    (Call::Bridge(1), M(MNum(2))),
+    (Call::Set(0, 1), Reply::Ok),
+    (Call::Set(1, 0), Reply::Ok),
+    (Call::Weak(0), Reply::Ok),
+    (Call::Drop(0), Reply::Ok),
+    (
+        Call::Line(PhaseWord::Cycle),
+        Freed(Span { first: 0, count: 0 }),
+    ),
+    (Call::Drop(1), Reply::Ok),
+    (
+        Call::Line(PhaseWord::Snap),
+        Snapped(2, Span { first: 0, count: 0 }),
+    ),
+    (Call::Read, Pending(Cycle(2))),
+    (Call::Line(PhaseWord::Snap), CycleOpen(Cycle(2))),
+    (Call::Line(PhaseWord::Contract), Sccs(1, 0)),
+    (Call::Line(PhaseWord::Mirror), Refs(2)),
+    (Call::Phase(PhaseWord::Weaken), Reply::Ok),
+    (Call::End, Reply::Ok),
+    (Call::Read, Gone),
+    (Call::Finalise(1), Took(Span { first: 0, count: 1 })),
+    (Call::Finalise(9), Took(Span { first: 1, count: 1 })),
+];
+
+#[test]
+fn a_phase_runs_where_it_is_due(rt: HostRuntime) -> Result<(), Fail> {
+    assert_eq!(rt; play(&rt, rt.alloc(), PHASES.as_slice())?, Some(None));
+    Ok(())
+}
+
+#[test]
+fn a_linked_pair_that_is_dropped_is_freed(rt: HostRuntime) -> Result<(), Fail> {
+    assert_eq!(rt; play(&rt, rt.alloc(), PAIR.as_slice())?, Some(None));
+    Ok(())
+}
+
+#[test]
+fn a_circle_is_mirrored_and_freed(rt: HostRuntime) -> Result<(), Fail> {
+    assert_eq!(rt; play(&rt, rt.alloc(), CIRCLE.as_slice())?, Some(None));
+    Ok(())
+}
