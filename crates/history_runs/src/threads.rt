@@ -354,12 +354,12 @@ fn first_unlawful(alloc: Global, history: &History) -> Result<Option<u64>, Alloc
     Ok(None)
 }
 
-// The same threads in a shorter run, since the joint machine looks at all of both heaps for each collection.
+// Each entry of such a run is a step of the joint machine. It looks at all of both heaps for each collection.
 #[test]
 fn the_joint_machine_makes_each_step_of_four_threads(rt: HostRuntime) -> Result<(), Fail> {
     let (order, seat) = Order::new(rt.alloc(), 2)?;
-    let history = run::<Brand, _>(&rt, rt.alloc(), order, seat, 500)?;
-    assert_eq!(rt; history.len(), 2_450);
+    let history = run::<Brand, _>(&rt, rt.alloc(), order, seat, 10_000)?;
+    assert_eq!(rt; history.len(), 49_000);
     assert_eq!(rt; first_unlawful(rt.alloc(), &history)?, None);
     Ok(())
 }
