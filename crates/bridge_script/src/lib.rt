@@ -21,6 +21,8 @@
 // operations and which of them are built, `specs/Faults.antt` the nine causes; `specs/Report.antt` says what a
 // report is. `texts_tell_scripts` proves that a text is of one script, that a script has at most two texts, that a
 // line of a script has no cause, and that bytes have one first faulty line with one first cause.
+//
+// Who runs meanwhile: a source is read and a sink written by one thread. A `Script` is then only read, by all threads of a run at once.
 #![tactic(auto)]
 
 mod blocks;

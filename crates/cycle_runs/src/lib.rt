@@ -3,6 +3,8 @@
 //
 // They stand in a crate of their own since a crate with tests is proved twice, with them and without, and `bridge_cycle` is large. Nothing but tests
 // stands here, and no other crate builds on it.
+//
+// Nothing is promised to anybody. Each test makes a run of its own, whose callers call in turn on its own thread.
 #![tactic(auto)]
 
 #[cfg(test)]

@@ -5,6 +5,8 @@
 //
 // Worked scripts are run in line order, and how many entries each makes is counted by the rules of the events. Drawn scripts are run by a thread for
 // each script thread, several at a time; each has another history whatever the draw, and each is a run of the joint machine.
+//
+// Nothing is promised to anybody.
 #![tactic(auto)]
 
 #[cfg(test)]

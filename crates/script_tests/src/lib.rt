@@ -2,6 +2,8 @@
 //
 // They stand in a crate of their own since a crate with tests is proved twice, with them and without, and `bridge_script` is large. Nothing
 // but tests stands here, and no other crate builds on it.
+//
+// Nothing is promised to anybody. A test makes its source, sink or history, makes the calls, and compares what they answer with a table; each runs alone.
 #![tactic(auto)]
 
 #[cfg(test)]
