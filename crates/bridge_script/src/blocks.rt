@@ -9,7 +9,7 @@ use crate::outside::{Failed, Sink};
 use crate::reports::write_text;
 use std::marker::Model;
 
-/// The bytes of a block.
+// The bytes of a block.
 const SIZE: usize = 65_536;
 
 /// The bytes that were gathered for a sink and that it doesn't have yet.
@@ -62,7 +62,7 @@ impl Block {
         Ok(())
     }
 
-    /// Sees that there is room for so many bytes.
+    // Sees that there is room for so many bytes.
     fn make_room<K: Sink>(&mut self, count: usize, out: &mut K) -> Result<(), Failed>
         requires { count ≤ 65536 }
         ensures sent { Sends (K.held out.old) (K.held out.new) self.old self.new (K.faults out.old) (K.faults out.new) result [] }
@@ -74,7 +74,7 @@ impl Block {
         self.flush(out)
     }
 
-    /// Puts a piece behind what was gathered.
+    // Puts a piece behind what was gathered.
     fn push(&mut self, piece: &[u8])
         requires { length self.old + length piece.now ≤ 65536 }
         ensures { self.new ≡ self.old ++ piece.now }

@@ -11,11 +11,11 @@ use joint_model::{
 };
 use std::marker::Model;
 
-/// The two digits of each number below 100.
+// The two digits of each number below 100.
 static PAIRS: [u8; 200] =
     *b"00010203040506070809101112131415161718192021222324252627282930313233343536373839404142434445464748495051525354555657585960616263646566676869707172737475767778798081828384858687888990919293949596979899";
 
-/// The bytes of the buffer: more than a line without its list has.
+// The bytes of the buffer: more than a line without its list has.
 const SIZE: usize = 512;
 
 /// A line or a few that are put together, of at most 512 bytes in all. A call that puts something behind it asks for the room.
@@ -65,7 +65,7 @@ impl Line {
         self.len = 0;
     }
 
-    /// Puts a byte behind it.
+    // Puts a byte behind it.
     #[inline(always)]
     fn byte(&mut self, byte: u8)
         requires { 1 ≤ self.old.room }
@@ -75,7 +75,7 @@ impl Line {
         self.len += 1;
     }
 
-    /// Puts two bytes behind it.
+    // Puts two bytes behind it.
     #[inline(always)]
     fn two(&mut self, a: u8, b: u8)
         requires { 2 ≤ self.old.room }
@@ -86,7 +86,7 @@ impl Line {
         self.len += 2;
     }
 
-    /// Puts a number of one digit behind it.
+    // Puts a number of one digit behind it.
     #[inline(always)]
     fn digit(&mut self, n: u64)
         requires digit { n < 10 }
@@ -96,7 +96,7 @@ impl Line {
         self.byte(b'0' + n as u8);
     }
 
-    /// Puts the tens and the ones of a number below 100 behind it, both also where there are no tens.
+    // Puts the tens and the ones of a number below 100 behind it, both also where there are no tens.
     #[inline(always)]
     fn pair(&mut self, n: u64)
         requires digits { n < 100 }
@@ -107,7 +107,7 @@ impl Line {
         self.two(tens, ones);
     }
 
-    /// Puts a number of one or two digits behind it.
+    // Puts a number of one or two digits behind it.
     #[inline(always)]
     fn below_100(&mut self, n: u64)
         requires digits { n < 100 }
@@ -121,7 +121,7 @@ impl Line {
         }
     }
 
-    /// Puts a number of at most four digits behind it.
+    // Puts a number of at most four digits behind it.
     #[inline(always)]
     fn below_10_000(&mut self, n: u64)
         requires digits { n < 10000 }
@@ -136,7 +136,7 @@ impl Line {
         }
     }
 
-    /// Puts a number of at most six digits behind it.
+    // Puts a number of at most six digits behind it.
     #[inline(always)]
     fn below_1_000_000(&mut self, n: u64)
         requires digits { n < 1000000 }
@@ -174,7 +174,7 @@ impl Line {
         }
     }
 
-    /// Puts a number of any length behind it, in decimal.
+    // Puts a number of any length behind it, in decimal.
     fn long_number(&mut self, n: u64)
         requires { 20 ≤ self.old.room }
         ensures { AddsText self.old self.new (decimal n) 20 }
@@ -354,7 +354,7 @@ impl Line {
     }
 }
 
-/// The tens and the ones of a number below 100, as digits.
+// The tens and the ones of a number below 100, as digits.
 #[inline(always)]
 fn pair_of(n: u64) -> (u8, u8)
     requires { n < 100 }

@@ -11,7 +11,7 @@ use joint_model::{
     Act, Cell, Entry, GName, HNum, Kind, MNum, Op, PNum, Reply, Sort, Span, StaticNo, Thread, Var,
 };
 
-/// A word and a variable.
+// A word and a variable.
 fn add_var(line: &mut Line, word: &[u8], v: Var)
     requires { length word.now + 3 ≤ line.old.room }
     ensures { AddsWords line.old line.new (word.now ∷ var_text v ∷ []) (length word.now + 3) }
@@ -20,7 +20,7 @@ fn add_var(line: &mut Line, word: &[u8], v: Var)
     line.var(v);
 }
 
-/// A word and two variables.
+// A word and two variables.
 fn add_vars(line: &mut Line, word: &[u8], v: Var, w: Var)
     requires { length word.now + 5 ≤ line.old.room }
     ensures { AddsWords line.old line.new (word.now ∷ var_text v ∷ var_text w ∷ []) (length word.now + 5) }
@@ -30,7 +30,7 @@ fn add_vars(line: &mut Line, word: &[u8], v: Var, w: Var)
     line.var(w);
 }
 
-/// A word and a number.
+// A word and a number.
 fn add_number(line: &mut Line, word: &[u8], n: u64)
     requires { length word.now + 22 ≤ line.old.room }
     ensures { AddsWords line.old line.new (word.now ∷ decimal n ∷ []) (length word.now + 22) }
@@ -39,7 +39,7 @@ fn add_number(line: &mut Line, word: &[u8], n: u64)
     line.decimal(n);
 }
 
-/// A word and a weak cell.
+// A word and a weak cell.
 fn add_cell(line: &mut Line, word: &[u8], k: Cell)
     requires { length word.now + 23 ≤ line.old.room }
     ensures { AddsWords line.old line.new (word.now ∷ cell_text k ∷ []) (length word.now + 23) }
@@ -48,7 +48,7 @@ fn add_cell(line: &mut Line, word: &[u8], k: Cell)
     line.cell(k);
 }
 
-/// A word and a handle.
+// A word and a handle.
 fn add_handle(line: &mut Line, word: &[u8], h: HNum)
     requires { length word.now + 23 ≤ line.old.room }
     ensures { AddsWords line.old line.new (word.now ∷ handle_text h ∷ []) (length word.now + 23) }
@@ -57,7 +57,7 @@ fn add_handle(line: &mut Line, word: &[u8], h: HNum)
     line.handle(h);
 }
 
-/// A word, a variable and a static of the peer heap.
+// A word, a variable and a static of the peer heap.
 fn add_pass(line: &mut Line, word: &[u8], v: Var, x: StaticNo)
     requires { length word.now + 25 ≤ line.old.room }
     ensures { AddsWords line.old line.new (word.now ∷ var_text v ∷ peer_static x ∷ []) (length word.now + 25) }
@@ -67,7 +67,7 @@ fn add_pass(line: &mut Line, word: &[u8], v: Var, x: StaticNo)
     line.peer_static(x);
 }
 
-/// A word, a global name and a variable.
+// A word, a global name and a variable.
 fn add_global(line: &mut Line, word: &[u8], g: GName, v: Var)
     requires { length word.now + 25 ≤ line.old.room }
     ensures { AddsWords line.old line.new (word.now ∷ global_text g ∷ var_text v ∷ []) (length word.now + 25) }
@@ -77,7 +77,7 @@ fn add_global(line: &mut Line, word: &[u8], g: GName, v: Var)
     line.var(v);
 }
 
-/// `new V KIND N`.
+// `new V KIND N`.
 fn add_new(line: &mut Line, v: Var, kind: Kind, fields: u8)
     requires { 50 ≤ line.old.room }
     ensures { AddsWords line.old line.new (codes "new" ∷ var_text v ∷ kind_text kind ∷ decimal fields ∷ []) 50 }
@@ -88,7 +88,7 @@ fn add_new(line: &mut Line, v: Var, kind: Kind, fields: u8)
     line.decimal(fields as u64);
 }
 
-/// `bridge V KIND N SORT F`.
+// `bridge V KIND N SORT F`.
 fn add_bridge(line: &mut Line, v: Var, kind: Kind, fields: u8, sort: Sort, peer_fields: u8)
     requires { 80 ≤ line.old.room }
     ensures { AddsWords line.old line.new (codes "bridge" ∷ var_text v ∷ kind_text kind ∷ decimal fields ∷ sort_text sort ∷ decimal peer_fields ∷ []) 80 }
@@ -101,7 +101,7 @@ fn add_bridge(line: &mut Line, v: Var, kind: Kind, fields: u8, sort: Sort, peer_
     line.decimal(peer_fields as u64);
 }
 
-/// `set V I W|-`.
+// `set V I W|-`.
 fn add_set(line: &mut Line, v: Var, i: u8, w: Option<Var>)
     requires { 50 ≤ line.old.room }
     ensures { AddsWords line.old line.new (codes "set" ∷ var_text v ∷ decimal i ∷ optional_text w ∷ []) 50 }
@@ -112,7 +112,7 @@ fn add_set(line: &mut Line, v: Var, i: u8, w: Option<Var>)
     line.optional(w);
 }
 
-/// `get V W I`.
+// `get V W I`.
 fn add_get(line: &mut Line, v: Var, w: Var, i: u8)
     requires { 50 ≤ line.old.room }
     ensures { AddsWords line.old line.new (codes "get" ∷ var_text v ∷ var_text w ∷ decimal i ∷ []) 50 }
@@ -121,7 +121,7 @@ fn add_get(line: &mut Line, v: Var, w: Var, i: u8)
     line.decimal(i as u64);
 }
 
-/// `load V X`, where the static is one of the thread's own heap.
+// `load V X`, where the static is one of the thread's own heap.
 fn add_load(line: &mut Line, thread: Thread, v: Var, x: StaticNo)
     requires { 50 ≤ line.old.room }
     ensures { AddsWords line.old line.new (codes "load" ∷ var_text v ∷ own_static thread x ∷ []) 50 }
@@ -130,7 +130,7 @@ fn add_load(line: &mut Line, thread: Thread, v: Var, x: StaticNo)
     line.own_static(thread, x);
 }
 
-/// `store X V|-`, where the static is one of the thread's own heap.
+// `store X V|-`, where the static is one of the thread's own heap.
 fn add_store(line: &mut Line, thread: Thread, x: StaticNo, v: Option<Var>)
     requires { 50 ≤ line.old.room }
     ensures { AddsWords line.old line.new (codes "store" ∷ own_static thread x ∷ optional_text v ∷ []) 50 }
@@ -140,7 +140,7 @@ fn add_store(line: &mut Line, thread: Thread, x: StaticNo, v: Option<Var>)
     line.optional(v);
 }
 
-/// `weak K V`.
+// `weak K V`.
 fn add_weak(line: &mut Line, k: Cell, v: Var)
     requires { 50 ≤ line.old.room }
     ensures { AddsWords line.old line.new (codes "weak" ∷ cell_text k ∷ var_text v ∷ []) 50 }
@@ -149,7 +149,7 @@ fn add_weak(line: &mut Line, k: Cell, v: Var)
     line.var(v);
 }
 
-/// `new V N` of a peer thread.
+// `new V N` of a peer thread.
 fn add_new_peer(line: &mut Line, v: Var, fields: u8)
     requires { 50 ≤ line.old.room }
     ensures { AddsWords line.old line.new (codes "new" ∷ var_text v ∷ decimal fields ∷ []) 50 }
@@ -158,7 +158,7 @@ fn add_new_peer(line: &mut Line, v: Var, fields: u8)
     line.decimal(fields as u64);
 }
 
-/// `unglobal G`.
+// `unglobal G`.
 fn add_unglobal(line: &mut Line, g: GName)
     requires { 50 ≤ line.old.room }
     ensures { AddsWords line.old line.new (codes "unglobal" ∷ global_text g ∷ []) 50 }
@@ -167,7 +167,7 @@ fn add_unglobal(line: &mut Line, g: GName)
     line.global(g);
 }
 
-/// `wread V G`.
+// `wread V G`.
 fn add_wread(line: &mut Line, v: Var, g: GName)
     requires { 50 ≤ line.old.room }
     ensures { AddsWords line.old line.new (codes "wread" ∷ var_text v ∷ global_text g ∷ []) 50 }
@@ -176,7 +176,7 @@ fn add_wread(line: &mut Line, v: Var, g: GName)
     line.global(g);
 }
 
-/// The words of a line behind its thread: what it asks for.
+// The words of a line behind its thread: what it asks for.
 fn add_act(line: &mut Line, thread: Thread, act: &Act)
     requires { 100 ≤ line.old.room }
     ensures { AddsWords line.old line.new (act_words thread act.now) 100 }
@@ -218,7 +218,7 @@ fn add_act(line: &mut Line, thread: Thread, act: &Act)
     }
 }
 
-/// A thread.
+// A thread.
 fn add_thread(line: &mut Line, thread: Thread)
     requires { 21 ≤ line.old.room }
     ensures { AddsText line.old line.new (thread_text thread) 21 }
@@ -245,7 +245,7 @@ pub fn add_line(line: &mut Line, thread: Thread, act: &Act)
     add_act(line, thread, act);
 }
 
-/// `make SORT F`.
+// `make SORT F`.
 fn add_make(line: &mut Line, sort: Sort, fields: u8)
     requires { 50 ≤ line.old.room }
     ensures { AddsWords line.old line.new (codes "make" ∷ sort_text sort ∷ decimal fields ∷ []) 50 }
@@ -255,7 +255,7 @@ fn add_make(line: &mut Line, sort: Sort, fields: u8)
     line.decimal(fields as u64);
 }
 
-/// `adopt V KIND N p h`.
+// `adopt V KIND N p h`.
 fn add_adopt(line: &mut Line, v: Var, kind: Kind, fields: u8, p: PNum, h: HNum)
     requires { 100 ≤ line.old.room }
     ensures { AddsWords line.old line.new (codes "adopt" ∷ var_text v ∷ kind_text kind ∷ decimal fields ∷ peer_text p ∷ handle_text h ∷ []) 100 }
@@ -268,7 +268,7 @@ fn add_adopt(line: &mut Line, v: Var, kind: Kind, fields: u8, p: PNum, h: HNum)
     line.handle(h);
 }
 
-/// `land h sX`.
+// `land h sX`.
 fn add_land(line: &mut Line, h: HNum, x: StaticNo)
     requires { 60 ≤ line.old.room }
     ensures { AddsWords line.old line.new (codes "land" ∷ handle_text h ∷ peer_static x ∷ []) 60 }
@@ -277,7 +277,7 @@ fn add_land(line: &mut Line, h: HNum, x: StaticNo)
     line.peer_static(x);
 }
 
-/// `grip sX`.
+// `grip sX`.
 fn add_grip(line: &mut Line, x: StaticNo)
     requires { 60 ≤ line.old.room }
     ensures { AddsWords line.old line.new (codes "grip" ∷ peer_static x ∷ []) 60 }
@@ -286,7 +286,7 @@ fn add_grip(line: &mut Line, x: StaticNo)
     line.peer_static(x);
 }
 
-/// `meet V p h SORT F`.
+// `meet V p h SORT F`.
 fn add_meet(line: &mut Line, v: Var, p: PNum, h: HNum, sort: Sort, fields: u8)
     requires { 100 ≤ line.old.room }
     ensures { AddsWords line.old line.new (codes "meet" ∷ var_text v ∷ peer_text p ∷ handle_text h ∷ sort_text sort ∷ decimal fields ∷ []) 100 }
@@ -343,7 +343,7 @@ pub fn add_event(line: &mut Line, thread: Thread, op: &Op)
     }
 }
 
-/// A managed object and a word.
+// A managed object and a word.
 fn add_managed(line: &mut Line, m: MNum, word: &[u8])
     requires room { 50 ≤ line.old.room }
     requires short { length word.now ≤ 20 }
@@ -353,7 +353,7 @@ fn add_managed(line: &mut Line, m: MNum, word: &[u8])
     line.word(word);
 }
 
-/// A peer and a handle.
+// A peer and a handle.
 fn add_made(line: &mut Line, p: PNum, h: HNum)
     requires { 50 ≤ line.old.room }
     ensures { AddsWords line.old line.new (peer_text p ∷ handle_text h ∷ []) 50 }
@@ -362,7 +362,7 @@ fn add_made(line: &mut Line, p: PNum, h: HNum)
     line.handle(h);
 }
 
-/// A peer and a handle on it, with its sort and its number of fields.
+// A peer and a handle on it, with its sort and its number of fields.
 fn add_gripped(line: &mut Line, p: PNum, h: HNum, sort: Sort, fields: u8)
     requires { 100 ≤ line.old.room }
     ensures { AddsWords line.old line.new (peer_text p ∷ handle_text h ∷ sort_text sort ∷ decimal fields ∷ []) 100 }
@@ -372,7 +372,7 @@ fn add_gripped(line: &mut Line, p: PNum, h: HNum, sort: Sort, fields: u8)
     line.decimal(fields as u64);
 }
 
-/// A number and a word.
+// A number and a word.
 fn add_count(line: &mut Line, n: u64, word: &[u8])
     requires room { 50 ≤ line.old.room }
     requires short { length word.now ≤ 20 }
@@ -382,7 +382,7 @@ fn add_count(line: &mut Line, n: u64, word: &[u8])
     line.word(word);
 }
 
-/// The numbers of components and of cross-references.
+// The numbers of components and of cross-references.
 fn add_sccs(line: &mut Line, sccs: u32, xrefs: u32)
     requires { 100 ≤ line.old.room }
     ensures { AddsWords line.old line.new (decimal sccs ∷ codes "sccs" ∷ decimal xrefs ∷ codes "xrefs" ∷ []) 100 }
@@ -463,7 +463,7 @@ pub fn add_head(line: &mut Line, entry: &Entry)
     add_reply(line, &entry.made.reply);
 }
 
-/// Who made an entry, and on which line of the script.
+// Who made an entry, and on which line of the script.
 fn add_place(line: &mut Line, thread: Thread, index: u32)
     requires { 50 ≤ line.old.room }
     ensures { AddsWords line.old line.new (place_text thread index ∷ []) 50 }

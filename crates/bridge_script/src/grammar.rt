@@ -95,7 +95,7 @@ pub fn form_of(thread: Thread, word: &[u8]) -> Option<Row>
     }
 }
 
-/// The rows of a managed thread.
+// The rows of a managed thread.
 fn managed_form(word: &[u8]) -> Option<Row>
     ensures { MatchOption result ((o : Operation) (places : List Place) → managed_form o ≡ Some places → operation_text o ≢ word.now) (λ row. (managed_form row.0 ≡ Some row.1.now) × (operation_text row.0 ≡ word.now)) }
 {
@@ -153,7 +153,7 @@ fn managed_form(word: &[u8]) -> Option<Row>
     None
 }
 
-/// The rows of a peer thread.
+// The rows of a peer thread.
 fn peer_form(word: &[u8]) -> Option<Row>
     ensures { MatchOption result ((o : Operation) (places : List Place) → peer_form o ≡ Some places → operation_text o ≢ word.now) (λ row. (peer_form row.0 ≡ Some row.1.now) × (operation_text row.0 ≡ word.now)) }
 {
@@ -205,7 +205,7 @@ fn peer_form(word: &[u8]) -> Option<Row>
     None
 }
 
-/// The rows of the driver.
+// The rows of the driver.
 fn driver_form(word: &[u8]) -> Option<Row>
     ensures { MatchOption result ((o : Operation) (places : List Place) → driver_form o ≡ Some places → operation_text o ≢ word.now) (λ row. (driver_form row.0 ≡ Some row.1.now) × (operation_text row.0 ≡ word.now)) }
 {

@@ -37,8 +37,8 @@ pub fn read_line(text: &[u8]) -> Result<(Thread, Act), Cause>
     }
 }
 
-/// Takes the word of an operation of a thread that is built, and answers its row of the table. None where the next
-/// word asks for none.
+// Takes the word of an operation of a thread that is built, and answers its row of the table. None where the next
+// word asks for none.
 fn take_operation(thread: Thread, words: &mut Words) -> Option<Row>
     ensures { MatchOption result ((o : Operation) (places : List Place) (rest : List (List ℕ)) → form_of thread o ≡ Some places → is_built thread o ≡ true → words.old ≢ operation_text o ∷ rest) (λ row. (form_of thread row.0 ≡ Some row.1.now) × (is_built thread row.0 ≡ true) × (words.old ≡ operation_text row.0 ∷ words.new) × (length row.1.now ≤ 5)) }
 {
@@ -50,8 +50,8 @@ fn take_operation(thread: Thread, words: &mut Words) -> Option<Row>
     }
 }
 
-/// The act of an operation with these operands at its places. None where they can't stand there, or not beside each
-/// other.
+// The act of an operation with these operands at its places. None where they can't stand there, or not beside each
+// other.
 fn possible_act(operation: Operation, operands: &[Operand]) -> Option<Act>
     ensures { MatchOption result ((a : Act) → act_at operation operands.now ≡ Some a → IsPossible a → ⊥) (λ a. (act_at operation operands.now ≡ Some a) × IsPossible a) }
 {
@@ -59,8 +59,8 @@ fn possible_act(operation: Operation, operands: &[Operand]) -> Option<Act>
     if is_possible(&act) { Some(act) } else { None }
 }
 
-/// The act of an operation with these operands at its places; None where they can't stand there. Numbers past those of a
-/// byte, which don't stand at such a place, are taken for the greatest.
+// The act of an operation with these operands at its places; None where they can't stand there. Numbers past those of a
+// byte, which don't stand at such a place, are taken for the greatest.
 fn act_of(operation: Operation, operands: &[Operand]) -> Option<Act>
     ensures { result ≡ act_at operation operands.now }
 {
@@ -141,15 +141,15 @@ fn act_of(operation: Operation, operands: &[Operand]) -> Option<Act>
     }
 }
 
-/// The number as a byte: 255 where it is greater.
+// The number as a byte: 255 where it is greater.
 fn byte(n: u32) -> u8
     ensures { result ≡ min n 255 }
 {
     n.min(255) as u8
 }
 
-/// Whether the act's kind allows what stands beside it: a leaf or a leaf bridge no fields, a bridge no framework's
-/// peer.
+// Whether the act's kind allows what stands beside it: a leaf or a leaf bridge no fields, a bridge no framework's
+// peer.
 fn is_possible(act: &Act) -> bool
     ensures { MatchBool result (IsPossible act.now) (IsPossible act.now → ⊥) }
 {
@@ -165,7 +165,7 @@ fn is_possible(act: &Act) -> bool
     }
 }
 
-/// Whether there may be an object without a peer of this kind, with so many fields.
+// Whether there may be an object without a peer of this kind, with so many fields.
 fn is_plain_object(kind: Kind, fields: u8) -> bool
     ensures { MatchBool result (IsPlainObject kind fields) (IsPlainObject kind fields → ⊥) }
 {
@@ -176,7 +176,7 @@ fn is_plain_object(kind: Kind, fields: u8) -> bool
     }
 }
 
-/// Whether there may be a bridge object of this kind, with so many fields and a peer of this sort.
+// Whether there may be a bridge object of this kind, with so many fields and a peer of this sort.
 fn is_bridge_object(kind: Kind, fields: u8, sort: Sort) -> bool
     ensures { MatchBool result (IsBridgeObject kind fields sort) (IsBridgeObject kind fields sort → ⊥) }
 {

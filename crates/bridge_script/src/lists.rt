@@ -42,7 +42,7 @@ impl Numbers {
     }
 }
 
-/// The number of a managed object, where there is one.
+// The number of a managed object, where there is one.
 fn managed_number(m: Option<MNum>) -> Option<u32>
     ensures { result ≡ option_map (λ m. m.0) m }
 {
@@ -52,7 +52,7 @@ fn managed_number(m: Option<MNum>) -> Option<u32>
     }
 }
 
-/// The number of a peer, where there is one.
+// The number of a peer, where there is one.
 fn peer_number(p: Option<PNum>) -> Option<u32>
     ensures { result ≡ option_map (λ p. p.0) p }
 {

@@ -9,14 +9,14 @@ use crate::outside::{Failed, Sink, Source};
 use std::alloc::Global;
 use std::marker::Model;
 
-/// Whether the call with that number is one of those that fail.
+// Whether the call with that number is one of those that fail.
 fn is_listed(fails: &[u32], call: u64) -> bool
     ensures { IsTrue result ↔ Contains fails.now call }
 {
     fails.iter().any(|f| *f as u64 == call)
 }
 
-/// Copies as many of the first bytes as there is room for into the front of `buf`, and answers how many.
+// Copies as many of the first bytes as there is room for into the front of `buf`, and answers how many.
 fn copy_front(bytes: &[u8], buf: &mut [u8]) -> usize
     ensures count { result ≡ min (length buf.old) (length bytes.now) }
     ensures copied { take result buf.new ≡ take result bytes.now }

@@ -25,7 +25,7 @@ pub enum Operand {
     Sort(Sort),
 }
 
-/// The most places of an operation.
+// The most places of an operation.
 const MOST_PLACES: usize = 5;
 
 /// Operands in a row, as many as an operation may have places.
@@ -47,7 +47,7 @@ impl Model for Operands {
 }
 
 impl Operands {
-    /// No operand.
+    // No operand.
     fn new() -> Operands
         ensures { result ≡ [] }
     {
@@ -64,7 +64,7 @@ impl Operands {
         &self.list[..self.len]
     }
 
-    /// Puts an operand last.
+    // Puts an operand last.
     fn push(&mut self, operand: Operand)
         requires { length self.old < 5 }
         ensures { self.new ≡ self.old ++ operand ∷ [] }
@@ -96,7 +96,7 @@ pub fn operand_at(place: Place, word: &[u8]) -> Result<Operand, Cause>
     }
 }
 
-/// The operand of a word at the place of a number in that range.
+// The operand of a word at the place of a number in that range.
 fn number_at(word: &[u8], least: u32, most: u32) -> Result<Operand, Cause>
     ensures { ReadsAt (Place.Number least most) word.now result }
 {
@@ -107,7 +107,7 @@ fn number_at(word: &[u8], least: u32, most: u32) -> Result<Operand, Cause>
     }
 }
 
-/// The operand of a word at the place of a kind without a peer.
+// The operand of a word at the place of a kind without a peer.
 fn plain_kind(word: &[u8]) -> Result<Operand, Cause>
     ensures { ReadsAt Place.PlainKind word.now result }
 {
@@ -120,7 +120,7 @@ fn plain_kind(word: &[u8]) -> Result<Operand, Cause>
     Err(Cause::Kind)
 }
 
-/// The operand of a word at the place of a kind with a peer.
+// The operand of a word at the place of a kind with a peer.
 fn bridge_kind(word: &[u8]) -> Result<Operand, Cause>
     ensures { ReadsAt Place.BridgeKind word.now result }
 {
@@ -133,7 +133,7 @@ fn bridge_kind(word: &[u8]) -> Result<Operand, Cause>
     Err(Cause::Kind)
 }
 
-/// The operand of a word at the place of a sort.
+// The operand of a word at the place of a sort.
 fn sort(word: &[u8]) -> Result<Operand, Cause>
     ensures { ReadsAt Place.Sort word.now result }
 {
@@ -146,7 +146,7 @@ fn sort(word: &[u8]) -> Result<Operand, Cause>
     Err(Cause::Kind)
 }
 
-/// Puts a word's operand last, or notes its cause where it comes before those that were noted.
+// Puts a word's operand last, or notes its cause where it comes before those that were noted.
 fn note(found: Result<Operand, Cause>, operands: &mut Operands, first: &mut Option<Cause>)
     requires { length operands.old < 5 }
     ensures { Notes found operands.old operands.new first.old first.new }
@@ -157,7 +157,7 @@ fn note(found: Result<Operand, Cause>, operands: &mut Operands, first: &mut Opti
     }
 }
 
-/// The first of the causes that were found.
+// The first of the causes that were found.
 fn earlier(first: Option<Cause>, cause: Cause) -> Cause
     ensures { result ≡ earlier first cause }
 {

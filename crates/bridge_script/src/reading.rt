@@ -8,11 +8,11 @@ use crate::outside::Source;
 use crate::scripts::{MOST_BYTES, Script, parse};
 use std::alloc::Global;
 
-/// How many bytes are asked for in one call.
+// How many bytes are asked for in one call.
 const PIECE: usize = 4096;
 
-/// Takes bytes from a source until its end, or until one byte more than a script may have was taken, and no
-/// further.
+// Takes bytes from a source until its end, or until one byte more than a script may have was taken, and no
+// further.
 fn read_all<S: Source>(alloc: Global, src: &mut S) -> Result<Vec<u8>, ScriptError>
     ensures ok { IfOk result (λ bytes. Took (S.left src.old) (S.left src.new) bytes.items) }
     ensures err { IfErr result (λ error. IsReadError (S.faults src.old) (S.faults src.new) error) }

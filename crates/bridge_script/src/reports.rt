@@ -26,7 +26,7 @@ pub fn write_text<K: Sink>(out: &mut K, text: &[u8]) -> Result<(), Failed>
     Ok(())
 }
 
-/// Writes the numbers that a span names, each with a space and its letter before it.
+// Writes the numbers that a span names, each with a space and its letter before it.
 fn write_numbers<K: Sink>(
     h: &History,
     numbers: Numbers,
@@ -48,7 +48,7 @@ fn write_numbers<K: Sink>(
     Ok(())
 }
 
-/// Writes a list: the numbers that a span names, or `-` where it names none, with a space before each word.
+// Writes a list: the numbers that a span names, or `-` where it names none, with a space before each word.
 fn write_list<K: Sink>(
     h: &History,
     numbers: Numbers,
@@ -68,7 +68,7 @@ fn write_list<K: Sink>(
     }
 }
 
-/// Writes a line whose head was put together, with a list between it and the line's tail.
+// Writes a line whose head was put together, with a list between it and the line's tail.
 #[inline(never)]
 fn write_listed<K: Sink>(
     h: &History,
@@ -108,7 +108,7 @@ pub fn write_entry<K: Sink>(
     }
 }
 
-/// Writes the lines of all entries, in rising number.
+// Writes the lines of all entries, in rising number.
 fn write_entries<K: Sink>(h: &History, block: &mut Block, out: &mut K) -> Result<(), Failed>
     ensures { Sends (K.held out.old) (K.held out.new) block.old block.new (K.faults out.old) (K.faults out.new) result (entries_text h.now h.now.entries) }
 {
@@ -122,7 +122,7 @@ fn write_entries<K: Sink>(h: &History, block: &mut Block, out: &mut K) -> Result
     Ok(())
 }
 
-/// Writes the last line, with the number of entries.
+// Writes the last line, with the number of entries.
 fn write_end<K: Sink>(count: u64, block: &mut Block, out: &mut K) -> Result<(), Failed>
     ensures { Sends (K.held out.old) (K.held out.new) block.old block.new (K.faults out.old) (K.faults out.new) result (end_text count) }
 {

@@ -16,10 +16,10 @@ use std::marker::Model;
 /// The most bytes of a script.
 pub const MOST_BYTES: usize = 8_388_608;
 
-/// The most lines of a script.
+// The most lines of a script.
 const MOST_LINES: usize = 20_000;
 
-/// The most lines `c cycle` and `c snap` of a script.
+// The most lines `c cycle` and `c snap` of a script.
 const MOST_CYCLES: usize = 256;
 
 /// A script: a list of at most 20,000 lines, each a thread and what it is to do. Each line is one that is
@@ -80,7 +80,7 @@ impl Script {
         place_of(&self.lines, (i - 1) as usize)
     }
 
-    /// The script of no lines.
+    // The script of no lines.
     fn new(alloc: Global) -> Script
         ensures { result ≡ [] }
     {
@@ -99,8 +99,8 @@ impl Script {
         Script { lines, cycles }
     }
 
-    /// Puts the line with this text last, of which `end` is the number of bytes up to its end. `Refused` where it
-    /// has a cause, with the first of them.
+    // Puts the line with this text last, of which `end` is the number of bytes up to its end. `Refused` where it
+    // has a cause, with the first of them.
     fn grow(&mut self, text: &[u8], end: usize) -> Result<(), ScriptError>
         ensures { MatchResult result (λ _. GainsLine self.old self.new text.now end) (λ error. Stops self.old text.now end error) }
     {
@@ -125,7 +125,7 @@ impl Script {
         Ok(())
     }
 
-    /// The refusal of the next line.
+    // The refusal of the next line.
     fn refusal(&self, cause: Cause) -> ScriptError
         ensures { result ≡ ScriptError.Refused (record { line = length self.now + 1; cause = cause }) }
     {
@@ -136,14 +136,14 @@ impl Script {
     }
 }
 
-/// The line at a place, from 0.
+// The line at a place, from 0.
 fn place_of(lines: &[(Thread, Act)], i: usize) -> Option<(Thread, Act)>
     ensures { result ≡ slice_get lines.now i }
 {
     lines.get(i).copied()
 }
 
-/// 1 for the lines `c cycle` and `c snap`, and 0 for every other.
+// 1 for the lines `c cycle` and `c snap`, and 0 for every other.
 fn cycle_count(line: &(Thread, Act)) -> usize
     ensures { result ≡ cond (is_cycle line.now) 1 0 }
 {
@@ -158,7 +158,7 @@ fn cycle_count(line: &(Thread, Act)) -> usize
     }
 }
 
-/// How many lines are `c cycle` or `c snap`.
+// How many lines are `c cycle` or `c snap`.
 fn cycles_of(lines: &[(Thread, Act)]) -> usize
     ensures { result ≡ cycles_of lines.now }
 {
@@ -169,7 +169,7 @@ fn cycles_of(lines: &[(Thread, Act)]) -> usize
     cycles
 }
 
-/// Where the line that begins at a place ends: the place of its newline, or the length where it has none.
+// Where the line that begins at a place ends: the place of its newline, or the length where it has none.
 fn line_end(bytes: &[u8], at: usize) -> usize
     requires { at < length bytes.now }
     ensures { EndsLine bytes.now at result }

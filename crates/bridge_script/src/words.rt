@@ -75,7 +75,7 @@ pub fn first_place(bytes: &[u8], byte: u8) -> usize
     bytes.len()
 }
 
-/// The number behind a letter, below a limit: `g15`, where the letter is `g` and the limit at least 16.
+// The number behind a letter, below a limit: `g15`, where the letter is `g` and the limit at least 16.
 fn lettered(word: &[u8], letter: u8, below: u64) -> Option<u64>
     ensures { MatchOption result ((n : ℕ) → n < below → letter ∷ decimal n ≢ word.now) (λ n. (n < below) × (letter ∷ decimal n ≡ word.now)) }
 {
@@ -130,7 +130,7 @@ pub fn thread(word: &[u8]) -> Option<Thread>
     None
 }
 
-/// The number of a thread, 1 to 8, behind its letter.
+// The number of a thread, 1 to 8, behind its letter.
 fn thread_number(word: &[u8], letter: u8) -> Option<u8>
     ensures { MatchOption result ((n : ℕ) → 1 ≤ n → n ≤ 8 → letter ∷ decimal n ≢ word.now) (λ n. (1 ≤ n) × (n ≤ 8) × (letter ∷ decimal n ≡ word.now)) }
 {
@@ -189,7 +189,7 @@ pub fn number(word: &[u8]) -> Option<u64>
     }
 }
 
-/// The number that a word of this one byte writes.
+// The number that a word of this one byte writes.
 #[inline(always)]
 fn digit(byte: u8) -> Option<u64>
     ensures { MatchOption result ((n : ℕ) → n < 2 ^ 64 → decimal n ≢ byte ∷ []) (λ n. (n < 2 ^ 64) × (decimal n ≡ byte ∷ [])) }
@@ -200,7 +200,7 @@ fn digit(byte: u8) -> Option<u64>
     Some((byte - b'0') as u64)
 }
 
-/// The number that a word of any length writes.
+// The number that a word of any length writes.
 fn long_number(word: &[u8]) -> Option<u64>
     ensures { MatchOption result ((n : ℕ) → n < 2 ^ 64 → decimal n ≢ word.now) (λ n. (n < 2 ^ 64) × (decimal n ≡ word.now)) }
 {

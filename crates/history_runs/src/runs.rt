@@ -17,7 +17,7 @@ use std::marker::Brand;
 use std::sync::Wait;
 use std::test::Fail;
 
-// What m1 does, a line after that of its last entry.
+/// What m1 does, a line after that of its last entry.
 pub(crate) fn managed<N: OrderName>(
     rt: &impl Wait,
     shared: &Shared<N>,

@@ -14,14 +14,14 @@ use std::test::Fail;
 use std::thread;
 use std::thread::Threads;
 
-/// How many short scripts are drawn, how many lines a long one has, and how many scripts are run at a time.
+// How many short scripts are drawn, how many lines a long one has, and how many scripts are run at a time.
 const SCRIPTS: usize = 200;
 
 const LONG: usize = 2_000;
 
 const AT_ONCE: usize = 4;
 
-/// What a managed thread does: `?` stands for one of two variables, and `#` for 0 or 1. What others build on is drawn more often.
+// What a managed thread does: `?` stands for one of two variables, and `#` for 0 or 1. What others build on is drawn more often.
 const MANAGED: [&[u8]; 26] = [
     b"new ? plain #",
     b"new ? leaf 0",
@@ -51,7 +51,7 @@ const MANAGED: [&[u8]; 26] = [
     b"handle ?",
 ];
 
-/// What a peer thread does.
+// What a peer thread does.
 const PEER: [&[u8]; 18] = [
     b"new ? #",
     b"new ? 2",
@@ -73,7 +73,7 @@ const PEER: [&[u8]; 18] = [
     b"collect",
 ];
 
-/// What the driver does: the phases of a cycle in their order, and what else there is.
+// What the driver does: the phases of a cycle in their order, and what else there is.
 const DRIVER: [&[u8]; 10] = [
     b"snap",
     b"contract",
@@ -87,7 +87,7 @@ const DRIVER: [&[u8]; 10] = [
     b"finalise 1#",
 ];
 
-/// Numbers that are drawn, each from the one before.
+// Numbers that are drawn, each from the one before.
 #[derive(Drop)]
 struct Draws {
     state: u64,
@@ -174,7 +174,7 @@ fn draw_script(alloc: Global, seed: usize, lines: usize) -> Result<Vec<u8>, Allo
     Ok(text)
 }
 
-/// A turnstile that holds each line back for some turns, the driver's the longest, so that the threads' lines come in between each other's.
+// A turnstile that holds each line back for some turns, the driver's the longest, so that the threads' lines come in between each other's.
 #[derive(Drop)]
 struct Jostle {
     turns: AtomicU64,

@@ -32,7 +32,7 @@ fn otherwise(entry: &Entry) -> Entry {
     }
 }
 
-// Judges a history entry by entry: each step of the joint machine is lawful, also after an unlawful one, and what is no step isn't.
+/// Judges a history entry by entry: each step of the joint machine is lawful, also after an unlawful one, and what is no step isn't.
 pub(crate) fn replay(rt: &impl Abort, alloc: Global, h: &History) -> Result<(), AllocError> {
     let mut state = JointState::new(alloc)?;
     for i in 0..h.len() {

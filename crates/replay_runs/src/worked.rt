@@ -8,7 +8,7 @@ use std::alloc::{AllocError, Global};
 use std::sync::Wait;
 use std::test::Fail;
 
-/// A script, and how many entries the history of its run has.
+// A script, and how many entries the history of its run has.
 type Row = (&'static [u8], u64);
 
 const ROWS: [Row; 7] = [

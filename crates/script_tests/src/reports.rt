@@ -13,7 +13,7 @@ use joint_model::{
 use std::alloc::Global;
 use std::test::Fail;
 
-/// A history without entries that has two objects of each heap in its lists, and a notice.
+// A history without entries that has two objects of each heap in its lists, and a notice.
 fn freed(alloc: Global) -> Result<History, Fail> {
     Ok(History::join(
         alloc,
@@ -41,7 +41,7 @@ const A: Var = Var(0);
 
 const B: Var = Var(1);
 
-/// An event, its reply and the entry that is cited, by a caller.
+// An event, its reply and the entry that is cited, by a caller.
 type Event = (Thread, Op, Reply, Option<u64>);
 
 const M1: Thread = Thread::M(1);
@@ -50,12 +50,12 @@ const P8: Thread = Thread::P(8);
 
 const C: Thread = Thread::C;
 
-/// Two places of a history's lists, and none.
+// Two places of a history's lists, and none.
 const BOTH: Span = Span { first: 0, count: 2 };
 
 const NONE: Span = Span { first: 1, count: 0 };
 
-/// The history of one entry, by which two objects of each heap were freed, with its notices.
+// The history of one entry, by which two objects of each heap were freed, with its notices.
 fn told(alloc: Global, event: Event, notices: Vec<MNum>) -> Result<History, Fail>
     requires named { IsNamed event.0 event.1 }
     requires spans { HasSpans freed_objects freed_peers notices.items event.2 }
@@ -82,7 +82,7 @@ fn told(alloc: Global, event: Event, notices: Vec<MNum>) -> Result<History, Fail
     )?)
 }
 
-/// Events with and without lists, each with the report of a history that has it alone.
+// Events with and without lists, each with the report of a history that has it alone.
 const EVENTS: [(Event, &[u8]); 16] = [
     (
         (
@@ -253,7 +253,7 @@ fn entries_have_the_words_of_their_event_and_reply(rt: HostRuntime) -> Result<()
     Ok(())
 }
 
-/// An entry that takes thirty thousand notices, whose line is longer than a block.
+// An entry that takes thirty thousand notices, whose line is longer than a block.
 const MANY: Event = (
     C,
     Op::Line(Act::Finalise { n: 30_000 }),

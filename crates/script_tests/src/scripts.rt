@@ -10,7 +10,7 @@ use std::test::Fail;
 const LINKED: &[u8] =
     b"m1 bridge a bridge 1 user 0\nm1 bridge b bridge 1 user 0\nm1 set a 0 b\nm1 drop b\nc cycle\nm1 drop a\nc cycle\n";
 
-/// A thousand times the number of a text's first faulty line and the number of its cause; 0 where it is a script.
+// A thousand times the number of a text's first faulty line and the number of its cause; 0 where it is a script.
 fn fault(alloc: Global, text: &[u8]) -> u64 {
     match parse(alloc, text) {
         Ok(_) => 0,
@@ -21,7 +21,7 @@ fn fault(alloc: Global, text: &[u8]) -> u64 {
     }
 }
 
-/// In each row the number of a line's first cause, 0 where it has none, and the line.
+// In each row the number of a line's first cause, 0 where it has none, and the line.
 const CAUSES: &[u8] = b"0 m8 drop h
 0 m5 set a 10 a
 0 m4 set h 255 -
@@ -136,11 +136,11 @@ fn each_line_has_its_first_cause(rt: HostRuntime) {
     }
 }
 
-/// A text: a line so many times, then so many bytes `x`, then an end. And a thousand times the number of its first faulty line and the
-/// number of the cause.
+// A text: a line so many times, then so many bytes `x`, then an end. And a thousand times the number of its first faulty line and the
+// number of the cause.
 type Faulty = (&'static [u8], usize, usize, &'static [u8], u64);
 
-/// Texts with few lines, and texts at the limits of a script.
+// Texts with few lines, and texts at the limits of a script.
 const FAULTS: [Faulty; 22] = [
     (b"", 0, 0, b"", 0),
     (b"", 0, 0, b"m1 drop a", 0),
@@ -180,7 +180,7 @@ fn the_first_faulty_line_is_named(rt: HostRuntime) -> Result<(), Fail> {
     Ok(())
 }
 
-/// Scripts in which each line has its newline, the last with every operation.
+// Scripts in which each line has its newline, the last with every operation.
 const SCRIPTS: [&[u8]; 4] = [
     b"",
     LINKED,

@@ -5,7 +5,7 @@ ghost use Rattle.joint_model.specs.Lines.{IsManagedThread, IsVarOrNone};
 
 use joint_model::{Thread, Var};
 
-// Whether this is one of the threads m1 to m8.
+/// Whether this is one of the threads m1 to m8.
 pub(crate) fn is_managed(caller: Thread) -> bool
     ensures { IsTrue result → IsManagedThread caller }
 {
@@ -15,7 +15,7 @@ pub(crate) fn is_managed(caller: Thread) -> bool
     }
 }
 
-// Whether this is a variable, if one is given.
+/// Whether this is a variable, if one is given.
 pub(crate) fn is_var_or_none(v: &Option<Var>) -> bool
     ensures { IsTrue result → IsVarOrNone v.now }
 {

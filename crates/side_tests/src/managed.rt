@@ -30,7 +30,7 @@ const C: Thread = Thread::C;
 // A caller, what it does, and what that answers.
 type Row = (Thread, Call, Reply);
 
-// What is done to a side, in short: variables, fields, statics, cells, objects and peers stand by their numbers.
+/// What is done to a side, in short: variables, fields, statics, cells, objects and peers stand by their numbers.
 #[derive(Clone, Copy)]
 pub(crate) enum Call {
     New(u8, u8),
@@ -153,8 +153,8 @@ impl Call {
     }
 }
 
-// A side with the count that numbers its entries, how many candidates an open cycle has, and how many nodes the last snapshot's graph had. Each
-// handle that was adopted is below the number of the entries.
+/// A side with the count that numbers its entries, how many candidates an open cycle has, and how many nodes the last snapshot's graph had. Each
+/// handle that was adopted is below the number of the entries.
 #[derive(Drop)]
 pub(crate) struct Driven {
     side: ManagedSide,
@@ -310,7 +310,7 @@ impl Driven {
         }
     }
 
-    // The answer to a call; None where it is none that may be made.
+    /// The answer to a call; None where it is none that may be made.
     pub(crate) fn answer(
         &mut self,
         alloc: Global,
@@ -354,7 +354,7 @@ struct Played {
     lists: ManagedLists,
 }
 
-// A new side.
+/// A new side.
 pub(crate) fn start(alloc: Global) -> Result<Driven, AllocError> {
     Ok(Driven {
         side: ManagedSide::new(alloc, 8)?,

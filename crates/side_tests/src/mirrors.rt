@@ -259,14 +259,14 @@ fn is_strong(side: &PeerSide, h: u32) -> bool
     }
 }
 
-// Whether the handle is in the table.
+/// Whether the handle is in the table.
 pub(crate) fn is_tabled(side: &PeerSide, h: u32) -> bool
     ensures { IsTrue result → (row : TableRow) × (row_of side.now.state h ≡ Some row) }
 {
     side.handles().row(HNum(h)).is_some()
 }
 
-// Whether this is a step that leaves the cycle as it is, by this caller.
+/// Whether this is a step that leaves the cycle as it is, by this caller.
 pub(crate) fn is_still(caller: Thread, op: &Op) -> bool
     ensures { IsTrue result → IsStillOp caller op.now }
 {
@@ -278,7 +278,7 @@ pub(crate) fn is_still(caller: Thread, op: &Op) -> bool
     }
 }
 
-// Makes an event that asks nothing of the side.
+/// Makes an event that asks nothing of the side.
 pub(crate) fn makes(
     side: &mut PeerSide,
     draw: &mut Counter,
@@ -296,7 +296,7 @@ pub(crate) fn makes(
     Ok(())
 }
 
-// m1 makes a peer with a field, and a handle on it.
+/// m1 makes a peer with a field, and a handle on it.
 pub(crate) fn make(side: &mut PeerSide, draw: &mut Counter) -> Result<(), AllocError>
     requires { IsCounted (seen side.old) draw.old }
     ensures state { OnOk result (side.new.state ≡ with_pair side.old.state) }
