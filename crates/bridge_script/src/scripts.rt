@@ -8,7 +8,7 @@ ghost use Rattle.bridge_script.specs.Steps.{GainsLine, Stops, EndsLine};
 
 use crate::faults::{Cause, ScriptError, ScriptFault};
 use crate::lines::read_line;
-use crate::words::first_place;
+use crate::words::first_place_far;
 use joint_model::{Act, PhaseWord, Thread};
 use std::alloc::{AllocError, Global};
 use std::marker::Model;
@@ -174,7 +174,7 @@ fn line_end(bytes: &[u8], at: usize) -> usize
     requires { at < length bytes.now }
     ensures { EndsLine bytes.now at result }
 {
-    at + first_place(&bytes[at..], b'\n')
+    at + first_place_far(&bytes[at..], b'\n')
 }
 
 /// The script that has these bytes as its text.
