@@ -28,9 +28,6 @@ pub record Gathered (places : List Place) (words : List (List ℕ)) (ps : List P
   pub left : (c : Cause) → HasAtSome c ps ws → HasAtSome c places words
   pub whole : first ≡ None → (ys : List Operand) → StandAll ps ys → texts ys ≡ ws → StandAll places (xs ++ ys) × (texts (xs ++ ys) ≡ words)
 
-pub gathered_none : (places : List Place) (words : List (List ℕ)) → Gathered places words places words None []
-gathered_none places words = record { count = omega arith; found = tt; known = λ c h. inr h; left = λ c h. h; whole = λ e ys s t. (s, t) }
-
 pick : (P : Cause → Type 0) (t : Bool) (b c : Cause) → P b → P c → P (cond t b c)
 pick P true b c p q = p
 pick P false b c p q = q

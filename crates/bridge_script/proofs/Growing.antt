@@ -1,5 +1,5 @@
--- Whether a script goes on with a line is decided in the order of the causes: bytes and lines exclude all others,
--- the causes of the words come before that of cycles, and a line that is built has none of its words.
+-- Whether a script goes on with a line is decided in the order of the causes: a line that is built has none of its words, so
+-- that of cycles comes first, where there are too many.
 use Rattle.std.proofs.Common.{◌≡◌, ℕ, ◌+◌, ◌-◌, ◌<◌, ◌≤◌, min, cond, Bool, true, false, List, [], ◌∷◌, ◌++◌, length, take, drop, slice_range, ◌∙◌, ap, refl, arith, subst, lit≤, inl, inr, length-drop}
 use Rattle.std.proofs.lemmas.List.{length-take-le}
 use Rattle.joint_model.specs.declared.names.PhaseWord.TheVariants as phase
@@ -13,50 +13,12 @@ use Rattle.bridge_script.specs.declared.faults.ScriptError.{ScriptError}
 use Rattle.bridge_script.specs.declared.faults.ScriptError.TheVariants.{OutOfMemory, ReadFault, Refused}
 use Rattle.bridge_script.specs.Words.{line_text, line_words}
 use Rattle.bridge_script.specs.Causes.{cause_number}
-use Rattle.bridge_script.specs.Faults.{WordsHave, IsFirst, Has, AskCycle, words_of}
+use Rattle.bridge_script.specs.Faults.{IsFirst, Has, AskCycle}
 use Rattle.bridge_script.specs.Scripts.{IsBuilt, IsScript, IsFault, IsRefusal, script_text_of, cycles_of, is_cycle, end_of}
 use Rattle.bridge_script.specs.Steps.{EndsLine, Stops, behind}
 use Rattle.bridge_script.proofs.Built.{words_of_built}
 use Rattle.bridge_script.proofs.Fitting.{none_of_built}
 use Rattle.bridge_script.proofs.Texts.{no_text, length_so_far}
-
-words_number : (words : List (List ℕ)) (c : Cause) → WordsHave words c → cause_number c ≤ 6
-words_number words cause.Cycles h = absurd h.holds
-words_number words cause.Lines h = absurd h.holds
-words_number words cause.Bytes h = absurd h.holds
-words_number words c h = lit≤ tt
-
-has_within : (old : List (Thread × Act)) (text : List ℕ) (end : ℕ) → length old < 20000 → end ≤ 8388608 → (c : Cause) → WordsHave (words_of text) c → Has (behind old text end) c
-has_within old text end l b cause.Cycles h = absurd h.holds
-has_within old text end l b cause.Lines h = absurd h.holds
-has_within old text end l b cause.Bytes h = absurd h.holds
-has_within old text end l b c h = ((b, omega arith), h)
-
-after_words : (old : List (Thread × Act)) (text : List ℕ) (end : ℕ) → length old < 20000 → end ≤ 8388608 → (c : Cause) → IsFirst (WordsHave (words_of text)) c → (d : Cause) → Has (behind old text end) d → cause_number c ≤ cause_number d
-after_words old text end l b c f cause.Bytes h = absurd (omega arith)
-after_words old text end l b c f cause.Lines h = absurd (omega (arith, h.1))
-after_words old text end l b c f cause.Cycles h = omega (arith, words_number (words_of text) c f.here)
-after_words old text end l b c f d h = f.first d h.1
-
--- within the bytes and the lines of a script, the first cause of the words is the first
-pub words_first : (old : List (Thread × Act)) (text : List ℕ) (end : ℕ) → length old < 20000 → end ≤ 8388608 → (c : Cause) → IsFirst (WordsHave (words_of text)) c → IsFirst (Has (behind old text end)) c
-words_first old text end l b c f = record { here = has_within old text end l b c f.here; first = after_words old text end l b c f }
-
-after_bytes : (old : List (Thread × Act)) (text : List ℕ) (end : ℕ) → 8388608 < end → (d : Cause) → Has (behind old text end) d → 9 ≤ cause_number d
-after_bytes old text end l cause.Bytes h = lit≤ tt
-after_bytes old text end l cause.Lines h = absurd (omega (arith, h.0))
-after_bytes old text end l d h = absurd (omega (arith, h.0.0))
-
-pub bytes_first : (old : List (Thread × Act)) (text : List ℕ) (end : ℕ) → 8388608 < end → IsFirst (Has (behind old text end)) cause.Bytes
-bytes_first old text end l = record { here = l; first = after_bytes old text end l }
-
-after_lines : (old : List (Thread × Act)) (text : List ℕ) (end : ℕ) → 20000 ≤ length old → (d : Cause) → Has (behind old text end) d → 8 ≤ cause_number d
-after_lines old text end l cause.Bytes h = lit≤ tt
-after_lines old text end l cause.Lines h = lit≤ tt
-after_lines old text end l d h = absurd (omega (arith, h.0.1))
-
-pub lines_first : (old : List (Thread × Act)) (text : List ℕ) (end : ℕ) → 20000 ≤ length old → end ≤ 8388608 → IsFirst (Has (behind old text end)) cause.Lines
-lines_first old text end l b = record { here = (b, omega arith); first = after_lines old text end l }
 
 -- a line that is counted asks for a cycle
 asks : (line : Thread × Act) → 0 < cond (is_cycle line) 1 0 → AskCycle (line_words line)

@@ -1,7 +1,5 @@
--- A sink to which one text and then another was written holds both, in that order, but for what is pending. Where the
--- second failed, a beginning of both together was written, since the first is whole; and what was the beginning of a
--- text is the beginning of each longer text. So a report is written entry by entry, and an entry piece by piece.
-use Rattle.std.proofs.Common.{◌≡◌, ℕ, ◌+◌, ◌<◌, ◌≤◌, List, [], ◌∷◌, ◌++◌, length, take, drop, get_or, Option, Some, None, Result, Ok, Err, slice_get, decimal, sym, ◌∙◌, ap, refl, arith, subst, OnOk, inl, inr, append_assoc, append-nil, length-drop, length-take}
+-- A report is written entry by entry, and an entry piece by piece: each text is those before it and one piece more.
+use Rattle.std.proofs.Common.{◌≡◌, ℕ, ◌+◌, ◌<◌, ◌≤◌, List, [], ◌∷◌, ◌++◌, length, take, drop, get_or, Option, Some, None, Result, Ok, Err, slice_get, decimal, sym, ◌∙◌, ap, refl, arith, subst, inl, inr, append_assoc, append-nil, length-drop, length-take}
 use Rattle.std.specs.Io.KnownBytes.{Appends, Keeps}
 use Rattle.std.proofs.lemmas.List.{map-append, get_or-drop, take-take, take_more, take_all, take-append-drop, nil_from_length}
 use Rattle.std.proofs.lemmas.Option.{slice_get_cases}
@@ -33,14 +31,6 @@ Writes-after a b c f g k (Err e) x y p l w = record {
   cause = record { later = omega (arith, w.cause.later); failed = omega (arith, w.cause.failed) };
 }
 
--- what failed in a text failed in each longer text
-pub Writes-short : {E : Type 0} (a b : Option (List ℕ)) (f g : ℕ) (e : E) (x y : List ℕ) → Writes {E = E} a b f g (Err e) x → Writes {E = E} a b f g (Err e) (x ++ y)
-Writes-short a b f g e x y w = record {
-  whole = tt;
-  part = record { part = w.part.part; rest = w.part.rest ++ y; whole = ap (λ t. t ++ y) w.part.whole ∙ append_assoc w.part.part w.part.rest y; appends = w.part.appends };
-  cause = w.cause;
-}
-
 pub Appends-none : (a : Option (List ℕ)) → Appends a a []
 Appends-none None = tt
 Appends-none (Some s) = sym (append-nil s)
@@ -48,10 +38,6 @@ Appends-none (Some s) = sym (append-nil s)
 -- nothing was written
 pub BuffersText-none : (a : Option (List ℕ)) (p : List ℕ) → BuffersText a a p p []
 BuffersText-none a p = record { sent = []; appends = Appends-none a; whole = append-nil p }
-
--- what was put behind what is pending
-pub BuffersText-push : (a b : Option (List ℕ)) (p q r x : List ℕ) → BuffersText a b p q [] → r ≡ q ++ x → BuffersText a b p r x
-BuffersText-push a b p q r x w e = record { sent = w.sent; appends = w.appends; whole = rw e (ap (λ t. t ++ x) (sym (append-nil p) ∙ w.whole) ∙ append_assoc w.sent q x) }
 
 -- one text after another
 pub BuffersText-then : (a b c : Option (List ℕ)) (p q r x y : List ℕ) → BuffersText a b p q x → BuffersText b c q r y → BuffersText a c p r (x ++ y)
@@ -90,11 +76,6 @@ BuffersText-into a b c p q r before piece whole e v w = rw e (BuffersText-then a
 -- a text that begins with what was written before, and goes on with a piece that failed
 pub Sends-into : {E : Type 0} (a b c : Option (List ℕ)) (p q r : List ℕ) (f g k : ℕ) (z : E) (before piece rest whole : List ℕ) → whole ≡ (before ++ piece) ++ rest → BuffersText a b p q before → f ≤ g → Sends {E = E} b c q r g k (Err z) piece → Sends {E = E} a c p r f k (Err z) whole
 Sends-into a b c p q r f g k z before piece rest whole e v l w = rw e (Sends-short a c p r f k z (before ++ piece) rest (Sends-after a b c p q r f g k (Err z) before piece v l w))
-
--- all that was pending was written
-pub Sends-flushed : {E : Type 0} (a b : Option (List ℕ)) (p q : List ℕ) (f g : ℕ) (z : Result (Unit {0}) E) → Writes a b f g z p → OnOk z (q ≡ []) → Sends a b p q f g z []
-Sends-flushed a b p q f g (Ok u) w e = record { whole = record { sent = p; appends = w.whole; whole = rw e refl }; part = tt; cause = w.cause }
-Sends-flushed a b p q f g (Err e) w n = record { whole = tt; part = record { part = w.part.part; rest = w.part.rest; whole = append-nil p ∙ w.part.whole; appends = w.part.appends }; cause = w.cause }
 
 -- a text of which the rest was pending, and was written
 pub Writes-flushed : {E : Type 0} (a b c : Option (List ℕ)) (q : List ℕ) (f g k : ℕ) (z : Result (Unit {0}) E) (x : List ℕ) → BuffersText a b [] q x → f ≤ g → Writes b c g k z q → Writes a c f k z x

@@ -1,24 +1,18 @@
 -- Callers at the start of their threads, and where those have ended: each thread's caller still waits or is one of them.
-use Rattle.std.proofs.Common.{◌≡◌, ◌⊎◌, inl, inr, ⊎_elim, ℕ, zero, suc, ◌<◌, ◌≤◌, List, [], ◌∷◌, ◌++◌, length, Option, Some, None, refl, sym, ap, ◌∙◌, subst, arith}
+use Rattle.std.proofs.Common.{◌≡◌, ◌⊎◌, inl, inr, ⊎_elim, ℕ, zero, suc, ◌<◌, List, [], ◌∷◌, ◌++◌, length, Option, Some, None, refl, sym, ap, ◌∙◌, subst, arith}
 use Rattle.std.specs.Prelude.{All, Contains, option_to_list, slice_index_or}
 use Rattle.std.proofs.lemmas.List.Elements.{All-cons, All-head, All-nil, All-tail}
 use Rattle.joint_model.specs.declared.names.Thread.{Thread}
 use Rattle.joint_model.specs.declared.names.Thread.TheVariants.{M, P, C}
 use Rattle.joint_model.specs.Control.{idle}
-use Rattle.joint_model.specs.HistoryLines.{caller_line}
 use Rattle.joint_model.specs.Lines.{IsDriver, IsThread}
 use Rattle.joint_model.proofs.Members.{Contains-cons_cases, Contains-here, Contains-nil, Contains-there}
-use Rattle.order_table.specs.Facts.{line_entries}
-use Rattle.joint_history.specs.Callers.{KnowsNothing, Pass, last_index, own}
+use Rattle.joint_history.specs.Callers.{Pass}
 use Rattle.joint_history.specs.Desks.{Waiting}
 use Rattle.joint_history.specs.Ending.{HasAll, IsIdle, threads_of}
 use Rattle.joint_history.specs.Operations.{IsOwnThread}
 use Rattle.joint_history.proofs.Giving.{has_all_same}
 use Rattle.history_runs.specs.Starts.{IsStarting}
-
--- who knows nothing has made nothing
-pub starts_below : (p : Pass) → KnowsNothing p.view → last_index (own p) ≤ 0
-starts_below p w = let e : last_index (own p) ≡ 0 = ap (λ ks. last_index (line_entries ks)) (w (caller_line p.thread)) in omega (arith, e)
 
 -- a caller that a desk gave stands last among those that were given before
 last_too : (ps : List Pass) (p : Pass) (t : Thread) → Contains (threads_of (p ∷ ps)) t → Contains (threads_of (ps ++ p ∷ [])) t
