@@ -18,14 +18,40 @@
 // `specs/Ends.antt` have it word by word, and docs/PROVED.md tells it promise by promise. That the program returns, or goes on, is not promised.
 #![tactic(auto)]
 
+#[cfg(test)]
+mod expecting;
 mod generated;
+#[cfg(test)]
+mod large_runs;
+#[cfg(test)]
+mod meetings;
+#[cfg(test)]
+mod processes;
 mod program;
 #[cfg(test)]
 mod rows;
+#[cfg(test)]
+mod rows_cell_read;
+#[cfg(test)]
+mod rows_collected;
+#[cfg(test)]
+mod rows_cycle_limit;
+#[cfg(test)]
+mod rows_cycles;
+#[cfg(test)]
+mod rows_lines;
+#[cfg(test)]
+mod rows_many_leaves;
+#[cfg(test)]
+mod rows_read_and_dropped;
+#[cfg(test)]
+mod rows_read_and_stored;
+#[cfg(test)]
+mod rows_weakly_read;
+#[cfg(test)]
+mod runs;
 mod statuses;
 mod streams;
-#[cfg(test)]
-mod tests;
 mod top;
 
 use bridge_script::FreeTurn;

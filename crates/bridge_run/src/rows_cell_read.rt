@@ -1,0 +1,361 @@
+// Worked scripts: a weak cell is read between two phases of a cycle, each time between two others.
+
+/// Rows behind one another, as `rows.rt` reads them.
+pub const CELL_READ: &[u8] = b"# 0
+m1 bridge a bridge 1 user 0
+m1 bridge b bridge 1 user 0
+m1 set a 0 b
+m1 weak k0 b
+m1 pass a s0
+p1 load a s0
+p1 wglobal G0 a
+p1 drop a
+p1 store s0 -
+m1 drop a
+m1 drop b
+c snap
+m1 read k0
+c contract
+c mirror
+c weaken
+c mark
+c sweep
+c restore
+c resolve
+m1 read k0
+=
+0 m1.1 make user 0 = p1 h1
+1 m1.1 adopt a bridge 1 p1 h1 = m1 @0
+2 m1.2 make user 0 = p2 h2
+3 m1.2 adopt b bridge 1 p2 h2 = m2 @2
+4 m1.3 set a 0 b = ok
+5 m1.4 weak k0 b = ok
+6 m1.5 lend a s0 = h1
+7 m1.5 land h1 s0 = p1 @6
+8 p1.6 load a s0 = p1
+9 p1.7 wglobal G0 a = h3
+10 p1.8 drop a = ok
+11 p1.9 store s0 - = ok
+12 m1.10 drop a = ok
+13 m1.11 drop b = ok
+14 c.12 snap 1 = 2 freed -
+15 m1.13 read k0 = pending 1
+16 c.14 contract 1 = 2 sccs 1 xrefs
+17 c.15 mirror 1 = 1 refs @14
+18 c.16 weaken h1 = ok @14
+19 c.16 weaken h2 = ok @14
+20 c.17 begin = 1
+21 c.18 sweep = 1 freed p1 p2
+22 c.19 restore h1 = cleared
+23 c.19 restore h2 = cleared
+24 c.19 clear 1 = ok
+25 c.20 resolve 1 = freed m1 m2 @24
+26 m1.21 read k0 = gone
+end 27
+# 0
+m1 bridge a bridge 1 user 0
+m1 bridge b bridge 1 user 0
+m1 set a 0 b
+m1 weak k0 b
+m1 pass a s0
+p1 load a s0
+p1 wglobal G0 a
+p1 drop a
+p1 store s0 -
+m1 drop a
+m1 drop b
+c snap
+c contract
+m1 read k0
+c mirror
+c weaken
+c mark
+c sweep
+c restore
+c resolve
+m1 read k0
+=
+0 m1.1 make user 0 = p1 h1
+1 m1.1 adopt a bridge 1 p1 h1 = m1 @0
+2 m1.2 make user 0 = p2 h2
+3 m1.2 adopt b bridge 1 p2 h2 = m2 @2
+4 m1.3 set a 0 b = ok
+5 m1.4 weak k0 b = ok
+6 m1.5 lend a s0 = h1
+7 m1.5 land h1 s0 = p1 @6
+8 p1.6 load a s0 = p1
+9 p1.7 wglobal G0 a = h3
+10 p1.8 drop a = ok
+11 p1.9 store s0 - = ok
+12 m1.10 drop a = ok
+13 m1.11 drop b = ok
+14 c.12 snap 1 = 2 freed -
+15 c.13 contract 1 = 2 sccs 1 xrefs
+16 m1.14 read k0 = pending 1
+17 c.15 mirror 1 = 1 refs @14
+18 c.16 weaken h1 = ok @14
+19 c.16 weaken h2 = ok @14
+20 c.17 begin = 1
+21 c.18 sweep = 1 freed p1 p2
+22 c.19 restore h1 = cleared
+23 c.19 restore h2 = cleared
+24 c.19 clear 1 = ok
+25 c.20 resolve 1 = freed m1 m2 @24
+26 m1.21 read k0 = gone
+end 27
+# 0
+m1 bridge a bridge 1 user 0
+m1 bridge b bridge 1 user 0
+m1 set a 0 b
+m1 weak k0 b
+m1 pass a s0
+p1 load a s0
+p1 wglobal G0 a
+p1 drop a
+p1 store s0 -
+m1 drop a
+m1 drop b
+c snap
+c contract
+c mirror
+m1 read k0
+c weaken
+c mark
+c sweep
+c restore
+c resolve
+m1 read k0
+=
+0 m1.1 make user 0 = p1 h1
+1 m1.1 adopt a bridge 1 p1 h1 = m1 @0
+2 m1.2 make user 0 = p2 h2
+3 m1.2 adopt b bridge 1 p2 h2 = m2 @2
+4 m1.3 set a 0 b = ok
+5 m1.4 weak k0 b = ok
+6 m1.5 lend a s0 = h1
+7 m1.5 land h1 s0 = p1 @6
+8 p1.6 load a s0 = p1
+9 p1.7 wglobal G0 a = h3
+10 p1.8 drop a = ok
+11 p1.9 store s0 - = ok
+12 m1.10 drop a = ok
+13 m1.11 drop b = ok
+14 c.12 snap 1 = 2 freed -
+15 c.13 contract 1 = 2 sccs 1 xrefs
+16 c.14 mirror 1 = 1 refs @14
+17 m1.15 read k0 = pending 1
+18 c.16 weaken h1 = ok @14
+19 c.16 weaken h2 = ok @14
+20 c.17 begin = 1
+21 c.18 sweep = 1 freed p1 p2
+22 c.19 restore h1 = cleared
+23 c.19 restore h2 = cleared
+24 c.19 clear 1 = ok
+25 c.20 resolve 1 = freed m1 m2 @24
+26 m1.21 read k0 = gone
+end 27
+# 0
+m1 bridge a bridge 1 user 0
+m1 bridge b bridge 1 user 0
+m1 set a 0 b
+m1 weak k0 b
+m1 pass a s0
+p1 load a s0
+p1 wglobal G0 a
+p1 drop a
+p1 store s0 -
+m1 drop a
+m1 drop b
+c snap
+c contract
+c mirror
+c weaken
+m1 read k0
+c mark
+c sweep
+c restore
+c resolve
+m1 read k0
+=
+0 m1.1 make user 0 = p1 h1
+1 m1.1 adopt a bridge 1 p1 h1 = m1 @0
+2 m1.2 make user 0 = p2 h2
+3 m1.2 adopt b bridge 1 p2 h2 = m2 @2
+4 m1.3 set a 0 b = ok
+5 m1.4 weak k0 b = ok
+6 m1.5 lend a s0 = h1
+7 m1.5 land h1 s0 = p1 @6
+8 p1.6 load a s0 = p1
+9 p1.7 wglobal G0 a = h3
+10 p1.8 drop a = ok
+11 p1.9 store s0 - = ok
+12 m1.10 drop a = ok
+13 m1.11 drop b = ok
+14 c.12 snap 1 = 2 freed -
+15 c.13 contract 1 = 2 sccs 1 xrefs
+16 c.14 mirror 1 = 1 refs @14
+17 c.15 weaken h1 = ok @14
+18 c.15 weaken h2 = ok @14
+19 m1.16 read k0 = pending 1
+20 c.17 begin = 1
+21 c.18 sweep = 1 freed p1 p2
+22 c.19 restore h1 = cleared
+23 c.19 restore h2 = cleared
+24 c.19 clear 1 = ok
+25 c.20 resolve 1 = freed m1 m2 @24
+26 m1.21 read k0 = gone
+end 27
+# 0
+m1 bridge a bridge 1 user 0
+m1 bridge b bridge 1 user 0
+m1 set a 0 b
+m1 weak k0 b
+m1 pass a s0
+p1 load a s0
+p1 wglobal G0 a
+p1 drop a
+p1 store s0 -
+m1 drop a
+m1 drop b
+c snap
+c contract
+c mirror
+c weaken
+c mark
+m1 read k0
+c sweep
+c restore
+c resolve
+m1 read k0
+=
+0 m1.1 make user 0 = p1 h1
+1 m1.1 adopt a bridge 1 p1 h1 = m1 @0
+2 m1.2 make user 0 = p2 h2
+3 m1.2 adopt b bridge 1 p2 h2 = m2 @2
+4 m1.3 set a 0 b = ok
+5 m1.4 weak k0 b = ok
+6 m1.5 lend a s0 = h1
+7 m1.5 land h1 s0 = p1 @6
+8 p1.6 load a s0 = p1
+9 p1.7 wglobal G0 a = h3
+10 p1.8 drop a = ok
+11 p1.9 store s0 - = ok
+12 m1.10 drop a = ok
+13 m1.11 drop b = ok
+14 c.12 snap 1 = 2 freed -
+15 c.13 contract 1 = 2 sccs 1 xrefs
+16 c.14 mirror 1 = 1 refs @14
+17 c.15 weaken h1 = ok @14
+18 c.15 weaken h2 = ok @14
+19 c.16 begin = 1
+20 m1.17 read k0 = pending 1
+21 c.18 sweep = 1 freed p1 p2
+22 c.19 restore h1 = cleared
+23 c.19 restore h2 = cleared
+24 c.19 clear 1 = ok
+25 c.20 resolve 1 = freed m1 m2 @24
+26 m1.21 read k0 = gone
+end 27
+# 0
+m1 bridge a bridge 1 user 0
+m1 bridge b bridge 1 user 0
+m1 set a 0 b
+m1 weak k0 b
+m1 pass a s0
+p1 load a s0
+p1 wglobal G0 a
+p1 drop a
+p1 store s0 -
+m1 drop a
+m1 drop b
+c snap
+c contract
+c mirror
+c weaken
+c mark
+c sweep
+m1 read k0
+c restore
+c resolve
+m1 read k0
+=
+0 m1.1 make user 0 = p1 h1
+1 m1.1 adopt a bridge 1 p1 h1 = m1 @0
+2 m1.2 make user 0 = p2 h2
+3 m1.2 adopt b bridge 1 p2 h2 = m2 @2
+4 m1.3 set a 0 b = ok
+5 m1.4 weak k0 b = ok
+6 m1.5 lend a s0 = h1
+7 m1.5 land h1 s0 = p1 @6
+8 p1.6 load a s0 = p1
+9 p1.7 wglobal G0 a = h3
+10 p1.8 drop a = ok
+11 p1.9 store s0 - = ok
+12 m1.10 drop a = ok
+13 m1.11 drop b = ok
+14 c.12 snap 1 = 2 freed -
+15 c.13 contract 1 = 2 sccs 1 xrefs
+16 c.14 mirror 1 = 1 refs @14
+17 c.15 weaken h1 = ok @14
+18 c.15 weaken h2 = ok @14
+19 c.16 begin = 1
+20 c.17 sweep = 1 freed p1 p2
+21 m1.18 read k0 = pending 1
+22 c.19 restore h1 = cleared
+23 c.19 restore h2 = cleared
+24 c.19 clear 1 = ok
+25 c.20 resolve 1 = freed m1 m2 @24
+26 m1.21 read k0 = gone
+end 27
+# 0
+m1 bridge a bridge 1 user 0
+m1 bridge b bridge 1 user 0
+m1 set a 0 b
+m1 weak k0 b
+m1 pass a s0
+p1 load a s0
+p1 wglobal G0 a
+p1 drop a
+p1 store s0 -
+m1 drop a
+m1 drop b
+c snap
+c contract
+c mirror
+c weaken
+c mark
+c sweep
+c restore
+m1 read k0
+c resolve
+m1 read k0
+=
+0 m1.1 make user 0 = p1 h1
+1 m1.1 adopt a bridge 1 p1 h1 = m1 @0
+2 m1.2 make user 0 = p2 h2
+3 m1.2 adopt b bridge 1 p2 h2 = m2 @2
+4 m1.3 set a 0 b = ok
+5 m1.4 weak k0 b = ok
+6 m1.5 lend a s0 = h1
+7 m1.5 land h1 s0 = p1 @6
+8 p1.6 load a s0 = p1
+9 p1.7 wglobal G0 a = h3
+10 p1.8 drop a = ok
+11 p1.9 store s0 - = ok
+12 m1.10 drop a = ok
+13 m1.11 drop b = ok
+14 c.12 snap 1 = 2 freed -
+15 c.13 contract 1 = 2 sccs 1 xrefs
+16 c.14 mirror 1 = 1 refs @14
+17 c.15 weaken h1 = ok @14
+18 c.15 weaken h2 = ok @14
+19 c.16 begin = 1
+20 c.17 sweep = 1 freed p1 p2
+21 c.18 restore h1 = cleared
+22 c.18 restore h2 = cleared
+23 c.18 clear 1 = ok
+24 m1.19 read k0 = pending 1
+25 c.20 resolve 1 = freed m1 m2 @23
+26 m1.21 read k0 = gone
+end 27
+";
