@@ -14,6 +14,12 @@ mod loose;
 #[cfg(test)]
 mod managed;
 #[cfg(test)]
+mod managed_checks;
+#[cfg(test)]
+mod managed_rows;
+#[cfg(test)]
 mod mirrors;
+#[cfg(test)]
+mod peer_rows;
 #[cfg(test)]
 mod peers;

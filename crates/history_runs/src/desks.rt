@@ -1,0 +1,69 @@
+// Which callers a desk gives.
+
+ghost use Rattle.std.specs.Prelude.{◌≡◌};
+ghost use Rattle.order_table.specs.Views.{OwnsAll};
+ghost use Rattle.joint_history.specs.Callers.{KnowsNothing};
+
+use joint_history::Shared;
+use joint_model::Thread;
+use order_table::{Order, OrderName, Seat};
+use std::alloc::{AllocError, Global};
+use std::marker::Brand;
+use std::test::Fail;
+
+// For each thread in turn, the thread of the caller that the desk gives; None where it gives none.
+fn given<N: OrderName>(
+    alloc: Global,
+    order: Order,
+    seat: Seat,
+    threads: &[Thread],
+) -> Result<Vec<Option<Thread>>, AllocError>
+    requires order { order ≡ N.order }
+    requires seat { (seat.order ≡ N.order) × OwnsAll seat.view × KnowsNothing seat.view }
+{
+    let (_shared, mut desk) = Shared::<N>::new(alloc, order, seat, 1, 2)?;
+    let mut given = Vec::new(alloc);
+    for t in threads {
+        let thread = match desk.caller(*t) {
+            Some(caller) => Some(caller.thread()),
+            None => None,
+        };
+        given.push(thread)?;
+    }
+    Ok(given)
+}
+
+#[test]
+fn a_desk_gives_each_caller_once(rt: HostRuntime) -> Result<(), Fail> {
+    let (order, seat) = Order::new(rt.alloc(), 1)?;
+    let (m, p, c) = (Thread::M(1), Thread::P(2), Thread::C);
+    let asked = [
+        m,
+        m,
+        Thread::M(2),
+        Thread::M(9),
+        Thread::M(0),
+        p,
+        c,
+        p,
+        c,
+        Thread::P(3),
+        Thread::P(1),
+    ];
+    let given = given::<Brand>(rt.alloc(), order, seat, &asked)?;
+    let wanted = [
+        Some(m),
+        None,
+        None,
+        None,
+        None,
+        Some(p),
+        Some(c),
+        None,
+        None,
+        None,
+        Some(Thread::P(1)),
+    ];
+    assert_eq!(rt; given.as_slice(), wanted.as_slice());
+    Ok(())
+}
