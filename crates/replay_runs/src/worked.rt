@@ -5,6 +5,7 @@ use bridge_script::{Script, ScriptError, parse};
 use joint_model::History;
 use script_runs::run_serial;
 use std::alloc::{AllocError, Global};
+use std::process::Abort;
 use std::sync::Wait;
 use std::test::Fail;
 
@@ -131,18 +132,27 @@ fn run(rt: &impl Wait, alloc: Global, script: &Script) -> Result<History, AllocE
     run_serial(rt, alloc, script.lines())
 }
 
+// Runs the script of a row, and has each entry judged.
+fn judge_row<R: Wait + Abort>(rt: &R, alloc: Global, row: &Row) -> Result<(), AllocError> {
+    let (text, entries) = row;
+    match parse(alloc, text) {
+        Ok(script) => {
+            let h = run(rt, alloc, &script)?;
+            assert!(rt; h.len() == *entries, "{} entries", h.len());
+            replay(rt, alloc, &h)
+        }
+        Err(error) => {
+            assert!(rt; error == ScriptError::OutOfMemory, "no script");
+            Err(AllocError)
+        }
+    }
+}
+
 #[test]
 fn a_finished_history_is_lawful_to_its_end(rt: HostRuntime) -> Result<(), Fail> {
     let alloc = rt.alloc();
-    for (text, entries) in &ROWS {
-        match parse(alloc, text) {
-            Ok(script) => {
-                let h = run(&rt, alloc, &script)?;
-                assert!(rt; h.len() == *entries, "{} entries", h.len());
-                replay(&rt, alloc, &h)?;
-            }
-            Err(error) => assert!(rt; error == ScriptError::OutOfMemory, "no script"),
-        }
+    for row in &ROWS {
+        judge_row(&rt, alloc, row)?;
     }
     Ok(())
 }
