@@ -3,6 +3,10 @@
 //
 // A history is a list of entries. Each entry is one atomic step of a thread, with its reply. `specs/`
 // says which histories are lawful, and what the joint machine does at each entry.
+//
+// What lives here beside definitions: a [`Draw`] gives an entry its number; a side puts its entries into [`Entries`], for which it took room; and a
+// run's end joins the lists into one [`History`], which is only read. The functions promise that these hold just what was put in, in its order.
+// The definitions are what a reader has to believe.
 #![tactic(auto)]
 
 mod draws;
@@ -23,6 +27,3 @@ pub use names::{
     Thread, Var,
 };
 pub use sides::{enter, replays_go_on};
-
-#[cfg(test)]
-mod tests;

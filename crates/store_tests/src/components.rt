@@ -3,7 +3,7 @@
 use std::test::Fail;
 use xref_list::{Added, ComponentsBuilder};
 
-/// Two components of one member each, and a pair that is added twice.
+// Two components of one member each, and a pair that is added twice.
 #[test]
 fn one_pair(rt: HostRuntime) -> Result<(), Fail> {
     let mut builder = ComponentsBuilder::new(rt.alloc());
@@ -17,7 +17,7 @@ fn one_pair(rt: HostRuntime) -> Result<(), Fail> {
     Ok(())
 }
 
-/// Circles come first, then pairs in order, however they were added.
+// Circles come first, then pairs in order, however they were added.
 #[test]
 fn circles_and_pairs(rt: HostRuntime) -> Result<(), Fail> {
     let mut builder = ComponentsBuilder::new(rt.alloc());

@@ -4,7 +4,7 @@ use bridge_graph::GraphBuilder;
 use joint_model::{HNum, MNum};
 use std::test::Fail;
 
-/// A bridge node with a reference to an opaque plain one.
+// A bridge node with a reference to an opaque plain one.
 #[test]
 fn two_nodes(rt: HostRuntime) -> Result<(), Fail> {
     let mut builder = GraphBuilder::new(rt.alloc());
@@ -22,7 +22,7 @@ fn two_nodes(rt: HostRuntime) -> Result<(), Fail> {
     Ok(())
 }
 
-/// Edges that are added in any order stand together by node, in that order, the same one twice too.
+// Edges that are added in any order stand together by node, in that order, the same one twice too.
 #[test]
 fn any_order(rt: HostRuntime) -> Result<(), Fail> {
     let mut builder = GraphBuilder::new(rt.alloc());

@@ -1,8 +1,10 @@
-// Tests of the crates that keep something, by their public calls, where memory is ample: marked rows, the heap of rows, the table of
-// handles, the dead part as a graph, and the list of components.
+// Tests of the crates that keep something, by their public calls, where memory is ample: lists of entries and their history, marked rows, the
+// heap of rows, the table of handles, the dead part as a graph, and the list of components.
 //
 // They stand in a crate of their own since a crate with tests is proved twice, with them and without. Nothing but tests stands here, and no
 // other crate builds on it.
+//
+// Nothing is promised to anybody. A test makes its value, plays a table of calls on it, and compares the answers; no other thread runs.
 #![tactic(auto)]
 
 #[cfg(test)]
@@ -11,6 +13,8 @@ mod components;
 mod graphs;
 #[cfg(test)]
 mod handles;
+#[cfg(test)]
+mod histories;
 #[cfg(test)]
 mod markings;
 #[cfg(test)]

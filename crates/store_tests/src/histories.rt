@@ -1,6 +1,6 @@
-// The lists and the history by their first calls, with ample memory.
+// The lists of entries and the history by their first calls.
 
-use crate::{Alive, Counter, Draw, Entries, History, Made, Op, Reply, Thread};
+use joint_model::{Alive, Counter, Draw, Entries, Entry, History, Made, Op, Reply, Thread};
 use std::test::Fail;
 
 const BEGUN: Made = Made {
@@ -28,19 +28,19 @@ fn drawn_entries_are_kept(rt: HostRuntime) -> Result<(), Fail> {
     let mut entries = Entries::new(rt.alloc());
     entries.reserve(2)?;
     let number = counter.draw(&BEGUN, None, &[]);
-    entries.push(crate::Entry {
+    entries.push(Entry {
         number,
         made: BEGUN,
     });
     let number = counter.draw(&BEGUN, None, &[]);
-    entries.push(crate::Entry {
+    entries.push(Entry {
         number,
         made: BEGUN,
     });
     assert_eq!(rt; entries.len(), 2);
     assert_eq!(rt;
         entries.at(1),
-        Some(crate::Entry {
+        Some(Entry {
             number: 1,
             made: BEGUN
         })
