@@ -8,23 +8,10 @@ use Rattle.joint_model.specs.declared.names.PhaseWord.TheVariants as word
 use Rattle.joint_model.specs.declared.events.Entry.{Entry}
 use Rattle.joint_model.specs.declared.events.Reply.{Reply}
 use Rattle.joint_model.specs.Phases.{next_phase, phases_left, phases_of}
-use Rattle.joint_model.proofs.Deciding.{none_some, some-same}
+use Rattle.joint_model.proofs.Deciding.{some-same}
 use Rattle.bridge_cycle.specs.Progress.{EndsWithReply, StopsForMemory, LeadTo, Progress, Runs, RunsPhases, last_reply}
-use Rattle.bridge_cycle.specs.Words.{Closes, IsOnePhase, IsPartway, Lacks, due_in, next_word}
+use Rattle.bridge_cycle.specs.Words.{Closes, IsPartway, Lacks, next_word}
 use Rattle.bridge_cycle.proofs.Making.{append_nil, runs_more}
-
--- a word that isn't refused is due
-pub turn : (p : Phase) (w : PhaseWord) (next : Phase) → IsOnePhase w → next_phase p w ≡ Some next → p ≡ due_in w
-turn at.Idle word.Cycle next o e = refl
-turn at.Idle word.Snap next o e = refl
-turn at.Snapped word.Contract next o e = refl
-turn at.Contracted word.Mirror next o e = refl
-turn at.Mirrored word.Weaken next o e = refl
-turn at.Weakened word.Mark next o e = refl
-turn at.Marked word.Sweep next o e = refl
-turn at.Swept word.Restore next o e = refl
-turn at.Restored word.Resolve next o e = refl
-turn p w next o e = absurd (none_some next e)
 
 -- where a phase's word leads
 leads_one : (p q : Phase) (w : PhaseWord) (next : Phase) → next_phase p w ≡ Some next → LeadTo p (w ∷ []) q → q ≡ next
@@ -152,18 +139,6 @@ cycle_breaks old mid new index first idle a b =
       takes = b.takes;
       runs = runs_on old mid new index (word.Snap ∷ []) b.run (a.entries, runs) b.runs;
     }
-
--- a line with a phase word that is due
-one_word : (w : PhaseWord) → IsOnePhase w → phases_of w ≡ w ∷ []
-one_word word.Cycle o = absurd o
-one_word word.Snap o = refl
-one_word word.Contract o = refl
-one_word word.Mirror o = refl
-one_word word.Weaken o = refl
-one_word word.Mark o = refl
-one_word word.Sweep o = refl
-one_word word.Restore o = refl
-one_word word.Resolve o = refl
 
 -- what holds of an answer, by another fact of it
 pub if_ok_map : {X E : Type 0} (P Q : X → Type 0) (r : Result X E) → IfOk r P → ((x : X) → P x → Q x) → IfOk r Q

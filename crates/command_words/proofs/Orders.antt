@@ -1,5 +1,5 @@
 -- The seven words of a generator's command, in each order and by their places.
-use Rattle.std.proofs.Common.{◌≡◌, ◌≢◌, ℕ, zero, suc, ◌≤◌, ◌<◌, ◌^◌, ◌⊎◌, inl, inr, Bool, true, false, List, [], ◌∷◌, length, map, if◌then◌else◌, Some, None, refl, sym, ap, ◌∙◌, subst, arith}
+use Rattle.std.proofs.Common.{◌≡◌, ◌≢◌, ℕ, zero, suc, ◌≤◌, ◌<◌, ◌^◌, Bool, true, false, List, [], ◌∷◌, length, map, if◌then◌else◌, Some, None, refl, sym, ap, ◌∙◌, subst, arith}
 use Rattle.std.specs.Prelude.{Contains, bytes_eq, codes, decimal}
 use Rattle.std.specs.Cmp.Lexicographic.{same_text, other_text}
 use Rattle.command_words.specs.declared.commands.Mode.{Mode}
@@ -103,21 +103,11 @@ pub one : (text : List ℕ) (words : List (List ℕ)) → Contains ((text ∷ []
 one text words (zero, l, e) = e
 one text words (suc k, l, e) = let few : suc k < 1 = l in absurd (omega (arith, few))
 
-pub lengths : (words : List (List ℕ)) (c : Command) → AreWordsOf words c → (length words ≡ 1) ⊎ (length words ≡ 7)
-lengths words command.Serial a = inl (sym (ap length (one (codes "serial") words a.given)))
-lengths words command.Threads a = inl (sym (ap length (one (codes "threads") words a.given)))
-lengths words (command.Generate seed size m) a = inr (values (decimal seed) (decimal size) (mode_text m) words a.given).seven
-
 -- of one word, none that is a mode's
 pub not_one : (words : List (List ℕ)) → length words ≡ 1 → ((m : Mode) → mode_text m ≢ word_at words 0) → (c : Command) → AreWordsOf words c → ⊥
 not_one words l none command.Serial a = none mode.Serial (ap (λ w. word_at w 0) (one (codes "serial") words a.given))
 not_one words l none command.Threads a = none mode.Threads (ap (λ w. word_at w 0) (one (codes "threads") words a.given))
 not_one words l none (command.Generate seed size m) a = let seven = (values (decimal seed) (decimal size) (mode_text m) words a.given).seven in absurd (omega (arith, seven, l))
-
-pub is_one : (words : List (List ℕ)) (text : List ℕ) → length words ≡ 1 → text ≡ word_at words 0 → Contains ((text ∷ []) ∷ []) words
-is_one [] text l e = absurd (omega arith)
-is_one (w ∷ []) text l e = let few : 0 < 1 = omega arith in (0, few, ap (λ x. x ∷ []) e)
-is_one (w ∷ x ∷ more) text l e = absurd (omega arith)
 
 -- of seven words, none that are the generator's
 pub not_seven : (words : List (List ℕ)) → length words ≡ 7 → ((seed size : ℕ) (m : Mode) → seed < 2 ^ 64 → size ≤ 2800 → Values words (decimal seed) (decimal size) (mode_text m) → ⊥) → (c : Command) → AreWordsOf words c → ⊥

@@ -1,16 +1,13 @@
--- What a table's user needs of its rows: a look-up after each change, and that the rows still rise. A call changes
+-- What a table's user needs of its rows: a look-up after each change. A call changes
 -- the row of one number or the rows of one peer, so each look-up of another number stays as it was; each fact is
 -- an induction over the rows, by whether the first row has the number.
-use Rattle.std.proofs.Common.{◌≡◌, ◌≢◌, ℕ, ◌<◌, ◌≤◌, cond, eqb, Bool, true, false, List, [], ◌∷◌, ◌++◌, None, Some, refl, sym, ap, ◌∙◌, eq-eqb, arith}
-use Rattle.std.specs.Option.{option_map}
+use Rattle.std.proofs.Common.{◌≡◌, ◌≢◌, ℕ, ◌<◌, ◌≤◌, eqb, Bool, true, false, List, [], ◌∷◌, ◌++◌, None, Some, refl, sym, ap, ◌∙◌, eq-eqb, arith}
 use Rattle.std.proofs.lemmas.Option.{none-some, same_Some}
 use Rattle.std.proofs.lemmas.Bool.Decides.{nat_tests}
 use Rattle.joint_model.specs.declared.names.HNum.{HNum}
-use Rattle.joint_model.specs.declared.names.PNum.{PNum}
 use Rattle.joint_model.proofs.Deciding.{neq-eqb}
 use Rattle.global_handles.specs.declared.HandleRow.{HandleRow}
-use Rattle.global_handles.specs.Rows.{row_in, changed, without, cleared_row, cleared_for, RisesBetween}
-use Rattle.global_handles.proofs.Rows.{RisesBetween-low}
+use Rattle.global_handles.specs.Rows.{row_in, changed, without, RisesBetween}
 
 -- what rises between two numbers keeps them in order
 RisesBetween-within : (low high : ℕ) (rows : List HandleRow) → RisesBetween low high rows → low ≤ high
@@ -91,44 +88,3 @@ row_in-without_other (x ∷ rs) h other apart = by (eqb h.0 x.number.0) refl (ro
         let no : other.0 ≢ x.number.0 = λ same. apart (same ∙ sym here) in
         rw (e, neq-eqb other.0 x.number.0 no) rest
     by false e rest = rw (e, rest) refl
-
--- a clearing is seen at each row of the peer
-pub row_in-cleared_for : (p : PNum) (rows : List HandleRow) (h : HNum) → row_in (cleared_for p rows) h ≡ option_map (λ r. cond (eqb p.0 r.peer.0) (cleared_row r) r) (row_in rows h)
-row_in-cleared_for p [] h = refl
-row_in-cleared_for p (x ∷ rs) h = by (eqb p.0 x.peer.0) (eqb h.0 x.number.0) refl refl (row_in-cleared_for p rs h)
-  where
-    by : (b b' : Bool) → eqb p.0 x.peer.0 ≡ b → eqb h.0 x.number.0 ≡ b' → row_in (cleared_for p rs) h ≡ option_map (λ r. cond (eqb p.0 r.peer.0) (cleared_row r) r) (row_in rs h)
-        → row_in (cleared_for p (x ∷ rs)) h ≡ option_map (λ r. cond (eqb p.0 r.peer.0) (cleared_row r) r) (row_in (x ∷ rs) h)
-    by true true e e' rest = rw (e, e', e) refl
-    by true false e e' rest = rw (e, e') rest
-    by false true e e' rest = rw (e, e', e) refl
-    by false false e e' rest = rw (e, e') rest
-
--- the rows still rise after a row was put last, changed or removed, and after a clearing
-pub RisesBetween-push : (low high top : ℕ) (rows : List HandleRow) (r : HandleRow) → RisesBetween low high rows → high < r.number.0 → r.number.0 ≤ top → RisesBetween low top (rows ++ r ∷ [])
-RisesBetween-push low high top [] r rises above le = (omega arith, le)
-RisesBetween-push low high top (x ∷ rs) r rises above le = (rises.0, RisesBetween-push x.number.0 high top rs r rises.1 above le)
-
-pub RisesBetween-changed : (f : HandleRow → HandleRow) (low high : ℕ) (rows : List HandleRow) (h : HNum) → ((x : HandleRow) → (f x).number ≡ x.number) → RisesBetween low high rows → RisesBetween low high (changed f h rows)
-RisesBetween-changed f low high [] h keeps rises = rises
-RisesBetween-changed f low high (x ∷ rs) h keeps rises = by (eqb h.0 x.number.0) refl (RisesBetween-changed f x.number.0 high rs h keeps rises.1)
-  where
-    by : (b : Bool) → eqb h.0 x.number.0 ≡ b → RisesBetween x.number.0 high (changed f h rs) → RisesBetween low high (changed f h (x ∷ rs))
-    by true e rest = rw (e, keeps x) (rises.0, rest)
-    by false e rest = rw e (rises.0, rest)
-
-pub RisesBetween-without : (low high : ℕ) (rows : List HandleRow) (h : HNum) → RisesBetween low high rows → RisesBetween low high (without h rows)
-RisesBetween-without low high [] h rises = rises
-RisesBetween-without low high (x ∷ rs) h rises = by (eqb h.0 x.number.0) refl (RisesBetween-without x.number.0 high rs h rises.1)
-  where
-    by : (b : Bool) → eqb h.0 x.number.0 ≡ b → RisesBetween x.number.0 high (without h rs) → RisesBetween low high (without h (x ∷ rs))
-    by true e rest = rw e (RisesBetween-low low x.number.0 high (without h rs) (omega arith) rest)
-    by false e rest = rw e (rises.0, rest)
-
-pub RisesBetween-cleared_for : (p : PNum) (low high : ℕ) (rows : List HandleRow) → RisesBetween low high rows → RisesBetween low high (cleared_for p rows)
-RisesBetween-cleared_for p low high [] rises = rises
-RisesBetween-cleared_for p low high (x ∷ rs) rises = by (eqb p.0 x.peer.0) refl (RisesBetween-cleared_for p x.number.0 high rs rises.1)
-  where
-    by : (b : Bool) → eqb p.0 x.peer.0 ≡ b → RisesBetween x.number.0 high (cleared_for p rs) → RisesBetween low high (cleared_for p (x ∷ rs))
-    by true e rest = rw e (rises.0, rest)
-    by false e rest = rw e (rises.0, rest)

@@ -1,5 +1,5 @@
 -- Restoring handles one after another: what may still be restored stays so.
-use Rattle.std.proofs.Common.{◌≡◌, ◌≢◌, ℕ, ◌+◌, ◌≤◌, inl, inr, Bool, true, false, List, [], ◌∷◌, ◌++◌, length, Option, Some, None, refl, sym, ap, subst, ◌∙◌, arith, append_assoc, append-nil, length-append, if◌then◌else◌, take, drop, get_or}
+use Rattle.std.proofs.Common.{◌≡◌, ◌≢◌, ℕ, ◌+◌, ◌≤◌, inl, inr, Bool, true, false, List, [], ◌∷◌, ◌++◌, length, Option, Some, None, refl, sym, ap, subst, ◌∙◌, arith, append_assoc, length-append, if◌then◌else◌, take, drop, get_or}
 use Rattle.std.specs.Prelude.{All, AllPairs}
 use Rattle.std.specs.Option.{option_to_list}
 use Rattle.std.proofs.lemmas.Option.{get_or_from_slice_get, slice_get_within}
@@ -55,10 +55,6 @@ restored-at s h row tabled = subst (λ o. IsRestoredAt s (restored_by s h o).sta
     by true = record { row = None; table = refl; mirror = refl; peers = refl }
     by false = record { row = Some (record row { strength = strong }); table = refl; mirror = refl; peers = refl }
 
--- peers stay
-pub restored-peers : (s t : PeerReplay) (h : ℕ) → t ≡ (restored_by s h (row_of s h)).state → MayRestore s h → t.peers ≡ s.peers
-restored-peers s t h is may = ap (λ (z : PeerReplay). z.peers) is ∙ (restored-at s h may.row may.tabled).peers
-
 -- a handle that may be restored may be so after another one was
 restores-on : (s t : PeerReplay) (h k : ℕ) → t ≡ (restored_by s h (row_of s h)).state → MayRestore s h → k ≢ h → MayRestore s k → MayRestore t k
 restores-on s t h k is first apart may =
@@ -78,18 +74,6 @@ restorings-more index [] h [] b e = refl
 restorings-more index [] h (c ∷ bs) b e = absurd (omega (arith, e))
 restorings-more index (k ∷ hs) h [] b e = absurd (omega (arith, e))
 restorings-more index (k ∷ hs) h (c ∷ bs) b e = ap (λ ms. record { made = restores index k (back_of c); told = nothing } ∷ ms) (restorings-more index hs h bs b (omega (arith, e)))
-
--- no handle is restored yet
-pub IsRestoring-none : {D : Type 0} (d : Drawing D) (draw : D) (model : PeerModel) (index : ℕ) (rest : List HNum) (values : List Bool) → AllPairs (λ h k. h.0 ≢ k.0) rest → All (λ h. MayRestore model.state h.0) rest → All (λ h. MayDraw peer_rules d draw (seen model) C (op.Restore h)) rest
-    → IsRestoring d draw draw model model index [] rest values values
-IsRestoring-none d draw model index rest values apart restores may = record {
-  turns = record { answers = []; each = refl; put = sym (append-nil values); adds = (refl, refl) };
-  reserve = refl;
-  peers = refl;
-  apart = apart;
-  restores = restores;
-  may = may;
-}
 
 -- one more handle is restored
 pub IsRestoring-next : {D : Type 0} (d : Drawing D) (start now next : D) (old new later : PeerModel) (index : ℕ) (h : HNum) (b : Bool) (done rest : List HNum) (values mid after : List Bool) → IsRestoring d start now old new index done (h ∷ rest) values mid

@@ -32,9 +32,6 @@ pub record IsWeakening {D : Type 0} (d : Drawing D) (start now : D) (old new : P
   pub weakens : All (λ h. MayWeaken new.state h.0 (Some snap)) rest
   pub may : All (λ h. MayDraw peer_rules d now (seen new) C (op.Weaken h)) rest
 
-sub_zero-is : (n : ℕ) → n ≡ n - 0
-sub_zero-is n = omega arith
-
 -- a handle that may be weakened may be so after another one was
 weakens-on : (s t : PeerReplay) (h k snap : ℕ) → t ≡ record s { table = numbered_set s.table h (Some weak_row); mirror = with_weakened s.mirror h } → k ≢ h → MayWeaken s k (Some snap) → MayWeaken t k (Some snap)
 weakens-on s t h k snap is apart may = record {
@@ -47,19 +44,6 @@ weakens-on s t h k snap is apart may = record {
 
 length-cons : (h : HNum) (hs : List HNum) → length (h ∷ hs) ≡ length hs + 1
 length-cons h hs = omega arith
-
--- no handle is weakened yet
-pub IsWeakening-none : {D : Type 0} (d : Drawing D) (draw : D) (model : PeerModel) (index snap : ℕ) (rest : List HNum) → length rest ≤ model.reserve.left → AllPairs (λ h k. h.0 ≢ k.0) rest → All (λ h. MayWeaken model.state h.0 (Some snap)) rest
-    → All (λ h. MayDraw peer_rules d draw (seen model) C (op.Weaken h)) rest → IsWeakening d draw draw model model index snap [] rest
-IsWeakening-none d draw model index snap rest room apart weakens may = record {
-  adds = (refl, refl);
-  reserve = ap (λ n. record model.reserve { left = n }) (sub_zero-is model.reserve.left);
-  peers = refl;
-  room = room;
-  apart = apart;
-  weakens = weakens;
-  may = may;
-}
 
 -- one more handle is weakened
 pub IsWeakening-next : {D : Type 0} (d : Drawing D) (start now next : D) (old new later : PeerModel) (index snap : ℕ) (h : HNum) (done rest : List HNum) → IsWeakening d start now old new index snap done (h ∷ rest)

@@ -94,10 +94,3 @@ linked_has_queued noted = mapped_m (managed_end noted).notices
 -- a list that passes the test is lawful
 pub lawful : (s : Linkage) (ns : List Noted) → all_may_come s ns ≡ true → AllMayCome s ns
 lawful s ns e = (all_come s ns).holds e
-
--- and so is a history whose parts pass it
-pub unlawful : (s : Linkage) (n : Noted) → may_come s n ≡ false → MayCome s n → ⊥
-unlawful s n e m = false_true ((comes s n).passes m)
-  where
-    false_true : may_come s n ≡ true → ⊥
-    false_true t = cc

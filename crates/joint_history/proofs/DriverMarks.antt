@@ -2,7 +2,6 @@
 use Rattle.std.proofs.Common.{◌≡◌, ◌⊎◌, inl, ⊎_elim, ℕ, ◌<◌, ◌^◌, Bool, true, false, List, length, Option, Some, None, refl, sym, ap, ◌∙◌, subst}
 use Rattle.std.specs.Prelude.{IsSome}
 use mathlib.Core.List.{IsPrefix}
-use base.Growing.{prefix_refl}
 use Rattle.joint_model.specs.declared.names.Marking.{Marking as Number}
 use Rattle.joint_model.specs.declared.names.Span.{Span}
 use Rattle.joint_model.specs.declared.names.Thread.{Thread}
@@ -24,7 +23,7 @@ use Rattle.order_table.specs.declared.views.View.{View}
 use Rattle.order_table.specs.Views.{OrderId, Shown, known, Owns}
 use Rattle.joint_history.specs.declared.marks.Begun.{Begun}
 use Rattle.joint_history.specs.Callers.{CallerKnows, HoldsPass}
-use Rattle.joint_history.specs.Driven.{DriverMakesNone, DriverStands, driver_entry}
+use Rattle.joint_history.specs.Driven.{DriverStands, driver_entry}
 use Rattle.joint_history.specs.DriverMarks.{DrawsSweep, EndsFirst, HasBegunMarking, MakesBegin, MakesMark, MakesSweep, MayBeginMarking, MayEndMarking, MayMarkCycle, after_sweep}
 use Rattle.joint_history.specs.Locked.{Drew, PeerKnows}
 use Rattle.joint_history.specs.Passing.{Lends, Returns}
@@ -117,10 +116,6 @@ module _ (order : OrderId) (seat seat' : Shown) (old new : Side PeerReplay) (e :
 
   pub peer_keeps : (i : ℕ) → Owns seat.view i → Owns seat'.view i
   peer_keeps i o = owns_on seat.view seat'.view 1 d.kept d.appends.grows i o
-
--- who made nothing stands where it stood
-pub made_none : (v : View) → DriverMakesNone v v
-made_none v = record { own = refl; more = λ i. prefix_refl (known v i); stands = λ index stand m s. s }
 
 pub may_end_own : (v : View) (index : ℕ) → HasBegunMarking v index → MayEndMarking v index
 may_end_own v index w = record { stand = marked w.opened; seen = w.seen; stands = w.stands; now = refl }

@@ -9,9 +9,6 @@ use Rattle.joint_model.proofs.Members.{Contains-nil}
 abbrev row_by : Option (List (Option ℕ)) → List (Option ℕ)
 row_by o = elim o [ None ↦ [] | Some fs ↦ fs ]
 
-pub fields-like : (h k : Heap) (x : ℕ) → numbered_at h.fields x ≡ numbered_at k.fields x → fields_of h x ≡ fields_of k x
-fields-like h k x e = ap row_by e
-
 -- an object without a number has no field
 past-none : (o : Option (List (Option ℕ))) (z : Option ℕ) → o ≡ None → Contains (row_by o) z → ⊥
 past-none None z e c = Contains-nil z c

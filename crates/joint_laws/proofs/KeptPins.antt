@@ -18,7 +18,7 @@ use Rattle.joint_model.specs.Lines.{IsEvent, is_peer_event}
 use Rattle.joint_model.specs.Linked.{Linkage, opening_linkage, linkage_after, SideLawful, ManagedLawful, managed_after}
 use Rattle.joint_model.specs.Managed.{Managed, OpenCycle, managed_name, managed_line, adopted, met, given_up, with_row, cell_set, weakened_to, pin_taken, without_handle, twin_met, twin_kind, twin_fields}
 use Rattle.joint_model.specs.ManagedReplay.{ManagedReplay, opening_replay, registered}
-use Rattle.joint_model.specs.Readers.{is_read, is_managed_entry, pins_after, reader_after, EntryMayCome, entry_after, replayed_reading, AllMayComeReading, with_pins, AllKeptLawful, Kept}
+use Rattle.joint_model.specs.Readers.{is_read, is_managed_entry, pins_after, reader_after, EntryMayCome, entry_after, replayed_reading, AllMayComeReading, with_pins, AllKeptLawful, PinnedEntry}
 use Rattle.joint_model.specs.Run.{thread_number}
 use Rattle.joint_model.specs.Told.{Told, snap_of, contraction_of, resolution_of, phase_of, Noted}
 use Rattle.joint_model.proofs.HeapLemmas.{adopt_by-managed}
@@ -181,7 +181,7 @@ kept-cons : (pins : List (Option ℕ)) (n : Noted) (ns : List Noted) (b : Bool) 
 kept-cons pins n ns b e = ap (λ z. (let rest = kept_from (pins_by pins n.entry.made.caller n.entry.made.op n.entry.made.reply) ns in if z then record { noted = n; pins = pins } ∷ rest else rest)) e
 
 -- what is known of the rest of the list
-record IsKeptAlong (r : ManagedReplay) (s : Linkage) (ns : List Noted) (list : List Kept) : Type 0 where
+record IsKeptAlong (r : ManagedReplay) (s : Linkage) (ns : List Noted) (list : List PinnedEntry) : Type 0 where
   lawful : AllKeptLawful r list
   alike : IsBut (kept_replayed r list) (replayed_reading s ns)
 

@@ -12,10 +12,9 @@ use Rattle.joint_model.specs.ManagedReplay.{ManagedReplay, registered, meet_by, 
 use Rattle.joint_model.specs.Run.{thread_number}
 use Rattle.joint_model.specs.Told.{Told, nothing, snap_of, contraction_of, resolution_of, phase_of, Answer}
 use Rattle.joint_model.proofs.HeapLemmas.{adopt_by-managed}
-use Rattle.joint_laws.specs.ManagedInvariants.{IsManagedKept, IsReplayKept}
+use Rattle.joint_laws.specs.ManagedInvariants.{IsReplayKept}
 use Rattle.joint_laws.proofs.Registered.{registered-some}
 use Rattle.joint_laws.proofs.ManagedMoves.{GoesOn, GoesOn-stay, managed_line-goes_on, adopted-goes_on, met-goes_on, given_up-goes_on}
-use Rattle.joint_laws.proofs.ManagedKeeping.{IsManagedKept-goes_on, IsManagedKept-snapped, IsManagedKept-resolved, IsManagedKept-abandoned}
 
 pub record Snaps (s t : Managed) : Type 0 where
   pub number : ℕ
@@ -87,10 +86,3 @@ managed_step s t (op.Resolve n) (resolution_of alive freed) k w = resolving (rec
 managed_step s t (op.Abandon n) nothing k w = abandoning (record { cycle = w.0; was_open = w.1.0; is = refl })
 managed_step s t (op.Refused r) (phase_of phase) k w = stays s
 managed_step s t _ _ k w = absurd w
-
--- so the managed objects stay kept
-pub IsManagedKept-step : (s t : Managed) → IsManagedKept s → ManagedStep s t → IsManagedKept t
-IsManagedKept-step s t k (going_on g) = IsManagedKept-goes_on s t k g
-IsManagedKept-step s t k (snapping p) = subst IsManagedKept (sym p.is) (IsManagedKept-snapped s p.number p.freed p.candidates p.dead k p.snapshot)
-IsManagedKept-step s t k (resolving p) = subst IsManagedKept (sym p.is) (IsManagedKept-resolved s p.cycle (IsAnsweredAlive p.cycle.candidates p.alive) p.freed k p.was_open p.resolution)
-IsManagedKept-step s t k (abandoning p) = subst IsManagedKept (sym p.is) (IsManagedKept-abandoned s k)

@@ -42,14 +42,6 @@ owner-test s h w =
 pub test-owner : (s : Managed) (h : ℕ) → length s.held ≡ length s.heap.fields → is_owned s h ≡ true → IsOwned s h
 test-owner s h len e = (let r = owner-from s h 1 s.held e in (r.0, holds-handle_of s r.0 h len r.1))
 
-bools-same : (a b : Bool) → (a ≡ true → b ≡ true) → (b ≡ true → a ≡ true) → a ≡ b
-bools-same true b f g = sym (f refl)
-bools-same false true f g = g refl
-bools-same false false f g = refl
-
-pub owned-same : (s t : Managed) (h : ℕ) → length s.held ≡ length s.heap.fields → length t.held ≡ length t.heap.fields → (IsOwned s h → IsOwned t h) → (IsOwned t h → IsOwned s h) → is_owned s h ≡ is_owned t h
-owned-same s t h ls lt f g = bools-same (is_owned s h) (is_owned t h) (λ e. owner-test t h (f (test-owner s h ls e))) (λ e. owner-test s h (g (test-owner t h lt e)))
-
 -- whether the handle at a place is removed
 abbrev pub flag_at : Managed → ℕ → Option (Option TableRow) → Option Bool
 flag_at s h None = None

@@ -10,7 +10,7 @@ use Rattle.std.proofs.lemmas.List.{take_all, map-set, map-append, length-map}
 use Rattle.std.proofs.lemmas.Option.{slice_get-get_or, slice_get-map, slice_get_read}
 use Rattle.joint_model.specs.Heaps.{Heap, IsLive, fields_of, slot}
 use Rattle.joint_model.specs.Joint.{Graph, IsJoined}
-use Rattle.joint_model.proofs.Members.{Contains-nil, last-or}
+use Rattle.joint_model.proofs.Members.{last-or}
 use Rattle.joint_model.proofs.Deciding.{none_some, some-same}
 use Rattle.reachability.proofs.Marking.{take-next}
 use Rattle.joint_marking.specs.Nodes.{AddsEdges, AreWithin, HasNone, IsPair, IsRound, FieldEdge, ObjectField, ObjectEdge, objects_in, targets_at}
@@ -119,9 +119,6 @@ HasNone-push n rows h = record { len = omega (arith, h.len, length-append rows (
 pub HasNone-pushed : {A : Type 0} (f : A → List ℕ) (vs ws : List A) (v : A) (n : ℕ) → HasNone n (map f vs) → ws ≡ vs ++ v ∷ [] → f v ≡ [] → HasNone (n + 1) (map f ws)
 HasNone-pushed f vs ws v n h p e = rw (p, map-append f vs (v ∷ []), e) (HasNone-push n (map f vs) h)
 
-pub HasNone-begins : HasNone 0 []
-HasNone-begins = record { len = refl; none = λ k j c. Contains-nil j c }
-
 pub HasNone-within : (n : ℕ) (rows : List (List ℕ)) → HasNone n rows → AreWithin rows
 HasNone-within n rows h k j c = absurd (h.none k j c)
 
@@ -131,9 +128,6 @@ pub record PlacesBelow (live : ℕ → Type 0) (node : ℕ → ℕ) (x : ℕ) (f
   pub held : Contains (take i fields) (Some target)
   pub there : live target
   pub ends : IsPair (node x) (node target) k j
-
-pub Places-none : (live : ℕ → Type 0) (node : ℕ → ℕ) (x : ℕ) (fields : List (Option ℕ)) (a : List (List ℕ)) → AddsEdges (PlacesBelow live node x fields 0) a a
-Places-none live node x fields a = AddsEdges-none (PlacesBelow live node x fields 0) a (λ k j e. Contains-nil (Some e.target) e.held)
 
 slot-some : (o : Option (Option ℕ)) (p q : Option ℕ) → o ≡ Some p → elim o [ None ↦ None | Some x ↦ x ] ≡ q → o ≡ Some q
 slot-some None p q e f = cc
@@ -196,9 +190,6 @@ Object-alone g x a b t = AddsEdges-as (ObjectField g x) (ObjectEdge g x) a b
 -- the edges that the rows below i bring
 abbrev pub BroughtBelow : (ℕ → ℕ → ℕ → Type 0) → ℕ → ℕ → ℕ → Type 0
 BroughtBelow brings i k j = (x : ℕ) × (x < i) × brings x k j
-
-pub Brought-none : (brings : ℕ → ℕ → ℕ → Type 0) (i : ℕ) (a : List (List ℕ)) → ((x k j : ℕ) → x < i → brings x k j → ⊥) → AddsEdges (BroughtBelow brings i) a a
-Brought-none brings i a none = AddsEdges-none (BroughtBelow brings i) a (λ k j e. none e.0 k j e.1 e.2)
 
 pub Brought-push : (brings : ℕ → ℕ → ℕ → Type 0) (i : ℕ) (a b c : List (List ℕ)) → AddsEdges (BroughtBelow brings i) a b → AddsEdges (brings i) b c → AddsEdges (BroughtBelow brings (i + 1)) a c
 Brought-push brings i a b c = AddsEdges-then (BroughtBelow brings i) (brings i) (BroughtBelow brings (i + 1)) a b c

@@ -7,10 +7,6 @@ use Rattle.joint_model.proofs.HeapLemmas.{Holds-handle_of}
 use Rattle.reachability.specs.Marks.{IsMarked}
 use Rattle.joint_marking.specs.Owned.{IsOwnedBelow}
 
--- an object holds at most one handle
-pub Holds-one : (s : Managed) (m h k : ℕ) → handle_of s m ≡ Some h → Holds s m k → h ≡ k
-Holds-one s m h k e w = (let f : Some h ≡ Some k = sym e ∙ Holds-handle_of s m k w in cc)
-
 -- an object without a handle holds none
 pub Holds-none : (s : Managed) (m k : ℕ) → handle_of s m ≡ None → Holds s m k → ⊥
 Holds-none s m k e w = (let f : None ≡ Some k = sym e ∙ Holds-handle_of s m k w in cc)

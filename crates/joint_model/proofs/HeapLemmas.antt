@@ -54,13 +54,6 @@ held-to false (Some k) h f e = cc
 pub Holds-handle_of : (s : Managed) (x h : ℕ) → Holds s x h → handle_of s x ≡ Some h
 Holds-handle_of s x h w = held-to (is_freed s.heap x) (numbered_at s.held x) h (is_freed-live s.heap x w.live) w.held
 
-pub handle_of-unfreed : (s : Managed) (m h : ℕ) → handle_of s m ≡ Some h → is_freed s.heap m ≡ false
-handle_of-unfreed s m h e = by (is_freed s.heap m) refl
-  where
-    by : (b : Bool) → is_freed s.heap m ≡ b → is_freed s.heap m ≡ false
-    by true t = (let f : None ≡ Some h = rw (t, handle_of) at e in cc)
-    by false t = t
-
 -- the test of a handle
 pub is_that_handle-is : (o : Option ℕ) (h : ℕ) → is_that_handle o h ≡ true → o ≡ Some h
 is_that_handle-is None h e = cc

@@ -1,18 +1,12 @@
 -- Walks compose, and what each edge keeps holds at the end of a walk if it holds at the start. Each is an
 -- induction on the rows of the walk, from its front; the node type and the edges are any.
-use Rattle.std.proofs.Common.{List, [], ◌∷◌, ◌++◌, All, subst, sym, refl}
-use Rattle.std.proofs.lemmas.List.Elements.{All-head, All-tail}
+use Rattle.std.proofs.Common.{List, [], ◌∷◌, ◌++◌, subst, sym, refl}
 use Rattle.joint_model.specs.Walks.{Walks, Reaches, Reached, Mutual}
 
 -- an invariant: a fact of the first row that each edge keeps holds of the last row
 pub Walks-keep : {A : Type 0} (edge : A → A → Type 0) (Q : A → Type 0) → ((x y : A) → edge x y → Q x → Q y) → (x : A) (rows : List A) (y : A) → Walks edge x rows y → Q x → Q y
 Walks-keep edge Q step x [] y w q = subst Q w q
 Walks-keep edge Q step x (z ∷ rows) y w q = Walks-keep edge Q step z rows y w.1 (step x z w.0 q)
-
--- the same where each edge is taken only to rows that P holds of
-pub Walks-keep_through : {A : Type 0} (edge : A → A → Type 0) (P Q : A → Type 0) → ((x y : A) → edge x y → P y → Q x → Q y) → (x : A) (rows : List A) (y : A) → All P rows → Walks edge x rows y → Q x → Q y
-Walks-keep_through edge P Q step x [] y a w q = subst Q w q
-Walks-keep_through edge P Q step x (z ∷ rows) y a w q = Walks-keep_through edge P Q step z rows y (All-tail P z rows a) w.1 (step x z w.0 (All-head P z rows a) q)
 
 pub Reaches-keeps : {A : Type 0} (edge : A → A → Type 0) (Q : A → Type 0) → ((x y : A) → edge x y → Q x → Q y) → (x y : A) → Reaches edge x y → Q x → Q y
 Reaches-keeps edge Q step x y r q = Walks-keep edge Q step x r.rows y r.walk q

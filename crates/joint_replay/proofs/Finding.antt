@@ -21,7 +21,7 @@ use Rattle.joint_replay.specs.Unmarked.{marked}
 use Rattle.joint_replay.proofs.Gathering.{IsMarked-test, test-IsMarked}
 use Rattle.joint_replay.specs.Plain.{cleaned, kept_target, is_live}
 use Rattle.joint_marking.specs.Gathered.{Gains}
-use Rattle.joint_replay.specs.Roots.{IsNamedLive, IsRoot, Lists}
+use Rattle.joint_replay.specs.Roots.{IsNamedLive, IsRoot, ListsExactly}
 use Rattle.joint_replay.specs.Found.{IsRootReached, IsHandleReached}
 use Rattle.joint_replay.specs.Finding.{FindsRows}
 use Rattle.joint_replay.proofs.Flags.{is_live-exact}
@@ -102,7 +102,7 @@ decided R marks m false e r = inr ((apart R marks m r).0 e)
 -- the lists by their marks
 pub FindsRows-from : (h : Heap) (held pins : List (Option ℕ)) (slots bridges : List Bool) (freed candidates dead : List ℕ)
     → ((k : ℕ) → IsLive h k → IsMarked slots k ↔ IsRootReached h pins k) → ((k : ℕ) → IsMarked bridges k ↔ IsHandleReached h held k)
-    → Lists (IsUnreachedRow h slots bridges false) freed → Lists (IsUnreachedRow h slots bridges true) dead → Lists (IsCandidateRow h held slots) candidates
+    → ListsExactly (IsUnreachedRow h slots bridges false) freed → ListsExactly (IsUnreachedRow h slots bridges true) dead → ListsExactly (IsCandidateRow h held slots) candidates
     → FindsRows h held pins freed candidates dead
 FindsRows-from h held pins slots bridges freed candidates dead s b f d c =
     let S : (m : ℕ) → IsLive h m → (marked slots m ≡ false) ↔ (IsRootReached h pins m → ⊥) = λ m l. apart (IsRootReached h pins m) slots m (s m l) in

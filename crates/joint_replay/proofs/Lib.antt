@@ -11,5 +11,4 @@ pub mod Sweeping
 mod Gathering
 mod Snapshots
 mod Twinning
-pub mod PlainActs
 pub mod Lifting

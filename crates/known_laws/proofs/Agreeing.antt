@@ -56,10 +56,6 @@ map_append : (f : Noted → Noted) (xs ys : List Noted) → map f (xs ++ ys) ≡
 map_append f [] ys = refl
 map_append f (x ∷ xs) ys = λ i. f x ∷ map_append f xs ys i
 
-map_on : (f g : Noted → Noted) (xs : List Noted) → ((x : Noted) → In xs x → f x ≡ g x) → map f xs ≡ map g xs
-map_on f g [] h = refl
-map_on f g (x ∷ xs) h = λ i. h x (inl refl) i ∷ map_on f g xs (λ y p. h y (inr p)) i
-
 map_self : (f : Noted → Noted) (xs : List Noted) → ((x : Noted) → In xs x → f x ≡ x) → map f xs ≡ xs
 map_self f [] h = refl
 map_self f (x ∷ xs) h = λ i. h x (inl refl) i ∷ map_self f xs (λ y p. h y (inr p)) i

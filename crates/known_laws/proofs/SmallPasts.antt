@@ -19,7 +19,7 @@ use Rattle.joint_model.proofs.Deciding.{none_some}
 use Rattle.joint_model.proofs.Members.{Contains-nil, Contains-here}
 use Rattle.known_laws.specs.Conditions.{IsOpenHere}
 use Rattle.known_laws.specs.Drawn.{AreDrawn, IsToldIn, drawn_by}
-use Rattle.known_laws.specs.Growing.{AreKnown, IsHistory, entries, grown}
+use Rattle.known_laws.specs.Growing.{AreKnown, IsTurnedPast, entries, grown}
 use Rattle.known_laws.specs.Known.{TellsPlainly}
 use Rattle.known_laws.specs.Driving.{IsPastKept}
 use Rattle.known_laws.proofs.KnownPasts.{known_past_is_kept}
@@ -77,7 +77,7 @@ abbrev first_number : List Entry → ℕ
 first_number [] = 0
 first_number (e ∷ es) = e.number
 
-pub no_history : IsHistory turned_numbers two_drops → ⊥
+pub no_history : IsTurnedPast turned_numbers two_drops → ⊥
 no_history h = let f : 3 ≡ 5 = ap first_number h.same in omega (arith, f)
 
 -- the snap of a cycle where nothing is

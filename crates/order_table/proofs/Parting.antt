@@ -2,11 +2,10 @@
 --
 -- A mask has true at the lines that go. The place of a role's line or of a caller's in its mask is true, and all others are false; the rest is
 -- read off place by place.
-use Rattle.std.proofs.Common.{◌≡◌, ◌⊎◌, inl, inr, ⊎_elim, ℕ, ◌+◌, ◌<◌, Bool, true, false, not, ◌&&◌, List, [], refl, sym, ap, ◌∙◌, subst, arith}
+use Rattle.std.proofs.Common.{◌≡◌, ◌⊎◌, inl, inr, ⊎_elim, ℕ, ◌+◌, Bool, true, false, not, ◌&&◌, List, [], refl, sym, ap, ◌∙◌, subst}
 use Rattle.std.proofs.lemmas.Bool.{cases_eq, and_parts, or_cases, not-true, both_ways}
 use Rattle.joint_model.specs.declared.names.Thread.{Thread}
 use Rattle.joint_model.specs.declared.names.Thread.TheVariants.{M, P, C}
-use Rattle.joint_model.specs.Lines.{IsThread}
 use Rattle.order_table.specs.declared.views.Role.{Role}
 use Rattle.order_table.specs.declared.views.KeptEntry.{KeptEntry}
 use Rattle.order_table.specs.declared.views.View.{View}
@@ -64,18 +63,6 @@ marks_caller C = marks_one (caller_line C)
 
 pub marks_none : Marks IsOfNone lines_of_none
 marks_none = record { here = λ i e. absurd e; elsewhere = λ i n. refl }
-
--- a caller takes its own line along, and neither the two sides' lines nor those of the callers behind it
-pub of_caller : (t : Thread) → IsOfCaller t (caller_line t)
-of_caller (M n) = inl refl
-of_caller (P n) = refl
-of_caller C = refl
-
-pub not_of_caller : (t : Thread) (i : ℕ) → IsThread t → (i < 2) ⊎ (caller_line t < i) → IsOfCaller t i → ⊥
-not_of_caller (M n) i is far (inl e) = let low = is.0 in ⊎_elim (λ l. omega arith) (λ l. omega arith) far
-not_of_caller (M n) i is far (inr e) = let low = is.0 in ⊎_elim (λ l. omega arith) (λ l. omega arith) far
-not_of_caller (P n) i is far e = ⊎_elim (λ l. omega arith) (λ l. omega arith) far
-not_of_caller C i is far e = ⊎_elim (λ l. omega arith) (λ l. omega arith) far
 
 -- who makes an entry owns what it owned
 pub still_owns : {v w : View} {r : ℕ} {k : KeptEntry} → GrowsByEntry v w r k → (i : ℕ) → Owns v i → Owns w i

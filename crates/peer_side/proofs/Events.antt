@@ -16,7 +16,7 @@ use Rattle.joint_model.specs.declared.names.Sort.TheVariants.{Framework}
 use Rattle.joint_model.specs.declared.events.Reply.TheVariants as says
 use Rattle.joint_model.specs.declared.events.Reply.{Reply}
 use Rattle.joint_model.specs.Heaps.{Heap, Answered, answer, is_full, slot, place, fields_of, next_number, numbered_set, with_var, with_static, with_object}
-use Rattle.joint_model.specs.Peers.{Peers, on_peer_heap, peer_name, sort_of, peer_made, pair_made, gripped, landed, globalised, name_given, name_freed, name_read, peer_read}
+use Rattle.joint_model.specs.Peers.{Peers, on_peer_heap, peer_name, sort_of, pair_made, gripped, landed, globalised, name_given, name_freed, name_read, peer_read}
 use Rattle.joint_model.specs.PeerReplay.{PeerReplay, opening_peer_replay, on_table, untabled, bring_by, brings, table_target, peer_answer}
 use Rattle.joint_model.specs.Run.{thread_number}
 use Rattle.joint_model.specs.Told.{nothing}
@@ -42,16 +42,6 @@ answers-heap old rows operation d r did said = answers-still old (record old { r
 -- an event of the peers, as one of the replay
 pub goes-answers : (old new : Rows) (a : Answered Peers) (r : Reply) → PeersAnswer old a r new → (s : PeerReplay) → on_table (with_rows s old) a ≡ answer r (with_rows s new)
 goes-answers old new a r w s = ap (on_table (with_rows s old)) w.peers ∙ ap (λ t. answer r (record s { peers = peers_in new; table = t })) (sym w.table)
-
--- `new`: refused, or done
-pub answers-full : (old : Rows) (v n : ℕ) → is_full old.rows.heap.fields ≡ true → PeersAnswer old (peer_made (peers_in old) v n) says.Full old
-answers-full old v n full = answers-still old old _ says.Full (rw full refl) refl refl
-
-pub answers-made : (old : Rows) (rows : HeapRows) (sorts : List Sort) (v n : ℕ) (p : PNum) → is_full old.rows.heap.fields ≡ false → p.0 ≡ next_number old.rows.heap → rows.heap ≡ with_var (with_object old.rows.heap n) v (Some p.0) → sorts ≡ old.sorts ++ Framework ∷ []
-    → PeersAnswer old (peer_made (peers_in old) v n) (says.P p) (record old { rows = rows; sorts = sorts })
-answers-made old rows sorts v n p full number grown more =
-    let peer : p ≡ record { 0 = next_number old.rows.heap } = ap (λ (m : ℕ). (let q : PNum = record { 0 = m } in q)) number in
-    answers-still old (record old { rows = rows; sorts = sorts }) _ (says.P p) (rw (full, grown, more, peer) refl) refl refl
 
 -- `global` and `wglobal`: of a variable that names a peer, refused, or done
 pub globalised-some : (old : Rows) (g v p : ℕ) (st : Strength) → slot old.rows.heap.vars v ≡ Some p → globalised (peers_in old) g v (strength_as st) ≡ name_given (peers_in old) g p (strength_as st) (slot old.names g)
@@ -80,13 +70,6 @@ goes-unnamed old g h n some s =
     let new : Rows = record old { names = slice_set old.names g None; table = numbered_set old.table h None; tabled = n } in
     rw (some, name_freed) (ap (λ t. answer says.Ok (record s { peers = peers_in new; table = t })) (table-still (with_rows s (record old { table = numbered_set old.table h None })) (peers_in new) refl))
 
--- `make`: refused, or done
-pub answers-no_peer : (old : Rows) (sort : Sort) (n : ℕ) → is_full old.rows.heap.fields ≡ true → PeersAnswer old (pair_made (peers_in old) sort n) says.Full old
-answers-no_peer old sort n full = answers-still old old _ says.Full (rw full refl) refl refl
-
-pub answers-no_pair : (old : Rows) (sort : Sort) (n : ℕ) → is_full old.rows.heap.fields ≡ false → is_full old.issued ≡ true → PeersAnswer old (pair_made (peers_in old) sort n) says.Full old
-answers-no_pair old sort n room full = answers-still old old _ says.Full (rw (room, full) refl) refl refl
-
 pub answers-pair : (old : Rows) (rows : HeapRows) (sorts : List Sort) (sort : Sort) (n : ℕ) (p : PNum) (h : HNum) → is_full old.rows.heap.fields ≡ false → is_full old.issued ≡ false → p.0 ≡ next_number old.rows.heap → h.0 ≡ length old.issued + 1
     → rows.heap ≡ with_object old.rows.heap n → sorts ≡ old.sorts ++ sort ∷ []
     → PeersAnswer old (pair_made (peers_in old) sort n) (says.Made p h) (record (issued_to old record { peer = p; hold = Held; strength = Strong }) { rows = rows; sorts = sorts })
@@ -96,13 +79,6 @@ answers-pair old rows sorts sort n p h room left number next grown more =
     let peer : p ≡ record { 0 = next_number old.rows.heap } = ap (λ (m : ℕ). (let q : PNum = record { 0 = m } in q)) number in
     let handle : h ≡ record { 0 = length old.issued + 1 } = ap (λ (m : ℕ). (let q : HNum = record { 0 = m } in q)) next in
     record { peers = rw (room, left, grown, more, peer, handle) refl; table = sym (table-issued (with_rows opening_peer_replay old) (peers_in new) (issued_as i) refl) }
-
--- `grip`: refused, or done
-pub answers-null : (old : Rows) (x : ℕ) → slot old.rows.heap.statics x ≡ None → PeersAnswer old (gripped (peers_in old) x) says.Null old
-answers-null old x none = answers-still old old _ says.Null (rw (none, gripped) refl) refl refl
-
-pub answers-no_grip : (old : Rows) (x p : ℕ) → slot old.rows.heap.statics x ≡ Some p → is_full old.issued ≡ true → PeersAnswer old (gripped (peers_in old) x) says.Full old
-answers-no_grip old x p some full = answers-still old old _ says.Full (rw (some, full, gripped) refl) refl refl
 
 pub answers-gripped : (old : Rows) (x : ℕ) (p : PNum) (h : HNum) (sort : Sort) (n : ℕ) → slot old.rows.heap.statics x ≡ Some p.0 → is_full old.issued ≡ false → h.0 ≡ length old.issued + 1 → sort ≡ sort_of (peers_in old) p.0 → n ≡ length (fields_of old.rows.heap p.0)
     → PeersAnswer old (gripped (peers_in old) x) (says.Gripped p h sort n) (issued_to old record { peer = p; hold = Held; strength = Strong })

@@ -140,10 +140,6 @@ rows-removed rows sorts names issued old new h left made =
     let table : table_to new.rows new.made ≡ numbered_set (table_to old.rows old.made) h.0 None = ap (λ z. table_to z new.made) left ∙ (ap (λ n. table_to (without h old.rows) n) made ∙ table_to-without old.rows h.0 old.made) in
     ap (λ (t : List (Option TableRow)). record (rows_with rows sorts names issued old) { table = t; tabled = length new.rows }) table
 
--- the rows are seen by the table's rows and its count alone
-pub rows-same : (rows : HeapRows) (sorts : List Sort) (names : List (Option ℕ)) (issued : List Issue) (old new : Table) → new.rows ≡ old.rows → new.made ≡ old.made → rows_with rows sorts names issued new ≡ rows_with rows sorts names issued old
-rows-same rows sorts names issued old new left made = rw (left, made) refl
-
 -- what a number of the table shows is what its row shows
 table_to-at : (rows : List HandleRow) (h n : ℕ) → 1 ≤ h → h ≤ n → numbered_at (table_to rows n) h ≡ Some (seen_in rows h)
 table_to-at rows h zero low high = absurd (omega (arith, low, high))

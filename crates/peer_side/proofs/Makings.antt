@@ -1,5 +1,5 @@
 -- What a step makes, in turn: one event with its entry, or a begin and the sweep of its marking. What is refused may come next.
-use Rattle.std.proofs.Common.{◌≡◌, ◌≢◌, ℕ, ◌+◌, ◌⊎◌, inl, inr, Bool, true, false, ◌||◌, List, [], ◌∷◌, length, drop, Option, Some, None, if◌then◌else◌, Result, Ok, Err, IfOk, refl, sym, ap, subst, ◌∙◌}
+use Rattle.std.proofs.Common.{◌≡◌, ℕ, ◌+◌, ◌⊎◌, inl, inr, Bool, true, false, ◌||◌, List, [], ◌∷◌, length, drop, Option, Some, None, if◌then◌else◌, Result, Ok, Err, IfOk, refl, sym, ap, subst, ◌∙◌}
 use Rattle.std.specs.Prelude.{IsSome, OnOk}
 use Rattle.std.specs.declared.alloc.AllocError.{AllocError}
 use Rattle.std.proofs.lemmas.Bool.{eqb-true}
@@ -7,8 +7,6 @@ use Rattle.joint_model.specs.declared.names.Marking.{Marking as Number}
 use Rattle.joint_model.specs.declared.names.Span.{Span}
 use Rattle.joint_model.specs.declared.names.Thread.{Thread}
 use Rattle.joint_model.specs.declared.names.Thread.TheVariants.{M, P, C}
-use Rattle.joint_model.specs.declared.lines.Act.{Act}
-use Rattle.joint_model.specs.declared.lines.Act.TheVariants as act
 use Rattle.joint_model.specs.declared.events.Made.{Made}
 use Rattle.joint_model.specs.declared.events.Op.{Op}
 use Rattle.joint_model.specs.declared.events.Op.TheVariants as op
@@ -17,13 +15,12 @@ use Rattle.joint_model.specs.declared.events.Reply.TheVariants as says
 use Rattle.joint_model.specs.Heaps.{answer}
 use Rattle.joint_model.specs.Lines.{IsPeerThread, IsDriver, is_peer_event}
 use Rattle.joint_model.specs.Peers.{Peers}
-use Rattle.joint_model.specs.PeerReplay.{PeerReplay, Marking, PeerAllows, SweepAllows, begun, swept, swept_of, is_thread}
+use Rattle.joint_model.specs.PeerReplay.{PeerReplay, Marking, SweepAllows, begun, swept, swept_of, is_thread}
 use Rattle.joint_model.specs.Sides.{Side, Drawing, Making, GoesOn, MayDraw, AddsLawful, AddsInTurn, peer_rules}
 use Rattle.joint_model.specs.Told.{Told, nothing, sweep_of}
 use Rattle.joint_model.proofs.Deciding.{true_false}
-use Rattle.peer_side.specs.Makings.{IsSideStep, MayStep, MayDrawStep, RefusesMarking, collect_makings, gone_since, step_makings}
+use Rattle.peer_side.specs.Makings.{RefusesMarking, collect_makings, gone_since}
 use Rattle.peer_side.specs.Sides.{begins, ends, IsEnded, IsMarkingOf}
-use Rattle.peer_side.specs.Steps.{IsPeerStep}
 
 -- one entry is one in turn
 pub turn-one : {D : Type 0} (d : Drawing D) (before after : D) (old new : Side PeerReplay) (m : Made) (told : Told) → AddsLawful peer_rules d before after old new m told → AddsInTurn peer_rules d before after old new (record { made = m; told = told } ∷ [])
@@ -35,14 +32,6 @@ pub turn-refused : {D : Type 0} (d : Drawing D) (before after : D) (old new : Si
 turn-refused d before after old new t i o reply (Err e) ms same is adds = tt
 turn-refused d before after old new t i o reply (Ok r) ms same is adds =
     subst (λ l. AddsInTurn peer_rules d before after old new l) (sym same ∙ ap ms (sym is)) (turn-one d before after old new (record { caller = t; index = i; op = o; reply = reply; cites = None }) nothing adds)
-
--- and so where an event of the peers and handles was made
-pub turn-event : {D : Type 0} (d : Drawing D) (before after : D) (old new : Side PeerReplay) (t : Thread) (i : ℕ) (o : Op) (cites : Option ℕ) (result : Result Reply AllocError) (ms : Reply → List Making)
-    → ((r : Reply) → ms r ≡ record { made = record { caller = t; index = i; op = o; reply = r; cites = cites }; told = nothing } ∷ [])
-    → IfOk result (λ r. AddsLawful peer_rules d before after old new (record { caller = t; index = i; op = o; reply = r; cites = cites }) nothing) → IfOk result (λ r. AddsInTurn peer_rules d before after old new (ms r))
-turn-event d before after old new t i o cites (Err e) ms same adds = tt
-turn-event d before after old new t i o cites (Ok r) ms same adds =
-    subst (λ l. AddsInTurn peer_rules d before after old new l) (sym (same r)) (turn-one d before after old new (record { caller = t; index = i; op = o; reply = r; cites = cites }) nothing adds)
 
 -- a begin leaves the peers
 begun-peers : (s : PeerReplay) (o : Option Marking) (t : Thread) → (begun s o t).state.peers ≡ s.peers
@@ -140,38 +129,3 @@ other-passes s t i p w caller apart = record { caller = caller; event = tt; allo
 pub open-ends : (p : Number × Thread) (o : Option Marking) (t : Thread) → IsMarkingOf (Some p) o → ((t ≡ C) ⊎ (t ≡ p.1)) → IsEnded o t p.0
 open-ends p None t w may = absurd w
 open-ends p (Some mk) t w may = (elim may [ inl e ↦ inl e | inr e ↦ inr (e ∙ w.1) ], w.0)
-
--- the operations that aren't a begin, a sweep or a collect
-abbrev pub IsPlain : Op → Type 0
-IsPlain (op.Line act.Collect) = ⊥
-IsPlain op.Begin = ⊥
-IsPlain op.Sweep = ⊥
-IsPlain _ = Unit {0}
-
-pub plain-line : (a : Act) → a ≢ act.Collect → IsPlain (op.Line a)
-plain-line act.Collect apart = apart refl
-plain-line _ apart = tt
-
-pub plain-step : (t : Thread) (o : Op) → IsPlain o → IsSideStep t o → IsPeerStep t o
-plain-step t (op.Line act.Collect) p w = absurd p
-plain-step t op.Begin p w = absurd p
-plain-step t op.Sweep p w = absurd p
-plain-step t _ p w = w
-
-pub plain-allows : (s : PeerReplay) (t : Thread) (o : Op) (cites : Option ℕ) → IsPlain o → MayStep s t o cites → PeerAllows s t o cites nothing
-plain-allows s t (op.Line act.Collect) cites p w = absurd p
-plain-allows s t op.Begin cites p w = absurd p
-plain-allows s t op.Sweep cites p w = absurd p
-plain-allows s t _ cites p w = w
-
-pub plain-draws : {D : Type 0} (d : Drawing D) (draw : D) (s : Side PeerReplay) (t : Thread) (o : Op) → IsPlain o → MayDrawStep d draw s t o → MayDraw peer_rules d draw s t o
-plain-draws d draw s t (op.Line act.Collect) p w = absurd p
-plain-draws d draw s t op.Begin p w = absurd p
-plain-draws d draw s t op.Sweep p w = absurd p
-plain-draws d draw s t _ p w = w
-
-pub plain-makings : (t : Thread) (i : ℕ) (o : Op) (cites : Option ℕ) (gone : List ℕ) (r : Reply) → IsPlain o → step_makings t i o cites r gone ≡ record { made = record { caller = t; index = i; op = o; reply = r; cites = cites }; told = nothing } ∷ []
-plain-makings t i (op.Line act.Collect) cites gone r p = absurd p
-plain-makings t i op.Begin cites gone r p = absurd p
-plain-makings t i op.Sweep cites gone r p = absurd p
-plain-makings t i _ cites gone r p = refl

@@ -1,17 +1,15 @@
 -- A begin and an end of a marking, as the replay has them. The begin keeps the peers and handles of its moment; a marking from their roots over
 -- their edges is exact. At the end the marks are exact still, so the peers without one are those that the definition's sweep frees.
-use Rattle.std.proofs.Common.{◌≡◌, ℕ, ◌+◌, ◌↔◌, ◌⊎◌, ◌++◌, ◌∷◌, true, [], length, drop, Option, Some, None, refl, sym, ap, subst, ◌∙◌}
-use Rattle.std.specs.Prelude.{Contains}
-use Rattle.std.proofs.lemmas.Option.{same_Some}
+use Rattle.std.proofs.Common.{◌≡◌, ℕ, ◌+◌, ◌↔◌, true, [], length, drop, Option, Some, None, refl, sym, ap, subst, ◌∙◌}
 use Rattle.joint_model.specs.declared.names.Thread.{Thread}
-use Rattle.joint_model.specs.Heaps.{Heap, with_freed}
-use Rattle.joint_model.specs.PeerReplay.{PeerReplay, Marking, IsSweep, begun, brought_to, cleared_rows, strong_peers, swept_of}
+use Rattle.joint_model.specs.Heaps.{with_freed}
+use Rattle.joint_model.specs.PeerReplay.{PeerReplay, Marking, IsSweep, begun, cleared_rows, strong_peers, swept_of}
 use Rattle.joint_model.specs.Walks.{Reached}
 use Rattle.reachability.specs.Marks.{IsMarked}
 use Rattle.row_heap.specs.Marks.{AreWhite, EdgeOf}
 use Rattle.row_heap.specs.Rows.{HeapRows}
 use Rattle.marking_laws.specs.Marks.{AreMarksExact, IsMarkedSide}
-use Rattle.marking_laws.proofs.MarkEvents.{marks-begun, marks-brought, marks-same}
+use Rattle.marking_laws.proofs.MarkEvents.{marks-begun}
 use Rattle.marking_laws.proofs.MarkSweeps.{marks-sweep}
 use Rattle.peer_side.specs.Marking.{AreMarksKept, IsRoot, with_marking}
 use Rattle.peer_side.specs.Rows.{Rows}
@@ -49,27 +47,3 @@ closed-state s v w o n mk rest =
 
 pub closed-sweep : (s : PeerReplay) (v : Rows) (o : Option Marking) (n : ℕ) (mk : Marking) (freed : _) → IsMarkedSide (with_marking s v o n) mk v.rows.follows v.rows.marks → AreWhite v.rows freed → IsSweep (with_marking s v o n) mk freed
 closed-sweep s v o n mk freed side white = marks-sweep (with_marking s v o n) mk v.rows.follows v.rows.marks freed side.right white.rises white.exact
-
--- the rows after the marks of a peer that was brought back
-abbrev pub with_marks : Rows → HeapRows → Rows
-with_marks v w = record v { rows = record v.rows { marks = w.marks; links = w.links } }
-
-pub brought-state : (s : PeerReplay) (v w : Rows) (m new : Option Marking) (n p : ℕ) → w ≡ with_marks v w.rows → new ≡ brought_to m p → with_marking s w new n ≡ record (with_marking s v m n) { marking = brought_to m p }
-brought-state s v w m new n p rest e =
-    let there : with_marking s (with_marks v w.rows) (brought_to m p) n ≡ record (with_marking s v m n) { marking = brought_to m p } = refl in
-    ap (λ z. with_marking s w z n) e ∙ (ap (λ z. with_marking s z (brought_to m p) n) rest ∙ there)
-
-pub brought-kept : (s : PeerReplay) (v w : Rows) (m new : Option Marking) (n p : ℕ) (mk : Marking) → w ≡ with_marks v w.rows → new ≡ brought_to m p → IsMarkedSide (with_marking s v m n) mk v.rows.follows v.rows.marks
-    → ((k : ℕ) → IsMarked w.rows.marks k ↔ (IsMarked v.rows.marks k ⊎ Reached (Contains (p ∷ [])) (EdgeOf v.rows) k)) → AreMarksKept (with_marking s w new n) w.rows.follows w.rows.marks
-brought-kept s v w m new n p mk rest e side gains = λ other opened.
-    let st : PeerReplay = with_marking s v m n in
-    let more : Marking = record mk { brought = mk.brought ++ p ∷ [] } in
-    let same : more ≡ other = same_Some more other (sym (ap (λ z. brought_to z p) side.opened) ∙ (sym e ∙ opened)) in
-    let heap = ap (λ (z : Rows). z.rows.heap) rest in
-    let exact = marks-brought st mk v.rows.follows v.rows.marks w.rows.marks p side gains in
-    let moved : AreMarksExact (with_marking s w new n) more v.rows.follows w.rows.marks = marks-same (record st { marking = Some more }) (with_marking s w new n) more v.rows.follows w.rows.marks (ap (λ (h : Heap). h.fields) heap) (ap (λ (h : Heap). h.freed) heap) (ap (λ (z : Rows). z.rows.refs) rest) exact in
-    subst (λ z. AreMarksExact (with_marking s w new n) z w.rows.follows w.rows.marks) same (subst (λ f. AreMarksExact (with_marking s w new n) more f w.rows.marks) (sym (ap (λ (z : Rows). z.rows.follows) rest)) moved)
-
--- nothing is brought back where no marking is open
-pub none-state : (s : PeerReplay) (v : Rows) (m : Option Marking) (n p : ℕ) → m ≡ None → with_marking s v None n ≡ record (with_marking s v m n) { marking = brought_to m p }
-none-state s v m n p e = ap (λ z. with_marking s v (brought_to z p) n) (sym e)

@@ -3,14 +3,14 @@
 -- is marked was marked before or is reached, the roots are marked, and a marked node waits or has all its
 -- targets marked. Once none waits, the marks are closed under the edges, so each reached node is marked, by
 -- an induction along its walk.
-use Rattle.std.proofs.Common.{◌≡◌, ℕ, zero, suc, ◌+◌, ◌<◌, ◌≤◌, ◌↔◌, ◌⊎◌, ◌≢◌, inl, inr, Bool, true, false, List, [], ◌∷◌, ◌++◌, length, Option, Some, None, set, take, get_or, replicate, refl, sym, ap, subst, ◌∙◌, arith, length-append}
+use Rattle.std.proofs.Common.{◌≡◌, ℕ, zero, suc, ◌+◌, ◌<◌, ◌≤◌, ◌↔◌, ◌⊎◌, inl, inr, Bool, true, false, List, [], ◌∷◌, ◌++◌, length, Option, Some, None, set, take, get_or, replicate, refl, sym, ap, subst, ◌∙◌, arith, length-append}
 use Rattle.std.specs.Prelude.{Contains, slice_get}
 use Rattle.std.proofs.Math.ListN.{length-set}
 use Rattle.std.proofs.lemmas.List.Elements.{Contains-push, Contains-push_cases, Contains-append_left}
 use Rattle.std.proofs.lemmas.List.{take_more}
 use Rattle.std.proofs.lemmas.Option.{slice_get_within, get_or_from_slice_get, slice_get-get_or}
 use Rattle.joint_model.specs.Walks.{Reached}
-use Rattle.joint_model.proofs.WalkLemmas.{Reached-keeps, Reached-start, Reached-then}
+use Rattle.joint_model.proofs.WalkLemmas.{Reached-keeps, Reached-then}
 use Rattle.joint_model.proofs.Members.{Contains-nil}
 use Rattle.reachability.specs.Marks.{IsMarked, IsClosed, unmarked}
 use Rattle.reachability.specs.Scans.{Scans}
@@ -27,13 +27,6 @@ pub set-marked : (m : List Bool) (i : ℕ) → i < length m → IsMarked (set m 
 set-marked [] i l = absurd (omega arith)
 set-marked (b ∷ m) zero l = refl
 set-marked (b ∷ m) (suc i) l = set-marked m i (omega arith)
-
-pub set-other : (m : List Bool) (i k : ℕ) → k ≢ i → slice_get (set m i true) k ≡ slice_get m k
-set-other [] i k n = refl
-set-other (b ∷ m) zero zero n = absurd (n refl)
-set-other (b ∷ m) zero (suc k) n = refl
-set-other (b ∷ m) (suc i) zero n = refl
-set-other (b ∷ m) (suc i) (suc k) n = set-other m i k (λ e. n (ap suc e))
 
 pub set-keeps : (m : List Bool) (i k : ℕ) → IsMarked m k → IsMarked (set m i true) k
 set-keeps [] i k e = e
@@ -158,18 +151,6 @@ pub record Marking (start : ℕ → Type 0) (edge : ℕ → ℕ → Type 0) (bef
   pub closed : (k : ℕ) → IsMarked marks k → Contains waits k ⊎ ((y : ℕ) → edge k y → IsMarked marks y)
   pub marked : (k : ℕ) → Contains waits k → IsMarked marks k
   pub room : unmarked marks + length waits ≤ unmarked before
-
--- it holds once the roots are marked
-pub Marking-begins : (start : ℕ → Type 0) (edge : ℕ → ℕ → Type 0) (before marks : List Bool) (waits : List ℕ) → IsClosed edge before → Scans start before [] marks waits → Marking start edge before marks waits
-Marking-begins start edge before marks waits closed x = record {
-  len = x.len;
-  sound = λ k h. elim (x.fresh k h) [ inl w ↦ inl w | inr w ↦ inr (Reached-start start edge k w.0) ];
-  kept = x.kept;
-  roots = x.done;
-  closed = λ k h. elim (x.fresh k h) [ inl w ↦ inr (λ y e. x.kept y (closed k y e w)) | inr w ↦ inl w.1 ];
-  marked = λ k h. elim (x.within k h) [ inl w ↦ absurd (Contains-nil k w) | inr w ↦ w ];
-  room = omega (arith, x.same);
-}
 
 -- it stays where one waiting node is taken and its targets are marked
 pub Marking-goes : (start : ℕ → Type 0) (edge : ℕ → ℕ → Type 0) (before marks marks' : List Bool) (x : ℕ) (waits waits' : List ℕ) → IsClosed edge before → Marking start edge before marks (waits ++ x ∷ []) → Scans (edge x) marks waits marks' waits' → Marking start edge before marks' waits'

@@ -75,9 +75,6 @@ if-some false refs i p e = (let f : ⊥ = cc in absurd f)
 pub followed-all : (v : HeapRows) → v.follows ≡ true → followed v ≡ v.refs
 followed-all v e = ap (λ b. if b then v.refs else []) e
 
-pub followed-none : (v : HeapRows) → v.follows ≡ false → followed v ≡ []
-followed-none v e = ap (λ b. if b then v.refs else []) e
-
 pub followed-at : (v : HeapRows) (i : ℕ) (p : ℕ × ℕ) → slice_get (followed v) i ≡ Some p → (v.follows ≡ true) × (slice_get v.refs i ≡ Some p)
 followed-at v i p e = if-some v.follows v.refs i p e
 
@@ -112,19 +109,6 @@ reference-next rows freed vars statics refs follows room c d v x y i r view s at
     let same : followed v ≡ pairs_in refs = followed-all v w.0 ∙ ap (λ (k : HeapRows). k.refs) (sym view) in
     let q = reference-read refs i x y r (subst (λ (k : HeapRows). slice_get k.refs i ≡ Some (x, y)) (sym view) w.1) e in
     subst (λ l. IsLastBelow l x i r.next) (sym same) (subst (λ z. IsLastBelow (pairs_in refs) z i r.next) q.1 (s.references.nexts i r q.0))
-
-pub reference-first : (rows : List Seen) (freed : List ℕ) (vars statics : List (Option ℕ)) (refs : List Reference) (follows : Bool) (room c d : ℕ) (v : HeapRows) (x : ℕ) → rows_of rows freed vars statics refs follows room ≡ v → IsRowHeap rows freed vars statics refs follows room c d
-    → (row_at rows x).stands ≡ true → follows ≡ true → IsLastBelow (followed v) x (length (followed v)) (row_at rows x).first
-reference-first rows freed vars statics refs follows room c d v x view s up f =
-    let same : followed v ≡ pairs_in refs = followed-all v (ap (λ (k : HeapRows). k.follows) (sym view) ∙ f) ∙ ap (λ (k : HeapRows). k.refs) (sym view) in
-    subst (λ l. IsLastBelow l x (length l) (row_at rows x).first) (sym same) (s.references.firsts x up)
-
-pub none-first : (v : HeapRows) (x : ℕ) → v.follows ≡ false → IsLastBelow (followed v) x (length (followed v)) 0
-none-first v x f = subst (λ l. IsLastBelow l x (length l) 0) (sym (followed-none v f)) record {
-  below = omega arith;
-  none = λ i y from to at. absurd (omega (arith, to));
-  there = λ one. absurd (omega (arith, one));
-}
 
 pub live-fields : (o : Option ℕ) (h : Heap) → IfSome o (IsLive h) → IfSome o (λ y. (1 ≤ y) × IsLive h y)
 live-fields None h l = tt

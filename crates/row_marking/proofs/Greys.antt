@@ -18,7 +18,7 @@ use Rattle.joint_model.proofs.Numbered.{set-at_here, set-at_other}
 use Rattle.joint_model.proofs.Members.{Contains-nil, Contains-here, Contains-there, Contains-cons_cases}
 use Rattle.reachability.specs.Marks.{IsMarked, IsClosed, unmarked}
 use Rattle.reachability.specs.Scans.{Scans}
-use Rattle.reachability.proofs.Marking.{Scans-none, Scans-seen, Scans-then, unmarked-set, set-marked, set-keeps, set-fresh, unmarked-le}
+use Rattle.reachability.proofs.Marking.{Scans-none, Scans-then, unmarked-set, set-marked, set-keeps, set-fresh, unmarked-le}
 use Rattle.row_marking.specs.Traces.{GreyChain, Chained, Greyed, Greying, greys, RefersFrom, Leads, IsLastBelow, Shape}
 
 -- a link outside a chain may change
@@ -49,9 +49,6 @@ Scans-first y m s new l = record {
 
 pub Greyed-none : (row : ℕ → Type 0) (m : List Bool) (l : List ℕ) (h : ℕ) → ((k : ℕ) → row k → ⊥) → Greyed row m l h m l h
 Greyed-none row m l h none waited c = record { waits = waited; chained = c; scans = Scans-none row m waited none }
-
-pub Greyed-seen : (y : ℕ) (m : List Bool) (l : List ℕ) (h : ℕ) → IsMarked m y → Greyed (λ z. z ≡ y) m l h m l h
-Greyed-seen y m l h seen waited c = record { waits = waited; chained = c; scans = Scans-seen y m waited seen }
 
 pub Greyed-new : (y : ℕ) (m : List Bool) (l : List ℕ) (h : ℕ) → slice_get m y ≡ Some false → 1 ≤ y → y < length l → Greyed (λ z. z ≡ y) m l h (set m y true) (set l y h) y
 Greyed-new y m l h new one fits waited c =

@@ -1,5 +1,5 @@
 use Rattle.joint_history.proofs.Floors.{floor_low, floor_high}
-use Rattle.joint_history.proofs.seats.DrawingDraw.draw.Goals as goal
+use Rattle.joint_history.proofs.seats.SeatDrawingDraw.draw.Goals as goal
 
 pub returns-clause-low : goal.returns-clause-low
 returns-clause-low c = floor_low c.args.self.now.seat.now.view _ c.append-number.ensures.number
