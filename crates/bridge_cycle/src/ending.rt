@@ -13,7 +13,7 @@ use std::alloc::Global;
 use std::sync::Wait;
 
 impl<N: OrderName> Driver<N> {
-    // Begins the cycle's own marking; the phase is the one for it.
+    /// Begins the cycle's own marking; the phase is the one for it.
     pub(crate) fn begin_marking(&mut self, rt: &impl Wait, shared: &Shared<N>, index: u32) -> Reply
         requires phase { self.old.phase ≡ at.Weakened }
         requires index { line_of self.old ≤ index }
@@ -25,7 +25,7 @@ impl<N: OrderName> Driver<N> {
         Reply::Mark(begun.marking)
     }
 
-    // Ends the cycle's own marking; the phase is the one for it.
+    /// Ends the cycle's own marking; the phase is the one for it.
     pub(crate) fn end_marking(&mut self, rt: &impl Wait, shared: &Shared<N>, index: u32) -> Reply
         requires phase { self.old.phase ≡ at.Marked }
         requires index { line_of self.old ≤ index }
@@ -37,7 +37,7 @@ impl<N: OrderName> Driver<N> {
         Reply::Swept(swept.marking, swept.freed)
     }
 
-    // Resolves the cycle; the phase is the one for it.
+    /// Resolves the cycle; the phase is the one for it.
     pub(crate) fn end_cycle(&mut self, rt: &impl Wait, shared: &Shared<N>, index: u32) -> Reply
         requires phase { self.old.phase ≡ at.Restored }
         requires index { line_of self.old ≤ index }

@@ -74,7 +74,7 @@ fn restore_all<N: OrderName>(
 }
 
 impl<N: OrderName> Driver<N> {
-    // Weakens all handles; the phase is the one for it.
+    /// Weakens all handles; the phase is the one for it.
     pub(crate) fn weaken_handles(&mut self, rt: &impl Wait, shared: &Shared<N>, index: u32) -> Reply
         requires phase { self.old.phase ≡ at.Mirrored }
         requires index { line_of self.old ≤ index }
@@ -96,7 +96,7 @@ impl<N: OrderName> Driver<N> {
         Reply::Ok
     }
 
-    // Restores all handles and clears the mirrored references; the phase is the one for it.
+    /// Restores all handles and clears the mirrored references; the phase is the one for it.
     pub(crate) fn restore_handles(
         &mut self,
         rt: &impl Wait,

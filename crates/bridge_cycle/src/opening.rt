@@ -22,7 +22,7 @@ fn graph_is_part(graph: &DeadGraph)
 }
 
 impl<N: OrderName> Driver<N> {
-    // Takes the snapshot; the phase is the one for it.
+    /// Takes the snapshot; the phase is the one for it.
     pub(crate) fn take_snapshot(
         &mut self,
         rt: &impl Wait,
@@ -47,7 +47,7 @@ impl<N: OrderName> Driver<N> {
         Ok(reply)
     }
 
-    // Makes the contraction; the phase is the one for it. All memory is taken before the entry, room for the answers of the restores too.
+    /// Makes the contraction; the phase is the one for it. All memory is taken before the entry, room for the answers of the restores too.
     pub(crate) fn make_contraction(
         &mut self,
         rt: &impl Wait,
@@ -75,7 +75,7 @@ impl<N: OrderName> Driver<N> {
         Ok(Reply::Sccs(sccs, xrefs))
     }
 
-    // Mirrors the cycle; the phase is the one for it.
+    /// Mirrors the cycle; the phase is the one for it.
     pub(crate) fn add_references(
         &mut self,
         rt: &impl Wait,

@@ -10,7 +10,7 @@ use joint_model::{HNum, MNum};
 use std::alloc::{AllocError, Global};
 use std::marker::Model;
 
-/// The most edges that a part has in all.
+// The most edges that a part has in all.
 const MOST_EDGES: usize = 4_294_967_295;
 
 /// A dead part that is being built: nodes by rising managed number, and edges in any order.

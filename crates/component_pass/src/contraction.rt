@@ -40,7 +40,7 @@ pub fn plain_contract(alloc: Global, graph: &DeadGraph) -> Result<Components, Al
     from_classes(alloc, graph, &labels)
 }
 
-/// The components and cross-references, by a label for each node's class.
+// The components and cross-references, by a label for each node's class.
 fn from_classes(alloc: Global, graph: &DeadGraph, labels: &[u32]) -> Result<Components, AllocError>
     requires { AreClasses graph.now.edges (length graph.now.nodes) labels.now }
     ensures { IfOk result (λ c. IsContraction (IsBridge graph.now.nodes) (Leads graph.now.edges) c.comps c.pairs) }
@@ -62,7 +62,7 @@ fn from_classes(alloc: Global, graph: &DeadGraph, labels: &[u32]) -> Result<Comp
     builder.finish()
 }
 
-/// The components and cross-references, by a label for each node's class and the classes in order.
+// The components and cross-references, by a label for each node's class and the classes in order.
 fn from_rows(
     alloc: Global,
     graph: &DeadGraph,

@@ -36,6 +36,9 @@
 //
 // Both only read the graph, and each makes the lists that it works with and lets them go: where there is no
 // memory nothing of the caller's has changed, and what stands in those lists nobody reads.
+//
+// What is promised: for every graph the answer is the definition's one list of components and cross-references, or want of memory. The pass holds no
+// lock: nobody changes the graph that it reads, and both heaps may run on meanwhile.
 #![tactic(auto)]
 
 mod contraction;

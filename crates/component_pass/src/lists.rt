@@ -66,7 +66,7 @@ impl Lists {
     }
 }
 
-/// The list that begins at start `i` and ends at the next one's, or at the end.
+// The list that begins at start `i` and ends at the next one's, or at the end.
 fn cut_row<'a>(starts: &[usize], items: &'a [u32], i: usize) -> &'a [u32]
     requires cut { IsCut starts.now items.now }
     requires index { i < length starts.now }
@@ -81,7 +81,7 @@ fn cut_row<'a>(starts: &[usize], items: &'a [u32], i: usize) -> &'a [u32]
     &items[start..end]
 }
 
-/// Puts a list last, for which there is room. Most lists have one element, so it is a loop, and no copy.
+// Puts a list last, for which there is room. Most lists have one element, so it is a loop, and no copy.
 fn append(items: &mut Vec<u32>, row: &[u32])
     requires { vec_len items.old + length row.now ≤ vec_capacity items.old }
     ensures { items.new.items ≡ items.old.items ++ row.now }

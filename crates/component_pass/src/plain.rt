@@ -21,7 +21,7 @@ pub(crate) fn plain_classes(alloc: Global, graph: &DeadGraph) -> Result<Vec<u32>
     Ok(labels)
 }
 
-/// The least node that `x` reaches and that reaches `x`.
+// The least node that `x` reaches and that reaches `x`.
 fn least(alloc: Global, graph: &DeadGraph, x: u32) -> Result<u32, AllocError>
     requires { x < length graph.now.nodes }
     ensures { IfOk result (λ l. IsLeast graph.now.edges x l) }
@@ -34,7 +34,7 @@ fn least(alloc: Global, graph: &DeadGraph, x: u32) -> Result<u32, AllocError>
     Ok(x)
 }
 
-/// Whether some walk leads from `x` to `y`.
+// Whether some walk leads from `x` to `y`.
 fn reaches(alloc: Global, graph: &DeadGraph, x: u32, y: u32) -> Result<bool, AllocError>
     requires from { x < length graph.now.nodes }
     requires to { y < length graph.now.nodes }

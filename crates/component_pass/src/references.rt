@@ -43,7 +43,7 @@ pub(crate) fn list_references(
     )
 }
 
-/// Lists the cross-references component by component; nothing is marked between two of them.
+// Lists the cross-references component by component; nothing is marked between two of them.
 fn refer_all(
     graph: &DeadGraph,
     labels: &[u32],
@@ -79,7 +79,7 @@ fn refer_all(
     Ok(())
 }
 
-/// Finds the components that the component of `x` refers to, in order, and unmarks all nodes again.
+// Finds the components that the component of `x` refers to, in order, and unmarks all nodes again.
 fn destinations(
     graph: &DeadGraph,
     labels: &[u32],
@@ -113,7 +113,7 @@ fn destinations(
     Ok(())
 }
 
-/// Appends the index of the class of each node that the search doesn't go on from.
+// Appends the index of the class of each node that the search doesn't go on from.
 fn collect(
     found: &[u32],
     plain: &[bool],

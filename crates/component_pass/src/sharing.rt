@@ -59,7 +59,7 @@ pub(crate) fn share_references(
     )
 }
 
-/// Finds the sets of all classes.
+// Finds the sets of all classes.
 fn number_all(
     graph: &DeadGraph,
     labels: &[u32],
@@ -97,8 +97,8 @@ fn number_all(
     Ok(())
 }
 
-/// The number of the set of the class with that label: of its own component, or of what it refers to where
-/// it has no bridge node.
+// The number of the set of the class with that label: of its own component, or of what it refers to where
+// it has no bridge node.
 fn number(
     graph: &DeadGraph,
     labels: &[u32],
@@ -144,8 +144,8 @@ fn number(
     )
 }
 
-/// The number of the union of the sets that edges from the class lead to: of one of these, where that has
-/// all of it, or a new one.
+// The number of the union of the sets that edges from the class lead to: of one of these, where that has
+// all of it, or a new one.
 fn share(
     graph: &DeadGraph,
     labels: &[u32],
@@ -180,7 +180,7 @@ fn share(
     Ok(number)
 }
 
-/// The number of the set that has exactly those components, if it is among the numbers.
+// The number of the set that has exactly those components, if it is among the numbers.
 fn same_set(lists: &Lists, count: u32, numbers: &[u32], union: &[u32]) -> Option<u32>
     requires { All (λ s. s < count + length lists.now) numbers.now }
     ensures { IfSome result (λ s. (s < count + length lists.now) × (set_at count lists.now s ≡ union.now)) }
@@ -193,7 +193,7 @@ fn same_set(lists: &Lists, count: u32, numbers: &[u32], union: &[u32]) -> Option
     None
 }
 
-/// Lists the cross-references component by component.
+// Lists the cross-references component by component.
 fn refer_all(
     graph: &DeadGraph,
     labels: &[u32],
@@ -229,7 +229,7 @@ fn refer_all(
     Ok(())
 }
 
-/// Lists the cross-references of the component of which `x` is the first member, if there is one.
+// Lists the cross-references of the component of which `x` is the first member, if there is one.
 fn refer(
     graph: &DeadGraph,
     labels: &[u32],

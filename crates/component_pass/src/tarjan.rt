@@ -19,13 +19,13 @@ pub(crate) struct Frame {
     pub low: u32,
 }
 
-/// The mark of a node that was not seen.
+// The mark of a node that was not seen.
 const UNSEEN: u32 = 0;
 
-/// The mark of a node whose class is complete; it is above every place.
+// The mark of a node whose class is complete; it is above every place.
 const DONE: u32 = u32::MAX;
 
-/// Where a scan of a row stopped, and the lowest place that it came by.
+// Where a scan of a row stopped, and the lowest place that it came by.
 #[derive(Clone, Copy)]
 struct Scan {
     next: u32,
@@ -61,7 +61,7 @@ pub(crate) fn classes(alloc: Global, graph: &DeadGraph) -> Result<StrongClasses,
     Ok(StrongClasses { labels, rows })
 }
 
-/// Walks from each node that was not seen.
+// Walks from each node that was not seen.
 fn visit_all(
     graph: &DeadGraph,
     marks: &mut [u32],
@@ -87,7 +87,7 @@ fn visit_all(
     Ok(())
 }
 
-/// Completes the classes of all nodes that `root` reaches.
+// Completes the classes of all nodes that `root` reaches.
 fn walk(
     graph: &DeadGraph,
     root: u32,
@@ -114,7 +114,7 @@ fn walk(
     Ok(())
 }
 
-/// Puts an unseen node on the stack, and answers its frame.
+// Puts an unseen node on the stack, and answers its frame.
 fn enter(node: u32, marks: &mut [u32], stack: &mut Vec<u32>) -> Result<Frame, AllocError>
     requires node { node < length marks.old }
     requires few { length stack.old.items < 65536 }
@@ -133,8 +133,8 @@ fn enter(node: u32, marks: &mut [u32], stack: &mut Vec<u32>) -> Result<Frame, Al
     })
 }
 
-/// Goes on in a frame: into the next unseen node, back to the frame below, or to the end of a class. Answers
-/// the frame to go on in.
+// Goes on in a frame: into the next unseen node, back to the frame below, or to the end of a class. Answers
+// the frame to go on in.
 fn advance(
     graph: &DeadGraph,
     frame: Frame,
@@ -169,7 +169,7 @@ fn advance(
     Ok(frames.pop())
 }
 
-/// Goes over the seen targets of a row, and keeps the lowest place among them.
+// Goes over the seen targets of a row, and keeps the lowest place among them.
 fn scan_row(row: &[u32], marks: &[u32], from: u32, low: u32) -> Scan
     requires in_range { All (λ y. y < length marks.now) row.now }
     requires few { length row.now < 4294967296 }
@@ -190,7 +190,7 @@ fn scan_row(row: &[u32], marks: &[u32], from: u32, low: u32) -> Scan
     Scan { next, low: lowest }
 }
 
-/// The frame below, to which the lowest place is handed on.
+// The frame below, to which the lowest place is handed on.
 fn lowered(below: Frame, low: u32) -> Frame
     ensures { result ≡ record { node = below.node; at = below.at; next = below.next; low = min below.low low } }
 {
@@ -202,7 +202,7 @@ fn lowered(below: Frame, low: u32) -> Frame
     }
 }
 
-/// Takes the nodes of a complete class from the stack, marks them as done, and lists and labels the class.
+// Takes the nodes of a complete class from the stack, marks them as done, and lists and labels the class.
 fn close(
     at: u32,
     marks: &mut [u32],
@@ -227,7 +227,7 @@ fn close(
     Ok(())
 }
 
-/// Marks the nodes of a complete class as done and labels them.
+// Marks the nodes of a complete class as done and labels them.
 fn settle(class: &[u32], label: u32, marks: &mut [u32], labels: &mut [u32])
     requires marks { All (λ x. x < length marks.old) class.now }
     requires labels { All (λ x. x < length labels.old) class.now }

@@ -9,6 +9,9 @@
 // the oldest notice that waits: first in, first out. Notices that were given out stay in the list, so `take`
 // moves nothing, `at` and `into_all` can tell every notice that there ever was, and `queued` is the list's
 // length.
+//
+// The queue is a part of the managed side, which alone changes it. What is promised: first in, first out, none lost; and a push takes no memory and
+// is never refused, since it needs room beforehand.
 #![tactic(auto)]
 
 ghost use Rattle.std.specs.Prelude.{◌≡◌, ◌+◌, ◌≤◌, ◌==◌, [], ◌∷◌, ◌++◌, length, slice_get, MatchOption, is_some, if◌then◌else◌, IfOk, IsOk, OnErr};
@@ -18,7 +21,7 @@ use joint_model::MNum;
 use std::alloc::{AllocError, Global};
 use std::marker::Model;
 
-/// The most notices that are ever queued in one [`Notices`].
+// The most notices that are ever queued in one [`Notices`].
 const MOST: usize = 4_294_967_295;
 
 /// Notices to finalisers, first in, first out. In all it takes at most 4,294,967,295; a growth past that is

@@ -12,6 +12,9 @@
 // row. None of these but `make` takes memory, and it takes none where `reserve` left room for its row: so a caller
 // can take all memory first. Each reads and writes a few rows, however many there are, and `clear_target` just
 // those that it clears.
+//
+// The table is a part of the peer side, which alone changes it. What is promised: the rows after each call are those of the definition; `release`
+// refuses exactly a number that isn't in the table, and `make` all after the 65,535th.
 #![tactic(auto)]
 
 ghost use Rattle.std.specs.Prelude.{◌≡◌, ◌==◌, ◌+◌, ◌≤◌, ◌↔◌, [], ◌∷◌, ◌++◌, true, length, map, All, ok_or, ℕ, ◌-◌, ◌≢◌, if◌then◌else◌, Ok, Err, None, Some, OnOk, OnErr, IfOk, IsOk};
@@ -26,7 +29,7 @@ use std::alloc::{AllocError, Global};
 use std::collections::HashMap;
 use std::marker::Model;
 
-/// The most handles that are ever made in one [`HandleTable`].
+// The most handles that are ever made in one [`HandleTable`].
 const MOST: usize = 65_535;
 
 /// Who names the peer by a row: a managed object that holds it, or a raw global name.

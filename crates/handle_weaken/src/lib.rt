@@ -7,6 +7,8 @@
 // Each handle that is weakened or restored is one entry of the driver on the peer side: `peer_side` makes it and keeps what the definitions say of it.
 // So what is promised of all of them is that these entries were made one after another, each lawful, and nothing else. No call takes memory, and none
 // makes, frees or changes a peer.
+//
+// A call has the peer side in hand by `&mut`, so nobody comes between the handles of one call; between two calls others may have made entries.
 #![tactic(auto)]
 
 mod restoring;

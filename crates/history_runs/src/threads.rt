@@ -205,7 +205,7 @@ fn run<N: OrderName + Send + Sync, R: Threads + Wait + Sync>(
 
 // What is seen of a thread in a history: how many entries it has, the line of the last one, and whether its lines rise by one.
 #[derive(Clone, Copy)]
-struct Seen {
+struct SeenOfThread {
     entries: u32,
     line: u32,
     in_order: bool,
@@ -214,7 +214,7 @@ struct Seen {
 // What is seen of the history at all: whether the numbers are those from 0 on, how many collections there are, each a begin that gave the next
 // number with its sweep as the next entry of the peer side, and how often some replies were given.
 #[derive(Clone, Copy)]
-struct Told {
+struct SeenOfAll {
     numbered: bool,
     collections: u32,
     whole: bool,
@@ -235,12 +235,12 @@ fn is_of_peers(entry: &Entry) -> bool {
 }
 
 // With one entry more of the thread.
-fn seen_after(seen: Seen, t: Thread, entry: &Entry) -> Seen {
+fn seen_after(seen: SeenOfThread, t: Thread, entry: &Entry) -> SeenOfThread {
     if entry.made.caller != t {
         return seen;
     }
     let line = entry.made.index;
-    Seen {
+    SeenOfThread {
         entries: seen.entries.wrapping_add(1),
         line,
         in_order: seen.in_order && (line == seen.line || line == seen.line.wrapping_add(1)),
@@ -248,8 +248,8 @@ fn seen_after(seen: Seen, t: Thread, entry: &Entry) -> Seen {
 }
 
 // What is seen of a thread.
-fn seen_of(history: &History, t: Thread) -> Seen {
-    let mut seen = Seen {
+fn seen_of(history: &History, t: Thread) -> SeenOfThread {
+    let mut seen = SeenOfThread {
         entries: 0,
         line: 0,
         in_order: true,
@@ -263,7 +263,7 @@ fn seen_of(history: &History, t: Thread) -> Seen {
 }
 
 // With one entry more, by the marking that the entry before it on the peer side began, and its thread.
-fn told_after(told: Told, open: Option<(Marking, Thread)>, entry: &Entry) -> Told {
+fn told_after(told: SeenOfAll, open: Option<(Marking, Thread)>, entry: &Entry) -> SeenOfAll {
     let (m, by) = (entry.made, entry.made.caller);
     let mut told = told;
     match (m.op, m.reply) {
@@ -296,8 +296,8 @@ fn open_after(open: Option<(Marking, Thread)>, entry: &Entry) -> Option<(Marking
 }
 
 // What is seen of the history at all.
-fn told_in(history: &History) -> Told {
-    let mut told = Told {
+fn told_in(history: &History) -> SeenOfAll {
+    let mut told = SeenOfAll {
         numbered: true,
         collections: 0,
         whole: true,

@@ -4,6 +4,8 @@
 // Lines, Callers and Sides of each event, Replies of equality, Histories of entries and lists of entries, and Steps of the joint
 // machine. Each law says that a test tells exactly what its definition in `joint_model` says, and of a step that what passes is
 // one; its body is empty, and its contract is a statement of `specs/`.
+//
+// No value is made and nothing runs: proofs compute the tests, of worked histories for instance.
 #![tactic(auto)]
 
 ghost use Rattle.history_tests.specs.Graphs.{ReachedIsTested, UnreachedAreTested};

@@ -12,7 +12,7 @@ ghost use Rattle.joint_history.specs.Passing.{MayAppend};
 
 use crate::callers::Receipt;
 use crate::peer::LockedPeer;
-use crate::seats::{Drawing, give_back, lend};
+use crate::seats::{SeatDrawing, give_back, lend};
 use joint_model::{Op, Thread};
 use order_table::{Order, OrderName, Role, Seat};
 use peer_side::PeerSide;
@@ -21,7 +21,7 @@ use std::alloc::AllocError;
 // The side makes a collect. The first of its entries stands where its list ended before.
 fn collect_by(
     side: &mut PeerSide,
-    drawing: &mut Drawing<'_>,
+    drawing: &mut SeatDrawing<'_>,
     caller: Thread,
     index: u32,
 ) -> Result<Receipt, AllocError>
@@ -64,7 +64,7 @@ fn draw_collect(
     ensures err { OnErr result ((seat.new ≡ seat.old) × (seen side.new ≡ seen side.old)) }
     ensures reserve { side.new.reserve ≡ side.old.reserve }
 {
-    let mut drawing = Drawing {
+    let mut drawing = SeatDrawing {
         order,
         seat,
         role: Role::Peer,

@@ -20,7 +20,7 @@ ghost use Rattle.joint_history.specs.Locked.{Drew};
 ghost use Rattle.joint_history.specs.Passing.{MayAppend};
 
 use crate::managed::{LockedManaged, draw_step};
-use crate::seats::{Drawing, give_back, lend};
+use crate::seats::{SeatDrawing, give_back, lend};
 use joint_model::{Act, Alive, Op, Phase, PhaseWord, Reply, Thread};
 use managed_side::{ManagedSide, ResolveOut};
 use order_table::{Order, OrderName, Role, Seat};
@@ -40,7 +40,7 @@ fn draw_contraction(
     requires entries { line_known seat.old.view 0 ≡ side.old.entries }
     ensures { DrawsContraction order.now seat.old seat.new side.old side.new index sccs xrefs result }
 {
-    let mut drawing = Drawing {
+    let mut drawing = SeatDrawing {
         order,
         seat,
         role: Role::Managed,
@@ -57,7 +57,7 @@ fn draw_abandon(side: &mut ManagedSide, order: &Order, seat: &mut Seat, index: u
     requires entries { line_known seat.old.view 0 ≡ side.old.entries }
     ensures { DrawsAbandon order.now seat.old seat.new side.old side.new index result }
 {
-    let mut drawing = Drawing {
+    let mut drawing = SeatDrawing {
         order,
         seat,
         role: Role::Managed,
@@ -81,7 +81,7 @@ fn draw_resolution(
     requires entries { line_known seat.old.view 0 ≡ side.old.entries }
     ensures { DrawsResolution order.now seat.old seat.new side.old side.new index cites result.0 alive.now.values result.1 }
 {
-    let mut drawing = Drawing {
+    let mut drawing = SeatDrawing {
         order,
         seat,
         role: Role::Managed,
@@ -106,7 +106,7 @@ fn draw_refusal(
     ensures drew { IfOk result (λ r. Drew managed_rules 0 order.now seat.old seat.new side.old side.new (driver_entry r.0 index (op.Refused word) r.1 None) (phase_of phase)) }
     ensures err { OnErr result ((seat.new ≡ seat.old) × (side.new ≡ side.old)) }
 {
-    let mut drawing = Drawing {
+    let mut drawing = SeatDrawing {
         order,
         seat,
         role: Role::Managed,

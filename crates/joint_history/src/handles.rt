@@ -19,7 +19,7 @@ ghost use Rattle.joint_history.specs.Locked.{Drew};
 ghost use Rattle.joint_history.specs.Passing.{MayAppend};
 
 use crate::peer::LockedPeer;
-use crate::seats::{Drawing, give_back, lend};
+use crate::seats::{SeatDrawing, give_back, lend};
 use global_handles::Back;
 use joint_model::{Cycle, HNum, Thread};
 use order_table::{Order, OrderName, Role, Seat};
@@ -41,7 +41,7 @@ fn draw_weaken(
     ensures drew { Drew peer_rules 1 order.now seat.old seat.new (seen side.old) (seen side.new) (driver_entry result index (op.Weaken h) says.Ok (Some snap)) nothing }
     ensures reserve { side.new.reserve ≡ reserve_left side.old.reserve }
 {
-    let mut drawing = Drawing {
+    let mut drawing = SeatDrawing {
         order,
         seat,
         role: Role::Peer,
@@ -65,7 +65,7 @@ fn draw_restore(
     ensures drew { Drew peer_rules 1 order.now seat.old seat.new (seen side.old) (seen side.new) (driver_entry result.0 index (op.Restore h) (reply_of result.1) None) nothing }
     ensures reserve { side.new.reserve ≡ side.old.reserve }
 {
-    let mut drawing = Drawing {
+    let mut drawing = SeatDrawing {
         order,
         seat,
         role: Role::Peer,
@@ -84,7 +84,7 @@ fn draw_clear(side: &mut PeerSide, order: &Order, seat: &mut Seat, index: u32, c
     ensures drew { Drew peer_rules 1 order.now seat.old seat.new (seen side.old) (seen side.new) (driver_entry result index (op.Clear cycle) says.Ok None) nothing }
     ensures reserve { side.new.reserve ≡ reserve_over side.old.reserve }
 {
-    let mut drawing = Drawing {
+    let mut drawing = SeatDrawing {
         order,
         seat,
         role: Role::Peer,

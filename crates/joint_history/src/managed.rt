@@ -13,7 +13,7 @@ ghost use Rattle.joint_history.specs.Knowing.{line_known};
 ghost use Rattle.joint_history.specs.Locked.{made_by, Drew, ManagedKnows, MayMake, Makes, MakesNone};
 ghost use Rattle.joint_history.specs.Passing.{MayAppend};
 
-use crate::seats::{Drawing, give_back, lend};
+use crate::seats::{SeatDrawing, give_back, lend};
 use joint_model::{Op, Reply, Thread, Var};
 use managed_side::ManagedSide;
 use order_table::{Order, OrderName, Role, Seat};
@@ -41,7 +41,7 @@ impl<N: OrderName> Model for LockedManaged<N> {
     ghost invariant = { λ l. (l.seat.order ≡ N.order) × Owns l.seat.view 0 × ManagedKnows l.seat.view l.side };
 }
 
-// The side draws by the seat: what is said here is what that leaves in both, and nothing else.
+/// The side draws by the seat: what is said here is what that leaves in both, and nothing else.
 pub(crate) fn draw_step(
     side: &mut ManagedSide,
     order: &Order,
@@ -59,7 +59,7 @@ pub(crate) fn draw_step(
     ensures drew { IfOk result (λ r. Drew managed_rules 0 order.now seat.old seat.new side.old side.new (numbered r.0 (made_by caller index op.now r.1 cites)) nothing) }
     ensures err { OnErr result ((seat.new ≡ seat.old) × (side.new ≡ side.old)) }
 {
-    let mut drawing = Drawing {
+    let mut drawing = SeatDrawing {
         order,
         seat,
         role: Role::Managed,
@@ -85,7 +85,7 @@ fn draw_take(
     ensures drew { IfOk result (λ r. Drew managed_rules 0 order.now seat.old seat.new side.old side.new (numbered r.0 (made_by caller index (take_op v) r.1 None)) nothing) }
     ensures err { OnErr result ((seat.new ≡ seat.old) × (side.new ≡ side.old)) }
 {
-    let mut drawing = Drawing {
+    let mut drawing = SeatDrawing {
         order,
         seat,
         role: Role::Managed,

@@ -16,7 +16,7 @@ ghost use Rattle.joint_history.specs.Locked.{Drew};
 ghost use Rattle.joint_history.specs.Passing.{MayAppend};
 
 use crate::peer::LockedPeer;
-use crate::seats::{Drawing, give_back, lend};
+use crate::seats::{SeatDrawing, give_back, lend};
 use joint_model::{Marking, Thread};
 use order_table::{Order, OrderName, Role, Seat};
 use peer_side::{PeerSide, Swept};
@@ -37,7 +37,7 @@ fn draw_sweep(side: &mut PeerSide, order: &Order, seat: &mut Seat, index: u32) -
     ensures drew { DrawsSweep order.now seat.old seat.new (seen side.old) (seen side.new) index result.0 result.1 }
     ensures reserve { side.new.reserve ≡ side.old.reserve }
 {
-    let mut drawing = Drawing {
+    let mut drawing = SeatDrawing {
         order,
         seat,
         role: Role::Peer,
@@ -58,7 +58,7 @@ fn draw_begin(side: &mut PeerSide, order: &Order, seat: &mut Seat, index: u32) -
     ensures drew { Drew peer_rules 1 order.now seat.old seat.new (seen side.old) (seen side.new) (driver_entry result.0 index op.Begin (says.Mark result.1) None) nothing }
     ensures reserve { side.new.reserve ≡ reserve_begun (is_own C side.old.reserve.marking) side.old.reserve }
 {
-    let mut drawing = Drawing {
+    let mut drawing = SeatDrawing {
         order,
         seat,
         role: Role::Peer,

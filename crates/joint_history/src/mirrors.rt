@@ -18,7 +18,7 @@ ghost use Rattle.joint_history.specs.Knowing.{line_known};
 ghost use Rattle.joint_history.specs.Passing.{MayAppend};
 
 use crate::peer::LockedPeer;
-use crate::seats::{Drawing, give_back, lend};
+use crate::seats::{SeatDrawing, give_back, lend};
 use bridge_graph::DeadGraph;
 use joint_model::{Cycle, Thread};
 use order_table::{Order, OrderName, Role, Seat};
@@ -51,7 +51,7 @@ fn draw_mirror(
     ensures err { OnErr result ((seat.new ≡ seat.old) × (side.new ≡ side.old)) }
 {
     let _ = (graph.nodes(), comps.len());
-    let mut drawing = Drawing {
+    let mut drawing = SeatDrawing {
         order,
         seat,
         role: Role::Peer,

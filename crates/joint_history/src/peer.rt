@@ -14,7 +14,7 @@ ghost use Rattle.joint_history.specs.Knowing.{line_known};
 ghost use Rattle.joint_history.specs.Locked.{made_by, Drew, PeerKnows, MayMake, Makes, MakesNone};
 ghost use Rattle.joint_history.specs.Passing.{MayAppend};
 
-use crate::seats::{Drawing, give_back, lend};
+use crate::seats::{SeatDrawing, give_back, lend};
 use joint_model::{Op, Reply, Thread};
 use order_table::{Order, OrderName, Role, Seat};
 use peer_side::PeerSide;
@@ -62,7 +62,7 @@ fn draw_step(
     ensures err { OnErr result ((seat.new ≡ seat.old) × (seen side.new ≡ seen side.old)) }
     ensures reserve { side.new.reserve ≡ side.old.reserve }
 {
-    let mut drawing = Drawing {
+    let mut drawing = SeatDrawing {
         order,
         seat,
         role: Role::Peer,

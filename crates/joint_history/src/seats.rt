@@ -35,14 +35,14 @@ pub(crate) fn give_back(order: &Order, locked: &mut Seat, mine: &mut Seat, t: Th
 
 /// Draws the numbers of a side's entries by a seat that owns the side's role, and keeps the last one.
 #[derive(Drop)]
-pub(crate) struct Drawing<'a> {
+pub(crate) struct SeatDrawing<'a> {
     pub(crate) order: &'a Order,
     pub(crate) seat: &'a mut Seat,
     pub(crate) role: Role,
     pub(crate) last: u64,
 }
 
-impl<'a> Draw for Drawing<'a> {
+impl<'a> Draw for SeatDrawing<'a> {
     ghost use Rattle.std.specs.Prelude.{◌≡◌};
     ghost use Rattle.order_table.specs.Views.{kept, role_line};
     ghost use Rattle.joint_history.specs.Passing.{floor_of, left_in, MayAppend, Appends};

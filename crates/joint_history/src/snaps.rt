@@ -10,7 +10,7 @@ ghost use Rattle.joint_history.specs.Knowing.{line_known};
 ghost use Rattle.joint_history.specs.Passing.{MayAppend};
 
 use crate::managed::LockedManaged;
-use crate::seats::{Drawing, give_back, lend};
+use crate::seats::{SeatDrawing, give_back, lend};
 use joint_model::Thread;
 use managed_side::{ManagedSide, Opened, Pins, SnapFault};
 use order_table::{Order, OrderName, Role, Seat};
@@ -47,7 +47,7 @@ fn draw_snap(
     ensures err { OnErr result ((seat.new ≡ seat.old) × (side.new ≡ side.old)) }
 {
     let pins = pins_of(side);
-    let mut drawing = Drawing {
+    let mut drawing = SeatDrawing {
         order,
         seat,
         role: Role::Managed,

@@ -12,7 +12,7 @@ use Rattle.joint_model.specs.Histories.{Finished}
 use Rattle.joint_model.specs.Linked.{AllMayCome, opening_linkage, replayed, managed_after, joint_projection}
 use Rattle.joint_model.specs.Managed.{opening_managed}
 use Rattle.joint_model.specs.ManagedReplay.{ManagedReplay, opening_replay}
-use Rattle.joint_model.specs.Readers.{AllMayComeReading, replayed_reading, IsLinkedReadingBy, reading_projection, is_aside, is_managed_entry, Kept, with_pins, AllKeptLawful}
+use Rattle.joint_model.specs.Readers.{AllMayComeReading, replayed_reading, IsLinkedReadingBy, reading_projection, is_aside, is_managed_entry, PinnedEntry, with_pins, AllKeptLawful}
 use Rattle.joint_model.specs.Run.{Moment, IsRun, thread_number}
 use Rattle.joint_model.specs.Told.{Noted}
 
@@ -65,7 +65,7 @@ pins_by pins t _ reply = pins
 
 -- the managed side's own list of a history with lock-free reads: its entries, each with the pins that the reads and the takes
 -- before it leave
-abbrev pub kept_from : List (Option ℕ) → List Noted → List Kept
+abbrev pub kept_from : List (Option ℕ) → List Noted → List PinnedEntry
 kept_from pins [] = []
 kept_from pins (n ∷ ns) =
     let rest = kept_from (pins_by pins n.entry.made.caller n.entry.made.op n.entry.made.reply) ns in
@@ -76,7 +76,7 @@ abbrev pub KeptPinsAreLawful : Type 0
 KeptPinsAreLawful = (noted : List Noted) → IsLawfulReading noted → AllKeptLawful opening_replay (kept_from opening_managed.pins noted)
 
 -- the state after all entries of such a list
-abbrev pub kept_replayed : ManagedReplay → List Kept → ManagedReplay
+abbrev pub kept_replayed : ManagedReplay → List PinnedEntry → ManagedReplay
 kept_replayed s [] = s
 kept_replayed s (k ∷ ks) = kept_replayed (managed_after (with_pins s k.pins) k.noted.entry.made k.noted.told false) ks
 

@@ -1,6 +1,8 @@
 // Laws of the joint machine and of linked histories, over the definitions of `joint_model` alone.
 //
 // Each function is a law: its body is empty, and its contract is a statement of `specs/`.
+//
+// No value is made and nothing runs. What is promised is said of every linked history, whatever threads and whatever schedule led to it.
 #![tactic(auto)]
 
 mod afterwards;
@@ -18,7 +20,7 @@ pub use afterwards::{
     weak_reads_of_freed_peers_are_gone,
 };
 pub use freeing::{resolutions_free_unreached_rows, snapshots_free_unreached_rows};
-pub use graphs::{Graph, mirror_edges_follow_walks, walks_follow_mirror_edges};
+pub use graphs::{EdgeGraph, mirror_edges_follow_walks, walks_follow_mirror_edges};
 pub use linked::{
     adopted_peer_has_no_twin, alive_candidates_lead_to_alive_ones, both_sides_are_kept,
     held_handles_by_phase, joint_twin_is_registered, reached_peers_are_spared,

@@ -16,6 +16,9 @@
 // with n managed objects. A freed row leads nowhere, and nothing leads to it. These lists take memory in
 // proportion to the fields and handles. One marking of the nodes (`reachability::reached`) then marks exactly
 // the nodes of the reached rows, and what is left of the live peers is the answer.
+//
+// The caller has both heaps in hand, and nobody changes them meanwhile. What is promised: the answer is exactly the live peers that no joint root
+// reaches, in rising order, or want of memory.
 #![tactic(auto)]
 
 mod found;

@@ -187,7 +187,7 @@ pub record ReadingStep (j : Joint) (n : Noted) (next : Joint) : Type 0 where
   pub counts : is_aside n ≡ false
 
 -- a managed entry with the pins that are kept with it: those that the readers' entries and the takes before it leave
-pub record Kept : Type 0 where
+pub record PinnedEntry : Type 0 where
   pub noted : Noted
   pub pins : List (Option ℕ)
 
@@ -196,6 +196,6 @@ abbrev pub with_pins : ManagedReplay → List (Option ℕ) → ManagedReplay
 with_pins s pins = record s { managed = record s.managed { pins = pins } }
 
 -- the managed side's own list in a history with readers: each entry is lawful with the pins that are kept with it
-abbrev pub AllKeptLawful : ManagedReplay → List Kept → Type 0
+abbrev pub AllKeptLawful : ManagedReplay → List PinnedEntry → Type 0
 AllKeptLawful s [] = Unit {0}
 AllKeptLawful s (k ∷ ks) = ManagedLawful (with_pins s k.pins) k.noted.entry.made k.noted.told × AllKeptLawful (managed_after (with_pins s k.pins) k.noted.entry.made k.noted.told false) ks

@@ -7,7 +7,7 @@ use crate::events::Entry;
 use std::alloc::{AllocError, Global};
 use std::marker::Model;
 
-/// The most entries that an [`Entries`] holds.
+// The most entries that an [`Entries`] holds.
 const MOST: usize = 4_294_967_295;
 
 /// The entries of one side or one reader, in the order in which they were made. It holds at most

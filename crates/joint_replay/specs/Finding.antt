@@ -3,11 +3,11 @@
 use Rattle.std.specs.Prelude.{ℕ, ◌⊎◌, List, Option}
 use Rattle.joint_model.specs.Heaps.{Heap, IsLive}
 use Rattle.joint_replay.specs.Found.{IsBridgeRow, IsRootReached, IsHandleReached}
-use Rattle.joint_replay.specs.Roots.{Lists}
+use Rattle.joint_replay.specs.Roots.{ListsExactly}
 
 -- the lists of a snapshot, each of them rising and exact
 pub record FindsRows (h : Heap) (held pins : List (Option ℕ)) (freed candidates dead : List ℕ) : Type 0 where
-  pub frees : Lists (λ m. IsLive h m × (IsRootReached h pins m → ⊥) × (IsHandleReached h held m → ⊥)) freed
-  pub picks : Lists (λ m. IsBridgeRow h held m × (IsRootReached h pins m → ⊥)) candidates
-  pub leaves : Lists (λ m. IsLive h m × (IsRootReached h pins m → ⊥) × IsHandleReached h held m) dead
+  pub frees : ListsExactly (λ m. IsLive h m × (IsRootReached h pins m → ⊥) × (IsHandleReached h held m → ⊥)) freed
+  pub picks : ListsExactly (λ m. IsBridgeRow h held m × (IsRootReached h pins m → ⊥)) candidates
+  pub leaves : ListsExactly (λ m. IsLive h m × (IsRootReached h pins m → ⊥) × IsHandleReached h held m) dead
   pub decides : (m : ℕ) → IsLive h m → IsHandleReached h held m ⊎ (IsHandleReached h held m → ⊥)

@@ -12,6 +12,6 @@ abbrev pub IsRoot : Heap → List (Option ℕ) → ℕ → Type 0
 IsRoot h pins x = InSlot h x ⊎ Contains pins (Some x)
 
 -- the list rises, and has exactly the rows that are wanted
-pub record Lists (wanted : ℕ → Type 0) (xs : List ℕ) : Type 0 where
+pub record ListsExactly (wanted : ℕ → Type 0) (xs : List ℕ) : Type 0 where
   pub rise : Rises xs
   pub exact : (m : ℕ) → Contains xs m ↔ wanted m

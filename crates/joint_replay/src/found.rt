@@ -4,7 +4,7 @@ ghost use Rattle.std.specs.Prelude.{◌≡◌, ℕ, ◌+◌, ◌<◌, ◌≤◌,
 ghost use Rattle.joint_model.specs.Heaps.{Heap, IsLive};
 ghost use Rattle.joint_model.specs.Managed.{IsBridge};
 ghost use Rattle.joint_replay.specs.Found.{IsUnreachedRow, IsCandidateRow};
-ghost use Rattle.joint_replay.specs.Roots.{Lists};
+ghost use Rattle.joint_replay.specs.Roots.{ListsExactly};
 ghost use Rattle.joint_replay.specs.Finding.{FindsRows};
 
 use crate::heap::PlainHeap;
@@ -55,7 +55,7 @@ fn unreached(
 ) -> Result<Vec<u32>, AllocError>
     requires slots { length slots.now ≡ length heap.now.fields + 1 }
     requires bridges { length bridges.now ≡ length heap.now.fields + 1 }
-    ensures { IfOk result (λ v. Lists (IsUnreachedRow heap.now slots.now bridges.now stays) v.items) }
+    ensures { IfOk result (λ v. ListsExactly (IsUnreachedRow heap.now slots.now bridges.now stays) v.items) }
 {
     let mut rows = Vec::new(alloc);
     for m in 1..heap.made() + 1 {
@@ -82,7 +82,7 @@ fn pick(
     slots: &[bool],
 ) -> Result<Vec<u32>, AllocError>
     requires { length slots.now ≡ length heap.now.fields + 1 }
-    ensures { IfOk result (λ v. Lists (IsCandidateRow heap.now held.now slots.now) v.items) }
+    ensures { IfOk result (λ v. ListsExactly (IsCandidateRow heap.now held.now slots.now) v.items) }
 {
     let mut rows = Vec::new(alloc);
     for m in 1..heap.made() + 1 {

@@ -11,7 +11,7 @@ use reachability::Walked;
 use std::alloc::{AllocError, Global};
 use std::marker::Model;
 
-/// The most objects that a heap makes.
+// The most objects that a heap makes.
 const MOST_OBJECTS: usize = 65_535;
 
 /// Why a field isn't written: a variable is empty, or the object has no such field.
@@ -328,7 +328,7 @@ fn lower(xs: &[u32], flags: &mut Vec<bool>, freed: &mut Vec<u32>)
     }
 }
 
-/// The nodes are the objects' numbers; a live object leads to the live ones in its fields, and all else nowhere.
+// The nodes are the objects' numbers; a live object leads to the live ones in its fields, and all else nowhere.
 impl Walked for PlainHeap {
     ghost nodes = { λ h. length h.fields + 1 };
 

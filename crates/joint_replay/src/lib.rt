@@ -15,6 +15,9 @@
 //
 // Nothing is asked of a history: an `adopt` may name any handle, and a sweep may free a peer that a live one still has
 // in a field. So the heaps are plain lists, and an edge has two live ends.
+//
+// A state is its caller's own, made for one history, and no other thread has a part in it. What is promised: an entry is `Lawful` exactly where it is a
+// step of the joint machine, and the state is then the one after it; else, and without memory, the state is as before.
 #![tactic(auto)]
 
 mod both;

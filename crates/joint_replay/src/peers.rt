@@ -17,7 +17,7 @@ use joint_model::{Act, Reply, Sort, Thread};
 use std::alloc::{AllocError, Global};
 use std::marker::Model;
 
-/// The most handles that are issued.
+// The most handles that are issued.
 const MOST_HANDLES: usize = 65_535;
 
 /// Who a handle was made for: a managed object holds it, or a peer thread has it by a global name.

@@ -109,14 +109,14 @@ turned acc [] = acc
 turned acc (x ∷ xs) = turned (x ∷ acc) xs
 
 -- the past, earliest entry first, is a lawful list with these entries, and its last state is the past's end
-pub record IsHistory (whole : List Entry) (past : List Noted) : Type 0 where
+pub record IsTurnedPast (whole : List Entry) (past : List Noted) : Type 0 where
   pub same : entries (turned [] past) ≡ whole
   pub lawful : AllMayCome opening_linkage (turned [] past)
   pub ends : replayed opening_linkage (turned [] past) ≡ end_of past
 
 -- once both sides' lines are known whole
 abbrev pub KnownWholeIsHistory : Type 0
-KnownWholeIsHistory = (whole : List Entry) (lines : ℕ → List Entry) (k : AreKnown lines) → NumberedFrom 0 whole → lines 0 ≡ entries_in 0 whole → lines 1 ≡ entries_in 1 whole → IsHistory whole k.past
+KnownWholeIsHistory = (whole : List Entry) (lines : ℕ → List Entry) (k : AreKnown lines) → NumberedFrom 0 whole → lines 0 ≡ entries_in 0 whole → lines 1 ≡ entries_in 1 whole → IsTurnedPast whole k.past
 
 -- then a history with these entries is linked: nothing has to follow, and the freed lists and notices are the sides'
 pub record HasEnded (h : Finished) (s : Linkage) : Type 0 where

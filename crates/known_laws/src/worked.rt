@@ -13,7 +13,7 @@ ghost use Rattle.joint_model.specs.Told.{Noted, phase_of};
 ghost use Rattle.known_laws.specs.Conditions.{IsOpenHere};
 ghost use Rattle.known_laws.specs.Driving.{IsPastKept};
 ghost use Rattle.known_laws.specs.Drawn.{AreDrawn};
-ghost use Rattle.known_laws.specs.Growing.{AreKnown, IsHistory, grown};
+ghost use Rattle.known_laws.specs.Growing.{AreKnown, IsTurnedPast, grown};
 ghost use Rattle.joint_model.specs.HistoryLines.{entries_in};
 ghost use Rattle.known_laws.specs.Known.{TellsPlainly};
 ghost use Rattle.known_laws.specs.Pasts.{HasSameDeadPart, Joined, Lawful, RunsFrom, Within, end_of, line, driver_line};
@@ -39,7 +39,7 @@ pub fn numbers_must_leave_none_out()
     ensures managed { lines_of two_drops 0 ≡ entries_in 0 turned_numbers }
     ensures peer { lines_of two_drops 1 ≡ entries_in 1 turned_numbers }
     ensures unnumbered { NumberedFrom 0 turned_numbers → ⊥ }
-    ensures no_history { IsHistory turned_numbers two_drops → ⊥ }
+    ensures no_history { IsTurnedPast turned_numbers two_drops → ⊥ }
 {}
 
 /// Who doesn't know the snap doesn't know the cycle's dead part, and has another managed state.

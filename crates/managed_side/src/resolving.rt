@@ -142,14 +142,14 @@ fn bring_back_kept(heap: &mut RowHeap<MNum>, candidates: &[u32], alive: &Alive)
     }
 }
 
-// Whether the object has a mark.
+/// Whether the object has a mark.
 pub(crate) fn has_mark(heap: &RowHeap<MNum>, m: MNum) -> bool
     ensures { result ≡ marked heap.now.marks m.0 }
 {
     heap.is_marked(m.0)
 }
 
-// Takes the rows with a mark out of a list. It takes no memory.
+/// Takes the rows with a mark out of a list. It takes no memory.
 pub(crate) fn keep_unmarked(heap: &RowHeap<MNum>, rows: &mut Vec<MNum>)
     ensures { rows.new.items ≡ filter (λ m. not (marked heap.now.marks m.0)) rows.old.items }
 {
@@ -176,7 +176,7 @@ fn settle(cycle: OpenParts, heap: &mut RowHeap<MNum>, alive: &Alive) -> Vec<MNum
     dead
 }
 
-// Whether there is a handle beside the row.
+/// Whether there is a handle beside the row.
 pub(crate) fn holds(infos: &[Held], m: MNum) -> bool
     ensures { result ≡ has_handle (map (λ i. i.handle) infos.now) m.0 }
 {

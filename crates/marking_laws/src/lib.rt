@@ -14,6 +14,10 @@
 //
 // A caller begins with `begin_makes_marks_exact`, goes on with the law of each event, finds its marks shut under the edges of now by
 // `marks_are_shut`, which the marking loop asks for, and sweeps by `sweep_is_exact` and `sweep_is_safe`.
+//
+// No value is made and nothing runs here. Between a begin and its sweep the events of all threads come one after another, each under the peer lock, and
+// what is promised is that the sweep then frees exactly what the definition's does: no peer that is reached, and each that was unreached at the begin and
+// wasn't brought back.
 #![tactic(auto)]
 
 mod events;

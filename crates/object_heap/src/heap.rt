@@ -13,7 +13,7 @@ use crate::numbers::Number;
 use std::alloc::{AllocError, Global};
 use std::marker::Model;
 
-/// The most objects that a heap makes.
+// The most objects that a heap makes.
 const MOST_OBJECTS: usize = 65_535;
 
 /// The objects of one heap with their fields, the variables and statics that name them, and the objects
@@ -171,7 +171,7 @@ impl<N: Number> ObjectHeap<N> {
         self.freed
     }
 
-    // Node `x` of the graph as the number of an object.
+    /// Node `x` of the graph as the number of an object.
     pub(crate) fn node(&self, x: usize) -> u32
         requires { x < length self.now.fields + 1 }
         ensures { result ≡ x }

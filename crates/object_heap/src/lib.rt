@@ -1,8 +1,8 @@
-// The heap that both sides share: objects with their fields, the variables of the threads, the statics,
-// and the list of freed objects. It is seen as the joint model's `Heap`, and each call is one of its
-// definitions.
+// The plain heap: objects with their fields, the variables of the threads, the statics, and the list of
+// freed objects. It is seen as the joint model's `Heap`, and each call is one of its definitions. The sides
+// themselves hold a `row_heap`, which takes [`Number`], [`Done`] and what is proved of flags from here.
 //
-// A side makes an [`ObjectHeap`] once. `add_object` makes an object, which `set_var` then gives a name;
+// An [`ObjectHeap`] is made once. `add_object` makes an object, which `set_var` then gives a name;
 // `copy`, `set`, `get`, `drop`, `load` and `store` are the operations of a script, and each answers a
 // [`Done`]. A collector walks the heap by [`reachability::Walked`], in which the nodes are the objects'
 // numbers, and hands what it found dead to `free`. At the end `into_freed` gives the list of freed objects.
@@ -10,6 +10,8 @@
 // Object x stands at index x - 1. Beside its fields stands a flag that is up while it is live, and the list
 // of freed objects has room for each object, so that `free` takes no memory and one look tells whether an
 // object is live. No slot, and no field of a live object, ever names a freed one.
+//
+// A heap is its owner's, which alone changes it. What is promised: each call is exactly the definition's operation on the `Heap`, with its answer.
 #![tactic(auto)]
 
 mod done;

@@ -7,7 +7,7 @@ use crate::heap::ObjectHeap;
 use crate::numbers::Number;
 use reachability::Walked;
 
-/// The nodes are the objects' numbers, and node 0 leads nowhere, as freed objects do.
+// The nodes are the objects' numbers, and node 0 leads nowhere, as freed objects do.
 impl<N: Number> Walked for ObjectHeap<N> {
     ghost nodes = { λ h. length h.fields + 1 };
 

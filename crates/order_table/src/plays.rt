@@ -23,7 +23,7 @@ impl TableRule<(), View, ()> for Sequence {
     ghost first = { λ _. first_view };
 }
 
-// What an append writes, for the proof alone. A call at `Brand` picks it.
+/// What an append writes, for the proof alone. A call at `Brand` picks it.
 pub(crate) trait Saying {
     ghost role: { ℕ };
 
@@ -44,7 +44,7 @@ impl Saying for Brand {
     ghost freed = { [] };
 }
 
-// The step that makes an entry.
+/// The step that makes an entry.
 pub(crate) struct Append<W> {
     saying: PhantomData<W>,
 }
@@ -53,7 +53,7 @@ impl<W: Saying> Play<(), View> for Append<W> {
     ghost then = { Appended W.role W.made W.target W.freed };
 }
 
-// Which lines a split hands over, for the proof alone.
+/// Which lines a split hands over, for the proof alone.
 pub(crate) trait Lines {
     ghost lines: { List Bool };
 }
@@ -62,14 +62,14 @@ impl Lines for Brand {
     ghost lines = { [] };
 }
 
-// A note hands over no line.
+/// A note hands over no line.
 pub(crate) struct NoLine;
 
 impl Lines for NoLine {
     ghost lines = { lines_of_none };
 }
 
-// The step that makes a seat with some of another's lines.
+/// The step that makes a seat with some of another's lines.
 pub(crate) struct Cut<W> {
     lines: PhantomData<W>,
 }
@@ -80,7 +80,7 @@ impl<W: Lines> Split<View> for Cut<W> {
     ghost right = { given W.lines };
 }
 
-// The step that takes a seat in.
+/// The step that takes a seat in.
 pub(crate) struct Glue;
 
 impl Join<View> for Glue {
@@ -89,7 +89,7 @@ impl Join<View> for Glue {
     ghost spent = { spent_view };
 }
 
-// The step that compares what two seats knew.
+/// The step that compares what two seats knew.
 pub(crate) struct Compare;
 
 impl Play<(), View> for Compare {

@@ -6,6 +6,9 @@
 // peers were marked and swept, and the handles were restored, `clear` removes them all, as another one.
 //
 // A reference waits until all of them stand together: no marking follows one before. All memory is taken first, for the whole cycle.
+//
+// Each of the two calls has the peer side in hand by `&mut`; between them others may have made entries. What is promised: the references are exactly the
+// mirror edges of the components, each call is one lawful entry of the driver, or for want of memory `install` changes nothing, and no peer changes.
 #![tactic(auto)]
 
 mod clearing;

@@ -1,27 +1,23 @@
 // The peer side of the bridge: the other collector's heap, with its variables, statics and global names, and the table of handles by which
 // managed objects name its peers.
 //
-// A [`PeerSide`] is made once. Each event of a peer thread, and each event that a managed thread makes here, is a `step`. It makes one entry,
-// whose number comes from a [`Draw`](joint_model::Draw). What a contract sees of the side is its entries and the state of their replay: each
-// call promises that its entry may come next, and that the state is the one after it.
+// The life of a side. `PeerSide::new` makes one without peers. Events of a peer thread, and those that a managed thread makes here, come to `step`.
+// `mark_begin` and `sweep` begin and end a marking. A cycle's calls are `reserve_refs`, `push_ref`, `stand`, `weaken`, `restore` and `clear_refs`; after
+// the first none takes memory. At the end `into_lists` gives the entries and the freed peers.
 //
-// A call takes all its memory first; where there is none, the side and the draw are as before. The list of entries has room for the release
-// of each handle of the table, and for the sweep of an open marking, so neither a release nor a sweep takes memory.
+// A side is seen as its entries and the state of their replay. What is promised of each call: it draws its entry, which may come next by the definition
+// of the peer list, and the state is the one after it; and without memory the side and the draw are as before.
 //
-// An open marking is kept as a number, a thread and, for proofs alone, the rows as they stood at its begin; what was brought back since is
-// read off the entries. Its marks are in the rows, and stay those of the definition over each event (`laws.rt`): a new peer has a mark, and what
-// a name or a handle gives is marked with all that it reaches.
+// A side is no thread's own and has no lock: whoever has it in hand, by `&mut`, makes its next entry. `joint_history` puts it under one. Between two
+// calls others may have made entries here, and the managed side goes on all the time.
 //
-// `rows.rt` has the peers and handles, each of whose calls is one event of the definition, without its entry; `side.rt` puts the entry to it.
+// An open marking is kept as a number, a thread and, for proofs alone, the rows as they stood at its begin; what was brought back since is read off the
+// entries. Its marks are in the rows, and stay those of the definition over each event (`laws.rt`, by `marking_laws`): a new peer has a mark, and what a
+// name or a handle gives is marked with all that it reaches. A sweep frees the peers without a mark and clears the handles on them, for which there is
+// room; a release needs none either.
 //
-// `marking.rt` has the marks of a begin: what slots and strong handles name is marked, with all that it reaches. `sweeping.rt` has the end of a
-// marking: the peers without a mark are freed, and the handles on them are cleared. Neither takes memory, nor puts an entry to it.
-//
-// `mirror.rt` has what a mirrored cycle does to the rows: references come to stand and go, and handles are made weak and strong again. No
-// marking follows a reference that waits: it stands in no row until all of a cycle's references come to stand together. `mirroring.rt` has what is
-// kept of a cycle beside rows and entries: what waits, what is reserved, and what is owed. `mirror_laws.rt` has what the calls for a cycle rest on,
-// and `cycle.rt` has those calls, each with its entry. They take no memory, nor does the driver's begin of a cycle's own marking: all of it is
-// taken by `reserve_refs`, before.
+// `rows.rt` has the peers and handles without entries, `side.rt` puts the entry to each event, `marking.rt` and `sweeping.rt` have the marks and the
+// sweep. `mirroring.rt` has what a cycle has yet to do, `mirror.rt` what its calls do to the rows, `cycle.rt` those calls, `mirror_laws.rt` their laws.
 #![tactic(auto)]
 
 mod cycle;

@@ -25,7 +25,7 @@ use row_heap::RowHeap;
 use std::alloc::{AllocError, Global};
 use std::marker::Model;
 
-/// The most handles that are issued.
+// The most handles that are issued.
 const MOST_HANDLES: usize = 65_535;
 
 /// A handle as it was issued.
@@ -327,14 +327,14 @@ impl PeerRows {
         }
     }
 
-    // The peer that a handle leads to; None where it isn't in the table or is cleared.
+    /// The peer that a handle leads to; None where it isn't in the table or is cleared.
     pub(crate) fn target(&self, h: HNum) -> Option<PNum>
         ensures { table_target (with_rows opening_peer_replay self.now) h.0 ≡ number_of result }
     {
         self.table.target(h)
     }
 
-    // Brings a peer back, if a marking is open: it has a mark from now on, with all that it reaches.
+    /// Brings a peer back, if a marking is open: it has a mark from now on, with all that it reaches.
     pub(crate) fn bring_back(&mut self, p: PNum, is_open: bool)
         requires live { IsLive self.old.rows.heap p.0 }
         requires shut { IsTrue is_open → IsClosed (EdgeOf self.old.rows) self.old.rows.marks }
@@ -418,7 +418,7 @@ impl PeerRows {
         }
     }
 
-    // Removes a handle from the table, if it is there.
+    /// Removes a handle from the table, if it is there.
     pub(crate) fn remove(&mut self, h: HNum)
         ensures rows { self.new ≡ record self.old { table = numbered_set self.old.table h.0 None; tabled = self.new.tabled } }
         ensures fewer { self.new.tabled ≤ self.old.tabled }

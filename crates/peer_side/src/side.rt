@@ -548,7 +548,7 @@ fn owed(marking: &Option<OpenMarking>) -> u32
     }
 }
 
-// For how many entries room is kept: the release of each handle of the table, the sweep of an open marking, and what mirrored cycles owe.
+/// For how many entries room is kept: the release of each handle of the table, the sweep of an open marking, and what mirrored cycles owe.
 pub(crate) fn kept(rows: &PeerRows, marking: &Option<OpenMarking>, mirroring: &Mirroring) -> u64
     ensures kept { result ≡ rows.now.tabled + owed marking.now + owes mirroring.now }
     ensures most { result ≤ 2 ^ 42 }
@@ -556,7 +556,7 @@ pub(crate) fn kept(rows: &PeerRows, marking: &Option<OpenMarking>, mirroring: &M
     rows.tabled() as u64 + owed(marking) as u64 + mirroring.owes()
 }
 
-// Takes room for so many more entries than those for which room is kept.
+/// Takes room for so many more entries than those for which room is kept.
 pub(crate) fn take_room(entries: &mut Entries, kept: u64, more: u32) -> Result<(), AllocError>
     requires most { kept ≤ 2 ^ 42 }
     ensures room { OnOk result (kept + more ≤ entries.new.spare) }

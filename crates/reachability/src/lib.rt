@@ -1,5 +1,5 @@
-// Marking: which nodes of a graph are reached from some roots. The managed collector, the peer collector
-// and the joint marking all use this one loop.
+// Marking: which nodes of a graph are reached from some roots. The joint marking and the joint machine's
+// program use this loop; the collectors of both sides mark in their rows, by `row_marking`.
 //
 // What can be walked has the trait [`Walked`]: nodes with the numbers 0, 1, 2 and so on, and for each node
 // a list of places that hold a target or nothing. A caller that has no memory to spend keeps marks and a
@@ -9,6 +9,8 @@
 // The loop holds a list of waiting nodes, each of them marked. It takes one from the list and marks its
 // targets; each target that was not marked joins the list. So a marked node waits, or all its targets are
 // marked, and once none waits the marks are closed under the edges. Each node joins the list at most once.
+//
+// Nobody changes the graph during a call. What is promised: marked is exactly what is reached from the roots or was marked before.
 #![tactic(auto)]
 
 ghost use Rattle.std.specs.Prelude.{◌≡◌, ℕ, ◌+◌, ◌*◌, ◌%◌, ◌<◌, ◌≤◌, ◌↔◌, ◌⊎◌, List, [], ◌∷◌, Option, Some, None, All, Contains, IfOk, IfSome, length, take, slice_get, vec_capacity, vec_len};

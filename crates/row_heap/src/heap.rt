@@ -12,7 +12,7 @@ use object_heap::Number;
 use std::alloc::{AllocError, Global};
 use std::marker::Model;
 
-/// The most objects that a heap makes.
+// The most objects that a heap makes.
 const MOST_OBJECTS: usize = 65_535;
 
 /// The objects of one heap as rows, the variables and statics that name them, the objects that were freed, and the references between rows.

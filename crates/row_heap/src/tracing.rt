@@ -6,7 +6,7 @@ use crate::heap::RowHeap;
 use object_heap::Number;
 use row_marking::Traced;
 
-/// The rows are the live objects. A marking leaves all but marks and links as it is.
+// The rows are the live objects. A marking leaves all but marks and links as it is.
 impl<N: Number> Traced for RowHeap<N> {
     ghost use Rattle.joint_model.specs.Heaps.{IsLive};
     ghost use Rattle.row_heap.specs.Rows.{HeapRows};

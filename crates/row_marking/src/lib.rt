@@ -18,6 +18,9 @@
 //
 // A collector begins a marking with all marks down, visits each root and calls `finish`; `mark_from` does both for a list of roots. While
 // the marking is open it brings a row back by `mark_from` with that one row, and the marks before have to be closed under the edges.
+//
+// Nobody else changes the rows during a call; between the calls of one open marking their owner may. What is promised: once no row is grey, marked is
+// exactly what is reached from the roots or was marked before.
 #![tactic(auto)]
 
 ghost use Rattle.std.specs.Prelude.{◌≡◌, ℕ, ◌+◌, ◌-◌, ◌<◌, ◌≤◌, ◌⊎◌, ◌↔◌, List, Option, Some, Contains, All, Bool, length, slice_get, slice_set, IfSome, IsTrue, true};

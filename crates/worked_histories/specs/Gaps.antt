@@ -75,21 +75,21 @@ abbrev pub with_gap : ℕ → List Came → Outcome → List Noted
 with_gap gap lines o = notes_of (set_up ++ (take gap (phase_lines o) ++ (lines ++ (drop gap (phase_lines o) ++ came (M 1) (move (op.Line (act.Read (cell_no 0))) o.last ∷ []) ∷ []))))
 
 -- some of the gaps, the lines that come in each of them, what the cycle comes to, and the peers that are unreached at the begins
-pub record Cell : Type 0 where
+pub record GapCase : Type 0 where
   pub gaps : List ℕ
   pub lines : List Came
   pub outcome : Outcome
   pub unreached : List (List ℕ)
 
-abbrev pub cell : List ℕ → List Came → Outcome → List (List ℕ) → Cell
-cell gaps lines o unreached = record { gaps = gaps; lines = lines; outcome = o; unreached = unreached }
+abbrev pub gap_case : List ℕ → List Came → Outcome → List (List ℕ) → GapCase
+gap_case gaps lines o unreached = record { gaps = gaps; lines = lines; outcome = o; unreached = unreached }
 
 -- the history of each gap is whole, and its projection a run
-abbrev pub InGaps : List ℕ → Cell → Type 0
+abbrev pub InGaps : List ℕ → GapCase → Type 0
 InGaps [] c = Unit {0}
 InGaps (g ∷ gs) c = IsWorked (with_gap g c.lines c.outcome) c.unreached × InGaps gs c
 
-abbrev pub InEachGap : List Cell → Type 0
+abbrev pub InEachGap : List GapCase → Type 0
 InEachGap [] = Unit {0}
 InEachGap (c ∷ cs) = InGaps c.gaps c × InEachGap cs
 
@@ -110,13 +110,13 @@ collects j sweep = came (P 1) (move op.Begin (says.Mark (marking_no j)) ∷ swee
 
 -- before the weakening it frees nothing; after it, it frees both in the cycle's place; in the cycle's own marking its begin is
 -- told of that one; later nothing is left
-abbrev pub collections : List Cell
+abbrev pub collections : List GapCase
 collections =
-    cell (1 ∷ 2 ∷ 3 ∷ []) (collects 1 (frees_none 1 0)) (freed_by [] 2 (frees_both 2) 25) (BOTH ++ BOTH)
-    ∷ cell (4 ∷ []) (collects 1 (frees_both 1)) (freed_by [] 2 (frees_none 2 2) 25) (BOTH ++ NONE)
-    ∷ cell (5 ∷ []) (peer_line (move op.Begin (says.MarkOpen (marking_no 1))) ∷ []) (freed_by [] 1 (frees_both 1) 24) BOTH
-    ∷ cell (6 ∷ []) (collects 2 (frees_none 2 2)) (freed_by [] 1 (frees_both 1) 25) (BOTH ++ NONE)
-    ∷ cell (7 ∷ []) (collects 2 (frees_none 2 2)) (freed_by [] 1 (frees_both 1) 23) (BOTH ++ NONE)
+    gap_case (1 ∷ 2 ∷ 3 ∷ []) (collects 1 (frees_none 1 0)) (freed_by [] 2 (frees_both 2) 25) (BOTH ++ BOTH)
+    ∷ gap_case (4 ∷ []) (collects 1 (frees_both 1)) (freed_by [] 2 (frees_none 2 2) 25) (BOTH ++ NONE)
+    ∷ gap_case (5 ∷ []) (peer_line (move op.Begin (says.MarkOpen (marking_no 1))) ∷ []) (freed_by [] 1 (frees_both 1) 24) BOTH
+    ∷ gap_case (6 ∷ []) (collects 2 (frees_none 2 2)) (freed_by [] 1 (frees_both 1) 25) (BOTH ++ NONE)
+    ∷ gap_case (7 ∷ []) (collects 2 (frees_none 2 2)) (freed_by [] 1 (frees_both 1) 23) (BOTH ++ NONE)
     ∷ []
 
 -- a read of the weak name into a variable
@@ -124,12 +124,12 @@ abbrev pub reads : Reply → Came
 reads reply = peer_line (move (op.Line (act.WRead (var 1) (name_no 0))) reply)
 
 -- it keeps both, until the sweep has freed them
-abbrev pub readings : List Cell
+abbrev pub readings : List GapCase
 readings =
-    cell (1 ∷ 2 ∷ 3 ∷ 4 ∷ []) (reads (says.P (peer_no 1)) ∷ []) (kept_with 24) NONE
-    ∷ cell (5 ∷ []) (reads (says.P (peer_no 1)) ∷ []) (kept_with 24) BOTH
-    ∷ cell (6 ∷ []) (reads says.Gone ∷ []) (freed_by [] 1 (frees_both 1) 24) BOTH
-    ∷ cell (7 ∷ []) (reads says.Gone ∷ []) (freed_by [] 1 (frees_both 1) 23) BOTH
+    gap_case (1 ∷ 2 ∷ 3 ∷ 4 ∷ []) (reads (says.P (peer_no 1)) ∷ []) (kept_with 24) NONE
+    ∷ gap_case (5 ∷ []) (reads (says.P (peer_no 1)) ∷ []) (kept_with 24) BOTH
+    ∷ gap_case (6 ∷ []) (reads says.Gone ∷ []) (freed_by [] 1 (frees_both 1) 24) BOTH
+    ∷ gap_case (7 ∷ []) (reads says.Gone ∷ []) (freed_by [] 1 (frees_both 1) 23) BOTH
     ∷ []
 
 -- the variable is emptied again
@@ -137,12 +137,12 @@ abbrev pub drops : Came
 drops = peer_line (move (op.Line (act.Drop (var 1))) says.Ok)
 
 -- then it keeps them only where it comes after the marking's begin
-abbrev pub droppings : List Cell
+abbrev pub droppings : List GapCase
 droppings =
-    cell (1 ∷ 2 ∷ 3 ∷ 4 ∷ []) (reads (says.P (peer_no 1)) ∷ drops ∷ []) (freed_by [] 1 (frees_both 1) 25) BOTH
-    ∷ cell (5 ∷ []) (reads (says.P (peer_no 1)) ∷ drops ∷ []) (kept_with 25) BOTH
-    ∷ cell (6 ∷ []) (reads says.Gone ∷ drops ∷ []) (freed_by [] 1 (frees_both 1) 25) BOTH
-    ∷ cell (7 ∷ []) (reads says.Gone ∷ drops ∷ []) (freed_by [] 1 (frees_both 1) 23) BOTH
+    gap_case (1 ∷ 2 ∷ 3 ∷ 4 ∷ []) (reads (says.P (peer_no 1)) ∷ drops ∷ []) (freed_by [] 1 (frees_both 1) 25) BOTH
+    ∷ gap_case (5 ∷ []) (reads (says.P (peer_no 1)) ∷ drops ∷ []) (kept_with 25) BOTH
+    ∷ gap_case (6 ∷ []) (reads says.Gone ∷ drops ∷ []) (freed_by [] 1 (frees_both 1) 25) BOTH
+    ∷ gap_case (7 ∷ []) (reads says.Gone ∷ drops ∷ []) (freed_by [] 1 (frees_both 1) 23) BOTH
     ∷ []
 
 -- a static gets what was read before the variable is emptied
@@ -150,12 +150,12 @@ abbrev pub stores : Reply → Came
 stores reply = peer_line (move (op.Line (act.Store (static_no 3) (Some (var 1)))) reply)
 
 -- then it keeps them wherever it comes before the sweep
-abbrev pub storings : List Cell
+abbrev pub storings : List GapCase
 storings =
-    cell (1 ∷ 2 ∷ 3 ∷ 4 ∷ []) (reads (says.P (peer_no 1)) ∷ stores says.Ok ∷ drops ∷ []) (kept_with 26) NONE
-    ∷ cell (5 ∷ []) (reads (says.P (peer_no 1)) ∷ stores says.Ok ∷ drops ∷ []) (kept_with 26) BOTH
-    ∷ cell (6 ∷ []) (reads says.Gone ∷ stores says.Empty ∷ drops ∷ []) (freed_by [] 1 (frees_both 1) 26) BOTH
-    ∷ cell (7 ∷ []) (reads says.Gone ∷ stores says.Empty ∷ drops ∷ []) (freed_by [] 1 (frees_both 1) 23) BOTH
+    gap_case (1 ∷ 2 ∷ 3 ∷ 4 ∷ []) (reads (says.P (peer_no 1)) ∷ stores says.Ok ∷ drops ∷ []) (kept_with 26) NONE
+    ∷ gap_case (5 ∷ []) (reads (says.P (peer_no 1)) ∷ stores says.Ok ∷ drops ∷ []) (kept_with 26) BOTH
+    ∷ gap_case (6 ∷ []) (reads says.Gone ∷ stores says.Empty ∷ drops ∷ []) (freed_by [] 1 (frees_both 1) 26) BOTH
+    ∷ gap_case (7 ∷ []) (reads says.Gone ∷ stores says.Empty ∷ drops ∷ []) (freed_by [] 1 (frees_both 1) 23) BOTH
     ∷ []
 
 -- a read of the weak cell, which waits for the cycle's end
@@ -163,10 +163,10 @@ abbrev pub waits : List Came
 waits = came (M 1) (move (op.Line (act.Read (cell_no 0))) (says.Pending (cycle_no 1)) ∷ []) ∷ []
 
 -- wherever it comes
-abbrev pub waitings : List Cell
+abbrev pub waitings : List GapCase
 waitings =
-    cell (1 ∷ 2 ∷ 3 ∷ 4 ∷ 5 ∷ 6 ∷ []) waits (freed_by [] 1 (frees_both 1) 24) BOTH
-    ∷ cell (7 ∷ []) waits (freed_by [] 1 (frees_both 1) 23) BOTH
+    gap_case (1 ∷ 2 ∷ 3 ∷ 4 ∷ 5 ∷ 6 ∷ []) waits (freed_by [] 1 (frees_both 1) 24) BOTH
+    ∷ gap_case (7 ∷ []) waits (freed_by [] 1 (frees_both 1) 23) BOTH
     ∷ []
 
 -- a begin of the peer thread
@@ -174,13 +174,13 @@ abbrev pub begins : Reply → List Came
 begins reply = peer_line (move op.Begin reply) ∷ []
 
 -- a marking that is open when the cycle's own is to begin is swept first, and frees what a collection in its place would
-abbrev pub beginnings : List Cell
+abbrev pub beginnings : List GapCase
 beginnings =
-    cell (1 ∷ 2 ∷ 3 ∷ []) (begins (says.Mark (marking_no 1))) (freed_by (frees_none 1 0 ∷ []) 2 (frees_both 2) 25) (BOTH ++ BOTH)
-    ∷ cell (4 ∷ []) (begins (says.Mark (marking_no 1))) (freed_by (frees_both 1 ∷ []) 2 (frees_none 2 2) 25) (BOTH ++ NONE)
-    ∷ cell (5 ∷ []) (begins (says.MarkOpen (marking_no 1))) (freed_by [] 1 (frees_both 1) 24) BOTH
-    ∷ cell (6 ∷ []) (begins (says.Mark (marking_no 2))) (freed_by [] 1 (frees_both 1) 24) (BOTH ++ NONE)
-    ∷ cell (7 ∷ []) (begins (says.Mark (marking_no 2))) (freed_by [] 1 (frees_both 1) 23) (BOTH ++ NONE)
+    gap_case (1 ∷ 2 ∷ 3 ∷ []) (begins (says.Mark (marking_no 1))) (freed_by (frees_none 1 0 ∷ []) 2 (frees_both 2) 25) (BOTH ++ BOTH)
+    ∷ gap_case (4 ∷ []) (begins (says.Mark (marking_no 1))) (freed_by (frees_both 1 ∷ []) 2 (frees_none 2 2) 25) (BOTH ++ NONE)
+    ∷ gap_case (5 ∷ []) (begins (says.MarkOpen (marking_no 1))) (freed_by [] 1 (frees_both 1) 24) BOTH
+    ∷ gap_case (6 ∷ []) (begins (says.Mark (marking_no 2))) (freed_by [] 1 (frees_both 1) 24) (BOTH ++ NONE)
+    ∷ gap_case (7 ∷ []) (begins (says.Mark (marking_no 2))) (freed_by [] 1 (frees_both 1) 23) (BOTH ++ NONE)
     ∷ []
 
 -- every history of each table

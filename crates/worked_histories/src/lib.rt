@@ -2,6 +2,8 @@
 //
 // Each function is a law about those definitions: its body is empty, and its contract is a statement of `specs/`. A law that
 // could not be proved would show a mistake in a definition, so they are checked before anything stands on them.
+//
+// No value is made and nothing runs. What is promised is the outcome of each example: lawful, or broken at the entry that breaks a rule.
 #![tactic(auto)]
 
 mod broken;

@@ -11,10 +11,10 @@ use bridge_graph::packed_row;
 use std::alloc::{AllocError, Global};
 use std::marker::Model;
 
-/// The most members of all components together: nodes are numbered below 65,535, and none is in two.
+// The most members of all components together: nodes are numbered below 65,535, and none is in two.
 const MOST_MEMBERS: usize = 65_535;
 
-/// More pairs than 65,535 components can have between them, and few enough to count the mirror edges.
+// More pairs than 65,535 components can have between them, and few enough to count the mirror edges.
 const MOST_PAIRS: usize = 4_294_901_760;
 
 /// Components and cross-references that are being listed: components in the order of their first members,
@@ -232,7 +232,7 @@ impl Components {
         (self.first(source), self.first(destination))
     }
 
-    /// The first member of component `c`.
+    // The first member of component `c`.
     fn first(&self, c: u32) -> u32
         requires { c < length self.now.comps }
         ensures { result ≡ first_at self.now.comps c }

@@ -8,6 +8,9 @@
 // Members lie in one flat list, with the place where each component begins. The circles of the components
 // are kept as edges, so that each mirror edge is found in one step. `add` looks a pair up in a set; `add_all`
 // needs no look-up, since nothing from its source is there.
+//
+// A value is its maker's own, and nobody changes it while it is read. What is promised: components and pairs are those that were listed, in their one
+// order, and the mirror edges are the definition's function of them.
 #![tactic(auto)]
 
 mod circles;

@@ -99,8 +99,8 @@ impl PairList {
     }
 }
 
-/// Puts the pairs that are not yet known into the set. Where there is no memory those before are in it, which
-/// no caller sees: the set then knows the first pairs, as before.
+// Puts the pairs that are not yet known into the set. Where there is no memory those before are in it, which
+// no caller sees: the set then knows the first pairs, as before.
 fn catch_up(pairs: &[(u32, u32)], known: &mut HashSet<(u32, u32)>) -> Result<(), AllocError>
     requires known { ArePairsKnown pairs.now known.old.keys }
     ensures known { ArePairsKnown pairs.now known.new.keys }
@@ -112,7 +112,7 @@ fn catch_up(pairs: &[(u32, u32)], known: &mut HashSet<(u32, u32)>) -> Result<(),
     Ok(())
 }
 
-/// Appends the pairs from one source; there is room.
+// Appends the pairs from one source; there is room.
 fn push_all(pairs: &mut Vec<(u32, u32)>, src: u32, dsts: &[u32])
     requires { vec_len pairs.old + length dsts.now ≤ vec_capacity pairs.old }
     ensures { pairs.new.items ≡ pairs.old.items ++ map (λ d. (src, d)) dsts.now }
