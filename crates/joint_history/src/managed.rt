@@ -42,6 +42,7 @@ impl<N: OrderName> Model for LockedManaged<N> {
 }
 
 /// The side draws by the seat: what is said here is what that leaves in both, and nothing else.
+#[inline(always)]
 pub(crate) fn draw_step(
     side: &mut ManagedSide,
     order: &Order,

@@ -162,6 +162,7 @@ impl<N: OrderName> Shared<N> {
     }
 
     // Runs an operation with the thread's seat, each event in a hold of its own side's lock.
+    #[inline(always)]
     fn run(
         &self,
         rt: &impl Wait,
@@ -209,6 +210,7 @@ impl<N: OrderName> Shared<N> {
     /// another, each under its own side's lock, and the caller knows them afterwards. Answers `AllocError` where there is no memory: nothing was
     /// made then, or the first event alone, whose entry stands (after a make or a grip the new handle stays, held by no object). Of `dispose` either
     /// both events are made or none.
+    #[inline(always)]
     pub fn managed(
         &self,
         rt: &impl Wait,
@@ -229,6 +231,7 @@ impl<N: OrderName> Shared<N> {
     /// Runs an operation of a peer thread, on a script line that isn't below that of the caller's last entry. The caller knows its entries
     /// afterwards. An operation is one event, but a `collect` is a begin and, if that gave a number, the sweep of that marking, made in one hold
     /// of the peer lock. Answers `AllocError` where there is no memory, and no entry is made then.
+    #[inline(always)]
     pub fn peer(
         &self,
         rt: &impl Wait,

@@ -18,6 +18,7 @@ use std::sync::Wait;
 
 /// Runs a line of a thread that isn't the driver's: the caller makes the line's entries. Answers `AllocError` where there is no memory; the
 /// caller may have made the first of them then.
+#[inline(always)]
 pub(crate) fn run_line<N: OrderName>(
     rt: &impl Wait,
     shared: &Shared<N>,

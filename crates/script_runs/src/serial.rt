@@ -21,6 +21,7 @@ use std::marker::Brand;
 use std::sync::Wait;
 
 // Runs a line of a thread that isn't the driver's. The driver tells the thread's caller all that it knows, and hears of what the caller made.
+#[inline(always)]
 fn run_told<N: OrderName>(
     rt: &impl Wait,
     shared: &Shared<N>,
@@ -59,6 +60,7 @@ fn all_others<N: OrderName>(alloc: Global, desk: &mut Desk<N>) -> Result<Vec<Cal
 }
 
 // Runs one line, and answers the number of the driver's last line.
+#[inline(always)]
 fn run_next<N: OrderName>(
     rt: &impl Wait,
     alloc: Global,
