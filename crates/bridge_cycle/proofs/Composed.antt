@@ -12,6 +12,7 @@ use Rattle.joint_model.proofs.Deciding.{some-same}
 use Rattle.bridge_cycle.specs.Progress.{EndsWithReply, StopsForMemory, LeadTo, Progress, Runs, RunsPhases, last_reply}
 use Rattle.bridge_cycle.specs.Words.{Closes, IsPartway, Lacks, next_word}
 use Rattle.bridge_cycle.proofs.Making.{append_nil, runs_more}
+use Rattle.bridge_cycle.proofs.Turned.{last_snoc}
 
 -- where a phase's word leads
 leads_one : (p q : Phase) (w : PhaseWord) (next : Phase) → next_phase p w ≡ Some next → LeadTo p (w ∷ []) q → q ≡ next
@@ -107,11 +108,6 @@ closes_now old mid new index reply p e a =
           (subst (λ (es : List Entry). RunsPhases old new index (p.run ++ word.Resolve ∷ []) (p.runs.0 ++ es)) only (runs_more old mid new index p.run (word.Resolve ∷ []) p.runs.0 a.entries p.runs.1 runs));
     }
 
-last_snoc : (es : List Entry) (e : Entry) → last_reply (es ++ e ∷ []) ≡ e.made.reply
-last_snoc [] e = refl
-last_snoc (x ∷ []) e = refl
-last_snoc (x ∷ y ∷ es) e = last_snoc (y ∷ es) e
-
 -- a whole cycle
 snapped_now : (p q : Phase) → p ≡ at.Idle → LeadTo p (word.Snap ∷ []) q → q ≡ at.Snapped
 snapped_now p q e l = leads_one p q word.Snap at.Snapped (ap (λ z. next_phase z word.Snap) e) l
@@ -139,11 +135,6 @@ cycle_breaks old mid new index first idle a b =
       takes = b.takes;
       runs = runs_on old mid new index (word.Snap ∷ []) b.run (a.entries, runs) b.runs;
     }
-
--- what holds of an answer, by another fact of it
-pub if_ok_map : {X E : Type 0} (P Q : X → Type 0) (r : Result X E) → IfOk r P → ((x : X) → P x → Q x) → IfOk r Q
-if_ok_map P Q (Ok x) p f = f x p
-if_ok_map P Q (Err e) p f = tt
 
 pub on_err_map : {X E : Type 0} (P Q : Type 0) (r : Result X E) → OnErr r P → (P → Q) → OnErr r Q
 on_err_map P Q (Ok x) p f = tt

@@ -10,7 +10,7 @@ use Rattle.global_handles.specs.declared.HandleRow.{HandleRow}
 use Rattle.global_handles.specs.Rows.{row_in, changed, without, RisesBetween}
 
 -- what rises between two numbers keeps them in order
-RisesBetween-within : (low high : ℕ) (rows : List HandleRow) → RisesBetween low high rows → low ≤ high
+pub RisesBetween-within : (low high : ℕ) (rows : List HandleRow) → RisesBetween low high rows → low ≤ high
 RisesBetween-within low high [] rises = rises
 RisesBetween-within low high (r ∷ rs) rises = omega (arith, RisesBetween-within r.number.0 high rs rises.1)
 

@@ -47,7 +47,7 @@ a_peer objects peers x P t = like {P = ⊥ ⊎ P} (λ s. ⊎_elim (λ z. absurd 
     (λ p. Contains-map peer peers x ((member nat_eq same peers x).holds (t.passes p))) (member row_eq rows (map peer peers) (peer x))))
 
 -- the peer of a managed row
-inside_handle : (a b : ℕ) → Some (Some a) ≡ Some (Some b) → b ≡ a
+pub inside_handle : (a b : ℕ) → Some (Some a) ≡ Some (Some b) → b ≡ a
 inside_handle a b e = cc
 
 inside : (a b : ℕ) → Some a ≡ Some b → a ≡ b

@@ -29,6 +29,7 @@ use Rattle.history_tests.proofs.ReplyTests.{phases}
 use Rattle.history_tests.proofs.RowTests.{snapshot, resolution, answered}
 use Rattle.history_tests.proofs.ContractionTests.{agree, dead_contraction}
 use Rattle.history_tests.proofs.MarkingTests.{closure, sweep}
+use Rattle.joint_model.proofs.HeapLemmas.{same_thread}
 
 pub opened : (s : Managed) (k : ℕ) (test : OpenCycle → Bool) (Q : OpenCycle → Type 0) → ((c : OpenCycle) → Tells (test c) (Q c)) → Tells (is_open s k test) ((c : OpenCycle) × IsOpen s k c × Q c)
 opened s k test Q t = like (λ p. (p.0, (p.1, p.2.0), p.2.1)) (λ p. (p.0, p.1.0, (p.1.1, p.2)))
@@ -70,12 +71,6 @@ pub is_strong_now : (x : Strength) → Tells (is_strong x) (x ≡ strong)
 is_strong_now strong = always refl
 is_strong_now weak = never (λ e. cc)
 
-thread_found : (a b : Thread) → is_thread a b ≡ true → a ≡ b
-thread_found (M a) (M b) e = ap M ((same a b).holds e)
-thread_found (P a) (P b) e = ap P ((same a b).holds e)
-thread_found C C e = refl
-thread_found _ _ e = absurd (false≢true e)
-
 thread_itself : (a : Thread) → is_thread a a ≡ true
 thread_itself (M a) = (same a a).passes refl
 thread_itself (P a) = (same a a).passes refl
@@ -85,7 +80,7 @@ pub threads : (a b : Thread) → Tells (is_thread a b) (a ≡ b)
 threads a b = equal_thread
   where
     equal_thread : Tells (is_thread a b) (a ≡ b)
-    equal_thread = record { holds = thread_found a b; passes = λ e. rw (← e) (thread_itself a) }
+    equal_thread = record { holds = same_thread a b; passes = λ e. rw (← e) (thread_itself a) }
 
 held_handle : (s : PeerReplay) (h : ℕ) → Tells (is_held_handle s h) (IsHeld s h)
 held_handle s h = that (numbered_at s.peers.issued h) (λ i. is_held i.hold) (λ i. i.hold ≡ held) (λ i. holds_held i.hold)

@@ -27,14 +27,11 @@ use Rattle.history_tests.proofs.ReplyTests.{replies}
 use Rattle.history_tests.proofs.LineTests.{tells_event, tells_peer_thread}
 use Rattle.history_tests.proofs.RowTests.{live, snapshot, resolution}
 use Rattle.history_tests.proofs.SideTests.{opened, threads}
-use Rattle.history_tests.proofs.GraphTests.{joint_reached}
+use Rattle.history_tests.proofs.GraphTests.{joint_reached, inside_handle}
 
 -- the kept candidates
 inside : (a b : ℕ) → Some a ≡ Some b → b ≡ a
 inside a b e = cc
-
-inside_handle : (a b : ℕ) → Some (Some a) ≡ Some (Some b) → b ≡ a
-inside_handle a b e = cc
 
 unfreed : (g : Graph) (o : Option ℕ) → Tells (is_unfreed g o) ((p : ℕ) × (o ≡ Some p) × (Contains g.peers.heap.freed p → ⊥))
 unfreed g None = never (λ q. let e = q.1 in cc)

@@ -48,6 +48,7 @@ use Rattle.joint_history.proofs.Reserving.{KeepsReserve, KnowsOn, back_on, drew_
 use Rattle.joint_history.proofs.Running.{above_more, makes_nothing}
 use Rattle.joint_history.proofs.Standing.{last_of_own}
 use Rattle.joint_history.proofs.Turning.{begins_still}
+use Rattle.joint_laws.proofs.JointSteps.{may-end}
 
 -- what stands after a list is found at its end
 at_end : (es fs : List Entry) (e : Entry) → slice_get (es ++ e ∷ fs) (length es) ≡ Some e
@@ -71,10 +72,6 @@ by_itself (M n) = same_number n
 by_itself (P n) = same_number n
 by_itself C = refl
 
-may_sweep : (t by : Thread) → (t ≡ C) ⊎ (t ≡ by) → (is_thread t C || is_thread t by) ≡ true
-may_sweep t by (inl e) = subst (λ u. (is_thread u C || is_thread u by) ≡ true) (sym e) refl
-may_sweep t by (inr e) = subst (λ u. (is_thread t C || is_thread t u) ≡ true) e (by_itself t)
-
 swept_so : (s : PeerReplay) (o : Option Marking) (t : Thread) (gone : List ℕ) → SweepAllows s o t (sweep_of gone) → AnswersSwept (swept s o t gone).reply
 swept_so s None (M n) gone w = absurd w
 swept_so s None (P n) gone w = absurd w
@@ -82,7 +79,7 @@ swept_so s None C gone w = absurd w
 swept_so s (Some mk) t gone w = record {
   marking = record { 0 = mk.number };
   freed = record { first = length s.peers.heap.freed; count = length gone };
-  is = ap (λ (b : Bool). (if b then swept_of s mk gone else answer (says.MarkOpen record { 0 = mk.number }) s).reply) (may_sweep t mk.by w.0);
+  is = ap (λ (b : Bool). (if b then swept_of s mk gone else answer (says.MarkOpen record { 0 = mk.number }) s).reply) (may-end t mk.by w.0);
 }
 
 -- a draw by a seat keeps which seat it is and the role, and leaves the number of its entry and the seat with that entry
@@ -404,8 +401,3 @@ all_run t old new index (Err x) w = tt
 pub none_made : {A E : Type 0} (t : Thread) (old new : View) (result : Result A E) → OnErr result (MakesNone t old new) → OnErr result (MakesAll t old new [])
 none_made t old new (Ok x) w = tt
 none_made t old new (Err x) w = makes_nothing t old new w
-
-pub peer_is_thread : (t : Thread) → IsPeerThread t → IsThread t
-peer_is_thread (M n) is = absurd is
-peer_is_thread (P n) is = is
-peer_is_thread C is = absurd is

@@ -13,6 +13,7 @@ use Rattle.order_table.specs.Facts.{line_entries}
 use Rattle.order_table.specs.Tells.{IsOfCaller, Parts}
 use Rattle.joint_history.specs.Callers.{CallerKnows, HasReleased, KnowsNothing, Pass}
 use Rattle.joint_history.specs.Desks.{AreAll, ArePlaced, HoldsFrom, WaitsAt, thread_of}
+use Rattle.joint_model.proofs.Deciding.{some-same}
 
 -- the thread of a place
 pub thread_is : (j : ℕ) → j < 17 → IsThread (thread_of j) × (caller_place (thread_of j) ≡ j)
@@ -87,13 +88,9 @@ placed_more n callers p len is nothing placed i l = ⊎_elim
     (λ (m : i ≡ n → ⊥). let q = placed i (omega (arith, m)) in (q.0, get_front callers (Some p ∷ []) i (omega (arith, m)) ∙ q.1, q.2))
     (cases_eq i n)
 
--- each place has its caller
-some_same : {A : Type 0} (x y : A) → Some x ≡ Some y → x ≡ y
-some_same x y e = ap (λ o. unwrap_or o x) e
-
 pub each_of : (callers : List (Option Pass)) → AreAll callers → (i : ℕ) (o : Option Pass) → slice_get callers i ≡ Some o → WaitsAt i o
 each_of callers a i o e = ⊎_elim
-    (λ (l : nat_lt i 17 ≡ true). let q = a.placed i (ltb-true i 17 l) in subst (WaitsAt i) (some_same (Some q.0) o (sym q.1 ∙ e)) q.2)
+    (λ (l : nat_lt i 17 ≡ true). let q = a.placed i (ltb-true i 17 l) in subst (WaitsAt i) (some-same (Some q.0) o (sym q.1 ∙ e)) q.2)
     (λ (g : nat_lt i 17 ≡ false). let m = ltb-false i 17 g in let n = a.places in absurd (none_some o (sym (slice_get_past callers i (omega arith)) ∙ e)))
     (cases_Bool (nat_lt i 17))
   where

@@ -92,16 +92,3 @@ module _ {E : Type 0} (order : OrderId) (seat seat' : Shown) (old new : Side Man
   pub snap_order : (result : Result Opened E) → IfOk result (λ o. DrawsSnapshot order seat seat' old new index o) → OnErr result ((seat' ≡ seat) × (new ≡ old)) → seat'.order ≡ seat.order
   snap_order (Ok o) d e = d.drew.appends.same
   snap_order (Err x) d e = ap (λ (s : Shown). s.order) e.0
-
--- a number from 1 to 8
-pub one_to_eight : (P : ℕ → Type 0) → P 1 → P 2 → P 3 → P 4 → P 5 → P 6 → P 7 → P 8 → (t : ℕ) → 1 ≤ t → t ≤ 8 → P t
-one_to_eight P a b c d e f g h zero low high = absurd (omega arith)
-one_to_eight P a b c d e f g h (suc zero) low high = a
-one_to_eight P a b c d e f g h (suc (suc zero)) low high = b
-one_to_eight P a b c d e f g h (suc (suc (suc zero))) low high = c
-one_to_eight P a b c d e f g h (suc (suc (suc (suc zero)))) low high = d
-one_to_eight P a b c d e f g h (suc (suc (suc (suc (suc zero))))) low high = e
-one_to_eight P a b c d e f g h (suc (suc (suc (suc (suc (suc zero)))))) low high = f
-one_to_eight P a b c d e f g h (suc (suc (suc (suc (suc (suc (suc zero))))))) low high = g
-one_to_eight P a b c d e f g h (suc (suc (suc (suc (suc (suc (suc (suc zero)))))))) low high = h
-one_to_eight P a b c d e f g h (suc (suc (suc (suc (suc (suc (suc (suc (suc t))))))))) low high = absurd (omega arith)

@@ -29,6 +29,7 @@ use Rattle.joint_history.proofs.Desking.{thread_is}
 use Rattle.joint_history.proofs.Gathering.{gathered_first}
 use Rattle.joint_history.proofs.KnownCallers.{own_line}
 use Rattle.joint_history.proofs.LastLines.{place_small}
+use Rattle.joint_model.proofs.Deciding.{none_some}
 
 -- one seat more, and none
 pub takes_one : (t : Thread) (v w u : View) → IsThread t → HoldsPass t w → TakesIn v w u → TakesOwn v u (record { thread = t; view = w } ∷ [])
@@ -58,10 +59,6 @@ takes_then v w u ps qs a b = record {
       (λ h. b.each p h)
       (Contains-append_cases ps qs p c);
 }
-
--- what stands at a place of the desk is there
-none_some : {X : Type 0} (x : X) → None ≡ Some x → ⊥
-none_some x e = cc
 
 present_has : (os : List (Option Pass)) (i : ℕ) (p : Pass) → slice_get os i ≡ Some (Some p) → Contains (present os) p
 present_has [] i p e = absurd (none_some (Some p) e)

@@ -14,14 +14,11 @@ use Rattle.joint_history.specs.Desks.{AreAll, IsDesk, Waiting, WaitsAt, flat, ha
 use Rattle.joint_history.specs.Ending.{HasAll, StillWaits, threads_of}
 use Rattle.joint_history.proofs.Ended.{one_at_place, thread_at_place}
 use Rattle.joint_history.proofs.LastLines.{place_small}
-
-and_both : (b c : Bool) → (b && c) ≡ true → (b ≡ true) × (c ≡ true)
-and_both true c e = (refl, e)
-and_both false c e = absurd (cc)
+use Rattle.joint_model.proofs.Deciding.{and-true}
 
 has_is_thread : (d : Waiting) (t : Thread) → d.managed ≤ 8 → d.peers ≤ 8 → has_thread d t ≡ true → IsThread t
-has_is_thread d (M n) m p e = let w = and_both (nat_le 1 n) (nat_le n d.managed) e in let a = leb-true 1 n w.0 in let b = leb-true n d.managed w.1 in (a, omega (arith, b, m))
-has_is_thread d (P n) m p e = let w = and_both (nat_le 1 n) (nat_le n d.peers) e in let a = leb-true 1 n w.0 in let b = leb-true n d.peers w.1 in (a, omega (arith, b, p))
+has_is_thread d (M n) m p e = let w = and-true (nat_le 1 n) (nat_le n d.managed) e in let a = leb-true 1 n w.0 in let b = leb-true n d.managed w.1 in (a, omega (arith, b, m))
+has_is_thread d (P n) m p e = let w = and-true (nat_le 1 n) (nat_le n d.peers) e in let a = leb-true 1 n w.0 in let b = leb-true n d.peers w.1 in (a, omega (arith, b, p))
 has_is_thread d C m p e = tt
 
 -- who is given out

@@ -51,6 +51,7 @@ use Rattle.joint_history.proofs.DeadParts.{candidate_handle_on}
 use Rattle.joint_history.proofs.DriverSteps.{driver_joined}
 use Rattle.joint_history.proofs.KnownViews.{begins_before, view_begins}
 use Rattle.joint_history.proofs.LockedSteps.{grows_more, lent_joined}
+use Rattle.joint_history.proofs.SeatsKnow.{peer_line}
 
 -- whether the own marking is due, after one entry more
 due_on : (due : Bool) (es : List Entry) (e : Entry) → due_from due (es ++ e ∷ []) ≡ due_after e.made.caller e.made.op (due_from due es)
@@ -69,14 +70,11 @@ due_quiet C op.Begin due e = (let f : true ≡ false = e in cc)
 due_quiet C (op.Clear k) due e = (let f : true ≡ false = e in cc)
 due_quiet C o due e = refl
 
-peer_stands : (e : Entry) → is_peer_event e.made.caller e.made.op ≡ true → stands_in 1 e ≡ true
-peer_stands e p = ap (λ (b : Bool). (1 == (if b then 1 else 0)) || (1 == caller_line e.made.caller)) p
-
 due_line : (x : Noted) (h : List Noted) → is_marking_due (entries (line 1 (x ∷ h))) ≡ due_after x.entry.made.caller x.entry.made.op (is_marking_due (entries (line 1 h)))
 due_line x h = by (is_in 1 x) refl
   where
     not_peer : (b : Bool) → is_peer_event x.entry.made.caller x.entry.made.op ≡ b → is_in 1 x ≡ false → is_peer_event x.entry.made.caller x.entry.made.op ≡ false
-    not_peer true p e = absurd (both_ways (stands_in 1 x.entry) e (peer_stands x.entry p))
+    not_peer true p e = absurd (both_ways (stands_in 1 x.entry) e (peer_line x.entry p))
     not_peer false p e = p
 
     by : (b : Bool) → is_in 1 x ≡ b → is_marking_due (entries (if b then line 1 h ++ x ∷ [] else line 1 h)) ≡ due_after x.entry.made.caller x.entry.made.op (is_marking_due (entries (line 1 h)))

@@ -22,7 +22,7 @@ use Rattle.joint_model.specs.Draws.{numbered}
 use Rattle.joint_model.specs.HistoryLines.{caller_line}
 use Rattle.joint_model.specs.Lines.{IsLine, IsManagedThread, IsPeerThread, IsThread, IsVar}
 use Rattle.joint_model.specs.Told.{Told, nothing}
-use Rattle.joint_model.proofs.Deciding.{none_some}
+use Rattle.joint_model.proofs.Deciding.{none_some, some-same}
 use Rattle.order_table.specs.declared.views.View.{View}
 use Rattle.order_table.specs.Rule.{IsBelow}
 use Rattle.order_table.specs.Views.{known}
@@ -35,9 +35,6 @@ use Rattle.joint_history.specs.Operations.{AreAbove, StopsWithoutMemory, IsFirst
 use Rattle.joint_history.proofs.LastLines.{last_line_is}
 use Rattle.joint_history.proofs.Narrow.{GripsFew, past_grips_few}
 use Rattle.joint_history.proofs.Turning.{first_may, met_then_release, stands_knows, then_adopt, then_land, then_meet, then_release}
-
-some_is : {A : Type 0} (x y : A) → Some x ≡ Some y → x ≡ y
-some_is x y e = ap (λ o. unwrap_or o x) e
 
 -- what an event leaves by its result
 pub none_from : {A : Type 0} (o : Option A) → ((x : A) → o ≡ Some x → ⊥) → o ≡ None
@@ -102,7 +99,7 @@ managed_first n (act.Bridge v kind k sort f) is = record { peer = λ z. (is.0, i
 managed_first n (act.Pass v x) is = record { peer = λ z. never_peer _ z; take = no_take (M n); managed = λ z q. ((is.0, is.1.0, is.1.1), is.0) }
 managed_first n (act.Surface v x) is = record { peer = λ z. (is.0, is.1.1); take = no_take (M n); managed = λ z q. never_managed _ z }
 managed_first n (act.Dispose v) is = record { peer = λ z. never_peer _ z; take = no_take (M n); managed = λ z q. ((is.0, is.1), is.0) }
-managed_first n (act.Take v) is = record { peer = λ z. never_peer _ z; take = λ w e. (is.0, subst IsVar (some_is v w e) is.1); managed = λ z q. absurd (none_some v (sym q)) }
+managed_first n (act.Take v) is = record { peer = λ z. never_peer _ z; take = λ w e. (is.0, subst IsVar (some-same v w e) is.1); managed = λ z q. absurd (none_some v (sym q)) }
 managed_first n (act.NewPeer v k) is = absurd is.1
 managed_first n (act.Global g v) is = absurd is.1
 managed_first n (act.WGlobal g v) is = absurd is.1
@@ -145,19 +142,19 @@ pub record Follows (t : Thread) (v : View) (index n : ℕ) (o : Op) : Type 0 whe
   pub made : IsSideEvent t o
 
 second_follows : (n : ℕ) (old new : View) (k index : ℕ) (a : Act) (answered : Reply) (o : Op) → IsLine (M n) a → Makes (M n) old new (entry_by (M n) index k (first_of a) answered None) nothing → second_of a answered ≡ Some o → Follows (M n) new index k o
-second_follows n old new k index (act.Bridge v kind b sort f) (says.Made p h) o is m e = subst (Follows (M n) new index k) (some_is (op.Adopt v kind b p h) o e) (record {
+second_follows n old new k index (act.Bridge v kind b sort f) (says.Made p h) o is m e = subst (Follows (M n) new index k) (some-same (op.Adopt v kind b p h) o e) (record {
   may = then_adopt n old new k index sort f p h None nothing v kind b m is;
   made = record { peer = λ z. never_peer _ z; take = no_take (M n); managed = λ z q. ((is.0, is.1.0, (sort, is.1.1)), is.0) };
 })
-second_follows n old new k index (act.Pass v x) (says.H h) o is m e = subst (Follows (M n) new index k) (some_is (op.Land h x) o e) (record {
+second_follows n old new k index (act.Pass v x) (says.H h) o is m e = subst (Follows (M n) new index k) (some-same (op.Land h x) o e) (record {
   may = then_land n old new k index v x h None nothing m;
   made = record { peer = λ z. (is.0, is.1.1); take = no_take (M n); managed = λ z q. never_managed _ z };
 })
-second_follows n old new k index (act.Surface v x) (says.Gripped p h sort f) o is m e = subst (Follows (M n) new index k) (some_is (op.Meet v p h sort f) o e) (record {
+second_follows n old new k index (act.Surface v x) (says.Gripped p h sort f) o is m e = subst (Follows (M n) new index k) (some-same (op.Meet v p h sort f) o e) (record {
   may = then_meet n old new k index x p h sort f None nothing v m;
   made = record { peer = λ z. never_peer _ z; take = no_take (M n); managed = λ z q. ((is.0, is.1.0, grip_is_narrow n old new k index x p h sort f None nothing m), is.0) };
 })
-second_follows n old new k index (act.Dispose v) (says.H h) o is m e = subst (Follows (M n) new index k) (some_is (op.Release h) o e) (record {
+second_follows n old new k index (act.Dispose v) (says.H h) o is m e = subst (Follows (M n) new index k) (some-same (op.Release h) o e) (record {
   may = then_release n old new k index v h None nothing m;
   made = record { peer = λ z. is.0; take = no_take (M n); managed = λ z q. never_managed _ z };
 })
@@ -181,7 +178,7 @@ second_comes C old new k index a answered o is m e = absurd is
 -- only a meet has a third event after it
 met_by : (v : Var) (p : PNum) (h : HNum) (sort : Sort) (f : ℕ) (reply : Reply) (third : Op) → third_of (op.Meet v p h sort f) reply ≡ Some third → (op.Release h ≡ third) × ((k index : ℕ) → doing_after k index (op.Meet v p h sort f) reply ≡ met k index h.0)
 met_by v p h sort f (says.New m) third e = absurd (none_some third e)
-met_by v p h sort f reply third e = (some_is (op.Release h) third e, λ k index. refl)
+met_by v p h sort f reply third e = (some-same (op.Release h) third e, λ k index. refl)
 
 third_follows : (n : ℕ) (old new : View) (j k index : ℕ) (second : Op) (reply : Reply) (third : Op) → IsManagedThread (M n) → Makes (M n) old new (entry_by (M n) index k second reply (Some j)) nothing → third_of second reply ≡ Some third → Follows (M n) new index k third
 third_follows n old new j k index (op.Meet v p h sort f) reply third is m e =
@@ -218,7 +215,7 @@ stays_first : (n k index : ℕ) (a : Act) (answered : Reply) (second : Op) → s
 stays_first n k index (act.Bridge v kind b sort f) (says.Made p h) second e keeps = tt
 stays_first n k index (act.Pass v x) (says.H h) second e keeps = tt
 stays_first n k index (act.Surface v x) (says.Gripped p h sort f) second e keeps = tt
-stays_first n k index (act.Dispose v) (says.H h) second e keeps = absurd (keeps (subst IsRelease (some_is (op.Release h) second e) tt))
+stays_first n k index (act.Dispose v) (says.H h) second e keeps = absurd (keeps (subst IsRelease (some-same (op.Release h) second e) tt))
 stays_first n k index act.Collect answered second e keeps = tt
 stays_first n k index a answered second e keeps = absurd (none_some second e)
 
@@ -227,13 +224,13 @@ met_done k index v p h sort f (says.New m) e = tt
 met_done k index v p h sort f reply e = absurd (none_some (op.Release h) (sym e))
 
 ends_second : (n k index : ℕ) (a : Act) (answered : Reply) (second : Op) (reply : Reply) → second_of a answered ≡ Some second → third_of second reply ≡ None → IsDone (doing_after k index second reply)
-ends_second n k index (act.Bridge v kind b sort f) (says.Made p h) second reply e ends = subst (λ o. IsDone (doing_after k index o reply)) (some_is (op.Adopt v kind b p h) second e) tt
-ends_second n k index (act.Pass v x) (says.H h) second reply e ends = subst (λ o. IsDone (doing_after k index o reply)) (some_is (op.Land h x) second e) tt
+ends_second n k index (act.Bridge v kind b sort f) (says.Made p h) second reply e ends = subst (λ o. IsDone (doing_after k index o reply)) (some-same (op.Adopt v kind b p h) second e) tt
+ends_second n k index (act.Pass v x) (says.H h) second reply e ends = subst (λ o. IsDone (doing_after k index o reply)) (some-same (op.Land h x) second e) tt
 ends_second n k index (act.Surface v x) (says.Gripped p h sort f) second reply e ends =
-    let is = some_is (op.Meet v p h sort f) second e in
+    let is = some-same (op.Meet v p h sort f) second e in
     subst (λ o. IsDone (doing_after k index o reply)) is (met_done k index v p h sort f reply (subst (λ o. third_of o reply ≡ None) (sym is) ends))
-ends_second n k index (act.Dispose v) (says.H h) second reply e ends = subst (λ o. IsDone (doing_after k index o reply)) (some_is (op.Release h) second e) tt
-ends_second n k index act.Collect (says.Mark j) second reply e ends = subst (λ o. IsDone (doing_after k index o reply)) (some_is op.Sweep second e) tt
+ends_second n k index (act.Dispose v) (says.H h) second reply e ends = subst (λ o. IsDone (doing_after k index o reply)) (some-same (op.Release h) second e) tt
+ends_second n k index act.Collect (says.Mark j) second reply e ends = subst (λ o. IsDone (doing_after k index o reply)) (some-same op.Sweep second e) tt
 ends_second n k index a answered second reply e ends = absurd (none_some second e)
 
 ends_third : (n k index : ℕ) (third : Op) (reply : Reply) → IsRelease third → IsDone (doing_after k index third reply)
@@ -261,10 +258,10 @@ beginner_is_below t v index is b =
 
 -- but for a collect, which is made in one hold of a lock, the second event cites the first
 managed_cites : (n : ℕ) (a : Act) (answered : Reply) (second : Op) (first : ℕ) → IsLine (M n) a → second_of a answered ≡ Some second → cited_by second first ≡ Some first
-managed_cites n (act.Bridge v kind b sort f) (says.Made p h) second first is e = subst (λ o. cited_by o first ≡ Some first) (some_is (op.Adopt v kind b p h) second e) refl
-managed_cites n (act.Pass v x) (says.H h) second first is e = subst (λ o. cited_by o first ≡ Some first) (some_is (op.Land h x) second e) refl
-managed_cites n (act.Surface v x) (says.Gripped p h sort f) second first is e = subst (λ o. cited_by o first ≡ Some first) (some_is (op.Meet v p h sort f) second e) refl
-managed_cites n (act.Dispose v) (says.H h) second first is e = subst (λ o. cited_by o first ≡ Some first) (some_is (op.Release h) second e) refl
+managed_cites n (act.Bridge v kind b sort f) (says.Made p h) second first is e = subst (λ o. cited_by o first ≡ Some first) (some-same (op.Adopt v kind b p h) second e) refl
+managed_cites n (act.Pass v x) (says.H h) second first is e = subst (λ o. cited_by o first ≡ Some first) (some-same (op.Land h x) second e) refl
+managed_cites n (act.Surface v x) (says.Gripped p h sort f) second first is e = subst (λ o. cited_by o first ≡ Some first) (some-same (op.Meet v p h sort f) second e) refl
+managed_cites n (act.Dispose v) (says.H h) second first is e = subst (λ o. cited_by o first ≡ Some first) (some-same (op.Release h) second e) refl
 managed_cites n act.Collect answered second first is e = absurd is.1
 managed_cites n a answered second first is e = absurd (none_some second e)
 

@@ -25,7 +25,7 @@ use Rattle.known_laws.specs.Facts.{TakesHandle}
 use Rattle.known_laws.specs.Growing.{entries}
 use Rattle.known_laws.specs.Pasts.{In, Lawful, end_of, line}
 use Rattle.known_laws.proofs.Citing.{pasts_cite}
-use Rattle.known_laws.proofs.CitedOnce.{each_stands_behind}
+use Rattle.known_laws.proofs.CitedOnce.{each_stands_behind, in_back}
 use Rattle.known_laws.proofs.Facts.{none_leads_to_cleared, none_leads_to_freed, weak_is_waiting}
 use Rattle.known_laws.proofs.KnownPasts.{known_past_is_kept}
 use Rattle.known_laws.proofs.Leaving.{handles_leave_so}
@@ -68,7 +68,7 @@ entry_known v i a x w t = subst (λ es. Contains es x.entry) (sym (a.same i)) (t
 managed_line : (e : Entry) → is_peer_event e.made.caller e.made.op ≡ false → stands_in 0 e ≡ true
 managed_line e p = ap (λ (b : Bool). (0 == (if b then 1 else 0)) || (0 == caller_line e.made.caller)) p
 
-peer_line : (e : Entry) → is_peer_event e.made.caller e.made.op ≡ true → stands_in 1 e ≡ true
+pub peer_line : (e : Entry) → is_peer_event e.made.caller e.made.op ≡ true → stands_in 1 e ≡ true
 peer_line e p = ap (λ (b : Bool). (1 == (if b then 1 else 0)) || (1 == caller_line e.made.caller)) p
 
 -- what an entry cites stands in the other side's line
@@ -114,10 +114,6 @@ managed_cites v a e b n all (op.Adopt w kind k p h) c = cited_by v 1 a e b n (Is
 managed_cites v a e b n all (op.Meet w p h sort f) c = cited_by v 1 a e b n (IsGripOf e.made.index p h sort f) all (λ m z. grip_line e.made.index m p h sort f z) c
 managed_cites v a e b n all (op.Resolve k) c = cited_by v 1 a e b n (IsClearOf k.0) all (λ m z. clear_line k.0 m z) c
 managed_cites v a e b n all o c = tt
-
-in_back : (f : List Noted) (x : Noted) (b : List Noted) (y : Noted) → In b y → In (f ++ x ∷ b) y
-in_back [] x b y w = inr w
-in_back (z ∷ f) x b y w = inr (in_back f x b y w)
 
 -- each entry of a known past cites what it has to, and what it cites is known
 record Behind (past : List Noted) (x : Noted) : Type 0 where

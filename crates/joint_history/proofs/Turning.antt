@@ -26,6 +26,7 @@ use Rattle.joint_history.specs.Callers.{CallerKnows, HasReleased, last_index}
 use Rattle.joint_history.specs.Locked.{IsTurn, Makes, MakesNone, MayMake, Stands, doing_from, doing_of, made_by}
 use Rattle.joint_history.specs.Operations.{IsFirst, IsOwnThread, MayBegin}
 use Rattle.joint_history.proofs.LastLines.{last_line_is}
+use Rattle.known_laws.proofs.Turning.{starts}
 
 done_by : (t : Thread) (s : Linkage) → HasReleased t s → IsDone (doing_of t s.control)
 done_by (M n) s r = r
@@ -52,14 +53,6 @@ released_by C s d e w = tt
 -- and it has ended one where it has nothing left to release
 pub stands_knows : (t : Thread) (v : View) (index : ℕ) (d : Doing) → Stands t v index d → IsDone d → CallerKnows t v
 stands_knows t v index d s w = record { known = s.known; released = released_by t (end_of s.known.past) d s.doing w }
-
-starts : (d : Doing) → IsDone d → MayStart d None
-starts free w = refl
-starts (made n line p h sort f) w = refl
-starts (lent n line h x) w = refl
-starts (gripped n line p h sort f) w = refl
-starts (given n line h) w = absurd w
-starts (met n line h) w = absurd w
 
 first_turn : (t : Thread) (d : Doing) (index : ℕ) (o : Op) → IsOwnThread t → IsDone d → IsFirst o → IsTurn t d index o None
 first_turn (M n) d index o is w f = by o f

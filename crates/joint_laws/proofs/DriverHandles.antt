@@ -17,8 +17,9 @@ use Rattle.joint_model.proofs.Numbered.{numbered-within, numbered_set-here, numb
 use Rattle.joint_model.proofs.Deciding.{none_some}
 use Rattle.joint_model.proofs.HeapLemmas.{candidates_of-open}
 use Rattle.joint_laws.proofs.HandlesAlike.{HandlesAlike, held-on, row_of-on, row_of-back, IsLoose-peer, IsGone-peer}
-use Rattle.joint_laws.proofs.DriverPeerSteps.{Only, rising-once}
+use Rattle.joint_laws.proofs.DriverPeerSteps.{Only}
 use Rattle.joint_model.specs.Told.{said_alive, said_cleared, Answer}
+use Rattle.joint_model.proofs.Members.{Rises-once}
 
 -- what threads have in hand, where slots, fields and the issued handles stay
 pub callers_same : (touched : ℕ → Type 0) (r : ManagedReplay) (s t : PeerReplay) → HandlesAlike touched s t → t.peers.issued ≡ s.peers.issued → ((p : ℕ) → InSlot t.peers.heap p → InSlot s.peers.heap p) → ((x : ℕ) → IsLive t.peers.heap x → IsLive s.peers.heap x)
@@ -70,7 +71,7 @@ module _ (r : ManagedReplay) (s t : PeerReplay) (c : OpenCycle) (place m h : ℕ
   holder x g w same = k.alone x m h (subst (λ z. Holds r.managed x z) same w) q
 
   in_place : (l x g : ℕ) → slice_get c.candidates l ≡ Some x → Holds r.managed x g → g ≡ h → l ≡ place
-  in_place l x g f w same = rising-once c.candidates l place m (k.managed.dead c e).rise (f ∙ ap Some (holder x g w same)) at
+  in_place l x g f w same = Rises-once c.candidates l place m (k.managed.dead c e).rise (f ∙ ap Some (holder x g w same)) at
 
   its_handle : (l x g : ℕ) → slice_get c.candidates l ≡ Some x → Holds r.managed x g → l ≡ place → g ≡ h
   its_handle l x g f w same =

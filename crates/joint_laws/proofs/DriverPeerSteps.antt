@@ -137,14 +137,6 @@ HandlesAlike-only s t n x e f g = record {
   freed_on = λ p c. subst (λ z. Contains z p) (sym g) c;
 }
 
--- the numbers of a rising list are each at one place
-pub rising-once : (xs : List ℕ) (i j x : ℕ) → Rises xs → slice_get xs i ≡ Some x → slice_get xs j ≡ Some x → i ≡ j
-rising-once [] i j x r e f = absurd (none_some x e)
-rising-once (y ∷ xs) zero zero x r e f = refl
-rising-once (y ∷ xs) zero (suc j) x r e f = absurd (let l = All-contains (λ z. y < z) xs x r.0 (Contains-at xs j x f) in let same : y ≡ x = same_Some y x e in omega arith)
-rising-once (y ∷ xs) (suc i) zero x r e f = absurd (let l = All-contains (λ z. y < z) xs x r.0 (Contains-at xs i x e) in let same : y ≡ x = same_Some y x f in omega arith)
-rising-once (y ∷ xs) (suc i) (suc j) x r e f = ap suc (rising-once xs i j x r.1 e f)
-
 -- the row of a handle after a sweep
 swept-at : (freed : List ℕ) (issued : List Issued) (table : List (Option TableRow)) (l : ℕ) (row : TableRow) (i : Issued) → slice_get table l ≡ Some (Some row) → slice_get issued l ≡ Some i → slice_get (cleared_rows freed issued table) l ≡ Some (Some (swept_row freed i row))
 swept-at freed [] table l row i a b = absurd (none_some i b)

@@ -34,7 +34,7 @@ use Rattle.joint_laws.proofs.ReadingsTold.{reading_told_is_named, reading_notice
 use Rattle.joint_laws.proofs.SpansTold.{told_is_named}
 
 -- an event that a history can have can be named
-managed-thread : (t : Thread) → IsManagedThread t → IsThread t
+pub managed-thread : (t : Thread) → IsManagedThread t → IsThread t
 managed-thread (M n) w = w
 managed-thread (P n) w = absurd w
 managed-thread C w = absurd w
@@ -44,7 +44,7 @@ driver-thread (M n) w = absurd w
 driver-thread (P n) w = absurd w
 driver-thread C w = tt
 
-peer-thread : (t : Thread) → IsPeerThread t → IsThread t
+pub peer-thread : (t : Thread) → IsPeerThread t → IsThread t
 peer-thread (M n) w = absurd w
 peer-thread (P n) w = w
 peer-thread C w = absurd w

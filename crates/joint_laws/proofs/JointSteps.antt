@@ -25,7 +25,7 @@ use Rattle.joint_laws.specs.PeerInvariants.{IsSpared}
 use Rattle.joint_model.proofs.Numbered.{numbered_set-same, numbered_set-other, numbered-within, numbered-made}
 use Rattle.joint_model.proofs.Deciding.{none_some}
 use Rattle.joint_laws.proofs.HandleKeeping.{tabled-set_cases, tabled-swept, swept_row}
-use Rattle.joint_laws.proofs.PeerEntries.{same_thread, swept_told, begun-kept}
+use Rattle.joint_laws.proofs.PeerEntries.{swept_told, begun-kept}
 use Rattle.joint_laws.proofs.PeerQuietEvents.{quiet-begun}
 use Rattle.joint_laws.proofs.Sparing.{spared-stays}
 use Rattle.joint_laws.proofs.DriverPeerSteps.{swept-tabled}
@@ -33,6 +33,7 @@ use Rattle.joint_laws.proofs.JointFlags.{AreFlags-same, AreFlags-gone, AreFlags-
 use Rattle.joint_laws.proofs.SparedWalks.{reached-spared}
 use Rattle.joint_laws.proofs.LinkedQuiet.{AreKept, kept-quiet}
 use Rattle.joint_model.specs.Joined.{joint_of}
+use Rattle.joint_model.proofs.HeapLemmas.{same_thread}
 
 -- the step of an event, with the flags and the marking after it
 pub record Steps (m : Managed) (s : PeerReplay) (flags : List Bool) (jm : Option JointMarking) (t : Thread) (o : Op) (reply : Reply) (told : Told) (n : Managed) (u : PeerReplay) : Type 0 where

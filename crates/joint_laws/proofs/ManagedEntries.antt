@@ -40,7 +40,7 @@ ManagedStep-entry s n w k = step-by s n.entry.made n.told (is_peer_event n.entry
 pub managed_is_kept : ManagedIsKept
 managed_is_kept noted a i = everywhere (λ s. IsReplayKept s.managed) IsReplayKept-opening IsReplayKept-entry noted a i
 
-handle-same : (s t : Managed) (x : ℕ) → IsLive s.heap x → IsLive t.heap x → numbered_at t.held x ≡ numbered_at s.held x → handle_of t x ≡ handle_of s x
+pub handle-same : (s t : Managed) (x : ℕ) → IsLive s.heap x → IsLive t.heap x → numbered_at t.held x ≡ numbered_at s.held x → handle_of t x ≡ handle_of s x
 handle-same s t x l m e = λ i. (let b = (is_freed-live t.heap x m ∙ sym (is_freed-live s.heap x l)) i in if b then None else elim (e i) [ None ↦ None | Some h ↦ h ])
 
 -- at a state: the cycle is still open with its dead part as it was, or it is over and its number was passed

@@ -29,6 +29,7 @@ use Rattle.joint_laws.proofs.MarkingKeeping.{IsMarkingKept-references, IsMarking
 use Rattle.joint_laws.proofs.Sparing.{spared-next, spared-stays, stays-spared}
 use Rattle.joint_laws.proofs.PeerMoves.{IsSafe, kept-gone, kept-reset, kept-brought, brought-safe, kept-mirror}
 use Rattle.joint_laws.proofs.PeerEvents.{pair-event, grip-event, land-event, line-event}
+use Rattle.joint_model.proofs.HeapLemmas.{same_thread}
 
 -- the references that a mirror brings join unfreed and safe peers; the driver's order gives this
 abbrev pub MirrorsSafely : PeerReplay → Op → Told → Type 0
@@ -100,18 +101,6 @@ module _ (s : PeerReplay) (mk : Marking) (freed : List ℕ) (k : IsPeerKept s) (
     };
     marking = λ m q. absurd (none_some m q);
   }
-
--- whether two threads are the same is computed
-pub same_thread : (t u : Thread) → is_thread t u ≡ true → t ≡ u
-same_thread (M a) (M b) e = ap (λ n. M n) ((Decides-eqb a b).0 e)
-same_thread (M a) (P b) e = (let f : ⊥ = cc in absurd f)
-same_thread (M a) C e = (let f : ⊥ = cc in absurd f)
-same_thread (P a) (P b) e = ap (λ n. P n) ((Decides-eqb a b).0 e)
-same_thread (P a) (M b) e = (let f : ⊥ = cc in absurd f)
-same_thread (P a) C e = (let f : ⊥ = cc in absurd f)
-same_thread C C e = refl
-same_thread C (M b) e = (let f : ⊥ = cc in absurd f)
-same_thread C (P b) e = (let f : ⊥ = cc in absurd f)
 
 swept-by : (s : PeerReplay) (mk : Marking) (freed : List ℕ) (b : Bool) → IsPeerKept s → s.marking ≡ Some mk → (b ≡ true → IsSweep s mk freed) → IsPeerKept (if b then swept_of s mk freed else answer (says.MarkOpen record { 0 = mk.number }) s).state
 swept-by s mk freed true k e w = swept_of-kept s mk freed k e (w refl)

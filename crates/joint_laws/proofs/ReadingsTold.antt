@@ -19,16 +19,13 @@ use Rattle.joint_laws.proofs.Places.{destined}
 use Rattle.joint_laws.proofs.ReadingsGoneAfter.{reading-take, reading-comes}
 use Rattle.joint_laws.proofs.ReadsAside.{reading_is_lawful, reading_leads_to_same}
 use Rattle.joint_laws.proofs.SpansTold.{told-named}
+use Rattle.joint_model.proofs.Deciding.{and-true}
 
 -- a reply that is set aside has no span
 aside-named : (ms ps : List ℕ) (r : Reply) (told : Told) → is_set_aside r ≡ true → TellsNoneFreed told → TellsNamed ms ps r told
 aside-named ms ps (says.Pending c) told e t = t
 aside-named ms ps says.Unset told e t = t
 aside-named ms ps _ told e t = absurd (let f : false ≡ true = e in cc)
-
-and-true : (a b : Bool) → (a && b) ≡ true → (a ≡ true) × (b ≡ true)
-and-true true b e = (refl, e)
-and-true false b e = absurd (let f : false ≡ true = e in cc)
 
 module _ (noted : List Noted) (w : IsLawfulReading noted) (i : ℕ) (n : Noted) (there : slice_get noted i ≡ Some n) where
   abbrev standing : List Noted

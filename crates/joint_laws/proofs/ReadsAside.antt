@@ -258,7 +258,7 @@ module _ (s u : Linkage) (k : AreAlike s u) (number line : ℕ) (reply : Reply) 
 follows : (s u : Linkage) → AreAlike s u → (n : Noted) (ns : List Noted) (cells : List (Option ℕ)) → EntryMayCome (is_read n.entry.made.op) ns cells s n → Follows s u n
 follows s u k n ns cells w = step s u k n.entry.number n.entry.made.index n.entry.made.reply n.entry.made.cites n.entry.made.caller n.entry.made.op n.told ns cells w
 
-without-cons : (n : Noted) (ns : List Noted) (b : Bool) → is_aside n ≡ b → without_aside (n ∷ ns) ≡ cond (not b) (n ∷ without_aside ns) (without_aside ns)
+pub without-cons : (n : Noted) (ns : List Noted) (b : Bool) → is_aside n ≡ b → without_aside (n ∷ ns) ≡ cond (not b) (n ∷ without_aside ns) (without_aside ns)
 without-cons n ns b e = ap (λ z. cond (not z) (n ∷ without_aside ns) (without_aside ns)) e
 
 -- what is known of the rest of both

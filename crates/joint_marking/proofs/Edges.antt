@@ -10,10 +10,10 @@ use Rattle.std.proofs.lemmas.List.{take_all, map-set, map-append, length-map}
 use Rattle.std.proofs.lemmas.Option.{slice_get-get_or, slice_get-map, slice_get_read}
 use Rattle.joint_model.specs.Heaps.{Heap, IsLive, fields_of, slot}
 use Rattle.joint_model.specs.Joint.{Graph, IsJoined}
-use Rattle.joint_model.proofs.Members.{last-or}
+use Rattle.joint_model.proofs.Members.{last-or, take-next}
 use Rattle.joint_model.proofs.Deciding.{none_some, some-same}
-use Rattle.reachability.proofs.Marking.{take-next}
 use Rattle.joint_marking.specs.Nodes.{AddsEdges, AreWithin, HasNone, IsPair, IsRound, FieldEdge, ObjectField, ObjectEdge, objects_in, targets_at}
+use Rattle.joint_model.proofs.Numbered.{slot-at}
 
 -- what a row has after a write to a row: the written one has what was written, and each other what it had
 set-from : (rows : List (List ℕ)) (a k : ℕ) (r : List ℕ) (j : ℕ) → Contains (targets_at (set rows a r) k) j → ((k ≡ a) × Contains r j) ⊎ Contains (targets_at rows k) j
@@ -132,10 +132,6 @@ pub record PlacesBelow (live : ℕ → Type 0) (node : ℕ → ℕ) (x : ℕ) (f
 slot-some : (o : Option (Option ℕ)) (p q : Option ℕ) → o ≡ Some p → elim o [ None ↦ None | Some x ↦ x ] ≡ q → o ≡ Some q
 slot-some None p q e f = cc
 slot-some (Some x) p q e f = ap Some f
-
--- what a slot holds
-slot-at : (xs : List (Option ℕ)) (i : ℕ) (o : Option ℕ) → i < length xs → slot xs i ≡ o → slice_get xs i ≡ Some o
-slot-at xs i o l e = slot-some (slice_get xs i) (get_or xs i None) o (slice_get-get_or xs i None l) e
 
 -- one place more, which holds a target
 pub Places-push : (live : ℕ → Type 0) (node : ℕ → ℕ) (x : ℕ) (fields : List (Option ℕ)) (i y : ℕ) (a b c : List (List ℕ)) → i < length fields → slot fields i ≡ Some y → live y → AddsEdges (PlacesBelow live node x fields i) a b → AddsEdges (IsPair (node x) (node y)) b c → AddsEdges (PlacesBelow live node x fields (i + 1)) a c

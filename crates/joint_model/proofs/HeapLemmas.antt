@@ -1,5 +1,5 @@
 -- Which objects of a heap are live: the test of the freed ones, and what an event leaves live; and which handle an object holds.
-use Rattle.std.proofs.Common.{◌≡◌, ℕ, inl, inr, Bool, true, false, List, [], ◌∷◌, Option, Some, None, replicate, refl, ap, arith, length-append, cond}
+use Rattle.std.proofs.Common.{◌≡◌, ℕ, inl, inr, Bool, true, false, List, [], ◌∷◌, Option, Some, None, replicate, refl, ap, arith, length-append, cond, ◌-◌}
 use Rattle.std.specs.Prelude.{Contains}
 use Rattle.std.proofs.lemmas.Bool.{eqb-true}
 use Rattle.std.proofs.lemmas.Cmp.{nat_eq_equiv}
@@ -13,6 +13,10 @@ use Rattle.joint_model.specs.Joined.{is_that_handle}
 use Rattle.joint_model.specs.Managed.{Managed, OpenCycle, Holds, handle_of}
 use Rattle.joint_model.specs.ManagedReplay.{ManagedReplay, adopt_by}
 use Rattle.joint_model.proofs.Deciding.{true-false, false-from}
+use Rattle.std.proofs.lemmas.Bool.Decides.{Decides-eqb}
+use Rattle.joint_model.specs.declared.names.Thread.{Thread}
+use Rattle.joint_model.specs.declared.names.Thread.TheVariants.{M, P, C}
+use Rattle.joint_model.specs.PeerReplay.{is_thread}
 
 -- the test of `is_freed` tells whether the list of freed objects has a number
 pub is_freed-Contains : (h : Heap) (x : ℕ) → is_freed h x ≡ true → Contains h.freed x
@@ -71,3 +75,15 @@ adopt_by-managed s p h after _ = refl
 pub adopt_by-reply : (s : ManagedReplay) (p h : ℕ) (after : Managed) (r : Reply) → (adopt_by s p h after r).reply ≡ r
 adopt_by-reply s p h after (says.M m) = refl
 adopt_by-reply s p h after _ = refl
+
+-- whether two threads are the same is computed
+pub same_thread : (t u : Thread) → is_thread t u ≡ true → t ≡ u
+same_thread (M a) (M b) e = ap (λ n. M n) ((Decides-eqb a b).0 e)
+same_thread (M a) (P b) e = (let f : ⊥ = cc in absurd f)
+same_thread (M a) C e = (let f : ⊥ = cc in absurd f)
+same_thread (P a) (P b) e = ap (λ n. P n) ((Decides-eqb a b).0 e)
+same_thread (P a) (M b) e = (let f : ⊥ = cc in absurd f)
+same_thread (P a) C e = (let f : ⊥ = cc in absurd f)
+same_thread C C e = refl
+same_thread C (M b) e = (let f : ⊥ = cc in absurd f)
+same_thread C (P b) e = (let f : ⊥ = cc in absurd f)

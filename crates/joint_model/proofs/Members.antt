@@ -1,14 +1,16 @@
 -- What a list contains: its head and its rest, what it has at an index, what a `map`, a `flat_map` and a `filter` of it contain,
 -- and lists of numbers that rise. Each is an induction on the list.
-use Rattle.std.proofs.Common.{◌≡◌, ℕ, zero, suc, ◌+◌, ◌<◌, ◌⊎◌, inl, inr, Bool, true, false, List, [], ◌∷◌, ◌++◌, length, map, cond, Some, refl, sym, ap, subst, ◌∙◌, arith, nat_eq}
+use Rattle.std.proofs.Common.{◌≡◌, ℕ, zero, suc, ◌+◌, ◌<◌, ◌⊎◌, inl, inr, Bool, true, false, List, [], ◌∷◌, ◌++◌, length, map, cond, Some, refl, sym, ap, subst, ◌∙◌, arith, nat_eq, ◌-◌, take}
 use Rattle.std.specs.Prelude.{Contains, All, slice_get, flat_map, filter}
 use Rattle.std.specs.List.{list_any}
-use Rattle.std.proofs.lemmas.List.Elements.{Contains-append_cases, Contains-append_left, Contains-append_right, All-nil, All-cons, All-head, All-tail, All-push, All-contains}
-use Rattle.std.proofs.lemmas.Option.{slice_get_within, slice_get_read, get_or_from_slice_get}
+use Rattle.std.proofs.lemmas.List.Elements.{Contains-append_cases, Contains-append_left, Contains-append_right, All-nil, All-cons, All-head, All-tail, All-push, All-contains, All-filter}
+use Rattle.std.proofs.lemmas.Option.{slice_get_within, slice_get_read, get_or_from_slice_get, same_Some}
 use Rattle.std.proofs.lemmas.Map.Views.{list_any-from_Contains, Contains-from_any}
 use Rattle.std.proofs.lemmas.Cmp.{nat_eq_equiv}
 use Rattle.std.proofs.lemmas.Bool.{eqb-true}
 use Rattle.joint_model.specs.Components.{Rises}
+use Rattle.joint_model.proofs.Deciding.{none_some}
+use Rattle.std.proofs.lemmas.List.{take_more}
 
 pub Contains-nil : {A : Type 0} (x : A) → Contains [] x → ⊥
 Contains-nil x h = omega (arith, h.1)
@@ -126,3 +128,22 @@ Rises-one (x ∷ xs) (y ∷ ys) r s f g =
       | inl e ↦ sym e
       | inr l ↦ elim (head-below x y xs ys r (g y (Contains-here y ys))) [ inl e ↦ e | inr k ↦ absurd (omega (arith, l, k)) ]
     ]
+
+-- the numbers of a rising list are each at one place
+pub Rises-once : (xs : List ℕ) (i j x : ℕ) → Rises xs → slice_get xs i ≡ Some x → slice_get xs j ≡ Some x → i ≡ j
+Rises-once [] i j x r e f = absurd (none_some x e)
+Rises-once (y ∷ xs) zero zero x r e f = refl
+Rises-once (y ∷ xs) zero (suc j) x r e f = absurd (let l = All-contains (λ z. y < z) xs x r.0 (Contains-at xs j x f) in let same : y ≡ x = same_Some y x e in omega arith)
+Rises-once (y ∷ xs) (suc i) zero x r e f = absurd (let l = All-contains (λ z. y < z) xs x r.0 (Contains-at xs i x e) in let same : y ≡ x = same_Some y x f in omega arith)
+Rises-once (y ∷ xs) (suc i) (suc j) x r e f = ap suc (Rises-once xs i j x r.1 e f)
+
+pub Rises-filter : (p : ℕ → Bool) (xs : List ℕ) → Rises xs → Rises (filter p xs)
+Rises-filter p [] r = tt
+Rises-filter p (x ∷ xs) r = elim (p x) as (λ b. Rises (cond b (x ∷ filter p xs) (filter p xs))) [
+  | true ↦ (All-filter p (λ y. x < y) xs r.0, Rises-filter p xs r.1)
+  | false ↦ Rises-filter p xs r.1
+]
+
+-- the elements below i and the one at i
+pub take-next : {X : Type 0} (xs : List X) (i : ℕ) (x : X) → slice_get xs i ≡ Some x → take (i + 1) xs ≡ take i xs ++ x ∷ []
+take-next xs i x e = take_more xs i x (slice_get_within xs i x e) ∙ ap (λ z. take i xs ++ z ∷ []) (get_or_from_slice_get xs i x x e)

@@ -1,6 +1,6 @@
 -- Lists whose elements have the numbers from 1 on, and lists of slots: what stands where after a write or a push. Each
 -- is an induction on the list.
-use Rattle.std.proofs.Common.{◌≡◌, ◌≢◌, ℕ, zero, suc, ◌+◌, ◌<◌, ◌≤◌, ◌⊎◌, inl, inr, List, [], ◌∷◌, ◌++◌, length, Option, Some, None, set, get_or, replicate, refl, ap, arith}
+use Rattle.std.proofs.Common.{◌≡◌, ◌≢◌, ℕ, zero, suc, ◌+◌, ◌<◌, ◌≤◌, ◌⊎◌, inl, inr, List, [], ◌∷◌, ◌++◌, length, Option, Some, None, set, get_or, replicate, refl, ap, arith, sym, ◌∙◌}
 use Rattle.std.specs.Prelude.{Contains, slice_get}
 use Rattle.std.proofs.Math.ListN.{length-set}
 use Rattle.std.proofs.lemmas.Option.{slice_get_within, slice_get_past, slice_get-get_or}
@@ -111,3 +111,9 @@ replicate-none_at (suc n) (suc k) x e = replicate-none_at n k x e
 
 pub replicate-none : {X : Type 0} (n : ℕ) (x : X) → Contains (replicate n None) (Some x) → ⊥
 replicate-none n x h = (let p = at-Contains (replicate n None) (Some x) h in replicate-none_at n p.0 x p.1)
+
+-- what a slot holds, as an element of the list
+pub slot-at : (xs : List (Option ℕ)) (i : ℕ) (r : Option ℕ) → i < length xs → slot xs i ≡ r → slice_get xs i ≡ Some r
+slot-at xs i r l e =
+    let at : slice_get xs i ≡ Some (get_or xs i None) = slice_get-get_or xs i None l in
+    at ∙ ap (λ z. Some z) (ap (λ o. elim o [ None ↦ None | Some z ↦ z ]) (sym at) ∙ e)

@@ -11,13 +11,6 @@ use Rattle.reachability.specs.Marks.{IsMarked}
 use Rattle.object_heap.specs.Gathered.{Gathered}
 use Rattle.joint_replay.specs.Unmarked.{marked, unmarked_of}
 
-pub Rises-filter : (p : ℕ → Bool) (xs : List ℕ) → Rises xs → Rises (filter p xs)
-Rises-filter p [] r = tt
-Rises-filter p (x ∷ xs) r = elim (p x) as (λ b. Rises (cond b (x ∷ filter p xs) (filter p xs))) [
-  | true ↦ (All-filter p (λ y. x < y) xs r.0, Rises-filter p xs r.1)
-  | false ↦ Rises-filter p xs r.1
-]
-
 -- the test of a mark
 marked-from : (o : Option Bool) → elim o [ None ↦ false | Some b ↦ b ] ≡ true → o ≡ Some true
 marked-from None e = cc
@@ -39,11 +32,3 @@ unmarked_of-exact marks ms m = (
   λ c. let r = Contains-filter_from (λ k. not (marked marks k)) ms m c in (r.0, λ h. not-true (marked marks m) r.1 (test-IsMarked marks m h)),
   λ h. Contains-filter_to (λ k. not (marked marks k)) ms m h.0 (not-from (marked marks m) (λ e. h.1 (IsMarked-test marks m e))),
 )
-
--- every number was asked
-pub Gathered-all : (wanted : ℕ → Type 0) (n : ℕ) (xs : List ℕ) → Gathered wanted n xs → ((k : ℕ) → wanted k → k < n) → (k : ℕ) → Contains xs k ↔ wanted k
-Gathered-all wanted n xs g h k = (λ c. ((g.exact k).0 c).1, λ w. (g.exact k).1 (h k w, w))
-
--- a live row's number is at most the number of rows
-pub made-below : (h : Heap) (k n : ℕ) → IsLive h k → length h.fields + 1 ≤ n → k < n
-made-below h k n l e = omega (arith, l.made.1)

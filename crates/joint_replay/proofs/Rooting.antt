@@ -10,10 +10,10 @@ use Rattle.joint_model.specs.Histories.{peer_numbers}
 use Rattle.joint_model.specs.Joint.{Graph, IsHandle, IsRawRoot, IsLooseRoot, IsReachedIn, object, peer, AreUnreached}
 use Rattle.joint_model.specs.Managed.{Managed, IsManagedRoot}
 use Rattle.joint_model.specs.Peers.{Peers}
-use Rattle.joint_model.proofs.Members.{Contains-map, All-members}
+use Rattle.joint_model.proofs.Members.{Contains-map, All-members, take-next}
 use Rattle.joint_model.proofs.Numbered.{numbered-within}
 use Rattle.reachability.specs.Marks.{IsMarked}
-use Rattle.reachability.proofs.Marking.{take-next, set-marked, set-keeps, set-fresh}
+use Rattle.reachability.proofs.Marking.{set-marked, set-keeps, set-fresh}
 use Rattle.joint_marking.specs.Gathered.{Gains}
 use Rattle.joint_marking.specs.Nodes.{IsLiveRoot}
 use Rattle.joint_marking.specs.Owned.{IsOwned}

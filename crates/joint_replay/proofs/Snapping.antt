@@ -15,14 +15,14 @@ use Rattle.joint_model.specs.Managed.{Managed, OpenCycle, Holds, IsBridgeReached
 use Rattle.joint_model.specs.Peers.{Peers, peer_of}
 use Rattle.joint_model.specs.Run.{IsKept, JointResolve}
 use Rattle.joint_model.specs.Walks.{Reached}
-use Rattle.joint_model.proofs.Members.{All-members, Contains-filter_from, Contains-filter_to, Rises-one}
+use Rattle.joint_model.proofs.Members.{All-members, Contains-filter_from, Contains-filter_to, Rises-one, Rises-filter}
 use Rattle.joint_model.proofs.Deciding.{true-false, not-from, some-same}
 use Rattle.joint_model.proofs.HeapLemmas.{Holds-handle_of}
 use Rattle.joint_replay.proofs.Snapshots.{handle-reached, bridge-row, row-bridge}
 use Rattle.object_heap.specs.Tidy.{live_fields}
 use Rattle.reachability.specs.Marks.{Leads, IsMarked}
 use Rattle.joint_replay.specs.Unmarked.{unmarked_of}
-use Rattle.joint_replay.proofs.Gathering.{Rises-filter, unmarked_of-exact}
+use Rattle.joint_replay.proofs.Gathering.{unmarked_of-exact}
 use Rattle.joint_replay.specs.Judging.{named_objects}
 use Rattle.joint_replay.specs.Found.{IsHandleReached}
 use Rattle.joint_replay.specs.Finding.{FindsRows}

@@ -5,7 +5,7 @@ use Rattle.joint_model.specs.Heaps.{Heap, IsLive, HasField, numbered_at}
 use Rattle.joint_model.specs.Managed.{Managed, IsBridge, ManagedEdge, IsBridgeReached}
 use Rattle.joint_model.proofs.WalkLemmas.{Reached-mono}
 use Rattle.joint_model.proofs.Members.{All-members}
-use Rattle.joint_model.proofs.Deciding.{some-true, true-false}
+use Rattle.joint_model.proofs.Deciding.{some-true, true-false, handle-there}
 use Rattle.joint_replay.specs.Found.{IsBridgeRow, IsHandleReached}
 
 made-within : (h : Heap) (x : ℕ) → IsLive h x → x < length h.fields + 1
@@ -14,11 +14,6 @@ made-within h x i = omega (arith, i.made.1)
 -- roots that are live are nodes of the heap's graph
 pub roots-within : (h : Heap) (xs : List ℕ) → ((x : ℕ) → Contains xs x → IsLive h x) → All (λ y. y < length h.fields + 1) xs
 roots-within h xs l = All-members (λ y. y < length h.fields + 1) xs (λ x c. made-within h x (l x c))
-
--- a bridge row in the words of both
-handle-there : (o : Option (Option ℕ)) → is_some (elim o [ None ↦ None | Some x ↦ x ]) ≡ true → (k : ℕ) × (o ≡ Some (Some k))
-handle-there None e = absurd (true-false false e refl)
-handle-there (Some x) e = (let r = some-true x e in (r.0, ap Some r.1))
 
 handle-test : (o : Option (Option ℕ)) (k : ℕ) → o ≡ Some (Some k) → is_some (elim o [ None ↦ None | Some x ↦ x ]) ≡ true
 handle-test o k e = subst (λ z. is_some (elim z [ None ↦ None | Some x ↦ x ]) ≡ true) (sym e) refl

@@ -29,7 +29,7 @@ each_stands_behind (y ∷ h) l x p = ⊎_elim
     (λ q. let s = each_stands_behind h l.1 x q in record { front = y ∷ s.front; back = s.back; all = (λ i. y ∷ s.all i); lawful = s.lawful })
     p
 
-in_back : (f : List Noted) (x : Noted) (b : List Noted) (e : Noted) → In b e → In (f ++ x ∷ b) e
+pub in_back : (f : List Noted) (x : Noted) (b : List Noted) (e : Noted) → In b e → In (f ++ x ∷ b) e
 in_back [] x b e p = inr p
 in_back (y ∷ f) x b e p = inr (in_back f x b e p)
 

@@ -39,6 +39,7 @@ use Rattle.known_laws.proofs.Later.{kept_end}
 use Rattle.known_laws.proofs.Moving.{may_move}
 use Rattle.known_laws.proofs.Parts.{same_managed}
 use Rattle.known_laws.proofs.PastsJoin.{below, within_past, behind_past, pasts_join}
+use Rattle.joint_laws.proofs.ManagedEntries.{handle-same}
 
 -- an event of another thread than the driver's goes on
 pub goes_on : (s : ManagedReplay) (t : Thread) (o : Op) (told : Told) → (t ≡ C → ⊥) → IsEvent t o → IsReplayKept s → ManagedAllows s o told → GoesOn s.managed (managed_answer s t o told).state.managed
@@ -93,9 +94,6 @@ alike_meet s t u (open_one e a b h) (closed c d) = absurd (none_some e (sym d �
 alike_meet s t u (open_one e a b h) (open_one f c d g) =
     let same : f ≡ e = same_Some f e (sym d ∙ b) in
     open_one e a (c ∙ ap Some same) (λ m w. let v = g m (subst (λ (z : OpenCycle). Contains z.dead m) (sym same) w) in ((h m w).0 ∙ sym v.0, (h m w).1 ∙ sym v.1))
-
-pub handle-same : (s t : Managed) (x : ℕ) → IsLive s.heap x → IsLive t.heap x → numbered_at t.held x ≡ numbered_at s.held x → handle_of t x ≡ handle_of s x
-handle-same s t x l m e = λ i. (let b = (is_freed-live t.heap x m ∙ sym (is_freed-live s.heap x l)) i in if b then None else elim (e i) [ None ↦ None | Some h ↦ h ])
 
 pub alike_on : (s u t : Managed) → IsManagedKept s → GoesOn s u → Alike s t → Alike u t
 alike_on s u t k g (closed a b) = closed (g.cycle ∙ a) b

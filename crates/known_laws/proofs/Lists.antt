@@ -125,7 +125,7 @@ abbrev AreThreads : List Entry → Type 0
 AreThreads [] = Unit {0}
 AreThreads (e ∷ es) = IsThread e.made.caller × AreThreads es
 
-event-thread : (t : Thread) (o : Op) → IsEvent t o → IsThread t
+pub event-thread : (t : Thread) (o : Op) → IsEvent t o → IsThread t
 event-thread C o e = tt
 event-thread (M n) (op.Line a) e = e.0.0
 event-thread (M n) (op.Make s f) e = e.0

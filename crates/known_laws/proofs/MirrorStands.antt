@@ -27,8 +27,9 @@ use Rattle.joint_laws.proofs.LinkedEntries.{Of}
 use Rattle.joint_laws.proofs.ManagedKeeping.{dead-held, cut_on}
 use Rattle.joint_laws.proofs.ManagedMoves.{GoesOn, managed_line-goes_on}
 use Rattle.known_laws.specs.Driving.{IsMirrorOf, MirrorFits}
-use Rattle.known_laws.proofs.FrozenPasts.{handle-same, goes_by}
+use Rattle.known_laws.proofs.FrozenPasts.{goes_by}
 use Rattle.known_laws.proofs.PeerKeeps.{unmirroring, same_mirror_after, restored-mirror}
+use Rattle.joint_laws.proofs.ManagedEntries.{handle-same}
 
 -- the candidates and their handles are the same
 pub record SameCandidates (m n : Managed) : Type 0 where

@@ -15,7 +15,7 @@ side_entry_comes s number m told line short order side = ⊎_elim
     (λ w. record { event = w.0.event; line = line; short = short; lawful = subst (λ b. SideLawful b s m told) (sym w.0.side) w.1; order = order })
     side
 
-starts : (d : Doing) → IsDone d → MayStart d None
+pub starts : (d : Doing) → IsDone d → MayStart d None
 starts free w = refl
 starts (made n line p h sort f) w = refl
 starts (lent n line h x) w = refl

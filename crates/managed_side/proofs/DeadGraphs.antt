@@ -13,12 +13,11 @@ use Rattle.joint_model.specs.Histories.{managed_numbers}
 use Rattle.joint_model.specs.Managed.{Managed, handle_of}
 use Rattle.joint_model.proofs.Deciding.{none_some, some-same}
 use Rattle.joint_model.proofs.HeapLemmas.{is_freed-live}
-use Rattle.joint_model.proofs.Members.{Contains-at, Contains-nil, Contains-here, Contains-there, last-or}
+use Rattle.joint_model.proofs.Members.{Contains-at, Contains-nil, Contains-here, Contains-there, last-or, Rises-once, take-next}
 use Rattle.joint_model.proofs.Numbered.{set-at_same, set-at_other, set-at_here}
 use Rattle.bridge_graph.specs.declared.graph.Node.{Node}
 use Rattle.bridge_graph.specs.Parts.{Part, Leads, opaque_at, numbers_of}
 use Rattle.managed_side.specs.Graphs.{ArePlaces, HasDeadField, HasPlaced, IsPlaceOf, IsDeadGraph, handle_number, handle_named, held_at, node_of}
-use Rattle.reachability.proofs.Marking.{take-next}
 use Rattle.managed_side.specs.declared.rows.Held.{Held}
 use Rattle.managed_side.proofs.Lists.{beside-at}
 
@@ -29,18 +28,6 @@ Rises-order (z ∷ zs) zero zero x y r e f l = absurd (omega (arith, l))
 Rises-order (z ∷ zs) zero (suc b) x y r e f l = subst (λ k. k < y) (some-same z x e) (All-contains (λ k. z < k) zs y r.0 (Contains-at zs b y f))
 Rises-order (z ∷ zs) (suc a) zero x y r e f l = absurd (omega (arith, l))
 Rises-order (z ∷ zs) (suc a) (suc b) x y r e f l = Rises-order zs a b x y r.1 e f (omega (arith, l))
-
-pub Rises-apart : (xs : List ℕ) (a b x : ℕ) → Rises xs → slice_get xs a ≡ Some x → slice_get xs b ≡ Some x → a ≡ b
-Rises-apart xs a b x r e f = elim (cases_eq a b) [
-  | inl s ↦ s
-  | inr n ↦ absurd (by (ordered a b n))
-]
-  where
-    ordered : (c d : ℕ) → (c ≡ d → ⊥) → (c < d) ⊎ (d < c)
-    ordered zero zero n = absurd (n refl)
-    ordered zero (suc d) n = inl (omega arith)
-    ordered (suc c) zero n = inr (omega arith)
-    ordered (suc c) (suc d) n = elim (ordered c d (λ s. n (ap suc s))) [ inl l ↦ inl (omega (arith, l)) | inr l ↦ inr (omega (arith, l)) ]
 
     by : (a < b) ⊎ (b < a) → ⊥
     by (inl l) = (let o = Rises-order xs a b x x r e f l in omega (arith, o))
@@ -58,7 +45,7 @@ ArePlaces-next dead places i x r at within p = record {
   ];
   full = λ k y l e. elim (last-or k i l) [
     | inl m ↦ (
-        let apart : y ≢ x = λ s. (let same = Rises-apart dead k i x r (e ∙ ap Some s) at in omega (arith, same, m)) in
+        let apart : y ≢ x = λ s. (let same = Rises-once dead k i x r (e ∙ ap Some s) at in omega (arith, same, m)) in
         set-at_other places x y (i + 1) apart ∙ p.full k y m e)
     | inr m ↦ (
         let same : x ≡ y = some-same x y (sym at ∙ subst (λ j. slice_get dead j ≡ Some y) m e) in

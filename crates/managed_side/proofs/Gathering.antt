@@ -70,13 +70,6 @@ filter-push p ms xs ys i d l e t is = rw (numbers-more ms i d l, filter-append p
 pub filter-skip : (p : ℕ → Bool) (ms : List MNum) (xs : List ℕ) (i : ℕ) (d : MNum) → i < length ms → xs ≡ filter p (managed_numbers (take i ms)) → p (get_or ms i d).0 ≡ false → xs ≡ filter p (managed_numbers (take (i + 1) ms))
 filter-skip p ms xs i d l e t = rw (numbers-more ms i d l, filter-append p (managed_numbers (take i ms)) ((get_or ms i d).0 ∷ []), t, e) (sym (append-nil (filter p (managed_numbers (take i ms)))))
 
--- every number was asked
-pub Gathered-all : (wanted : ℕ → Type 0) (n : ℕ) (xs : List ℕ) → Gathered wanted n xs → ((k : ℕ) → wanted k → k < n) → (k : ℕ) → Contains xs k ↔ wanted k
-Gathered-all wanted n xs g h k = (λ c. ((g.exact k).0 c).1, λ w. (g.exact k).1 (h k w, w))
-
-pub made-below : (h : Heap) (k n : ℕ) → IsLive h k → length h.fields + 1 ≤ n → k < n
-made-below h k n l e = omega (arith, l.made.1)
-
 -- one row more is brought back
 pub back-next : (v w u : HeapRows) (ms : List ℕ) (i : ℕ) (d : ℕ) → i < length ms → w ≡ record v { marks = w.marks; links = w.links }
     → ((k : ℕ) → IsMarked w.marks k ↔ (IsMarked v.marks k ⊎ Reached (Contains (take i ms)) (EdgeOf v) k))

@@ -14,13 +14,6 @@ use Rattle.reachability.specs.Marks.{IsMarked}
 use Rattle.managed_side.specs.declared.rows.Held.{Held}
 use Rattle.managed_side.specs.Resolving.{marked, unmarked_of, has_handle, has_peer}
 
-pub Rises-filter : (p : ℕ → Bool) (xs : List ℕ) → Rises xs → Rises (filter p xs)
-Rises-filter p [] r = tt
-Rises-filter p (x ∷ xs) r = elim (p x) as (λ b. Rises (cond b (x ∷ filter p xs) (filter p xs))) [
-  | true ↦ (All-filter p (λ y. x < y) xs r.0, Rises-filter p xs r.1)
-  | false ↦ Rises-filter p xs r.1
-]
-
 -- tests that agree on the members of a list keep the same of it
 pub filter-agree : {X : Type 0} (p q : X → Bool) (xs : List X) → ((x : X) → Contains xs x → p x ≡ q x) → filter p xs ≡ filter q xs
 filter-agree p q [] h = refl

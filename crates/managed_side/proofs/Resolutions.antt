@@ -18,9 +18,9 @@ use Rattle.joint_model.specs.Listed.{answers_of}
 use Rattle.joint_model.specs.Managed.{Managed, OpenCycle, ManagedEdge, handle_of, holds_handle, resolved}
 use Rattle.joint_model.specs.ManagedReplay.{without_twins}
 use Rattle.joint_model.specs.Walks.{Reached}
-use Rattle.joint_model.proofs.Deciding.{true-false, some-true, true_false}
+use Rattle.joint_model.proofs.Deciding.{true-false, some-true, true_false, handle-there}
 use Rattle.joint_model.proofs.HeapLemmas.{is_freed-live}
-use Rattle.joint_model.proofs.Members.{Contains-here, Contains-there, Contains-decided, Contains-filter_from, Contains-filter_to, All-members, Rises-one}
+use Rattle.joint_model.proofs.Members.{Contains-here, Contains-there, Contains-decided, Contains-filter_from, Contains-filter_to, All-members, Rises-one, Rises-filter}
 use Rattle.joint_model.proofs.WalkLemmas.{Reaches-mono}
 use Rattle.joint_laws.specs.ManagedInvariants.{IsCutOff}
 use Rattle.finaliser_queue.specs.Queue.{Queue}
@@ -32,15 +32,8 @@ use Rattle.managed_side.specs.declared.rows.Held.{Held}
 use Rattle.managed_side.specs.Dues.{HasDue}
 use Rattle.managed_side.specs.Resolving.{marked, unmarked_of, has_handle}
 use Rattle.managed_side.specs.Rows.{rows_of, pairs_of}
-use Rattle.managed_side.proofs.Lists.{Rises-filter, filter-agree, IsMarked-test, test-IsMarked, unmarked_of-exact}
-
--- a mark decides
-pub mark-decided : (marks : List Bool) (m : ℕ) → IsMarked marks m ⊎ (IsMarked marks m → ⊥)
-mark-decided marks m = by (marked marks m) refl
-  where
-    by : (b : Bool) → marked marks m ≡ b → IsMarked marks m ⊎ (IsMarked marks m → ⊥)
-    by true e = inl (IsMarked-test marks m e)
-    by false e = inr (λ h. true-false (marked marks m) (test-IsMarked marks m h) e)
+use Rattle.managed_side.proofs.Lists.{filter-agree, IsMarked-test, test-IsMarked, unmarked_of-exact}
+use Rattle.reachability.proofs.Marking.{marked-or}
 
 -- without references the edges are the fields
 pub edge-field : (v : HeapRows) (x y : ℕ) → v.follows ≡ false → EdgeOf v x y → HasField v.heap x y
@@ -51,7 +44,7 @@ edge-field v x y e (inr r) = absurd (true_false (sym r.0 ∙ e))
 pub shut-open : (v : HeapRows) (spare : ℕ) (s : Managed) (c : OpenCycle) → v.heap ≡ s.heap → v.follows ≡ false → HasDue v spare c → IsCutOff s c → IsClosed (EdgeOf v) v.marks
 shut-open v spare s c eh ef d cut x y e m =
     let f = edge-field v x y ef e in
-    elim (mark-decided v.marks y) [
+    elim (marked-or v.marks y) [
       | inl h ↦ h
       | inr n ↦ absurd (cut.unheld x y (subst (λ h. IsLive h x) eh f.live) (λ k. ((d.white x).0 k).1 m) (subst (λ h. Contains (fields_of h x) (Some y)) eh f.field) ((d.white y).1 (f.there, n)))
     ]
@@ -70,7 +63,7 @@ can-free v w s c freed eh ew rise cut shut is =
           let lx : IsLive s.heap x = subst (λ h. IsLive h x) e l in
           let fx : Contains (fields_of s.heap x) (Some y) = subst (λ h. Contains (fields_of h x) (Some y)) e f in
           elim (Contains-decided c.dead x) [
-            | inl d ↦ elim (mark-decided w.marks x) [
+            | inl d ↦ elim (marked-or w.marks x) [
               | inl m ↦ u.1 (shut x y (inl (record { live = subst (λ h. IsLive h x) (sym eh) lx; field = subst (λ h. Contains (fields_of h x) (Some y)) (sym eh) fx; there = subst (λ h. IsLive h y) (sym eh) (cut.live y u.0) })) m)
               | inr m ↦ n ((exact x).1 (d, m))
             ]
@@ -114,10 +107,6 @@ Rises-within xs ys rx ry h =
     (λ m k. Contains-from_any eqb-true m xs (Contains-filter_from p ys m k).1)
     (λ m k. Contains-filter_to p ys m (h m k) (list_any-from_Contains nat_eq_equiv m xs k)) in
     subst (λ zs. length zs ≤ length ys) is (shorter p ys)
-
-pub handle-there : (o : Option (Option ℕ)) → is_some (elim o [ None ↦ None | Some x ↦ x ]) ≡ true → (k : ℕ) × (o ≡ Some (Some k))
-handle-there None e = absurd (true_false (sym e))
-handle-there (Some x) e = (let r = some-true x e in (r.0, ap Some r.1))
 
 -- each row of the dead part that holds a handle is a candidate, and has room for its notice
 pub notices-fit : (s : Managed) (c : OpenCycle) (freed : List ℕ) (spare : ℕ) → IsCutOff s c → length c.candidates ≤ spare → Rises freed → ((m : ℕ) → Contains freed m → Contains c.dead m) → length (filter (has_handle s.held) freed) ≤ spare

@@ -11,7 +11,7 @@ use Rattle.joint_model.specs.Heaps.{Heap, IsLive, HasField, InSlot, fields_of, n
 use Rattle.joint_model.specs.Managed.{Managed, OpenCycle, IsBridge, IsManagedRoot, ManagedEdge, IsManagedReached, IsBridgeReached, with_snapshot}
 use Rattle.joint_model.specs.Walks.{Reached}
 use Rattle.joint_model.proofs.HeapLemmas.{IsLive-before, IsLive-spared, IsLive-left}
-use Rattle.joint_model.proofs.Members.{Contains-filter_from, Contains-filter_to, All-members}
+use Rattle.joint_model.proofs.Members.{Contains-filter_from, Contains-filter_to, All-members, Rises-filter}
 use Rattle.joint_model.proofs.WalkLemmas.{Reached-mono, Reached-start, Reached-then, Reached-further, Reached-keeps}
 use Rattle.finaliser_queue.specs.Queue.{Queue}
 use Rattle.object_heap.specs.Tidy.{CanFree}
@@ -23,8 +23,10 @@ use Rattle.managed_side.specs.Dues.{HasDue}
 use Rattle.managed_side.specs.Resolving.{marked, has_handle}
 use Rattle.managed_side.specs.Rows.{rows_of}
 use Rattle.managed_side.specs.Snapshots.{PartsUnmarked}
-use Rattle.managed_side.proofs.Lists.{Rises-filter, IsMarked-test, test-IsMarked, unmarked_of-exact}
-use Rattle.managed_side.proofs.Resolutions.{mark-decided, edge-field, handle-there}
+use Rattle.managed_side.proofs.Lists.{IsMarked-test, test-IsMarked, unmarked_of-exact}
+use Rattle.managed_side.proofs.Resolutions.{edge-field}
+use Rattle.reachability.proofs.Marking.{marked-or}
+use Rattle.joint_model.proofs.Deciding.{handle-there}
 
 -- the marks are those of what slots and pins reach, over the fields of that state
 pub record AreSlotMarks (v : HeapRows) (s : Managed) : Type 0 where
@@ -68,7 +70,7 @@ reached-marked v w s freed candidates dead a f m k = elim ((f.marks m).0 k) [
 ]
 
 marked-bridge : (v w : HeapRows) (s : Managed) (freed candidates dead : List ℕ) → AreSlotMarks v s → PartsUnmarked v w s.held freed candidates dead → (m : ℕ) → IsBridgeReached s m → IsMarked w.marks m
-marked-bridge v w s freed candidates dead a f m r = elim (mark-decided v.marks r.root) [
+marked-bridge v w s freed candidates dead a f m r = elim (marked-or v.marks r.root) [
   | inl k ↦ (f.marks m).1 (inl ((a.marks m).1 (Reached-further (IsManagedRoot s) (ManagedEdge s) r.root m ((a.marks r.root).0 k) r.reaches)))
   | inr n ↦ (f.marks m).1 (inr (Reached-mono (λ z. z ≡ r.root) (Contains candidates) (ManagedEdge s) (EdgeOf v)
       (λ x e. subst (λ z. Contains candidates z) (sym e) ((picked-is v w s freed candidates dead a f r.root).1 (r.starts, λ q. n ((a.marks r.root).1 q))))
@@ -125,7 +127,7 @@ IsSnapshot-found v w s freed candidates dead o a f = record {
         (u.0, u.1, λ g. ((freed-is v w s.held freed candidates dead f m).0 g).1 r.1)),
     λ u. (
         let white : Contains f.white m = (white-is v w s freed candidates dead a f m).1 (u.0, u.1) in
-        elim (mark-decided w.marks m) [
+        elim (marked-or w.marks m) [
           | inl k ↦ (dead-is v w s.held freed candidates dead f m).1 (white, k)
           | inr n ↦ absurd (u.2 ((freed-is v w s.held freed candidates dead f m).1 (white, n)))
         ]),
@@ -145,7 +147,7 @@ CanFree-found v w s freed candidates dead ew a f =
           let uy = (white-is v w s freed candidates dead a f y).0 ry.0 in
           let edge : HasField s.heap x y = record { live = lx; field = subst (λ h. Contains (fields_of h x) (Some y)) e g; there = uy.0 } in
           let out : IsManagedReached s x → ⊥ = λ r. uy.1 (Reached-then (IsManagedRoot s) (ManagedEdge s) x y r edge) in
-          elim (mark-decided w.marks x) [
+          elim (marked-or w.marks x) [
             | inl k ↦ ry.1 (f.shut x y (field-edge v s x y a.heap edge) k)
             | inr k ↦ n ((freed-is v w s.held freed candidates dead f x).1 ((white-is v w s freed candidates dead a f x).1 (lx, out), k))
           ]);
@@ -179,7 +181,7 @@ HasDue-found v w u s freed candidates dead spare n a f eu marks l =
         λ y. (
             let lm : IsLive (with_freed s.heap freed) m = subst (λ h. IsLive h m) eu y.0 in
             let white : Contains f.white m = (white-is v w s freed candidates dead a f m).1 (IsLive-before s.heap freed m lm, λ r. y.1 ((marks m).1 ((still m).0 r))) in
-            elim (mark-decided w.marks m) [
+            elim (marked-or w.marks m) [
               | inl k ↦ (dead-is v w s.held freed candidates dead f m).1 (white, k)
               | inr k ↦ absurd (IsLive-spared s.heap freed m lm ((freed-is v w s.held freed candidates dead f m).1 (white, k)))
             ]),

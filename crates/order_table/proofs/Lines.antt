@@ -43,7 +43,7 @@ below_line i n k (x ∷ xs) r l = let rest = below_line i (n + 1) k xs r.1 (omeg
     either_way true small rest = (small, rest)
     either_way false small rest = rest
 
-below_front : (k : ℕ) (xs ys : List KeptEntry) → IsBelow k (xs ++ ys) → IsBelow k xs
+pub below_front : (k : ℕ) (xs ys : List KeptEntry) → IsBelow k (xs ++ ys) → IsBelow k xs
 below_front k [] ys b = tt
 below_front k (x ∷ xs) ys b = (b.0, below_front k xs ys b.1)
 

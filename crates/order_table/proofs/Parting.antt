@@ -14,21 +14,18 @@ use Rattle.order_table.specs.Views.{Owns, known, role_line, giving, given, heari
 use Rattle.joint_model.specs.HistoryLines.{caller_line}
 use Rattle.order_table.specs.Tells.{Compares, GrowsByEntry, Parts, IsOfRole, IsOfCaller, IsOfNone, TakesIn}
 use Rattle.order_table.proofs.Places.{at_put_here, at_put_else, at_joined, at_common, at_without, at_longest, longer_cases, or_true}
+use Rattle.joint_model.proofs.Deciding.{and-both}
 
 -- the mask has just the lines of this kind
 pub record Marks (Goes : ℕ → Type 0) (lines : List Bool) : Type 0 where
   pub here : (i : ℕ) → Goes i → at false lines i ≡ true
   pub elsewhere : (i : ℕ) → (Goes i → ⊥) → at false lines i ≡ false
 
-both_true : (a b : Bool) → a ≡ true → b ≡ true → (a && b) ≡ true
-both_true true b e f = f
-both_true false b e f = e
-
 pub parts : (Goes : ℕ → Type 0) (lines : List Bool) (v left right : View) → Marks Goes lines → left ≡ giving lines v → right ≡ given lines v → Parts Goes v left right
 parts Goes lines v left right marks e f = subst (λ l. Parts Goes v l right) (sym e) (subst (Parts Goes v (giving lines v)) (sym f) record {
-  went = λ i g o. at_common v.owns lines i ∙ both_true (at false v.owns i) (at false lines i) o (marks.here i g);
+  went = λ i g o. at_common v.owns lines i ∙ and-both (at false v.owns i) (at false lines i) o (marks.here i g);
   gone = λ i g o. both_ways (at false lines i) (not-true (at false lines i) (and_parts (at false v.owns i) (not (at false lines i)) (sym (at_without v.owns lines i) ∙ o)).1) (marks.here i g);
-  stayed = λ i n o. at_without v.owns lines i ∙ both_true (at false v.owns i) (not (at false lines i)) o (ap not (marks.elsewhere i n));
+  stayed = λ i n o. at_without v.owns lines i ∙ and-both (at false v.owns i) (not (at false lines i)) o (ap not (marks.elsewhere i n));
   only = λ i n o. both_ways (at false lines i) (marks.elsewhere i n) (and_parts (at false v.owns i) (at false lines i) (sym (at_common v.owns lines i) ∙ o)).1;
   had = λ i. (
     (λ o. (and_parts (at false v.owns i) (not (at false lines i)) (sym (at_without v.owns lines i) ∙ o)).0),

@@ -5,7 +5,7 @@ use Rattle.std.proofs.lemmas.List.{map-append}
 use Rattle.std.proofs.lemmas.List.Elements.{All-contains, Contains-append_cases}
 use Rattle.joint_model.specs.Components.{IsMember, circle, first_at, mirror_edges}
 use Rattle.joint_model.specs.PeerReplay.{PeerReplay, strong_peers}
-use Rattle.joint_model.proofs.Members.{at-Contains, Contains-flat_map_cases, Contains-map_cases}
+use Rattle.joint_model.proofs.Members.{at-Contains, Contains-flat_map_cases, Contains-map_cases, take-next}
 use Rattle.joint_laws.specs.PeerInvariants.{IsPeerKept}
 use Rattle.joint_laws.proofs.Circles.{circle-ends, first-there}
 use Rattle.bridge_graph.specs.declared.graph.Node.{Node}
@@ -15,7 +15,7 @@ use Rattle.peer_side.specs.Mirrors.{AreEndsStrong}
 use Rattle.peer_side.specs.Sides.{PeerModel, Reserve}
 use Rattle.xref_list.specs.Listing.{IsBetween, IsListing}
 use Rattle.peer_mirror.specs.Carried.{AreBridgeNodes, AreHandlesStrong, carried_to_peers, peer_of_node, with_pushed}
-use Rattle.peer_mirror.proofs.Nodes.{peer_of_node-is, strong-node, take-next}
+use Rattle.peer_mirror.proofs.Nodes.{peer_of_node-is, strong-node}
 
 -- the ends of a mirror edge are members
 pub edge-ends : (P : ℕ → Type 0) (comps : List (List ℕ)) (pairs : List (ℕ × ℕ)) → IsListing comps pairs → ((i x : ℕ) → IsMember comps i x → P x) → (a b : ℕ) → Contains (mirror_edges comps pairs) (a, b) → P a × P b

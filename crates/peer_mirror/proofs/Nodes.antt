@@ -12,7 +12,7 @@ use Rattle.joint_model.specs.Heaps.{IsLive, numbered_at}
 use Rattle.joint_model.specs.Peers.{Issued, peer_of, held, strong}
 use Rattle.joint_model.specs.PeerReplay.{PeerReplay, TableRow, row_of, strong_peers, table_target}
 use Rattle.joint_model.proofs.Deciding.{none_some}
-use Rattle.joint_model.proofs.Members.{Contains-at, Contains-flat_map, Contains-here}
+use Rattle.joint_model.proofs.Members.{Contains-at, Contains-flat_map, Contains-here, take-next}
 use Rattle.joint_model.proofs.Numbered.{numbered-within}
 use Rattle.joint_laws.specs.PeerInvariants.{IsPeerKept, IsTabled, IsIssued}
 use Rattle.joint_laws.proofs.MarkingKeeping.{strong-listed}
@@ -21,6 +21,7 @@ use Rattle.bridge_graph.specs.Handles.{handle_at, handles_of}
 use Rattle.bridge_graph.specs.Parts.{HasNode, IsBridge}
 use Rattle.peer_side.specs.Mirroring.{strong_row}
 use Rattle.peer_mirror.specs.Carried.{AreHandlesStrong, peer_of_node}
+use Rattle.peer_side.proofs.Steps.{row-tabled}
 
 -- what holds of a bridge node: its handle, and the peer under it
 pub record IsStrongNode (s : PeerReplay) (nodes : List Node) (i : ℕ) : Type 0 where
@@ -36,11 +37,6 @@ some-there : (o : Option HNum) → IsSome o → (h : HNum) × (o ≡ Some h)
 some-there None e = absurd (let f : ⊥ = cc in f)
 some-there (Some h) e = (h, refl)
 
--- a row that is in the table
-tabled-of : (o : Option (Option TableRow)) (row : TableRow) → elim o [ None ↦ None | Some r ↦ r ] ≡ Some row → o ≡ Some (Some row)
-tabled-of None row e = absurd (none_some row e)
-tabled-of (Some o) row e = ap (λ z. Some z) e
-
 -- a handle of the table was issued
 issued-of : (s : PeerReplay) → IsPeerKept s → (h : ℕ) (row : TableRow) → IsTabled s.table h row → (i : Issued) × IsIssued s.peers.issued h i
 issued-of s k zero row t = absurd (none_some (Some row) t)
@@ -54,7 +50,7 @@ strong-node s nodes i k all b =
     let h = some-there b.node.handle b.held in
     let there : Contains (handles_of nodes) h.0 = Contains-flat_map (λ (n : Node). option_to_list n.handle) nodes b.node h.0 (Contains-at nodes i b.node b.there) (subst (λ o. Contains (option_to_list o) h.0) (sym h.1) (Contains-here h.0 [])) in
     let row : row_of s h.0.0 ≡ Some strong_row = All-contains (λ (z : HNum). row_of s z.0 ≡ Some strong_row) (handles_of nodes) h.0 all there in
-    let tabled : IsTabled s.table h.0.0 strong_row = tabled-of (numbered_at s.table h.0.0) strong_row row in
+    let tabled : IsTabled s.table h.0.0 strong_row = row-tabled (numbered_at s.table h.0.0) strong_row row in
     let issue = issued-of s k h.0.0 strong_row tabled in
     let peer : peer_of s.peers.issued h.0.0 ≡ Some issue.0.peer = ap (λ (o : Option Issued). elim o [ None ↦ None | Some j ↦ Some j.peer ]) issue.1 in
     record {
@@ -85,15 +81,6 @@ target-is s nodes i h o n at shown = sym shown ∙ handle-target s nodes i h n a
 
 pub same-peer : (s : PeerReplay) (nodes : List Node) (i : ℕ) (h : HNum) (o : Option PNum) (n : IsStrongNode s nodes i) → HasNode nodes i (λ m. m.handle ≡ Some h) → table_target s h.0 ≡ number_of o → (p : PNum) → o ≡ Some p → p.0 ≡ n.peer
 same-peer s nodes i h o n at shown p is = same_Some p.0 n.peer (ap number_of (sym is) ∙ target-is s nodes i h o n at shown)
-
--- the elements below place i and the one there
-pub take-next : {X : Type 0} (xs : List X) (i : ℕ) (x : X) → slice_get xs i ≡ Some x → take (i + 1) xs ≡ take i xs ++ x ∷ []
-take-next {X} xs i x e = (let next : i + 1 ≡ suc i = omega arith in ap (λ k. take k xs) next ∙ by xs i e)
-  where
-    by : (ys : List X) (k : ℕ) → slice_get ys k ≡ Some x → take (suc k) ys ≡ take k ys ++ x ∷ []
-    by [] k e = absurd (none_some x e)
-    by (y ∷ ys) zero e = ap (λ z. z ∷ []) (same_Some y x e)
-    by (y ∷ ys) (suc k) e = ap (λ zs. y ∷ zs) (by ys k e)
 
 -- the handles of one node more
 handles-next : (nodes : List Node) (i : ℕ) (o : Option HNum) → HasNode nodes i (λ n. n.handle ≡ o) → length (handles_of (take (i + 1) nodes)) ≡ length (handles_of (take i nodes)) + length (option_to_list o)

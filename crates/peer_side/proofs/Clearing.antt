@@ -17,11 +17,11 @@ use Rattle.joint_model.specs.PeerReplay.{TableRow, cleared_rows}
 use Rattle.joint_model.proofs.Numbered.{numbered-made}
 use Rattle.global_handles.specs.declared.HandleRow.{HandleRow}
 use Rattle.global_handles.specs.Rows.{IsWeakFor, cleared_for, cleared_row, row_in}
-use Rattle.reachability.proofs.Marking.{take-next}
 use Rattle.peer_side.specs.declared.rows.Issue.{Issue}
 use Rattle.peer_side.specs.Marking.{cleared_on}
 use Rattle.peer_side.specs.Rows.{AreRowsIssued, issued_as, row_as, table_to}
 use Rattle.peer_side.proofs.Roots.{seen_in, table_to-count}
+use Rattle.joint_model.proofs.Members.{take-next}
 
 -- whether a peer is one of those of the list
 on-true : (xs : List ℕ) (r : HandleRow) → list_any (nat_eq r.peer.0) xs ≡ true → cleared_on xs r ≡ cleared_row r

@@ -25,7 +25,7 @@ use Rattle.joint_model.specs.PeerReplay.{PeerReplay, Marking, Mirror, IsSweep, o
 use Rattle.joint_model.specs.Sides.{GoesOn, peer_rules}
 use Rattle.joint_model.specs.Told.{Told, nothing, sweep_of}
 use Rattle.joint_model.specs.Walks.{Reached}
-use Rattle.joint_model.proofs.Deciding.{none_some}
+use Rattle.joint_model.proofs.Deciding.{none_some, or_right}
 use Rattle.joint_laws.proofs.PeerEntries.{MirrorsSafely}
 use Rattle.reachability.specs.Marks.{IsMarked}
 use Rattle.row_heap.specs.Marks.{AreEndsLive, AreWhite, EdgeOf}
@@ -125,13 +125,9 @@ same-thread (M a) = eq-eqb a a refl
 same-thread (P a) = eq-eqb a a refl
 same-thread C = refl
 
-or-true : (a b : Bool) → b ≡ true → (a || b) ≡ true
-or-true true b e = refl
-or-true false b e = e
-
 may-end : (t u : Thread) → ((t ≡ C) ⊎ (t ≡ u)) → (is_thread t C || is_thread t u) ≡ true
 may-end t u (inl e) = subst (λ z. (is_thread z C || is_thread z u) ≡ true) (sym e) refl
-may-end t u (inr e) = or-true (is_thread t C) (is_thread t u) (subst (λ z. is_thread t z ≡ true) e (same-thread t))
+may-end t u (inr e) = or_right (is_thread t C) (is_thread t u) (subst (λ z. is_thread t z ≡ true) e (same-thread t))
 
 -- a marking that may be ended is at its end
 pub ended-whole : (rows : Rows) (o : Option OpenMarking) (n : ℕ) (m : Mirrors) (stock : Stock) (t : Thread) (j : Number) → IsSide rows o n m stock → IsEnded (marking_in rows.issued stock.entries o) t j → IsWholeMarking rows

@@ -24,14 +24,11 @@ use Rattle.global_handles.proofs.Rows.{row_in-below, without-below}
 use Rattle.row_heap.specs.Rows.{HeapRows}
 use Rattle.peer_side.specs.declared.rows.Issue.{Issue}
 use Rattle.peer_side.specs.Rows.{table_to, row_as, rows_with, with_rows, issued_as, issued_to, number_of, AreRowsIssued}
+use Rattle.peer_side.proofs.Roots.{table_to-count}
 
 -- the row of a number, as the replay has it
 abbrev pub seen_in : List HandleRow → ℕ → Option TableRow
 seen_in rows n = option_map row_as (row_in rows record { 0 = n })
-
-pub table_to-length : (rows : List HandleRow) (n : ℕ) → length (table_to rows n) ≡ n
-table_to-length rows zero = refl
-table_to-length rows (suc n) = length-append (table_to rows n) (seen_in rows (suc n) ∷ []) ∙ omega (arith, table_to-length rows n)
 
 -- the rows are seen by their numbers alone
 pub table_to-same : (old new : List HandleRow) (n : ℕ) → ((k : ℕ) → k ≤ n → row_in new record { 0 = k } ≡ row_in old record { 0 = k }) → table_to new n ≡ table_to old n
@@ -62,19 +59,19 @@ table_to-set old new (suc i) (suc n) x others here =
     let before : table_to new n ≡ set (table_to old n) i x = table_to-set old new (suc i) n x others here in
     elim (cases_order i n) [
       | inl same ↦
-          let past : set (table_to old n) i x ≡ table_to old n = set_past (table_to old n) i x (omega (arith, table_to-length old n)) in
-          let at : length (table_to old n) ≡ i = omega (arith, table_to-length old n) in
+          let past : set (table_to old n) i x ≡ table_to old n = set_past (table_to old n) i x (omega (arith, table_to-count old n)) in
+          let at : length (table_to old n) ≡ i = omega (arith, table_to-count old n) in
           let last : seen_in new (suc n) ≡ x = ap (λ k. seen_in new (suc k)) (sym same) ∙ here in
           let seam : set (table_to old n ++ seen_in old (suc n) ∷ []) (length (table_to old n)) x ≡ table_to old n ++ x ∷ [] = set-append_seam (table_to old n) (seen_in old (suc n)) [] x in
           ap (λ t. t ++ seen_in new (suc n) ∷ []) (before ∙ past) ∙ (ap (λ y. table_to old n ++ y ∷ []) last ∙ (sym seam ∙ ap (λ k. set (table_to old n ++ seen_in old (suc n) ∷ []) k x) at))
       | inr (inl less) ↦
           let last : seen_in new (suc n) ≡ seen_in old (suc n) = ap (λ r. option_map row_as r) (others (suc n) (omega arith)) in
-          let left : set (table_to old n ++ seen_in old (suc n) ∷ []) i x ≡ set (table_to old n) i x ++ seen_in old (suc n) ∷ [] = set-append_left (table_to old n) (seen_in old (suc n) ∷ []) i x (omega (arith, table_to-length old n)) in
+          let left : set (table_to old n ++ seen_in old (suc n) ∷ []) i x ≡ set (table_to old n) i x ++ seen_in old (suc n) ∷ [] = set-append_left (table_to old n) (seen_in old (suc n) ∷ []) i x (omega (arith, table_to-count old n)) in
           ap (λ t. t ++ seen_in new (suc n) ∷ []) before ∙ (ap (λ y. set (table_to old n) i x ++ y ∷ []) last ∙ sym left)
       | inr (inr more) ↦
           let last : seen_in new (suc n) ≡ seen_in old (suc n) = ap (λ r. option_map row_as r) (others (suc n) (omega arith)) in
-          let past : set (table_to old n) i x ≡ table_to old n = set_past (table_to old n) i x (omega (arith, table_to-length old n)) in
-          let all : set (table_to old n ++ seen_in old (suc n) ∷ []) i x ≡ table_to old n ++ seen_in old (suc n) ∷ [] = set_past (table_to old n ++ seen_in old (suc n) ∷ []) i x (omega (arith, table_to-length old n, length-append (table_to old n) (seen_in old (suc n) ∷ []))) in
+          let past : set (table_to old n) i x ≡ table_to old n = set_past (table_to old n) i x (omega (arith, table_to-count old n)) in
+          let all : set (table_to old n ++ seen_in old (suc n) ∷ []) i x ≡ table_to old n ++ seen_in old (suc n) ∷ [] = set_past (table_to old n ++ seen_in old (suc n) ∷ []) i x (omega (arith, table_to-count old n, length-append (table_to old n) (seen_in old (suc n) ∷ []))) in
           ap (λ t. t ++ seen_in new (suc n) ∷ []) (before ∙ past) ∙ (ap (λ y. table_to old n ++ y ∷ []) last ∙ sym all)
     ]
 
@@ -94,7 +91,7 @@ row_in-shown rows (suc i) zero row at = absurd (none_some (Some row) at)
 row_in-shown rows (suc i) (suc n) row at = elim (numbered-push_cases (table_to rows n) (seen_in rows (suc n)) (suc i) (Some row) at) [
   | inl w ↦ row_in-shown rows (suc i) n row w
   | inr w ↦
-      let same : suc i ≡ suc n = omega (arith, w.0, table_to-length rows n) in
+      let same : suc i ≡ suc n = omega (arith, w.0, table_to-count rows n) in
       let found = mapped (row_in rows record { 0 = suc n }) row w.1 in
       (found.0, ap (λ k. row_in rows record { 0 = k }) same ∙ found.1)
 ]
@@ -145,9 +142,9 @@ table_to-at : (rows : List HandleRow) (h n : ℕ) → 1 ≤ h → h ≤ n → nu
 table_to-at rows h zero low high = absurd (omega (arith, low, high))
 table_to-at rows h (suc n) low high = elim (cases_order h (suc n)) [
   | inl same ↦
-      let at : length (table_to rows n) + 1 ≡ h = omega (arith, table_to-length rows n) in
+      let at : length (table_to rows n) + 1 ≡ h = omega (arith, table_to-count rows n) in
       ap (λ k. numbered_at (table_to rows n ++ seen_in rows (suc n) ∷ []) k) (sym at) ∙ (numbered-push_new (table_to rows n) (seen_in rows (suc n)) ∙ ap (λ k. Some (seen_in rows k)) (sym same))
-  | inr (inl less) ↦ numbered-push_old (table_to rows n) (seen_in rows (suc n)) h (omega (arith, table_to-length rows n)) ∙ table_to-at rows h n low (omega arith)
+  | inr (inl less) ↦ numbered-push_old (table_to rows n) (seen_in rows (suc n)) h (omega (arith, table_to-count rows n)) ∙ table_to-at rows h n low (omega arith)
   | inr (inr more) ↦ absurd (omega (arith, more, high))
 ]
 
@@ -155,7 +152,7 @@ pub row-shown : (rows : List HandleRow) (h n : ℕ) → RisesBetween 0 n rows �
 row-shown rows zero n rises = ap (λ o. option_map row_as o) (sym (row_in-below 0 n rows record { 0 = zero } (omega arith) rises))
 row-shown rows (suc k) n rises = elim (cases_lt n (suc k)) [
   | inl past ↦
-      let none : numbered_at (table_to rows n) (suc k) ≡ None = numbered-past (table_to rows n) (suc k) (omega (arith, table_to-length rows n)) in
+      let none : numbered_at (table_to rows n) (suc k) ≡ None = numbered-past (table_to rows n) (suc k) (omega (arith, table_to-count rows n)) in
       ap (λ o. elim o [ None ↦ None | Some row ↦ row ]) none ∙ ap (λ o. option_map row_as o) (sym (row_in-above 0 n rows record { 0 = suc k } past rises))
   | inr within ↦ ap (λ o. elim o [ None ↦ None | Some row ↦ row ]) (table_to-at rows (suc k) n (omega arith) (omega arith))
 ]

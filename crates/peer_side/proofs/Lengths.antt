@@ -19,6 +19,7 @@ use Rattle.row_heap.specs.Rows.{HeapRows}
 use Rattle.global_handles.specs.Rows.{Table}
 use Rattle.peer_side.specs.declared.rows.Issue.{Issue}
 use Rattle.peer_side.specs.Rows.{IsShort, AreShort, ArePeerRows}
+use Rattle.peer_side.proofs.Fitting.{ArePeerRows-marked}
 
 pub short-of : (h : Heap) (x : ℕ) → AreShort h → length (fields_of h x) ≤ 255
 short-of h zero short = omega arith
@@ -68,33 +69,23 @@ field_set-like h v i w short = option-cases (IsLike h) (answer says.Empty h) (λ
     written x (Some u) = option-cases (IsLike h) (answer says.Empty h) (λ y. answer says.Ok (with_field h x i (Some y))) (slot h.vars u) (short, refl)
         (λ y. (short-field h x i (Some y) short, with_field-length h x i (Some y)))
 
--- what the rows keep is kept where no peer's fields change
-pub kept-alike : (old new : HeapRows) (sorts : List Sort) (issued : List Issue) (table : Table) → new.heap.fields ≡ old.heap.fields → ArePeerRows old sorts issued table → ArePeerRows new sorts issued table
-kept-alike old new sorts issued table same w = record {
-  rising = w.rising;
-  places = w.places;
-  rows_issued = w.rows_issued;
-  sorted = w.sorted ∙ ap length (sym same);
-  short = subst (λ fs. All IsShort fs) (sym same) w.short;
-}
-
 did-fields : (operation : (ℕ → Reply) → Answered Heap) (d : Done) (old new : Heap) → Did operation d new → (operation peer_name).state.fields ≡ old.fields → new.fields ≡ old.fields
 did-fields operation d old new did same = ap (λ (a : Answered Heap). a.state.fields) (sym (did peer_name)) ∙ same
 
 pub copy-keeps : (old new : HeapRows) (sorts : List Sort) (issued : List Issue) (table : Table) (d : Done) (v w : ℕ) → Did (λ name. copied name old.heap v w) d new.heap → ArePeerRows old sorts issued table → ArePeerRows new sorts issued table
-copy-keeps old new sorts issued table d v w did kept = kept-alike old new sorts issued table (did-fields (λ name. copied name old.heap v w) d old.heap new.heap did (copied-fields peer_name old.heap v w)) kept
+copy-keeps old new sorts issued table d v w did kept = ArePeerRows-marked old new sorts issued table (did-fields (λ name. copied name old.heap v w) d old.heap new.heap did (copied-fields peer_name old.heap v w)) kept
 
 pub get-keeps : (old new : HeapRows) (sorts : List Sort) (issued : List Issue) (table : Table) (d : Done) (v w i : ℕ) → Did (λ name. field_got name old.heap v w i) d new.heap → ArePeerRows old sorts issued table → ArePeerRows new sorts issued table
-get-keeps old new sorts issued table d v w i did kept = kept-alike old new sorts issued table (did-fields (λ name. field_got name old.heap v w i) d old.heap new.heap did (got-fields peer_name old.heap v w i)) kept
+get-keeps old new sorts issued table d v w i did kept = ArePeerRows-marked old new sorts issued table (did-fields (λ name. field_got name old.heap v w i) d old.heap new.heap did (got-fields peer_name old.heap v w i)) kept
 
 pub load-keeps : (old new : HeapRows) (sorts : List Sort) (issued : List Issue) (table : Table) (d : Done) (v x : ℕ) → Did (λ name. loaded name old.heap v x) d new.heap → ArePeerRows old sorts issued table → ArePeerRows new sorts issued table
-load-keeps old new sorts issued table d v x did kept = kept-alike old new sorts issued table (did-fields (λ name. loaded name old.heap v x) d old.heap new.heap did (read-fields peer_name old.heap v (slot old.heap.statics x))) kept
+load-keeps old new sorts issued table d v x did kept = ArePeerRows-marked old new sorts issued table (did-fields (λ name. loaded name old.heap v x) d old.heap new.heap did (read-fields peer_name old.heap v (slot old.heap.statics x))) kept
 
 pub store-keeps : (old new : HeapRows) (sorts : List Sort) (issued : List Issue) (table : Table) (d : Done) (x : ℕ) (v : Option ℕ) → Did (λ name. stored old.heap x v) d new.heap → ArePeerRows old sorts issued table → ArePeerRows new sorts issued table
-store-keeps old new sorts issued table d x v did kept = kept-alike old new sorts issued table (did-fields (λ name. stored old.heap x v) d old.heap new.heap did (stored-fields old.heap x v)) kept
+store-keeps old new sorts issued table d x v did kept = ArePeerRows-marked old new sorts issued table (did-fields (λ name. stored old.heap x v) d old.heap new.heap did (stored-fields old.heap x v)) kept
 
 pub drop-keeps : (old new : HeapRows) (sorts : List Sort) (issued : List Issue) (table : Table) (d : Done) (v : ℕ) → Did (λ name. dropped old.heap v) d new.heap → ArePeerRows old sorts issued table → ArePeerRows new sorts issued table
-drop-keeps old new sorts issued table d v did kept = kept-alike old new sorts issued table (did-fields (λ name. dropped old.heap v) d old.heap new.heap did refl) kept
+drop-keeps old new sorts issued table d v did kept = ArePeerRows-marked old new sorts issued table (did-fields (λ name. dropped old.heap v) d old.heap new.heap did refl) kept
 
 pub set-keeps : (old new : HeapRows) (sorts : List Sort) (issued : List Issue) (table : Table) (d : Done) (v i : ℕ) (w : Option ℕ) → Did (λ name. field_set old.heap v i w) d new.heap → ArePeerRows old sorts issued table → ArePeerRows new sorts issued table
 set-keeps old new sorts issued table d v i w did kept =

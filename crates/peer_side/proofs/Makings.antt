@@ -21,6 +21,7 @@ use Rattle.joint_model.specs.Told.{Told, nothing, sweep_of}
 use Rattle.joint_model.proofs.Deciding.{true_false}
 use Rattle.peer_side.specs.Makings.{RefusesMarking, collect_makings, gone_since}
 use Rattle.peer_side.specs.Sides.{begins, ends, IsEnded, IsMarkingOf}
+use Rattle.joint_model.proofs.HeapLemmas.{same_thread}
 
 -- one entry is one in turn
 pub turn-one : {D : Type 0} (d : Drawing D) (before after : D) (old new : Side PeerReplay) (m : Made) (told : Told) → AddsLawful peer_rules d before after old new m told → AddsInTurn peer_rules d before after old new (record { made = m; told = told } ∷ [])
@@ -88,24 +89,12 @@ none-passes s t i w caller open' = record { caller = caller; event = tt; allowed
     by None w = refl
     by (Some mk) w = absurd w
 
--- threads that are told to be the same are
-same-thread : (a b : Thread) → is_thread a b ≡ true → a ≡ b
-same-thread (M a) (M b) e = ap M (eqb-true a b e)
-same-thread (P a) (P b) e = ap P (eqb-true a b e)
-same-thread C C e = refl
-same-thread (M a) (P b) e = absurd (true_false (sym e))
-same-thread (M a) C e = absurd (true_false (sym e))
-same-thread (P a) (M b) e = absurd (true_false (sym e))
-same-thread (P a) C e = absurd (true_false (sym e))
-same-thread C (M b) e = absurd (true_false (sym e))
-same-thread C (P b) e = absurd (true_false (sym e))
-
 other-thread : (t u : Thread) → ((t ≡ C) ⊎ (t ≡ u) → ⊥) → (is_thread t C || is_thread t u) ≡ false
 other-thread t u apart = by (is_thread t C) refl (is_thread t u) refl
   where
     by : (a : Bool) → is_thread t C ≡ a → (b : Bool) → is_thread t u ≡ b → (is_thread t C || is_thread t u) ≡ false
-    by true e b f = absurd (apart (inl (same-thread t C e)))
-    by false e true f = absurd (apart (inr (same-thread t u f)))
+    by true e b f = absurd (apart (inl (same_thread t C e)))
+    by false e true f = absurd (apart (inr (same_thread t u f)))
     by false e false f = ap (λ x. x || is_thread t u) e ∙ f
 
 -- and where another thread's is open

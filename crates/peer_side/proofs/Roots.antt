@@ -9,13 +9,12 @@ use Rattle.joint_model.specs.Heaps.{Heap, InSlot, numbered_at}
 use Rattle.joint_model.specs.Peers.{Issued, Strength, strong, weak, is_strong}
 use Rattle.joint_model.specs.PeerReplay.{TableRow, strong_peers}
 use Rattle.joint_model.specs.Walks.{Reached}
-use Rattle.joint_model.proofs.Members.{Contains-cons_cases, Contains-here, Contains-nil, Contains-there}
+use Rattle.joint_model.proofs.Members.{Contains-cons_cases, Contains-here, Contains-nil, Contains-there, take-next}
 use Rattle.joint_model.proofs.Numbered.{numbered-push_old, numbered-push_new}
 use Rattle.joint_model.proofs.WalkLemmas.{Reached-mono}
 use Rattle.joint_laws.proofs.MarkingKeeping.{strong-listed}
 use Rattle.global_handles.specs.declared.HandleRow.{HandleRow}
 use Rattle.global_handles.specs.Rows.{Table, row_in}
-use Rattle.reachability.proofs.Marking.{take-next}
 use Rattle.reachability.specs.Marks.{IsMarked}
 use Rattle.row_heap.specs.Rows.{HeapRows}
 use Rattle.row_marking.specs.Traces.{Greyed, Greying}

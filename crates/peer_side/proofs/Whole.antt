@@ -28,17 +28,13 @@ use Rattle.marking_laws.proofs.MarkFacts.{spared-marked}
 use Rattle.marking_laws.proofs.MarkSweeps.{marks-shut}
 use Rattle.peer_side.specs.Rows.{AreRowsIssued, Rows, issued_as, row_as, strength_as, table_to}
 use Rattle.peer_side.proofs.Roots.{numbered-table}
-
--- the numbers of rows that rise are above the first number, and at most the last one
-rises-within : (low high : ℕ) (rows : List HandleRow) → RisesBetween low high rows → low ≤ high
-rises-within low high [] rises = rises
-rises-within low high (r ∷ rs) rises = omega (arith, rises.0, rises-within r.number.0 high rs rises.1)
+use Rattle.global_handles.proofs.Lookups.{RisesBetween-within}
 
 rises-at : (low high : ℕ) (rows : List HandleRow) (k : ℕ) (r : HandleRow) → RisesBetween low high rows → slice_get rows k ≡ Some r → (low < r.number.0) × (r.number.0 ≤ high)
 rises-at low high [] k r rises at = absurd (none-some r at)
 rises-at low high (x ∷ rs) zero r rises at = (
   subst (λ (q : HandleRow). low < q.number.0) (same_Some x r at) rises.0,
-  subst (λ (q : HandleRow). q.number.0 ≤ high) (same_Some x r at) (rises-within x.number.0 high rs rises.1),
+  subst (λ (q : HandleRow). q.number.0 ≤ high) (same_Some x r at) (RisesBetween-within x.number.0 high rs rises.1),
 )
 rises-at low high (x ∷ rs) (suc k) r rises at = (let w = rises-at x.number.0 high rs k r rises.1 at in (omega (arith, rises.0, w.0), w.1))
 

@@ -3,7 +3,7 @@
 -- is marked was marked before or is reached, the roots are marked, and a marked node waits or has all its
 -- targets marked. Once none waits, the marks are closed under the edges, so each reached node is marked, by
 -- an induction along its walk.
-use Rattle.std.proofs.Common.{◌≡◌, ℕ, zero, suc, ◌+◌, ◌<◌, ◌≤◌, ◌↔◌, ◌⊎◌, inl, inr, Bool, true, false, List, [], ◌∷◌, ◌++◌, length, Option, Some, None, set, take, get_or, replicate, refl, sym, ap, subst, ◌∙◌, arith, length-append}
+use Rattle.std.proofs.Common.{◌≡◌, ℕ, zero, suc, ◌+◌, ◌<◌, ◌≤◌, ◌↔◌, ◌⊎◌, inl, inr, Bool, true, false, List, [], ◌∷◌, ◌++◌, length, Option, Some, None, set, take, get_or, replicate, refl, sym, ap, subst, ◌∙◌, arith, length-append, not}
 use Rattle.std.specs.Prelude.{Contains, slice_get}
 use Rattle.std.proofs.Math.ListN.{length-set}
 use Rattle.std.proofs.lemmas.List.Elements.{Contains-push, Contains-push_cases, Contains-append_left}
@@ -128,10 +128,6 @@ Scans-push_none xs a s b t v = Scans-as (λ k. Contains xs (Some k)) (λ k. Cont
     (λ k r. elim (Contains-push_cases xs None (Some k) r) [ inl h ↦ h | inr h ↦ (let e : ⊥ = cc in absurd e) ])
     (λ k h. Contains-append_left xs (None ∷ []) (Some k) h) v
 
--- the elements below i and the one at i
-pub take-next : {X : Type 0} (xs : List X) (i : ℕ) (x : X) → slice_get xs i ≡ Some x → take (i + 1) xs ≡ take i xs ++ x ∷ []
-take-next xs i x e = take_more xs i x (slice_get_within xs i x e) ∙ ap (λ z. take i xs ++ z ∷ []) (get_or_from_slice_get xs i x x e)
-
 -- the mark that is read at a node
 pub read-mark : (m : List Bool) (y : ℕ) (b : Bool) → y < length m → get_or m y false ≡ b → slice_get m y ≡ Some b
 read-mark m y b l e = slice_get-get_or m y false l ∙ ap (λ z. Some z) e
@@ -186,3 +182,10 @@ Marking-closes start edge before marks i x y e h = elim (i.closed x h) [ inl w �
 pub Marking-ends : (start : ℕ → Type 0) (edge : ℕ → ℕ → Type 0) (before marks : List Bool) → Marking start edge before marks [] → (k : ℕ) → IsMarked marks k ↔ (IsMarked before k ⊎ Reached start edge k)
 Marking-ends start edge before marks i k =
     (i.sound k, λ h. elim h [ inl w ↦ i.kept k w | inr w ↦ Reached-keeps start edge (IsMarked marks) i.roots (Marking-closes start edge before marks i) k w ])
+
+-- a mark is there or not
+pub marked-or : (marks : List Bool) (x : ℕ) → IsMarked marks x ⊎ (IsMarked marks x → ⊥)
+marked-or [] x = inr (λ u. cc)
+marked-or (true ∷ m) zero = inl refl
+marked-or (false ∷ m) zero = inr (λ u. cc)
+marked-or (b ∷ m) (suc x) = marked-or m x

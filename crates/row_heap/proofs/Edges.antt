@@ -133,9 +133,3 @@ seen-unmarked rows others freed vars statics refs follows after room v view is =
     ∙ (ap (λ (l : List ℕ). let w : HeapRows = record { heap = heap_of rows freed vars statics; refs = pairs_in refs; follows = after; room = room; marks = false ∷ map (λ (r : Seen). r.marked) others; links = 0 ∷ l } in w)
     (ap (map (λ (r : Seen). r.link)) is ∙ map-unmarked (λ (r : Seen). r.link) rows (λ r. refl))
     ∙ ap (λ (w : HeapRows). record w { follows = after; marks = false ∷ map (λ (r : Seen). r.marked) others }) view)
-
--- what a slot holds, as an element of the list
-pub slot-at : (xs : List (Option ℕ)) (i : ℕ) (r : Option ℕ) → i < length xs → slot xs i ≡ r → slice_get xs i ≡ Some r
-slot-at xs i r l e =
-    let at : slice_get xs i ≡ Some (get_or xs i None) = slice_get-get_or xs i None l in
-    at ∙ ap (λ z. Some z) (ap (λ o. elim o [ None ↦ None | Some z ↦ z ]) (sym at) ∙ e)

@@ -19,6 +19,7 @@ use Rattle.row_heap.proofs.Freed.{RowsFreed-none, row_at-removed}
 use Rattle.row_heap.proofs.Indexed.{stands-within}
 use Rattle.row_heap.proofs.Sound.{flag-stands, map-kept, map-written, stands-flag}
 use Rattle.row_heap.proofs.Walked.{live-seen, stands-seen}
+use Rattle.reachability.proofs.Marking.{marked-or}
 
 -- a white row stands and has no mark
 pub white-stands : (r : Seen) → is_white r ≡ true → (r.stands ≡ true) × (r.marked ≡ false)
@@ -174,13 +175,6 @@ AreWhite-swept old new freed after vars statics refs follows room cap v view sou
 -- the list is the end of the freed list
 pub swept-end : (v : HeapRows) (freed after swept : List ℕ) → v.heap.freed ≡ freed → after ≡ freed ++ swept → drop (length v.heap.freed) after ≡ swept
 swept-end v freed after swept e is = ap (λ l. drop (length l) after) e ∙ (ap (drop (length freed)) is ∙ drop-append_seam freed swept)
-
--- a mark is there or not
-marked-or : (marks : List Bool) (x : ℕ) → IsMarked marks x ⊎ (IsMarked marks x → ⊥)
-marked-or [] x = inr (λ u. cc)
-marked-or (true ∷ m) zero = inl refl
-marked-or (false ∷ m) zero = inr (λ u. cc)
-marked-or (b ∷ m) (suc x) = marked-or m x
 
 -- after a marking that came to its end the objects without a mark may be freed
 pub white-can_free : (v : HeapRows) (xs : List ℕ) → AreWhite v xs → ((x : ℕ) → InSlot v.heap x → IsMarked v.marks x) → IsClosed (EdgeOf v) v.marks → CanFree v.heap xs

@@ -19,7 +19,6 @@ use Rattle.joint_model.specs.Lines.{IsThread}
 use Rattle.joint_model.specs.PeerReplay.{is_thread}
 use Rattle.joint_model.proofs.Joining.{same_or_not, slice_get-set_same, slice_get-set_other}
 use Rattle.joint_model.proofs.Members.{All-members, Contains-here, Contains-there, Contains-nil, Contains-cons_cases, Contains-map, Contains-map_cases}
-use Rattle.joint_laws.proofs.PeerEntries.{same_thread}
 use Rattle.bridge_script.proofs.Fitting.{lawful_thread}
 use Rattle.order_table.specs.declared.views.KeptEntry.{KeptEntry}
 use Rattle.order_table.specs.declared.views.View.{View}
@@ -37,6 +36,8 @@ use Rattle.script_laws.proofs.Growing.{held_lines_grow}
 use Rattle.script_laws.proofs.ThreadOrder.{all-by, none-by}
 use Rattle.run_laws.proofs.ByThreads.{is-either}
 use Rattle.run_laws.specs.Serial.{CallerAdds, ToldCallersAdd, DriversAdd, AreOthers, IsRunSoFar, NothingIsRun, OthersRunOn, DriverRunsOn}
+use Rattle.joint_model.proofs.HeapLemmas.{same_thread}
+use Rattle.order_table.proofs.Lines.{below_front}
 
 -- beginnings of lists
 pub prefix-then : {A : Type 0} (xs ys zs : List A) → IsPrefix xs ys → IsPrefix ys zs → IsPrefix xs zs
@@ -48,14 +49,10 @@ prefix-map f xs ys p = (map f p.0, sym (map-append f xs p.0) ∙ ap (map f) p.1)
 pub prefix-in : {A : Type 0} (xs ys : List A) (x : A) → IsPrefix xs ys → Contains xs x → Contains ys x
 prefix-in xs ys x p c = subst (λ l. Contains l x) p.1 (Contains-append_left xs p.0 x c)
 
-below-first : (n : ℕ) (xs ys : List KeptEntry) → IsBelow n (xs ++ ys) → IsBelow n xs
-below-first n [] ys b = tt
-below-first n (x ∷ xs) ys b = (b.0, below-first n xs ys b.1)
-
 -- what is above more is above less
 above-less : (old new : View) (es : List Entry) → ((i : ℕ) → IsPrefix (known old i) (known new i)) → AreAbove new es → AreAbove old es
 above-less old new [] p a = tt
-above-less old new (e ∷ es) p a = (λ i. below-first e.number (known old i) (p i).0 (subst (IsBelow e.number) (sym (p i).1) (a.0 i)), above-less old new es p a.1)
+above-less old new (e ∷ es) p a = (λ i. below_front e.number (known old i) (p i).0 (subst (IsBelow e.number) (sym (p i).1) (a.0 i)), above-less old new es p a.1)
 
 pub told_callers_add : ToldCallersAdd
 told_callers_add driver told heard before after ended left es tells hears same makes tells' hears' =

@@ -26,12 +26,12 @@ use Rattle.joint_history.proofs.Ended.{thread_at_place}
 use Rattle.joint_history.proofs.LastLines.{place_small}
 use Rattle.script_laws.specs.Growing.{numbers_of}
 use Rattle.script_laws.specs.Holding.{Standing, opening_standing, AreLeft, HoldsInOrder, HoldsLines, numbered_from, entries_by}
-use Rattle.script_laws.proofs.Events.{caller-is}
 use Rattle.script_laws.proofs.Growing.{held_lines_end, rising_entries_are_one}
 use Rattle.script_laws.proofs.ThreadOrder.{thread_itself}
 use Rattle.run_laws.proofs.ByThreads.{made_is_by, is-either}
 use Rattle.run_laws.proofs.InOrder.{own-with, own-without, not-driver, all-rise, all-threads}
 use Rattle.run_laws.specs.Serial.{CallerAdds, AreOthers, IsRunSoFar, RunsHoldScript, AllAreGiven}
+use Rattle.known_laws.proofs.Lists.{event-thread}
 
 -- each thread has its caller among all of them
 record Given (others : List Pass) (driver : Pass) (t : Thread) : Type 0 where
@@ -96,7 +96,7 @@ filter-rise f (x ∷ es) r = by (f x) (filter-rise f es r.1)
 pub linked-threads : (s : Linkage) (ns : List Noted) → AllMayCome s ns → (e : Entry) → Contains (entries ns) e → IsThread e.made.caller
 linked-threads s [] a e c = absurd (Contains-nil e c)
 linked-threads s (n ∷ ns) a e c = ⊎_elim
-    (λ (q : n.entry ≡ e). subst (λ (z : Entry). IsThread z.made.caller) q (caller-is n.entry.made.caller n.entry.made.op a.0.event))
+    (λ (q : n.entry ≡ e). subst (λ (z : Entry). IsThread z.made.caller) q (event-thread n.entry.made.caller n.entry.made.op a.0.event))
     (λ d. linked-threads (linkage_after s n) ns a.1 e d)
     (Contains-cons_cases n.entry (entries ns) e c)
 

@@ -23,7 +23,6 @@ use Rattle.joint_model.specs.Linked.{opening_linkage}
 use Rattle.joint_model.specs.PeerReplay.{is_thread}
 use Rattle.joint_model.specs.Phases.{next_phase, phases_left, ArePhases}
 use Rattle.joint_model.proofs.Members.{Contains-here, Contains-there, Contains-nil, Contains-cons_cases, Contains-map, Contains-map_cases, Contains-filter_from, Contains-filter_to}
-use Rattle.joint_laws.proofs.PeerEntries.{same_thread}
 use Rattle.known_laws.specs.Lists.{made_by}
 use Rattle.order_table.specs.declared.views.View.{View}
 use Rattle.joint_history.specs.Callers.{Pass, own}
@@ -35,7 +34,7 @@ use Rattle.script_laws.specs.Holding.{Standing, opening_standing, phase_after, s
 use Rattle.script_laws.specs.Ending.{Resolves, ResolveComes, IsEnded, AllCyclesEnd}
 use Rattle.script_laws.proofs.AllThreads.{is_one, no-lines}
 use Rattle.script_laws.proofs.Ending.{EndsFrom, lines-end}
-use Rattle.script_laws.proofs.Growing.{held_lines_end, idle_leaves_nothing, numbers_go_on, rising_entries_are_one}
+use Rattle.script_laws.proofs.Growing.{held_lines_end, idle_leaves_nothing, numbers_go_on, rising_entries_are_one, behind}
 use Rattle.script_laws.proofs.ThreadEnding.{drivers_ends}
 use Rattle.script_laws.proofs.ThreadOrder.{all-by, line_order_gives_thread_order, none-by, thread_itself}
 use Rattle.run_laws.specs.LastCycle.{cycle_line, AreWholeCycle, HoldsThenCycle, IsRunThenCycle, HasHeardOf, EndsWithCycle, CyclesEndRuns, DrivesCycles, CycleLinesEndRuns}
@@ -44,14 +43,11 @@ use Rattle.run_laws.proofs.ByThreads.{is-either, made_is_by}
 use Rattle.run_laws.proofs.Finals.{kept}
 use Rattle.run_laws.proofs.InOrder.{above-in, prefix-in, rises-last}
 use Rattle.run_laws.proofs.InOrderEnds.{filter-rise, linked-threads, numbered-rise}
+use Rattle.joint_model.proofs.HeapLemmas.{same_thread}
 
 -- the entry is one of the last, or has a smaller number than each of them
 abbrev IsLastOrBelow : List Entry → Entry → Type 0
 IsLastOrBelow last e = Contains last e ⊎ ((f : Entry) → Contains last f → e.number < f.number)
-
--- an entry behind the first of a list whose numbers rise has a greater number
-behind : (x : Entry) (xs : List Entry) → Rises (numbers_of (x ∷ xs)) → (e : Entry) → Contains xs e → x.number < e.number
-behind x xs r e c = All-contains (λ y. x.number < y) (numbers_of xs) e.number r.0 (Contains-map (λ (z : Entry). z.number) xs e c)
 
 -- a list whose numbers rise ends with those of its entries that are above all others
 split : (es last : List Entry) → Rises (numbers_of es) → Rises (numbers_of last) → ((e : Entry) → Contains last e → Contains es e) → ((e : Entry) → Contains es e → IsLastOrBelow last e) → (before : List Entry) × (es ≡ before ++ last)

@@ -15,6 +15,7 @@ use Rattle.joint_history.specs.declared.callers.Receipt.{Receipt}
 use Rattle.joint_history.specs.Operations.{EndsWithFirst, EndsWithSecond, EndsWithThird, IsOperation, IsOperationOf, entry_by, first_of, second_of, third_of}
 use Rattle.script_laws.specs.Holding.{Standing, standing_after, next_event, AreEventsAfter, AreEvents, AreOnLine, AreLine}
 use Rattle.run_laws.specs.Lines.{OperationsAreLines, OthersKeepStanding}
+use Rattle.joint_model.proofs.Deciding.{none_some}
 
 -- acts whose first event follows from the act alone, and whose others follow from its replies
 abbrev IsPlain : Act → Type 0
@@ -65,9 +66,6 @@ second-is a r p = refl
 by-second : (o second : Op) (r : Reply) (next : Option Op) → Some o ≡ Some second → next ≡ third_of o r → next ≡ third_of second r
 by-second o second r next e f = let same : o ≡ second = cc in subst (λ z. next ≡ third_of z r) same f
 
-none-some : {A : Type 0} (x : A) → None ≡ Some x → ⊥
-none-some x e = cc
-
 third-is : (a : Act) (r r' : Reply) (second : Op) → IsPlain a → second_of a r ≡ Some second → next_event a (r ∷ r' ∷ []) ≡ third_of second r'
 third-is act.BeginMark r r' second p e = absurd p
 third-is act.SweepMark r r' second p e = absurd p
@@ -79,7 +77,7 @@ third-is (act.Surface v x) (says.Gripped q h sort f) (says.New m) second p e = b
 third-is (act.Surface v x) (says.Gripped q h sort f) r' second p e = by-second (op.Meet v q h sort f) second r' (Some (op.Release h)) e refl
 third-is (act.Dispose v) (says.H h) r' second p e = by-second (op.Release h) second r' None e refl
 third-is act.Collect (says.Mark j) r' second p e = by-second op.Sweep second r' None e refl
-third-is a r r' second p e = absurd (none-some second e)
+third-is a r r' second p e = absurd (none_some second e)
 
 -- and nothing follows the third
 none-after : (a : Act) (r r' r'' : Reply) → IsPlain a → next_event a (r ∷ r' ∷ r'' ∷ []) ≡ None

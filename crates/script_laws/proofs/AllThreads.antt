@@ -11,12 +11,12 @@ use Rattle.joint_model.specs.Linked.{Linkage, AllMayCome, linkage_after, opening
 use Rattle.joint_model.specs.PeerReplay.{is_thread}
 use Rattle.joint_model.specs.Told.{Noted}
 use Rattle.joint_model.proofs.Members.{Contains-here, Contains-there}
-use Rattle.joint_laws.proofs.PeerEntries.{same_thread}
 use Rattle.bridge_script.proofs.Fitting.{lawful_thread}
 use Rattle.known_laws.specs.Growing.{entries}
 use Rattle.script_laws.specs.Holding.{opening_standing, HoldsLines, numbered_from, lines_of, entries_by}
 use Rattle.script_laws.specs.Growing.{EachThreadIsAll}
-use Rattle.script_laws.proofs.Events.{caller-is}
+use Rattle.known_laws.proofs.Lists.{event-thread}
+use Rattle.joint_model.proofs.HeapLemmas.{same_thread}
 
 -- whether a thread is one that a script can have
 numbered : (n : ℕ) → ((1 ≤ n) × (n ≤ 8)) ⊎ ((1 ≤ n) × (n ≤ 8) → ⊥)
@@ -43,7 +43,7 @@ no-lines t k (x ∷ script) n l =
 no-entries : (t : Thread) (s : Linkage) (ns : List Noted) → (IsThread t → ⊥) → AllMayCome s ns → entries_by t (entries ns) ≡ []
 no-entries t s [] n a = refl
 no-entries t s (x ∷ ns) n a =
-    ap (λ b. if b then x.entry ∷ entries_by t (entries ns) else entries_by t (entries ns)) (not-it t x.entry.made.caller n (caller-is x.entry.made.caller x.entry.made.op a.0.event))
+    ap (λ b. if b then x.entry ∷ entries_by t (entries ns) else entries_by t (entries ns)) (not-it t x.entry.made.caller n (event-thread x.entry.made.caller x.entry.made.op a.0.event))
     ∙ no-entries t (linkage_after s x) ns n a.1
 
 pub each_thread_is_all : EachThreadIsAll

@@ -30,6 +30,7 @@ use Rattle.script_laws.proofs.Reading.{Names, is_word, code}
 use Rattle.script_laws.proofs.Known.{IsBounded, IsKnown, same-event}
 use Rattle.script_laws.proofs.OneNote.{Allowed}
 use Rattle.script_laws.proofs.Sharing.{Comes, phase-op, clear-op, same-cycle}
+use Rattle.joint_laws.proofs.FittingLists.{managed-thread}
 
 -- the peer and the handle that a managed thread is in the midst of
 abbrev peer_in : Doing → ℕ
@@ -305,25 +306,6 @@ of-peer (P n) (inl h) = h
 of-peer (P n) (inr h) = absurd h
 of-peer C h = tt
 
-pub of-managed : (t : Thread) → IsManagedThread t → IsThread t
-of-managed (M n) h = h
-of-managed t h = absurd h
-
 of-driver : (t : Thread) → IsDriver t → IsThread t
 of-driver C h = tt
 of-driver t h = absurd h
-
--- the caller of an event is a thread that a script can have
-pub caller-is : (t : Thread) (o : Op) → IsEvent t o → IsThread t
-caller-is t (op.Line a) e = lawful_thread t a e.0
-caller-is t (op.Make k f) e = of-managed t e.0
-caller-is t (op.Adopt v k f p h) e = of-managed t e.0
-caller-is t (op.Lend v y) e = of-managed t e.0
-caller-is t (op.Land h y) e = of-managed t e.0
-caller-is t (op.Grip y) e = of-managed t e.0
-caller-is t (op.Meet v p h k f) e = of-managed t e.0
-caller-is t (op.Give v) e = of-managed t e.0
-caller-is t (op.Release h) e = of-managed t e
-caller-is t op.Begin e = of-peer t e
-caller-is t op.Sweep e = of-peer t e
-caller-is t o e = of-driver t e

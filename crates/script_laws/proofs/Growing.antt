@@ -43,7 +43,7 @@ pub lines_of_go_on : LinesOfGoOn
 lines_of_go_on t xs ys = filter-append (λ line. is_thread t line.1.0) xs ys
 
 -- each entry behind the first has a greater number
-behind : (x : Entry) (xs : List Entry) → Rises (numbers_of (x ∷ xs)) → (e : Entry) → Contains xs e → x.number < e.number
+pub behind : (x : Entry) (xs : List Entry) → Rises (numbers_of (x ∷ xs)) → (e : Entry) → Contains xs e → x.number < e.number
 behind x xs r e c = All-contains (λ y. x.number < y) (numbers_of xs) e.number r.0 (Contains-map (λ (z : Entry). z.number) xs e c)
 
 -- the first of the one list is the first of the other

@@ -27,8 +27,9 @@ use Rattle.known_laws.proofs.Retelling.{AllPlain, plain_list, PlainComes}
 use Rattle.script_laws.proofs.Sharing.{comes-of}
 use Rattle.script_laws.proofs.Finishing.{notes-tell}
 use Rattle.script_laws.proofs.TextLines.{rest_words, whole_words, line_of, line-first, words-lack, line-whole, no-entry, place-one, words-tell}
-use Rattle.script_laws.proofs.Events.{words-same, caller-is}
+use Rattle.script_laws.proofs.Events.{words-same}
 use Rattle.std.specs.Prelude.{if◌then◌else◌}
+use Rattle.known_laws.proofs.Lists.{event-thread}
 
 -- the phase in a reply
 abbrev phase_in : List (List ℕ) → Phase
@@ -74,7 +75,7 @@ line-one h h' s n n' number a b q =
     append_cancel_left (decimal e'.number) (after_spaces (whole_words h e)) (after_spaces (whole_words h' e')) (ap (λ k. decimal k ++ after_spaces (whole_words h e)) (sym number) ∙ q) in
     let words = words-one (whole_words h e) (whole_words h' e') (words-lack 32 (lit≤ tt) h e) (words-lack 32 (lit≤ tt) h' e') texts in
     let tell = words-tell h h' e e' words in
-    let place = place-one e.made.caller e'.made.caller e.made.index e'.made.index (caller-is e.made.caller e.made.op a.0.event) (let l = a.0.short in omega (arith, l)) tell.0 in
+    let place = place-one e.made.caller e'.made.caller e.made.index e'.made.index (event-thread e.made.caller e.made.op a.0.event) (let l = a.0.short in omega (arith, l)) tell.0 in
     let t = e.made.caller in
     let event' = subst (λ (z : Thread). IsEvent z e'.made.op) (sym place.0) b.0.event in
     let allowed' = subst (λ (z : Thread). Allowed s z e'.made.index e'.made.op e'.made.reply e'.made.cites n'.told) (sym place.0) b.0.order in

@@ -11,9 +11,9 @@ use Rattle.joint_model.specs.declared.lines.Act.TheVariants as act
 use Rattle.joint_model.specs.declared.events.Entry.{Entry}
 use Rattle.joint_model.specs.Lines.{IsLine}
 use Rattle.joint_model.specs.PeerReplay.{is_thread}
-use Rattle.joint_laws.proofs.PeerEntries.{same_thread}
 use Rattle.script_laws.specs.Holding.{Standing, opening_standing, AreEvents, standing_after, AreOnLine, AreLine, AreLeft, HoldsLines, numbered_from, lines_of, entries_by}
 use Rattle.script_laws.specs.Laws.{LineOrderGivesThreadOrder}
+use Rattle.joint_model.proofs.HeapLemmas.{same_thread}
 
 pub thread_itself : (t : Thread) → is_thread t t ≡ true
 thread_itself (M n) = eq-eqb n n refl

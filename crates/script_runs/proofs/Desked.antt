@@ -20,14 +20,10 @@ use Rattle.joint_history.proofs.Ended.{one_at_place}
 use Rattle.joint_history.proofs.LastLines.{place_small}
 use Rattle.run_laws.specs.Threads.{NoneIsLeft, thread_lines}
 use Rattle.script_runs.specs.Running.{DriverIsFirst}
-
--- with eight threads of each kind the desk has every thread
-both : (b c : Bool) → b ≡ true → c ≡ true → (b && c) ≡ true
-both true c p q = q
-both false c p q = absurd (cc)
+use Rattle.joint_model.proofs.Deciding.{and-both}
 
 within : (m n : ℕ) → m ≡ 8 → 1 ≤ n → n ≤ 8 → (nat_le 1 n && nat_le n m) ≡ true
-within m n e a b = both (nat_le 1 n) (nat_le n m) (le-leb 1 n a) (le-leb n m (omega (arith, b, e)))
+within m n e a b = and-both (nat_le 1 n) (nat_le n m) (le-leb 1 n a) (le-leb n m (omega (arith, b, e)))
 
 pub has_every : (d : Waiting) (t : Thread) → d.managed ≡ 8 → d.peers ≡ 8 → IsThread t → has_thread d t ≡ true
 has_every d (M n) m p is = within d.managed n m is.0 is.1

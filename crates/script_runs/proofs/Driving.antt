@@ -17,17 +17,11 @@ use Rattle.bridge_cycle.specs.Progress.{Progress, AreNotices, LeadTo, MakesOne, 
 use Rattle.bridge_cycle.specs.Progress as driver
 use Rattle.script_laws.specs.Holding.{Standing, phase_after, AreEventsAfter, AreWord, AreOnLine}
 use Rattle.script_runs.specs.Running.{DrivesLeft, DrivesLine, StandsAt}
+use Rattle.joint_model.proofs.Deciding.{some-same, none_some}
 
 on-line : (index : ℕ) (es : List Entry) → driver.AreOnLine index es → AreOnLine index C es
 on-line index [] a = tt
 on-line index (e ∷ es) a = (record { caller = a.0; line = a.1 }, on-line index es a.2)
-
--- where a word leads
-some-same : {A : Type 0} (x y : A) → Some x ≡ Some y → x ≡ y
-some-same x y e = cc
-
-none-some : {A : Type 0} (x : A) → None ≡ Some x → ⊥
-none-some x e = cc
 
 lead-one : (from next to : Phase) (w : PhaseWord) (ws : List PhaseWord) → next_phase from w ≡ Some next → LeadTo from (w ∷ ws) to → LeadTo next ws to
 lead-one from next to w ws e l = subst (λ p. LeadTo p ws to) (some-same l.0 next (sym l.1 ∙ e)) l.2
@@ -58,7 +52,7 @@ idle-round to l = from-snapped to (lead-one at.Idle at.Snapped to word.Snap (pha
 
 cycle-leads : (from next to : Phase) → next_phase from word.Cycle ≡ Some next → LeadTo from (phases_of word.Cycle) to → to ≡ next
 cycle-leads at.Idle next to e l = idle-round to l ∙ some-same at.Idle next e
-cycle-leads from next to e l = absurd (none-some next e)
+cycle-leads from next to e l = absurd (none_some next e)
 
 one-leads : (w : PhaseWord) (from next to : Phase) → next_phase from w ≡ Some next → LeadTo from (w ∷ []) to → to ≡ next
 one-leads w from next to e l = lead-one from next to w [] e l

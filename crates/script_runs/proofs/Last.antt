@@ -36,9 +36,7 @@ use Rattle.script_runs.specs.Running.{AreSame, CanRun, DriverIsFirst, DrivesLine
 use Rattle.script_runs.proofs.Desked.{has_all_last}
 use Rattle.script_runs.proofs.Ran.{AllRan, ran_all}
 use Rattle.joint_history.proofs.Giving.{has_all_same}
-
-some-same : {A : Type 0} (x y : A) → Some x ≡ Some y → x ≡ y
-some-same x y e = cc
+use Rattle.joint_model.proofs.Deciding.{some-same}
 
 prefix-itself : {A : Type 0} (xs : List A) → IsPrefix xs xs
 prefix-itself xs = ([], append-nil xs)

@@ -9,7 +9,6 @@ use Rattle.joint_model.specs.declared.lines.Act.{Act}
 use Rattle.joint_model.specs.HistoryLines.{caller_line}
 use Rattle.joint_model.specs.Lines.{IsDriver}
 use Rattle.joint_model.specs.PeerReplay.{is_thread}
-use Rattle.joint_laws.proofs.PeerEntries.{same_thread}
 use Rattle.order_table.specs.Facts.{line_entries}
 use Rattle.joint_history.specs.Callers.{KnowsNothing, Pass, last_index, own}
 use Rattle.joint_history.specs.Ending.{IsIdle}
@@ -22,13 +21,11 @@ use Rattle.script_laws.proofs.Growing.{idle_leaves_nothing}
 use Rattle.run_laws.specs.Threads.{HoldsItsFirst, HoldsItsLines}
 use Rattle.run_laws.proofs.ByThreads.{others_lines_pass, own_lines_add, own_lines_end}
 use Rattle.script_runs.specs.Running.{DrivesLeft, DrivesLine, HasRun, MakesLine, StandsAt}
+use Rattle.joint_model.proofs.HeapLemmas.{same_thread}
 
 -- who knows nothing has made nothing, and is idle
 pub own_nothing : (p : Pass) → KnowsNothing p.view → own p ≡ []
 own_nothing p k = ap line_entries (k (caller_line p.thread))
-
-pub idle_first : (p : Pass) → KnowsNothing p.view → IsIdle p
-idle_first p k is = let r = driver_first p.view k in (r.stands.known, r.stands.stands.come)
 
 pub own_idle : (p : Pass) → IsOwnThread p.thread → IsIdle p
 own_idle p o is = absurd (by p.thread o is)

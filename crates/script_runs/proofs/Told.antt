@@ -20,6 +20,7 @@ use Rattle.script_laws.specs.Holding.{Standing, standing_after, AreLine}
 use Rattle.run_laws.specs.Serial.{AreOthers}
 use Rattle.run_laws.proofs.InOrder.{told_callers_add, drivers_add, others_run_on, driver_runs_on, not-driver}
 use Rattle.script_runs.specs.Running.{AreUpTo, DrivesLine, HasCome, MakesLine, RunsOn, StandsAt, TellsLine, last_after}
+use Rattle.joint_model.proofs.Deciding.{some-same}
 
 pub tells_line : (a b d : Progress) (p q r t : Pass) (index : ℕ) (o : Act) → Tells (pass_of a) (pass_of b) → Hears (pass_of a) p q → b ≡ record a { view = b.view } → r.thread ≡ q.thread → MakesLine q.thread q.view r.view index o
     → Tells r t → Hears r (pass_of b) (pass_of d) → d ≡ record b { view = d.view } → TellsLine a d p t index o
@@ -58,9 +59,6 @@ own_is C o = absurd o
 
 pub placed_thread : (others : List Pass) (i : ℕ) (p : Pass) (t : Thread) → AreOthers others → slice_get others i ≡ Some p → IsOwnThread t → i + 1 ≡ caller_place t → p.thread ≡ t
 placed_thread others i p t oth at is e = oth.each i p at ∙ (ap thread_of e ∙ thread_at_place t (own_is t is))
-
-some-same : {A : Type 0} (x y : A) → Some x ≡ Some y → x ≡ y
-some-same x y e = cc
 
 module _ (others : List Pass) (i : ℕ) (p q : Pass) (at : slice_get others i ≡ Some p) where
   -- who stands at a place now

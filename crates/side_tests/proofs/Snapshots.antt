@@ -27,19 +27,6 @@ use Rattle.side_tests.specs.Drives.{IsDriven}
 use Rattle.side_tests.proofs.Counting.{counting}
 use Rattle.side_tests.proofs.ManagedDrives.{driven-on, driven-still, HasWaiting}
 
--- one case for each thread
-pub one-to-eight : (P : ℕ → Type 0) → P 1 → P 2 → P 3 → P 4 → P 5 → P 6 → P 7 → P 8 → (t : ℕ) → 1 ≤ t → t ≤ 8 → P t
-one-to-eight P a b c d e f g h zero low high = absurd (omega (arith, low))
-one-to-eight P a b c d e f g h (suc zero) low high = a
-one-to-eight P a b c d e f g h (suc (suc zero)) low high = b
-one-to-eight P a b c d e f g h (suc (suc (suc zero))) low high = c
-one-to-eight P a b c d e f g h (suc (suc (suc (suc zero)))) low high = d
-one-to-eight P a b c d e f g h (suc (suc (suc (suc (suc zero))))) low high = e
-one-to-eight P a b c d e f g h (suc (suc (suc (suc (suc (suc zero)))))) low high = f
-one-to-eight P a b c d e f g h (suc (suc (suc (suc (suc (suc (suc zero))))))) low high = g
-one-to-eight P a b c d e f g h (suc (suc (suc (suc (suc (suc (suc (suc zero)))))))) low high = h
-one-to-eight P a b c d e f g h (suc (suc (suc (suc (suc (suc (suc (suc (suc t))))))))) low high = absurd (omega (arith, high))
-
 -- the cycle that is open is the only one
 only-open : (o : Option OpenCycle) (c e : OpenCycle) → o ≡ Some c → o ≡ Some e → e ≡ c
 only-open o c e u v = cc

@@ -11,11 +11,12 @@ use Rattle.joint_model.specs.Linked.{opening_linkage, replayed}
 use Rattle.joint_model.specs.Readers.{is_read, is_set_aside, is_aside, replayed_reading}
 use Rattle.joint_model.specs.Told.{Noted}
 use Rattle.joint_laws.specs.ReadingLaws.{without_aside, IsLawfulReading}
-use Rattle.joint_laws.proofs.ReadsAside.{reading_is_lawful, reading_leads_to_same}
+use Rattle.joint_laws.proofs.ReadsAside.{reading_is_lawful, reading_leads_to_same, without-cons}
 use Rattle.run_summary.specs.declared.tallies.Tally.{Tally}
 use Rattle.run_summary.specs.Tallies.{tallied, tally_from, tally_of, nothing_yet}
 use Rattle.summary_laws.specs.States.{tally_in, TalliesOfReading}
 use Rattle.summary_laws.proofs.Counting.{same_tally, sides, tallies_are_of_states}
+use Rattle.joint_model.proofs.Deciding.{and-true}
 
 -- nothing is added and nothing taken away
 nothing_counted : (t : Tally) → tallied t (op.Line (act.Read record { 0 = 0 })) says.Unset ≡ t
@@ -30,23 +31,16 @@ read_skips t (op.Line (act.Await k)) says.Unset e f = nothing_counted t
 read_skips t (op.Line (act.Await k)) r e f = absurd (let g : ⊥ = cc in g)
 read_skips t o r e f = absurd (let g : ⊥ = cc in g)
 
-both : (a b : Bool) → (a && b) ≡ true → (a ≡ true) × (b ≡ true)
-both true b e = (refl, e)
-both false b e = absurd (let g : ⊥ = cc in g)
-
 abbrev entries : List Noted → List Entry
 entries ns = map (λ n. n.entry) ns
 
--- an entry that is set aside is skipped, and each other comes in both lists
+-- an entry that is set aside is skipped, and each other comes in and-true lists
 skipped : (n : Noted) (ns : List Noted) (t : Tally) (b : Bool) → is_aside n ≡ b → ((u : Tally) → tally_from u (entries ns) ≡ tally_from u (entries (without_aside ns)))
     → tally_from t (entries (n ∷ ns)) ≡ tally_from t (entries (cond (not b) (n ∷ without_aside ns) (without_aside ns)))
 skipped n ns t false e rest = rest (tallied t n.entry.made.op n.entry.made.reply)
 skipped n ns t true e rest =
-    let w = both (is_read n.entry.made.op) (is_set_aside n.entry.made.reply) e in
+    let w = and-true (is_read n.entry.made.op) (is_set_aside n.entry.made.reply) e in
     ap (λ u. tally_from u (entries ns)) (read_skips t n.entry.made.op n.entry.made.reply w.0 w.1) ∙ rest t
-
-without-cons : (n : Noted) (ns : List Noted) (b : Bool) → is_aside n ≡ b → without_aside (n ∷ ns) ≡ cond (not b) (n ∷ without_aside ns) (without_aside ns)
-without-cons n ns b e = ap (λ z. cond (not z) (n ∷ without_aside ns) (without_aside ns)) e
 
 aside-tally : (ns : List Noted) (t : Tally) → tally_from t (entries ns) ≡ tally_from t (entries (without_aside ns))
 aside-tally [] t = refl

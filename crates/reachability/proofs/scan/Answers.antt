@@ -1,9 +1,10 @@
 -- One more place of the node is done in each turn: its target is marked, or it is empty.
 use Rattle.std.proofs.Common.{◌∙◌, ◌≤◌, length, Some, None, arith}
 use Rattle.std.proofs.lemmas.List.{take_all}
-use Rattle.reachability.proofs.Marking.{Scans-push_some, Scans-push_none, take-next}
+use Rattle.reachability.proofs.Marking.{Scans-push_some, Scans-push_none}
 use Rattle.reachability.proofs.scan.Goals as goal
 use Rattle.reachability.proofs.scan.Goals.{in-Some, in_default}
+use Rattle.joint_model.proofs.Members.{take-next}
 
 pub loop-i-preserved : goal.loop-i-preserved
 loop-i-preserved g c =

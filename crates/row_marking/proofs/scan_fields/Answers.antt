@@ -1,10 +1,10 @@
 -- One more place of the row is done in each turn: its target is marked, or it is empty.
 use Rattle.std.proofs.Common.{◌∙◌, ◌≤◌, length, Some, None, arith}
 use Rattle.std.proofs.lemmas.List.{take_all}
-use Rattle.reachability.proofs.Marking.{take-next}
 use Rattle.row_marking.proofs.Greys.{Greyed-push_some, Greyed-push_none}
 use Rattle.row_marking.proofs.scan_fields.Goals as goal
 use Rattle.row_marking.proofs.scan_fields.Goals.{in-Some, in_default}
+use Rattle.joint_model.proofs.Members.{take-next}
 
 pub loop-i-preserved : goal.loop-i-preserved
 loop-i-preserved g c =

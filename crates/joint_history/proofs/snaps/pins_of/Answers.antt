@@ -2,7 +2,7 @@ use Rattle.std.proofs.Common.{◌≡◌, ◌-◌, [], ◌∷◌, Some, ap}
 use Rattle.std.specs.Prelude.{slice_get}
 use Rattle.joint_model.specs.Heaps.{slot}
 use Rattle.joint_model.specs.Sides.{object_or_none}
-use Rattle.joint_history.proofs.DriverSnaps.{one_to_eight}
+use Rattle.joint_model.proofs.Deciding.{one_to_eight}
 use Rattle.joint_history.proofs.snaps.pins_of.Goals as goal
 
 pub returns : goal.returns

@@ -2,8 +2,8 @@
 use Rattle.std.proofs.Common.{◌≡◌, ◌∙◌, ◌<◌, length, take, arith}
 use Rattle.std.proofs.lemmas.List.{take_all}
 use Rattle.joint_model.specs.Heaps.{fields_of}
-use Rattle.row_heap.proofs.Edges.{slot-at}
 use Rattle.managed_side.proofs.DeadGraphs.{fields-more}
+use Rattle.joint_model.proofs.Numbered.{slot-at}
 use Rattle.managed_side.proofs.graphs.add_row.Goals as goal
 
 pub loop-j-preserved : goal.loop-j-preserved

@@ -3,8 +3,7 @@ use Rattle.std.proofs.Common.{◌≡◌, ◌∙◌, ◌≤◌, ◌<◌, length, 
 use Rattle.std.proofs.lemmas.List.{take_all}
 use Rattle.std.proofs.lemmas.Option.{slice_get-get_or}
 use Rattle.joint_model.specs.Heaps.{Heap, IsLive}
-use Rattle.joint_model.proofs.Members.{Contains-at}
-use Rattle.reachability.proofs.Marking.{take-next}
+use Rattle.joint_model.proofs.Members.{Contains-at, take-next}
 use Rattle.row_marking.proofs.Greys.{Greyed-push_some, Greyed-push_none}
 use Rattle.row_heap.specs.Rows.{HeapRows}
 use Rattle.row_heap.proofs.Edges.{rest-kept}

@@ -8,8 +8,9 @@ use Rattle.joint_history.specs.Ending.{HasAll, IsIdle}
 use Rattle.bridge_cycle.specs.Progress.{Progress, pass_of}
 use Rattle.run_laws.proofs.InOrderEnds.{all_are_given}
 use Rattle.script_runs.proofs.Desked.{counts_stay}
-use Rattle.script_runs.proofs.Owned.{idle_first, own_nothing}
+use Rattle.script_runs.proofs.Owned.{own_nothing}
 use Rattle.script_runs.proofs.Seated.{AreThereFrom, all_idle, all_there, come_first, first_up_to, is_there, rest_there, run_gives}
+use Rattle.bridge_cycle.proofs.Refusals.{idle_first}
 use Rattle.script_runs.proofs.serial.run_named.Goals as goal
 
 pub unreachable-requires : goal.unreachable-requires

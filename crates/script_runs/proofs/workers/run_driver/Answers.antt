@@ -1,11 +1,12 @@
 use Rattle.std.proofs.Common.{◌≡◌, ℕ, ◌+◌, ◌≤◌, length, sym, ◌∙◌, ap, subst, arith}
 use Rattle.bridge_cycle.specs.Progress.{Progress, line_of}
 use Rattle.script_runs.specs.Running.{DrivesLine, HasRun}
-use Rattle.script_runs.proofs.Owned.{DriverHolds, driver_ends, driver_holds, driver_passes, idle_first}
+use Rattle.script_runs.proofs.Owned.{DriverHolds, driver_ends, driver_holds, driver_passes}
 use Rattle.script_runs.proofs.Reading.{there}
 use Rattle.script_runs.proofs.Reading as reading
 use Rattle.script_runs.proofs.workers.run_driver.Goals as goal
 use Rattle.script_runs.proofs.workers.run_driver.Goals.{then-is_thread+in-Ok, else-is_thread}
+use Rattle.bridge_cycle.proofs.Refusals.{idle_first}
 
 pub new-driver-requires-clause-idle : goal.new-driver-requires-clause-idle
 new-driver-requires-clause-idle g c = idle_first c.args.caller c.requires.new

@@ -3,10 +3,10 @@ use Rattle.std.proofs.Common.{◌≡◌, ◌-◌, [], ◌∷◌, Some, ap}
 use Rattle.std.specs.Prelude.{slice_get}
 use Rattle.joint_model.specs.Heaps.{slot}
 use Rattle.joint_model.specs.Sides.{object_or_none}
-use Rattle.side_tests.proofs.Snapshots.{one-to-eight}
+use Rattle.joint_model.proofs.Deciding.{one_to_eight}
 use Rattle.side_tests.proofs.managed.pins_of.Goals as goal
 
 pub returns : goal.returns
-returns c = one-to-eight (λ t. slice_get (c.pin-one.result ∷ c.pin-two.result ∷ c.pin-three.result ∷ c.pin-four.result ∷ c.pin-five.result ∷ c.pin-six.result ∷ c.pin-seven.result ∷ c.pin-eight.result ∷ []) (t - 1) ≡ Some (object_or_none (slot c.args.side.now.state.managed.pins t)))
+returns c = one_to_eight (λ t. slice_get (c.pin-one.result ∷ c.pin-two.result ∷ c.pin-three.result ∷ c.pin-four.result ∷ c.pin-five.result ∷ c.pin-six.result ∷ c.pin-seven.result ∷ c.pin-eight.result ∷ []) (t - 1) ≡ Some (object_or_none (slot c.args.side.now.state.managed.pins t)))
     (ap Some c.pin-one.ensures) (ap Some c.pin-two.ensures) (ap Some c.pin-three.ensures) (ap Some c.pin-four.ensures)
     (ap Some c.pin-five.ensures) (ap Some c.pin-six.ensures) (ap Some c.pin-seven.ensures) (ap Some c.pin-eight.ensures)

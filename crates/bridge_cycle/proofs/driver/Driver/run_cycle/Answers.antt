@@ -2,7 +2,8 @@ use Rattle.joint_model.specs.declared.names.PhaseWord.TheVariants as word
 use Rattle.joint_model.specs.Phases.{phases_left, phases_of}
 use Rattle.bridge_cycle.specs.Progress.{EndsWithReply, StopsForMemory}
 use Rattle.bridge_cycle.specs.Words.{Closes}
-use Rattle.bridge_cycle.proofs.Composed.{cycle_breaks, cycle_closes, if_ok_map, on_err_map}
+use Rattle.bridge_cycle.proofs.Composed.{cycle_breaks, cycle_closes, on_err_map}
+use Rattle.joint_history.proofs.DriverSnaps.{if_ok_map}
 use Rattle.bridge_cycle.proofs.driver.Driver.run_cycle.Goals as goal
 
 pub returns-clause-ok : goal.returns-clause-ok

@@ -6,8 +6,8 @@ use Rattle.joint_model.specs.Sides.{managed_rules}
 use Rattle.joint_model.specs.Told.{nothing}
 use Rattle.managed_side.specs.Steps.{take_op}
 use Rattle.joint_history.specs.Locked.{made_by}
-use Rattle.joint_history.proofs.Taking.{managed_is_thread}
 use Rattle.joint_history.proofs.LockedSteps.{called_managed, did, drew_more, drew_owns, more_back}
+use Rattle.joint_laws.proofs.FittingLists.{managed-thread}
 use Rattle.joint_history.proofs.managed.LockedManaged.take.Goals as goal
 
 pub give_back-requires-clause-more : goal.give_back-requires-clause-more
@@ -19,18 +19,18 @@ give_back-requires-clause-more g c =
 pub invariant_of-self : goal.invariant_of-self
 invariant_of-self g c =
     let make : ℕ × Reply → Entry = λ x. numbered x.0 (made_by c.args.caller c.args.index (take_op c.args.v) x.1 None) in
-    let d = did c.args.caller c.self.inside.seat.view c.args.mine.now.view c.lend.new.locked.view c.lend.new.mine.view c.draw_take-made.new.seat.view c.give_back.new.locked.view c.give_back.new.mine.view 0 (managed_is_thread c.args.caller c.requires.pass.0) (omega arith) c.requires.pass.1 c.self.invariant.1 c.lend.ensures.lent
+    let d = did c.args.caller c.self.inside.seat.view c.args.mine.now.view c.lend.new.locked.view c.lend.new.mine.view c.draw_take-made.new.seat.view c.give_back.new.locked.view c.give_back.new.mine.view 0 (managed-thread c.args.caller c.requires.pass.0) (omega arith) c.requires.pass.1 c.self.invariant.1 c.lend.ensures.lent
     (drew_owns managed_rules 0 c.args.order.now c.lend.new.locked c.draw_take-made.new.seat c.self.inside.side c.draw_take-made.new.side make nothing c.draw_take-made.result c.draw_take-made.ensures.drew c.draw_take-made.ensures.err) c.give_back.ensures.returned in
     let w = called_managed c.args.caller c.args.index (take_op c.args.v) None nothing c.args.order.now c.self.inside.seat.view c.args.mine.now.view c.lend.new.mine.view c.give_back.new.locked.view c.give_back.new.mine.view c.lend.new.locked c.draw_take-made.new.seat c.self.inside.side c.draw_take-made.new.side c.draw_take-made.result
-    (managed_is_thread c.args.caller c.requires.pass.0) c.requires.pass.1 c.self.invariant.1 (omega (arith, c.ranges.index.fits)) c.self.invariant.2 c.requires.may c.lend.ensures.lent c.draw_take-made.ensures.drew c.draw_take-made.ensures.err c.give_back.ensures.returned in
+    (managed-thread c.args.caller c.requires.pass.0) c.requires.pass.1 c.self.invariant.1 (omega (arith, c.ranges.index.fits)) c.self.invariant.2 c.requires.may c.lend.ensures.lent c.draw_take-made.ensures.drew c.draw_take-made.ensures.err c.give_back.ensures.returned in
     (c.give_back.ensures.order.0 ∙ c.requires.order.0, d.owns, w.knows)
 
 pub returns-clause-ok : goal.returns-clause-ok
 returns-clause-ok g c =
     (called_managed c.args.caller c.args.index (take_op c.args.v) None nothing c.args.order.now c.self.inside.seat.view c.args.mine.now.view c.lend.new.mine.view c.give_back.new.locked.view c.give_back.new.mine.view c.lend.new.locked c.draw_take-made.new.seat c.self.inside.side c.draw_take-made.new.side c.draw_take-made.result
-    (managed_is_thread c.args.caller c.requires.pass.0) c.requires.pass.1 c.self.invariant.1 (omega (arith, c.ranges.index.fits)) c.self.invariant.2 c.requires.may c.lend.ensures.lent c.draw_take-made.ensures.drew c.draw_take-made.ensures.err c.give_back.ensures.returned).ok
+    (managed-thread c.args.caller c.requires.pass.0) c.requires.pass.1 c.self.invariant.1 (omega (arith, c.ranges.index.fits)) c.self.invariant.2 c.requires.may c.lend.ensures.lent c.draw_take-made.ensures.drew c.draw_take-made.ensures.err c.give_back.ensures.returned).ok
 
 pub returns-clause-err : goal.returns-clause-err
 returns-clause-err g c =
     (called_managed c.args.caller c.args.index (take_op c.args.v) None nothing c.args.order.now c.self.inside.seat.view c.args.mine.now.view c.lend.new.mine.view c.give_back.new.locked.view c.give_back.new.mine.view c.lend.new.locked c.draw_take-made.new.seat c.self.inside.side c.draw_take-made.new.side c.draw_take-made.result
-    (managed_is_thread c.args.caller c.requires.pass.0) c.requires.pass.1 c.self.invariant.1 (omega (arith, c.ranges.index.fits)) c.self.invariant.2 c.requires.may c.lend.ensures.lent c.draw_take-made.ensures.drew c.draw_take-made.ensures.err c.give_back.ensures.returned).err
+    (managed-thread c.args.caller c.requires.pass.0) c.requires.pass.1 c.self.invariant.1 (omega (arith, c.ranges.index.fits)) c.self.invariant.2 c.requires.may c.lend.ensures.lent c.draw_take-made.ensures.drew c.draw_take-made.ensures.err c.give_back.ensures.returned).err

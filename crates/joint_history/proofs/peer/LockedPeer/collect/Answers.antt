@@ -1,7 +1,8 @@
 use Rattle.std.proofs.Common.{arith, ◌∙◌}
 use Rattle.peer_side.specs.Sides.{seen}
-use Rattle.joint_history.proofs.Collecting.{collect_called, collect_more, collect_owns, collect_reserves, peer_is_thread}
+use Rattle.joint_history.proofs.Collecting.{collect_called, collect_more, collect_owns, collect_reserves}
 use Rattle.joint_history.proofs.LockedSteps.{did, more_back}
+use Rattle.joint_laws.proofs.FittingLists.{peer-thread}
 use Rattle.joint_history.proofs.peer.LockedPeer.collect.Goals as goal
 
 pub give_back-requires-clause-more : goal.give_back-requires-clause-more
@@ -10,7 +11,7 @@ give_back-requires-clause-more g c = more_back c.args.caller c.self.inside.seat.
 
 pub invariant_of-self : goal.invariant_of-self
 invariant_of-self g c =
-    let d = did c.args.caller c.self.inside.seat.view c.args.mine.now.view c.lend.new.locked.view c.lend.new.mine.view c.draw_collect-made.new.seat.view c.give_back.new.locked.view c.give_back.new.mine.view 1 (peer_is_thread c.args.caller c.requires.pass.0) (omega arith) c.requires.pass.1 c.self.invariant.1 c.lend.ensures.lent
+    let d = did c.args.caller c.self.inside.seat.view c.args.mine.now.view c.lend.new.locked.view c.lend.new.mine.view c.draw_collect-made.new.seat.view c.give_back.new.locked.view c.give_back.new.mine.view 1 (peer-thread c.args.caller c.requires.pass.0) (omega arith) c.requires.pass.1 c.self.invariant.1 c.lend.ensures.lent
     (collect_owns c.args.order.now c.lend.new.locked c.draw_collect-made.new.seat (seen c.self.inside.side) (seen c.draw_collect-made.new.side) c.args.caller c.args.index c.draw_collect-made.result c.draw_collect-made.ensures.drew c.draw_collect-made.ensures.err) c.give_back.ensures.returned in
     let w = collect_called c.args.order.now c.lend.new.locked c.draw_collect-made.new.seat (seen c.self.inside.side) (seen c.draw_collect-made.new.side) c.args.index c.args.caller c.self.inside.seat.view c.args.mine.now.view c.lend.new.mine.view c.give_back.new.locked.view c.give_back.new.mine.view c.draw_collect-made.result
     c.requires.pass.0 c.requires.pass.1 c.self.invariant.1 (omega (arith, c.ranges.index.fits)) c.self.invariant.2 c.requires.begins c.lend.ensures.lent c.draw_collect-made.ensures.drew c.draw_collect-made.ensures.err c.give_back.ensures.returned in

@@ -2,12 +2,13 @@
 use Rattle.std.proofs.Common.{◌≡◌, ◌∙◌, ◌≤◌, ◌<◌, length, Some, None, ap, subst, arith}
 use Rattle.std.proofs.lemmas.List.{take_all}
 use Rattle.joint_model.specs.Heaps.{slot}
-use Rattle.reachability.proofs.Marking.{take-next}
 use Rattle.row_marking.proofs.Greys.{Greyed-push_some, Greyed-push_none}
 use Rattle.row_heap.specs.Rows.{HeapRows}
-use Rattle.row_heap.proofs.Edges.{slot-at, rest-kept}
+use Rattle.row_heap.proofs.Edges.{rest-kept}
 use Rattle.row_heap.proofs.heap.RowHeap.visit_statics.Goals as goal
 use Rattle.row_heap.proofs.heap.RowHeap.visit_statics.Goals.{in-Some, in_default}
+use Rattle.joint_model.proofs.Numbered.{slot-at}
+use Rattle.joint_model.proofs.Members.{take-next}
 
 pub loop-s-preserved : goal.loop-s-preserved
 loop-s-preserved g c =
