@@ -7,3 +7,4 @@ pub mod DrawnInTurn
 pub mod Joining
 pub mod WalkLemmas
 pub mod HistoryLists
+pub mod Gathering

@@ -21,3 +21,4 @@ pub mod Joined
 pub mod Readers
 pub mod Sides
 pub mod Phases
+pub mod Gathered

@@ -11,9 +11,9 @@ use Rattle.joint_model.specs.Walks.{Reached}
 use Rattle.joint_model.proofs.WalkLemmas.{Reached-mono, Reached-keeps, Reached-start, Reached-then}
 use Rattle.joint_model.proofs.Members.{Contains-nil, Contains-map, Contains-map_cases, take-next}
 use Rattle.joint_model.proofs.Deciding.{true-false, false-from}
-use Rattle.object_heap.specs.Tidy.{live_fields}
-use Rattle.object_heap.proofs.Sound.{IsLive-as}
-use Rattle.object_heap.proofs.Targets.{live_fields-live, live_fields-held}
+use Rattle.heap_rules.specs.Tidy.{live_fields}
+use Rattle.heap_rules.proofs.Sound.{IsLive-as}
+use Rattle.heap_rules.proofs.Targets.{live_fields-live, live_fields-held}
 use Rattle.reachability.specs.Marks.{Leads, IsMarked}
 use Rattle.joint_replay.specs.Found.{IsUnreachedRow, IsCandidateRow}
 use Rattle.joint_replay.specs.Unmarked.{marked}

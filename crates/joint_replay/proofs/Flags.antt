@@ -13,7 +13,7 @@ use Rattle.joint_model.specs.Heaps.{Heap, MOST, IsMade, IsLive, is_freed, number
 use Rattle.joint_model.proofs.Joining.{same_or_not, slice_get-set_same, slice_get-set_other}
 use Rattle.joint_model.proofs.Numbered.{numbered-past, numbered-push_cases}
 use Rattle.joint_model.proofs.Deciding.{not-true, not-from}
-use Rattle.object_heap.proofs.Numbered.{row-none}
+use Rattle.heap_rules.proofs.Numbered.{row-none}
 use Rattle.joint_replay.specs.Plain.{IsFlagged, Lowers, is_live}
 
 le_or_lt : (a b : ℕ) → (a ≤ b) ⊎ (b < a)

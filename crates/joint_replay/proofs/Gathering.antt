@@ -8,7 +8,7 @@ use Rattle.joint_model.specs.Heaps.{Heap, IsLive}
 use Rattle.joint_model.proofs.Members.{Contains-filter_from, Contains-filter_to}
 use Rattle.joint_model.proofs.Deciding.{not-true, not-from}
 use Rattle.reachability.specs.Marks.{IsMarked}
-use Rattle.object_heap.specs.Gathered.{Gathered}
+use Rattle.joint_model.specs.Gathered.{Gathered}
 use Rattle.joint_replay.specs.Unmarked.{marked, unmarked_of}
 
 -- the test of a mark

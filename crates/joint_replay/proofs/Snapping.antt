@@ -19,7 +19,7 @@ use Rattle.joint_model.proofs.Members.{All-members, Contains-filter_from, Contai
 use Rattle.joint_model.proofs.Deciding.{true-false, not-from, some-same}
 use Rattle.joint_model.proofs.HeapLemmas.{Holds-handle_of}
 use Rattle.joint_replay.proofs.Snapshots.{handle-reached, bridge-row, row-bridge}
-use Rattle.object_heap.specs.Tidy.{live_fields}
+use Rattle.heap_rules.specs.Tidy.{live_fields}
 use Rattle.reachability.specs.Marks.{Leads, IsMarked}
 use Rattle.joint_replay.specs.Unmarked.{unmarked_of}
 use Rattle.joint_replay.proofs.Gathering.{unmarked_of-exact}

@@ -17,7 +17,7 @@ use Rattle.joint_model.proofs.Members.{Contains-nil, Contains-here, Contains-con
 use Rattle.joint_model.proofs.Numbered.{numbered_set-same, numbered_set-other}
 use Rattle.joint_model.proofs.Deciding.{none_some, some-same, not-from, false-from}
 use Rattle.joint_laws.proofs.Registered.{without_twins-parts, without_twins-keeps}
-use Rattle.object_heap.proofs.Numbered.{map-set_number}
+use Rattle.heap_rules.proofs.Numbered.{map-set_number}
 use Rattle.managed_side.specs.declared.rows.Held.{Held}
 use Rattle.managed_side.specs.Resolving.{AreCleared, has_peer}
 use Rattle.managed_side.specs.Rows.{pairs_of, ArePeers}

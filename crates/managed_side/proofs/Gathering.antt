@@ -12,7 +12,7 @@ use Rattle.joint_model.specs.Histories.{managed_numbers}
 use Rattle.joint_model.specs.Walks.{Reached}
 use Rattle.joint_model.proofs.Deciding.{none_some, some-same}
 use Rattle.joint_model.proofs.Members.{Contains-filter_from, Contains-nil, Contains-here, Contains-there, Contains-cons_cases}
-use Rattle.object_heap.specs.Gathered.{Gathered}
+use Rattle.joint_model.specs.Gathered.{Gathered}
 use Rattle.reachability.specs.Marks.{IsMarked}
 use Rattle.row_heap.specs.Marks.{AreWhite, EdgeOf}
 use Rattle.row_heap.specs.Rows.{HeapRows}

@@ -13,7 +13,7 @@ use Rattle.joint_model.specs.ManagedReplay.{registered, without_twins}
 use Rattle.joint_model.proofs.Deciding.{none_some, some-same, true-false}
 use Rattle.joint_model.proofs.Members.{Contains-nil, Contains-here, Contains-there, Contains-cons_cases}
 use Rattle.joint_model.proofs.Numbered.{numbered_set-same, numbered_set-other}
-use Rattle.object_heap.proofs.Numbered.{map-set_number}
+use Rattle.heap_rules.proofs.Numbered.{map-set_number}
 use Rattle.joint_laws.proofs.Registered.{registered-none, without_twins-parts, without_twins-keeps}
 use Rattle.instance_registry.specs.Pairs.{twin_in, without, PeersDistinct}
 use Rattle.managed_side.specs.declared.rows.Held.{Held}

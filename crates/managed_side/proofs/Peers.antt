@@ -12,7 +12,7 @@ use Rattle.joint_model.specs.Managed.{Managed, handle_of}
 use Rattle.joint_model.proofs.Deciding.{none_some}
 use Rattle.joint_model.proofs.HeapLemmas.{is_freed-live}
 use Rattle.joint_model.proofs.Numbered.{numbered-within, numbered-push_old, numbered-push_new, numbered-push_cases}
-use Rattle.object_heap.proofs.Numbered.{numbered-read}
+use Rattle.heap_rules.proofs.Numbered.{numbered-read}
 use Rattle.managed_side.specs.declared.rows.Held.{Held}
 use Rattle.managed_side.specs.Rows.{pairs_of, ArePeers}
 

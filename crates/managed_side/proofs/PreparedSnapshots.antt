@@ -15,7 +15,7 @@ use Rattle.joint_model.proofs.WalkLemmas.{Reached-start}
 use Rattle.joint_laws.specs.ManagedInvariants.{IsManagedKept}
 use Rattle.bridge_graph.specs.Parts.{Part, Leads}
 use Rattle.finaliser_queue.specs.Queue.{Queue}
-use Rattle.object_heap.specs.Tidy.{CanFree}
+use Rattle.heap_rules.specs.Tidy.{CanFree}
 use Rattle.reachability.specs.Marks.{IsMarked}
 use Rattle.row_heap.specs.Rows.{HeapRows}
 use Rattle.managed_side.specs.declared.rows.Held.{Held}

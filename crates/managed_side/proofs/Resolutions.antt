@@ -24,7 +24,7 @@ use Rattle.joint_model.proofs.Members.{Contains-here, Contains-there, Contains-d
 use Rattle.joint_model.proofs.WalkLemmas.{Reaches-mono}
 use Rattle.joint_laws.specs.ManagedInvariants.{IsCutOff}
 use Rattle.finaliser_queue.specs.Queue.{Queue}
-use Rattle.object_heap.specs.Tidy.{CanFree}
+use Rattle.heap_rules.specs.Tidy.{CanFree}
 use Rattle.reachability.specs.Marks.{IsMarked, IsClosed}
 use Rattle.row_heap.specs.Marks.{EdgeOf}
 use Rattle.row_heap.specs.Rows.{HeapRows}

@@ -14,7 +14,7 @@ use Rattle.joint_model.proofs.HeapLemmas.{IsLive-before, IsLive-spared, IsLive-l
 use Rattle.joint_model.proofs.Members.{Contains-filter_from, Contains-filter_to, All-members, Rises-filter}
 use Rattle.joint_model.proofs.WalkLemmas.{Reached-mono, Reached-start, Reached-then, Reached-further, Reached-keeps}
 use Rattle.finaliser_queue.specs.Queue.{Queue}
-use Rattle.object_heap.specs.Tidy.{CanFree}
+use Rattle.heap_rules.specs.Tidy.{CanFree}
 use Rattle.reachability.specs.Marks.{IsMarked}
 use Rattle.row_heap.specs.Marks.{EdgeOf}
 use Rattle.row_heap.specs.Rows.{HeapRows}

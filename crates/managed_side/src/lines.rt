@@ -6,10 +6,10 @@ ghost use Rattle.joint_model.specs.Heaps.{place};
 ghost use Rattle.joint_model.specs.Lines.{IsManagedThread, IsVar, IsVarOrNone};
 ghost use Rattle.joint_model.specs.Managed.{managed_name, place_or_none};
 ghost use Rattle.joint_model.specs.Run.{thread_number};
-ghost use Rattle.object_heap.specs.Done.{say};
+ghost use Rattle.heap_rules.specs.Done.{say};
 
 use joint_model::{MNum, Reply, Thread, Var};
-use object_heap::Done;
+use heap_rules::Done;
 
 /// The number of a managed thread.
 pub(crate) fn number(caller: Thread) -> usize

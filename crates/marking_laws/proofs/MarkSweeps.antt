@@ -8,7 +8,7 @@ use Rattle.joint_model.specs.Components.{Rises}
 use Rattle.joint_model.specs.Heaps.{IsLive}
 use Rattle.joint_model.specs.PeerReplay.{PeerReplay, Marking, IsSweep}
 use Rattle.joint_laws.proofs.Sparing.{spared-next}
-use Rattle.object_heap.specs.Tidy.{CanFree}
+use Rattle.heap_rules.specs.Tidy.{CanFree}
 use Rattle.reachability.specs.Marks.{IsClosed}
 use Rattle.marking_laws.specs.Marks.{AreMarksExact, EdgeNow, IsMarkedSide, IsWithoutMark}
 use Rattle.marking_laws.proofs.MarkFacts.{existed-or, marked-or, marked-spared, spared-marked}

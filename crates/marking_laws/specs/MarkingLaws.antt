@@ -8,7 +8,7 @@ use Rattle.joint_model.specs.Peers.{with_peer}
 use Rattle.joint_model.specs.PeerReplay.{PeerReplay, Marking, IsSweep, HasReference, begun, mirrored}
 use Rattle.joint_model.specs.Walks.{Reached}
 use Rattle.joint_laws.specs.PeerInvariants.{IsSpared}
-use Rattle.object_heap.specs.Tidy.{CanFree}
+use Rattle.heap_rules.specs.Tidy.{CanFree}
 use Rattle.reachability.specs.Marks.{IsMarked as HasMark, IsClosed}
 use Rattle.marking_laws.specs.Marks.{AreMarksExact, EdgeNow, IsMarkedSide, IsRootNow, IsWithoutMark}
 

@@ -4,12 +4,11 @@ ghost use Rattle.std.specs.Prelude.{◌≡◌, ℕ, ◌+◌, ◌<◌, ◌≤◌,
 ghost use Rattle.std.specs.Option.{ForSome};
 ghost use Rattle.joint_model.specs.Components.{Rises};
 ghost use Rattle.joint_model.specs.Heaps.{Heap, MOST, IsMade, IsLive, InSlot, slot, fields_of, is_full, opening_heap, next_number, with_object, with_var, with_static, with_field, with_freed, copied, field_set, field_stored, field_got, read_into, dropped, loaded, stored};
-ghost use Rattle.object_heap.specs.Done.{Did};
-ghost use Rattle.object_heap.specs.Flags.{IsUp, TakesDown, up_count};
-ghost use Rattle.object_heap.specs.Tidy.{IsTidy, CanFree};
+ghost use Rattle.heap_rules.specs.Done.{Did};
+ghost use Rattle.heap_rules.specs.Flags.{IsUp, TakesDown, up_count};
+ghost use Rattle.heap_rules.specs.Tidy.{IsTidy, CanFree};
 
-use crate::done::Done;
-use crate::numbers::Number;
+use heap_rules::{Done, Number};
 use std::alloc::{AllocError, Global};
 use std::marker::Model;
 
@@ -31,7 +30,7 @@ pub struct ObjectHeap<N: Number> {
 impl<N: Number> Model for ObjectHeap<N> {
     ghost use Rattle.std.specs.Prelude.{map, vec_capacity};
     ghost use Rattle.joint_model.specs.Heaps.{Heap};
-    ghost use Rattle.object_heap.specs.Flags.{IsSound};
+    ghost use Rattle.heap_rules.specs.Flags.{IsSound};
 
     ghost Value = { Heap };
 

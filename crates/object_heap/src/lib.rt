@@ -1,10 +1,11 @@
 // The plain heap: objects with their fields, the variables of the threads, the statics, and the list of
-// freed objects. It is seen as the joint model's `Heap`, and each call is one of its definitions. The sides
-// themselves hold a `row_heap`, which takes [`Number`], [`Done`] and what is proved of flags from here.
+// freed objects. It is seen as the joint model's `Heap`, and each call is one of its definitions. The checker
+// of histories holds it. The sides hold a `row_heap`, and nothing of theirs stands on this crate, so that the
+// checker shares no code with what it checks but the words of `heap_rules`.
 //
 // An [`ObjectHeap`] is made once. `add_object` makes an object, which `set_var` then gives a name;
 // `copy`, `set`, `get`, `drop`, `load` and `store` are the operations of a script, and each answers a
-// [`Done`]. A collector walks the heap by [`reachability::Walked`], in which the nodes are the objects'
+// [`heap_rules::Done`]. A collector walks the heap by [`reachability::Walked`], in which the nodes are the objects'
 // numbers, and hands what it found dead to `free`. At the end `into_freed` gives the list of freed objects.
 //
 // Object x stands at index x - 1. Beside its fields stands a flag that is up while it is live, and the list
@@ -14,14 +15,10 @@
 // A heap is its owner's, which alone changes it. What is promised: each call is exactly the definition's operation on the `Heap`, with its answer.
 #![tactic(auto)]
 
-mod done;
 mod heap;
-mod numbers;
 mod walked;
 
-pub use done::Done;
 pub use heap::ObjectHeap;
-pub use numbers::Number;
 
 #[cfg(test)]
 mod tests;

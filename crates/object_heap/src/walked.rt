@@ -1,10 +1,10 @@
 // A heap as a graph that can be walked.
 
 ghost use Rattle.std.specs.Prelude.{◌+◌, length};
-ghost use Rattle.object_heap.specs.Tidy.{live_fields};
+ghost use Rattle.heap_rules.specs.Tidy.{live_fields};
 
 use crate::heap::ObjectHeap;
-use crate::numbers::Number;
+use heap_rules::Number;
 use reachability::Walked;
 
 // The nodes are the objects' numbers, and node 0 leads nowhere, as freed objects do.

@@ -21,8 +21,8 @@ use Rattle.joint_model.specs.PeerReplay.{PeerReplay, opening_peer_replay, on_tab
 use Rattle.joint_model.specs.Run.{thread_number}
 use Rattle.joint_model.specs.Told.{nothing}
 use Rattle.joint_laws.proofs.PeerQuiet.{table-still, table-issued}
-use Rattle.object_heap.specs.declared.done.Done.{Done}
-use Rattle.object_heap.specs.Done.{Did, say}
+use Rattle.heap_rules.specs.declared.done.Done.{Done}
+use Rattle.heap_rules.specs.Done.{Did, say}
 use Rattle.row_heap.specs.Rows.{HeapRows}
 use Rattle.global_handles.specs.declared.Hold.TheVariants.{Held, Raw}
 use Rattle.global_handles.specs.declared.Strength.{Strength}

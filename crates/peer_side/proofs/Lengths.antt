@@ -13,8 +13,8 @@ use Rattle.joint_model.specs.Heaps.{Heap, Answered, answer, fields_of, slot, wit
 use Rattle.joint_model.specs.Peers.{peer_name}
 use Rattle.joint_model.proofs.Deciding.{option-cases, test-cases}
 use Rattle.joint_laws.proofs.Fields.{with_field-length}
-use Rattle.object_heap.specs.declared.done.Done.{Done}
-use Rattle.object_heap.specs.Done.{Did}
+use Rattle.heap_rules.specs.declared.done.Done.{Done}
+use Rattle.heap_rules.specs.Done.{Did}
 use Rattle.row_heap.specs.Rows.{HeapRows}
 use Rattle.global_handles.specs.Rows.{Table}
 use Rattle.peer_side.specs.declared.rows.Issue.{Issue}

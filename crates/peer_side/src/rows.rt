@@ -14,13 +14,13 @@ ghost use Rattle.reachability.specs.Marks.{IsClosed, IsMarked};
 ghost use Rattle.row_heap.specs.Marks.{EdgeOf};
 ghost use Rattle.peer_side.specs.Marks.{AreMarksSame, MarksNew, MarksBrought, MarksAfter};
 ghost use Rattle.global_handles.specs.Rows.{row_in, target_in};
-ghost use Rattle.object_heap.specs.Done.{say};
+ghost use Rattle.heap_rules.specs.Done.{say};
 ghost use Rattle.peer_side.specs.Rows.{PeersAnswer, AreTargetsLive, GoesBy, issued_to, number_of, row_as, strength_as, no_rows, peers_in, with_rows};
 ghost use Rattle.peer_side.specs.Steps.{IsPeerStep, IsRelease, ReleasesTabled, room_for};
 
 use global_handles::{HandleTable, Hold, Strength};
 use joint_model::{Act, HNum, Op, PNum, Reply, Sort, Thread, Var};
-use object_heap::Done;
+use heap_rules::Done;
 use row_heap::RowHeap;
 use std::alloc::{AllocError, Global};
 use std::marker::Model;

@@ -8,10 +8,10 @@ use Rattle.joint_model.specs.Heaps.{Heap, IsLive, slot}
 use Rattle.joint_model.specs.Walks.{Reached}
 use Rattle.joint_model.proofs.Members.{Contains-at}
 use Rattle.joint_model.proofs.WalkLemmas.{Reached-keeps, Reached-start, Reached-then, Reached-mono}
-use Rattle.object_heap.specs.Tidy.{IsTidy}
+use Rattle.heap_rules.specs.Tidy.{IsTidy}
 use Rattle.reachability.specs.Marks.{IsClosed, IsMarked}
 use Rattle.row_marking.specs.Traces.{Greying, Leads}
-use Rattle.object_heap.specs.Flags.{IsSound}
+use Rattle.heap_rules.specs.Flags.{IsSound}
 use Rattle.row_marking.specs.Traces.{IsLastBelow}
 use Rattle.row_heap.specs.Places.{Seen, row_at, unmarked_row}
 use Rattle.row_heap.specs.declared.references.Reference.{Reference}

@@ -1,14 +1,14 @@
 -- Rows that are removed one after another. A removed row keeps its fields and doesn't stand, so it can't be one of those that stand; the others
--- are as they were. Which rows stand is the list of flags of `object_heap`, whose lemmas on flags taken down are used as they are.
+-- are as they were. Which rows stand is the list of flags of `heap_rules`, whose lemmas on flags taken down are used as they are.
 use Rattle.std.proofs.Common.{◌≡◌, ℕ, zero, suc, ◌+◌, ◌≤◌, ◌<◌, Bool, true, false, List, [], ◌∷◌, ◌++◌, map, length, take, Option, Some, get_or, refl, sym, ap, subst, ◌∙◌}
 use Rattle.std.specs.Prelude.{Contains, All}
 use Rattle.std.proofs.lemmas.List.{length-map}
 use Rattle.joint_model.specs.Components.{Rises}
 use Rattle.joint_model.specs.Heaps.{Heap, IsLive, numbered_set, with_freed}
-use Rattle.object_heap.specs.Flags.{IsSound, IsUp, TakesDown, up_count}
-use Rattle.object_heap.specs.Tidy.{CanFree}
-use Rattle.object_heap.proofs.Numbered.{numbered_set-index}
-use Rattle.object_heap.proofs.Sound.{IsSound-gone, TakesDown-here, TakesDown-next, TakesDown-none}
+use Rattle.heap_rules.specs.Flags.{IsSound, IsUp, TakesDown, up_count}
+use Rattle.heap_rules.specs.Tidy.{CanFree}
+use Rattle.heap_rules.proofs.Numbered.{numbered_set-index}
+use Rattle.heap_rules.proofs.Sound.{IsSound-gone, TakesDown-here, TakesDown-next, TakesDown-none}
 use Rattle.row_heap.specs.declared.references.Reference.{Reference}
 use Rattle.row_heap.specs.Places.{Seen, row_at, gone}
 use Rattle.row_heap.specs.Rows.{HeapRows, IsRowHeap, NoneRefers, RowsFreed, heap_of, rows_of, stands_in}

@@ -9,7 +9,7 @@ use Rattle.std.proofs.lemmas.Option.{slice_get_read}
 use Rattle.std.specs.declared.snapshot.Snapshot.{Snapshot}
 use Rattle.joint_model.specs.Heaps.{numbered_at, numbered_set}
 use Rattle.joint_model.proofs.Numbered.{push-at_cases}
-use Rattle.object_heap.proofs.Numbered.{numbered-read, numbered_set-index}
+use Rattle.heap_rules.proofs.Numbered.{numbered-read, numbered_set-index}
 use Rattle.slab.specs.Slab.{Slab, get, Updates, with_value}
 use Rattle.slab.proofs.SlabLemmas.{Updates-with_value}
 use Rattle.row_heap.specs.declared.places.Row.{Row}

@@ -8,7 +8,7 @@ use Rattle.std.proofs.lemmas.List.Elements.{Contains-push_cases}
 use Rattle.std.proofs.lemmas.Option.{slice_get_within}
 use Rattle.joint_model.specs.Heaps.{Heap, numbered_at, numbered_set}
 use Rattle.joint_model.proofs.Numbered.{numbered_set-here, numbered_set-other, numbered_set-length, push-at_cases, push-at_old, push-at_new}
-use Rattle.object_heap.specs.Flags.{IsSound}
+use Rattle.heap_rules.specs.Flags.{IsSound}
 use Rattle.row_marking.specs.Traces.{IsLastBelow}
 use Rattle.row_heap.specs.declared.references.Reference.{Reference}
 use Rattle.row_heap.specs.Places.{Seen, row_at, gone}

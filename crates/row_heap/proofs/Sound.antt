@@ -1,4 +1,4 @@
--- A heap of rows stays sound. It is the heap of `object_heap` over plain lists, whose lemmas are used as they are: its flags are which rows
+-- A heap of rows stays sound. The lemmas of `heap_rules` on a heap with flags are used as they are: its flags are which rows
 -- stand. Slots and fields are written between rows that stand, so no row comes or goes, and no reference is touched. A further row stands last,
 -- and no reference is its own.
 use Rattle.std.proofs.Common.{◌≡◌, ℕ, zero, suc, ◌+◌, ◌≤◌, ◌<◌, ◌⊎◌, inl, inr, Bool, true, false, List, [], ◌∷◌, ◌++◌, map, length, replicate, Option, Some, None, set, refl, sym, ap, subst, ◌∙◌, arith, length-append}
@@ -10,9 +10,9 @@ use Rattle.joint_model.specs.Heaps.{Heap, MOST, IsLive, fields_of, numbered_at, 
 use Rattle.joint_model.proofs.Members.{Contains-nil, Contains-at}
 use Rattle.row_heap.proofs.Indexed.{stands-within}
 use Rattle.joint_model.proofs.Numbered.{numbered-push_old, numbered-push_new, numbered-past, numbered_set-length}
-use Rattle.object_heap.specs.Flags.{IsSound}
-use Rattle.object_heap.specs.Tidy.{IsTidy}
-use Rattle.object_heap.proofs.Sound.{IsSound-empty, IsSound-added, IsSound-field, IsUp-live}
+use Rattle.heap_rules.specs.Flags.{IsSound}
+use Rattle.heap_rules.specs.Tidy.{IsTidy}
+use Rattle.heap_rules.proofs.Sound.{IsSound-empty, IsSound-added, IsSound-field, IsUp-live}
 use Rattle.row_marking.specs.Traces.{IsLastBelow}
 use Rattle.row_heap.specs.declared.references.Reference.{Reference}
 use Rattle.row_heap.specs.Places.{Seen, row_at, gone}

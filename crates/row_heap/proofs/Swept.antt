@@ -6,9 +6,9 @@ use Rattle.std.proofs.Math.Seq.{drop-append_seam}
 use Rattle.std.proofs.lemmas.List.Elements.{Contains-push, Contains-push_cases, Contains-append_left}
 use Rattle.joint_model.specs.Heaps.{IsLive, InSlot, numbered_set}
 use Rattle.joint_model.proofs.Members.{All-members, Contains-nil, Rises-push}
-use Rattle.object_heap.specs.Flags.{IsSound, TakesDown, up_count}
-use Rattle.object_heap.specs.Tidy.{CanFree}
-use Rattle.object_heap.proofs.Sound.{TakesDown-push, up_count-down}
+use Rattle.heap_rules.specs.Flags.{IsSound, TakesDown, up_count}
+use Rattle.heap_rules.specs.Tidy.{CanFree}
+use Rattle.heap_rules.proofs.Sound.{TakesDown-push, up_count-down}
 use Rattle.reachability.specs.Marks.{IsClosed, IsMarked}
 use Rattle.row_heap.specs.declared.references.Reference.{Reference}
 use Rattle.row_heap.specs.Marks.{AreWhite, EdgeOf}

@@ -7,7 +7,7 @@ use Rattle.std.proofs.lemmas.List.{length-map, map-set}
 use Rattle.std.proofs.lemmas.Option.{slice_get_read, slice_get_within, slice_get-map}
 use Rattle.joint_model.specs.Heaps.{Heap, IsLive, numbered_set}
 use Rattle.joint_model.proofs.Members.{Contains-at}
-use Rattle.object_heap.specs.Flags.{IsSound}
+use Rattle.heap_rules.specs.Flags.{IsSound}
 use Rattle.row_marking.specs.Traces.{IsLastBelow}
 use Rattle.row_heap.specs.declared.references.Reference.{Reference}
 use Rattle.row_heap.specs.Places.{Seen, row_at}

@@ -4,7 +4,7 @@ use Rattle.std.specs.Prelude.{◌≡◌, ℕ, ◌+◌, ◌≤◌, ◌⊎◌, ◌
 use Rattle.joint_model.specs.Components.{Rises}
 use Rattle.joint_model.specs.PeerReplay.{Refers}
 use Rattle.joint_model.specs.Heaps.{Heap, IsLive, opening_heap}
-use Rattle.object_heap.specs.Flags.{IsSound, TakesDown}
+use Rattle.heap_rules.specs.Flags.{IsSound, TakesDown}
 use Rattle.row_marking.specs.Traces.{IsLastBelow}
 use Rattle.row_heap.specs.declared.references.Reference.{Reference}
 use Rattle.row_heap.specs.Places.{Seen, row_at, is_white}

@@ -3,14 +3,14 @@
 ghost use Rattle.std.specs.Prelude.{◌≡◌, ℕ, ◌+◌, ◌≤◌, ◌↔◌, ◌++◌, List, map, All, Contains, length, vec_capacity};
 ghost use Rattle.joint_model.specs.Components.{Rises};
 ghost use Rattle.joint_model.specs.Heaps.{with_freed};
-ghost use Rattle.object_heap.specs.Flags.{IsUp, up_count};
-ghost use Rattle.object_heap.specs.Tidy.{CanFree};
+ghost use Rattle.heap_rules.specs.Flags.{IsUp, up_count};
+ghost use Rattle.heap_rules.specs.Tidy.{CanFree};
 ghost use Rattle.reachability.specs.Marks.{IsMarked};
 ghost use Rattle.row_heap.specs.Rows.{NoneRefers, RowsFreed, stands_in};
 
 use crate::heap::RowHeap;
 use crate::places::Rows;
-use object_heap::Number;
+use heap_rules::Number;
 
 impl<N: Number> RowHeap<N> {
     /// Frees the objects of a list, which have no mark from then on. It takes no memory, and its time goes by the list alone.

@@ -3,12 +3,12 @@
 ghost use Rattle.std.specs.Prelude.{◌≡◌, ℕ, ◌+◌, ◌<◌, ◌≤◌, ◌↔◌, ◌++◌, [], ◌∷◌, List, map, Contains, All, Option, Some, None, IsTrue, true, IfOk, OnOk, OnErr, IfSome, length, vec_capacity};
 ghost use Rattle.std.specs.Option.{ForSome};
 ghost use Rattle.joint_model.specs.Heaps.{Heap, MOST, IsMade, IsLive, InSlot, slot, fields_of, is_full, opening_heap, next_number, with_object, with_var, with_static, with_field, with_freed};
-ghost use Rattle.object_heap.specs.Tidy.{IsTidy, CanFree};
+ghost use Rattle.heap_rules.specs.Tidy.{IsTidy, CanFree};
 ghost use Rattle.row_heap.specs.Rows.{HeapRows, opening_rows};
 
 use crate::places::Rows;
 use crate::references::Reference;
-use object_heap::Number;
+use heap_rules::Number;
 use std::alloc::{AllocError, Global};
 use std::marker::Model;
 

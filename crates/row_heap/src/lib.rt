@@ -1,7 +1,7 @@
 // The heap of one side: objects as rows on a slab, with marks, and references beside their fields.
 //
 // A side makes a [`RowHeap`] once. `add_object` makes an object, which `set_var` then gives a name; `copy`, `set`, `get`, `drop`, `load` and
-// `store` are the operations of a script, each of which answers an [`object_heap::Done`], and each call is one of the definitions of the joint
+// `store` are the operations of a script, each of which answers a [`heap_rules::Done`], and each call is one of the definitions of the joint
 // model's `Heap`. No call looks at more than the rows that it names.
 //
 // A marking stands in the rows. `begin_marking` takes all marks down, `visit_slots` marks what variables and statics name, the collector marks
@@ -14,7 +14,7 @@
 //
 // Objects have the numbers 1, 2, 3 and so on for ever, and their rows are in a slab, which uses the memory of freed rows again: `places.rt` has
 // the index between them. A read of a field is a load from the index and one from the slab. The list of freed objects has room for each
-// object. What `object_heap` proves of a heap over plain lists is used as it stands: its flags are which rows stand.
+// object. What `heap_rules` proves of a heap with flags is used as it stands: its flags are which rows stand.
 //
 // A heap is a part of its side, which alone changes it. What is promised: each operation is the definition's own, a finished marking has marked exactly
 // what its roots reach, and a sweep frees exactly the live rows without a mark.

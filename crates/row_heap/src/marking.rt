@@ -11,7 +11,7 @@ ghost use Rattle.row_marking.specs.Traces.{Greyed, Greying, IsGreying};
 ghost use Rattle.row_heap.specs.Marks.{AreEndsLive, EdgeOf};
 
 use crate::heap::RowHeap;
-use object_heap::Number;
+use heap_rules::Number;
 use row_marking::{finish, mark_from, visit};
 
 impl<N: Number> RowHeap<N> {

@@ -3,10 +3,10 @@
 ghost use Rattle.std.specs.Prelude.{◌≡◌, ◌<◌, length};
 ghost use Rattle.std.specs.Option.{ForSome};
 ghost use Rattle.joint_model.specs.Heaps.{IsLive, fields_of, copied, field_set, field_stored, field_got, read_into, dropped, loaded, stored};
-ghost use Rattle.object_heap.specs.Done.{Did};
+ghost use Rattle.heap_rules.specs.Done.{Did};
 
 use crate::heap::RowHeap;
-use object_heap::{Done, Number};
+use heap_rules::{Done, Number};
 
 impl<N: Number> RowHeap<N> {
     /// `copy V W`: V names the object of W.

@@ -9,7 +9,7 @@ ghost use Rattle.row_heap.specs.Rows.{FirstsCleared};
 
 use crate::heap::RowHeap;
 use crate::places::Rows;
-use object_heap::Number;
+use heap_rules::Number;
 use std::alloc::AllocError;
 
 /// A reference, and the place of the one before it of the same row, counted from 1; 0 where it is the row's first.

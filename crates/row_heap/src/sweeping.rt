@@ -2,7 +2,7 @@
 
 ghost use Rattle.std.specs.Prelude.{◌≡◌, ℕ, ◌+◌, ◌≤◌, ◌++◌, [], ◌∷◌, true, if◌then◌else◌, map, length, drop, vec_capacity};
 ghost use Rattle.joint_model.specs.Heaps.{InSlot, MOST, numbered_set, with_freed};
-ghost use Rattle.object_heap.specs.Flags.{up_count};
+ghost use Rattle.heap_rules.specs.Flags.{up_count};
 ghost use Rattle.reachability.specs.Marks.{IsClosed, IsMarked};
 ghost use Rattle.row_heap.specs.Marks.{AreWhite, EdgeOf};
 ghost use Rattle.row_heap.specs.Places.{gone, is_white, row_at};
@@ -10,7 +10,7 @@ ghost use Rattle.row_heap.specs.Rows.{RowsSwept, stands_in};
 
 use crate::heap::RowHeap;
 use crate::places::Rows;
-use object_heap::Number;
+use heap_rules::Number;
 
 impl<N: Number> RowHeap<N> {
     /// Frees each live object without a mark, by one pass over the numbers of all objects, and puts them last on the list of freed ones, in

@@ -3,7 +3,7 @@
 ghost use Rattle.std.specs.Prelude.{◌≡◌};
 
 use crate::heap::RowHeap;
-use object_heap::Number;
+use heap_rules::Number;
 use row_marking::Traced;
 
 // The rows are the live objects. A marking leaves all but marks and links as it is.

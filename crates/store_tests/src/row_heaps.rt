@@ -1,7 +1,7 @@
 // Small heaps of rows: operations, references and a sweep.
 
 use joint_model::PNum;
-use object_heap::Done;
+use heap_rules::Done;
 use row_heap::RowHeap;
 use std::alloc::AllocError;
 

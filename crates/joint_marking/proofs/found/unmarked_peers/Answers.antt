@@ -4,7 +4,7 @@ use Rattle.std.proofs.lemmas.List.{map-append}
 use Rattle.joint_model.specs.declared.names.PNum.{PNum}
 use Rattle.joint_model.specs.Histories.{peer_numbers}
 use Rattle.joint_model.proofs.Deciding.{test-true, test-false}
-use Rattle.object_heap.proofs.Gathering.{Gathered-push, Gathered-skip}
+use Rattle.joint_model.proofs.Gathering.{Gathered-push, Gathered-skip}
 use Rattle.joint_marking.specs.Nodes.{IsUnmarkedPeer}
 use Rattle.joint_marking.proofs.Gathering.{Gathered-end}
 use Rattle.joint_marking.proofs.found.unmarked_peers.Goals as goal

@@ -2,7 +2,7 @@
 use Rattle.std.proofs.Common.{◌∙◌, Some, ap, refl, arith}
 use Rattle.std.proofs.Math.Seq.{map-set_same}
 use Rattle.std.proofs.lemmas.List.{length-map}
-use Rattle.object_heap.proofs.Numbered.{numbered-read}
+use Rattle.heap_rules.proofs.Numbered.{numbered-read}
 use Rattle.managed_side.specs.declared.rows.Held.{Held}
 use Rattle.managed_side.proofs.Forgetting.{AreCleared-none, AreCleared-set}
 use Rattle.managed_side.proofs.Peers.{peers_of}

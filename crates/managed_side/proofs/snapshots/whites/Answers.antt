@@ -5,7 +5,7 @@ use Rattle.joint_model.specs.declared.names.MNum.{MNum}
 use Rattle.joint_model.specs.Heaps.{IsLive}
 use Rattle.joint_model.specs.Histories.{managed_numbers}
 use Rattle.joint_model.proofs.Deciding.{test-true, test-false}
-use Rattle.object_heap.proofs.Gathering.{Gathered-push, Gathered-skip, Gathered-all, made-below}
+use Rattle.joint_model.proofs.Gathering.{Gathered-push, Gathered-skip, Gathered-all, made-below}
 use Rattle.reachability.specs.Marks.{IsMarked}
 use Rattle.managed_side.proofs.snapshots.whites.Goals as goal
 use Rattle.managed_side.proofs.snapshots.whites.Goals.{then-is_white+in_ok-push, else-is_white}

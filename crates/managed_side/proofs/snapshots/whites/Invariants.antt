@@ -1,7 +1,7 @@
 -- The rows so far are asked.
 use Rattle.joint_model.specs.Heaps.{IsLive}
 use Rattle.joint_model.specs.Histories.{managed_numbers}
-use Rattle.object_heap.specs.Gathered.{Gathered}
+use Rattle.joint_model.specs.Gathered.{Gathered}
 use Rattle.reachability.specs.Marks.{IsMarked}
 use Rattle.managed_side.proofs.snapshots.whites.Given as goal
 

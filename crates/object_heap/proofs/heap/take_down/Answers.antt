@@ -1,7 +1,7 @@
 -- The numbers rise, so each object's flag is still up when its turn comes, and there is room for each.
 use Rattle.std.proofs.Common.{◌≡◌, refl, ◌+◌, ◌∙◌, ◌++◌, [], ◌∷◌, take, length, sym, ap, arith, append_assoc, length-append}
 use Rattle.std.proofs.lemmas.List.{take_more, length-map}
-use Rattle.object_heap.proofs.Sound.{TakesDown-here, TakesDown-next}
+use Rattle.heap_rules.proofs.Sound.{TakesDown-here, TakesDown-next}
 use Rattle.object_heap.proofs.heap.take_down.Goals as goal
 
 pub overflow_sub-number : goal.overflow_sub-number

@@ -1,6 +1,6 @@
 -- The flags of the objects so far are down.
 use Rattle.std.proofs.Common.{◌≡◌, ◌++◌, map, take, vec_capacity}
-use Rattle.object_heap.specs.Flags.{TakesDown}
+use Rattle.heap_rules.specs.Flags.{TakesDown}
 use Rattle.object_heap.proofs.heap.take_down.Given as goal
 
 abbrev pub invariant-loop-x : goal.invariant-loop-x

@@ -1,8 +1,8 @@
 -- Nothing names the one object of a new heap.
 use Rattle.std.proofs.Common.{◌≡◌, ◌∙◌, ◌∷◌, [], ℕ, sym, ap, subst}
 use Rattle.joint_model.specs.Heaps.{Heap, opening_heap, with_object, next_number}
-use Rattle.object_heap.specs.Tidy.{CanFree}
-use Rattle.object_heap.proofs.Sound.{CanFree-lone}
+use Rattle.heap_rules.specs.Tidy.{CanFree}
+use Rattle.heap_rules.proofs.Sound.{CanFree-lone}
 use Rattle.object_heap.proofs.tests.frees_what_nothing_names.Goals as goal
 
 pub free-requires : goal.free-requires

@@ -2,7 +2,7 @@
 use Rattle.std.proofs.Common.{◌≡◌, ◌∙◌, refl, sym, ap, length, map, arith}
 use Rattle.std.proofs.lemmas.List.{length-map}
 use Rattle.joint_model.specs.Heaps.{Heap, IsMade}
-use Rattle.object_heap.proofs.Numbered.{fields-read}
+use Rattle.heap_rules.proofs.Numbered.{fields-read}
 use Rattle.joint_replay.proofs.heap.PlainHeap.fields_len.Goals as goal
 
 pub returns : goal.returns

@@ -2,8 +2,8 @@
 use Rattle.std.proofs.Common.{◌≡◌, ◌∙◌, refl, ap, length, map, arith}
 use Rattle.joint_model.specs.Heaps.{IsMade, fields_of}
 use Rattle.joint_model.proofs.Numbered.{numbered_set-length}
-use Rattle.object_heap.proofs.Numbered.{fields-read, map-set_number}
-use Rattle.object_heap.proofs.Sound.{write-is}
+use Rattle.heap_rules.proofs.Numbered.{fields-read, map-set_number}
+use Rattle.heap_rules.proofs.Sound.{write-is}
 use Rattle.joint_replay.proofs.Flags.{IsFlagged-as, fields_of-made}
 use Rattle.joint_replay.proofs.heap.PlainHeap.write.Goals as goal
 

@@ -3,7 +3,7 @@ use Rattle.std.proofs.Common.{◌≡◌, ◌≤◌, Some, map, length, subst, ar
 use Rattle.std.proofs.lemmas.List.{length-map}
 use Rattle.joint_model.specs.Heaps.{numbered_at}
 use Rattle.joint_model.specs.Peers.{Peers}
-use Rattle.object_heap.proofs.Numbered.{numbered-read}
+use Rattle.heap_rules.proofs.Numbered.{numbered-read}
 use Rattle.joint_replay.specs.Plain.{issued_as}
 use Rattle.joint_replay.proofs.peers.PeerPart.handle.Goals as goal
 

@@ -4,7 +4,7 @@ use Rattle.std.proofs.lemmas.List.{length-map}
 use Rattle.joint_model.specs.Heaps.{answer}
 use Rattle.joint_model.specs.Managed.{handle_of}
 use Rattle.joint_model.specs.ManagedReplay.{ManagedReplay, without_twins}
-use Rattle.object_heap.proofs.Numbered.{numbered-read}
+use Rattle.heap_rules.proofs.Numbered.{numbered-read}
 use Rattle.managed_side.specs.declared.rows.Held.{Held}
 use Rattle.managed_side.specs.Rows.{pairs_of, rows_of}
 use Rattle.managed_side.specs.TwinEvents.{give_row, handle_said}

@@ -8,7 +8,7 @@ use Rattle.joint_model.specs.Histories.{managed_numbers}
 use Rattle.joint_model.specs.Managed.{holds_handle}
 use Rattle.joint_model.specs.ManagedReplay.{ManagedReplay}
 use Rattle.joint_laws.specs.ManagedInvariants.{IsManagedKept}
-use Rattle.object_heap.specs.Tidy.{CanFree}
+use Rattle.heap_rules.specs.Tidy.{CanFree}
 use Rattle.row_heap.specs.Rows.{HeapRows}
 use Rattle.managed_side.specs.declared.rows.Held.{Held}
 use Rattle.managed_side.specs.Resolving.{TakesResolution, has_handle}

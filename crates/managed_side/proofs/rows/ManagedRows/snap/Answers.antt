@@ -5,7 +5,7 @@ use Rattle.joint_model.specs.Heaps.{IsLive, with_freed}
 use Rattle.joint_model.specs.Histories.{managed_numbers}
 use Rattle.joint_model.specs.ManagedReplay.{ManagedReplay}
 use Rattle.joint_laws.specs.ManagedInvariants.{IsManagedKept}
-use Rattle.object_heap.specs.Tidy.{CanFree}
+use Rattle.heap_rules.specs.Tidy.{CanFree}
 use Rattle.row_heap.specs.Rows.{HeapRows}
 use Rattle.managed_side.specs.Dues.{HasDue}
 use Rattle.managed_side.specs.Rows.{rows_of}

@@ -2,7 +2,7 @@
 use Rattle.std.proofs.Common.{◌≡◌, ◌∙◌, ◌++◌, ◌+◌, ◌<◌, ◌≤◌, [], ◌∷◌, None, ap, map, length, replicate, true, arith, length-append, rules, vec_capacity}
 use Rattle.std.proofs.lemmas.List.{map-append, length-map}
 use Rattle.joint_model.specs.Heaps.{Heap, MOST}
-use Rattle.object_heap.proofs.Sound.{IsSound-added, IsLive-last}
+use Rattle.heap_rules.proofs.Sound.{IsSound-added, IsLive-last}
 use Rattle.object_heap.proofs.heap.ObjectHeap.add_object.Goals as goal
 
 pub invariant_of-self-2 : goal.invariant_of-self-2

@@ -1,10 +1,10 @@
 -- The row of the object is the Vec at its index, and what a live object's field holds is live.
 use Rattle.std.proofs.Common.{◌≡◌, List, Option, ℕ, get_or, refl, sym, ap, subst, length, arith}
 use Rattle.std.specs.Prelude.{Contains}
-use Rattle.object_heap.specs.Tidy.{IsTidy}
+use Rattle.heap_rules.specs.Tidy.{IsTidy}
 use Rattle.joint_model.specs.Heaps.{fields_of}
-use Rattle.object_heap.proofs.Numbered.{fields-read, slot-read}
-use Rattle.object_heap.proofs.Sound.{read-live}
+use Rattle.heap_rules.proofs.Numbered.{fields-read, slot-read}
+use Rattle.heap_rules.proofs.Sound.{read-live}
 use Rattle.object_heap.proofs.heap.ObjectHeap.field.Goals as goal
 
 pub index-requires-2 : goal.index-requires-2

@@ -1,6 +1,6 @@
 -- The row of the object is the Vec at its index.
 use Rattle.std.proofs.Common.{◌∙◌, refl, sym, ap, length}
-use Rattle.object_heap.proofs.Numbered.{fields-read}
+use Rattle.heap_rules.proofs.Numbered.{fields-read}
 use Rattle.object_heap.proofs.heap.ObjectHeap.fields_len.Goals as goal
 
 pub returns : goal.returns

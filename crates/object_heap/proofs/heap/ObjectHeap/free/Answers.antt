@@ -2,8 +2,8 @@
 use Rattle.std.proofs.Common.{◌∙◌, ap, map, subst}
 use Rattle.std.proofs.lemmas.List.{map-append}
 use Rattle.joint_model.specs.Heaps.{Heap}
-use Rattle.object_heap.specs.Flags.{AreLiveFlags}
-use Rattle.object_heap.proofs.Sound.{IsUp-live, IsSound-gone}
+use Rattle.heap_rules.specs.Flags.{AreLiveFlags}
+use Rattle.heap_rules.proofs.Sound.{IsUp-live, IsSound-gone}
 use Rattle.object_heap.proofs.heap.ObjectHeap.free.Goals as goal
 
 pub take_down-requires-clause-up : goal.take_down-requires-clause-up

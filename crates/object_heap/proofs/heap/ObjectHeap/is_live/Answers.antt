@@ -1,9 +1,9 @@
 -- The flag of the object tells.
 use Rattle.std.proofs.Common.{◌≤◌, length, arith, subst}
 use Rattle.joint_model.specs.Heaps.{Heap}
-use Rattle.object_heap.specs.Flags.{AreLiveFlags}
-use Rattle.object_heap.proofs.Numbered.{numbered-index}
-use Rattle.object_heap.proofs.Sound.{IsLive-flag}
+use Rattle.heap_rules.specs.Flags.{AreLiveFlags}
+use Rattle.heap_rules.proofs.Numbered.{numbered-index}
+use Rattle.heap_rules.proofs.Sound.{IsLive-flag}
 use Rattle.object_heap.proofs.heap.ObjectHeap.is_live.Goals as goal
 
 pub returns : goal.returns

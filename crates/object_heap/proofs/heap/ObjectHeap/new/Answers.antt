@@ -1,6 +1,6 @@
 -- An empty heap is sound.
 use Rattle.std.proofs.Common.{refl, ap, map}
-use Rattle.object_heap.proofs.Sound.{IsSound-empty}
+use Rattle.heap_rules.proofs.Sound.{IsSound-empty}
 use Rattle.object_heap.proofs.heap.ObjectHeap.new.Goals as goal
 
 pub invariant_of-result : goal.invariant_of-result

@@ -1,8 +1,8 @@
 -- The row of the object is written at the index of its Vec, and what the field holds from now on is live.
 use Rattle.std.proofs.Common.{◌≡◌, refl, ap, length, arith}
 use Rattle.joint_model.specs.Heaps.{fields_of}
-use Rattle.object_heap.proofs.Numbered.{fields-read, map-set_number}
-use Rattle.object_heap.proofs.Sound.{IsSound-write, write-is}
+use Rattle.heap_rules.proofs.Numbered.{fields-read, map-set_number}
+use Rattle.heap_rules.proofs.Sound.{IsSound-write, write-is}
 use Rattle.object_heap.proofs.heap.ObjectHeap.set_field.Goals as goal
 
 pub index_mut-requires-2 : goal.index_mut-requires-2

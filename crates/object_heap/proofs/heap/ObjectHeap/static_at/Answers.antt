@@ -1,7 +1,7 @@
 -- A heap is tidy: what a slot names is live.
 use Rattle.std.proofs.Common.{◌<◌, length, None, inr, arith}
 use Rattle.std.proofs.lemmas.List.Elements.{Contains-get_or}
-use Rattle.object_heap.proofs.Sound.{read-live}
+use Rattle.heap_rules.proofs.Sound.{read-live}
 use Rattle.object_heap.proofs.heap.ObjectHeap.static_at.Goals as goal
 
 pub returns-clause-live : goal.returns-clause-live

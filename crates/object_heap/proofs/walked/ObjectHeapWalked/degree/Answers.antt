@@ -1,7 +1,7 @@
 -- A live object has its fields as places, and all else has none.
 use Rattle.std.proofs.Common.{◌∙◌, sym, ap, subst, refl, length}
 use Rattle.joint_model.specs.Heaps.{IsLive, fields_of}
-use Rattle.object_heap.proofs.Targets.{live_fields-live}
+use Rattle.heap_rules.proofs.Targets.{live_fields-live}
 use Rattle.object_heap.proofs.walked.ObjectHeapWalked.degree.Goals as goal
 
 pub returns-then-is_live : goal.returns-then-is_live

@@ -2,7 +2,7 @@
 use Rattle.std.proofs.Common.{◌≡◌, ◌∙◌, ◌+◌, ◌<◌, ◌≤◌, None, ap, map, length, replicate, refl, arith, rules, vec_capacity, length-append}
 use Rattle.std.proofs.lemmas.List.{length-map}
 use Rattle.joint_model.specs.Heaps.{MOST}
-use Rattle.object_heap.proofs.Sound.{IsLive-last}
+use Rattle.heap_rules.proofs.Sound.{IsLive-last}
 use Rattle.row_heap.proofs.Sound.{IsRowHeap-added}
 use Rattle.row_heap.proofs.heap.RowHeap.add_object.Goals as goal
 

@@ -3,8 +3,8 @@ use Rattle.std.proofs.Common.{◌∙◌, ◌<◌, sym, ap, length, arith, subst}
 use Rattle.std.specs.Prelude.{Contains}
 use Rattle.std.proofs.lemmas.List.Elements.{Contains-get_or}
 use Rattle.joint_model.specs.Heaps.{slot, fields_of}
-use Rattle.object_heap.proofs.Numbered.{slot-read}
-use Rattle.object_heap.proofs.Sound.{read-live}
+use Rattle.heap_rules.proofs.Numbered.{slot-read}
+use Rattle.heap_rules.proofs.Sound.{read-live}
 use Rattle.row_heap.proofs.Sound.{live-stands, fields-seen, tidy-seen}
 use Rattle.row_heap.proofs.heap.RowHeap.field.Goals as goal
 

@@ -1,7 +1,7 @@
 -- The rows of the list are removed, and the heap stays sound.
 use Rattle.std.proofs.Common.{◌∙◌, ap, map}
 use Rattle.std.proofs.lemmas.List.{map-append}
-use Rattle.object_heap.proofs.Sound.{IsUp-live}
+use Rattle.heap_rules.proofs.Sound.{IsUp-live}
 use Rattle.row_heap.proofs.Freed.{IsRowHeap-freed, seen-freed}
 use Rattle.row_heap.proofs.Swept.{marks-freed}
 use Rattle.row_heap.proofs.heap.RowHeap.free.Goals as goal

@@ -1,5 +1,5 @@
 -- What a slot names from now on is live.
-use Rattle.object_heap.proofs.Sound.{IsSound-static}
+use Rattle.heap_rules.proofs.Sound.{IsSound-static}
 use Rattle.row_heap.proofs.heap.RowHeap.set_static.Goals as goal
 
 pub invariant_of-self : goal.invariant_of-self

@@ -1,5 +1,5 @@
 -- What a slot names from now on is live.
-use Rattle.object_heap.proofs.Sound.{IsSound-var}
+use Rattle.heap_rules.proofs.Sound.{IsSound-var}
 use Rattle.row_heap.proofs.heap.RowHeap.set_var.Goals as goal
 
 pub invariant_of-self : goal.invariant_of-self

@@ -1,7 +1,7 @@
 -- A heap is tidy: what a slot names is live.
 use Rattle.std.proofs.Common.{◌<◌, length, None, inl, arith}
 use Rattle.std.proofs.lemmas.List.Elements.{Contains-get_or}
-use Rattle.object_heap.proofs.Sound.{read-live}
+use Rattle.heap_rules.proofs.Sound.{read-live}
 use Rattle.row_heap.proofs.heap.RowHeap.var.Goals as goal
 
 pub returns-clause-live : goal.returns-clause-live

@@ -4,7 +4,7 @@ use Rattle.std.specs.Prelude.{Contains, slice_get}
 use Rattle.std.proofs.lemmas.List.Elements.{Contains-get_or}
 use Rattle.std.proofs.lemmas.Option.{slice_get_read}
 use Rattle.joint_model.specs.Heaps.{fields_of}
-use Rattle.object_heap.proofs.Sound.{read-live}
+use Rattle.heap_rules.proofs.Sound.{read-live}
 use Rattle.row_heap.proofs.Sound.{fields-seen, tidy-seen}
 use Rattle.row_heap.proofs.Walked.{stands-seen, live-fields}
 use Rattle.row_heap.proofs.tracing.RowHeapTraced.field.Goals as goal

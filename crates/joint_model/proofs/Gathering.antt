@@ -4,7 +4,7 @@ use Rattle.std.proofs.Common.{ℕ, ◌+◌, ◌<◌, inl, inr, List, [], ◌∷�
 use Rattle.std.specs.Prelude.{Contains}
 use Rattle.std.proofs.lemmas.List.Elements.{Contains-push, Contains-push_cases, Contains-append_left}
 use Rattle.joint_model.proofs.Members.{All-members, last-or, Rises-push}
-use Rattle.object_heap.specs.Gathered.{Gathered}
+use Rattle.joint_model.specs.Gathered.{Gathered}
 use Rattle.joint_model.specs.Heaps.{Heap, IsLive}
 
 -- the next number is wanted

@@ -2,7 +2,7 @@
 -- own.)
 use Rattle.std.specs.Prelude.{◌≡◌, ℕ, ◌+◌, ◌≤◌, Bool, true, false, List, [], ◌∷◌, Contains, Some, length}
 use Rattle.joint_model.specs.Heaps.{Heap, IsLive, numbered_at}
-use Rattle.object_heap.specs.Tidy.{IsTidy}
+use Rattle.heap_rules.specs.Tidy.{IsTidy}
 
 -- the object's flag is up
 abbrev pub IsUp : List Bool → ℕ → Type 0

@@ -1,4 +1,3 @@
 pub mod Done
 pub mod Tidy
 pub mod Flags
-pub mod Gathered

@@ -14,9 +14,9 @@ use Rattle.joint_model.proofs.Members.{Contains-cons_cases, Contains-at, Contain
 use Rattle.joint_model.proofs.Numbered.{Contains-set_cases, numbered-within, numbered-made, numbered-push_cases, numbered_set-length, replicate-none}
 use Rattle.joint_model.proofs.HeapLemmas.{IsLive-before, IsLive-left, IsLive-later}
 use Rattle.joint_model.proofs.Deciding.{true_false}
-use Rattle.object_heap.specs.Tidy.{IsTidy, CanFree}
-use Rattle.object_heap.specs.Flags.{IsUp, AreLiveFlags, IsSound, TakesDown, up_count}
-use Rattle.object_heap.proofs.Numbered.{number-at, map-take_more, numbered_set-index, row-is, row-set_cases, row-there}
+use Rattle.heap_rules.specs.Tidy.{IsTidy, CanFree}
+use Rattle.heap_rules.specs.Flags.{IsUp, AreLiveFlags, IsSound, TakesDown, up_count}
+use Rattle.heap_rules.proofs.Numbered.{number-at, map-take_more, numbered_set-index, row-is, row-set_cases, row-there}
 
 -- liveness depends on how many objects were made and on which were freed alone
 pub IsLive-as : (h k : Heap) → length k.fields ≡ length h.fields → k.freed ≡ h.freed → (x : ℕ) → IsLive h x → IsLive k x

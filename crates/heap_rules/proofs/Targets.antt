@@ -5,8 +5,8 @@ use Rattle.joint_model.specs.Heaps.{Heap, IsLive, fields_of, is_freed}
 use Rattle.joint_model.proofs.Numbered.{numbered-within}
 use Rattle.joint_model.proofs.HeapLemmas.{Contains-is_freed, is_freed-live}
 use Rattle.joint_model.proofs.Deciding.{true_false}
-use Rattle.object_heap.specs.Tidy.{live_fields}
-use Rattle.object_heap.proofs.Numbered.{row-there}
+use Rattle.heap_rules.specs.Tidy.{live_fields}
+use Rattle.heap_rules.proofs.Numbered.{row-there}
 
 -- the places of a live object are its fields
 pub live_fields-live : (h : Heap) (x : ℕ) → IsLive h x → live_fields h x ≡ fields_of h x

@@ -1,4 +1,3 @@
 pub mod Numbered
 pub mod Sound
 pub mod Targets
-pub mod Gathering

@@ -3,8 +3,8 @@ use Rattle.std.specs.Prelude.{◌≡◌, ℕ}
 use Rattle.joint_model.specs.declared.events.Reply.{Reply}
 use Rattle.joint_model.specs.declared.events.Reply.TheVariants as says
 use Rattle.joint_model.specs.Heaps.{Heap, Answered, answer}
-use Rattle.object_heap.specs.declared.done.Done.{Done}
-use Rattle.object_heap.specs.declared.done.Done.TheVariants as done
+use Rattle.heap_rules.specs.declared.done.Done.{Done}
+use Rattle.heap_rules.specs.declared.done.Done.TheVariants as done
 
 -- the reply, where `name` is how a reply names an object
 abbrev pub say : (ℕ → Reply) → Done → Reply
