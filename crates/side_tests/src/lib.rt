@@ -18,6 +18,8 @@ mod managed_checks;
 #[cfg(test)]
 mod managed_rows;
 #[cfg(test)]
+mod mirror_rows;
+#[cfg(test)]
 mod mirrors;
 #[cfg(test)]
 mod peer_rows;

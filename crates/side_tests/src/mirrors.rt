@@ -1,4 +1,4 @@
-// A mirrored cycle on a peer side, by its calls: two peers, each under a handle of m1's making, whose managed objects lead to one another.
+// Plays a mirrored cycle on a peer side, by its calls: two peers, each under a handle of m1's making, whose managed objects lead to one another.
 
 ghost use Rattle.std.specs.Prelude.{◌≡◌, [], ◌∷◌, IfOk, IsTrue, None, OnOk, Some};
 ghost use Rattle.joint_model.specs.PeerReplay.{TableRow, peer_answer, row_of};
@@ -13,25 +13,19 @@ use bridge_graph::{DeadGraph, GraphBuilder};
 use global_handles::{Back, Strength};
 use handle_weaken::{restore_all, restore_one, weaken_all, weaken_one};
 use joint_model::Reply::{self, Cleared, Mark, MarkOpen, NoMark, P, Refs, Swept};
-use joint_model::{
-    Act, Alive, Counter, Cycle, HNum, MNum, Marking, Op, PNum, Sort, Span, StaticNo, Thread,
-};
+use joint_model::{Act, Alive, Counter, Cycle, HNum, MNum, Op, Sort, StaticNo, Thread};
 use peer_mirror::{clear, install};
 use peer_side::{BeginFault, PeerSide};
 use std::alloc::{AllocError, Global};
 use std::marker::Model;
-use std::test::Fail;
 use xref_list::{Components, ComponentsBuilder};
 
-// What is done, and what that answers.
-type Row = (Call, Reply);
+/// What is done, and what that answers.
+pub type Row = (Call, Reply);
 
-// No peers, in the list of freed ones.
-const NONE: Span = Span { first: 0, count: 0 };
-
-// What is done to a side, in short.
+/// What is done to a side, in short.
 #[derive(Clone, Copy)]
-enum Call {
+pub enum Call {
     // the circle is mirrored, and its references go
     Install,
     Clear,
@@ -348,69 +342,8 @@ fn start(alloc: Global) -> Result<Driven, AllocError> {
     })
 }
 
-// The place of the first row of a table that is answered otherwise than it says, on a new side.
-fn play(alloc: Global, rows: &[Row]) -> Result<Option<usize>, AllocError> {
+/// The place of the first row of a table that is answered otherwise than it says, on a new side.
+pub fn play(alloc: Global, rows: &[Row]) -> Result<Option<usize>, AllocError> {
     let mut driven = start(alloc)?;
     driven.first_miss(alloc, rows)
-}
-
-// While one handle is strong, its peer holds the other one over the circle; and while neither is, a peer in a static does.
-const CIRCLE: [Row; 19] = [
-    (Call::References, Refs(0)),
-    (Call::Install, Refs(2)),
-    (Call::References, Refs(2)),
-    (Call::Weaken, Reply::Ok),
-    (Call::Collect, Swept(Marking(1), NONE)),
-    (Call::Weaken, Reply::Ok),
-    (Call::Land, P(PNum(1))),
-    (Call::MarkBegin, Mark(Marking(2))),
-    (Call::MarkBegin, MarkOpen(Marking(2))),
-    (Call::MarkSweep, Swept(Marking(2), NONE)),
-    (Call::MarkSweep, NoMark),
-    (Call::Restore, Reply::Alive),
-    (Call::Empty, Reply::Ok),
-    (Call::Collect, Swept(Marking(3), NONE)),
-    (Call::Restore, Reply::Alive),
-    (Call::References, Refs(2)),
-    (Call::Clear, Reply::Ok),
-    (Call::References, Refs(0)),
-    (Call::Collect, Swept(Marking(4), NONE)),
-];
-
-// Both are weakened and restored at once, with a landing in between that brings both peers back.
-const AT_ONCE: [Row; 9] = [
-    (Call::Install, Refs(2)),
-    (Call::WeakenAll, Reply::Ok),
-    (Call::MarkBegin, Mark(Marking(1))),
-    (Call::Land, P(PNum(1))),
-    (Call::Empty, Reply::Ok),
-    (Call::MarkSweep, Swept(Marking(1), NONE)),
-    (Call::RestoreAll, Reply::Alive),
-    (Call::Clear, Reply::Ok),
-    (Call::References, Refs(0)),
-];
-
-// Nothing holds two peers under weak handles, whatever references stand between them.
-const FREED: [Row; 5] = [
-    (Call::Install, Refs(2)),
-    (Call::WeakenAll, Reply::Ok),
-    (
-        Call::Collect,
-        Swept(Marking(1), Span { first: 0, count: 2 }),
-    ),
-    (Call::RestoreAll, Cleared),
-    (Call::References, Refs(2)),
-];
-
-#[test]
-fn one_peer_of_a_circle_holds_the_other(rt: HostRuntime) -> Result<(), Fail> {
-    assert_eq!(rt; play(rt.alloc(), CIRCLE.as_slice())?, None);
-    Ok(())
-}
-
-#[test]
-fn handles_are_weakened_and_restored_at_once(rt: HostRuntime) -> Result<(), Fail> {
-    assert_eq!(rt; play(rt.alloc(), AT_ONCE.as_slice())?, None);
-    assert_eq!(rt; play(rt.alloc(), FREED.as_slice())?, None);
-    Ok(())
 }
