@@ -4,7 +4,7 @@ use Rattle.std.specs.Io.KnownBytes.{Appends, Keeps}
 use Rattle.std.specs.Vec.Iter.{into_iter_items}
 use Rattle.std.specs.declared.string.String.{String}
 use Rattle.std.specs.declared.vec.IntoIter.{IntoIter}
-use Rattle.bridge_script.specs.Outside.{Rose}
+use Rattle.byte_streams.specs.Streams.{Rose}
 use Rattle.bridge_run.specs.Top.{BrokeOff, IsCommand, MayGenerate, MayRun, Printed, ReadsScript, Refuses, usage_text}
 
 -- the words after the program's name, as bytes; none where the arguments couldn't be had as text

@@ -6,10 +6,10 @@ use Rattle.joint_model.specs.declared.lines.Act.{Act}
 use Rattle.joint_model.specs.Histories.{Finished}
 use Rattle.bridge_script.specs.declared.faults.ScriptFault.{ScriptFault}
 use Rattle.bridge_script.specs.Causes.{fault_text}
-use Rattle.bridge_script.specs.Outside.{AppendsPart, Rose}
+use Rattle.byte_streams.specs.Streams.{AppendsPart, Rose}
 use Rattle.bridge_script.specs.Scripts.{IsText}
 use Rattle.bridge_script.specs.Reading.{TookScript, TookFault}
-use Rattle.bridge_script.specs.Report.{report}
+use Rattle.history_report.specs.Report.{report}
 use Rattle.command_words.specs.declared.commands.Mode.{Mode}
 use Rattle.command_words.specs.declared.commands.Mode.TheVariants as mode
 use Rattle.command_words.specs.declared.commands.Command.{Command}

@@ -1,7 +1,8 @@
 // A worked script with its report, and the top call over a text with the status that it has to answer.
 
 use crate::top::bridge_main;
-use bridge_script::{ByteSink, ByteSource, FreeTurn};
+use bridge_script::FreeTurn;
+use byte_streams::{ByteSink, ByteSource};
 use std::alloc::{AllocError, Global};
 use std::process::Abort;
 use std::sync::Wait;

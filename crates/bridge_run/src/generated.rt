@@ -3,7 +3,7 @@
 ghost use Rattle.std.specs.Prelude.{◌≡◌, ◌≤◌, ◌⊎◌, IfOk, length};
 ghost use Rattle.std.specs.Io.KnownBytes.{Appends, Keeps};
 ghost use Rattle.bridge_run.specs.Top.{IsGeneratedRunIn};
-ghost use Rattle.bridge_script.specs.Outside.{AppendsPart, Rose};
+ghost use Rattle.byte_streams.specs.Streams.{AppendsPart, Rose};
 ghost use Rattle.joint_model.specs.Histories.{Finished};
 ghost use Rattle.run_laws.specs.LastCycle.{DrivesCycles};
 ghost use Rattle.run_summary.specs.Summary.{summary_text};
@@ -11,7 +11,8 @@ ghost use Rattle.run_summary.specs.Tallies.{tally_of};
 ghost use Rattle.script_generator.specs.Generated.{generated};
 
 use crate::statuses::{DONE, NO_MEMORY, WRITE_FAULT};
-use bridge_script::{Script, Sink, Turnstile};
+use bridge_script::{Script, Turnstile};
+use byte_streams::Sink;
 use command_words::Mode;
 use joint_model::History;
 use run_summary::write_summary;

@@ -1,7 +1,7 @@
 // The top call on scripts of as many lines and cycles as there may be, and of one more.
 
 use crate::expecting::{SERIAL, THREADS, expect};
-use bridge_script::ByteSink;
+use byte_streams::ByteSink;
 use std::test::Fail;
 
 // The words, lines so many times, the status, and how the text that is written ends.

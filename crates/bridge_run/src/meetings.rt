@@ -2,7 +2,8 @@
 
 use crate::expecting::{THREADS, words_of};
 use crate::top::bridge_main;
-use bridge_script::{ByteSink, PlainSource, Turnstile};
+use bridge_script::Turnstile;
+use byte_streams::{ByteSink, PlainSource};
 use joint_model::Thread;
 use std::sync::atomic::{AtomicU64, Ordering};
 use std::test::Fail;

@@ -6,7 +6,8 @@ use crate::expecting::{LINKED, LINKED_REPORT, SERIAL, USAGE, expect_text, words_
 use crate::program::run_program;
 use crate::streams::{StdSink, StdSource};
 use crate::top::bridge_main;
-use bridge_script::{ByteSink, FreeTurn, PlainSource};
+use bridge_script::FreeTurn;
+use byte_streams::{ByteSink, PlainSource};
 use std::alloc::{AllocError, Global};
 use std::env::{Env, FillError};
 use std::io;

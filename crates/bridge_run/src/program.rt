@@ -7,7 +7,8 @@ ghost use Rattle.bridge_run.specs.Ends.{Ends, words_told};
 
 use crate::statuses::NO_MEMORY;
 use crate::top::bridge_main;
-use bridge_script::{Sink, Source, Turnstile};
+use bridge_script::Turnstile;
+use byte_streams::{Sink, Source};
 use std::alloc::{AllocError, Global};
 use std::env::Args;
 use std::io;

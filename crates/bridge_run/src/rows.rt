@@ -10,7 +10,7 @@ use crate::rows_many_leaves::MANY_LEAVES;
 use crate::rows_read_and_dropped::READ_AND_DROPPED;
 use crate::rows_read_and_stored::READ_AND_STORED;
 use crate::rows_weakly_read::WEAKLY_READ;
-use bridge_script::ByteSink;
+use byte_streams::ByteSink;
 use std::alloc::{AllocError, Global};
 use std::process::Abort;
 use std::sync::Wait;

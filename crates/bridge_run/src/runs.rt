@@ -1,7 +1,7 @@
 // The top call by worked examples: printed reports, and each status. What is compared stands in a table, which one loop reads.
 
 use crate::expecting::{LINKED, LINKED_REPORT, SERIAL, THREADS, USAGE, expect, expect_text};
-use bridge_script::ByteSink;
+use byte_streams::ByteSink;
 use std::test::Fail;
 
 const GENERATED: &[&str] = &["gen", "--seed", "0", "--size", "4", "--mode", "serial"];

@@ -3,7 +3,7 @@
 
 ghost use Rattle.std.specs.Prelude.{◌≡◌};
 
-use bridge_script::{Failed, Sink, Source};
+use byte_streams::{Failed, Sink, Source};
 use std::io::{Read, Write};
 
 /// Standard input, or any other reader, as a source. Its count of faults rises at each error. It tells the bytes

@@ -5,18 +5,17 @@ ghost use Rattle.bridge_script.specs.Scripts.{IsText};
 ghost use Rattle.joint_model.specs.declared.names.Thread.{Thread};
 ghost use Rattle.joint_model.specs.declared.lines.Act.{Act};
 ghost use Rattle.std.specs.Io.KnownBytes.{Appends, Keeps};
-ghost use Rattle.bridge_script.specs.Outside.{Rose, AppendsPart};
-ghost use Rattle.bridge_script.specs.Report.{report};
+ghost use Rattle.byte_streams.specs.Streams.{Rose, AppendsPart};
+ghost use Rattle.history_report.specs.Report.{report};
 ghost use Rattle.joint_model.specs.Histories.{Finished};
 ghost use Rattle.bridge_run.specs.Top.{BrokeOff, IsCommand, IsRunIn, MayGenerate, MayRun, Printed, ReadsScript, RefusedText, Refuses, RunPart, RunPrinted, usage_text};
 
 use crate::generated::print_generated;
 use crate::statuses::{DONE, NO_MEMORY, READ_FAULT, REFUSED, USAGE, WRITE_FAULT};
-use bridge_script::{
-    Script, ScriptError, Sink, Source, Turnstile, read_script, write_refusal, write_report,
-    write_text,
-};
+use bridge_script::{Script, ScriptError, Turnstile, read_script, write_refusal};
+use byte_streams::{Sink, Source, write_text};
 use command_words::{Command, Mode, command_of, words_tell_commands};
+use history_report::write_report;
 use joint_model::History;
 use script_runs::{run_serial, run_threads};
 use std::alloc::{AllocError, Global};

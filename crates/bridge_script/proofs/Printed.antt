@@ -15,7 +15,7 @@ use Rattle.bridge_script.specs.declared.grammar.Operation.{Operation}
 use Rattle.bridge_script.specs.declared.grammar.Operation.TheVariants as operation
 use Rattle.bridge_script.specs.Words.{thread_text, act_words, line_text, spaced}
 use Rattle.bridge_script.specs.Grammar.{operation_text, operation_of}
-use Rattle.bridge_script.specs.Lists.{after_spaces}
+use Rattle.byte_streams.specs.Drafts.{after_spaces}
 use Rattle.bridge_script.specs.Scripts.{IsBuilt, IsScript, IsText, script_text_of}
 use Rattle.bridge_script.proofs.Standing.{sizes, short_small, all_short}
 use Rattle.bridge_script.proofs.Table.{has_row}

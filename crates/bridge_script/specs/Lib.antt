@@ -1,5 +1,3 @@
-pub mod Outside
-pub mod Blocks
 pub mod Words
 pub mod Grammar
 pub mod Faults
@@ -9,6 +7,3 @@ pub mod Steps
 pub mod Causes
 pub mod Reading
 pub mod Laws
-pub mod Lists
-pub mod Report
-pub mod Drafts

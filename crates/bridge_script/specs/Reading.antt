@@ -6,7 +6,7 @@ use Rattle.joint_model.specs.declared.lines.Act.{Act}
 use Rattle.bridge_script.specs.declared.faults.ScriptFault.{ScriptFault}
 use Rattle.bridge_script.specs.declared.faults.ScriptError.{ScriptError}
 use Rattle.bridge_script.specs.declared.faults.ScriptError.TheVariants.{OutOfMemory, ReadFault, Refused}
-use Rattle.bridge_script.specs.Outside.{Rose}
+use Rattle.byte_streams.specs.Streams.{Rose}
 use Rattle.bridge_script.specs.Scripts.{IsText, IsFault, IsNoText}
 
 -- these bytes were taken from a source: to its end, or up to one byte past the limit

@@ -3,9 +3,9 @@
 ghost use Rattle.std.specs.Prelude.{◌≡◌, IfOk, string_bytes};
 ghost use Rattle.bridge_script.specs.Scripts.{IsText, script_text_of};
 
-use crate::drafts::Line;
-use crate::entries::add_line;
+use crate::acts::add_line;
 use crate::scripts::Script;
+use byte_streams::Line;
 use std::alloc::{AllocError, Global};
 
 /// The text of a script, each line with its newline. [`parse`](crate::parse) reads it as the same script. Answers

@@ -4,8 +4,8 @@ ghost use Rattle.std.specs.Prelude.{◌≤◌, IfOk, IfErr};
 ghost use Rattle.bridge_script.specs.Reading.{Took, TookScript, IsReadError, IsNoScript};
 
 use crate::faults::ScriptError;
-use crate::outside::Source;
 use crate::scripts::{MOST_BYTES, Script, parse};
+use byte_streams::Source;
 use std::alloc::Global;
 
 // How many bytes are asked for in one call.

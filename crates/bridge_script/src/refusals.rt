@@ -2,12 +2,10 @@
 
 ghost use Rattle.std.specs.Prelude.{◌≡◌, ◌≤◌, length};
 ghost use Rattle.bridge_script.specs.Causes.{fault_text};
-ghost use Rattle.bridge_script.specs.Outside.{Writes};
+ghost use Rattle.byte_streams.specs.Streams.{Writes};
 
-use crate::drafts::Line;
 use crate::faults::ScriptFault;
-use crate::outside::{Failed, Sink};
-use crate::reports::write_text;
+use byte_streams::{Failed, Line, Sink, write_text};
 
 /// Writes the line that names a script's first faulty line and its cause, as `line 3: cause 1 unknown`, in
 /// whatever portions the sink takes. [`Failed`] comes only where the sink's count of faults rose; then a

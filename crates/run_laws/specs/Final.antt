@@ -15,7 +15,7 @@ use Rattle.joint_laws.specs.AfterwardsLaws.{ResolveFrees, SweepFrees, ReadsObjec
 use Rattle.joint_laws.specs.OwnMarkingLaws.{HasEventAt}
 use Rattle.joint_laws.specs.States.{state_at}
 use Rattle.joint_history.specs.Ending.{IsFinished}
-use Rattle.bridge_script.specs.Report.{report}
+use Rattle.history_report.specs.Report.{report}
 use Rattle.script_laws.specs.Ending.{AllCyclesEnd, OwnCyclesEnd}
 use Rattle.script_laws.specs.Holding.{HoldsInOrder, HoldsPerThread}
 use Rattle.script_laws.specs.Laws.{IsOneHistory}

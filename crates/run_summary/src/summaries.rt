@@ -1,14 +1,14 @@
 // The text of a summary, put together in a fixed buffer.
 
 ghost use Rattle.std.specs.Prelude.{◌≡◌, ◌≤◌, length, codes};
-ghost use Rattle.bridge_script.specs.Drafts.{AddsText};
-ghost use Rattle.bridge_script.specs.Outside.{Writes};
+ghost use Rattle.byte_streams.specs.Drafts.{AddsText};
+ghost use Rattle.byte_streams.specs.Streams.{Writes};
 ghost use Rattle.command_words.specs.Commands.{mode_text};
 ghost use Rattle.run_summary.specs.Summary.{objects_text, command_text, counts_text, summary_text};
 ghost use Rattle.run_summary.specs.Tallies.{tally_of};
 
 use crate::tallies::{Objects, Tally, tally_of};
-use bridge_script::{Failed, Line, Sink, write_text};
+use byte_streams::{Failed, Line, Sink, write_text};
 use command_words::Mode;
 use joint_model::History;
 

@@ -5,7 +5,7 @@ ghost use Rattle.run_summary.specs.Tallies.{IsUpTo};
 
 use crate::summaries::write_summary;
 use crate::tallies::{Objects, Tally};
-use bridge_script::ByteSink;
+use byte_streams::ByteSink;
 use command_words::Mode;
 use joint_model::{
     Act, Cycle, GName, HNum, History, Kind, MNum, Made, Marking, Op, PNum, Reply, Sort, Span,

@@ -23,7 +23,7 @@ use Rattle.joint_model.specs.Lines.{IsPlainObject, IsBridgeObject, IsManagedAct,
 use Rattle.joint_model.specs.Linked.{Linkage}
 use Rattle.joint_model.specs.Told.{Told}
 use Rattle.bridge_script.specs.Words.{phase_word_text}
-use Rattle.bridge_script.specs.Report.{event_words}
+use Rattle.history_report.specs.Report.{event_words}
 use Rattle.bridge_script.proofs.Fitting.{lawful_thread}
 use Rattle.script_laws.proofs.Digits.{decimal-one}
 use Rattle.script_laws.proofs.Reading.{Names, is_word, code}

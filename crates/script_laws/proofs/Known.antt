@@ -7,7 +7,7 @@ use Rattle.joint_model.specs.declared.events.Op.{Op}
 use Rattle.joint_model.specs.declared.events.Op.TheVariants as op
 use Rattle.joint_model.specs.Lines.{IsVar, IsVarOrNone}
 use Rattle.bridge_script.specs.Words.{act_words}
-use Rattle.bridge_script.specs.Report.{event_words}
+use Rattle.history_report.specs.Report.{event_words}
 use Rattle.script_laws.proofs.Reading.{Names, read_event, read-number, read-var, read-optional, read-kind, read-sort, read-static, read-own, read-cell, read-global}
 
 -- an act that is one event of a managed or a peer thread, with its places within their limits

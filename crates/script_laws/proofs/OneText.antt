@@ -16,8 +16,8 @@ use Rattle.joint_model.specs.Lines.{IsEvent}
 use Rattle.joint_model.specs.Draws.{NumberedFrom}
 use Rattle.joint_model.specs.Linked.{Linkage, IsLinked, linkage_after, opening_linkage}
 use Rattle.joint_model.specs.Told.{Noted}
-use Rattle.bridge_script.specs.Lists.{after_spaces}
-use Rattle.bridge_script.specs.Report.{event_words, reply_words, entries_text, end_text, report}
+use Rattle.byte_streams.specs.Drafts.{after_spaces}
+use Rattle.history_report.specs.Report.{event_words, reply_words, entries_text, end_text, report}
 use Rattle.script_laws.proofs.Cutting.{cut-first, words-one}
 use Rattle.script_laws.proofs.Reading.{is_word}
 use Rattle.script_laws.specs.Laws.{IsOneHistory}

@@ -10,12 +10,13 @@ use Rattle.joint_model.specs.declared.names.Thread.TheVariants.{M, P, C}
 use Rattle.joint_model.specs.declared.events.Entry.{Entry}
 use Rattle.joint_model.specs.Histories.{Finished}
 use Rattle.joint_model.specs.Lines.{IsThread}
-use Rattle.bridge_script.proofs.Written.{after_spaces-append}
-use Rattle.bridge_script.specs.declared.lists.Numbers.{Numbers}
-use Rattle.bridge_script.specs.declared.lists.Numbers.TheVariants.{Freed, FreedPeers, Notices}
+use Rattle.byte_streams.proofs.Written.{after_spaces-append}
+use Rattle.history_report.specs.declared.lists.Numbers.{Numbers}
+use Rattle.history_report.specs.declared.lists.Numbers.TheVariants.{Freed, FreedPeers, Notices}
 use Rattle.bridge_script.specs.Words.{thread_text}
-use Rattle.bridge_script.specs.Lists.{after_spaces, list_words}
-use Rattle.bridge_script.specs.Report.{event_words, reply_words, list_of, shown, cite_words, place_text, head_words, entry_text, entries_text}
+use Rattle.byte_streams.specs.Drafts.{after_spaces}
+use Rattle.history_report.specs.Lists.{list_words}
+use Rattle.history_report.specs.Report.{event_words, reply_words, list_of, shown, cite_words, place_text, head_words, entry_text, entries_text}
 use Rattle.script_laws.proofs.Cutting.{Lacks, every-append, cut-first}
 use Rattle.script_laws.proofs.Digits.{IsDigit, decimal-digits, decimal-one}
 use Rattle.script_laws.proofs.Plain.{AllPlain, plain-listed, plain-event, plain-reply, plain-cites, plain-place, plain-decimal, no-byte, no-bytes, no-equals}

@@ -5,7 +5,7 @@ use Rattle.joint_model.specs.declared.lines.Act.{Act}
 use Rattle.joint_model.specs.declared.events.Entry.{Entry}
 use Rattle.joint_model.specs.Histories.{Finished, AreShownAlike}
 use Rattle.joint_model.specs.Linked.{IsLinked, HasQueued, managed_end}
-use Rattle.bridge_script.specs.Report.{report}
+use Rattle.history_report.specs.Report.{report}
 use Rattle.script_laws.specs.Holding.{HoldsInOrder, HoldsPerThread}
 
 -- two linked histories are alike in all that a text shows, as many notices were taken in each, and where the list of notices of

@@ -5,7 +5,8 @@ ghost use Rattle.joint_model.specs.Histories.{HasSpans};
 ghost use Rattle.script_tests.specs.Freed.{freed_objects, freed_peers};
 
 use crate::comparing::{expect_at, expect_text};
-use bridge_script::{ByteSink, CountSink, write_report};
+use byte_streams::{ByteSink, CountSink};
+use history_report::write_report;
 use joint_model::{
     Act, Cell, Cycle, Entries, Entry, GName, HNum, History, Kind, MNum, Made, Marking, Op, PNum,
     Phase, PhaseWord, Reply, Sort, Span, StaticNo, Thread, Var,

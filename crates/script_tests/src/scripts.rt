@@ -1,9 +1,8 @@
 // Scripts and sources by worked examples and at their limits. What is compared stands in tables, which one loop reads each.
 
 use crate::comparing::{expect_at, expect_text};
-use bridge_script::{
-    ByteSource, PlainSource, ScriptError, Source, parse, read_script, script_text,
-};
+use bridge_script::{ScriptError, parse, read_script, script_text};
+use byte_streams::{ByteSource, PlainSource, Source};
 use std::alloc::Global;
 use std::test::Fail;
 

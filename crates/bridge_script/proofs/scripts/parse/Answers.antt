@@ -1,5 +1,5 @@
 use Rattle.std.proofs.Common.{sym, arith}
-use Rattle.bridge_script.proofs.Passing.{passed_on}
+use Rattle.byte_streams.proofs.Passing.{passed_on}
 use Rattle.bridge_script.proofs.Texts.{reads_on, text_push}
 use Rattle.bridge_script.proofs.Growing.{refused}
 use Rattle.bridge_script.proofs.scripts.parse.Goals as goal

@@ -1,6 +1,6 @@
 use Rattle.std.proofs.Common.{◌≢◌, ◌<◌, ℕ, get_or, sym, ◌∙◌, arith, length-drop}
 use Rattle.std.proofs.lemmas.List.{get_or-drop}
-use Rattle.bridge_script.proofs.Bytes.{rest_of}
+use Rattle.byte_streams.proofs.Bytes.{rest_of}
 use Rattle.bridge_script.proofs.Search.{further}
 use Rattle.bridge_script.proofs.words.first_place_far.Goals as goal
 

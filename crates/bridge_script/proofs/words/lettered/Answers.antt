@@ -1,6 +1,6 @@
 use Rattle.std.proofs.Common.{◌≡◌, ◌∷◌, drop, decimal, ap, arith, sym, ◌∙◌}
 use Rattle.std.proofs.lemmas.Fmt.{decimal_injective}
-use Rattle.bridge_script.proofs.Bytes.{rest_of}
+use Rattle.byte_streams.proofs.Bytes.{rest_of}
 use Rattle.bridge_script.proofs.words.lettered.Goals as goal
 
 pub returns-else-n-below : goal.returns-else-n-below

@@ -1,6 +1,6 @@
 use Rattle.std.proofs.Common.{◌<◌, ◌+◌, length, arith}
 use Rattle.std.proofs.lemmas.List.{take_all}
-use Rattle.bridge_script.proofs.Bytes.{rest_of}
+use Rattle.byte_streams.proofs.Bytes.{rest_of}
 use Rattle.bridge_script.proofs.Cuts.{one_part, first_part, free_before}
 use Rattle.bridge_script.proofs.words.Words.next.Goals as goal
 

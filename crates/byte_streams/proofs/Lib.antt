@@ -1,0 +1,4 @@
+pub mod Passing
+pub mod Bytes
+pub mod Digits
+pub mod Written

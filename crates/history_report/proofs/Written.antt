@@ -1,0 +1,86 @@
+-- A report is written entry by entry, and an entry piece by piece: each text is those before it and one piece more.
+use Rattle.std.proofs.Common.{◌≡◌, ℕ, ◌+◌, ◌<◌, ◌≤◌, List, [], ◌∷◌, ◌++◌, length, take, drop, get_or, Some, None, slice_get, decimal, sym, ◌∙◌, ap, refl, arith, inl, inr, append_assoc, append-nil, length-drop, length-take}
+use Rattle.std.proofs.lemmas.List.{map-append, get_or-drop, take-take, take_more, take_all, take-append-drop, nil_from_length}
+use Rattle.std.proofs.lemmas.Option.{slice_get_cases}
+use Rattle.joint_model.specs.declared.events.Entry.{Entry}
+use Rattle.joint_model.specs.Histories.{Finished}
+use Rattle.byte_streams.specs.Drafts.{after_spaces}
+use Rattle.byte_streams.proofs.Written.{after_spaces-append}
+use Rattle.history_report.specs.Lists.{lettered, listed}
+use Rattle.history_report.specs.Report.{entry_text, entries_text}
+
+one_word : (letter n : ℕ) → after_spaces (lettered letter (n ∷ [])) ≡ 32 ∷ letter ∷ decimal n
+one_word letter n = ap (λ t. 32 ∷ letter ∷ t) (append-nil (decimal n))
+
+-- a number's word, as it is put together behind an empty line
+pub piece_of : (bytes line none : List ℕ) (letter own n : ℕ) → bytes ≡ line → line ≡ none ++ 32 ∷ letter ∷ decimal n → none ≡ [] → letter ≡ own → bytes ≡ 32 ∷ own ∷ decimal n
+piece_of bytes line none letter own n e f g h = e ∙ (f ∙ (ap (λ t. t ++ 32 ∷ letter ∷ decimal n) g ∙ ap (λ t. 32 ∷ t ∷ decimal n) h))
+
+-- one more number of a list
+pub numbers_more : (letter : ℕ) (xs : List ℕ) (first k n : ℕ) → Some n ≡ slice_get xs (first + k)
+    → after_spaces (lettered letter (take (k + 1) (drop first xs))) ≡ after_spaces (lettered letter (take k (drop first xs))) ++ 32 ∷ letter ∷ decimal n
+numbers_more letter xs first k n e = elim (slice_get_cases xs (first + k)).1 [
+  | inl p ↦ (let same : n ≡ p.0 = (let q = p.2 in cc) in
+      let more = take_more (drop first xs) k p.0 (omega (arith, p.1, length-drop first xs)) in
+      let last : get_or (drop first xs) k p.0 ≡ n = get_or-drop first xs k p.0 ∙ (p.3 ∙ sym same) in
+      let front = take k (drop first xs) in
+      ap (λ t. after_spaces (lettered letter t)) (more ∙ ap (λ y. front ++ y ∷ []) last)
+      ∙ (ap after_spaces (map-append (λ m. letter ∷ decimal m) front (n ∷ [])) ∙ (after_spaces-append (lettered letter front) (lettered letter (n ∷ [])) ∙ ap (λ t. after_spaces (lettered letter front) ++ t) (one_word letter n))))
+  | inr p ↦ absurd (let q = p.1 in cc)
+]
+
+-- past its end there is none
+pub numbers_same : (xs : List ℕ) (first k : ℕ) → None ≡ slice_get xs (first + k) → take (k + 1) (drop first xs) ≡ take k (drop first xs)
+numbers_same xs first k e = elim (slice_get_cases xs (first + k)).1 [
+  | inl p ↦ absurd (let q = p.2 in cc)
+  | inr p ↦ take_all (k + 1) (drop first xs) (omega (arith, p.0, length-drop first xs)) ∙ sym (take_all k (drop first xs) (omega (arith, p.0, length-drop first xs)))
+]
+
+-- the first numbers of a list, and the others
+pub numbers_split : (letter : ℕ) (ys : List ℕ) (k n : ℕ) → k ≤ n → after_spaces (lettered letter (take n ys)) ≡ after_spaces (lettered letter (take k ys)) ++ after_spaces (lettered letter (drop k (take n ys)))
+numbers_split letter ys k n l =
+    let front : take k (take n ys) ≡ take k ys = take-take k n ys l in
+    ap (λ t. after_spaces (lettered letter t)) (sym (take-append-drop k (take n ys)) ∙ ap (λ t. t ++ drop k (take n ys)) front)
+    ∙ (ap after_spaces (map-append (λ m. letter ∷ decimal m) (take k ys) (drop k (take n ys))) ∙ after_spaces-append (lettered letter (take k ys)) (lettered letter (drop k (take n ys))))
+
+listed_long : (letter : ℕ) (ys : List ℕ) → 0 < length ys → listed letter ys ≡ lettered letter ys
+listed_long letter [] l = absurd (omega arith)
+listed_long letter (y ∷ ys) l = refl
+
+-- a list with a number at its first place isn't empty
+pub listed_some : (letter : ℕ) (xs : List ℕ) (first count n : ℕ) → (count ≡ 0 → ⊥) → Some n ≡ slice_get xs first → listed letter (take count (drop first xs)) ≡ lettered letter (take count (drop first xs))
+listed_some letter xs first count n some e = elim (slice_get_cases xs first).1 [
+  | inl p ↦ (let long : 0 < length (take count (drop first xs)) = omega (arith, p.1, length-take count (drop first xs), length-drop first xs) in listed_long letter (take count (drop first xs)) long)
+  | inr p ↦ absurd (let q = p.1 in cc)
+]
+
+-- and one with none there is
+pub listed_none : (letter : ℕ) (xs : List ℕ) (first count : ℕ) → None ≡ slice_get xs first → listed letter (take count (drop first xs)) ≡ (45 ∷ []) ∷ []
+listed_none letter xs first count e = elim (slice_get_cases xs first).1 [
+  | inl p ↦ absurd (let q = p.2 in cc)
+  | inr p ↦ ap (listed letter) (nil_from_length (take count (drop first xs)) (omega (arith, p.0, length-take count (drop first xs), length-drop first xs)))
+]
+
+-- the head of an entry's line, as it is put together
+pub head_joined : (o d p : List ℕ) (event reply : List (List ℕ)) → ((((o ++ d) ++ after_spaces (p ∷ [])) ++ after_spaces event) ++ 32 ∷ 61 ∷ []) ++ after_spaces reply ≡ o ++ (d ++ after_spaces (p ∷ (event ++ (61 ∷ []) ∷ reply)))
+head_joined o d p event reply = simp (append_assoc, append-nil, after_spaces-append)
+
+pub entries_push : (h : Finished) (es : List Entry) (e : Entry) → entries_text h (es ++ e ∷ []) ≡ entries_text h es ++ entry_text h e
+entries_push h [] e = append-nil (entry_text h e)
+entries_push h (x ∷ es) e = ap (λ t. entry_text h x ++ t) (entries_push h es e) ∙ sym (append_assoc (entry_text h x) (entries_text h es) (entry_text h e))
+
+pub entries-append : (h : Finished) (a b : List Entry) → entries_text h (a ++ b) ≡ entries_text h a ++ entries_text h b
+entries-append h [] b = refl
+entries-append h (x ∷ a) b = ap (λ t. entry_text h x ++ t) (entries-append h a b) ∙ sym (append_assoc (entry_text h x) (entries_text h a) (entries_text h b))
+
+-- one more entry
+pub entries_more : (h : Finished) (es : List Entry) (i : ℕ) (e : Entry) → Some e ≡ slice_get es i → entries_text h (take (i + 1) es) ≡ entries_text h (take i es) ++ entry_text h e
+entries_more h es i e q = elim (slice_get_cases es i).1 [
+  | inl p ↦ (let same : get_or es i p.0 ≡ e = (let k = p.2 in let m = p.3 in cc) in
+      ap (entries_text h) (take_more es i p.0 p.1 ∙ ap (λ y. take i es ++ y ∷ []) same) ∙ entries_push h (take i es) e)
+  | inr p ↦ absurd (let k = p.1 in cc)
+]
+
+-- the first entries, and the others
+pub entries_split : (h : Finished) (es : List Entry) (i : ℕ) → entries_text h es ≡ entries_text h (take i es) ++ entries_text h (drop i es)
+entries_split h es i = ap (entries_text h) (sym (take-append-drop i es)) ∙ entries-append h (take i es) (drop i es)

@@ -1,0 +1,11 @@
+use Rattle.std.proofs.Common.{decimal, arith}
+use Rattle.history_report.specs.Report.{event_words, reply_words, place_text}
+use Rattle.history_report.proofs.Written.{head_joined}
+use Rattle.history_report.proofs.entries.add_head.Goals as goal
+
+pub returns : goal.returns
+returns c = record {
+  added = rw (c.add_reply.ensures.added, c.word.ensures.added, c.add_event.ensures.added, c.add_place.ensures.added, c.number.ensures.added)
+      (head_joined c.args.line.now.text (decimal c.args.entry.now.number) (place_text c.args.entry.now.made.caller c.args.entry.now.made.index) (event_words c.args.entry.now.made.caller c.args.entry.now.made.op) (reply_words c.args.entry.now.made.reply));
+  left = omega arith;
+}
