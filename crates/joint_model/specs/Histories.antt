@@ -1,5 +1,5 @@
 -- A finished history: its entries by number, and the lists that the spans of its replies name.
-use Rattle.std.specs.Prelude.{◌≡◌, ℕ, ◌+◌, ◌≤◌, List, length, take, drop, map, All, Contains, Some, slice_get, sum_by}
+use Rattle.std.specs.Prelude.{◌≡◌, ℕ, ◌+◌, ◌<◌, ◌≤◌, ⊤, nat_lt, if◌then◌else◌, List, [], ◌∷◌, ◌++◌, length, take, drop, map, All, Contains, Some, slice_get, sum_by}
 use Rattle.joint_model.specs.declared.names.MNum.{MNum}
 use Rattle.joint_model.specs.declared.names.PNum.{PNum}
 use Rattle.joint_model.specs.declared.names.Span.{Span}
@@ -59,6 +59,33 @@ pub record FitsLists (ms : List MNum) (ps : List PNum) (ns : List MNum) (e : Ent
 pub record IsHistory (h : Finished) : Type 0 where
   pub numbers : NumberedFrom 0 h.entries
   pub fits : All (FitsLists h.freed_managed h.freed_peers h.notices) h.entries
+
+-- the entries of a list before the first whose number isn't below n
+abbrev pub entries_below : ℕ → List Entry → List Entry
+entries_below n [] = []
+entries_below n (e ∷ es) = if nat_lt e.number n then e ∷ entries_below n es else []
+
+-- the entries of a list from the first on whose number isn't below n
+abbrev pub entries_from : ℕ → List Entry → List Entry
+entries_from n [] = []
+entries_from n (e ∷ es) = if nat_lt e.number n then entries_from n es else e ∷ es
+
+-- two lists of entries put into one by their numbers
+abbrev pub merged : List Entry → List Entry → List Entry
+merged [] ys = ys
+merged (x ∷ xs) ys = entries_below x.number ys ++ x ∷ merged xs (entries_from x.number ys)
+
+-- the next entry of two lists is the first of the other one, where that has an entry
+abbrev pub GoesOnInOther : List Entry → List Entry → Type 0
+GoesOnInOther [] ys = ⊤
+GoesOnInOther (x ∷ xs) [] = ⊥
+GoesOnInOther (x ∷ xs) (y ∷ ys) = y.number < x.number
+
+-- what a history keeps of its two lists: each rises, and together they are its entries
+pub record KeepsLists (one other : List Entry) (h : Finished) : Type 0 where
+  pub one_rises : Rises (map (λ e. e.number) one)
+  pub other_rises : Rises (map (λ e. e.number) other)
+  pub history : IsHistory h
 
 -- the entry stands in the whole list at its number
 abbrev pub IsPlaced : List Entry → Entry → Type 0

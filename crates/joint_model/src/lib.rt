@@ -19,7 +19,7 @@ mod sides;
 
 pub use draws::{Counter, Draw, counted_in_turn, drawn_in_turn};
 pub use events::{Entry, Made, Op, Reply};
-pub use finished::History;
+pub use finished::{History, Walk};
 pub use lines::Act;
 pub use lists::{Alive, Entries};
 pub use names::{

@@ -10,6 +10,9 @@ use std::marker::Model;
 // The most entries that an [`Entries`] holds.
 const MOST: usize = 4_294_967_295;
 
+// For how many entries room is made at once: 32 MiB of them.
+const BLOCK: usize = 524_288;
+
 /// The entries of one side or one reader, in the order in which they were made. It holds at most
 /// 4,294,967,295; a growth past that is refused as a growth.
 #[derive(Drop)]
@@ -49,10 +52,17 @@ impl Entries {
         ensures limit { length self.new.entries + self.new.spare ≤ 4294967295 }
         ensures err { OnErr result (self.new ≡ self.old) }
     {
-        if n as usize > MOST - self.list.len() {
+        let n = n as usize;
+        if n > MOST - self.list.len() {
             return Err(AllocError);
         }
-        self.list.reserve(n as usize)
+        if n <= self.list.capacity() - self.list.len() {
+            return Ok(());
+        }
+        if self.list.reserve(n.max(BLOCK)).is_ok() {
+            return Ok(());
+        }
+        self.list.reserve(n)
     }
 
     /// Puts an entry last. It takes no memory.
@@ -84,6 +94,13 @@ impl Entries {
         ensures { result ≡ (length self.now.entries == 0) }
     {
         self.list.is_empty()
+    }
+
+    /// All entries.
+    pub fn as_slice(&self) -> &[Entry]
+        ensures { result.now ≡ self.now.entries }
+    {
+        self.list.as_slice()
     }
 
     /// The entry at place `i`, from 0; None exactly where `i` isn't below the length.
