@@ -1,6 +1,6 @@
 -- The end of a run: both sides' lists are a shuffle of the whole history, and a shuffle has one whole.
-use Rattle.std.proofs.Common.{◌≡◌, ◌⊎◌, inl, inr, ⊎_elim, ℕ, zero, suc, ◌+◌, ◌<◌, Bool, true, false, ◌||◌, List, [], ◌∷◌, length, map, Some, None, refl, sym, ap, ◌∙◌, subst, arith}
-use Rattle.std.specs.Prelude.{◌==◌, if◌then◌else◌, unwrap_or, All, Contains, slice_get}
+use Rattle.std.proofs.Common.{◌≡◌, ◌⊎◌, inl, inr, ⊎_elim, ℕ, zero, suc, ◌+◌, ◌<◌, Bool, true, false, ◌||◌, List, [], ◌∷◌, length, map, Some, refl, sym, ap, ◌∙◌, subst, arith}
+use Rattle.std.specs.Prelude.{◌==◌, if◌then◌else◌, All, Contains, slice_get}
 use Rattle.std.proofs.lemmas.Bool.{ne_eqb}
 use Rattle.std.proofs.lemmas.List.Elements.{All-contains}
 use Rattle.joint_model.specs.declared.events.Entry.{Entry}
@@ -9,21 +9,8 @@ use Rattle.joint_model.specs.Draws.{NumberedFrom}
 use Rattle.joint_model.specs.Histories.{IsPlaced, IsShuffle}
 use Rattle.joint_model.specs.HistoryLines.{caller_line, side_line, stands_in, entries_in}
 use Rattle.joint_model.specs.Lines.{is_peer_event}
-use Rattle.joint_model.proofs.Members.{All-members, Contains-at, Contains-here, Contains-there, Contains-cons_cases, Contains-nil, at-Contains}
-use Rattle.joint_model.proofs.Joining.{same_by_places}
-
--- the entry at a place has that number
-numbered_at : (n : ℕ) (es : List Entry) → NumberedFrom n es → (i : ℕ) (e : Entry) → slice_get es i ≡ Some e → e.number ≡ n + i
-numbered_at n [] r i e s = absurd (no e s)
-  where
-    no : (x : Entry) → None ≡ Some x → ⊥
-    no x w = cc
-numbered_at n (x ∷ es) r zero e s = let q : x ≡ e = ap (λ o. unwrap_or o x) s in ap (λ (z : Entry). z.number) (sym q) ∙ (r.0 ∙ omega arith)
-numbered_at n (x ∷ es) r (suc i) e s = numbered_at (n + 1) es r.1 i e s ∙ omega arith
-
--- so each entry stands at its number
-pub placed_all : (whole : List Entry) → NumberedFrom 0 whole → (e : Entry) → Contains whole e → IsPlaced whole e
-placed_all whole r e c = let w = at-Contains whole e c in subst (λ k. slice_get whole k ≡ Some e) (sym (numbered_at 0 whole r w.0 e w.1 ∙ omega arith)) w.1
+use Rattle.joint_model.proofs.Members.{All-members, Contains-at, Contains-here, Contains-there, Contains-cons_cases, Contains-nil}
+use Rattle.joint_model.proofs.Joining.{number_at, placed_all, same_by_places}
 
 -- what stands in a line of the whole is an entry of it, and the other way round
 line_from : (i : ℕ) (whole : List Entry) (e : Entry) → Contains (entries_in i whole) e → Contains whole e
@@ -98,7 +85,7 @@ shuffle_is_one lists a b s t = same_by_places a b (s.count ∙ sym t.count) (λ 
     at_place k w =
         let c = All-contains (λ e. (list : List Entry) × Contains lists list × Contains list e) a w.0 s.covered (Contains-at a k w.0 w.1) in
         let there = All-contains (IsPlaced b) c.0 w.0 (All-contains (λ list. All (IsPlaced b) list) lists c.0 t.placed c.1) c.2 in
-        w.1 ∙ sym (subst (λ n. slice_get b n ≡ Some w.0) (numbered_at 0 a s.numbers k w.0 w.1 ∙ omega arith) there)
+        w.1 ∙ sym (subst (λ n. slice_get b n ≡ Some w.0) (number_at 0 a s.numbers k w.0 w.1 ∙ omega arith) there)
 
     get_some : (xs : List Entry) (k : ℕ) → k < length xs → (e : Entry) × (slice_get xs k ≡ Some e)
     get_some [] k l = absurd (omega arith)

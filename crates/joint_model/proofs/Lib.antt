@@ -5,6 +5,7 @@ pub mod SideLists
 pub mod HeapLemmas
 pub mod DrawnInTurn
 pub mod Joining
+pub mod Merging
 pub mod WalkLemmas
 pub mod HistoryLists
 pub mod Gathering

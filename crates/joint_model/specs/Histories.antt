@@ -1,5 +1,5 @@
 -- A finished history: its entries by number, and the lists that the spans of its replies name.
-use Rattle.std.specs.Prelude.{◌≡◌, ℕ, ◌+◌, ◌<◌, ◌≤◌, ⊤, nat_lt, if◌then◌else◌, List, [], ◌∷◌, ◌++◌, length, take, drop, map, All, Contains, Some, slice_get, sum_by}
+use Rattle.std.specs.Prelude.{◌≡◌, ℕ, ◌+◌, ◌≤◌, List, length, take, drop, map, All, Contains, Some, slice_get, sum_by}
 use Rattle.joint_model.specs.declared.names.MNum.{MNum}
 use Rattle.joint_model.specs.declared.names.PNum.{PNum}
 use Rattle.joint_model.specs.declared.names.Span.{Span}
@@ -60,44 +60,9 @@ pub record IsHistory (h : Finished) : Type 0 where
   pub numbers : NumberedFrom 0 h.entries
   pub fits : All (FitsLists h.freed_managed h.freed_peers h.notices) h.entries
 
--- the entries of a list before the first whose number isn't below n
-abbrev pub entries_below : ℕ → List Entry → List Entry
-entries_below n [] = []
-entries_below n (e ∷ es) = if nat_lt e.number n then e ∷ entries_below n es else []
-
--- the entries of a list from the first on whose number isn't below n
-abbrev pub entries_from : ℕ → List Entry → List Entry
-entries_from n [] = []
-entries_from n (e ∷ es) = if nat_lt e.number n then entries_from n es else e ∷ es
-
--- two lists of entries put into one by their numbers
-abbrev pub merged : List Entry → List Entry → List Entry
-merged [] ys = ys
-merged (x ∷ xs) ys = entries_below x.number ys ++ x ∷ merged xs (entries_from x.number ys)
-
--- the next entry of two lists is the first of the other one, where that has an entry
-abbrev pub GoesOnInOther : List Entry → List Entry → Type 0
-GoesOnInOther [] ys = ⊤
-GoesOnInOther (x ∷ xs) [] = ⊥
-GoesOnInOther (x ∷ xs) (y ∷ ys) = y.number < x.number
-
--- what a history keeps of its two lists: each rises, and together they are its entries
-pub record KeepsLists (one other : List Entry) (h : Finished) : Type 0 where
-  pub one_rises : Rises (map (λ e. e.number) one)
-  pub other_rises : Rises (map (λ e. e.number) other)
-  pub history : IsHistory h
-
 -- the entry stands in the whole list at its number
 abbrev pub IsPlaced : List Entry → Entry → Type 0
 IsPlaced whole e = slice_get whole e.number ≡ Some e
-
--- at the entry's number a list has what the target has there
-abbrev pub IsSameThere : List Entry → List Entry → Entry → Type 0
-IsSameThere target list e = slice_get list e.number ≡ slice_get target e.number
-
--- wherever the old list had what the target has, the new list has it too
-abbrev pub KeepsPlaces : List Entry → List Entry → List Entry → Type 0
-KeepsPlaces target old new = (k : ℕ) → slice_get old k ≡ slice_get target k → slice_get new k ≡ slice_get target k
 
 -- the lists hold together the entries of the whole, each once, and each list rises: every entry of a list
 -- stands in the whole at its number, every entry of the whole stands in a list, and there are as many

@@ -4,6 +4,7 @@ pub mod Listed
 pub mod Lines
 pub mod Draws
 pub mod Histories
+pub mod Merged
 pub mod Heaps
 pub mod Managed
 pub mod Peers

@@ -1,7 +1,7 @@
 // Lists with room that is known: the entries of one side or one reader, and the answers of a cycle's
 // candidates.
 
-ghost use Rattle.std.specs.Prelude.{◌≡◌, ◌+◌, ◌≤◌, ◌<◌, ◌-◌, ◌==◌, [], ◌∷◌, ◌++◌, length, slice_get, IfOk, OnErr};
+ghost use Rattle.std.specs.Prelude.{◌≡◌, ◌+◌, ◌≤◌, ◌<◌, ◌-◌, ◌==◌, [], ◌∷◌, ◌++◌, length, slice_get, vec_len, vec_capacity, IfOk, OnErr, OnOk};
 
 use crate::events::Entry;
 use std::alloc::{AllocError, Global};
@@ -10,7 +10,8 @@ use std::marker::Model;
 // The most entries that an [`Entries`] holds.
 const MOST: usize = 4_294_967_295;
 
-// For how many entries room is made at once: 32 MiB of them.
+// For how many entries room is made at least, where there is memory for them: 32 MiB. Room that nothing is put into takes no memory, and
+// so large a piece lies outside of the allocator's heap: where it grows, its pages are moved and no entry is copied.
 const BLOCK: usize = 524_288;
 
 /// The entries of one side or one reader, in the order in which they were made. It holds at most
@@ -31,6 +32,21 @@ impl Model for Entries {
     ghost invariant = { λ s. vec_len s.list ≤ 4294967295 };
 }
 
+// Makes room for at least `n` more entries, and for a whole block of them where there is memory for it. Answers `AllocError` where there is
+// no memory for `n`.
+#[inline(never)]
+fn make_room(list: &mut Vec<Entry>, n: usize) -> Result<(), AllocError>
+    ensures room { OnOk result (vec_len list.new + n ≤ vec_capacity list.new) }
+    ensures kept { vec_capacity list.old ≤ vec_capacity list.new }
+    ensures items { list.new.items ≡ list.old.items }
+    ensures err { OnErr result (vec_capacity list.new ≡ vec_capacity list.old) }
+{
+    if list.reserve(n.max(BLOCK)).is_ok() {
+        return Ok(());
+    }
+    list.reserve(n)
+}
+
 impl Entries {
     /// The empty list, which keeps the allocator.
     pub fn new(alloc: Global) -> Entries
@@ -42,9 +58,9 @@ impl Entries {
         }
     }
 
-    /// Makes room: afterwards `spare` is at least `n`, and never less than it was. Answers `AllocError`
-    /// where there is no memory, or where the list would hold more than 4,294,967,295 entries; the list
-    /// is then as before.
+    /// Makes room: afterwards `spare` is at least `n`, and never less than it was. It is made for many entries at once, so most calls
+    /// find it there. Answers `AllocError` where there is no memory for `n` entries, or where the list would hold more than
+    /// 4,294,967,295 entries; the list is then as before.
     pub fn reserve(&mut self, n: u32) -> Result<(), AllocError>
         ensures room { IfOk result (λ _. n ≤ self.new.spare) }
         ensures kept { self.old.spare ≤ self.new.spare }
@@ -59,10 +75,7 @@ impl Entries {
         if n <= self.list.capacity() - self.list.len() {
             return Ok(());
         }
-        if self.list.reserve(n.max(BLOCK)).is_ok() {
-            return Ok(());
-        }
-        self.list.reserve(n)
+        make_room(&mut self.list, n)
     }
 
     /// Puts an entry last. It takes no memory.
@@ -96,9 +109,10 @@ impl Entries {
         self.list.is_empty()
     }
 
-    /// All entries.
+    /// All entries, of which there are at most 4,294,967,295.
     pub fn as_slice(&self) -> &[Entry]
-        ensures { result.now ≡ self.now.entries }
+        ensures entries { result.now ≡ self.now.entries }
+        ensures limit { length result.now ≤ 4294967295 }
     {
         self.list.as_slice()
     }
