@@ -1,5 +1,5 @@
 -- Which objects of a heap are live: the test of the freed ones, and what an event leaves live; and which handle an object holds.
-use Rattle.std.proofs.Common.{◌≡◌, ℕ, inl, inr, Bool, true, false, List, [], ◌∷◌, Option, Some, None, replicate, refl, ap, arith, length-append, cond, ◌-◌}
+use Rattle.std.proofs.Common.{◌≡◌, ℕ, inl, inr, Bool, true, false, List, [], ◌∷◌, Option, Some, None, replicate, refl, ap, arith, length-append, cond}
 use Rattle.std.specs.Prelude.{Contains}
 use Rattle.std.proofs.lemmas.Bool.{eqb-true}
 use Rattle.std.proofs.lemmas.Cmp.{nat_eq_equiv}

@@ -1,6 +1,6 @@
 -- What a list contains: its head and its rest, what it has at an index, what a `map`, a `flat_map` and a `filter` of it contain,
 -- and lists of numbers that rise. Each is an induction on the list.
-use Rattle.std.proofs.Common.{◌≡◌, ℕ, zero, suc, ◌+◌, ◌<◌, ◌⊎◌, inl, inr, Bool, true, false, List, [], ◌∷◌, ◌++◌, length, map, cond, Some, refl, sym, ap, subst, ◌∙◌, arith, nat_eq, ◌-◌, take}
+use Rattle.std.proofs.Common.{◌≡◌, ℕ, zero, suc, ◌+◌, ◌<◌, ◌⊎◌, inl, inr, Bool, true, false, List, [], ◌∷◌, ◌++◌, length, map, cond, Some, refl, sym, ap, subst, ◌∙◌, arith, nat_eq, take}
 use Rattle.std.specs.Prelude.{Contains, All, slice_get, flat_map, filter}
 use Rattle.std.specs.List.{list_any}
 use Rattle.std.proofs.lemmas.List.Elements.{Contains-append_cases, Contains-append_left, Contains-append_right, All-nil, All-cons, All-head, All-tail, All-push, All-contains, All-filter}
