@@ -159,10 +159,8 @@ pub fn tally_of(h: &History) -> Tally
     ensures { result ≡ tally_of h.now.entries }
 {
     let mut tally = Tally::new();
-    for i in 0..h.len() {
-        let Some(entry) = h.entry(i) else {
-            unreachable!();
-        };
+    let mut walk = h.walk();
+    while let Some(entry) = walk.next() {
         tally = tally.with(&entry.made);
     }
     tally

@@ -74,6 +74,7 @@ fn no_lists_join_to_the_empty_history(rt: HostRuntime) -> Result<(), Fail> {
     assert_eq!(rt; history.len(), 0);
     assert!(rt; history.is_empty());
     assert!(rt; history.entry(0).is_none());
+    assert!(rt; history.walk().next().is_none());
     assert!(rt; history.freed_managed(0).is_none());
     assert!(rt; history.freed_peer(0).is_none());
     assert!(rt; history.notice(0).is_none());

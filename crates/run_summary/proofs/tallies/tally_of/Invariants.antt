@@ -1,9 +1,13 @@
-use Rattle.std.proofs.Common.{◌≡◌, drop}
+use Rattle.std.proofs.Common.{◌≡◌, ◌-◌, ◌<◌, ◌^◌, length}
 use Rattle.run_summary.specs.Tallies.{tally_from, tally_of, IsUpTo}
 use Rattle.run_summary.proofs.tallies.tally_of.Given as goal
 
-abbrev pub invariant-loop-i : goal.invariant-loop-i
-invariant-loop-i l = record {
-  rest : tally_from l.tally (drop l.i l.h.entries) ≡ tally_of l.h.entries;
-  small : IsUpTo l.i l.tally;
+abbrev pub invariant-loop-entry : goal.invariant-loop-entry
+invariant-loop-entry l = record {
+  rest : tally_from l.tally l.walk ≡ tally_of l.h.entries;
+  limit : length l.walk < 2 ^ 64;
+  small : IsUpTo (2 ^ 64 - 1 - length l.walk) l.tally;
 }
+
+abbrev pub decreases-loop-entry : goal.decreases-loop-entry
+decreases-loop-entry l = length l.walk
