@@ -53,20 +53,13 @@ pub(crate) fn mark_slots(heap: &mut RowHeap<MNum>, pins: &[Option<u32>; 9])
     heap.finish_marking(grey);
 }
 
-// Whether the object is live and has no mark.
-fn is_white(heap: &RowHeap<MNum>, m: u32) -> bool
-    ensures { IsTrue result ↔ (IsLive heap.now.heap m × (IsMarked heap.now.marks m → ⊥)) }
-{
-    heap.is_live(m) && !heap.is_marked(m)
-}
-
 /// The live rows without a mark, in rising order.
 pub(crate) fn whites(alloc: Global, heap: &RowHeap<MNum>) -> Result<Vec<MNum>, AllocError>
     ensures { IfOk result (λ v. AreWhite heap.now (managed_numbers v.items)) }
 {
     let mut rows = Vec::new(alloc);
     for m in 1..heap.made() + 1 {
-        if is_white(heap, m) {
+        if heap.is_white(m) {
             rows.push(MNum(m))?;
         }
     }

@@ -5,16 +5,16 @@ use Rattle.std.specs.Prelude.{Contains, slice_get, if◌then◌else◌}
 use Rattle.std.specs.Option.{IfSome, option_map}
 use Rattle.std.proofs.lemmas.List.{length-map, map-set}
 use Rattle.std.proofs.lemmas.Option.{slice_get_read, slice_get_within, slice_get-map}
-use Rattle.joint_model.specs.Heaps.{Heap, IsLive, numbered_set}
+use Rattle.joint_model.specs.Heaps.{Heap, IsLive, fields_of, numbered_set}
 use Rattle.joint_model.proofs.Members.{Contains-at}
 use Rattle.heap_rules.specs.Flags.{IsSound}
-use Rattle.row_marking.specs.Traces.{IsLastBelow}
+use Rattle.row_marking.specs.Traces.{Greyed, IsLastBelow}
 use Rattle.row_heap.specs.declared.references.Reference.{Reference}
-use Rattle.row_heap.specs.Places.{Seen, row_at}
+use Rattle.row_heap.specs.Places.{Seen, bare, links_in, marks_in, row_at}
 use Rattle.row_heap.specs.Rows.{HeapRows, IsRowHeap, heap_of, pairs_in, rows_of, stands_in}
 use Rattle.row_heap.specs.Marks.{followed, unmarked_rows}
 use Rattle.row_heap.proofs.Indexed.{stands-within}
-use Rattle.row_heap.proofs.Sound.{AreReferences-written, live-stands, map-kept, stands-live}
+use Rattle.row_heap.proofs.Sound.{AreReferences-as, AreReferences-written, fields-seen, live-stands, map-kept, stands-live, tidy-seen}
 
 -- a live object's row stands, where the heap is seen as v
 pub stands-seen : (rows : List Seen) (freed : List ℕ) (vars statics : List (Option ℕ)) (refs : List Reference) (follows : Bool) (room cap : ℕ) (v : HeapRows) (x : ℕ) → rows_of rows freed vars statics refs follows room ≡ v → IsSound (heap_of rows freed vars statics) (stands_in rows) cap → IsLive v.heap x → (row_at rows x).stands ≡ true
@@ -110,6 +110,53 @@ reference-next rows freed vars statics refs follows room c d v x y i r view s at
     let q = reference-read refs i x y r (subst (λ (k : HeapRows). slice_get k.refs i ≡ Some (x, y)) (sym view) w.1) e in
     subst (λ l. IsLastBelow l x i r.next) (sym same) (subst (λ z. IsLastBelow (pairs_in refs) z i r.next) q.1 (s.references.nexts i r q.0))
 
-pub live-fields : (o : Option ℕ) (h : Heap) → IfSome o (IsLive h) → IfSome o (λ y. (1 ≤ y) × IsLive h y)
-live-fields None h l = tt
-live-fields (Some y) h l = (l.made.0, l)
+-- rows that differ in marks and links alone
+pub map-bare : {A : Type 0} (f : Seen → A) → ((r : Seen) → f (bare r) ≡ f r) → (rows others : List Seen) → map bare others ≡ map bare rows → map f others ≡ map f rows
+map-bare f same [] [] e = refl
+map-bare f same [] (o ∷ others) e = (let z : ⊥ = cc in absurd z)
+map-bare f same (r ∷ rows) [] e = (let z : ⊥ = cc in absurd z)
+map-bare f same (r ∷ rows) (o ∷ others) e =
+    let here : bare o ≡ bare r = cc in
+    let rest : map bare others ≡ map bare rows = cc in
+    ap (λ z. z ∷ map f others) (sym (same o) ∙ (ap f here ∙ same r)) ∙ ap (λ z. f r ∷ z) (map-bare f same rows others rest)
+
+pub row_at-bare : {A : Type 0} (f : Seen → A) → ((r : Seen) → f (bare r) ≡ f r) → (rows others : List Seen) → map bare others ≡ map bare rows → (z : ℕ) → f (row_at others z) ≡ f (row_at rows z)
+row_at-bare f same rows others e zero = refl
+row_at-bare f same [] [] e (suc i) = refl
+row_at-bare f same [] (o ∷ others) e (suc i) = (let z : ⊥ = cc in absurd z)
+row_at-bare f same (r ∷ rows) [] e (suc i) = (let z : ⊥ = cc in absurd z)
+row_at-bare f same (r ∷ rows) (o ∷ others) e (suc zero) =
+    let here : bare o ≡ bare r = cc in
+    sym (same o) ∙ (ap f here ∙ same r)
+row_at-bare f same (r ∷ rows) (o ∷ others) e (suc (suc i)) =
+    let rest : map bare others ≡ map bare rows = cc in
+    row_at-bare f same rows others rest (suc i)
+
+pub IsRowHeap-bare : (rows others : List Seen) (freed : List ℕ) (vars statics : List (Option ℕ)) (refs : List Reference) (follows : Bool) (room c d : ℕ) → IsRowHeap rows freed vars statics refs follows room c d → map bare others ≡ map bare rows → IsRowHeap others freed vars statics refs follows room c d
+IsRowHeap-bare rows others freed vars statics refs follows room c d s is =
+    let up : (z : ℕ) → (row_at others z).stands ≡ (row_at rows z).stands = row_at-bare (λ (r : Seen). r.stands) (λ r. refl) rows others is in
+    record {
+      sound = subst (λ (fs : List (List (Option ℕ))). (let h : Heap = record { fields = fs; freed = freed; vars = vars; statics = statics } in IsSound h (stands_in others) c)) (sym (map-bare (λ (r : Seen). r.fields) (λ r. refl) rows others is))
+          (subst (λ (u : List Bool). IsSound (heap_of rows freed vars statics) u c) (sym (map-bare (λ (r : Seen). r.stands) (λ r. refl) rows others is)) s.sound);
+      references = AreReferences-as rows others refs follows room d (sym (length-map others bare) ∙ (ap length is ∙ length-map rows bare))
+          (λ z e. (sym (up z) ∙ e, sym (row_at-bare (λ (r : Seen). r.first) (λ r. refl) rows others is z)))
+          (λ f p q k e l. up q ∙ l) s.references;
+    }
+
+pub kept-bare : (rows others : List Seen) (freed : List ℕ) (vars statics : List (Option ℕ)) (refs : List Reference) (follows : Bool) (room : ℕ) (v : HeapRows) → rows_of rows freed vars statics refs follows room ≡ v → map bare others ≡ map bare rows
+    → unmarked_rows (rows_of others freed vars statics refs follows room) ≡ unmarked_rows v
+kept-bare rows others freed vars statics refs follows room v view is =
+    ap (λ (fs : List (List (Option ℕ))). let h : Heap = record { fields = fs; freed = freed; vars = vars; statics = statics } in (let w : HeapRows = record { heap = h; refs = pairs_in refs; follows = follows; room = room; marks = []; links = [] } in w)) (map-bare (λ (r : Seen). r.fields) (λ r. refl) rows others is)
+    ∙ ap unmarked_rows view
+
+-- what a row's fields hold, as the heap says it
+pub held-seen : (rows : List Seen) (freed : List ℕ) (vars statics : List (Option ℕ)) (refs : List Reference) (follows : Bool) (room cap : ℕ) (v : HeapRows) (x y : ℕ) → rows_of rows freed vars statics refs follows room ≡ v → IsSound (heap_of rows freed vars statics) (stands_in rows) cap → IsLive v.heap x → Contains (row_at rows x).fields (Some y)
+    → (row_at rows y).stands ≡ true
+held-seen rows freed vars statics refs follows room cap v x y view s l h =
+    stands-seen rows freed vars statics refs follows room cap v y view s ((tidy-seen rows freed vars statics refs follows room v cap view s).held x y l (subst (λ fs. Contains fs (Some y)) (sym (fields-seen rows freed vars statics refs follows room v x view)) h))
+
+pub greyed-seen : (rows others : List Seen) (freed : List ℕ) (vars statics : List (Option ℕ)) (refs : List Reference) (follows : Bool) (room x h i : ℕ) (v : HeapRows) → rows_of rows freed vars statics refs follows room ≡ v → Greyed (λ y. Contains (row_at rows x).fields (Some y)) (marks_in rows) (links_in rows) h (marks_in others) (links_in others) i
+    → Greyed (λ y. Contains (fields_of v.heap x) (Some y)) v.marks v.links h (marks_in others) (links_in others) i
+greyed-seen rows others freed vars statics refs follows room x h i v view y =
+    subst (λ (fs : List (Option ℕ)). Greyed (λ y. Contains fs (Some y)) v.marks v.links h (marks_in others) (links_in others) i) (sym (fields-seen rows freed vars statics refs follows room v x view))
+    (subst (λ (w : HeapRows). Greyed (λ y. Contains (row_at rows x).fields (Some y)) w.marks w.links h (marks_in others) (links_in others) i) view y)

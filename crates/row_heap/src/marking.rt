@@ -33,11 +33,14 @@ impl<N: Number> RowHeap<N> {
     pub fn is_marked(&self, x: u32) -> bool
         ensures { IsTrue result ↔ IsMarked self.now.marks x }
     {
-        self.marked_live();
-        if !self.is_live(x) {
-            return false;
-        }
-        self.rows.row(x as usize).marked
+        x != 0 && x as usize <= self.rows.made() && self.rows.is_marked(x as usize)
+    }
+
+    /// Whether object `x` is live and has no mark.
+    pub fn is_white(&self, x: u32) -> bool
+        ensures { IsTrue result ↔ (IsLive self.now.heap x × (IsMarked self.now.marks x → ⊥)) }
+    {
+        x != 0 && x as usize <= self.rows.made() && self.rows.is_white(x as usize)
     }
 
     /// No object has a mark, and a marking follows the references from now on, or doesn't.

@@ -1,25 +1,26 @@
 // Rows by number, in a slab.
 //
 // The slab picks its keys and gives a removed row's key out again, so a key is no number of an object. The index has for each number ever
-// made the key of its row, in four bytes beside a tag. A row that is freed gives its memory back, and the index keeps its fields for proofs
+// made the key of its row, in four bytes beside a tag. Marks and links stand beside the rows, in lists of their own: a marking looks at them far
+// more often than at a row, and all marks are taken down by one fill. A row that is freed gives its memory back, and the index keeps its fields for proofs
 // alone, in no bytes: so the heap of the definition, which never forgets the fields of a freed object, is still what contracts see.
 
-ghost use Rattle.std.specs.Prelude.{◌≡◌, ℕ, ◌≤◌, ◌<◌, ◌++◌, [], ◌∷◌, true, false, length, map, slice_set, OnOk, OnErr};
+ghost use Rattle.std.specs.Prelude.{◌≡◌, ℕ, ◌≤◌, ◌<◌, ◌⊎◌, ◌++◌, [], ◌∷◌, Some, Contains, true, false, length, map, slice_set, OnOk, OnErr};
 ghost use Rattle.joint_model.specs.Heaps.{numbered_set};
-ghost use Rattle.row_heap.specs.Places.{row_at, is_white, standing, gone, unmarked_row};
+ghost use Rattle.reachability.specs.Marks.{IsMarked};
+ghost use Rattle.row_marking.specs.Traces.{Greyed};
+ghost use Rattle.row_heap.specs.Places.{row_at, is_white, standing, gone, bare, marks_in, links_in, unmarked_row};
 
 use slab::Slab;
 use std::alloc::{AllocError, Global};
 use std::marker::Model;
 use std::snapshot::Snapshot;
 
-/// An object: its fields, the last of its references as a place counted from 1, its mark, and its link in the list of grey rows.
+/// An object: its fields, and the last of its references as a place counted from 1.
 #[derive(Drop)]
 pub(crate) struct Row {
     pub(crate) fields: Vec<Option<u32>>,
     pub(crate) first: u32,
-    pub(crate) marked: bool,
-    pub(crate) link: u32,
 }
 
 /// Where the row of a number is: under a key of the slab, or nowhere, with the fields that it had.
@@ -29,23 +30,26 @@ pub(crate) enum RowPlace {
     Gone(Snapshot<Vec<Option<u32>>>),
 }
 
-/// The rows with the numbers 1, 2, 3 and so on, in the order in which they were made.
+/// The rows with the numbers 1, 2, 3 and so on, in the order in which they were made. What a list has of row x stands at x - 1.
 #[derive(Drop)]
 pub(crate) struct Rows {
-    // The place of row x stands at x - 1.
     places: Vec<RowPlace>,
     slab: Slab<Row>,
+    // Whether a row has a mark, which a removed one hasn't.
+    marks: Vec<bool>,
+    // A row's link in the list of grey rows.
+    links: Vec<u32>,
 }
 
 impl Model for Rows {
     ghost use Rattle.std.specs.Prelude.{List, map};
-    ghost use Rattle.row_heap.specs.Places.{Seen, seen_at, IsIndex};
+    ghost use Rattle.row_heap.specs.Places.{Seen, seen_at, with_marks, AreRows};
 
     ghost Value = { List Seen };
 
-    ghost view = { λ s. map (seen_at s.slab) s.places.items };
+    ghost view = { λ s. with_marks (map (seen_at s.slab) s.places.items) s.marks.items s.links.items };
 
-    ghost invariant = { λ s. IsIndex s.slab s.places.items };
+    ghost invariant = { λ s. AreRows s.slab s.places.items s.marks.items s.links.items };
 }
 
 impl Rows {
@@ -56,6 +60,8 @@ impl Rows {
         Rows {
             places: Vec::new(alloc),
             slab: Slab::new(alloc),
+            marks: Vec::new(alloc),
+            links: Vec::new(alloc),
         }
     }
 
@@ -82,16 +88,21 @@ impl Rows {
         requires { (1 ≤ x) × (x ≤ length self.now) }
         ensures { result ≡ is_white (row_at self.now x) }
     {
-        match self.places[x - 1] {
-            RowPlace::At(key) => !self.slab[key as usize].marked,
-            RowPlace::Gone(_) => false,
-        }
+        self.stands(x) && !self.is_marked(x)
     }
 
-    /// Row `x`.
+    /// Whether row `x` has a mark.
+    pub(crate) fn is_marked(&self, x: usize) -> bool
+        requires { (1 ≤ x) × (x ≤ length self.now) }
+        ensures { result ≡ (row_at self.now x).marked }
+    {
+        self.marks[x - 1]
+    }
+
+    /// Row `x`, but for its mark and its link.
     pub(crate) fn row(&self, x: usize) -> &Row
         requires { (row_at self.now x).stands ≡ true }
-        ensures { row_at self.now x ≡ standing result.now }
+        ensures { bare (row_at self.now x) ≡ standing result.now }
     {
         match self.places[x - 1] {
             RowPlace::At(key) => &self.slab[key as usize],
@@ -138,11 +149,21 @@ impl Rows {
         requires { (row_at self.old x).stands ≡ true }
         ensures { self.new ≡ numbered_set self.old x (record (row_at self.old x) { marked = true; link = link }) }
     {
+        self.marks[x - 1] = true;
+        self.links[x - 1] = link;
+    }
+
+    /// Marks what the fields of row `x` hold; each row that wasn't marked comes first in the list of grey rows.
+    pub(crate) fn mark_fields(&mut self, x: usize, grey: &mut u32)
+        requires stands { (row_at self.old x).stands ≡ true }
+        requires held { (y : ℕ) → Contains (row_at self.old x).fields (Some y) → (row_at self.old y).stands ≡ true }
+        ensures kept { map bare self.new ≡ map bare self.old }
+        ensures greyed { Greyed (λ y. Contains (row_at self.old x).fields (Some y)) (marks_in self.old) (links_in self.old) grey.old (marks_in self.new) (links_in self.new) grey.new }
+    {
         match self.places[x - 1] {
             RowPlace::At(key) => {
-                let row = &mut self.slab[key as usize];
-                row.marked = true;
-                row.link = link;
+                let fields = self.slab[key as usize].fields.as_slice();
+                visit_fields(fields, &mut self.marks, &mut self.links, grey);
             }
             RowPlace::Gone(_) => unreachable!(),
         }
@@ -155,27 +176,14 @@ impl Rows {
         ensures stands { (row_at self.now x).stands ≡ true }
     {
         self.marked_stand();
-        self.row(x).link
-    }
-
-    // Row `x` has no mark.
-    fn unmark(&mut self, x: usize)
-        requires { (1 ≤ x) × (x ≤ length self.old) }
-        ensures { self.new ≡ numbered_set self.old x (unmarked_row (row_at self.old x)) }
-    {
-        match self.places[x - 1] {
-            RowPlace::At(key) => self.slab[key as usize].marked = false,
-            RowPlace::Gone(_) => {}
-        }
+        self.links[x - 1]
     }
 
     /// No row has a mark.
     pub(crate) fn unmark_all(&mut self)
         ensures { self.new ≡ map unmarked_row self.old }
     {
-        for i in 0..self.made() {
-            self.unmark(i + 1);
-        }
+        self.marks.fill(false);
     }
 
     /// A row with a mark stands, for the proofs of callers. It does nothing.
@@ -195,14 +203,13 @@ impl Rows {
             return Err(AllocError);
         }
         self.places.reserve(1)?;
+        self.marks.reserve(1)?;
+        self.links.reserve(1)?;
         self.slab.reserve(1)?;
-        self.slab.insert_reserved(Row {
-            fields,
-            first: 0,
-            marked: true,
-            link: 0,
-        });
+        self.slab.insert_reserved(Row { fields, first: 0 });
         self.places.push_reserved(RowPlace::At(key as u32));
+        self.marks.push_reserved(true);
+        self.links.push_reserved(0);
         Ok(())
     }
 
@@ -215,8 +222,41 @@ impl Rows {
             RowPlace::At(key) => {
                 let row = self.slab.remove(key as usize);
                 self.places[x - 1] = RowPlace::Gone(Snapshot::of(&row.fields));
+                self.marks[x - 1] = false;
+                self.links[x - 1] = 0;
             }
             RowPlace::Gone(_) => unreachable!(),
         }
+    }
+}
+
+// Marks what fields hold, by the lists of marks and links.
+fn visit_fields(fields: &[Option<u32>], marks: &mut [bool], links: &mut [u32], grey: &mut u32)
+    requires held { (y : ℕ) → Contains fields.now (Some y) → (1 ≤ y) × (y ≤ length marks.old) }
+    requires len { length links.old ≡ length marks.old }
+    ensures len { (length marks.new ≡ length marks.old) × (length links.new ≡ length links.old) }
+    ensures fresh { (k : ℕ) → IsMarked (false ∷ marks.new) k → IsMarked (false ∷ marks.old) k ⊎ Contains fields.now (Some k) }
+    ensures greyed { Greyed (λ y. Contains fields.now (Some y)) (false ∷ marks.old) (0 ∷ links.old) grey.old (false ∷ marks.new) (0 ∷ links.new) grey.new }
+{
+    for field in fields {
+        if let Some(y) = *field {
+            visit_row(y, marks, links, grey);
+        }
+    }
+}
+
+// Marks row `y` by the lists of marks and links; one that wasn't marked comes first in the list of grey rows.
+fn visit_row(y: u32, marks: &mut [bool], links: &mut [u32], grey: &mut u32)
+    requires row { (1 ≤ y) × (y ≤ length marks.old) }
+    requires len { length links.old ≡ length marks.old }
+    ensures len { (length marks.new ≡ length marks.old) × (length links.new ≡ length links.old) }
+    ensures fresh { (k : ℕ) → IsMarked (false ∷ marks.new) k → IsMarked (false ∷ marks.old) k ⊎ (k ≡ y) }
+    ensures greyed { Greyed (λ z. z ≡ y) (false ∷ marks.old) (0 ∷ links.old) grey.old (false ∷ marks.new) (0 ∷ links.new) grey.new }
+{
+    let place = y as usize - 1;
+    if !marks[place] {
+        marks[place] = true;
+        links[place] = *grey;
+        *grey = y;
     }
 }

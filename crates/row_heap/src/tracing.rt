@@ -24,14 +24,6 @@ impl<N: Number> Traced for RowHeap<N> {
 
     ghost links = { λ v. v.links };
 
-    fn degree(&self, x: usize) -> usize {
-        self.rows.row(x).fields.len()
-    }
-
-    fn field(&self, x: usize, i: usize) -> Option<u32> {
-        self.rows.row(x).fields[i]
-    }
-
     fn first_reference(&self, x: usize) -> u32 {
         if self.follows {
             self.rows.row(x).first
@@ -46,11 +38,15 @@ impl<N: Number> Traced for RowHeap<N> {
     }
 
     fn is_marked(&self, x: usize) -> bool {
-        self.rows.row(x).marked
+        self.rows.is_marked(x)
     }
 
     fn link(&self, x: usize) -> u32 {
         self.rows.marked_link(x)
+    }
+
+    fn mark_fields(&mut self, x: usize, grey: &mut u32) {
+        self.rows.mark_fields(x, grey);
     }
 
     fn mark(&mut self, x: usize, link: u32) {

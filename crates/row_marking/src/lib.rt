@@ -1,5 +1,5 @@
-// Marking through the rows of a heap: which objects are reached from some roots, with the marks in the object rows themselves. The managed
-// and the peer collector both mark by this one loop. It takes no memory: nothing is copied, and no list stands beside the rows.
+// Marking through the rows of a heap: which objects are reached from some roots, with a mark and a link that each row has for good. The
+// managed and the peer collector both mark by this one loop. It takes no memory: nothing is copied, and no list is made.
 //
 //     marked and scanned        marked and grey               not marked
 //     +---+   +---+         head -> +---+   +---+            +---+   +---+
@@ -9,7 +9,7 @@
 // Rows have the numbers from 1 on, and 0 is no row. What can be marked has the trait [`Traced`]: each row has a mark, a link, fields that
 // hold a row or nothing, and references, which lead from a row to a row and stand in one list for all rows. The references of one row are a
 // list too: `first_reference` says where the last one stands, and each says where the one before it stands, so that no row's references
-// are looked for in the list.
+// are looked for in the list. What the fields of a row hold is marked by the rows themselves, in one call.
 //
 // A grey row is marked and isn't scanned yet. The grey rows are a list through the links: `head` is the first, 0 ends it. `visit` marks a
 // row, and one that wasn't marked comes first in the list; to scan a row is to visit what it leads to; `finish` scans the grey rows until
@@ -43,18 +43,6 @@ pub trait Traced {
 
     ghost links: { Self → List ℕ };
 
-    /// How many fields row `x` has.
-    fn degree(&self, x: usize) -> usize
-        requires { is_row (kept self.now) x }
-        ensures { result ≡ length ((shape (kept self.now)).fields x) };
-
-    /// What field `i` of row `x` holds.
-    fn field(&self, x: usize, i: usize) -> Option<u32>
-        requires row { is_row (kept self.now) x }
-        requires place { i < length ((shape (kept self.now)).fields x) }
-        ensures at { slice_get ((shape (kept self.now)).fields x) i ≡ Some result }
-        ensures within { IfSome result (λ y. (1 ≤ y) × is_row (kept self.now) y) };
-
     /// Where the references of row `x` begin, counted from 1; 0 where it has none.
     fn first_reference(&self, x: usize) -> u32
         requires { is_row (kept self.now) x }
@@ -80,6 +68,13 @@ pub trait Traced {
         ensures link { slice_get (links self.now) x ≡ Some result }
         ensures row { is_row (kept self.now) x };
 
+    /// Marks what the fields of row `x` hold; each row that wasn't marked comes first in the list of grey rows. It is one call for all of a
+    /// row's fields, so that the row is looked up once.
+    fn mark_fields(&mut self, x: usize, grey: &mut u32)
+        requires { is_row (kept self.old) x }
+        ensures kept { kept self.new ≡ kept self.old }
+        ensures greyed { Greyed (λ y. Contains ((shape (kept self.old)).fields x) (Some y)) (marks self.old) (links self.old) grey.old (marks self.new) (links self.new) grey.new };
+
     /// Marks row `x`, and gives it a link.
     fn mark(&mut self, x: usize, link: u32)
         requires { is_row (kept self.old) x }
@@ -99,20 +94,6 @@ pub fn visit<G: Traced>(g: &mut G, y: u32, grey: &mut u32)
     if !g.is_marked(y as usize) {
         g.mark(y as usize, *grey);
         *grey = y;
-    }
-}
-
-// Marks what the fields of row `x` hold.
-fn scan_fields<G: Traced>(g: &mut G, x: usize, grey: &mut u32)
-    requires { G.is_row (G.kept g.old) x }
-    ensures kept { G.kept g.new ≡ G.kept g.old }
-    ensures greyed { Greyed (λ y. Contains ((G.shape (G.kept g.old)).fields x) (Some y)) (G.marks g.old) (G.links g.old) grey.old (G.marks g.new) (G.links g.new) grey.new }
-{
-    let degree = g.degree(x);
-    for i in 0..degree {
-        if let Some(y) = g.field(x, i) {
-            visit(g, y, grey);
-        }
     }
 }
 
@@ -136,7 +117,7 @@ fn scan<G: Traced>(g: &mut G, x: usize, grey: &mut u32)
     ensures kept { G.kept g.new ≡ G.kept g.old }
     ensures greyed { Greyed (Leads (G.shape (G.kept g.old)) x) (G.marks g.old) (G.links g.old) grey.old (G.marks g.new) (G.links g.new) grey.new }
 {
-    scan_fields(g, x, grey);
+    g.mark_fields(x, grey);
     scan_references(g, x, grey);
 }
 

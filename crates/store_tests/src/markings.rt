@@ -24,18 +24,6 @@ impl Traced for Five {
 
     ghost links = { λ f. f.links };
 
-    fn degree(&self, _x: usize) -> usize {
-        2
-    }
-
-    fn field(&self, x: usize, i: usize) -> Option<u32> {
-        if i == 0 {
-            Some((x % 3 + 3) as u32)
-        } else {
-            None
-        }
-    }
-
     fn first_reference(&self, x: usize) -> u32 {
         if x == 1 { 1 } else { 0 }
     }
@@ -50,6 +38,10 @@ impl Traced for Five {
 
     fn link(&self, x: usize) -> u32 {
         self.links[x]
+    }
+
+    fn mark_fields(&mut self, x: usize, grey: &mut u32) {
+        visit(self, (x % 3 + 3) as u32, grey);
     }
 
     fn mark(&mut self, x: usize, link: u32) {

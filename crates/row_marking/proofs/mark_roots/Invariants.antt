@@ -1,5 +1,5 @@
 -- The roots so far are marked.
-use Rattle.std.proofs.Common.{◌≡◌, ℕ, Contains, take}
+use Rattle.std.proofs.Common.{◌≡◌, Contains, take}
 use Rattle.row_marking.specs.Traces.{Greyed}
 use Rattle.row_marking.proofs.mark_roots.Given as goal
 

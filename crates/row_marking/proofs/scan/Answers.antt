@@ -4,4 +4,4 @@ use Rattle.row_marking.proofs.scan.Goals as goal
 
 pub returns-clause-greyed : goal.returns-clause-greyed
 returns-clause-greyed g c =
-    Greyed-leads (g.G.Traced.shape (g.G.Traced.kept c.args.g.now)) c.args.x _ _ _ _ _ _ _ _ _ c.scan_fields.ensures.greyed (rw c.scan_fields.ensures.kept at c.scan_references.ensures.greyed)
+    Greyed-leads (g.G.Traced.shape (g.G.Traced.kept c.args.g.now)) c.args.x _ _ _ _ _ _ _ _ _ c.mark_fields.ensures.greyed (rw c.mark_fields.ensures.kept at c.scan_references.ensures.greyed)

@@ -1,16 +1,30 @@
--- The row under the one key is written.
-use Rattle.std.proofs.Common.{sym, ap, true}
-use Rattle.row_heap.specs.Places.{Seen}
-use Rattle.row_heap.proofs.Indexed.{index-written, rows-written, row-of, not-gone}
+-- The mark and the link of the one row are written.
+use Rattle.std.proofs.Common.{◌≡◌, ◌∙◌, ◌≤◌, length, map, refl, sym, subst, arith, true}
+use Rattle.std.proofs.Math.ListN.{length-set}
+use Rattle.std.proofs.lemmas.List.{length-map}
+use Rattle.row_heap.specs.Places.{DoMarkedStand, seen_at}
+use Rattle.row_heap.proofs.Indexed.{stands-within}
+use Rattle.row_heap.proofs.Marked.{len-under, marked-are, marked-rows}
 use Rattle.row_heap.proofs.places.Rows.mark.Goals as goal
 
-pub invariant_of-self : goal.invariant_of-self
-invariant_of-self c = index-written c.self.inside.slab c.self.inside.places.items c.args.self.now c.args.x c.index.result.now c.in-At.key _ c.self.view_is c.requires c.in-At.is c.index.ensures c.self.invariant
+pub index_mut-requires : goal.index_mut-requires
+index_mut-requires c =
+    let s = c.self.inside in
+    let w = stands-within c.args.self.now c.args.x c.requires in
+    omega (arith, w.0, w.1, len-under s.slab s.places.items c.args.self.now s.marks.items s.links.items c.self.view_is, c.self.invariant.marks_len, s.marks.ok)
 
-pub unreachable-requires : goal.unreachable-requires
-unreachable-requires c = not-gone c.self.inside.slab c.self.inside.places.items c.args.self.now c.args.x c.index.result.now c.in-Gone.field-0 c.self.view_is c.requires c.in-Gone.is c.index.ensures
+pub index_mut-requires-2 : goal.index_mut-requires-2
+index_mut-requires-2 c =
+    let s = c.self.inside in
+    let w = stands-within c.args.self.now c.args.x c.requires in
+    omega (arith, w.0, w.1, len-under s.slab s.places.items c.args.self.now s.marks.items s.links.items c.self.view_is, c.self.invariant.links_len, s.links.ok)
+
+pub invariant_of-self : goal.invariant_of-self
+invariant_of-self c =
+    let s = c.self.inside in
+    marked-are s.slab s.places.items c.args.self.now s.marks.items s.links.items c.args.x c.args.link c.self.view_is c.self.invariant c.requires
 
 pub returns : goal.returns
 returns c =
-    let row = row-of c.self.inside.slab c.self.inside.places.items c.args.self.now c.args.x c.index.result.now c.in-At.key c.index_mut-row.result.now c.self.view_is c.requires c.in-At.is c.index.ensures c.index_mut-row.ensures.value in
-    rows-written c.self.inside.slab c.self.inside.places.items c.args.self.now c.args.x c.index.result.now c.in-At.key _ _ c.self.view_is c.requires c.in-At.is c.index.ensures c.self.invariant (ap (λ (r : Seen). record r { marked = true; link = c.args.link }) (sym row))
+    let s = c.self.inside in
+    marked-rows s.slab s.places.items c.args.self.now s.marks.items s.links.items c.args.x c.args.link c.self.view_is c.self.invariant c.requires

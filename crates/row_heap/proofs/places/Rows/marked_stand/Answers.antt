@@ -1,6 +1,7 @@
--- A removed row has no mark.
-use Rattle.row_heap.proofs.Indexed.{marked-stands}
+-- By the invariant.
+use Rattle.std.proofs.Common.{subst}
+use Rattle.row_heap.specs.Places.{DoMarkedStand}
 use Rattle.row_heap.proofs.places.Rows.marked_stand.Goals as goal
 
 pub returns : goal.returns
-returns c = rw (← c.self.view_is) (marked-stands c.self.inside.slab c.self.inside.places.items)
+returns c = subst DoMarkedStand c.self.view_is c.self.invariant.up

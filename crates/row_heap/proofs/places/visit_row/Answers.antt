@@ -1,0 +1,10 @@
+-- A row that isn't marked gets its mark and comes first in the grey list; a marked one is left alone.
+use Rattle.std.proofs.Common.{arith}
+use Rattle.row_heap.proofs.Marked.{fresh-row, greyed-row, greyed-seen}
+use Rattle.row_heap.proofs.places.visit_row.Goals as goal
+
+pub returns-then-not-marks-place-clause-greyed : goal.returns-then-not-marks-place-clause-greyed
+returns-then-not-marks-place-clause-greyed c = greyed-row c.args.y c.args.marks.now c.args.links.now c.args.grey.now c.requires.row.0 c.requires.row.1 c.requires.len c.if-not-marks-place.true
+
+pub returns-else-not-marks-place-clause-greyed : goal.returns-else-not-marks-place-clause-greyed
+returns-else-not-marks-place-clause-greyed c = greyed-seen c.args.y c.args.marks.now _ c.args.grey.now c.requires.row.0 c.requires.row.1 c.if-not-marks-place.false
