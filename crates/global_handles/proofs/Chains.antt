@@ -7,15 +7,16 @@
 -- The walk clears from the top down: before the slot of the number n, all slots from there up are as if cleared,
 -- since those between two slots of a chain have nothing to clear for its peer.
 use Rattle.std.proofs.Common.{◌≡◌, ◌≢◌, ℕ, ◌+◌, ◌<◌, ◌≤◌, zero, suc, cond, eqb, not, Bool, true, false, List, [], ◌∷◌, ◌++◌, length, map, set, get_or, slice_get, Option, None, Some, refl, sym, ap, ◌∙◌, subst, ◌⊎◌, inl, inr, eq-eqb, arith}
-use Rattle.std.specs.Option.{option_map, unwrap_or}
+use Rattle.std.specs.Option.{option_map}
 use Rattle.std.proofs.lemmas.Bool.{cases_eq, cases_lt}
+use Rattle.std.proofs.lemmas.List.{get_or_past}
 use Rattle.std.proofs.lemmas.Option.{none-some, same_Some, slice_get_within, slice_get_read}
 use Rattle.std.proofs.lemmas.Bool.Decides.{nat_tests}
 use Rattle.joint_model.specs.declared.names.PNum.{PNum}
 use Rattle.joint_model.proofs.Deciding.{neq-eqb, true-false}
 use Rattle.global_handles.specs.declared.Kept.{Kept}
 use Rattle.global_handles.specs.declared.Slot.{Slot}
-use Rattle.global_handles.specs.Slots.{with_row, with_next, with_previous, next_at, previous_at, numbered, rows_from, cleared_kept, cleared_slot, is_open, opens, Leads, IsLinked, LeadsBack, IsBacked, IsChained}
+use Rattle.global_handles.specs.Slots.{with_row, with_next, with_previous, next_at, previous_at, numbered, rows_from, cleared_kept, cleared_slot, is_open, opens, head_in, Leads, IsLinked, LeadsBack, IsBacked, IsChained}
 use Rattle.global_handles.proofs.Slots.{kept_at}
 
 -- the peer of a number
@@ -579,13 +580,9 @@ IsChained-cleared p ss head new len moved chained = record {
           rw is (stay q (head q) (length ss) apart (chained.heads_lead q))
     ]
 
--- the heads after that of a peer is gone
-pub heads-removed : (p q : PNum) (new old : Option ℕ) → new ≡ cond (eqb p.0 q.0) None old → unwrap_or new 0 ≡ cond (eqb p.0 q.0) 0 (unwrap_or old 0)
-heads-removed p q new old is = by (eqb p.0 q.0) refl
-  where
-    by : (b : Bool) → eqb p.0 q.0 ≡ b → unwrap_or new 0 ≡ cond (eqb p.0 q.0) 0 (unwrap_or old 0)
-    by true e = rw (is, e) refl
-    by false e = rw (is, e) refl
+-- a peer that has a chain has a place among the heads
+pub head-within : (heads : List ℕ) (p : PNum) → head_in heads p ≢ 0 → p.0 < length heads
+head-within heads p some = elim (cases_lt p.0 (length heads)) [ inl lt ↦ lt | inr ge ↦ absurd (some (get_or_past heads p.0 0 ge)) ]
 
 -- the chains are seen by their heads alone
 pub IsChained-heads : (ss : List Slot) (head new : PNum → ℕ) → ((q : PNum) → new q ≡ head q) → IsChained ss head → IsChained ss new

@@ -1,9 +1,7 @@
 -- How the table keeps its rows: a slot for each handle that was ever made, at the place one below its number.
-use Rattle.std.specs.Prelude.{◌≡◌, ◌==◌, ◌+◌, ◌-◌, ◌≤◌, ◌<◌, ℕ, Bool, zero, suc, true, false, not, List, [], ◌∷◌, Option, None, Some, length, slice_get, if◌then◌else◌}
-use Rattle.std.specs.Option.{option_map, unwrap_or}
-use Rattle.std.specs.Map.{lookup}
+use Rattle.std.specs.Prelude.{◌≡◌, ◌==◌, ◌+◌, ◌-◌, ◌≤◌, ◌<◌, ℕ, Bool, zero, suc, true, false, not, List, [], ◌∷◌, Option, None, Some, length, slice_get, slice_index_or, if◌then◌else◌}
+use Rattle.std.specs.Option.{option_map}
 use Rattle.std.specs.Vec.{vec_capacity}
-use Rattle.std.specs.HashMap.{spare}
 use Rattle.joint_model.specs.declared.names.HNum.{HNum}
 use Rattle.joint_model.specs.declared.names.PNum.{PNum}
 use Rattle.global_handles.specs.declared.HandleRow.{HandleRow}
@@ -102,19 +100,21 @@ pub record IsChained (ss : List Slot) (head : PNum → ℕ) : Type 0 where
   pub linked : IsLinked ss
   pub backed : IsBacked ss head
 
--- the number at which the chain of a peer begins; 0 where there is nothing to clear
-abbrev pub head_in : List (PNum × ℕ) → PNum → ℕ
-head_in heads p = unwrap_or (lookup (λ q. p.0 == q.0) heads) 0
+-- the number at which the chain of a peer begins; 0 where there is nothing to clear, as past the end of the list
+abbrev pub head_in : List ℕ → PNum → ℕ
+head_in heads p = slice_index_or heads p.0 0
 
 -- what contracts see of a table with these fields
 abbrev pub table_of : Inside → Table
 table_of t = record { rows = rows_from 0 t.slots.items; made = length t.slots.items; room = t.ready }
 
 -- what holds of a table's fields: at most 65,535 handles were made, the live ones are counted, just the slots that
--- have something to clear are chained, those of each peer from its head on, and the room that is said is there
+-- have something to clear are chained, those of each peer from its head on, and the room that is said is there: for
+-- the slots, and for the head of any peer, whose number is at most 65,535
 pub record IsTable (t : Inside) : Type 0 where
   pub most : length t.slots.items ≤ 65535
   pub counted : t.live ≡ length (rows_from 0 t.slots.items)
-  pub chained : IsChained t.slots.items (head_in t.heads.entries)
+  pub chained : IsChained t.slots.items (head_in t.heads.items)
   pub slots_room : length t.slots.items + t.ready ≤ vec_capacity t.slots
-  pub heads_room : t.ready ≤ spare t.heads
+  pub heads_most : length t.heads.items ≤ 65536
+  pub heads_room : 1 ≤ t.ready → 65536 ≤ vec_capacity t.heads

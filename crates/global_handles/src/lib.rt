@@ -13,24 +13,29 @@
 // can take all memory first. Each reads and writes a few rows, however many there are, and `clear_target` just
 // those that it clears.
 //
+// Where the chain of a peer's handles begins is kept in a list by the peer's number, which is at most 65,535; the list
+// reaches as far as a handle was made, and room for the whole of it is taken by the first `reserve`.
+//
 // The table is a part of the peer side, which alone changes it. What is promised: the rows after each call are those of the definition; `release`
 // refuses exactly a number that isn't in the table, and `make` all after the 65,535th.
 #![tactic(auto)]
 
-ghost use Rattle.std.specs.Prelude.{◌≡◌, ◌==◌, ◌+◌, ◌≤◌, ◌↔◌, [], ◌∷◌, ◌++◌, true, length, map, All, ok_or, ℕ, ◌-◌, ◌≢◌, if◌then◌else◌, Ok, Err, None, Some, OnOk, OnErr, IfOk, IsOk};
+ghost use Rattle.std.specs.Prelude.{◌≡◌, ◌==◌, ◌+◌, ◌<◌, ◌≤◌, ◌↔◌, max, [], ◌∷◌, ◌++◌, true, length, map, All, ok_or, ℕ, ◌-◌, ◌≢◌, if◌then◌else◌, Ok, Err, None, Some, OnOk, OnErr, IfOk, IsOk};
 ghost use Rattle.std.specs.Option.{option_map};
 ghost use Rattle.std.specs.Vec.{vec_capacity, vec_len};
-ghost use Rattle.std.specs.HashMap.{spare};
 ghost use Rattle.global_handles.specs.Slots.{slot_of, with_row, with_next, with_previous, rows_from, head_in, cleared_slot, IsLinked, Leads, IsChained};
 ghost use Rattle.global_handles.specs.Rows.{row_in, target_in, strength_in, cleared_in, fresh_row, with_strength, changed, cleared_for, without, not_live, IsWeakFor, IsRising};
 
 use joint_model::{HNum, PNum};
 use std::alloc::{AllocError, Global};
-use std::collections::HashMap;
 use std::marker::Model;
+use std::mem;
 
 // The most handles that are ever made in one [`HandleTable`].
 const MOST: usize = 65_535;
+
+// How many numbers a peer may have, from 0 on: those of the objects of a heap, which are at most 65,535.
+const PEERS: usize = 65_536;
 
 /// Who names the peer by a row: a managed object that holds it, or a raw global name.
 #[derive(Clone, Copy, PartialEq, Eq, Debug)]
@@ -156,7 +161,7 @@ impl Slot {
 #[derive(Drop)]
 pub struct HandleTable {
     slots: Vec<Slot>,
-    heads: HashMap<PNum, u32>,
+    heads: Vec<u32>,
     live: u32,
     ready: u32,
 }
@@ -182,29 +187,32 @@ impl HandleTable {
     {
         HandleTable {
             slots: Vec::new(alloc),
-            heads: HashMap::new(alloc),
+            heads: Vec::new(alloc),
             live: 0,
             ready: 0,
         }
     }
 
-    /// Takes room for so many more handles. Answers `AllocError`, with nothing changed, where there is no memory.
+    /// Takes room for so many more handles, whatever peers they are made on. Answers `AllocError`, with nothing changed,
+    /// where there is no memory.
     pub fn reserve(&mut self, additional: u32) -> Result<(), AllocError>
         ensures ok { OnOk result (self.new ≡ record self.old { room = additional }) }
         ensures err { OnErr result (self.new ≡ self.old) }
     {
         self.slots.reserve(additional as usize)?;
-        self.heads.reserve(additional as usize)?;
+        self.heads.reserve(PEERS - self.heads.len())?;
         self.ready = additional;
         Ok(())
     }
 
-    /// Makes a handle on `p`, whose number is the count made plus 1. The new row isn't cleared.
+    /// Makes a handle on `p`, whose number is the count made plus 1. The new row isn't cleared. The number of `p` is at
+    /// most 65,535.
     ///
     /// Answers `HandlesFull` exactly where 65,535 were made by this call, which is tested before memory is asked
     /// for, and `OutOfMemory` where there is no memory for the row. After either the table is as before. Where there
     /// is room for a further handle, it takes no memory and uses the room of one.
     pub fn make(&mut self, p: PNum, hold: Hold, strength: Strength) -> Result<HNum, HandleFault>
+        requires { p.0 ≤ 65535 }
         ensures number { IfOk result (λ h. h.0 ≡ self.old.made + 1) }
         ensures rows { IfOk result (λ h. self.new.rows ≡ self.old.rows ++ fresh_row h p hold strength ∷ []) }
         ensures made { OnOk result (self.new.made ≡ self.old.made + 1) }
@@ -218,8 +226,9 @@ impl HandleTable {
             return Err(HandleFault::HandlesFull);
         }
         self.slots.reserve(1)?;
+        make_head(&mut self.heads, p)?;
         let number = self.slots.len() as u32 + 1;
-        let next = set_head(&mut self.heads, p, number)?;
+        let next = set_head(&mut self.heads, p, number);
         set_previous(&mut self.slots, next, number);
         let kept = Kept {
             hold,
@@ -313,7 +322,7 @@ impl HandleTable {
         ensures room { self.new.room ≡ self.old.room }
         ensures rising { IsRising self.new }
     {
-        let from = self.heads.remove(&p).unwrap_or(0);
+        let from = take_head(&mut self.heads, p);
         clear_chain(&mut self.slots, p, from);
     }
 
@@ -407,15 +416,16 @@ fn set_previous(slots: &mut Vec<Slot>, at: u32, previous: u32)
 }
 
 // Removes the row in the slot of a handle, and takes the slot off its chain, if it is on one. It takes no memory.
-fn remove_row(slots: &mut Vec<Slot>, heads: &mut HashMap<PNum, u32>, h: HNum)
+fn remove_row(slots: &mut Vec<Slot>, heads: &mut Vec<u32>, h: HNum)
     requires one { 1 ≤ h.0 }
     requires within { h.0 ≤ length slots.old.items }
-    requires chained { IsChained slots.old.items (head_in heads.old.entries) }
-    ensures chained { IsChained slots.new.items (head_in heads.new.entries) }
+    requires chained { IsChained slots.old.items (head_in heads.old.items) }
+    ensures chained { IsChained slots.new.items (head_in heads.new.items) }
     ensures rows { rows_from 0 slots.new.items ≡ rows_from 0 (with_row slots.old.items (h.0 - 1) None) }
     ensures len { length slots.new.items ≡ length slots.old.items }
     ensures capacity { vec_capacity slots.new ≡ vec_capacity slots.old }
-    ensures spare { spare heads.old ≤ spare heads.new }
+    ensures heads_len { length heads.new.items ≡ length heads.old.items }
+    ensures heads_capacity { vec_capacity heads.new ≡ vec_capacity heads.old }
 {
     let slot = slots[h.0 as usize - 1];
     set_row(slots, h, None);
@@ -425,37 +435,48 @@ fn remove_row(slots: &mut Vec<Slot>, heads: &mut HashMap<PNum, u32>, h: HNum)
     set_next(slots, slot.previous, slot.next);
     set_previous(slots, slot.next, slot.previous);
     if slot.previous == 0 {
-        move_head(heads, slot.peer, slot.next);
+        let _ = set_head(heads, slot.peer, slot.next);
     }
 }
 
-// Lets the chain of a peer that has one begin at this number, and end the peer's chain at 0. It takes no memory.
-fn move_head(heads: &mut HashMap<PNum, u32>, p: PNum, number: u32)
-    requires { head_in heads.old.entries p ≢ 0 }
-    ensures head { (q : PNum) → head_in heads.new.entries q ≡ (if p.0 == q.0 then number else head_in heads.old.entries q) }
-    ensures spare { spare heads.old ≤ spare heads.new }
+// Makes a place for the head of a peer's chain, and of all peers' before it, if there is none.
+fn make_head(heads: &mut Vec<u32>, p: PNum) -> Result<(), AllocError>
+    ensures place { OnOk result (length heads.new.items ≡ max (length heads.old.items) (p.0 + 1)) }
+    ensures heads { (q : PNum) → head_in heads.new.items q ≡ head_in heads.old.items q }
+    ensures capacity { vec_capacity heads.old ≤ vec_capacity heads.new }
+    ensures reserved { p.0 < vec_capacity heads.old → IsOk result }
+    ensures err { OnErr result (heads.new.items ≡ heads.old.items) }
 {
-    if number == 0 {
-        let _ = heads.remove(&p);
-        return;
+    let place = p.0 as usize;
+    if place >= heads.len() {
+        heads.resize(place + 1, 0)?;
     }
-    if let Some(head) = heads.get_mut(&p) {
-        *head = number;
-    }
+    Ok(())
 }
 
-// Lets the chain of a peer begin at this number, and answers where it began before; 0 where there was none.
-fn set_head(heads: &mut HashMap<PNum, u32>, p: PNum, number: u32) -> Result<u32, AllocError>
-    ensures before { IfOk result (λ n. n ≡ head_in heads.old.entries p) }
-    ensures head { OnOk result ((q : PNum) → head_in heads.new.entries q ≡ (if p.0 == q.0 then number else head_in heads.old.entries q)) }
-    ensures err { OnErr result (heads.new.entries ≡ heads.old.entries) }
-    ensures succeeds { 1 ≤ spare heads.old → IsOk result }
-    ensures spare { spare heads.old ≤ spare heads.new + 1 }
+// Lets the chain of a peer that has a place begin at this number, and answers where it began before; 0 stands for no
+// chain. It takes no memory.
+fn set_head(heads: &mut Vec<u32>, p: PNum, number: u32) -> u32
+    requires { p.0 < length heads.old.items }
+    ensures before { result ≡ head_in heads.old.items p }
+    ensures head { (q : PNum) → head_in heads.new.items q ≡ (if p.0 == q.0 then number else head_in heads.old.items q) }
+    ensures len { length heads.new.items ≡ length heads.old.items }
+    ensures capacity { vec_capacity heads.new ≡ vec_capacity heads.old }
 {
-    match heads.insert(p, number) {
-        Ok(before) => Ok(before.unwrap_or(0)),
-        Err(_) => Err(AllocError),
+    mem::replace(&mut heads[p.0 as usize], number)
+}
+
+// Ends the chain of a peer, and answers where it began; 0 where there was none. It takes no memory.
+fn take_head(heads: &mut Vec<u32>, p: PNum) -> u32
+    ensures before { result ≡ head_in heads.old.items p }
+    ensures head { (q : PNum) → head_in heads.new.items q ≡ (if p.0 == q.0 then 0 else head_in heads.old.items q) }
+    ensures len { length heads.new.items ≡ length heads.old.items }
+    ensures capacity { vec_capacity heads.new ≡ vec_capacity heads.old }
+{
+    if p.0 as usize >= heads.len() {
+        return 0;
     }
+    set_head(heads, p, 0)
 }
 
 // Clears each row of a peer, from the slot of this number on to the earlier ones. Each slot that it visits has a row

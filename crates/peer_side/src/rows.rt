@@ -192,12 +192,14 @@ impl PeerRows {
         self.issued.len() >= MOST_HANDLES
     }
 
-    // Issues a handle on a peer. Answers `AllocError` where there is no memory; all is then as before.
+    // Issues a handle on a live peer. Answers `AllocError` where there is no memory; all is then as before.
     fn issue(&mut self, p: PNum, hold: Hold, strength: Strength) -> Result<HNum, AllocError>
+        requires { IsLive self.old.rows.heap p.0 }
         ensures number { IfOk result (λ h. h.0 ≡ length self.old.issued + 1) }
         ensures issued { OnOk result (self.new ≡ issued_to self.old (record { peer = p; hold = hold; strength = strength })) }
         ensures err { OnErr result (self.new ≡ self.old) }
     {
+        self.heap.tidy();
         self.issued.reserve(1)?;
         match self.table.make(p, hold, strength) {
             Ok(h) => {
@@ -254,9 +256,10 @@ impl PeerRows {
         }
     }
 
-    // Gives a peer a global name, unless that is given.
+    // Gives a live peer a global name, unless that is given.
     fn name_peer(&mut self, g: usize, p: PNum, strength: Strength) -> Result<Reply, AllocError>
-        requires { g < 64 }
+        requires g { g < 64 }
+        requires live { IsLive self.old.rows.heap p.0 }
         ensures answers { IfOk result (λ r. PeersAnswer self.old (name_given (peers_in self.old) g p.0 (strength_as strength) (slot self.old.names g)) r self.new) }
         ensures marks { AreMarksSame self.old.rows self.new.rows }
         ensures tabled { self.new.tabled ≤ self.old.tabled + 1 }

@@ -45,6 +45,23 @@ fn is_full_once_all_numbers_were_given(rt: HostRuntime) -> Result<(), Fail> {
 }
 
 #[test]
+fn makes_handles_on_the_peers_of_all_numbers(rt: HostRuntime) -> Result<(), Fail> {
+    let mut table = HandleTable::new(rt.alloc());
+    let low = table.make(PNum(0), Hold::Held, Strength::Weak)?;
+    table.reserve(2)?;
+    let high = table.make(PNum(65_535), Hold::Held, Strength::Weak)?;
+    let middle = table.make(PNum(300), Hold::Held, Strength::Weak)?;
+    table.clear_target(PNum(65_535));
+    table.clear_target(PNum(301));
+    assert_eq!(rt; table.target(high), None);
+    assert_eq!(rt;
+        (table.target(low), table.target(middle)),
+        (Some(PNum(0)), Some(PNum(300)))
+    );
+    Ok(())
+}
+
+#[test]
 fn restores_a_row_that_was_not_cleared(rt: HostRuntime) -> Result<(), Fail> {
     let mut table = HandleTable::new(rt.alloc());
     let first = table.make(PNum(4), Hold::Held, Strength::Strong)?;

@@ -1,7 +1,7 @@
 use Rattle.std.proofs.Common.{◌-◌, length, None, refl, sym, eq-eqb, arith}
 use Rattle.std.proofs.lemmas.Option.{slice_get_read}
 use Rattle.global_handles.specs.Slots.{head_in}
-use Rattle.global_handles.proofs.Chains.{IsChained-emptied, IsChained-without, length-with_next, length-with_row, length-without_slots, links-within, opens-own, rows_from-without_slots}
+use Rattle.global_handles.proofs.Chains.{IsChained-emptied, IsChained-without, head-within, length-with_next, length-with_row, length-without_slots, links-within, opens-own, rows_from-without_slots}
 use Rattle.global_handles.proofs.remove_row.Goals as goal
 use Rattle.joint_model.proofs.Deciding.{neq-eqb}
 
@@ -28,12 +28,12 @@ set_previous-requires c =
     let own = opens-own c.index-slot.result.now (sym c.if-not-is_open.ensures) in
     rw (c.set_next.ensures.items, c.set_row.ensures.items, length-with_next, length-with_row all (c.args.h.0 - 1) None) (links-within all (c.args.h.0 - 1) c.index-slot.result.now _ _ c.requires.chained there own).1
 
-pub move_head-requires : goal.move_head-requires
-move_head-requires c =
+pub set_head-requires : goal.set_head-requires
+set_head-requires c =
     let all = c.args.slots.now.items in
     let there = slice_get_read all (length all) (c.args.h.0 - 1) c.index-slot.result.now refl (omega arith) c.index-slot.ensures in
     let own = opens-own c.index-slot.result.now (sym c.if-not-is_open.ensures) in
-    (links-within all (c.args.h.0 - 1) c.index-slot.result.now _ _ c.requires.chained there own).2 c.if-slot-eq0.true
+    head-within c.args.heads.now.items c.index-slot.result.now.peer ((links-within all (c.args.h.0 - 1) c.index-slot.result.now _ _ c.requires.chained there own).2 c.if-slot-eq0.true)
 
 pub returns-then-slot-eq0-clause-chained : goal.returns-then-slot-eq0-clause-chained
 returns-then-slot-eq0-clause-chained c =
@@ -43,7 +43,7 @@ returns-then-slot-eq0-clause-chained c =
     let there = slice_get_read all (length all) i slot refl (omega arith) c.index-slot.ensures in
     let own = opens-own slot (sym c.if-not-is_open.ensures) in
     rw (c.set_previous.ensures.items, c.set_next.ensures.items, c.set_row.ensures.items)
-    (IsChained-without all i slot slot.peer (head_in c.args.heads.now.entries) (head_in c.move_head.new.heads.entries) there own (λ q. rw (eq-eqb slot.previous 0 c.if-slot-eq0.true) (c.move_head.ensures.head q)) c.requires.chained)
+    (IsChained-without all i slot slot.peer (head_in c.args.heads.now.items) (head_in c.set_head.new.heads.items) there own (λ q. rw (eq-eqb slot.previous 0 c.if-slot-eq0.true) (c.set_head.ensures.head q)) c.requires.chained)
 
 pub returns-else-slot-eq0-clause-chained : goal.returns-else-slot-eq0-clause-chained
 returns-else-slot-eq0-clause-chained c =
@@ -53,7 +53,7 @@ returns-else-slot-eq0-clause-chained c =
     let there = slice_get_read all (length all) i slot refl (omega arith) c.index-slot.ensures in
     let own = opens-own slot (sym c.if-not-is_open.ensures) in
     rw (c.set_previous.ensures.items, c.set_next.ensures.items, c.set_row.ensures.items)
-    (IsChained-without all i slot slot.peer (head_in c.args.heads.now.entries) (head_in c.args.heads.now.entries) there own (λ q. rw (neq-eqb slot.previous 0 (omega arith)) refl) c.requires.chained)
+    (IsChained-without all i slot slot.peer (head_in c.args.heads.now.items) (head_in c.args.heads.now.items) there own (λ q. rw (neq-eqb slot.previous 0 (omega arith)) refl) c.requires.chained)
 
 pub returns-then-slot-eq0-clause-rows : goal.returns-then-slot-eq0-clause-rows
 returns-then-slot-eq0-clause-rows c = rw (c.set_previous.ensures.items, c.set_next.ensures.items, c.set_row.ensures.items) (rows_from-without_slots c.args.slots.now.items (c.args.h.0 - 1) c.index-slot.result.now)

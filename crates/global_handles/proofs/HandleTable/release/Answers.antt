@@ -22,7 +22,8 @@ invariant_of-self c =
       counted = rw e.rows (omega (arith, length-emptied 0 all (c.args.h.0 - 1) kept.0 kept.3));
       chained = e.chained;
       slots_room = omega (arith, c.self.invariant.slots_room, e.len, e.capacity);
-      heads_room = omega (arith, c.self.invariant.heads_room, e.spare);
+      heads_most = omega (arith, c.self.invariant.heads_most, e.heads_len);
+      heads_room = omega (arith, c.self.invariant.heads_room, e.heads_capacity);
     }
 
 pub returns-clause-rows : goal.returns-clause-rows

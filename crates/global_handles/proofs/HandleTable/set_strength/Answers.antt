@@ -32,6 +32,7 @@ invariant_of-self c =
       counted = rw (e, changed-rows (with_strength c.args.strength) 0 all c.args.h i kept.0 k' (omega (arith, kept.1)) kept.3 (same kept.0 c.in-Some.row.hold c.args.strength c.in-Some.row.cleared kept.4 kept.5)) (c.self.invariant.counted ∙ sym (length-map (rows_from 0 all) _));
       chained = rw e (IsChained-with_row all i (Some k') _ (open-kept all i kept.0 k' kept.3 kept.5) c.self.invariant.chained);
       slots_room = omega (arith, c.self.invariant.slots_room, ap length e, length-with_row all i (Some k'), c.set_row.ensures.capacity);
+      heads_most = c.self.invariant.heads_most;
       heads_room = c.self.invariant.heads_room;
     }
 
