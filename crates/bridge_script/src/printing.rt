@@ -15,8 +15,9 @@ pub fn script_text(alloc: Global, s: &Script) -> Result<String, AllocError>
     ensures reads { IfOk result (λ t. IsText (string_bytes t) s.now) }
 {
     let mut bytes = Vec::new(alloc);
+    let mut line = Line::new();
     for (thread, act) in s.lines() {
-        let mut line = Line::new();
+        line.clear();
         add_line(&mut line, *thread, act);
         line.text(b"\n");
         bytes.extend_from_slice(line.bytes())?;

@@ -2,7 +2,7 @@
 use Rattle.std.proofs.Common.{◌≡◌, ℕ, ◌≤◌, List, [], ◌∷◌, ◌++◌, Option, Some, None, Result, Ok, Err, sym, ◌∙◌, ap, refl, arith, subst, append_assoc, append-nil}
 use Rattle.std.specs.Io.KnownBytes.{Appends, Keeps}
 use Rattle.byte_streams.specs.Streams.{Writes}
-use Rattle.byte_streams.specs.Blocks.{BuffersText, Sends}
+use Rattle.byte_streams.specs.Sending.{BuffersText, Sends}
 use Rattle.byte_streams.specs.Drafts.{after_spaces}
 
 pub Appends-then : (a b c : Option (List ℕ)) (x y : List ℕ) → Appends a b x → Appends b c y → Appends a c (x ++ y)
@@ -42,6 +42,17 @@ BuffersText-then a b c p q r x y v w = record {
   whole = sym (append_assoc p x y) ∙ (ap (λ t. t ++ y) v.whole ∙ (append_assoc v.sent q y ∙ (ap (λ t. v.sent ++ t) w.whole ∙ sym (append_assoc v.sent w.sent r))));
 }
 
+-- what was put behind what is pending
+pub BuffersText-put : (a b : Option (List ℕ)) (p q r x y : List ℕ) → BuffersText a b p q x → r ≡ q ++ y → BuffersText a b p r (x ++ y)
+BuffersText-put a b p q r x y v e = record {
+  sent = v.sent;
+  appends = v.appends;
+  whole = sym (append_assoc p x y) ∙ (ap (λ t. t ++ y) v.whole ∙ (append_assoc v.sent q y ∙ ap (λ t. v.sent ++ t) (sym e)));
+}
+
+pub Sends-put : {E : Type 0} (a b : Option (List ℕ)) (p q r : List ℕ) (f g : ℕ) (u : Unit {0}) (x y : List ℕ) → BuffersText a b p q x → f ≤ g → r ≡ q ++ y → Sends {E = E} a b p r f g (Ok u) (x ++ y)
+Sends-put a b p q r f g u x y v l e = record { whole = BuffersText-put a b p q r x y v e; part = tt; cause = record { later = l; failed = tt } }
+
 -- what was written after a text that was written
 pub Sends-after : {E : Type 0} (a b c : Option (List ℕ)) (p q r : List ℕ) (f g k : ℕ) (z : Result (Unit {0}) E) (x y : List ℕ) → BuffersText a b p q x → f ≤ g → Sends b c q r g k z y → Sends a c p r f k z (x ++ y)
 Sends-after a b c p q r f g k (Ok u) x y v l w = record { whole = BuffersText-then a b c p q r x y v w.whole; part = tt; cause = record { later = omega (arith, w.cause.later); failed = tt } }
@@ -71,6 +82,14 @@ BuffersText-into a b c p q r before piece whole e v w = rw e (BuffersText-then a
 -- a text that begins with what was written before, and goes on with a piece that failed
 pub Sends-into : {E : Type 0} (a b c : Option (List ℕ)) (p q r : List ℕ) (f g k : ℕ) (z : E) (before piece rest whole : List ℕ) → whole ≡ (before ++ piece) ++ rest → BuffersText a b p q before → f ≤ g → Sends {E = E} b c q r g k (Err z) piece → Sends {E = E} a c p r f k (Err z) whole
 Sends-into a b c p q r f g k z before piece rest whole e v l w = rw e (Sends-short a c p r f k z (before ++ piece) rest (Sends-after a b c p q r f g k (Err z) before piece v l w))
+
+-- room was made behind what was written
+pub BuffersText-room : (a b c : Option (List ℕ)) (p q r x : List ℕ) → BuffersText a b p q x → BuffersText b c q r [] → BuffersText a c p r x
+BuffersText-room a b c p q r x v w = let F : List ℕ → Type 0 = λ t. BuffersText a c p r t in subst F (append-nil x) (BuffersText-then a b c p q r x [] v w)
+
+-- room couldn't be made behind the beginning of a text
+pub Sends-no_room : {E : Type 0} (a b c : Option (List ℕ)) (p q r : List ℕ) (f g k : ℕ) (z : E) (x rest whole : List ℕ) → whole ≡ x ++ rest → BuffersText a b p q x → f ≤ g → Sends {E = E} b c q r g k (Err z) [] → Sends {E = E} a c p r f k (Err z) whole
+Sends-no_room a b c p q r f g k z x rest whole e v l w = Sends-into a b c p q r f g k z x [] rest whole (e ∙ ap (λ t. t ++ rest) (sym (append-nil x))) v l w
 
 -- a text of which the rest was pending, and was written
 pub Writes-flushed : {E : Type 0} (a b c : Option (List ℕ)) (q : List ℕ) (f g k : ℕ) (z : Result (Unit {0}) E) (x : List ℕ) → BuffersText a b [] q x → f ≤ g → Writes b c g k z q → Writes a c f k z x

@@ -1,3 +1,3 @@
 pub mod Streams
 pub mod Drafts
-pub mod Blocks
+pub mod Sending

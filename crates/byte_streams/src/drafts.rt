@@ -1,8 +1,11 @@
-// A line of a report or another short text, put together in a fixed buffer: it takes no memory, so it can't fail.
+// A text that is put together for a sink in a fixed buffer: it takes no memory. A sink gets what was put together where there is no room for more.
 
-ghost use Rattle.std.specs.Prelude.{◌≡◌, ◌+◌, ◌/◌, ◌%◌, ◌<◌, ◌≤◌, [], ◌∷◌, length, decimal};
+ghost use Rattle.std.specs.Prelude.{◌≡◌, ◌+◌, ◌/◌, ◌%◌, ◌<◌, ◌≤◌, [], ◌∷◌, length, decimal, OnOk};
+ghost use Rattle.byte_streams.specs.Streams.{Writes};
+ghost use Rattle.byte_streams.specs.Sending.{Sends};
 ghost use Rattle.byte_streams.specs.Drafts.{AddsText};
 
+use crate::streams::{Failed, Sink, write_text};
 use itoa::Buffer;
 use std::marker::Model;
 
@@ -10,13 +13,16 @@ use std::marker::Model;
 static PAIRS: [u8; 200] =
     *b"00010203040506070809101112131415161718192021222324252627282930313233343536373839404142434445464748495051525354555657585960616263646566676869707172737475767778798081828384858687888990919293949596979899";
 
-// The bytes of the buffer: more than a line without its list has.
-const SIZE: usize = 512;
+// The bytes of the buffer.
+const SIZE: usize = 16_384;
 
-/// A line or a few that are put together, of at most 512 bytes in all. A call that puts something behind it asks for the room.
+// For so many bytes [`Line::make_room`] sees that there is room.
+const LEAST: usize = 512;
+
+/// A text that is put together: one line or many, of at most 16,384 bytes in all. A call that puts something behind it asks for the room.
 #[derive(Drop)]
 pub struct Line {
-    bytes: [u8; 512],
+    bytes: [u8; 16_384],
     len: usize,
 }
 
@@ -26,19 +32,19 @@ impl Model for Line {
 
     ghost Value = { Draft };
 
-    ghost view = { λ l. record { text = take l.len l.bytes; room = 512 - l.len } };
+    ghost view = { λ l. record { text = take l.len l.bytes; room = 16384 - l.len } };
 
-    ghost invariant = { λ l. l.len ≤ 512 };
+    ghost invariant = { λ l. l.len ≤ 16384 };
 }
 
 impl Line {
     /// The empty line.
     pub fn new() -> Line
         ensures text { result.text ≡ [] }
-        ensures room { result.room ≡ 512 }
+        ensures room { result.room ≡ 16384 }
     {
         Line {
-            bytes: [0; 512],
+            bytes: [0; SIZE],
             len: 0,
         }
     }
@@ -46,7 +52,7 @@ impl Line {
     /// Its text so far.
     pub fn bytes(&self) -> &[u8]
         ensures text { result.now ≡ self.now.text }
-        ensures short { length result.now ≤ 512 }
+        ensures short { length result.now ≤ 16384 }
     {
         &self.bytes[..self.len]
     }
@@ -55,9 +61,33 @@ impl Line {
     #[inline(always)]
     pub fn clear(&mut self)
         ensures text { self.new.text ≡ [] }
-        ensures room { self.new.room ≡ 512 }
+        ensures room { self.new.room ≡ 16384 }
     {
         self.len = 0;
+    }
+
+    /// Sees that there is room for 512 bytes more: where there isn't, the sink gets the text, and the line is empty. [`Failed`] only where
+    /// the sink's count of faults rose; then it got a beginning of the text.
+    #[inline(always)]
+    pub fn make_room<K: Sink>(&mut self, out: &mut K) -> Result<(), Failed>
+        ensures sent { Sends (K.held out.old) (K.held out.new) self.old.text self.new.text (K.faults out.old) (K.faults out.new) result [] }
+        ensures room { OnOk result (512 ≤ self.new.room) }
+    {
+        if SIZE - self.len >= LEAST {
+            return Ok(());
+        }
+        self.flush(out)
+    }
+
+    /// Gives the sink the text and empties the line. [`Failed`] only where the sink's count of faults rose; then it got a beginning of the text.
+    pub fn flush<K: Sink>(&mut self, out: &mut K) -> Result<(), Failed>
+        ensures written { Writes (K.held out.old) (K.held out.new) (K.faults out.old) (K.faults out.new) result self.old.text }
+        ensures text { OnOk result (self.new.text ≡ []) }
+        ensures room { OnOk result (self.new.room ≡ 16384) }
+    {
+        write_text(out, &self.bytes[..self.len])?;
+        self.len = 0;
+        Ok(())
     }
 
     // Puts a byte behind it.

@@ -1,5 +1,5 @@
 -- A report is written entry by entry, and an entry piece by piece: each text is those before it and one piece more.
-use Rattle.std.proofs.Common.{◌≡◌, ℕ, ◌+◌, ◌<◌, ◌≤◌, List, [], ◌∷◌, ◌++◌, length, take, drop, get_or, Some, None, slice_get, decimal, sym, ◌∙◌, ap, refl, arith, inl, inr, append_assoc, append-nil, length-drop, length-take}
+use Rattle.std.proofs.Common.{◌≡◌, ℕ, ◌+◌, ◌<◌, ◌≤◌, List, [], ◌∷◌, ◌++◌, length, take, drop, get_or, Some, None, slice_get, codes, decimal, sym, ◌∙◌, ap, refl, arith, inl, inr, append_assoc, append-nil, length-drop, length-take}
 use Rattle.std.proofs.lemmas.List.{map-append, get_or-drop, take-take, take_more, take_all, take-append-drop, nil_from_length}
 use Rattle.std.proofs.lemmas.Option.{slice_get_cases}
 use Rattle.joint_model.specs.declared.events.Entry.{Entry}
@@ -7,14 +7,10 @@ use Rattle.joint_model.specs.Histories.{Finished}
 use Rattle.byte_streams.specs.Drafts.{after_spaces}
 use Rattle.byte_streams.proofs.Written.{after_spaces-append}
 use Rattle.history_report.specs.Lists.{lettered, listed}
-use Rattle.history_report.specs.Report.{entry_text, entries_text}
+use Rattle.history_report.specs.Report.{entry_text, entries_text, end_text}
 
 one_word : (letter n : ℕ) → after_spaces (lettered letter (n ∷ [])) ≡ 32 ∷ letter ∷ decimal n
 one_word letter n = ap (λ t. 32 ∷ letter ∷ t) (append-nil (decimal n))
-
--- a number's word, as it is put together behind an empty line
-pub piece_of : (bytes line none : List ℕ) (letter own n : ℕ) → bytes ≡ line → line ≡ none ++ 32 ∷ letter ∷ decimal n → none ≡ [] → letter ≡ own → bytes ≡ 32 ∷ own ∷ decimal n
-piece_of bytes line none letter own n e f g h = e ∙ (f ∙ (ap (λ t. t ++ 32 ∷ letter ∷ decimal n) g ∙ ap (λ t. 32 ∷ t ∷ decimal n) h))
 
 -- one more number of a list
 pub numbers_more : (letter : ℕ) (xs : List ℕ) (first k n : ℕ) → Some n ≡ slice_get xs (first + k)
@@ -61,9 +57,17 @@ listed_none letter xs first count e = elim (slice_get_cases xs first).1 [
   | inr p ↦ ap (listed letter) (nil_from_length (take count (drop first xs)) (omega (arith, p.0, length-take count (drop first xs), length-drop first xs)))
 ]
 
+-- and one that names no place
+pub listed_empty : (letter : ℕ) (xs : List ℕ) (first count : ℕ) → count ≡ 0 → listed letter (take count (drop first xs)) ≡ (45 ∷ []) ∷ []
+listed_empty letter xs first count e = rw e refl
+
 -- the head of an entry's line, as it is put together
 pub head_joined : (o d p : List ℕ) (event reply : List (List ℕ)) → ((((o ++ d) ++ after_spaces (p ∷ [])) ++ after_spaces event) ++ 32 ∷ 61 ∷ []) ++ after_spaces reply ≡ o ++ (d ++ after_spaces (p ∷ (event ++ (61 ∷ []) ∷ reply)))
 head_joined o d p event reply = simp (append_assoc, append-nil, after_spaces-append)
+
+-- the last line, as it is put together
+pub end_joined : (o : List ℕ) (n : ℕ) → ((o ++ codes "end ") ++ decimal n) ++ 10 ∷ [] ≡ o ++ end_text n
+end_joined o n = simp (append_assoc)
 
 pub entries_push : (h : Finished) (es : List Entry) (e : Entry) → entries_text h (es ++ e ∷ []) ≡ entries_text h es ++ entry_text h e
 entries_push h [] e = append-nil (entry_text h e)

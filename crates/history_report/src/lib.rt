@@ -11,7 +11,7 @@
 // Who runs meanwhile: nobody that could change the history, which is only read. The sink is written by the one thread that calls.
 //
 // What is promised: the sink gets the report of the history, the whole of it or, where the sink fails, a beginning. It takes no memory: the sink
-// gets the report in blocks from a fixed buffer. That different histories have different reports is a law of `script_laws`.
+// gets the report in pieces from a fixed buffer. That different histories have different reports is a law of `script_laws`.
 //
 // `specs/Report.antt` says what the report is, and `specs/Lists.antt` how the lists of numbers stand in it.
 #![tactic(auto)]

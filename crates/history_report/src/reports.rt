@@ -1,16 +1,16 @@
-// The report of a history, written to a sink in blocks.
+// The report of a history, which a sink gets piece by piece.
 
-ghost use Rattle.std.specs.Prelude.{◌≡◌, ◌≤◌, ◌++◌, take, length};
+ghost use Rattle.std.specs.Prelude.{◌++◌, ◌≤◌, take, length};
 ghost use Rattle.joint_model.specs.Histories.{stretch};
 ghost use Rattle.byte_streams.specs.Streams.{Writes};
-ghost use Rattle.byte_streams.specs.Blocks.{Sends};
+ghost use Rattle.byte_streams.specs.Sending.{Sends};
 ghost use Rattle.byte_streams.specs.Drafts.{after_spaces};
 ghost use Rattle.history_report.specs.Lists.{lettered, list_words, numbers_of, letter_of};
 ghost use Rattle.history_report.specs.Report.{entry_text, entries_text, end_text, tail_text, report};
 
 use crate::entries::{add_head, add_tail, list_of};
 use crate::lists::Numbers;
-use byte_streams::{Block, Failed, Line, Sink};
+use byte_streams::{Failed, Line, Sink};
 use joint_model::{Entry, History, Span};
 
 // Writes the numbers that a span names, each with a space and its letter before it.
@@ -19,18 +19,16 @@ fn write_numbers<K: Sink>(
     numbers: Numbers,
     span: Span,
     line: &mut Line,
-    block: &mut Block,
     out: &mut K,
 ) -> Result<(), Failed>
-    ensures { Sends (K.held out.old) (K.held out.new) block.old block.new (K.faults out.old) (K.faults out.new) result (after_spaces (lettered (letter_of numbers) (stretch (take 4294967296 (numbers_of h.now numbers)) span))) }
+    ensures { Sends (K.held out.old) (K.held out.new) line.old.text line.new.text (K.faults out.old) (K.faults out.new) result (after_spaces (lettered (letter_of numbers) (stretch (take 4294967296 (numbers_of h.now numbers)) span))) }
 {
     for k in 0..span.count {
         let Some(n) = numbers.at(h, span.first as u64 + k as u64) else {
             continue;
         };
-        line.clear();
+        line.make_room(out)?;
         line.lettered(numbers.letter(), n as u64);
-        block.put(line.bytes(), out)?;
     }
     Ok(())
 }
@@ -41,37 +39,40 @@ fn write_list<K: Sink>(
     numbers: Numbers,
     span: Span,
     line: &mut Line,
-    block: &mut Block,
     out: &mut K,
 ) -> Result<(), Failed>
-    ensures { Sends (K.held out.old) (K.held out.new) block.old block.new (K.faults out.old) (K.faults out.new) result (after_spaces (list_words h.now numbers span)) }
+    requires { 2 ≤ line.old.room }
+    ensures { Sends (K.held out.old) (K.held out.new) line.old.text line.new.text (K.faults out.old) (K.faults out.new) result (after_spaces (list_words h.now numbers span)) }
 {
     if span.count == 0 {
-        return block.put(b" -", out);
+        line.word(b"-");
+        return Ok(());
     }
     match numbers.at(h, span.first as u64) {
-        Some(_) => write_numbers(h, numbers, span, line, block, out),
-        None => block.put(b" -", out),
+        Some(_) => write_numbers(h, numbers, span, line, out),
+        None => {
+            line.word(b"-");
+            Ok(())
+        }
     }
 }
 
-// Writes a line whose head was put together, with a list between it and the line's tail.
+// Writes a list and the tail of its line behind it.
 #[inline(never)]
 fn write_listed<K: Sink>(
     h: &History,
     list: (Numbers, Span),
     cites: Option<u64>,
     line: &mut Line,
-    block: &mut Block,
     out: &mut K,
 ) -> Result<(), Failed>
-    ensures { Sends (K.held out.old) (K.held out.new) block.old block.new (K.faults out.old) (K.faults out.new) result (line.old.text ++ (after_spaces (list_words h.now list.0 list.1) ++ tail_text cites)) }
+    requires { 2 ≤ line.old.room }
+    ensures { Sends (K.held out.old) (K.held out.new) line.old.text line.new.text (K.faults out.old) (K.faults out.new) result (after_spaces (list_words h.now list.0 list.1) ++ tail_text cites) }
 {
-    block.put(line.bytes(), out)?;
-    write_list(h, list.0, list.1, line, block, out)?;
-    line.clear();
+    write_list(h, list.0, list.1, line, out)?;
+    line.make_room(out)?;
     add_tail(line, cites);
-    block.put(line.bytes(), out)
+    Ok(())
 }
 
 /// Writes the line of an entry.
@@ -79,55 +80,53 @@ pub fn write_entry<K: Sink>(
     h: &History,
     entry: &Entry,
     line: &mut Line,
-    block: &mut Block,
     out: &mut K,
 ) -> Result<(), Failed>
-    ensures { Sends (K.held out.old) (K.held out.new) block.old block.new (K.faults out.old) (K.faults out.new) result (entry_text h.now entry.now) }
+    ensures { Sends (K.held out.old) (K.held out.new) line.old.text line.new.text (K.faults out.old) (K.faults out.new) result (entry_text h.now entry.now) }
 {
-    line.clear();
+    line.make_room(out)?;
     add_head(line, entry);
     match list_of(&entry.made.reply) {
-        Some(list) => write_listed(h, list, entry.made.cites, line, block, out),
+        Some(list) => write_listed(h, list, entry.made.cites, line, out),
         None => {
             add_tail(line, entry.made.cites);
-            block.put(line.bytes(), out)
+            Ok(())
         }
     }
 }
 
 // Writes the lines of all entries, in rising number.
-fn write_entries<K: Sink>(h: &History, block: &mut Block, out: &mut K) -> Result<(), Failed>
-    ensures { Sends (K.held out.old) (K.held out.new) block.old block.new (K.faults out.old) (K.faults out.new) result (entries_text h.now h.now.entries) }
+fn write_entries<K: Sink>(h: &History, line: &mut Line, out: &mut K) -> Result<(), Failed>
+    ensures { Sends (K.held out.old) (K.held out.new) line.old.text line.new.text (K.faults out.old) (K.faults out.new) result (entries_text h.now h.now.entries) }
 {
-    let mut line = Line::new();
     for i in 0..h.len() {
         let Some(entry) = h.entry(i) else {
             unreachable!();
         };
-        write_entry(h, &entry, &mut line, block, out)?;
+        write_entry(h, &entry, line, out)?;
     }
     Ok(())
 }
 
 // Writes the last line, with the number of entries.
-fn write_end<K: Sink>(count: u64, block: &mut Block, out: &mut K) -> Result<(), Failed>
-    ensures { Sends (K.held out.old) (K.held out.new) block.old block.new (K.faults out.old) (K.faults out.new) result (end_text count) }
+fn write_end<K: Sink>(count: u64, line: &mut Line, out: &mut K) -> Result<(), Failed>
+    ensures { Sends (K.held out.old) (K.held out.new) line.old.text line.new.text (K.faults out.old) (K.faults out.new) result (end_text count) }
 {
-    let mut line = Line::new();
+    line.make_room(out)?;
     line.text(b"end ");
     line.number(count);
     line.text(b"\n");
-    block.put(line.bytes(), out)
+    Ok(())
 }
 
 /// Writes the report of a history: one line for each entry in rising number, and `end` with the number of
-/// entries. The sink gets it in blocks of 64 KiB. It takes no memory. [`Failed`] only where the sink's count of faults
+/// entries. The sink gets it in pieces of at most 16 KiB. It takes no memory. [`Failed`] only where the sink's count of faults
 /// rose, and then a beginning of the report was written.
 pub fn write_report<K: Sink>(h: &History, out: &mut K) -> Result<(), Failed>
     ensures { Writes (K.held out.old) (K.held out.new) (K.faults out.old) (K.faults out.new) result (report h.now) }
 {
-    let mut block = Block::new();
-    write_entries(h, &mut block, out)?;
-    write_end(h.len(), &mut block, out)?;
-    block.flush(out)
+    let mut line = Line::new();
+    write_entries(h, &mut line, out)?;
+    write_end(h.len(), &mut line, out)?;
+    line.flush(out)
 }

@@ -254,7 +254,7 @@ fn entries_have_the_words_of_their_event_and_reply(rt: HostRuntime) -> Result<()
     Ok(())
 }
 
-// An entry that takes thirty thousand notices, whose line is longer than a block.
+// An entry that takes thirty thousand notices, whose line is longer than what a sink gets at once.
 const MANY: Event = (
     C,
     Op::Line(Act::Finalise { n: 30_000 }),
@@ -266,12 +266,12 @@ const MANY: Event = (
 );
 
 #[test]
-fn a_sink_gets_a_block_when_it_is_full(rt: HostRuntime) -> Result<(), Fail> {
+fn a_sink_gets_what_there_is_no_room_for(rt: HostRuntime) -> Result<(), Fail> {
     let notices = vec![in rt.alloc(); MNum(7); 30_000]?;
     let h = told(rt.alloc(), MANY, notices)?;
     let mut sink = ByteSink::new(rt.alloc(), 100_000, [2].to_vec(rt.alloc())?);
     assert!(rt; write_report(&h, &mut sink).is_err());
-    expect_at(&rt, &[], sink.bytes().len() as u64, 65_536);
+    expect_at(&rt, &[], sink.bytes().len() as u64, 15_874);
     let mut counted = CountSink::new();
     assert!(rt; write_report(&h, &mut counted).is_ok());
     expect_at(&rt, &[], counted.count(), 90_029);

@@ -18,7 +18,7 @@ loop-thread-preserved c =
     let i = c.loop-thread.thread-index in
     let d : Thread × Act = (M 0, act.New record { 0 = 0 } kind.Plain 0) in
     let x = get_or xs i d in
-    let line : c.add_line.new.line.text ≡ line_text x = c.add_line.ensures.added ∙ ap (λ t. t ++ line_text x) c.new-line.ensures.text in
+    let line : c.add_line.new.line.text ≡ line_text x = c.add_line.ensures.added ∙ ap (λ t. t ++ line_text x) c.clear.ensures.text in
     let piece : c.bytes.result.now ≡ line_text x ++ 10 ∷ [] = c.bytes.ensures.text ∙ (c.text.ensures.added ∙ ap (λ t. t ++ 10 ∷ []) line) in
     let more = ap script_text_of (take_more xs i d c.loop-thread-test.true) ∙ text_push (take i xs) x in
     c.in_ok-extend_from_slice.ensures.items ∙ (ap (λ t. t ++ c.bytes.result.now) c.loop-thread.invariant ∙ (ap (λ t. script_text_of (take i xs) ++ t) piece ∙ sym more))

@@ -1,5 +1,4 @@
--- What is written in blocks: a sink holds a beginning of it, and what is pending is the rest. Nothing outside of this
--- crate rests on it.
+-- What is written piece by piece: a sink holds a beginning of it, and what is pending is the rest.
 use Rattle.std.specs.Prelude.{◌≡◌, ℕ, List, ◌++◌, Option, Result, OnOk, OnErr}
 use Rattle.std.specs.Io.KnownBytes.{Appends}
 use Rattle.byte_streams.specs.Streams.{AppendsPart, HasCause}
