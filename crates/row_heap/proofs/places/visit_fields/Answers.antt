@@ -3,7 +3,7 @@ use Rattle.std.proofs.Common.{◌≡◌, ◌∙◌, ◌≤◌, ◌∷◌, Bool, 
 use Rattle.std.proofs.lemmas.List.{take_all}
 use Rattle.std.proofs.lemmas.Option.{slice_get-get_or}
 use Rattle.joint_model.proofs.Members.{Contains-at}
-use Rattle.reachability.proofs.Marking.{take-next}
+use Rattle.joint_model.proofs.Members.{take-next}
 use Rattle.row_marking.proofs.Greys.{Greyed-push_some, Greyed-push_none}
 use Rattle.row_heap.proofs.Marked.{fresh-none, fresh-push}
 use Rattle.row_heap.proofs.places.visit_fields.Goals as goal
