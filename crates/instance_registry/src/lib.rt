@@ -5,7 +5,7 @@
 // is made.
 //
 // The life of a pair: `register` puts it last, when the managed half is made; it is refused where the peer has
-// a twin. `twin` finds the managed half by a hash of the peer's number. `forget` takes the pair out, when the
+// a twin. `add` does the same for who knows that the peer has none. `twin` finds the managed half by a hash of the peer's number. `forget` takes the pair out, when the
 // managed half is freed or disposed of; `retain` takes many out in one pass. `len` and `entry` walk the pairs in
 // the order of their registration. No peer ever stands in two pairs.
 //
@@ -14,14 +14,14 @@
 // where the peer has one, and none of the calls but `register` takes memory. A call that is refused changes nothing.
 #![tactic(auto)]
 
-ghost use Rattle.std.specs.Prelude.{◌≡◌, ◌==◌, ◌↔◌, [], ◌∷◌, ◌++◌, Bool, filter, length, slice_get, Ok, Err, None, Some, OnOk, OnErr, IfErr};
+ghost use Rattle.std.specs.Prelude.{◌≡◌, ◌-◌, ◌==◌, ◌↔◌, [], ◌∷◌, ◌++◌, Bool, IsTrue, filter, length, slice_get, Ok, Err, None, Some, OnOk, OnErr};
 ghost use Rattle.instance_registry.specs.Pairs.{twin_in, without, IsToldBy, PeersDistinct};
 ghost use Rattle.joint_model.specs.declared.names.MNum.{MNum};
 ghost use Rattle.joint_model.specs.declared.names.PNum.{PNum};
 
 use indexmap::IndexMap;
 use joint_model::{MNum, PNum};
-use std::alloc::Global;
+use std::alloc::{AllocError, Global};
 use std::marker::Model;
 
 // The most pairs that a [`Registry`] holds.
@@ -79,23 +79,29 @@ impl Registry {
         if let Some(twin) = self.twin(p) {
             return Err(RegisterFault::Taken { m: twin });
         }
-        self.add(p, m)
+        match self.add(p, m) {
+            Ok(()) => Ok(()),
+            Err(_) => Err(RegisterFault::OutOfMemory),
+        }
     }
 
-    // Puts the pair of a peer without a twin last.
-    fn add(&mut self, p: PNum, m: MNum) -> Result<(), RegisterFault>
+    /// Puts the pair of `p` and `m` last, where `p` is known to have no twin: it does without the look-up of
+    /// [`Registry::register`].
+    ///
+    /// Answers `AllocError`, with nothing changed, where there is no memory for the pair, or where there are
+    /// 4,294,967,295 pairs.
+    pub fn add(&mut self, p: PNum, m: MNum) -> Result<(), AllocError>
         requires { twin_in self.old p ≡ None }
         ensures ok { OnOk result (self.new ≡ self.old ++ (p, m) ∷ []) }
-        ensures cause { IfErr result (λ fault. fault ≡ RegisterFault.OutOfMemory) }
         ensures err { OnErr result (self.new ≡ self.old) }
         ensures distinct { PeersDistinct self.new }
     {
         if self.pairs.len() == MOST {
-            return Err(RegisterFault::OutOfMemory);
+            return Err(AllocError);
         }
         match self.pairs.insert(p, m) {
             Ok(_) => Ok(()),
-            Err(_) => Err(RegisterFault::OutOfMemory),
+            Err(_) => Err(AllocError),
         }
     }
 
@@ -110,13 +116,32 @@ impl Registry {
 
     /// Takes out the pair of `p` and answers its managed number; None, with nothing changed, exactly where `p`
     /// has no twin. It takes no memory. The other pairs keep their order, so each later pair moves down by one
-    /// place: to take many pairs out, call [`Registry::retain`], which moves each at most once.
+    /// place: to take many pairs out, call [`Registry::retain`], which moves each at most once. The pair that was
+    /// put last is taken out without a look-up.
     pub fn forget(&mut self, p: PNum) -> Option<MNum>
         ensures twin { result ≡ twin_in self.old p }
         ensures pairs { self.new ≡ without self.old p }
         ensures distinct { PeersDistinct self.new }
     {
-        self.pairs.shift_remove(&p)
+        if !self.ends_with(p) {
+            return self.pairs.shift_remove(&p);
+        }
+        let Some((_, m)) = self.pairs.pop() else {
+            unreachable!();
+        };
+        Some(m)
+    }
+
+    // Whether the pair of `p` was put last.
+    fn ends_with(&self, p: PNum) -> bool
+        ensures last { IsTrue result → (m : MNum) × (slice_get self.now (length self.now - 1) ≡ Some (p, m)) }
+        ensures distinct { PeersDistinct self.now }
+    {
+        let _unique = self.pairs.len();
+        match self.pairs.last() {
+            Some((last, _)) => *last == p,
+            None => false,
+        }
     }
 
     /// Keeps the pairs for which `keep` answers true, in their order, and takes out the others, in one pass over all
@@ -136,7 +161,8 @@ impl Registry {
 
     /// The number of pairs.
     pub fn len(&self) -> u32
-        ensures { result ≡ length self.now }
+        ensures len { result ≡ length self.now }
+        ensures distinct { PeersDistinct self.now }
     {
         self.pairs.len() as u32
     }

@@ -16,6 +16,17 @@ fn refuses_a_taken_peer_and_forgets(rt: HostRuntime) {
 }
 
 #[test]
+fn adds_a_pair_and_takes_the_last_one_out(rt: HostRuntime) {
+    let mut registry = Registry::new(rt.alloc());
+    assert_eq!(rt; registry.add(PNum(3), MNum(30)), Ok(()));
+    assert_eq!(rt; registry.register(PNum(2), MNum(20)), Ok(()));
+    assert_eq!(rt; registry.forget(PNum(2)), Some(MNum(20)));
+    assert_eq!(rt; registry.forget(PNum(2)), None);
+    assert_eq!(rt; registry.entry(0), Some((PNum(3), MNum(30))));
+    assert_eq!(rt; registry.len(), 1);
+}
+
+#[test]
 fn keeps_the_order_of_the_others(rt: HostRuntime) {
     let mut registry = Registry::new(rt.alloc());
     for n in 1..5u32 {

@@ -1,6 +1,6 @@
 -- A row that gives its handle up leaves its pair: the registry forgets the pair by its peer, which is the pair by its row, and beside the row
 -- stands no peer any more. A row without a pair leaves none.
-use Rattle.std.proofs.Common.{◌≡◌, ◌≢◌, ℕ, zero, suc, ◌-◌, ◌≤◌, inl, inr, Bool, true, false, not, ◌||◌, cond, List, [], ◌∷◌, ◌++◌, map, set, Option, Some, None, refl, sym, ap, subst, ◌∙◌, nat_eq}
+use Rattle.std.proofs.Common.{◌≡◌, ◌≢◌, ℕ, zero, suc, ◌-◌, ◌≤◌, inl, inr, Bool, true, false, not, ◌||◌, cond, List, [], ◌∷◌, map, set, Option, Some, None, refl, sym, ap, subst, ◌∙◌, nat_eq}
 use Rattle.std.specs.Prelude.{Contains}
 use Rattle.std.specs.List.{list_any}
 use Rattle.std.proofs.lemmas.Bool.{cases_eq, eqb-true, eq-eqb}
@@ -22,15 +22,6 @@ use Rattle.managed_side.specs.Rows.{pairs_of, number_or_none, rows_of, ArePeers}
 use Rattle.managed_side.specs.TwinEvents.{give_row, left_by}
 use Rattle.managed_side.proofs.Kept.{registered-is}
 use Rattle.managed_side.proofs.Peers.{peers_of}
-
--- a pair that was put last for a peer without a twin is the one that is taken out again, and the rest is as before
-pub without-push : (ps : List (PNum × MNum)) (p : PNum) (m : MNum) → twin_in ps p ≡ None → without (ps ++ (p, m) ∷ []) p ≡ ps
-without-push [] p m e = ap (λ b. cond b [] ((p, m) ∷ [])) (eq-eqb p.0 p.0 refl)
-without-push (q ∷ ps) p m e = by (nat_eq p.0 q.0.0) e (without-push ps p m)
-  where
-    by : (b : Bool) → cond b (Some q.1) (twin_in ps p) ≡ None → (twin_in ps p ≡ None → without (ps ++ (p, m) ∷ []) p ≡ ps) → cond b (ps ++ (p, m) ∷ []) (q ∷ without (ps ++ (p, m) ∷ []) p) ≡ q ∷ ps
-    by true e rest = (let f : ⊥ = cc in absurd f)
-    by false e rest = ap (λ z. q ∷ z) (rest e)
 
 -- a peer that the registry doesn't answer for has no twin
 pub alone-twin : (ps : List (PNum × MNum)) (p : PNum) → registered (pairs_of ps) p.0 ≡ None → twin_in ps p ≡ None

@@ -108,9 +108,7 @@ impl ManagedRows {
         self.heap.marks_len();
         let next = self.heap.made() + 1;
         self.infos.reserve(1)?;
-        if self.registry.register(p, MNum(next)).is_err() {
-            return Err(AllocError);
-        }
+        self.registry.add(p, MNum(next))?;
         match self.heap.add_object(fields) {
             Err(error) => {
                 self.registry.forget(p);
@@ -278,7 +276,7 @@ fn leave(registry: &mut Registry, peer: Option<u32>)
     ensures distinct { (p : ℕ) → peer ≡ Some p → PeersDistinct registry.old }
 {
     if let Some(p) = peer {
-        let _ = registry.twin(PNum(p));
+        let _distinct = registry.len();
         registry.forget(PNum(p));
     }
 }

@@ -1,35 +1,28 @@
 -- A row that comes with a pair; where the object found no memory, the pair that was put last is taken out again.
-use Rattle.std.proofs.Common.{◌≡◌, ◌+◌, true, false, Result, Ok, Err, length, refl, sym, ap, ◌∙◌, arith}
-use Rattle.std.specs.Result.{OnOk, OnErr, is_err}
+use Rattle.std.proofs.Common.{◌≡◌, ◌+◌, length, refl, ap, ◌∙◌, arith}
 use Rattle.std.proofs.lemmas.List.{length-map}
 use Rattle.instance_registry.specs.Pairs.{without}
+use Rattle.instance_registry.proofs.Pairs.{without-push}
 use Rattle.row_heap.specs.Rows.{HeapRows}
 use Rattle.managed_side.specs.declared.rows.Held.{Held}
 use Rattle.managed_side.proofs.Dues.{AreDues-object}
-use Rattle.managed_side.proofs.Given.{alone-twin, without-push}
+use Rattle.managed_side.proofs.Given.{alone-twin}
 use Rattle.managed_side.proofs.Peers.{ArePeers-pair}
 use Rattle.managed_side.proofs.rows.ManagedRows.add_twin.Goals as goal
-
-on-refused : {T E : Type 0} (r : Result T E) (P : Type 0) → is_err r ≡ true → OnErr r P → P
-on-refused (Ok x) P e h = (let f : ⊥ = cc in absurd f)
-on-refused (Err y) P e h = h
-
-on-done : {T E : Type 0} (r : Result T E) (P : Type 0) → is_err r ≡ false → OnOk r P → P
-on-done (Ok x) P e h = h
-on-done (Err y) P e h = (let f : ⊥ = cc in absurd f)
 
 pub invariant_of-self : goal.invariant_of-self
 invariant_of-self c = rw c.in_err-reserve.ensures.items c.self.invariant
 
-pub invariant_of-self-then-is_err : goal.invariant_of-self-then-is_err
-invariant_of-self-then-is_err c =
-    let same = on-refused c.register.result _ (sym c.is_err.ensures.value ∙ c.if-is_err.true) c.register.ensures.err in
-    rw (same, c.in_ok-reserve.ensures.items) c.self.invariant
+pub add-requires : goal.add-requires
+add-requires c = alone-twin c.self.inside.registry c.args.p (rw (← c.self.view_is) at c.requires.alone)
+
+pub invariant_of-self-in_err-add : goal.invariant_of-self-in_err-add
+invariant_of-self-in_err-add c = rw (c.in_err-add.ensures.err, c.in_ok-reserve.ensures.items) c.self.invariant
 
 pub invariant_of-self-in-Err : goal.invariant_of-self-in-Err
 invariant_of-self-in-Err c =
     let ps = c.self.inside.registry in
-    let pushed = on-done c.register.result _ (sym c.is_err.ensures.value ∙ c.if-is_err.false) c.register.ensures.ok in
+    let pushed = c.in_ok-add.ensures.ok in
     let alone = rw (← c.self.view_is) at c.requires.alone in
     let back : c.forget.new.self ≡ ps = c.forget.ensures.pairs ∙ (ap (λ z. without z c.args.p) pushed ∙ without-push ps c.args.p record { 0 = c.made-next.result + 1 } (alone-twin ps c.args.p alone)) in
     rw (back, c.in_ok-reserve.ensures.items, c.in-Err.ensures.err) c.self.invariant
@@ -37,14 +30,14 @@ invariant_of-self-in-Err c =
 pub returns-in-Err-clause-err : goal.returns-in-Err-clause-err
 returns-in-Err-clause-err c =
     let ps = c.self.inside.registry in
-    let pushed = on-done c.register.result _ (sym c.is_err.ensures.value ∙ c.if-is_err.false) c.register.ensures.ok in
+    let pushed = c.in_ok-add.ensures.ok in
     let alone = rw (← c.self.view_is) at c.requires.alone in
     let back : c.forget.new.self ≡ ps = c.forget.ensures.pairs ∙ (ap (λ z. without z c.args.p) pushed ∙ without-push ps c.args.p record { 0 = c.made-next.result + 1 } (alone-twin ps c.args.p alone)) in
     rw (back, c.in_ok-reserve.ensures.items, c.in-Err.ensures.err) c.self.view_is
 
 pub invariant_of-self-in-Ok : goal.invariant_of-self-in-Ok
 invariant_of-self-in-Ok c =
-    let pushed = on-done c.register.result _ (sym c.is_err.ensures.value ∙ c.if-is_err.false) c.register.ensures.ok in
+    let pushed = c.in_ok-add.ensures.ok in
     let infos = c.self.inside.infos.items in
     let places = (rw (← c.self.view_is) at c.requires.kept).1.managed.places in
     let next : c.made-next.result + 1 ≡ length infos + 1 = omega (arith, c.made-next.ensures.made, places, length-map infos (λ (j : Held). j.handle)) in
