@@ -10,11 +10,20 @@ fn runs_operations(rt: HostRuntime) -> Result<(), AllocError> {
     let mut heap: RowHeap<PNum> = RowHeap::new(rt.alloc());
     let first = heap.add_object(2)?;
     heap.set_var(0, Some(first));
+    assert_eq!(rt; heap.copy(1, 3), Done::Empty);
+    assert_eq!(rt; heap.load(1, 0), Done::Null);
     assert_eq!(rt; heap.copy(1, 0), Done::Object(1));
     assert_eq!(rt; heap.set(0, 1, Some(1)), Done::Ok);
-    assert_eq!(rt; heap.get(2, 1, 1), Done::Object(1));
+    assert_eq!(rt; heap.set(0, 2, None), Done::Range);
+    assert_eq!(rt; heap.get(71, 1, 1), Done::Object(1));
+    assert_eq!(rt; heap.get(2, 1, 0), Done::Null);
+    assert_eq!(rt; heap.store(15, Some(0)), Done::Ok);
     assert_eq!(rt; heap.store(15, Some(3)), Done::Empty);
-    assert_eq!(rt; (heap.made(), heap.live()), (1, 1));
+    assert_eq!(rt; heap.load(3, 15), Done::Object(1));
+    assert_eq!(rt; heap.drop(0), Done::Ok);
+    assert_eq!(rt; heap.var(0), None);
+    assert_eq!(rt; heap.static_at(15), Some(1));
+    assert_eq!(rt; (heap.made(), heap.live(), heap.is_full()), (1, 1, false));
     Ok(())
 }
 

@@ -1,6 +1,0 @@
--- What a slot names from now on is live.
-use Rattle.heap_rules.proofs.Sound.{IsSound-static}
-use Rattle.object_heap.proofs.heap.ObjectHeap.set_static.Goals as goal
-
-pub invariant_of-self : goal.invariant_of-self
-invariant_of-self g c = IsSound-static _ _ _ c.args.s c.args.x c.self.invariant (rw (← c.self.view_is) at c.requires.live)
