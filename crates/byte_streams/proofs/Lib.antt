@@ -1,4 +1,5 @@
 pub mod Passing
 pub mod Bytes
 pub mod Digits
+pub mod Counting
 pub mod Written

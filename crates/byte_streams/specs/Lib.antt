@@ -1,3 +1,4 @@
 pub mod Streams
 pub mod Drafts
 pub mod Sending
+pub mod Counts

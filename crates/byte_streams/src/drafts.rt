@@ -5,6 +5,7 @@ ghost use Rattle.byte_streams.specs.Streams.{Writes};
 ghost use Rattle.byte_streams.specs.Sending.{Sends};
 ghost use Rattle.byte_streams.specs.Drafts.{AddsText};
 
+use crate::counts::Count;
 use crate::streams::{Failed, Sink, write_text};
 use itoa::Buffer;
 use std::marker::Model;
@@ -197,6 +198,17 @@ impl Line {
         } else {
             self.long_number(n);
         }
+    }
+
+    /// Puts a number behind it whose decimal text is at hand.
+    #[inline(always)]
+    pub fn count(&mut self, count: &Count)
+        requires { 20 ≤ self.old.room }
+        ensures { AddsText self.old self.new (decimal count.now) 20 }
+    {
+        let (digits, len) = count.digits();
+        self.bytes[self.len..self.len + 20].copy_from_slice(digits);
+        self.len += len;
     }
 
     // Puts a number of any length behind it, in decimal.

@@ -5,7 +5,8 @@
 //
 // A text for a sink is put together in a `Line`, a fixed buffer: `Line::new`, then `text`, `number`, `word` and the like, each of which asks for the
 // room that it needs. Another crate puts its own words together of these. A long text is put together piece by piece: `make_room` before each gives
-// the sink what was put together, where there is little room left, and `flush` at the end the rest. `write_text` writes a text that is at hand.
+// the sink what was put together, where there is little room left, and `flush` at the end the rest. Numbers that are mostly counted up
+// come from a `Count`, which keeps the decimal text of the last one. `write_text` writes a text that is at hand.
 //
 // Who runs meanwhile: a source is read and a sink written by one thread, and a line is one thread's own.
 //
@@ -16,10 +17,12 @@
 // `specs/Sending.antt` what of a text that is written piece by piece a sink has.
 #![tactic(auto)]
 
+mod counts;
 mod drafts;
 mod memory;
 mod streams;
 
+pub use counts::Count;
 pub use drafts::Line;
 pub use memory::{ByteSink, ByteSource, CountSink, PlainSource};
 pub use streams::{Failed, Sink, Source, write_text};

@@ -11,7 +11,7 @@ use bridge_script::{
     add_act, add_kind, add_pass, add_peer_static, add_phase_word, add_sort, add_var,
     add_with_number, add_with_var,
 };
-use byte_streams::Line;
+use byte_streams::{Count, Line};
 use joint_model::{Entry, HNum, Kind, MNum, Op, PNum, Reply, Sort, Span, StaticNo, Thread, Var};
 
 // A word and a handle.
@@ -229,20 +229,38 @@ pub fn list_of(reply: &Reply) -> Option<(Numbers, Span)>
     }
 }
 
+/// The numbers of the entry that was written last and of its line, from which those of the next one mostly follow.
+#[derive(Drop)]
+pub struct Counts {
+    number: Count,
+    index: Count,
+}
+
+impl Counts {
+    /// The counts before the first entry.
+    pub fn new() -> Counts {
+        Counts {
+            number: Count::of(0),
+            index: Count::of(0),
+        }
+    }
+}
+
 /// The line of an entry up to its list: its number, who made it on which line, its event and its reply.
-pub fn add_head(line: &mut Line, entry: &Entry)
+pub fn add_head(line: &mut Line, entry: &Entry, counts: &mut Counts)
     requires { 300 ≤ line.old.room }
     ensures { AddsText line.old line.new (head_text entry.now) 300 }
 {
-    line.number(entry.number);
-    add_place(line, entry.made.caller, entry.made.index);
+    counts.number.go_to(entry.number);
+    line.count(&counts.number);
+    add_place(line, entry.made.caller, entry.made.index, &mut counts.index);
     add_event(line, entry.made.caller, &entry.made.op);
     line.word(b"=");
     add_reply(line, &entry.made.reply);
 }
 
 // Who made an entry, and on which line of the script.
-fn add_place(line: &mut Line, thread: Thread, index: u32)
+fn add_place(line: &mut Line, thread: Thread, index: u32, count: &mut Count)
     requires { 50 ≤ line.old.room }
     ensures { AddsWords line.old line.new (place_text thread index ∷ []) 50 }
 {
@@ -252,7 +270,8 @@ fn add_place(line: &mut Line, thread: Thread, index: u32)
         Thread::C => line.word(b"c"),
     }
     line.text(b".");
-    line.number(index as u64);
+    count.go_to(index as u64);
+    line.count(count);
 }
 
 /// The end of an entry's line: the entry that it cites, where it cites one, and the newline.

@@ -8,7 +8,7 @@ ghost use Rattle.byte_streams.specs.Drafts.{after_spaces};
 ghost use Rattle.history_report.specs.Lists.{lettered, list_words, numbers_of, letter_of};
 ghost use Rattle.history_report.specs.Report.{entry_text, entries_text, end_text, tail_text, report};
 
-use crate::entries::{add_head, add_tail, list_of};
+use crate::entries::{Counts, add_head, add_tail, list_of};
 use crate::lists::Numbers;
 use byte_streams::{Failed, Line, Sink};
 use joint_model::{Entry, History, Span};
@@ -79,13 +79,14 @@ fn write_listed<K: Sink>(
 pub fn write_entry<K: Sink>(
     h: &History,
     entry: &Entry,
+    counts: &mut Counts,
     line: &mut Line,
     out: &mut K,
 ) -> Result<(), Failed>
     ensures { Sends (K.held out.old) (K.held out.new) line.old.text line.new.text (K.faults out.old) (K.faults out.new) result (entry_text h.now entry.now) }
 {
     line.make_room(out)?;
-    add_head(line, entry);
+    add_head(line, entry, counts);
     match list_of(&entry.made.reply) {
         Some(list) => write_listed(h, list, entry.made.cites, line, out),
         None => {
@@ -99,11 +100,12 @@ pub fn write_entry<K: Sink>(
 fn write_entries<K: Sink>(h: &History, line: &mut Line, out: &mut K) -> Result<(), Failed>
     ensures { Sends (K.held out.old) (K.held out.new) line.old.text line.new.text (K.faults out.old) (K.faults out.new) result (entries_text h.now h.now.entries) }
 {
+    let mut counts = Counts::new();
     for i in 0..h.len() {
         let Some(entry) = h.entry(i) else {
             unreachable!();
         };
-        write_entry(h, &entry, line, out)?;
+        write_entry(h, &entry, &mut counts, line, out)?;
     }
     Ok(())
 }

@@ -1,4 +1,4 @@
-use Rattle.std.proofs.Common.{◌≡◌, ◌∷◌, ◌++◌, take, drop, decimal, ◌∙◌, ap, arith}
+use Rattle.std.proofs.Common.{◌≡◌, ◌∷◌, ◌++◌, take, drop, decimal, arith}
 use Rattle.byte_streams.specs.Drafts.{after_spaces}
 use Rattle.byte_streams.proofs.Passing.{passed_on}
 use Rattle.byte_streams.proofs.Written.{BuffersText-none, BuffersText-put, BuffersText-room, Sends-no_room}
@@ -34,7 +34,7 @@ loop-k-preserved g c =
     let w = c.in_ok-make_room.ensures.sent in
     let o = c.make_room.new.self.text in
     let room = BuffersText-room (g.K.Sink.held c.args.out.now) (g.K.Sink.held c.loop-k.out) (g.K.Sink.held c.make_room.new.out) c.args.line.now.text c.loop-k.line.text o before c.loop-k.invariant.so_far w.whole in
-    let piece : c.lettered.new.self.text ≡ o ++ 32 ∷ letter ∷ decimal c.in-Some.n = c.lettered.ensures.added ∙ ap (λ t. o ++ 32 ∷ t ∷ decimal c.in-Some.n) c.letter.ensures in
+    let piece : c.lettered.new.self.text ≡ o ++ 32 ∷ letter ∷ decimal c.in-Some.n = rw c.letter.ensures at c.lettered.ensures.added in
     record {
       so_far = rw (numbers_more letter xs c.args.span.first c.loop-k.k c.in-Some.n c.in-Some.ensures)
           (BuffersText-put (g.K.Sink.held c.args.out.now) (g.K.Sink.held c.make_room.new.out) c.args.line.now.text o c.lettered.new.self.text before (32 ∷ letter ∷ decimal c.in-Some.n) room piece);
