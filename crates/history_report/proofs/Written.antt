@@ -1,11 +1,12 @@
 -- A report is written entry by entry, and an entry piece by piece: each text is those before it and one piece more.
-use Rattle.std.proofs.Common.{◌≡◌, ℕ, ◌+◌, ◌<◌, ◌≤◌, List, [], ◌∷◌, ◌++◌, length, take, drop, get_or, Some, None, slice_get, codes, decimal, sym, ◌∙◌, ap, refl, arith, inl, inr, append_assoc, append-nil, length-drop, length-take}
+use Rattle.std.proofs.Common.{◌≡◌, ℕ, ◌+◌, ◌<◌, ◌≤◌, List, [], ◌∷◌, ◌++◌, length, take, drop, get_or, Some, None, slice_get, codes, decimal, sym, ◌∙◌, ap, refl, arith, inl, inr, append_assoc, append-nil, length-drop, length-take, Option, Err}
 use Rattle.std.proofs.lemmas.List.{map-append, get_or-drop, take-take, take_more, take_all, take-append-drop, nil_from_length}
 use Rattle.std.proofs.lemmas.Option.{slice_get_cases}
 use Rattle.joint_model.specs.declared.events.Entry.{Entry}
 use Rattle.joint_model.specs.Histories.{Finished}
 use Rattle.byte_streams.specs.Drafts.{after_spaces}
-use Rattle.byte_streams.proofs.Written.{after_spaces-append}
+use Rattle.byte_streams.specs.Sending.{BuffersText, Sends}
+use Rattle.byte_streams.proofs.Written.{after_spaces-append, BuffersText-none, BuffersText-then, Sends-into}
 use Rattle.history_report.specs.Lists.{lettered, listed}
 use Rattle.history_report.specs.Report.{entry_text, entries_text, end_text}
 
@@ -69,22 +70,28 @@ head_joined o d p event reply = simp (append_assoc, append-nil, after_spaces-app
 pub end_joined : (o : List ℕ) (n : ℕ) → ((o ++ codes "end ") ++ decimal n) ++ 10 ∷ [] ≡ o ++ end_text n
 end_joined o n = simp (append_assoc)
 
-pub entries_push : (h : Finished) (es : List Entry) (e : Entry) → entries_text h (es ++ e ∷ []) ≡ entries_text h es ++ entry_text h e
-entries_push h [] e = append-nil (entry_text h e)
-entries_push h (x ∷ es) e = ap (λ t. entry_text h x ++ t) (entries_push h es e) ∙ sym (append_assoc (entry_text h x) (entries_text h es) (entry_text h e))
+-- of the report's entries a beginning was written, and these are left
+pub record Reported (h : Finished) (left : List Entry) (a b : Option (List ℕ)) (p q : List ℕ) : Type 0 where
+  pub text : List ℕ
+  pub whole : entries_text h h.entries ≡ text ++ entries_text h left
+  pub so_far : BuffersText a b p q text
 
-pub entries-append : (h : Finished) (a b : List Entry) → entries_text h (a ++ b) ≡ entries_text h a ++ entries_text h b
-entries-append h [] b = refl
-entries-append h (x ∷ a) b = ap (λ t. entry_text h x ++ t) (entries-append h a b) ∙ sym (append_assoc (entry_text h x) (entries_text h a) (entries_text h b))
+pub none_reported : (h : Finished) (a : Option (List ℕ)) (p : List ℕ) → Reported h h.entries a a p p
+none_reported h a p = record { text = []; whole = refl; so_far = BuffersText-none a p }
 
 -- one more entry
-pub entries_more : (h : Finished) (es : List Entry) (i : ℕ) (e : Entry) → Some e ≡ slice_get es i → entries_text h (take (i + 1) es) ≡ entries_text h (take i es) ++ entry_text h e
-entries_more h es i e q = elim (slice_get_cases es i).1 [
-  | inl p ↦ (let same : get_or es i p.0 ≡ e = (let k = p.2 in let m = p.3 in cc) in
-      ap (entries_text h) (take_more es i p.0 p.1 ∙ ap (λ y. take i es ++ y ∷ []) same) ∙ entries_push h (take i es) e)
-  | inr p ↦ absurd (let k = p.1 in cc)
-]
+pub one_more : (h : Finished) (e : Entry) (left : List Entry) (a b c : Option (List ℕ)) (p q r : List ℕ) → Reported h (e ∷ left) a b p q → BuffersText b c q r (entry_text h e) → Reported h left a c p r
+one_more h e left a b c p q r w v = record {
+  text = w.text ++ entry_text h e;
+  whole = w.whole ∙ sym (append_assoc w.text (entry_text h e) (entries_text h left));
+  so_far = BuffersText-then a b c p q r w.text (entry_text h e) w.so_far v;
+}
 
--- the first entries, and the others
-pub entries_split : (h : Finished) (es : List Entry) (i : ℕ) → entries_text h es ≡ entries_text h (take i es) ++ entries_text h (drop i es)
-entries_split h es i = ap (entries_text h) (sym (take-append-drop i es)) ∙ entries-append h (take i es) (drop i es)
+-- an entry that couldn't be written
+pub not_reported : {E : Type 0} (h : Finished) (e : Entry) (left : List Entry) (a b c : Option (List ℕ)) (p q r : List ℕ) (f g k : ℕ) (z : E) → Reported h (e ∷ left) a b p q → f ≤ g → Sends {E = E} b c q r g k (Err z) (entry_text h e)
+    → Sends {E = E} a c p r f k (Err z) (entries_text h h.entries)
+not_reported h e left a b c p q r f g k z w l v = Sends-into a b c p q r f g k z w.text (entry_text h e) (entries_text h left) (entries_text h h.entries) (w.whole ∙ sym (append_assoc w.text (entry_text h e) (entries_text h left))) w.so_far l v
+
+-- all entries
+pub all_reported : (h : Finished) (a b : Option (List ℕ)) (p q : List ℕ) → Reported h [] a b p q → BuffersText a b p q (entries_text h h.entries)
+all_reported h a b p q w = rw (w.whole, append-nil w.text) w.so_far

@@ -101,11 +101,9 @@ fn write_entries<K: Sink>(h: &History, line: &mut Line, out: &mut K) -> Result<(
     ensures { Sends (K.held out.old) (K.held out.new) line.old.text line.new.text (K.faults out.old) (K.faults out.new) result (entries_text h.now h.now.entries) }
 {
     let mut counts = Counts::new();
-    for i in 0..h.len() {
-        let Some(entry) = h.entry(i) else {
-            unreachable!();
-        };
-        write_entry(h, &entry, &mut counts, line, out)?;
+    let mut walk = h.walk();
+    while let Some(entry) = walk.next() {
+        write_entry(h, entry, &mut counts, line, out)?;
     }
     Ok(())
 }

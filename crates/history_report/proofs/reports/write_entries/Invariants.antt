@@ -1,10 +1,12 @@
-use Rattle.std.proofs.Common.{◌≤◌, take}
-use Rattle.byte_streams.specs.Sending.{BuffersText}
-use Rattle.history_report.specs.Report.{entries_text}
+use Rattle.std.proofs.Common.{◌≤◌, length}
+use Rattle.history_report.proofs.Written.{Reported}
 use Rattle.history_report.proofs.reports.write_entries.Given as goal
 
-abbrev pub invariant-loop-i : goal.invariant-loop-i
-invariant-loop-i g l = record {
-  so_far : BuffersText (g.K.Sink.held l.fn.out) (g.K.Sink.held l.out) l.fn.line.text l.line.text (entries_text l.h (take l.i l.h.entries));
+abbrev pub invariant-loop-entry : goal.invariant-loop-entry
+invariant-loop-entry g l = record {
+  reported : Reported l.h l.walk (g.K.Sink.held l.fn.out) (g.K.Sink.held l.out) l.fn.line.text l.line.text;
   later : g.K.Sink.faults l.fn.out ≤ g.K.Sink.faults l.out;
 }
+
+abbrev pub decreases-loop-entry : goal.decreases-loop-entry
+decreases-loop-entry g l = length l.walk
