@@ -11,6 +11,9 @@ use std::alloc::Global;
 // How many bytes are asked for in one call.
 const PIECE: usize = 4096;
 
+// For so many bytes room is taken at first: most scripts have fewer.
+const ROOM: usize = 1_048_576;
+
 // Takes bytes from a source until its end, or until one byte more than a script may have was taken, and no
 // further.
 fn read_all<S: Source>(alloc: Global, src: &mut S) -> Result<Vec<u8>, ScriptError>
@@ -18,7 +21,7 @@ fn read_all<S: Source>(alloc: Global, src: &mut S) -> Result<Vec<u8>, ScriptErro
     ensures err { IfErr result (λ error. IsReadError (S.faults src.old) (S.faults src.new) error) }
     ensures later { S.faults src.old ≤ S.faults src.new }
 {
-    let mut bytes = Vec::new(alloc);
+    let mut bytes = Vec::with_capacity(alloc, ROOM)?;
     let mut buf = [0u8; PIECE];
     while bytes.len() <= MOST_BYTES {
         let room = (MOST_BYTES + 1 - bytes.len()).min(PIECE);
