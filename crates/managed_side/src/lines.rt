@@ -8,8 +8,8 @@ ghost use Rattle.joint_model.specs.Managed.{managed_name, place_or_none};
 ghost use Rattle.joint_model.specs.Run.{thread_number};
 ghost use Rattle.heap_rules.specs.Done.{say};
 
-use joint_model::{MNum, Reply, Thread, Var};
 use heap_rules::Done;
+use joint_model::{MNum, Reply, Thread, Var};
 
 /// The number of a managed thread.
 pub(crate) fn number(caller: Thread) -> usize

@@ -19,8 +19,8 @@ ghost use Rattle.peer_side.specs.Rows.{PeersAnswer, AreTargetsLive, GoesBy, issu
 ghost use Rattle.peer_side.specs.Steps.{IsPeerStep, IsRelease, ReleasesTabled, room_for};
 
 use global_handles::{HandleTable, Hold, Strength};
-use joint_model::{Act, HNum, Op, PNum, Reply, Sort, Thread, Var};
 use heap_rules::Done;
+use joint_model::{Act, HNum, Op, PNum, Reply, Sort, Thread, Var};
 use row_heap::RowHeap;
 use std::alloc::{AllocError, Global};
 use std::marker::Model;

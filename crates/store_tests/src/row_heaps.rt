@@ -1,7 +1,7 @@
 // Small heaps of rows: operations, references and a sweep.
 
-use joint_model::PNum;
 use heap_rules::Done;
+use joint_model::PNum;
 use row_heap::RowHeap;
 use std::alloc::AllocError;
 
