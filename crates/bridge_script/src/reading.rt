@@ -1,6 +1,6 @@
 // Reading a script from a source.
 
-ghost use Rattle.std.specs.Prelude.{◌≤◌, IfOk, IfErr};
+ghost use Rattle.std.specs.Prelude.{◌≡◌, ◌≤◌, [], IfOk, IfErr};
 ghost use Rattle.bridge_script.specs.Reading.{Took, TookScript, IsReadError, IsNoScript};
 
 use crate::faults::ScriptError;
@@ -11,8 +11,18 @@ use std::alloc::Global;
 // How many bytes are asked for in one call.
 const PIECE: usize = 4096;
 
-// For so many bytes room is taken at first: most scripts have fewer.
+// For so many bytes room is taken at first, where there is memory for it: most scripts have fewer.
 const ROOM: usize = 1_048_576;
+
+// An empty list, with that room where there is memory for it.
+fn empty(alloc: Global) -> Vec<u8>
+    ensures { result.items ≡ [] }
+{
+    match Vec::with_capacity(alloc, ROOM) {
+        Ok(bytes) => bytes,
+        Err(_) => Vec::new(alloc),
+    }
+}
 
 // Takes bytes from a source until its end, or until one byte more than a script may have was taken, and no
 // further.
@@ -21,7 +31,7 @@ fn read_all<S: Source>(alloc: Global, src: &mut S) -> Result<Vec<u8>, ScriptErro
     ensures err { IfErr result (λ error. IsReadError (S.faults src.old) (S.faults src.new) error) }
     ensures later { S.faults src.old ≤ S.faults src.new }
 {
-    let mut bytes = Vec::with_capacity(alloc, ROOM)?;
+    let mut bytes = empty(alloc);
     let mut buf = [0u8; PIECE];
     while bytes.len() <= MOST_BYTES {
         let room = (MOST_BYTES + 1 - bytes.len()).min(PIECE);
