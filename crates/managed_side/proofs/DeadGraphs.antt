@@ -29,10 +29,6 @@ Rises-order (z ∷ zs) zero (suc b) x y r e f l = subst (λ k. k < y) (some-same
 Rises-order (z ∷ zs) (suc a) zero x y r e f l = absurd (omega (arith, l))
 Rises-order (z ∷ zs) (suc a) (suc b) x y r e f l = Rises-order zs a b x y r.1 e f (omega (arith, l))
 
-    by : (a < b) ⊎ (b < a) → ⊥
-    by (inl l) = (let o = Rises-order xs a b x x r e f l in omega (arith, o))
-    by (inr l) = (let o = Rises-order xs b a x x r f e l in omega (arith, o))
-
 -- one place more
 pub ArePlaces-next : (dead places : List ℕ) (i x : ℕ) → Rises dead → slice_get dead i ≡ Some x → x < length places → ArePlaces i dead places → ArePlaces (i + 1) dead (set places x (i + 1))
 ArePlaces-next dead places i x r at within p = record {
