@@ -215,6 +215,7 @@ fn start<N: OrderName>(
     seat: Seat,
 ) -> Result<Option<Driven<N>>, AllocError>
     requires order { order ≡ N.order }
+    requires run { (N.managed ≡ 1) × (N.peers ≡ 1) }
     requires seat { (seat.order ≡ N.order) × OwnsAll seat.view × KnowsNothing seat.view }
 {
     let (shared, mut desk) = Shared::<N>::new(alloc, order, seat, 1, 1)?;
@@ -241,6 +242,7 @@ fn miss_of<N: OrderName>(
     rows: &[Row],
 ) -> Result<Option<Option<usize>>, AllocError>
     requires order { order ≡ N.order }
+    requires run { (N.managed ≡ 1) × (N.peers ≡ 1) }
     requires seat { (seat.order ≡ N.order) × OwnsAll seat.view × KnowsNothing seat.view }
 {
     let Some(mut driven) = start::<N>(alloc, order, seat)? else {

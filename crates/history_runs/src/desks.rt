@@ -19,6 +19,7 @@ fn given<N: OrderName>(
     threads: &[Thread],
 ) -> Result<Vec<Option<Thread>>, AllocError>
     requires order { order ≡ N.order }
+    requires run { (N.managed ≡ 1) × (N.peers ≡ 2) }
     requires seat { (seat.order ≡ N.order) × OwnsAll seat.view × KnowsNothing seat.view }
 {
     let (_shared, mut desk) = Shared::<N>::new(alloc, order, seat, 1, 2)?;

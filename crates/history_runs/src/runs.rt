@@ -230,6 +230,7 @@ fn run<N: OrderName>(
     seat: Seat,
 ) -> Result<Option<(Vec<Reply>, Vec<Reply>)>, AllocError>
     requires order { order ≡ N.order }
+    requires run { (N.managed ≡ 1) × (N.peers ≡ 1) }
     requires seat { (seat.order ≡ N.order) × OwnsAll seat.view × KnowsNothing seat.view }
 {
     let (shared, mut desk) = Shared::<N>::new(alloc, order, seat, 1, 1)?;

@@ -195,6 +195,7 @@ fn run<N: OrderName + Send + Sync, R: Threads + Wait + Sync>(
     lines: u32,
 ) -> Result<History, AllocError>
     requires order { order ≡ N.order }
+    requires run { (N.managed ≡ 2) × (N.peers ≡ 2) }
     requires seat { (seat.order ≡ N.order) × OwnsAll seat.view × KnowsNothing seat.view }
 {
     let (shared, mut desk) = Shared::<N>::new(alloc, order, seat, 2, 2)?;

@@ -23,7 +23,7 @@ use Rattle.joint_model.specs.HistoryLines.{caller_line}
 use Rattle.joint_model.specs.Lines.{IsPeerThread, IsThread}
 use Rattle.joint_model.specs.Linked.{peer_after}
 use Rattle.joint_model.specs.PeerReplay.{Marking, PeerReplay, SweepAllows, is_thread, peer_answer, swept, swept_of}
-use Rattle.joint_model.specs.Sides.{Drawing, Side, GoesOn, AddsLawful, AddsInTurn, peer_rules}
+use Rattle.joint_model.specs.Sides.{Drawing, Making, Side, SideRules, GoesOn, AddsLawful, AddsInTurn, peer_rules}
 use Rattle.joint_model.specs.Told.{Told, nothing, sweep_of}
 use Rattle.known_laws.specs.Pasts.{end_of}
 use Rattle.order_table.specs.declared.views.Role.TheVariants as role
@@ -49,6 +49,11 @@ use Rattle.joint_history.proofs.Running.{above_more, makes_nothing}
 use Rattle.joint_history.proofs.Standing.{last_of_own}
 use Rattle.joint_history.proofs.Turning.{begins_still}
 use Rattle.joint_laws.proofs.JointSteps.{may-end}
+
+-- entries in turn leave a side for as many threads as before
+pub threads_in_turn : {S D : Type 0} (r : SideRules S) (d : Drawing D) (before after : D) (old new : Side S) (ms : List Making) → AddsInTurn r d before after old new ms → new.threads ≡ old.threads
+threads_in_turn {S} r d before after old new [] a = ap (λ (s : Side S). s.threads) a.1
+threads_in_turn r d before after old new (m ∷ ms) a = threads_in_turn r d a.0 after a.1 new ms a.3 ∙ a.2.threads
 
 -- what stands after a list is found at its end
 at_end : (es fs : List Entry) (e : Entry) → slice_get (es ++ e ∷ fs) (length es) ≡ Some e
@@ -353,7 +358,7 @@ keeps_then a b c k l = record {
 whole_reserves : (n : ℕ) (index : ℕ) (order : OrderId) (locked mine mine1 locked2 mine2 : View) (seat seat' : Shown) (old new : PeerModel) (r : Receipt) → PeerKnows locked (seen old) → PeerReserves locked old → Lends (P n) locked mine seat.view mine1
     → DrawsWhole order seat seat' (seen old) (seen new) (P n) index r → new.reserve ≡ old.reserve → Returns (P n) seat'.view mine1 locked2 mine2 → PeerReserves locked2 new
 whole_reserves n index order locked mine mine1 locked2 mine2 seat seat' old new r ks rs l d same b =
-    let mid : PeerModel = record { entries = d.begun.entries; state = d.begun.state; reserve = old.reserve } in
+    let mid : PeerModel = record { threads = d.begun.threads; entries = d.begun.entries; state = d.begun.state; reserve = old.reserve } in
     let began = began_at (P n) index r.first d.marking in
     let ended = swept_at (P n) index r.last d.marking d.freed in
     let on = drew_on (P n) locked mine mine1 order seat d.between old mid began nothing l d.begins in

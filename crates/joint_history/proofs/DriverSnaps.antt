@@ -45,6 +45,11 @@ pub if_ok_map : {X E : Type 0} (P Q : X → Type 0) (r : Result X E) → IfOk r 
 if_ok_map P Q (Ok x) p f = f x p
 if_ok_map P Q (Err e) p f = tt
 
+-- what holds whether there is a value or a fault
+pub either_way : {X E F Q : Type 0} (P : X → Type 0) (r : Result X E) → IfOk r P → OnErr r F → ((x : X) → P x → Q) → (F → Q) → Q
+either_way P (Ok x) p e f g = f x p
+either_way P (Err x) p e f g = g e
+
 -- an open cycle
 abbrev cycle_of : ℕ → List ℕ → List ℕ → Option OpenCycle
 cycle_of k candidates dead = Some record { number = k; candidates = candidates; dead = dead }

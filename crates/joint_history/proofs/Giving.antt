@@ -9,7 +9,7 @@ use Rattle.joint_model.specs.Control.{caller_place}
 use Rattle.joint_model.specs.Lines.{IsThread}
 use Rattle.joint_model.proofs.Joining.{slice_get-set_other}
 use Rattle.joint_model.proofs.Members.{Contains-here, Contains-there}
-use Rattle.joint_history.specs.Callers.{KnowsNothing, Pass}
+use Rattle.joint_history.specs.Callers.{IsOfRun, KnowsNothing, Pass}
 use Rattle.joint_history.specs.Desks.{AreAll, IsDesk, Waiting, WaitsAt, flat, has_thread, thread_of, waits, without_caller}
 use Rattle.joint_history.specs.Ending.{HasAll, StillWaits, threads_of}
 use Rattle.joint_history.proofs.Ended.{one_at_place, thread_at_place}
@@ -44,6 +44,22 @@ given_thread t (Some p) w = w.0
 pub given_nothing : (t : Thread) (o : Option Pass) → IsNew t o → IfSome o (λ p. KnowsNothing p.view)
 given_nothing t None w = tt
 given_nothing t (Some p) w = w.1
+
+-- who is given out is one of the run's threads
+is_of_run : (d : Waiting) (managed peers : ℕ) (t : Thread) → IsThread t → has_thread d t ≡ true → d.managed ≡ managed → d.peers ≡ peers → IsOfRun managed peers t
+is_of_run d managed peers (M n) is e m p = let b = leb-true n d.managed (and-true (nat_le 1 n) (nat_le n d.managed) e).1 in (is, omega (arith, b, m), tt)
+is_of_run d managed peers (P n) is e m p = let b = leb-true n d.peers (and-true (nat_le 1 n) (nat_le n d.peers) e).1 in (is, tt, omega (arith, b, p))
+is_of_run d managed peers C is e m p = (tt, tt, tt)
+
+pub given_of_run : (d : Waiting) (managed peers : ℕ) (t : Thread) → IsDesk d → true ≡ has_thread d t → d.managed ≡ managed → d.peers ≡ peers → IfSome (waits d t) (λ p. IsOfRun managed peers p.thread)
+given_of_run d managed peers t k has m p = by (waits d t) (given_is_new d t k)
+  where
+    of_run : IsOfRun managed peers t
+    of_run = is_of_run d managed peers t (has_is_thread d t k.managed_few k.peers_few (sym has)) (sym has) m p
+
+    by : (o : Option Pass) → IsNew t o → IfSome o (λ q. IsOfRun managed peers q.thread)
+    by None w = tt
+    by (Some q) w = subst (IsOfRun managed peers) (sym w.0) of_run
 
 -- whoever was there is among those with one more
 more_threads : (o : Option Pass) (ps : List Pass) (u : Thread) → Contains (threads_of ps) u → Contains (threads_of (option_to_list o ++ ps)) u

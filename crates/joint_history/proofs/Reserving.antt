@@ -298,8 +298,8 @@ weakening_has_room locked mine lent mine1 side index o count h weakened swept m 
     omega (arith, few, enough)
 
 -- at first nothing is reserved
-pub first_reserves : (v : View) (s : PeerModel) → KnowsNothing v → s ≡ opening_side → PeerReserves v s
-first_reserves v s k e = record {
+pub first_reserves : (v : View) (threads : ℕ) (s : PeerModel) → KnowsNothing v → s ≡ opening_side threads → PeerReserves v s
+first_reserves v threads s k e = record {
   none_waits = ap (λ (x : PeerModel). x.reserve.waiting) e;
   room = λ a f m g. absurd (none_some m (sym (ap (λ (r : PeerReplay). r.mirror) (f ∙ ap (λ (x : PeerModel). x.state) e)) ∙ g));
   marking = ap (λ (x : PeerModel). x.reserve.marking) e ∙ sym (ap (λ (x : PeerModel). is_marking_due x.entries) e);

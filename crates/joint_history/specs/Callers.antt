@@ -6,7 +6,9 @@ use Rattle.joint_model.specs.declared.names.Thread.TheVariants.{M}
 use Rattle.joint_model.specs.declared.events.Entry.{Entry}
 use Rattle.joint_model.specs.Control.{doing_at, IsDone}
 use Rattle.joint_model.specs.HistoryLines.{caller_line}
+use Rattle.joint_model.specs.Lines.{IsThread}
 use Rattle.joint_model.specs.Linked.{Linkage}
+use Rattle.joint_model.specs.Sides.{TakesManaged, TakesPeer}
 use Rattle.known_laws.specs.Pasts.{end_of}
 use Rattle.order_table.specs.declared.views.View.{View}
 use Rattle.order_table.specs.Tells.{IsOfCaller}
@@ -31,6 +33,10 @@ HasReleased t s = Unit {0}
 pub record CallerKnows (t : Thread) (v : View) : Type 0 where
   pub known : IsKnownView v
   pub released : HasReleased t (end_of known.past)
+
+-- the thread is one of a run with so many managed and so many peer threads: both sides take its events
+abbrev pub IsOfRun : ℕ → ℕ → Thread → Type 0
+IsOfRun managed peers t = IsThread t × TakesManaged managed t × TakesPeer peers t
 
 -- the view knows no entry
 abbrev pub KnowsNothing : View → Type 0

@@ -15,6 +15,7 @@ use Rattle.joint_history.specs.Locked.{Drew}
 pub record DrawsContraction (order : OrderId) (seat seat' : Shown) (side side' : Side ManagedReplay) (index sccs xrefs n : ℕ) : Type 0 where
   pub cycle : OpenCycle
   pub opened : side.state.managed.cycle ≡ Some cycle
+  pub threads : side'.threads ≡ side.threads
   pub comps : List (List ℕ)
   pub pairs : List (ℕ × ℕ)
   pub contracted : IsContractedBy side.state cycle sccs xrefs comps pairs
@@ -24,12 +25,14 @@ pub record DrawsContraction (order : OrderId) (seat seat' : Shown) (side side' :
 pub record DrawsAbandon (order : OrderId) (seat seat' : Shown) (side side' : Side ManagedReplay) (index n : ℕ) : Type 0 where
   pub cycle : OpenCycle
   pub opened : side.state.managed.cycle ≡ Some cycle
+  pub threads : side'.threads ≡ side.threads
   pub drew : Drew managed_rules 0 order seat seat' side side' (numbered n (abandon_made cycle index)) nothing
 
 -- the resolution of the open cycle, and what it answers
 pub record DrawsResolution (order : OrderId) (seat seat' : Shown) (side side' : Side ManagedReplay) (index cites n : ℕ) (alive : List Bool) (out : ResolveOut) : Type 0 where
   pub cycle : OpenCycle
   pub opened : side.state.managed.cycle ≡ Some cycle
+  pub threads : side'.threads ≡ side.threads
   pub freed : List ℕ
   pub drew : Drew managed_rules 0 order seat seat' side side' (numbered n (resolve_made side.state.managed cycle index freed cites)) (resolution_of (answers_of alive) freed)
   pub span : out.freed ≡ record { first = length side.state.managed.heap.freed; count = length freed }

@@ -2,14 +2,35 @@
 
 ghost use Rattle.std.specs.Prelude.{◌≡◌};
 ghost use Rattle.joint_model.specs.Lines.{IsDriver, IsThread};
-ghost use Rattle.joint_history.specs.Callers.{CallerKnows, HoldsPass, Hears, Tells};
+ghost use Rattle.joint_history.specs.Callers.{CallerKnows, HoldsPass, Hears, IsOfRun, Tells};
 ghost use Rattle.joint_history.specs.Driven.{StillStands};
 
 use joint_model::{Reply, Thread};
 use order_table::{Order, OrderName, Seat};
 use std::marker::{Model, PhantomData};
 
-/// A thread's pass, with what the thread knows: whoever has it makes the thread's entries. Contracts see which thread it is and what it knows.
+/// A pass that nobody was given, with what its seat knows. Its thread needn't be one of the run's.
+#[derive(Drop)]
+pub(crate) struct WaitingPass<N: OrderName> {
+    pub(crate) thread: Thread,
+    pub(crate) seat: Seat,
+    pub(crate) of: PhantomData<N>,
+}
+
+impl<N: OrderName> Model for WaitingPass<N> {
+    ghost use Rattle.std.specs.Prelude.{◌≡◌};
+    ghost use Rattle.joint_model.specs.Lines.{IsThread};
+    ghost use Rattle.joint_history.specs.Callers.{Pass, CallerKnows, HoldsPass};
+
+    ghost Value = { Pass };
+
+    ghost view = { λ p. record { thread = p.thread; view = p.seat.view } };
+
+    ghost invariant = { λ p. IsThread p.thread × (p.seat.order ≡ N.order) × HoldsPass p.thread p.seat.view × CallerKnows p.thread p.seat.view };
+}
+
+/// A thread's pass, with what the thread knows: whoever has it makes the thread's entries. The thread is one of the run's. Contracts see which
+/// it is and what it knows.
 #[derive(Drop)]
 pub struct Caller<N: OrderName> {
     pub(crate) thread: Thread,
@@ -19,14 +40,13 @@ pub struct Caller<N: OrderName> {
 
 impl<N: OrderName> Model for Caller<N> {
     ghost use Rattle.std.specs.Prelude.{◌≡◌};
-    ghost use Rattle.joint_model.specs.Lines.{IsThread};
-    ghost use Rattle.joint_history.specs.Callers.{Pass, CallerKnows, HoldsPass};
+    ghost use Rattle.joint_history.specs.Callers.{Pass, CallerKnows, HoldsPass, IsOfRun};
 
     ghost Value = { Pass };
 
     ghost view = { λ c. record { thread = c.thread; view = c.seat.view } };
 
-    ghost invariant = { λ c. IsThread c.thread × (c.seat.order ≡ N.order) × HoldsPass c.thread c.seat.view × CallerKnows c.thread c.seat.view };
+    ghost invariant = { λ c. IsOfRun N.managed N.peers c.thread × (c.seat.order ≡ N.order) × HoldsPass c.thread c.seat.view × CallerKnows c.thread c.seat.view };
 }
 
 /// What an operation's entries are: the numbers of its first and its last one, and its reply.
@@ -37,20 +57,39 @@ pub struct Receipt {
     pub reply: Reply,
 }
 
-impl<N: OrderName> Caller<N> {
-    /// The caller of a thread, with a seat that holds its pass.
-    pub(crate) fn new(thread: Thread, seat: Seat) -> Caller<N>
+impl<N: OrderName> WaitingPass<N> {
+    /// The pass of a thread, by a seat that holds it.
+    pub(crate) fn new(thread: Thread, seat: Seat) -> WaitingPass<N>
         requires thread { IsThread thread }
         requires order { seat.order ≡ N.order }
         requires pass { HoldsPass thread seat.view }
         requires knows { CallerKnows thread seat.view }
         ensures { result ≡ record { thread = thread; view = seat.view } }
     {
-        Caller {
+        WaitingPass {
             thread,
             seat,
             of: PhantomData,
         }
+    }
+
+    /// The caller that has the pass of a thread of the run.
+    pub(crate) fn into_caller(self) -> Caller<N>
+        requires { IsOfRun N.managed N.peers self.thread }
+        ensures { result ≡ self }
+    {
+        let WaitingPass { thread, seat, of } = self;
+        Caller { thread, seat, of }
+    }
+}
+
+impl<N: OrderName> Caller<N> {
+    /// The pass that the caller gives back.
+    pub(crate) fn into_pass(self) -> WaitingPass<N>
+        ensures { result ≡ self }
+    {
+        let Caller { thread, seat, of } = self;
+        WaitingPass { thread, seat, of }
     }
 
     /// Which thread it is.

@@ -2,6 +2,7 @@
 
 ghost use Rattle.std.specs.Prelude.{◌≡◌, IfOk, OnErr};
 ghost use Rattle.joint_model.specs.Lines.{IsPeerThread};
+ghost use Rattle.joint_model.specs.Sides.{TakesPeer};
 ghost use Rattle.peer_side.specs.Sides.{seen};
 ghost use Rattle.joint_history.specs.Callers.{HoldsPass};
 ghost use Rattle.joint_history.specs.Collecting.{Collects, DrawsCollect};
@@ -27,6 +28,7 @@ fn collect_by(
 ) -> Result<Receipt, AllocError>
     requires role { drawing.old.role ≡ Role.Peer }
     requires thread { IsPeerThread caller }
+    requires takes { TakesPeer side.old.threads caller }
     requires may_begin { MayAppend drawing.old.order.now drawing.old.seat.now 1 caller Op.Begin }
     requires may_sweep { MayAppend drawing.old.order.now drawing.old.seat.now 1 caller Op.Sweep }
     requires entries { line_known drawing.old.seat.now.view 1 ≡ side.old.entries }
@@ -34,6 +36,7 @@ fn collect_by(
     ensures drew { IfOk result (λ r. DrawsCollect drawing.old.order.now drawing.old.seat.now drawing.new.seat.now (seen side.old) (seen side.new) caller index r) }
     ensures err { OnErr result ((drawing.new.seat.now ≡ drawing.old.seat.now) × (seen side.new ≡ seen side.old)) }
     ensures reserve { side.new.reserve ≡ side.old.reserve }
+    ensures threads { side.new.threads ≡ side.old.threads }
 {
     let count = side.entries().len();
     let reply = side.collect(drawing, caller, index)?;
@@ -57,12 +60,14 @@ fn draw_collect(
     index: u32,
 ) -> Result<Receipt, AllocError>
     requires thread { IsPeerThread caller }
+    requires takes { TakesPeer side.old.threads caller }
     requires may_begin { MayAppend order.now seat.old 1 caller Op.Begin }
     requires may_sweep { MayAppend order.now seat.old 1 caller Op.Sweep }
     requires entries { line_known seat.old.view 1 ≡ side.old.entries }
     ensures drew { IfOk result (λ r. DrawsCollect order.now seat.old seat.new (seen side.old) (seen side.new) caller index r) }
     ensures err { OnErr result ((seat.new ≡ seat.old) × (seen side.new ≡ seen side.old)) }
     ensures reserve { side.new.reserve ≡ side.old.reserve }
+    ensures threads { side.new.threads ≡ side.old.threads }
 {
     let mut drawing = SeatDrawing {
         order,
@@ -86,6 +91,7 @@ impl<N: OrderName> LockedPeer<N> {
     ) -> Result<Receipt, AllocError>
         requires order { (order.now ≡ N.order) × (mine.old.order ≡ N.order) }
         requires pass { IsPeerThread caller × HoldsPass caller mine.old.view }
+        requires takes { TakesPeer N.peers caller }
         requires begins { MayBegin caller mine.old.view index }
         ensures order { mine.new.order ≡ N.order }
         ensures pass { HoldsPass caller mine.new.view }

@@ -4,32 +4,34 @@ ghost use Rattle.std.specs.Prelude.{◌≡◌, ◌≤◌, ◌<◌, ℕ, ◌++◌
 ghost use Rattle.joint_model.specs.Control.{caller_place};
 ghost use Rattle.joint_model.specs.Lines.{IsThread};
 ghost use Rattle.order_table.specs.Views.{Owns, OwnsAll};
-ghost use Rattle.joint_history.specs.Callers.{KnowsNothing, Pass};
+ghost use Rattle.joint_history.specs.Callers.{IsOfRun, KnowsNothing, Pass};
 ghost use Rattle.joint_history.specs.Desks.{AreAll, WaitsAt, has_thread, thread_of, waits, without_caller};
 ghost use Rattle.joint_history.specs.Ending.{HasAll};
 
-use crate::callers::Caller;
+use crate::callers::{Caller, WaitingPass};
 use joint_model::Thread;
 use order_table::{Order, OrderName, Seat};
 use std::alloc::{AllocError, Global};
 use std::marker::Model;
 
-/// The callers of a run that nobody has yet: of the driver and of so many managed and peer threads.
+/// The callers of a run that nobody has yet: of the driver and of so many managed and peer threads, for which both sides are. The passes of
+/// the threads that the run doesn't have wait here to its end.
 #[derive(Drop)]
 pub struct Desk<N: OrderName> {
     managed: u8,
     peers: u8,
-    callers: Vec<Option<Caller<N>>>,
+    callers: Vec<Option<WaitingPass<N>>>,
 }
 
 impl<N: OrderName> Model for Desk<N> {
+    ghost use Rattle.std.specs.Prelude.{◌≡◌};
     ghost use Rattle.joint_history.specs.Desks.{IsDesk, Waiting};
 
     ghost Value = { Waiting };
 
     ghost view = { λ d. record { managed = d.managed; peers = d.peers; callers = d.callers.items } };
 
-    ghost invariant = { λ d. IsDesk record { managed = d.managed; peers = d.peers; callers = d.callers.items } };
+    ghost invariant = { λ d. IsDesk record { managed = d.managed; peers = d.peers; callers = d.callers.items } × (d.managed ≡ N.managed) × (d.peers ≡ N.peers) };
 }
 
 // The thread with that place: the driver, m1 to m8, p1 to p8.
@@ -58,12 +60,12 @@ fn place_of(t: Thread) -> usize
     }
 }
 
-// All callers, by place, with lines that a seat gives away which holds all of them.
+// All passes, by place, with lines that a seat gives away which holds all of them.
 fn all_callers<N: OrderName>(
     alloc: Global,
     order: &Order,
     seat: &mut Seat,
-) -> Result<Vec<Option<Caller<N>>>, AllocError>
+) -> Result<Vec<Option<WaitingPass<N>>>, AllocError>
     requires order { (order.now ≡ N.order) × (seat.old.order ≡ N.order) }
     requires seat { OwnsAll seat.old.view × KnowsNothing seat.old.view }
     ensures order { seat.new.order ≡ N.order }
@@ -74,9 +76,20 @@ fn all_callers<N: OrderName>(
     for place in 0..17u8 {
         let t = thread_at(place);
         let pass = order.hand(seat, t);
-        callers.push(Some(Caller::new(t, pass)))?;
+        callers.push(Some(WaitingPass::new(t, pass)))?;
     }
     Ok(callers)
+}
+
+// The caller that has the pass, if one is there.
+fn give_out<N: OrderName>(waiting: Option<WaitingPass<N>>) -> Option<Caller<N>>
+    requires { IfSome waiting (λ p. IsOfRun N.managed N.peers p.thread) }
+    ensures { result ≡ waiting }
+{
+    match waiting {
+        Some(pass) => Some(pass.into_caller()),
+        None => None,
+    }
 }
 
 impl<N: OrderName> Desk<N> {
@@ -90,6 +103,7 @@ impl<N: OrderName> Desk<N> {
         peers: u8,
     ) -> Result<Desk<N>, AllocError>
         requires counts { (managed ≤ 8) × (peers ≤ 8) }
+        requires run { (managed ≡ N.managed) × (peers ≡ N.peers) }
         requires order { (order.now ≡ N.order) × (seat.old.order ≡ N.order) }
         requires seat { OwnsAll seat.old.view × KnowsNothing seat.old.view }
         ensures order { seat.new.order ≡ N.order }
@@ -126,10 +140,11 @@ impl<N: OrderName> Desk<N> {
         if !self.has(t) {
             return None;
         }
-        self.callers[place_of(t)].take()
+        give_out(self.callers[place_of(t)].take())
     }
-    /// The callers that still wait, by place.
-    pub(crate) fn into_callers(self) -> Vec<Option<Caller<N>>>
+
+    /// The passes that nobody was given, by place.
+    pub(crate) fn into_callers(self) -> Vec<Option<WaitingPass<N>>>
         ensures callers { result.items ≡ self.callers }
         ensures waits { (i : ℕ) (o : Option Pass) → slice_get result.items i ≡ Some o → WaitsAt i o }
     {

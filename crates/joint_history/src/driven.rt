@@ -104,6 +104,7 @@ fn draw_refusal(
     requires may { MayAppend order.now seat.old 0 C (op.Refused word) }
     requires entries { line_known seat.old.view 0 ≡ side.old.entries }
     ensures drew { IfOk result (λ r. Drew managed_rules 0 order.now seat.old seat.new side.old side.new (driver_entry r.0 index (op.Refused word) r.1 None) (phase_of phase)) }
+    ensures threads { side.new.threads ≡ side.old.threads }
     ensures err { OnErr result ((seat.new ≡ seat.old) × (side.new ≡ side.old)) }
 {
     let mut drawing = SeatDrawing {

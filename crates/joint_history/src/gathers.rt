@@ -13,24 +13,24 @@ ghost use Rattle.joint_history.specs.Ending.{AllAreIn, GathersAll, HasAll, IsIdl
 ghost use Rattle.joint_history.specs.Knowing.{line_known};
 ghost use Rattle.joint_history.specs.Locked.{ManagedKnows, PeerKnows};
 
-use crate::callers::Caller;
+use crate::callers::{Caller, WaitingPass};
 use crate::desks::Desk;
 use joint_model::Thread;
 use order_table::{Order, OrderName, Seat};
 
-// Takes in the seat of a caller that has come to rest.
-fn take_in<N: OrderName>(order: &Order, seat: &mut Seat, caller: Caller<N>)
+// Takes in the seat of a thread that has come to rest.
+fn take_in<N: OrderName>(order: &Order, seat: &mut Seat, pass: WaitingPass<N>)
     requires order { (order.now ≡ N.order) × (seat.old.order ≡ N.order) }
-    requires idle { IsIdle caller }
+    requires idle { IsIdle pass }
     ensures order { seat.new.order ≡ N.order }
-    ensures gathers { GathersAll seat.old.view seat.new.view (caller.thread ∷ []) }
-    ensures own { TakesOwn seat.old.view seat.new.view (caller ∷ []) }
+    ensures gathers { GathersAll seat.old.view seat.new.view (pass.thread ∷ []) }
+    ensures own { TakesOwn seat.old.view seat.new.view (pass ∷ []) }
 {
-    let Caller {
+    let WaitingPass {
         thread: _,
         seat: other,
         of: _,
-    } = caller;
+    } = pass;
     order.learn(seat, other);
 }
 
@@ -43,15 +43,15 @@ pub(crate) fn gather<N: OrderName>(order: &Order, seat: &mut Seat, callers: Vec<
     ensures own { TakesOwn seat.old.view seat.new.view callers.items }
 {
     for caller in callers {
-        take_in(order, seat, caller);
+        take_in(order, seat, caller.into_pass());
     }
 }
 
-/// Takes in the seats of callers that nobody had.
+/// Takes in the seats of threads whose pass nobody had.
 pub(crate) fn gather_waiting<N: OrderName>(
     order: &Order,
     seat: &mut Seat,
-    callers: Vec<Option<Caller<N>>>,
+    callers: Vec<Option<WaitingPass<N>>>,
 )
     requires order { (order.now ≡ N.order) × (seat.old.order ≡ N.order) }
     requires waits { (i : ℕ) (o : Option Pass) → slice_get callers.items i ≡ Some o → WaitsAt i o }
@@ -60,8 +60,8 @@ pub(crate) fn gather_waiting<N: OrderName>(
     ensures own { TakesOwn seat.old.view seat.new.view (present callers.items) }
 {
     for waiting in callers {
-        if let Some(caller) = waiting {
-            take_in(order, seat, caller);
+        if let Some(pass) = waiting {
+            take_in(order, seat, pass);
         }
     }
 }

@@ -40,6 +40,7 @@ fn draw_weaken(
     requires entries { line_known seat.old.view 1 ≡ side.old.entries }
     ensures drew { Drew peer_rules 1 order.now seat.old seat.new (seen side.old) (seen side.new) (driver_entry result index (op.Weaken h) says.Ok (Some snap)) nothing }
     ensures reserve { side.new.reserve ≡ reserve_left side.old.reserve }
+    ensures threads { side.new.threads ≡ side.old.threads }
 {
     let mut drawing = SeatDrawing {
         order,
@@ -64,6 +65,7 @@ fn draw_restore(
     requires entries { line_known seat.old.view 1 ≡ side.old.entries }
     ensures drew { Drew peer_rules 1 order.now seat.old seat.new (seen side.old) (seen side.new) (driver_entry result.0 index (op.Restore h) (reply_of result.1) None) nothing }
     ensures reserve { side.new.reserve ≡ side.old.reserve }
+    ensures threads { side.new.threads ≡ side.old.threads }
 {
     let mut drawing = SeatDrawing {
         order,
@@ -83,6 +85,7 @@ fn draw_clear(side: &mut PeerSide, order: &Order, seat: &mut Seat, index: u32, c
     requires entries { line_known seat.old.view 1 ≡ side.old.entries }
     ensures drew { Drew peer_rules 1 order.now seat.old seat.new (seen side.old) (seen side.new) (driver_entry result index (op.Clear cycle) says.Ok None) nothing }
     ensures reserve { side.new.reserve ≡ reserve_over side.old.reserve }
+    ensures threads { side.new.threads ≡ side.old.threads }
 {
     let mut drawing = SeatDrawing {
         order,

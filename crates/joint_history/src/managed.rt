@@ -4,7 +4,7 @@ ghost use Rattle.std.specs.Prelude.{◌≡◌, ◌≤◌, ℕ, [], IfOk, None, O
 ghost use Rattle.joint_model.specs.Draws.{numbered};
 ghost use Rattle.joint_model.specs.Lines.{IsManagedThread, IsThread, IsVar};
 ghost use Rattle.joint_model.specs.ManagedReplay.{opening_replay};
-ghost use Rattle.joint_model.specs.Sides.{managed_rules};
+ghost use Rattle.joint_model.specs.Sides.{TakesManaged, managed_rules};
 ghost use Rattle.joint_model.specs.Told.{nothing};
 ghost use Rattle.order_table.specs.Views.{Owns};
 ghost use Rattle.managed_side.specs.Steps.{CitesRightly, IsFresh, IsManagedStep, take_op};
@@ -20,8 +20,8 @@ use order_table::{Order, OrderName, Role, Seat};
 use std::alloc::{AllocError, Global};
 use std::marker::{Model, PhantomData};
 
-/// The managed side with the seat that owns its role. The seat knows a past, whose managed entries are the side's list and at whose end the
-/// managed side is as this one.
+/// The managed side with the seat that owns its role. The side is for as many threads as the run has. The seat knows a past, whose managed
+/// entries are the side's list and at whose end the managed side is as this one.
 #[derive(Drop)]
 pub struct LockedManaged<N: OrderName> {
     pub(crate) side: ManagedSide,
@@ -38,7 +38,7 @@ impl<N: OrderName> Model for LockedManaged<N> {
 
     ghost view = { λ l. record { side = l.side; view = l.seat.view } };
 
-    ghost invariant = { λ l. (l.seat.order ≡ N.order) × Owns l.seat.view 0 × ManagedKnows l.seat.view l.side };
+    ghost invariant = { λ l. (l.seat.order ≡ N.order) × Owns l.seat.view 0 × ManagedKnows l.seat.view l.side × (l.side.threads ≡ N.managed) };
 }
 
 /// The side draws by the seat: what is said here is what that leaves in both, and nothing else.
@@ -55,9 +55,11 @@ pub(crate) fn draw_step(
     requires event { IsManagedStep caller op.now }
     requires fresh { IsFresh side.old.state op.now }
     requires cites { CitesRightly op.now cites }
+    requires takes { TakesManaged side.old.threads caller }
     requires may { MayAppend order.now seat.old 0 caller op.now }
     requires entries { line_known seat.old.view 0 ≡ side.old.entries }
     ensures drew { IfOk result (λ r. Drew managed_rules 0 order.now seat.old seat.new side.old side.new (numbered r.0 (made_by caller index op.now r.1 cites)) nothing) }
+    ensures threads { side.new.threads ≡ side.old.threads }
     ensures err { OnErr result ((seat.new ≡ seat.old) × (side.new ≡ side.old)) }
 {
     let mut drawing = SeatDrawing {
@@ -81,9 +83,11 @@ fn draw_take(
 ) -> Result<(u64, Reply), AllocError>
     requires thread { IsManagedThread caller }
     requires var { IsVar v }
+    requires takes { TakesManaged side.old.threads caller }
     requires may { MayAppend order.now seat.old 0 caller (take_op v) }
     requires entries { line_known seat.old.view 0 ≡ side.old.entries }
     ensures drew { IfOk result (λ r. Drew managed_rules 0 order.now seat.old seat.new side.old side.new (numbered r.0 (made_by caller index (take_op v) r.1 None)) nothing) }
+    ensures threads { side.new.threads ≡ side.old.threads }
     ensures err { OnErr result ((seat.new ≡ seat.old) × (side.new ≡ side.old)) }
 {
     let mut drawing = SeatDrawing {
@@ -98,13 +102,13 @@ fn draw_take(
 }
 
 impl<N: OrderName> LockedManaged<N> {
-    /// The side without objects and entries, for at most 8 managed threads, with a seat that owns its role and knows no entry.
+    /// The side without objects and entries, for the run's managed threads, with a seat that owns its role and knows no entry.
     pub(crate) fn new(
         alloc: Global,
         threads: u8,
         seat: Seat,
     ) -> Result<LockedManaged<N>, AllocError>
-        requires threads { threads ≤ 8 }
+        requires threads { (threads ≤ 8) × (threads ≡ N.managed) }
         requires seat { (seat.order ≡ N.order) × Owns seat.view 0 × KnowsNothing seat.view }
         ensures side { IfOk result (λ l. (l.side.entries ≡ []) × (l.side.state ≡ opening_replay)) }
         ensures seat { IfOk result (λ l. l.view ≡ seat.view) }
@@ -139,6 +143,7 @@ impl<N: OrderName> LockedManaged<N> {
     ) -> Result<(u64, Reply), AllocError>
         requires order { (order.now ≡ N.order) × (mine.old.order ≡ N.order) }
         requires pass { IsThread caller × HoldsPass caller mine.old.view }
+        requires takes { TakesManaged N.managed caller }
         requires event { IsManagedStep caller op.now }
         requires may { MayMake caller mine.old.view index op.now cites }
         ensures order { mine.new.order ≡ N.order }
@@ -159,6 +164,7 @@ impl<N: OrderName> LockedManaged<N> {
         give_back(order, &mut self.seat, mine, caller);
         made
     }
+
     /// Makes `take V` of a managed thread, whose pin is emptied, and answers its entry's number and the reply. The caller's seat knows the entry
     /// then. Answers `AllocError` where there is no memory, and no entry is made then.
     pub(crate) fn take(
@@ -171,6 +177,7 @@ impl<N: OrderName> LockedManaged<N> {
     ) -> Result<(u64, Reply), AllocError>
         requires order { (order.now ≡ N.order) × (mine.old.order ≡ N.order) }
         requires pass { IsManagedThread caller × HoldsPass caller mine.old.view }
+        requires takes { TakesManaged N.managed caller }
         requires var { IsVar v }
         requires may { MayMake caller mine.old.view index (take_op v) None }
         ensures order { mine.new.order ≡ N.order }

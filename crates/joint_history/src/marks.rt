@@ -36,6 +36,7 @@ fn draw_sweep(side: &mut PeerSide, order: &Order, seat: &mut Seat, index: u32) -
     requires entries { line_known seat.old.view 1 ≡ side.old.entries }
     ensures drew { DrawsSweep order.now seat.old seat.new (seen side.old) (seen side.new) index result.0 result.1 }
     ensures reserve { side.new.reserve ≡ side.old.reserve }
+    ensures threads { side.new.threads ≡ side.old.threads }
 {
     let mut drawing = SeatDrawing {
         order,
@@ -57,6 +58,7 @@ fn draw_begin(side: &mut PeerSide, order: &Order, seat: &mut Seat, index: u32) -
     requires entries { line_known seat.old.view 1 ≡ side.old.entries }
     ensures drew { Drew peer_rules 1 order.now seat.old seat.new (seen side.old) (seen side.new) (driver_entry result.0 index op.Begin (says.Mark result.1) None) nothing }
     ensures reserve { side.new.reserve ≡ reserve_begun (is_own C side.old.reserve.marking) side.old.reserve }
+    ensures threads { side.new.threads ≡ side.old.threads }
 {
     let mut drawing = SeatDrawing {
         order,

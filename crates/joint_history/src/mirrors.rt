@@ -48,6 +48,7 @@ fn draw_mirror(
     ensures reserve { OnOk result (side.new.reserve ≡ reserve_installed (length (handles_of graph.now.nodes))) }
     ensures part { IsPart graph.now.nodes graph.now.edges }
     ensures listing { IsListing comps.now.comps comps.now.pairs }
+    ensures threads { side.new.threads ≡ side.old.threads }
     ensures err { OnErr result ((seat.new ≡ seat.old) × (side.new ≡ side.old)) }
 {
     let _ = (graph.nodes(), comps.len());

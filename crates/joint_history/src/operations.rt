@@ -6,7 +6,7 @@ ghost use Rattle.std.specs.Prelude.{◌≡◌, ◌≤◌, [], IfOk, IsOk, None, 
 ghost use Rattle.joint_model.specs.Lines.{IsLine, IsManagedThread, IsPeerThread, is_peer_event};
 ghost use Rattle.joint_model.specs.Told.{nothing};
 ghost use Rattle.peer_side.specs.Steps.{IsRelease};
-ghost use Rattle.joint_history.specs.Callers.{HoldsPass, last_index, own};
+ghost use Rattle.joint_history.specs.Callers.{HoldsPass, IsOfRun, last_index, own};
 ghost use Rattle.joint_history.specs.Collecting.{Collects};
 ghost use Rattle.joint_history.specs.Locked.{MayMake, Makes, MakesNone};
 ghost use Rattle.joint_history.specs.Operations.{StopsWithoutMemory, IsMadeByEvents, IsOwnThread, IsPeerOperation, IsSideEvent, MakesAll, MayBegin, Runs, answer_of, entry_by, first_of, second_of, taken_by, third_of};
@@ -139,6 +139,7 @@ impl<N: OrderName> Shared<N> {
     ) -> Result<(u64, Reply), AllocError>
         requires order { mine.old.order ≡ N.order }
         requires pass { IsOwnThread t × HoldsPass t mine.old.view }
+        requires run { IsOfRun N.managed N.peers t }
         requires event { IsSideEvent t op.now }
         requires may { MayMake t mine.old.view index op.now cites }
         ensures order { mine.new.order ≡ N.order }
@@ -173,6 +174,7 @@ impl<N: OrderName> Shared<N> {
     ) -> Result<Receipt, AllocError>
         requires order { mine.old.order ≡ N.order }
         requires pass { IsOwnThread t × HoldsPass t mine.old.view }
+        requires run { IsOfRun N.managed N.peers t }
         requires begins { MayBegin t mine.old.view index }
         requires act { IsMadeByEvents t act.now }
         ensures order { mine.new.order ≡ N.order }

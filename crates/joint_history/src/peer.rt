@@ -4,7 +4,7 @@ ghost use Rattle.std.specs.Prelude.{◌≡◌, ◌≤◌, ℕ, IfOk, IsOk, OnErr
 ghost use Rattle.joint_model.specs.Draws.{numbered};
 ghost use Rattle.joint_model.specs.Lines.{IsThread};
 ghost use Rattle.joint_model.specs.PeerReplay.{PeerAllows};
-ghost use Rattle.joint_model.specs.Sides.{peer_rules};
+ghost use Rattle.joint_model.specs.Sides.{TakesPeer, peer_rules};
 ghost use Rattle.joint_model.specs.Told.{nothing};
 ghost use Rattle.order_table.specs.Views.{Owns};
 ghost use Rattle.peer_side.specs.Sides.{opening_side, seen};
@@ -21,8 +21,8 @@ use peer_side::PeerSide;
 use std::alloc::{AllocError, Global};
 use std::marker::{Model, PhantomData};
 
-/// The peer side with the seat that owns its role. The seat knows a past, whose peer entries are the side's list and at whose end the
-/// peer side is as this one. While the lock is free no reference waits, and what the mirrored cycle will weaken and mark is reserved.
+/// The peer side with the seat that owns its role. The side is for as many threads as the run has. The seat knows a past, whose peer entries
+/// are the side's list and at whose end the peer side is as this one. While the lock is free no reference waits, and what the mirrored cycle will weaken and mark is reserved.
 #[derive(Drop)]
 pub struct LockedPeer<N: OrderName> {
     pub(crate) side: PeerSide,
@@ -40,7 +40,7 @@ impl<N: OrderName> Model for LockedPeer<N> {
 
     ghost view = { λ l. record { side = l.side; view = l.seat.view } };
 
-    ghost invariant = { λ l. (l.seat.order ≡ N.order) × Owns l.seat.view 1 × PeerKnows l.seat.view (seen l.side) × PeerReserves l.seat.view l.side };
+    ghost invariant = { λ l. (l.seat.order ≡ N.order) × Owns l.seat.view 1 × PeerKnows l.seat.view (seen l.side) × PeerReserves l.seat.view l.side × (l.side.threads ≡ N.peers) };
 }
 
 // The side draws by the seat: what is said here is what that leaves in both, and nothing else.
@@ -55,12 +55,14 @@ fn draw_step(
 ) -> Result<(u64, Reply), AllocError>
     requires step { IsPeerStep caller op.now }
     requires allowed { PeerAllows side.old.state caller op.now cites nothing }
+    requires takes { TakesPeer side.old.threads caller }
     requires may { MayAppend order.now seat.old 1 caller op.now }
     requires entries { line_known seat.old.view 1 ≡ side.old.entries }
     ensures drew { IfOk result (λ r. Drew peer_rules 1 order.now seat.old seat.new (seen side.old) (seen side.new) (numbered r.0 (made_by caller index op.now r.1 cites)) nothing) }
     ensures release { IsRelease op.now → IsOk result }
     ensures err { OnErr result ((seat.new ≡ seat.old) × (seen side.new ≡ seen side.old)) }
     ensures reserve { side.new.reserve ≡ side.old.reserve }
+    ensures threads { side.new.threads ≡ side.old.threads }
 {
     let mut drawing = SeatDrawing {
         order,
@@ -73,11 +75,11 @@ fn draw_step(
 }
 
 impl<N: OrderName> LockedPeer<N> {
-    /// The side on which nothing was made, for at most 8 peer threads, with a seat that owns its role and knows no entry.
+    /// The side on which nothing was made, for the run's peer threads, with a seat that owns its role and knows no entry.
     pub(crate) fn new(alloc: Global, threads: u8, seat: Seat) -> Result<LockedPeer<N>, AllocError>
-        requires threads { threads ≤ 8 }
+        requires threads { (threads ≤ 8) × (threads ≡ N.peers) }
         requires seat { (seat.order ≡ N.order) × Owns seat.view 1 × KnowsNothing seat.view }
-        ensures side { IfOk result (λ l. l.side ≡ opening_side) }
+        ensures side { IfOk result (λ l. l.side ≡ opening_side threads) }
         ensures seat { IfOk result (λ l. l.view ≡ seat.view) }
     {
         let side = PeerSide::new(alloc, threads)?;
@@ -111,6 +113,7 @@ impl<N: OrderName> LockedPeer<N> {
     ) -> Result<(u64, Reply), AllocError>
         requires order { (order.now ≡ N.order) × (mine.old.order ≡ N.order) }
         requires pass { IsThread caller × HoldsPass caller mine.old.view }
+        requires takes { TakesPeer N.peers caller }
         requires event { IsPeerStep caller op.now }
         requires may { MayMake caller mine.old.view index op.now cites }
         ensures order { mine.new.order ≡ N.order }

@@ -46,7 +46,7 @@ fn join_lists(alloc: Global, left: ManagedLists, right: PeerLists) -> Result<His
 }
 
 impl<N: OrderName> Shared<N> {
-    /// Both sides without objects and entries, for so many managed and peer threads, and the desk at which their callers wait. The seat is
+    /// Both sides without objects and entries, each for the run's threads of its heap, and the desk at which their callers wait. The seat is
     /// the one that came with the order. Answers `AllocError` where there is no memory.
     pub fn new(
         alloc: Global,
@@ -58,6 +58,7 @@ impl<N: OrderName> Shared<N> {
         requires order { order ≡ N.order }
         requires seat { (seat.order ≡ N.order) × OwnsAll seat.view × KnowsNothing seat.view }
         requires counts { (managed ≤ 8) × (peers ≤ 8) }
+        requires run { (managed ≡ N.managed) × (peers ≡ N.peers) }
         ensures desk { IfOk result (λ r. (r.1.managed ≡ managed) × (r.1.peers ≡ peers) × AreAll r.1.callers) }
         ensures all { IfOk result (λ r. HasAll r.1 []) }
     {

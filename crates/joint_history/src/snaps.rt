@@ -44,6 +44,7 @@ fn draw_snap(
     requires entries { line_known seat.old.view 0 ≡ side.old.entries }
     ensures drew { IfOk result (λ o. DrawsSnapshot order.now seat.old seat.new side.old side.new index o) }
     ensures fault { IfErr result (λ e. e ≡ SnapFault.OutOfMemory) }
+    ensures threads { side.new.threads ≡ side.old.threads }
     ensures err { OnErr result ((seat.new ≡ seat.old) × (side.new ≡ side.old)) }
 {
     let pins = pins_of(side);

@@ -1,9 +1,10 @@
 -- One form of contract for both sides of the bridge: what a side is seen as, what its own list of entries may be, what a call
 -- that makes entries asks of the draw, and what it promises. What a side has beside its list and its state, as room that was
 -- reserved, stands beside this as numbers.
-use Rattle.std.specs.Prelude.{◌≡◌, ℕ, ◌+◌, ◌≤◌, ◌↔◌, IsTrue, Bool, true, false, List, [], ◌∷◌, length, map, Option, Some, None}
+use Rattle.std.specs.Prelude.{◌≡◌, ℕ, ◌+◌, ◌≤◌, ◌↔◌, All, IsTrue, Bool, true, false, List, [], ◌∷◌, length, map, Option, Some, None}
 use Rattle.joint_model.specs.declared.names.MNum.{MNum}
 use Rattle.joint_model.specs.declared.names.Thread.{Thread}
+use Rattle.joint_model.specs.declared.names.Thread.TheVariants.{M, P}
 use Rattle.joint_model.specs.declared.lines.Act.TheVariants as act
 use Rattle.joint_model.specs.declared.events.Entry.{Entry}
 use Rattle.joint_model.specs.declared.events.Made.{Made}
@@ -21,18 +22,20 @@ use Rattle.joint_model.specs.PeerReplay.{PeerReplay, opening_peer_replay, peer_a
 use Rattle.joint_model.specs.Run.{thread_number}
 use Rattle.joint_model.specs.Told.{Told, snap_of, resolution_of, Noted}
 
--- a side: its entries, and the state of its replay after them
+-- a side: for how many threads of its heap it was made, its entries, and the state of its replay after them
 pub record Side (S : Type 0) : Type 0 where
+  pub threads : ℕ
   pub entries : List Entry
   pub state : S
 
 -- the definition of one side's list: the state before the first entry; which entry may come next, with what is told beside it,
--- and the state after it; the object to which an event may set a cell, the one to which an entry sets it, and the managed
--- objects that an entry frees
+-- and the state after it; of which threads a side that was made for so many takes events; the object to which an event may set a cell,
+-- the one to which an entry sets it, and the managed objects that an entry frees
 pub record SideRules (S : Type 0) : Type 1 where
   pub opening : S
   pub lawful : S → Made → Told → Type 0
   pub next : S → Made → Told → S
+  pub takes : ℕ → Thread → Type 0
   pub may_target : S → Op → MNum → Type 0
   pub target : S → Made → Option MNum
   pub frees : Told → List MNum
@@ -41,6 +44,16 @@ pub record SideRules (S : Type 0) : Type 1 where
 pub record IsOfSide (is_peer : Bool) (m : Made) : Type 0 where
   pub event : IsEvent m.caller m.op
   pub side : is_peer_event m.caller m.op ≡ is_peer
+
+-- of the threads of its own heap, which are numbered from 1, a side takes those alone for which it was made. It always takes the driver,
+-- and the peer side the managed threads, which make some of their events there.
+abbrev pub TakesManaged : ℕ → Thread → Type 0
+TakesManaged n (M i) = i ≤ n
+TakesManaged n t = Unit {0}
+
+abbrev pub TakesPeer : ℕ → Thread → Type 0
+TakesPeer n (P i) = i ≤ n
+TakesPeer n t = Unit {0}
 
 -- a `weak` may set its cell to any live object, unless the cell was ever set
 abbrev pub MaySetCell : ManagedReplay → Op → MNum → Type 0
@@ -69,6 +82,7 @@ managed_rules = record {
   opening = opening_replay;
   lawful = λ s m told. IsOfSide false m × ManagedLawful s m told;
   next = λ s m told. (managed_answer s m.caller m.op told).state;
+  takes = TakesManaged;
   may_target = MaySetCell;
   target = λ s m. cell_target s m.caller m.op m.reply;
   frees = objects_freed;
@@ -80,6 +94,7 @@ peer_rules = record {
   opening = opening_peer_replay;
   lawful = λ s m told. IsOfSide true m × PeerLawful s m told;
   next = λ s m told. (peer_answer s m.caller m.op m.cites told).state;
+  takes = TakesPeer;
   may_target = λ s o m. ⊥;
   target = λ s m. None;
   frees = λ told. [];
@@ -95,12 +110,16 @@ abbrev pub LeadsTo : {S : Type 0} → SideRules S → S → List Noted → S →
 LeadsTo r s [] t = t ≡ s
 LeadsTo r s (n ∷ ns) t = r.lawful s n.entry.made n.told × LeadsTo r (r.next s n.entry.made n.told) ns t
 
--- a side is the replay of its entries: their numbers rise, a lawful list has these entries, and the state is the one after it
-pub record IsReplayed {S : Type 0} (r : SideRules S) (s : Side S) : Type 0 where
-  pub rise : Rises (map (λ e. e.number) s.entries)
+-- a side's state is the replay of its entries: their numbers rise, a lawful list has these entries, and the state is the one after it
+pub record IsReplayed {S : Type 0} (r : SideRules S) (entries : List Entry) (state : S) : Type 0 where
+  pub rise : Rises (map (λ e. e.number) entries)
   pub noted : List Noted
-  pub same : map (λ n. n.entry) noted ≡ s.entries
-  pub leads : LeadsTo r r.opening noted s.state
+  pub same : map (λ n. n.entry) noted ≡ entries
+  pub leads : LeadsTo r r.opening noted state
+
+-- each entry is of a thread whose events a side takes that was made for so many
+abbrev pub AreTaken : {S : Type 0} → SideRules S → ℕ → List Entry → Type 0
+AreTaken r threads entries = All (λ e. r.takes threads e.made.caller) entries
 
 -- the meanings of a draw, together
 pub record Drawing (D : Type 0) : Type 1 where
@@ -109,9 +128,11 @@ pub record Drawing (D : Type 0) : Type 1 where
   pub may : D → Thread → Op → Option MNum → Type 0
   pub drew : D → Entry → Option MNum → List MNum → D → Type 0
 
--- what a call asks of the draw for each event that it makes: each number of the side's list lies below the floor, the list can
--- be filled, and the caller may draw for the event, also with each object to which it may set a cell
+-- what a call asks for each event that it makes: the side takes the caller's events; and of the draw, that each number of the side's
+-- list lies below the floor, the list can be filled, and the caller may draw for the event, also with each object to which it may set
+-- a cell
 pub record MayDraw {S D : Type 0} (r : SideRules S) (d : Drawing D) (draw : D) (s : Side S) (t : Thread) (o : Op) : Type 0 where
+  pub takes : r.takes s.threads t
   pub below : AllBelow s.entries (d.floor draw)
   pub room : 4294967295 ≤ d.left draw + length s.entries
   pub bare : d.may draw t o None
@@ -126,10 +147,12 @@ pub record DrawsLast {D : Type 0} (d : Drawing D) (before after : D) (old new : 
   pub room : 4294967295 ≤ d.left after + length new
   pub may : (t : Thread) (o : Op) → IsTrue (is_peer_event t o) → (d.may before t o None ↔ d.may after t o None)
 
--- one entry: what was made was drawn and put last, it may come next, and the state is the one after it
+-- one entry: what was made was drawn and put last, it may come next, and the state is the one after it; the side is for as many threads
+-- as before
 pub record AddsLawful {S D : Type 0} (r : SideRules S) (d : Drawing D) (before after : D) (old new : Side S) (m : Made) (told : Told) : Type 0 where
   pub draws : DrawsLast d before after old.entries new.entries m (r.target old.state m) (r.frees told)
   pub goes : GoesOn r old.state m told new.state
+  pub threads : new.threads ≡ old.threads
 
 -- an entry that a call makes, without its number, and what is told beside it
 pub record Making : Type 0 where

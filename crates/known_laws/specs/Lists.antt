@@ -19,8 +19,8 @@ pub record AreListsLawful (h : List Noted) : Type 0 where
   pub managed : LeadsTo managed_rules opening_replay (line 0 h) (end_of h).managed
   pub peer : LeadsTo peer_rules opening_peer_replay (line 1 h) (end_of h).peer
   pub rise : (i : ℕ) → Rises (map (λ e. e.number) (entries (line i h)))
-  pub managed_side : IsReplayed managed_rules (record { entries = entries (line 0 h); state = (end_of h).managed })
-  pub peer_side : IsReplayed peer_rules (record { entries = entries (line 1 h); state = (end_of h).peer })
+  pub managed_side : IsReplayed managed_rules (entries (line 0 h)) (end_of h).managed
+  pub peer_side : IsReplayed peer_rules (entries (line 1 h)) (end_of h).peer
 
 -- so it is of every lawful past
 abbrev pub KnownListsAreLawful : Type 0

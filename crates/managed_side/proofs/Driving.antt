@@ -24,7 +24,7 @@ use Rattle.joint_laws.proofs.ReplayKeeping.{IsReplayKept-step}
 use Rattle.managed_side.specs.Calls.{IsContractedBy, abandon_made, contract_made, resolve_made}
 use Rattle.managed_side.specs.Resolving.{TakesResolution}
 use Rattle.managed_side.specs.Rows.{with_adopted}
-use Rattle.managed_side.specs.Sides.{side_of}
+use Rattle.managed_side.specs.Sides.{side_of, state_of}
 use Rattle.managed_side.proofs.Goes.{side-goes}
 
 step-cycles : (s t : Managed) → ManagedStep s t → t.cycles ≤ s.cycles + 1
@@ -43,9 +43,9 @@ few-leads s (n ∷ ns) t l k =
     omega (arith, one, rest)
 
 -- at most as many cycles as entries
-pub cycles-few : (es : List Entry) (rows : ManagedReplay) → IsReplayed managed_rules (side_of es rows) → rows.managed.cycles ≤ length es
+pub cycles-few : (es : List Entry) (rows : ManagedReplay) → IsReplayed managed_rules es (state_of es rows) → rows.managed.cycles ≤ length es
 cycles-few es rows r =
-    let few = few-leads opening_replay r.noted (with_adopted rows (side_of es rows).state.adopted) r.leads IsReplayKept-opening in
+    let few = few-leads opening_replay r.noted (with_adopted rows (state_of es rows).adopted) r.leads IsReplayKept-opening in
     let same : length r.noted ≡ length es = sym (length-map r.noted (λ (n : Noted). n.entry)) ∙ ap length r.same in
     omega (arith, few, same)
 
@@ -59,10 +59,10 @@ pub answers-of : (rows after next : ManagedReplay) (r : Reply) (hs : List ℕ) �
 answers-of rows after next r hs is = ap (λ z. answer r z) (ap (λ z. with_adopted z hs) (sym is) ∙ ap (λ z. with_adopted next z) (sym (append-nil hs)))
 
 -- an entry that sets no cell
-pub adds-lawful : {D : Type 0} (d : Drawing D) (before after : D) (es es' : List Entry) (rows next : ManagedReplay) (m : Made) (told : Told) (objects : List MNum)
-    → DrawsLast d before after es es' m None objects → managed_rules.target (side_of es rows).state m ≡ None → objects_freed told ≡ objects → GoesOn managed_rules (side_of es rows).state m told (side_of es' next).state
-    → AddsLawful managed_rules d before after (side_of es rows) (side_of es' next) m told
-adds-lawful d before after es es' rows next m told objects draws target freed goes = record { draws = rw (target, freed) draws; goes = goes }
+pub adds-lawful : {D : Type 0} (d : Drawing D) (before after : D) (threads : ℕ) (es es' : List Entry) (rows next : ManagedReplay) (m : Made) (told : Told) (objects : List MNum)
+    → DrawsLast d before after es es' m None objects → managed_rules.target (state_of es rows) m ≡ None → objects_freed told ≡ objects → GoesOn managed_rules (state_of es rows) m told (state_of es' next)
+    → AddsLawful managed_rules d before after (side_of threads es rows) (side_of threads es' next) m told
+adds-lawful d before after threads es es' rows next m told objects draws target freed goes = record { draws = rw (target, freed) draws; goes = goes; threads = refl }
 
 -- an open cycle, by the test
 pub cycle-there : (o : Option OpenCycle) → IsSome o → (c : OpenCycle) × (o ≡ Some c)
@@ -71,15 +71,15 @@ cycle-there (Some c) s = (c, refl)
 
 -- the cycle is closed
 pub abandon-goes : (es es' : List Entry) (rows next : ManagedReplay) (c : OpenCycle) (n index : ℕ) → rows.managed.cycle ≡ Some c → next ≡ record rows { managed = abandoned rows.managed } → es' ≡ es ++ numbered n (abandon_made c index) ∷ []
-    → GoesOn managed_rules (side_of es rows).state (abandon_made c index) nothing (side_of es' next).state
+    → GoesOn managed_rules (state_of es rows) (abandon_made c index) nothing (state_of es' next)
 abandon-goes es es' rows next c n index opened is added =
     side-goes es es' rows next n (abandon_made c index) nothing (record { event = tt; side = refl }) (c, (opened, refl)) added
     (λ hs. answers-of rows (record rows { managed = abandoned rows.managed }) next says.Ok hs is)
 
 -- the cycle's contraction is made
-pub contract-goes : (es es' : List Entry) (rows next : ManagedReplay) (c : OpenCycle) (n index sccs xrefs : ℕ) (comps : List (List ℕ)) (pairs : List (ℕ × ℕ)) → IsContractedBy (side_of es rows).state c sccs xrefs comps pairs
+pub contract-goes : (es es' : List Entry) (rows next : ManagedReplay) (c : OpenCycle) (n index sccs xrefs : ℕ) (comps : List (List ℕ)) (pairs : List (ℕ × ℕ)) → IsContractedBy (state_of es rows) c sccs xrefs comps pairs
     → next ≡ record rows { contracted = true } → es' ≡ es ++ numbered n (contract_made c index sccs xrefs) ∷ []
-    → GoesOn managed_rules (side_of es rows).state (contract_made c index sccs xrefs) (contraction_of comps pairs) (side_of es' next).state
+    → GoesOn managed_rules (state_of es rows) (contract_made c index sccs xrefs) (contraction_of comps pairs) (state_of es' next)
 contract-goes es es' rows next c n index sccs xrefs comps pairs by is added =
     side-goes es es' rows next n (contract_made c index sccs xrefs) (contraction_of comps pairs) (record { event = tt; side = refl }) by.may added
     (λ hs. ap (λ z. answer z (with_adopted (record rows { contracted = true }) hs)) (rw (by.components, by.references) refl) ∙ answers-of rows (record rows { contracted = true }) next (says.Sccs sccs xrefs) hs is)
@@ -87,7 +87,7 @@ contract-goes es es' rows next c n index sccs xrefs comps pairs by is added =
 -- the cycle is resolved
 pub resolve-goes : (es es' : List Entry) (rows next : ManagedReplay) (n index cites number first kept : ℕ) (alive : List Bool) (freed : List ℕ) → (t : TakesResolution rows next alive freed number first kept) → length alive ≡ length t.cycle.candidates
     → es' ≡ es ++ numbered n (resolve_made rows.managed t.cycle index freed cites) ∷ []
-    → GoesOn managed_rules (side_of es rows).state (resolve_made rows.managed t.cycle index freed cites) (resolution_of (answers_of alive) freed) (side_of es' next).state
+    → GoesOn managed_rules (state_of es rows) (resolve_made rows.managed t.cycle index freed cites) (resolution_of (answers_of alive) freed) (state_of es' next)
 resolve-goes es es' rows next n index cites number first kept alive freed t one_each added =
     side-goes es es' rows next n (resolve_made rows.managed t.cycle index freed cites) (resolution_of (answers_of alive) freed) (record { event = tt; side = refl })
     (record { cycle = t.cycle; open_cycle = (t.opened, refl); answers = length-map alive answer_of ∙ one_each; resolution = t.resolution }) added

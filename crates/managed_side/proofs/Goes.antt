@@ -25,7 +25,7 @@ use Rattle.joint_model.specs.Sides.{GoesOn, IsOfSide, IsReplayed, managed_rules,
 use Rattle.joint_model.specs.Told.{Told, nothing}
 use Rattle.joint_model.proofs.SideLists.{IsReplayed-push}
 use Rattle.managed_side.specs.Rows.{AreKept, with_adopted}
-use Rattle.managed_side.specs.Sides.{side_of, HasRoom, owed_by}
+use Rattle.managed_side.specs.Sides.{HasRoom, owed_by, state_of}
 use Rattle.managed_side.specs.Steps.{IsStepBy, IsLineBy, IsManagedStep, IsFresh, step_made, take_op, adopted_by, adopted_in}
 use Rattle.managed_side.proofs.Kept.{kept-side}
 
@@ -76,11 +76,11 @@ pub adopted_in-push : (es : List Entry) (k : ℕ) (m : Made) → adopted_in (es 
 adopted_in-push es k m = flat_map-append (λ (e : Entry). adopted_by e.made.op e.made.reply) es (numbered k m ∷ []) ∙ ap (λ z. adopted_in es ++ z) (append-nil (adopted_by m.op m.reply))
 
 -- from a side to the side with one entry more
-pub side-goes : (es es' : List Entry) (rows next : ManagedReplay) (k : ℕ) (m : Made) (told : Told) → IsOfSide false m → ManagedAllows (side_of es rows).state m.op told → es' ≡ es ++ numbered k m ∷ []
+pub side-goes : (es es' : List Entry) (rows next : ManagedReplay) (k : ℕ) (m : Made) (told : Told) → IsOfSide false m → ManagedAllows (state_of es rows) m.op told → es' ≡ es ++ numbered k m ∷ []
     → ((hs : List ℕ) → managed_answer (with_adopted rows hs) m.caller m.op told ≡ answer m.reply (with_adopted next (hs ++ adopted_by m.op m.reply)))
-    → GoesOn managed_rules (side_of es rows).state m told (side_of es' next).state
+    → GoesOn managed_rules (state_of es rows) m told (state_of es' next)
 side-goes es es' rows next k m told of allowed added answers =
-    goes-answered (side_of es rows).state (side_of es' next).state m told of allowed
+    goes-answered (state_of es rows) (state_of es' next) m told of allowed
     (answers (adopted_in es) ∙ ap (λ z. answer m.reply (with_adopted next z)) (sym (ap adopted_in added ∙ adopted_in-push es k m)))
 
 -- a number that isn't below the floor lies above each number of the list
@@ -89,12 +89,12 @@ above-all es floor k b l = All-weaker (λ e. e.number < floor) (λ e. e.number <
 
 -- the side with one entry more is the replay of its entries
 pub side-replayed : (es es' : List Entry) (rows next : ManagedReplay) (k floor : ℕ) (m : Made) (told : Told) → AllBelow es floor → floor ≤ k → es' ≡ es ++ numbered k m ∷ []
-    → GoesOn managed_rules (side_of es rows).state m told (side_of es' next).state → IsReplayed managed_rules (side_of es rows) → IsReplayed managed_rules (side_of es' next)
-side-replayed es es' rows next k floor m told below above added goes r = IsReplayed-push managed_rules (side_of es rows) (side_of es' next) k m told (above-all es floor k below above) added goes r
+    → GoesOn managed_rules (state_of es rows) m told (state_of es' next) → IsReplayed managed_rules es (state_of es rows) → IsReplayed managed_rules es' (state_of es' next)
+side-replayed es es' rows next k floor m told below above added goes r = IsReplayed-push managed_rules es es' (state_of es rows) (state_of es' next) k m told (above-all es floor k below above) added goes r
 
 -- the rows of a side are those of a lawful list
-pub kept-rows : (es : List Entry) (rows : ManagedReplay) → IsReplayed managed_rules (side_of es rows) → AreKept rows
-kept-rows es rows r = (adopted_in es, kept-side (side_of es rows) r)
+pub kept-rows : (es : List Entry) (rows : ManagedReplay) → IsReplayed managed_rules es (state_of es rows) → AreKept rows
+kept-rows es rows r = (adopted_in es, kept-side es (state_of es rows) r)
 
 -- two places are as many as an open cycle owes
 pub HasRoom-two : (s : ManagedReplay) (spare : ℕ) → 2 ≤ spare → HasRoom s spare

@@ -13,7 +13,8 @@ use Rattle.joint_model.specs.declared.names.PNum.{PNum}
 use Rattle.joint_model.specs.ManagedReplay.{registered}
 use Rattle.instance_registry.specs.Pairs.{twin_in}
 use Rattle.managed_side.specs.Rows.{pairs_of, number_or_none}
-use Rattle.joint_model.specs.Sides.{Side, LeadsTo, IsReplayed, managed_rules}
+use Rattle.joint_model.specs.declared.events.Entry.{Entry}
+use Rattle.joint_model.specs.Sides.{LeadsTo, IsReplayed, managed_rules}
 use Rattle.joint_model.specs.ManagedReplay.{ManagedReplay, opening_replay, managed_answer}
 use Rattle.joint_model.specs.Told.{Noted}
 use Rattle.joint_laws.specs.ManagedInvariants.{IsReplayKept}
@@ -24,8 +25,8 @@ kept-leads : (s : ManagedReplay) (ns : List Noted) (t : ManagedReplay) → Leads
 kept-leads s [] t e k = subst IsReplayKept (sym e) k
 kept-leads s (n ∷ ns) t l k = kept-leads (managed_answer s n.entry.made.caller n.entry.made.op n.told).state ns t l.1 (IsReplayKept-step s n.entry.made.caller n.entry.made.op n.told k l.0.1.allowed)
 
-pub kept-side : (s : Side ManagedReplay) → IsReplayed managed_rules s → IsReplayKept s.state
-kept-side s r = kept-leads opening_replay r.noted s.state r.leads IsReplayKept-opening
+pub kept-side : (es : List Entry) (s : ManagedReplay) → IsReplayed managed_rules es s → IsReplayKept s
+kept-side es s r = kept-leads opening_replay r.noted s r.leads IsReplayKept-opening
 
 pub gone-is : (h : Heap) (x : ℕ) (b : Bool) → IsMade h x → (IsTrue b ↔ IsLive h x) → not b ≡ is_freed h x
 gone-is h x true made live = sym (is_freed-live h x (live.0 refl))

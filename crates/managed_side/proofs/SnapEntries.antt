@@ -9,14 +9,14 @@ use Rattle.joint_model.specs.Sides.{GoesOn, managed_rules}
 use Rattle.joint_model.specs.Told.{snap_of}
 use Rattle.bridge_graph.specs.Parts.{Part}
 use Rattle.managed_side.specs.Openings.{snap_made}
-use Rattle.managed_side.specs.Sides.{side_of}
+use Rattle.managed_side.specs.Sides.{state_of}
 use Rattle.managed_side.specs.Snapping.{TakesSnapshot}
 use Rattle.managed_side.proofs.Driving.{answers-of}
 use Rattle.managed_side.proofs.Goes.{side-goes}
 
 pub snap-goes : (es es' : List Entry) (rows next : ManagedReplay) (n index number first count : ℕ) (freed : List ℕ) (graph : Part) → (t : TakesSnapshot rows next freed number first count graph)
     → es' ≡ es ++ numbered n (snap_made rows.managed index freed t.candidates) ∷ []
-    → GoesOn managed_rules (side_of es rows).state (snap_made rows.managed index freed t.candidates) (snap_of freed t.candidates t.dead) (side_of es' next).state
+    → GoesOn managed_rules (state_of es rows) (snap_made rows.managed index freed t.candidates) (snap_of freed t.candidates t.dead) (state_of es' next)
 snap-goes es es' rows next n index number first count freed graph t added =
     side-goes es es' rows next n (snap_made rows.managed index freed t.candidates) (snap_of freed t.candidates t.dead) (record { event = tt; side = refl })
     (subst (λ k. IsSnapshot rows.managed k freed t.candidates t.dead) t.snapshot.next t.snapshot) added

@@ -9,9 +9,13 @@ use Rattle.managed_side.specs.declared.side.TwinAnswer.TheVariants as twins
 use Rattle.managed_side.specs.Rows.{with_adopted}
 use Rattle.managed_side.specs.Steps.{adopted_in}
 
--- a side by its entries and its rows
-abbrev pub side_of : List Entry → ManagedReplay → Side ManagedReplay
-side_of entries rows = record { entries = entries; state = with_adopted rows (adopted_in entries) }
+-- the state that the entries and the rows show
+abbrev pub state_of : List Entry → ManagedReplay → ManagedReplay
+state_of entries rows = with_adopted rows (adopted_in entries)
+
+-- a side for so many managed threads, by its entries and its rows
+abbrev pub side_of : ℕ → List Entry → ManagedReplay → Side ManagedReplay
+side_of threads entries rows = record { threads = threads; entries = entries; state = state_of entries rows }
 
 -- how many entries an open cycle owes at most: the contraction's, unless it was made, and the one that closes the cycle
 abbrev pub owed_by : Bool → ℕ

@@ -9,7 +9,7 @@ ghost use Rattle.joint_model.specs.Run.{thread_number};
 ghost use Rattle.joint_model.specs.Histories.{managed_numbers};
 ghost use Rattle.joint_model.specs.Managed.{OpenCycle};
 ghost use Rattle.joint_model.specs.ManagedReplay.{MayRefuse, opening_replay, registered};
-ghost use Rattle.joint_model.specs.Sides.{AddsLawful, IsReplayed, MayDraw, managed_rules, object_or_none};
+ghost use Rattle.joint_model.specs.Sides.{AddsLawful, AreTaken, IsReplayed, MayDraw, managed_rules, object_or_none};
 ghost use Rattle.joint_model.specs.Told.{nothing, phase_of};
 ghost use Rattle.managed_side.specs.Sides.{twin_answer};
 ghost use Rattle.managed_side.specs.Steps.{CitesRightly, IsFresh, IsManagedStep, step_made, take_op};
@@ -22,24 +22,25 @@ use joint_model::{
 use std::alloc::{AllocError, Global};
 use std::marker::Model;
 
-/// The managed objects with the handles that they hold, the registry, the cells, pins and notices, and the entries that the side has made. While
-/// a cycle is open there is room for the entries that it still owes.
+/// The managed objects with the handles that they hold, the registry, the cells, pins and notices, and the entries that the side has made, each
+/// for the driver or for one of the managed threads for which the side is. While a cycle is open there is room for the entries that it still owes.
 #[derive(Drop)]
 pub struct ManagedSide {
+    threads: u8,
     pub(crate) rows: ManagedRows,
     pub(crate) entries: Entries,
 }
 
 impl Model for ManagedSide {
     ghost use Rattle.joint_model.specs.ManagedReplay.{ManagedReplay};
-    ghost use Rattle.joint_model.specs.Sides.{Side, IsReplayed, managed_rules};
-    ghost use Rattle.managed_side.specs.Sides.{side_of, HasRoom};
+    ghost use Rattle.joint_model.specs.Sides.{Side, AreTaken, IsReplayed, managed_rules};
+    ghost use Rattle.managed_side.specs.Sides.{side_of, state_of, HasRoom};
 
     ghost Value = { Side ManagedReplay };
 
-    ghost view = { λ s. side_of s.entries.entries s.rows };
+    ghost view = { λ s. side_of s.threads s.entries.entries s.rows };
 
-    ghost invariant = { λ s. IsReplayed managed_rules (side_of s.entries.entries s.rows) × HasRoom s.rows s.entries.spare };
+    ghost invariant = { λ s. IsReplayed managed_rules s.entries.entries (state_of s.entries.entries s.rows) × HasRoom s.rows s.entries.spare × AreTaken managed_rules s.threads s.entries.entries };
 }
 
 /// The lists that a side ends with: its entries, its freed objects and its notices.
@@ -62,23 +63,26 @@ pub enum TwinAnswer {
 }
 
 impl ManagedSide {
-    /// A side without objects and entries. `threads` is how many managed threads there are; the side has places for the variables of all eight.
-    /// Answers `AllocError` where there is no memory.
+    /// A side without objects and entries, for the first `threads` of the managed threads: it takes their events and the driver's, and no others.
+    /// It has places for the variables of all eight. Answers `AllocError` where there is no memory.
     pub fn new(alloc: Global, threads: u8) -> Result<ManagedSide, AllocError>
         requires { threads ≤ 8 }
+        ensures threads { IfOk result (λ s. s.threads ≡ threads) }
         ensures entries { IfOk result (λ s. s.entries ≡ []) }
         ensures state { IfOk result (λ s. s.state ≡ opening_replay) }
     {
-        let _ = threads;
         Ok(ManagedSide {
+            threads,
             rows: ManagedRows::new(alloc),
             entries: Entries::new(alloc),
         })
     }
 
-    /// What holds of every side, for the proofs of callers: its state is the replay of its entries. It does nothing.
+    /// What holds of every side, for the proofs of callers: its state is the replay of its entries, and each entry is the driver's or that of a thread
+    /// for which the side is. It does nothing.
     pub fn replays(&self)
-        ensures { IsReplayed managed_rules self.now }
+        ensures replayed { IsReplayed managed_rules self.now.entries self.now.state }
+        ensures taken { AreTaken managed_rules self.now.threads self.now.entries }
     {
         let _ = &self.entries;
     }
@@ -171,6 +175,13 @@ impl ManagedSide {
         };
         enter(&mut self.entries, draw, made, None, &[]);
         Ok(reply)
+    }
+
+    /// For how many managed threads the side is: the first so many.
+    pub fn threads(&self) -> u8
+        ensures { result ≡ self.now.threads }
+    {
+        self.threads
     }
 
     /// What the pin of a managed thread holds; None exactly where it is empty.

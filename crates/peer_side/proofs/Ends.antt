@@ -37,7 +37,7 @@ use Rattle.peer_side.specs.Marks.{IsExact}
 use Rattle.peer_side.specs.Rows.{Rows}
 use Rattle.peer_side.specs.Mirrors.{Mirrors, AreMirrored, marked_one, mirror_in, mirrors_begun, mirrors_in, owes}
 use Rattle.joint_model.specs.Peers.{Issued}
-use Rattle.peer_side.specs.Sides.{IsSide, IsFrom, IsKnown, begins, ends, brought_by, brought_since, marking_as, marking_in, mirror_state, state_with, side_with, owed, IsEnded, IsFaultAt, IsMarkingOf, MayEnd}
+use Rattle.peer_side.specs.Sides.{IsSide, IsFrom, IsKnown, begins, ends, brought_by, brought_since, marking_as, marking_in, mirror_state, state_with, owed, IsEnded, IsFaultAt, IsMarkingOf, MayEnd}
 use Rattle.peer_side.proofs.Opened.{begun_with, with_begun, with_swept, opened-state, opened-marks, closed-state, closed-sweep}
 use Rattle.peer_side.proofs.Quiet.{IsQuiet, known-next, mark-quiet, mirrored-still, not-grown, state-still}
 use Rattle.peer_side.proofs.Sides.{opened, marking-next, from-more}
@@ -96,7 +96,7 @@ pub IsSide-told : (old new : Rows) (o p : Option OpenMarking) (n k : ℕ) (m mm 
     → ((mk : Marking) → marking_in new.issued later.entries p ≡ Some mk → IsExact (state_with later.entries new p k mm) mk new.rows) → AreMirrored later.entries mm.mirror → All (IsKnown new.issued) later.entries → length mm.waiting + mm.room ≤ new.rows.room → length new.rows.refs ≤ 4294967295
     → IsSide old o n m stock → IsSide new p k mm later
 IsSide-told old new o p n k m mm stock later number floor made told added below above goes safe room limit count from exact mirrored known refs few side = record {
-  replayed = replayed-told (side_with stock.entries old o n m) (side_with later.entries new p k mm) number floor made told below above added goes side.replayed;
+  replayed = replayed-told stock.entries later.entries (state_with stock.entries old o n m) (state_with later.entries new p k mm) number floor made told below above added goes side.replayed;
   kept = kept-told (state_with stock.entries old o n m) (state_with later.entries new p k mm) made told goes safe side.kept;
   room = room;
   limit = limit;

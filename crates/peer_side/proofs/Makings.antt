@@ -16,7 +16,7 @@ use Rattle.joint_model.specs.Heaps.{answer}
 use Rattle.joint_model.specs.Lines.{IsPeerThread, IsDriver, is_peer_event}
 use Rattle.joint_model.specs.Peers.{Peers}
 use Rattle.joint_model.specs.PeerReplay.{PeerReplay, Marking, SweepAllows, begun, swept, swept_of, is_thread}
-use Rattle.joint_model.specs.Sides.{Side, Drawing, Making, GoesOn, MayDraw, AddsLawful, AddsInTurn, peer_rules}
+use Rattle.joint_model.specs.Sides.{Side, Drawing, Making, GoesOn, MayDraw, AddsLawful, AddsInTurn, TakesPeer, peer_rules}
 use Rattle.joint_model.specs.Told.{Told, nothing, sweep_of}
 use Rattle.joint_model.proofs.Deciding.{true_false}
 use Rattle.peer_side.specs.Makings.{RefusesMarking, collect_makings, gone_since}
@@ -61,6 +61,7 @@ begun-ended s t thread i j goes = subst (λ (z : PeerReplay). IsEnded z.marking 
 -- after an entry the caller may draw as before it
 pub draws-on : {D : Type 0} (d : Drawing D) (before after : D) (old new : Side PeerReplay) (m : Made) (told : Told) (t : Thread) (o : Op) → AddsLawful peer_rules d before after old new m told → is_peer_event t o ≡ true → MayDraw peer_rules d before old t o → MayDraw peer_rules d after new t o
 draws-on d before after old new m told t o adds peer may = record {
+  takes = subst (λ n. TakesPeer n t) (sym adds.threads) may.takes;
   below = adds.draws.below;
   room = adds.draws.room;
   bare = (adds.draws.may t o peer).0 may.bare;

@@ -35,7 +35,7 @@ use Rattle.peer_side.specs.Marks.{MarksNew, MarksBrought, MarksAfter, IsExact, m
 use Rattle.peer_side.specs.MirrorLaws.{HasGrown}
 use Rattle.peer_side.specs.Mirrors.{Mirrors, no_mirrors, owes}
 use Rattle.peer_side.specs.Rows.{Rows, AreTargetsLive, GoesBy, no_rows, with_rows, marking_by, marking_after}
-use Rattle.peer_side.specs.Sides.{IsSide, IsFrom, IsKnown, named_in, brought_at, brought_since, marking_as, marking_in, mirror_state, state_with, side_with, owed}
+use Rattle.peer_side.specs.Sides.{IsSide, IsFrom, IsKnown, named_in, brought_at, brought_since, marking_as, marking_in, mirror_state, state_with, owed}
 use Rattle.peer_side.specs.Steps.{IsPeerStep}
 use Rattle.peer_side.proofs.Grown.{issued-grows, room-after}
 use Rattle.peer_side.proofs.Marks.{marks-step}
@@ -189,7 +189,7 @@ IsSide-step old new o n m stock later k floor made added below above step allowe
     let still = step-quiet made.caller made.op step in
     let more = grown old new o n m stock later.entries e side added step goes marks in
     record {
-      replayed = replayed-told (side_with stock.entries old o n m) (side_with later.entries new o n m) k floor made nothing below above added on side.replayed;
+      replayed = replayed-told stock.entries later.entries (state_with stock.entries old o n m) (state_with later.entries new o n m) k floor made nothing below above added on side.replayed;
       kept = kept-step (state_with stock.entries old o n m) (state_with later.entries new o n m) made on side.kept;
       room = room;
       limit = limit;

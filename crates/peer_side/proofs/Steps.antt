@@ -18,7 +18,7 @@ use Rattle.joint_model.specs.Heaps.{Answered, answer, numbered_at}
 use Rattle.joint_model.specs.Lines.{IsEvent, is_peer_event, IsOneEvent}
 use Rattle.joint_model.specs.PeerReplay.{PeerReplay, PeerAllows, TableRow, peer_answer}
 use Rattle.joint_model.proofs.Deciding.{none_some}
-use Rattle.joint_model.specs.Sides.{Side, IsOfSide, GoesOn, IsReplayed, peer_rules}
+use Rattle.joint_model.specs.Sides.{IsOfSide, GoesOn, IsReplayed, peer_rules}
 use Rattle.joint_model.specs.Told.{Told, nothing}
 use Rattle.joint_model.proofs.SideLists.{IsReplayed-push}
 use Rattle.joint_laws.specs.PeerInvariants.{IsPeerKept}
@@ -149,8 +149,8 @@ pub goes-step : (s t : PeerReplay) (m : Made) → IsOfSide true m → PeerAllows
 goes-step s t m side allowed e = goes-told s t m nothing side allowed e
 
 -- the side stays the replay of its entries
-pub replayed-told : (old new : Side PeerReplay) (k floor : ℕ) (m : Made) (told : Told) → AllBelow old.entries floor → floor ≤ k → new.entries ≡ old.entries ++ numbered k m ∷ [] → GoesOn peer_rules old.state m told new.state → IsReplayed peer_rules old → IsReplayed peer_rules new
-replayed-told old new k floor m told below above added goes replayed = IsReplayed-push peer_rules old new k m told (AllBelow-more old.entries floor k above below) added goes replayed
+pub replayed-told : (es es' : List Entry) (old new : PeerReplay) (k floor : ℕ) (m : Made) (told : Told) → AllBelow es floor → floor ≤ k → es' ≡ es ++ numbered k m ∷ [] → GoesOn peer_rules old m told new → IsReplayed peer_rules es old → IsReplayed peer_rules es' new
+replayed-told es es' old new k floor m told below above added goes replayed = IsReplayed-push peer_rules es es' old new k m told (AllBelow-more es floor k above below) added goes replayed
 
 -- and its state is kept
 pub kept-told : (s t : PeerReplay) (m : Made) (told : Told) → GoesOn peer_rules s m told t → MirrorsSafely s m.op told → IsPeerKept s → IsPeerKept t

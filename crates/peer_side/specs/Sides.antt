@@ -1,4 +1,4 @@
--- The peer side, as its contracts see it: its entries, and the state of their replay. (This project's own.)
+-- The peer side, as its contracts see it: for how many threads it is, its entries, and the state of their replay. (This project's own.)
 use Rattle.std.specs.Prelude.{◌≡◌, ℕ, ◌+◌, ◌≤◌, ◌⊎◌, All, Bool, true, false, Contains, List, length, [], ◌∷◌, drop, flat_map, Option, Some, None}
 use Rattle.std.specs.Option.{option_map}
 use Rattle.joint_model.specs.declared.names.Marking.{Marking as Number}
@@ -61,19 +61,20 @@ reserve_begun false r = r
 abbrev pub no_reserve : Reserve
 no_reserve = record { waiting = []; refs = 0; next = None; left = 0; marking = false }
 
--- what is seen of the peer side: its entries, the state of their replay, and beside these what is reserved
+-- what is seen of the peer side: for how many peer threads it is, its entries, the state of their replay, and beside these what is reserved
 pub record PeerModel : Type 0 where
+  pub threads : ℕ
   pub entries : List Entry
   pub state : PeerReplay
   pub reserve : Reserve
 
--- the entries and the state
+-- what both sides show
 abbrev pub seen : PeerModel → Side PeerReplay
-seen m = record { entries = m.entries; state = m.state }
+seen m = record { threads = m.threads; entries = m.entries; state = m.state }
 
--- nothing was made
-abbrev pub opening_side : PeerModel
-opening_side = record { entries = []; state = opening_peer_replay; reserve = no_reserve }
+-- a side for so many threads, on which nothing was made
+abbrev pub opening_side : ℕ → PeerModel
+opening_side threads = record { threads = threads; entries = []; state = opening_peer_replay; reserve = no_reserve }
 
 -- the peer that a reply names
 abbrev pub named_in : Reply → List ℕ
@@ -127,12 +128,9 @@ mirror_state es m = record opening_peer_replay { mirror = mirror_in es m.mirror;
 abbrev pub state_with : List Entry → Rows → Option OpenMarking → ℕ → Mirrors → PeerReplay
 state_with es rows o markings m = record (with_rows (mirror_state es m) rows) { refs = rows.rows.refs; marking = marking_in rows.issued es o; markings = markings }
 
--- the entries, and the state
-abbrev pub side_with : List Entry → Rows → Option OpenMarking → ℕ → Mirrors → Side PeerReplay
-side_with es rows o markings m = record { entries = es; state = state_with es rows o markings m }
-
-abbrev pub model_with : List Entry → Rows → Option OpenMarking → ℕ → Mirrors → PeerModel
-model_with es rows o markings m = record { entries = es; state = state_with es rows o markings m; reserve = reserve_of m }
+-- the side that they show
+abbrev pub model_with : ℕ → List Entry → Rows → Option OpenMarking → ℕ → Mirrors → PeerModel
+model_with threads es rows o markings m = record { threads = threads; entries = es; state = state_with es rows o markings m; reserve = reserve_of m }
 
 -- the handle that an entry restores was issued
 abbrev pub IsKnown : List Issued → Entry → Type 0
@@ -181,7 +179,7 @@ IsMarkingOf _ _ = ⊥
 -- for the sweep of an open marking, and for what mirrored cycles owe; each marking has an entry; the marks of an open marking are exact; the
 -- entries have what is told of a mirrored cycle, and name handles that were issued; and there is room for the references that wait
 pub record IsSide (rows : Rows) (o : Option OpenMarking) (markings : ℕ) (m : Mirrors) (stock : Stock) : Type 0 where
-  pub replayed : IsReplayed peer_rules (side_with stock.entries rows o markings m)
+  pub replayed : IsReplayed peer_rules stock.entries (state_with stock.entries rows o markings m)
   pub kept : IsPeerKept (state_with stock.entries rows o markings m)
   pub room : rows.tabled + owed o + owes m ≤ stock.spare
   pub limit : length stock.entries + stock.spare ≤ 4294967295

@@ -1,7 +1,8 @@
 // The peer side of the bridge: the other collector's heap, with its variables, statics and global names, and the table of handles by which
 // managed objects name its peers.
 //
-// The life of a side. `PeerSide::new` makes one without peers. Events of a peer thread, and those that a managed thread makes here, come to `step`.
+// The life of a side. `PeerSide::new` makes one without peers, for the first so many peer threads: of peer threads it takes the events of these alone.
+// Events of a peer thread, and those that a managed thread makes here, come to `step`.
 // `mark_begin` and `sweep` begin and end a marking. A cycle's calls are `reserve_refs`, `push_ref`, `stand`, `weaken`, `restore` and `clear_refs`; after
 // the first none takes memory. At the end `into_lists` gives the entries and the freed peers.
 //

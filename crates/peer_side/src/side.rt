@@ -7,7 +7,7 @@ ghost use Rattle.joint_model.specs.Draws.{AllBelow};
 ghost use Rattle.joint_model.specs.Histories.{peer_numbers};
 ghost use Rattle.joint_model.specs.Lines.{IsDriver, IsPeerThread};
 ghost use Rattle.joint_model.specs.PeerReplay.{PeerAllows, row_of, table_target};
-ghost use Rattle.joint_model.specs.Sides.{peer_rules, MayDraw, AddsInTurn, AddsLawful, IsReplayed};
+ghost use Rattle.joint_model.specs.Sides.{peer_rules, MayDraw, AddsInTurn, AddsLawful, AreTaken, IsReplayed};
 ghost use Rattle.joint_model.specs.Told.{nothing, sweep_of};
 ghost use Rattle.joint_laws.specs.PeerInvariants.{IsPeerKept};
 ghost use Rattle.global_handles.specs.Rows.{row_in, target_in};
@@ -59,9 +59,11 @@ pub(crate) struct OpenMarking {
     pub(crate) begin: Snapshot<PeerRows>,
 }
 
-/// The peers, their slots and names, the handles on them, the open marking, and the entries of what was done.
+/// The peers, their slots and names, the handles on them, the open marking, and the entries of what was done, each for the driver, for a managed
+/// thread or for one of the peer threads for which the side is.
 #[derive(Drop)]
 pub struct PeerSide {
+    threads: u8,
     pub(crate) rows: PeerRows,
     pub(crate) marking: Option<OpenMarking>,
     markings: u32,
@@ -70,24 +72,25 @@ pub struct PeerSide {
 }
 
 impl Model for PeerSide {
+    ghost use Rattle.joint_model.specs.Sides.{AreTaken, peer_rules};
     ghost use Rattle.peer_side.specs.Sides.{PeerModel, model_with, IsSide};
 
     ghost Value = { PeerModel };
 
-    ghost view = { λ s. model_with s.entries.entries s.rows s.marking s.markings s.mirroring };
+    ghost view = { λ s. model_with s.threads s.entries.entries s.rows s.marking s.markings s.mirroring };
 
-    ghost invariant = { λ s. IsSide s.rows s.marking s.markings s.mirroring s.entries };
+    ghost invariant = { λ s. IsSide s.rows s.marking s.markings s.mirroring s.entries × AreTaken peer_rules s.threads s.entries.entries };
 }
 
 impl PeerSide {
-    /// A side on which nothing was made, for so many peer threads, at most 8. There are places for the variables of all eight, and no memory
-    /// is taken.
+    /// A side on which nothing was made, for the first `threads` of the peer threads, at most 8: of peer threads it takes the events of these alone.
+    /// There are places for the variables of all eight, and no memory is taken.
     pub fn new(alloc: Global, threads: u8) -> Result<PeerSide, AllocError>
         requires { threads ≤ 8 }
-        ensures { IfOk result (λ s. s ≡ opening_side) }
+        ensures { IfOk result (λ s. s ≡ opening_side threads) }
     {
-        let _ = threads;
         Ok(PeerSide {
+            threads,
             rows: PeerRows::new(alloc),
             marking: None,
             markings: 0,
@@ -96,13 +99,21 @@ impl PeerSide {
         })
     }
 
-    /// What holds of every side, for the proofs of callers: it is the replay of its entries, in a state as lawful lists lead to. It does
-    /// nothing.
+    /// What holds of every side, for the proofs of callers: it is the replay of its entries, in a state as lawful lists lead to, and no entry is that
+    /// of a peer thread for which the side isn't. It does nothing.
     pub fn replays(&self)
-        ensures replayed { IsReplayed peer_rules (seen self.now) }
+        ensures replayed { IsReplayed peer_rules self.now.entries self.now.state }
+        ensures taken { AreTaken peer_rules self.now.threads self.now.entries }
         ensures kept { IsPeerKept self.now.state }
     {
         let _ = &self.entries;
+    }
+
+    /// For how many peer threads the side is: the first so many.
+    pub fn threads(&self) -> u8
+        ensures { result ≡ self.now.threads }
+    {
+        self.threads
     }
 
     /// Makes what one operation stands for: a line of a peer thread, a managed thread's make, land, grip or release, or a begin or a sweep.

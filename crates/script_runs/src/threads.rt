@@ -66,6 +66,7 @@ fn run_named<N: OrderName + Send + Sync, R: Threads + Wait + Sync, T: Turnstile 
     turn: &T,
 ) -> Result<History, AllocError>
     requires order { order ≡ N.order }
+    requires run { (N.managed ≡ 8) × (N.peers ≡ 8) }
     requires seat { (seat.order ≡ N.order) × OwnsAll seat.view × KnowsNothing seat.view }
     requires lines { CanRun script.now }
     ensures { IfOk result (IsRunByThreads script.now) }

@@ -22,14 +22,14 @@ use Rattle.peer_mirror.specs.Carried.{carried_to_peers, reserve_installed, AreBr
 use Rattle.peer_side.specs.Cycles.{clears, mirrors, restores, weakens, reserve_left, reserve_over}
 use Rattle.peer_side.specs.Mirroring.{strong_row}
 use Rattle.peer_side.specs.Mirrors.{AreTargetsRestored, HasRestoredHandle}
-use Rattle.peer_side.specs.Sides.{PeerModel, Reserve, seen, opening_side}
+use Rattle.peer_side.specs.Sides.{PeerModel, Reserve, no_reserve, seen}
 use Rattle.side_tests.specs.Drives.{IsCounted}
 use Rattle.side_tests.specs.Circles.{IsCircle, circle, nodes, one, two, two_issued, up_to, with_pair}
 use Rattle.side_tests.proofs.Counting.{counting, counted-once, counted-in-turn}
 use Rattle.side_tests.proofs.Moves.{StaysAlike, restored}
 
 -- two peers were made
-pub circle-first : (m : PeerModel) (count : ℕ) → IsCounted (seen m) count → m.state ≡ with_pair (with_pair opening_peer_replay) → m.reserve ≡ opening_side.reserve → IsCircle m count false false 0 0
+pub circle-first : (m : PeerModel) (count : ℕ) → IsCounted (seen m) count → m.state ≡ with_pair (with_pair opening_peer_replay) → m.reserve ≡ no_reserve → IsCircle m count false false 0 0
 unfolding with_pair
 circle-first m count k e r = record {
   counted = k;
@@ -115,7 +115,7 @@ pub circle-stands : (old new : PeerModel) (before after : ℕ) (standing : Bool)
     → AddsLawful peer_rules counting before after (seen old) (seen new) (mirrors index (record { 0 = 1 }) refs 0) (references_of (carried_to_peers old.state.peers.issued ns (mirror_edges cs ps)))
     → new.reserve ≡ reserve_installed (length (handles_of ns)) → IsCircle old before false standing w b → IsCircle new after true true 0 0
 circle-stands old new before after standing w b index refs ns cs ps is_nodes is_circle is_none a r c = record {
-  counted = counted-once peer_rules (seen old) (seen new) before after _ _ a;
+  counted = counted-once peer_rules (seen old) (seen new) before after _ _ a c.counted;
   issued = ap (λ (s : PeerReplay). s.peers.issued) a.goes.state ∙ c.issued;
   mirror = ap (λ (s : PeerReplay). s.mirror) a.goes.state;
   mirrors = ap (λ (s : PeerReplay). s.mirrors) a.goes.state ∙ ap (λ ks. ks ++ 1 ∷ []) c.mirrors;
@@ -151,7 +151,7 @@ circle-stood m count mirrored standing w b e c = subst (λ z. IsCircle m count m
 pub circle-weakened : (old new : PeerModel) (before after : ℕ) (mirrored : Bool) (w b h index : ℕ) → h ≡ w + 1 → h ≤ 2
     → AddsLawful peer_rules counting before after (seen old) (seen new) (weakens index (record { 0 = h }) 0) nothing → new.reserve ≡ reserve_left old.reserve → IsCircle old before mirrored true w b → IsCircle new after mirrored true h b
 circle-weakened old new before after mirrored w b h index is few a r c = record {
-  counted = counted-once peer_rules (seen old) (seen new) before after _ _ a;
+  counted = counted-once peer_rules (seen old) (seen new) before after _ _ a c.counted;
   issued = ap (λ (s : PeerReplay). s.peers.issued) a.goes.state ∙ c.issued;
   mirror = ap (λ (s : PeerReplay). s.mirror) a.goes.state ∙ (rw (c.mirror, is) (ap (λ z. Some (let m : Mirror = record { cycle = 1; snap = 0; weakened = z; restored = up_to b } in m)) (sym (up-more w))));
   mirrors = ap (λ (s : PeerReplay). s.mirrors) a.goes.state ∙ c.mirrors;
@@ -196,7 +196,7 @@ pub circle-restored : (old new : PeerModel) (before after : ℕ) (mirrored : Boo
     → AddsLawful peer_rules counting before after (seen old) (seen new) (restores index (record { 0 = h }) back) nothing → new.reserve ≡ old.reserve → IsCircle old before mirrored true w b → IsCircle new after mirrored true w h
 circle-restored old new before after mirrored w b h index back is few a r c =
     let t = restored old.state h a.goes.lawful.1.allowed in record {
-      counted = counted-once peer_rules (seen old) (seen new) before after _ _ a;
+      counted = counted-once peer_rules (seen old) (seen new) before after _ _ a c.counted;
       issued = ap (λ (s : PeerReplay). s.peers.issued) a.goes.state ∙ (t.issued ∙ c.issued);
       mirror = ap (λ (s : PeerReplay). s.mirror) a.goes.state ∙ (t.mirror ∙ (rw (c.mirror, is) (ap (λ z. Some (let m : Mirror = record { cycle = 1; snap = 0; weakened = up_to w; restored = z } in m)) (sym (up-more b)))));
       mirrors = ap (λ (s : PeerReplay). s.mirrors) a.goes.state ∙ (t.mirrors ∙ c.mirrors);
@@ -306,7 +306,7 @@ targets-are m count mirrored w c a b x is p q r =
 pub circle-cleared : (old new : PeerModel) (before after : ℕ) (mirrored : Bool) (w b index : ℕ)
     → AddsLawful peer_rules counting before after (seen old) (seen new) (clears index (record { 0 = 1 })) nothing → new.reserve ≡ reserve_over old.reserve → IsCircle old before mirrored true w b → IsCircle new after mirrored false w b
 circle-cleared old new before after mirrored w b index a r c = record {
-  counted = counted-once peer_rules (seen old) (seen new) before after _ _ a;
+  counted = counted-once peer_rules (seen old) (seen new) before after _ _ a c.counted;
   issued = ap (λ (s : PeerReplay). s.peers.issued) a.goes.state ∙ c.issued;
   mirror = ap (λ (s : PeerReplay). s.mirror) a.goes.state;
   mirrors = ap (λ (s : PeerReplay). s.mirrors) a.goes.state ∙ c.mirrors;

@@ -3,6 +3,9 @@ use Rattle.std.proofs.Common.{◌≡◌, ℕ, ◌+◌, ◌<◌, ◌⊎◌, inl, 
 use Rattle.std.specs.Prelude.{Contains}
 use Rattle.std.proofs.lemmas.List.Elements.{Contains-push_cases}
 use Rattle.joint_model.specs.declared.names.Thread.{Thread}
+use Rattle.joint_model.specs.declared.names.Thread.TheVariants.{M}
+use Rattle.joint_model.specs.declared.lines.Act.{Act}
+use Rattle.joint_model.specs.declared.lines.Act.TheVariants as act
 use Rattle.joint_model.specs.declared.events.Made.{Made}
 use Rattle.joint_model.specs.declared.events.Op.{Op}
 use Rattle.joint_model.specs.declared.events.Op.TheVariants as op
@@ -10,16 +13,17 @@ use Rattle.joint_model.specs.declared.events.Reply.{Reply}
 use Rattle.joint_model.specs.declared.events.Reply.TheVariants as says
 use Rattle.joint_model.specs.Draws.{numbered}
 use Rattle.joint_model.specs.Heaps.{Answered, place, slot}
+use Rattle.joint_model.specs.Lines.{IsManagedThread}
 use Rattle.joint_model.specs.Managed.{Managed, OpenCycle, adopted, met, given_up}
 use Rattle.joint_model.specs.ManagedReplay.{ManagedReplay, managed_answer, adopt_by, meet_by, give_by, registered}
 use Rattle.joint_model.specs.Run.{thread_number}
-use Rattle.joint_model.specs.Sides.{Side, AddsLawful, managed_rules}
+use Rattle.joint_model.specs.Sides.{Side, AddsLawful, TakesManaged, managed_rules}
 use Rattle.joint_model.specs.Told.{Told, nothing}
 use Rattle.joint_model.proofs.HeapLemmas.{adopt_by-managed}
 use Rattle.joint_laws.specs.ManagedInvariants.{IsReplayKept}
 use Rattle.joint_laws.proofs.ManagedMoves.{managed_line-goes_on, adopted-goes_on, met-goes_on, given_up-goes_on}
 use Rattle.joint_laws.proofs.ManagedSteps.{meet_by-managed, give_by-managed, twin-live}
-use Rattle.managed_side.specs.Steps.{IsFresh, IsStepBy}
+use Rattle.managed_side.specs.Steps.{IsFresh, IsLineBy, IsManagedStep, IsStepBy}
 use Rattle.side_tests.specs.Drives.{IsDriven, NamesNext}
 use Rattle.side_tests.proofs.Counting.{counting, counted-once}
 
@@ -36,7 +40,7 @@ pub driven-on : (old new : Side ManagedReplay) (before after waiting waits : ℕ
     → AdoptsNext old.state (managed_answer old.state m.caller m.op told).state (length old.entries) → HasWaiting (managed_answer old.state m.caller m.op told).state.managed.cycle waits → IsDriven old before waiting → IsDriven new after waits
 driven-on old new before after waiting waits m told a named left d =
     let longer : length new.entries ≡ length old.entries + 1 = ap length a.draws.adds.added ∙ length-append old.entries (numbered a.draws.adds.number m ∷ []) in record {
-      counted = counted-once managed_rules old new before after m told a;
+      counted = counted-once managed_rules old new before after m told a d.counted;
       adopts = λ h c. elim (named h (subst (λ (z : ManagedReplay). Contains z.adopted h) a.goes.state c)) [
         | inl o ↦ (let l = d.adopts h o in omega (arith, l, longer))
         | inr e ↦ omega (arith, e, longer)
@@ -96,3 +100,21 @@ step-cycle s t _ k b = absurd b
 pub driven-still : (old new : Side ManagedReplay) (before after waiting : ℕ) (m : Made) (told : Told) → AddsLawful managed_rules counting before after old new m told
     → AdoptsNext old.state (managed_answer old.state m.caller m.op told).state (length old.entries) → (managed_answer old.state m.caller m.op told).state.managed.cycle ≡ old.state.managed.cycle → IsDriven old before waiting → IsDriven new after waiting
 driven-still old new before after waiting m told a named same d = driven-on old new before after waiting waiting m told a named (λ c o. d.waits c (sym same ∙ o)) d
+
+-- a side for all eight threads takes each step
+pub thread-taken : (t : Thread) → IsManagedThread t → TakesManaged 8 t
+thread-taken (M i) s = s.1
+thread-taken t s = tt
+
+line-taken : (t : Thread) (a : Act) → IsLineBy t a → TakesManaged 8 t
+line-taken (M i) (act.Finalise n) s = absurd s
+line-taken t (act.Finalise n) s = tt
+line-taken t _ s = thread-taken t s.0
+
+pub managed-taken : (t : Thread) (o : Op) → IsManagedStep t o → TakesManaged 8 t
+managed-taken t (op.Line a) s = line-taken t a s.1
+managed-taken t (op.Lend v x) s = thread-taken t s.1
+managed-taken t (op.Adopt v kind n p h) s = thread-taken t s.1
+managed-taken t (op.Meet v p h sort n) s = thread-taken t s.1
+managed-taken t (op.Give v) s = thread-taken t s.1
+managed-taken t _ s = absurd s.1

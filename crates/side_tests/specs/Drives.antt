@@ -7,9 +7,9 @@ use Rattle.joint_model.specs.Managed.{OpenCycle}
 use Rattle.joint_model.specs.ManagedReplay.{ManagedReplay}
 use Rattle.joint_model.specs.Sides.{Side}
 
--- each entry's number is below the count, and the count has room for a full list
+-- each entry's number is below the count, and the count has room for a full list; and the side is for all eight threads
 abbrev pub IsCounted : {S : Type 0} → Side S → ℕ → Type 0
-IsCounted s count = AllBelow s.entries count × (4294967295 ≤ 2 ^ 63 - count + length s.entries)
+IsCounted s count = AllBelow s.entries count × (4294967295 ≤ 2 ^ 63 - count + length s.entries) × (s.threads ≡ 8)
 
 -- beside it each handle that the managed side adopted is below the number of its entries, and an open cycle has so many candidates
 pub record IsDriven (s : Side ManagedReplay) (count waiting : ℕ) : Type 0 where

@@ -138,7 +138,7 @@ fn begin(side: &mut PeerSide, draw: &mut Counter, gripped: bool) -> Result<(), A
 // otherwise than it says; None where all are answered so.
 fn play(alloc: Global, gripped: bool, rows: &[Row]) -> Result<Option<usize>, AllocError> {
     let managed = managed::start(alloc)?;
-    let mut side = PeerSide::new(alloc, 1)?;
+    let mut side = PeerSide::new(alloc, 8)?;
     let mut draw = Counter::new();
     begin(&mut side, &mut draw, gripped)?;
     let mut driven = Driven {

@@ -328,7 +328,7 @@ fn one_component(alloc: Global) -> Result<Components, AllocError>
 
 // A side with both peers.
 fn start(alloc: Global) -> Result<Driven, AllocError> {
-    let mut side = PeerSide::new(alloc, 1)?;
+    let mut side = PeerSide::new(alloc, 8)?;
     let mut draw = Counter::new();
     make(&mut side, &mut draw)?;
     make(&mut side, &mut draw)?;

@@ -1,14 +1,19 @@
 -- Each side's list passes its own side's test, entry by entry, so each entry may come when it comes.
 use Rattle.std.proofs.Common.{◌≡◌, Bool, true, false, ◌&&◌, not, List, [], ◌∷◌, map, refl, sym}
+use Rattle.std.specs.List.{list_all}
+use Rattle.std.specs.Prelude.{ℕ, nat_le}
+use Rattle.joint_model.specs.declared.names.Thread.{Thread}
+use Rattle.joint_model.specs.declared.names.Thread.TheVariants.{M, P, C}
+use Rattle.joint_model.specs.declared.events.Entry.{Entry}
 use Rattle.joint_model.specs.declared.events.Made.{Made}
 use Rattle.joint_model.specs.Lines.{is_peer_event}
 use Rattle.joint_model.specs.ManagedReplay.{ManagedReplay, opening_replay}
 use Rattle.joint_model.specs.PeerReplay.{PeerReplay, peer_answer}
-use Rattle.joint_model.specs.Sides.{SideRules, IsOfSide, managed_rules, peer_rules, LeadsTo, IsReplayed}
+use Rattle.joint_model.specs.Sides.{SideRules, IsOfSide, TakesManaged, TakesPeer, managed_rules, peer_rules, LeadsTo}
 use Rattle.joint_model.specs.Told.{Told, Noted}
 use Rattle.history_tests.specs.Histories.{managed_lawful, peer_lawful}
 use Rattle.history_tests.specs.Lines.{is_event}
-use Rattle.history_tests.proofs.Telling.{Tells, always, and2, like, refuted}
+use Rattle.history_tests.proofs.Telling.{Tells, all, always, and2, like, refuted, upto}
 use Rattle.history_tests.proofs.HistoryTests.{managed_side}
 use Rattle.history_tests.proofs.LineTests.{tells_event}
 use Rattle.history_tests.proofs.ReplyTests.{replies}
@@ -16,7 +21,7 @@ use Rattle.history_tests.proofs.SideTests.{peer}
 use Rattle.history_tests.specs.Lists.{rises}
 use Rattle.history_tests.proofs.Reaching.{rising}
 use Rattle.worked_histories.specs.OneObject.{one_object}
-use Rattle.worked_histories.specs.SideLists.{managed_notes, peer_notes, state_after, side_by, adopted_twice, OneObjectSidesHold}
+use Rattle.worked_histories.specs.SideLists.{managed_notes, peer_notes, state_after, AreTakenFor, IsReplayedBy, adopted_twice, OneObjectSidesHold}
 
 -- each entry of the list passes a test
 abbrev leads_by : {S : Type 0} → SideRules S → (S → Made → Told → Bool) → S → List Noted → Bool
@@ -57,13 +62,42 @@ peer_tells : (s : PeerReplay) (m : Made) (told : Told) → Tells (peer_test s m 
 peer_tells s m told = and2 (is_peer m) (like (λ p. record { allowed = p.0; replies = p.1 }) (λ r. (r.allowed, r.replies)) (and2 (peer s m.caller m.op m.cites told) (replies m.reply (peer_answer s m.caller m.op m.cites told).reply)))
 
 replayed : {S : Type 0} (r : SideRules S) (test : S → Made → Told → Bool) → ((s : S) (m : Made) (told : Told) → Tells (test s m told) (r.lawful s m told)) → (ns : List Noted)
-    → rises (map (λ e. e.number) (side_by r ns).entries) ≡ true → leads_by r test r.opening ns ≡ true → IsReplayed r (side_by r ns)
-replayed r test t ns up passes = record { rise = (rising (map (λ e. e.number) (side_by r ns).entries)).holds up; noted = ns; same = refl; leads = (leads r test t r.opening ns).holds passes }
+    → rises (map (λ e. e.number) (map (λ n. n.entry) ns)) ≡ true → leads_by r test r.opening ns ≡ true → IsReplayedBy r ns
+replayed r test t ns up passes = record { rise = (rising (map (λ e. e.number) (map (λ n. n.entry) ns))).holds up; noted = ns; same = refl; leads = (leads r test t r.opening ns).holds passes }
+
+-- each entry is of a thread whose events the side takes
+abbrev taken_test : ℕ → Thread → Bool
+taken_test n (M i) = nat_le i n
+taken_test n t = true
+
+taken_tells : (n : ℕ) (t : Thread) → Tells (taken_test n t) (TakesManaged n t)
+taken_tells n (M i) = upto i n
+taken_tells n (P i) = always tt
+taken_tells n C = always tt
+
+managed_taken : (n : ℕ) (ns : List Noted) → Tells (list_all (λ (e : Entry). taken_test n e.made.caller) (map (λ (z : Noted). z.entry) ns)) (AreTakenFor managed_rules n ns)
+managed_taken n ns = all (map (λ (z : Noted). z.entry) ns) (λ (e : Entry). taken_test n e.made.caller) (λ (e : Entry). TakesManaged n e.made.caller) (λ (e : Entry). taken_tells n e.made.caller)
+
+-- on the peer side peer threads alone are counted
+abbrev peer_taken_test : ℕ → Thread → Bool
+peer_taken_test n (P i) = nat_le i n
+peer_taken_test n t = true
+
+peer_taken_tells : (n : ℕ) (t : Thread) → Tells (peer_taken_test n t) (TakesPeer n t)
+peer_taken_tells n (P i) = upto i n
+peer_taken_tells n (M i) = always tt
+peer_taken_tells n C = always tt
+
+peers_taken : (n : ℕ) (ns : List Noted) → Tells (list_all (λ (e : Entry). peer_taken_test n e.made.caller) (map (λ (z : Noted). z.entry) ns)) (AreTakenFor peer_rules n ns)
+peers_taken n ns = all (map (λ (z : Noted). z.entry) ns) (λ (e : Entry). peer_taken_test n e.made.caller) (λ (e : Entry). TakesPeer n e.made.caller) (λ (e : Entry). peer_taken_tells n e.made.caller)
 
 pub one_object-sides : OneObjectSidesHold
 one_object-sides = record {
   managed = replayed managed_rules managed_test managed_tells (managed_notes one_object) refl refl;
   peer = replayed peer_rules peer_test peer_tells (peer_notes one_object) refl refl;
+  managed_taken = (managed_taken 1 (managed_notes one_object)).holds refl;
+  none_taken = refuted (managed_taken 0 (managed_notes one_object)) refl;
+  peer_taken = (peers_taken 0 (peer_notes one_object)).holds refl;
   freed = refl;
   queued = refl;
   closed = refl;

@@ -1,14 +1,14 @@
 -- The lists of both sides in a worked history: each side's entries are a lawful list of their own, by that side's rules alone, and
 -- the state after it is as the history has it.
-use Rattle.std.specs.Prelude.{◌≡◌, if◌then◌else◌, List, [], ◌∷◌, map, Some, None}
+use Rattle.std.specs.Prelude.{◌≡◌, ℕ, if◌then◌else◌, List, [], ◌∷◌, map, Some, None}
 use Rattle.joint_model.specs.declared.names.Thread.TheVariants.{M}
 use Rattle.joint_model.specs.declared.names.Kind.TheVariants as kind
 use Rattle.joint_model.specs.declared.events.Op.TheVariants as op
 use Rattle.joint_model.specs.declared.events.Reply.TheVariants as says
 use Rattle.joint_model.specs.Lines.{is_peer_event}
 use Rattle.joint_model.specs.ManagedReplay.{ManagedReplay, opening_replay}
-use Rattle.joint_model.specs.PeerReplay.{PeerReplay}
-use Rattle.joint_model.specs.Sides.{Side, SideRules, managed_rules, peer_rules, LeadsTo, IsReplayed}
+use Rattle.joint_model.specs.PeerReplay.{PeerReplay, opening_peer_replay}
+use Rattle.joint_model.specs.Sides.{SideRules, managed_rules, peer_rules, AreTaken, LeadsTo, IsReplayed}
 use Rattle.joint_model.specs.Told.{Noted, nothing}
 use Rattle.worked_histories.specs.Notes.{note, var, object_no, peer_no, handle_no}
 use Rattle.worked_histories.specs.OneObject.{one_object}
@@ -27,15 +27,19 @@ abbrev pub state_after : {S : Type 0} → SideRules S → S → List Noted → S
 state_after r s [] = s
 state_after r s (n ∷ ns) = state_after r (r.next s n.entry.made n.told) ns
 
--- a side with these entries
-abbrev pub side_by : {S : Type 0} → SideRules S → List Noted → Side S
-side_by r ns = record { entries = map (λ n. n.entry) ns; state = state_after r r.opening ns }
+-- the state after a list is the replay of its entries
+abbrev pub IsReplayedBy : {S : Type 0} → SideRules S → List Noted → Type 0
+IsReplayedBy r ns = IsReplayed r (map (λ n. n.entry) ns) (state_after r r.opening ns)
 
-abbrev pub managed_side : Side ManagedReplay
-managed_side = side_by managed_rules (managed_notes one_object)
+-- a side that was made for so many threads takes each entry of a list
+abbrev pub AreTakenFor : {S : Type 0} → SideRules S → ℕ → List Noted → Type 0
+AreTakenFor r threads ns = AreTaken r threads (map (λ n. n.entry) ns)
 
-abbrev pub peer_side : Side PeerReplay
-peer_side = side_by peer_rules (peer_notes one_object)
+abbrev pub managed_end : ManagedReplay
+managed_end = state_after managed_rules opening_replay (managed_notes one_object)
+
+abbrev pub peer_end : PeerReplay
+peer_end = state_after peer_rules opening_peer_replay (peer_notes one_object)
 
 -- an adopt of one object with the handle, and with the same handle once more
 abbrev pub adopted_twice : List Noted
@@ -45,16 +49,20 @@ adopted_twice =
     ∷ []
 
 -- each side of the history is the replay of its entries. At the end each has freed its one object and the managed side has queued
--- its notice; no cycle is open, the registry is empty, and the handle is gone. And no lawful managed list adopts a handle twice.
+-- its notice; no cycle is open, the registry is empty, and the handle is gone. The one managed thread is all that a managed side needs,
+-- and one that was made for no thread doesn't take it; a peer side without threads takes all. And no lawful managed list adopts a handle twice.
 pub record OneObjectSidesHold : Type 0 where
-  pub managed : IsReplayed managed_rules managed_side
-  pub peer : IsReplayed peer_rules peer_side
-  pub freed : managed_side.state.managed.heap.freed ≡ 1 ∷ []
-  pub queued : managed_side.state.managed.notices ≡ 1 ∷ []
-  pub closed : managed_side.state.managed.cycle ≡ None
-  pub pairs : managed_side.state.registry ≡ []
-  pub freed_peer : peer_side.state.peers.heap.freed ≡ 1 ∷ []
-  pub table : peer_side.state.table ≡ None ∷ []
-  pub ended : peer_side.state.marking ≡ None
-  pub cleared : peer_side.state.mirror ≡ None
+  pub managed : IsReplayedBy managed_rules (managed_notes one_object)
+  pub peer : IsReplayedBy peer_rules (peer_notes one_object)
+  pub managed_taken : AreTakenFor managed_rules 1 (managed_notes one_object)
+  pub none_taken : AreTakenFor managed_rules 0 (managed_notes one_object) → ⊥
+  pub peer_taken : AreTakenFor peer_rules 0 (peer_notes one_object)
+  pub freed : managed_end.managed.heap.freed ≡ 1 ∷ []
+  pub queued : managed_end.managed.notices ≡ 1 ∷ []
+  pub closed : managed_end.managed.cycle ≡ None
+  pub pairs : managed_end.registry ≡ []
+  pub freed_peer : peer_end.peers.heap.freed ≡ 1 ∷ []
+  pub table : peer_end.table ≡ None ∷ []
+  pub ended : peer_end.marking ≡ None
+  pub cleared : peer_end.mirror ≡ None
   pub adopted_once : (s : ManagedReplay) → LeadsTo managed_rules opening_replay adopted_twice s → ⊥

@@ -1,17 +1,19 @@
 use Rattle.std.proofs.Common.{◌≡◌, ◌≤◌, ◌+◌, length, Some, refl, sym, ap, subst, ◌∙◌}
 use Rattle.std.specs.Prelude.{slice_get}
 use Rattle.joint_model.specs.declared.events.Op.TheVariants as op
+use Rattle.joint_model.specs.Sides.{peer_rules}
 use Rattle.order_table.specs.Views.{role_line}
 use Rattle.peer_side.specs.Makings.{gone_since}
 use Rattle.peer_side.specs.Sides.{seen}
 use Rattle.joint_history.specs.Collecting.{DrawsCollect}
 use Rattle.joint_history.specs.Passing.{MayAppend, left_in}
-use Rattle.joint_history.proofs.Collecting.{collect_drew}
+use Rattle.joint_history.proofs.Collecting.{collect_drew, threads_in_turn}
 use Rattle.joint_history.proofs.Floors.{below_floor, room_left}
 use Rattle.joint_history.proofs.collects.collect_by.Goals as goal
 
 pub collect-requires-clause-may_begin : goal.collect-requires-clause-may_begin
 collect-requires-clause-may_begin c = record {
+  takes = c.requires.takes;
   below = below_floor c.args.drawing.now.seat.now.view 1 c.args.side.now.entries c.requires.entries;
   room = subst (λ r. 4294967295 ≤ left_in c.args.drawing.now.seat.now.view (role_line r) + length c.args.side.now.entries) (sym c.requires.role) (room_left c.args.drawing.now.seat.now.view 1 c.args.side.now.entries c.requires.entries);
   bare = subst (λ r. MayAppend c.args.drawing.now.order.now c.args.drawing.now.seat.now (role_line r) c.args.caller op.Begin) (sym c.requires.role) c.requires.may_begin;
@@ -20,6 +22,7 @@ collect-requires-clause-may_begin c = record {
 
 pub collect-requires-clause-may_sweep : goal.collect-requires-clause-may_sweep
 collect-requires-clause-may_sweep c = record {
+  takes = c.requires.takes;
   below = below_floor c.args.drawing.now.seat.now.view 1 c.args.side.now.entries c.requires.entries;
   room = subst (λ r. 4294967295 ≤ left_in c.args.drawing.now.seat.now.view (role_line r) + length c.args.side.now.entries) (sym c.requires.role) (room_left c.args.drawing.now.seat.now.view 1 c.args.side.now.entries c.requires.entries);
   bare = subst (λ r. MayAppend c.args.drawing.now.order.now c.args.drawing.now.seat.now (role_line r) c.args.caller op.Sweep) (sym c.requires.role) c.requires.may_sweep;
@@ -36,3 +39,6 @@ returns-clause-drew c =
     let w = collect_drew _ (λ a b e m freed x. x) c.args.drawing.now.order.now c.args.drawing.now c.collect.new.draw (seen c.args.side.now) (seen c.collect.new.self) c.args.caller c.args.index c.in_ok-reply.reply (gone_since c.args.side.now.state c.collect.new.self.state) refl c.requires.role c.in_ok-reply.ensures.adds in
     let at : slice_get c.collect.new.self.entries (length c.args.side.now.entries) ≡ Some c.in-Some.entry = ap (λ es. slice_get es (length c.args.side.now.entries)) (sym c.entries-2.ensures) ∙ (ap (slice_get c.entries-2.result.now.entries) (sym (c.len-count.ensures ∙ ap length c.entries.ensures)) ∙ (sym c.at.ensures ∙ c.in-Some.is)) in
     subst (λ n. DrawsCollect c.args.drawing.now.order.now c.args.drawing.now.seat.now c.collect.new.draw.seat.now (seen c.args.side.now) (seen c.collect.new.self) c.args.caller c.args.index (record { first = n; last = c.collect.new.draw.last; reply = c.in_ok-reply.reply })) (sym (w.stands c.in-Some.entry at)) w.drew
+
+pub returns-clause-threads : goal.returns-clause-threads
+returns-clause-threads c = threads_in_turn peer_rules _ _ _ (seen c.args.side.now) (seen c.collect.new.self) _ c.in_ok-reply.ensures.adds

@@ -4,6 +4,7 @@ use Rattle.joint_history.proofs.driven.draw_contraction.Goals as goal
 
 pub contracted-requires-clause-may : goal.contracted-requires-clause-may
 contracted-requires-clause-may c = λ k e. record {
+  takes = tt;
   below = below_floor c.args.seat.now.view 0 c.args.side.now.entries c.requires.entries;
   room = room_left c.args.seat.now.view 0 c.args.side.now.entries c.requires.entries;
   bare = c.requires.may k;
@@ -11,11 +12,14 @@ contracted-requires-clause-may c = λ k e. record {
 }
 
 pub returns : goal.returns
-returns c = record {
-  cycle = c.requires.contracted.cycle;
-  opened = c.requires.contracted.opened;
-  comps = c.requires.contracted.comps;
-  pairs = c.requires.contracted.pairs;
-  contracted = c.requires.contracted.contracted;
-  drew = λ cs xs w. (let a = (c.contracted.ensures.contracts c.requires.contracted.cycle c.requires.contracted.opened).adds cs xs w in search rules);
-}
+returns c =
+    let d = c.requires.contracted in
+    let w = c.contracted.ensures.contracts d.cycle d.opened in record {
+      cycle = d.cycle;
+      opened = d.opened;
+      comps = d.comps;
+      pairs = d.pairs;
+      contracted = d.contracted;
+      threads = (w.adds d.comps d.pairs d.contracted).threads;
+      drew = λ cs xs w2. (let a = w.adds cs xs w2 in search rules);
+    }

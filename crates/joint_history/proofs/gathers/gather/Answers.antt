@@ -1,6 +1,7 @@
 use Rattle.std.proofs.Common.{◌≡◌, ◌++◌, [], ◌∷◌, ◌∙◌, sym, ap, subst, refl, append_assoc, append-nil, length, arith}
 use Rattle.std.specs.Vec.Iter.{into_iter_items}
-use Rattle.joint_history.specs.Ending.{GathersAll, TakesOwn, threads_of}
+use Rattle.joint_history.specs.Callers.{Pass}
+use Rattle.joint_history.specs.Ending.{GathersAll, IsIdle, TakesOwn, threads_of}
 use Rattle.joint_history.proofs.Ended.{takes_none, takes_then}
 use Rattle.joint_history.proofs.Gathering.{gathers_none}
 use Rattle.joint_history.proofs.Yielding.{gathers_more, next_is_idle, nothing_left}
@@ -18,11 +19,11 @@ loop-caller-init g c =
     )
 
 pub take_in-requires-clause-idle : goal.take_in-requires-clause-idle
-take_in-requires-clause-idle g c =
-    let at = c.loop-caller in
+take_in-requires-clause-idle g c = subst IsIdle (sym c.into_pass.ensures)
+    (let at = c.loop-caller in
     let steps : into_iter_items at.caller-iterator ≡ c.in-Some.caller ∷ into_iter_items c.next.new.self = c.in-Some.ensures.steps.0 in
     next_is_idle c.args.callers.items at.yielded (into_iter_items c.next.new.self) c.in-Some.caller
-    (ap (λ ys. at.yielded ++ ys) (sym steps) ∙ (at.invariant.2 ∙ c.into_iter-caller-iterator.ensures.into_iter_gives.0)) c.requires.idle
+    (ap (λ ys. at.yielded ++ ys) (sym steps) ∙ (at.invariant.2 ∙ c.into_iter-caller-iterator.ensures.into_iter_gives.0)) c.requires.idle)
 
 pub loop-caller-preserved : goal.loop-caller-preserved
 loop-caller-preserved g c =
@@ -30,13 +31,13 @@ loop-caller-preserved g c =
     let p = c.in-Some.caller in
     let steps : into_iter_items at.caller-iterator ≡ p ∷ into_iter_items c.next.new.self = c.in-Some.ensures.steps.0 in (
       c.take_in.ensures.order,
-      gathers_more c.args.seat.now.view at.seat.view c.take_in.new.seat.view at.yielded p at.invariant.1 c.take_in.ensures.gathers,
+      gathers_more c.args.seat.now.view at.seat.view c.take_in.new.seat.view at.yielded p at.invariant.1 (subst (λ (q : Pass). GathersAll at.seat.view c.take_in.new.seat.view (q.thread ∷ [])) c.into_pass.ensures c.take_in.ensures.gathers),
       append_assoc at.yielded (p ∷ []) (into_iter_items c.next.new.self) ∙ (ap (λ ys. at.yielded ++ ys) (sym steps) ∙ at.invariant.2),
       let was = at.invariant.3 in
           let gone = c.in-Some.ensures.steps.1 in
           let short = ap length steps in
           omega arith,
-      takes_then c.args.seat.now.view at.seat.view c.take_in.new.seat.view at.yielded (p ∷ []) at.invariant.4 c.take_in.ensures.own,
+      takes_then c.args.seat.now.view at.seat.view c.take_in.new.seat.view at.yielded (p ∷ []) at.invariant.4 (subst (λ (q : Pass). TakesOwn at.seat.view c.take_in.new.seat.view (q ∷ [])) c.into_pass.ensures c.take_in.ensures.own),
     )
 
 pub returns-clause-gathers : goal.returns-clause-gathers

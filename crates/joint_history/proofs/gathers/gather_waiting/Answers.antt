@@ -22,15 +22,15 @@ loop-waiting-init g c =
 pub take_in-requires-clause-idle : goal.take_in-requires-clause-idle
 take_in-requires-clause-idle g c =
     let at = c.loop-waiting in
-    let steps : into_iter_items at.waiting-iterator ≡ Some c.in-Some-waiting.caller ∷ into_iter_items c.next.new.self = c.in-Some.ensures.steps.0 ∙ ap (λ o. o ∷ into_iter_items c.next.new.self) c.in-Some-waiting.is in
-    next_waiting_is_idle c.args.callers.items at.yielded (into_iter_items c.next.new.self) c.in-Some-waiting.caller
+    let steps : into_iter_items at.waiting-iterator ≡ Some c.in-Some-waiting.pass ∷ into_iter_items c.next.new.self = c.in-Some.ensures.steps.0 ∙ ap (λ o. o ∷ into_iter_items c.next.new.self) c.in-Some-waiting.is in
+    next_waiting_is_idle c.args.callers.items at.yielded (into_iter_items c.next.new.self) c.in-Some-waiting.pass
     (ap (λ ys. at.yielded ++ ys) (sym steps) ∙ (at.invariant.2 ∙ c.into_iter-waiting-iterator.ensures.into_iter_gives.0)) c.requires.waits
 
 pub loop-waiting-preserved-in-Some-waiting : goal.loop-waiting-preserved-in-Some-waiting
 loop-waiting-preserved-in-Some-waiting g c =
     let at = c.loop-waiting in
     let o = c.in-Some.waiting in
-    let p = c.in-Some-waiting.caller in
+    let p = c.in-Some-waiting.pass in
     let steps : into_iter_items at.waiting-iterator ≡ o ∷ into_iter_items c.next.new.self = c.in-Some.ensures.steps.0 in (
       c.take_in.ensures.order,
       subst (λ (q : Option Pass). GathersAll c.args.seat.now.view c.take_in.new.seat.view (threads_of (present (at.yielded ++ q ∷ [])))) (sym c.in-Some-waiting.is)

@@ -3,6 +3,7 @@ use Rattle.joint_history.proofs.handles.draw_restore.Goals as goal
 
 pub restore-back-requires-clause-may : goal.restore-back-requires-clause-may
 restore-back-requires-clause-may c = record {
+  takes = tt;
   below = below_floor c.args.seat.now.view 1 c.args.side.now.entries c.requires.entries;
   room = room_left c.args.seat.now.view 1 c.args.side.now.entries c.requires.entries;
   bare = c.requires.may;

@@ -3,6 +3,7 @@ use Rattle.joint_history.proofs.managed.draw_step.Goals as goal
 
 pub step-requires-clause-may : goal.step-requires-clause-may
 step-requires-clause-may c = record {
+  takes = c.requires.takes;
   below = below_floor c.args.seat.now.view 0 c.args.side.now.entries c.requires.entries;
   room = room_left c.args.seat.now.view 0 c.args.side.now.entries c.requires.entries;
   bare = c.requires.may;

@@ -3,6 +3,7 @@ use Rattle.joint_history.proofs.marks.draw_begin.Goals as goal
 
 pub mark_begin-requires-clause-may : goal.mark_begin-requires-clause-may
 mark_begin-requires-clause-may c = record {
+  takes = tt;
   below = below_floor c.args.seat.now.view 1 c.args.side.now.entries c.requires.entries;
   room = room_left c.args.seat.now.view 1 c.args.side.now.entries c.requires.entries;
   bare = c.requires.may;

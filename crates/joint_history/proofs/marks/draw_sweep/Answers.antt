@@ -7,6 +7,7 @@ sweep-requires-clause-own c = driver_ends c.args.side.now.state.marking
 
 pub sweep-requires-clause-may : goal.sweep-requires-clause-may
 sweep-requires-clause-may c = record {
+  takes = tt;
   below = below_floor c.args.seat.now.view 1 c.args.side.now.entries c.requires.entries;
   room = room_left c.args.seat.now.view 1 c.args.side.now.entries c.requires.entries;
   bare = c.requires.may;

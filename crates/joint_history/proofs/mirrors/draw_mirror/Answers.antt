@@ -3,6 +3,7 @@ use Rattle.joint_history.proofs.mirrors.draw_mirror.Goals as goal
 
 pub install-requires-clause-may : goal.install-requires-clause-may
 install-requires-clause-may c = record {
+  takes = tt;
   below = below_floor c.args.seat.now.view 1 c.args.side.now.entries c.requires.entries;
   room = room_left c.args.seat.now.view 1 c.args.side.now.entries c.requires.entries;
   bare = c.requires.may;

@@ -3,6 +3,7 @@ use Rattle.joint_history.proofs.peer.draw_step.Goals as goal
 
 pub event-requires-clause-may : goal.event-requires-clause-may
 event-requires-clause-may c = record {
+  takes = c.requires.takes;
   below = below_floor c.args.seat.now.view 1 c.args.side.now.entries c.requires.entries;
   room = room_left c.args.seat.now.view 1 c.args.side.now.entries c.requires.entries;
   bare = c.requires.may;

@@ -1,13 +1,16 @@
 use Rattle.std.proofs.Common.{ap, sym, ◌∙◌, rules}
 use Rattle.joint_model.specs.declared.events.Entry.{Entry}
 use Rattle.joint_model.specs.Draws.{numbered}
+use Rattle.joint_model.specs.ManagedReplay.{ManagedReplay}
+use Rattle.joint_model.specs.Sides.{Side}
 use Rattle.managed_side.specs.Openings.{snap_made}
-use Rattle.joint_history.proofs.DriverSnaps.{if_ok_map, last_same}
+use Rattle.joint_history.proofs.DriverSnaps.{either_way, if_ok_map, last_same}
 use Rattle.joint_history.proofs.Floors.{below_floor, room_left}
 use Rattle.joint_history.proofs.snaps.draw_snap.Goals as goal
 
 pub snap-requires-clause-may : goal.snap-requires-clause-may
 snap-requires-clause-may c = λ e. record {
+  takes = tt;
   below = below_floor c.args.seat.now.view 0 c.args.side.now.entries c.requires.entries;
   room = room_left c.args.seat.now.view 0 c.args.side.now.entries c.requires.entries;
   bare = c.requires.may;
@@ -28,3 +31,6 @@ returns-clause-drew c = if_ok_map _ _ c.snap.result c.snap.ensures.snaps (λ o w
   span = w.span;
   graph = w.graph;
 })
+
+pub returns-clause-threads : goal.returns-clause-threads
+returns-clause-threads c = either_way _ c.snap.result c.snap.ensures.snaps c.snap.ensures.err (λ o w. w.adds.threads) (λ e. ap (λ (s : Side ManagedReplay). s.threads) e.0)

@@ -23,7 +23,7 @@ give_back-requires-clause-more g c = more_back C c.self.inside.seat.view c.args.
 pub invariant_of-self : goal.invariant_of-self
 invariant_of-self g c =
     let d = did C c.self.inside.seat.view c.args.mine.now.view c.lend.new.locked.view c.lend.new.mine.view c.draw_abandon-number.new.seat.view c.give_back.new.locked.view c.give_back.new.mine.view 0 tt (omega arith) c.requires.pass c.self.invariant.1 c.lend.ensures.lent (drew_keeps c.args.order.now c.lend.new.locked c.draw_abandon-number.new.seat c.self.inside.side c.draw_abandon-number.new.side (numbered c.draw_abandon-number.result (abandon_made c.draw_abandon-number.ensures.cycle c.args.index)) nothing c.draw_abandon-number.ensures.drew) c.give_back.ensures.returned in
-    (c.give_back.ensures.order.0 ∙ c.requires.order.0, d.owns, abandon_knows c.self.inside.seat.view c.args.mine.now.view c.lend.new.mine.view c.give_back.new.locked.view c.give_back.new.mine.view c.args.order.now c.lend.new.locked c.draw_abandon-number.new.seat c.self.inside.side c.draw_abandon-number.new.side c.args.index c.requires.pass c.self.invariant.1 (omega (arith, c.ranges.index.fits)) c.self.invariant.2 c.lend.ensures.lent c.give_back.ensures.returned c.draw_abandon-number.result c.draw_abandon-number.ensures c.requires.may)
+    (c.give_back.ensures.order.0 ∙ c.requires.order.0, d.owns, abandon_knows c.self.inside.seat.view c.args.mine.now.view c.lend.new.mine.view c.give_back.new.locked.view c.give_back.new.mine.view c.args.order.now c.lend.new.locked c.draw_abandon-number.new.seat c.self.inside.side c.draw_abandon-number.new.side c.args.index c.requires.pass c.self.invariant.1 (omega (arith, c.ranges.index.fits)) c.self.invariant.2 c.lend.ensures.lent c.give_back.ensures.returned c.draw_abandon-number.result c.draw_abandon-number.ensures c.requires.may, c.draw_abandon-number.ensures.threads ∙ c.self.invariant.3)
 
 pub returns-clause-makes : goal.returns-clause-makes
 returns-clause-makes g c = abandoning_made c.self.inside.seat.view c.args.mine.now.view c.lend.new.mine.view c.give_back.new.locked.view c.give_back.new.mine.view c.args.order.now c.lend.new.locked c.draw_abandon-number.new.seat c.self.inside.side c.draw_abandon-number.new.side c.args.index c.requires.pass c.self.invariant.1 (omega (arith, c.ranges.index.fits)) c.self.invariant.2 c.lend.ensures.lent c.give_back.ensures.returned c.draw_abandon-number.result c.draw_abandon-number.ensures

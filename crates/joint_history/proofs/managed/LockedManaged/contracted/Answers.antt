@@ -24,7 +24,7 @@ give_back-requires-clause-more g c = more_back C c.self.inside.seat.view c.args.
 pub invariant_of-self : goal.invariant_of-self
 invariant_of-self g c =
     let d = did C c.self.inside.seat.view c.args.mine.now.view c.lend.new.locked.view c.lend.new.mine.view c.draw_contraction-number.new.seat.view c.give_back.new.locked.view c.give_back.new.mine.view 0 tt (omega arith) c.requires.pass c.self.invariant.1 c.lend.ensures.lent (drew_keeps c.args.order.now c.lend.new.locked c.draw_contraction-number.new.seat c.self.inside.side c.draw_contraction-number.new.side (numbered c.draw_contraction-number.result (contract_made c.draw_contraction-number.ensures.cycle c.args.index c.args.sccs c.args.xrefs)) (contraction_of c.draw_contraction-number.ensures.comps c.draw_contraction-number.ensures.pairs) (c.draw_contraction-number.ensures.drew c.draw_contraction-number.ensures.comps c.draw_contraction-number.ensures.pairs c.draw_contraction-number.ensures.contracted)) c.give_back.ensures.returned in
-    (c.give_back.ensures.order.0 ∙ c.requires.order.0, d.owns, contraction_knows c.self.inside.seat.view c.args.mine.now.view c.lend.new.mine.view c.give_back.new.locked.view c.give_back.new.mine.view c.args.order.now c.lend.new.locked c.draw_contraction-number.new.seat c.self.inside.side c.draw_contraction-number.new.side c.args.index c.requires.pass c.self.invariant.1 (omega (arith, c.ranges.index.fits)) c.self.invariant.2 c.lend.ensures.lent c.give_back.ensures.returned c.args.sccs c.args.xrefs c.draw_contraction-number.result c.draw_contraction-number.ensures c.requires.may)
+    (c.give_back.ensures.order.0 ∙ c.requires.order.0, d.owns, contraction_knows c.self.inside.seat.view c.args.mine.now.view c.lend.new.mine.view c.give_back.new.locked.view c.give_back.new.mine.view c.args.order.now c.lend.new.locked c.draw_contraction-number.new.seat c.self.inside.side c.draw_contraction-number.new.side c.args.index c.requires.pass c.self.invariant.1 (omega (arith, c.ranges.index.fits)) c.self.invariant.2 c.lend.ensures.lent c.give_back.ensures.returned c.args.sccs c.args.xrefs c.draw_contraction-number.result c.draw_contraction-number.ensures c.requires.may, c.draw_contraction-number.ensures.threads ∙ c.self.invariant.3)
 
 pub returns-clause-makes : goal.returns-clause-makes
 returns-clause-makes g c = contraction_made c.self.inside.seat.view c.args.mine.now.view c.lend.new.mine.view c.give_back.new.locked.view c.give_back.new.mine.view c.args.order.now c.lend.new.locked c.draw_contraction-number.new.seat c.self.inside.side c.draw_contraction-number.new.side c.args.index c.requires.pass c.self.invariant.1 (omega (arith, c.ranges.index.fits)) c.self.invariant.2 c.lend.ensures.lent c.give_back.ensures.returned c.args.sccs c.args.xrefs c.draw_contraction-number.result c.draw_contraction-number.ensures

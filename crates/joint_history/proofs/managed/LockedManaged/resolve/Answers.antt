@@ -25,7 +25,7 @@ give_back-requires-clause-more g c = more_back C c.self.inside.seat.view c.args.
 pub invariant_of-self : goal.invariant_of-self
 invariant_of-self g c =
     let d = did C c.self.inside.seat.view c.args.mine.now.view c.lend.new.locked.view c.lend.new.mine.view c.draw_resolution-out.new.seat.view c.give_back.new.locked.view c.give_back.new.mine.view 0 tt (omega arith) c.requires.pass c.self.invariant.1 c.lend.ensures.lent (drew_keeps c.args.order.now c.lend.new.locked c.draw_resolution-out.new.seat c.self.inside.side c.draw_resolution-out.new.side (numbered c.draw_resolution-out.result.0 (resolve_made c.self.inside.side.state.managed c.draw_resolution-out.ensures.cycle c.args.index c.draw_resolution-out.ensures.freed c.args.clear)) (resolution_of (answers_of c.args.alive.now.values) c.draw_resolution-out.ensures.freed) c.draw_resolution-out.ensures.drew) c.give_back.ensures.returned in
-    (c.give_back.ensures.order.0 ∙ c.requires.order.0, d.owns, resolution_knows c.self.inside.seat.view c.args.mine.now.view c.lend.new.mine.view c.give_back.new.locked.view c.give_back.new.mine.view c.args.order.now c.lend.new.locked c.draw_resolution-out.new.seat c.self.inside.side c.draw_resolution-out.new.side c.args.index c.requires.pass c.self.invariant.1 (omega (arith, c.ranges.index.fits)) c.self.invariant.2 c.lend.ensures.lent c.give_back.ensures.returned c.args.clear c.draw_resolution-out.result.0 c.args.alive.now.values c.draw_resolution-out.result.1 c.draw_resolution-out.ensures c.requires.may)
+    (c.give_back.ensures.order.0 ∙ c.requires.order.0, d.owns, resolution_knows c.self.inside.seat.view c.args.mine.now.view c.lend.new.mine.view c.give_back.new.locked.view c.give_back.new.mine.view c.args.order.now c.lend.new.locked c.draw_resolution-out.new.seat c.self.inside.side c.draw_resolution-out.new.side c.args.index c.requires.pass c.self.invariant.1 (omega (arith, c.ranges.index.fits)) c.self.invariant.2 c.lend.ensures.lent c.give_back.ensures.returned c.args.clear c.draw_resolution-out.result.0 c.args.alive.now.values c.draw_resolution-out.result.1 c.draw_resolution-out.ensures c.requires.may, c.draw_resolution-out.ensures.threads ∙ c.self.invariant.3)
 
 pub returns-clause-makes : goal.returns-clause-makes
 returns-clause-makes g c = resolution_made c.self.inside.seat.view c.args.mine.now.view c.lend.new.mine.view c.give_back.new.locked.view c.give_back.new.mine.view c.args.order.now c.lend.new.locked c.draw_resolution-out.new.seat c.self.inside.side c.draw_resolution-out.new.side c.args.index c.requires.pass c.self.invariant.1 (omega (arith, c.ranges.index.fits)) c.self.invariant.2 c.lend.ensures.lent c.give_back.ensures.returned c.args.clear c.draw_resolution-out.result.0 c.args.alive.now.values c.draw_resolution-out.result.1 c.draw_resolution-out.ensures

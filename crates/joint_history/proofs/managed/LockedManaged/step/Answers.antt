@@ -1,8 +1,8 @@
-use Rattle.std.proofs.Common.{ℕ, arith, ◌∙◌}
+use Rattle.std.proofs.Common.{ℕ, arith, ◌∙◌, subst, sym}
 use Rattle.joint_model.specs.declared.events.Entry.{Entry}
 use Rattle.joint_model.specs.declared.events.Reply.{Reply}
 use Rattle.joint_model.specs.Draws.{numbered}
-use Rattle.joint_model.specs.Sides.{managed_rules}
+use Rattle.joint_model.specs.Sides.{managed_rules, TakesManaged}
 use Rattle.joint_model.specs.Told.{nothing}
 use Rattle.joint_history.specs.Locked.{made_by}
 use Rattle.joint_history.proofs.Fresh.{turn_is_fresh_for}
@@ -22,7 +22,7 @@ invariant_of-self g c =
     (drew_owns managed_rules 0 c.args.order.now c.lend.new.locked c.draw_step-made.new.seat c.self.inside.side c.draw_step-made.new.side make nothing c.draw_step-made.result c.draw_step-made.ensures.drew c.draw_step-made.ensures.err) c.give_back.ensures.returned in
     let w = called_managed c.args.caller c.args.index c.args.op.now c.args.cites nothing c.args.order.now c.self.inside.seat.view c.args.mine.now.view c.lend.new.mine.view c.give_back.new.locked.view c.give_back.new.mine.view c.lend.new.locked c.draw_step-made.new.seat c.self.inside.side c.draw_step-made.new.side c.draw_step-made.result
     c.requires.pass.0 c.requires.pass.1 c.self.invariant.1 (omega (arith, c.ranges.index.fits)) c.self.invariant.2 c.requires.may c.lend.ensures.lent c.draw_step-made.ensures.drew c.draw_step-made.ensures.err c.give_back.ensures.returned in
-    (c.give_back.ensures.order.0 ∙ c.requires.order.0, d.owns, w.knows)
+    (c.give_back.ensures.order.0 ∙ c.requires.order.0, d.owns, w.knows, c.draw_step-made.ensures.threads ∙ c.self.invariant.3)
 
 pub returns-clause-ok : goal.returns-clause-ok
 returns-clause-ok g c =
@@ -37,3 +37,6 @@ returns-clause-err g c =
 pub draw_step-made-requires-clause-fresh : goal.draw_step-made-requires-clause-fresh
 draw_step-made-requires-clause-fresh g c = turn_is_fresh_for c.args.caller c.self.inside.seat.view c.args.mine.now.view c.lend.new.locked.view c.lend.new.mine.view c.self.inside.side c.args.index c.args.op.now c.args.cites
     c.requires.event c.requires.pass.1 c.self.invariant.1 c.self.invariant.2 c.requires.may c.lend.ensures.lent
+
+pub draw_step-made-requires-clause-takes : goal.draw_step-made-requires-clause-takes
+draw_step-made-requires-clause-takes g c = subst (λ n. TakesManaged n c.args.caller) (sym c.self.invariant.3) c.requires.takes

@@ -1,8 +1,8 @@
-use Rattle.std.proofs.Common.{ℕ, None, arith, ◌∙◌}
+use Rattle.std.proofs.Common.{ℕ, None, arith, ◌∙◌, subst, sym}
 use Rattle.joint_model.specs.declared.events.Entry.{Entry}
 use Rattle.joint_model.specs.declared.events.Reply.{Reply}
 use Rattle.joint_model.specs.Draws.{numbered}
-use Rattle.joint_model.specs.Sides.{managed_rules}
+use Rattle.joint_model.specs.Sides.{managed_rules, TakesManaged}
 use Rattle.joint_model.specs.Told.{nothing}
 use Rattle.managed_side.specs.Steps.{take_op}
 use Rattle.joint_history.specs.Locked.{made_by}
@@ -23,7 +23,7 @@ invariant_of-self g c =
     (drew_owns managed_rules 0 c.args.order.now c.lend.new.locked c.draw_take-made.new.seat c.self.inside.side c.draw_take-made.new.side make nothing c.draw_take-made.result c.draw_take-made.ensures.drew c.draw_take-made.ensures.err) c.give_back.ensures.returned in
     let w = called_managed c.args.caller c.args.index (take_op c.args.v) None nothing c.args.order.now c.self.inside.seat.view c.args.mine.now.view c.lend.new.mine.view c.give_back.new.locked.view c.give_back.new.mine.view c.lend.new.locked c.draw_take-made.new.seat c.self.inside.side c.draw_take-made.new.side c.draw_take-made.result
     (managed-thread c.args.caller c.requires.pass.0) c.requires.pass.1 c.self.invariant.1 (omega (arith, c.ranges.index.fits)) c.self.invariant.2 c.requires.may c.lend.ensures.lent c.draw_take-made.ensures.drew c.draw_take-made.ensures.err c.give_back.ensures.returned in
-    (c.give_back.ensures.order.0 ∙ c.requires.order.0, d.owns, w.knows)
+    (c.give_back.ensures.order.0 ∙ c.requires.order.0, d.owns, w.knows, c.draw_take-made.ensures.threads ∙ c.self.invariant.3)
 
 pub returns-clause-ok : goal.returns-clause-ok
 returns-clause-ok g c =
@@ -34,3 +34,6 @@ pub returns-clause-err : goal.returns-clause-err
 returns-clause-err g c =
     (called_managed c.args.caller c.args.index (take_op c.args.v) None nothing c.args.order.now c.self.inside.seat.view c.args.mine.now.view c.lend.new.mine.view c.give_back.new.locked.view c.give_back.new.mine.view c.lend.new.locked c.draw_take-made.new.seat c.self.inside.side c.draw_take-made.new.side c.draw_take-made.result
     (managed-thread c.args.caller c.requires.pass.0) c.requires.pass.1 c.self.invariant.1 (omega (arith, c.ranges.index.fits)) c.self.invariant.2 c.requires.may c.lend.ensures.lent c.draw_take-made.ensures.drew c.draw_take-made.ensures.err c.give_back.ensures.returned).err
+
+pub draw_take-made-requires-clause-takes : goal.draw_take-made-requires-clause-takes
+draw_take-made-requires-clause-takes g c = subst (λ n. TakesManaged n c.args.caller) (sym c.self.invariant.3) c.requires.takes

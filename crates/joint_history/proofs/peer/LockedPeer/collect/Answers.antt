@@ -1,4 +1,5 @@
-use Rattle.std.proofs.Common.{arith, ◌∙◌}
+use Rattle.std.proofs.Common.{arith, ◌∙◌, subst, sym}
+use Rattle.joint_model.specs.Sides.{TakesPeer}
 use Rattle.peer_side.specs.Sides.{seen}
 use Rattle.joint_history.proofs.Collecting.{collect_called, collect_more, collect_owns, collect_reserves}
 use Rattle.joint_history.proofs.LockedSteps.{did, more_back}
@@ -17,7 +18,7 @@ invariant_of-self g c =
     c.requires.pass.0 c.requires.pass.1 c.self.invariant.1 (omega (arith, c.ranges.index.fits)) c.self.invariant.2 c.requires.begins c.lend.ensures.lent c.draw_collect-made.ensures.drew c.draw_collect-made.ensures.err c.give_back.ensures.returned in
     let r = collect_reserves c.args.caller c.args.index c.args.order.now c.self.inside.seat.view c.args.mine.now.view c.lend.new.mine.view c.give_back.new.locked.view c.give_back.new.mine.view c.lend.new.locked c.draw_collect-made.new.seat c.self.inside.side c.draw_collect-made.new.side c.draw_collect-made.result
     c.requires.pass.0 c.self.invariant.2 c.self.invariant.3 c.lend.ensures.lent c.draw_collect-made.ensures.drew c.draw_collect-made.ensures.err c.draw_collect-made.ensures.reserve c.give_back.ensures.returned in
-    (c.give_back.ensures.order.0 ∙ c.requires.order.0, d.owns, w.knows, r)
+    (c.give_back.ensures.order.0 ∙ c.requires.order.0, d.owns, w.knows, r, c.draw_collect-made.ensures.threads ∙ c.self.invariant.4)
 
 pub returns-clause-begins : goal.returns-clause-begins
 returns-clause-begins g c =
@@ -33,3 +34,6 @@ pub returns-clause-err : goal.returns-clause-err
 returns-clause-err g c =
     (collect_called c.args.order.now c.lend.new.locked c.draw_collect-made.new.seat (seen c.self.inside.side) (seen c.draw_collect-made.new.side) c.args.index c.args.caller c.self.inside.seat.view c.args.mine.now.view c.lend.new.mine.view c.give_back.new.locked.view c.give_back.new.mine.view c.draw_collect-made.result
     c.requires.pass.0 c.requires.pass.1 c.self.invariant.1 (omega (arith, c.ranges.index.fits)) c.self.invariant.2 c.requires.begins c.lend.ensures.lent c.draw_collect-made.ensures.drew c.draw_collect-made.ensures.err c.give_back.ensures.returned).err
+
+pub draw_collect-made-requires-clause-takes : goal.draw_collect-made-requires-clause-takes
+draw_collect-made-requires-clause-takes g c = subst (λ n. TakesPeer n c.args.caller) (sym c.self.invariant.4) c.requires.takes

@@ -4,7 +4,9 @@ use Rattle.joint_model.specs.declared.names.Thread.TheVariants.{C}
 use Rattle.joint_model.specs.declared.events.Made.{Made}
 use Rattle.joint_model.specs.declared.events.Op.TheVariants as op
 use Rattle.joint_model.specs.ManagedReplay.{refusal_to}
+use Rattle.joint_model.specs.Sides.{managed_rules}
 use Rattle.joint_model.specs.Told.{phase_of}
+use Rattle.joint_model.proofs.SideLists.{AreTaken-push}
 use Rattle.managed_side.specs.Steps.{step_made}
 use Rattle.managed_side.proofs.Goes.{side-goes, side-replayed, same-answers, HasRoom-two}
 use Rattle.managed_side.proofs.side.ManagedSide.refused.Goals as goal
@@ -21,4 +23,5 @@ invariant_of-self-2 g c =
     let room : 2 ≤ c.enter.new.entries.spare = omega (arith, c.in_ok-reserve.ensures.room, c.enter.ensures.spare) in (
       side-replayed i.entries.entries c.enter.new.entries.entries i.rows i.rows draws.adds.number (g.D.Draw.floor c.args.draw.now) made (phase_of c.args.phase) may.below draws.above draws.adds.added goes c.self.invariant.0,
       HasRoom-two i.rows c.enter.new.entries.spare room,
+      AreTaken-push managed_rules i.threads i.entries.entries c.enter.new.entries.entries draws.adds.number made tt draws.adds.added c.self.invariant.2,
     )

@@ -9,8 +9,10 @@ use Rattle.joint_model.specs.Histories.{managed_numbers}
 use Rattle.joint_model.specs.Listed.{answers_of}
 use Rattle.joint_model.specs.Managed.{OpenCycle}
 use Rattle.joint_model.specs.ManagedReplay.{ManagedReplay}
+use Rattle.joint_model.specs.Sides.{managed_rules}
 use Rattle.joint_model.specs.Told.{resolution_of}
 use Rattle.joint_model.proofs.Deciding.{none_some}
+use Rattle.joint_model.proofs.SideLists.{AreTaken-push}
 use Rattle.managed_side.specs.Calls.{resolve_made}
 use Rattle.managed_side.specs.Steps.{step_made}
 use Rattle.managed_side.proofs.Driving.{resolve-goes, adds-lawful, objects-numbers}
@@ -48,6 +50,7 @@ invariant_of-self g c =
     let goes = resolve-goes i.entries.entries c.enter.new.entries.entries i.rows c.resolve-resolution.new.self draws.adds.number c.args.index c.args.cites _ _ _ c.args.alive.now.values freed t one_each draws.adds.added in (
       side-replayed i.entries.entries c.enter.new.entries.entries i.rows c.resolve-resolution.new.self draws.adds.number (g.D.Draw.floor c.args.draw.now) (resolve_made i.rows.managed t.cycle c.args.index freed c.args.cites) (resolution_of (answers_of c.args.alive.now.values) freed) (may k.cycle k.opened).below draws.above draws.adds.added goes c.self.invariant.0,
       λ e o. absurd (none_some e (sym (ap (λ (z : ManagedReplay). z.managed.cycle) t.state) ∙ o)),
+      AreTaken-push managed_rules i.threads i.entries.entries c.enter.new.entries.entries draws.adds.number (resolve_made i.rows.managed t.cycle c.args.index freed c.args.cites) tt draws.adds.added c.self.invariant.2,
     )
 
 pub returns : goal.returns
@@ -67,7 +70,7 @@ returns g c =
         cycle = t.cycle;
         opened = t.opened;
         freed = freed;
-        adds = adds-lawful (record { floor = g.D.Draw.floor; left = g.D.Draw.left; may = g.D.Draw.may; drew = g.D.Draw.drew }) c.args.draw.now c.enter.new.draw i.entries.entries c.enter.new.entries.entries i.rows c.resolve-resolution.new.self (resolve_made i.rows.managed t.cycle c.args.index freed c.args.cites) (resolution_of (answers_of c.args.alive.now.values) freed) c.deref.result.now draws refl (objects-numbers ms ∙ sym c.deref.ensures.value)
+        adds = adds-lawful (record { floor = g.D.Draw.floor; left = g.D.Draw.left; may = g.D.Draw.may; drew = g.D.Draw.drew }) c.args.draw.now c.enter.new.draw i.threads i.entries.entries c.enter.new.entries.entries i.rows c.resolve-resolution.new.self (resolve_made i.rows.managed t.cycle c.args.index freed c.args.cites) (resolution_of (answers_of c.args.alive.now.values) freed) c.deref.result.now draws refl (objects-numbers ms ∙ sym c.deref.ensures.value)
             (resolve-goes i.entries.entries c.enter.new.entries.entries i.rows c.resolve-resolution.new.self draws.adds.number c.args.index c.args.cites _ _ _ c.args.alive.now.values freed t one_each draws.adds.added);
         span = rw (t.before, many) refl;
         kept = t.counted;

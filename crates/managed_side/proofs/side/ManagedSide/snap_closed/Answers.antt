@@ -5,7 +5,9 @@ use Rattle.joint_model.specs.declared.names.Thread.TheVariants.{C}
 use Rattle.joint_model.specs.declared.events.Op.TheVariants as op
 use Rattle.joint_model.specs.declared.events.Reply.TheVariants as says
 use Rattle.joint_model.specs.Histories.{managed_numbers}
+use Rattle.joint_model.specs.Sides.{managed_rules}
 use Rattle.joint_model.specs.Told.{snap_of}
+use Rattle.joint_model.proofs.SideLists.{AreTaken-push}
 use Rattle.managed_side.specs.Openings.{snap_made}
 use Rattle.managed_side.specs.Steps.{step_made}
 use Rattle.managed_side.proofs.Driving.{adds-lawful, cycles-few, objects-numbers}
@@ -42,6 +44,7 @@ invariant_of-self-2 g c =
     let room : 2 ≤ c.enter-number.new.entries.spare = omega (arith, c.in_ok-reserve.ensures.room, c.enter-number.ensures.spare) in (
       side-replayed i.entries.entries c.enter-number.new.entries.entries i.rows c.snap.new.self draws.adds.number (g.D.Draw.floor c.args.draw.now) (snap_made s c.args.index freed t.candidates) (snap_of freed t.candidates t.dead) may.below draws.above draws.adds.added goes c.self.invariant.0,
       HasRoom-two c.snap.new.self c.enter-number.new.entries.spare room,
+      AreTaken-push managed_rules i.threads i.entries.entries c.enter-number.new.entries.entries draws.adds.number (snap_made s c.args.index freed t.candidates) tt draws.adds.added c.self.invariant.2,
     )
 
 pub returns-clause-snaps : goal.returns-clause-snaps
@@ -60,7 +63,7 @@ returns-clause-snaps g c =
       freed = freed;
       candidates = t.candidates;
       dead = t.dead;
-      adds = adds-lawful (record { floor = g.D.Draw.floor; left = g.D.Draw.left; may = g.D.Draw.may; drew = g.D.Draw.drew }) c.args.draw.now c.enter-number.new.draw i.entries.entries c.enter-number.new.entries.entries i.rows c.snap.new.self (snap_made s c.args.index freed t.candidates) (snap_of freed t.candidates t.dead) c.deref.result.now draws refl (objects-numbers ms ∙ sym c.deref.ensures.value) goes;
+      adds = adds-lawful (record { floor = g.D.Draw.floor; left = g.D.Draw.left; may = g.D.Draw.may; drew = g.D.Draw.drew }) c.args.draw.now c.enter-number.new.draw i.threads i.entries.entries c.enter-number.new.entries.entries i.rows c.snap.new.self (snap_made s c.args.index freed t.candidates) (snap_of freed t.candidates t.dead) c.deref.result.now draws refl (objects-numbers ms ∙ sym c.deref.ensures.value) goes;
       cycle = t.snapshot.next;
       counted = t.counted;
       span = rw (t.before, many) refl;

@@ -1,9 +1,10 @@
 -- The rows answer the event as the replay answers it, so the list goes on by its entry.
-use Rattle.std.proofs.Common.{◌≡◌, ◌≤◌, ◌∙◌, sym, ap, arith}
+use Rattle.std.proofs.Common.{◌≡◌, ◌≤◌, ◌∙◌, refl, sym, ap, arith}
 use Rattle.joint_model.specs.declared.events.Made.{Made}
-use Rattle.joint_model.specs.Sides.{cell_target}
+use Rattle.joint_model.specs.Sides.{cell_target, managed_rules}
 use Rattle.joint_model.specs.Told.{nothing}
-use Rattle.managed_side.specs.Sides.{side_of}
+use Rattle.joint_model.proofs.SideLists.{AreTaken-push}
+use Rattle.managed_side.specs.Sides.{state_of}
 use Rattle.managed_side.specs.Steps.{step_made, adopted_in}
 use Rattle.managed_side.proofs.Goes.{side-goes, side-replayed, step-of, step-allowed, kept-rows, may-set, may-target, HasRoom-two}
 use Rattle.managed_side.proofs.side.ManagedSide.step.Goals as goal
@@ -15,7 +16,7 @@ pub enter-requires-clause-may : goal.enter-requires-clause-may
 enter-requires-clause-may g c =
     let i = c.self.inside in
     let may = rw (← c.self.view_is) at c.requires.may in
-    may-target (record { floor = g.D.Draw.floor; left = g.D.Draw.left; may = g.D.Draw.may; drew = g.D.Draw.drew }) c.args.draw.now (side_of i.entries.entries i.rows).state c.args.caller c.args.op.now c.target-target.result may.bare may.targets
+    may-target (record { floor = g.D.Draw.floor; left = g.D.Draw.left; may = g.D.Draw.may; drew = g.D.Draw.drew }) c.args.draw.now (state_of i.entries.entries i.rows) c.args.caller c.args.op.now c.target-target.result may.bare may.targets
     (λ x e. may-set i.rows (adopted_in i.entries.entries) c.args.op.now x (c.target-target.ensures.may x e))
 
 pub invariant_of-self-2 : goal.invariant_of-self-2
@@ -26,16 +27,17 @@ invariant_of-self-2 g c =
     let fresh = rw (← c.self.view_is) at c.requires.fresh in
     let draws = rw c.in_ok-reserve.ensures.entries at c.enter.ensures.draws in
     let goes = side-goes i.entries.entries c.enter.new.entries.entries i.rows c.step.new.self draws.adds.number made nothing (step-of c.args.caller c.args.index c.args.op.now c.in_ok-reply.reply c.args.cites c.requires.event)
-    (step-allowed (side_of i.entries.entries i.rows).state c.args.caller c.args.op.now c.requires.event.1 fresh) draws.adds.added c.in_ok-reply.ensures.answer in
+    (step-allowed (state_of i.entries.entries i.rows) c.args.caller c.args.op.now c.requires.event.1 fresh) draws.adds.added c.in_ok-reply.ensures.answer in
     let room : 2 ≤ c.enter.new.entries.spare = omega (arith, c.in_ok-reserve.ensures.room, c.enter.ensures.spare) in (
       side-replayed i.entries.entries c.enter.new.entries.entries i.rows c.step.new.self draws.adds.number (g.D.Draw.floor c.args.draw.now) made nothing may.below draws.above draws.adds.added goes c.self.invariant.0,
       HasRoom-two c.step.new.self c.enter.new.entries.spare room,
+      AreTaken-push managed_rules i.threads i.entries.entries c.enter.new.entries.entries draws.adds.number made may.takes draws.adds.added c.self.invariant.2,
     )
 
 pub returns-clause-adds : goal.returns-clause-adds
 returns-clause-adds g c =
     let i = c.self.inside in
-    let s = (side_of i.entries.entries i.rows).state in
+    let s = (state_of i.entries.entries i.rows) in
     let made : Made = step_made c.args.caller c.args.index c.args.op.now c.in_ok-reply.reply c.args.cites in
     let fresh = rw (← c.self.view_is) at c.requires.fresh in
     let target : cell_target s c.args.caller c.args.op.now c.in_ok-reply.reply ≡ c.target-target.result =
@@ -43,4 +45,4 @@ returns-clause-adds g c =
     let draws = rw (c.in_ok-reserve.ensures.entries, ← target) at c.enter.ensures.draws in
     let goes = side-goes i.entries.entries c.enter.new.entries.entries i.rows c.step.new.self draws.adds.number made nothing (step-of c.args.caller c.args.index c.args.op.now c.in_ok-reply.reply c.args.cites c.requires.event)
     (step-allowed s c.args.caller c.args.op.now c.requires.event.1 fresh) draws.adds.added c.in_ok-reply.ensures.answer in
-    rw (← c.self.view_is) (record { draws = draws; goes = goes })
+    rw (← c.self.view_is) (record { draws = draws; goes = goes; threads = refl })

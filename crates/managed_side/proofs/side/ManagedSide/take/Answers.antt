@@ -5,7 +5,9 @@ use Rattle.joint_model.specs.declared.events.Made.{Made}
 use Rattle.joint_model.specs.Heaps.{answer, place}
 use Rattle.joint_model.specs.Managed.{pin_taken}
 use Rattle.joint_model.specs.Run.{thread_number}
+use Rattle.joint_model.specs.Sides.{managed_rules}
 use Rattle.joint_model.specs.Told.{nothing}
+use Rattle.joint_model.proofs.SideLists.{AreTaken-push}
 use Rattle.managed_side.specs.Steps.{step_made, take_op}
 use Rattle.managed_side.proofs.Goes.{side-goes, side-replayed, line-answers, take-of, kept-rows, HasRoom-two}
 use Rattle.managed_side.proofs.side.ManagedSide.take.Goals as goal
@@ -26,4 +28,5 @@ invariant_of-self-2 g c =
     let room : 2 ≤ c.enter.new.entries.spare = omega (arith, c.in_ok-reserve.ensures.room, c.enter.ensures.spare) in (
       side-replayed i.entries.entries c.enter.new.entries.entries i.rows c.take-reply.new.self draws.adds.number (g.D.Draw.floor c.args.draw.now) made nothing may.below draws.above draws.adds.added goes c.self.invariant.0,
       HasRoom-two c.take-reply.new.self c.enter.new.entries.spare room,
+      AreTaken-push managed_rules i.threads i.entries.entries c.enter.new.entries.entries draws.adds.number made may.takes draws.adds.added c.self.invariant.2,
     )

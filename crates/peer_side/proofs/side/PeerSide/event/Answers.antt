@@ -3,6 +3,8 @@ use Rattle.std.proofs.Common.{◌+◌, refl, sym, ap, subst, length, ◌∙◌, 
 use Rattle.std.proofs.lemmas.List.{length_push}
 use Rattle.joint_model.specs.declared.events.Made.{Made}
 use Rattle.joint_model.specs.Draws.{numbered}
+use Rattle.joint_model.specs.Sides.{AreTaken, peer_rules}
+use Rattle.joint_model.proofs.SideLists.{AreTaken-push}
 use Rattle.peer_side.specs.Marks.{MarksAfter}
 use Rattle.peer_side.proofs.Sides.{IsSide-roomy, IsSide-step, side-goes, targets-live, marks-closed}
 use Rattle.peer_side.proofs.Steps.{releases-tabled, room-more}
@@ -20,12 +22,12 @@ event-requires-clause-tabled g c =
 pub event-requires-clause-live : goal.event-requires-clause-live
 event-requires-clause-live g c =
     let i = c.self.inside in
-    targets-live i.rows i.marking i.markings i.mirroring i.entries c.self.invariant
+    targets-live i.rows i.marking i.markings i.mirroring i.entries c.self.invariant.0
 
 pub event-requires-clause-shut : goal.event-requires-clause-shut
 event-requires-clause-shut g c = λ up.
     let i = c.self.inside in
-    marks-closed i.rows i.marking i.markings i.mirroring i.entries c.self.invariant (sym c.is_some-is_open.ensures ∙ up)
+    marks-closed i.rows i.marking i.markings i.mirroring i.entries c.self.invariant.0 (sym c.is_some-is_open.ensures ∙ up)
 
 pub enter-requires-clause-spare : goal.enter-requires-clause-spare
 enter-requires-clause-spare g c =
@@ -45,12 +47,15 @@ invariant_of-self-2 g c =
     let counted = ap (λ k. room_for c.args.op.now k) c.kept-kept.ensures.kept in
     let more = room-more c.args.op.now i.rows.tabled (owed i.marking) in
     let all = room-more c.args.op.now (i.rows.tabled + owed i.marking) (owes i.mirroring) in
-    let below = (rw (sym c.self.view_is) at c.requires.may).below in
+    let may = rw (sym c.self.view_is) at c.requires.may in
     let marks = subst (λ b. MarksAfter b i.rows.rows c.args.op.now c.in_ok-reply.reply c.event.new.self.rows) c.is_some-is_open.ensures c.in_ok-reply.ensures.marks in
-    IsSide-step i.rows c.event.new.self i.marking i.markings i.mirroring i.entries c.enter.new.entries draws.adds.number _ made draws.adds.added below draws.above c.requires.step allowed c.in_ok-reply.ensures.goes marks
-    (omega (arith, made-room, more, all, counted, c.in_ok-reply.ensures.room, c.enter.ensures.spare))
-    (omega (arith, c.in_ok-make_room.ensures.limit, c.enter.ensures.spare, ap length draws.adds.added, length_push i.entries.entries (numbered draws.adds.number made), ap length c.in_ok-make_room.ensures.entries))
-    c.self.invariant
+    let taken = AreTaken-push peer_rules i.threads i.entries.entries c.enter.new.entries.entries draws.adds.number made may.takes draws.adds.added c.self.invariant.1 in (
+      IsSide-step i.rows c.event.new.self i.marking i.markings i.mirroring i.entries c.enter.new.entries draws.adds.number _ made draws.adds.added may.below draws.above c.requires.step allowed c.in_ok-reply.ensures.goes marks
+          (omega (arith, made-room, more, all, counted, c.in_ok-reply.ensures.room, c.enter.ensures.spare))
+          (omega (arith, c.in_ok-make_room.ensures.limit, c.enter.ensures.spare, ap length draws.adds.added, length_push i.entries.entries (numbered draws.adds.number made), ap length c.in_ok-make_room.ensures.entries))
+          c.self.invariant.0,
+      taken,
+    )
 
 pub returns-clause-adds : goal.returns-clause-adds
 returns-clause-adds g c =
@@ -59,12 +64,14 @@ returns-clause-adds g c =
     let allowed = rw (sym c.self.view_is) at c.requires.allowed in
     let draws = rw c.in_ok-make_room.ensures.entries at c.enter.ensures.draws in
     let marks = subst (λ b. MarksAfter b i.rows.rows c.args.op.now c.in_ok-reply.reply c.event.new.self.rows) c.is_some-is_open.ensures c.in_ok-reply.ensures.marks in
-    let goes = side-goes i.rows c.event.new.self i.marking i.markings i.mirroring i.entries c.enter.new.entries.entries draws.adds.number made c.self.invariant draws.adds.added c.requires.step c.in_ok-reply.ensures.goes marks allowed in
-    rw (sym c.self.view_is) (record { draws = draws; goes = goes })
+    let goes = side-goes i.rows c.event.new.self i.marking i.markings i.mirroring i.entries c.enter.new.entries.entries draws.adds.number made c.self.invariant.0 draws.adds.added c.requires.step c.in_ok-reply.ensures.goes marks allowed in
+    rw (sym c.self.view_is) (record { draws = draws; goes = goes; threads = refl })
 
 pub invariant_of-self-in_err-reply : goal.invariant_of-self-in_err-reply
 invariant_of-self-in_err-reply g c =
     let i = c.self.inside in
-    let room = c.in_ok-make_room.ensures in
-    IsSide-roomy i.rows c.event.new.self i.marking i.markings i.mirroring i.mirroring i.entries c.make_room.new.entries i.rows.rows.room c.in_err-reply.ensures.err refl room.entries
-    (omega (arith, c.self.invariant.room, room.kept)) room.limit c.self.invariant.refs_room c.self.invariant
+    let room = c.in_ok-make_room.ensures in (
+      IsSide-roomy i.rows c.event.new.self i.marking i.markings i.mirroring i.mirroring i.entries c.make_room.new.entries i.rows.rows.room c.in_err-reply.ensures.err refl room.entries
+          (omega (arith, c.self.invariant.0.room, room.kept)) room.limit c.self.invariant.0.refs_room c.self.invariant.0,
+      subst (AreTaken peer_rules i.threads) (sym room.entries) c.self.invariant.1,
+    )

@@ -3,6 +3,8 @@ use Rattle.std.proofs.Common.{◌+◌, sym, ap, length, refl, arith}
 use Rattle.std.proofs.lemmas.List.{length_push}
 use Rattle.joint_model.specs.declared.names.Marking.{Marking as Number}
 use Rattle.joint_model.specs.Draws.{numbered}
+use Rattle.joint_model.specs.Sides.{peer_rules}
+use Rattle.joint_model.proofs.SideLists.{AreTaken-push}
 use Rattle.peer_side.specs.declared.side.OpenMarking.{OpenMarking}
 use Rattle.peer_side.specs.Sides.{begins, state_with}
 use Rattle.joint_model.specs.Told.{nothing}
@@ -12,22 +14,25 @@ use Rattle.peer_side.proofs.Whole.{strong-live}
 use Rattle.peer_side.proofs.side.PeerSide.open_marking.Goals as goal
 
 pub mark-requires-clause-strong_ones : goal.mark-requires-clause-strong_ones
-mark-requires-clause-strong_ones g c = (let i = c.self.inside in strong-live (state_with i.entries.entries i.rows i.marking i.markings i.mirroring) c.self.invariant.kept)
+mark-requires-clause-strong_ones g c = (let i = c.self.inside in strong-live (state_with i.entries.entries i.rows i.marking i.markings i.mirroring) c.self.invariant.0.kept)
 
 pub mark-requires-clause-ends : goal.mark-requires-clause-ends
-mark-requires-clause-ends g c = (let i = c.self.inside in ends-live i.rows i.marking i.markings i.mirroring i.entries c.self.invariant)
+mark-requires-clause-ends g c = (let i = c.self.inside in ends-live i.rows i.marking i.markings i.mirroring i.entries c.self.invariant.0)
 
 pub invariant_of-self-2 : goal.invariant_of-self-2
 invariant_of-self-2 g c =
     let i = c.self.inside in
     let number : Number = record { 0 = i.markings + 1 } in
     let closed = rw (sym c.self.view_is) at c.requires.closed in
-    let below = (rw (sym c.self.view_is) at c.requires.may).below in
+    let may = rw (sym c.self.view_is) at c.requires.may in
     let draws = rw c.in_ok-room_to_mark.ensures.entries at c.enter.ensures.draws in
-    rw c.in_ok-room_to_mark.ensures.mirroring
-    (IsSide-begun i.rows c.mark.new.self i.marking _ i.markings i.mirroring c.args.own i.entries c.enter.new.entries draws.adds.number _ c.args.caller c.args.index number c.self.invariant c.mark.ensures.rest c.mark.ensures.marks closed refl refl c.len-from.ensures c.of-begin.ensures refl c.requires.caller draws.adds.added below draws.above
-    (omega (arith, c.in_ok-room_to_mark.ensures.room, ap owes c.in_ok-room_to_mark.ensures.mirroring, c.kept-kept.ensures.kept, c.enter.ensures.spare))
-    (omega (arith, c.in_ok-room_to_mark.ensures.limit, c.enter.ensures.spare, ap length draws.adds.added, length_push i.entries.entries (numbered draws.adds.number (begins c.args.caller c.args.index number)), ap length c.in_ok-room_to_mark.ensures.entries)))
+    let taken = AreTaken-push peer_rules i.threads i.entries.entries c.enter.new.entries.entries draws.adds.number (begins c.args.caller c.args.index number) may.takes draws.adds.added c.self.invariant.1 in (
+      rw c.in_ok-room_to_mark.ensures.mirroring
+          (IsSide-begun i.rows c.mark.new.self i.marking _ i.markings i.mirroring c.args.own i.entries c.enter.new.entries draws.adds.number _ c.args.caller c.args.index number c.self.invariant.0 c.mark.ensures.rest c.mark.ensures.marks closed refl refl c.len-from.ensures c.of-begin.ensures refl c.requires.caller draws.adds.added may.below draws.above
+          (omega (arith, c.in_ok-room_to_mark.ensures.room, ap owes c.in_ok-room_to_mark.ensures.mirroring, c.kept-kept.ensures.kept, c.enter.ensures.spare))
+          (omega (arith, c.in_ok-room_to_mark.ensures.limit, c.enter.ensures.spare, ap length draws.adds.added, length_push i.entries.entries (numbered draws.adds.number (begins c.args.caller c.args.index number)), ap length c.in_ok-room_to_mark.ensures.entries))),
+      taken,
+    )
 
 pub returns-clause-begun : goal.returns-clause-begun
 returns-clause-begun g c =
@@ -35,7 +40,7 @@ returns-clause-begun g c =
     let number : Number = record { 0 = i.markings + 1 } in
     let closed = rw (sym c.self.view_is) at c.requires.closed in
     let draws = rw c.in_ok-room_to_mark.ensures.entries at c.enter.ensures.draws in
-    let still = begin-still i.rows i.marking i.markings i.mirroring i.entries c.enter.new.entries.entries draws.adds.number (begins c.args.caller c.args.index number) c.self.invariant draws.adds.added tt in
+    let still = begin-still i.rows i.marking i.markings i.mirroring i.entries c.enter.new.entries.entries draws.adds.number (begins c.args.caller c.args.index number) c.self.invariant.0 draws.adds.added tt in
     let opens : OpenMarking = record { number = number; by = c.args.caller; from = c.len-from.result; begin = c.of-begin.result } in
     let goes = begun-goes i.rows c.mark.new.self opens i.markings i.mirroring i.entries.entries c.enter.new.entries.entries c.args.caller c.mark.ensures.rest refl refl c.len-from.ensures c.of-begin.ensures still i.marking c.args.index number closed refl c.requires.caller in
-    rw (sym c.self.view_is, c.in_ok-room_to_mark.ensures.mirroring) (record { draws = draws; goes = own-goes i.rows c.mark.new.self i.marking opens i.markings (i.markings + 1) i.mirroring c.args.own i.entries.entries c.enter.new.entries.entries (begins c.args.caller c.args.index number) nothing goes })
+    rw (sym c.self.view_is, c.in_ok-room_to_mark.ensures.mirroring) (record { draws = draws; goes = own-goes i.rows c.mark.new.self i.marking opens i.markings (i.markings + 1) i.mirroring c.args.own i.entries.entries c.enter.new.entries.entries (begins c.args.caller c.args.index number) nothing goes; threads = refl })

@@ -1,8 +1,9 @@
 -- The handle is gone or strong again, and one restore less is owed.
-use Rattle.std.proofs.Common.{◌≡◌, Some, sym, ap, subst, ◌∙◌}
+use Rattle.std.proofs.Common.{◌≡◌, Some, refl, sym, ap, subst, ◌∙◌}
 use Rattle.std.specs.Option.{is_some}
 use Rattle.joint_model.specs.Sides.{GoesOn, peer_rules}
 use Rattle.joint_model.specs.Told.{nothing}
+use Rattle.joint_model.proofs.SideLists.{AreTaken-push}
 use Rattle.peer_side.specs.Cycles.{restores}
 use Rattle.peer_side.specs.Mirroring.{IsRestored}
 use Rattle.peer_side.specs.Sides.{IsSide, state_with}
@@ -18,17 +19,17 @@ restore-back-requires-clause-tabled g c =
 pub restore-back-requires-clause-live : goal.restore-back-requires-clause-live
 restore-back-requires-clause-live g c =
     let i = c.self.inside in
-    targets-live i.rows i.marking i.markings i.mirroring i.entries c.self.invariant
+    targets-live i.rows i.marking i.markings i.mirroring i.entries c.self.invariant.0
 
 pub restore-back-requires-clause-shut : goal.restore-back-requires-clause-shut
 restore-back-requires-clause-shut g c = λ up.
     let i = c.self.inside in
-    marks-closed i.rows i.marking i.markings i.mirroring i.entries c.self.invariant (sym c.is_some-is_open.ensures ∙ up)
+    marks-closed i.rows i.marking i.markings i.mirroring i.entries c.self.invariant.0 (sym c.is_some-is_open.ensures ∙ up)
 
 pub restored-requires : goal.restored-requires
 restored-requires g c =
     let i = c.self.inside in
-    restore-owed i.rows i.marking i.markings i.mirroring c.in-Some.mirror i.entries c.args.h c.self.invariant (sym c.in-Some.ensures.mirror) (rw (sym c.self.view_is) at c.requires.restores)
+    restore-owed i.rows i.marking i.markings i.mirroring c.in-Some.mirror i.entries c.args.h c.self.invariant.0 (sym c.in-Some.ensures.mirror) (rw (sym c.self.view_is) at c.requires.restores)
 
 pub invariant_of-self : goal.invariant_of-self
 invariant_of-self g c =
@@ -40,8 +41,11 @@ invariant_of-self g c =
     let here : i.mirroring.mirror ≡ Some x = sym c.in-Some.ensures.mirror in
     let draws = rw c.reply_of.ensures at c.note.ensures.draws in
     let back = subst (λ b. IsRestored b i.rows c.args.h.0 c.restore-back.result w) c.is_some-is_open.ensures c.restore-back.ensures in
-    subst (λ z. IsSide w i.marking i.markings z c.note.new.entries) (sym (c.set_mirror.ensures ∙ ap (on_mirror i.mirroring) c.restored.ensures))
-    (IsSide-restored i.rows w i.marking i.markings i.mirroring x i.entries c.note.new.entries draws.adds.number _ c.args.index c.args.h c.restore-back.result c.self.invariant draws.adds.added below draws.above here back may c.note.ensures.spare)
+    let taken = AreTaken-push peer_rules i.threads i.entries.entries c.note.new.entries.entries draws.adds.number (restores c.args.index c.args.h c.restore-back.result) tt draws.adds.added c.self.invariant.1 in (
+      subst (λ z. IsSide w i.marking i.markings z c.note.new.entries) (sym (c.set_mirror.ensures ∙ ap (on_mirror i.mirroring) c.restored.ensures))
+          (IsSide-restored i.rows w i.marking i.markings i.mirroring x i.entries c.note.new.entries draws.adds.number _ c.args.index c.args.h c.restore-back.result c.self.invariant.0 draws.adds.added below draws.above here back may c.note.ensures.spare),
+      taken,
+    )
 
 pub returns-clause-adds : goal.returns-clause-adds
 returns-clause-adds g c =
@@ -51,7 +55,7 @@ returns-clause-adds g c =
     let may = rw (sym c.self.view_is) at c.requires.restores in
     let draws = rw c.reply_of.ensures at c.note.ensures.draws in
     let back = subst (λ b. IsRestored b i.rows c.args.h.0 c.restore-back.result w) c.is_some-is_open.ensures c.restore-back.ensures in
-    let goes = restore-goes i.rows w i.marking i.markings i.mirroring x i.entries c.note.new.entries.entries draws.adds.number c.args.index c.args.h c.restore-back.result (is_some i.marking) c.self.invariant draws.adds.added (sym c.in-Some.ensures.mirror) back may in
+    let goes = restore-goes i.rows w i.marking i.markings i.mirroring x i.entries c.note.new.entries.entries draws.adds.number c.args.index c.args.h c.restore-back.result (is_some i.marking) c.self.invariant.0 draws.adds.added (sym c.in-Some.ensures.mirror) back may in
     let moved = subst (λ z. GoesOn peer_rules (state_with i.entries.entries i.rows i.marking i.markings i.mirroring) (restores c.args.index c.args.h c.restore-back.result) nothing (state_with c.note.new.entries.entries w i.marking i.markings z))
     (sym (c.set_mirror.ensures ∙ ap (on_mirror i.mirroring) c.restored.ensures)) goes in
-    rw (sym c.self.view_is) (record { draws = draws; goes = moved })
+    rw (sym c.self.view_is) (record { draws = draws; goes = moved; threads = refl })

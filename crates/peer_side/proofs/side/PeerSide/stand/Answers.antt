@@ -1,8 +1,9 @@
 -- The references come to stand, and the replay's mirror is what the parts show.
-use Rattle.std.proofs.Common.{ℕ, length, sym, ap, subst, ◌∙◌, arith}
+use Rattle.std.proofs.Common.{ℕ, length, refl, sym, ap, subst, ◌∙◌, arith}
 use Rattle.joint_model.specs.PeerReplay.{Refers}
 use Rattle.joint_model.specs.Sides.{GoesOn, peer_rules}
 use Rattle.joint_model.specs.Told.{references_of}
+use Rattle.joint_model.proofs.SideLists.{AreTaken-push}
 use Rattle.peer_side.specs.Cycles.{mirrors}
 use Rattle.peer_side.specs.Mirroring.{with_stood}
 use Rattle.peer_side.specs.Mirrors.{Mirrors}
@@ -17,7 +18,7 @@ stand-requires-clause-ends g c = λ p q r.
     let s = state_with i.entries.entries i.rows i.marking i.markings i.mirroring in
     let ends = rw (sym c.self.view_is) at c.requires.strong_ends in
     let both = ends p q (subst (λ l. Refers l p q) c.waiting-waiting.ensures.waiting r) in
-    (strong-live s c.self.invariant.kept p both.0, strong-live s c.self.invariant.kept q both.1)
+    (strong-live s c.self.invariant.0.kept p both.0, strong-live s c.self.invariant.0.kept q both.1)
 
 pub invariant_of-self : goal.invariant_of-self
 invariant_of-self g c =
@@ -30,9 +31,12 @@ invariant_of-self g c =
     let draws = rw waits at c.note.ensures.draws in
     let put = c.stand.ensures ∙ ap (with_stood i.rows) waits in
     let stood : ℕ → Mirrors = λ from. stood_mirrors i.mirroring c.args.cycle c.args.cites from c.in-Some.handles in
-    subst (λ z. IsSide c.stand.new.self i.marking i.markings z c.note.new.entries) (sym (c.stand-2.ensures ∙ ap stood c.len-from.ensures))
-    (IsSide-stood i.rows c.stand.new.self i.marking i.markings i.mirroring i.entries c.note.new.entries draws.adds.number _ c.args.index c.args.cycle c.args.cites c.in-Some.handles c.self.invariant draws.adds.added below draws.above put closed (sym c.in-Some.ensures) once ends
-    (omega (arith, c.waiting-waiting.ensures.most, ap length waits)) c.note.ensures.spare)
+    let taken = AreTaken-push peer_rules i.threads i.entries.entries c.note.new.entries.entries draws.adds.number (mirrors c.args.index c.args.cycle (length i.mirroring.waiting) c.args.cites) tt draws.adds.added c.self.invariant.1 in (
+      subst (λ z. IsSide c.stand.new.self i.marking i.markings z c.note.new.entries) (sym (c.stand-2.ensures ∙ ap stood c.len-from.ensures))
+          (IsSide-stood i.rows c.stand.new.self i.marking i.markings i.mirroring i.entries c.note.new.entries draws.adds.number _ c.args.index c.args.cycle c.args.cites c.in-Some.handles c.self.invariant.0 draws.adds.added below draws.above put closed (sym c.in-Some.ensures) once ends
+          (omega (arith, c.waiting-waiting.ensures.most, ap length waits)) c.note.ensures.spare),
+      taken,
+    )
 
 pub returns-clause-adds : goal.returns-clause-adds
 returns-clause-adds g c =
@@ -44,7 +48,7 @@ returns-clause-adds g c =
     let draws = rw waits at c.note.ensures.draws in
     let put = c.stand.ensures ∙ ap (with_stood i.rows) waits in
     let stood : ℕ → Mirrors = λ from. stood_mirrors i.mirroring c.args.cycle c.args.cites from c.in-Some.handles in
-    let goes = stood-goes i.rows w i.marking i.markings i.mirroring i.entries c.note.new.entries.entries draws.adds.number c.args.index c.args.cycle c.args.cites c.in-Some.handles c.self.invariant draws.adds.added put closed once in
+    let goes = stood-goes i.rows w i.marking i.markings i.mirroring i.entries c.note.new.entries.entries draws.adds.number c.args.index c.args.cycle c.args.cites c.in-Some.handles c.self.invariant.0 draws.adds.added put closed once in
     let moved = subst (λ z. GoesOn peer_rules (state_with i.entries.entries i.rows i.marking i.markings i.mirroring) (mirrors c.args.index c.args.cycle (length i.mirroring.waiting) c.args.cites) (references_of i.mirroring.waiting) (state_with c.note.new.entries.entries w i.marking i.markings z))
     (sym (c.stand-2.ensures ∙ ap stood c.len-from.ensures)) goes in
-    rw (sym c.self.view_is, waits) (record { draws = draws; goes = moved })
+    rw (sym c.self.view_is, waits) (record { draws = draws; goes = moved; threads = refl })

@@ -5,7 +5,7 @@ use Rattle.peer_side.specs.Sides.{seen}
 use Rattle.side_tests.proofs.Counting.{counted-in-turn}
 use Rattle.side_tests.proofs.Holding.{same-held, stays-held}
 use Rattle.side_tests.proofs.Moves.{makings-still, still-in-turn, still-may, still-step}
-use Rattle.side_tests.proofs.PeerSteps.{counted-may-step}
+use Rattle.side_tests.proofs.PeerSteps.{counted-may-step, step-taken}
 use Rattle.side_tests.proofs.loose.Driven.does.Goals as goal
 
 pub step-requires-clause-step : goal.step-requires-clause-step
@@ -15,7 +15,7 @@ pub step-requires-clause-allowed : goal.step-requires-clause-allowed
 step-requires-clause-allowed c = still-may c.self.inside.side.state c.args.caller c.args.op (c.if-not-is_still.ensures refl)
 
 pub step-requires-clause-may : goal.step-requires-clause-may
-step-requires-clause-may c = counted-may-step (seen c.self.inside.side) c.self.inside.draw c.args.caller c.args.op c.self.invariant.0
+step-requires-clause-may c = counted-may-step (seen c.self.inside.side) c.self.inside.draw c.args.caller c.args.op (step-taken c.args.caller c.args.op (still-step c.args.caller c.args.op (c.if-not-is_still.ensures refl))) c.self.invariant.0
 
 pub invariant_of-self : goal.invariant_of-self
 invariant_of-self c = same-held c.self.inside.side c.step.new.self c.self.inside.draw c.step.new.draw c.in_err-reply.ensures.err c.self.invariant

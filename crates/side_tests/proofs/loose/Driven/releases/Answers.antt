@@ -15,7 +15,7 @@ pub step-requires-clause-allowed : goal.step-requires-clause-allowed
 step-requires-clause-allowed c = let t = c.if-not-is_tabled.ensures refl in record { is_held = c.self.invariant.1; row = t.0; tabled = t.1 }
 
 pub step-requires-clause-may : goal.step-requires-clause-may
-step-requires-clause-may c = counted-may-step (seen c.self.inside.side) c.self.inside.draw (M 1) (op.Release record { 0 = 1 }) c.self.invariant.0
+step-requires-clause-may c = counted-may-step (seen c.self.inside.side) c.self.inside.draw (M 1) (op.Release record { 0 = 1 }) tt c.self.invariant.0
 
 pub invariant_of-self : goal.invariant_of-self
 invariant_of-self c = same-held c.self.inside.side c.step.new.self c.self.inside.draw c.step.new.draw c.in_err-reply.ensures.err c.self.invariant

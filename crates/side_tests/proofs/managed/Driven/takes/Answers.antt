@@ -13,6 +13,6 @@ invariant_of-self c = driven-same c.self.inside.side c.take.new.self c.self.insi
 
 pub invariant_of-self-2 : goal.invariant_of-self-2
 invariant_of-self-2 c =
-    let k = kept-side c.self.inside.side c.replays.ensures in
+    let k = kept-side c.self.inside.side.entries c.self.inside.side.state c.replays.ensures.replayed in
     driven-still c.self.inside.side c.take.new.self c.self.inside.draw c.take.new.draw c.self.inside.waiting _ nothing c.in_ok-reply.ensures.adds (λ h k. inl k)
     (managed_line-goes_on c.self.inside.side.state.managed (thread_number c.args.caller) (act.Take record { 0 = c.args.v }) k.managed.places k.managed.cells).cycle c.self.invariant

@@ -6,7 +6,7 @@ use Rattle.peer_side.specs.Sides.{Reserve}
 use Rattle.side_tests.proofs.Circles.{circle-same, circle-stays}
 use Rattle.side_tests.proofs.Counting.{counted-in-turn}
 use Rattle.side_tests.proofs.Moves.{makings-still, still-in-turn, still-may, still-step}
-use Rattle.side_tests.proofs.PeerSteps.{counted-may-step}
+use Rattle.side_tests.proofs.PeerSteps.{counted-may-step, step-taken}
 use Rattle.side_tests.proofs.mirrors.Driven.does.Goals as goal
 
 pub step-requires-clause-step : goal.step-requires-clause-step
@@ -16,7 +16,7 @@ pub step-requires-clause-allowed : goal.step-requires-clause-allowed
 step-requires-clause-allowed c = still-may c.self.inside.side.state c.args.caller c.args.op (c.if-not-is_still.ensures refl)
 
 pub step-requires-clause-may : goal.step-requires-clause-may
-step-requires-clause-may c = counted-may-step (seen c.self.inside.side) c.self.inside.draw c.args.caller c.args.op c.self.invariant.counted
+step-requires-clause-may c = counted-may-step (seen c.self.inside.side) c.self.inside.draw c.args.caller c.args.op (step-taken c.args.caller c.args.op (still-step c.args.caller c.args.op (c.if-not-is_still.ensures refl))) c.self.invariant.counted
 
 pub invariant_of-self : goal.invariant_of-self
 invariant_of-self c =

@@ -1,13 +1,13 @@
 -- A step draws in turn, from a plain count.
-use Rattle.std.proofs.Common.{ap}
+use Rattle.std.proofs.Common.{ap, refl}
 use Rattle.joint_model.specs.Sides.{peer_rules}
 use Rattle.peer_side.specs.Sides.{seen}
 use Rattle.side_tests.proofs.Counting.{counted-in-turn, counted-same}
-use Rattle.side_tests.proofs.PeerSteps.{counted-may-step}
+use Rattle.side_tests.proofs.PeerSteps.{counted-may-step, step-taken}
 use Rattle.side_tests.proofs.peers.Driven.does.Goals as goal
 
 pub step-requires-clause-may : goal.step-requires-clause-may
-step-requires-clause-may c = counted-may-step (seen c.self.inside.side) c.self.inside.draw c.args.caller c.args.op c.self.invariant
+step-requires-clause-may c = counted-may-step (seen c.self.inside.side) c.self.inside.draw c.args.caller c.args.op (step-taken c.args.caller c.args.op (c.if-not-is_step.ensures refl).0) c.self.invariant
 
 pub invariant_of-self : goal.invariant_of-self
 invariant_of-self c = let same = c.in_err-reply.ensures.err in counted-same (seen c.self.inside.side) (seen c.step.new.self) c.self.inside.draw c.step.new.draw (ap seen same.0, same.1) c.self.invariant

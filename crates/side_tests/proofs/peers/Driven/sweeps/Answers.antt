@@ -12,6 +12,6 @@ sweep-requires-clause-own c = driver-ends c.self.inside.side.state.marking
 
 pub invariant_of-self : goal.invariant_of-self
 invariant_of-self c = elim c.match-sweep.branch [
-  | in-Ok w ↦ counted-once peer_rules (seen c.self.inside.side) (seen c.sweep.new.self) c.self.inside.draw c.sweep.new.draw _ _ w.in-Ok.ensures.swept
+  | in-Ok w ↦ counted-once peer_rules (seen c.self.inside.side) (seen c.sweep.new.self) c.self.inside.draw c.sweep.new.draw _ _ w.in-Ok.ensures.swept c.self.invariant
   | in-Err w ↦ (let same = w.in-Err.ensures.err in counted-same (seen c.self.inside.side) (seen c.sweep.new.self) c.self.inside.draw c.sweep.new.draw (ap seen same.1, same.2) c.self.invariant)
 ]
