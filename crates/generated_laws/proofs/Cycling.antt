@@ -1,0 +1,177 @@
+-- A cycle that runs when all threads have ended leaves what is kept and nothing else: phase by phase, what is known of the rows that are left.
+use Rattle.std.proofs.Common.{◌≡◌, ℕ, suc, inl, inr, List, [], ◌∷◌, Option, Some, None, refl, sym, ap, subst, ◌∙◌, arith}
+use Rattle.std.specs.Prelude.{Contains, slice_get, if◌then◌else◌}
+use Rattle.std.proofs.lemmas.Option.{same_Some, slice_get_within}
+use Rattle.joint_model.specs.Control.{Stand, OpenSnap, idle, snapped, contracted, weakening, marked, restoring, restored}
+use Rattle.joint_model.specs.Cycles.{IsSnapshot, IsAnsweredAlive}
+use Rattle.joint_model.specs.Heaps.{IsLive, InSlot, with_freed, fields_of}
+use Rattle.joint_model.specs.Linked.{Linkage}
+use Rattle.joint_model.specs.Managed.{Managed, OpenCycle, Holds, IsManagedRoot, ManagedEdge, IsManagedReached}
+use Rattle.joint_model.specs.ManagedReplay.{MayResolve}
+use Rattle.joint_model.specs.Peers.{Peers, Issued, Strength, strong, weak, is_strong, peer_of}
+use Rattle.joint_model.specs.PeerReplay.{PeerReplay, TableRow, Marking, IsMarkingRoot, MarkingEdge, IsMarked, Refers, strong_peers}
+use Rattle.joint_model.specs.Told.{Answer, said_alive, said_cleared}
+use Rattle.joint_model.specs.Walks.{Reaches}
+use Rattle.joint_model.proofs.Deciding.{none_some, some-same}
+use Rattle.joint_model.proofs.HeapLemmas.{IsLive-before, IsLive-spared}
+use Rattle.joint_model.proofs.Members.{Contains-nil, Contains-cons_cases, Contains-at, at-Contains, Contains-decided}
+use Rattle.joint_model.proofs.Numbered.{numbered-within}
+use Rattle.joint_model.proofs.WalkLemmas.{Reached-keeps, Reaches-keeps}
+use Rattle.joint_laws.specs.LinkedInvariants.{IsDriverKept, IsInMarking, IsRowOf, HasStrength}
+use Rattle.joint_laws.specs.PeerInvariants.{IsIssued, IsTabled}
+use Rattle.joint_laws.proofs.DeadMirrors.{mirror_edge-managed}
+use Rattle.joint_laws.proofs.DriverSteps.{strength-one}
+use Rattle.joint_laws.proofs.LinkedEntries.{Of}
+use Rattle.joint_laws.proofs.PeerEntries.{peer_of-issued}
+use Rattle.joint_laws.proofs.SparedWalks.{peer_of-row}
+use Rattle.generated_laws.proofs.Pictures.{Mind}
+use Rattle.generated_laws.proofs.Showing.{Group, Names}
+use Rattle.generated_laws.proofs.PeerShowing.{Filled}
+use Rattle.generated_laws.proofs.Kept.{rows_of, peers_of, stands-row, peer-stands, stands-peer, stable, IsSettled, root-kept, peer_slot-kept, edge-kept, names-on, kept-bridge, only-row}
+
+-- which strong handle a root is of
+record IsListed (issued : List Issued) (table : List (Option TableRow)) (p : ℕ) : Type 0 where
+  pub place : ℕ
+  pub row : TableRow
+  pub is : Issued
+  pub tabled : slice_get table place ≡ Some (Some row)
+  pub is_strong_one : row.strength ≡ strong
+  pub is_issued : slice_get issued place ≡ Some is
+  pub leads : is.peer ≡ p
+
+later-listed : (i : Issued) (r : Option TableRow) (issued : List Issued) (table : List (Option TableRow)) (p : ℕ) → IsListed issued table p → IsListed (i ∷ issued) (r ∷ table) p
+later-listed i r issued table p w = record { place = suc w.place; row = w.row; is = w.is; tabled = w.tabled; is_strong_one = w.is_strong_one; is_issued = w.is_issued; leads = w.leads }
+
+listed : (issued : List Issued) (table : List (Option TableRow)) (p : ℕ) → Contains (strong_peers issued table) p → IsListed issued table p
+listed [] table p c = absurd (Contains-nil p c)
+listed (j ∷ issued) [] p c = absurd (Contains-nil p c)
+listed (j ∷ issued) (None ∷ table) p c = later-listed j None issued table p (listed issued table p c)
+listed (j ∷ issued) (Some r ∷ table) p c = by r.strength refl c (λ d. listed issued table p d)
+  where
+    by : (x : Strength) → r.strength ≡ x → Contains (if is_strong x then j.peer ∷ strong_peers issued table else strong_peers issued table) p → (Contains (strong_peers issued table) p → IsListed issued table p) → IsListed (j ∷ issued) (Some r ∷ table) p
+    by weak e d rest = later-listed j (Some r) issued table p (rest d)
+    by strong e d rest = elim (Contains-cons_cases j.peer (strong_peers issued table) p d) [
+      | inl q ↦ record { place = 0; row = r; is = j; tabled = refl; is_strong_one = e; is_issued = refl; leads = q }
+      | inr t ↦ later-listed j (Some r) issued table p (rest t)
+    ]
+
+module _ (minds : ℕ → Mind) (fills : ℕ → Filled) (groups : List (Option Group)) where
+  -- a row outside the dead part is kept
+  abbrev pub Rest : Managed → Type 0
+  Rest m = (c : OpenCycle) → m.cycle ≡ Some c → (x : ℕ) → IsLive m.heap x → (Contains c.dead x → ⊥) → Contains (rows_of groups) x
+
+  -- what the own marking marks is kept
+  pub record OnlyMarks (p : PeerReplay) : Type 0 where
+    pub only : (mk : Marking) → p.marking ≡ Some mk → (q : ℕ) → IsMarked mk q → Contains (peers_of p.peers.issued groups) q
+    pub old : (mk : Marking) → p.marking ≡ Some mk → (q : ℕ) → IsLive p.peers.heap q → IsLive mk.heap q
+
+  abbrev pub PeersLeft : Peers → Type 0
+  PeersLeft p = (q : ℕ) → IsLive p.heap q → Contains (peers_of p.issued groups) q
+
+  abbrev pub RowsLeft : Managed → Type 0
+  RowsLeft m = (x : ℕ) → IsLive m.heap x → Contains (rows_of groups) x
+
+  abbrev pub Known : Managed → PeerReplay → Stand → Type 0
+  Known m p idle = RowsLeft m × PeersLeft p.peers
+  Known m p (snapped o) = Rest m
+  Known m p (contracted o comps xrefs) = Rest m
+  Known m p (weakening o count seen swept_one) = Rest m
+  Known m p (marked o) = Rest m × OnlyMarks p
+  Known m p (restoring o answers) = Rest m × PeersLeft p.peers
+  Known m p (restored o answers clear) = Rest m × PeersLeft p.peers
+
+  module _ (s : Linkage) (w : IsSettled minds fills groups s) (k : Of s) where
+    abbrev sm : Managed
+    sm = s.managed.managed
+
+    abbrev sp : Peers
+    sp = s.peer.peers
+
+    reached-kept : (x : ℕ) → IsManagedReached sm x → Contains (rows_of groups) x
+    reached-kept x r = Reached-keeps (IsManagedRoot sm) (ManagedEdge sm) (λ z. Contains (rows_of groups) z) (λ z e. root-kept minds fills groups s w k z e) (λ a b e c. edge-kept minds fills groups s w k a b e c) x r
+
+    -- behind the snapshot
+    pub snap-rest : (c : ℕ) (freed candidates dead : List ℕ) → IsSnapshot sm c freed candidates dead → (x : ℕ) → IsLive (with_freed sm.heap freed) x → (Contains dead x → ⊥) → Contains (rows_of groups) x
+    snap-rest c freed candidates dead a x l n = stable (rows_of groups) x (λ out. n ((a.leaves x).1 (IsLive-before sm.heap freed x l, (λ r. out (reached-kept x r)), IsLive-spared sm.heap freed x l)))
+
+    -- a strong handle is a kept bridge's
+    strong-kept : (o : OpenSnap) (d : IsInMarking s.managed s.peer o) → Rest sm → (h : ℕ) (row : TableRow) (i : Issued) → IsTabled s.peer.table h row → row.strength ≡ strong → IsIssued sp.issued h i → Contains (peers_of sp.issued groups) i.peer
+    strong-kept o d rest h row i t st e =
+        let within = numbered-within sp.issued h i e in
+        let live = k.peer.handles.uncleared h row i t e (k.peer.handles.sure h row t st) in
+        elim (w.are_held.owned h within.0 within.1) [
+          | inr hand ↦ absurd (none_some h (sym (w.hands hand.0) ∙ hand.1))
+          | inl x ↦ (
+              let b = numbered-within sm.held x.0 (Some h) x.1 in
+              let c = w.shown.places in
+              let leads = peer_of-issued sp.issued h i e in
+              let holds : Holds sm x.0 h = record {
+                live = record {
+                  made = (b.0, omega (arith, b.1, c));
+                  kept = λ f. (let q = w.are_held.freed x.0 h x.1 f in live.kept (subst (λ z. Contains sp.heap.freed z) (some-same q.0 i.peer (sym q.1 ∙ leads)) q.2));
+                };
+                held = x.1;
+              } in
+              let no_candidate : Contains d.cycle.candidates x.0 → ⊥ = λ cm. (let at = at-Contains d.cycle.candidates x.0 cm in strength-one s.peer h (row, t, st) (d.handles at.0 x.0 h at.1 holds)) in
+              let cut = k.managed.managed.dead d.cycle d.opened.cycle in
+              let kept = rest d.cycle d.opened.cycle x.0 holds.live (λ f. no_candidate ((cut.candidates x.0).1 (f, (h, holds)))) in
+              let g = kept-bridge minds fills groups s w k x.0 h holds kept in
+              stands-peer sp.issued groups g.spot g.group i.peer g.there (ap (peer_of sp.issued) (sym g.has.1) ∙ leads))
+        ]
+
+    -- along the edges of a marking that has just begun
+    edge-marked : (o : OpenSnap) (d : IsInMarking s.managed s.peer o) (mk : Marking) → mk.heap ≡ sp.heap → mk.refs ≡ s.peer.refs → (p q : ℕ) → MarkingEdge mk p q → Contains (peers_of sp.issued groups) p → Contains (peers_of sp.issued groups) q
+    edge-marked o d mk heap refs p q (inl f) c =
+        let g = peer-stands sp.issued groups p c in
+        let i = peer_of-row sp.issued g.group.handle p g.has in
+        absurd (w.peers.bare g.group.handle i.0 q i.1 (subst (λ z. Contains (fields_of sp.heap z) (Some q)) (sym i.2) (subst (λ z. Contains (fields_of z p) (Some q)) heap f.field)))
+    edge-marked o d mk heap refs p q (inr f) c =
+        let g = peer-stands sp.issued groups p c in
+        let e = (d.mirror.exact p q).0 (subst (λ l. Refers l p q) refs f.reference) in
+        let same = only-row minds fills groups s w k e.0 g.spot g.group p g.there g.has e.3 in
+        let cut = k.managed.managed.dead d.cycle d.opened.cycle in
+        let walk = mirror_edge-managed sm d.cycle cut d.mirror.comps d.mirror.xrefs d.mirror.contraction e.0 e.1 e.2 in
+        let named : Names g.group e.1 = Reaches-keeps (ManagedEdge sm) (Names g.group) (λ x y a b. names-on minds fills groups s w k g.spot g.group g.there x y a b) e.0 e.1 walk (inl same) in
+        let b = kept-bridge minds fills groups s w k e.1 e.4.handle e.4.holds (stands-row groups g.spot g.group e.1 g.there named) in
+        stands-peer sp.issued groups b.spot b.group q b.there (ap (peer_of sp.issued) (sym b.has.1) ∙ (peer_of-issued sp.issued e.4.handle e.4.row e.4.is_issued ∙ ap Some e.4.leads))
+
+    -- so all that it marks
+    pub begun-marks : (o : OpenSnap) (d : IsInMarking s.managed s.peer o) → Rest sm → (mk : Marking) → mk.heap ≡ sp.heap → mk.refs ≡ s.peer.refs → mk.strong_peers ≡ strong_peers sp.issued s.peer.table → mk.brought ≡ []
+        → (q : ℕ) → IsMarked mk q → Contains (peers_of sp.issued groups) q
+    begun-marks o d rest mk heap refs roots none q m = Reached-keeps (IsMarkingRoot mk) (MarkingEdge mk) (λ z. Contains (peers_of sp.issued groups) z) start (λ a b e c. edge-marked o d mk heap refs a b e c) q m.reached
+      where
+        start : (z : ℕ) → IsMarkingRoot mk z → Contains (peers_of sp.issued groups) z
+        start z (inl a) = peer_slot-kept minds fills groups s w k z (subst (λ h. InSlot h z) heap a)
+        start z (inr (inl a)) = (let l = listed sp.issued s.peer.table z (subst (λ l. Contains l z) roots a) in subst (λ y. Contains (peers_of sp.issued groups) y) l.leads (strong-kept o d rest (suc l.place) l.row l.is l.tabled l.is_strong_one l.is_issued))
+        start z (inr (inr a)) = absurd (Contains-nil z (subst (λ l. Contains l z) none a))
+
+    -- behind the resolution
+    pub resolved-left : (o : OpenSnap) (answers : List Answer) (clear : ℕ) (d : IsDriverKept s.managed s.peer (restored o answers clear)) → Rest sm → PeersLeft sp → (c : ℕ) (freed : List ℕ) → MayResolve s.managed c answers freed
+        → (x : ℕ) → IsLive (with_freed sm.heap freed) x → Contains (rows_of groups) x
+    resolved-left o answers clear d rest left c freed a x l = elim (Contains-decided a.cycle.dead x) [
+      | inr n ↦ rest a.cycle a.open_cycle.0 x (IsLive-before sm.heap freed x l) n
+      | inl dead ↦ stable (rows_of groups) x (λ out. IsLive-spared sm.heap freed x l ((a.resolution.frees x).1 (dead, (λ r. out (from r.0 r.1 r.2)))))
+    ]
+      where
+        same : a.cycle ≡ d.cycle
+        same = same_Some a.cycle d.cycle (sym a.open_cycle.0 ∙ d.opened.cycle)
+
+        from : (y : ℕ) → IsAnsweredAlive a.cycle.candidates answers y → Reaches (ManagedEdge sm) y x → Contains (rows_of groups) x
+        from y alive walk =
+            let there : slice_get d.cycle.candidates alive.0 ≡ Some y = subst (λ (z : OpenCycle). slice_get z.candidates alive.0 ≡ Some y) same alive.1 in
+            let cut = k.managed.managed.dead d.cycle d.opened.cycle in
+            let bridge = ((cut.candidates y).0 (Contains-at d.cycle.candidates alive.0 y there)).1 in
+            let h = bridge.0 in
+            let i = k.owners.held_ones y h bridge.1 in
+            let strong_one : HasStrength s.peer h strong = elim (d.handles alive.0 y h there bridge.1) [
+              | inl t ↦ t.1
+              | inr t ↦ elim t [
+                | inl u ↦ absurd (let f : Some said_alive ≡ Some said_cleared = sym alive.2 ∙ u.0 in cc)
+                | inr u ↦ absurd (let b = slice_get_within answers alive.0 said_alive alive.2 in let q = u.0 in omega (arith, b, q))
+              ]
+            ] in
+            let live = k.peer.handles.uncleared h strong_one.0 i.0 strong_one.1 i.1 (k.peer.handles.sure h strong_one.0 strong_one.1 strong_one.2) in
+            let g = peer-stands sp.issued groups i.0.peer (left i.0.peer live) in
+            let row : IsRowOf sm sp.issued y i.0.peer = record { handle = h; holds = bridge.1; row = i.0; is_issued = i.1; leads = refl } in
+            let is = only-row minds fills groups s w k y g.spot g.group i.0.peer g.there g.has row in
+            stands-row groups g.spot g.group x g.there (Reaches-keeps (ManagedEdge sm) (Names g.group) (λ b c e n. names-on minds fills groups s w k g.spot g.group g.there b c e n) y x walk (inl is))

@@ -1,0 +1,274 @@
+-- How many objects and handles are left where just what is kept is left: two rows, a peer and a handle for each filled static.
+use Rattle.std.proofs.Common.{◌≡◌, ℕ, zero, suc, ◌+◌, ◌*◌, ◌≤◌, inl, inr, Bool, true, false, not, List, [], ◌∷◌, ◌++◌, length, Option, Some, None, refl, sym, ap, subst, ◌∙◌, arith}
+use Rattle.std.specs.Prelude.{Contains, is_some}
+use Rattle.std.proofs.lemmas.List.Elements.{Contains-append_cases, Contains-append_left, Contains-append_right}
+use Rattle.std.proofs.lemmas.List.Sums.{sum_by-cons}
+use Rattle.std.proofs.lemmas.Bool.{cases_eq}
+use Rattle.joint_model.specs.Control.{candidates_of}
+use Rattle.joint_model.specs.Heaps.{Heap, IsLive, slot, numbered_at, numbered_set}
+use Rattle.joint_model.specs.Linked.{Linkage}
+use Rattle.joint_model.specs.Managed.{Managed, OpenCycle, Holds}
+use Rattle.joint_model.specs.Peers.{Peers, Issued, Strength, strong, weak, peer_of}
+use Rattle.joint_model.specs.PeerReplay.{TableRow}
+use Rattle.joint_model.proofs.Deciding.{none_some, some-same}
+use Rattle.joint_model.proofs.HeapLemmas.{is_freed-Contains, Contains-is_freed}
+use Rattle.joint_model.proofs.Members.{Contains-here, Contains-there, Contains-nil, Contains-cons_cases, Contains-decided}
+use Rattle.joint_model.proofs.Numbered.{numbered-within, numbered-made, numbered_set-same, numbered_set-other}
+use Rattle.joint_laws.specs.PeerInvariants.{IsIssued, IsTabled}
+use Rattle.joint_laws.proofs.LinkedEntries.{Of}
+use Rattle.joint_laws.proofs.PeerEntries.{peer_of-issued}
+use Rattle.run_summary.specs.Tallies.{one}
+use Rattle.summary_laws.specs.States.{stands_in, others_up_to, unfreed, left_in}
+use Rattle.summary_laws.proofs.TableRows.{rows, rows-set}
+use Rattle.summary_laws.proofs.Unfreed.{AreFresh, put-all}
+use Rattle.generated_laws.proofs.Totals.{total}
+use Rattle.generated_laws.proofs.Pictures.{Mind}
+use Rattle.generated_laws.proofs.Showing.{Group, Names}
+use Rattle.generated_laws.proofs.PeerShowing.{Filled}
+use Rattle.generated_laws.proofs.Kept.{rows_of, peers_of, with_peer_of, StandsIn, row-stands, peer-stands, IsSettled, group-live, group-holds, kept-bridge, only-row, row-of_group}
+use Rattle.generated_laws.proofs.Cycling.{RowsLeft, PeersLeft}
+
+-- no number stands twice
+abbrev AreDistinct : List ℕ → Type 0
+AreDistinct [] = Unit {0}
+AreDistinct (x ∷ xs) = (Contains xs x → ⊥) × AreDistinct xs
+
+not-standing : (xs : List ℕ) (y : ℕ) → (Contains xs y → ⊥) → stands_in xs y ≡ false
+not-standing xs y n = by (stands_in xs y) refl
+  where
+    by : (b : Bool) → stands_in xs y ≡ b → b ≡ false
+    by true e = absurd (n (is_freed-Contains (record { fields = []; freed = xs; vars = []; statics = [] }) y e))
+    by false e = refl
+
+distinct-fresh : (xs ys : List ℕ) (n : ℕ) → AreDistinct ys → ((y : ℕ) → Contains ys y → (1 ≤ y) × (y ≤ n) × (Contains xs y → ⊥)) → AreFresh xs ys n
+distinct-fresh xs [] n d f = tt
+distinct-fresh xs (y ∷ ys) n d f =
+    let here = f y (Contains-here y ys) in (
+      here.0,
+      here.1,
+      not-standing xs y here.2,
+      distinct-fresh (xs ++ y ∷ []) ys n d.1 (λ z c. (let there = f z (Contains-there z y ys c) in (
+        there.0,
+        there.1,
+        λ e. elim (Contains-append_cases xs (y ∷ []) z e) [
+          | inl a ↦ there.2 a
+          | inr a ↦ elim (Contains-cons_cases y [] z a) [ inl q ↦ d.0 (subst (Contains ys) (sym q) c) | inr q ↦ Contains-nil z q ]
+        ],
+      ))),
+    )
+
+none-others : (xs : List ℕ) (n : ℕ) → ((z : ℕ) → 1 ≤ z → z ≤ n → Contains xs z) → others_up_to xs n ≡ 0
+none-others xs zero f = refl
+none-others xs (suc i) f =
+    let rest = none-others xs i (λ z a b. f z a (omega (arith, b))) in
+    let here : stands_in xs (suc i) ≡ true = Contains-is_freed (record { fields = []; freed = xs; vars = []; statics = [] }) (suc i) (f (suc i) (omega arith) (omega arith)) in
+    let last = ap (λ b. one (not b)) here in
+    omega (arith, rest, last)
+
+-- where just these objects of a heap aren't freed
+left-count : (h : Heap) (xs : List ℕ) → AreDistinct xs → ((x : ℕ) → Contains xs x → IsLive h x) → ((x : ℕ) → IsLive h x → Contains xs x) → unfreed h ≡ length xs
+left-count h xs d live all =
+    let n = length h.fields in
+    let fresh = distinct-fresh h.freed xs n d (λ y c. (let l = live y c in (l.made.0, l.made.1, l.kept))) in
+    let put = put-all h.freed xs n fresh in
+    let none = none-others (h.freed ++ xs) n (λ z a b. elim (Contains-decided h.freed z) [
+      | inl c ↦ Contains-append_left h.freed xs z c
+      | inr c ↦ Contains-append_right h.freed xs z (all z (record { made = (a, b); kept = c }))
+    ]) in
+    omega (arith, put, none)
+
+-- the rows of a table
+no-rows : (table : List (Option TableRow)) → ((h : ℕ) (row : TableRow) → IsTabled table h row → ⊥) → rows table ≡ 0
+no-rows [] n = refl
+no-rows (None ∷ table) n = (let a = sum_by-cons (λ (o : Option TableRow). one (is_some o)) None table in let r = no-rows table (λ h row t. n (suc h) row (later h row t)) in omega (arith, a, r))
+  where
+    later : (h : ℕ) (row : TableRow) → IsTabled table h row → IsTabled (None ∷ table) (suc h) row
+    later zero row t = absurd (cc)
+    later (suc h) row t = t
+no-rows (Some row ∷ table) n = absurd (n 1 row refl)
+
+table-count : (hs : List ℕ) (table : List (Option TableRow)) → AreDistinct hs → ((h : ℕ) → Contains hs h → (row : TableRow) × IsTabled table h row) → ((h : ℕ) (row : TableRow) → IsTabled table h row → Contains hs h) → rows table ≡ length hs
+table-count [] table d f all = no-rows table (λ h row t. Contains-nil h (all h row t))
+table-count (h ∷ hs) table d f all =
+    let here = f h (Contains-here h hs) in
+    let put = rows-set table h here.0 None here.1 in
+    let rest = table-count hs (numbered_set table h None) d.1
+    (λ g c. (let there = f g (Contains-there g h hs c) in (there.0, numbered_set-other table h g None (λ e. d.0 (subst (Contains hs) e c)) ∙ there.1)))
+    (λ g row t. elim (cases_eq g h) [
+      | inl e ↦ absurd (let q : None ≡ Some row = numbered_set-same table h None (Some row) (ap (numbered_at (numbered_set table h None)) (sym e) ∙ t) in none_row row q)
+      | inr n ↦ elim (Contains-cons_cases h hs g (all g row (sym (numbered_set-other table h g None n) ∙ t))) [ inl q ↦ absurd (n (sym q)) | inr q ↦ q ]
+    ])
+    in
+    omega (arith, put, rest)
+  where
+    none_row : {A : Type 0} (row : TableRow) → None ≡ Some row → A
+    none_row row e = absurd (none_some row e)
+
+-- how many statics are filled
+abbrev pub filled_ones : List (Option Group) → ℕ
+filled_ones groups = total (λ o. one (is_some o)) groups
+
+abbrev handles_of : List (Option Group) → List ℕ
+handles_of [] = []
+handles_of (None ∷ gs) = handles_of gs
+handles_of (Some g ∷ gs) = g.handle ∷ handles_of gs
+
+handle-stands : (groups : List (Option Group)) (h : ℕ) → Contains (handles_of groups) h → StandsIn groups (λ g. g.handle ≡ h)
+handle-stands [] h c = absurd (Contains-nil h c)
+handle-stands (None ∷ gs) h c = (let w = handle-stands gs h c in record { spot = suc w.spot; group = w.group; there = w.there; has = w.has })
+handle-stands (Some g ∷ gs) h c = elim (Contains-cons_cases g.handle (handles_of gs) h c) [
+  | inl e ↦ record { spot = 0; group = g; there = refl; has = e }
+  | inr d ↦ (let w = handle-stands gs h d in record { spot = suc w.spot; group = w.group; there = w.there; has = w.has })
+]
+
+stands-handle : (groups : List (Option Group)) (i : ℕ) (g : Group) → slot groups i ≡ Some g → Contains (handles_of groups) g.handle
+stands-handle [] i g e = absurd (cc)
+stands-handle (None ∷ gs) zero g e = absurd (cc)
+stands-handle (None ∷ gs) (suc i) g e = stands-handle gs i g e
+stands-handle (Some k ∷ gs) zero g e = (let f : k ≡ g = cc in subst (λ (y : Group). Contains (k.handle ∷ handles_of gs) y.handle) f (Contains-here k.handle (handles_of gs)))
+stands-handle (Some k ∷ gs) (suc i) g e = Contains-there g.handle k.handle (handles_of gs) (stands-handle gs i g e)
+
+-- lengths
+rows-length : (groups : List (Option Group)) → length (rows_of groups) ≡ 2 * filled_ones groups
+rows-length [] = omega arith
+rows-length (None ∷ gs) = (let r = rows-length gs in omega (arith, r))
+rows-length (Some g ∷ gs) = (let r = rows-length gs in omega (arith, r))
+
+handles-length : (groups : List (Option Group)) → length (handles_of groups) ≡ filled_ones groups
+handles-length [] = omega arith
+handles-length (None ∷ gs) = (let r = handles-length gs in omega (arith, r))
+handles-length (Some g ∷ gs) = (let r = handles-length gs in omega (arith, r))
+
+peers-length : (issued : List Issued) (groups : List (Option Group)) → ((i : ℕ) (g : Group) → slot groups i ≡ Some g → (q : ℕ) × (peer_of issued g.handle ≡ Some q)) → length (peers_of issued groups) ≡ filled_ones groups
+peers-length issued [] f = omega arith
+peers-length issued (None ∷ gs) f = (let r = peers-length issued gs (λ i g e. f (suc i) g e) in omega (arith, r))
+peers-length issued (Some g ∷ gs) f =
+    let r = peers-length issued gs (λ i k e. f (suc i) k e) in
+    let q = f 0 g refl in
+    let c = ap (λ (o : Option ℕ). length (elim o as (λ z. List ℕ) [ None ↦ peers_of issued gs | Some p ↦ p ∷ peers_of issued gs ])) q.1 in
+    listing (peer_of issued g.handle) c r
+  where
+    listing : (o : Option ℕ) → length (elim o as (λ z. List ℕ) [ None ↦ peers_of issued gs | Some p ↦ p ∷ peers_of issued gs ]) ≡ suc (length (peers_of issued gs)) → length (peers_of issued gs) ≡ filled_ones gs → length (with_peer_of o (peers_of issued gs)) ≡ 1 + filled_ones gs
+    listing None c r = omega (arith, c, r)
+    listing (Some p) c r = omega (arith, r)
+
+-- nothing stands twice
+rows-distinct : (groups : List (Option Group)) → ((i j : ℕ) (g k : Group) (z : ℕ) → slot groups i ≡ Some g → slot groups j ≡ Some k → Names g z → Names k z → i ≡ j) → ((i : ℕ) (g : Group) → slot groups i ≡ Some g → g.bridge ≡ g.plain → ⊥) → AreDistinct (rows_of groups)
+rows-distinct [] f two = tt
+rows-distinct (None ∷ gs) f two = rows-distinct gs (λ i j g k z a b c d. (let e = f (suc i) (suc j) g k z a b c d in omega (arith, e))) (λ i g e. two (suc i) g e)
+rows-distinct (Some g ∷ gs) f two = (
+  λ c. elim (Contains-cons_cases g.plain (rows_of gs) g.bridge c) [ inl e ↦ two 0 g refl (sym e) | inr d ↦ away g.bridge (inl refl) d ],
+  (λ d. away g.plain (inr refl) d, rows-distinct gs (λ i j k l z a b c d. (let e = f (suc i) (suc j) k l z a b c d in omega (arith, e))) (λ i k e. two (suc i) k e)),
+)
+  where
+    away : (z : ℕ) → Names g z → Contains (rows_of gs) z → ⊥
+    away z n c = (let w = row-stands gs z c in let e = f 0 (suc w.spot) g w.group z refl w.there n w.has in omega (arith, e))
+
+handles-distinct : (groups : List (Option Group)) → ((i j : ℕ) (g k : Group) → slot groups i ≡ Some g → slot groups j ≡ Some k → g.handle ≡ k.handle → i ≡ j) → AreDistinct (handles_of groups)
+handles-distinct [] f = tt
+handles-distinct (None ∷ gs) f = handles-distinct gs (λ i j g k a b c. (let e = f (suc i) (suc j) g k a b c in omega (arith, e)))
+handles-distinct (Some g ∷ gs) f = (
+  λ c. (let w = handle-stands gs g.handle c in let e = f 0 (suc w.spot) g w.group refl w.there (sym w.has) in omega (arith, e)),
+  handles-distinct gs (λ i j k l a b c. (let e = f (suc i) (suc j) k l a b c in omega (arith, e))),
+)
+
+peers-distinct : (issued : List Issued) (groups : List (Option Group)) → ((i j : ℕ) (g k : Group) (q : ℕ) → slot groups i ≡ Some g → slot groups j ≡ Some k → peer_of issued g.handle ≡ Some q → peer_of issued k.handle ≡ Some q → i ≡ j) → AreDistinct (peers_of issued groups)
+peers-distinct issued [] f = tt
+peers-distinct issued (None ∷ gs) f = peers-distinct issued gs (λ i j g k q a b c d. (let e = f (suc i) (suc j) g k q a b c d in omega (arith, e)))
+peers-distinct issued (Some g ∷ gs) f = by (peer_of issued g.handle) refl (peers-distinct issued gs (λ i j k l q a b c d. (let e = f (suc i) (suc j) k l q a b c d in omega (arith, e))))
+  where
+    by : (o : Option ℕ) → peer_of issued g.handle ≡ o → AreDistinct (peers_of issued gs) → AreDistinct (with_peer_of o (peers_of issued gs))
+    by None e d = d
+    by (Some q) e d = (λ c. (let w = peer-stands issued gs q c in let n = f 0 (suc w.spot) g w.group q refl w.there e w.has in omega (arith, n)), d)
+
+-- so the state has these numbers
+module _ (minds : ℕ → Mind) (fills : ℕ → Filled) (groups : List (Option Group)) (s : Linkage) (w : IsSettled minds fills groups s) (k : Of s) (closed : s.managed.managed.cycle ≡ None) (some_rows : RowsLeft minds fills groups s.managed.managed) (some_peers : PeersLeft minds fills groups s.peer.peers) where
+  abbrev sm : Managed
+  sm = s.managed.managed
+
+  abbrev sp : Peers
+  sp = s.peer.peers
+
+  no-candidates : (x : ℕ) → Contains (candidates_of sm) x → ⊥
+  no-candidates x c = Contains-nil x (subst (λ l. Contains l x) (ap (λ (z : Option OpenCycle). elim z as (λ y. List ℕ) [ None ↦ [] | Some y ↦ y.candidates ]) closed) c)
+
+  strong-one : (i : ℕ) (g : Group) → slot groups i ≡ Some g → (row : TableRow) × IsTabled s.peer.table g.handle row × (row.strength ≡ strong)
+  strong-one i g e = k.owners.strong_ones g.bridge g.handle (group-holds minds fills groups s w k i g e) (no-candidates g.bridge)
+
+  issued-one : (i : ℕ) (g : Group) → slot groups i ≡ Some g → (j : Issued) × IsIssued sp.issued g.handle j
+  issued-one i g e = (let a = k.owners.held_ones g.bridge g.handle (group-holds minds fills groups s w k i g e) in (a.0, a.1))
+
+  leads : (i : ℕ) (g : Group) → slot groups i ≡ Some g → (q : ℕ) × (peer_of sp.issued g.handle ≡ Some q)
+  leads i g e = (let j = issued-one i g e in (j.0.peer, peer_of-issued sp.issued g.handle j.0 j.1))
+
+  group-peer_live : (i : ℕ) (g : Group) (q : ℕ) → slot groups i ≡ Some g → peer_of sp.issued g.handle ≡ Some q → IsLive sp.heap q
+  group-peer_live i g q e f =
+      let a = strong-one i g e in
+      let j = issued-one i g e in
+      let live = k.peer.handles.uncleared g.handle a.0 j.0 a.1 j.1 (k.peer.handles.sure g.handle a.0 a.1 a.2) in
+      subst (IsLive sp.heap) (some-same j.0.peer q (sym (peer_of-issued sp.issued g.handle j.0 j.1) ∙ f)) live
+
+  bridge-apart : (i : ℕ) (g : Group) → slot groups i ≡ Some g → g.bridge ≡ g.plain → ⊥
+  bridge-apart i g e q = (let b = w.shown.groups_are i g e in let f : Some (Some g.handle) ≡ Some None = sym b.holds ∙ (ap (numbered_at sm.held) q ∙ b.none) in some_none g.handle f)
+    where
+      some_none : (h : ℕ) → Some (Some h) ≡ Some None → ⊥
+      some_none h f = cc
+
+  by-bridges : (i j : ℕ) (g l : Group) → slot groups i ≡ Some g → slot groups j ≡ Some l → g.bridge ≡ l.bridge → i ≡ j
+  by-bridges i j g l a b e = w.shown.disjoint i j g l g.bridge a b (inl refl) (inl e)
+
+  pub rows-left : unfreed sm.heap ≡ 2 * filled_ones groups
+  rows-left =
+      left-count sm.heap (rows_of groups) (rows-distinct groups w.shown.disjoint bridge-apart)
+      (λ x c. (let g = row-stands groups x c in let l = group-live minds fills groups s w k g.spot g.group g.there in elim g.has [ inl e ↦ subst (IsLive sm.heap) (sym e) l.0 | inr e ↦ subst (IsLive sm.heap) (sym e) l.1 ]))
+      some_rows
+      ∙ rows-length groups
+
+  pub peers-left : unfreed sp.heap ≡ filled_ones groups
+  peers-left =
+      left-count sp.heap (peers_of sp.issued groups)
+      (peers-distinct sp.issued groups (λ i j g l q a b c d. by-bridges i j g l a b (only-row minds fills groups s w k g.bridge j l q b d (row-of_group minds fills groups s w k i g q a c))))
+      (λ q c. (let g = peer-stands sp.issued groups q c in group-peer_live g.spot g.group q g.there g.has))
+      some_peers
+      ∙ peers-length sp.issued groups leads
+
+  tabled-kept : (h : ℕ) (row : TableRow) → IsTabled s.peer.table h row → Contains (handles_of groups) h
+  tabled-kept h row t = by row.strength refl
+    where
+      in-range : (1 ≤ h) × (h ≤ length sp.issued)
+      in-range = (let b = numbered-within s.peer.table h (Some row) t in let p = k.peer.handles.places in (b.0, omega (arith, b.1, p)))
+
+      is : (i : Issued) × (numbered_at sp.issued h ≡ Some i)
+      is = numbered-made sp.issued h in-range.0 in-range.1
+
+      by : (x : Strength) → row.strength ≡ x → Contains (handles_of groups) h
+      by weak e = (let a = k.owners.weak_ones h (row, t, e) (is.0, is.1, w.peers.holds h is.0 is.1) in absurd (no-candidates a.0 a.2))
+      by strong e =
+          let live = k.peer.handles.uncleared h row is.0 t is.1 (k.peer.handles.sure h row t e) in
+          elim (w.are_held.owned h in-range.0 in-range.1) [
+            | inr hand ↦ absurd (none_some h (sym (w.hands hand.0) ∙ hand.1))
+            | inl x ↦ (
+                let b = numbered-within sm.held x.0 (Some h) x.1 in
+                let c = w.shown.places in
+                let holds : Holds sm x.0 h = record {
+                  live = record {
+                    made = (b.0, omega (arith, b.1, c));
+                    kept = λ f. (let q = w.are_held.freed x.0 h x.1 f in live.kept (subst (λ z. Contains sp.heap.freed z) (some-same q.0 is.0.peer (sym q.1 ∙ peer_of-issued sp.issued h is.0 is.1)) q.2));
+                  };
+                  held = x.1;
+                } in
+                let g = kept-bridge minds fills groups s w k x.0 h holds (some_rows x.0 holds.live) in
+                subst (Contains (handles_of groups)) (sym g.has.1) (stands-handle groups g.spot g.group g.there))
+          ]
+
+  pub handles-left : rows s.peer.table ≡ filled_ones groups
+  handles-left =
+      table-count (handles_of groups) s.peer.table
+      (handles-distinct groups (λ i j g l a b e. by-bridges i j g l a b
+      (k.managed.alone g.bridge l.bridge g.handle (group-holds minds fills groups s w k i g a) (subst (Holds sm l.bridge) (sym e) (group-holds minds fills groups s w k j l b)))))
+      (λ h c. (let g = handle-stands groups h c in let a = strong-one g.spot g.group g.there in subst (λ z. (row : TableRow) × IsTabled s.peer.table z row) g.has (a.0, a.1)))
+      tabled-kept
+      ∙ handles-length groups
+
+  pub state-left : left_in s ≡ record { managed = 2 * filled_ones groups; peers = filled_ones groups; handles = filled_ones groups }
+  state-left = λ i. record { managed = rows-left i; peers = peers-left i; handles = handles-left i }
