@@ -15,6 +15,7 @@ use Rattle.command_words.specs.declared.commands.Mode.TheVariants as mode
 use Rattle.command_words.specs.declared.commands.Command.{Command}
 use Rattle.command_words.specs.declared.commands.Command.TheVariants as command
 use Rattle.command_words.specs.Commands.{AreWordsOf}
+use Rattle.generated_laws.specs.Counts.{generated_tally}
 use Rattle.run_laws.specs.Final.{IsRunInOrder, IsRunByThreads}
 use Rattle.run_laws.specs.LastCycle.{IsRunThenCycle, cycle_line}
 use Rattle.run_summary.specs.Summary.{summary_text}
@@ -48,6 +49,11 @@ abbrev pub IsGeneratedRunIn : Mode → List (Thread × Act) → Finished → Typ
 IsGeneratedRunIn mode.Serial script history = IsRunInOrder (script ++ cycle_line ∷ []) history × IsRunThenCycle script history
 IsGeneratedRunIn mode.Threads script history = IsRunThenCycle script history
 
+-- the history of the run of a seed's and a size's script in a mode; its tally is a function of the seed and the size, in either mode
+pub record IsGeneratedRunOf (asked : Mode) (seed size : ℕ) (history : Finished) : Type 0 where
+  pub run : IsGeneratedRunIn asked (generated seed size) history
+  pub alike : tally_of history.entries ≡ generated_tally seed size
+
 -- a script was run and its report printed: the source was read to its end, what was taken is a text of a script, and the report of a history of its run in
 -- that mode was appended to what the sink held
 pub record RunPrinted (asked : Mode) (left rest held after : Option (List ℕ)) : Type 0 where
@@ -72,7 +78,7 @@ pub record PrintedSummary (words : List (List ℕ)) (left rest held after : Opti
   pub command : AreWordsOf words (command.Generate seed size asked)
   pub history : Finished
   pub unread : rest ≡ left
-  pub run : IsGeneratedRunIn asked (generated seed size) history
+  pub run : IsGeneratedRunOf asked seed size history
   pub text : Appends held after (summary_text seed size asked (length (generated seed size)) (tally_of history.entries))
 
 -- a report or a summary was printed
@@ -107,7 +113,7 @@ pub record SummaryPart (words : List (List ℕ)) (left rest held after : Option 
   pub command : AreWordsOf words (command.Generate seed size asked)
   pub history : Finished
   pub unread : rest ≡ left
-  pub run : IsGeneratedRunIn asked (generated seed size) history
+  pub run : IsGeneratedRunOf asked seed size history
   pub part : AppendsPart held after (summary_text seed size asked (length (generated seed size)) (tally_of history.entries))
 
 -- a script was refused, and the writing of that broke off: only a beginning of its line was appended
