@@ -1,5 +1,5 @@
 -- What a step of a peer side asks of a state and of a plain count.
-use Rattle.std.proofs.Common.{ℕ, ◌≤◌, Option, Some, None, inl, refl}
+use Rattle.std.proofs.Common.{ℕ, ◌≤◌, Option, Some, None, inl, inr, refl}
 use Rattle.joint_model.specs.declared.names.Thread.{Thread}
 use Rattle.joint_model.specs.declared.names.Thread.TheVariants.{M, P, C}
 use Rattle.joint_model.specs.declared.lines.Act.{Act}
