@@ -41,7 +41,11 @@ impl Traced for Five {
     }
 
     fn mark_fields(&mut self, x: usize, grey: &mut u32) {
-        visit(self, (x % 3 + 3) as u32, grey);
+        let y = x % 3 + 3;
+        if !self.is_marked(y) {
+            self.mark(y, *grey);
+            *grey = y as u32;
+        }
     }
 
     fn mark(&mut self, x: usize, link: u32) {
