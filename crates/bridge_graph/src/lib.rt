@@ -1,5 +1,15 @@
 // The dead part of the managed heap as a value: the graph over which the bridge computes its components.
 //
+// The dead part of two objects that lead to one another, the first of them with a handle:
+//
+//     let mut builder = GraphBuilder::new(alloc);
+//     builder.reserve(2, 2)?;
+//     let a = builder.node(MNum(1), Some(HNum(1)), false)?;
+//     let b = builder.node(MNum(2), None, false)?;
+//     builder.edge(a, b)?;
+//     builder.edge(b, a)?;
+//     let graph = builder.finish();
+//
 // A snapshot makes a `GraphBuilder`, asks it for room with `reserve`, adds the dead objects by rising
 // managed number with `node`, adds their references to one another with `edge`, and turns it into a
 // `DeadGraph` by `finish`, which takes no memory. From then on the graph is only read.

@@ -82,10 +82,10 @@ pub const COUNT: Place = Place::Number {
 };
 
 /// A row of the table: an operation, and what stands at its places.
-pub type Row = (Operation, &'static [Place]);
+pub type Form = (Operation, &'static [Place]);
 
 /// The operation that a word asks for of a thread, and its places. None where the thread has no such operation.
-pub fn form_of(thread: Thread, word: &[u8]) -> Option<Row>
+pub fn form_of(thread: Thread, word: &[u8]) -> Option<Form>
     ensures { MatchOption result ((o : Operation) (places : List Place) → form_of thread o ≡ Some places → operation_text o ≢ word.now) (λ row. (form_of thread row.0 ≡ Some row.1.now) × (operation_text row.0 ≡ word.now)) }
 {
     match thread {
@@ -96,7 +96,7 @@ pub fn form_of(thread: Thread, word: &[u8]) -> Option<Row>
 }
 
 // The rows of a managed thread.
-fn managed_form(word: &[u8]) -> Option<Row>
+fn managed_form(word: &[u8]) -> Option<Form>
     ensures { MatchOption result ((o : Operation) (places : List Place) → managed_form o ≡ Some places → operation_text o ≢ word.now) (λ row. (managed_form row.0 ≡ Some row.1.now) × (operation_text row.0 ≡ word.now)) }
 {
     if is_same(word, b"new") {
@@ -154,7 +154,7 @@ fn managed_form(word: &[u8]) -> Option<Row>
 }
 
 // The rows of a peer thread.
-fn peer_form(word: &[u8]) -> Option<Row>
+fn peer_form(word: &[u8]) -> Option<Form>
     ensures { MatchOption result ((o : Operation) (places : List Place) → peer_form o ≡ Some places → operation_text o ≢ word.now) (λ row. (peer_form row.0 ≡ Some row.1.now) × (operation_text row.0 ≡ word.now)) }
 {
     if is_same(word, b"copy") {
@@ -206,7 +206,7 @@ fn peer_form(word: &[u8]) -> Option<Row>
 }
 
 // The rows of the driver.
-fn driver_form(word: &[u8]) -> Option<Row>
+fn driver_form(word: &[u8]) -> Option<Form>
     ensures { MatchOption result ((o : Operation) (places : List Place) → driver_form o ≡ Some places → operation_text o ≢ word.now) (λ row. (driver_form row.0 ≡ Some row.1.now) × (operation_text row.0 ≡ word.now)) }
 {
     if is_same(word, b"cycle") {

@@ -1,5 +1,11 @@
 // Scripts: what the lines of a text mean, and which text a script has.
 //
+//     match read_script(alloc, src) {
+//         Ok(script) => ..,
+//         Err(ScriptError::Refused(fault)) => write_refusal(fault, out)?,
+//         Err(ScriptError::ReadFault | ScriptError::OutOfMemory) => ..,
+//     }
+//
 // In the order in which a program calls it:
 //
 // 1. `read_script` reads a source to its end, or to one byte past the limit of a script, and answers the script

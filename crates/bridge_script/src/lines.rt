@@ -10,7 +10,7 @@ ghost use Rattle.bridge_script.specs.Operands.{IsPossible, act_at};
 ghost use Rattle.bridge_script.specs.Steps.{ReadsLine};
 
 use crate::faults::Cause;
-use crate::grammar::{Operation, Row, form_of, is_built};
+use crate::grammar::{Form, Operation, form_of, is_built};
 use crate::operands::{Operand, read_operands};
 use crate::words::Words;
 use joint_model::{Act, Kind, Sort, Thread};
@@ -39,7 +39,7 @@ pub fn read_line(text: &[u8]) -> Result<(Thread, Act), Cause>
 
 // Takes the word of an operation of a thread that is built, and answers its row of the table. None where the next
 // word asks for none.
-fn take_operation(thread: Thread, words: &mut Words) -> Option<Row>
+fn take_operation(thread: Thread, words: &mut Words) -> Option<Form>
     ensures { MatchOption result ((o : Operation) (places : List Place) (rest : List (List ℕ)) → form_of thread o ≡ Some places → is_built thread o ≡ true → words.old ≢ operation_text o ∷ rest) (λ row. (form_of thread row.0 ≡ Some row.1.now) × (is_built thread row.0 ≡ true) × (words.old ≡ operation_text row.0 ∷ words.new) × (length row.1.now ≤ 5)) }
 {
     let row = form_of(thread, words.next()?)?;

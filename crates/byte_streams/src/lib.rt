@@ -1,5 +1,14 @@
 // Bytes that come from somewhere and go somewhere, and texts that are put together on the way.
 //
+// A line with two numbers:
+//
+//     let mut line = Line::new();
+//     line.text(b"swept");
+//     line.decimal(peers);
+//     line.decimal(handles);
+//     line.text(b"\n");
+//     write_text(out, line.bytes())?;
+//
 // A `Source` gives bytes in whatever pieces, and a `Sink` takes them so. Each counts its faults, and answers `Failed` only where the count rose.
 // `ByteSource`, `PlainSource`, `ByteSink` and `CountSink` are such in memory; a program has its own over standard input and output.
 //

@@ -1,5 +1,11 @@
 // The finaliser queue: the numbers of managed objects that were freed and whose finaliser hasn't run.
 //
+// A resolution takes room before anything changes, and queues; the driver takes the oldest:
+//
+//     notices.reserve(candidates)?;
+//     notices.push(m);
+//     while let Some(m) = notices.take() { .. }
+//
 // When a bridge cycle is resolved, each bridge object that it frees owes one notice. The collector must not
 // ask for memory at that point, so room is taken beforehand: while a cycle is open there is room for a notice
 // per candidate.

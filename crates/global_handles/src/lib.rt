@@ -1,6 +1,13 @@
 // The global handles: the table through which one heap names objects of the other, as in the Java Native
 // Interface's global and weak global references.
 //
+// A handle on a peer, through a cycle in which the peer is freed:
+//
+//     let h = table.make(p, Hold::Held, Strength::Strong)?;
+//     table.weaken(h);
+//     table.clear_target(p);
+//     match table.restore(h) { Back::Alive => .., Back::Cleared => .. }
+//
 // A row has a number, the peer that it names, whether a managed object holds it or a raw global name does,
 // and whether it is strong or weak. A strong row keeps its peer alive; a weak one doesn't, and is cleared when
 // its peer is freed.

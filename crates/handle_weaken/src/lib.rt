@@ -1,5 +1,11 @@
 // Weakening and restoring the handles of a bridge cycle.
 //
+// Between the mirroring and the clear of a cycle, with a peer collection in between:
+//
+//     weaken_all(side, draw, index, snap, &graph);
+//     ..
+//     restore_all(side, draw, index, &graph, &mut alive);
+//
 // The bridge asks the peer heap which of its dead part's peers live. Once the cycle's references stand, it makes the handles of the dead part weak,
 // one by one (`weaken_one`) or all (`weaken_all`), lets the peer heap mark and sweep, and restores them in the same order (`restore_one`, `restore_all`).
 // A handle whose peer was freed is removed then, and `Alive` has the answers, one for each bridge node in order.

@@ -1,5 +1,12 @@
 // The instance registry: which managed object stands for which peer.
 //
+// The twin of a peer is looked for, and put in where there is none:
+//
+//     let m = match registry.twin(p) {
+//         Some(m) => m,
+//         None => { registry.add(p, new)?; new }
+//     };
+//
 // A bridge object and its peer are twins: two halves of one instance, one in each heap. When a peer comes to
 // the managed side, the registry tells whether a managed object stands for it already, so that no second one
 // is made.

@@ -2,7 +2,7 @@
 
 ghost use Rattle.std.specs.Prelude.{◌≡◌, None, IfErr, IfOk, OnErr};
 ghost use Rattle.joint_model.specs.declared.names.Thread.TheVariants.{C};
-ghost use Rattle.managed_side.specs.Openings.{ArePins, snap_op};
+ghost use Rattle.managed_side.specs.Openings.{snap_op};
 ghost use Rattle.joint_history.specs.Callers.{HoldsPass};
 ghost use Rattle.joint_history.specs.Driven.{DriverMakesNone, DriverRests};
 ghost use Rattle.joint_history.specs.DriverSnaps.{DrawsSnapshot, MakesSnapshot};
@@ -12,25 +12,8 @@ ghost use Rattle.joint_history.specs.Passing.{MayAppend};
 use crate::managed::LockedManaged;
 use crate::seats::{SeatDrawing, give_back, lend};
 use joint_model::Thread;
-use managed_side::{ManagedSide, Opened, Pins, SnapFault};
+use managed_side::{ManagedSide, Opened, SnapFault};
 use order_table::{Order, OrderName, Role, Seat};
-
-// What the pins of threads m1 to m8 hold.
-fn pins_of(side: &ManagedSide) -> Pins
-    ensures { ArePins result.at side.now.state.managed }
-{
-    let one = side.pin(Thread::M(1));
-    let two = side.pin(Thread::M(2));
-    let three = side.pin(Thread::M(3));
-    let four = side.pin(Thread::M(4));
-    let five = side.pin(Thread::M(5));
-    let six = side.pin(Thread::M(6));
-    let seven = side.pin(Thread::M(7));
-    let eight = side.pin(Thread::M(8));
-    Pins {
-        at: [one, two, three, four, five, six, seven, eight],
-    }
-}
 
 // The side draws a snapshot's entry by the seat. No cycle is open.
 fn draw_snap(
@@ -47,7 +30,7 @@ fn draw_snap(
     ensures threads { side.new.threads ≡ side.old.threads }
     ensures err { OnErr result ((seat.new ≡ seat.old) × (side.new ≡ side.old)) }
 {
-    let pins = pins_of(side);
+    let pins = side.pins();
     let mut drawing = SeatDrawing {
         order,
         seat,

@@ -14,16 +14,15 @@ use Rattle.joint_model.proofs.Deciding.{true-false, false-from}
 use Rattle.heap_rules.specs.Tidy.{live_fields}
 use Rattle.heap_rules.proofs.Sound.{IsLive-as}
 use Rattle.heap_rules.proofs.Targets.{live_fields-live, live_fields-held}
-use Rattle.reachability.specs.Marks.{Leads, IsMarked}
+use Rattle.reachability.specs.Marks.{Leads, IsMarked, marked}
 use Rattle.joint_replay.specs.Found.{IsUnreachedRow, IsCandidateRow}
-use Rattle.joint_replay.specs.Unmarked.{marked}
-use Rattle.joint_replay.proofs.Gathering.{IsMarked-test, test-IsMarked}
 use Rattle.joint_replay.specs.Plain.{cleaned, kept_target, is_live}
 use Rattle.joint_marking.specs.Gathered.{Gains}
 use Rattle.joint_replay.specs.Roots.{IsNamedLive, IsRoot, ListsExactly}
 use Rattle.joint_replay.specs.Found.{IsRootReached, IsHandleReached}
 use Rattle.joint_replay.specs.Finding.{FindsRows}
 use Rattle.joint_replay.proofs.Flags.{is_live-exact}
+use Rattle.reachability.proofs.Marking.{IsMarked-test, test-IsMarked}
 
 -- the open fields of an object
 abbrev row_of : Option (List (Option ℕ)) → List (Option ℕ)

@@ -8,7 +8,6 @@ pub mod Rising
 pub mod Gaining
 pub mod Rooting
 pub mod Sweeping
-mod Gathering
 mod Snapshots
 mod Twinning
 pub mod Lifting

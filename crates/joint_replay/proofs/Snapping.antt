@@ -20,9 +20,7 @@ use Rattle.joint_model.proofs.Deciding.{true-false, not-from, some-same}
 use Rattle.joint_model.proofs.HeapLemmas.{Holds-handle_of}
 use Rattle.joint_replay.proofs.Snapshots.{handle-reached, bridge-row, row-bridge}
 use Rattle.heap_rules.specs.Tidy.{live_fields}
-use Rattle.reachability.specs.Marks.{Leads, IsMarked}
-use Rattle.joint_replay.specs.Unmarked.{unmarked_of}
-use Rattle.joint_replay.proofs.Gathering.{unmarked_of-exact}
+use Rattle.reachability.specs.Marks.{Leads, IsMarked, unmarked_of}
 use Rattle.joint_replay.specs.Judging.{named_objects}
 use Rattle.joint_replay.specs.Found.{IsHandleReached}
 use Rattle.joint_replay.specs.Finding.{FindsRows}
@@ -30,6 +28,7 @@ use Rattle.joint_replay.specs.Plain.{cleaned}
 use Rattle.joint_replay.specs.Snaps.{SnapsManaged, SaysSnap, SaysFreed, OwesDead, keeps, Settles, SnapsJoint}
 use Rattle.joint_replay.proofs.Finding.{marks-open}
 use Rattle.joint_replay.proofs.Flags.{is_freed-exact}
+use Rattle.reachability.proofs.Marking.{unmarked_of-exact}
 
 -- what was found is a snapshot
 pub snapshot-found : (s : Managed) (k : ℕ) (freed candidates dead : List ℕ) → s.cycle ≡ None → k ≡ s.cycles + 1 → FindsRows s.heap s.held s.pins freed candidates dead → IsSnapshot s k freed candidates dead

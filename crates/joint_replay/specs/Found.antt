@@ -5,7 +5,7 @@ use Rattle.std.specs.Prelude.{◌≡◌, ℕ, Bool, true, false, List, Option, N
 use Rattle.joint_model.specs.Heaps.{Heap, IsLive, HasField, numbered_at}
 use Rattle.joint_model.specs.Walks.{Reached}
 use Rattle.joint_replay.specs.Roots.{IsRoot}
-use Rattle.joint_replay.specs.Unmarked.{marked}
+use Rattle.reachability.specs.Marks.{marked}
 
 -- the handle at the row's place of a list of held handles
 abbrev pub held_at : List (Option ℕ) → ℕ → Option ℕ

@@ -4,6 +4,5 @@ pub mod Roots
 pub mod Finding
 pub mod Snaps
 pub mod Graphs
-pub mod Unmarked
 pub mod Found
 pub mod Operations

@@ -4,7 +4,7 @@ ghost use Rattle.std.specs.Prelude.{◌≡◌, ◌<◌, ◌↔◌, IsTrue, IfOk,
 ghost use Rattle.joint_model.specs.Run.{JointAbandon, JointResolve, removed_all};
 ghost use Rattle.joint_replay.specs.Plain.{HasOpen};
 ghost use Rattle.joint_replay.specs.Snaps.{SnapsJoint, Settles, SaysFreed, keeps};
-ghost use Rattle.joint_replay.specs.Unmarked.{marked, unmarked_of};
+ghost use Rattle.reachability.specs.Marks.{marked, unmarked_of};
 ghost use Rattle.joint_replay.specs.Judging.{Decides, named_objects};
 
 use crate::removed::remove_all;

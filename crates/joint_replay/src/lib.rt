@@ -1,5 +1,12 @@
 // The joint machine as a program that checks a history, entry by entry.
 //
+// A history is judged entry by entry:
+//
+//     let mut state = JointState::new(alloc)?;
+//     for i in 0..history.len() {
+//         match state.replay_step(&history, i)? { Verdict::Lawful => .., Verdict::Unlawful => .. }
+//     }
+//
 // A [`JointState`] is the machine's state: the managed objects, the peers, and of each handle whether it was removed.
 // It begins as the opening state. [`JointState::replay_step`] takes an entry of a history and says whether it is a step
 // of the machine from there; if it is, the state is the one after it. What an entry's line doesn't have in full, the

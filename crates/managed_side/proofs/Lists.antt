@@ -10,9 +10,10 @@ use Rattle.std.proofs.lemmas.List.{drop_more}
 use Rattle.joint_model.specs.Components.{Rises}
 use Rattle.joint_model.proofs.Members.{Contains-here, Contains-there, Contains-filter_from, Contains-filter_to}
 use Rattle.joint_model.proofs.Deciding.{not-true, not-from}
-use Rattle.reachability.specs.Marks.{IsMarked}
+use Rattle.reachability.specs.Marks.{IsMarked, marked, unmarked_of}
 use Rattle.managed_side.specs.declared.rows.Held.{Held}
-use Rattle.managed_side.specs.Resolving.{marked, unmarked_of, has_handle, has_peer}
+use Rattle.managed_side.specs.Resolving.{has_handle, has_peer}
+use Rattle.reachability.proofs.Marking.{marked-from, marked-some, IsMarked-test, test-IsMarked}
 
 -- tests that agree on the members of a list keep the same of it
 pub filter-agree : {X : Type 0} (p q : X → Bool) (xs : List X) → ((x : X) → Contains xs x → p x ≡ q x) → filter p xs ≡ filter q xs
@@ -36,28 +37,6 @@ map-filter {X} {Y} f p (x ∷ xs) = by (p (f x)) (map-filter f p xs)
     by : (b : Bool) → map f (filter (λ y. p (f y)) xs) ≡ filter p (map f xs) → map f (cond b (x ∷ filter (λ y. p (f y)) xs) (filter (λ y. p (f y)) xs)) ≡ cond b (f x ∷ filter p (map f xs)) (filter p (map f xs))
     by true e = ap (λ zs. f x ∷ zs) e
     by false e = e
-
--- the test of a mark
-marked-from : (o : Option Bool) → elim o [ None ↦ false | Some b ↦ b ] ≡ true → o ≡ Some true
-marked-from None e = cc
-marked-from (Some b) e = ap Some e
-
-marked-some : (o : Option Bool) (b : Bool) → o ≡ Some b → elim o [ None ↦ false | Some x ↦ x ] ≡ b
-marked-some None b e = cc
-marked-some (Some x) b e = cc
-
-pub IsMarked-test : (marks : List Bool) (m : ℕ) → marked marks m ≡ true → IsMarked marks m
-IsMarked-test marks m e = marked-from (slice_get marks m) e
-
-pub test-IsMarked : (marks : List Bool) (m : ℕ) → IsMarked marks m → marked marks m ≡ true
-test-IsMarked marks m h = marked-some (slice_get marks m) true h
-
--- the rows that aren't marked are exactly these
-pub unmarked_of-exact : (marks : List Bool) (ms : List ℕ) (m : ℕ) → Contains (unmarked_of marks ms) m ↔ (Contains ms m × (IsMarked marks m → ⊥))
-unmarked_of-exact marks ms m = (
-  λ c. let r = Contains-filter_from (λ k. not (marked marks k)) ms m c in (r.0, λ h. not-true (marked marks m) r.1 (test-IsMarked marks m h)),
-  λ h. Contains-filter_to (λ k. not (marked marks k)) ms m h.0 (not-from (marked marks m) (λ e. h.1 (IsMarked-test marks m e))),
-)
 
 -- the same list as numbers
 pub unmarked-numbers : (marks : List Bool) (ms : List MNum) → managed_numbers (filter (λ (m : MNum). not (marked marks m.0)) ms) ≡ unmarked_of marks (managed_numbers ms)

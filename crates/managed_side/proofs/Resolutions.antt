@@ -25,15 +25,15 @@ use Rattle.joint_model.proofs.WalkLemmas.{Reaches-mono}
 use Rattle.joint_laws.specs.ManagedInvariants.{IsCutOff}
 use Rattle.finaliser_queue.specs.Queue.{Queue}
 use Rattle.heap_rules.specs.Tidy.{CanFree}
-use Rattle.reachability.specs.Marks.{IsMarked, IsClosed}
+use Rattle.reachability.specs.Marks.{IsMarked, IsClosed, marked, unmarked_of}
 use Rattle.row_heap.specs.Marks.{EdgeOf}
 use Rattle.row_heap.specs.Rows.{HeapRows}
 use Rattle.managed_side.specs.declared.rows.Held.{Held}
 use Rattle.managed_side.specs.Dues.{HasDue}
-use Rattle.managed_side.specs.Resolving.{marked, unmarked_of, has_handle}
+use Rattle.managed_side.specs.Resolving.{has_handle}
 use Rattle.managed_side.specs.Rows.{rows_of, pairs_of}
-use Rattle.managed_side.proofs.Lists.{filter-agree, IsMarked-test, test-IsMarked, unmarked_of-exact}
-use Rattle.reachability.proofs.Marking.{marked-or}
+use Rattle.managed_side.proofs.Lists.{filter-agree}
+use Rattle.reachability.proofs.Marking.{marked-or, IsMarked-test, test-IsMarked, unmarked_of-exact}
 
 -- without references the edges are the fields
 pub edge-field : (v : HeapRows) (x y : ℕ) → v.follows ≡ false → EdgeOf v x y → HasField v.heap x y

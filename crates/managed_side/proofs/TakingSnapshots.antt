@@ -15,17 +15,16 @@ use Rattle.joint_model.proofs.Members.{Contains-filter_from, Contains-filter_to,
 use Rattle.joint_model.proofs.WalkLemmas.{Reached-mono, Reached-start, Reached-then, Reached-further, Reached-keeps}
 use Rattle.finaliser_queue.specs.Queue.{Queue}
 use Rattle.heap_rules.specs.Tidy.{CanFree}
-use Rattle.reachability.specs.Marks.{IsMarked}
+use Rattle.reachability.specs.Marks.{IsMarked, marked}
 use Rattle.row_heap.specs.Marks.{EdgeOf}
 use Rattle.row_heap.specs.Rows.{HeapRows}
 use Rattle.managed_side.specs.declared.rows.Held.{Held}
 use Rattle.managed_side.specs.Dues.{HasDue}
-use Rattle.managed_side.specs.Resolving.{marked, has_handle}
+use Rattle.managed_side.specs.Resolving.{has_handle}
 use Rattle.managed_side.specs.Rows.{rows_of}
 use Rattle.managed_side.specs.Snapshots.{PartsUnmarked}
-use Rattle.managed_side.proofs.Lists.{IsMarked-test, test-IsMarked, unmarked_of-exact}
 use Rattle.managed_side.proofs.Resolutions.{edge-field}
-use Rattle.reachability.proofs.Marking.{marked-or}
+use Rattle.reachability.proofs.Marking.{marked-or, IsMarked-test, test-IsMarked, unmarked_of-exact}
 use Rattle.joint_model.proofs.Deciding.{handle-there}
 
 -- the marks are those of what slots and pins reach, over the fields of that state

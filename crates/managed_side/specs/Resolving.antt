@@ -5,18 +5,11 @@ use Rattle.joint_model.specs.Heaps.{numbered_at}
 use Rattle.joint_model.specs.Listed.{answers_of}
 use Rattle.joint_model.specs.Managed.{OpenCycle, resolved}
 use Rattle.joint_model.specs.ManagedReplay.{ManagedReplay, without_twins}
+use Rattle.reachability.specs.Marks.{marked}
 
 -- the answer at one of the places below n is alive, for this candidate
 abbrev pub IsAliveBelow : ℕ → List ℕ → List Bool → ℕ → Type 0
 IsAliveBelow n candidates alive m = (i : ℕ) × (i < n) × (slice_get candidates i ≡ Some m) × (slice_get alive i ≡ Some true)
-
--- whether the row is marked
-abbrev pub marked : List Bool → ℕ → Bool
-marked marks m = elim (slice_get marks m) [ None ↦ false | Some b ↦ b ]
-
--- the rows that aren't marked
-abbrev pub unmarked_of : List Bool → List ℕ → List ℕ
-unmarked_of marks ms = filter (λ m. not (marked marks m)) ms
 
 -- whether there is a handle at the row's place of a list of held handles
 abbrev pub has_handle : List (Option ℕ) → ℕ → Bool

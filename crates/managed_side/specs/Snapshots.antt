@@ -2,10 +2,10 @@
 use Rattle.std.specs.Prelude.{◌≡◌, ℕ, ◌↔◌, ◌⊎◌, false, List, filter, Contains, Option, Some}
 use Rattle.joint_model.specs.Heaps.{Heap, HasField, InSlot}
 use Rattle.joint_model.specs.Walks.{Reached}
-use Rattle.reachability.specs.Marks.{IsMarked, IsClosed}
+use Rattle.reachability.specs.Marks.{IsMarked, IsClosed, marked, unmarked_of}
 use Rattle.row_heap.specs.Marks.{AreWhite, EdgeOf}
 use Rattle.row_heap.specs.Rows.{HeapRows}
-use Rattle.managed_side.specs.Resolving.{marked, unmarked_of, has_handle}
+use Rattle.managed_side.specs.Resolving.{has_handle}
 
 -- of the live rows that have no mark: those that hold a handle are the candidates; those that these reach, and that have a mark afterwards,
 -- stay; and the others go

@@ -38,6 +38,23 @@ pub enum SnapFault {
 }
 
 impl ManagedSide {
+    /// What the pins of threads `m1` to `m8` hold, in that order.
+    pub fn pins(&self) -> Pins
+        ensures { ArePins result.at self.now.state.managed }
+    {
+        let one = self.pin(Thread::M(1));
+        let two = self.pin(Thread::M(2));
+        let three = self.pin(Thread::M(3));
+        let four = self.pin(Thread::M(4));
+        let five = self.pin(Thread::M(5));
+        let six = self.pin(Thread::M(6));
+        let seven = self.pin(Thread::M(7));
+        let eight = self.pin(Thread::M(8));
+        Pins {
+            at: [one, two, three, four, five, six, seven, eight],
+        }
+    }
+
     /// Takes a snapshot and opens the next cycle: frees the rows that neither a slot nor a row with a handle reaches. The candidates are the rows
     /// with a handle that no slot reaches; they and what they reach are the dead part, which is answered as a graph. `pins` are the side's own
     /// pins, which count as slots. One entry is drawn and put last. Its time goes by the objects that were made and the fields of the live ones.

@@ -14,7 +14,8 @@ ghost use Rattle.joint_model.specs.ManagedReplay.{without_twins};
 ghost use Rattle.joint_model.specs.Walks.{Reached};
 ghost use Rattle.reachability.specs.Marks.{IsClosed, IsMarked};
 ghost use Rattle.row_heap.specs.Marks.{EdgeOf};
-ghost use Rattle.managed_side.specs.Resolving.{AreCleared, MayClose, TakesResolution, has_handle, has_peer, marked, unmarked_of};
+ghost use Rattle.managed_side.specs.Resolving.{AreCleared, MayClose, TakesResolution, has_handle, has_peer};
+ghost use Rattle.reachability.specs.Marks.{marked, unmarked_of};
 ghost use Rattle.managed_side.specs.Rows.{AreKept, ArePeers, pairs_of};
 
 use crate::open::OpenParts;

@@ -13,7 +13,8 @@ ghost use Rattle.row_heap.specs.Marks.{AreWhite, EdgeOf};
 ghost use Rattle.row_marking.specs.Traces.{Greyed};
 ghost use Rattle.bridge_graph.specs.Parts.{Leads};
 ghost use Rattle.managed_side.specs.Graphs.{HasDeadField, node_of};
-ghost use Rattle.managed_side.specs.Resolving.{has_handle, marked};
+ghost use Rattle.managed_side.specs.Resolving.{has_handle};
+ghost use Rattle.reachability.specs.Marks.{marked};
 ghost use Rattle.managed_side.specs.Snapshots.{PartsUnmarked, Prepares};
 
 use crate::graphs::graph_of;

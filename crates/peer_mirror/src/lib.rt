@@ -1,5 +1,11 @@
 // The references that a bridge cycle adds between peers.
 //
+// Behind the contraction, and once all handles are restored:
+//
+//     let references = install(side, draw, index, cycle, snap, &graph, &components)?;
+//     ..
+//     clear(side, draw, index, cycle);
+//
 // The bridge contracts the dead part of the managed heap to components and cross-references, and mirrors them in the peer heap, so that the peer heap's
 // collector sees what the managed heap's edges say: the peers of a component lie on a circle of references, and each cross-reference is one between the
 // peers of the first members. `install` adds exactly these references, all at once, as one entry of the driver. Once the handles were weakened, the

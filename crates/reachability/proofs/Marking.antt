@@ -3,17 +3,17 @@
 -- is marked was marked before or is reached, the roots are marked, and a marked node waits or has all its
 -- targets marked. Once none waits, the marks are closed under the edges, so each reached node is marked, by
 -- an induction along its walk.
-use Rattle.std.proofs.Common.{◌≡◌, ℕ, zero, suc, ◌+◌, ◌<◌, ◌≤◌, ◌↔◌, ◌⊎◌, inl, inr, Bool, true, false, List, [], ◌∷◌, ◌++◌, length, Option, Some, None, set, take, get_or, replicate, refl, sym, ap, subst, ◌∙◌, arith, length-append, not}
+use Rattle.std.proofs.Common.{◌≡◌, ℕ, zero, suc, ◌+◌, ◌<◌, ◌≤◌, ◌↔◌, ◌⊎◌, inl, inr, Bool, true, false, List, [], ◌∷◌, ◌++◌, length, Option, Some, None, set, get_or, replicate, refl, sym, ap, subst, ◌∙◌, arith, length-append, not}
 use Rattle.std.specs.Prelude.{Contains, slice_get}
 use Rattle.std.proofs.Math.ListN.{length-set}
 use Rattle.std.proofs.lemmas.List.Elements.{Contains-push, Contains-push_cases, Contains-append_left}
-use Rattle.std.proofs.lemmas.List.{take_more}
-use Rattle.std.proofs.lemmas.Option.{slice_get_within, get_or_from_slice_get, slice_get-get_or}
+use Rattle.std.proofs.lemmas.Option.{slice_get-get_or}
 use Rattle.joint_model.specs.Walks.{Reached}
 use Rattle.joint_model.proofs.WalkLemmas.{Reached-keeps, Reached-then}
-use Rattle.joint_model.proofs.Members.{Contains-nil}
-use Rattle.reachability.specs.Marks.{IsMarked, IsClosed, unmarked}
+use Rattle.joint_model.proofs.Members.{Contains-nil, Contains-filter_from, Contains-filter_to}
+use Rattle.reachability.specs.Marks.{IsMarked, IsClosed, unmarked, marked, unmarked_of}
 use Rattle.reachability.specs.Scans.{Scans}
+use Rattle.joint_model.proofs.Deciding.{not-true, not-from}
 
 -- marking a node that wasn't marked
 pub unmarked-set : (m : List Bool) (i : ℕ) → slice_get m i ≡ Some false → unmarked (set m i true) + 1 ≡ unmarked m
@@ -189,3 +189,25 @@ marked-or [] x = inr (λ u. cc)
 marked-or (true ∷ m) zero = inl refl
 marked-or (false ∷ m) zero = inr (λ u. cc)
 marked-or (b ∷ m) (suc x) = marked-or m x
+
+-- the test of a mark
+pub marked-from : (o : Option Bool) → elim o [ None ↦ false | Some b ↦ b ] ≡ true → o ≡ Some true
+marked-from None e = cc
+marked-from (Some b) e = ap Some e
+
+pub marked-some : (o : Option Bool) (b : Bool) → o ≡ Some b → elim o [ None ↦ false | Some x ↦ x ] ≡ b
+marked-some None b e = cc
+marked-some (Some x) b e = cc
+
+pub IsMarked-test : (marks : List Bool) (m : ℕ) → marked marks m ≡ true → IsMarked marks m
+IsMarked-test marks m e = marked-from (slice_get marks m) e
+
+pub test-IsMarked : (marks : List Bool) (m : ℕ) → IsMarked marks m → marked marks m ≡ true
+test-IsMarked marks m h = marked-some (slice_get marks m) true h
+
+-- the rows that aren't marked are exactly these
+pub unmarked_of-exact : (marks : List Bool) (ms : List ℕ) (m : ℕ) → Contains (unmarked_of marks ms) m ↔ (Contains ms m × (IsMarked marks m → ⊥))
+unmarked_of-exact marks ms m = (
+  λ c. let r = Contains-filter_from (λ k. not (marked marks k)) ms m c in (r.0, λ h. not-true (marked marks m) r.1 (test-IsMarked marks m h)),
+  λ h. Contains-filter_to (λ k. not (marked marks k)) ms m h.0 (not-from (marked marks m) (λ e. h.1 (IsMarked-test marks m e))),
+)

@@ -1,7 +1,7 @@
 -- Marks of nodes, and what a marking of a graph says. A graph is told by the number of its nodes, which are
 -- the numbers below it, and by the targets of each node, where None stands for an empty place. (Textbook:
 -- the marking of a tracing collector.)
-use Rattle.std.specs.Prelude.{◌≡◌, ℕ, ◌+◌, ◌<◌, Bool, true, false, List, [], ◌∷◌, Option, Some, Contains, slice_get}
+use Rattle.std.specs.Prelude.{◌≡◌, ℕ, ◌+◌, ◌<◌, Bool, true, false, List, [], ◌∷◌, Option, Some, Contains, slice_get, None, not, filter}
 
 -- node x has node y among its targets
 abbrev pub Leads : ℕ → (ℕ → List (Option ℕ)) → ℕ → ℕ → Type 0
@@ -20,3 +20,11 @@ abbrev pub unmarked : List Bool → ℕ
 unmarked [] = 0
 unmarked (true ∷ marks) = unmarked marks
 unmarked (false ∷ marks) = unmarked marks + 1
+
+-- whether the row is marked
+abbrev pub marked : List Bool → ℕ → Bool
+marked marks m = elim (slice_get marks m) [ None ↦ false | Some b ↦ b ]
+
+-- the rows that aren't marked
+abbrev pub unmarked_of : List Bool → List ℕ → List ℕ
+unmarked_of marks ms = filter (λ m. not (marked marks m)) ms

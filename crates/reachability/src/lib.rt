@@ -1,6 +1,10 @@
 // Marking: which nodes of a graph are reached from some roots. The joint marking and the joint machine's
 // program use this loop; the collectors of both sides mark in their rows, by `row_marking`.
 //
+// What the roots 1 and 4 reach in a graph that is `Walked`:
+//
+//     let marks = reached(alloc, &graph, &[1, 4])?;
+//
 // What can be walked has the trait [`Walked`]: nodes with the numbers 0, 1, 2 and so on, and for each node
 // a list of places that hold a target or nothing. A caller that has no memory to spend keeps marks and a
 // list of waiting nodes with room for each node, and calls [`mark_reached`]; it may go on with the marks of

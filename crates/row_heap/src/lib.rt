@@ -1,5 +1,13 @@
 // The heap of one side: objects as rows on a slab, with marks, and references beside their fields.
 //
+// A collection of a heap whose roots are its variables and statics:
+//
+//     heap.begin_marking(false);
+//     let mut grey = 0;
+//     heap.visit_slots(&mut grey);
+//     heap.finish_marking(grey);
+//     heap.sweep();
+//
 // A side makes a [`RowHeap`] once. `add_object` makes an object, which `set_var` then gives a name; `copy`, `set`, `get`, `drop`, `load` and
 // `store` are the operations of a script, each of which answers a [`heap_rules::Done`], and each call is one of the definitions of the joint
 // model's `Heap`. No call looks at more than the rows that it names.

@@ -1,5 +1,8 @@
 // The run of a script over the shared bridge, line after line or by a thread of its own for each of its threads.
 //
+//     let history = run_serial(rt, alloc, &script)?;
+//     let history = run_threads(rt, alloc, &script, &FreeTurn)?;
+//
 // A run makes an order, both heaps behind their locks, and the desk with a caller for each thread; it runs each line by its thread's caller, the
 // lines of `c` by the driver, makes the phases that the driver's lines have left, gives all callers back, and answers the finished history.
 //

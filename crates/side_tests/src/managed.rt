@@ -1,7 +1,6 @@
 // A managed side that is driven call by call.
 
 ghost use Rattle.std.specs.Prelude.{◌≡◌, IfOk, length};
-ghost use Rattle.managed_side.specs.Openings.{ArePins};
 
 use crate::callers::is_managed;
 use crate::managed_checks::{cites_of, is_refused, is_step, names_next, stands_in};
@@ -12,7 +11,7 @@ use joint_model::{
     Act, Alive, Cell, Counter, HNum, Kind, MNum, Op, PNum, Phase, PhaseWord, Sort, StaticNo,
     Thread, Var,
 };
-use managed_side::{ManagedSide, Pins, SnapFault, TwinAnswer};
+use managed_side::{ManagedSide, SnapFault, TwinAnswer};
 use std::alloc::{AllocError, Global};
 use std::marker::Model;
 
@@ -213,7 +212,7 @@ impl Driven {
 
     // A snapshot: what its entry says, or the open cycle.
     fn snaps(&mut self) -> Result<Reply, AllocError> {
-        let pins = pins_of(&self.side);
+        let pins = self.side.pins();
         let opened = match self.side.snap(&mut self.draw, 2, &pins) {
             Ok(opened) => opened,
             Err(SnapFault::CycleOpen { cycle }) => return Ok(CycleOpen(cycle)),
@@ -226,7 +225,7 @@ impl Driven {
 
     // A snapshot that finds nothing dead, and its contraction; None where something is dead, or a cycle is open already.
     fn snaps_and_contracts(&mut self) -> Option<Reply> {
-        let pins = pins_of(&self.side);
+        let pins = self.side.pins();
         let Ok(opened) = self.side.snap(&mut self.draw, 2, &pins) else {
             return None;
         };
@@ -364,21 +363,4 @@ fn answers_of(alloc: Global, alive: u32, count: u32) -> Result<Alive, AllocError
         rest /= 2;
     }
     Ok(answers)
-}
-
-// The pins of a side's threads.
-fn pins_of(side: &ManagedSide) -> Pins
-    ensures { ArePins result.at side.now.state.managed }
-{
-    let one = side.pin(Thread::M(1));
-    let two = side.pin(Thread::M(2));
-    let three = side.pin(Thread::M(3));
-    let four = side.pin(Thread::M(4));
-    let five = side.pin(Thread::M(5));
-    let six = side.pin(Thread::M(6));
-    let seven = side.pin(Thread::M(7));
-    let eight = side.pin(Thread::M(8));
-    Pins {
-        at: [one, two, three, four, five, six, seven, eight],
-    }
 }

@@ -1,5 +1,13 @@
 // Components of bridge nodes and the cross-references between them, as the bridge's client gets them.
 //
+// Two components, of which the first refers to the second:
+//
+//     let mut builder = ComponentsBuilder::new(alloc);
+//     let a = builder.component(&[1, 2])?;
+//     let b = builder.component(&[5])?;
+//     builder.add(a, b)?;
+//     let components = builder.finish()?;
+//
 // The analysis makes a `ComponentsBuilder`, lists the components in the order of their first members with
 // `component`, and their cross-references with `add`, or with `add_all` where those of one source come
 // together. `finish` orders the pairs and gives `Components`, which is only read: by its lists (`objs`,

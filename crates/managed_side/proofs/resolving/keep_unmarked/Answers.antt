@@ -2,7 +2,7 @@
 use Rattle.std.proofs.Common.{not, rules}
 use Rattle.std.proofs.lemmas.Fn.{filter_same}
 use Rattle.joint_model.specs.declared.names.MNum.{MNum}
-use Rattle.managed_side.specs.Resolving.{marked}
+use Rattle.reachability.specs.Marks.{marked}
 use Rattle.managed_side.proofs.resolving.keep_unmarked.Goals as goal
 
 pub returns : goal.returns

@@ -3,8 +3,8 @@ use Rattle.std.proofs.Common.{◌≡◌, ◌∙◌, ap, subst}
 use Rattle.std.specs.Prelude.{Contains}
 use Rattle.joint_model.specs.Histories.{managed_numbers}
 use Rattle.joint_model.specs.Managed.{OpenCycle}
-use Rattle.managed_side.specs.Resolving.{unmarked_of}
 use Rattle.managed_side.proofs.Lists.{unmarked-numbers}
+use Rattle.reachability.specs.Marks.{unmarked_of}
 use Rattle.managed_side.proofs.resolving.settle.Goals as goal
 
 pub bring_back_kept-requires-clause-live : goal.bring_back_kept-requires-clause-live

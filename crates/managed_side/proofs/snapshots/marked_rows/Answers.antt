@@ -3,10 +3,10 @@ use Rattle.std.proofs.Common.{◌∙◌, ◌∷◌, [], ap, sym, get_or}
 use Rattle.std.proofs.lemmas.List.{map-append}
 use Rattle.joint_model.specs.declared.names.MNum.{MNum}
 use Rattle.joint_model.specs.Histories.{managed_numbers}
-use Rattle.managed_side.specs.Resolving.{marked}
 use Rattle.managed_side.proofs.Gathering.{filter-push, filter-skip}
 use Rattle.managed_side.proofs.snapshots.marked_rows.Goals as goal
 use Rattle.managed_side.proofs.snapshots.marked_rows.Goals.{then-has_mark+in_ok-push, else-has_mark}
+use Rattle.reachability.specs.Marks.{marked}
 
 pub loop-m-preserved : goal.loop-m-preserved
 loop-m-preserved c =

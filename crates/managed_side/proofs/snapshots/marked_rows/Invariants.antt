@@ -2,7 +2,7 @@
 use Rattle.std.proofs.Common.{◌≡◌, take}
 use Rattle.std.specs.Prelude.{filter}
 use Rattle.joint_model.specs.Histories.{managed_numbers}
-use Rattle.managed_side.specs.Resolving.{marked}
+use Rattle.reachability.specs.Marks.{marked}
 use Rattle.managed_side.proofs.snapshots.marked_rows.Given as goal
 
 abbrev pub invariant-loop-m : goal.invariant-loop-m

@@ -13,9 +13,9 @@ use Rattle.row_heap.specs.Rows.{HeapRows}
 use Rattle.managed_side.specs.declared.rows.Held.{Held}
 use Rattle.managed_side.specs.Resolving.{TakesResolution, has_handle}
 use Rattle.managed_side.specs.Rows.{rows_of}
-use Rattle.managed_side.proofs.Lists.{unmarked_of-exact}
 use Rattle.managed_side.proofs.Resolutions.{shut-open, can-free, resolution-is, notices-fit, All-numbers, filter-live, resolved-is, rows-few}
 use Rattle.joint_model.proofs.Members.{Rises-filter}
+use Rattle.reachability.proofs.Marking.{unmarked_of-exact}
 use Rattle.managed_side.proofs.rows.ManagedRows.resolve.Goals as goal
 
 pub settle-freed-requires-clause-live : goal.settle-freed-requires-clause-live
