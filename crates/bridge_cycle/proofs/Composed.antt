@@ -9,7 +9,7 @@ use Rattle.joint_model.specs.declared.events.Entry.{Entry}
 use Rattle.joint_model.specs.declared.events.Reply.{Reply}
 use Rattle.joint_model.specs.Phases.{next_phase, phases_left, phases_of}
 use Rattle.joint_model.proofs.Deciding.{some-same}
-use Rattle.bridge_cycle.specs.Progress.{EndsWithReply, StopsForMemory, LeadTo, Progress, Runs, RunsPhases, last_reply}
+use Rattle.bridge_cycle.specs.Progress.{EndsWithReply, StopsForMemory, LeadTo, Progress, RunsWords, RunsPhases, last_reply}
 use Rattle.bridge_cycle.specs.Words.{Closes, IsPartway, Lacks, next_word}
 use Rattle.bridge_cycle.proofs.Making.{append_nil, runs_more}
 use Rattle.bridge_cycle.proofs.Turned.{last_snoc}
@@ -57,7 +57,7 @@ left_some at.Marked n = (word.Restore ∷ word.Resolve ∷ [], refl)
 left_some at.Swept n = (word.Resolve ∷ [], refl)
 left_some at.Restored n = ([], refl)
 
-pub runs_on : (old mid new : Progress) (index : ℕ) (ws vs : List PhaseWord) → Runs old mid index ws → Runs mid new index vs → Runs old new index (ws ++ vs)
+pub runs_on : (old mid new : Progress) (index : ℕ) (ws vs : List PhaseWord) → RunsWords old mid index ws → RunsWords mid new index vs → RunsWords old new index (ws ++ vs)
 runs_on old mid new index ws vs a b = (a.0 ++ b.0, runs_more old mid new index ws vs a.0 b.0 a.1 b.1)
 
 -- one phase more
@@ -84,7 +84,7 @@ partway_lacks old mid new index w p is lacks =
       left = left.0;
       all = p.all ∙ ap (λ ws. p.run ++ ws) (left.1 ∙ ap (λ v. v ∷ left.0) (sym is));
       takes = lacks.takes;
-      runs = subst (λ (ws : List PhaseWord). Runs old new index ws) (append_nil p.run) (runs_on old mid new index p.run [] p.runs lacks.runs);
+      runs = subst (λ (ws : List PhaseWord). RunsWords old new index ws) (append_nil p.run) (runs_on old mid new index p.run [] p.runs lacks.runs);
     }
 
 -- the last phase

@@ -16,7 +16,7 @@ use Rattle.joint_model.proofs.Members.{Contains-at, at-Contains}
 use Rattle.joint_laws.specs.ManagedInvariants.{IsManagedKept}
 use Rattle.joint_laws.proofs.DriverPeerSteps.{holds-handle_of}
 use Rattle.bridge_graph.specs.declared.graph.Node.{Node}
-use Rattle.bridge_graph.specs.Parts.{Part, IsBridge, IsPart, Leads, numbers_of}
+use Rattle.bridge_graph.specs.Parts.{Part, IsBridgeNode, IsPart, NodeLeads, numbers_of}
 use Rattle.managed_side.specs.Graphs.{IsDeadGraph, handle_number}
 use Rattle.joint_history.specs.DriverMirrors.{number_at}
 use Rattle.bridge_cycle.specs.Contracting.{GraphsContractionIsDeadParts}
@@ -69,7 +69,7 @@ module _ (s : Managed) (dead : List ℕ) (g : Part) (k : IsManagedKept s) (p : I
       let same : t.0 ≡ number_at g x = same_Some _ _ (sym t.1 ∙ dead_at x (slice_get_within g.nodes x n e)) in
       subst (λ (m : ℕ). handle_of s m ≡ handle_number n.handle) same t.2
 
-  pub renumbered : IsRenumbered (λ x. x < length g.nodes) (IsBridge g.nodes) (λ m. Contains dead m × IsBridgeRow s m) (Leads g.edges) (DeadEdge s dead) (number_at g)
+  pub renumbered : IsRenumbered (λ x. x < length g.nodes) (IsBridgeNode g.nodes) (λ m. Contains dead m × IsBridgeRow s m) (NodeLeads g.edges) (DeadEdge s dead) (number_at g)
   renumbered = record {
     rising = λ x y i j l. rises_at (numbers_of g.nodes) x y p.rising (omega (arith, count, j)) l;
     bridge_in = λ x b. slice_get_within g.nodes x b.node b.there;

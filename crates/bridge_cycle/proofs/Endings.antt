@@ -21,11 +21,11 @@ use Rattle.joint_history.specs.declared.marks.Begun.{Begun}
 use Rattle.joint_history.specs.Driven.{DriverStands, MakesResolution, MayResolveCycle, driver_entry}
 use Rattle.joint_history.specs.DriverMarks.{EndsFirst, HasBegunMarking, MakesBegin, MakesMark, MakesSweep, MayMarkCycle}
 use Rattle.joint_history.specs.Operations.{MakesAll}
-use Rattle.bridge_cycle.specs.Held.{Fields, IsHeld, IsCycleMarked, IsCycleRestored, IsCycleWeakened, opened_of}
-use Rattle.bridge_cycle.specs.Progress.{AreOnLine, cycle_after, line_of, last_reply}
+use Rattle.bridge_cycle.specs.Held.{Fields, KnowsItsStand, IsCycleMarked, IsCycleRestored, IsCycleWeakened, opened_of}
+use Rattle.bridge_cycle.specs.Progress.{AreDriversOnLine, cycle_after, line_of, last_reply}
 use Rattle.bridge_cycle.proofs.Making.{Steps, append_nil, at_own_line, cycle_on, line_below, makes_more, makes_nothing, makes_one, ran_one, room_on, stands_in, stands_on}
 
-module _ (f : Fields) (index : ℕ) (h : IsHeld f) (e : f.progress.phase ≡ at.Marked) (l : line_of f.progress ≤ index) where
+module _ (f : Fields) (index : ℕ) (h : KnowsItsStand f) (e : f.progress.phase ≡ at.Marked) (l : line_of f.progress ≤ index) where
   abbrev in_marked : IsCycleMarked f h.stand h.seen
   in_marked = stands_in f at.Marked h e
 
@@ -44,7 +44,7 @@ module _ (f : Fields) (index : ℕ) (h : IsHeld f) (e : f.progress.phase ≡ at.
             (at.Swept, ap (λ p. next_phase p word.Sweep) e, refl);
       }
 
-module _ (f : Fields) (index : ℕ) (h : IsHeld f) (e : f.progress.phase ≡ at.Restored) (l : line_of f.progress ≤ index) (stock : Stock) (there : f.alive ≡ Some stock) where
+module _ (f : Fields) (index : ℕ) (h : KnowsItsStand f) (e : f.progress.phase ≡ at.Restored) (l : line_of f.progress ≤ index) (stock : Stock) (there : f.alive ≡ Some stock) where
   abbrev in_restored : IsCycleRestored f h.stand h.seen
   in_restored = stands_in f at.Restored h e
 
@@ -75,7 +75,7 @@ module _ (old between new : View) (index : ℕ) (o : OpenSnap) (count : ℕ) (we
   pub record Began : Type 0 where
     pub entries : List Entry
     pub made : MakesAll C old new entries
-    pub places : AreOnLine index entries
+    pub places : AreDriversOnLine index entries
     pub phase : ArePhase count word.Mark entries
     pub cycle : (k : Cycle) → cycle_after k entries ≡ k
     pub candidates : candidates_after count entries ≡ count
@@ -110,7 +110,7 @@ module _ (old between new : View) (index : ℕ) (o : OpenSnap) (count : ℕ) (we
         now = w.stands;
       }
 
-module _ (f : Fields) (index : ℕ) (h : IsHeld f) (e : f.progress.phase ≡ at.Weakened) (l : line_of f.progress ≤ index) where
+module _ (f : Fields) (index : ℕ) (h : KnowsItsStand f) (e : f.progress.phase ≡ at.Weakened) (l : line_of f.progress ≤ index) where
   abbrev in_weakened : IsCycleWeakened f h.stand h.seen
   in_weakened = stands_in f at.Weakened h e
 

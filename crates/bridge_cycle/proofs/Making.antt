@@ -25,8 +25,8 @@ use Rattle.joint_history.specs.Knowing.{line_known}
 use Rattle.joint_history.specs.Operations.{AreAbove, MakesAll}
 use Rattle.joint_history.proofs.LastLines.{last_line_is}
 use Rattle.joint_history.proofs.DriverHears.{driver_later}
-use Rattle.bridge_cycle.specs.Held.{Fields, HasCycle, HasRoom, IsAt, IsHeld}
-use Rattle.bridge_cycle.specs.Progress.{AreOnLine, EndsWithReply, Enters, LeadTo, Progress, Runs, RunsPhases, cycle_after, line_of, opened_by}
+use Rattle.bridge_cycle.specs.Held.{Fields, HasCycle, HasRoomForAnswers, IsAt, KnowsItsStand}
+use Rattle.bridge_cycle.specs.Progress.{AreDriversOnLine, EndsWithReply, Enters, LeadTo, Progress, RunsWords, RunsPhases, cycle_after, line_of, opened_by}
 
 -- the line of the driver's last entry
 own_line_is : (v : View) (index : ℕ) (stand : Stand) (seen : Managed) (s : DriverStands v index stand seen) → control_line (end_of s.known.past).control C ≡ last_index (line_known v (caller_line C))
@@ -39,10 +39,10 @@ pub at_own_line : (v : View) (index : ℕ) (stand : Stand) (seen : Managed) → 
 at_own_line v index stand seen s = record { known = s.known; stands = record { last = (let e = own_line_is v index stand seen s in omega (arith, e)); come = s.stands.come; dead = s.stands.dead } }
 
 -- a driver in that phase stands as the phase says, on that line
-pub stands_in : (f : Fields) (phase : Phase) (h : IsHeld f) → f.progress.phase ≡ phase → IsAt phase f h.stand h.seen
+pub stands_in : (f : Fields) (phase : Phase) (h : KnowsItsStand f) → f.progress.phase ≡ phase → IsAt phase f h.stand h.seen
 stands_in f phase h e = subst (λ (p : Phase). IsAt p f h.stand h.seen) e h.at
 
-pub stands_on : (f : Fields) (index : ℕ) (stand : Stand) (h : IsHeld f) → line_of f.progress ≤ index → h.stand ≡ stand → DriverStands f.progress.view index stand h.seen
+pub stands_on : (f : Fields) (index : ℕ) (stand : Stand) (h : KnowsItsStand f) → line_of f.progress ≤ index → h.stand ≡ stand → DriverStands f.progress.view index stand h.seen
 stands_on f index stand h l e = subst (λ (s : Stand). DriverStands f.progress.view index s h.seen) e (driver_later f.progress.view (line_of f.progress) index h.stand h.seen l h.stands)
 
 -- what the driver keeps of its open cycle is the same for fields that have it
@@ -60,20 +60,20 @@ cycle_on f next seen s k n c = record {
   candidates = c.candidates;
 }
 
-abbrev pub room_on : (f next : Fields) → next.alive ≡ f.alive → next.progress.candidates ≡ f.progress.candidates → HasRoom f → HasRoom next
+abbrev pub room_on : (f next : Fields) → next.alive ≡ f.alive → next.progress.candidates ≡ f.progress.candidates → HasRoomForAnswers f → HasRoomForAnswers next
 room_on f next a n r = record { answers = r.answers; there = a ∙ r.there; none = r.none; room = r.room ∙ sym n }
 
 -- what the driver keeps after phases
 pub record Steps (old : Progress) (next : Fields) (index : ℕ) (ws : List PhaseWord) (reply : Reply) : Type 0 where
-  pub held : IsHeld next
+  pub held : KnowsItsStand next
   pub line : line_of next.progress ≤ index
   pub answers : EndsWithReply old next.progress index ws reply
 
 -- and where it found no memory
 pub record Stays (old : Progress) (next : Fields) (index : ℕ) : Type 0 where
-  pub held : IsHeld next
+  pub held : KnowsItsStand next
   pub line : line_of next.progress ≤ index
-  pub runs : Runs old next.progress index []
+  pub runs : RunsWords old next.progress index []
 
 -- what contracts see of the driver is what it keeps
 pub phase_seen : {p q : Progress} (phase : Phase) → p ≡ q → q.phase ≡ phase → p.phase ≡ phase
@@ -112,7 +112,7 @@ append_nil [] = refl
 append_nil (x ∷ xs) = ap (λ ys. x ∷ ys) (append_nil xs)
 
 -- a phase that made nothing
-pub ran_none : (old new : Progress) (index : ℕ) → DriverMakesNone old.view new.view → new.cycle ≡ old.cycle → new.candidates ≡ old.candidates → new.phase ≡ old.phase → Runs old new index []
+pub ran_none : (old new : Progress) (index : ℕ) → DriverMakesNone old.view new.view → new.cycle ≡ old.cycle → new.candidates ≡ old.candidates → new.phase ≡ old.phase → RunsWords old new index []
 ran_none old new index none cycle candidates phase = (
   [],
   record {
@@ -138,7 +138,7 @@ makes_more old mid new es fs a b = record {
 pub makes_nothing : (old new : View) → DriverMakesNone old new → MakesAll C old new []
 makes_nothing old new none = record { own_more = none.own ∙ sym (append_nil (line_known old (caller_line C))); more = none.more; above = tt }
 
-pub places_more : (index : ℕ) (es fs : List Entry) → AreOnLine index es → AreOnLine index fs → AreOnLine index (es ++ fs)
+pub places_more : (index : ℕ) (es fs : List Entry) → AreDriversOnLine index es → AreDriversOnLine index fs → AreDriversOnLine index (es ++ fs)
 places_more index [] fs a b = b
 places_more index (e ∷ es) fs a b = (a.0, a.1, places_more index es fs a.2 b)
 

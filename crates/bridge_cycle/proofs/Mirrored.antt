@@ -15,12 +15,12 @@ use Rattle.managed_side.specs.Graphs.{IsDeadGraph}
 use Rattle.order_table.specs.declared.views.View.{View}
 use Rattle.joint_history.specs.Driven.{DriverStands, driver_entry}
 use Rattle.joint_history.specs.DriverMirrors.{IsListedBy, MakesMirror, MayMirrorCycle, numbered_comps}
-use Rattle.bridge_cycle.specs.Held.{Fields, IsCycleContracted, IsHeld, opened_of}
+use Rattle.bridge_cycle.specs.Held.{Fields, IsCycleContracted, KnowsItsStand, opened_of}
 use Rattle.bridge_cycle.specs.Progress.{line_of}
 use Rattle.bridge_cycle.proofs.Making.{Steps, at_own_line, cycle_on, line_below, makes_one, ran_one, room_on, stands_in, stands_on}
 use Rattle.bridge_cycle.proofs.Openings.{the_snapshot}
 
-module _ (f : Fields) (index : ℕ) (h : IsHeld f) (e : f.progress.phase ≡ at.Contracted) (l : line_of f.progress ≤ index) (out : Snapshot) (there : f.snapshot ≡ Some out) (listing : Listing) (listed : f.listing ≡ Some listing) where
+module _ (f : Fields) (index : ℕ) (h : KnowsItsStand f) (e : f.progress.phase ≡ at.Contracted) (l : line_of f.progress ≤ index) (out : Snapshot) (there : f.snapshot ≡ Some out) (listing : Listing) (listed : f.listing ≡ Some listing) where
   s : IsCycleContracted f h.stand h.seen
   s = stands_in f at.Contracted h e
 

@@ -14,28 +14,28 @@ use Rattle.joint_model.specs.Managed.{Managed, OpenCycle}
 use Rattle.joint_model.specs.Phases.{next_phase}
 use Rattle.joint_model.specs.Told.{contraction_of, snap_of}
 use Rattle.joint_model.proofs.HeapLemmas.{candidates_of-open}
-use Rattle.bridge_graph.specs.Parts.{IsBridge, IsPart, Leads}
+use Rattle.bridge_graph.specs.Parts.{IsBridgeNode, IsPart, NodeLeads}
 use Rattle.xref_list.specs.Listing.{Listing}
 use Rattle.managed_side.specs.declared.opening.Opened.{Opened as Snapshot}
 use Rattle.order_table.specs.declared.views.View.{View}
 use Rattle.joint_history.specs.Driven.{DriverRests, HasContraction, MakesContraction, MayContractCycle, driver_entry}
 use Rattle.joint_history.specs.DriverSnaps.{MakesSnapshot}
 use Rattle.joint_history.specs.DriverMirrors.{numbered_comps}
-use Rattle.bridge_cycle.specs.Held.{Fields, HasCycle, IsHeld, IsCycleSnapped, opened_of}
+use Rattle.bridge_cycle.specs.Held.{Fields, HasCycle, KnowsItsStand, IsCycleSnapped, opened_of}
 use Rattle.bridge_cycle.specs.Progress.{line_of}
 use Rattle.bridge_cycle.proofs.Candidates.{are_candidates}
 use Rattle.bridge_cycle.proofs.DeadContraction.{a_graphs_contraction}
 use Rattle.bridge_cycle.proofs.Making.{Steps, cycle_on, at_own_line, line_below, makes_one, ran_one, stands_in, stands_on}
 
 -- a driver in its idle phase rests
-pub idle_rests : (f : Fields) (index : ℕ) → IsHeld f → f.progress.phase ≡ at.Idle → line_of f.progress ≤ index → DriverRests f.progress.view index
+pub idle_rests : (f : Fields) (index : ℕ) → KnowsItsStand f → f.progress.phase ≡ at.Idle → line_of f.progress ≤ index → DriverRests f.progress.view index
 idle_rests f index h e l = record { seen = h.seen; stands = stands_on f index idle h l (stands_in f at.Idle h e) }
 
 -- after the snapshot
 abbrev pub after_snap : Fields → View → Snapshot → Fields
 after_snap f new out = record f { progress = record { view = new; phase = at.Snapped; cycle = out.cycle; candidates = out.candidates }; snapshot = Some out }
 
-pub snap_taken : (f : Fields) (index : ℕ) (new : View) (out : Snapshot) → IsHeld f → f.progress.phase ≡ at.Idle → line_of f.progress ≤ index → MakesSnapshot f.progress.view new index out → IsPart out.graph.nodes out.graph.edges
+pub snap_taken : (f : Fields) (index : ℕ) (new : View) (out : Snapshot) → KnowsItsStand f → f.progress.phase ≡ at.Idle → line_of f.progress ≤ index → MakesSnapshot f.progress.view new index out → IsPart out.graph.nodes out.graph.edges
     → Steps f.progress (after_snap f new out) index (word.Snap ∷ []) (says.Snapped out.candidates out.freed)
 snap_taken f index new out h e l makes part =
     let rests = idle_rests f index h e l in
@@ -70,8 +70,8 @@ snap_taken f index new out h e l makes part =
 pub the_snapshot : (f : Fields) (seen : Managed) (c : HasCycle f seen) (out : Snapshot) → f.snapshot ≡ Some out → c.snapshot ≡ out
 the_snapshot f seen c out e = same_Some _ _ (sym c.there ∙ e)
 
-module _ (f : Fields) (index : ℕ) (h : IsHeld f) (e : f.progress.phase ≡ at.Snapped) (l : line_of f.progress ≤ index) (out : Snapshot) (there : f.snapshot ≡ Some out) (listing : Listing)
-    (exact : IsContraction (IsBridge out.graph.nodes) (Leads out.graph.edges) listing.comps listing.pairs) (sccs xrefs : ℕ) (components : sccs ≡ length listing.comps) (references : xrefs ≡ length listing.pairs) where
+module _ (f : Fields) (index : ℕ) (h : KnowsItsStand f) (e : f.progress.phase ≡ at.Snapped) (l : line_of f.progress ≤ index) (out : Snapshot) (there : f.snapshot ≡ Some out) (listing : Listing)
+    (exact : IsContraction (IsBridgeNode out.graph.nodes) (NodeLeads out.graph.edges) listing.comps listing.pairs) (sccs xrefs : ℕ) (components : sccs ≡ length listing.comps) (references : xrefs ≡ length listing.pairs) where
   s : IsCycleSnapped f h.stand h.seen
   s = stands_in f at.Snapped h e
 
@@ -79,7 +79,7 @@ module _ (f : Fields) (index : ℕ) (h : IsHeld f) (e : f.progress.phase ≡ at.
   contraction_is = record {
     exact = λ c q.
         let same : s.cycle.cycle ≡ c = same_Some _ _ (sym s.cycle.opened ∙ q) in
-        let found = subst (λ (o : Snapshot). IsContraction (IsBridge o.graph.nodes) (Leads o.graph.edges) listing.comps listing.pairs) (sym (the_snapshot f h.seen s.cycle out there)) exact in
+        let found = subst (λ (o : Snapshot). IsContraction (IsBridgeNode o.graph.nodes) (NodeLeads o.graph.edges) listing.comps listing.pairs) (sym (the_snapshot f h.seen s.cycle out there)) exact in
         subst (λ (k : OpenCycle). IsDeadContraction h.seen k.dead (numbered_comps s.cycle.snapshot.graph listing.comps) listing.pairs) same
         (a_graphs_contraction h.seen s.cycle.cycle.dead s.cycle.snapshot.graph listing.comps listing.pairs s.cycle.kept s.cycle.part s.cycle.graph found);
     components = components ∙ sym (length-map listing.comps _);

@@ -27,12 +27,12 @@ use Rattle.order_table.specs.declared.views.View.{View}
 use Rattle.order_table.specs.Views.{known}
 use Rattle.joint_history.specs.Callers.{Hears, KnowsNothing, Pass, last_index}
 use Rattle.joint_history.specs.Driven.{DriverMakesNone, DriverStands, IsStillAt, MakesFinalise, MakesRefusal, MayFinalise, MayRefuseWord, driver_entry}
-use Rattle.joint_history.specs.Ending.{IsIdle}
+use Rattle.joint_history.specs.Ending.{HasIdleDriver}
 use Rattle.joint_history.specs.Knowing.{IsKnownView}
 use Rattle.joint_history.proofs.DeadParts.{dead_part_self}
 use Rattle.joint_history.proofs.DriverHears.{driver_first, driver_later}
 use Rattle.joint_history.specs.DriverMirrors.{numbered_comps}
-use Rattle.bridge_cycle.specs.Held.{Fields, HasCycle, IsAt, IsHeld, opened_of}
+use Rattle.bridge_cycle.specs.Held.{Fields, HasCycle, IsAt, KnowsItsStand, opened_of}
 use Rattle.bridge_cycle.specs.Progress.{MakesOne, Progress, RunsLine, RunsWord, line_of, pass_of}
 use Rattle.bridge_cycle.proofs.Making.{Stays, at_own_line, cycle_on, line_below, makes_one, ran_none, room_on}
 
@@ -73,7 +73,7 @@ on_at at.Marked f new stand seen a = record { cycle = cycle_on f (knowing f new)
 on_at at.Swept f new stand seen a = record { cycle = cycle_on f (knowing f new) seen refl refl refl a.cycle; room = room_on f (knowing f new) refl refl a.room; stands = a.stands }
 on_at at.Restored f new stand seen a = record { cycle = cycle_on f (knowing f new) seen refl refl refl a.cycle; answers = a.answers; there = a.there; stands = a.stands }
 
-pub held_on : (f : Fields) (new : View) → ((index : ℕ) (stand : Stand) (seen : Managed) → DriverStands f.progress.view index stand seen → DriverStands new index stand seen) → IsHeld f → IsHeld (knowing f new)
+pub held_on : (f : Fields) (new : View) → ((index : ℕ) (stand : Stand) (seen : Managed) → DriverStands f.progress.view index stand seen → DriverStands new index stand seen) → KnowsItsStand f → KnowsItsStand (knowing f new)
 held_on f new on h = record { stand = h.stand; seen = h.seen; stands = at_own_line new (line_of f.progress) h.stand h.seen (on (line_of f.progress) h.stand h.seen h.stands); at = on_at f.progress.phase f new h.stand h.seen h.at }
 
 -- after a refusal the driver is in its phase
@@ -150,14 +150,14 @@ refusal_tells word.Resolve p seen n = refl
 
 -- what the driver keeps after a line whose entry leaves it in its phase
 pub record StepsOne (old : Progress) (next : Fields) (index : ℕ) (a : Act) (reply : Reply) : Type 0 where
-  pub held : IsHeld next
+  pub held : KnowsItsStand next
   pub line : line_of next.progress ≤ index
   pub runs : RunsLine old next.progress index a reply
 
 pub one_seen : {p q : Progress} {next : Fields} {index : ℕ} {a : Act} {reply : Reply} → p ≡ q → StepsOne p next index a reply → StepsOne q next index a reply
 one_seen {next = next} {index = index} {a = a} {reply = reply} e w = subst (λ (d : Progress). StepsOne d next index a reply) e w
 
-module _ (f : Fields) (index : ℕ) (h : IsHeld f) (l : line_of f.progress ≤ index) where
+module _ (f : Fields) (index : ℕ) (h : KnowsItsStand f) (l : line_of f.progress ≤ index) where
   stands : DriverStands f.progress.view index h.stand h.seen
   stands = driver_later f.progress.view (line_of f.progress) index h.stand h.seen l h.stands
 
@@ -212,7 +212,7 @@ module _ (f : Fields) (index : ℕ) (h : IsHeld f) (l : line_of f.progress ≤ i
   }
 
 -- the caller of an idle driver, and an idle driver's caller
-pub held_first : (p : Pass) (cycle : Cycle) → IsDriver p.thread → IsIdle p → IsHeld record { progress = record { view = p.view; phase = at.Idle; cycle = cycle; candidates = 0 }; snapshot = None; listing = None; alive = None; clear = 0 }
+pub held_first : (p : Pass) (cycle : Cycle) → IsDriver p.thread → HasIdleDriver p → KnowsItsStand record { progress = record { view = p.view; phase = at.Idle; cycle = cycle; candidates = 0 }; snapshot = None; listing = None; alive = None; clear = 0 }
 held_first p cycle is idle_one =
     let a = idle_one is in
     let seen = (end_of a.0.past).managed.managed in
@@ -223,7 +223,7 @@ held_first p cycle is idle_one =
       at = refl;
     }
 
-pub idle_again : (p : Pass) (f : Fields) → p.view ≡ f.progress.view → f.progress.phase ≡ at.Idle → IsHeld f → IsIdle p
+pub idle_again : (p : Pass) (f : Fields) → p.view ≡ f.progress.view → f.progress.phase ≡ at.Idle → KnowsItsStand f → HasIdleDriver p
 idle_again p f same e h is =
     let i : h.stand ≡ idle = subst (λ (q : Phase). IsAt q f h.stand h.seen) e h.at in
     subst (λ (v : View). (a : IsKnownView v) × ((end_of a.past).control.stand ≡ idle)) (sym same) (h.stands.known, h.stands.stands.come ∙ i)
@@ -239,5 +239,5 @@ heard_of p a b d e h = record {
 }
 
 -- a caller that knows nothing is idle, and has no entry
-pub idle_first : (p : Pass) → KnowsNothing p.view → IsIdle p
+pub idle_first : (p : Pass) → KnowsNothing p.view → HasIdleDriver p
 idle_first p none is = let r = driver_first p.view none in (r.stands.known, r.stands.stands.come)

@@ -17,14 +17,14 @@ use Rattle.order_table.specs.declared.views.View.{View}
 use Rattle.joint_history.specs.Driven.{DriverStands, driver_entry}
 use Rattle.joint_history.specs.DriverHandles.{MakesClear, MayClearCycle}
 use Rattle.bridge_cycle.specs.Handles.{AreCandidates}
-use Rattle.bridge_cycle.specs.Held.{Fields, IsHeld, IsCycleSwept, opened_of}
+use Rattle.bridge_cycle.specs.Held.{Fields, KnowsItsStand, IsCycleSwept, opened_of}
 use Rattle.bridge_cycle.specs.Progress.{line_of}
 use Rattle.bridge_cycle.specs.Turns.{MayRestoreAll, Restores, RestoresAll}
 use Rattle.bridge_cycle.proofs.Making.{Steps, append_nil, at_own_line, cycle_on, candidates_more, cycle_more, line_below, makes_more, makes_one, places_more, stands_in, stands_on}
 use Rattle.bridge_cycle.proofs.Openings.{the_snapshot}
 use Rattle.bridge_cycle.proofs.Turned.{answers_count, last_snoc}
 
-module _ (f : Fields) (index : ℕ) (h : IsHeld f) (e : f.progress.phase ≡ at.Swept) (l : line_of f.progress ≤ index) (out : Snapshot) (there : f.snapshot ≡ Some out) where
+module _ (f : Fields) (index : ℕ) (h : KnowsItsStand f) (e : f.progress.phase ≡ at.Swept) (l : line_of f.progress ≤ index) (out : Snapshot) (there : f.snapshot ≡ Some out) where
   s : IsCycleSwept f h.stand h.seen
   s = stands_in f at.Swept h e
 

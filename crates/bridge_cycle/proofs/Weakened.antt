@@ -10,13 +10,13 @@ use Rattle.managed_side.specs.declared.opening.Opened.{Opened as Snapshot}
 use Rattle.order_table.specs.declared.views.View.{View}
 use Rattle.joint_history.specs.Driven.{DriverStands}
 use Rattle.bridge_cycle.specs.Handles.{AreCandidates}
-use Rattle.bridge_cycle.specs.Held.{Fields, IsHeld, IsCycleMirrored, opened_of}
+use Rattle.bridge_cycle.specs.Held.{Fields, KnowsItsStand, IsCycleMirrored, opened_of}
 use Rattle.bridge_cycle.specs.Progress.{line_of}
 use Rattle.bridge_cycle.specs.Turns.{MayWeakenAll, WeakensAll}
 use Rattle.bridge_cycle.proofs.Making.{Steps, append_nil, at_own_line, cycle_on, line_below, room_on, stands_in, stands_on}
 use Rattle.bridge_cycle.proofs.Openings.{the_snapshot}
 
-module _ (f : Fields) (index : ℕ) (h : IsHeld f) (e : f.progress.phase ≡ at.Mirrored) (l : line_of f.progress ≤ index) (out : Snapshot) (there : f.snapshot ≡ Some out) where
+module _ (f : Fields) (index : ℕ) (h : KnowsItsStand f) (e : f.progress.phase ≡ at.Mirrored) (l : line_of f.progress ≤ index) (out : Snapshot) (there : f.snapshot ≡ Some out) where
   s : IsCycleMirrored f h.stand h.seen
   s = stands_in f at.Mirrored h e
 

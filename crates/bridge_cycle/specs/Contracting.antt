@@ -4,11 +4,11 @@ use Rattle.joint_model.specs.Components.{IsContraction}
 use Rattle.joint_model.specs.Cycles.{IsDeadContraction}
 use Rattle.joint_model.specs.Managed.{Managed}
 use Rattle.joint_laws.specs.ManagedInvariants.{IsManagedKept}
-use Rattle.bridge_graph.specs.Parts.{Part, IsBridge, IsPart, Leads}
+use Rattle.bridge_graph.specs.Parts.{Part, IsBridgeNode, IsPart, NodeLeads}
 use Rattle.managed_side.specs.Graphs.{IsDeadGraph}
 use Rattle.joint_history.specs.DriverMirrors.{numbered_comps}
 
 -- the contraction of a dead part's graph is, by the nodes' numbers, the contraction of the dead part
 abbrev pub GraphsContractionIsDeadParts : Type 0
 GraphsContractionIsDeadParts = (s : Managed) (dead : List ℕ) (g : Part) (comps : List (List ℕ)) (pairs : List (ℕ × ℕ)) → IsManagedKept s → IsPart g.nodes g.edges → IsDeadGraph s dead g
-    → IsContraction (IsBridge g.nodes) (Leads g.edges) comps pairs → IsDeadContraction s dead (numbered_comps g comps) pairs
+    → IsContraction (IsBridgeNode g.nodes) (NodeLeads g.edges) comps pairs → IsDeadContraction s dead (numbered_comps g comps) pairs

@@ -42,7 +42,7 @@ pub record HasCycle (f : Fields) (seen : Managed) : Type 0 where
   pub candidates : AreCandidates seen snapshot.graph.nodes
 
 -- there is room for an answer of each candidate
-pub record HasRoom (f : Fields) : Type 0 where
+pub record HasRoomForAnswers (f : Fields) : Type 0 where
   pub answers : Answers
   pub there : f.alive ≡ Some answers
   pub none : answers.values ≡ []
@@ -56,7 +56,7 @@ pub record IsCycleSnapped (f : Fields) (stand : Stand) (seen : Managed) : Type 0
 -- the contraction is made, and is the one at hand
 pub record IsCycleContracted (f : Fields) (stand : Stand) (seen : Managed) : Type 0 where
   pub cycle : HasCycle f seen
-  pub room : HasRoom f
+  pub room : HasRoomForAnswers f
   pub listing : Listing
   pub listed : f.listing ≡ Some listing
   pub stands : stand ≡ contracted (opened_of cycle.snapshot) (numbered_comps cycle.snapshot.graph listing.comps) listing.pairs
@@ -64,26 +64,26 @@ pub record IsCycleContracted (f : Fields) (stand : Stand) (seen : Managed) : Typ
 -- the cycle is mirrored
 pub record IsCycleMirrored (f : Fields) (stand : Stand) (seen : Managed) : Type 0 where
   pub cycle : HasCycle f seen
-  pub room : HasRoom f
+  pub room : HasRoomForAnswers f
   pub stands : stand ≡ weakening (opened_of cycle.snapshot) 0 false false
 
 -- all handles are weakened
 pub record IsCycleWeakened (f : Fields) (stand : Stand) (seen : Managed) : Type 0 where
   pub cycle : HasCycle f seen
-  pub room : HasRoom f
+  pub room : HasRoomForAnswers f
   pub weakened : Bool
   pub stands : stand ≡ weakening (opened_of cycle.snapshot) f.progress.candidates weakened false
 
 -- the own marking is begun
 pub record IsCycleMarked (f : Fields) (stand : Stand) (seen : Managed) : Type 0 where
   pub cycle : HasCycle f seen
-  pub room : HasRoom f
+  pub room : HasRoomForAnswers f
   pub stands : stand ≡ marked (opened_of cycle.snapshot)
 
 -- it is swept
 pub record IsCycleSwept (f : Fields) (stand : Stand) (seen : Managed) : Type 0 where
   pub cycle : HasCycle f seen
-  pub room : HasRoom f
+  pub room : HasRoomForAnswers f
   pub stands : stand ≡ restoring (opened_of cycle.snapshot) []
 
 -- all handles are restored, and the references cleared
@@ -105,7 +105,7 @@ IsAt at.Swept f stand seen = IsCycleSwept f stand seen
 IsAt at.Restored f stand seen = IsCycleRestored f stand seen
 
 -- so it is by what the driver knows
-pub record IsHeld (f : Fields) : Type 0 where
+pub record KnowsItsStand (f : Fields) : Type 0 where
   pub stand : Stand
   pub seen : Managed
   pub stands : DriverStands f.progress.view (line_of f.progress) stand seen

@@ -33,9 +33,9 @@ abbrev pub line_of : Progress → ℕ
 line_of d = last_index (own (pass_of d))
 
 -- each entry is the driver's, on that line
-abbrev pub AreOnLine : ℕ → List Entry → Type 0
-AreOnLine index [] = Unit {0}
-AreOnLine index (e ∷ es) = (e.made.caller ≡ C) × (e.made.index ≡ index) × AreOnLine index es
+abbrev pub AreDriversOnLine : ℕ → List Entry → Type 0
+AreDriversOnLine index [] = Unit {0}
+AreDriversOnLine index (e ∷ es) = (e.made.caller ≡ C) × (e.made.index ≡ index) × AreDriversOnLine index es
 
 -- the cycle that was opened last, which a snapshot names
 abbrev pub opened_by : Cycle → Op → Cycle
@@ -55,7 +55,7 @@ last_reply (e ∷ f ∷ es) = last_reply (f ∷ es)
 -- the driver made these entries, on that line: they are its last ones, with numbers above all that it knew, and it knows all that it knew
 pub record Enters (old new : Progress) (index : ℕ) (entries : List Entry) : Type 0 where
   pub made : MakesAll C old.view new.view entries
-  pub places : AreOnLine index entries
+  pub places : AreDriversOnLine index entries
   pub cycle : new.cycle ≡ cycle_after old.cycle entries
   pub candidates : new.candidates ≡ candidates_after old.candidates entries
 
@@ -70,8 +70,8 @@ pub record RunsPhases (old new : Progress) (index : ℕ) (ws : List PhaseWord) (
   pub events : ArePhases old.candidates ws entries
   pub leads : LeadTo old.phase ws new.phase
 
-abbrev pub Runs : Progress → Progress → ℕ → List PhaseWord → Type 0
-Runs old new index ws = (entries : List Entry) × RunsPhases old new index ws entries
+abbrev pub RunsWords : Progress → Progress → ℕ → List PhaseWord → Type 0
+RunsWords old new index ws = (entries : List Entry) × RunsPhases old new index ws entries
 
 -- the phases that take memory; from `weaken` on there is none
 abbrev pub TakesMemory : PhaseWord → Type 0
@@ -87,7 +87,7 @@ pub record StopsForMemory (old new : Progress) (index : ℕ) (ws : List PhaseWor
   pub left : List PhaseWord
   pub all : ws ≡ run ++ failed ∷ left
   pub takes : TakesMemory failed
-  pub runs : Runs old new index run
+  pub runs : RunsWords old new index run
 
 -- the driver made one entry that leaves it in its phase, with the candidates that it had
 pub record MakesOne (old new : Progress) (index : ℕ) (entries : List Entry) : Type 0 where
@@ -120,12 +120,12 @@ pub record RunsLine (old new : Progress) (index : ℕ) (a : Act) (reply : Reply)
 
 -- a line found no memory: it made nothing, or its first phases
 abbrev pub BreaksWord : Progress → Progress → ℕ → PhaseWord → Option Phase → Type 0
-BreaksWord old new index w None = Runs old new index []
+BreaksWord old new index w None = RunsWords old new index []
 BreaksWord old new index w (Some next) = StopsForMemory old new index (phases_of w)
 
 abbrev pub BreaksLine : Progress → Progress → ℕ → Act → Type 0
 BreaksLine old new index (act.PhaseLine w) = BreaksWord old new index w (next_phase old.phase w)
-BreaksLine old new index a = Runs old new index []
+BreaksLine old new index a = RunsWords old new index []
 
 -- the driver ran phases, the last entry of which replied this
 pub record EndsWithReply (old new : Progress) (index : ℕ) (ws : List PhaseWord) (reply : Reply) : Type 0 where

@@ -18,12 +18,12 @@ use Rattle.order_table.specs.declared.views.View.{View}
 use Rattle.joint_history.specs.Driven.{DriverStands}
 use Rattle.joint_history.specs.Operations.{MakesAll}
 use Rattle.bridge_cycle.specs.Handles.{AreCandidates}
-use Rattle.bridge_cycle.specs.Progress.{AreOnLine, cycle_after, last_reply}
+use Rattle.bridge_cycle.specs.Progress.{AreDriversOnLine, cycle_after, last_reply}
 
 -- the driver made so many entries of a phase, which open no cycle and count no candidates
 pub record MakesTimes (old new : View) (index : ℕ) (w : PhaseWord) (n : ℕ) (entries : List Entry) : Type 0 where
   pub made : MakesAll C old new entries
-  pub places : AreOnLine index entries
+  pub places : AreDriversOnLine index entries
   pub times : AreTimes w n entries
   pub cycle : (k : Cycle) → cycle_after k entries ≡ k
   pub candidates : (c : ℕ) → candidates_after c entries ≡ c

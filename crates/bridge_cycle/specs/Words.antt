@@ -7,7 +7,7 @@ use Rattle.joint_model.specs.declared.names.PhaseWord.TheVariants as word
 use Rattle.joint_model.specs.declared.events.Entry.{Entry}
 use Rattle.joint_model.specs.declared.events.Reply.{Reply}
 use Rattle.joint_model.specs.Phases.{phases_left}
-use Rattle.bridge_cycle.specs.Progress.{Progress, Runs, RunsPhases, TakesMemory}
+use Rattle.bridge_cycle.specs.Progress.{Progress, RunsWords, RunsPhases, TakesMemory}
 
 -- the word asks for one phase
 abbrev pub IsOnePhase : PhaseWord → Type 0
@@ -40,14 +40,14 @@ next_word at.Restored = word.Resolve
 -- a phase found no memory, which is one that takes some: nothing was made
 pub record Lacks (old new : Progress) (index : ℕ) (w : PhaseWord) : Type 0 where
   pub takes : TakesMemory w
-  pub runs : Runs old new index []
+  pub runs : RunsWords old new index []
 
 -- so far the driver has run the first of the phases that were left of its open cycle; the others are left now
 pub record IsPartway (old now : Progress) (index : ℕ) : Type 0 where
   pub busy : now.phase ≡ at.Idle → ⊥
   pub run : List PhaseWord
   pub all : phases_left old.phase ≡ run ++ phases_left now.phase
-  pub runs : Runs old now index run
+  pub runs : RunsWords old now index run
 
 -- the driver ran phases, and made an entry last, which replied this
 pub record Closes (old new : Progress) (index : ℕ) (ws : List PhaseWord) (reply : Reply) : Type 0 where

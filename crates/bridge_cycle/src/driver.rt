@@ -4,7 +4,7 @@ ghost use Rattle.std.specs.Prelude.{◌≡◌};
 ghost use Rattle.joint_model.specs.Lines.{IsDriver};
 ghost use Rattle.joint_model.specs.declared.names.Phase.TheVariants.{Idle};
 ghost use Rattle.joint_history.specs.Callers.{Hears, Tells};
-ghost use Rattle.joint_history.specs.Ending.{IsIdle};
+ghost use Rattle.joint_history.specs.Ending.{HasIdleDriver};
 ghost use Rattle.bridge_cycle.specs.Progress.{Progress, pass_of};
 
 use joint_history::{Caller, Shared};
@@ -30,14 +30,14 @@ pub struct Driver<N: OrderName> {
 
 impl<N: OrderName> Model for Driver<N> {
     ghost use Rattle.joint_model.specs.Lines.{IsDriver};
-    ghost use Rattle.bridge_cycle.specs.Held.{IsHeld};
+    ghost use Rattle.bridge_cycle.specs.Held.{KnowsItsStand};
     ghost use Rattle.bridge_cycle.specs.Progress.{Progress};
 
     ghost Value = { Progress };
 
     ghost view = { λ d. record { view = d.caller.view; phase = d.phase; cycle = d.cycle; candidates = d.candidates } };
 
-    ghost invariant = { λ d. IsDriver d.caller.thread × IsHeld record { progress = record { view = d.caller.view; phase = d.phase; cycle = d.cycle; candidates = d.candidates }; snapshot = d.opened; listing = d.comps; alive = d.alive; clear = d.clear } };
+    ghost invariant = { λ d. IsDriver d.caller.thread × KnowsItsStand record { progress = record { view = d.caller.view; phase = d.phase; cycle = d.cycle; candidates = d.candidates }; snapshot = d.opened; listing = d.comps; alive = d.alive; clear = d.clear } };
 }
 
 /// Why a call of the driver made nothing of what it was asked for.
@@ -55,7 +55,7 @@ impl<N: OrderName> Driver<N> {
     /// The driver, with the caller of thread `c`, which is idle.
     pub fn new(caller: Caller<N>) -> Driver<N>
         requires driver { IsDriver caller.thread }
-        requires idle { IsIdle caller }
+        requires idle { HasIdleDriver caller }
         ensures { result ≡ record { view = caller.view; phase = Idle; cycle = record { 0 = 0 }; candidates = 0 } }
     {
         Driver {
@@ -81,7 +81,7 @@ impl<N: OrderName> Driver<N> {
     pub fn retire(self) -> Caller<N>
         requires { self.phase ≡ Idle }
         ensures pass { result ≡ pass_of self }
-        ensures idle { IsIdle result }
+        ensures idle { HasIdleDriver result }
     {
         self.caller
     }

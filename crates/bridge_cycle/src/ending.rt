@@ -3,7 +3,7 @@
 ghost use Rattle.std.specs.Prelude.{◌≡◌, ◌≤◌, [], ◌∷◌, Err, IsOk, OnErr, OnOk};
 ghost use Rattle.joint_model.specs.declared.names.Phase.TheVariants as at;
 ghost use Rattle.joint_model.specs.declared.names.PhaseWord.TheVariants as word;
-ghost use Rattle.bridge_cycle.specs.Progress.{EndsWithReply, Runs, line_of};
+ghost use Rattle.bridge_cycle.specs.Progress.{EndsWithReply, RunsWords, line_of};
 
 use crate::driver::{Driver, DriverFault};
 use joint_history::Shared;
@@ -68,7 +68,7 @@ impl<N: OrderName> Driver<N> {
         ensures index { line_of self.new ≤ index }
         ensures wrong { ¬ (self.old.phase ≡ at.Weakened) → result ≡ Err (DriverFault.WrongPhase self.old.phase) }
         ensures due { self.old.phase ≡ at.Weakened → IsOk result }
-        ensures ok { OnOk result (Runs self.old self.new index (word.Mark ∷ [])) }
+        ensures ok { OnOk result (RunsWords self.old self.new index (word.Mark ∷ [])) }
         ensures err { OnErr result (self.new ≡ self.old) }
     {
         let _ = alloc;
@@ -91,7 +91,7 @@ impl<N: OrderName> Driver<N> {
         ensures index { line_of self.new ≤ index }
         ensures wrong { ¬ (self.old.phase ≡ at.Marked) → result ≡ Err (DriverFault.WrongPhase self.old.phase) }
         ensures due { self.old.phase ≡ at.Marked → IsOk result }
-        ensures ok { OnOk result (Runs self.old self.new index (word.Sweep ∷ [])) }
+        ensures ok { OnOk result (RunsWords self.old self.new index (word.Sweep ∷ [])) }
         ensures err { OnErr result (self.new ≡ self.old) }
     {
         let _ = alloc;
@@ -114,7 +114,7 @@ impl<N: OrderName> Driver<N> {
         ensures index { line_of self.new ≤ index }
         ensures wrong { ¬ (self.old.phase ≡ at.Restored) → result ≡ Err (DriverFault.WrongPhase self.old.phase) }
         ensures due { self.old.phase ≡ at.Restored → IsOk result }
-        ensures ok { OnOk result (Runs self.old self.new index (word.Resolve ∷ [])) }
+        ensures ok { OnOk result (RunsWords self.old self.new index (word.Resolve ∷ [])) }
         ensures err { OnErr result (self.new ≡ self.old) }
     {
         let _ = alloc;

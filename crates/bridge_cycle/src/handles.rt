@@ -6,7 +6,7 @@ ghost use Rattle.joint_model.specs.Lines.{IsDriver};
 ghost use Rattle.joint_model.specs.declared.names.Phase.TheVariants as at;
 ghost use Rattle.joint_model.specs.declared.names.PhaseWord.TheVariants as word;
 ghost use Rattle.bridge_graph.specs.Handles.{handles_of};
-ghost use Rattle.bridge_cycle.specs.Progress.{EndsWithReply, Runs, line_of};
+ghost use Rattle.bridge_cycle.specs.Progress.{EndsWithReply, RunsWords, line_of};
 ghost use Rattle.bridge_cycle.specs.Turns.{MayRestoreAll, MayWeakenAll, RestoresAll, WeakensAll, is_alive};
 
 use crate::driver::{Driver, DriverFault};
@@ -132,7 +132,7 @@ impl<N: OrderName> Driver<N> {
         ensures index { line_of self.new ≤ index }
         ensures wrong { ¬ (self.old.phase ≡ at.Mirrored) → result ≡ Err (DriverFault.WrongPhase self.old.phase) }
         ensures due { self.old.phase ≡ at.Mirrored → IsOk result }
-        ensures ok { OnOk result (Runs self.old self.new index (word.Weaken ∷ [])) }
+        ensures ok { OnOk result (RunsWords self.old self.new index (word.Weaken ∷ [])) }
         ensures err { OnErr result (self.new ≡ self.old) }
     {
         let _ = alloc;
@@ -156,7 +156,7 @@ impl<N: OrderName> Driver<N> {
         ensures index { line_of self.new ≤ index }
         ensures wrong { ¬ (self.old.phase ≡ at.Swept) → result ≡ Err (DriverFault.WrongPhase self.old.phase) }
         ensures due { self.old.phase ≡ at.Swept → IsOk result }
-        ensures ok { OnOk result (Runs self.old self.new index (word.Restore ∷ [])) }
+        ensures ok { OnOk result (RunsWords self.old self.new index (word.Restore ∷ [])) }
         ensures err { OnErr result (self.new ≡ self.old) }
     {
         let _ = alloc;

@@ -4,7 +4,7 @@ ghost use Rattle.std.specs.Prelude.{◌≡◌, ◌≤◌, [], ◌∷◌, Err, If
 ghost use Rattle.joint_model.specs.declared.names.Phase.TheVariants as at;
 ghost use Rattle.joint_model.specs.declared.names.PhaseWord.TheVariants as word;
 ghost use Rattle.bridge_graph.specs.Parts.{IsPart};
-ghost use Rattle.bridge_cycle.specs.Progress.{EndsWithReply, Runs, line_of};
+ghost use Rattle.bridge_cycle.specs.Progress.{EndsWithReply, RunsWords, line_of};
 
 use crate::driver::{Driver, DriverFault};
 use bridge_graph::DeadGraph;
@@ -33,7 +33,7 @@ impl<N: OrderName> Driver<N> {
         requires index { line_of self.old ≤ index }
         ensures index { line_of self.new ≤ index }
         ensures ok { IfOk result (λ reply. EndsWithReply self.old self.new index (word.Snap ∷ []) reply) }
-        ensures err { OnErr result (Runs self.old self.new index []) }
+        ensures err { OnErr result (RunsWords self.old self.new index []) }
     {
         let Ok(opened) = shared.snap(rt, &mut self.caller, index) else {
             return Err(AllocError);
@@ -86,7 +86,7 @@ impl<N: OrderName> Driver<N> {
         requires index { line_of self.old ≤ index }
         ensures index { line_of self.new ≤ index }
         ensures ok { IfOk result (λ reply. EndsWithReply self.old self.new index (word.Mirror ∷ []) reply) }
-        ensures err { OnErr result (Runs self.old self.new index []) }
+        ensures err { OnErr result (RunsWords self.old self.new index []) }
     {
         let Some(opened) = &self.opened else {
             unreachable!()
@@ -120,8 +120,8 @@ impl<N: OrderName> Driver<N> {
         ensures index { line_of self.new ≤ index }
         ensures open { ¬ (self.old.phase ≡ at.Idle) → (result ≡ Err (DriverFault.CycleOpen self.old.cycle)) × (self.new ≡ self.old) }
         ensures idle { self.old.phase ≡ at.Idle → IfErr result (λ e. e ≡ DriverFault.OutOfMemory) }
-        ensures ok { OnOk result (Runs self.old self.new index (word.Snap ∷ [])) }
-        ensures err { OnErr result (Runs self.old self.new index []) }
+        ensures ok { OnOk result (RunsWords self.old self.new index (word.Snap ∷ [])) }
+        ensures err { OnErr result (RunsWords self.old self.new index []) }
     {
         let _ = alloc;
         if self.phase != Phase::Idle {
@@ -146,7 +146,7 @@ impl<N: OrderName> Driver<N> {
         ensures index { line_of self.new ≤ index }
         ensures wrong { ¬ (self.old.phase ≡ at.Snapped) → result ≡ Err (DriverFault.WrongPhase self.old.phase) }
         ensures due { self.old.phase ≡ at.Snapped → IfErr result (λ e. e ≡ DriverFault.OutOfMemory) }
-        ensures ok { OnOk result (Runs self.old self.new index (word.Contract ∷ [])) }
+        ensures ok { OnOk result (RunsWords self.old self.new index (word.Contract ∷ [])) }
         ensures err { OnErr result (self.new ≡ self.old) }
     {
         if self.phase != Phase::Snapped {
@@ -171,8 +171,8 @@ impl<N: OrderName> Driver<N> {
         ensures index { line_of self.new ≤ index }
         ensures wrong { ¬ (self.old.phase ≡ at.Contracted) → (result ≡ Err (DriverFault.WrongPhase self.old.phase)) × (self.new ≡ self.old) }
         ensures due { self.old.phase ≡ at.Contracted → IfErr result (λ e. e ≡ DriverFault.OutOfMemory) }
-        ensures ok { OnOk result (Runs self.old self.new index (word.Mirror ∷ [])) }
-        ensures err { OnErr result (Runs self.old self.new index []) }
+        ensures ok { OnOk result (RunsWords self.old self.new index (word.Mirror ∷ [])) }
+        ensures err { OnErr result (RunsWords self.old self.new index []) }
     {
         let _ = alloc;
         if self.phase != Phase::Contracted {

@@ -7,7 +7,7 @@ ghost use Rattle.joint_model.specs.declared.names.PhaseWord.TheVariants as word;
 ghost use Rattle.joint_model.specs.declared.names.Thread.TheVariants.{C};
 ghost use Rattle.joint_model.specs.Lines.{IsLine};
 ghost use Rattle.joint_model.specs.Phases.{next_phase, phases_left, phases_of};
-ghost use Rattle.bridge_cycle.specs.Progress.{EndsWithReply, BreaksLine, StopsForMemory, Runs, RunsLine, line_of};
+ghost use Rattle.bridge_cycle.specs.Progress.{EndsWithReply, BreaksLine, StopsForMemory, RunsWords, RunsLine, line_of};
 ghost use Rattle.bridge_cycle.specs.Words.{Closes, IsOnePhase, IsPartway, Lacks, due_in, next_word};
 
 use crate::driver::{Driver, DriverFault};
@@ -151,7 +151,7 @@ impl<N: OrderName> Driver<N> {
         requires index { line_of self.old ≤ index }
         ensures index { line_of self.new ≤ index }
         ensures ok { IfOk result (λ reply. RunsLine self.old self.new index (act.PhaseLine word) reply) }
-        ensures err { OnErr result (Runs self.old self.new index []) }
+        ensures err { OnErr result (RunsWords self.old self.new index []) }
     {
         let (_, reply) = shared.refused(rt, &mut self.caller, index, word, self.phase)?;
         Ok(reply)
@@ -169,7 +169,7 @@ impl<N: OrderName> Driver<N> {
         requires index { line_of self.old ≤ index }
         ensures index { line_of self.new ≤ index }
         ensures ok { IfOk result (λ reply. RunsLine self.old self.new index (act.Finalise count) reply) }
-        ensures err { OnErr result (Runs self.old self.new index []) }
+        ensures err { OnErr result (RunsWords self.old self.new index []) }
     {
         let (_, reply) = shared.finalise(rt, &mut self.caller, index, count)?;
         Ok(reply)
@@ -211,7 +211,7 @@ impl<N: OrderName> Driver<N> {
         ensures index { line_of self.new ≤ index }
         ensures open { ¬ (self.old.phase ≡ at.Idle) → (result ≡ Err (DriverFault.CycleOpen self.old.cycle)) × (self.new ≡ self.old) }
         ensures idle { self.old.phase ≡ at.Idle → IfErr result (λ e. e ≡ DriverFault.OutOfMemory) }
-        ensures ok { OnOk result (Runs self.old self.new index (phases_of word.Cycle)) }
+        ensures ok { OnOk result (RunsWords self.old self.new index (phases_of word.Cycle)) }
         ensures err { self.old.phase ≡ at.Idle → OnErr result (StopsForMemory self.old self.new index (phases_of word.Cycle)) }
     {
         if self.phase != Phase::Idle {
@@ -258,7 +258,7 @@ impl<N: OrderName> Driver<N> {
     ) -> Result<(), AllocError>
         requires index { line_of self.old ≤ index }
         ensures index { line_of self.new ≤ index }
-        ensures ok { OnOk result (Runs self.old self.new index (phases_left self.old.phase)) }
+        ensures ok { OnOk result (RunsWords self.old self.new index (phases_left self.old.phase)) }
         ensures err { OnErr result (StopsForMemory self.old self.new index (phases_left self.old.phase)) }
     {
         if self.phase == Phase::Idle {

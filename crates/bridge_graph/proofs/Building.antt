@@ -12,7 +12,7 @@ use Rattle.joint_model.proofs.Members.{Rises-push}
 use Rattle.bridge_graph.specs.declared.graph.Node.{Node}
 use Rattle.bridge_graph.specs.declared.packing.Link.{Link}
 use Rattle.bridge_graph.specs.Packing.{rest_of, rows_of}
-use Rattle.bridge_graph.specs.Parts.{IsPart, row_at, opaque_at, numbers_of, Leads}
+use Rattle.bridge_graph.specs.Parts.{IsPart, row_at, opaque_at, numbers_of, NodeLeads}
 use Rattle.bridge_graph.specs.Built.{Joins, IsBuilding}
 use Rattle.bridge_graph.proofs.Rows.{row-of_map, none_from}
 
@@ -21,7 +21,7 @@ rest_in_range nodes links x h =
     All-map (λ y. y < length nodes) (λ (l : Link). l.to) (filter (λ l. eqb l.from x) links)
     (All-filter (λ l. eqb l.from x) (λ l. l.to < length nodes) links (All-weaker (Joins nodes) (λ l. l.to < length nodes) (λ l j. j.to) links h))
 
-rows_in_range : (nodes : List Node) (links : List Link) (x y : ℕ) → All (Joins nodes) links → Leads (rows_of links (length nodes)) x y → y < length nodes
+rows_in_range : (nodes : List Node) (links : List Link) (x y : ℕ) → All (Joins nodes) links → NodeLeads (rows_of links (length nodes)) x y → y < length nodes
 rows_in_range nodes links x y h t =
     elim (cases_lt x (length nodes)) [
       | inl lt ↦ All-contains (λ z. z < length nodes) (rest_of links x 0) y (rest_in_range nodes links x h)

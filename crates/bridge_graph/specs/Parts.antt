@@ -29,11 +29,11 @@ abbrev pub numbers_of : List Node → List ℕ
 numbers_of nodes = map (λ n. n.number.0) nodes
 
 -- an edge leads from x to y
-abbrev pub Leads : List (List ℕ) → ℕ → ℕ → Type 0
-Leads edges x y = Contains (row_at edges x) y
+abbrev pub NodeLeads : List (List ℕ) → ℕ → ℕ → Type 0
+NodeLeads edges x y = Contains (row_at edges x) y
 
 -- x is a bridge node: it has a handle
-pub record IsBridge (nodes : List Node) (x : ℕ) : Type 0 where
+pub record IsBridgeNode (nodes : List Node) (x : ℕ) : Type 0 where
   pub node : Node
   pub there : slice_get nodes x ≡ Some node
   pub held : IsSome node.handle
@@ -42,7 +42,7 @@ pub record IsBridge (nodes : List Node) (x : ℕ) : Type 0 where
 -- without an edge, and fewer than 65,536 nodes
 pub record IsPart (nodes : List Node) (edges : List (List ℕ)) : Type 0 where
   pub rows : length edges ≡ length nodes
-  pub in_range : (x y : ℕ) → Leads edges x y → y < length nodes
+  pub in_range : (x y : ℕ) → NodeLeads edges x y → y < length nodes
   pub rising : Rises (numbers_of nodes)
   pub opaque_rows : (x : ℕ) → opaque_at nodes x ≡ true → row_at edges x ≡ []
   pub few : length nodes < 65536

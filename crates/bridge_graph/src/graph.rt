@@ -1,7 +1,7 @@
 // The finished part, which is only read.
 
 ghost use Rattle.std.specs.Prelude.{◌≡◌, ℕ, ◌<◌, length, slice_get, slice_index, slice_index_or, IfSome, Some, map, All, MatchBool};
-ghost use Rattle.bridge_graph.specs.Parts.{Part, IsPart, IsBridge, row_at, opaque_at, HasNode};
+ghost use Rattle.bridge_graph.specs.Parts.{Part, IsPart, IsBridgeNode, row_at, opaque_at, HasNode};
 
 use crate::packing::packed_row;
 use joint_model::{HNum, MNum};
@@ -70,7 +70,7 @@ impl DeadGraph {
     /// Whether node `i` is a bridge node.
     pub fn is_bridge(&self, i: u32) -> bool
         requires { i < length self.now.nodes }
-        ensures { MatchBool result (IsBridge self.now.nodes i) (¬ IsBridge self.now.nodes i) }
+        ensures { MatchBool result (IsBridgeNode self.now.nodes i) (¬ IsBridgeNode self.now.nodes i) }
     {
         self.nodes[i as usize].handle.is_some()
     }

@@ -91,8 +91,8 @@ pub record PlacedLine : Type 0 where
   pub end : ℕ
 
 -- the line is within the bytes and the lines of a script
-abbrev pub IsWithin : PlacedLine → Type 0
-IsWithin l = (l.end ≤ 8388608) × (l.number ≤ 20000)
+abbrev pub IsWithinLimits : PlacedLine → Type 0
+IsWithinLimits l = (l.end ≤ 8388608) × (l.number ≤ 20000)
 
 -- the words ask for a cycle, whole or begun
 abbrev pub AskCycle : List (List ℕ) → Type 0
@@ -102,8 +102,8 @@ AskCycle words = (words ≡ codes "c" ∷ codes "cycle" ∷ []) ⊎ (words ≡ c
 abbrev pub Has : PlacedLine → Cause → Type 0
 Has l cause.Bytes = 8388608 < l.end
 Has l cause.Lines = (l.end ≤ 8388608) × (20000 < l.number)
-Has l cause.Cycles = IsWithin l × AskCycle l.words × (256 ≤ l.cycles)
-Has l c = IsWithin l × WordsHave l.words c
+Has l cause.Cycles = IsWithinLimits l × AskCycle l.words × (256 ≤ l.cycles)
+Has l c = IsWithinLimits l × WordsHave l.words c
 
 -- the first of the causes that there are
 pub record IsFirst (Has : Cause → Type 0) (c : Cause) : Type 0 where

@@ -14,10 +14,10 @@ use Rattle.joint_model.specs.Components.{first_of, first_at, IsCrossReference, I
 use Rattle.joint_model.proofs.WalkLemmas.{Walks-join, Reaches-self, Reaches-then, Reaches-keeps, Mutual-self, Mutual-sym, Mutual-trans}
 use Rattle.bridge_graph.specs.declared.graph.Node.{Node}
 use Rattle.bridge_graph.specs.declared.packing.Link.{Link}
-use Rattle.bridge_graph.specs.Parts.{IsBridge, IsPart, Leads}
+use Rattle.bridge_graph.specs.Parts.{IsBridgeNode, IsPart, NodeLeads}
 use Rattle.component_pass.specs.Searching.{Opens, Goes}
 use Rattle.component_pass.specs.Classes.{AreClasses}
-use Rattle.component_pass.specs.Grouping.{AreGrouped, AreListed, ArePlain, IsFirst, group}
+use Rattle.component_pass.specs.Grouping.{AreGrouped, AreListed, ArePlain, IsHead, group}
 use Rattle.component_pass.specs.Referring.{ComesTo, AreDestinations, AreReferencesBelow}
 use Rattle.component_pass.proofs.Grouped.{group-members, group-has, bridge-below}
 use Rattle.component_pass.proofs.Linked.{node_at, rises_at, next-up, next-down, none-before, link-here}
@@ -35,7 +35,7 @@ pub record Setting (nodes : List Node) (edges : List (List ℕ)) (labels : List 
 module _ (nodes : List Node) (edges : List (List ℕ)) (labels : List ℕ) (flags : List Bool) (links : List Link) (comps : List (List ℕ)) (indexes : List ℕ)
     (s : Setting nodes edges labels flags links comps indexes) where
   abbrev E : ℕ → ℕ → Type 0
-  E = Leads edges
+  E = NodeLeads edges
 
   abbrev Step : ℕ → ℕ → ℕ → Type 0
   Step x = Goes edges flags labels (get_or labels x 0)
@@ -51,18 +51,18 @@ module _ (nodes : List Node) (edges : List (List ℕ)) (labels : List ℕ) (flag
   own_opens x u lt m = inr (sym ((s.classes.exact x u lt (in_range x u lt m.there)).1 m))
 
   through_plain : (x u to : ℕ) (zs : List ℕ) → x < length nodes → u < length nodes → Reaches (Step x) x u → Opens flags labels (get_or labels x 0) u
-      → Walks E u (zs ++ to ∷ []) to → All (IsPlainClass (IsBridge nodes) E) zs → Reaches (Step x) x to
+      → Walks E u (zs ++ to ∷ []) to → All (IsPlainClass (IsBridgeNode nodes) E) zs → Reaches (Step x) x to
   through_plain x u to [] lt ul r o w a = Reaches-then (Step x) x u to r (o, w.0)
   through_plain x u to (z ∷ zs) lt ul r o w a =
       let zl : z < length nodes = s.part.in_range u z w.0 in
       let plain : get_or flags z false ≡ true = elim (cases_Bool (get_or flags z false)) [
         | inl t ↦ t
-        | inr f ↦ let b = s.plain.some z zl f in absurd (All-head (IsPlainClass (IsBridge nodes) E) z zs a b.0 b.1 b.2)
+        | inr f ↦ let b = s.plain.some z zl f in absurd (All-head (IsPlainClass (IsBridgeNode nodes) E) z zs a b.0 b.1 b.2)
       ] in
-      through_plain x z to zs lt zl (Reaches-then (Step x) x u z r (o, w.0)) (inl plain) w.1 (All-tail (IsPlainClass (IsBridge nodes) E) z zs a)
+      through_plain x z to zs lt zl (Reaches-then (Step x) x u z r (o, w.0)) (inl plain) w.1 (All-tail (IsPlainClass (IsBridgeNode nodes) E) z zs a)
 
   -- a cross-reference is found
-  cross_to : (x b : ℕ) → x < length nodes → IsBridge nodes b → IsCrossReference (IsBridge nodes) E x b
+  cross_to : (x b : ℕ) → x < length nodes → IsBridgeNode nodes b → IsCrossReference (IsBridgeNode nodes) E x b
       → (y : ℕ) × Reaches (Step x) x y × (Opens flags labels (get_or labels x 0) y → ⊥) × Mutual E b y
   cross_to x b lt bb c =
       let leave : Reaches (Step x) x c.from = walk_inside E (Step x) (length nodes) x s.part.in_range (λ u v ul m e. (own_opens x u lt m, e)) x c.from c.leaves.there.rows lt (Reaches-self (Step x) x) (Mutual-self E x) c.leaves.there.walk c.leaves.back in
@@ -80,13 +80,13 @@ module _ (nodes : List Node) (edges : List (List ℕ)) (labels : List ℕ) (flag
 
   -- how the search came to v: it is in the own class, or the walk left it behind
   Exit : ℕ → ℕ → Type 0
-  Exit x v = Mutual E x v ⊎ ((from : ℕ) × (between : List ℕ) × Mutual E x from × Walks E from (between ++ v ∷ []) v × All (IsPlainClass (IsBridge nodes) E) between)
+  Exit x v = Mutual E x v ⊎ ((from : ℕ) × (between : List ℕ) × Mutual E x from × Walks E from (between ++ v ∷ []) v × All (IsPlainClass (IsBridgeNode nodes) E) between)
 
   exit_step : (x u v : ℕ) → x < length nodes → u < length nodes → Exit x u → Step x u v → Exit x v
   unfolding Exit
   exit_step x u v lt ul q h =
       elim (cases_eq (get_or labels u 0) (get_or labels x 0)) [
-        | inl e ↦ inr (u, [], (s.classes.exact x u lt ul).0 (sym e), (h.1, refl), All-nil (IsPlainClass (IsBridge nodes) E))
+        | inl e ↦ inr (u, [], (s.classes.exact x u lt ul).0 (sym e), (h.1, refl), All-nil (IsPlainClass (IsBridgeNode nodes) E))
         | inr ne ↦ elim h.0 [
           | inr e ↦ absurd (ne e)
           | inl t ↦ elim q [
@@ -96,7 +96,7 @@ module _ (nodes : List Node) (edges : List (List ℕ)) (labels : List ℕ) (flag
               p.1 ++ u ∷ [],
               p.2,
               Walks-join E p.0 (p.1 ++ u ∷ []) u (v ∷ []) v p.3 (h.1, refl),
-              All-push (IsPlainClass (IsBridge nodes) E) p.1 u p.4 (s.plain.none u ul t),
+              All-push (IsPlainClass (IsBridgeNode nodes) E) p.1 u p.4 (s.plain.none u ul t),
             )
           ]
         ]
@@ -109,7 +109,7 @@ module _ (nodes : List Node) (edges : List (List ℕ)) (labels : List ℕ) (flag
 
   -- what is found is a cross-reference
   cross_from : (x y b : ℕ) → x < length nodes → Reaches (Step x) x y → (Opens flags labels (get_or labels x 0) y → ⊥) → Mutual E b y
-      → IsCrossReference (IsBridge nodes) E x b
+      → IsCrossReference (IsBridgeNode nodes) E x b
   unfolding Exit
   cross_from x y b lt r closed m =
       let e = exit_of x y lt r in
@@ -132,14 +132,14 @@ module _ (nodes : List Node) (edges : List (List ℕ)) (labels : List ℕ) (flag
   first_is i lt = get_or-map first_of comps i [] 0 lt
 
   -- the component with index i is the group of its first member, a bridge node
-  comp_at : (i : ℕ) → i < length comps → IsBridge nodes (first_at comps i) × (get_or comps i [] ≡ group links (get_or labels (first_at comps i) 0))
+  comp_at : (i : ℕ) → i < length comps → IsBridgeNode nodes (first_at comps i) × (get_or comps i [] ≡ group links (get_or labels (first_at comps i) 0))
   comp_at i lt =
       let e = s.listed.each i [] lt in
       let gr = group links (get_or labels e.0 0) in
       let has = group-has nodes labels (length nodes) links e.0 s.grouped (bridge-below nodes e.0 e.1) e.1 in
       let m = group-members nodes labels (length nodes) links (get_or labels e.0 0) s.grouped 0 0 (omega (arith, has.1)) in
       let f : get_or gr 0 0 ≡ first_at comps i = head_is gr ∙ sym (ap first_of e.2) ∙ sym (first_is i lt) in
-      (subst (λ (z : ℕ). IsBridge nodes z) f m.2, e.2 ∙ ap (λ (l : ℕ). group links l) (sym m.1 ∙ ap (λ (z : ℕ). get_or labels z 0) f))
+      (subst (λ (z : ℕ). IsBridgeNode nodes z) f m.2, e.2 ∙ ap (λ (l : ℕ). group links l) (sym m.1 ∙ ap (λ (z : ℕ). get_or labels z 0) f))
 
   -- first members tell components apart, and are in their order
   pub same_index : (i j : ℕ) → i < length comps → j < length comps → first_at comps i ≡ first_at comps j → i ≡ j
@@ -165,7 +165,7 @@ module _ (nodes : List Node) (edges : List (List ℕ)) (labels : List ℕ) (flag
       ]
 
   -- the index at the label of a bridge node is that of the component which is its group
-  pub index_of : (b : ℕ) → IsBridge nodes b → (get_or indexes (get_or labels b 0) 0 < length comps) × (get_or comps (get_or indexes (get_or labels b 0) 0) [] ≡ group links (get_or labels b 0))
+  pub index_of : (b : ℕ) → IsBridgeNode nodes b → (get_or indexes (get_or labels b 0) 0 < length comps) × (get_or comps (get_or indexes (get_or labels b 0) 0) [] ≡ group links (get_or labels b 0))
   index_of b bb =
       let gr = group links (get_or labels b 0) in
       let has = group-has nodes labels (length nodes) links b s.grouped (bridge-below nodes b bb) bb in
@@ -174,12 +174,12 @@ module _ (nodes : List Node) (edges : List (List ℕ)) (labels : List ℕ) (flag
       (slice_get_within comps (get_or indexes (get_or labels b 0) 0) gr f, get_or_from_slice_get comps (get_or indexes (get_or labels b 0) 0) gr [] f)
 
   -- a node that stands first in its group is the first member of the component at its label
-  pub first_index : (x : ℕ) → IsFirst (group links (get_or labels x 0)) x
-      → IsBridge nodes x × (get_or indexes (get_or labels x 0) 0 < length comps) × (first_at comps (get_or indexes (get_or labels x 0) 0) ≡ x)
+  pub first_index : (x : ℕ) → IsHead (group links (get_or labels x 0)) x
+      → IsBridgeNode nodes x × (get_or indexes (get_or labels x 0) 0 < length comps) × (first_at comps (get_or indexes (get_or labels x 0) 0) ≡ x)
   first_index x f =
       let gr = group links (get_or labels x 0) in
       let m = group-members nodes labels (length nodes) links (get_or labels x 0) s.grouped 0 0 f.0 in
-      let b : IsBridge nodes x = subst (λ (z : ℕ). IsBridge nodes z) f.1 m.2 in
+      let b : IsBridgeNode nodes x = subst (λ (z : ℕ). IsBridgeNode nodes z) f.1 m.2 in
       let k = index_of x b in
       (b, k.0, first_is (get_or indexes (get_or labels x 0) 0) k.0 ∙ ap first_of k.1 ∙ sym (head_is gr) ∙ f.1)
 
@@ -192,7 +192,7 @@ module _ (nodes : List Node) (edges : List (List ℕ)) (labels : List ℕ) (flag
 
   -- the search comes to a component exactly where there is a cross-reference to it
   pub comes_iff : (x j : ℕ) → x < length nodes
-      → ComesTo edges flags labels indexes (get_or labels x 0) x j ↔ ((j < length comps) × IsCrossReference (IsBridge nodes) E x (first_at comps j))
+      → ComesTo edges flags labels indexes (get_or labels x 0) x j ↔ ((j < length comps) × IsCrossReference (IsBridgeNode nodes) E x (first_at comps j))
   comes_iff x j lt = (
     (λ t.
         let yl = (exit_of x t.0 lt t.1).0 in
@@ -220,8 +220,8 @@ module _ (nodes : List Node) (edges : List (List ℕ)) (labels : List ℕ) (flag
   )
 
   -- where there is no bridge node between, it is the same
-  refs_jump : (x z : ℕ) (pairs : List (ℕ × ℕ)) → ((y : ℕ) → IsBridge nodes y → y < x → y < z) → ((y : ℕ) → IsBridge nodes y → y < z → y < x)
-      → AreReferencesBelow (IsBridge nodes) E comps x pairs → AreReferencesBelow (IsBridge nodes) E comps z pairs
+  refs_jump : (x z : ℕ) (pairs : List (ℕ × ℕ)) → ((y : ℕ) → IsBridgeNode nodes y → y < x → y < z) → ((y : ℕ) → IsBridgeNode nodes y → y < z → y < x)
+      → AreReferencesBelow (IsBridgeNode nodes) E comps x pairs → AreReferencesBelow (IsBridgeNode nodes) E comps z pairs
   refs_jump x z pairs up down a = record {
     exact = λ i j. (
       (λ c. let t = (a.exact i j).0 c in (t.0, t.1, up (first_at comps i) (comp_at i t.0).0 t.2, t.3)),
@@ -229,23 +229,23 @@ module _ (nodes : List Node) (edges : List (List ℕ)) (labels : List ℕ) (flag
     );
   }
 
-  pub refs_begin : AreReferencesBelow (IsBridge nodes) E comps (node_at links (length nodes) 0) []
+  pub refs_begin : AreReferencesBelow (IsBridgeNode nodes) E comps (node_at links (length nodes) 0) []
   refs_begin = refs_jump 0 (node_at links (length nodes) 0) [] (λ y b h. absurd (omega (arith, h))) (λ y b h. absurd (none-before nodes labels links y s.grouped b h))
       (record { exact = λ i j. ((λ c. absurd (omega (arith, c.1))), (λ t. absurd (omega (arith, t.2)))) })
 
   pub refs_next : (k x : ℕ) (pairs : List (ℕ × ℕ)) → k < length links → x ≡ get_or (map (λ (l : Link). l.to) links) k 0
-      → AreReferencesBelow (IsBridge nodes) E comps (x + 1) pairs → AreReferencesBelow (IsBridge nodes) E comps (node_at links (length nodes) (k + 1)) pairs
+      → AreReferencesBelow (IsBridgeNode nodes) E comps (x + 1) pairs → AreReferencesBelow (IsBridgeNode nodes) E comps (node_at links (length nodes) (k + 1)) pairs
   refs_next k x pairs lt is a =
       let here = link-here nodes links k x lt is in
       refs_jump (x + 1) (node_at links (length nodes) (k + 1)) pairs
       (λ y b h. next-up nodes labels links k y s.grouped lt b (omega (arith, h, here)))
       (λ y b h. omega (arith, next-down nodes labels links k y s.grouped lt b h, here)) a
 
-  pub refs_none : AreReferencesBelow (IsBridge nodes) E comps 0 []
+  pub refs_none : AreReferencesBelow (IsBridgeNode nodes) E comps 0 []
   refs_none = record { exact = λ i j. ((λ c. absurd (omega (arith, c.1))), (λ t. absurd (omega (arith, t.2)))) }
 
-  pub refs_skip : (x : ℕ) (pairs : List (ℕ × ℕ)) → (IsFirst (group links (get_or labels x 0)) x → ⊥) → AreReferencesBelow (IsBridge nodes) E comps x pairs
-      → AreReferencesBelow (IsBridge nodes) E comps (x + 1) pairs
+  pub refs_skip : (x : ℕ) (pairs : List (ℕ × ℕ)) → (IsHead (group links (get_or labels x 0)) x → ⊥) → AreReferencesBelow (IsBridgeNode nodes) E comps x pairs
+      → AreReferencesBelow (IsBridgeNode nodes) E comps (x + 1) pairs
   refs_skip x pairs none a = record {
     exact = λ i j. (
       (λ c. let t = (a.exact i j).0 c in (t.0, t.1, omega (arith, t.2), t.3)),
@@ -277,9 +277,9 @@ module _ (nodes : List Node) (edges : List (List ℕ)) (labels : List ℕ) (flag
         get_or-map (λ (d : ℕ). let r : ℕ × ℕ = (s', d) in r) outs c.0 j d c.1 ∙ ap (λ (z : ℕ). let r : ℕ × ℕ = (s', z) in r) c.2,
       )
 
-  pub refs_more : (x : ℕ) (pairs : List (ℕ × ℕ)) (outs : List ℕ) → x < length nodes → IsFirst (group links (get_or labels x 0)) x
-      → AreDestinations edges flags labels indexes (get_or labels x 0) x outs → AreReferencesBelow (IsBridge nodes) E comps x pairs
-      → AreReferencesBelow (IsBridge nodes) E comps (x + 1) (pairs ++ map (λ (d : ℕ). let r : ℕ × ℕ = (get_or indexes (get_or labels x 0) 0, d) in r) outs)
+  pub refs_more : (x : ℕ) (pairs : List (ℕ × ℕ)) (outs : List ℕ) → x < length nodes → IsHead (group links (get_or labels x 0)) x
+      → AreDestinations edges flags labels indexes (get_or labels x 0) x outs → AreReferencesBelow (IsBridgeNode nodes) E comps x pairs
+      → AreReferencesBelow (IsBridgeNode nodes) E comps (x + 1) (pairs ++ map (λ (d : ℕ). let r : ℕ × ℕ = (get_or indexes (get_or labels x 0) 0, d) in r) outs)
   refs_more x pairs outs lt f o a =
       let k = first_index x f in
       let at : ℕ = get_or indexes (get_or labels x 0) 0 in
@@ -293,20 +293,20 @@ module _ (nodes : List Node) (edges : List (List ℕ)) (labels : List ℕ) (flag
                     let q = from_source at i j outs r in
                     let w = (comes_iff x j lt).0 ((o.exact j).0 q.1) in
                     let fi : first_at comps i ≡ x = ap (first_at comps) q.0 ∙ k.2 in
-                    (subst (λ (z : ℕ). z < length comps) (sym q.0) k.1, w.0, omega (arith, fi), subst (λ (z : ℕ). IsCrossReference (IsBridge nodes) E z (first_at comps j)) (sym fi) w.1)
+                    (subst (λ (z : ℕ). z < length comps) (sym q.0) k.1, w.0, omega (arith, fi), subst (λ (z : ℕ). IsCrossReference (IsBridgeNode nodes) E z (first_at comps j)) (sym fi) w.1)
               ]),
               (λ t. elim (cases_lt (first_at comps i) x) [
                 | inl l ↦ Contains-append_left pairs group_of p ((a.exact i j).1 (t.0, t.1, l, t.3))
                 | inr ge ↦
                     let fi : first_at comps i ≡ x = omega (arith, t.2) in
                     let is : i ≡ at = same_index i at t.0 k.1 (fi ∙ sym k.2) in
-                    let c = (o.exact j).1 ((comes_iff x j lt).1 (t.1, subst (λ (z : ℕ). IsCrossReference (IsBridge nodes) E z (first_at comps j)) fi t.3)) in
+                    let c = (o.exact j).1 ((comes_iff x j lt).1 (t.1, subst (λ (z : ℕ). IsCrossReference (IsBridgeNode nodes) E z (first_at comps j)) fi t.3)) in
                     subst (λ (z : ℕ). let r : ℕ × ℕ = (z, j) in Contains (pairs ++ group_of) r) (sym is) (Contains-append_right pairs group_of (at, j) (to_pair at j outs c))
               ]),
             );
       }
 
-  pub refs_fresh : (x : ℕ) (pairs : List (ℕ × ℕ)) → IsFirst (group links (get_or labels x 0)) x → AreReferencesBelow (IsBridge nodes) E comps x pairs
+  pub refs_fresh : (x : ℕ) (pairs : List (ℕ × ℕ)) → IsHead (group links (get_or labels x 0)) x → AreReferencesBelow (IsBridgeNode nodes) E comps x pairs
       → All (λ p. p.0 < get_or indexes (get_or labels x 0) 0) pairs
   refs_fresh x pairs f a = λ k d lt.
       let p : ℕ × ℕ = get_or pairs k d in
@@ -317,24 +317,24 @@ module _ (nodes : List Node) (edges : List (List ℕ)) (labels : List ℕ) (flag
   pub outs_below : (x : ℕ) (outs : List ℕ) → x < length nodes → AreDestinations edges flags labels indexes (get_or labels x 0) x outs → All (λ d. d < length comps) outs
   outs_below x outs lt o = λ k d h. ((comes_iff x (get_or outs k d) lt).0 ((o.exact (get_or outs k d)).0 (Contains-get_or outs k d h))).0
 
-  pub outs_apart : (x : ℕ) (outs : List ℕ) → x < length nodes → IsFirst (group links (get_or labels x 0)) x
+  pub outs_apart : (x : ℕ) (outs : List ℕ) → x < length nodes → IsHead (group links (get_or labels x 0)) x
       → AreDestinations edges flags labels indexes (get_or labels x 0) x outs → All (λ d. get_or indexes (get_or labels x 0) 0 ≡ d → ⊥) outs
   outs_apart x outs lt f o = λ k d h e.
       let w = (comes_iff x (get_or outs k d) lt).0 ((o.exact (get_or outs k d)).0 (Contains-get_or outs k d h)) in
       let i = first_index x f in
       w.1.apart (subst (λ (z : ℕ). Mutual E x z) (sym i.2 ∙ ap (first_at comps) e) (Mutual-self E x))
 
-  member_at : (i x : ℕ) → IsMember comps i x → (i < length comps) × (x < length nodes) × IsBridge nodes x × (get_or labels x 0 ≡ get_or labels (first_at comps i) 0)
+  member_at : (i x : ℕ) → IsMember comps i x → (i < length comps) × (x < length nodes) × IsBridgeNode nodes x × (get_or labels x 0 ≡ get_or labels (first_at comps i) 0)
   member_at i x m =
       let lt = slice_get_within comps i m.0 m.1 in
       let c = comp_at i lt in
       let l : ℕ = get_or labels (first_at comps i) 0 in
       let inside : Contains (group links l) x = subst (λ (xs : List ℕ). Contains xs x) (sym (get_or_from_slice_get comps i m.0 [] m.1) ∙ c.1) m.2 in
-      let g = All-contains (λ z. (z < length nodes) × (get_or labels z 0 ≡ l) × IsBridge nodes z) (group links l) x
+      let g = All-contains (λ z. (z < length nodes) × (get_or labels z 0 ≡ l) × IsBridgeNode nodes z) (group links l) x
       (group-members nodes labels (length nodes) links l s.grouped) inside in
       (lt, g.0, g.2, g.1)
 
-  member_of : (x : ℕ) → IsBridge nodes x → IsMember comps (get_or indexes (get_or labels x 0) 0) x
+  member_of : (x : ℕ) → IsBridgeNode nodes x → IsMember comps (get_or indexes (get_or labels x 0) 0) x
   member_of x b =
       let k = index_of x b in (
         group links (get_or labels x 0),
@@ -343,8 +343,8 @@ module _ (nodes : List Node) (edges : List (List ℕ)) (labels : List ℕ) (flag
       )
 
   -- the listed components with all their cross-references are the contraction
-  pub contraction_of : (pairs ordered : List (ℕ × ℕ)) → AreReferencesBelow (IsBridge nodes) E comps (length nodes) pairs → IsPermutation pairs ordered
-      → IsCanonical comps ordered → IsContraction (IsBridge nodes) E comps ordered
+  pub contraction_of : (pairs ordered : List (ℕ × ℕ)) → AreReferencesBelow (IsBridgeNode nodes) E comps (length nodes) pairs → IsPermutation pairs ordered
+      → IsCanonical comps ordered → IsContraction (IsBridgeNode nodes) E comps ordered
   contraction_of pairs ordered a perm canon = record {
     canonical = canon;
     members = λ x. ((λ t. (member_at t.0 x t.1).2), (λ b. (get_or indexes (get_or labels x 0) 0, member_of x b)));

@@ -7,11 +7,11 @@ use Rattle.std.proofs.lemmas.Bool.{cases_lt, cases_eq, true≢false}
 use Rattle.std.specs.List.{All, Contains}
 use Rattle.joint_model.specs.Walks.{Walks, Reaches, Mutual}
 use Rattle.joint_model.proofs.WalkLemmas.{Reaches-keeps, Reaches-self, Reaches-then, Reaches-trans}
-use Rattle.bridge_graph.specs.Parts.{Leads}
+use Rattle.bridge_graph.specs.Parts.{NodeLeads}
 use Rattle.component_pass.specs.Searching.{unmarked, AreMarked, Visits, FindsReached}
 
 -- an edge begins at a node
-pub leads_from : (edges : List (List ℕ)) (x y : ℕ) → Leads edges x y → x < length edges
+pub leads_from : (edges : List (List ℕ)) (x y : ℕ) → NodeLeads edges x y → x < length edges
 leads_from edges x y l =
     elim (cases_lt x (length edges)) [
       | inl lt ↦ lt

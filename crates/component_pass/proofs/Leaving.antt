@@ -11,7 +11,7 @@ use Rattle.joint_model.specs.Walks.{Reaches, Mutual}
 use Rattle.joint_model.proofs.WalkLemmas.{Reaches-self, Reaches-edge, Reaches-then, Reaches-trans, Reaches-keeps, Reaches-mono, Mutual-self}
 use Rattle.bridge_graph.specs.declared.graph.Node.{Node}
 use Rattle.bridge_graph.specs.declared.packing.Link.{Link}
-use Rattle.bridge_graph.specs.Parts.{IsPart, Leads, row_at}
+use Rattle.bridge_graph.specs.Parts.{IsPart, NodeLeads, row_at}
 use Rattle.component_pass.specs.Searching.{Goes}
 use Rattle.component_pass.specs.Classes.{AreClasses, AreInOrder}
 use Rattle.component_pass.specs.Grouping.{AreGrouped, ArePlain, group}
@@ -35,7 +35,7 @@ flags-plain nodes edges labels links cl g =
 module _ (nodes : List Node) (edges : List (List ℕ)) (labels : List ℕ) (links : List Link) (indexes : List ℕ)
     (part : IsPart nodes edges) (cl : AreClasses edges (length nodes) labels) where
   abbrev E : ℕ → ℕ → Type 0
-  E = Leads edges
+  E = NodeLeads edges
 
   abbrev Pass : ℕ → ℕ → Type 0
   Pass = Passes edges labels links

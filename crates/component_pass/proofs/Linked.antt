@@ -6,7 +6,7 @@ use Rattle.std.proofs.lemmas.Bool.{cases_lt, cases_eq}
 use Rattle.joint_model.specs.Components.{Rises}
 use Rattle.bridge_graph.specs.declared.graph.Node.{Node}
 use Rattle.bridge_graph.specs.declared.packing.Link.{Link}
-use Rattle.bridge_graph.specs.Parts.{IsBridge}
+use Rattle.bridge_graph.specs.Parts.{IsBridgeNode}
 use Rattle.component_pass.specs.Grouping.{AreGrouped}
 use Rattle.component_pass.proofs.Grouped.{bridge-below}
 
@@ -33,7 +33,7 @@ link-below nodes labels links k x g lt is =
     omega (arith, (g.made k d lt).0, is, get_or-map (λ (l : Link). l.to) links k d 0 lt)
 
 -- between the nodes of two links, one behind the other, there is no bridge node
-pub next-up : (nodes : List Node) (labels : List ℕ) (links : List Link) (k y : ℕ) → AreGrouped nodes labels (length nodes) links → k < length links → IsBridge nodes y
+pub next-up : (nodes : List Node) (labels : List ℕ) (links : List Link) (k y : ℕ) → AreGrouped nodes labels (length nodes) links → k < length links → IsBridgeNode nodes y
     → y < node_at links (length nodes) k + 1 → y < node_at links (length nodes) (k + 1)
 next-up nodes labels links k y g lt b h =
     let tos = map (λ (l : Link). l.to) links in
@@ -46,7 +46,7 @@ next-up nodes labels links k y g lt b h =
       | inr last ↦ omega (arith, get_or_past tos (k + 1) (length nodes) (omega (arith, last, size)), bridge-below nodes y b)
     ]
 
-pub next-down : (nodes : List Node) (labels : List ℕ) (links : List Link) (k y : ℕ) → AreGrouped nodes labels (length nodes) links → k < length links → IsBridge nodes y
+pub next-down : (nodes : List Node) (labels : List ℕ) (links : List Link) (k y : ℕ) → AreGrouped nodes labels (length nodes) links → k < length links → IsBridgeNode nodes y
     → y < node_at links (length nodes) (k + 1) → y < node_at links (length nodes) k + 1
 next-down nodes labels links k y g lt b h =
     let tos = map (λ (l : Link). l.to) links in
@@ -68,7 +68,7 @@ next-down nodes labels links k y g lt b h =
     ]
 
 -- nor before the first one's
-pub none-before : (nodes : List Node) (labels : List ℕ) (links : List Link) (y : ℕ) → AreGrouped nodes labels (length nodes) links → IsBridge nodes y
+pub none-before : (nodes : List Node) (labels : List ℕ) (links : List Link) (y : ℕ) → AreGrouped nodes labels (length nodes) links → IsBridgeNode nodes y
     → y < node_at links (length nodes) 0 → ⊥
 none-before nodes labels links y g b h =
     let tos = map (λ (l : Link). l.to) links in

@@ -9,7 +9,7 @@ use Rattle.std.specs.List.{All, Contains}
 use Rattle.joint_model.specs.Components.{Rises, first_of}
 use Rattle.bridge_graph.specs.declared.graph.Node.{Node}
 use Rattle.bridge_graph.specs.declared.packing.Link.{Link}
-use Rattle.bridge_graph.specs.Parts.{IsBridge, IsPart, row_at}
+use Rattle.bridge_graph.specs.Parts.{IsBridgeNode, IsPart, row_at}
 use Rattle.component_pass.specs.Classes.{AreClasses, AreInOrder}
 use Rattle.component_pass.specs.Grouping.{AreGrouped, AreListed, group}
 use Rattle.component_pass.specs.Referring.{AreDestinations}
@@ -145,7 +145,7 @@ one_is i j = (
 
 -- a class with a bridge node has the set of its component
 pub own-set : (nodes : List Node) (edges : List (List ℕ)) (labels : List ℕ) (links : List Link) (indexes : List ℕ) (count own : ℕ) (lists : List (List ℕ))
-    → IsPart nodes edges → AreClasses edges (length nodes) labels → AreGrouped nodes labels (length nodes) links → ((b : ℕ) → IsBridge nodes b → get_or indexes (get_or labels b 0) 0 < count)
+    → IsPart nodes edges → AreClasses edges (length nodes) labels → AreGrouped nodes labels (length nodes) links → ((b : ℕ) → IsBridgeNode nodes b → get_or indexes (get_or labels b 0) 0 < count)
     → 0 < length (group links own)
     → (get_or indexes own 0 < count)
     × ((x j : ℕ) → x < length nodes → get_or labels x 0 ≡ own → Contains (set_at count lists (get_or indexes own 0)) j ↔ ComesOut edges labels links indexes x j)

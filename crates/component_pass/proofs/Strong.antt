@@ -10,7 +10,7 @@ use Rattle.std.proofs.lemmas.Bool.{cases_lt, cases_eq, cases_order, cases_Bool, 
 use Rattle.std.specs.List.{All, Contains}
 use Rattle.joint_model.specs.Walks.{Reaches, Mutual}
 use Rattle.joint_model.proofs.WalkLemmas.{Reaches-self, Reaches-edge, Reaches-then, Reaches-trans, Reaches-keeps, Mutual-sym, Mutual-trans}
-use Rattle.bridge_graph.specs.Parts.{Leads, row_at}
+use Rattle.bridge_graph.specs.Parts.{NodeLeads, row_at}
 use Rattle.component_pass.specs.declared.tarjan.Frame.{Frame}
 use Rattle.component_pass.specs.Classes.{AreClasses, AreInOrder}
 use Rattle.component_pass.proofs.Finding.{leads_from}
@@ -51,9 +51,9 @@ from_drop xs at x c =
     let lt : at + c.0 < length xs = omega (arith, c.1, length-drop at xs) in
     (at + c.0, omega arith, lt, get_or_default xs (at + c.0) 0 x lt ∙ sym (get_or-drop at xs c.0 x) ∙ c.2)
 
-module _ (edges : List (List ℕ)) (count : ℕ) (in_range : (x y : ℕ) → Leads edges x y → y < count) (few : count < 65536) where
+module _ (edges : List (List ℕ)) (count : ℕ) (in_range : (x y : ℕ) → NodeLeads edges x y → y < count) (few : count < 65536) where
   abbrev E : ℕ → ℕ → Type 0
-  E = Leads edges
+  E = NodeLeads edges
 
   -- a segment stays one where its part of the stack stays and marks only rise
   seg-move : (stack after marks marks' : List ℕ) (f : Frame) (end : ℕ)

@@ -1,7 +1,7 @@
 -- A search from one node, through some nodes only.
 use Rattle.std.specs.Prelude.{◌≡◌, ◌⊎◌, ◌↔◌, ℕ, ◌+◌, Bool, true, false, cond, List, [], ◌∷◌, ◌++◌, length, All, Contains, slice_index, slice_index_or}
 use Rattle.joint_model.specs.Walks.{Reaches}
-use Rattle.bridge_graph.specs.Parts.{Leads}
+use Rattle.bridge_graph.specs.Parts.{NodeLeads}
 
 -- the search goes on from x: x is marked as plain, or has the label of the search's own class
 abbrev pub Opens : List Bool → List ℕ → ℕ → ℕ → Type 0
@@ -9,7 +9,7 @@ Opens plain labels own x = (slice_index_or plain x false ≡ true) ⊎ (slice_in
 
 -- an edge that the search takes
 abbrev pub Goes : List (List ℕ) → List Bool → List ℕ → ℕ → ℕ → ℕ → Type 0
-Goes edges plain labels own x y = Opens plain labels own x × Leads edges x y
+Goes edges plain labels own x y = Opens plain labels own x × NodeLeads edges x y
 
 -- how many nodes are not marked
 abbrev pub unmarked : List Bool → ℕ

@@ -2,13 +2,13 @@
 use Rattle.std.specs.Prelude.{◌≡◌, ◌↔◌, ℕ, ◌+◌, ◌<◌, ◌≤◌, List, length, Contains, slice_index}
 use Rattle.joint_model.specs.Walks.{Reaches}
 use Rattle.bridge_graph.specs.declared.packing.Link.{Link}
-use Rattle.bridge_graph.specs.Parts.{Leads, row_at}
+use Rattle.bridge_graph.specs.Parts.{NodeLeads, row_at}
 use Rattle.component_pass.specs.Grouping.{group}
 use Rattle.component_pass.specs.Gathering.{AreSets, set_at}
 
 -- an edge from a node whose class has no bridge node
 abbrev pub Passes : List (List ℕ) → List ℕ → List Link → ℕ → ℕ → Type 0
-Passes edges labels links x y = (length (group links (slice_index labels x)) ≡ 0) × Leads edges x y
+Passes edges labels links x y = (length (group links (slice_index labels x)) ≡ 0) × NodeLeads edges x y
 
 -- through classes without a bridge node one comes from x to a node of the component with index j
 abbrev pub ComesOut : List (List ℕ) → List ℕ → List Link → List ℕ → ℕ → ℕ → Type 0
@@ -18,7 +18,7 @@ ComesOut edges labels links indexes x j =
 -- an edge leads out of the class with the label to a node from which one comes to the component with index j
 abbrev pub Leaves : List (List ℕ) → ℕ → List ℕ → List Link → List ℕ → ℕ → ℕ → Type 0
 Leaves edges count labels links indexes own j =
-    (u : ℕ) × (v : ℕ) × (u < count) × (slice_index labels u ≡ own) × Leads edges u v × (slice_index labels v ≡ own → ⊥) × ComesOut edges labels links indexes v j
+    (u : ℕ) × (v : ℕ) × (u < count) × (slice_index labels u ≡ own) × NodeLeads edges u v × (slice_index labels v ≡ own → ⊥) × ComesOut edges labels links indexes v j
 
 -- the sets of the first n classes have exactly the components that one comes to from their nodes
 pub record AreShared (edges : List (List ℕ)) (nodes : ℕ) (labels : List ℕ) (links : List Link) (indexes : List ℕ) (count n : ℕ) (sets : List ℕ) (lists : List (List ℕ)) : Type 0 where

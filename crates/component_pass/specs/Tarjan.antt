@@ -3,7 +3,7 @@
 -- place of the next lie the nodes that were finished under it and whose class is not complete.
 use Rattle.std.specs.Prelude.{◌≡◌, ◌⊎◌, ◌↔◌, ℕ, ◌+◌, ◌-◌, ◌<◌, ◌≤◌, ◌==◌, cond, Option, Some, None, List, [], ◌∷◌, length, Contains, slice_index}
 use Rattle.joint_model.specs.Walks.{Reaches, Mutual}
-use Rattle.bridge_graph.specs.Parts.{Leads, row_at}
+use Rattle.bridge_graph.specs.Parts.{NodeLeads, row_at}
 use Rattle.component_pass.specs.declared.tarjan.Frame.{Frame}
 
 -- the mark of a node whose class is complete
@@ -14,12 +14,12 @@ done_mark = 4294967295
 pub record IsSegment (edges : List (List ℕ)) (stack marks : List ℕ) (f : Frame) (end : ℕ) : Type 0 where
   pub below : f.at < end
   pub is : slice_index stack f.at ≡ f.node
-  pub reach : (i : ℕ) → f.at ≤ i → i < length stack → Reaches (Leads edges) f.node (slice_index stack i)
+  pub reach : (i : ℕ) → f.at ≤ i → i < length stack → Reaches (NodeLeads edges) f.node (slice_index stack i)
   pub low : f.low ≤ f.at
   pub cursor : f.next ≤ length (row_at edges f.node)
-  pub lower : Reaches (Leads edges) f.node (slice_index stack f.low)
-  pub back : (i : ℕ) → f.at < i → i < end → (k : ℕ) × (k < i) × Reaches (Leads edges) (slice_index stack i) (slice_index stack k)
-  pub finished : (i w : ℕ) → f.at < i → i < end → Leads edges (slice_index stack i) w → f.low < slice_index marks w
+  pub lower : Reaches (NodeLeads edges) f.node (slice_index stack f.low)
+  pub back : (i : ℕ) → f.at < i → i < end → (k : ℕ) × (k < i) × Reaches (NodeLeads edges) (slice_index stack i) (slice_index stack k)
+  pub finished : (i w : ℕ) → f.at < i → i < end → NodeLeads edges (slice_index stack i) w → f.low < slice_index marks w
   pub scanned : (k : ℕ) → k < f.next → k < length (row_at edges f.node) → f.low < slice_index marks (slice_index (row_at edges f.node) k)
 
 -- the frames cut the stack into segments
@@ -45,11 +45,11 @@ pub record AreSorted (edges : List (List ℕ)) (count : ℕ) (stack marks labels
   pub placed : (k : ℕ) → k < length stack → (slice_index stack k < count) × (slice_index marks (slice_index stack k) ≡ k + 1)
   pub known : (x : ℕ) → (slice_index marks x ≡ 0) ⊎ ((0 < slice_index marks x) × (slice_index marks x ≤ length stack) × (slice_index stack (slice_index marks x - 1) ≡ x)) ⊎ (slice_index marks x ≡ done_mark)
   pub room : unseen marks + length stack + length rows ≤ count
-  pub closed : (x y : ℕ) → slice_index marks x ≡ done_mark → Leads edges x y → slice_index marks y ≡ done_mark
+  pub closed : (x y : ℕ) → slice_index marks x ≡ done_mark → NodeLeads edges x y → slice_index marks y ≡ done_mark
   pub labelled : (x : ℕ) → slice_index marks x ≡ done_mark → slice_index labels x < length rows
-  pub same : (x y : ℕ) → slice_index marks x ≡ done_mark → slice_index marks y ≡ done_mark → (slice_index labels x ≡ slice_index labels y) ↔ Mutual (Leads edges) x y
+  pub same : (x y : ℕ) → slice_index marks x ≡ done_mark → slice_index marks y ≡ done_mark → (slice_index labels x ≡ slice_index labels y) ↔ Mutual (NodeLeads edges) x y
   pub members : (c x : ℕ) → Contains (row_at rows c) x ↔ ((slice_index marks x ≡ done_mark) × (slice_index labels x ≡ c))
-  pub backwards : (x y : ℕ) → slice_index marks x ≡ done_mark → Leads edges x y → slice_index labels y ≤ slice_index labels x
+  pub backwards : (x y : ℕ) → slice_index marks x ≡ done_mark → NodeLeads edges x y → slice_index labels y ≤ slice_index labels x
 
 -- all that the algorithm keeps
 pub record IsGoing (edges : List (List ℕ)) (count : ℕ) (stack marks labels : List ℕ) (rows : List (List ℕ)) (frames : List Frame) : Type 0 where

@@ -2,7 +2,7 @@
 
 ghost use Rattle.std.specs.Prelude.{◌≡◌, length, IfOk};
 ghost use Rattle.joint_model.specs.Components.{IsContraction};
-ghost use Rattle.bridge_graph.specs.Parts.{IsBridge, Leads};
+ghost use Rattle.bridge_graph.specs.Parts.{IsBridgeNode, NodeLeads};
 ghost use Rattle.component_pass.specs.Classes.{AreClasses, AreInOrder};
 
 use crate::groups::{group_bridges, list_components, plain_nodes};
@@ -26,7 +26,7 @@ use xref_list::{Components, ComponentsBuilder};
 /// class lead to several different sets of components, the elements of each of these sets are read once for
 /// that class, and the union is sorted.
 pub fn contract(alloc: Global, graph: &DeadGraph) -> Result<Components, AllocError>
-    ensures { IfOk result (λ c. IsContraction (IsBridge graph.now.nodes) (Leads graph.now.edges) c.comps c.pairs) }
+    ensures { IfOk result (λ c. IsContraction (IsBridgeNode graph.now.nodes) (NodeLeads graph.now.edges) c.comps c.pairs) }
 {
     let found = classes(alloc, graph)?;
     from_rows(alloc, graph, &found.labels, &found.rows)
@@ -34,7 +34,7 @@ pub fn contract(alloc: Global, graph: &DeadGraph) -> Result<Components, AllocErr
 
 /// The same by a search from every node, as the definition has it: slow, and there for comparison.
 pub fn plain_contract(alloc: Global, graph: &DeadGraph) -> Result<Components, AllocError>
-    ensures { IfOk result (λ c. IsContraction (IsBridge graph.now.nodes) (Leads graph.now.edges) c.comps c.pairs) }
+    ensures { IfOk result (λ c. IsContraction (IsBridgeNode graph.now.nodes) (NodeLeads graph.now.edges) c.comps c.pairs) }
 {
     let labels = plain_classes(alloc, graph)?;
     from_classes(alloc, graph, &labels)
@@ -43,7 +43,7 @@ pub fn plain_contract(alloc: Global, graph: &DeadGraph) -> Result<Components, Al
 // The components and cross-references, by a label for each node's class.
 fn from_classes(alloc: Global, graph: &DeadGraph, labels: &[u32]) -> Result<Components, AllocError>
     requires { AreClasses graph.now.edges (length graph.now.nodes) labels.now }
-    ensures { IfOk result (λ c. IsContraction (IsBridge graph.now.nodes) (Leads graph.now.edges) c.comps c.pairs) }
+    ensures { IfOk result (λ c. IsContraction (IsBridgeNode graph.now.nodes) (NodeLeads graph.now.edges) c.comps c.pairs) }
 {
     let groups = group_bridges(alloc, graph, labels)?;
     let plain = plain_nodes(alloc, graph, labels, &groups)?;
@@ -71,7 +71,7 @@ fn from_rows(
 ) -> Result<Components, AllocError>
     requires classes { AreClasses graph.now.edges (length graph.now.nodes) labels.now }
     requires order { AreInOrder graph.now.edges (length graph.now.nodes) labels.now rows.now }
-    ensures { IfOk result (λ c. IsContraction (IsBridge graph.now.nodes) (Leads graph.now.edges) c.comps c.pairs) }
+    ensures { IfOk result (λ c. IsContraction (IsBridgeNode graph.now.nodes) (NodeLeads graph.now.edges) c.comps c.pairs) }
 {
     let groups = group_bridges(alloc, graph, labels)?;
     let mut indexes = vec![in alloc; 0u32; graph.nodes() as usize]?;

@@ -3,7 +3,7 @@
 
 ghost use Rattle.std.specs.Prelude.{◌≡◌, ◌↔◌, ◌<◌, length, IfOk, IsTrue};
 ghost use Rattle.joint_model.specs.Walks.{Reaches};
-ghost use Rattle.bridge_graph.specs.Parts.{Leads};
+ghost use Rattle.bridge_graph.specs.Parts.{NodeLeads};
 ghost use Rattle.component_pass.specs.Classes.{AreClasses, IsLeast};
 
 use crate::search::search;
@@ -38,7 +38,7 @@ fn least(alloc: Global, graph: &DeadGraph, x: u32) -> Result<u32, AllocError>
 fn reaches(alloc: Global, graph: &DeadGraph, x: u32, y: u32) -> Result<bool, AllocError>
     requires from { x < length graph.now.nodes }
     requires to { y < length graph.now.nodes }
-    ensures { IfOk result (λ b. IsTrue b ↔ Reaches (Leads graph.now.edges) x y) }
+    ensures { IfOk result (λ b. IsTrue b ↔ Reaches (NodeLeads graph.now.edges) x y) }
 {
     let n = graph.nodes() as usize;
     let plain = vec![in alloc; true; n]?;

@@ -3,7 +3,7 @@
 
 ghost use Rattle.std.specs.Prelude.{◌≡◌, ◌↔◌, ℕ, ◌<◌, [], length, All, Contains, OnOk, false, slice_index};
 ghost use Rattle.joint_model.specs.Components.{Rises};
-ghost use Rattle.bridge_graph.specs.Parts.{IsBridge, Leads};
+ghost use Rattle.bridge_graph.specs.Parts.{IsBridgeNode, NodeLeads};
 ghost use Rattle.component_pass.specs.Classes.{AreClasses};
 ghost use Rattle.component_pass.specs.Grouping.{AreListed, ArePlain};
 ghost use Rattle.component_pass.specs.Groups.{AreGroups};
@@ -32,7 +32,7 @@ pub(crate) fn list_references(
     requires indexes { length indexes.now ≡ length graph.now.nodes }
     requires listed { AreListed graph.now.nodes labels.now groups.now.links.items (length graph.now.nodes) builder.old.comps indexes.now }
     requires empty { builder.old.pairs ≡ [] }
-    ensures pairs { OnOk result (AreReferencesBelow (IsBridge graph.now.nodes) (Leads graph.now.edges) builder.new.comps (length graph.now.nodes) builder.new.pairs) }
+    ensures pairs { OnOk result (AreReferencesBelow (IsBridgeNode graph.now.nodes) (NodeLeads graph.now.edges) builder.new.comps (length graph.now.nodes) builder.new.pairs) }
     ensures comps { builder.new.comps ≡ builder.old.comps }
 {
     let mut marks = vec![in alloc; false; graph.nodes() as usize]?;
@@ -65,7 +65,7 @@ fn refer_all(
     requires clear { All (λ m. m ≡ false) marks.old }
     requires found { found.old.items ≡ [] }
     requires outs { outs.old.items ≡ [] }
-    ensures pairs { OnOk result (AreReferencesBelow (IsBridge graph.now.nodes) (Leads graph.now.edges) builder.new.comps (length graph.now.nodes) builder.new.pairs) }
+    ensures pairs { OnOk result (AreReferencesBelow (IsBridgeNode graph.now.nodes) (NodeLeads graph.now.edges) builder.new.comps (length graph.now.nodes) builder.new.pairs) }
     ensures comps { builder.new.comps ≡ builder.old.comps }
 {
     for x in 0..graph.nodes() {

@@ -1,7 +1,7 @@
 // The search that the analysis makes from one node, through plain nodes and those of one class.
 
 ghost use Rattle.std.specs.Prelude.{◌≡◌, ℕ, ◌<◌, [], length, All, OnOk, false, Bool, MatchBool};
-ghost use Rattle.bridge_graph.specs.Parts.{Leads};
+ghost use Rattle.bridge_graph.specs.Parts.{NodeLeads};
 ghost use Rattle.component_pass.specs.Searching.{Opens, Goes, AreMarked, Visits, FindsReached};
 
 use bridge_graph::DeadGraph;

@@ -11,9 +11,9 @@
 
 ghost use Rattle.std.specs.Prelude.{◌≡◌, ◌≢◌, ◌↔◌, ℕ, ◌+◌, ◌<◌, ◌≤◌, [], ◌∷◌, length, All, Contains, IfOk, OnOk, IfSome, false, slice_index};
 ghost use Rattle.joint_model.specs.Components.{Rises};
-ghost use Rattle.bridge_graph.specs.Parts.{IsBridge, IsPart, Leads, row_at};
+ghost use Rattle.bridge_graph.specs.Parts.{IsBridgeNode, IsPart, NodeLeads, row_at};
 ghost use Rattle.component_pass.specs.Classes.{AreClasses, AreInOrder};
-ghost use Rattle.component_pass.specs.Gathering.{AreSets, Gathers, IsClear, set_at};
+ghost use Rattle.component_pass.specs.Gathering.{AreSets, Gathers, HasNoMarks, set_at};
 ghost use Rattle.component_pass.specs.Grouping.{AreListed, group};
 ghost use Rattle.component_pass.specs.Groups.{AreGroups};
 ghost use Rattle.component_pass.specs.Referring.{AreReferencesBelow};
@@ -43,7 +43,7 @@ pub(crate) fn share_references(
     requires listed { AreListed graph.now.nodes labels.now groups.now.links.items (length graph.now.nodes) builder.old.comps indexes.now }
     requires part { IsPart graph.now.nodes graph.now.edges }
     requires empty { builder.old.pairs ≡ [] }
-    ensures pairs { OnOk result (AreReferencesBelow (IsBridge graph.now.nodes) (Leads graph.now.edges) builder.new.comps (length graph.now.nodes) builder.new.pairs) }
+    ensures pairs { OnOk result (AreReferencesBelow (IsBridgeNode graph.now.nodes) (NodeLeads graph.now.edges) builder.new.comps (length graph.now.nodes) builder.new.pairs) }
     ensures comps { builder.new.comps ≡ builder.old.comps }
 {
     let count = builder.len();
@@ -75,18 +75,18 @@ fn number_all(
     requires order { AreInOrder graph.now.edges (length graph.now.nodes) labels.now rows.now }
     requires groups { AreGroups graph.now.nodes labels.now groups.now }
     requires indexes { length indexes.now ≡ length graph.now.nodes }
-    requires below { (b : ℕ) → IsBridge graph.now.nodes b → slice_index indexes.now (slice_index labels.now b) < count }
+    requires below { (b : ℕ) → IsBridgeNode graph.now.nodes b → slice_index indexes.now (slice_index labels.now b) < count }
     requires count { count ≤ length graph.now.nodes }
     requires part { IsPart graph.now.nodes graph.now.edges }
     requires sets { sets.old.items ≡ [] }
     requires lists { lists.old ≡ [] ∷ [] }
     requires known { length work.old.known.items ≡ count + 1 }
     requires marks { length work.old.marks.items ≡ count }
-    requires clear { IsClear work.old }
+    requires clear { HasNoMarks work.old }
     ensures shared { OnOk result (AreShared graph.now.edges (length graph.now.nodes) labels.now groups.now.links.items indexes.now count (length rows.now) sets.new.items lists.new) }
     ensures sets { OnOk result (AreSets sets.new.items lists.new count (length work.new.known.items)) }
     ensures marks { OnOk result (length work.new.marks.items ≡ count) }
-    ensures clear { OnOk result (IsClear work.new) }
+    ensures clear { OnOk result (HasNoMarks work.new) }
 {
     for c in 0..rows.len() {
         let number = number(
@@ -115,7 +115,7 @@ fn number(
     requires order { AreInOrder graph.now.edges (length graph.now.nodes) labels.now rows.now }
     requires groups { AreGroups graph.now.nodes labels.now groups.now }
     requires indexes { length indexes.now ≡ length graph.now.nodes }
-    requires below { (b : ℕ) → IsBridge graph.now.nodes b → slice_index indexes.now (slice_index labels.now b) < count }
+    requires below { (b : ℕ) → IsBridgeNode graph.now.nodes b → slice_index indexes.now (slice_index labels.now b) < count }
     requires part { IsPart graph.now.nodes graph.now.edges }
     requires own { own < length rows.now }
     requires count { count ≤ length graph.now.nodes }
@@ -123,11 +123,11 @@ fn number(
     requires shared { AreShared graph.now.edges (length graph.now.nodes) labels.now groups.now.links.items indexes.now count own sets.now lists.old }
     requires sets { AreSets sets.now lists.old count (length work.old.known.items) }
     requires marks { length work.old.marks.items ≡ count }
-    requires clear { IsClear work.old }
+    requires clear { HasNoMarks work.old }
     ensures found { IfOk result (λ s. IsFound sets.now lists.old lists.new count (length work.new.known.items) s) }
     ensures exact { IfOk result (λ s. (x j : ℕ) → x < length graph.now.nodes → slice_index labels.now x ≡ own → Contains (set_at count lists.new s) j ↔ ComesOut graph.now.edges labels.now groups.now.links.items indexes.now x j) }
     ensures marks { OnOk result (length work.new.marks.items ≡ count) }
-    ensures clear { OnOk result (IsClear work.new) }
+    ensures clear { OnOk result (HasNoMarks work.new) }
 {
     if !members(groups, own).is_empty() {
         return Ok(indexes[own as usize]);
@@ -161,12 +161,12 @@ fn share(
     requires sets { AreSets sets.now lists.old count (length work.old.known.items) }
     requires count { length work.old.marks.items ≡ count }
     requires few { length work.old.known.items < 4294967295 }
-    requires later { All (λ x. (y : ℕ) → Leads graph.now.edges x y → slice_index labels.now y ≢ own → slice_index labels.now y < length sets.now) members.now }
-    requires clear { IsClear work.old }
+    requires later { All (λ x. (y : ℕ) → NodeLeads graph.now.edges x y → slice_index labels.now y ≢ own → slice_index labels.now y < length sets.now) members.now }
+    requires clear { HasNoMarks work.old }
     ensures found { IfOk result (λ s. IsFound sets.now lists.old lists.new count (length work.new.known.items) s) }
     ensures exact { IfOk result (λ s. (j : ℕ) → Contains (set_at count lists.new s) j ↔ Gathers graph.now.edges labels.now sets.now lists.old count own members.now j) }
     ensures marks { OnOk result (length work.new.marks.items ≡ count) }
-    ensures clear { OnOk result (IsClear work.new) }
+    ensures clear { OnOk result (HasNoMarks work.new) }
 {
     if let Some(number) = gather(graph, labels, members, own, sets, lists, count, work)? {
         return Ok(number);
@@ -216,8 +216,8 @@ fn refer_all(
     requires shared { AreShared graph.now.edges (length graph.now.nodes) labels.now groups.now.links.items indexes.now count (length rows.now) sets.now lists.now }
     requires sets { AreSets sets.now lists.now count (length work.old.known.items) }
     requires marks { length work.old.marks.items ≡ count }
-    requires clear { IsClear work.old }
-    ensures pairs { OnOk result (AreReferencesBelow (IsBridge graph.now.nodes) (Leads graph.now.edges) builder.new.comps (length graph.now.nodes) builder.new.pairs) }
+    requires clear { HasNoMarks work.old }
+    ensures pairs { OnOk result (AreReferencesBelow (IsBridgeNode graph.now.nodes) (NodeLeads graph.now.edges) builder.new.comps (length graph.now.nodes) builder.new.pairs) }
     ensures comps { builder.new.comps ≡ builder.old.comps }
 {
     for k in 0..groups.links.len() {
@@ -250,16 +250,16 @@ fn refer(
     requires listed { AreListed graph.now.nodes labels.now groups.now.links.items (length graph.now.nodes) builder.old.comps indexes.now }
     requires part { IsPart graph.now.nodes graph.now.edges }
     requires node { x < length graph.now.nodes }
-    requires pairs { AreReferencesBelow (IsBridge graph.now.nodes) (Leads graph.now.edges) builder.old.comps x builder.old.pairs }
+    requires pairs { AreReferencesBelow (IsBridgeNode graph.now.nodes) (NodeLeads graph.now.edges) builder.old.comps x builder.old.pairs }
     requires shared { AreShared graph.now.edges (length graph.now.nodes) labels.now groups.now.links.items indexes.now count (length rows.now) sets.now lists.now }
     requires sets { AreSets sets.now lists.now count (length work.old.known.items) }
     requires marks { length work.old.marks.items ≡ count }
-    requires clear { IsClear work.old }
-    ensures pairs { OnOk result (AreReferencesBelow (IsBridge graph.now.nodes) (Leads graph.now.edges) builder.new.comps (x + 1) builder.new.pairs) }
+    requires clear { HasNoMarks work.old }
+    ensures pairs { OnOk result (AreReferencesBelow (IsBridgeNode graph.now.nodes) (NodeLeads graph.now.edges) builder.new.comps (x + 1) builder.new.pairs) }
     ensures comps { builder.new.comps ≡ builder.old.comps }
     ensures sets { OnOk result (AreSets sets.now lists.now count (length work.new.known.items)) }
     ensures marks { OnOk result (length work.new.marks.items ≡ count) }
-    ensures clear { OnOk result (IsClear work.new) }
+    ensures clear { OnOk result (HasNoMarks work.new) }
 {
     let own = labels[x as usize];
     if !is_first(members(groups, own), x) {

@@ -1,7 +1,7 @@
 // Tarjan's algorithm for strongly connected classes, with the search's frames in a list on the heap.
 
 ghost use Rattle.std.specs.Prelude.{◌≡◌, ◌≢◌, ◌⊎◌, ℕ, ◌+◌, ◌*◌, ◌<◌, ◌≤◌, List, [], ◌∷◌, ◌++◌, length, min, take, drop, All, Contains, IfOk, OnOk, IfNone, reverse, slice_index, slice_set};
-ghost use Rattle.bridge_graph.specs.Parts.{IsPart, Leads, row_at};
+ghost use Rattle.bridge_graph.specs.Parts.{IsPart, NodeLeads, row_at};
 ghost use Rattle.component_pass.specs.Classes.{AreClasses, AreInOrder};
 ghost use Rattle.component_pass.specs.Tarjan.{IsGoing, ScansRow, unseen, with_current, done_mark};
 

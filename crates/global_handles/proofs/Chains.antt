@@ -16,7 +16,7 @@ use Rattle.joint_model.specs.declared.names.PNum.{PNum}
 use Rattle.joint_model.proofs.Deciding.{neq-eqb, true-false}
 use Rattle.global_handles.specs.declared.Kept.{Kept}
 use Rattle.global_handles.specs.declared.Slot.{Slot}
-use Rattle.global_handles.specs.Slots.{with_row, with_next, with_previous, next_at, previous_at, numbered, rows_from, cleared_kept, cleared_slot, is_open, opens, head_in, Leads, IsLinked, LeadsBack, IsBacked, IsChained}
+use Rattle.global_handles.specs.Slots.{with_row, with_next, with_previous, next_at, previous_at, numbered, rows_from, cleared_kept, cleared_slot, is_open, opens, head_in, IsLastOpen, AreLinkedSlots, LeadsBack, IsBacked, IsChained}
 use Rattle.global_handles.proofs.Slots.{kept_at}
 
 -- the peer of a number
@@ -48,7 +48,7 @@ opens-none p s none = by (eqb p.0 s.peer.0) refl
     by false e = rw e refl
 
 -- the slots open for a peer are the same, so its chain is
-pub Leads-alike : (old new : List Slot) (p : PNum) (n high : ℕ) → ((j : ℕ) (t : Slot) → j < high → slice_get new j ≡ Some t → (s : Slot) × (slice_get old j ≡ Some s) × (opens p t ≡ opens p s)) → Leads old p n high → Leads new p n high
+pub Leads-alike : (old new : List Slot) (p : PNum) (n high : ℕ) → ((j : ℕ) (t : Slot) → j < high → slice_get new j ≡ Some t → (s : Slot) × (slice_get old j ≡ Some s) × (opens p t ≡ opens p s)) → IsLastOpen old p n high → IsLastOpen new p n high
 Leads-alike old new p n high came leads = record {
   within = leads.within;
   own = λ j t is at. let c = came j t (omega (arith, leads.within)) at in c.2 ∙ leads.own j c.0 is c.1;
@@ -85,7 +85,7 @@ IsChained-follows old new head follows chained = record {
       };
 }
   where
-    leads : (p : PNum) (n high : ℕ) → Leads old p n high → Leads new p n high
+    leads : (p : PNum) (n high : ℕ) → IsLastOpen old p n high → IsLastOpen new p n high
     leads p n high = Leads-alike old new p n high (λ j t below at. let c = follows.came j t at in (c.0, c.1, c.2.opens_same p))
 
 same_suc : {m n : ℕ} → suc m ≡ suc n → m ≡ n
@@ -287,7 +287,7 @@ pick-apart : (m k a b : ℕ) → m ≢ k → cond (eqb m k) a b ≡ b
 pick-apart m k a b apart = rw (neq-eqb m k apart) refl
 
 -- what led to the slot taken off leads on to what that led to
-Leads-skip : (ss : List Slot) (i : ℕ) (gone : Slot) (p : PNum) (n high : ℕ) → i < high → Leads ss p (suc i) high → Leads ss p n i → Leads (without_slots ss i gone) p n high
+Leads-skip : (ss : List Slot) (i : ℕ) (gone : Slot) (p : PNum) (n high : ℕ) → i < high → IsLastOpen ss p (suc i) high → IsLastOpen ss p n i → IsLastOpen (without_slots ss i gone) p n high
 Leads-skip ss i gone p n high below outer inner = record {
   within = omega (arith, inner.within);
   own = λ j t is at.
@@ -302,7 +302,7 @@ Leads-skip ss i gone p n high below outer inner = record {
 }
 
 -- what led to another number still does
-Leads-stay : (ss : List Slot) (i : ℕ) (gone : Slot) (p : PNum) (n high : ℕ) → n ≢ suc i → Leads ss p n high → Leads (without_slots ss i gone) p n high
+Leads-stay : (ss : List Slot) (i : ℕ) (gone : Slot) (p : PNum) (n high : ℕ) → n ≢ suc i → IsLastOpen ss p n high → IsLastOpen (without_slots ss i gone) p n high
 Leads-stay ss i gone p n high other leads = record {
   within = leads.within;
   own = λ j t is at.
@@ -314,7 +314,7 @@ Leads-stay ss i gone p n high other leads = record {
 }
 
 -- two places with one slot before both: none of them is open below the other
-Leads-once : (ss : List Slot) (p : PNum) (n a b : ℕ) (s : Slot) → Leads ss p n a → Leads ss p n b → a < b → slice_get ss a ≡ Some s → opens p s ≡ true → ⊥
+Leads-once : (ss : List Slot) (p : PNum) (n a b : ℕ) (s : Slot) → IsLastOpen ss p n a → IsLastOpen ss p n b → a < b → slice_get ss a ≡ Some s → opens p s ≡ true → ⊥
 Leads-once ss p n a b s below above less at has = true-false _ has (above.settled a s below.within less at)
 
 -- a row that is changed and not uncleared is as open as it was
@@ -338,7 +338,7 @@ IsChained-without ss i gone p head new at has moved chained = record {
     within : i < length ss
     within = slice_get_within ss i gone at
 
-    inner : Leads ss p gone.next i
+    inner : IsLastOpen ss p gone.next i
     inner = chained.linked i gone at p has
 
     back : LeadsBack ss head p gone.previous (suc i)
@@ -351,7 +351,7 @@ IsChained-without ss i gone p head new at has moved chained = record {
         let leads = rw b.3 at (chained.linked m b.0 b.1 p b.2) in
         let own = chained.heads_lead q in
         let same : q ≡ p = opens-one p q gone has (own.own i gone is at) in
-        let top : Leads ss p (suc i) (length ss) = rw (← is, ← same) own in
+        let top : IsLastOpen ss p (suc i) (length ss) = rw (← is, ← same) own in
         Leads-once ss p (suc i) m (length ss) b.0 leads top (slice_get_within ss m b.0 b.1) b.1 b.2
 
     -- a slot that leads to it is the one that it leads back to
@@ -359,13 +359,13 @@ IsChained-without ss i gone p head new at has moved chained = record {
     leads_one j s q there is to =
         let leads = chained.linked j s there q is in
         let same : q ≡ p = opens-one p q gone has (leads.own i gone to at) in
-        let mine : Leads ss p (suc i) j = rw (← to, ← same) leads in
+        let mine : IsLastOpen ss p (suc i) j = rw (← to, ← same) leads in
         let own : opens p s ≡ true = rw (← same) is in
         find j s there own mine gone.previous refl
       where
-        find : (j : ℕ) (s : Slot) → slice_get ss j ≡ Some s → opens p s ≡ true → Leads ss p (suc i) j → (m : ℕ) → gone.previous ≡ m → suc j ≡ gone.previous
+        find : (j : ℕ) (s : Slot) → slice_get ss j ≡ Some s → opens p s ≡ true → IsLastOpen ss p (suc i) j → (m : ℕ) → gone.previous ≡ m → suc j ≡ gone.previous
         find j s there own mine zero none =
-            let top : Leads ss p (suc i) (length ss) = rw (← back.first none) (chained.heads_lead p) in
+            let top : IsLastOpen ss p (suc i) (length ss) = rw (← back.first none) (chained.heads_lead p) in
             absurd (Leads-once ss p (suc i) j (length ss) s mine top (slice_get_within ss j s there) there own)
         find j s there own mine (suc m) later =
             let b = back.later m later in
@@ -378,15 +378,15 @@ IsChained-without ss i gone p head new at has moved chained = record {
               ]
             ]
 
-    heads : (q : PNum) → Leads (without_slots ss i gone) q (new q) (length ss)
+    heads : (q : PNum) → IsLastOpen (without_slots ss i gone) q (new q) (length ss)
     heads q = by (eqb gone.previous 0) (eqb p.0 q.0) refl refl
       where
-        by : (a b : Bool) → eqb gone.previous 0 ≡ a → eqb p.0 q.0 ≡ b → Leads (without_slots ss i gone) q (new q) (length ss)
+        by : (a b : Bool) → eqb gone.previous 0 ≡ a → eqb p.0 q.0 ≡ b → IsLastOpen (without_slots ss i gone) q (new q) (length ss)
         by true true e e' =
             let none : gone.previous ≡ 0 = grind (arith, nat_tests) in
             let n : p.0 ≡ q.0 = grind (arith, nat_tests) in
             let same : p ≡ q = ap (λ (m : ℕ). peer_of m) n in
-            let top : Leads ss p (suc i) (length ss) = rw (← back.first none) (chained.heads_lead p) in
+            let top : IsLastOpen ss p (suc i) (length ss) = rw (← back.first none) (chained.heads_lead p) in
             let is : new q ≡ gone.next = rw (e, e') at (moved q) in
             rw (is, ← same) (Leads-skip ss i gone p gone.next (length ss) within top inner)
         by true false e e' =
@@ -402,7 +402,7 @@ IsChained-without ss i gone p head new at has moved chained = record {
             let other : head q ≢ suc i = λ w. not_zero gone.previous some (λ m later. not_first q m later w) in
             rw is (Leads-stay ss i gone q (head q) (length ss) other (chained.heads_lead q))
 
-    links : IsLinked (without_slots ss i gone)
+    links : AreLinkedSlots (without_slots ss i gone)
     links j t there q is =
         let c = without_slots-came ss i gone j t there in
         let o = gone-open q i gone j c.0 (rw c.2 at is) in
@@ -413,7 +413,7 @@ IsChained-without ss i gone p head new at has moved chained = record {
               let one : c.0 ≡ b.0 = same_Some c.0 b.0 (sym c.1 ∙ b.1) in
               let same : p ≡ q = opens-one q p c.0 o.1 (rw one b.2) in
               let to : c.0.next ≡ suc i = ap (λ (s : Slot). s.next) one ∙ b.3 in
-              let outer : Leads ss p (suc i) j = rw (← to, same) leads in
+              let outer : IsLastOpen ss p (suc i) j = rw (← to, same) leads in
               rw (pick-same (suc j) gone.previous gone.next c.0.next e, ← same) (Leads-skip ss i gone p gone.next j outer.within outer inner)
           | inr ne ↦
               let other : c.0.next ≢ suc i = λ w. ne (leads_one j c.0 q c.1 o.1 w) in
@@ -559,17 +559,17 @@ IsChained-cleared p ss head new len moved chained = record {
       | inr apart ↦ (apart, sym (opens-cleared_other p q s apart) ∙ is)
     ]
 
-    stay : (q : PNum) (n high : ℕ) → p.0 ≢ q.0 → Leads ss q n high → Leads (map (cleared_slot p) ss) q n high
+    stay : (q : PNum) (n high : ℕ) → p.0 ≢ q.0 → IsLastOpen ss q n high → IsLastOpen (map (cleared_slot p) ss) q n high
     stay q n high apart = Leads-alike ss (map (cleared_slot p) ss) q n high (λ j t below at. let c = cleared-came p ss j t at in (c.0, c.1, ap (λ (u : Slot). opens q u) c.2 ∙ opens-cleared_other p q c.0 apart))
 
-    none : Leads (map (cleared_slot p) ss) p 0 (length ss)
+    none : IsLastOpen (map (cleared_slot p) ss) p 0 (length ss)
     none = record {
       within = omega arith;
       own = λ j t is at. absurd (omega arith);
       settled = λ j t low below at. let c = cleared-came p ss j t at in rw c.2 (opens-cleared p c.0);
     }
 
-    heads : (q : PNum) → Leads (map (cleared_slot p) ss) q (new q) (length ss)
+    heads : (q : PNum) → IsLastOpen (map (cleared_slot p) ss) q (new q) (length ss)
     heads q = elim (cases_eq p.0 q.0) [
       | inl n ↦
           let same : p ≡ q = ap (λ (m : ℕ). peer_of m) n in
@@ -587,7 +587,7 @@ head-within heads p some = elim (cases_lt p.0 (length heads)) [ inl lt ↦ lt | 
 -- the chains are seen by their heads alone
 pub IsChained-heads : (ss : List Slot) (head new : PNum → ℕ) → ((q : PNum) → new q ≡ head q) → IsChained ss head → IsChained ss new
 IsChained-heads ss head new same chained = record {
-  heads_lead = λ p. subst (λ n. Leads ss p n (length ss)) (sym (same p)) (chained.heads_lead p);
+  heads_lead = λ p. subst (λ n. IsLastOpen ss p n (length ss)) (sym (same p)) (chained.heads_lead p);
   linked = chained.linked;
   backed = λ i s at p open'. (let back = chained.backed i s at p open' in record { first = λ zero'. same p ∙ back.first zero'; later = back.later });
 }
@@ -636,14 +636,14 @@ IsChained-pushed ss s number head new next first has leads len moved chained = r
     opens_own : opens s.peer s ≡ true
     opens_own = rw (eq-eqb s.peer.0 s.peer.0 refl) has
 
-    stay : (q : PNum) (n high : ℕ) → high ≤ length ss → Leads ss q n high → Leads (pushed_slots ss s number) q n high
+    stay : (q : PNum) (n high : ℕ) → high ≤ length ss → IsLastOpen ss q n high → IsLastOpen (pushed_slots ss s number) q n high
     stay q n high le = Leads-alike ss (pushed_slots ss s number) q n high (λ j t below at. elim (came j t at) [
       | inl w ↦ (w.0, w.2, rw w.3 refl)
       | inr w ↦ absurd (omega arith)
     ])
 
     -- one place higher for a peer that the new slot doesn't name
-    higher : (q : PNum) (n : ℕ) → q ≢ s.peer → Leads ss q n (length ss) → Leads (pushed_slots ss s number) q n number
+    higher : (q : PNum) (n : ℕ) → q ≢ s.peer → IsLastOpen ss q n (length ss) → IsLastOpen (pushed_slots ss s number) q n number
     higher q n apart old =
         let below = stay q n (length ss) (omega arith) old in
         record {
@@ -662,14 +662,14 @@ IsChained-pushed ss s number head new next first has leads len moved chained = r
         shut true is = absurd (apart (opens-peer q s is))
         shut false is = is
 
-    pushed : Leads (pushed_slots ss s number) s.peer number number
+    pushed : IsLastOpen (pushed_slots ss s number) s.peer number number
     pushed = record {
       within = omega arith;
       own = λ j t is at. elim (came j t at) [ inl w ↦ absurd (omega arith) | inr w ↦ rw (← w.1) opens_own ];
       settled = λ j t low below at. absurd (omega arith);
     }
 
-    heads : (q : PNum) → Leads (pushed_slots ss s number) q (new q) number
+    heads : (q : PNum) → IsLastOpen (pushed_slots ss s number) q (new q) number
     heads q = elim (cases_eq s.peer.0 q.0) [
       | inl n ↦
           let same : s.peer ≡ q = ap (λ (m : ℕ). peer_of m) n in
@@ -680,7 +680,7 @@ IsChained-pushed ss s number head new next first has leads len moved chained = r
           rw is (higher q (head q) (λ e. apart (ap (λ (r : PNum). r.0) (sym e))) (chained.heads_lead q))
     ]
 
-    links : IsLinked (pushed_slots ss s number)
+    links : AreLinkedSlots (pushed_slots ss s number)
     links j t there q is = elim (came j t there) [
       | inl w ↦
           let old : opens q w.0 ≡ true = rw w.3 at is in
@@ -688,7 +688,7 @@ IsChained-pushed ss s number head new next first has leads len moved chained = r
       | inr w ↦
           let own : opens q s ≡ true = rw w.1 is in
           let same : q ≡ s.peer = opens-peer q s own in
-          let front : Leads ss s.peer s.next (length ss) = rw leads (chained.heads_lead s.peer) in
+          let front : IsLastOpen ss s.peer s.next (length ss) = rw leads (chained.heads_lead s.peer) in
           rw (← w.1, w.0, same) (stay s.peer s.next (length ss) (omega arith) front)
     ]
 
@@ -791,7 +791,7 @@ cleared_above-step p (t ∷ ss) zero s at = rw (same_Some t s at) refl
 cleared_above-step p (t ∷ ss) (suc j) s at = ap (λ u. t ∷ u) (cleared_above-step p ss j s at)
 
 -- one step of the walk: the slot below the place is cleared, and the walk goes on at the number that it leads to
-pub walk-step : (p : PNum) (old now : List Slot) (at j : ℕ) (s : Slot) → IsLinked old → now ≡ cleared_above p at old → at ≡ suc j → at ≤ length old → ((i : ℕ) (t : Slot) → at ≡ suc i → slice_get old i ≡ Some t → opens p t ≡ true) → s ≡ get_or now j s
+pub walk-step : (p : PNum) (old now : List Slot) (at j : ℕ) (s : Slot) → AreLinkedSlots old → now ≡ cleared_above p at old → at ≡ suc j → at ≤ length old → ((i : ℕ) (t : Slot) → at ≡ suc i → slice_get old i ≡ Some t → opens p t ≡ true) → s ≡ get_or now j s
     → (set now j (slot_with s (option_map cleared_kept s.row)) ≡ cleared_above p s.next old) × (s.next ≤ j) × ((i : ℕ) (t : Slot) → s.next ≡ suc i → slice_get old i ≡ Some t → opens p t ≡ true)
 walk-step p old now at j s linked now_is top within own is =
     let now_at : now ≡ cleared_above p (suc j) old = rw top at now_is in

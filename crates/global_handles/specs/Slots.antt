@@ -75,14 +75,14 @@ abbrev pub opens : PNum → Slot → Bool
 opens p s = if p.0 == s.peer.0 then is_open s.row else false
 
 -- of the slots below a place, the last one with a row to clear for the peer has the number n; 0 where none has one
-pub record Leads (ss : List Slot) (p : PNum) (n high : ℕ) : Type 0 where
+pub record IsLastOpen (ss : List Slot) (p : PNum) (n high : ℕ) : Type 0 where
   pub within : n ≤ high
   pub own : (j : ℕ) (s : Slot) → n ≡ suc j → slice_get ss j ≡ Some s → opens p s ≡ true
   pub settled : (j : ℕ) (s : Slot) → n ≤ j → j < high → slice_get ss j ≡ Some s → opens p s ≡ false
 
 -- each slot with a row to clear leads on to the one before it of the same peer
-abbrev pub IsLinked : List Slot → Type 0
-IsLinked ss = (i : ℕ) (s : Slot) → slice_get ss i ≡ Some s → (p : PNum) → opens p s ≡ true → Leads ss p s.next i
+abbrev pub AreLinkedSlots : List Slot → Type 0
+AreLinkedSlots ss = (i : ℕ) (s : Slot) → slice_get ss i ≡ Some s → (p : PNum) → opens p s ≡ true → IsLastOpen ss p s.next i
 
 -- what the number m leads back to, which is the head of the peer at 0 and else a slot of it with a row to clear,
 -- leads on to the number n
@@ -96,8 +96,8 @@ IsBacked ss head = (i : ℕ) (s : Slot) → slice_get ss i ≡ Some s → (p : P
 
 -- from the head of each peer on, just the slots with a row to clear for it are chained, the last made first
 pub record IsChained (ss : List Slot) (head : PNum → ℕ) : Type 0 where
-  pub heads_lead : (p : PNum) → Leads ss p (head p) (length ss)
-  pub linked : IsLinked ss
+  pub heads_lead : (p : PNum) → IsLastOpen ss p (head p) (length ss)
+  pub linked : AreLinkedSlots ss
   pub backed : IsBacked ss head
 
 -- the number at which the chain of a peer begins; 0 where there is nothing to clear, as past the end of the list

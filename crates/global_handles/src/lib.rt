@@ -30,7 +30,7 @@
 ghost use Rattle.std.specs.Prelude.{◌≡◌, ◌==◌, ◌+◌, ◌<◌, ◌≤◌, ◌↔◌, max, [], ◌∷◌, ◌++◌, true, length, map, All, ok_or, ℕ, ◌-◌, ◌≢◌, if◌then◌else◌, Ok, Err, None, Some, OnOk, OnErr, IfOk, IsOk};
 ghost use Rattle.std.specs.Option.{option_map};
 ghost use Rattle.std.specs.Vec.{vec_capacity, vec_len};
-ghost use Rattle.global_handles.specs.Slots.{slot_of, with_row, with_next, with_previous, rows_from, head_in, cleared_slot, IsLinked, Leads, IsChained};
+ghost use Rattle.global_handles.specs.Slots.{slot_of, with_row, with_next, with_previous, rows_from, head_in, cleared_slot, AreLinkedSlots, IsLastOpen, IsChained};
 ghost use Rattle.global_handles.specs.Rows.{row_in, target_in, strength_in, cleared_in, fresh_row, with_strength, changed, cleared_for, without, not_live, IsWeakFor, IsRising};
 
 use joint_model::{HNum, PNum};
@@ -489,8 +489,8 @@ fn take_head(heads: &mut Vec<u32>, p: PNum) -> u32
 // Clears each row of a peer, from the slot of this number on to the earlier ones. Each slot that it visits has a row
 // of the peer that isn't cleared.
 fn clear_chain(slots: &mut Vec<Slot>, p: PNum, from: u32)
-    requires linked { IsLinked slots.old.items }
-    requires leads { Leads slots.old.items p from (length slots.old.items) }
+    requires linked { AreLinkedSlots slots.old.items }
+    requires leads { IsLastOpen slots.old.items p from (length slots.old.items) }
     ensures items { slots.new.items ≡ map (cleared_slot p) slots.old.items }
     ensures capacity { vec_capacity slots.new ≡ vec_capacity slots.old }
 {

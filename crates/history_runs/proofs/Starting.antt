@@ -9,7 +9,7 @@ use Rattle.joint_model.specs.Lines.{IsDriver, IsThread}
 use Rattle.joint_model.proofs.Members.{Contains-cons_cases, Contains-here, Contains-nil, Contains-there}
 use Rattle.joint_history.specs.Callers.{Pass}
 use Rattle.joint_history.specs.Desks.{Waiting}
-use Rattle.joint_history.specs.Ending.{HasAll, IsIdle, threads_of}
+use Rattle.joint_history.specs.Ending.{HasAll, HasIdleDriver, threads_of}
 use Rattle.joint_history.specs.Operations.{IsOwnThread}
 use Rattle.joint_history.proofs.Giving.{has_all_same}
 use Rattle.history_runs.specs.Starts.{IsStarting}
@@ -50,15 +50,15 @@ no_driver (P n) is driver = driver
 no_driver C is driver = is
 
 -- none of them is the driver
-thread_is_idle : (p : Pass) → IsOwnThread p.thread → IsIdle p
+thread_is_idle : (p : Pass) → IsOwnThread p.thread → HasIdleDriver p
 thread_is_idle p is driver = absurd (no_driver p.thread is driver)
 
-pub gone_are_idle : (js rs : List Pass) → length rs ≡ length js → HaveGoneOn js rs → All IsStarting js → All IsIdle rs
-gone_are_idle [] [] e w all = All-nil IsIdle
+pub gone_are_idle : (js rs : List Pass) → length rs ≡ length js → HaveGoneOn js rs → All IsStarting js → All HasIdleDriver rs
+gone_are_idle [] [] e w all = All-nil HasIdleDriver
 gone_are_idle [] (r ∷ rs) e w all = absurd (omega (arith, e))
 gone_are_idle (j ∷ js) [] e w all = absurd (omega (arith, e))
 gone_are_idle (j ∷ js) (r ∷ rs) e w all =
-    All-cons IsIdle r rs (thread_is_idle r (subst IsOwnThread (sym (w 0 j (omega arith))) (All-head IsStarting j js all).0))
+    All-cons HasIdleDriver r rs (thread_is_idle r (subst IsOwnThread (sym (w 0 j (omega arith))) (All-head IsStarting j js all).0))
     (gone_are_idle js rs (omega (arith, e)) (λ i d l. w (suc i) d (omega (arith, l))) (All-tail IsStarting j js all))
 
 -- one caller was given out, and went on

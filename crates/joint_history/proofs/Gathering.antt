@@ -2,7 +2,7 @@
 use Rattle.std.proofs.Common.{◌≡◌, ◌⊎◌, inl, inr, ⊎_elim, ℕ, ◌-◌, ◌<◌, ◌≤◌, List, [], ◌∷◌, ◌++◌, length, take, map, Some, None, refl, sym, ap, ◌∙◌, subst, arith}
 use Rattle.std.specs.Prelude.{Contains}
 use Rattle.std.proofs.lemmas.List.Elements.{Contains-push_cases}
-use Rattle.joint_history.specs.Ending.{AtRest, HasGatheredSeats, GathersAll, IsFinished, IsIdle, Rests}
+use Rattle.joint_history.specs.Ending.{AtRest, HasGatheredSeats, GathersAll, IsFinished, HasIdleDriver, Rests}
 use Rattle.std.proofs.lemmas.List.{append-nil, append_assoc}
 use Rattle.joint_model.proofs.Members.{Contains-nil}
 use Rattle.joint_history.specs.Callers.{CallerKnows}
@@ -171,7 +171,7 @@ owns_all v l r ts g all i few = ⊎_elim
     cases_lt' a b = ⊎_elim (λ s. inl s) (λ g'. inr (omega (arith, g'))) (cases_lt a b)
 
 -- a caller that has nothing to release, and is idle if it is the driver's, has come to rest
-pub caller_at_rest : (t : Thread) (v : View) → CallerKnows t v → HoldsPass t v → IsIdle (record { thread = t; view = v }) → AtRest t v
+pub caller_at_rest : (t : Thread) (v : View) → CallerKnows t v → HoldsPass t v → HasIdleDriver (record { thread = t; view = v }) → AtRest t v
 caller_at_rest (M n) v k h i = record { known = k.known; pass = h; rests = k.released }
 caller_at_rest (P n) v k h i = record { known = k.known; pass = h; rests = tt }
 caller_at_rest C v k h i = let w = i tt in record { known = w.0; pass = h; rests = w.1 }

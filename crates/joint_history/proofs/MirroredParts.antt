@@ -22,7 +22,7 @@ use Rattle.joint_laws.proofs.DriverPeerSteps.{holds-handle_of}
 use Rattle.known_laws.specs.Pasts.{HasSameDeadPart}
 use Rattle.bridge_graph.specs.declared.graph.Node.{Node}
 use Rattle.bridge_graph.specs.Handles.{handles_of}
-use Rattle.bridge_graph.specs.Parts.{IsBridge as IsBridgeNode, IsPart, Part, numbers_of}
+use Rattle.bridge_graph.specs.Parts.{IsBridgeNode, IsPart, Part, numbers_of}
 use Rattle.managed_side.specs.Graphs.{IsDeadGraph, handle_number}
 use Rattle.peer_side.specs.Mirroring.{strong_row}
 use Rattle.xref_list.specs.Listing.{IsBetween, IsListing, Listing}

@@ -31,7 +31,7 @@ use Rattle.peer_side.specs.Steps.{IsRelease, IsStepLine}
 use Rattle.joint_history.specs.Callers.{CallerKnows, last_index}
 use Rattle.joint_history.specs.Knowing.{line_known}
 use Rattle.joint_history.specs.Locked.{Makes, MakesNone, MayMake, doing_from, made_by}
-use Rattle.joint_history.specs.Operations.{AreAbove, StopsWithoutMemory, IsFirst, IsMadeByEvents, IsOwnThread, IsPeerOperation, IsSideEvent, MakesAll, MayBegin, Runs, answer_of, cited_by, entry_by, first_of, second_of, third_of}
+use Rattle.joint_history.specs.Operations.{AreAbove, StopsWithoutMemory, OpensOperation, IsMadeByEvents, IsOwnThread, IsPeerOperation, IsSideEvent, MakesAll, MayBegin, Runs, answer_of, cited_by, entry_by, first_of, second_of, third_of}
 use Rattle.joint_history.proofs.LastLines.{last_line_is}
 use Rattle.joint_history.proofs.Narrow.{GripsFew, past_grips_few}
 use Rattle.joint_history.proofs.Turning.{first_may, met_then_release, stands_knows, then_adopt, then_land, then_meet, then_release}
@@ -75,7 +75,7 @@ makes_no_more t old mid new es a m = record {
 }
 
 -- the first event
-first_is_first : (a : Act) → IsFirst (first_of a)
+first_is_first : (a : Act) → OpensOperation (first_of a)
 first_is_first (act.Bridge v kind n sort f) = tt
 first_is_first (act.Pass v x) = tt
 first_is_first (act.Surface v x) = tt

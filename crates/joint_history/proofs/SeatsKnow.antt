@@ -23,7 +23,7 @@ use Rattle.known_laws.specs.Citations.{Cites, HasCited, IsClearOf, IsGiveOf, IsG
 use Rattle.known_laws.specs.Driving.{IsPastKept}
 use Rattle.known_laws.specs.Facts.{TakesHandle}
 use Rattle.known_laws.specs.Growing.{entries}
-use Rattle.known_laws.specs.Pasts.{In, Lawful, end_of, line}
+use Rattle.known_laws.specs.Pasts.{InPast, Lawful, end_of, line}
 use Rattle.known_laws.proofs.Citing.{pasts_cite}
 use Rattle.known_laws.proofs.CitedOnce.{each_stands_behind, in_back}
 use Rattle.known_laws.proofs.Facts.{none_leads_to_cleared, none_leads_to_freed, weak_is_waiting}
@@ -37,16 +37,16 @@ use Rattle.joint_history.specs.Locked.{ManagedKnows, PeerKnows}
 use Rattle.joint_history.specs.SeatFacts.{CitesKnown, CitesManaged, CitesPeers, HandlesLeft, ManagedListCites, NoneLeadsToClearedIn, NoneLeadsToFreedIn, PeerListCites, ResolvesFreed, WeakIsWaitingIn}
 
 -- an entry of a past stands in the lines that it is in, and what stands in a line is one of the past
-to_line : (ns : List Noted) (x : Noted) → In ns x → Contains (entries ns) x.entry
+to_line : (ns : List Noted) (x : Noted) → InPast ns x → Contains (entries ns) x.entry
 to_line [] x w = absurd w
 to_line (y ∷ ns) x w = ⊎_elim
     (λ (e : y ≡ x). subst (λ (z : Noted). Contains (y.entry ∷ entries ns) z.entry) e (Contains-here y.entry (entries ns)))
-    (λ (v : In ns x). Contains-there x.entry y.entry (entries ns) (to_line ns x v))
+    (λ (v : InPast ns x). Contains-there x.entry y.entry (entries ns) (to_line ns x v))
     w
 
 record StandsIn (ns : List Noted) (e : Entry) : Type 0 where
   pub noted : Noted
-  pub there : In ns noted
+  pub there : InPast ns noted
   pub is : noted.entry ≡ e
 
 from_line : (ns : List Noted) (e : Entry) → Contains (entries ns) e → StandsIn ns e
@@ -61,7 +61,7 @@ known_entry v i a e c =
     let s = from_line (line i a.past) e (subst (λ es. Contains es e) (a.same i) c) in
     record { noted = s.noted; there = in-line i a.past s.noted s.there; is = s.is }
 
-entry_known : (v : View) (i : ℕ) (a : IsKnownView v) (x : Noted) → In a.past x → stands_in i x.entry ≡ true → Contains (line_known v i) x.entry
+entry_known : (v : View) (i : ℕ) (a : IsKnownView v) (x : Noted) → InPast a.past x → stands_in i x.entry ≡ true → Contains (line_known v i) x.entry
 entry_known v i a x w t = subst (λ es. Contains es x.entry) (sym (a.same i)) (to_line (line i a.past) x (line-in i a.past x w t))
 
 -- an event of a side stands in that side's line
@@ -72,7 +72,7 @@ pub peer_line : (e : Entry) → is_peer_event e.made.caller e.made.op ≡ true �
 peer_line e p = ap (λ (b : Bool). (1 == (if b then 1 else 0)) || (1 == caller_line e.made.caller)) p
 
 -- what an entry cites stands in the other side's line
-cited_by : (v : View) (i : ℕ) (a : IsKnownView v) (e : Entry) (b : List Noted) (n : ℕ) (P : Made → Type 0) → ((x : Noted) → In b x → In a.past x) → ((m : Entry) → P m.made → stands_in i m ≡ true) → HasCited b e.made n P → CitesKnown v i e P
+cited_by : (v : View) (i : ℕ) (a : IsKnownView v) (e : Entry) (b : List Noted) (n : ℕ) (P : Made → Type 0) → ((x : Noted) → InPast b x → InPast a.past x) → ((m : Entry) → P m.made → stands_in i m ≡ true) → HasCited b e.made n P → CitesKnown v i e P
 cited_by v i a e b n P all side c = record {
   cited = c.cited.entry;
   there = entry_known v i a c.cited (all c.cited c.there) (side c.cited.entry c.as_said);
@@ -102,14 +102,14 @@ grip_line index m p h sort f w = peer_line m (ap (λ (o : Op). is_peer_event m.m
 clear_line : (k : ℕ) (m : Entry) → IsClearOf k m.made → stands_in 1 m ≡ true
 clear_line k m w = peer_line m (ap (λ (o : Op). is_peer_event m.made.caller o) w)
 
-peer_cites : (v : View) (a : IsKnownView v) (e : Entry) (b : List Noted) (n : ℕ) → ((x : Noted) → In b x → In a.past x) → (o : Op) → Cites b e.made n o → CitesManaged v e o
+peer_cites : (v : View) (a : IsKnownView v) (e : Entry) (b : List Noted) (n : ℕ) → ((x : Noted) → InPast b x → InPast a.past x) → (o : Op) → Cites b e.made n o → CitesManaged v e o
 peer_cites v a e b n all (op.Land h x) c = cited_by v 0 a e b n (IsLendOf e.made.index h x) all (λ m w. lend_line e.made.index m h x w) c
 peer_cites v a e b n all (op.Release h) c = cited_by v 0 a e b n (λ m. IsGiveOf e.made.index h m ⊎ IsMeetOf e.made.index h m) all (λ m w. give_line e.made.index m h w) c
 peer_cites v a e b n all (op.Mirror k) c = cited_by v 0 a e b n (IsSnapOf k.0) all (λ m w. snap_line k.0 m w) c
 peer_cites v a e b n all (op.Weaken h) c = cited_by v 0 a e b n (λ m. (k : ℕ) × IsSnapOf k m) all (λ m w. snap_line w.0 m w.1) c
 peer_cites v a e b n all o c = tt
 
-managed_cites : (v : View) (a : IsKnownView v) (e : Entry) (b : List Noted) (n : ℕ) → ((x : Noted) → In b x → In a.past x) → (o : Op) → Cites b e.made n o → CitesPeers v e o
+managed_cites : (v : View) (a : IsKnownView v) (e : Entry) (b : List Noted) (n : ℕ) → ((x : Noted) → InPast b x → InPast a.past x) → (o : Op) → Cites b e.made n o → CitesPeers v e o
 managed_cites v a e b n all (op.Adopt w kind k p h) c = cited_by v 1 a e b n (IsMakeOf e.made.index p h) all (λ m z. make_line e.made.index m p h z) c
 managed_cites v a e b n all (op.Meet w p h sort f) c = cited_by v 1 a e b n (IsGripOf e.made.index p h sort f) all (λ m z. grip_line e.made.index m p h sort f z) c
 managed_cites v a e b n all (op.Resolve k) c = cited_by v 1 a e b n (IsClearOf k.0) all (λ m z. clear_line k.0 m z) c
@@ -118,13 +118,13 @@ managed_cites v a e b n all o c = tt
 -- each entry of a known past cites what it has to, and what it cites is known
 record Behind (past : List Noted) (x : Noted) : Type 0 where
   pub back : List Noted
-  pub all : (y : Noted) → In back y → In past y
+  pub all : (y : Noted) → InPast back y → InPast past y
   pub cites : Cites back x.entry.made x.entry.number x.entry.made.op
 
-behind : (past : List Noted) → Lawful past → (x : Noted) → In past x → Behind past x
+behind : (past : List Noted) → Lawful past → (x : Noted) → InPast past x → Behind past x
 behind past l x w =
     let s = each_stands_behind past l x w in
-    record { back = s.back; all = λ y q. subst (λ h. In h y) (sym s.all) (in_back s.front x s.back y q); cites = pasts_cite x s.back s.lawful }
+    record { back = s.back; all = λ y q. subst (λ h. InPast h y) (sym s.all) (in_back s.front x s.back y q); cites = pasts_cite x s.back s.lawful }
 
 pub peer_list_cites : (v : View) (s : Side PeerReplay) → PeerKnows v s → PeerListCites v s.entries
 peer_list_cites v s ks e c =

@@ -24,7 +24,7 @@ use Rattle.order_table.specs.declared.views.View.{View}
 use Rattle.joint_history.specs.Knowing.{line_known}
 use Rattle.joint_history.specs.Callers.{CallerKnows, HasReleased, last_index}
 use Rattle.joint_history.specs.Locked.{IsTurn, Makes, MakesNone, MayMake, Stands, doing_from, doing_of, made_by}
-use Rattle.joint_history.specs.Operations.{IsFirst, IsOwnThread, MayBegin}
+use Rattle.joint_history.specs.Operations.{OpensOperation, IsOwnThread, MayBegin}
 use Rattle.joint_history.proofs.LastLines.{last_line_is}
 use Rattle.known_laws.proofs.Turning.{starts}
 
@@ -54,10 +54,10 @@ released_by C s d e w = tt
 pub stands_knows : (t : Thread) (v : View) (index : ℕ) (d : Doing) → Stands t v index d → IsDone d → CallerKnows t v
 stands_knows t v index d s w = record { known = s.known; released = released_by t (end_of s.known.past) d s.doing w }
 
-first_turn : (t : Thread) (d : Doing) (index : ℕ) (o : Op) → IsOwnThread t → IsDone d → IsFirst o → IsTurn t d index o None
+first_turn : (t : Thread) (d : Doing) (index : ℕ) (o : Op) → IsOwnThread t → IsDone d → OpensOperation o → IsTurn t d index o None
 first_turn (M n) d index o is w f = by o f
   where
-    by : (q : Op) → IsFirst q → IsTurn (M n) d index q None
+    by : (q : Op) → OpensOperation q → IsTurn (M n) d index q None
     by (op.Adopt v kind k p h) g = absurd g
     by (op.Land h x) g = absurd g
     by (op.Meet v p h sort k) g = absurd g
@@ -67,7 +67,7 @@ first_turn (P n) d index o is w f = refl
 first_turn C d index o is w f = absurd is
 
 -- the first event of an operation
-pub first_may : (t : Thread) (v : View) (index : ℕ) (o : Op) → IsOwnThread t → MayBegin t v index → IsFirst o → MayMake t v index o None
+pub first_may : (t : Thread) (v : View) (index : ℕ) (o : Op) → IsOwnThread t → MayBegin t v index → OpensOperation o → MayMake t v index o None
 first_may t v index o is b f = record { doing = b.doing; stands = b.stands; turn = first_turn t b.doing index o is b.done f }
 
 -- where nothing was made, the thread may still begin

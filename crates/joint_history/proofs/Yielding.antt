@@ -7,7 +7,7 @@ use Rattle.order_table.specs.declared.views.View.{View}
 use Rattle.order_table.specs.Facts.{line_entries}
 use Rattle.joint_history.specs.Callers.{Pass}
 use Rattle.joint_history.specs.Desks.{WaitsAt, present}
-use Rattle.joint_history.specs.Ending.{GathersAll, IsIdle, TakesOwn, threads_of}
+use Rattle.joint_history.specs.Ending.{GathersAll, HasIdleDriver, TakesOwn, threads_of}
 use Rattle.joint_history.proofs.Ended.{takes_then}
 use Rattle.joint_history.proofs.Gathering.{gathers_then}
 
@@ -26,14 +26,14 @@ nothing_left [] e = refl
 nothing_left (x ∷ xs) e = absurd (omega (arith, e))
 
 -- the next caller is idle, since all are
-pub next_is_idle : (all yielded left : List Pass) (p : Pass) → yielded ++ p ∷ left ≡ all → All IsIdle all → IsIdle p
-next_is_idle all yielded left p e idle = All-contains IsIdle all p idle (subst (λ xs. Contains xs p) e (stands_within yielded p left))
+pub next_is_idle : (all yielded left : List Pass) (p : Pass) → yielded ++ p ∷ left ≡ all → All HasIdleDriver all → HasIdleDriver p
+next_is_idle all yielded left p e idle = All-contains HasIdleDriver all p idle (subst (λ xs. Contains xs p) e (stands_within yielded p left))
 
 -- who waits knows nothing, so it is idle
-waiting_is_idle : (i : ℕ) (p : Pass) → WaitsAt i (Some p) → IsIdle p
+waiting_is_idle : (i : ℕ) (p : Pass) → WaitsAt i (Some p) → HasIdleDriver p
 waiting_is_idle i p w driver = (record { past = []; lawful = tt; same = λ j. ap line_entries (w.1 j) }, refl)
 
-pub next_waiting_is_idle : (all yielded left : List (Option Pass)) (p : Pass) → yielded ++ Some p ∷ left ≡ all → ((i : ℕ) (o : Option Pass) → slice_get all i ≡ Some o → WaitsAt i o) → IsIdle p
+pub next_waiting_is_idle : (all yielded left : List (Option Pass)) (p : Pass) → yielded ++ Some p ∷ left ≡ all → ((i : ℕ) (o : Option Pass) → slice_get all i ≡ Some o → WaitsAt i o) → HasIdleDriver p
 next_waiting_is_idle all yielded left p e waits = waiting_is_idle (length yielded) p (waits (length yielded) (Some p) (subst (λ xs. slice_get xs (length yielded) ≡ Some (Some p)) e (place_within yielded (Some p) left)))
 
 threads_snoc : (ps : List Pass) (p : Pass) → threads_of ps ++ p.thread ∷ [] ≡ threads_of (ps ++ p ∷ [])

@@ -51,8 +51,8 @@ pub record AllAreIn (v : View) (l : Side ManagedReplay) (r : Side PeerReplay) : 
   pub all : (t : Thread) → IsThread t → Contains threads t
 
 -- the driver's caller is idle
-abbrev pub IsIdle : Pass → Type 0
-IsIdle p = IsDriver p.thread → (a : IsKnownView p.view) × ((end_of a.past).control.stand ≡ idle)
+abbrev pub HasIdleDriver : Pass → Type 0
+HasIdleDriver p = IsDriver p.thread → (a : IsKnownView p.view) × ((end_of a.past).control.stand ≡ idle)
 
 -- whatever was gathered, these threads' seats are now too
 abbrev pub GathersAll : View → View → List Thread → Type 0

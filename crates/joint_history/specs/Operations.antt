@@ -31,12 +31,12 @@ IsOwnThread (P n) = (1 ≤ n) × (n ≤ 8)
 IsOwnThread C = ⊥
 
 -- the event is the first of an operation
-abbrev pub IsFirst : Op → Type 0
-IsFirst (op.Adopt v kind k p h) = ⊥
-IsFirst (op.Land h x) = ⊥
-IsFirst (op.Meet v p h sort k) = ⊥
-IsFirst (op.Release h) = ⊥
-IsFirst o = Unit {0}
+abbrev pub OpensOperation : Op → Type 0
+OpensOperation (op.Adopt v kind k p h) = ⊥
+OpensOperation (op.Land h x) = ⊥
+OpensOperation (op.Meet v p h sort k) = ⊥
+OpensOperation (op.Release h) = ⊥
+OpensOperation o = Unit {0}
 
 -- the thread may begin an operation on that line: it has nothing left to release, and its last line isn't above
 pub record MayBegin (t : Thread) (v : View) (index : ℕ) : Type 0 where

@@ -16,7 +16,7 @@ use Rattle.joint_laws.specs.LinkedInvariants.{HasStrength, IsHeldOne}
 use Rattle.joint_laws.specs.PeerInvariants.{IsTabled}
 use Rattle.known_laws.specs.Citations.{IsClearOf, IsGiveOf, IsGripOf, IsLendOf, IsMakeOf, IsMeetOf, IsSnapOf, StandsBehind, restores_in}
 use Rattle.known_laws.specs.Facts.{IsAnswered, TakesHandle}
-use Rattle.known_laws.specs.Pasts.{In, end_of}
+use Rattle.known_laws.specs.Pasts.{InPast, end_of}
 use Rattle.order_table.specs.declared.views.View.{View}
 use Rattle.joint_history.specs.Knowing.{IsKnownView, line_known}
 
@@ -75,4 +75,4 @@ ResolveFreed x h = (k : Cycle) → x.entry.made.op ≡ op.Resolve k → (answers
 
 -- so did each resolve that the seat knows
 abbrev pub ResolvesFreed : View → Type 0
-ResolvesFreed v = (a : IsKnownView v) (x : Noted) → In a.past x → (b : StandsBehind a.past x) × ResolveFreed x b.back
+ResolvesFreed v = (a : IsKnownView v) (x : Noted) → InPast a.past x → (b : StandsBehind a.past x) × ResolveFreed x b.back

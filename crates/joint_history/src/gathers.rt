@@ -9,7 +9,7 @@ ghost use Rattle.joint_model.specs.Sides.{Side};
 ghost use Rattle.order_table.specs.Views.{Owns};
 ghost use Rattle.joint_history.specs.Callers.{Pass};
 ghost use Rattle.joint_history.specs.Desks.{WaitsAt, present};
-ghost use Rattle.joint_history.specs.Ending.{AllAreIn, GathersAll, HasAll, IsIdle, StillWaits, TakesOwn, threads_of};
+ghost use Rattle.joint_history.specs.Ending.{AllAreIn, GathersAll, HasAll, HasIdleDriver, StillWaits, TakesOwn, threads_of};
 ghost use Rattle.joint_history.specs.Knowing.{line_known};
 ghost use Rattle.joint_history.specs.Locked.{ManagedKnows, PeerKnows};
 
@@ -21,7 +21,7 @@ use order_table::{Order, OrderName, Seat};
 // Takes in the seat of a thread that has come to rest.
 fn take_in<N: OrderName>(order: &Order, seat: &mut Seat, pass: WaitingPass<N>)
     requires order { (order.now ≡ N.order) × (seat.old.order ≡ N.order) }
-    requires idle { IsIdle pass }
+    requires idle { HasIdleDriver pass }
     ensures order { seat.new.order ≡ N.order }
     ensures gathers { GathersAll seat.old.view seat.new.view (pass.thread ∷ []) }
     ensures own { TakesOwn seat.old.view seat.new.view (pass ∷ []) }
@@ -37,7 +37,7 @@ fn take_in<N: OrderName>(order: &Order, seat: &mut Seat, pass: WaitingPass<N>)
 /// Takes in the seats of callers that have come to rest.
 pub(crate) fn gather<N: OrderName>(order: &Order, seat: &mut Seat, callers: Vec<Caller<N>>)
     requires order { (order.now ≡ N.order) × (seat.old.order ≡ N.order) }
-    requires idle { All IsIdle callers.items }
+    requires idle { All HasIdleDriver callers.items }
     ensures order { seat.new.order ≡ N.order }
     ensures gathers { GathersAll seat.old.view seat.new.view (threads_of callers.items) }
     ensures own { TakesOwn seat.old.view seat.new.view callers.items }
@@ -76,7 +76,7 @@ pub(crate) fn gather_all<N: OrderName>(
 )
     requires order { (order.now ≡ N.order) × (seat.old.order ≡ N.order) × (other.order ≡ N.order) }
     requires all { HasAll desk callers.items }
-    requires idle { All IsIdle callers.items }
+    requires idle { All HasIdleDriver callers.items }
     ensures order { seat.new.order ≡ N.order }
     ensures gathers { (l : Side ManagedReplay) (r : Side PeerReplay) → ManagedKnows seat.old.view l → PeerKnows other.view r → Owns seat.old.view 0 → Owns other.view 1 → AllAreIn seat.new.view l r }
     ensures own { TakesOwn seat.old.view seat.new.view (callers.items ++ present desk.callers) }

@@ -9,7 +9,7 @@ ghost use Rattle.order_table.specs.Views.{OwnsAll};
 ghost use Rattle.joint_history.specs.Callers.{Hears, KnowsNothing, Tells};
 ghost use Rattle.joint_history.specs.Desks.{AreAll};
 ghost use Rattle.joint_history.specs.Driven.{StillStands};
-ghost use Rattle.joint_history.specs.Ending.{HasAll, HasOwn, IsFinished, IsIdle, StillWaits};
+ghost use Rattle.joint_history.specs.Ending.{HasAll, HasOwn, IsFinished, HasIdleDriver, StillWaits};
 
 use crate::callers::{Caller, tell};
 use crate::desks::Desk;
@@ -94,7 +94,7 @@ impl<N: OrderName> Shared<N> {
     /// history.
     pub fn finish(self, desk: Desk<N>, callers: Vec<Caller<N>>) -> Result<History, AllocError>
         requires all { HasAll desk callers.items }
-        requires idle { All IsIdle callers.items }
+        requires idle { All HasIdleDriver callers.items }
         ensures linked { IfOk result (λ h. IsLinked h) }
         ensures finished { IfOk result (λ h. IsFinished h) }
         ensures own { IfOk result (λ h. All (HasOwn h.entries) callers.items) }

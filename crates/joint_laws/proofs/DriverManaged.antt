@@ -11,7 +11,7 @@ use Rattle.joint_model.specs.PeerReplay.{PeerReplay}
 use Rattle.joint_model.specs.Walks.{Reaches}
 use Rattle.joint_model.proofs.WalkLemmas.{Reaches-mono}
 use Rattle.joint_laws.specs.ManagedInvariants.{IsCutOff, IsManagedKept}
-use Rattle.joint_laws.specs.LinkedInvariants.{HasStrength, IsRowOf, IsOpenedAs, ForCandidates, IsMirrored, IsWeakenedBy, IsRestoredBy, IsClosed, IsBeforeMirror, IsDriverKept}
+use Rattle.joint_laws.specs.LinkedInvariants.{HasStrength, IsRowOf, IsOpenedAs, ForCandidates, IsMirrored, IsWeakenedBy, IsRestoredBy, LeadsToUnfreed, IsBeforeMirror, IsDriverKept}
 use Rattle.joint_model.proofs.Members.{Contains-at}
 use Rattle.joint_laws.proofs.ManagedMoves.{GoesOn}
 use Rattle.joint_laws.proofs.ManagedKeeping.{dead-fields, dead-held, cut_on}
@@ -72,7 +72,7 @@ module _ (r u : ManagedReplay) (s : PeerReplay) (k : IsManagedKept r.managed) (g
   candidates_on : (Q : ℕ → ℕ → Type 0) → ForCandidates r.managed c Q → ForCandidates u.managed c Q
   candidates_on Q all l m h e q = all l m h e (holds_back m h (candidate_dead m (Contains-at c.candidates l m e)) q)
 
-  closed_on : IsClosed r s c → IsClosed u s c
+  closed_on : LeadsToUnfreed r s c → LeadsToUnfreed u s c
   closed_on w a b p q ca cb walk ra rb live =
       let db = candidate_dead b cb in
       let back : Reaches (ManagedEdge r.managed) a b = managed-walk r.managed c cut a b (Reaches-mono (DeadEdge u.managed c.dead) (DeadEdge r.managed c.dead) edge_back a b (dead-walk u.managed c after a b db walk)) in

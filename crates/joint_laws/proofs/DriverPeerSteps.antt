@@ -20,7 +20,7 @@ use Rattle.joint_model.proofs.WalkLemmas.{Reaches-keeps}
 use Rattle.joint_laws.specs.ManagedInvariants.{IsCutOff, IsReplayKept}
 use Rattle.joint_laws.specs.Mirrors.{MirrorEdge}
 use Rattle.joint_laws.specs.PeerInvariants.{IsTabled, IsIssued, IsSpared, IsPeerKept}
-use Rattle.joint_laws.specs.LinkedInvariants.{HasStrength, IsHeldOne, IsRowOf, AreOwnersKept, IsMirrored, IsClosed, IsContracted, IsWeakening}
+use Rattle.joint_laws.specs.LinkedInvariants.{HasStrength, IsHeldOne, IsRowOf, AreOwnersKept, IsMirrored, LeadsToUnfreed, IsContracted, IsWeakening}
 use Rattle.joint_model.proofs.Members.{Contains-at, at-Contains, Contains-map, Contains-map_cases}
 use Rattle.joint_model.proofs.Numbered.{numbered-within, numbered_set-other}
 use Rattle.joint_model.proofs.Deciding.{none_some}
@@ -177,7 +177,7 @@ abbrev HasLivePeer : ManagedReplay → PeerReplay → ℕ → Type 0
 HasLivePeer r s x = (y : ℕ) → IsRowOf r.managed s.peers.issued x y → IsLive s.peers.heap y
 
 -- while the mirror stands, a candidate whose peer is unfreed leads only to such candidates
-pub mirrored-closed : (r : ManagedReplay) (s : PeerReplay) (c : OpenCycle) → IsReplayKept r → IsPeerKept s → AreOwnersKept r s → r.managed.cycle ≡ Some c → IsMirrored r s c → IsClosed r s c
+pub mirrored-closed : (r : ManagedReplay) (s : PeerReplay) (c : OpenCycle) → IsReplayKept r → IsPeerKept s → AreOwnersKept r s → r.managed.cycle ≡ Some c → IsMirrored r s c → LeadsToUnfreed r s c
 mirrored-closed r s c k pk o e m a b p q ca cb walk ra rb live = last (Reaches-keeps (MirrorEdge m.comps m.xrefs) (HasLivePeer r s) step a b path (first ra live))
   where
     cut : IsCutOff r.managed c

@@ -14,7 +14,7 @@ use Rattle.joint_model.specs.Peers.{Issued, strong, weak, peer_of}
 use Rattle.joint_model.specs.PeerReplay.{PeerReplay, TableRow, Marking, row_of, table_target}
 use Rattle.joint_model.proofs.Deciding.{none_some}
 use Rattle.joint_laws.specs.PeerInvariants.{IsIssued, IsPeerKept}
-use Rattle.joint_laws.specs.LinkedInvariants.{HasStrength, IsHeldOne, IsRowOf, AreOwnersKept, doing_in, HasInHand, HasPeer, HasMadePair, IsVirgin, AreCallersKept, ForCandidates, IsMirrored, IsWeakenedBy, IsRestoredBy, IsClosed, IsBeforeMirror, IsDriverKept}
+use Rattle.joint_laws.specs.LinkedInvariants.{HasStrength, IsHeldOne, IsRowOf, AreOwnersKept, doing_in, HasInHand, HasPeer, HasMadePair, IsVirgin, AreCallersKept, ForCandidates, IsMirrored, IsWeakenedBy, IsRestoredBy, LeadsToUnfreed, IsBeforeMirror, IsDriverKept}
 use Rattle.joint_laws.proofs.Fields.{IsLive-more, fields-past}
 use Rattle.joint_laws.proofs.HandlesAlike.{HandlesAlike, nothing_touched, row_of-on, row_of-back, AreOwnersKept-peer, IsLoose-peer, weakened-peer, restored-peer}
 use Rattle.joint_laws.proofs.PeerQuiet.{IsQuiet}
@@ -26,7 +26,7 @@ StillOwn s t = (mk : Marking) → s.marking ≡ Some mk → mk.by ≡ C → (now
 
 -- no staying candidate comes to lead to one whose peer is freed
 abbrev pub StaysClosed : ManagedReplay → PeerReplay → PeerReplay → Type 0
-StaysClosed r s t = (c : OpenCycle) (answers : List Answer) → length answers ≡ length c.candidates → ForCandidates r.managed c (IsRestoredBy s answers) → IsClosed r s c → IsClosed r t c
+StaysClosed r s t = (c : OpenCycle) (answers : List Answer) → length answers ≡ length c.candidates → ForCandidates r.managed c (IsRestoredBy s answers) → LeadsToUnfreed r s c → LeadsToUnfreed r t c
 
 module _ (touched : ℕ → Type 0) (r : ManagedReplay) (s t : PeerReplay) (a : HandlesAlike touched s t) (owners : AreOwnersKept r s) (unowned : (m h : ℕ) → touched h → Holds r.managed m h → ⊥) where
   candidates_on : (c : OpenCycle) (Q R : ℕ → ℕ → Type 0) → ((l h : ℕ) → (touched h → ⊥) → IsHeldOne s h → Q l h → R l h) → ForCandidates r.managed c Q → ForCandidates r.managed c R

@@ -22,7 +22,7 @@ use Rattle.joint_model.specs.PeerReplay.{PeerReplay, row_of}
 use Rattle.joint_model.specs.Run.{JointEvent, IsComputed, removed_all, on_managed}
 use Rattle.joint_model.specs.Told.{Told, nothing, snap_of, contraction_of, references_of, slice_of, sweep_of, resolution_of, phase_of, Answer}
 use Rattle.joint_model.proofs.HeapLemmas.{adopt_by-managed, adopt_by-reply}
-use Rattle.joint_laws.specs.JointAgreement.{IsOwned, AreFlags, Agrees}
+use Rattle.joint_laws.specs.JointAgreement.{HasHolder, AreFlags, Agrees}
 use Rattle.joint_laws.specs.LinkedInvariants.{AreOwnersKept, doing_in}
 use Rattle.joint_laws.proofs.ManagedMoves.{GoesOn, GoesOn-stay, managed_line-goes_on, adopted-goes_on, met-goes_on, given_up-goes_on}
 use Rattle.joint_laws.proofs.ManagedSteps.{meet_by-managed, meet_by-reply, give_by-managed, give_by-reply, twin-live}
@@ -126,7 +126,7 @@ module _ (s : Linkage) (k : Of s) (flags : List Bool) (jm : Option JointMarking)
   abandon-flags (restoring o answers) n kx w = absurd w
   abandon-flags (restored o answers clear) n kx w = absurd w
 
-  restore-owned : (x : Stand) (h : ℕ) → AreKept r q ds x → MayRestoreNow x r.managed h cites → IsOwned r.managed h
+  restore-owned : (x : Stand) (h : ℕ) → AreKept r q ds x → MayRestoreNow x r.managed h cites → HasHolder r.managed h
   restore-owned (restoring o answers) h kx w = let c = turn r kx.driver.cycle (length answers) h kx.managed kx.driver.opened.cycle w.1 in (c.0, c.2)
   restore-owned idle h kx w = absurd w
   restore-owned (snapped o) h kx w = absurd w

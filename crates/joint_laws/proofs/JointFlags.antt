@@ -12,7 +12,7 @@ use Rattle.joint_model.specs.PeerReplay.{PeerReplay, TableRow, Marking, fresh_ro
 use Rattle.joint_model.specs.Run.{removed_all}
 use Rattle.joint_model.specs.Joint.{JointMarking}
 use Rattle.joint_laws.specs.PeerInvariants.{IsTabled}
-use Rattle.joint_laws.specs.JointAgreement.{IsInTable, IsOwned, AreFlags, IsSameMarking, AreSameMarkings}
+use Rattle.joint_laws.specs.JointAgreement.{IsInTable, HasHolder, AreFlags, IsSameMarking, AreSameMarkings}
 use Rattle.joint_model.proofs.Members.{Contains-nil, Contains-here, Contains-there, Contains-cons_cases}
 use Rattle.joint_model.proofs.Numbered.{numbered_set-length, numbered_set-same, numbered_set-other}
 use Rattle.joint_model.proofs.Deciding.{none_some, true_false}
@@ -20,7 +20,7 @@ use Rattle.joint_laws.proofs.Sparing.{spared-later, later}
 use Rattle.std.proofs.lemmas.List.Elements.{Contains-append_left}
 
 abbrev pub IsHere : Managed → PeerReplay → ℕ → Type 0
-IsHere m s h = IsInTable s h ⊎ IsOwned m h
+IsHere m s h = IsInTable s h ⊎ HasHolder m h
 
 -- a handle is told as removed or not, not both
 pub here-flag : (m : Managed) (s : PeerReplay) (flags : List Bool) (h : ℕ) → AreFlags m s flags → numbered_at flags h ≡ Some true → IsHere m s h → ⊥

@@ -10,7 +10,7 @@ use Rattle.joint_model.specs.Joint.{JointMarking}
 use Rattle.joint_model.specs.Managed.{Managed}
 use Rattle.joint_model.specs.Peers.{strong, weak, peer_of}
 use Rattle.joint_model.specs.PeerReplay.{PeerReplay, TableRow, Mirror, Marking, row_of, is_thread, sliced, mirrored, restored_by, with_weakened, with_restored, brought_handle}
-use Rattle.joint_laws.specs.JointAgreement.{IsOwned, AreFlags, AreSameMarkings, Agrees}
+use Rattle.joint_laws.specs.JointAgreement.{HasHolder, AreFlags, AreSameMarkings, Agrees}
 use Rattle.joint_laws.specs.PeerInvariants.{IsTabled}
 use Rattle.joint_model.proofs.Numbered.{slot-named, numbered_set-other, numbered_set-here, numbered-within}
 use Rattle.joint_model.proofs.Deciding.{none_some}
@@ -85,12 +85,12 @@ module _ (m : Managed) (s : PeerReplay) (flags : List Bool) (jm : Option JointMa
       ])
 
   -- a handle that a row holds leaves the table
-  emptied-flags : (u : PeerReplay) (h : ℕ) → IsOwned m h → u.table ≡ numbered_set s.table h None → length u.peers.issued ≡ length s.peers.issued → AreFlags m u flags
+  emptied-flags : (u : PeerReplay) (h : ℕ) → HasHolder m h → u.table ≡ numbered_set s.table h None → length u.peers.issued ≡ length s.peers.issued → AreFlags m u flags
   emptied-flags u h owned e l = AreFlags-same m m s u flags ag.removed l
       (λ g w. elim w [
         | inr q ↦ inr q
         | inl v ↦ elim (cases_eq g h) [
-          | inl same ↦ inr (subst (IsOwned m) (sym same) owned)
+          | inl same ↦ inr (subst (HasHolder m) (sym same) owned)
           | inr ne ↦ inl (v.0, subst (λ z. IsTabled z g v.0) (sym e) (numbered_set-other s.table h g None ne ∙ v.1))
         ]
       ])
@@ -115,7 +115,7 @@ module _ (m : Managed) (s : PeerReplay) (flags : List Bool) (jm : Option JointMa
   same-brought x None w = w
   same-brought x (Some p) w = AreSameMarkings-brought x jm p w
 
-  restored-row : (h : ℕ) (row : TableRow) (b : Bool) → IsTabled s.table h row → IsOwned m h → Rests m s flags jm m (if b
+  restored-row : (h : ℕ) (row : TableRow) (b : Bool) → IsTabled s.table h row → HasHolder m h → Rests m s flags jm m (if b
       then answer says.Cleared (record s { table = numbered_set s.table h None; mirror = with_restored s.mirror h })
       else answer says.Alive (record s { table = numbered_set s.table h (Some (record row { strength = strong })); mirror = with_restored s.mirror h; marking = brought_handle s.marking (peer_of s.peers.issued h) })).state
   restored-row h row true t owned = record {
@@ -130,6 +130,6 @@ module _ (m : Managed) (s : PeerReplay) (flags : List Bool) (jm : Option JointMa
     };
   }
 
-  pub rests-restored : (h : ℕ) (x : Option TableRow) → row_of s h ≡ x → IsOwned m h → Rests m s flags jm m (restored_by s h x).state
+  pub rests-restored : (h : ℕ) (x : Option TableRow) → row_of s h ≡ x → HasHolder m h → Rests m s flags jm m (restored_by s h x).state
   rests-restored h None e owned = rests-still
   rests-restored h (Some row) e owned = restored-row h row row.cleared (slot-named (numbered_at s.table h) row e) owned

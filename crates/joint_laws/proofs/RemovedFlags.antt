@@ -9,7 +9,7 @@ use Rattle.joint_model.proofs.Deciding.{or-true, or_left, or_right, none_some, s
 use Rattle.joint_model.proofs.HeapLemmas.{Holds-handle_of, is_that_handle-is}
 use Rattle.joint_model.proofs.Joining.{same_by_places}
 use Rattle.joint_model.proofs.Numbered.{numbered-within, numbered-made}
-use Rattle.joint_laws.specs.JointAgreement.{AreFlags, IsOwned}
+use Rattle.joint_laws.specs.JointAgreement.{AreFlags, HasHolder}
 use Rattle.joint_laws.proofs.DriverPeerSteps.{holds-handle_of}
 
 handle-that : (o : Option ℕ) (h : ℕ) → o ≡ Some h → is_that_handle o h ≡ true
@@ -34,12 +34,12 @@ owner-from s h y (o ∷ os) e = elim (or-true (is_that_handle (handle_of s y) h)
 ]
 
 -- the model's test finds an owner exactly where there is one
-pub owner-test : (s : Managed) (h : ℕ) → IsOwned s h → is_owned s h ≡ true
+pub owner-test : (s : Managed) (h : ℕ) → HasHolder s h → is_owned s h ≡ true
 owner-test s h w =
     let within = numbered-within s.held w.0 (Some h) w.1.held in
     owned-from s h w.0 1 s.held (Holds-handle_of s w.0 h w.1) within.0 (omega (arith, within.1))
 
-pub test-owner : (s : Managed) (h : ℕ) → length s.held ≡ length s.heap.fields → is_owned s h ≡ true → IsOwned s h
+pub test-owner : (s : Managed) (h : ℕ) → length s.held ≡ length s.heap.fields → is_owned s h ≡ true → HasHolder s h
 test-owner s h len e = (let r = owner-from s h 1 s.held e in (r.0, holds-handle_of s r.0 h len r.1))
 
 -- whether the handle at a place is removed

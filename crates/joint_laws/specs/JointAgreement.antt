@@ -13,15 +13,15 @@ abbrev pub IsInTable : PeerReplay → ℕ → Type 0
 IsInTable s h = (row : TableRow) × IsTabled s.table h row
 
 -- some row holds the handle
-abbrev pub IsOwned : Managed → ℕ → Type 0
-IsOwned m h = (x : ℕ) × Holds m x h
+abbrev pub HasHolder : Managed → ℕ → Type 0
+HasHolder m h = (x : ℕ) × Holds m x h
 
 -- the flags tell which handles have left the table and are held by no row
 pub record AreFlags (m : Managed) (s : PeerReplay) (flags : List Bool) : Type 0 where
   pub places : length flags ≡ length s.peers.issued
   pub untabled : (h : ℕ) → numbered_at flags h ≡ Some true → IsInTable s h → ⊥
-  pub unowned : (h : ℕ) → numbered_at flags h ≡ Some true → IsOwned m h → ⊥
-  pub there : (h : ℕ) → numbered_at flags h ≡ Some false → IsInTable s h ⊎ IsOwned m h
+  pub unowned : (h : ℕ) → numbered_at flags h ≡ Some true → HasHolder m h → ⊥
+  pub there : (h : ℕ) → numbered_at flags h ≡ Some false → IsInTable s h ⊎ HasHolder m h
 
 -- the joint marking is the peer side's: what was reached at its begin is spared
 pub record IsSameMarking (mk : Marking) (j : JointMarking) : Type 0 where

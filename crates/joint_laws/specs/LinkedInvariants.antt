@@ -124,8 +124,8 @@ abbrev pub IsRestoredBy : PeerReplay → List Answer → ℕ → ℕ → Type 0
 IsRestoredBy s answers l h = (IsKeptAt answers l × HasStrength s h strong) ⊎ ((slice_get answers l ≡ Some said_cleared) × IsGone s h) ⊎ ((length answers ≤ l) × HasStrength s h weak)
 
 -- a candidate whose peer is unfreed leads only to candidates whose peers are unfreed
-abbrev pub IsClosed : ManagedReplay → PeerReplay → OpenCycle → Type 0
-IsClosed r s c = (a b p q : ℕ) → Contains c.candidates a → Contains c.candidates b → Reaches (ManagedEdge r.managed) a b
+abbrev pub LeadsToUnfreed : ManagedReplay → PeerReplay → OpenCycle → Type 0
+LeadsToUnfreed r s c = (a b p q : ℕ) → Contains c.candidates a → Contains c.candidates b → Reaches (ManagedEdge r.managed) a b
     → IsRowOf r.managed s.peers.issued a p → IsRowOf r.managed s.peers.issued b q → IsLive s.peers.heap p → IsLive s.peers.heap q
 
 -- how far the driver has come, and what is so then
@@ -170,7 +170,7 @@ pub record IsRestored (r : ManagedReplay) (s : PeerReplay) (o : OpenSnap) (answe
   pub none : s.mirror ≡ None
   pub all : length answers ≡ length cycle.candidates
   pub handles : ForCandidates r.managed cycle (IsRestoredBy s answers)
-  pub closed : IsClosed r s cycle
+  pub closed : LeadsToUnfreed r s cycle
 
 abbrev pub IsDriverKept : ManagedReplay → PeerReplay → Stand → Type 0
 IsDriverKept r s idle = IsIdle r s

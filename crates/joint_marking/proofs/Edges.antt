@@ -12,7 +12,7 @@ use Rattle.joint_model.specs.Heaps.{Heap, IsLive, fields_of, slot}
 use Rattle.joint_model.specs.Joint.{Graph, IsJoined}
 use Rattle.joint_model.proofs.Members.{last-or, take-next}
 use Rattle.joint_model.proofs.Deciding.{none_some, some-same}
-use Rattle.joint_marking.specs.Nodes.{AddsEdges, AreWithin, HasNone, IsPair, IsRound, FieldEdge, ObjectField, ObjectEdge, objects_in, targets_at}
+use Rattle.joint_marking.specs.Nodes.{AddsEdges, LeadToNodes, HasNone, IsPair, IsRound, FieldEdge, ObjectField, ObjectEdge, objects_in, targets_at}
 use Rattle.joint_model.proofs.Numbered.{slot-at}
 
 -- what a row has after a write to a row: the written one has what was written, and each other what it had
@@ -65,7 +65,7 @@ row-read f vs k r l e =
 pub write-one : {A : Type 0} (f : A → List ℕ) (vs : List A) (k j : ℕ) (r t : A) → k < length vs → r ≡ get_or vs k r → f t ≡ f r ++ j ∷ [] → AddsEdges (IsPair k j) (map f vs) (map f (set vs k t))
 write-one f vs k j r t l e p = rw (map-set f vs k t, p) (AddsEdges-one (map f vs) k j (f r) (omega (arith, l, length-map vs f)) (row-read f vs k r l e))
 
-pub write-same : {A : Type 0} (f : A → List ℕ) (vs : List A) (k : ℕ) (r t : A) → k < length vs → r ≡ get_or vs k r → f t ≡ f r → AreWithin (map f vs) → AreWithin (map f (set vs k t))
+pub write-same : {A : Type 0} (f : A → List ℕ) (vs : List A) (k : ℕ) (r t : A) → k < length vs → r ≡ get_or vs k r → f t ≡ f r → LeadToNodes (map f vs) → LeadToNodes (map f (set vs k t))
 write-same f vs k r t l e p w i j c =
     let same : map f (set vs k t) ≡ set (map f vs) k (f r) = map-set f vs k t ∙ ap (set (map f vs) k) p in
     let len : length (map f (set vs k t)) ≡ length (map f vs) = ap length same ∙ length-set (map f vs) k (f r) in
@@ -103,7 +103,7 @@ pub AddsEdges-round : (x y : ℕ) (a b c : List (List ℕ)) → AddsEdges (IsPai
 AddsEdges-round x y a b c = AddsEdges-then (IsPair x y) (IsPair y x) (IsRound x y) a b c (λ k j e. e) (λ k j e. inl e) (λ k j e. inr e)
 
 -- nodes lead to nodes still, once an edge to a node is added
-pub AreWithin-one : (x y : ℕ) (a b : List (List ℕ)) → y < length a → AreWithin a → AddsEdges (IsPair x y) a b → AreWithin b
+pub AreWithin-one : (x y : ℕ) (a b : List (List ℕ)) → y < length a → LeadToNodes a → AddsEdges (IsPair x y) a b → LeadToNodes b
 AreWithin-one x y a b l w d k j c = elim ((d.exact k j).0 c) [ inl h ↦ omega (arith, w k j h, d.len) | inr h ↦ omega (arith, h.1, l, d.len) ]
 
 -- one node more that leads nowhere
@@ -119,7 +119,7 @@ HasNone-push n rows h = record { len = omega (arith, h.len, length-append rows (
 pub HasNone-pushed : {A : Type 0} (f : A → List ℕ) (vs ws : List A) (v : A) (n : ℕ) → HasNone n (map f vs) → ws ≡ vs ++ v ∷ [] → f v ≡ [] → HasNone (n + 1) (map f ws)
 HasNone-pushed f vs ws v n h p e = rw (p, map-append f vs (v ∷ []), e) (HasNone-push n (map f vs) h)
 
-pub HasNone-within : (n : ℕ) (rows : List (List ℕ)) → HasNone n rows → AreWithin rows
+pub HasNone-within : (n : ℕ) (rows : List (List ℕ)) → HasNone n rows → LeadToNodes rows
 HasNone-within n rows h k j c = absurd (h.none k j c)
 
 -- the edges of the places below i of a list of fields, with live targets

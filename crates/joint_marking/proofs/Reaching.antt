@@ -13,7 +13,7 @@ use Rattle.joint_model.specs.Joint.{Graph, Row, object, peer, JointEdge, IsJoint
 use Rattle.joint_model.specs.Walks.{Reached}
 use Rattle.joint_model.proofs.WalkLemmas.{Reached-keeps, Reached-start, Reached-then}
 use Rattle.joint_model.proofs.Members.{Contains-map, Contains-map_cases, All-members}
-use Rattle.reachability.specs.Marks.{Leads, IsMarked}
+use Rattle.reachability.specs.Marks.{Leads, HasMark}
 use Rattle.joint_marking.specs.Gathered.{RisesWith}
 use Rattle.joint_marking.specs.Nodes.{AddsEdges, AreLive, HasEdges, HasNone, EdgesOfObjects, EdgesOfPeers, ObjectEdge, IsLiveRow, IsLiveRoot, IsRootNode, IsUnmarkedPeer, node_count, node_of, objects_in, targets_at}
 
@@ -154,7 +154,7 @@ reached-node g rows roots h s = Reached-keeps (IsJointRoot g) (JointEdge g) (λ 
     (omega (arith, node-within g r (edge-from g r t e), h.len), Contains-map Some (targets_at rows (node_of g r)) (node_of g t) ((h.exact (node_of g r) (node_of g t)).1 (nodes-of g r t e))))
 
 -- so the live peers whose nodes aren't marked are those that no joint root reaches
-pub AreUnreached-from : (g : Graph) (rows : List (List ℕ)) (roots : List ℕ) (marks : List Bool) (ps : List ℕ) → HasEdges g rows → ((k : ℕ) → Contains roots k ↔ IsRootNode g k) → ((k : ℕ) → IsMarked marks k ↔ Reached (Contains roots) (NodeLeads rows) k)
+pub AreUnreached-from : (g : Graph) (rows : List (List ℕ)) (roots : List ℕ) (marks : List Bool) (ps : List ℕ) → HasEdges g rows → ((k : ℕ) → Contains roots k ↔ IsRootNode g k) → ((k : ℕ) → HasMark marks k ↔ Reached (Contains roots) (NodeLeads rows) k)
     → RisesWith (IsUnmarkedPeer g marks) ps → AreUnreached g ps
 AreUnreached-from g rows roots marks ps h s m f = record {
   rise = f.rises;
@@ -170,7 +170,7 @@ mark-cases None = inr (λ e. cc)
 mark-cases (Some true) = inl refl
 mark-cases (Some false) = inr (λ e. cc)
 
-pub listed-or-reached : (g : Graph) (rows : List (List ℕ)) (roots : List ℕ) (marks : List Bool) (ps : List ℕ) → HasEdges g rows → ((k : ℕ) → Contains roots k ↔ IsRootNode g k) → ((k : ℕ) → IsMarked marks k ↔ Reached (Contains roots) (NodeLeads rows) k)
+pub listed-or-reached : (g : Graph) (rows : List (List ℕ)) (roots : List ℕ) (marks : List Bool) (ps : List ℕ) → HasEdges g rows → ((k : ℕ) → Contains roots k ↔ IsRootNode g k) → ((k : ℕ) → HasMark marks k ↔ Reached (Contains roots) (NodeLeads rows) k)
     → RisesWith (IsUnmarkedPeer g marks) ps → (p : ℕ) → IsLive g.peers.heap p → Contains ps p ⊎ IsReachedIn g (peer p)
 listed-or-reached g rows roots marks ps h s m f p v = elim (mark-cases (slice_get marks (objects_in g + p))) [
   | inl k ↦ inr (reached-row g rows roots h s (peer p) v ((m (objects_in g + p)).0 k))

@@ -4,7 +4,7 @@ use Rattle.std.specs.Prelude.{◌≡◌, ℕ, ◌+◌, ◌<◌, ◌↔◌, ◌�
 use Rattle.joint_model.specs.declared.names.PNum.{PNum}
 use Rattle.joint_model.specs.Heaps.{Heap, IsLive, HasField}
 use Rattle.joint_model.specs.Joint.{Graph, Row, object, peer, IsJoined, IsJointRoot}
-use Rattle.reachability.specs.Marks.{IsMarked}
+use Rattle.reachability.specs.Marks.{HasMark}
 
 -- how many managed objects were made
 abbrev pub objects_in : Graph → ℕ
@@ -43,8 +43,8 @@ abbrev pub targets_at : List (List ℕ) → ℕ → List ℕ
 targets_at rows k = elim (slice_get rows k) [ None ↦ [] | Some js ↦ js ]
 
 -- each node leads to nodes
-abbrev pub AreWithin : List (List ℕ) → Type 0
-AreWithin rows = (k j : ℕ) → Contains (targets_at rows k) j → j < length rows
+abbrev pub LeadToNodes : List (List ℕ) → Type 0
+LeadToNodes rows = (k j : ℕ) → Contains (targets_at rows k) j → j < length rows
 
 -- there are so many nodes, and none leads anywhere
 pub record HasNone (count : ℕ) (rows : List (List ℕ)) : Type 0 where
@@ -103,4 +103,4 @@ pub record HasEdges (g : Graph) (rows : List (List ℕ)) : Type 0 where
 
 -- the peer is live and its node isn't marked
 abbrev pub IsUnmarkedPeer : Graph → List Bool → ℕ → Type 0
-IsUnmarkedPeer g marks p = IsLive g.peers.heap p × (IsMarked marks (objects_in g + p) → ⊥)
+IsUnmarkedPeer g marks p = IsLive g.peers.heap p × (HasMark marks (objects_in g + p) → ⊥)

@@ -18,13 +18,13 @@ pub(crate) struct NodeRows {
 
 impl Model for NodeRows {
     ghost use Rattle.std.specs.Prelude.{ℕ, List, map};
-    ghost use Rattle.joint_marking.specs.Nodes.{AreWithin};
+    ghost use Rattle.joint_marking.specs.Nodes.{LeadToNodes};
 
     ghost Value = { List (List ℕ) };
 
     ghost view = { λ s. map (λ r. r.items) s.rows.items };
 
-    ghost invariant = { λ s. AreWithin (map (λ r. r.items) s.rows.items) };
+    ghost invariant = { λ s. LeadToNodes (map (λ r. r.items) s.rows.items) };
 }
 
 impl NodeRows {

@@ -14,11 +14,11 @@ use Rattle.joint_model.proofs.Deciding.{true-false, false-from}
 use Rattle.heap_rules.specs.Tidy.{live_fields}
 use Rattle.heap_rules.proofs.Sound.{IsLive-as}
 use Rattle.heap_rules.proofs.Targets.{live_fields-live, live_fields-held}
-use Rattle.reachability.specs.Marks.{Leads, IsMarked, marked}
+use Rattle.reachability.specs.Marks.{Leads, HasMark, marked}
 use Rattle.joint_replay.specs.Found.{IsUnreachedRow, IsCandidateRow}
 use Rattle.joint_replay.specs.Plain.{cleaned, kept_target, is_live}
 use Rattle.joint_marking.specs.Gathered.{Gains}
-use Rattle.joint_replay.specs.Roots.{IsNamedLive, IsRoot, ListsExactly}
+use Rattle.joint_replay.specs.Roots.{IsNamedLive, IsNamedOrPinned, ListsExactly}
 use Rattle.joint_replay.specs.Found.{IsRootReached, IsHandleReached}
 use Rattle.joint_replay.specs.Finding.{FindsRows}
 use Rattle.joint_replay.proofs.Flags.{is_live-exact}
@@ -71,7 +71,7 @@ HasField-open h x y = (
 )
 
 -- a marking from some roots marks what they reach
-pub marks-open : (h : Heap) (P : ℕ → Type 0) (roots : List ℕ) (marks : List Bool) → ((x : ℕ) → Contains roots x ↔ P x) → ((k : ℕ) → IsMarked marks k ↔ Reached (Contains roots) (Leads (length h.fields + 1) (live_fields (cleaned h))) k) → (k : ℕ) → IsMarked marks k ↔ Reached P (HasField h) k
+pub marks-open : (h : Heap) (P : ℕ → Type 0) (roots : List ℕ) (marks : List Bool) → ((x : ℕ) → Contains roots x ↔ P x) → ((k : ℕ) → HasMark marks k ↔ Reached (Contains roots) (Leads (length h.fields + 1) (live_fields (cleaned h))) k) → (k : ℕ) → HasMark marks k ↔ Reached P (HasField h) k
 marks-open h P roots marks r m k = (
   λ i. Reached-mono (Contains roots) P (Leads (length h.fields + 1) (live_fields (cleaned h))) (HasField h) (λ x c. (r x).0 c) (λ x y e. (HasField-open h x y).1 e) k ((m k).0 i),
   λ i. (m k).1 (Reached-mono P (Contains roots) (HasField h) (Leads (length h.fields + 1) (live_fields (cleaned h))) (λ x p. (r x).1 p) (λ x y e. (HasField-open h x y).0 e) k i),
@@ -87,19 +87,19 @@ live-reached h P k l = (
 )
 
 -- an unmarked row isn't reached, and the other way round
-apart : (R : Type 0) (marks : List Bool) (m : ℕ) → IsMarked marks m ↔ R → (marked marks m ≡ false) ↔ (R → ⊥)
+apart : (R : Type 0) (marks : List Bool) (m : ℕ) → HasMark marks m ↔ R → (marked marks m ≡ false) ↔ (R → ⊥)
 apart R marks m e = (
   λ f r. true-false (marked marks m) (test-IsMarked marks m (e.1 r)) f,
   λ n. false-from (marked marks m) (λ t. n (e.0 (IsMarked-test marks m t))),
 )
 
-decided : (R : Type 0) (marks : List Bool) (m : ℕ) (b : Bool) → marked marks m ≡ b → IsMarked marks m ↔ R → R ⊎ (R → ⊥)
+decided : (R : Type 0) (marks : List Bool) (m : ℕ) (b : Bool) → marked marks m ≡ b → HasMark marks m ↔ R → R ⊎ (R → ⊥)
 decided R marks m true e r = inl (r.0 (IsMarked-test marks m e))
 decided R marks m false e r = inr ((apart R marks m r).0 e)
 
 -- the lists by their marks
 pub FindsRows-from : (h : Heap) (held pins : List (Option ℕ)) (slots bridges : List Bool) (freed candidates dead : List ℕ)
-    → ((k : ℕ) → IsLive h k → IsMarked slots k ↔ IsRootReached h pins k) → ((k : ℕ) → IsMarked bridges k ↔ IsHandleReached h held k)
+    → ((k : ℕ) → IsLive h k → HasMark slots k ↔ IsRootReached h pins k) → ((k : ℕ) → HasMark bridges k ↔ IsHandleReached h held k)
     → ListsExactly (IsUnreachedRow h slots bridges false) freed → ListsExactly (IsUnreachedRow h slots bridges true) dead → ListsExactly (IsCandidateRow h held slots) candidates
     → FindsRows h held pins freed candidates dead
 FindsRows-from h held pins slots bridges freed candidates dead s b f d c =
@@ -172,7 +172,7 @@ named-both h none first both e v s x = (
 )
 
 -- the slots and the pins were read
-pub pinned-both : (h : Heap) (pins : List (Option ℕ)) (named all : List ℕ) → ((x : ℕ) → Contains named x ↔ (IsLive h x × InSlot h x)) → Gains (IsNamedLive h pins) named all → (x : ℕ) → Contains all x ↔ (IsLive h x × IsRoot h pins x)
+pub pinned-both : (h : Heap) (pins : List (Option ℕ)) (named all : List ℕ) → ((x : ℕ) → Contains named x ↔ (IsLive h x × InSlot h x)) → Gains (IsNamedLive h pins) named all → (x : ℕ) → Contains all x ↔ (IsLive h x × IsNamedOrPinned h pins x)
 pinned-both h pins named all n g x = (
   λ c. elim ((g x).0 c) [ inl w ↦ (let u = (n x).0 w in (u.0, inl u.1)) | inr w ↦ (w.0, inr w.1) ],
   λ w. elim w.1 [ inl a ↦ (g x).1 (inl ((n x).1 (w.0, a))) | inr a ↦ (g x).1 (inr (w.0, a)) ],

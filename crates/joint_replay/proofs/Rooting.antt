@@ -12,18 +12,18 @@ use Rattle.joint_model.specs.Managed.{Managed, IsManagedRoot}
 use Rattle.joint_model.specs.Peers.{Peers}
 use Rattle.joint_model.proofs.Members.{Contains-map, All-members, take-next}
 use Rattle.joint_model.proofs.Numbered.{numbered-within}
-use Rattle.reachability.specs.Marks.{IsMarked}
+use Rattle.reachability.specs.Marks.{HasMark}
 use Rattle.reachability.proofs.Marking.{set-marked, set-keeps, set-fresh}
 use Rattle.joint_marking.specs.Gathered.{Gains}
 use Rattle.joint_marking.specs.Nodes.{IsLiveRoot}
 use Rattle.joint_marking.specs.Owned.{IsOwned}
 use Rattle.joint_replay.specs.Graphs.{clean_graph, parts_graph, IsRootedIn}
-use Rattle.joint_replay.specs.Roots.{IsRoot}
+use Rattle.joint_replay.specs.Roots.{IsNamedOrPinned}
 use Rattle.joint_replay.proofs.Cleaning.{live_root-clean, reached-clean}
 use Rattle.joint_replay.proofs.Finding.{live-cleaned, cleaned-live}
 
 -- the managed roots, in another list of the same numbers
-pub numbered-roots : (s : Managed) (xs ys : List ℕ) → ys ≡ xs → ((x : ℕ) → Contains xs x ↔ (IsLive s.heap x × IsRoot s.heap s.pins x)) → (x : ℕ) → Contains ys x ↔ (IsLive s.heap x × IsManagedRoot s x)
+pub numbered-roots : (s : Managed) (xs ys : List ℕ) → ys ≡ xs → ((x : ℕ) → Contains xs x ↔ (IsLive s.heap x × IsNamedOrPinned s.heap s.pins x)) → (x : ℕ) → Contains ys x ↔ (IsLive s.heap x × IsManagedRoot s x)
 numbered-roots s xs ys same named x = rw same (named x)
 
 -- the objects among them
@@ -35,7 +35,7 @@ object-roots g xs named x = (
 
 -- the peers of the handles that are roots by themselves are exactly the live peers of raw strong and of loose handles
 handle-root : (s : Managed) (p : Peers) (removed owned : List Bool)
-    → ((h : ℕ) → IsMarked owned h ↔ IsOwned s (length p.issued + 1) h)
+    → ((h : ℕ) → HasMark owned h ↔ IsOwned s (length p.issued + 1) h)
     → (k : ℕ) → IsRootedIn p removed owned k ↔ (IsLive p.heap k × (IsRawRoot (parts_graph s p removed) k ⊎ IsLooseRoot (parts_graph s p removed) k))
 handle-root s p removed owned exact k = (
   λ w.
@@ -72,7 +72,7 @@ handle-root s p removed owned exact k = (
 
 -- the peers among them
 pub peer-roots : (s : Managed) (p : Peers) (removed owned : List Bool) (named roots : List ℕ)
-    → ((h : ℕ) → IsMarked owned h ↔ IsOwned s (length p.issued + 1) h)
+    → ((h : ℕ) → HasMark owned h ↔ IsOwned s (length p.issued + 1) h)
     → ((x : ℕ) → Contains named x ↔ (IsLive p.heap x × InSlot p.heap x))
     → Gains (IsRootedIn p removed owned) named roots
     → (k : ℕ) → Contains roots k ↔ IsLiveRoot (clean_graph (parts_graph s p removed)) (peer k)
@@ -101,7 +101,7 @@ pub dead-within : (g : Graph) (dead : List PNum) (made : ℕ) → made ≡ lengt
 dead-within g dead made same u = All-members (λ (p : PNum). p.0 ≤ made) dead (λ p c. (let w = (dead-clean g (peer_numbers dead) u p.0).0 (Contains-map (λ (q : PNum). q.0) dead p c) in omega (arith, same, w.0.made.1)))
 
 -- one peer more is marked
-pub mark-more : (marks : List Bool) (dead : List PNum) (i : ℕ) (p : PNum) → slice_get dead i ≡ Some p → p.0 < length marks → ((k : ℕ) → IsMarked marks k ↔ Contains (peer_numbers (take i dead)) k) → (k : ℕ) → IsMarked (set marks p.0 true) k ↔ Contains (peer_numbers (take (i + 1) dead)) k
+pub mark-more : (marks : List Bool) (dead : List PNum) (i : ℕ) (p : PNum) → slice_get dead i ≡ Some p → p.0 < length marks → ((k : ℕ) → HasMark marks k ↔ Contains (peer_numbers (take i dead)) k) → (k : ℕ) → HasMark (set marks p.0 true) k ↔ Contains (peer_numbers (take (i + 1) dead)) k
 mark-more marks dead i p at l before k =
     let more : peer_numbers (take (i + 1) dead) ≡ peer_numbers (take i dead) ++ p.0 ∷ [] = ap peer_numbers (take-next dead i p at) ∙ map-append (λ (q : PNum). q.0) (take i dead) (p ∷ []) in
     rw more (
@@ -111,6 +111,6 @@ mark-more marks dead i p at l before k =
       ],
       λ c. elim (Contains-push_cases (peer_numbers (take i dead)) p.0 k c) [
         | inl o ↦ set-keeps marks p.0 k ((before k).1 o)
-        | inr e ↦ subst (IsMarked (set marks p.0 true)) e (set-marked marks p.0 l)
+        | inr e ↦ subst (HasMark (set marks p.0 true)) e (set-marked marks p.0 l)
       ],
     )

@@ -20,7 +20,7 @@ use Rattle.joint_model.proofs.Deciding.{true-false, not-from, some-same}
 use Rattle.joint_model.proofs.HeapLemmas.{Holds-handle_of}
 use Rattle.joint_replay.proofs.Snapshots.{handle-reached, bridge-row, row-bridge}
 use Rattle.heap_rules.specs.Tidy.{live_fields}
-use Rattle.reachability.specs.Marks.{Leads, IsMarked, unmarked_of}
+use Rattle.reachability.specs.Marks.{Leads, HasMark, unmarked_of}
 use Rattle.joint_replay.specs.Judging.{named_objects}
 use Rattle.joint_replay.specs.Found.{IsHandleReached}
 use Rattle.joint_replay.specs.Finding.{FindsRows}
@@ -142,7 +142,7 @@ kept-exact j c kept e made m = (
 -- what a resolution frees, by the marks of a marking from the kept candidates
 pub settles-from : (j : Joint) (k : ℕ) (c : OpenCycle) (kept freed : List ℕ) (marks : List Bool) → IsOpen j.graph.managed k c → OwesDead (length j.graph.managed.heap.fields) (Some c)
     → kept ≡ filter (keeps j.graph.managed j.graph.peers) c.candidates
-    → ((i : ℕ) → IsMarked marks i ↔ Reached (Contains kept) (Leads (length j.graph.managed.heap.fields + 1) (live_fields (cleaned j.graph.managed.heap))) i)
+    → ((i : ℕ) → HasMark marks i ↔ Reached (Contains kept) (Leads (length j.graph.managed.heap.fields + 1) (live_fields (cleaned j.graph.managed.heap))) i)
     → freed ≡ unmarked_of marks c.dead → Settles j k freed
 settles-from j k c kept freed marks o owes e m f =
     let h = j.graph.managed.heap in

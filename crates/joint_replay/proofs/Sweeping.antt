@@ -16,10 +16,10 @@ use Rattle.joint_model.specs.Peers.{Peers}
 use Rattle.joint_model.specs.Told.{sweep_of}
 use Rattle.joint_model.proofs.Members.{All-members}
 use Rattle.joint_model.proofs.Deciding.{some-same}
-use Rattle.reachability.specs.Marks.{IsMarked}
+use Rattle.reachability.specs.Marks.{HasMark}
 use Rattle.joint_replay.specs.declared.state.Verdict.{Verdict}
 use Rattle.joint_replay.specs.Judging.{Decides, named_peers}
-use Rattle.joint_replay.specs.Snaps.{MayEnd, SweepsJoint, MaySweep, SaysSwept}
+use Rattle.joint_replay.specs.Snaps.{MayEndOpen, SweepsJoint, MaySweep, SaysSwept}
 use Rattle.joint_replay.specs.Graphs.{KeepsStored}
 use Rattle.joint_replay.proofs.Snapping.{span-is}
 use Rattle.joint_replay.proofs.Verdicts.{Decides-as}
@@ -28,7 +28,7 @@ use Rattle.joint_replay.proofs.Verdicts.{Decides-as}
 unrefused : (t : Thread) (m : JointMarking) → (t ≡ C) ⊎ (t ≡ m.by) → IsPeerThread t → (t ≡ m.by → ⊥) → ⊥
 unrefused t m allowed thread other = elim allowed [ inl c ↦ subst IsPeerThread c thread | inr b ↦ other b ]
 
-ends-from : (j : Joint) (t : Thread) (reply : Reply) (freed : List ℕ) (n : Joint) (mk : Option JointMarking) → j.marking ≡ mk → MayEnd j t → JointSweep j mk t reply (sweep_of freed) n → SweepsJoint j t freed reply n
+ends-from : (j : Joint) (t : Thread) (reply : Reply) (freed : List ℕ) (n : Joint) (mk : Option JointMarking) → j.marking ≡ mk → MayEndOpen j t → JointSweep j mk t reply (sweep_of freed) n → SweepsJoint j t freed reply n
 ends-from j t reply freed n None none may s = (let f : Some may.marking ≡ None = sym may.opened ∙ none in cc)
 ends-from j t reply freed n (Some m) is_open may s =
     let same : may.marking ≡ m = some-same may.marking m (sym may.opened ∙ is_open) in
@@ -38,7 +38,7 @@ ends-from j t reply freed n (Some m) is_open may s =
     ]
 
 -- the caller may end the open marking
-pub sweep-ends : (j : Joint) (t : Thread) (reply : Reply) (freed : List ℕ) (d : Verdict) (new : Joint) → MayEnd j t → Decides (SweepsJoint j t freed reply) d j new → Decides (JointSweep j j.marking t reply (sweep_of freed)) d j new
+pub sweep-ends : (j : Joint) (t : Thread) (reply : Reply) (freed : List ℕ) (d : Verdict) (new : Joint) → MayEndOpen j t → Decides (SweepsJoint j t freed reply) d j new → Decides (JointSweep j j.marking t reply (sweep_of freed)) d j new
 sweep-ends j t reply freed d new may = Decides-as (SweepsJoint j t freed reply) (JointSweep j j.marking t reply (sweep_of freed))
     (λ n s. subst (λ (mk : Option JointMarking). JointSweep j mk t reply (sweep_of freed) n) (sym s.opened) (inl s.sweep))
     (λ n s. ends-from j t reply freed n j.marking refl may s)
@@ -60,21 +60,21 @@ pub stored-live : (p : Peers) (mk : Option JointMarking) (m : JointMarking) → 
 stored-live p mk m is_open keeps = subst (KeepsStored p) is_open keeps
 
 pub sweep-dead : (j : Joint) (m : JointMarking) (freed : List ℕ) (reply : Reply) (dead : List Bool) → j.marking ≡ Some m → KeepsStored j.graph.peers j.marking
-    → ((p : ℕ) → IsMarked dead p ↔ (IsLive j.graph.peers.heap p × (IsReached j (peer p) → ⊥))) → MaySweep j freed reply → All (IsMarked dead) freed
-sweep-dead j m freed reply dead is_open keeps exact w = All-members (IsMarked dead) freed (λ p c. (exact p).1 (
+    → ((p : ℕ) → HasMark dead p ↔ (IsLive j.graph.peers.heap p × (IsReached j (peer p) → ⊥))) → MaySweep j freed reply → All (HasMark dead) freed
+sweep-dead j m freed reply dead is_open keeps exact w = All-members (HasMark dead) freed (λ p c. (exact p).1 (
   stored-live j.graph.peers j.marking m is_open keeps p (All-contains (IsStored m) freed p (sweep-stored j m freed reply is_open w) c),
   All-contains (λ q. IsReached j (peer q) → ⊥) freed p w.unreached c,
 ))
 
 -- what the tests of a sweep say together
 pub may-sweep : (j : Joint) (m : JointMarking) (h : Finished) (reply : Reply) (freed : List ℕ) (dead : List Bool) → j.marking ≡ Some m → freed ≡ named_peers h reply → SaysSwept j.graph.peers.heap h reply m.number
-    → Rises freed → All (IsStored m) freed → All (IsMarked dead) freed → ((p : ℕ) → IsMarked dead p ↔ (IsLive j.graph.peers.heap p × (IsReached j (peer p) → ⊥))) → MaySweep j freed reply
+    → Rises freed → All (IsStored m) freed → All (HasMark dead) freed → ((p : ℕ) → HasMark dead p ↔ (IsLive j.graph.peers.heap p × (IsReached j (peer p) → ⊥))) → MaySweep j freed reply
 may-sweep j m h reply freed dead is_open named said rise stored marked exact = record {
   marking = m;
   opened = is_open;
   rise = rise;
   stored = stored;
-  unreached = All-members (λ p. IsReached j (peer p) → ⊥) freed (λ p c. ((exact p).0 (All-contains (IsMarked dead) freed p marked c)).1);
+  unreached = All-members (λ p. IsReached j (peer p) → ⊥) freed (λ p c. ((exact p).0 (All-contains (HasMark dead) freed p marked c)).1);
   replies = sweep-said j.graph.peers.heap h reply m.number said ∙ ap (λ (l : List ℕ). says.Swept record { 0 = m.number } record { first = length j.graph.peers.heap.freed; count = length l }) (sym named);
 }
 

@@ -25,7 +25,7 @@ use Rattle.joint_model.specs.Run.{JointEvent, JointComputed, JointAbandon, Joint
 use Rattle.joint_model.specs.Told.{Told, nothing, snap_of, contraction_of, references_of, begin_of, slice_of, sweep_of, resolution_of, phase_of}
 use Rattle.joint_replay.specs.declared.state.Verdict.{Verdict}
 use Rattle.joint_replay.specs.declared.state.Verdict.TheVariants.{Lawful, Unlawful}
-use Rattle.joint_replay.specs.Judging.{Decides, Judges, MayStep, IsTold, Gives, named_objects, named_peers}
+use Rattle.joint_replay.specs.Judging.{Decides, Judges, IsStepOf, IsTold, Gives, named_objects, named_peers}
 use Rattle.joint_replay.specs.Snaps.{SnapsJoint}
 
 -- steps of another kind that are the same
@@ -43,7 +43,7 @@ pub record Told_step (h : Finished) (e : Entry) (j next : Joint) (o : Op) : Type
 pub judged : (h : Finished) (e : Entry) (j : Joint) (o : Op) (step : Joint → Type 0) → e.made.op ≡ o → IsEvent e.made.caller e.made.op
     → ((next : Joint) → Told_step h e j next o → step next) → ((next : Joint) → step next → Told_step h e j next o)
     → (v : Verdict) (new : Joint) → Decides step v j new → Judges h e v j new
-judged h e j o step same event from to v new = Decides-as step (MayStep h e j)
+judged h e j o step same event from to v new = Decides-as step (IsStepOf h e j)
     (λ n s. (let w = to n s in record { told = w.told; named = w.named; step = record { event = event; step = subst (λ x. JointEvent j e.made.caller x e.made.reply w.told n) (sym same) w.step } }))
     (λ n s. from n (record { told = s.told; named = s.named; step = subst (λ x. JointEvent j e.made.caller x e.made.reply s.told n) same s.step.step }))
     v j new

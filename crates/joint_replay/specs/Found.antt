@@ -4,7 +4,7 @@
 use Rattle.std.specs.Prelude.{◌≡◌, ℕ, Bool, true, false, List, Option, None, Some, is_some}
 use Rattle.joint_model.specs.Heaps.{Heap, IsLive, HasField, numbered_at}
 use Rattle.joint_model.specs.Walks.{Reached}
-use Rattle.joint_replay.specs.Roots.{IsRoot}
+use Rattle.joint_replay.specs.Roots.{IsNamedOrPinned}
 use Rattle.reachability.specs.Marks.{marked}
 
 -- the handle at the row's place of a list of held handles
@@ -29,7 +29,7 @@ IsCandidateRow h held slots m = IsLive h m × (has_handle held m ≡ true) × (m
 
 -- a variable, a static or a pin reaches the row
 abbrev pub IsRootReached : Heap → List (Option ℕ) → ℕ → Type 0
-IsRootReached h pins m = Reached (IsRoot h pins) (HasField h) m
+IsRootReached h pins m = Reached (IsNamedOrPinned h pins) (HasField h) m
 
 -- a row that holds a handle reaches the row
 abbrev pub IsHandleReached : Heap → List (Option ℕ) → ℕ → Type 0

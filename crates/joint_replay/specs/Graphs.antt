@@ -6,7 +6,7 @@ use Rattle.joint_model.specs.Joint.{Graph, JointMarking}
 use Rattle.joint_model.specs.Managed.{Managed}
 use Rattle.joint_model.specs.Peers.{Peers, Issued, held, raw, strong}
 use Rattle.joint_model.specs.Run.{IsStored}
-use Rattle.reachability.specs.Marks.{IsMarked}
+use Rattle.reachability.specs.Marks.{HasMark}
 use Rattle.joint_replay.specs.Plain.{cleaned}
 
 -- the graph of the three parts of a joint state
@@ -19,7 +19,7 @@ clean_graph g = record { managed = record g.managed { heap = cleaned g.managed.h
 
 -- a handle that is issued so is a root by itself: a raw strong one, or a held one that isn't marked as a live object's
 abbrev pub IsRootHandle : List Bool → ℕ → Issued → Type 0
-IsRootHandle owned h i = ((i.hold ≡ raw) × (i.strength ≡ strong)) ⊎ ((i.hold ≡ held) × (IsMarked owned h → ⊥))
+IsRootHandle owned h i = ((i.hold ≡ raw) × (i.strength ≡ strong)) ⊎ ((i.hold ≡ held) × (HasMark owned h → ⊥))
 
 -- the handle isn't removed and is a root by itself, and leads to the live peer
 pub record IsRooted (p : Peers) (removed owned : List Bool) (h k : ℕ) : Type 0 where

@@ -34,7 +34,7 @@ IsTold h r (resolution_of alive freed) = freed ≡ named_objects h r
 IsTold h r _ = Unit {0}
 
 -- the entry of a history is a step of the joint machine from one state to the next
-pub record MayStep (h : Finished) (e : Entry) (j next : Joint) : Type 0 where
+pub record IsStepOf (h : Finished) (e : Entry) (j next : Joint) : Type 0 where
   pub told : Told
   pub named : IsTold h e.made.reply told
   pub step : JointStep j record { entry = e; told = told } next
@@ -47,7 +47,7 @@ Decides {S} step Unlawful old new = ((next : S) → step next → ⊥) × (new �
 
 -- the verdict on an entry
 abbrev pub Judges : Finished → Entry → Verdict → Joint → Joint → Type 0
-Judges h e v old new = Decides (MayStep h e old) v old new
+Judges h e v old new = Decides (IsStepOf h e old) v old new
 
 -- the reply is that of the answer, and the state is the one after it
 pub record Gives {S : Type 0} (a : Answered S) (reply : Reply) (next : S) : Type 0 where

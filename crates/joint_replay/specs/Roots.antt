@@ -8,8 +8,8 @@ abbrev pub IsNamedLive : Heap → List (Option ℕ) → ℕ → Type 0
 IsNamedLive h slots x = IsLive h x × Contains slots (Some x)
 
 -- a variable, a static or a pin names the object
-abbrev pub IsRoot : Heap → List (Option ℕ) → ℕ → Type 0
-IsRoot h pins x = InSlot h x ⊎ Contains pins (Some x)
+abbrev pub IsNamedOrPinned : Heap → List (Option ℕ) → ℕ → Type 0
+IsNamedOrPinned h pins x = InSlot h x ⊎ Contains pins (Some x)
 
 -- the list rises, and has exactly the rows that are wanted
 pub record ListsExactly (wanted : ℕ → Type 0) (xs : List ℕ) : Type 0 where

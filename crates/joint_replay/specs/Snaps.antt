@@ -85,7 +85,7 @@ pub record SweepsJoint (j : Joint) (t : Thread) (freed : List ℕ) (reply : Repl
   pub sweep : EndsMarking j marking t freed reply next
 
 -- the caller may end the open marking
-pub record MayEnd (j : Joint) (t : Thread) : Type 0 where
+pub record MayEndOpen (j : Joint) (t : Thread) : Type 0 where
   pub marking : JointMarking
   pub opened : j.marking ≡ Some marking
   pub allowed : (t ≡ C) ⊎ (t ≡ marking.by)

@@ -5,7 +5,7 @@ ghost use Rattle.joint_model.specs.Joint.{IsReachedIn, peer};
 ghost use Rattle.joint_model.specs.Heaps.{IsLive, MOST, numbered_at};
 ghost use Rattle.joint_model.specs.Histories.{peer_numbers};
 ghost use Rattle.joint_model.specs.Managed.{Holds};
-ghost use Rattle.reachability.specs.Marks.{IsMarked};
+ghost use Rattle.reachability.specs.Marks.{HasMark};
 ghost use Rattle.joint_marking.specs.Gathered.{Gains};
 ghost use Rattle.joint_marking.specs.Owned.{IsOwned};
 ghost use Rattle.joint_replay.specs.Plain.{issued_as};
@@ -27,7 +27,7 @@ pub(crate) fn dead_peers(
     peers: &PeerPart,
     removed: &[bool],
 ) -> Result<Vec<bool>, AllocError>
-    ensures { IfOk result (λ v. (p : ℕ) → IsMarked v.items p ↔ (IsLive peers.now.heap p × (IsReachedIn (parts_graph managed.now peers.now removed.now) (peer p) → ⊥))) }
+    ensures { IfOk result (λ v. (p : ℕ) → HasMark v.items p ↔ (IsLive peers.now.heap p × (IsReachedIn (parts_graph managed.now peers.now removed.now) (peer p) → ⊥))) }
 {
     let objects = managed.roots(alloc)?;
     let owned = owned_handles(alloc, managed, peers.handles())?;
@@ -62,7 +62,7 @@ fn owned_handles(
 ) -> Result<Vec<bool>, AllocError>
     requires { handles ≤ MOST }
     ensures len { IfOk result (λ v. length v.items ≡ handles + 1) }
-    ensures exact { IfOk result (λ v. (h : ℕ) → IsMarked v.items h ↔ IsOwned managed.now (handles + 1) h) }
+    ensures exact { IfOk result (λ v. (h : ℕ) → HasMark v.items h ↔ IsOwned managed.now (handles + 1) h) }
 {
     let heap = managed.heap();
     let mut owned = vec![in alloc; false; handles as usize + 1]?;
@@ -78,7 +78,7 @@ fn owned_handles(
 fn mark_held(managed: &ManagedPart, m: u32, owned: &mut [bool])
     requires { IsLive managed.now.heap m }
     ensures len { length owned.new ≡ length owned.old }
-    ensures marks { (h : ℕ) → IsMarked owned.new h ↔ (IsMarked owned.old h ⊎ (Holds managed.now m h × (h < length owned.old))) }
+    ensures marks { (h : ℕ) → HasMark owned.new h ↔ (HasMark owned.old h ⊎ (Holds managed.now m h × (h < length owned.old))) }
 {
     if let Some(h) = managed.handle(m) {
         if (h as usize) < owned.len() {
@@ -150,7 +150,7 @@ fn is_kept(removed: &[bool], h: u32) -> bool
 fn marks_of(alloc: Global, dead: &[PNum], made: u32) -> Result<Vec<bool>, AllocError>
     requires made { made ≤ MOST }
     requires within { All (λ p. p.0 ≤ made) dead.now }
-    ensures { IfOk result (λ v. (k : ℕ) → IsMarked v.items k ↔ Contains (peer_numbers dead.now) k) }
+    ensures { IfOk result (λ v. (k : ℕ) → HasMark v.items k ↔ Contains (peer_numbers dead.now) k) }
 {
     let mut marks = vec![in alloc; false; made as usize + 1]?;
     for p in dead {

@@ -3,7 +3,7 @@
 ghost use Rattle.std.specs.Prelude.{◌≡◌, ℕ, ◌↔◌, ◌⊎◌, IsTrue, IfOk, All};
 ghost use Rattle.joint_model.specs.Components.{Rises};
 ghost use Rattle.joint_model.specs.Joint.{Graph};
-ghost use Rattle.reachability.specs.Marks.{IsMarked};
+ghost use Rattle.reachability.specs.Marks.{HasMark};
 ghost use Rattle.joint_model.specs.Run.{IsStored};
 ghost use Rattle.joint_replay.specs.Graphs.{parts_graph};
 
@@ -32,13 +32,13 @@ impl Model for BegunMarking {
     ghost use Rattle.joint_model.specs.Joint.{JointMarking};
     ghost use Rattle.joint_model.specs.Run.{IsStored};
     ghost use Rattle.joint_replay.specs.Graphs.{parts_graph};
-    ghost use Rattle.reachability.specs.Marks.{IsMarked};
+    ghost use Rattle.reachability.specs.Marks.{HasMark};
 
     ghost Value = { JointMarking };
 
     ghost view = { λ s. record { number = s.number; by = s.by; begun = parts_graph s.managed.value s.peers.value s.removed.value.items } };
 
-    ghost invariant = { λ s. let m : JointMarking = record { number = s.number; by = s.by; begun = parts_graph s.managed.value s.peers.value s.removed.value.items } in (p : ℕ) → IsMarked s.stored.items p ↔ IsStored m p };
+    ghost invariant = { λ s. let m : JointMarking = record { number = s.number; by = s.by; begun = parts_graph s.managed.value s.peers.value s.removed.value.items } in (p : ℕ) → HasMark s.stored.items p ↔ IsStored m p };
 }
 
 impl BegunMarking {
@@ -88,13 +88,13 @@ impl BegunMarking {
 
 /// Whether each number of a list is marked.
 pub(crate) fn all_marked(marks: &[bool], xs: &[u32]) -> bool
-    ensures { IsTrue result ↔ All (IsMarked marks.now) xs.now }
+    ensures { IsTrue result ↔ All (HasMark marks.now) xs.now }
 {
     xs.iter().all(|x| is_marked(marks, *x))
 }
 
 fn is_marked(marks: &[bool], x: u32) -> bool
-    ensures { IsTrue result ↔ IsMarked marks.now x }
+    ensures { IsTrue result ↔ HasMark marks.now x }
 {
     match marks.get(x as usize) {
         None => false,

@@ -5,7 +5,7 @@ ghost use Rattle.joint_model.specs.Heaps.{IsLive, InSlot};
 ghost use Rattle.joint_model.specs.Histories.{managed_numbers};
 ghost use Rattle.joint_replay.specs.Found.{IsBridgeRow, has_handle, held_at};
 ghost use Rattle.joint_marking.specs.Gathered.{Gains};
-ghost use Rattle.joint_replay.specs.Roots.{IsNamedLive, IsRoot};
+ghost use Rattle.joint_replay.specs.Roots.{IsNamedLive, IsNamedOrPinned};
 
 use crate::heap::PlainHeap;
 use joint_model::MNum;
@@ -27,7 +27,7 @@ pub(crate) fn pinned_roots(
     heap: &PlainHeap,
     pins: &[Option<u32>],
 ) -> Result<Vec<u32>, AllocError>
-    ensures { IfOk result (λ v. (x : ℕ) → Contains v.items x ↔ (IsLive heap.now x × IsRoot heap.now pins.now x)) }
+    ensures { IfOk result (λ v. (x : ℕ) → Contains v.items x ↔ (IsLive heap.now x × IsNamedOrPinned heap.now pins.now x)) }
 {
     let mut roots = named_roots(alloc, heap)?;
     push_named(heap, pins, &mut roots)?;

@@ -5,7 +5,7 @@ ghost use Rattle.joint_model.specs.declared.names.Thread.{Thread};
 ghost use Rattle.joint_model.specs.Lines.{IsPeerThread, IsDriver};
 ghost use Rattle.joint_model.specs.Run.{JointBegin, JointSweep};
 ghost use Rattle.joint_model.specs.Told.{sweep_of};
-ghost use Rattle.joint_replay.specs.Snaps.{SweepsJoint, MayEnd, MaySweep, SaysSwept};
+ghost use Rattle.joint_replay.specs.Snaps.{SweepsJoint, MayEndOpen, MaySweep, SaysSwept};
 ghost use Rattle.joint_replay.specs.Judging.{Decides, named_peers};
 
 use crate::dead::dead_peers;
@@ -68,7 +68,7 @@ impl JointState {
         caller: Thread,
         reply: &Reply,
     ) -> Result<Verdict, AllocError>
-        requires caller { MayEnd self.old caller }
+        requires caller { MayEndOpen self.old caller }
         ensures ok { IfOk result (λ d. Decides (SweepsJoint self.old caller (named_peers h.now reply.now) reply.now) d self.old self.new) }
         ensures err { OnErr result (self.new ≡ self.old) }
     {

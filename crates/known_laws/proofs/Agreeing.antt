@@ -11,7 +11,7 @@ use Rattle.joint_model.specs.declared.events.Entry.{Entry}
 use Rattle.joint_model.specs.Told.{Noted, nothing}
 use Rattle.known_laws.specs.Known.{MayComeLater}
 use Rattle.known_laws.specs.Telling.{MayBeTold}
-use Rattle.known_laws.specs.Pasts.{role_of, own_of, is_in, line, of_line, RunsFrom, In, end_of, Lawful, Within, bare, AreWithin, AreAlike, PastsAgree, EntryPastsJoin, next_of}
+use Rattle.known_laws.specs.Pasts.{role_of, own_of, is_in, line, of_line, PastRunsFrom, InPast, end_of, Lawful, Within, bare, AreWithin, AreAlike, PastsAgree, EntryPastsJoin, next_of}
 use Rattle.known_laws.proofs.PastLines.{in_role, in_own, in-line, one-number, shorter_begins}
 use Rattle.known_laws.proofs.PastsJoin.{below, within_past, behind_past, in_whole_past}
 use Rattle.known_laws.proofs.Moving.{may_move}
@@ -30,25 +30,25 @@ or_else (Some x) y = x
 abbrev pub tell : List Noted → List Noted → Noted → Noted
 tell a b w = or_else (find w.entry.number a) (or_else (find w.entry.number b) (bare w))
 
-found : (k : ℕ) (h : List Noted) (x : Noted) → find k h ≡ Some x → In h x × (x.entry.number ≡ k)
+found : (k : ℕ) (h : List Noted) (x : Noted) → find k h ≡ Some x → InPast h x × (x.entry.number ≡ k)
 found k [] x e = absurd (cc)
 found k (y ∷ h) x e = ⊎_elim
     (λ (t : eqb y.entry.number k ≡ true). let q : y ≡ x = same_Some _ _ (sym (ap (λ c. if c then Some y else find k h) t) ∙ e) in (inl q, sym (ap (λ (z : Noted). z.entry.number) q) ∙ eqb-true y.entry.number k t))
     (λ (f : eqb y.entry.number k ≡ false). let w = found k h x (sym (ap (λ c. if c then Some y else find k h) f) ∙ e) in (inr w.0, w.1))
     (cases_Bool (eqb y.entry.number k))
 
-find_here : (h : List Noted) (x : Noted) → Lawful h → In h x → find x.entry.number h ≡ Some x
+find_here : (h : List Noted) (x : Noted) → Lawful h → InPast h x → find x.entry.number h ≡ Some x
 find_here [] x l p = absurd p
 find_here (y ∷ h) x l p = ⊎_elim
     (λ (q : y ≡ x). ap (λ c. if c then Some y else find x.entry.number h) (eq-eqb y.entry.number x.entry.number (ap (λ (z : Noted). z.entry.number) q)) ∙ ap Some q)
     (λ q. let n = below y h x l.0 l.1 q in ap (λ c. if c then Some y else find x.entry.number h) (ne_eqb y.entry.number x.entry.number (λ e. omega (arith, n, e))) ∙ find_here h x l.1 q)
     p
 
-in_map : (f : Noted → Noted) (xs : List Noted) (e : Noted) → In xs e → In (map f xs) (f e)
+in_map : (f : Noted → Noted) (xs : List Noted) (e : Noted) → InPast xs e → InPast (map f xs) (f e)
 in_map f [] e p = absurd p
 in_map f (x ∷ xs) e p = ⊎_elim (λ q. inl (ap f q)) (λ q. inr (in_map f xs e q)) p
 
-pub in_bare : (xs : List Noted) (e : Noted) → In (map bare xs) e → (z : Noted) × In xs z × (bare z ≡ e)
+pub in_bare : (xs : List Noted) (e : Noted) → InPast (map bare xs) e → (z : Noted) × InPast xs z × (bare z ≡ e)
 in_bare [] e p = absurd p
 in_bare (x ∷ xs) e p = ⊎_elim (λ q. (x, inl refl, q)) (λ q. let w = in_bare xs e q in (w.0, inr w.1, w.2)) p
 
@@ -56,7 +56,7 @@ map_append : (f : Noted → Noted) (xs ys : List Noted) → map f (xs ++ ys) ≡
 map_append f [] ys = refl
 map_append f (x ∷ xs) ys = λ i. f x ∷ map_append f xs ys i
 
-map_self : (f : Noted → Noted) (xs : List Noted) → ((x : Noted) → In xs x → f x ≡ x) → map f xs ≡ xs
+map_self : (f : Noted → Noted) (xs : List Noted) → ((x : Noted) → InPast xs x → f x ≡ x) → map f xs ≡ xs
 map_self f [] h = refl
 map_self f (x ∷ xs) h = λ i. h x (inl refl) i ∷ map_self f xs (λ y p. h y (inr p)) i
 
@@ -68,7 +68,7 @@ length_map : (f : Noted → Noted) (xs : List Noted) → length (map f xs) ≡ l
 length_map f [] = refl
 length_map f (x ∷ xs) = ap suc (length_map f xs)
 
-of_line_map : (f : Noted → Noted) (i : ℕ) (ws : List Noted) → ((w : Noted) → In ws w → (f w).entry ≡ w.entry) → of_line i (map f ws) ≡ map f (of_line i ws)
+of_line_map : (f : Noted → Noted) (i : ℕ) (ws : List Noted) → ((w : Noted) → InPast ws w → (f w).entry ≡ w.entry) → of_line i (map f ws) ≡ map f (of_line i ws)
 of_line_map f i [] h = refl
 of_line_map f i (w ∷ ws) h =
     ap (λ (e : Entry). if is_in i (record { entry = e; told = nothing }) then f w ∷ of_line i (map f ws) else of_line i (map f ws)) (h w (inl refl)) ∙ either_way (is_in i w) (of_line_map f i ws (λ x p. h x (inr p)))
@@ -85,28 +85,28 @@ line_bare i (x ∷ h) = either_way (is_in i x) (line_bare i h)
     either_way true e = ap (λ l. l ++ bare x ∷ []) e ∙ sym (map_append bare (line i h) (x ∷ []))
     either_way false e = e
 
-runs_bare : (n : ℕ) (ws : List Noted) → RunsFrom n ws → RunsFrom n (map bare ws)
+runs_bare : (n : ℕ) (ws : List Noted) → PastRunsFrom n ws → PastRunsFrom n (map bare ws)
 runs_bare n [] r = tt
 runs_bare n (w ∷ ws) r = (r.0, runs_bare (n + 1) ws r.1)
 
-runs_told : (f : Noted → Noted) (n : ℕ) (ws : List Noted) → ((w : Noted) → In ws w → (f w).entry ≡ w.entry) → RunsFrom n ws → RunsFrom n (map f ws)
+runs_told : (f : Noted → Noted) (n : ℕ) (ws : List Noted) → ((w : Noted) → InPast ws w → (f w).entry ≡ w.entry) → PastRunsFrom n ws → PastRunsFrom n (map f ws)
 runs_told f n [] h r = tt
 runs_told f n (w ∷ ws) h r = (ap (λ (e : Entry). e.number) (h w (inl refl)) ∙ r.0, runs_told f (n + 1) ws (λ x p. h x (inr p)) r.1)
 
-module _ (whole : List Noted) (runs : RunsFrom 0 whole) where
+module _ (whole : List Noted) (runs : PastRunsFrom 0 whole) where
   rest_within : (x : Noted) (h : List Noted) → AreWithin whole (x ∷ h) → AreWithin whole h
   rest_within x h w = within_past (map bare whole) (bare x) (map bare h) w
 
-  bare_in : (x : Noted) (h : List Noted) → In h x → AreWithin whole h → In (map bare whole) (bare x)
+  bare_in : (x : Noted) (h : List Noted) → InPast h x → AreWithin whole h → InPast (map bare whole) (bare x)
   bare_in x h p w = in_whole_past (map bare whole) (bare x) (map bare h) (in_map bare h x p) w
 
-  same_entry : (x w : Noted) (h : List Noted) → In h x → AreWithin whole h → In whole w → x.entry.number ≡ w.entry.number → x.entry ≡ w.entry
+  same_entry : (x w : Noted) (h : List Noted) → InPast h x → AreWithin whole h → InPast whole w → x.entry.number ≡ w.entry.number → x.entry ≡ w.entry
   same_entry x w h p a q e = ap (λ (z : Noted). z.entry) (one-number 0 (map bare whole) (bare x) (bare w) (runs_bare 0 whole runs) (bare_in x h p a) (in_map bare whole w q) e)
 
-  both_entry : (x y : Noted) (a b : List Noted) → In a x → In b y → AreWithin whole a → AreWithin whole b → x.entry.number ≡ y.entry.number → x.entry ≡ y.entry
+  both_entry : (x y : Noted) (a b : List Noted) → InPast a x → InPast b y → AreWithin whole a → AreWithin whole b → x.entry.number ≡ y.entry.number → x.entry ≡ y.entry
   both_entry x y a b p q wa wb e = ap (λ (z : Noted). z.entry) (one-number 0 (map bare whole) (bare x) (bare y) (runs_bare 0 whole runs) (bare_in x a p wa) (bare_in y b q wb) e)
 
-  tell_entry : (a b : List Noted) → AreWithin whole a → AreWithin whole b → (w : Noted) → In whole w → (tell a b w).entry ≡ w.entry
+  tell_entry : (a b : List Noted) → AreWithin whole a → AreWithin whole b → (w : Noted) → InPast whole w → (tell a b w).entry ≡ w.entry
   tell_entry a b wa wb w p = by (find w.entry.number a) refl
     where
       by_b : (o : Option Noted) → find w.entry.number b ≡ o → (or_else o (bare w)).entry ≡ w.entry
@@ -120,7 +120,7 @@ module _ (whole : List Noted) (runs : RunsFrom 0 whole) where
   told : List Noted → List Noted → List Noted
   told a b = map (tell a b) whole
 
-  pub within_told : (a b h : List Noted) → AreWithin whole a → AreWithin whole b → AreWithin whole h → ((x : Noted) → In h x → tell a b x ≡ x) → Within (map (tell a b) whole) h
+  pub within_told : (a b h : List Noted) → AreWithin whole a → AreWithin whole b → AreWithin whole h → ((x : Noted) → InPast h x → tell a b x ≡ x) → Within (map (tell a b) whole) h
   within_told a b h wa wb wh self i =
       let p = wh i in
       let t = tell a b in
@@ -129,10 +129,10 @@ module _ (whole : List Noted) (runs : RunsFrom 0 whole) where
       let s : map t (line i (map bare h)) ≡ line i h = ap (map t) (line_bare i h) ∙ (map_bare t (line i h) (λ x. refl) ∙ map_self t (line i h) (λ x q. self x (in-line i h x q))) in
       (map t p.0, sym (e ∙ (ap (map t) (sym p.1) ∙ (map_append t (line i (map bare h)) p.0 ∙ ap (λ l. l ++ map t p.0) s))))
 
-  pub self_a : (a b : List Noted) → Lawful a → (x : Noted) → In a x → tell a b x ≡ x
+  pub self_a : (a b : List Noted) → Lawful a → (x : Noted) → InPast a x → tell a b x ≡ x
   self_a a b l x p = ap (λ o. or_else o (or_else (find x.entry.number b) (bare x))) (find_here a x l p)
 
-  pub self_b : (a b : List Noted) → Lawful b → AreAlike a b → (y : Noted) → In b y → tell a b y ≡ y
+  pub self_b : (a b : List Noted) → Lawful b → AreAlike a b → (y : Noted) → InPast b y → tell a b y ≡ y
   self_b a b l alike y p = by (find y.entry.number a) refl
     where
       by : (o : Option Noted) → find y.entry.number a ≡ o → or_else o (or_else (find y.entry.number b) (bare y)) ≡ y
@@ -162,7 +162,7 @@ module _ (whole : List Noted) (runs : RunsFrom 0 whole) where
       (subst (λ (en : Entry). MayBeTold (end_of b) en y.told) (sym entry) (lb.0.comes, lb.0.plain)) in
       λ i. record { entry = entry i; told = same i }
     where
-      below_bare : (y : Noted) (b : List Noted) (x : Noted) → Lawful (y ∷ b) → x.entry.number ≡ y.entry.number → (e : Noted) → In (map bare b) e → e.entry.number < x.entry.number
+      below_bare : (y : Noted) (b : List Noted) (x : Noted) → Lawful (y ∷ b) → x.entry.number ≡ y.entry.number → (e : Noted) → InPast (map bare b) e → e.entry.number < x.entry.number
       below_bare y b x l n e p = let z = in_bare b e p in let w = below y b z.0 l.0 l.1 z.1 in let q = ap (λ (u : Noted). u.entry.number) z.2 in omega (arith, w, q, n)
 
   agree : (k : ℕ) (a b : List Noted) → length a + length b ≤ k → Lawful a → Lawful b → AreWithin whole a → AreWithin whole b → AreAlike a b

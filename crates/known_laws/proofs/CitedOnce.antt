@@ -15,7 +15,7 @@ use Rattle.joint_model.specs.Lines.{IsEvent}
 use Rattle.joint_model.specs.Told.{Told, Noted, contraction_of, resolution_of}
 use Rattle.joint_model.proofs.Deciding.{none_some}
 use Rattle.joint_laws.proofs.Hands.{doing-set_cases}
-use Rattle.known_laws.specs.Pasts.{In, Lawful, end_of}
+use Rattle.known_laws.specs.Pasts.{InPast, Lawful, end_of}
 use Rattle.known_laws.specs.Citations.{HasCited, Cites, IsSnapping, NoneIsCitedTwice, EachStandsBehind}
 use Rattle.known_laws.proofs.Citing.{Began, WasBegun, WasOpened, backed, pasts_cite}
 use Rattle.known_laws.proofs.PastsJoin.{below}
@@ -29,7 +29,7 @@ each_stands_behind (y ∷ h) l x p = ⊎_elim
     (λ q. let s = each_stands_behind h l.1 x q in record { front = y ∷ s.front; back = s.back; all = (λ i. y ∷ s.all i); lawful = s.lawful })
     p
 
-pub in_back : (f : List Noted) (x : Noted) (b : List Noted) (e : Noted) → In b e → In (f ++ x ∷ b) e
+pub in_back : (f : List Noted) (x : Noted) (b : List Noted) (e : Noted) → InPast b e → InPast (f ++ x ∷ b) e
 in_back [] x b e p = inr p
 in_back (y ∷ f) x b e p = inr (in_back f x b e p)
 
@@ -55,7 +55,7 @@ WaitsBy s C n = IsCleared s.stand n
 -- it stands in the past, and who waits with it made it
 record IsBegun (h : List Noted) (t : Thread) (n : ℕ) : Type 0 where
   entry : Noted
-  there : In h entry
+  there : InPast h entry
   number : entry.entry.number ≡ n
   caller : entry.entry.made.caller ≡ t
 
@@ -125,7 +125,7 @@ cited-earlier h x k n o c e = by o c
     by (op.Weaken g) c = smaller _ c
     by _ c = absurd (none_some n (sym c ∙ e))
 
-earlier : (h : List Noted) → Lawful h → (y : Noted) → In h y → (n : ℕ) → y.entry.made.cites ≡ Some n → n < y.entry.number
+earlier : (h : List Noted) → Lawful h → (y : Noted) → InPast h y → (n : ℕ) → y.entry.made.cites ≡ Some n → n < y.entry.number
 earlier h l y p n e =
     let s = each_stands_behind h l y p in
     cited-earlier s.back y.entry.made y.entry.number n y.entry.made.op (pasts_cite y s.back s.lawful) e
@@ -232,11 +232,11 @@ module _ (x : Noted) (h : List Noted) (l : Lawful (x ∷ h)) (n : ℕ) where
   ended C o z ev w = absurd z
 
 -- what was cited once waits no more
-uncited : (h : List Noted) → Lawful h → (y : Noted) → In h y → CitesOnce y.entry.made.op → (n : ℕ) → y.entry.made.cites ≡ Some n → (t : Thread) → WaitsBy (end_of h).control t n → ⊥
+uncited : (h : List Noted) → Lawful h → (y : Noted) → InPast h y → CitesOnce y.entry.made.op → (n : ℕ) → y.entry.made.cites ≡ Some n → (t : Thread) → WaitsBy (end_of h).control t n → ⊥
 uncited [] l y p z n e t w = p
 uncited (x ∷ h) l y p z n e t w = ⊎_elim (λ (q : x ≡ y). here q) (λ q. there q (λ v. uncited h l.1 y q z n e t v)) p
   where
-    there : In h y → (WaitsBy (end_of h).control t n → ⊥) → ⊥
+    there : InPast h y → (WaitsBy (end_of h).control t n → ⊥) → ⊥
     there q before = ⊎_elim
         before
         (λ v. let a = earlier h l.1 y q n e in let b = below x h y l.0 l.1 q in omega (arith, a, b, v))
@@ -257,14 +257,14 @@ uncited (x ∷ h) l y p z n e t w = ⊎_elim (λ (q : x ≡ y). here q) (λ q. t
         (waited x h l n x.entry.made.caller t x.entry.made.op w)
 
 -- the one entry that a mirror or a weaken cites is a snap
-snap-cited : (h : List Noted) → Lawful h → (y z : Noted) → In h y → In h z → CitesSnap y.entry.made.op → y.entry.made.cites ≡ Some z.entry.number → IsSnapping z.entry.made.op
+snap-cited : (h : List Noted) → Lawful h → (y z : Noted) → InPast h y → InPast h z → CitesSnap y.entry.made.op → y.entry.made.cites ≡ Some z.entry.number → IsSnapping z.entry.made.op
 snap-cited h l y z p q c e =
     let s = each_stands_behind h l y p in
     by s.back s.front s.all y.entry.made.op c (pasts_cite y s.back s.lawful)
   where
     is : (b f : List Noted) → h ≡ f ++ y ∷ b → (Q : Made → Type 0) → HasCited b y.entry.made y.entry.number Q → ((m : Made) → Q m → IsSnapping m.op) → IsSnapping z.entry.made.op
     is b f all Q w snaps =
-        let one = numbers_are_once h l w.cited z (subst (λ k. In k w.cited) (sym all) (in_back f y b w.cited w.there)) q (same_Some _ _ (sym w.by_number ∙ e)) in
+        let one = numbers_are_once h l w.cited z (subst (λ k. InPast k w.cited) (sym all) (in_back f y b w.cited w.there)) q (same_Some _ _ (sym w.by_number ∙ e)) in
         subst (λ (k : Noted). IsSnapping k.entry.made.op) one (snaps w.cited.entry.made w.as_said)
 
     by : (b f : List Noted) → h ≡ f ++ y ∷ b → (o : Op) → CitesSnap o → Cites b y.entry.made y.entry.number o → IsSnapping z.entry.made.op
@@ -273,7 +273,7 @@ snap-cited h l y z p q c e =
     by b f all o c w = absurd c
 
 -- the latest entry and an earlier one cite no entry together, but a snap
-latest : (w : Noted) (h : List Noted) → Lawful (w ∷ h) → (y z : Noted) → In h y → In (w ∷ h) z → w.entry.made.cites ≡ Some z.entry.number → y.entry.made.cites ≡ Some z.entry.number → IsSnapping z.entry.made.op
+latest : (w : Noted) (h : List Noted) → Lawful (w ∷ h) → (y z : Noted) → InPast h y → InPast (w ∷ h) z → w.entry.made.cites ≡ Some z.entry.number → y.entry.made.cites ≡ Some z.entry.number → IsSnapping z.entry.made.op
 latest w h l y z p q e f =
     let s = each_stands_behind h l.1 y p in
     ⊎_elim

@@ -24,14 +24,14 @@ use Rattle.joint_model.specs.Told.{Told, Noted, contraction_of, references_of, r
 use Rattle.joint_laws.specs.LinkedInvariants.{doing_in}
 use Rattle.joint_laws.proofs.Hands.{doing-set_cases, opening-free}
 use Rattle.known_laws.specs.Known.{MayComeLater}
-use Rattle.known_laws.specs.Pasts.{In, Lawful, end_of, next_of}
+use Rattle.known_laws.specs.Pasts.{InPast, Lawful, end_of, next_of}
 use Rattle.known_laws.specs.Citations.{HasCited, IsMakeOf, IsLendOf, IsGripOf, IsNotNew, IsGiveOf, IsMeetOf, IsSnapOf, IsClearOf, Cites, PastsCite}
 use Rattle.known_laws.proofs.PastsJoin.{below}
 
 -- an entry of the past with that number and caller, which is as said
 pub record Began (h : List Noted) (t : Thread) (number : ℕ) (IsAsSaid : Made → Type 0) : Type 0 where
   pub begun : Noted
-  pub there : In h begun
+  pub there : InPast h begun
   pub numbered : begun.entry.number ≡ number
   pub same : begun.entry.made.caller ≡ t
   pub as_said : IsAsSaid begun.entry.made

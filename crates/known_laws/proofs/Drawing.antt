@@ -22,7 +22,7 @@ use Rattle.joint_laws.specs.ManagedInvariants.{IsReplayKept}
 use Rattle.joint_model.specs.Told.{Told, Noted, nothing, phase_of, contraction_of, snap_of, resolution_of}
 use Rattle.joint_model.proofs.Members.{Contains-nil, Contains-cons_cases}
 use Rattle.known_laws.specs.Known.{TellsPlainly}
-use Rattle.known_laws.specs.Pasts.{In, Lawful, Within, end_of, is_in, role_of}
+use Rattle.known_laws.specs.Pasts.{InPast, Lawful, Within, end_of, is_in, role_of}
 use Rattle.known_laws.specs.Growing.{AreJoined, HasGrown, grown, untold}
 use Rattle.joint_model.specs.HistoryLines.{entries_in}
 use Rattle.known_laws.specs.Drawn.{drawn_by, drawn, IsToldIn, of_drawn, AreDrawn, NothingIsDrawn, DrawnIsOne, drawn_on, DrawnLinesGrow, DrawnLinesJoin, FreedIsDrawn}
@@ -53,15 +53,15 @@ drawn-entry s n = by (is_peer_event n.entry.made.caller n.entry.made.op)
     by false = refl
 
 -- what is told in one past is told in another of the run that has the entry
-told_alike : (whole a b : List Noted) → Lawful a → Lawful b → Within whole a → Within whole b → (d : Drawn) → (t : IsToldIn a d) → In b t.entry → IsToldIn b d
+told_alike : (whole a b : List Noted) → Lawful a → Lawful b → Within whole a → Within whole b → (d : Drawn) → (t : IsToldIn a d) → InPast b t.entry → IsToldIn b d
 told_alike whole a b la lb wa wb d t p =
     let s = each_stands_behind b lb t.entry p in
     let one = one_drawn whole t.back s.back t.entry (behind_lawful t.front t.entry t.back (subst Lawful t.all la)) s.lawful
     (within_front whole t.front t.entry t.back (subst (Within whole) t.all wa)) (within_front whole s.front t.entry s.back (subst (Within whole) s.all wb)) in
     record { entry = t.entry; front = s.front; back = s.back; all = s.all; same = t.same ∙ one }
 
-told_there : (h : List Noted) (d : Drawn) (t : IsToldIn h d) → In h t.entry
-told_there h d t = subst (λ l. In l t.entry) (sym t.all) (in_right t.front (t.entry ∷ t.back) t.entry (inl refl))
+told_there : (h : List Noted) (d : Drawn) (t : IsToldIn h d) → InPast h t.entry
+told_there h d t = subst (λ l. InPast l t.entry) (sym t.all) (in_right t.front (t.entry ∷ t.back) t.entry (inl refl))
 
 pub nothing_is_drawn : NothingIsDrawn
 nothing_is_drawn = record { known = nothing_is_known; told = λ i d c. absurd (Contains-nil d c) }
@@ -141,7 +141,7 @@ drawn_lines_join whole ls ms ns a b numbered wa wb e = record { known = j.joined
     begins i = ⊎_elim (λ q. subst (λ l. IsPrefix (of_drawn l) (entries_in i whole)) (sym q) (wa i)) (λ q. subst (λ l. IsPrefix (of_drawn l) (entries_in i whole)) (sym q) (wb i)) (e.either i)
 
     -- what one of the two had
-    moved : (ks : ℕ → List Drawn) (k : AreDrawn ks) → ((i : ℕ) → IsPrefix (of_drawn (ks i)) (entries_in i whole)) → ((x : Noted) → In k.known.past x → In j.joined.past x) → (i : ℕ) (d : Drawn) → Contains (ks i) d → IsToldIn j.joined.past d
+    moved : (ks : ℕ → List Drawn) (k : AreDrawn ks) → ((i : ℕ) → IsPrefix (of_drawn (ks i)) (entries_in i whole)) → ((x : Noted) → InPast k.known.past x → InPast j.joined.past x) → (i : ℕ) (d : Drawn) → Contains (ks i) d → IsToldIn j.joined.past d
     moved ks k w stay i d c =
         let r = one_run whole (λ z. of_drawn (ks z)) (λ z. of_drawn (ns z)) k.known j.joined numbered w begins in
         let t = k.told i d c in

@@ -10,7 +10,7 @@ use Rattle.joint_model.specs.Lines.{is_peer_event}
 use Rattle.joint_model.specs.Histories.{managed_numbers, peer_numbers}
 use Rattle.joint_model.specs.Linked.{Linkage, AllMayCome, IsWhole, opening_linkage, replayed}
 use Rattle.joint_model.specs.Told.{Noted}
-use Rattle.known_laws.specs.Pasts.{role_of, own_of, is_in, line, of_line, In, end_of, Lawful, bare}
+use Rattle.known_laws.specs.Pasts.{role_of, own_of, is_in, line, of_line, InPast, end_of, Lawful, bare}
 use Rattle.known_laws.specs.Growing.{untold, entries, turned, KnownWholeIsHistory, KnownWholeIsLinked}
 use Rattle.joint_model.specs.HistoryLines.{entries_in}
 use Rattle.known_laws.proofs.PastLines.{in_right, in_role, in_which, line_in, line_out, in-line, snoc_same, snoc_some}
@@ -22,7 +22,7 @@ use Rattle.joint_model.specs.Draws.{NumberedFrom}
 -- numbers fall, and fall by one to 0
 abbrev Fall : List Noted → Type 0
 Fall [] = Unit {0}
-Fall (x ∷ h) = ((e : Noted) → In h e → e.entry.number < x.entry.number) × Fall h
+Fall (x ∷ h) = ((e : Noted) → InPast h e → e.entry.number < x.entry.number) × Fall h
 
 abbrev FallByOne : List Noted → Type 0
 FallByOne [] = Unit {0}
@@ -32,7 +32,7 @@ falls : (h : List Noted) → Lawful h → Fall (map bare h)
 falls [] l = tt
 falls (x ∷ h) l = ((λ e p. let z = in_bare h e p in subst (λ (w : Noted). w.entry.number < x.entry.number) z.2 (below x h z.0 l.0 l.1 z.1)), falls h l.1)
 
-number_below : (h : List Noted) (e : Noted) → FallByOne h → In h e → e.entry.number < length h
+number_below : (h : List Noted) (e : Noted) → FallByOne h → InPast h e → e.entry.number < length h
 number_below [] e f p = absurd p
 number_below (x ∷ h) e f p = ⊎_elim
     (λ (q : x ≡ e). let n : x.entry.number ≡ e.entry.number = ap (λ (z : Noted). z.entry.number) q in let m = f.0 in omega (arith, n, m))
@@ -58,8 +58,8 @@ role_out n x ne = ⊎_elim
 here : (x : Noted) (h : List Noted) → line (role_of x) (x ∷ h) ≡ line (role_of x) h ++ x ∷ []
 here x h = line_in (role_of x) x h (in_role x)
 
-stands : (x y : Noted) (h w : List Noted) → line (role_of x) (x ∷ h) ≡ line (role_of x) (y ∷ w) → role_of x ≢ role_of y → In w x
-stands x y h w e ne = in-line (role_of x) w x (subst (λ l. In l x) (sym (here x h) ∙ (e ∙ line_out (role_of x) y w (role_out x y ne))) (in_right (line (role_of x) h) (x ∷ []) x (inl refl)))
+stands : (x y : Noted) (h w : List Noted) → line (role_of x) (x ∷ h) ≡ line (role_of x) (y ∷ w) → role_of x ≢ role_of y → InPast w x
+stands x y h w e ne = in-line (role_of x) w x (subst (λ l. InPast l x) (sym (here x h) ∙ (e ∙ line_out (role_of x) y w (role_out x y ne))) (in_right (line (role_of x) h) (x ∷ []) x (inl refl)))
 
 same_whole : (h w : List Noted) → Fall h → FallByOne w → ((n : Noted) → line (role_of n) h ≡ line (role_of n) w) → h ≡ w
 same_whole [] [] s d e = refl

@@ -16,8 +16,8 @@ use Rattle.joint_model.specs.Linked.{Linkage, managed_after, peer_after}
 use Rattle.joint_model.specs.Told.{Told, Noted, phase_of}
 use Rattle.known_laws.specs.Known.{TellsPlainly}
 use Rattle.known_laws.specs.Telling.{MayBeTold}
-use Rattle.known_laws.specs.Pasts.{role_of, is_in, line, of_line, RunsFrom, In, end_of, Within, AreWithin, AreAlike, bare, Joined, driver_line}
-use Rattle.known_laws.specs.Growing.{untold, entries, AreKnown, NothingIsKnown, grown, AreBelow, KnownLinesGrow, Begin, KnownLinesJoin, LinesGiveParts, DeadPartIsFrozen}
+use Rattle.known_laws.specs.Pasts.{role_of, is_in, line, of_line, PastRunsFrom, InPast, end_of, Within, AreWithin, AreAlike, bare, Joined, driver_line}
+use Rattle.known_laws.specs.Growing.{untold, entries, AreKnown, NothingIsKnown, grown, AreBelow, KnownLinesGrow, Begin, KnownLinesJoin, LinesGiveParts, DeadPartStays}
 use Rattle.joint_model.specs.HistoryLines.{entries_in}
 use Rattle.known_laws.proofs.PastLines.{in_role, line-in, length_begins, shorter_begins, in-line, in_begins}
 use Rattle.known_laws.proofs.PastsJoin.{counted}
@@ -30,7 +30,7 @@ use Rattle.joint_model.specs.Draws.{NumberedFrom}
 pub nothing_is_known : NothingIsKnown
 nothing_is_known = record { past = []; lawful = tt; same = λ i. refl }
 
-below_in : (n : ℕ) (xs : List Noted) (e : Noted) → AreBelow n (entries xs) → In xs e → e.entry.number < n
+below_in : (n : ℕ) (xs : List Noted) (e : Noted) → AreBelow n (entries xs) → InPast xs e → e.entry.number < n
 below_in n [] e b p = absurd p
 below_in n (x ∷ xs) e b p = ⊎_elim (λ (q : x ≡ e). subst (λ (z : Noted). z.entry.number < n) q b.0) (λ q. below_in n xs e b.1 q) p
 
@@ -112,7 +112,7 @@ within_by whole lines k begins i =
     let right : map untold (entries_in i whole) ≡ of_line i (map bare (map untold whole)) = sym (of_line_untold i whole) ∙ ap (of_line i) (sym (bare_untold whole)) in
     (map untold p.0, ap (λ l. l ++ map untold p.0) left ∙ (sym (untold_append (lines i) p.0) ∙ (ap (map untold) p.1 ∙ right)))
 
-pub runs_untold : (n : ℕ) (xs : List Entry) → NumberedFrom n xs → RunsFrom n (map untold xs)
+pub runs_untold : (n : ℕ) (xs : List Entry) → NumberedFrom n xs → PastRunsFrom n (map untold xs)
 runs_untold n [] r = tt
 runs_untold n (x ∷ xs) r = (r.0, runs_untold (n + 1) xs r.1)
 
@@ -150,7 +150,7 @@ known_lines_join whole ls ms ns a b numbered wa wb longer =
     j : Joined a.past b.past
     j = entry_pasts_join (map untold whole) a.past b.past (runs_untold 0 whole numbered) a.lawful b.lawful (within_by whole ls a wa) (within_by whole ms b wb)
 
-    stays : (h : List Noted) (x : Noted) → In h x → IsPrefix (line (role_of x) h) (line (role_of x) j.past) → In j.past x
+    stays : (h : List Noted) (x : Noted) → InPast h x → IsPrefix (line (role_of x) h) (line (role_of x) j.past) → InPast j.past x
     stays h x p q = in-line (role_of x) j.past x (in_begins (line (role_of x) h) (line (role_of x) j.past) x q (line-in (role_of x) h x p (in_role x)))
 
     la : (i : ℕ) → length (line i a.past) ≡ length (ls i)
@@ -209,7 +209,7 @@ one_run whole ls ms a b numbered wa wb =
       alike = agree;
     }
 
-pub dead_part_is_frozen : DeadPartIsFrozen
+pub dead_part_is_frozen : DeadPartStays
 dead_part_is_frozen whole ls ms a b numbered wa wb e =
     let r = one_run whole ls ms a b numbered wa wb in
     let n = sym (length_entries (line driver_line a.past)) ∙ (ap length (sym (a.same driver_line) ∙ (e ∙ b.same driver_line)) ∙ length_entries (line driver_line b.past)) in

@@ -27,7 +27,7 @@ use Rattle.joint_laws.proofs.DriverHandles.{written-strength}
 use Rattle.joint_laws.proofs.DriverPeerSteps.{Only, HandlesAlike-only, HandlesAlike-swept}
 use Rattle.joint_laws.proofs.HandlesAlike.{HandlesAlike, nothing_touched}
 use Rattle.joint_laws.proofs.PeerQuietEvents.{quiet-line, quiet-pair, quiet-grip, quiet-land}
-use Rattle.known_laws.specs.Pasts.{In, Lawful, end_of}
+use Rattle.known_laws.specs.Pasts.{InPast, Lawful, end_of}
 use Rattle.known_laws.specs.Facts.{TakesHandle, HandlesLeaveSo}
 use Rattle.known_laws.proofs.Later.{kept_end}
 
@@ -179,7 +179,7 @@ after_follows full m told true g k l = answer_follows full.peer k m g m.caller m
 after_follows full m told false g k l = still full.peer full.peer m g refl refl
 
 -- in the table, or taken from it
-left : (h : List Noted) → Lawful h → (g : ℕ) → IsHeldOne (end_of h).peer g → HasRow (end_of h).peer g ⊎ ((x : Noted) × In h x × TakesHandle x.entry.made g)
+left : (h : List Noted) → Lawful h → (g : ℕ) → IsHeldOne (end_of h).peer g → HasRow (end_of h).peer g ⊎ ((x : Noted) × InPast h x × TakesHandle x.entry.made g)
 left [] l g w = let z = numbered-within [] g w.0 w.1 in absurd (omega (arith, z.0, z.1))
 left (x ∷ h) l g w = ⊎_elim
     (λ z. ⊎_elim

@@ -14,7 +14,7 @@ use Rattle.joint_model.specs.Linked.{SideLawful, managed_after, peer_after}
 use Rattle.joint_model.specs.ManagedReplay.{opening_replay}
 use Rattle.joint_model.specs.PeerReplay.{opening_peer_replay, is_thread}
 use Rattle.joint_model.specs.Told.{Noted}
-use Rattle.known_laws.specs.Pasts.{is_in, line, end_of, In, Lawful}
+use Rattle.known_laws.specs.Pasts.{is_in, line, end_of, InPast, Lawful}
 use Rattle.joint_model.specs.HistoryLines.{caller_line}
 use Rattle.known_laws.specs.Growing.{entries, turned, untold}
 use Rattle.joint_model.specs.HistoryLines.{entries_in}
@@ -61,7 +61,7 @@ peer-list (x ∷ h) l = by (is_peer_event x.entry.made.caller x.entry.made.op) r
 abbrev numbers : List Noted → List ℕ
 numbers ns = map (λ e. e.number) (entries ns)
 
-all-numbers : (n : ℕ) (xs : List Noted) → ((e : Noted) → In xs e → e.entry.number < n) → All (λ z. z < n) (numbers xs)
+all-numbers : (n : ℕ) (xs : List Noted) → ((e : Noted) → InPast xs e → e.entry.number < n) → All (λ z. z < n) (numbers xs)
 all-numbers n [] f = All-nil (λ z. z < n)
 all-numbers n (x ∷ xs) f = All-cons (λ z. z < n) x.entry.number (numbers xs) (f x (inl refl)) (all-numbers n xs (λ e p. f e (inr p)))
 

@@ -9,19 +9,19 @@ use mathlib.Core.List.{IsPrefix}
 use base.Growing.{prefix_refl, prefix_trans, prefix_anti}
 use Rattle.joint_model.specs.Told.{Noted}
 use Rattle.known_laws.specs.Known.{MayComeLater}
-use Rattle.known_laws.specs.Pasts.{role_of, own_of, is_in, line, of_line, RunsFrom, In, end_of, Lawful, Within, IsFrozenIn, Joined, PastsJoin, next_of}
+use Rattle.known_laws.specs.Pasts.{role_of, own_of, is_in, line, of_line, PastRunsFrom, InPast, end_of, Lawful, Within, IsFrozenIn, Joined, PastsJoin, next_of}
 use Rattle.known_laws.proofs.PastLines.{in_right, in_begins, in_role, in_own, line_in, line_out, line-in, in-line, in-of_line, one-number, length_begins, shorter_begins, snoc_begins}
 use Rattle.known_laws.proofs.Moving.{may_move}
 
 -- all that stands behind an entry has smaller numbers
-pub below : (x : Noted) (h : List Noted) (e : Noted) → MayComeLater (next_of h) (end_of h) x → Lawful h → In h e → e.entry.number < x.entry.number
+pub below : (x : Noted) (h : List Noted) (e : Noted) → MayComeLater (next_of h) (end_of h) x → Lawful h → InPast h e → e.entry.number < x.entry.number
 below x [] e m l p = absurd p
 below x (y ∷ h) e m l p = let z = m.later in ⊎_elim
     (λ (q : y ≡ e). let w : y.entry.number ≡ e.entry.number = ap (λ (n : Noted). n.entry.number) q in omega arith)
     (λ q. let w = below y h e l.0 l.1 q in omega arith) p
 
 -- and a number above all is the next or a later one
-pub counted : (n : ℕ) (h : List Noted) → ((e : Noted) → In h e → e.entry.number < n) → next_of h ≤ n
+pub counted : (n : ℕ) (h : List Noted) → ((e : Noted) → InPast h e → e.entry.number < n) → next_of h ≤ n
 counted n [] f = omega arith
 counted n (y ∷ h) f = let w = f y (inl refl) in omega arith
 
@@ -33,7 +33,7 @@ module _ (whole : List Noted) where
       either_way true = snoc_begins (line i h) x
       either_way false = prefix_refl (line i h)
 
-  not_longer_past : (xs zs ys : List Noted) (x : Noted) → IsPrefix (xs ++ x ∷ []) zs → IsPrefix ys zs → (In ys x → ⊥) → length ys ≤ length xs
+  not_longer_past : (xs zs ys : List Noted) (x : Noted) → IsPrefix (xs ++ x ∷ []) zs → IsPrefix ys zs → (InPast ys x → ⊥) → length ys ≤ length xs
   not_longer_past xs zs ys x p q n = ⊎_elim
       (λ (l : length xs < length ys).
       let b : IsPrefix (xs ++ x ∷ []) ys = shorter_begins (xs ++ x ∷ []) ys zs p q (omega (arith, length-append xs (x ∷ []))) in
@@ -41,14 +41,14 @@ module _ (whole : List Noted) where
       (λ (l : length ys ≤ length xs). l)
       (cases_lt (length xs) (length ys))
 
-  pub behind_past : (i : ℕ) (x : Noted) (a b : List Noted) → Within whole (x ∷ a) → Within whole b → ((e : Noted) → In b e → e.entry.number < x.entry.number) → is_in i x ≡ true → length (line i b) ≤ length (line i a)
+  pub behind_past : (i : ℕ) (x : Noted) (a b : List Noted) → Within whole (x ∷ a) → Within whole b → ((e : Noted) → InPast b e → e.entry.number < x.entry.number) → is_in i x ≡ true → length (line i b) ≤ length (line i a)
   behind_past i x a b wa wb later t = not_longer_past (line i a) (of_line i whole) (line i b) x (subst (λ l. IsPrefix l (of_line i whole)) (line_in i x a t) (wa i)) (wb i)
       (λ p. let l = later x (in-line i b x p) in omega arith)
 
-pub in_whole_past : (whole : List Noted) (x : Noted) (h : List Noted) → In h x → Within whole h → In whole x
+pub in_whole_past : (whole : List Noted) (x : Noted) (h : List Noted) → InPast h x → Within whole h → InPast whole x
 in_whole_past whole x h p w = in-of_line (role_of x) whole x (in_begins (line (role_of x) h) (of_line (role_of x) whole) x (w (role_of x)) (line-in (role_of x) h x p (in_role x)))
 
-module _ (whole : List Noted) (runs : RunsFrom 0 whole) (frozen : IsFrozenIn whole) where
+module _ (whole : List Noted) (runs : PastRunsFrom 0 whole) (frozen : IsFrozenIn whole) where
   -- of two beginnings of one line, of which the longer isn't longer, both are one
   one_line : (i : ℕ) (xs ys : List Noted) → IsPrefix xs ys → IsPrefix xs (of_line i whole) → IsPrefix ys (of_line i whole) → length ys ≤ length xs → ys ≡ xs
   one_line i xs ys p q r l = prefix_anti ys xs (shorter_begins ys xs (of_line i whole) r q l) p
@@ -56,13 +56,13 @@ module _ (whole : List Noted) (runs : RunsFrom 0 whole) (frozen : IsFrozenIn who
   -- the joined past with what is known of it while it grows
   record Both (a b : List Noted) : Type 0 where
     joined : Joined a b
-    either : (e : Noted) → In joined.past e → In a e ⊎ In b e
+    either : (e : Noted) → InPast joined.past e → InPast a e ⊎ InPast b e
 
   joined_within : (a b : List Noted) (j : Joined a b) → Within whole a → Within whole b → Within whole j.past
   joined_within a b j wa wb i = ⊎_elim (λ e. subst (λ l. IsPrefix l (of_line i whole)) (sym e) (wa i)) (λ e. subst (λ l. IsPrefix l (of_line i whole)) (sym e) (wb i)) (j.longer_one i)
 
   -- the first past's latest entry is put in front of what is joined behind it
-  put_first : (x : Noted) (a b : List Noted) → Lawful (x ∷ a) → Lawful b → Within whole (x ∷ a) → Within whole b → ((e : Noted) → In b e → e.entry.number < x.entry.number) → Both a b → Both (x ∷ a) b
+  put_first : (x : Noted) (a b : List Noted) → Lawful (x ∷ a) → Lawful b → Within whole (x ∷ a) → Within whole b → ((e : Noted) → InPast b e → e.entry.number < x.entry.number) → Both a b → Both (x ∷ a) b
   put_first x a b la lb wa wb later k = record {
     joined = record {
       past = x ∷ j.past;

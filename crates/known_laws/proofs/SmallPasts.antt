@@ -23,7 +23,7 @@ use Rattle.known_laws.specs.Growing.{AreKnown, IsTurnedPast, entries, grown}
 use Rattle.known_laws.specs.Known.{TellsPlainly}
 use Rattle.known_laws.specs.Driving.{IsPastKept}
 use Rattle.known_laws.proofs.KnownPasts.{known_past_is_kept}
-use Rattle.known_laws.specs.Pasts.{HasSameDeadPart, In, Joined, Lawful, RunsFrom, Within, end_of, line, driver_line}
+use Rattle.known_laws.specs.Pasts.{HasSameDeadPart, InPast, Joined, Lawful, PastRunsFrom, Within, end_of, line, driver_line}
 use Rattle.known_laws.specs.Worked.{a_drop, a_peer_drop, a_refusal, a_release, a_give, a_snap, lines_of, released_twice, turned_numbers, two_drops, without_candidates, wrong_lines, wrongly_drawn}
 use Rattle.known_laws.proofs.CitedOnce.{none_is_cited_twice}
 use Rattle.known_laws.proofs.PastLines.{in-line, in_begins, one-number}
@@ -40,7 +40,7 @@ other = (record { later = omega arith; comes = record { event = (((omega arith, 
 callers-differ : (x y : Noted) → x ≡ y → x.entry.made.caller ≡ M 1 → y.entry.made.caller ≡ P 1 → ⊥
 callers-differ x y e p q = let s : M 1 ≡ P 1 = sym p ∙ (ap (λ (z : Noted). z.entry.made.caller) e ∙ q) in cc
 
-pub no_run : (whole : List Noted) → RunsFrom 0 whole → Within whole (a_drop 5 ∷ []) → Within whole (a_peer_drop 5 ∷ []) → ⊥
+pub no_run : (whole : List Noted) → PastRunsFrom 0 whole → Within whole (a_drop 5 ∷ []) → Within whole (a_peer_drop 5 ∷ []) → ⊥
 no_run whole runs a b = callers-differ (a_drop 5) (a_peer_drop 5) (one-number 0 whole (a_drop 5) (a_peer_drop 5) runs (in_whole_past whole (a_drop 5) (a_drop 5 ∷ []) (inl refl) a) (in_whole_past whole (a_peer_drop 5) (a_peer_drop 5 ∷ []) (inl refl) b) refl) refl refl
 
 pub no_join : Joined (a_drop 5 ∷ []) (a_peer_drop 5 ∷ []) → ⊥
@@ -52,7 +52,7 @@ no_join j =
 pub comes : MayCome (end_of (a_drop 5 ∷ [])) (a_peer_drop 5)
 comes = record { event = (((omega arith, omega arith), omega arith), tt); line = omega arith; short = omega arith; lawful = record { allowed = tt; replies = refl }; order = refl }
 
-in_entries : (xs : List Noted) (e : Entry) → entries xs ≡ e ∷ [] → (n : Noted) × In xs n × (n.entry ≡ e)
+in_entries : (xs : List Noted) (e : Entry) → entries xs ≡ e ∷ [] → (n : Noted) × InPast xs n × (n.entry ≡ e)
 in_entries [] e q = absurd (cc)
 in_entries (x ∷ xs) e q = (x, inl refl, cc)
 

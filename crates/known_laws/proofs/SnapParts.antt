@@ -20,7 +20,7 @@ use Rattle.joint_model.specs.Told.{Told, Noted, contraction_of, phase_of}
 use Rattle.joint_model.proofs.Deciding.{none_some}
 use Rattle.joint_laws.specs.ManagedInvariants.{IsReplayKept}
 use Rattle.joint_laws.proofs.ManagedMoves.{GoesOn, GoesOn-stay, managed_line-goes_on}
-use Rattle.known_laws.specs.Pasts.{In, Lawful, Within, end_of, is_in, role_of}
+use Rattle.known_laws.specs.Pasts.{InPast, Lawful, Within, end_of, is_in, role_of}
 use Rattle.known_laws.specs.Facts.{opened_of, DeadPartIsOfSnap, SnapTellsDeadPart}
 use Rattle.known_laws.proofs.CitedOnce.{each_stands_behind}
 use Rattle.known_laws.proofs.FrozenPasts.{Alike, alike_self, alike_on, alike_meet, goes_by, one_behind, dead_part-alike}
@@ -90,7 +90,7 @@ stays_alike h [] back x l e o q n = subst (λ z. Alike (end_of z).managed.manage
 stays_alike [] (y ∷ front) back x l e o q n = absurd (cc)
 stays_alike (y ∷ h) (z ∷ front) back x l e o q n =
     let rest : h ≡ front ++ x ∷ back = cc in
-    let there : In h x = subst (λ k. In k x) (sym rest) (in_right front (x ∷ back) x (inl refl)) in
+    let there : InPast h x = subst (λ k. InPast k x) (sym rest) (in_right front (x ∷ back) x (inl refl)) in
     let less = below y h x l.0 l.1 there in
     let k = keeps y h l o q (λ m. omega (arith, less, n, m)) in
     alike_on (end_of h).managed.managed (end_of (y ∷ h)).managed.managed (end_of (x ∷ back)).managed.managed (kept_end h l.1).managed.managed k.goes (stays_alike h front back x l.1 rest o k.opened n)

@@ -20,12 +20,12 @@ use Rattle.joint_model.specs.Managed.{Managed, OpenCycle, ManagedEdge, handle_of
 use Rattle.joint_model.specs.PeerReplay.{Mirror}
 use Rattle.joint_model.specs.Told.{Told, Noted, references_of, resolution_of, Answer, IsKept, said_cleared}
 use Rattle.joint_model.specs.Walks.{Reaches}
-use Rattle.known_laws.specs.Pasts.{In, Lawful, end_of}
+use Rattle.known_laws.specs.Pasts.{InPast, Lawful, end_of}
 
 -- an earlier entry of the past is cited, of the same caller, and it is as the citing entry's data say
 pub record HasCited (h : List Noted) (x : Made) (number : ℕ) (IsAsSaid : Made → Type 0) : Type 0 where
   pub cited : Noted
-  pub there : In h cited
+  pub there : InPast h cited
   pub by_number : x.cites ≡ Some cited.entry.number
   pub earlier : cited.entry.number < number
   pub same : cited.entry.made.caller ≡ x.caller
@@ -86,7 +86,7 @@ IsSnapping o = ⊥
 
 -- no entry of a past is cited by two, but a snap
 abbrev pub NoneIsCitedTwice : Type 0
-NoneIsCitedTwice = (h : List Noted) → Lawful h → (x y z : Noted) → In h x → In h y → In h z → x.entry.made.cites ≡ Some z.entry.number → y.entry.made.cites ≡ Some z.entry.number → (x ≡ y) ⊎ IsSnapping z.entry.made.op
+NoneIsCitedTwice = (h : List Noted) → Lawful h → (x y z : Noted) → InPast h x → InPast h y → InPast h z → x.entry.made.cites ≡ Some z.entry.number → y.entry.made.cites ≡ Some z.entry.number → (x ≡ y) ⊎ IsSnapping z.entry.made.op
 
 -- a mirror adds exactly the mirror edges of its cycle's dead part, carried to the peers of the handles, and replies their number
 pub record AddsMirrorEdges (s : Linkage) (told : Told) (reply : Reply) (k : ℕ) : Type 0 where
@@ -171,4 +171,4 @@ pub record StandsBehind (h : List Noted) (x : Noted) : Type 0 where
 
 -- so does each entry
 abbrev pub EachStandsBehind : Type 0
-EachStandsBehind = (h : List Noted) → Lawful h → (x : Noted) → In h x → StandsBehind h x
+EachStandsBehind = (h : List Noted) → Lawful h → (x : Noted) → InPast h x → StandsBehind h x

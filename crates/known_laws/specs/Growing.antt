@@ -10,7 +10,7 @@ use Rattle.joint_model.specs.Linked.{Linkage, MayCome, AllMayCome, IsWhole, IsLi
 use Rattle.joint_model.specs.PeerReplay.{Mirror}
 use Rattle.joint_model.specs.Told.{Told, Noted, nothing}
 use Rattle.known_laws.specs.Known.{TellsPlainly}
-use Rattle.known_laws.specs.Pasts.{In, is_in, line, end_of, Lawful, HasSameDeadPart, driver_line}
+use Rattle.known_laws.specs.Pasts.{InPast, is_in, line, end_of, Lawful, HasSameDeadPart, driver_line}
 use Rattle.joint_model.specs.HistoryLines.{caller_line, entries_in}
 use Rattle.joint_model.specs.Draws.{NumberedFrom}
 
@@ -70,8 +70,8 @@ pub record AreJoined (a b : List Noted) (ls ms ns : ℕ → List Entry) : Type 0
   pub joined : AreKnown ns
   pub first : (i : ℕ) → ns i ≡ ls i → line i joined.past ≡ line i a
   pub second : (i : ℕ) → ns i ≡ ms i → line i joined.past ≡ line i b
-  pub first_stay : (x : Noted) → In a x → In joined.past x
-  pub second_stay : (x : Noted) → In b x → In joined.past x
+  pub first_stay : (x : Noted) → InPast a x → InPast joined.past x
+  pub second_stay : (x : Noted) → InPast b x → InPast joined.past x
   pub managed_first : ns 0 ≡ ls 0 → (end_of joined.past).managed ≡ (end_of a).managed
   pub managed_second : ns 0 ≡ ms 0 → (end_of joined.past).managed ≡ (end_of b).managed
   pub peer_first : ns 1 ≡ ls 1 → (end_of joined.past).peer ≡ (end_of a).peer
@@ -94,8 +94,8 @@ abbrev pub LinesGiveParts : Type 0
 LinesGiveParts = (a b : List Noted) → GivesParts a b
 
 -- while the driver's line stays, the open cycle's dead part is what it was, whatever the others did
-abbrev pub DeadPartIsFrozen : Type 0
-DeadPartIsFrozen = (whole : List Entry) (ls ms : ℕ → List Entry) (a : AreKnown ls) (b : AreKnown ms) → NumberedFrom 0 whole → Begin whole ls → Begin whole ms → ls driver_line ≡ ms driver_line
+abbrev pub DeadPartStays : Type 0
+DeadPartStays = (whole : List Entry) (ls ms : ℕ → List Entry) (a : AreKnown ls) (b : AreKnown ms) → NumberedFrom 0 whole → Begin whole ls → Begin whole ms → ls driver_line ≡ ms driver_line
     → HasSameDeadPart (end_of a.past).managed.managed (end_of b.past).managed.managed
 
 -- what two seats know of one mirrored cycle has the same candidates

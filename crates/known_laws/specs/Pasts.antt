@@ -39,14 +39,14 @@ of_line i [] = []
 of_line i (x ∷ xs) = if is_in i x then x ∷ of_line i xs else of_line i xs
 
 -- the numbers of a run are those from n on
-abbrev pub RunsFrom : ℕ → List Noted → Type 0
-RunsFrom n [] = Unit {0}
-RunsFrom n (x ∷ xs) = (x.entry.number ≡ n) × RunsFrom (n + 1) xs
+abbrev pub PastRunsFrom : ℕ → List Noted → Type 0
+PastRunsFrom n [] = Unit {0}
+PastRunsFrom n (x ∷ xs) = (x.entry.number ≡ n) × PastRunsFrom (n + 1) xs
 
 -- the entry stands in the past
-abbrev pub In : List Noted → Noted → Type 0
-In [] e = ⊥
-In (x ∷ xs) e = (x ≡ e) ⊎ In xs e
+abbrev pub InPast : List Noted → Noted → Type 0
+InPast [] e = ⊥
+InPast (x ∷ xs) e = (x ≡ e) ⊎ InPast xs e
 
 -- the state after a past
 abbrev pub end_of : List Noted → Linkage
@@ -100,11 +100,11 @@ pub record Joined (a b : List Noted) : Type 0 where
 
 -- two pasts of one run join, where the open cycle is frozen
 abbrev pub PastsJoin : Type 0
-PastsJoin = (whole a b : List Noted) → RunsFrom 0 whole → IsFrozenIn whole → Lawful a → Lawful b → Within whole a → Within whole b → Joined a b
+PastsJoin = (whole a b : List Noted) → PastRunsFrom 0 whole → IsFrozenIn whole → Lawful a → Lawful b → Within whole a → Within whole b → Joined a b
 
 -- in any run
 abbrev pub KnownPastsJoin : Type 0
-KnownPastsJoin = (whole a b : List Noted) → RunsFrom 0 whole → Lawful a → Lawful b → Within whole a → Within whole b → Joined a b
+KnownPastsJoin = (whole a b : List Noted) → PastRunsFrom 0 whole → Lawful a → Lawful b → Within whole a → Within whole b → Joined a b
 
 -- a note without what is told
 abbrev pub bare : Noted → Noted
@@ -116,12 +116,12 @@ AreWithin whole h = Within (map bare whole) (map bare h)
 
 -- what both have is told alike
 abbrev pub AreAlike : List Noted → List Noted → Type 0
-AreAlike a b = (x y : Noted) → In a x → In b y → x.entry.number ≡ y.entry.number → x ≡ y
+AreAlike a b = (x y : Noted) → InPast a x → InPast b y → x.entry.number ≡ y.entry.number → x ≡ y
 
 -- so are any two pasts of one run of entries
 abbrev pub PastsAgree : Type 0
-PastsAgree = (whole a b : List Noted) → RunsFrom 0 whole → Lawful a → Lawful b → AreWithin whole a → AreWithin whole b → AreAlike a b
+PastsAgree = (whole a b : List Noted) → PastRunsFrom 0 whole → Lawful a → Lawful b → AreWithin whole a → AreWithin whole b → AreAlike a b
 
 -- of two pasts whose entries are those of one run
 abbrev pub EntryPastsJoin : Type 0
-EntryPastsJoin = (whole a b : List Noted) → RunsFrom 0 whole → Lawful a → Lawful b → AreWithin whole a → AreWithin whole b → Joined a b
+EntryPastsJoin = (whole a b : List Noted) → PastRunsFrom 0 whole → Lawful a → Lawful b → AreWithin whole a → AreWithin whole b → Joined a b

@@ -16,14 +16,14 @@ ghost use Rattle.known_laws.specs.Drawn.{AreDrawn};
 ghost use Rattle.known_laws.specs.Growing.{AreKnown, IsTurnedPast, grown};
 ghost use Rattle.joint_model.specs.HistoryLines.{entries_in};
 ghost use Rattle.known_laws.specs.Known.{TellsPlainly};
-ghost use Rattle.known_laws.specs.Pasts.{HasSameDeadPart, Joined, Lawful, RunsFrom, Within, end_of, line, driver_line};
+ghost use Rattle.known_laws.specs.Pasts.{HasSameDeadPart, Joined, Lawful, PastRunsFrom, Within, end_of, line, driver_line};
 ghost use Rattle.known_laws.specs.Worked.{a_drop, a_peer_drop, a_refusal, a_snap, lines_of, released_twice, turned_numbers, two_drops, without_candidates, wrong_lines};
 
 /// Two pasts with one number for two entries are joined by none, and are pasts of no one run.
 pub fn numbers_must_differ()
     ensures one { Lawful (a_drop 5 ∷ []) }
     ensures other { Lawful (a_peer_drop 5 ∷ []) }
-    ensures no_run { (whole : List Noted) → RunsFrom 0 whole → Within whole (a_drop 5 ∷ []) → Within whole (a_peer_drop 5 ∷ []) → ⊥ }
+    ensures no_run { (whole : List Noted) → PastRunsFrom 0 whole → Within whole (a_drop 5 ∷ []) → Within whole (a_peer_drop 5 ∷ []) → ⊥ }
     ensures no_join { Joined (a_drop 5 ∷ []) (a_peer_drop 5 ∷ []) → ⊥ }
 {}
 

@@ -8,7 +8,7 @@ use Rattle.joint_model.specs.Told.{said_alive}
 use Rattle.joint_model.specs.Walks.{Reached}
 use Rattle.joint_model.proofs.Deciding.{some-same}
 use Rattle.joint_model.proofs.Members.{last-or}
-use Rattle.reachability.specs.Marks.{IsMarked}
+use Rattle.reachability.specs.Marks.{HasMark}
 use Rattle.row_heap.specs.Marks.{EdgeOf}
 use Rattle.row_heap.specs.Rows.{HeapRows}
 use Rattle.managed_side.specs.Resolving.{IsAliveBelow}
@@ -28,8 +28,8 @@ Reached-either P Q R edge h k = (
 
 -- marks before, then what P reaches, then what Q reaches
 pub marks-either : (old mid new : List Bool) (P Q R : ℕ → Type 0) (edge : ℕ → ℕ → Type 0) → ((z : ℕ) → R z ↔ (P z ⊎ Q z))
-    → ((k : ℕ) → IsMarked mid k ↔ (IsMarked old k ⊎ Reached P edge k)) → ((k : ℕ) → IsMarked new k ↔ (IsMarked mid k ⊎ Reached Q edge k))
-    → (k : ℕ) → IsMarked new k ↔ (IsMarked old k ⊎ Reached R edge k)
+    → ((k : ℕ) → HasMark mid k ↔ (HasMark old k ⊎ Reached P edge k)) → ((k : ℕ) → HasMark new k ↔ (HasMark mid k ⊎ Reached Q edge k))
+    → (k : ℕ) → HasMark new k ↔ (HasMark old k ⊎ Reached R edge k)
 marks-either old mid new P Q R edge h f g k = (
   λ m. elim ((g k).0 m) [
     | inl n ↦ elim ((f k).0 n) [ inl o ↦ inl o | inr r ↦ inr ((Reached-either P Q R edge h k).1 (inl r)) ]
@@ -61,16 +61,16 @@ edges-kept v w x y e h = subst (λ (u : HeapRows). EdgeOf u x y) e h
 pub edges-same : (v w : HeapRows) (x y : ℕ) → w ≡ record v { marks = w.marks; links = w.links } → EdgeOf v x y → EdgeOf w x y
 edges-same v w x y e h = subst (λ (u : HeapRows). EdgeOf u x y) (sym e) h
 
-pub bring-none : (v : HeapRows) (cs : List ℕ) (alive : List Bool) (k : ℕ) → IsMarked v.marks k ↔ (IsMarked v.marks k ⊎ Reached (IsAliveBelow 0 cs alive) (EdgeOf v) k)
+pub bring-none : (v : HeapRows) (cs : List ℕ) (alive : List Bool) (k : ℕ) → HasMark v.marks k ↔ (HasMark v.marks k ⊎ Reached (IsAliveBelow 0 cs alive) (EdgeOf v) k)
 bring-none v cs alive k = (λ m. inl m, elim [ inl m ↦ m | inr r ↦ absurd (omega (arith, r.starts.1)) ])
 
 pub bring-next : (v w u : HeapRows) (cs : List ℕ) (alive : List Bool) (i c : ℕ) (b : Bool) → w ≡ record v { marks = w.marks; links = w.links } → slice_get cs i ≡ Some c → slice_get alive i ≡ Some b
-    → ((k : ℕ) → IsMarked w.marks k ↔ (IsMarked v.marks k ⊎ Reached (IsAliveBelow i cs alive) (EdgeOf v) k))
-    → ((k : ℕ) → IsMarked u.marks k ↔ (IsMarked w.marks k ⊎ Reached (λ z. (b ≡ true) × (c ≡ z)) (EdgeOf w) k))
-    → (k : ℕ) → IsMarked u.marks k ↔ (IsMarked v.marks k ⊎ Reached (IsAliveBelow (i + 1) cs alive) (EdgeOf v) k)
+    → ((k : ℕ) → HasMark w.marks k ↔ (HasMark v.marks k ⊎ Reached (IsAliveBelow i cs alive) (EdgeOf v) k))
+    → ((k : ℕ) → HasMark u.marks k ↔ (HasMark w.marks k ⊎ Reached (λ z. (b ≡ true) × (c ≡ z)) (EdgeOf w) k))
+    → (k : ℕ) → HasMark u.marks k ↔ (HasMark v.marks k ⊎ Reached (IsAliveBelow (i + 1) cs alive) (EdgeOf v) k)
 bring-next v w u cs alive i c b e at said f g =
     marks-either v.marks w.marks u.marks (IsAliveBelow i cs alive) (λ z. (b ≡ true) × (c ≡ z)) (IsAliveBelow (i + 1) cs alive) (EdgeOf v) (alive-next cs alive i c b at said) f
-    (subst (λ (t : HeapRows). (k : ℕ) → IsMarked u.marks k ↔ (IsMarked w.marks k ⊎ Reached (λ z. (b ≡ true) × (c ≡ z)) (EdgeOf t) k)) e g)
+    (subst (λ (t : HeapRows). (k : ℕ) → HasMark u.marks k ↔ (HasMark w.marks k ⊎ Reached (λ z. (b ≡ true) × (c ≡ z)) (EdgeOf t) k)) e g)
 
 -- an answer keeps its candidate exactly where its truth value says so
 alive-kept : (o : Option Bool) → o ≡ Some true → option_map answer_of o ≡ Some said_alive
@@ -91,8 +91,8 @@ alive-all cs alive i l z = (
 )
 
 pub bring-all : (v w : HeapRows) (cs : List ℕ) (alive : List Bool) (i : ℕ) → length alive ≤ i
-    → ((k : ℕ) → IsMarked w.marks k ↔ (IsMarked v.marks k ⊎ Reached (IsAliveBelow i cs alive) (EdgeOf v) k))
-    → (k : ℕ) → IsMarked w.marks k ↔ (IsMarked v.marks k ⊎ Reached (IsAnsweredAlive cs (answers_of alive)) (EdgeOf v) k)
+    → ((k : ℕ) → HasMark w.marks k ↔ (HasMark v.marks k ⊎ Reached (IsAliveBelow i cs alive) (EdgeOf v) k))
+    → (k : ℕ) → HasMark w.marks k ↔ (HasMark v.marks k ⊎ Reached (IsAnsweredAlive cs (answers_of alive)) (EdgeOf v) k)
 bring-all v w cs alive i l f k = (
   λ m. elim ((f k).0 m) [ inl o ↦ inl o | inr r ↦ inr (record { root = r.root; starts = (alive-all cs alive i l r.root).0 r.starts; reaches = r.reaches }) ],
   λ m. (f k).1 (elim m [ inl o ↦ inl o | inr r ↦ inr (record { root = r.root; starts = (alive-all cs alive i l r.root).1 r.starts; reaches = r.reaches }) ]),

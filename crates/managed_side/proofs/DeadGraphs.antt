@@ -16,7 +16,7 @@ use Rattle.joint_model.proofs.HeapLemmas.{is_freed-live}
 use Rattle.joint_model.proofs.Members.{Contains-at, Contains-nil, Contains-here, Contains-there, last-or, Rises-once, take-next}
 use Rattle.joint_model.proofs.Numbered.{set-at_same, set-at_other, set-at_here}
 use Rattle.bridge_graph.specs.declared.graph.Node.{Node}
-use Rattle.bridge_graph.specs.Parts.{Part, Leads, opaque_at, numbers_of}
+use Rattle.bridge_graph.specs.Parts.{Part, NodeLeads, opaque_at, numbers_of}
 use Rattle.managed_side.specs.Graphs.{ArePlaces, HasDeadField, HasPlaced, IsPlaceOf, IsDeadGraph, handle_number, handle_named, held_at, node_of}
 use Rattle.managed_side.specs.declared.rows.Held.{Held}
 use Rattle.managed_side.proofs.Lists.{beside-at}
@@ -66,7 +66,7 @@ nodes-below h held ms i d r l =
     (take-all (λ (m : MNum). m.0 < (get_or ms i d).0) ms i (λ k x w e. Rises-order (managed_numbers ms) k i x.0 (get_or ms i d).0 r (number-at ms k x e) (number-at ms i (get_or ms i d) (slice_get-get_or ms i d l)) w))
 
 -- a row of edges gets one more
-pub leads-more : (es : List (List ℕ)) (from to a k : ℕ) → from < length es → Leads (set es from (get_or es from [] ++ to ∷ [])) a k ↔ (Leads es a k ⊎ ((a ≡ from) × (k ≡ to)))
+pub leads-more : (es : List (List ℕ)) (from to a k : ℕ) → from < length es → NodeLeads (set es from (get_or es from [] ++ to ∷ [])) a k ↔ (NodeLeads es a k ⊎ ((a ≡ from) × (k ≡ to)))
 leads-more es from to a k l = elim (cases_eq a from) [
   | inl s ↦ (
       let row : get_or (set es from (get_or es from [] ++ to ∷ [])) a [] ≡ get_or es a [] ++ to ∷ [] = ap (λ z. get_or (set es from (get_or es from [] ++ to ∷ [])) z []) s ∙ (get_or-set_same es from (get_or es from [] ++ to ∷ []) [] l ∙ ap (λ z. get_or es z [] ++ to ∷ []) (sym s)) in (
@@ -84,7 +84,7 @@ leads-more es from to a k l = elim (cases_eq a from) [
 ]
 
 pub placed-more : (places : List ℕ) (es : List (List ℕ)) (i a k y place : ℕ) → i < length es → slice_get places y ≡ Some place → (place ≡ 0 → ⊥)
-    → Leads (set es i (get_or es i [] ++ (place - 1) ∷ [])) a k ↔ (Leads es a k ⊎ ((a ≡ i) × IsPlaceOf places (Some y) k))
+    → NodeLeads (set es i (get_or es i [] ++ (place - 1) ∷ [])) a k ↔ (NodeLeads es a k ⊎ ((a ≡ i) × IsPlaceOf places (Some y) k))
 placed-more places es i a k y place l at n =
     let m = leads-more es i (place - 1) a k l in
     let up : (place - 1) + 1 ≡ place = before place n in (
@@ -107,9 +107,9 @@ placed-more places es i a k y place l at n =
 
 -- one field more
 pub fields-more : (places : List ℕ) (fields : List (Option ℕ)) (j i : ℕ) (o : Option ℕ) (old mid new : List (List ℕ)) → slice_get fields j ≡ Some o
-    → ((a k : ℕ) → Leads mid a k ↔ (Leads old a k ⊎ ((a ≡ i) × HasPlaced places (take j fields) k)))
-    → ((a k : ℕ) → Leads new a k ↔ (Leads mid a k ⊎ ((a ≡ i) × IsPlaceOf places o k)))
-    → (a k : ℕ) → Leads new a k ↔ (Leads old a k ⊎ ((a ≡ i) × HasPlaced places (take (j + 1) fields) k))
+    → ((a k : ℕ) → NodeLeads mid a k ↔ (NodeLeads old a k ⊎ ((a ≡ i) × HasPlaced places (take j fields) k)))
+    → ((a k : ℕ) → NodeLeads new a k ↔ (NodeLeads mid a k ⊎ ((a ≡ i) × IsPlaceOf places o k)))
+    → (a k : ℕ) → NodeLeads new a k ↔ (NodeLeads old a k ⊎ ((a ≡ i) × HasPlaced places (take (j + 1) fields) k))
 fields-more places fields j i o old mid new at f g a k =
     let longer : take (j + 1) fields ≡ take j fields ++ o ∷ [] = take-next fields j o at in (
       λ c. elim ((g a k).0 c) [
@@ -137,9 +137,9 @@ placed-dead h dead places i x k p at = (
 
 -- one row more
 pub rows-more : (h : Heap) (dead places : List ℕ) (i x : ℕ) (old mid new : List (List ℕ)) → ArePlaces (length dead) dead places → slice_get dead i ≡ Some x
-    → ((a k : ℕ) → Leads mid a k ↔ (Leads old a k ⊎ ((a < i) × HasDeadField h dead a k)))
-    → ((a k : ℕ) → Leads new a k ↔ (Leads mid a k ⊎ ((a ≡ i) × HasPlaced places (fields_of h x) k)))
-    → (a k : ℕ) → Leads new a k ↔ (Leads old a k ⊎ ((a < i + 1) × HasDeadField h dead a k))
+    → ((a k : ℕ) → NodeLeads mid a k ↔ (NodeLeads old a k ⊎ ((a < i) × HasDeadField h dead a k)))
+    → ((a k : ℕ) → NodeLeads new a k ↔ (NodeLeads mid a k ⊎ ((a ≡ i) × HasPlaced places (fields_of h x) k)))
+    → (a k : ℕ) → NodeLeads new a k ↔ (NodeLeads old a k ⊎ ((a < i + 1) × HasDeadField h dead a k))
 rows-more h dead places i x old mid new p at f g a k = (
   λ c. elim ((g a k).0 c) [
     | inl m ↦ elim ((f a k).0 m) [ inl o ↦ inl o | inr d ↦ inr (omega (arith, d.0), d.1) ]
@@ -154,14 +154,14 @@ rows-more h dead places i x old mid new p at f g a k = (
   ],
 )
 
-pub rows-all : (h : Heap) (dead : List ℕ) (n : ℕ) (old new : List (List ℕ)) → length dead ≤ n → ((a k : ℕ) → Leads new a k ↔ (Leads old a k ⊎ ((a < n) × HasDeadField h dead a k))) → (a k : ℕ) → Leads new a k ↔ (Leads old a k ⊎ HasDeadField h dead a k)
+pub rows-all : (h : Heap) (dead : List ℕ) (n : ℕ) (old new : List (List ℕ)) → length dead ≤ n → ((a k : ℕ) → NodeLeads new a k ↔ (NodeLeads old a k ⊎ ((a < n) × HasDeadField h dead a k))) → (a k : ℕ) → NodeLeads new a k ↔ (NodeLeads old a k ⊎ HasDeadField h dead a k)
 rows-all h dead n old new l f a k = (
   λ c. elim ((f a k).0 c) [ inl o ↦ inl o | inr d ↦ inr d.1 ],
   λ c. (f a k).1 (elim c [ inl o ↦ inl o | inr d ↦ inr (omega (arith, l, slice_get_within dead a d.from d.here), d) ]),
 )
 
 -- from rows without edges
-pub edges-all : (h : Heap) (dead : List ℕ) (old new : List (List ℕ)) → ((a : ℕ) → get_or old a [] ≡ []) → ((a k : ℕ) → Leads new a k ↔ (Leads old a k ⊎ HasDeadField h dead a k)) → (a k : ℕ) → Leads new a k ↔ HasDeadField h dead a k
+pub edges-all : (h : Heap) (dead : List ℕ) (old new : List (List ℕ)) → ((a : ℕ) → get_or old a [] ≡ []) → ((a k : ℕ) → NodeLeads new a k ↔ (NodeLeads old a k ⊎ HasDeadField h dead a k)) → (a k : ℕ) → NodeLeads new a k ↔ HasDeadField h dead a k
 edges-all h dead old new none f a k = (
   λ c. elim ((f a k).0 c) [ inl o ↦ absurd (Contains-nil k (subst (λ xs. Contains xs k) (none a) o)) | inr d ↦ d ],
   λ d. (f a k).1 (inr d),
@@ -198,7 +198,7 @@ handle-live s m l = ap (λ b. if b then None else held_at s.held m) (is_freed-li
 
 -- `h` is the heap over which the graph was made; the state has the same fields, and the rows are live in it
 pub IsDeadGraph-made : (s : Managed) (h : Heap) (ms : List MNum) (g : Part) → s.heap.fields ≡ h.fields → ((m : ℕ) → Contains (managed_numbers ms) m → IsLive s.heap m) → g.nodes ≡ map (node_of h s.held) ms
-    → ((a k : ℕ) → Leads g.edges a k ↔ HasDeadField h (managed_numbers ms) a k) → IsDeadGraph s (managed_numbers ms) g
+    → ((a k : ℕ) → NodeLeads g.edges a k ↔ HasDeadField h (managed_numbers ms) a k) → IsDeadGraph s (managed_numbers ms) g
 IsDeadGraph-made s h ms g same live nodes edges =
     let row : (x : ℕ) → fields_of s.heap x ≡ fields_of h x = λ x. ap (λ (fs : List (List (Option ℕ))). elim (numbered_at fs x) [ None ↦ [] | Some f ↦ f ]) same in
     record {

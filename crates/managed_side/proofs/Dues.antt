@@ -7,7 +7,7 @@ use Rattle.joint_model.specs.Managed.{OpenCycle}
 use Rattle.joint_model.proofs.Members.{last-or}
 use Rattle.joint_model.proofs.Numbered.{push-at_old, push-at_new}
 use Rattle.joint_laws.proofs.HeapMoves.{HasMoved}
-use Rattle.reachability.specs.Marks.{IsMarked}
+use Rattle.reachability.specs.Marks.{HasMark}
 use Rattle.row_heap.specs.Rows.{HeapRows}
 use Rattle.managed_side.specs.Dues.{AreDues}
 
@@ -24,8 +24,8 @@ AreDues-as cycle v w spare len freed marks a = λ c e. (
     record {
       rise = d.rise;
       white = λ m. (
-        λ k. (let u = (d.white m).0 k in (live-as v.heap w.heap m len freed u.0, λ h. u.1 (subst (λ ms. IsMarked ms m) marks h))),
-        λ u. (d.white m).1 (live-as w.heap v.heap m (sym len) (sym freed) u.0, λ h. u.1 (subst (λ ms. IsMarked ms m) (sym marks) h)),
+        λ k. (let u = (d.white m).0 k in (live-as v.heap w.heap m len freed u.0, λ h. u.1 (subst (λ ms. HasMark ms m) marks h))),
+        λ u. (d.white m).1 (live-as w.heap v.heap m (sym len) (sym freed) u.0, λ h. u.1 (subst (λ ms. HasMark ms m) (sym marks) h)),
       );
       notices = d.notices;
     })
@@ -54,14 +54,14 @@ AreDues-object cycle v w spare n p o fit e a = λ c q. (
         λ k. (
             let u = (d.white m).0 k in (
               record { made = (u.0.made.0, omega (arith, u.0.made.1, longer)); kept = λ x. u.0.kept (subst (λ xs. Contains xs m) freed x) },
-              λ h. u.1 (sym (push-at_old v.marks true m (omega (arith, u.0.made.1, fit))) ∙ subst (λ ms. IsMarked ms m) marks h),
+              λ h. u.1 (sym (push-at_old v.marks true m (omega (arith, u.0.made.1, fit))) ∙ subst (λ ms. HasMark ms m) marks h),
             )),
         λ u. elim (last-or m (length v.heap.fields + 1) (omega (arith, u.0.made.1, longer))) [
           | inl l ↦ (d.white m).1 (
             record { made = (u.0.made.0, omega (arith, l)); kept = λ x. u.0.kept (subst (λ xs. Contains xs m) (sym freed) x) },
-            λ h. u.1 (subst (λ ms. IsMarked ms m) (sym marks) (push-at_old v.marks true m (omega (arith, l, fit)) ∙ h)),
+            λ h. u.1 (subst (λ ms. HasMark ms m) (sym marks) (push-at_old v.marks true m (omega (arith, l, fit)) ∙ h)),
           )
-          | inr l ↦ absurd (u.1 (subst (λ ms. IsMarked ms m) (sym marks) (subst (λ i. slice_get (v.marks ++ true ∷ []) i ≡ Some true) (fit ∙ sym l) (push-at_new v.marks true))))
+          | inr l ↦ absurd (u.1 (subst (λ ms. HasMark ms m) (sym marks) (subst (λ i. slice_get (v.marks ++ true ∷ []) i ≡ Some true) (fit ∙ sym l) (push-at_new v.marks true))))
         ],
       );
       notices = d.notices;

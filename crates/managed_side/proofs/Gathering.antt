@@ -13,7 +13,7 @@ use Rattle.joint_model.specs.Walks.{Reached}
 use Rattle.joint_model.proofs.Deciding.{none_some, some-same}
 use Rattle.joint_model.proofs.Members.{Contains-filter_from, Contains-nil, Contains-here, Contains-there, Contains-cons_cases}
 use Rattle.joint_model.specs.Gathered.{Gathered}
-use Rattle.reachability.specs.Marks.{IsMarked}
+use Rattle.reachability.specs.Marks.{HasMark}
 use Rattle.row_heap.specs.Marks.{AreWhite, EdgeOf}
 use Rattle.row_heap.specs.Rows.{HeapRows}
 use Rattle.managed_side.proofs.BringingBack.{marks-either}
@@ -72,22 +72,22 @@ filter-skip p ms xs i d l e t = rw (numbers-more ms i d l, filter-append p (mana
 
 -- one row more is brought back
 pub back-next : (v w u : HeapRows) (ms : List ℕ) (i : ℕ) (d : ℕ) → i < length ms → w ≡ record v { marks = w.marks; links = w.links }
-    → ((k : ℕ) → IsMarked w.marks k ↔ (IsMarked v.marks k ⊎ Reached (Contains (take i ms)) (EdgeOf v) k))
-    → ((k : ℕ) → IsMarked u.marks k ↔ (IsMarked w.marks k ⊎ Reached (Contains (get_or ms i d ∷ [])) (EdgeOf w) k))
-    → (k : ℕ) → IsMarked u.marks k ↔ (IsMarked v.marks k ⊎ Reached (Contains (take (i + 1) ms)) (EdgeOf v) k)
+    → ((k : ℕ) → HasMark w.marks k ↔ (HasMark v.marks k ⊎ Reached (Contains (take i ms)) (EdgeOf v) k))
+    → ((k : ℕ) → HasMark u.marks k ↔ (HasMark w.marks k ⊎ Reached (Contains (get_or ms i d ∷ [])) (EdgeOf w) k))
+    → (k : ℕ) → HasMark u.marks k ↔ (HasMark v.marks k ⊎ Reached (Contains (take (i + 1) ms)) (EdgeOf v) k)
 back-next v w u ms i d l e f g =
     marks-either v.marks w.marks u.marks (Contains (take i ms)) (Contains (get_or ms i d ∷ [])) (Contains (take (i + 1) ms)) (EdgeOf v)
     (λ z. subst (λ (xs : List ℕ). Contains xs z ↔ (Contains (take i ms) z ⊎ Contains (get_or ms i d ∷ []) z)) (sym (take_more ms i d l)) (
       λ c. Contains-append_cases (take i ms) (get_or ms i d ∷ []) z c,
       elim [ inl a ↦ Contains-append_left (take i ms) (get_or ms i d ∷ []) z a | inr b ↦ Contains-append_right (take i ms) (get_or ms i d ∷ []) z b ],
     )) f
-    (subst (λ (t : HeapRows). (k : ℕ) → IsMarked u.marks k ↔ (IsMarked w.marks k ⊎ Reached (Contains (get_or ms i d ∷ [])) (EdgeOf t) k)) e g)
+    (subst (λ (t : HeapRows). (k : ℕ) → HasMark u.marks k ↔ (HasMark w.marks k ⊎ Reached (Contains (get_or ms i d ∷ [])) (EdgeOf t) k)) e g)
 
-pub back-none : (v : HeapRows) (k : ℕ) → IsMarked v.marks k ↔ (IsMarked v.marks k ⊎ Reached (Contains []) (EdgeOf v) k)
+pub back-none : (v : HeapRows) (k : ℕ) → HasMark v.marks k ↔ (HasMark v.marks k ⊎ Reached (Contains []) (EdgeOf v) k)
 back-none v k = (λ m. inl m, elim [ inl m ↦ m | inr r ↦ absurd (Contains-nil r.root r.starts) ])
 
 -- slots and pins were marked, so the marking is on its way from them
-pub slots-greying : (v b s p : HeapRows) (pins : List (Option ℕ)) (g k : ℕ) → b.heap ≡ v.heap → ((x : ℕ) → IsMarked b.marks x → ⊥) → Greyed (InSlot b.heap) b.marks b.links 0 s.marks s.links g
+pub slots-greying : (v b s p : HeapRows) (pins : List (Option ℕ)) (g k : ℕ) → b.heap ≡ v.heap → ((x : ℕ) → HasMark b.marks x → ⊥) → Greyed (InSlot b.heap) b.marks b.links 0 s.marks s.links g
     → Greyed (λ z. Contains pins (Some z)) s.marks s.links g p.marks p.links k → Greying (roots_of v.heap pins) (EdgeOf p) b.marks p.marks p.links k
 slots-greying v b s p pins g k e none slots held =
     Greying-begins (roots_of v.heap pins) (EdgeOf p) b.marks b.links p.marks p.links k (λ x y f m. absurd (none x m))
@@ -96,8 +96,8 @@ slots-greying v b s p pins g k e none slots held =
     (subst (λ (h : Heap). Greyed (InSlot h) b.marks b.links 0 s.marks s.links g) e slots) held)
 
 -- what is marked at its end is what they reach
-pub slots-marked : (v w : HeapRows) (before after : List Bool) (pins : List (Option ℕ)) → w.heap ≡ v.heap → w.follows ≡ false → ((x : ℕ) → IsMarked before x → ⊥)
-    → ((x : ℕ) → IsMarked after x ↔ (IsMarked before x ⊎ Reached (Contains (roots_of v.heap pins)) (EdgeOf w) x)) → (x : ℕ) → IsMarked after x ↔ Reached (λ z. InSlot v.heap z ⊎ Contains pins (Some z)) (HasField v.heap) x
+pub slots-marked : (v w : HeapRows) (before after : List Bool) (pins : List (Option ℕ)) → w.heap ≡ v.heap → w.follows ≡ false → ((x : ℕ) → HasMark before x → ⊥)
+    → ((x : ℕ) → HasMark after x ↔ (HasMark before x ⊎ Reached (Contains (roots_of v.heap pins)) (EdgeOf w) x)) → (x : ℕ) → HasMark after x ↔ Reached (λ z. InSlot v.heap z ⊎ Contains pins (Some z)) (HasField v.heap) x
 slots-marked v w before after pins e plain none marks x = (
   λ m. elim ((marks x).0 m) [
     | inl o ↦ absurd (none x o)

@@ -10,7 +10,7 @@ use Rattle.std.proofs.lemmas.List.{drop_more}
 use Rattle.joint_model.specs.Components.{Rises}
 use Rattle.joint_model.proofs.Members.{Contains-here, Contains-there, Contains-filter_from, Contains-filter_to}
 use Rattle.joint_model.proofs.Deciding.{not-true, not-from}
-use Rattle.reachability.specs.Marks.{IsMarked, marked, unmarked_of}
+use Rattle.reachability.specs.Marks.{HasMark, marked, unmarked_of}
 use Rattle.managed_side.specs.declared.rows.Held.{Held}
 use Rattle.managed_side.specs.Resolving.{has_handle, has_peer}
 use Rattle.reachability.proofs.Marking.{marked-from, marked-some, IsMarked-test, test-IsMarked}

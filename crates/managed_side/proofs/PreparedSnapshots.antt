@@ -13,10 +13,10 @@ use Rattle.joint_model.specs.Walks.{Reached}
 use Rattle.joint_model.proofs.HeapLemmas.{IsLive-left}
 use Rattle.joint_model.proofs.WalkLemmas.{Reached-start}
 use Rattle.joint_laws.specs.ManagedInvariants.{IsManagedKept}
-use Rattle.bridge_graph.specs.Parts.{Part, Leads}
+use Rattle.bridge_graph.specs.Parts.{Part, NodeLeads}
 use Rattle.finaliser_queue.specs.Queue.{Queue}
 use Rattle.heap_rules.specs.Tidy.{CanFree}
-use Rattle.reachability.specs.Marks.{IsMarked}
+use Rattle.reachability.specs.Marks.{HasMark}
 use Rattle.row_heap.specs.Rows.{HeapRows}
 use Rattle.managed_side.specs.declared.rows.Held.{Held}
 use Rattle.managed_side.specs.Dues.{HasDue}
@@ -45,13 +45,13 @@ pins-left s w freed candidates dead closed kept p x c =
     (λ g. (((prepared-snapshot s w freed candidates dead closed p).frees x).0 g).1 (Reached-start (IsManagedRoot s) (ManagedEdge s) x root))
 
 pub prepared-due : (s : Managed) (w u : HeapRows) (freed candidates dead : List ℕ) (spare n : ℕ) → Prepares s.heap s.pins s.held w freed candidates dead → u.heap ≡ with_freed s.heap freed
-    → ((x : ℕ) → IsMarked u.marks x ↔ Reached (λ z. InSlot (with_freed s.heap freed) z ⊎ Contains s.pins (Some z)) (HasField (with_freed s.heap freed)) x) → length candidates ≤ spare
+    → ((x : ℕ) → HasMark u.marks x ↔ Reached (λ z. InSlot (with_freed s.heap freed) z ⊎ Contains s.pins (Some z)) (HasField (with_freed s.heap freed)) x) → length candidates ≤ spare
     → HasDue u spare (record { number = n; candidates = candidates; dead = dead })
 prepared-due s w u freed candidates dead spare n p eu marks l = HasDue-found p.marked w u s freed candidates dead spare n (slot-marks s w freed candidates dead p) p.finds eu marks l
 
 -- the graph was made over the objects before, and its rows stay
 pub prepared-graph : (s : Managed) (w : HeapRows) (freed candidates : List ℕ) (ds : List MNum) (g : Part) → s.cycle ≡ None → Prepares s.heap s.pins s.held w freed candidates (managed_numbers ds) → g.nodes ≡ map (node_of s.heap s.held) ds
-    → ((a k : ℕ) → Leads g.edges a k ↔ HasDeadField s.heap (managed_numbers ds) a k) → IsDeadGraph (with_snapshot s freed candidates (managed_numbers ds)) (managed_numbers ds) g
+    → ((a k : ℕ) → NodeLeads g.edges a k ↔ HasDeadField s.heap (managed_numbers ds) a k) → IsDeadGraph (with_snapshot s freed candidates (managed_numbers ds)) (managed_numbers ds) g
 prepared-graph s w freed candidates ds g closed p nodes edges =
     let snapshot = prepared-snapshot s w freed candidates (managed_numbers ds) closed p in
     IsDeadGraph-made (with_snapshot s freed candidates (managed_numbers ds)) s.heap ds g refl
@@ -61,7 +61,7 @@ prepared-graph s w freed candidates ds g closed p nodes edges =
 pub takes-prepared : (h k : Heap) (infos : List Held) (ps : List (PNum × MNum)) (cells pins : List (Option ℕ)) (q r : Queue) (cycle after : Option OpenCycle) (n : ℕ) (b : Bool) (w : HeapRows) (freed candidates : List ℕ) (ds : List MNum) (first count : ℕ) (g : Part)
     → cycle ≡ None → Prepares h pins (map (λ (i : Held). i.handle) infos) w freed candidates (managed_numbers ds) → k ≡ with_freed h freed → r.queued ≡ q.queued → r.taken ≡ q.taken
     → after ≡ Some record { number = n + 1; candidates = candidates; dead = managed_numbers ds } → first ≡ length h.freed → count ≡ length candidates
-    → g.nodes ≡ map (node_of h (map (λ (i : Held). i.handle) infos)) ds → ((a k : ℕ) → Leads g.edges a k ↔ HasDeadField h (managed_numbers ds) a k)
+    → g.nodes ≡ map (node_of h (map (λ (i : Held). i.handle) infos)) ds → ((a k : ℕ) → NodeLeads g.edges a k ↔ HasDeadField h (managed_numbers ds) a k)
     → TakesSnapshot (rows_of h infos ps cells pins q cycle n b) (rows_of k infos ps cells pins r after (n + 1) false) freed (n + 1) first count g
 takes-prepared h k infos ps cells pins q r cycle after n b w freed candidates ds first count g closed p ek queued taken opened before counted nodes edges =
     let s : ManagedReplay = rows_of h infos ps cells pins q cycle n b in

@@ -25,7 +25,7 @@ use Rattle.joint_model.proofs.WalkLemmas.{Reaches-mono}
 use Rattle.joint_laws.specs.ManagedInvariants.{IsCutOff}
 use Rattle.finaliser_queue.specs.Queue.{Queue}
 use Rattle.heap_rules.specs.Tidy.{CanFree}
-use Rattle.reachability.specs.Marks.{IsMarked, IsClosed, marked, unmarked_of}
+use Rattle.reachability.specs.Marks.{HasMark, IsClosed, marked, unmarked_of}
 use Rattle.row_heap.specs.Marks.{EdgeOf}
 use Rattle.row_heap.specs.Rows.{HeapRows}
 use Rattle.managed_side.specs.declared.rows.Held.{Held}
@@ -52,7 +52,7 @@ shut-open v spare s c eh ef d cut x y e m =
 -- what the marking leaves out of the dead part may be freed
 pub can-free : (v w : HeapRows) (s : Managed) (c : OpenCycle) (freed : List ℕ) → v.heap ≡ s.heap → w.heap ≡ v.heap → Rises c.dead → IsCutOff s c → IsClosed (EdgeOf v) w.marks → freed ≡ unmarked_of w.marks c.dead → CanFree w.heap freed
 can-free v w s c freed eh ew rise cut shut is =
-    let exact : (m : ℕ) → Contains freed m ↔ (Contains c.dead m × (IsMarked w.marks m → ⊥)) = λ m. subst (λ xs. Contains xs m ↔ (Contains c.dead m × (IsMarked w.marks m → ⊥))) (sym is) (unmarked_of-exact w.marks c.dead m) in
+    let exact : (m : ℕ) → Contains freed m ↔ (Contains c.dead m × (HasMark w.marks m → ⊥)) = λ m. subst (λ xs. Contains xs m ↔ (Contains c.dead m × (HasMark w.marks m → ⊥))) (sym is) (unmarked_of-exact w.marks c.dead m) in
     let e : w.heap ≡ s.heap = ew ∙ eh in
     record {
       live = All-members (IsLive w.heap) freed (λ x k. subst (λ h. IsLive h x) (sym e) (cut.live x ((exact x).0 k).0));
@@ -73,10 +73,10 @@ can-free v w s c freed eh ew rise cut shut is =
 
 -- and it is the resolution
 pub resolution-is : (v w : HeapRows) (spare : ℕ) (s : Managed) (c : OpenCycle) (alive : List Bool) (freed : List ℕ) → v.heap ≡ s.heap → v.follows ≡ false → HasDue v spare c
-    → ((k : ℕ) → IsMarked w.marks k ↔ (IsMarked v.marks k ⊎ Reached (IsAnsweredAlive c.candidates (answers_of alive)) (EdgeOf v) k)) → freed ≡ unmarked_of w.marks c.dead
+    → ((k : ℕ) → HasMark w.marks k ↔ (HasMark v.marks k ⊎ Reached (IsAnsweredAlive c.candidates (answers_of alive)) (EdgeOf v) k)) → freed ≡ unmarked_of w.marks c.dead
     → IsResolution s c.dead (IsAnsweredAlive c.candidates (answers_of alive)) freed
 resolution-is v w spare s c alive freed eh ef d marks is =
-    let exact : (m : ℕ) → Contains freed m ↔ (Contains c.dead m × (IsMarked w.marks m → ⊥)) = λ m. subst (λ xs. Contains xs m ↔ (Contains c.dead m × (IsMarked w.marks m → ⊥))) (sym is) (unmarked_of-exact w.marks c.dead m) in
+    let exact : (m : ℕ) → Contains freed m ↔ (Contains c.dead m × (HasMark w.marks m → ⊥)) = λ m. subst (λ xs. Contains xs m ↔ (Contains c.dead m × (HasMark w.marks m → ⊥))) (sym is) (unmarked_of-exact w.marks c.dead m) in
     record {
       rise = subst Rises (sym is) (Rises-filter (λ m. not (marked w.marks m)) c.dead d.rise);
       frees = λ m. (

@@ -15,7 +15,7 @@ use Rattle.joint_model.proofs.Members.{Contains-filter_from, Contains-filter_to,
 use Rattle.joint_model.proofs.WalkLemmas.{Reached-mono, Reached-start, Reached-then, Reached-further, Reached-keeps}
 use Rattle.finaliser_queue.specs.Queue.{Queue}
 use Rattle.heap_rules.specs.Tidy.{CanFree}
-use Rattle.reachability.specs.Marks.{IsMarked, marked}
+use Rattle.reachability.specs.Marks.{HasMark, marked}
 use Rattle.row_heap.specs.Marks.{EdgeOf}
 use Rattle.row_heap.specs.Rows.{HeapRows}
 use Rattle.managed_side.specs.declared.rows.Held.{Held}
@@ -31,7 +31,7 @@ use Rattle.joint_model.proofs.Deciding.{handle-there}
 pub record AreSlotMarks (v : HeapRows) (s : Managed) : Type 0 where
   pub heap : v.heap ≡ s.heap
   pub plain : v.follows ≡ false
-  pub marks : (x : ℕ) → IsMarked v.marks x ↔ IsManagedReached s x
+  pub marks : (x : ℕ) → HasMark v.marks x ↔ IsManagedReached s x
 
 -- a bridge row by the list of held handles
 pub bridge-test : (s : Managed) (m : ℕ) → IsLive s.heap m → (has_handle s.held m ≡ true) ↔ IsBridge s m
@@ -62,13 +62,13 @@ picked-is v w s freed candidates dead a f m = (
 )
 
 -- what is marked then is what slots or bridge rows reach
-reached-marked : (v w : HeapRows) (s : Managed) (freed candidates dead : List ℕ) → AreSlotMarks v s → PartsUnmarked v w s.held freed candidates dead → (m : ℕ) → IsMarked w.marks m → IsManagedReached s m ⊎ IsBridgeReached s m
+reached-marked : (v w : HeapRows) (s : Managed) (freed candidates dead : List ℕ) → AreSlotMarks v s → PartsUnmarked v w s.held freed candidates dead → (m : ℕ) → HasMark w.marks m → IsManagedReached s m ⊎ IsBridgeReached s m
 reached-marked v w s freed candidates dead a f m k = elim ((f.marks m).0 k) [
   | inl o ↦ inl ((a.marks m).0 o)
   | inr r ↦ inr (Reached-mono (Contains candidates) (IsBridge s) (EdgeOf v) (ManagedEdge s) (λ x c. ((picked-is v w s freed candidates dead a f x).0 c).0) (λ x y e. edge-fields v s x y a.heap a.plain e) m r)
 ]
 
-marked-bridge : (v w : HeapRows) (s : Managed) (freed candidates dead : List ℕ) → AreSlotMarks v s → PartsUnmarked v w s.held freed candidates dead → (m : ℕ) → IsBridgeReached s m → IsMarked w.marks m
+marked-bridge : (v w : HeapRows) (s : Managed) (freed candidates dead : List ℕ) → AreSlotMarks v s → PartsUnmarked v w s.held freed candidates dead → (m : ℕ) → IsBridgeReached s m → HasMark w.marks m
 marked-bridge v w s freed candidates dead a f m r = elim (marked-or v.marks r.root) [
   | inl k ↦ (f.marks m).1 (inl ((a.marks m).1 (Reached-further (IsManagedRoot s) (ManagedEdge s) r.root m ((a.marks r.root).0 k) r.reaches)))
   | inr n ↦ (f.marks m).1 (inr (Reached-mono (λ z. z ≡ r.root) (Contains candidates) (ManagedEdge s) (EdgeOf v)
@@ -76,10 +76,10 @@ marked-bridge v w s freed candidates dead a f m r = elim (marked-or v.marks r.ro
       (λ x y e. field-edge v s x y a.heap e) m (record { root = r.root; starts = refl; reaches = r.reaches })))
 ]
 
-freed-is : (v w : HeapRows) (held : List (Option ℕ)) (freed candidates dead : List ℕ) → (f : PartsUnmarked v w held freed candidates dead) → (m : ℕ) → Contains freed m ↔ (Contains f.white m × (IsMarked w.marks m → ⊥))
-freed-is v w held freed candidates dead f m = subst (λ xs. Contains xs m ↔ (Contains f.white m × (IsMarked w.marks m → ⊥))) (sym f.goes) (unmarked_of-exact w.marks f.white m)
+freed-is : (v w : HeapRows) (held : List (Option ℕ)) (freed candidates dead : List ℕ) → (f : PartsUnmarked v w held freed candidates dead) → (m : ℕ) → Contains freed m ↔ (Contains f.white m × (HasMark w.marks m → ⊥))
+freed-is v w held freed candidates dead f m = subst (λ xs. Contains xs m ↔ (Contains f.white m × (HasMark w.marks m → ⊥))) (sym f.goes) (unmarked_of-exact w.marks f.white m)
 
-dead-is : (v w : HeapRows) (held : List (Option ℕ)) (freed candidates dead : List ℕ) → (f : PartsUnmarked v w held freed candidates dead) → (m : ℕ) → Contains dead m ↔ (Contains f.white m × IsMarked w.marks m)
+dead-is : (v w : HeapRows) (held : List (Option ℕ)) (freed candidates dead : List ℕ) → (f : PartsUnmarked v w held freed candidates dead) → (m : ℕ) → Contains dead m ↔ (Contains f.white m × HasMark w.marks m)
 dead-is v w held freed candidates dead f m = (
   λ c. (let r = Contains-filter_from (marked w.marks) f.white m (subst (λ xs. Contains xs m) f.left c) in (r.0, IsMarked-test w.marks m r.1)),
   λ u. subst (λ xs. Contains xs m) (sym f.left) (Contains-filter_to (marked w.marks) f.white m u.0 (test-IsMarked w.marks m u.1)),
@@ -165,7 +165,7 @@ reached-still h P freed out m = (
 
 -- what the cycle owes is ready
 pub HasDue-found : (v w u : HeapRows) (s : Managed) (freed candidates dead : List ℕ) (spare n : ℕ) → AreSlotMarks v s → PartsUnmarked v w s.held freed candidates dead → u.heap ≡ with_freed s.heap freed
-    → ((x : ℕ) → IsMarked u.marks x ↔ Reached (λ z. InSlot (with_freed s.heap freed) z ⊎ Contains s.pins (Some z)) (HasField (with_freed s.heap freed)) x) → length candidates ≤ spare → HasDue u spare (record { number = n; candidates = candidates; dead = dead })
+    → ((x : ℕ) → HasMark u.marks x ↔ Reached (λ z. InSlot (with_freed s.heap freed) z ⊎ Contains s.pins (Some z)) (HasField (with_freed s.heap freed)) x) → length candidates ≤ spare → HasDue u spare (record { number = n; candidates = candidates; dead = dead })
 HasDue-found v w u s freed candidates dead spare n a f eu marks l =
     let out : (m : ℕ) → Contains freed m → IsManagedReached s m → ⊥ = λ m c. ((white-is v w s freed candidates dead a f m).0 ((freed-is v w s.held freed candidates dead f m).0 c).0).1 in
     let still : (m : ℕ) → IsManagedReached s m ↔ Reached (IsManagedRoot s) (HasField (with_freed s.heap freed)) m = λ m. reached-still s.heap (IsManagedRoot s) freed out m in

@@ -4,13 +4,13 @@ use Rattle.std.specs.Prelude.{◌≡◌, ℕ, ◌↔◌, ◌≤◌, length, Cont
 use Rattle.joint_model.specs.Components.{Rises}
 use Rattle.joint_model.specs.Heaps.{IsLive}
 use Rattle.joint_model.specs.Managed.{OpenCycle}
-use Rattle.reachability.specs.Marks.{IsMarked}
+use Rattle.reachability.specs.Marks.{HasMark}
 use Rattle.row_heap.specs.Rows.{HeapRows}
 
 -- the rows of the dead part are exactly the live ones without a mark, and there is room for a notice for each candidate
 pub record HasDue (v : HeapRows) (spare : ℕ) (c : OpenCycle) : Type 0 where
   pub rise : Rises c.dead
-  pub white : (m : ℕ) → Contains c.dead m ↔ (IsLive v.heap m × (IsMarked v.marks m → ⊥))
+  pub white : (m : ℕ) → Contains c.dead m ↔ (IsLive v.heap m × (HasMark v.marks m → ⊥))
   pub notices : length c.candidates ≤ spare
 
 -- so it is while a cycle is open

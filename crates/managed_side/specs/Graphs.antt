@@ -5,7 +5,7 @@ use Rattle.joint_model.specs.declared.names.MNum.{MNum}
 use Rattle.joint_model.specs.Heaps.{Heap, HasField, fields_of, numbered_at}
 use Rattle.joint_model.specs.Managed.{Managed, handle_of}
 use Rattle.bridge_graph.specs.declared.graph.Node.{Node}
-use Rattle.bridge_graph.specs.Parts.{Part, Leads, numbers_of}
+use Rattle.bridge_graph.specs.Parts.{Part, NodeLeads, numbers_of}
 
 -- a handle as an option of a number, and back
 abbrev pub handle_number : Option HNum → Option ℕ
@@ -21,7 +21,7 @@ handle_named (Some h) = Some record { 0 = h }
 pub record IsDeadGraph (s : Managed) (dead : List ℕ) (g : Part) : Type 0 where
   pub numbers : numbers_of g.nodes ≡ dead
   pub handles : map (λ n. handle_number n.handle) g.nodes ≡ map (handle_of s) dead
-  pub edges : (i k x y : ℕ) → slice_get dead i ≡ Some x → slice_get dead k ≡ Some y → Leads g.edges i k ↔ HasField s.heap x y
+  pub edges : (i k x y : ℕ) → slice_get dead i ≡ Some x → slice_get dead k ≡ Some y → NodeLeads g.edges i k ↔ HasField s.heap x y
 
 -- the handle beside a row of a list of held handles
 abbrev pub held_at : List (Option ℕ) → ℕ → Option ℕ

@@ -2,7 +2,7 @@
 use Rattle.std.specs.Prelude.{◌≡◌, ℕ, ◌↔◌, ◌⊎◌, false, List, filter, Contains, Option, Some}
 use Rattle.joint_model.specs.Heaps.{Heap, HasField, InSlot}
 use Rattle.joint_model.specs.Walks.{Reached}
-use Rattle.reachability.specs.Marks.{IsMarked, IsClosed, marked, unmarked_of}
+use Rattle.reachability.specs.Marks.{HasMark, IsClosed, marked, unmarked_of}
 use Rattle.row_heap.specs.Marks.{AreWhite, EdgeOf}
 use Rattle.row_heap.specs.Rows.{HeapRows}
 use Rattle.managed_side.specs.Resolving.{has_handle}
@@ -13,7 +13,7 @@ pub record PartsUnmarked (v w : HeapRows) (held : List (Option ℕ)) (freed cand
   pub white : List ℕ
   pub are_white : AreWhite v white
   pub picked : candidates ≡ filter (has_handle held) white
-  pub marks : (k : ℕ) → IsMarked w.marks k ↔ (IsMarked v.marks k ⊎ Reached (Contains candidates) (EdgeOf v) k)
+  pub marks : (k : ℕ) → HasMark w.marks k ↔ (HasMark v.marks k ⊎ Reached (Contains candidates) (EdgeOf v) k)
   pub shut : IsClosed (EdgeOf v) w.marks
   pub left : dead ≡ filter (marked w.marks) white
   pub goes : freed ≡ unmarked_of w.marks white
@@ -23,5 +23,5 @@ pub record Prepares (h : Heap) (pins held : List (Option ℕ)) (w : HeapRows) (f
   pub marked : HeapRows
   pub same : marked.heap ≡ h
   pub plain : marked.follows ≡ false
-  pub slots : (x : ℕ) → IsMarked marked.marks x ↔ Reached (λ z. InSlot h z ⊎ Contains pins (Some z)) (HasField h) x
+  pub slots : (x : ℕ) → HasMark marked.marks x ↔ Reached (λ z. InSlot h z ⊎ Contains pins (Some z)) (HasField h) x
   pub finds : PartsUnmarked marked w held freed candidates dead

@@ -4,7 +4,7 @@ ghost use Rattle.std.specs.Prelude.{◌≡◌, ℕ, ◌+◌, ◌<◌, ◌≤◌,
 ghost use Rattle.joint_model.specs.Components.{Rises};
 ghost use Rattle.joint_model.specs.Heaps.{IsLive, fields_of};
 ghost use Rattle.joint_model.specs.Histories.{managed_numbers};
-ghost use Rattle.bridge_graph.specs.Parts.{Leads, opaque_at, row_at};
+ghost use Rattle.bridge_graph.specs.Parts.{NodeLeads, opaque_at, row_at};
 ghost use Rattle.managed_side.specs.Graphs.{ArePlaces, HasDeadField, HasPlaced, IsPlaceOf, held_at, handle_named, node_of};
 
 use crate::rows::Held;
@@ -73,7 +73,7 @@ fn add_edge(
     requires named { IfSome field (λ y. y < length places.now) }
     requires within { (y k : ℕ) → slice_get places.now y ≡ Some (k + 1) → k < length builder.old.nodes }
     ensures nodes { builder.new.nodes ≡ builder.old.nodes }
-    ensures edges { OnOk result ((a k : ℕ) → Leads builder.new.edges a k ↔ (Leads builder.old.edges a k ⊎ ((a ≡ i) × IsPlaceOf places.now field k))) }
+    ensures edges { OnOk result ((a k : ℕ) → NodeLeads builder.new.edges a k ↔ (NodeLeads builder.old.edges a k ⊎ ((a ≡ i) × IsPlaceOf places.now field k))) }
 {
     let Some(y) = field else {
         return Ok(());
@@ -100,7 +100,7 @@ fn add_row(
     requires places { length places.now ≡ length heap.now.heap.fields + 1 }
     requires within { (y k : ℕ) → slice_get places.now y ≡ Some (k + 1) → k < length builder.old.nodes }
     ensures nodes { builder.new.nodes ≡ builder.old.nodes }
-    ensures edges { OnOk result ((a k : ℕ) → Leads builder.new.edges a k ↔ (Leads builder.old.edges a k ⊎ ((a ≡ i) × HasPlaced places.now (fields_of heap.now.heap x.0) k))) }
+    ensures edges { OnOk result ((a k : ℕ) → NodeLeads builder.new.edges a k ↔ (NodeLeads builder.old.edges a k ⊎ ((a ≡ i) × HasPlaced places.now (fields_of heap.now.heap x.0) k))) }
 {
     for j in 0..heap.fields_len(x.0) {
         add_edge(places, heap.field(x.0, j), i, builder)?;
@@ -121,7 +121,7 @@ fn add_edges(
     requires len { length places.now ≡ length heap.now.heap.fields + 1 }
     requires places { ArePlaces (length dead.now) (managed_numbers dead.now) places.now }
     ensures nodes { builder.new.nodes ≡ builder.old.nodes }
-    ensures edges { OnOk result ((a k : ℕ) → Leads builder.new.edges a k ↔ (Leads builder.old.edges a k ⊎ HasDeadField heap.now.heap (managed_numbers dead.now) a k)) }
+    ensures edges { OnOk result ((a k : ℕ) → NodeLeads builder.new.edges a k ↔ (NodeLeads builder.old.edges a k ⊎ HasDeadField heap.now.heap (managed_numbers dead.now) a k)) }
 {
     for i in 0..dead.len() {
         add_row(heap, dead[i], i as u32, places, builder)?;
@@ -141,7 +141,7 @@ pub(crate) fn graph_of(
     requires few { length dead.now ≤ 65535 }
     requires rise { Rises (managed_numbers dead.now) }
     ensures nodes { IfOk result (λ g. g.nodes ≡ map (node_of heap.now.heap (map (λ i. i.handle) infos.now)) dead.now) }
-    ensures edges { IfOk result (λ g. (a k : ℕ) → Leads g.edges a k ↔ HasDeadField heap.now.heap (managed_numbers dead.now) a k) }
+    ensures edges { IfOk result (λ g. (a k : ℕ) → NodeLeads g.edges a k ↔ HasDeadField heap.now.heap (managed_numbers dead.now) a k) }
 {
     let places = places_of(alloc, dead, heap.made())?;
     let mut builder = GraphBuilder::new(alloc);

@@ -12,7 +12,7 @@ ghost use Rattle.joint_model.specs.Listed.{answers_of};
 ghost use Rattle.joint_model.specs.Managed.{OpenCycle, abandoned};
 ghost use Rattle.joint_model.specs.ManagedReplay.{without_twins};
 ghost use Rattle.joint_model.specs.Walks.{Reached};
-ghost use Rattle.reachability.specs.Marks.{IsClosed, IsMarked};
+ghost use Rattle.reachability.specs.Marks.{IsClosed, HasMark};
 ghost use Rattle.row_heap.specs.Marks.{EdgeOf};
 ghost use Rattle.managed_side.specs.Resolving.{AreCleared, MayClose, TakesResolution, has_handle, has_peer};
 ghost use Rattle.reachability.specs.Marks.{marked, unmarked_of};
@@ -99,7 +99,7 @@ impl ManagedRows {
 fn bring_back_if(heap: &mut RowHeap<MNum>, x: u32, kept: bool)
     requires live { IsLive heap.old.heap x }
     requires shut { IsClosed (EdgeOf heap.old) heap.old.marks }
-    ensures marks { (k : ℕ) → IsMarked heap.new.marks k ↔ (IsMarked heap.old.marks k ⊎ Reached (λ z. (kept ≡ true) × (x ≡ z)) (EdgeOf heap.old) k) }
+    ensures marks { (k : ℕ) → HasMark heap.new.marks k ↔ (HasMark heap.old.marks k ⊎ Reached (λ z. (kept ≡ true) × (x ≡ z)) (EdgeOf heap.old) k) }
     ensures shut { IsClosed (EdgeOf heap.old) heap.new.marks }
     ensures rest { heap.new ≡ record heap.old { marks = heap.new.marks; links = heap.new.links } }
 {
@@ -134,7 +134,7 @@ fn bring_back_kept(heap: &mut RowHeap<MNum>, candidates: &[u32], alive: &Alive)
     requires live { (m : ℕ) → Contains candidates.now m → IsLive heap.old.heap m }
     requires shut { IsClosed (EdgeOf heap.old) heap.old.marks }
     requires answers { length alive.now.values ≡ length candidates.now }
-    ensures marks { (k : ℕ) → IsMarked heap.new.marks k ↔ (IsMarked heap.old.marks k ⊎ Reached (IsAnsweredAlive candidates.now (answers_of alive.now.values)) (EdgeOf heap.old) k) }
+    ensures marks { (k : ℕ) → HasMark heap.new.marks k ↔ (HasMark heap.old.marks k ⊎ Reached (IsAnsweredAlive candidates.now (answers_of alive.now.values)) (EdgeOf heap.old) k) }
     ensures shut { IsClosed (EdgeOf heap.old) heap.new.marks }
     ensures rest { heap.new ≡ record heap.old { marks = heap.new.marks; links = heap.new.links } }
 {
@@ -163,7 +163,7 @@ fn settle(cycle: OpenParts, heap: &mut RowHeap<MNum>, alive: &Alive) -> Vec<MNum
     requires shut { IsClosed (EdgeOf heap.old) heap.old.marks }
     requires answers { length alive.now.values ≡ length cycle.candidates }
     ensures freed { managed_numbers result.items ≡ unmarked_of heap.new.marks cycle.dead }
-    ensures marks { (k : ℕ) → IsMarked heap.new.marks k ↔ (IsMarked heap.old.marks k ⊎ Reached (IsAnsweredAlive cycle.candidates (answers_of alive.now.values)) (EdgeOf heap.old) k) }
+    ensures marks { (k : ℕ) → HasMark heap.new.marks k ↔ (HasMark heap.old.marks k ⊎ Reached (IsAnsweredAlive cycle.candidates (answers_of alive.now.values)) (EdgeOf heap.old) k) }
     ensures shut { IsClosed (EdgeOf heap.old) heap.new.marks }
     ensures rest { heap.new ≡ record heap.old { marks = heap.new.marks; links = heap.new.links } }
 {

@@ -8,10 +8,10 @@ ghost use Rattle.std.specs.Prelude.{◌≡◌, ℕ, ◌↔◌, ◌⊎◌, ◌≤
 ghost use Rattle.joint_model.specs.Heaps.{HasField, InSlot, IsLive};
 ghost use Rattle.joint_model.specs.Histories.{managed_numbers};
 ghost use Rattle.joint_model.specs.Walks.{Reached};
-ghost use Rattle.reachability.specs.Marks.{IsClosed, IsMarked};
+ghost use Rattle.reachability.specs.Marks.{IsClosed, HasMark};
 ghost use Rattle.row_heap.specs.Marks.{AreWhite, EdgeOf};
 ghost use Rattle.row_marking.specs.Traces.{Greyed};
-ghost use Rattle.bridge_graph.specs.Parts.{Leads};
+ghost use Rattle.bridge_graph.specs.Parts.{NodeLeads};
 ghost use Rattle.managed_side.specs.Graphs.{HasDeadField, node_of};
 ghost use Rattle.managed_side.specs.Resolving.{has_handle};
 ghost use Rattle.reachability.specs.Marks.{marked};
@@ -43,7 +43,7 @@ fn visit_pins(heap: &mut RowHeap<MNum>, pins: &[Option<u32>; 9], grey: &mut u32)
 /// Marks what slots and pins reach, and nothing else. It takes no memory.
 pub(crate) fn mark_slots(heap: &mut RowHeap<MNum>, pins: &[Option<u32>; 9])
     requires live { (x : ℕ) → Contains pins.now (Some x) → IsLive heap.old.heap x }
-    ensures marks { (x : ℕ) → IsMarked heap.new.marks x ↔ Reached (λ z. InSlot heap.old.heap z ⊎ Contains pins.now (Some z)) (HasField heap.old.heap) x }
+    ensures marks { (x : ℕ) → HasMark heap.new.marks x ↔ Reached (λ z. InSlot heap.old.heap z ⊎ Contains pins.now (Some z)) (HasField heap.old.heap) x }
     ensures shut { IsClosed (EdgeOf heap.new) heap.new.marks }
     ensures rest { heap.new ≡ record heap.old { follows = false; marks = heap.new.marks; links = heap.new.links } }
 {
@@ -101,7 +101,7 @@ pub(crate) fn marked_rows(
 pub(crate) fn bring_back_all(heap: &mut RowHeap<MNum>, rows: &[u32])
     requires live { (m : ℕ) → Contains rows.now m → IsLive heap.old.heap m }
     requires shut { IsClosed (EdgeOf heap.old) heap.old.marks }
-    ensures marks { (k : ℕ) → IsMarked heap.new.marks k ↔ (IsMarked heap.old.marks k ⊎ Reached (Contains rows.now) (EdgeOf heap.old) k) }
+    ensures marks { (k : ℕ) → HasMark heap.new.marks k ↔ (HasMark heap.old.marks k ⊎ Reached (Contains rows.now) (EdgeOf heap.old) k) }
     ensures shut { IsClosed (EdgeOf heap.old) heap.new.marks }
     ensures rest { heap.new ≡ record heap.old { marks = heap.new.marks; links = heap.new.links } }
 {
@@ -158,7 +158,7 @@ pub(crate) fn prepare(
     requires infos { length infos.now.items ≡ length heap.old.heap.fields }
     ensures prepares { IfOk result (λ p. Prepares heap.old.heap pins.now (map (λ i. i.handle) infos.now.items) heap.new (managed_numbers p.found.freed.items) p.found.candidates.items (managed_numbers p.found.dead.items)) }
     ensures nodes { IfOk result (λ p. p.graph.nodes ≡ map (node_of heap.old.heap (map (λ i. i.handle) infos.now.items)) p.found.dead.items) }
-    ensures edges { IfOk result (λ p. (a k : ℕ) → Leads p.graph.edges a k ↔ HasDeadField heap.old.heap (managed_numbers p.found.dead.items) a k) }
+    ensures edges { IfOk result (λ p. (a k : ℕ) → NodeLeads p.graph.edges a k ↔ HasDeadField heap.old.heap (managed_numbers p.found.dead.items) a k) }
     ensures few { IfOk result (λ p. (length p.found.freed.items ≤ 65535) × (length p.found.candidates.items ≤ 65535)) }
     ensures rest { heap.new ≡ record heap.old { follows = false; marks = heap.new.marks; links = heap.new.links } }
     ensures room { IfOk result (λ p. length p.found.candidates.items ≤ notices.new.spare) }

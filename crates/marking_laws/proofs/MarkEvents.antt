@@ -17,7 +17,7 @@ use Rattle.joint_model.proofs.Members.{Contains-nil, Contains-here}
 use Rattle.joint_model.proofs.WalkLemmas.{Reached-keeps, Reached-start, Reached-then, Reached-mono}
 use Rattle.joint_laws.specs.PeerInvariants.{IsSpared}
 use Rattle.joint_laws.proofs.Fields.{with_object-old, with_field-length, with_field-other}
-use Rattle.reachability.specs.Marks.{IsMarked as HasMark}
+use Rattle.reachability.specs.Marks.{HasMark}
 use Rattle.marking_laws.specs.Marks.{AreMarksExact, EdgeNow, IsMarkedSide, IsRootNow}
 use Rattle.marking_laws.proofs.MarkFacts.{edge-existed, marked-or, spared-existed, spared-marked}
 

@@ -6,7 +6,7 @@ use Rattle.std.proofs.lemmas.Bool.{cases_lt}
 use Rattle.joint_model.specs.Heaps.{IsLive}
 use Rattle.joint_model.specs.PeerReplay.{PeerReplay, Marking, MarkingEdge}
 use Rattle.joint_laws.specs.PeerInvariants.{IsSpared}
-use Rattle.reachability.specs.Marks.{IsMarked as HasMark}
+use Rattle.reachability.specs.Marks.{HasMark}
 use Rattle.marking_laws.specs.Marks.{AreMarksExact}
 
 -- an edge of a marking joins peers that were unfreed at its begin

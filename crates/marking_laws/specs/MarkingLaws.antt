@@ -9,7 +9,7 @@ use Rattle.joint_model.specs.PeerReplay.{PeerReplay, Marking, IsSweep, HasRefere
 use Rattle.joint_model.specs.Walks.{Reached}
 use Rattle.joint_laws.specs.PeerInvariants.{IsSpared}
 use Rattle.heap_rules.specs.Tidy.{CanFree}
-use Rattle.reachability.specs.Marks.{IsMarked as HasMark, IsClosed}
+use Rattle.reachability.specs.Marks.{HasMark, IsClosed}
 use Rattle.marking_laws.specs.Marks.{AreMarksExact, EdgeNow, IsMarkedSide, IsRootNow, IsWithoutMark}
 
 -- the begin of a marking, with marks just where its roots reach

@@ -4,7 +4,7 @@ use Rattle.std.specs.Prelude.{◌≡◌, ℕ, ◌⊎◌, ◌↔◌, Bool, true, 
 use Rattle.joint_model.specs.Heaps.{IsLive, HasField, InSlot}
 use Rattle.joint_model.specs.PeerReplay.{PeerReplay, Marking, IsMarked, MarkingEdge, HasReference, strong_peers}
 use Rattle.joint_laws.specs.PeerInvariants.{IsPeerKept}
-use Rattle.reachability.specs.Marks.{IsMarked as HasMark}
+use Rattle.reachability.specs.Marks.{HasMark}
 
 -- a slot or a strong handle names the peer now
 abbrev pub IsRootNow : PeerReplay → ℕ → Type 0

@@ -9,7 +9,7 @@ use Rattle.joint_model.proofs.Members.{at-Contains, Contains-flat_map_cases, Con
 use Rattle.joint_laws.specs.PeerInvariants.{IsPeerKept}
 use Rattle.joint_laws.proofs.Circles.{circle-ends, first-there}
 use Rattle.bridge_graph.specs.declared.graph.Node.{Node}
-use Rattle.bridge_graph.specs.Parts.{IsBridge}
+use Rattle.bridge_graph.specs.Parts.{IsBridgeNode}
 use Rattle.peer_side.specs.Cycles.{reserve_pushed}
 use Rattle.peer_side.specs.Mirrors.{AreEndsStrong}
 use Rattle.peer_side.specs.Sides.{PeerModel, Reserve}
@@ -37,7 +37,7 @@ edge-ends P comps pairs l members a b c = elim (Contains-append_cases (flat_map 
 pub carried-strong : (s : PeerReplay) (nodes : List Node) (comps : List (List ℕ)) (pairs : List (ℕ × ℕ)) → IsPeerKept s → AreHandlesStrong s nodes → IsListing comps pairs → AreBridgeNodes nodes comps → AreEndsStrong s (carried_to_peers s.peers.issued nodes (mirror_edges comps pairs))
 carried-strong s nodes comps pairs k all l members p q c =
     let r = Contains-map_cases (λ (e : ℕ × ℕ). (peer_of_node s.peers.issued nodes e.0, peer_of_node s.peers.issued nodes e.1)) (mirror_edges comps pairs) (p, q) c in
-    let ends = edge-ends (IsBridge nodes) comps pairs l members r.0.0 r.0.1 r.1 in
+    let ends = edge-ends (IsBridgeNode nodes) comps pairs l members r.0.0 r.0.1 r.1 in
     let from = strong-node s nodes r.0.0 k all ends.0 in
     let to = strong-node s nodes r.0.1 k all ends.1 in
     let is-from : from.peer ≡ p = sym (peer_of_node-is s nodes r.0.0 from) ∙ ap (λ (z : ℕ × ℕ). z.0) r.2 in

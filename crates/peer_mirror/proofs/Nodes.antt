@@ -18,7 +18,7 @@ use Rattle.joint_laws.specs.PeerInvariants.{IsPeerKept, IsTabled, IsIssued}
 use Rattle.joint_laws.proofs.MarkingKeeping.{strong-listed}
 use Rattle.bridge_graph.specs.declared.graph.Node.{Node}
 use Rattle.bridge_graph.specs.Handles.{handle_at, handles_of}
-use Rattle.bridge_graph.specs.Parts.{HasNode, IsBridge}
+use Rattle.bridge_graph.specs.Parts.{HasNode, IsBridgeNode}
 use Rattle.peer_side.specs.Mirroring.{strong_row}
 use Rattle.peer_mirror.specs.Carried.{AreHandlesStrong, peer_of_node}
 use Rattle.peer_side.proofs.Steps.{row-tabled}
@@ -45,7 +45,7 @@ issued-of s k (suc n) row t =
     let d : Issued = record { peer = 0; hold = held; strength = strong } in
     (get_or s.peers.issued n d, slice_get-get_or s.peers.issued n d (omega (arith, within.1, k.handles.places)))
 
-pub strong-node : (s : PeerReplay) (nodes : List Node) (i : ℕ) → IsPeerKept s → AreHandlesStrong s nodes → IsBridge nodes i → IsStrongNode s nodes i
+pub strong-node : (s : PeerReplay) (nodes : List Node) (i : ℕ) → IsPeerKept s → AreHandlesStrong s nodes → IsBridgeNode nodes i → IsStrongNode s nodes i
 strong-node s nodes i k all b =
     let h = some-there b.node.handle b.held in
     let there : Contains (handles_of nodes) h.0 = Contains-flat_map (λ (n : Node). option_to_list n.handle) nodes b.node h.0 (Contains-at nodes i b.node b.there) (subst (λ o. Contains (option_to_list o) h.0) (sym h.1) (Contains-here h.0 [])) in

@@ -6,7 +6,7 @@ use Rattle.joint_model.specs.Peers.{Issued, peer_of}
 use Rattle.joint_model.specs.PeerReplay.{PeerReplay, row_of}
 use Rattle.bridge_graph.specs.declared.graph.Node.{Node}
 use Rattle.bridge_graph.specs.Handles.{handle_at, handles_of}
-use Rattle.bridge_graph.specs.Parts.{IsBridge}
+use Rattle.bridge_graph.specs.Parts.{IsBridgeNode}
 use Rattle.peer_side.specs.Mirroring.{strong_row}
 use Rattle.peer_side.specs.Sides.{PeerModel, Reserve}
 
@@ -20,7 +20,7 @@ carried_to_peers issued nodes edges = map (λ e. (peer_of_node issued nodes e.0,
 
 -- each member of a component is a bridge node
 abbrev pub AreBridgeNodes : List Node → List (List ℕ) → Type 0
-AreBridgeNodes nodes comps = (i x : ℕ) → IsMember comps i x → IsBridge nodes x
+AreBridgeNodes nodes comps = (i x : ℕ) → IsMember comps i x → IsBridgeNode nodes x
 
 -- each handle of a part is in the table and strong
 abbrev pub AreHandlesStrong : PeerReplay → List Node → Type 0

@@ -7,7 +7,7 @@ ghost use Rattle.joint_model.specs.PeerReplay.{MayMirror, row_of};
 ghost use Rattle.joint_model.specs.Sides.{peer_rules, AddsLawful, MayDraw};
 ghost use Rattle.joint_model.specs.Told.{references_of};
 ghost use Rattle.bridge_graph.specs.Handles.{handles_of};
-ghost use Rattle.bridge_graph.specs.Parts.{IsBridge};
+ghost use Rattle.bridge_graph.specs.Parts.{IsBridgeNode};
 ghost use Rattle.peer_side.specs.Cycles.{mirrors, reserve_pushed};
 ghost use Rattle.peer_side.specs.Mirroring.{strong_row};
 ghost use Rattle.peer_side.specs.Sides.{seen};
@@ -85,8 +85,8 @@ fn push_edges(side: &mut PeerSide, graph: &DeadGraph, comps: &Components)
 
 // A reference waits from the peer of one node's handle to that of another's.
 fn push_edge(side: &mut PeerSide, graph: &DeadGraph, edge: (u32, u32))
-    requires from { IsBridge graph.now.nodes edge.0 }
-    requires to { IsBridge graph.now.nodes edge.1 }
+    requires from { IsBridgeNode graph.now.nodes edge.0 }
+    requires to { IsBridgeNode graph.now.nodes edge.1 }
     requires strong_ones { AreHandlesStrong side.old.state graph.now.nodes }
     requires closed { side.old.state.mirror ≡ None }
     requires room { 1 ≤ side.old.reserve.refs }
@@ -99,7 +99,7 @@ fn push_edge(side: &mut PeerSide, graph: &DeadGraph, edge: (u32, u32))
 
 // The peer of a bridge node's handle.
 fn peer_at(side: &PeerSide, graph: &DeadGraph, i: u32) -> PNum
-    requires node { IsBridge graph.now.nodes i }
+    requires node { IsBridgeNode graph.now.nodes i }
     requires strong_ones { AreHandlesStrong side.now.state graph.now.nodes }
     ensures peer { result.0 ≡ peer_of_node side.now.state.peers.issued graph.now.nodes i }
     ensures live { IsLive side.now.state.peers.heap result.0 }

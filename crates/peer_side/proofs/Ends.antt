@@ -27,7 +27,7 @@ use Rattle.joint_model.specs.Told.{Told, nothing, sweep_of}
 use Rattle.joint_model.specs.Walks.{Reached}
 use Rattle.joint_model.proofs.Deciding.{none_some, or_right}
 use Rattle.joint_laws.proofs.PeerEntries.{MirrorsSafely}
-use Rattle.reachability.specs.Marks.{IsMarked}
+use Rattle.reachability.specs.Marks.{HasMark}
 use Rattle.row_heap.specs.Marks.{AreEndsLive, AreWhite, EdgeOf}
 use Rattle.peer_side.specs.declared.side.BeginFault.TheVariants.{OutOfMemory, MarkOpen}
 use Rattle.peer_side.specs.declared.mirroring.OpenMirror.{OpenMirror}
@@ -37,7 +37,7 @@ use Rattle.peer_side.specs.Marks.{IsExact}
 use Rattle.peer_side.specs.Rows.{Rows}
 use Rattle.peer_side.specs.Mirrors.{Mirrors, AreMirrored, marked_one, mirror_in, mirrors_begun, mirrors_in, owes}
 use Rattle.joint_model.specs.Peers.{Issued}
-use Rattle.peer_side.specs.Sides.{IsSide, IsFrom, IsKnown, begins, ends, brought_by, brought_since, marking_as, marking_in, mirror_state, state_with, owed, IsEnded, IsFaultAt, IsMarkingOf, MayEnd}
+use Rattle.peer_side.specs.Sides.{IsSide, IsFrom, IsKnown, begins, ends, brought_by, brought_since, marking_as, marking_in, mirror_state, state_with, owed, MarkingIsEnded, IsFaultAt, IsMarkingOf, MayEnd}
 use Rattle.peer_side.proofs.Opened.{begun_with, with_begun, with_swept, opened-state, opened-marks, closed-state, closed-sweep}
 use Rattle.peer_side.proofs.Quiet.{IsQuiet, known-next, mark-quiet, mirrored-still, not-grown, state-still}
 use Rattle.peer_side.proofs.Sides.{opened, marking-next, from-more}
@@ -87,7 +87,7 @@ module _ (old w : Rows) (opens : OpenMarking) (n : ℕ) (m : Mirrors) (es after 
       goes-told s (state_with after w (Some opens) (n + 1) m) (begins t i j) nothing (record { event = caller; side = refl }) tt e
 
   -- and the marks are exact
-  pub begun-exact : ((p : ℕ) → IsMarked w.rows.marks p ↔ Reached (IsRoot old.rows.heap (strong_peers old.issued old.table)) (EdgeOf w.rows) p) → (mk : Marking) → marking_in w.issued after (Some opens) ≡ Some mk → IsExact (state_with after w (Some opens) (n + 1) m) mk w.rows
+  pub begun-exact : ((p : ℕ) → HasMark w.rows.marks p ↔ Reached (IsRoot old.rows.heap (strong_peers old.issued old.table)) (EdgeOf w.rows) p) → (mk : Marking) → marking_in w.issued after (Some opens) ≡ Some mk → IsExact (state_with after w (Some opens) (n + 1) m) mk w.rows
   begun-exact marks = subst (λ (s : PeerReplay). AreMarksKept s w.rows.follows w.rows.marks) begun-end (opened-marks (mirror_state es m) old w n t rest marks)
 
 -- a side after one entry
@@ -130,7 +130,7 @@ may-end t u (inl e) = subst (λ z. (is_thread z C || is_thread z u) ≡ true) (s
 may-end t u (inr e) = or_right (is_thread t C) (is_thread t u) (subst (λ z. is_thread t z ≡ true) e (same-thread t))
 
 -- a marking that may be ended is at its end
-pub ended-whole : (rows : Rows) (o : Option OpenMarking) (n : ℕ) (m : Mirrors) (stock : Stock) (t : Thread) (j : Number) → IsSide rows o n m stock → IsEnded (marking_in rows.issued stock.entries o) t j → IsWholeMarking rows
+pub ended-whole : (rows : Rows) (o : Option OpenMarking) (n : ℕ) (m : Mirrors) (stock : Stock) (t : Thread) (j : Number) → IsSide rows o n m stock → MarkingIsEnded (marking_in rows.issued stock.entries o) t j → IsWholeMarking rows
 ended-whole rows None n m stock t j side e = absurd e
 ended-whole rows (Some o) n m stock t j side e = whole-side (mirror_state stock.entries m) rows (marking_in rows.issued stock.entries (Some o)) n (marking_as rows.issued stock.entries o) (opened rows o n m stock side)
 
@@ -139,7 +139,7 @@ pub freed-less : (old w : Rows) → w ≡ with_swept old w.rows → length old.r
 freed-less old w rest = omega (arith, ap (λ (z : Rows). length z.rows.heap.freed) rest, length-append old.rows.heap.freed (drop (length old.rows.heap.freed) w.rows.heap.freed))
 
 -- an open marking owes an entry, for which there is room
-pub ended-spare : (rows : Rows) (o : Option OpenMarking) (n : ℕ) (m : Mirrors) (stock : Stock) (t : Thread) (j : Number) → IsSide rows o n m stock → IsEnded (marking_in rows.issued stock.entries o) t j → 1 ≤ stock.spare
+pub ended-spare : (rows : Rows) (o : Option OpenMarking) (n : ℕ) (m : Mirrors) (stock : Stock) (t : Thread) (j : Number) → IsSide rows o n m stock → MarkingIsEnded (marking_in rows.issued stock.entries o) t j → 1 ≤ stock.spare
 ended-spare rows None n m stock t j side e = absurd e
 ended-spare rows (Some o) n m stock t j side e = (let had : rows.tabled + 1 + owes m ≤ stock.spare = side.room in omega (arith, had))
 
@@ -206,7 +206,7 @@ begun-room false m = refl
 
 -- the side after a begin
 pub IsSide-begun : (old w : Rows) (o : Option OpenMarking) (opens : OpenMarking) (n : ℕ) (m : Mirrors) (own : Bool) (stock later : Stock) (k floor : ℕ) (t : Thread) (i : ℕ) (j : Number) → IsSide old o n m stock → w ≡ with_begun old w.rows
-    → ((p : ℕ) → IsMarked w.rows.marks p ↔ Reached (IsRoot old.rows.heap (strong_peers old.issued old.table)) (EdgeOf w.rows) p) → marking_in old.issued stock.entries o ≡ None → opens.number.0 ≡ n + 1 → opens.by ≡ t → opens.from ≡ length later.entries → opens.begin.value ≡ old → j.0 ≡ n + 1
+    → ((p : ℕ) → HasMark w.rows.marks p ↔ Reached (IsRoot old.rows.heap (strong_peers old.issued old.table)) (EdgeOf w.rows) p) → marking_in old.issued stock.entries o ≡ None → opens.number.0 ≡ n + 1 → opens.by ≡ t → opens.from ≡ length later.entries → opens.begin.value ≡ old → j.0 ≡ n + 1
     → (IsPeerThread t ⊎ IsDriver t) → later.entries ≡ stock.entries ++ numbered k (begins t i j) ∷ [] → AllBelow stock.entries floor → floor ≤ k → old.tabled + 1 + owes (mirrors_begun own m) ≤ later.spare → length later.entries + later.spare ≤ 4294967295 → IsSide w (Some opens) (n + 1) (mirrors_begun own m) later
 IsSide-begun old w o opens n m own stock later k floor t i j side rest marks closed number thread from begin place caller added below above room limit =
     let tabled : w.tabled ≡ old.tabled = ap (λ (z : Rows). z.tabled) rest in
@@ -225,7 +225,7 @@ IsSide-begun old w o opens n m own stock later k floor t i j side rest marks clo
 
 -- the entry of a sweep may come next
 pub side-swept : (old w : Rows) (o : Option OpenMarking) (n : ℕ) (m : Mirrors) (stock : Stock) (after : List Entry) (k : ℕ) (t : Thread) (i : ℕ) (j : Number) (span : Span) → IsSide old o n m stock → w ≡ with_swept old w.rows → AreWhite old.rows (drop (length old.rows.heap.freed) w.rows.heap.freed)
-    → IsEnded (marking_in old.issued stock.entries o) t j → (IsPeerThread t ⊎ IsDriver t) → span.first ≡ length old.rows.heap.freed → span.count ≡ length (drop (length old.rows.heap.freed) w.rows.heap.freed) → after ≡ stock.entries ++ numbered k (ends t i j span) ∷ []
+    → MarkingIsEnded (marking_in old.issued stock.entries o) t j → (IsPeerThread t ⊎ IsDriver t) → span.first ≡ length old.rows.heap.freed → span.count ≡ length (drop (length old.rows.heap.freed) w.rows.heap.freed) → after ≡ stock.entries ++ numbered k (ends t i j span) ∷ []
     → GoesOn peer_rules (state_with stock.entries old o n m) (ends t i j span) (sweep_of (drop (length old.rows.heap.freed) w.rows.heap.freed)) (state_with after w None n m)
 side-swept old w None n m stock after k t i j span side rest white may caller first count added = absurd may
 side-swept old w (Some opens) n m stock after k t i j span side rest white may caller first count added =
@@ -234,7 +234,7 @@ side-swept old w (Some opens) n m stock after k t i j span side rest white may c
 
 -- and the side after it
 pub IsSide-swept : (old w : Rows) (o : Option OpenMarking) (n : ℕ) (m : Mirrors) (stock later : Stock) (k floor : ℕ) (t : Thread) (i : ℕ) (j : Number) (span : Span) → IsSide old o n m stock → w ≡ with_swept old w.rows → AreWhite old.rows (drop (length old.rows.heap.freed) w.rows.heap.freed)
-    → IsEnded (marking_in old.issued stock.entries o) t j → (IsPeerThread t ⊎ IsDriver t) → span.first ≡ length old.rows.heap.freed → span.count ≡ length (drop (length old.rows.heap.freed) w.rows.heap.freed)
+    → MarkingIsEnded (marking_in old.issued stock.entries o) t j → (IsPeerThread t ⊎ IsDriver t) → span.first ≡ length old.rows.heap.freed → span.count ≡ length (drop (length old.rows.heap.freed) w.rows.heap.freed)
     → later.entries ≡ stock.entries ++ numbered k (ends t i j span) ∷ [] → AllBelow stock.entries floor → floor ≤ k → later.spare + 1 ≡ stock.spare → IsSide w None n m later
 IsSide-swept old w None n m stock later k floor t i j span side rest white may caller first count added below above spare = absurd may
 IsSide-swept old w (Some opens) n m stock later k floor t i j span side rest white may caller first count added below above spare =
@@ -260,7 +260,7 @@ open-fault p (Some mk) w = w.0
 pub memory-fault : (o : Option Marking) → o ≡ None → IsFaultAt OutOfMemory o
 memory-fault o e = subst (λ z. IsFaultAt OutOfMemory z) (sym e) tt
 
-pub open-ended : (p : Number × Thread) (o : Option Marking) (t : Thread) → IsMarkingOf (Some p) o → MayEnd o t → IsEnded o t p.0
+pub open-ended : (p : Number × Thread) (o : Option Marking) (t : Thread) → IsMarkingOf (Some p) o → MayEnd o t → MarkingIsEnded o t p.0
 open-ended p None t w may = absurd w
 open-ended p (Some mk) t w may = (may, w.0)
 

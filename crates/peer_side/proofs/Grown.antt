@@ -19,16 +19,16 @@ use Rattle.joint_model.proofs.Deciding.{option-cases, test-cases}
 use Rattle.std.specs.Prelude.{length, slice_set}
 use Rattle.row_heap.specs.Rows.{HeapRows}
 use Rattle.peer_side.specs.Marks.{MarksNew, MarksBrought, MarksAfter}
-use Rattle.peer_side.specs.MirrorLaws.{HasGrown}
+use Rattle.peer_side.specs.MirrorLaws.{HasFurther}
 use Rattle.peer_side.specs.Mirrors.{mirrored_at, weakened_at, restored_at}
 use Rattle.peer_side.specs.Steps.{IsPeerStep}
 
-stays : (is : List Issued) → HasGrown is is
+stays : (is : List Issued) → HasFurther is is
 stays is = ([], sym (append-nil is))
 
 -- an event of the peers alone
 abbrev Grows : Peers → Answered Peers → Type 0
-Grows s a = HasGrown s.issued a.state.issued
+Grows s a = HasFurther s.issued a.state.issued
 
 given : (s : Peers) (g p : ℕ) (st : Strength) (o : Option ℕ) → Grows s (name_given s g p st o)
 given s g p st (Some h) = stays s.issued
@@ -54,7 +54,7 @@ put s x None = stays s.issued
 put s x (Some p) = stays s.issued
 
 -- what is brought back is no handle
-brought-by : (is : List Issued) (a : Answered PeerReplay) (r : Reply) → HasGrown is a.state.peers.issued → HasGrown is (bring_by a r).state.peers.issued
+brought-by : (is : List Issued) (a : Answered PeerReplay) (r : Reply) → HasFurther is a.state.peers.issued → HasFurther is (bring_by a r).state.peers.issued
 brought-by is a (says.P p) w = w
 brought-by is a _ w = w
 
@@ -67,7 +67,7 @@ line-grows target s t (act.UnGlobal g) = option-cases (Grows s) (answer says.Uns
 line-grows target s t (act.WRead v g) = option-cases (Grows s) (answer says.Unset s) (λ h. peer_read s (place t v.0) (target h)) (slot s.names g.0) (stays s.issued) (λ h. read s (place t v.0) (target h))
 line-grows target s t _ = stays s.issued
 
-pub issued-grows : (s : PeerReplay) (t : Thread) (o : Op) (cites : Option ℕ) → IsPeerStep t o → HasGrown s.peers.issued (peer_answer s t o cites nothing).state.peers.issued
+pub issued-grows : (s : PeerReplay) (t : Thread) (o : Op) (cites : Option ℕ) → IsPeerStep t o → HasFurther s.peers.issued (peer_answer s t o cites nothing).state.peers.issued
 issued-grows s t (op.Line (act.Slice n)) cites step = absurd step.2
 issued-grows s t (op.Line (act.UnGlobal g)) cites step = line-grows (table_target s) s.peers (thread_number t) (act.UnGlobal g)
 issued-grows s t (op.Line (act.WRead v g)) cites step =

@@ -20,7 +20,7 @@ use Rattle.joint_model.specs.Sides.{Side, Drawing, Making, GoesOn, MayDraw, Adds
 use Rattle.joint_model.specs.Told.{Told, nothing, sweep_of}
 use Rattle.joint_model.proofs.Deciding.{true_false}
 use Rattle.peer_side.specs.Makings.{RefusesMarking, collect_makings, gone_since}
-use Rattle.peer_side.specs.Sides.{begins, ends, IsEnded, IsMarkingOf}
+use Rattle.peer_side.specs.Sides.{begins, ends, MarkingIsEnded, IsMarkingOf}
 use Rattle.joint_model.proofs.HeapLemmas.{same_thread}
 
 -- one entry is one in turn
@@ -48,13 +48,13 @@ turn-collect d before mid after old opened new t i j span first last =
     (mid, opened, first, (after, new, subst (λ l. AddsLawful peer_rules d mid after opened new (ends t i j span) (sweep_of l)) freed last, (refl, refl)))
 
 -- a begin that gave a number opened the marking of that number
-pub begun-ended : (s t : PeerReplay) (thread : Thread) (i : ℕ) (j : Number) → GoesOn peer_rules s (begins thread i j) nothing t → IsEnded t.marking thread j
-begun-ended s t thread i j goes = subst (λ (z : PeerReplay). IsEnded z.marking thread j) (sym goes.state) (by s.marking goes.lawful.1.replies)
+pub begun-ended : (s t : PeerReplay) (thread : Thread) (i : ℕ) (j : Number) → GoesOn peer_rules s (begins thread i j) nothing t → MarkingIsEnded t.marking thread j
+begun-ended s t thread i j goes = subst (λ (z : PeerReplay). MarkingIsEnded z.marking thread j) (sym goes.state) (by s.marking goes.lawful.1.replies)
   where
     number : (n : ℕ) → says.Mark j ≡ says.Mark record { 0 = n } → j.0 ≡ n
     number n e = (let w : j ≡ record { 0 = n } = cc in ap (λ (k : Number). k.0) w)
 
-    by : (o : Option Marking) → says.Mark j ≡ (begun s o thread).reply → IsEnded (begun s o thread).state.marking thread j
+    by : (o : Option Marking) → says.Mark j ≡ (begun s o thread).reply → MarkingIsEnded (begun s o thread).state.marking thread j
     by None e = (inr refl, number (s.markings + 1) e)
     by (Some mk) e = absurd (let f : ⊥ = cc in f)
 
@@ -116,6 +116,6 @@ other-passes s t i p w caller apart = record { caller = caller; event = tt; allo
         ap (λ (b : Bool). if b then swept_of s mk [] else answer (says.MarkOpen record { 0 = mk.number }) s) may ∙ ap (λ (k : ℕ). answer (says.MarkOpen record { 0 = k }) s) (sym w.0)
 
 -- the open marking may be ended
-pub open-ends : (p : Number × Thread) (o : Option Marking) (t : Thread) → IsMarkingOf (Some p) o → ((t ≡ C) ⊎ (t ≡ p.1)) → IsEnded o t p.0
+pub open-ends : (p : Number × Thread) (o : Option Marking) (t : Thread) → IsMarkingOf (Some p) o → ((t ≡ C) ⊎ (t ≡ p.1)) → MarkingIsEnded o t p.0
 open-ends p None t w may = absurd w
 open-ends p (Some mk) t w may = (elim may [ inl e ↦ inl e | inr e ↦ inr (e ∙ w.1) ], w.0)

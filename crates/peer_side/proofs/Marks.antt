@@ -21,7 +21,7 @@ use Rattle.joint_model.proofs.Deciding.{option-cases, test-cases}
 use Rattle.joint_model.proofs.Numbered.{slot-Contains, push-at_new, push-at_old, push-at_cases}
 use Rattle.joint_model.proofs.WalkLemmas.{Reached-mono}
 use Rattle.joint_laws.proofs.HeapMoves.{copied-moved, field_got-moved, loaded-moved, stored-moved}
-use Rattle.reachability.specs.Marks.{IsMarked as HasMark}
+use Rattle.reachability.specs.Marks.{HasMark}
 use Rattle.row_heap.specs.Marks.{EdgeOf}
 use Rattle.row_heap.specs.Rows.{HeapRows}
 use Rattle.marking_laws.specs.Marks.{AreMarksExact, EdgeNow, IsMarkedSide}

@@ -5,7 +5,7 @@ use Rattle.joint_model.specs.declared.names.Thread.{Thread}
 use Rattle.joint_model.specs.Heaps.{with_freed}
 use Rattle.joint_model.specs.PeerReplay.{PeerReplay, Marking, IsSweep, begun, cleared_rows, strong_peers, swept_of}
 use Rattle.joint_model.specs.Walks.{Reached}
-use Rattle.reachability.specs.Marks.{IsMarked}
+use Rattle.reachability.specs.Marks.{HasMark}
 use Rattle.row_heap.specs.Marks.{AreWhite, EdgeOf}
 use Rattle.row_heap.specs.Rows.{HeapRows}
 use Rattle.marking_laws.specs.Marks.{AreMarksExact, IsMarkedSide}
@@ -27,13 +27,13 @@ opened-state s v w kept n by same rest =
     let here : (begun (with_marking s v None n) None by).state ≡ with_marking s (with_begun v w.rows) (Some (begun_with (n + 1) by v)) (n + 1) = refl in
     here ∙ (ap (λ z. with_marking s z (Some (begun_with (n + 1) by v)) (n + 1)) (sym rest) ∙ ap (λ z. with_marking s w (Some (begun_with (n + 1) by z)) (n + 1)) (sym same))
 
-pub opened-marks : (s : PeerReplay) (v w : Rows) (n : ℕ) (by : Thread) → w ≡ with_begun v w.rows → ((p : ℕ) → IsMarked w.rows.marks p ↔ Reached (IsRoot v.rows.heap (strong_peers v.issued v.table)) (EdgeOf w.rows) p)
+pub opened-marks : (s : PeerReplay) (v w : Rows) (n : ℕ) (by : Thread) → w ≡ with_begun v w.rows → ((p : ℕ) → HasMark w.rows.marks p ↔ Reached (IsRoot v.rows.heap (strong_peers v.issued v.table)) (EdgeOf w.rows) p)
     → AreMarksKept (begun (with_marking s v None n) None by).state w.rows.follows w.rows.marks
 opened-marks s v w n by rest marks = λ mk e.
     let rows : w.rows ≡ record v.rows { follows = true; marks = w.rows.marks; links = w.rows.links } = ap (λ (z : Rows). z.rows) rest in
     let follows : w.rows.follows ≡ true = ap (λ (z : HeapRows). z.follows) rows in
-    let over : (p : ℕ) → IsMarked w.rows.marks p ↔ Reached (IsRoot v.rows.heap (strong_peers v.issued v.table)) (EdgeOf (record v.rows { follows = true; marks = w.rows.marks; links = w.rows.links })) p =
-    λ p. subst (λ (h : HeapRows). IsMarked w.rows.marks p ↔ Reached (IsRoot v.rows.heap (strong_peers v.issued v.table)) (EdgeOf h) p) rows (marks p) in
+    let over : (p : ℕ) → HasMark w.rows.marks p ↔ Reached (IsRoot v.rows.heap (strong_peers v.issued v.table)) (EdgeOf (record v.rows { follows = true; marks = w.rows.marks; links = w.rows.links })) p =
+    λ p. subst (λ (h : HeapRows). HasMark w.rows.marks p ↔ Reached (IsRoot v.rows.heap (strong_peers v.issued v.table)) (EdgeOf h) p) rows (marks p) in
     subst (λ f. AreMarksExact (begun (with_marking s v None n) None by).state mk f w.rows.marks) (sym follows) (marks-begun (with_marking s v None n) by mk w.rows.marks e over)
 
 -- the rows after a sweep

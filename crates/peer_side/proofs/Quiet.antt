@@ -18,7 +18,7 @@ use Rattle.joint_model.proofs.Deciding.{none_some}
 use Rattle.joint_model.proofs.Members.{Contains-here, Contains-nil}
 use Rattle.peer_side.specs.declared.mirroring.OpenMirror.{OpenMirror}
 use Rattle.peer_side.specs.Makings.{IsMarkEvent}
-use Rattle.peer_side.specs.MirrorLaws.{HasGrown}
+use Rattle.peer_side.specs.MirrorLaws.{HasFurther}
 use Rattle.peer_side.specs.Mirrors.{Mirrors, AreMirrored, IsDue, told_since, mirror_as, mirror_in, mirrors_in, mirrored_at, weakened_at, restored_at}
 use Rattle.peer_side.specs.Sides.{IsKnown, brought_at, brought_by, brought_since, mirror_state, peers_at, revived_in}
 use Rattle.peer_side.specs.Steps.{IsPeerStep}
@@ -72,13 +72,13 @@ numbered-more (y ∷ xs) ys (suc (suc i)) x e = numbered-more xs ys (suc i) x e
 known-more : (issued more : List Issued) (e : Entry) → IsKnown issued e → IsKnown (issued ++ more) e
 known-more issued more e k = λ h c. (let w = k h c in (w.0, numbered-more issued more h w.0 w.1))
 
-pub known-grown : (old new : List Issued) (es : List Entry) → HasGrown old new → All (IsKnown old) es → All (IsKnown new) es
+pub known-grown : (old new : List Issued) (es : List Entry) → HasFurther old new → All (IsKnown old) es → All (IsKnown new) es
 known-grown old new es grown known = subst (λ is. All (IsKnown is) es) (sym grown.1) (All-weaker (IsKnown old) (IsKnown (old ++ grown.0)) (λ e k. known-more old grown.0 e k) es known)
 
 pub known-push : (issued : List Issued) (es after : List Entry) (e : Entry) → after ≡ es ++ e ∷ [] → IsKnown issued e → All (IsKnown issued) es → All (IsKnown issued) after
 known-push issued es after e added here known = rw added (All-push (IsKnown issued) es e known here)
 
-pub known-next : (old new : List Issued) (es after : List Entry) (e : Entry) → after ≡ es ++ e ∷ [] → HasGrown old new → IsQuiet e.made.op → All (IsKnown old) es → All (IsKnown new) after
+pub known-next : (old new : List Issued) (es after : List Entry) (e : Entry) → after ≡ es ++ e ∷ [] → HasFurther old new → IsQuiet e.made.op → All (IsKnown old) es → All (IsKnown new) after
 known-next old new es after e added grown q known =
     known-push new es after e added (λ h c. absurd (Contains-nil h (subst (λ l. Contains l h) q.restores c))) (known-grown old new es grown known)
 
@@ -99,9 +99,9 @@ all-more issued more (e ∷ es) k =
     ap (λ l. l ++ brought_by (issued ++ more) es) (one-more issued more e.made.op e.made.reply (All-head (IsKnown issued) e es k))
     ∙ ap (λ l. brought_at issued e.made.op e.made.reply ++ l) (all-more issued more es (All-tail (IsKnown issued) e es k))
 
-pub brought-more : (old new : List Issued) (n : ℕ) (es : List Entry) → HasGrown old new → All (IsKnown old) es → brought_since new n es ≡ brought_since old n es
+pub brought-more : (old new : List Issued) (n : ℕ) (es : List Entry) → HasFurther old new → All (IsKnown old) es → brought_since new n es ≡ brought_since old n es
 brought-more old new n es grown known = ap (λ is. brought_since is n es) grown.1 ∙ all-more old grown.0 (drop n es) (All-drop (IsKnown old) n es known)
 
 -- nothing was issued
-pub not-grown : (old new : List Issued) → new ≡ old → HasGrown old new
+pub not-grown : (old new : List Issued) → new ≡ old → HasFurther old new
 not-grown old new same = ([], same ∙ sym (append-nil old))

@@ -28,7 +28,7 @@ use Rattle.peer_side.specs.declared.mirroring.OpenMirror.{OpenMirror}
 use Rattle.peer_side.specs.declared.side.OpenMarking.{OpenMarking}
 use Rattle.peer_side.specs.Cycles.{reply_of, restores, weakens}
 use Rattle.peer_side.specs.Marks.{IsExact}
-use Rattle.peer_side.specs.Mirroring.{IsRemoved, IsRestored, IsStrongAgain, weak_row, with_row}
+use Rattle.peer_side.specs.Mirroring.{IsRemoved, RestoresHandle, IsStrongAgain, weak_row, with_row}
 use Rattle.peer_side.specs.MirrorLaws.{restored_more, state_of, weakened_more}
 use Rattle.peer_side.specs.Mirrors.{Mirrors, AreMirrored, IsDue, mirror_as, mirror_in, mirrors_in, owed_by, owed_next, told_since, restored_at, restored_one, weakened_at, weakened_one}
 use Rattle.peer_side.specs.Rows.{Rows}
@@ -147,7 +147,7 @@ again-marking old w o n m stock after k index h b side added r =
     ap (λ is. marking_in is after o) (ap (λ (z : Rows). z.issued) r.rest) ∙ marking-more stock.entries after (numbered k (restores index h Alive)) added old.issued o r.peer side.known side.from (ap peers_at r.issued)
 
 -- the entry may come next
-restore-told : (old w : Rows) (o : Option OpenMarking) (n : ℕ) (m : Mirrors) (x : OpenMirror) (stock : Stock) (after : List Entry) (k index : ℕ) (h : HNum) (back : Back) (b : Bool) → IsSide old o n m stock → after ≡ stock.entries ++ numbered k (restores index h back) ∷ [] → m.mirror ≡ Some x → IsRestored b old h.0 back w
+restore-told : (old w : Rows) (o : Option OpenMarking) (n : ℕ) (m : Mirrors) (x : OpenMirror) (stock : Stock) (after : List Entry) (k index : ℕ) (h : HNum) (back : Back) (b : Bool) → IsSide old o n m stock → after ≡ stock.entries ++ numbered k (restores index h back) ∷ [] → m.mirror ≡ Some x → RestoresHandle b old h.0 back w
     → peer_answer (state_with stock.entries old o n m) C (op.Restore h) None nothing ≡ answer (reply_of back) (state_with after w o n (on_mirror m (restored_one x)))
 restore-told old w o n m x stock after k index h Cleared b side added here r =
     let es = stock.entries in
@@ -158,13 +158,13 @@ restore-told old w o n m x stock after k index h Alive b side added here r =
     told-by old w o n m x stock after k index h Alive side added here (brought_to (marking_in old.issued es o) r.peer) (again-marking old w o n m stock after k index h b side added r)
     (again-answer b old w (mirror_as es x) (mirrors_in es) (marking_in old.issued es o) n h None r)
 
-pub restore-goes : (old w : Rows) (o : Option OpenMarking) (n : ℕ) (m : Mirrors) (x : OpenMirror) (stock : Stock) (after : List Entry) (k index : ℕ) (h : HNum) (back : Back) (b : Bool) → IsSide old o n m stock → after ≡ stock.entries ++ numbered k (restores index h back) ∷ [] → m.mirror ≡ Some x → IsRestored b old h.0 back w
+pub restore-goes : (old w : Rows) (o : Option OpenMarking) (n : ℕ) (m : Mirrors) (x : OpenMirror) (stock : Stock) (after : List Entry) (k index : ℕ) (h : HNum) (back : Back) (b : Bool) → IsSide old o n m stock → after ≡ stock.entries ++ numbered k (restores index h back) ∷ [] → m.mirror ≡ Some x → RestoresHandle b old h.0 back w
     → MayRestore (state_with stock.entries old o n m) h.0 → GoesOn peer_rules (state_with stock.entries old o n m) (restores index h back) nothing (state_with after w o n (on_mirror m (restored_one x)))
 restore-goes old w o n m x stock after k index h back b side added here r may =
     goes-told (state_with stock.entries old o n m) (state_with after w o n (on_mirror m (restored_one x))) (restores index h back) nothing (record { event = tt; side = refl }) may (restore-told old w o n m x stock after k index h back b side added here r)
 
 -- the marks stay exact
-restore-marks : (old w : Rows) (o : Option OpenMarking) (n : ℕ) (m : Mirrors) (x : OpenMirror) (stock : Stock) (after : List Entry) (k index : ℕ) (h : HNum) (back : Back) → IsSide old o n m stock → after ≡ stock.entries ++ numbered k (restores index h back) ∷ [] → m.mirror ≡ Some x → IsRestored (is_some o) old h.0 back w
+restore-marks : (old w : Rows) (o : Option OpenMarking) (n : ℕ) (m : Mirrors) (x : OpenMirror) (stock : Stock) (after : List Entry) (k index : ℕ) (h : HNum) (back : Back) → IsSide old o n m stock → after ≡ stock.entries ++ numbered k (restores index h back) ∷ [] → m.mirror ≡ Some x → RestoresHandle (is_some o) old h.0 back w
     → (mk : Marking) → marking_in w.issued after o ≡ Some mk → IsExact (state_with after w o n (on_mirror m (restored_one x))) mk w.rows
 restore-marks old w o n m x stock after k index h Cleared side added here r mk q =
     let s = state_with stock.entries old o n m in
@@ -191,7 +191,7 @@ record IsRestoredRest (old w : Rows) : Type 0 where
   room : w.rows.room ≡ old.rows.room
   refs : w.rows.refs ≡ old.rows.refs
 
-restored-rest : (b : Bool) (old : Rows) (h : ℕ) (back : Back) (w : Rows) → IsRestored b old h back w → IsRestoredRest old w
+restored-rest : (b : Bool) (old : Rows) (h : ℕ) (back : Back) (w : Rows) → RestoresHandle b old h back w → IsRestoredRest old w
 restored-rest b old h Cleared w r = record { tabled = omega (arith, r.fewer); issued = ap (λ (z : Rows). z.issued) r.rest; room = ap (λ (z : Rows). z.rows.room) r.rest; refs = ap (λ (z : Rows). z.rows.refs) r.rest }
 restored-rest b old h Alive w r = record { tabled = omega (arith, ap (λ (z : Rows). z.tabled) r.rest); issued = ap (λ (z : Rows). z.issued) r.rest; room = ap (λ (z : Rows). z.rows.room) r.rest; refs = ap (λ (z : Rows). z.rows.refs) r.rest }
 
@@ -204,7 +204,7 @@ restore-owed rows o n m x stock h side here may =
 
 -- the side after it
 pub IsSide-restored : (old w : Rows) (o : Option OpenMarking) (n : ℕ) (m : Mirrors) (x : OpenMirror) (stock later : Stock) (k floor index : ℕ) (h : HNum) (back : Back) → IsSide old o n m stock → later.entries ≡ stock.entries ++ numbered k (restores index h back) ∷ [] → AllBelow stock.entries floor → floor ≤ k
-    → m.mirror ≡ Some x → IsRestored (is_some o) old h.0 back w → MayRestore (state_with stock.entries old o n m) h.0 → later.spare + 1 ≡ stock.spare → IsSide w o n (on_mirror m (restored_one x)) later
+    → m.mirror ≡ Some x → RestoresHandle (is_some o) old h.0 back w → MayRestore (state_with stock.entries old o n m) h.0 → later.spare + 1 ≡ stock.spare → IsSide w o n (on_mirror m (restored_one x)) later
 IsSide-restored old w o n m x stock later k floor index h back side added below above here r may spare =
     let made = restores index h back in
     let e : Entry = numbered k made in

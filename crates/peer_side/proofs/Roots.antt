@@ -15,7 +15,7 @@ use Rattle.joint_model.proofs.WalkLemmas.{Reached-mono}
 use Rattle.joint_laws.proofs.MarkingKeeping.{strong-listed}
 use Rattle.global_handles.specs.declared.HandleRow.{HandleRow}
 use Rattle.global_handles.specs.Rows.{Table, row_in}
-use Rattle.reachability.specs.Marks.{IsMarked}
+use Rattle.reachability.specs.Marks.{HasMark}
 use Rattle.row_heap.specs.Rows.{HeapRows}
 use Rattle.row_marking.specs.Traces.{Greyed, Greying}
 use Rattle.row_marking.proofs.Greys.{Greyed-push, Greyed-then, Greying-begins}
@@ -169,14 +169,14 @@ root-list h named x = (
 )
 
 -- once slots and strong handles are visited, a marking from the roots is on its way
-pub begins-greying : (h : Heap) (named : List ℕ) (edge : ℕ → ℕ → Type 0) (a : List Bool) (k : List ℕ) (b : List Bool) (l : List ℕ) (i : ℕ) (c : List Bool) (n : List ℕ) (j : ℕ) → ((x : ℕ) → IsMarked a x → ⊥)
+pub begins-greying : (h : Heap) (named : List ℕ) (edge : ℕ → ℕ → Type 0) (a : List Bool) (k : List ℕ) (b : List Bool) (l : List ℕ) (i : ℕ) (c : List Bool) (n : List ℕ) (j : ℕ) → ((x : ℕ) → HasMark a x → ⊥)
     → Greyed (InSlot h) a k 0 b l i → Greyed (Contains named) b l i c n j → Greying (root_list h named) edge a c n j
 begins-greying h named edge a k b l i c n j none slots handles = Greying-begins (root_list h named) edge a k c n j (λ x y e m. absurd (none x m))
     (Greyed-then (InSlot h) (Contains named) (Contains (root_list h named)) a k 0 b l i c n j (λ x r. (root-list h named x).0 r) (λ x r. (root-list h named x).1 (inl r)) (λ x r. (root-list h named x).1 (inr r)) slots handles)
 
 -- so just what the roots reach is marked
-pub begun-marks : (h : Heap) (named : List ℕ) (edge : ℕ → ℕ → Type 0) (before after : List Bool) (x : ℕ) → ((y : ℕ) → IsMarked before y → ⊥) → IsMarked after x ↔ (IsMarked before x ⊎ Reached (Contains (root_list h named)) edge x)
-    → IsMarked after x ↔ Reached (λ p. InSlot h p ⊎ Contains named p) edge x
+pub begun-marks : (h : Heap) (named : List ℕ) (edge : ℕ → ℕ → Type 0) (before after : List Bool) (x : ℕ) → ((y : ℕ) → HasMark before y → ⊥) → HasMark after x ↔ (HasMark before x ⊎ Reached (Contains (root_list h named)) edge x)
+    → HasMark after x ↔ Reached (λ p. InSlot h p ⊎ Contains named p) edge x
 begun-marks h named edge before after x none m = (
   (λ u. elim (m.0 u) [ inl w ↦ absurd (none x w) | inr w ↦ Reached-mono (Contains (root_list h named)) (λ p. InSlot h p ⊎ Contains named p) edge edge (λ y r. (root-list h named y).0 r) (λ y z e. e) x w ]),
   (λ w. m.1 (inr (Reached-mono (λ p. InSlot h p ⊎ Contains named p) (Contains (root_list h named)) edge edge (λ y r. (root-list h named y).1 r) (λ y z e. e) x w))),

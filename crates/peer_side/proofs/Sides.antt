@@ -32,7 +32,7 @@ use Rattle.row_heap.specs.Marks.{EdgeOf}
 use Rattle.row_heap.specs.Rows.{HeapRows}
 use Rattle.peer_side.specs.declared.side.OpenMarking.{OpenMarking}
 use Rattle.peer_side.specs.Marks.{MarksNew, MarksBrought, MarksAfter, IsExact, mark_by, mark_after}
-use Rattle.peer_side.specs.MirrorLaws.{HasGrown}
+use Rattle.peer_side.specs.MirrorLaws.{HasFurther}
 use Rattle.peer_side.specs.Mirrors.{Mirrors, no_mirrors, owes}
 use Rattle.peer_side.specs.Rows.{Rows, AreTargetsLive, GoesBy, no_rows, with_rows, marking_by, marking_after}
 use Rattle.peer_side.specs.Sides.{IsSide, IsFrom, IsKnown, named_in, brought_at, brought_since, marking_as, marking_in, mirror_state, state_with, owed}
@@ -81,7 +81,7 @@ since-push issued n es e le =
     ap (flat_map f) (drop-append-le n es (e ∷ []) le) ∙ (flat_map-append f (drop n es) (e ∷ []) ∙ ap (λ l. brought_since issued n es ++ l) (append-nil (f e)))
 
 -- the marking after an entry, where handles were issued since
-pub marking-push : (old new : List Issued) (es : List Entry) (e : Entry) (o : OpenMarking) → HasGrown old new → All (IsKnown old) es → o.from ≤ length es
+pub marking-push : (old new : List Issued) (es : List Entry) (e : Entry) (o : OpenMarking) → HasFurther old new → All (IsKnown old) es → o.from ≤ length es
     → marking_as new (es ++ e ∷ []) o ≡ record (marking_as old es o) { brought = brought_since old o.from es ++ brought_at new e.made.op e.made.reply }
 marking-push old new es e o grown known from =
     ap (λ l. (let z : Marking = record (marking_as old es o) { brought = l } in z)) (since-push new o.from es e from ∙ ap (λ l. l ++ brought_at new e.made.op e.made.reply) (brought-more old new o.from es grown known))
@@ -97,7 +97,7 @@ next-mark issued mk (op.Land h x) r q = next-named mk r
 next-mark issued mk (op.Restore h) r q = absurd (cons-nil h.0 [] q.restores)
 next-mark issued mk _ r q = ap (λ l. Some (record mk { brought = l })) (append-nil mk.brought)
 
-pub marking-next : (old new : List Issued) (es : List Entry) (e : Entry) (o : Option OpenMarking) → HasGrown old new → All (IsKnown old) es → IsFrom o (length es) → IsQuiet e.made.op → marking_in new (es ++ e ∷ []) o ≡ marking_after (marking_in old es o) e.made.op e.made.reply
+pub marking-next : (old new : List Issued) (es : List Entry) (e : Entry) (o : Option OpenMarking) → HasFurther old new → All (IsKnown old) es → IsFrom o (length es) → IsQuiet e.made.op → marking_in new (es ++ e ∷ []) o ≡ marking_after (marking_in old es o) e.made.op e.made.reply
 marking-next old new es e None grown known from q = sym (no-marking e.made.op e.made.reply)
 marking-next old new es e (Some o) grown known from q = ap (λ z. Some z) (marking-push old new es e o grown known from) ∙ next-mark new (marking_as old es o) e.made.op e.made.reply q
 
@@ -134,10 +134,10 @@ module _ (old new : Rows) (o : Option OpenMarking) (n : ℕ) (m : Mirrors) (stoc
   quiet : IsQuiet e.made.op
   quiet = step-quiet e.made.caller e.made.op step
 
-  pub grown : HasGrown old.issued new.issued
+  pub grown : HasFurther old.issued new.issued
   grown =
       let s = state_with stock.entries old o n m in
-      subst (λ (a : Answered PeerReplay). HasGrown old.issued a.state.peers.issued) (goes s e.made.cites) (issued-grows s e.made.caller e.made.op e.made.cites step)
+      subst (λ (a : Answered PeerReplay). HasFurther old.issued a.state.peers.issued) (goes s e.made.cites) (issued-grows s e.made.caller e.made.op e.made.cites step)
 
   later-marking : marking_in new.issued after o ≡ marking_after (marking_in old.issued stock.entries o) e.made.op e.made.reply
   later-marking = ap (λ l. marking_in new.issued l o) added ∙ marking-next old.issued new.issued stock.entries e o grown side.known side.from quiet

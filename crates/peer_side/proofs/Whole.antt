@@ -20,7 +20,7 @@ use Rattle.global_handles.specs.declared.HandleRow.{HandleRow}
 use Rattle.global_handles.specs.declared.Strength.{Strength}
 use Rattle.global_handles.specs.declared.Strength.TheVariants.{Strong, Weak}
 use Rattle.global_handles.specs.Rows.{IsWeakFor, RisesBetween, row_in}
-use Rattle.reachability.specs.Marks.{IsMarked}
+use Rattle.reachability.specs.Marks.{HasMark}
 use Rattle.peer_side.specs.declared.rows.Issue.{Issue}
 use Rattle.peer_side.specs.Marking.{IsWholeMarking, with_marking}
 use Rattle.marking_laws.specs.Marks.{IsMarkedSide}
@@ -70,7 +70,7 @@ strong-row rows issued n k r rises len own at s =
 
 -- so where each of those has a mark, the handles on peers without one are weak
 pub weak-rows : (marks : List Bool) (rows : List HandleRow) (issued : List Issue) (n : ℕ) (freed : List PNum) → RisesBetween 0 n rows → n ≡ length issued → AreRowsIssued rows issued
-    → ((p : ℕ) → Contains (strong_peers (map issued_as issued) (table_to rows n)) p → IsMarked marks p) → ((p : ℕ) → Contains (peer_numbers freed) p → IsMarked marks p → ⊥) → All (λ p. All (IsWeakFor p) rows) freed
+    → ((p : ℕ) → Contains (strong_peers (map issued_as issued) (table_to rows n)) p → HasMark marks p) → ((p : ℕ) → Contains (peer_numbers freed) p → HasMark marks p → ⊥) → All (λ p. All (IsWeakFor p) rows) freed
 weak-rows marks rows issued n freed rises len own up white k p l j r m = λ same. by (get_or rows j r).strength refl same
   where
     at : slice_get rows j ≡ Some (get_or rows j r)
@@ -119,11 +119,11 @@ strong-safe s k p c = λ mk e.
     subst (IsSpared mk) w.peer ((k.marking mk e).strong_ones (suc w.place) w.row w.issue w.tabled w.sure w.made)
 
 -- and has a mark
-pub strong-marked : (s : PeerReplay) (mk : Marking) (follows : Bool) (marks : List Bool) → IsMarkedSide s mk follows marks → (p : ℕ) → Contains (strong_peers s.peers.issued s.table) p → IsMarked marks p
+pub strong-marked : (s : PeerReplay) (mk : Marking) (follows : Bool) (marks : List Bool) → IsMarkedSide s mk follows marks → (p : ℕ) → Contains (strong_peers s.peers.issued s.table) p → HasMark marks p
 strong-marked s mk follows marks side p c =
     let w = strong-at s.peers.issued s.table p c in
     let spared = (side.kept.marking mk side.opened).strong_ones (suc w.place) w.row w.issue w.tabled w.sure w.made in
-    subst (IsMarked marks) w.peer (spared-marked s mk follows marks side.right w.issue.peer (subst (IsLive s.peers.heap) (sym w.peer) (strong-live s side.kept p c)) spared)
+    subst (HasMark marks) w.peer (spared-marked s mk follows marks side.right w.issue.peer (subst (IsLive s.peers.heap) (sym w.peer) (strong-live s side.kept p c)) spared)
 
 pub whole-side : (s : PeerReplay) (v : Rows) (m : Option Marking) (n : ℕ) (mk : Marking) → IsMarkedSide (with_marking s v m n) mk v.rows.follows v.rows.marks → IsWholeMarking v
 whole-side s v m n mk side =

@@ -5,7 +5,7 @@ use Rattle.std.specs.List.{list_any}
 use Rattle.joint_model.specs.Heaps.{Heap, InSlot}
 use Rattle.joint_model.specs.Peers.{is_strong}
 use Rattle.joint_model.specs.PeerReplay.{PeerReplay, TableRow, Marking, strong_peers}
-use Rattle.reachability.specs.Marks.{IsClosed, IsMarked}
+use Rattle.reachability.specs.Marks.{IsClosed, HasMark}
 use Rattle.marking_laws.specs.Marks.{AreMarksExact}
 use Rattle.global_handles.specs.declared.HandleRow.{HandleRow}
 use Rattle.global_handles.specs.Rows.{Table, cleared_row}
@@ -28,8 +28,8 @@ IsRoot h strong_ones p = InSlot h p ⊎ Contains strong_ones p
 
 -- a marking at its end: each root has a mark, and what a peer with a mark leads to has one
 pub record IsWholeMarking (v : Rows) : Type 0 where
-  pub slots : (p : ℕ) → InSlot v.rows.heap p → IsMarked v.rows.marks p
-  pub strong_ones : (p : ℕ) → Contains (strong_peers v.issued v.table) p → IsMarked v.rows.marks p
+  pub slots : (p : ℕ) → InSlot v.rows.heap p → HasMark v.rows.marks p
+  pub strong_ones : (p : ℕ) → Contains (strong_peers v.issued v.table) p → HasMark v.rows.marks p
   pub shut : IsClosed (EdgeOf v.rows) v.rows.marks
 
 -- the rows, with each on one of these peers cleared

@@ -11,7 +11,7 @@ use Rattle.joint_model.specs.PeerReplay.{PeerReplay, Marking, peer_answer}
 use Rattle.joint_model.specs.Told.{nothing}
 use Rattle.joint_model.specs.Walks.{Reached}
 use Rattle.marking_laws.specs.Marks.{AreMarksExact, IsMarkedSide}
-use Rattle.reachability.specs.Marks.{IsMarked as HasMark}
+use Rattle.reachability.specs.Marks.{HasMark}
 use Rattle.row_heap.specs.Marks.{EdgeOf}
 use Rattle.row_heap.specs.Rows.{HeapRows}
 use Rattle.peer_side.specs.Steps.{IsPeerStep}

@@ -63,13 +63,13 @@ pub record RestoresAreOwed : Type 0 where
   pub restores : (m : Mirror) (due h : ℕ) → IsDue m due → Contains m.weakened h → (Contains m.restored h → ⊥) → IsDue (restored_more m h) (due - 1)
 
 -- a list of issued handles has others after it
-abbrev pub HasGrown : List Issued → List Issued → Type 0
-HasGrown old new = (more : List Issued) × (new ≡ old ++ more)
+abbrev pub HasFurther : List Issued → List Issued → Type 0
+HasFurther old new = (more : List Issued) × (new ≡ old ++ more)
 
 -- a step leaves a mirrored cycle as it is: handles stay as they were issued, the room for references stays, and its
 -- entry mirrors no cycle, and weakens and restores no handle
 pub record StepsLeaveMirrors : Type 0 where
-  pub issued : (s : PeerReplay) (t : Thread) (o : Op) (cites : Option ℕ) → IsPeerStep t o → HasGrown s.peers.issued (peer_answer s t o cites nothing).state.peers.issued
+  pub issued : (s : PeerReplay) (t : Thread) (o : Op) (cites : Option ℕ) → IsPeerStep t o → HasFurther s.peers.issued (peer_answer s t o cites nothing).state.peers.issued
   pub room : (b : Bool) (old : HeapRows) (o : Op) (r : Reply) (new : HeapRows) → MarksAfter b old o r new → new.room ≡ old.room
   pub mirrors : (t : Thread) (o : Op) → IsPeerStep t o → mirrored_at o ≡ []
   pub weakens : (t : Thread) (o : Op) → IsPeerStep t o → weakened_at o ≡ []

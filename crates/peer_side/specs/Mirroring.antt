@@ -8,7 +8,7 @@ use Rattle.joint_model.specs.PeerReplay.{TableRow, opening_peer_replay, row_of}
 use Rattle.joint_model.specs.Walks.{Reached}
 use Rattle.global_handles.specs.declared.Back.{Back}
 use Rattle.global_handles.specs.declared.Back.TheVariants.{Alive, Cleared}
-use Rattle.reachability.specs.Marks.{IsMarked}
+use Rattle.reachability.specs.Marks.{HasMark}
 use Rattle.row_heap.specs.Marks.{EdgeOf}
 use Rattle.peer_side.specs.Rows.{Rows, with_rows}
 
@@ -47,9 +47,9 @@ pub record IsStrongAgain (is_open : Bool) (old : Rows) (h : ℕ) (new : Rows) : 
   pub peer : ℕ
   pub issued : peer_of old.issued h ≡ Some peer
   pub rest : new ≡ record old { rows = record old.rows { marks = new.rows.marks; links = new.rows.links }; table = numbered_set old.table h (Some strong_row) }
-  pub marks : is_open ≡ true → (k : ℕ) → (IsMarked new.rows.marks k ↔ (IsMarked old.rows.marks k ⊎ Reached (Contains (peer ∷ [])) (EdgeOf old.rows) k))
+  pub marks : is_open ≡ true → (k : ℕ) → (HasMark new.rows.marks k ↔ (HasMark old.rows.marks k ⊎ Reached (Contains (peer ∷ [])) (EdgeOf old.rows) k))
 
 -- what a restore does to the rows
-abbrev pub IsRestored : Bool → Rows → ℕ → Back → Rows → Type 0
-IsRestored is_open old h Cleared new = IsRemoved old h new
-IsRestored is_open old h Alive new = IsStrongAgain is_open old h new
+abbrev pub RestoresHandle : Bool → Rows → ℕ → Back → Rows → Type 0
+RestoresHandle is_open old h Cleared new = IsRemoved old h new
+RestoresHandle is_open old h Alive new = IsStrongAgain is_open old h new

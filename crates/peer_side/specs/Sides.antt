@@ -159,9 +159,9 @@ MayEnd None t = Unit {0}
 MayEnd (Some mk) t = (t ≡ C) ⊎ (t ≡ mk.by)
 
 -- a marking is open, of this number, and the thread may end it
-abbrev pub IsEnded : Option Marking → Thread → Number → Type 0
-IsEnded None t j = ⊥
-IsEnded (Some mk) t j = ((t ≡ C) ⊎ (t ≡ mk.by)) × (j.0 ≡ mk.number)
+abbrev pub MarkingIsEnded : Option Marking → Thread → Number → Type 0
+MarkingIsEnded None t j = ⊥
+MarkingIsEnded (Some mk) t j = ((t ≡ C) ⊎ (t ≡ mk.by)) × (j.0 ≡ mk.number)
 
 -- why no marking is begun: one is open, which is named, or there is no memory
 abbrev pub IsFaultAt : BeginFault → Option Marking → Type 0

@@ -8,7 +8,7 @@ ghost use Rattle.joint_model.specs.Heaps.{IsLive};
 ghost use Rattle.joint_model.specs.PeerReplay.{strong_peers};
 ghost use Rattle.joint_model.specs.Walks.{Reached};
 ghost use Rattle.global_handles.specs.Rows.{row_in};
-ghost use Rattle.reachability.specs.Marks.{IsClosed, IsMarked};
+ghost use Rattle.reachability.specs.Marks.{IsClosed, HasMark};
 ghost use Rattle.row_marking.specs.Traces.{Greyed};
 ghost use Rattle.row_heap.specs.Marks.{AreEndsLive, EdgeOf};
 ghost use Rattle.peer_side.specs.Marking.{IsRoot, strong_in, strong_peer};
@@ -26,7 +26,7 @@ impl PeerRows {
     pub(crate) fn mark(&mut self)
         requires strong_ones { (p : ℕ) → Contains (strong_peers self.old.issued self.old.table) p → IsLive self.old.rows.heap p }
         requires ends { AreEndsLive self.old.rows }
-        ensures marks { (p : ℕ) → IsMarked self.new.rows.marks p ↔ Reached (IsRoot self.old.rows.heap (strong_peers self.old.issued self.old.table)) (EdgeOf self.new.rows) p }
+        ensures marks { (p : ℕ) → HasMark self.new.rows.marks p ↔ Reached (IsRoot self.old.rows.heap (strong_peers self.old.issued self.old.table)) (EdgeOf self.new.rows) p }
         ensures rest { self.new ≡ record self.old { rows = record self.old.rows { follows = true; marks = self.new.rows.marks; links = self.new.rows.links } } }
     {
         mark_roots(&mut self.heap, &self.table, self.issued.as_slice());
@@ -38,7 +38,7 @@ fn mark_roots(heap: &mut RowHeap<PNum>, table: &HandleTable, issued: &[Issue])
     requires made { table.now.made ≡ length issued.now }
     requires live { (p : ℕ) → Contains (strong_in issued.now table.now) p → IsLive heap.old.heap p }
     requires ends { AreEndsLive heap.old }
-    ensures marks { (p : ℕ) → IsMarked heap.new.marks p ↔ Reached (IsRoot heap.old.heap (strong_in issued.now table.now)) (EdgeOf heap.new) p }
+    ensures marks { (p : ℕ) → HasMark heap.new.marks p ↔ Reached (IsRoot heap.old.heap (strong_in issued.now table.now)) (EdgeOf heap.new) p }
     ensures shut { IsClosed (EdgeOf heap.new) heap.new.marks }
     ensures rest { heap.new ≡ record heap.old { follows = true; marks = heap.new.marks; links = heap.new.links } }
 {

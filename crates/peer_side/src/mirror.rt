@@ -8,7 +8,7 @@ ghost use Rattle.joint_model.specs.Peers.{peer_of};
 ghost use Rattle.joint_model.specs.PeerReplay.{Refers, TableRow};
 ghost use Rattle.reachability.specs.Marks.{IsClosed};
 ghost use Rattle.row_heap.specs.Marks.{EdgeOf};
-ghost use Rattle.peer_side.specs.Mirroring.{IsRestored, row_at, strong_row, weak_row, with_row, with_stood};
+ghost use Rattle.peer_side.specs.Mirroring.{RestoresHandle, row_at, strong_row, weak_row, with_row, with_stood};
 ghost use Rattle.peer_side.specs.Rows.{AreTargetsLive, with_rows};
 
 use crate::rows::PeerRows;
@@ -63,7 +63,7 @@ impl PeerRows {
         requires tabled { (row : TableRow) × (row_at self.old h.0 ≡ Some row) }
         requires live { AreTargetsLive self.old }
         requires shut { IsTrue is_open → IsClosed (EdgeOf self.old.rows) self.old.rows.marks }
-        ensures { IsRestored is_open self.old h.0 result self.new }
+        ensures { RestoresHandle is_open self.old h.0 result self.new }
     {
         self.issued_rows();
         match self.target(h) {

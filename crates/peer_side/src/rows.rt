@@ -10,7 +10,7 @@ ghost use Rattle.joint_model.specs.Peers.{peer_name, on_peer_heap, peer_made, pa
 ghost use Rattle.joint_model.specs.PeerReplay.{PeerReplay, TableRow, opening_peer_replay, on_table, untabled, row_of, table_target};
 ghost use Rattle.joint_model.specs.Run.{thread_number};
 ghost use Rattle.joint_model.specs.Walks.{Reached};
-ghost use Rattle.reachability.specs.Marks.{IsClosed, IsMarked};
+ghost use Rattle.reachability.specs.Marks.{IsClosed, HasMark};
 ghost use Rattle.row_heap.specs.Marks.{EdgeOf};
 ghost use Rattle.peer_side.specs.Marks.{AreMarksSame, MarksNew, MarksBrought, MarksAfter};
 ghost use Rattle.global_handles.specs.Rows.{row_in, target_in};
@@ -342,7 +342,7 @@ impl PeerRows {
         requires live { IsLive self.old.rows.heap p.0 }
         requires shut { IsTrue is_open → IsClosed (EdgeOf self.old.rows) self.old.rows.marks }
         ensures rest { self.new ≡ record self.old { rows = record self.old.rows { marks = self.new.rows.marks; links = self.new.rows.links } } }
-        ensures marks { IsTrue is_open → (k : ℕ) → (IsMarked self.new.rows.marks k ↔ (IsMarked self.old.rows.marks k ⊎ Reached (Contains (p.0 ∷ [])) (EdgeOf self.old.rows) k)) }
+        ensures marks { IsTrue is_open → (k : ℕ) → (HasMark self.new.rows.marks k ↔ (HasMark self.old.rows.marks k ⊎ Reached (Contains (p.0 ∷ [])) (EdgeOf self.old.rows) k)) }
     {
         if !is_open {
             return;

@@ -13,7 +13,7 @@ ghost use Rattle.joint_laws.specs.PeerInvariants.{IsPeerKept};
 ghost use Rattle.global_handles.specs.Rows.{row_in, target_in};
 ghost use Rattle.peer_side.specs.Rows.{number_of, row_as};
 ghost use Rattle.peer_side.specs.Makings.{IsSideStep, MayDrawStep, MayStep, RefusesMarking, collect_makings, gone_since, step_makings};
-ghost use Rattle.peer_side.specs.Sides.{begins, ends, is_own, is_to_mark, opening_side, owed, reserve_begun, seen, IsEnded, IsFaultAt, IsMarkingOf, MayEnd};
+ghost use Rattle.peer_side.specs.Sides.{begins, ends, is_own, is_to_mark, opening_side, owed, reserve_begun, seen, MarkingIsEnded, IsFaultAt, IsMarkingOf, MayEnd};
 ghost use Rattle.peer_side.specs.Mirrors.{mirrors_begun, owes};
 ghost use Rattle.peer_side.specs.Steps.{IsPeerStep, IsRelease, room_for};
 
@@ -431,7 +431,7 @@ impl PeerSide {
         marking: Marking,
     ) -> Span
         requires caller { IsPeerThread caller ⊎ IsDriver caller }
-        requires ended { IsEnded self.old.state.marking caller marking }
+        requires ended { MarkingIsEnded self.old.state.marking caller marking }
         requires may { MayDraw peer_rules (record { floor = D.floor; left = D.left; may = D.may; drew = D.drew }) draw.old (seen self.old) caller Op.Sweep }
         ensures swept { AddsLawful peer_rules (record { floor = D.floor; left = D.left; may = D.may; drew = D.drew }) draw.old draw.new (seen self.old) (seen self.new) (ends caller index marking result) (sweep_of (drop (length self.old.state.peers.heap.freed) self.new.state.peers.heap.freed)) }
         ensures reserve { self.new.reserve ≡ self.old.reserve }

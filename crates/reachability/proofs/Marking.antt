@@ -11,7 +11,7 @@ use Rattle.std.proofs.lemmas.Option.{slice_get-get_or}
 use Rattle.joint_model.specs.Walks.{Reached}
 use Rattle.joint_model.proofs.WalkLemmas.{Reached-keeps, Reached-then}
 use Rattle.joint_model.proofs.Members.{Contains-nil, Contains-filter_from, Contains-filter_to}
-use Rattle.reachability.specs.Marks.{IsMarked, IsClosed, unmarked, marked, unmarked_of}
+use Rattle.reachability.specs.Marks.{HasMark, IsClosed, unmarked, marked, unmarked_of}
 use Rattle.reachability.specs.Scans.{Scans}
 use Rattle.joint_model.proofs.Deciding.{not-true, not-from}
 
@@ -23,19 +23,19 @@ unmarked-set (false ∷ m) zero e = refl
 unmarked-set (true ∷ m) (suc i) e = unmarked-set m i e
 unmarked-set (false ∷ m) (suc i) e = omega (arith, unmarked-set m i e)
 
-pub set-marked : (m : List Bool) (i : ℕ) → i < length m → IsMarked (set m i true) i
+pub set-marked : (m : List Bool) (i : ℕ) → i < length m → HasMark (set m i true) i
 set-marked [] i l = absurd (omega arith)
 set-marked (b ∷ m) zero l = refl
 set-marked (b ∷ m) (suc i) l = set-marked m i (omega arith)
 
-pub set-keeps : (m : List Bool) (i k : ℕ) → IsMarked m k → IsMarked (set m i true) k
+pub set-keeps : (m : List Bool) (i k : ℕ) → HasMark m k → HasMark (set m i true) k
 set-keeps [] i k e = e
 set-keeps (b ∷ m) zero zero e = refl
 set-keeps (b ∷ m) zero (suc k) e = e
 set-keeps (b ∷ m) (suc i) zero e = e
 set-keeps (b ∷ m) (suc i) (suc k) e = set-keeps m i k e
 
-pub set-fresh : (m : List Bool) (i k : ℕ) → IsMarked (set m i true) k → IsMarked m k ⊎ (k ≡ i)
+pub set-fresh : (m : List Bool) (i k : ℕ) → HasMark (set m i true) k → HasMark m k ⊎ (k ≡ i)
 set-fresh [] i k e = inl e
 set-fresh (b ∷ m) zero zero e = inr refl
 set-fresh (b ∷ m) zero (suc k) e = inl e
@@ -61,11 +61,11 @@ Scans-none row m s none = record {
 }
 
 -- a node that is marked already asks for none either
-pub Scans-seen : (y : ℕ) (m : List Bool) (s : List ℕ) → IsMarked m y → Scans (λ z. z ≡ y) m s m s
+pub Scans-seen : (y : ℕ) (m : List Bool) (s : List ℕ) → HasMark m y → Scans (λ z. z ≡ y) m s m s
 Scans-seen y m s seen = record {
   len = refl;
   kept = λ k h. h;
-  done = λ k r. subst (IsMarked m) (sym r) seen;
+  done = λ k r. subst (HasMark m) (sym r) seen;
   fresh = λ k h. inl h;
   stays = λ k h. h;
   within = λ k h. inl h;
@@ -78,10 +78,10 @@ pub Scans-new : (y : ℕ) (m : List Bool) (s : List ℕ) → slice_get m y ≡ S
 Scans-new y m s new l = record {
   len = length-set m y true;
   kept = λ k h. set-keeps m y k h;
-  done = λ k r. subst (IsMarked (set m y true)) (sym r) (set-marked m y l);
+  done = λ k r. subst (HasMark (set m y true)) (sym r) (set-marked m y l);
   fresh = λ k h. elim (set-fresh m y k h) [ inl w ↦ inl w | inr w ↦ inr (w, subst (Contains (s ++ y ∷ [])) (sym w) (Contains-push s y)) ];
   stays = λ k h. Contains-append_left s (y ∷ []) k h;
-  within = λ k h. elim (Contains-push_cases s y k h) [ inl w ↦ inl w | inr w ↦ inr (subst (IsMarked (set m y true)) w (set-marked m y l)) ];
+  within = λ k h. elim (Contains-push_cases s y k h) [ inl w ↦ inl w | inr w ↦ inr (subst (HasMark (set m y true)) w (set-marked m y l)) ];
   fewer = omega (arith, unmarked-set m y new);
   same = omega (arith, unmarked-set m y new, length-append s (y ∷ []));
 }
@@ -133,7 +133,7 @@ pub read-mark : (m : List Bool) (y : ℕ) (b : Bool) → y < length m → get_or
 read-mark m y b l e = slice_get-get_or m y false l ∙ ap (λ z. Some z) e
 
 -- fresh marks are all false
-pub fresh-unmarked : (n k : ℕ) → IsMarked (replicate n false) k → ⊥
+pub fresh-unmarked : (n k : ℕ) → HasMark (replicate n false) k → ⊥
 fresh-unmarked zero k e = cc
 fresh-unmarked (suc n) zero e = cc
 fresh-unmarked (suc n) (suc k) e = fresh-unmarked n k e
@@ -141,17 +141,17 @@ fresh-unmarked (suc n) (suc k) e = fresh-unmarked n k e
 -- what the loop keeps, from the marks before it: `start` are the roots, `edge` the edges
 pub record Marking (start : ℕ → Type 0) (edge : ℕ → ℕ → Type 0) (before marks : List Bool) (waits : List ℕ) : Type 0 where
   pub len : length marks ≡ length before
-  pub sound : (k : ℕ) → IsMarked marks k → IsMarked before k ⊎ Reached start edge k
-  pub kept : (k : ℕ) → IsMarked before k → IsMarked marks k
-  pub roots : (k : ℕ) → start k → IsMarked marks k
-  pub closed : (k : ℕ) → IsMarked marks k → Contains waits k ⊎ ((y : ℕ) → edge k y → IsMarked marks y)
-  pub marked : (k : ℕ) → Contains waits k → IsMarked marks k
+  pub sound : (k : ℕ) → HasMark marks k → HasMark before k ⊎ Reached start edge k
+  pub kept : (k : ℕ) → HasMark before k → HasMark marks k
+  pub roots : (k : ℕ) → start k → HasMark marks k
+  pub closed : (k : ℕ) → HasMark marks k → Contains waits k ⊎ ((y : ℕ) → edge k y → HasMark marks y)
+  pub marked : (k : ℕ) → Contains waits k → HasMark marks k
   pub room : unmarked marks + length waits ≤ unmarked before
 
 -- it stays where one waiting node is taken and its targets are marked
 pub Marking-goes : (start : ℕ → Type 0) (edge : ℕ → ℕ → Type 0) (before marks marks' : List Bool) (x : ℕ) (waits waits' : List ℕ) → IsClosed edge before → Marking start edge before marks (waits ++ x ∷ []) → Scans (edge x) marks waits marks' waits' → Marking start edge before marks' waits'
 Marking-goes start edge before marks marks' x waits waits' closed i y =
-    let here : IsMarked marks x = i.marked x (Contains-push waits x) in
+    let here : HasMark marks x = i.marked x (Contains-push waits x) in
     record {
       len = y.len ∙ i.len;
       sound = λ k h. elim (y.fresh k h) [
@@ -179,12 +179,12 @@ pub Marking-closes : (start : ℕ → Type 0) (edge : ℕ → ℕ → Type 0) (b
 Marking-closes start edge before marks i x y e h = elim (i.closed x h) [ inl w ↦ absurd (Contains-nil x w) | inr w ↦ w y e ]
 
 -- so exactly what was marked before or is reached is marked
-pub Marking-ends : (start : ℕ → Type 0) (edge : ℕ → ℕ → Type 0) (before marks : List Bool) → Marking start edge before marks [] → (k : ℕ) → IsMarked marks k ↔ (IsMarked before k ⊎ Reached start edge k)
+pub Marking-ends : (start : ℕ → Type 0) (edge : ℕ → ℕ → Type 0) (before marks : List Bool) → Marking start edge before marks [] → (k : ℕ) → HasMark marks k ↔ (HasMark before k ⊎ Reached start edge k)
 Marking-ends start edge before marks i k =
-    (i.sound k, λ h. elim h [ inl w ↦ i.kept k w | inr w ↦ Reached-keeps start edge (IsMarked marks) i.roots (Marking-closes start edge before marks i) k w ])
+    (i.sound k, λ h. elim h [ inl w ↦ i.kept k w | inr w ↦ Reached-keeps start edge (HasMark marks) i.roots (Marking-closes start edge before marks i) k w ])
 
 -- a mark is there or not
-pub marked-or : (marks : List Bool) (x : ℕ) → IsMarked marks x ⊎ (IsMarked marks x → ⊥)
+pub marked-or : (marks : List Bool) (x : ℕ) → HasMark marks x ⊎ (HasMark marks x → ⊥)
 marked-or [] x = inr (λ u. cc)
 marked-or (true ∷ m) zero = inl refl
 marked-or (false ∷ m) zero = inr (λ u. cc)
@@ -199,14 +199,14 @@ pub marked-some : (o : Option Bool) (b : Bool) → o ≡ Some b → elim o [ Non
 marked-some None b e = cc
 marked-some (Some x) b e = cc
 
-pub IsMarked-test : (marks : List Bool) (m : ℕ) → marked marks m ≡ true → IsMarked marks m
+pub IsMarked-test : (marks : List Bool) (m : ℕ) → marked marks m ≡ true → HasMark marks m
 IsMarked-test marks m e = marked-from (slice_get marks m) e
 
-pub test-IsMarked : (marks : List Bool) (m : ℕ) → IsMarked marks m → marked marks m ≡ true
+pub test-IsMarked : (marks : List Bool) (m : ℕ) → HasMark marks m → marked marks m ≡ true
 test-IsMarked marks m h = marked-some (slice_get marks m) true h
 
 -- the rows that aren't marked are exactly these
-pub unmarked_of-exact : (marks : List Bool) (ms : List ℕ) (m : ℕ) → Contains (unmarked_of marks ms) m ↔ (Contains ms m × (IsMarked marks m → ⊥))
+pub unmarked_of-exact : (marks : List Bool) (ms : List ℕ) (m : ℕ) → Contains (unmarked_of marks ms) m ↔ (Contains ms m × (HasMark marks m → ⊥))
 unmarked_of-exact marks ms m = (
   λ c. let r = Contains-filter_from (λ k. not (marked marks k)) ms m c in (r.0, λ h. not-true (marked marks m) r.1 (test-IsMarked marks m h)),
   λ h. Contains-filter_to (λ k. not (marked marks k)) ms m h.0 (not-from (marked marks m) (λ e. h.1 (IsMarked-test marks m e))),

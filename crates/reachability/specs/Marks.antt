@@ -8,12 +8,12 @@ abbrev pub Leads : ℕ → (ℕ → List (Option ℕ)) → ℕ → ℕ → Type 
 Leads nodes targets x y = (x < nodes) × Contains (targets x) (Some y)
 
 -- node k is marked
-abbrev pub IsMarked : List Bool → ℕ → Type 0
-IsMarked marks k = slice_get marks k ≡ Some true
+abbrev pub HasMark : List Bool → ℕ → Type 0
+HasMark marks k = slice_get marks k ≡ Some true
 
 -- what a marked node leads to is marked
 abbrev pub IsClosed : (ℕ → ℕ → Type 0) → List Bool → Type 0
-IsClosed edge marks = (x y : ℕ) → edge x y → IsMarked marks x → IsMarked marks y
+IsClosed edge marks = (x y : ℕ) → edge x y → HasMark marks x → HasMark marks y
 
 -- how many nodes aren't marked
 abbrev pub unmarked : List Bool → ℕ

@@ -9,8 +9,8 @@ use Rattle.joint_model.specs.Walks.{Reached}
 use Rattle.joint_model.proofs.Members.{Contains-at}
 use Rattle.joint_model.proofs.WalkLemmas.{Reached-keeps, Reached-start, Reached-then, Reached-mono}
 use Rattle.heap_rules.specs.Tidy.{IsTidy}
-use Rattle.reachability.specs.Marks.{IsClosed, IsMarked}
-use Rattle.row_marking.specs.Traces.{Greying, Leads}
+use Rattle.reachability.specs.Marks.{IsClosed, HasMark}
+use Rattle.row_marking.specs.Traces.{Greying, RowLeads}
 use Rattle.heap_rules.specs.Flags.{IsSound}
 use Rattle.row_marking.specs.Traces.{IsLastBelow}
 use Rattle.row_heap.specs.Places.{Seen, row_at, unmarked_row}
@@ -19,7 +19,7 @@ use Rattle.row_heap.specs.Rows.{HeapRows, IsRowHeap, heap_of, pairs_in, rows_of,
 use Rattle.row_heap.specs.Marks.{AreEndsLive, EdgeOf, shape_of, unmarked_rows}
 use Rattle.row_heap.proofs.Walked.{followed-all, followed-at, live-seen, stands-seen}
 
-pub leads-edge : (v : HeapRows) (x y : ℕ) → IsTidy v.heap → (IsTrue v.follows → AreEndsLive v) → IsLive v.heap x → Leads (shape_of v) x y → EdgeOf v x y
+pub leads-edge : (v : HeapRows) (x y : ℕ) → IsTidy v.heap → (IsTrue v.follows → AreEndsLive v) → IsLive v.heap x → RowLeads (shape_of v) x y → EdgeOf v x y
 leads-edge v x y tidy ends l e = elim e [
   | inl f ↦ inl record { live = l; field = f; there = tidy.held x y l f }
   | inr (i, low, at) ↦ (
@@ -28,7 +28,7 @@ leads-edge v x y tidy ends l e = elim e [
       inr (w.0, record { live = l; reference = has; there = ends w.0 x y has l }))
 ]
 
-pub edge-leads : (v : HeapRows) (x y : ℕ) → EdgeOf v x y → Leads (shape_of v) x y
+pub edge-leads : (v : HeapRows) (x y : ℕ) → EdgeOf v x y → RowLeads (shape_of v) x y
 edge-leads v x y e = elim e [
   | inl f ↦ inl f.field
   | inr r ↦ (
@@ -37,27 +37,27 @@ edge-leads v x y e = elim e [
 ]
 
 -- a walk of the loop's edges from live objects
-pub reached-edge : (v : HeapRows) (roots : List ℕ) (k : ℕ) → IsTidy v.heap → (IsTrue v.follows → AreEndsLive v) → ((x : ℕ) → Contains roots x → IsLive v.heap x) → Reached (Contains roots) (Leads (shape_of v)) k → Reached (Contains roots) (EdgeOf v) k
-reached-edge v roots k tidy ends live r = (Reached-keeps (Contains roots) (Leads (shape_of v)) (λ x. IsLive v.heap x × Reached (Contains roots) (EdgeOf v) x)
+pub reached-edge : (v : HeapRows) (roots : List ℕ) (k : ℕ) → IsTidy v.heap → (IsTrue v.follows → AreEndsLive v) → ((x : ℕ) → Contains roots x → IsLive v.heap x) → Reached (Contains roots) (RowLeads (shape_of v)) k → Reached (Contains roots) (EdgeOf v) k
+reached-edge v roots k tidy ends live r = (Reached-keeps (Contains roots) (RowLeads (shape_of v)) (λ x. IsLive v.heap x × Reached (Contains roots) (EdgeOf v) x)
     (λ x c. (live x c, Reached-start (Contains roots) (EdgeOf v) x c))
     (λ x y e w. (let d = leads-edge v x y tidy ends w.0 e in (edge-live v x y d, Reached-then (Contains roots) (EdgeOf v) x y w.1 d))) k r).1
   where
     edge-live : (v : HeapRows) (x y : ℕ) → EdgeOf v x y → IsLive v.heap y
     edge-live v x y e = elim e [ inl f ↦ f.there | inr r ↦ r.1.there ]
 
-pub reached-leads : (v : HeapRows) (roots : List ℕ) (k : ℕ) → Reached (Contains roots) (EdgeOf v) k → Reached (Contains roots) (Leads (shape_of v)) k
-reached-leads v roots k r = Reached-mono (Contains roots) (Contains roots) (EdgeOf v) (Leads (shape_of v)) (λ x c. c) (edge-leads v) k r
+pub reached-leads : (v : HeapRows) (roots : List ℕ) (k : ℕ) → Reached (Contains roots) (EdgeOf v) k → Reached (Contains roots) (RowLeads (shape_of v)) k
+reached-leads v roots k r = Reached-mono (Contains roots) (Contains roots) (EdgeOf v) (RowLeads (shape_of v)) (λ x c. c) (edge-leads v) k r
 
 -- marks that are shut under the one kind are so under the other
-pub shut-leads : (v : HeapRows) (marks : List Bool) → IsTidy v.heap → (IsTrue v.follows → AreEndsLive v) → ((x : ℕ) → IsMarked marks x → IsLive v.heap x) → IsClosed (EdgeOf v) marks → IsClosed (Leads (shape_of v)) marks
+pub shut-leads : (v : HeapRows) (marks : List Bool) → IsTidy v.heap → (IsTrue v.follows → AreEndsLive v) → ((x : ℕ) → HasMark marks x → IsLive v.heap x) → IsClosed (EdgeOf v) marks → IsClosed (RowLeads (shape_of v)) marks
 shut-leads v marks tidy ends live shut x y e m = shut x y (leads-edge v x y tidy ends (live x m) e) m
 
-pub shut-edges : (v : HeapRows) (marks : List Bool) → IsClosed (Leads (shape_of v)) marks → IsClosed (EdgeOf v) marks
+pub shut-edges : (v : HeapRows) (marks : List Bool) → IsClosed (RowLeads (shape_of v)) marks → IsClosed (EdgeOf v) marks
 shut-edges v marks shut x y e m = shut x y (edge-leads v x y e) m
 
 -- a marking that is on its way
-pub greying-leads : (v : HeapRows) (roots : List ℕ) (before marks : List Bool) (links : List ℕ) (head : ℕ) → IsTidy v.heap → (IsTrue v.follows → AreEndsLive v) → ((x : ℕ) → IsMarked marks x → IsLive v.heap x) → Greying roots (EdgeOf v) before marks links head
-    → Greying roots (Leads (shape_of v)) before marks links head
+pub greying-leads : (v : HeapRows) (roots : List ℕ) (before marks : List Bool) (links : List ℕ) (head : ℕ) → IsTidy v.heap → (IsTrue v.follows → AreEndsLive v) → ((x : ℕ) → HasMark marks x → IsLive v.heap x) → Greying roots (EdgeOf v) before marks links head
+    → Greying roots (RowLeads (shape_of v)) before marks links head
 greying-leads v roots before marks links head tidy ends live i = record {
   waits = i.waits;
   chained = i.chained;
@@ -75,15 +75,15 @@ pub rest-kept : (v w : HeapRows) → unmarked_rows w ≡ unmarked_rows v → w �
 rest-kept v w e = ap (λ (k : HeapRows). record k { marks = w.marks; links = w.links }) e
 
 -- a mark is that of a row
-pub marked-row : (rows : List Seen) (x : ℕ) → IsMarked (false ∷ map (λ (r : Seen). r.marked) rows) x → (row_at rows x).marked ≡ true
+pub marked-row : (rows : List Seen) (x : ℕ) → HasMark (false ∷ map (λ (r : Seen). r.marked) rows) x → (row_at rows x).marked ≡ true
 marked-row rows zero m = (let f : ⊥ = cc in absurd f)
 marked-row [] (suc i) m = (let f : ⊥ = cc in absurd f)
 marked-row (r ∷ rows) (suc zero) m = cc
 marked-row (r ∷ rows) (suc (suc i)) m = marked-row rows (suc i) m
 
 pub marked-live : (rows : List Seen) (freed : List ℕ) (vars statics : List (Option ℕ)) (refs : List Reference) (follows : Bool) (room cap : ℕ) (v : HeapRows) → rows_of rows freed vars statics refs follows room ≡ v → IsSound (heap_of rows freed vars statics) (stands_in rows) cap
-    → ((x : ℕ) → (row_at rows x).marked ≡ true → (row_at rows x).stands ≡ true) → (x : ℕ) → IsMarked v.marks x → IsLive v.heap x
-marked-live rows freed vars statics refs follows room cap v view s up x m = live-seen rows freed vars statics refs follows room cap v x view s (up x (marked-row rows x (subst (λ (w : HeapRows). IsMarked w.marks x) (sym view) m)))
+    → ((x : ℕ) → (row_at rows x).marked ≡ true → (row_at rows x).stands ≡ true) → (x : ℕ) → HasMark v.marks x → IsLive v.heap x
+marked-live rows freed vars statics refs follows room cap v view s up x m = live-seen rows freed vars statics refs follows room cap v x view s (up x (marked-row rows x (subst (λ (w : HeapRows). HasMark w.marks x) (sym view) m)))
 
 pub ends-live : (rows : List Seen) (freed : List ℕ) (vars statics : List (Option ℕ)) (refs : List Reference) (follows : Bool) (room c d : ℕ) (v : HeapRows) → rows_of rows freed vars statics refs follows room ≡ v → IsRowHeap rows freed vars statics refs follows room c d → IsTrue v.follows → AreEndsLive v
 ends-live rows freed vars statics refs follows room c d v view s f p q h l =
@@ -101,7 +101,7 @@ row_at-unmarked f [] same (suc i) = refl
 row_at-unmarked f (r ∷ rows) same (suc zero) = same r
 row_at-unmarked f (r ∷ rows) same (suc (suc i)) = row_at-unmarked f rows same (suc i)
 
-pub unmarked-none : (rows : List Seen) (x : ℕ) → IsMarked (false ∷ map (λ (r : Seen). r.marked) (map unmarked_row rows)) x → ⊥
+pub unmarked-none : (rows : List Seen) (x : ℕ) → HasMark (false ∷ map (λ (r : Seen). r.marked) (map unmarked_row rows)) x → ⊥
 unmarked-none rows zero m = (let f : ⊥ = cc in f)
 unmarked-none [] (suc i) m = (let f : ⊥ = cc in f)
 unmarked-none (r ∷ rows) (suc zero) m = (let f : ⊥ = cc in f)

@@ -8,7 +8,7 @@ use Rattle.std.proofs.lemmas.List.{length-map}
 use Rattle.std.proofs.lemmas.List.Elements.{Contains-append_left, Contains-push}
 use Rattle.joint_model.specs.Heaps.{numbered_set}
 use Rattle.heap_rules.proofs.Numbered.{numbered_set-index}
-use Rattle.reachability.specs.Marks.{IsMarked}
+use Rattle.reachability.specs.Marks.{HasMark}
 use Rattle.reachability.proofs.Marking.{Scans-seen, read-mark}
 use Rattle.row_marking.specs.Traces.{Greyed}
 use Rattle.row_marking.proofs.Greys.{Greyed-new}
@@ -147,14 +147,14 @@ pub AreRows-as : (s : Slab Row) (places : List RowPlace) (marks : List Bool) (li
 AreRows-as s places marks links rows index em el view up = record { index = index; marks_len = em; links_len = el; up = subst DoMarkedStand (sym view) up }
 
 -- a row is marked by the lists
-IsMarked-set : (marks : List Bool) (i k : ℕ) → IsMarked (set marks i true) k → IsMarked marks k ⊎ (k ≡ i)
+IsMarked-set : (marks : List Bool) (i k : ℕ) → HasMark (set marks i true) k → HasMark marks k ⊎ (k ≡ i)
 IsMarked-set [] i k e = inl e
 IsMarked-set (m ∷ marks) zero zero e = inr refl
 IsMarked-set (m ∷ marks) zero (suc k) e = inl e
 IsMarked-set (m ∷ marks) (suc i) zero e = inl e
 IsMarked-set (m ∷ marks) (suc i) (suc k) e = elim (IsMarked-set marks i k e) [ inl w ↦ inl w | inr w ↦ inr (ap suc w) ]
 
-pub fresh-row : (y : ℕ) (marks : List Bool) (k : ℕ) → 1 ≤ y → IsMarked (false ∷ set marks (y - 1) true) k → IsMarked (false ∷ marks) k ⊎ (k ≡ y)
+pub fresh-row : (y : ℕ) (marks : List Bool) (k : ℕ) → 1 ≤ y → HasMark (false ∷ set marks (y - 1) true) k → HasMark (false ∷ marks) k ⊎ (k ≡ y)
 fresh-row y marks zero one e = inl e
 fresh-row y marks (suc k) one e = elim (IsMarked-set marks (y - 1) k e) [ inl w ↦ inl w | inr w ↦ inr (omega (arith, w, one)) ]
 
@@ -170,16 +170,16 @@ pub greyed-seen : (y : ℕ) (marks : List Bool) (links : List ℕ) (h : ℕ) →
 greyed-seen y marks links h one le there waited c =
     let i : ℕ = y - 1 in
     let e : suc i ≡ y = omega arith in
-    record { waits = waited; chained = c; scans = Scans-seen y (false ∷ marks) waited (subst (IsMarked (false ∷ marks)) e (read-mark marks i true (omega arith) there)) }
+    record { waits = waited; chained = c; scans = Scans-seen y (false ∷ marks) waited (subst (HasMark (false ∷ marks)) e (read-mark marks i true (omega arith) there)) }
 
 -- the rows of fields are marked by the lists, and all of them stand
 pub stand-visited : (base rows : List Seen) (marks others : List Bool) (links after : List ℕ) (fields : List (Option ℕ)) → with_marks base marks links ≡ rows → length others ≡ length base
-    → ((k : ℕ) → IsMarked (false ∷ others) k → IsMarked (false ∷ marks) k ⊎ Contains fields (Some k)) → length marks ≡ length base → ((y : ℕ) → Contains fields (Some y) → (row_at rows y).stands ≡ true) → DoMarkedStand rows → DoMarkedStand (with_marks base others after)
+    → ((k : ℕ) → HasMark (false ∷ others) k → HasMark (false ∷ marks) k ⊎ Contains fields (Some k)) → length marks ≡ length base → ((y : ℕ) → Contains fields (Some y) → (row_at rows y).stands ≡ true) → DoMarkedStand rows → DoMarkedStand (with_marks base others after)
 stand-visited base rows marks others links after fields view len fresh em held up z e =
     let stands : (r : Seen) (m : Bool) (l : ℕ) → (record r { marked = m; link = l }).stands ≡ r.stands = λ r m l. refl in
-    let mark : IsMarked (false ∷ others) z = subst (λ (ms : List Bool). IsMarked (false ∷ ms) z) (marks-with base others after len) (row-marked (with_marks base others after) z e) in
+    let mark : HasMark (false ∷ others) z = subst (λ (ms : List Bool). HasMark (false ∷ ms) z) (marks-with base others after len) (row-marked (with_marks base others after) z e) in
     let old : (row_at rows z).stands ≡ true = elim (fresh z mark) [
-      | inl w ↦ up z (marked-row rows z (subst (λ (ms : List Bool). IsMarked (false ∷ ms) z) (sym (ap (map (λ (r : Seen). r.marked)) (sym view) ∙ marks-with base marks links em)) w))
+      | inl w ↦ up z (marked-row rows z (subst (λ (ms : List Bool). HasMark (false ∷ ms) z) (sym (ap (map (λ (r : Seen). r.marked)) (sym view) ∙ marks-with base marks links em)) w))
       | inr w ↦ held z w
     ] in
     row_at-under (λ r. r.stands) (λ r m l. refl) base others after z ∙ (sym (row_at-under (λ r. r.stands) (λ r m l. refl) base marks links z) ∙ (ap (λ (l : List Seen). (row_at l z).stands) view ∙ old))
@@ -194,13 +194,13 @@ greyed-rows row base rows marks others written links after put h i view is set_l
     (subst (λ (ms : List Bool). Greyed row (false ∷ marks) (0 ∷ links) h (false ∷ ms) (links_in new) i) (sym (ap (map (λ (r : Seen). r.marked)) (sym next) ∙ marks-with base others after om))
     (subst (λ (ls : List ℕ). Greyed row (false ∷ marks) (0 ∷ links) h (false ∷ others) (0 ∷ ls) i) (sym (ap (map (λ (r : Seen). r.link)) (sym next) ∙ links-with base others after ol)) y)))
 
-pub fresh-push : (fields : List (Option ℕ)) (y : ℕ) (a b c : List Bool) → ((k : ℕ) → IsMarked b k → IsMarked a k ⊎ Contains fields (Some k)) → ((k : ℕ) → IsMarked c k → IsMarked b k ⊎ (k ≡ y)) → (k : ℕ) → IsMarked c k → IsMarked a k ⊎ Contains (fields ++ Some y ∷ []) (Some k)
+pub fresh-push : (fields : List (Option ℕ)) (y : ℕ) (a b c : List Bool) → ((k : ℕ) → HasMark b k → HasMark a k ⊎ Contains fields (Some k)) → ((k : ℕ) → HasMark c k → HasMark b k ⊎ (k ≡ y)) → (k : ℕ) → HasMark c k → HasMark a k ⊎ Contains (fields ++ Some y ∷ []) (Some k)
 fresh-push fields y a b c old new k m = elim (new k m) [
   | inl w ↦ elim (old k w) [ inl v ↦ inl v | inr v ↦ inr (Contains-append_left fields (Some y ∷ []) (Some k) v) ]
   | inr w ↦ inr (subst (λ t. Contains (fields ++ Some y ∷ []) (Some t)) (sym w) (Contains-push fields (Some y)))
 ]
 
-pub fresh-none : (fields : List (Option ℕ)) (a b : List Bool) → ((k : ℕ) → IsMarked b k → IsMarked a k ⊎ Contains fields (Some k)) → (k : ℕ) → IsMarked b k → IsMarked a k ⊎ Contains (fields ++ None ∷ []) (Some k)
+pub fresh-none : (fields : List (Option ℕ)) (a b : List Bool) → ((k : ℕ) → HasMark b k → HasMark a k ⊎ Contains fields (Some k)) → (k : ℕ) → HasMark b k → HasMark a k ⊎ Contains (fields ++ None ∷ []) (Some k)
 fresh-none fields a b old k m = elim (old k m) [ inl v ↦ inl v | inr v ↦ inr (Contains-append_left fields (None ∷ []) (Some k) v) ]
 
 -- the rows of the index, from those with marks
@@ -327,7 +327,7 @@ unmarked-rows s places rows marks others links view is =
     ap (λ ms. with_marks (map (seen_at s) places) ms links) is ∙ (with_marks-down (map (seen_at s) places) (length marks) marks links ∙ ap (map unmarked_row) view)
 
 pub visited-are : (s : Slab Row) (places : List RowPlace) (rows : List Seen) (marks others : List Bool) (links after : List ℕ) (fields : List (Option ℕ)) → with_marks (map (seen_at s) places) marks links ≡ rows → AreRows s places marks links → length others ≡ length marks → length after ≡ length links
-    → ((k : ℕ) → IsMarked (false ∷ others) k → IsMarked (false ∷ marks) k ⊎ Contains fields (Some k)) → ((y : ℕ) → Contains fields (Some y) → (row_at rows y).stands ≡ true) → AreRows s places others after
+    → ((k : ℕ) → HasMark (false ∷ others) k → HasMark (false ∷ marks) k ⊎ Contains fields (Some k)) → ((y : ℕ) → Contains fields (Some y) → (row_at rows y).stands ≡ true) → AreRows s places others after
 visited-are s places rows marks others links after fields view a em el fresh held =
     let len : length (map (seen_at s) places) ≡ length places = length-map places (seen_at s) in
     record {

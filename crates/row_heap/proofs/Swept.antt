@@ -9,7 +9,7 @@ use Rattle.joint_model.proofs.Members.{All-members, Contains-nil, Rises-push}
 use Rattle.heap_rules.specs.Flags.{IsSound, TakesDown, up_count}
 use Rattle.heap_rules.specs.Tidy.{CanFree}
 use Rattle.heap_rules.proofs.Sound.{TakesDown-push, up_count-down}
-use Rattle.reachability.specs.Marks.{IsClosed, IsMarked}
+use Rattle.reachability.specs.Marks.{IsClosed, HasMark}
 use Rattle.row_heap.specs.declared.references.Reference.{Reference}
 use Rattle.row_heap.specs.Marks.{AreWhite, EdgeOf}
 use Rattle.row_heap.specs.Places.{Seen, row_at, gone, is_white}
@@ -142,7 +142,7 @@ RowsSwept-next i old mid new before mids after x s e is list =
         cases (suc i) (suc y) = elim (cases i y) [ inl w ↦ inl (omega (arith, w)) | inr w ↦ inr (omega (arith, w)) ]
 
 -- a row with a mark, as a mark of the heap
-pub row-marked : (rows : List Seen) (x : ℕ) → (row_at rows x).marked ≡ true → IsMarked (false ∷ map (λ (r : Seen). r.marked) rows) x
+pub row-marked : (rows : List Seen) (x : ℕ) → (row_at rows x).marked ≡ true → HasMark (false ∷ map (λ (r : Seen). r.marked) rows) x
 row-marked rows zero e = (let f : ⊥ = cc in absurd f)
 row-marked [] (suc i) e = (let f : ⊥ = cc in absurd f)
 row-marked (r ∷ rows) (suc zero) e = ap (λ b. Some b) e
@@ -150,15 +150,15 @@ row-marked (r ∷ rows) (suc (suc i)) e = row-marked rows (suc i) e
 
 -- the white rows are the live objects without a mark
 pub white-seen : (rows : List Seen) (freed : List ℕ) (vars statics : List (Option ℕ)) (refs : List Reference) (follows : Bool) (room cap : ℕ) (v : HeapRows) (x : ℕ) → rows_of rows freed vars statics refs follows room ≡ v → IsSound (heap_of rows freed vars statics) (stands_in rows) cap
-    → ((x ≤ length rows) × (is_white (row_at rows x) ≡ true)) ↔ (IsLive v.heap x × (IsMarked v.marks x → ⊥))
+    → ((x ≤ length rows) × (is_white (row_at rows x) ≡ true)) ↔ (IsLive v.heap x × (HasMark v.marks x → ⊥))
 white-seen rows freed vars statics refs follows room cap v x view s = (
   (λ w. (let t = white-stands (row_at rows x) w.1 in (
     live-seen rows freed vars statics refs follows room cap v x view s t.0,
-    λ m. (let f : true ≡ false = sym (marked-row rows x (subst (λ (k : HeapRows). IsMarked k.marks x) (sym view) m)) ∙ t.1 in cc),
+    λ m. (let f : true ≡ false = sym (marked-row rows x (subst (λ (k : HeapRows). HasMark k.marks x) (sym view) m)) ∙ t.1 in cc),
   ))),
   (λ w. (let t = stands-seen rows freed vars statics refs follows room cap v x view s w.0 in (
     (stands-within rows x t).1,
-    stands-white (row_at rows x) t (λ m. w.1 (subst (λ (k : HeapRows). IsMarked k.marks x) view (row-marked rows x m))),
+    stands-white (row_at rows x) t (λ m. w.1 (subst (λ (k : HeapRows). HasMark k.marks x) view (row-marked rows x m))),
   ))),
 )
 
@@ -177,7 +177,7 @@ pub swept-end : (v : HeapRows) (freed after swept : List ℕ) → v.heap.freed �
 swept-end v freed after swept e is = ap (λ l. drop (length l) after) e ∙ (ap (drop (length freed)) is ∙ drop-append_seam freed swept)
 
 -- after a marking that came to its end the objects without a mark may be freed
-pub white-can_free : (v : HeapRows) (xs : List ℕ) → AreWhite v xs → ((x : ℕ) → InSlot v.heap x → IsMarked v.marks x) → IsClosed (EdgeOf v) v.marks → CanFree v.heap xs
+pub white-can_free : (v : HeapRows) (xs : List ℕ) → AreWhite v xs → ((x : ℕ) → InSlot v.heap x → HasMark v.marks x) → IsClosed (EdgeOf v) v.marks → CanFree v.heap xs
 white-can_free v xs w slots shut = record {
   live = All-members (IsLive v.heap) xs (λ x c. ((w.exact x).0 c).0);
   rises = w.rises;
@@ -204,16 +204,16 @@ seen-swept old new freed after vars statics refs follows room v view marks =
 -- what marks `free` leaves
 pub marks-freed : (old new : List Seen) (freed : List ℕ) (vars statics : List (Option ℕ)) (refs : List Reference) (follows : Bool) (room : ℕ) (v : HeapRows) (xs : List ℕ) → rows_of old freed vars statics refs follows room ≡ v → RowsFreed xs old new
     → ((x : ℕ) → (row_at old x).marked ≡ true → (row_at old x).stands ≡ true) → ((x : ℕ) → (row_at new x).marked ≡ true → (row_at new x).stands ≡ true)
-    → (x : ℕ) → IsMarked (false ∷ map (λ (r : Seen). r.marked) new) x ↔ (IsMarked v.marks x × (Contains xs x → ⊥))
+    → (x : ℕ) → HasMark (false ∷ map (λ (r : Seen). r.marked) new) x ↔ (HasMark v.marks x × (Contains xs x → ⊥))
 marks-freed old new freed vars statics refs follows room v xs view r up upper x = (
   (λ m. (
       let mark = marked-row new x m in
       let stand = upper x mark in (
-        subst (λ (w : HeapRows). IsMarked w.marks x) view (row-marked old x (sym (ap (λ (q : Seen). q.marked) (r.others x stand)) ∙ mark)),
+        subst (λ (w : HeapRows). HasMark w.marks x) view (row-marked old x (sym (ap (λ (q : Seen). q.marked) (r.others x stand)) ∙ mark)),
         λ c. (let f : Some true ≡ Some false = sym (stands-flag new x stand) ∙ r.flags.down x c in cc),
       ))),
   (λ w. (
-      let mark = marked-row old x (subst (λ (k : HeapRows). IsMarked k.marks x) (sym view) w.0) in
+      let mark = marked-row old x (subst (λ (k : HeapRows). HasMark k.marks x) (sym view) w.0) in
       let stand = flag-stands new x true (r.flags.other x w.1 ∙ stands-flag old x (up x mark)) in
       row-marked new x (ap (λ (q : Seen). q.marked) (r.others x stand) ∙ mark))),
 )

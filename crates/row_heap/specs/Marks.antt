@@ -3,7 +3,7 @@ use Rattle.std.specs.Prelude.{◌≡◌, ℕ, ◌⊎◌, ◌↔◌, if◌then◌
 use Rattle.joint_model.specs.Components.{Rises}
 use Rattle.joint_model.specs.Heaps.{IsLive, HasField, fields_of}
 use Rattle.joint_model.specs.PeerReplay.{HasReference, Refers}
-use Rattle.reachability.specs.Marks.{IsMarked}
+use Rattle.reachability.specs.Marks.{HasMark}
 use Rattle.row_marking.specs.Traces.{Shape}
 use Rattle.row_heap.specs.Rows.{HeapRows}
 
@@ -30,4 +30,4 @@ AreEndsLive v = (p q : ℕ) → Refers v.refs p q → IsLive v.heap p → IsLive
 -- the list has exactly the live objects without a mark, and rises
 pub record AreWhite (v : HeapRows) (xs : List ℕ) : Type 0 where
   pub rises : Rises xs
-  pub exact : (x : ℕ) → Contains xs x ↔ (IsLive v.heap x × (IsMarked v.marks x → ⊥))
+  pub exact : (x : ℕ) → Contains xs x ↔ (IsLive v.heap x × (HasMark v.marks x → ⊥))

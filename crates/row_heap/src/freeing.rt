@@ -5,7 +5,7 @@ ghost use Rattle.joint_model.specs.Components.{Rises};
 ghost use Rattle.joint_model.specs.Heaps.{with_freed};
 ghost use Rattle.heap_rules.specs.Flags.{IsUp, up_count};
 ghost use Rattle.heap_rules.specs.Tidy.{CanFree};
-ghost use Rattle.reachability.specs.Marks.{IsMarked};
+ghost use Rattle.reachability.specs.Marks.{HasMark};
 ghost use Rattle.row_heap.specs.Rows.{NoneRefers, RowsFreed, stands_in};
 
 use crate::heap::RowHeap;
@@ -18,7 +18,7 @@ impl<N: Number> RowHeap<N> {
         requires can { CanFree self.old.heap (map N.number xs.now) }
         requires ends { NoneRefers self.old (map N.number xs.now) }
         ensures heap { self.new.heap ≡ with_freed self.old.heap (map N.number xs.now) }
-        ensures marks { (x : ℕ) → IsMarked self.new.marks x ↔ (IsMarked self.old.marks x × (Contains (map N.number xs.now) x → ⊥)) }
+        ensures marks { (x : ℕ) → HasMark self.new.marks x ↔ (HasMark self.old.marks x × (Contains (map N.number xs.now) x → ⊥)) }
         ensures rest { self.new ≡ record self.old { heap = self.new.heap; marks = self.new.marks; links = self.new.links } }
     {
         self.rows.marked_stand();

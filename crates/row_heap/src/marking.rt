@@ -6,7 +6,7 @@
 ghost use Rattle.std.specs.Prelude.{◌≡◌, ℕ, ◌+◌, ◌↔◌, ◌⊎◌, List, [], ◌∷◌, Bool, Contains, IsTrue, Option, Some, length};
 ghost use Rattle.joint_model.specs.Heaps.{InSlot, IsLive};
 ghost use Rattle.joint_model.specs.Walks.{Reached};
-ghost use Rattle.reachability.specs.Marks.{IsClosed, IsMarked};
+ghost use Rattle.reachability.specs.Marks.{IsClosed, HasMark};
 ghost use Rattle.row_marking.specs.Traces.{Greyed, Greying, IsGreying};
 ghost use Rattle.row_heap.specs.Marks.{AreEndsLive, EdgeOf};
 
@@ -17,7 +17,7 @@ use row_marking::{finish, mark_from, visit};
 impl<N: Number> RowHeap<N> {
     /// A marked object is live, for the proofs of callers. It does nothing.
     pub fn marked_live(&self)
-        ensures { (x : ℕ) → IsMarked self.now.marks x → IsLive self.now.heap x }
+        ensures { (x : ℕ) → HasMark self.now.marks x → IsLive self.now.heap x }
     {
         self.rows.marked_stand();
     }
@@ -31,14 +31,14 @@ impl<N: Number> RowHeap<N> {
 
     /// Whether object `x` has a mark.
     pub fn is_marked(&self, x: u32) -> bool
-        ensures { IsTrue result ↔ IsMarked self.now.marks x }
+        ensures { IsTrue result ↔ HasMark self.now.marks x }
     {
         x != 0 && x as usize <= self.rows.made() && self.rows.is_marked(x as usize)
     }
 
     /// Whether object `x` is live and has no mark.
     pub fn is_white(&self, x: u32) -> bool
-        ensures { IsTrue result ↔ (IsLive self.now.heap x × (IsMarked self.now.marks x → ⊥)) }
+        ensures { IsTrue result ↔ (IsLive self.now.heap x × (HasMark self.now.marks x → ⊥)) }
     {
         x != 0 && x as usize <= self.rows.made() && self.rows.is_white(x as usize)
     }
@@ -46,7 +46,7 @@ impl<N: Number> RowHeap<N> {
     /// No object has a mark, and a marking follows the references from now on, or doesn't.
     pub fn begin_marking(&mut self, follows: bool)
         requires { IsTrue follows → AreEndsLive self.old }
-        ensures marks { (x : ℕ) → IsMarked self.new.marks x → ⊥ }
+        ensures marks { (x : ℕ) → HasMark self.new.marks x → ⊥ }
         ensures rest { self.new ≡ record self.old { follows = follows; marks = self.new.marks } }
     {
         self.rows.unmark_all();
@@ -65,7 +65,7 @@ impl<N: Number> RowHeap<N> {
     /// Carries a marking to its end.
     pub fn finish_marking(&mut self, grey: u32)
         requires { IsGreying (EdgeOf self.old) self.old.marks self.old.links grey }
-        ensures marks { (roots : List ℕ) (before : List Bool) → Greying roots (EdgeOf self.old) before self.old.marks self.old.links grey → (x : ℕ) → IsMarked self.new.marks x ↔ (IsMarked before x ⊎ Reached (Contains roots) (EdgeOf self.old) x) }
+        ensures marks { (roots : List ℕ) (before : List Bool) → Greying roots (EdgeOf self.old) before self.old.marks self.old.links grey → (x : ℕ) → HasMark self.new.marks x ↔ (HasMark before x ⊎ Reached (Contains roots) (EdgeOf self.old) x) }
         ensures shut { IsClosed (EdgeOf self.old) self.new.marks }
         ensures rest { self.new ≡ record self.old { marks = self.new.marks; links = self.new.links } }
     {
@@ -80,7 +80,7 @@ impl<N: Number> RowHeap<N> {
     pub fn bring_back(&mut self, x: u32)
         requires live { IsLive self.old.heap x }
         requires shut { IsClosed (EdgeOf self.old) self.old.marks }
-        ensures marks { (k : ℕ) → IsMarked self.new.marks k ↔ (IsMarked self.old.marks k ⊎ Reached (Contains (x ∷ [])) (EdgeOf self.old) k) }
+        ensures marks { (k : ℕ) → HasMark self.new.marks k ↔ (HasMark self.old.marks k ⊎ Reached (Contains (x ∷ [])) (EdgeOf self.old) k) }
         ensures shut { IsClosed (EdgeOf self.old) self.new.marks }
         ensures rest { self.new ≡ record self.old { marks = self.new.marks; links = self.new.links } }
     {

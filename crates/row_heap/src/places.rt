@@ -7,7 +7,7 @@
 
 ghost use Rattle.std.specs.Prelude.{◌≡◌, ℕ, ◌≤◌, ◌<◌, ◌⊎◌, ◌++◌, [], ◌∷◌, Some, Contains, true, false, length, map, slice_set, OnOk, OnErr};
 ghost use Rattle.joint_model.specs.Heaps.{numbered_set};
-ghost use Rattle.reachability.specs.Marks.{IsMarked};
+ghost use Rattle.reachability.specs.Marks.{HasMark};
 ghost use Rattle.row_marking.specs.Traces.{Greyed};
 ghost use Rattle.row_heap.specs.Places.{row_at, is_white, standing, gone, bare, marks_in, links_in, unmarked_row};
 
@@ -235,7 +235,7 @@ fn visit_fields(fields: &[Option<u32>], marks: &mut [bool], links: &mut [u32], g
     requires held { (y : ℕ) → Contains fields.now (Some y) → (1 ≤ y) × (y ≤ length marks.old) }
     requires len { length links.old ≡ length marks.old }
     ensures len { (length marks.new ≡ length marks.old) × (length links.new ≡ length links.old) }
-    ensures fresh { (k : ℕ) → IsMarked (false ∷ marks.new) k → IsMarked (false ∷ marks.old) k ⊎ Contains fields.now (Some k) }
+    ensures fresh { (k : ℕ) → HasMark (false ∷ marks.new) k → HasMark (false ∷ marks.old) k ⊎ Contains fields.now (Some k) }
     ensures greyed { Greyed (λ y. Contains fields.now (Some y)) (false ∷ marks.old) (0 ∷ links.old) grey.old (false ∷ marks.new) (0 ∷ links.new) grey.new }
 {
     for field in fields {
@@ -250,7 +250,7 @@ fn visit_row(y: u32, marks: &mut [bool], links: &mut [u32], grey: &mut u32)
     requires row { (1 ≤ y) × (y ≤ length marks.old) }
     requires len { length links.old ≡ length marks.old }
     ensures len { (length marks.new ≡ length marks.old) × (length links.new ≡ length links.old) }
-    ensures fresh { (k : ℕ) → IsMarked (false ∷ marks.new) k → IsMarked (false ∷ marks.old) k ⊎ (k ≡ y) }
+    ensures fresh { (k : ℕ) → HasMark (false ∷ marks.new) k → HasMark (false ∷ marks.old) k ⊎ (k ≡ y) }
     ensures greyed { Greyed (λ z. z ≡ y) (false ∷ marks.old) (0 ∷ links.old) grey.old (false ∷ marks.new) (0 ∷ links.new) grey.new }
 {
     let place = y as usize - 1;

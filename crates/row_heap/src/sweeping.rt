@@ -3,7 +3,7 @@
 ghost use Rattle.std.specs.Prelude.{◌≡◌, ℕ, ◌+◌, ◌≤◌, ◌++◌, [], ◌∷◌, true, if◌then◌else◌, map, length, drop, vec_capacity};
 ghost use Rattle.joint_model.specs.Heaps.{InSlot, MOST, numbered_set, with_freed};
 ghost use Rattle.heap_rules.specs.Flags.{up_count};
-ghost use Rattle.reachability.specs.Marks.{IsClosed, IsMarked};
+ghost use Rattle.reachability.specs.Marks.{IsClosed, HasMark};
 ghost use Rattle.row_heap.specs.Marks.{AreWhite, EdgeOf};
 ghost use Rattle.row_heap.specs.Places.{gone, is_white, row_at};
 ghost use Rattle.row_heap.specs.Rows.{RowsSwept, stands_in};
@@ -17,7 +17,7 @@ impl<N: Number> RowHeap<N> {
     /// rising order. It takes no memory. What slots name and what marked objects lead to has to be marked, as it is once a marking has come to
     /// its end.
     pub fn sweep(&mut self)
-        requires slots { (x : ℕ) → InSlot self.old.heap x → IsMarked self.old.marks x }
+        requires slots { (x : ℕ) → InSlot self.old.heap x → HasMark self.old.marks x }
         requires shut { IsClosed (EdgeOf self.old) self.old.marks }
         ensures white { AreWhite self.old (drop (length self.old.heap.freed) self.new.heap.freed) }
         ensures heap { self.new.heap ≡ with_freed self.old.heap (drop (length self.old.heap.freed) self.new.heap.freed) }

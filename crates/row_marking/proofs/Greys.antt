@@ -16,10 +16,10 @@ use Rattle.joint_model.proofs.WalkLemmas.{Reached-keeps, Reached-start, Reached-
 use Rattle.std.proofs.lemmas.Bool.{cases_lt}
 use Rattle.joint_model.proofs.Numbered.{set-at_here, set-at_other}
 use Rattle.joint_model.proofs.Members.{Contains-nil, Contains-here, Contains-there, Contains-cons_cases}
-use Rattle.reachability.specs.Marks.{IsMarked, IsClosed, unmarked}
+use Rattle.reachability.specs.Marks.{HasMark, IsClosed, unmarked}
 use Rattle.reachability.specs.Scans.{Scans}
 use Rattle.reachability.proofs.Marking.{Scans-none, Scans-then, unmarked-set, set-marked, set-keeps, set-fresh, unmarked-le}
-use Rattle.row_marking.specs.Traces.{GreyChain, Chained, Greyed, Greying, greys, RefersFrom, Leads, IsLastBelow, Shape}
+use Rattle.row_marking.specs.Traces.{GreyChain, Chained, Greyed, Greying, greys, RefersFrom, RowLeads, IsLastBelow, Shape}
 
 -- a link outside a chain may change
 pub GreyChain-other : (l : List ℕ) (i n : ℕ) (h : ℕ) (xs : List ℕ) → (Contains xs i → ⊥) → GreyChain l h xs → GreyChain (set l i n) h xs
@@ -39,10 +39,10 @@ pub Scans-first : (y : ℕ) (m : List Bool) (s : List ℕ) → slice_get m y ≡
 Scans-first y m s new l = record {
   len = length-set m y true;
   kept = λ k h. set-keeps m y k h;
-  done = λ k r. subst (IsMarked (set m y true)) (sym r) (set-marked m y l);
+  done = λ k r. subst (HasMark (set m y true)) (sym r) (set-marked m y l);
   fresh = λ k h. elim (set-fresh m y k h) [ inl w ↦ inl w | inr w ↦ inr (w, subst (Contains (y ∷ s)) (sym w) (Contains-here y s)) ];
   stays = λ k h. Contains-there k y s h;
-  within = λ k h. elim (Contains-cons_cases y s k h) [ inl w ↦ inr (subst (IsMarked (set m y true)) w (set-marked m y l)) | inr w ↦ inl w ];
+  within = λ k h. elim (Contains-cons_cases y s k h) [ inl w ↦ inr (subst (HasMark (set m y true)) w (set-marked m y l)) | inr w ↦ inl w ];
   fewer = omega (arith, unmarked-set m y new);
   same = omega (arith, unmarked-set m y new);
 }
@@ -58,7 +58,7 @@ Greyed-new y m l h new one fits waited c =
       chained = record {
         chain = (refl, one, (h, set-at_here l y h fits, GreyChain-other l y h h waited out c.chain));
         marked = λ k w. elim (Contains-cons_cases y waited k w) [
-          | inl e ↦ subst (IsMarked (set m y true)) e (set-marked m y (slice_get_within m y false new))
+          | inl e ↦ subst (HasMark (set m y true)) e (set-marked m y (slice_get_within m y false new))
           | inr d ↦ set-keeps m y k (c.marked k d)
         ];
       };
@@ -114,7 +114,7 @@ Greying-goes roots edge before m l x next m' l' h' one at i y = Greying-goes_by 
         let inside : (k : ℕ) → Contains rest k → Contains i.waits k = λ k w. subst (λ t. Contains t k) (sym e) (Contains-there k z rest w) in
         let there : Chained m l next rest = record { chain = subst (λ t. GreyChain l t rest) same tail; marked = λ k w. i.chained.marked k (inside k w) } in
         let g = y rest there in
-        let here : IsMarked m x = i.chained.marked x (subst (λ t. Contains t x) (sym e) (subst (λ t. Contains (z ∷ rest) t) (sym ez) (Contains-here z rest))) in
+        let here : HasMark m x = i.chained.marked x (subst (λ t. Contains t x) (sym e) (subst (λ t. Contains (z ∷ rest) t) (sym ez) (Contains-here z rest))) in
         record {
           waits = g.waits;
           chained = g.chained;
@@ -145,17 +145,17 @@ Greying-closes roots edge before m l i x y d h =
     let none : i.waits ≡ [] = GreyChain-one l 0 i.waits [] i.chained.chain refl in
     elim (i.closed x h) [ inl w ↦ absurd (Contains-nil x (subst (λ t. Contains t x) none w)) | inr w ↦ w y d ]
 
-pub Greying-ends : (roots : List ℕ) (edge : ℕ → ℕ → Type 0) (before m : List Bool) (l : List ℕ) → Greying roots edge before m l 0 → (k : ℕ) → IsMarked m k ↔ (IsMarked before k ⊎ Reached (Contains roots) edge k)
+pub Greying-ends : (roots : List ℕ) (edge : ℕ → ℕ → Type 0) (before m : List Bool) (l : List ℕ) → Greying roots edge before m l 0 → (k : ℕ) → HasMark m k ↔ (HasMark before k ⊎ Reached (Contains roots) edge k)
 Greying-ends roots edge before m l i k =
-    (i.sound k, λ h. elim h [ inl w ↦ i.kept k w | inr w ↦ Reached-keeps (Contains roots) edge (IsMarked m) i.roots_marked (Greying-closes roots edge before m l i) k w ])
+    (i.sound k, λ h. elim h [ inl w ↦ i.kept k w | inr w ↦ Reached-keeps (Contains roots) edge (HasMark m) i.roots_marked (Greying-closes roots edge before m l i) k w ])
 
 -- the first grey row is marked
-pub Greying-head : (roots : List ℕ) (edge : ℕ → ℕ → Type 0) (before m : List Bool) (l : List ℕ) (x : ℕ) → 1 ≤ x → Greying roots edge before m l x → IsMarked m x
+pub Greying-head : (roots : List ℕ) (edge : ℕ → ℕ → Type 0) (before m : List Bool) (l : List ℕ) (x : ℕ) → 1 ≤ x → Greying roots edge before m l x → HasMark m x
 Greying-head roots edge before m l x one i = Greying-head_by i.waits i.chained.chain i.chained.marked
   where
-    Greying-head_by : (waits : List ℕ) → GreyChain l x waits → ((k : ℕ) → Contains waits k → IsMarked m k) → IsMarked m x
+    Greying-head_by : (waits : List ℕ) → GreyChain l x waits → ((k : ℕ) → Contains waits k → HasMark m k) → HasMark m x
     Greying-head_by [] c marked = absurd (omega (arith, c, one))
-    Greying-head_by (z ∷ rest) c marked = subst (IsMarked m) (sym c.0) (marked z (Contains-here z rest))
+    Greying-head_by (z ∷ rest) c marked = subst (HasMark m) (sym c.0) (marked z (Contains-here z rest))
 
 -- each turn makes the measure smaller
 pub Greying-smaller : (roots : List ℕ) (edge : ℕ → ℕ → Type 0) (before m : List Bool) (l : List ℕ) (x next : ℕ) (m' : List Bool) (l' : List ℕ) (h' : ℕ)
@@ -163,7 +163,7 @@ pub Greying-smaller : (roots : List ℕ) (edge : ℕ → ℕ → Type 0) (before
     → 2 * unmarked m' + length (greys l' (length m') h') < 2 * unmarked m + length (greys l (length m) x)
 Greying-smaller roots edge before m l x next m' l' h' one at i y = Greying-smaller_by i.waits i.chained.chain i.chained.marked i.room
   where
-    Greying-smaller_by : (waits : List ℕ) → GreyChain l x waits → ((k : ℕ) → Contains waits k → IsMarked m k) → unmarked m + length waits ≤ unmarked before
+    Greying-smaller_by : (waits : List ℕ) → GreyChain l x waits → ((k : ℕ) → Contains waits k → HasMark m k) → unmarked m + length waits ≤ unmarked before
         → 2 * unmarked m' + length (greys l' (length m') h') < 2 * unmarked m + length (greys l (length m) x)
     Greying-smaller_by [] c marked room = absurd (omega (arith, c, one))
     Greying-smaller_by (z ∷ rest) (ez, oz, (n, atz, tail)) marked room =
@@ -195,8 +195,8 @@ RefersFrom-least refs x r y n l at k e = (r - 1, l.below, rw e at)
 
 -- what a row leads to by its fields and by its references
 pub Greyed-leads : (s : Shape) (x : ℕ) (a : List Bool) (k : List ℕ) (h : ℕ) (b : List Bool) (l : List ℕ) (i : ℕ) (c : List Bool) (n : List ℕ) (j : ℕ)
-    → Greyed (λ z. Contains (s.fields x) (Some z)) a k h b l i → Greyed (RefersFrom s.refs 0 x) b l i c n j → Greyed (Leads s x) a k h c n j
-Greyed-leads s x a k h b l i c n j v w = Greyed-then (λ z. Contains (s.fields x) (Some z)) (RefersFrom s.refs 0 x) (Leads s x) a k h b l i c n j (λ z r. r) (λ z r. inl r) (λ z r. inr r) v w
+    → Greyed (λ z. Contains (s.fields x) (Some z)) a k h b l i → Greyed (RefersFrom s.refs 0 x) b l i c n j → Greyed (RowLeads s x) a k h c n j
+Greyed-leads s x a k h b l i c n j v w = Greyed-then (λ z. Contains (s.fields x) (Some z)) (RefersFrom s.refs 0 x) (RowLeads s x) a k h b l i c n j (λ z r. r) (λ z r. inl r) (λ z r. inr r) v w
 
 -- a list's nodes and one more node
 pub Greyed-push : (xs : List ℕ) (y : ℕ) (a : List Bool) (k : List ℕ) (h : ℕ) (b : List Bool) (l : List ℕ) (i : ℕ) (c : List Bool) (n : List ℕ) (j : ℕ)

@@ -1,6 +1,6 @@
 -- Rows that can be marked, and the list of grey rows that runs through them. (Textbook: tri-colour marking.)
 use Rattle.std.specs.Prelude.{◌≡◌, ℕ, ◌-◌, ◌≤◌, ◌<◌, ◌⊎◌, ◌+◌, zero, suc, Bool, List, [], ◌∷◌, Option, Some, None, Contains, length, slice_get}
-use Rattle.reachability.specs.Marks.{IsMarked, IsClosed, unmarked}
+use Rattle.reachability.specs.Marks.{HasMark, IsClosed, unmarked}
 use Rattle.reachability.specs.Scans.{Scans}
 use Rattle.joint_model.specs.Walks.{Reached}
 
@@ -14,8 +14,8 @@ abbrev pub RefersFrom : List (ℕ × ℕ) → ℕ → ℕ → ℕ → Type 0
 RefersFrom refs r x y = (i : ℕ) × (r ≤ i) × (slice_get refs i ≡ Some (x, y))
 
 -- row x leads to row y
-abbrev pub Leads : Shape → ℕ → ℕ → Type 0
-Leads s x y = Contains (s.fields x) (Some y) ⊎ RefersFrom s.refs 0 x y
+abbrev pub RowLeads : Shape → ℕ → ℕ → Type 0
+RowLeads s x y = Contains (s.fields x) (Some y) ⊎ RefersFrom s.refs 0 x y
 
 -- of the references below place n, the last one of row x stands just below place r; there is none where r is 0
 pub record IsLastBelow (refs : List (ℕ × ℕ)) (x n r : ℕ) : Type 0 where
@@ -31,7 +31,7 @@ GreyChain links head (x ∷ xs) = (head ≡ x) × (1 ≤ x) × ((next : ℕ) × 
 -- the grey rows are these, each of them marked
 pub record Chained (marks : List Bool) (links : List ℕ) (head : ℕ) (waits : List ℕ) : Type 0 where
   pub chain : GreyChain links head waits
-  pub marked : (k : ℕ) → Contains waits k → IsMarked marks k
+  pub marked : (k : ℕ) → Contains waits k → HasMark marks k
 
 -- the nodes of `row` were marked, and what was marked anew is grey
 pub record GreyedFrom (row : ℕ → Type 0) (m : List Bool) (waited : List ℕ) (m' : List Bool) (l' : List ℕ) (h' : ℕ) : Type 0 where
@@ -49,10 +49,10 @@ pub record Greying (roots : List ℕ) (edge : ℕ → ℕ → Type 0) (before ma
   pub chained : Chained marks links head waits
   pub shut : IsClosed edge before
   pub len : length marks ≡ length before
-  pub sound : (k : ℕ) → IsMarked marks k → IsMarked before k ⊎ Reached (Contains roots) edge k
-  pub kept : (k : ℕ) → IsMarked before k → IsMarked marks k
-  pub roots_marked : (k : ℕ) → Contains roots k → IsMarked marks k
-  pub closed : (k : ℕ) → IsMarked marks k → Contains waits k ⊎ ((y : ℕ) → edge k y → IsMarked marks y)
+  pub sound : (k : ℕ) → HasMark marks k → HasMark before k ⊎ Reached (Contains roots) edge k
+  pub kept : (k : ℕ) → HasMark before k → HasMark marks k
+  pub roots_marked : (k : ℕ) → Contains roots k → HasMark marks k
+  pub closed : (k : ℕ) → HasMark marks k → Contains waits k ⊎ ((y : ℕ) → edge k y → HasMark marks y)
   pub room : unmarked marks + length waits ≤ unmarked before
 
 -- some marking is on its way

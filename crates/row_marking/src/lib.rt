@@ -25,8 +25,8 @@
 
 ghost use Rattle.std.specs.Prelude.{◌≡◌, ℕ, ◌+◌, ◌-◌, ◌<◌, ◌≤◌, ◌⊎◌, ◌↔◌, List, Option, Some, Contains, All, Bool, length, slice_get, slice_set, IfSome, IsTrue, true};
 ghost use Rattle.joint_model.specs.Walks.{Reached};
-ghost use Rattle.reachability.specs.Marks.{IsMarked, IsClosed};
-ghost use Rattle.row_marking.specs.Traces.{Shape, Leads, IsLastBelow, RefersFrom, Greyed, Greying, IsGreying};
+ghost use Rattle.reachability.specs.Marks.{HasMark, IsClosed};
+ghost use Rattle.row_marking.specs.Traces.{Shape, RowLeads, IsLastBelow, RefersFrom, Greyed, Greying, IsGreying};
 
 /// Rows that can be marked. Not every number need be a row: what fields and references of rows lead to is one, and so is what has a mark.
 pub trait Traced {
@@ -64,7 +64,7 @@ pub trait Traced {
 
     /// The link of a marked row.
     fn link(&self, x: usize) -> u32
-        requires { IsMarked (marks self.now) x }
+        requires { HasMark (marks self.now) x }
         ensures link { slice_get (links self.now) x ≡ Some result }
         ensures row { is_row (kept self.now) x };
 
@@ -115,7 +115,7 @@ fn scan_references<G: Traced>(g: &mut G, x: usize, grey: &mut u32)
 fn scan<G: Traced>(g: &mut G, x: usize, grey: &mut u32)
     requires { G.is_row (G.kept g.old) x }
     ensures kept { G.kept g.new ≡ G.kept g.old }
-    ensures greyed { Greyed (Leads (G.shape (G.kept g.old)) x) (G.marks g.old) (G.links g.old) grey.old (G.marks g.new) (G.links g.new) grey.new }
+    ensures greyed { Greyed (RowLeads (G.shape (G.kept g.old)) x) (G.marks g.old) (G.links g.old) grey.old (G.marks g.new) (G.links g.new) grey.new }
 {
     g.mark_fields(x, grey);
     scan_references(g, x, grey);
@@ -123,10 +123,10 @@ fn scan<G: Traced>(g: &mut G, x: usize, grey: &mut u32)
 
 /// Carries a marking to its end: the grey rows are scanned until none is left. It takes no memory.
 pub fn finish<G: Traced>(g: &mut G, grey: u32)
-    requires { IsGreying (Leads (G.shape (G.kept g.old))) (G.marks g.old) (G.links g.old) grey }
+    requires { IsGreying (RowLeads (G.shape (G.kept g.old))) (G.marks g.old) (G.links g.old) grey }
     ensures kept { G.kept g.new ≡ G.kept g.old }
-    ensures marks { (roots : List ℕ) (before : List Bool) → Greying roots (Leads (G.shape (G.kept g.old))) before (G.marks g.old) (G.links g.old) grey → (k : ℕ) → IsMarked (G.marks g.new) k ↔ (IsMarked before k ⊎ Reached (Contains roots) (Leads (G.shape (G.kept g.old))) k) }
-    ensures closed { IsClosed (Leads (G.shape (G.kept g.new))) (G.marks g.new) }
+    ensures marks { (roots : List ℕ) (before : List Bool) → Greying roots (RowLeads (G.shape (G.kept g.old))) before (G.marks g.old) (G.links g.old) grey → (k : ℕ) → HasMark (G.marks g.new) k ↔ (HasMark before k ⊎ Reached (Contains roots) (RowLeads (G.shape (G.kept g.old))) k) }
+    ensures closed { IsClosed (RowLeads (G.shape (G.kept g.new))) (G.marks g.new) }
 {
     let mut head = grey;
     while head != 0 {
@@ -151,10 +151,10 @@ fn mark_roots<G: Traced>(g: &mut G, roots: &[u32], grey: &mut u32)
 /// no memory.
 pub fn mark_from<G: Traced>(g: &mut G, roots: &[u32])
     requires roots { All (λ y. (1 ≤ y) × G.is_row (G.kept g.old) y) roots.now }
-    requires shut { IsClosed (Leads (G.shape (G.kept g.old))) (G.marks g.old) }
+    requires shut { IsClosed (RowLeads (G.shape (G.kept g.old))) (G.marks g.old) }
     ensures kept { G.kept g.new ≡ G.kept g.old }
-    ensures marks { (k : ℕ) → IsMarked (G.marks g.new) k ↔ (IsMarked (G.marks g.old) k ⊎ Reached (Contains roots.now) (Leads (G.shape (G.kept g.old))) k) }
-    ensures closed { IsClosed (Leads (G.shape (G.kept g.new))) (G.marks g.new) }
+    ensures marks { (k : ℕ) → HasMark (G.marks g.new) k ↔ (HasMark (G.marks g.old) k ⊎ Reached (Contains roots.now) (RowLeads (G.shape (G.kept g.old))) k) }
+    ensures closed { IsClosed (RowLeads (G.shape (G.kept g.new))) (G.marks g.new) }
 {
     let mut grey = 0;
     mark_roots(g, roots, &mut grey);

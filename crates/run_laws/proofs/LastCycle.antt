@@ -31,7 +31,7 @@ use Rattle.joint_history.specs.Ending.{HasAll, HasOwn, IsFinished, StillWaits}
 use Rattle.joint_history.specs.Knowing.{line_known}
 use Rattle.script_laws.specs.Growing.{numbers_of}
 use Rattle.script_laws.specs.Holding.{Standing, opening_standing, phase_after, standing_after, AreLine, AreLeft, AreWord, HoldsLines, HoldsSoFar, HoldsPerThread, numbered_from, lines_of, entries_by}
-use Rattle.script_laws.specs.Ending.{Resolves, ResolveComes, IsEnded, AllCyclesEnd}
+use Rattle.script_laws.specs.Ending.{ResolvesLater, ResolveComes, IsEnded, AllCyclesEnd}
 use Rattle.script_laws.proofs.AllThreads.{is_one, no-lines}
 use Rattle.script_laws.proofs.Ending.{EndsFrom, lines-end}
 use Rattle.script_laws.proofs.Growing.{held_lines_end, idle_leaves_nothing, numbers_go_on, rising_entries_are_one, behind}
@@ -79,7 +79,7 @@ comes-more : (es fs : List Entry) → ResolveComes es → ResolveComes (es ++ fs
 comes-more [] fs c = absurd c
 comes-more (e ∷ es) fs c = by e.made.op (λ r. comes-more es fs r) c
   where
-    by : (o : Op) → (ResolveComes es → ResolveComes (es ++ fs)) → Resolves o (ResolveComes es) → Resolves o (ResolveComes (es ++ fs))
+    by : (o : Op) → (ResolveComes es → ResolveComes (es ++ fs)) → ResolvesLater o (ResolveComes es) → ResolvesLater o (ResolveComes (es ++ fs))
     by (op.Resolve k) f c = tt
     by (op.Snap k) f c = absurd c
     by o f c = f c

@@ -119,12 +119,12 @@ abbrev pub tally_of : List Entry → Tally
 tally_of entries = tally_from nothing_yet entries
 
 -- each number is at most n
-pub record AreUpTo (n : ℕ) (o : Objects) : Type 0 where
+pub record AreAtMost (n : ℕ) (o : Objects) : Type 0 where
   pub managed : o.managed ≤ n
   pub peers : o.peers ≤ n
   pub handles : o.handles ≤ n
 
 pub record IsUpTo (n : ℕ) (t : Tally) : Type 0 where
   pub cycles : t.cycles ≤ n
-  pub made : AreUpTo n t.made
-  pub left : AreUpTo n t.left
+  pub made : AreAtMost n t.made
+  pub left : AreAtMost n t.left

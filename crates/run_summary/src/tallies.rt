@@ -1,7 +1,7 @@
 // What the entries of a history made, and what is left of it.
 
 ghost use Rattle.std.specs.Prelude.{◌≡◌, ◌-◌, ◌^◌};
-ghost use Rattle.run_summary.specs.Tallies.{opens_cycle, makes_managed, makes_peer, makes_handle, removes_handle, freed_managed as freed_managed_by, freed_peers as freed_peers_by, more, less, tallied, tally_of, nothing_yet, AreUpTo, IsUpTo};
+ghost use Rattle.run_summary.specs.Tallies.{opens_cycle, makes_managed, makes_peer, makes_handle, removes_handle, freed_managed as freed_managed_by, freed_peers as freed_peers_by, more, less, tallied, tally_of, nothing_yet, AreAtMost, IsUpTo};
 
 use joint_model::{Act, History, Made, Op, Reply};
 
@@ -103,7 +103,7 @@ fn freed_peers(reply: &Reply) -> u32
 impl Objects {
     // These and what an event with that reply made.
     fn more(self, op: &Op, reply: &Reply) -> Objects
-        requires { AreUpTo (2 ^ 64 - 2) self }
+        requires { AreAtMost (2 ^ 64 - 2) self }
         ensures { result ≡ more self op.now reply.now }
     {
         Objects {

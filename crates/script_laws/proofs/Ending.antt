@@ -19,7 +19,7 @@ use Rattle.joint_model.specs.declared.events.Reply.TheVariants as says
 use Rattle.joint_model.specs.declared.events.Entry.{Entry}
 use Rattle.joint_model.specs.Phases.{next_phase, phases_left, phases_of, IsEventOf, IsClear, AreEach, AreTimes, AreMarkAfterSweep, ArePhase, candidates_after, ArePhases}
 use Rattle.script_laws.specs.Holding.{next_event, AreEventsAfter, Standing, AreWord, AreEvents, phase_after, standing_after, HoldsLines, HoldsInOrder, HoldsPerThread, opening_standing, numbered_from, lines_of, entries_by}
-use Rattle.script_laws.specs.Ending.{Resolves, ResolveComes, IsEnded, AllCyclesEnd}
+use Rattle.script_laws.specs.Ending.{ResolvesLater, ResolveComes, IsEnded, AllCyclesEnd}
 
 -- neither opens nor ends a cycle
 abbrev IsCalm : Op → Type 0
@@ -46,7 +46,7 @@ calm-ended (op.Snap k) es c = absurd c
 calm-ended (op.Abandon k) es c = absurd c
 calm-ended o es c = tt
 
-calm-resolves : (o : Op) (L : Type 0) → IsCalm o → L → Resolves o L
+calm-resolves : (o : Op) (L : Type 0) → IsCalm o → L → ResolvesLater o L
 calm-resolves (op.Snap k) L c l = absurd c
 calm-resolves (op.Resolve k) L c l = tt
 calm-resolves o L c l = l
@@ -134,7 +134,7 @@ resolve-ends (e ∷ []) rest a o = record { all = (ended e.made.op a.each.0, o);
     ended (op.Resolve k) q = tt
     ended p q = absurd q
 
-    comes : (p : Op) → IsEventOf word.Resolve p → Resolves p (ResolveComes rest)
+    comes : (p : Op) → IsEventOf word.Resolve p → ResolvesLater p (ResolveComes rest)
     comes (op.Resolve k) q = tt
     comes p q = absurd q
 resolve-ends (e ∷ f ∷ es) rest a o = absurd (let z = a.count in cc)

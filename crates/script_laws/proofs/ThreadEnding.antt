@@ -12,7 +12,7 @@ use Rattle.joint_model.specs.Told.{Noted}
 use Rattle.joint_model.specs.PeerReplay.{is_thread}
 use Rattle.std.specs.Prelude.{if◌then◌else◌}
 use Rattle.script_laws.specs.Holding.{entries_by}
-use Rattle.script_laws.specs.Ending.{Resolves, ResolveComes, IsEnded, AllCyclesEnd, ThreadHistoryEnds}
+use Rattle.script_laws.specs.Ending.{ResolvesLater, ResolveComes, IsEnded, AllCyclesEnd, ThreadHistoryEnds}
 use Rattle.script_laws.proofs.Ending.{held-thread-end}
 use Rattle.known_laws.specs.Growing.{entries}
 
@@ -26,12 +26,12 @@ all-events s [] a = tt
 all-events s (n ∷ ns) a = (a.0.event, all-events (linkage_after s n) ns a.1)
 
 -- what an event does to the open cycle
-resolves-more : (o : Op) (A B : Type 0) → (A → B) → Resolves o A → Resolves o B
+resolves-more : (o : Op) (A B : Type 0) → (A → B) → ResolvesLater o A → ResolvesLater o B
 resolves-more (op.Resolve k) A B f r = tt
 resolves-more (op.Snap k) A B f r = absurd r
 resolves-more o A B f r = f r
 
-other-resolves : (t : Thread) (o : Op) (A : Type 0) → (t ≡ C → ⊥) → IsEvent t o → A → Resolves o A
+other-resolves : (t : Thread) (o : Op) (A : Type 0) → (t ≡ C → ⊥) → IsEvent t o → A → ResolvesLater o A
 other-resolves C o A n e r = absurd (n refl)
 other-resolves (M u) (op.Snap k) A n e r = absurd e
 other-resolves (P u) (op.Snap k) A n e r = absurd e
@@ -56,7 +56,7 @@ comes-among : (es : List Entry) → AreAllEvents es → ResolveComes (entries_by
 comes-among [] a r = r
 comes-among (e ∷ es) a r = by e.made.caller a.0 (comes-among es a.1) r
   where
-    by : (t : Thread) → IsEvent t e.made.op → (ResolveComes (entries_by C es) → ResolveComes es) → ResolveComes (if is_thread C t then e ∷ entries_by C es else entries_by C es) → Resolves e.made.op (ResolveComes es)
+    by : (t : Thread) → IsEvent t e.made.op → (ResolveComes (entries_by C es) → ResolveComes es) → ResolveComes (if is_thread C t then e ∷ entries_by C es else entries_by C es) → ResolvesLater e.made.op (ResolveComes es)
     by C v f r = resolves-more e.made.op (ResolveComes (entries_by C es)) (ResolveComes es) f r
     by (M u) v f r = other-resolves (M u) e.made.op (ResolveComes es) (λ z. cc) v (f r)
     by (P u) v f r = other-resolves (P u) e.made.op (ResolveComes es) (λ z. cc) v (f r)

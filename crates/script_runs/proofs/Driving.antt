@@ -13,13 +13,12 @@ use Rattle.joint_model.specs.declared.events.Reply.{Reply}
 use Rattle.joint_model.specs.declared.events.Entry.{Entry}
 use Rattle.joint_model.specs.Lines.{IsLine}
 use Rattle.joint_model.specs.Phases.{next_phase, phases_left, phases_of, ArePhases, AreRefusal, candidates_after}
-use Rattle.bridge_cycle.specs.Progress.{Progress, AreNotices, LeadTo, MakesOne, Runs, RunsLine, RunsAct, RunsPhases, RunsWord}
-use Rattle.bridge_cycle.specs.Progress as driver
+use Rattle.bridge_cycle.specs.Progress.{Progress, AreDriversOnLine, AreNotices, LeadTo, MakesOne, RunsWords, RunsLine, RunsAct, RunsPhases, RunsWord}
 use Rattle.script_laws.specs.Holding.{Standing, phase_after, AreEventsAfter, AreWord, AreOnLine}
-use Rattle.script_runs.specs.Running.{DrivesLeft, DrivesLine, StandsAt}
+use Rattle.script_runs.specs.Running.{DrivesLeft, DrivesLine, StandsAs}
 use Rattle.joint_model.proofs.Deciding.{some-same, none_some}
 
-on-line : (index : ℕ) (es : List Entry) → driver.AreOnLine index es → AreOnLine index C es
+on-line : (index : ℕ) (es : List Entry) → AreDriversOnLine index es → AreOnLine index C es
 on-line index [] a = tt
 on-line index (e ∷ es) a = (record { caller = a.0; line = a.1 }, on-line index es a.2)
 
@@ -86,7 +85,7 @@ module _ (old new : Progress) (index : ℕ) (w : PhaseWord) (es : List Entry) wh
     last = λ s. refl;
   }
     where
-      leads : (s : Standing) → StandsAt s old → next_phase s.phase w ≡ Some next
+      leads : (s : Standing) → StandsAs s old → next_phase s.phase w ≡ Some next
       leads s at_s = ap (λ p. next_phase p w) at_s.phase ∙ e
 
   -- a word that is refused
@@ -106,7 +105,7 @@ module _ (old new : Progress) (index : ℕ) (w : PhaseWord) (es : List Entry) wh
     last = λ s. refl;
   }
     where
-      leads : (s : Standing) → StandsAt s old → next_phase s.phase w ≡ None
+      leads : (s : Standing) → StandsAs s old → next_phase s.phase w ≡ None
       leads s at_s = ap (λ p. next_phase p w) at_s.phase ∙ e
 
   either : (o : Option Phase) → next_phase old.phase w ≡ o → RunsWord old new index w o es → DrivesLine old new index (act.PhaseLine w)
@@ -150,7 +149,7 @@ left_leads at.Swept to l = from-swept to l
 left_leads at.Restored to l = from-restored to l
 
 -- the phases that were left
-pub drives_left : (old new : Progress) (index : ℕ) → Runs old new index (phases_left old.phase) → DrivesLeft old new index
+pub drives_left : (old new : Progress) (index : ℕ) → RunsWords old new index (phases_left old.phase) → DrivesLeft old new index
 drives_left old new index k = record {
   entries = k.0;
   made = k.1.enters.made;

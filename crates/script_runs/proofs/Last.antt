@@ -23,7 +23,7 @@ use Rattle.order_table.specs.Facts.{line_entries}
 use Rattle.order_table.specs.Views.{known}
 use Rattle.joint_history.specs.Callers.{Hears, Pass, Tells, own}
 use Rattle.joint_history.specs.Desks.{Waiting}
-use Rattle.joint_history.specs.Ending.{HasAll, HasOwn, IsFinished, IsIdle, StillWaits, threads_of}
+use Rattle.joint_history.specs.Ending.{HasAll, HasOwn, IsFinished, HasIdleDriver, StillWaits, threads_of}
 use Rattle.joint_history.specs.Knowing.{line_known}
 use Rattle.bridge_cycle.specs.Progress.{Progress, pass_of}
 use Rattle.script_laws.specs.Holding.{Standing, HoldsLines, opening_standing}
@@ -32,7 +32,7 @@ use Rattle.run_laws.specs.LastCycle.{cycle_line, AreWholeCycle, DrivesCycles, En
 use Rattle.run_laws.specs.Threads.{HoldsItsLines, NoneIsLeft, thread_lines}
 use Rattle.run_laws.proofs.InOrder.{prefix-map, prefix-then}
 use Rattle.run_laws.proofs.LastCycle.{cycle_lines_end_runs, cycles_end_runs}
-use Rattle.script_runs.specs.Running.{AreSame, CanRun, DriverIsFirst, DrivesLine, HasRun, HearsAll, IsRunnable, IsSame, StandsAt}
+use Rattle.script_runs.specs.Running.{AreSame, CanRun, DriverIsFirst, DrivesLine, HasRunLines, HearsAll, IsRunnable, IsSame, StandsAs}
 use Rattle.script_runs.proofs.Desked.{has_all_last}
 use Rattle.script_runs.proofs.Ran.{AllRan, ran_all}
 use Rattle.joint_history.proofs.Giving.{has_all_same}
@@ -120,7 +120,7 @@ own-first p first heard before others new driver h = h.own_stay ∙ (ap (λ (z :
 
 module _ (number : ℕ) (p : Pass) (first heard last : Progress) (before others : List Pass) (new : first ≡ record { view = p.view; phase = Idle; cycle = record { 0 = 0 }; candidates = 0 }) (driver : IsDriver p.thread)
     (h : HearsAll first heard before others) (k : DrivesLine heard last number cycle_line.1) where
-  at-first : StandsAt opened heard
+  at-first : StandsAs opened heard
   at-first = record {
     phase = sym (ap (λ (z : Progress). z.phase) h.stands ∙ ap (λ (z : Progress). z.phase) new);
     candidates = sym (ap (λ (z : Progress). z.candidates) h.stands ∙ ap (λ (z : Progress). z.candidates) new);
@@ -150,19 +150,19 @@ module _ (script : List (Thread × Act)) (d : Waiting) (jobs callers rest : List
   ran-first : AllRan script (first.driver ∷ first.others) (p ∷ rest)
   ran-first = subst (λ js. AllRan script js (p ∷ rest)) first.all (subst (AllRan script jobs) are ran)
 
-  pub driver_ran : HasRun script C p
-  driver_ran = subst (λ t. HasRun script t p) first.is_driver ran-first.0
+  pub driver_ran : HasRunLines script C p
+  driver_ran = subst (λ t. HasRunLines script t p) first.is_driver ran-first.0
 
   pub is_driver : IsDriver p.thread
   is_driver = subst IsDriver (sym driver_ran.thread) tt
 
   -- of those who ended a job each is one of the jobs' threads
-  pub ran_job : (js ps : List Pass) → AllRan script js ps → (q : Pass) → Contains ps q → (j : Pass) × Contains js j × HasRun script j.thread q
+  pub ran_job : (js ps : List Pass) → AllRan script js ps → (q : Pass) → Contains ps q → (j : Pass) × Contains js j × HasRunLines script j.thread q
   ran_job [] [] r q c = absurd (Contains-nil q c)
   ran_job [] (x ∷ ps) r q c = absurd r
   ran_job (j ∷ js) [] r q c = absurd r
   ran_job (j ∷ js) (x ∷ ps) r q c = ⊎_elim
-      (λ (e : x ≡ q). (j, Contains-here j js, subst (HasRun script j.thread) e r.0))
+      (λ (e : x ≡ q). (j, Contains-here j js, subst (HasRunLines script j.thread) e r.0))
       (λ o. let w = ran_job js ps r.1 q o in (w.0, Contains-there w.0 j js w.1, w.2))
       (Contains-cons_cases x ps q c)
 
@@ -180,13 +180,13 @@ module _ (script : List (Thread × Act)) (d : Waiting) (jobs callers rest : List
     pub all_hold : All (HoldsItsLines script) others
     all_hold = All-members (HoldsItsLines script) others holds-own
 
-    pub all_idle_then : IsIdle after → All IsIdle (others ++ after ∷ [])
-    all_idle_then idle = All-members IsIdle (others ++ after ∷ []) (λ q c. ⊎_elim
+    pub all_idle_then : HasIdleDriver after → All HasIdleDriver (others ++ after ∷ [])
+    all_idle_then idle = All-members HasIdleDriver (others ++ after ∷ []) (λ q c. ⊎_elim
         (λ o.
         let w = was q o in
         let r = ran_job first.others rest ran-first.1 w.0 w.1 in
         λ is. absurd (first.others_are r.0 r.1 (subst IsDriver (w.2.thread ∙ r.2.thread) is)))
-        (λ o. ⊎_elim (λ (e : after ≡ q). subst IsIdle e idle) (λ n. absurd (Contains-nil q n)) (Contains-cons_cases after [] q o))
+        (λ o. ⊎_elim (λ (e : after ≡ q). subst HasIdleDriver e idle) (λ n. absurd (Contains-nil q n)) (Contains-cons_cases after [] q o))
         (Contains-append_cases others (after ∷ []) q c))
 
     same-threads : (xs ys : List Pass) → AreSame xs ys → threads_of xs ≡ threads_of ys

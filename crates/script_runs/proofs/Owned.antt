@@ -11,7 +11,7 @@ use Rattle.joint_model.specs.Lines.{IsDriver}
 use Rattle.joint_model.specs.PeerReplay.{is_thread}
 use Rattle.order_table.specs.Facts.{line_entries}
 use Rattle.joint_history.specs.Callers.{KnowsNothing, Pass, last_index, own}
-use Rattle.joint_history.specs.Ending.{IsIdle}
+use Rattle.joint_history.specs.Ending.{HasIdleDriver}
 use Rattle.joint_history.specs.Knowing.{line_known}
 use Rattle.joint_history.specs.Operations.{IsOwnThread}
 use Rattle.joint_history.proofs.DriverHears.{driver_first}
@@ -20,14 +20,14 @@ use Rattle.script_laws.specs.Holding.{Standing, opening_standing, standing_after
 use Rattle.script_laws.proofs.Growing.{idle_leaves_nothing}
 use Rattle.run_laws.specs.Threads.{HoldsItsFirst, HoldsItsLines}
 use Rattle.run_laws.proofs.ByThreads.{others_lines_pass, own_lines_add, own_lines_end}
-use Rattle.script_runs.specs.Running.{DrivesLeft, DrivesLine, HasRun, MakesLine, StandsAt}
+use Rattle.script_runs.specs.Running.{DrivesLeft, DrivesLine, HasRunLines, MakesLine, StandsAs}
 use Rattle.joint_model.proofs.HeapLemmas.{same_thread}
 
 -- who knows nothing has made nothing, and is idle
 pub own_nothing : (p : Pass) → KnowsNothing p.view → own p ≡ []
 own_nothing p k = ap line_entries (k (caller_line p.thread))
 
-pub own_idle : (p : Pass) → IsOwnThread p.thread → IsIdle p
+pub own_idle : (p : Pass) → IsOwnThread p.thread → HasIdleDriver p
 own_idle p o is = absurd (by p.thread o is)
   where
     by : (t : Thread) → IsOwnThread t → IsDriver t → ⊥
@@ -47,7 +47,7 @@ own_holds script n p q line e is same k h =
 pub other_holds : (script : List (Thread × Act)) (n : ℕ) (p : Pass) (line : Thread × Act) → slice_get script n ≡ Some line → is_thread p.thread line.0 ≡ false → HoldsItsFirst script n p opening_standing → HoldsItsFirst script (n + 1) p opening_standing
 other_holds script n p line e other h = others_lines_pass script n p opening_standing line e other h
 
-pub own_ends : (script : List (Thread × Act)) (p : Pass) → IsOwnThread p.thread → last_index (own p) ≤ length script → HoldsItsFirst script (length script) p opening_standing → HasRun script p.thread p
+pub own_ends : (script : List (Thread × Act)) (p : Pass) → IsOwnThread p.thread → last_index (own p) ≤ length script → HoldsItsFirst script (length script) p opening_standing → HasRunLines script p.thread p
 own_ends script p o up h = record {
   thread = refl;
   holds = own_lines_end script p p opening_standing [] refl (sym (append-nil (own p))) (idle_leaves_nothing opening_standing refl) h;
@@ -59,7 +59,7 @@ own_ends script p o up h = record {
 pub record DriverHolds (script : List (Thread × Act)) (n last : ℕ) (d : Progress) : Type 0 where
   pub standing : Standing
   pub holds : HoldsItsFirst script n (pass_of d) standing
-  pub stands : StandsAt standing d
+  pub stands : StandsAs standing d
   pub line : standing.line ≡ last
 
 pub driver_holds : (script : List (Thread × Act)) (n last : ℕ) (d f : Progress) (line : Thread × Act) → slice_get script n ≡ Some line → is_thread C line.0 ≡ true → DrivesLine d f (n + 1) line.1 → DriverHolds script n last d → DriverHolds script (n + 1) (n + 1) f
@@ -76,7 +76,7 @@ driver_holds script n last d f line e is k h =
 pub driver_passes : (script : List (Thread × Act)) (n last : ℕ) (d : Progress) (line : Thread × Act) → slice_get script n ≡ Some line → is_thread C line.0 ≡ false → DriverHolds script n last d → DriverHolds script (n + 1) last d
 driver_passes script n last d line e other h = record { standing = h.standing; holds = others_lines_pass script n (pass_of d) h.standing line e other h.holds; stands = h.stands; line = h.line }
 
-pub driver_ends : (script : List (Thread × Act)) (last : ℕ) (d f : Progress) (p : Pass) → p ≡ pass_of f → IsIdle p → last_index (own (pass_of f)) ≤ length script → DrivesLeft d f last → DriverHolds script (length script) last d → HasRun script C p
+pub driver_ends : (script : List (Thread × Act)) (last : ℕ) (d f : Progress) (p : Pass) → p ≡ pass_of f → HasIdleDriver p → last_index (own (pass_of f)) ≤ length script → DrivesLeft d f last → DriverHolds script (length script) last d → HasRunLines script C p
 driver_ends script last d f p is idle up k h = record {
   thread = ap (λ (q : Pass). q.thread) is;
   holds = subst (HoldsItsLines script) (sym is) (own_lines_end script (pass_of d) (pass_of f) h.standing k.entries refl k.made.own_more (k.left h.standing h.stands h.line) h.holds);

@@ -11,20 +11,20 @@ use Rattle.joint_model.specs.Linked.{IsLinked}
 use Rattle.known_laws.specs.Lists.{made_by}
 use Rattle.joint_history.specs.Callers.{Pass}
 use Rattle.joint_history.specs.Desks.{Waiting}
-use Rattle.joint_history.specs.Ending.{HasAll, HasOwn, IsFinished, IsIdle, StillWaits, threads_of}
+use Rattle.joint_history.specs.Ending.{HasAll, HasOwn, IsFinished, HasIdleDriver, StillWaits, threads_of}
 use Rattle.joint_history.proofs.Giving.{has_all_same}
 use Rattle.run_laws.specs.Final.{IsRunByThreads}
 use Rattle.run_laws.specs.Threads.{HoldsItsLines, NoneIsLeft}
 use Rattle.run_laws.proofs.ByThreads.{threads_hold_script}
 use Rattle.run_laws.proofs.Finals.{held_by_threads_is_run}
-use Rattle.script_runs.specs.Running.{CanRun, EndsSo, HasRun, IsRunnable}
+use Rattle.script_runs.specs.Running.{CanRun, EndsSo, HasRunLines, IsRunnable}
 
 -- each caller has run the lines of its job's thread
 abbrev pub AllRan : List (Thread × Act) → List Pass → List Pass → Type 0
 AllRan script [] [] = Unit {0}
 AllRan script [] (p ∷ ps) = ⊥
 AllRan script (j ∷ js) [] = ⊥
-AllRan script (j ∷ js) (p ∷ ps) = HasRun script j.thread p × AllRan script js ps
+AllRan script (j ∷ js) (p ∷ ps) = HasRunLines script j.thread p × AllRan script js ps
 
 ran : (E : Type 0) (script : List (Thread × Act)) (jobs callers : List Pass) → length callers ≡ length jobs
     → ((i : ℕ) (d : Pass) (e : Result Pass E) → i < length jobs → EndsSo script (slice_index_or jobs i d) (slice_index_or (map (λ p. Ok p) callers) i e)) → AllRan script jobs callers
@@ -49,10 +49,10 @@ ran_threads script [] (p ∷ ps) r = absurd r
 ran_threads script (j ∷ js) [] r = absurd r
 ran_threads script (j ∷ js) (p ∷ ps) r = let a = sym r.0.thread in let b = ran_threads script js ps r.1 in λ i. a i ∷ b i
 
-pub ran_idle : (script : List (Thread × Act)) (jobs callers : List Pass) → AllRan script jobs callers → All IsIdle callers
-ran_idle script jobs [] r = All-nil IsIdle
+pub ran_idle : (script : List (Thread × Act)) (jobs callers : List Pass) → AllRan script jobs callers → All HasIdleDriver callers
+ran_idle script jobs [] r = All-nil HasIdleDriver
 ran_idle script [] (p ∷ ps) r = absurd r
-ran_idle script (j ∷ js) (p ∷ ps) r = All-cons IsIdle p ps r.0.idle (ran_idle script js ps r.1)
+ran_idle script (j ∷ js) (p ∷ ps) r = All-cons HasIdleDriver p ps r.0.idle (ran_idle script js ps r.1)
 
 ran-holds : (script : List (Thread × Act)) (jobs callers : List Pass) → AllRan script jobs callers → All (HoldsItsLines script) callers
 ran-holds script jobs [] r = All-nil (HoldsItsLines script)

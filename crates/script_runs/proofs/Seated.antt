@@ -16,7 +16,7 @@ use Rattle.joint_model.proofs.Joining.{slice_get-set_other}
 use Rattle.joint_model.proofs.Members.{All-members, at-Contains, Contains-cons_cases, Contains-nil}
 use Rattle.joint_history.specs.Callers.{KnowsNothing, Pass, last_index, own}
 use Rattle.joint_history.specs.Desks.{AreAll, Waiting, flat, has_thread, thread_of, waits, without_caller}
-use Rattle.joint_history.specs.Ending.{HasOwn, IsFinished, IsIdle}
+use Rattle.joint_history.specs.Ending.{HasOwn, IsFinished, HasIdleDriver}
 use Rattle.joint_history.proofs.Desking.{thread_is}
 use Rattle.bridge_cycle.specs.Progress.{Progress, pass_of}
 use Rattle.script_laws.specs.Holding.{opening_standing, numbered_from}
@@ -59,10 +59,10 @@ come_through script last d others h oth driven = record {
 }
 
 -- whoever isn't the driver's caller is idle, and so all are once the driver's is
-pub all_idle : (others : List Pass) (p : Pass) → AreOthers others → IsIdle p → All IsIdle (others ++ p ∷ [])
-all_idle others p oth idle = All-members IsIdle (others ++ p ∷ []) (λ q c. ⊎_elim
+pub all_idle : (others : List Pass) (p : Pass) → AreOthers others → HasIdleDriver p → All HasIdleDriver (others ++ p ∷ [])
+all_idle others p oth idle = All-members HasIdleDriver (others ++ p ∷ []) (λ q c. ⊎_elim
     (λ d. let w = at-Contains others q d in λ is. absurd (other (thread_of (w.0 + 1)) w.0 (place w.0 q w.1) (subst IsDriver (oth.each w.0 q w.1) is)))
-    (λ d. ⊎_elim (λ (e : p ≡ q). subst IsIdle e idle) (λ n. absurd (Contains-nil q n)) (Contains-cons_cases p [] q d))
+    (λ d. ⊎_elim (λ (e : p ≡ q). subst HasIdleDriver e idle) (λ n. absurd (Contains-nil q n)) (Contains-cons_cases p [] q d))
     (Contains-append_cases others (p ∷ []) q c))
   where
     place : (i : ℕ) (q : Pass) → slice_get others i ≡ Some q → caller_place (thread_of (i + 1)) ≡ i + 1

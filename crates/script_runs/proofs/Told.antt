@@ -19,7 +19,7 @@ use Rattle.bridge_cycle.specs.Progress.{Progress, pass_of}
 use Rattle.script_laws.specs.Holding.{Standing, standing_after, AreLine}
 use Rattle.run_laws.specs.Serial.{AreOthers}
 use Rattle.run_laws.proofs.InOrder.{told_callers_add, drivers_add, others_run_on, driver_runs_on, not-driver}
-use Rattle.script_runs.specs.Running.{AreUpTo, DrivesLine, HasCome, MakesLine, RunsOn, StandsAt, TellsLine, last_after}
+use Rattle.script_runs.specs.Running.{AreUpTo, DrivesLine, HasCome, MakesLine, RunsOn, StandsAs, TellsLine, last_after}
 use Rattle.joint_model.proofs.Deciding.{some-same}
 
 pub tells_line : (a b d : Progress) (p q r t : Pass) (index : ℕ) (o : Act) → Tells (pass_of a) (pass_of b) → Hears (pass_of a) p q → b ≡ record a { view = b.view } → r.thread ≡ q.thread → MakesLine q.thread q.view r.view index o
@@ -86,6 +86,6 @@ module _ (others : List Pass) (i : ℕ) (p q : Pass) (at : slice_get others i �
       (record {
         standing = standing_after h.standing number a k.entries;
         run = others_run_on lines h.standing (pass_of old) (pass_of new) others i p q number a k.entries oth at same refl k.own_stay k.adds (k.line h.standing) h.run;
-        stands = subst (λ s. StandsAt s new) (sym (k.still h.standing)) (k.stands h.standing h.stands);
+        stands = subst (λ s. StandsAs s new) (sym (k.still h.standing)) (k.stands h.standing h.stands);
         line = ap (λ (s : Standing). s.line) (k.still h.standing) ∙ (h.line ∙ sym (ap (λ b. if b then number else last) (not-driver others i p oth at)));
       })

@@ -10,7 +10,7 @@ use Rattle.joint_model.specs.PeerReplay.{is_thread}
 use Rattle.order_table.specs.declared.views.View.{View}
 use Rattle.order_table.specs.Views.{known}
 use Rattle.joint_history.specs.Callers.{Pass, last_index, own}
-use Rattle.joint_history.specs.Ending.{IsIdle}
+use Rattle.joint_history.specs.Ending.{HasIdleDriver}
 use Rattle.joint_history.specs.Operations.{IsPeerOperation, MakesAll}
 use Rattle.bridge_cycle.specs.Progress.{Progress, pass_of, line_of}
 use Rattle.script_laws.specs.Holding.{Standing, standing_after, AreLine, AreLeft, numbered_from}
@@ -36,7 +36,7 @@ pub record MakesLine (t : Thread) (old new : View) (index : ℕ) (a : Act) : Typ
   pub still : (s : Standing) → standing_after s index a entries ≡ s
 
 -- the driver stands there, by its phase and its candidates
-pub record StandsAt (s : Standing) (d : Progress) : Type 0 where
+pub record StandsAs (s : Standing) (d : Progress) : Type 0 where
   pub phase : s.phase ≡ d.phase
   pub candidates : s.candidates ≡ d.candidates
 
@@ -44,22 +44,22 @@ pub record StandsAt (s : Standing) (d : Progress) : Type 0 where
 pub record DrivesLine (old new : Progress) (index : ℕ) (a : Act) : Type 0 where
   pub entries : List Entry
   pub made : MakesAll C old.view new.view entries
-  pub line : (s : Standing) → StandsAt s old → AreLine s index (C, a) entries
-  pub stands : (s : Standing) → StandsAt s old → StandsAt (standing_after s index a entries) new
+  pub line : (s : Standing) → StandsAs s old → AreLine s index (C, a) entries
+  pub stands : (s : Standing) → StandsAs s old → StandsAs (standing_after s index a entries) new
   pub last : (s : Standing) → (standing_after s index a entries).line ≡ index
 
 -- the driver made the entries of the phases that were left
 pub record DrivesLeft (old new : Progress) (index : ℕ) : Type 0 where
   pub entries : List Entry
   pub made : MakesAll C old.view new.view entries
-  pub left : (s : Standing) → StandsAt s old → s.line ≡ index → AreLeft s entries
+  pub left : (s : Standing) → StandsAs s old → s.line ≡ index → AreLeft s entries
 
 -- a caller holds the lines of its thread, up to the last of the script, and is idle if it is the driver's
-pub record HasRun (script : List (Thread × Act)) (t : Thread) (p : Pass) : Type 0 where
+pub record HasRunLines (script : List (Thread × Act)) (t : Thread) (p : Pass) : Type 0 where
   pub thread : p.thread ≡ t
   pub holds : HoldsItsLines script p
   pub up_to : last_index (own p) ≤ length script
-  pub idle : IsIdle p
+  pub idle : HasIdleDriver p
 
 -- the driver's caller stands first, and no other is the driver's
 pub record DriverIsFirst (callers : List Pass) : Type 0 where
@@ -71,7 +71,7 @@ pub record DriverIsFirst (callers : List Pass) : Type 0 where
 
 -- so it is of what a thread ends with, unless it found no memory
 abbrev pub EndsSo : {E : Type 0} → List (Thread × Act) → Pass → Result Pass E → Type 0
-EndsSo script caller result = IfOk result (HasRun script caller.thread)
+EndsSo script caller result = IfOk result (HasRunLines script caller.thread)
 
 -- one of the others made the entries of a line, told of all that the driver knew, and the driver has heard of them
 pub record TellsLine (old new : Progress) (before after : Pass) (index : ℕ) (a : Act) : Type 0 where
@@ -80,13 +80,13 @@ pub record TellsLine (old new : Progress) (before after : Pass) (index : ℕ) (a
   pub line : (s : Standing) → AreLine s index (before.thread, a) entries
   pub still : (s : Standing) → standing_after s index a entries ≡ s
   pub own_stay : own (pass_of new) ≡ own (pass_of old)
-  pub stands : (s : Standing) → StandsAt s old → StandsAt s new
+  pub stands : (s : Standing) → StandsAs s old → StandsAs s new
 
 -- these lines were run, the driver stands where they lead, and its last line was this one
 pub record HasCome (lines : List (ℕ × (Thread × Act))) (last : ℕ) (d : Progress) (others : List Pass) : Type 0 where
   pub standing : Standing
   pub run : IsRunSoFar lines standing (pass_of d) others
-  pub stands : StandsAt standing d
+  pub stands : StandsAs standing d
   pub line : standing.line ≡ last
 
 -- the line of the driver's last line, after a line more

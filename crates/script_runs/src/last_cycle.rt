@@ -3,7 +3,7 @@
 ghost use Rattle.std.specs.Prelude.{◌≡◌, ◌+◌, ◌<◌, ◌≤◌, [], ◌∷◌, ◌++◌, IfOk, All, length};
 ghost use Rattle.joint_model.specs.Lines.{IsDriver};
 ghost use Rattle.joint_history.specs.Callers.{KnowsNothing, last_index, own};
-ghost use Rattle.joint_history.specs.Ending.{IsIdle};
+ghost use Rattle.joint_history.specs.Ending.{HasIdleDriver};
 ghost use Rattle.order_table.specs.Views.{OwnsAll};
 ghost use Rattle.run_laws.specs.Final.{IsRunInOrder};
 ghost use Rattle.run_laws.specs.LastCycle.{DrivesCycles, EndsWithCycle, IsRunThenCycle, cycle_line};
@@ -47,10 +47,10 @@ fn cycle_last<N: OrderName>(
     others: &mut Vec<Caller<N>>,
 ) -> Result<Caller<N>, AllocError>
     requires driver { IsDriver driver.thread }
-    requires idle { IsIdle driver }
+    requires idle { HasIdleDriver driver }
     requires number { last_index (own driver) ≤ number }
     ensures same { AreSame others.old.items others.new.items }
-    ensures idle { IfOk result IsIdle }
+    ensures idle { IfOk result HasIdleDriver }
     ensures ends { IfOk result (λ after. EndsWithCycle number driver after others.new.items) }
 {
     let mut driver = Driver::new(driver);

@@ -15,7 +15,7 @@ use Rattle.joint_model.proofs.Deciding.{none_some}
 use Rattle.joint_model.proofs.Members.{Contains-cons_cases, Contains-here, Contains-nil, Contains-there}
 use Rattle.bridge_graph.specs.declared.graph.Node.{Node}
 use Rattle.bridge_graph.specs.Handles.{handles_of}
-use Rattle.bridge_graph.specs.Parts.{IsBridge}
+use Rattle.bridge_graph.specs.Parts.{IsBridgeNode}
 use Rattle.global_handles.specs.declared.Back.{Back}
 use Rattle.handle_weaken.specs.Entries.{RestoresInTurn, reserve_weakened, weakenings, restorings}
 use Rattle.peer_mirror.specs.Carried.{carried_to_peers, reserve_installed, AreBridgeNodes, AreHandlesStrong}
@@ -89,10 +89,10 @@ are-bridges : AreBridgeNodes nodes circle
 unfolding nodes circle
 are-bridges = by
   where
-    by : (i x : ℕ) → IsMember ((0 ∷ 1 ∷ []) ∷ []) i x → IsBridge nodes x
+    by : (i x : ℕ) → IsMember ((0 ∷ 1 ∷ []) ∷ []) i x → IsBridgeNode nodes x
     by zero x m = elim (Contains-cons_cases 0 (1 ∷ []) x (subst (λ l. Contains l x) (sym (same_Some (0 ∷ 1 ∷ []) m.0 m.1)) m.2)) [
-      | inl e ↦ subst (IsBridge nodes) e (record { node = _; there = refl; held = refl })
-      | inr c ↦ elim (Contains-cons_cases 1 [] x c) [ inl e ↦ subst (IsBridge nodes) e (record { node = _; there = refl; held = refl }) | inr d ↦ absurd (Contains-nil x d) ]
+      | inl e ↦ subst (IsBridgeNode nodes) e (record { node = _; there = refl; held = refl })
+      | inr c ↦ elim (Contains-cons_cases 1 [] x c) [ inl e ↦ subst (IsBridgeNode nodes) e (record { node = _; there = refl; held = refl }) | inr d ↦ absurd (Contains-nil x d) ]
     ]
     by (suc i) x m = absurd (none_some m.0 m.1)
 

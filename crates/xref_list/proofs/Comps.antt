@@ -13,7 +13,7 @@ use Rattle.bridge_graph.proofs.Packs.{packed_rows-more, cut-more}
 use Rattle.std.specs.declared.alloc.AllocError.{AllocError}
 use Rattle.xref_list.specs.declared.pairs.Added.{Added}
 use Rattle.xref_list.specs.declared.pairs.Added.TheVariants.{New, Old}
-use Rattle.xref_list.specs.Adding.{Adds}
+use Rattle.xref_list.specs.Adding.{AddsPair}
 use Rattle.xref_list.specs.Listing.{AreDisjoint, AreComponents, IsBetween, IsListing}
 use Rattle.xref_list.specs.Kept.{AreFlat, IsListingBegun}
 
@@ -97,7 +97,7 @@ listing_of comps pairs a r e = record {
 }
 
 -- what adding one pair left: the pairs as they were, or with the new one
-pub one_added : (r : Result Added AllocError) (before after : List (ℕ × ℕ)) (p : ℕ × ℕ) → IfOk r (λ a. Adds a before after p) → OnErr r (after ≡ before)
+pub one_added : (r : Result Added AllocError) (before after : List (ℕ × ℕ)) (p : ℕ × ℕ) → IfOk r (λ a. AddsPair a before after p) → OnErr r (after ≡ before)
     → (after ≡ before) ⊎ (after ≡ before ++ p ∷ [])
 one_added (Ok New) before after p a e = inr a.1
 one_added (Ok Old) before after p a e = inl a.1

@@ -4,6 +4,6 @@ use Rattle.xref_list.specs.declared.pairs.Added.{Added}
 use Rattle.xref_list.specs.declared.pairs.Added.TheVariants.{New, Old}
 
 -- a pair that was there already stays alone, and a new one is put last
-abbrev pub Adds : Added → List (ℕ × ℕ) → List (ℕ × ℕ) → ℕ × ℕ → Type 0
-Adds New before after p = ¬ Contains before p × (after ≡ before ++ p ∷ [])
-Adds Old before after p = Contains before p × (after ≡ before)
+abbrev pub AddsPair : Added → List (ℕ × ℕ) → List (ℕ × ℕ) → ℕ × ℕ → Type 0
+AddsPair New before after p = ¬ Contains before p × (after ≡ before ++ p ∷ [])
+AddsPair Old before after p = Contains before p × (after ≡ before)

@@ -2,7 +2,7 @@
 
 ghost use Rattle.std.specs.Prelude.{◌≡◌, ◌≢◌, ℕ, ◌<◌, ◌≤◌, [], ◌∷◌, ◌++◌, length, map, Contains, All, IfOk, OnOk, OnErr, slice_get, Some, IsPermutation};
 ghost use Rattle.joint_model.specs.Components.{Rises, first_of, first_at, mirror_edges};
-ghost use Rattle.xref_list.specs.Adding.{Adds};
+ghost use Rattle.xref_list.specs.Adding.{AddsPair};
 ghost use Rattle.xref_list.specs.Listing.{AreDisjoint, AreComponents, IsListing};
 
 use crate::circles::push_circle;
@@ -97,7 +97,7 @@ impl ComponentsBuilder {
         requires source { src < length self.old.comps }
         requires destination { dst < length self.old.comps }
         requires apart { src ≢ dst }
-        ensures added { IfOk result (λ a. Adds a self.old.pairs self.new.pairs (src, dst)) }
+        ensures added { IfOk result (λ a. AddsPair a self.old.pairs self.new.pairs (src, dst)) }
         ensures comps { self.new.comps ≡ self.old.comps }
         ensures err { OnErr result (self.new.pairs ≡ self.old.pairs) }
     {

@@ -2,7 +2,7 @@
 
 ghost use Rattle.std.specs.Prelude.{◌≡◌, ◌≢◌, ℕ, ◌+◌, ◌<◌, ◌≤◌, [], ◌∷◌, ◌++◌, length, map, Contains, All, AllPairs, IsTrue, IfOk, OnOk, OnErr, slice_get, Some, IsPermutation, take, vec_len, vec_capacity};
 ghost use Rattle.std.specs.HashSet as bag;
-ghost use Rattle.xref_list.specs.Adding.{Adds};
+ghost use Rattle.xref_list.specs.Adding.{AddsPair};
 ghost use Rattle.xref_list.specs.Known.{ArePairsKnown};
 ghost use Rattle.joint_model.specs.Components.{Rises, PairsRise};
 
@@ -57,7 +57,7 @@ impl PairList {
 
     /// Adds a pair, unless it is there.
     pub fn add(&mut self, pair: (u32, u32)) -> Result<Added, AllocError>
-        ensures added { IfOk result (λ a. Adds a self.old self.new pair) }
+        ensures added { IfOk result (λ a. AddsPair a self.old self.new pair) }
         ensures err { OnErr result (self.new ≡ self.old) }
     {
         catch_up(&self.pairs, &mut self.known)?;

@@ -3,7 +3,7 @@ use Rattle.std.proofs.Common.{◌≡◌, ◌<◌, ◌∷◌, [], ◌∙◌, leng
 use Rattle.std.proofs.lemmas.Option.{slice_get_within}
 use Rattle.std.proofs.lemmas.List.{nil_from_length}
 use Rattle.std.proofs.lemmas.List.Elements.{Contains-push}
-use Rattle.reachability.specs.Marks.{Leads, IsMarked}
+use Rattle.reachability.specs.Marks.{Leads, HasMark}
 use Rattle.reachability.proofs.Marking.{Marking-goes, Marking-ends, Marking-closes, Scans-as, unmarked-le}
 use Rattle.reachability.proofs.mark_reached.Goals as goal
 
@@ -14,7 +14,7 @@ mark_all-requires-clause-room g c =
 pub scan-requires-clause-node : goal.scan-requires-clause-node
 scan-requires-clause-node g c =
     let m = rw c.in-Some.ensures.items at c.loop-x.invariant.marking in
-    let here : IsMarked c.loop-x.marks c.in-Some.x = m.marked c.in-Some.x (Contains-push c.pop.new.self.items c.in-Some.x) in
+    let here : HasMark c.loop-x.marks c.in-Some.x = m.marked c.in-Some.x (Contains-push c.pop.new.self.items c.in-Some.x) in
     omega (arith, slice_get_within c.loop-x.marks c.in-Some.x _ here, m.len, c.requires.len)
 
 pub scan-requires-clause-room : goal.scan-requires-clause-room
@@ -25,7 +25,7 @@ scan-requires-clause-room g c =
 pub loop-x-preserved : goal.loop-x-preserved
 loop-x-preserved g c =
     let m = rw c.in-Some.ensures.items at c.loop-x.invariant.marking in
-    let here : IsMarked c.loop-x.marks c.in-Some.x = m.marked c.in-Some.x (Contains-push c.pop.new.self.items c.in-Some.x) in
+    let here : HasMark c.loop-x.marks c.in-Some.x = m.marked c.in-Some.x (Contains-push c.pop.new.self.items c.in-Some.x) in
     let node : c.in-Some.x < g.G.Walked.nodes c.args.g.now = omega (arith, slice_get_within c.loop-x.marks c.in-Some.x _ here, m.len, c.requires.len) in
     record {
       marking = Marking-goes _ _ _ _ _ c.in-Some.x c.pop.new.self.items _ c.requires.closed m

@@ -4,13 +4,13 @@ use Rattle.std.proofs.lemmas.List.{get_or-replicate, get_or_default, take_at}
 use Rattle.std.proofs.lemmas.List.Elements.{All-contains}
 use Rattle.joint_model.specs.Walks.{Reaches}
 use Rattle.joint_model.proofs.WalkLemmas.{Reaches-mono}
-use Rattle.bridge_graph.specs.Parts.{Leads}
+use Rattle.bridge_graph.specs.Parts.{NodeLeads}
 use Rattle.component_pass.specs.Searching.{Goes, FindsReached}
 use Rattle.component_pass.proofs.Finding.{leads_from}
 use Rattle.component_pass.proofs.plain.reaches.Goals as goal
 
 every : (edges : List (List ℕ)) (plain : List Bool) (labels : List ℕ) (own n x y : ℕ) → plain ≡ replicate n true → length edges ≡ n
-    → Leads edges x y → Goes edges plain labels own x y
+    → NodeLeads edges x y → Goes edges plain labels own x y
 every edges plain labels own n x y p e l =
     (inl (ap (λ (bs : List Bool). get_or bs x false) p ∙ get_or-replicate n x true false (omega (arith, leads_from edges x y l))), l)
 
@@ -31,6 +31,6 @@ returns c =
     let lt : c.args.y < length marks = omega (arith, c.in_ok-marks.ensures.len) in
     let plain : c.deref.result.now ≡ replicate n true = c.deref.ensures.value ∙ c.in_ok-plain.ensures.items_if_clones_equal (λ y e. e) ∙ ap (λ k. replicate k true) c.nodes-n.ensures.count in
     let read = rw (take_at marks _ c.in_ok-marks.marks.len len) at c.index.ensures in
-    marked (Goes edges c.deref.result.now c.deref-2.result.now 0) (Leads edges) c.args.x c.args.y marks c.search.new.found.items c.index.result.now
+    marked (Goes edges c.deref.result.now c.deref-2.result.now 0) (NodeLeads edges) c.args.x c.args.y marks c.search.new.found.items c.index.result.now
     (λ u v h. h.1) (λ u v h. every edges c.deref.result.now c.deref-2.result.now 0 n u v plain c.nodes-n.ensures.part.rows h)
     f (read ∙ get_or_default marks c.args.y c.index.result.now false lt)

@@ -1,6 +1,6 @@
 use Rattle.std.proofs.Common.{◌≡◌, false, []}
 use Rattle.std.specs.List.{All}
-use Rattle.bridge_graph.specs.Parts.{IsBridge, Leads}
+use Rattle.bridge_graph.specs.Parts.{IsBridgeNode, NodeLeads}
 use Rattle.component_pass.specs.Referring.{AreReferencesBelow}
 use Rattle.component_pass.proofs.references.refer_all.Given as goal
 
@@ -10,5 +10,5 @@ invariant-loop-x l = record {
   found : l.found.items ≡ [];
   outs : l.outs.items ≡ [];
   comps : l.builder.comps ≡ l.initial.builder.comps;
-  pairs : AreReferencesBelow (IsBridge l.graph.nodes) (Leads l.graph.edges) l.builder.comps l.x l.builder.pairs;
+  pairs : AreReferencesBelow (IsBridgeNode l.graph.nodes) (NodeLeads l.graph.edges) l.builder.comps l.x l.builder.pairs;
 }

@@ -1,5 +1,5 @@
 use Rattle.std.proofs.Common.{◌≡◌, ◌+◌, ◌≤◌, length}
-use Rattle.component_pass.specs.Gathering.{AreSets, IsClear}
+use Rattle.component_pass.specs.Gathering.{AreSets, HasNoMarks}
 use Rattle.component_pass.specs.Sharing.{AreShared}
 use Rattle.component_pass.proofs.sharing.number_all.Given as goal
 
@@ -9,5 +9,5 @@ invariant-loop-c l = record {
   valid : AreSets l.sets.items l.lists l.count (length l.work.known.items);
   few : length l.lists ≤ l.c + 1;
   marks : length l.work.marks.items ≡ l.count;
-  clear : IsClear l.work;
+  clear : HasNoMarks l.work;
 }

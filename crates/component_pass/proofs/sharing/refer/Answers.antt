@@ -2,7 +2,7 @@
 use Rattle.std.proofs.Common.{◌≡◌, ◌+◌, ◌++◌, ℕ, List, Result, Ok, Err, OnOk, length, map, get_or}
 use Rattle.std.specs.declared.alloc.AllocError.{AllocError}
 use Rattle.std.proofs.lemmas.List.Elements.{Contains-get_or}
-use Rattle.bridge_graph.specs.Parts.{IsBridge, Leads, row_at}
+use Rattle.bridge_graph.specs.Parts.{IsBridgeNode, NodeLeads, row_at}
 use Rattle.component_pass.specs.Gathering.{set_at}
 use Rattle.component_pass.specs.Referring.{AreReferencesBelow}
 use Rattle.component_pass.proofs.Crossing.{refs_skip, refs_more, refs_fresh, outs_below, outs_apart, first_index}
@@ -66,7 +66,7 @@ returns-in-Some-clause-pairs c =
     let index : ℕ = get_or c.args.indexes.now (get_or c.args.labels.now c.args.x 0) 0 in
     let more = refs_more _ _ _ _ _ _ _ s c.args.x c.args.builder.now.pairs (set_at c.args.count c.args.lists.now c.in-Some.number) c.requires.node f d c.requires.pairs in
     let pairs = rw c.set_of.ensures at c.add_all.ensures.pairs in
-    appended (IsBridge c.args.graph.now.nodes) (Leads c.args.graph.now.edges) c.add_all.result c.args.builder.now.comps c.add_all.new.self.comps c.args.x c.add_all.new.self.pairs
+    appended (IsBridgeNode c.args.graph.now.nodes) (NodeLeads c.args.graph.now.edges) c.add_all.result c.args.builder.now.comps c.add_all.new.self.comps c.args.x c.add_all.new.self.pairs
     (c.args.builder.now.pairs ++ map (λ (d : ℕ). let r : ℕ × ℕ = (index, d) in r) (set_at c.args.count c.args.lists.now c.in-Some.number)) c.add_all.ensures.comps pairs more
 
 pub add_all-requires-in-None-clause-source : goal.add_all-requires-in-None-clause-source
@@ -112,5 +112,5 @@ returns-in-None-clause-pairs c =
     let index : ℕ = get_or c.args.indexes.now (get_or c.args.labels.now c.args.x 0) 0 in
     let more = refs_more _ _ _ _ _ _ _ s c.args.x c.args.builder.now.pairs c.gather.new.work.union.items c.requires.node f d c.requires.pairs in
     let pairs = rw c.deref.ensures.value at c.add_all-in-None.ensures.pairs in
-    appended (IsBridge c.args.graph.now.nodes) (Leads c.args.graph.now.edges) c.add_all-in-None.result c.args.builder.now.comps c.add_all-in-None.new.self.comps c.args.x c.add_all-in-None.new.self.pairs
+    appended (IsBridgeNode c.args.graph.now.nodes) (NodeLeads c.args.graph.now.edges) c.add_all-in-None.result c.args.builder.now.comps c.add_all-in-None.new.self.comps c.args.x c.add_all-in-None.new.self.pairs
     (c.args.builder.now.pairs ++ map (λ (d : ℕ). let r : ℕ × ℕ = (index, d) in r) c.gather.new.work.union.items) c.add_all-in-None.ensures.comps pairs more

@@ -1,7 +1,7 @@
 use Rattle.std.proofs.Common.{◌≡◌, ◌++◌, [], ◌∷◌, ◌∙◌, sym, ap, subst, refl, append_assoc, append-nil, length, arith}
 use Rattle.std.specs.Vec.Iter.{into_iter_items}
 use Rattle.joint_history.specs.Callers.{Pass}
-use Rattle.joint_history.specs.Ending.{GathersAll, IsIdle, TakesOwn, threads_of}
+use Rattle.joint_history.specs.Ending.{GathersAll, HasIdleDriver, TakesOwn, threads_of}
 use Rattle.joint_history.proofs.Ended.{takes_none, takes_then}
 use Rattle.joint_history.proofs.Gathering.{gathers_none}
 use Rattle.joint_history.proofs.Yielding.{gathers_more, next_is_idle, nothing_left}
@@ -19,7 +19,7 @@ loop-caller-init g c =
     )
 
 pub take_in-requires-clause-idle : goal.take_in-requires-clause-idle
-take_in-requires-clause-idle g c = subst IsIdle (sym c.into_pass.ensures)
+take_in-requires-clause-idle g c = subst HasIdleDriver (sym c.into_pass.ensures)
     (let at = c.loop-caller in
     let steps : into_iter_items at.caller-iterator ≡ c.in-Some.caller ∷ into_iter_items c.next.new.self = c.in-Some.ensures.steps.0 in
     next_is_idle c.args.callers.items at.yielded (into_iter_items c.next.new.self) c.in-Some.caller

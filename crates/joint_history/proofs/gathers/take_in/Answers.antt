@@ -1,6 +1,6 @@
 use Rattle.std.proofs.Common.{[], ◌∷◌, sym, subst}
 use Rattle.joint_history.specs.Callers.{Pass}
-use Rattle.joint_history.specs.Ending.{GathersAll, IsIdle, TakesOwn}
+use Rattle.joint_history.specs.Ending.{GathersAll, HasIdleDriver, TakesOwn}
 use Rattle.joint_history.proofs.Ended.{takes_one}
 use Rattle.joint_history.proofs.Gathering.{caller_at_rest, gathers_one}
 use Rattle.joint_history.proofs.gathers.take_in.Goals as goal
@@ -11,7 +11,7 @@ returns-clause-gathers g c =
     let w = c.pass.inside.seat.view in
     let u = c.learn.new.seat.view in
     subst (λ (p : Pass). GathersAll c.args.seat.now.view u (p.thread ∷ [])) c.pass.view_is
-    (gathers_one t c.args.seat.now.view w u (caller_at_rest t w c.pass.invariant.3 c.pass.invariant.2 (subst IsIdle (sym c.pass.view_is) c.requires.idle)) c.learn.ensures.takes c.learn.ensures.one_history)
+    (gathers_one t c.args.seat.now.view w u (caller_at_rest t w c.pass.invariant.3 c.pass.invariant.2 (subst HasIdleDriver (sym c.pass.view_is) c.requires.idle)) c.learn.ensures.takes c.learn.ensures.one_history)
 
 pub returns-clause-own : goal.returns-clause-own
 returns-clause-own g c =

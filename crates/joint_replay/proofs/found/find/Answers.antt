@@ -1,7 +1,7 @@
 -- Both markings start from live rows, so they mark exactly what is reached.
 use Rattle.std.proofs.Common.{◌<◌, ◌+◌, All, length, subst, sym}
 use Rattle.joint_model.specs.Heaps.{IsLive}
-use Rattle.joint_replay.specs.Roots.{IsRoot}
+use Rattle.joint_replay.specs.Roots.{IsNamedOrPinned}
 use Rattle.joint_replay.proofs.Snapshots.{roots-within}
 use Rattle.joint_replay.specs.Found.{IsBridgeRow}
 use Rattle.joint_replay.proofs.Finding.{marks-open, live-reached, FindsRows-from}
@@ -20,8 +20,8 @@ returns c =
     let pins = c.args.pins.now in
     let slots = c.in_ok-slots.slots.items in
     let bridges = c.in_ok-bridges.bridges.items in
-    let s = marks-open h (λ x. IsLive h x × IsRoot h pins x) _ slots c.in_ok-roots.ensures (rw c.deref.ensures.value at c.in_ok-slots.ensures.marks) in
+    let s = marks-open h (λ x. IsLive h x × IsNamedOrPinned h pins x) _ slots c.in_ok-roots.ensures (rw c.deref.ensures.value at c.in_ok-slots.ensures.marks) in
     FindsRows-from h held pins slots bridges _ _ _
-    (λ k l. (λ m. (live-reached h (IsRoot h pins) k l).0 ((s k).0 m), λ r. (s k).1 ((live-reached h (IsRoot h pins) k l).1 r)))
+    (λ k l. (λ m. (live-reached h (IsNamedOrPinned h pins) k l).0 ((s k).0 m), λ r. (s k).1 ((live-reached h (IsNamedOrPinned h pins) k l).1 r)))
     (marks-open h (IsBridgeRow h held) _ bridges c.in_ok-bridge_roots.ensures (rw c.deref-2.ensures.value at c.in_ok-bridges.ensures.marks))
     (rw (c.deref-3.ensures.value, c.deref-4.ensures.value) at c.in_ok-freed.ensures) (rw (c.deref-5.ensures.value, c.deref-6.ensures.value) at c.in_ok-dead.ensures) (rw c.deref-7.ensures.value at c.in_ok-candidates.ensures)

@@ -3,7 +3,7 @@ use Rattle.std.proofs.Common.{◌≡◌, ◌<◌, ◌↔◌, ◌⊎◌, ℕ, Lis
 use Rattle.std.specs.Result.{OnOk}
 use Rattle.std.specs.Prelude.{IfSome}
 use Rattle.std.proofs.lemmas.Option.{slice_get-get_or}
-use Rattle.bridge_graph.specs.Parts.{Leads}
+use Rattle.bridge_graph.specs.Parts.{NodeLeads}
 use Rattle.managed_side.specs.Graphs.{IsPlaceOf}
 use Rattle.managed_side.proofs.DeadGraphs.{place-there, placed-more}
 use Rattle.managed_side.proofs.graphs.add_edge.Goals as goal
@@ -19,8 +19,8 @@ returns-clause-edges c =
     let es = c.args.builder.now.edges in
     let within : y < length places = subst (λ (f : Option ℕ). IfSome f (λ z. z < length places)) c.in-Some.is c.requires.named in
     let few : c.args.i < length es = omega (arith, c.requires.from, c.nodes.ensures.part.rows) in
-    on-ok c.edge.result _ _ (λ e a k. subst (λ (f : Option ℕ). Leads c.edge.new.self.edges a k ↔ (Leads es a k ⊎ ((a ≡ c.args.i) × IsPlaceOf places f k))) (sym c.in-Some.is)
-    (subst (λ (ls : List (List ℕ)). Leads ls a k ↔ (Leads es a k ⊎ ((a ≡ c.args.i) × IsPlaceOf places (Some y) k))) (sym e) (placed-more places es c.args.i a k y (get_or places y 0) few (slice_get-get_or places y 0 within) c.if-place-eq0.false))) c.edge.ensures.edges
+    on-ok c.edge.result _ _ (λ e a k. subst (λ (f : Option ℕ). NodeLeads c.edge.new.self.edges a k ↔ (NodeLeads es a k ⊎ ((a ≡ c.args.i) × IsPlaceOf places f k))) (sym c.in-Some.is)
+    (subst (λ (ls : List (List ℕ)). NodeLeads ls a k ↔ (NodeLeads es a k ⊎ ((a ≡ c.args.i) × IsPlaceOf places (Some y) k))) (sym e) (placed-more places es c.args.i a k y (get_or places y 0) few (slice_get-get_or places y 0 within) c.if-place-eq0.false))) c.edge.ensures.edges
 
 pub edge-requires-clause-to : goal.edge-requires-clause-to
 edge-requires-clause-to c =

@@ -6,7 +6,7 @@ use Rattle.joint_model.specs.declared.names.MNum.{MNum}
 use Rattle.joint_model.specs.Components.{Rises}
 use Rattle.joint_model.specs.Heaps.{Heap, IsLive}
 use Rattle.joint_model.specs.Histories.{managed_numbers}
-use Rattle.bridge_graph.specs.Parts.{Leads}
+use Rattle.bridge_graph.specs.Parts.{NodeLeads}
 use Rattle.row_heap.specs.Rows.{HeapRows}
 use Rattle.managed_side.specs.Graphs.{HasDeadField}
 use Rattle.managed_side.proofs.Resolutions.{rows-few}
@@ -51,4 +51,4 @@ returns-clause-prepares c = record {
 pub returns-clause-edges : goal.returns-clause-edges
 returns-clause-edges c =
     let same : c.find.new.heap.heap ≡ c.args.heap.now.heap = ap (λ (v : HeapRows). v.heap) c.find.ensures.rest ∙ ap (λ (v : HeapRows). v.heap) c.mark_slots.ensures.rest in
-    λ a k. subst (λ (h : Heap). Leads c.in_ok-graph.graph.edges a k ↔ HasDeadField h (managed_numbers c.in_ok-found.found.dead.items) a k) same (rw c.deref-3.ensures.value at c.in_ok-graph.ensures.edges a k)
+    λ a k. subst (λ (h : Heap). NodeLeads c.in_ok-graph.graph.edges a k ↔ HasDeadField h (managed_numbers c.in_ok-found.found.dead.items) a k) same (rw c.deref-3.ensures.value at c.in_ok-graph.ensures.edges a k)

@@ -6,13 +6,13 @@ use Rattle.joint_model.specs.Heaps.{IsLive}
 use Rattle.joint_model.specs.Histories.{managed_numbers}
 use Rattle.joint_model.proofs.Deciding.{test-true, test-false}
 use Rattle.joint_model.proofs.Gathering.{Gathered-push, Gathered-skip, Gathered-all, made-below}
-use Rattle.reachability.specs.Marks.{IsMarked}
+use Rattle.reachability.specs.Marks.{HasMark}
 use Rattle.managed_side.proofs.snapshots.whites.Goals as goal
 use Rattle.managed_side.proofs.snapshots.whites.Goals.{then-is_white+in_ok-push, else-is_white}
 
 pub loop-m-preserved : goal.loop-m-preserved
 loop-m-preserved c =
-    let wanted : ℕ → Type 0 = λ m. IsLive c.args.heap.now.heap m × (IsMarked c.args.heap.now.marks m → ⊥) in
+    let wanted : ℕ → Type 0 = λ m. IsLive c.args.heap.now.heap m × (HasMark c.args.heap.now.marks m → ⊥) in
     elim c.if-is_white.branch [
       | then-is_white+in_ok-push w ↦
           let m : MNum = record { 0 = c.loop-m.m } in
@@ -22,7 +22,7 @@ loop-m-preserved c =
 
 pub returns : goal.returns
 returns c =
-    let wanted : ℕ → Type 0 = λ m. IsLive c.args.heap.now.heap m × (IsMarked c.args.heap.now.marks m → ⊥) in
+    let wanted : ℕ → Type 0 = λ m. IsLive c.args.heap.now.heap m × (HasMark c.args.heap.now.marks m → ⊥) in
     record {
       rises = c.loop-m.invariant.rises;
       exact = Gathered-all wanted c.loop-m.m (managed_numbers c.loop-m.rows.items) c.loop-m.invariant (λ k w. made-below c.args.heap.now.heap k c.loop-m.m w.0 (omega (arith, c.loop-m-test.false, c.made-m-end.ensures.made)));

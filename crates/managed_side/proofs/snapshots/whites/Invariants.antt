@@ -2,8 +2,8 @@
 use Rattle.joint_model.specs.Heaps.{IsLive}
 use Rattle.joint_model.specs.Histories.{managed_numbers}
 use Rattle.joint_model.specs.Gathered.{Gathered}
-use Rattle.reachability.specs.Marks.{IsMarked}
+use Rattle.reachability.specs.Marks.{HasMark}
 use Rattle.managed_side.proofs.snapshots.whites.Given as goal
 
 abbrev pub invariant-loop-m : goal.invariant-loop-m
-invariant-loop-m l = Gathered (λ m. IsLive l.heap.heap m × (IsMarked l.heap.marks m → ⊥)) l.m (managed_numbers l.rows.items)
+invariant-loop-m l = Gathered (λ m. IsLive l.heap.heap m × (HasMark l.heap.marks m → ⊥)) l.m (managed_numbers l.rows.items)

@@ -1,7 +1,7 @@
 -- The ends of each mirror edge are bridge nodes.
 use Rattle.joint_model.specs.Components.{mirror_edges}
 use Rattle.joint_model.proofs.Members.{Contains-at}
-use Rattle.bridge_graph.specs.Parts.{IsBridge}
+use Rattle.bridge_graph.specs.Parts.{IsBridgeNode}
 use Rattle.peer_mirror.proofs.Edges.{edge-ends, pushed-next}
 use Rattle.peer_mirror.proofs.installing.push_edges.Goals as goal
 
@@ -9,13 +9,13 @@ pub push_edge-requires-clause-from : goal.push_edge-requires-clause-from
 push_edge-requires-clause-from c =
     let v = c.args.comps.now in
     let e = c.mirror_edge.result in
-    (edge-ends (IsBridge c.args.graph.now.nodes) v.comps v.pairs c.len.ensures.listing c.requires.members e.0 e.1 (Contains-at (mirror_edges v.comps v.pairs) c.loop-i.i e c.mirror_edge.ensures)).0
+    (edge-ends (IsBridgeNode c.args.graph.now.nodes) v.comps v.pairs c.len.ensures.listing c.requires.members e.0 e.1 (Contains-at (mirror_edges v.comps v.pairs) c.loop-i.i e c.mirror_edge.ensures)).0
 
 pub push_edge-requires-clause-to : goal.push_edge-requires-clause-to
 push_edge-requires-clause-to c =
     let v = c.args.comps.now in
     let e = c.mirror_edge.result in
-    (edge-ends (IsBridge c.args.graph.now.nodes) v.comps v.pairs c.len.ensures.listing c.requires.members e.0 e.1 (Contains-at (mirror_edges v.comps v.pairs) c.loop-i.i e c.mirror_edge.ensures)).1
+    (edge-ends (IsBridgeNode c.args.graph.now.nodes) v.comps v.pairs c.len.ensures.listing c.requires.members e.0 e.1 (Contains-at (mirror_edges v.comps v.pairs) c.loop-i.i e c.mirror_edge.ensures)).1
 
 pub loop-i-preserved : goal.loop-i-preserved
 loop-i-preserved c =

@@ -3,7 +3,7 @@ use Rattle.std.proofs.Common.{◌∙◌, ap, subst, sym}
 use Rattle.joint_model.specs.Heaps.{Heap, IsLive, InSlot}
 use Rattle.joint_model.specs.Walks.{Reached}
 use Rattle.std.specs.Prelude.{◌↔◌, ◌⊎◌, Contains}
-use Rattle.reachability.specs.Marks.{IsClosed, IsMarked}
+use Rattle.reachability.specs.Marks.{IsClosed, HasMark}
 use Rattle.row_heap.specs.Marks.{EdgeOf}
 use Rattle.row_heap.specs.Rows.{HeapRows}
 use Rattle.peer_side.specs.Marking.{strong_in}
@@ -31,8 +31,8 @@ returns-clause-marks c = λ p.
     let m = c.finish_marking.ensures.marks (root_list h strong) c.begin_marking.new.self.marks
     (begins-greying h strong (EdgeOf c.visit_strong.new.heap) _ _ _ _ _ _ _ _ c.begin_marking.ensures.marks c.visit_slots.ensures.greyed c.visit_strong.ensures.greyed) p in
     let k = begun-marks h strong (EdgeOf c.visit_strong.new.heap) c.begin_marking.new.self.marks c.finish_marking.new.self.marks p c.begin_marking.ensures.marks m in
-    let edges = subst (λ (v : HeapRows). IsMarked c.finish_marking.new.self.marks p ↔ Reached (λ q. InSlot h q ⊎ Contains strong q) (EdgeOf v) p) (sym c.finish_marking.ensures.rest) k in
-    subst (λ (g : Heap). IsMarked c.finish_marking.new.self.marks p ↔ Reached (λ q. InSlot g q ⊎ Contains strong q) (EdgeOf c.finish_marking.new.self) p) (ap (λ (v : HeapRows). v.heap) c.begin_marking.ensures.rest) edges
+    let edges = subst (λ (v : HeapRows). HasMark c.finish_marking.new.self.marks p ↔ Reached (λ q. InSlot h q ⊎ Contains strong q) (EdgeOf v) p) (sym c.finish_marking.ensures.rest) k in
+    subst (λ (g : Heap). HasMark c.finish_marking.new.self.marks p ↔ Reached (λ q. InSlot g q ⊎ Contains strong q) (EdgeOf c.finish_marking.new.self) p) (ap (λ (v : HeapRows). v.heap) c.begin_marking.ensures.rest) edges
 
 pub returns-clause-shut : goal.returns-clause-shut
 returns-clause-shut c = subst (λ (v : HeapRows). IsClosed (EdgeOf v) c.finish_marking.new.self.marks) (sym c.finish_marking.ensures.rest) c.finish_marking.ensures.shut

@@ -2,7 +2,7 @@ use Rattle.std.proofs.Common.{◌≡◌, ◌+◌, ◌≤◌, ◌<◌, [], ◌∷
 use Rattle.joint_model.specs.declared.names.Thread.{Thread}
 use Rattle.joint_model.specs.declared.lines.Act.{Act}
 use Rattle.joint_history.specs.Callers.{last_index, own}
-use Rattle.joint_history.specs.Ending.{HasAll, HasOwn, IsIdle}
+use Rattle.joint_history.specs.Ending.{HasAll, HasOwn, HasIdleDriver}
 use Rattle.script_runs.proofs.Last.{all_idle_then, driver_ran, first_and_rest, has_all_then, is_driver, runs_then_cycle, some_ran}
 use Rattle.script_runs.proofs.Ran.{all_ran}
 use Rattle.script_runs.proofs.last_cycle.run_named.Goals as goal
@@ -57,7 +57,7 @@ finish-requires-clause-idle g c =
     let ran = all_ran c.args.script.now c.in_ok-jobs.jobs.items c.in_ok-callers.callers.items c.in_ok-ended.ended.items c.in_ok-callers.ensures n (λ i d e l. c.in_ok-ended.ensures.each i d e (omega (arith, l))) in
     let some = some_ran c.args.script.now c.in_ok-jobs.jobs.items c.in_ok-callers.callers.items ran c.in_ok-jobs.ensures.driver in
     let are = first_and_rest c.in_ok-callers.callers.items c.remove-driver.new.self.items c.remove-driver.result some c.remove-driver.ensures.value c.remove-driver.ensures.by_index.2 in
-    subst (All IsIdle) (sym c.in_ok-push.ensures.items)
+    subst (All HasIdleDriver) (sym c.in_ok-push.ensures.items)
     (all_idle_then c.args.script.now c.workers.new.desk c.in_ok-jobs.jobs.items c.in_ok-callers.callers.items c.remove-driver.new.self.items c.remove-driver.result ran c.in_ok-jobs.ensures.driver c.in_ok-jobs.ensures.all are
     c.cycle_last.new.others.items c.in_ok-driver.driver c.in_ok-driver.ensures.same c.in_ok-driver.ensures.ends.same c.in_ok-driver.ensures.idle)
 

@@ -4,7 +4,7 @@ use Rattle.joint_model.specs.declared.names.Thread.TheVariants.{C}
 use Rattle.joint_model.specs.Lines.{IsDriver}
 use Rattle.joint_history.specs.Callers.{KnowsNothing, Pass, last_index}
 use Rattle.joint_history.specs.Desks.{Waiting}
-use Rattle.joint_history.specs.Ending.{HasAll, IsIdle}
+use Rattle.joint_history.specs.Ending.{HasAll, HasIdleDriver}
 use Rattle.bridge_cycle.specs.Progress.{Progress, pass_of}
 use Rattle.run_laws.proofs.InOrderEnds.{all_are_given}
 use Rattle.script_runs.proofs.Desked.{counts_stay}
@@ -53,7 +53,7 @@ finish-requires-clause-all g c =
     (all_are_given c.all_others.new.desk c.run_all.new.others.items c.retire.result c.in_ok-last.ensures.others_are (ap (λ (p : Pass). p.thread) c.retire.ensures.pass))
 
 pub finish-requires-clause-idle : goal.finish-requires-clause-idle
-finish-requires-clause-idle g c = subst (All IsIdle) (sym c.in_ok-push.ensures.items) (all_idle c.run_all.new.others.items c.retire.result c.in_ok-last.ensures.others_are c.retire.ensures.idle)
+finish-requires-clause-idle g c = subst (All HasIdleDriver) (sym c.in_ok-push.ensures.items) (all_idle c.run_all.new.others.items c.retire.result c.in_ok-last.ensures.others_are c.retire.ensures.idle)
 
 pub returns : goal.returns
 returns g c =

@@ -1,6 +1,6 @@
 use Rattle.std.proofs.Common.{◌≡◌, ℕ, ◌+◌, ◌≤◌, length, sym, ◌∙◌, ap, subst, arith}
 use Rattle.bridge_cycle.specs.Progress.{Progress, line_of}
-use Rattle.script_runs.specs.Running.{DrivesLine, HasRun}
+use Rattle.script_runs.specs.Running.{DrivesLine, HasRunLines}
 use Rattle.script_runs.proofs.Owned.{DriverHolds, driver_ends, driver_holds, driver_passes}
 use Rattle.script_runs.proofs.Reading.{there}
 use Rattle.script_runs.proofs.Reading as reading
@@ -42,7 +42,7 @@ loop-t-preserved g c =
 pub returns : goal.returns
 returns g c =
     let end : c.loop-t.t-index ≡ length c.args.script.now = omega arith in
-    subst (λ t. HasRun c.args.script.now t c.retire.result) (sym c.requires.thread)
+    subst (λ t. HasRunLines c.args.script.now t c.retire.result) (sym c.requires.thread)
     (driver_ends c.args.script.now c.loop-t.last c.loop-t.driver c.drive_left-2.new.driver c.retire.result c.retire.ensures.pass c.retire.ensures.idle
     (let a = c.loop-t.invariant.0 in let b = c.loop-t.invariant.1 in let u = c.drive_left-2.ensures.index in omega (arith, a, b, u, end)) c.in_ok-drive_left.ensures.ok
     (subst (λ n. DriverHolds c.args.script.now n c.loop-t.last c.loop-t.driver) end c.loop-t.invariant.3))

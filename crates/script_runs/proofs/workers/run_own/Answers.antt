@@ -4,7 +4,7 @@ use Rattle.joint_history.specs.Callers.{Pass, last_index, own}
 use Rattle.joint_history.specs.Operations.{IsOwnThread}
 use Rattle.script_laws.specs.Holding.{opening_standing}
 use Rattle.run_laws.specs.Threads.{HoldsItsFirst}
-use Rattle.script_runs.specs.Running.{HasRun, MakesLine}
+use Rattle.script_runs.specs.Running.{HasRunLines, MakesLine}
 use Rattle.script_runs.proofs.Owned.{own_ends, own_holds, other_holds}
 use Rattle.script_runs.proofs.Reading.{line_of, there}
 use Rattle.script_runs.proofs.workers.run_own.Goals as goal
@@ -38,5 +38,5 @@ returns g c =
     let p = c.loop-t.caller in
     let same = c.loop-t.invariant.1 ∙ c.thread-thread.ensures in
     let end : c.loop-t.t-index ≡ length c.args.script.now = omega arith in
-    subst (λ t. HasRun c.args.script.now t p) same
+    subst (λ t. HasRunLines c.args.script.now t p) same
     (own_ends c.args.script.now p (subst IsOwnThread (sym same) c.requires.thread) (let a = c.loop-t.invariant.0 in let b = c.loop-t.invariant.2 in omega (arith, a, b, end)) (subst (λ n. HoldsItsFirst c.args.script.now n p opening_standing) end c.loop-t.invariant.3))

@@ -4,7 +4,7 @@ use Rattle.std.specs.Prelude.{Contains}
 use Rattle.joint_model.proofs.Numbered.{slot-named}
 use Rattle.joint_model.specs.Heaps.{numbered_at}
 use Rattle.joint_model.specs.Walks.{Reached}
-use Rattle.reachability.specs.Marks.{IsMarked}
+use Rattle.reachability.specs.Marks.{HasMark}
 use Rattle.row_heap.specs.Marks.{EdgeOf}
 use Rattle.peer_side.specs.Mirroring.{row_at}
 use Rattle.peer_side.specs.Rows.{Rows}
@@ -42,5 +42,5 @@ returns-in-Some c =
       peer = c.in-Some.p.0;
       issued = own.1;
       rest = rows-again c.args.self.now mid c.strengthen.new.self c.args.h.0 c.bring_back.ensures.rest c.strengthen.ensures;
-      marks = λ up k. subst (λ l. IsMarked l k ↔ (IsMarked c.args.self.now.rows.marks k ⊎ Reached (Contains (c.in-Some.p.0 ∷ [])) (EdgeOf c.args.self.now.rows) k)) same (c.bring_back.ensures.marks up k);
+      marks = λ up k. subst (λ l. HasMark l k ↔ (HasMark c.args.self.now.rows.marks k ⊎ Reached (Contains (c.in-Some.p.0 ∷ [])) (EdgeOf c.args.self.now.rows) k)) same (c.bring_back.ensures.marks up k);
     }

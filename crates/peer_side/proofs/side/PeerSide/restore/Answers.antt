@@ -5,7 +5,7 @@ use Rattle.joint_model.specs.Sides.{GoesOn, peer_rules}
 use Rattle.joint_model.specs.Told.{nothing}
 use Rattle.joint_model.proofs.SideLists.{AreTaken-push}
 use Rattle.peer_side.specs.Cycles.{restores}
-use Rattle.peer_side.specs.Mirroring.{IsRestored}
+use Rattle.peer_side.specs.Mirroring.{RestoresHandle}
 use Rattle.peer_side.specs.Sides.{IsSide, state_with}
 use Rattle.peer_side.proofs.Restoring.{IsSide-restored, on_mirror, restore-goes, restore-owed}
 use Rattle.peer_side.proofs.Sides.{marks-closed, targets-live}
@@ -40,7 +40,7 @@ invariant_of-self g c =
     let below = (rw (sym c.self.view_is) at c.requires.may).below in
     let here : i.mirroring.mirror ≡ Some x = sym c.in-Some.ensures.mirror in
     let draws = rw c.reply_of.ensures at c.note.ensures.draws in
-    let back = subst (λ b. IsRestored b i.rows c.args.h.0 c.restore-back.result w) c.is_some-is_open.ensures c.restore-back.ensures in
+    let back = subst (λ b. RestoresHandle b i.rows c.args.h.0 c.restore-back.result w) c.is_some-is_open.ensures c.restore-back.ensures in
     let taken = AreTaken-push peer_rules i.threads i.entries.entries c.note.new.entries.entries draws.adds.number (restores c.args.index c.args.h c.restore-back.result) tt draws.adds.added c.self.invariant.1 in (
       subst (λ z. IsSide w i.marking i.markings z c.note.new.entries) (sym (c.set_mirror.ensures ∙ ap (on_mirror i.mirroring) c.restored.ensures))
           (IsSide-restored i.rows w i.marking i.markings i.mirroring x i.entries c.note.new.entries draws.adds.number _ c.args.index c.args.h c.restore-back.result c.self.invariant.0 draws.adds.added below draws.above here back may c.note.ensures.spare),
@@ -54,7 +54,7 @@ returns-clause-adds g c =
     let w = c.restore-back.new.self in
     let may = rw (sym c.self.view_is) at c.requires.restores in
     let draws = rw c.reply_of.ensures at c.note.ensures.draws in
-    let back = subst (λ b. IsRestored b i.rows c.args.h.0 c.restore-back.result w) c.is_some-is_open.ensures c.restore-back.ensures in
+    let back = subst (λ b. RestoresHandle b i.rows c.args.h.0 c.restore-back.result w) c.is_some-is_open.ensures c.restore-back.ensures in
     let goes = restore-goes i.rows w i.marking i.markings i.mirroring x i.entries c.note.new.entries.entries draws.adds.number c.args.index c.args.h c.restore-back.result (is_some i.marking) c.self.invariant.0 draws.adds.added (sym c.in-Some.ensures.mirror) back may in
     let moved = subst (λ z. GoesOn peer_rules (state_with i.entries.entries i.rows i.marking i.markings i.mirroring) (restores c.args.index c.args.h c.restore-back.result) nothing (state_with c.note.new.entries.entries w i.marking i.markings z))
     (sym (c.set_mirror.ensures ∙ ap (on_mirror i.mirroring) c.restored.ensures)) goes in

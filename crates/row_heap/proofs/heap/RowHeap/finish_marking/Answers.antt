@@ -2,7 +2,7 @@
 use Rattle.std.proofs.Common.{inl, inr}
 use Rattle.std.proofs.Common.{subst}
 use Rattle.reachability.specs.Marks.{IsClosed}
-use Rattle.row_marking.specs.Traces.{Leads}
+use Rattle.row_marking.specs.Traces.{RowLeads}
 use Rattle.row_heap.specs.Rows.{HeapRows}
 use Rattle.row_heap.specs.Marks.{shape_of}
 use Rattle.row_heap.proofs.Edges.{greying-leads, shut-edges, reached-edge, reached-leads}
@@ -23,4 +23,4 @@ returns-clause-marks g c = λ roots before i x.
     )
 
 pub returns-clause-shut : goal.returns-clause-shut
-returns-clause-shut g c = shut-edges c.args.self.now c.finish.new.g.marks (subst (λ (v : HeapRows). IsClosed (Leads (shape_of v)) c.finish.new.g.marks) c.finish.ensures.kept c.finish.ensures.closed)
+returns-clause-shut g c = shut-edges c.args.self.now c.finish.new.g.marks (subst (λ (v : HeapRows). IsClosed (RowLeads (shape_of v)) c.finish.new.g.marks) c.finish.ensures.kept c.finish.ensures.closed)

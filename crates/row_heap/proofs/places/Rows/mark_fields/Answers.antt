@@ -3,7 +3,7 @@ use Rattle.std.proofs.Common.{◌≡◌, ℕ, ◌∙◌, ◌-◌, ◌∷◌, ◌
 use Rattle.std.specs.Prelude.{Contains}
 use Rattle.std.specs.Vec.{with_items}
 use Rattle.std.proofs.lemmas.List.{length-map, with_items_is}
-use Rattle.reachability.specs.Marks.{IsMarked}
+use Rattle.reachability.specs.Marks.{HasMark}
 use Rattle.row_marking.specs.Traces.{Greyed}
 use Rattle.row_heap.specs.Places.{AreRows, bare, links_in, marks_in, row_at, seen_at, with_marks}
 use Rattle.row_heap.proofs.Indexed.{at-key, key-there, not-gone, stands-within}
@@ -46,7 +46,7 @@ invariant_of-self c =
     let el : length c.visit_fields.new.links ≡ length s.links.items = c.visit_fields.ensures.len.1 ∙ ap length c.deref_mut-in-At.ensures.value in
     let marks = with_items_is s.marks c.visit_fields.new.marks (em ∙ sym s.marks.ok.0) in
     let links = with_items_is s.links c.visit_fields.new.links (el ∙ sym s.links.ok.0) in
-    let fresh = subst (λ (ms : List Bool). (k : ℕ) → IsMarked (false ∷ c.visit_fields.new.marks) k → IsMarked (false ∷ ms) k ⊎ Contains c.as_slice-fields.result.now (Some k)) c.deref_mut.ensures.value c.visit_fields.ensures.fresh in
+    let fresh = subst (λ (ms : List Bool). (k : ℕ) → HasMark (false ∷ c.visit_fields.new.marks) k → HasMark (false ∷ ms) k ⊎ Contains c.as_slice-fields.result.now (Some k)) c.deref_mut.ensures.value c.visit_fields.ensures.fresh in
     subst (λ (ms : List Bool). AreRows s.slab s.places.items ms (with_items s.links c.visit_fields.new.links).items) (sym marks) (subst (λ (ls : List ℕ). AreRows s.slab s.places.items c.visit_fields.new.marks ls) (sym links)
     (visited-are s.slab s.places.items c.args.self.now s.marks.items c.visit_fields.new.marks s.links.items c.visit_fields.new.links c.as_slice-fields.result.now c.self.view_is c.self.invariant em el fresh held))
 
