@@ -1,5 +1,5 @@
--- What every phase of the driver has in common: it is the phase of the stand, no phase is half done, and a cycle is open but in the idle one. So a word may be
--- refused, and notices taken, and the driver keeps what it kept.
+-- What every phase of the driver has in common: it is the phase of the stand, no phase is half done, and a cycle is open but in the idle one. So a
+-- word may be refused, and notices taken, and the driver keeps what it kept.
 use Rattle.std.proofs.Common.{◌≡◌, ◌⊎◌, inl, inr, ℕ, ◌≤◌, Bool, false, [], ◌∷◌, length, Option, Some, None, refl, sym, ap, ◌∙◌, subst, arith}
 use mathlib.Core.List.{IsPrefix}
 use Rattle.joint_model.specs.declared.names.Cycle.{Cycle}

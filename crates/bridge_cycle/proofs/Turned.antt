@@ -24,6 +24,7 @@ use Rattle.bridge_graph.specs.Handles.{handles_of}
 use Rattle.bridge_graph.specs.Parts.{HasNode}
 use Rattle.global_handles.specs.declared.Back.{Back}
 use Rattle.global_handles.specs.declared.Back.TheVariants.{Alive, Cleared}
+use Rattle.global_handles.specs.Rows.{is_alive}
 use Rattle.handle_weaken.proofs.Turns.{done-none, done-some, left-none, left-some}
 use Rattle.order_table.specs.declared.views.View.{View}
 use Rattle.order_table.specs.Views.{known}
@@ -33,7 +34,7 @@ use Rattle.joint_history.specs.DriverHandles.{MakesRestore, MakesWeaken, MayRest
 use Rattle.joint_history.specs.Knowing.{line_known}
 use Rattle.joint_history.specs.Operations.{MakesAll}
 use Rattle.bridge_cycle.specs.Progress.{cycle_after, last_reply, opened_by}
-use Rattle.bridge_cycle.specs.Turns.{is_alive, MakesTimes, MayRestoreAll, MayWeakenAll, RestoresAll, WeakensAll}
+use Rattle.bridge_cycle.specs.Turns.{MakesTimes, MayRestoreAll, MayWeakenAll, RestoresAll, WeakensAll}
 use Rattle.bridge_cycle.proofs.Making.{append_nil, candidates_more, cycle_more, makes_more, makes_one, places_more}
 
 -- the handle of the next bridge node has its place among all

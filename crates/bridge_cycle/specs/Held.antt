@@ -1,5 +1,6 @@
--- What the driver keeps of its open cycle by its phase: where it stands by what it knows, and that the values are those of the cycle. What it has seen of the
--- managed objects at the snapshot is the same until the cycle ends, since the dead part is frozen; and so are the graph, the candidates and the components.
+-- What the driver keeps of its open cycle by its phase: where it stands by what it knows, and that the values are those of the cycle. What it has
+-- seen of the managed objects at the snapshot is the same until the cycle ends, since the dead part is frozen; and so are the graph, the candidates
+-- and the components.
 use Rattle.std.specs.Prelude.{◌≡◌, ℕ, Bool, false, [], length, Option, Some}
 use Rattle.joint_model.specs.declared.names.Phase.{Phase}
 use Rattle.joint_model.specs.declared.names.Phase.TheVariants as at

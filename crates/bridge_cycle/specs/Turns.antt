@@ -1,5 +1,5 @@
 -- The handles of a graph's bridge nodes, weakened or restored one after another: an entry of the driver for each, under a hold of the peer lock of its own.
-use Rattle.std.specs.Prelude.{◌≡◌, ℕ, Bool, true, false, List, [], length}
+use Rattle.std.specs.Prelude.{◌≡◌, ℕ, Bool, false, List, [], length}
 use Rattle.joint_model.specs.declared.names.Cycle.{Cycle}
 use Rattle.joint_model.specs.declared.names.HNum.{HNum}
 use Rattle.joint_model.specs.declared.names.PhaseWord.{PhaseWord}
@@ -12,8 +12,6 @@ use Rattle.joint_model.specs.Listed.{answers_of}
 use Rattle.joint_model.specs.Managed.{Managed}
 use Rattle.joint_model.specs.Phases.{AreTimes, candidates_after}
 use Rattle.bridge_graph.specs.declared.graph.Node.{Node}
-use Rattle.global_handles.specs.declared.Back.{Back}
-use Rattle.global_handles.specs.declared.Back.TheVariants.{Alive, Cleared}
 use Rattle.order_table.specs.declared.views.View.{View}
 use Rattle.joint_history.specs.Driven.{DriverStands}
 use Rattle.joint_history.specs.Operations.{MakesAll}
@@ -47,11 +45,6 @@ pub record Weakens (old new : View) (index n : ℕ) (o : OpenSnap) (m : Managed)
 
 abbrev pub WeakensAll : View → View → ℕ → ℕ → List Node → List HNum → Type 0
 WeakensAll old new index snap nodes hs = (o : OpenSnap) (weakened : Bool) (m : Managed) → DriverStands old index (weakening o 0 weakened false) m → AreCandidates m nodes → o.snap ≡ snap → Weakens old new index (length hs) o m
-
--- whether a restored handle's peer is there
-abbrev pub is_alive : Back → Bool
-is_alive Alive = true
-is_alive Cleared = false
 
 -- no handle of the driver's cycle is restored yet
 pub record MayRestoreAll (v : View) (index : ℕ) (nodes : List Node) : Type 0 where

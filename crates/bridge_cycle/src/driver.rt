@@ -14,8 +14,8 @@ use order_table::OrderName;
 use std::marker::Model;
 use xref_list::Components;
 
-/// The driver of the bridge: the caller of thread `c`, its phase, and what it keeps of the open cycle. Contracts see what it knows, its phase, and the number
-/// of the cycle that it opened last and of that cycle's candidates.
+/// The driver of the bridge: the caller of thread `c`, its phase, and what it keeps of the open cycle. Contracts see what it knows, its phase, and
+/// the number of the cycle that it opened last and of that cycle's candidates.
 #[derive(Drop)]
 pub struct Driver<N: OrderName> {
     pub(crate) caller: Caller<N>,

@@ -7,11 +7,10 @@ ghost use Rattle.joint_model.specs.declared.names.Phase.TheVariants as at;
 ghost use Rattle.joint_model.specs.declared.names.PhaseWord.TheVariants as word;
 ghost use Rattle.bridge_graph.specs.Handles.{handles_of};
 ghost use Rattle.bridge_cycle.specs.Progress.{EndsWithReply, RunsWords, line_of};
-ghost use Rattle.bridge_cycle.specs.Turns.{MayRestoreAll, MayWeakenAll, RestoresAll, WeakensAll, is_alive};
+ghost use Rattle.bridge_cycle.specs.Turns.{MayRestoreAll, MayWeakenAll, RestoresAll, WeakensAll};
 
 use crate::driver::{Driver, DriverFault};
 use bridge_graph::DeadGraph;
-use global_handles::Back;
 use joint_history::{Caller, Shared};
 use joint_model::{Alive, Phase, Reply};
 use order_table::OrderName;
@@ -39,16 +38,6 @@ fn weaken_all<N: OrderName>(
     }
 }
 
-// Whether a restored handle's peer is there.
-fn is_alive(back: Back) -> bool
-    ensures { result ≡ is_alive back }
-{
-    match back {
-        Back::Alive => true,
-        Back::Cleared => false,
-    }
-}
-
 // Restores the handle of each bridge node, in the same order, and puts the answers last in `alive`.
 fn restore_all<N: OrderName>(
     rt: &impl Wait,
@@ -68,7 +57,7 @@ fn restore_all<N: OrderName>(
     for i in 0..graph.nodes() {
         if let Some(h) = graph.handle(i) {
             let (_, back) = shared.restore(rt, driver, index, h);
-            alive.push(is_alive(back));
+            alive.push(back.is_alive());
         }
     }
 }

@@ -3,6 +3,8 @@ use Rattle.std.specs.Prelude.{◌≡◌, ◌==◌, ◌<◌, ◌≤◌, ℕ, Bool
 use Rattle.std.specs.Option.{option_map, option_and_then}
 use Rattle.joint_model.specs.declared.names.HNum.{HNum}
 use Rattle.joint_model.specs.declared.names.PNum.{PNum}
+use Rattle.global_handles.specs.declared.Back.{Back}
+use Rattle.global_handles.specs.declared.Back.TheVariants.{Alive, Cleared}
 use Rattle.global_handles.specs.declared.Hold.{Hold}
 use Rattle.global_handles.specs.declared.Strength.{Strength}
 use Rattle.global_handles.specs.declared.Strength.TheVariants.{Weak}
@@ -31,6 +33,11 @@ strength_in rows h = option_map (λ r. r.strength) (row_in rows h)
 -- whether the row of a number is cleared, or None where no row has the number
 abbrev pub cleared_in : List HandleRow → HNum → Option Bool
 cleared_in rows h = option_map (λ r. r.cleared) (row_in rows h)
+
+-- whether the peer of a restored row is there
+abbrev pub is_alive : Back → Bool
+is_alive Alive = true
+is_alive Cleared = false
 
 -- the row of a handle that was just made: it isn't cleared
 abbrev pub fresh_row : HNum → PNum → Hold → Strength → HandleRow

@@ -31,7 +31,7 @@ ghost use Rattle.std.specs.Prelude.{◌≡◌, ◌==◌, ◌+◌, ◌<◌, ◌�
 ghost use Rattle.std.specs.Option.{option_map};
 ghost use Rattle.std.specs.Vec.{vec_capacity, vec_len};
 ghost use Rattle.global_handles.specs.Slots.{slot_of, with_row, with_next, with_previous, rows_from, head_in, cleared_slot, AreLinkedSlots, IsLastOpen, IsChained};
-ghost use Rattle.global_handles.specs.Rows.{row_in, target_in, strength_in, cleared_in, fresh_row, with_strength, changed, cleared_for, without, not_live, IsWeakFor, IsRising};
+ghost use Rattle.global_handles.specs.Rows.{row_in, target_in, strength_in, cleared_in, fresh_row, with_strength, changed, cleared_for, without, not_live, is_alive, IsWeakFor, IsRising};
 
 use joint_model::{HNum, PNum};
 use std::alloc::{AllocError, Global};
@@ -73,6 +73,18 @@ pub struct HandleRow {
 pub enum Back {
     Alive,
     Cleared,
+}
+
+impl Back {
+    /// Whether the peer is there.
+    pub fn is_alive(self) -> bool
+        ensures { result ≡ is_alive self }
+    {
+        match self {
+            Back::Alive => true,
+            Back::Cleared => false,
+        }
+    }
 }
 
 /// Why a handle wasn't made.

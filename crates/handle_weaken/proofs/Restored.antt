@@ -17,6 +17,8 @@ use Rattle.joint_model.specs.Told.{nothing}
 use Rattle.joint_model.proofs.Members.{All-members, Contains-there}
 use Rattle.joint_model.proofs.Numbered.{numbered_set-other}
 use Rattle.global_handles.specs.declared.Back.{Back}
+use Rattle.global_handles.specs.declared.Back.TheVariants.{Alive, Cleared}
+use Rattle.global_handles.specs.Rows.{is_alive}
 use Rattle.peer_side.specs.Cycles.{restores}
 use Rattle.peer_side.specs.Sides.{PeerModel, seen}
 use Rattle.peer_side.proofs.Makings.{draws-on}
@@ -34,6 +36,11 @@ pub record IsRestoring {D : Type 0} (d : Drawing D) (start now : D) (old new : P
   pub apart : AllPairs (λ h k. h.0 ≢ k.0) rest
   pub restores : All (λ h. MayRestore new.state h.0) rest
   pub may : All (λ h. MayDraw peer_rules d now (seen new) C (op.Restore h)) rest
+
+-- what a restore answered is told by whether the peer is there
+pub back_of-alive : (back : Back) (b : Bool) → b ≡ is_alive back → back_of b ≡ back
+back_of-alive Alive b e = ap back_of e
+back_of-alive Cleared b e = ap back_of e
 
 -- what a restore changes: its handle's place in the table, and the mirrored cycle; and where that marks, the open marking
 record IsRestoredAt (s t : PeerReplay) (h : ℕ) : Type 0 where

@@ -7,7 +7,7 @@ ghost use Rattle.joint_model.specs.Told.{nothing};
 ghost use Rattle.bridge_graph.specs.Handles.{handles_of};
 ghost use Rattle.peer_side.specs.Cycles.{restores};
 ghost use Rattle.peer_side.specs.Sides.{seen};
-ghost use Rattle.handle_weaken.specs.Entries.{RestoresInTurn, back_of};
+ghost use Rattle.handle_weaken.specs.Entries.{RestoresInTurn};
 
 use bridge_graph::DeadGraph;
 use global_handles::Back;
@@ -49,17 +49,7 @@ pub fn restore_all<D: Draw>(
     for i in 0..graph.nodes() {
         if let Some(h) = graph.handle(i) {
             let back = restore_one(side, draw, index, h);
-            alive.push(is_alive(back));
+            alive.push(back.is_alive());
         }
-    }
-}
-
-// Whether a restore found the peer.
-fn is_alive(back: Back) -> bool
-    ensures { back_of result ≡ back }
-{
-    match back {
-        Back::Alive => true,
-        Back::Cleared => false,
     }
 }
