@@ -22,8 +22,8 @@ use std::alloc::{AllocError, Global};
 use std::sync::Wait;
 use std::thread::Threads;
 
-/// Makes the script of a seed and a size, runs it in that mode and one cycle more once all threads have ended, and writes the summary of that run. Answers the
-/// program's exit status: 0, 4 where the sink failed, or 5 where there was no memory, and nothing is written then.
+/// Makes the script of a seed and a size, runs it in that mode and one cycle more once all threads have ended, and writes the summary of that run.
+/// Answers the program's exit status: 0, 4 where the sink failed, or 5 where there was no memory, and nothing is written then.
 #[tactic(auto, using(crate::proofs::Alike::runs_alike))]
 pub fn print_generated<R: Threads + Wait + Sync, K: Sink, T: Turnstile + Sync>(
     rt: &R,

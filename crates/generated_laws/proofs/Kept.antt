@@ -1,5 +1,5 @@
--- What is kept in the end: the objects of the statics' groups and their peers. In a state in which all threads have ended, nothing else is reached: the slots name
--- these alone, and what they lead to are these.
+-- What is kept in the end: the objects of the statics' groups and their peers. In a state in which all threads have ended, nothing else is reached:
+-- the slots name these alone, and what they lead to are these.
 use Rattle.std.proofs.Common.{◌≡◌, ℕ, zero, suc, ◌+◌, ◌/◌, ◌%◌, ◌-◌, ◌<◌, ◌≤◌, inl, inr, Bool, true, false, List, [], ◌∷◌, length, Option, Some, None, refl, sym, ap, subst, ◌∙◌, arith}
 use Rattle.std.specs.Prelude.{Contains, slice_get}
 use Rattle.std.proofs.lemmas.Option.{slice_get_within}

@@ -1,5 +1,5 @@
--- The peers, as the threads that made them know them: which variables are empty; that the peer of a handle stands in no variable and has nothing in a field; and that each
--- filled static has the peer of its group's handle.
+-- The peers, as the threads that made them know them: which variables are empty; that the peer of a handle stands in no variable and has nothing in a
+-- field; and that each filled static has the peer of its group's handle.
 use Rattle.std.proofs.Common.{◌≡◌, ◌≢◌, ℕ, zero, suc, ◌+◌, ◌<◌, ◌≤◌, ◌⊎◌, inl, inr, Bool, true, false, List, [], ◌∷◌, ◌++◌, length, Option, Some, None, set, replicate, nat_le, refl, sym, ap, subst, ◌∙◌, arith, length-append}
 use Rattle.std.specs.Prelude.{Contains, if◌then◌else◌}
 use Rattle.std.proofs.Math.ListN.{length-set}

@@ -1,5 +1,5 @@
--- What each managed thread of a generated script has in its variables, as its own entries tell it: of each object its number, its fields and the handle that it
--- holds. Other threads change none of it.
+-- What each managed thread of a generated script has in its variables, as its own entries tell it: of each object its number, its fields and the
+-- handle that it holds. Other threads change none of it.
 use Rattle.std.proofs.Common.{◌≡◌, ◌≢◌, ℕ, zero, suc, ◌<◌, ◌⊎◌, Bool, true, false, List, [], ◌∷◌, Option, Some, None, replicate, refl, arith}
 use Rattle.joint_model.specs.declared.names.HNum.{HNum}
 use Rattle.joint_model.specs.declared.lines.Act.TheVariants as act

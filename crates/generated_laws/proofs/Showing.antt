@@ -1,5 +1,5 @@
--- The managed objects, as the threads that made them know them: each variable names what its thread has there, no two name the same, and each filled static names a
--- group of two objects that no other static's group has.
+-- The managed objects, as the threads that made them know them: each variable names what its thread has there, no two name the same, and each filled
+-- static names a group of two objects that no other static's group has.
 use Rattle.std.proofs.Common.{◌≡◌, ◌≢◌, ℕ, ◌+◌, ◌<◌, ◌≤◌, ◌⊎◌, inl, inr, Bool, true, false, List, [], ◌∷◌, ◌++◌, length, Option, Some, None, set, replicate, refl, sym, ap, subst, ◌∙◌, arith, length-append}
 use Rattle.std.specs.Prelude.{Contains}
 use Rattle.std.proofs.Math.ListN.{length-set}

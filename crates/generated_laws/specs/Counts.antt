@@ -18,8 +18,8 @@ use Rattle.script_laws.specs.Holding.{Standing, AreLine, HoldsPerThread}
 abbrev pub families_of : ℕ → ℕ → ℕ → ℕ
 families_of shape seed size = (seed + size + 3 - shape) / 4 - (seed + 3 - shape) / 4
 
--- what the families of a script make: a circle of bridges three objects, two of them with a peer and a handle; a cached leaf and a passed bridge two objects,
--- one of them with a peer and a handle; a circle of peers two peers
+-- what the families of a script make: a circle of bridges three objects, two of them with a peer and a handle; a cached leaf and a passed bridge two
+-- objects, one of them with a peer and a handle; a circle of peers two peers
 abbrev pub made_by_families : ℕ → ℕ → Objects
 made_by_families seed size = record {
   managed = 3 * families_of 0 seed size + 2 * families_of 1 seed size + 2 * families_of 2 seed size;
@@ -40,8 +40,8 @@ pub record IsGeneratedRun (seed size : ℕ) (h : Finished) : Type 0 where
   pub number : ℕ
   pub line : AreLine standing number (C, act.PhaseLine word.Cycle) cycle
 
--- what is left of it: the groups of the filled statics, each two objects, a peer and a handle. The sixteen statics come in turn, so that of the first sixteen
--- families each has one of its own, and the cached leaves fill those of the managed heap, the passed bridges those of the peer heap
+-- what is left of it: the groups of the filled statics, each two objects, a peer and a handle. The sixteen statics come in turn, so that of the first
+-- sixteen families each has one of its own, and the cached leaves fill those of the managed heap, the passed bridges those of the peer heap
 abbrev pub filled_statics : ℕ → ℕ → ℕ
 filled_statics seed size = families_of 1 seed (min size 16) + families_of 2 seed (min size 16)
 

@@ -12,13 +12,13 @@
 // is made.
 //
 // The life of a pair: `register` puts it last, when the managed half is made; it is refused where the peer has
-// a twin. `add` does the same for who knows that the peer has none. `twin` finds the managed half by a hash of the peer's number. `forget` takes the pair out, when the
-// managed half is freed or disposed of; `retain` takes many out in one pass. `len` and `entry` walk the pairs in
-// the order of their registration. No peer ever stands in two pairs.
+// a twin. `add` does the same for who knows that the peer has none. `twin` finds the managed half by a hash of the peer's number. `forget` takes the
+// pair out, when the managed half is freed or disposed of; `retain` takes many out in one pass. `len` and `entry` walk the pairs in the order of
+// their registration. No peer ever stands in two pairs.
 //
 // The registry is a part of the managed side, which alone changes it, under that side's lock. What is promised: the
 // pairs after each call are those of the definition, no peer ever stands in two pairs, a second twin is refused exactly
-// where the peer has one, and none of the calls but `register` takes memory. A call that is refused changes nothing.
+// where the peer has one, and none of the calls but `register` and `add` takes memory. A call that is refused changes nothing.
 #![tactic(auto)]
 
 ghost use Rattle.std.specs.Prelude.{◌≡◌, ◌-◌, ◌==◌, ◌↔◌, [], ◌∷◌, ◌++◌, Bool, IsTrue, filter, length, slice_get, Ok, Err, None, Some, OnOk, OnErr};

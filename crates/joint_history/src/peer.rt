@@ -22,7 +22,8 @@ use std::alloc::{AllocError, Global};
 use std::marker::{Model, PhantomData};
 
 /// The peer side with the seat that owns its role. The side is for as many threads as the run has. The seat knows a past, whose peer entries
-/// are the side's list and at whose end the peer side is as this one. While the lock is free no reference waits, and what the mirrored cycle will weaken and mark is reserved.
+/// are the side's list and at whose end the peer side is as this one. While the lock is free no reference waits, and what the mirrored cycle will
+/// weaken and mark is reserved.
 #[derive(Drop)]
 pub struct LockedPeer<N: OrderName> {
     pub(crate) side: PeerSide,

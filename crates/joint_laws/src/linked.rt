@@ -3,8 +3,8 @@
 ghost use Rattle.joint_laws.specs.LinkedLaws.{AdoptedPeerHasNoTwin, AliveLeadToAlive, HeldByPhase, LinkageIsKept, ReachedIsNotSwept, ReachedIsSpared, TwinIsRegistered};
 
 /// At every state of a lawful list of entries: no slot and no field of an unfreed object names a freed object, on either side; a
-/// handle of the table is cleared exactly where its peer is freed; each handle that a managed row holds is strong unless the row is a candidate, and a candidate's has the
-/// strength of the driver's phase; what a thread has in hand is held by no row; the registry has exactly the rows that hold a
+/// handle of the table is cleared exactly where its peer is freed; each handle that a managed row holds is strong unless the row is a candidate, and
+/// a candidate's has the strength of the driver's phase; what a thread has in hand is held by no row; the registry has exactly the rows that hold a
 /// handle; and what an open marking doesn't spare is named by no slot, no strong handle and no peer that it spares.
 pub fn both_sides_are_kept()
     ensures { LinkageIsKept }

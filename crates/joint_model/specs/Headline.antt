@@ -151,6 +151,7 @@ pub record IsCompleteCycle (run : List Moment) (end k : ℕ) (resolved : List �
   pub peers : (p : ℕ) → IsMadeBefore run begin p → IsPeerUnreachedThroughout run snap sweep p → IsPeerFreedAt run sweep p
 
 -- complete: each cycle that is resolved leaves no candidate that was unreached from its snapshot to the sweep of its own marking,
--- and no peer of that marking's begin that was. (A linked history has one begin of the driver between a snapshot and its end; in another run some such begin is meant.)
+-- and no peer of that marking's begin that was. (A linked history has one begin of the driver between a snapshot and its end; in another run some
+-- such begin is meant.)
 abbrev pub IsCompleteRun : List Moment → Type 0
 IsCompleteRun run = (i k : ℕ) (freed : List ℕ) → ResolvesAt run i k freed → IsCompleteCycle run i k freed

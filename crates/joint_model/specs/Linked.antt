@@ -85,7 +85,8 @@ abbrev pub managed_end : List Noted → Managed
 managed_end ns = (replayed opening_linkage ns).managed.managed
 
 -- a history is linked by these notes, which are its entries with what is told beside them: the numbers are those from 0
--- on, each entry may come when it comes, the last state is whole, the freed lists are what was freed, and the notices that were taken are the first of its list
+-- on, each entry may come when it comes, the last state is whole, the freed lists are what was freed, and the notices that were taken are the first
+-- of its list
 pub record IsLinkedBy (h : Finished) (noted : List Noted) : Type 0 where
   pub same : map (λ n. n.entry) noted ≡ h.entries
   pub numbers : NumberedFrom 0 h.entries

@@ -2,7 +2,8 @@
 // cells, pins and notices, and the list of what was done to them.
 //
 // The life of a side. `ManagedSide::new` makes one without objects, for the first so many managed threads: it takes their events and the driver's.
-// A thread's events come to `step`: each answers as the joint model says and makes one entry, whose number is drawn from a `joint_model::Draw`. `take` brings the object of a thread's pin into a variable.
+// A thread's events come to `step`: each answers as the joint model says and makes one entry, whose number is drawn from a `joint_model::Draw`.
+// `take` brings the object of a thread's pin into a variable.
 //
 // A side is seen as its entries and the state of their replay: what holds at any time is that a lawful list has these entries and leads to
 // this state. Each call that makes an entry promises that it drew this entry and put it last, that the entry may come next by the definition

@@ -12,9 +12,10 @@
 // `store` are the operations of a script, each of which answers a [`heap_rules::Done`], and each call is one of the definitions of the joint
 // model's `Heap`. No call looks at more than the rows that it names.
 //
-// A marking stands in the rows and in two lists beside them, of marks and links. `begin_marking` takes all marks down, `visit_slots` marks what variables and statics name, the collector marks
-// its further roots by `row_marking::visit`, and `finish_marking` marks what these reach; while the marking is open `bring_back` marks one more
-// object with what it reaches, and a new object has its mark from the start. A marking follows fields, and references if its begin says so.
+// A marking stands in the rows and in two lists beside them, of marks and links. `begin_marking` takes all marks down, `visit_slots` marks what
+// variables and statics name, the collector marks its further roots by `row_marking::visit`, and `finish_marking` marks what these reach; while
+// the marking is open `bring_back` marks one more object with what it reaches, and a new object has its mark from the start. A marking follows
+// fields, and references if its begin says so.
 // `free` then frees objects that a collector found dead, and `sweep` all those without a mark. From the begin to here nothing takes memory.
 //
 // References are a list of their own: `reserve_references` takes room, `push_reference` adds one, `clear_references` drops all. The peer side

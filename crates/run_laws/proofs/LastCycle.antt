@@ -1,5 +1,6 @@
--- The driver's last cycle stands behind all else: its numbers are above all that anybody else made, since the driver had heard of that; so the history, whose
--- numbers rise, is a beginning without the cycle's entries and then these. The beginning has of each thread just what its caller had before the cycle.
+-- The driver's last cycle stands behind all else: its numbers are above all that anybody else made, since the driver had heard of that; so the
+-- history, whose numbers rise, is a beginning without the cycle's entries and then these. The beginning has of each thread just what its caller had
+-- before the cycle.
 use Rattle.std.proofs.Common.{◌≡◌, ◌⊎◌, inl, inr, ⊎_elim, ℕ, ◌+◌, ◌<◌, true, false, List, [], ◌∷◌, ◌++◌, length, refl, sym, ◌∙◌, ap, subst, arith, append_assoc}
 use Rattle.std.specs.Prelude.{All, Contains, if◌then◌else◌}
 use Rattle.std.proofs.lemmas.Bool.{cases_Bool}

@@ -42,8 +42,8 @@ pub fn held_scripts_are_runs()
 {}
 
 /// Where the driver, once all threads have ended, hears of what each has made and then runs a cycle more, the finished history is that of the
-/// script's run thread by thread with the cycle's entries behind all others. So is the history of a run line after line whose last line is a cycle, where all
-/// other lines of the driver are cycles too.
+/// script's run thread by thread with the cycle's entries behind all others. So is the history of a run line after line whose last line is a cycle,
+/// where all other lines of the driver are cycles too.
 pub fn cycles_end_runs()
     ensures threads { CyclesEndRuns }
     ensures in_order { CycleLinesEndRuns }

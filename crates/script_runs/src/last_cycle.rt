@@ -111,8 +111,8 @@ fn with_cycle(alloc: Global, script: &[(Thread, Act)]) -> Result<Vec<(Thread, Ac
     Ok(lines)
 }
 
-/// Runs the lines of a script one after another, as `run_serial` does, and then a whole cycle, on a line of its own. All lines of the driver are whole cycles
-/// too. Answers the finished history, or `AllocError` where there is no memory.
+/// Runs the lines of a script one after another, as `run_serial` does, and then a whole cycle, on a line of its own. All lines of the driver are
+/// whole cycles too. Answers the finished history, or `AllocError` where there is no memory.
 pub fn run_serial_then_cycle(
     rt: &impl Wait,
     alloc: Global,

@@ -248,7 +248,8 @@ const NOTICES: [Row; 13] = [
     (C, Call::TwinFor(2), Twin(MNum(2))),
 ];
 
-// A kept candidate keeps what it reaches. What isn't kept is freed, with a notice for each object that holds a handle; an object that comes while a cycle is open isn't in its dead part.
+// A kept candidate keeps what it reaches. What isn't kept is freed, with a notice for each object that holds a handle; an object that comes while a
+// cycle is open isn't in its dead part.
 const KEPT: [Row; 28] = [
     (M1, Call::Adopt(0, 1, 1), M(MNum(1))),
     (M1, Call::Adopt(1, 1, 2), M(MNum(2))),
