@@ -33,7 +33,7 @@ ghost use Rattle.std.specs.Vec.{vec_capacity, vec_len};
 ghost use Rattle.global_handles.specs.Slots.{slot_of, with_row, with_next, with_previous, rows_from, head_in, cleared_slot, AreLinkedSlots, IsLastOpen, IsChained};
 ghost use Rattle.global_handles.specs.Rows.{row_in, target_in, strength_in, cleared_in, fresh_row, with_strength, changed, cleared_for, without, not_live, is_alive, IsWeakFor, IsRising};
 
-use joint_model::{HNum, PNum};
+use joint_model::{HNum, PNum, list_with_room};
 use std::alloc::{AllocError, Global};
 use std::marker::Model;
 use std::mem;
@@ -198,15 +198,15 @@ impl Model for HandleTable {
 }
 
 impl HandleTable {
-    /// An empty table. It keeps the allocator, and takes no memory.
+    /// An empty table. It asks for room for all handles that it will ever make, and goes without where there is no memory for that.
     pub fn new(alloc: Global) -> HandleTable
         ensures rows { result.rows ≡ [] }
         ensures made { result.made ≡ 0 }
         ensures room { result.room ≡ 0 }
     {
         HandleTable {
-            slots: Vec::new(alloc),
-            heads: Vec::new(alloc),
+            slots: list_with_room(alloc, MOST),
+            heads: list_with_room(alloc, PEERS),
             live: 0,
             ready: 0,
         }

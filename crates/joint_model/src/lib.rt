@@ -21,7 +21,7 @@ pub use draws::{Counter, Draw, counted_in_turn, drawn_in_turn};
 pub use events::{Entry, Made, Op, Reply};
 pub use finished::{History, Walk};
 pub use lines::Act;
-pub use lists::{Alive, Entries};
+pub use lists::{Alive, Entries, list_with_room};
 pub use names::{
     Cell, Cycle, GName, HNum, Kind, MNum, Marking, PNum, Phase, PhaseWord, Sort, Span, StaticNo,
     Thread, Var,

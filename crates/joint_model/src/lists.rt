@@ -47,6 +47,16 @@ fn make_room(list: &mut Vec<Entry>, n: usize) -> Result<(), AllocError>
     list.reserve(n)
 }
 
+/// An empty list, with room for `n` items where there is memory for it; else it grows as it needs. Room that nothing is put into takes no memory,
+/// and a list that never grows is never copied.
+pub fn list_with_room<T>(alloc: Global, n: usize) -> Vec<T>
+    ensures { result.items ≡ [] }
+{
+    let mut list = Vec::new(alloc);
+    let _ = list.reserve(n);
+    list
+}
+
 impl Entries {
     /// The empty list, which keeps the allocator.
     pub fn new(alloc: Global) -> Entries

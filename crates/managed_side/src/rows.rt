@@ -11,8 +11,8 @@ use crate::lines::reply_of;
 use crate::open::OpenParts;
 use finaliser_queue::Notices;
 use instance_registry::Registry;
-use joint_model::{Cycle, Kind, MNum, Phase, PhaseWord, Reply};
-use row_heap::RowHeap;
+use joint_model::{Cycle, Kind, MNum, Phase, PhaseWord, Reply, list_with_room};
+use row_heap::{MOST_OBJECTS, RowHeap};
 use std::alloc::{AllocError, Global};
 use std::marker::Model;
 
@@ -58,7 +58,7 @@ impl ManagedRows {
     {
         ManagedRows {
             heap: RowHeap::new(alloc),
-            infos: Vec::new(alloc),
+            infos: list_with_room(alloc, MOST_OBJECTS),
             registry: Registry::new(alloc),
             cells: [None; 64],
             pins: [None; 9],

@@ -20,8 +20,8 @@ ghost use Rattle.peer_side.specs.Steps.{IsPeerStep, IsRelease, ReleasesTabled, r
 
 use global_handles::{HandleTable, Hold, Strength};
 use heap_rules::Done;
-use joint_model::{Act, HNum, Op, PNum, Reply, Sort, Thread, Var};
-use row_heap::RowHeap;
+use joint_model::{Act, HNum, Op, PNum, Reply, Sort, Thread, Var, list_with_room};
+use row_heap::{MOST_OBJECTS, RowHeap};
 use std::alloc::{AllocError, Global};
 use std::marker::Model;
 
@@ -63,9 +63,9 @@ impl PeerRows {
     {
         PeerRows {
             heap: RowHeap::new(alloc),
-            sorts: Vec::new(alloc),
+            sorts: list_with_room(alloc, MOST_OBJECTS),
             names: [None; 64],
-            issued: Vec::new(alloc),
+            issued: list_with_room(alloc, MOST_HANDLES),
             table: HandleTable::new(alloc),
         }
     }

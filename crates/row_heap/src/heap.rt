@@ -9,11 +9,12 @@ ghost use Rattle.row_heap.specs.Rows.{HeapRows, opening_rows};
 use crate::places::Rows;
 use crate::references::Reference;
 use heap_rules::Number;
+use joint_model::list_with_room;
 use std::alloc::{AllocError, Global};
 use std::marker::Model;
 
-// The most objects that a heap makes.
-const MOST_OBJECTS: usize = 65_535;
+/// The most objects that a heap makes.
+pub const MOST_OBJECTS: usize = 65_535;
 
 /// The objects of one heap as rows, the variables and statics that name them, the objects that were freed, and the references between rows.
 #[derive(Drop)]
@@ -40,14 +41,15 @@ impl<N: Number> Model for RowHeap<N> {
 }
 
 impl<N: Number> RowHeap<N> {
-    /// A heap without objects, in which every variable and static is empty.
+    /// A heap without objects, in which every variable and static is empty. It asks for room for all objects that it will ever make, and goes
+    /// without where there is no memory for that.
     pub fn new(alloc: Global) -> RowHeap<N>
         ensures { result ≡ opening_rows }
     {
         RowHeap {
             alloc,
             rows: Rows::new(alloc),
-            freed: Vec::new(alloc),
+            freed: list_with_room(alloc, MOST_OBJECTS),
             vars: [None; 72],
             statics: [None; 16],
             references: Vec::new(alloc),

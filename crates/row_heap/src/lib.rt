@@ -38,4 +38,4 @@ mod references;
 mod sweeping;
 mod tracing;
 
-pub use heap::RowHeap;
+pub use heap::{MOST_OBJECTS, RowHeap};

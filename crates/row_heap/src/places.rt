@@ -11,6 +11,8 @@ ghost use Rattle.reachability.specs.Marks.{HasMark};
 ghost use Rattle.row_marking.specs.Traces.{Greyed};
 ghost use Rattle.row_heap.specs.Places.{row_at, is_white, standing, gone, bare, marks_in, links_in, unmarked_row};
 
+use crate::heap::MOST_OBJECTS;
+use joint_model::list_with_room;
 use slab::Slab;
 use std::alloc::{AllocError, Global};
 use std::marker::Model;
@@ -53,15 +55,17 @@ impl Model for Rows {
 }
 
 impl Rows {
-    /// No row was made.
+    /// No row was made. There is room for all rows of a heap where there is memory for it.
     pub(crate) fn new(alloc: Global) -> Rows
         ensures { result ≡ [] }
     {
+        let mut slab = Slab::new(alloc);
+        let _ = slab.reserve(MOST_OBJECTS);
         Rows {
-            places: Vec::new(alloc),
-            slab: Slab::new(alloc),
-            marks: Vec::new(alloc),
-            links: Vec::new(alloc),
+            places: list_with_room(alloc, MOST_OBJECTS),
+            slab,
+            marks: list_with_room(alloc, MOST_OBJECTS),
+            links: list_with_room(alloc, MOST_OBJECTS),
         }
     }
 
