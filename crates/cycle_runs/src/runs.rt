@@ -22,11 +22,11 @@ use std::sync::Wait;
 use std::test::Fail;
 
 // What is done, and what that answers.
-type Row = (Call, Reply);
+type Row = (CycleCall, Reply);
 
 // What m1 and the driver do, in short: variables stand by their numbers, and all that has a field has one.
 #[derive(Clone, Copy)]
-enum Call {
+enum CycleCall {
     // lines of m1
     Bridge(u8),
     Set(u8, u8),
@@ -44,30 +44,30 @@ enum Call {
     Now,
 }
 
-impl Call {
+impl CycleCall {
     // The line of m1; None where it is another call, or one of no line.
     fn of_m1(self) -> Option<Act>
         ensures { IfSome result (λ a. IsLine (M 1) a) }
     {
         match self {
-            Call::Bridge(v) if v < 8 => Some(Act::Bridge {
+            CycleCall::Bridge(v) if v < 8 => Some(Act::Bridge {
                 v: Var(v),
                 kind: Kind::Bridge,
                 fields: 1,
                 sort: Sort::User,
                 peer_fields: 1,
             }),
-            Call::Set(v, w) if v < 8 && w < 8 => Some(Act::Set {
+            CycleCall::Set(v, w) if v < 8 && w < 8 => Some(Act::Set {
                 v: Var(v),
                 i: 0,
                 w: Some(Var(w)),
             }),
-            Call::Drop(v) if v < 8 => Some(Act::Drop { v: Var(v) }),
-            Call::Weak(v) if v < 8 => Some(Act::Weak {
+            CycleCall::Drop(v) if v < 8 => Some(Act::Drop { v: Var(v) }),
+            CycleCall::Weak(v) if v < 8 => Some(Act::Weak {
                 k: Cell(0),
                 v: Var(v),
             }),
-            Call::Read => Some(Act::Read { k: Cell(0) }),
+            CycleCall::Read => Some(Act::Read { k: Cell(0) }),
             _ => None,
         }
     }
@@ -77,8 +77,8 @@ impl Call {
         ensures { IfSome result (λ a. IsLine C a) }
     {
         match self {
-            Call::Line(word) => Some(Act::PhaseLine { word }),
-            Call::Finalise(n) if 1 <= n && n <= 65535 => Some(Act::Finalise { n }),
+            CycleCall::Line(word) => Some(Act::PhaseLine { word }),
+            CycleCall::Finalise(n) if 1 <= n && n <= 65535 => Some(Act::Finalise { n }),
             _ => None,
         }
     }
@@ -86,13 +86,13 @@ impl Call {
 
 // A shared bridge with a managed thread and the driver, both on the first line.
 #[derive(Drop)]
-struct Driven<N: OrderName> {
+struct DrivenBridge<N: OrderName> {
     shared: Shared<N>,
     one: Caller<N>,
     driver: Driver<N>,
 }
 
-impl<N: OrderName> Model for Driven<N> {
+impl<N: OrderName> Model for DrivenBridge<N> {
     ghost use Rattle.std.specs.Prelude.{◌≡◌, ◌≤◌};
     ghost use Rattle.joint_model.specs.declared.names.Phase.{Phase};
     ghost use Rattle.joint_model.specs.declared.names.Thread.TheVariants.{M};
@@ -130,9 +130,9 @@ fn run<N: OrderName>(
     }
 }
 
-impl<N: OrderName> Driven<N> {
+impl<N: OrderName> DrivenBridge<N> {
     // The answer to a line of m1.
-    fn managed(&mut self, rt: &impl Wait, call: Call) -> Result<Option<Reply>, AllocError> {
+    fn managed(&mut self, rt: &impl Wait, call: CycleCall) -> Result<Option<Reply>, AllocError> {
         let Some(act) = call.of_m1() else {
             return Ok(None);
         };
@@ -145,7 +145,7 @@ impl<N: OrderName> Driven<N> {
         &mut self,
         rt: &impl Wait,
         alloc: Global,
-        call: Call,
+        call: CycleCall,
     ) -> Result<Option<Reply>, AllocError> {
         let Some(act) = call.of_c() else {
             return Ok(None);
@@ -180,13 +180,13 @@ impl<N: OrderName> Driven<N> {
         &mut self,
         rt: &impl Wait,
         alloc: Global,
-        call: Call,
+        call: CycleCall,
     ) -> Result<Option<Reply>, AllocError> {
         match call {
-            Call::Line(_) | Call::Finalise(_) => self.line(rt, alloc, call),
-            Call::Phase(word) => Ok(Some(self.phase(rt, alloc, word)?)),
-            Call::End => Ok(Some(self.end(rt, alloc)?)),
-            Call::Now => Ok(Some(At(self.driver.phase()))),
+            CycleCall::Line(_) | CycleCall::Finalise(_) => self.line(rt, alloc, call),
+            CycleCall::Phase(word) => Ok(Some(self.phase(rt, alloc, word)?)),
+            CycleCall::End => Ok(Some(self.end(rt, alloc)?)),
+            CycleCall::Now => Ok(Some(At(self.driver.phase()))),
             _ => self.managed(rt, call),
         }
     }
@@ -213,7 +213,7 @@ fn start<N: OrderName>(
     alloc: Global,
     order: Order,
     seat: Seat,
-) -> Result<Option<Driven<N>>, AllocError>
+) -> Result<Option<DrivenBridge<N>>, AllocError>
     requires order { order ≡ N.order }
     requires run { (N.managed ≡ 1) × (N.peers ≡ 1) }
     requires seat { (seat.order ≡ N.order) × OwnsAll seat.view × KnowsNothing seat.view }
@@ -226,7 +226,7 @@ fn start<N: OrderName>(
         return Ok(None);
     };
     let driver = Driver::new(caller);
-    Ok(Some(Driven {
+    Ok(Some(DrivenBridge {
         shared,
         one,
         driver,
@@ -259,92 +259,92 @@ fn play(rt: &impl Wait, alloc: Global, rows: &[Row]) -> Result<Option<Option<usi
 
 // Each phase runs where it is due and is refused elsewhere; the driver's own calls make no entry of a refusal.
 const PHASES: [Row; 26] = [
-    (Call::Phase(PhaseWord::Sweep), At(Phase::Idle)),
-    (Call::Phase(PhaseWord::Snap), Reply::Ok),
-    (Call::Phase(PhaseWord::Snap), CycleOpen(Cycle(1))),
-    (Call::Phase(PhaseWord::Contract), Reply::Ok),
-    (Call::Now, At(Phase::Contracted)),
-    (Call::Phase(PhaseWord::Contract), At(Phase::Contracted)),
-    (Call::Phase(PhaseWord::Mirror), Reply::Ok),
-    (Call::Phase(PhaseWord::Mirror), At(Phase::Mirrored)),
-    (Call::Phase(PhaseWord::Weaken), Reply::Ok),
-    (Call::Phase(PhaseWord::Weaken), At(Phase::Weakened)),
-    (Call::Phase(PhaseWord::Mark), Reply::Ok),
-    (Call::Phase(PhaseWord::Mark), At(Phase::Marked)),
-    (Call::Phase(PhaseWord::Sweep), Reply::Ok),
-    (Call::Phase(PhaseWord::Resolve), At(Phase::Swept)),
-    (Call::Phase(PhaseWord::Restore), Reply::Ok),
-    (Call::Phase(PhaseWord::Restore), At(Phase::Restored)),
-    (Call::Phase(PhaseWord::Cycle), CycleOpen(Cycle(1))),
-    (Call::Phase(PhaseWord::Resolve), Reply::Ok),
-    (Call::Now, At(Phase::Idle)),
-    (Call::Phase(PhaseWord::Cycle), Reply::Ok),
-    (Call::Now, At(Phase::Idle)),
-    (Call::End, Reply::Ok),
-    (Call::Phase(PhaseWord::Snap), Reply::Ok),
-    (Call::Phase(PhaseWord::Cycle), CycleOpen(Cycle(3))),
-    (Call::End, Reply::Ok),
-    (Call::Now, At(Phase::Idle)),
+    (CycleCall::Phase(PhaseWord::Sweep), At(Phase::Idle)),
+    (CycleCall::Phase(PhaseWord::Snap), Reply::Ok),
+    (CycleCall::Phase(PhaseWord::Snap), CycleOpen(Cycle(1))),
+    (CycleCall::Phase(PhaseWord::Contract), Reply::Ok),
+    (CycleCall::Now, At(Phase::Contracted)),
+    (CycleCall::Phase(PhaseWord::Contract), At(Phase::Contracted)),
+    (CycleCall::Phase(PhaseWord::Mirror), Reply::Ok),
+    (CycleCall::Phase(PhaseWord::Mirror), At(Phase::Mirrored)),
+    (CycleCall::Phase(PhaseWord::Weaken), Reply::Ok),
+    (CycleCall::Phase(PhaseWord::Weaken), At(Phase::Weakened)),
+    (CycleCall::Phase(PhaseWord::Mark), Reply::Ok),
+    (CycleCall::Phase(PhaseWord::Mark), At(Phase::Marked)),
+    (CycleCall::Phase(PhaseWord::Sweep), Reply::Ok),
+    (CycleCall::Phase(PhaseWord::Resolve), At(Phase::Swept)),
+    (CycleCall::Phase(PhaseWord::Restore), Reply::Ok),
+    (CycleCall::Phase(PhaseWord::Restore), At(Phase::Restored)),
+    (CycleCall::Phase(PhaseWord::Cycle), CycleOpen(Cycle(1))),
+    (CycleCall::Phase(PhaseWord::Resolve), Reply::Ok),
+    (CycleCall::Now, At(Phase::Idle)),
+    (CycleCall::Phase(PhaseWord::Cycle), Reply::Ok),
+    (CycleCall::Now, At(Phase::Idle)),
+    (CycleCall::End, Reply::Ok),
+    (CycleCall::Phase(PhaseWord::Snap), Reply::Ok),
+    (CycleCall::Phase(PhaseWord::Cycle), CycleOpen(Cycle(3))),
+    (CycleCall::End, Reply::Ok),
+    (CycleCall::Now, At(Phase::Idle)),
 ];
 
 // A linked pair that is dropped: the first cycle phase by phase, with a word that isn't due, and a second at once.
 const PAIR: [Row; 16] = [
-    (Call::Bridge(0), M(MNum(1))),
-    (Call::Bridge(1), M(MNum(2))),
-    (Call::Set(0, 1), Reply::Ok),
-    (Call::Drop(0), Reply::Ok),
-    (Call::Drop(1), Reply::Ok),
+    (CycleCall::Bridge(0), M(MNum(1))),
+    (CycleCall::Bridge(1), M(MNum(2))),
+    (CycleCall::Set(0, 1), Reply::Ok),
+    (CycleCall::Drop(0), Reply::Ok),
+    (CycleCall::Drop(1), Reply::Ok),
     (
-        Call::Line(PhaseWord::Snap),
+        CycleCall::Line(PhaseWord::Snap),
         Snapped(2, Span { first: 0, count: 0 }),
     ),
-    (Call::Line(PhaseWord::Contract), Sccs(2, 1)),
-    (Call::Line(PhaseWord::Mirror), Refs(1)),
-    (Call::Line(PhaseWord::Resolve), At(Phase::Mirrored)),
-    (Call::Line(PhaseWord::Weaken), Reply::Ok),
-    (Call::Line(PhaseWord::Mark), Mark(Marking(1))),
+    (CycleCall::Line(PhaseWord::Contract), Sccs(2, 1)),
+    (CycleCall::Line(PhaseWord::Mirror), Refs(1)),
+    (CycleCall::Line(PhaseWord::Resolve), At(Phase::Mirrored)),
+    (CycleCall::Line(PhaseWord::Weaken), Reply::Ok),
+    (CycleCall::Line(PhaseWord::Mark), Mark(Marking(1))),
     (
-        Call::Line(PhaseWord::Sweep),
+        CycleCall::Line(PhaseWord::Sweep),
         Swept(Marking(1), Span { first: 0, count: 2 }),
     ),
-    (Call::Line(PhaseWord::Restore), Reply::Ok),
+    (CycleCall::Line(PhaseWord::Restore), Reply::Ok),
     (
-        Call::Line(PhaseWord::Resolve),
+        CycleCall::Line(PhaseWord::Resolve),
         Freed(Span { first: 0, count: 2 }),
     ),
     (
-        Call::Line(PhaseWord::Cycle),
+        CycleCall::Line(PhaseWord::Cycle),
         Freed(Span { first: 2, count: 0 }),
     ),
-    (Call::Finalise(9), Took(Span { first: 0, count: 2 })),
+    (CycleCall::Finalise(9), Took(Span { first: 0, count: 2 })),
 ];
 
 // A circle is mirrored by two references. A cell is read while the cycle is open, and once it is closed.
 const CIRCLE: [Row; 18] = [
-    (Call::Bridge(0), M(MNum(1))),
-    (Call::Bridge(1), M(MNum(2))),
-    (Call::Set(0, 1), Reply::Ok),
-    (Call::Set(1, 0), Reply::Ok),
-    (Call::Weak(0), Reply::Ok),
-    (Call::Drop(0), Reply::Ok),
+    (CycleCall::Bridge(0), M(MNum(1))),
+    (CycleCall::Bridge(1), M(MNum(2))),
+    (CycleCall::Set(0, 1), Reply::Ok),
+    (CycleCall::Set(1, 0), Reply::Ok),
+    (CycleCall::Weak(0), Reply::Ok),
+    (CycleCall::Drop(0), Reply::Ok),
     (
-        Call::Line(PhaseWord::Cycle),
+        CycleCall::Line(PhaseWord::Cycle),
         Freed(Span { first: 0, count: 0 }),
     ),
-    (Call::Drop(1), Reply::Ok),
+    (CycleCall::Drop(1), Reply::Ok),
     (
-        Call::Line(PhaseWord::Snap),
+        CycleCall::Line(PhaseWord::Snap),
         Snapped(2, Span { first: 0, count: 0 }),
     ),
-    (Call::Read, Pending(Cycle(2))),
-    (Call::Line(PhaseWord::Snap), CycleOpen(Cycle(2))),
-    (Call::Line(PhaseWord::Contract), Sccs(1, 0)),
-    (Call::Line(PhaseWord::Mirror), Refs(2)),
-    (Call::Phase(PhaseWord::Weaken), Reply::Ok),
-    (Call::End, Reply::Ok),
-    (Call::Read, Gone),
-    (Call::Finalise(1), Took(Span { first: 0, count: 1 })),
-    (Call::Finalise(9), Took(Span { first: 1, count: 1 })),
+    (CycleCall::Read, Pending(Cycle(2))),
+    (CycleCall::Line(PhaseWord::Snap), CycleOpen(Cycle(2))),
+    (CycleCall::Line(PhaseWord::Contract), Sccs(1, 0)),
+    (CycleCall::Line(PhaseWord::Mirror), Refs(2)),
+    (CycleCall::Phase(PhaseWord::Weaken), Reply::Ok),
+    (CycleCall::End, Reply::Ok),
+    (CycleCall::Read, Gone),
+    (CycleCall::Finalise(1), Took(Span { first: 0, count: 1 })),
+    (CycleCall::Finalise(9), Took(Span { first: 1, count: 1 })),
 ];
 
 #[test]
