@@ -14,7 +14,7 @@ use std::sync::Wait;
 
 impl<N: OrderName> Driver<N> {
     /// Begins the cycle's own marking; the phase is the one for it.
-    pub(crate) fn begin_marking(&mut self, rt: &impl Wait, shared: &Shared<N>, index: u32) -> Reply
+    pub(crate) fn begin_marking(&mut self, rt: &impl Wait, shared: &Shared<N>, index: u16) -> Reply
         requires phase { self.old.phase ≡ at.Weakened }
         requires index { line_of self.old ≤ index }
         ensures index { line_of self.new ≤ index }
@@ -26,7 +26,7 @@ impl<N: OrderName> Driver<N> {
     }
 
     /// Ends the cycle's own marking; the phase is the one for it.
-    pub(crate) fn end_marking(&mut self, rt: &impl Wait, shared: &Shared<N>, index: u32) -> Reply
+    pub(crate) fn end_marking(&mut self, rt: &impl Wait, shared: &Shared<N>, index: u16) -> Reply
         requires phase { self.old.phase ≡ at.Marked }
         requires index { line_of self.old ≤ index }
         ensures index { line_of self.new ≤ index }
@@ -38,7 +38,7 @@ impl<N: OrderName> Driver<N> {
     }
 
     /// Resolves the cycle; the phase is the one for it.
-    pub(crate) fn end_cycle(&mut self, rt: &impl Wait, shared: &Shared<N>, index: u32) -> Reply
+    pub(crate) fn end_cycle(&mut self, rt: &impl Wait, shared: &Shared<N>, index: u16) -> Reply
         requires phase { self.old.phase ≡ at.Restored }
         requires index { line_of self.old ≤ index }
         ensures index { line_of self.new ≤ index }
@@ -62,7 +62,7 @@ impl<N: OrderName> Driver<N> {
         rt: &impl Wait,
         alloc: Global,
         shared: &Shared<N>,
-        index: u32,
+        index: u16,
     ) -> Result<(), DriverFault>
         requires index { line_of self.old ≤ index }
         ensures index { line_of self.new ≤ index }
@@ -85,7 +85,7 @@ impl<N: OrderName> Driver<N> {
         rt: &impl Wait,
         alloc: Global,
         shared: &Shared<N>,
-        index: u32,
+        index: u16,
     ) -> Result<(), DriverFault>
         requires index { line_of self.old ≤ index }
         ensures index { line_of self.new ≤ index }
@@ -108,7 +108,7 @@ impl<N: OrderName> Driver<N> {
         rt: &impl Wait,
         alloc: Global,
         shared: &Shared<N>,
-        index: u32,
+        index: u16,
     ) -> Result<(), DriverFault>
         requires index { line_of self.old ≤ index }
         ensures index { line_of self.new ≤ index }

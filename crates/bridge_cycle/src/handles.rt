@@ -22,7 +22,7 @@ fn weaken_all<N: OrderName>(
     rt: &impl Wait,
     shared: &Shared<N>,
     driver: &mut Caller<N>,
-    index: u32,
+    index: u16,
     snap: u64,
     graph: &DeadGraph,
 )
@@ -43,7 +43,7 @@ fn restore_all<N: OrderName>(
     rt: &impl Wait,
     shared: &Shared<N>,
     driver: &mut Caller<N>,
-    index: u32,
+    index: u16,
     graph: &DeadGraph,
     alive: &mut Alive,
 )
@@ -64,7 +64,7 @@ fn restore_all<N: OrderName>(
 
 impl<N: OrderName> Driver<N> {
     /// Weakens all handles; the phase is the one for it.
-    pub(crate) fn weaken_handles(&mut self, rt: &impl Wait, shared: &Shared<N>, index: u32) -> Reply
+    pub(crate) fn weaken_handles(&mut self, rt: &impl Wait, shared: &Shared<N>, index: u16) -> Reply
         requires phase { self.old.phase ≡ at.Mirrored }
         requires index { line_of self.old ≤ index }
         ensures index { line_of self.new ≤ index }
@@ -90,7 +90,7 @@ impl<N: OrderName> Driver<N> {
         &mut self,
         rt: &impl Wait,
         shared: &Shared<N>,
-        index: u32,
+        index: u16,
     ) -> Reply
         requires phase { self.old.phase ≡ at.Swept }
         requires index { line_of self.old ≤ index }
@@ -115,7 +115,7 @@ impl<N: OrderName> Driver<N> {
         rt: &impl Wait,
         alloc: Global,
         shared: &Shared<N>,
-        index: u32,
+        index: u16,
     ) -> Result<(), DriverFault>
         requires index { line_of self.old ≤ index }
         ensures index { line_of self.new ≤ index }
@@ -139,7 +139,7 @@ impl<N: OrderName> Driver<N> {
         rt: &impl Wait,
         alloc: Global,
         shared: &Shared<N>,
-        index: u32,
+        index: u16,
     ) -> Result<(), DriverFault>
         requires index { line_of self.old ≤ index }
         ensures index { line_of self.new ≤ index }

@@ -27,7 +27,7 @@ impl<N: OrderName> Driver<N> {
         &mut self,
         rt: &impl Wait,
         shared: &Shared<N>,
-        index: u32,
+        index: u16,
     ) -> Result<Reply, AllocError>
         requires phase { self.old.phase ≡ at.Idle }
         requires index { line_of self.old ≤ index }
@@ -53,7 +53,7 @@ impl<N: OrderName> Driver<N> {
         rt: &impl Wait,
         alloc: Global,
         shared: &Shared<N>,
-        index: u32,
+        index: u16,
     ) -> Result<Reply, AllocError>
         requires phase { self.old.phase ≡ at.Snapped }
         requires index { line_of self.old ≤ index }
@@ -80,7 +80,7 @@ impl<N: OrderName> Driver<N> {
         &mut self,
         rt: &impl Wait,
         shared: &Shared<N>,
-        index: u32,
+        index: u16,
     ) -> Result<Reply, AllocError>
         requires phase { self.old.phase ≡ at.Contracted }
         requires index { line_of self.old ≤ index }
@@ -114,7 +114,7 @@ impl<N: OrderName> Driver<N> {
         rt: &impl Wait,
         alloc: Global,
         shared: &Shared<N>,
-        index: u32,
+        index: u16,
     ) -> Result<(), DriverFault>
         requires index { line_of self.old ≤ index }
         ensures index { line_of self.new ≤ index }
@@ -140,7 +140,7 @@ impl<N: OrderName> Driver<N> {
         rt: &impl Wait,
         alloc: Global,
         shared: &Shared<N>,
-        index: u32,
+        index: u16,
     ) -> Result<(), DriverFault>
         requires index { line_of self.old ≤ index }
         ensures index { line_of self.new ≤ index }
@@ -165,7 +165,7 @@ impl<N: OrderName> Driver<N> {
         rt: &impl Wait,
         alloc: Global,
         shared: &Shared<N>,
-        index: u32,
+        index: u16,
     ) -> Result<(), DriverFault>
         requires index { line_of self.old ≤ index }
         ensures index { line_of self.new ≤ index }

@@ -69,7 +69,7 @@ asks (op.Line (act.Global g v)) = true
 asks (op.Line (act.WGlobal g v)) = true
 asks (op.Make sort n) = true
 asks (op.Adopt v k n p h) = true
-asks (op.Meet v p h sort n) = true
+asks (op.Meet v sort n p h) = true
 asks (op.Grip x) = true
 asks _ = false
 
@@ -83,7 +83,7 @@ one_small false = omega arith
 managed-asks : (o : Op) (r : Reply) → one (makes_managed o r) ≤ one (asks o)
 managed-asks (op.Line (act.New v k n)) r = one_small _
 managed-asks (op.Adopt v k n p h) r = one_small _
-managed-asks (op.Meet v p h sort n) r = one_small _
+managed-asks (op.Meet v sort n p h) r = one_small _
 managed-asks _ r = omega arith
 
 peers-ask : (o : Op) (r : Reply) → one (makes_peer o r) ≤ one (asks o)

@@ -17,7 +17,7 @@ use peer_side::PeerSide;
 /// Restores a handle that was weakened in the mirrored cycle. Exactly where it is cleared it leaves the table, which is `Cleared`; else it is strong
 /// again, and its peer is brought back: while a marking is open it is marked, with all that it reaches. One entry is drawn and put last. It takes no
 /// memory, and changes no peer.
-pub fn restore_one<D: Draw>(side: &mut PeerSide, draw: &mut D, index: u32, h: HNum) -> Back
+pub fn restore_one<D: Draw>(side: &mut PeerSide, draw: &mut D, index: u16, h: HNum) -> Back
     requires restores { MayRestore side.old.state h.0 }
     requires may { MayDraw peer_rules (record { floor = D.floor; left = D.left; may = D.may; drew = D.drew }) draw.old (seen side.old) Thread.C (Op.Restore h) }
     ensures adds { AddsLawful peer_rules (record { floor = D.floor; left = D.left; may = D.may; drew = D.drew }) draw.old draw.new (seen side.old) (seen side.new) (restores index h result) nothing }
@@ -33,7 +33,7 @@ pub fn restore_one<D: Draw>(side: &mut PeerSide, draw: &mut D, index: u32, h: HN
 pub fn restore_all<D: Draw>(
     side: &mut PeerSide,
     draw: &mut D,
-    index: u32,
+    index: u16,
     graph: &DeadGraph,
     alive: &mut Alive,
 )

@@ -260,7 +260,7 @@ pub fn add_head(line: &mut Line, entry: &Entry, counts: &mut Counts)
 }
 
 // Who made an entry, and on which line of the script.
-fn add_place(line: &mut Line, thread: Thread, index: u32, count: &mut Count)
+fn add_place(line: &mut Line, thread: Thread, index: u16, count: &mut Count)
     requires { 50 ≤ line.old.room }
     ensures { AddsWords line.old line.new (place_text thread index ∷ []) 50 }
 {

@@ -22,7 +22,7 @@ pub(crate) fn managed<N: OrderName>(
     rt: &impl Wait,
     shared: &Shared<N>,
     caller: &mut Caller<N>,
-    index: u32,
+    index: u16,
     act: &Act,
 ) -> Result<Reply, AllocError>
     requires thread { caller.old.thread ≡ M 1 }
@@ -39,7 +39,7 @@ fn peer<N: OrderName>(
     rt: &impl Wait,
     shared: &Shared<N>,
     caller: &mut Caller<N>,
-    index: u32,
+    index: u16,
     act: &Act,
 ) -> Result<Reply, AllocError>
     requires thread { caller.old.thread ≡ P 1 }

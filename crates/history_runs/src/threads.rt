@@ -23,10 +23,10 @@ use std::thread;
 use std::thread::Threads;
 
 // After how many operations a thread's table begins anew.
-const ROUND: u32 = 20;
+const ROUND: u16 = 20;
 
 // What managed thread `n` does at a place of its table.
-fn managed_act(n: u8, place: u32) -> Act
+fn managed_act(n: u8, place: u16) -> Act
     requires { n ≤ 8 }
     ensures { IsManagedAct result }
 {
@@ -71,7 +71,7 @@ fn managed_act(n: u8, place: u32) -> Act
 }
 
 // What peer thread `n` does at a place of its table.
-fn peer_act(n: u8, place: u32) -> Act
+fn peer_act(n: u8, place: u16) -> Act
     requires { n ≤ 8 }
     ensures peer { IsPeerAct result }
     ensures built { IsPeerOperation result }
@@ -107,7 +107,7 @@ fn peer_act(n: u8, place: u32) -> Act
 }
 
 // Makes the operation of a line. One that finds no memory is seen in the history.
-fn make_line<N: OrderName>(rt: &impl Wait, shared: &Shared<N>, caller: &mut Caller<N>, index: u32)
+fn make_line<N: OrderName>(rt: &impl Wait, shared: &Shared<N>, caller: &mut Caller<N>, index: u16)
     requires thread { IsOwnThread caller.old.thread }
     requires index { last_index (own caller.old) ≤ index }
     ensures thread { caller.new.thread ≡ caller.old.thread }
@@ -125,7 +125,7 @@ fn make_lines<N: OrderName>(
     rt: &impl Wait,
     shared: &Shared<N>,
     caller: Caller<N>,
-    lines: u32,
+    lines: u16,
 ) -> Caller<N>
     requires { IsStarting caller }
     ensures { result.thread ≡ caller.thread }
@@ -142,7 +142,7 @@ fn make_all<N: OrderName + Send + Sync, R: Threads + Wait + Sync>(
     rt: &R,
     shared: &Shared<N>,
     callers: Vec<Caller<N>>,
-    lines: u32,
+    lines: u16,
 ) -> Result<Vec<Caller<N>>, AllocError>
     requires { All IsStarting callers.items }
     ensures len { IfOk result (λ v. vec_len v ≡ vec_len callers) }
@@ -192,7 +192,7 @@ fn run<N: OrderName + Send + Sync, R: Threads + Wait + Sync>(
     alloc: Global,
     order: Order,
     seat: Seat,
-    lines: u32,
+    lines: u16,
 ) -> Result<History, AllocError>
     requires order { order ≡ N.order }
     requires run { (N.managed ≡ 2) × (N.peers ≡ 2) }
@@ -208,7 +208,7 @@ fn run<N: OrderName + Send + Sync, R: Threads + Wait + Sync>(
 #[derive(Clone, Copy)]
 struct SeenOfThread {
     entries: u32,
-    line: u32,
+    line: u16,
     in_order: bool,
 }
 

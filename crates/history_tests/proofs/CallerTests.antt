@@ -40,7 +40,7 @@ lands (lent n line h x) l (op.Land h' x') cites = and4 (same_numbers cites (Some
 lands _ l o cites = never (λ z. z)
 
 meets : (d : Doing) (l : ℕ) (o : Op) (cites : Option ℕ) → Tells (may_meet d l o cites) (MayMeet d l o cites)
-meets (gripped n line p h sort f) l (op.Meet v p' h' sort' f') cites = and6 (same_numbers cites (Some n)) (same l line) (same p'.0 p) (same h'.0 h) (sorts sort' sort) (same f' f)
+meets (gripped n line p h sort f) l (op.Meet v sort' f' p' h') cites = and6 (same_numbers cites (Some n)) (same l line) (same p'.0 p) (same h'.0 h) (sorts sort' sort) (same f' f)
 meets _ l o cites = never (λ z. z)
 
 releases : (d : Doing) (l h' : ℕ) (cites : Option ℕ) → Tells (may_release d l h' cites) (MayRelease d l h' cites)
@@ -51,7 +51,7 @@ releases _ l h' cites = never (λ z. z)
 pub thread : (d : Doing) (t : Thread) (l : ℕ) (o : Op) (cites : Option ℕ) → Tells (thread_allows d t l o cites) (ThreadAllows d t l o cites)
 thread d t l (op.Adopt v kind k p h) cites = adopts d t l (op.Adopt v kind k p h) cites
 thread d t l (op.Land h x) cites = lands d l (op.Land h x) cites
-thread d t l (op.Meet v p h sort f) cites = meets d l (op.Meet v p h sort f) cites
+thread d t l (op.Meet v sort f p h) cites = meets d l (op.Meet v sort f p h) cites
 thread d t l (op.Release h) cites = releases d l h.0 cites
 thread d t l _ cites = starts d cites
 

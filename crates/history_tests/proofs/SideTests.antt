@@ -53,7 +53,7 @@ pub managed : (s : ManagedReplay) (o : Op) (told : Told) → Tells (managed_allo
 managed s (op.Line a) nothing = always tt
 managed s (op.Adopt v kind n p h) nothing = isn't (member nat_eq same s.adopted h.0)
 managed s (op.Lend v x) nothing = always tt
-managed s (op.Meet v p h sort n) nothing = isn't (member nat_eq same s.adopted h.0)
+managed s (op.Meet v sort n p h) nothing = isn't (member nat_eq same s.adopted h.0)
 managed s (op.Give v) nothing = always tt
 managed s (op.Snap k) (snap_of freed candidates dead) = snapshot s.managed k.0 freed candidates dead
 managed s (op.Contract k) (contraction_of comps xrefs) = contracts s k.0 comps xrefs

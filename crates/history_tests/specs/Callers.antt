@@ -37,7 +37,7 @@ may_land (lent n line h x) l (op.Land h' x') cites = same_number cites (Some n) 
 may_land _ l o cites = false
 
 abbrev pub may_meet : Doing → ℕ → Op → Option ℕ → Bool
-may_meet (gripped n line p h sort f) l (op.Meet v p' h' sort' f') cites = same_number cites (Some n) && nat_eq l line && nat_eq p'.0 p && nat_eq h'.0 h && same_sort sort' sort && nat_eq f' f
+may_meet (gripped n line p h sort f) l (op.Meet v sort' f' p' h') cites = same_number cites (Some n) && nat_eq l line && nat_eq p'.0 p && nat_eq h'.0 h && same_sort sort' sort && nat_eq f' f
 may_meet _ l o cites = false
 
 abbrev pub may_release : Doing → ℕ → ℕ → Option ℕ → Bool
@@ -49,7 +49,7 @@ may_release _ l h' cites = false
 abbrev pub thread_allows : Doing → Thread → ℕ → Op → Option ℕ → Bool
 thread_allows d t l (op.Adopt v kind k p h) cites = may_adopt d t l (op.Adopt v kind k p h) cites
 thread_allows d t l (op.Land h x) cites = may_land d l (op.Land h x) cites
-thread_allows d t l (op.Meet v p h sort f) cites = may_meet d l (op.Meet v p h sort f) cites
+thread_allows d t l (op.Meet v sort f p h) cites = may_meet d l (op.Meet v sort f p h) cites
 thread_allows d t l (op.Release h) cites = may_release d l h.0 cites
 thread_allows d t l _ cites = may_start d cites
 

@@ -40,7 +40,7 @@ abbrev pub managed_allows : ManagedReplay → Op → Told → Bool
 managed_allows s (op.Line a) nothing = true
 managed_allows s (op.Adopt v kind n p h) nothing = not (has s.adopted h.0)
 managed_allows s (op.Lend v x) nothing = true
-managed_allows s (op.Meet v p h sort n) nothing = not (has s.adopted h.0)
+managed_allows s (op.Meet v sort n p h) nothing = not (has s.adopted h.0)
 managed_allows s (op.Give v) nothing = true
 managed_allows s (op.Snap k) (snap_of freed candidates dead) = is_snapshot s.managed k.0 freed candidates dead
 managed_allows s (op.Contract k) (contraction_of comps xrefs) = may_contract s k.0 comps xrefs

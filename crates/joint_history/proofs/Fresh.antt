@@ -35,7 +35,7 @@ adopt_fresh s kept t line (gripped n l p' h' sort f) v kind k p h cites e w c = 
 adopt_fresh s kept t line (given n l h') v kind k p h cites e w c = w
 adopt_fresh s kept t line (met n l h') v kind k p h cites e w c = w
 
-meet_fresh : (s : Linkage) → IsPastKept s → (t line : ℕ) (d : Doing) (v : Var) (p : PNum) (h : HNum) (sort : Sort) (k : ℕ) (cites : Option ℕ) → doing_at s.control t ≡ d → ThreadAllows d (M t) line (op.Meet v p h sort k) cites → Contains s.managed.adopted h.0 → ⊥
+meet_fresh : (s : Linkage) → IsPastKept s → (t line : ℕ) (d : Doing) (v : Var) (p : PNum) (h : HNum) (sort : Sort) (k : ℕ) (cites : Option ℕ) → doing_at s.control t ≡ d → ThreadAllows d (M t) line (op.Meet v sort k p h) cites → Contains s.managed.adopted h.0 → ⊥
 meet_fresh s kept t line free v p h sort k cites e w c = w
 meet_fresh s kept t line (made n l p' h' sort' f) v p h sort k cites e w c = w
 meet_fresh s kept t line (lent n l h' x) v p h sort k cites e w c = w
@@ -45,7 +45,7 @@ meet_fresh s kept t line (met n l h') v p h sort k cites e w c = w
 
 pub turn_is_fresh : (s : Linkage) → IsPastKept s → (t line : ℕ) (d : Doing) (o : Op) (cites : Option ℕ) → doing_at s.control t ≡ d → ThreadAllows d (M t) line o cites → IsFresh s.managed o
 turn_is_fresh s kept t line d (op.Adopt v kind k p h) cites e w = adopt_fresh s kept t line d v kind k p h cites e w
-turn_is_fresh s kept t line d (op.Meet v p h sort k) cites e w = meet_fresh s kept t line d v p h sort k cites e w
+turn_is_fresh s kept t line d (op.Meet v sort k p h) cites e w = meet_fresh s kept t line d v p h sort k cites e w
 turn_is_fresh s kept t line d o cites e w = tt
 
 -- whoever makes a step with a handle in hand is a managed thread
@@ -55,7 +55,7 @@ step_fresh (P n) s kept line d o cites is e w = others o is.1
   where
     others : (q : Op) → IsStepBy (P n) q → IsFresh s.managed q
     others (op.Adopt v kind k p h) b = absurd b
-    others (op.Meet v p h sort k) b = absurd b
+    others (op.Meet v sort k p h) b = absurd b
     others q b = tt
 step_fresh C s kept line d o cites is e w = absurd w
 

@@ -273,8 +273,8 @@ grips_none num line (op.Lend v y) (says.H g) w = tt
 grips_none num line (op.Lend v y) _ w = tt
 grips_none num line (op.Give v) (says.H g) w = tt
 grips_none num line (op.Give v) _ w = tt
-grips_none num line (op.Meet v q g sort f) (says.New m) w = tt
-grips_none num line (op.Meet v q g sort f) _ w = tt
+grips_none num line (op.Meet v sort f q g) (says.New m) w = tt
+grips_none num line (op.Meet v sort f q g) _ w = tt
 grips_none num line _ reply w = tt
 
 grips_few : (num line : ℕ) (s : Peers) (x : StaticNo) (o : Option ℕ) (reply : Reply) → AreNarrow s.heap → reply ≡ (peer_gripped s o).reply → GripsFew (doing_after num line (op.Grip x) reply)

@@ -150,7 +150,7 @@ second_follows n old new k index (act.Pass v x) (says.H h) o is m e = subst (Fol
   may = then_land n old new k index v x h None nothing m;
   made = record { peer = λ z. (is.0, is.1.1); take = no_take (M n); managed = λ z q. never_managed _ z };
 })
-second_follows n old new k index (act.Surface v x) (says.Gripped p h sort f) o is m e = subst (Follows (M n) new index k) (some-same (op.Meet v p h sort f) o e) (record {
+second_follows n old new k index (act.Surface v x) (says.Gripped p h sort f) o is m e = subst (Follows (M n) new index k) (some-same (op.Meet v sort f p h) o e) (record {
   may = then_meet n old new k index x p h sort f None nothing v m;
   made = record { peer = λ z. never_peer _ z; take = no_take (M n); managed = λ z q. ((is.0, is.1.0, grip_is_narrow n old new k index x p h sort f None nothing m), is.0) };
 })
@@ -176,12 +176,12 @@ second_comes (P n) old new k index a answered o is m e = absurd (peers_have_none
 second_comes C old new k index a answered o is m e = absurd is
 
 -- only a meet has a third event after it
-met_by : (v : Var) (p : PNum) (h : HNum) (sort : Sort) (f : ℕ) (reply : Reply) (third : Op) → third_of (op.Meet v p h sort f) reply ≡ Some third → (op.Release h ≡ third) × ((k index : ℕ) → doing_after k index (op.Meet v p h sort f) reply ≡ met k index h.0)
+met_by : (v : Var) (p : PNum) (h : HNum) (sort : Sort) (f : ℕ) (reply : Reply) (third : Op) → third_of (op.Meet v sort f p h) reply ≡ Some third → (op.Release h ≡ third) × ((k index : ℕ) → doing_after k index (op.Meet v sort f p h) reply ≡ met k index h.0)
 met_by v p h sort f (says.New m) third e = absurd (none_some third e)
 met_by v p h sort f reply third e = (some-same (op.Release h) third e, λ k index. refl)
 
 third_follows : (n : ℕ) (old new : View) (j k index : ℕ) (second : Op) (reply : Reply) (third : Op) → IsManagedThread (M n) → Makes (M n) old new (entry_by (M n) index k second reply (Some j)) nothing → third_of second reply ≡ Some third → Follows (M n) new index k third
-third_follows n old new j k index (op.Meet v p h sort f) reply third is m e =
+third_follows n old new j k index (op.Meet v sort f p h) reply third is m e =
     let w = met_by v p h sort f reply third e in
     subst (Follows (M n) new index k) w.0 (record {
       may = met_then_release n old new k index v p h sort f reply (Some j) nothing m (w.1 k index);
@@ -196,7 +196,7 @@ third_comes C old new j k index a answered second reply third is f m e = absurd 
 
 -- the third event is a release, which takes no memory
 pub third_is_release : (second : Op) (reply : Reply) (third : Op) → third_of second reply ≡ Some third → IsRelease third
-third_is_release (op.Meet v p h sort f) reply third e = subst IsRelease (met_by v p h sort f reply third e).0 tt
+third_is_release (op.Meet v sort f p h) reply third e = subst IsRelease (met_by v p h sort f reply third e).0 tt
 third_is_release second reply third e = absurd (none_some third e)
 
 -- where an operation may end nothing is left to release
@@ -219,7 +219,7 @@ stays_first n k index (act.Dispose v) (says.H h) second e keeps = absurd (keeps 
 stays_first n k index act.Collect answered second e keeps = tt
 stays_first n k index a answered second e keeps = absurd (none_some second e)
 
-met_done : (k index : ℕ) (v : Var) (p : PNum) (h : HNum) (sort : Sort) (f : ℕ) (reply : Reply) → third_of (op.Meet v p h sort f) reply ≡ None → IsDone (doing_after k index (op.Meet v p h sort f) reply)
+met_done : (k index : ℕ) (v : Var) (p : PNum) (h : HNum) (sort : Sort) (f : ℕ) (reply : Reply) → third_of (op.Meet v sort f p h) reply ≡ None → IsDone (doing_after k index (op.Meet v sort f p h) reply)
 met_done k index v p h sort f (says.New m) e = tt
 met_done k index v p h sort f reply e = absurd (none_some (op.Release h) (sym e))
 
@@ -227,7 +227,7 @@ ends_second : (n k index : ℕ) (a : Act) (answered : Reply) (second : Op) (repl
 ends_second n k index (act.Bridge v kind b sort f) (says.Made p h) second reply e ends = subst (λ o. IsDone (doing_after k index o reply)) (some-same (op.Adopt v kind b p h) second e) tt
 ends_second n k index (act.Pass v x) (says.H h) second reply e ends = subst (λ o. IsDone (doing_after k index o reply)) (some-same (op.Land h x) second e) tt
 ends_second n k index (act.Surface v x) (says.Gripped p h sort f) second reply e ends =
-    let is = some-same (op.Meet v p h sort f) second e in
+    let is = some-same (op.Meet v sort f p h) second e in
     subst (λ o. IsDone (doing_after k index o reply)) is (met_done k index v p h sort f reply (subst (λ o. third_of o reply ≡ None) (sym is) ends))
 ends_second n k index (act.Dispose v) (says.H h) second reply e ends = subst (λ o. IsDone (doing_after k index o reply)) (some-same (op.Release h) second e) tt
 ends_second n k index act.Collect (says.Mark j) second reply e ends = subst (λ o. IsDone (doing_after k index o reply)) (some-same op.Sweep second e) tt
@@ -260,7 +260,7 @@ beginner_is_below t v index is b =
 managed_cites : (n : ℕ) (a : Act) (answered : Reply) (second : Op) (first : ℕ) → IsLine (M n) a → second_of a answered ≡ Some second → cited_by second first ≡ Some first
 managed_cites n (act.Bridge v kind b sort f) (says.Made p h) second first is e = subst (λ o. cited_by o first ≡ Some first) (some-same (op.Adopt v kind b p h) second e) refl
 managed_cites n (act.Pass v x) (says.H h) second first is e = subst (λ o. cited_by o first ≡ Some first) (some-same (op.Land h x) second e) refl
-managed_cites n (act.Surface v x) (says.Gripped p h sort f) second first is e = subst (λ o. cited_by o first ≡ Some first) (some-same (op.Meet v p h sort f) second e) refl
+managed_cites n (act.Surface v x) (says.Gripped p h sort f) second first is e = subst (λ o. cited_by o first ≡ Some first) (some-same (op.Meet v sort f p h) second e) refl
 managed_cites n (act.Dispose v) (says.H h) second first is e = subst (λ o. cited_by o first ≡ Some first) (some-same (op.Release h) second e) refl
 managed_cites n act.Collect answered second first is e = absurd is.1
 managed_cites n a answered second first is e = absurd (none_some second e)

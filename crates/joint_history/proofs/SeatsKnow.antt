@@ -111,7 +111,7 @@ peer_cites v a e b n all o c = tt
 
 managed_cites : (v : View) (a : IsKnownView v) (e : Entry) (b : List Noted) (n : ℕ) → ((x : Noted) → InPast b x → InPast a.past x) → (o : Op) → Cites b e.made n o → CitesPeers v e o
 managed_cites v a e b n all (op.Adopt w kind k p h) c = cited_by v 1 a e b n (IsMakeOf e.made.index p h) all (λ m z. make_line e.made.index m p h z) c
-managed_cites v a e b n all (op.Meet w p h sort f) c = cited_by v 1 a e b n (IsGripOf e.made.index p h sort f) all (λ m z. grip_line e.made.index m p h sort f z) c
+managed_cites v a e b n all (op.Meet w sort f p h) c = cited_by v 1 a e b n (IsGripOf e.made.index p h sort f) all (λ m z. grip_line e.made.index m p h sort f z) c
 managed_cites v a e b n all (op.Resolve k) c = cited_by v 1 a e b n (IsClearOf k.0) all (λ m z. clear_line k.0 m z) c
 managed_cites v a e b n all o c = tt
 

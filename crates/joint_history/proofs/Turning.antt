@@ -60,7 +60,7 @@ first_turn (M n) d index o is w f = by o f
     by : (q : Op) → OpensOperation q → IsTurn (M n) d index q None
     by (op.Adopt v kind k p h) g = absurd g
     by (op.Land h x) g = absurd g
-    by (op.Meet v p h sort k) g = absurd g
+    by (op.Meet v sort k p h) g = absurd g
     by (op.Release h) g = absurd g
     by q g = starts d w
 first_turn (P n) d index o is w f = refl
@@ -84,7 +84,7 @@ pub then_land : (n : ℕ) (old new : View) (k index : ℕ) (v : Var) (x : Static
 then_land n old new k index v x h cites told m = record { doing = lent k index h.0 x.0; stands = m.stands; turn = (refl, refl, refl, refl) }
 
 -- a `meet` after its grip
-pub then_meet : (n : ℕ) (old new : View) (k index : ℕ) (x : StaticNo) (p : PNum) (h : HNum) (sort : Sort) (f : ℕ) (cites : Option ℕ) (told : Told) (v : Var) → Makes (M n) old new (numbered k (made_by (M n) index (op.Grip x) (says.Gripped p h sort f) cites)) told → MayMake (M n) new index (op.Meet v p h sort f) (Some k)
+pub then_meet : (n : ℕ) (old new : View) (k index : ℕ) (x : StaticNo) (p : PNum) (h : HNum) (sort : Sort) (f : ℕ) (cites : Option ℕ) (told : Told) (v : Var) → Makes (M n) old new (numbered k (made_by (M n) index (op.Grip x) (says.Gripped p h sort f) cites)) told → MayMake (M n) new index (op.Meet v sort f p h) (Some k)
 then_meet n old new k index x p h sort f cites told v m = record { doing = gripped k index p.0 h.0 sort f; stands = m.stands; turn = (refl, refl, refl, refl, refl, refl) }
 
 -- a `release` after its give
@@ -92,6 +92,6 @@ pub then_release : (n : ℕ) (old new : View) (k index : ℕ) (v : Var) (h : HNu
 then_release n old new k index v h cites told m = record { doing = given k index h.0; stands = m.stands; turn = (refl, refl, refl) }
 
 -- a `release` after a meet that took no handle
-pub met_then_release : (n : ℕ) (old new : View) (k index : ℕ) (v : Var) (p : PNum) (h : HNum) (sort : Sort) (f : ℕ) (reply : Reply) (cites : Option ℕ) (told : Told) → Makes (M n) old new (numbered k (made_by (M n) index (op.Meet v p h sort f) reply cites)) told
-    → doing_from (M n) (numbered k (made_by (M n) index (op.Meet v p h sort f) reply cites)) ≡ met k index h.0 → MayMake (M n) new index (op.Release h) (Some k)
+pub met_then_release : (n : ℕ) (old new : View) (k index : ℕ) (v : Var) (p : PNum) (h : HNum) (sort : Sort) (f : ℕ) (reply : Reply) (cites : Option ℕ) (told : Told) → Makes (M n) old new (numbered k (made_by (M n) index (op.Meet v sort f p h) reply cites)) told
+    → doing_from (M n) (numbered k (made_by (M n) index (op.Meet v sort f p h) reply cites)) ≡ met k index h.0 → MayMake (M n) new index (op.Release h) (Some k)
 met_then_release n old new k index v p h sort f reply cites told m e = record { doing = met k index h.0; stands = subst (Stands (M n) new index) e m.stands; turn = (refl, refl, refl) }

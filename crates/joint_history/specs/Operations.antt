@@ -34,7 +34,7 @@ IsOwnThread C = ⊥
 abbrev pub OpensOperation : Op → Type 0
 OpensOperation (op.Adopt v kind k p h) = ⊥
 OpensOperation (op.Land h x) = ⊥
-OpensOperation (op.Meet v p h sort k) = ⊥
+OpensOperation (op.Meet v sort k p h) = ⊥
 OpensOperation (op.Release h) = ⊥
 OpensOperation o = Unit {0}
 
@@ -74,7 +74,7 @@ first_of a = op.Line a
 abbrev pub second_of : Act → Reply → Option Op
 second_of (act.Bridge v kind n sort f) (says.Made p h) = Some (op.Adopt v kind n p h)
 second_of (act.Pass v x) (says.H h) = Some (op.Land h x)
-second_of (act.Surface v x) (says.Gripped p h sort f) = Some (op.Meet v p h sort f)
+second_of (act.Surface v x) (says.Gripped p h sort f) = Some (op.Meet v sort f p h)
 second_of (act.Dispose v) (says.H h) = Some (op.Release h)
 second_of act.Collect (says.Mark j) = Some op.Sweep
 second_of a reply = None
@@ -86,8 +86,8 @@ cited_by o n = Some n
 
 -- the third event, by the second one and its reply: the release of a handle that a meet didn't take
 abbrev pub third_of : Op → Reply → Option Op
-third_of (op.Meet v p h sort f) (says.New m) = None
-third_of (op.Meet v p h sort f) reply = Some (op.Release h)
+third_of (op.Meet v sort f p h) (says.New m) = None
+third_of (op.Meet v sort f p h) reply = Some (op.Release h)
 third_of o reply = None
 
 -- what an operation of two events answers: the second reply, but for `dispose` that of its give

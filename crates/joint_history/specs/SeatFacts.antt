@@ -40,7 +40,7 @@ CitesManaged v e o = Unit {0}
 -- peer list
 abbrev pub CitesPeers : View → Entry → Op → Type 0
 CitesPeers v e (op.Adopt w kind k p h) = CitesKnown v 1 e (IsMakeOf e.made.index p h)
-CitesPeers v e (op.Meet w p h sort f) = CitesKnown v 1 e (IsGripOf e.made.index p h sort f)
+CitesPeers v e (op.Meet w sort f p h) = CitesKnown v 1 e (IsGripOf e.made.index p h sort f)
 CitesPeers v e (op.Resolve k) = CitesKnown v 1 e (IsClearOf k.0)
 CitesPeers v e o = Unit {0}
 

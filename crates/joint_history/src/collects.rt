@@ -24,7 +24,7 @@ fn collect_by(
     side: &mut PeerSide,
     drawing: &mut SeatDrawing<'_>,
     caller: Thread,
-    index: u32,
+    index: u16,
 ) -> Result<Receipt, AllocError>
     requires role { drawing.old.role ≡ Role.Peer }
     requires thread { IsPeerThread caller }
@@ -57,7 +57,7 @@ fn draw_collect(
     order: &Order,
     seat: &mut Seat,
     caller: Thread,
-    index: u32,
+    index: u16,
 ) -> Result<Receipt, AllocError>
     requires thread { IsPeerThread caller }
     requires takes { TakesPeer side.old.threads caller }
@@ -87,7 +87,7 @@ impl<N: OrderName> LockedPeer<N> {
         order: &Order,
         mine: &mut Seat,
         caller: Thread,
-        index: u32,
+        index: u16,
     ) -> Result<Receipt, AllocError>
         requires order { (order.now ≡ N.order) × (mine.old.order ≡ N.order) }
         requires pass { IsPeerThread caller × HoldsPass caller mine.old.view }

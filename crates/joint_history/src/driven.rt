@@ -31,7 +31,7 @@ fn draw_contraction(
     side: &mut ManagedSide,
     order: &Order,
     seat: &mut Seat,
-    index: u32,
+    index: u16,
     sccs: u32,
     xrefs: u32,
 ) -> u64
@@ -51,7 +51,7 @@ fn draw_contraction(
 }
 
 // The side draws by the seat the entry that abandons its cycle, and the entry's number is answered.
-fn draw_abandon(side: &mut ManagedSide, order: &Order, seat: &mut Seat, index: u32) -> u64
+fn draw_abandon(side: &mut ManagedSide, order: &Order, seat: &mut Seat, index: u16) -> u64
     requires open { IsSome side.old.state.managed.cycle }
     requires may { (c : OpenCycle) → MayAppend order.now seat.old 0 C (abandon_op c) }
     requires entries { line_known seat.old.view 0 ≡ side.old.entries }
@@ -72,7 +72,7 @@ fn draw_resolution(
     side: &mut ManagedSide,
     order: &Order,
     seat: &mut Seat,
-    index: u32,
+    index: u16,
     cites: u64,
     alive: &Alive,
 ) -> (u64, ResolveOut)
@@ -96,7 +96,7 @@ fn draw_refusal(
     side: &mut ManagedSide,
     order: &Order,
     seat: &mut Seat,
-    index: u32,
+    index: u16,
     word: PhaseWord,
     phase: Phase,
 ) -> Result<(u64, Reply), AllocError>
@@ -124,7 +124,7 @@ impl<N: OrderName> LockedManaged<N> {
         &mut self,
         order: &Order,
         mine: &mut Seat,
-        index: u32,
+        index: u16,
         sccs: u32,
         xrefs: u32,
     ) -> u64
@@ -143,7 +143,7 @@ impl<N: OrderName> LockedManaged<N> {
 
     /// Abandons the open cycle, which isn't mirrored yet: nothing is freed. Answers the entry's number. `mine` is the driver's seat, which knows the
     /// entry then. It takes no memory.
-    pub(crate) fn abandon(&mut self, order: &Order, mine: &mut Seat, index: u32) -> u64
+    pub(crate) fn abandon(&mut self, order: &Order, mine: &mut Seat, index: u16) -> u64
         requires order { (order.now ≡ N.order) × (mine.old.order ≡ N.order) }
         requires pass { HoldsPass C mine.old.view }
         requires may { MayAbandonCycle mine.old.view index }
@@ -164,7 +164,7 @@ impl<N: OrderName> LockedManaged<N> {
         &mut self,
         order: &Order,
         mine: &mut Seat,
-        index: u32,
+        index: u16,
         clear: u64,
         alive: &Alive,
     ) -> (u64, ResolveOut)
@@ -188,7 +188,7 @@ impl<N: OrderName> LockedManaged<N> {
         &mut self,
         order: &Order,
         mine: &mut Seat,
-        index: u32,
+        index: u16,
         word: PhaseWord,
         phase: Phase,
     ) -> Result<(u64, Reply), AllocError>
@@ -212,7 +212,7 @@ impl<N: OrderName> LockedManaged<N> {
         &mut self,
         order: &Order,
         mine: &mut Seat,
-        index: u32,
+        index: u16,
         count: u32,
     ) -> Result<(u64, Reply), AllocError>
         requires order { (order.now ≡ N.order) × (mine.old.order ≡ N.order) }

@@ -27,7 +27,7 @@ impl<N: OrderName> Shared<N> {
         &self,
         rt: &impl Wait,
         driver: &mut Caller<N>,
-        index: u32,
+        index: u16,
         sccs: u32,
         xrefs: u32,
     ) -> u64
@@ -42,7 +42,7 @@ impl<N: OrderName> Shared<N> {
     }
 
     /// The driver abandons its open cycle, which isn't mirrored yet: nothing is freed. Answers the entry's number. It takes no memory.
-    pub fn abandon(&self, rt: &impl Wait, driver: &mut Caller<N>, index: u32) -> u64
+    pub fn abandon(&self, rt: &impl Wait, driver: &mut Caller<N>, index: u16) -> u64
         requires driver { IsDriver driver.old.thread }
         requires may { MayAbandonCycle driver.old.view index }
         ensures thread { driver.new.thread ≡ driver.old.thread }
@@ -59,7 +59,7 @@ impl<N: OrderName> Shared<N> {
         &self,
         rt: &impl Wait,
         driver: &mut Caller<N>,
-        index: u32,
+        index: u16,
         clear: u64,
         alive: &Alive,
     ) -> (u64, ResolveOut)
@@ -80,7 +80,7 @@ impl<N: OrderName> Shared<N> {
         &self,
         rt: &impl Wait,
         driver: &mut Caller<N>,
-        index: u32,
+        index: u16,
         word: PhaseWord,
         phase: Phase,
     ) -> Result<(u64, Reply), AllocError>
@@ -101,7 +101,7 @@ impl<N: OrderName> Shared<N> {
         &self,
         rt: &impl Wait,
         driver: &mut Caller<N>,
-        index: u32,
+        index: u16,
         count: u32,
     ) -> Result<(u64, Reply), AllocError>
         requires driver { IsDriver driver.old.thread }
@@ -122,7 +122,7 @@ impl<N: OrderName> Shared<N> {
         &self,
         rt: &impl Wait,
         driver: &mut Caller<N>,
-        index: u32,
+        index: u16,
     ) -> Result<Opened, SnapFault>
         requires driver { IsDriver driver.old.thread }
         requires may { DriverRests driver.old.view index }
@@ -142,7 +142,7 @@ impl<N: OrderName> Shared<N> {
         &self,
         rt: &impl Wait,
         driver: &mut Caller<N>,
-        index: u32,
+        index: u16,
         snap: u64,
         h: HNum,
     ) -> u64
@@ -158,7 +158,7 @@ impl<N: OrderName> Shared<N> {
 
     /// The driver, which has weakened all handles of its cycle, begins the cycle's own marking; one that a peer thread left open is ended first, in the
     /// same hold of the peer lock, so the begin always gives a number. Answers that number and those of the entries. It takes no memory.
-    pub fn mark(&self, rt: &impl Wait, driver: &mut Caller<N>, index: u32) -> Begun
+    pub fn mark(&self, rt: &impl Wait, driver: &mut Caller<N>, index: u16) -> Begun
         requires driver { IsDriver driver.old.thread }
         requires may { MayMarkCycle driver.old.view index }
         ensures thread { driver.new.thread ≡ driver.old.thread }
@@ -171,7 +171,7 @@ impl<N: OrderName> Shared<N> {
 
     /// The driver ends its cycle's own marking: the peers that it doesn't reach are freed. Answers the entry's number, the marking, and where the freed
     /// peers stand among all that were freed. It takes no memory.
-    pub fn sweep(&self, rt: &impl Wait, driver: &mut Caller<N>, index: u32) -> (u64, Swept)
+    pub fn sweep(&self, rt: &impl Wait, driver: &mut Caller<N>, index: u16) -> (u64, Swept)
         requires driver { IsDriver driver.old.thread }
         requires may { HasBegunMarking driver.old.view index }
         ensures thread { driver.new.thread ≡ driver.old.thread }
@@ -188,7 +188,7 @@ impl<N: OrderName> Shared<N> {
         &self,
         rt: &impl Wait,
         driver: &mut Caller<N>,
-        index: u32,
+        index: u16,
         h: HNum,
     ) -> (u64, Back)
         requires driver { IsDriver driver.old.thread }
@@ -203,7 +203,7 @@ impl<N: OrderName> Shared<N> {
 
     /// The driver clears the references of its cycle, all of whose handles are restored: no reference is mirrored any more. Answers the entry's
     /// number, which the cycle's resolve cites. It takes no memory.
-    pub fn clear(&self, rt: &impl Wait, driver: &mut Caller<N>, index: u32, cycle: Cycle) -> u64
+    pub fn clear(&self, rt: &impl Wait, driver: &mut Caller<N>, index: u16, cycle: Cycle) -> u64
         requires driver { IsDriver driver.old.thread }
         requires may { MayClearCycle driver.old.view index cycle.0 }
         ensures thread { driver.new.thread ≡ driver.old.thread }

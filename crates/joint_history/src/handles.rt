@@ -30,7 +30,7 @@ fn draw_weaken(
     side: &mut PeerSide,
     order: &Order,
     seat: &mut Seat,
-    index: u32,
+    index: u16,
     snap: u64,
     h: HNum,
 ) -> u64
@@ -57,7 +57,7 @@ fn draw_restore(
     side: &mut PeerSide,
     order: &Order,
     seat: &mut Seat,
-    index: u32,
+    index: u16,
     h: HNum,
 ) -> (u64, Back)
     requires restores { MayRestore side.old.state h.0 }
@@ -78,7 +78,7 @@ fn draw_restore(
 }
 
 // The side draws the clear of the mirrored references by the seat.
-fn draw_clear(side: &mut PeerSide, order: &Order, seat: &mut Seat, index: u32, cycle: Cycle) -> u64
+fn draw_clear(side: &mut PeerSide, order: &Order, seat: &mut Seat, index: u16, cycle: Cycle) -> u64
     requires clears { MayClear side.old.state cycle.0 }
     requires targets { AreTargetsRestored side.old.state }
     requires may { MayAppend order.now seat.old 1 C (op.Clear cycle) }
@@ -104,7 +104,7 @@ impl<N: OrderName> LockedPeer<N> {
         &mut self,
         order: &Order,
         mine: &mut Seat,
-        index: u32,
+        index: u16,
         snap: u64,
         h: HNum,
     ) -> u64
@@ -127,7 +127,7 @@ impl<N: OrderName> LockedPeer<N> {
         &mut self,
         order: &Order,
         mine: &mut Seat,
-        index: u32,
+        index: u16,
         h: HNum,
     ) -> (u64, Back)
         requires order { (order.now ≡ N.order) × (mine.old.order ≡ N.order) }
@@ -145,7 +145,7 @@ impl<N: OrderName> LockedPeer<N> {
 
     /// Clears the references of the driver's cycle, all of whose handles are restored. Answers the entry's number. `mine` is the driver's seat, which
     /// knows the entry then. It takes no memory.
-    pub(crate) fn clear(&mut self, order: &Order, mine: &mut Seat, index: u32, cycle: Cycle) -> u64
+    pub(crate) fn clear(&mut self, order: &Order, mine: &mut Seat, index: u16, cycle: Cycle) -> u64
         requires order { (order.now ≡ N.order) × (mine.old.order ≡ N.order) }
         requires pass { HoldsPass C mine.old.view }
         requires may { MayClearCycle mine.old.view index cycle.0 }

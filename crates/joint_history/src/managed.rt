@@ -48,7 +48,7 @@ pub(crate) fn draw_step(
     order: &Order,
     seat: &mut Seat,
     caller: Thread,
-    index: u32,
+    index: u16,
     op: &Op,
     cites: Option<u64>,
 ) -> Result<(u64, Reply), AllocError>
@@ -78,7 +78,7 @@ fn draw_take(
     order: &Order,
     seat: &mut Seat,
     caller: Thread,
-    index: u32,
+    index: u16,
     v: Var,
 ) -> Result<(u64, Reply), AllocError>
     requires thread { IsManagedThread caller }
@@ -137,7 +137,7 @@ impl<N: OrderName> LockedManaged<N> {
         order: &Order,
         mine: &mut Seat,
         caller: Thread,
-        index: u32,
+        index: u16,
         op: &Op,
         cites: Option<u64>,
     ) -> Result<(u64, Reply), AllocError>
@@ -172,7 +172,7 @@ impl<N: OrderName> LockedManaged<N> {
         order: &Order,
         mine: &mut Seat,
         caller: Thread,
-        index: u32,
+        index: u16,
         v: Var,
     ) -> Result<(u64, Reply), AllocError>
         requires order { (order.now ≡ N.order) × (mine.old.order ≡ N.order) }

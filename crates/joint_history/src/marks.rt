@@ -30,7 +30,7 @@ pub struct Begun {
 }
 
 // The side draws the sweep of its open marking by the seat. It takes no memory.
-fn draw_sweep(side: &mut PeerSide, order: &Order, seat: &mut Seat, index: u32) -> (u64, Swept)
+fn draw_sweep(side: &mut PeerSide, order: &Order, seat: &mut Seat, index: u16) -> (u64, Swept)
     requires open { IsSome side.old.state.marking }
     requires may { MayAppend order.now seat.old 1 C op.Sweep }
     requires entries { line_known seat.old.view 1 ≡ side.old.entries }
@@ -51,7 +51,7 @@ fn draw_sweep(side: &mut PeerSide, order: &Order, seat: &mut Seat, index: u32) -
 }
 
 // The side draws a begin by the seat. No marking is open, and the room for the mirrored cycle's own is reserved: so it takes no memory.
-fn draw_begin(side: &mut PeerSide, order: &Order, seat: &mut Seat, index: u32) -> (u64, Marking)
+fn draw_begin(side: &mut PeerSide, order: &Order, seat: &mut Seat, index: u16) -> (u64, Marking)
     requires closed { side.old.state.marking ≡ None }
     requires reserved { side.old.reserve.marking ≡ true }
     requires may { MayAppend order.now seat.old 1 C op.Begin }
@@ -75,7 +75,7 @@ fn draw_begin(side: &mut PeerSide, order: &Order, seat: &mut Seat, index: u32) -
 impl<N: OrderName> LockedPeer<N> {
     /// Ends the open marking, which is the cycle's own or one that a peer thread left open, and answers the entry's number, the marking, and where the
     /// peers that it freed stand among all that were freed. `mine` is the driver's seat, which knows the entry then. It takes no memory.
-    pub(crate) fn sweep(&mut self, order: &Order, mine: &mut Seat, index: u32) -> (u64, Swept)
+    pub(crate) fn sweep(&mut self, order: &Order, mine: &mut Seat, index: u16) -> (u64, Swept)
         requires order { (order.now ≡ N.order) × (mine.old.order ≡ N.order) }
         requires pass { HoldsPass C mine.old.view }
         requires open { IsSome self.old.side.state.marking ⊎ HasBegunMarking mine.old.view index }
@@ -92,7 +92,7 @@ impl<N: OrderName> LockedPeer<N> {
     }
 
     // Begins the cycle's own marking, where none is open. It takes no memory.
-    fn begin(&mut self, order: &Order, mine: &mut Seat, index: u32) -> (u64, Marking)
+    fn begin(&mut self, order: &Order, mine: &mut Seat, index: u16) -> (u64, Marking)
         requires order { (order.now ≡ N.order) × (mine.old.order ≡ N.order) }
         requires pass { HoldsPass C mine.old.view }
         requires closed { self.old.side.state.marking ≡ None }
@@ -108,7 +108,7 @@ impl<N: OrderName> LockedPeer<N> {
     }
 
     // Ends the open marking, if there is one.
-    fn end_open(&mut self, order: &Order, mine: &mut Seat, index: u32) -> Option<(u64, Swept)>
+    fn end_open(&mut self, order: &Order, mine: &mut Seat, index: u16) -> Option<(u64, Swept)>
         requires order { (order.now ≡ N.order) × (mine.old.order ≡ N.order) }
         requires pass { HoldsPass C mine.old.view }
         requires may { MayMarkCycle mine.old.view index }
@@ -125,7 +125,7 @@ impl<N: OrderName> LockedPeer<N> {
 
     /// Begins the driver's own marking, after it has ended one that a peer thread left open; so the begin always gives a number. `mine` is the driver's
     /// seat, which knows the entries then. It takes no memory.
-    pub(crate) fn mark(&mut self, order: &Order, mine: &mut Seat, index: u32) -> Begun
+    pub(crate) fn mark(&mut self, order: &Order, mine: &mut Seat, index: u16) -> Begun
         requires order { (order.now ≡ N.order) × (mine.old.order ≡ N.order) }
         requires pass { HoldsPass C mine.old.view }
         requires may { MayMarkCycle mine.old.view index }

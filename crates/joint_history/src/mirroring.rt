@@ -25,7 +25,7 @@ impl<N: OrderName> Shared<N> {
         &self,
         rt: &impl Wait,
         driver: &mut Caller<N>,
-        index: u32,
+        index: u16,
         cycle: Cycle,
         snap: u64,
         graph: &DeadGraph,

@@ -133,7 +133,7 @@ impl<N: OrderName> Shared<N> {
         rt: &impl Wait,
         mine: &mut Seat,
         t: Thread,
-        index: u32,
+        index: u16,
         op: &Op,
         cites: Option<u64>,
     ) -> Result<(u64, Reply), AllocError>
@@ -169,7 +169,7 @@ impl<N: OrderName> Shared<N> {
         rt: &impl Wait,
         mine: &mut Seat,
         t: Thread,
-        index: u32,
+        index: u16,
         act: &Act,
     ) -> Result<Receipt, AllocError>
         requires order { mine.old.order ≡ N.order }
@@ -217,7 +217,7 @@ impl<N: OrderName> Shared<N> {
         &self,
         rt: &impl Wait,
         caller: &mut Caller<N>,
-        index: u32,
+        index: u16,
         act: &Act,
     ) -> Result<Receipt, AllocError>
         requires act { IsManagedThread caller.old.thread × IsLine caller.old.thread act.now }
@@ -238,7 +238,7 @@ impl<N: OrderName> Shared<N> {
         &self,
         rt: &impl Wait,
         caller: &mut Caller<N>,
-        index: u32,
+        index: u16,
         act: &Act,
     ) -> Result<Receipt, AllocError>
         requires act { IsPeerThread caller.old.thread × IsLine caller.old.thread act.now × IsPeerOperation act.now }

@@ -50,7 +50,7 @@ fn draw_step(
     order: &Order,
     seat: &mut Seat,
     caller: Thread,
-    index: u32,
+    index: u16,
     op: &Op,
     cites: Option<u64>,
 ) -> Result<(u64, Reply), AllocError>
@@ -108,7 +108,7 @@ impl<N: OrderName> LockedPeer<N> {
         order: &Order,
         mine: &mut Seat,
         caller: Thread,
-        index: u32,
+        index: u16,
         op: &Op,
         cites: Option<u64>,
     ) -> Result<(u64, Reply), AllocError>

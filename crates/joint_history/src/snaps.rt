@@ -20,7 +20,7 @@ fn draw_snap(
     side: &mut ManagedSide,
     order: &Order,
     seat: &mut Seat,
-    index: u32,
+    index: u16,
 ) -> Result<Opened, SnapFault>
     requires closed { side.old.state.managed.cycle ≡ None }
     requires may { MayAppend order.now seat.old 0 C (snap_op side.old.state.managed) }
@@ -48,7 +48,7 @@ impl<N: OrderName> LockedManaged<N> {
         &mut self,
         order: &Order,
         mine: &mut Seat,
-        index: u32,
+        index: u16,
     ) -> Result<Opened, SnapFault>
         requires order { (order.now ≡ N.order) × (mine.old.order ≡ N.order) }
         requires pass { HoldsPass C mine.old.view }

@@ -47,7 +47,7 @@ module _ (r : ManagedReplay) (k : IsReplayKept r) where
   answer-freed t (op.Adopt v kind f p h) told n w =
       let a = adopted r.managed (place (thread_number t) v.0) kind f h.0 in
       same-as a.state _ (adopt_by-managed r p.0 h.0 a.state a.reply) (adopted-goes_on r.managed (place (thread_number t) v.0) kind f h.0 k.managed.places).freed
-  answer-freed t (op.Meet v p h sort f) told n w =
+  answer-freed t (op.Meet v sort f p h) told n w =
       let a = met r.managed (place (thread_number t) v.0) h.0 sort f (registered r.registry p.0) in
       same-as a.state _ (meet_by-managed r p.0 h.0 a.state a.reply) (met-goes_on r.managed (place (thread_number t) v.0) h.0 sort f (registered r.registry p.0) k.managed.places (λ m e. twin-live r p.0 m k e)).freed
   answer-freed t (op.Give v) told n w =

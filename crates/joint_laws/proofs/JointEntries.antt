@@ -175,18 +175,18 @@ module _ (s : Linkage) (k : Of s) (flags : List Bool) (jm : Option JointMarking)
   outcome (M u) (op.Grip y) told e w x after = moves refl (step-grip r q ds d k flags jm ag u y reply told w.replies)
   outcome (P u) (op.Grip y) told e w x after = absurd e.0
   outcome C (op.Grip y) told e w x after = absurd e.0
-  outcome (M u) (op.Meet v p h sort n) told e w x after =
+  outcome (M u) (op.Meet v sort n p h) told e w x after =
       let a : Answered Managed = met r.managed (place u v.0) h.0 sort n (registered r.registry p.0) in
       let m = meet_by-managed r p.0 h.0 a.state a.reply in
       let twin : registered r.registry p.0 ≡ twin_of j p.0 = sym (twin-same r q ds d k flags jm p.0) in
-      computed (M u) (op.Meet v p h sort n) told (meet_by r p.0 h.0 a.state a.reply).state refl after (goes-as a.state _ m (met-goes_on r.managed (place u v.0) h.0 sort n (registered r.registry p.0) k.managed.managed.places (λ y f. twin-live r p.0 y k.managed f)))
+      computed (M u) (op.Meet v sort n p h) told (meet_by r p.0 h.0 a.state a.reply).state refl after (goes-as a.state _ m (met-goes_on r.managed (place u v.0) h.0 sort n (registered r.registry p.0) k.managed.managed.places (λ y f. twin-live r p.0 y k.managed f)))
       (record {
         computed = tt;
         replies = w.replies ∙ (meet_by-reply r p.0 h.0 a.state a.reply ∙ ap (λ z. (met r.managed (place u v.0) h.0 sort n z).reply) twin);
         state = same-managed _ a.state m ∙ ap (λ z. (on_managed j (met r.managed (place u v.0) h.0 sort n z)).state) twin;
       })
-  outcome (P u) (op.Meet v p h sort n) told e w x after = absurd e.0
-  outcome C (op.Meet v p h sort n) told e w x after = absurd e.0
+  outcome (P u) (op.Meet v sort n p h) told e w x after = absurd e.0
+  outcome C (op.Meet v sort n p h) told e w x after = absurd e.0
   outcome (M u) (op.Give v) told e w x after =
       let a : Answered Managed = given_up r.managed (place u v.0) in
       let o = slot r.managed.heap.vars (place u v.0) in

@@ -114,7 +114,7 @@ module _ (s : Linkage) (w : Stands s) (past : List Moment) (number line : ℕ) (
   journey-moves vars statics traced C (op.Lend x y) told may v j k = absurd may.event.0
   journey-moves vars statics traced C (op.Land h y) told may v j k = absurd may.event.0
   journey-moves vars statics traced C (op.Grip y) told may v j k = absurd may.event.0
-  journey-moves vars statics traced C (op.Meet x p h sort n) told may v j k = absurd may.event.0
+  journey-moves vars statics traced C (op.Meet x sort n p h) told may v j k = absurd may.event.0
   journey-moves vars statics traced C (op.Give x) told may v j k = absurd may.event.0
   journey-moves vars statics traced C (op.Release h) told may v j k = absurd may.event
   journey-moves vars statics traced C (op.Snap c) (snap_of freed candidates dead) may v j k = snap-turn s (noted C (op.Snap c) (snap_of freed candidates dead)) w v past (record { cycle = c.0; snap = number }) c.0 freed candidates dead may.lawful.allowed refl refl refl refl
@@ -214,7 +214,7 @@ module _ (s : Linkage) (w : Stands s) (past : List Moment) (number line : ℕ) (
   journey-rests C (op.Lend x y) told may v j same k = (let f : true ≡ false = j in cc)
   journey-rests C (op.Land h y) told may v j same k = (let f : true ≡ false = j in cc)
   journey-rests C (op.Grip y) told may v j same k = (let f : true ≡ false = j in cc)
-  journey-rests C (op.Meet x p h sort n) told may v j same k = (let f : true ≡ false = j in cc)
+  journey-rests C (op.Meet x sort n p h) told may v j same k = (let f : true ≡ false = j in cc)
   journey-rests C (op.Give x) told may v j same k = (let f : true ≡ false = j in cc)
   journey-rests C (op.Release h) told may v j same k = (let f : true ≡ false = j in cc)
   journey-rests C (op.Snap c) told may v j same k = (let f : true ≡ false = j in cc)

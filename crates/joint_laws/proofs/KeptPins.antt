@@ -110,7 +110,7 @@ module _ (s : Linkage) (line : ℕ) (reply : Reply) (cites : Option ℕ) where
   entry-pins t (op.Adopt v kind n p h) told e w f =
       let a = adopted s.managed.managed (place (thread_number t) v.0) kind n h.0 in
       ap (λ (z : Managed). z.pins) (adopt_by-managed s.managed p.0 h.0 a.state a.reply) ∙ row-pins s.managed.managed (is_full s.managed.managed.heap.fields) _ (place (thread_number t) v.0) kind n (Some h.0)
-  entry-pins t (op.Meet v p h sort n) told e w f =
+  entry-pins t (op.Meet v sort n p h) told e w f =
       let a = met s.managed.managed (place (thread_number t) v.0) h.0 sort n (registered s.managed.registry p.0) in
       ap (λ (z : Managed). z.pins) (meet_by-managed s.managed p.0 h.0 a.state a.reply) ∙ met-pins s.managed.managed (place (thread_number t) v.0) h.0 sort n (registered s.managed.registry p.0)
   entry-pins t (op.Give v) told e w f =

@@ -67,7 +67,7 @@ kept-met r s ds d u number line h k w = kept-doing r s ds d u (met number line h
 
 module _ (r : ManagedReplay) (s : PeerReplay) (ds : List Doing) (d : Stand) (u number line : ℕ) (k : AreKept r s ds d) (v : Var) (p : PNum) (h : HNum) (sort : Sort) (n place : ℕ) (w : HasInHand (doing_in ds u) h.0) (on : HasPeer (doing_in ds u) h.0 p.0) (virgin : Contains r.adopted h.0 → ⊥) where
   abbrev Met : ManagedReplay → Reply → Type 0
-  Met t reply = AreKept t s (set ds u (doing_after number line (op.Meet v p h sort n) reply)) d
+  Met t reply = AreKept t s (set ds u (doing_after number line (op.Meet v sort n p h) reply)) d
 
   room : (b : Bool) → registered r.registry p.0 ≡ None
       → (let a = if b then answer says.Full r.managed else answer (says.New record { 0 = next_number r.managed.heap }) (with_row r.managed place (twin_kind sort) (twin_fields sort n) (Some h.0)) in Met (meet_by r p.0 h.0 a.state a.reply).state a.reply)

@@ -112,13 +112,13 @@ module _ (s : Linkage) (k : Of s) (number line : ℕ) (reply : Reply) (cites : O
   step (M u) (op.Grip y) told e w x = kept-grip s.managed s.peer ds d u number line k y reply w.replies
   step (P u) (op.Grip y) told e w x = absurd e.0
   step C (op.Grip y) told e w x = absurd e.0
-  step (M u) (op.Meet v p h sort n) nothing e w x =
+  step (M u) (op.Meet v sort n p h) nothing e w x =
       let hand = meet-hand (doing_in ds u) line v p h sort n cites x in
       let a = met_by s.managed.managed (place u v.0) h.0 sort n (registered s.managed.registry p.0) s.managed.managed.cycle in
       kept-meet s.managed s.peer ds d u number line k v p h sort n (place u v.0) hand.0 hand.1 w.allowed reply (w.replies ∙ meet_by-reply s.managed p.0 h.0 a.state a.reply)
-  step (M u) (op.Meet v p h sort n) told e w x = absurd w.allowed
-  step (P u) (op.Meet v p h sort n) told e w x = absurd e.0
-  step C (op.Meet v p h sort n) told e w x = absurd e.0
+  step (M u) (op.Meet v sort n p h) told e w x = absurd w.allowed
+  step (P u) (op.Meet v sort n p h) told e w x = absurd e.0
+  step C (op.Meet v sort n p h) told e w x = absurd e.0
   step (M u) (op.Give v) told e w x =
       kept-give s.managed s.peer ds d u number line k v (place u v.0) reply (IsReplayKept-step s.managed (M u) (op.Give v) told k.managed w.allowed) (w.replies ∙ give_by-reply s.managed (slot s.managed.managed.heap.vars (place u v.0)) (given_up s.managed.managed (place u v.0)))
   step (P u) (op.Give v) told e w x = absurd e.0

@@ -44,7 +44,7 @@ land-hand (gripped n line p' h' sort f) l h x cites w = absurd w
 land-hand (given n line h') l h x cites w = absurd w
 land-hand (met n line h') l h x cites w = absurd w
 
-pub meet-hand : (d : Doing) (l : ℕ) (v : Var) (p : PNum) (h : HNum) (sort : Sort) (f : ℕ) (cites : Option ℕ) → MayMeet d l (op.Meet v p h sort f) cites → HasInHand d h.0 × HasPeer d h.0 p.0
+pub meet-hand : (d : Doing) (l : ℕ) (v : Var) (p : PNum) (h : HNum) (sort : Sort) (f : ℕ) (cites : Option ℕ) → MayMeet d l (op.Meet v sort f p h) cites → HasInHand d h.0 × HasPeer d h.0 p.0
 meet-hand (gripped n line p' h' sort' f') l v p h sort f cites w = (sym w.3, (sym w.3, sym w.2))
 meet-hand free l v p h sort f cites w = absurd w
 meet-hand (made n line p' h' sort' f') l v p h sort f cites w = absurd w

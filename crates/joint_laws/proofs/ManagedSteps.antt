@@ -74,7 +74,7 @@ managed_step s t (op.Adopt v kind n p h) told k w =
     let a = adopted s.managed (place (thread_number t) v.0) kind n h.0 in
     goes s.managed a.state _ (adopt_by-managed s p.0 h.0 a.state a.reply) (adopted-goes_on s.managed (place (thread_number t) v.0) kind n h.0 k.managed.places)
 managed_step s t (op.Lend v x) told k w = stays s
-managed_step s t (op.Meet v p h sort n) told k w =
+managed_step s t (op.Meet v sort n p h) told k w =
     let a = met s.managed (place (thread_number t) v.0) h.0 sort n (registered s.registry p.0) in
     goes s.managed a.state _ (meet_by-managed s p.0 h.0 a.state a.reply) (met-goes_on s.managed (place (thread_number t) v.0) h.0 sort n (registered s.registry p.0) k.managed.places (λ m e. twin-live s p.0 m k e))
 managed_step s t (op.Give v) told k w =

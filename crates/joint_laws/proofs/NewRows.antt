@@ -82,11 +82,11 @@ named-answer r k (M u) (op.Adopt v kind n p h) told e w =
 named-answer r k (P u) (op.Adopt v kind n p h) told e w = absurd e.0
 named-answer r k C (op.Adopt v kind n p h) told e w = absurd e.0
 named-answer r k t (op.Lend v x) told e w = named-same r.managed k.managed r.managed refl
-named-answer r k (M u) (op.Meet v p h sort n) told e w =
+named-answer r k (M u) (op.Meet v sort n p h) told e w =
     let a = met r.managed (place u v.0) h.0 sort n (registered r.registry p.0) in
     named-as r.managed a.state _ (meet_by-managed r p.0 h.0 a.state a.reply) (named-met r.managed k.managed (place u v.0) h.0 sort n (registered r.registry p.0) r.managed.cycle (place-bound u v.0 e.0.1 e.1))
-named-answer r k (P u) (op.Meet v p h sort n) told e w = absurd e.0
-named-answer r k C (op.Meet v p h sort n) told e w = absurd e.0
+named-answer r k (P u) (op.Meet v sort n p h) told e w = absurd e.0
+named-answer r k C (op.Meet v sort n p h) told e w = absurd e.0
 named-answer r k t (op.Give v) told e w =
     let u = place (thread_number t) v.0 in
     named-as r.managed (given_up r.managed u).state _ (give_by-managed r (slot r.managed.heap.vars u) (given_up r.managed u)) (named-without r.managed k.managed (slot r.managed.heap.vars u))

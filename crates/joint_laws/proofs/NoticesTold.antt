@@ -119,7 +119,7 @@ answer-go r t (op.Line a) told = line-go r.managed (thread_number t) a
 answer-go r t (op.Adopt v kind n p h) told =
     let a = adopted r.managed (place (thread_number t) v.0) kind n h.0 in
     go-as r.managed a.state _ (adopt_by-managed r p.0 h.0 a.state a.reply) (adopted-keeps r.managed (place (thread_number t) v.0) kind n h.0)
-answer-go r t (op.Meet v p h sort n) told =
+answer-go r t (op.Meet v sort n p h) told =
     let a = met r.managed (place (thread_number t) v.0) h.0 sort n (registered r.registry p.0) in
     go-as r.managed a.state _ (meet_by-managed r p.0 h.0 a.state a.reply) (met-keeps r.managed (place (thread_number t) v.0) h.0 sort n (registered r.registry p.0))
 answer-go r t (op.Give v) told =

@@ -71,7 +71,7 @@ done-start (met n l h) cites x = absurd x
 from-free : (e : Doing) (t : Thread) (l : ℕ) (o : Op) (cites : Option ℕ) → IsDone e → ThreadAllows free t l o cites → ThreadAllows e t l o cites
 from-free e t l (op.Adopt v kind n p h) cites x a = absurd a
 from-free e t l (op.Land h y) cites x a = absurd a
-from-free e t l (op.Meet v p h sort f) cites x a = absurd a
+from-free e t l (op.Meet v sort f p h) cites x a = absurd a
 from-free e t l (op.Release h) cites x a = absurd a
 from-free e t l _ cites x a = start-done e cites x a
 

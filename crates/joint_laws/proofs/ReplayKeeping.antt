@@ -136,7 +136,7 @@ pub IsReplayKept-step : (s : ManagedReplay) (t : Thread) (o : Op) (told : Told) 
 IsReplayKept-step s t (op.Line a) told k w = IsReplayKept-plainly s _ k (managed_line-goes_on s.managed (thread_number t) a k.managed.places k.managed.cells) (managed_line-same s.managed k.managed (thread_number t) a)
 IsReplayKept-step s t (op.Adopt v kind n p h) nothing k w = adopt-by s (place (thread_number t) v.0) kind n p.0 h.0 (is_full s.managed.heap.fields) k w
 IsReplayKept-step s t (op.Lend v x) told k w = k
-IsReplayKept-step s t (op.Meet v p h sort n) nothing k w = meet-by s (place (thread_number t) v.0) p.0 h.0 sort n s.managed.cycle k w refl
+IsReplayKept-step s t (op.Meet v sort n p h) nothing k w = meet-by s (place (thread_number t) v.0) p.0 h.0 sort n s.managed.cycle k w refl
 IsReplayKept-step s t (op.Give v) told k w = give-by s (place (thread_number t) v.0) _ (slot s.managed.heap.vars (place (thread_number t) v.0)) k refl
 IsReplayKept-step s t (op.Snap n) (snap_of freed candidates dead) k w = snapped-kept s n.0 freed candidates dead k w
 IsReplayKept-step s t (op.Contract n) (contraction_of comps xrefs) k w = contracted-kept s k

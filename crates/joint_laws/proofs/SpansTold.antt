@@ -108,10 +108,10 @@ module _ (s : Linkage) (line : ℕ) (reply : Reply) (cites : Option ℕ) where
   plain-entry t (op.Land h x) told out w = absurd w.allowed
   plain-entry t (op.Grip x) nothing out w = by_plain _ nothing w.replies (grip-plain s.peer.peers x.0) tt
   plain-entry t (op.Grip x) told out w = absurd w.allowed
-  plain-entry t (op.Meet v p h sort n) nothing out w =
+  plain-entry t (op.Meet v sort n p h) nothing out w =
       let a = met s.managed.managed (place (thread_number t) v.0) h.0 sort n (registered s.managed.registry p.0) in
       by_plain a.reply nothing (w.replies ∙ meet_by-reply s.managed p.0 h.0 a.state a.reply) (met-plain s.managed.managed (place (thread_number t) v.0) h.0 sort n (registered s.managed.registry p.0)) tt
-  plain-entry t (op.Meet v p h sort n) told out w = absurd w.allowed
+  plain-entry t (op.Meet v sort n p h) told out w = absurd w.allowed
   plain-entry t (op.Give v) nothing out w =
       let u = place (thread_number t) v.0 in
       by_plain _ nothing (w.replies ∙ give_by-reply s.managed (slot s.managed.managed.heap.vars u) (given_up s.managed.managed u)) (handle-plain s.managed.managed u) tt

@@ -88,7 +88,7 @@ MayLand _ l o cites = ⊥
 
 -- a `meet` follows the grip of its own line, with its peer, handle, sort and number of fields
 abbrev pub MayMeet : Doing → ℕ → Op → Option ℕ → Type 0
-MayMeet (gripped n line p h sort f) l (op.Meet v p' h' sort' f') cites = (cites ≡ Some n) × (l ≡ line) × (p'.0 ≡ p) × (h'.0 ≡ h) × (sort' ≡ sort) × (f' ≡ f)
+MayMeet (gripped n line p h sort f) l (op.Meet v sort' f' p' h') cites = (cites ≡ Some n) × (l ≡ line) × (p'.0 ≡ p) × (h'.0 ≡ h) × (sort' ≡ sort) × (f' ≡ f)
 MayMeet _ l o cites = ⊥
 
 -- a `release` follows the give of its own line, or the meet that didn't take the handle
@@ -101,7 +101,7 @@ MayRelease _ l h' cites = ⊥
 abbrev pub ThreadAllows : Doing → Thread → ℕ → Op → Option ℕ → Type 0
 ThreadAllows d t l (op.Adopt v kind k p h) cites = MayAdopt d t l (op.Adopt v kind k p h) cites
 ThreadAllows d t l (op.Land h x) cites = MayLand d l (op.Land h x) cites
-ThreadAllows d t l (op.Meet v p h sort f) cites = MayMeet d l (op.Meet v p h sort f) cites
+ThreadAllows d t l (op.Meet v sort f p h) cites = MayMeet d l (op.Meet v sort f p h) cites
 ThreadAllows d t l (op.Release h) cites = MayRelease d l h.0 cites
 ThreadAllows d t l _ cites = MayStart d cites
 
@@ -111,8 +111,8 @@ doing_after n l (op.Make sort f) (says.Made p h) = made n l p.0 h.0 sort f
 doing_after n l (op.Lend v x) (says.H h) = lent n l h.0 x.0
 doing_after n l (op.Grip x) (says.Gripped p h sort f) = gripped n l p.0 h.0 sort f
 doing_after n l (op.Give v) (says.H h) = given n l h.0
-doing_after n l (op.Meet v p h sort f) (says.New m) = free
-doing_after n l (op.Meet v p h sort f) reply = met n l h.0
+doing_after n l (op.Meet v sort f p h) (says.New m) = free
+doing_after n l (op.Meet v sort f p h) reply = met n l h.0
 doing_after n l _ reply = free
 
 -- the candidates of the open cycle; none where no cycle is open

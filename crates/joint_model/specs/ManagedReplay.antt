@@ -83,7 +83,7 @@ abbrev pub managed_answer : ManagedReplay → Thread → Op → Told → Answere
 managed_answer s t (op.Line a) told = plainly s (managed_line s.managed (thread_number t) a)
 managed_answer s t (op.Adopt v kind n p h) told = let a = adopted s.managed (place (thread_number t) v.0) kind n h.0 in adopt_by s p.0 h.0 a.state a.reply
 managed_answer s t (op.Lend v x) told = answer (handle_reply s.managed (place (thread_number t) v.0)) s
-managed_answer s t (op.Meet v p h sort n) told = let a = met s.managed (place (thread_number t) v.0) h.0 sort n (registered s.registry p.0) in meet_by s p.0 h.0 a.state a.reply
+managed_answer s t (op.Meet v sort n p h) told = let a = met s.managed (place (thread_number t) v.0) h.0 sort n (registered s.registry p.0) in meet_by s p.0 h.0 a.state a.reply
 managed_answer s t (op.Give v) told = let v' = place (thread_number t) v.0 in give_by s (slot s.managed.heap.vars v') (given_up s.managed v')
 managed_answer s t (op.Snap k) (snap_of freed candidates dead) = answer (snap_reply s.managed freed candidates) (record s { managed = with_snapshot s.managed freed candidates dead; contracted = false })
 managed_answer s t (op.Contract k) (contraction_of comps xrefs) = answer (says.Sccs (length comps) (length xrefs)) (record s { contracted = true })
@@ -121,7 +121,7 @@ abbrev pub ManagedAllows : ManagedReplay → Op → Told → Type 0
 ManagedAllows s (op.Line a) nothing = Unit {0}
 ManagedAllows s (op.Adopt v kind n p h) nothing = Contains s.adopted h.0 → ⊥
 ManagedAllows s (op.Lend v x) nothing = Unit {0}
-ManagedAllows s (op.Meet v p h sort n) nothing = Contains s.adopted h.0 → ⊥
+ManagedAllows s (op.Meet v sort n p h) nothing = Contains s.adopted h.0 → ⊥
 ManagedAllows s (op.Give v) nothing = Unit {0}
 ManagedAllows s (op.Snap k) (snap_of freed candidates dead) = IsSnapshot s.managed k.0 freed candidates dead
 ManagedAllows s (op.Contract k) (contraction_of comps xrefs) = MayContract s k.0 comps xrefs

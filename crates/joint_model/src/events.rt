@@ -34,10 +34,10 @@ pub enum Op {
     },
     Meet {
         v: Var,
-        p: PNum,
-        h: HNum,
         sort: Sort,
         fields: u8,
+        p: PNum,
+        h: HNum,
     },
     Give {
         v: Var,
@@ -119,17 +119,17 @@ pub enum Reply {
 #[derive(Clone, Copy, PartialEq, Eq, Debug)]
 pub struct Made {
     pub caller: Thread,
-    pub index: u32,
+    pub index: u16,
     pub op: Op,
     pub reply: Reply,
     pub cites: Option<u64>,
 }
 
-/// One entry of a history. It takes at most 64 bytes.
+/// One entry of a history. It takes at most 56 bytes.
 #[derive(Clone, Copy, PartialEq, Eq, Debug)]
 pub struct Entry {
     pub number: u64,
     pub made: Made,
 }
 
-const _: () = prove!(size_of::<Entry>() <= 64);
+const _: () = prove!(size_of::<Entry>() <= 56);

@@ -91,7 +91,7 @@ judged-handles h e j (inr (inr (inr w))) event d new x = judged-computed h e j (
 
 -- an operation of a managed thread on the objects
 abbrev pub IsOnObjects : Op → Type 0
-IsOnObjects o = ((v : Var) × (kind : Kind) × (n : ℕ) × (p : PNum) × (h : HNum) × (o ≡ op.Adopt v kind n p h)) ⊎ (((v : Var) × (x : StaticNo) × (o ≡ op.Lend v x)) ⊎ (((v : Var) × (p : PNum) × (h : HNum) × (sort : Sort) × (n : ℕ) × (o ≡ op.Meet v p h sort n)) ⊎ ((v : Var) × (o ≡ op.Give v))))
+IsOnObjects o = ((v : Var) × (kind : Kind) × (n : ℕ) × (p : PNum) × (h : HNum) × (o ≡ op.Adopt v kind n p h)) ⊎ (((v : Var) × (x : StaticNo) × (o ≡ op.Lend v x)) ⊎ (((v : Var) × (sort : Sort) × (n : ℕ) × (p : PNum) × (h : HNum) × (o ≡ op.Meet v sort n p h)) ⊎ ((v : Var) × (o ≡ op.Give v))))
 
 pub judged-objects : (h : Finished) (e : Entry) (j : Joint) → IsOnObjects e.made.op → IsEvent e.made.caller e.made.op → (d : Verdict) (new : Joint)
     → Decides (Gives (joint_answer j e.made.caller e.made.op) e.made.reply) d j new → Judges h e d j new

@@ -66,7 +66,7 @@ IsHandleEvent _ = ⊥
 abbrev pub IsObjectEvent : Op → Type 0
 IsObjectEvent (op.Adopt v k n p h) = IsVar v
 IsObjectEvent (op.Lend v x) = IsVar v
-IsObjectEvent (op.Meet v p h s n) = IsVar v
+IsObjectEvent (op.Meet v s n p h) = IsVar v
 IsObjectEvent (op.Give v) = IsVar v
 IsObjectEvent _ = ⊥
 

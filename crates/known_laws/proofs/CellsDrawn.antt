@@ -125,7 +125,7 @@ cells-after s t (op.Line a) told = line-cells s t a
 cells-after s t (op.Adopt v kind n p h) told =
     let a = adopted s.managed (place (thread_number t) v.0) kind n h.0 in
     ap (λ (z : Managed). z.cells) (adopt_by-managed s p.0 h.0 a.state a.reply) ∙ row-cells s.managed (is_full s.managed.heap.fields) _ (place (thread_number t) v.0) kind n (Some h.0)
-cells-after s t (op.Meet v p h sort n) told =
+cells-after s t (op.Meet v sort n p h) told =
     let a = met s.managed (place (thread_number t) v.0) h.0 sort n (registered s.registry p.0) in
     ap (λ (z : Managed). z.cells) (meet_by-managed s p.0 h.0 a.state a.reply) ∙ met-cells s.managed (place (thread_number t) v.0) h.0 sort n (registered s.registry p.0)
 cells-after s t (op.Give v) told =

@@ -88,7 +88,7 @@ one-caller h t u n l a b =
 abbrev CitesOnce : Op → Type 0
 CitesOnce (op.Adopt v kind k p h) = Unit {0}
 CitesOnce (op.Land h x) = Unit {0}
-CitesOnce (op.Meet v p h sort f) = Unit {0}
+CitesOnce (op.Meet v sort f p h) = Unit {0}
 CitesOnce (op.Release h) = Unit {0}
 CitesOnce (op.Resolve k) = Unit {0}
 CitesOnce o = ⊥
@@ -102,7 +102,7 @@ CitesSnap o = ⊥
 citing : (h : List Noted) (x : Made) (k n : ℕ) (o : Op) → Cites h x k o → x.cites ≡ Some n → CitesOnce o ⊎ CitesSnap o
 citing h x k n (op.Adopt v kind f p g) c e = inl tt
 citing h x k n (op.Land g y) c e = inl tt
-citing h x k n (op.Meet v p g sort f) c e = inl tt
+citing h x k n (op.Meet v sort f p g) c e = inl tt
 citing h x k n (op.Release g) c e = inl tt
 citing h x k n (op.Resolve c') c e = inl tt
 citing h x k n (op.Mirror c') c e = inr tt
@@ -118,7 +118,7 @@ cited-earlier h x k n o c e = by o c
     by : (o : Op) → Cites h x k o → n < k
     by (op.Adopt v kind f p g) c = smaller _ c
     by (op.Land g y) c = smaller _ c
-    by (op.Meet v p g sort f) c = smaller _ c
+    by (op.Meet v sort f p g) c = smaller _ c
     by (op.Release g) c = smaller _ c
     by (op.Resolve c') c = smaller _ c
     by (op.Mirror c') c = smaller _ c
@@ -140,7 +140,7 @@ land-waits (lent k line g y) l n (op.Land g' y') c a e = same_Some _ _ (sym a.0 
 land-waits _ l n o c a e = absurd a
 
 meet-waits : (d : Doing) (l n : ℕ) (o : Op) (c : Option ℕ) → MayMeet d l o c → c ≡ Some n → IsNumbered d n
-meet-waits (gripped k line p g sort f) l n (op.Meet v p' g' sort' f') c a e = same_Some _ _ (sym a.0 ∙ e)
+meet-waits (gripped k line p g sort f) l n (op.Meet v sort' f' p' g') c a e = same_Some _ _ (sym a.0 ∙ e)
 meet-waits _ l n o c a e = absurd a
 
 release-waits : (d : Doing) (l g n : ℕ) (c : Option ℕ) → MayRelease d l g c → c ≡ Some n → IsNumbered d n
@@ -163,8 +163,8 @@ doing-begins k l n (op.Grip x) (says.Gripped p g sort f) w = w
 doing-begins k l n (op.Grip x) _ w = absurd w
 doing-begins k l n (op.Give v) (says.H g) w = w
 doing-begins k l n (op.Give v) _ w = absurd w
-doing-begins k l n (op.Meet v p g sort f) (says.New m) w = absurd w
-doing-begins k l n (op.Meet v p g sort f) _ w = w
+doing-begins k l n (op.Meet v sort f p g) (says.New m) w = absurd w
+doing-begins k l n (op.Meet v sort f p g) _ w = w
 doing-begins k l n _ r w = absurd w
 
 stand-begins : (st : Stand) (k n : ℕ) (o : Op) (r : Reply) (told : Told) → IsCleared (stand_after st k o r told) n → IsCleared st n ⊎ (k ≡ n)
@@ -193,14 +193,14 @@ module _ (x : Noted) (h : List Noted) (l : Lawful (x ∷ h)) (n : ℕ) where
   citer-waits : x.entry.made.cites ≡ Some n → (t : Thread) (o : Op) → CitesOnce o → IsEvent t o → Allows t o → WaitsBy (end_of h).control t n
   citer-waits e (M u) (op.Adopt v kind k p g) z ev a = adopt-waits (doing_at (end_of h).control u) (M u) x.entry.made.index n (op.Adopt v kind k p g) x.entry.made.cites a e
   citer-waits e (M u) (op.Land g y) z ev a = land-waits (doing_at (end_of h).control u) x.entry.made.index n (op.Land g y) x.entry.made.cites a e
-  citer-waits e (M u) (op.Meet v p g sort f) z ev a = meet-waits (doing_at (end_of h).control u) x.entry.made.index n (op.Meet v p g sort f) x.entry.made.cites a e
+  citer-waits e (M u) (op.Meet v sort f p g) z ev a = meet-waits (doing_at (end_of h).control u) x.entry.made.index n (op.Meet v sort f p g) x.entry.made.cites a e
   citer-waits e (M u) (op.Release g) z ev a = release-waits (doing_at (end_of h).control u) x.entry.made.index g.0 n x.entry.made.cites a e
   citer-waits e C (op.Resolve k) z ev a = resolve-waits (end_of h).control.stand k.0 n x.entry.made.cites x.told a e
   citer-waits e (M u) (op.Resolve k) z ev a = absurd ev
   citer-waits e (P u) (op.Resolve k) z ev a = absurd ev
   citer-waits e t (op.Adopt v kind k p g) z ev a = absurd ev.0
   citer-waits e t (op.Land g y) z ev a = absurd ev.0
-  citer-waits e t (op.Meet v p g sort f) z ev a = absurd ev.0
+  citer-waits e t (op.Meet v sort f p g) z ev a = absurd ev.0
   citer-waits e t (op.Release g) z ev a = absurd ev
   citer-waits e t o z ev a = absurd z
 
@@ -227,7 +227,7 @@ module _ (x : Noted) (h : List Noted) (l : Lawful (x ∷ h)) (n : ℕ) where
   ended C (op.Resolve k) z ev w = absurd w
   ended C (op.Adopt v kind k p g) z ev w = absurd ev.0
   ended C (op.Land g y) z ev w = absurd ev.0
-  ended C (op.Meet v p g sort f) z ev w = absurd ev.0
+  ended C (op.Meet v sort f p g) z ev w = absurd ev.0
   ended C (op.Release g) z ev w = absurd ev
   ended C o z ev w = absurd z
 

@@ -65,8 +65,8 @@ begins x h u (op.Grip y) (says.Gripped p g sort f) c e r = record { begun = x; t
 begins x h u (op.Grip y) _ c e r = tt
 begins x h u (op.Give v) (says.H g) c e r = record { begun = x; there = inl refl; numbered = refl; same = c; as_said = inl (v, refl, e, r) }
 begins x h u (op.Give v) _ c e r = tt
-begins x h u (op.Meet v p g sort f) (says.New m) c e r = tt
-begins x h u (op.Meet v p g sort f) reply c e r = record { begun = x; there = inl refl; numbered = refl; same = c; as_said = inr (v, p, sort, f, refl, e, subst IsNotNew (sym r) tt) }
+begins x h u (op.Meet v sort f p g) (says.New m) c e r = tt
+begins x h u (op.Meet v sort f p g) reply c e r = record { begun = x; there = inl refl; numbered = refl; same = c; as_said = inr (v, p, sort, f, refl, e, subst IsNotNew (sym r) tt) }
 begins x h u _ reply c e r = tt
 
 -- where the driver stands
@@ -225,7 +225,7 @@ module _ (x : Noted) (h : List Noted) (l : Lawful (x ∷ h)) where
   land-cites (lent n line g' y') u g y e b a = cited_by x h (M u) n _ _ l e a.0 (λ m q. (q.0, q.1 ∙ sym a.1, q.2 ∙ (λ i. op.Lend q.0 record { 0 = sym a.3 i }), q.3 ∙ (λ i. says.H record { 0 = sym a.2 i }))) b
   land-cites _ u g y e b a = absurd a
 
-  meet-cites : (d : Doing) (u : ℕ) (v : Var) (p : PNum) (g : HNum) (sort : Sort) (f : ℕ) → x.entry.made.caller ≡ M u → WasBegun h (M u) d → MayMeet d x.entry.made.index (op.Meet v p g sort f) x.entry.made.cites → HasCited h x.entry.made x.entry.number (IsGripOf x.entry.made.index p g sort f)
+  meet-cites : (d : Doing) (u : ℕ) (v : Var) (p : PNum) (g : HNum) (sort : Sort) (f : ℕ) → x.entry.made.caller ≡ M u → WasBegun h (M u) d → MayMeet d x.entry.made.index (op.Meet v sort f p g) x.entry.made.cites → HasCited h x.entry.made x.entry.number (IsGripOf x.entry.made.index p g sort f)
   meet-cites (gripped n line p' g' sort' f') u v p g sort f e b a =
       cited_by x h (M u) n _ _ l e a.0 (λ m q. (q.0, q.1 ∙ sym a.1, q.2, q.3 ∙ (λ i. says.Gripped record { 0 = sym a.2 i } record { 0 = sym a.3 i } (sym a.4 i) (sym a.5 i)))) b
   meet-cites _ u v p g sort f e b a = absurd a
@@ -233,7 +233,7 @@ module _ (x : Noted) (h : List Noted) (l : Lawful (x ∷ h)) where
   taken : (line : ℕ) (g g' : HNum) (i : x.entry.made.index ≡ line) → g.0 ≡ g'.0 → (m : Made) → IsGiveOf line g' m ⊎ IsMeetOf line g' m → IsGiveOf x.entry.made.index g m ⊎ IsMeetOf x.entry.made.index g m
   taken line g g' i e m w = ⊎_elim
       (λ q. inl (q.0, q.1 ∙ sym i, q.2, q.3 ∙ (λ k. says.H record { 0 = sym e k })))
-      (λ q. inr (q.0, q.1, q.2, q.3, q.4 ∙ sym i, q.5 ∙ (λ k. op.Meet q.0 q.1 record { 0 = sym e k } q.2 q.3), q.6))
+      (λ q. inr (q.0, q.1, q.2, q.3, q.4 ∙ sym i, q.5 ∙ (λ k. op.Meet q.0 q.2 q.3 q.1 record { 0 = sym e k }), q.6))
       w
 
   release-cites : (d : Doing) (u : ℕ) (g : HNum) → x.entry.made.caller ≡ M u → WasBegun h (M u) d → MayRelease d x.entry.made.index g.0 x.entry.made.cites → HasCited h x.entry.made x.entry.number (λ m. IsGiveOf x.entry.made.index g m ⊎ IsMeetOf x.entry.made.index g m)
@@ -261,7 +261,7 @@ module _ (x : Noted) (h : List Noted) (l : Lawful (x ∷ h)) where
   by : (t : Thread) (o : Op) → x.entry.made.caller ≡ t → IsEvent t o → Allows t o → Cites h x.entry.made x.entry.number o
   by (M u) (op.Adopt v kind k p g) e w a = adopt-cites (doing_at (end_of h).control u) u v kind k p g e ((backed h l.1).hands u) a
   by (M u) (op.Land g y) e w a = land-cites (doing_at (end_of h).control u) u g y e ((backed h l.1).hands u) a
-  by (M u) (op.Meet v p g sort f) e w a = meet-cites (doing_at (end_of h).control u) u v p g sort f e ((backed h l.1).hands u) a
+  by (M u) (op.Meet v sort f p g) e w a = meet-cites (doing_at (end_of h).control u) u v p g sort f e ((backed h l.1).hands u) a
   by (M u) (op.Release g) e w a = release-cites (doing_at (end_of h).control u) u g e ((backed h l.1).hands u) a
   by C (op.Mirror k) e w a = mirror-cites (end_of h).control.stand _ _ k.0 x.told e (backed h l.1).stand a
   by C (op.Weaken g) e w a = weaken-cites (end_of h).control.stand _ g.0 e (backed h l.1).stand a
@@ -270,8 +270,8 @@ module _ (x : Noted) (h : List Noted) (l : Lawful (x ∷ h)) where
   by C (op.Adopt v kind k p g) e w a = absurd w.0
   by (P u) (op.Land g y) e w a = absurd w.0
   by C (op.Land g y) e w a = absurd w.0
-  by (P u) (op.Meet v p g sort f) e w a = absurd w.0
-  by C (op.Meet v p g sort f) e w a = absurd w.0
+  by (P u) (op.Meet v sort f p g) e w a = absurd w.0
+  by C (op.Meet v sort f p g) e w a = absurd w.0
   by (P u) (op.Release g) e w a = absurd w
   by C (op.Release g) e w a = absurd w
   by (M u) (op.Mirror k) e w a = absurd w

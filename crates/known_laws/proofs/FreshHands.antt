@@ -39,7 +39,7 @@ in_hand (met n line h') h p w = absurd w
 -- the handle that an entry may adopt
 abbrev IsTaking : Op → ℕ → Type 0
 IsTaking (op.Adopt v kind n p h) g = h.0 ≡ g
-IsTaking (op.Meet v p h sort n) g = h.0 ≡ g
+IsTaking (op.Meet v sort n p h) g = h.0 ≡ g
 IsTaking _ g = ⊥
 
 abbrev Took : List ℕ → List ℕ → Op → Type 0
@@ -63,7 +63,7 @@ give-took r (Some x) a = refl
 took : (r : ManagedReplay) (t : Thread) (o : Op) (told : Told) → Took r.adopted (managed_answer r t o told).state.adopted o
 took r t (op.Line a) told g c = inl c
 took r t (op.Adopt v kind n p h) told g c = adopt-took r p.0 h.0 _ _ g c
-took r t (op.Meet v p h sort n) told g c = meet-took r p.0 h.0 _ _ g c
+took r t (op.Meet v sort n p h) told g c = meet-took r p.0 h.0 _ _ g c
 took r t (op.Give v) told g c = inl (subst (λ xs. Contains xs g) (give-took r _ _) c)
 took r t (op.Snap k) (snap_of freed candidates dead) g c = inl c
 took r t (op.Snap k) _ g c = inl c
@@ -92,8 +92,8 @@ has_none num line (op.Lend v y) (says.H g) h p x w = w
 has_none num line (op.Lend v y) _ h p x w = w
 has_none num line (op.Give v) (says.H g) h p x w = w
 has_none num line (op.Give v) _ h p x w = w
-has_none num line (op.Meet v q g sort f) (says.New m) h p x w = w
-has_none num line (op.Meet v q g sort f) _ h p x w = w
+has_none num line (op.Meet v sort f q g) (says.New m) h p x w = w
+has_none num line (op.Meet v sort f q g) _ h p x w = w
 has_none num line _ reply h p x w = w
 
 -- and that handle is a new one
@@ -139,7 +139,7 @@ fresh-step s n k may w = by n.entry.made.caller n.entry.made.op n.told may.event
     -- what a thread takes it has in hand
     hand : (u : ℕ) (o : Op) (told : Told) (h : ℕ) → Allows (M u) o told → IsTaking o h → HasInHand (doing_in s.control.doing u) h
     hand u (op.Adopt v kind f p g) told h a x = subst (HasInHand (doing_in s.control.doing u)) x (made-in_hand (doing_in s.control.doing u) g.0 p.0 (adopt-hand (doing_in s.control.doing u) (M u) line v kind f p g n.entry.made.cites a))
-    hand u (op.Meet v p g sort f) told h a x = subst (HasInHand (doing_in s.control.doing u)) x (meet-hand (doing_in s.control.doing u) line v p g sort f n.entry.made.cites a).0
+    hand u (op.Meet v sort f p g) told h a x = subst (HasInHand (doing_in s.control.doing u)) x (meet-hand (doing_in s.control.doing u) line v p g sort f n.entry.made.cites a).0
     hand u _ told h a x = absurd x
 
     -- what a thread is given is new
@@ -165,13 +165,13 @@ fresh-step s n k may w = by n.entry.made.caller n.entry.made.op n.told may.event
       where
         none : (o : Op) → IsEvent (P u) o → (h : ℕ) → IsTaking o h → ⊥
         none (op.Adopt v kind m p g) e h d = absurd e.0
-        none (op.Meet v p g sort m) e h d = absurd e.0
+        none (op.Meet v sort m p g) e h d = absurd e.0
         none _ e h d = d
     by C o told e l a v h p q c = aside C o told (none o e) v h p q c
       where
         none : (o : Op) → IsEvent C o → (h : ℕ) → IsTaking o h → ⊥
         none (op.Adopt v kind m p g) e h d = absurd e.0
-        none (op.Meet v p g sort m) e h d = absurd e.0
+        none (op.Meet v sort m p g) e h d = absurd e.0
         none _ e h d = d
 
 pub fresh-first : AreFreshHands opening_linkage

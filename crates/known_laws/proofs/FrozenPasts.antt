@@ -49,7 +49,7 @@ goes_on s t (op.Adopt v kind f p h) told n e k w =
     let a = adopted s.managed (place (thread_number t) v.0) kind f h.0 in
     subst (GoesOn s.managed) (sym (adopt_by-managed s p.0 h.0 a.state a.reply)) (adopted-goes_on s.managed (place (thread_number t) v.0) kind f h.0 k.managed.places)
 goes_on s t (op.Lend v x) told n e k w = GoesOn-stay s.managed
-goes_on s t (op.Meet v p h sort f) told n e k w =
+goes_on s t (op.Meet v sort f p h) told n e k w =
     let a = met s.managed (place (thread_number t) v.0) h.0 sort f (registered s.registry p.0) in
     subst (GoesOn s.managed) (sym (meet_by-managed s p.0 h.0 a.state a.reply)) (met-goes_on s.managed (place (thread_number t) v.0) h.0 sort f (registered s.registry p.0) k.managed.places (λ m q. twin-live s p.0 m k q))
 goes_on s t (op.Give v) told n e k w =

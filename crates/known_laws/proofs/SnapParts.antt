@@ -44,7 +44,7 @@ driver_goes r index reply cites (op.Refused w) (phase_of p) k x e = GoesOn-stay 
 driver_goes r index reply cites (op.Refused w) _ k x e = GoesOn-stay r.managed
 driver_goes r index reply cites (op.Adopt v kind f p h) told k x e = absurd e.0
 driver_goes r index reply cites (op.Lend v y) told k x e = absurd e.0
-driver_goes r index reply cites (op.Meet v p h sort f) told k x e = absurd e.0
+driver_goes r index reply cites (op.Meet v sort f p h) told k x e = absurd e.0
 driver_goes r index reply cites (op.Give v) told k x e = absurd e.0
 driver_goes r index reply cites _ told k x e = GoesOn-stay r.managed
 

@@ -35,7 +35,7 @@ threads_have_turns s t = record {
   start = starts (doing_at s.control t);
   adopt = λ n line p h sort f v kind k e l. doing-put s t line (op.Adopt v kind k p h) (Some n) _ e (refl, refl, refl, refl, l);
   land = λ n line h x e. doing-put s t line (op.Land h x) (Some n) _ e (refl, refl, refl, refl);
-  meet = λ n line p h sort f v e. doing-put s t line (op.Meet v p h sort f) (Some n) _ e (refl, refl, refl, refl, refl, refl);
+  meet = λ n line p h sort f v e. doing-put s t line (op.Meet v sort f p h) (Some n) _ e (refl, refl, refl, refl, refl, refl);
   release_given = λ n line h e. doing-put s t line (op.Release h) (Some n) _ e (refl, refl, refl);
   release_met = λ n line h e. doing-put s t line (op.Release h) (Some n) _ e (refl, refl, refl);
 }

@@ -38,7 +38,7 @@ IsOther _ = Unit {0}
 same : (r : ManagedReplay) (t : Thread) (o : Op) (told : Told) → IsOther o → (managed_answer r t o told).state.contracted ≡ r.contracted
 same r t (op.Line a) told x = refl
 same r t (op.Adopt v kind n p h) told x = adopt_by-same r p.0 h.0 _ _
-same r t (op.Meet v p h sort n) told x = meet_by-same r p.0 h.0 _ _
+same r t (op.Meet v sort n p h) told x = meet_by-same r p.0 h.0 _ _
 same r t (op.Give v) told x = give_by-same r _ _
 same r t (op.Snap k) told x = absurd x
 same r t (op.Contract k) told x = absurd x

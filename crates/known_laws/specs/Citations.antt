@@ -54,7 +54,7 @@ IsGiveOf line h m = (v : Var) × (m.index ≡ line) × (m.op ≡ op.Give v) × (
 
 -- a meet that didn't take that handle, on that line
 abbrev pub IsMeetOf : ℕ → HNum → Made → Type 0
-IsMeetOf line h m = (v : Var) × (p : PNum) × (sort : Sort) × (f : ℕ) × (m.index ≡ line) × (m.op ≡ op.Meet v p h sort f) × IsNotNew m.reply
+IsMeetOf line h m = (v : Var) × (p : PNum) × (sort : Sort) × (f : ℕ) × (m.index ≡ line) × (m.op ≡ op.Meet v sort f p h) × IsNotNew m.reply
 
 -- the snap of that cycle
 abbrev pub IsSnapOf : ℕ → Made → Type 0
@@ -68,7 +68,7 @@ IsClearOf cycle m = m.op ≡ op.Clear record { 0 = cycle }
 abbrev pub Cites : List Noted → Made → ℕ → Op → Type 0
 Cites h x n (op.Adopt v kind k p g) = HasCited h x n (IsMakeOf x.index p g)
 Cites h x n (op.Land g y) = HasCited h x n (IsLendOf x.index g y)
-Cites h x n (op.Meet v p g sort f) = HasCited h x n (IsGripOf x.index p g sort f)
+Cites h x n (op.Meet v sort f p g) = HasCited h x n (IsGripOf x.index p g sort f)
 Cites h x n (op.Release g) = HasCited h x n (λ m. IsGiveOf x.index g m ⊎ IsMeetOf x.index g m)
 Cites h x n (op.Mirror k) = HasCited h x n (IsSnapOf k.0)
 Cites h x n (op.Weaken g) = HasCited h x n (λ m. (k : ℕ) × IsSnapOf k m)

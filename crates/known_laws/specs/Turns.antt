@@ -43,7 +43,7 @@ pub record AreThreadTurns (s : Linkage) (t : ℕ) : Type 0 where
   pub start : IsDone (doing_at s.control t) → MayStart (doing_at s.control t) None
   pub adopt : (n line : ℕ) (p : PNum) (h : HNum) (sort : Sort) (f : ℕ) (v : Var) (kind : Kind) (k : ℕ) → doing_at s.control t ≡ made n line p.0 h.0 sort f → IsLine (M t) (act.Bridge v kind k sort f) → ThreadTurn s t line (op.Adopt v kind k p h) (Some n)
   pub land : (n line : ℕ) (h : HNum) (x : StaticNo) → doing_at s.control t ≡ lent n line h.0 x.0 → ThreadTurn s t line (op.Land h x) (Some n)
-  pub meet : (n line : ℕ) (p : PNum) (h : HNum) (sort : Sort) (f : ℕ) (v : Var) → doing_at s.control t ≡ gripped n line p.0 h.0 sort f → ThreadTurn s t line (op.Meet v p h sort f) (Some n)
+  pub meet : (n line : ℕ) (p : PNum) (h : HNum) (sort : Sort) (f : ℕ) (v : Var) → doing_at s.control t ≡ gripped n line p.0 h.0 sort f → ThreadTurn s t line (op.Meet v sort f p h) (Some n)
   pub release_given : (n line : ℕ) (h : HNum) → doing_at s.control t ≡ given n line h.0 → ThreadTurn s t line (op.Release h) (Some n)
   pub release_met : (n line : ℕ) (h : HNum) → doing_at s.control t ≡ met n line h.0 → ThreadTurn s t line (op.Release h) (Some n)
 

@@ -42,7 +42,7 @@ step-side : (t : Thread) (o : Op) → IsStepBy t o → is_peer_event t o ≡ fal
 step-side t (op.Line a) b = line-side t a b
 step-side t (op.Lend v x) b = refl
 step-side t (op.Adopt v kind n p h) b = refl
-step-side t (op.Meet v p h sort n) b = refl
+step-side t (op.Meet v sort n p h) b = refl
 step-side t (op.Give v) b = refl
 step-side t _ b = absurd b
 
@@ -55,7 +55,7 @@ pub step-allowed : (s : ManagedReplay) (t : Thread) (o : Op) → IsStepBy t o �
 step-allowed s t (op.Line a) b f = tt
 step-allowed s t (op.Lend v x) b f = tt
 step-allowed s t (op.Adopt v kind n p h) b f = f
-step-allowed s t (op.Meet v p h sort n) b f = f
+step-allowed s t (op.Meet v sort n p h) b f = f
 step-allowed s t (op.Give v) b f = tt
 step-allowed s t _ b f = absurd b
 

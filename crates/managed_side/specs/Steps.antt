@@ -27,7 +27,7 @@ by_meet h r = []
 -- the handle that an entry adopts
 abbrev pub adopted_by : Op → Reply → List ℕ
 adopted_by (op.Adopt v kind n p h) r = by_adopt h r
-adopted_by (op.Meet v p h sort n) r = by_meet h r
+adopted_by (op.Meet v sort n p h) r = by_meet h r
 adopted_by o r = []
 
 -- the handles that the entries adopt
@@ -59,7 +59,7 @@ abbrev pub IsStepBy : Thread → Op → Type 0
 IsStepBy t (op.Line a) = IsLineBy t a
 IsStepBy t (op.Lend v x) = IsManagedThread t
 IsStepBy t (op.Adopt v kind n p h) = IsManagedThread t
-IsStepBy t (op.Meet v p h sort n) = IsManagedThread t
+IsStepBy t (op.Meet v sort n p h) = IsManagedThread t
 IsStepBy t (op.Give v) = IsManagedThread t
 IsStepBy t _ = ⊥
 
@@ -70,13 +70,13 @@ IsManagedStep t o = IsEvent t o × IsStepBy t o
 -- the handle that an `adopt` or a `meet` names was adopted by no entry
 abbrev pub IsFresh : ManagedReplay → Op → Type 0
 IsFresh s (op.Adopt v kind n p h) = Contains s.adopted h.0 → ⊥
-IsFresh s (op.Meet v p h sort n) = Contains s.adopted h.0 → ⊥
+IsFresh s (op.Meet v sort n p h) = Contains s.adopted h.0 → ⊥
 IsFresh s o = Unit {0}
 
 -- an `adopt` and a `meet` cite an entry, and no other event of a step does
 abbrev pub CitesRightly : Op → Option ℕ → Type 0
 CitesRightly (op.Adopt v kind n p h) cites = IsSome cites
-CitesRightly (op.Meet v p h sort n) cites = IsSome cites
+CitesRightly (op.Meet v sort n p h) cites = IsSome cites
 CitesRightly o cites = cites ≡ None
 
 -- the entry of a thread's event

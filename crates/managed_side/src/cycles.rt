@@ -19,7 +19,7 @@ pub struct ResolveOut {
 
 impl ManagedSide {
     /// The open cycle's contraction is made, with so many components and cross-references. One entry is drawn and put last. It takes no memory.
-    pub fn contracted<D: Draw>(&mut self, draw: &mut D, index: u32, sccs: u32, xrefs: u32)
+    pub fn contracted<D: Draw>(&mut self, draw: &mut D, index: u16, sccs: u32, xrefs: u32)
         requires contracted { MayContractWith self.old.state sccs xrefs }
         requires may { (c : OpenCycle) → self.old.state.managed.cycle ≡ Some c → MayDraw managed_rules (record { floor = D.floor; left = D.left; may = D.may; drew = D.drew }) draw.old self.old C (contract_op c) }
         ensures contracts { (c : OpenCycle) → self.old.state.managed.cycle ≡ Some c → Contracts (record { floor = D.floor; left = D.left; may = D.may; drew = D.drew }) draw.old draw.new self.old self.new index sccs xrefs c }
@@ -41,7 +41,7 @@ impl ManagedSide {
     pub fn resolve<D: Draw>(
         &mut self,
         draw: &mut D,
-        index: u32,
+        index: u16,
         cites: u64,
         alive: &Alive,
     ) -> ResolveOut
@@ -71,7 +71,7 @@ impl ManagedSide {
     }
 
     /// Closes the open cycle; nothing is freed. One entry is drawn and put last. It takes no memory.
-    pub fn abandon<D: Draw>(&mut self, draw: &mut D, index: u32)
+    pub fn abandon<D: Draw>(&mut self, draw: &mut D, index: u16)
         requires open { IsSome self.old.state.managed.cycle }
         requires may { (c : OpenCycle) → self.old.state.managed.cycle ≡ Some c → MayDraw managed_rules (record { floor = D.floor; left = D.left; may = D.may; drew = D.drew }) draw.old self.old C (abandon_op c) }
         ensures abandons { (c : OpenCycle) → self.old.state.managed.cycle ≡ Some c → Abandons (record { floor = D.floor; left = D.left; may = D.may; drew = D.drew }) draw.old draw.new self.old self.new index c }

@@ -64,7 +64,7 @@ impl ManagedSide {
     pub fn snap<D: Draw>(
         &mut self,
         draw: &mut D,
-        index: u32,
+        index: u16,
         pins: &Pins,
     ) -> Result<Opened, SnapFault>
         requires pins { ArePins pins.now.at self.old.state.managed }
@@ -85,7 +85,7 @@ impl ManagedSide {
     }
 
     // A snapshot while no cycle is open. Answers `AllocError`, with the side and `draw` as before, where there is no memory.
-    fn snap_closed<D: Draw>(&mut self, draw: &mut D, index: u32) -> Result<Opened, AllocError>
+    fn snap_closed<D: Draw>(&mut self, draw: &mut D, index: u16) -> Result<Opened, AllocError>
         requires closed { self.old.state.managed.cycle ≡ None }
         requires may { MayDraw managed_rules (record { floor = D.floor; left = D.left; may = D.may; drew = D.drew }) draw.old self.old C (snap_op self.old.state.managed) }
         ensures snaps { IfOk result (λ o. OpensBySnap (record { floor = D.floor; left = D.left; may = D.may; drew = D.drew }) draw.old draw.new self.old self.new index o) }

@@ -94,7 +94,7 @@ impl ManagedSide {
         &mut self,
         draw: &mut D,
         caller: Thread,
-        index: u32,
+        index: u16,
         op: &Op,
         cites: Option<u64>,
     ) -> Result<Reply, AllocError>
@@ -125,7 +125,7 @@ impl ManagedSide {
         &mut self,
         draw: &mut D,
         caller: Thread,
-        index: u32,
+        index: u16,
         v: Var,
         pin: Option<MNum>,
     ) -> Result<Reply, AllocError>
@@ -155,7 +155,7 @@ impl ManagedSide {
     pub fn refused<D: Draw>(
         &mut self,
         draw: &mut D,
-        index: u32,
+        index: u16,
         word: PhaseWord,
         phase: Phase,
     ) -> Result<Reply, AllocError>

@@ -29,7 +29,7 @@ use xref_list::Components;
 pub fn install<D: Draw>(
     side: &mut PeerSide,
     draw: &mut D,
-    index: u32,
+    index: u16,
     cycle: Cycle,
     cites: u64,
     graph: &DeadGraph,

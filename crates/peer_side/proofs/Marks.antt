@@ -218,7 +218,7 @@ marks-step s mk old new t (op.Line (act.PhaseLine w')) cites step heap seen w m 
 marks-step s mk old new t (op.Line (act.Finalise n)) cites step heap seen w m = absurd step.2
 marks-step s mk old new t (op.Adopt v k n p h) cites step heap seen w m = absurd step
 marks-step s mk old new t (op.Lend v x) cites step heap seen w m = absurd step
-marks-step s mk old new t (op.Meet v p h sort n) cites step heap seen w m = absurd step
+marks-step s mk old new t (op.Meet v sort n p h) cites step heap seen w m = absurd step
 marks-step s mk old new t (op.Give v) cites step heap seen w m = absurd step
 marks-step s mk old new t (op.Snap k) cites step heap seen w m = absurd step
 marks-step s mk old new t (op.Contract k) cites step heap seen w m = absurd step

@@ -50,7 +50,7 @@ impl PeerSide {
 
     /// The references that wait come to stand all together, and the cycle is mirrored: one entry is drawn and put last, and their number is
     /// answered. Each of their ends has to be under a strong handle, so that no open marking frees it. It takes no memory.
-    pub fn stand<D: Draw>(&mut self, draw: &mut D, index: u32, cycle: Cycle, cites: u64) -> u32
+    pub fn stand<D: Draw>(&mut self, draw: &mut D, index: u16, cycle: Cycle, cites: u64) -> u32
         requires reserved { IsSome self.old.reserve.next }
         requires closed { self.old.state.mirror ≡ None }
         requires once { Contains self.old.state.mirrors cycle.0 → ⊥ }
@@ -81,7 +81,7 @@ impl PeerSide {
     }
 
     /// Makes a held strong handle weak, in the mirrored cycle: one entry is drawn and put last. It takes no memory.
-    pub fn weaken<D: Draw>(&mut self, draw: &mut D, index: u32, cites: u64, h: HNum)
+    pub fn weaken<D: Draw>(&mut self, draw: &mut D, index: u16, cites: u64, h: HNum)
         requires left { 1 ≤ self.old.reserve.left }
         requires weakens { MayWeaken self.old.state h.0 (Some cites) }
         requires may { MayDraw peer_rules (record { floor = D.floor; left = D.left; may = D.may; drew = D.drew }) draw.old (seen self.old) Thread.C (Op.Weaken h) }
@@ -106,7 +106,7 @@ impl PeerSide {
     /// Restores a handle that was weakened in the mirrored cycle. Exactly where it is cleared it leaves the table, which is `Cleared`; else it is
     /// strong again, and its peer is brought back: while a marking is open it is marked, with all that it reaches. One entry is drawn and put
     /// last. It takes no memory.
-    pub fn restore<D: Draw>(&mut self, draw: &mut D, index: u32, h: HNum) -> Back
+    pub fn restore<D: Draw>(&mut self, draw: &mut D, index: u16, h: HNum) -> Back
         requires restores { MayRestore self.old.state h.0 }
         requires may { MayDraw peer_rules (record { floor = D.floor; left = D.left; may = D.may; drew = D.drew }) draw.old (seen self.old) Thread.C (Op.Restore h) }
         ensures adds { AddsLawful peer_rules (record { floor = D.floor; left = D.left; may = D.may; drew = D.drew }) draw.old draw.new (seen self.old) (seen self.new) (restores index h result) nothing }
@@ -135,7 +135,7 @@ impl PeerSide {
     /// memory.
     ///
     /// No reference led from a peer that is restored strong to a freed one: so none led to one whose restore answered `Cleared`.
-    pub fn clear_refs<D: Draw>(&mut self, draw: &mut D, index: u32, cycle: Cycle) -> u64
+    pub fn clear_refs<D: Draw>(&mut self, draw: &mut D, index: u16, cycle: Cycle) -> u64
         requires clears { MayClear self.old.state cycle.0 }
         requires targets { AreTargetsRestored self.old.state }
         requires may { MayDraw peer_rules (record { floor = D.floor; left = D.left; may = D.may; drew = D.drew }) draw.old (seen self.old) Thread.C (Op.Clear cycle) }
@@ -194,7 +194,7 @@ fn take_cycle(entries: &mut Entries, kept: u64, handles: u32) -> Result<(), Allo
 fn note<D: Draw>(
     entries: &mut Entries,
     draw: &mut D,
-    index: u32,
+    index: u16,
     op: Op,
     reply: Reply,
     cites: Option<u64>,

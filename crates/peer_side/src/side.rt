@@ -125,7 +125,7 @@ impl PeerSide {
         &mut self,
         draw: &mut D,
         caller: Thread,
-        index: u32,
+        index: u16,
         op: &Op,
         cites: Option<u64>,
     ) -> Result<Reply, AllocError>
@@ -150,7 +150,7 @@ impl PeerSide {
         &mut self,
         draw: &mut D,
         caller: Thread,
-        index: u32,
+        index: u16,
         act: &Act,
         cites: Option<u64>,
     ) -> Result<Reply, AllocError>
@@ -175,7 +175,7 @@ impl PeerSide {
         &mut self,
         draw: &mut D,
         caller: Thread,
-        index: u32,
+        index: u16,
         op: &Op,
         cites: Option<u64>,
     ) -> Result<Reply, AllocError>
@@ -207,7 +207,7 @@ impl PeerSide {
         &mut self,
         draw: &mut D,
         caller: Thread,
-        index: u32,
+        index: u16,
     ) -> Result<Reply, AllocError>
         requires caller { IsPeerThread caller ⊎ IsDriver caller }
         requires may { MayDraw peer_rules (record { floor = D.floor; left = D.left; may = D.may; drew = D.drew }) draw.old (seen self.old) caller Op.Begin }
@@ -231,7 +231,7 @@ impl PeerSide {
         &mut self,
         draw: &mut D,
         caller: Thread,
-        index: u32,
+        index: u16,
     ) -> Result<Reply, AllocError>
         requires caller { IsPeerThread caller ⊎ IsDriver caller }
         requires open { IsDriver caller → IsSome self.old.state.marking }
@@ -261,7 +261,7 @@ impl PeerSide {
         &mut self,
         draw: &mut D,
         caller: Thread,
-        index: u32,
+        index: u16,
     ) -> Result<Reply, AllocError>
         requires caller { IsPeerThread caller }
         requires may_begin { MayDraw peer_rules (record { floor = D.floor; left = D.left; may = D.may; drew = D.drew }) draw.old (seen self.old) caller Op.Begin }
@@ -287,7 +287,7 @@ impl PeerSide {
         &mut self,
         draw: &mut D,
         caller: Thread,
-        index: u32,
+        index: u16,
         op: Op,
         reply: Reply,
     ) -> Result<Reply, AllocError>
@@ -320,7 +320,7 @@ impl PeerSide {
         &mut self,
         draw: &mut D,
         caller: Thread,
-        index: u32,
+        index: u16,
     ) -> Result<Marking, BeginFault>
         requires caller { IsPeerThread caller ⊎ IsDriver caller }
         requires may { MayDraw peer_rules (record { floor = D.floor; left = D.left; may = D.may; drew = D.drew }) draw.old (seen self.old) caller Op.Begin }
@@ -356,7 +356,7 @@ impl PeerSide {
         &mut self,
         draw: &mut D,
         caller: Thread,
-        index: u32,
+        index: u16,
         own: bool,
     ) -> Result<Marking, AllocError>
         requires caller { IsPeerThread caller ⊎ IsDriver caller }
@@ -401,7 +401,7 @@ impl PeerSide {
         &mut self,
         draw: &mut D,
         caller: Thread,
-        index: u32,
+        index: u16,
     ) -> Result<Swept, NoMark>
         requires caller { IsPeerThread caller ⊎ IsDriver caller }
         requires own { MayEnd self.old.state.marking caller }
@@ -427,7 +427,7 @@ impl PeerSide {
         &mut self,
         draw: &mut D,
         caller: Thread,
-        index: u32,
+        index: u16,
         marking: Marking,
     ) -> Span
         requires caller { IsPeerThread caller ⊎ IsDriver caller }

@@ -52,7 +52,7 @@ opens_cycle _ = false
 abbrev pub makes_managed : Op → Reply → Bool
 makes_managed (op.Line (act.New v kind n)) r = is_m r
 makes_managed (op.Adopt v kind n p h) r = is_m r
-makes_managed (op.Meet v p h sort n) r = is_new r
+makes_managed (op.Meet v sort n p h) r = is_new r
 makes_managed _ r = false
 
 -- whether the event made a peer: a `new` of a peer thread, or a make

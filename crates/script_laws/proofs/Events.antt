@@ -111,7 +111,7 @@ adopt-names : (d : Doing) (t : Thread) (l : ℕ) (v : Var) (kind : Kind) (k : �
 adopt-names (made n line p' h' sort f) t l v kind k p h c a = record { peer = sym a.2; handle = sym a.3 }
 adopt-names d t l v kind k p h c a = absurd a
 
-meet-names : (d : Doing) (l : ℕ) (v : Var) (p : PNum) (h : HNum) (sort : Sort) (f : ℕ) (c : Option ℕ) → MayMeet d l (op.Meet v p h sort f) c → HasNames d p.0 h.0
+meet-names : (d : Doing) (l : ℕ) (v : Var) (p : PNum) (h : HNum) (sort : Sort) (f : ℕ) (c : Option ℕ) → MayMeet d l (op.Meet v sort f p h) c → HasNames d p.0 h.0
 meet-names (gripped n line p' h' sort' f') l v p h sort f c a = record { peer = sym a.2; handle = sym a.3 }
 meet-names d l v p h sort f c a = absurd a
 
@@ -134,7 +134,7 @@ managed-known s n l (op.Adopt v k f p h) r c x e w =
 managed-known s n l (op.Lend v y) r c x e w = (e.1, e.2)
 managed-known s n l (op.Land h y) r c x e w = (land-handle (doing_at s.control n) l h y c w, e.1)
 managed-known s n l (op.Grip y) r c x e w = e.1
-managed-known s n l (op.Meet v p h k f) r c x e w =
+managed-known s n l (op.Meet v k f p h) r c x e w =
     let m = meet-names (doing_at s.control n) l v p h k f c w in
     (e.1, e.2, m.peer, m.handle)
 managed-known s n l (op.Give v) r c x e w = e.1
@@ -150,7 +150,7 @@ peer-known s n (op.Adopt v k f p h) e = absurd e.0
 peer-known s n (op.Lend v y) e = absurd e.0
 peer-known s n (op.Land h y) e = absurd e.0
 peer-known s n (op.Grip y) e = absurd e.0
-peer-known s n (op.Meet v p h k f) e = absurd e.0
+peer-known s n (op.Meet v k f p h) e = absurd e.0
 peer-known s n (op.Give v) e = absurd e.0
 peer-known s n op.Begin e = tt
 peer-known s n op.Sweep e = tt

@@ -40,7 +40,7 @@ IsKnown s (op.Adopt v k n p h) = IsVar v × (n ≤ 16) × (s.peer ≡ p.0) × (s
 IsKnown s (op.Lend v x) = IsVar v × (x.0 < 16)
 IsKnown s (op.Land h x) = (s.handle ≡ h.0) × (x.0 < 16)
 IsKnown s (op.Grip x) = x.0 < 16
-IsKnown s (op.Meet v p h k n) = IsVar v × (n ≤ 16) × (s.peer ≡ p.0) × (s.handle ≡ h.0)
+IsKnown s (op.Meet v k n p h) = IsVar v × (n ≤ 16) × (s.peer ≡ p.0) × (s.handle ≡ h.0)
 IsKnown s (op.Give v) = IsVar v
 IsKnown s (op.Release h) = s.handle ≡ h.0
 IsKnown s op.Begin = Unit {0}
@@ -75,7 +75,7 @@ read-known s t (op.Adopt v o n p h) k = λ i. op.Adopt (read-var v k.0 i) (read-
 read-known s t (op.Lend v x) k = λ i. op.Lend (read-var v k.0 i) (read-static x (115 ∷ decimal x.0) k.1 refl i)
 read-known s t (op.Land h x) k = λ i. op.Land record { 0 = k.0 i } (read-static x (115 ∷ decimal x.0) k.1 refl i)
 read-known s t (op.Grip x) k = λ i. op.Grip (read-static x (115 ∷ decimal x.0) k refl i)
-read-known s t (op.Meet v p h o n) k = λ i. op.Meet (read-var v k.0 i) record { 0 = k.2 i } record { 0 = k.3 i } (read-sort o i) (read-number n (omega (arith, k.1)) i)
+read-known s t (op.Meet v o n p h) k = λ i. op.Meet (read-var v k.0 i) (read-sort o i) (read-number n (omega (arith, k.1)) i) record { 0 = k.2 i } record { 0 = k.3 i }
 read-known s t (op.Give v) k = λ i. op.Give (read-var v k i)
 read-known s t (op.Release h) k = λ i. op.Release record { 0 = k i }
 read-known s t op.Begin k = refl

@@ -42,7 +42,7 @@ land-cites (lent n line h x) l (op.Land h' x') c c' a b = a.0 ∙ sym b.0
 land-cites d l o c c' a b = absurd a
 
 meet-cites : (d : Doing) (l : ℕ) (o : Op) (c c' : Option ℕ) → MayMeet d l o c → MayMeet d l o c' → c ≡ c'
-meet-cites (gripped n line p h sort f) l (op.Meet v p' h' sort' f') c c' a b = a.0 ∙ sym b.0
+meet-cites (gripped n line p h sort f) l (op.Meet v sort' f' p' h') c c' a b = a.0 ∙ sym b.0
 meet-cites d l o c c' a b = absurd a
 
 release-cites : (d : Doing) (l h : ℕ) (c c' : Option ℕ) → MayRelease d l h c → MayRelease d l h c' → c ≡ c'
@@ -54,7 +54,7 @@ release-cites d l h' c c' a b = absurd a
 thread-cites : (d : Doing) (t : Thread) (l : ℕ) (o : Op) (c c' : Option ℕ) → ThreadAllows d t l o c → ThreadAllows d t l o c' → c ≡ c'
 thread-cites d t l (op.Adopt v kind k p h) c c' a b = adopt-cites d t l (op.Adopt v kind k p h) c c' a b
 thread-cites d t l (op.Land h x) c c' a b = land-cites d l (op.Land h x) c c' a b
-thread-cites d t l (op.Meet v p h sort f) c c' a b = meet-cites d l (op.Meet v p h sort f) c c' a b
+thread-cites d t l (op.Meet v sort f p h) c c' a b = meet-cites d l (op.Meet v sort f p h) c c' a b
 thread-cites d t l (op.Release h) c c' a b = release-cites d l h.0 c c' a b
 thread-cites d t l o c c' a b = start-cites d c c' a b
 

@@ -111,7 +111,7 @@ read_event s (w ∷ ws) = if is_word w (codes "make") then op.Make (sort_of (at 
     else (if is_word w (codes "lend") then op.Lend (var_of (at ws 0)) (static_of (at ws 1))
     else (if is_word w (codes "land") then op.Land (handle_of s) (static_of (at ws 1))
     else (if is_word w (codes "grip") then op.Grip (static_of (at ws 0))
-    else (if is_word w (codes "meet") then op.Meet (var_of (at ws 0)) (peer_of s) (handle_of s) (sort_of (at ws 3)) (number_of (at ws 4))
+    else (if is_word w (codes "meet") then op.Meet (var_of (at ws 0)) (sort_of (at ws 3)) (number_of (at ws 4)) (peer_of s) (handle_of s)
     else (if is_word w (codes "give") then op.Give (var_of (at ws 0))
     else (if is_word w (codes "release") then op.Release (handle_of s)
     else (if is_word w (codes "begin") then op.Begin

@@ -42,7 +42,7 @@ fn cycle_last<N: OrderName>(
     rt: &impl Wait,
     alloc: Global,
     shared: &Shared<N>,
-    number: u32,
+    number: u16,
     driver: Caller<N>,
     others: &mut Vec<Caller<N>>,
 ) -> Result<Caller<N>, AllocError>
@@ -72,7 +72,7 @@ fn run_named<N: OrderName + Send + Sync, R: Threads + Wait + Sync, T: Turnstile 
     requires run { (N.managed ≡ 8) × (N.peers ≡ 8) }
     requires seat { (seat.order ≡ N.order) × OwnsAll seat.view × KnowsNothing seat.view }
     requires lines { CanRun script.now }
-    requires room { length script.now < 4294967295 }
+    requires room { length script.now < 65535 }
     ensures { IfOk result (IsRunThenCycle script.now) }
 {
     let (shared, mut desk) = Shared::<N>::new(alloc, order, seat, 8, 8)?;
@@ -80,7 +80,7 @@ fn run_named<N: OrderName + Send + Sync, R: Threads + Wait + Sync, T: Turnstile 
     let ended = run_jobs(rt, alloc, &shared, script, turn, jobs)?;
     let mut callers = all_ended(alloc, ended)?;
     let driver = callers.remove(0);
-    let number = script.len() as u32 + 1;
+    let number = script.len() as u16 + 1;
     let driver = cycle_last(rt, alloc, &shared, number, driver, &mut callers)?;
     callers.push(driver)?;
     shared.finish(desk, callers)
@@ -95,7 +95,7 @@ pub fn run_threads_then_cycle<R: Threads + Wait + Sync, T: Turnstile + Sync>(
     turn: &T,
 ) -> Result<History, AllocError>
     requires lines { CanRun script.now }
-    requires room { length script.now < 4294967295 }
+    requires room { length script.now < 65535 }
     ensures history { IfOk result (IsRunThenCycle script.now) }
 {
     let (order, seat) = Order::new(alloc, 8)?;
@@ -120,7 +120,7 @@ pub fn run_serial_then_cycle(
 ) -> Result<History, AllocError>
     requires lines { CanRun script.now }
     requires cycles { DrivesCycles script.now }
-    requires room { length script.now < 4294967295 }
+    requires room { length script.now < 65535 }
     ensures in_order { IfOk result (IsRunInOrder (script.now ++ cycle_line ∷ [])) }
     ensures history { IfOk result (IsRunThenCycle script.now) }
 {

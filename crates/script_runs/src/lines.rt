@@ -23,7 +23,7 @@ pub(crate) fn run_line<N: OrderName>(
     rt: &impl Wait,
     shared: &Shared<N>,
     caller: &mut Caller<N>,
-    index: u32,
+    index: u16,
     act: &Act,
 ) -> Result<(), AllocError>
     requires act { IsOperationOf caller.old.thread act.now }
@@ -46,7 +46,7 @@ pub(crate) fn drive_line<N: OrderName>(
     alloc: Global,
     shared: &Shared<N>,
     driver: &mut Driver<N>,
-    index: u32,
+    index: u16,
     act: &Act,
 ) -> Result<(), AllocError>
     requires act { IsLine C act.now }
@@ -64,7 +64,7 @@ pub(crate) fn drive_left<N: OrderName>(
     alloc: Global,
     shared: &Shared<N>,
     driver: &mut Driver<N>,
-    last: u32,
+    last: u16,
 ) -> Result<(), AllocError>
     requires index { line_of driver.old ≤ last }
     ensures index { line_of driver.new ≤ last }

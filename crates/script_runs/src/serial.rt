@@ -27,7 +27,7 @@ fn run_told<N: OrderName>(
     shared: &Shared<N>,
     driver: &mut Driver<N>,
     caller: &mut Caller<N>,
-    index: u32,
+    index: u16,
     act: &Act,
 ) -> Result<(), AllocError>
     requires act { IsOperationOf caller.old.thread act.now }
@@ -67,10 +67,10 @@ fn run_next<N: OrderName>(
     shared: &Shared<N>,
     driver: &mut Driver<N>,
     others: &mut Vec<Caller<N>>,
-    last: u32,
-    number: u32,
+    last: u16,
+    number: u16,
     line: &(Thread, Act),
-) -> Result<u32, AllocError>
+) -> Result<u16, AllocError>
     requires line { IsRunnable line.now }
     requires others { AreOthers others.old.items }
     requires up_to { AreUpTo number others.old.items }
@@ -105,7 +105,7 @@ fn run_all<N: OrderName>(
     driver: &mut Driver<N>,
     others: &mut Vec<Caller<N>>,
     script: &[(Thread, Act)],
-) -> Result<u32, AllocError>
+) -> Result<u16, AllocError>
     requires lines { CanRun script.now }
     requires others { AreOthers others.old.items }
     requires up_to { AreUpTo 0 others.old.items }

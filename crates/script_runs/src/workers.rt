@@ -80,7 +80,7 @@ pub(crate) fn run_own<N: OrderName, T: Turnstile>(
     for (t, act) in script {
         number += 1;
         if is_thread(thread, *t) {
-            turn.pass(thread, number);
+            turn.pass(thread, number as u32);
             run_line(rt, shared, &mut caller, number, act)?;
         }
     }
@@ -108,7 +108,7 @@ pub(crate) fn run_driver<N: OrderName, T: Turnstile>(
     for (t, act) in script {
         number += 1;
         if is_thread(Thread::C, *t) {
-            turn.pass(Thread::C, number);
+            turn.pass(Thread::C, number as u32);
             match drive_line(rt, alloc, shared, &mut driver, number, act) {
                 Ok(()) => last = number,
                 Err(error) => {

@@ -69,13 +69,13 @@ pub step-named : (s : ManagedReplay) (t : Thread) (o : Op) (n : ℕ) → IsStepB
 step-named s t (op.Line a) n b e x c = inl c
 step-named s t (op.Lend v y) n b e x c = inl c
 step-named s t (op.Give v) n b e x c = give-named s _ _ n x c
-step-named s t (op.Meet v p h sort k) n b e x c = elim (meet-named s p.0 h.0 _ _ x c) [ inl o ↦ inl o | inr q ↦ inr (q ∙ e) ]
+step-named s t (op.Meet v sort k p h) n b e x c = elim (meet-named s p.0 h.0 _ _ x c) [ inl o ↦ inl o | inr q ↦ inr (q ∙ e) ]
 step-named s t (op.Adopt v kind k p h) n b e x c = elim (adopt-named s p.0 h.0 _ _ x c) [ inl o ↦ inl o | inr q ↦ inr (q ∙ e) ]
 step-named s t _ n b e x c = absurd b
 
 -- the handle of a step that names no other was adopted by no entry
 pub fresh-next : (s : ManagedReplay) (o : Op) (n : ℕ) → NamesNext o n → ((h : ℕ) → Contains s.adopted h → h < n) → IsFresh s o
-fresh-next s (op.Meet v p h sort k) n e below = λ c. (let l = below h.0 c in absurd (omega (arith, l, e)))
+fresh-next s (op.Meet v sort k p h) n e below = λ c. (let l = below h.0 c in absurd (omega (arith, l, e)))
 fresh-next s (op.Adopt v kind k p h) n e below = λ c. (let l = below h.0 c in absurd (omega (arith, l, e)))
 fresh-next s _ n e below = tt
 
@@ -86,7 +86,7 @@ step-cycle s t (op.Lend v x) k b = refl
 step-cycle s t (op.Give v) k b =
     let u = place (thread_number t) v.0 in
     ap (λ (z : Managed). z.cycle) (give_by-managed s (slot s.managed.heap.vars u) (given_up s.managed u)) ∙ (given_up-goes_on s.managed u).cycle
-step-cycle s t (op.Meet v p h sort n) k b =
+step-cycle s t (op.Meet v sort n p h) k b =
     let u = place (thread_number t) v.0 in
     let a = met s.managed u h.0 sort n (registered s.registry p.0) in
     ap (λ (z : Managed). z.cycle) (meet_by-managed s p.0 h.0 a.state a.reply) ∙ (met-goes_on s.managed u h.0 sort n (registered s.registry p.0) k.managed.places (λ m e. twin-live s p.0 m k e)).cycle
@@ -115,6 +115,6 @@ pub managed-taken : (t : Thread) (o : Op) → IsManagedStep t o → TakesManaged
 managed-taken t (op.Line a) s = line-taken t a s.1
 managed-taken t (op.Lend v x) s = thread-taken t s.1
 managed-taken t (op.Adopt v kind n p h) s = thread-taken t s.1
-managed-taken t (op.Meet v p h sort n) s = thread-taken t s.1
+managed-taken t (op.Meet v sort n p h) s = thread-taken t s.1
 managed-taken t (op.Give v) s = thread-taken t s.1
 managed-taken t _ s = absurd s.1

@@ -20,5 +20,5 @@ pub record IsDriven (s : Side ManagedReplay) (count waiting : ℕ) : Type 0 wher
 -- the handle that an `adopt` or a `meet` names has this number
 abbrev pub NamesNext : Op → ℕ → Type 0
 NamesNext (op.Adopt v kind n p h) next = h.0 ≡ next
-NamesNext (op.Meet v p h sort n) next = h.0 ≡ next
+NamesNext (op.Meet v sort n p h) next = h.0 ≡ next
 NamesNext o next = Unit {0}

@@ -145,8 +145,8 @@ answer-counts s t (op.Adopt v kind n p h) told k w =
     let a = adopted s.managed (place (thread_number t) v.0) kind n h.0 in
     through s.managed a.state _ (op.Adopt v kind n p h) a.reply _ (adopt_by-managed s p.0 h.0 a.state a.reply) (adopt_by-reply s p.0 h.0 a.state a.reply) (adopt-counts s.managed k.managed.freed (place (thread_number t) v.0) kind n h.0 (op.Adopt v kind n p h) refl (λ m. refl) refl)
 answer-counts s t (op.Lend v x) told k w = by_same s.managed (op.Lend v x) s.managed _ (same-stay s.managed) refl refl (handle-plain s.managed (place (thread_number t) v.0))
-answer-counts s t (op.Meet v p h sort n) told k w =
-    let o = op.Meet v p h sort n in
+answer-counts s t (op.Meet v sort n p h) told k w =
+    let o = op.Meet v sort n p h in
     let twin = registered s.registry p.0 in
     let a = met s.managed (place (thread_number t) v.0) h.0 sort n twin in
     through s.managed a.state _ o a.reply _ (meet_by-managed s p.0 h.0 a.state a.reply) (meet_by-reply s p.0 h.0 a.state a.reply) (meet-counts s.managed k.managed.freed (place (thread_number t) v.0) h.0 sort n twin s.managed.cycle o refl (λ m. refl) (λ m. refl) refl (λ m. refl))

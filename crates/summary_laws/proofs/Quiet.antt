@@ -53,7 +53,7 @@ peers-leave (P u) (op.Line (act.New v kind n)) r e b = absurd e.0.1
 peers-leave (M u) (op.Line a) r e b = none-both (sym b)
 peers-leave C (op.Line a) r e b = none-both (sym b)
 peers-leave t (op.Adopt v kind n p h) r e b = none-both (sym b)
-peers-leave t (op.Meet v p h sort n) r e b = none-both (sym b)
+peers-leave t (op.Meet v sort n p h) r e b = none-both (sym b)
 peers-leave t (op.Snap k) r e b = none-both (sym b)
 peers-leave t o r e b = record { makes = refl; opens = refl }
 

@@ -26,9 +26,9 @@ disposed =
 abbrev pub surfaced : List Noted
 surfaced =
     note 7 (M 1) 5 (op.Grip (static_no 0)) (says.Gripped (peer_no 1) (handle_no 2) User 2) None nothing
-    ∷ note 8 (M 1) 5 (op.Meet (var 1) (peer_no 1) (handle_no 2) User 2) (says.New (object_no 2)) (Some 7) nothing
+    ∷ note 8 (M 1) 5 (op.Meet (var 1) User 2 (peer_no 1) (handle_no 2)) (says.New (object_no 2)) (Some 7) nothing
     ∷ note 9 (M 1) 6 (op.Grip (static_no 0)) (says.Gripped (peer_no 1) (handle_no 3) User 2) None nothing
-    ∷ note 10 (M 1) 6 (op.Meet (var 2) (peer_no 1) (handle_no 3) User 2) (says.Twin (object_no 2)) (Some 9) nothing
+    ∷ note 10 (M 1) 6 (op.Meet (var 2) User 2 (peer_no 1) (handle_no 3)) (says.Twin (object_no 2)) (Some 9) nothing
     ∷ note 11 (M 1) 6 (op.Release (handle_no 3)) says.Ok (Some 10) nothing
     ∷ note 12 (M 1) 7 (op.Line (act.Handle (var 1))) (says.H (handle_no 2)) None nothing
     ∷ note 13 (M 1) 8 (op.Grip (static_no 9)) says.Null None nothing

@@ -1,4 +1,4 @@
-use mir.Syntax.{named, w32}
+use mir.Syntax.{named, w16}
 use denote.Param.{param}
 use denote.Param.Send.{IsSync, sendable, shr_sync}
 use denote.Plain.{UInt}
@@ -6,7 +6,7 @@ use Rattle.std.proofs.Common.{[]}
 use Rattle.joint_history.proofs.Crosses.{shared}
 use Rattle.history_runs.proofs.threads.make_all.Goals as goal
 
-count : IsSync (UInt w32)
+count : IsSync (UInt w16)
 count = search sendable
 
 -- the closure holds the runtime, the shared bridge and the number of lines, each by a reference
