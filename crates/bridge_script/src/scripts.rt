@@ -80,14 +80,14 @@ impl Script {
         place_of(&self.lines, (i - 1) as usize)
     }
 
-    // The script of no lines.
+    // The script of no lines. Room for all that a script may have is asked for at once, so that the list is never copied as it grows; where
+    // there isn't so much memory it grows as it needs.
     fn new(alloc: Global) -> Script
         ensures { result ≡ [] }
     {
-        Script {
-            lines: Vec::new(alloc),
-            cycles: 0,
-        }
+        let mut lines = Vec::new(alloc);
+        let _ = lines.reserve(MOST_LINES);
+        Script { lines, cycles: 0 }
     }
 
     /// The script of lines that are one.
