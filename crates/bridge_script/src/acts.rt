@@ -12,18 +12,18 @@ use byte_streams::Line;
 use joint_model::{Act, Cell, GName, Kind, Sort, StaticNo, Thread, Var};
 
 /// Puts a word and a variable behind the line, each with a space before it.
-pub fn add_with_var(line: &mut Line, word: &[u8], v: Var)
-    requires { length word.now + 3 ≤ line.old.room }
-    ensures { AddsWords line.old line.new (word.now ∷ var_text v ∷ []) (length word.now + 3) }
+pub fn add_with_var<const N: usize>(line: &mut Line, word: [u8; N], v: Var)
+    requires { N + 3 ≤ line.old.room }
+    ensures { AddsWords line.old line.new (word.entry ∷ var_text v ∷ []) (N + 3) }
 {
     line.word(word);
     add_var(line, v);
 }
 
 // A word and two variables.
-fn add_with_vars(line: &mut Line, word: &[u8], v: Var, w: Var)
-    requires { length word.now + 5 ≤ line.old.room }
-    ensures { AddsWords line.old line.new (word.now ∷ var_text v ∷ var_text w ∷ []) (length word.now + 5) }
+fn add_with_vars<const N: usize>(line: &mut Line, word: [u8; N], v: Var, w: Var)
+    requires { N + 5 ≤ line.old.room }
+    ensures { AddsWords line.old line.new (word.entry ∷ var_text v ∷ var_text w ∷ []) (N + 5) }
 {
     line.word(word);
     add_var(line, v);
@@ -31,27 +31,27 @@ fn add_with_vars(line: &mut Line, word: &[u8], v: Var, w: Var)
 }
 
 /// Puts a word and a number behind the line, each with a space before it.
-pub fn add_with_number(line: &mut Line, word: &[u8], n: u64)
-    requires { length word.now + 22 ≤ line.old.room }
-    ensures { AddsWords line.old line.new (word.now ∷ decimal n ∷ []) (length word.now + 22) }
+pub fn add_with_number<const N: usize>(line: &mut Line, word: [u8; N], n: u64)
+    requires { N + 22 ≤ line.old.room }
+    ensures { AddsWords line.old line.new (word.entry ∷ decimal n ∷ []) (N + 22) }
 {
     line.word(word);
     line.decimal(n);
 }
 
 // A word and a weak cell.
-fn add_with_cell(line: &mut Line, word: &[u8], k: Cell)
-    requires { length word.now + 23 ≤ line.old.room }
-    ensures { AddsWords line.old line.new (word.now ∷ cell_text k ∷ []) (length word.now + 23) }
+fn add_with_cell<const N: usize>(line: &mut Line, word: [u8; N], k: Cell)
+    requires { N + 23 ≤ line.old.room }
+    ensures { AddsWords line.old line.new (word.entry ∷ cell_text k ∷ []) (N + 23) }
 {
     line.word(word);
     add_cell(line, k);
 }
 
 /// Puts a word, a variable and a static of the peer heap behind the line, each with a space before it.
-pub fn add_pass(line: &mut Line, word: &[u8], v: Var, x: StaticNo)
-    requires { length word.now + 25 ≤ line.old.room }
-    ensures { AddsWords line.old line.new (word.now ∷ var_text v ∷ peer_static x ∷ []) (length word.now + 25) }
+pub fn add_pass<const N: usize>(line: &mut Line, word: [u8; N], v: Var, x: StaticNo)
+    requires { N + 25 ≤ line.old.room }
+    ensures { AddsWords line.old line.new (word.entry ∷ var_text v ∷ peer_static x ∷ []) (N + 25) }
 {
     line.word(word);
     add_var(line, v);
@@ -59,9 +59,9 @@ pub fn add_pass(line: &mut Line, word: &[u8], v: Var, x: StaticNo)
 }
 
 // A word, a global name and a variable.
-fn add_with_global(line: &mut Line, word: &[u8], g: GName, v: Var)
-    requires { length word.now + 25 ≤ line.old.room }
-    ensures { AddsWords line.old line.new (word.now ∷ global_text g ∷ var_text v ∷ []) (length word.now + 25) }
+fn add_with_global<const N: usize>(line: &mut Line, word: [u8; N], g: GName, v: Var)
+    requires { N + 25 ≤ line.old.room }
+    ensures { AddsWords line.old line.new (word.entry ∷ global_text g ∷ var_text v ∷ []) (N + 25) }
 {
     line.word(word);
     add_global(line, g);
@@ -73,7 +73,7 @@ fn add_new(line: &mut Line, v: Var, kind: Kind, fields: u8)
     requires { 50 ≤ line.old.room }
     ensures { AddsWords line.old line.new (codes "new" ∷ var_text v ∷ kind_text kind ∷ decimal fields ∷ []) 50 }
 {
-    line.word(b"new");
+    line.word(*b"new");
     add_var(line, v);
     add_kind(line, kind);
     line.decimal(fields as u64);
@@ -84,7 +84,7 @@ fn add_bridge(line: &mut Line, v: Var, kind: Kind, fields: u8, sort: Sort, peer_
     requires { 80 ≤ line.old.room }
     ensures { AddsWords line.old line.new (codes "bridge" ∷ var_text v ∷ kind_text kind ∷ decimal fields ∷ sort_text sort ∷ decimal peer_fields ∷ []) 80 }
 {
-    line.word(b"bridge");
+    line.word(*b"bridge");
     add_var(line, v);
     add_kind(line, kind);
     line.decimal(fields as u64);
@@ -97,7 +97,7 @@ fn add_set(line: &mut Line, v: Var, i: u8, w: Option<Var>)
     requires { 50 ≤ line.old.room }
     ensures { AddsWords line.old line.new (codes "set" ∷ var_text v ∷ decimal i ∷ optional_text w ∷ []) 50 }
 {
-    line.word(b"set");
+    line.word(*b"set");
     add_var(line, v);
     line.decimal(i as u64);
     add_optional(line, w);
@@ -108,7 +108,7 @@ fn add_get(line: &mut Line, v: Var, w: Var, i: u8)
     requires { 50 ≤ line.old.room }
     ensures { AddsWords line.old line.new (codes "get" ∷ var_text v ∷ var_text w ∷ decimal i ∷ []) 50 }
 {
-    add_with_vars(line, b"get", v, w);
+    add_with_vars(line, *b"get", v, w);
     line.decimal(i as u64);
 }
 
@@ -117,7 +117,7 @@ fn add_load(line: &mut Line, thread: Thread, v: Var, x: StaticNo)
     requires { 50 ≤ line.old.room }
     ensures { AddsWords line.old line.new (codes "load" ∷ var_text v ∷ own_static thread x ∷ []) 50 }
 {
-    add_with_var(line, b"load", v);
+    add_with_var(line, *b"load", v);
     add_own_static(line, thread, x);
 }
 
@@ -126,7 +126,7 @@ fn add_store(line: &mut Line, thread: Thread, x: StaticNo, v: Option<Var>)
     requires { 50 ≤ line.old.room }
     ensures { AddsWords line.old line.new (codes "store" ∷ own_static thread x ∷ optional_text v ∷ []) 50 }
 {
-    line.word(b"store");
+    line.word(*b"store");
     add_own_static(line, thread, x);
     add_optional(line, v);
 }
@@ -136,7 +136,7 @@ fn add_weak(line: &mut Line, k: Cell, v: Var)
     requires { 50 ≤ line.old.room }
     ensures { AddsWords line.old line.new (codes "weak" ∷ cell_text k ∷ var_text v ∷ []) 50 }
 {
-    add_with_cell(line, b"weak", k);
+    add_with_cell(line, *b"weak", k);
     add_var(line, v);
 }
 
@@ -145,7 +145,7 @@ fn add_new_peer(line: &mut Line, v: Var, fields: u8)
     requires { 50 ≤ line.old.room }
     ensures { AddsWords line.old line.new (codes "new" ∷ var_text v ∷ decimal fields ∷ []) 50 }
 {
-    add_with_var(line, b"new", v);
+    add_with_var(line, *b"new", v);
     line.decimal(fields as u64);
 }
 
@@ -154,7 +154,7 @@ fn add_unglobal(line: &mut Line, g: GName)
     requires { 50 ≤ line.old.room }
     ensures { AddsWords line.old line.new (codes "unglobal" ∷ global_text g ∷ []) 50 }
 {
-    line.word(b"unglobal");
+    line.word(*b"unglobal");
     add_global(line, g);
 }
 
@@ -163,7 +163,7 @@ fn add_wread(line: &mut Line, v: Var, g: GName)
     requires { 50 ≤ line.old.room }
     ensures { AddsWords line.old line.new (codes "wread" ∷ var_text v ∷ global_text g ∷ []) 50 }
 {
-    add_with_var(line, b"wread", v);
+    add_with_var(line, *b"wread", v);
     add_global(line, g);
 }
 
@@ -181,31 +181,31 @@ pub fn add_act(line: &mut Line, thread: Thread, act: &Act)
             sort,
             peer_fields,
         } => add_bridge(line, v, kind, fields, sort, peer_fields),
-        Act::Copy { v, w } => add_with_vars(line, b"copy", v, w),
+        Act::Copy { v, w } => add_with_vars(line, *b"copy", v, w),
         Act::Set { v, i, w } => add_set(line, v, i, w),
         Act::Get { v, w, i } => add_get(line, v, w, i),
-        Act::Drop { v } => add_with_var(line, b"drop", v),
+        Act::Drop { v } => add_with_var(line, *b"drop", v),
         Act::Load { v, x } => add_load(line, thread, v, x),
         Act::Store { x, v } => add_store(line, thread, x, v),
         Act::Weak { k, v } => add_weak(line, k, v),
-        Act::Read { k } => add_with_cell(line, b"read", k),
-        Act::Await { k } => add_with_cell(line, b"wait", k),
-        Act::Take { v } => add_with_var(line, b"take", v),
-        Act::Pass { v, x } => add_pass(line, b"pass", v, x),
-        Act::Surface { v, x } => add_pass(line, b"surface", v, x),
-        Act::Dispose { v } => add_with_var(line, b"dispose", v),
-        Act::Handle { v } => add_with_var(line, b"handle", v),
+        Act::Read { k } => add_with_cell(line, *b"read", k),
+        Act::Await { k } => add_with_cell(line, *b"wait", k),
+        Act::Take { v } => add_with_var(line, *b"take", v),
+        Act::Pass { v, x } => add_pass(line, *b"pass", v, x),
+        Act::Surface { v, x } => add_pass(line, *b"surface", v, x),
+        Act::Dispose { v } => add_with_var(line, *b"dispose", v),
+        Act::Handle { v } => add_with_var(line, *b"handle", v),
         Act::NewPeer { v, fields } => add_new_peer(line, v, fields),
-        Act::Global { g, v } => add_with_global(line, b"global", g, v),
-        Act::WGlobal { g, v } => add_with_global(line, b"wglobal", g, v),
+        Act::Global { g, v } => add_with_global(line, *b"global", g, v),
+        Act::WGlobal { g, v } => add_with_global(line, *b"wglobal", g, v),
         Act::UnGlobal { g } => add_unglobal(line, g),
         Act::WRead { v, g } => add_wread(line, v, g),
-        Act::Collect => line.word(b"collect"),
-        Act::BeginMark => line.word(b"begin"),
-        Act::Slice { n } => add_with_number(line, b"slice", n as u64),
-        Act::SweepMark => line.word(b"sweep"),
+        Act::Collect => line.word(*b"collect"),
+        Act::BeginMark => line.word(*b"begin"),
+        Act::Slice { n } => add_with_number(line, *b"slice", n as u64),
+        Act::SweepMark => line.word(*b"sweep"),
         Act::PhaseLine { word } => add_phase_word(line, word),
-        Act::Finalise { n } => add_with_number(line, b"finalise", n as u64),
+        Act::Finalise { n } => add_with_number(line, *b"finalise", n as u64),
     }
 }
 

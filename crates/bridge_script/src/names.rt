@@ -22,7 +22,7 @@ pub fn add_optional(line: &mut Line, v: Option<Var>)
 {
     match v {
         Some(v) => add_var(line, v),
-        None => line.word(b"-"),
+        None => line.word(*b"-"),
     }
 }
 
@@ -32,10 +32,10 @@ pub fn add_kind(line: &mut Line, kind: Kind)
     ensures { AddsText line.old line.new (32 ∷ kind_text kind) 11 }
 {
     match kind {
-        Kind::Plain => line.word(b"plain"),
-        Kind::Leaf => line.word(b"leaf"),
-        Kind::Bridge => line.word(b"bridge"),
-        Kind::LeafBridge => line.word(b"leafbridge"),
+        Kind::Plain => line.word(*b"plain"),
+        Kind::Leaf => line.word(*b"leaf"),
+        Kind::Bridge => line.word(*b"bridge"),
+        Kind::LeafBridge => line.word(*b"leafbridge"),
     }
 }
 
@@ -45,8 +45,8 @@ pub fn add_sort(line: &mut Line, sort: Sort)
     ensures { AddsText line.old line.new (32 ∷ sort_text sort) 10 }
 {
     match sort {
-        Sort::User => line.word(b"user"),
-        Sort::Framework => line.word(b"framework"),
+        Sort::User => line.word(*b"user"),
+        Sort::Framework => line.word(*b"framework"),
     }
 }
 
@@ -91,14 +91,14 @@ pub fn add_phase_word(line: &mut Line, word: PhaseWord)
     ensures { AddsText line.old line.new (32 ∷ phase_word_text word) 9 }
 {
     match word {
-        PhaseWord::Cycle => line.word(b"cycle"),
-        PhaseWord::Snap => line.word(b"snap"),
-        PhaseWord::Contract => line.word(b"contract"),
-        PhaseWord::Mirror => line.word(b"mirror"),
-        PhaseWord::Weaken => line.word(b"weaken"),
-        PhaseWord::Mark => line.word(b"mark"),
-        PhaseWord::Sweep => line.word(b"sweep"),
-        PhaseWord::Restore => line.word(b"restore"),
-        PhaseWord::Resolve => line.word(b"resolve"),
+        PhaseWord::Cycle => line.word(*b"cycle"),
+        PhaseWord::Snap => line.word(*b"snap"),
+        PhaseWord::Contract => line.word(*b"contract"),
+        PhaseWord::Mirror => line.word(*b"mirror"),
+        PhaseWord::Weaken => line.word(*b"weaken"),
+        PhaseWord::Mark => line.word(*b"mark"),
+        PhaseWord::Sweep => line.word(*b"sweep"),
+        PhaseWord::Restore => line.word(*b"restore"),
+        PhaseWord::Resolve => line.word(*b"resolve"),
     }
 }

@@ -3,3 +3,4 @@ pub mod Bytes
 pub mod Digits
 pub mod Counting
 pub mod Written
+pub mod Putting

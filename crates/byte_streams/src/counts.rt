@@ -10,7 +10,7 @@ use std::marker::Model;
 #[derive(Drop)]
 pub struct Count {
     value: u64,
-    bytes: [u8; 20],
+    bytes: [u8; 32],
     len: usize,
 }
 
@@ -29,20 +29,19 @@ impl Count {
     pub fn of(n: u64) -> Count
         ensures { result ≡ n }
     {
-        let mut buffer = Buffer::new();
-        let text = buffer.format(n).as_bytes();
-        let mut bytes = [0u8; 20];
-        bytes[..text.len()].copy_from_slice(text);
+        let mut bytes = [0u8; 32];
+        let len = write_digits(n, &mut bytes);
         Count {
             value: n,
             bytes,
-            len: text.len(),
+            len,
         }
     }
 
     /// The bytes of its buffer, and how many of them are the number's decimal text.
     #[inline(always)]
-    pub fn digits(&self) -> (&[u8; 20], usize)
+    pub fn digits(&self) -> (&[u8; 32], usize)
+        ensures size { length result.0.now ≡ 32 }
         ensures len { result.1 ≤ 20 }
         ensures text { take result.1 result.0.now ≡ decimal self.now }
     {
@@ -57,12 +56,25 @@ impl Count {
         if n == self.value {
             return;
         }
-        if n > 0 && n - 1 == self.value && count_up(&mut self.bytes[..self.len]) {
+        if self.value.checked_add(1) == Some(n) && count_up(&mut self.bytes[..self.len]) {
             self.value = n;
             return;
         }
-        *self = Count::of(n);
+        self.len = write_digits(n, &mut self.bytes);
+        self.value = n;
     }
+}
+
+// Writes the decimal text of a number to the front of a buffer, and answers how many bytes it has. It is a call, since it is seldom made.
+#[inline(never)]
+fn write_digits(n: u64, bytes: &mut [u8; 32]) -> usize
+    ensures len { result ≤ 20 }
+    ensures text { take result bytes.new ≡ decimal n }
+{
+    let mut buffer = Buffer::new();
+    let text = buffer.format(n).as_bytes();
+    bytes[..text.len()].copy_from_slice(text);
+    text.len()
 }
 
 // Makes the decimal text of a number that of the number after it, where this has as many digits, and answers whether it has.

@@ -1,6 +1,6 @@
 // A text that is put together for a sink in a fixed buffer: it takes no memory. A sink gets what was put together where there is no room for more.
 
-ghost use Rattle.std.specs.Prelude.{◌≡◌, ◌+◌, ◌/◌, ◌%◌, ◌<◌, ◌≤◌, [], ◌∷◌, length, decimal, OnOk};
+ghost use Rattle.std.specs.Prelude.{◌≡◌, ◌+◌, ◌++◌, ◌/◌, ◌%◌, ◌<◌, ◌≤◌, [], ◌∷◌, length, decimal, OnOk};
 ghost use Rattle.byte_streams.specs.Streams.{Writes};
 ghost use Rattle.byte_streams.specs.Sending.{Sends};
 ghost use Rattle.byte_streams.specs.Drafts.{AddsText};
@@ -9,6 +9,7 @@ use crate::counts::Count;
 use crate::streams::{Failed, Sink, write_text};
 use itoa::Buffer;
 use std::marker::Model;
+use std::simd::prelude::*;
 
 // The two digits of each number below 100.
 static PAIRS: [u8; 200] =
@@ -16,6 +17,9 @@ static PAIRS: [u8; 200] =
 
 // The bytes of the buffer.
 const SIZE: usize = 16_384;
+
+// How many bytes a count's text is copied in, at once.
+const LANES: usize = 32;
 
 // For so many bytes [`Line::make_room`] sees that there is room.
 const LEAST: usize = 512;
@@ -97,19 +101,9 @@ impl Line {
         requires { 1 ≤ self.old.room }
         ensures { AddsText self.old self.new (byte ∷ []) 1 }
     {
-        self.bytes[self.len] = byte;
-        self.len += 1;
-    }
-
-    // Puts two bytes behind it.
-    #[inline(always)]
-    fn two(&mut self, a: u8, b: u8)
-        requires { 2 ≤ self.old.room }
-        ensures { AddsText self.old self.new (a ∷ b ∷ []) 2 }
-    {
-        self.bytes[self.len] = a;
-        self.bytes[self.len + 1] = b;
-        self.len += 2;
+        let at = self.len;
+        self.bytes[at] = byte;
+        self.len = at + 1;
     }
 
     // Puts a number of one digit behind it.
@@ -129,52 +123,44 @@ impl Line {
         requires room { 2 ≤ self.old.room }
         ensures { AddsText self.old self.new ((48 + n / 10) ∷ (48 + n % 10) ∷ []) 2 }
     {
-        let (tens, ones) = pair_of(n);
-        self.two(tens, ones);
+        self.text(&pair_of(n));
     }
 
-    // Puts a number of one or two digits behind it.
+    // Puts a number of two digits behind it.
     #[inline(always)]
-    fn below_100(&mut self, n: u64)
-        requires digits { n < 100 }
+    fn two_digits(&mut self, n: u64)
+        requires digits { (10 ≤ n) × (n < 100) }
         requires room { 2 ≤ self.old.room }
         ensures { AddsText self.old self.new (decimal n) 2 }
     {
-        if n < 10 {
-            self.digit(n);
-        } else {
-            self.pair(n);
-        }
+        self.pair(n);
     }
 
-    // Puts a number of at most four digits behind it.
+    // Puts a number of three or four digits behind it.
     #[inline(always)]
-    fn below_10_000(&mut self, n: u64)
-        requires digits { n < 10000 }
+    fn four_digits(&mut self, n: u64)
+        requires digits { (100 ≤ n) × (n < 10000) }
         requires room { 4 ≤ self.old.room }
         ensures { AddsText self.old self.new (decimal n) 4 }
     {
-        if n < 100 {
-            self.below_100(n);
+        if n < 1000 {
+            self.digit(n / 100);
+            self.pair(n % 100);
         } else {
-            self.below_100(n / 100);
+            self.two_digits(n / 100);
             self.pair(n % 100);
         }
     }
 
-    // Puts a number of at most six digits behind it.
+    // Puts a number of five or six digits behind it.
     #[inline(always)]
-    fn below_1_000_000(&mut self, n: u64)
-        requires digits { n < 1000000 }
+    fn six_digits(&mut self, n: u64)
+        requires digits { (10000 ≤ n) × (n < 1000000) }
         requires room { 6 ≤ self.old.room }
         ensures { AddsText self.old self.new (decimal n) 6 }
     {
-        if n < 10_000 {
-            self.below_10_000(n);
-        } else {
-            self.below_10_000(n / 100);
-            self.pair(n % 100);
-        }
+        self.four_digits(n / 100);
+        self.pair(n % 100);
     }
 
     /// Puts a text behind it.
@@ -183,8 +169,9 @@ impl Line {
         requires { length piece.now ≤ self.old.room }
         ensures { AddsText self.old self.new piece.now (length piece.now) }
     {
-        self.bytes[self.len..self.len + piece.len()].copy_from_slice(piece);
-        self.len += piece.len();
+        let at = self.len;
+        self.bytes[at..at + piece.len()].copy_from_slice(piece);
+        self.len = at + piece.len();
     }
 
     /// Puts a number behind it, in decimal.
@@ -200,37 +187,59 @@ impl Line {
         }
     }
 
-    /// Puts a number behind it whose decimal text is at hand.
+    // Puts a number of two digits or more behind it, in decimal.
     #[inline(always)]
-    pub fn count(&mut self, count: &Count)
-        requires { 20 ≤ self.old.room }
-        ensures { AddsText self.old self.new (decimal count.now) 20 }
+    fn long_number(&mut self, n: u64)
+        requires long { 10 ≤ n }
+        requires room { 20 ≤ self.old.room }
+        ensures { AddsText self.old self.new (decimal n) 20 }
     {
-        let (digits, len) = count.digits();
-        self.bytes[self.len..self.len + 20].copy_from_slice(digits);
-        self.len += len;
+        if n < 100 {
+            self.two_digits(n);
+        } else if n < 10_000 {
+            self.four_digits(n);
+        } else {
+            self.longer_number(n);
+        }
     }
 
-    // Puts a number of any length behind it, in decimal.
-    fn long_number(&mut self, n: u64)
-        requires { 20 ≤ self.old.room }
+    // Puts a number of five digits or more behind it, in decimal. It is a call, so that the code for the short ones is small enough to stand
+    // at each place where a number is put.
+    #[inline(never)]
+    fn longer_number(&mut self, n: u64)
+        requires long { 10000 ≤ n }
+        requires room { 20 ≤ self.old.room }
         ensures { AddsText self.old self.new (decimal n) 20 }
     {
         if n < 1_000_000 {
-            self.below_1_000_000(n);
+            self.six_digits(n);
         } else {
             self.text(Buffer::new().format(n).as_bytes());
         }
     }
 
-    /// Puts a word behind it, with a space before the word.
+    /// Puts a number behind it whose decimal text is at hand. All 32 bytes of the count's buffer are copied at once, so it asks for room for these.
     #[inline(always)]
-    pub fn word(&mut self, word: &[u8])
-        requires { length word.now + 1 ≤ self.old.room }
-        ensures { AddsText self.old self.new (32 ∷ word.now) (length word.now + 1) }
+    pub fn count(&mut self, count: &Count)
+        requires { 32 ≤ self.old.room }
+        ensures { AddsText self.old self.new (decimal count.now) 20 }
     {
-        self.text(b" ");
-        self.text(word);
+        let at = self.len;
+        let (digits, len) = count.digits();
+        u8x32::from_slice(digits).copy_to_slice(&mut self.bytes[at..at + LANES]);
+        self.len = at + len;
+    }
+
+    /// Puts a word behind it, with a space before the word. The word is taken as an array, since its length is then known where it is put.
+    #[inline(always)]
+    pub fn word<const N: usize>(&mut self, word: [u8; N])
+        requires { N + 1 ≤ self.old.room }
+        ensures { AddsText self.old self.new (32 ∷ word.entry) (N + 1) }
+    {
+        let at = self.len;
+        self.bytes[at] = b' ';
+        self.bytes[at + 1..at + 1 + N].copy_from_slice(&word);
+        self.len = at + 1 + N;
     }
 
     /// Puts a number behind it, with a space before it.
@@ -239,8 +248,12 @@ impl Line {
         requires { 21 ≤ self.old.room }
         ensures { AddsText self.old self.new (32 ∷ decimal n) 21 }
     {
-        self.text(b" ");
-        self.number(n);
+        if n < 10 {
+            self.text(&[b' ', b'0' + n as u8]);
+        } else {
+            self.text(b" ");
+            self.long_number(n);
+        }
     }
 
     /// Puts a letter and a number behind it, with a space before them.
@@ -249,18 +262,35 @@ impl Line {
         requires { 22 ≤ self.old.room }
         ensures { AddsText self.old self.new (32 ∷ letter ∷ decimal n) 22 }
     {
-        self.text(&[b' ', letter]);
-        self.number(n);
+        if n < 10 {
+            self.text(&[b' ', letter, b'0' + n as u8]);
+        } else {
+            self.text(&[b' ', letter]);
+            self.long_number(n);
+        }
+    }
+
+    /// Puts a letter, a number and a last byte behind it, with a space before them.
+    #[inline(always)]
+    pub fn lettered_before(&mut self, letter: u8, n: u64, last: u8)
+        requires { 23 ≤ self.old.room }
+        ensures { AddsText self.old self.new (32 ∷ letter ∷ (decimal n ++ last ∷ [])) 23 }
+    {
+        if n < 10 {
+            self.text(&[b' ', letter, b'0' + n as u8, last]);
+        } else {
+            self.lettered(letter, n);
+            self.byte(last);
+        }
     }
 }
 
 // The tens and the ones of a number below 100, as digits.
 #[inline(always)]
-fn pair_of(n: u64) -> (u8, u8)
+fn pair_of(n: u64) -> [u8; 2]
     requires { n < 100 }
-    ensures tens { result.0 ≡ 48 + n / 10 }
-    ensures ones { result.1 ≡ 48 + n % 10 }
+    ensures { result ≡ (48 + n / 10) ∷ (48 + n % 10) ∷ [] }
 {
     let at = n as usize * 2;
-    (PAIRS[at], PAIRS[at + 1])
+    [PAIRS[at], PAIRS[at + 1]]
 }

@@ -15,9 +15,10 @@ use byte_streams::{Count, Line};
 use joint_model::{Entry, HNum, Kind, MNum, Op, PNum, Reply, Sort, Span, StaticNo, Thread, Var};
 
 // A word and a handle.
-fn add_with_handle(line: &mut Line, word: &[u8], h: HNum)
-    requires { length word.now + 23 ≤ line.old.room }
-    ensures { AddsWords line.old line.new (word.now ∷ handle_text h ∷ []) (length word.now + 23) }
+#[inline(always)]
+fn add_with_handle<const N: usize>(line: &mut Line, word: [u8; N], h: HNum)
+    requires { N + 23 ≤ line.old.room }
+    ensures { AddsWords line.old line.new (word.entry ∷ handle_text h ∷ []) (N + 23) }
 {
     line.word(word);
     add_handle(line, h);
@@ -28,7 +29,7 @@ fn add_make(line: &mut Line, sort: Sort, fields: u8)
     requires { 50 ≤ line.old.room }
     ensures { AddsWords line.old line.new (codes "make" ∷ sort_text sort ∷ decimal fields ∷ []) 50 }
 {
-    line.word(b"make");
+    line.word(*b"make");
     add_sort(line, sort);
     line.decimal(fields as u64);
 }
@@ -38,7 +39,7 @@ fn add_adopt(line: &mut Line, v: Var, kind: Kind, fields: u8, p: PNum, h: HNum)
     requires { 100 ≤ line.old.room }
     ensures { AddsWords line.old line.new (codes "adopt" ∷ var_text v ∷ kind_text kind ∷ decimal fields ∷ peer_text p ∷ handle_text h ∷ []) 100 }
 {
-    line.word(b"adopt");
+    line.word(*b"adopt");
     add_var(line, v);
     add_kind(line, kind);
     line.decimal(fields as u64);
@@ -51,7 +52,7 @@ fn add_land(line: &mut Line, h: HNum, x: StaticNo)
     requires { 60 ≤ line.old.room }
     ensures { AddsWords line.old line.new (codes "land" ∷ handle_text h ∷ peer_static x ∷ []) 60 }
 {
-    add_with_handle(line, b"land", h);
+    add_with_handle(line, *b"land", h);
     add_peer_static(line, x);
 }
 
@@ -60,7 +61,7 @@ fn add_grip(line: &mut Line, x: StaticNo)
     requires { 60 ≤ line.old.room }
     ensures { AddsWords line.old line.new (codes "grip" ∷ peer_static x ∷ []) 60 }
 {
-    line.word(b"grip");
+    line.word(*b"grip");
     add_peer_static(line, x);
 }
 
@@ -69,7 +70,7 @@ fn add_meet(line: &mut Line, v: Var, p: PNum, h: HNum, sort: Sort, fields: u8)
     requires { 100 ≤ line.old.room }
     ensures { AddsWords line.old line.new (codes "meet" ∷ var_text v ∷ peer_text p ∷ handle_text h ∷ sort_text sort ∷ decimal fields ∷ []) 100 }
 {
-    line.word(b"meet");
+    line.word(*b"meet");
     add_var(line, v);
     add_peer(line, p);
     add_handle(line, h);
@@ -92,7 +93,7 @@ pub fn add_event(line: &mut Line, thread: Thread, op: &Op)
             p,
             h,
         } => add_adopt(line, v, kind, fields, p, h),
-        Op::Lend { v, x } => add_pass(line, b"lend", v, x),
+        Op::Lend { v, x } => add_pass(line, *b"lend", v, x),
         Op::Land { h, x } => add_land(line, h, x),
         Op::Grip { x } => add_grip(line, x),
         Op::Meet {
@@ -102,36 +103,38 @@ pub fn add_event(line: &mut Line, thread: Thread, op: &Op)
             sort,
             fields,
         } => add_meet(line, v, p, h, sort, fields),
-        Op::Give { v } => add_with_var(line, b"give", v),
-        Op::Release { h } => add_with_handle(line, b"release", h),
-        Op::Snap { cycle } => add_with_number(line, b"snap", cycle.0 as u64),
-        Op::Contract { cycle } => add_with_number(line, b"contract", cycle.0 as u64),
-        Op::Mirror { cycle } => add_with_number(line, b"mirror", cycle.0 as u64),
-        Op::Weaken { h } => add_with_handle(line, b"weaken", h),
-        Op::Begin => line.word(b"begin"),
-        Op::Sweep => line.word(b"sweep"),
-        Op::Restore { h } => add_with_handle(line, b"restore", h),
-        Op::Clear { cycle } => add_with_number(line, b"clear", cycle.0 as u64),
-        Op::Resolve { cycle } => add_with_number(line, b"resolve", cycle.0 as u64),
-        Op::Abandon { cycle } => add_with_number(line, b"abandon", cycle.0 as u64),
+        Op::Give { v } => add_with_var(line, *b"give", v),
+        Op::Release { h } => add_with_handle(line, *b"release", h),
+        Op::Snap { cycle } => add_with_number(line, *b"snap", cycle.0 as u64),
+        Op::Contract { cycle } => add_with_number(line, *b"contract", cycle.0 as u64),
+        Op::Mirror { cycle } => add_with_number(line, *b"mirror", cycle.0 as u64),
+        Op::Weaken { h } => add_with_handle(line, *b"weaken", h),
+        Op::Begin => line.word(*b"begin"),
+        Op::Sweep => line.word(*b"sweep"),
+        Op::Restore { h } => add_with_handle(line, *b"restore", h),
+        Op::Clear { cycle } => add_with_number(line, *b"clear", cycle.0 as u64),
+        Op::Resolve { cycle } => add_with_number(line, *b"resolve", cycle.0 as u64),
+        Op::Abandon { cycle } => add_with_number(line, *b"abandon", cycle.0 as u64),
         Op::Refused { word } => {
-            line.word(b"refused");
+            line.word(*b"refused");
             add_phase_word(line, word);
         }
     }
 }
 
 // A managed object and a word.
-fn add_with_managed(line: &mut Line, m: MNum, word: &[u8])
+#[inline(always)]
+fn add_with_managed<const N: usize>(line: &mut Line, m: MNum, word: [u8; N])
     requires room { 50 ≤ line.old.room }
-    requires short { length word.now ≤ 20 }
-    ensures { AddsWords line.old line.new (managed_text m ∷ word.now ∷ []) 50 }
+    requires short { N ≤ 20 }
+    ensures { AddsWords line.old line.new (managed_text m ∷ word.entry ∷ []) 50 }
 {
     add_managed(line, m);
     line.word(word);
 }
 
 // A peer and a handle.
+#[inline(always)]
 fn add_made(line: &mut Line, p: PNum, h: HNum)
     requires { 50 ≤ line.old.room }
     ensures { AddsWords line.old line.new (peer_text p ∷ handle_text h ∷ []) 50 }
@@ -151,10 +154,10 @@ fn add_gripped(line: &mut Line, p: PNum, h: HNum, sort: Sort, fields: u8)
 }
 
 // A number and a word.
-fn add_count(line: &mut Line, n: u64, word: &[u8])
+fn add_count<const N: usize>(line: &mut Line, n: u64, word: [u8; N])
     requires room { 50 ≤ line.old.room }
-    requires short { length word.now ≤ 20 }
-    ensures { AddsWords line.old line.new (decimal n ∷ word.now ∷ []) 50 }
+    requires short { N ≤ 20 }
+    ensures { AddsWords line.old line.new (decimal n ∷ word.entry ∷ []) 50 }
 {
     line.decimal(n);
     line.word(word);
@@ -165,8 +168,8 @@ fn add_sccs(line: &mut Line, sccs: u32, xrefs: u32)
     requires { 100 ≤ line.old.room }
     ensures { AddsWords line.old line.new (decimal sccs ∷ codes "sccs" ∷ decimal xrefs ∷ codes "xrefs" ∷ []) 100 }
 {
-    add_count(line, sccs as u64, b"sccs");
-    add_count(line, xrefs as u64, b"xrefs");
+    add_count(line, sccs as u64, *b"sccs");
+    add_count(line, xrefs as u64, *b"xrefs");
 }
 
 /// The words of a reply before its list, which are all where it has none.
@@ -175,44 +178,44 @@ pub fn add_reply(line: &mut Line, reply: &Reply)
     ensures { AddsWords line.old line.new (reply_words reply.now) 100 }
 {
     match *reply {
-        Reply::Ok => line.word(b"ok"),
-        Reply::Empty => line.word(b"empty"),
-        Reply::Range => line.word(b"range"),
-        Reply::Null => line.word(b"null"),
-        Reply::Taken => line.word(b"taken"),
-        Reply::Gone => line.word(b"gone"),
-        Reply::Unset => line.word(b"unset"),
-        Reply::Full => line.word(b"full"),
-        Reply::Plain => line.word(b"plain"),
-        Reply::NoMark => line.word(b"nomark"),
-        Reply::More => line.word(b"more"),
-        Reply::Done => line.word(b"done"),
-        Reply::Alive => line.word(b"alive"),
-        Reply::Cleared => line.word(b"cleared"),
+        Reply::Ok => line.word(*b"ok"),
+        Reply::Empty => line.word(*b"empty"),
+        Reply::Range => line.word(*b"range"),
+        Reply::Null => line.word(*b"null"),
+        Reply::Taken => line.word(*b"taken"),
+        Reply::Gone => line.word(*b"gone"),
+        Reply::Unset => line.word(*b"unset"),
+        Reply::Full => line.word(*b"full"),
+        Reply::Plain => line.word(*b"plain"),
+        Reply::NoMark => line.word(*b"nomark"),
+        Reply::More => line.word(*b"more"),
+        Reply::Done => line.word(*b"done"),
+        Reply::Alive => line.word(*b"alive"),
+        Reply::Cleared => line.word(*b"cleared"),
         Reply::M(m) => add_managed(line, m),
         Reply::P(p) => add_peer(line, p),
         Reply::H(h) => add_handle(line, h),
-        Reply::New(m) => add_with_managed(line, m, b"new"),
-        Reply::Twin(m) => add_with_managed(line, m, b"twin"),
+        Reply::New(m) => add_with_managed(line, m, *b"new"),
+        Reply::Twin(m) => add_with_managed(line, m, *b"twin"),
         Reply::Made(p, h) => add_made(line, p, h),
         Reply::Gripped(p, h, sort, fields) => add_gripped(line, p, h, sort, fields),
-        Reply::Pending(cycle) => add_with_number(line, b"pending", cycle.0 as u64),
+        Reply::Pending(cycle) => add_with_number(line, *b"pending", cycle.0 as u64),
         Reply::Pinned(m) => {
-            line.word(b"pinned");
+            line.word(*b"pinned");
             add_managed(line, m);
         }
         Reply::Mark(marking) => line.decimal(marking.0 as u64),
-        Reply::MarkOpen(marking) => add_with_number(line, b"marking", marking.0 as u64),
-        Reply::CycleOpen(cycle) => add_with_number(line, b"open", cycle.0 as u64),
+        Reply::MarkOpen(marking) => add_with_number(line, *b"marking", marking.0 as u64),
+        Reply::CycleOpen(cycle) => add_with_number(line, *b"open", cycle.0 as u64),
         Reply::At(phase) => {
-            line.word(b"at");
+            line.word(*b"at");
             add_phase(line, phase);
         }
-        Reply::Snapped(count, _) => add_count(line, count as u64, b"freed"),
+        Reply::Snapped(count, _) => add_count(line, count as u64, *b"freed"),
         Reply::Sccs(sccs, xrefs) => add_sccs(line, sccs, xrefs),
-        Reply::Refs(count) => add_count(line, count as u64, b"refs"),
-        Reply::Swept(marking, _) => add_count(line, marking.0 as u64, b"freed"),
-        Reply::Freed(_) => line.word(b"freed"),
+        Reply::Refs(count) => add_count(line, count as u64, *b"refs"),
+        Reply::Swept(marking, _) => add_count(line, marking.0 as u64, *b"freed"),
+        Reply::Freed(_) => line.word(*b"freed"),
         Reply::Took(_) => {}
     }
 }
@@ -247,6 +250,7 @@ impl Counts {
 }
 
 /// The line of an entry up to its list: its number, who made it on which line, its event and its reply.
+#[inline(always)]
 pub fn add_head(line: &mut Line, entry: &Entry, counts: &mut Counts)
     requires { 300 ≤ line.old.room }
     ensures { AddsText line.old line.new (head_text entry.now) 300 }
@@ -255,26 +259,26 @@ pub fn add_head(line: &mut Line, entry: &Entry, counts: &mut Counts)
     line.count(&counts.number);
     add_place(line, entry.made.caller, entry.made.index, &mut counts.index);
     add_event(line, entry.made.caller, &entry.made.op);
-    line.word(b"=");
+    line.word(*b"=");
     add_reply(line, &entry.made.reply);
 }
 
 // Who made an entry, and on which line of the script.
 fn add_place(line: &mut Line, thread: Thread, index: u16, count: &mut Count)
-    requires { 50 ≤ line.old.room }
+    requires { 60 ≤ line.old.room }
     ensures { AddsWords line.old line.new (place_text thread index ∷ []) 50 }
 {
     match thread {
-        Thread::M(n) => line.lettered(b'm', n as u64),
-        Thread::P(n) => line.lettered(b'p', n as u64),
-        Thread::C => line.word(b"c"),
+        Thread::M(n) => line.lettered_before(b'm', n as u64, b'.'),
+        Thread::P(n) => line.lettered_before(b'p', n as u64, b'.'),
+        Thread::C => line.word(*b"c."),
     }
-    line.text(b".");
     count.go_to(index as u64);
     line.count(count);
 }
 
 /// The end of an entry's line: the entry that it cites, where it cites one, and the newline.
+#[inline(always)]
 pub fn add_tail(line: &mut Line, cites: Option<u64>)
     requires { 30 ≤ line.old.room }
     ensures { AddsText line.old line.new (tail_text cites) 30 }

@@ -8,6 +8,7 @@ use byte_streams::Line;
 use joint_model::{HNum, MNum, PNum, Phase};
 
 /// A managed object.
+#[inline(always)]
 pub fn add_managed(line: &mut Line, m: MNum)
     requires { 22 ≤ line.old.room }
     ensures { AddsText line.old line.new (32 ∷ managed_text m) 22 }
@@ -16,6 +17,7 @@ pub fn add_managed(line: &mut Line, m: MNum)
 }
 
 /// A peer.
+#[inline(always)]
 pub fn add_peer(line: &mut Line, p: PNum)
     requires { 22 ≤ line.old.room }
     ensures { AddsText line.old line.new (32 ∷ peer_text p) 22 }
@@ -24,6 +26,7 @@ pub fn add_peer(line: &mut Line, p: PNum)
 }
 
 /// A handle.
+#[inline(always)]
 pub fn add_handle(line: &mut Line, h: HNum)
     requires { 22 ≤ line.old.room }
     ensures { AddsText line.old line.new (32 ∷ handle_text h) 22 }
@@ -37,13 +40,13 @@ pub fn add_phase(line: &mut Line, phase: Phase)
     ensures { AddsText line.old line.new (32 ∷ phase_text phase) 11 }
 {
     match phase {
-        Phase::Idle => line.word(b"idle"),
-        Phase::Snapped => line.word(b"snapped"),
-        Phase::Contracted => line.word(b"contracted"),
-        Phase::Mirrored => line.word(b"mirrored"),
-        Phase::Weakened => line.word(b"weakened"),
-        Phase::Marked => line.word(b"marked"),
-        Phase::Swept => line.word(b"swept"),
-        Phase::Restored => line.word(b"restored"),
+        Phase::Idle => line.word(*b"idle"),
+        Phase::Snapped => line.word(*b"snapped"),
+        Phase::Contracted => line.word(*b"contracted"),
+        Phase::Mirrored => line.word(*b"mirrored"),
+        Phase::Weakened => line.word(*b"weakened"),
+        Phase::Marked => line.word(*b"marked"),
+        Phase::Swept => line.word(*b"swept"),
+        Phase::Restored => line.word(*b"restored"),
     }
 }

@@ -45,13 +45,13 @@ fn write_list<K: Sink>(
     ensures { Sends (K.held out.old) (K.held out.new) line.old.text line.new.text (K.faults out.old) (K.faults out.new) result (after_spaces (list_words h.now numbers span)) }
 {
     if span.count == 0 {
-        line.word(b"-");
+        line.word(*b"-");
         return Ok(());
     }
     match numbers.at(h, span.first as u64) {
         Some(_) => write_numbers(h, numbers, span, line, out),
         None => {
-            line.word(b"-");
+            line.word(*b"-");
             Ok(())
         }
     }
@@ -61,21 +61,23 @@ fn write_list<K: Sink>(
 #[inline(never)]
 fn write_listed<K: Sink>(
     h: &History,
-    list: (Numbers, Span),
+    numbers: Numbers,
+    span: Span,
     cites: Option<u64>,
     line: &mut Line,
     out: &mut K,
 ) -> Result<(), Failed>
     requires { 2 ≤ line.old.room }
-    ensures { Sends (K.held out.old) (K.held out.new) line.old.text line.new.text (K.faults out.old) (K.faults out.new) result (after_spaces (list_words h.now list.0 list.1) ++ tail_text cites) }
+    ensures { Sends (K.held out.old) (K.held out.new) line.old.text line.new.text (K.faults out.old) (K.faults out.new) result (after_spaces (list_words h.now numbers span) ++ tail_text cites) }
 {
-    write_list(h, list.0, list.1, line, out)?;
+    write_list(h, numbers, span, line, out)?;
     line.make_room(out)?;
     add_tail(line, cites);
     Ok(())
 }
 
 /// Writes the line of an entry.
+#[inline(always)]
 pub fn write_entry<K: Sink>(
     h: &History,
     entry: &Entry,
@@ -88,7 +90,7 @@ pub fn write_entry<K: Sink>(
     line.make_room(out)?;
     add_head(line, entry, counts);
     match list_of(&entry.made.reply) {
-        Some(list) => write_listed(h, list, entry.made.cites, line, out),
+        Some((numbers, span)) => write_listed(h, numbers, span, entry.made.cites, line, out),
         None => {
             add_tail(line, entry.made.cites);
             Ok(())

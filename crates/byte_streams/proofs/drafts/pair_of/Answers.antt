@@ -1,8 +1,6 @@
+use Rattle.std.proofs.Common.{refl}
 use Rattle.byte_streams.proofs.Digits.{pair_at}
 use Rattle.byte_streams.proofs.drafts.pair_of.Goals as goal
 
-pub returns-clause-tens : goal.returns-clause-tens
-returns-clause-tens c = (pair_at c.args.n c.requires).0
-
-pub returns-clause-ones : goal.returns-clause-ones
-returns-clause-ones c = (pair_at c.args.n c.requires).1
+pub returns : goal.returns
+returns c = let p = pair_at c.args.n c.requires in rw (p.0, p.1) refl

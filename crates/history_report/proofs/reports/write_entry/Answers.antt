@@ -15,7 +15,7 @@ pub returns-in-Some : goal.returns-in-Some
 returns-in-Some g c =
     let head = head_text c.args.entry.now in
     let tail = tail_text c.args.entry.now.made.cites in
-    let list = after_spaces (list_words c.args.h.now c.in-Some.list.0 c.in-Some.list.1) in
+    let list = after_spaces (list_words c.args.h.now c.in-Some.numbers c.in-Some.span) in
     let w = c.in_ok-make_room.ensures.sent in
     let held = BuffersText-put (g.K.Sink.held c.args.out.now) (g.K.Sink.held c.make_room.new.out) c.args.line.now.text c.make_room.new.self.text c.add_head.new.line.text [] head w.whole c.add_head.ensures.added in
     rw (← c.in-Some.ensures)

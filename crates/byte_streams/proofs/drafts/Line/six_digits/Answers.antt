@@ -1,9 +1,9 @@
 use Rattle.std.proofs.Common.{◌+◌, ◌/◌, ◌%◌, [], ◌∷◌, decimal, arith, append_assoc}
 use Rattle.byte_streams.proofs.Digits.{decimal_pair}
-use Rattle.byte_streams.proofs.drafts.Line.below_1_000_000.Goals as goal
+use Rattle.byte_streams.proofs.drafts.Line.six_digits.Goals as goal
 
-pub returns-else-n-lt10000 : goal.returns-else-n-lt10000
-returns-else-n-lt10000 c = record {
-  added = rw (decimal_pair c.args.n (omega arith) (omega arith), c.pair.ensures.added, c.below_10_000-else-n-lt10000.ensures.added) (append_assoc c.args.self.now.text (decimal (c.args.n / 100)) ((48 + c.args.n % 100 / 10) ∷ (48 + c.args.n % 100 % 10) ∷ []));
+pub returns : goal.returns
+returns c = record {
+  added = rw (decimal_pair c.args.n (omega arith) (omega arith), c.pair.ensures.added, c.four_digits.ensures.added) (append_assoc c.args.self.now.text (decimal (c.args.n / 100)) ((48 + c.args.n % 100 / 10) ∷ (48 + c.args.n % 100 % 10) ∷ []));
   left = omega arith;
 }

@@ -1,6 +1,5 @@
-use Rattle.std.proofs.Common.{arith}
 use Rattle.byte_streams.proofs.Digits.{decimal_two}
-use Rattle.byte_streams.proofs.drafts.Line.below_100.Goals as goal
+use Rattle.byte_streams.proofs.drafts.Line.two_digits.Goals as goal
 
-pub returns-else-n-lt10 : goal.returns-else-n-lt10
-returns-else-n-lt10 c = rw (decimal_two c.args.n (omega arith) (omega arith)) c.pair.ensures
+pub returns : goal.returns
+returns c = rw (decimal_two c.args.n c.requires.digits.0 c.requires.digits.1) c.pair.ensures
