@@ -1,44 +1,52 @@
--- The first place of a byte among the first 32 of a text. They are compared with it at once, and the answers are the bits of
+-- The first place of a byte among the first 32, or 16, of a text. They are compared with it at once, and the answers are the bits of
 -- a number, of which the lowest stands first: so the number is 0 where none of them is the byte, and else the zeros at its
 -- end count those before the first that is.
-use Rattle.std.proofs.Common.{◌≡◌, ◌≢◌, ℕ, ◌+◌, ◌-◌, ◌%◌, ◌^◌, ◌<◌, ◌≤◌, Bool, cond, eqb, not, List, length, get_or, take, drop, map, replicate, sym, ◌∙◌, ap, arith, w8, true≢false, inl, inr}
+use Rattle.std.proofs.Common.{◌≡◌, ◌≢◌, ℕ, ◌+◌, ◌-◌, ◌%◌, ◌^◌, ◌<◌, ◌≤◌, Bool, cond, eqb, not, List, length, min, get_or, take, drop, map, replicate, sym, ◌∙◌, ap, arith, w8, true≢false, inl, inr}
 use lib.Lanes.{zip2, chunk, mask_l, top}
 use lib.Count.{count_trailing_zeros}
 use Rattle.std.specs.List.{prefix_len}
 use Rattle.std.proofs.lemmas.Bool.{cases_lt, eq-eqb, eqb-true, ne_eqb}
-use Rattle.std.proofs.lemmas.List.{get_or-drop}
+use Rattle.std.proofs.lemmas.List.{get_or-drop, get_or-take}
 use Rattle.std.proofs.lemmas.Simd.{length-chunk, bitmask_splat, first_set_mask_l, run_in_chunk_le, run_in_chunk_fails, run_in_chunk_stops}
 
--- the bits that the comparison gives
-abbrev pub bits_of : List ℕ → ℕ → ℕ
-bits_of bs byte = mask_l (map (top 7) (zip2 (λ a b. cond (eqb a b) 255 0) (take 32 bs) (replicate 32 byte))) % 2 ^ 64
+-- the bits that the comparison of the first n gives
+abbrev pub bits_of : ℕ → List ℕ → ℕ → ℕ
+bits_of n bs byte = mask_l (map (top 7) (zip2 (λ a b. cond (eqb a b) 255 0) (take n bs) (replicate n byte))) % 2 ^ 64
 
--- r of the first 32 come before the first that is the byte
-pub record Run (bs : List ℕ) (byte r : ℕ) : Type 0 where
-  pub within : r ≤ 32
+-- r of the first n come before the first that is the byte
+pub record Run (n : ℕ) (bs : List ℕ) (byte r : ℕ) : Type 0 where
+  pub within : r ≤ n
   pub before : (k : ℕ) → k < r → get_or bs k 0 ≢ byte
-  pub found : r < 32 → get_or bs r 0 ≡ byte
+  pub found : r < n → get_or bs r 0 ≡ byte
 
-run_is : (bs : List ℕ) (byte r : ℕ) → 32 ≤ length bs → r ≡ prefix_len (λ x. not (eqb x byte)) (chunk 0 32 bs) → Run bs byte r
-run_is bs byte r h e =
+run_is : (n : ℕ) (bs : List ℕ) (byte r : ℕ) → n ≤ length bs → r ≡ prefix_len (λ x. not (eqb x byte)) (chunk 0 n bs) → Run n bs byte r
+run_is n bs byte r h e =
     let p : ℕ → Bool = λ x. eqb x byte in
     let start : 0 + r ≡ r = omega arith in
+    let long : 0 + n ≤ length bs = omega (arith, h) in
     record {
-      within = run_in_chunk_le p bs 0 32 r 0 h e;
-      before = λ k l f. true≢false (sym (eq-eqb (get_or bs k 0) byte f) ∙ run_in_chunk_fails p bs 0 32 r 0 h e k (omega arith) (omega arith));
-      found = λ l. eqb-true (get_or bs r 0) byte (rw start at (run_in_chunk_stops p bs 0 32 r 0 h e l));
+      within = run_in_chunk_le p bs 0 n r 0 long e;
+      before = λ k l f. true≢false (sym (eq-eqb (get_or bs k 0) byte f) ∙ run_in_chunk_fails p bs 0 n r 0 long e k (omega arith) (omega arith));
+      found = λ l. eqb-true (get_or bs r 0) byte (rw start at (run_in_chunk_stops p bs 0 n r 0 long e l));
     }
 
-counted : (bs : List ℕ) (byte : ℕ) → 32 ≤ length bs → cond (eqb (bits_of bs byte) 0) 32 (count_trailing_zeros 64 (bits_of bs byte)) ≡ prefix_len (λ x. not (eqb x byte)) (chunk 0 32 bs)
-counted bs byte h =
-    let long = length-chunk 0 32 bs h in
-    rw (bitmask_splat w8 eqb (chunk 0 32 bs) 32 byte long (omega arith)) (first_set_mask_l (λ x. eqb x byte) (chunk 0 32 bs) 32 long (omega arith))
+counted : (n : ℕ) (bs : List ℕ) (byte : ℕ) → n ≤ 64 → n ≤ length bs → cond (eqb (bits_of n bs byte) 0) n (count_trailing_zeros 64 (bits_of n bs byte)) ≡ prefix_len (λ x. not (eqb x byte)) (chunk 0 n bs)
+counted n bs byte small h =
+    let long = length-chunk 0 n bs (omega (arith, h)) in
+    rw (bitmask_splat w8 eqb (chunk 0 n bs) n byte long small) (first_set_mask_l (λ x. eqb x byte) (chunk 0 n bs) n long small)
 
-pub run_none : (bs : List ℕ) (byte : ℕ) → 32 ≤ length bs → bits_of bs byte ≡ 0 → Run bs byte 32
-run_none bs byte h z = run_is bs byte 32 h (rw z at (counted bs byte h))
+pub run_none : (n : ℕ) (bs : List ℕ) (byte : ℕ) → n ≤ 64 → n ≤ length bs → bits_of n bs byte ≡ 0 → Run n bs byte n
+run_none n bs byte small h z = run_is n bs byte n h (rw z at (counted n bs byte small h))
 
-pub run_some : (bs : List ℕ) (byte : ℕ) → 32 ≤ length bs → bits_of bs byte ≢ 0 → Run bs byte (count_trailing_zeros 64 (bits_of bs byte))
-run_some bs byte h n = run_is bs byte (count_trailing_zeros 64 (bits_of bs byte)) h (ap (λ b. cond b 32 (count_trailing_zeros 64 (bits_of bs byte))) (sym (ne_eqb (bits_of bs byte) 0 n)) ∙ counted bs byte h)
+pub run_some : (n : ℕ) (bs : List ℕ) (byte : ℕ) → n ≤ 64 → n ≤ length bs → bits_of n bs byte ≢ 0 → Run n bs byte (count_trailing_zeros 64 (bits_of n bs byte))
+run_some n bs byte small h z = run_is n bs byte (count_trailing_zeros 64 (bits_of n bs byte)) h (ap (λ b. cond b n (count_trailing_zeros 64 (bits_of n bs byte))) (sym (ne_eqb (bits_of n bs byte) 0 z)) ∙ counted n bs byte small h)
+
+-- the first len of a text, of which r come before the byte
+pub none_before : (bs : List ℕ) (byte len r : ℕ) → ((k : ℕ) → k < r → get_or bs k 0 ≢ byte) → (k : ℕ) → k < min r len → get_or (take len bs) k 0 ≢ byte
+none_before bs byte len r before k l e = before k (omega (arith, l)) (sym (get_or-take len bs k 0 (omega (arith, l))) ∙ e)
+
+pub found_there : (bs : List ℕ) (byte len r : ℕ) → get_or bs r 0 ≡ byte → min r len < len → get_or (take len bs) (min r len) 0 ≡ byte
+found_there bs byte len r f l = let same : min r len ≡ r = omega (arith, l) in rw same (get_or-take len bs r 0 (omega (arith, l, same)) ∙ f)
 
 -- behind the first n, none of which is the byte, the search goes on
 pub further : (n r byte : ℕ) (bs : List ℕ) → ((k : ℕ) → k < n → get_or bs k 0 ≢ byte) → ((k : ℕ) → k < r → get_or (drop n bs) k 0 ≢ byte) → (k : ℕ) → k < n + r → get_or bs k 0 ≢ byte

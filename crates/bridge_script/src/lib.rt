@@ -40,6 +40,7 @@ mod printing;
 mod reading;
 mod refusals;
 mod scripts;
+mod stretches;
 mod turnstiles;
 mod words;
 

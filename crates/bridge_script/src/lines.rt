@@ -12,13 +12,14 @@ ghost use Rattle.bridge_script.specs.Steps.{ReadsLine};
 use crate::faults::Cause;
 use crate::grammar::{Form, Operation, form_of, is_built};
 use crate::operands::{Operand, read_operands};
+use crate::stretches::Stretch;
 use crate::words::Words;
 use joint_model::{Act, Kind, Sort, Thread};
 
 /// The line that has this text, which is without its newline. Where there is no such line, the first of the causes
 /// that its words have: `Unknown`, `Arity`, `Name`, `Number`, `Limit` or `Kind`.
-pub fn read_line(text: &[u8]) -> Result<(Thread, Act), Cause>
-    ensures { ReadsLine text.now result }
+pub fn read_line(text: Stretch) -> Result<(Thread, Act), Cause>
+    ensures { ReadsLine text.entry result }
 {
     let mut words = Words::of(text);
     let Some(thread) = words.take_thread() else {

@@ -8,6 +8,7 @@ ghost use Rattle.bridge_script.specs.Steps.{GainsLine, Stops, EndsLine};
 
 use crate::faults::{Cause, ScriptError, ScriptFault};
 use crate::lines::read_line;
+use crate::stretches::Stretch;
 use crate::words::first_place_far;
 use joint_model::{Act, PhaseWord, Thread};
 use std::alloc::{AllocError, Global};
@@ -101,8 +102,8 @@ impl Script {
 
     // Puts the line with this text last, of which `end` is the number of bytes up to its end. `Refused` where it
     // has a cause, with the first of them.
-    fn grow(&mut self, text: &[u8], end: usize) -> Result<(), ScriptError>
-        ensures { MatchResult result (λ _. GainsLine self.old self.new text.now end) (λ error. Stops self.old text.now end error) }
+    fn grow(&mut self, text: Stretch, end: usize) -> Result<(), ScriptError>
+        ensures { MatchResult result (λ _. GainsLine self.old self.new text.entry end) (λ error. Stops self.old text.entry end error) }
     {
         if end > MOST_BYTES {
             return Err(self.refusal(Cause::Bytes));
@@ -190,7 +191,8 @@ pub fn parse(alloc: Global, bytes: &[u8]) -> Result<Script, ScriptError>
     let mut at = 0;
     while at < bytes.len() {
         let end = line_end(bytes, at);
-        script.grow(&bytes[at..end], (end + 1).min(bytes.len()))?;
+        let text = Stretch::of(&bytes[at..], end - at);
+        script.grow(text, (end + 1).min(bytes.len()))?;
         at = end + 1;
     }
     Ok(script)

@@ -10,6 +10,7 @@ ghost use Rattle.joint_model.specs.declared.names.StaticNo.{StaticNo};
 ghost use Rattle.joint_model.specs.declared.names.GName.{GName};
 ghost use Rattle.joint_model.specs.declared.names.Cell.{Cell};
 
+use crate::stretches::Stretch;
 use itoa::Buffer;
 use joint_model::{Cell, GName, StaticNo, Thread, Var};
 use std::marker::Model;
@@ -22,7 +23,7 @@ const LANES: usize = 32;
 /// word, and an empty line is one empty word.
 #[derive(Drop)]
 pub struct Words<'a> {
-    left: &'a [u8],
+    left: Stretch<'a>,
     done: bool,
 }
 
@@ -32,13 +33,13 @@ impl<'a> Model for Words<'a> {
 
     ghost Value = { List (List ℕ) };
 
-    ghost view = { λ w. cond w.done [] (slice_split (λ b. b == 32) w.left.now) };
+    ghost view = { λ w. cond w.done [] (slice_split (λ b. b == 32) w.left) };
 }
 
 impl<'a> Words<'a> {
     /// All words of the line.
-    pub fn of(line: &'a [u8]) -> Words<'a>
-        ensures { result ≡ slice_split (λ b. b == 32) line.now }
+    pub fn of(line: Stretch<'a>) -> Words<'a>
+        ensures { result ≡ slice_split (λ b. b == 32) line.entry }
     {
         Words {
             left: line,
@@ -47,20 +48,21 @@ impl<'a> Words<'a> {
     }
 
     /// Takes the next word; None where none is left.
+    #[inline(always)]
     pub fn next(&mut self) -> Option<&'a [u8]>
         ensures { MatchOption result ((self.old ≡ []) × (self.new ≡ [])) (λ word. self.old ≡ word.now ∷ self.new) }
     {
         if self.done {
             return None;
         }
-        let left = self.left;
-        let end = first_place(left, b' ');
-        if end == left.len() {
+        let end = self.left.place(b' ');
+        let word = self.left.front(end);
+        if end == self.left.len() {
             self.done = true;
-            Some(left)
+            Some(word)
         } else {
-            self.left = &left[end + 1..];
-            Some(&left[..end])
+            self.left = self.left.behind(end + 1);
+            Some(word)
         }
     }
 }
