@@ -88,10 +88,10 @@ impl PeerSide {
         ensures adds { AddsLawful peer_rules (record { floor = D.floor; left = D.left; may = D.may; drew = D.drew }) draw.old draw.new (seen self.old) (seen self.new) (weakens index h cites) nothing }
         ensures reserve { self.new.reserve ≡ reserve_left self.old.reserve }
     {
+        self.rows.weaken(h);
         let Some(mirror) = self.mirroring.mirror() else {
             unreachable!();
         };
-        self.rows.weaken(h);
         self.mirroring.set_mirror(Some(mirror.weakened()));
         note(
             &mut self.entries,
@@ -113,11 +113,11 @@ impl PeerSide {
         ensures cleared { (row : TableRow) → row_of self.old.state h.0 ≡ Some row → ((result ≡ Back.Cleared) ↔ (row.cleared ≡ true)) }
         ensures reserve { self.new.reserve ≡ self.old.reserve }
     {
+        let is_open = self.marking.is_some();
+        let back = self.rows.restore(h, is_open);
         let Some(mirror) = self.mirroring.mirror() else {
             unreachable!();
         };
-        let is_open = self.marking.is_some();
-        let back = self.rows.restore(h, is_open);
         self.mirroring.set_mirror(Some(mirror.restored()));
         note(
             &mut self.entries,

@@ -338,6 +338,7 @@ impl PeerRows {
     }
 
     /// Brings a peer back, if a marking is open: it has a mark from now on, with all that it reaches.
+    #[inline(always)]
     pub(crate) fn bring_back(&mut self, p: PNum, is_open: bool)
         requires live { IsLive self.old.rows.heap p.0 }
         requires shut { IsTrue is_open → IsClosed (EdgeOf self.old.rows) self.old.rows.marks }
