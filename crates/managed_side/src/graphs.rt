@@ -145,6 +145,7 @@ pub(crate) fn graph_of(
 {
     let places = places_of(alloc, dead, heap.made())?;
     let mut builder = GraphBuilder::new(alloc);
+    builder.reserve(dead.len() as u32, dead.len() as u32)?;
     add_nodes(heap, infos, dead, &mut builder)?;
     add_edges(heap, dead, &places, &mut builder)?;
     Ok(builder.finish())

@@ -58,7 +58,7 @@ pub(crate) fn mark_slots(heap: &mut RowHeap<MNum>, pins: &[Option<u32>; 9])
 pub(crate) fn whites(alloc: Global, heap: &RowHeap<MNum>) -> Result<Vec<MNum>, AllocError>
     ensures { IfOk result (λ v. AreWhite heap.now (managed_numbers v.items)) }
 {
-    let mut rows = Vec::new(alloc);
+    let mut rows = Vec::with_capacity(alloc, heap.live() as usize)?;
     for m in 1..heap.made() + 1 {
         if heap.is_white(m) {
             rows.push(MNum(m))?;
@@ -71,7 +71,7 @@ pub(crate) fn whites(alloc: Global, heap: &RowHeap<MNum>) -> Result<Vec<MNum>, A
 pub(crate) fn pick(alloc: Global, rows: &[MNum], infos: &[Held]) -> Result<Vec<u32>, AllocError>
     ensures { IfOk result (λ v. v.items ≡ filter (has_handle (map (λ i. i.handle) infos.now)) (managed_numbers rows.now)) }
 {
-    let mut picked = Vec::new(alloc);
+    let mut picked = Vec::with_capacity(alloc, rows.len())?;
     for m in rows {
         if holds(infos, *m) {
             picked.push(m.0)?;
@@ -88,7 +88,7 @@ pub(crate) fn marked_rows(
 ) -> Result<Vec<MNum>, AllocError>
     ensures { IfOk result (λ v. managed_numbers v.items ≡ filter (marked heap.now.marks) (managed_numbers rows.now)) }
 {
-    let mut found = Vec::new(alloc);
+    let mut found = Vec::with_capacity(alloc, rows.len())?;
     for m in rows {
         if has_mark(heap, *m) {
             found.push(*m)?;
