@@ -76,6 +76,7 @@ fn from_rows(
     let groups = group_bridges(alloc, graph, labels)?;
     let mut indexes = vec![in alloc; 0u32; graph.nodes() as usize]?;
     let mut builder = ComponentsBuilder::new(alloc);
+    builder.reserve(graph.nodes(), graph.nodes())?;
     list_components(graph, labels, &groups, &mut indexes, &mut builder)?;
     share_references(alloc, graph, labels, rows, &groups, &indexes, &mut builder)?;
     builder.finish()

@@ -1,6 +1,6 @@
 // Lists of numbers, one behind the other in one flat list.
 
-ghost use Rattle.std.specs.Prelude.{◌≡◌, ◌+◌, ◌<◌, ◌≤◌, [], ◌∷◌, ◌++◌, length, vec_len, vec_capacity, OnOk, OnErr};
+ghost use Rattle.std.specs.Prelude.{◌≡◌, ◌+◌, ◌<◌, ◌≤◌, [], ◌∷◌, ◌++◌, length, vec_len, vec_capacity, IfOk, OnOk, OnErr};
 ghost use Rattle.bridge_graph.specs.Packing.{packed_row, IsCut};
 ghost use Rattle.bridge_graph.specs.Parts.{row_at};
 
@@ -35,6 +35,16 @@ impl Lists {
             starts: Vec::new(alloc),
             items: Vec::new(alloc),
         }
+    }
+
+    /// No list, with room for so many lists, which have so many elements in all.
+    pub fn with_capacity(alloc: Global, lists: usize, elements: usize) -> Result<Lists, AllocError>
+        ensures { IfOk result (λ l. l ≡ []) }
+    {
+        Ok(Lists {
+            starts: Vec::with_capacity(alloc, lists)?,
+            items: Vec::with_capacity(alloc, elements)?,
+        })
     }
 
     /// The number of lists.

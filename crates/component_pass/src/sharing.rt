@@ -50,7 +50,7 @@ pub(crate) fn share_references(
     let mut work = new_work(alloc, count)?;
     let mut lists = Lists::new(alloc);
     lists.push(&[])?;
-    let mut sets = Vec::new(alloc);
+    let mut sets = Vec::with_capacity(alloc, rows.len())?;
     number_all(
         graph, labels, rows, groups, indexes, count, &mut sets, &mut lists, &mut work,
     )?;

@@ -47,7 +47,7 @@ pub(crate) fn classes(alloc: Global, graph: &DeadGraph) -> Result<StrongClasses,
     let n = graph.nodes() as usize;
     let mut marks = vec![in alloc; UNSEEN; n]?;
     let mut labels = vec![in alloc; 0u32; n]?;
-    let mut rows = Lists::new(alloc);
+    let mut rows = Lists::with_capacity(alloc, n, n)?;
     let mut stack = Vec::with_capacity(alloc, n)?;
     let mut frames = Vec::with_capacity(alloc, n)?;
     visit_all(

@@ -1,6 +1,6 @@
 // Components and cross-references, while they are being listed and afterwards.
 
-ghost use Rattle.std.specs.Prelude.{◌≡◌, ◌≢◌, ℕ, ◌<◌, ◌≤◌, [], ◌∷◌, ◌++◌, length, map, Contains, All, IfOk, OnOk, OnErr, slice_get, Some, IsPermutation};
+ghost use Rattle.std.specs.Prelude.{◌≡◌, ◌≢◌, ℕ, ◌<◌, ◌≤◌, [], ◌∷◌, ◌++◌, length, map, Contains, All, IfOk, OnOk, OnErr, slice_get, Some, IsPermutation, ◌+◌, vec_len, vec_capacity};
 ghost use Rattle.joint_model.specs.Components.{Rises, first_of, first_at, mirror_edges};
 ghost use Rattle.xref_list.specs.Adding.{AddsPair};
 ghost use Rattle.xref_list.specs.Listing.{AreDisjoint, AreComponents, IsListing};
@@ -57,6 +57,17 @@ impl ComponentsBuilder {
         }
     }
 
+    /// Makes room for so many components, which have so many members in all. Answers `AllocError` where there is no memory; the components and
+    /// pairs are as before in any case.
+    pub fn reserve(&mut self, comps: u32, members: u32) -> Result<(), AllocError>
+        ensures comps { self.new.comps ≡ self.old.comps }
+        ensures pairs { self.new.pairs ≡ self.old.pairs }
+    {
+        self.starts.reserve(comps as usize)?;
+        self.circles.reserve(members as usize)?;
+        self.members.reserve(members as usize)
+    }
+
     /// The number of components so far.
     pub fn len(&self) -> u32
         ensures count { result ≡ length self.now.comps }
@@ -85,7 +96,8 @@ impl ComponentsBuilder {
         let start = self.members.len() as u32;
         self.starts.reserve(1)?;
         self.circles.reserve(objs.len())?;
-        self.members.extend_from_slice(objs)?;
+        self.members.reserve(objs.len())?;
+        append(objs, &mut self.members);
         self.starts.push_reserved(start);
         push_circle(objs, &mut self.circles);
         Ok(index)
@@ -238,5 +250,15 @@ impl Components {
         ensures { result ≡ first_at self.now.comps c }
     {
         self.objs(c)[0]
+    }
+}
+
+// Puts the members of a component last, for which there is room. Most components have one member, so it is a loop, and no copy.
+fn append(objs: &[u32], members: &mut Vec<u32>)
+    requires { vec_len members.old + length objs.now ≤ vec_capacity members.old }
+    ensures { members.new.items ≡ members.old.items ++ objs.now }
+{
+    for x in objs {
+        members.push_reserved(*x);
     }
 }

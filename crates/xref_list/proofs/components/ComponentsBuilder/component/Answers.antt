@@ -11,7 +11,7 @@ invariant_of-self-2 c =
     let r = rw (← c.self.view_is) at c.requires in
     let start : c.len-start.result ≡ length c.self.inside.members.items = omega arith in
     let most : length c.self.inside.members.items + length c.args.objs.now ≤ 65535 = omega arith in
-    rw (c.in_ok-extend_from_slice.ensures.items, c.push_reserved.ensures.items, c.reserve.ensures.items, start, c.push_circle.ensures, c.reserve-2.ensures.items)
+    rw (c.append.ensures, c.reserve-3.ensures.items, c.push_reserved.ensures.items, c.reserve.ensures.items, start, c.push_circle.ensures, c.reserve-2.ensures.items)
     (building_more c.self.inside.members.items c.self.inside.starts.items c.self.inside.circles.items c.self.inside.pairs c.self.inside.sorted c.args.objs.now
     i most r.some r.rises r.below r.apart r.after)
 
@@ -21,5 +21,5 @@ returns-clause-index c = rw (← c.self.view_is) (omega (arith, length-packed c.
 pub returns-clause-comps : goal.returns-clause-comps
 returns-clause-comps c =
     let start : c.len-start.result ≡ length c.self.inside.members.items = omega arith in
-    rw (← c.self.view_is, c.in_ok-extend_from_slice.ensures.items, c.push_reserved.ensures.items, c.reserve.ensures.items, start, length_push)
+    rw (← c.self.view_is, c.append.ensures, c.reserve-3.ensures.items, c.push_reserved.ensures.items, c.reserve.ensures.items, start, length_push)
     (packed_rows-more c.self.inside.starts.items c.self.inside.members.items c.args.objs.now (length c.self.inside.starts.items) refl c.self.invariant.flat.cut)
