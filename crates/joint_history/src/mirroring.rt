@@ -6,7 +6,7 @@ ghost use Rattle.joint_history.specs.Driven.{DriverMakesNone};
 ghost use Rattle.joint_history.specs.DriverMirrors.{MakesMirror, MayMirrorCycle};
 
 use crate::callers::Caller;
-use crate::shared::Shared;
+use crate::shared::{Shared, hold};
 use bridge_graph::DeadGraph;
 use joint_model::Cycle;
 use order_table::OrderName;
@@ -37,7 +37,7 @@ impl<N: OrderName> Shared<N> {
         ensures ok { IfOk result (λ r. MakesMirror driver.old.view driver.new.view index cycle snap graph.now comps.now r.1 r.0) }
         ensures err { OnErr result (DriverMakesNone driver.old.view driver.new.view) }
     {
-        self.peers.lock(rt).mirror(
+        hold(&self.peers, rt).mirror(
             &self.order,
             &mut driver.seat,
             index,

@@ -21,7 +21,7 @@ use managed_side::ManagedLists;
 use order_table::{Order, OrderName, Role, Seat};
 use peer_side::PeerLists;
 use std::alloc::{AllocError, Global};
-use std::sync::Mutex;
+use std::sync::{Mutex, MutexGuard, Wait};
 
 /// Both sides, each behind a lock of its own with the seat that owns its role, and the order of all entries. No call holds both locks.
 #[derive(Drop)]
@@ -31,6 +31,15 @@ pub struct Shared<N: OrderName> {
     pub(crate) managed: Mutex<LockedManaged<N>>,
     pub(crate) peers: Mutex<LockedPeer<N>>,
     ghost named: { order ≡ N.order },
+}
+
+// Takes a lock. A free one is taken right here, and only one that is held is waited for by a call.
+#[inline(always)]
+pub(crate) fn hold<'a, T, R: Wait>(lock: &'a Mutex<T>, rt: &R) -> MutexGuard<'a, T> {
+    match lock.try_lock() {
+        Some(guard) => guard,
+        None => lock.lock(rt),
+    }
 }
 
 // Joins the lists of both sides into one history.
