@@ -2,7 +2,6 @@
 -- it is seen at one number alone; and a key that was vacant stands nowhere in the index.
 use Rattle.std.proofs.Common.{◌≡◌, ◌≢◌, ℕ, zero, suc, ◌+◌, ◌-◌, ◌≤◌, ◌<◌, ◌⊎◌, inl, inr, true, false, List, [], ◌∷◌, ◌++◌, map, length, Option, Some, None, is_some, set, get_or, refl, sym, ap, subst, ◌∙◌, arith}
 use Rattle.std.specs.Prelude.{slice_get, slice_index_or}
-use Rattle.std.specs.Global.{Vec}
 use Rattle.std.proofs.lemmas.Bool.{cases_eq}
 use Rattle.std.proofs.lemmas.List.{length-map, map-append}
 use Rattle.std.proofs.lemmas.Option.{slice_get_read}
@@ -12,6 +11,7 @@ use Rattle.joint_model.proofs.Numbered.{push-at_cases}
 use Rattle.heap_rules.proofs.Numbered.{numbered-read, numbered_set-index}
 use Rattle.slab.specs.Slab.{Slab, get, Updates, with_value}
 use Rattle.slab.proofs.SlabLemmas.{Updates-with_value}
+use Rattle.row_heap.specs.declared.fields.Fields.{Fields}
 use Rattle.row_heap.specs.declared.places.Row.{Row}
 use Rattle.row_heap.specs.declared.places.RowPlace.{RowPlace}
 use Rattle.row_heap.specs.declared.places.RowPlace.TheVariants.{At, Gone}
@@ -43,7 +43,7 @@ seen-row s key r e = ap (λ o. elim o [ None ↦ gone [] | Some q ↦ standing q
 pub seen-stands : (s : Slab Row) (places : List RowPlace) (i key : ℕ) → IsIndex s places → slice_get places i ≡ Some (At key) → (seen_at s (At key)).stands ≡ true
 seen-stands s places i key index at = (let w = index.there i key at in ap (λ z. z.stands) (seen-row s key w.0 w.1))
 
-pub stands-gone : (kept : Snapshot (Vec (Option ℕ))) (s : Slab Row) (r : Seen) → r ≡ seen_at s (Gone kept) → r.stands ≡ true → ⊥
+pub stands-gone : (kept : Snapshot Fields) (s : Slab Row) (r : Seen) → r ≡ seen_at s (Gone kept) → r.stands ≡ true → ⊥
 stands-gone kept s r e t = (let f : true ≡ false = sym t ∙ ap (λ z. z.stands) e in cc)
 
 -- one place of a list changes, and the function that shows it: the others are shown as before
@@ -93,7 +93,7 @@ shown-written s places rows x key r new view index one at is =
     ∙ (ap (λ z. set z (x - 1) new) view ∙ numbered_set-index rows x new one)))
 
 -- a row is removed, and its place keeps the fields
-pub IsIndex-freed : (s t : Slab Row) (places : List RowPlace) (i key : ℕ) (kept : Snapshot (Vec (Option ℕ))) → IsIndex s places → slice_get places i ≡ Some (At key) → Updates s t key None → IsIndex t (set places i (Gone kept))
+pub IsIndex-freed : (s t : Slab Row) (places : List RowPlace) (i key : ℕ) (kept : Snapshot Fields) → IsIndex s places → slice_get places i ≡ Some (At key) → Updates s t key None → IsIndex t (set places i (Gone kept))
 IsIndex-freed s t places i key kept index at u = record {
   there = λ j k e. elim (set-at_or places i (Gone kept) j (At k) e) [
     | inl w ↦ (let d : ⊥ = cc in absurd d)
@@ -115,8 +115,8 @@ IsIndex-freed s t places i key kept index at u = record {
     set-at_or (z ∷ xs) (suc i) x zero y e = inr ((λ q. omega (arith, q)), e)
     set-at_or (z ∷ xs) (suc i) x (suc j) y e = elim (set-at_or xs i x j y e) [ inl w ↦ inl w | inr w ↦ inr ((λ q. w.0 (omega (arith, q))), w.1) ]
 
-pub shown-freed : (s t : Slab Row) (places : List RowPlace) (rows : List Seen) (x key : ℕ) (kept : Snapshot (Vec (Option ℕ))) (new : Seen) → map (seen_at s) places ≡ rows → IsIndex s places → 1 ≤ x → slice_get places (x - 1) ≡ Some (At key) → Updates s t key None
-    → gone kept.value.items ≡ new → map (seen_at t) (set places (x - 1) (Gone kept)) ≡ numbered_set rows x new
+pub shown-freed : (s t : Slab Row) (places : List RowPlace) (rows : List Seen) (x key : ℕ) (kept : Snapshot Fields) (new : Seen) → map (seen_at s) places ≡ rows → IsIndex s places → 1 ≤ x → slice_get places (x - 1) ≡ Some (At key) → Updates s t key None
+    → gone kept.value ≡ new → map (seen_at t) (set places (x - 1) (Gone kept)) ≡ numbered_set rows x new
 shown-freed s t places rows x key kept new view index one at u is =
     map-set_others (seen_at s) (seen_at t) places (x - 1) (Gone kept) (others-same s t places (x - 1) key None index at u)
     ∙ (ap (λ z. set (map (seen_at s) places) (x - 1) z) is ∙ (ap (λ z. set z (x - 1) new) view ∙ numbered_set-index rows x new one))
@@ -152,7 +152,7 @@ shown-pushed s t places rows key r index view vacant u =
   where
     kept : (ps : List RowPlace) → ((i k : ℕ) → slice_get ps i ≡ Some (At k) → (q : Row) × (get s k ≡ Some q)) → map (seen_at t) ps ≡ map (seen_at s) ps
     kept [] there = refl
-    kept (Gone fs ∷ ps) there = ap (λ l. gone fs.value.items ∷ l) (kept ps (λ i k e. there (suc i) k e))
+    kept (Gone fs ∷ ps) there = ap (λ l. gone fs.value ∷ l) (kept ps (λ i k e. there (suc i) k e))
     kept (At k ∷ ps) there = ap (λ l. seen_at t (At k) ∷ l) (kept ps (λ i k' e. there (suc i) k' e))
         ∙ ap (λ o. elim o [ None ↦ gone [] | Some q ↦ standing q ] ∷ map (seen_at s) ps) (u.others k (λ e. (let w = there 0 k refl in let z : Some w.0 ≡ None = sym w.1 ∙ (ap (get s) e ∙ vacant) in cc)))
 
@@ -162,7 +162,7 @@ IsIndex-grown s t places e index = record { there = λ i k a. (let w = index.the
 
 pub shown-grown : (s t : Slab Row) (places : List RowPlace) → t.slots ≡ s.slots → map (seen_at t) places ≡ map (seen_at s) places
 shown-grown s t [] e = refl
-shown-grown s t (Gone kept ∷ places) e = ap (λ r. gone kept.value.items ∷ r) (shown-grown s t places e)
+shown-grown s t (Gone kept ∷ places) e = ap (λ r. gone kept.value ∷ r) (shown-grown s t places e)
 shown-grown s t (At k ∷ places) e = ap (λ r. seen_at t (At k) ∷ r) (shown-grown s t places e) ∙ ap (λ o. elim o [ None ↦ gone [] | Some q ↦ standing q ] ∷ map (seen_at s) places) (ap (λ l. slice_index_or l k None) e)
 
 -- a row that stands has a key, by which it is the slab's row
@@ -172,7 +172,7 @@ at-key s places rows x r key view up is e = (let w = stands-within rows x up in 
 pub row-of : (s : Slab Row) (places : List RowPlace) (rows : List Seen) (x : ℕ) (r : RowPlace) (key : ℕ) (row : Row) → map (seen_at s) places ≡ rows → (row_at rows x).stands ≡ true → r ≡ At key → r ≡ get_or places (x - 1) r → get s key ≡ Some row → row_at rows x ≡ standing row
 row-of s places rows x r key row view up is e got = (let w = stands-within rows x up in read-row s places rows x r (At key) view w.0 w.1 is e ∙ seen-row s key row got)
 
-pub not-gone : (s : Slab Row) (places : List RowPlace) (rows : List Seen) (x : ℕ) (r : RowPlace) (kept : Snapshot (Vec (Option ℕ))) → map (seen_at s) places ≡ rows → (row_at rows x).stands ≡ true → r ≡ Gone kept → r ≡ get_or places (x - 1) r → ⊥
+pub not-gone : (s : Slab Row) (places : List RowPlace) (rows : List Seen) (x : ℕ) (r : RowPlace) (kept : Snapshot Fields) → map (seen_at s) places ≡ rows → (row_at rows x).stands ≡ true → r ≡ Gone kept → r ≡ get_or places (x - 1) r → ⊥
 not-gone s places rows x r kept view up is e = (let w = stands-within rows x up in stands-gone kept s (row_at rows x) (read-row s places rows x r (Gone kept) view w.0 w.1 is e) up)
 
 -- its row is written

@@ -1,3 +1,4 @@
+pub mod Cells
 pub mod Indexed
 pub mod Sound
 pub mod Freed

@@ -1,20 +1,20 @@
 -- Rows with the marks and the links that stand beside them. What marks and links don't touch is seen as without them, so a write to a row of
 -- the slab is a write to the row as it is seen; a write to all three lists at one place writes the row with both. A row with a mark stands as
 -- long as each row that is written is such a row, and a marking through the fields of a row marks rows that stand.
-use Rattle.std.proofs.Common.{◌≡◌, ℕ, zero, suc, ◌+◌, ◌-◌, ◌≤◌, ◌<◌, ◌⊎◌, inl, inr, Bool, true, false, List, [], ◌∷◌, ◌++◌, map, length, replicate, drop, get_or, set, Option, Some, None, refl, sym, ap, subst, ◌∙◌, arith, length-append}
+use Rattle.std.proofs.Common.{◌≡◌, ℕ, zero, suc, ◌-◌, ◌≤◌, ◌<◌, ◌⊎◌, inl, inr, Bool, true, false, List, [], ◌∷◌, ◌++◌, map, length, replicate, drop, get_or, set, Option, Some, None, refl, sym, ap, subst, ◌∙◌, arith, length-append}
 use Rattle.std.specs.Prelude.{Contains, slice_get}
 use Rattle.std.proofs.Math.ListN.{length-set}
 use Rattle.std.proofs.lemmas.List.{length-map}
-use Rattle.std.proofs.lemmas.List.Elements.{Contains-append_left, Contains-push}
+use Rattle.std.proofs.lemmas.List.Elements.{Contains-append_left, Contains-push, Contains-push_cases}
 use Rattle.joint_model.specs.Heaps.{numbered_set}
 use Rattle.heap_rules.proofs.Numbered.{numbered_set-index}
 use Rattle.reachability.specs.Marks.{HasMark}
 use Rattle.reachability.proofs.Marking.{Scans-seen, read-mark}
 use Rattle.row_marking.specs.Traces.{Greyed}
-use Rattle.row_marking.proofs.Greys.{Greyed-new}
-use Rattle.std.specs.Global.{Vec}
+use Rattle.row_marking.proofs.Greys.{Greyed-new, Greyed-then}
 use Rattle.std.specs.declared.snapshot.Snapshot.{Snapshot}
 use Rattle.slab.specs.Slab.{Slab, get, Updates, with_value}
+use Rattle.row_heap.specs.declared.fields.Fields.{Fields}
 use Rattle.row_heap.specs.declared.places.Row.{Row}
 use Rattle.row_heap.specs.declared.places.RowPlace.{RowPlace}
 use Rattle.row_heap.specs.declared.places.RowPlace.TheVariants.{At, Gone}
@@ -194,14 +194,19 @@ greyed-rows row base rows marks others written links after put h i view is set_l
     (subst (λ (ms : List Bool). Greyed row (false ∷ marks) (0 ∷ links) h (false ∷ ms) (links_in new) i) (sym (ap (map (λ (r : Seen). r.marked)) (sym next) ∙ marks-with base others after om))
     (subst (λ (ls : List ℕ). Greyed row (false ∷ marks) (0 ∷ links) h (false ∷ others) (0 ∷ ls) i) (sym (ap (map (λ (r : Seen). r.link)) (sym next) ∙ links-with base others after ol)) y)))
 
-pub fresh-push : (fields : List (Option ℕ)) (y : ℕ) (a b c : List Bool) → ((k : ℕ) → HasMark b k → HasMark a k ⊎ Contains fields (Some k)) → ((k : ℕ) → HasMark c k → HasMark b k ⊎ (k ≡ y)) → (k : ℕ) → HasMark c k → HasMark a k ⊎ Contains (fields ++ Some y ∷ []) (Some k)
-fresh-push fields y a b c old new k m = elim (new k m) [
-  | inl w ↦ elim (old k w) [ inl v ↦ inl v | inr v ↦ inr (Contains-append_left fields (Some y ∷ []) (Some k) v) ]
-  | inr w ↦ inr (subst (λ t. Contains (fields ++ Some y ∷ []) (Some t)) (sym w) (Contains-push fields (Some y)))
+-- a further field is done
+pub fresh-push : (fields : List (Option ℕ)) (f : Option ℕ) (a b c : List Bool) → ((k : ℕ) → HasMark b k → HasMark a k ⊎ Contains fields (Some k)) → ((k : ℕ) → HasMark c k → HasMark b k ⊎ (f ≡ Some k)) → (k : ℕ) → HasMark c k → HasMark a k ⊎ Contains (fields ++ f ∷ []) (Some k)
+fresh-push fields f a b c old new k m = elim (new k m) [
+  | inl w ↦ elim (old k w) [ inl v ↦ inl v | inr v ↦ inr (Contains-append_left fields (f ∷ []) (Some k) v) ]
+  | inr w ↦ inr (subst (Contains (fields ++ f ∷ [])) w (Contains-push fields f))
 ]
 
-pub fresh-none : (fields : List (Option ℕ)) (a b : List Bool) → ((k : ℕ) → HasMark b k → HasMark a k ⊎ Contains fields (Some k)) → (k : ℕ) → HasMark b k → HasMark a k ⊎ Contains (fields ++ None ∷ []) (Some k)
-fresh-none fields a b old k m = elim (old k m) [ inl v ↦ inl v | inr v ↦ inr (Contains-append_left fields (None ∷ []) (Some k) v) ]
+pub greyed-push : (fields : List (Option ℕ)) (f : Option ℕ) (a : List Bool) (k : List ℕ) (h : ℕ) (b : List Bool) (l : List ℕ) (i : ℕ) (c : List Bool) (n : List ℕ) (j : ℕ)
+    → Greyed (λ z. Contains fields (Some z)) a k h b l i → Greyed (λ z. f ≡ Some z) b l i c n j → Greyed (λ z. Contains (fields ++ f ∷ []) (Some z)) a k h c n j
+greyed-push fields f a k h b l i c n j v w = Greyed-then (λ z. Contains fields (Some z)) (λ z. f ≡ Some z) (λ z. Contains (fields ++ f ∷ []) (Some z)) a k h b l i c n j
+    (λ z r. Contains-push_cases fields f (Some z) r)
+    (λ z g. Contains-append_left fields (f ∷ []) (Some z) g)
+    (λ z e. subst (Contains (fields ++ f ∷ [])) e (Contains-push fields f)) v w
 
 -- the rows of the index, from those with marks
 pub len-under : (s : Slab Row) (places : List RowPlace) (rows : List Seen) (marks : List Bool) (links : List ℕ) → with_marks (map (seen_at s) places) marks links ≡ rows → length rows ≡ length places
@@ -234,7 +239,7 @@ changed-are g apart stays s places rows marks links x r key old new view a up is
     (stand-set rows x (g (row_at rows x)) (λ m. stays (row_at rows x) ∙ (sym (ap (λ (l : List Seen). (row_at l x).stands) view) ∙ (row_at-under (λ q. q.stands) (λ q n l. refl) base marks links x ∙ up))) (subst DoMarkedStand view a.up))
 
 -- the row of a removed place begins nowhere
-pub gone-first : (s : Slab Row) (places : List RowPlace) (rows : List Seen) (marks : List Bool) (links : List ℕ) (x : ℕ) (r : RowPlace) (kept : Snapshot (Vec (Option ℕ))) → with_marks (map (seen_at s) places) marks links ≡ rows → 1 ≤ x → x ≤ length rows → r ≡ Gone kept → r ≡ get_or places (x - 1) r
+pub gone-first : (s : Slab Row) (places : List RowPlace) (rows : List Seen) (marks : List Bool) (links : List ℕ) (x : ℕ) (r : RowPlace) (kept : Snapshot Fields) → with_marks (map (seen_at s) places) marks links ≡ rows → 1 ≤ x → x ≤ length rows → r ≡ Gone kept → r ≡ get_or places (x - 1) r
     → rows ≡ numbered_set rows x (record (row_at rows x) { first = 0 })
 gone-first s places rows marks links x r kept view one le is e =
     let base = map (seen_at s) places in
@@ -243,8 +248,8 @@ gone-first s places rows marks links x r kept view one le is e =
     sym (rows-self rows x (record (row_at rows x) { first = 0 }) one le (ap (λ n. record (row_at rows x) { first = n }) (sym none)))
 
 -- a row is removed
-pub freed-rows : (s t : Slab Row) (places : List RowPlace) (rows : List Seen) (marks : List Bool) (links : List ℕ) (x key : ℕ) (kept : Snapshot (Vec (Option ℕ))) → with_marks (map (seen_at s) places) marks links ≡ rows → AreRows s places marks links → 1 ≤ x → slice_get places (x - 1) ≡ Some (At key) → Updates s t key None
-    → kept.value.items ≡ (row_at (map (seen_at s) places) x).fields
+pub freed-rows : (s t : Slab Row) (places : List RowPlace) (rows : List Seen) (marks : List Bool) (links : List ℕ) (x key : ℕ) (kept : Snapshot Fields) → with_marks (map (seen_at s) places) marks links ≡ rows → AreRows s places marks links → 1 ≤ x → slice_get places (x - 1) ≡ Some (At key) → Updates s t key None
+    → kept.value ≡ (row_at (map (seen_at s) places) x).fields
     → with_marks (map (seen_at t) (set places (x - 1) (Gone kept))) (set marks (x - 1) false) (set links (x - 1) 0) ≡ numbered_set rows x (gone (row_at rows x).fields)
 freed-rows s t places rows marks links x key kept view a one at u had =
     let base = map (seen_at s) places in
@@ -253,8 +258,8 @@ freed-rows s t places rows marks links x key kept view a one at u had =
     (shown-freed s t places base x key kept (gone (row_at base x).fields) refl a.index one at u (ap gone had))
     ∙ ap (λ fs. numbered_set rows x (gone fs)) (sym (row_at-under (λ q. q.fields) (λ q n l. refl) base marks links x) ∙ ap (λ (l : List Seen). (row_at l x).fields) view)
 
-pub freed-are : (s t : Slab Row) (places : List RowPlace) (rows : List Seen) (marks : List Bool) (links : List ℕ) (x key : ℕ) (kept : Snapshot (Vec (Option ℕ))) → with_marks (map (seen_at s) places) marks links ≡ rows → AreRows s places marks links → 1 ≤ x → slice_get places (x - 1) ≡ Some (At key) → Updates s t key None
-    → kept.value.items ≡ (row_at (map (seen_at s) places) x).fields → AreRows t (set places (x - 1) (Gone kept)) (set marks (x - 1) false) (set links (x - 1) 0)
+pub freed-are : (s t : Slab Row) (places : List RowPlace) (rows : List Seen) (marks : List Bool) (links : List ℕ) (x key : ℕ) (kept : Snapshot Fields) → with_marks (map (seen_at s) places) marks links ≡ rows → AreRows s places marks links → 1 ≤ x → slice_get places (x - 1) ≡ Some (At key) → Updates s t key None
+    → kept.value ≡ (row_at (map (seen_at s) places) x).fields → AreRows t (set places (x - 1) (Gone kept)) (set marks (x - 1) false) (set links (x - 1) 0)
 freed-are s t places rows marks links x key kept view a one at u had =
     let len : length (set places (x - 1) (Gone kept)) ≡ length places = length-set places (x - 1) (Gone kept) in
     AreRows-as t (set places (x - 1) (Gone kept)) (set marks (x - 1) false) (set links (x - 1) 0) (numbered_set rows x (gone (row_at rows x).fields)) (IsIndex-freed s t places (x - 1) key kept a.index at u)
@@ -339,7 +344,7 @@ visited-are s places rows marks others links after fields view a em el fresh hel
 
 -- the fields of a row that stands
 pub fields-under : (s : Slab Row) (places : List RowPlace) (rows : List Seen) (marks : List Bool) (links : List ℕ) (x : ℕ) (r : RowPlace) (key : ℕ) (row : Row) → with_marks (map (seen_at s) places) marks links ≡ rows → (row_at rows x).stands ≡ true → r ≡ At key → r ≡ get_or places (x - 1) r → get s key ≡ Some row
-    → (row_at rows x).fields ≡ row.fields.items
+    → (row_at rows x).fields ≡ row.fields
 fields-under s places rows marks links x r key row view up is e got =
     ap (λ z. z.fields) (bare-under s places rows marks links x view ∙ row-of s places (map (seen_at s) places) x r key row refl (up-under (map (seen_at s) places) rows marks links x view up) is e got)
 

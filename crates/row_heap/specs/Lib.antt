@@ -1,3 +1,4 @@
+pub mod Cells
 pub mod Places
 pub mod Rows
 pub mod Marks

@@ -18,7 +18,7 @@ pub record Seen : Type 0 where
 
 -- a row that stands, without its mark and its link
 abbrev pub standing : Row → Seen
-standing r = record { fields = r.fields.items; first = r.first; marked = false; link = 0; stands = true }
+standing r = record { fields = r.fields; first = r.first; marked = false; link = 0; stands = true }
 
 -- a row that was removed: its fields alone are seen
 abbrev pub gone : List (Option ℕ) → Seen
@@ -27,7 +27,7 @@ gone fields = record { fields = fields; first = 0; marked = false; link = 0; sta
 -- the row of a place
 abbrev pub seen_at : Slab Row → RowPlace → Seen
 seen_at s (At key) = elim (get s key) [ None ↦ gone [] | Some r ↦ standing r ]
-seen_at s (Gone kept) = gone kept.value.items
+seen_at s (Gone kept) = gone kept.value
 
 -- the row of a number; a removed one without fields where there is none
 abbrev pub row_at : List Seen → ℕ → Seen

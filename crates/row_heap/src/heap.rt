@@ -6,6 +6,7 @@ ghost use Rattle.joint_model.specs.Heaps.{Heap, MOST, IsMade, IsLive, InSlot, sl
 ghost use Rattle.heap_rules.specs.Tidy.{IsTidy, CanFree};
 ghost use Rattle.row_heap.specs.Rows.{HeapRows, opening_rows};
 
+use crate::fields::Fields;
 use crate::places::Rows;
 use crate::references::Reference;
 use heap_rules::Number;
@@ -120,7 +121,7 @@ impl<N: Number> RowHeap<N> {
         requires { IsLive self.now.heap x }
         ensures { result ≡ length (fields_of self.now.heap x) }
     {
-        self.rows.row(x as usize).fields.len()
+        self.rows.row(x as usize).fields.as_slice().len()
     }
 
     /// What field `i` of a live object holds.
@@ -130,7 +131,7 @@ impl<N: Number> RowHeap<N> {
         ensures value { slot (fields_of self.now.heap x) i ≡ result }
         ensures live { IfSome result (IsLive self.now.heap) }
     {
-        self.rows.row(x as usize).fields[i]
+        self.rows.row(x as usize).fields.as_slice()[i]
     }
 
     /// Makes an object with so many empty fields, and answers its number. It has a mark. Answers `AllocError` where there is no memory; the
@@ -142,7 +143,7 @@ impl<N: Number> RowHeap<N> {
         ensures live { IfOk result (IsLive self.new.heap) }
         ensures err { OnErr result (self.new ≡ self.old) }
     {
-        let row = vec![in self.alloc; None; fields as usize]?;
+        let row = Fields::empty(self.alloc, fields)?;
         let made = self.rows.made();
         self.freed.reserve(made + 1 - self.freed.len())?;
         self.rows.add(row)?;

@@ -22,13 +22,15 @@
 // keeps in it what a cycle mirrors; the managed side has none.
 //
 // Objects have the numbers 1, 2, 3 and so on for ever, and their rows are in a slab, which uses the memory of freed rows again: `places.rt` has
-// the index between them. A read of a field is a load from the index and one from the slab. The list of freed objects has room for each
-// object. What `heap_rules` proves of a heap with flags is used as it stands: its flags are which rows stand.
+// the index between them. A row has up to two fields in itself, and more in a vector of its own, as `fields.rt` says: so a read of a field is a
+// load from the index and one from the slab, and one more where they are many. The list of freed objects has room for each object. What
+// `heap_rules` proves of a heap with flags is used as it stands: its flags are which rows stand.
 //
 // A heap is a part of its side, which alone changes it. What is promised: each operation is the definition's own, a finished marking has marked exactly
 // what its roots reach, and a sweep frees exactly the live rows without a mark.
 #![tactic(auto)]
 
+mod fields;
 mod freeing;
 mod heap;
 mod marking;

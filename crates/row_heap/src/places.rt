@@ -1,9 +1,10 @@
 // Rows by number, in a slab.
 //
 // The slab picks its keys and gives a removed row's key out again, so a key is no number of an object. The index has for each number ever
-// made the key of its row, in four bytes beside a tag. Marks and links stand beside the rows, in lists of their own: a marking looks at them far
-// more often than at a row, and all marks are taken down by one fill. A row that is freed gives its memory back, and the index keeps its fields for proofs
-// alone, in no bytes: so the heap of the definition, which never forgets the fields of a freed object, is still what contracts see.
+// made the key of its row, in four bytes beside a tag. A row has its fields in itself where they are few (`fields.rt`). Marks and links stand
+// beside the rows, in lists of their own: a marking looks at them far more often than at a row, and all marks are taken down by one fill. A row
+// that is freed gives its memory back, and the index keeps its fields for proofs alone, in no bytes: so the heap of the definition, which never
+// forgets the fields of a freed object, is still what contracts see.
 
 ghost use Rattle.std.specs.Prelude.{◌≡◌, ℕ, ◌≤◌, ◌<◌, ◌⊎◌, ◌++◌, [], ◌∷◌, Some, Contains, true, false, length, map, slice_set, OnOk, OnErr};
 ghost use Rattle.joint_model.specs.Heaps.{numbered_set};
@@ -11,6 +12,7 @@ ghost use Rattle.reachability.specs.Marks.{HasMark};
 ghost use Rattle.row_marking.specs.Traces.{Greyed};
 ghost use Rattle.row_heap.specs.Places.{row_at, is_white, standing, gone, bare, marks_in, links_in, unmarked_row};
 
+use crate::fields::Fields;
 use crate::heap::MOST_OBJECTS;
 use joint_model::list_with_room;
 use slab::Slab;
@@ -21,7 +23,7 @@ use std::snapshot::Snapshot;
 /// An object: its fields, and the last of its references as a place counted from 1.
 #[derive(Drop)]
 pub(crate) struct Row {
-    pub(crate) fields: Vec<Option<u32>>,
+    pub(crate) fields: Fields,
     pub(crate) first: u32,
 }
 
@@ -29,7 +31,7 @@ pub(crate) struct Row {
 #[derive(Drop)]
 pub(crate) enum RowPlace {
     At(u32),
-    Gone(Snapshot<Vec<Option<u32>>>),
+    Gone(Snapshot<Fields>),
 }
 
 /// The rows with the numbers 1, 2, 3 and so on, in the order in which they were made. What a list has of row x stands at x - 1.
@@ -121,7 +123,7 @@ impl Rows {
         ensures { self.new ≡ numbered_set self.old x (record (row_at self.old x) { fields = slice_set (row_at self.old x).fields i y }) }
     {
         match self.places[x - 1] {
-            RowPlace::At(key) => self.slab[key as usize].fields[i] = y,
+            RowPlace::At(key) => self.slab[key as usize].fields.set(i, y),
             RowPlace::Gone(_) => unreachable!(),
         }
     }
@@ -166,8 +168,8 @@ impl Rows {
     {
         match self.places[x - 1] {
             RowPlace::At(key) => {
-                let fields = self.slab[key as usize].fields.as_slice();
-                visit_fields(fields, &mut self.marks, &mut self.links, grey);
+                let fields = &self.slab[key as usize].fields;
+                fields.visit(&mut self.marks, &mut self.links, grey);
             }
             RowPlace::Gone(_) => unreachable!(),
         }
@@ -198,8 +200,8 @@ impl Rows {
     }
 
     /// Makes a row under the next number, with a mark. Answers `AllocError`, with the rows as before, where there is no memory.
-    pub(crate) fn add(&mut self, fields: Vec<Option<u32>>) -> Result<(), AllocError>
-        ensures ok { OnOk result (self.new ≡ self.old ++ record { fields = fields.items; first = 0; marked = true; link = 0; stands = true } ∷ []) }
+    pub(crate) fn add(&mut self, fields: Fields) -> Result<(), AllocError>
+        ensures ok { OnOk result (self.new ≡ self.old ++ record { fields = fields; first = 0; marked = true; link = 0; stands = true } ∷ []) }
         ensures err { OnErr result (self.new ≡ self.old) }
     {
         let key = self.slab.vacant_key();
@@ -225,7 +227,7 @@ impl Rows {
         match self.places[x - 1] {
             RowPlace::At(key) => {
                 let row = self.slab.remove(key as usize);
-                self.places[x - 1] = RowPlace::Gone(Snapshot::of(&row.fields));
+                self.places[x - 1] = RowPlace::Gone(kept(row));
                 self.marks[x - 1] = false;
                 self.links[x - 1] = 0;
             }
@@ -234,8 +236,20 @@ impl Rows {
     }
 }
 
-// Marks what fields hold, by the lists of marks and links.
-fn visit_fields(fields: &[Option<u32>], marks: &mut [bool], links: &mut [u32], grey: &mut u32)
+// Lets a removed row go, but for its fields, which are kept for proofs alone.
+fn kept(row: Row) -> Snapshot<Fields>
+    ensures { result.value ≡ row.fields }
+{
+    Snapshot::of(&row.fields)
+}
+
+/// Marks what fields hold, by the lists of marks and links.
+pub(crate) fn visit_fields(
+    fields: &[Option<u32>],
+    marks: &mut [bool],
+    links: &mut [u32],
+    grey: &mut u32,
+)
     requires held { (y : ℕ) → Contains fields.now (Some y) → (1 ≤ y) × (y ≤ length marks.old) }
     requires len { length links.old ≡ length marks.old }
     ensures len { (length marks.new ≡ length marks.old) × (length links.new ≡ length links.old) }
@@ -243,9 +257,20 @@ fn visit_fields(fields: &[Option<u32>], marks: &mut [bool], links: &mut [u32], g
     ensures greyed { Greyed (λ y. Contains fields.now (Some y)) (false ∷ marks.old) (0 ∷ links.old) grey.old (false ∷ marks.new) (0 ∷ links.new) grey.new }
 {
     for field in fields {
-        if let Some(y) = *field {
-            visit_row(y, marks, links, grey);
-        }
+        visit_field(*field, marks, links, grey);
+    }
+}
+
+/// Marks the row that a field holds, if it holds one, by the lists of marks and links.
+pub(crate) fn visit_field(field: Option<u32>, marks: &mut [bool], links: &mut [u32], grey: &mut u32)
+    requires held { (y : ℕ) → field ≡ Some y → (1 ≤ y) × (y ≤ length marks.old) }
+    requires len { length links.old ≡ length marks.old }
+    ensures len { (length marks.new ≡ length marks.old) × (length links.new ≡ length links.old) }
+    ensures fresh { (k : ℕ) → HasMark (false ∷ marks.new) k → HasMark (false ∷ marks.old) k ⊎ (field ≡ Some k) }
+    ensures greyed { Greyed (λ y. field ≡ Some y) (false ∷ marks.old) (0 ∷ links.old) grey.old (false ∷ marks.new) (0 ∷ links.new) grey.new }
+{
+    if let Some(y) = field {
+        visit_row(y, marks, links, grey);
     }
 }
 

@@ -1,5 +1,5 @@
 -- The further row stands last, and the list of freed objects has room for it too.
-use Rattle.std.proofs.Common.{◌≡◌, ◌∙◌, ◌+◌, ◌<◌, ◌≤◌, None, ap, map, length, replicate, refl, arith, rules, vec_capacity, length-append}
+use Rattle.std.proofs.Common.{◌≡◌, ◌∙◌, ◌+◌, ◌<◌, ◌≤◌, None, ap, map, length, replicate, refl, arith, vec_capacity, length-append}
 use Rattle.std.proofs.lemmas.List.{length-map}
 use Rattle.joint_model.specs.Heaps.{MOST}
 use Rattle.heap_rules.proofs.Sound.{IsLive-last}
@@ -11,7 +11,7 @@ invariant_of-self-2 g c =
     let old = c.self.inside in
     let seen = rw (← c.self.view_is) at c.requires in
     let len = length-map old.rows (λ r. r.fields) in
-    let row : c.in_ok-row.row.items ≡ replicate c.args.fields None = c.in_ok-row.ensures.items_if_clones_equal (search rules) in
+    let row : c.in_ok-row.row ≡ replicate c.args.fields None = c.in_ok-row.ensures.ok in
     let few : length old.rows < MOST = omega (arith, seen, len) in
     let space : length old.rows + 1 ≤ vec_capacity c.reserve.new.self =
     omega (arith, c.in_ok-reserve.ensures.ok, c.reserve.ensures.len, c.made-made.ensures, c.len.ensures, old.freed.ok, len, length-map old.freed.items g.N.Number.number, c.self.invariant.sound.flags.count) in

@@ -1,5 +1,5 @@
 -- The place keeps what the row had.
-use Rattle.std.proofs.Common.{◌≡◌, ◌∙◌, ◌-◌, length, map, refl, sym, ap, arith}
+use Rattle.std.proofs.Common.{◌∙◌, ◌-◌, map, refl, sym, ap, arith}
 use Rattle.row_heap.specs.Places.{seen_at}
 use Rattle.row_heap.proofs.Indexed.{at-key, key-there, not-gone, row-of, stands-within}
 use Rattle.row_heap.proofs.Marked.{freed-are, freed-rows, len-under, up-under}
@@ -49,8 +49,8 @@ invariant_of-self c =
     let up = up-under base c.args.self.now s.marks.items s.links.items c.args.x c.self.view_is c.requires in
     let at = at-key s.slab s.places.items base c.args.x c.index.result.now c.in-At.key refl up c.in-At.is c.index.ensures in
     let row = row-of s.slab s.places.items base c.args.x c.index.result.now c.in-At.key c.remove-row.result refl up c.in-At.is c.index.ensures c.remove-row.ensures.value in
-    freed-are s.slab c.remove-row.new.self s.places.items c.args.self.now s.marks.items s.links.items c.args.x c.in-At.key c.of.result c.self.view_is c.self.invariant (stands-within c.args.self.now c.args.x c.requires).0 at c.remove-row.ensures.updates
-    (ap (λ v. v.items) c.of.ensures ∙ sym (ap (λ r. r.fields) row))
+    freed-are s.slab c.remove-row.new.self s.places.items c.args.self.now s.marks.items s.links.items c.args.x c.in-At.key c.kept.result c.self.view_is c.self.invariant (stands-within c.args.self.now c.args.x c.requires).0 at c.remove-row.ensures.updates
+    (c.kept.ensures ∙ sym (ap (λ r. r.fields) row))
 
 pub returns : goal.returns
 returns c =
@@ -59,5 +59,5 @@ returns c =
     let up = up-under base c.args.self.now s.marks.items s.links.items c.args.x c.self.view_is c.requires in
     let at = at-key s.slab s.places.items base c.args.x c.index.result.now c.in-At.key refl up c.in-At.is c.index.ensures in
     let row = row-of s.slab s.places.items base c.args.x c.index.result.now c.in-At.key c.remove-row.result refl up c.in-At.is c.index.ensures c.remove-row.ensures.value in
-    freed-rows s.slab c.remove-row.new.self s.places.items c.args.self.now s.marks.items s.links.items c.args.x c.in-At.key c.of.result c.self.view_is c.self.invariant (stands-within c.args.self.now c.args.x c.requires).0 at c.remove-row.ensures.updates
-    (ap (λ v. v.items) c.of.ensures ∙ sym (ap (λ r. r.fields) row))
+    freed-rows s.slab c.remove-row.new.self s.places.items c.args.self.now s.marks.items s.links.items c.args.x c.in-At.key c.kept.result c.self.view_is c.self.invariant (stands-within c.args.self.now c.args.x c.requires).0 at c.remove-row.ensures.updates
+    (c.kept.ensures ∙ sym (ap (λ r. r.fields) row))

@@ -1,5 +1,5 @@
 -- The row under the one key is written.
-use Rattle.std.proofs.Common.{◌≡◌, ◌∙◌, ◌-◌, List, map, set, length, refl, sym, ap, arith}
+use Rattle.std.proofs.Common.{◌∙◌, ◌-◌, List, map, set, length, refl, sym, ap, arith, Option, ℕ, true, false}
 use Rattle.row_heap.specs.Places.{Seen, row_at, seen_at}
 use Rattle.row_heap.proofs.Indexed.{at-key, key-there, not-gone, row-of, stands-within}
 use Rattle.row_heap.proofs.Marked.{changed-are, changed-rows, len-under, row_at-under, up-under}
@@ -17,20 +17,20 @@ index_mut-requires c =
     let up = up-under (map (seen_at s.slab) s.places.items) c.args.self.now s.marks.items s.links.items c.args.x c.self.view_is c.requires.stands in
     key-there s.slab s.places.items (c.args.x - 1) c.in-At.key c.self.invariant.index (at-key s.slab s.places.items (map (seen_at s.slab) s.places.items) c.args.x c.index.result.now c.in-At.key refl up c.in-At.is c.index.ensures)
 
-pub index_mut-requires-in-At : goal.index_mut-requires-in-At
-index_mut-requires-in-At c =
+pub set-requires : goal.set-requires
+set-requires c =
     let s = c.self.inside in
     let base = map (seen_at s.slab) s.places.items in
     let up = up-under base c.args.self.now s.marks.items s.links.items c.args.x c.self.view_is c.requires.stands in
     let row = row-of s.slab s.places.items base c.args.x c.index.result.now c.in-At.key c.index_mut.result.now refl up c.in-At.is c.index.ensures c.index_mut.ensures.value in
     let same = sym (ap (λ (l : List Seen). (row_at l c.args.x).fields) c.self.view_is) ∙ row_at-under (λ r. r.fields) (λ r m l. refl) base s.marks.items s.links.items c.args.x in
-    omega (arith, c.requires.index, c.index_mut.result.now.fields.ok, ap length same, ap (λ r. length r.fields) row)
+    omega (arith, c.requires.index, ap length same, ap (λ r. length r.fields) row)
 
 pub invariant_of-self : goal.invariant_of-self
 invariant_of-self c =
     let s = c.self.inside in
     let up = up-under (map (seen_at s.slab) s.places.items) c.args.self.now s.marks.items s.links.items c.args.x c.self.view_is c.requires.stands in
-    changed-are (λ (r : Seen). record r { fields = set r.fields c.args.i c.args.y }) (λ r m l. refl) (λ r. refl) s.slab s.places.items c.args.self.now s.marks.items s.links.items c.args.x c.index.result.now c.in-At.key _ _ c.self.view_is c.self.invariant up c.in-At.is c.index.ensures c.index_mut.ensures.value refl
+    changed-are (λ (r : Seen). record r { fields = set r.fields c.args.i c.args.y }) (λ r m l. refl) (λ r. refl) s.slab s.places.items c.args.self.now s.marks.items s.links.items c.args.x c.index.result.now c.in-At.key _ _ c.self.view_is c.self.invariant up c.in-At.is c.index.ensures c.index_mut.ensures.value (ap (λ (fs : List (Option ℕ)). (let r : Seen = record { fields = fs; first = c.index_mut.result.now.first; marked = false; link = 0; stands = true } in r)) c.set.ensures)
 
 pub unreachable-requires : goal.unreachable-requires
 unreachable-requires c =
@@ -42,4 +42,4 @@ pub returns : goal.returns
 returns c =
     let s = c.self.inside in
     let up = up-under (map (seen_at s.slab) s.places.items) c.args.self.now s.marks.items s.links.items c.args.x c.self.view_is c.requires.stands in
-    changed-rows (λ (r : Seen). record r { fields = set r.fields c.args.i c.args.y }) (λ r m l. refl) s.slab s.places.items c.args.self.now s.marks.items s.links.items c.args.x c.index.result.now c.in-At.key _ _ c.self.view_is c.self.invariant.index up c.in-At.is c.index.ensures c.index_mut.ensures.value refl
+    changed-rows (λ (r : Seen). record r { fields = set r.fields c.args.i c.args.y }) (λ r m l. refl) s.slab s.places.items c.args.self.now s.marks.items s.links.items c.args.x c.index.result.now c.in-At.key _ _ c.self.view_is c.self.invariant.index up c.in-At.is c.index.ensures c.index_mut.ensures.value (ap (λ (fs : List (Option ℕ)). (let r : Seen = record { fields = fs; first = c.index_mut.result.now.first; marked = false; link = 0; stands = true } in r)) c.set.ensures)
