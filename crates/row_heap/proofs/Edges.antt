@@ -1,10 +1,10 @@
 -- The edges of the heap, and those that the marking loop walks. Between live objects they are the same; from a freed one the loop's lead on, but
 -- no freed object has a mark, and no walk from a live one comes to one. So a marking over the one kind of edges is one over the other.
-use Rattle.std.proofs.Common.{◌≡◌, ℕ, zero, suc, ◌<◌, inl, inr, Bool, true, false, List, [], ◌∷◌, map, length, Option, Some, None, get_or, refl, sym, ap, subst, ◌∙◌, arith}
+use Rattle.std.proofs.Common.{◌≡◌, ℕ, zero, suc, inl, inr, Bool, true, false, List, [], ◌∷◌, map, length, Option, refl, sym, ap, subst, ◌∙◌, arith}
 use Rattle.std.specs.Prelude.{Contains, slice_get, IsTrue}
-use Rattle.std.proofs.lemmas.Option.{slice_get_read, slice_get-get_or}
+use Rattle.std.proofs.lemmas.Option.{slice_get_read}
 use Rattle.std.proofs.lemmas.List.{length-map}
-use Rattle.joint_model.specs.Heaps.{Heap, IsLive, slot}
+use Rattle.joint_model.specs.Heaps.{Heap, IsLive}
 use Rattle.joint_model.specs.Walks.{Reached}
 use Rattle.joint_model.proofs.Members.{Contains-at}
 use Rattle.joint_model.proofs.WalkLemmas.{Reached-keeps, Reached-start, Reached-then, Reached-mono}

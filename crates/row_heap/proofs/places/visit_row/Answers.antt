@@ -1,6 +1,5 @@
 -- A row that isn't marked gets its mark and comes first in the grey list; a marked one is left alone.
-use Rattle.std.proofs.Common.{arith}
-use Rattle.row_heap.proofs.Marked.{fresh-row, greyed-row, greyed-seen}
+use Rattle.row_heap.proofs.Marked.{greyed-row, greyed-seen}
 use Rattle.row_heap.proofs.places.visit_row.Goals as goal
 
 pub returns-then-not-marks-place-clause-greyed : goal.returns-then-not-marks-place-clause-greyed

@@ -1,5 +1,5 @@
 -- A white row is a live object's without a mark.
-use Rattle.std.proofs.Common.{◌∙◌, ◌≤◌, length, sym, arith, rules}
+use Rattle.std.proofs.Common.{◌∙◌, ◌≤◌, length, sym, rules}
 use Rattle.row_heap.proofs.Swept.{white-seen}
 use Rattle.row_heap.proofs.heap.RowHeap.is_white.Goals as goal
 use Rattle.row_heap.proofs.heap.RowHeap.is_white.Goals.{then-x-ne0, else-x-ne0}

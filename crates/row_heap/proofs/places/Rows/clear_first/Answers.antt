@@ -1,6 +1,5 @@
 -- The row under the one key is written; a removed one has no references.
-use Rattle.std.proofs.Common.{◌≡◌, ◌∙◌, ◌-◌, ◌≤◌, length, map, refl, arith}
-use Rattle.row_heap.specs.declared.places.RowPlace.TheVariants.{At}
+use Rattle.std.proofs.Common.{◌-◌, ◌≤◌, length, map, refl, arith}
 use Rattle.row_heap.specs.Places.{Seen, seen_at}
 use Rattle.row_heap.proofs.Indexed.{at-key, key-there}
 use Rattle.row_heap.proofs.Marked.{changed-are, changed-rows, gone-first, key-up, len-under}

@@ -1,6 +1,5 @@
 -- The mark at the row's place.
-use Rattle.std.proofs.Common.{◌≡◌, ◌∙◌, ◌<◌, ◌-◌, Bool, false, get_or, length, map, sym, ap, arith}
-use Rattle.row_heap.specs.Places.{seen_at}
+use Rattle.std.proofs.Common.{◌∙◌, sym, arith}
 use Rattle.row_heap.proofs.Marked.{len-under, mark-under}
 use Rattle.row_heap.proofs.places.Rows.is_marked.Goals as goal
 

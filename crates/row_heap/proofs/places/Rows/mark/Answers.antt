@@ -1,8 +1,5 @@
 -- The mark and the link of the one row are written.
-use Rattle.std.proofs.Common.{◌≡◌, ◌∙◌, ◌≤◌, length, map, refl, sym, subst, arith, true}
-use Rattle.std.proofs.Math.ListN.{length-set}
-use Rattle.std.proofs.lemmas.List.{length-map}
-use Rattle.row_heap.specs.Places.{DoMarkedStand, seen_at}
+use Rattle.std.proofs.Common.{arith}
 use Rattle.row_heap.proofs.Indexed.{stands-within}
 use Rattle.row_heap.proofs.Marked.{len-under, marked-are, marked-rows}
 use Rattle.row_heap.proofs.places.Rows.mark.Goals as goal

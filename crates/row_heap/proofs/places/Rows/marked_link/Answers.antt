@@ -1,5 +1,5 @@
 -- The link at the row's place; a row with a mark stands.
-use Rattle.std.proofs.Common.{◌≡◌, ◌∙◌, sym, arith}
+use Rattle.std.proofs.Common.{◌∙◌, sym, arith}
 use Rattle.row_heap.proofs.Indexed.{stands-within}
 use Rattle.row_heap.proofs.Marked.{len-under, link-under}
 use Rattle.row_heap.proofs.places.Rows.marked_link.Goals as goal

@@ -1,6 +1,6 @@
 -- A row that stands has its key in the index.
-use Rattle.std.proofs.Common.{◌≡◌, ◌∙◌, ◌-◌, List, map, refl, sym, ap, arith}
-use Rattle.row_heap.specs.Places.{Seen, bare, row_at, seen_at}
+use Rattle.std.proofs.Common.{◌∙◌, ◌-◌, map, refl, arith}
+use Rattle.row_heap.specs.Places.{seen_at}
 use Rattle.row_heap.proofs.Indexed.{at-key, key-there, not-gone, row-of, stands-within}
 use Rattle.row_heap.proofs.Marked.{bare-under, len-under, up-under}
 use Rattle.row_heap.proofs.places.Rows.row.Goals as goal

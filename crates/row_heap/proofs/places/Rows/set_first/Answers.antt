@@ -1,8 +1,8 @@
 -- The row under the one key is written.
-use Rattle.std.proofs.Common.{◌≡◌, ◌∙◌, ◌-◌, List, map, refl, sym, ap, arith}
-use Rattle.row_heap.specs.Places.{Seen, row_at, seen_at}
-use Rattle.row_heap.proofs.Indexed.{at-key, key-there, not-gone, row-of, stands-within}
-use Rattle.row_heap.proofs.Marked.{changed-are, changed-rows, len-under, row_at-under, up-under}
+use Rattle.std.proofs.Common.{◌-◌, map, refl, arith}
+use Rattle.row_heap.specs.Places.{Seen, seen_at}
+use Rattle.row_heap.proofs.Indexed.{at-key, key-there, not-gone, stands-within}
+use Rattle.row_heap.proofs.Marked.{changed-are, changed-rows, len-under, up-under}
 use Rattle.row_heap.proofs.places.Rows.set_first.Goals as goal
 
 pub index-requires : goal.index-requires

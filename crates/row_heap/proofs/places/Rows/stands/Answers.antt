@@ -1,5 +1,5 @@
 -- By the place.
-use Rattle.std.proofs.Common.{◌≡◌, ◌∙◌, ◌≤◌, List, length, map, refl, sym, ap, arith}
+use Rattle.std.proofs.Common.{◌∙◌, ◌≤◌, List, length, map, refl, sym, ap, arith}
 use Rattle.row_heap.specs.declared.places.RowPlace.TheVariants.{Gone}
 use Rattle.row_heap.specs.Places.{Seen, row_at, seen_at}
 use Rattle.row_heap.proofs.Indexed.{read-row}

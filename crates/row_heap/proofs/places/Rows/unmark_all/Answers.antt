@@ -1,6 +1,6 @@
 -- One fill takes all marks down.
-use Rattle.std.proofs.Common.{◌≡◌, ◌∙◌, Bool, List, false, length, map, replicate, ap, arith}
-use Rattle.row_heap.specs.Places.{seen_at, unmarked_row, with_marks}
+use Rattle.std.proofs.Common.{◌≡◌, ◌∙◌, false, length, map, replicate, ap, arith}
+use Rattle.row_heap.specs.Places.{unmarked_row}
 use Rattle.row_heap.proofs.Marked.{AreRows-as, stand-down, unmarked-rows}
 use Rattle.row_heap.proofs.places.Rows.unmark_all.Goals as goal
 
