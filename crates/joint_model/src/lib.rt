@@ -23,7 +23,7 @@ pub use finished::{History, Walk};
 pub use lines::Act;
 pub use lists::{Alive, Entries, list_with_room};
 pub use names::{
-    Cell, Cycle, GName, HNum, Kind, MNum, Marking, PNum, Phase, PhaseWord, Sort, Span, StaticNo,
-    Thread, Var,
+    CELLS, Cell, Cycle, GName, HNum, Kind, MNum, Marking, NAMES, PINS, PNum, Phase, PhaseWord,
+    STATICS, Sort, Span, StaticNo, Thread, VARS, Var,
 };
 pub use sides::{enter, replays_go_on};

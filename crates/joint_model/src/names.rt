@@ -101,3 +101,18 @@ pub enum PhaseWord {
     Restore,
     Resolve,
 }
+
+/// The places for the variables of a heap: a thread's eight stand at eight times its number, so that the first eight are nobody's.
+pub const VARS: usize = 72;
+
+/// The statics of a heap.
+pub const STATICS: usize = 16;
+
+/// The weak cells of the managed heap.
+pub const CELLS: usize = 64;
+
+/// The places for pins: a managed thread's stands at its number, so that the first is nobody's.
+pub const PINS: usize = 9;
+
+/// The global names of the peer heap.
+pub const NAMES: usize = 64;

@@ -6,7 +6,7 @@ ghost use Rattle.joint_model.specs.Heaps.{Heap, MOST, IsMade, IsLive, is_freed, 
 ghost use Rattle.heap_rules.specs.Tidy.{live_fields};
 ghost use Rattle.joint_replay.specs.Plain.{refusal_reply, is_live, kept_target, cleaned, Lowers};
 
-use joint_model::Reply;
+use joint_model::{Reply, STATICS, VARS};
 use reachability::Walked;
 use std::alloc::{AllocError, Global};
 use std::marker::Model;
@@ -49,8 +49,8 @@ pub(crate) struct PlainHeap {
     fields: Vec<Vec<Option<u32>>>,
     flags: Vec<bool>,
     freed: Vec<u32>,
-    vars: [Option<u32>; 72],
-    statics: [Option<u32>; 16],
+    vars: [Option<u32>; VARS],
+    statics: [Option<u32>; STATICS],
 }
 
 impl Model for PlainHeap {
@@ -75,8 +75,8 @@ impl PlainHeap {
             fields: Vec::new(alloc),
             flags: Vec::new(alloc),
             freed: Vec::new(alloc),
-            vars: [None; 72],
-            statics: [None; 16],
+            vars: [None; VARS],
+            statics: [None; STATICS],
         }
     }
 

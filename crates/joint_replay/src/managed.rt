@@ -16,7 +16,7 @@ use crate::open_cycle::SnappedCycle;
 use crate::operations::Naming;
 use crate::roots::{as_objects, handle_at, pinned_roots};
 use crate::state::Verdict;
-use joint_model::{Act, Kind, MNum, Reply, Thread};
+use joint_model::{Act, CELLS, Kind, MNum, PINS, Reply, Thread};
 use std::alloc::{AllocError, Global};
 use std::marker::Model;
 
@@ -27,8 +27,8 @@ pub(crate) struct ManagedPart {
     pub(crate) heap: PlainHeap,
     pub(crate) kinds: Vec<Kind>,
     pub(crate) held: Vec<Option<u32>>,
-    pub(crate) pins: [Option<u32>; 9],
-    pub(crate) cells: [Option<u32>; 64],
+    pub(crate) pins: [Option<u32>; PINS],
+    pub(crate) cells: [Option<u32>; CELLS],
     pub(crate) notices: Vec<u32>,
     pub(crate) taken: usize,
     pub(crate) cycle: Option<SnappedCycle>,
@@ -56,8 +56,8 @@ impl ManagedPart {
             heap: PlainHeap::new(alloc),
             kinds: Vec::new(alloc),
             held: Vec::new(alloc),
-            pins: [None; 9],
-            cells: [None; 64],
+            pins: [None; PINS],
+            cells: [None; CELLS],
             notices: Vec::new(alloc),
             taken: 0,
             cycle: None,

@@ -13,7 +13,7 @@ ghost use Rattle.joint_replay.specs.Plain.{hold_as, strength_as, issued_as};
 use crate::heap::PlainHeap;
 use crate::operations::Naming;
 use crate::state::Verdict;
-use joint_model::{Act, Reply, Sort, Thread};
+use joint_model::{Act, NAMES, Reply, Sort, Thread};
 use std::alloc::{AllocError, Global};
 use std::marker::Model;
 
@@ -47,7 +47,7 @@ pub(crate) struct Handle {
 pub(crate) struct PeerPart {
     heap: PlainHeap,
     sorts: Vec<Sort>,
-    names: [Option<u32>; 64],
+    names: [Option<u32>; NAMES],
     handles: Vec<Handle>,
 }
 
@@ -72,7 +72,7 @@ impl PeerPart {
         PeerPart {
             heap: PlainHeap::new(alloc),
             sorts: Vec::new(alloc),
-            names: [None; 64],
+            names: [None; NAMES],
             handles: Vec::new(alloc),
         }
     }

@@ -11,7 +11,7 @@ use crate::lines::reply_of;
 use crate::open::OpenParts;
 use finaliser_queue::Notices;
 use instance_registry::Registry;
-use joint_model::{Cycle, Kind, MNum, Phase, PhaseWord, Reply, list_with_room};
+use joint_model::{CELLS, Cycle, Kind, MNum, PINS, Phase, PhaseWord, Reply, list_with_room};
 use row_heap::{MOST_OBJECTS, RowHeap};
 use std::alloc::{AllocError, Global};
 use std::marker::Model;
@@ -30,8 +30,8 @@ pub(crate) struct ManagedRows {
     pub(crate) heap: RowHeap<MNum>,
     pub(crate) infos: Vec<Held>,
     pub(crate) registry: Registry,
-    pub(crate) cells: [Option<u32>; 64],
-    pub(crate) pins: [Option<u32>; 9],
+    pub(crate) cells: [Option<u32>; CELLS],
+    pub(crate) pins: [Option<u32>; PINS],
     pub(crate) notices: Notices,
     pub(crate) cycle: Option<OpenParts>,
     pub(crate) cycles: u32,
@@ -60,8 +60,8 @@ impl ManagedRows {
             heap: RowHeap::new(alloc),
             infos: list_with_room(alloc, MOST_OBJECTS),
             registry: Registry::new(alloc),
-            cells: [None; 64],
-            pins: [None; 9],
+            cells: [None; CELLS],
+            pins: [None; PINS],
             notices: Notices::new(alloc),
             cycle: None,
             cycles: 0,

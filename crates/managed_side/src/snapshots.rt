@@ -22,18 +22,18 @@ use crate::resolving::{has_mark, holds, keep_unmarked};
 use crate::rows::Held;
 use bridge_graph::DeadGraph;
 use finaliser_queue::Notices;
-use joint_model::MNum;
+use joint_model::{MNum, PINS};
 use row_heap::RowHeap;
 use row_marking::visit;
 use std::alloc::{AllocError, Global};
 
 // Marks what pins hold.
-fn visit_pins(heap: &mut RowHeap<MNum>, pins: &[Option<u32>; 9], grey: &mut u32)
+fn visit_pins(heap: &mut RowHeap<MNum>, pins: &[Option<u32>; PINS], grey: &mut u32)
     requires live { (x : ℕ) → Contains pins.now (Some x) → IsLive heap.old.heap x }
     ensures greyed { Greyed (λ x. Contains pins.now (Some x)) heap.old.marks heap.old.links grey.old heap.new.marks heap.new.links grey.new }
     ensures rest { heap.new ≡ record heap.old { marks = heap.new.marks; links = heap.new.links } }
 {
-    for t in 0..9 {
+    for t in 0..PINS {
         if let Some(x) = pins[t] {
             visit(heap, x, grey);
         }
@@ -41,7 +41,7 @@ fn visit_pins(heap: &mut RowHeap<MNum>, pins: &[Option<u32>; 9], grey: &mut u32)
 }
 
 /// Marks what slots and pins reach, and nothing else. It takes no memory.
-pub(crate) fn mark_slots(heap: &mut RowHeap<MNum>, pins: &[Option<u32>; 9])
+pub(crate) fn mark_slots(heap: &mut RowHeap<MNum>, pins: &[Option<u32>; PINS])
     requires live { (x : ℕ) → Contains pins.now (Some x) → IsLive heap.old.heap x }
     ensures marks { (x : ℕ) → HasMark heap.new.marks x ↔ Reached (λ z. InSlot heap.old.heap z ⊎ Contains pins.now (Some z)) (HasField heap.old.heap) x }
     ensures shut { IsClosed (EdgeOf heap.new) heap.new.marks }
@@ -151,7 +151,7 @@ pub(crate) struct Prepared {
 pub(crate) fn prepare(
     heap: &mut RowHeap<MNum>,
     infos: &Vec<Held>,
-    pins: &[Option<u32>; 9],
+    pins: &[Option<u32>; PINS],
     notices: &mut Notices,
 ) -> Result<Prepared, AllocError>
     requires live { (x : ℕ) → Contains pins.now (Some x) → IsLive heap.old.heap x }

@@ -20,7 +20,7 @@ ghost use Rattle.peer_side.specs.Steps.{IsPeerStep, IsRelease, ReleasesTabled, r
 
 use global_handles::{HandleTable, Hold, Strength};
 use heap_rules::Done;
-use joint_model::{Act, HNum, Op, PNum, Reply, Sort, Thread, Var, list_with_room};
+use joint_model::{Act, HNum, NAMES, Op, PNum, Reply, Sort, Thread, Var, list_with_room};
 use row_heap::{MOST_OBJECTS, RowHeap};
 use std::alloc::{AllocError, Global};
 use std::marker::Model;
@@ -41,7 +41,7 @@ pub(crate) struct Issue {
 pub(crate) struct PeerRows {
     pub(crate) heap: RowHeap<PNum>,
     pub(crate) sorts: Vec<Sort>,
-    pub(crate) names: [Option<u32>; 64],
+    pub(crate) names: [Option<u32>; NAMES],
     pub(crate) issued: Vec<Issue>,
     pub(crate) table: HandleTable,
 }
@@ -64,7 +64,7 @@ impl PeerRows {
         PeerRows {
             heap: RowHeap::new(alloc),
             sorts: list_with_room(alloc, MOST_OBJECTS),
-            names: [None; 64],
+            names: [None; NAMES],
             issued: list_with_room(alloc, MOST_HANDLES),
             table: HandleTable::new(alloc),
         }

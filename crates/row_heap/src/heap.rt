@@ -10,7 +10,7 @@ use crate::fields::Fields;
 use crate::places::Rows;
 use crate::references::Reference;
 use heap_rules::Number;
-use joint_model::list_with_room;
+use joint_model::{STATICS, VARS, list_with_room};
 use std::alloc::{AllocError, Global};
 use std::marker::Model;
 
@@ -23,8 +23,8 @@ pub struct RowHeap<N: Number> {
     pub(crate) alloc: Global,
     pub(crate) rows: Rows,
     pub(crate) freed: Vec<N>,
-    pub(crate) vars: [Option<u32>; 72],
-    pub(crate) statics: [Option<u32>; 16],
+    pub(crate) vars: [Option<u32>; VARS],
+    pub(crate) statics: [Option<u32>; STATICS],
     pub(crate) references: Vec<Reference>,
     pub(crate) ready: u32,
     pub(crate) follows: bool,
@@ -51,8 +51,8 @@ impl<N: Number> RowHeap<N> {
             alloc,
             rows: Rows::new(alloc),
             freed: list_with_room(alloc, MOST_OBJECTS),
-            vars: [None; 72],
-            statics: [None; 16],
+            vars: [None; VARS],
+            statics: [None; STATICS],
             references: Vec::new(alloc),
             ready: 0,
             follows: false,

@@ -12,6 +12,7 @@ ghost use Rattle.row_heap.specs.Marks.{AreEndsLive, EdgeOf};
 
 use crate::heap::RowHeap;
 use heap_rules::Number;
+use joint_model::{STATICS, VARS};
 use row_marking::{finish, mark_from, visit};
 
 impl<N: Number> RowHeap<N> {
@@ -104,7 +105,7 @@ impl<N: Number> RowHeap<N> {
         ensures rest { self.new ≡ record self.old { marks = self.new.marks; links = self.new.links } }
     {
         self.tidy();
-        for place in 0..72 {
+        for place in 0..VARS {
             if let Some(x) = self.var(place) {
                 visit(self, x, grey);
             }
@@ -117,7 +118,7 @@ impl<N: Number> RowHeap<N> {
         ensures rest { self.new ≡ record self.old { marks = self.new.marks; links = self.new.links } }
     {
         self.tidy();
-        for s in 0..16 {
+        for s in 0..STATICS {
             if let Some(x) = self.static_at(s) {
                 visit(self, x, grey);
             }
