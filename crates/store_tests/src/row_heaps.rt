@@ -27,6 +27,22 @@ fn runs_operations(rt: HostRuntime) -> Result<(), AllocError> {
     Ok(())
 }
 
+// More than two fields stand in a vector.
+#[test]
+fn reads_and_writes_many_fields(rt: HostRuntime) -> Result<(), AllocError> {
+    let mut heap: RowHeap<PNum> = RowHeap::new(rt.alloc());
+    let first = heap.add_object(3)?;
+    assert_eq!(rt; heap.fields_len(first), 3);
+    heap.set_var(0, Some(first));
+    assert_eq!(rt; heap.set(0, 2, Some(0)), Done::Ok);
+    assert_eq!(rt; heap.set(0, 3, None), Done::Range);
+    assert_eq!(rt; heap.get(1, 0, 2), Done::Object(1));
+    assert_eq!(rt; heap.get(2, 1, 1), Done::Null);
+    assert_eq!(rt; heap.set(1, 2, None), Done::Ok);
+    assert_eq!(rt; heap.get(1, 0, 2), Done::Null);
+    Ok(())
+}
+
 #[test]
 fn takes_references(rt: HostRuntime) -> Result<(), AllocError> {
     let mut heap: RowHeap<PNum> = RowHeap::new(rt.alloc());
