@@ -38,8 +38,8 @@ use std::alloc::{AllocError, Global};
 use std::marker::Model;
 use std::mem;
 
-// The most handles that are ever made in one [`HandleTable`].
-const MOST: usize = 65_535;
+/// The most handles that are ever made in one [`HandleTable`].
+pub const MOST_HANDLES: usize = 65_535;
 
 // How many numbers a peer may have, from 0 on: those of the objects of a heap, which are at most 65,535.
 const PEERS: usize = 65_536;
@@ -205,7 +205,7 @@ impl HandleTable {
         ensures room { result.room ≡ 0 }
     {
         HandleTable {
-            slots: list_with_room(alloc, MOST),
+            slots: list_with_room(alloc, MOST_HANDLES),
             heads: list_with_room(alloc, PEERS),
             live: 0,
             ready: 0,
@@ -241,7 +241,7 @@ impl HandleTable {
         ensures err { OnErr result (self.new ≡ self.old) }
         ensures rising { IsRising self.new }
     {
-        if self.slots.len() == MOST {
+        if self.slots.len() == MOST_HANDLES {
             return Err(HandleFault::HandlesFull);
         }
         self.slots.reserve(1)?;

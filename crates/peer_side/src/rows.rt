@@ -18,15 +18,12 @@ ghost use Rattle.heap_rules.specs.Done.{say};
 ghost use Rattle.peer_side.specs.Rows.{PeersAnswer, AreTargetsLive, GoesBy, issued_to, number_of, row_as, strength_as, no_rows, peers_in, with_rows};
 ghost use Rattle.peer_side.specs.Steps.{IsPeerStep, IsRelease, ReleasesTabled, room_for};
 
-use global_handles::{HandleTable, Hold, Strength};
+use global_handles::{HandleTable, Hold, MOST_HANDLES, Strength};
 use heap_rules::Done;
 use joint_model::{Act, HNum, NAMES, Op, PNum, Reply, Sort, Thread, Var, list_with_room};
 use row_heap::{MOST_OBJECTS, RowHeap};
 use std::alloc::{AllocError, Global};
 use std::marker::Model;
-
-// The most handles that are issued.
-const MOST_HANDLES: usize = 65_535;
 
 /// A handle as it was issued.
 #[derive(Clone, Copy)]

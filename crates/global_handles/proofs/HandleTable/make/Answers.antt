@@ -6,8 +6,8 @@ use Rattle.global_handles.proofs.Slots.{IsRising-table, rows_from-push, length-r
 use Rattle.global_handles.proofs.Chains.{IsChained-heads, IsChained-pushed, pushed_slots, length-with_previous, rows_from-with_previous}
 use Rattle.global_handles.proofs.HandleTable.make.Goals as goal
 
-pub returns-then-len-eq-MOST-clause-rising : goal.returns-then-len-eq-MOST-clause-rising
-returns-then-len-eq-MOST-clause-rising c = rw (← c.self.view_is) (IsRising-table c.self.inside.slots.items _ refl)
+pub returns-then-len-eq-MOST_HANDLES-clause-rising : goal.returns-then-len-eq-MOST_HANDLES-clause-rising
+returns-then-len-eq-MOST_HANDLES-clause-rising c = rw (← c.self.view_is) (IsRising-table c.self.inside.slots.items _ refl)
 
 pub returns-in_err-reserve-clause-rising : goal.returns-in_err-reserve-clause-rising
 returns-in_err-reserve-clause-rising c = IsRising-table c.reserve.new.self.items _ refl
