@@ -7,6 +7,9 @@
 // What lives here beside definitions: a [`Draw`] gives an entry its number; a side puts its entries into [`Entries`], for which it took room; and a
 // run's end joins the lists into one [`History`], which is only read. The functions promise that these hold just what was put in, in its order.
 // The definitions are what a reader has to believe.
+//
+//     entries.reserve(1)?;
+//     let number = enter(&mut entries, &mut draw, made, target, &freed);
 #![tactic(auto)]
 
 mod draws;

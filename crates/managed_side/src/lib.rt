@@ -1,6 +1,15 @@
 // The managed side of the bridge: the managed heap with the handles that its objects hold, the registry of twins, weak
 // cells, pins and notices, and the list of what was done to them.
 //
+// An event of a thread, and a cycle from its snapshot to its end:
+//
+//     let mut side = ManagedSide::new(alloc, 2)?;
+//     let reply = side.step(&mut draw, Thread::M(1), 1, &op, None)?;
+//     let pins = side.pins();
+//     let opened = side.snap(&mut draw, 2, &pins)?;
+//     side.contracted(&mut draw, 2, sccs, xrefs);
+//     let out = side.resolve(&mut draw, 2, clear, &alive);
+//
 // The life of a side. `ManagedSide::new` makes one without objects, for the first so many managed threads: it takes their events and the driver's.
 // A thread's events come to `step`: each answers as the joint model says and makes one entry, whose number is drawn from a `joint_model::Draw`.
 // `take` brings the object of a thread's pin into a variable.

@@ -1,6 +1,19 @@
 // The peer side of the bridge: the other collector's heap, with its variables, statics and global names, and the table of handles by which
 // managed objects name its peers.
 //
+// An event of a thread, and what a cycle does here, with one reference and one handle:
+//
+//     let mut side = PeerSide::new(alloc, 2)?;
+//     let reply = side.step(&mut draw, Thread::P(1), 1, &op, None)?;
+//     side.reserve_refs(1, 1)?;
+//     side.push_ref(from, to);
+//     side.stand(&mut draw, 2, cycle, snap);
+//     side.weaken(&mut draw, 2, snap, h);
+//     side.mark_begin(&mut draw, Thread::C, 2)?;
+//     side.sweep(&mut draw, Thread::C, 2)?;
+//     let back = side.restore(&mut draw, 2, h);
+//     side.clear_refs(&mut draw, 2, cycle);
+//
 // The life of a side. `PeerSide::new` makes one without peers, for the first so many peer threads: of peer threads it takes the events of these alone.
 // Events of a peer thread, and those that a managed thread makes here, come to `step`.
 // `mark_begin` and `sweep` begin and end a marking. A cycle's calls are `reserve_refs`, `push_ref`, `stand`, `weaken`, `restore` and `clear_refs`; after
