@@ -232,11 +232,14 @@ pub fn list_of(reply: &Reply) -> Option<(Numbers, Span)>
     }
 }
 
-/// The numbers of the entry that was written last and of its line, from which those of the next one mostly follow.
+/// The numbers of the entry that was written last and of its line, from which those of the next one mostly follow; and the number that was cited last,
+/// whose text is kept once it is cited again.
 #[derive(Drop)]
 pub struct Counts {
     number: Count,
     index: Count,
+    last_cited: u64,
+    cited: Count,
 }
 
 impl Counts {
@@ -245,6 +248,8 @@ impl Counts {
         Counts {
             number: Count::of(0),
             index: Count::of(0),
+            last_cited: 0,
+            cited: Count::of(0),
         }
     }
 }
@@ -277,14 +282,30 @@ fn add_place(line: &mut Line, thread: Thread, index: u16, count: &mut Count)
     line.count(count);
 }
 
+// The entry that an entry cites. The weakenings of a cycle all cite its snapshot, whose text is then at hand.
+#[inline(always)]
+fn add_cited(line: &mut Line, number: u64, counts: &mut Counts)
+    requires { 40 ≤ line.old.room }
+    ensures { AddsText line.old line.new (32 ∷ 64 ∷ decimal number) 22 }
+{
+    if number != counts.last_cited {
+        counts.last_cited = number;
+        line.lettered(b'@', number);
+        return;
+    }
+    counts.cited.go_to(number);
+    line.word(*b"@");
+    line.count(&counts.cited);
+}
+
 /// The end of an entry's line: the entry that it cites, where it cites one, and the newline.
 #[inline(always)]
-pub fn add_tail(line: &mut Line, cites: Option<u64>)
-    requires { 30 ≤ line.old.room }
+pub fn add_tail(line: &mut Line, cites: Option<u64>, counts: &mut Counts)
+    requires { 50 ≤ line.old.room }
     ensures { AddsText line.old line.new (tail_text cites) 30 }
 {
     if let Some(number) = cites {
-        line.lettered(b'@', number);
+        add_cited(line, number, counts);
     }
     line.text(b"\n");
 }

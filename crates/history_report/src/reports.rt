@@ -64,6 +64,7 @@ fn write_listed<K: Sink>(
     numbers: Numbers,
     span: Span,
     cites: Option<u64>,
+    counts: &mut Counts,
     line: &mut Line,
     out: &mut K,
 ) -> Result<(), Failed>
@@ -72,7 +73,7 @@ fn write_listed<K: Sink>(
 {
     write_list(h, numbers, span, line, out)?;
     line.make_room(out)?;
-    add_tail(line, cites);
+    add_tail(line, cites, counts);
     Ok(())
 }
 
@@ -90,9 +91,17 @@ pub fn write_entry<K: Sink>(
     line.make_room(out)?;
     add_head(line, entry, counts);
     match list_of(&entry.made.reply) {
-        Some((numbers, span)) => write_listed(h, numbers, span, entry.made.cites, line, out),
+        Some((numbers, span)) => write_listed(
+            h,
+            numbers,
+            span,
+            entry.made.cites,
+            counts,
+            line,
+            out,
+        ),
         None => {
-            add_tail(line, entry.made.cites);
+            add_tail(line, entry.made.cites, counts);
             Ok(())
         }
     }
