@@ -51,5 +51,5 @@ pub use names::{add_kind, add_peer_static, add_phase_word, add_sort, add_var};
 pub use printing::script_text;
 pub use reading::read_script;
 pub use refusals::write_refusal;
-pub use scripts::{Script, parse};
+pub use scripts::{MOST_LINES, Script, parse};
 pub use turnstiles::{FreeTurn, Turnstile};

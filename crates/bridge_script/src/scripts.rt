@@ -10,15 +10,15 @@ use crate::faults::{Cause, ScriptError, ScriptFault};
 use crate::lines::read_line;
 use crate::stretches::Stretch;
 use crate::words::first_place_far;
-use joint_model::{Act, PhaseWord, Thread};
+use joint_model::{Act, PhaseWord, Thread, list_with_room};
 use std::alloc::{AllocError, Global};
 use std::marker::Model;
 
 /// The most bytes of a script.
 pub const MOST_BYTES: usize = 8_388_608;
 
-// The most lines of a script.
-const MOST_LINES: usize = 20_000;
+/// The most lines of a script.
+pub const MOST_LINES: usize = 20_000;
 
 // The most lines `c cycle` and `c snap` of a script.
 const MOST_CYCLES: usize = 256;
@@ -86,9 +86,10 @@ impl Script {
     fn new(alloc: Global) -> Script
         ensures { result ≡ [] }
     {
-        let mut lines = Vec::new(alloc);
-        let _ = lines.reserve(MOST_LINES);
-        Script { lines, cycles: 0 }
+        Script {
+            lines: list_with_room(alloc, MOST_LINES),
+            cycles: 0,
+        }
     }
 
     /// The script of lines that are one.
@@ -98,6 +99,14 @@ impl Script {
     {
         let cycles = cycles_of(&lines);
         Script { lines, cycles }
+    }
+
+    /// Its lines.
+    pub fn into_lines(self) -> Vec<(Thread, Act)>
+        ensures { result.items ≡ self }
+    {
+        let Script { lines, .. } = self;
+        lines
     }
 
     // Puts the line with this text last, of which `end` is the number of bytes up to its end. `Refused` where it

@@ -4,8 +4,8 @@ ghost use Rattle.std.specs.Prelude.{◌≡◌, ◌≤◌, IfOk};
 ghost use Rattle.script_generator.specs.Generated.{generated};
 
 use crate::families::{push_cycle, push_family};
-use bridge_script::Script;
-use joint_model::{Act, Thread};
+use bridge_script::{MOST_LINES, Script};
+use joint_model::{Act, Thread, list_with_room};
 use std::alloc::{AllocError, Global};
 
 // The lines of a script of so many families.
@@ -13,7 +13,7 @@ fn lines_of(alloc: Global, seed: u64, size: u32) -> Result<Vec<(Thread, Act)>, A
     requires { size ≤ 2800 }
     ensures { IfOk result (λ lines. lines.items ≡ generated seed size) }
 {
-    let mut lines = Vec::new(alloc);
+    let mut lines = list_with_room(alloc, MOST_LINES);
     for i in 0..size {
         push_family(&mut lines, seed, i)?;
         push_cycle(&mut lines, i)?;
