@@ -1,14 +1,19 @@
 -- Phases one after another: each runs in the phase in which its word is due, and what was run so far goes on by it.
 use Rattle.std.proofs.Common.{◌≡◌, ℕ, ◌<◌, List, [], ◌∷◌, ◌++◌, length, Option, Some, None, refl, sym, ap, ◌∙◌, subst, append_assoc, arith}
 use Rattle.std.specs.Prelude.{Result, Ok, Err, IfOk, OnErr}
+use base.Growing.{prefix_refl}
 use Rattle.joint_model.specs.declared.names.Phase.{Phase}
 use Rattle.joint_model.specs.declared.names.Phase.TheVariants as at
 use Rattle.joint_model.specs.declared.names.PhaseWord.{PhaseWord}
 use Rattle.joint_model.specs.declared.names.PhaseWord.TheVariants as word
+use Rattle.joint_model.specs.declared.names.Thread.TheVariants.{C}
 use Rattle.joint_model.specs.declared.events.Entry.{Entry}
 use Rattle.joint_model.specs.declared.events.Reply.{Reply}
+use Rattle.joint_model.specs.HistoryLines.{caller_line}
 use Rattle.joint_model.specs.Phases.{next_phase, phases_left, phases_of}
 use Rattle.joint_model.proofs.Deciding.{some-same}
+use Rattle.order_table.specs.Views.{known}
+use Rattle.joint_history.specs.Knowing.{line_known}
 use Rattle.bridge_cycle.specs.Progress.{EndsWithReply, StopsForMemory, LeadTo, Progress, RunsWords, RunsPhases, last_reply}
 use Rattle.bridge_cycle.specs.Words.{Closes, IsPartway, Lacks, next_word}
 use Rattle.bridge_cycle.proofs.Making.{append_nil, runs_more}
@@ -59,6 +64,29 @@ left_some at.Restored n = ([], refl)
 
 pub runs_on : (old mid new : Progress) (index : ℕ) (ws vs : List PhaseWord) → RunsWords old mid index ws → RunsWords mid new index vs → RunsWords old new index (ws ++ vs)
 runs_on old mid new index ws vs a b = (a.0 ++ b.0, runs_more old mid new index ws vs a.0 b.0 a.1 b.1)
+
+-- no phase was run so far
+pub runs_nothing : (d : Progress) (index : ℕ) → RunsWords d d index []
+runs_nothing d index = (
+  [],
+  record {
+    enters = record {
+      made = record { own_more = sym (append_nil (line_known d.view (caller_line C))); more = λ i. prefix_refl (known d.view i); above = tt };
+      places = tt;
+      cycle = refl;
+      candidates = refl;
+    };
+    events = refl;
+    leads = refl;
+  },
+)
+
+pub partway_none : (d : Progress) (index : ℕ) → (d.phase ≡ at.Idle → ⊥) → IsPartway d d index
+partway_none d index busy = record { busy = busy; run = []; all = refl; runs = runs_nothing d index }
+
+-- an idle driver has no phase left
+pub idle_runs : (d : Progress) (index : ℕ) → d.phase ≡ at.Idle → RunsWords d d index (phases_left d.phase)
+idle_runs d index idle = subst (λ (p : Phase). RunsWords d d index (phases_left p)) (sym idle) (runs_nothing d index)
 
 -- one phase more
 pub partway_more : (old mid new : Progress) (index : ℕ) (w : PhaseWord) (reply : Reply) → IsPartway old mid index → (mid.phase ≡ at.Restored → ⊥) → w ≡ next_word mid.phase → EndsWithReply mid new index (w ∷ []) reply → IsPartway old new index × (length (phases_left new.phase) < length (phases_left mid.phase))

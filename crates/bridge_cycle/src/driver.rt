@@ -7,7 +7,7 @@ ghost use Rattle.joint_history.specs.Callers.{Hears, Tells};
 ghost use Rattle.joint_history.specs.Ending.{HasIdleDriver};
 ghost use Rattle.bridge_cycle.specs.Progress.{Progress, pass_of};
 
-use joint_history::{Caller, Shared};
+use joint_history::{Caller, Keeps, Shared};
 use joint_model::{Alive, Cycle, Phase};
 use managed_side::Opened;
 use order_table::OrderName;
@@ -87,7 +87,7 @@ impl<N: OrderName> Driver<N> {
     }
 
     /// The driver is told all that a caller knows. It makes no entry, changes nothing else of the driver, and takes no lock and no memory.
-    pub fn hear(&mut self, shared: &Shared<N>, from: &mut Caller<N>)
+    pub fn hear<K: Keeps<N>>(&mut self, shared: &Shared<N, K>, from: &mut Caller<N>)
         ensures from { Tells from.old from.new }
         ensures hears { Hears from.old (pass_of self.old) (pass_of self.new) }
         ensures same { self.new ≡ record self.old { view = self.new.view } }
@@ -96,7 +96,7 @@ impl<N: OrderName> Driver<N> {
     }
 
     /// Tells a caller all that the driver knows. It makes no entry, changes nothing else of the driver, and takes no lock and no memory.
-    pub fn tell(&mut self, shared: &Shared<N>, to: &mut Caller<N>)
+    pub fn tell<K: Keeps<N>>(&mut self, shared: &Shared<N, K>, to: &mut Caller<N>)
         ensures tells { Tells (pass_of self.old) (pass_of self.new) }
         ensures to { Hears (pass_of self.old) to.old to.new }
         ensures same { self.new ≡ record self.old { view = self.new.view } }

@@ -6,7 +6,7 @@ ghost use Rattle.joint_model.specs.declared.names.PhaseWord.TheVariants as word;
 ghost use Rattle.bridge_cycle.specs.Progress.{EndsWithReply, RunsWords, line_of};
 
 use crate::driver::{Driver, DriverFault};
-use joint_history::Shared;
+use joint_history::{Keeps, Shared};
 use joint_model::{Phase, Reply};
 use order_table::OrderName;
 use std::alloc::Global;
@@ -14,7 +14,12 @@ use std::sync::Wait;
 
 impl<N: OrderName> Driver<N> {
     /// Begins the cycle's own marking; the phase is the one for it.
-    pub(crate) fn begin_marking(&mut self, rt: &impl Wait, shared: &Shared<N>, index: u16) -> Reply
+    pub(crate) fn begin_marking<K: Keeps<N>>(
+        &mut self,
+        rt: &impl Wait,
+        shared: &Shared<N, K>,
+        index: u16,
+    ) -> Reply
         requires phase { self.old.phase ≡ at.Weakened }
         requires index { line_of self.old ≤ index }
         ensures index { line_of self.new ≤ index }
@@ -26,7 +31,12 @@ impl<N: OrderName> Driver<N> {
     }
 
     /// Ends the cycle's own marking; the phase is the one for it.
-    pub(crate) fn end_marking(&mut self, rt: &impl Wait, shared: &Shared<N>, index: u16) -> Reply
+    pub(crate) fn end_marking<K: Keeps<N>>(
+        &mut self,
+        rt: &impl Wait,
+        shared: &Shared<N, K>,
+        index: u16,
+    ) -> Reply
         requires phase { self.old.phase ≡ at.Marked }
         requires index { line_of self.old ≤ index }
         ensures index { line_of self.new ≤ index }
@@ -38,7 +48,12 @@ impl<N: OrderName> Driver<N> {
     }
 
     /// Resolves the cycle; the phase is the one for it.
-    pub(crate) fn end_cycle(&mut self, rt: &impl Wait, shared: &Shared<N>, index: u16) -> Reply
+    pub(crate) fn end_cycle<K: Keeps<N>>(
+        &mut self,
+        rt: &impl Wait,
+        shared: &Shared<N, K>,
+        index: u16,
+    ) -> Reply
         requires phase { self.old.phase ≡ at.Restored }
         requires index { line_of self.old ≤ index }
         ensures index { line_of self.new ≤ index }
@@ -57,11 +72,11 @@ impl<N: OrderName> Driver<N> {
 
     /// Begins the cycle's own marking of the peer heap; one that a peer thread left open is ended first. Answers `WrongPhase` exactly where the phase
     /// isn't `Weakened`.
-    pub fn mark(
+    pub fn mark<K: Keeps<N>>(
         &mut self,
         rt: &impl Wait,
         alloc: Global,
-        shared: &Shared<N>,
+        shared: &Shared<N, K>,
         index: u16,
     ) -> Result<(), DriverFault>
         requires index { line_of self.old ≤ index }
@@ -80,11 +95,11 @@ impl<N: OrderName> Driver<N> {
     }
 
     /// Ends the cycle's own marking: the peers that nothing reaches are freed. Answers `WrongPhase` exactly where the phase isn't `Marked`.
-    pub fn sweep(
+    pub fn sweep<K: Keeps<N>>(
         &mut self,
         rt: &impl Wait,
         alloc: Global,
-        shared: &Shared<N>,
+        shared: &Shared<N, K>,
         index: u16,
     ) -> Result<(), DriverFault>
         requires index { line_of self.old ≤ index }
@@ -103,11 +118,11 @@ impl<N: OrderName> Driver<N> {
     }
 
     /// Closes the cycle: frees what no candidate leads to that is alive. Answers `WrongPhase` exactly where the phase isn't `Restored`.
-    pub fn resolve(
+    pub fn resolve<K: Keeps<N>>(
         &mut self,
         rt: &impl Wait,
         alloc: Global,
-        shared: &Shared<N>,
+        shared: &Shared<N, K>,
         index: u16,
     ) -> Result<(), DriverFault>
         requires index { line_of self.old ≤ index }

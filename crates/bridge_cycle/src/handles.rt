@@ -11,16 +11,16 @@ ghost use Rattle.bridge_cycle.specs.Turns.{MayRestoreAll, MayWeakenAll, Restores
 
 use crate::driver::{Driver, DriverFault};
 use bridge_graph::DeadGraph;
-use joint_history::{Caller, Shared};
+use joint_history::{Caller, Keeps, Shared};
 use joint_model::{Alive, Phase, Reply};
 use order_table::OrderName;
 use std::alloc::Global;
 use std::sync::Wait;
 
 // Weakens the handle of each bridge node, in the order of the nodes.
-fn weaken_all<N: OrderName>(
+fn weaken_all<N: OrderName, K: Keeps<N>>(
     rt: &impl Wait,
-    shared: &Shared<N>,
+    shared: &Shared<N, K>,
     driver: &mut Caller<N>,
     index: u16,
     snap: u64,
@@ -39,9 +39,9 @@ fn weaken_all<N: OrderName>(
 }
 
 // Restores the handle of each bridge node, in the same order, and puts the answers last in `alive`.
-fn restore_all<N: OrderName>(
+fn restore_all<N: OrderName, K: Keeps<N>>(
     rt: &impl Wait,
-    shared: &Shared<N>,
+    shared: &Shared<N, K>,
     driver: &mut Caller<N>,
     index: u16,
     graph: &DeadGraph,
@@ -64,7 +64,12 @@ fn restore_all<N: OrderName>(
 
 impl<N: OrderName> Driver<N> {
     /// Weakens all handles; the phase is the one for it.
-    pub(crate) fn weaken_handles(&mut self, rt: &impl Wait, shared: &Shared<N>, index: u16) -> Reply
+    pub(crate) fn weaken_handles<K: Keeps<N>>(
+        &mut self,
+        rt: &impl Wait,
+        shared: &Shared<N, K>,
+        index: u16,
+    ) -> Reply
         requires phase { self.old.phase ≡ at.Mirrored }
         requires index { line_of self.old ≤ index }
         ensures index { line_of self.new ≤ index }
@@ -86,10 +91,10 @@ impl<N: OrderName> Driver<N> {
     }
 
     /// Restores all handles and clears the mirrored references; the phase is the one for it.
-    pub(crate) fn restore_handles(
+    pub(crate) fn restore_handles<K: Keeps<N>>(
         &mut self,
         rt: &impl Wait,
-        shared: &Shared<N>,
+        shared: &Shared<N, K>,
         index: u16,
     ) -> Reply
         requires phase { self.old.phase ≡ at.Swept }
@@ -110,11 +115,11 @@ impl<N: OrderName> Driver<N> {
     }
 
     /// Weakens the handle of each candidate, in rising managed number. Answers `WrongPhase` exactly where the phase isn't `Mirrored`.
-    pub fn weaken(
+    pub fn weaken<K: Keeps<N>>(
         &mut self,
         rt: &impl Wait,
         alloc: Global,
-        shared: &Shared<N>,
+        shared: &Shared<N, K>,
         index: u16,
     ) -> Result<(), DriverFault>
         requires index { line_of self.old ≤ index }
@@ -134,11 +139,11 @@ impl<N: OrderName> Driver<N> {
 
     /// Restores the handle of each candidate, in the same order, which tells whose peer is there, and clears the mirrored references. Answers
     /// `WrongPhase` exactly where the phase isn't `Swept`.
-    pub fn restore(
+    pub fn restore<K: Keeps<N>>(
         &mut self,
         rt: &impl Wait,
         alloc: Global,
-        shared: &Shared<N>,
+        shared: &Shared<N, K>,
         index: u16,
     ) -> Result<(), DriverFault>
         requires index { line_of self.old ≤ index }

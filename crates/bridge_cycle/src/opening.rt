@@ -8,7 +8,7 @@ ghost use Rattle.bridge_cycle.specs.Progress.{EndsWithReply, RunsWords, line_of}
 
 use crate::driver::{Driver, DriverFault};
 use bridge_graph::DeadGraph;
-use joint_history::Shared;
+use joint_history::{Keeps, Shared};
 use joint_model::{Alive, Phase, Reply};
 use order_table::OrderName;
 use std::alloc::{AllocError, Global};
@@ -23,10 +23,10 @@ fn graph_is_part(graph: &DeadGraph)
 
 impl<N: OrderName> Driver<N> {
     /// Takes the snapshot; the phase is the one for it.
-    pub(crate) fn take_snapshot(
+    pub(crate) fn take_snapshot<K: Keeps<N>>(
         &mut self,
         rt: &impl Wait,
-        shared: &Shared<N>,
+        shared: &Shared<N, K>,
         index: u16,
     ) -> Result<Reply, AllocError>
         requires phase { self.old.phase ≡ at.Idle }
@@ -48,11 +48,11 @@ impl<N: OrderName> Driver<N> {
     }
 
     /// Makes the contraction; the phase is the one for it. All memory is taken before the entry, room for the answers of the restores too.
-    pub(crate) fn make_contraction(
+    pub(crate) fn make_contraction<K: Keeps<N>>(
         &mut self,
         rt: &impl Wait,
         alloc: Global,
-        shared: &Shared<N>,
+        shared: &Shared<N, K>,
         index: u16,
     ) -> Result<Reply, AllocError>
         requires phase { self.old.phase ≡ at.Snapped }
@@ -76,10 +76,10 @@ impl<N: OrderName> Driver<N> {
     }
 
     /// Mirrors the cycle; the phase is the one for it.
-    pub(crate) fn add_references(
+    pub(crate) fn add_references<K: Keeps<N>>(
         &mut self,
         rt: &impl Wait,
-        shared: &Shared<N>,
+        shared: &Shared<N, K>,
         index: u16,
     ) -> Result<Reply, AllocError>
         requires phase { self.old.phase ≡ at.Contracted }
@@ -109,11 +109,11 @@ impl<N: OrderName> Driver<N> {
 
     /// Takes a snapshot of the managed heap, which opens the next cycle. Answers `CycleOpen` exactly where the phase isn't `Idle`, and `OutOfMemory` where
     /// there is no memory; no entry is made then.
-    pub fn snap(
+    pub fn snap<K: Keeps<N>>(
         &mut self,
         rt: &impl Wait,
         alloc: Global,
-        shared: &Shared<N>,
+        shared: &Shared<N, K>,
         index: u16,
     ) -> Result<(), DriverFault>
         requires index { line_of self.old ≤ index }
@@ -135,11 +135,11 @@ impl<N: OrderName> Driver<N> {
 
     /// Finds the components of the dead part, with no lock held, and makes the contraction's entry. Answers `WrongPhase` exactly where the phase isn't
     /// `Snapped`, and `OutOfMemory` where there is no memory; the driver is as before then.
-    pub fn contract(
+    pub fn contract<K: Keeps<N>>(
         &mut self,
         rt: &impl Wait,
         alloc: Global,
-        shared: &Shared<N>,
+        shared: &Shared<N, K>,
         index: u16,
     ) -> Result<(), DriverFault>
         requires index { line_of self.old ≤ index }
@@ -160,11 +160,11 @@ impl<N: OrderName> Driver<N> {
 
     /// Adds the references that the components stand for between the peers, all at once. Answers `WrongPhase` exactly where the phase isn't `Contracted`,
     /// and `OutOfMemory` where there is no memory; no entry is made then.
-    pub fn mirror(
+    pub fn mirror<K: Keeps<N>>(
         &mut self,
         rt: &impl Wait,
         alloc: Global,
-        shared: &Shared<N>,
+        shared: &Shared<N, K>,
         index: u16,
     ) -> Result<(), DriverFault>
         requires index { line_of self.old ≤ index }

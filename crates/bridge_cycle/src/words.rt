@@ -11,7 +11,7 @@ ghost use Rattle.bridge_cycle.specs.Progress.{EndsWithReply, BreaksLine, StopsFo
 ghost use Rattle.bridge_cycle.specs.Words.{Closes, IsOnePhase, IsPartway, Lacks, due_in, next_word};
 
 use crate::driver::{Driver, DriverFault};
-use joint_history::Shared;
+use joint_history::{Keeps, Shared};
 use joint_model::{Act, Phase, PhaseWord, Reply};
 use order_table::OrderName;
 use std::alloc::{AllocError, Global};
@@ -53,11 +53,11 @@ fn next_word(phase: Phase) -> PhaseWord
 
 impl<N: OrderName> Driver<N> {
     // Runs one phase, in the phase in which its word is due.
-    fn run(
+    fn run<K: Keeps<N>>(
         &mut self,
         rt: &impl Wait,
         alloc: Global,
-        shared: &Shared<N>,
+        shared: &Shared<N, K>,
         index: u16,
         word: PhaseWord,
     ) -> Result<Reply, AllocError>
@@ -82,11 +82,11 @@ impl<N: OrderName> Driver<N> {
     }
 
     // Runs the phases that are left of an open cycle, but for the resolve.
-    fn run_to_restored(
+    fn run_to_restored<K: Keeps<N>>(
         &mut self,
         rt: &impl Wait,
         alloc: Global,
-        shared: &Shared<N>,
+        shared: &Shared<N, K>,
         index: u16,
     ) -> Result<(), AllocError>
         requires busy { ¬ (self.old.phase ≡ at.Idle) }
@@ -104,11 +104,11 @@ impl<N: OrderName> Driver<N> {
     }
 
     // Runs all phases that are left of an open cycle; answers the reply of its resolve.
-    fn finish_cycle(
+    fn finish_cycle<K: Keeps<N>>(
         &mut self,
         rt: &impl Wait,
         alloc: Global,
-        shared: &Shared<N>,
+        shared: &Shared<N, K>,
         index: u16,
     ) -> Result<Reply, AllocError>
         requires busy { ¬ (self.old.phase ≡ at.Idle) }
@@ -122,11 +122,11 @@ impl<N: OrderName> Driver<N> {
     }
 
     // Runs a whole cycle; the driver is idle.
-    fn run_cycle(
+    fn run_cycle<K: Keeps<N>>(
         &mut self,
         rt: &impl Wait,
         alloc: Global,
-        shared: &Shared<N>,
+        shared: &Shared<N, K>,
         index: u16,
     ) -> Result<Reply, AllocError>
         requires phase { self.old.phase ≡ at.Idle }
@@ -140,10 +140,10 @@ impl<N: OrderName> Driver<N> {
     }
 
     // Makes the refusal of a word that is refused in the driver's phase.
-    fn refuse(
+    fn refuse<K: Keeps<N>>(
         &mut self,
         rt: &impl Wait,
-        shared: &Shared<N>,
+        shared: &Shared<N, K>,
         index: u16,
         word: PhaseWord,
     ) -> Result<Reply, AllocError>
@@ -158,10 +158,10 @@ impl<N: OrderName> Driver<N> {
     }
 
     // Takes so many waiting notices, or all.
-    fn take_notices(
+    fn take_notices<K: Keeps<N>>(
         &mut self,
         rt: &impl Wait,
-        shared: &Shared<N>,
+        shared: &Shared<N, K>,
         index: u16,
         count: u32,
     ) -> Result<Reply, AllocError>
@@ -176,11 +176,11 @@ impl<N: OrderName> Driver<N> {
     }
 
     // Runs a line with a phase word.
-    fn run_word(
+    fn run_word<K: Keeps<N>>(
         &mut self,
         rt: &impl Wait,
         alloc: Global,
-        shared: &Shared<N>,
+        shared: &Shared<N, K>,
         index: u16,
         word: PhaseWord,
     ) -> Result<Reply, AllocError>
@@ -200,11 +200,11 @@ impl<N: OrderName> Driver<N> {
 
     /// Runs all eight phases of a cycle. Answers `CycleOpen` exactly where the phase isn't `Idle`, and `OutOfMemory` where a phase found no memory, which is
     /// the snapshot, the contraction or the mirror; the phases before it stand then, and the driver is in the last one's phase.
-    pub fn cycle(
+    pub fn cycle<K: Keeps<N>>(
         &mut self,
         rt: &impl Wait,
         alloc: Global,
-        shared: &Shared<N>,
+        shared: &Shared<N, K>,
         index: u16,
     ) -> Result<(), DriverFault>
         requires index { line_of self.old ≤ index }
@@ -226,11 +226,11 @@ impl<N: OrderName> Driver<N> {
     /// Runs a script line of thread `c`: a phase word, whose refusal is an entry too, or `finalise`. Answers the reply of the last entry that it made, or
     /// `Reply::Ok` where it made none. Answers `AllocError` where there is no memory: then no entry was made, or those of the line's phases before the one
     /// that found no memory.
-    pub fn line(
+    pub fn line<K: Keeps<N>>(
         &mut self,
         rt: &impl Wait,
         alloc: Global,
-        shared: &Shared<N>,
+        shared: &Shared<N, K>,
         index: u16,
         act: &Act,
     ) -> Result<Reply, AllocError>
@@ -249,11 +249,11 @@ impl<N: OrderName> Driver<N> {
 
     /// Runs the phases that are left of an open cycle; where none is open it makes nothing. Answers `AllocError` where the contraction or the mirror found
     /// no memory; the phases before it stand then.
-    pub fn end(
+    pub fn end<K: Keeps<N>>(
         &mut self,
         rt: &impl Wait,
         alloc: Global,
-        shared: &Shared<N>,
+        shared: &Shared<N, K>,
         index: u16,
     ) -> Result<(), AllocError>
         requires index { line_of self.old ≤ index }

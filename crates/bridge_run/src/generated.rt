@@ -44,10 +44,11 @@ pub fn print_generated<R: Threads + Wait + Sync, K: Sink, T: Turnstile + Sync>(
     let Ok(script) = generate(alloc, seed, size) else {
         return NO_MEMORY;
     };
-    let Ok(history) = run(rt, alloc, mode, &script, turn) else {
+    let lines = script.len();
+    let Ok(history) = run(rt, alloc, mode, script, turn) else {
         return NO_MEMORY;
     };
-    match write_summary(seed, size, mode, script.len(), &history, out) {
+    match write_summary(seed, size, mode, lines, &history, out) {
         Ok(()) => DONE,
         Err(_) => WRITE_FAULT,
     }
@@ -59,14 +60,14 @@ fn run<R: Threads + Wait + Sync, T: Turnstile + Sync>(
     rt: &R,
     alloc: Global,
     mode: Mode,
-    script: &Script,
+    script: Script,
     turn: &T,
 ) -> Result<History, AllocError>
-    requires { DrivesCycles script.now }
-    ensures { IfOk result (λ h. IsGeneratedRunIn mode script.now h) }
+    requires { DrivesCycles script }
+    ensures { IfOk result (λ h. IsGeneratedRunIn mode script h) }
 {
     match mode {
-        Mode::Serial => run_serial_then_cycle(rt, alloc, script.lines()),
+        Mode::Serial => run_serial_then_cycle(rt, alloc, script.into_lines()),
         Mode::Threads => run_threads_then_cycle(rt, alloc, script.lines(), turn),
     }
 }

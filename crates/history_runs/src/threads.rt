@@ -9,7 +9,7 @@ ghost use Rattle.joint_history.specs.Ending.{HasAll};
 ghost use Rattle.joint_history.specs.Operations.{IsOwnThread, IsPeerOperation};
 ghost use Rattle.history_runs.specs.Starts.{IsStarting};
 
-use joint_history::{Caller, Desk, Shared};
+use joint_history::{Caller, Desk, Locks, Shared};
 use joint_model::{
     Act, Cell, Entry, GName, History, Kind, Marking, Op, Reply, Sort, StaticNo, Thread, Var,
 };
@@ -107,7 +107,12 @@ fn peer_act(n: u8, place: u16) -> Act
 }
 
 // Makes the operation of a line. One that finds no memory is seen in the history.
-fn make_line<N: OrderName>(rt: &impl Wait, shared: &Shared<N>, caller: &mut Caller<N>, index: u16)
+fn make_line<N: OrderName>(
+    rt: &impl Wait,
+    shared: &Shared<N, Locks>,
+    caller: &mut Caller<N>,
+    index: u16,
+)
     requires thread { IsOwnThread caller.old.thread }
     requires index { last_index (own caller.old) ≤ index }
     ensures thread { caller.new.thread ≡ caller.old.thread }
@@ -123,7 +128,7 @@ fn make_line<N: OrderName>(rt: &impl Wait, shared: &Shared<N>, caller: &mut Call
 // Makes so many lines of a thread, numbered from 1 on.
 fn make_lines<N: OrderName>(
     rt: &impl Wait,
-    shared: &Shared<N>,
+    shared: &Shared<N, Locks>,
     caller: Caller<N>,
     lines: u16,
 ) -> Caller<N>
@@ -140,7 +145,7 @@ fn make_lines<N: OrderName>(
 // All threads at once, to their ends.
 fn make_all<N: OrderName + Send + Sync, R: Threads + Wait + Sync>(
     rt: &R,
-    shared: &Shared<N>,
+    shared: &Shared<N, Locks>,
     callers: Vec<Caller<N>>,
     lines: u16,
 ) -> Result<Vec<Caller<N>>, AllocError>
@@ -198,7 +203,7 @@ fn run<N: OrderName + Send + Sync, R: Threads + Wait + Sync>(
     requires run { (N.managed ≡ 2) × (N.peers ≡ 2) }
     requires seat { (seat.order ≡ N.order) × OwnsAll seat.view × KnowsNothing seat.view }
 {
-    let (shared, mut desk) = Shared::<N>::new(alloc, order, seat, 2, 2)?;
+    let (shared, mut desk) = Shared::<N, Locks>::new(alloc, order, seat, 2, 2)?;
     let callers = callers_at(alloc, &mut desk)?;
     let ended = make_all(rt, &shared, callers, lines)?;
     shared.finish(desk, ended)

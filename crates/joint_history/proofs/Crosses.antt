@@ -1,8 +1,10 @@
--- What crosses threads: each side may be sent to another thread, hence what is under its lock, and so the shared bridge may be seen by several threads.
+-- What crosses threads: each side may be sent to another thread, hence what is under its lock, and so a bridge shared by locks may be seen by several
+-- threads.
 use denote.RattleType.{RattleType}
 use denote.Param.Send.{AllSend, AllSync, IsSend, IsSync, recorded_send, recorded_sync, sendable, struct_send, struct_sync, view_send}
 use denote.Struct.Declared as fields
 use Rattle.std.proofs.Crossing.{crosses}
+use Rattle.std.specs.contracts.sync.Mutex as Mutex
 use Rattle.joint_model.proofs.lists.Entries.TheSendSync.{the_send as entries}
 use Rattle.order_table.proofs.orders.Order.TheSendSync.{the_sync as order}
 use Rattle.order_table.proofs.seats.Seat.TheSendSync.{the_send as seat}
@@ -18,6 +20,7 @@ use Rattle.peer_side.proofs.mirroring.Mirroring.TheSendSync.{the_send as mirrori
 use Rattle.peer_side.specs.contracts.rows.PeerRows as PeerRows
 use Rattle.peer_side.specs.contracts.side.OpenMarking as OpenMarking
 use Rattle.peer_side.specs.contracts.side.PeerSide as PeerSide
+use Rattle.joint_history.specs.contracts.keeping.Locks as Locks
 use Rattle.joint_history.specs.contracts.managed.LockedManaged as LockedManaged
 use Rattle.joint_history.specs.contracts.managed.LockedManaged.TheInside as UnderManaged
 use Rattle.joint_history.specs.contracts.peer.LockedPeer as LockedPeer
@@ -62,9 +65,15 @@ module _ (N : RattleType) (g : Ghosts N.Denot) where
   locked_peer : IsSend (LockedPeer.the_row N g)
   locked_peer = view_send _ _ _ _ _ under_peer
 
-  shared_fields : AllSync (fields.shape (Shared.the_type N g)).fields
+  abbrev pub managed_lock : RattleType
+  managed_lock = Mutex.the_row (LockedManaged.the_row N g)
+
+  abbrev pub peer_lock : RattleType
+  peer_lock = Mutex.the_row (LockedPeer.the_row N g)
+
+  shared_fields : AllSync (fields.shape (Shared.the_type N Locks.the_row managed_lock peer_lock g)).fields
   shared_fields = search (sendable, crosses, order, locked_managed, locked_peer) depth 40 fits 100000
 
   -- two locks and an order
-  pub shared : IsSync (Shared.the_row N g)
-  shared = recorded_sync _ _ _ (Shared.the_type N g).to_one (struct_sync (fields.shape (Shared.the_type N g)) shared_fields)
+  pub shared : IsSync (Shared.the_row N Locks.the_row managed_lock peer_lock g)
+  shared = recorded_sync _ _ _ (Shared.the_type N Locks.the_row managed_lock peer_lock g).to_one (struct_sync (fields.shape (Shared.the_type N Locks.the_row managed_lock peer_lock g)) shared_fields)

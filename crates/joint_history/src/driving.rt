@@ -10,8 +10,9 @@ ghost use Rattle.joint_history.specs.DriverMarks.{HasBegunMarking, MakesMark, Ma
 ghost use Rattle.joint_history.specs.DriverSnaps.{MakesSnapshot};
 
 use crate::callers::Caller;
+use crate::keeping::{Keep, Keeps};
 use crate::marks::Begun;
-use crate::shared::{Shared, hold};
+use crate::shared::Shared;
 use global_handles::Back;
 use joint_model::{Alive, Cycle, HNum, Phase, PhaseWord, Reply};
 use managed_side::{Opened, ResolveOut, SnapFault};
@@ -20,7 +21,7 @@ use peer_side::Swept;
 use std::alloc::AllocError;
 use std::sync::Wait;
 
-impl<N: OrderName> Shared<N> {
+impl<N: OrderName, K: Keeps<N>> Shared<N, K> {
     /// The driver makes the entry of its open cycle's contraction, which has so many components and cross-references. Answers the entry's number. It
     /// takes no memory.
     pub fn contracted(
@@ -36,7 +37,10 @@ impl<N: OrderName> Shared<N> {
         ensures thread { driver.new.thread ≡ driver.old.thread }
         ensures makes { MakesContraction driver.old.view driver.new.view index sccs xrefs result }
     {
-        hold(&self.managed, rt).contracted(&self.order, &mut driver.seat, index, sccs, xrefs)
+        self.managed
+            .hold(rt)
+            .value()
+            .contracted(&self.order, &mut driver.seat, index, sccs, xrefs)
     }
 
     /// The driver abandons its open cycle, which isn't mirrored yet: nothing is freed. Answers the entry's number. It takes no memory.
@@ -46,7 +50,10 @@ impl<N: OrderName> Shared<N> {
         ensures thread { driver.new.thread ≡ driver.old.thread }
         ensures makes { MakesAbandon driver.old.view driver.new.view index result }
     {
-        hold(&self.managed, rt).abandon(&self.order, &mut driver.seat, index)
+        self.managed
+            .hold(rt)
+            .value()
+            .abandon(&self.order, &mut driver.seat, index)
     }
 
     /// The driver resolves its open cycle by the answers of its restores, one for each candidate; the entry cites that of the clear. Answers the entry's
@@ -65,7 +72,10 @@ impl<N: OrderName> Shared<N> {
         ensures makes { MakesResolution driver.old.view driver.new.view index clear result.0 (answers_of alive.now.values) result.1.freed }
         ensures kept { result.1.kept ≡ count_by (λ b. b) alive.now.values }
     {
-        hold(&self.managed, rt).resolve(&self.order, &mut driver.seat, index, clear, alive)
+        self.managed
+            .hold(rt)
+            .value()
+            .resolve(&self.order, &mut driver.seat, index, clear, alive)
     }
 
     /// The driver's phase word is refused in its phase; nothing else changes. Answers the entry's number and the reply. Answers `AllocError` where there is
@@ -84,7 +94,10 @@ impl<N: OrderName> Shared<N> {
         ensures ok { IfOk result (λ r. MakesRefusal driver.old.view driver.new.view index r.0 word phase r.1) }
         ensures err { OnErr result (DriverMakesNone driver.old.view driver.new.view) }
     {
-        hold(&self.managed, rt).refused(&self.order, &mut driver.seat, index, word, phase)
+        self.managed
+            .hold(rt)
+            .value()
+            .refused(&self.order, &mut driver.seat, index, word, phase)
     }
 
     /// The driver takes so many waiting notices, or all where there are fewer. Answers the entry's number and the reply. Answers `AllocError` where there is
@@ -103,7 +116,10 @@ impl<N: OrderName> Shared<N> {
         ensures ok { IfOk result (λ r. MakesFinalise driver.old.view driver.new.view index r.0 count r.1) }
         ensures err { OnErr result (DriverMakesNone driver.old.view driver.new.view) }
     {
-        hold(&self.managed, rt).finalise(&self.order, &mut driver.seat, index, count)
+        self.managed
+            .hold(rt)
+            .value()
+            .finalise(&self.order, &mut driver.seat, index, count)
     }
 
     /// The driver takes a snapshot and opens the next cycle. Answers the cycle, its entry's number, and its dead part as a graph. Answers `OutOfMemory`
@@ -121,7 +137,10 @@ impl<N: OrderName> Shared<N> {
         ensures fault { IfErr result (λ e. e ≡ SnapFault.OutOfMemory) }
         ensures err { OnErr result (DriverMakesNone driver.old.view driver.new.view) }
     {
-        hold(&self.managed, rt).snap(&self.order, &mut driver.seat, index)
+        self.managed
+            .hold(rt)
+            .value()
+            .snap(&self.order, &mut driver.seat, index)
     }
 
     /// The driver weakens the handle of the next candidate of its cycle, whose snapshot is the entry with that number. Answers the entry's number. It
@@ -139,7 +158,10 @@ impl<N: OrderName> Shared<N> {
         ensures thread { driver.new.thread ≡ driver.old.thread }
         ensures makes { MakesWeaken driver.old.view driver.new.view index snap h result }
     {
-        hold(&self.peers, rt).weaken(&self.order, &mut driver.seat, index, snap, h)
+        self.peers
+            .hold(rt)
+            .value()
+            .weaken(&self.order, &mut driver.seat, index, snap, h)
     }
 
     /// The driver, which has weakened all handles of its cycle, begins the cycle's own marking; one that a peer thread left open is ended first, in the
@@ -150,7 +172,10 @@ impl<N: OrderName> Shared<N> {
         ensures thread { driver.new.thread ≡ driver.old.thread }
         ensures makes { MakesMark driver.old.view driver.new.view index result }
     {
-        hold(&self.peers, rt).mark(&self.order, &mut driver.seat, index)
+        self.peers
+            .hold(rt)
+            .value()
+            .mark(&self.order, &mut driver.seat, index)
     }
 
     /// The driver ends its cycle's own marking: the peers that it doesn't reach are freed. Answers the entry's number, the marking, and where the freed
@@ -161,7 +186,10 @@ impl<N: OrderName> Shared<N> {
         ensures thread { driver.new.thread ≡ driver.old.thread }
         ensures makes { MakesSweep driver.old.view driver.new.view index result.0 result.1 }
     {
-        hold(&self.peers, rt).sweep(&self.order, &mut driver.seat, index)
+        self.peers
+            .hold(rt)
+            .value()
+            .sweep(&self.order, &mut driver.seat, index)
     }
 
     /// The driver restores the handle of the next candidate of its cycle: it is strong again, or it left the table since its peer was freed. Answers
@@ -178,7 +206,10 @@ impl<N: OrderName> Shared<N> {
         ensures thread { driver.new.thread ≡ driver.old.thread }
         ensures makes { MakesRestore driver.old.view driver.new.view index h result.1 result.0 }
     {
-        hold(&self.peers, rt).restore(&self.order, &mut driver.seat, index, h)
+        self.peers
+            .hold(rt)
+            .value()
+            .restore(&self.order, &mut driver.seat, index, h)
     }
 
     /// The driver clears the references of its cycle, all of whose handles are restored: no reference is mirrored any more. Answers the entry's
@@ -189,6 +220,9 @@ impl<N: OrderName> Shared<N> {
         ensures thread { driver.new.thread ≡ driver.old.thread }
         ensures makes { MakesClear driver.old.view driver.new.view index cycle result }
     {
-        hold(&self.peers, rt).clear(&self.order, &mut driver.seat, index, cycle)
+        self.peers
+            .hold(rt)
+            .value()
+            .clear(&self.order, &mut driver.seat, index, cycle)
     }
 }

@@ -1,4 +1,4 @@
-// Both sides of the bridge behind two locks, the callers that know what they saw, and the one linked history.
+// Both sides of the bridge, each kept by itself, the callers that know what they saw, and the one linked history.
 //
 // The life of a run:
 //
@@ -14,8 +14,11 @@
 // A thread's whole use of it is `let receipt = shared.managed(rt, &mut caller, line, &act)?;` for each of its lines: a [`Receipt`] has the reply, and
 // the numbers of the first and the last entry.
 //
-// Who runs meanwhile: anybody who has a caller. Each event is made in one hold of its own side's lock, no call holds both locks, and between two events
-// of an operation others may come.
+// How the sides are kept is a parameter: behind two locks where threads share them (`Locks`), or in two cells where one thread has them alone and so pays
+// for no lock (`Cells`). What is promised is the same.
+//
+// Who runs meanwhile: anybody who has a caller. Each event is made in one hold of its own side, no call holds both, and between two events of an
+// operation others may come.
 //
 // What is promised: each call makes just its entries, each of which may come where it stands and has a number above all that its caller knew; without memory
 // it makes none, or the first of two alone. The finished history is linked, has all notices that were ever queued, and has of each caller just what
@@ -37,6 +40,7 @@ mod driving;
 mod facts;
 mod gathers;
 mod handles;
+mod keeping;
 mod laws;
 mod managed;
 mod marks;
@@ -50,6 +54,7 @@ mod snaps;
 
 pub use callers::{Caller, Receipt};
 pub use desks::Desk;
+pub use keeping::{Cells, Keeps, Locks};
 pub use laws::views_are_pasts;
 pub use managed::LockedManaged;
 pub use marks::Begun;

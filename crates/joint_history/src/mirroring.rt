@@ -6,7 +6,8 @@ ghost use Rattle.joint_history.specs.Driven.{DriverMakesNone};
 ghost use Rattle.joint_history.specs.DriverMirrors.{MakesMirror, MayMirrorCycle};
 
 use crate::callers::Caller;
-use crate::shared::{Shared, hold};
+use crate::keeping::{Keep, Keeps};
+use crate::shared::Shared;
 use bridge_graph::DeadGraph;
 use joint_model::Cycle;
 use order_table::OrderName;
@@ -14,7 +15,7 @@ use std::alloc::AllocError;
 use std::sync::Wait;
 use xref_list::Components;
 
-impl<N: OrderName> Shared<N> {
+impl<N: OrderName, K: Keeps<N>> Shared<N, K> {
     /// The driver, which has contracted its cycle to these components of the graph of its dead part, mirrors it: the mirror edges come to stand as
     /// references between the peers, all at once. The cycle's snapshot is the entry with that number. Answers the entry's number, and how many references
     /// there are.
@@ -37,7 +38,7 @@ impl<N: OrderName> Shared<N> {
         ensures ok { IfOk result (λ r. MakesMirror driver.old.view driver.new.view index cycle snap graph.now comps.now r.1 r.0) }
         ensures err { OnErr result (DriverMakesNone driver.old.view driver.new.view) }
     {
-        hold(&self.peers, rt).mirror(
+        self.peers.hold(rt).value().mirror(
             &self.order,
             &mut driver.seat,
             index,

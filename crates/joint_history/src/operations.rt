@@ -12,7 +12,8 @@ ghost use Rattle.joint_history.specs.Locked.{MayMake, Makes, MakesNone};
 ghost use Rattle.joint_history.specs.Operations.{StopsWithoutMemory, IsMadeByEvents, IsOwnThread, IsPeerOperation, IsSideEvent, MakesAll, MayBegin, Runs, answer_of, entry_by, first_of, second_of, taken_by, third_of};
 
 use crate::callers::{Caller, Receipt};
-use crate::shared::{Shared, hold};
+use crate::keeping::{Keep, Keeps};
+use crate::shared::Shared;
 use joint_model::{Act, Op, Reply, Thread, Var};
 use order_table::{OrderName, Seat};
 use std::alloc::AllocError;
@@ -126,7 +127,7 @@ fn is_of_peers(t: Thread, op: &Op) -> bool
     }
 }
 
-impl<N: OrderName> Shared<N> {
+impl<N: OrderName, K: Keeps<N>> Shared<N, K> {
     // Makes one event under its side's lock, and answers its entry's number and the reply.
     #[inline(always)]
     fn event(
@@ -150,12 +151,23 @@ impl<N: OrderName> Shared<N> {
         ensures err { OnErr result (MakesNone t mine.old.view mine.new.view) }
     {
         if is_of_peers(t, op) {
-            return hold(&self.peers, rt).step(&self.order, mine, t, index, op, cites);
+            return self
+                .peers
+                .hold(rt)
+                .value()
+                .step(&self.order, mine, t, index, op, cites);
         }
         if let Some(v) = taken_by(op) {
-            return hold(&self.managed, rt).take(&self.order, mine, t, index, v);
+            return self
+                .managed
+                .hold(rt)
+                .value()
+                .take(&self.order, mine, t, index, v);
         }
-        hold(&self.managed, rt).step(&self.order, mine, t, index, op, cites)
+        self.managed
+            .hold(rt)
+            .value()
+            .step(&self.order, mine, t, index, op, cites)
     }
 
     // Runs an operation with the thread's seat, each event in a hold of its own side's lock.
@@ -246,12 +258,11 @@ impl<N: OrderName> Shared<N> {
         ensures err { OnErr result (MakesAll caller.old.thread caller.old.view caller.new.view []) }
     {
         if let Act::Collect = act {
-            return hold(&self.peers, rt).collect(
-                &self.order,
-                &mut caller.seat,
-                caller.thread,
-                index,
-            );
+            return self
+                .peers
+                .hold(rt)
+                .value()
+                .collect(&self.order, &mut caller.seat, caller.thread, index);
         }
         self.run(rt, &mut caller.seat, caller.thread, index, act)
     }

@@ -1,4 +1,4 @@
-// Two locks beside one order.
+// Two sides beside one order.
 
 ghost use Rattle.std.specs.Prelude.{◌≡◌, ◌≤◌, [], ◌∷◌, All, IfOk};
 ghost use Rattle.joint_model.specs.Histories.{IsJoinable, IsShuffle};
@@ -14,6 +14,7 @@ ghost use Rattle.joint_history.specs.Ending.{HasAll, HasOwn, IsFinished, HasIdle
 use crate::callers::{Caller, tell};
 use crate::desks::Desk;
 use crate::gathers::gather_all;
+use crate::keeping::{Keep, Keeps};
 use crate::managed::LockedManaged;
 use crate::peer::LockedPeer;
 use joint_model::{History, Thread};
@@ -21,25 +22,16 @@ use managed_side::ManagedLists;
 use order_table::{Order, OrderName, Role, Seat};
 use peer_side::PeerLists;
 use std::alloc::{AllocError, Global};
-use std::sync::{Mutex, MutexGuard, Wait};
 
-/// Both sides, each behind a lock of its own with the seat that owns its role, and the order of all entries. No call holds both locks.
+/// Both sides, each with the seat that owns its role, and the order of all entries. No call has both sides in hand. `K` is how they are kept:
+/// [`Locks`](crate::Locks) where threads share them, [`Cells`](crate::Cells) where one thread has them alone.
 #[derive(Drop)]
-pub struct Shared<N: OrderName> {
+pub struct Shared<N: OrderName, K: Keeps<N>> {
     pub(crate) alloc: Global,
     pub(crate) order: Order,
-    pub(crate) managed: Mutex<LockedManaged<N>>,
-    pub(crate) peers: Mutex<LockedPeer<N>>,
+    pub(crate) managed: K::Managed,
+    pub(crate) peers: K::Peers,
     ghost named: { order ≡ N.order },
-}
-
-// Takes a lock. A free one is taken right here, and only one that is held is waited for by a call.
-#[inline(always)]
-pub(crate) fn hold<'a, T, R: Wait>(lock: &'a Mutex<T>, rt: &R) -> MutexGuard<'a, T> {
-    match lock.try_lock() {
-        Some(guard) => guard,
-        None => lock.lock(rt),
-    }
 }
 
 // Joins the lists of both sides into one history.
@@ -54,7 +46,7 @@ fn join_lists(alloc: Global, left: ManagedLists, right: PeerLists) -> Result<His
     History::join(alloc, lists, left.freed, right.freed, left.notices)
 }
 
-impl<N: OrderName> Shared<N> {
+impl<N: OrderName, K: Keeps<N>> Shared<N, K> {
     /// Both sides without objects and entries, each for the run's threads of its heap, and the desk at which their callers wait. The seat is
     /// the one that came with the order. Answers `AllocError` where there is no memory.
     pub fn new(
@@ -63,7 +55,7 @@ impl<N: OrderName> Shared<N> {
         seat: Seat,
         managed: u8,
         peers: u8,
-    ) -> Result<(Shared<N>, Desk<N>), AllocError>
+    ) -> Result<(Shared<N, K>, Desk<N>), AllocError>
         requires order { order ≡ N.order }
         requires seat { (seat.order ≡ N.order) × OwnsAll seat.view × KnowsNothing seat.view }
         requires counts { (managed ≤ 8) × (peers ≤ 8) }
@@ -80,8 +72,8 @@ impl<N: OrderName> Shared<N> {
             Shared {
                 alloc,
                 order,
-                managed: Mutex::new(left),
-                peers: Mutex::new(right),
+                managed: K::Managed::of(left),
+                peers: K::Peers::of(right),
             },
             desk,
         ))
@@ -116,8 +108,8 @@ impl<N: OrderName> Shared<N> {
             peers,
             ..
         } = self;
-        let (managed_side, mut seat) = managed.into_inner().into_parts();
-        let (peer_side, peer_seat) = peers.into_inner().into_parts();
+        let (managed_side, mut seat) = managed.into_value().into_parts();
+        let (peer_side, peer_seat) = peers.into_value().into_parts();
         gather_all(&order, &mut seat, peer_seat, desk, callers);
         let _ = order.finish(seat);
         let left = managed_side.into_lists();

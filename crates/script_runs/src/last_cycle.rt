@@ -15,7 +15,7 @@ use crate::threads::{all_ended, run_jobs};
 use crate::workers::workers;
 use bridge_cycle::Driver;
 use bridge_script::Turnstile;
-use joint_history::{Caller, Shared};
+use joint_history::{Caller, Locks, Shared};
 use joint_model::{Act, History, PhaseWord, Thread};
 use order_table::{Order, OrderName, Seat};
 use std::alloc::{AllocError, Global};
@@ -29,7 +29,11 @@ const CYCLE: Act = Act::PhaseLine {
 };
 
 // The driver hears of all that the others have made.
-fn hear_all<N: OrderName>(shared: &Shared<N>, driver: &mut Driver<N>, others: &mut Vec<Caller<N>>)
+fn hear_all<N: OrderName>(
+    shared: &Shared<N, Locks>,
+    driver: &mut Driver<N>,
+    others: &mut Vec<Caller<N>>,
+)
     ensures { HearsAll driver.old driver.new others.old.items others.new.items }
 {
     for i in 0..others.len() {
@@ -41,7 +45,7 @@ fn hear_all<N: OrderName>(shared: &Shared<N>, driver: &mut Driver<N>, others: &m
 fn cycle_last<N: OrderName>(
     rt: &impl Wait,
     alloc: Global,
-    shared: &Shared<N>,
+    shared: &Shared<N, Locks>,
     number: u16,
     driver: Caller<N>,
     others: &mut Vec<Caller<N>>,
@@ -75,7 +79,7 @@ fn run_named<N: OrderName + Send + Sync, R: Threads + Wait + Sync, T: Turnstile 
     requires room { length script.now < 65535 }
     ensures { IfOk result (IsRunThenCycle script.now) }
 {
-    let (shared, mut desk) = Shared::<N>::new(alloc, order, seat, 8, 8)?;
+    let (shared, mut desk) = Shared::<N, Locks>::new(alloc, order, seat, 8, 8)?;
     let jobs = workers(alloc, &mut desk, script)?;
     let ended = run_jobs(rt, alloc, &shared, script, turn, jobs)?;
     let mut callers = all_ended(alloc, ended)?;
@@ -102,28 +106,20 @@ pub fn run_threads_then_cycle<R: Threads + Wait + Sync, T: Turnstile + Sync>(
     run_named::<Brand, R, T>(rt, alloc, order, seat, script, turn)
 }
 
-// The lines of a script with the line of a cycle behind them.
-fn with_cycle(alloc: Global, script: &[(Thread, Act)]) -> Result<Vec<(Thread, Act)>, AllocError>
-    ensures { IfOk result (λ v. v.items ≡ script.now ++ cycle_line ∷ []) }
-{
-    let mut lines = script.to_vec(alloc)?;
-    lines.push((Thread::C, CYCLE))?;
-    Ok(lines)
-}
-
-/// Runs the lines of a script one after another, as `run_serial` does, and then a whole cycle, on a line of its own. All lines of the driver are
-/// whole cycles too. Answers the finished history, or `AllocError` where there is no memory.
+/// Runs the lines of a script one after another, as `run_serial` does, and then a whole cycle, on a line of its own, which is put behind them. All lines
+/// of the driver are whole cycles too. Answers the finished history, or `AllocError` where there is no memory.
 pub fn run_serial_then_cycle(
     rt: &impl Wait,
     alloc: Global,
-    script: &[(Thread, Act)],
+    script: Vec<(Thread, Act)>,
 ) -> Result<History, AllocError>
-    requires lines { CanRun script.now }
-    requires cycles { DrivesCycles script.now }
-    requires room { length script.now < 65535 }
-    ensures in_order { IfOk result (IsRunInOrder (script.now ++ cycle_line ∷ [])) }
-    ensures history { IfOk result (IsRunThenCycle script.now) }
+    requires lines { CanRun script.items }
+    requires cycles { DrivesCycles script.items }
+    requires room { length script.items < 65535 }
+    ensures in_order { IfOk result (IsRunInOrder (script.items ++ cycle_line ∷ [])) }
+    ensures history { IfOk result (IsRunThenCycle script.items) }
 {
-    let lines = with_cycle(alloc, script)?;
+    let mut lines = script;
+    lines.push((Thread::C, CYCLE))?;
     run_serial(rt, alloc, &lines)
 }

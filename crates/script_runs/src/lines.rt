@@ -10,7 +10,7 @@ ghost use Rattle.bridge_cycle.specs.Progress.{line_of};
 ghost use Rattle.script_runs.specs.Running.{DrivesLeft, DrivesLine, MakesLine};
 
 use bridge_cycle::Driver;
-use joint_history::{Caller, Shared};
+use joint_history::{Caller, Keeps, Shared};
 use joint_model::{Act, Thread};
 use order_table::OrderName;
 use std::alloc::{AllocError, Global};
@@ -19,9 +19,9 @@ use std::sync::Wait;
 /// Runs a line of a thread that isn't the driver's: the caller makes the line's entries. Answers `AllocError` where there is no memory; the
 /// caller may have made the first of them then.
 #[inline(always)]
-pub(crate) fn run_line<N: OrderName>(
+pub(crate) fn run_line<N: OrderName, K: Keeps<N>>(
     rt: &impl Wait,
-    shared: &Shared<N>,
+    shared: &Shared<N, K>,
     caller: &mut Caller<N>,
     index: u16,
     act: &Act,
@@ -41,10 +41,10 @@ pub(crate) fn run_line<N: OrderName>(
 }
 
 /// Runs a line of the driver: it makes the line's entries, and stands where they lead. Answers `AllocError` where there is no memory.
-pub(crate) fn drive_line<N: OrderName>(
+pub(crate) fn drive_line<N: OrderName, K: Keeps<N>>(
     rt: &impl Wait,
     alloc: Global,
-    shared: &Shared<N>,
+    shared: &Shared<N, K>,
     driver: &mut Driver<N>,
     index: u16,
     act: &Act,
@@ -59,10 +59,10 @@ pub(crate) fn drive_line<N: OrderName>(
 }
 
 /// Makes the phases that are left of an open cycle, on the driver's last line; it is idle then. Answers `AllocError` where there is no memory.
-pub(crate) fn drive_left<N: OrderName>(
+pub(crate) fn drive_left<N: OrderName, K: Keeps<N>>(
     rt: &impl Wait,
     alloc: Global,
-    shared: &Shared<N>,
+    shared: &Shared<N, K>,
     driver: &mut Driver<N>,
     last: u16,
 ) -> Result<(), AllocError>

@@ -13,7 +13,7 @@ use crate::lines::{drive_left, drive_line, run_line};
 use crate::places::{is_thread, thread_at};
 use bridge_cycle::Driver;
 use bridge_script::Turnstile;
-use joint_history::{Caller, Desk, Shared};
+use joint_history::{Caller, Desk, Locks, Shared};
 use joint_model::{Act, Thread};
 use order_table::OrderName;
 use std::alloc::{AllocError, Global};
@@ -64,7 +64,7 @@ pub(crate) fn workers<N: OrderName>(
 /// Runs the lines of a thread that isn't the driver's, in their order, each after its turn. Answers `AllocError` where there is no memory.
 pub(crate) fn run_own<N: OrderName, T: Turnstile>(
     rt: &impl Wait,
-    shared: &Shared<N>,
+    shared: &Shared<N, Locks>,
     script: &[(Thread, Act)],
     turn: &T,
     caller: Caller<N>,
@@ -92,7 +92,7 @@ pub(crate) fn run_own<N: OrderName, T: Turnstile>(
 pub(crate) fn run_driver<N: OrderName, T: Turnstile>(
     rt: &impl Wait,
     alloc: Global,
-    shared: &Shared<N>,
+    shared: &Shared<N, Locks>,
     script: &[(Thread, Act)],
     turn: &T,
     caller: Caller<N>,
@@ -126,7 +126,7 @@ pub(crate) fn run_driver<N: OrderName, T: Turnstile>(
 pub(crate) fn run_thread<N: OrderName, T: Turnstile>(
     rt: &impl Wait,
     alloc: Global,
-    shared: &Shared<N>,
+    shared: &Shared<N, Locks>,
     script: &[(Thread, Act)],
     turn: &T,
     caller: Caller<N>,

@@ -5,9 +5,12 @@ use Rattle.joint_model.proofs.Deciding.{true_false}
 use Rattle.joint_history.proofs.Running.{on_err}
 use Rattle.bridge_cycle.specs.Progress.{Progress}
 use Rattle.bridge_cycle.specs.Words.{next_word}
-use Rattle.bridge_cycle.proofs.Composed.{partway_lacks, partway_more}
+use Rattle.bridge_cycle.proofs.Composed.{partway_lacks, partway_more, partway_none}
 use Rattle.bridge_cycle.proofs.Making.{phase_seen}
 use Rattle.bridge_cycle.proofs.driver.Driver.run_to_restored.Goals as goal
+
+pub phases-init : goal.phases-init
+phases-init g c = (partway_none c.args.self.now c.args.index c.requires.busy, c.requires.index)
 
 pub phases-preserved : goal.phases-preserved
 phases-preserved g c =

@@ -1,0 +1,102 @@
+// How a side is kept, so that one caller at a time has it in hand.
+
+use crate::managed::LockedManaged;
+use crate::peer::LockedPeer;
+use order_table::OrderName;
+use std::cell::{RefCell, RefMut};
+use std::sync::{Mutex, MutexGuard, Wait};
+
+/// Keeps a value, which one caller at a time has in hand.
+pub trait Keep<T>: Drop {
+    /// Keeps that value.
+    fn of(value: T) -> Self;
+
+    /// Gives the value back.
+    fn into_value(self) -> T;
+
+    /// The value in hand, until what is answered is dropped. It waits while somebody else has it.
+    fn hold<'a, R: Wait>(&'a self, rt: &R) -> Held<'a, T>;
+}
+
+/// A value in hand.
+#[derive(Drop)]
+pub enum Held<'a, T> {
+    Locked(MutexGuard<'a, T>),
+    Borrowed(RefMut<'a, T>),
+}
+
+impl<'a, T> Held<'a, T> {
+    /// The value.
+    #[inline(always)]
+    pub(crate) fn value(&mut self) -> &mut T {
+        match self {
+            Held::Locked(guard) => &mut **guard,
+            Held::Borrowed(inside) => &mut **inside,
+        }
+    }
+}
+
+impl<T: Drop> Keep<T> for Mutex<T> {
+    fn of(value: T) -> Mutex<T> {
+        Mutex::new(value)
+    }
+
+    fn into_value(self) -> T {
+        self.into_inner()
+    }
+
+    // A free lock is taken right here, and only one that is held is waited for by a call.
+    #[inline(always)]
+    fn hold<'a, R: Wait>(&'a self, rt: &R) -> Held<'a, T> {
+        match self.try_lock() {
+            Some(guard) => Held::Locked(guard),
+            None => Held::Locked(self.lock(rt)),
+        }
+    }
+}
+
+impl<T: Drop> Keep<T> for RefCell<T> {
+    fn of(value: T) -> RefCell<T> {
+        RefCell::new(value)
+    }
+
+    fn into_value(self) -> T {
+        self.into_inner()
+    }
+
+    // A thread that has the cell alone, and the value not in hand, finds it free at once.
+    #[inline(always)]
+    fn hold<'a, R: Wait>(&'a self, rt: &R) -> Held<'a, T> {
+        for _ in rt.forever() {
+            if let Ok(inside) = self.try_borrow_mut() {
+                return Held::Borrowed(inside);
+            }
+        }
+        unreachable!()
+    }
+}
+
+/// How both sides of a run are kept.
+pub trait Keeps<N: OrderName> {
+    type Managed: Keep<LockedManaged<N>>;
+
+    type Peers: Keep<LockedPeer<N>>;
+}
+
+/// Behind locks, for threads that share the sides.
+pub struct Locks;
+
+impl<N: OrderName> Keeps<N> for Locks {
+    type Managed = Mutex<LockedManaged<N>>;
+
+    type Peers = Mutex<LockedPeer<N>>;
+}
+
+/// In cells, for one thread that has the sides alone: it pays for no lock.
+pub struct Cells;
+
+impl<N: OrderName> Keeps<N> for Cells {
+    type Managed = RefCell<LockedManaged<N>>;
+
+    type Peers = RefCell<LockedPeer<N>>;
+}
