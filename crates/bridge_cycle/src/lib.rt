@@ -3,8 +3,8 @@
 // A cycle has eight phases. The driver takes a snapshot of the managed heap, which opens the cycle and lists the dead bridge objects (`snap`); finds the
 // components of the dead part (`contract`); adds the references that the components stand for between the peers (`mirror`); weakens the handles of the dead
 // bridge objects (`weaken`); lets the peer heap mark (`mark`) and free what nothing reaches (`sweep`); restores the handles, which tells who is alive
-// (`restore`); and frees the dead part but for what an object that is alive leads to (`resolve`). Both heaps run on meanwhile: each phase takes one lock for
-// a moment, `weaken` and `restore` once for each handle, and `contract` none while it computes.
+// (`restore`); and frees the dead part but for what an object that is alive leads to (`resolve`). Both heaps run on meanwhile: each phase takes one heap,
+// by its lock or its cell, for a moment, `weaken` and `restore` once for each handle, and `contract` none while it computes.
 //
 // The life of a driver:
 //

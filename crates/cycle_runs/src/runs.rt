@@ -8,7 +8,7 @@ ghost use Rattle.joint_history.specs.Callers.{KnowsNothing};
 ghost use Rattle.bridge_cycle.specs.Progress.{line_of};
 
 use bridge_cycle::{Driver, DriverFault};
-use joint_history::{Caller, Cells, Shared};
+use joint_history::{Alone, Caller, Shared};
 use joint_model::Reply::{
     self, At, CycleOpen, Freed, Gone, M, Mark, Pending, Refs, Sccs, Snapped, Swept, Took,
 };
@@ -87,7 +87,7 @@ impl CycleCall {
 // A shared bridge with a managed thread and the driver, both on the first line.
 #[derive(Drop)]
 struct DrivenBridge<N: OrderName> {
-    shared: Shared<N, Cells>,
+    shared: Shared<N, Alone>,
     one: Caller<N>,
     driver: Driver<N>,
 }
@@ -110,7 +110,7 @@ impl<N: OrderName> Model for DrivenBridge<N> {
 fn run<N: OrderName>(
     rt: &impl Wait,
     alloc: Global,
-    shared: &Shared<N, Cells>,
+    shared: &Shared<N, Alone>,
     driver: &mut Driver<N>,
     word: PhaseWord,
 ) -> Result<(), DriverFault>
@@ -218,7 +218,7 @@ fn start<N: OrderName>(
     requires run { (N.managed ≡ 1) × (N.peers ≡ 1) }
     requires seat { (seat.order ≡ N.order) × OwnsAll seat.view × KnowsNothing seat.view }
 {
-    let (shared, mut desk) = Shared::<N, Cells>::new(alloc, order, seat, 1, 1)?;
+    let (shared, mut desk) = Shared::<N, Alone>::new(alloc, order, seat, 1, 1)?;
     let Some(one) = desk.caller(Thread::M(1)) else {
         return Ok(None);
     };

@@ -8,7 +8,7 @@ ghost use Rattle.order_table.specs.Views.{OwnsAll};
 ghost use Rattle.joint_history.specs.Callers.{KnowsNothing, last_index, own};
 
 use crate::runs::managed;
-use joint_history::{Caller, Cells, Shared};
+use joint_history::{Alone, Caller, Shared};
 use joint_model::{Act, Entry, History, Kind, Op, Reply, Sort, StaticNo, Thread, Var};
 use order_table::{Order, OrderName, Seat};
 use std::alloc::{AllocError, Global};
@@ -38,7 +38,7 @@ fn act_at(line: u16) -> Act
 }
 
 // How many of the operations of m1 find no memory.
-fn try_all<N: OrderName>(rt: &impl Wait, shared: &Shared<N, Cells>, one: &mut Caller<N>) -> u32
+fn try_all<N: OrderName>(rt: &impl Wait, shared: &Shared<N, Alone>, one: &mut Caller<N>) -> u32
     requires thread { one.old.thread ≡ M 1 }
     requires index { last_index (own one.old) ≤ 0 }
     ensures thread { one.new.thread ≡ M 1 }
@@ -64,7 +64,7 @@ fn run<N: OrderName>(
     requires run { (N.managed ≡ 1) × (N.peers ≡ 0) }
     requires seat { (seat.order ≡ N.order) × OwnsAll seat.view × KnowsNothing seat.view }
 {
-    let (shared, mut desk) = Shared::<N, Cells>::new(alloc, order, seat, 1, 0)?;
+    let (shared, mut desk) = Shared::<N, Alone>::new(alloc, order, seat, 1, 0)?;
     let Some(mut one) = desk.caller(Thread::M(1)) else {
         return Ok(None);
     };

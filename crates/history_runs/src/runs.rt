@@ -7,7 +7,7 @@ ghost use Rattle.order_table.specs.Views.{OwnsAll};
 ghost use Rattle.peer_side.specs.Steps.{IsStepLine};
 ghost use Rattle.joint_history.specs.Callers.{KnowsNothing, last_index, own};
 
-use joint_history::{Caller, Cells, Shared};
+use joint_history::{Alone, Caller, Shared};
 use joint_model::{
     Act, Cell, GName, HNum, History, Kind, MNum, PNum, Reply, Sort, StaticNo, Thread, Var,
 };
@@ -20,7 +20,7 @@ use std::test::Fail;
 /// What m1 does, a line after that of its last entry.
 pub(crate) fn managed<N: OrderName>(
     rt: &impl Wait,
-    shared: &Shared<N, Cells>,
+    shared: &Shared<N, Alone>,
     caller: &mut Caller<N>,
     index: u16,
     act: &Act,
@@ -37,7 +37,7 @@ pub(crate) fn managed<N: OrderName>(
 // What p1 does.
 fn peer<N: OrderName>(
     rt: &impl Wait,
-    shared: &Shared<N, Cells>,
+    shared: &Shared<N, Alone>,
     caller: &mut Caller<N>,
     index: u16,
     act: &Act,
@@ -55,7 +55,7 @@ fn peer<N: OrderName>(
 fn in_turn<N: OrderName>(
     rt: &impl Wait,
     alloc: Global,
-    shared: &Shared<N, Cells>,
+    shared: &Shared<N, Alone>,
     one: &mut Caller<N>,
     two: &mut Caller<N>,
 ) -> Result<Vec<Reply>, AllocError>
@@ -97,7 +97,7 @@ fn in_turn<N: OrderName>(
 // An object's peer goes to the peer heap, where p1 loads it; m1 meets its own object there, and the handle of the meeting is released.
 fn across<N: OrderName>(
     rt: &impl Wait,
-    shared: &Shared<N, Cells>,
+    shared: &Shared<N, Alone>,
     one: &mut Caller<N>,
     two: &mut Caller<N>,
     replies: &mut Vec<Reply>,
@@ -126,7 +126,7 @@ fn across<N: OrderName>(
 // m1 disposes of the object, which has no peer then, and meets its peer anew, as another object; p1 empties the static.
 fn given_up<N: OrderName>(
     rt: &impl Wait,
-    shared: &Shared<N, Cells>,
+    shared: &Shared<N, Alone>,
     one: &mut Caller<N>,
     two: &mut Caller<N>,
     replies: &mut Vec<Reply>,
@@ -151,7 +151,7 @@ fn given_up<N: OrderName>(
 // The other lines of p1.
 fn lines_of_p1<N: OrderName>(
     rt: &impl Wait,
-    shared: &Shared<N, Cells>,
+    shared: &Shared<N, Alone>,
     two: &mut Caller<N>,
     replies: &mut Vec<Reply>,
 ) -> Result<(), AllocError>
@@ -181,7 +181,7 @@ fn lines_of_p1<N: OrderName>(
 // The other lines of m1.
 fn lines_of_m1<N: OrderName>(
     rt: &impl Wait,
-    shared: &Shared<N, Cells>,
+    shared: &Shared<N, Alone>,
     one: &mut Caller<N>,
     replies: &mut Vec<Reply>,
 ) -> Result<(), AllocError>
@@ -233,7 +233,7 @@ fn run<N: OrderName>(
     requires run { (N.managed ≡ 1) × (N.peers ≡ 1) }
     requires seat { (seat.order ≡ N.order) × OwnsAll seat.view × KnowsNothing seat.view }
 {
-    let (shared, mut desk) = Shared::<N, Cells>::new(alloc, order, seat, 1, 1)?;
+    let (shared, mut desk) = Shared::<N, Alone>::new(alloc, order, seat, 1, 1)?;
     let Some(mut one) = desk.caller(Thread::M(1)) else {
         return Ok(None);
     };

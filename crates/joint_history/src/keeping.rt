@@ -93,9 +93,9 @@ impl<N: OrderName> Keeps<N> for Locks {
 }
 
 /// In cells, for one thread that has the sides alone: it pays for no lock.
-pub struct Cells;
+pub struct Alone;
 
-impl<N: OrderName> Keeps<N> for Cells {
+impl<N: OrderName> Keeps<N> for Alone {
     type Managed = RefCell<LockedManaged<N>>;
 
     type Peers = RefCell<LockedPeer<N>>;

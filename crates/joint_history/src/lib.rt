@@ -15,7 +15,7 @@
 // the numbers of the first and the last entry.
 //
 // How the sides are kept is a parameter: behind two locks where threads share them (`Locks`), or in two cells where one thread has them alone and so pays
-// for no lock (`Cells`). What is promised is the same.
+// for no lock (`Alone`). What is promised is the same.
 //
 // Who runs meanwhile: anybody who has a caller. Each event is made in one hold of its own side, no call holds both, and between two events of an
 // operation others may come.
@@ -54,7 +54,7 @@ mod snaps;
 
 pub use callers::{Caller, Receipt};
 pub use desks::Desk;
-pub use keeping::{Cells, Keeps, Locks};
+pub use keeping::{Alone, Keeps, Locks};
 pub use laws::views_are_pasts;
 pub use managed::LockedManaged;
 pub use marks::Begun;

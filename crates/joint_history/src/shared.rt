@@ -24,7 +24,7 @@ use peer_side::PeerLists;
 use std::alloc::{AllocError, Global};
 
 /// Both sides, each with the seat that owns its role, and the order of all entries. No call has both sides in hand. `K` is how they are kept:
-/// [`Locks`](crate::Locks) where threads share them, [`Cells`](crate::Cells) where one thread has them alone.
+/// [`Locks`](crate::Locks) where threads share them, [`Alone`](crate::Alone) where one thread has them alone.
 #[derive(Drop)]
 pub struct Shared<N: OrderName, K: Keeps<N>> {
     pub(crate) alloc: Global,

@@ -3,7 +3,7 @@
 //     let history = run_serial(rt, alloc, &script)?;
 //     let history = run_threads(rt, alloc, &script, &FreeTurn)?;
 //
-// A run makes an order, both heaps behind their locks, and the desk with a caller for each thread; it runs each line by its thread's caller, the
+// A run makes an order, both heaps (behind their locks where there are threads), and the desk with a caller for each thread; it runs each line by its thread's caller, the
 // lines of `c` by the driver, makes the phases that the driver's lines have left, gives all callers back, and answers the finished history.
 //
 // - `run_serial` runs the lines one after another. The driver is told of each line's entries, and tells the next line's caller all that it knows, so that

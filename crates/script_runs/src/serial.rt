@@ -13,7 +13,7 @@ ghost use Rattle.script_runs.specs.Running.{AreUpTo, CanRun, HasCome, HasComeThr
 use crate::lines::{drive_left, drive_line, run_line};
 use crate::places::{is_thread, place_among, thread_at};
 use bridge_cycle::Driver;
-use joint_history::{Caller, Cells, Desk, Shared};
+use joint_history::{Alone, Caller, Desk, Shared};
 use joint_model::{Act, History, Thread};
 use order_table::{Order, OrderName, Seat};
 use std::alloc::{AllocError, Global};
@@ -24,7 +24,7 @@ use std::sync::Wait;
 #[inline(always)]
 fn run_told<N: OrderName>(
     rt: &impl Wait,
-    shared: &Shared<N, Cells>,
+    shared: &Shared<N, Alone>,
     driver: &mut Driver<N>,
     caller: &mut Caller<N>,
     index: u16,
@@ -64,7 +64,7 @@ fn all_others<N: OrderName>(alloc: Global, desk: &mut Desk<N>) -> Result<Vec<Cal
 fn run_next<N: OrderName>(
     rt: &impl Wait,
     alloc: Global,
-    shared: &Shared<N, Cells>,
+    shared: &Shared<N, Alone>,
     driver: &mut Driver<N>,
     others: &mut Vec<Caller<N>>,
     last: u16,
@@ -101,7 +101,7 @@ fn run_next<N: OrderName>(
 fn run_all<N: OrderName>(
     rt: &impl Wait,
     alloc: Global,
-    shared: &Shared<N, Cells>,
+    shared: &Shared<N, Alone>,
     driver: &mut Driver<N>,
     others: &mut Vec<Caller<N>>,
     script: &[(Thread, Act)],
@@ -136,7 +136,7 @@ fn run_named<N: OrderName>(
     requires lines { CanRun script.now }
     ensures { IfOk result (IsRunInOrder script.now) }
 {
-    let (shared, mut desk) = Shared::<N, Cells>::new(alloc, order, seat, 8, 8)?;
+    let (shared, mut desk) = Shared::<N, Alone>::new(alloc, order, seat, 8, 8)?;
     let Some(caller) = desk.caller(Thread::C) else {
         unreachable!()
     };
