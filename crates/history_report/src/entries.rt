@@ -79,6 +79,7 @@ fn add_meet(line: &mut Line, v: Var, p: PNum, h: HNum, sort: Sort, fields: u8)
 }
 
 /// The words of an event; an operation that is one event has its line's words behind the thread.
+#[inline(always)]
 pub fn add_event(line: &mut Line, thread: Thread, op: &Op)
     requires { 100 ≤ line.old.room }
     ensures { AddsWords line.old line.new (event_words thread op.now) 100 }
@@ -173,6 +174,7 @@ fn add_sccs(line: &mut Line, sccs: u32, xrefs: u32)
 }
 
 /// The words of a reply before its list, which are all where it has none.
+#[inline(always)]
 pub fn add_reply(line: &mut Line, reply: &Reply)
     requires { 100 ≤ line.old.room }
     ensures { AddsWords line.old line.new (reply_words reply.now) 100 }
@@ -269,6 +271,7 @@ pub fn add_head(line: &mut Line, entry: &Entry, counts: &mut Counts)
 }
 
 // Who made an entry, and on which line of the script.
+#[inline(always)]
 fn add_place(line: &mut Line, thread: Thread, index: u16, count: &mut Count)
     requires { 60 ≤ line.old.room }
     ensures { AddsWords line.old line.new (place_text thread index ∷ []) 50 }

@@ -5,13 +5,14 @@ ghost use Rattle.joint_model.specs.Histories.{stretch};
 ghost use Rattle.byte_streams.specs.Streams.{Writes};
 ghost use Rattle.byte_streams.specs.Sending.{Sends};
 ghost use Rattle.byte_streams.specs.Drafts.{after_spaces};
+ghost use Rattle.joint_model.specs.Leaders.{entry_of};
 ghost use Rattle.history_report.specs.Lists.{lettered, list_words, numbers_of, letter_of};
 ghost use Rattle.history_report.specs.Report.{entry_text, entries_text, end_text, tail_text, report};
 
 use crate::entries::{Counts, add_head, add_tail, list_of};
 use crate::lists::Numbers;
 use byte_streams::{Failed, Line, Sink};
-use joint_model::{Entry, History, Span};
+use joint_model::{Entry, History, Span, Step};
 
 // Writes the numbers that a span names, each with a space and its letter before it.
 fn write_numbers<K: Sink>(
@@ -107,14 +108,31 @@ pub fn write_entry<K: Sink>(
     }
 }
 
+// Writes the line of an entry that was put together.
+#[inline(never)]
+fn write_spelled<K: Sink>(
+    h: &History,
+    entry: &Entry,
+    counts: &mut Counts,
+    line: &mut Line,
+    out: &mut K,
+) -> Result<(), Failed>
+    ensures { Sends (K.held out.old) (K.held out.new) line.old.text line.new.text (K.faults out.old) (K.faults out.new) result (entry_text h.now entry.now) }
+{
+    write_entry(h, entry, counts, line, out)
+}
+
 // Writes the lines of all entries, in rising number.
 fn write_entries<K: Sink>(h: &History, line: &mut Line, out: &mut K) -> Result<(), Failed>
     ensures { Sends (K.held out.old) (K.held out.new) line.old.text line.new.text (K.faults out.old) (K.faults out.new) result (entries_text h.now h.now.entries) }
 {
     let mut counts = Counts::new();
     let mut walk = h.walk();
-    while let Some(entry) = walk.next() {
-        write_entry(h, entry, &mut counts, line, out)?;
+    while let Some(step) = walk.next() {
+        match step {
+            Step::Kept(entry) => write_entry(h, entry, &mut counts, line, out)?,
+            Step::Spelled(entry) => write_spelled(h, &entry, &mut counts, line, out)?,
+        }
     }
     Ok(())
 }

@@ -6,6 +6,9 @@ pub mod HeapLemmas
 pub mod DrawnInTurn
 pub mod Joining
 pub mod Merging
+mod Spelling
+mod Searching
+mod Walking
 pub mod WalkLemmas
 pub mod HistoryLists
 pub mod Gathering

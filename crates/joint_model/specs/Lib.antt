@@ -5,6 +5,7 @@ pub mod Lines
 pub mod Draws
 pub mod Histories
 pub mod Merged
+pub mod Leaders
 pub mod Heaps
 pub mod Managed
 pub mod Peers

@@ -15,6 +15,8 @@
 mod draws;
 mod events;
 mod finished;
+mod joins;
+mod leaders;
 mod lines;
 mod lists;
 mod names;
@@ -23,10 +25,11 @@ mod sides;
 pub use draws::{Counter, Draw, counted_in_turn, drawn_in_turn};
 pub use events::{Entry, Made, Op, Reply};
 pub use finished::{History, Walk};
+pub use leaders::Step;
 pub use lines::Act;
 pub use lists::{Alive, Entries, list_with_room};
 pub use names::{
     CELLS, Cell, Cycle, GName, HNum, Kind, MNum, Marking, NAMES, PINS, PNum, Phase, PhaseWord,
     STATICS, Sort, Span, StaticNo, Thread, VARS, Var,
 };
-pub use sides::{enter, replays_go_on};
+pub use sides::{enter, enter_handle, replays_go_on};

@@ -1,45 +1,50 @@
 // Lists with room that is known: the entries of one side or one reader, and the answers of a cycle's
 // candidates.
 
-ghost use Rattle.std.specs.Prelude.{◌≡◌, ◌+◌, ◌≤◌, ◌<◌, ◌-◌, ◌==◌, [], ◌∷◌, ◌++◌, length, slice_get, vec_len, vec_capacity, IfOk, OnErr, OnOk};
+ghost use Rattle.std.specs.Prelude.{◌≡◌, ◌≢◌, All, Contains, MatchOption, ◌+◌, ◌≤◌, ◌<◌, ◌-◌, ◌==◌, [], ◌∷◌, ◌++◌, length, slice_get, vec_len, vec_capacity, IfOk, OnErr, OnOk};
+ghost use Rattle.joint_model.specs.Merged.{Ascends};
 
 use crate::events::Entry;
+use crate::leaders::{Leader, Rest, entry_at, entry_with, put_follower};
+use crate::names::HNum;
 use std::alloc::{AllocError, Global};
 use std::marker::Model;
 
 // The most entries that an [`Entries`] holds.
 const MOST: usize = 4_294_967_295;
 
-// For how many entries room is made at least, where there is memory for them: 32 MiB. Room that nothing is put into takes no memory, and
+// For how many entries room is made at least, where there is memory for them: 28 MiB. Room that nothing is put into takes no memory, and
 // so large a piece lies outside of the allocator's heap: where it grows, its pages are moved and no entry is copied.
 const BLOCK: usize = 524_288;
 
 /// The entries of one side or one reader, in the order in which they were made. It holds at most
-/// 4,294,967,295; a growth past that is refused as a growth.
+/// 4,294,967,295; a growth past that is refused as a growth. An entry takes at most 64 bytes, or four: see
+/// [`Entries::push_handle`].
 #[derive(Drop)]
 pub struct Entries {
-    list: Vec<Entry>,
+    leaders: Vec<Leader>,
+    followers: Vec<HNum>,
+    spare: u32,
 }
 
 impl Model for Entries {
-    ghost use Rattle.std.specs.Prelude.{◌-◌, ◌≤◌, vec_len, vec_capacity, min};
+    ghost use Rattle.std.specs.Prelude.{◌+◌, ◌≤◌, vec_len, vec_capacity};
+    ghost use Rattle.joint_model.specs.Leaders.{spelled, AreFollowed, Starts};
     ghost use Rattle.joint_model.specs.Listed.{Stock};
 
     ghost Value = { Stock };
 
-    ghost view = { λ s. record { entries = s.list.items; spare = min (vec_capacity s.list) 4294967295 - vec_len s.list } };
+    ghost view = { λ s. record { entries = spelled s.leaders.items s.followers.items; spare = s.spare } };
 
-    ghost invariant = { λ s. vec_len s.list ≤ 4294967295 };
+    ghost invariant = { λ s. AreFollowed s.leaders.items s.followers.items × Starts 0 s.leaders.items × (vec_len s.leaders + vec_len s.followers + s.spare ≤ 4294967295) × (vec_len s.leaders + s.spare ≤ vec_capacity s.leaders) × (vec_len s.followers + s.spare ≤ vec_capacity s.followers) };
 }
 
-// Makes room for at least `n` more entries, and for a whole block of them where there is memory for it. Answers `AllocError` where there is
+// Makes room for at least `n` more items, and for a whole block of them where there is memory for it. Answers `AllocError` where there is
 // no memory for `n`.
-#[inline(never)]
-fn make_room(list: &mut Vec<Entry>, n: usize) -> Result<(), AllocError>
+fn make_room<T>(list: &mut Vec<T>, n: usize) -> Result<(), AllocError>
     ensures room { OnOk result (vec_len list.new + n ≤ vec_capacity list.new) }
     ensures kept { vec_capacity list.old ≤ vec_capacity list.new }
     ensures items { list.new.items ≡ list.old.items }
-    ensures err { OnErr result (vec_capacity list.new ≡ vec_capacity list.old) }
 {
     if list.reserve(n.max(BLOCK)).is_ok() {
         return Ok(());
@@ -64,14 +69,16 @@ impl Entries {
         ensures spare { result.spare ≤ 4294967295 }
     {
         Entries {
-            list: Vec::new(alloc),
+            leaders: Vec::new(alloc),
+            followers: Vec::new(alloc),
+            spare: 0,
         }
     }
 
-    /// Makes room: afterwards `spare` is at least `n`, and never less than it was. It is made for many entries at once, so most calls
-    /// find it there. Answers `AllocError` where there is no memory for `n` entries, or where the list would hold more than
-    /// 4,294,967,295 entries; the list is then as before.
-    pub fn reserve(&mut self, n: u32) -> Result<(), AllocError>
+    // Makes room as `reserve` does, where there isn't enough yet.
+    #[tactic(auto, using(crate::proofs::Spelling::spelled_length))]
+    #[inline(never)]
+    fn grow(&mut self, n: u32) -> Result<(), AllocError>
         ensures room { IfOk result (λ _. n ≤ self.new.spare) }
         ensures kept { self.old.spare ≤ self.new.spare }
         ensures entries { self.new.entries ≡ self.old.entries }
@@ -79,59 +86,106 @@ impl Entries {
         ensures err { OnErr result (self.new ≡ self.old) }
     {
         let n = n as usize;
-        if n > MOST - self.list.len() {
+        let most = MOST - (self.leaders.len() + self.followers.len());
+        if n > most {
             return Err(AllocError);
         }
-        if n <= self.list.capacity() - self.list.len() {
+        make_room(&mut self.leaders, n)?;
+        make_room(&mut self.followers, n)?;
+        let room = self.leaders.capacity() - self.leaders.len();
+        let room_of_followers = self.followers.capacity() - self.followers.len();
+        self.spare = room.min(room_of_followers).min(most) as u32;
+        Ok(())
+    }
+
+    /// Makes room: afterwards `spare` is at least `n`, and never less than it was. It is made for many entries at once, so most calls
+    /// find it there. Answers `AllocError` where there is no memory for `n` entries, or where the list would hold more than
+    /// 4,294,967,295 entries; the list is then as before.
+    #[tactic(auto, using(crate::proofs::Spelling::spelled_length))]
+    pub fn reserve(&mut self, n: u32) -> Result<(), AllocError>
+        ensures room { IfOk result (λ _. n ≤ self.new.spare) }
+        ensures kept { self.old.spare ≤ self.new.spare }
+        ensures entries { self.new.entries ≡ self.old.entries }
+        ensures limit { length self.new.entries + self.new.spare ≤ 4294967295 }
+        ensures err { OnErr result (self.new ≡ self.old) }
+    {
+        if n <= self.spare {
             return Ok(());
         }
-        make_room(&mut self.list, n)
+        self.grow(n)
     }
 
     /// Puts an entry last. It takes no memory.
+    #[inline(always)]
     pub fn push(&mut self, entry: Entry)
         requires { 1 ≤ self.old.spare }
         ensures entries { self.new.entries ≡ self.old.entries ++ entry ∷ [] }
         ensures spare { self.new.spare + 1 ≡ self.old.spare }
     {
-        self.list.push_reserved(entry);
+        let leader = Leader::new(entry, self.followers.len());
+        self.leaders.push_reserved(leader);
+        self.spare -= 1;
+    }
+
+    /// Puts an entry last as `push` does. Where it differs from the one before it by its number, one higher, and the handle that it weakens or
+    /// restores, it takes four bytes.
+    #[inline(always)]
+    pub fn push_handle(&mut self, entry: Entry)
+        requires { 1 ≤ self.old.spare }
+        ensures entries { self.new.entries ≡ self.old.entries ++ entry ∷ [] }
+        ensures spare { self.new.spare + 1 ≡ self.old.spare }
+    {
+        put_follower(&mut self.leaders, &mut self.followers, entry);
+        self.spare -= 1;
     }
 
     /// For how many more entries there is room.
+    #[tactic(auto, using(crate::proofs::Spelling::spelled_length))]
     pub fn spare(&self) -> u32
         ensures spare { result ≡ self.now.spare }
         ensures limit { length self.now.entries + result ≤ 4294967295 }
     {
-        (self.list.capacity().min(MOST) - self.list.len()) as u32
+        self.spare
     }
 
     /// The number of entries.
+    #[tactic(auto, using(crate::proofs::Spelling::spelled_length))]
     pub fn len(&self) -> u32
         ensures { result ≡ length self.now.entries }
     {
-        self.list.len() as u32
+        (self.leaders.len() + self.followers.len()) as u32
     }
 
     /// Whether there is no entry.
     pub fn is_empty(&self) -> bool
         ensures { result ≡ (length self.now.entries == 0) }
     {
-        self.list.is_empty()
+        self.len() == 0
     }
 
-    /// All entries, of which there are at most 4,294,967,295.
-    pub fn as_slice(&self) -> &[Entry]
-        ensures entries { result.now ≡ self.now.entries }
-        ensures limit { length result.now ≤ 4294967295 }
-    {
-        self.list.as_slice()
-    }
-
-    /// The entry at place `i`, from 0; None exactly where `i` isn't below the length.
+    /// The entry at place `i`, from 0; None exactly where `i` isn't below the length. It is looked for from the end on: one of the last is
+    /// found at once.
     pub fn at(&self, i: u32) -> Option<Entry>
         ensures { result ≡ slice_get self.now.entries i }
     {
-        self.list.as_slice().get(i as usize).copied()
+        entry_at(self.leaders.as_slice(), self.followers.as_slice(), i)
+    }
+
+    // The entry with the number, where the numbers rise; None where none has it.
+    pub(crate) fn with_number(&self, number: u64) -> Option<Entry>
+        requires { Ascends self.now.entries }
+        ensures { MatchOption result (All (λ e. e.number ≢ number) self.now.entries) (λ e. Contains self.now.entries e × (e.number ≡ number)) }
+    {
+        entry_with(self.leaders.as_slice(), self.followers.as_slice(), number)
+    }
+
+    // All leaders, with their followers.
+    #[tactic(auto, using(crate::proofs::Spelling::spelled_length))]
+    pub(crate) fn rest(&self) -> Rest<'_>
+        ensures all { result ≡ self.now.entries }
+        ensures limit { length result ≤ 4294967295 }
+    {
+        Rest::new(self.leaders.as_slice(), self.followers.as_slice())
     }
 }
 

@@ -15,7 +15,7 @@ ghost use Rattle.peer_side.specs.Sides.{seen};
 
 use crate::side::{PeerSide, kept, take_room};
 use global_handles::Back;
-use joint_model::{Cycle, Draw, Entries, HNum, Made, Op, PNum, Reply, Thread, enter};
+use joint_model::{Cycle, Draw, Entries, HNum, Made, Op, PNum, Reply, Thread, enter_handle};
 use std::alloc::AllocError;
 
 impl PeerSide {
@@ -191,6 +191,7 @@ fn take_cycle(entries: &mut Entries, kept: u64, handles: u32) -> Result<(), Allo
 }
 
 // Draws and puts last an entry of the driver, and answers its number.
+#[inline(always)]
 fn note<D: Draw>(
     entries: &mut Entries,
     draw: &mut D,
@@ -214,5 +215,5 @@ fn note<D: Draw>(
         reply,
         cites,
     };
-    enter(entries, draw, made, None, &[])
+    enter_handle(entries, draw, made)
 }

@@ -1,9 +1,10 @@
 // What the entries of a history made, and what is left of it.
 
 ghost use Rattle.std.specs.Prelude.{◌≡◌, ◌-◌, ◌^◌};
+ghost use Rattle.joint_model.specs.Leaders.{entry_of};
 ghost use Rattle.run_summary.specs.Tallies.{opens_cycle, makes_managed, makes_peer, makes_handle, removes_handle, freed_managed as freed_managed_by, freed_peers as freed_peers_by, more, less, tallied, tally_of, nothing_yet, AreAtMost, IsUpTo};
 
-use joint_model::{Act, History, Made, Op, Reply};
+use joint_model::{Act, Entry, History, Made, Op, Reply, Step};
 
 /// So many managed objects, peers and handles.
 #[derive(Clone, Copy, PartialEq, Eq, Debug)]
@@ -139,19 +140,27 @@ impl Tally {
         }
     }
 
-    /// With a further entry.
-    pub(crate) fn with(self, entry: &Made) -> Tally
-        requires { IsUpTo (2 ^ 64 - 2) self }
-        ensures { result ≡ tallied self entry.now.op entry.now.reply }
+    /// Counts a further entry.
+    #[inline(always)]
+    pub(crate) fn count(&mut self, entry: &Made)
+        requires { IsUpTo (2 ^ 64 - 2) self.old }
+        ensures { self.new ≡ tallied self.old entry.now.op entry.now.reply }
     {
         let op = &entry.op;
         let reply = &entry.reply;
-        Tally {
-            cycles: self.cycles + opens_cycle(op) as u64,
-            made: self.made.more(op, reply),
-            left: self.left.more(op, reply).less(op, reply),
-        }
+        self.cycles += opens_cycle(op) as u64;
+        self.made = self.made.more(op, reply);
+        self.left = self.left.more(op, reply).less(op, reply);
     }
+}
+
+// Counts an entry that was put together.
+#[inline(never)]
+fn count_spelled(tally: &mut Tally, entry: &Entry)
+    requires { IsUpTo (2 ^ 64 - 2) tally.old }
+    ensures { tally.new ≡ tallied tally.old entry.now.made.op entry.now.made.reply }
+{
+    tally.count(&entry.made)
 }
 
 /// What the entries of a history made, and what is left of it at the end.
@@ -160,8 +169,11 @@ pub fn tally_of(h: &History) -> Tally
 {
     let mut tally = Tally::new();
     let mut walk = h.walk();
-    while let Some(entry) = walk.next() {
-        tally = tally.with(&entry.made);
+    while let Some(step) = walk.next() {
+        match step {
+            Step::Kept(entry) => tally.count(&entry.made),
+            Step::Spelled(entry) => count_spelled(&mut tally, &entry),
+        }
     }
     tally
 }

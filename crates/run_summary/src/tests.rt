@@ -91,7 +91,7 @@ fn a_tally_counts_what_is_made_and_what_is_left(rt: HostRuntime) {
             cites: None,
         };
         assert!(rt; has_room(&tally));
-        tally = tally.with(&made);
+        tally.count(&made);
     }
     let made = Objects {
         managed: 1,

@@ -1,6 +1,6 @@
 // The lists of entries and the history by their first calls.
 
-use joint_model::{Alive, Counter, Draw, Entries, Entry, History, Made, Op, Reply, Thread};
+use joint_model::{Alive, Counter, Draw, Entries, Entry, HNum, History, Made, Op, Reply, Thread};
 use std::test::Fail;
 
 const BEGUN: Made = Made {
@@ -46,6 +46,35 @@ fn drawn_entries_are_kept(rt: HostRuntime) -> Result<(), Fail> {
         })
     );
     assert!(rt; entries.at(2).is_none());
+    Ok(())
+}
+
+// An entry that weakens a handle, of which the snapshot was entry 0.
+fn weakened(number: u64, h: u32) -> Entry {
+    Entry {
+        number,
+        made: Made {
+            caller: Thread::C,
+            index: 7,
+            op: Op::Weaken { h: HNum(h) },
+            reply: Reply::Ok,
+            cites: Some(0),
+        },
+    }
+}
+
+#[test]
+fn entries_that_differ_by_their_handles_are_as_they_were_put(rt: HostRuntime) -> Result<(), Fail> {
+    let mut entries = Entries::new(rt.alloc());
+    for (number, h) in [(1, 4), (2, 9), (3, 5), (7, 6)] {
+        entries.reserve(1)?;
+        entries.push_handle(weakened(number, h));
+    }
+    assert_eq!(rt; entries.len(), 4);
+    assert_eq!(rt; entries.at(0), Some(weakened(1, 4)));
+    assert_eq!(rt; entries.at(2), Some(weakened(3, 5)));
+    assert_eq!(rt; entries.at(3), Some(weakened(7, 6)));
+    assert_eq!(rt; entries.at(4), None);
     Ok(())
 }
 

@@ -1,0 +1,256 @@
+// How a list keeps its entries: where one differs from the one before it by its number, one higher, and by the handle that it weakens or
+// restores, the handle alone is kept. A cycle over many candidates makes many such entries.
+
+ghost use Rattle.std.specs.Prelude.{◌≡◌, ◌≢◌, All, Contains, ◌+◌, ◌<◌, ◌≤◌, ◌^◌, ◌↔◌, List, [], ◌∷◌, ◌++◌, length, slice_get, vec_len, vec_capacity, IfSome, IsTrue, IsFalse, MatchOption};
+ghost use Rattle.joint_model.specs.Leaders.{follower_of, followers_of, spelled, AreFollowed, Starts};
+ghost use Rattle.joint_model.specs.Merged.{Ascends, GoesOnInOther, first_number, merged, IsNumbered};
+
+use crate::events::{Entry, Made, Op, Reply};
+use crate::names::{HNum, Thread};
+use std::marker::Model;
+
+/// An entry, and how many after it differ from it by their numbers and handles alone. The handles of those stand from place `from` on.
+#[derive(Clone, Copy, PartialEq, Eq, Debug)]
+pub(crate) struct Leader {
+    pub(crate) entry: Entry,
+    from: u32,
+    pub(crate) followers: u32,
+}
+
+const _: () = prove!(size_of::<Leader>() <= 64);
+
+// A leader for where there is none: nothing follows it.
+pub(crate) static NO_LEADER: Leader = Leader {
+    entry: Entry {
+        number: 0,
+        made: Made {
+            caller: Thread::C,
+            index: 0,
+            op: Op::Begin,
+            reply: Reply::Ok,
+            cites: None,
+        },
+    },
+    from: 0,
+    followers: 0,
+};
+
+impl Leader {
+    // The entry, with no follower yet. The handles of those will stand from place `from` on.
+    #[inline(always)]
+    pub(crate) fn new(entry: Entry, from: usize) -> Leader
+        requires { from ≤ 4294967295 }
+        ensures { result ≡ record { entry = entry; from = from; followers = 0 } }
+    {
+        Leader {
+            entry,
+            from: from as u32,
+            followers: 0,
+        }
+    }
+
+    // Its follower `i`, from 1, with that handle.
+    #[inline(always)]
+    pub(crate) fn follower(&self, i: u64, h: HNum) -> Entry
+        ensures { result ≡ follower_of self.now.entry i h }
+    {
+        let mut entry = self.entry;
+        entry.number = entry.number.wrapping_add(i);
+        entry.made.op = match entry.made.op {
+            Op::Weaken { .. } => Op::Weaken { h },
+            Op::Restore { .. } => Op::Restore { h },
+            op => op,
+        };
+        entry
+    }
+
+    // The handle of an entry that is its next follower; None where it isn't.
+    #[inline(always)]
+    fn next_handle(&self, entry: &Entry) -> Option<HNum>
+        ensures { IfSome result (λ h. (self.now.followers < 4294967295) × (entry.now ≡ follower_of self.now.entry (self.now.followers + 1) h)) }
+    {
+        let (made, own) = (&entry.made, &self.entry.made);
+        let h = match (&made.op, &made.reply, &own.op, &own.reply) {
+            (Op::Weaken { h }, Reply::Ok, Op::Weaken { .. }, Reply::Ok)
+            | (Op::Restore { h }, Reply::Alive, Op::Restore { .. }, Reply::Alive)
+            | (Op::Restore { h }, Reply::Cleared, Op::Restore { .. }, Reply::Cleared) => *h,
+            _ => return None,
+        };
+        let next = self.followers as u64 + 1;
+        if self.followers < u32::MAX
+            && entry.number == self.entry.number.wrapping_add(next)
+            && made.caller == own.caller
+            && made.index == own.index
+            && made.cites == own.cites
+        {
+            Some(h)
+        } else {
+            None
+        }
+    }
+}
+
+// Puts an entry last, as a follower of the last leader where it is that, else as a leader of its own. It takes no memory.
+#[inline(always)]
+pub(crate) fn put_follower(leaders: &mut Vec<Leader>, followers: &mut Vec<HNum>, entry: Entry)
+    requires followed { AreFollowed leaders.old.items followers.old.items }
+    requires starts { Starts 0 leaders.old.items }
+    requires limit { vec_len followers.old ≤ 4294967295 }
+    requires room { vec_len leaders.old < vec_capacity leaders.old }
+    requires room_of_followers { vec_len followers.old < vec_capacity followers.old }
+    ensures followed { AreFollowed leaders.new.items followers.new.items }
+    ensures starts { Starts 0 leaders.new.items }
+    ensures entries { spelled leaders.new.items followers.new.items ≡ spelled leaders.old.items followers.old.items ++ entry ∷ [] }
+    ensures len { vec_len leaders.new + vec_len followers.new ≡ vec_len leaders.old + vec_len followers.old + 1 }
+    ensures fits { (vec_len leaders.new ≤ vec_len leaders.old + 1) × (vec_len followers.new ≤ vec_len followers.old + 1) }
+    ensures capacity { (vec_capacity leaders.new ≡ vec_capacity leaders.old) × (vec_capacity followers.new ≡ vec_capacity followers.old) }
+{
+    let n = leaders.len();
+    if n > 0
+        && let Some(h) = leaders[n - 1].next_handle(&entry)
+    {
+        leaders[n - 1].followers += 1;
+        followers.push_reserved(h);
+        return;
+    }
+    leaders.push_reserved(Leader::new(entry, followers.len()));
+}
+
+// The entry at place `i`, from 0; None exactly where `i` isn't below the number of entries. It goes over the leaders from the last one.
+pub(crate) fn entry_at(leaders: &[Leader], followers: &[HNum], i: u32) -> Option<Entry>
+    requires followed { AreFollowed leaders.now followers.now }
+    requires limit { length leaders.now + length followers.now ≤ 4294967295 }
+    ensures { result ≡ slice_get (spelled leaders.now followers.now) i }
+{
+    let i = i as usize;
+    let mut leads = leaders.len();
+    let mut follow = followers.len();
+    if i >= leads + follow {
+        return None;
+    }
+    while leads > 0 {
+        let leader = &leaders[leads - 1];
+        let from = follow - leader.followers as usize;
+        let place = leads - 1 + from;
+        if i == place {
+            return Some(leader.entry);
+        }
+        if i > place {
+            return Some(leader.follower((i - place) as u64, followers[i - leads]));
+        }
+        leads -= 1;
+        follow = from;
+    }
+    None
+}
+
+// The entry with the number, of a list in the order of its numbers; None where none has it.
+pub(crate) fn entry_with(leaders: &[Leader], followers: &[HNum], number: u64) -> Option<Entry>
+    requires followed { AreFollowed leaders.now followers.now }
+    requires starts { Starts 0 leaders.now }
+    requires ascends { Ascends (spelled leaders.now followers.now) }
+    ensures { MatchOption result (All (λ e. e.number ≢ number) (spelled leaders.now followers.now)) (λ e. Contains (spelled leaders.now followers.now) e × (e.number ≡ number)) }
+{
+    match leaders.binary_search_by_key(&number, |leader| leader.entry.number) {
+        Ok(at) => Some(leaders[at].entry),
+        Err(0) => None,
+        Err(at) => {
+            let leader = &leaders[at - 1];
+            let i = number - leader.entry.number;
+            if i > leader.followers as u64 {
+                return None;
+            }
+            let h = followers[leader.from as usize + i as usize - 1];
+            Some(leader.follower(i, h))
+        }
+    }
+}
+
+/// An entry that a walk comes to.
+#[derive(Clone, Copy, PartialEq, Eq, Debug)]
+pub enum Step<'a> {
+    /// One that its list keeps whole.
+    Kept(&'a Entry),
+    /// One of which the list keeps the handle alone.
+    Spelled(Entry),
+}
+
+/// The leaders of a list that are still to come, with their followers.
+#[derive(Drop)]
+pub(crate) struct Rest<'a> {
+    leaders: &'a [Leader],
+    followers: &'a [HNum],
+}
+
+impl<'a> Model for Rest<'a> {
+    ghost use Rattle.std.specs.Prelude.{List};
+    ghost use Rattle.joint_model.specs.declared.events.Entry.{Entry};
+    ghost use Rattle.joint_model.specs.Leaders.{spelled, AreFollowed};
+
+    ghost Value = { List Entry };
+
+    ghost view = { λ r. spelled r.leaders.now r.followers.now };
+
+    ghost invariant = { λ r. AreFollowed r.leaders.now r.followers.now };
+}
+
+impl<'a> Rest<'a> {
+    // All leaders of a list.
+    pub(crate) fn new(leaders: &'a [Leader], followers: &'a [HNum]) -> Rest<'a>
+        requires { AreFollowed leaders.now followers.now }
+        ensures { result ≡ spelled leaders.now followers.now }
+    {
+        Rest { leaders, followers }
+    }
+
+    // The number of the next leader; None where none is left.
+    #[inline(always)]
+    pub(crate) fn number(&self) -> Option<u64>
+        ensures { result ≡ first_number self.now }
+    {
+        Some(self.leaders.first()?.entry.number)
+    }
+
+    // Takes the next leader, with the handles of its followers; None where none is left.
+    #[inline(always)]
+    pub(crate) fn next(&mut self) -> Option<(&'a Leader, &'a [HNum])>
+        ensures { MatchOption result ((self.old ≡ []) × (self.new ≡ [])) (λ next. (self.old ≡ next.0.now.entry ∷ (followers_of next.0.now.entry 1 next.1.now ++ self.new)) × (length next.1.now ≤ 4294967295)) }
+    {
+        let (leader, rest) = self.leaders.split_first()?;
+        self.leaders = rest;
+        if leader.followers == 0 {
+            return Some((leader, &[]));
+        }
+        let (own, others) = self.followers.split_at(leader.followers as usize);
+        self.followers = others;
+        Some((leader, own))
+    }
+}
+
+// Whether the next leader of both lists, if there is one, is the first of the other list.
+#[inline(always)]
+fn is_next_in_other(one: &Rest<'_>, other: &Rest<'_>) -> bool
+    ensures { IsTrue result ↔ GoesOnInOther one.now other.now }
+{
+    match (one.number(), other.number()) {
+        (Some(x), Some(y)) => y < x,
+        (x, _) => x.is_none(),
+    }
+}
+
+// Takes the next leader of both lists, with the handles of its followers; None where none is left. No entry of the one list lies between a leader
+// of the other and its followers, since those have the numbers after it.
+#[inline(always)]
+pub(crate) fn next_leader<'a>(
+    one: &mut Rest<'a>,
+    other: &mut Rest<'a>,
+) -> Option<(&'a Leader, &'a [HNum])>
+    requires { IsNumbered (merged one.old other.old) }
+    ensures { MatchOption result ((merged one.old other.old ≡ []) × (merged one.new other.new ≡ [])) (λ next. (merged one.old other.old ≡ next.0.now.entry ∷ (followers_of next.0.now.entry 1 next.1.now ++ merged one.new other.new)) × (length next.1.now ≤ 4294967295)) }
+{
+    if is_next_in_other(one, other) {
+        other.next()
+    } else {
+        one.next()
+    }
+}
