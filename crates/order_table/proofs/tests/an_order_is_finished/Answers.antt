@@ -9,10 +9,10 @@ finish-requires-clause-all g c i l =
     let first = c.in_ok-order.ensures.all i l in
     let shared = c.share-peer.ensures.parts in
     let handed = c.hand-pass.ensures.parts in
-    still_owns c.append-third.ensures.grows i ((c.learn-3.ensures.takes.owns i).0 (⊎_elim
-    (λ (e : i ≡ 1). inr (still_owns c.append-second.ensures.grows i ((c.learn-2.ensures.takes.owns i).0 (inl ((c.learn.ensures.takes.owns i).0 (inl (shared.went i e first)))))))
+    (c.learn-2.ensures.takes.owns i).0 (⊎_elim
+    (λ (e : i ≡ 1). inr (still_owns c.append-first.ensures.grows i ((c.learn.ensures.takes.owns i).0 (inl (shared.went i e first)))))
     (λ not_peer. ⊎_elim
-    (λ (e : i ≡ 20). inr (still_owns c.append-second.ensures.grows i ((c.learn-2.ensures.takes.owns i).0 (inl ((c.learn.ensures.takes.owns i).0 (inr (handed.went i e (shared.stayed i not_peer first))))))))
-    (λ not_pass. inl (c.note-note.ensures.parts.stayed i (λ e. e) (still_owns c.append-first.ensures.grows i (handed.stayed i not_pass (shared.stayed i not_peer first)))))
+    (λ (e : i ≡ 20). inr (still_owns c.append-first.ensures.grows i ((c.learn.ensures.takes.owns i).0 (inr (handed.went i e (shared.stayed i not_peer first))))))
+    (λ not_pass. inl (handed.stayed i not_pass (shared.stayed i not_peer first)))
     (cases_eq i 20))
-    (cases_eq i 1)))
+    (cases_eq i 1))
