@@ -2,7 +2,6 @@
 use Rattle.std.proofs.Common.{◌≡◌, ℕ, zero, suc, ◌+◌, ◌-◌, ◌%◌, ◌^◌, ◌<◌, ◌≤◌, List, [], ◌∷◌, ◌++◌, length, take, drop, sum_by, Some, slice_index_or, slice_set, arith, refl, subst, sym, ap, ◌∙◌}
 use Rattle.std.specs.Prelude.{slice_get}
 use Rattle.std.proofs.lemmas.List.{append-nil, append_assoc, length-append, length-drop, take-append-le, drop-append-le, take-append-drop, take_all, take-take, get_or-take, get_or-drop, length-take-le, take_more, take_more_set, length-set, nil_from_length}
-use Rattle.std.proofs.Math.Seq.{take-length}
 use Rattle.std.proofs.lemmas.List.Sums.{sum_by-cons, sum_by_more}
 use Rattle.joint_model.specs.declared.names.HNum.{HNum}
 use Rattle.joint_model.specs.declared.events.Entry.{Entry}
@@ -126,19 +125,6 @@ pub record Stands (ls : List Leader) (hs : List HNum) (i n m : ℕ) : Type 0 whe
   pub followed : AreFollowed (take n ls) (take m hs)
   pub before : i < n + m
   pub same : slice_get (spelled ls hs) i ≡ slice_get (spelled (take n ls) (take m hs)) i
-
-pub stands-whole : (ls : List Leader) (hs : List HNum) (i : ℕ) → AreFollowed ls hs → i < length ls + length hs → Stands ls hs i (length ls) (length hs)
-stands-whole ls hs i f b = record {
-  leads = omega arith;
-  follow = omega arith;
-  followed = rw (take-length ls, take-length hs) f;
-  before = b;
-  same = rw (take-length ls, take-length hs) refl;
-}
-
--- none stands where there is no leader
-pub stands-nowhere : (ls : List Leader) (hs : List HNum) (i m : ℕ) → Stands ls hs i 0 m → ⊥
-stands-nowhere ls hs i m s = let n : 0 ≡ length (take m hs) = s.followed in omega (arith, s.before, s.follow, n, length-take-le m hs s.follow)
 
 -- among the last leader's, or before them
 pub record Parts (ls : List Leader) (hs : List HNum) (i k m : ℕ) (l : Leader) : Type 0 where

@@ -13,8 +13,9 @@ use std::marker::Model;
 // The most entries that an [`Entries`] holds.
 const MOST: usize = 4_294_967_295;
 
-// For how many entries room is made at least, where there is memory for them: 28 MiB. Room that nothing is put into takes no memory, and
-// so large a piece lies outside of the allocator's heap: where it grows, its pages are moved and no entry is copied.
+// For how many entries room is made at least, where there is memory for them: 32 MiB, and 2 MiB for those that are kept by their handles. Room
+// that nothing is put into takes no memory, and so large a piece lies outside of the allocator's heap: where it grows, its pages are moved and
+// no entry is copied.
 const BLOCK: usize = 524_288;
 
 /// The entries of one side or one reader, in the order in which they were made. It holds at most

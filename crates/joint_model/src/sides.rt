@@ -13,8 +13,8 @@ use crate::events::{Entry, Made};
 use crate::lists::Entries;
 use crate::names::MNum;
 
-/// The law of a side's list: where one entry was put last that may come next, with a number above those before it, and the state
-/// is the one after it, the side is again the replay of its entries.
+/// The law of a side's list: where one entry was put last that may come next, with a number above
+/// those before it, and the state is the one after it, the side is again the replay of its entries.
 pub fn replays_go_on()
     ensures managed { (old new : Side ManagedReplay) (k : ℕ) (m : Made) (told : Told) → AllBelow old.entries k → new.entries ≡ old.entries ++ numbered k m ∷ [] → GoesOn managed_rules old.state m told new.state → IsReplayed managed_rules old.entries old.state → IsReplayed managed_rules new.entries new.state }
     ensures peers { (old new : Side PeerReplay) (k : ℕ) (m : Made) (told : Told) → AllBelow old.entries k → new.entries ≡ old.entries ++ numbered k m ∷ [] → GoesOn peer_rules old.state m told new.state → IsReplayed peer_rules old.entries old.state → IsReplayed peer_rules new.entries new.state }
@@ -43,8 +43,9 @@ pub fn enter<D: Draw>(
     number
 }
 
-/// Does as [`enter`] does, of an event with no target that frees nothing. The entry takes four bytes where it differs from the one before it by its number, one higher, and the handle
-/// that it weakens or restores.
+/// Does as [`enter`] does, of an event with no target that frees nothing. The entry takes four bytes
+/// where it differs from the one before it by its number, one higher, and the handle that it weakens
+/// or restores.
 #[inline(always)]
 pub fn enter_handle<D: Draw>(entries: &mut Entries, draw: &mut D, made: Made) -> u64
     requires spare { 1 ≤ entries.old.spare }
