@@ -3,7 +3,7 @@
 
 ghost use Rattle.std.specs.Prelude.{◌≡◌, ◌≢◌, All, Contains, ◌+◌, ◌<◌, ◌≤◌, ◌^◌, ◌↔◌, List, [], ◌∷◌, ◌++◌, length, slice_get, vec_len, vec_capacity, IfSome, IsTrue, IsFalse, MatchOption};
 ghost use Rattle.joint_model.specs.Leaders.{follower_of, followers_of, spelled, AreFollowed, Starts};
-ghost use Rattle.joint_model.specs.Merged.{Ascends, GoesOnInOther, first_number, merged, IsNumbered};
+ghost use Rattle.joint_model.specs.Merged.{Ascends, IsNextInOther, first_number, merged, IsNumbered};
 
 use crate::events::{Entry, Made, Op, Reply};
 use crate::names::{HNum, Thread};
@@ -227,12 +227,12 @@ impl<'a> Rest<'a> {
     }
 }
 
-// Whether the next leader of both lists, if there is one, is the first of the other list.
+// Whether the next of two lists, if there is one, is the first of the other list, by the numbers of their first ones.
 #[inline(always)]
-fn is_next_in_other(one: &Rest<'_>, other: &Rest<'_>) -> bool
-    ensures { IsTrue result ↔ GoesOnInOther one.now other.now }
+pub(crate) fn is_next_in_other(one: Option<u64>, other: Option<u64>) -> bool
+    ensures { IsTrue result ↔ IsNextInOther one other }
 {
-    match (one.number(), other.number()) {
+    match (one, other) {
         (Some(x), Some(y)) => y < x,
         (x, _) => x.is_none(),
     }
@@ -248,7 +248,7 @@ pub(crate) fn next_leader<'a>(
     requires { IsNumbered (merged one.old other.old) }
     ensures { MatchOption result ((merged one.old other.old ≡ []) × (merged one.new other.new ≡ [])) (λ next. (merged one.old other.old ≡ next.0.now.entry ∷ (followers_of next.0.now.entry 1 next.1.now ++ merged one.new other.new)) × (length next.1.now ≤ 4294967295)) }
 {
-    if is_next_in_other(one, other) {
+    if is_next_in_other(one.number(), other.number()) {
         other.next()
     } else {
         one.next()

@@ -9,7 +9,7 @@ returns-then-is_next_in_other c =
     let xs = c.args.one.now in
     let ys = c.args.other.now in
     let zs = c.next.new.self in
-    let goes : GoesOnInOther xs ys = c.is_next_in_other.ensures.0 c.if-is_next_in_other.true in
+    let goes : GoesOnInOther xs ys = rw (c.number.ensures, c.number-2.ensures) at (c.is_next_in_other.ensures.0 c.if-is_next_in_other.true) in
     said c.next.result _ _ _ _ (none-other xs ys zs goes) (λ next h. (leads-other xs ys zs next.0.now.entry next.1.now c.requires h.0 goes, h.1)) c.next.ensures
 
 pub returns-else-is_next_in_other : goal.returns-else-is_next_in_other
@@ -17,5 +17,5 @@ returns-else-is_next_in_other c =
     let xs = c.args.one.now in
     let ys = c.args.other.now in
     let zs = c.next-else-is_next_in_other.new.self in
-    let stays : GoesOnInOther xs ys → ⊥ = λ g. true≢false (sym (c.is_next_in_other.ensures.1 g) ∙ c.if-is_next_in_other.false) in
+    let stays : GoesOnInOther xs ys → ⊥ = λ g. true≢false (sym (c.is_next_in_other.ensures.1 (rw (c.number.ensures, c.number-2.ensures) g)) ∙ c.if-is_next_in_other.false) in
     said c.next-else-is_next_in_other.result _ _ _ _ (none-one xs ys zs stays) (λ next h. (leads-one xs ys zs next.0.now.entry next.1.now c.requires h.0 stays, h.1)) c.next-else-is_next_in_other.ensures
