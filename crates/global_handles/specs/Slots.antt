@@ -8,7 +8,7 @@ use Rattle.global_handles.specs.declared.HandleRow.{HandleRow}
 use Rattle.global_handles.specs.declared.Kept.{Kept}
 use Rattle.global_handles.specs.declared.Slot.{Slot}
 use Rattle.global_handles.specs.declared.HandleTable.TheInside.{Inside}
-use Rattle.global_handles.specs.Rows.{Table}
+use Rattle.global_handles.specs.Rows.{Table, RisesBetween}
 
 -- the row of a number, from its peer and what is kept of it
 abbrev pub row_at : ℕ → PNum → Kept → HandleRow
@@ -108,12 +108,13 @@ head_in heads p = slice_index_or heads p.0 0
 abbrev pub table_of : Inside → Table
 table_of t = record { rows = rows_from 0 t.slots.items; made = length t.slots.items; room = t.ready }
 
--- what holds of a table's fields: at most 65,535 handles were made, the live ones are counted, just the slots that
--- have something to clear are chained, those of each peer from its head on, and the room that is said is there: for
--- the slots, and for the head of any peer, whose number is at most 65,535
+-- what holds of a table's fields: at most 65,535 handles were made, the live ones are counted, none of those that are
+-- gone has a row, just the slots that have something to clear are chained, those of each peer from its head on, and the
+-- room that is said is there: for the slots, and for the head of any peer, whose number is at most 65,535
 pub record IsTable (t : Inside) : Type 0 where
   pub most : length t.slots.items ≤ 65535
   pub counted : t.live ≡ length (rows_from 0 t.slots.items)
+  pub gone : RisesBetween t.gone (length t.slots.items) (rows_from 0 t.slots.items)
   pub chained : IsChained t.slots.items (head_in t.heads.items)
   pub slots_room : length t.slots.items + t.ready ≤ vec_capacity t.slots
   pub heads_most : length t.heads.items ≤ 65536

@@ -183,6 +183,8 @@ pub struct HandleTable {
     heads: Vec<u32>,
     live: u32,
     ready: u32,
+    // How many of the first handles are released, so that no pass looks at them again.
+    gone: u32,
 }
 
 impl Model for HandleTable {
@@ -209,6 +211,7 @@ impl HandleTable {
             heads: list_with_room(alloc, PEERS),
             live: 0,
             ready: 0,
+            gone: 0,
         }
     }
 
@@ -377,6 +380,26 @@ impl HandleTable {
         ensures { result ≡ (length self.now.rows == 0) }
     {
         self.live == 0
+    }
+
+    /// A number below which no handle is in the table. [`HandleTable::move_on`] moves it on to that of the first one that is.
+    pub fn oldest(&self) -> u32
+        ensures below { (h : HNum) → h.0 < result → row_in self.now.rows h ≡ None }
+        ensures one { 1 ≤ result }
+        ensures most { result ≤ self.now.made + 1 }
+    {
+        self.gone + 1
+    }
+
+    /// Moves [`HandleTable::oldest`] on past the handles that were released: in the life of a table each is passed once.
+    pub fn move_on(&mut self)
+        ensures { self.new ≡ self.old }
+    {
+        let mut gone = self.gone;
+        while gone < self.made() && self.row(HNum(gone + 1)).is_none() {
+            gone += 1;
+        }
+        self.gone = gone;
     }
 
     /// How many handles were ever made: the number of the last one. At most 65,535.

@@ -1,10 +1,11 @@
 -- What strong handles name, gathered one handle after another, and the roots of a marking as one list.
 use Rattle.std.proofs.Common.{◌≡◌, ℕ, zero, suc, ◌+◌, ◌≤◌, ◌<◌, ◌⊎◌, ◌↔◌, inl, inr, Bool, true, false, List, [], ◌∷◌, ◌++◌, map, length, take, Option, Some, None, if◌then◌else◌, refl, sym, ap, subst, ◌∙◌, arith, length-append}
 use Rattle.std.specs.Option.{option_map, option_to_list}
-use Rattle.std.specs.Prelude.{Contains, slice_get}
+use Rattle.std.specs.Prelude.{All, Contains, slice_get}
 use Rattle.std.proofs.lemmas.List.{length-map, map-append}
-use Rattle.std.proofs.lemmas.List.Elements.{Contains-append_cases, Contains-append_left, Contains-append_right}
+use Rattle.std.proofs.lemmas.List.Elements.{All-head, All-nil, All-push, All-tail, Contains-append_cases, Contains-append_left, Contains-append_right}
 use Rattle.std.proofs.lemmas.Option.{slice_get_within, none-some}
+use Rattle.joint_model.specs.declared.names.HNum.{HNum}
 use Rattle.joint_model.specs.Heaps.{Heap, InSlot, numbered_at}
 use Rattle.joint_model.specs.Peers.{Issued, Strength, strong, weak, is_strong}
 use Rattle.joint_model.specs.PeerReplay.{TableRow, strong_peers}
@@ -52,6 +53,20 @@ strong_peers-push (j ∷ is) (Some row ∷ rows) i o len = by (is_strong row.str
 -- the strong handles up to a number
 abbrev pub strong_to : List Issue → List HandleRow → ℕ → List ℕ
 strong_to issued rows n = strong_peers (map issued_as (take n issued)) (table_to rows n)
+
+-- none of the first handles names one where none of them has a row
+pub strong_to-none : (issued : List Issue) (rows : List HandleRow) (n : ℕ) → ((h : HNum) → h.0 ≤ n → row_in rows h ≡ None) → strong_to issued rows n ≡ []
+strong_to-none issued rows n none = empty (map issued_as (take n issued)) (table_to rows n) (vacant n none)
+  where
+    vacant : (k : ℕ) → ((h : HNum) → h.0 ≤ k → row_in rows h ≡ None) → All (λ o. o ≡ None) (table_to rows k)
+    vacant zero out = All-nil (λ o. o ≡ None)
+    vacant (suc k) out = All-push (λ o. o ≡ None) (table_to rows k) (seen_in rows (suc k)) (vacant k (λ h l. out h (omega (arith, l)))) (ap (option_map row_as) (out record { 0 = suc k } (omega arith)))
+
+    empty : (is : List Issued) (os : List (Option TableRow)) → All (λ o. o ≡ None) os → strong_peers is os ≡ []
+    empty [] os a = refl
+    empty (i ∷ is) [] a = refl
+    empty (i ∷ is) (None ∷ os) a = empty is os (All-tail (λ o. o ≡ None) None os a)
+    empty (i ∷ is) (Some row ∷ os) a = absurd (none-some row (sym (All-head (λ o. o ≡ None) (Some row) os a)))
 
 pub strong_to-next : (issued : List Issue) (rows : List HandleRow) (n : ℕ) (x : Issue) (o : Option ℕ) → slice_get issued n ≡ Some x → o ≡ strong_peer (option_map row_as (row_in rows (record { 0 = n + 1 }))) x.peer.0
     → strong_to issued rows (n + 1) ≡ strong_to issued rows n ++ option_to_list o

@@ -1,6 +1,7 @@
 // The begin of a marking: what slots and strong handles name is marked, with all that it reaches.
 //
-// No list of roots is made: each filled slot and each strong handle of the table is visited, so a begin takes no memory.
+// No list of roots is made: each filled slot is visited, and each strong handle from the oldest one of the table on, so a begin takes no
+// memory.
 
 ghost use Rattle.std.specs.Prelude.{◌≡◌, ℕ, ◌+◌, ◌≤◌, ◌<◌, ◌↔◌, Contains, Some, slice_get, length, true};
 ghost use Rattle.std.specs.Option.{option_map};
@@ -29,6 +30,7 @@ impl PeerRows {
         ensures marks { (p : ℕ) → HasMark self.new.rows.marks p ↔ Reached (IsRoot self.old.rows.heap (strong_peers self.old.issued self.old.table)) (EdgeOf self.new.rows) p }
         ensures rest { self.new ≡ record self.old { rows = record self.old.rows { follows = true; marks = self.new.rows.marks; links = self.new.rows.links } } }
     {
+        self.table.move_on();
         mark_roots(&mut self.heap, &self.table, self.issued.as_slice());
     }
 }
@@ -56,7 +58,7 @@ fn visit_strong(heap: &mut RowHeap<PNum>, table: &HandleTable, issued: &[Issue],
     ensures greyed { Greyed (Contains (strong_in issued.now table.now)) heap.old.marks heap.old.links grey.old heap.new.marks heap.new.links grey.new }
     ensures rest { heap.new ≡ record heap.old { marks = heap.new.marks; links = heap.new.links } }
 {
-    for i in 0..table.made() {
+    for i in table.oldest() - 1..table.made() {
         if let Some(p) = strong_peer(table, issued, i) {
             visit(heap, p, grey);
         }

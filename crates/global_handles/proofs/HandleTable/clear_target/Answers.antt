@@ -2,6 +2,7 @@ use Rattle.std.proofs.Common.{refl, ◌∙◌, sym, ap, length, arith}
 use Rattle.std.proofs.lemmas.List.{length-map}
 use Rattle.global_handles.specs.Slots.{rows_from, cleared_slot, head_in}
 use Rattle.global_handles.proofs.Slots.{IsRising-table, cleared_for-rows}
+use Rattle.global_handles.proofs.Rows.{RisesBetween-map, number-cleared}
 use Rattle.global_handles.proofs.Chains.{IsChained-cleared}
 use Rattle.global_handles.proofs.HandleTable.clear_target.Goals as goal
 
@@ -15,6 +16,7 @@ invariant_of-self c =
     record {
       most = rw e (omega (arith, length-map all (cleared_slot c.args.p)));
       counted = rw (e, cleared_for-rows c.args.p 0 all) (c.self.invariant.counted ∙ sym (length-map (rows_from 0 all) _));
+      gone = rw (e, cleared_for-rows c.args.p 0 all, length-map all (cleared_slot c.args.p)) (RisesBetween-map _ _ _ (rows_from 0 all) (λ r. number-cleared c.args.p r) c.self.invariant.gone);
       chained = rw e (IsChained-cleared c.args.p all (head_in c.self.inside.heads.items) _ (length-map all (cleared_slot c.args.p)) c.take_head-from.ensures.head c.self.invariant.chained);
       slots_room = omega (arith, c.self.invariant.slots_room, ap length e, length-map all (cleared_slot c.args.p), c.clear_chain.ensures.capacity);
       heads_most = omega (arith, c.self.invariant.heads_most, c.take_head-from.ensures.len);

@@ -1,7 +1,8 @@
 use Rattle.std.proofs.Common.{◌≡◌, ◌+◌, [], ◌∷◌, ◌++◌, Some, false, length, refl, ap, ◌∙◌, arith}
 use Rattle.std.proofs.lemmas.List.{length_push}
 use Rattle.global_handles.specs.declared.Slot.{Slot}
-use Rattle.global_handles.specs.Slots.{with_previous, head_in}
+use Rattle.global_handles.specs.Slots.{with_previous, head_in, rows_from}
+use Rattle.global_handles.proofs.Rows.{RisesBetween-push}
 use Rattle.global_handles.proofs.Slots.{IsRising-table, rows_from-push, length-rows-le, length-rows-push}
 use Rattle.global_handles.proofs.Chains.{IsChained-heads, IsChained-pushed, pushed_slots, length-with_previous, rows_from-with_previous}
 use Rattle.global_handles.proofs.HandleTable.make.Goals as goal
@@ -37,6 +38,7 @@ invariant_of-self-2 c =
     record {
       most = rw items (omega (arith, len));
       counted = rw (items, length-rows-push (with_previous all s.next number) s _ refl, rows_from-with_previous all s.next number) (ap (λ n. n + 1) c.self.invariant.counted);
+      gone = rw (items, rows_from-push 0 number (with_previous all s.next number) s (omega (arith, length-with_previous all s.next number)), rows_from-with_previous all s.next number, len) (RisesBetween-push _ (length all) number (rows_from 0 all) _ (omega arith) (omega arith) c.self.invariant.gone);
       chained = rw items (IsChained-pushed all s number heads _ (omega arith) refl refl c.set_head-next.ensures.before len c.set_head-next.ensures.head (IsChained-heads all (head_in c.self.inside.heads.items) heads c.make_head.ensures.heads c.self.invariant.chained));
       slots_room = omega (arith, c.self.invariant.slots_room, ap length items, len, c.reserve.ensures.capacity, c.in_ok-reserve.ensures.ok, c.set_previous.ensures.capacity, c.push_reserved.ensures.capacity, c.saturating_sub-self-inside.ensures);
       heads_most = omega (arith, c.self.invariant.heads_most, c.in_ok-make_head.ensures.place, c.set_head-next.ensures.len);

@@ -1,5 +1,6 @@
 use Rattle.std.proofs.Common.{◌-◌, refl, sym, arith}
-use Rattle.global_handles.proofs.Rows.{without-absent}
+use Rattle.global_handles.specs.Slots.{rows_from}
+use Rattle.global_handles.proofs.Rows.{RisesBetween-without, without-absent}
 use Rattle.global_handles.proofs.Slots.{IsRising-table, row_in-kept, without-listed, length-emptied}
 use Rattle.global_handles.proofs.HandleTable.release.Goals as goal
 
@@ -20,6 +21,7 @@ invariant_of-self c =
     record {
       most = omega (arith, e.len);
       counted = rw e.rows (omega (arith, length-emptied 0 all (c.args.h.0 - 1) kept.0 kept.3));
+      gone = rw (e.rows, e.len, without-listed 0 all c.args.h (c.args.h.0 - 1) (omega (arith, kept.1))) (RisesBetween-without c.args.h _ _ (rows_from 0 all) c.self.invariant.gone);
       chained = e.chained;
       slots_room = omega (arith, c.self.invariant.slots_room, e.len, e.capacity);
       heads_most = omega (arith, c.self.invariant.heads_most, e.heads_len);

@@ -8,6 +8,7 @@ invariant_of-self-2 c =
     record {
       most = rw c.reserve.ensures.items i.most;
       counted = rw c.reserve.ensures.items i.counted;
+      gone = rw c.reserve.ensures.items i.gone;
       chained = rw (c.reserve.ensures.items, c.reserve-2.ensures.items) i.chained;
       slots_room = omega (arith, c.in_ok-reserve.ensures.ok);
       heads_most = rw c.reserve-2.ensures.items i.heads_most;

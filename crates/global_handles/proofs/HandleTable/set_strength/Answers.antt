@@ -6,6 +6,7 @@ use Rattle.global_handles.specs.declared.Kept.{Kept}
 use Rattle.global_handles.specs.declared.Strength.{Strength}
 use Rattle.global_handles.specs.Rows.{with_strength}
 use Rattle.global_handles.specs.Slots.{row_at, rows_from}
+use Rattle.global_handles.proofs.Rows.{RisesBetween-map, number-changed}
 use Rattle.global_handles.proofs.Slots.{IsRising-table, row_in-kept, changed-rows}
 use Rattle.global_handles.proofs.Chains.{IsChained-with_row, length-with_row, open-kept}
 use Rattle.global_handles.proofs.HandleTable.set_strength.Goals as goal
@@ -30,6 +31,7 @@ invariant_of-self c =
     record {
       most = rw e (omega (arith, length-with_row all i (Some k')));
       counted = rw (e, changed-rows (with_strength c.args.strength) 0 all c.args.h i kept.0 k' (omega (arith, kept.1)) kept.3 (same kept.0 c.in-Some.row.hold c.args.strength c.in-Some.row.cleared kept.4 kept.5)) (c.self.invariant.counted ∙ sym (length-map (rows_from 0 all) _));
+      gone = rw (e, length-with_row all i (Some k'), changed-rows (with_strength c.args.strength) 0 all c.args.h i kept.0 k' (omega (arith, kept.1)) kept.3 (same kept.0 c.in-Some.row.hold c.args.strength c.in-Some.row.cleared kept.4 kept.5)) (RisesBetween-map _ _ _ (rows_from 0 all) (λ r. number-changed (with_strength c.args.strength) c.args.h r refl) c.self.invariant.gone);
       chained = rw e (IsChained-with_row all i (Some k') _ (open-kept all i kept.0 k' kept.3 kept.5) c.self.invariant.chained);
       slots_room = omega (arith, c.self.invariant.slots_room, ap length e, length-with_row all i (Some k'), c.set_row.ensures.capacity);
       heads_most = c.self.invariant.heads_most;

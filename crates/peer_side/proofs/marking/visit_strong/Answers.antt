@@ -1,14 +1,16 @@
 -- One more handle is done in each turn: where it is strong, its peer is marked.
-use Rattle.std.proofs.Common.{◌≡◌, ◌∙◌, suc, map, take, Some, None, sym, ap, subst, arith}
+use Rattle.std.proofs.Common.{◌≡◌, ◌∙◌, suc, map, take, [], Some, None, refl, sym, ap, subst, arith}
 use Rattle.std.specs.Prelude.{Contains}
 use Rattle.std.proofs.lemmas.List.{take_all}
 use Rattle.joint_model.specs.Heaps.{Heap, IsLive}
+use Rattle.joint_model.proofs.Members.{Contains-nil}
 use Rattle.joint_model.proofs.Numbered.{numbered-made}
 use Rattle.joint_model.specs.PeerReplay.{strong_peers}
 use Rattle.row_marking.specs.Traces.{Greyed}
+use Rattle.row_marking.proofs.Greys.{Greyed-none}
 use Rattle.row_heap.specs.Rows.{HeapRows}
 use Rattle.row_heap.proofs.Edges.{rest-kept}
-use Rattle.peer_side.proofs.Roots.{Greyed-strong, Greyed-weak, strong_in-here, strong_to, strong_to-next}
+use Rattle.peer_side.proofs.Roots.{Greyed-strong, Greyed-weak, strong_in-here, strong_to, strong_to-next, strong_to-none}
 use Rattle.peer_side.specs.Marking.{strong_in}
 use Rattle.peer_side.specs.Rows.{issued_as, table_to}
 use Rattle.peer_side.proofs.marking.visit_strong.Goals as goal
@@ -25,6 +27,17 @@ visit-requires-clause-some c =
     let at = numbered-made c.args.issued.now (suc c.loop-i.i) (omega arith) (omega (arith, c.loop-i-test.true, c.made-i-end.ensures.made, c.requires.made)) in
     let named = strong_in-here c.args.issued.now c.args.table.now c.loop-i.i at.0 c.in-Some.p at.1 (omega (arith, c.loop-i-test.true, c.made-i-end.ensures.made)) (c.in-Some.ensures at.0 at.1) in
     (c.requires.live c.in-Some.p named).made.0
+
+pub loop-i-init : goal.loop-i-init
+loop-i-init c =
+    let m = c.args.heap.now.marks in
+    let l = c.args.heap.now.links in
+    let h = c.args.grey.now in
+    let none = strong_to-none c.args.issued.now c.args.table.now.rows _ (λ g w. c.oldest-i.ensures.below g (omega (arith, w, c.oldest-i.ensures.one))) in
+    record {
+      kept = refl;
+      greyed = subst (λ ps. Greyed (Contains ps) m l h m l h) (sym none) (Greyed-none (Contains []) m l h (λ k n. absurd (Contains-nil k n)));
+    }
 
 pub loop-i-preserved : goal.loop-i-preserved
 loop-i-preserved c =
