@@ -54,12 +54,12 @@ pub(crate) fn mark_slots(heap: &mut RowHeap<MNum>, pins: &[Option<u32>; PINS])
     heap.finish_marking(grey);
 }
 
-/// The live rows without a mark, in rising order.
+/// The live rows without a mark, in rising order: none of them comes before the oldest live one.
 pub(crate) fn whites(alloc: Global, heap: &RowHeap<MNum>) -> Result<Vec<MNum>, AllocError>
     ensures { IfOk result (λ v. AreWhite heap.now (managed_numbers v.items)) }
 {
     let mut rows = Vec::with_capacity(alloc, heap.live() as usize)?;
-    for m in 1..heap.made() + 1 {
+    for m in heap.oldest()..heap.made() + 1 {
         if heap.is_white(m) {
             rows.push(MNum(m))?;
         }

@@ -7,3 +7,4 @@ pub mod Edges
 pub mod Linked
 pub mod Swept
 pub mod Marked
+mod Gone

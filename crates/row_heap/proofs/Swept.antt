@@ -69,21 +69,17 @@ RowsFreed-push xs x old mid r up out = record {
   others = λ z s. (let same = row_at-removed mid x (row_at mid x).fields z s in same ∙ r.others z (sym (ap (λ (q : Seen). q.stands) same) ∙ s));
 }
 
--- no row was looked at
-pub RowsSwept-none : (rows : List Seen) (before after : List ℕ) → after ≡ before → RowsSwept 0 rows rows before after
-RowsSwept-none rows before after e = record {
+-- no row was looked at, and none of the first ones is white
+pub RowsSwept-none : (n : ℕ) (rows : List Seen) (before after : List ℕ) → ((x : ℕ) → x ≤ n → is_white (row_at rows x) ≡ true → ⊥) → after ≡ before → RowsSwept n rows rows before after
+RowsSwept-none n rows before after none e = record {
   swept = [];
   rises = tt;
-  exact = λ x. ((λ c. absurd (Contains-nil x c)), (λ w. absurd (let at : ℕ = x in nowhere x w.0 w.1)));
+  exact = λ x. ((λ c. absurd (Contains-nil x c)), (λ w. absurd (none x w.0 w.1)));
   rows = RowsFreed-none rows;
   marks = refl;
   freed = e ∙ sym (append-nil before);
 }
   where
-    nowhere : (x : ℕ) → x ≤ 0 → is_white (row_at rows x) ≡ true → ⊥
-    nowhere zero l e = (let f : ⊥ = cc in f)
-    nowhere (suc i) l e = omega (arith, l)
-
     append-nil : (l : List ℕ) → l ++ [] ≡ l
     append-nil [] = refl
     append-nil (y ∷ l) = ap (λ z. y ∷ z) (append-nil l)

@@ -56,6 +56,10 @@ pub record AreReferences (rows : List Seen) (refs : List Reference) (follows : B
   pub space : length refs + room ≤ capacity
   pub most : length refs + room ≤ 4294967295
 
+-- the first n objects are freed
+abbrev pub AreGone : ℕ → List ℕ → Type 0
+AreGone n freed = (x : ℕ) → 1 ≤ x → x ≤ n → Contains freed x
+
 -- the heap is sound, where its flags are which rows stand, and the references are linked
 pub record IsRowHeap (rows : List Seen) (freed : List ℕ) (vars statics : List (Option ℕ)) (refs : List Reference) (follows : Bool) (room freed_capacity capacity : ℕ) : Type 0 where
   pub sound : IsSound (heap_of rows freed vars statics) (stands_in rows) freed_capacity

@@ -28,17 +28,19 @@ pub struct RowHeap<N: Number> {
     pub(crate) references: Vec<Reference>,
     pub(crate) ready: u32,
     pub(crate) follows: bool,
+    // How many of the first objects are freed, so that no pass looks at them again.
+    pub(crate) gone: u32,
 }
 
 impl<N: Number> Model for RowHeap<N> {
     ghost use Rattle.std.specs.Prelude.{map, vec_capacity};
-    ghost use Rattle.row_heap.specs.Rows.{HeapRows, rows_of, IsRowHeap};
+    ghost use Rattle.row_heap.specs.Rows.{HeapRows, rows_of, AreGone, IsRowHeap};
 
     ghost Value = { HeapRows };
 
     ghost view = { λ s. rows_of s.rows (map N.number s.freed.items) s.vars s.statics s.references.items s.follows s.ready };
 
-    ghost invariant = { λ s. IsRowHeap s.rows (map N.number s.freed.items) s.vars s.statics s.references.items s.follows s.ready (vec_capacity s.freed) (vec_capacity s.references) };
+    ghost invariant = { λ s. IsRowHeap s.rows (map N.number s.freed.items) s.vars s.statics s.references.items s.follows s.ready (vec_capacity s.freed) (vec_capacity s.references) × AreGone s.gone (map N.number s.freed.items) };
 }
 
 impl<N: Number> RowHeap<N> {
@@ -56,6 +58,7 @@ impl<N: Number> RowHeap<N> {
             references: Vec::new(alloc),
             ready: 0,
             follows: false,
+            gone: 0,
         }
     }
 
@@ -89,6 +92,25 @@ impl<N: Number> RowHeap<N> {
             return false;
         }
         self.rows.stands(x as usize)
+    }
+
+    /// A number below which no object is live. The begin of a marking moves it on to that of the oldest live object.
+    pub fn oldest(&self) -> u32
+        ensures below { (x : ℕ) → x < result → IsLive self.now.heap x → ⊥ }
+        ensures most { result ≤ MOST + 1 }
+    {
+        self.gone + 1
+    }
+
+    // Moves on past the objects that are freed: each is passed once for good.
+    pub(crate) fn move_on(&mut self)
+        ensures { self.new ≡ self.old }
+    {
+        let mut gone = self.gone;
+        while gone < self.made() && !self.is_live(gone + 1) {
+            gone += 1;
+        }
+        self.gone = gone;
     }
 
     /// Whether no further object can be made.

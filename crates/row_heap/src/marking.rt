@@ -50,7 +50,9 @@ impl<N: Number> RowHeap<N> {
         ensures marks { (x : ℕ) → HasMark self.new.marks x → ⊥ }
         ensures rest { self.new ≡ record self.old { follows = follows; marks = self.new.marks } }
     {
-        self.rows.unmark_all();
+        self.move_on();
+        self.rows.marked_stand();
+        self.rows.unmark_from(self.gone as usize);
         self.follows = follows;
     }
 

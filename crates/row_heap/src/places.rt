@@ -6,7 +6,7 @@
 // that is freed gives its memory back, and the index keeps its fields for proofs alone, in no bytes: so the heap of the definition, which never
 // forgets the fields of a freed object, is still what contracts see.
 
-ghost use Rattle.std.specs.Prelude.{◌≡◌, ℕ, ◌≤◌, ◌<◌, ◌⊎◌, ◌++◌, [], ◌∷◌, Some, Contains, true, false, length, map, slice_set, OnOk, OnErr};
+ghost use Rattle.std.specs.Prelude.{All, take, replicate, ◌≡◌, ℕ, ◌≤◌, ◌<◌, ◌⊎◌, ◌++◌, [], ◌∷◌, Some, Contains, true, false, length, map, slice_set, OnOk, OnErr};
 ghost use Rattle.joint_model.specs.Heaps.{numbered_set};
 ghost use Rattle.reachability.specs.Marks.{HasMark};
 ghost use Rattle.row_marking.specs.Traces.{Greyed};
@@ -185,11 +185,12 @@ impl Rows {
         self.links[x - 1]
     }
 
-    /// No row has a mark.
-    pub(crate) fn unmark_all(&mut self)
+    /// No row has a mark. None of the first rows up to a number has one.
+    pub(crate) fn unmark_from(&mut self, from: usize)
+        requires { (x : ℕ) → x ≤ from → (row_at self.old x).marked ≡ true → ⊥ }
         ensures { self.new ≡ map unmarked_row self.old }
     {
-        self.marks.fill(false);
+        lower(&mut self.marks, from);
     }
 
     /// A row with a mark stands, for the proofs of callers. It does nothing.
@@ -233,6 +234,16 @@ impl Rows {
             }
             RowPlace::Gone(_) => unreachable!(),
         }
+    }
+}
+
+// Takes all marks down, of which the first ones up to a number are down.
+fn lower(marks: &mut Vec<bool>, from: usize)
+    requires { All (λ m. m ≡ false) (take from marks.old.items) }
+    ensures { marks.new.items ≡ replicate (length marks.old.items) false }
+{
+    for i in from..marks.len() {
+        marks[i] = false;
     }
 }
 

@@ -13,7 +13,7 @@ use crate::places::Rows;
 use heap_rules::Number;
 
 impl<N: Number> RowHeap<N> {
-    /// Frees each live object without a mark, by one pass over the numbers of all objects, and puts them last on the list of freed ones, in
+    /// Frees each live object without a mark, by one pass over the numbers from the oldest live object on, and puts them last on the list of freed ones, in
     /// rising order. It takes no memory. What slots name and what marked objects lead to has to be marked, as it is once a marking has come to
     /// its end.
     pub fn sweep(&mut self)
@@ -23,18 +23,20 @@ impl<N: Number> RowHeap<N> {
         ensures heap { self.new.heap ≡ with_freed self.old.heap (drop (length self.old.heap.freed) self.new.heap.freed) }
         ensures rest { self.new ≡ record self.old { heap = self.new.heap; links = self.new.links } }
     {
-        sweep_rows(&mut self.rows, &mut self.freed);
+        sweep_rows(self.gone as usize, &mut self.rows, &mut self.freed);
     }
 }
 
-// Removes each row that stands without a mark, and puts its number on the list of freed ones.
-fn sweep_rows<N: Number>(rows: &mut Rows, freed: &mut Vec<N>)
+// Removes each row that stands without a mark, and puts its number on the list of freed ones. None of the first rows up to a number does.
+fn sweep_rows<N: Number>(from: usize, rows: &mut Rows, freed: &mut Vec<N>)
+    requires from { from ≤ length rows.old }
+    requires before { (x : ℕ) → x ≤ from → is_white (row_at rows.old x) ≡ true → ⊥ }
     requires most { length rows.old ≤ MOST }
     requires room { length freed.old.items + up_count (stands_in rows.old) ≤ vec_capacity freed.old }
     ensures swept { RowsSwept (length rows.old) rows.old rows.new (map N.number freed.old.items) (map N.number freed.new.items) }
     ensures capacity { vec_capacity freed.new ≡ vec_capacity freed.old }
 {
-    for i in 0..rows.made() {
+    for i in from..rows.made() {
         sweep_row(i + 1, rows, freed);
     }
 }

@@ -1,14 +1,23 @@
 -- Each turn asks one row more.
-use Rattle.std.proofs.Common.{ℕ, arith, ◌∷◌, []}
+use Rattle.std.proofs.Common.{◌≡◌, ◌<◌, ℕ, List, arith, ◌∷◌, [], ap, subst, sym}
+use Rattle.joint_model.specs.Gathered.{Gathered}
 use Rattle.std.proofs.lemmas.List.{map-append}
 use Rattle.joint_model.specs.declared.names.MNum.{MNum}
 use Rattle.joint_model.specs.Heaps.{IsLive}
 use Rattle.joint_model.specs.Histories.{managed_numbers}
 use Rattle.joint_model.proofs.Deciding.{test-true, test-false}
+use Rattle.joint_model.proofs.Members.{Contains-nil}
 use Rattle.joint_model.proofs.Gathering.{Gathered-push, Gathered-skip, Gathered-all, made-below}
 use Rattle.reachability.specs.Marks.{HasMark}
 use Rattle.managed_side.proofs.snapshots.whites.Goals as goal
 use Rattle.managed_side.proofs.snapshots.whites.Goals.{then-is_white+in_ok-push, else-is_white}
+
+-- no row comes before the oldest live one
+gathered-none : (wanted : ℕ → Type 0) (n : ℕ) (xs : List ℕ) → xs ≡ [] → ((k : ℕ) → k < n → wanted k → ⊥) → Gathered wanted n xs
+gathered-none wanted n xs is none = subst (Gathered wanted n) (sym is) record { rises = tt; exact = λ k. ((λ h. absurd (Contains-nil k h)), (λ h. absurd (none k h.0 h.1))) }
+
+pub loop-m-init : goal.loop-m-init
+loop-m-init c = gathered-none _ _ _ (ap managed_numbers c.in_ok-rows.ensures.items) (λ k l w. c.oldest-m.ensures.below k l w.0)
 
 pub loop-m-preserved : goal.loop-m-preserved
 loop-m-preserved c =

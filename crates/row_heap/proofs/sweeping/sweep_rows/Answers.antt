@@ -7,7 +7,7 @@ use Rattle.row_heap.proofs.Swept.{RowsSwept-none, RowsSwept-next, up-row, white-
 use Rattle.row_heap.proofs.sweeping.sweep_rows.Goals as goal
 
 pub loop-i-init : goal.loop-i-init
-loop-i-init g c = record { swept = RowsSwept-none c.args.rows.now _ _ refl; capacity = refl }
+loop-i-init g c = record { swept = RowsSwept-none c.args.from c.args.rows.now _ _ c.requires.before refl; capacity = refl }
 
 pub sweep_row-requires-clause-room : goal.sweep_row-requires-clause-room
 sweep_row-requires-clause-room g c = λ w.

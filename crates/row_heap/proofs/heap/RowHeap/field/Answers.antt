@@ -10,7 +10,7 @@ use Rattle.row_heap.proofs.Sound.{live-stands, fields-seen, tidy-seen}
 use Rattle.row_heap.proofs.heap.RowHeap.field.Goals as goal
 
 pub row-requires : goal.row-requires
-row-requires g c = live-stands _ _ _ _ _ c.args.x c.self.invariant.sound (rw (← c.self.view_is) at c.requires.live)
+row-requires g c = live-stands _ _ _ _ _ c.args.x c.self.invariant.0.sound (rw (← c.self.view_is) at c.requires.live)
 
 pub bounds-as_slice-i : goal.bounds-as_slice-i
 bounds-as_slice-i g c =
@@ -27,6 +27,6 @@ pub returns-clause-live : goal.returns-clause-live
 returns-clause-live g c =
     let fs = c.as_slice.result.now in
     let same = fields-seen _ _ _ _ _ _ _ c.args.self.now c.args.x c.self.view_is ∙ (ap (λ r. r.fields) c.row.ensures ∙ sym c.as_slice.ensures) in
-    let tidy = tidy-seen _ _ _ _ _ _ _ c.args.self.now _ c.self.view_is c.self.invariant.sound in
+    let tidy = tidy-seen _ _ _ _ _ _ _ c.args.self.now _ c.self.view_is c.self.invariant.0.sound in
     let at = Contains-get_or fs c.args.i None (subst (λ l. c.args.i < length l) same c.requires.index) in
     read-live c.args.self.now.heap (fields_of c.args.self.now.heap c.args.x) (get_or fs c.args.i None) (λ y p. tidy.held c.args.x y c.requires.live p) (subst (λ l. Contains l (get_or fs c.args.i None)) (sym same) at)

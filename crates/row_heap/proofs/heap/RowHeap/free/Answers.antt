@@ -2,6 +2,7 @@
 use Rattle.std.proofs.Common.{◌∙◌, ap, map}
 use Rattle.std.proofs.lemmas.List.{map-append}
 use Rattle.heap_rules.proofs.Sound.{IsUp-live}
+use Rattle.row_heap.proofs.Gone.{gone-more}
 use Rattle.row_heap.proofs.Freed.{IsRowHeap-freed, seen-freed}
 use Rattle.row_heap.proofs.Swept.{marks-freed}
 use Rattle.row_heap.proofs.heap.RowHeap.free.Goals as goal
@@ -9,11 +10,14 @@ use Rattle.row_heap.proofs.heap.RowHeap.free.Goals as goal
 pub free_rows-requires-clause-up : goal.free_rows-requires-clause-up
 free_rows-requires-clause-up g c =
     let can = rw (← c.self.view_is) at c.requires.can in
-    λ k d l. IsUp-live _ _ _ c.self.invariant.sound.flags (can.live k d l)
+    λ k d l. IsUp-live _ _ _ c.self.invariant.0.sound.flags (can.live k d l)
 
 pub invariant_of-self : goal.invariant_of-self
-invariant_of-self g c = IsRowHeap-freed _ _ _ _ (map g.N.Number.number c.args.xs.now) _ _ _ _ _ _ _ _ c.args.self.now c.self.view_is c.self.invariant c.free_rows.ensures.rows c.requires.can c.requires.ends
-    (ap (map g.N.Number.number) c.free_rows.ensures.freed ∙ map-append g.N.Number.number c.self.inside.freed.items c.args.xs.now) c.free_rows.ensures.capacity
+invariant_of-self g c = (
+  IsRowHeap-freed _ _ _ _ (map g.N.Number.number c.args.xs.now) _ _ _ _ _ _ _ _ c.args.self.now c.self.view_is c.self.invariant.0 c.free_rows.ensures.rows c.requires.can c.requires.ends
+      (ap (map g.N.Number.number) c.free_rows.ensures.freed ∙ map-append g.N.Number.number c.self.inside.freed.items c.args.xs.now) c.free_rows.ensures.capacity,
+  gone-more _ _ _ _ c.self.invariant.1 (ap (map g.N.Number.number) c.free_rows.ensures.freed ∙ map-append g.N.Number.number c.self.inside.freed.items c.args.xs.now),
+)
 
 pub returns-clause-heap : goal.returns-clause-heap
 returns-clause-heap g c = seen-freed _ _ _ _ (map g.N.Number.number c.args.xs.now) _ _ _ _ _ c.args.self.now c.self.view_is c.free_rows.ensures.rows

@@ -5,6 +5,6 @@ use Rattle.row_heap.proofs.heap.RowHeap.is_live.Goals as goal
 
 pub returns : goal.returns
 returns g c = rw (← c.self.view_is) (
-  (λ t. stands-live _ _ _ _ _ c.args.x c.self.invariant.sound (sym c.stands.ensures ∙ t)),
-  (λ l. c.stands.ensures ∙ live-stands _ _ _ _ _ c.args.x c.self.invariant.sound l),
+  (λ t. stands-live _ _ _ _ _ c.args.x c.self.invariant.0.sound (sym c.stands.ensures ∙ t)),
+  (λ l. c.stands.ensures ∙ live-stands _ _ _ _ _ c.args.x c.self.invariant.0.sound l),
 )

@@ -8,16 +8,18 @@ use Rattle.row_heap.proofs.Walked.{stands-seen}
 use Rattle.row_heap.proofs.heap.RowHeap.push_reference.Goals as goal
 
 pub row-requires : goal.row-requires
-row-requires g c = stands-seen _ _ _ _ _ _ _ _ c.args.self.now c.args.from c.self.view_is c.self.invariant.sound c.requires.from
+row-requires g c = stands-seen _ _ _ _ _ _ _ _ c.args.self.now c.args.from c.self.view_is c.self.invariant.0.sound c.requires.from
 
 pub invariant_of-self : goal.invariant_of-self
 invariant_of-self g c =
-    let r : Reference = record { from = c.args.from; to = c.args.to; next = c.row.result.now.first } in
-    IsRowHeap-pushed _ _ _ _ _ _ _ _ _ _ _ _ _ r c.self.invariant
-    (stands-seen _ _ _ _ _ _ _ _ c.args.self.now c.args.from c.self.view_is c.self.invariant.sound c.requires.from)
-    (stands-seen _ _ _ _ _ _ _ _ c.args.self.now c.args.to c.self.view_is c.self.invariant.sound c.requires.to)
-    (omega (arith, c.requires.room, ap (λ (v : HeapRows). v.room) c.self.view_is)) (ap (λ (q : Seen). q.first) (sym c.row.ensures)) c.push_reserved.ensures.items
-    (omega (arith, c.len.ensures, c.push_reserved.ensures.len, c.self.inside.references.ok)) c.set_first.ensures c.push_reserved.ensures.capacity
+    let r : Reference = record { from = c.args.from; to = c.args.to; next = c.row.result.now.first } in (
+      IsRowHeap-pushed _ _ _ _ _ _ _ _ _ _ _ _ _ r c.self.invariant.0
+          (stands-seen _ _ _ _ _ _ _ _ c.args.self.now c.args.from c.self.view_is c.self.invariant.0.sound c.requires.from)
+          (stands-seen _ _ _ _ _ _ _ _ c.args.self.now c.args.to c.self.view_is c.self.invariant.0.sound c.requires.to)
+          (omega (arith, c.requires.room, ap (λ (v : HeapRows). v.room) c.self.view_is)) (ap (λ (q : Seen). q.first) (sym c.row.ensures)) c.push_reserved.ensures.items
+          (omega (arith, c.len.ensures, c.push_reserved.ensures.len, c.self.inside.references.ok)) c.set_first.ensures c.push_reserved.ensures.capacity,
+      c.self.invariant.1,
+    )
 
 pub returns : goal.returns
 returns g c =

@@ -7,5 +7,5 @@ use Rattle.row_heap.proofs.heap.RowHeap.static_at.Goals as goal
 pub returns-clause-live : goal.returns-clause-live
 returns-clause-live g c =
     let os = c.self.inside.statics in
-    let within : c.args.s < length os = omega (arith, c.self.invariant.sound.tidy.statics, c.requires) in
-    rw (← c.self.view_is) (read-live _ os _ (λ y p. c.self.invariant.sound.tidy.slots y (inr p)) (Contains-get_or os c.args.s None within))
+    let within : c.args.s < length os = omega (arith, c.self.invariant.0.sound.tidy.statics, c.requires) in
+    rw (← c.self.view_is) (read-live _ os _ (λ y p. c.self.invariant.0.sound.tidy.slots y (inr p)) (Contains-get_or os c.args.s None within))

@@ -7,5 +7,5 @@ use Rattle.row_heap.proofs.heap.RowHeap.var.Goals as goal
 pub returns-clause-live : goal.returns-clause-live
 returns-clause-live g c =
     let os = c.self.inside.vars in
-    let within : c.args.place < length os = omega (arith, c.self.invariant.sound.tidy.vars, c.requires) in
-    rw (← c.self.view_is) (read-live _ os _ (λ y p. c.self.invariant.sound.tidy.slots y (inl p)) (Contains-get_or os c.args.place None within))
+    let within : c.args.place < length os = omega (arith, c.self.invariant.0.sound.tidy.vars, c.requires) in
+    rw (← c.self.view_is) (read-live _ os _ (λ y p. c.self.invariant.0.sound.tidy.slots y (inl p)) (Contains-get_or os c.args.place None within))

@@ -3,10 +3,10 @@ use Rattle.row_heap.proofs.Walked.{stands-seen, IsRowHeap-marked, kept-marked, m
 use Rattle.row_heap.proofs.tracing.RowHeapTraced.mark.Goals as goal
 
 pub mark-requires : goal.mark-requires
-mark-requires g c = stands-seen _ _ _ _ _ _ _ _ c.args.self.now c.args.x c.self.view_is c.self.invariant.sound c.requires
+mark-requires g c = stands-seen _ _ _ _ _ _ _ _ c.args.self.now c.args.x c.self.view_is c.self.invariant.0.sound c.requires
 
 pub invariant_of-self : goal.invariant_of-self
-invariant_of-self g c = IsRowHeap-marked _ _ _ _ _ _ _ _ _ _ c.args.x c.args.link c.self.invariant c.mark.ensures
+invariant_of-self g c = (IsRowHeap-marked _ _ _ _ _ _ _ _ _ _ c.args.x c.args.link c.self.invariant.0 c.mark.ensures, c.self.invariant.1)
 
 pub returns-clause-kept : goal.returns-clause-kept
 returns-clause-kept g c = kept-marked _ _ _ _ _ _ _ _ c.args.x c.args.link c.args.self.now c.self.view_is c.mark.ensures

@@ -3,13 +3,13 @@ use Rattle.row_heap.proofs.Walked.{IsRowHeap-bare, greyed-seen, held-seen, kept-
 use Rattle.row_heap.proofs.tracing.RowHeapTraced.mark_fields.Goals as goal
 
 pub mark_fields-requires-clause-stands : goal.mark_fields-requires-clause-stands
-mark_fields-requires-clause-stands g c = stands-seen _ _ _ _ _ _ _ _ c.args.self.now c.args.x c.self.view_is c.self.invariant.sound c.requires
+mark_fields-requires-clause-stands g c = stands-seen _ _ _ _ _ _ _ _ c.args.self.now c.args.x c.self.view_is c.self.invariant.0.sound c.requires
 
 pub mark_fields-requires-clause-held : goal.mark_fields-requires-clause-held
-mark_fields-requires-clause-held g c = λ y h. held-seen _ _ _ _ _ _ _ _ c.args.self.now c.args.x y c.self.view_is c.self.invariant.sound c.requires h
+mark_fields-requires-clause-held g c = λ y h. held-seen _ _ _ _ _ _ _ _ c.args.self.now c.args.x y c.self.view_is c.self.invariant.0.sound c.requires h
 
 pub invariant_of-self : goal.invariant_of-self
-invariant_of-self g c = IsRowHeap-bare _ _ _ _ _ _ _ _ _ _ c.self.invariant c.mark_fields.ensures.kept
+invariant_of-self g c = (IsRowHeap-bare _ _ _ _ _ _ _ _ _ _ c.self.invariant.0 c.mark_fields.ensures.kept, c.self.invariant.1)
 
 pub returns-clause-kept : goal.returns-clause-kept
 returns-clause-kept g c = kept-bare _ _ _ _ _ _ _ _ c.args.self.now c.self.view_is c.mark_fields.ensures.kept

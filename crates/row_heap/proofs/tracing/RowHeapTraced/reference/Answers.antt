@@ -4,7 +4,7 @@ use Rattle.row_heap.proofs.Walked.{reference-leads, reference-next}
 use Rattle.row_heap.proofs.tracing.RowHeapTraced.reference.Goals as goal
 
 pub returns-clause-next : goal.returns-clause-next
-returns-clause-next g c = reference-next _ _ _ _ _ _ _ _ _ c.args.self.now c.args._x c.requires.of.0 (c.args.r - 1) c.index-reference.result.now c.self.view_is c.self.invariant c.requires.of.1 c.index-reference.ensures
+returns-clause-next g c = reference-next _ _ _ _ _ _ _ _ _ c.args.self.now c.args._x c.requires.of.0 (c.args.r - 1) c.index-reference.result.now c.self.view_is c.self.invariant.0 c.requires.of.1 c.index-reference.ensures
 
 pub returns-clause-within : goal.returns-clause-within
-returns-clause-within g c = reference-leads _ _ _ _ _ _ _ _ _ c.args.self.now c.args._x c.requires.of.0 (c.args.r - 1) c.index-reference.result.now c.self.view_is c.self.invariant c.requires.row c.requires.of.1 c.index-reference.ensures
+returns-clause-within g c = reference-leads _ _ _ _ _ _ _ _ _ c.args.self.now c.args._x c.requires.of.0 (c.args.r - 1) c.index-reference.result.now c.self.view_is c.self.invariant.0 c.requires.row c.requires.of.1 c.index-reference.ensures
