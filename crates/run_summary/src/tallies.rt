@@ -1,8 +1,8 @@
 // What the entries of a history made, and what is left of it.
 
-ghost use Rattle.std.specs.Prelude.{◌≡◌, ◌-◌, ◌^◌};
+ghost use Rattle.std.specs.Prelude.{◌≡◌, ◌-◌, ◌^◌, IsTrue};
 ghost use Rattle.joint_model.specs.Leaders.{entry_of};
-ghost use Rattle.run_summary.specs.Tallies.{opens_cycle, makes_managed, makes_peer, makes_handle, removes_handle, freed_managed as freed_managed_by, freed_peers as freed_peers_by, more, less, tallied, tally_of, nothing_yet, AreAtMost, IsUpTo};
+ghost use Rattle.run_summary.specs.Tallies.{opens_cycle, makes_managed, makes_peer, makes_handle, removes_handle, freed_managed as freed_managed_by, freed_peers as freed_peers_by, more, less, tallied, tally_of, nothing_yet, AreAtMost, CountsNothing, IsUpTo};
 
 use joint_model::{Act, Entry, History, Made, Op, Reply, Step};
 
@@ -101,6 +101,20 @@ fn freed_peers(reply: &Reply) -> u32
     }
 }
 
+// Whether an event with that reply is one of those that count nothing: it answers `ok` or `alive`, opens no cycle and removes no handle.
+// Most entries are of those.
+fn counts_nothing(op: &Op, reply: &Reply) -> bool
+    ensures { IsTrue result → CountsNothing op.now reply.now }
+{
+    match reply {
+        Reply::Ok | Reply::Alive => !matches!(
+            op,
+            Op::Snap { .. } | Op::Release { .. } | Op::Line(Act::UnGlobal { .. })
+        ),
+        _ => false,
+    }
+}
+
 impl Objects {
     // These and what an event with that reply made.
     fn more(self, op: &Op, reply: &Reply) -> Objects
@@ -148,6 +162,9 @@ impl Tally {
     {
         let op = &entry.op;
         let reply = &entry.reply;
+        if counts_nothing(op, reply) {
+            return;
+        }
         self.cycles += opens_cycle(op) as u64;
         self.made = self.made.more(op, reply);
         self.left = self.left.more(op, reply).less(op, reply);
