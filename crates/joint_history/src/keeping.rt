@@ -67,6 +67,9 @@ impl<T: Drop> Keep<T> for RefCell<T> {
     // A thread that has the cell alone, and the value not in hand, finds it free at once.
     #[inline(always)]
     fn hold<'a, R: Wait>(&'a self, rt: &R) -> Held<'a, T> {
+        if let Ok(inside) = self.try_borrow_mut() {
+            return Held::Borrowed(inside);
+        }
         for _ in rt.forever() {
             if let Ok(inside) = self.try_borrow_mut() {
                 return Held::Borrowed(inside);
