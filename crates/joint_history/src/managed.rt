@@ -132,6 +132,7 @@ impl<N: OrderName> LockedManaged<N> {
     }
 
     /// Makes one event of a managed thread, and answers its entry's number and the reply. The caller's seat knows the entry then.
+    #[inline(always)]
     pub(crate) fn step(
         &mut self,
         order: &Order,

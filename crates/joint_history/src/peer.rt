@@ -103,6 +103,7 @@ impl<N: OrderName> LockedPeer<N> {
 
     /// Makes one event of a thread, and answers its entry's number and the reply. The caller's seat knows the entry then. Answers `AllocError`
     /// where there is no memory, and no entry is made then; a release takes none.
+    #[inline(always)]
     pub(crate) fn step(
         &mut self,
         order: &Order,

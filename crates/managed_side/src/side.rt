@@ -90,6 +90,7 @@ impl ManagedSide {
     /// Makes one event: of a managed thread a line that is one event, but for `take`, or `adopt`, `lend`, `meet` or `give`; or `finalise` of the driver.
     /// `cites` is given exactly for `adopt` and `meet`, and the handle that one of these names was adopted by no entry. One entry is drawn and put
     /// last. Answers `AllocError` where there is no memory, or where the entries would pass their limit; the side and `draw` are then as before.
+    #[inline(always)]
     pub fn step<D: Draw>(
         &mut self,
         draw: &mut D,

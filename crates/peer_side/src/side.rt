@@ -121,6 +121,7 @@ impl PeerSide {
     /// begin and, if that gave a number, the sweep of that marking. Answers the reply of the last one.
     ///
     /// Answers `AllocError`, with the side and the draw as before, where there is no memory. A release takes none.
+    #[inline(always)]
     pub fn step<D: Draw>(
         &mut self,
         draw: &mut D,
@@ -171,6 +172,7 @@ impl PeerSide {
     /// and the change are those of the definition, and one entry is drawn and put last.
     ///
     /// Answers `AllocError`, with the side and the draw as before, where there is no memory. A release takes none.
+    #[inline(always)]
     pub fn event<D: Draw>(
         &mut self,
         draw: &mut D,

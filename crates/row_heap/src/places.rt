@@ -201,6 +201,7 @@ impl Rows {
     }
 
     /// Makes a row under the next number, with a mark. Answers `AllocError`, with the rows as before, where there is no memory.
+    #[inline(always)]
     pub(crate) fn add(&mut self, fields: Fields) -> Result<(), AllocError>
         ensures ok { OnOk result (self.new ≡ self.old ++ record { fields = fields; first = 0; marked = true; link = 0; stands = true } ∷ []) }
         ensures err { OnErr result (self.new ≡ self.old) }
