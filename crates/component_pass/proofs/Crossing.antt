@@ -1,8 +1,8 @@
 -- The search from x goes through x's own class and through plain classes. It comes to a node of another
 -- class with a bridge node exactly where there is a cross-reference: the part of its walk behind the last
 -- node of the own class has plain classes only, and the way to where a cross-reference leaves lies in the class.
-use Rattle.std.proofs.Common.{◌≡◌, ◌↔◌, ◌⊎◌, ℕ, ◌+◌, ◌<◌, Bool, true, false, List, [], ◌∷◌, ◌++◌, Some, length, map, get_or, refl, sym, ◌∙◌, ap, subst, arith, inl, inr}
-use Rattle.std.proofs.lemmas.List.{length-map, get_or-map}
+use Rattle.std.proofs.Common.{◌≡◌, ◌↔◌, ◌⊎◌, ℕ, ◌+◌, ◌<◌, ◌≤◌, Bool, true, false, List, [], ◌∷◌, ◌++◌, Some, length, map, get_or, refl, sym, ◌∙◌, ap, subst, arith, inl, inr}
+use Rattle.std.proofs.lemmas.List.{length-map, get_or-map, get_or_default, get_or_past}
 use Rattle.std.proofs.lemmas.List.Elements.{All-nil, All-head, All-tail, All-push, All-contains, Contains-get_or, Contains-append_left, Contains-append_right, Contains-append_cases}
 use Rattle.std.proofs.lemmas.Option.{slice_get-get_or, slice_get_within, get_or_from_slice_get}
 use Rattle.std.proofs.lemmas.List.Sorted.{Contains-permutation, IsPermutation-sym}
@@ -20,9 +20,12 @@ use Rattle.component_pass.specs.Classes.{AreClasses}
 use Rattle.component_pass.specs.Grouping.{AreGrouped, AreListed, ArePlain, IsHead, group}
 use Rattle.component_pass.specs.Referring.{ComesTo, AreDestinations, AreReferencesBelow}
 use Rattle.component_pass.proofs.Grouped.{group-members, group-has, bridge-below}
-use Rattle.component_pass.proofs.Linked.{node_at, rises_at, next-up, next-down, none-before, link-here}
-use Rattle.component_pass.proofs.Listed.{head_is}
+use Rattle.component_pass.proofs.Listed.{head_is, rises_at}
 use Rattle.component_pass.proofs.Finding.{walk_inside}
+
+-- the first member of the component with index i, or n past the last one
+abbrev pub first_from : List (List ℕ) → ℕ → ℕ → ℕ
+first_from comps n i = get_or (map first_of comps) i n
 
 -- all that is known once the components are listed
 pub record Setting (nodes : List Node) (edges : List (List ℕ)) (labels : List ℕ) (flags : List Bool) (links : List Link) (comps : List (List ℕ)) (indexes : List ℕ) : Type 0 where
@@ -219,27 +222,80 @@ module _ (nodes : List Node) (edges : List (List ℕ)) (labels : List ℕ) (flag
         (y.0, y.1, y.2, ap (λ (l : ℕ). get_or indexes l 0) (sym same) ∙ at_label j t.0)),
   )
 
-  -- where there is no bridge node between, it is the same
-  refs_jump : (x z : ℕ) (pairs : List (ℕ × ℕ)) → ((y : ℕ) → IsBridgeNode nodes y → y < x → y < z) → ((y : ℕ) → IsBridgeNode nodes y → y < z → y < x)
-      → AreReferencesBelow (IsBridgeNode nodes) E comps x pairs → AreReferencesBelow (IsBridgeNode nodes) E comps z pairs
-  refs_jump x z pairs up down a = record {
-    exact = λ i j. (
-      (λ c. let t = (a.exact i j).0 c in (t.0, t.1, up (first_at comps i) (comp_at i t.0).0 t.2, t.3)),
-      (λ t. (a.exact i j).1 (t.0, t.1, down (first_at comps i) (comp_at i t.0).0 t.2, t.3)),
-    );
-  }
+  -- the first member of each component, a bridge node, stands first in its group
+  pub first_head : (i : ℕ) → i < length comps
+      → (first_at comps i < length nodes) × IsBridgeNode nodes (first_at comps i) × IsHead (group links (get_or labels (first_at comps i) 0)) (first_at comps i) × (get_or indexes (get_or labels (first_at comps i) 0) 0 ≡ i)
+  first_head i lt =
+      let c = comp_at i lt in
+      let x : ℕ = first_at comps i in
+      let below = bridge-below nodes x c.0 in
+      let has = group-has nodes labels (length nodes) links x s.grouped below c.0 in
+      (below, c.0, (omega (arith, has.1), head_is (group links (get_or labels x 0)) ∙ sym (ap first_of c.1) ∙ sym (first_is i lt)), at_label i lt)
 
-  pub refs_begin : AreReferencesBelow (IsBridgeNode nodes) E comps (node_at links (length nodes) 0) []
-  refs_begin = refs_jump 0 (node_at links (length nodes) 0) [] (λ y b h. absurd (omega (arith, h))) (λ y b h. absurd (none-before nodes labels links y s.grouped b h))
-      (record { exact = λ i j. ((λ c. absurd (omega (arith, c.1))), (λ t. absurd (omega (arith, t.2)))) })
+  -- labels are told apart by their indexes
+  pub index_apart : (a b : ℕ) → IsBridgeNode nodes a → IsBridgeNode nodes b → get_or indexes (get_or labels a 0) 0 ≡ get_or indexes (get_or labels b 0) 0 → get_or labels a 0 ≡ get_or labels b 0
+  index_apart a b ab bb e =
+      let same : group links (get_or labels a 0) ≡ group links (get_or labels b 0) = sym (index_of a ab).1 ∙ ap (λ (i : ℕ). get_or comps i []) e ∙ (index_of b bb).1 in
+      let has = group-has nodes labels (length nodes) links a s.grouped (bridge-below nodes a ab) ab in
+      let l : ℕ = get_or labels b 0 in
+      (All-contains (λ z. (z < length nodes) × (get_or labels z 0 ≡ l) × IsBridgeNode nodes z) (group links l) a
+      (group-members nodes labels (length nodes) links l s.grouped) (subst (λ (xs : List ℕ). Contains xs a) same has)).1
 
-  pub refs_next : (k x : ℕ) (pairs : List (ℕ × ℕ)) → k < length links → x ≡ get_or (map (λ (l : Link). l.to) links) k 0
-      → AreReferencesBelow (IsBridgeNode nodes) E comps (x + 1) pairs → AreReferencesBelow (IsBridgeNode nodes) E comps (node_at links (length nodes) (k + 1)) pairs
-  refs_next k x pairs lt is a =
-      let here = link-here nodes links k x lt is in
-      refs_jump (x + 1) (node_at links (length nodes) (k + 1)) pairs
-      (λ y b h. next-up nodes labels links k y s.grouped lt b (omega (arith, h, here)))
-      (λ y b h. omega (arith, next-down nodes labels links k y s.grouped lt b h, here)) a
+  pub first_from_is : (i : ℕ) → i < length comps → first_from comps (length nodes) i ≡ first_at comps i
+  first_from_is i lt = get_or_default (map first_of comps) i (length nodes) 0 (omega (arith, lt, length-map comps first_of))
+
+  before_first : (i j : ℕ) → i < length comps → first_at comps i < first_from comps (length nodes) j → i < j
+  before_first i j lt h =
+      elim (cases_lt i j) [
+        | inl l ↦ l
+        | inr ge ↦ elim (cases_eq i j) [
+          | inl e ↦ absurd (omega (arith, h, first_from_is i lt, ap (first_from comps (length nodes)) e))
+          | inr ne ↦ absurd (omega (arith, h, first_from_is j (omega (arith, ge, lt)), rises_at (map first_of comps) j i s.listed.order (omega (arith, ge, ne)) (omega (arith, lt, length-map comps first_of))))
+        ]
+      ]
+
+  after_first : (i j : ℕ) → i < length comps → i < j → first_at comps i < first_from comps (length nodes) j
+  after_first i j lt l =
+      elim (cases_lt j (length comps)) [
+        | inl jl ↦ omega (arith, first_from_is j jl, rises_at (map first_of comps) i j s.listed.order l (omega (arith, jl, length-map comps first_of)))
+        | inr ge ↦ omega (arith, (first_head i lt).0, get_or_past (map first_of comps) j (length nodes) (omega (arith, ge, length-map comps first_of)))
+      ]
+
+  pub refs_begin : AreReferencesBelow (IsBridgeNode nodes) E comps (first_from comps (length nodes) 0) []
+  refs_begin = record { exact = λ i j. ((λ c. absurd (omega (arith, c.1))), (λ t. absurd (omega (arith, before_first i 0 t.0 t.2)))) }
+
+  -- no component begins between the first members of two, one behind the other
+  pub refs_next : (k : ℕ) (pairs : List (ℕ × ℕ)) → k < length comps → AreReferencesBelow (IsBridgeNode nodes) E comps (first_at comps k + 1) pairs
+      → AreReferencesBelow (IsBridgeNode nodes) E comps (first_from comps (length nodes) (k + 1)) pairs
+  refs_next k pairs lt a =
+      let here = first_from_is k lt in
+      record {
+        exact = λ i j. (
+          (λ c. let t = (a.exact i j).0 c in (
+            t.0,
+            t.1,
+            after_first i (k + 1) t.0 (elim (cases_eq i k) [
+              | inl e ↦ omega (arith, e)
+              | inr ne ↦
+                  let le : first_at comps i ≡ first_at comps k → ⊥ = λ e. ne (same_index i k t.0 lt e) in
+                  omega (arith, lesser_index i k t.0 lt (omega (arith, t.2, le)))
+            ]),
+            t.3,
+          )),
+          (λ t. (a.exact i j).1 (
+            t.0,
+            t.1,
+            (elim (cases_eq i k) [
+              | inl e ↦ omega (arith, ap (first_at comps) e)
+              | inr ne ↦ omega (arith, after_first i k t.0 (omega (arith, before_first i (k + 1) t.0 t.2, ne)), here)
+            ]),
+            t.3,
+          )),
+        );
+      }
+
+  pub refs_whole : (k : ℕ) (pairs : List (ℕ × ℕ)) → length comps ≤ k → AreReferencesBelow (IsBridgeNode nodes) E comps (first_from comps (length nodes) k) pairs → AreReferencesBelow (IsBridgeNode nodes) E comps (length nodes) pairs
+  refs_whole k pairs ge a = subst (λ (x : ℕ). AreReferencesBelow (IsBridgeNode nodes) E comps x pairs) (get_or_past (map first_of comps) k (length nodes) (omega (arith, ge, length-map comps first_of))) a
 
   pub refs_none : AreReferencesBelow (IsBridgeNode nodes) E comps 0 []
   refs_none = record { exact = λ i j. ((λ c. absurd (omega (arith, c.1))), (λ t. absurd (omega (arith, t.2)))) }

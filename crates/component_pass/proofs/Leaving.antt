@@ -2,7 +2,7 @@
 -- of its nodes reaches the edge's start inside the class. The search from a node of a component comes to
 -- exactly what leaves its class: the last edge by which its walk leaves the class begins the rest of it,
 -- which lies in classes without a bridge node.
-use Rattle.std.proofs.Common.{◌≡◌, ◌↔◌, ◌⊎◌, ℕ, ◌<◌, Bool, true, false, eqb, List, length, map, get_or, refl, sym, ◌∙◌, ap, subst, arith, inl, inr}
+use Rattle.std.proofs.Common.{◌≡◌, ◌↔◌, ◌⊎◌, ℕ, ◌<◌, Bool, true, false, eqb, List, [], length, map, get_or, refl, sym, ◌∙◌, ap, subst, arith, inl, inr}
 use Rattle.std.proofs.lemmas.List.{get_or_past}
 use Rattle.std.proofs.lemmas.List.FromFn.{length-map-range_with_len, get_or-map-range_with_len}
 use Rattle.std.proofs.lemmas.Bool.{cases_lt, cases_eq, true≢false, eqb-true, eq-eqb}
@@ -20,6 +20,7 @@ use Rattle.component_pass.specs.Gathering.{Gathers, set_at}
 use Rattle.component_pass.specs.Sharing.{Passes, ComesOut, Leaves, AreShared}
 use Rattle.component_pass.proofs.Finding.{leads_from, walk_inside}
 use Rattle.component_pass.proofs.Grouped.{plain_from_empty}
+use Rattle.component_pass.proofs.Sets.{set-none}
 
 -- for each node whether its class has no bridge node
 abbrev pub flags_of : ℕ → List ℕ → List Link → List Bool
@@ -153,21 +154,28 @@ module _ (nodes : List Node) (edges : List (List ℕ)) (labels : List ℕ) (link
             )),
       )
 
-  -- what is gathered from the sets of the classes that a class leads to leaves the class
-  pub gathers_leaves : (rows : List (List ℕ)) (sets : List ℕ) (lists : List (List ℕ)) (count n own j : ℕ) → AreInOrder edges (length nodes) labels rows
-      → AreShared edges (length nodes) labels links indexes count n sets lists
-      → ((u v : ℕ) → get_or labels u 0 ≡ own → E u v → (get_or labels v 0 ≡ own → ⊥) → get_or labels v 0 < n)
-      → Gathers edges labels sets lists count own (row_at rows own) j ↔ Leaves edges (length nodes) labels links indexes own j
-  gathers_leaves rows sets lists count n own j o s later = (
+  -- what is gathered for a class leaves it, where the sets of the classes before it are exact and those of the others empty
+  pub gathers_leaves : (rows : List (List ℕ)) (sets : List ℕ) (lists : List (List ℕ)) (count own j : ℕ) → AreInOrder edges (length nodes) labels rows
+      → AreShared edges (length nodes) labels links indexes count own sets lists → row_at lists 0 ≡ []
+      → Gathers edges sets lists count (row_at rows own) j ↔ Leaves edges (length nodes) labels links indexes own j
+  gathers_leaves rows sets lists count own j o s none = (
     (λ g.
         let a = g.1 in
         let m = (o.members own a.0).0 a.1 in
         let v : ℕ = a.2.0 in
         let e : E a.0 v = a.2.1 in
-        let c = subst (λ (k : ℕ). Contains (set_at count lists k) j) (sym a.2.3) g.2 in
-        (a.0, v, m.0, m.1, e, a.2.2, (s.exact v j (part.in_range a.0 v e) (later a.0 v m.1 e a.2.2)).0 c)),
+        let vl = part.in_range a.0 v e in
+        let c = subst (λ (k : ℕ). Contains (set_at count lists k) j) (sym a.2.2) g.2 in
+        elim (cases_lt (get_or labels v 0) own) [
+          | inl before ↦ (a.0, v, m.0, m.1, e, (λ is. absurd (omega (arith, is, before))), (s.exact v j vl before).0 c)
+          | inr later ↦
+              let d = subst (λ (k : ℕ). Contains (set_at count lists k) j) (s.rest v vl later) c in
+              let f = subst (λ (xs : List ℕ). Contains xs j) (set-none count lists none) d in
+              absurd (omega (arith, f.1))
+        ]),
     (λ t.
         let member = (o.members own t.0).1 (t.2, t.3) in
-        let c = (s.exact t.1 j (part.in_range t.0 t.1 t.4) (later t.0 t.1 t.3 t.4 t.5)).1 t.6 in
-        (get_or sets (get_or labels t.1 0) 0, (t.0, member, (t.1, t.4, t.5, refl)), c)),
+        let before : get_or labels t.1 0 < own = omega (arith, o.backwards t.0 t.1 t.4, t.3, t.5) in
+        let c = (s.exact t.1 j (part.in_range t.0 t.1 t.4) before).1 t.6 in
+        (get_or sets t.1 0, (t.0, member, (t.1, t.4, refl)), c)),
   )

@@ -2,9 +2,9 @@ pub mod Finding
 pub mod Least
 pub mod Grouped
 pub mod Listed
-pub mod Linked
 pub mod Crossing
 pub mod Strong
+pub mod Sets
 pub mod Gathered
 pub mod Leaving
 pub mod Shared

@@ -1,53 +1,23 @@
--- Lists of sets only grow, so a number stands for the same set from then on, and sets that were exact for
--- the classes so far stay so.
-use Rattle.std.proofs.Common.{◌≡◌, ◌↔◌, ℕ, ◌+◌, ◌-◌, ◌<◌, ◌≤◌, true, false, List, [], ◌∷◌, ◌++◌, length, map, nat_lt, get_or, refl, sym, ◌∙◌, ap, subst, arith, inl, inr}
-use Rattle.std.proofs.lemmas.List.{length_push, length-map, get_or_append_left, get_or_push}
-use Rattle.std.proofs.lemmas.List.Elements.{All-nil, All-push, All-weaker, All-map, Contains-push, Contains-push_cases}
-use Rattle.std.proofs.lemmas.Bool.{cases_lt}
-use Rattle.std.proofs.lemmas.Bool.Decides.{nat_tests}
+-- Lists of sets only grow, so sets that were exact for the classes so far stay so.
+use Rattle.std.proofs.Common.{◌≡◌, ◌↔◌, ℕ, ◌+◌, ◌<◌, ◌≤◌, List, [], ◌∷◌, ◌++◌, length, map, get_or, set, refl, sym, ◌∙◌, ap, subst, arith, inl, inr}
+use Rattle.std.proofs.lemmas.List.{length_push, length-map, length-set, get_or_append_left, get_or_default, get_or-set_same, get_or-set_other}
+use Rattle.std.proofs.lemmas.List.Elements.{All-nil, All-push, All-weaker, All-map, All-contains, Contains-push, Contains-push_cases}
+use Rattle.std.proofs.lemmas.Bool.{cases_lt, cases_eq}
 use Rattle.std.specs.List.{All, Contains}
-use Rattle.joint_model.specs.Components.{Rises, first_of}
+use Rattle.joint_model.specs.Components.{Rises, first_of, first_at}
 use Rattle.bridge_graph.specs.declared.graph.Node.{Node}
 use Rattle.bridge_graph.specs.declared.packing.Link.{Link}
 use Rattle.bridge_graph.specs.Parts.{IsBridgeNode, IsPart, row_at}
 use Rattle.component_pass.specs.Classes.{AreClasses, AreInOrder}
 use Rattle.component_pass.specs.Grouping.{AreGrouped, AreListed, group}
 use Rattle.component_pass.specs.Referring.{AreDestinations}
-use Rattle.component_pass.specs.Gathering.{AreSets, Gathers, set_at}
-use Rattle.component_pass.specs.Sharing.{AreShared, ComesOut, Leaves, IsFound}
-use Rattle.component_pass.proofs.Crossing.{Setting}
-use Rattle.component_pass.proofs.Leaving.{flags_of, flags-plain, gathers_leaves, search_leaves, bridge_stays, plain_leaves}
-use Rattle.component_pass.proofs.Grouped.{group-members}
+use Rattle.component_pass.specs.Gathering.{AreSets, set_at}
+use Rattle.component_pass.specs.Sharing.{AreShared, AreReferred, ComesOut, Leaves, IsFound}
+use Rattle.component_pass.proofs.Crossing.{Setting, first_head}
+use Rattle.component_pass.proofs.Sets.{set-one, set-kept, set-rises}
+use Rattle.component_pass.proofs.Leaving.{flags_of, flags-plain, search_leaves, bridge_stays, plain_leaves}
+use Rattle.component_pass.proofs.Grouped.{group-members, group-has, bridge-below}
 use Rattle.xref_list.proofs.Comps.{few_rising}
-
-pub set-one : (count : ℕ) (lists : List (List ℕ)) (s : ℕ) → s < count → set_at count lists s ≡ s ∷ []
-set-one count lists s lt = let t : nat_lt s count ≡ true = grind (arith, nat_tests) in rw t refl
-
-pub set-list : (count : ℕ) (lists : List (List ℕ)) (s : ℕ) → count ≤ s → set_at count lists s ≡ row_at lists (s - count)
-set-list count lists s ge = let t : nat_lt s count ≡ false = grind (arith, nat_tests) in rw t refl
-
-pub set-kept : (count : ℕ) (before after : List (List ℕ)) (s : ℕ) → s < count + length before → ((k : ℕ) → k < length before → row_at after k ≡ row_at before k)
-    → set_at count after s ≡ set_at count before s
-set-kept count before after s lt kept =
-    elim (cases_lt s count) [
-      | inl one ↦ set-one count after s one ∙ sym (set-one count before s one)
-      | inr ge ↦ set-list count after s ge ∙ kept (s - count) (omega (arith, ge, lt)) ∙ sym (set-list count before s ge)
-    ]
-
-pub set-rises : (sets : List ℕ) (lists : List (List ℕ)) (count numbers s : ℕ) → AreSets sets lists count numbers → s < numbers → Rises (set_at count lists s)
-set-rises sets lists count numbers s a lt =
-    elim (cases_lt s count) [
-      | inl one ↦ rw (set-one count lists s one) (All-nil (λ y. s < y), tt)
-      | inr ge ↦ rw (set-list count lists s ge) (a.rising (s - count) [] (omega (arith, ge, lt, a.all)))
-    ]
-
-pub set-last : (count : ℕ) (lists : List (List ℕ)) (union : List ℕ) → set_at count (lists ++ union ∷ []) (count + length lists) ≡ union
-set-last count lists union =
-    set-list count (lists ++ union ∷ []) (count + length lists) (omega arith) ∙ get_or_push lists union [] (count + length lists - count) (omega arith)
-
--- the first list is the empty set
-pub set-none : (count : ℕ) (lists : List (List ℕ)) → row_at lists 0 ≡ [] → set_at count lists count ≡ []
-set-none count lists none = set-list count lists count (omega arith) ∙ ap (λ (k : ℕ). row_at lists k) (let e : count - count ≡ 0 = omega arith in e) ∙ none
 
 -- a list more
 pub found-new : (sets : List ℕ) (lists : List (List ℕ)) (count numbers : ℕ) (union : List ℕ) → AreSets sets lists count numbers → Rises union → All (λ j. j < count) union
@@ -72,47 +42,116 @@ found-new sets lists count numbers union a r b =
 pub found-old : (sets : List ℕ) (lists : List (List ℕ)) (count numbers s : ℕ) → AreSets sets lists count numbers → s < numbers → IsFound sets lists lists count numbers s
 found-old sets lists count numbers s a lt = record { valid = a; known = lt; kept = λ k h. refl; longer = omega arith; one = omega arith }
 
--- one class more
-pub shared-more : (edges : List (List ℕ)) (nodes : ℕ) (labels : List ℕ) (links : List Link) (indexes : List ℕ) (count n numbers before_numbers : ℕ) (sets : List ℕ) (before after : List (List ℕ)) (s : ℕ)
-    → AreShared edges nodes labels links indexes count n sets before → AreSets sets before count before_numbers → IsFound sets before after count numbers s
-    → ((x j : ℕ) → x < nodes → get_or labels x 0 ≡ n → Contains (set_at count after s) j ↔ ComesOut edges labels links indexes x j)
-    → AreShared edges nodes labels links indexes count (n + 1) (sets ++ s ∷ []) after
-shared-more edges nodes labels links indexes count n numbers before_numbers sets before after s h a f e = record {
-  size = omega (arith, h.size, length_push sets s);
-  exact = λ x j lt ln. elim (cases_lt (get_or labels x 0) n) [
-    | inl old ↦
-        let l : ℕ = get_or labels x 0 in
-        let at : l < length sets = omega (arith, old, h.size) in
-        let same : get_or (sets ++ s ∷ []) l 0 ≡ get_or sets l 0 = get_or_append_left sets (s ∷ []) 0 l at in
-        let kept = set-kept count before after (get_or sets l 0) (omega (arith, a.known l 0 at, a.all)) f.kept in
-        rw (same, kept) (h.exact x j lt old)
-    | inr ge ↦
-        let is : get_or labels x 0 ≡ n = omega (arith, ge, ln) in
-        rw (get_or_push sets s 0 (get_or labels x 0) (h.size ∙ sym is)) (e x j lt is)
-  ];
-}
+-- the members of a class get the number of one set, and the other nodes keep theirs
+pub record Puts (class before after : List ℕ) (number : ℕ) : Type 0 where
+  pub size : length after ≡ length before
+  pub taken : All (λ x. get_or after x 0 ≡ number) class
+  pub others : (x : ℕ) → (Contains class x → ⊥) → get_or after x 0 ≡ get_or before x 0
 
-pub shared-none : (edges : List (List ℕ)) (nodes : ℕ) (labels : List ℕ) (links : List Link) (indexes : List ℕ) (count : ℕ) → AreShared edges nodes labels links indexes count 0 [] ([] ∷ [])
-shared-none edges nodes labels links indexes count = record { size = refl; exact = λ x j lt h. absurd (omega (arith, h)) }
+module _ (nodes : List Node) (edges : List (List ℕ)) (labels : List ℕ) (links : List Link) (indexes : List ℕ) (rows : List (List ℕ)) (count own : ℕ)
+    (o : AreInOrder edges (length nodes) labels rows) where
+  put_at : (before after : List ℕ) (number x : ℕ) → Puts (row_at rows own) before after number → x < length nodes → get_or labels x 0 ≡ own → get_or after x 0 ≡ number
+  put_at before after number x p lt is = All-contains (λ z. get_or after z 0 ≡ number) (row_at rows own) x p.taken ((o.members own x).1 (lt, is))
 
-pub sets-none : (count : ℕ) → AreSets [] ([] ∷ []) count (count + 1)
-sets-none count = record {
+  kept_at : (before after : List ℕ) (number x : ℕ) → Puts (row_at rows own) before after number → (get_or labels x 0 ≡ own → ⊥) → get_or after x 0 ≡ get_or before x 0
+  kept_at before after number x p ne = p.others x (λ c. ne ((o.members own x).0 c).1)
+
+  -- one class more
+  pub shared-more : (numbers found number : ℕ) (sets after : List ℕ) (lists more : List (List ℕ))
+      → AreShared edges (length nodes) labels links indexes count own sets lists → AreSets sets lists count (count + length lists) → IsFound sets lists more count numbers found
+      → Puts (row_at rows own) sets after number
+      → ((x j : ℕ) → x < length nodes → get_or labels x 0 ≡ own → Contains (set_at count more number) j ↔ ComesOut edges labels links indexes x j)
+      → AreShared edges (length nodes) labels links indexes count (own + 1) after more
+  shared-more numbers found number sets after lists more h a f p e = record {
+    size = p.size ∙ h.size;
+    exact = λ x j lt below. elim (cases_lt (get_or labels x 0) own) [
+      | inl old ↦
+          let known : get_or sets x 0 < count + length lists = a.known x 0 (omega (arith, lt, h.size)) in
+          rw (kept_at sets after number x p (λ is. absurd (omega (arith, is, old))), set-kept count lists more (get_or sets x 0) known f.kept) (h.exact x j lt old)
+      | inr ge ↦
+          let is : get_or labels x 0 ≡ own = omega (arith, ge, below) in
+          rw (put_at sets after number x p lt is) (e x j lt is)
+    ];
+    rest = λ x lt above. kept_at sets after number x p (λ is. absurd (omega (arith, is, above))) ∙ h.rest x lt (omega (arith, above));
+  }
+
+  pub sets-more : (numbers found number : ℕ) (sets after : List ℕ) (lists more : List (List ℕ)) → length sets ≡ length nodes → IsFound sets lists more count numbers found
+      → Puts (row_at rows own) sets after number → number < numbers → AreSets after more count numbers
+  sets-more numbers found number sets after lists more size f p lt = record {
+    all = f.valid.all;
+    known = λ k d kl.
+        let same : get_or after k d ≡ get_or after k 0 = get_or_default after k d 0 kl in
+        elim (cases_eq (get_or labels k 0) own) [
+          | inl is ↦ omega (arith, same, put_at sets after number k p (omega (arith, kl, p.size, size)) is, lt)
+          | inr ne ↦ omega (arith, same, kept_at sets after number k p ne, f.valid.known k 0 (omega (arith, kl, p.size)))
+        ];
+    below = f.valid.below;
+    rising = f.valid.rising;
+    some = f.valid.some;
+    none = f.valid.none;
+  }
+
+  pub referred-none : (numbers : ℕ) (refs : List ℕ) (lists : List (List ℕ)) → length refs ≡ count → AreReferred nodes edges labels links indexes count 0 numbers refs lists
+  referred-none numbers refs lists size = record { size = size; known = λ b br lt. absurd (omega (arith, lt)); exact = λ b j br lt. absurd (omega (arith, lt)) }
+
+  -- one class without a bridge node more
+  pub referred-plain : (refs : List ℕ) (lists more : List (List ℕ)) → AreGrouped nodes labels (length nodes) links → length (group links own) ≡ 0
+      → length lists ≤ length more → ((k : ℕ) → k < length lists → row_at more k ≡ row_at lists k)
+      → AreReferred nodes edges labels links indexes count own (count + length lists) refs lists
+      → AreReferred nodes edges labels links indexes count (own + 1) (count + length more) refs more
+  referred-plain refs lists more g none longer kept h =
+      let before : (b : ℕ) → IsBridgeNode nodes b → get_or labels b 0 < own + 1 → get_or labels b 0 < own = λ b br lt.
+      let has = group-has nodes labels (length nodes) links b g (bridge-below nodes b br) br in
+      let ne : get_or labels b 0 ≡ own → ⊥ = λ is. absurd (omega (arith, has.1, ap (λ (l : ℕ). length (group links l)) is, none)) in
+      omega (arith, lt, ne) in
+      record {
+        size = h.size;
+        known = λ b br lt. omega (arith, h.known b br (before b br lt), longer);
+        exact = λ b j br lt.
+            let l = before b br lt in
+            rw (set-kept count lists more (get_or refs (get_or indexes (get_or labels b 0) 0) 0) (h.known b br l) kept) (h.exact b j br l);
+      }
+
+  -- one class with a bridge node more
+  pub referred-more : (refs : List ℕ) (lists more : List (List ℕ)) (found : ℕ) → get_or indexes own 0 < count
+      → ((b : ℕ) → IsBridgeNode nodes b → get_or indexes (get_or labels b 0) 0 ≡ get_or indexes own 0 → get_or labels b 0 ≡ own)
+      → length lists ≤ length more → ((k : ℕ) → k < length lists → row_at more k ≡ row_at lists k) → found < count + length more
+      → ((j : ℕ) → Contains (set_at count more found) j ↔ Leaves edges (length nodes) labels links indexes own j)
+      → AreReferred nodes edges labels links indexes count own (count + length lists) refs lists
+      → AreReferred nodes edges labels links indexes count (own + 1) (count + length more) (set refs (get_or indexes own 0) found) more
+  referred-more refs lists more found index apart longer kept known exact h =
+      let at : ℕ = get_or indexes own 0 in
+      let refs' = set refs at found in
+      let here : (b : ℕ) → get_or labels b 0 ≡ own → get_or refs' (get_or indexes (get_or labels b 0) 0) 0 ≡ found = λ b is.
+      ap (λ (l : ℕ). get_or refs' (get_or indexes l 0) 0) is ∙ get_or-set_same refs at found 0 (omega (arith, index, h.size)) in
+      let there : (b : ℕ) → IsBridgeNode nodes b → get_or labels b 0 < own → get_or refs' (get_or indexes (get_or labels b 0) 0) 0 ≡ get_or refs (get_or indexes (get_or labels b 0) 0) 0 = λ b br lt.
+      get_or-set_other refs at (get_or indexes (get_or labels b 0) 0) found 0 (λ e. absurd (omega (arith, apart b br e, lt))) in
+      record {
+        size = length-set refs at found ∙ h.size;
+        known = λ b br lt. elim (cases_lt (get_or labels b 0) own) [
+          | inl l ↦ omega (arith, there b br l, h.known b br l, longer)
+          | inr ge ↦ omega (arith, here b (omega (arith, ge, lt)), known)
+        ];
+        exact = λ b j br lt. elim (cases_lt (get_or labels b 0) own) [
+          | inl l ↦ rw (there b br l, set-kept count lists more (get_or refs (get_or indexes (get_or labels b 0) 0) 0) (h.known b br l) kept) (h.exact b j br l)
+          | inr ge ↦
+              let is : get_or labels b 0 ≡ own = omega (arith, ge, lt) in
+              rw (here b is, is) (exact j)
+        ];
+      }
+
+pub shared-none : (edges : List (List ℕ)) (nodes : ℕ) (labels : List ℕ) (links : List Link) (indexes : List ℕ) (count : ℕ) (sets : List ℕ) (lists : List (List ℕ))
+    → length sets ≡ nodes → All (λ s. s ≡ count) sets → AreShared edges nodes labels links indexes count 0 sets lists
+shared-none edges nodes labels links indexes count sets lists size all = record { size = size; exact = λ x j lt h. absurd (omega (arith, h)); rest = λ x lt h. all x 0 (omega (arith, lt, size)) }
+
+pub sets-none : (count : ℕ) (sets : List ℕ) → All (λ s. s ≡ count) sets → AreSets sets ([] ∷ []) count (count + 1)
+sets-none count sets all = record {
   all = omega arith;
-  known = All-nil (λ s. s < count + 1);
+  known = All-weaker (λ s. s ≡ count) (λ s. s < count + 1) (λ s e. omega (arith, e)) sets all;
   below = All-push (All (λ j. j < count)) [] [] (All-nil (All (λ j. j < count))) (All-nil (λ j. j < count));
   rising = All-push Rises [] [] (All-nil Rises) tt;
   some = omega arith;
   none = refl;
-}
-
-pub sets-more : (sets : List ℕ) (before after : List (List ℕ)) (count numbers s : ℕ) → IsFound sets before after count numbers s → AreSets (sets ++ s ∷ []) after count numbers
-sets-more sets before after count numbers s f = record {
-  all = f.valid.all;
-  known = All-push (λ k. k < numbers) sets s f.valid.known f.known;
-  below = f.valid.below;
-  rising = f.valid.rising;
-  some = f.valid.some;
-  none = f.valid.none;
 }
 
 pub setting_of : (nodes : List Node) (edges : List (List ℕ)) (labels : List ℕ) (links : List Link) (comps : List (List ℕ)) (indexes : List ℕ)
@@ -121,21 +160,35 @@ pub setting_of : (nodes : List Node) (edges : List (List ℕ)) (labels : List �
 setting_of nodes edges labels links comps indexes part cl g l =
     record { part = part; classes = cl; grouped = g; plain = flags-plain nodes edges labels links cl g; listed = l }
 
--- what is gathered for the class of a node are its destinations
-pub destinations_of : (nodes : List Node) (edges : List (List ℕ)) (labels : List ℕ) (links : List Link) (indexes : List ℕ) (rows : List (List ℕ)) (sets : List ℕ) (lists : List (List ℕ)) (count x : ℕ) (outs : List ℕ)
-    → IsPart nodes edges → AreClasses edges (length nodes) labels → AreInOrder edges (length nodes) labels rows → AreShared edges (length nodes) labels links indexes count (length rows) sets lists
-    → x < length nodes → Rises outs → ((j : ℕ) → Contains outs j ↔ Gathers edges labels sets lists count (get_or labels x 0) (row_at rows (get_or labels x 0)) j)
+-- what leaves the class of a node are its destinations
+pub destinations_of : (nodes : List Node) (edges : List (List ℕ)) (labels : List ℕ) (links : List Link) (indexes : List ℕ) (x : ℕ) (outs : List ℕ)
+    → IsPart nodes edges → AreClasses edges (length nodes) labels → x < length nodes → Rises outs
+    → ((j : ℕ) → Contains outs j ↔ Leaves edges (length nodes) labels links indexes (get_or labels x 0) j)
     → AreDestinations edges (flags_of (length nodes) labels links) labels indexes (get_or labels x 0) x outs
-destinations_of nodes edges labels links indexes rows sets lists count x outs part cl o s lt r h = record {
+destinations_of nodes edges labels links indexes x outs part cl lt r h = record {
   rising = r;
   exact = λ j.
-      let l = search_leaves nodes edges labels links indexes part cl x j lt in
-      let g = gathers_leaves nodes edges labels links indexes part cl rows sets lists count (length rows) (get_or labels x 0) j o s
-      (λ u v e t ne. o.labelled v (part.in_range u v t)) in (
-        (λ c. l.1 (g.0 ((h j).0 c))),
-        (λ c. (h j).1 (g.1 (l.0 c))),
+      let l = search_leaves nodes edges labels links indexes part cl x j lt in (
+        (λ c. l.1 ((h j).0 c)),
+        (λ c. (h j).1 (l.0 c)),
       );
 }
+
+-- the set kept for a component has the destinations of its first member
+pub referred-destinations : (nodes : List Node) (edges : List (List ℕ)) (labels : List ℕ) (links : List Link) (comps : List (List ℕ)) (indexes : List ℕ) (count : ℕ) (rows : List (List ℕ)) (refs : List ℕ) (lists : List (List ℕ)) (i : ℕ)
+    → Setting nodes edges labels (flags_of (length nodes) labels links) links comps indexes → AreInOrder edges (length nodes) labels rows
+    → AreReferred nodes edges labels links indexes count (length rows) (count + length lists) refs lists → All Rises lists → i < length comps
+    → (get_or refs i 0 < count + length lists) × AreDestinations edges (flags_of (length nodes) labels links) labels indexes (get_or labels (first_at comps i) 0) (first_at comps i) (set_at count lists (get_or refs i 0))
+referred-destinations nodes edges labels links comps indexes count rows refs lists i s o r rising lt =
+    let h = first_head nodes edges labels (flags_of (length nodes) labels links) links comps indexes s i lt in
+    let x : ℕ = first_at comps i in
+    let below = o.labelled x h.0 in
+    let at : get_or refs (get_or indexes (get_or labels x 0) 0) 0 ≡ get_or refs i 0 = ap (λ (k : ℕ). get_or refs k 0) h.3 in
+    let known : get_or refs i 0 < count + length lists = omega (arith, r.known x h.1 below, at) in (
+      known,
+      destinations_of nodes edges labels links indexes x (set_at count lists (get_or refs i 0)) s.part s.classes h.0 (set-rises lists count (get_or refs i 0) rising known)
+          (λ j. subst (λ (k : ℕ). Contains (set_at count lists k) j ↔ Leaves edges (length nodes) labels links indexes (get_or labels x 0) j) at (r.exact x j h.1 below)),
+    )
 
 one_is : (i j : ℕ) → Contains (i ∷ []) j ↔ (i ≡ j)
 one_is i j = (
@@ -161,17 +214,15 @@ own-set nodes edges labels links indexes count own lists part cl g below some =
           rw (set-one count lists (get_or indexes own 0) lt) ((λ c. b.1 (at ∙ o.0 c)), (λ t. o.1 (sym at ∙ b.0 t))),
     )
 
--- a class without one has the set of what is gathered for it
-pub plain-set : (nodes : List Node) (edges : List (List ℕ)) (labels : List ℕ) (links : List Link) (indexes : List ℕ) (rows : List (List ℕ)) (sets : List ℕ) (before : List (List ℕ)) (count own : ℕ) (set : List ℕ)
-    → IsPart nodes edges → AreClasses edges (length nodes) labels → AreInOrder edges (length nodes) labels rows → AreShared edges (length nodes) labels links indexes count own sets before
-    → length (group links own) ≡ 0 → ((j : ℕ) → Contains set j ↔ Gathers edges labels sets before count own (row_at rows own) j)
+-- a class without one hands on what leaves it
+pub plain-set : (nodes : List Node) (edges : List (List ℕ)) (labels : List ℕ) (links : List Link) (indexes : List ℕ) (own : ℕ) (set : List ℕ)
+    → IsPart nodes edges → AreClasses edges (length nodes) labels → length (group links own) ≡ 0
+    → ((j : ℕ) → Contains set j ↔ Leaves edges (length nodes) labels links indexes own j)
     → (x j : ℕ) → x < length nodes → get_or labels x 0 ≡ own → Contains set j ↔ ComesOut edges labels links indexes x j
-plain-set nodes edges labels links indexes rows sets before count own set part cl o s none h x j lt is =
-    let g = gathers_leaves nodes edges labels links indexes part cl rows sets before count own own j o s
-    (λ u v t e ne. omega (arith, t, o.backwards u v e, ne)) in
+plain-set nodes edges labels links indexes own set part cl none h x j lt is =
     let p = subst (λ (l : ℕ). ComesOut edges labels links indexes x j ↔ Leaves edges (length nodes) labels links indexes l j) is
     (plain_leaves nodes edges labels links indexes part cl x j lt (ap (λ (l : ℕ). length (group links l)) is ∙ none)) in
-    ((λ c. p.1 (g.0 ((h j).0 c))), (λ c. (h j).1 (g.1 (p.0 c))))
+    ((λ c. p.1 ((h j).0 c)), (λ c. (h j).1 (p.0 c)))
 
 -- there are no more components than nodes
 pub few-components : (nodes : List Node) (labels : List ℕ) (links : List Link) (comps : List (List ℕ)) (indexes : List ℕ) → AreListed nodes labels links (length nodes) comps indexes

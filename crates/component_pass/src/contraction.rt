@@ -10,7 +10,7 @@ use crate::lists::Lists;
 use crate::plain::plain_classes;
 use crate::references::list_references;
 use crate::sharing::share_references;
-use crate::tarjan::classes;
+use crate::tarjan::{StrongClasses, classes};
 use bridge_graph::DeadGraph;
 use std::alloc::{AllocError, Global};
 use xref_list::{Components, ComponentsBuilder};
@@ -28,8 +28,8 @@ use xref_list::{Components, ComponentsBuilder};
 pub fn contract(alloc: Global, graph: &DeadGraph) -> Result<Components, AllocError>
     ensures { IfOk result (λ c. IsContraction (IsBridgeNode graph.now.nodes) (NodeLeads graph.now.edges) c.comps c.pairs) }
 {
-    let found = classes(alloc, graph)?;
-    from_rows(alloc, graph, &found.labels, &found.rows)
+    let StrongClasses { mut labels, rows } = classes(alloc, graph)?;
+    from_rows(alloc, graph, &mut labels, &rows)
 }
 
 /// The same by a search from every node, as the definition has it: slow, and there for comparison.
@@ -62,15 +62,16 @@ fn from_classes(alloc: Global, graph: &DeadGraph, labels: &[u32]) -> Result<Comp
     builder.finish()
 }
 
-// The components and cross-references, by a label for each node's class and the classes in order.
+// The components and cross-references, by a label for each node's class and the classes in order. The
+// labels are spent.
 fn from_rows(
     alloc: Global,
     graph: &DeadGraph,
-    labels: &[u32],
+    labels: &mut [u32],
     rows: &Lists,
 ) -> Result<Components, AllocError>
-    requires classes { AreClasses graph.now.edges (length graph.now.nodes) labels.now }
-    requires order { AreInOrder graph.now.edges (length graph.now.nodes) labels.now rows.now }
+    requires classes { AreClasses graph.now.edges (length graph.now.nodes) labels.old }
+    requires order { AreInOrder graph.now.edges (length graph.now.nodes) labels.old rows.now }
     ensures { IfOk result (λ c. IsContraction (IsBridgeNode graph.now.nodes) (NodeLeads graph.now.edges) c.comps c.pairs) }
 {
     let groups = group_bridges(alloc, graph, labels)?;

@@ -63,6 +63,7 @@ impl Lists {
     }
 
     /// Puts a list last.
+    #[inline(always)]
     pub fn push(&mut self, row: &[u32]) -> Result<(), AllocError>
         ensures lists { OnOk result (self.new ≡ self.old ++ row.now ∷ []) }
         ensures err { OnErr result (self.new ≡ self.old) }

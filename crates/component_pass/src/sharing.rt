@@ -1,46 +1,49 @@
 // The cross-references of each component, from sets of components that classes share.
 //
-// The classes are gone through in the order in which they were completed, so that edges lead only to classes
-// whose sets are there. A class with a bridge node has the set of its own component alone. A class without
-// one has the union of the sets that its edges lead to: where that is one of them, as along a chain, it
-// shares it, and nothing is copied. Then each component gets the union for its own class.
+// The classes are gone through in the order in which they were completed, so that edges lead only to nodes
+// of the class itself, whose sets are still empty, and to those whose sets are there. What a class refers to
+// is the union of the sets that its edges lead to: where that is one of them, as along a chain, it shares it,
+// and nothing is copied. A class without a bridge node hands that on. One with a bridge node hands on its own
+// component alone, and the union is that component's references, which are listed in the end.
 //
 // So the time is that of nodes, edges and pairs, and of two more things that sharing doesn't avoid: where a
 // class leads to several different sets, the elements of each are read once for that class; and a union is
 // sorted, in linear time where it is made of a few sorted runs.
 
-ghost use Rattle.std.specs.Prelude.{◌≡◌, ◌≢◌, ◌↔◌, ℕ, ◌+◌, ◌<◌, ◌≤◌, [], ◌∷◌, length, All, Contains, IfOk, OnOk, IfSome, false, slice_index};
+ghost use Rattle.std.specs.Prelude.{◌≡◌, ◌↔◌, ℕ, ◌+◌, ◌<◌, ◌≤◌, [], ◌∷◌, length, All, Contains, IfOk, OnOk, IfSome, false, slice_index, slice_set};
 ghost use Rattle.joint_model.specs.Components.{Rises};
-ghost use Rattle.bridge_graph.specs.Parts.{IsBridgeNode, IsPart, NodeLeads, row_at};
+ghost use Rattle.bridge_graph.specs.Packing.{IsPacked};
+ghost use Rattle.bridge_graph.specs.Parts.{IsBridgeNode, IsPart, NodeLeads};
 ghost use Rattle.component_pass.specs.Classes.{AreClasses, AreInOrder};
 ghost use Rattle.component_pass.specs.Gathering.{AreSets, Gathers, HasNoMarks, set_at};
 ghost use Rattle.component_pass.specs.Grouping.{AreListed, group};
 ghost use Rattle.component_pass.specs.Groups.{AreGroups};
 ghost use Rattle.component_pass.specs.Referring.{AreReferencesBelow};
-ghost use Rattle.component_pass.specs.Sharing.{AreShared, ComesOut, IsFound};
+ghost use Rattle.component_pass.specs.Sharing.{AreReferred, IsFound};
 
 use crate::gathering::{Work, gather, new_work, set_of};
-use crate::groups::{Groups, bridge_node, is_first, members};
+use crate::groups::{Groups, members};
 use crate::lists::Lists;
 use bridge_graph::DeadGraph;
 use std::alloc::{AllocError, Global};
 use xref_list::ComponentsBuilder;
 
-/// Lists the cross-references of all components.
+/// Lists the cross-references of all components. The labels are spent: each node's set takes the place of its
+/// class's number.
 pub(crate) fn share_references(
     alloc: Global,
     graph: &DeadGraph,
-    labels: &[u32],
+    labels: &mut [u32],
     rows: &Lists,
     groups: &Groups,
     indexes: &[u32],
     builder: &mut ComponentsBuilder,
 ) -> Result<(), AllocError>
-    requires classes { AreClasses graph.now.edges (length graph.now.nodes) labels.now }
-    requires order { AreInOrder graph.now.edges (length graph.now.nodes) labels.now rows.now }
-    requires groups { AreGroups graph.now.nodes labels.now groups.now }
+    requires classes { AreClasses graph.now.edges (length graph.now.nodes) labels.old }
+    requires order { AreInOrder graph.now.edges (length graph.now.nodes) labels.old rows.now }
+    requires groups { AreGroups graph.now.nodes labels.old groups.now }
     requires indexes { length indexes.now ≡ length graph.now.nodes }
-    requires listed { AreListed graph.now.nodes labels.now groups.now.links.items (length graph.now.nodes) builder.old.comps indexes.now }
+    requires listed { AreListed graph.now.nodes labels.old groups.now.links.items (length graph.now.nodes) builder.old.comps indexes.now }
     requires part { IsPart graph.now.nodes graph.now.edges }
     requires empty { builder.old.pairs ≡ [] }
     ensures pairs { OnOk result (AreReferencesBelow (IsBridgeNode graph.now.nodes) (NodeLeads graph.now.edges) builder.new.comps (length graph.now.nodes) builder.new.pairs) }
@@ -50,125 +53,107 @@ pub(crate) fn share_references(
     let mut work = new_work(alloc, count)?;
     let mut lists = Lists::new(alloc);
     lists.push(&[])?;
-    let mut sets = Vec::with_capacity(alloc, rows.len())?;
+    let mut refs = vec![in alloc; count; count as usize]?;
     number_all(
-        graph, labels, rows, groups, indexes, count, &mut sets, &mut lists, &mut work,
+        graph, labels, rows, groups, indexes, count, &mut refs, &mut lists, &mut work,
     )?;
-    refer_all(
-        graph, labels, rows, groups, indexes, count, &sets, &lists, &mut work, builder,
-    )
-}
-
-// Finds the sets of all classes.
-fn number_all(
-    graph: &DeadGraph,
-    labels: &[u32],
-    rows: &Lists,
-    groups: &Groups,
-    indexes: &[u32],
-    count: u32,
-    sets: &mut Vec<u32>,
-    lists: &mut Lists,
-    work: &mut Work,
-) -> Result<(), AllocError>
-    requires classes { AreClasses graph.now.edges (length graph.now.nodes) labels.now }
-    requires order { AreInOrder graph.now.edges (length graph.now.nodes) labels.now rows.now }
-    requires groups { AreGroups graph.now.nodes labels.now groups.now }
-    requires indexes { length indexes.now ≡ length graph.now.nodes }
-    requires below { (b : ℕ) → IsBridgeNode graph.now.nodes b → slice_index indexes.now (slice_index labels.now b) < count }
-    requires count { count ≤ length graph.now.nodes }
-    requires part { IsPart graph.now.nodes graph.now.edges }
-    requires sets { sets.old.items ≡ [] }
-    requires lists { lists.old ≡ [] ∷ [] }
-    requires known { length work.old.known.items ≡ count + 1 }
-    requires marks { length work.old.marks.items ≡ count }
-    requires clear { HasNoMarks work.old }
-    ensures shared { OnOk result (AreShared graph.now.edges (length graph.now.nodes) labels.now groups.now.links.items indexes.now count (length rows.now) sets.new.items lists.new) }
-    ensures sets { OnOk result (AreSets sets.new.items lists.new count (length work.new.known.items)) }
-    ensures marks { OnOk result (length work.new.marks.items ≡ count) }
-    ensures clear { OnOk result (HasNoMarks work.new) }
-{
-    for c in 0..rows.len() {
-        let number = number(
-            graph, labels, rows, groups, indexes, c as u32, sets, count, lists, work,
-        )?;
-        sets.push(number)?;
+    for i in 0..count {
+        builder.add_all(i, set_of(&lists, count, &refs, i as usize))?;
     }
     Ok(())
 }
 
-// The number of the set of the class with that label: of its own component, or of what it refers to where
-// it has no bridge node.
-fn number(
+// Finds the sets of all nodes, and for each component the number of the set of those that it refers to. What
+// comes as the numbers of the nodes' classes leaves as the numbers of their sets.
+fn number_all(
     graph: &DeadGraph,
-    labels: &[u32],
+    sets: &mut [u32],
     rows: &Lists,
     groups: &Groups,
     indexes: &[u32],
-    own: u32,
-    sets: &[u32],
     count: u32,
+    refs: &mut [u32],
     lists: &mut Lists,
     work: &mut Work,
-) -> Result<u32, AllocError>
-    requires classes { AreClasses graph.now.edges (length graph.now.nodes) labels.now }
-    requires order { AreInOrder graph.now.edges (length graph.now.nodes) labels.now rows.now }
-    requires groups { AreGroups graph.now.nodes labels.now groups.now }
+) -> Result<(), AllocError>
+    requires classes { AreClasses graph.now.edges (length graph.now.nodes) sets.old }
+    requires order { AreInOrder graph.now.edges (length graph.now.nodes) sets.old rows.now }
+    requires groups { AreGroups graph.now.nodes sets.old groups.now }
     requires indexes { length indexes.now ≡ length graph.now.nodes }
-    requires below { (b : ℕ) → IsBridgeNode graph.now.nodes b → slice_index indexes.now (slice_index labels.now b) < count }
-    requires part { IsPart graph.now.nodes graph.now.edges }
-    requires own { own < length rows.now }
+    requires below { (b : ℕ) → IsBridgeNode graph.now.nodes b → slice_index indexes.now (slice_index sets.old b) < count }
+    requires apart { (a b : ℕ) → IsBridgeNode graph.now.nodes a → IsBridgeNode graph.now.nodes b → slice_index indexes.now (slice_index sets.old a) ≡ slice_index indexes.now (slice_index sets.old b) → slice_index sets.old a ≡ slice_index sets.old b }
     requires count { count ≤ length graph.now.nodes }
-    requires few { length lists.old ≤ own + 1 }
-    requires shared { AreShared graph.now.edges (length graph.now.nodes) labels.now groups.now.links.items indexes.now count own sets.now lists.old }
-    requires sets { AreSets sets.now lists.old count (length work.old.known.items) }
+    requires part { IsPart graph.now.nodes graph.now.edges }
+    requires refs { length refs.old ≡ count }
+    requires lists { lists.old ≡ [] ∷ [] }
+    requires known { length work.old.known.items ≡ count + 1 }
     requires marks { length work.old.marks.items ≡ count }
     requires clear { HasNoMarks work.old }
-    ensures found { IfOk result (λ s. IsFound sets.now lists.old lists.new count (length work.new.known.items) s) }
-    ensures exact { IfOk result (λ s. (x j : ℕ) → x < length graph.now.nodes → slice_index labels.now x ≡ own → Contains (set_at count lists.new s) j ↔ ComesOut graph.now.edges labels.now groups.now.links.items indexes.now x j) }
-    ensures marks { OnOk result (length work.new.marks.items ≡ count) }
-    ensures clear { OnOk result (HasNoMarks work.new) }
+    ensures referred { OnOk result (AreReferred graph.now.nodes graph.now.edges sets.old groups.now.links.items indexes.now count (length rows.now) (count + length lists.new) refs.new lists.new) }
+    ensures rising { OnOk result (All Rises lists.new) }
 {
-    if !members(groups, own).is_empty() {
-        return Ok(indexes[own as usize]);
+    sets.fill(count);
+    for c in 0..rows.len() {
+        let class = rows.row(c);
+        let found = share(graph, class, sets, count, lists, work)?;
+        let number = number(groups, indexes, c as u32, found, refs);
+        put(class, number, sets);
     }
-    share(
-        graph,
-        labels,
-        rows.row(own as usize),
-        own,
-        sets,
-        count,
-        lists,
-        work,
-    )
+    Ok(())
 }
 
-// The number of the union of the sets that edges from the class lead to: of one of these, where that has
+// The number of the set of the class with that label, which refers to the components in the set `found`: of its
+// own component, where it has a bridge node. That one's references are kept.
+fn number(groups: &Groups, indexes: &[u32], own: u32, found: u32, refs: &mut [u32]) -> u32
+    requires packed { IsPacked groups.now.rows.starts.items groups.now.rows.targets.items groups.now.links.items }
+    requires label { own < length groups.now.rows.starts.items }
+    requires index { own < length indexes.now }
+    requires below { 0 < length (group groups.now.links.items own) → slice_index indexes.now own < length refs.old }
+    ensures bridges { 0 < length (group groups.now.links.items own) → (result ≡ slice_index indexes.now own) × (refs.new ≡ slice_set refs.old (slice_index indexes.now own) found) }
+    ensures plain { length (group groups.now.links.items own) ≡ 0 → (result ≡ found) × (refs.new ≡ refs.old) }
+{
+    if !members(groups, own).is_empty() {
+        let index = indexes[own as usize];
+        refs[index as usize] = found;
+        return index;
+    }
+    found
+}
+
+// Puts down the number of the set of each node of a class.
+fn put(class: &[u32], number: u32, sets: &mut [u32])
+    requires { All (λ x. x < length sets.old) class.now }
+    ensures taken { All (λ x. slice_index sets.new x ≡ number) class.now }
+    ensures others { (x : ℕ) → (Contains class.now x → ⊥) → slice_index sets.new x ≡ slice_index sets.old x }
+{
+    for x in class {
+        sets[*x as usize] = number;
+    }
+}
+
+// The number of the union of the sets that edges from the members lead to: of one of these, where that has
 // all of it, or a new one.
 fn share(
     graph: &DeadGraph,
-    labels: &[u32],
     members: &[u32],
-    own: u32,
     sets: &[u32],
     count: u32,
     lists: &mut Lists,
     work: &mut Work,
 ) -> Result<u32, AllocError>
     requires members { All (λ x. x < length graph.now.nodes) members.now }
-    requires labels { length labels.now ≡ length graph.now.nodes }
+    requires whole { length sets.now ≡ length graph.now.nodes }
+    requires part { IsPart graph.now.nodes graph.now.edges }
     requires sets { AreSets sets.now lists.old count (length work.old.known.items) }
     requires count { length work.old.marks.items ≡ count }
     requires few { length work.old.known.items < 4294967295 }
-    requires later { All (λ x. (y : ℕ) → NodeLeads graph.now.edges x y → slice_index labels.now y ≢ own → slice_index labels.now y < length sets.now) members.now }
     requires clear { HasNoMarks work.old }
     ensures found { IfOk result (λ s. IsFound sets.now lists.old lists.new count (length work.new.known.items) s) }
-    ensures exact { IfOk result (λ s. (j : ℕ) → Contains (set_at count lists.new s) j ↔ Gathers graph.now.edges labels.now sets.now lists.old count own members.now j) }
+    ensures exact { IfOk result (λ s. (j : ℕ) → Contains (set_at count lists.new s) j ↔ Gathers graph.now.edges sets.now lists.old count members.now j) }
     ensures marks { OnOk result (length work.new.marks.items ≡ count) }
     ensures clear { OnOk result (HasNoMarks work.new) }
 {
-    if let Some(number) = gather(graph, labels, members, own, sets, lists, count, work)? {
+    if let Some(number) = gather(graph, members, sets, lists, count, work)? {
         return Ok(number);
     }
     if let Some(number) = same_set(lists, count, &work.numbers, &work.union) {
@@ -191,83 +176,4 @@ fn same_set(lists: &Lists, count: u32, numbers: &[u32], union: &[u32]) -> Option
         }
     }
     None
-}
-
-// Lists the cross-references component by component.
-fn refer_all(
-    graph: &DeadGraph,
-    labels: &[u32],
-    rows: &Lists,
-    groups: &Groups,
-    indexes: &[u32],
-    count: u32,
-    sets: &[u32],
-    lists: &Lists,
-    work: &mut Work,
-    builder: &mut ComponentsBuilder,
-) -> Result<(), AllocError>
-    requires classes { AreClasses graph.now.edges (length graph.now.nodes) labels.now }
-    requires order { AreInOrder graph.now.edges (length graph.now.nodes) labels.now rows.now }
-    requires groups { AreGroups graph.now.nodes labels.now groups.now }
-    requires indexes { length indexes.now ≡ length graph.now.nodes }
-    requires listed { AreListed graph.now.nodes labels.now groups.now.links.items (length graph.now.nodes) builder.old.comps indexes.now }
-    requires part { IsPart graph.now.nodes graph.now.edges }
-    requires empty { builder.old.pairs ≡ [] }
-    requires shared { AreShared graph.now.edges (length graph.now.nodes) labels.now groups.now.links.items indexes.now count (length rows.now) sets.now lists.now }
-    requires sets { AreSets sets.now lists.now count (length work.old.known.items) }
-    requires marks { length work.old.marks.items ≡ count }
-    requires clear { HasNoMarks work.old }
-    ensures pairs { OnOk result (AreReferencesBelow (IsBridgeNode graph.now.nodes) (NodeLeads graph.now.edges) builder.new.comps (length graph.now.nodes) builder.new.pairs) }
-    ensures comps { builder.new.comps ≡ builder.old.comps }
-{
-    for k in 0..groups.links.len() {
-        let x = bridge_node(groups, k);
-        refer(
-            graph, labels, rows, groups, indexes, x, count, sets, lists, work, builder,
-        )?;
-    }
-    Ok(())
-}
-
-// Lists the cross-references of the component of which `x` is the first member, if there is one.
-fn refer(
-    graph: &DeadGraph,
-    labels: &[u32],
-    rows: &Lists,
-    groups: &Groups,
-    indexes: &[u32],
-    x: u32,
-    count: u32,
-    sets: &[u32],
-    lists: &Lists,
-    work: &mut Work,
-    builder: &mut ComponentsBuilder,
-) -> Result<(), AllocError>
-    requires classes { AreClasses graph.now.edges (length graph.now.nodes) labels.now }
-    requires order { AreInOrder graph.now.edges (length graph.now.nodes) labels.now rows.now }
-    requires groups { AreGroups graph.now.nodes labels.now groups.now }
-    requires indexes { length indexes.now ≡ length graph.now.nodes }
-    requires listed { AreListed graph.now.nodes labels.now groups.now.links.items (length graph.now.nodes) builder.old.comps indexes.now }
-    requires part { IsPart graph.now.nodes graph.now.edges }
-    requires node { x < length graph.now.nodes }
-    requires pairs { AreReferencesBelow (IsBridgeNode graph.now.nodes) (NodeLeads graph.now.edges) builder.old.comps x builder.old.pairs }
-    requires shared { AreShared graph.now.edges (length graph.now.nodes) labels.now groups.now.links.items indexes.now count (length rows.now) sets.now lists.now }
-    requires sets { AreSets sets.now lists.now count (length work.old.known.items) }
-    requires marks { length work.old.marks.items ≡ count }
-    requires clear { HasNoMarks work.old }
-    ensures pairs { OnOk result (AreReferencesBelow (IsBridgeNode graph.now.nodes) (NodeLeads graph.now.edges) builder.new.comps (x + 1) builder.new.pairs) }
-    ensures comps { builder.new.comps ≡ builder.old.comps }
-    ensures sets { OnOk result (AreSets sets.now lists.now count (length work.new.known.items)) }
-    ensures marks { OnOk result (length work.new.marks.items ≡ count) }
-    ensures clear { OnOk result (HasNoMarks work.new) }
-{
-    let own = labels[x as usize];
-    if !is_first(members(groups, own), x) {
-        return Ok(());
-    }
-    let class = rows.row(own as usize);
-    match gather(graph, labels, class, own, sets, lists, count, work)? {
-        Some(number) => builder.add_all(indexes[own as usize], set_of(lists, count, &[number], 0)),
-        None => builder.add_all(indexes[own as usize], &work.union),
-    }
 }

@@ -1,6 +1,7 @@
 use Rattle.std.proofs.Common.{◌≡◌, ◌+◌, false, length, ap, arith}
 use Rattle.std.proofs.lemmas.List.{length_push}
-use Rattle.component_pass.proofs.Shared.{set-last, found-new}
+use Rattle.component_pass.proofs.Sets.{set-last}
+use Rattle.component_pass.proofs.Shared.{found-new}
 use Rattle.component_pass.proofs.sharing.share.Goals as goal
 
 pub returns-in-Some-same_set-clause-exact : goal.returns-in-Some-same_set-clause-exact
