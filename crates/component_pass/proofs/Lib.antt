@@ -2,6 +2,7 @@ pub mod Finding
 pub mod Least
 pub mod Grouped
 pub mod Listed
+pub mod Rows
 pub mod Crossing
 pub mod Strong
 pub mod Sets

@@ -1,10 +1,10 @@
 -- What the number of a set stands for, and that it stands for the same where lists are put behind.
-use Rattle.std.proofs.Common.{◌≡◌, ℕ, ◌+◌, ◌-◌, ◌<◌, ◌≤◌, true, false, List, [], ◌∷◌, ◌++◌, length, nat_lt, refl, sym, ◌∙◌, ap, arith, inl, inr}
+use Rattle.std.proofs.Common.{◌≡◌, ◌↔◌, ℕ, ◌+◌, ◌-◌, ◌<◌, ◌≤◌, true, false, List, [], ◌∷◌, ◌++◌, length, nat_lt, refl, sym, ◌∙◌, ap, subst, arith, inl, inr}
 use Rattle.std.proofs.lemmas.List.{get_or_push}
-use Rattle.std.proofs.lemmas.List.Elements.{All-nil}
+use Rattle.std.proofs.lemmas.List.Elements.{All-nil, Contains-push, Contains-push_cases}
 use Rattle.std.proofs.lemmas.Bool.{cases_lt}
 use Rattle.std.proofs.lemmas.Bool.Decides.{nat_tests}
-use Rattle.std.specs.List.{All}
+use Rattle.std.specs.List.{All, Contains}
 use Rattle.joint_model.specs.Components.{Rises}
 use Rattle.bridge_graph.specs.Parts.{row_at}
 use Rattle.component_pass.specs.Gathering.{set_at}
@@ -37,3 +37,9 @@ set-last count lists union =
 -- the first list is the empty set
 pub set-none : (count : ℕ) (lists : List (List ℕ)) → row_at lists 0 ≡ [] → set_at count lists count ≡ []
 set-none count lists none = set-list count lists count (omega arith) ∙ ap (λ (k : ℕ). row_at lists k) (let e : count - count ≡ 0 = omega arith in e) ∙ none
+
+pub one_is : (i j : ℕ) → Contains (i ∷ []) j ↔ (i ≡ j)
+one_is i j = (
+  (λ c. elim (Contains-push_cases [] i j c) [ inl n ↦ absurd (omega (arith, n.1)) | inr e ↦ e ]),
+  (λ e. subst (λ (k : ℕ). Contains (i ∷ []) k) e (Contains-push [] i)),
+)

@@ -1,7 +1,7 @@
 -- Lists of sets only grow, so sets that were exact for the classes so far stay so.
 use Rattle.std.proofs.Common.{◌≡◌, ◌↔◌, ℕ, ◌+◌, ◌<◌, ◌≤◌, List, [], ◌∷◌, ◌++◌, length, map, get_or, set, refl, sym, ◌∙◌, ap, subst, arith, inl, inr}
 use Rattle.std.proofs.lemmas.List.{length_push, length-map, length-set, get_or_append_left, get_or_default, get_or-set_same, get_or-set_other}
-use Rattle.std.proofs.lemmas.List.Elements.{All-nil, All-push, All-weaker, All-map, All-contains, Contains-push, Contains-push_cases}
+use Rattle.std.proofs.lemmas.List.Elements.{All-nil, All-push, All-weaker, All-map, All-contains}
 use Rattle.std.proofs.lemmas.Bool.{cases_lt, cases_eq}
 use Rattle.std.specs.List.{All, Contains}
 use Rattle.joint_model.specs.Components.{Rises, first_of, first_at}
@@ -14,7 +14,7 @@ use Rattle.component_pass.specs.Referring.{AreDestinations}
 use Rattle.component_pass.specs.Gathering.{AreSets, set_at}
 use Rattle.component_pass.specs.Sharing.{AreShared, AreReferred, ComesOut, Leaves, IsFound}
 use Rattle.component_pass.proofs.Crossing.{Setting, first_head}
-use Rattle.component_pass.proofs.Sets.{set-one, set-kept, set-rises}
+use Rattle.component_pass.proofs.Sets.{set-one, set-kept, set-rises, one_is}
 use Rattle.component_pass.proofs.Leaving.{flags_of, flags-plain, search_leaves, bridge_stays, plain_leaves}
 use Rattle.component_pass.proofs.Grouped.{group-members, group-has, bridge-below}
 use Rattle.xref_list.proofs.Comps.{few_rising}
@@ -189,12 +189,6 @@ referred-destinations nodes edges labels links comps indexes count rows refs lis
       destinations_of nodes edges labels links indexes x (set_at count lists (get_or refs i 0)) s.part s.classes h.0 (set-rises lists count (get_or refs i 0) rising known)
           (λ j. subst (λ (k : ℕ). Contains (set_at count lists k) j ↔ Leaves edges (length nodes) labels links indexes (get_or labels x 0) j) at (r.exact x j h.1 below)),
     )
-
-one_is : (i j : ℕ) → Contains (i ∷ []) j ↔ (i ≡ j)
-one_is i j = (
-  (λ c. elim (Contains-push_cases [] i j c) [ inl n ↦ absurd (omega (arith, n.1)) | inr e ↦ e ]),
-  (λ e. subst (λ (k : ℕ). Contains (i ∷ []) k) e (Contains-push [] i)),
-)
 
 -- a class with a bridge node has the set of its component
 pub own-set : (nodes : List Node) (edges : List (List ℕ)) (labels : List ℕ) (links : List Link) (indexes : List ℕ) (count own : ℕ) (lists : List (List ℕ))

@@ -6,6 +6,7 @@ ghost use Rattle.bridge_graph.specs.Parts.{IsBridgeNode, NodeLeads};
 ghost use Rattle.component_pass.specs.Classes.{AreClasses, AreInOrder};
 
 use crate::groups::{group_bridges, list_components, plain_nodes};
+use crate::listing::{NO_COMPONENT, list_rows};
 use crate::lists::Lists;
 use crate::plain::plain_classes;
 use crate::references::list_references;
@@ -74,11 +75,10 @@ fn from_rows(
     requires order { AreInOrder graph.now.edges (length graph.now.nodes) labels.old rows.now }
     ensures { IfOk result (λ c. IsContraction (IsBridgeNode graph.now.nodes) (NodeLeads graph.now.edges) c.comps c.pairs) }
 {
-    let groups = group_bridges(alloc, graph, labels)?;
-    let mut indexes = vec![in alloc; 0u32; graph.nodes() as usize]?;
+    let mut indexes = vec![in alloc; NO_COMPONENT; rows.len()]?;
     let mut builder = ComponentsBuilder::new(alloc);
     builder.reserve(graph.nodes(), graph.nodes())?;
-    list_components(graph, labels, &groups, &mut indexes, &mut builder)?;
-    share_references(alloc, graph, labels, rows, &groups, &indexes, &mut builder)?;
+    list_rows(alloc, graph, labels, rows, &mut indexes, &mut builder)?;
+    share_references(alloc, graph, labels, rows, &indexes, &mut builder)?;
     builder.finish()
 }

@@ -44,6 +44,7 @@
 mod contraction;
 mod gathering;
 mod groups;
+mod listing;
 mod lists;
 mod plain;
 mod references;

@@ -10,19 +10,17 @@
 // class leads to several different sets, the elements of each are read once for that class; and a union is
 // sorted, in linear time where it is made of a few sorted runs.
 
-ghost use Rattle.std.specs.Prelude.{◌≡◌, ◌↔◌, ℕ, ◌+◌, ◌<◌, ◌≤◌, [], ◌∷◌, length, All, Contains, IfOk, OnOk, IfSome, false, slice_index, slice_set};
+ghost use Rattle.std.specs.Prelude.{◌≡◌, ◌≢◌, ◌↔◌, ℕ, ◌+◌, ◌<◌, ◌≤◌, [], ◌∷◌, length, All, Contains, IfOk, OnOk, IfSome, false, slice_index, slice_set};
 ghost use Rattle.joint_model.specs.Components.{Rises};
-ghost use Rattle.bridge_graph.specs.Packing.{IsPacked};
 ghost use Rattle.bridge_graph.specs.Parts.{IsBridgeNode, IsPart, NodeLeads};
 ghost use Rattle.component_pass.specs.Classes.{AreClasses, AreInOrder};
 ghost use Rattle.component_pass.specs.Gathering.{AreSets, Gathers, HasNoMarks, set_at};
-ghost use Rattle.component_pass.specs.Grouping.{AreListed, group};
-ghost use Rattle.component_pass.specs.Groups.{AreGroups};
+ghost use Rattle.component_pass.specs.Grouping.{AreListed, group, links_of};
 ghost use Rattle.component_pass.specs.Referring.{AreReferencesBelow};
 ghost use Rattle.component_pass.specs.Sharing.{AreReferred, IsFound};
 
 use crate::gathering::{Work, gather, new_work, set_of};
-use crate::groups::{Groups, members};
+use crate::listing::NO_COMPONENT;
 use crate::lists::Lists;
 use bridge_graph::DeadGraph;
 use std::alloc::{AllocError, Global};
@@ -35,15 +33,14 @@ pub(crate) fn share_references(
     graph: &DeadGraph,
     labels: &mut [u32],
     rows: &Lists,
-    groups: &Groups,
     indexes: &[u32],
     builder: &mut ComponentsBuilder,
 ) -> Result<(), AllocError>
     requires classes { AreClasses graph.now.edges (length graph.now.nodes) labels.old }
     requires order { AreInOrder graph.now.edges (length graph.now.nodes) labels.old rows.now }
-    requires groups { AreGroups graph.now.nodes labels.old groups.now }
-    requires indexes { length indexes.now ≡ length graph.now.nodes }
-    requires listed { AreListed graph.now.nodes labels.old groups.now.links.items (length graph.now.nodes) builder.old.comps indexes.now }
+    requires indexes { length indexes.now ≡ length rows.now }
+    requires listed { AreListed graph.now.nodes labels.old (links_of graph.now.nodes labels.old) (length graph.now.nodes) builder.old.comps indexes.now }
+    requires plain { (l : ℕ) → l < length rows.now → length (group (links_of graph.now.nodes labels.old) l) ≡ 0 → slice_index indexes.now l ≡ 4294967295 }
     requires part { IsPart graph.now.nodes graph.now.edges }
     requires empty { builder.old.pairs ≡ [] }
     ensures pairs { OnOk result (AreReferencesBelow (IsBridgeNode graph.now.nodes) (NodeLeads graph.now.edges) builder.new.comps (length graph.now.nodes) builder.new.pairs) }
@@ -55,7 +52,7 @@ pub(crate) fn share_references(
     lists.push(&[])?;
     let mut refs = vec![in alloc; count; count as usize]?;
     number_all(
-        graph, labels, rows, groups, indexes, count, &mut refs, &mut lists, &mut work,
+        graph, labels, rows, indexes, count, &mut refs, &mut lists, &mut work,
     )?;
     for i in 0..count {
         builder.add_all(i, set_of(&lists, count, &refs, i as usize))?;
@@ -69,7 +66,6 @@ fn number_all(
     graph: &DeadGraph,
     sets: &mut [u32],
     rows: &Lists,
-    groups: &Groups,
     indexes: &[u32],
     count: u32,
     refs: &mut [u32],
@@ -78,8 +74,8 @@ fn number_all(
 ) -> Result<(), AllocError>
     requires classes { AreClasses graph.now.edges (length graph.now.nodes) sets.old }
     requires order { AreInOrder graph.now.edges (length graph.now.nodes) sets.old rows.now }
-    requires groups { AreGroups graph.now.nodes sets.old groups.now }
-    requires indexes { length indexes.now ≡ length graph.now.nodes }
+    requires indexes { length indexes.now ≡ length rows.now }
+    requires plain { (l : ℕ) → l < length rows.now → length (group (links_of graph.now.nodes sets.old) l) ≡ 0 → slice_index indexes.now l ≡ 4294967295 }
     requires below { (b : ℕ) → IsBridgeNode graph.now.nodes b → slice_index indexes.now (slice_index sets.old b) < count }
     requires apart { (a b : ℕ) → IsBridgeNode graph.now.nodes a → IsBridgeNode graph.now.nodes b → slice_index indexes.now (slice_index sets.old a) ≡ slice_index indexes.now (slice_index sets.old b) → slice_index sets.old a ≡ slice_index sets.old b }
     requires count { count ≤ length graph.now.nodes }
@@ -89,31 +85,27 @@ fn number_all(
     requires known { length work.old.known.items ≡ count + 1 }
     requires marks { length work.old.marks.items ≡ count }
     requires clear { HasNoMarks work.old }
-    ensures referred { OnOk result (AreReferred graph.now.nodes graph.now.edges sets.old groups.now.links.items indexes.now count (length rows.now) (count + length lists.new) refs.new lists.new) }
+    ensures referred { OnOk result (AreReferred graph.now.nodes graph.now.edges sets.old (links_of graph.now.nodes sets.old) indexes.now count (length rows.now) (count + length lists.new) refs.new lists.new) }
     ensures rising { OnOk result (All Rises lists.new) }
 {
     sets.fill(count);
     for c in 0..rows.len() {
         let class = rows.row(c);
         let found = share(graph, class, sets, count, lists, work)?;
-        let number = number(groups, indexes, c as u32, found, refs);
+        let number = number(indexes[c], found, refs);
         put(class, number, sets);
     }
     Ok(())
 }
 
-// The number of the set of the class with that label, which refers to the components in the set `found`: of its
-// own component, where it has a bridge node. That one's references are kept.
-fn number(groups: &Groups, indexes: &[u32], own: u32, found: u32, refs: &mut [u32]) -> u32
-    requires packed { IsPacked groups.now.rows.starts.items groups.now.rows.targets.items groups.now.links.items }
-    requires label { own < length groups.now.rows.starts.items }
-    requires index { own < length indexes.now }
-    requires below { 0 < length (group groups.now.links.items own) → slice_index indexes.now own < length refs.old }
-    ensures bridges { 0 < length (group groups.now.links.items own) → (result ≡ slice_index indexes.now own) × (refs.new ≡ slice_set refs.old (slice_index indexes.now own) found) }
-    ensures plain { length (group groups.now.links.items own) ≡ 0 → (result ≡ found) × (refs.new ≡ refs.old) }
+// The number of the set of a class, which refers to the components in the set `found`: of its own component, where
+// it has one. That one's references are kept.
+fn number(index: u32, found: u32, refs: &mut [u32]) -> u32
+    requires { index ≢ 4294967295 → index < length refs.old }
+    ensures own { index ≢ 4294967295 → (result ≡ index) × (refs.new ≡ slice_set refs.old index found) }
+    ensures plain { index ≡ 4294967295 → (result ≡ found) × (refs.new ≡ refs.old) }
 {
-    if !members(groups, own).is_empty() {
-        let index = indexes[own as usize];
+    if index != NO_COMPONENT {
         refs[index as usize] = found;
         return index;
     }
