@@ -7,10 +7,13 @@ ghost use Rattle.bridge_graph.specs.Parts.{row_at};
 use std::alloc::{AllocError, Global};
 use std::marker::Model;
 
+// The most elements that stand before a list. No caller comes to it: there are at most 65,536 lists of at most 65,535 elements each.
+const MOST_ELEMENTS: usize = 4_294_967_295;
+
 /// A list of lists, each of which is put last and is then only read.
 #[derive(Drop)]
 pub(crate) struct Lists {
-    starts: Vec<usize>,
+    starts: Vec<u32>,
     items: Vec<u32>,
 }
 
@@ -71,21 +74,24 @@ impl Lists {
         self.starts.reserve(1)?;
         self.items.reserve(row.len())?;
         let start = self.items.len();
+        if start > MOST_ELEMENTS {
+            return Err(AllocError);
+        }
         append(&mut self.items, row);
-        self.starts.push_reserved(start);
+        self.starts.push_reserved(start as u32);
         Ok(())
     }
 }
 
 // The list that begins at start `i` and ends at the next one's, or at the end.
-fn cut_row<'a>(starts: &[usize], items: &'a [u32], i: usize) -> &'a [u32]
+fn cut_row<'a>(starts: &[u32], items: &'a [u32], i: usize) -> &'a [u32]
     requires cut { IsCut starts.now items.now }
     requires index { i < length starts.now }
     ensures { result.now ≡ packed_row starts.now items.now i }
 {
-    let start = starts[i];
+    let start = starts[i] as usize;
     let end = if i + 1 < starts.len() {
-        starts[i + 1]
+        starts[i + 1] as usize
     } else {
         items.len()
     };
