@@ -13,9 +13,9 @@ use crate::places::Rows;
 use heap_rules::Number;
 
 impl<N: Number> RowHeap<N> {
-    /// Frees each live object without a mark, by one pass over the numbers from the oldest live object on, and puts them last on the list of freed ones, in
-    /// rising order. It takes no memory. What slots name and what marked objects lead to has to be marked, as it is once a marking has come to
-    /// its end.
+    /// Frees each live object without a mark, by one pass over the numbers from the oldest live object on, and puts them last on the list of
+    /// freed ones, in rising order. It takes no memory. What slots name and what marked objects lead to has to be marked, as it is once a
+    /// marking has come to its end.
     pub fn sweep(&mut self)
         requires slots { (x : ℕ) → InSlot self.old.heap x → HasMark self.old.marks x }
         requires shut { IsClosed (EdgeOf self.old) self.old.marks }
