@@ -160,6 +160,7 @@ impl Rows {
     }
 
     /// Marks what the fields of row `x` hold; each row that wasn't marked comes first in the list of grey rows.
+    #[inline(always)]
     pub(crate) fn mark_fields(&mut self, x: usize, grey: &mut u32)
         requires stands { (row_at self.old x).stands ≡ true }
         requires held { (y : ℕ) → Contains (row_at self.old x).fields (Some y) → (row_at self.old y).stands ≡ true }
