@@ -1,6 +1,6 @@
 -- Phases one after another: each runs in the phase in which its word is due, and what was run so far goes on by it.
-use Rattle.std.proofs.Common.{◌≡◌, ℕ, ◌<◌, List, [], ◌∷◌, ◌++◌, length, Option, Some, None, refl, sym, ap, ◌∙◌, subst, append_assoc, arith}
-use Rattle.std.specs.Prelude.{Result, Ok, Err, IfOk, OnErr}
+use Rattle.std.proofs.Common.{◌≡◌, ℕ, ◌<◌, List, [], ◌∷◌, ◌++◌, length, Some, refl, sym, ap, ◌∙◌, subst, append_assoc, arith}
+use Rattle.std.specs.Prelude.{Result, Ok, Err, OnErr}
 use base.Growing.{prefix_refl}
 use Rattle.joint_model.specs.declared.names.Phase.{Phase}
 use Rattle.joint_model.specs.declared.names.Phase.TheVariants as at

@@ -1,6 +1,6 @@
 -- An operation's events, one after another: which may be made, by which side, and what the caller has made and knows at each end.
 use Rattle.std.proofs.Common.{◌≡◌, inl, inr, ⊎_elim, ℕ, ◌≤◌, List, [], ◌∷◌, ◌++◌, Option, Some, None, true, false, refl, sym, ap, ◌∙◌, subst, append_assoc, append-nil, arith}
-use Rattle.std.specs.Prelude.{unwrap_or, Result, Ok, Err, IfOk, IsErr, OnErr}
+use Rattle.std.specs.Prelude.{Result, Ok, Err, IfOk, IsErr, OnErr}
 use mathlib.Core.List.{IsPrefix}
 use base.Growing.{prefix_trans}
 use Rattle.joint_model.specs.declared.names.Thread.{Thread}

@@ -1,5 +1,5 @@
 -- The facts of a seat's past, of the lists and the state that it is known by.
-use Rattle.std.proofs.Common.{◌≡◌, ◌⊎◌, inl, inr, ⊎_elim, ℕ, Bool, true, false, ◌==◌, ◌||◌, List, [], ◌∷◌, ◌++◌, refl, sym, ap, ◌∙◌, subst}
+use Rattle.std.proofs.Common.{◌≡◌, ◌⊎◌, inl, inr, ⊎_elim, ℕ, Bool, true, false, ◌==◌, ◌||◌, List, [], ◌∷◌, refl, sym, ap, subst}
 use Rattle.std.specs.Prelude.{if◌then◌else◌, Contains}
 use Rattle.joint_model.specs.declared.names.HNum.{HNum}
 use Rattle.joint_model.specs.declared.names.PNum.{PNum}
@@ -11,7 +11,6 @@ use Rattle.joint_model.specs.declared.events.Op.{Op}
 use Rattle.joint_model.specs.declared.events.Op.TheVariants as op
 use Rattle.joint_model.specs.HistoryLines.{caller_line, stands_in}
 use Rattle.joint_model.specs.Lines.{is_peer_event}
-use Rattle.joint_model.specs.Linked.{Linkage}
 use Rattle.joint_model.specs.ManagedReplay.{ManagedReplay}
 use Rattle.joint_model.specs.PeerReplay.{PeerReplay}
 use Rattle.joint_model.specs.Sides.{Side}
@@ -19,7 +18,7 @@ use Rattle.joint_model.specs.Told.{Noted}
 use Rattle.joint_model.proofs.Members.{Contains-cons_cases, Contains-here, Contains-nil, Contains-there}
 use Rattle.joint_laws.specs.LinkedInvariants.{IsHeldOne}
 use Rattle.joint_laws.specs.PeerInvariants.{IsTabled}
-use Rattle.known_laws.specs.Citations.{Cites, HasCited, IsClearOf, IsGiveOf, IsGripOf, IsLendOf, IsMakeOf, IsMeetOf, IsSnapOf, StandsBehind}
+use Rattle.known_laws.specs.Citations.{Cites, HasCited, IsClearOf, IsGiveOf, IsGripOf, IsLendOf, IsMakeOf, IsMeetOf, IsSnapOf}
 use Rattle.known_laws.specs.Driving.{IsPastKept}
 use Rattle.known_laws.specs.Facts.{TakesHandle}
 use Rattle.known_laws.specs.Growing.{entries}

@@ -13,7 +13,7 @@ use Rattle.joint_model.specs.declared.events.Op.{Op}
 use Rattle.joint_model.specs.declared.events.Op.TheVariants as op
 use Rattle.joint_model.specs.declared.events.Reply.{Reply}
 use Rattle.joint_model.specs.declared.events.Reply.TheVariants as says
-use Rattle.joint_model.specs.Control.{Doing, free, made, lent, gripped, given, met, IsDone, MayStart}
+use Rattle.joint_model.specs.Control.{Doing, made, lent, gripped, given, met, IsDone}
 use Rattle.joint_model.specs.Draws.{numbered}
 use Rattle.joint_model.specs.HistoryLines.{caller_line}
 use Rattle.joint_model.specs.Lines.{IsThread, IsLine}

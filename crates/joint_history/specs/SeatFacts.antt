@@ -1,6 +1,6 @@
 -- What holds under each side's lock and of each caller, fact by fact: what its seat knows, which entries of the other side its list cites, and
 -- what that says of handles, references and resolutions. Each is kept with no lock on the other side.
-use Rattle.std.specs.Prelude.{◌≡◌, ◌⊎◌, ℕ, ◌↔◌, List, ◌∷◌, ◌++◌, Contains, Some, slice_get}
+use Rattle.std.specs.Prelude.{◌≡◌, ◌⊎◌, ℕ, ◌↔◌, List, Contains, Some, slice_get}
 use Rattle.joint_model.specs.declared.names.Cycle.{Cycle}
 use Rattle.joint_model.specs.declared.events.Entry.{Entry}
 use Rattle.joint_model.specs.declared.events.Made.{Made}

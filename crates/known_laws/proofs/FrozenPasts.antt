@@ -13,7 +13,7 @@ use Rattle.joint_model.specs.declared.events.Op.TheVariants as op
 use Rattle.joint_model.specs.declared.events.Made.{Made}
 use Rattle.joint_model.specs.Components.{mirror_edges}
 use Rattle.joint_model.specs.Control.{peer_of_row}
-use Rattle.joint_model.specs.Heaps.{IsLive, place, slot, numbered_at, fields_of}
+use Rattle.joint_model.specs.Heaps.{place, slot, fields_of}
 use Rattle.joint_model.specs.Cycles.{IsDeadContraction, DeadEdge}
 use Rattle.joint_model.specs.Lines.{IsEvent, is_peer_event}
 use Rattle.joint_model.specs.Linked.{Linkage, SideLawful, managed_after}
@@ -23,7 +23,7 @@ use Rattle.joint_model.specs.Peers.{Issued, peer_of}
 use Rattle.joint_model.specs.Run.{thread_number}
 use Rattle.joint_model.specs.Told.{Told, Noted}
 use Rattle.joint_model.proofs.Deciding.{none_some}
-use Rattle.joint_model.proofs.HeapLemmas.{Holds-handle_of, adopt_by-managed, is_freed-live, candidates_of-open}
+use Rattle.joint_model.proofs.HeapLemmas.{Holds-handle_of, adopt_by-managed, candidates_of-open}
 use Rattle.joint_model.proofs.Members.{Contains-at, Contains-here, Contains-there}
 use Rattle.joint_laws.specs.LinkedInvariants.{IsDriverKept, IsContracted}
 use Rattle.joint_laws.specs.ManagedInvariants.{IsManagedKept, IsReplayKept}

@@ -1,9 +1,9 @@
 -- The graph of a dead part. The places of rising rows are written one after another, and none is written twice; each row has a node, and each
 -- field that leads to a row with a place has an edge.
-use Rattle.std.proofs.Common.{◌≡◌, ◌≢◌, ℕ, zero, suc, ◌+◌, ◌-◌, ◌<◌, ◌≤◌, ◌↔◌, ◌⊎◌, inl, inr, true, nat_eq, if◌then◌else◌, List, [], ◌∷◌, ◌++◌, length, map, take, set, get_or, replicate, option_map, Option, Some, None, refl, sym, ap, subst, ◌∙◌, arith}
+use Rattle.std.proofs.Common.{◌≡◌, ◌≢◌, ℕ, zero, suc, ◌+◌, ◌-◌, ◌<◌, ◌≤◌, ◌↔◌, ◌⊎◌, inl, inr, true, nat_eq, if◌then◌else◌, List, [], ◌∷◌, ◌++◌, length, map, take, set, get_or, option_map, Option, Some, None, refl, sym, ap, subst, ◌∙◌, arith}
 use Rattle.std.specs.Prelude.{Contains, All, slice_get}
 use Rattle.std.proofs.lemmas.Bool.{cases_eq, eqb-true}
-use Rattle.std.proofs.lemmas.List.{take_more, map-append, length-map, get_or-map, get_or-set_same, get_or-set_other, nil_from_length}
+use Rattle.std.proofs.lemmas.List.{length-map, get_or-map, get_or-set_same, get_or-set_other, nil_from_length}
 use Rattle.std.proofs.lemmas.List.Elements.{All-nil, All-cons, All-map, All-contains, Contains-append_left, Contains-push, Contains-push_cases}
 use Rattle.std.proofs.lemmas.Option.{slice_get-get_or, slice_get_within, get_or_from_slice_get, slice_get-map}
 use Rattle.joint_model.specs.declared.names.MNum.{MNum}

@@ -1,19 +1,14 @@
 -- Rising lists, filters and marks. What a filter keeps of a rising list rises, and a rising list of members of another has no more.
-use Rattle.std.proofs.Common.{◌≡◌, ℕ, suc, ◌+◌, ◌<◌, ◌≤◌, ◌-◌, ◌↔◌, zero, map, option_map, Bool, true, false, not, List, [], ◌∷◌, length, drop, get_or, cond, Option, Some, None, refl, sym, ap, subst, ◌∙◌, arith}
+use Rattle.std.proofs.Common.{◌≡◌, ℕ, suc, ◌<◌, ◌≤◌, ◌-◌, zero, map, option_map, Bool, true, false, not, List, [], ◌∷◌, length, get_or, cond, Option, Some, None, refl, sym, ap, subst, ◌∙◌, arith}
 use Rattle.std.specs.Prelude.{Contains, filter, slice_get, is_some}
 use Rattle.std.proofs.lemmas.Option.{slice_get-map, slice_get-get_or}
 use Rattle.joint_model.specs.declared.names.MNum.{MNum}
 use Rattle.joint_model.specs.Heaps.{numbered_at}
 use Rattle.joint_model.specs.Histories.{managed_numbers}
-use Rattle.std.proofs.lemmas.List.Elements.{All-filter}
-use Rattle.std.proofs.lemmas.List.{drop_more}
-use Rattle.joint_model.specs.Components.{Rises}
-use Rattle.joint_model.proofs.Members.{Contains-here, Contains-there, Contains-filter_from, Contains-filter_to}
-use Rattle.joint_model.proofs.Deciding.{not-true, not-from}
-use Rattle.reachability.specs.Marks.{HasMark, marked, unmarked_of}
+use Rattle.joint_model.proofs.Members.{Contains-here, Contains-there}
+use Rattle.reachability.specs.Marks.{marked, unmarked_of}
 use Rattle.managed_side.specs.declared.rows.Held.{Held}
 use Rattle.managed_side.specs.Resolving.{has_handle, has_peer}
-use Rattle.reachability.proofs.Marking.{marked-from, marked-some, IsMarked-test, test-IsMarked}
 
 -- tests that agree on the members of a list keep the same of it
 pub filter-agree : {X : Type 0} (p q : X → Bool) (xs : List X) → ((x : X) → Contains xs x → p x ≡ q x) → filter p xs ≡ filter q xs

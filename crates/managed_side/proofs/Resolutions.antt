@@ -18,7 +18,7 @@ use Rattle.joint_model.specs.Listed.{answers_of}
 use Rattle.joint_model.specs.Managed.{Managed, OpenCycle, ManagedEdge, handle_of, holds_handle, resolved}
 use Rattle.joint_model.specs.ManagedReplay.{without_twins}
 use Rattle.joint_model.specs.Walks.{Reached}
-use Rattle.joint_model.proofs.Deciding.{true-false, some-true, true_false, handle-there}
+use Rattle.joint_model.proofs.Deciding.{true_false, handle-there}
 use Rattle.joint_model.proofs.HeapLemmas.{is_freed-live}
 use Rattle.joint_model.proofs.Members.{Contains-here, Contains-there, Contains-decided, Contains-filter_from, Contains-filter_to, All-members, Rises-one, Rises-filter}
 use Rattle.joint_model.proofs.WalkLemmas.{Reaches-mono}
@@ -33,7 +33,7 @@ use Rattle.managed_side.specs.Dues.{HasDue}
 use Rattle.managed_side.specs.Resolving.{has_handle}
 use Rattle.managed_side.specs.Rows.{rows_of, pairs_of}
 use Rattle.managed_side.proofs.Lists.{filter-agree}
-use Rattle.reachability.proofs.Marking.{marked-or, IsMarked-test, test-IsMarked, unmarked_of-exact}
+use Rattle.reachability.proofs.Marking.{marked-or, unmarked_of-exact}
 
 -- without references the edges are the fields
 pub edge-field : (v : HeapRows) (x y : ℕ) → v.follows ≡ false → EdgeOf v x y → HasField v.heap x y

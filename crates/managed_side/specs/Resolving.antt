@@ -1,11 +1,10 @@
 -- What a resolution does to the rows of a side.
-use Rattle.std.specs.Prelude.{◌≡◌, ℕ, ◌<◌, ◌↔◌, Bool, true, false, not, List, Contains, length, filter, count_by, Option, Some, None, is_some, slice_get}
+use Rattle.std.specs.Prelude.{◌≡◌, ℕ, ◌<◌, ◌↔◌, Bool, true, List, Contains, length, count_by, Option, Some, None, is_some, slice_get}
 use Rattle.joint_model.specs.Cycles.{IsResolution, IsAnsweredAlive}
 use Rattle.joint_model.specs.Heaps.{numbered_at}
 use Rattle.joint_model.specs.Listed.{answers_of}
 use Rattle.joint_model.specs.Managed.{OpenCycle, resolved}
 use Rattle.joint_model.specs.ManagedReplay.{ManagedReplay, without_twins}
-use Rattle.reachability.specs.Marks.{marked}
 
 -- the answer at one of the places below n is alive, for this candidate
 abbrev pub IsAliveBelow : ℕ → List ℕ → List Bool → ℕ → Type 0

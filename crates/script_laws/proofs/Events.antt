@@ -19,18 +19,16 @@ use Rattle.joint_model.specs.declared.events.Op.{Op}
 use Rattle.joint_model.specs.declared.events.Op.TheVariants as op
 use Rattle.joint_model.specs.declared.events.Reply.{Reply}
 use Rattle.joint_model.specs.Control.{Doing, free, made, lent, gripped, given, met, doing_at, Stand, snapped, contracted, MayAdopt, MayLand, MayMeet, MayRelease, MayAbandonNow}
-use Rattle.joint_model.specs.Lines.{IsPlainObject, IsBridgeObject, IsManagedAct, IsPeerAct, IsOneEvent, IsEvent, IsThread, IsManagedThread, IsPeerThread, IsDriver}
+use Rattle.joint_model.specs.Lines.{IsPlainObject, IsBridgeObject, IsManagedAct, IsPeerAct, IsOneEvent, IsEvent, IsThread, IsPeerThread, IsDriver}
 use Rattle.joint_model.specs.Linked.{Linkage}
 use Rattle.joint_model.specs.Told.{Told}
 use Rattle.bridge_script.specs.Words.{phase_word_text}
 use Rattle.history_report.specs.Report.{event_words}
-use Rattle.bridge_script.proofs.Fitting.{lawful_thread}
 use Rattle.script_laws.proofs.Digits.{decimal-one}
 use Rattle.script_laws.proofs.Reading.{Names, is_word, code}
 use Rattle.script_laws.proofs.Known.{IsBounded, IsKnown, same-event}
 use Rattle.script_laws.proofs.OneNote.{Allowed}
 use Rattle.script_laws.proofs.Sharing.{Comes, phase-op, clear-op, same-cycle}
-use Rattle.joint_laws.proofs.FittingLists.{managed-thread}
 
 -- the peer and the handle that a managed thread is in the midst of
 abbrev peer_in : Doing → ℕ

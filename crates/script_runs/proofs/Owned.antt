@@ -14,7 +14,6 @@ use Rattle.joint_history.specs.Callers.{KnowsNothing, Pass, last_index, own}
 use Rattle.joint_history.specs.Ending.{HasIdleDriver}
 use Rattle.joint_history.specs.Knowing.{line_known}
 use Rattle.joint_history.specs.Operations.{IsOwnThread}
-use Rattle.joint_history.proofs.DriverHears.{driver_first}
 use Rattle.bridge_cycle.specs.Progress.{Progress, pass_of}
 use Rattle.script_laws.specs.Holding.{Standing, opening_standing, standing_after, AreLine}
 use Rattle.script_laws.proofs.Growing.{idle_leaves_nothing}

@@ -1,7 +1,7 @@
 -- What the jobs of a run ended with: each its thread's caller, who holds that thread's lines. So all callers together are those that were given out,
 -- and the finished history holds the script thread by thread.
 use Rattle.std.proofs.Common.{◌≡◌, ℕ, zero, suc, ◌<◌, List, [], ◌∷◌, length, map, Result, Ok, Err, refl, sym, ◌∙◌, ap, subst, arith}
-use Rattle.std.specs.Prelude.{All, Contains, IfOk, slice_index_or}
+use Rattle.std.specs.Prelude.{All, IfOk, slice_index_or}
 use Rattle.std.proofs.lemmas.List.Elements.{All-nil, All-cons, All-contains}
 use Rattle.joint_model.specs.declared.names.Thread.{Thread}
 use Rattle.joint_model.specs.declared.lines.Act.{Act}

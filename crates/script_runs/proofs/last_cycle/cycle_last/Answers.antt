@@ -1,4 +1,4 @@
-use Rattle.std.proofs.Common.{◌≤◌, refl, sym, ◌∙◌, ap, subst}
+use Rattle.std.proofs.Common.{◌≤◌, sym, subst}
 use Rattle.joint_history.specs.Callers.{last_index}
 use Rattle.script_runs.proofs.Last.{ends_with_cycle, idle_again, own-first}
 use Rattle.script_runs.proofs.last_cycle.cycle_last.Goals as goal

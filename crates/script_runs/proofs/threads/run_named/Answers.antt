@@ -1,5 +1,5 @@
 use Rattle.std.proofs.Common.{◌≡◌, length, arith}
-use Rattle.script_runs.proofs.Ran.{AllRan, all_ran, ran_all, ran_idle, threads_give}
+use Rattle.script_runs.proofs.Ran.{all_ran, ran_all, ran_idle, threads_give}
 use Rattle.script_runs.proofs.threads.run_named.Goals as goal
 
 pub finish-requires-clause-all : goal.finish-requires-clause-all

@@ -1,4 +1,4 @@
-use Rattle.std.proofs.Common.{◌≡◌, refl, sym, subst}
+use Rattle.std.proofs.Common.{refl, sym, subst}
 use Rattle.joint_history.specs.Callers.{KnowsNothing}
 use Rattle.script_runs.proofs.threads.run_threads.Goals as goal
 

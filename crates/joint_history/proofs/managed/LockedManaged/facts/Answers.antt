@@ -1,6 +1,6 @@
 use Rattle.std.proofs.Common.{subst}
 use Rattle.joint_history.specs.Locked.{UnderManaged}
-use Rattle.joint_history.specs.SeatFacts.{ManagedListCites, ResolvesFreed}
+use Rattle.joint_history.specs.SeatFacts.{ManagedListCites}
 use Rattle.joint_history.proofs.SeatsKnow.{managed_list_cites, resolves_freed}
 use Rattle.joint_history.proofs.managed.LockedManaged.facts.Goals as goal
 
