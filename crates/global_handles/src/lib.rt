@@ -382,7 +382,7 @@ impl HandleTable {
         self.live == 0
     }
 
-    /// A number below which no handle is in the table. [`HandleTable::move_on`] moves it on to that of the first one that is.
+    /// A number below which no handle is in the table. [`HandleTable::move_on`] moves it on; how near it comes to the first one there is no promise.
     pub fn oldest(&self) -> u32
         ensures below { (h : HNum) → h.0 < result → row_in self.now.rows h ≡ None }
         ensures one { 1 ≤ result }

@@ -94,7 +94,7 @@ impl<N: Number> RowHeap<N> {
         self.rows.stands(x as usize)
     }
 
-    /// A number below which no object is live. The begin of a marking moves it on to that of the oldest live object.
+    /// A number below which no object is live. The begin of a marking moves it on; how near it comes to the oldest live object is no promise.
     pub fn oldest(&self) -> u32
         ensures below { (x : ℕ) → x < result → IsLive self.now.heap x → ⊥ }
         ensures most { result ≤ MOST + 1 }
