@@ -4,6 +4,7 @@ ghost use Rattle.std.specs.Prelude.{◌≡◌, ◌≤◌, ◌⊎◌, IfOk, lengt
 ghost use Rattle.std.specs.Io.KnownBytes.{Appends, Keeps};
 ghost use Rattle.bridge_run.specs.Top.{IsGeneratedRunIn, IsGeneratedRunOf};
 ghost use Rattle.byte_streams.specs.Streams.{AppendsPart, Rose};
+ghost use Rattle.joint_history.specs.Ending.{HasEndNumbers};
 ghost use Rattle.joint_model.specs.Histories.{Finished};
 ghost use Rattle.run_laws.specs.LastCycle.{DrivesCycles};
 ghost use Rattle.run_summary.specs.Summary.{summary_text};
@@ -14,13 +15,14 @@ use crate::statuses::{DONE, NO_MEMORY, WRITE_FAULT};
 use bridge_script::{Script, Turnstile};
 use byte_streams::Sink;
 use command_words::Mode;
-use joint_model::History;
-use run_summary::write_summary;
+use joint_history::RunEnd;
+use run_summary::{Objects, Tally, write_summary};
 use script_generator::generate;
 use script_runs::{run_serial_then_cycle, run_threads_then_cycle};
 use std::alloc::{AllocError, Global};
 use std::sync::Wait;
 use std::thread::Threads;
+use summary_laws::tallies_are_of_states;
 
 /// Makes the script of a seed and a size, runs it in that mode and one cycle more once all threads have ended, and writes the summary of that run.
 /// Answers the program's exit status: 0, 4 where the sink failed, or 5 where there was no memory, and nothing is written then.
@@ -45,10 +47,10 @@ pub fn print_generated<R: Threads + Wait + Sync, K: Sink, T: Turnstile + Sync>(
         return NO_MEMORY;
     };
     let lines = script.len();
-    let Ok(history) = run(rt, alloc, mode, script, turn) else {
+    let Ok(end) = run(rt, alloc, mode, script, turn) else {
         return NO_MEMORY;
     };
-    match write_summary(seed, size, mode, lines, &history, out) {
+    match write_summary(seed, size, mode, lines, &tally(&end), out) {
         Ok(()) => DONE,
         Err(_) => WRITE_FAULT,
     }
@@ -62,12 +64,34 @@ fn run<R: Threads + Wait + Sync, T: Turnstile + Sync>(
     mode: Mode,
     script: Script,
     turn: &T,
-) -> Result<History, AllocError>
+) -> Result<RunEnd, AllocError>
     requires { DrivesCycles script }
-    ensures { IfOk result (λ h. IsGeneratedRunIn mode script h) }
+    ensures run { IfOk result (λ e. IsGeneratedRunIn mode script e.history) }
+    ensures counted { IfOk result HasEndNumbers }
 {
     match mode {
         Mode::Serial => run_serial_then_cycle(rt, alloc, script.into_lines()),
         Mode::Threads => run_threads_then_cycle(rt, alloc, script.lines(), turn),
+    }
+}
+
+// The tally of a run's entries, which is that of its last state.
+fn tally(end: &RunEnd) -> Tally
+    requires { HasEndNumbers end.now }
+    ensures { result ≡ tally_of end.now.history.entries }
+{
+    tallies_are_of_states();
+    Tally {
+        cycles: end.cycles as u64,
+        made: Objects {
+            managed: end.managed.all as u64,
+            peers: end.peers.all as u64,
+            handles: end.handles.all as u64,
+        },
+        left: Objects {
+            managed: end.managed.left as u64,
+            peers: end.peers.left as u64,
+            handles: end.handles.left as u64,
+        },
     }
 }

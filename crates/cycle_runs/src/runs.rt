@@ -13,7 +13,7 @@ use joint_model::Reply::{
     self, At, CycleOpen, Freed, Gone, M, Mark, Pending, Refs, Sccs, Snapped, Swept, Took,
 };
 use joint_model::{
-    Act, Cell, Cycle, Kind, MNum, Marking, Phase, PhaseWord, Sort, Span, Thread, Var,
+    Act, Cell, Cycle, Holding, Kind, MNum, Marking, Phase, PhaseWord, Sort, Span, Thread, Var,
 };
 use order_table::{Order, OrderName, Seat};
 use std::alloc::{AllocError, Global};
@@ -218,7 +218,7 @@ fn start<N: OrderName>(
     requires run { (N.managed ≡ 1) × (N.peers ≡ 1) }
     requires seat { (seat.order ≡ N.order) × OwnsAll seat.view × KnowsNothing seat.view }
 {
-    let (shared, mut desk) = Shared::<N, Alone>::new(alloc, order, seat, 1, 1)?;
+    let (shared, mut desk) = Shared::<N, Alone>::new(alloc, order, seat, 1, 1, Holding::Every)?;
     let Some(one) = desk.caller(Thread::M(1)) else {
         return Ok(None);
     };

@@ -5,7 +5,7 @@ ghost use Rattle.order_table.specs.Views.{OwnsAll};
 ghost use Rattle.joint_history.specs.Callers.{KnowsNothing};
 
 use joint_history::{Locks, Shared};
-use joint_model::Thread;
+use joint_model::{Holding, Thread};
 use order_table::{Order, OrderName, Seat};
 use std::alloc::{AllocError, Global};
 use std::marker::Brand;
@@ -22,7 +22,7 @@ fn given<N: OrderName>(
     requires run { (N.managed ≡ 1) × (N.peers ≡ 2) }
     requires seat { (seat.order ≡ N.order) × OwnsAll seat.view × KnowsNothing seat.view }
 {
-    let (_shared, mut desk) = Shared::<N, Locks>::new(alloc, order, seat, 1, 2)?;
+    let (_shared, mut desk) = Shared::<N, Locks>::new(alloc, order, seat, 1, 2, Holding::Every)?;
     let mut given = Vec::new(alloc);
     for t in threads {
         let thread = match desk.caller(*t) {

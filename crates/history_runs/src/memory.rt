@@ -9,7 +9,7 @@ ghost use Rattle.joint_history.specs.Callers.{KnowsNothing, last_index, own};
 
 use crate::runs::managed;
 use joint_history::{Alone, Caller, Shared};
-use joint_model::{Act, Entry, History, Kind, Op, Reply, Sort, StaticNo, Thread, Var};
+use joint_model::{Act, Entry, History, Holding, Kind, Op, Reply, Sort, StaticNo, Thread, Var};
 use order_table::{Order, OrderName, Seat};
 use std::alloc::{AllocError, Global};
 use std::marker::Brand;
@@ -64,7 +64,7 @@ fn run<N: OrderName>(
     requires run { (N.managed ≡ 1) × (N.peers ≡ 0) }
     requires seat { (seat.order ≡ N.order) × OwnsAll seat.view × KnowsNothing seat.view }
 {
-    let (shared, mut desk) = Shared::<N, Alone>::new(alloc, order, seat, 1, 0)?;
+    let (shared, mut desk) = Shared::<N, Alone>::new(alloc, order, seat, 1, 0, Holding::Every)?;
     let Some(mut one) = desk.caller(Thread::M(1)) else {
         return Ok(None);
     };

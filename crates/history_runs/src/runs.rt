@@ -9,7 +9,7 @@ ghost use Rattle.joint_history.specs.Callers.{KnowsNothing, last_index, own};
 
 use joint_history::{Alone, Caller, Shared};
 use joint_model::{
-    Act, Cell, GName, HNum, History, Kind, MNum, PNum, Reply, Sort, StaticNo, Thread, Var,
+    Act, Cell, GName, HNum, History, Holding, Kind, MNum, PNum, Reply, Sort, StaticNo, Thread, Var,
 };
 use order_table::{Order, OrderName, Seat};
 use std::alloc::{AllocError, Global};
@@ -233,7 +233,7 @@ fn run<N: OrderName>(
     requires run { (N.managed ≡ 1) × (N.peers ≡ 1) }
     requires seat { (seat.order ≡ N.order) × OwnsAll seat.view × KnowsNothing seat.view }
 {
-    let (shared, mut desk) = Shared::<N, Alone>::new(alloc, order, seat, 1, 1)?;
+    let (shared, mut desk) = Shared::<N, Alone>::new(alloc, order, seat, 1, 1, Holding::Every)?;
     let Some(mut one) = desk.caller(Thread::M(1)) else {
         return Ok(None);
     };

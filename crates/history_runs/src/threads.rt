@@ -11,7 +11,8 @@ ghost use Rattle.history_runs.specs.Starts.{IsStarting};
 
 use joint_history::{Caller, Desk, Locks, Shared};
 use joint_model::{
-    Act, Cell, Entry, GName, History, Kind, Marking, Op, Reply, Sort, StaticNo, Thread, Var,
+    Act, Cell, Entry, GName, History, Holding, Kind, Marking, Op, Reply, Sort, StaticNo, Thread,
+    Var,
 };
 use joint_replay::{JointState, Verdict};
 use order_table::{Order, OrderName, Seat};
@@ -203,7 +204,7 @@ fn run<N: OrderName + Send + Sync, R: Threads + Wait + Sync>(
     requires run { (N.managed ≡ 2) × (N.peers ≡ 2) }
     requires seat { (seat.order ≡ N.order) × OwnsAll seat.view × KnowsNothing seat.view }
 {
-    let (shared, mut desk) = Shared::<N, Locks>::new(alloc, order, seat, 2, 2)?;
+    let (shared, mut desk) = Shared::<N, Locks>::new(alloc, order, seat, 2, 2, Holding::Every)?;
     let callers = callers_at(alloc, &mut desk)?;
     let ended = make_all(rt, &shared, callers, lines)?;
     shared.finish(desk, ended)

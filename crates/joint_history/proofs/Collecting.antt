@@ -1,6 +1,7 @@
 -- A collect under the peer lock: what the side's call draws by a seat, and what the locked seat and the caller know after it.
-use Rattle.std.proofs.Common.{◌≡◌, ◌⊎◌, inl, inr, ⊎_elim, ℕ, Bool, true, ◌||◌, ◌<◌, ◌≤◌, ◌^◌, List, [], ◌∷◌, ◌++◌, length, Option, Some, None, refl, sym, ap, ◌∙◌, subst, append-nil, append_assoc, arith}
-use Rattle.std.specs.Prelude.{if◌then◌else◌, nat_eq, Result, Ok, Err, IfOk, OnErr, slice_get}
+use Rattle.std.proofs.Common.{◌≡◌, inl, inr, ⊎_elim, ℕ, Bool, true, ◌||◌, ◌<◌, ◌≤◌, ◌^◌, List, [], ◌∷◌, ◌++◌, length, Option, Some, None, refl, sym, ap, ◌∙◌, subst, append-nil, append_assoc, arith}
+use Rattle.std.specs.Prelude.{if◌then◌else◌, nat_eq, Result, Ok, Err, IfOk, OnErr}
+use Rattle.std.specs.Option.{unwrap_or}
 use mathlib.Core.List.{IsPrefix}
 use base.Growing.{prefix_refl, prefix_trans}
 use Rattle.std.proofs.lemmas.Cmp.{nat_eq_equiv}
@@ -55,14 +56,6 @@ pub threads_in_turn : {S D : Type 0} (r : SideRules S) (d : Drawing D) (before a
 threads_in_turn {S} r d before after old new [] a = ap (λ (s : Side S). s.threads) a.1
 threads_in_turn r d before after old new (m ∷ ms) a = threads_in_turn r d a.0 after a.1 new ms a.3 ∙ a.2.threads
 
--- what stands after a list is found at its end
-at_end : (es fs : List Entry) (e : Entry) → slice_get (es ++ e ∷ fs) (length es) ≡ Some e
-at_end [] fs e = refl
-at_end (x ∷ es) fs e = at_end es fs e
-
-number_of : (e f : Entry) → Some e ≡ Some f → e.number ≡ f.number
-number_of e f w = ap (λ (o : Option Entry). elim o [ None ↦ 0 | Some x ↦ x.number ]) w
-
 -- a sweep that tells what it freed answers which marking it ended
 record AnswersSwept (reply : Reply) : Type 0 where
   pub marking : Number
@@ -87,9 +80,9 @@ swept_so s (Some mk) t gone w = record {
   is = ap (λ (b : Bool). (if b then swept_of s mk gone else answer (says.MarkOpen record { 0 = mk.number }) s).reply) (may-end t mk.by w.0);
 }
 
--- a draw by a seat keeps which seat it is and the role, and leaves the number of its entry and the seat with that entry
+-- a draw by a seat keeps which seat it is and the role, and leaves the number of its entry, the seat with that entry and the first number drawn
 abbrev DrewBy : SeatDrawing → Entry → Option MNum → List MNum → SeatDrawing → Type 0
-DrewBy a e m freed b = (b.seat.ghost_name ≡ a.seat.ghost_name) × (b.role ≡ a.role) × (b.last ≡ e.number) × Appends a.order.now b.order.now a.seat.now b.seat.now (role_line a.role) (kept a.seat.now.view e.made m freed e.number)
+DrewBy a e m freed b = (b.seat.ghost_name ≡ a.seat.ghost_name) × (b.role ≡ a.role) × (b.last ≡ e.number) × Appends a.order.now b.order.now a.seat.now b.seat.now (role_line a.role) (kept a.seat.now.view e.made m freed e.number) × (b.first ≡ Some (unwrap_or a.first e.number))
 
 module _ (d : Drawing SeatDrawing) (reads : (a b : SeatDrawing) (e : Entry) (m : Option MNum) (freed : List MNum) → d.drew a e m freed b → DrewBy a e m freed b) (order : OrderId) where
   record DrewOne (a b : SeatDrawing) (old new : Side PeerReplay) (m : Made) (told : Told) : Type 0 where
@@ -99,6 +92,7 @@ module _ (d : Drawing SeatDrawing) (reads : (a b : SeatDrawing) (e : Entry) (m :
     pub role_is : b.role ≡ role.Peer
     pub order_is : b.order.now ≡ order
     pub last : b.last ≡ number
+    pub first : b.first ≡ Some (unwrap_or a.first number)
 
   drew_one : (a b : SeatDrawing) (old new : Side PeerReplay) (m : Made) (told : Told) → a.order.now ≡ order → a.role ≡ role.Peer → AddsLawful peer_rules d a b old new m told → DrewOne a b old new m told
   drew_one a b old new m told o r w =
@@ -114,25 +108,23 @@ module _ (d : Drawing SeatDrawing) (reads : (a b : SeatDrawing) (e : Entry) (m :
         role_is = x.1 ∙ r;
         order_is = y.same_order ∙ o;
         last = x.2;
+        first = x.4;
       }
 
   pub record CollectDrew (a b : SeatDrawing) (old new : Side PeerReplay) (t : Thread) (index : ℕ) (reply : Reply) : Type 0 where
     pub first : ℕ
-    pub stands : (e : Entry) → slice_get new.entries (length old.entries) ≡ Some e → e.number ≡ first
-    pub there : slice_get new.entries (length old.entries) ≡ None → ⊥
+    pub begins : b.first ≡ Some first
     pub name : b.seat.ghost_name ≡ a.seat.ghost_name
     pub drew : DrawsCollect order a.seat.now b.seat.now old new t index (record { first = first; last = b.last; reply = reply })
 
-  refused_drew : (a b : SeatDrawing) (old new : Side PeerReplay) (t : Thread) (index : ℕ) (j : Number) (gone : List ℕ) → a.order.now ≡ order → a.role ≡ role.Peer
+  refused_drew : (a b : SeatDrawing) (old new : Side PeerReplay) (t : Thread) (index : ℕ) (j : Number) (gone : List ℕ) → a.order.now ≡ order → a.role ≡ role.Peer → a.first ≡ None
       → AddsInTurn peer_rules d a b old new (collect_makings t index (says.MarkOpen j) gone) → CollectDrew a b old new t index (says.MarkOpen j)
-  refused_drew a b old new t index j gone o r w =
+  refused_drew a b old new t index j gone o r f w =
       let one = drew_one a w.0 old w.1 _ nothing o r w.2 in
       let is = w.3 in
-      let at : slice_get new.entries (length old.entries) ≡ Some (refused_at t index one.number j) = ap (λ (s : Side PeerReplay). slice_get s.entries (length old.entries)) is.1 ∙ (ap (λ es. slice_get es (length old.entries)) one.drew.added ∙ at_end old.entries [] _) in
       record {
         first = one.number;
-        stands = λ e q. number_of e (refused_at t index one.number j) (sym q ∙ at);
-        there = λ q. (let v : None ≡ Some (refused_at t index one.number j) = sym q ∙ at in cc);
+        begins = ap (λ (x : SeatDrawing). x.first) is.0 ∙ (one.first ∙ ap (λ n. Some (unwrap_or n one.number)) f);
         name = ap (λ (x : SeatDrawing). x.seat.ghost_name) is.0 ∙ one.name;
         drew = inr (record {
           marking = j;
@@ -143,20 +135,18 @@ module _ (d : Drawing SeatDrawing) (reads : (a b : SeatDrawing) (e : Entry) (m :
         });
       }
 
-  whole_drew : (a b : SeatDrawing) (old new : Side PeerReplay) (t : Thread) (index : ℕ) (j : Number) (freed : Span) (gone : List ℕ) → a.order.now ≡ order → a.role ≡ role.Peer
+  whole_drew : (a b : SeatDrawing) (old new : Side PeerReplay) (t : Thread) (index : ℕ) (j : Number) (freed : Span) (gone : List ℕ) → a.order.now ≡ order → a.role ≡ role.Peer → a.first ≡ None
       → AddsInTurn peer_rules d a b old new (collect_makings t index (says.Swept j freed) gone) → CollectDrew a b old new t index (says.Swept j freed)
-  whole_drew a b old new t index j freed gone o r w =
+  whole_drew a b old new t index j freed gone o r f w =
       let one = drew_one a w.0 old w.1 _ nothing o r w.2 in
       let v = w.3 in
       let two = drew_one w.0 v.0 w.1 v.1 _ (sweep_of gone) one.order_is one.role_is v.2 in
       let is = v.3 in
       let last : b.last ≡ two.number = ap (λ (x : SeatDrawing). x.last) is.0 ∙ two.last in
-      let all : new.entries ≡ old.entries ++ began_at t index one.number j ∷ swept_at t index two.number j freed ∷ [] = ap (λ (s : Side PeerReplay). s.entries) is.1 ∙ (two.drew.added ∙ (ap (λ es. es ++ swept_at t index two.number j freed ∷ []) one.drew.added ∙ append_assoc old.entries (began_at t index one.number j ∷ []) (swept_at t index two.number j freed ∷ []))) in
-      let at : slice_get new.entries (length old.entries) ≡ Some (began_at t index one.number j) = ap (λ es. slice_get es (length old.entries)) all ∙ at_end old.entries _ _ in
+      let begun : w.0.first ≡ Some one.number = one.first ∙ ap (λ n. Some (unwrap_or n one.number)) f in
       record {
         first = one.number;
-        stands = λ e q. number_of e (began_at t index one.number j) (sym q ∙ at);
-        there = λ q. (let z : None ≡ Some (began_at t index one.number j) = sym q ∙ at in cc);
+        begins = ap (λ (x : SeatDrawing). x.first) is.0 ∙ (two.first ∙ ap (λ n. Some (unwrap_or n two.number)) begun);
         name = ap (λ (x : SeatDrawing). x.seat.ghost_name) is.0 ∙ (two.name ∙ one.name);
         drew = inl (record {
           marking = j;
@@ -173,17 +163,17 @@ module _ (d : Drawing SeatDrawing) (reads : (a b : SeatDrawing) (e : Entry) (m :
       }
 
   -- a sweep that was made answers so
-  swept_drew : (a b : SeatDrawing) (old new : Side PeerReplay) (t : Thread) (index : ℕ) (reply : Reply) (gone : List ℕ) (s : PeerReplay) → a.order.now ≡ order → a.role ≡ role.Peer
+  swept_drew : (a b : SeatDrawing) (old new : Side PeerReplay) (t : Thread) (index : ℕ) (reply : Reply) (gone : List ℕ) (s : PeerReplay) → a.order.now ≡ order → a.role ≡ role.Peer → a.first ≡ None
       → AddsInTurn peer_rules d a b old new (collect_makings t index reply gone) → SweepAllows s s.marking t (sweep_of gone) → reply ≡ (swept s s.marking t gone).reply → CollectDrew a b old new t index reply
-  swept_drew a b old new t index reply gone s o r w allowed is =
+  swept_drew a b old new t index reply gone s o r f w allowed is =
       let x = swept_so s s.marking t gone allowed in
       let e = is ∙ x.is in
-      subst (CollectDrew a b old new t index) (sym e) (whole_drew a b old new t index x.marking x.freed gone o r (subst (λ y. AddsInTurn peer_rules d a b old new (collect_makings t index y gone)) e w))
+      subst (CollectDrew a b old new t index) (sym e) (whole_drew a b old new t index x.marking x.freed gone o r f (subst (λ y. AddsInTurn peer_rules d a b old new (collect_makings t index y gone)) e w))
 
-  pub collect_drew : (a b : SeatDrawing) (old new : Side PeerReplay) (t : Thread) (index : ℕ) (reply : Reply) (gone : List ℕ) → a.order.now ≡ order → a.role ≡ role.Peer
+  pub collect_drew : (a b : SeatDrawing) (old new : Side PeerReplay) (t : Thread) (index : ℕ) (reply : Reply) (gone : List ℕ) → a.order.now ≡ order → a.role ≡ role.Peer → a.first ≡ None
       → AddsInTurn peer_rules d a b old new (collect_makings t index reply gone) → CollectDrew a b old new t index reply
-  collect_drew a b old new t index (says.MarkOpen j) gone o r w = refused_drew a b old new t index j gone o r w
-  collect_drew a b old new t index reply gone o r w = swept_drew a b old new t index reply gone w.1.state o r w w.3.2.goes.lawful.1.allowed w.3.2.goes.lawful.1.replies
+  collect_drew a b old new t index (says.MarkOpen j) gone o r f w = refused_drew a b old new t index j gone o r f w
+  collect_drew a b old new t index reply gone o r f w = swept_drew a b old new t index reply gone w.1.state o r f w w.3.2.goes.lawful.1.allowed w.3.2.goes.lawful.1.replies
 
 -- the locked seat knows the side, and the thread's last line isn't above this one
 record KnowsAt (t : Thread) (v : View) (side : Side PeerReplay) (index : ℕ) : Type 0 where

@@ -5,7 +5,8 @@ use denote.Param.Send.{AllSend, AllSync, IsSend, IsSync, recorded_send, recorded
 use denote.Struct.Declared as fields
 use Rattle.std.proofs.Crossing.{crosses}
 use Rattle.std.specs.contracts.sync.Mutex as Mutex
-use Rattle.joint_model.proofs.lists.Entries.TheSendSync.{the_send as entries}
+use Rattle.joint_model.proofs.kept.Kept.TheSendSync.{the_send as kept}
+use Rattle.joint_model.specs.contracts.lists.Entries as Entries
 use Rattle.order_table.proofs.orders.Order.TheSendSync.{the_sync as order}
 use Rattle.order_table.proofs.seats.Seat.TheSendSync.{the_send as seat}
 use Rattle.order_table.specs.declared.seats.OrderName.{Ghosts}
@@ -26,6 +27,9 @@ use Rattle.joint_history.specs.contracts.managed.LockedManaged.TheInside as Unde
 use Rattle.joint_history.specs.contracts.peer.LockedPeer as LockedPeer
 use Rattle.joint_history.specs.contracts.peer.LockedPeer.TheInside as UnderPeer
 use Rattle.joint_history.specs.contracts.shared.Shared as Shared
+
+entries : IsSend Entries.the_row
+entries = search (sendable, crosses, kept) depth 60 fits 100000
 
 heap_rows : IsSend Rows.the_row
 heap_rows = search (sendable, crosses) depth 40 fits 100000

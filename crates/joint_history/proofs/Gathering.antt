@@ -2,7 +2,7 @@
 use Rattle.std.proofs.Common.{◌≡◌, ◌⊎◌, inl, inr, ⊎_elim, ℕ, ◌-◌, ◌<◌, ◌≤◌, List, [], ◌∷◌, ◌++◌, length, take, map, Some, None, refl, sym, ap, ◌∙◌, subst, arith}
 use Rattle.std.specs.Prelude.{Contains}
 use Rattle.std.proofs.lemmas.List.Elements.{Contains-push_cases}
-use Rattle.joint_history.specs.Ending.{AtRest, HasGatheredSeats, GathersAll, IsFinished, HasIdleDriver, Rests}
+use Rattle.joint_history.specs.Ending.{AtRest, HasGatheredSeats, GathersAll, IsFinishedWith, HasIdleDriver, Rests}
 use Rattle.std.proofs.lemmas.List.{append-nil, append_assoc}
 use Rattle.joint_model.proofs.Members.{Contains-nil}
 use Rattle.joint_history.specs.Callers.{CallerKnows}
@@ -22,7 +22,7 @@ use Rattle.joint_model.specs.Components.{Rises}
 use Rattle.joint_model.specs.Histories.{Finished, IsJoinable, IsShuffle, managed_numbers, peer_numbers}
 use Rattle.joint_model.specs.HistoryLines.{caller_line, entries_in}
 use Rattle.joint_model.specs.Lines.{IsThread, IsEvent, IsManagedThread}
-use Rattle.joint_model.specs.Linked.{IsWhole}
+use Rattle.joint_model.specs.Linked.{IsWhole, Linkage}
 use Rattle.joint_model.specs.ManagedReplay.{ManagedReplay}
 use Rattle.joint_model.specs.PeerReplay.{PeerReplay}
 use Rattle.joint_model.specs.Sides.{Side}
@@ -119,7 +119,7 @@ all_rest v l r ts g all = record {
 -- and the history of both sides' lists is linked
 pub record Ends (l : Side ManagedReplay) (r : Side PeerReplay) (freed_managed : List MNum) (freed_peers : List PNum) (notices : List MNum) (w : List (List Entry)) (whole : List Entry) : Type 0 where
   pub joinable : IsJoinable w freed_managed freed_peers notices
-  pub finished : (h : Finished) → IsShuffle w h.entries → h.freed_managed ≡ freed_managed → h.freed_peers ≡ freed_peers → h.notices ≡ notices → IsFinished h × (h.entries ≡ whole)
+  pub finished : (h : Finished) → IsShuffle w h.entries → h.freed_managed ≡ freed_managed → h.freed_peers ≡ freed_peers → h.notices ≡ notices → IsFinishedWith h l.state r.state × (h.entries ≡ whole)
 
 pub all_gathered : (v : View) (l : Side ManagedReplay) (r : Side PeerReplay) (ts : List Thread) (g : HasGatheredSeats v l r ts) → ((t : Thread) → IsThread t → Contains ts t) → (w : AllKnown v.known) → (freed_managed : List MNum) (freed_peers : List PNum) (notices : List MNum)
     → managed_numbers freed_managed ≡ l.state.managed.heap.freed → peer_numbers freed_peers ≡ r.state.peers.heap.freed → managed_numbers notices ≡ l.state.managed.notices
@@ -136,6 +136,12 @@ all_gathered v l r ts g all w freed_managed freed_peers notices fm fp ns =
       notices = ap (λ ms. take s.managed.managed.taken ms) (ns ∙ ap (λ (m : ManagedReplay). m.managed.notices) (sym g.managed));
     } in
     let is = whole_view_is_finished h v g.known w refl ended (ns ∙ ap (λ (m : ManagedReplay). m.managed.notices) (sym g.managed)) in
+    let with_states : IsFinishedWith h l.state r.state = record {
+      noted = is.noted;
+      finished = is.finished;
+      managed = ap (λ (x : Linkage). x.managed) is.ends ∙ g.managed;
+      peer = ap (λ (x : Linkage). x.peer) is.ends ∙ g.peer;
+    } in
     let left : line_known v 0 ≡ entries_in 0 whole = ap line_entries (w.each 0 (omega arith)) ∙ told.lines 0 in
     let right : line_known v 1 ≡ entries_in 1 whole = ap line_entries (w.each 1 (omega arith)) ∙ told.lines 1 in
     let lists = known_lists_are_lawful g.known.past g.known.lawful in
@@ -145,7 +151,7 @@ all_gathered v l r ts g all w freed_managed freed_peers notices fm fp ns =
     record {
       joinable = record { whole = whole; shuffle = shuffle; fits = (linked_is_history h is.noted is.finished.linked).fits };
       finished = λ k sh a b c. let same = shuffle_is_one (l.entries ∷ r.entries ∷ []) k.entries whole sh shuffle in
-          (subst IsFinished (λ i. record { entries = sym same i; freed_managed = sym a i; freed_peers = sym b i; notices = sym c i }) is, same);
+          (subst (λ z. IsFinishedWith z l.state r.state) (λ i. record { entries = sym same i; freed_managed = sym a i; freed_peers = sym b i; notices = sym c i }) with_states, same);
     }
 
 -- who has gathered all threads' seats owns every line

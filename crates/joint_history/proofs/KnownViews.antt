@@ -21,7 +21,7 @@ use Rattle.order_table.specs.Views.{IsInRole, known}
 use Rattle.order_table.proofs.Lines.{role_in, caller_in, in_cases}
 use Rattle.order_table.proofs.Wholes.{tell_lines}
 use Rattle.joint_model.specs.Draws.{NumberedFrom}
-use Rattle.joint_history.specs.Ending.{IsFinished}
+use Rattle.joint_history.specs.Ending.{IsFinishedAt}
 use Rattle.joint_history.specs.Knowing.{line_known, IsKnownView, note_of, FirstIsKnown, ViewsGrow, ViewsJoin, SameIsKnown, WholeViewIsLinked}
 
 -- the entries of lists
@@ -115,7 +115,7 @@ whole_view_is_linked h v a w same ended =
 
 -- and where the history's list of notices is all that the past has queued, it has all that was ever queued
 pub whole_view_is_finished : (h : Finished) (v : View) (a : IsKnownView v) (w : AreLinesOfOneHistory v.known) → h.entries ≡ entries_of w.whole → HasEnded h (end_of a.past)
-    → managed_numbers h.notices ≡ (end_of a.past).managed.managed.notices → IsFinished h
+    → managed_numbers h.notices ≡ (end_of a.past).managed.managed.notices → IsFinishedAt h (end_of a.past)
 whole_view_is_finished h v a w same ended queued =
     let numbered = subst (NumberedFrom 0) (sym same) (tell_lines w.whole w.numbers).numbered in
     let history = known_whole_is_history h.entries (line_known v) a numbered (side 0 (omega arith)) (side 1 (omega arith)) in
@@ -134,6 +134,7 @@ whole_view_is_finished h v a w same ended queued =
         };
         queued = queued ∙ ap (λ (s : Linkage). s.managed.managed.notices) back;
       };
+      ends = history.ends;
     }
   where
     side : (i : ℕ) → i < 27 → line_known v i ≡ entries_in i h.entries

@@ -1,12 +1,12 @@
 -- The end of a run: all seats are taken into one.
-use Rattle.std.specs.Prelude.{◌≡◌, ◌⊎◌, ℕ, List, ◌++◌, map, Contains, IsSome, slice_get}
+use Rattle.std.specs.Prelude.{◌≡◌, ◌⊎◌, ℕ, ◌+◌, List, [], ◌++◌, length, map, count_by, is_some, Contains, IsSome, slice_get}
 use Rattle.joint_model.specs.declared.names.Thread.{Thread}
 use Rattle.joint_model.specs.declared.names.Thread.TheVariants.{M, P, C}
 use Rattle.joint_model.specs.declared.events.Entry.{Entry}
 use Rattle.joint_model.specs.Histories.{Finished}
 use Rattle.joint_model.specs.Control.{idle, caller_place, doing_at, IsDone}
 use Rattle.joint_model.specs.HistoryLines.{caller_line}
-use Rattle.joint_model.specs.Linked.{Linkage, IsLinkedBy, HasQueued}
+use Rattle.joint_model.specs.Linked.{Linkage, IsLinkedBy, HasQueued, opening_linkage, replayed}
 use Rattle.joint_model.specs.ManagedReplay.{ManagedReplay}
 use Rattle.joint_model.specs.PeerReplay.{PeerReplay}
 use Rattle.joint_model.specs.Sides.{Side}
@@ -14,10 +14,12 @@ use Rattle.joint_model.specs.Told.{Noted}
 use Rattle.known_laws.specs.Lists.{made_by}
 use Rattle.known_laws.specs.Pasts.{end_of}
 use Rattle.order_table.specs.declared.views.View.{View}
+use Rattle.order_table.specs.Rule.{AreLinesOfOneHistory}
 use Rattle.order_table.specs.Views.{Owns, known}
 use Rattle.joint_model.specs.Lines.{IsDriver, IsThread}
 use Rattle.joint_history.specs.Callers.{HoldsPass, Pass, own}
-use Rattle.joint_history.specs.Desks.{Waiting, flat}
+use Rattle.joint_history.specs.declared.ends.RunEnd.{RunEnd}
+use Rattle.joint_history.specs.Desks.{Waiting, flat, present}
 use Rattle.joint_history.specs.Knowing.{line_known, IsKnownView}
 
 -- the thread has come to rest: it has nothing to release, and the driver is idle
@@ -85,7 +87,45 @@ pub record IsFinishedBy (h : Finished) (noted : List Noted) : Type 0 where
   pub linked : IsLinkedBy h noted
   pub queued : HasQueued h noted
 
+-- so it is by some notes, after which the state is this one
+pub record IsFinishedAt (h : Finished) (s : Linkage) : Type 0 where
+  pub noted : List Noted
+  pub finished : IsFinishedBy h noted
+  pub ends : replayed opening_linkage noted ≡ s
+
+-- or has these parts
+pub record IsFinishedWith (h : Finished) (l : ManagedReplay) (r : PeerReplay) : Type 0 where
+  pub noted : List Noted
+  pub finished : IsFinishedBy h noted
+  pub managed : (replayed opening_linkage noted).managed ≡ l
+  pub peer : (replayed opening_linkage noted).peer ≡ r
+
 -- so it is by some notes
 pub record IsFinished (h : Finished) : Type 0 where
   pub noted : List Noted
   pub finished : IsFinishedBy h noted
+
+-- the seats of both sides, of the callers that were given out and of those that still wait were taken into one, which knows the whole history
+pub record AllTaken (l : Side ManagedReplay) (r : Side PeerReplay) (d : Waiting) (callers : List Pass) : Type 0 where
+  pub before : View
+  pub seat : View
+  pub gathered : AllAreIn seat l r
+  pub whole : AreLinesOfOneHistory seat.known
+  pub own : TakesOwn before seat (callers ++ present d.callers)
+  pub waiting : (t : Thread) → IsThread t → StillWaits d t → line_known seat (caller_line t) ≡ []
+
+-- the numbers are those of these states of both sides: how many cycles were opened, how many objects and handles were made, and how many of them are left
+pub record AreNumbersOf (e : RunEnd) (l : ManagedReplay) (r : PeerReplay) : Type 0 where
+  pub cycles : e.cycles ≡ l.managed.cycles
+  pub managed : e.managed.all ≡ length l.managed.heap.fields
+  pub managed_left : e.managed.left + length l.managed.heap.freed ≡ length l.managed.heap.fields
+  pub peers : e.peers.all ≡ length r.peers.heap.fields
+  pub peers_left : e.peers.left + length r.peers.heap.freed ≡ length r.peers.heap.fields
+  pub handles : e.handles.all ≡ length r.peers.issued
+  pub handles_left : e.handles.left ≡ count_by is_some r.table
+
+-- a history is finished by notes after which both sides' states have these numbers
+pub record HasEndNumbers (e : RunEnd) : Type 0 where
+  pub noted : List Noted
+  pub finished : IsFinishedBy e.history noted
+  pub numbers : AreNumbersOf e (replayed opening_linkage noted).managed (replayed opening_linkage noted).peer

@@ -1,6 +1,6 @@
 // A collect of a peer thread under the peer lock: a begin and, if that gave a number, the sweep of that marking, in one hold of the lock.
 
-ghost use Rattle.std.specs.Prelude.{◌≡◌, IfOk, OnErr};
+ghost use Rattle.std.specs.Prelude.{◌≡◌, None, IfOk, OnErr};
 ghost use Rattle.joint_model.specs.Lines.{IsPeerThread};
 ghost use Rattle.joint_model.specs.Sides.{TakesPeer};
 ghost use Rattle.peer_side.specs.Sides.{seen};
@@ -19,7 +19,7 @@ use order_table::{Order, OrderName, Role, Seat};
 use peer_side::PeerSide;
 use std::alloc::AllocError;
 
-// The side makes a collect. The first of its entries stands where its list ended before.
+// The side makes a collect, by a draw that hasn't drawn yet.
 fn collect_by(
     side: &mut PeerSide,
     drawing: &mut SeatDrawing<'_>,
@@ -27,6 +27,7 @@ fn collect_by(
     index: u16,
 ) -> Result<Receipt, AllocError>
     requires role { drawing.old.role ≡ Role.Peer }
+    requires first { drawing.old.first ≡ None }
     requires thread { IsPeerThread caller }
     requires takes { TakesPeer side.old.threads caller }
     requires may_begin { MayAppend drawing.old.order.now drawing.old.seat.now 1 caller Op.Begin }
@@ -38,11 +39,9 @@ fn collect_by(
     ensures reserve { side.new.reserve ≡ side.old.reserve }
     ensures threads { side.new.threads ≡ side.old.threads }
 {
-    let count = side.entries().len();
     let reply = side.collect(drawing, caller, index)?;
-    let first = match side.entries().at(count) {
-        Some(entry) => entry.number,
-        None => unreachable!(),
+    let Some(first) = drawing.first else {
+        unreachable!();
     };
     Ok(Receipt {
         first,
@@ -73,6 +72,7 @@ fn draw_collect(
         order,
         seat,
         role: Role::Peer,
+        first: None,
         last: 0,
     };
     collect_by(side, &mut drawing, caller, index)

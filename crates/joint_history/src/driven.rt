@@ -44,6 +44,7 @@ fn draw_contraction(
         order,
         seat,
         role: Role::Managed,
+        first: None,
         last: 0,
     };
     side.contracted(&mut drawing, index, sccs, xrefs);
@@ -61,6 +62,7 @@ fn draw_abandon(side: &mut ManagedSide, order: &Order, seat: &mut Seat, index: u
         order,
         seat,
         role: Role::Managed,
+        first: None,
         last: 0,
     };
     side.abandon(&mut drawing, index);
@@ -85,6 +87,7 @@ fn draw_resolution(
         order,
         seat,
         role: Role::Managed,
+        first: None,
         last: 0,
     };
     let out = side.resolve(&mut drawing, index, cites, alive);
@@ -111,6 +114,7 @@ fn draw_refusal(
         order,
         seat,
         role: Role::Managed,
+        first: None,
         last: 0,
     };
     let reply = side.refused(&mut drawing, index, word, phase)?;

@@ -46,6 +46,7 @@ fn draw_weaken(
         order,
         seat,
         role: Role::Peer,
+        first: None,
         last: 0,
     };
     side.weaken(&mut drawing, index, snap, h);
@@ -71,6 +72,7 @@ fn draw_restore(
         order,
         seat,
         role: Role::Peer,
+        first: None,
         last: 0,
     };
     let back = side.restore(&mut drawing, index, h);
@@ -91,6 +93,7 @@ fn draw_clear(side: &mut PeerSide, order: &Order, seat: &mut Seat, index: u16, c
         order,
         seat,
         role: Role::Peer,
+        first: None,
         last: 0,
     };
     side.clear_refs(&mut drawing, index, cycle);

@@ -10,6 +10,7 @@
 //         Shared::abandon, refused, finalise         what else the driver does
 //         Shared::tell                               one caller hears what another knows, without an entry
 //     Shared::finish                                 all callers are given back or wait at the desk: the history
+//     Shared::end                                    the same where no entry is read: the numbers of the last state
 //
 // A thread's whole use of it is `let receipt = shared.managed(rt, &mut caller, line, &act)?;` for each of its lines: a [`Receipt`] has the reply, and
 // the numbers of the first and the last entry.
@@ -37,6 +38,7 @@ mod collects;
 mod desks;
 mod driven;
 mod driving;
+mod ends;
 mod facts;
 mod gathers;
 mod handles;
@@ -54,6 +56,7 @@ mod snaps;
 
 pub use callers::{Caller, Receipt};
 pub use desks::Desk;
+pub use ends::{Made, RunEnd};
 pub use keeping::{Alone, Keeps, Locks};
 pub use laws::views_are_pasts;
 pub use managed::LockedManaged;

@@ -14,7 +14,7 @@ ghost use Rattle.joint_history.specs.Locked.{made_by, Drew, ManagedKnows, MayMak
 ghost use Rattle.joint_history.specs.Passing.{MayAppend};
 
 use crate::seats::{SeatDrawing, give_back, lend};
-use joint_model::{Op, Reply, Thread, Var};
+use joint_model::{Holding, Op, Reply, Thread, Var};
 use managed_side::ManagedSide;
 use order_table::{Order, OrderName, Role, Seat};
 use std::alloc::{AllocError, Global};
@@ -66,6 +66,7 @@ pub(crate) fn draw_step(
         order,
         seat,
         role: Role::Managed,
+        first: None,
         last: 0,
     };
     let reply = side.step(&mut drawing, caller, index, op, cites)?;
@@ -94,6 +95,7 @@ fn draw_take(
         order,
         seat,
         role: Role::Managed,
+        first: None,
         last: 0,
     };
     let pin = side.pin(caller);
@@ -107,13 +109,14 @@ impl<N: OrderName> LockedManaged<N> {
         alloc: Global,
         threads: u8,
         seat: Seat,
+        holding: Holding,
     ) -> Result<LockedManaged<N>, AllocError>
         requires threads { (threads ≤ 8) × (threads ≡ N.managed) }
         requires seat { (seat.order ≡ N.order) × Owns seat.view 0 × KnowsNothing seat.view }
         ensures side { IfOk result (λ l. (l.side.entries ≡ []) × (l.side.state ≡ opening_replay)) }
         ensures seat { IfOk result (λ l. l.view ≡ seat.view) }
     {
-        let side = ManagedSide::new(alloc, threads)?;
+        let side = ManagedSide::new(alloc, threads, holding)?;
         Ok(LockedManaged {
             side,
             seat,

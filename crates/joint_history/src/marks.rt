@@ -42,6 +42,7 @@ fn draw_sweep(side: &mut PeerSide, order: &Order, seat: &mut Seat, index: u16) -
         order,
         seat,
         role: Role::Peer,
+        first: None,
         last: 0,
     };
     match side.sweep(&mut drawing, Thread::C, index) {
@@ -64,6 +65,7 @@ fn draw_begin(side: &mut PeerSide, order: &Order, seat: &mut Seat, index: u16) -
         order,
         seat,
         role: Role::Peer,
+        first: None,
         last: 0,
     };
     match side.mark_begin(&mut drawing, Thread::C, index) {

@@ -56,6 +56,7 @@ fn draw_mirror(
         order,
         seat,
         role: Role::Peer,
+        first: None,
         last: 0,
     };
     let refs = install(side, &mut drawing, index, cycle, snap, graph, comps)?;

@@ -15,7 +15,7 @@ ghost use Rattle.joint_history.specs.Locked.{made_by, Drew, PeerKnows, MayMake, 
 ghost use Rattle.joint_history.specs.Passing.{MayAppend};
 
 use crate::seats::{SeatDrawing, give_back, lend};
-use joint_model::{Op, Reply, Thread};
+use joint_model::{Holding, Op, Reply, Thread};
 use order_table::{Order, OrderName, Role, Seat};
 use peer_side::PeerSide;
 use std::alloc::{AllocError, Global};
@@ -69,6 +69,7 @@ fn draw_step(
         order,
         seat,
         role: Role::Peer,
+        first: None,
         last: 0,
     };
     let reply = side.event(&mut drawing, caller, index, op, cites)?;
@@ -77,13 +78,18 @@ fn draw_step(
 
 impl<N: OrderName> LockedPeer<N> {
     /// The side on which nothing was made, for the run's peer threads, with a seat that owns its role and knows no entry.
-    pub(crate) fn new(alloc: Global, threads: u8, seat: Seat) -> Result<LockedPeer<N>, AllocError>
+    pub(crate) fn new(
+        alloc: Global,
+        threads: u8,
+        seat: Seat,
+        holding: Holding,
+    ) -> Result<LockedPeer<N>, AllocError>
         requires threads { (threads ≤ 8) × (threads ≡ N.peers) }
         requires seat { (seat.order ≡ N.order) × Owns seat.view 1 × KnowsNothing seat.view }
         ensures side { IfOk result (λ l. l.side ≡ opening_side threads) }
         ensures seat { IfOk result (λ l. l.view ≡ seat.view) }
     {
-        let side = PeerSide::new(alloc, threads)?;
+        let side = PeerSide::new(alloc, threads, holding)?;
         Ok(LockedPeer {
             side,
             seat,

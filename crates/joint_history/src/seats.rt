@@ -33,17 +33,19 @@ pub(crate) fn give_back(order: &Order, locked: &mut Seat, mine: &mut Seat, t: Th
     order.learn(mine, pass);
 }
 
-/// Draws the numbers of a side's entries by a seat that owns the side's role, and keeps the last one.
+/// Draws the numbers of a side's entries by a seat that owns the side's role, and keeps the first one and the last.
 #[derive(Drop)]
 pub(crate) struct SeatDrawing<'a> {
     pub(crate) order: &'a Order,
     pub(crate) seat: &'a mut Seat,
     pub(crate) role: Role,
+    pub(crate) first: Option<u64>,
     pub(crate) last: u64,
 }
 
 impl<'a> Draw for SeatDrawing<'a> {
-    ghost use Rattle.std.specs.Prelude.{◌≡◌};
+    ghost use Rattle.std.specs.Prelude.{◌≡◌, Some};
+    ghost use Rattle.std.specs.Option.{unwrap_or};
     ghost use Rattle.order_table.specs.Views.{kept, role_line};
     ghost use Rattle.joint_history.specs.Passing.{floor_of, left_in, MayAppend, Appends};
 
@@ -53,10 +55,11 @@ impl<'a> Draw for SeatDrawing<'a> {
 
     ghost may = { λ d t o m. MayAppend d.order.now d.seat.now (role_line d.role) t o };
 
-    ghost drew = { λ d e m freed d'. (d'.seat.ghost_name ≡ d.seat.ghost_name) × (d'.role ≡ d.role) × (d'.last ≡ e.number) × Appends d.order.now d'.order.now d.seat.now d'.seat.now (role_line d.role) (kept d.seat.now.view e.made m freed e.number) };
+    ghost drew = { λ d e m freed d'. (d'.seat.ghost_name ≡ d.seat.ghost_name) × (d'.role ≡ d.role) × (d'.last ≡ e.number) × Appends d.order.now d'.order.now d.seat.now d'.seat.now (role_line d.role) (kept d.seat.now.view e.made m freed e.number) × (d'.first ≡ Some (unwrap_or d.first e.number)) };
 
     fn draw(&mut self, made: &Made, target: Option<MNum>, freed: &[MNum]) -> u64 {
         let number = self.order.append(self.seat, self.role, made, target, freed);
+        self.first = Some(self.first.unwrap_or(number));
         self.last = number;
         number
     }

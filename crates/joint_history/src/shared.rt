@@ -5,22 +5,24 @@ ghost use Rattle.joint_model.specs.Histories.{IsJoinable, IsShuffle};
 ghost use Rattle.joint_model.specs.Lines.{IsDriver, IsThread};
 ghost use Rattle.joint_model.specs.Linked.{IsLinked};
 ghost use Rattle.known_laws.specs.Lists.{made_by};
+ghost use Rattle.peer_side.specs.Sides.{seen};
 ghost use Rattle.order_table.specs.Views.{OwnsAll};
 ghost use Rattle.joint_history.specs.Callers.{Hears, KnowsNothing, Tells};
 ghost use Rattle.joint_history.specs.Desks.{AreAll};
 ghost use Rattle.joint_history.specs.Driven.{StillStands};
-ghost use Rattle.joint_history.specs.Ending.{HasAll, HasOwn, IsFinished, HasIdleDriver, StillWaits};
+ghost use Rattle.joint_history.specs.Ending.{AllTaken, HasAll, HasIdleDriver, HasOwn, HasEndNumbers, IsFinished, StillWaits};
 
 use crate::callers::{Caller, tell};
 use crate::desks::Desk;
+use crate::ends::{Made, RunEnd};
 use crate::gathers::gather_all;
 use crate::keeping::{Keep, Keeps};
 use crate::managed::LockedManaged;
 use crate::peer::LockedPeer;
-use joint_model::{History, Thread};
-use managed_side::ManagedLists;
+use joint_model::{History, Holding, PastHistory, Thread};
+use managed_side::{ManagedLists, ManagedSide};
 use order_table::{Order, OrderName, Role, Seat};
-use peer_side::PeerLists;
+use peer_side::{PeerLists, PeerSide};
 use std::alloc::{AllocError, Global};
 
 /// Both sides, each with the seat that owns its role, and the order of all entries. No call has both sides in hand. `K` is how they are kept:
@@ -46,15 +48,33 @@ fn join_lists(alloc: Global, left: ManagedLists, right: PeerLists) -> Result<His
     History::join(alloc, lists, left.freed, right.freed, left.notices)
 }
 
+// Joins the lists of both sides into one history for proofs.
+fn join_past(left: ManagedLists, right: PeerLists) -> PastHistory
+    requires { IsJoinable (left.entries.entries ∷ right.entries.entries ∷ []) left.freed.items right.freed.items left.notices.items }
+    ensures shuffle { IsShuffle (left.entries.entries ∷ right.entries.entries ∷ []) result.entries }
+    ensures managed { result.freed_managed ≡ left.freed.items }
+    ensures peers { result.freed_peers ≡ right.freed.items }
+    ensures notices { result.notices ≡ left.notices.items }
+{
+    PastHistory::join(
+        left.entries,
+        right.entries,
+        left.freed,
+        right.freed,
+        left.notices,
+    )
+}
+
 impl<N: OrderName, K: Keeps<N>> Shared<N, K> {
     /// Both sides without objects and entries, each for the run's threads of its heap, and the desk at which their callers wait. The seat is
-    /// the one that came with the order. Answers `AllocError` where there is no memory.
+    /// the one that came with the order. The lists of both sides hold their entries as they are told. Answers `AllocError` where there is no memory.
     pub fn new(
         alloc: Global,
         order: Order,
         seat: Seat,
         managed: u8,
         peers: u8,
+        holding: Holding,
     ) -> Result<(Shared<N, K>, Desk<N>), AllocError>
         requires order { order ≡ N.order }
         requires seat { (seat.order ≡ N.order) × OwnsAll seat.view × KnowsNothing seat.view }
@@ -66,8 +86,8 @@ impl<N: OrderName, K: Keeps<N>> Shared<N, K> {
         let mut seat = seat;
         let desk = Desk::new(alloc, &order, &mut seat, managed, peers)?;
         let peer_seat = order.share(&mut seat, Role::Peer);
-        let left = LockedManaged::new(alloc, managed, seat)?;
-        let right = LockedPeer::new(alloc, peers, peer_seat)?;
+        let left = LockedManaged::new(alloc, managed, seat, holding)?;
+        let right = LockedPeer::new(alloc, peers, peer_seat, holding)?;
         Ok((
             Shared {
                 alloc,
@@ -89,20 +109,13 @@ impl<N: OrderName, K: Keeps<N>> Shared<N, K> {
         tell(&self.order, from, to);
     }
 
-    /// Ends the run: one history of all entries, which is linked, has all notices that were ever queued, and in which each caller has just the
-    /// entries that it made. Each thread's
-    /// caller is still at the desk or is given back here, and the driver's is idle. Answers `AllocError` where there is no memory for the
-    /// history.
-    pub fn finish(self, desk: Desk<N>, callers: Vec<Caller<N>>) -> Result<History, AllocError>
+    // Takes the seats of both sides and of all callers into one.
+    fn take_all(self, desk: Desk<N>, callers: Vec<Caller<N>>) -> (ManagedSide, PeerSide)
         requires all { HasAll desk callers.items }
         requires idle { All HasIdleDriver callers.items }
-        ensures linked { IfOk result (λ h. IsLinked h) }
-        ensures finished { IfOk result (λ h. IsFinished h) }
-        ensures own { IfOk result (λ h. All (HasOwn h.entries) callers.items) }
-        ensures none { IfOk result (λ h. (t : Thread) → IsThread t → StillWaits desk t → made_by t h.entries ≡ []) }
+        ensures { AllTaken result.0 (seen result.1) desk callers.items }
     {
         let Shared {
-            alloc,
             order,
             managed,
             peers,
@@ -112,8 +125,57 @@ impl<N: OrderName, K: Keeps<N>> Shared<N, K> {
         let (peer_side, peer_seat) = peers.into_value().into_parts();
         gather_all(&order, &mut seat, peer_seat, desk, callers);
         let _ = order.finish(seat);
-        let left = managed_side.into_lists();
-        let right = peer_side.into_lists();
-        join_lists(alloc, left, right)
+        (managed_side, peer_side)
+    }
+
+    /// Ends the run: one history of all entries, which is linked, has all notices that were ever queued, and in which each caller has just the
+    /// entries that it made. Each thread's
+    /// caller is still at the desk or is given back here, and the driver's is idle. Answers `AllocError` where there is no memory for the
+    /// history, or where the sides' lists let entries go.
+    pub fn finish(self, desk: Desk<N>, callers: Vec<Caller<N>>) -> Result<History, AllocError>
+        requires all { HasAll desk callers.items }
+        requires idle { All HasIdleDriver callers.items }
+        ensures linked { IfOk result (λ h. IsLinked h) }
+        ensures finished { IfOk result (λ h. IsFinished h) }
+        ensures own { IfOk result (λ h. All (HasOwn h.entries) callers.items) }
+        ensures none { IfOk result (λ h. (t : Thread) → IsThread t → StillWaits desk t → made_by t h.entries ≡ []) }
+    {
+        let alloc = self.alloc;
+        let (left, right) = self.take_all(desk, callers);
+        join_lists(alloc, left.into_lists(), right.into_lists())
+    }
+
+    /// Ends a run of which no entry is read: its history is that of `finish`, for proofs alone, and what is left of it are the numbers of its last
+    /// state. It takes no memory.
+    pub fn end(self, desk: Desk<N>, callers: Vec<Caller<N>>) -> RunEnd
+        requires all { HasAll desk callers.items }
+        requires idle { All HasIdleDriver callers.items }
+        ensures linked { IsLinked result.history }
+        ensures finished { IsFinished result.history }
+        ensures own { All (HasOwn result.history.entries) callers.items }
+        ensures none { (t : Thread) → IsThread t → StillWaits desk t → made_by t result.history.entries ≡ [] }
+        ensures counted { HasEndNumbers result }
+    {
+        let (left, right) = self.take_all(desk, callers);
+        let cycles = left.cycles();
+        let managed = Made {
+            all: left.made(),
+            left: left.live(),
+        };
+        let peers = Made {
+            all: right.made(),
+            left: right.live(),
+        };
+        let handles = Made {
+            all: right.issued(),
+            left: right.tabled(),
+        };
+        RunEnd {
+            history: join_past(left.into_lists(), right.into_lists()),
+            cycles,
+            managed,
+            peers,
+            handles,
+        }
     }
 }

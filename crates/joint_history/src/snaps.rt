@@ -35,6 +35,7 @@ fn draw_snap(
         order,
         seat,
         role: Role::Managed,
+        first: None,
         last: 0,
     };
     side.snap(&mut drawing, index, &pins)

@@ -9,6 +9,7 @@ pub mod Merging
 mod Spelling
 mod Searching
 mod Walking
+mod Passing
 pub mod WalkLemmas
 pub mod HistoryLists
 pub mod Gathering

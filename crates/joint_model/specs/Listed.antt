@@ -1,5 +1,6 @@
 -- What contracts see of a list with room that is known.
-use Rattle.std.specs.Prelude.{ℕ, List, Bool, true, false, map}
+use Rattle.std.specs.Prelude.{ℕ, List, [], ◌∷◌, ◌++◌, Bool, true, false, map}
+use Rattle.std.specs.declared.snapshot.Snapshot.{Snapshot}
 use Rattle.joint_model.specs.declared.events.Entry.{Entry}
 use Rattle.joint_model.specs.Told.{Answer, said_alive, said_cleared}
 
@@ -7,6 +8,11 @@ use Rattle.joint_model.specs.Told.{Answer, said_alive, said_cleared}
 pub record Stock : Type 0 where
   pub entries : List Entry
   pub spare : ℕ
+
+-- entries that were let go, of which proofs alone have what was kept of them
+abbrev pub passed : List (Snapshot Stock) → List Entry
+passed [] = []
+passed (k ∷ ks) = k.value.entries ++ passed ks
 
 -- the answers of a cycle's candidates, and for how many more there is room
 pub record Answers : Type 0 where

@@ -116,34 +116,6 @@ pub(crate) fn put_follower(leaders: &mut Vec<Leader>, followers: &mut Vec<HNum>,
     leaders.push_reserved(Leader::new(entry, followers.len()));
 }
 
-// The entry at place `i`, from 0; None exactly where `i` isn't below the number of entries. It goes over the leaders from the last one.
-pub(crate) fn entry_at(leaders: &[Leader], followers: &[HNum], i: u32) -> Option<Entry>
-    requires followed { AreFollowed leaders.now followers.now }
-    requires limit { length leaders.now + length followers.now ≤ 4294967295 }
-    ensures { result ≡ slice_get (spelled leaders.now followers.now) i }
-{
-    let i = i as usize;
-    let mut leads = leaders.len();
-    let mut follow = followers.len();
-    if i >= leads + follow {
-        return None;
-    }
-    while leads > 0 {
-        let leader = &leaders[leads - 1];
-        let from = follow - leader.followers as usize;
-        let place = leads - 1 + from;
-        if i == place {
-            return Some(leader.entry);
-        }
-        if i > place {
-            return Some(leader.follower((i - place) as u64, followers[i - leads]));
-        }
-        leads -= 1;
-        follow = from;
-    }
-    None
-}
-
 // The entry with the number, of a list in the order of its numbers; None where none has it.
 pub(crate) fn entry_with(leaders: &[Leader], followers: &[HNum], number: u64) -> Option<Entry>
     requires followed { AreFollowed leaders.now followers.now }

@@ -16,10 +16,12 @@ mod draws;
 mod events;
 mod finished;
 mod joins;
+mod kept;
 mod leaders;
 mod lines;
 mod lists;
 mod names;
+mod past;
 mod sides;
 
 pub use draws::{Counter, Draw, counted_in_turn, drawn_in_turn};
@@ -27,9 +29,10 @@ pub use events::{Entry, Made, Op, Reply};
 pub use finished::{History, Walk};
 pub use leaders::Step;
 pub use lines::Act;
-pub use lists::{Alive, Entries, list_with_room};
+pub use lists::{Alive, Entries, Holding, list_with_room};
 pub use names::{
     CELLS, Cell, Cycle, GName, HNum, Kind, MNum, Marking, NAMES, PINS, PNum, Phase, PhaseWord,
     STATICS, Sort, Span, StaticNo, Thread, VARS, Var,
 };
+pub use past::PastHistory;
 pub use sides::{enter, enter_handle, replays_go_on};

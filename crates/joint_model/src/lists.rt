@@ -1,56 +1,47 @@
 // Lists with room that is known: the entries of one side or one reader, and the answers of a cycle's
 // candidates.
 
-ghost use Rattle.std.specs.Prelude.{◌≡◌, ◌≢◌, All, Contains, MatchOption, ◌+◌, ◌≤◌, ◌<◌, ◌-◌, ◌==◌, [], ◌∷◌, ◌++◌, length, slice_get, vec_len, vec_capacity, IfOk, OnErr, OnOk};
-ghost use Rattle.joint_model.specs.Merged.{Ascends};
+ghost use Rattle.std.specs.Prelude.{◌≡◌, ◌+◌, ◌≤◌, ◌==◌, [], ◌∷◌, ◌++◌, length, slice_get, IfOk, IfSome, OnErr};
 
 use crate::events::Entry;
-use crate::leaders::{Leader, Rest, entry_at, entry_with, put_follower};
-use crate::names::HNum;
+use crate::kept::{BLOCK, Kept, MOST};
 use std::alloc::{AllocError, Global};
 use std::marker::Model;
+use std::snapshot::Snapshot;
 
-// The most entries that an [`Entries`] holds.
-const MOST: usize = 4_294_967_295;
+// The same where entries are let go: so few that they stay near.
+const PASSING: usize = 512;
 
-// For how many entries room is made at least, where there is memory for them: 32 MiB, and 2 MiB for those that are kept by their handles. Room
-// that nothing is put into takes no memory, and so large a piece lies outside of the allocator's heap: where it grows, its pages are moved and
-// no entry is copied.
-const BLOCK: usize = 524_288;
+/// Which entries a list holds.
+#[derive(Clone, Copy, PartialEq, Eq, Debug)]
+pub enum Holding {
+    /// Every one, for a history that is read.
+    Every,
+    /// The last ones, where none is read again: the list lets the others go when it needs their room.
+    Last,
+}
 
 /// The entries of one side or one reader, in the order in which they were made. It holds at most
 /// 4,294,967,295; a growth past that is refused as a growth. An entry takes at most 64 bytes, or four: see
-/// [`Entries::push_handle`].
+/// [`Entries::push_handle`]. What a list lets go it has for proofs alone, in no bytes.
 #[derive(Drop)]
 pub struct Entries {
-    leaders: Vec<Leader>,
-    followers: Vec<HNum>,
-    spare: u32,
+    kept: Kept,
+    // What was let go, in no bytes, and how many entries that were.
+    past: Vec<Snapshot<Kept>>,
+    gone: u32,
+    holding: Holding,
 }
 
 impl Model for Entries {
-    ghost use Rattle.std.specs.Prelude.{◌+◌, ◌≤◌, vec_len, vec_capacity};
-    ghost use Rattle.joint_model.specs.Leaders.{spelled, AreFollowed, Starts};
-    ghost use Rattle.joint_model.specs.Listed.{Stock};
+    ghost use Rattle.std.specs.Prelude.{◌≡◌, ◌+◌, ◌≤◌, ◌++◌, length};
+    ghost use Rattle.joint_model.specs.Listed.{Stock, passed};
 
     ghost Value = { Stock };
 
-    ghost view = { λ s. record { entries = spelled s.leaders.items s.followers.items; spare = s.spare } };
+    ghost view = { λ s. record { entries = passed s.past.items ++ s.kept.entries; spare = s.kept.spare } };
 
-    ghost invariant = { λ s. AreFollowed s.leaders.items s.followers.items × Starts 0 s.leaders.items × (vec_len s.leaders + vec_len s.followers + s.spare ≤ 4294967295) × (vec_len s.leaders + s.spare ≤ vec_capacity s.leaders) × (vec_len s.followers + s.spare ≤ vec_capacity s.followers) };
-}
-
-// Makes room for at least `n` more items, and for a whole block of them where there is memory for it. Answers `AllocError` where there is
-// no memory for `n`.
-fn make_room<T>(list: &mut Vec<T>, n: usize) -> Result<(), AllocError>
-    ensures room { OnOk result (vec_len list.new + n ≤ vec_capacity list.new) }
-    ensures kept { vec_capacity list.old ≤ vec_capacity list.new }
-    ensures items { list.new.items ≡ list.old.items }
-{
-    if list.reserve(n.max(BLOCK)).is_ok() {
-        return Ok(());
-    }
-    list.reserve(n)
+    ghost invariant = { λ s. (s.gone ≡ length (passed s.past.items)) × (s.gone + length s.kept.entries + s.kept.spare ≤ 4294967295) };
 }
 
 /// An empty list, with room for `n` items where there is memory for it; else it grows as it needs. Room that nothing is put into takes no memory,
@@ -65,19 +56,31 @@ pub fn list_with_room<T>(alloc: Global, n: usize) -> Vec<T>
 
 impl Entries {
     /// The empty list, which keeps the allocator.
-    pub fn new(alloc: Global) -> Entries
+    pub fn new(alloc: Global, holding: Holding) -> Entries
         ensures entries { result.entries ≡ [] }
         ensures spare { result.spare ≤ 4294967295 }
     {
         Entries {
-            leaders: Vec::new(alloc),
-            followers: Vec::new(alloc),
-            spare: 0,
+            kept: Kept::new(alloc),
+            past: Vec::new(alloc),
+            gone: 0,
+            holding,
         }
     }
 
+    // Lets all entries go that are kept. It takes no memory, since what is kept of them for proofs takes no bytes.
+    fn let_go(&mut self) -> Result<(), AllocError>
+        ensures entries { self.new.entries ≡ self.old.entries }
+        ensures spare { self.new.spare ≡ self.old.spare }
+        ensures err { OnErr result (self.new ≡ self.old) }
+    {
+        self.past.push(Snapshot::of(&self.kept))?;
+        self.gone += self.kept.len();
+        self.kept.clear();
+        Ok(())
+    }
+
     // Makes room as `reserve` does, where there isn't enough yet.
-    #[tactic(auto, using(crate::proofs::Spelling::spelled_length))]
     #[inline(never)]
     fn grow(&mut self, n: u32) -> Result<(), AllocError>
         ensures room { IfOk result (λ _. n ≤ self.new.spare) }
@@ -86,23 +89,19 @@ impl Entries {
         ensures limit { length self.new.entries + self.new.spare ≤ 4294967295 }
         ensures err { OnErr result (self.new ≡ self.old) }
     {
-        let n = n as usize;
-        let most = MOST - (self.leaders.len() + self.followers.len());
-        if n > most {
-            return Err(AllocError);
-        }
-        make_room(&mut self.leaders, n)?;
-        make_room(&mut self.followers, n)?;
-        let room = self.leaders.capacity() - self.leaders.len();
-        let room_of_followers = self.followers.capacity() - self.followers.len();
-        self.spare = room.min(room_of_followers).min(most) as u32;
-        Ok(())
+        let block = match self.holding {
+            Holding::Every => BLOCK,
+            Holding::Last => {
+                self.let_go()?;
+                PASSING
+            }
+        };
+        self.kept.grow(n, MOST - self.gone, block)
     }
 
     /// Makes room: afterwards `spare` is at least `n`, and never less than it was. It is made for many entries at once, so most calls
     /// find it there. Answers `AllocError` where there is no memory for `n` entries, or where the list would hold more than
     /// 4,294,967,295 entries; the list is then as before.
-    #[tactic(auto, using(crate::proofs::Spelling::spelled_length))]
     pub fn reserve(&mut self, n: u32) -> Result<(), AllocError>
         ensures room { IfOk result (λ _. n ≤ self.new.spare) }
         ensures kept { self.old.spare ≤ self.new.spare }
@@ -110,7 +109,7 @@ impl Entries {
         ensures limit { length self.new.entries + self.new.spare ≤ 4294967295 }
         ensures err { OnErr result (self.new ≡ self.old) }
     {
-        if n <= self.spare {
+        if n <= self.kept.spare() {
             return Ok(());
         }
         self.grow(n)
@@ -123,9 +122,7 @@ impl Entries {
         ensures entries { self.new.entries ≡ self.old.entries ++ entry ∷ [] }
         ensures spare { self.new.spare + 1 ≡ self.old.spare }
     {
-        let leader = Leader::new(entry, self.followers.len());
-        self.leaders.push_reserved(leader);
-        self.spare -= 1;
+        self.kept.push(entry);
     }
 
     /// Puts an entry last as `push` does. Where it differs from the one before it by its number, one higher, and the handle that it weakens or
@@ -136,25 +133,22 @@ impl Entries {
         ensures entries { self.new.entries ≡ self.old.entries ++ entry ∷ [] }
         ensures spare { self.new.spare + 1 ≡ self.old.spare }
     {
-        put_follower(&mut self.leaders, &mut self.followers, entry);
-        self.spare -= 1;
+        self.kept.push_handle(entry);
     }
 
     /// For how many more entries there is room.
-    #[tactic(auto, using(crate::proofs::Spelling::spelled_length))]
     pub fn spare(&self) -> u32
         ensures spare { result ≡ self.now.spare }
         ensures limit { length self.now.entries + result ≤ 4294967295 }
     {
-        self.spare
+        self.kept.spare()
     }
 
     /// The number of entries.
-    #[tactic(auto, using(crate::proofs::Spelling::spelled_length))]
     pub fn len(&self) -> u32
         ensures { result ≡ length self.now.entries }
     {
-        (self.leaders.len() + self.followers.len()) as u32
+        self.gone + self.kept.len()
     }
 
     /// Whether there is no entry.
@@ -164,29 +158,11 @@ impl Entries {
         self.len() == 0
     }
 
-    /// The entry at place `i`, from 0; None exactly where `i` isn't below the length. It is looked for from the end on: one of the last is
-    /// found at once.
-    pub fn at(&self, i: u32) -> Option<Entry>
-        ensures { result ≡ slice_get self.now.entries i }
+    /// All entries; None where some were let go.
+    pub(crate) fn into_kept(self) -> Option<Kept>
+        ensures { IfSome result (λ kept. kept.entries ≡ self.entries) }
     {
-        entry_at(self.leaders.as_slice(), self.followers.as_slice(), i)
-    }
-
-    // The entry with the number, where the numbers rise; None where none has it.
-    pub(crate) fn with_number(&self, number: u64) -> Option<Entry>
-        requires { Ascends self.now.entries }
-        ensures { MatchOption result (All (λ e. e.number ≢ number) self.now.entries) (λ e. Contains self.now.entries e × (e.number ≡ number)) }
-    {
-        entry_with(self.leaders.as_slice(), self.followers.as_slice(), number)
-    }
-
-    // All leaders, with their followers.
-    #[tactic(auto, using(crate::proofs::Spelling::spelled_length))]
-    pub(crate) fn rest(&self) -> Rest<'_>
-        ensures all { result ≡ self.now.entries }
-        ensures limit { length result ≤ 4294967295 }
-    {
-        Rest::new(self.leaders.as_slice(), self.followers.as_slice())
+        if self.gone > 0 { None } else { Some(self.kept) }
     }
 }
 

@@ -17,7 +17,8 @@ ghost use Rattle.managed_side.specs.Steps.{CitesRightly, IsFresh, IsManagedStep,
 use crate::lines::{number, place};
 use crate::rows::ManagedRows;
 use joint_model::{
-    Act, Cycle, Draw, Entries, MNum, Made, Op, PNum, Phase, PhaseWord, Reply, Thread, Var, enter,
+    Act, Cycle, Draw, Entries, Holding, MNum, Made, Op, PNum, Phase, PhaseWord, Reply, Thread, Var,
+    enter,
 };
 use std::alloc::{AllocError, Global};
 use std::marker::Model;
@@ -64,8 +65,8 @@ pub enum TwinAnswer {
 
 impl ManagedSide {
     /// A side without objects and entries, for the first `threads` of the managed threads: it takes their events and the driver's, and no others.
-    /// It has places for the variables of all eight. Answers `AllocError` where there is no memory.
-    pub fn new(alloc: Global, threads: u8) -> Result<ManagedSide, AllocError>
+    /// It has places for the variables of all eight. Its list holds its entries as it is told. Answers `AllocError` where there is no memory.
+    pub fn new(alloc: Global, threads: u8, holding: Holding) -> Result<ManagedSide, AllocError>
         requires { threads ≤ 8 }
         ensures threads { IfOk result (λ s. s.threads ≡ threads) }
         ensures entries { IfOk result (λ s. s.entries ≡ []) }
@@ -74,7 +75,7 @@ impl ManagedSide {
         Ok(ManagedSide {
             threads,
             rows: ManagedRows::new(alloc),
-            entries: Entries::new(alloc),
+            entries: Entries::new(alloc, holding),
         })
     }
 
@@ -226,6 +227,13 @@ impl ManagedSide {
         ensures most { result ≤ 65535 }
     {
         self.rows.heap.made()
+    }
+
+    /// How many cycles were opened.
+    pub fn cycles(&self) -> u32
+        ensures { result ≡ self.now.state.managed.cycles }
+    {
+        self.rows.cycles
     }
 
     /// The open cycle; None exactly where none is open.

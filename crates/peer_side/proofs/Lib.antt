@@ -19,3 +19,4 @@ pub mod Grown
 pub mod Cycles
 pub mod Restoring
 pub mod Ending
+mod Tabled

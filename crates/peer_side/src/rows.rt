@@ -1,6 +1,6 @@
 // The peers with their sorts, slots and names, and the handles on them. Each call here is one event of the definition, without its entry.
 
-ghost use Rattle.std.specs.Prelude.{◌≡◌, ℕ, ◌+◌, ◌<◌, ◌≤◌, Some, None, IfOk, IsOk, OnErr, OnOk, length, ◌⊎◌, ◌↔◌, [], ◌∷◌, Contains, IsTrue};
+ghost use Rattle.std.specs.Prelude.{◌≡◌, ℕ, ◌+◌, ◌<◌, ◌≤◌, Some, None, IfOk, IsOk, OnErr, OnOk, length, count_by, is_some, ◌⊎◌, ◌↔◌, [], ◌∷◌, Contains, IsTrue};
 ghost use Rattle.std.specs.Option.{ForSome, option_map};
 ghost use Rattle.joint_model.specs.Heaps.{IsLive, answer, is_full, slot, numbered_at, numbered_set, copied, field_set, field_got, dropped, loaded, stored, place};
 ghost use Rattle.joint_model.specs.Histories.{peer_numbers};
@@ -70,9 +70,17 @@ impl PeerRows {
     /// How many handles the table has.
     pub(crate) fn tabled(&self) -> u32
         ensures tabled { result ≡ self.now.tabled }
+        ensures counted { result ≡ count_by is_some self.now.table }
         ensures most { result ≤ 65535 }
     {
         self.table.len()
+    }
+
+    /// How many handles were made.
+    pub(crate) fn issued(&self) -> u32
+        ensures { result ≡ length self.now.issued }
+    {
+        self.table.made()
     }
 
     /// How many peers were made.

@@ -1,6 +1,6 @@
 // The peer side: its peers and handles, with the entries of what was done.
 
-ghost use Rattle.std.specs.Prelude.{◌≡◌, ℕ, ◌+◌, ◌≤◌, ◌^◌, ◌⊎◌, None, IsSome, MatchBool, map, length, drop, true, IfErr, IfOk, IsOk, OnErr, OnOk};
+ghost use Rattle.std.specs.Prelude.{◌≡◌, ℕ, ◌+◌, ◌≤◌, ◌^◌, ◌⊎◌, None, IsSome, MatchBool, map, length, count_by, is_some, drop, true, IfErr, IfOk, IsOk, OnErr, OnOk};
 ghost use Rattle.std.specs.Option.{option_map};
 ghost use Rattle.joint_model.specs.declared.names.HNum.{HNum};
 ghost use Rattle.joint_model.specs.Draws.{AllBelow};
@@ -20,7 +20,9 @@ ghost use Rattle.peer_side.specs.Steps.{IsPeerStep, IsRelease, room_for};
 use crate::mirroring::{Mirroring, OpenMirror};
 use crate::rows::PeerRows;
 use global_handles::HandleTable;
-use joint_model::{Act, Draw, Entries, Made, Marking, Op, PNum, Reply, Span, Thread, enter};
+use joint_model::{
+    Act, Draw, Entries, Holding, Made, Marking, Op, PNum, Reply, Span, Thread, enter,
+};
 use std::alloc::{AllocError, Global};
 use std::marker::Model;
 use std::snapshot::Snapshot;
@@ -84,8 +86,8 @@ impl Model for PeerSide {
 
 impl PeerSide {
     /// A side on which nothing was made, for the first `threads` of the peer threads, at most 8: of peer threads it takes the events of these alone.
-    /// There are places for the variables of all eight, and no memory is taken.
-    pub fn new(alloc: Global, threads: u8) -> Result<PeerSide, AllocError>
+    /// There are places for the variables of all eight, and no memory is taken. Its list holds its entries as it is told.
+    pub fn new(alloc: Global, threads: u8, holding: Holding) -> Result<PeerSide, AllocError>
         requires { threads ≤ 8 }
         ensures { IfOk result (λ s. s ≡ opening_side threads) }
     {
@@ -95,7 +97,7 @@ impl PeerSide {
             marking: None,
             markings: 0,
             mirroring: Mirroring::new(alloc),
-            entries: Entries::new(alloc),
+            entries: Entries::new(alloc, holding),
         })
     }
 
@@ -473,6 +475,20 @@ impl PeerSide {
         ensures { result + length self.now.state.peers.heap.freed ≡ length self.now.state.peers.heap.fields }
     {
         self.rows.live()
+    }
+
+    /// How many handles were made: the number of the last one.
+    pub fn issued(&self) -> u32
+        ensures { result ≡ length self.now.state.peers.issued }
+    {
+        self.rows.issued()
+    }
+
+    /// How many handles are in the table.
+    pub fn tabled(&self) -> u32
+        ensures { result ≡ count_by is_some self.now.state.table }
+    {
+        self.rows.tabled()
     }
 
     /// The number of the open marking, and the thread that began it.

@@ -1,5 +1,5 @@
 -- What entries made and what is left of it, counted by their events and replies alone.
-use Rattle.std.specs.Prelude.{◌≡◌, ℕ, ◌+◌, ◌-◌, ◌≤◌, Bool, true, false, cond, List, [], ◌∷◌}
+use Rattle.std.specs.Prelude.{ℕ, ◌+◌, ◌-◌, Bool, true, false, cond, List, [], ◌∷◌}
 use Rattle.joint_model.specs.declared.lines.Act.TheVariants as act
 use Rattle.joint_model.specs.declared.events.Op.{Op}
 use Rattle.joint_model.specs.declared.events.Op.TheVariants as op
@@ -102,16 +102,6 @@ less o e r = record { managed = o.managed - freed_managed r; peers = o.peers - f
 abbrev pub tallied : Tally → Op → Reply → Tally
 tallied t e r = record { cycles = t.cycles + one (opens_cycle e); made = more t.made e r; left = less (more t.left e r) e r }
 
--- the event and its reply change no count
-pub record CountsNothing (e : Op) (r : Reply) : Type 0 where
-  pub cycle : opens_cycle e ≡ false
-  pub managed : makes_managed e r ≡ false
-  pub peer : makes_peer e r ≡ false
-  pub handle : makes_handle e r ≡ false
-  pub removed : removes_handle e r ≡ false
-  pub freed_managed : freed_managed r ≡ 0
-  pub freed_peers : freed_peers r ≡ 0
-
 -- the tally after further entries
 abbrev pub tally_from : Tally → List Entry → Tally
 tally_from t [] = t
@@ -127,14 +117,3 @@ nothing_yet = record { cycles = 0; made = no_objects; left = no_objects }
 -- the tally of a history's entries
 abbrev pub tally_of : List Entry → Tally
 tally_of entries = tally_from nothing_yet entries
-
--- each number is at most n
-pub record AreAtMost (n : ℕ) (o : Objects) : Type 0 where
-  pub managed : o.managed ≤ n
-  pub peers : o.peers ≤ n
-  pub handles : o.handles ≤ n
-
-pub record IsUpTo (n : ℕ) (t : Tally) : Type 0 where
-  pub cycles : t.cycles ≤ n
-  pub made : AreAtMost n t.made
-  pub left : AreAtMost n t.left

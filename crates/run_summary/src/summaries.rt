@@ -5,12 +5,10 @@ ghost use Rattle.byte_streams.specs.Drafts.{AddsText};
 ghost use Rattle.byte_streams.specs.Streams.{Writes};
 ghost use Rattle.command_words.specs.Commands.{mode_text};
 ghost use Rattle.run_summary.specs.Summary.{objects_text, command_text, counts_text, summary_text};
-ghost use Rattle.run_summary.specs.Tallies.{tally_of};
 
-use crate::tallies::{Objects, Tally, tally_of};
+use crate::tallies::{Objects, Tally};
 use byte_streams::{Failed, Line, Sink, write_text};
 use command_words::Mode;
-use joint_model::History;
 
 // The word of a mode.
 fn word_of(mode: Mode) -> &'static [u8]
@@ -67,7 +65,7 @@ fn add_counts(line: &mut Line, lines: u32, tally: &Tally)
 }
 
 /// Writes the summary of a run that was asked for by a seed, a size and a mode: the four lines of those words, of the number of the
-/// script's lines and of the cycles, of what the history's entries made, and of what is left of it. They go to the sink as one text, in
+/// script's lines and of the cycles, of what was made, and of what is left of it. They go to the sink as one text, in
 /// whatever portions it takes. It takes no memory. [`Failed`] comes only where the sink's count of faults rose; then a beginning of the
 /// text was written.
 pub fn write_summary<K: Sink>(
@@ -75,13 +73,13 @@ pub fn write_summary<K: Sink>(
     size: u32,
     mode: Mode,
     lines: u32,
-    h: &History,
+    tally: &Tally,
     out: &mut K,
 ) -> Result<(), Failed>
-    ensures { Writes (K.held out.old) (K.held out.new) (K.faults out.old) (K.faults out.new) result (summary_text seed size mode lines (tally_of h.now.entries)) }
+    ensures { Writes (K.held out.old) (K.held out.new) (K.faults out.old) (K.faults out.new) result (summary_text seed size mode lines tally.now) }
 {
     let mut line = Line::new();
     add_command(&mut line, seed, size, mode);
-    add_counts(&mut line, lines, &tally_of(h));
+    add_counts(&mut line, lines, tally);
     write_text(out, line.bytes())
 }

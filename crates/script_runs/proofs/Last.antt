@@ -1,12 +1,11 @@
 -- Once all threads have ended the driver hears of what each of the others has made, and its cycle stands behind all that; so what `finish` answers is the
 -- history of the script's run with one cycle more.
-use Rattle.std.proofs.Common.{◌≡◌, ◌⊎◌, ⊎_elim, ℕ, zero, suc, ◌+◌, ◌<◌, ◌≤◌, List, [], ◌∷◌, ◌++◌, length, Some, Result, Ok, Err, refl, sym, ◌∙◌, ap, subst, arith, length-append}
+use Rattle.std.proofs.Common.{◌≡◌, ⊎_elim, ℕ, zero, suc, ◌+◌, ◌<◌, ◌≤◌, List, [], ◌∷◌, ◌++◌, length, Some, Result, Ok, Err, refl, sym, ◌∙◌, ap, subst, arith, length-append}
 use Rattle.std.specs.Prelude.{All, Contains, IfOk, drop, slice_get, slice_index_or, slice_set, take}
 use Rattle.std.proofs.lemmas.List.{append-nil, length-set}
 use Rattle.std.proofs.lemmas.List.Elements.{All-contains, All-push, Contains-append_cases}
 use Rattle.std.proofs.lemmas.Option.{slice_get_within}
 use mathlib.Core.List.{IsPrefix}
-use Rattle.joint_model.specs.declared.names.Cycle.{Cycle}
 use Rattle.joint_model.specs.declared.names.Phase.TheVariants.{Idle}
 use Rattle.joint_model.specs.declared.names.Thread.{Thread}
 use Rattle.joint_model.specs.declared.names.Thread.TheVariants.{C}
@@ -21,6 +20,7 @@ use Rattle.order_table.specs.declared.views.View.{View}
 use Rattle.order_table.specs.declared.views.KeptEntry.{KeptEntry}
 use Rattle.order_table.specs.Facts.{line_entries}
 use Rattle.order_table.specs.Views.{known}
+use Rattle.joint_history.specs.declared.ends.RunEnd.{RunEnd}
 use Rattle.joint_history.specs.Callers.{Hears, Pass, Tells, own}
 use Rattle.joint_history.specs.Desks.{Waiting}
 use Rattle.joint_history.specs.Ending.{HasAll, HasOwn, IsFinished, HasIdleDriver, StillWaits, threads_of}
@@ -28,7 +28,7 @@ use Rattle.joint_history.specs.Knowing.{line_known}
 use Rattle.bridge_cycle.specs.Progress.{Progress, pass_of}
 use Rattle.script_laws.specs.Holding.{Standing, HoldsLines, opening_standing}
 use Rattle.run_laws.specs.Final.{IsRunInOrder}
-use Rattle.run_laws.specs.LastCycle.{cycle_line, AreWholeCycle, DrivesCycles, EndsWithCycle, HasHeardOf, IsRunThenCycle}
+use Rattle.run_laws.specs.LastCycle.{cycle_line, DrivesCycles, EndsWithCycle, HasHeardOf, IsRunThenCycle}
 use Rattle.run_laws.specs.Threads.{HoldsItsLines, NoneIsLeft, thread_lines}
 use Rattle.run_laws.proofs.InOrder.{prefix-map, prefix-then}
 use Rattle.run_laws.proofs.LastCycle.{cycle_lines_end_runs, cycles_end_runs}
@@ -205,11 +205,10 @@ module _ (script : List (Thread × Act)) (d : Waiting) (jobs callers rest : List
         (has_all_same d (p ∷ rest) (after ∷ others) (let a : p.thread ≡ after.thread = driver_ran.thread ∙ sym driver in let b = same-threads rest others same in λ i. a i ∷ b i)
         (subst (HasAll d) are (ran_all script d jobs callers ran all)))
 
-    pub runs_then_cycle : {E : Type 0} (r : Result Finished E) → CanRun script → NoneIsLeft script d → EndsWithCycle (length script + 1) p after others
-        → IfOk r (λ h. IsFinished h) → IfOk r (λ h. All (HasOwn h.entries) (others ++ after ∷ [])) → IfOk r (λ h. (t : Thread) → IsThread t → StillWaits d t → made_by t h.entries ≡ []) → IfOk r (IsRunThenCycle script)
-    runs_then_cycle (Ok h) can left ends finished owns none =
+    pub runs_then_cycle : (h : Finished) → CanRun script → NoneIsLeft script d → EndsWithCycle (length script + 1) p after others
+        → IsFinished h → All (HasOwn h.entries) (others ++ after ∷ []) → ((t : Thread) → IsThread t → StillWaits d t → made_by t h.entries ≡ []) → IsRunThenCycle script h
+    runs_then_cycle h can left ends finished owns none =
         cycles_end_runs script h d others p after finished (λ line c. (All-contains IsRunnable script line can.each c).lawful) has_all_then owns none left all_hold driver_ran.holds ends
-    runs_then_cycle (Err e) can left ends finished owns none = tt
 
 -- the first of a list, and the others
 pub first_and_rest : (xs rest : List Pass) (p : Pass) → 0 < length xs → p ≡ slice_index_or xs 0 p → rest ≡ take 0 xs ++ drop 1 xs → xs ≡ p ∷ rest
@@ -233,9 +232,9 @@ can_run_cycle script lines is can room = record {
 }
 
 -- and its run line after line is that of the script with one cycle more
-pub serial_then_cycle : {E : Type 0} (r : Result Finished E) (script lines : List (Thread × Act)) → lines ≡ script ++ cycle_line ∷ [] → DrivesCycles script → IfOk r (IsRunInOrder lines) → IfOk r (IsRunThenCycle script)
-serial_then_cycle (Ok h) script lines is cycles run = cycle_lines_end_runs script h cycles (subst (λ l. IsRunInOrder l h) is run)
-serial_then_cycle (Err e) script lines is cycles run = tt
+pub serial_then_cycle : {E : Type 0} (r : Result RunEnd E) (script lines : List (Thread × Act)) → lines ≡ script ++ cycle_line ∷ [] → DrivesCycles script → IfOk r (λ e. IsRunInOrder lines e.history) → IfOk r (λ e. IsRunThenCycle script e.history)
+serial_then_cycle (Ok e) script lines is cycles run = cycle_lines_end_runs script e.history cycles (subst (λ l. IsRunInOrder l e.history) is run)
+serial_then_cycle (Err x) script lines is cycles run = tt
 
-pub serial_in_order : {E : Type 0} (r : Result Finished E) (script lines : List (Thread × Act)) → lines ≡ script ++ cycle_line ∷ [] → IfOk r (IsRunInOrder lines) → IfOk r (IsRunInOrder (script ++ cycle_line ∷ []))
-serial_in_order r script lines is run = subst (λ l. IfOk r (IsRunInOrder l)) is run
+pub serial_in_order : {E : Type 0} (r : Result RunEnd E) (script lines : List (Thread × Act)) → lines ≡ script ++ cycle_line ∷ [] → IfOk r (λ e. IsRunInOrder lines e.history) → IfOk r (λ e. IsRunInOrder (script ++ cycle_line ∷ []) e.history)
+serial_in_order r script lines is run = subst (λ l. IfOk r (λ e. IsRunInOrder l e.history)) is run

@@ -83,10 +83,10 @@ run_ends script h last d f others p linked finished come k is owns =
     (subst (λ q. All (HasOwn h.entries) (others ++ q ∷ [])) is owns))
 
 -- so it is of what `finish` answers
-pub run_gives : {E : Type 0} (r : Result Finished E) (script : List (Thread × Act)) (last : ℕ) (d f : Progress) (others all : List Pass) (p : Pass) → all ≡ others ++ p ∷ [] → IfOk r (λ h. IsLinked h) → IfOk r (λ h. IsFinished h) → IfOk r (λ h. All (HasOwn h.entries) all)
-    → HasComeThrough script last d others → DrivesLeft d f last → p ≡ pass_of f → IfOk r (IsRunInOrder script)
-run_gives (Ok h) script last d f others all p same linked finished owns come k is = run_ends script h last d f others p linked finished come k is (subst (λ ps. All (HasOwn h.entries) ps) same owns)
-run_gives (Err e) script last d f others all p same linked finished owns come k is = tt
+pub run_gives : {E : Type 0} (r : Result Finished E) (script : List (Thread × Act)) (all : List Pass) → ((h : Finished) → IsLinked h → IsFinished h → All (HasOwn h.entries) all → IsRunInOrder script h) → IfOk r (λ h. IsLinked h) → IfOk r (λ h. IsFinished h) → IfOk r (λ h. All (HasOwn h.entries) all)
+    → IfOk r (IsRunInOrder script)
+run_gives (Ok h) script all ran linked finished owns = ran h linked finished owns
+run_gives (Err e) script all ran linked finished owns = tt
 
 -- at the desk the callers from a place on are there
 abbrev pub AreThereFrom : ℕ → Waiting → Type 0

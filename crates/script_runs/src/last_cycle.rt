@@ -3,20 +3,20 @@
 ghost use Rattle.std.specs.Prelude.{◌≡◌, ◌+◌, ◌<◌, ◌≤◌, [], ◌∷◌, ◌++◌, IfOk, All, length};
 ghost use Rattle.joint_model.specs.Lines.{IsDriver};
 ghost use Rattle.joint_history.specs.Callers.{KnowsNothing, last_index, own};
-ghost use Rattle.joint_history.specs.Ending.{HasIdleDriver};
+ghost use Rattle.joint_history.specs.Ending.{HasIdleDriver, HasEndNumbers};
 ghost use Rattle.order_table.specs.Views.{OwnsAll};
 ghost use Rattle.run_laws.specs.Final.{IsRunInOrder};
 ghost use Rattle.run_laws.specs.LastCycle.{DrivesCycles, EndsWithCycle, IsRunThenCycle, cycle_line};
 ghost use Rattle.script_runs.specs.Running.{AreSame, CanRun, HearsAll};
 
 use crate::lines::drive_line;
-use crate::serial::run_serial;
+use crate::serial::end_serial;
 use crate::threads::{all_ended, run_jobs};
 use crate::workers::workers;
 use bridge_cycle::Driver;
 use bridge_script::Turnstile;
-use joint_history::{Caller, Locks, Shared};
-use joint_model::{Act, History, PhaseWord, Thread};
+use joint_history::{Caller, Locks, RunEnd, Shared};
+use joint_model::{Act, Holding, PhaseWord, Thread};
 use order_table::{Order, OrderName, Seat};
 use std::alloc::{AllocError, Global};
 use std::marker::Brand;
@@ -71,15 +71,16 @@ fn run_named<N: OrderName + Send + Sync, R: Threads + Wait + Sync, T: Turnstile 
     seat: Seat,
     script: &[(Thread, Act)],
     turn: &T,
-) -> Result<History, AllocError>
+) -> Result<RunEnd, AllocError>
     requires order { order ≡ N.order }
     requires run { (N.managed ≡ 8) × (N.peers ≡ 8) }
     requires seat { (seat.order ≡ N.order) × OwnsAll seat.view × KnowsNothing seat.view }
     requires lines { CanRun script.now }
     requires room { length script.now < 65535 }
-    ensures { IfOk result (IsRunThenCycle script.now) }
+    ensures history { IfOk result (λ e. IsRunThenCycle script.now e.history) }
+    ensures counted { IfOk result HasEndNumbers }
 {
-    let (shared, mut desk) = Shared::<N, Locks>::new(alloc, order, seat, 8, 8)?;
+    let (shared, mut desk) = Shared::<N, Locks>::new(alloc, order, seat, 8, 8, Holding::Last)?;
     let jobs = workers(alloc, &mut desk, script)?;
     let ended = run_jobs(rt, alloc, &shared, script, turn, jobs)?;
     let mut callers = all_ended(alloc, ended)?;
@@ -87,39 +88,43 @@ fn run_named<N: OrderName + Send + Sync, R: Threads + Wait + Sync, T: Turnstile 
     let number = script.len() as u16 + 1;
     let driver = cycle_last(rt, alloc, &shared, number, driver, &mut callers)?;
     callers.push(driver)?;
-    shared.finish(desk, callers)
+    Ok(shared.end(desk, callers))
 }
 
 /// Runs the lines of each thread of a script in a thread of its own, as `run_threads` does; and once all of them have ended the driver hears of what
-/// each has made and runs a whole cycle, on a line of its own behind the script's. Answers the finished history, or `AllocError` where there is no memory.
+/// each has made and runs a whole cycle, on a line of its own behind the script's. No entry is kept: the finished history is there for proofs alone, and
+/// the numbers of its last state are answered, or `AllocError` where there is no memory.
 pub fn run_threads_then_cycle<R: Threads + Wait + Sync, T: Turnstile + Sync>(
     rt: &R,
     alloc: Global,
     script: &[(Thread, Act)],
     turn: &T,
-) -> Result<History, AllocError>
+) -> Result<RunEnd, AllocError>
     requires lines { CanRun script.now }
     requires room { length script.now < 65535 }
-    ensures history { IfOk result (IsRunThenCycle script.now) }
+    ensures history { IfOk result (λ e. IsRunThenCycle script.now e.history) }
+    ensures counted { IfOk result HasEndNumbers }
 {
     let (order, seat) = Order::new(alloc, 8)?;
     run_named::<Brand, R, T>(rt, alloc, order, seat, script, turn)
 }
 
 /// Runs the lines of a script one after another, as `run_serial` does, and then a whole cycle, on a line of its own, which is put behind them. All lines
-/// of the driver are whole cycles too. Answers the finished history, or `AllocError` where there is no memory.
+/// of the driver are whole cycles too. No entry is kept: the finished history is there for proofs alone, and the numbers of its last state are answered,
+/// or `AllocError` where there is no memory.
 pub fn run_serial_then_cycle(
     rt: &impl Wait,
     alloc: Global,
     script: Vec<(Thread, Act)>,
-) -> Result<History, AllocError>
+) -> Result<RunEnd, AllocError>
     requires lines { CanRun script.items }
     requires cycles { DrivesCycles script.items }
     requires room { length script.items < 65535 }
-    ensures in_order { IfOk result (IsRunInOrder (script.items ++ cycle_line ∷ [])) }
-    ensures history { IfOk result (IsRunThenCycle script.items) }
+    ensures in_order { IfOk result (λ e. IsRunInOrder (script.items ++ cycle_line ∷ []) e.history) }
+    ensures history { IfOk result (λ e. IsRunThenCycle script.items e.history) }
+    ensures counted { IfOk result HasEndNumbers }
 {
     let mut lines = script;
     lines.push((Thread::C, CYCLE))?;
-    run_serial(rt, alloc, &lines)
+    end_serial(rt, alloc, &lines)
 }

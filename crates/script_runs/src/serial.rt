@@ -1,9 +1,12 @@
 // The run of a script on one thread: its lines one after another.
 
-ghost use Rattle.std.specs.Prelude.{◌≡◌, ℕ, ◌+◌, ◌≤◌, ◌<◌, [], Some, IfOk, OnOk, OnErr, length, slice_get};
+ghost use Rattle.std.specs.Prelude.{◌≡◌, ℕ, ◌+◌, ◌≤◌, ◌<◌, [], Some, All, IfOk, OnOk, OnErr, length, slice_get};
+ghost use Rattle.joint_model.specs.Histories.{Finished};
+ghost use Rattle.joint_model.specs.Linked.{IsLinked};
 ghost use Rattle.order_table.specs.Views.{OwnsAll};
 ghost use Rattle.joint_history.specs.Callers.{KnowsNothing, Pass, last_index, own};
 ghost use Rattle.joint_history.specs.Desks.{AreAll};
+ghost use Rattle.joint_history.specs.Ending.{HasAll, HasIdleDriver, HasOwn, HasEndNumbers, IsFinished};
 ghost use Rattle.joint_history.specs.Operations.{IsOperationOf};
 ghost use Rattle.bridge_cycle.specs.Progress.{line_of};
 ghost use Rattle.run_laws.specs.Final.{IsRunInOrder};
@@ -13,8 +16,8 @@ ghost use Rattle.script_runs.specs.Running.{AreUpTo, CanRun, HasCome, HasComeThr
 use crate::lines::{drive_left, drive_line, run_line};
 use crate::places::{is_thread, place_among, thread_at};
 use bridge_cycle::Driver;
-use joint_history::{Alone, Caller, Desk, Shared};
-use joint_model::{Act, History, Thread};
+use joint_history::{Alone, Caller, Desk, RunEnd, Shared};
+use joint_model::{Act, History, Holding, Thread};
 use order_table::{Order, OrderName, Seat};
 use std::alloc::{AllocError, Global};
 use std::marker::Brand;
@@ -122,7 +125,36 @@ fn run_all<N: OrderName>(
     Ok(last)
 }
 
-// Runs a script by the callers of one order.
+// Runs a script by the callers of one order, and answers both sides and the callers, of which each is given back or still at the desk.
+fn run_lines<N: OrderName>(
+    rt: &impl Wait,
+    alloc: Global,
+    order: Order,
+    seat: Seat,
+    script: &[(Thread, Act)],
+    holding: Holding,
+) -> Result<(Shared<N, Alone>, Desk<N>, Vec<Caller<N>>), AllocError>
+    requires order { order ≡ N.order }
+    requires run { (N.managed ≡ 8) × (N.peers ≡ 8) }
+    requires seat { (seat.order ≡ N.order) × OwnsAll seat.view × KnowsNothing seat.view }
+    requires lines { CanRun script.now }
+    ensures all { IfOk result (λ r. HasAll r.1 r.2.items) }
+    ensures idle { IfOk result (λ r. All HasIdleDriver r.2.items) }
+    ensures ran { IfOk result (λ r. (h : Finished) → IsLinked h → IsFinished h → All (HasOwn h.entries) r.2.items → IsRunInOrder script.now h) }
+{
+    let (shared, mut desk) = Shared::<N, Alone>::new(alloc, order, seat, 8, 8, holding)?;
+    let Some(caller) = desk.caller(Thread::C) else {
+        unreachable!()
+    };
+    let mut driver = Driver::new(caller);
+    let mut others = all_others(alloc, &mut desk)?;
+    let last = run_all(rt, alloc, &shared, &mut driver, &mut others, script)?;
+    drive_left(rt, alloc, &shared, &mut driver, last)?;
+    others.push(driver.retire())?;
+    Ok((shared, desk, others))
+}
+
+// Runs a script by the callers of one order, for its history.
 fn run_named<N: OrderName>(
     rt: &impl Wait,
     alloc: Global,
@@ -136,16 +168,27 @@ fn run_named<N: OrderName>(
     requires lines { CanRun script.now }
     ensures { IfOk result (IsRunInOrder script.now) }
 {
-    let (shared, mut desk) = Shared::<N, Alone>::new(alloc, order, seat, 8, 8)?;
-    let Some(caller) = desk.caller(Thread::C) else {
-        unreachable!()
-    };
-    let mut driver = Driver::new(caller);
-    let mut others = all_others(alloc, &mut desk)?;
-    let last = run_all(rt, alloc, &shared, &mut driver, &mut others, script)?;
-    drive_left(rt, alloc, &shared, &mut driver, last)?;
-    others.push(driver.retire())?;
-    shared.finish(desk, others)
+    let (shared, desk, callers) = run_lines::<N>(rt, alloc, order, seat, script, Holding::Every)?;
+    shared.finish(desk, callers)
+}
+
+// The same for its numbers.
+fn end_named<N: OrderName>(
+    rt: &impl Wait,
+    alloc: Global,
+    order: Order,
+    seat: Seat,
+    script: &[(Thread, Act)],
+) -> Result<RunEnd, AllocError>
+    requires order { order ≡ N.order }
+    requires run { (N.managed ≡ 8) × (N.peers ≡ 8) }
+    requires seat { (seat.order ≡ N.order) × OwnsAll seat.view × KnowsNothing seat.view }
+    requires lines { CanRun script.now }
+    ensures history { IfOk result (λ e. IsRunInOrder script.now e.history) }
+    ensures counted { IfOk result HasEndNumbers }
+{
+    let (shared, desk, callers) = run_lines::<N>(rt, alloc, order, seat, script, Holding::Last)?;
+    Ok(shared.end(desk, callers))
 }
 
 /// Runs the lines of a script one after another, each by its thread's caller, and then the phases that the driver's lines have left; and answers
@@ -160,4 +203,18 @@ pub fn run_serial(
 {
     let (order, seat) = Order::new(alloc, 8)?;
     run_named::<Brand>(rt, alloc, order, seat, script)
+}
+
+/// The same of a run of which no entry is read: its history is there for proofs alone, and the numbers of its last state are answered.
+pub(crate) fn end_serial(
+    rt: &impl Wait,
+    alloc: Global,
+    script: &[(Thread, Act)],
+) -> Result<RunEnd, AllocError>
+    requires lines { CanRun script.now }
+    ensures history { IfOk result (λ e. IsRunInOrder script.now e.history) }
+    ensures counted { IfOk result HasEndNumbers }
+{
+    let (order, seat) = Order::new(alloc, 8)?;
+    end_named::<Brand>(rt, alloc, order, seat, script)
 }

@@ -10,7 +10,7 @@ ghost use Rattle.script_runs.specs.Running.{CanRun, EndsSo};
 use crate::workers::{run_thread, workers};
 use bridge_script::Turnstile;
 use joint_history::{Caller, Locks, Shared};
-use joint_model::{Act, History, Thread};
+use joint_model::{Act, History, Holding, Thread};
 use order_table::{Order, OrderName, Seat};
 use std::alloc::{AllocError, Global};
 use std::marker::Brand;
@@ -71,7 +71,7 @@ fn run_named<N: OrderName + Send + Sync, R: Threads + Wait + Sync, T: Turnstile 
     requires lines { CanRun script.now }
     ensures { IfOk result (IsRunByThreads script.now) }
 {
-    let (shared, mut desk) = Shared::<N, Locks>::new(alloc, order, seat, 8, 8)?;
+    let (shared, mut desk) = Shared::<N, Locks>::new(alloc, order, seat, 8, 8, Holding::Every)?;
     let jobs = workers(alloc, &mut desk, script)?;
     let ended = run_jobs(rt, alloc, &shared, script, turn, jobs)?;
     let callers = all_ended(alloc, ended)?;

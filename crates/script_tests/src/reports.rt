@@ -8,8 +8,8 @@ use crate::comparing::{expect_at, expect_text};
 use byte_streams::{ByteSink, CountSink};
 use history_report::write_report;
 use joint_model::{
-    Act, Cell, Cycle, Entries, Entry, GName, HNum, History, Kind, MNum, Made, Marking, Op, PNum,
-    Phase, PhaseWord, Reply, Sort, Span, StaticNo, Thread, Var,
+    Act, Cell, Cycle, Entries, Entry, GName, HNum, History, Holding, Kind, MNum, Made, Marking, Op,
+    PNum, Phase, PhaseWord, Reply, Sort, Span, StaticNo, Thread, Var,
 };
 use std::alloc::Global;
 use std::test::Fail;
@@ -69,7 +69,7 @@ fn told(alloc: Global, event: Event, notices: Vec<MNum>) -> Result<History, Fail
         reply,
         cites,
     };
-    let mut entries = Entries::new(alloc);
+    let mut entries = Entries::new(alloc, Holding::Every);
     entries.reserve(1)?;
     entries.push(Entry { number: 0, made });
     let mut lists = Vec::new(alloc);

@@ -11,7 +11,9 @@ use crate::managed;
 use crate::managed::Call::{Adopt, Give, Lend, Meet, New};
 use crate::mirrors::{is_still, is_tabled, make, makes};
 use joint_model::Reply::{self, Gone, H, M, P, Plain, Swept};
-use joint_model::{Act, Counter, HNum, MNum, Marking, Op, PNum, Sort, Span, StaticNo, Thread, Var};
+use joint_model::{
+    Act, Counter, HNum, Holding, MNum, Marking, Op, PNum, Sort, Span, StaticNo, Thread, Var,
+};
 use peer_side::PeerSide;
 use std::alloc::{AllocError, Global};
 use std::marker::Model;
@@ -138,7 +140,7 @@ fn begin(side: &mut PeerSide, draw: &mut Counter, gripped: bool) -> Result<(), A
 // otherwise than it says; None where all are answered so.
 fn play(alloc: Global, gripped: bool, rows: &[Row]) -> Result<Option<usize>, AllocError> {
     let managed = managed::start(alloc)?;
-    let mut side = PeerSide::new(alloc, 8)?;
+    let mut side = PeerSide::new(alloc, 8, Holding::Every)?;
     let mut draw = Counter::new();
     begin(&mut side, &mut draw, gripped)?;
     let mut driven = Driven {

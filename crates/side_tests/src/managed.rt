@@ -8,8 +8,8 @@ use joint_model::Reply::{
     self, CycleOpen, Empty, Gone, New, Null, Pending, Pinned, Refs, Sccs, Snapped, Twin, Unset,
 };
 use joint_model::{
-    Act, Alive, Cell, Counter, HNum, Kind, MNum, Op, PNum, Phase, PhaseWord, Sort, StaticNo,
-    Thread, Var,
+    Act, Alive, Cell, Counter, HNum, Holding, Kind, MNum, Op, PNum, Phase, PhaseWord, Sort,
+    StaticNo, Thread, Var,
 };
 use managed_side::{ManagedSide, SnapFault, TwinAnswer};
 use std::alloc::{AllocError, Global};
@@ -345,7 +345,7 @@ impl Driven {
 /// A new side.
 pub(crate) fn start(alloc: Global) -> Result<Driven, AllocError> {
     Ok(Driven {
-        side: ManagedSide::new(alloc, 8)?,
+        side: ManagedSide::new(alloc, 8, Holding::Every)?,
         draw: Counter::new(),
         waiting: 0,
         nodes: 0,

@@ -13,7 +13,7 @@ use bridge_graph::{DeadGraph, GraphBuilder};
 use global_handles::{Back, Strength};
 use handle_weaken::{restore_all, restore_one, weaken_all, weaken_one};
 use joint_model::Reply::{self, Cleared, Mark, MarkOpen, NoMark, P, Refs, Swept};
-use joint_model::{Act, Alive, Counter, Cycle, HNum, MNum, Op, Sort, StaticNo, Thread};
+use joint_model::{Act, Alive, Counter, Cycle, HNum, Holding, MNum, Op, Sort, StaticNo, Thread};
 use peer_mirror::{clear, install};
 use peer_side::{BeginFault, PeerSide};
 use std::alloc::{AllocError, Global};
@@ -328,7 +328,7 @@ fn one_component(alloc: Global) -> Result<Components, AllocError>
 
 // A side with both peers.
 fn start(alloc: Global) -> Result<Driven, AllocError> {
-    let mut side = PeerSide::new(alloc, 8)?;
+    let mut side = PeerSide::new(alloc, 8, Holding::Every)?;
     let mut draw = Counter::new();
     make(&mut side, &mut draw)?;
     make(&mut side, &mut draw)?;

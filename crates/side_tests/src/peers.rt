@@ -8,7 +8,7 @@ ghost use Rattle.peer_side.specs.Steps.{IsStepLine};
 
 use crate::callers::{is_managed, is_var_or_none};
 use joint_model::Reply::{self, Gone, Mark, MarkOpen, NoMark, P, Swept, Unset};
-use joint_model::{Act, Counter, GName, HNum, Op, Sort, Span, StaticNo, Thread, Var};
+use joint_model::{Act, Counter, GName, HNum, Holding, Op, Sort, Span, StaticNo, Thread, Var};
 use peer_side::{BeginFault, PeerLists, PeerSide};
 use std::alloc::{AllocError, Global};
 use std::marker::Model;
@@ -240,7 +240,7 @@ pub(crate) struct Played {
 /// Makes the calls of a table on a new side.
 pub(crate) fn play(alloc: Global, rows: &[Row]) -> Result<Played, AllocError> {
     let mut driven = Driven {
-        side: PeerSide::new(alloc, 8)?,
+        side: PeerSide::new(alloc, 8, Holding::Every)?,
         draw: Counter::new(),
     };
     let miss = driven.first_miss(rows)?;

@@ -1,6 +1,8 @@
 // The lists of entries and the history by their first calls.
 
-use joint_model::{Alive, Counter, Draw, Entries, Entry, HNum, History, Made, Op, Reply, Thread};
+use joint_model::{
+    Alive, Counter, Draw, Entries, Entry, HNum, History, Holding, Made, Op, Reply, Thread,
+};
 use std::test::Fail;
 
 const BEGUN: Made = Made {
@@ -13,11 +15,10 @@ const BEGUN: Made = Made {
 
 #[test]
 fn new_entries_have_room_after_a_reserve(rt: HostRuntime) -> Result<(), Fail> {
-    let mut entries = Entries::new(rt.alloc());
+    let mut entries = Entries::new(rt.alloc(), Holding::Every);
     entries.reserve(1)?;
     assert_eq!(rt; entries.len(), 0);
     assert!(rt; entries.is_empty());
-    assert!(rt; entries.at(0).is_none());
     assert!(rt; entries.spare() >= 1);
     Ok(())
 }
@@ -25,7 +26,7 @@ fn new_entries_have_room_after_a_reserve(rt: HostRuntime) -> Result<(), Fail> {
 #[test]
 fn drawn_entries_are_kept(rt: HostRuntime) -> Result<(), Fail> {
     let mut counter = Counter::new();
-    let mut entries = Entries::new(rt.alloc());
+    let mut entries = Entries::new(rt.alloc(), Holding::Every);
     entries.reserve(2)?;
     let number = counter.draw(&BEGUN, None, &[]);
     entries.push(Entry {
@@ -38,14 +39,7 @@ fn drawn_entries_are_kept(rt: HostRuntime) -> Result<(), Fail> {
         made: BEGUN,
     });
     assert_eq!(rt; entries.len(), 2);
-    assert_eq!(rt;
-        entries.at(1),
-        Some(Entry {
-            number: 1,
-            made: BEGUN
-        })
-    );
-    assert!(rt; entries.at(2).is_none());
+    assert!(rt; !entries.is_empty());
     Ok(())
 }
 
@@ -64,17 +58,19 @@ fn weakened(number: u64, h: u32) -> Entry {
 }
 
 #[test]
-fn entries_that_differ_by_their_handles_are_as_they_were_put(rt: HostRuntime) -> Result<(), Fail> {
-    let mut entries = Entries::new(rt.alloc());
-    for (number, h) in [(1, 4), (2, 9), (3, 5), (7, 6)] {
+fn a_list_that_holds_the_last_entries_counts_all(rt: HostRuntime) -> Result<(), Fail> {
+    let mut entries = Entries::new(rt.alloc(), Holding::Last);
+    for number in 0..700_u32 {
         entries.reserve(1)?;
-        entries.push_handle(weakened(number, h));
+        if number % 3 == 0 {
+            entries.push(weakened(number as u64, number));
+        } else {
+            entries.push_handle(weakened(number as u64, number));
+        }
     }
-    assert_eq!(rt; entries.len(), 4);
-    assert_eq!(rt; entries.at(0), Some(weakened(1, 4)));
-    assert_eq!(rt; entries.at(2), Some(weakened(3, 5)));
-    assert_eq!(rt; entries.at(3), Some(weakened(7, 6)));
-    assert_eq!(rt; entries.at(4), None);
+    assert_eq!(rt; entries.len(), 700);
+    entries.reserve(5_000)?;
+    assert!(rt; entries.spare() >= 5_000);
     Ok(())
 }
 

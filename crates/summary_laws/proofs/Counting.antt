@@ -9,7 +9,8 @@ use Rattle.joint_model.specs.Told.{Told, Noted}
 use Rattle.joint_laws.proofs.LinkedEntries.{Of, AreKept-entry, AreKept-opening}
 use Rattle.run_summary.specs.declared.tallies.Tally.{Tally}
 use Rattle.run_summary.specs.Tallies.{one, freed_managed, freed_peers, tallied, tally_from, tally_of}
-use Rattle.summary_laws.specs.States.{tally_in, TalliesAreOfStates, TalliesOfLinked}
+use Rattle.summary_laws.specs.States.{tally_in, AddsUp, HeapsAddUp, TalliesAreOfStates, TalliesOfLinked}
+use Rattle.summary_laws.proofs.HeapCounts.{adds-up}
 use Rattle.summary_laws.proofs.ManagedCounts.{ManagedCounts, answer-counts}
 use Rattle.summary_laws.proofs.Names.{AreNamesKept, names-opening}
 use Rattle.summary_laws.proofs.PeerCounts.{PeerCounts, peer-counts}
@@ -39,6 +40,8 @@ sides m p = tally_in (record { managed = m; peer = p; control = opening_linkage.
 record Steps (s : Linkage) (m : Made) (told : Told) (b : Bool) : Type 0 where
   tally : tallied (tally_in s) m.op m.reply ≡ sides (managed_after s.managed m told b) (peer_after s.peer m told b)
   names : Named (peer_after s.peer m told b)
+  managed : AddsUp s.managed.managed.heap → AddsUp (managed_after s.managed m told b).managed.heap
+  peers : AddsUp s.peer.peers.heap → AddsUp (peer_after s.peer m told b).peers.heap
 
 module _ (s : Linkage) (m : Made) (told : Told) (k : Of s) (named : Named s.peer) (event : IsEvent m.caller m.op) where
   own-managed : is_peer_event m.caller m.op ≡ false → SideLawful false s m told → freed_peers m.reply ≡ 0 → Steps s m told false
@@ -60,6 +63,8 @@ module _ (s : Linkage) (m : Made) (told : Told) (k : Of s) (named : Named s.peer
           handles_left = omega (arith, f, g);
         });
         names = named;
+        managed = λ u. adds-up _ _ _ _ c.heap u;
+        peers = λ u. u;
       }
 
   own-peer : is_peer_event m.caller m.op ≡ true → SideLawful true s m told → freed_managed m.reply ≡ 0 → Steps s m told true
@@ -80,6 +85,8 @@ module _ (s : Linkage) (m : Made) (told : Told) (k : Of s) (named : Named s.peer
           handles_left = omega (arith, c.tabled);
         });
         names = c.names;
+        managed = λ u. u;
+        peers = λ u. adds-up _ _ _ _ c.heap u;
       }
 
   by : (b : Bool) → is_peer_event m.caller m.op ≡ b → SideLawful b s m told → (b ≡ false → freed_peers m.reply ≡ 0) → (b ≡ true → freed_managed m.reply ≡ 0) → Steps s m told b
@@ -97,6 +104,15 @@ counted [] s a k named = refl
 counted (n ∷ ns) s a k named =
     let t = step s n a.0 k named in
     ap (λ u. tally_from u (map (λ n. n.entry) ns)) t.tally ∙ counted ns (linkage_after s n) a.1 (AreKept-entry s n a.0 k) t.names
+
+add_up : (ns : List Noted) (s : Linkage) → AllMayCome s ns → Of s → Named s.peer → AddsUp s.managed.managed.heap → AddsUp s.peer.peers.heap → AddsUp (replayed s ns).managed.managed.heap × AddsUp (replayed s ns).peer.peers.heap
+add_up [] s a k named m p = (m, p)
+add_up (n ∷ ns) s a k named m p =
+    let t = step s n a.0 k named in
+    add_up ns (linkage_after s n) a.1 (AreKept-entry s n a.0 k) t.names (t.managed m) (t.peers p)
+
+pub heaps_add_up : HeapsAddUp
+heaps_add_up noted may = add_up noted opening_linkage may AreKept-opening names-opening refl refl
 
 pub tallies_are_of_states : TalliesAreOfStates
 tallies_are_of_states noted may = counted noted opening_linkage may AreKept-opening names-opening

@@ -23,6 +23,10 @@ others_up_to xs (suc i) = others_up_to xs i + one (not (stands_in xs (suc i)))
 abbrev pub unfreed : Heap → ℕ
 unfreed h = others_up_to h.freed (length h.fields)
 
+-- what is left and what was freed are what was made
+abbrev pub AddsUp : Heap → Type 0
+AddsUp h = unfreed h + length h.freed ≡ length h.fields
+
 -- what was made up to a state: the objects of both heaps, and the handles
 abbrev pub made_in : Linkage → Objects
 made_in s = record { managed = length s.managed.managed.heap.fields; peers = length s.peer.peers.heap.fields; handles = length s.peer.peers.issued }
@@ -42,6 +46,10 @@ TalliesAreOfStates = (noted : List Noted) → AllMayCome opening_linkage noted �
 -- so the tally of a linked history's entries is that of its last state
 abbrev pub TalliesOfLinked : Type 0
 TalliesOfLinked = (h : Finished) (noted : List Noted) → IsLinkedBy h noted → tally_of h.entries ≡ tally_in (replayed opening_linkage noted)
+
+-- after a lawful list both heaps add up
+abbrev pub HeapsAddUp : Type 0
+HeapsAddUp = (noted : List Noted) → AllMayCome opening_linkage noted → AddsUp (replayed opening_linkage noted).managed.managed.heap × AddsUp (replayed opening_linkage noted).peer.peers.heap
 
 -- and so is that of a history with lock-free reads
 abbrev pub TalliesOfReading : Type 0

@@ -1,5 +1,5 @@
-use Rattle.std.proofs.Common.{◌≡◌, ◌≤◌, ◌+◌, length, Some, refl, sym, ap, subst, ◌∙◌}
-use Rattle.std.specs.Prelude.{slice_get}
+use Rattle.std.proofs.Common.{◌≤◌, ◌+◌, length, refl, sym, subst, ◌∙◌}
+use Rattle.std.proofs.lemmas.Option.{none-some, same_Some}
 use Rattle.joint_model.specs.declared.events.Op.TheVariants as op
 use Rattle.joint_model.specs.Sides.{peer_rules}
 use Rattle.order_table.specs.Views.{role_line}
@@ -31,14 +31,13 @@ collect-requires-clause-may_sweep c = record {
 
 pub unreachable-requires : goal.unreachable-requires
 unreachable-requires c =
-    let w = collect_drew _ (λ a b e m freed x. x) c.args.drawing.now.order.now c.args.drawing.now c.collect.new.draw (seen c.args.side.now) (seen c.collect.new.self) c.args.caller c.args.index c.in_ok-reply.reply (gone_since c.args.side.now.state c.collect.new.self.state) refl c.requires.role c.in_ok-reply.ensures.adds in
-    w.there (ap (λ es. slice_get es (length c.args.side.now.entries)) (sym c.entries-2.ensures) ∙ (ap (slice_get c.entries-2.result.now.entries) (sym (c.len-count.ensures ∙ ap length c.entries.ensures)) ∙ (sym c.at.ensures ∙ c.in-None.is)))
+    let w = collect_drew _ (λ a b e m freed x. x) c.args.drawing.now.order.now c.args.drawing.now c.collect.new.draw (seen c.args.side.now) (seen c.collect.new.self) c.args.caller c.args.index c.in_ok-reply.reply (gone_since c.args.side.now.state c.collect.new.self.state) refl c.requires.role c.requires.first c.in_ok-reply.ensures.adds in
+    none-some w.first (sym (sym w.begins ∙ c.in_default.is))
 
 pub returns-clause-drew : goal.returns-clause-drew
 returns-clause-drew c =
-    let w = collect_drew _ (λ a b e m freed x. x) c.args.drawing.now.order.now c.args.drawing.now c.collect.new.draw (seen c.args.side.now) (seen c.collect.new.self) c.args.caller c.args.index c.in_ok-reply.reply (gone_since c.args.side.now.state c.collect.new.self.state) refl c.requires.role c.in_ok-reply.ensures.adds in
-    let at : slice_get c.collect.new.self.entries (length c.args.side.now.entries) ≡ Some c.in-Some.entry = ap (λ es. slice_get es (length c.args.side.now.entries)) (sym c.entries-2.ensures) ∙ (ap (slice_get c.entries-2.result.now.entries) (sym (c.len-count.ensures ∙ ap length c.entries.ensures)) ∙ (sym c.at.ensures ∙ c.in-Some.is)) in
-    subst (λ n. DrawsCollect c.args.drawing.now.order.now c.args.drawing.now.seat.now c.collect.new.draw.seat.now (seen c.args.side.now) (seen c.collect.new.self) c.args.caller c.args.index (record { first = n; last = c.collect.new.draw.last; reply = c.in_ok-reply.reply })) (sym (w.stands c.in-Some.entry at)) w.drew
+    let w = collect_drew _ (λ a b e m freed x. x) c.args.drawing.now.order.now c.args.drawing.now c.collect.new.draw (seen c.args.side.now) (seen c.collect.new.self) c.args.caller c.args.index c.in_ok-reply.reply (gone_since c.args.side.now.state c.collect.new.self.state) refl c.requires.role c.requires.first c.in_ok-reply.ensures.adds in
+    subst (λ n. DrawsCollect c.args.drawing.now.order.now c.args.drawing.now.seat.now c.collect.new.draw.seat.now (seen c.args.side.now) (seen c.collect.new.self) c.args.caller c.args.index (record { first = n; last = c.collect.new.draw.last; reply = c.in_ok-reply.reply })) (same_Some w.first c.in-Some.first (sym w.begins ∙ c.in-Some.is)) w.drew
 
 pub returns-clause-threads : goal.returns-clause-threads
 returns-clause-threads c = threads_in_turn peer_rules _ _ _ (seen c.args.side.now) (seen c.collect.new.self) _ c.in_ok-reply.ensures.adds

@@ -1,6 +1,4 @@
-use Rattle.std.proofs.Common.{◌≡◌, ◌+◌, ◌≤◌, ◌<◌, [], ◌∷◌, ◌++◌, length, sym, subst, ap, arith, All, IfOk}
-use Rattle.joint_model.specs.declared.names.Thread.{Thread}
-use Rattle.joint_model.specs.declared.lines.Act.{Act}
+use Rattle.std.proofs.Common.{◌≡◌, ◌≤◌, length, sym, subst, arith, All}
 use Rattle.joint_history.specs.Callers.{last_index, own}
 use Rattle.joint_history.specs.Ending.{HasAll, HasOwn, HasIdleDriver}
 use Rattle.script_runs.proofs.Last.{all_idle_then, driver_ran, first_and_rest, has_all_then, is_driver, runs_then_cycle, some_ran}
@@ -41,8 +39,8 @@ cycle_last-requires-clause-number g c =
     in
     omega (arith, up)
 
-pub finish-requires-clause-all : goal.finish-requires-clause-all
-finish-requires-clause-all g c =
+pub end-requires-clause-all : goal.end-requires-clause-all
+end-requires-clause-all g c =
     let n : length c.in_ok-ended.ended.items ≡ length c.in_ok-jobs.jobs.items = omega (arith, c.in_ok-ended.ensures.len) in
     let ran = all_ran c.args.script.now c.in_ok-jobs.jobs.items c.in_ok-callers.callers.items c.in_ok-ended.ended.items c.in_ok-callers.ensures n (λ i d e l. c.in_ok-ended.ensures.each i d e (omega (arith, l))) in
     let some = some_ran c.args.script.now c.in_ok-jobs.jobs.items c.in_ok-callers.callers.items ran c.in_ok-jobs.ensures.driver in
@@ -51,8 +49,8 @@ finish-requires-clause-all g c =
     (has_all_then c.args.script.now c.workers.new.desk c.in_ok-jobs.jobs.items c.in_ok-callers.callers.items c.remove-driver.new.self.items c.remove-driver.result ran c.in_ok-jobs.ensures.driver c.in_ok-jobs.ensures.all are
     c.cycle_last.new.others.items c.in_ok-driver.driver c.in_ok-driver.ensures.same c.in_ok-driver.ensures.ends.same)
 
-pub finish-requires-clause-idle : goal.finish-requires-clause-idle
-finish-requires-clause-idle g c =
+pub end-requires-clause-idle : goal.end-requires-clause-idle
+end-requires-clause-idle g c =
     let n : length c.in_ok-ended.ended.items ≡ length c.in_ok-jobs.jobs.items = omega (arith, c.in_ok-ended.ensures.len) in
     let ran = all_ran c.args.script.now c.in_ok-jobs.jobs.items c.in_ok-callers.callers.items c.in_ok-ended.ended.items c.in_ok-callers.ensures n (λ i d e l. c.in_ok-ended.ensures.each i d e (omega (arith, l))) in
     let some = some_ran c.args.script.now c.in_ok-jobs.jobs.items c.in_ok-callers.callers.items ran c.in_ok-jobs.ensures.driver in
@@ -61,12 +59,12 @@ finish-requires-clause-idle g c =
     (all_idle_then c.args.script.now c.workers.new.desk c.in_ok-jobs.jobs.items c.in_ok-callers.callers.items c.remove-driver.new.self.items c.remove-driver.result ran c.in_ok-jobs.ensures.driver c.in_ok-jobs.ensures.all are
     c.cycle_last.new.others.items c.in_ok-driver.driver c.in_ok-driver.ensures.same c.in_ok-driver.ensures.ends.same c.in_ok-driver.ensures.idle)
 
-pub returns : goal.returns
-returns g c =
+pub returns-clause-history : goal.returns-clause-history
+returns-clause-history g c =
     let n : length c.in_ok-ended.ended.items ≡ length c.in_ok-jobs.jobs.items = omega (arith, c.in_ok-ended.ensures.len) in
     let ran = all_ran c.args.script.now c.in_ok-jobs.jobs.items c.in_ok-callers.callers.items c.in_ok-ended.ended.items c.in_ok-callers.ensures n (λ i d e l. c.in_ok-ended.ensures.each i d e (omega (arith, l))) in
     let some = some_ran c.args.script.now c.in_ok-jobs.jobs.items c.in_ok-callers.callers.items ran c.in_ok-jobs.ensures.driver in
     let are = first_and_rest c.in_ok-callers.callers.items c.remove-driver.new.self.items c.remove-driver.result some c.remove-driver.ensures.value c.remove-driver.ensures.by_index.2 in
     runs_then_cycle c.args.script.now c.workers.new.desk c.in_ok-jobs.jobs.items c.in_ok-callers.callers.items c.remove-driver.new.self.items c.remove-driver.result ran c.in_ok-jobs.ensures.driver c.in_ok-jobs.ensures.all are
-    c.cycle_last.new.others.items c.in_ok-driver.driver c.in_ok-driver.ensures.same c.in_ok-driver.ensures.ends.same c.finish.result c.requires.lines c.in_ok-jobs.ensures.none c.in_ok-driver.ensures.ends c.finish.ensures.finished
-    (subst (λ ps. IfOk c.finish.result (λ h. All (HasOwn h.entries) ps)) c.in_ok-push.ensures.items c.finish.ensures.own) c.finish.ensures.none
+    c.cycle_last.new.others.items c.in_ok-driver.driver c.in_ok-driver.ensures.same c.in_ok-driver.ensures.ends.same c.end.result.history c.requires.lines c.in_ok-jobs.ensures.none c.in_ok-driver.ensures.ends c.end.ensures.finished
+    (subst (λ ps. All (HasOwn c.end.result.history.entries) ps) c.in_ok-push.ensures.items c.end.ensures.own) c.end.ensures.none

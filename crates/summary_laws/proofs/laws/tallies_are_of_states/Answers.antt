@@ -1,4 +1,4 @@
-use Rattle.summary_laws.proofs.Counting.{tallies_are_of_states, tallies_of_linked}
+use Rattle.summary_laws.proofs.Counting.{heaps_add_up, tallies_are_of_states, tallies_of_linked}
 use Rattle.summary_laws.proofs.Readings.{tallies_of_reading}
 use Rattle.summary_laws.proofs.laws.tallies_are_of_states.Goals as goal
 
@@ -10,3 +10,6 @@ returns-clause-linked c = tallies_of_linked
 
 pub returns-clause-lock_free : goal.returns-clause-lock_free
 returns-clause-lock_free c = tallies_of_reading
+
+pub returns-clause-heaps : goal.returns-clause-heaps
+returns-clause-heaps c = heaps_add_up

@@ -5,7 +5,7 @@ use Rattle.joint_model.specs.Listed.{Stock}
 use Rattle.joint_model.specs.Leaders.{spelled, AreFollowed}
 use Rattle.joint_model.proofs.Spelling.{leader-last}
 use Rattle.joint_model.proofs.Searching.{starts-last}
-use Rattle.joint_model.proofs.lists.Entries.push.Goals as goal
+use Rattle.joint_model.proofs.kept.Kept.push.Goals as goal
 
 pub invariant_of-self : goal.invariant_of-self
 invariant_of-self c =

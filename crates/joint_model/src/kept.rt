@@ -1,0 +1,163 @@
+// Entries as they are kept: most of a large cycle as their handles alone.
+
+ghost use Rattle.std.specs.Prelude.{◌≡◌, ◌≢◌, All, Contains, MatchOption, ◌+◌, ◌≤◌, ◌<◌, ◌==◌, [], ◌∷◌, ◌++◌, length, vec_len, vec_capacity, IfOk, OnErr, OnOk};
+ghost use Rattle.joint_model.specs.Merged.{Ascends};
+
+use crate::events::Entry;
+use crate::leaders::{Leader, Rest, entry_with, put_follower};
+use crate::names::HNum;
+use std::alloc::{AllocError, Global};
+use std::marker::Model;
+
+/// The most entries that a list holds.
+pub(crate) const MOST: u32 = 4_294_967_295;
+
+/// For how many entries room is made at least, where there is memory for them: 32 MiB, and 2 MiB for those that are kept by their handles. Room
+/// that nothing is put into takes no memory, and so large a piece lies outside of the allocator's heap: where it grows, its pages are moved and
+/// no entry is copied.
+pub(crate) const BLOCK: usize = 524_288;
+
+/// Entries in the order in which they were put, and room for more of them. An entry takes at most 64 bytes, or four: see [`Kept::push_handle`].
+#[derive(Drop)]
+pub(crate) struct Kept {
+    leaders: Vec<Leader>,
+    followers: Vec<HNum>,
+    spare: u32,
+}
+
+impl Model for Kept {
+    ghost use Rattle.std.specs.Prelude.{◌+◌, ◌≤◌, vec_len, vec_capacity};
+    ghost use Rattle.joint_model.specs.Leaders.{spelled, AreFollowed, Starts};
+    ghost use Rattle.joint_model.specs.Listed.{Stock};
+
+    ghost Value = { Stock };
+
+    ghost view = { λ s. record { entries = spelled s.leaders.items s.followers.items; spare = s.spare } };
+
+    ghost invariant = { λ s. AreFollowed s.leaders.items s.followers.items × Starts 0 s.leaders.items × (vec_len s.leaders + vec_len s.followers + s.spare ≤ 4294967295) × (vec_len s.leaders + s.spare ≤ vec_capacity s.leaders) × (vec_len s.followers + s.spare ≤ vec_capacity s.followers) };
+}
+
+// Makes room for at least `n` more items, and for a whole block of them where there is memory for it. Answers `AllocError` where there is
+// no memory for `n`.
+fn make_room<T>(list: &mut Vec<T>, n: usize, block: usize) -> Result<(), AllocError>
+    ensures room { OnOk result (vec_len list.new + n ≤ vec_capacity list.new) }
+    ensures kept { vec_capacity list.old ≤ vec_capacity list.new }
+    ensures items { list.new.items ≡ list.old.items }
+{
+    if list.reserve(n.max(block)).is_ok() {
+        return Ok(());
+    }
+    list.reserve(n)
+}
+
+impl Kept {
+    /// No entry, and the allocator.
+    pub(crate) fn new(alloc: Global) -> Kept
+        ensures { result ≡ record { entries = []; spare = 0 } }
+    {
+        Kept {
+            leaders: Vec::new(alloc),
+            followers: Vec::new(alloc),
+            spare: 0,
+        }
+    }
+
+    /// Makes room for `n` more entries at least, of at most `most` in all, and for a block of them where there is memory for it. Answers
+    /// `AllocError`, with nothing changed, where there is no memory for `n`, or where they would be more than `most`.
+    #[tactic(auto, using(crate::proofs::Spelling::spelled_length))]
+    pub(crate) fn grow(&mut self, n: u32, most: u32, block: usize) -> Result<(), AllocError>
+        requires { length self.old.entries + self.old.spare ≤ most }
+        ensures room { IfOk result (λ _. n ≤ self.new.spare) }
+        ensures kept { self.old.spare ≤ self.new.spare }
+        ensures entries { self.new.entries ≡ self.old.entries }
+        ensures limit { length self.new.entries + self.new.spare ≤ most }
+        ensures err { OnErr result (self.new ≡ self.old) }
+    {
+        let n = n as usize;
+        let most = most as usize - (self.leaders.len() + self.followers.len());
+        if n > most {
+            return Err(AllocError);
+        }
+        make_room(&mut self.leaders, n, block)?;
+        make_room(&mut self.followers, n, block)?;
+        let room = self.leaders.capacity() - self.leaders.len();
+        let room_of_followers = self.followers.capacity() - self.followers.len();
+        self.spare = room.min(room_of_followers).min(most) as u32;
+        Ok(())
+    }
+
+    /// Puts an entry last. It takes no memory.
+    #[inline(always)]
+    pub(crate) fn push(&mut self, entry: Entry)
+        requires { 1 ≤ self.old.spare }
+        ensures entries { self.new.entries ≡ self.old.entries ++ entry ∷ [] }
+        ensures spare { self.new.spare + 1 ≡ self.old.spare }
+    {
+        let leader = Leader::new(entry, self.followers.len());
+        self.leaders.push_reserved(leader);
+        self.spare -= 1;
+    }
+
+    /// Puts an entry last as `push` does. Where it differs from the one before it by its number, one higher, and the handle that it weakens or
+    /// restores, it takes four bytes.
+    #[inline(always)]
+    pub(crate) fn push_handle(&mut self, entry: Entry)
+        requires { 1 ≤ self.old.spare }
+        ensures entries { self.new.entries ≡ self.old.entries ++ entry ∷ [] }
+        ensures spare { self.new.spare + 1 ≡ self.old.spare }
+    {
+        put_follower(&mut self.leaders, &mut self.followers, entry);
+        self.spare -= 1;
+    }
+
+    /// Lets all entries go, and keeps the room.
+    pub(crate) fn clear(&mut self)
+        ensures entries { self.new.entries ≡ [] }
+        ensures spare { self.new.spare ≡ self.old.spare }
+    {
+        self.leaders.clear();
+        self.followers.clear();
+    }
+
+    /// For how many more entries there is room.
+    #[tactic(auto, using(crate::proofs::Spelling::spelled_length))]
+    #[inline(always)]
+    pub(crate) fn spare(&self) -> u32
+        ensures spare { result ≡ self.now.spare }
+        ensures limit { length self.now.entries + result ≤ 4294967295 }
+    {
+        self.spare
+    }
+
+    /// The number of entries.
+    #[tactic(auto, using(crate::proofs::Spelling::spelled_length))]
+    pub(crate) fn len(&self) -> u32
+        ensures { result ≡ length self.now.entries }
+    {
+        (self.leaders.len() + self.followers.len()) as u32
+    }
+
+    /// Whether there is no entry.
+    pub(crate) fn is_empty(&self) -> bool
+        ensures { result ≡ (length self.now.entries == 0) }
+    {
+        self.len() == 0
+    }
+
+    /// The entry with the number, where the numbers rise; None where none has it.
+    pub(crate) fn with_number(&self, number: u64) -> Option<Entry>
+        requires { Ascends self.now.entries }
+        ensures { MatchOption result (All (λ e. e.number ≢ number) self.now.entries) (λ e. Contains self.now.entries e × (e.number ≡ number)) }
+    {
+        entry_with(self.leaders.as_slice(), self.followers.as_slice(), number)
+    }
+
+    /// All leaders, with their followers.
+    #[tactic(auto, using(crate::proofs::Spelling::spelled_length))]
+    pub(crate) fn rest(&self) -> Rest<'_>
+        ensures all { result ≡ self.now.entries }
+        ensures limit { length result ≤ 4294967295 }
+    {
+        Rest::new(self.leaders.as_slice(), self.followers.as_slice())
+    }
+}

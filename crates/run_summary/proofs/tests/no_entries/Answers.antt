@@ -1,6 +1,0 @@
--- No lists of entries join to the history of no entries, whatever was freed.
-use Rattle.joint_model.proofs.Joining.{joins_none}
-use Rattle.run_summary.proofs.tests.no_entries.Goals as goal
-
-pub join-requires : goal.join-requires
-join-requires c = rw (c.new.ensures.items) (joins_none _ _ _)
