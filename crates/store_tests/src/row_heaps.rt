@@ -1,45 +1,81 @@
-// Small heaps of rows: operations, references and a sweep.
+// A table of a small heap's operations, with what each answers; references, and a sweep.
 
-use heap_rules::Done;
+use heap_rules::Done::{self, Empty, Null, Object, Range};
 use joint_model::PNum;
 use row_heap::RowHeap;
 use std::alloc::AllocError;
 
-#[test]
-fn runs_operations(rt: HostRuntime) -> Result<(), AllocError> {
-    let mut heap: RowHeap<PNum> = RowHeap::new(rt.alloc());
-    let first = heap.add_object(2)?;
-    heap.set_var(0, Some(first));
-    assert_eq!(rt; heap.copy(1, 3), Done::Empty);
-    assert_eq!(rt; heap.load(1, 0), Done::Null);
-    assert_eq!(rt; heap.copy(1, 0), Done::Object(1));
-    assert_eq!(rt; heap.set(0, 1, Some(1)), Done::Ok);
-    assert_eq!(rt; heap.set(0, 2, None), Done::Range);
-    assert_eq!(rt; heap.get(71, 1, 1), Done::Object(1));
-    assert_eq!(rt; heap.get(2, 1, 0), Done::Null);
-    assert_eq!(rt; heap.store(15, Some(0)), Done::Ok);
-    assert_eq!(rt; heap.store(15, Some(3)), Done::Empty);
-    assert_eq!(rt; heap.load(3, 15), Done::Object(1));
-    assert_eq!(rt; heap.drop(0), Done::Ok);
-    assert_eq!(rt; heap.var(0), None);
-    assert_eq!(rt; heap.static_at(15), Some(1));
-    assert_eq!(rt; (heap.made(), heap.live(), heap.is_full()), (1, 1, false));
-    Ok(())
+// An operation, by places of variables, fields and statics. `Add` makes an object with so many fields, which the variable then names.
+#[derive(Clone, Copy)]
+enum Call {
+    Add(u8, usize),
+    Copy(usize, usize),
+    Set(usize, usize, Option<usize>),
+    Get(usize, usize, usize),
+    Store(usize, usize),
+    Load(usize, usize),
+    Drop(usize),
 }
 
-// More than two fields stand in a vector.
+const CALLS: [(Call, Done); 20] = [
+    (Call::Add(2, 0), Object(1)),
+    (Call::Copy(1, 3), Empty),
+    (Call::Load(1, 0), Null),
+    (Call::Copy(1, 0), Object(1)),
+    (Call::Set(0, 1, Some(1)), Done::Ok),
+    (Call::Set(0, 2, None), Range),
+    (Call::Get(71, 1, 1), Object(1)),
+    (Call::Get(2, 1, 0), Null),
+    (Call::Store(15, 0), Done::Ok),
+    (Call::Store(15, 3), Empty),
+    (Call::Load(3, 15), Object(1)),
+    (Call::Drop(0), Done::Ok),
+    (Call::Copy(2, 0), Empty),
+    // more than two fields stand in a vector
+    (Call::Add(3, 4), Object(2)),
+    (Call::Set(4, 2, Some(4)), Done::Ok),
+    (Call::Set(4, 3, None), Range),
+    (Call::Get(5, 4, 2), Object(2)),
+    (Call::Get(6, 5, 1), Null),
+    (Call::Set(5, 2, None), Done::Ok),
+    (Call::Get(5, 4, 2), Null),
+];
+
+// What the heap answers; None where a place is none.
+fn answer(heap: &mut RowHeap<PNum>, call: &Call) -> Result<Option<Done>, AllocError> {
+    Ok(match *call {
+        Call::Add(fields, v) if v < 72 && !heap.is_full() => {
+            let x = heap.add_object(fields)?;
+            heap.set_var(v, Some(x));
+            Some(Object(x))
+        }
+        Call::Copy(v, w) if v < 72 && w < 72 => Some(heap.copy(v, w)),
+        Call::Set(v, i, Some(w)) if v < 72 && w < 72 => Some(heap.set(v, i, Some(w))),
+        Call::Set(v, i, None) if v < 72 => Some(heap.set(v, i, None)),
+        Call::Get(v, w, i) if v < 72 && w < 72 => Some(heap.get(v, w, i)),
+        Call::Store(s, v) if s < 16 && v < 72 => Some(heap.store(s, Some(v))),
+        Call::Load(v, s) if v < 72 && s < 16 => Some(heap.load(v, s)),
+        Call::Drop(v) if v < 72 => Some(heap.drop(v)),
+        _ => None,
+    })
+}
+
+// The place of the first call that answers otherwise.
+fn miss(heap: &mut RowHeap<PNum>) -> Result<Option<usize>, AllocError> {
+    for (i, (call, wanted)) in CALLS.as_slice().iter().enumerate() {
+        if answer(heap, call)? != Some(*wanted) {
+            return Ok(Some(i));
+        }
+    }
+    Ok(None)
+}
+
 #[test]
-fn reads_and_writes_many_fields(rt: HostRuntime) -> Result<(), AllocError> {
+fn operations_answer_as_the_table_says(rt: HostRuntime) -> Result<(), AllocError> {
     let mut heap: RowHeap<PNum> = RowHeap::new(rt.alloc());
-    let first = heap.add_object(3)?;
-    assert_eq!(rt; heap.fields_len(first), 3);
-    heap.set_var(0, Some(first));
-    assert_eq!(rt; heap.set(0, 2, Some(0)), Done::Ok);
-    assert_eq!(rt; heap.set(0, 3, None), Done::Range);
-    assert_eq!(rt; heap.get(1, 0, 2), Done::Object(1));
-    assert_eq!(rt; heap.get(2, 1, 1), Done::Null);
-    assert_eq!(rt; heap.set(1, 2, None), Done::Ok);
-    assert_eq!(rt; heap.get(1, 0, 2), Done::Null);
+    assert_eq!(rt; miss(&mut heap)?, None);
+    assert_eq!(rt; (heap.var(0), heap.static_at(15)), (None, Some(1)));
+    assert_eq!(rt; (heap.made(), heap.live(), heap.is_full()), (2, 2, false));
     Ok(())
 }
 
