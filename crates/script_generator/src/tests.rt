@@ -1,46 +1,67 @@
-// The generator on known seeds and sizes.
+// Tables of known scripts: how long they are, and some of their lines.
 
 use crate::scripts::generate;
 use joint_model::{Act, PhaseWord, StaticNo, Thread, Var};
+use std::alloc::{AllocError, Global};
 use std::test::Fail;
 
-#[test]
-fn the_third_shape_comes_first(rt: HostRuntime) -> Result<(), Fail> {
-    let script = generate(rt.alloc(), 3, 1)?;
-    assert_eq!(rt; script.len(), 6);
-    assert!(rt; script.line(0).is_none());
-    assert!(rt; script.line(7).is_none());
-    let first = Act::NewPeer {
-        v: Var(0),
-        fields: 1,
-    };
-    assert_eq!(rt; script.line(1), Some((Thread::P(1), first)));
-    let last = Act::Drop { v: Var(1) };
-    assert_eq!(rt; script.line(6), Some((Thread::P(1), last)));
-    Ok(())
+const LENGTHS: [(u64, u32, u32); 5] = [
+    (3, 1, 6),
+    (7, 0, 0),
+    (0, 4, 27),
+    (7, 2000, 13520),
+    (u64::MAX, 2800, 18928),
+];
+
+const PEER: Act = Act::NewPeer {
+    v: Var(0),
+    fields: 1,
+};
+
+const STORE: Act = Act::Store {
+    x: StaticNo(2),
+    v: Some(Var(1)),
+};
+
+const CYCLE: Act = Act::PhaseLine {
+    word: PhaseWord::Cycle,
+};
+
+// Of the script of a seed and a size, a line by its number; none where it has no such line.
+const LINES: [(u64, u32, u32, Option<(Thread, Act)>); 6] = [
+    // the third shape comes first
+    (3, 1, 0, None),
+    (3, 1, 1, Some((Thread::P(1), PEER))),
+    (3, 1, 6, Some((Thread::P(1), Act::Drop { v: Var(1) }))),
+    (3, 1, 7, None),
+    // a family has its own static
+    (u64::MAX, 4, 19, Some((Thread::M(3), STORE))),
+    (u64::MAX, 2800, 18928, Some((Thread::C, CYCLE))),
+];
+
+// The place of the first script that has another length.
+fn other_length(alloc: Global) -> Result<Option<usize>, AllocError> {
+    for (i, (seed, size, wanted)) in LENGTHS.as_slice().iter().enumerate() {
+        if *size > 2800 || generate(alloc, *seed, *size)?.len() != *wanted {
+            return Ok(Some(i));
+        }
+    }
+    Ok(None)
+}
+
+// The place of the first line that is another one.
+fn other_line(alloc: Global) -> Result<Option<usize>, AllocError> {
+    for (i, (seed, size, n, wanted)) in LINES.as_slice().iter().enumerate() {
+        if *size > 2800 || generate(alloc, *seed, *size)?.line(*n) != *wanted {
+            return Ok(Some(i));
+        }
+    }
+    Ok(None)
 }
 
 #[test]
-fn scripts_are_as_long_as_they_are(rt: HostRuntime) -> Result<(), Fail> {
-    assert!(rt; generate(rt.alloc(), 7, 0)?.is_empty());
-    assert_eq!(rt; generate(rt.alloc(), 0, 4)?.len(), 27);
-    assert_eq!(rt; generate(rt.alloc(), 7, 2000)?.len(), 13520);
-    let longest = generate(rt.alloc(), u64::MAX, 2800)?;
-    assert_eq!(rt; longest.len(), 18928);
-    let cycle = Act::PhaseLine {
-        word: PhaseWord::Cycle,
-    };
-    assert_eq!(rt; longest.line(18928), Some((Thread::C, cycle)));
-    Ok(())
-}
-
-#[test]
-fn a_family_has_its_own_static(rt: HostRuntime) -> Result<(), Fail> {
-    let script = generate(rt.alloc(), u64::MAX, 4)?;
-    let store = Act::Store {
-        x: StaticNo(2),
-        v: Some(Var(1)),
-    };
-    assert_eq!(rt; script.line(19), Some((Thread::M(3), store)));
+fn known_scripts_have_their_lengths_and_lines(rt: HostRuntime) -> Result<(), Fail> {
+    assert_eq!(rt; other_length(rt.alloc())?, None);
+    assert_eq!(rt; other_line(rt.alloc())?, None);
     Ok(())
 }
