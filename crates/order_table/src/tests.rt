@@ -70,6 +70,26 @@ impl<N: OrderName> Model for PassHolder<N> {
     ghost invariant = { λ c. IsThread c.thread × (c.seat.order ≡ N.order) × Owns c.seat.view (caller_line c.thread) };
 }
 
+// Makes an entry of a caller in a side's list: the caller's pass goes to the side's seat, and back.
+fn append_with(order: &Order, side: &mut Seat, role: Role, caller: &mut Seat, thread: Thread) -> u64
+    requires role { IsRole role × (role_line role < 2) }
+    requires thread { IsThread thread }
+    requires side { (side.old.order ≡ order.now) × Owns side.old.view (role_line role) }
+    requires room { length (known side.old.view (role_line role)) < 4294967295 }
+    requires caller { (caller.old.order ≡ order.now) × Owns caller.old.view (caller_line thread) }
+    ensures side { (side.new.order ≡ order.now) × Owns side.new.view (role_line role) }
+    ensures one { length (known side.new.view (role_line role)) ≡ length (known side.old.view (role_line role)) + 1 }
+    ensures caller { (caller.new.order ≡ order.now) × Owns caller.new.view (caller_line thread) }
+{
+    let pass = order.hand(caller, thread);
+    order.learn(side, pass);
+    let made = made_by(role, thread);
+    let number = order.append(side, role, &made, None, &[]);
+    let pass = order.hand(side, thread);
+    order.learn(caller, pass);
+    number
+}
+
 // A side's list of numbers, with the seat that owns its role.
 #[derive(Drop)]
 struct SideNumbers<N: OrderName> {
@@ -114,13 +134,9 @@ impl<N: OrderName> SideNumbers<N> {
         if self.numbers.len() >= 4_000_000_000 {
             return Ok(0);
         }
-        let pass = order.hand(&mut caller.seat, caller.thread);
-        order.learn(&mut self.seat, pass);
-        let made = made_by(self.role, caller.thread);
-        let number = order.append(&mut self.seat, self.role, &made, None, &[]);
+        let thread = caller.thread;
+        let number = append_with(order, &mut self.seat, self.role, &mut caller.seat, thread);
         self.numbers.push_reserved(number);
-        let pass = order.hand(&mut self.seat, caller.thread);
-        order.learn(&mut caller.seat, pass);
         Ok(number)
     }
 
@@ -263,6 +279,62 @@ fn own_are_right<N: OrderName>(
     Ok(marks.iter().all(|mark| *mark))
 }
 
+// Each caller makes its entries on a thread of its own. Answers `AllocError` where one of them had no memory.
+fn run_all<N: OrderName + Send + Sync, R: Threads + Wait + Sync>(
+    rt: &R,
+    alloc: Global,
+    locks: &LockedSides<N>,
+    callers: Vec<PassHolder<N>>,
+) -> Result<Vec<PassHolder<N>>, AllocError> {
+    let ended = thread::map_vec(
+        rt,
+        callers,
+        &|mut caller: PassHolder<N>| -> Option<PassHolder<N>> {
+            match locks.run(rt, &mut caller) {
+                Ok(()) => Some(caller),
+                Err(_) => None,
+            }
+        },
+    )?;
+    all_ended(alloc, ended)
+}
+
+// The callers that have ended; `AllocError` where one of them had no memory.
+fn all_ended<N: OrderName>(
+    alloc: Global,
+    ended: Vec<Option<PassHolder<N>>>,
+) -> Result<Vec<PassHolder<N>>, AllocError> {
+    let mut callers = Vec::new(alloc);
+    for caller in ended {
+        let Some(caller) = caller else {
+            return Err(AllocError);
+        };
+        callers.push(caller)?;
+    }
+    Ok(callers)
+}
+
+// Whether the sides' lists and the callers' are right.
+fn is_right<N: OrderName>(
+    alloc: Global,
+    shared: LockedSides<N>,
+    callers: &[PassHolder<N>],
+) -> Result<bool, AllocError> {
+    let LockedSides {
+        order: _,
+        managed,
+        peer,
+    } = shared;
+    let managed = managed.into_inner();
+    let peer = peer.into_inner();
+    let managed = managed.numbers.as_slice();
+    let peer = peer.numbers.as_slice();
+    if !are_right(alloc, managed, peer)? {
+        return Ok(false);
+    }
+    own_are_right(alloc, callers, managed, peer)
+}
+
 fn run<N: OrderName + Send + Sync, R: Threads + Wait + Sync>(
     rt: &R,
     alloc: Global,
@@ -282,37 +354,8 @@ fn run<N: OrderName + Send + Sync, R: Threads + Wait + Sync>(
         managed: Mutex::new(SideNumbers::new(alloc, Role::Managed, seat)),
         peer: Mutex::new(SideNumbers::new(alloc, Role::Peer, peer)),
     };
-    let locks = &shared;
-    let ended = thread::map_vec(
-        rt,
-        callers,
-        &|mut caller: PassHolder<N>| -> Option<PassHolder<N>> {
-            match locks.run(rt, &mut caller) {
-                Ok(()) => Some(caller),
-                Err(_) => None,
-            }
-        },
-    )?;
-    let mut callers = Vec::new(alloc);
-    for caller in ended {
-        let Some(caller) = caller else {
-            return Err(AllocError);
-        };
-        callers.push(caller)?;
-    }
-    let LockedSides {
-        order: _,
-        managed,
-        peer,
-    } = shared;
-    let managed = managed.into_inner();
-    let peer = peer.into_inner();
-    let managed = managed.numbers.as_slice();
-    let peer = peer.numbers.as_slice();
-    if !are_right(alloc, managed, peer)? {
-        return Ok(false);
-    }
-    own_are_right(alloc, callers.as_slice(), managed, peer)
+    let callers = run_all(rt, alloc, &shared, callers)?;
+    is_right(alloc, shared, callers.as_slice())
 }
 
 #[test]
