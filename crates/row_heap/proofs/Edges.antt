@@ -1,6 +1,6 @@
 -- The edges of the heap, and those that the marking loop walks. Between live objects they are the same; from a freed one the loop's lead on, but
 -- no freed object has a mark, and no walk from a live one comes to one. So a marking over the one kind of edges is one over the other.
-use Rattle.std.proofs.Common.{◌≡◌, ℕ, zero, suc, inl, inr, Bool, true, false, List, [], ◌∷◌, map, length, Option, refl, sym, ap, subst, ◌∙◌, arith}
+use Rattle.std.proofs.Common.{◌≡◌, ℕ, zero, ◌≤◌, suc, inl, inr, Bool, true, false, List, [], ◌∷◌, map, length, Option, refl, sym, ap, subst, ◌∙◌, arith}
 use Rattle.std.specs.Prelude.{Contains, slice_get, IsTrue}
 use Rattle.std.proofs.lemmas.Option.{slice_get_read}
 use Rattle.std.proofs.lemmas.List.{length-map}
@@ -80,6 +80,12 @@ marked-row rows zero m = (let f : ⊥ = cc in absurd f)
 marked-row [] (suc i) m = (let f : ⊥ = cc in absurd f)
 marked-row (r ∷ rows) (suc zero) m = cc
 marked-row (r ∷ rows) (suc (suc i)) m = marked-row rows (suc i) m
+
+pub marked-within : (rows : List Seen) (x : ℕ) → HasMark (false ∷ map (λ (r : Seen). r.marked) rows) x → (1 ≤ x) × (x ≤ length rows)
+marked-within rows zero m = (let f : ⊥ = cc in absurd f)
+marked-within [] (suc i) m = (let f : ⊥ = cc in absurd f)
+marked-within (r ∷ rows) (suc zero) m = (omega arith, omega arith)
+marked-within (r ∷ rows) (suc (suc i)) m = (let w = marked-within rows (suc i) m in (omega arith, omega (arith, w.1)))
 
 pub marked-live : (rows : List Seen) (freed : List ℕ) (vars statics : List (Option ℕ)) (refs : List Reference) (follows : Bool) (room cap : ℕ) (v : HeapRows) → rows_of rows freed vars statics refs follows room ≡ v → IsSound (heap_of rows freed vars statics) (stands_in rows) cap
     → ((x : ℕ) → (row_at rows x).marked ≡ true → (row_at rows x).stands ≡ true) → (x : ℕ) → HasMark v.marks x → IsLive v.heap x

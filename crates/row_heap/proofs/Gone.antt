@@ -1,9 +1,10 @@
 -- The first objects that are freed: none of them comes back, so a pass may begin behind them.
-use Rattle.std.proofs.Common.{◌≡◌, ℕ, zero, suc, ◌+◌, ◌≤◌, ◌<◌, inl, inr, Bool, true, false, List, [], ◌∷◌, ◌++◌, length, replicate, Option, arith, ap, refl, subst, sym}
+use Rattle.std.proofs.Common.{◌≡◌, ℕ, zero, suc, ◌+◌, ◌≤◌, ◌<◌, inl, inr, Bool, true, false, List, [], ◌∷◌, ◌++◌, length, take, set, add-one, replicate, Option, arith, ap, refl, subst, sym}
 use Rattle.std.specs.Prelude.{All, Contains}
 use Rattle.std.proofs.lemmas.Bool.{cases_lt}
 use Rattle.std.proofs.lemmas.List.{length-replicate}
-use Rattle.std.proofs.lemmas.List.Elements.{All-head, All-tail, Contains-append_left}
+use Rattle.std.proofs.Math.Seq.{take-suc-set}
+use Rattle.std.proofs.lemmas.List.Elements.{All-head, All-push, All-tail, Contains-append_left}
 use Rattle.joint_model.specs.Heaps.{Heap, IsLive}
 use Rattle.joint_model.proofs.Members.{Contains-decided}
 use Rattle.heap_rules.specs.Flags.{IsSound}
@@ -57,3 +58,7 @@ gone-dead h n x g l live = live.kept (g x live.made.0 (omega (arith, l)))
 pub all-down : (ms : List Bool) → All (λ m. m ≡ false) ms → ms ≡ replicate (length ms) false
 all-down [] a = refl
 all-down (m ∷ ms) a = rw (All-head (λ m. m ≡ false) m ms a, all-down ms (All-tail (λ m. m ≡ false) m ms a)) (ap (λ n. false ∷ replicate n false) (sym (length-replicate (length ms) false)))
+
+-- one more mark is taken down
+pub down-next : (ms ns : List Bool) (i : ℕ) → i < length ms → ns ≡ set ms i false → All (λ m. m ≡ false) (take i ms) → All (λ m. m ≡ false) (take (i + 1) ns)
+down-next ms ns i within e a = rw (e, add-one, take-suc-set ms i false within) (All-push (λ m. m ≡ false) (take i ms) false a refl)

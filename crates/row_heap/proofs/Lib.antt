@@ -8,3 +8,5 @@ pub mod Linked
 pub mod Swept
 pub mod Marked
 mod Gone
+pub mod Results
+mod Cases

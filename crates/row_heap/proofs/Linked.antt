@@ -104,6 +104,9 @@ seen-first rows freed vars statics refs follows room x n =
     ∙ ap (λ (l : List ℕ). let w : HeapRows = record { heap = heap_of rows freed vars statics; refs = pairs_in refs; follows = follows; room = room; marks = false ∷ map (λ (r : Seen). r.marked) rows; links = 0 ∷ l } in w) (map-kept (λ (r : Seen). r.link) rows x y refl))
 
 -- more room
+pub seen-roomy : (rows : List Seen) (freed : List ℕ) (vars statics : List (Option ℕ)) (refs more : List Reference) (follows : Bool) (room k : ℕ) (v : HeapRows) → rows_of rows freed vars statics refs follows room ≡ v → more ≡ refs → rows_of rows freed vars statics more follows k ≡ record v { room = k }
+seen-roomy rows freed vars statics refs more follows room k v view same = ap (λ (l : List Reference). rows_of rows freed vars statics l follows k) same ∙ ap (λ (w : HeapRows). record w { room = k }) view
+
 pub IsRowHeap-roomy : (rows : List Seen) (freed : List ℕ) (vars statics : List (Option ℕ)) (refs others : List Reference) (follows : Bool) (room more c d e : ℕ) → IsRowHeap rows freed vars statics refs follows room c d → others ≡ refs → length refs + more ≤ e → length refs + more ≤ 4294967295
     → IsRowHeap rows freed vars statics others follows more c e
 IsRowHeap-roomy rows freed vars statics refs others follows room more c d e s is space most = subst (λ l. IsRowHeap rows freed vars statics l follows more c e) (sym is) record {

@@ -353,6 +353,13 @@ pub grown-are : (s t : Slab Row) (places : List RowPlace) (marks : List Bool) (l
 grown-are s t places marks links e a =
     AreRows-as t places marks links (with_marks (map (seen_at s) places) marks links) (IsIndex-grown s t places e a.index) a.marks_len a.links_len (ap (λ b. with_marks b marks links) (shown-grown s t places e)) a.up
 
+-- the rows of lists that hold the same
+pub kept-rows : (s t : Slab Row) (places more : List RowPlace) (marks ups : List Bool) (links ends : List ℕ) → t.slots ≡ s.slots → more ≡ places → ups ≡ marks → ends ≡ links → with_marks (map (seen_at t) more) ups ends ≡ with_marks (map (seen_at s) places) marks links
+kept-rows s t places more marks ups links ends e p m l = rw (p, m, l) (ap (λ b. with_marks b marks links) (shown-grown s t places e))
+
+pub kept-are : (s t : Slab Row) (places more : List RowPlace) (marks ups : List Bool) (links ends : List ℕ) → t.slots ≡ s.slots → more ≡ places → ups ≡ marks → ends ≡ links → AreRows s places marks links → AreRows t more ups ends
+kept-are s t places more marks ups links ends e p m l a = rw (p, m, l) (grown-are s t places marks links e a)
+
 pub pushed-rows : (s t : Slab Row) (places : List RowPlace) (rows : List Seen) (marks : List Bool) (links : List ℕ) (key : ℕ) (r : Row) → with_marks (map (seen_at s) places) marks links ≡ rows → AreRows s places marks links → get s key ≡ None → Updates s t key (Some r)
     → with_marks (map (seen_at t) (places ++ At key ∷ [])) (marks ++ true ∷ []) (links ++ 0 ∷ []) ≡ rows ++ record (standing r) { marked = true; link = 0 } ∷ []
 pushed-rows s t places rows marks links key r view a vacant u =

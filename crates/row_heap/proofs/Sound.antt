@@ -1,17 +1,18 @@
 -- A heap of rows stays sound. The lemmas of `heap_rules` on a heap with flags are used as they are: its flags are which rows
 -- stand. Slots and fields are written between rows that stand, so no row comes or goes, and no reference is touched. A further row stands last,
 -- and no reference is its own.
-use Rattle.std.proofs.Common.{◌≡◌, ℕ, zero, suc, ◌+◌, ◌≤◌, ◌<◌, ◌⊎◌, inl, inr, Bool, true, false, List, [], ◌∷◌, ◌++◌, map, length, replicate, Option, Some, None, set, refl, sym, ap, subst, ◌∙◌, arith, length-append}
+use Rattle.std.proofs.Common.{◌≡◌, ℕ, zero, suc, ◌+◌, ◌≤◌, ◌<◌, ◌⊎◌, inl, inr, Bool, true, false, List, [], ◌∷◌, ◌++◌, map, length, replicate, Option, Some, None, get_or, set, refl, sym, ap, subst, ◌∙◌, arith, length-append}
 use Rattle.std.specs.Prelude.{Contains, slice_get}
 use Rattle.std.specs.Option.{ForSome}
 use Rattle.std.proofs.lemmas.Bool.{cases_lt}
-use Rattle.std.proofs.lemmas.List.{length-map, map-append, map-set}
-use Rattle.joint_model.specs.Heaps.{Heap, MOST, IsLive, fields_of, numbered_at, numbered_set, with_field}
+use Rattle.std.proofs.lemmas.List.{get_or_default, length-map, map-append, map-set}
+use Rattle.joint_model.specs.Heaps.{Heap, MOST, IsLive, fields_of, numbered_at, numbered_set, slot, with_field, with_object}
 use Rattle.joint_model.proofs.Members.{Contains-nil, Contains-at}
 use Rattle.row_heap.proofs.Indexed.{stands-within}
 use Rattle.joint_model.proofs.Numbered.{numbered-push_old, numbered-push_new, numbered-past, numbered_set-length}
-use Rattle.heap_rules.specs.Flags.{IsSound}
+use Rattle.heap_rules.specs.Flags.{IsSound, up_count}
 use Rattle.heap_rules.specs.Tidy.{IsTidy}
+use Rattle.heap_rules.proofs.Numbered.{slot-read}
 use Rattle.heap_rules.proofs.Sound.{IsSound-empty, IsSound-added, IsSound-field, IsUp-live}
 use Rattle.row_marking.specs.Traces.{IsLastBelow}
 use Rattle.row_heap.specs.declared.references.Reference.{Reference}
@@ -197,3 +198,30 @@ IsRowHeap-added rows others freed after vars statics refs follows room c e d k n
           (ap stands_in is ∙ (map-append (λ r. r.stands) rows (n ∷ []) ∙ ap (λ z. stands_in rows ++ z ∷ []) up));
       references = subst (λ l. AreReferences l refs follows room d) (sym is) (AreReferences-pushed rows n refs follows room d first s.references);
     }
+
+pub seen-added : (rows others : List Seen) (freed after : List ℕ) (vars statics : List (Option ℕ)) (refs : List Reference) (follows : Bool) (room : ℕ) (v : HeapRows) (k : ℕ) (fs : List (Option ℕ)) → rows_of rows freed vars statics refs follows room ≡ v
+    → others ≡ rows ++ record { fields = fs; first = 0; marked = true; link = 0; stands = true } ∷ [] → fs ≡ replicate k None → after ≡ freed → rows_of others after vars statics refs follows room ≡ record v { heap = with_object v.heap k; marks = v.marks ++ true ∷ []; links = v.links ++ 0 ∷ [] }
+seen-added rows others freed after vars statics refs follows room v k fs view is fields same =
+    subst (λ (w : HeapRows). rows_of others after vars statics refs follows room ≡ record w { heap = with_object w.heap k; marks = w.marks ++ true ∷ []; links = w.links ++ 0 ∷ [] }) view (rw (is, fields, same) (simp map-append))
+
+-- how many rows there are, and how many of them stand
+pub made-seen : (rows : List Seen) (freed : List ℕ) (vars statics : List (Option ℕ)) (refs : List Reference) (follows : Bool) (room : ℕ) (v : HeapRows) → rows_of rows freed vars statics refs follows room ≡ v → length v.heap.fields ≡ length rows
+made-seen rows freed vars statics refs follows room v view = ap (λ (w : HeapRows). length w.heap.fields) (sym view) ∙ length-map rows (λ r. r.fields)
+
+pub rows-most : (rows : List Seen) (freed : List ℕ) (vars statics : List (Option ℕ)) (cap : ℕ) → IsSound (heap_of rows freed vars statics) (stands_in rows) cap → length rows ≤ MOST
+rows-most rows freed vars statics cap s = omega (arith, s.tidy.most, length-map rows (λ r. r.fields))
+
+pub stand-count : {A : Type 0} (f : A → ℕ) (rows : List Seen) (freed : List A) (vars statics : List (Option ℕ)) (cap : ℕ) → IsSound (heap_of rows (map f freed) vars statics) (stands_in rows) cap → length freed + up_count (stands_in rows) ≡ length rows
+stand-count f rows freed vars statics cap s = omega (arith, s.flags.count, length-map rows (λ r. r.fields), length-map freed f)
+
+pub stand-room : {A : Type 0} (f : A → ℕ) (rows : List Seen) (freed : List A) (vars statics : List (Option ℕ)) (cap : ℕ) → IsSound (heap_of rows (map f freed) vars statics) (stands_in rows) cap → length freed + up_count (stands_in rows) ≤ cap
+stand-room f rows freed vars statics cap s = omega (arith, s.flags.count, s.room, length-map freed f)
+
+-- what is read at a slot
+pub slot-here : (os : List (Option ℕ)) (i : ℕ) → i < length os → slot os i ≡ get_or os i None
+slot-here os i within = slot-read os i (get_or os i None) within (get_or_default os i None (get_or os i None) within)
+
+-- what is seen of a heap whose rows alone changed
+pub rest-freed : (rows others : List Seen) (freed after : List ℕ) (vars statics : List (Option ℕ)) (refs : List Reference) (follows : Bool) (room : ℕ) (v : HeapRows) → rows_of rows freed vars statics refs follows room ≡ v
+    → rows_of others after vars statics refs follows room ≡ record v { heap = heap_of others after vars statics; marks = false ∷ map (λ (r : Seen). r.marked) others; links = 0 ∷ map (λ (r : Seen). r.link) others }
+rest-freed rows others freed after vars statics refs follows room v view = ap (λ (w : HeapRows). record w { heap = heap_of others after vars statics; marks = false ∷ map (λ (r : Seen). r.marked) others; links = 0 ∷ map (λ (r : Seen). r.link) others }) view

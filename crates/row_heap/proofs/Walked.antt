@@ -67,6 +67,9 @@ pub links-written : (rows others : List Seen) (freed : List ℕ) (vars statics :
 links-written rows others freed vars statics refs follows room x l v view one is =
     ap (λ o. 0 ∷ map (λ (r : Seen). r.link) o) is ∙ (part-written (λ (r : Seen). r.link) 0 rows x (with_mark (row_at rows x) l) one ∙ ap (λ (w : HeapRows). set w.links x l) view)
 
+pub link-at : (rows : List Seen) (freed : List ℕ) (vars statics : List (Option ℕ)) (refs : List Reference) (follows : Bool) (room : ℕ) (v : HeapRows) (x : ℕ) → rows_of rows freed vars statics refs follows room ≡ v → (row_at rows x).stands ≡ true → slice_get v.links x ≡ Some ((row_at rows x).link)
+link-at rows freed vars statics refs follows room v x view up = (let w = stands-within rows x up in subst (λ (k : HeapRows). slice_get k.links x ≡ Some ((row_at rows x).link)) view (part-at (λ (r : Seen). r.link) 0 rows x w.0 w.1))
+
 -- what is followed are the references, if any are
 if-some : (b : Bool) (refs : List (ℕ × ℕ)) (i : ℕ) (p : ℕ × ℕ) → slice_get (if b then refs else []) i ≡ Some p → (b ≡ true) × (slice_get refs i ≡ Some p)
 if-some true refs i p e = (refl, e)
@@ -86,6 +89,17 @@ reference-read refs i x y r at e =
     let here : slice_get refs i ≡ Some r = slice_get_read refs (length refs) i r refl within e in
     let pair : Some (r.from, r.to) ≡ Some (x, y) = sym (slice_get-map f refs i ∙ ap (option_map f) here) ∙ at in
     (here, ap (λ o. elim o [ None ↦ 0 | Some p ↦ p.0 ]) pair, ap (λ o. elim o [ None ↦ 0 | Some p ↦ p.1 ]) pair)
+
+pub reference-within : (rows : List Seen) (freed : List ℕ) (vars statics : List (Option ℕ)) (refs : List Reference) (follows : Bool) (room : ℕ) (v : HeapRows) (x y i : ℕ) → rows_of rows freed vars statics refs follows room ≡ v → slice_get (followed v) i ≡ Some (x, y) → i < length refs
+reference-within rows freed vars statics refs follows room v x y i view at =
+    let f : Reference → ℕ × ℕ = λ q. (q.from, q.to) in
+    let there = subst (λ (k : HeapRows). slice_get k.refs i ≡ Some (x, y)) (sym view) (followed-at v i (x, y) at).1 in
+    omega (arith, slice_get_within (pairs_in refs) i (x, y) there, length-map refs f)
+
+pub reference-to : (rows : List Seen) (freed : List ℕ) (vars statics : List (Option ℕ)) (refs : List Reference) (follows : Bool) (room : ℕ) (v : HeapRows) (x y i : ℕ) (r : Reference) → rows_of rows freed vars statics refs follows room ≡ v → slice_get (followed v) i ≡ Some (x, y) → r ≡ get_or refs i r → slice_get (followed v) i ≡ Some (x, r.to)
+reference-to rows freed vars statics refs follows room v x y i r view at e =
+    let q = reference-read refs i x y r (subst (λ (k : HeapRows). slice_get k.refs i ≡ Some (x, y)) (sym view) (followed-at v i (x, y) at).1) e in
+    subst (λ z. slice_get (followed v) i ≡ Some (x, z)) (sym q.2) at
 
 pub reference-ends : (rows : List Seen) (freed : List ℕ) (vars statics : List (Option ℕ)) (refs : List Reference) (follows : Bool) (room c d : ℕ) (v : HeapRows) (x y i : ℕ) → rows_of rows freed vars statics refs follows room ≡ v → IsRowHeap rows freed vars statics refs follows room c d
     → IsLive v.heap x → slice_get (followed v) i ≡ Some (x, y) → (1 ≤ y) × IsLive v.heap y

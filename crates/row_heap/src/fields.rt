@@ -42,11 +42,15 @@ impl Fields {
         ensures ok { IfOk result (λ fields. fields ≡ replicate n None) }
         ensures few { n ≤ 2 → IsOk result }
     {
-        let cells = match n {
-            0..=2 => Cells::Few(n as u32, [None; 2]),
-            _ => Cells::More(vec![in alloc; None; n as usize]?),
-        };
-        Ok(Fields { cells })
+        if n > 2 {
+            let cells = vec![in alloc; None; n as usize]?;
+            return Ok(Fields {
+                cells: Cells::More(cells),
+            });
+        }
+        Ok(Fields {
+            cells: Cells::Few(n as u32, [None; 2]),
+        })
     }
 
     /// The fields in order.

@@ -6,7 +6,6 @@ ghost use Rattle.joint_model.specs.Heaps.{Heap, MOST, IsMade, IsLive, InSlot, sl
 ghost use Rattle.heap_rules.specs.Tidy.{IsTidy, CanFree};
 ghost use Rattle.row_heap.specs.Rows.{HeapRows, opening_rows};
 
-use crate::fields::Fields;
 use crate::places::Rows;
 use crate::references::Reference;
 use heap_rules::Number;
@@ -165,10 +164,9 @@ impl<N: Number> RowHeap<N> {
         ensures live { IfOk result (IsLive self.new.heap) }
         ensures err { OnErr result (self.new ≡ self.old) }
     {
-        let row = Fields::empty(self.alloc, fields)?;
         let made = self.rows.made();
         self.freed.reserve(made + 1 - self.freed.len())?;
-        self.rows.add(row)?;
+        self.rows.add(self.alloc, fields)?;
         Ok(made as u32 + 1)
     }
 

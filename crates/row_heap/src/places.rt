@@ -6,10 +6,11 @@
 // that is freed gives its memory back, and the index keeps its fields for proofs alone, in no bytes: so the heap of the definition, which never
 // forgets the fields of a freed object, is still what contracts see.
 
-ghost use Rattle.std.specs.Prelude.{All, take, replicate, ◌≡◌, ℕ, ◌≤◌, ◌<◌, ◌⊎◌, ◌++◌, [], ◌∷◌, Some, Contains, true, false, length, map, slice_set, OnOk, OnErr};
+ghost use Rattle.std.specs.Prelude.{All, take, replicate, ◌≡◌, ℕ, ◌≤◌, ◌<◌, ◌⊎◌, ◌++◌, [], ◌∷◌, Some, None, Contains, true, false, length, map, slice_set, vec_len, vec_capacity, OnOk, OnErr};
 ghost use Rattle.joint_model.specs.Heaps.{numbered_set};
 ghost use Rattle.reachability.specs.Marks.{HasMark};
 ghost use Rattle.row_marking.specs.Traces.{Greyed};
+ghost use Rattle.slab.specs.Slab.{HasRoomFor};
 ghost use Rattle.row_heap.specs.Places.{row_at, is_white, standing, gone, bare, marks_in, links_in, unmarked_row};
 
 use crate::fields::Fields;
@@ -201,21 +202,21 @@ impl Rows {
         let _ = &self.places;
     }
 
-    /// Makes a row under the next number, with a mark. Answers `AllocError`, with the rows as before, where there is no memory.
+    /// Makes a row with so many empty fields under the next number, with a mark. Answers `AllocError`, with the rows as before, where there is no
+    /// memory.
     #[inline(always)]
-    pub(crate) fn add(&mut self, fields: Fields) -> Result<(), AllocError>
-        ensures ok { OnOk result (self.new ≡ self.old ++ record { fields = fields; first = 0; marked = true; link = 0; stands = true } ∷ []) }
+    pub(crate) fn add(&mut self, alloc: Global, fields: u8) -> Result<(), AllocError>
+        ensures ok { OnOk result (self.new ≡ self.old ++ record { fields = replicate fields None; first = 0; marked = true; link = 0; stands = true } ∷ []) }
         ensures err { OnErr result (self.new ≡ self.old) }
     {
-        let key = self.slab.vacant_key();
-        if key > u32::MAX as usize {
-            return Err(AllocError);
-        }
-        self.places.reserve(1)?;
-        self.marks.reserve(1)?;
-        self.links.reserve(1)?;
-        self.slab.reserve(1)?;
-        self.slab.insert_reserved(Row { fields, first: 0 });
+        take_room(
+            &mut self.slab,
+            &mut self.places,
+            &mut self.marks,
+            &mut self.links,
+        )?;
+        let fields = Fields::empty(alloc, fields)?;
+        let key = self.slab.insert_reserved(Row { fields, first: 0 });
         self.places.push_reserved(RowPlace::At(key as u32));
         self.marks.push_reserved(true);
         self.links.push_reserved(0);
@@ -237,6 +238,27 @@ impl Rows {
             RowPlace::Gone(_) => unreachable!(),
         }
     }
+}
+
+// Takes room for one more row, whose key fits the index. Answers `AllocError` where there is no memory for it. The rows stay as they are.
+#[inline(always)]
+fn take_room(
+    slab: &mut Slab<Row>,
+    places: &mut Vec<RowPlace>,
+    marks: &mut Vec<bool>,
+    links: &mut Vec<u32>,
+) -> Result<(), AllocError>
+    ensures kept { (slab.new.slots ≡ slab.old.slots) × (places.new.items ≡ places.old.items) × (marks.new.items ≡ marks.old.items) × (links.new.items ≡ links.old.items) }
+    ensures room { OnOk result (HasRoomFor slab.new 1 × (vec_len places.new < vec_capacity places.new) × (vec_len marks.new < vec_capacity marks.new) × (vec_len links.new < vec_capacity links.new)) }
+    ensures key { OnOk result (slab.new.vacant_key ≤ 4294967295) }
+{
+    if slab.vacant_key() > u32::MAX as usize {
+        return Err(AllocError);
+    }
+    places.reserve(1)?;
+    marks.reserve(1)?;
+    links.reserve(1)?;
+    slab.reserve(1)
 }
 
 // Takes all marks down, of which the first ones up to a number are down.

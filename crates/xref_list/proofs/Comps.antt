@@ -1,12 +1,14 @@
 -- One component more: the flat lists stay cut into components, and the components stay in their order and
 -- apart. There are never more than 65,535, because first members rise and are below that.
-use Rattle.std.proofs.Common.{◌≡◌, ◌≢◌, ◌⊎◌, ℕ, suc, ◌+◌, ◌-◌, ◌<◌, ◌≤◌, Bool, List, [], ◌∷◌, ◌++◌, length, map, get_or, Result, Ok, Err, IfOk, OnOk, OnErr, refl, ◌∙◌, ap, arith, inl, inr}
-use Rattle.std.proofs.lemmas.List.{length_push, length-append, length-map, map_push, flat_map_more}
+use Rattle.std.proofs.Common.{◌≡◌, ◌≢◌, ◌⊎◌, ℕ, suc, ◌+◌, ◌-◌, ◌<◌, ◌≤◌, Bool, List, [], ◌∷◌, ◌++◌, length, map, get_or, Some, Result, Ok, Err, IfOk, OnOk, OnErr, refl, sym, subst, drop, append_assoc, drop-cons, add-one, ◌∙◌, ap, arith, inl, inr}
+use Rattle.std.proofs.lemmas.List.{append-nil, drop_all, get_or_append_left, get_or-append_right, get_or-map, length_push, length-append, length-map, map_push, flat_map_more}
 use Rattle.std.proofs.lemmas.List.FromFn.{length-map-range_with_len}
 use Rattle.std.proofs.lemmas.List.Elements.{All-head, All-tail, All-push, All-map, All-weaker}
 use Rattle.std.proofs.lemmas.List.Quantifiers.{all_pairs_push}
+use Rattle.std.proofs.lemmas.Option.{slice_get-get_or}
 use Rattle.std.specs.List.{All}
-use Rattle.joint_model.specs.Components.{Rises, first_of, circle, circle_from, PairsRise}
+use Rattle.std.specs.Prelude.{flat_map, slice_get}
+use Rattle.joint_model.specs.Components.{Rises, first_at, first_of, circle, circle_from, mirror_edges, PairsRise}
 use Rattle.joint_model.proofs.Members.{Rises-push}
 use Rattle.bridge_graph.specs.Packing.{packed_row, packed_rows}
 use Rattle.bridge_graph.proofs.Packs.{packed_rows-more, cut-more}
@@ -111,3 +113,51 @@ many_added (Err x) before after more a e = inl e
 
 pub ends_group : (n src : ℕ) (dsts : List ℕ) → src < n → All (λ d. d < n) dsts → All (λ d. src ≢ d) dsts → All (IsBetween n) (map (λ d. (src, d)) dsts)
 ends_group n src dsts s h a = All-map (IsBetween n) (λ d. (src, d)) dsts (λ k d lt. record { source = s; destination = h k d lt; apart = a k d lt })
+
+-- a mirror edge: of a circle, or between the first members of a pair's components
+pub mirror-circle : (comps : List (List ℕ)) (pairs circles : List (ℕ × ℕ)) (i : ℕ) (e : ℕ × ℕ) → circles ≡ flat_map circle comps → i < length circles → e ≡ get_or circles i e → slice_get (mirror_edges comps pairs) i ≡ Some e
+mirror-circle comps pairs circles i e is within at =
+    let firsts : List (ℕ × ℕ) = map (λ (p : ℕ × ℕ). let q : ℕ × ℕ = (first_at comps p.0, first_at comps p.1) in q) pairs in
+    ap (λ l. slice_get (l ++ firsts) i) (sym is) ∙ (slice_get-get_or (circles ++ firsts) i e (omega (arith, within, length-append circles firsts)) ∙ ap (λ z. Some z) (get_or_append_left circles firsts e i within ∙ sym at))
+
+pub mirror-pair : (comps : List (List ℕ)) (pairs circles : List (ℕ × ℕ)) (i : ℕ) (p : ℕ × ℕ) → circles ≡ flat_map circle comps → length circles ≤ i → i - length circles < length pairs → p ≡ get_or pairs (i - length circles) p
+    → slice_get (mirror_edges comps pairs) i ≡ Some (first_at comps p.0, first_at comps p.1)
+mirror-pair comps pairs circles i p is past within at =
+    let edge : ℕ × ℕ → ℕ × ℕ = λ p. (first_at comps p.0, first_at comps p.1) in
+    let firsts : List (ℕ × ℕ) = map edge pairs in
+    ap (λ l. slice_get (l ++ firsts) i) (sym is)
+    ∙ (slice_get-get_or (circles ++ firsts) i (edge p) (omega (arith, past, within, length-append circles firsts, length-map pairs edge))
+    ∙ ap (λ z. Some z) (get_or-append_right circles firsts (length circles) i (edge p) refl past ∙ (get_or-map edge pairs (i - length circles) p (edge p) within ∙ ap edge (sym at))))
+
+pub mirror-count : (comps : List (List ℕ)) (pairs circles : List (ℕ × ℕ)) → circles ≡ flat_map circle comps → length (mirror_edges comps pairs) ≡ length circles + length pairs
+mirror-count comps pairs circles is =
+    let edge : ℕ × ℕ → ℕ × ℕ = λ p. (first_at comps p.0, first_at comps p.1) in
+    omega (arith, ap length is, length-append (flat_map circle comps) (map edge pairs), length-map pairs edge)
+
+pub between-at : (n : ℕ) (pairs : List (ℕ × ℕ)) (k : ℕ) (p : ℕ × ℕ) → All (IsBetween n) pairs → k < length pairs → p ≡ get_or pairs k p → IsBetween n p
+between-at n pairs k p h within e = subst (IsBetween n) (sym e) (h k p within)
+
+-- one more edge of a circle
+pub circle-next : (members : List ℕ) (edges more all : List (ℕ × ℕ)) (i : ℕ) → i < length members → edges ++ circle_from (get_or members 0 0) (get_or members (i - 1) 0) (drop i members) ≡ all → more ≡ edges ++ (get_or members (i - 1) 0, get_or members i 0) ∷ []
+    → more ++ circle_from (get_or members 0 0) (get_or members (i + 1 - 1) 0) (drop (i + 1) members) ≡ all
+circle-next members edges more all i within rest e =
+    let first = get_or members 0 0 in
+    let here : drop i members ≡ get_or members i 0 ∷ drop (i + 1) members = rw add-one (drop-cons members i 0 within) in
+    let at : i + 1 - 1 ≡ i = omega arith in
+    rw (e, at, append_assoc) (ap (λ l. edges ++ circle_from first (get_or members (i - 1) 0) l) (sym here) ∙ rest)
+
+-- the last edge, and the circle of one member
+pub circle-closed : (members : List ℕ) (start edges more : List (ℕ × ℕ)) (i : ℕ) → 1 < length members → length members ≤ i → i ≤ length members → edges ++ circle_from (get_or members 0 0) (get_or members (i - 1) 0) (drop i members) ≡ start ++ circle_from (get_or members 0 0) (get_or members 0 0) (drop 1 members)
+    → more ≡ edges ++ (get_or members (length members - 1) 0, get_or members 0 0) ∷ [] → more ≡ start ++ circle members
+circle-closed [] start edges more i some past within rest e = absurd (omega (arith, some))
+circle-closed (x ∷ []) start edges more i some past within rest e = absurd (omega (arith, some))
+circle-closed (x ∷ y ∷ xs) start edges more i some past within rest e =
+    let members = x ∷ y ∷ xs in
+    let at : i ≡ length members = omega (arith, past, within) in
+    let over : drop i members ≡ [] = drop_all i members past in
+    e ∙ (ap (λ n. edges ++ (get_or members (n - 1) 0, x) ∷ []) (sym at) ∙ (ap (λ l. edges ++ circle_from x (get_or members (i - 1) 0) l) (sym over) ∙ rest))
+
+pub circle-alone : (members : List ℕ) (edges : List (ℕ × ℕ)) → length members ≤ 1 → edges ≡ edges ++ circle members
+circle-alone [] edges few = sym (append-nil edges)
+circle-alone (x ∷ []) edges few = sym (append-nil edges)
+circle-alone (x ∷ y ∷ xs) edges few = absurd (omega (arith, few))

@@ -63,9 +63,13 @@ impl ComponentsBuilder {
         ensures comps { self.new.comps ≡ self.old.comps }
         ensures pairs { self.new.pairs ≡ self.old.pairs }
     {
-        self.starts.reserve(comps as usize)?;
-        self.circles.reserve(members as usize)?;
-        self.members.reserve(members as usize)
+        take_room(
+            &mut self.starts,
+            comps as usize,
+            &mut self.circles,
+            &mut self.members,
+            members as usize,
+        )
     }
 
     /// The number of components so far.
@@ -94,9 +98,13 @@ impl ComponentsBuilder {
         }
         let index = self.starts.len() as u32;
         let start = self.members.len() as u32;
-        self.starts.reserve(1)?;
-        self.circles.reserve(objs.len())?;
-        self.members.reserve(objs.len())?;
+        take_room(
+            &mut self.starts,
+            1,
+            &mut self.circles,
+            &mut self.members,
+            objs.len(),
+        )?;
         append(objs, &mut self.members);
         self.starts.push_reserved(start);
         push_circle(objs, &mut self.circles);
@@ -251,6 +259,23 @@ impl Components {
     {
         self.objs(c)[0]
     }
+}
+
+// Takes room for so many components with so many members in all. Answers `AllocError` where there is no memory. The lists hold what they held.
+#[inline(always)]
+fn take_room(
+    starts: &mut Vec<u32>,
+    comps: usize,
+    circles: &mut Vec<(u32, u32)>,
+    members: &mut Vec<u32>,
+    more: usize,
+) -> Result<(), AllocError>
+    ensures kept { (starts.new.items ≡ starts.old.items) × (circles.new.items ≡ circles.old.items) × (members.new.items ≡ members.old.items) }
+    ensures room { OnOk result ((vec_len starts.new + comps ≤ vec_capacity starts.new) × (vec_len circles.new + more ≤ vec_capacity circles.new) × (vec_len members.new + more ≤ vec_capacity members.new)) }
+{
+    starts.reserve(comps)?;
+    circles.reserve(more)?;
+    members.reserve(more)
 }
 
 // Puts the members of a component last, for which there is room. Most components have one member, so it is a loop, and no copy.

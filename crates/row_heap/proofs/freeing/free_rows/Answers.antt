@@ -1,7 +1,8 @@
 -- The numbers rise, so each row still stands when its turn comes, and there is room for each.
-use Rattle.std.proofs.Common.{◌≡◌, refl, ◌+◌, ◌∙◌, ◌++◌, [], ◌∷◌, take, length, sym, ap, arith, append_assoc, length-append}
-use Rattle.std.proofs.lemmas.List.{take_more, length-map}
+use Rattle.std.proofs.Common.{◌≡◌, refl, ◌+◌, ◌∙◌, ◌++◌, [], ◌∷◌, take, length, sym, ap, arith, append_assoc, length-append, subst, map}
+use Rattle.std.proofs.lemmas.List.{take_more, length-map, take_all}
 use Rattle.row_heap.proofs.Freed.{RowsFreed-here, RowsFreed-next}
+use Rattle.row_heap.specs.Rows.{RowsFreed}
 use Rattle.row_heap.proofs.freeing.free_rows.Goals as goal
 
 pub free-requires : goal.free-requires
@@ -21,3 +22,12 @@ loop-x-preserved g c = record {
       rw (c.push_reserved.ensures.items, c.loop-x.invariant.freed, append_assoc, more) refl;
   capacity = c.push_reserved.ensures.capacity ∙ c.loop-x.invariant.capacity;
 }
+
+pub overflow_cast-get : goal.overflow_cast-get
+overflow_cast-get g c = omega (arith, c.get.type_inv)
+
+pub returns-clause-rows : goal.returns-clause-rows
+returns-clause-rows g c = subst (λ l. RowsFreed (map g.N.Number.number l) c.args.rows.now c.loop-x.rows) (take_all c.loop-x.x-index c.args.xs.now c.loop-x-test.false) c.loop-x.invariant.rows
+
+pub returns-clause-freed : goal.returns-clause-freed
+returns-clause-freed g c = c.loop-x.invariant.freed ∙ ap (λ l. c.args.freed.now.items ++ l) (take_all c.loop-x.x-index c.args.xs.now c.loop-x-test.false)

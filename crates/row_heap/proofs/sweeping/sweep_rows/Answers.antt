@@ -25,3 +25,14 @@ pub returns-clause-swept : goal.returns-clause-swept
 returns-clause-swept g c =
     let all : c.loop-i.i ≡ length c.args.rows.now = omega (arith, c.loop-i-test.false, c.made-i-end.ensures, c.loop-i.auto) in
     subst (λ n. RowsSwept n c.args.rows.now c.loop-i.rows (map g.N.Number.number c.args.freed.now.items) (map g.N.Number.number c.loop-i.freed.items)) all c.loop-i.invariant.swept
+
+pub overflow_add-i : goal.overflow_add-i
+overflow_add-i g c = omega (arith, c.loop-i-test.true, c.made-i-end.ensures, c.requires.most)
+
+pub sweep_row-requires-clause-row : goal.sweep_row-requires-clause-row
+sweep_row-requires-clause-row g c =
+    let s = c.loop-i.invariant.swept in
+    (omega arith, omega (arith, c.loop-i-test.true, c.made-i-end.ensures, s.rows.flags.len, length-map c.loop-i.rows (λ r. r.stands), length-map c.args.rows.now (λ r. r.stands)))
+
+pub sweep_row-requires-clause-number : goal.sweep_row-requires-clause-number
+sweep_row-requires-clause-number g c = omega (arith, c.loop-i-test.true, c.made-i-end.ensures, c.requires.most)

@@ -5,6 +5,7 @@ use Rattle.heap_rules.proofs.Sound.{IsUp-live}
 use Rattle.row_heap.proofs.Gone.{gone-more}
 use Rattle.row_heap.proofs.Freed.{IsRowHeap-freed, seen-freed}
 use Rattle.row_heap.proofs.Swept.{marks-freed}
+use Rattle.row_heap.proofs.Sound.{stand-room, rest-freed}
 use Rattle.row_heap.proofs.heap.RowHeap.free.Goals as goal
 
 pub free_rows-requires-clause-up : goal.free_rows-requires-clause-up
@@ -25,3 +26,12 @@ returns-clause-heap g c = seen-freed _ _ _ _ (map g.N.Number.number c.args.xs.no
 
 pub returns-clause-marks : goal.returns-clause-marks
 returns-clause-marks g c = marks-freed _ _ _ _ _ _ _ _ c.args.self.now (map g.N.Number.number c.args.xs.now) c.self.view_is c.free_rows.ensures.rows c.marked_stand.ensures c.marked_stand-2.ensures
+
+pub free_rows-requires-clause-rises : goal.free_rows-requires-clause-rises
+free_rows-requires-clause-rises g c = c.requires.can.rises
+
+pub free_rows-requires-clause-room : goal.free_rows-requires-clause-room
+free_rows-requires-clause-room g c = stand-room g.N.Number.number _ _ _ _ _ c.self.invariant.0.sound
+
+pub returns-clause-rest : goal.returns-clause-rest
+returns-clause-rest g c = rest-freed _ _ _ _ _ _ _ _ _ c.args.self.now c.self.view_is

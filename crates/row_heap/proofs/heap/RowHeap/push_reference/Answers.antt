@@ -25,3 +25,15 @@ pub returns : goal.returns
 returns g c =
     let r : Reference = record { from = c.args.from; to = c.args.to; next = c.row.result.now.first } in
     seen-pushed _ _ _ _ _ _ _ _ _ _ r c.args.self.now c.self.view_is c.push_reserved.ensures.items c.set_first.ensures
+
+pub push_reserved-requires : goal.push_reserved-requires
+push_reserved-requires g c = omega (arith, c.requires.room, ap (λ (v : HeapRows). v.room) c.self.view_is, c.self.invariant.0.references.space, c.self.inside.references.ok)
+
+pub overflow_cast-len : goal.overflow_cast-len
+overflow_cast-len g c = omega (arith, c.len.ensures, c.push_reserved.ensures.len, c.requires.room, ap (λ (v : HeapRows). v.room) c.self.view_is, c.self.invariant.0.references.most, c.self.inside.references.ok)
+
+pub set_first-requires : goal.set_first-requires
+set_first-requires g c = stands-seen _ _ _ _ _ _ _ _ c.args.self.now c.args.from c.self.view_is c.self.invariant.0.sound c.requires.from
+
+pub overflow_sub-self : goal.overflow_sub-self
+overflow_sub-self g c = omega (arith, c.requires.room, ap (λ (v : HeapRows). v.room) c.self.view_is)

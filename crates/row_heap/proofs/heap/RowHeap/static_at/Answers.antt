@@ -2,6 +2,7 @@
 use Rattle.std.proofs.Common.{◌<◌, length, None, inr, arith}
 use Rattle.std.proofs.lemmas.List.Elements.{Contains-get_or}
 use Rattle.heap_rules.proofs.Sound.{read-live}
+use Rattle.row_heap.proofs.Sound.{slot-here}
 use Rattle.row_heap.proofs.heap.RowHeap.static_at.Goals as goal
 
 pub returns-clause-live : goal.returns-clause-live
@@ -9,3 +10,6 @@ returns-clause-live g c =
     let os = c.self.inside.statics in
     let within : c.args.s < length os = omega (arith, c.self.invariant.0.sound.tidy.statics, c.requires) in
     rw (← c.self.view_is) (read-live _ os _ (λ y p. c.self.invariant.0.sound.tidy.slots y (inr p)) (Contains-get_or os c.args.s None within))
+
+pub returns-clause-value : goal.returns-clause-value
+returns-clause-value g c = rw (← c.self.view_is) (slot-here c.self.inside.statics c.args.s (omega (arith, c.self.invariant.0.sound.tidy.statics, c.requires)))

@@ -8,6 +8,7 @@ use Rattle.row_heap.specs.Rows.{HeapRows}
 use Rattle.row_heap.proofs.Gone.{fallen, gone-made, gone-more}
 use Rattle.row_heap.proofs.Freed.{IsRowHeap-freed, seen-freed}
 use Rattle.row_heap.proofs.Swept.{AreWhite-swept, seen-swept, swept-end, white-stands, white-can_free, white-none_refers}
+use Rattle.row_heap.proofs.Sound.{rows-most, stand-room}
 use Rattle.row_heap.proofs.heap.RowHeap.sweep.Goals as goal
 
 pub sweep_rows-requires-clause-from : goal.sweep_rows-requires-clause-from
@@ -38,3 +39,9 @@ returns-clause-heap g c =
 
 pub returns-clause-rest : goal.returns-clause-rest
 returns-clause-rest g c = seen-swept _ _ _ _ _ _ _ _ _ c.args.self.now c.self.view_is c.sweep_rows.ensures.swept.marks
+
+pub sweep_rows-requires-clause-most : goal.sweep_rows-requires-clause-most
+sweep_rows-requires-clause-most g c = rows-most _ _ _ _ _ c.self.invariant.0.sound
+
+pub sweep_rows-requires-clause-room : goal.sweep_rows-requires-clause-room
+sweep_rows-requires-clause-room g c = stand-room g.N.Number.number _ _ _ _ _ c.self.invariant.0.sound

@@ -36,3 +36,12 @@ returns-clause-greyed g c =
 
 pub returns-clause-rest : goal.returns-clause-rest
 returns-clause-rest g c = rest-kept c.args.self.now c.loop-s.self c.loop-s.invariant.kept
+
+pub visit-requires-clause-some : goal.visit-requires-clause-some
+visit-requires-clause-some g c = c.in-Some.ensures.live.made.0
+
+pub visit-requires-clause-row : goal.visit-requires-clause-row
+visit-requires-clause-row g c = c.in-Some.ensures.live
+
+pub loop-s-smaller : goal.loop-s-smaller
+loop-s-smaller g c = omega (arith, c.loop-s-test.true)
