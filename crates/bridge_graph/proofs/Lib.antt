@@ -2,3 +2,4 @@ pub mod Links
 pub mod Rows
 pub mod Building
 pub mod Packs
+pub mod Room

@@ -1,5 +1,5 @@
 -- The packed rows are those of the links, so what they keep is what the part keeps.
-use Rattle.std.proofs.Common.{◌≡◌, ◌<◌, ℕ, List, length, arith}
+use Rattle.std.proofs.Common.{◌≡◌, ◌<◌, ℕ, List, length, refl, ◌∙◌, ap, arith}
 use Rattle.std.proofs.lemmas.List.{take_at}
 use Rattle.bridge_graph.specs.declared.graph.Node.{Node}
 use Rattle.bridge_graph.specs.declared.packing.Link.{Link}
@@ -46,3 +46,43 @@ returns-clause-part c =
       packed-rows c.self.inside.links.items c.pack.new.firsts c.pack.new.targets.items (length c.self.inside.nodes.items) (omega arith) packed,
     )
     (part_of _ _ _ _ _ _ c.self.invariant)
+
+pub link_up-requires-clause-most : goal.link_up-requires-clause-most
+link_up-requires-clause-most c = omega (arith, c.deref.ensures.len, c.self.invariant.most)
+
+pub link_up-requires-clause-nexts : goal.link_up-requires-clause-nexts
+link_up-requires-clause-nexts c = omega (arith, c.deref_mut.ensures.len, c.deref.ensures.len, c.self.invariant.nexts)
+
+pub link_up-requires-clause-none : goal.link_up-requires-clause-none
+link_up-requires-clause-none c = rw c.deref_mut-2.ensures.value c.self.invariant.none
+
+pub link_up-requires-clause-from : goal.link_up-requires-clause-from
+link_up-requires-clause-from c = rw c.deref.ensures.value (λ k d lt. omega (arith, (c.self.invariant.joins k d lt).from, c.self.invariant.firsts, c.deref_mut-2.ensures.len))
+
+pub pack-requires-clause-most : goal.pack-requires-clause-most
+pack-requires-clause-most c = omega (arith, c.deref-2.ensures.len, c.self.invariant.most)
+
+pub pack-requires-clause-nexts : goal.pack-requires-clause-nexts
+pack-requires-clause-nexts c = omega (arith, ap length (c.deref-3.ensures.value ∙ take_at c.link_up.new.nexts _ c.self.inside.nexts.len (omega arith)), c.deref_mut.ensures.len, c.deref-2.ensures.len, c.self.invariant.nexts)
+
+pub pack-requires-clause-linked : goal.pack-requires-clause-linked
+pack-requires-clause-linked c =
+    let linked = rw c.deref.ensures.value at c.link_up.ensures.nexts in
+    rw (c.deref-2.ensures.value, c.deref-3.ensures.value, take_at c.link_up.new.nexts _ c.self.inside.nexts.len (omega arith)) linked
+
+pub pack-requires-clause-firsts : goal.pack-requires-clause-firsts
+pack-requires-clause-firsts c =
+    let firsts = rw c.deref.ensures.value at c.link_up.ensures.firsts in
+    rw (c.deref-2.ensures.value, c.deref_mut-3.ensures.value, take_at c.link_up.new.firsts _ c.self.inside.firsts.len (omega arith)) firsts
+
+pub pack-requires-clause-few : goal.pack-requires-clause-few
+pack-requires-clause-few c = omega (arith, ap length (c.deref_mut-3.ensures.value ∙ take_at c.link_up.new.firsts _ c.self.inside.firsts.len (omega arith)), c.deref_mut-2.ensures.len, c.self.invariant.few, c.self.invariant.firsts)
+
+pub pack-requires-clause-empty : goal.pack-requires-clause-empty
+pack-requires-clause-empty c = c.self.invariant.empty
+
+pub pack-requires-clause-room : goal.pack-requires-clause-room
+pack-requires-clause-room c = rw c.deref-2.ensures.value c.self.invariant.room
+
+pub returns-clause-nodes : goal.returns-clause-nodes
+returns-clause-nodes c = rw (← c.self.view_is) refl
