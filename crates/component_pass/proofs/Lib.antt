@@ -10,3 +10,4 @@ pub mod Gathered
 pub mod Leaving
 pub mod Shared
 pub mod Ordered
+pub mod Keeping

@@ -51,11 +51,42 @@ pub(crate) fn share_references(
     let mut lists = Lists::new(alloc);
     lists.push(&[])?;
     let mut refs = vec![in alloc; count; count as usize]?;
-    number_all(
-        graph, labels, rows, indexes, count, &mut refs, &mut lists, &mut work,
-    )?;
+    share_all(
+        graph, labels, rows, indexes, count, &mut refs, &mut lists, &mut work, builder,
+    )
+}
+
+// The same with a set's number for each component, the empty set alone in the list of sets, and what the gathering works with.
+fn share_all(
+    graph: &DeadGraph,
+    labels: &mut [u32],
+    rows: &Lists,
+    indexes: &[u32],
+    count: u32,
+    refs: &mut [u32],
+    lists: &mut Lists,
+    work: &mut Work,
+    builder: &mut ComponentsBuilder,
+) -> Result<(), AllocError>
+    requires classes { AreClasses graph.now.edges (length graph.now.nodes) labels.old }
+    requires order { AreInOrder graph.now.edges (length graph.now.nodes) labels.old rows.now }
+    requires indexes { length indexes.now ≡ length rows.now }
+    requires listed { AreListed graph.now.nodes labels.old (links_of graph.now.nodes labels.old) (length graph.now.nodes) builder.old.comps indexes.now }
+    requires plain { (l : ℕ) → l < length rows.now → length (group (links_of graph.now.nodes labels.old) l) ≡ 0 → slice_index indexes.now l ≡ 4294967295 }
+    requires part { IsPart graph.now.nodes graph.now.edges }
+    requires empty { builder.old.pairs ≡ [] }
+    requires count { length builder.old.comps ≡ count }
+    requires refs { length refs.old ≡ count }
+    requires lists { lists.old ≡ [] ∷ [] }
+    requires known { length work.old.known.items ≡ count + 1 }
+    requires marks { length work.old.marks.items ≡ count }
+    requires clear { HasNoMarks work.old }
+    ensures pairs { OnOk result (AreReferencesBelow (IsBridgeNode graph.now.nodes) (NodeLeads graph.now.edges) builder.new.comps (length graph.now.nodes) builder.new.pairs) }
+    ensures comps { builder.new.comps ≡ builder.old.comps }
+{
+    number_all(graph, labels, rows, indexes, count, refs, lists, work)?;
     for i in 0..count {
-        builder.add_all(i, set_of(&lists, count, &refs, i as usize))?;
+        builder.add_all(i, set_of(lists, count, refs, i as usize))?;
     }
     Ok(())
 }

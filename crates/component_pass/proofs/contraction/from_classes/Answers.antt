@@ -1,7 +1,34 @@
 -- Ordering the pairs changes neither which there are nor the components.
+use Rattle.std.proofs.Common.{◌∙◌, ap, length, arith}
+use Rattle.std.proofs.lemmas.List.{take_at}
 use Rattle.component_pass.proofs.Ordered.{finished}
 use Rattle.component_pass.proofs.Crossing.{Setting, contraction_of}
 use Rattle.component_pass.proofs.contraction.from_classes.Goals as goal
+
+pub plain_nodes-requires-clause-groups : goal.plain_nodes-requires-clause-groups
+plain_nodes-requires-clause-groups c = c.in_ok-groups.ensures
+
+pub list_components-requires-clause-groups : goal.list_components-requires-clause-groups
+list_components-requires-clause-groups c = c.in_ok-groups.ensures
+
+pub list_components-requires-clause-indexes : goal.list_components-requires-clause-indexes
+list_components-requires-clause-indexes c = omega (arith, c.deref_mut.ensures.len, c.in_ok-indexes.ensures.len, c.nodes.ensures.count)
+
+pub list_components-requires-clause-empty : goal.list_components-requires-clause-empty
+list_components-requires-clause-empty c = c.new-builder.ensures.comps
+
+pub list_references-requires-clause-plain : goal.list_references-requires-clause-plain
+list_references-requires-clause-plain c = rw c.deref.ensures.value c.in_ok-plain.ensures
+
+pub list_references-requires-clause-indexes : goal.list_references-requires-clause-indexes
+list_references-requires-clause-indexes c =
+    omega (arith, ap length (c.deref-2.ensures.value ∙ take_at c.list_components.new.indexes _ c.in_ok-indexes.indexes.len (omega arith)), c.deref_mut.ensures.len, c.in_ok-indexes.ensures.len, c.nodes.ensures.count)
+
+pub list_references-requires-clause-listed : goal.list_references-requires-clause-listed
+list_references-requires-clause-listed c = rw (c.deref-2.ensures.value, take_at c.list_components.new.indexes _ c.in_ok-indexes.indexes.len (omega arith)) c.in_ok-list_components.ensures.listed
+
+pub list_references-requires-clause-empty : goal.list_references-requires-clause-empty
+list_references-requires-clause-empty c = c.list_components.ensures.pairs ∙ c.new-builder.ensures.pairs
 
 pub returns : goal.returns
 returns c =

@@ -83,3 +83,29 @@ returns-clause-plain c =
     let is : c.loop-x.x ≡ length c.args.graph.now.nodes = omega arith in
     let u = rw is at i.unset in
     λ l lt none. u l (omega (arith, lt, i.size, c.requires.indexes)) (λ some. absurd (omega (arith, some, none)))
+
+pub begins-requires-clause-label : goal.begins-requires-clause-label
+begins-requires-clause-label c = omega (arith, c.requires.order.labelled c.loop-x.x (omega arith), c.loop-x.invariant.size, c.requires.indexes)
+
+pub row-requires : goal.row-requires
+row-requires c = c.requires.order.labelled c.loop-x.x (omega arith)
+
+pub list_members-requires-clause-few : goal.list_members-requires-clause-few
+list_members-requires-clause-few c = omega (arith, c.nodes.ensures.count, c.nodes.ensures.part.few)
+
+pub list_members-requires-clause-marks : goal.list_members-requires-clause-marks
+list_members-requires-clause-marks c = omega (arith, c.nodes.ensures.count, c.requires.marks)
+
+pub list_members-requires-clause-clear : goal.list_members-requires-clause-clear
+list_members-requires-clause-clear c = c.loop-x.invariant.clear
+
+pub bounds-indexes-label : goal.bounds-indexes-label
+bounds-indexes-label c = omega (arith, c.requires.order.labelled c.loop-x.x (omega arith), c.loop-x.invariant.size, c.requires.indexes)
+
+pub returns-clause-listed : goal.returns-clause-listed
+returns-clause-listed c =
+    let is : c.loop-x.x ≡ length c.args.graph.now.nodes = omega arith in
+    rw is at c.loop-x.invariant.listed
+
+pub returns-clause-pairs : goal.returns-clause-pairs
+returns-clause-pairs c = c.loop-x.invariant.pairs

@@ -1,7 +1,8 @@
 -- Each node stands for itself, so the union of the members' sets are the members.
-use Rattle.std.proofs.Common.{◌≡◌, ◌↔◌, ◌<◌, ◌++◌, ◌∷◌, [], ℕ, List, Result, Ok, Err, OnOk, sym, subst, refl}
+use Rattle.std.proofs.Common.{◌≡◌, ◌↔◌, ◌<◌, ◌++◌, ◌∷◌, [], ℕ, List, Result, Ok, Err, OnOk, sym, subst, refl, arith}
 use Rattle.std.specs.declared.alloc.AllocError.{AllocError}
 use Rattle.std.proofs.lemmas.List.Elements.{All-contains}
+use Rattle.std.proofs.lemmas.Result.{on_ok_weaker}
 use Rattle.std.specs.List.{All, Contains}
 use Rattle.joint_model.specs.Components.{Rises}
 use Rattle.component_pass.specs.Gathering.{set_at}
@@ -48,3 +49,34 @@ returns-clause-comps c =
     let s = selves c.args.count c.args.rows.now c.args.members.now c.unite.new.union.items c.requires.below c.in_ok-unite.ensures.exact in
     let comps = rw c.deref.ensures.value at c.component-2.ensures.comps in
     added c.component-2.result c.args.builder.now.comps c.component-2.new.self.comps c.unite.new.union.items c.args.members.now comps c.in_ok-unite.ensures.rises s
+
+pub component-requires-2-clause-rises : goal.component-requires-2-clause-rises
+component-requires-2-clause-rises c = rw c.deref.ensures.value c.in_ok-unite.ensures.rises
+
+pub component-requires-2-clause-below : goal.component-requires-2-clause-below
+component-requires-2-clause-below c = rw c.deref.ensures.value (λ k d lt. omega (arith, c.in_ok-unite.ensures.below k d lt, c.requires.few))
+
+pub unite-requires-clause-numbers : goal.unite-requires-clause-numbers
+unite-requires-clause-numbers c = λ k d lt. omega (arith, c.requires.below k d lt)
+
+pub unite-requires-clause-below : goal.unite-requires-clause-below
+unite-requires-clause-below c = c.requires.rows
+
+pub returns-then-are_components_in_order-clause-comps : goal.returns-then-are_components_in_order-clause-comps
+returns-then-are_components_in_order-clause-comps c =
+    added c.component.result c.args.builder.now.comps c.component.new.self.comps c.args.members.now c.args.members.now c.component.ensures.comps (c.if-are_components_in_order.ensures refl).0 (λ j. (λ t. t, λ t. t))
+
+pub returns-clause-index : goal.returns-clause-index
+returns-clause-index c = c.component-2.ensures.index
+
+pub returns-clause-pairs : goal.returns-clause-pairs
+returns-clause-pairs c = c.component-2.ensures.pairs
+
+pub returns-then-are_components_in_order-clause-pairs : goal.returns-then-are_components_in_order-clause-pairs
+returns-then-are_components_in_order-clause-pairs c = c.component.ensures.pairs
+
+pub returns-then-are_components_in_order-clause-clear : goal.returns-then-are_components_in_order-clause-clear
+returns-then-are_components_in_order-clause-clear c = on_ok_weaker c.component.result (λ _. c.requires.clear) c.component.ensures.comps
+
+pub returns-clause-clear : goal.returns-clause-clear
+returns-clause-clear c = on_ok_weaker c.component-2.result (λ _. c.in_ok-unite.ensures.clear) c.component-2.ensures.comps

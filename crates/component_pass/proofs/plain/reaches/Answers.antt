@@ -1,7 +1,7 @@
 -- Where every node is open the search takes every edge.
-use Rattle.std.proofs.Common.{◌≡◌, ◌<◌, ℕ, Bool, List, true, false, ◌↔◌, IsTrue, length, replicate, get_or, sym, ◌∙◌, ap, arith, inl}
+use Rattle.std.proofs.Common.{◌≡◌, ◌<◌, ℕ, Bool, List, true, false, ◌↔◌, IsTrue, length, replicate, get_or, refl, sym, ◌∙◌, ap, arith, inl}
 use Rattle.std.proofs.lemmas.List.{get_or-replicate, get_or_default, take_at}
-use Rattle.std.proofs.lemmas.List.Elements.{All-contains}
+use Rattle.std.proofs.lemmas.List.Elements.{All-contains, All-replicate}
 use Rattle.joint_model.specs.Walks.{Reaches}
 use Rattle.joint_model.proofs.WalkLemmas.{Reaches-mono}
 use Rattle.bridge_graph.specs.Parts.{NodeLeads}
@@ -34,3 +34,15 @@ returns c =
     marked (Goes edges c.deref.result.now c.deref-2.result.now 0) (NodeLeads edges) c.args.x c.args.y marks c.search.new.found.items c.index.result.now
     (λ u v h. h.1) (λ u v h. every edges c.deref.result.now c.deref-2.result.now 0 n u v plain c.nodes-n.ensures.part.rows h)
     f (read ∙ get_or_default marks c.args.y c.index.result.now false lt)
+
+pub search-requires-clause-plain : goal.search-requires-clause-plain
+search-requires-clause-plain c = omega (arith, c.deref.ensures.len, c.in_ok-plain.ensures.len, c.nodes-n.ensures.count)
+
+pub search-requires-clause-labels : goal.search-requires-clause-labels
+search-requires-clause-labels c = omega (arith, c.deref-2.ensures.len, c.in_ok-labels.ensures.len, c.nodes-n.ensures.count)
+
+pub search-requires-clause-marks : goal.search-requires-clause-marks
+search-requires-clause-marks c = omega (arith, c.deref_mut.ensures.len, c.in_ok-marks.ensures.len, c.nodes-n.ensures.count)
+
+pub search-requires-clause-clear : goal.search-requires-clause-clear
+search-requires-clause-clear c = rw (c.deref_mut.ensures.value, c.in_ok-marks.ensures.items_if_clones_equal (λ y e. e)) (All-replicate (λ m. m ≡ false) c.nodes-n.result false refl)

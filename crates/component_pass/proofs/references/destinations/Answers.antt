@@ -1,6 +1,6 @@
 -- A node that the search doesn't go on from gives its component, and sorting and removing what stands
 -- twice leaves the same components in order.
-use Rattle.std.proofs.Common.{◌≡◌, List, ℕ, eqb, Bool, get_or, subst}
+use Rattle.std.proofs.Common.{◌≡◌, List, ℕ, eqb, Bool, get_or, subst, arith}
 use Rattle.std.specs.List.{All, Contains, dedup}
 use Rattle.std.specs.List.Sorted.{IsPermutation, IsSorted}
 use Rattle.std.specs.Ordering.{nat_cmp}
@@ -8,7 +8,7 @@ use Rattle.component_pass.specs.Searching.{Opens, Goes, FindsReached}
 use Rattle.component_pass.specs.Referring.{AreDestinations}
 use Rattle.std.proofs.lemmas.List.Filters.{dedup_is}
 use Rattle.std.proofs.lemmas.List.Elements.{All-contains}
-use Rattle.component_pass.proofs.Gathered.{ordered-rises, ordered-same}
+use Rattle.component_pass.proofs.Gathered.{ordered-rises, ordered-same, marked_below}
 use Rattle.component_pass.proofs.references.destinations.Goals as goal
 
 collected : (edges : List (List ℕ)) (plain : List Bool) (labels indexes : List ℕ) (own x : ℕ) (marks : List Bool) (found outs sorted out : List ℕ)
@@ -34,3 +34,15 @@ returns-clause-outs c =
     let col = rw v at c.in_ok-collect.ensures in
     collected _ _ _ _ _ _ c.search.new.marks c.search.new.found.items c.collect.new.outs.items c.sort_unstable.new.self.items c.dedup.new.self.items
     c.in_ok-search.ensures col.from col.has c.sort_unstable.ensures.permutation c.sort_unstable.ensures.sorted (dedup_is eqb _ _ c.dedup.ensures.filtered)
+
+pub collect-requires-clause-plain : goal.collect-requires-clause-plain
+collect-requires-clause-plain c = rw c.deref.ensures.value (λ k d lt. omega (arith, marked_below c.search.new.marks c.search.new.found.items c.in_ok-search.ensures.marking k d lt, c.requires.plain, c.requires.marks))
+
+pub collect-requires-clause-labels : goal.collect-requires-clause-labels
+collect-requires-clause-labels c = rw c.deref.ensures.value (λ k d lt. omega (arith, marked_below c.search.new.marks c.search.new.found.items c.in_ok-search.ensures.marking k d lt, c.requires.labels, c.requires.marks))
+
+pub collect-requires-clause-small : goal.collect-requires-clause-small
+collect-requires-clause-small c = λ k d lt. omega (arith, c.requires.small k d lt, c.requires.indexes)
+
+pub clear-requires : goal.clear-requires
+clear-requires c = rw c.deref-2.ensures.value c.in_ok-search.ensures.marking

@@ -1,5 +1,5 @@
 -- Each component's cross-references are those that its search comes to.
-use Rattle.std.proofs.Common.{refl, ◌∙◌, arith}
+use Rattle.std.proofs.Common.{◌≡◌, length, refl, ◌∙◌, arith}
 use Rattle.component_pass.proofs.Crossing.{Setting, refs_none, refs_skip, refs_more, refs_fresh, outs_below, outs_apart, first_index}
 use Rattle.component_pass.proofs.references.refer_all.Goals as goal
 use Rattle.component_pass.proofs.references.refer_all.Goals.{then-is_first+in_ok-destinations+in_ok-add_all, else-is_first}
@@ -74,3 +74,44 @@ loop-x-preserved c =
             pairs = rw i.comps (refs_skip _ _ _ _ _ _ _ s c.loop-x.x c.loop-x.builder.pairs f old);
           }
     ]
+
+pub members-requires-clause-packed : goal.members-requires-clause-packed
+members-requires-clause-packed c = c.requires.groups.packed
+
+pub members-requires-clause-label : goal.members-requires-clause-label
+members-requires-clause-label c = omega (arith, c.requires.classes.small c.loop-x.x 0 (omega arith), c.requires.groups.count)
+
+pub destinations-requires-clause-labels : goal.destinations-requires-clause-labels
+destinations-requires-clause-labels c = c.requires.classes.whole
+
+pub destinations-requires-clause-small : goal.destinations-requires-clause-small
+destinations-requires-clause-small c = c.requires.classes.small
+
+pub destinations-requires-clause-plain : goal.destinations-requires-clause-plain
+destinations-requires-clause-plain c = c.requires.plain.whole
+
+pub destinations-requires-clause-indexes : goal.destinations-requires-clause-indexes
+destinations-requires-clause-indexes c = c.requires.indexes
+
+pub destinations-requires-clause-clear : goal.destinations-requires-clause-clear
+destinations-requires-clause-clear c = c.loop-x.invariant.clear
+
+pub destinations-requires-clause-found : goal.destinations-requires-clause-found
+destinations-requires-clause-found c = c.loop-x.invariant.found
+
+pub destinations-requires-clause-outs : goal.destinations-requires-clause-outs
+destinations-requires-clause-outs c = c.loop-x.invariant.outs
+
+pub bounds-indexes-own : goal.bounds-indexes-own
+bounds-indexes-own c = omega (arith, c.requires.classes.small c.loop-x.x 0 (omega arith), c.requires.indexes)
+
+pub add_all-requires-clause-rises : goal.add_all-requires-clause-rises
+add_all-requires-clause-rises c = rw c.deref.ensures.value c.in_ok-destinations.ensures.outs.rising
+
+pub returns-clause-pairs : goal.returns-clause-pairs
+returns-clause-pairs c =
+    let is : c.loop-x.x ≡ length c.args.graph.now.nodes = omega arith in
+    rw is at c.loop-x.invariant.pairs
+
+pub returns-clause-comps : goal.returns-clause-comps
+returns-clause-comps c = c.loop-x.invariant.comps

@@ -4,6 +4,7 @@ use Rattle.std.proofs.lemmas.List.{get_or_default, length-set}
 use Rattle.bridge_graph.specs.Parts.{row_at}
 use Rattle.component_pass.specs.Searching.{Goes}
 use Rattle.component_pass.proofs.Finding.{search-first, search-passed, search-more, search-found}
+use Rattle.component_pass.proofs.Gathered.{marked_below}
 use Rattle.component_pass.proofs.search.search.Goals as goal
 use Rattle.component_pass.proofs.search.search.Goals.{then-opens+in_ok-visit, else-opens}
 
@@ -31,3 +32,21 @@ loop-at-preserved c =
 
 pub returns : goal.returns
 returns c = search-found (Goes c.args.graph.now.edges c.args.plain.now c.args.labels.now c.args.own) c.args.start c.loop-at.marks c.loop-at.found.items c.loop-at.at (omega arith) c.loop-at.invariant
+
+pub bounds-marks-start : goal.bounds-marks-start
+bounds-marks-start c = omega (arith, c.requires.start, c.requires.marks)
+
+pub index-x-requires : goal.index-x-requires
+index-x-requires c = omega (arith, c.loop-at-test.true, c.len.ensures)
+
+pub opens-requires-clause-plain : goal.opens-requires-clause-plain
+opens-requires-clause-plain c = omega (arith, marked_below c.loop-at.marks c.loop-at.found.items c.loop-at.invariant.marking c.loop-at.at c.index-x.result.now (omega arith), c.index-x.ensures, length-set c.args.marks.now c.args.start true, c.requires.marks, c.requires.plain)
+
+pub opens-requires-clause-labels : goal.opens-requires-clause-labels
+opens-requires-clause-labels c = omega (arith, marked_below c.loop-at.marks c.loop-at.found.items c.loop-at.invariant.marking c.loop-at.at c.index-x.result.now (omega arith), c.index-x.ensures, length-set c.args.marks.now c.args.start true, c.requires.marks, c.requires.labels)
+
+pub row-requires : goal.row-requires
+row-requires c = omega (arith, marked_below c.loop-at.marks c.loop-at.found.items c.loop-at.invariant.marking c.loop-at.at c.index-x.result.now (omega arith), c.index-x.ensures, length-set c.args.marks.now c.args.start true, c.requires.marks)
+
+pub visit-requires-clause-marking : goal.visit-requires-clause-marking
+visit-requires-clause-marking c = c.loop-at.invariant.marking

@@ -1,6 +1,6 @@
 -- A node that is not marked yet is marked and listed; one that is marked is listed already.
 use Rattle.std.proofs.Common.{◌≡◌, ◌<◌, ◌++◌, ◌∷◌, [], ℕ, length, get_or, ◌∙◌, ap, arith}
-use Rattle.std.proofs.lemmas.List.{take_more}
+use Rattle.std.proofs.lemmas.List.{take_more, take_all}
 use Rattle.component_pass.proofs.Finding.{marked_more, visits_none, visits_old, visits_new}
 use Rattle.component_pass.proofs.search.visit.Goals as goal
 use Rattle.component_pass.proofs.search.visit.Goals.{then-not-marks-y+in_ok-push, else-not-marks-y}
@@ -25,3 +25,15 @@ loop-y-preserved c =
         visits = visits_old _ _ c.loop-y.found.items y (i.marking.listed y w.if-not-marks-y.false) i.visits;
       }
     ])
+
+pub bounds-marks-y : goal.bounds-marks-y
+bounds-marks-y c = omega (arith, c.requires.in_range c.loop-y.y-index 0 c.loop-y-test.true)
+
+pub bounds-marks-y-then-not-marks-y : goal.bounds-marks-y-then-not-marks-y
+bounds-marks-y-then-not-marks-y c = omega (arith, c.requires.in_range c.loop-y.y-index 0 c.loop-y-test.true)
+
+pub returns-clause-marking : goal.returns-clause-marking
+returns-clause-marking c = c.loop-y.invariant.marking
+
+pub returns-clause-visits : goal.returns-clause-visits
+returns-clause-visits c = rw (take_all c.loop-y.y-index c.args.row.now (omega arith)) at c.loop-y.invariant.visits

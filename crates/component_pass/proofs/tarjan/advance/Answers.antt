@@ -4,8 +4,31 @@ use Rattle.component_pass.specs.declared.tarjan.Frame.{Frame}
 use Rattle.component_pass.specs.Tarjan.{IsGoing, unseen}
 use Rattle.bridge_graph.specs.Parts.{row_at}
 use Rattle.component_pass.proofs.Strong.{descended, merged, completed, unseen-set}
+use Rattle.component_pass.proofs.Keeping.{entered-kept, closed-kept}
 use Rattle.component_pass.proofs.tarjan.advance.Goals as goal
 use Rattle.component_pass.proofs.Ordered.{reverse-push, popped-frames, popped-length, popped-none}
+
+pub row-row-requires : goal.row-row-requires
+row-row-requires c =
+    let g = c.requires.going in
+    omega (arith, (g.sorted.placed c.args.frame.at g.segments.0.below).0, g.segments.0.is)
+
+pub scan_row-scan-requires-clause-in_range : goal.scan_row-scan-requires-clause-in_range
+scan_row-scan-requires-clause-in_range c = λ k d lt. omega (arith, c.row-row.ensures.in_range k d lt, c.requires.going.sorted.marks_whole)
+
+pub scan_row-scan-requires-clause-low : goal.scan_row-scan-requires-clause-low
+scan_row-scan-requires-clause-low c =
+    let g = c.requires.going in
+    omega (arith, g.segments.0.low, g.segments.0.below, g.sorted.room, c.row-row.ensures.part.few)
+
+pub scan_row-scan-requires-clause-from : goal.scan_row-scan-requires-clause-from
+scan_row-scan-requires-clause-from c = rw c.row-row.ensures.row c.requires.going.segments.0.cursor
+
+pub enter-requires-clause-node : goal.enter-requires-clause-node
+enter-requires-clause-node c = omega (arith, c.row-row.ensures.in_range c.scan_row-scan.result.next 0 c.if-scan-row.true, c.requires.going.sorted.marks_whole)
+
+pub enter-requires-clause-few : goal.enter-requires-clause-few
+enter-requires-clause-few c = omega (arith, c.requires.going.sorted.room, c.row-row.ensures.part.few)
 
 pub returns-then-scan-row-clause-going : goal.returns-then-scan-row-clause-going
 returns-then-scan-row-clause-going c =
@@ -31,6 +54,12 @@ returns-then-scan-row-clause-less c =
     let lower : Frame = record { node = f.node; at = f.at; next = c.scan_row-scan.result.next + 1; low = c.scan_row-scan.result.low } in
     omega (arith, fewer, ap unseen c.in_ok-inner.ensures.marks, ap length c.in_ok-push.ensures.items, length_push c.args.frames.now.items lower)
 
+pub returns-then-scan-row-clause-none : goal.returns-then-scan-row-clause-none
+returns-then-scan-row-clause-none c = tt
+
+pub returns-then-scan-row-clause-kept : goal.returns-then-scan-row-clause-kept
+returns-then-scan-row-clause-kept c = entered-kept c.args.marks.now c.enter.new.marks (get_or c.row-row.result.now c.scan_row-scan.result.next 0) (length c.args.stack.now.items) c.in_ok-inner.ensures.marks
+
 pub returns-then-scan-frame-clause-going : goal.returns-then-scan-frame-clause-going
 returns-then-scan-frame-clause-going c =
     let part = c.row-row.ensures.part in
@@ -40,6 +69,24 @@ returns-then-scan-frame-clause-going c =
     rw c.lowered.ensures
     (merged c.args.graph.now.edges (length c.args.graph.now.nodes) part.in_range part.few c.args.stack.now.items c.args.marks.now c.args.labels.now c.args.rows.now f c.take_last.result (reverse c.take_last.new.self.items)
     c.scan_row-scan.result.next c.scan_row-scan.result.low going scan (omega (arith, c.if-scan-row.false, ap length c.row-row.ensures.row)) (omega arith))
+
+pub returns-then-scan-frame-clause-none : goal.returns-then-scan-frame-clause-none
+returns-then-scan-frame-clause-none c = tt
+
+pub returns-then-scan-frame-clause-less : goal.returns-then-scan-frame-clause-less
+returns-then-scan-frame-clause-less c = omega (arith, ap length c.take_last.ensures.items, length_push c.take_last.new.self.items c.take_last.result)
+
+pub returns-then-scan-frame-clause-kept : goal.returns-then-scan-frame-clause-kept
+returns-then-scan-frame-clause-kept c = λ x n. n
+
+pub close-requires-clause-at : goal.close-requires-clause-at
+close-requires-clause-at c = omega (arith, c.requires.going.segments.0.below)
+
+pub close-requires-clause-few : goal.close-requires-clause-few
+close-requires-clause-few c = omega (arith, c.requires.going.sorted.room, c.row-row.ensures.part.few)
+
+pub close-requires-clause-placed : goal.close-requires-clause-placed
+close-requires-clause-placed c = λ k lt. (c.requires.going.sorted.placed k lt).1
 
 pub close-requires-clause-marks : goal.close-requires-clause-marks
 close-requires-clause-marks c = λ k d lt.
@@ -72,3 +119,9 @@ returns-clause-less c =
     c.args.frame (reverse c.args.frames.now.items) c.scan_row-scan.result.next c.scan_row-scan.result.low c.requires.going scan
     (omega (arith, c.if-scan-row.false, ap length c.row-row.ensures.row)) c.if-scan-frame.false (omega arith) (omega arith) c.in_ok-close.ensures.taken c.in_ok-close.ensures.others).1 in
     omega (arith, fewer, popped-length c.args.frames.now.items c.pop.new.self.items c.pop.result c.pop.ensures.items)
+
+pub returns-clause-kept : goal.returns-clause-kept
+returns-clause-kept c =
+    let o = c.requires.going.sorted in
+    closed-kept c.args.frame.at c.args.stack.now.items c.args.marks.now c.close.new.marks (omega (arith, o.room, c.row-row.ensures.part.few)) o.known
+    (λ k a b. (c.in_ok-close.ensures.taken k a b).0) (λ x out. (c.in_ok-close.ensures.others x out).0)

@@ -1,6 +1,6 @@
 -- The class is the part of the stack from its place up; every other node with a place lies below it.
-use Rattle.std.proofs.Common.{◌≡◌, ◌+◌, ℕ, length, drop, get_or, refl, sym, ◌∙◌, ap, arith, inl, inr}
-use Rattle.std.proofs.lemmas.List.Elements.{All-contains}
+use Rattle.std.proofs.Common.{◌≡◌, ◌+◌, ◌<◌, ℕ, length, drop, get_or, refl, sym, ◌∙◌, ap, arith, inl, inr}
+use Rattle.std.proofs.lemmas.List.Elements.{All-contains, All-drop}
 use Rattle.std.proofs.lemmas.Slice.{between_to_end}
 use Rattle.component_pass.specs.Tarjan.{done_mark}
 use Rattle.component_pass.proofs.Strong.{to_drop, from_drop}
@@ -22,3 +22,15 @@ returns-clause-others c = λ x out.
     let p = c.requires.placed k.0 k.2 in
     let m : get_or c.args.marks.now x 0 ≡ k.0 + 1 = ap (λ (y : ℕ). get_or c.args.marks.now y 0) (sym k.3) ∙ p in
     elim out [ inl l ↦ absurd (omega (arith, l, m, k.1)) | inr l ↦ absurd (omega (arith, l, m, k.2)) ])
+
+pub settle-requires-clause-marks : goal.settle-requires-clause-marks
+settle-requires-clause-marks c = rw (between_to_end c.deref.result.now c.args.at (length c.deref.result.now) (omega arith), c.deref.ensures.value) (All-drop (λ x. x < length c.args.marks.now) c.args.at c.args.stack.now.items c.requires.marks)
+
+pub settle-requires-clause-labels : goal.settle-requires-clause-labels
+settle-requires-clause-labels c = rw (between_to_end c.deref.result.now c.args.at (length c.deref.result.now) (omega arith), c.deref.ensures.value) (All-drop (λ x. x < length c.args.labels.now) c.args.at c.args.stack.now.items c.requires.labels)
+
+pub returns-clause-stack : goal.returns-clause-stack
+returns-clause-stack c = c.truncate.ensures.items
+
+pub returns-clause-rows : goal.returns-clause-rows
+returns-clause-rows c = rw (between_to_end c.deref.result.now c.args.at (length c.deref.result.now) (omega arith), c.deref.ensures.value) at c.in_ok-push.ensures.lists

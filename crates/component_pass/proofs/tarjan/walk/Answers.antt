@@ -22,3 +22,29 @@ loop-current-init c =
         | inr ne ↦ n (sym (ap (λ (xs : List ℕ). get_or xs x 0) c.in_ok-enter.ensures.marks ∙ get_or-set_other marks root x (length stack + 1) 0 ne) ∙ z)
       ];
     }
+
+pub loop-current-preserved : goal.loop-current-preserved
+loop-current-preserved c =
+    let i = c.loop-current.invariant in
+    let e = c.in_ok-current.ensures in
+    record { going = e.going; none = e.none; root = e.kept c.args.root i.root; kept = λ x n. e.kept x (i.kept x n) }
+
+pub loop-current-smaller : goal.loop-current-smaller
+loop-current-smaller c = rw c.in-Some.is (omega (arith, c.in_ok-current.ensures.less))
+
+pub advance-requires : goal.advance-requires
+advance-requires c = record { going = rw c.in-Some.is at c.loop-current.invariant.going }
+
+pub returns-clause-going : goal.returns-clause-going
+returns-clause-going c =
+    let none = rw c.in_default.is at c.loop-current.invariant in
+    rw none.none at none.going
+
+pub returns-clause-frames : goal.returns-clause-frames
+returns-clause-frames c = rw c.in_default.is at c.loop-current.invariant.none
+
+pub returns-clause-root : goal.returns-clause-root
+returns-clause-root c = c.loop-current.invariant.root
+
+pub returns-clause-kept : goal.returns-clause-kept
+returns-clause-kept c = c.loop-current.invariant.kept

@@ -14,3 +14,15 @@ returns-clause-lists c =
     let start : c.len-start.result ≡ length c.self.inside.items.items = omega arith in
     rw (← c.self.view_is, c.append.ensures, c.push_reserved.ensures.items, c.reserve.ensures.items, c.reserve-2.ensures.items, start, length_push)
     (packed_rows-more c.self.inside.starts.items c.self.inside.items.items c.args.row.now (length c.self.inside.starts.items) refl c.self.invariant)
+
+pub invariant_of-self : goal.invariant_of-self
+invariant_of-self c = rw c.in_err-reserve.ensures.items c.self.invariant
+
+pub invariant_of-self-in_err-reserve-2 : goal.invariant_of-self-in_err-reserve-2
+invariant_of-self-in_err-reserve-2 c = rw (c.in_ok-reserve.ensures.items, c.in_err-reserve-2.ensures.items) c.self.invariant
+
+pub invariant_of-self-then-start-gt-MOST_ELEMENTS : goal.invariant_of-self-then-start-gt-MOST_ELEMENTS
+invariant_of-self-then-start-gt-MOST_ELEMENTS c = rw (c.in_ok-reserve.ensures.items, c.in_ok-reserve-2.ensures.items) c.self.invariant
+
+pub returns-clause-err : goal.returns-clause-err
+returns-clause-err c = tt
