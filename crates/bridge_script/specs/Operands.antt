@@ -1,8 +1,9 @@
 -- The operands that stand at the places of a line, the texts of which are the line's words, and the act that an
 -- operation with operands is. Nothing outside of this crate rests on them.
-use Rattle.std.specs.Prelude.{min, ◌≡◌, ◌≢◌, ℕ, ◌≤◌, ◌^◌, ◌<◌, ◌++◌, List, [], ◌∷◌, length, map, decimal, Option, Some, None, Result, Ok, Err, MatchResult, cond, leb}
+use Rattle.std.specs.Prelude.{min, ◌≡◌, ◌≢◌, ℕ, ◌≤◌, ◌^◌, ◌<◌, ◌++◌, List, [], ◌∷◌, length, map, decimal, Option, Some, None, option_map, Result, Ok, Err, MatchResult, cond, leb}
 use Rattle.joint_model.specs.declared.names.Kind.{Kind}
 use Rattle.joint_model.specs.declared.names.Kind.TheVariants as kind
+use Rattle.joint_model.specs.declared.names.StaticNo.{StaticNo}
 use Rattle.joint_model.specs.declared.lines.Act.{Act}
 use Rattle.joint_model.specs.declared.lines.Act.TheVariants as act
 use Rattle.joint_model.specs.Lines.{IsVar, IsVarOrNone, IsPlainObject, IsBridgeObject}
@@ -92,37 +93,66 @@ Notes (Err c) old new first now = (new ≡ old) × (now ≡ Some (earlier first 
 abbrev pub byte : ℕ → ℕ
 byte n = min n 255
 
+-- the act of an operation with no operand
+abbrev pub act_alone : Operation → Option Act
+act_alone operation.Collect = Some act.Collect
+act_alone operation.BeginMark = Some act.BeginMark
+act_alone operation.SweepMark = Some act.SweepMark
+act_alone (operation.Phase word) = Some (act.PhaseLine word)
+act_alone _ = None
+
+-- the act of an operation with one operand
+abbrev pub act_of_one : Operation → Operand → Option Act
+act_of_one operation.Drop (operand.Var v) = Some (act.Drop v)
+act_of_one operation.Take (operand.Var v) = Some (act.Take v)
+act_of_one operation.Dispose (operand.Var v) = Some (act.Dispose v)
+act_of_one operation.Handle (operand.Var v) = Some (act.Handle v)
+act_of_one operation.Read (operand.Cell k) = Some (act.Read k)
+act_of_one operation.Await (operand.Cell k) = Some (act.Await k)
+act_of_one operation.UnGlobal (operand.Global g) = Some (act.UnGlobal g)
+act_of_one operation.Slice (operand.Number n) = Some (act.Slice n)
+act_of_one operation.Finalise (operand.Number n) = Some (act.Finalise n)
+act_of_one _ _ = None
+
+-- the static of an operand, of whichever heap
+abbrev pub static_of : Operand → Option StaticNo
+static_of (operand.ManagedStatic x) = Some x
+static_of (operand.PeerStatic x) = Some x
+static_of _ = None
+
+-- the act of an operation with two operands
+abbrev pub act_of_two : Operation → Operand → Operand → Option Act
+act_of_two operation.Copy (operand.Var v) (operand.Var w) = Some (act.Copy v w)
+act_of_two operation.Load (operand.Var v) x = option_map (act.Load v) (static_of x)
+act_of_two operation.Store x (operand.VarOrNone v) = option_map (λ s. act.Store s v) (static_of x)
+act_of_two operation.Weak (operand.Cell k) (operand.Var v) = Some (act.Weak k v)
+act_of_two operation.Pass (operand.Var v) (operand.PeerStatic x) = Some (act.Pass v x)
+act_of_two operation.Surface (operand.Var v) (operand.PeerStatic x) = Some (act.Surface v x)
+act_of_two operation.NewPeer (operand.Var v) (operand.Number n) = Some (act.NewPeer v (byte n))
+act_of_two operation.Global (operand.Global g) (operand.Var v) = Some (act.Global g v)
+act_of_two operation.WGlobal (operand.Global g) (operand.Var v) = Some (act.WGlobal g v)
+act_of_two operation.WRead (operand.Var v) (operand.Global g) = Some (act.WRead v g)
+act_of_two _ _ _ = None
+
+-- the act of an operation with three operands
+abbrev pub act_of_three : Operation → Operand → Operand → Operand → Option Act
+act_of_three operation.New (operand.Var v) (operand.Kind k) (operand.Number n) = Some (act.New v k (byte n))
+act_of_three operation.Set (operand.Var v) (operand.Number i) (operand.VarOrNone w) = Some (act.Set v (byte i) w)
+act_of_three operation.Get (operand.Var v) (operand.Var w) (operand.Number i) = Some (act.Get v w (byte i))
+act_of_three _ _ _ _ = None
+
+-- the act of an operation with five operands
+abbrev pub act_of_five : Operation → Operand → Operand → Operand → Operand → Operand → Option Act
+act_of_five operation.Bridge (operand.Var v) (operand.Kind k) (operand.Number n) (operand.Sort s) (operand.Number f) = Some (act.Bridge v k (byte n) s (byte f))
+act_of_five _ _ _ _ _ _ = None
+
 -- the act of an operation with operands
 abbrev pub act_at : Operation → List Operand → Option Act
-act_at operation.New (operand.Var v ∷ operand.Kind k ∷ operand.Number n ∷ []) = Some (act.New v k (byte n))
-act_at operation.Bridge (operand.Var v ∷ operand.Kind k ∷ operand.Number n ∷ operand.Sort s ∷ operand.Number f ∷ []) = Some (act.Bridge v k (byte n) s (byte f))
-act_at operation.Copy (operand.Var v ∷ operand.Var w ∷ []) = Some (act.Copy v w)
-act_at operation.Set (operand.Var v ∷ operand.Number i ∷ operand.VarOrNone w ∷ []) = Some (act.Set v (byte i) w)
-act_at operation.Get (operand.Var v ∷ operand.Var w ∷ operand.Number i ∷ []) = Some (act.Get v w (byte i))
-act_at operation.Drop (operand.Var v ∷ []) = Some (act.Drop v)
-act_at operation.Load (operand.Var v ∷ operand.ManagedStatic x ∷ []) = Some (act.Load v x)
-act_at operation.Load (operand.Var v ∷ operand.PeerStatic x ∷ []) = Some (act.Load v x)
-act_at operation.Store (operand.ManagedStatic x ∷ operand.VarOrNone v ∷ []) = Some (act.Store x v)
-act_at operation.Store (operand.PeerStatic x ∷ operand.VarOrNone v ∷ []) = Some (act.Store x v)
-act_at operation.Weak (operand.Cell k ∷ operand.Var v ∷ []) = Some (act.Weak k v)
-act_at operation.Read (operand.Cell k ∷ []) = Some (act.Read k)
-act_at operation.Await (operand.Cell k ∷ []) = Some (act.Await k)
-act_at operation.Take (operand.Var v ∷ []) = Some (act.Take v)
-act_at operation.Pass (operand.Var v ∷ operand.PeerStatic x ∷ []) = Some (act.Pass v x)
-act_at operation.Surface (operand.Var v ∷ operand.PeerStatic x ∷ []) = Some (act.Surface v x)
-act_at operation.Dispose (operand.Var v ∷ []) = Some (act.Dispose v)
-act_at operation.Handle (operand.Var v ∷ []) = Some (act.Handle v)
-act_at operation.NewPeer (operand.Var v ∷ operand.Number n ∷ []) = Some (act.NewPeer v (byte n))
-act_at operation.Global (operand.Global g ∷ operand.Var v ∷ []) = Some (act.Global g v)
-act_at operation.WGlobal (operand.Global g ∷ operand.Var v ∷ []) = Some (act.WGlobal g v)
-act_at operation.UnGlobal (operand.Global g ∷ []) = Some (act.UnGlobal g)
-act_at operation.WRead (operand.Var v ∷ operand.Global g ∷ []) = Some (act.WRead v g)
-act_at operation.Collect [] = Some act.Collect
-act_at operation.BeginMark [] = Some act.BeginMark
-act_at operation.Slice (operand.Number n ∷ []) = Some (act.Slice n)
-act_at operation.SweepMark [] = Some act.SweepMark
-act_at (operation.Phase word) [] = Some (act.PhaseLine word)
-act_at operation.Finalise (operand.Number n ∷ []) = Some (act.Finalise n)
+act_at o [] = act_alone o
+act_at o (a ∷ []) = act_of_one o a
+act_at o (a ∷ b ∷ []) = act_of_two o a b
+act_at o (a ∷ b ∷ c ∷ []) = act_of_three o a b c
+act_at o (a ∷ b ∷ c ∷ d ∷ e ∷ []) = act_of_five o a b c d e
 act_at _ _ = None
 
 -- the act's kind allows what stands beside it

@@ -6,7 +6,7 @@ ghost use Rattle.joint_model.specs.declared.lines.Act.{Act};
 ghost use Rattle.bridge_script.specs.declared.grammar.Operation.{Operation};
 ghost use Rattle.bridge_script.specs.declared.grammar.Place.{Place};
 ghost use Rattle.bridge_script.specs.Grammar.{operation_text, form_of, is_built};
-ghost use Rattle.bridge_script.specs.Operands.{IsPossible, act_at};
+ghost use Rattle.bridge_script.specs.Operands.{IsPossible, act_at, act_alone, static_of, act_of_one, act_of_two, act_of_three, act_of_five};
 ghost use Rattle.bridge_script.specs.Steps.{ReadsLine};
 
 use crate::faults::Cause;
@@ -14,7 +14,7 @@ use crate::grammar::{Form, Operation, form_of, is_built};
 use crate::operands::{Operand, read_operands};
 use crate::stretches::Stretch;
 use crate::words::Words;
-use joint_model::{Act, Kind, Sort, Thread};
+use joint_model::{Act, Kind, Sort, StaticNo, Thread};
 
 /// The line that has this text, which is without its newline. Where there is no such line, the first of the causes
 /// that its words have: `Unknown`, `Arity`, `Name`, `Number`, `Limit` or `Kind`.
@@ -65,23 +65,132 @@ fn possible_act(operation: Operation, operands: &[Operand]) -> Option<Act>
 fn act_of(operation: Operation, operands: &[Operand]) -> Option<Act>
     ensures { result ≡ act_at operation operands.now }
 {
-    match (operation, operands) {
-        (Operation::New, &[Operand::Var(v), Operand::Kind(kind), Operand::Number(n)]) => Some(
+    match *operands {
+        [] => act_alone(operation),
+        [a] => act_of_one(operation, a),
+        [a, b] => act_of_two(operation, a, b),
+        [a, b, c] => act_of_three(operation, a, b, c),
+        [a, b, c, d, e] => act_of_five(operation, a, b, c, d, e),
+        _ => None,
+    }
+}
+
+// The act of an operation with no operand.
+fn act_alone(operation: Operation) -> Option<Act>
+    ensures { result ≡ act_alone operation }
+{
+    match operation {
+        Operation::Collect => Some(Act::Collect),
+        Operation::BeginMark => Some(Act::BeginMark),
+        Operation::SweepMark => Some(Act::SweepMark),
+        Operation::Phase(word) => Some(Act::PhaseLine { word }),
+        _ => None,
+    }
+}
+
+// The act of an operation with one operand.
+fn act_of_one(operation: Operation, a: Operand) -> Option<Act>
+    ensures { result ≡ act_of_one operation a }
+{
+    match (operation, a) {
+        (Operation::Drop, Operand::Var(v)) => Some(Act::Drop { v }),
+        (Operation::Take, Operand::Var(v)) => Some(Act::Take { v }),
+        (Operation::Dispose, Operand::Var(v)) => Some(Act::Dispose { v }),
+        (Operation::Handle, Operand::Var(v)) => Some(Act::Handle { v }),
+        (Operation::Read, Operand::Cell(k)) => Some(Act::Read { k }),
+        (Operation::Await, Operand::Cell(k)) => Some(Act::Await { k }),
+        (Operation::UnGlobal, Operand::Global(g)) => Some(Act::UnGlobal { g }),
+        (Operation::Slice, Operand::Number(n)) => Some(Act::Slice { n }),
+        (Operation::Finalise, Operand::Number(n)) => Some(Act::Finalise { n }),
+        _ => None,
+    }
+}
+
+// The act of an operation with two operands.
+fn act_of_two(operation: Operation, a: Operand, b: Operand) -> Option<Act>
+    ensures { result ≡ act_of_two operation a b }
+{
+    match (operation, a, b) {
+        (Operation::Copy, Operand::Var(v), Operand::Var(w)) => Some(Act::Copy { v, w }),
+        (Operation::Load, Operand::Var(v), x) => Some(Act::Load {
+            v,
+            x: static_of(x)?,
+        }),
+        (Operation::Store, x, Operand::VarOrNone(v)) => Some(Act::Store {
+            x: static_of(x)?,
+            v,
+        }),
+        (Operation::Weak, Operand::Cell(k), Operand::Var(v)) => Some(Act::Weak { k, v }),
+        (Operation::Pass, Operand::Var(v), Operand::PeerStatic(x)) => Some(Act::Pass { v, x }),
+        (Operation::Surface, Operand::Var(v), Operand::PeerStatic(x)) => Some(Act::Surface {
+            v,
+            x,
+        }),
+        (Operation::NewPeer, Operand::Var(v), Operand::Number(n)) => Some(Act::NewPeer {
+            v,
+            fields: byte(n),
+        }),
+        (Operation::Global, Operand::Global(g), Operand::Var(v)) => Some(Act::Global { g, v }),
+        (Operation::WGlobal, Operand::Global(g), Operand::Var(v)) => Some(Act::WGlobal { g, v }),
+        (Operation::WRead, Operand::Var(v), Operand::Global(g)) => Some(Act::WRead { v, g }),
+        _ => None,
+    }
+}
+
+// The static of an operand, of whichever heap.
+fn static_of(operand: Operand) -> Option<StaticNo>
+    ensures { result ≡ static_of operand }
+{
+    match operand {
+        Operand::ManagedStatic(x) => Some(x),
+        Operand::PeerStatic(x) => Some(x),
+        _ => None,
+    }
+}
+
+// The act of an operation with three operands.
+fn act_of_three(operation: Operation, a: Operand, b: Operand, c: Operand) -> Option<Act>
+    ensures { result ≡ act_of_three operation a b c }
+{
+    match (operation, a, b, c) {
+        (Operation::New, Operand::Var(v), Operand::Kind(kind), Operand::Number(n)) => Some(
             Act::New {
                 v,
                 kind,
                 fields: byte(n),
             },
         ),
+        (Operation::Set, Operand::Var(v), Operand::Number(i), Operand::VarOrNone(w)) => Some(
+            Act::Set { v, i: byte(i), w },
+        ),
+        (Operation::Get, Operand::Var(v), Operand::Var(w), Operand::Number(i)) => Some(Act::Get {
+            v,
+            w,
+            i: byte(i),
+        }),
+        _ => None,
+    }
+}
+
+// The act of an operation with five operands.
+fn act_of_five(
+    operation: Operation,
+    a: Operand,
+    b: Operand,
+    c: Operand,
+    d: Operand,
+    e: Operand,
+) -> Option<Act>
+    ensures { result ≡ act_of_five operation a b c d e }
+{
+    match (operation, a, b, c, d, e) {
         (
             Operation::Bridge,
-            &[
-                Operand::Var(v),
-                Operand::Kind(kind),
-                Operand::Number(n),
-                Operand::Sort(sort),
-                Operand::Number(f),
-            ],
+            Operand::Var(v),
+            Operand::Kind(kind),
+            Operand::Number(n),
+            Operand::Sort(sort),
+            Operand::Number(f),
         ) => Some(Act::Bridge {
             v,
             kind,
@@ -89,55 +198,6 @@ fn act_of(operation: Operation, operands: &[Operand]) -> Option<Act>
             sort,
             peer_fields: byte(f),
         }),
-        (Operation::Copy, &[Operand::Var(v), Operand::Var(w)]) => Some(Act::Copy { v, w }),
-        (Operation::Set, &[Operand::Var(v), Operand::Number(i), Operand::VarOrNone(w)]) => Some(
-            Act::Set { v, i: byte(i), w },
-        ),
-        (Operation::Get, &[Operand::Var(v), Operand::Var(w), Operand::Number(i)]) => Some(Act::Get {
-            v,
-            w,
-            i: byte(i),
-        }),
-        (Operation::Drop, &[Operand::Var(v)]) => Some(Act::Drop { v }),
-        (
-            Operation::Load,
-            &[
-                Operand::Var(v),
-                Operand::ManagedStatic(x) | Operand::PeerStatic(x),
-            ],
-        ) => Some(Act::Load { v, x }),
-        (
-            Operation::Store,
-            &[
-                Operand::ManagedStatic(x) | Operand::PeerStatic(x),
-                Operand::VarOrNone(v),
-            ],
-        ) => Some(Act::Store { x, v }),
-        (Operation::Weak, &[Operand::Cell(k), Operand::Var(v)]) => Some(Act::Weak { k, v }),
-        (Operation::Read, &[Operand::Cell(k)]) => Some(Act::Read { k }),
-        (Operation::Await, &[Operand::Cell(k)]) => Some(Act::Await { k }),
-        (Operation::Take, &[Operand::Var(v)]) => Some(Act::Take { v }),
-        (Operation::Pass, &[Operand::Var(v), Operand::PeerStatic(x)]) => Some(Act::Pass { v, x }),
-        (Operation::Surface, &[Operand::Var(v), Operand::PeerStatic(x)]) => Some(Act::Surface {
-            v,
-            x,
-        }),
-        (Operation::Dispose, &[Operand::Var(v)]) => Some(Act::Dispose { v }),
-        (Operation::Handle, &[Operand::Var(v)]) => Some(Act::Handle { v }),
-        (Operation::NewPeer, &[Operand::Var(v), Operand::Number(n)]) => Some(Act::NewPeer {
-            v,
-            fields: byte(n),
-        }),
-        (Operation::Global, &[Operand::Global(g), Operand::Var(v)]) => Some(Act::Global { g, v }),
-        (Operation::WGlobal, &[Operand::Global(g), Operand::Var(v)]) => Some(Act::WGlobal { g, v }),
-        (Operation::UnGlobal, &[Operand::Global(g)]) => Some(Act::UnGlobal { g }),
-        (Operation::WRead, &[Operand::Var(v), Operand::Global(g)]) => Some(Act::WRead { v, g }),
-        (Operation::Collect, &[]) => Some(Act::Collect),
-        (Operation::BeginMark, &[]) => Some(Act::BeginMark),
-        (Operation::Slice, &[Operand::Number(n)]) => Some(Act::Slice { n }),
-        (Operation::SweepMark, &[]) => Some(Act::SweepMark),
-        (Operation::Phase(word), &[]) => Some(Act::PhaseLine { word }),
-        (Operation::Finalise, &[Operand::Number(n)]) => Some(Act::Finalise { n }),
         _ => None,
     }
 }
