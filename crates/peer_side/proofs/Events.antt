@@ -1,6 +1,6 @@
 -- An event of the peers is the replay's: where the heap or the handles did the definition's own, the replay's reply and next state are
 -- those that the rows show. A handle that is issued comes into the table, and nothing else does.
-use Rattle.std.proofs.Common.{◌≡◌, ℕ, zero, suc, ◌+◌, ◌-◌, ◌≤◌, true, false, List, [], ◌∷◌, ◌++◌, length, Option, Some, None, refl, sym, ap, subst, ◌∙◌, arith}
+use Rattle.std.proofs.Common.{◌≡◌, ℕ, zero, suc, ◌+◌, ◌-◌, ◌≤◌, true, false, ◌||◌, List, [], ◌∷◌, ◌++◌, length, Option, Some, None, refl, sym, ap, subst, ◌∙◌, arith}
 use Rattle.std.specs.Prelude.{slice_get, slice_set}
 use Rattle.joint_model.specs.declared.names.GName.{GName}
 use Rattle.joint_model.specs.declared.names.HNum.{HNum}
@@ -70,15 +70,15 @@ goes-unnamed old g h n some s =
     let new : Rows = record old { names = slice_set old.names g None; table = numbered_set old.table h None; tabled = n } in
     rw (some, name_freed) (ap (λ t. answer says.Ok (record s { peers = peers_in new; table = t })) (table-still (with_rows s (record old { table = numbered_set old.table h None })) (peers_in new) refl))
 
-pub answers-pair : (old : Rows) (rows : HeapRows) (sorts : List Sort) (sort : Sort) (n : ℕ) (p : PNum) (h : HNum) → is_full old.rows.heap.fields ≡ false → is_full old.issued ≡ false → p.0 ≡ next_number old.rows.heap → h.0 ≡ length old.issued + 1
+pub answers-pair : (old : Rows) (rows : HeapRows) (sorts : List Sort) (sort : Sort) (n : ℕ) (p : PNum) (h : HNum) → (is_full old.rows.heap.fields || is_full old.issued) ≡ false → p.0 ≡ next_number old.rows.heap → h.0 ≡ length old.issued + 1
     → rows.heap ≡ with_object old.rows.heap n → sorts ≡ old.sorts ++ sort ∷ []
     → PeersAnswer old (pair_made (peers_in old) sort n) (says.Made p h) (record (issued_to old record { peer = p; hold = Held; strength = Strong }) { rows = rows; sorts = sorts })
-answers-pair old rows sorts sort n p h room left number next grown more =
+answers-pair old rows sorts sort n p h room number next grown more =
     let i : Issue = record { peer = p; hold = Held; strength = Strong } in
     let new : Rows = record (issued_to old i) { rows = rows; sorts = sorts } in
     let peer : p ≡ record { 0 = next_number old.rows.heap } = ap (λ (m : ℕ). (let q : PNum = record { 0 = m } in q)) number in
     let handle : h ≡ record { 0 = length old.issued + 1 } = ap (λ (m : ℕ). (let q : HNum = record { 0 = m } in q)) next in
-    record { peers = rw (room, left, grown, more, peer, handle) refl; table = sym (table-issued (with_rows opening_peer_replay old) (peers_in new) (issued_as i) refl) }
+    record { peers = rw (room, grown, more, peer, handle) refl; table = sym (table-issued (with_rows opening_peer_replay old) (peers_in new) (issued_as i) refl) }
 
 pub answers-gripped : (old : Rows) (x : ℕ) (p : PNum) (h : HNum) (sort : Sort) (n : ℕ) → slot old.rows.heap.statics x ≡ Some p.0 → is_full old.issued ≡ false → h.0 ≡ length old.issued + 1 → sort ≡ sort_of (peers_in old) p.0 → n ≡ length (fields_of old.rows.heap p.0)
     → PeersAnswer old (gripped (peers_in old) x) (says.Gripped p h sort n) (issued_to old record { peer = p; hold = Held; strength = Strong })

@@ -1,6 +1,6 @@
 -- No peer has more than 255 fields, and each has a sort: a peer is made with so many fields at most, and no event but a write touches a
 -- peer's fields, which keeps how many there are.
-use Rattle.std.proofs.Common.{◌≡◌, ℕ, zero, suc, ◌≤◌, List, [], ◌∷◌, ◌++◌, length, replicate, Option, Some, None, refl, sym, ap, subst, ◌∙◌, arith, length-append}
+use Rattle.std.proofs.Common.{◌≡◌, ℕ, zero, suc, ◌<◌, ◌≤◌, List, [], ◌∷◌, ◌++◌, length, replicate, Option, Some, None, refl, sym, ap, subst, ◌∙◌, arith, length-append}
 use Rattle.std.specs.Prelude.{All, nat_le, slice_get, if◌then◌else◌}
 use Rattle.std.proofs.Math.ListN.{set}
 use Rattle.std.proofs.lemmas.List.{length-set, length-replicate}
@@ -28,6 +28,10 @@ short-of h (suc k) short = by (slice_get h.fields k) refl
     by : (o : Option (List (Option ℕ))) → slice_get h.fields k ≡ o → length {A = Option ℕ} (elim o [ None ↦ [] | Some fs ↦ fs ]) ≤ 255
     by None e = omega arith
     by (Some fs) e = subst IsShort (get_or_from_slice_get h.fields k fs [] e) (All-get_or IsShort h.fields k [] (slice_get_within h.fields k fs e) short)
+
+-- how many fields a peer has fits a byte
+pub short-byte : (h : Heap) (x n : ℕ) → n ≡ length (fields_of h x) → AreShort h → n < 256
+short-byte h x n is short = omega (arith, is, short-of h x short)
 
 short-field : (h : Heap) (x i : ℕ) (y : Option ℕ) → AreShort h → AreShort (with_field h x i y)
 short-field h zero i y short = short

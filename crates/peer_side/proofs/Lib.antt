@@ -19,4 +19,6 @@ pub mod Grown
 pub mod Cycles
 pub mod Restoring
 pub mod Ending
+pub mod Failing
+pub mod Further
 mod Tabled

@@ -1,8 +1,8 @@
 // The peers with their sorts, slots and names, and the handles on them. Each call here is one event of the definition, without its entry.
 
-ghost use Rattle.std.specs.Prelude.{◌≡◌, ℕ, ◌+◌, ◌<◌, ◌≤◌, Some, None, IfOk, IsOk, OnErr, OnOk, length, count_by, is_some, ◌⊎◌, ◌↔◌, [], ◌∷◌, Contains, IsTrue};
+ghost use Rattle.std.specs.Prelude.{◌≡◌, ℕ, ◌+◌, ◌<◌, ◌≤◌, Some, None, IfOk, IsOk, OnErr, OnOk, length, count_by, is_some, vec_len, vec_capacity, ◌⊎◌, ◌↔◌, ◌||◌, ◌++◌, [], ◌∷◌, Contains, IsTrue, true, false};
 ghost use Rattle.std.specs.Option.{ForSome, option_map};
-ghost use Rattle.joint_model.specs.Heaps.{IsLive, answer, is_full, slot, numbered_at, numbered_set, copied, field_set, field_got, dropped, loaded, stored, place};
+ghost use Rattle.joint_model.specs.Heaps.{IsLive, answer, is_full, next_number, slot, with_object, numbered_at, numbered_set, copied, field_set, field_got, dropped, loaded, stored, place};
 ghost use Rattle.joint_model.specs.Histories.{peer_numbers};
 ghost use Rattle.joint_model.specs.Lines.{IsPeerThread, IsVar, IsVarOrNone};
 ghost use Rattle.joint_model.specs.Managed.{place_or_none};
@@ -13,7 +13,7 @@ ghost use Rattle.joint_model.specs.Walks.{Reached};
 ghost use Rattle.reachability.specs.Marks.{IsClosed, HasMark};
 ghost use Rattle.row_heap.specs.Marks.{EdgeOf};
 ghost use Rattle.peer_side.specs.Marks.{AreMarksSame, MarksNew, MarksBrought, MarksAfter};
-ghost use Rattle.global_handles.specs.Rows.{row_in, target_in};
+ghost use Rattle.global_handles.specs.Rows.{IsRising, fresh_row, row_in, target_in};
 ghost use Rattle.heap_rules.specs.Done.{say};
 ghost use Rattle.peer_side.specs.Rows.{PeersAnswer, AreTargetsLive, GoesBy, issued_to, number_of, row_as, strength_as, no_rows, peers_in, with_rows};
 ghost use Rattle.peer_side.specs.Steps.{IsPeerStep, IsRelease, ReleasesTabled, room_for};
@@ -197,6 +197,15 @@ impl PeerRows {
         self.issued.len() >= MOST_HANDLES
     }
 
+    // Whether no further peer can be made, or no further handle issued.
+    #[inline(always)]
+    fn pairs_full(&self) -> bool
+        ensures full { result ≡ (is_full self.now.rows.heap.fields || is_full self.now.issued) }
+        ensures left { result ≡ false → (length self.now.rows.heap.fields < 65535) × (length self.now.issued < 65535) }
+    {
+        self.heap.is_full() || self.handles_full()
+    }
+
     // Issues a handle on a live peer. Answers `AllocError` where there is no memory; all is then as before.
     fn issue(&mut self, p: PNum, hold: Hold, strength: Strength) -> Result<HNum, AllocError>
         requires { IsLive self.old.rows.heap p.0 }
@@ -231,11 +240,9 @@ impl PeerRows {
         if self.heap.is_full() {
             return Ok(Reply::Full);
         }
-        self.sorts.reserve(1)?;
-        let p = self.heap.add_object(fields)?;
-        self.heap.set_var(v, Some(p));
-        self.sorts.push_reserved(Sort::Framework);
-        Ok(Reply::P(PNum(p)))
+        let p = add_peer(&mut self.heap, &mut self.sorts, Sort::Framework, fields)?;
+        self.heap.set_var(v, Some(p.0));
+        Ok(Reply::P(p))
     }
 
     // The handle that a global name has.
@@ -291,25 +298,17 @@ impl PeerRows {
         ensures err { OnErr result (self.new ≡ self.old) }
     {
         self.heap.marks_len();
-        if self.heap.is_full() {
+        if self.pairs_full() {
             return Ok(Reply::Full);
         }
-        if self.handles_full() {
-            return Ok(Reply::Full);
-        }
-        self.sorts.reserve(1)?;
-        self.issued.reserve(1)?;
-        self.table.reserve(1)?;
-        let p = PNum(self.heap.add_object(fields)?);
-        let Ok(h) = self.table.make(p, Hold::Held, Strength::Strong) else {
-            unreachable!();
-        };
-        self.sorts.push_reserved(sort);
-        self.issued.push_reserved(Issue {
+        reserve_handle(&mut self.issued, &mut self.table)?;
+        let p = add_peer(&mut self.heap, &mut self.sorts, sort, fields)?;
+        let new = Issue {
             peer: p,
             hold: Hold::Held,
             strength: Strength::Strong,
-        });
+        };
+        let h = issue_reserved(&mut self.issued, &mut self.table, new);
         Ok(Reply::Made(p, h))
     }
 
@@ -499,6 +498,59 @@ impl PeerRows {
             Act::WRead { v, g } => Ok(self.read_name(place(caller, *v), g.0 as usize, is_open)),
             _ => unreachable!(),
         }
+    }
+}
+
+// Adds a peer of that sort with so many fields; it has a mark. Answers `AllocError` where there is no memory; all is then as before.
+#[inline(always)]
+fn add_peer(
+    heap: &mut RowHeap<PNum>,
+    sorts: &mut Vec<Sort>,
+    sort: Sort,
+    fields: u8,
+) -> Result<PNum, AllocError>
+    requires { length heap.old.heap.fields < 65535 }
+    ensures number { IfOk result (λ p. p.0 ≡ next_number heap.old.heap) }
+    ensures live { IfOk result (λ p. IsLive heap.new.heap p.0) }
+    ensures heap { OnOk result (heap.new ≡ record heap.old { heap = with_object heap.old.heap fields; marks = heap.old.marks ++ true ∷ []; links = heap.old.links ++ 0 ∷ [] }) }
+    ensures sorts { OnOk result (sorts.new.items ≡ sorts.old.items ++ sort ∷ []) }
+    ensures err { OnErr result ((heap.new ≡ heap.old) × (sorts.new.items ≡ sorts.old.items)) }
+{
+    sorts.reserve(1)?;
+    let p = heap.add_object(fields)?;
+    sorts.push_reserved(sort);
+    Ok(PNum(p))
+}
+
+// Takes the memory for one more handle.
+#[inline(always)]
+fn reserve_handle(issued: &mut Vec<Issue>, table: &mut HandleTable) -> Result<(), AllocError>
+    ensures issued { issued.new.items ≡ issued.old.items }
+    ensures room { OnOk result (vec_len issued.new < vec_capacity issued.new) }
+    ensures table { OnOk result (table.new ≡ record table.old { room = 1 }) }
+    ensures err { OnErr result (table.new ≡ table.old) }
+{
+    issued.reserve(1)?;
+    table.reserve(1)
+}
+
+// Issues a handle for which there is memory: it comes last, among those issued and in the table.
+#[inline(always)]
+fn issue_reserved(issued: &mut Vec<Issue>, table: &mut HandleTable, new: Issue) -> HNum
+    requires peer { new.peer.0 ≤ 65535 }
+    requires left { table.old.made < 65535 }
+    requires memory { vec_len issued.old < vec_capacity issued.old }
+    requires room { 1 ≤ table.old.room }
+    ensures number { result.0 ≡ table.old.made + 1 }
+    ensures rows { table.new.rows ≡ table.old.rows ++ fresh_row result new.peer new.hold new.strength ∷ [] }
+    ensures made { table.new.made ≡ table.old.made + 1 }
+    ensures rising { IsRising table.new }
+    ensures issued { issued.new.items ≡ issued.old.items ++ new ∷ [] }
+{
+    issued.push_reserved(new);
+    match table.make(new.peer, new.hold, new.strength) {
+        Ok(h) => h,
+        Err(_) => unreachable!(),
     }
 }
 

@@ -6,6 +6,7 @@ use Rattle.joint_model.specs.Draws.{numbered}
 use Rattle.joint_model.specs.Sides.{AreTaken, peer_rules}
 use Rattle.joint_model.proofs.SideLists.{AreTaken-push}
 use Rattle.peer_side.specs.Marks.{MarksAfter}
+use Rattle.peer_side.proofs.Failing.{no_value}
 use Rattle.peer_side.proofs.Sides.{IsSide-roomy, IsSide-step, side-goes, targets-live, marks-closed}
 use Rattle.peer_side.proofs.Steps.{releases-tabled, room-more}
 use Rattle.peer_side.specs.Mirrors.{owes}
@@ -75,3 +76,9 @@ invariant_of-self-in_err-reply g c =
           (omega (arith, c.self.invariant.0.room, room.kept)) room.limit c.self.invariant.0.refs_room c.self.invariant.0,
       subst (AreTaken peer_rules i.threads) (sym room.entries) c.self.invariant.1,
     )
+
+pub returns-in_err-make_room-clause-adds : goal.returns-in_err-make_room-clause-adds
+returns-in_err-make_room-clause-adds g c = no_value c.from_residual.result _ c.from_residual.ensures.0
+
+pub returns-in_err-reply-clause-adds : goal.returns-in_err-reply-clause-adds
+returns-in_err-reply-clause-adds g c = no_value c.from_residual-in_err-reply.result _ c.from_residual-in_err-reply.ensures.0

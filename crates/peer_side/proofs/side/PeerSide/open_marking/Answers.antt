@@ -10,6 +10,7 @@ use Rattle.peer_side.specs.Sides.{begins, state_with}
 use Rattle.joint_model.specs.Told.{nothing}
 use Rattle.peer_side.specs.Mirrors.{owes}
 use Rattle.peer_side.proofs.Ends.{ends-live, begin-still, begun-goes, own-goes, IsSide-begun}
+use Rattle.peer_side.proofs.Failing.{no_success, no_value}
 use Rattle.peer_side.proofs.Whole.{strong-live}
 use Rattle.peer_side.proofs.side.PeerSide.open_marking.Goals as goal
 
@@ -44,3 +45,9 @@ returns-clause-begun g c =
     let opens : OpenMarking = record { number = number; by = c.args.caller; from = c.len-from.result; begin = c.of-begin.result } in
     let goes = begun-goes i.rows c.mark.new.self opens i.markings i.mirroring i.entries.entries c.enter.new.entries.entries c.args.caller c.mark.ensures.rest refl refl c.len-from.ensures c.of-begin.ensures still i.marking c.args.index number closed refl c.requires.caller in
     rw (sym c.self.view_is, c.in_ok-room_to_mark.ensures.mirroring) (record { draws = draws; goes = own-goes i.rows c.mark.new.self i.marking opens i.markings (i.markings + 1) i.mirroring c.args.own i.entries.entries c.enter.new.entries.entries (begins c.args.caller c.args.index number) nothing goes; threads = refl })
+
+pub returns-in_err-room_to_mark-clause-begun : goal.returns-in_err-room_to_mark-clause-begun
+returns-in_err-room_to_mark-clause-begun g c = no_value c.from_residual.result _ c.from_residual.ensures.0
+
+pub returns-in_err-room_to_mark-clause-reserve : goal.returns-in_err-room_to_mark-clause-reserve
+returns-in_err-room_to_mark-clause-reserve g c = no_success c.from_residual.result _ c.from_residual.ensures.0

@@ -6,6 +6,7 @@ use Rattle.joint_model.specs.Draws.{numbered}
 use Rattle.joint_model.specs.Sides.{peer_rules}
 use Rattle.joint_model.proofs.SideLists.{AreTaken-push}
 use Rattle.peer_side.proofs.Ends.{IsSide-pass, pass-goes}
+use Rattle.peer_side.proofs.Failing.{no_success, no_value}
 use Rattle.peer_side.proofs.side.PeerSide.refuse.Goals as goal
 
 pub invariant_of-self-2 : goal.invariant_of-self-2
@@ -29,3 +30,9 @@ returns-clause-adds g c =
     let passes = rw (sym c.self.view_is) at c.requires.passes in
     let draws = rw c.in_ok-take_room.ensures.entries at c.enter.ensures.draws in
     rw (sym c.self.view_is) (record { draws = draws; goes = pass-goes i.rows i.marking i.markings i.mirroring i.entries c.enter.new.entries.entries draws.adds.number made c.self.invariant.0 draws.adds.added passes; threads = refl })
+
+pub returns-in_err-take_room-clause-reply : goal.returns-in_err-take_room-clause-reply
+returns-in_err-take_room-clause-reply g c = no_value c.from_residual.result _ c.from_residual.ensures.0
+
+pub returns-in_err-take_room-clause-adds : goal.returns-in_err-take_room-clause-adds
+returns-in_err-take_room-clause-adds g c = no_success c.from_residual.result _ c.from_residual.ensures.0
