@@ -1,3 +1,4 @@
+pub mod Failing
 pub mod Kept
 pub mod Goes
 pub mod Peers

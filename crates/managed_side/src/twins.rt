@@ -1,7 +1,7 @@
 // Objects that are made, the handles that they hold, and the registry of the peers' twins.
 
-ghost use Rattle.std.specs.Prelude.{◌≡◌, ℕ, ◌+◌, ◌<◌, ◌≤◌, List, ◌++◌, ◌∷◌, [], Some, None, IfOk, OnOk, OnErr, IfSome, length};
-ghost use Rattle.joint_model.specs.Heaps.{IsLive, MOST, answer, is_full, next_number, slot};
+ghost use Rattle.std.specs.Prelude.{◌≡◌, ℕ, ◌+◌, ◌<◌, ◌≤◌, List, ◌++◌, ◌∷◌, [], Some, None, IfOk, OnOk, OnErr, IfSome, length, true};
+ghost use Rattle.joint_model.specs.Heaps.{IsLive, MOST, answer, is_full, next_number, slot, with_object, with_var};
 ghost use Rattle.instance_registry.specs.Pairs.{PeersDistinct};
 ghost use Rattle.joint_model.specs.Managed.{handle_of, handle_reply, made_new, twin_fields, twin_kind, with_row};
 ghost use Rattle.joint_model.specs.ManagedReplay.{registered, with_twin};
@@ -12,6 +12,7 @@ ghost use Rattle.managed_side.specs.TwinEvents.{adopt_at, give_at, give_row, han
 use crate::rows::{Held, ManagedRows};
 use instance_registry::Registry;
 use joint_model::{HNum, Kind, MNum, PNum, Reply, Sort};
+use row_heap::RowHeap;
 use std::alloc::AllocError;
 
 impl ManagedRows {
@@ -30,14 +31,12 @@ impl ManagedRows {
         ensures err { OnErr result (self.new ≡ self.old) }
     {
         self.heap.marks_len();
-        self.infos.reserve(1)?;
-        let x = self.heap.add_object(fields)?;
-        self.heap.set_var(v, Some(x));
-        self.infos.push_reserved(Held {
+        let held = Held {
             kind,
             handle,
             peer: None,
-        });
+        };
+        let x = add_object(&mut self.heap, &mut self.infos, v, fields, held)?;
         Ok(x)
     }
 
@@ -107,22 +106,18 @@ impl ManagedRows {
     {
         self.heap.marks_len();
         let next = self.heap.made() + 1;
-        self.infos.reserve(1)?;
         self.registry.add(p, MNum(next))?;
-        match self.heap.add_object(fields) {
+        let held = Held {
+            kind,
+            handle: Some(h.0),
+            peer: Some(p.0),
+        };
+        match add_object(&mut self.heap, &mut self.infos, v, fields, held) {
             Err(error) => {
                 self.registry.forget(p);
                 Err(error)
             }
-            Ok(x) => {
-                self.heap.set_var(v, Some(x));
-                self.infos.push_reserved(Held {
-                    kind,
-                    handle: Some(h.0),
-                    peer: Some(p.0),
-                });
-                Ok(x)
-            }
+            Ok(x) => Ok(x),
         }
     }
 
@@ -268,6 +263,30 @@ impl ManagedRows {
             Some(x) => self.give_row(x),
         }
     }
+}
+
+// Adds an object with so many fields, which the variable names, and what stands beside it. Answers `AllocError` where there is no memory; all is
+// then as before.
+#[inline(always)]
+fn add_object(
+    heap: &mut RowHeap<MNum>,
+    infos: &mut Vec<Held>,
+    v: usize,
+    fields: u8,
+    held: Held,
+) -> Result<u32, AllocError>
+    requires v { v < 72 }
+    requires few { length heap.old.heap.fields < MOST }
+    ensures number { IfOk result (λ x. x ≡ next_number heap.old.heap) }
+    ensures heap { OnOk result (heap.new ≡ record heap.old { heap = with_var (with_object heap.old.heap fields) v (Some (next_number heap.old.heap)); marks = heap.old.marks ++ true ∷ []; links = heap.old.links ++ 0 ∷ [] }) }
+    ensures infos { OnOk result (infos.new.items ≡ infos.old.items ++ held ∷ []) }
+    ensures err { OnErr result ((heap.new ≡ heap.old) × (infos.new.items ≡ infos.old.items)) }
+{
+    infos.reserve(1)?;
+    let x = heap.add_object(fields)?;
+    heap.set_var(v, Some(x));
+    infos.push_reserved(held);
+    Ok(x)
 }
 
 // Takes the pair of a peer out, if there is one.

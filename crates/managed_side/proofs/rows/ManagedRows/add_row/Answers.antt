@@ -2,20 +2,21 @@
 use Rattle.std.proofs.Common.{◌∙◌, ap, refl}
 use Rattle.row_heap.specs.Rows.{HeapRows}
 use Rattle.managed_side.proofs.Dues.{AreDues-object}
+use Rattle.managed_side.proofs.Failing.{no_value}
 use Rattle.managed_side.proofs.Peers.{ArePeers-row}
 use Rattle.managed_side.proofs.rows.ManagedRows.add_row.Goals as goal
 
 pub invariant_of-self : goal.invariant_of-self
-invariant_of-self c = rw c.in_err-reserve.ensures.items c.self.invariant
+invariant_of-self c = rw (c.in_err-x.ensures.err.1, c.in_err-x.ensures.err.0) c.self.invariant
 
-pub invariant_of-self-in_err-x : goal.invariant_of-self-in_err-x
-invariant_of-self-in_err-x c = rw (c.in_ok-reserve.ensures.items, c.in_err-x.ensures.err) c.self.invariant
+pub returns-in_err-x-clause-number : goal.returns-in_err-x-clause-number
+returns-in_err-x-clause-number c = no_value c.from_residual.result _ c.from_residual.ensures.0
 
 pub invariant_of-self-2 : goal.invariant_of-self-2
 invariant_of-self-2 c =
-    let is = rw c.in_ok-x.ensures.ok at c.set_var.ensures in (
-      rw (c.push_reserved.ensures.items, c.in_ok-reserve.ensures.items) (ArePeers-row c.self.inside.registry c.self.inside.infos.items _ refl c.self.invariant.0),
+    let is = c.in_ok-x.ensures.heap in (
+      rw c.in_ok-x.ensures.infos (ArePeers-row c.self.inside.registry c.self.inside.infos.items _ refl c.self.invariant.0),
       ap (λ (v : HeapRows). v.refs) is ∙ c.self.invariant.1,
       ap (λ (v : HeapRows). v.follows) is ∙ c.self.invariant.2,
-      AreDues-object c.self.inside.cycle c.self.inside.heap c.set_var.new.self c.self.inside.notices.spare _ _ _ c.marks_len.ensures is c.self.invariant.3,
+      AreDues-object c.self.inside.cycle c.self.inside.heap c.add_object.new.heap c.self.inside.notices.spare _ _ _ c.marks_len.ensures is c.self.invariant.3,
     )

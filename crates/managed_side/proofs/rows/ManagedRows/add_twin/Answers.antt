@@ -6,18 +6,19 @@ use Rattle.instance_registry.proofs.Pairs.{without-push}
 use Rattle.row_heap.specs.Rows.{HeapRows}
 use Rattle.managed_side.specs.declared.rows.Held.{Held}
 use Rattle.managed_side.proofs.Dues.{AreDues-object}
+use Rattle.managed_side.proofs.Failing.{no_value}
 use Rattle.managed_side.proofs.Given.{alone-twin}
 use Rattle.managed_side.proofs.Peers.{ArePeers-pair}
 use Rattle.managed_side.proofs.rows.ManagedRows.add_twin.Goals as goal
 
-pub invariant_of-self : goal.invariant_of-self
-invariant_of-self c = rw c.in_err-reserve.ensures.items c.self.invariant
-
 pub add-requires : goal.add-requires
 add-requires c = alone-twin c.self.inside.registry c.args.p (rw (← c.self.view_is) at c.requires.alone)
 
-pub invariant_of-self-in_err-add : goal.invariant_of-self-in_err-add
-invariant_of-self-in_err-add c = rw (c.in_err-add.ensures.err, c.in_ok-reserve.ensures.items) c.self.invariant
+pub invariant_of-self : goal.invariant_of-self
+invariant_of-self c = rw c.in_err-add.ensures.err c.self.invariant
+
+pub returns-in_err-add-clause-number : goal.returns-in_err-add-clause-number
+returns-in_err-add-clause-number c = no_value c.from_residual.result _ c.from_residual.ensures.0
 
 pub invariant_of-self-in-Err : goal.invariant_of-self-in-Err
 invariant_of-self-in-Err c =
@@ -25,7 +26,7 @@ invariant_of-self-in-Err c =
     let pushed = c.in_ok-add.ensures.ok in
     let alone = rw (← c.self.view_is) at c.requires.alone in
     let back : c.forget.new.self ≡ ps = c.forget.ensures.pairs ∙ (ap (λ z. without z c.args.p) pushed ∙ without-push ps c.args.p record { 0 = c.made-next.result + 1 } (alone-twin ps c.args.p alone)) in
-    rw (back, c.in_ok-reserve.ensures.items, c.in-Err.ensures.err) c.self.invariant
+    rw (back, c.in-Err.ensures.err.1, c.in-Err.ensures.err.0) c.self.invariant
 
 pub returns-in-Err-clause-err : goal.returns-in-Err-clause-err
 returns-in-Err-clause-err c =
@@ -33,7 +34,7 @@ returns-in-Err-clause-err c =
     let pushed = c.in_ok-add.ensures.ok in
     let alone = rw (← c.self.view_is) at c.requires.alone in
     let back : c.forget.new.self ≡ ps = c.forget.ensures.pairs ∙ (ap (λ z. without z c.args.p) pushed ∙ without-push ps c.args.p record { 0 = c.made-next.result + 1 } (alone-twin ps c.args.p alone)) in
-    rw (back, c.in_ok-reserve.ensures.items, c.in-Err.ensures.err) c.self.view_is
+    rw (back, c.in-Err.ensures.err.1, c.in-Err.ensures.err.0) c.self.view_is
 
 pub invariant_of-self-in-Ok : goal.invariant_of-self-in-Ok
 invariant_of-self-in-Ok c =
@@ -41,9 +42,9 @@ invariant_of-self-in-Ok c =
     let infos = c.self.inside.infos.items in
     let places = (rw (← c.self.view_is) at c.requires.kept).1.managed.places in
     let next : c.made-next.result + 1 ≡ length infos + 1 = omega (arith, c.made-next.ensures.made, places, length-map infos (λ (j : Held). j.handle)) in
-    let is = rw c.in-Ok.ensures.ok at c.set_var.ensures in (
-      rw (c.push_reserved.ensures.items, c.in_ok-reserve.ensures.items, pushed) (ArePeers-pair c.self.inside.registry infos _ c.args.p record { 0 = c.made-next.result + 1 } refl next c.self.invariant.0),
+    let is = c.in-Ok.ensures.heap in (
+      rw (c.in-Ok.ensures.infos, pushed) (ArePeers-pair c.self.inside.registry infos _ c.args.p record { 0 = c.made-next.result + 1 } refl next c.self.invariant.0),
       ap (λ (v : HeapRows). v.refs) is ∙ c.self.invariant.1,
       ap (λ (v : HeapRows). v.follows) is ∙ c.self.invariant.2,
-      AreDues-object c.self.inside.cycle c.self.inside.heap c.set_var.new.self c.self.inside.notices.spare _ _ _ c.marks_len.ensures is c.self.invariant.3,
+      AreDues-object c.self.inside.cycle c.self.inside.heap c.add_object.new.heap c.self.inside.notices.spare _ _ _ c.marks_len.ensures is c.self.invariant.3,
     )

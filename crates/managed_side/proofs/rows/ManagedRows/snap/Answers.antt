@@ -10,6 +10,7 @@ use Rattle.row_heap.specs.Rows.{HeapRows}
 use Rattle.managed_side.specs.Dues.{HasDue}
 use Rattle.managed_side.specs.Rows.{rows_of}
 use Rattle.managed_side.specs.Snapping.{TakesSnapshot}
+use Rattle.managed_side.proofs.Failing.{no_value}
 use Rattle.managed_side.proofs.PreparedSnapshots.{prepared-free, pins-left, prepared-due, takes-prepared}
 use Rattle.managed_side.proofs.rows.ManagedRows.snap.Goals as goal
 
@@ -67,3 +68,9 @@ returns-clause-snapshot c =
     (takes-prepared i.heap.heap c.mark_slots.new.heap.heap i.infos.items i.registry i.cells i.pins i.notices c.prepare.new.notices i.cycle _ i.cycles i.contracted c.prepare.new.heap freed found.candidates.items found.dead.items (c.made.result - c.live.result) c.len-count.result c.in_ok-found.field-0.graph
     closed c.in_ok-found.ensures.prepares (ap (λ (v : HeapRows). v.heap) c.mark_slots.ensures.rest ∙ heap-is) c.prepare.ensures.queued c.prepare.ensures.taken refl
     (omega (arith, c.made.ensures.made, c.live.ensures)) (omega (arith, c.len-count.ensures, found.candidates.ok)) c.in_ok-found.ensures.nodes c.in_ok-found.ensures.edges)
+
+pub returns-in_err-found-clause-snapshot : goal.returns-in_err-found-clause-snapshot
+returns-in_err-found-clause-snapshot c = no_value c.from_residual.result _ c.from_residual.ensures.0
+
+pub returns-in_err-found-clause-few : goal.returns-in_err-found-clause-few
+returns-in_err-found-clause-few c = no_value c.from_residual.result _ c.from_residual.ensures.0

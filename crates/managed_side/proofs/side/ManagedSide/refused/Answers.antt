@@ -8,6 +8,7 @@ use Rattle.joint_model.specs.Sides.{managed_rules}
 use Rattle.joint_model.specs.Told.{phase_of}
 use Rattle.joint_model.proofs.SideLists.{AreTaken-push}
 use Rattle.managed_side.specs.Steps.{step_made}
+use Rattle.managed_side.proofs.Failing.{no_value}
 use Rattle.managed_side.proofs.Goes.{side-goes, side-replayed, same-answers, HasRoom-two}
 use Rattle.managed_side.proofs.side.ManagedSide.refused.Goals as goal
 
@@ -25,3 +26,6 @@ invariant_of-self-2 g c =
       HasRoom-two i.rows c.enter.new.entries.spare room,
       AreTaken-push managed_rules i.threads i.entries.entries c.enter.new.entries.entries draws.adds.number made tt draws.adds.added c.self.invariant.2,
     )
+
+pub returns-in_err-reserve-clause-adds : goal.returns-in_err-reserve-clause-adds
+returns-in_err-reserve-clause-adds g c = no_value c.from_residual.result _ c.from_residual.ensures.0

@@ -6,6 +6,7 @@ use Rattle.joint_model.specs.Told.{nothing}
 use Rattle.joint_model.proofs.SideLists.{AreTaken-push}
 use Rattle.managed_side.specs.Sides.{state_of}
 use Rattle.managed_side.specs.Steps.{step_made, adopted_in}
+use Rattle.managed_side.proofs.Failing.{no_value}
 use Rattle.managed_side.proofs.Goes.{side-goes, side-replayed, step-of, step-allowed, kept-rows, may-set, may-target, HasRoom-two}
 use Rattle.managed_side.proofs.side.ManagedSide.step.Goals as goal
 
@@ -46,3 +47,9 @@ returns-clause-adds g c =
     let goes = side-goes i.entries.entries c.enter.new.entries.entries i.rows c.step.new.self draws.adds.number made nothing (step-of c.args.caller c.args.index c.args.op.now c.in_ok-reply.reply c.args.cites c.requires.event)
     (step-allowed s c.args.caller c.args.op.now c.requires.event.1 fresh) draws.adds.added c.in_ok-reply.ensures.answer in
     rw (← c.self.view_is) (record { draws = draws; goes = goes; threads = refl })
+
+pub returns-in_err-reserve-clause-adds : goal.returns-in_err-reserve-clause-adds
+returns-in_err-reserve-clause-adds g c = no_value c.from_residual.result _ c.from_residual.ensures.0
+
+pub returns-in_err-reply-clause-adds : goal.returns-in_err-reply-clause-adds
+returns-in_err-reply-clause-adds g c = no_value c.from_residual-in_err-reply.result _ c.from_residual-in_err-reply.ensures.0
