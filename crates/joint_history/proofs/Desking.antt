@@ -11,6 +11,7 @@ use Rattle.joint_model.specs.Lines.{IsThread}
 use Rattle.order_table.specs.declared.views.View.{View}
 use Rattle.order_table.specs.Facts.{line_entries}
 use Rattle.order_table.specs.Tells.{IsOfCaller, Parts}
+use Rattle.order_table.specs.Views.{OwnsAll}
 use Rattle.joint_history.specs.Callers.{CallerKnows, HasReleased, KnowsNothing, Pass}
 use Rattle.joint_history.specs.Desks.{AreAll, ArePlaced, HoldsFrom, WaitsAt, thread_of}
 use Rattle.joint_model.proofs.Deciding.{some-same}
@@ -47,6 +48,17 @@ lines_apart C (M m) i a b e (inl f) = let y = b.0 in absurd (omega arith)
 lines_apart C (M m) i a b e (inr f) = let y = b.1 in absurd (omega arith)
 lines_apart C (P m) i a b e f = let y = b.0 in absurd (omega arith)
 lines_apart C C i a b e f = refl
+
+-- the lines of a thread are among all lines
+caller_within : (t : Thread) (i : ℕ) → IsThread t → IsOfCaller t i → i < 27
+caller_within (M n) i a (inl e) = let x = a.1 in omega arith
+caller_within (M n) i a (inr e) = let x = a.1 in omega arith
+caller_within (P n) i a e = let x = a.1 in omega arith
+caller_within C i a e = omega arith
+
+-- who owns all lines holds the passes of all threads
+pub holds_all : (v : View) → OwnsAll v → HoldsFrom 0 v
+holds_all v all j low few i q = all i (caller_within (thread_of j) i (thread_is j few).0 q)
 
 -- after a place's lines went, those of the later places are still held
 pub holds_on : (n : ℕ) (old left right : View) → n < 17 → HoldsFrom n old → Parts (IsOfCaller (thread_of n)) old left right → HoldsFrom (n + 1) left

@@ -6,7 +6,7 @@ ghost use Rattle.joint_model.specs.Lines.{IsDriver, IsThread};
 ghost use Rattle.joint_model.specs.Linked.{IsLinked};
 ghost use Rattle.known_laws.specs.Lists.{made_by};
 ghost use Rattle.peer_side.specs.Sides.{seen};
-ghost use Rattle.order_table.specs.Views.{OwnsAll};
+ghost use Rattle.order_table.specs.Views.{Owns, OwnsAll};
 ghost use Rattle.joint_history.specs.Callers.{Hears, KnowsNothing, Tells};
 ghost use Rattle.joint_history.specs.Desks.{AreAll};
 ghost use Rattle.joint_history.specs.Driven.{StillStands};
@@ -85,18 +85,40 @@ impl<N: OrderName, K: Keeps<N>> Shared<N, K> {
     {
         let mut seat = seat;
         let desk = Desk::new(alloc, &order, &mut seat, managed, peers)?;
+        let shared = Shared::with_seat(alloc, order, seat, managed, peers, holding)?;
+        Ok((shared, desk))
+    }
+
+    // Both sides, with a seat that owns the lists of both.
+    fn with_seat(
+        alloc: Global,
+        order: Order,
+        seat: Seat,
+        managed: u8,
+        peers: u8,
+        holding: Holding,
+    ) -> Result<Shared<N, K>, AllocError>
+        requires order { order ≡ N.order }
+        requires seat { (seat.order ≡ N.order) × Owns seat.view 0 × Owns seat.view 1 × KnowsNothing seat.view }
+        requires counts { (managed ≤ 8) × (peers ≤ 8) }
+        requires run { (managed ≡ N.managed) × (peers ≡ N.peers) }
+    {
+        let mut seat = seat;
         let peer_seat = order.share(&mut seat, Role::Peer);
         let left = LockedManaged::new(alloc, managed, seat, holding)?;
-        let right = LockedPeer::new(alloc, peers, peer_seat, holding)?;
-        Ok((
-            Shared {
-                alloc,
-                order,
-                managed: K::Managed::of(left),
-                peers: K::Peers::of(right),
-            },
-            desk,
-        ))
+        let right = match LockedPeer::new(alloc, peers, peer_seat, holding) {
+            Ok(right) => right,
+            Err(fault) => {
+                drop(left);
+                return Err(fault);
+            }
+        };
+        Ok(Shared {
+            alloc,
+            order,
+            managed: K::Managed::of(left),
+            peers: K::Peers::of(right),
+        })
     }
 
     /// Tells one caller all that another knows. It makes no entry, and takes no lock and no memory. Where the driver is told, it stands where
