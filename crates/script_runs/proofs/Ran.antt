@@ -68,8 +68,7 @@ threads_end script h d jobs callers can linked finished r all left owns none =
     held_by_threads_is_run script h finished
     (threads_hold_script script h d callers linked (λ line c. (All-contains IsRunnable script line can.each c).lawful) (ran_all script d jobs callers r all) owns none (ran-holds script jobs callers r) left)
 
--- so it is of what `finish` answers
-pub threads_give : {E : Type 0} (r : Result Finished E) (script : List (Thread × Act)) (d : Waiting) (jobs callers : List Pass) → CanRun script → AllRan script jobs callers → HasAll d jobs → NoneIsLeft script d
-    → IfOk r (λ h. IsLinked h) → IfOk r (λ h. IsFinished h) → IfOk r (λ h. All (HasOwn h.entries) callers) → IfOk r (λ h. (t : Thread) → IsThread t → StillWaits d t → made_by t h.entries ≡ []) → IfOk r (IsRunByThreads script)
-threads_give (Ok h) script d jobs callers can ran all left linked finished owns none = threads_end script h d jobs callers can linked finished ran all left owns none
-threads_give (Err e) script d jobs callers can ran all left linked finished owns none = tt
+-- what is so of each such history is so of the one that `finish` answers
+pub threads_give : {E : Type 0} (r : Result Finished E) (A B C D P : Finished → Type 0) → ((h : Finished) → A h → B h → C h → D h → P h) → IfOk r A → IfOk r B → IfOk r C → IfOk r D → IfOk r P
+threads_give (Ok h) A B C D P give a b c d = give h a b c d
+threads_give (Err e) A B C D P give a b c d = tt

@@ -1,9 +1,12 @@
 // The run of a script with one cycle more: the driver runs it once all threads have ended.
 
 ghost use Rattle.std.specs.Prelude.{◌≡◌, ◌+◌, ◌<◌, ◌≤◌, [], ◌∷◌, ◌++◌, IfOk, All, length};
-ghost use Rattle.joint_model.specs.Lines.{IsDriver};
+ghost use Rattle.joint_model.specs.declared.names.Thread.{Thread};
+ghost use Rattle.joint_model.specs.Histories.{Finished};
+ghost use Rattle.joint_model.specs.Lines.{IsDriver, IsThread};
+ghost use Rattle.known_laws.specs.Lists.{made_by};
 ghost use Rattle.joint_history.specs.Callers.{KnowsNothing, last_index, own};
-ghost use Rattle.joint_history.specs.Ending.{HasIdleDriver, HasEndNumbers};
+ghost use Rattle.joint_history.specs.Ending.{HasAll, HasIdleDriver, HasOwn, HasEndNumbers, IsFinished, StillWaits};
 ghost use Rattle.order_table.specs.Views.{OwnsAll};
 ghost use Rattle.run_laws.specs.Final.{IsRunInOrder};
 ghost use Rattle.run_laws.specs.LastCycle.{DrivesCycles, EndsWithCycle, IsRunThenCycle, cycle_line};
@@ -15,7 +18,7 @@ use crate::threads::{all_ended, run_jobs};
 use crate::workers::workers;
 use bridge_cycle::Driver;
 use bridge_script::Turnstile;
-use joint_history::{Caller, Locks, RunEnd, Shared};
+use joint_history::{Caller, Desk, Locks, RunEnd, Shared};
 use joint_model::{Act, Holding, PhaseWord, Thread};
 use order_table::{Order, OrderName, Seat};
 use std::alloc::{AllocError, Global};
@@ -63,6 +66,33 @@ fn cycle_last<N: OrderName>(
     Ok(driver.retire())
 }
 
+// Runs a script and a cycle more by the callers of the desk, and answers those that were given out.
+fn run_by_desk<N: OrderName + Send + Sync, R: Threads + Wait + Sync, T: Turnstile + Sync>(
+    rt: &R,
+    alloc: Global,
+    shared: &Shared<N, Locks>,
+    desk: &mut Desk<N>,
+    script: &[(Thread, Act)],
+    turn: &T,
+) -> Result<Vec<Caller<N>>, AllocError>
+    requires all { HasAll desk.old [] }
+    requires counts { (desk.old.managed ≡ 8) × (desk.old.peers ≡ 8) }
+    requires lines { CanRun script.now }
+    requires room { length script.now < 65535 }
+    ensures all { IfOk result (λ v. HasAll desk.new v.items) }
+    ensures idle { IfOk result (λ v. All HasIdleDriver v.items) }
+    ensures ran { IfOk result (λ v. (h : Finished) → IsFinished h → All (HasOwn h.entries) v.items → ((t : Thread) → IsThread t → StillWaits desk.new t → made_by t h.entries ≡ []) → IsRunThenCycle script.now h) }
+{
+    let jobs = workers(alloc, desk, script)?;
+    let ended = run_jobs(rt, alloc, shared, script, turn, jobs)?;
+    let mut callers = all_ended(alloc, ended)?;
+    let driver = callers.remove(0);
+    let number = script.len() as u16 + 1;
+    let driver = cycle_last(rt, alloc, shared, number, driver, &mut callers)?;
+    callers.push(driver)?;
+    Ok(callers)
+}
+
 // Runs a script by the callers of one order, and a cycle more.
 fn run_named<N: OrderName + Send + Sync, R: Threads + Wait + Sync, T: Turnstile + Sync>(
     rt: &R,
@@ -81,14 +111,13 @@ fn run_named<N: OrderName + Send + Sync, R: Threads + Wait + Sync, T: Turnstile 
     ensures counted { IfOk result HasEndNumbers }
 {
     let (shared, mut desk) = Shared::<N, Locks>::new(alloc, order, seat, 8, 8, Holding::Last)?;
-    let jobs = workers(alloc, &mut desk, script)?;
-    let ended = run_jobs(rt, alloc, &shared, script, turn, jobs)?;
-    let mut callers = all_ended(alloc, ended)?;
-    let driver = callers.remove(0);
-    let number = script.len() as u16 + 1;
-    let driver = cycle_last(rt, alloc, &shared, number, driver, &mut callers)?;
-    callers.push(driver)?;
-    Ok(shared.end(desk, callers))
+    match run_by_desk(rt, alloc, &shared, &mut desk, script, turn) {
+        Ok(callers) => Ok(shared.end(desk, callers)),
+        Err(fault) => {
+            drop(shared);
+            Err(fault)
+        }
+    }
 }
 
 /// Runs the lines of each thread of a script in a thread of its own, as `run_threads` does; and once all of them have ended the driver hears of what

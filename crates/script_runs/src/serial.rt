@@ -125,6 +125,31 @@ fn run_all<N: OrderName>(
     Ok(last)
 }
 
+// Runs a script by the callers of the desk, and answers those that were given out.
+fn run_by_desk<N: OrderName>(
+    rt: &impl Wait,
+    alloc: Global,
+    shared: &Shared<N, Alone>,
+    desk: &mut Desk<N>,
+    script: &[(Thread, Act)],
+) -> Result<Vec<Caller<N>>, AllocError>
+    requires desk { (desk.old.managed ≡ 8) × (desk.old.peers ≡ 8) × AreAll desk.old.callers }
+    requires lines { CanRun script.now }
+    ensures all { IfOk result (λ v. HasAll desk.new v.items) }
+    ensures idle { IfOk result (λ v. All HasIdleDriver v.items) }
+    ensures ran { IfOk result (λ v. (h : Finished) → IsLinked h → IsFinished h → All (HasOwn h.entries) v.items → IsRunInOrder script.now h) }
+{
+    let Some(caller) = desk.caller(Thread::C) else {
+        unreachable!()
+    };
+    let mut driver = Driver::new(caller);
+    let mut others = all_others(alloc, desk)?;
+    let last = run_all(rt, alloc, shared, &mut driver, &mut others, script)?;
+    drive_left(rt, alloc, shared, &mut driver, last)?;
+    others.push(driver.retire())?;
+    Ok(others)
+}
+
 // Runs a script by the callers of one order, and answers both sides and the callers, of which each is given back or still at the desk.
 fn run_lines<N: OrderName>(
     rt: &impl Wait,
@@ -143,15 +168,13 @@ fn run_lines<N: OrderName>(
     ensures ran { IfOk result (λ r. (h : Finished) → IsLinked h → IsFinished h → All (HasOwn h.entries) r.2.items → IsRunInOrder script.now h) }
 {
     let (shared, mut desk) = Shared::<N, Alone>::new(alloc, order, seat, 8, 8, holding)?;
-    let Some(caller) = desk.caller(Thread::C) else {
-        unreachable!()
-    };
-    let mut driver = Driver::new(caller);
-    let mut others = all_others(alloc, &mut desk)?;
-    let last = run_all(rt, alloc, &shared, &mut driver, &mut others, script)?;
-    drive_left(rt, alloc, &shared, &mut driver, last)?;
-    others.push(driver.retire())?;
-    Ok((shared, desk, others))
+    match run_by_desk(rt, alloc, &shared, &mut desk, script) {
+        Ok(callers) => Ok((shared, desk, callers)),
+        Err(fault) => {
+            drop(shared);
+            Err(fault)
+        }
+    }
 }
 
 // Runs a script by the callers of one order, for its history.

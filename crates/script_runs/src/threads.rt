@@ -1,15 +1,20 @@
 // The run of a script by a thread of its own for each of its threads.
 
-ghost use Rattle.std.specs.Prelude.{◌≡◌, ◌<◌, ℕ, map, All, IfOk, Ok, slice_index_or, vec_len};
+ghost use Rattle.std.specs.Prelude.{◌≡◌, ◌<◌, ℕ, map, All, IfOk, Ok, [], slice_index_or, vec_len};
+ghost use Rattle.joint_model.specs.declared.names.Thread.{Thread};
+ghost use Rattle.joint_model.specs.Histories.{Finished};
+ghost use Rattle.joint_model.specs.Linked.{IsLinked};
 ghost use Rattle.joint_model.specs.Lines.{IsThread};
 ghost use Rattle.order_table.specs.Views.{OwnsAll};
 ghost use Rattle.joint_history.specs.Callers.{KnowsNothing};
+ghost use Rattle.joint_history.specs.Ending.{HasAll, HasIdleDriver, HasOwn, IsFinished, StillWaits};
+ghost use Rattle.known_laws.specs.Lists.{made_by};
 ghost use Rattle.run_laws.specs.Final.{IsRunByThreads};
 ghost use Rattle.script_runs.specs.Running.{CanRun, EndsSo};
 
 use crate::workers::{run_thread, workers};
 use bridge_script::Turnstile;
-use joint_history::{Caller, Locks, Shared};
+use joint_history::{Caller, Desk, Locks, Shared};
 use joint_model::{Act, History, Holding, Thread};
 use order_table::{Order, OrderName, Seat};
 use std::alloc::{AllocError, Global};
@@ -56,6 +61,28 @@ pub(crate) fn run_jobs<N: OrderName + Send + Sync, R: Threads + Wait + Sync, T: 
     )
 }
 
+// Runs the lines of each thread in a thread of its own, by the callers of the desk, and answers those that were given out.
+fn run_by_desk<N: OrderName + Send + Sync, R: Threads + Wait + Sync, T: Turnstile + Sync>(
+    rt: &R,
+    alloc: Global,
+    shared: &Shared<N, Locks>,
+    desk: &mut Desk<N>,
+    script: &[(Thread, Act)],
+    turn: &T,
+) -> Result<Vec<Caller<N>>, AllocError>
+    requires all { HasAll desk.old [] }
+    requires counts { (desk.old.managed ≡ 8) × (desk.old.peers ≡ 8) }
+    requires lines { CanRun script.now }
+    ensures all { IfOk result (λ v. HasAll desk.new v.items) }
+    ensures idle { IfOk result (λ v. All HasIdleDriver v.items) }
+    ensures ran { IfOk result (λ v. (h : Finished) → IsLinked h → IsFinished h → All (HasOwn h.entries) v.items → ((t : Thread) → IsThread t → StillWaits desk.new t → made_by t h.entries ≡ []) → IsRunByThreads script.now h) }
+{
+    let jobs = workers(alloc, desk, script)?;
+    let ended = run_jobs(rt, alloc, shared, script, turn, jobs)?;
+    let callers = all_ended(alloc, ended)?;
+    Ok(callers)
+}
+
 // Runs a script by the callers of one order.
 fn run_named<N: OrderName + Send + Sync, R: Threads + Wait + Sync, T: Turnstile + Sync>(
     rt: &R,
@@ -72,10 +99,13 @@ fn run_named<N: OrderName + Send + Sync, R: Threads + Wait + Sync, T: Turnstile 
     ensures { IfOk result (IsRunByThreads script.now) }
 {
     let (shared, mut desk) = Shared::<N, Locks>::new(alloc, order, seat, 8, 8, Holding::Every)?;
-    let jobs = workers(alloc, &mut desk, script)?;
-    let ended = run_jobs(rt, alloc, &shared, script, turn, jobs)?;
-    let callers = all_ended(alloc, ended)?;
-    shared.finish(desk, callers)
+    match run_by_desk(rt, alloc, &shared, &mut desk, script, turn) {
+        Ok(callers) => shared.finish(desk, callers),
+        Err(fault) => {
+            drop(shared);
+            Err(fault)
+        }
+    }
 }
 
 /// Runs the lines of each thread of a script in a thread of its own, in their order and each after its turn, and then the phases that the

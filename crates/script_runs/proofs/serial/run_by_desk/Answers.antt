@@ -11,12 +11,12 @@ use Rattle.script_runs.proofs.Desked.{counts_stay}
 use Rattle.script_runs.proofs.Owned.{own_nothing}
 use Rattle.script_runs.proofs.Seated.{AreThereFrom, all_idle, all_there, come_first, first_up_to, is_there, rest_there, run_ends}
 use Rattle.bridge_cycle.proofs.Refusals.{idle_first}
-use Rattle.script_runs.proofs.serial.run_lines.Goals as goal
+use Rattle.script_runs.proofs.serial.run_by_desk.Goals as goal
 
 pub unreachable-requires : goal.unreachable-requires
 unreachable-requires g c =
-    let d = c.in_ok-shared.ensures.desk in
-    is_there c.in_ok-shared.desk 0 C d.0 d.1 tt refl (omega arith) (all_there c.in_ok-shared.desk 0 d.2) (sym c.caller.ensures.caller ∙ c.in_default.is)
+    let d = c.requires.desk in
+    is_there c.args.desk.now 0 C d.0 d.1 tt refl (omega arith) (all_there c.args.desk.now 0 d.2) (sym c.caller.ensures.caller ∙ c.in_default.is)
 
 pub new-driver-requires-clause-driver : goal.new-driver-requires-clause-driver
 new-driver-requires-clause-driver g c = subst IsDriver (sym c.in-Some.ensures.thread) tt
@@ -26,13 +26,13 @@ new-driver-requires-clause-idle g c = idle_first c.in-Some.caller c.in-Some.ensu
 
 pub all_others-requires-clause-desk : goal.all_others-requires-clause-desk
 all_others-requires-clause-desk g c =
-    let d = c.in_ok-shared.ensures.desk in
-    let k = counts_stay c.in_ok-shared.desk C in
+    let d = c.requires.desk in
+    let k = counts_stay c.args.desk.now C in
     let is = c.caller.ensures.desk in
     (ap (λ (z : Waiting). z.managed) is ∙ (k.0 ∙ d.0), ap (λ (z : Waiting). z.peers) is ∙ (k.1 ∙ d.1))
 
 pub all_others-requires-clause-all : goal.all_others-requires-clause-all
-all_others-requires-clause-all g c = subst (AreThereFrom 1) (sym c.caller.ensures.desk) (rest_there c.in_ok-shared.desk 0 C refl (all_there c.in_ok-shared.desk 0 c.in_ok-shared.ensures.desk.2))
+all_others-requires-clause-all g c = subst (AreThereFrom 1) (sym c.caller.ensures.desk) (rest_there c.args.desk.now 0 C refl (all_there c.args.desk.now 0 c.requires.desk.2))
 
 pub run_all-requires-clause-up_to : goal.run_all-requires-clause-up_to
 run_all-requires-clause-up_to g c = first_up_to 0 c.in_ok-others.others.items c.in_ok-others.ensures.new
