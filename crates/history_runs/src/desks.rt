@@ -4,7 +4,7 @@ ghost use Rattle.std.specs.Prelude.{◌≡◌};
 ghost use Rattle.order_table.specs.Views.{OwnsAll};
 ghost use Rattle.joint_history.specs.Callers.{KnowsNothing};
 
-use joint_history::{Locks, Shared};
+use joint_history::{Desk, Locks, Shared};
 use joint_model::{Holding, Thread};
 use order_table::{Order, OrderName, Seat};
 use std::alloc::{AllocError, Global};
@@ -12,6 +12,23 @@ use std::marker::Brand;
 use std::test::Fail;
 
 // For each thread in turn, the thread of the caller that the desk gives; None where it gives none.
+fn given_by<N: OrderName>(
+    alloc: Global,
+    desk: &mut Desk<N>,
+    threads: &[Thread],
+) -> Result<Vec<Option<Thread>>, AllocError> {
+    let mut given = Vec::new(alloc);
+    for t in threads {
+        let thread = match desk.caller(*t) {
+            Some(caller) => Some(caller.thread()),
+            None => None,
+        };
+        given.push(thread)?;
+    }
+    Ok(given)
+}
+
+// The same of a new desk.
 fn given<N: OrderName>(
     alloc: Global,
     order: Order,
@@ -22,16 +39,10 @@ fn given<N: OrderName>(
     requires run { (N.managed ≡ 1) × (N.peers ≡ 2) }
     requires seat { (seat.order ≡ N.order) × OwnsAll seat.view × KnowsNothing seat.view }
 {
-    let (_shared, mut desk) = Shared::<N, Locks>::new(alloc, order, seat, 1, 2, Holding::Every)?;
-    let mut given = Vec::new(alloc);
-    for t in threads {
-        let thread = match desk.caller(*t) {
-            Some(caller) => Some(caller.thread()),
-            None => None,
-        };
-        given.push(thread)?;
-    }
-    Ok(given)
+    let (shared, mut desk) = Shared::<N, Locks>::new(alloc, order, seat, 1, 2, Holding::Every)?;
+    let given = given_by(alloc, &mut desk, threads);
+    drop(shared);
+    given
 }
 
 #[test]

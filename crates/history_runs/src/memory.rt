@@ -1,14 +1,15 @@
 // Operations of two events of which some find no memory: what they made stands, and the caller goes on. The run is one of those in which each
 // allocation fails in turn (`rt try --test --fail-alloc 1..`), so it says of a failure no more than that there is at most one.
 
-ghost use Rattle.std.specs.Prelude.{◌≡◌, ◌≤◌, IfOk};
+ghost use Rattle.std.specs.Prelude.{◌≡◌, ◌≤◌, [], All, IfOk, IfSome};
 ghost use Rattle.joint_model.specs.Lines.{IsLine};
 ghost use Rattle.joint_model.specs.declared.names.Thread.TheVariants.{M};
 ghost use Rattle.order_table.specs.Views.{OwnsAll};
 ghost use Rattle.joint_history.specs.Callers.{KnowsNothing, last_index, own};
+ghost use Rattle.joint_history.specs.Ending.{HasAll, HasIdleDriver};
 
 use crate::runs::managed;
-use joint_history::{Alone, Caller, Shared};
+use joint_history::{Alone, Caller, Desk, Shared};
 use joint_model::{Act, Entry, History, Holding, Kind, Op, Reply, Sort, StaticNo, Thread, Var};
 use order_table::{Order, OrderName, Seat};
 use std::alloc::{AllocError, Global};
@@ -53,6 +54,25 @@ fn try_all<N: OrderName>(rt: &impl Wait, shared: &Shared<N, Alone>, one: &mut Ca
     refused
 }
 
+// How many operations of m1 found no memory, and its caller; None where the desk has none.
+fn play<N: OrderName>(
+    rt: &impl Wait,
+    alloc: Global,
+    shared: &Shared<N, Alone>,
+    desk: &mut Desk<N>,
+) -> Result<Option<(u32, Vec<Caller<N>>)>, AllocError>
+    requires { HasAll desk.old [] }
+    ensures all { IfOk result (λ o. IfSome o (λ r. HasAll desk.new r.1.items)) }
+    ensures idle { IfOk result (λ o. IfSome o (λ r. All HasIdleDriver r.1.items)) }
+{
+    let Some(mut one) = desk.caller(Thread::M(1)) else {
+        return Ok(None);
+    };
+    let refused = try_all(rt, shared, &mut one);
+    let callers = vec![in alloc; one]?;
+    Ok(Some((refused, callers)))
+}
+
 // How many operations found no memory, and the history; None where the desk has no caller of m1.
 fn run<N: OrderName>(
     rt: &impl Wait,
@@ -65,13 +85,20 @@ fn run<N: OrderName>(
     requires seat { (seat.order ≡ N.order) × OwnsAll seat.view × KnowsNothing seat.view }
 {
     let (shared, mut desk) = Shared::<N, Alone>::new(alloc, order, seat, 1, 0, Holding::Every)?;
-    let Some(mut one) = desk.caller(Thread::M(1)) else {
-        return Ok(None);
-    };
-    let refused = try_all(rt, &shared, &mut one);
-    let callers = vec![in alloc; one]?;
-    let history = shared.finish(desk, callers)?;
-    Ok(Some((refused, history)))
+    match play(rt, alloc, &shared, &mut desk) {
+        Ok(Some((refused, callers))) => {
+            let history = shared.finish(desk, callers)?;
+            Ok(Some((refused, history)))
+        }
+        Ok(None) => {
+            drop(shared);
+            Ok(None)
+        }
+        Err(fault) => {
+            drop(shared);
+            Err(fault)
+        }
+    }
 }
 
 // Whether a second event of an operation follows this entry.

@@ -1,13 +1,14 @@
 // Runs of a managed and a peer thread.
 
-ghost use Rattle.std.specs.Prelude.{◌≡◌, ◌≤◌, IfOk};
+ghost use Rattle.std.specs.Prelude.{◌≡◌, ◌≤◌, [], All, IfOk, IfSome};
 ghost use Rattle.joint_model.specs.Lines.{IsLine};
 ghost use Rattle.joint_model.specs.declared.names.Thread.TheVariants.{M, P};
 ghost use Rattle.order_table.specs.Views.{OwnsAll};
 ghost use Rattle.peer_side.specs.Steps.{IsStepLine};
 ghost use Rattle.joint_history.specs.Callers.{KnowsNothing, last_index, own};
+ghost use Rattle.joint_history.specs.Ending.{HasAll, HasIdleDriver};
 
-use joint_history::{Alone, Caller, Shared};
+use joint_history::{Alone, Caller, Desk, Shared};
 use joint_model::{
     Act, Cell, GName, HNum, History, Holding, Kind, MNum, PNum, Reply, Sort, StaticNo, Thread, Var,
 };
@@ -222,6 +223,32 @@ fn replies_of(alloc: Global, history: &History) -> Result<Vec<Reply>, AllocError
     Ok(replies)
 }
 
+// The callers after their operations, and the replies of these; None where the desk gives a thread no caller.
+fn play<N: OrderName>(
+    rt: &impl Wait,
+    alloc: Global,
+    shared: &Shared<N, Alone>,
+    desk: &mut Desk<N>,
+) -> Result<Option<(Vec<Caller<N>>, Vec<Reply>)>, AllocError>
+    requires { HasAll desk.old [] }
+    ensures all { IfOk result (λ o. IfSome o (λ r. HasAll desk.new r.0.items)) }
+    ensures idle { IfOk result (λ o. IfSome o (λ r. All HasIdleDriver r.0.items)) }
+{
+    let Some(mut one) = desk.caller(Thread::M(1)) else {
+        return Ok(None);
+    };
+    let Some(mut two) = desk.caller(Thread::P(1)) else {
+        return Ok(None);
+    };
+    let mut told = in_turn(rt, alloc, shared, &mut one, &mut two)?;
+    across(rt, shared, &mut one, &mut two, &mut told)?;
+    given_up(rt, shared, &mut one, &mut two, &mut told)?;
+    lines_of_p1(rt, shared, &mut two, &mut told)?;
+    lines_of_m1(rt, shared, &mut one, &mut told)?;
+    let callers = vec![in alloc; two, one]?;
+    Ok(Some((callers, told)))
+}
+
 // The replies of the operations, and those of all entries; None where the desk gives a thread no caller.
 fn run<N: OrderName>(
     rt: &impl Wait,
@@ -234,21 +261,21 @@ fn run<N: OrderName>(
     requires seat { (seat.order ≡ N.order) × OwnsAll seat.view × KnowsNothing seat.view }
 {
     let (shared, mut desk) = Shared::<N, Alone>::new(alloc, order, seat, 1, 1, Holding::Every)?;
-    let Some(mut one) = desk.caller(Thread::M(1)) else {
-        return Ok(None);
-    };
-    let Some(mut two) = desk.caller(Thread::P(1)) else {
-        return Ok(None);
-    };
-    let mut told = in_turn(rt, alloc, &shared, &mut one, &mut two)?;
-    across(rt, &shared, &mut one, &mut two, &mut told)?;
-    given_up(rt, &shared, &mut one, &mut two, &mut told)?;
-    lines_of_p1(rt, &shared, &mut two, &mut told)?;
-    lines_of_m1(rt, &shared, &mut one, &mut told)?;
-    let callers = vec![in alloc; two, one]?;
-    let history = shared.finish(desk, callers)?;
-    let made = replies_of(alloc, &history)?;
-    Ok(Some((told, made)))
+    match play(rt, alloc, &shared, &mut desk) {
+        Ok(Some((callers, told))) => {
+            let history = shared.finish(desk, callers)?;
+            let made = replies_of(alloc, &history)?;
+            Ok(Some((told, made)))
+        }
+        Ok(None) => {
+            drop(shared);
+            Ok(None)
+        }
+        Err(fault) => {
+            drop(shared);
+            Err(fault)
+        }
+    }
 }
 
 // The replies of the operations: those of both threads in turn, then those across, those of what is given up, and those of

@@ -5,7 +5,7 @@ ghost use Rattle.std.specs.Prelude.{◌≡◌, ◌≤◌, ◌<◌, ℕ, [], All,
 ghost use Rattle.joint_model.specs.Lines.{IsManagedAct, IsPeerAct};
 ghost use Rattle.order_table.specs.Views.{OwnsAll};
 ghost use Rattle.joint_history.specs.Callers.{KnowsNothing, Pass, last_index, own};
-ghost use Rattle.joint_history.specs.Ending.{HasAll};
+ghost use Rattle.joint_history.specs.Ending.{HasAll, HasIdleDriver};
 ghost use Rattle.joint_history.specs.Operations.{IsOwnThread, IsPeerOperation};
 ghost use Rattle.history_runs.specs.Starts.{IsStarting};
 
@@ -192,6 +192,23 @@ fn callers_at<N: OrderName>(alloc: Global, desk: &mut Desk<N>) -> Result<Vec<Cal
     Ok(callers)
 }
 
+// The callers of these threads, each after so many lines.
+fn play<N: OrderName + Send + Sync, R: Threads + Wait + Sync>(
+    rt: &R,
+    alloc: Global,
+    shared: &Shared<N, Locks>,
+    desk: &mut Desk<N>,
+    lines: u16,
+) -> Result<Vec<Caller<N>>, AllocError>
+    requires { HasAll desk.old [] }
+    ensures all { IfOk result (λ v. HasAll desk.new v.items) }
+    ensures idle { IfOk result (λ v. All HasIdleDriver v.items) }
+{
+    let callers = callers_at(alloc, desk)?;
+    let ended = make_all(rt, shared, callers, lines)?;
+    Ok(ended)
+}
+
 // A run of these threads, each of so many lines, from the desk to the finished history.
 fn run<N: OrderName + Send + Sync, R: Threads + Wait + Sync>(
     rt: &R,
@@ -205,9 +222,13 @@ fn run<N: OrderName + Send + Sync, R: Threads + Wait + Sync>(
     requires seat { (seat.order ≡ N.order) × OwnsAll seat.view × KnowsNothing seat.view }
 {
     let (shared, mut desk) = Shared::<N, Locks>::new(alloc, order, seat, 2, 2, Holding::Every)?;
-    let callers = callers_at(alloc, &mut desk)?;
-    let ended = make_all(rt, &shared, callers, lines)?;
-    shared.finish(desk, ended)
+    match play(rt, alloc, &shared, &mut desk, lines) {
+        Ok(callers) => shared.finish(desk, callers),
+        Err(fault) => {
+            drop(shared);
+            Err(fault)
+        }
+    }
 }
 
 // What is seen of a thread in a history: how many entries it has, the line of the last one, and whether its lines rise by one.
