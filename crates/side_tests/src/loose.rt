@@ -3,13 +3,14 @@
 
 ghost use Rattle.std.specs.Prelude.{◌≡◌, OnOk};
 ghost use Rattle.joint_model.specs.PeerReplay.{IsHeld, opening_peer_replay};
-ghost use Rattle.peer_side.specs.Sides.{seen};
+ghost use Rattle.peer_side.specs.Sides.{opening_side, seen};
 ghost use Rattle.side_tests.specs.Drives.{IsCounted};
 ghost use Rattle.side_tests.specs.Loose.{with_grip};
 
 use crate::managed;
 use crate::managed::Call::{Adopt, Give, Lend, Meet, New};
 use crate::mirrors::{is_still, is_tabled, make, makes};
+use crate::peers::{Played, ends_with};
 use joint_model::Reply::{self, Gone, H, M, P, Plain, Swept};
 use joint_model::{
     Act, Counter, HNum, Holding, MNum, Marking, Op, PNum, Sort, Span, StaticNo, Thread, Var,
@@ -44,10 +45,9 @@ enum Call {
     Managed(managed::Call),
 }
 
-// Both sides, each with the count that numbers its entries. The first handle was issued as a held one.
+// A peer side with the count that numbers its entries. The first handle was issued as a held one.
 #[derive(Drop)]
 struct Driven {
-    managed: managed::Driven,
     side: PeerSide,
     draw: Counter,
 }
@@ -84,23 +84,33 @@ impl Driven {
         Ok(Some(reply))
     }
 
-    // The answer to a call; None where it is none that may be made.
-    fn answer(&mut self, alloc: Global, call: Call) -> Result<Option<Reply>, AllocError> {
+    // The answer to a call, beside this managed side; None where it is none that may be made.
+    fn answer(
+        &mut self,
+        alloc: Global,
+        managed: &mut managed::Driven,
+        call: Call,
+    ) -> Result<Option<Reply>, AllocError> {
         let x = StaticNo(0);
         match call {
             Call::Empty => self.does(P1, Op::Line(Act::Store { x, v: None })),
             Call::Collect => self.does(P1, Op::Line(Act::Collect)),
             Call::Land => self.does(M1, Op::Land { h: HNum(1), x }),
             Call::Release => self.releases(),
-            Call::Managed(call) => self.managed.answer(alloc, M1, call),
+            Call::Managed(call) => managed.answer(alloc, M1, call),
         }
     }
 
     // The place of the first row that is answered otherwise than it says; None where all are answered so.
-    fn first_miss(&mut self, alloc: Global, rows: &[Row]) -> Result<Option<usize>, AllocError> {
+    fn first_miss(
+        &mut self,
+        alloc: Global,
+        managed: &mut managed::Driven,
+        rows: &[Row],
+    ) -> Result<Option<usize>, AllocError> {
         for i in 0..rows.len() {
             let (call, reply) = rows[i];
-            if self.answer(alloc, call)? != Some(reply) {
+            if self.answer(alloc, managed, call)? != Some(reply) {
                 return Ok(Some(i));
             }
         }
@@ -136,19 +146,58 @@ fn begin(side: &mut PeerSide, draw: &mut Counter, gripped: bool) -> Result<(), A
     }
 }
 
-// Makes the calls of a table, where m1 has gripped a peer that stands in the first static, or made one. The place of the first row that is answered
-// otherwise than it says; None where all are answered so.
-fn play(alloc: Global, gripped: bool, rows: &[Row]) -> Result<Option<usize>, AllocError> {
-    let managed = managed::start(alloc)?;
-    let mut side = PeerSide::new(alloc, 8, Holding::Every)?;
+// Makes the calls of a table on this new peer side, beside this managed side, where m1 has gripped a peer that stands in the first static, or made
+// one. The place of the first row that is answered otherwise than it says; and the side, which goes on to its end.
+fn play_on(
+    alloc: Global,
+    managed: &mut managed::Driven,
+    mut side: PeerSide,
+    gripped: bool,
+    rows: &[Row],
+) -> (Result<Option<usize>, AllocError>, PeerSide)
+    requires { side ≡ opening_side 8 }
+{
     let mut draw = Counter::new();
-    begin(&mut side, &mut draw, gripped)?;
-    let mut driven = Driven {
-        managed,
-        side,
-        draw,
-    };
-    driven.first_miss(alloc, rows)
+    match begin(&mut side, &mut draw, gripped) {
+        Ok(()) => {
+            let mut driven = Driven { side, draw };
+            let miss = driven.first_miss(alloc, managed, rows);
+            (miss, driven.side)
+        }
+        Err(failed) => (Err(failed), side),
+    }
+}
+
+// The same on a new peer side, which should end with these freed peers.
+fn play_beside(
+    alloc: Global,
+    managed: &mut managed::Driven,
+    gripped: bool,
+    rows: &[Row],
+    freed: &[PNum],
+) -> Result<Played, AllocError> {
+    let side = PeerSide::new(alloc, 8, Holding::Every)?;
+    let (miss, side) = play_on(alloc, managed, side, gripped, rows);
+    let (entries, freed) = ends_with(side, freed);
+    Ok(Played {
+        miss: miss?,
+        entries,
+        freed,
+    })
+}
+
+// Makes the calls of a table, where m1 has gripped a peer that stands in the first static, or made one. What its rows came to, and whether the
+// managed side freed nothing.
+fn play(
+    alloc: Global,
+    gripped: bool,
+    rows: &[Row],
+    freed: &[PNum],
+) -> Result<(Played, bool), AllocError> {
+    let mut managed = managed::start(alloc)?;
+    let played = play_beside(alloc, &mut managed, gripped, rows, freed);
+    let (_, still) = managed::ends_with(managed, &[], &[]);
+    Ok((played?, still))
 }
 
 // A peer is made and adopted, and its object gives the handle up.
@@ -204,16 +253,34 @@ const TAKEN: [Row; 9] = [
 
 #[test]
 fn a_handle_that_was_given_up_is_a_root_until_its_release(rt: HostRuntime) -> Result<(), Fail> {
-    assert_eq!(rt; play(rt.alloc(), false, GIVEN_UP.as_slice())?, None);
-    assert_eq!(rt; play(rt.alloc(), false, LENT.as_slice())?, None);
+    let freed = [PNum(1)];
+    let (played, still) = play(rt.alloc(), false, GIVEN_UP.as_slice(), freed.as_slice())?;
+    assert_eq!(rt; (played.miss, played.freed, still), (None, true, true));
     Ok(())
 }
 
 #[test]
-fn a_handle_that_was_gripped_is_a_root_until_it_is_adopted_or_released(
+fn a_handle_that_was_lent_is_a_root_until_its_release(rt: HostRuntime) -> Result<(), Fail> {
+    let freed = [PNum(1)];
+    let (played, still) = play(rt.alloc(), false, LENT.as_slice(), freed.as_slice())?;
+    assert_eq!(rt; (played.miss, played.freed, still), (None, true, true));
+    Ok(())
+}
+
+#[test]
+fn a_handle_that_was_gripped_is_a_root_until_it_is_released(rt: HostRuntime) -> Result<(), Fail> {
+    let freed = [PNum(1)];
+    let (played, still) = play(rt.alloc(), true, RELEASED.as_slice(), freed.as_slice())?;
+    assert_eq!(rt; (played.miss, played.freed, still), (None, true, true));
+    Ok(())
+}
+
+#[test]
+fn a_handle_that_was_gripped_is_held_by_the_twin_that_takes_it(
     rt: HostRuntime,
 ) -> Result<(), Fail> {
-    assert_eq!(rt; play(rt.alloc(), true, RELEASED.as_slice())?, None);
-    assert_eq!(rt; play(rt.alloc(), true, TAKEN.as_slice())?, None);
+    let freed = [PNum(1)];
+    let (played, still) = play(rt.alloc(), true, TAKEN.as_slice(), freed.as_slice())?;
+    assert_eq!(rt; (played.miss, played.freed, still), (None, true, true));
     Ok(())
 }

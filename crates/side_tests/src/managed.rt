@@ -1,6 +1,7 @@
 // A managed side that is driven call by call.
 
 ghost use Rattle.std.specs.Prelude.{◌≡◌, IfOk, length};
+ghost use Rattle.managed_side.specs.Calls.{MayContractWith};
 
 use crate::callers::is_managed;
 use crate::managed_checks::{cites_of, is_refused, is_step, names_next, stands_in};
@@ -210,39 +211,52 @@ impl Driven {
         Ok(last)
     }
 
+    // Opens a cycle by a snapshot: what its entry says, and how many nodes the dead part's graph has. It may be contracted at once where it has none.
+    fn opens(&mut self) -> Result<(Reply, u32), SnapFault>
+        ensures { IfOk result (λ o. o.1 ≡ 0 → MayContractWith self.new 0 0) }
+    {
+        let pins = self.side.pins();
+        let opened = self.side.snap(&mut self.draw, 2, &pins)?;
+        let nodes = opened.graph.nodes();
+        self.waiting = opened.candidates;
+        self.nodes = nodes;
+        Ok((Snapped(opened.candidates, opened.freed), nodes))
+    }
+
     // A snapshot: what its entry says, or the open cycle.
     fn snaps(&mut self) -> Result<Reply, AllocError> {
-        let pins = self.side.pins();
-        let opened = match self.side.snap(&mut self.draw, 2, &pins) {
-            Ok(opened) => opened,
-            Err(SnapFault::CycleOpen { cycle }) => return Ok(CycleOpen(cycle)),
-            Err(SnapFault::OutOfMemory) => return Err(AllocError),
-        };
-        self.waiting = opened.candidates;
-        self.nodes = opened.graph.nodes();
-        Ok(Snapped(opened.candidates, opened.freed))
+        match self.opens() {
+            Ok((reply, _)) => Ok(reply),
+            Err(SnapFault::CycleOpen { cycle }) => Ok(CycleOpen(cycle)),
+            Err(SnapFault::OutOfMemory) => Err(AllocError),
+        }
+    }
+
+    // Contracts the open cycle, which has nothing dead.
+    fn contracts(&mut self)
+        requires { MayContractWith self.old 0 0 }
+    {
+        self.side.contracted(&mut self.draw, 3, 0, 0);
     }
 
     // A snapshot that finds nothing dead, and its contraction; None where something is dead, or a cycle is open already.
     fn snaps_and_contracts(&mut self) -> Option<Reply> {
-        let pins = self.side.pins();
-        let Ok(opened) = self.side.snap(&mut self.draw, 2, &pins) else {
+        let Ok((_, nodes)) = self.opens() else {
             return None;
         };
-        self.waiting = opened.candidates;
-        if opened.graph.nodes() != 0 {
+        if nodes != 0 {
             return None;
         }
-        self.side.contracted(&mut self.draw, 3, 0, 0);
+        self.contracts();
         Some(Sccs(0, 0))
     }
 
     // Resolves the open cycle; None where none is open.
     fn resolves(&mut self, alloc: Global, alive: u32) -> Result<Option<Reply>, AllocError> {
-        let answers = answers_of(alloc, alive, self.waiting)?;
         let Some(_) = self.side.open_cycle() else {
             return Ok(None);
         };
+        let answers = answers_of(alloc, alive, self.waiting)?;
         let out = self.side.resolve(&mut self.draw, 4, 0, &answers);
         Ok(Some(Snapped(out.kept, out.freed)))
     }
@@ -350,6 +364,13 @@ pub(crate) fn start(alloc: Global) -> Result<Driven, AllocError> {
         waiting: 0,
         nodes: 0,
     })
+}
+
+/// How many entries a side ends with, and whether these are its freed objects and its notices.
+pub(crate) fn ends_with(driven: Driven, freed: &[MNum], notices: &[MNum]) -> (u32, bool) {
+    let lists = driven.side.into_lists();
+    let same = lists.freed.as_slice() == freed && lists.notices.as_slice() == notices;
+    (lists.entries.len(), same)
 }
 
 // So many answers, of which the one in place i is alive where bit i is set.

@@ -1,34 +1,42 @@
 // Tables of a managed side's calls, with what each answers.
 
-use crate::managed::{C, Call, M1, M2, Row, start};
+use crate::managed::{C, Call, M1, M2, Row, ends_with, start};
 use joint_model::Reply::{
     self, CycleOpen, Empty, Full, Gone, H, M, Null, Pending, Pinned, Plain, Range, Refs, Sccs,
     Snapped, Taken, Took, Twin, Unset,
 };
 use joint_model::{Cycle, HNum, MNum, Phase, PhaseWord, Sort, Span};
-use managed_side::ManagedLists;
 use std::alloc::{AllocError, Global};
 use std::test::Fail;
 
-// What the rows of a table came to: the first one that was answered otherwise than it says, how many objects were made and are live at the end, and
-// the lists of the side.
-#[derive(Drop)]
+// What the rows of a table came to: the first one that was answered otherwise than it says, how many objects were made and are live at the end, how
+// many entries there are, and whether the lists of freed objects and of notices are as they should be.
+#[derive(Clone, Copy)]
 struct Played {
     miss: Option<usize>,
     made: u32,
     live: u32,
-    lists: ManagedLists,
+    entries: u32,
+    lists: bool,
 }
 
-// Makes the calls of a table on a new side.
-fn play(alloc: Global, rows: &[Row]) -> Result<Played, AllocError> {
+// Makes the calls of a table on a new side, which should end with these freed objects and these notices.
+fn play(
+    alloc: Global,
+    rows: &[Row],
+    freed: &[MNum],
+    notices: &[MNum],
+) -> Result<Played, AllocError> {
     let mut driven = start(alloc)?;
-    let miss = driven.first_miss(alloc, rows)?;
+    let miss = driven.first_miss(alloc, rows);
+    let (made, live) = (driven.side.made(), driven.side.live());
+    let (entries, lists) = ends_with(driven, freed, notices);
     Ok(Played {
-        miss,
-        made: driven.side.made(),
-        live: driven.side.live(),
-        lists: driven.side.into_lists(),
+        miss: miss?,
+        made,
+        live,
+        entries,
+        lists,
     })
 }
 
@@ -319,69 +327,81 @@ const LAST_OBJECT: [Row; 14] = [
 
 #[test]
 fn lines_are_tested_by_their_checks_in_order(rt: HostRuntime) -> Result<(), Fail> {
-    assert_eq!(rt; play(rt.alloc(), LINES.as_slice())?.miss, None);
-    assert_eq!(rt; play(rt.alloc(), CELLS.as_slice())?.miss, None);
+    let played = play(rt.alloc(), LINES.as_slice(), &[], &[])?;
+    assert_eq!(rt; (played.miss, played.lists), (None, true));
+    Ok(())
+}
+
+#[test]
+fn cells_are_set_once_and_a_filled_pin_answers_first(rt: HostRuntime) -> Result<(), Fail> {
+    let played = play(rt.alloc(), CELLS.as_slice(), &[], &[])?;
+    assert_eq!(rt; (played.miss, played.lists), (None, true));
     Ok(())
 }
 
 #[test]
 fn a_snapshot_frees_what_nothing_holds(rt: HostRuntime) -> Result<(), Fail> {
-    let played = play(rt.alloc(), SNAPSHOTS.as_slice())?;
-    assert_eq!(rt; played.miss, None);
-    assert_eq!(rt; (played.made, played.live), (4, 1));
+    let freed = [MNum(1), MNum(3), MNum(4)];
+    let played = play(rt.alloc(), SNAPSHOTS.as_slice(), freed.as_slice(), &[])?;
     assert_eq!(rt;
-        played.lists.freed.as_slice(),
-        [MNum(1), MNum(3), MNum(4)].as_slice()
+        (played.miss, played.made, played.live, played.lists),
+        (None, 4, 1, true)
     );
     Ok(())
 }
 
 #[test]
 fn a_cycle_is_opened_once_and_closed_once(rt: HostRuntime) -> Result<(), Fail> {
-    let played = play(rt.alloc(), CYCLES.as_slice())?;
-    assert_eq!(rt; played.miss, None);
-    assert_eq!(rt; played.lists.entries.len(), 15);
+    let played = play(rt.alloc(), CYCLES.as_slice(), &[], &[])?;
+    assert_eq!(rt; (played.miss, played.entries), (None, 15));
     Ok(())
 }
 
 #[test]
 fn a_peer_has_one_twin(rt: HostRuntime) -> Result<(), Fail> {
-    let played = play(rt.alloc(), TWINS.as_slice())?;
-    assert_eq!(rt; played.miss, None);
-    assert_eq!(rt; played.lists.notices.as_slice(), [MNum(3)].as_slice());
+    let freed = [MNum(1), MNum(2), MNum(3)];
+    let notices = [MNum(3)];
+    let played = play(
+        rt.alloc(),
+        TWINS.as_slice(),
+        freed.as_slice(),
+        notices.as_slice(),
+    )?;
+    assert_eq!(rt; (played.miss, played.lists), (None, true));
     Ok(())
 }
 
 #[test]
 fn notices_come_in_rising_number_and_are_taken_once(rt: HostRuntime) -> Result<(), Fail> {
-    let played = play(rt.alloc(), NOTICES.as_slice())?;
-    assert_eq!(rt; played.miss, None);
-    assert_eq!(rt;
-        played.lists.notices.as_slice(),
-        [MNum(1), MNum(3), MNum(4)].as_slice()
-    );
+    let numbers = [MNum(1), MNum(3), MNum(4)];
+    let played = play(
+        rt.alloc(),
+        NOTICES.as_slice(),
+        numbers.as_slice(),
+        numbers.as_slice(),
+    )?;
+    assert_eq!(rt; (played.miss, played.lists), (None, true));
     Ok(())
 }
 
 #[test]
 fn a_kept_candidate_keeps_what_it_reaches(rt: HostRuntime) -> Result<(), Fail> {
-    let played = play(rt.alloc(), KEPT.as_slice())?;
-    assert_eq!(rt; played.miss, None);
-    assert_eq!(rt;
-        played.lists.freed.as_slice(),
-        [MNum(1), MNum(3), MNum(2), MNum(4)].as_slice()
-    );
-    assert_eq!(rt;
-        played.lists.notices.as_slice(),
-        [MNum(1), MNum(2), MNum(4)].as_slice()
-    );
+    let freed = [MNum(1), MNum(3), MNum(2), MNum(4)];
+    let notices = [MNum(1), MNum(2), MNum(4)];
+    let played = play(
+        rt.alloc(),
+        KEPT.as_slice(),
+        freed.as_slice(),
+        notices.as_slice(),
+    )?;
+    assert_eq!(rt; (played.miss, played.lists), (None, true));
     Ok(())
 }
 
+// What was freed is told by the row of its snapshot: the list is too long to stand here.
 #[test]
 fn the_last_object_is_made_and_then_no_more(rt: HostRuntime) -> Result<(), Fail> {
-    let played = play(rt.alloc(), LAST_OBJECT.as_slice())?;
-    assert_eq!(rt; played.miss, None);
-    assert_eq!(rt; (played.made, played.live), (65535, 1));
+    let played = play(rt.alloc(), LAST_OBJECT.as_slice(), &[], &[])?;
+    assert_eq!(rt; (played.miss, played.made, played.live), (None, 65535, 1));
     Ok(())
 }

@@ -58,13 +58,22 @@ const FREED: [Row; 5] = [
 
 #[test]
 fn one_peer_of_a_circle_holds_the_other(rt: HostRuntime) -> Result<(), Fail> {
-    assert_eq!(rt; play(rt.alloc(), CIRCLE.as_slice())?, None);
+    let played = play(rt.alloc(), CIRCLE.as_slice(), &[])?;
+    assert_eq!(rt; (played.miss, played.freed), (None, true));
     Ok(())
 }
 
 #[test]
 fn handles_are_weakened_and_restored_at_once(rt: HostRuntime) -> Result<(), Fail> {
-    assert_eq!(rt; play(rt.alloc(), AT_ONCE.as_slice())?, None);
-    assert_eq!(rt; play(rt.alloc(), FREED.as_slice())?, None);
+    let played = play(rt.alloc(), AT_ONCE.as_slice(), &[])?;
+    assert_eq!(rt; (played.miss, played.freed), (None, true));
+    Ok(())
+}
+
+#[test]
+fn a_circle_under_weak_handles_is_freed(rt: HostRuntime) -> Result<(), Fail> {
+    let freed = [PNum(1), PNum(2)];
+    let played = play(rt.alloc(), FREED.as_slice(), freed.as_slice())?;
+    assert_eq!(rt; (played.miss, played.freed), (None, true));
     Ok(())
 }

@@ -5,15 +5,18 @@ ghost use Rattle.joint_model.specs.PeerReplay.{TableRow, peer_answer, row_of};
 ghost use Rattle.joint_model.specs.Told.{nothing};
 ghost use Rattle.peer_side.specs.Makings.{IsSideStep};
 ghost use Rattle.peer_side.specs.Mirroring.{strong_row};
-ghost use Rattle.peer_side.specs.Sides.{seen};
+ghost use Rattle.peer_side.specs.Sides.{opening_side, seen};
 ghost use Rattle.side_tests.specs.Circles.{circle, nodes, with_pair, IsPlainOp, IsStillOp};
 ghost use Rattle.side_tests.specs.Drives.{IsCounted};
 
+use crate::peers::{Played, ends_with};
 use bridge_graph::{DeadGraph, GraphBuilder};
 use global_handles::{Back, Strength};
 use handle_weaken::{restore_all, restore_one, weaken_all, weaken_one};
 use joint_model::Reply::{self, Cleared, Mark, MarkOpen, NoMark, P, Refs, Swept};
-use joint_model::{Act, Alive, Counter, Cycle, HNum, Holding, MNum, Op, Sort, StaticNo, Thread};
+use joint_model::{
+    Act, Alive, Counter, Cycle, HNum, Holding, MNum, Op, PNum, Sort, StaticNo, Thread,
+};
 use peer_mirror::{clear, install};
 use peer_side::{BeginFault, PeerSide};
 use std::alloc::{AllocError, Global};
@@ -326,24 +329,52 @@ fn one_component(alloc: Global) -> Result<Components, AllocError>
     Ok(listing)
 }
 
-// A side with both peers.
-fn start(alloc: Global) -> Result<Driven, AllocError> {
-    let mut side = PeerSide::new(alloc, 8, Holding::Every)?;
-    let mut draw = Counter::new();
-    make(&mut side, &mut draw)?;
-    make(&mut side, &mut draw)?;
-    Ok(Driven {
-        side,
-        draw,
-        mirrored: false,
-        standing: false,
-        weak: 0,
-        back: 0,
-    })
+// m1 makes both peers.
+fn make_both(side: &mut PeerSide, draw: &mut Counter) -> Result<(), AllocError>
+    requires { IsCounted (seen side.old) draw.old }
+    ensures state { OnOk result (side.new.state ≡ with_pair (with_pair side.old.state)) }
+    ensures reserve { side.new.reserve ≡ side.old.reserve }
+    ensures counted { OnOk result (IsCounted (seen side.new) draw.new) }
+{
+    make(side, draw)?;
+    make(side, draw)
 }
 
-/// The place of the first row of a table that is answered otherwise than it says, on a new side.
-pub fn play(alloc: Global, rows: &[Row]) -> Result<Option<usize>, AllocError> {
-    let mut driven = start(alloc)?;
-    driven.first_miss(alloc, rows)
+// Makes the calls of a table on this new side, where m1 has made both peers. The place of the first row that is answered otherwise than it says; and
+// the side, which goes on to its end.
+fn play_on(
+    alloc: Global,
+    mut side: PeerSide,
+    rows: &[Row],
+) -> (Result<Option<usize>, AllocError>, PeerSide)
+    requires { side ≡ opening_side 8 }
+{
+    let mut draw = Counter::new();
+    match make_both(&mut side, &mut draw) {
+        Ok(()) => {
+            let mut driven = Driven {
+                side,
+                draw,
+                mirrored: false,
+                standing: false,
+                weak: 0,
+                back: 0,
+            };
+            let miss = driven.first_miss(alloc, rows);
+            (miss, driven.side)
+        }
+        Err(failed) => (Err(failed), side),
+    }
+}
+
+/// What the rows of a table came to on a new side, which should end with these freed peers.
+pub(crate) fn play(alloc: Global, rows: &[Row], freed: &[PNum]) -> Result<Played, AllocError> {
+    let side = PeerSide::new(alloc, 8, Holding::Every)?;
+    let (miss, side) = play_on(alloc, side, rows);
+    let (entries, freed) = ends_with(side, freed);
+    Ok(Played {
+        miss: miss?,
+        entries,
+        freed,
+    })
 }

@@ -8,8 +8,10 @@ ghost use Rattle.peer_side.specs.Steps.{IsStepLine};
 
 use crate::callers::{is_managed, is_var_or_none};
 use joint_model::Reply::{self, Gone, Mark, MarkOpen, NoMark, P, Swept, Unset};
-use joint_model::{Act, Counter, GName, HNum, Holding, Op, Sort, Span, StaticNo, Thread, Var};
-use peer_side::{BeginFault, PeerLists, PeerSide};
+use joint_model::{
+    Act, Counter, GName, HNum, Holding, Op, PNum, Sort, Span, StaticNo, Thread, Var,
+};
+use peer_side::{BeginFault, PeerSide};
 use std::alloc::{AllocError, Global};
 use std::marker::Model;
 
@@ -230,23 +232,38 @@ impl Driven {
     }
 }
 
-/// What the rows of a table came to: the first one that was answered otherwise than it says, and the lists of the side at the end.
-#[derive(Drop)]
-pub(crate) struct Played {
-    pub(crate) miss: Option<usize>,
-    pub(crate) lists: PeerLists,
-}
-
-/// Makes the calls of a table on a new side.
-pub(crate) fn play(alloc: Global, rows: &[Row]) -> Result<Played, AllocError> {
-    let mut driven = Driven {
+// A new side.
+fn start(alloc: Global) -> Result<Driven, AllocError> {
+    Ok(Driven {
         side: PeerSide::new(alloc, 8, Holding::Every)?,
         draw: Counter::new(),
-    };
-    let miss = driven.first_miss(rows)?;
+    })
+}
+
+/// How many entries a side ends with, and whether these are its freed peers.
+pub(crate) fn ends_with(side: PeerSide, freed: &[PNum]) -> (u32, bool) {
+    let lists = side.into_lists();
+    (lists.entries.len(), lists.freed.as_slice() == freed)
+}
+
+/// What the rows of a table came to: the first one that was answered otherwise than it says, how many entries there are at the end, and whether the
+/// list of freed peers is as it should be.
+#[derive(Clone, Copy)]
+pub(crate) struct Played {
+    pub(crate) miss: Option<usize>,
+    pub(crate) entries: u32,
+    pub(crate) freed: bool,
+}
+
+/// Makes the calls of a table on a new side, which should end with these freed peers.
+pub(crate) fn play(alloc: Global, rows: &[Row], freed: &[PNum]) -> Result<Played, AllocError> {
+    let mut driven = start(alloc)?;
+    let miss = driven.first_miss(rows);
+    let (entries, freed) = ends_with(driven.side, freed);
     Ok(Played {
-        miss,
-        lists: driven.side.into_lists(),
+        miss: miss?,
+        entries,
+        freed,
     })
 }
 
