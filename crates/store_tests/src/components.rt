@@ -1,19 +1,114 @@
 // Small lists of components: their members, pairs and mirror edges.
 
+ghost use Rattle.std.specs.Prelude.{◌≡◌, []};
+
+use std::alloc::AllocError;
 use std::test::Fail;
-use xref_list::{Added, ComponentsBuilder};
+use xref_list::{Added, Components, ComponentsBuilder};
+
+// The pairs of the circles, in order.
+const PAIRS: [(u32, u32); 4] = [(0, 1), (0, 2), (1, 0), (2, 1)];
+
+// The mirror edges of the circles: each circle's own, and then one for each pair.
+const EDGES: [(u32, u32); 9] = [
+    (0, 2),
+    (2, 5),
+    (5, 0),
+    (3, 4),
+    (4, 3),
+    (0, 1),
+    (0, 3),
+    (1, 0),
+    (3, 1),
+];
+
+// Whether the pair may be added, and the call answers so.
+fn adds(
+    builder: &mut ComponentsBuilder,
+    src: u32,
+    dst: u32,
+    wanted: Added,
+) -> Result<bool, AllocError> {
+    if src >= builder.len() || dst >= builder.len() || src == dst {
+        return Ok(false);
+    }
+    Ok(builder.add(src, dst)? == wanted)
+}
+
+// Whether the pairs stand just there, in that order.
+fn has_pairs(components: &Components, pairs: &[(u32, u32)]) -> bool {
+    for i in 0..components.xrefs() {
+        if pairs.get(i as usize) != Some(&components.xref(i)) {
+            return false;
+        }
+    }
+    components.xrefs() as usize == pairs.len()
+}
+
+// Whether the mirror edges stand just there, in that order.
+fn has_edges(components: &Components, edges: &[(u32, u32)]) -> bool {
+    for i in 0..components.refs() {
+        if edges.get(i as usize) != Some(&components.mirror_edge(i)) {
+            return false;
+        }
+    }
+    components.refs() as usize == edges.len()
+}
+
+// Whether component `c` has just those members.
+fn has_members(components: &Components, c: u32, members: &[u32]) -> bool {
+    c < components.len() && components.objs(c) == members
+}
+
+// Adds two components of one member each, and a pair twice. Answers whether each call answers as it should.
+fn add_single(builder: &mut ComponentsBuilder) -> Result<bool, AllocError>
+    requires { builder.old.comps ≡ [] }
+{
+    let first = builder.component(&[0])?;
+    let second = builder.component(&[3])?;
+    Ok(
+        (first, second) == (0, 1)
+            && adds(builder, 0, 1, Added::New)?
+            && adds(builder, 0, 1, Added::Old)?,
+    )
+}
+
+// Adds the pairs that end elsewhere, and one that is there. Answers whether each call answers as it should.
+fn add_pairs(builder: &mut ComponentsBuilder) -> Result<bool, AllocError> {
+    Ok(
+        adds(builder, 2, 1, Added::New)?
+            && adds(builder, 1, 0, Added::New)?
+            && adds(builder, 0, 2, Added::Old)?,
+    )
+}
+
+// Adds three components and their pairs. Answers whether each call answers as it should.
+fn add_circles(builder: &mut ComponentsBuilder) -> Result<bool, AllocError>
+    requires comps { builder.old.comps ≡ [] }
+    requires pairs { builder.old.pairs ≡ [] }
+{
+    let first = builder.component(&[0, 2, 5])?;
+    let second = builder.component(&[1])?;
+    let third = builder.component(&[3, 4])?;
+    builder.add_all(0, &[1, 2])?;
+    Ok((first, second, third) == (0, 1, 2) && add_pairs(builder)?)
+}
+
+// Whether the list is that of the circles.
+fn are_circles(components: &Components) -> bool {
+    components.len() == 3
+        && has_members(components, 0, &[0, 2, 5])
+        && has_pairs(components, PAIRS.as_slice())
+        && has_edges(components, EDGES.as_slice())
+}
 
 // Two components of one member each, and a pair that is added twice.
 #[test]
 fn one_pair(rt: HostRuntime) -> Result<(), Fail> {
     let mut builder = ComponentsBuilder::new(rt.alloc());
-    assert_eq!(rt; builder.component(&[0])?, 0);
-    assert_eq!(rt; builder.component(&[3])?, 1);
-    assert_eq!(rt; builder.add(0, 1)?, Added::New);
-    assert_eq!(rt; builder.add(0, 1)?, Added::Old);
+    let added = add_single(&mut builder)?;
     let components = builder.finish()?;
-    assert_eq!(rt; components.refs(), 1);
-    assert_eq!(rt; components.mirror_edge(0), (0, 3));
+    assert!(rt; added && has_edges(&components, &[(0, 3)]));
     Ok(())
 }
 
@@ -21,34 +116,8 @@ fn one_pair(rt: HostRuntime) -> Result<(), Fail> {
 #[test]
 fn circles_and_pairs(rt: HostRuntime) -> Result<(), Fail> {
     let mut builder = ComponentsBuilder::new(rt.alloc());
-    builder.component(&[0, 2, 5])?;
-    builder.component(&[1])?;
-    builder.component(&[3, 4])?;
-    builder.add_all(0, &[1, 2])?;
-    builder.add(2, 1)?;
-    builder.add(1, 0)?;
-    assert_eq!(rt; builder.add(0, 2)?, Added::Old);
+    let added = add_circles(&mut builder)?;
     let components = builder.finish()?;
-    assert_eq!(rt; components.len(), 3);
-    assert_eq!(rt; components.objs(0), [0, 2, 5].as_slice());
-    assert_eq!(rt; components.xrefs(), 4);
-    assert_eq!(rt; components.xref(2), (1, 0));
-    assert_eq!(rt; components.xref(3), (2, 1));
-    assert_eq!(rt; components.refs(), 9);
-    let expected = [
-        (0, 2),
-        (2, 5),
-        (5, 0),
-        (3, 4),
-        (4, 3),
-        (0, 1),
-        (0, 3),
-        (1, 0),
-        (3, 1),
-    ];
-    for (i, edge) in expected.iter().enumerate() {
-        assert!(rt; i < 9);
-        assert_eq!(rt; components.mirror_edge(i as u32), *edge);
-    }
+    assert!(rt; added && are_circles(&components));
     Ok(())
 }

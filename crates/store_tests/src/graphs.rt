@@ -1,24 +1,102 @@
 // Small dead parts: their nodes, and edges that are added in any order.
 
-use bridge_graph::GraphBuilder;
+ghost use Rattle.std.specs.Prelude.{◌<◌, length};
+
+use bridge_graph::{DeadGraph, GraphBuilder, Node};
 use joint_model::{HNum, MNum};
+use std::alloc::AllocError;
 use std::test::Fail;
+
+// A bridge node, and an opaque plain one.
+const TWO: [Node; 2] = [
+    Node {
+        number: MNum(1),
+        handle: Some(HNum(1)),
+        opaque: false,
+    },
+    Node {
+        number: MNum(2),
+        handle: None,
+        opaque: true,
+    },
+];
+
+// A bridge node between two plain ones.
+const THREE: [Node; 3] = [
+    Node {
+        number: MNum(2),
+        handle: None,
+        opaque: false,
+    },
+    Node {
+        number: MNum(5),
+        handle: Some(HNum(9)),
+        opaque: false,
+    },
+    Node {
+        number: MNum(6),
+        handle: None,
+        opaque: false,
+    },
+];
+
+// The edges of the three nodes, as they are added.
+const EDGES: [(u32, u32); 6] = [(2, 1), (0, 2), (2, 0), (0, 1), (2, 1), (0, 0)];
+
+// Adds nodes and edges. Answers whether each may be added, and each node's index is its place.
+fn fill(
+    builder: &mut GraphBuilder,
+    nodes: &[Node],
+    edges: &[(u32, u32)],
+) -> Result<bool, AllocError> {
+    for (i, node) in nodes.iter().enumerate() {
+        if !builder.next_is(node.number)
+            || builder.node(node.number, node.handle, node.opaque)? as usize != i
+        {
+            return Ok(false);
+        }
+    }
+    for (from, to) in edges {
+        if !builder.may_lead(*from, *to) {
+            return Ok(false);
+        }
+        builder.edge(*from, *to)?;
+    }
+    Ok(true)
+}
+
+// Whether node `i` has that number and that handle, and its edges lead just there, in that order.
+fn is_node(graph: &DeadGraph, i: u32, node: &Node, row: &[u32]) -> bool
+    requires { i < length graph.now.nodes }
+{
+    for j in 0..graph.degree(i) {
+        if row.get(j as usize) != Some(&graph.edge(i, j)) {
+            return false;
+        }
+    }
+    graph.row(i) == row && graph.number(i) == node.number && graph.handle(i) == node.handle
+}
+
+// Whether just these nodes stand there, with these edges.
+fn is_part(graph: &DeadGraph, nodes: &[Node], rows: &[&[u32]]) -> bool {
+    for i in 0..graph.nodes() {
+        let (Some(node), Some(row)) = (nodes.get(i as usize), rows.get(i as usize)) else {
+            return false;
+        };
+        if !is_node(graph, i, node, row) {
+            return false;
+        }
+    }
+    graph.nodes() as usize == nodes.len()
+}
 
 // A bridge node with a reference to an opaque plain one.
 #[test]
 fn two_nodes(rt: HostRuntime) -> Result<(), Fail> {
     let mut builder = GraphBuilder::new(rt.alloc());
-    assert_eq!(rt; builder.node(MNum(1), Some(HNum(1)), false)?, 0);
-    assert_eq!(rt; builder.node(MNum(2), None, true)?, 1);
-    builder.edge(0, 1)?;
+    let filled = fill(&mut builder, TWO.as_slice(), &[(0, 1)])?;
     let graph = builder.finish();
-    assert_eq!(rt; graph.nodes(), 2);
-    assert_eq!(rt; graph.degree(0), 1);
-    assert_eq!(rt; graph.edge(0, 0), 1);
-    assert_eq!(rt; graph.degree(1), 0);
-    assert_eq!(rt; graph.handle(0), Some(HNum(1)));
-    assert_eq!(rt; graph.handle(1), None);
-    assert_eq!(rt; graph.number(1), MNum(2));
+    assert!(rt; filled && is_part(&graph, TWO.as_slice(), &[&[1], &[]]));
     Ok(())
 }
 
@@ -27,18 +105,8 @@ fn two_nodes(rt: HostRuntime) -> Result<(), Fail> {
 fn any_order(rt: HostRuntime) -> Result<(), Fail> {
     let mut builder = GraphBuilder::new(rt.alloc());
     builder.reserve(3, 6)?;
-    builder.node(MNum(2), None, false)?;
-    builder.node(MNum(5), Some(HNum(9)), false)?;
-    builder.node(MNum(6), None, false)?;
-    builder.edge(2, 1)?;
-    builder.edge(0, 2)?;
-    builder.edge(2, 0)?;
-    builder.edge(0, 1)?;
-    builder.edge(2, 1)?;
-    builder.edge(0, 0)?;
+    let filled = fill(&mut builder, THREE.as_slice(), EDGES.as_slice())?;
     let graph = builder.finish();
-    assert_eq!(rt; graph.row(0), [2, 1, 0].as_slice());
-    assert_eq!(rt; graph.row(1), [].as_slice());
-    assert_eq!(rt; graph.row(2), [1, 0, 1].as_slice());
+    assert!(rt; filled && is_part(&graph, THREE.as_slice(), &[&[2, 1, 0], &[], &[1, 0, 1]]));
     Ok(())
 }

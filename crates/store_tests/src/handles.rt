@@ -1,111 +1,247 @@
-// Tables of handles: how rows are made, cleared, restored and removed, at the last number and with many handles of a peer.
+// Tables of calls of a table of handles, with what each answers: how rows are made, cleared, restored and removed, at the last number and with
+// many handles of a peer.
 
+ghost use Rattle.std.specs.Prelude.{All, IfSome};
+ghost use Rattle.std.specs.Bool.{OnTrue};
+ghost use Rattle.global_handles.specs.Rows.{IsWeakFor, row_in};
+
+use global_handles::Hold::{Held, Raw};
+use global_handles::Strength::{Strong, Weak};
 use global_handles::{Back, HandleFault, HandleRow, HandleTable, Hold, NotLive, Strength};
 use joint_model::{HNum, PNum};
-use std::test::Fail;
 
-#[test]
-fn clears_and_removes_the_rows_of_a_peer(rt: HostRuntime) -> Result<(), Fail> {
-    let mut table = HandleTable::new(rt.alloc());
-    let first = table.make(PNum(1), Hold::Held, Strength::Strong)?;
-    assert_eq!(rt; first, HNum(1));
-    let second = table.make(PNum(1), Hold::Raw, Strength::Weak)?;
-    assert_eq!(rt; second, HNum(2));
-    table.weaken(first);
-    table.clear_target(PNum(1));
-    assert_eq!(rt; table.target(second), None);
-    assert_eq!(rt; table.restore(first), Back::Cleared);
-    assert_eq!(rt; table.release(first), Err(NotLive { h: first }));
-    let cleared = HandleRow {
-        number: HNum(2),
-        peer: PNum(1),
-        hold: Hold::Raw,
-        strength: Strength::Weak,
-        cleared: true,
-    };
-    assert_eq!(rt; table.release(second), Ok(cleared));
-    assert_eq!(rt; table.len(), 0);
-    Ok(())
+// A call, with what it answers. `Count` is of the rows that are in the table, and of the handles that were ever made.
+#[derive(Clone, Copy)]
+enum Call {
+    Reserve(u32),
+    Make(PNum, Hold, Strength, Result<HNum, HandleFault>),
+    Weaken(HNum),
+    Clear(PNum),
+    Restore(HNum, Back),
+    Release(HNum, Result<HandleRow, NotLive>),
+    Row(HNum, Option<HandleRow>),
+    Target(HNum, Option<PNum>),
+    Count(u32, u32),
 }
 
-#[test]
-fn is_full_once_all_numbers_were_given(rt: HostRuntime) -> Result<(), Fail> {
-    let mut table = HandleTable::new(rt.alloc());
-    let mut last = HNum(0);
+// The row of a raw name for a peer that is weak.
+const SECOND: HandleRow = HandleRow {
+    number: HNum(2),
+    peer: PNum(1),
+    hold: Raw,
+    strength: Weak,
+    cleared: true,
+};
+
+const CLEARS: [Call; 9] = [
+    Call::Make(PNum(1), Held, Strong, Ok(HNum(1))),
+    Call::Make(PNum(1), Raw, Weak, Ok(HNum(2))),
+    Call::Weaken(HNum(1)),
+    Call::Clear(PNum(1)),
+    Call::Target(HNum(2), None),
+    Call::Restore(HNum(1), Back::Cleared),
+    Call::Release(HNum(1), Err(NotLive { h: HNum(1) })),
+    Call::Release(HNum(2), Ok(SECOND)),
+    Call::Count(0, 2),
+];
+
+const IS_FULL: [Call; 2] = [
+    Call::Make(PNum(1), Held, Strong, Err(HandleFault::HandlesFull)),
+    Call::Count(65_535, 65_535),
+];
+
+const ALL_PEERS: [Call; 9] = [
+    Call::Make(PNum(0), Held, Weak, Ok(HNum(1))),
+    Call::Reserve(2),
+    Call::Make(PNum(65_535), Held, Weak, Ok(HNum(2))),
+    Call::Make(PNum(300), Held, Weak, Ok(HNum(3))),
+    Call::Clear(PNum(65_535)),
+    Call::Clear(PNum(301)),
+    Call::Target(HNum(2), None),
+    Call::Target(HNum(1), Some(PNum(0))),
+    Call::Target(HNum(3), Some(PNum(300))),
+];
+
+const RESTORES: [Call; 8] = [
+    Call::Make(PNum(4), Held, Strong, Ok(HNum(1))),
+    Call::Make(PNum(5), Held, Strong, Ok(HNum(2))),
+    Call::Weaken(HNum(1)),
+    Call::Clear(PNum(6)),
+    Call::Restore(HNum(1), Back::Alive),
+    Call::Target(HNum(1), Some(PNum(4))),
+    Call::Target(HNum(2), Some(PNum(5))),
+    Call::Count(2, 2),
+];
+
+// Handles of peer 9 before and after the many.
+const BEFORE_MANY: [Call; 3] = [
+    Call::Make(PNum(9), Raw, Weak, Ok(HNum(1))),
+    Call::Make(PNum(8), Raw, Weak, Ok(HNum(2))),
+    Call::Make(PNum(9), Raw, Weak, Ok(HNum(3))),
+];
+
+const LOWEST: HandleRow = HandleRow {
+    number: HNum(1),
+    peer: PNum(9),
+    hold: Raw,
+    strength: Weak,
+    cleared: false,
+};
+
+const FIRST: HandleRow = HandleRow {
+    number: HNum(3),
+    peer: PNum(9),
+    hold: Raw,
+    strength: Weak,
+    cleared: true,
+};
+
+const AFTER_MANY: [Call; 11] = [
+    Call::Make(PNum(9), Held, Weak, Ok(HNum(40_004))),
+    Call::Release(HNum(1), Ok(LOWEST)),
+    Call::Clear(PNum(9)),
+    Call::Make(PNum(9), Held, Weak, Ok(HNum(40_005))),
+    Call::Clear(PNum(9)),
+    Call::Row(HNum(3), Some(FIRST)),
+    Call::Row(HNum(1), None),
+    Call::Target(HNum(40_004), None),
+    Call::Target(HNum(40_005), None),
+    Call::Target(HNum(2), Some(PNum(8))),
+    Call::Count(4, 40_005),
+];
+
+// Makes a strong row weak. Answers whether there is one.
+fn weaken(table: &mut HandleTable, h: HNum) -> bool {
+    match table.row(h) {
+        Some(row) if row.strength == Strong => {
+            table.weaken(h);
+            true
+        }
+        _ => false,
+    }
+}
+
+// What a weak row comes back as, or None where there is none.
+fn restore(table: &mut HandleTable, h: HNum) -> Option<Back> {
+    match table.row(h) {
+        Some(row) if row.strength == Weak => Some(table.restore(h)),
+        _ => None,
+    }
+}
+
+// Whether a handle has no strong row of a peer.
+fn is_weak_at(table: &HandleTable, h: HNum, p: PNum) -> bool
+    ensures { OnTrue result (IfSome (row_in table.now.rows h) (λ r. IsWeakFor p r)) }
+{
+    match table.row(h) {
+        Some(row) => row.peer != p || matches!(row.strength, Weak),
+        None => true,
+    }
+}
+
+// Whether a peer has no strong row.
+fn is_weak(table: &HandleTable, p: PNum) -> bool
+    ensures { OnTrue result (All (IsWeakFor p) table.now.rows) }
+{
+    for n in 0..table.made() {
+        if !is_weak_at(table, HNum(n + 1), p) {
+            return false;
+        }
+    }
+    true
+}
+
+// Clears the rows of a peer. Answers whether all were weak.
+fn clear(table: &mut HandleTable, p: PNum) -> bool {
+    let may = is_weak(table, p);
+    if may {
+        table.clear_target(p);
+    }
+    may
+}
+
+// Whether the call may be made, and answers so.
+fn answers(table: &mut HandleTable, call: &Call) -> bool {
+    match *call {
+        Call::Reserve(additional) => table.reserve(additional).is_ok(),
+        Call::Make(p, hold, strength, wanted) => {
+            p.0 <= 65_535 && table.make(p, hold, strength) == wanted
+        }
+        Call::Weaken(h) => weaken(table, h),
+        Call::Clear(p) => clear(table, p),
+        Call::Restore(h, wanted) => restore(table, h) == Some(wanted),
+        Call::Release(h, wanted) => table.release(h) == wanted,
+        Call::Row(h, wanted) => table.row(h) == wanted,
+        Call::Target(h, wanted) => table.target(h) == wanted,
+        Call::Count(len, made) => table.len() == len && table.made() == made,
+    }
+}
+
+// The place of the first call that answers otherwise.
+fn miss(table: &mut HandleTable, calls: &[Call]) -> Option<usize> {
+    for (i, call) in calls.iter().enumerate() {
+        if !answers(table, call) {
+            return Some(i);
+        }
+    }
+    None
+}
+
+// Makes all handles. Answers whether each has the next number.
+fn make_all(table: &mut HandleTable) -> bool {
     for n in 0..65_535u32 {
-        last = table.make(PNum(n / 7), Hold::Held, Strength::Strong)?;
+        if table.make(PNum(n / 7), Held, Strong) != Ok(HNum(n + 1)) {
+            return false;
+        }
     }
-    assert_eq!(rt; last, HNum(65_535));
-    assert_eq!(rt;
-        table.make(PNum(1), Hold::Held, Strength::Strong),
-        Err(HandleFault::HandlesFull)
-    );
-    assert_eq!(rt; table.made(), 65_535);
-    Ok(())
+    true
 }
 
-#[test]
-fn makes_handles_on_the_peers_of_all_numbers(rt: HostRuntime) -> Result<(), Fail> {
-    let mut table = HandleTable::new(rt.alloc());
-    let low = table.make(PNum(0), Hold::Held, Strength::Weak)?;
-    table.reserve(2)?;
-    let high = table.make(PNum(65_535), Hold::Held, Strength::Weak)?;
-    let middle = table.make(PNum(300), Hold::Held, Strength::Weak)?;
-    table.clear_target(PNum(65_535));
-    table.clear_target(PNum(301));
-    assert_eq!(rt; table.target(high), None);
-    assert_eq!(rt;
-        (table.target(low), table.target(middle)),
-        (Some(PNum(0)), Some(PNum(300)))
-    );
-    Ok(())
-}
-
-#[test]
-fn restores_a_row_that_was_not_cleared(rt: HostRuntime) -> Result<(), Fail> {
-    let mut table = HandleTable::new(rt.alloc());
-    let first = table.make(PNum(4), Hold::Held, Strength::Strong)?;
-    let second = table.make(PNum(5), Hold::Held, Strength::Strong)?;
-    table.weaken(first);
-    table.clear_target(PNum(6));
-    assert_eq!(rt; table.restore(first), Back::Alive);
-    assert_eq!(rt;
-        (table.target(first), table.target(second)),
-        (Some(PNum(4)), Some(PNum(5)))
-    );
-    assert_eq!(rt; (table.len(), table.made()), (2, 2));
-    Ok(())
-}
-
-#[test]
-fn clears_what_is_left_of_many_handles(rt: HostRuntime) -> Result<(), Fail> {
-    let mut table = HandleTable::new(rt.alloc());
-    let peer = PNum(9);
-    let lowest = table.make(peer, Hold::Raw, Strength::Weak)?;
-    let other = table.make(PNum(8), Hold::Raw, Strength::Weak)?;
-    let first = table.make(peer, Hold::Raw, Strength::Weak)?;
+// Makes two handles on a peer and releases both, many times. Answers whether they are made and released.
+fn make_and_release(table: &mut HandleTable) -> bool {
     for _ in 0..20_000u32 {
-        let middle = table.make(peer, Hold::Raw, Strength::Weak)?;
-        let last = table.make(peer, Hold::Raw, Strength::Weak)?;
-        let _ = table.release(middle);
-        let _ = table.release(last);
+        let Ok(middle) = table.make(PNum(9), Raw, Weak) else {
+            return false;
+        };
+        let Ok(last) = table.make(PNum(9), Raw, Weak) else {
+            return false;
+        };
+        if table.release(middle).is_err() || table.release(last).is_err() {
+            return false;
+        }
     }
-    let second = table.make(peer, Hold::Held, Strength::Weak)?;
-    let _ = table.release(lowest);
-    table.clear_target(peer);
-    let later = table.make(peer, Hold::Held, Strength::Weak)?;
-    table.clear_target(peer);
-    let cleared = HandleRow {
-        number: first,
-        peer,
-        hold: Hold::Raw,
-        strength: Strength::Weak,
-        cleared: true,
-    };
-    assert_eq!(rt; table.row(first), Some(cleared));
-    assert_eq!(rt; table.row(lowest), None);
-    assert_eq!(rt; (table.target(second), table.target(later)), (None, None));
-    assert_eq!(rt; table.target(other), Some(PNum(8)));
-    assert_eq!(rt; (table.len(), table.made()), (4, 40_005));
-    Ok(())
+    true
+}
+
+#[test]
+fn clears_and_removes_the_rows_of_a_peer(rt: HostRuntime) {
+    let mut table = HandleTable::new(rt.alloc());
+    assert_eq!(rt; miss(&mut table, CLEARS.as_slice()), None);
+}
+
+#[test]
+fn is_full_once_all_numbers_were_given(rt: HostRuntime) {
+    let mut table = HandleTable::new(rt.alloc());
+    assert!(rt; make_all(&mut table));
+    assert_eq!(rt; miss(&mut table, IS_FULL.as_slice()), None);
+}
+
+#[test]
+fn makes_handles_on_the_peers_of_all_numbers(rt: HostRuntime) {
+    let mut table = HandleTable::new(rt.alloc());
+    assert_eq!(rt; miss(&mut table, ALL_PEERS.as_slice()), None);
+}
+
+#[test]
+fn restores_a_row_that_was_not_cleared(rt: HostRuntime) {
+    let mut table = HandleTable::new(rt.alloc());
+    assert_eq!(rt; miss(&mut table, RESTORES.as_slice()), None);
+}
+
+#[test]
+fn clears_what_is_left_of_many_handles(rt: HostRuntime) {
+    let mut table = HandleTable::new(rt.alloc());
+    assert_eq!(rt; miss(&mut table, BEFORE_MANY.as_slice()), None);
+    assert!(rt; make_and_release(&mut table));
+    assert_eq!(rt; miss(&mut table, AFTER_MANY.as_slice()), None);
 }
