@@ -3,6 +3,7 @@
 use joint_model::{
     Alive, Counter, Draw, Entries, Entry, HNum, History, Holding, Made, Op, Reply, Thread,
 };
+use std::alloc::AllocError;
 use std::test::Fail;
 
 const BEGUN: Made = Made {
@@ -13,13 +14,17 @@ const BEGUN: Made = Made {
     cites: None,
 };
 
+// Makes room for so many entries. Answers whether the list says so.
+fn has_room(entries: &mut Entries, n: u32) -> Result<bool, AllocError> {
+    entries.reserve(n)?;
+    Ok(entries.spare() >= n)
+}
+
 #[test]
 fn new_entries_have_room_after_a_reserve(rt: HostRuntime) -> Result<(), Fail> {
     let mut entries = Entries::new(rt.alloc(), Holding::Every);
-    entries.reserve(1)?;
-    assert_eq!(rt; entries.len(), 0);
-    assert!(rt; entries.is_empty());
-    assert!(rt; entries.spare() >= 1);
+    let room = has_room(&mut entries, 1)?;
+    assert!(rt; room && entries.len() == 0 && entries.is_empty());
     Ok(())
 }
 
@@ -38,8 +43,7 @@ fn drawn_entries_are_kept(rt: HostRuntime) -> Result<(), Fail> {
         number,
         made: BEGUN,
     });
-    assert_eq!(rt; entries.len(), 2);
-    assert!(rt; !entries.is_empty());
+    assert!(rt; entries.len() == 2 && !entries.is_empty());
     Ok(())
 }
 
@@ -57,20 +61,26 @@ fn weakened(number: u64, h: u32) -> Entry {
     }
 }
 
+// Adds so many entries of both calls, each with room for it.
+fn add_in_turn(entries: &mut Entries, count: u32) -> Result<(), AllocError> {
+    for number in 0..count {
+        entries.reserve(1)?;
+        let entry = weakened(number as u64, number);
+        if number % 3 == 0 {
+            entries.push(entry);
+        } else {
+            entries.push_handle(entry);
+        }
+    }
+    Ok(())
+}
+
 #[test]
 fn a_list_that_holds_the_last_entries_counts_all(rt: HostRuntime) -> Result<(), Fail> {
     let mut entries = Entries::new(rt.alloc(), Holding::Last);
-    for number in 0..700_u32 {
-        entries.reserve(1)?;
-        if number % 3 == 0 {
-            entries.push(weakened(number as u64, number));
-        } else {
-            entries.push_handle(weakened(number as u64, number));
-        }
-    }
-    assert_eq!(rt; entries.len(), 700);
-    entries.reserve(5_000)?;
-    assert!(rt; entries.spare() >= 5_000);
+    add_in_turn(&mut entries, 700)?;
+    let room = has_room(&mut entries, 5_000)?;
+    assert!(rt; room && entries.len() == 700);
     Ok(())
 }
 
@@ -80,10 +90,19 @@ fn alive_has_a_value_for_each_push(rt: HostRuntime) -> Result<(), Fail> {
     assert!(rt; alive.is_empty());
     alive.push(true);
     alive.push(false);
-    assert_eq!(rt; alive.at(1), Some(false));
-    assert!(rt; alive.at(2).is_none());
-    assert_eq!(rt; alive.len(), 2);
+    assert!(rt; alive.at(1) == Some(false) && alive.at(2).is_none() && alive.len() == 2);
     Ok(())
+}
+
+// Whether a history has nothing, by all that can be asked.
+fn has_nothing(history: &History) -> bool {
+    history.len() == 0
+        && history.is_empty()
+        && history.entry(0).is_none()
+        && history.walk().next().is_none()
+        && history.freed_managed(0).is_none()
+        && history.freed_peer(0).is_none()
+        && history.notice(0).is_none()
 }
 
 #[test]
@@ -96,12 +115,6 @@ fn no_lists_join_to_the_empty_history(rt: HostRuntime) -> Result<(), Fail> {
         Vec::new(alloc),
         Vec::new(alloc),
     )?;
-    assert_eq!(rt; history.len(), 0);
-    assert!(rt; history.is_empty());
-    assert!(rt; history.entry(0).is_none());
-    assert!(rt; history.walk().next().is_none());
-    assert!(rt; history.freed_managed(0).is_none());
-    assert!(rt; history.freed_peer(0).is_none());
-    assert!(rt; history.notice(0).is_none());
+    assert!(rt; has_nothing(&history));
     Ok(())
 }
