@@ -24,7 +24,7 @@ enum Call {
     Count(u32, u32),
 }
 
-// The row of a raw name for a peer that is weak.
+// The second handle's row, once its peer is freed.
 const SECOND: HandleRow = HandleRow {
     number: HNum(2),
     peer: PNum(1),
@@ -73,13 +73,14 @@ const RESTORES: [Call; 8] = [
     Call::Count(2, 2),
 ];
 
-// Handles of peer 9 before and after the many.
+// Handles that are made before the many.
 const BEFORE_MANY: [Call; 3] = [
     Call::Make(PNum(9), Raw, Weak, Ok(HNum(1))),
     Call::Make(PNum(8), Raw, Weak, Ok(HNum(2))),
     Call::Make(PNum(9), Raw, Weak, Ok(HNum(3))),
 ];
 
+// The first handle's row, which is released while its peer is there.
 const LOWEST: HandleRow = HandleRow {
     number: HNum(1),
     peer: PNum(9),
@@ -88,6 +89,7 @@ const LOWEST: HandleRow = HandleRow {
     cleared: false,
 };
 
+// The third handle's row, once its peer is freed.
 const FIRST: HandleRow = HandleRow {
     number: HNum(3),
     peer: PNum(9),
