@@ -11,3 +11,4 @@ pub mod Sweeping
 mod Snapshots
 mod Twinning
 pub mod Lifting
+pub mod Growing

@@ -14,18 +14,15 @@ use Rattle.joint_model.specs.Joint.{Joint, with_managed}
 use Rattle.joint_model.specs.Managed.{Managed, OpenCycle, Holds, IsBridgeReached, handle_of, with_snapshot}
 use Rattle.joint_model.specs.Peers.{Peers, peer_of}
 use Rattle.joint_model.specs.Run.{IsKept, JointResolve}
-use Rattle.joint_model.specs.Walks.{Reached}
 use Rattle.joint_model.proofs.Members.{All-members, Contains-filter_from, Contains-filter_to, Rises-one, Rises-filter}
 use Rattle.joint_model.proofs.Deciding.{true-false, not-from, some-same}
 use Rattle.joint_model.proofs.HeapLemmas.{Holds-handle_of}
 use Rattle.joint_replay.proofs.Snapshots.{handle-reached, bridge-row, row-bridge}
-use Rattle.heap_rules.specs.Tidy.{live_fields}
-use Rattle.reachability.specs.Marks.{Leads, HasMark, unmarked_of}
+use Rattle.reachability.specs.Marks.{HasMark, unmarked_of}
 use Rattle.joint_replay.specs.Judging.{named_objects}
 use Rattle.joint_replay.specs.Found.{IsHandleReached}
 use Rattle.joint_replay.specs.Finding.{FindsRows}
-use Rattle.joint_replay.specs.Plain.{cleaned}
-use Rattle.joint_replay.specs.Snaps.{SnapsManaged, SaysSnap, SaysFreed, OwesDead, keeps, Settles, SnapsJoint}
+use Rattle.joint_replay.specs.Snaps.{SnapsManaged, SaysSnap, SaysFreed, OwesDead, IsKeptReached, closed, keeps, Settles, SnapsJoint}
 use Rattle.joint_replay.proofs.Finding.{marks-open}
 use Rattle.joint_replay.proofs.Flags.{is_freed-exact}
 use Rattle.reachability.proofs.Marking.{unmarked_of-exact}
@@ -118,7 +115,7 @@ keeps-to s p m h q e l n =
     ∙ (ap (λ (o : Option ℕ). elim o [ None ↦ false | Some y ↦ not (is_freed p.heap y) ]) l ∙ not-from (is_freed p.heap q) (λ t. n ((is_freed-exact p.heap q).0 t)))
 
 -- an object that was made and holds a handle is live
-holds-made : (s : Managed) (m h : ℕ) → IsMade s.heap m → handle_of s m ≡ Some h → Holds s m h
+pub holds-made : (s : Managed) (m h : ℕ) → IsMade s.heap m → handle_of s m ≡ Some h → Holds s m h
 holds-made s m h made e = by (is_freed s.heap m) refl e
   where
     place : (o : Option (Option ℕ)) → elim o [ None ↦ None | Some x ↦ x ] ≡ Some h → o ≡ Some (Some h)
@@ -140,13 +137,13 @@ kept-exact j c kept e made m = (
 )
 
 -- what a resolution frees, by the marks of a marking from the kept candidates
-pub settles-from : (j : Joint) (k : ℕ) (c : OpenCycle) (kept freed : List ℕ) (marks : List Bool) → IsOpen j.graph.managed k c → OwesDead (length j.graph.managed.heap.fields) (Some c)
-    → kept ≡ filter (keeps j.graph.managed j.graph.peers) c.candidates
-    → ((i : ℕ) → HasMark marks i ↔ Reached (Contains kept) (Leads (length j.graph.managed.heap.fields + 1) (live_fields (cleaned j.graph.managed.heap))) i)
+pub settles-from : (j : Joint) (k : ℕ) (c : OpenCycle) (freed : List ℕ) (marks : List Bool) → IsOpen j.graph.managed k c → OwesDead (length j.graph.managed.heap.fields) (Some c)
+    → ((i : ℕ) → HasMark marks i ↔ IsKeptReached j.graph.managed j.graph.peers c.candidates i)
     → freed ≡ unmarked_of marks c.dead → Settles j k freed
-settles-from j k c kept freed marks o owes e m f =
+settles-from j k c freed marks o owes m f =
     let h = j.graph.managed.heap in
-    let exact = kept-exact j c kept e owes.2 in
+    let kept = filter (keeps j.graph.managed j.graph.peers) c.candidates in
+    let exact = kept-exact j c kept refl owes.2 in
     let reached = marks-open h (IsKept j c) kept marks exact m in
     let U = unmarked_of-exact marks c.dead in
     record {
@@ -162,8 +159,8 @@ settles-from j k c kept freed marks o owes e m f =
       made = All-members (IsMade h) freed (λ x w. All-contains (IsMade h) c.dead x owes.1 ((U x).0 (subst (λ z. Contains z x) f w)).0);
     }
 
-pub kept-within : (j : Joint) (c : OpenCycle) (kept : List ℕ) → kept ≡ filter (keeps j.graph.managed j.graph.peers) c.candidates → All (IsMade j.graph.managed.heap) c.candidates → All (λ y. y < length j.graph.managed.heap.fields + 1) kept
-kept-within j c kept e made = All-members (λ y. y < length j.graph.managed.heap.fields + 1) kept (λ y w. (let l = All-contains (IsMade j.graph.managed.heap) c.candidates y made (Contains-filter_from (keeps j.graph.managed j.graph.peers) c.candidates y (subst (λ z. Contains z y) e w)).0 in omega (arith, l.1)))
+pub kept-within : (s : Managed) (p : Peers) (candidates kept : List ℕ) → kept ≡ filter (keeps s p) candidates → All (IsMade s.heap) candidates → All (λ y. y < length s.heap.fields + 1) kept
+kept-within s p candidates kept e made = All-members (λ y. y < length s.heap.fields + 1) kept (λ y w. (let l = All-contains (IsMade s.heap) candidates y made (Contains-filter_from (keeps s p) candidates y (subst (λ z. Contains z y) e w)).0 in omega (arith, l.1)))
 
 resolution-one : (j : Joint) (k l : ℕ) (named freed : List ℕ) (reply : Reply) (next : Joint) → Settles j k freed → JointResolve j l named reply next → named ≡ freed
 resolution-one j k l named freed reply next x y =
@@ -180,6 +177,16 @@ pub resolve-no : (j : Joint) (h : Finished) (reply : Reply) (k : ℕ) (freed : L
 resolve-no j h reply k freed x wrong next y =
     let one = resolution-one j k k (named_objects h reply) freed reply next x y in
     wrong (says-freed j.graph.managed h reply freed one (y.replies ∙ ap (resolve_reply j.graph.managed) one))
+
+freed-said : (s : Managed) (h : Finished) (reply : Reply) (freed : List ℕ) → SaysFreed s.heap h reply freed → (named_objects h reply ≡ freed) × (reply ≡ resolve_reply s freed)
+freed-said s h (says.Freed span) freed w = (w.named, ap says.Freed (span-is span (length s.heap.freed) (length freed) w.first w.count))
+freed-said s h _ freed w = absurd w
+
+-- a reply that says so is the resolution's
+pub resolve-yes : (j : Joint) (h : Finished) (reply : Reply) (k : ℕ) (freed : List ℕ) → Settles j k freed → SaysFreed j.graph.managed.heap h reply freed → JointResolve j k (named_objects h reply) reply (closed j freed)
+resolve-yes j h reply k freed x w =
+    let r = freed-said j.graph.managed h reply freed w in
+    subst (λ f. JointResolve j k f reply (closed j freed)) (sym r.0) (record { cycle = x.cycle; open_cycle = x.open_cycle; resolution = x.resolution; replies = r.1; state = refl })
 
 -- the managed snapshot is the joint one
 pub snap-joint : (j : Joint) (k : ℕ) (freed : List ℕ) (reply : Reply) (m : Managed) → SnapsManaged j.graph.managed k freed reply m → SnapsJoint j k freed reply (with_managed j m)

@@ -1,6 +1,6 @@
 -- What it means to replay an entry of a history: whether it is a step of the joint machine from a state, with what is
 -- told beside it read from the history's own lists. (The joint machine is the one of the joint model.)
-use Rattle.std.specs.Prelude.{◌≡◌, ℕ, ◌<◌, List, [], Some, slice_get}
+use Rattle.std.specs.Prelude.{◌≡◌, ℕ, ◌<◌, Bool, false, List, [], ◌++◌, map, Some, slice_get}
 use Rattle.joint_model.specs.declared.events.Op.{Op}
 use Rattle.joint_model.specs.declared.events.Op.TheVariants as op
 use Rattle.joint_model.specs.declared.events.Reply.{Reply}
@@ -10,6 +10,7 @@ use Rattle.joint_model.specs.Heaps.{Answered}
 use Rattle.joint_model.specs.Histories.{Finished, managed_numbers, peer_numbers, stretch}
 use Rattle.joint_model.specs.Joint.{Joint}
 use Rattle.joint_model.specs.Lines.{IsVar}
+use Rattle.joint_model.specs.Peers.{Peers, issued_since}
 use Rattle.joint_model.specs.Run.{JointStep}
 use Rattle.joint_model.specs.Told.{Told, snap_of, sweep_of, resolution_of}
 use Rattle.joint_replay.specs.declared.state.Verdict.{Verdict}
@@ -73,3 +74,7 @@ IsObjectEvent _ = ⊥
 -- the entry of a history with that number
 abbrev pub IsEntry : Finished → ℕ → Entry → Type 0
 IsEntry h i e = slice_get h.entries i ≡ Some e
+
+-- the flags of the removed handles go on with one for each handle that was issued, which isn't removed
+abbrev pub Flags : Peers → Peers → List Bool → List Bool → Type 0
+Flags old new flags next = next ≡ flags ++ map (λ i. false) (issued_since old new)

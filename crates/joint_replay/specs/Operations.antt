@@ -3,10 +3,13 @@
 use Rattle.std.specs.Prelude.{ℕ, ◌<◌, ◌≤◌}
 use Rattle.joint_model.specs.declared.lines.Act.{Act}
 use Rattle.joint_model.specs.declared.lines.Act.TheVariants as act
+use Rattle.joint_model.specs.declared.names.Sort.{Sort}
+use Rattle.joint_model.specs.declared.events.Op.{Op}
+use Rattle.joint_model.specs.declared.events.Op.TheVariants as op
 use Rattle.joint_model.specs.declared.events.Reply.{Reply}
 use Rattle.joint_model.specs.declared.events.Reply.TheVariants as says
 use Rattle.joint_model.specs.Heaps.{Heap, Answered, answer, place, copied, field_set, field_got, dropped, loaded, stored}
-use Rattle.joint_model.specs.Lines.{IsVar, IsVarOrNone}
+use Rattle.joint_model.specs.Lines.{IsVar, IsVarOrNone, IsBridgeObject}
 use Rattle.joint_model.specs.Managed.{managed_name, place_or_none}
 use Rattle.joint_model.specs.Peers.{peer_name}
 use Rattle.joint_replay.specs.declared.operations.Naming.{Naming}
@@ -36,3 +39,15 @@ plain_line name h t (act.Drop v) = dropped h (place t v.0)
 plain_line name h t (act.Load v x) = loaded name h (place t v.0) x.0
 plain_line name h t (act.Store x v) = stored h x.0 (place_or_none t v)
 plain_line name h t _ = answer says.Ok h
+
+-- an event that a managed thread makes on the handles and their objects, within its limits
+abbrev pub IsBridgeEvent : Op → Type 0
+IsBridgeEvent (op.Make s n) = n ≤ 16
+IsBridgeEvent (op.Adopt v k n p h) = IsVar v × ((s : Sort) × IsBridgeObject k n s)
+IsBridgeEvent (op.Lend v x) = IsVar v × (x.0 < 16)
+IsBridgeEvent (op.Land h x) = x.0 < 16
+IsBridgeEvent (op.Grip x) = x.0 < 16
+IsBridgeEvent (op.Meet v s n p h) = IsVar v × (n ≤ 16)
+IsBridgeEvent (op.Give v) = IsVar v
+IsBridgeEvent (op.Release h) = Unit {0}
+IsBridgeEvent _ = ⊥

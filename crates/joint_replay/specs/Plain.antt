@@ -11,8 +11,8 @@ use Rattle.joint_replay.specs.declared.peers.IssuedHold.{IssuedHold}
 use Rattle.joint_replay.specs.declared.peers.IssuedHold.TheVariants.{Held, Raw}
 use Rattle.joint_replay.specs.declared.peers.IssuedStrength.{IssuedStrength}
 use Rattle.joint_replay.specs.declared.peers.IssuedStrength.TheVariants.{Strong, Weak}
-use Rattle.joint_replay.specs.declared.heap.Refusal.{Refusal}
-use Rattle.joint_replay.specs.declared.heap.Refusal.TheVariants.{Empty, Range}
+use Rattle.joint_replay.specs.declared.replies.Refusal.{Refusal}
+use Rattle.joint_replay.specs.declared.replies.Refusal.TheVariants as refusal
 
 -- the flags say of each object whether it is freed, there are no more objects than fit, and the tables have their sizes
 pub record IsFlagged (h : Heap) (flags : List Bool) : Type 0 where
@@ -53,8 +53,14 @@ issued_as h = record { peer = h.peer; hold = hold_as h.hold; strength = strength
 
 -- the reply of a refusal
 abbrev pub refusal_reply : Refusal → Reply
-refusal_reply Empty = says.Empty
-refusal_reply Range = says.Range
+refusal_reply refusal.Empty = says.Empty
+refusal_reply refusal.Range = says.Range
+refusal_reply refusal.Null = says.Null
+refusal_reply refusal.Full = says.Full
+refusal_reply refusal.Gone = says.Gone
+refusal_reply refusal.Taken = says.Taken
+refusal_reply refusal.Unset = says.Unset
+refusal_reply refusal.Plain = says.Plain
 
 -- cycle k is open
 pub record HasOpen (s : Managed) (k : ℕ) : Type 0 where

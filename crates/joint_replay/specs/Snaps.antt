@@ -1,6 +1,6 @@
 -- Snapshots, resolutions and sweeps, with the freed rows that are told. (The definitions are the joint model's; only
 -- their result is named here.)
-use Rattle.std.specs.Prelude.{◌≡◌, ℕ, ◌≤◌, ◌⊎◌, Bool, false, not, List, Option, Some, None, All, length}
+use Rattle.std.specs.Prelude.{◌≡◌, ℕ, ◌+◌, ◌≤◌, ◌⊎◌, Bool, false, not, List, Option, Some, None, All, Contains, filter, filter_map, length}
 use Rattle.joint_model.specs.declared.names.Span.{Span}
 use Rattle.joint_model.specs.declared.names.Thread.{Thread}
 use Rattle.joint_model.specs.declared.names.Thread.TheVariants.{C}
@@ -11,9 +11,13 @@ use Rattle.joint_model.specs.Cycles.{IsSnapshot, snap_reply, IsResolution, IsOpe
 use Rattle.joint_model.specs.Heaps.{Heap, IsMade, is_freed}
 use Rattle.joint_model.specs.Histories.{Finished, managed_numbers, peer_numbers, stretch}
 use Rattle.joint_model.specs.Joint.{Joint, JointMarking, IsReached, peer}
-use Rattle.joint_model.specs.Managed.{Managed, OpenCycle, with_snapshot, handle_of}
+use Rattle.joint_model.specs.Managed.{Managed, OpenCycle, with_snapshot, resolved, handle_of}
 use Rattle.joint_model.specs.Peers.{Peers, peer_of}
-use Rattle.joint_model.specs.Run.{IsKept, JointSnap, IsStored, EndsMarking}
+use Rattle.joint_model.specs.Run.{IsKept, JointSnap, IsStored, EndsMarking, removed_all}
+use Rattle.joint_model.specs.Walks.{Reached}
+use Rattle.heap_rules.specs.Tidy.{live_fields}
+use Rattle.reachability.specs.Marks.{Leads}
+use Rattle.joint_replay.specs.Plain.{cleaned}
 
 -- a snapshot that frees these rows
 pub record SnapsManaged (s : Managed) (k : ℕ) (freed : List ℕ) (reply : Reply) (next : Managed) : Type 0 where
@@ -57,12 +61,20 @@ keeps s p m = elim (handle_of s m) [
   | Some h ↦ elim (peer_of p.issued h) [ None ↦ false | Some q ↦ not (is_freed p.heap q) ]
 ]
 
+-- a kept candidate of a list leads to the row
+abbrev pub IsKeptReached : Managed → Peers → List ℕ → ℕ → Type 0
+IsKeptReached s p candidates m = Reached (Contains (filter (keeps s p) candidates)) (Leads (length s.heap.fields + 1) (live_fields (cleaned s.heap))) m
+
 -- what a resolution of cycle k frees
 pub record Settles (j : Joint) (k : ℕ) (freed : List ℕ) : Type 0 where
   pub cycle : OpenCycle
   pub open_cycle : IsOpen j.graph.managed k cycle
   pub resolution : IsResolution j.graph.managed cycle.dead (IsKept j cycle) freed
   pub made : All (IsMade j.graph.managed.heap) freed
+
+-- the open cycle is closed, these rows are freed, and the handles that they hold are removed
+abbrev pub closed : Joint → List ℕ → Joint
+closed j freed = record j { graph = record j.graph { managed = resolved j.graph.managed freed; removed = removed_all j.graph.removed (filter_map (handle_of j.graph.managed) freed) } }
 
 -- the reply is that of a sweep of marking n, and its span stands where the next freed peers come
 abbrev pub SaysSwept : Heap → Finished → Reply → ℕ → Type 0

@@ -9,6 +9,7 @@ ghost use Rattle.joint_model.specs.Managed.{place_or_none};
 ghost use Rattle.joint_model.specs.Run.{thread_number};
 ghost use Rattle.joint_model.specs.declared.events.Op.TheVariants.{Line};
 ghost use Rattle.joint_model.specs.declared.names.Sort.{Sort};
+ghost use Rattle.joint_replay.specs.Operations.{IsBridgeEvent, IsPlainAct};
 
 use joint_model::{Act, Cell, GName, Kind, Op, StaticNo, Thread, Var};
 
@@ -18,31 +19,39 @@ pub(crate) fn can_make(caller: Thread, op: &Op) -> bool
 {
     match op {
         Op::Line(act) => is_line(caller, act),
-        Op::Make { sort: _, fields } => is_managed(caller) && *fields <= 16,
+        Op::Snap { cycle: _ } | Op::Resolve { cycle: _ } | Op::Abandon { cycle: _ } => {
+            matches!(caller, Thread::C)
+        }
+        Op::Begin | Op::Sweep => is_peer(caller) || matches!(caller, Thread::C),
+        _ => is_managed(caller) && is_bridge_event(op),
+    }
+}
+
+// Whether the event is one that a managed thread makes on the handles and their objects, within its limits.
+fn is_bridge_event(op: &Op) -> bool
+    ensures { IsTrue result ↔ IsBridgeEvent op.now }
+{
+    match op {
+        Op::Make { sort: _, fields } => *fields <= 16,
         Op::Adopt {
             v,
             kind,
             fields,
             p: _,
             h: _,
-        } => { is_managed(caller) && is_var(*v) && is_bridge_object(*kind, *fields) }
-        Op::Lend { v, x } => is_managed(caller) && is_var(*v) && is_static(*x),
-        Op::Land { h: _, x } => is_managed(caller) && is_static(*x),
-        Op::Grip { x } => is_managed(caller) && is_static(*x),
+        } => is_var(*v) && is_bridge_object(*kind, *fields),
+        Op::Lend { v, x } => is_var_and_static(*v, *x),
+        Op::Land { h: _, x } => is_static(*x),
+        Op::Grip { x } => is_static(*x),
         Op::Meet {
             v,
             p: _,
             h: _,
             sort: _,
             fields,
-        } => { is_managed(caller) && is_var(*v) && *fields <= 16 }
-        Op::Give { v } => is_managed(caller) && is_var(*v),
-        Op::Release { h: _ } => is_managed(caller),
-        Op::Snap { cycle: _ } => matches!(caller, Thread::C),
-        Op::Begin => is_peer(caller) || matches!(caller, Thread::C),
-        Op::Sweep => is_peer(caller) || matches!(caller, Thread::C),
-        Op::Resolve { cycle: _ } => matches!(caller, Thread::C),
-        Op::Abandon { cycle: _ } => matches!(caller, Thread::C),
+        } => is_var(*v) && *fields <= 16,
+        Op::Give { v } => is_var(*v),
+        Op::Release { h: _ } => true,
         _ => false,
     }
 }
@@ -64,25 +73,12 @@ fn is_managed_act(act: &Act) -> bool
 {
     match act {
         Act::New { v, kind, fields } => is_var(*v) && is_plain_object(*kind, *fields),
-        Act::Copy { v, w } => is_var(*v) && is_var(*w),
-        Act::Set { v, i, w } => {
-            // an index is a byte, so it is within its limit
-            let _index = *i;
-            is_var(*v) && is_var_or_none(*w)
-        }
-        Act::Get { v, w, i } => {
-            let _index = *i;
-            is_var(*v) && is_var(*w)
-        }
-        Act::Drop { v } => is_var(*v),
-        Act::Load { v, x } => is_var(*v) && is_static(*x),
-        Act::Store { x, v } => is_static(*x) && is_var_or_none(*v),
         Act::Weak { k, v } => is_cell(*k) && is_var(*v),
         Act::Read { k } => is_cell(*k),
         Act::Await { k } => is_cell(*k),
         Act::Take { v } => is_var(*v),
         Act::Handle { v } => is_var(*v),
-        _ => false,
+        _ => is_plain_act(act),
     }
 }
 
@@ -92,22 +88,32 @@ fn is_peer_act(act: &Act) -> bool
 {
     match act {
         Act::NewPeer { v, fields } => is_var(*v) && *fields <= 16,
-        Act::Copy { v, w } => is_var(*v) && is_var(*w),
+        Act::Global { g, v } => is_name_and_var(*g, *v),
+        Act::WGlobal { g, v } => is_name_and_var(*g, *v),
+        Act::UnGlobal { g } => is_name(*g),
+        Act::WRead { v, g } => is_var(*v) && is_name(*g),
+        _ => is_plain_act(act),
+    }
+}
+
+// Whether the operation is one that both heaps have, within its limits.
+fn is_plain_act(act: &Act) -> bool
+    ensures { IsTrue result ↔ IsPlainAct act.now }
+{
+    match act {
+        Act::Copy { v, w } => are_vars(*v, *w),
         Act::Set { v, i, w } => {
+            // an index is a byte, so it is within its limit
             let _index = *i;
             is_var(*v) && is_var_or_none(*w)
         }
         Act::Get { v, w, i } => {
             let _index = *i;
-            is_var(*v) && is_var(*w)
+            are_vars(*v, *w)
         }
         Act::Drop { v } => is_var(*v),
-        Act::Load { v, x } => is_var(*v) && is_static(*x),
+        Act::Load { v, x } => is_var_and_static(*v, *x),
         Act::Store { x, v } => is_static(*x) && is_var_or_none(*v),
-        Act::Global { g, v } => is_name(*g) && is_var(*v),
-        Act::WGlobal { g, v } => is_name(*g) && is_var(*v),
-        Act::UnGlobal { g } => is_name(*g),
-        Act::WRead { v, g } => is_var(*v) && is_name(*g),
         _ => false,
     }
 }
@@ -146,6 +152,24 @@ fn is_var(v: Var) -> bool
     ensures { IsTrue result ↔ IsVar v }
 {
     v.0 < 8
+}
+
+fn are_vars(v: Var, w: Var) -> bool
+    ensures { IsTrue result ↔ (IsVar v × IsVar w) }
+{
+    is_var(v) && is_var(w)
+}
+
+fn is_var_and_static(v: Var, x: StaticNo) -> bool
+    ensures { IsTrue result ↔ (IsVar v × (x.0 < 16)) }
+{
+    is_var(v) && is_static(x)
+}
+
+fn is_name_and_var(g: GName, v: Var) -> bool
+    ensures { IsTrue result ↔ ((g.0 < 64) × IsVar v) }
+{
+    is_name(g) && is_var(v)
 }
 
 fn is_var_or_none(w: Option<Var>) -> bool

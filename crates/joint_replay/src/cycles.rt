@@ -1,13 +1,19 @@
 // The driver's cycle: its snapshot, its resolution and its abandonment.
 
-ghost use Rattle.std.specs.Prelude.{◌≡◌, ◌<◌, ◌↔◌, IsTrue, IfOk, OnErr, Some, None, MatchOption, filter};
-ghost use Rattle.joint_model.specs.Run.{JointAbandon, JointResolve, removed_all};
+ghost use Rattle.std.specs.Prelude.{◌≡◌, ℕ, ◌<◌, ◌↔◌, IsTrue, IfOk, OnErr, OnOk, Some, None, MatchOption, All, filter};
+ghost use Rattle.joint_model.specs.Heaps.{IsMade};
+ghost use Rattle.joint_model.specs.Joint.{Joint};
+ghost use Rattle.joint_model.specs.Run.{JointAbandon, JointResolve};
 ghost use Rattle.joint_replay.specs.Plain.{HasOpen};
-ghost use Rattle.joint_replay.specs.Snaps.{SnapsJoint, Settles, SaysFreed, keeps};
-ghost use Rattle.reachability.specs.Marks.{marked, unmarked_of};
+ghost use Rattle.joint_replay.specs.Snaps.{SnapsJoint, Settles, SaysFreed, IsKeptReached, closed, keeps};
+ghost use Rattle.reachability.specs.Marks.{HasMark, unmarked_of};
 ghost use Rattle.joint_replay.specs.Judging.{Decides, named_objects};
 
+use crate::managed::ManagedPart;
+use crate::marking::is_marked;
+use crate::peers::PeerPart;
 use crate::removed::remove_all;
+use crate::replies::says_ok;
 use crate::state::{JointState, Verdict};
 use joint_model::{Cycle, History, Reply};
 use reachability::reached;
@@ -38,17 +44,43 @@ impl JointState {
         ensures ok { IfOk result (λ d. Decides (JointResolve self.old k.0 (named_objects h.now reply.now) reply.now) d self.old self.new) }
         ensures err { OnErr result (self.new ≡ self.old) }
     {
-        let Some(freed) = self.settled(k)? else {
+        let Some(freed) = self.resolution(h, k, reply)? else {
             return Ok(Verdict::Unlawful);
+        };
+        self.close(&freed)?;
+        Ok(Verdict::Lawful)
+    }
+
+    // What a resolution of cycle `k` with that reply frees; None where there is none.
+    fn resolution(
+        &self,
+        h: &History,
+        k: Cycle,
+        reply: &Reply,
+    ) -> Result<Option<Vec<u32>>, AllocError>
+        ensures { IfOk result (λ o. MatchOption o ((next : Joint) → JointResolve self.now k.0 (named_objects h.now reply.now) reply.now next → ⊥) (λ v. JointResolve self.now k.0 (named_objects h.now reply.now) reply.now (closed self.now v.items) × All (IsMade self.now.graph.managed.heap) v.items)) }
+    {
+        let Some(freed) = self.settled(k)? else {
+            return Ok(None);
         };
         let lawful = self.says_freed(h, reply, &freed)?;
         if !lawful {
-            return Ok(Verdict::Unlawful);
+            return Ok(None);
         }
-        let handles = self.managed.handles_of(self.alloc, &freed)?;
-        self.managed.close(self.alloc, &freed)?;
+        Ok(Some(freed))
+    }
+
+    // The open cycle is closed, and these rows are freed. Answers `AllocError` where there is no memory; the state is
+    // then as before.
+    fn close(&mut self, freed: &[u32]) -> Result<(), AllocError>
+        requires { All (IsMade self.old.graph.managed.heap) freed.now }
+        ensures ok { OnOk result (self.new ≡ closed self.old freed.now) }
+        ensures err { OnErr result (self.new ≡ self.old) }
+    {
+        let handles = self.managed.handles_of(self.alloc, freed)?;
+        self.managed.close(self.alloc, freed)?;
         remove_all(&handles, &mut self.removed);
-        Ok(Verdict::Lawful)
+        Ok(())
     }
 
     // What a resolution of cycle `k` frees; None where that cycle isn't open.
@@ -58,34 +90,9 @@ impl JointState {
         let Some(open) = self.managed.opened(k) else {
             return Ok(None);
         };
-        let kept = self.kept(open.candidates())?;
-        let marks = reached(self.alloc, self.managed.heap(), &kept)?;
+        let marks = kept_marks(self.alloc, &self.managed, &self.peers, open.candidates())?;
         let freed = unmarked(self.alloc, &marks, open.dead())?;
         Ok(Some(freed))
-    }
-
-    // The candidates of a list that are kept.
-    fn kept(&self, candidates: &[u32]) -> Result<Vec<u32>, AllocError>
-        ensures { IfOk result (λ v. v.items ≡ filter (keeps self.now.graph.managed self.now.graph.peers) candidates.now) }
-    {
-        candidates
-            .iter()
-            .copied()
-            .filter(|m| self.keeps(*m))
-            .collect(self.alloc)
-    }
-
-    // Whether an object holds a handle whose peer isn't freed.
-    fn keeps(&self, m: u32) -> bool
-        ensures { result ≡ keeps self.now.graph.managed self.now.graph.peers m }
-    {
-        match self.managed.handle(m) {
-            None => false,
-            Some(h) => match self.peers.peer_of(h) {
-                None => false,
-                Some(p) => !self.peers.heap().is_freed(p),
-            },
-        }
     }
 
     // Whether the reply is that of a resolution that frees these rows.
@@ -102,11 +109,54 @@ impl JointState {
     pub(crate) fn abandon(&mut self, k: Cycle, reply: &Reply) -> Verdict
         ensures { Decides (JointAbandon self.old k.0 reply.now) result self.old self.new }
     {
-        if !self.managed.is_open(k) || !matches!(reply, Reply::Ok) {
+        if !self.managed.is_open(k) || !says_ok(reply) {
             return Verdict::Unlawful;
         }
         self.managed.abandon();
         Verdict::Lawful
+    }
+}
+
+// A mark for each row that a kept candidate leads to.
+fn kept_marks(
+    alloc: Global,
+    managed: &ManagedPart,
+    peers: &PeerPart,
+    candidates: &[u32],
+) -> Result<Vec<bool>, AllocError>
+    requires { All (IsMade managed.now.heap) candidates.now }
+    ensures { IfOk result (λ v. (i : ℕ) → HasMark v.items i ↔ IsKeptReached managed.now peers.now candidates.now i) }
+{
+    let kept = kept(alloc, managed, peers, candidates)?;
+    reached(alloc, managed.heap(), &kept)
+}
+
+// The candidates of a list that are kept.
+fn kept(
+    alloc: Global,
+    managed: &ManagedPart,
+    peers: &PeerPart,
+    candidates: &[u32],
+) -> Result<Vec<u32>, AllocError>
+    ensures { IfOk result (λ v. v.items ≡ filter (keeps managed.now peers.now) candidates.now) }
+{
+    candidates
+        .iter()
+        .copied()
+        .filter(|m| keeps(managed, peers, *m))
+        .collect(alloc)
+}
+
+// Whether an object holds a handle whose peer isn't freed.
+fn keeps(managed: &ManagedPart, peers: &PeerPart, m: u32) -> bool
+    ensures { result ≡ keeps managed.now peers.now m }
+{
+    match managed.handle(m) {
+        None => false,
+        Some(h) => match peers.peer_of(h) {
+            None => false,
+            Some(p) => !peers.heap().is_freed(p),
+        },
     }
 }
 
@@ -118,13 +168,4 @@ fn unmarked(alloc: Global, marks: &[bool], rows: &[u32]) -> Result<Vec<u32>, All
         .copied()
         .filter(|m| !is_marked(marks, *m))
         .collect(alloc)
-}
-
-fn is_marked(marks: &[bool], m: u32) -> bool
-    ensures { result ≡ marked marks.now m }
-{
-    match marks.get(m as usize) {
-        None => false,
-        Some(mark) => *mark,
-    }
 }

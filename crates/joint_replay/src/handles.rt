@@ -8,8 +8,8 @@ ghost use Rattle.joint_model.specs.Peers.{gripped, landed, pair_made};
 ghost use Rattle.joint_model.specs.Run.{on_peers, without, joint_answer};
 ghost use Rattle.joint_replay.specs.Judging.{Decides, Gives, IsHandleEvent};
 
-use crate::peers::{IssuedHold, IssuedStrength};
 use crate::removed::remove;
+use crate::replies::says_ok;
 use crate::state::{JointState, Verdict};
 use joint_model::{Op, Reply, Sort, Thread};
 use std::alloc::AllocError;
@@ -35,16 +35,7 @@ impl JointState {
         ensures ok { IfOk result (λ d. Decides (Gives (on_peers self.old (pair_made self.old.graph.peers sort fields)) reply.now) d self.old self.new) }
         ensures err { OnErr result (self.new ≡ self.old) }
     {
-        if self.peers.is_full() {
-            return Ok(Verdict::of(matches!(reply, Reply::Full)));
-        }
-        if !self.peers.names_next(reply) {
-            return Ok(Verdict::Unlawful);
-        }
-        self.removed.reserve(1)?;
-        self.peers.add_pair(sort, fields)?;
-        self.removed.push_reserved(false);
-        Ok(Verdict::Lawful)
+        self.peers.make_pair(sort, fields, &mut self.removed, reply)
     }
 
     // `land`: the static holds the peer to which the handle leads.
@@ -70,27 +61,14 @@ impl JointState {
         ensures ok { IfOk result (λ d. Decides (Gives (on_peers self.old (gripped self.old.graph.peers x)) reply.now) d self.old self.new) }
         ensures err { OnErr result (self.new ≡ self.old) }
     {
-        let Some(p) = self.peers.heap().static_at(x) else {
-            return Ok(Verdict::of(matches!(reply, Reply::Null)));
-        };
-        if self.peers.are_handles_full() {
-            return Ok(Verdict::of(matches!(reply, Reply::Full)));
-        }
-        if !self.peers.names_gripped(p, reply) {
-            return Ok(Verdict::Unlawful);
-        }
-        self.removed.reserve(1)?;
-        self.peers
-            .add_handle(p, IssuedHold::Held, IssuedStrength::Strong)?;
-        self.removed.push_reserved(false);
-        Ok(Verdict::Lawful)
+        self.peers.grip(x, &mut self.removed, reply)
     }
 
     // `release`: the handle is removed.
     fn release(&mut self, h: u32, reply: &Reply) -> Verdict
         ensures { Decides (Gives (answer Reply.Ok (without self.old (Some h))) reply.now) result self.old self.new }
     {
-        if !matches!(reply, Reply::Ok) {
+        if !says_ok(reply) {
             return Verdict::Unlawful;
         }
         remove(h, &mut self.removed);

@@ -6,6 +6,7 @@ ghost use Rattle.joint_model.specs.Heaps.{Heap, MOST, IsMade, IsLive, is_freed, 
 ghost use Rattle.heap_rules.specs.Tidy.{live_fields};
 ghost use Rattle.joint_replay.specs.Plain.{refusal_reply, is_live, kept_target, cleaned, Lowers};
 
+use crate::replies::Refusal;
 use joint_model::{Reply, STATICS, VARS};
 use reachability::Walked;
 use std::alloc::{AllocError, Global};
@@ -13,25 +14,6 @@ use std::marker::Model;
 
 // The most objects that a heap makes.
 const MOST_OBJECTS: usize = 65_535;
-
-/// Why a field isn't written: a variable is empty, or the object has no such field.
-#[derive(Clone, Copy, PartialEq, Eq, Debug)]
-pub(crate) enum Refusal {
-    Empty,
-    Range,
-}
-
-impl Refusal {
-    /// Whether the reply is that of the refusal.
-    pub(crate) fn is_said(self, reply: &Reply) -> bool
-        ensures { IsTrue result ↔ (reply.now ≡ refusal_reply self) }
-    {
-        match self {
-            Refusal::Empty => matches!(reply, Reply::Empty),
-            Refusal::Range => matches!(reply, Reply::Range),
-        }
-    }
-}
 
 /// A field of an object, and what it is to hold.
 #[derive(Clone, Copy)]

@@ -15,8 +15,9 @@ ghost use Rattle.joint_replay.specs.Plain.{strength_as};
 ghost use Rattle.joint_replay.specs.Judging.{Decides, Gives};
 
 use crate::callers::place_of;
-use crate::peers::{IssuedHold, IssuedStrength};
+use crate::peers::IssuedStrength;
 use crate::removed::remove;
+use crate::replies::{Refusal, says_ok};
 use crate::state::{JointState, Verdict};
 use joint_model::{Act, Reply, Thread};
 use std::alloc::{AllocError, Global};
@@ -125,24 +126,8 @@ impl JointState {
         ensures ok { IfOk result (λ d. Decides (Gives (on_peers self.old (globalised self.old.graph.peers g v (strength_as strength))) reply.now) d self.old self.new) }
         ensures err { OnErr result (self.new ≡ self.old) }
     {
-        let Some(p) = self.peers.heap().var(v) else {
-            return Ok(Verdict::of(matches!(reply, Reply::Empty)));
-        };
-        if self.peers.name(g).is_some() {
-            return Ok(Verdict::of(matches!(reply, Reply::Taken)));
-        }
-        if self.peers.are_handles_full() {
-            return Ok(Verdict::of(matches!(reply, Reply::Full)));
-        }
-        if !self.peers.names_handle(reply) {
-            return Ok(Verdict::Unlawful);
-        }
-        self.removed.reserve(1)?;
-        let h = self.peers.handles() + 1;
-        self.peers.add_handle(p, IssuedHold::Raw, strength)?;
-        self.peers.set_name(g, Some(h));
-        self.removed.push_reserved(false);
-        Ok(Verdict::Lawful)
+        self.peers
+            .globalise(g, v, strength, &mut self.removed, reply)
     }
 
     // `unglobal`: name `g` is free again, and its handle is removed.
@@ -151,9 +136,9 @@ impl JointState {
         ensures { Decides (Gives (on_peers (without self.old (slot self.old.graph.peers.names g)) (name_freed self.old.graph.peers g)) reply.now) result self.old self.new }
     {
         let Some(h) = self.peers.name(g) else {
-            return Verdict::of(matches!(reply, Reply::Unset));
+            return Verdict::of(Refusal::Unset.is_said(reply));
         };
-        if !matches!(reply, Reply::Ok) {
+        if !says_ok(reply) {
             return Verdict::Unlawful;
         }
         self.peers.set_name(g, None);
@@ -168,7 +153,7 @@ impl JointState {
         ensures { Decides (Gives (on_peers self.old (name_read (joint_target self.old) self.old.graph.peers v g)) reply.now) result self.old self.new }
     {
         let Some(h) = self.peers.name(g) else {
-            return Verdict::of(matches!(reply, Reply::Unset));
+            return Verdict::of(Refusal::Unset.is_said(reply));
         };
         let target = self.target(h);
         self.read_peer(v, target, reply)

@@ -3,7 +3,7 @@
 ghost use Rattle.std.specs.Prelude.{◌≡◌, ℕ, ◌↔◌, ◌⊎◌, IsTrue, IfOk, All};
 ghost use Rattle.joint_model.specs.Components.{Rises};
 ghost use Rattle.joint_model.specs.Joint.{Graph};
-ghost use Rattle.reachability.specs.Marks.{HasMark};
+ghost use Rattle.reachability.specs.Marks.{HasMark, marked};
 ghost use Rattle.joint_model.specs.Run.{IsStored};
 ghost use Rattle.joint_replay.specs.Graphs.{parts_graph};
 
@@ -93,8 +93,10 @@ pub(crate) fn all_marked(marks: &[bool], xs: &[u32]) -> bool
     xs.iter().all(|x| is_marked(marks, *x))
 }
 
-fn is_marked(marks: &[bool], x: u32) -> bool
-    ensures { IsTrue result ↔ HasMark marks.now x }
+/// Whether the number is marked.
+pub(crate) fn is_marked(marks: &[bool], x: u32) -> bool
+    ensures mark { IsTrue result ↔ HasMark marks.now x }
+    ensures test { result ≡ marked marks.now x }
 {
     match marks.get(x as usize) {
         None => false,

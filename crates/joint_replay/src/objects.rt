@@ -6,6 +6,7 @@ ghost use Rattle.joint_model.specs.Managed.{made_new, adopted, handle_reply, giv
 ghost use Rattle.joint_replay.specs.Judging.{Decides, Gives};
 
 use crate::managed::{ManagedPart, names_cycle, names_object};
+use crate::replies::Refusal;
 use crate::state::Verdict;
 use joint_model::{Kind, Reply, Sort};
 use std::alloc::AllocError;
@@ -24,7 +25,7 @@ impl ManagedPart {
         ensures err { OnErr result (self.new ≡ self.old) }
     {
         if self.heap.is_full() {
-            return Ok(Verdict::of(matches!(reply, Reply::Full)));
+            return Ok(Verdict::of(Refusal::Full.is_said(reply)));
         }
         if !names_object(reply, self.heap.made() + 1) {
             return Ok(Verdict::Unlawful);
@@ -48,7 +49,7 @@ impl ManagedPart {
         ensures err { OnErr result (self.new ≡ self.old) }
     {
         if self.heap.is_full() {
-            return Ok(Verdict::of(matches!(reply, Reply::Full)));
+            return Ok(Verdict::of(Refusal::Full.is_said(reply)));
         }
         if !names_object(reply, self.heap.made() + 1) {
             return Ok(Verdict::Unlawful);
@@ -118,7 +119,7 @@ impl ManagedPart {
         ensures err { OnErr result (self.new ≡ self.old) }
     {
         if self.heap.is_full() {
-            return Ok(Verdict::of(matches!(reply, Reply::Full)));
+            return Ok(Verdict::of(Refusal::Full.is_said(reply)));
         }
         if !names_new(reply, self.heap.made() + 1) {
             return Ok(Verdict::Unlawful);
@@ -145,10 +146,10 @@ impl ManagedPart {
         ensures { IsTrue result ↔ (reply.now ≡ handle_reply self.now v) }
     {
         let Some(x) = self.heap.var(v) else {
-            return matches!(reply, Reply::Empty);
+            return Refusal::Empty.is_said(reply);
         };
         match self.handle(x) {
-            None => matches!(reply, Reply::Plain),
+            None => Refusal::Plain.is_said(reply),
             Some(h) => match reply {
                 Reply::H(said) => said.0 == h,
                 _ => false,

@@ -9,7 +9,8 @@ ghost use Rattle.joint_replay.specs.Judging.{Decides, Gives};
 ghost use Rattle.joint_replay.specs.Operations.{name_of, IsPlainAct, plain_line};
 
 use crate::callers::{place_of, place_or_none};
-use crate::heap::{PlainHeap, Refusal};
+use crate::heap::PlainHeap;
+use crate::replies::{Refusal, says_ok};
 use crate::state::Verdict;
 use joint_model::{Act, Reply, Thread};
 
@@ -86,7 +87,7 @@ impl PlainHeap {
         ensures made { length self.new.fields ≡ length self.old.fields }
     {
         match self.var(w) {
-            None => Verdict::of(matches!(reply, Reply::Empty)),
+            None => Verdict::of(Refusal::Empty.is_said(reply)),
             Some(x) => self.name(naming, v, x, reply),
         }
     }
@@ -102,7 +103,7 @@ impl PlainHeap {
         match self.target(v, i, w) {
             Err(refusal) => Verdict::of(refusal.is_said(reply)),
             Ok(place) => {
-                if !matches!(reply, Reply::Ok) {
+                if !says_ok(reply) {
                     return Verdict::Unlawful;
                 }
                 self.write(&place);
@@ -120,10 +121,10 @@ impl PlainHeap {
         ensures made { length self.new.fields ≡ length self.old.fields }
     {
         let Some(x) = self.var(w) else {
-            return Verdict::of(matches!(reply, Reply::Empty));
+            return Verdict::of(Refusal::Empty.is_said(reply));
         };
         if self.fields_len(x) <= i {
-            return Verdict::of(matches!(reply, Reply::Range));
+            return Verdict::of(Refusal::Range.is_said(reply));
         }
         let found = self.field(x, i);
         self.read(naming, v, found, reply)
@@ -136,7 +137,7 @@ impl PlainHeap {
         ensures freed { self.new.freed ≡ self.old.freed }
         ensures made { length self.new.fields ≡ length self.old.fields }
     {
-        if !matches!(reply, Reply::Ok) {
+        if !says_ok(reply) {
             return Verdict::Unlawful;
         }
         self.set_var(v, None);
@@ -168,12 +169,12 @@ impl PlainHeap {
             Some(place) => {
                 let y = self.var(place);
                 if y.is_none() {
-                    return Verdict::of(matches!(reply, Reply::Empty));
+                    return Verdict::of(Refusal::Empty.is_said(reply));
                 }
                 y
             }
         };
-        if !matches!(reply, Reply::Ok) {
+        if !says_ok(reply) {
             return Verdict::Unlawful;
         }
         self.set_static(x, value);
@@ -188,7 +189,7 @@ impl PlainHeap {
         ensures made { length self.new.fields ≡ length self.old.fields }
     {
         let Some(x) = found else {
-            if !matches!(reply, Reply::Null) {
+            if !Refusal::Null.is_said(reply) {
                 return Verdict::Unlawful;
             }
             self.set_var(v, None);

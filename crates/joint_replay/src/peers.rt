@@ -12,6 +12,7 @@ ghost use Rattle.joint_replay.specs.Plain.{hold_as, strength_as, issued_as};
 
 use crate::heap::PlainHeap;
 use crate::operations::Naming;
+use crate::replies::Refusal;
 use crate::state::Verdict;
 use joint_model::{Act, NAMES, Reply, Sort, Thread};
 use std::alloc::{AllocError, Global};
@@ -228,12 +229,9 @@ impl PeerPart {
         requires { v < 72 }
         ensures ok { IfOk result (λ d. Decides (Gives (peer_made self.old v fields) reply.now) d self.old self.new) }
         ensures err { OnErr result (self.new ≡ self.old) }
-        ensures issued { self.new.issued ≡ self.old.issued }
-        ensures freed { self.new.heap.freed ≡ self.old.heap.freed }
-        ensures made { length self.old.heap.fields ≤ length self.new.heap.fields }
     {
         if self.heap.is_full() {
-            return Ok(Verdict::of(matches!(reply, Reply::Full)));
+            return Ok(Verdict::of(Refusal::Full.is_said(reply)));
         }
         let p = self.heap.made() + 1;
         if !Naming::Peers.names(p, reply) {
@@ -249,13 +247,10 @@ impl PeerPart {
     /// `wread`: the variable at place `v` names the peer to which a handle leads.
     pub(crate) fn read(&mut self, v: usize, target: Option<u32>, reply: &Reply) -> Verdict
         requires { v < 72 }
-        ensures verdict { Decides (Gives (peer_read self.old v target) reply.now) result self.old self.new }
-        ensures issued { self.new.issued ≡ self.old.issued }
-        ensures freed { self.new.heap.freed ≡ self.old.heap.freed }
-        ensures made { length self.new.heap.fields ≡ length self.old.heap.fields }
+        ensures { Decides (Gives (peer_read self.old v target) reply.now) result self.old self.new }
     {
         let Some(p) = target else {
-            return Verdict::of(matches!(reply, Reply::Gone));
+            return Verdict::of(Refusal::Gone.is_said(reply));
         };
         if !Naming::Peers.names(p, reply) {
             return Verdict::Unlawful;
@@ -267,13 +262,10 @@ impl PeerPart {
     /// `land`: the static holds the peer to which a handle leads.
     pub(crate) fn land(&mut self, x: usize, target: Option<u32>, reply: &Reply) -> Verdict
         requires { x < 16 }
-        ensures verdict { Decides (Gives (landed self.old x target) reply.now) result self.old self.new }
-        ensures issued { self.new.issued ≡ self.old.issued }
-        ensures freed { self.new.heap.freed ≡ self.old.heap.freed }
-        ensures made { length self.new.heap.fields ≡ length self.old.heap.fields }
+        ensures { Decides (Gives (landed self.old x target) reply.now) result self.old self.new }
     {
         let Some(p) = target else {
-            return Verdict::of(matches!(reply, Reply::Gone));
+            return Verdict::of(Refusal::Gone.is_said(reply));
         };
         if !Naming::Peers.names(p, reply) {
             return Verdict::Unlawful;

@@ -5,6 +5,7 @@ ghost use Rattle.joint_model.specs.Managed.{weakened_to, read_cell, target_read,
 ghost use Rattle.joint_replay.specs.Judging.{Decides, Gives};
 
 use crate::managed::{ManagedPart, names_cycle, names_object};
+use crate::replies::{Refusal, says_ok};
 use crate::state::Verdict;
 use joint_model::Reply;
 
@@ -16,12 +17,12 @@ impl ManagedPart {
         ensures { Decides (Gives (weakened_to self.old k v) reply.now) result self.old self.new }
     {
         let Some(x) = self.heap.var(v) else {
-            return Verdict::of(matches!(reply, Reply::Empty));
+            return Verdict::of(Refusal::Empty.is_said(reply));
         };
         if let Some(_) = self.cells[k] {
-            return Verdict::of(matches!(reply, Reply::Taken));
+            return Verdict::of(Refusal::Taken.is_said(reply));
         }
-        if !matches!(reply, Reply::Ok) {
+        if !says_ok(reply) {
             return Verdict::Unlawful;
         }
         self.cells[k] = Some(x);
@@ -49,10 +50,10 @@ impl ManagedPart {
         ensures { Decides (Gives (target_read self.old t target) reply.now) result self.old self.new }
     {
         let Some(x) = target else {
-            return Verdict::of(matches!(reply, Reply::Unset));
+            return Verdict::of(Refusal::Unset.is_said(reply));
         };
         if self.heap.is_freed(x) {
-            return Verdict::of(matches!(reply, Reply::Gone));
+            return Verdict::of(Refusal::Gone.is_said(reply));
         }
         if !names_object(reply, x) {
             return Verdict::Unlawful;
@@ -68,7 +69,7 @@ impl ManagedPart {
         ensures { Decides (Gives (pin_taken self.old t v) reply.now) result self.old self.new }
     {
         let Some(x) = self.pins[t] else {
-            return Verdict::of(matches!(reply, Reply::Empty));
+            return Verdict::of(Refusal::Empty.is_said(reply));
         };
         if !names_object(reply, x) {
             return Verdict::Unlawful;
