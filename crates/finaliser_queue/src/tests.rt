@@ -1,37 +1,80 @@
-use super::*;
-use std::test::Fail;
+// A table of a queue's calls, with what each answers.
 
-#[test]
-fn gives_out_in_the_order_of_the_pushes(rt: HostRuntime) -> Result<(), Fail> {
-    let mut notices = Notices::new(rt.alloc());
-    notices.reserve(2)?;
-    notices.push(MNum(5));
-    notices.push(MNum(3));
-    assert_eq!(rt; notices.waiting(), 2);
-    assert_eq!(rt; notices.take(), Some(MNum(5)));
-    assert_eq!(rt; notices.take(), Some(MNum(3)));
-    assert_eq!(rt; notices.take(), None);
-    Ok(())
+use super::*;
+
+// A call, with its answer. `At` asks for a place of all that were ever pushed.
+#[derive(Clone, Copy)]
+enum Call {
+    Reserve(u32),
+    Push(MNum),
+    Take(Option<MNum>),
+    Waiting(u32),
+    Taken(u32),
+    Queued(u32),
+    At(u32, Option<MNum>),
+    IsEmpty(bool),
+}
+
+const CALLS: [Call; 21] = [
+    Call::IsEmpty(true),
+    Call::Reserve(2),
+    Call::Push(MNum(5)),
+    Call::Push(MNum(3)),
+    // the order of the pushes
+    Call::Waiting(2),
+    Call::Take(Some(MNum(5))),
+    Call::Take(Some(MNum(3))),
+    Call::Take(None),
+    Call::IsEmpty(true),
+    // what was given out stays
+    Call::Reserve(3),
+    Call::Push(MNum(7)),
+    Call::Take(Some(MNum(7))),
+    Call::Push(MNum(2)),
+    Call::Push(MNum(9)),
+    Call::Take(Some(MNum(2))),
+    Call::Waiting(1),
+    Call::Taken(4),
+    Call::Queued(5),
+    Call::At(0, Some(MNum(5))),
+    Call::At(4, Some(MNum(9))),
+    Call::At(5, None),
+];
+
+// Whether the call may be made, and answers so.
+fn answers(notices: &mut Notices, call: &Call) -> bool {
+    match *call {
+        Call::Reserve(n) => notices.reserve(n).is_ok() && notices.spare() >= n,
+        Call::Push(m) => {
+            let may = notices.spare() >= 1;
+            if may {
+                notices.push(m);
+            }
+            may
+        }
+        Call::Take(wanted) => notices.take() == wanted,
+        Call::Waiting(n) => notices.waiting() == n,
+        Call::Taken(n) => notices.taken() == n,
+        Call::Queued(n) => notices.queued() == n,
+        Call::At(i, wanted) => notices.at(i) == wanted,
+        Call::IsEmpty(wanted) => notices.is_empty() == wanted,
+    }
+}
+
+// The place of the first call that answers otherwise.
+fn miss(notices: &mut Notices) -> Option<usize> {
+    for (i, call) in CALLS.as_slice().iter().enumerate() {
+        if !answers(notices, call) {
+            return Some(i);
+        }
+    }
+    None
 }
 
 #[test]
-fn keeps_what_was_given_out(rt: HostRuntime) -> Result<(), Fail> {
+fn calls_answer_as_the_table_says(rt: HostRuntime) {
     let mut notices = Notices::new(rt.alloc());
-    notices.reserve(3)?;
-    notices.push(MNum(7));
-    assert_eq!(rt; notices.take(), Some(MNum(7)));
-    notices.push(MNum(2));
-    notices.push(MNum(9));
-    assert_eq!(rt; notices.take(), Some(MNum(2)));
-    assert_eq!(rt;
-        (notices.waiting(), notices.taken(), notices.queued()),
-        (1, 2, 3)
-    );
-    assert_eq!(rt;
-        (notices.at(0), notices.at(2), notices.at(3)),
-        (Some(MNum(7)), Some(MNum(9)), None)
-    );
+    assert_eq!(rt; miss(&mut notices), None);
     let all = notices.into_all();
-    assert_eq!(rt; all.as_slice(), [MNum(7), MNum(2), MNum(9)].as_slice());
-    Ok(())
+    assert!(rt; all.as_slice() == [MNum(5), MNum(3), MNum(7), MNum(2), MNum(9)].as_slice());
 }

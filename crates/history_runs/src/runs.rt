@@ -18,6 +18,9 @@ use std::marker::Brand;
 use std::sync::Wait;
 use std::test::Fail;
 
+// How many lines both threads have.
+const LINES: u16 = 33;
+
 /// What m1 does, a line after that of its last entry.
 pub(crate) fn managed<N: OrderName>(
     rt: &impl Wait,
@@ -52,8 +55,107 @@ fn peer<N: OrderName>(
     Ok(shared.peer(rt, caller, index, act)?.reply)
 }
 
-// Both threads in turn: m1 makes an object with a peer, sets its field to itself and drops it, and p1 makes a peer and names a handle on it.
-fn in_turn<N: OrderName>(
+// What p1 does on a line; None where the line is m1's.
+fn peer_act(line: u16) -> Option<Act>
+    ensures { IfSome result (λ a. IsLine (P 1) a × IsStepLine a) }
+{
+    let (a, b, c, d) = (Var(0), Var(1), Var(2), Var(3));
+    let (g, h, x) = (GName(0), GName(1), StaticNo(0));
+    let act = match line {
+        2 => Act::NewPeer { v: a, fields: 1 },
+        4 => Act::Global { g, v: a },
+        8 => Act::Load { v: b, x },
+        14 => Act::Store { x, v: None },
+        16 => Act::Set {
+            v: b,
+            i: 1,
+            w: Some(a),
+        },
+        17 => Act::Get { v: c, w: b, i: 1 },
+        18 => Act::Copy { v: d, w: c },
+        19 => Act::WGlobal { g: h, v: d },
+        20 => Act::WRead { v: c, g: h },
+        21 => Act::UnGlobal { g },
+        22 => Act::WRead { v: c, g },
+        23 => Act::Drop { v: a },
+        _ => return None,
+    };
+    Some(act)
+}
+
+// What m1 does on a line that isn't p1's. It makes an object with a peer, sets its field to itself and drops it. A further object's peer goes to the
+// peer heap, where p1 loads it; m1 meets its own object there, and the handle of the meeting is released. It disposes of the object, which has no
+// peer then, and meets its peer anew, as another object. The other lines are those of one thread.
+fn managed_act(line: u16) -> Act
+    ensures { IsLine (M 1) result }
+{
+    let (a, b, c, d) = (Var(0), Var(1), Var(2), Var(3));
+    let (x, k) = (StaticNo(0), Cell(0));
+    match line {
+        1 => Act::Bridge {
+            v: a,
+            kind: Kind::Bridge,
+            fields: 1,
+            sort: Sort::User,
+            peer_fields: 0,
+        },
+        3 => Act::Set {
+            v: a,
+            i: 0,
+            w: Some(a),
+        },
+        5 => Act::Drop { v: a },
+        6 => Act::Bridge {
+            v: b,
+            kind: Kind::Bridge,
+            fields: 1,
+            sort: Sort::User,
+            peer_fields: 2,
+        },
+        7 => Act::Pass { v: b, x },
+        9 => Act::Surface { v: c, x },
+        10 => Act::Dispose { v: c },
+        11 | 15 => Act::Surface { v: d, x },
+        12 => Act::Pass { v: c, x },
+        13 => Act::Take { v: c },
+        24 => Act::New {
+            v: a,
+            kind: Kind::Plain,
+            fields: 0,
+        },
+        25 => Act::Get { v: b, w: d, i: 0 },
+        26 => Act::Store { x, v: Some(a) },
+        27 => Act::Load { v: b, x },
+        28 => Act::Weak { k, v: b },
+        29 => Act::Read { k },
+        30 => Act::Await { k },
+        31 => Act::Take { v: b },
+        32 => Act::Handle { v: d },
+        _ => Act::Copy { v: a, w: d },
+    }
+}
+
+// Runs a line of either thread.
+fn run_line<N: OrderName>(
+    rt: &impl Wait,
+    shared: &Shared<N, Alone>,
+    one: &mut Caller<N>,
+    two: &mut Caller<N>,
+    line: u16,
+) -> Result<Reply, AllocError>
+    requires threads { (one.old.thread ≡ M 1) × (two.old.thread ≡ P 1) }
+    requires indices { (last_index (own one.old) ≤ line) × (last_index (own two.old) ≤ line) }
+    ensures threads { (one.new.thread ≡ M 1) × (two.new.thread ≡ P 1) }
+    ensures indices { (last_index (own one.new) ≤ line) × (last_index (own two.new) ≤ line) }
+{
+    match peer_act(line) {
+        Some(act) => peer(rt, shared, two, line, &act),
+        None => managed(rt, shared, one, line, &managed_act(line)),
+    }
+}
+
+// The replies of all lines.
+fn run_lines<N: OrderName>(
     rt: &impl Wait,
     alloc: Global,
     shared: &Shared<N, Alone>,
@@ -61,155 +163,14 @@ fn in_turn<N: OrderName>(
     two: &mut Caller<N>,
 ) -> Result<Vec<Reply>, AllocError>
     requires threads { (one.old.thread ≡ M 1) × (two.old.thread ≡ P 1) }
-    requires indices { (last_index (own one.old) ≤ 1) × (last_index (own two.old) ≤ 2) }
+    requires indices { (last_index (own one.old) ≤ 0) × (last_index (own two.old) ≤ 0) }
     ensures threads { (one.new.thread ≡ M 1) × (two.new.thread ≡ P 1) }
-    ensures indices { IfOk result (λ _. (last_index (own one.new) ≤ 5) × (last_index (own two.new) ≤ 4)) }
 {
-    let bridge = Act::Bridge {
-        v: Var(0),
-        kind: Kind::Bridge,
-        fields: 1,
-        sort: Sort::User,
-        peer_fields: 0,
-    };
-    let new = Act::NewPeer {
-        v: Var(0),
-        fields: 1,
-    };
-    let set = Act::Set {
-        v: Var(0),
-        i: 0,
-        w: Some(Var(0)),
-    };
-    let global = Act::Global {
-        g: GName(0),
-        v: Var(0),
-    };
-    let drop = Act::Drop { v: Var(0) };
     let mut replies = Vec::new(alloc);
-    replies.push(managed(rt, shared, one, 1, &bridge)?)?;
-    replies.push(peer(rt, shared, two, 2, &new)?)?;
-    replies.push(managed(rt, shared, one, 3, &set)?)?;
-    replies.push(peer(rt, shared, two, 4, &global)?)?;
-    replies.push(managed(rt, shared, one, 5, &drop)?)?;
+    for line in 0..LINES {
+        replies.push(run_line(rt, shared, one, two, line + 1)?)?;
+    }
     Ok(replies)
-}
-
-// An object's peer goes to the peer heap, where p1 loads it; m1 meets its own object there, and the handle of the meeting is released.
-fn across<N: OrderName>(
-    rt: &impl Wait,
-    shared: &Shared<N, Alone>,
-    one: &mut Caller<N>,
-    two: &mut Caller<N>,
-    replies: &mut Vec<Reply>,
-) -> Result<(), AllocError>
-    requires threads { (one.old.thread ≡ M 1) × (two.old.thread ≡ P 1) }
-    requires indices { (last_index (own one.old) ≤ 5) × (last_index (own two.old) ≤ 4) }
-    ensures threads { (one.new.thread ≡ M 1) × (two.new.thread ≡ P 1) }
-    ensures indices { IfOk result (λ _. (last_index (own one.new) ≤ 9) × (last_index (own two.new) ≤ 8)) }
-{
-    let (v, x) = (Var(1), StaticNo(0));
-    let bridge = Act::Bridge {
-        v,
-        kind: Kind::Bridge,
-        fields: 1,
-        sort: Sort::User,
-        peer_fields: 2,
-    };
-    let surface = Act::Surface { v: Var(2), x };
-    replies.push(managed(rt, shared, one, 6, &bridge)?)?;
-    replies.push(managed(rt, shared, one, 7, &Act::Pass { v, x })?)?;
-    replies.push(peer(rt, shared, two, 8, &Act::Load { v, x })?)?;
-    replies.push(managed(rt, shared, one, 9, &surface)?)?;
-    Ok(())
-}
-
-// m1 disposes of the object, which has no peer then, and meets its peer anew, as another object; p1 empties the static.
-fn given_up<N: OrderName>(
-    rt: &impl Wait,
-    shared: &Shared<N, Alone>,
-    one: &mut Caller<N>,
-    two: &mut Caller<N>,
-    replies: &mut Vec<Reply>,
-) -> Result<(), AllocError>
-    requires threads { (one.old.thread ≡ M 1) × (two.old.thread ≡ P 1) }
-    requires indices { (last_index (own one.old) ≤ 9) × (last_index (own two.old) ≤ 8) }
-    ensures threads { (one.new.thread ≡ M 1) × (two.new.thread ≡ P 1) }
-    ensures indices { IfOk result (λ _. (last_index (own one.new) ≤ 15) × (last_index (own two.new) ≤ 14)) }
-{
-    let (v, x) = (Var(2), StaticNo(0));
-    let surface = Act::Surface { v: Var(3), x };
-    let clear = Act::Store { x, v: None };
-    replies.push(managed(rt, shared, one, 10, &Act::Dispose { v })?)?;
-    replies.push(managed(rt, shared, one, 11, &surface)?)?;
-    replies.push(managed(rt, shared, one, 12, &Act::Pass { v, x })?)?;
-    replies.push(managed(rt, shared, one, 13, &Act::Take { v })?)?;
-    replies.push(peer(rt, shared, two, 14, &clear)?)?;
-    replies.push(managed(rt, shared, one, 15, &surface)?)?;
-    Ok(())
-}
-
-// The other lines of p1.
-fn lines_of_p1<N: OrderName>(
-    rt: &impl Wait,
-    shared: &Shared<N, Alone>,
-    two: &mut Caller<N>,
-    replies: &mut Vec<Reply>,
-) -> Result<(), AllocError>
-    requires thread { two.old.thread ≡ P 1 }
-    requires index { last_index (own two.old) ≤ 16 }
-    ensures thread { two.new.thread ≡ P 1 }
-{
-    let (a, b, c, d) = (Var(0), Var(1), Var(2), Var(3));
-    let (g, h) = (GName(0), GName(1));
-    let set = Act::Set {
-        v: b,
-        i: 1,
-        w: Some(a),
-    };
-    let get = Act::Get { v: c, w: b, i: 1 };
-    replies.push(peer(rt, shared, two, 16, &set)?)?;
-    replies.push(peer(rt, shared, two, 17, &get)?)?;
-    replies.push(peer(rt, shared, two, 18, &Act::Copy { v: d, w: c })?)?;
-    replies.push(peer(rt, shared, two, 19, &Act::WGlobal { g: h, v: d })?)?;
-    replies.push(peer(rt, shared, two, 20, &Act::WRead { v: c, g: h })?)?;
-    replies.push(peer(rt, shared, two, 21, &Act::UnGlobal { g })?)?;
-    replies.push(peer(rt, shared, two, 22, &Act::WRead { v: c, g })?)?;
-    replies.push(peer(rt, shared, two, 23, &Act::Drop { v: a })?)?;
-    Ok(())
-}
-
-// The other lines of m1.
-fn lines_of_m1<N: OrderName>(
-    rt: &impl Wait,
-    shared: &Shared<N, Alone>,
-    one: &mut Caller<N>,
-    replies: &mut Vec<Reply>,
-) -> Result<(), AllocError>
-    requires thread { one.old.thread ≡ M 1 }
-    requires index { last_index (own one.old) ≤ 24 }
-    ensures thread { one.new.thread ≡ M 1 }
-{
-    let (a, b, d) = (Var(0), Var(1), Var(3));
-    let (x, k) = (StaticNo(0), Cell(0));
-    let new = Act::New {
-        v: a,
-        kind: Kind::Plain,
-        fields: 0,
-    };
-    let get = Act::Get { v: b, w: d, i: 0 };
-    let store = Act::Store { x, v: Some(a) };
-    replies.push(managed(rt, shared, one, 24, &new)?)?;
-    replies.push(managed(rt, shared, one, 25, &get)?)?;
-    replies.push(managed(rt, shared, one, 26, &store)?)?;
-    replies.push(managed(rt, shared, one, 27, &Act::Load { v: b, x })?)?;
-    replies.push(managed(rt, shared, one, 28, &Act::Weak { k, v: b })?)?;
-    replies.push(managed(rt, shared, one, 29, &Act::Read { k })?)?;
-    replies.push(managed(rt, shared, one, 30, &Act::Await { k })?)?;
-    replies.push(managed(rt, shared, one, 31, &Act::Take { v: b })?)?;
-    replies.push(managed(rt, shared, one, 32, &Act::Handle { v: d })?)?;
-    replies.push(managed(rt, shared, one, 33, &Act::Copy { v: a, w: d })?)?;
-    Ok(())
 }
 
 // The replies of all entries.
@@ -240,11 +201,7 @@ fn play<N: OrderName>(
     let Some(mut two) = desk.caller(Thread::P(1)) else {
         return Ok(None);
     };
-    let mut told = in_turn(rt, alloc, shared, &mut one, &mut two)?;
-    across(rt, shared, &mut one, &mut two, &mut told)?;
-    given_up(rt, shared, &mut one, &mut two, &mut told)?;
-    lines_of_p1(rt, shared, &mut two, &mut told)?;
-    lines_of_m1(rt, shared, &mut one, &mut told)?;
+    let told = run_lines(rt, alloc, shared, &mut one, &mut two)?;
     let callers = vec![in alloc; two, one]?;
     Ok(Some((callers, told)))
 }
@@ -278,8 +235,7 @@ fn run<N: OrderName>(
     }
 }
 
-// The replies of the operations: those of both threads in turn, then those across, those of what is given up, and those of
-// further lines of each.
+// The replies of the operations, line by line.
 const TOLD: [Reply; 33] = [
     Reply::M(MNum(1)),
     Reply::P(PNum(2)),

@@ -43,8 +43,8 @@ struct Look {
     last: u64,
 }
 
-// A thread with its pass. It keeps the numbers that it drew, its looks at the sides' lists, and whether each number that it drew was at least
-// `next`, which is above all that it knew.
+// A thread with its pass. It keeps the numbers that it drew, its looks at the sides' lists, whether each number that it drew was at least
+// `next`, which is above all that it knew, and whether it ended without memory.
 #[derive(Drop)]
 struct PassHolder<N: OrderName> {
     thread: Thread,
@@ -53,6 +53,7 @@ struct PassHolder<N: OrderName> {
     looks: Vec<Look>,
     next: u64,
     rises: bool,
+    lacks_memory: bool,
     of: PhantomData<N>,
 }
 
@@ -68,6 +69,23 @@ impl<N: OrderName> Model for PassHolder<N> {
     ghost view = { λ c. c.thread };
 
     ghost invariant = { λ c. IsThread c.thread × (c.seat.order ≡ N.order) × Owns c.seat.view (caller_line c.thread) };
+}
+
+impl<N: OrderName> PassHolder<N> {
+    // A look at a side's list, and a note that is dropped.
+    fn look(&mut self, order: &Order, peer: bool, numbers: &[u64]) -> Result<(), AllocError>
+        requires order { order.now ≡ N.order }
+    {
+        let _ = order.note(&mut self.seat);
+        if let Some(last) = numbers.last().copied() {
+            self.looks.push(Look {
+                peer,
+                len: numbers.len(),
+                last,
+            })?;
+        }
+        Ok(())
+    }
 }
 
 // Makes an entry of a caller in a side's list: the caller's pass goes to the side's seat, and back.
@@ -164,25 +182,39 @@ struct LockedSides<N: OrderName> {
 }
 
 impl<N: OrderName> LockedSides<N> {
-    // Entries in both lists in turn; now and then a note that is dropped, and a look at the list.
+    // Entries in both lists in turn.
     fn run(&self, rt: &impl Wait, caller: &mut PassHolder<N>) -> Result<(), AllocError> {
         for k in 0..APPENDS {
-            let peer = k % 2 == 1;
-            let lock = if peer { &self.peer } else { &self.managed };
-            let mut side = lock.lock(rt);
-            side.make(&self.order, caller)?;
-            if k % 1_000 < 2 {
-                let _ = self.order.note(&mut caller.seat);
-                if let Some(last) = side.numbers.as_slice().last().copied() {
-                    caller.looks.push(Look {
-                        peer,
-                        len: side.numbers.len(),
-                        last,
-                    })?;
-                }
-            }
+            self.turn(rt, caller, k)?;
         }
         Ok(())
+    }
+
+    // The entry of turn `k`; now and then a look at the list.
+    fn turn(&self, rt: &impl Wait, caller: &mut PassHolder<N>, k: usize) -> Result<(), AllocError> {
+        let peer = k % 2 == 1;
+        let lock = if peer { &self.peer } else { &self.managed };
+        let mut side = lock.lock(rt);
+        side.make(&self.order, caller)?;
+        if k % 1_000 < 2 {
+            caller.look(&self.order, peer, side.numbers.as_slice())?;
+        }
+        Ok(())
+    }
+
+    // The managed side's list, and the peer side's.
+    fn into_numbers(self) -> (Vec<u64>, Vec<u64>) {
+        let LockedSides {
+            order: _,
+            managed,
+            peer,
+        } = self;
+        let SideNumbers {
+            numbers: managed,
+            ..
+        } = managed.into_inner();
+        let SideNumbers { numbers: peer, .. } = peer.into_inner();
+        (managed, peer)
     }
 }
 
@@ -223,6 +255,7 @@ fn callers_of<N: OrderName>(
             looks: Vec::new(alloc),
             next: 0,
             rises: true,
+            lacks_memory: false,
             of: PhantomData,
         })?;
     }
@@ -253,12 +286,16 @@ fn begins(looks: &[Look], managed: &[u64], peer: &[u64]) -> bool {
     true
 }
 
+fn all_marked(marks: &[bool]) -> bool {
+    marks.iter().all(|mark| *mark)
+}
+
 // Both lists together have each number once.
 fn are_right(alloc: Global, managed: &[u64], peer: &[u64]) -> Result<bool, AllocError> {
     let count = APPENDS * 16;
     let mut marks = vec![in alloc; false; count]?;
     let all = tick(marks.as_mut_slice(), managed) && tick(marks.as_mut_slice(), peer);
-    Ok(all && marks.iter().all(|mark| *mark))
+    Ok(all && all_marked(&marks))
 }
 
 // So have the callers' own lists, each of which is whole, with beginnings of both sides' lists.
@@ -276,63 +313,51 @@ fn own_are_right<N: OrderName>(
             return Ok(false);
         }
     }
-    Ok(marks.iter().all(|mark| *mark))
+    Ok(all_marked(&marks))
 }
 
-// Each caller makes its entries on a thread of its own. Answers `AllocError` where one of them had no memory.
+// Each caller makes its entries on a thread of its own.
 fn run_all<N: OrderName + Send + Sync, R: Threads + Wait + Sync>(
     rt: &R,
-    alloc: Global,
     locks: &LockedSides<N>,
     callers: Vec<PassHolder<N>>,
 ) -> Result<Vec<PassHolder<N>>, AllocError> {
-    let ended = thread::map_vec(
+    thread::map_vec(
         rt,
         callers,
-        &|mut caller: PassHolder<N>| -> Option<PassHolder<N>> {
-            match locks.run(rt, &mut caller) {
-                Ok(()) => Some(caller),
-                Err(_) => None,
-            }
+        &|mut caller: PassHolder<N>| -> PassHolder<N> {
+            caller.lacks_memory = locks.run(rt, &mut caller).is_err();
+            caller
         },
-    )?;
-    all_ended(alloc, ended)
+    )
 }
 
-// The callers that have ended; `AllocError` where one of them had no memory.
-fn all_ended<N: OrderName>(
-    alloc: Global,
-    ended: Vec<Option<PassHolder<N>>>,
-) -> Result<Vec<PassHolder<N>>, AllocError> {
-    let mut callers = Vec::new(alloc);
-    for caller in ended {
-        let Some(caller) = caller else {
-            return Err(AllocError);
-        };
-        callers.push(caller)?;
-    }
-    Ok(callers)
-}
-
-// Whether the sides' lists and the callers' are right.
+// Whether the sides' lists and the callers' are right. Answers `AllocError` where a caller had no memory.
 fn is_right<N: OrderName>(
     alloc: Global,
-    shared: LockedSides<N>,
+    managed: &[u64],
+    peer: &[u64],
     callers: &[PassHolder<N>],
 ) -> Result<bool, AllocError> {
-    let LockedSides {
-        order: _,
-        managed,
-        peer,
-    } = shared;
-    let managed = managed.into_inner();
-    let peer = peer.into_inner();
-    let managed = managed.numbers.as_slice();
-    let peer = peer.numbers.as_slice();
-    if !are_right(alloc, managed, peer)? {
-        return Ok(false);
+    if callers.iter().any(|caller| caller.lacks_memory) {
+        return Err(AllocError);
     }
-    own_are_right(alloc, callers, managed, peer)
+    Ok(are_right(alloc, managed, peer)? && own_are_right(alloc, callers, managed, peer)?)
+}
+
+// The sides' lists, with a seat that owns both.
+fn sides_of<N: OrderName>(alloc: Global, order: Order, mut seat: Seat) -> LockedSides<N>
+    requires order { order ≡ N.order }
+    requires seat { seat.order ≡ N.order }
+    requires owns { Owns seat.view 0 × Owns seat.view 1 }
+    requires known { (i : ℕ) → known seat.view i ≡ [] }
+{
+    let peer = order.share(&mut seat, Role::Peer);
+    LockedSides {
+        order,
+        managed: Mutex::new(SideNumbers::new(alloc, Role::Managed, seat)),
+        peer: Mutex::new(SideNumbers::new(alloc, Role::Peer, peer)),
+    }
 }
 
 fn run<N: OrderName + Send + Sync, R: Threads + Wait + Sync>(
@@ -348,14 +373,10 @@ fn run<N: OrderName + Send + Sync, R: Threads + Wait + Sync>(
     let driver = order.hand(&mut seat, Thread::C);
     drop(driver);
     let callers = callers_of::<N>(alloc, &order, &mut seat)?;
-    let peer = order.share(&mut seat, Role::Peer);
-    let shared = LockedSides::<N> {
-        order,
-        managed: Mutex::new(SideNumbers::new(alloc, Role::Managed, seat)),
-        peer: Mutex::new(SideNumbers::new(alloc, Role::Peer, peer)),
-    };
-    let callers = run_all(rt, alloc, &shared, callers)?;
-    is_right(alloc, shared, callers.as_slice())
+    let sides = sides_of::<N>(alloc, order, seat);
+    let ended = run_all(rt, &sides, callers);
+    let (managed, peer) = sides.into_numbers();
+    is_right(alloc, &managed, &peer, &ended?)
 }
 
 #[test]
