@@ -286,19 +286,15 @@ fn begins(looks: &[Look], managed: &[u64], peer: &[u64]) -> bool {
     true
 }
 
-fn all_marked(marks: &[bool]) -> bool {
-    marks.iter().all(|mark| *mark)
-}
-
 // Both lists together have each number once.
 fn are_right(alloc: Global, managed: &[u64], peer: &[u64]) -> Result<bool, AllocError> {
     let count = APPENDS * 16;
     let mut marks = vec![in alloc; false; count]?;
     let all = tick(marks.as_mut_slice(), managed) && tick(marks.as_mut_slice(), peer);
-    Ok(all && all_marked(&marks))
+    Ok(all && !marks.contains(&false))
 }
 
-// So have the callers' own lists, each of which is whole, with beginnings of both sides' lists.
+// So have the callers' own lists, each of which is whole, with beginnings of both sides' lists. Answers `AllocError` where a caller had no memory.
 fn own_are_right<N: OrderName>(
     alloc: Global,
     callers: &[PassHolder<N>],
@@ -308,12 +304,15 @@ fn own_are_right<N: OrderName>(
     let count = APPENDS * 16;
     let mut marks = vec![in alloc; false; count]?;
     for caller in callers {
+        if caller.lacks_memory {
+            return Err(AllocError);
+        }
         let own = tick(marks.as_mut_slice(), caller.numbers.as_slice());
         if !own || !caller.rises || !begins(caller.looks.as_slice(), managed, peer) {
             return Ok(false);
         }
     }
-    Ok(all_marked(&marks))
+    Ok(!marks.contains(&false))
 }
 
 // Each caller makes its entries on a thread of its own.
@@ -332,17 +331,14 @@ fn run_all<N: OrderName + Send + Sync, R: Threads + Wait + Sync>(
     )
 }
 
-// Whether the sides' lists and the callers' are right. Answers `AllocError` where a caller had no memory.
+// Whether the callers' lists and the sides' are right.
 fn is_right<N: OrderName>(
     alloc: Global,
     managed: &[u64],
     peer: &[u64],
     callers: &[PassHolder<N>],
 ) -> Result<bool, AllocError> {
-    if callers.iter().any(|caller| caller.lacks_memory) {
-        return Err(AllocError);
-    }
-    Ok(are_right(alloc, managed, peer)? && own_are_right(alloc, callers, managed, peer)?)
+    Ok(own_are_right(alloc, callers, managed, peer)? && are_right(alloc, managed, peer)?)
 }
 
 // The sides' lists, with a seat that owns both.
