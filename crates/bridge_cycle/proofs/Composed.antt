@@ -1,6 +1,5 @@
 -- Phases one after another: each runs in the phase in which its word is due, and what was run so far goes on by it.
 use Rattle.std.proofs.Common.{◌≡◌, ℕ, ◌<◌, List, [], ◌∷◌, ◌++◌, length, Some, refl, sym, ap, ◌∙◌, subst, append_assoc, arith}
-use Rattle.std.specs.Prelude.{Result, Ok, Err, OnErr}
 use base.Growing.{prefix_refl}
 use Rattle.joint_model.specs.declared.names.Phase.{Phase}
 use Rattle.joint_model.specs.declared.names.Phase.TheVariants as at
@@ -163,7 +162,3 @@ cycle_breaks old mid new index first idle a b =
       takes = b.takes;
       runs = runs_on old mid new index (word.Snap ∷ []) b.run (a.entries, runs) b.runs;
     }
-
-pub on_err_map : {X E : Type 0} (P Q : Type 0) (r : Result X E) → OnErr r P → (P → Q) → OnErr r Q
-on_err_map P Q (Ok x) p f = tt
-on_err_map P Q (Err e) p f = f p

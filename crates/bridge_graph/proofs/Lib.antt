@@ -3,3 +3,4 @@ pub mod Rows
 pub mod Building
 pub mod Packs
 pub mod Room
+pub mod Handles

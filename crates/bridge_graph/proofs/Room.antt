@@ -1,5 +1,5 @@
 -- Room never becomes less where no list gets a smaller capacity.
-use Rattle.std.proofs.Common.{◌≡◌, ◌⊎◌, ℕ, ◌+◌, ◌-◌, ◌≤◌, Result, Ok, Err, OnErr, min, arith, inl, inr}
+use Rattle.std.proofs.Common.{◌≡◌, ◌⊎◌, ℕ, ◌+◌, ◌-◌, ◌≤◌, min, arith, inl, inr}
 
 pub room-same : (n : ℕ) → n ≤ n
 room-same n = omega arith
@@ -33,7 +33,3 @@ nodes-pushed a b x y m n = omega arith
 
 pub edges-pushed : (a b c x y z m n : ℕ) → a ≤ x → b ≤ y → c ≤ z → n ≡ m + 1 → min 4294967295 (min a (min b c)) - m ≤ min 4294967295 (min x (min y z)) - n + 1
 edges-pushed a b c x y z m n = omega arith
-
-pub on_failure : {T E : Type 0} (P : Type 0) (r : Result T E) → P → OnErr r P
-on_failure P (Ok x) p = tt
-on_failure P (Err e) p = p

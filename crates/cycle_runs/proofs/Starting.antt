@@ -1,14 +1,8 @@
--- Callers and seats that know nothing.
-use Rattle.std.proofs.Common.{◌≡◌, ◌≤◌, refl, sym, ap, subst, arith}
+-- Callers that know nothing.
+use Rattle.std.proofs.Common.{◌≡◌, ◌≤◌, ap, arith}
 use Rattle.joint_model.specs.HistoryLines.{caller_line}
-use Rattle.order_table.specs.declared.views.View.{View}
 use Rattle.order_table.specs.Facts.{line_entries}
-use Rattle.order_table.specs.Views.{first_view}
 use Rattle.joint_history.specs.Callers.{KnowsNothing, Pass, last_index, own}
-
--- the seat of a new order knows nothing
-pub first_knows_nothing : (v : View) → v ≡ first_view → KnowsNothing v
-first_knows_nothing v e i = subst KnowsNothing (sym e) (λ j. refl) i
 
 -- who knows nothing has made nothing
 pub starts_below : (p : Pass) → KnowsNothing p.view → last_index (own p) ≤ 1

@@ -1,5 +1,5 @@
 -- How many objects and handles are left where just what is kept is left: two rows, a peer and a handle for each filled static.
-use Rattle.std.proofs.Common.{◌≡◌, ℕ, zero, suc, ◌+◌, ◌*◌, ◌≤◌, inl, inr, Bool, true, false, not, List, [], ◌∷◌, ◌++◌, length, Option, Some, None, refl, sym, ap, subst, ◌∙◌, arith}
+use Rattle.std.proofs.Common.{◌≡◌, ℕ, zero, suc, ◌+◌, ◌*◌, ◌≤◌, inl, inr, true, not, List, [], ◌∷◌, ◌++◌, length, Option, Some, None, refl, sym, ap, subst, ◌∙◌, arith}
 use Rattle.std.specs.Prelude.{Contains, is_some}
 use Rattle.std.proofs.lemmas.List.Elements.{Contains-append_cases, Contains-append_left, Contains-append_right}
 use Rattle.std.proofs.lemmas.List.Sums.{sum_by-cons}
@@ -11,7 +11,7 @@ use Rattle.joint_model.specs.Managed.{Managed, OpenCycle, Holds}
 use Rattle.joint_model.specs.Peers.{Peers, Issued, Strength, strong, weak, peer_of}
 use Rattle.joint_model.specs.PeerReplay.{TableRow}
 use Rattle.joint_model.proofs.Deciding.{none_some, some-same}
-use Rattle.joint_model.proofs.HeapLemmas.{is_freed-Contains, Contains-is_freed}
+use Rattle.joint_model.proofs.HeapLemmas.{Contains-is_freed}
 use Rattle.joint_model.proofs.Members.{Contains-here, Contains-there, Contains-nil, Contains-cons_cases, Contains-decided}
 use Rattle.joint_model.proofs.Numbered.{numbered-within, numbered-made, numbered_set-same, numbered_set-other}
 use Rattle.joint_laws.specs.PeerInvariants.{IsIssued, IsTabled}
@@ -20,7 +20,7 @@ use Rattle.joint_laws.proofs.PeerEntries.{peer_of-issued}
 use Rattle.run_summary.specs.Tallies.{one}
 use Rattle.summary_laws.specs.States.{stands_in, others_up_to, unfreed, left_in}
 use Rattle.summary_laws.proofs.TableRows.{rows, rows-set}
-use Rattle.summary_laws.proofs.Unfreed.{AreFresh, put-all}
+use Rattle.summary_laws.proofs.Unfreed.{AreFresh, put-all, outside}
 use Rattle.generated_laws.proofs.Totals.{total}
 use Rattle.generated_laws.proofs.Pictures.{Mind}
 use Rattle.generated_laws.proofs.Showing.{Group, Names}
@@ -33,20 +33,13 @@ abbrev AreDistinct : List ℕ → Type 0
 AreDistinct [] = Unit {0}
 AreDistinct (x ∷ xs) = (Contains xs x → ⊥) × AreDistinct xs
 
-not-standing : (xs : List ℕ) (y : ℕ) → (Contains xs y → ⊥) → stands_in xs y ≡ false
-not-standing xs y n = by (stands_in xs y) refl
-  where
-    by : (b : Bool) → stands_in xs y ≡ b → b ≡ false
-    by true e = absurd (n (is_freed-Contains (record { fields = []; freed = xs; vars = []; statics = [] }) y e))
-    by false e = refl
-
 distinct-fresh : (xs ys : List ℕ) (n : ℕ) → AreDistinct ys → ((y : ℕ) → Contains ys y → (1 ≤ y) × (y ≤ n) × (Contains xs y → ⊥)) → AreFresh xs ys n
 distinct-fresh xs [] n d f = tt
 distinct-fresh xs (y ∷ ys) n d f =
     let here = f y (Contains-here y ys) in (
       here.0,
       here.1,
-      not-standing xs y here.2,
+      outside xs y here.2,
       distinct-fresh (xs ++ y ∷ []) ys n d.1 (λ z c. (let there = f z (Contains-there z y ys c) in (
         there.0,
         there.1,

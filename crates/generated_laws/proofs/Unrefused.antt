@@ -29,6 +29,7 @@ use Rattle.joint_model.proofs.Deciding.{none_some}
 use Rattle.joint_model.proofs.HeapLemmas.{adopt_by-reply}
 use Rattle.joint_laws.proofs.LinkedEntries.{entry}
 use Rattle.known_laws.specs.Growing.{entries}
+use Rattle.known_laws.proofs.Growing.{entries_append}
 use Rattle.run_summary.specs.declared.tallies.Tally.{Tally}
 use Rattle.run_summary.specs.Tallies.{one, is_m, is_p, is_made, makes_managed, makes_peer, makes_handle, opens_cycle, tallied, tally_from, nothing_yet}
 use Rattle.script_laws.specs.Holding.{Standing, next_event, AreEventsAfter, AreEvents}
@@ -176,10 +177,6 @@ pub all-split : (xs ys : List Noted) (s : Linkage) → AllMayCome s (xs ++ ys) �
 all-split [] ys s a = (tt, a)
 all-split (x ∷ xs) ys s a = (let r = all-split xs ys (linkage_after s x) a.1 in ((a.0, r.0), r.1))
 
-pub map-entries : (xs ys : List Noted) → entries (xs ++ ys) ≡ entries xs ++ entries ys
-map-entries [] ys = refl
-map-entries (x ∷ xs) ys = ap (λ l. x.entry ∷ l) (map-entries xs ys)
-
 -- so it is of each entry, as long as no more than so many ask
 answers-from : (pre ns : List Noted) → AllMayCome opening_linkage (pre ++ ns) → total asking (entries pre) + total asking (entries ns) ≤ 65534 → Each HasAnswer (entries ns)
 answers-from pre [] a b = tt
@@ -199,7 +196,7 @@ answers-from pre (n ∷ ns) a b =
     now s (omega (arith, m1, made.managed, l1, b)) (omega (arith, m2, made.peers, l2, b)) (omega (arith, m3, made.handles, l3, b))
     n.entry.made.caller n.entry.made.op n.told n.entry.made.index n.entry.made.reply n.entry.made.cites may.event may.lawful in
     let next : AllMayCome opening_linkage ((pre ++ n ∷ []) ++ ns) = subst (AllMayCome opening_linkage) (sym (append_assoc pre (n ∷ []) ns)) a in
-    let e = ap (total asking) (map-entries pre (n ∷ [])) ∙ total-append asking (entries pre) (n.entry ∷ []) in
+    let e = ap (total asking) (entries_append pre (n ∷ [])) ∙ total-append asking (entries pre) (n.entry ∷ []) in
     (here, answers-from (pre ++ n ∷ []) ns next (omega (arith, e, b)))
 
 pub answers-all : (ns : List Noted) → AllMayCome opening_linkage ns → total asking (entries ns) ≤ 65534 → Each HasAnswer (entries ns)

@@ -130,13 +130,6 @@ module _ {D : Type 0} (d : Drawing D) (start now : D) (old new : PeerModel) (ind
       subst (λ hs. IsRestoring d start now old new index hs (handles_of (drop (i + 1) nodes)) values mid) (sym (done-none nodes i at))
       (subst (λ hs. IsRestoring d start now old new index (handles_of (take i nodes)) hs values mid) (left-none nodes i at) r)
 
--- so many answers were put
-pub count-some : (nodes : List Node) (i : ℕ) (h : HNum) → HasNode nodes i (λ n. n.handle ≡ Some h) → length (handles_of (take (i + 1) nodes)) ≡ length (handles_of (take i nodes)) + 1
-count-some nodes i h at = ap length (done-some nodes i h at) ∙ length-append (handles_of (take i nodes)) (h ∷ [])
-
-pub count-none : (nodes : List Node) (i : ℕ) → HasNode nodes i (λ n. n.handle ≡ None) → length (handles_of (take (i + 1) nodes)) ≡ length (handles_of (take i nodes))
-count-none nodes i at = ap length (done-none nodes i at)
-
 -- and there is room for one more answer
 pub answers-room : (nodes : List Node) (i : ℕ) (h : HNum) → HasNode nodes i (λ n. n.handle ≡ Some h) → length (handles_of (take i nodes)) + 1 ≤ length (handles_of nodes)
 answers-room nodes i h at =

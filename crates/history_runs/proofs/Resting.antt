@@ -1,17 +1,11 @@
--- Seats that know nothing, and desks that gave two callers out.
-use Rattle.std.proofs.Common.{◌≡◌, [], ◌∷◌, ◌++◌, List, Option, Some, sym, ap, ◌∙◌, subst, refl}
+-- Desks that gave two callers out.
+use Rattle.std.proofs.Common.{◌≡◌, [], ◌∷◌, ◌++◌, List, Option, Some, sym, ap, ◌∙◌, subst}
 use Rattle.std.specs.Prelude.{option_to_list}
 use Rattle.joint_model.specs.declared.names.Thread.{Thread}
-use Rattle.order_table.specs.declared.views.View.{View}
-use Rattle.order_table.specs.Views.{first_view}
-use Rattle.joint_history.specs.Callers.{KnowsNothing, Pass}
+use Rattle.joint_history.specs.Callers.{Pass}
 use Rattle.joint_history.specs.Desks.{Waiting}
 use Rattle.joint_history.specs.Ending.{HasAll, threads_of}
 use Rattle.joint_history.proofs.Giving.{has_all_same}
-
--- the seat of a new order knows nothing
-pub first_knows_nothing : (v : View) → v ≡ first_view → KnowsNothing v
-first_knows_nothing v e i = subst KnowsNothing (sym e) (λ j. refl) i
 
 same_threads : (a b c d : Pass) (t u : Thread) → a.thread ≡ t → b.thread ≡ u → c.thread ≡ t → d.thread ≡ u → threads_of (b ∷ a ∷ []) ≡ threads_of (d ∷ c ∷ [])
 same_threads a b c d t u at_a at_b at_c at_d = ap (λ x. x ∷ a.thread ∷ []) (at_b ∙ sym at_d) ∙ ap (λ y. d.thread ∷ y ∷ []) (at_a ∙ sym at_c)

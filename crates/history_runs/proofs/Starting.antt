@@ -1,17 +1,15 @@
 -- Callers at the start of their threads, and where those have ended: each thread's caller still waits or is one of them.
-use Rattle.std.proofs.Common.{◌≡◌, ◌⊎◌, inl, inr, ⊎_elim, ℕ, zero, suc, ◌<◌, List, [], ◌∷◌, ◌++◌, length, Option, Some, None, refl, sym, ap, ◌∙◌, subst, arith}
+use Rattle.std.proofs.Common.{◌≡◌, inl, inr, ⊎_elim, ℕ, suc, ◌<◌, List, [], ◌∷◌, ◌++◌, length, Option, Some, None, refl, sym, ap, ◌∙◌, subst, arith}
 use Rattle.std.specs.Prelude.{All, Contains, option_to_list, slice_index_or}
 use Rattle.std.proofs.lemmas.List.Elements.{All-cons, All-head, All-nil, All-tail}
 use Rattle.joint_model.specs.declared.names.Thread.{Thread}
-use Rattle.joint_model.specs.declared.names.Thread.TheVariants.{M, P, C}
-use Rattle.joint_model.specs.Control.{idle}
-use Rattle.joint_model.specs.Lines.{IsDriver, IsThread}
-use Rattle.joint_model.proofs.Members.{Contains-cons_cases, Contains-here, Contains-nil, Contains-there}
+use Rattle.joint_model.proofs.Members.{Contains-cons_cases, Contains-here, Contains-there}
 use Rattle.joint_history.specs.Callers.{Pass}
 use Rattle.joint_history.specs.Desks.{Waiting}
 use Rattle.joint_history.specs.Ending.{HasAll, HasIdleDriver, threads_of}
 use Rattle.joint_history.specs.Operations.{IsOwnThread}
 use Rattle.joint_history.proofs.Giving.{has_all_same}
+use Rattle.joint_history.proofs.KnownCallers.{own_idle}
 use Rattle.history_runs.specs.Starts.{IsStarting}
 
 -- a caller that a desk gave stands last among those that were given before
@@ -44,21 +42,13 @@ same_threads (j ∷ js) (r ∷ rs) e w = ap (λ t. t ∷ threads_of js) (sym (w 
 pub gone_have_all : (d : Waiting) (js rs : List Pass) → length rs ≡ length js → HaveGoneOn js rs → HasAll d js → HasAll d rs
 gone_have_all d js rs e w all = has_all_same d js rs (same_threads js rs e w) all
 
-no_driver : (t : Thread) → IsOwnThread t → IsDriver t → ⊥
-no_driver (M n) is driver = driver
-no_driver (P n) is driver = driver
-no_driver C is driver = is
-
 -- none of them is the driver
-thread_is_idle : (p : Pass) → IsOwnThread p.thread → HasIdleDriver p
-thread_is_idle p is driver = absurd (no_driver p.thread is driver)
-
 pub gone_are_idle : (js rs : List Pass) → length rs ≡ length js → HaveGoneOn js rs → All IsStarting js → All HasIdleDriver rs
 gone_are_idle [] [] e w all = All-nil HasIdleDriver
 gone_are_idle [] (r ∷ rs) e w all = absurd (omega (arith, e))
 gone_are_idle (j ∷ js) [] e w all = absurd (omega (arith, e))
 gone_are_idle (j ∷ js) (r ∷ rs) e w all =
-    All-cons HasIdleDriver r rs (thread_is_idle r (subst IsOwnThread (sym (w 0 j (omega arith))) (All-head IsStarting j js all).0))
+    All-cons HasIdleDriver r rs (own_idle r (subst IsOwnThread (sym (w 0 j (omega arith))) (All-head IsStarting j js all).0))
     (gone_are_idle js rs (omega (arith, e)) (λ i d l. w (suc i) d (omega (arith, l))) (All-tail IsStarting j js all))
 
 -- one caller was given out, and went on

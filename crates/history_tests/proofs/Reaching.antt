@@ -2,7 +2,7 @@
 -- leaves the list as it is. Each other round leaves fewer rows outside, so as many rounds as there are rows are enough.
 use Rattle.std.proofs.Common.{◌≡◌, ℕ, zero, suc, ◌+◌, ◌<◌, ◌≤◌, ◌⊎◌, ◌↔◌, inl, inr, ⊎_elim, Bool, true, false, not, ◌&&◌, cond, List, [], ◌∷◌, ◌++◌, length, refl, sym, ap, subst, ◌∙◌, arith, nat_eq, nat_lt, true≢false, Option, Some, None}
 use Rattle.std.specs.List.{Contains, filter, list_any, list_all, flat_map}
-use Rattle.std.proofs.lemmas.Bool.{false≢true, or_cases, and_parts, not-true, cases_eq}
+use Rattle.std.proofs.lemmas.Bool.{cases_Bool, false≢true, or_cases, and_parts, not-true, cases_eq}
 use Rattle.joint_model.specs.Walks.{Reaches, Reached}
 use Rattle.joint_model.specs.Components.{Rises}
 use Rattle.joint_model.proofs.WalkLemmas.{Reached-start, Reached-then, Reached-keeps}
@@ -13,10 +13,6 @@ use Rattle.history_tests.specs.Lists.{implies, mem, with_one, with_all, reach, c
 use Rattle.history_tests.proofs.Telling.{Tells, implied, always, never, like, and2, or2, same, less, all}
 
 -- a test is true or false, beside what it is
-pub which : (b : Bool) → (b ≡ true) ⊎ (b ≡ false)
-which true = inl refl
-which false = inr refl
-
 -- each element of a list, and some element of it
 pub all_in : {A : Type 0} (xs : List A) (test : A → Bool) (P : A → Type 0) → ((x : A) → Tells (test x) (P x)) → Tells (list_all test xs) ((x : A) → Contains xs x → P x)
 all_in [] test P t = always (λ x c. absurd (Contains-nil x c))
@@ -192,11 +188,11 @@ module _ {A : Type 0} (eq : A → A → Bool) (laws : (a b : A) → Tells (eq a 
     stays (suc n) seen e = subst (λ l. reach eq next n l ≡ seen) (sym (with_all_same seen (flat_map next seen) e)) (stays n seen e)
 
     closes : (n : ℕ) (seen : List A) → length (filter (is_outside seen) rows) ≤ n → is_closed (reach eq next n seen) ≡ true
-    closes zero seen l = ⊎_elim (λ e. e) (λ e. let d = round_adds seen e in absurd (omega arith)) (which (is_closed seen))
+    closes zero seen l = ⊎_elim (λ e. e) (λ e. let d = round_adds seen e in absurd (omega arith)) (cases_Bool (is_closed seen))
     closes (suc n) seen l = ⊎_elim
         (λ e. subst (λ s. is_closed s ≡ true) (sym (stays (suc n) seen e)) e)
         (λ e. let d = round_adds seen e in closes n (round seen) (omega arith))
-        (which (is_closed seen))
+        (cases_Bool (is_closed seen))
 
     all_outside : (test : A → Bool) (xs : List A) → length (filter test xs) ≤ length xs
     all_outside test [] = omega arith

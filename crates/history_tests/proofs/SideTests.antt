@@ -1,9 +1,8 @@
 -- The tests of what an event asks of its own side tell what the definitions say, case by case.
-use Rattle.std.proofs.Common.{◌≡◌, ℕ, Bool, true, false, not, ◌&&◌, nat_eq, List, length, Option, Some, None, refl, ap}
-use Rattle.std.proofs.lemmas.Bool.{false≢true}
+use Rattle.std.proofs.Common.{◌≡◌, ℕ, Bool, true, false, not, ◌&&◌, nat_eq, List, length, Option, Some, None, refl}
 use Rattle.std.specs.List.{All, Contains, list_all}
 use Rattle.joint_model.specs.declared.names.Thread.{Thread}
-use Rattle.joint_model.specs.declared.names.Thread.TheVariants.{M, P, C}
+use Rattle.joint_model.specs.declared.names.Thread.TheVariants.{P, C}
 use Rattle.joint_model.specs.declared.names.Phase.{Phase}
 use Rattle.joint_model.specs.declared.names.Phase.TheVariants as at
 use Rattle.joint_model.specs.declared.names.PhaseWord.{PhaseWord}
@@ -29,7 +28,7 @@ use Rattle.history_tests.proofs.ReplyTests.{phases}
 use Rattle.history_tests.proofs.RowTests.{snapshot, resolution, answered}
 use Rattle.history_tests.proofs.ContractionTests.{agree, dead_contraction}
 use Rattle.history_tests.proofs.MarkingTests.{closure, sweep}
-use Rattle.joint_model.proofs.HeapLemmas.{same_thread}
+use Rattle.joint_model.proofs.HeapLemmas.{same_thread, thread_itself}
 
 pub opened : (s : Managed) (k : ℕ) (test : OpenCycle → Bool) (Q : OpenCycle → Type 0) → ((c : OpenCycle) → Tells (test c) (Q c)) → Tells (is_open s k test) ((c : OpenCycle) × IsOpen s k c × Q c)
 opened s k test Q t = like (λ p. (p.0, (p.1, p.2.0), p.2.1)) (λ p. (p.0, p.1.0, (p.1.1, p.2)))
@@ -70,11 +69,6 @@ holds_held raw = never (λ e. cc)
 pub is_strong_now : (x : Strength) → Tells (is_strong x) (x ≡ strong)
 is_strong_now strong = always refl
 is_strong_now weak = never (λ e. cc)
-
-thread_itself : (a : Thread) → is_thread a a ≡ true
-thread_itself (M a) = (same a a).passes refl
-thread_itself (P a) = (same a a).passes refl
-thread_itself C = refl
 
 pub threads : (a b : Thread) → Tells (is_thread a b) (a ≡ b)
 threads a b = equal_thread

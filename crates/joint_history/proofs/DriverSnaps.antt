@@ -40,11 +40,6 @@ pub last_same : (es : List Entry) (e f : Entry) → es ++ e ∷ [] ≡ es ++ f �
 last_same [] e f s = cc
 last_same (x ∷ es) e f s = let tails : es ++ e ∷ [] ≡ es ++ f ∷ [] = cc in last_same es e f tails
 
--- what holds of an answer's value, by another fact of it
-pub if_ok_map : {X E : Type 0} (P Q : X → Type 0) (r : Result X E) → IfOk r P → ((x : X) → P x → Q x) → IfOk r Q
-if_ok_map P Q (Ok x) p f = f x p
-if_ok_map P Q (Err e) p f = tt
-
 -- what holds whether there is a value or a fault
 pub either_way : {X E F Q : Type 0} (P : X → Type 0) (r : Result X E) → IfOk r P → OnErr r F → ((x : X) → P x → Q) → (F → Q) → Q
 either_way P (Ok x) p e f g = f x p

@@ -33,10 +33,6 @@ pub record EndsRun (l : ManagedReplay) (r : PeerReplay) (callers : List Pass) (d
   pub own : All (HasOwn h.entries) callers
   pub none : (t : Thread) → IsThread t → StillWaits d t → made_by t h.entries ≡ []
 
-pub if_ok : {A E : Type 0} (P Q : A → Type 0) (result : Result A E) → ((a : A) → P a → Q a) → IfOk result P → IfOk result Q
-if_ok P Q (Ok a) f p = f a p
-if_ok P Q (Err e) f p = tt
-
 module _ (l : Side ManagedReplay) (r : Side PeerReplay) (d : Waiting) (callers : List Pass) (all : AllTaken l r d callers) (left right : List Entry) (same_left : left ≡ l.entries) (same_right : right ≡ r.entries) (freed_managed : List MNum) (freed_peers : List PNum) (notices : List MNum)
     (fm : managed_numbers freed_managed ≡ l.state.managed.heap.freed) (fp : peer_numbers freed_peers ≡ r.state.peers.heap.freed) (ns : managed_numbers notices ≡ l.state.managed.notices) where
   ends : Ends l r freed_managed freed_peers notices (left ∷ right ∷ []) (entries_of all.whole.whole)

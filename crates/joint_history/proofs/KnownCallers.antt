@@ -5,15 +5,18 @@ use Rattle.joint_model.specs.declared.names.Thread.{Thread}
 use Rattle.joint_model.specs.declared.names.Thread.TheVariants.{M, P, C}
 use Rattle.joint_model.specs.Control.{IsDone}
 use Rattle.joint_model.specs.HistoryLines.{caller_line}
+use Rattle.joint_model.specs.Lines.{IsDriver}
 use Rattle.joint_model.specs.Told.{Noted}
 use Rattle.known_laws.specs.Pasts.{end_of, line}
 use Rattle.known_laws.proofs.Growing.{lines_give_parts}
 use Rattle.order_table.specs.declared.views.View.{View}
 use Rattle.order_table.specs.Facts.{line_entries}
 use Rattle.order_table.specs.Tells.{Parts, IsOfCaller, IsOfNone, TakesIn, BeginsOneHistory}
-use Rattle.order_table.specs.Views.{known}
+use Rattle.order_table.specs.Views.{first_view, known}
 use Rattle.joint_history.specs.Knowing.{IsKnownView}
-use Rattle.joint_history.specs.Callers.{CallerKnows, HasReleased, Hears, HoldsPass}
+use Rattle.joint_history.specs.Callers.{CallerKnows, HasReleased, Hears, HoldsPass, KnowsNothing, Pass}
+use Rattle.joint_history.specs.Ending.{HasIdleDriver}
+use Rattle.joint_history.specs.Operations.{IsOwnThread}
 use Rattle.joint_history.proofs.KnownViews.{views_join}
 
 -- the caller's own line is one of its lines
@@ -51,3 +54,16 @@ hears t u from left note mine new p k h = record {
   knew = k.knew;
   heard = λ i. subst (λ l. IsPrefix l (known new i)) (p.know i).1 (k.heard i);
 }
+
+-- who knows what an order begins with knows nothing
+pub first_knows_nothing : (v : View) → v ≡ first_view → KnowsNothing v
+first_knows_nothing v e i = subst KnowsNothing (sym e) (λ j. refl) i
+
+-- what is asked of an idle driver is nothing to a thread that is none
+pub own_idle : (p : Pass) → IsOwnThread p.thread → HasIdleDriver p
+own_idle p own is = absurd (by p.thread own is)
+  where
+    by : (t : Thread) → IsOwnThread t → IsDriver t → ⊥
+    by (M n) a b = b
+    by (P n) a b = b
+    by C a b = a

@@ -1,6 +1,6 @@
 -- An operation's events, one after another: which may be made, by which side, and what the caller has made and knows at each end.
 use Rattle.std.proofs.Common.{◌≡◌, inl, inr, ⊎_elim, ℕ, ◌≤◌, List, [], ◌∷◌, ◌++◌, Option, Some, None, true, false, refl, sym, ap, ◌∙◌, subst, append_assoc, append-nil, arith}
-use Rattle.std.specs.Prelude.{Result, Ok, Err, IfOk, IsErr, OnErr}
+use Rattle.std.specs.Prelude.{Result, Ok, Err, OnErr}
 use mathlib.Core.List.{IsPrefix}
 use base.Growing.{prefix_trans}
 use Rattle.joint_model.specs.declared.names.Thread.{Thread}
@@ -40,14 +40,6 @@ use Rattle.joint_history.proofs.Turning.{first_may, met_then_release, stands_kno
 pub none_from : {A : Type 0} (o : Option A) → ((x : A) → o ≡ Some x → ⊥) → o ≡ None
 none_from None w = refl
 none_from (Some x) w = absurd (w x refl)
-
-pub no_ok : {A E : Type 0} (r : Result A E) (p : A → Type 0) → IsErr r → IfOk r p
-no_ok (Ok x) p w = absurd (cc)
-no_ok (Err x) p w = tt
-
-pub on_err : {A E : Type 0} (r : Result A E) (p : Type 0) → p → OnErr r p
-on_err (Ok x) p w = tt
-on_err (Err x) p w = w
 
 -- what a caller makes in turn
 pub makes_first : (t : Thread) (old new : View) (e : Entry) (told : Told) → Makes t old new e told → MakesAll t old new (e ∷ [])

@@ -17,10 +17,10 @@ use Rattle.joint_model.proofs.Members.{Contains-decided}
 use Rattle.joint_laws.proofs.ManagedMoves.{GoesOn}
 use Rattle.joint_laws.proofs.MarkSteps.{IsSweptWatch, begin-more, made-front}
 use Rattle.joint_laws.proofs.PeerHeaps.{heap-entry}
-use Rattle.joint_laws.proofs.Watching.{get-more}
+use Rattle.joint_laws.proofs.Watching.{get-front}
 
 sweep-more : (past : List Moment) (m : Moment) (i number : ℕ) (freed : List ℕ) → SweepsAt past i number freed → SweepsAt (past ++ m ∷ []) i number freed
-sweep-more past m i number freed w = record { moment = w.moment; there = get-more past (m ∷ []) i w.moment w.there; event = w.event; span = w.span; reply = w.reply; frees = w.frees }
+sweep-more past m i number freed w = record { moment = w.moment; there = get-front past (m ∷ []) i w.moment w.there; event = w.event; span = w.span; reply = w.reply; frees = w.frees }
 
 module _ (s : Linkage) (n : Noted) (w : Stands s) (v : Stands (linkage_after s n)) (g : GoesOn s.managed.managed (linkage_after s n).managed.managed) (c : OpenCycle) (o : s.managed.managed.cycle ≡ Some c) where
   abbrev t : Linkage
@@ -72,8 +72,8 @@ module _ (s : Linkage) (n : Noted) (w : Stands s) (v : Stands (linkage_after s n
     in_order = k.in_order;
     objects = λ x p cx r out. (
         let b = candidate-before x p cx r in
-        peer-stays x p b r (k.objects x p cx b (λ i y from to e. out i y from to (get-more past (m ∷ []) i y e))));
+        peer-stays x p b r (k.objects x p cx b (λ i y from to e. out i y from to (get-front past (m ∷ []) i y e))));
     peers = λ p made out. (
-        let q = k.peers p (made-front past m k.begin k.marking p k.begins made) (λ i y from to e. out i y from to (get-more past (m ∷ []) i y e)) in
-        record { moment = q.moment; there = get-more past (m ∷ []) k.sweep q.moment q.there; freed = q.freed });
+        let q = k.peers p (made-front past m k.begin k.marking p k.begins made) (λ i y from to e. out i y from to (get-front past (m ∷ []) i y e)) in
+        record { moment = q.moment; there = get-front past (m ∷ []) k.sweep q.moment q.there; freed = q.freed });
   }

@@ -17,7 +17,7 @@ use Rattle.joint_laws.proofs.Journeys.{IsBehindSweep, snaps-more}
 use Rattle.joint_laws.proofs.JointRuns.{Stands}
 use Rattle.joint_model.proofs.Members.{Contains-decided}
 use Rattle.joint_laws.proofs.MarkSteps.{IsSweptWatch}
-use Rattle.joint_laws.proofs.Watching.{get-more}
+use Rattle.joint_laws.proofs.Watching.{get-front}
 use Rattle.joint_model.specs.Told.{Answer}
 
 module _ (s : Linkage) (w : Stands s) (past more : List Moment) (o : OpenSnap) (answers : List Answer) (d : IsRestored s.managed s.peer o answers) (b : IsBehindSweep past s o)
@@ -35,19 +35,19 @@ module _ (s : Linkage) (w : Stands s) (past more : List Moment) (o : OpenSnap) (
         let bridge = (((w.kept.managed.managed.dead d.cycle d.opened.cycle).candidates x).0 cx).1 in
         let row = row_of s.managed s.peer o answers w.kept.managed w.kept.peer w.kept.owners d x bridge.0 bridge.1 in
         absurd (stays-unfreed s.managed s.peer o answers w.kept.managed w.kept.peer w.kept.owners d resolved p x row.0 cx stays row.1
-        (k.objects x row.0 cx row.1 (λ i y from to e. out i from to y (get-more past more i y e)))))
+        (k.objects x row.0 cx row.1 (λ i y from to e. out i from to y (get-front past more i y e)))))
   ]
 
   made-then : (q : ℕ) → IsMadeBefore (past ++ more) k.begin q → IsMadeBefore past k.begin q
   made-then q u =
-      let same : u.moment ≡ k.begins.moment = same_Some u.moment k.begins.moment (sym u.there ∙ get-more past more k.begin k.begins.moment k.begins.there) in
+      let same : u.moment ≡ k.begins.moment = same_Some u.moment k.begins.moment (sym u.there ∙ get-front past more k.begin k.begins.moment k.begins.there) in
       record { moment = k.begins.moment; there = k.begins.there; made = subst (λ (z : Moment). IsMade z.before.graph.peers.heap q) same u.made }
 
   begins_there : DriverBeginsAt (past ++ more) k.begin k.marking
-  begins_there = record { moment = k.begins.moment; there = get-more past more k.begin k.begins.moment k.begins.there; caller = k.begins.caller; event = k.begins.event; reply = k.begins.reply }
+  begins_there = record { moment = k.begins.moment; there = get-front past more k.begin k.begins.moment k.begins.there; caller = k.begins.caller; event = k.begins.event; reply = k.begins.reply }
 
   sweeps_there : SweepsAt (past ++ more) k.sweep k.marking k.swept
-  sweeps_there = record { moment = k.sweeps.moment; there = get-more past more k.sweep k.sweeps.moment k.sweeps.there; event = k.sweeps.event; span = k.sweeps.span; reply = k.sweeps.reply; frees = k.sweeps.frees }
+  sweeps_there = record { moment = k.sweeps.moment; there = get-front past more k.sweep k.sweeps.moment k.sweeps.there; event = k.sweeps.event; span = k.sweeps.span; reply = k.sweeps.reply; frees = k.sweeps.frees }
 
   pub complete-cycle : IsCompleteCycle (past ++ more) (length past) o.cycle resolved
   complete-cycle = record {
@@ -66,6 +66,6 @@ module _ (s : Linkage) (w : Stands s) (past more : List Moment) (o : OpenSnap) (
     ends_later = slice_get_within past k.sweep k.sweeps.moment k.sweeps.there;
     objects = candidate-resolved;
     peers = λ q made out. (
-        let u = k.peers q (made-then q made) (λ i y from to e. out i from to y (get-more past more i y e)) in
-        record { moment = u.moment; there = get-more past more k.sweep u.moment u.there; freed = u.freed });
+        let u = k.peers q (made-then q made) (λ i y from to e. out i from to y (get-front past more i y e)) in
+        record { moment = u.moment; there = get-front past more k.sweep u.moment u.there; freed = u.freed });
   }

@@ -16,7 +16,7 @@ use Rattle.joint_laws.proofs.JointRuns.{Stands, state_of, IsTraced}
 use Rattle.joint_laws.proofs.ManagedMoves.{GoesOn}
 use Rattle.joint_laws.proofs.MarkSteps.{IsSweptWatch, begin-more, made-front, reached-made, row-freed, peer-swept}
 use Rattle.joint_laws.proofs.MarkWatching.{IsMarkWatched}
-use Rattle.joint_laws.proofs.Watching.{IsSeen, IsWatched, get-more, get-last}
+use Rattle.joint_laws.proofs.Watching.{IsSeen, IsWatched, get-front, get-last}
 
 -- what is reached at a moment was made by then
 made-at : (x : Moment) (p : ℕ) → IsTraced x → IsReached x.after (peer p) → IsMade x.after.graph.peers.heap p
@@ -35,11 +35,11 @@ module _ (s : Linkage) (n : Noted) (w : Stands s) (v : Stands (linkage_after s n
   before i x e = let l = slice_get_within past i x e in omega arith
 
   unseen-object : (x : ℕ) → ((i : ℕ) (y : Moment) → a ≤ i → i ≤ length past → slice_get longer i ≡ Some y → IsReached y.after (object x) → ⊥) → IsSeen past a (object x) → ⊥
-  unseen-object x out seen = out seen.place seen.moment seen.from (before seen.place seen.moment seen.there) (get-more past (m ∷ []) seen.place seen.moment seen.there) seen.reached
+  unseen-object x out seen = out seen.place seen.moment seen.from (before seen.place seen.moment seen.there) (get-front past (m ∷ []) seen.place seen.moment seen.there) seen.reached
 
   unseen-peer : (p : ℕ) → ((i : ℕ) (y : Moment) → a ≤ i → i ≤ length past → slice_get longer i ≡ Some y → IsMade y.after.graph.peers.heap p → IsReached y.after (peer p) → ⊥) → IsSeen past a (peer p) → ⊥
   unseen-peer p out seen =
-      out seen.place seen.moment seen.from (before seen.place seen.moment seen.there) (get-more past (m ∷ []) seen.place seen.moment seen.there) (made-at seen.moment p (traced seen.place seen.moment seen.there) seen.reached) seen.reached
+      out seen.place seen.moment seen.from (before seen.place seen.moment seen.there) (get-front past (m ∷ []) seen.place seen.moment seen.there) (made-at seen.moment p (traced seen.place seen.moment seen.there) seen.reached) seen.reached
 
   made-now : (p : ℕ) → IsMadeBefore past k.begin p → IsMade s.peer.peers.heap p
   made-now p q = let l = k.made_then p q in (l.0, omega (arith, l.1, (w.kept.peer.marking mk e0).made))

@@ -19,7 +19,7 @@ use Rattle.joint_laws.proofs.JourneyEntries.{journey-moves, journey-rests, journ
 use Rattle.joint_laws.proofs.OneRun.{one-run}
 use Rattle.joint_laws.proofs.PeerHeaps.{heap-entry}
 use Rattle.joint_laws.proofs.SoundRuns.{is-sound}
-use Rattle.joint_laws.proofs.Watching.{get-more, get-last, push-cases}
+use Rattle.joint_laws.proofs.Watching.{get-front, get-last, push-cases}
 
 -- what is known of the moments so far: each is traced, the peers' slots have their numbers, and what the driver's stand tells
 record IsKnown (past : List Moment) (s : Linkage) (w : Stands s) : Type 0 where
@@ -41,7 +41,7 @@ append-one [] m more = refl
 append-one (x ∷ past) m more = ap (λ z. x ∷ z) (append-one past m more)
 
 get-next : (past : List Moment) (m : Moment) (more : List Moment) → slice_get (past ++ m ∷ more) (length past) ≡ Some m
-get-next past m more = subst (λ z. slice_get z (length past) ≡ Some m) (append-one past m more) (get-more (past ++ m ∷ []) more (length past) m (get-last past m))
+get-next past m more = subst (λ z. slice_get z (length past) ≡ Some m) (append-one past m more) (get-front (past ++ m ∷ []) more (length past) m (get-last past m))
 
 module _ (past : List Moment) (s : Linkage) (w : Stands s) (n : Noted) (may : MayCome s n) (v : Stands (linkage_after s n)) (known : IsKnown past s w) where
   abbrev t : Linkage

@@ -1,13 +1,13 @@
 -- The driver's events on the peer side. A mirror brings exactly the mirror edges, carried to the peers. A candidate's handle
 -- is weakened, or restored, and the others' rows stay. A sweep frees no peer of a strong handle. And when the references go,
 -- a candidate whose peer is unfreed leads only to such candidates, since the references did and freed nothing between them.
-use Rattle.std.proofs.Common.{◌≡◌, ℕ, zero, suc, ◌<◌, ◌↔◌, inl, inr, Bool, true, false, List, [], ◌∷◌, ◌++◌, length, map, Option, Some, None, refl, sym, ap, subst, ◌∙◌, arith}
+use Rattle.std.proofs.Common.{◌≡◌, ℕ, zero, suc, ◌↔◌, inl, inr, Bool, true, false, List, [], ◌∷◌, ◌++◌, length, map, Option, Some, None, refl, sym, ap, subst, ◌∙◌, arith}
 use Rattle.std.specs.Prelude.{Contains, slice_get, if◌then◌else◌}
 use Rattle.std.proofs.lemmas.Map.Views.{list_any-from_Contains}
 use Rattle.std.proofs.lemmas.Cmp.{nat_eq_equiv}
 use Rattle.std.proofs.lemmas.Option.{same_Some}
-use Rattle.std.proofs.lemmas.List.Elements.{All-contains, Contains-append_left}
-use Rattle.joint_model.specs.Components.{Rises, mirror_edges}
+use Rattle.std.proofs.lemmas.List.Elements.{Contains-append_left}
+use Rattle.joint_model.specs.Components.{mirror_edges}
 use Rattle.joint_model.specs.Control.{OpenSnap, carried_edges, peer_of_row}
 use Rattle.joint_model.specs.Cycles.{DeadEdge}
 use Rattle.joint_model.specs.Heaps.{IsLive, numbered_at, numbered_set, is_freed}
@@ -21,7 +21,7 @@ use Rattle.joint_laws.specs.ManagedInvariants.{IsCutOff, IsReplayKept}
 use Rattle.joint_laws.specs.Mirrors.{MirrorEdge}
 use Rattle.joint_laws.specs.PeerInvariants.{IsTabled, IsIssued, IsSpared, IsPeerKept}
 use Rattle.joint_laws.specs.LinkedInvariants.{HasStrength, IsHeldOne, IsRowOf, AreOwnersKept, IsMirrored, LeadsToUnfreed, IsContracted, IsWeakening}
-use Rattle.joint_model.proofs.Members.{Contains-at, at-Contains, Contains-map, Contains-map_cases}
+use Rattle.joint_model.proofs.Members.{at-Contains, Contains-map, Contains-map_cases}
 use Rattle.joint_model.proofs.Numbered.{numbered-within, numbered_set-other}
 use Rattle.joint_model.proofs.Deciding.{none_some}
 use Rattle.joint_model.proofs.HeapLemmas.{Holds-handle_of}

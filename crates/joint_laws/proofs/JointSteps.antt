@@ -3,7 +3,6 @@
 use Rattle.std.proofs.Common.{◌≡◌, ℕ, ◌+◌, ◌≤◌, ◌⊎◌, inl, inr, Bool, true, false, ◌||◌, List, [], ◌++◌, length, map, Option, Some, None, get_or, refl, sym, ap, subst, ◌∙◌, arith}
 use Rattle.std.specs.Prelude.{Contains, All, if◌then◌else◌}
 use Rattle.std.proofs.lemmas.List.Elements.{Contains-get_or}
-use Rattle.std.proofs.lemmas.Bool.Decides.{Decides-eqb}
 use Rattle.joint_model.specs.declared.names.Thread.{Thread}
 use Rattle.joint_model.specs.declared.names.Thread.TheVariants.{M, P, C}
 use Rattle.joint_model.specs.declared.events.Op.{Op}
@@ -33,7 +32,7 @@ use Rattle.joint_laws.proofs.JointFlags.{AreFlags-same, AreFlags-gone, AreFlags-
 use Rattle.joint_laws.proofs.SparedWalks.{reached-spared}
 use Rattle.joint_laws.proofs.LinkedQuiet.{AreKept, kept-quiet}
 use Rattle.joint_model.specs.Joined.{joint_of}
-use Rattle.joint_model.proofs.HeapLemmas.{same_thread}
+use Rattle.joint_model.proofs.HeapLemmas.{same_thread, thread_itself}
 
 -- the step of an event, with the flags and the marking after it
 pub record Steps (m : Managed) (s : PeerReplay) (flags : List Bool) (jm : Option JointMarking) (t : Thread) (o : Op) (reply : Reply) (told : Told) (n : Managed) (u : PeerReplay) : Type 0 where
@@ -66,11 +65,6 @@ bring-same a says.Gone jm w = w
 bring-same a _ jm w = w
 
 -- a thread that may end a marking is found to be one
-pub same-thread : (t : Thread) → is_thread t t ≡ true
-same-thread (M n) = (Decides-eqb n n).1 refl
-same-thread (P n) = (Decides-eqb n n).1 refl
-same-thread C = refl
-
 or-right : (a : Bool) → (a || true) ≡ true
 or-right true = refl
 or-right false = refl
@@ -78,7 +72,7 @@ or-right false = refl
 pub may-end : (t u : Thread) → (t ≡ C) ⊎ (t ≡ u) → (is_thread t C || is_thread t u) ≡ true
 may-end t u w = elim w [
   | inl e ↦ subst (λ z. (is_thread z C || is_thread z u) ≡ true) (sym e) refl
-  | inr e ↦ subst (λ z. (is_thread t C || is_thread t z) ≡ true) e (subst (λ z. (is_thread t C || z) ≡ true) (sym (same-thread t)) (or-right (is_thread t C)))
+  | inr e ↦ subst (λ z. (is_thread t C || is_thread t z) ≡ true) e (subst (λ z. (is_thread t C || z) ≡ true) (sym (thread_itself t)) (or-right (is_thread t C)))
 ]
 
 module _ (r : ManagedReplay) (s : PeerReplay) (ds : List Doing) (d : Stand) (k : AreKept r s ds d) (flags : List Bool) (jm : Option JointMarking) (ag : Agrees r.managed s flags jm) where

@@ -28,7 +28,7 @@ use Rattle.joint_laws.proofs.ManagedEntries.{ManagedStep-entry}
 use Rattle.joint_laws.proofs.ManagedMoves.{GoesOn}
 use Rattle.joint_laws.proofs.ManagedSteps.{ManagedStep, going_on, snapping, resolving, abandoning}
 use Rattle.joint_laws.proofs.JointRuns.{Stands, state_of}
-use Rattle.joint_laws.proofs.Watching.{IsWatched, get-more, watched-next}
+use Rattle.joint_laws.proofs.Watching.{IsWatched, get-front, watched-next}
 use Rattle.joint_laws.proofs.MarkSteps.{IsSweptWatch}
 
 -- only a mirror and a clear change the references
@@ -128,7 +128,7 @@ pub record IsBehindSweep (past : List Moment) (s : Linkage) (o : OpenSnap) : Typ
   pub swept : IsSweptWatch past snap cycle s
 
 pub snaps-more : (past more : List Moment) (a k : ℕ) (freed candidates : List ℕ) → SnapsAt past a k freed candidates → SnapsAt (past ++ more) a k freed candidates
-snaps-more past more a k freed candidates w = record { moment = w.moment; there = get-more past more a w.moment w.there; event = w.event; dead = w.dead; frees = w.frees }
+snaps-more past more a k freed candidates w = record { moment = w.moment; there = get-front past more a w.moment w.there; event = w.event; dead = w.dead; frees = w.frees }
 
 unfoldable pub way-next : (s : Linkage) (n : Noted) (may : MayCome s n) (w : Stands s) (v : Stands (linkage_after s n)) (past : List Moment) (o : OpenSnap) (m : Moment) → m.after ≡ state_of (linkage_after s n) v → (e : OpenCycle) → (linkage_after s n).managed.managed.cycle ≡ Some e
     → IsOnTheWay past s w o → IsOnTheWay (past ++ m ∷ []) (linkage_after s n) v o

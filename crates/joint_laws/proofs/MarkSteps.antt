@@ -21,7 +21,7 @@ use Rattle.joint_laws.proofs.Sparing.{later}
 use Rattle.joint_laws.proofs.PeerHeaps.{heap-entry}
 use Rattle.joint_laws.proofs.JointRuns.{Stands, state_of}
 use Rattle.joint_laws.proofs.JointSince.{peer-entry}
-use Rattle.joint_laws.proofs.Watching.{IsSeen, WasSeen, IsWatched, last-seen, seen-more, was-more, seen-cases, watched-next, get-more}
+use Rattle.joint_laws.proofs.Watching.{IsSeen, WasSeen, IsWatched, last-seen, seen-more, was-more, seen-cases, watched-next, get-front}
 use Rattle.joint_laws.proofs.MarkWatching.{IsMarkWatched, marked-seen, reference-seen, strong_peer-seen, slot-seen, row-joined}
 
 -- at the begin
@@ -53,11 +53,11 @@ watch-begin s w past a c o watched m all number b by begins ab made = record {
 }
 
 pub begin-more : (past : List Moment) (m : Moment) (b number : ℕ) → DriverBeginsAt past b number → DriverBeginsAt (past ++ m ∷ []) b number
-begin-more past m b number w = record { moment = w.moment; there = get-more past (m ∷ []) b w.moment w.there; caller = w.caller; event = w.event; reply = w.reply }
+begin-more past m b number w = record { moment = w.moment; there = get-front past (m ∷ []) b w.moment w.there; caller = w.caller; event = w.event; reply = w.reply }
 
 pub made-front : (past : List Moment) (m : Moment) (b number p : ℕ) → DriverBeginsAt past b number → IsMadeBefore (past ++ m ∷ []) b p → IsMadeBefore past b p
 made-front past m b number p w q =
-    let same : q.moment ≡ w.moment = same_Some q.moment w.moment (sym q.there ∙ get-more past (m ∷ []) b w.moment w.there) in
+    let same : q.moment ≡ w.moment = same_Some q.moment w.moment (sym q.there ∙ get-front past (m ∷ []) b w.moment w.there) in
     record { moment = w.moment; there = w.there; made = subst (λ (z : Moment). IsMade z.before.graph.peers.heap p) same q.made }
 
 -- at a later entry

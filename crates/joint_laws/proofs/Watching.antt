@@ -44,13 +44,10 @@ pub record IsWatched (past : List Moment) (a : ℕ) (candidates : List ℕ) (j :
   pub bridges : (m h : ℕ) → Holds j.graph.managed m h → (Contains candidates m → ⊥) → WasSeen past a (object m)
 
 -- longer lists
-get-front : (xs ys : List Moment) (i : ℕ) (m : Moment) → slice_get xs i ≡ Some m → slice_get (xs ++ ys) i ≡ Some m
+pub get-front : (xs ys : List Moment) (i : ℕ) (m : Moment) → slice_get xs i ≡ Some m → slice_get (xs ++ ys) i ≡ Some m
 get-front [] ys i m e = absurd (none_some m e)
 get-front (x ∷ xs) ys zero m e = e
 get-front (x ∷ xs) ys (suc i) m e = get-front xs ys i m e
-
-pub get-more : (past more : List Moment) (i : ℕ) (m : Moment) → slice_get past i ≡ Some m → slice_get (past ++ more) i ≡ Some m
-get-more past more i m e = get-front past more i m e
 
 pub get-last : (past : List Moment) (m : Moment) → slice_get (past ++ m ∷ []) (length past) ≡ Some m
 get-last [] m = refl
@@ -63,7 +60,7 @@ push-cases (y ∷ past) m zero x e = inl e
 push-cases (y ∷ past) m (suc i) x e = elim (push-cases past m i x e) [ inl w ↦ inl w | inr w ↦ inr (ap suc w.0, w.1) ]
 
 pub seen-more : (past : List Moment) (m : Moment) (a : ℕ) (x : Row) → IsSeen past a x → IsSeen (past ++ m ∷ []) a x
-seen-more past m a x w = record { place = w.place; from = w.from; moment = w.moment; there = get-more past (m ∷ []) w.place w.moment w.there; reached = w.reached }
+seen-more past m a x w = record { place = w.place; from = w.from; moment = w.moment; there = get-front past (m ∷ []) w.place w.moment w.there; reached = w.reached }
 
 pub was-more : (past : List Moment) (m : Moment) (a : ℕ) (x : Row) → WasSeen past a x → WasSeen (past ++ m ∷ []) a x
 was-more past m a x w n = w (λ v. n (seen-more past m a x v))

@@ -1,6 +1,7 @@
 -- Tests and options: what an answer says, and what holds in each case of a choice.
-use Rattle.std.proofs.Common.{◌≡◌, ◌≢◌, ℕ, ◌↔◌, ◌⊎◌, inl, inr, Bool, true, false, not, ◌||◌, Option, Some, None, IsTrue, refl, arith, eqb, if◌then◌else◌, ◌&&◌, zero, suc, ◌≤◌, sym, ap}
-use Rattle.std.specs.Prelude.{is_some}
+use Rattle.std.proofs.Common.{◌≡◌, ◌≢◌, ℕ, ◌↔◌, ◌⊎◌, inl, inr, Bool, true, false, not, ◌||◌, Option, Some, None, IsTrue, refl, arith, eqb, if◌then◌else◌, ◌&&◌, zero, suc, ◌≤◌, sym, ap, ◌∙◌}
+use Rattle.std.specs.Prelude.{is_some, nat_eq}
+use Rattle.std.proofs.lemmas.Bool.{eq-eqb, eqb-true}
 use Rattle.std.proofs.lemmas.Bool.Decides.{nat_tests}
 
 -- a test is true or false, and not both
@@ -90,3 +91,11 @@ one_to_eight P a b c d e f g h (suc (suc (suc (suc (suc (suc (suc (suc (suc t)))
 pub handle-there : (o : Option (Option ℕ)) → is_some (elim o [ None ↦ None | Some x ↦ x ]) ≡ true → (k : ℕ) × (o ≡ Some (Some k))
 handle-there None e = absurd (true_false (sym e))
 handle-there (Some x) e = (let r = some-true x e in (r.0, ap Some r.1))
+
+-- equality of numbers, from either side
+pub nat_eq-turned : (a b : ℕ) → nat_eq a b ≡ nat_eq b a
+nat_eq-turned a b = by (nat_eq a b) refl
+  where
+    by : (t : Bool) → nat_eq a b ≡ t → nat_eq a b ≡ nat_eq b a
+    by true e = e ∙ sym (eq-eqb b a (sym (eqb-true a b e)))
+    by false e = e ∙ sym (false-from (nat_eq b a) (λ t. true-false (nat_eq a b) (eq-eqb a b (sym (eqb-true b a t))) e))

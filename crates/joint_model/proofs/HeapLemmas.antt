@@ -77,6 +77,11 @@ adopt_by-reply s p h after (says.M m) = refl
 adopt_by-reply s p h after _ = refl
 
 -- whether two threads are the same is computed
+pub thread_itself : (t : Thread) → is_thread t t ≡ true
+thread_itself (M n) = nat_eq_equiv.refl n
+thread_itself (P n) = nat_eq_equiv.refl n
+thread_itself C = refl
+
 pub same_thread : (t u : Thread) → is_thread t u ≡ true → t ≡ u
 same_thread (M a) (M b) e = ap (λ n. M n) ((Decides-eqb a b).0 e)
 same_thread (M a) (P b) e = (let f : ⊥ = cc in absurd f)

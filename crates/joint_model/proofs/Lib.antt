@@ -13,3 +13,4 @@ mod Passing
 pub mod WalkLemmas
 pub mod HistoryLists
 pub mod Gathering
+pub mod Results

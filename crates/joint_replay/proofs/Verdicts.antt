@@ -168,7 +168,3 @@ judged-sweep h e j same event = judged h e j op.Sweep _ same event
 pub Decides-managed : (j : Joint) (p : Managed → Type 0) (q : Joint → Type 0) → ((m : Managed) → p m → q (with_managed j m)) → ((n : Joint) → q n → (m : Managed) × p m) → (d : Verdict) (m : Managed) → Decides p d j.graph.managed m → Decides q d j (with_managed j m)
 Decides-managed j p q to from Lawful m x = to m x
 Decides-managed j p q to from Unlawful m x = (λ n s. (let r = from n s in x.0 r.0 r.1), ap (λ (z : Managed). with_managed j z) x.1)
-
-pub IfOk-as : {A E : Type 0} (p q : A → Type 0) → ((x : A) → p x → q x) → (r : Result A E) → IfOk r p → IfOk r q
-IfOk-as p q f (Ok x) h = f x h
-IfOk-as p q f (Err e) h = h

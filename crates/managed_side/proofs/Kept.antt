@@ -6,8 +6,7 @@ use Rattle.joint_model.specs.Heaps.{Heap, IsLive, IsMade, is_freed, slot}
 use Rattle.joint_model.proofs.Numbered.{slot-Contains}
 use Rattle.joint_model.proofs.HeapLemmas.{is_freed-live, not_freed}
 use Rattle.std.proofs.Common.{ap, ◌∙◌, inr, nat_eq, if◌then◌else◌, cond, Some}
-use Rattle.std.proofs.lemmas.Bool.{eqb-true, eq-eqb}
-use Rattle.joint_model.proofs.Deciding.{false-from, true-false}
+use Rattle.joint_model.proofs.Deciding.{nat_eq-turned}
 use Rattle.joint_model.specs.declared.names.MNum.{MNum}
 use Rattle.joint_model.specs.declared.names.PNum.{PNum}
 use Rattle.joint_model.specs.ManagedReplay.{registered}
@@ -35,13 +34,6 @@ gone-is h x false made live = by (is_freed h x) refl
     by : (f : Bool) → is_freed h x ≡ f → true ≡ is_freed h x
     by true e = sym e
     by false e = (let t = live.1 (record { made = made; kept = not_freed h x e }) in cc)
-
-nat_eq-turned : (a b : ℕ) → nat_eq a b ≡ nat_eq b a
-nat_eq-turned a b = by (nat_eq a b) refl
-  where
-    by : (t : Bool) → nat_eq a b ≡ t → nat_eq a b ≡ nat_eq b a
-    by true e = e ∙ sym (eq-eqb b a (sym (eqb-true a b e)))
-    by false e = e ∙ sym (false-from (nat_eq b a) (λ t. true-false (nat_eq a b) (eq-eqb a b (sym (eqb-true b a t))) e))
 
 -- the registry's twin is the definition's
 pub registered-is : (ps : List (PNum × MNum)) (p : PNum) → registered (pairs_of ps) p.0 ≡ number_or_none (twin_in ps p)

@@ -1,4 +1,3 @@
-pub mod Failing
 pub mod Kept
 pub mod Goes
 pub mod Peers

@@ -18,8 +18,9 @@ use Rattle.joint_model.proofs.WalkLemmas.{Reached-keeps, Reached-start, Reached-
 use Rattle.joint_laws.specs.PeerInvariants.{IsSpared}
 use Rattle.joint_laws.proofs.Fields.{with_object-old, with_field-length, with_field-other}
 use Rattle.reachability.specs.Marks.{HasMark}
+use Rattle.reachability.proofs.Marking.{marked-or}
 use Rattle.marking_laws.specs.Marks.{AreMarksExact, EdgeNow, IsMarkedSide, IsRootNow}
-use Rattle.marking_laws.proofs.MarkFacts.{edge-existed, marked-or, spared-existed, spared-marked}
+use Rattle.marking_laws.proofs.MarkFacts.{edge-existed, spared-existed, spared-marked}
 
 -- the begin: exactly what the roots reach over the edges of now is marked
 pub marks-begun : (s : PeerReplay) (t : Thread) (mk : Marking) (marks : List Bool) → (begun s None t).state.marking ≡ Some mk

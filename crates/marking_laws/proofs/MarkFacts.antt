@@ -1,12 +1,13 @@
 -- What exact marks say of a single peer. A peer that the definition spares is one for which it is impossible that it was unfreed at the begin
 -- and isn't marked. A mark is there or not, so this double negation costs nothing: a spared peer that is unfreed has a mark, and what has a
 -- mark is spared. What is unfreed now was unfreed at the begin or was made since, as numbers rise and freed peers stay freed.
-use Rattle.std.proofs.Common.{ℕ, zero, suc, ◌⊎◌, inl, inr, Bool, true, false, List, [], ◌∷◌, length, refl, arith}
+use Rattle.std.proofs.Common.{ℕ, ◌⊎◌, inl, inr, Bool, List, length, arith}
 use Rattle.std.proofs.lemmas.Bool.{cases_lt}
 use Rattle.joint_model.specs.Heaps.{IsLive}
 use Rattle.joint_model.specs.PeerReplay.{PeerReplay, Marking, MarkingEdge}
 use Rattle.joint_laws.specs.PeerInvariants.{IsSpared}
 use Rattle.reachability.specs.Marks.{HasMark}
+use Rattle.reachability.proofs.Marking.{marked-or}
 use Rattle.marking_laws.specs.Marks.{AreMarksExact}
 
 -- an edge of a marking joins peers that were unfreed at its begin
@@ -14,12 +15,6 @@ pub edge-existed : (mk : Marking) (p q : ℕ) → MarkingEdge mk p q → IsLive 
 edge-existed mk p q e = elim e [ inl f ↦ (f.live, f.there) | inr r ↦ (r.live, r.there) ]
 
 -- a mark is there or not
-pub marked-or : (marks : List Bool) (p : ℕ) → HasMark marks p ⊎ (HasMark marks p → ⊥)
-marked-or [] p = inr (λ u. cc)
-marked-or (true ∷ m) zero = inl refl
-marked-or (false ∷ m) zero = inr (λ u. cc)
-marked-or (b ∷ m) (suc p) = marked-or m p
-
 -- an unfreed peer was unfreed at the begin, or was made since
 pub existed-or : (s : PeerReplay) (mk : Marking) (follows : Bool) (marks : List Bool) → AreMarksExact s mk follows marks → (p : ℕ) → IsLive s.peers.heap p → IsLive mk.heap p ⊎ (IsLive mk.heap p → ⊥)
 existed-or s mk follows marks m p l = elim (cases_lt (length mk.heap.fields) p) [

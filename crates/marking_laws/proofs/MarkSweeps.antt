@@ -10,8 +10,9 @@ use Rattle.joint_model.specs.PeerReplay.{PeerReplay, Marking, IsSweep}
 use Rattle.joint_laws.proofs.Sparing.{spared-next}
 use Rattle.heap_rules.specs.Tidy.{CanFree}
 use Rattle.reachability.specs.Marks.{IsClosed}
+use Rattle.reachability.proofs.Marking.{marked-or}
 use Rattle.marking_laws.specs.Marks.{AreMarksExact, EdgeNow, IsMarkedSide, IsWithoutMark}
-use Rattle.marking_laws.proofs.MarkFacts.{existed-or, marked-or, marked-spared, spared-marked}
+use Rattle.marking_laws.proofs.MarkFacts.{existed-or, marked-spared, spared-marked}
 
 pub marks-shut : (s : PeerReplay) (mk : Marking) (follows : Bool) (marks : List Bool) → IsMarkedSide s mk follows marks → IsClosed (EdgeNow s follows) marks
 marks-shut s mk follows marks side p q e u =

@@ -1,8 +1,7 @@
 -- The bridge nodes of a dead part whose handles are strong: each has a live peer under its handle.
-use Rattle.std.proofs.Common.{◌≡◌, ℕ, ◌+◌, zero, suc, List, [], ◌∷◌, ◌++◌, length, take, Option, Some, None, refl, sym, ap, subst, ◌∙◌, arith, get_or, length-append, append-nil, if◌then◌else◌}
-use Rattle.std.specs.Prelude.{Contains, IsSome, slice_get}
+use Rattle.std.proofs.Common.{◌≡◌, ℕ, zero, suc, List, [], Option, Some, None, refl, sym, ap, subst, ◌∙◌, arith, get_or, if◌then◌else◌}
+use Rattle.std.specs.Prelude.{Contains, IsSome}
 use Rattle.std.specs.Option.{option_and_then, option_to_list}
-use Rattle.std.proofs.lemmas.Grind.{flat_map-append}
 use Rattle.std.proofs.lemmas.Option.{same_Some, slice_get-get_or}
 use Rattle.std.proofs.lemmas.List.Elements.{All-contains}
 use Rattle.joint_model.specs.declared.names.HNum.{HNum}
@@ -12,7 +11,7 @@ use Rattle.joint_model.specs.Heaps.{IsLive, numbered_at}
 use Rattle.joint_model.specs.Peers.{Issued, peer_of, held, strong}
 use Rattle.joint_model.specs.PeerReplay.{PeerReplay, TableRow, row_of, strong_peers, table_target}
 use Rattle.joint_model.proofs.Deciding.{none_some}
-use Rattle.joint_model.proofs.Members.{Contains-at, Contains-flat_map, Contains-here, take-next}
+use Rattle.joint_model.proofs.Members.{Contains-at, Contains-flat_map, Contains-here}
 use Rattle.joint_model.proofs.Numbered.{numbered-within}
 use Rattle.joint_laws.specs.PeerInvariants.{IsPeerKept, IsTabled, IsIssued}
 use Rattle.joint_laws.proofs.MarkingKeeping.{strong-listed}
@@ -81,16 +80,3 @@ target-is s nodes i h o n at shown = sym shown ∙ handle-target s nodes i h n a
 
 pub same-peer : (s : PeerReplay) (nodes : List Node) (i : ℕ) (h : HNum) (o : Option PNum) (n : IsStrongNode s nodes i) → HasNode nodes i (λ m. m.handle ≡ Some h) → table_target s h.0 ≡ number_of o → (p : PNum) → o ≡ Some p → p.0 ≡ n.peer
 same-peer s nodes i h o n at shown p is = same_Some p.0 n.peer (ap number_of (sym is) ∙ target-is s nodes i h o n at shown)
-
--- the handles of one node more
-handles-next : (nodes : List Node) (i : ℕ) (o : Option HNum) → HasNode nodes i (λ n. n.handle ≡ o) → length (handles_of (take (i + 1) nodes)) ≡ length (handles_of (take i nodes)) + length (option_to_list o)
-handles-next nodes i o at =
-    ap (λ ns. length (handles_of ns)) (take-next nodes i at.0 at.1)
-    ∙ (ap length (flat_map-append (λ (n : Node). option_to_list n.handle) (take i nodes) (at.0 ∷ []) ∙ ap (λ hs. handles_of (take i nodes) ++ hs) (append-nil (option_to_list at.0.handle)))
-    ∙ (length-append (handles_of (take i nodes)) (option_to_list at.0.handle) ∙ ap (λ z. length (handles_of (take i nodes)) + length (option_to_list z)) at.2))
-
-pub handles-some : (nodes : List Node) (i : ℕ) (h : HNum) → HasNode nodes i (λ n. n.handle ≡ Some h) → length (handles_of (take (i + 1) nodes)) ≡ length (handles_of (take i nodes)) + 1
-handles-some nodes i h at = handles-next nodes i (Some h) at
-
-pub handles-none : (nodes : List Node) (i : ℕ) → HasNode nodes i (λ n. n.handle ≡ None) → length (handles_of (take (i + 1) nodes)) ≡ length (handles_of (take i nodes))
-handles-none nodes i at = (let e = handles-next nodes i None at in omega (arith, e))

@@ -3,12 +3,11 @@
 use Rattle.std.proofs.Common.{◌≡◌, ℕ, ◌+◌, ◌≤◌, ◌⊎◌, ◌↔◌, inl, inr, Bool, true, false, ◌||◌, List, [], ◌∷◌, ◌++◌, length, drop, Option, Some, None, if◌then◌else◌, refl, sym, ap, subst, ◌∙◌, arith, length-append}
 use Rattle.std.specs.Prelude.{All}
 use Rattle.std.specs.Option.{option_map}
-use Rattle.std.proofs.lemmas.Bool.{eq-eqb}
 use Rattle.std.proofs.lemmas.List.{drop_all, length_push}
 use Rattle.joint_model.specs.declared.names.Marking.{Marking as Number}
 use Rattle.joint_model.specs.declared.names.Span.{Span}
 use Rattle.joint_model.specs.declared.names.Thread.{Thread}
-use Rattle.joint_model.specs.declared.names.Thread.TheVariants.{M, P, C}
+use Rattle.joint_model.specs.declared.names.Thread.TheVariants.{C}
 use Rattle.joint_model.specs.declared.events.Entry.{Entry}
 use Rattle.joint_model.specs.declared.events.Made.{Made}
 use Rattle.joint_model.specs.declared.events.Op.TheVariants as op
@@ -37,6 +36,7 @@ use Rattle.peer_side.specs.Marks.{IsExact}
 use Rattle.peer_side.specs.Rows.{Rows}
 use Rattle.peer_side.specs.Mirrors.{Mirrors, AreMirrored, marked_one, mirror_in, mirrors_begun, mirrors_in, owes}
 use Rattle.joint_model.specs.Peers.{Issued}
+use Rattle.joint_model.proofs.HeapLemmas.{thread_itself}
 use Rattle.peer_side.specs.Sides.{IsSide, IsFrom, IsKnown, begins, ends, brought_by, brought_since, marking_as, marking_in, mirror_state, state_with, owed, MarkingIsEnded, IsFaultAt, IsMarkingOf, MayEnd}
 use Rattle.peer_side.proofs.Opened.{begun_with, with_begun, with_swept, opened-state, opened-marks, closed-state, closed-sweep}
 use Rattle.peer_side.proofs.Quiet.{IsQuiet, known-next, mark-quiet, mirrored-still, not-grown, state-still}
@@ -120,14 +120,9 @@ IsSide-next old new o p n k m stock later number floor made told added below abo
     (omega (arith, side.refs_room, roomy)) (omega (arith, side.few_refs, ap length refs)) side
 
 -- a thread is itself
-same-thread : (t : Thread) → is_thread t t ≡ true
-same-thread (M a) = eq-eqb a a refl
-same-thread (P a) = eq-eqb a a refl
-same-thread C = refl
-
 may-end : (t u : Thread) → ((t ≡ C) ⊎ (t ≡ u)) → (is_thread t C || is_thread t u) ≡ true
 may-end t u (inl e) = subst (λ z. (is_thread z C || is_thread z u) ≡ true) (sym e) refl
-may-end t u (inr e) = or_right (is_thread t C) (is_thread t u) (subst (λ z. is_thread t z ≡ true) e (same-thread t))
+may-end t u (inr e) = or_right (is_thread t C) (is_thread t u) (subst (λ z. is_thread t z ≡ true) e (thread_itself t))
 
 -- a marking that may be ended is at its end
 pub ended-whole : (rows : Rows) (o : Option OpenMarking) (n : ℕ) (m : Mirrors) (stock : Stock) (t : Thread) (j : Number) → IsSide rows o n m stock → MarkingIsEnded (marking_in rows.issued stock.entries o) t j → IsWholeMarking rows

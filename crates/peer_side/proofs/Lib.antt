@@ -19,6 +19,5 @@ pub mod Grown
 pub mod Cycles
 pub mod Restoring
 pub mod Ending
-pub mod Failing
 pub mod Further
 mod Tabled

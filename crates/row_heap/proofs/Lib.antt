@@ -8,5 +8,5 @@ pub mod Linked
 pub mod Swept
 pub mod Marked
 mod Gone
-pub mod Results
+pub mod Tested
 mod Cases

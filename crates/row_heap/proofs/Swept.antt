@@ -4,6 +4,7 @@ use Rattle.std.proofs.Common.{◌≡◌, ℕ, zero, suc, ◌+◌, ◌≤◌, ◌
 use Rattle.std.specs.Prelude.{Contains}
 use Rattle.std.proofs.Math.Seq.{drop-append_seam}
 use Rattle.std.proofs.lemmas.List.Elements.{Contains-push, Contains-push_cases, Contains-append_left}
+use Rattle.std.proofs.lemmas.Bool.{cases_Bool}
 use Rattle.joint_model.specs.Heaps.{IsLive, InSlot, numbered_set}
 use Rattle.joint_model.proofs.Members.{All-members, Contains-nil, Rises-push}
 use Rattle.heap_rules.specs.Flags.{IsSound, TakesDown, up_count}
@@ -39,17 +40,13 @@ stands-white r e n = both r.stands r.marked e n
     both false m e n = (let f : ⊥ = cc in absurd f)
 
 -- a row that no step has removed is as white as it was
-flag-or : (b : Bool) → (b ≡ true) ⊎ (b ≡ false)
-flag-or true = inl refl
-flag-or false = inr refl
-
 white-fallen : (r : Seen) → r.stands ≡ false → is_white r ≡ false
 white-fallen r e = ap (λ s. s && not r.marked) e
 
 pub white-same : (xs : List ℕ) (old mid : List Seen) (x : ℕ) → RowsFreed xs old mid → (Contains xs x → ⊥) → is_white (row_at mid x) ≡ is_white (row_at old x)
-white-same xs old mid x r out = elim (flag-or (row_at mid x).stands) [
+white-same xs old mid x r out = elim (cases_Bool (row_at mid x).stands) [
   | inl t ↦ ap is_white (r.others x t)
-  | inr n ↦ white-fallen (row_at mid x) n ∙ sym (elim (flag-or (row_at old x).stands) [
+  | inr n ↦ white-fallen (row_at mid x) n ∙ sym (elim (cases_Bool (row_at old x).stands) [
     | inl t ↦ (let f : true ≡ false = sym (flag-stands mid x true (r.flags.other x out ∙ stands-flag old x t)) ∙ n in cc)
     | inr m ↦ white-fallen (row_at old x) m
   ])
@@ -92,7 +89,7 @@ pub RowsSwept-next : (i : ℕ) (old mid new : List Seen) (before mids after : Li
     → after ≡ (if is_white (row_at mid x) then mids ++ x ∷ [] else mids) → RowsSwept (i + 1) old new before after
 RowsSwept-next i old mid new before mids after x s e is list =
     let here = RowsSwept-here i old mid before mids x s e in
-    elim (flag-or (is_white (row_at mid x))) [
+    elim (cases_Bool (is_white (row_at mid x))) [
       | inl w ↦ subst (λ n. RowsSwept (i + 1) old n before after) (sym (is ∙ ap (λ (b : Bool). if b then numbered_set mid x (gone (row_at mid x).fields) else mid) w)) (
           let white = sym here ∙ w in
           let out : Contains s.swept x → ⊥ = λ c. omega (arith, ((s.exact x).0 c).0, e) in

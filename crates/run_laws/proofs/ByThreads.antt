@@ -1,8 +1,7 @@
 -- Thread by thread: a line of another thread is none of this thread's, a line of its own stands behind its others with its entries, and what
 -- each thread holds of its lines is what the script's history holds, since of each thread the history has just its caller's own entries.
-use Rattle.std.proofs.Common.{◌≡◌, ◌⊎◌, ⊎_elim, ℕ, ◌+◌, true, false, List, [], ◌∷◌, ◌++◌, length, Some, refl, sym, ◌∙◌, ap, subst, arith, nat_eq, eq-eqb}
-use Rattle.std.specs.Prelude.{All, Contains, if◌then◌else◌, slice_get, take}
-use Rattle.std.proofs.lemmas.Bool.{cases_Bool, eqb-true, eqb-false, ne_eqb}
+use Rattle.std.proofs.Common.{◌≡◌, ⊎_elim, ℕ, ◌+◌, true, List, [], ◌∷◌, ◌++◌, length, Some, refl, sym, ◌∙◌, ap, subst, arith}
+use Rattle.std.specs.Prelude.{if◌then◌else◌, slice_get, take}
 use Rattle.std.proofs.lemmas.List.{append-nil, length-take-le, take_all, take_more}
 use Rattle.std.proofs.lemmas.List.Elements.{All-contains}
 use Rattle.std.proofs.lemmas.Option.{get_or_from_slice_get, slice_get_within}
@@ -10,20 +9,17 @@ use Rattle.joint_model.specs.declared.names.Thread.{Thread}
 use Rattle.joint_model.specs.declared.names.Thread.TheVariants.{M, P, C}
 use Rattle.joint_model.specs.declared.lines.Act.{Act}
 use Rattle.joint_model.specs.declared.events.Entry.{Entry}
-use Rattle.joint_model.specs.Histories.{Finished}
-use Rattle.joint_model.specs.Lines.{IsLine, IsThread}
-use Rattle.joint_model.specs.Linked.{IsLinked}
 use Rattle.joint_model.specs.PeerReplay.{is_thread}
 use Rattle.joint_model.proofs.Members.{Contains-map_cases}
+use Rattle.joint_model.proofs.Deciding.{nat_eq-turned}
+use Rattle.joint_model.proofs.HeapLemmas.{thread_itself}
 use Rattle.known_laws.specs.Lists.{made_by}
 use Rattle.joint_history.specs.Callers.{Pass, own}
-use Rattle.joint_history.specs.Desks.{Waiting}
-use Rattle.joint_history.specs.Ending.{HasAll, HasOwn, StillWaits, threads_of}
-use Rattle.script_laws.specs.Holding.{Standing, opening_standing, standing_after, AreLine, AreLeft, HoldsLines, HoldsSoFar, numbered_from, lines_of, entries_by}
+use Rattle.joint_history.specs.Ending.{HasOwn}
+use Rattle.script_laws.specs.Holding.{opening_standing, standing_after, HoldsLines, HoldsSoFar, numbered_from, lines_of, entries_by}
 use Rattle.script_laws.proofs.AllThreads.{each_thread_is_all}
 use Rattle.script_laws.proofs.Growing.{held_lines_grow, held_lines_end, lines_of_go_on, numbers_go_on}
-use Rattle.script_laws.proofs.ThreadOrder.{thread_itself}
-use Rattle.run_laws.specs.Threads.{thread_lines, HoldsItsLines, HoldsItsFirst, OthersLinesPass, OwnLinesAdd, OwnLinesEnd, NoneIsLeft, ThreadsHoldScript}
+use Rattle.run_laws.specs.Threads.{thread_lines, HoldsItsLines, OthersLinesPass, OwnLinesAdd, OwnLinesEnd, ThreadsHoldScript}
 
 -- the first n lines with the next one
 next-line : (script : List (Thread × Act)) (n : ℕ) (line : Thread × Act) → slice_get script n ≡ Some line → take (n + 1) script ≡ take n script ++ line ∷ []
@@ -64,18 +60,12 @@ own_lines_end script p q s left thread more are h =
     (subst (HoldsLines opening_standing (thread_lines p.thread script)) (sym more) (held_lines_end opening_standing s (thread_lines p.thread script) (own p) held left are))
 
 -- whether one is the other, from either side
-same-either : (a b : ℕ) → nat_eq a b ≡ nat_eq b a
-same-either a b = ⊎_elim
-    (λ (e : nat_eq a b ≡ true). e ∙ sym (eq-eqb b a (sym (eqb-true a b e))))
-    (λ (e : nat_eq a b ≡ false). e ∙ sym (ne_eqb b a (λ q. eqb-false a b e (sym q))))
-    (cases_Bool (nat_eq a b))
-
 pub is-either : (t u : Thread) → is_thread t u ≡ is_thread u t
-is-either (M a) (M b) = same-either a b
+is-either (M a) (M b) = nat_eq-turned a b
 is-either (M a) (P b) = refl
 is-either (M a) C = refl
 is-either (P a) (M b) = refl
-is-either (P a) (P b) = same-either a b
+is-either (P a) (P b) = nat_eq-turned a b
 is-either (P a) C = refl
 is-either C (M b) = refl
 is-either C (P b) = refl

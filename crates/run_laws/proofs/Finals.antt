@@ -1,10 +1,5 @@
 -- What a run's history has follows from what it holds and that it is linked, by the laws of scripts and of linked histories.
-use Rattle.std.proofs.Common.{◌≡◌, List}
-use Rattle.joint_model.specs.declared.names.Thread.{Thread}
-use Rattle.joint_model.specs.declared.lines.Act.{Act}
 use Rattle.joint_model.specs.Histories.{Finished}
-use Rattle.joint_model.specs.Linked.{IsLinked, IsLinkedBy, HasQueued}
-use Rattle.joint_model.specs.Told.{Noted}
 use Rattle.joint_laws.proofs.CompleteRuns.{linked_is_complete}
 use Rattle.joint_laws.proofs.GoneAfter.{reads_are_gone, weak_reads_are_gone, none_is_mirrored}
 use Rattle.joint_history.specs.Ending.{IsFinished}

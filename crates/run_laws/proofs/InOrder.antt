@@ -1,8 +1,8 @@
 -- Line after line. The driver's seat tells a caller all that it knows before the caller's line, and so the line's entries have numbers above
 -- all that was made; and it hears of them afterwards. What one line makes is its thread's own, so each caller keeps just its own entries of all that
 -- was made; and since a later line's numbers are all greater, numbers rise over all lines where they rise within each caller's.
-use Rattle.std.proofs.Common.{◌≡◌, ◌⊎◌, inl, inr, ⊎_elim, ℕ, ◌+◌, ◌<◌, true, false, List, [], ◌∷◌, ◌++◌, length, map, Some, refl, sym, ◌∙◌, ap, subst, arith, append_assoc}
-use Rattle.std.specs.Prelude.{All, Contains, if◌then◌else◌, slice_get, slice_set}
+use Rattle.std.proofs.Common.{◌≡◌, ⊎_elim, ℕ, ◌+◌, ◌<◌, true, false, List, [], ◌∷◌, ◌++◌, map, Some, refl, sym, ◌∙◌, ap, subst, arith, append_assoc}
+use Rattle.std.specs.Prelude.{Contains, slice_get, slice_set}
 use Rattle.std.proofs.lemmas.Bool.{cases_Bool}
 use Rattle.std.proofs.lemmas.List.{append-nil, map-append}
 use Rattle.std.proofs.lemmas.Option.{slice_get_within}
@@ -10,7 +10,6 @@ use Rattle.std.proofs.lemmas.List.Elements.{Contains-append_cases, Contains-appe
 use mathlib.Core.List.{IsPrefix}
 use Rattle.joint_model.specs.declared.names.Thread.{Thread}
 use Rattle.joint_model.specs.declared.names.Thread.TheVariants.{C}
-use Rattle.joint_model.specs.declared.lines.Act.{Act}
 use Rattle.joint_model.specs.declared.events.Entry.{Entry}
 use Rattle.joint_model.specs.Components.{Rises}
 use Rattle.joint_model.specs.Control.{caller_place}
@@ -19,23 +18,22 @@ use Rattle.joint_model.specs.Lines.{IsThread}
 use Rattle.joint_model.specs.PeerReplay.{is_thread}
 use Rattle.joint_model.proofs.Joining.{same_or_not, slice_get-set_same, slice_get-set_other}
 use Rattle.joint_model.proofs.Members.{All-members, Contains-here, Contains-there, Contains-nil, Contains-cons_cases, Contains-map, Contains-map_cases}
-use Rattle.bridge_script.proofs.Fitting.{lawful_thread}
 use Rattle.order_table.specs.declared.views.KeptEntry.{KeptEntry}
 use Rattle.order_table.specs.declared.views.View.{View}
 use Rattle.order_table.specs.Facts.{line_entries}
 use Rattle.order_table.specs.Rule.{IsBelow}
 use Rattle.order_table.specs.Views.{known}
-use Rattle.joint_history.specs.Callers.{Hears, Pass, Tells, own}
+use Rattle.joint_history.specs.Callers.{Pass, own}
 use Rattle.joint_history.specs.Desks.{thread_of}
 use Rattle.joint_history.specs.Knowing.{line_known}
-use Rattle.joint_history.specs.Operations.{AreAbove, MakesAll}
+use Rattle.joint_history.specs.Operations.{AreAbove}
 use Rattle.joint_history.proofs.Desking.{thread_is}
 use Rattle.script_laws.specs.Growing.{numbers_of}
-use Rattle.script_laws.specs.Holding.{Standing, opening_standing, standing_after, AreLine, AreOnLine, HoldsSoFar, entries_by}
+use Rattle.script_laws.specs.Holding.{opening_standing, AreOnLine, entries_by}
 use Rattle.script_laws.proofs.Growing.{held_lines_grow}
 use Rattle.script_laws.proofs.ThreadOrder.{all-by, none-by}
 use Rattle.run_laws.proofs.ByThreads.{is-either}
-use Rattle.run_laws.specs.Serial.{CallerAdds, ToldCallersAdd, DriversAdd, AreOthers, IsRunSoFar, NothingIsRun, OthersRunOn, DriverRunsOn}
+use Rattle.run_laws.specs.Serial.{CallerAdds, ToldCallersAdd, DriversAdd, AreOthers, NothingIsRun, OthersRunOn, DriverRunsOn}
 use Rattle.joint_model.proofs.HeapLemmas.{same_thread}
 use Rattle.order_table.proofs.Lines.{below_front}
 

@@ -1,36 +1,35 @@
 -- At the end of a run line after line every entry of the history is one of a caller's own, and so one of those that were made; and both the history
 -- and what was made rise. So they are one list, and what was made holds the script.
-use Rattle.std.proofs.Common.{◌≡◌, ◌⊎◌, inl, inr, ⊎_elim, ℕ, ◌+◌, ◌-◌, ◌<◌, ◌≤◌, Bool, true, false, List, [], ◌∷◌, ◌++◌, length, get_or, map, cond, Some, refl, sym, ◌∙◌, ap, subst, arith}
-use Rattle.std.specs.Prelude.{All, Contains, filter, slice_get}
+use Rattle.std.proofs.Common.{◌≡◌, inr, ⊎_elim, ℕ, ◌+◌, ◌-◌, ◌<◌, Bool, true, false, List, [], ◌∷◌, ◌++◌, get_or, cond, Some, sym, ◌∙◌, ap, subst, arith}
+use Rattle.std.specs.Prelude.{Contains, filter, slice_get}
 use Rattle.std.proofs.lemmas.Bool.{cases_eq}
 use Rattle.std.proofs.lemmas.List.Elements.{Contains-append_cases, Contains-append_left, Contains-append_right, All-contains}
 use Rattle.std.proofs.lemmas.Option.{slice_get-get_or}
 use Rattle.joint_model.specs.declared.names.Thread.{Thread}
 use Rattle.joint_model.specs.declared.names.Thread.TheVariants.{C}
-use Rattle.joint_model.specs.declared.lines.Act.{Act}
 use Rattle.joint_model.specs.declared.events.Entry.{Entry}
 use Rattle.joint_model.specs.Components.{Rises}
 use Rattle.joint_model.specs.Control.{caller_place}
 use Rattle.joint_model.specs.Draws.{NumberedFrom}
-use Rattle.joint_model.specs.Histories.{Finished}
 use Rattle.joint_model.specs.Lines.{IsThread}
-use Rattle.joint_model.specs.Linked.{IsLinked, IsLinkedBy, Linkage, AllMayCome, linkage_after, opening_linkage}
+use Rattle.joint_model.specs.Linked.{Linkage, AllMayCome, linkage_after, opening_linkage}
 use Rattle.joint_model.specs.PeerReplay.{is_thread}
 use Rattle.joint_model.specs.Told.{Noted}
-use Rattle.joint_model.proofs.Members.{All-members, Contains-at, at-Contains, Contains-here, Contains-there, Contains-nil, Contains-cons_cases, Contains-map, Contains-map_cases, Contains-filter_from, Contains-filter_to}
+use Rattle.joint_model.proofs.Members.{All-members, Contains-at, at-Contains, Contains-here, Contains-nil, Contains-cons_cases, Contains-map, Contains-map_cases, Contains-filter_from, Contains-filter_to}
+use Rattle.joint_model.proofs.Merging.{NumberedFrom-high}
+use Rattle.joint_model.proofs.HeapLemmas.{thread_itself}
 use Rattle.known_laws.specs.Growing.{entries}
 use Rattle.joint_history.specs.Callers.{Pass, own}
-use Rattle.joint_history.specs.Desks.{Waiting, thread_of}
-use Rattle.joint_history.specs.Ending.{HasAll, HasOwn, threads_of}
+use Rattle.joint_history.specs.Desks.{thread_of}
+use Rattle.joint_history.specs.Ending.{HasOwn, threads_of}
 use Rattle.joint_history.proofs.Ended.{thread_at_place}
 use Rattle.joint_history.proofs.LastLines.{place_small}
 use Rattle.script_laws.specs.Growing.{numbers_of}
-use Rattle.script_laws.specs.Holding.{Standing, opening_standing, AreLeft, HoldsInOrder, HoldsLines, numbered_from, entries_by}
+use Rattle.script_laws.specs.Holding.{opening_standing, HoldsInOrder, HoldsLines, numbered_from, entries_by}
 use Rattle.script_laws.proofs.Growing.{held_lines_end, rising_entries_are_one}
-use Rattle.script_laws.proofs.ThreadOrder.{thread_itself}
 use Rattle.run_laws.proofs.ByThreads.{made_is_by, is-either}
 use Rattle.run_laws.proofs.InOrder.{own-with, own-without, not-driver, all-rise, all-threads}
-use Rattle.run_laws.specs.Serial.{CallerAdds, AreOthers, IsRunSoFar, RunsHoldScript, AllAreGiven}
+use Rattle.run_laws.specs.Serial.{AreOthers, RunsHoldScript, AllAreGiven}
 use Rattle.known_laws.proofs.Lists.{event-thread}
 
 -- each thread has its caller among all of them
@@ -64,18 +63,11 @@ all_are_given d others driver k is_driver t is =
     inr (subst (Contains (threads_of (others ++ driver ∷ []))) g.thread (Contains-map (λ (p : Pass). p.thread) (others ++ driver ∷ []) g.pass g.there))
 
 -- entries with the numbers from one on rise, and so does a part of a rising list
-numbered-below : (n : ℕ) (es : List Entry) → NumberedFrom n es → (e : Entry) → Contains es e → n ≤ e.number
-numbered-below n [] w e c = absurd (Contains-nil e c)
-numbered-below n (x ∷ es) w e c = ⊎_elim
-    (λ (q : x ≡ e). let a = w.0 in let b = ap (λ (z : Entry). z.number) q in omega (arith, a, b))
-    (λ d. let a = numbered-below (n + 1) es w.1 e d in omega (arith, a))
-    (Contains-cons_cases x es e c)
-
 pub numbered-rise : (n : ℕ) (es : List Entry) → NumberedFrom n es → Rises (numbers_of es)
 numbered-rise n [] w = tt
 numbered-rise n (x ∷ es) w = (
   All-members (λ m. x.number < m) (numbers_of es) (λ m c.
-      let q = Contains-map_cases (λ (e : Entry). e.number) es m c in let a = numbered-below (n + 1) es w.1 q.0 q.1 in let b = q.2 in let d = w.0 in omega (arith, a, b, d)),
+      let q = Contains-map_cases (λ (e : Entry). e.number) es m c in let a = NumberedFrom-high (n + 1) es w.1 q.0 q.1 in let b = q.2 in let d = w.0 in omega (arith, a, b, d)),
   numbered-rise (n + 1) es w.1,
 )
 

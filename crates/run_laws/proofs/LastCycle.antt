@@ -5,7 +5,7 @@ use Rattle.std.proofs.Common.{◌≡◌, ◌⊎◌, inl, inr, ⊎_elim, ℕ, ◌
 use Rattle.std.specs.Prelude.{All, Contains, if◌then◌else◌}
 use Rattle.std.proofs.lemmas.Bool.{cases_Bool}
 use Rattle.std.proofs.lemmas.List.{append-nil, append_cancel_right}
-use Rattle.std.proofs.lemmas.List.Elements.{Contains-append_cases, Contains-append_left, Contains-append_right, All-contains, filter-append}
+use Rattle.std.proofs.lemmas.List.Elements.{Contains-append_cases, Contains-append_right, All-contains, filter-append}
 use Rattle.joint_model.specs.declared.names.Phase.{Phase}
 use Rattle.joint_model.specs.declared.names.Phase.TheVariants as at
 use Rattle.joint_model.specs.declared.names.PhaseWord.TheVariants as word
@@ -23,28 +23,27 @@ use Rattle.joint_model.specs.Lines.{IsLine, IsThread}
 use Rattle.joint_model.specs.Linked.{opening_linkage}
 use Rattle.joint_model.specs.PeerReplay.{is_thread}
 use Rattle.joint_model.specs.Phases.{next_phase, phases_left, ArePhases}
-use Rattle.joint_model.proofs.Members.{Contains-here, Contains-there, Contains-nil, Contains-cons_cases, Contains-map, Contains-map_cases, Contains-filter_from, Contains-filter_to}
+use Rattle.joint_model.proofs.Members.{Contains-here, Contains-there, Contains-nil, Contains-cons_cases, Contains-map_cases, Contains-filter_from, Contains-filter_to}
 use Rattle.known_laws.specs.Lists.{made_by}
-use Rattle.order_table.specs.declared.views.View.{View}
 use Rattle.joint_history.specs.Callers.{Pass, own}
 use Rattle.joint_history.specs.Desks.{Waiting}
 use Rattle.joint_history.specs.Ending.{HasAll, HasOwn, IsFinished, StillWaits}
 use Rattle.joint_history.specs.Knowing.{line_known}
 use Rattle.script_laws.specs.Growing.{numbers_of}
-use Rattle.script_laws.specs.Holding.{Standing, opening_standing, phase_after, standing_after, AreLine, AreLeft, AreWord, HoldsLines, HoldsSoFar, HoldsPerThread, numbered_from, lines_of, entries_by}
+use Rattle.script_laws.specs.Holding.{Standing, opening_standing, phase_after, standing_after, AreLine, AreLeft, HoldsLines, HoldsSoFar, numbered_from, lines_of, entries_by}
 use Rattle.script_laws.specs.Ending.{ResolvesLater, ResolveComes, IsEnded, AllCyclesEnd}
 use Rattle.script_laws.proofs.AllThreads.{is_one, no-lines}
 use Rattle.script_laws.proofs.Ending.{EndsFrom, lines-end}
 use Rattle.script_laws.proofs.Growing.{held_lines_end, idle_leaves_nothing, numbers_go_on, rising_entries_are_one, behind}
 use Rattle.script_laws.proofs.ThreadEnding.{drivers_ends}
-use Rattle.script_laws.proofs.ThreadOrder.{all-by, line_order_gives_thread_order, none-by, thread_itself}
+use Rattle.script_laws.proofs.ThreadOrder.{all-by, line_order_gives_thread_order, none-by}
 use Rattle.run_laws.specs.LastCycle.{cycle_line, AreWholeCycle, HoldsThenCycle, IsRunThenCycle, HasHeardOf, EndsWithCycle, CyclesEndRuns, DrivesCycles, CycleLinesEndRuns}
 use Rattle.run_laws.specs.Threads.{HoldsItsLines, NoneIsLeft}
-use Rattle.run_laws.proofs.ByThreads.{is-either, made_is_by}
+use Rattle.run_laws.proofs.ByThreads.{made_is_by}
 use Rattle.run_laws.proofs.Finals.{kept}
 use Rattle.run_laws.proofs.InOrder.{above-in, prefix-in, rises-last}
 use Rattle.run_laws.proofs.InOrderEnds.{filter-rise, linked-threads, numbered-rise}
-use Rattle.joint_model.proofs.HeapLemmas.{same_thread}
+use Rattle.joint_model.proofs.HeapLemmas.{same_thread, thread_itself}
 
 -- the entry is one of the last, or has a smaller number than each of them
 abbrev IsLastOrBelow : List Entry → Entry → Type 0

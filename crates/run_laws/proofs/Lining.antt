@@ -1,6 +1,6 @@
 -- An operation's events are the line's: the first comes of itself, the second by the first reply, and the third by the second event and
 -- its reply; so each is the next event after the replies so far. A case for each act and, where it matters, each reply.
-use Rattle.std.proofs.Common.{◌≡◌, ◌⊎◌, ⊎_elim, ℕ, List, [], ◌∷◌, ◌++◌, Option, Some, None, refl, sym, ◌∙◌, ap, subst}
+use Rattle.std.proofs.Common.{◌≡◌, ⊎_elim, ℕ, List, [], ◌∷◌, Option, Some, None, refl, sym, ◌∙◌, subst}
 use Rattle.joint_model.specs.declared.names.Thread.{Thread}
 use Rattle.joint_model.specs.declared.names.Thread.TheVariants.{M, P, C}
 use Rattle.joint_model.specs.declared.lines.Act.{Act}
@@ -12,7 +12,7 @@ use Rattle.joint_model.specs.declared.events.Reply.TheVariants as says
 use Rattle.joint_model.specs.declared.events.Entry.{Entry}
 use Rattle.joint_model.specs.Lines.{IsLine}
 use Rattle.joint_history.specs.declared.callers.Receipt.{Receipt}
-use Rattle.joint_history.specs.Operations.{EndsWithFirst, EndsWithSecond, EndsWithThird, IsOperation, IsOperationOf, entry_by, first_of, second_of, third_of}
+use Rattle.joint_history.specs.Operations.{EndsWithFirst, EndsWithSecond, EndsWithThird, IsOperationOf, entry_by, first_of, second_of, third_of}
 use Rattle.script_laws.specs.Holding.{Standing, standing_after, next_event, AreEventsAfter, AreEvents, AreOnLine, AreLine}
 use Rattle.run_laws.specs.Lines.{OperationsAreLines, OthersKeepStanding}
 use Rattle.joint_model.proofs.Deciding.{none_some}

@@ -4,16 +4,16 @@ use Rattle.std.proofs.Common.{◌≡◌, ℕ, ◌+◌, ◌≤◌, true, false, L
 use Rattle.std.specs.Prelude.{slice_get}
 use Rattle.std.proofs.lemmas.List.{append-nil}
 use Rattle.joint_model.specs.declared.names.Thread.{Thread}
-use Rattle.joint_model.specs.declared.names.Thread.TheVariants.{M, P, C}
+use Rattle.joint_model.specs.declared.names.Thread.TheVariants.{C}
 use Rattle.joint_model.specs.declared.lines.Act.{Act}
 use Rattle.joint_model.specs.HistoryLines.{caller_line}
-use Rattle.joint_model.specs.Lines.{IsDriver}
 use Rattle.joint_model.specs.PeerReplay.{is_thread}
 use Rattle.order_table.specs.Facts.{line_entries}
 use Rattle.joint_history.specs.Callers.{KnowsNothing, Pass, last_index, own}
 use Rattle.joint_history.specs.Ending.{HasIdleDriver}
 use Rattle.joint_history.specs.Knowing.{line_known}
 use Rattle.joint_history.specs.Operations.{IsOwnThread}
+use Rattle.joint_history.proofs.KnownCallers.{own_idle}
 use Rattle.bridge_cycle.specs.Progress.{Progress, pass_of}
 use Rattle.script_laws.specs.Holding.{Standing, opening_standing, standing_after, AreLine}
 use Rattle.script_laws.proofs.Growing.{idle_leaves_nothing}
@@ -25,14 +25,6 @@ use Rattle.joint_model.proofs.HeapLemmas.{same_thread}
 -- who knows nothing has made nothing, and is idle
 pub own_nothing : (p : Pass) → KnowsNothing p.view → own p ≡ []
 own_nothing p k = ap line_entries (k (caller_line p.thread))
-
-pub own_idle : (p : Pass) → IsOwnThread p.thread → HasIdleDriver p
-own_idle p o is = absurd (by p.thread o is)
-  where
-    by : (t : Thread) → IsOwnThread t → IsDriver t → ⊥
-    by (M n) a b = b
-    by (P n) a b = b
-    by C a b = a
 
 -- a line more of a thread that isn't the driver's
 pub own_holds : (script : List (Thread × Act)) (n : ℕ) (p q : Pass) (line : Thread × Act) → slice_get script n ≡ Some line → is_thread p.thread line.0 ≡ true → q.thread ≡ p.thread → MakesLine p.thread p.view q.view (n + 1) line.1

@@ -1,12 +1,12 @@
 -- What is asked of the sides of the circle, and what their calls leave.
-use Rattle.std.proofs.Common.{◌≡◌, ◌≢◌, inl, inr, ℕ, zero, suc, ◌+◌, ◌-◌, ◌<◌, ◌≤◌, Bool, true, false, List, [], ◌∷◌, ◌++◌, length, Some, refl, sym, ap, ◌∙◌, subst, add-one, arith}
+use Rattle.std.proofs.Common.{◌≡◌, ◌≢◌, inl, inr, ℕ, zero, suc, ◌+◌, ◌<◌, ◌≤◌, Bool, true, false, List, [], ◌∷◌, ◌++◌, length, Some, refl, sym, ap, ◌∙◌, subst, add-one, arith}
 use Rattle.std.specs.Prelude.{All, AllPairs, Contains}
 use Rattle.std.proofs.lemmas.List.Elements.{All-cons, All-nil}
 use Rattle.std.proofs.lemmas.List.Kept.{AllPairs-cons}
 use Rattle.std.proofs.lemmas.Option.{same_Some}
 use Rattle.joint_model.specs.declared.names.HNum.{HNum}
 use Rattle.joint_model.specs.Components.{IsMember, mirror_edges}
-use Rattle.joint_model.specs.Peers.{Issued, peer_of, held}
+use Rattle.joint_model.specs.Peers.{Issued, peer_of}
 use Rattle.joint_model.specs.Heaps.{numbered_at}
 use Rattle.joint_model.specs.PeerReplay.{PeerReplay, Mirror, TableRow, MayClear, MayRestore, MayWeaken, opening_peer_replay, row_of, with_restored, with_weakened, IsHeld}
 use Rattle.joint_model.specs.Sides.{Side, AddsInTurn, AddsLawful, peer_rules}

@@ -1,5 +1,6 @@
 -- The first handle stays held.
-use Rattle.std.proofs.Common.{◌≡◌, ℕ, List, Result, Ok, Err, OnOk, refl, sym, ap, ◌∙◌, subst}
+use Rattle.std.proofs.Common.{◌≡◌, ℕ, List, Result, OnOk, refl, sym, ap, ◌∙◌, subst}
+use Rattle.std.proofs.lemmas.Result.{on_ok_weaker}
 use Rattle.joint_model.specs.declared.names.Thread.TheVariants.{M, P}
 use Rattle.joint_model.specs.Heaps.{numbered_at}
 use Rattle.joint_model.specs.Peers.{Issued}
@@ -25,15 +26,11 @@ grip-held : IsHeld (with_grip opening_peer_replay) 1
 unfolding with_grip
 grip-held = (_, refl, refl)
 
-on-ok : {T E : Type 0} (r : Result T E) (A B : Type 0) → (A → B) → OnOk r A → OnOk r B
-on-ok (Ok x) A B f a = f a
-on-ok (Err e) A B f a = a
-
 pub made-held : {T E : Type 0} (r : Result T E) (s t : PeerReplay) → s ≡ opening_peer_replay → OnOk r (t ≡ with_pair s) → OnOk r (IsHeld t 1)
-made-held r s t f k = on-ok r (t ≡ with_pair s) (IsHeld t 1) (λ e. subst (λ (z : PeerReplay). IsHeld z 1) (sym (e ∙ ap with_pair f)) pair-held) k
+made-held r s t f k = on_ok_weaker r (λ e. subst (λ (z : PeerReplay). IsHeld z 1) (sym (e ∙ ap with_pair f)) pair-held) k
 
 pub gripped-held : {T E : Type 0} (r : Result T E) (s t : PeerReplay) → s ≡ opening_peer_replay → OnOk r (t ≡ with_grip s) → OnOk r (IsHeld t 1)
-gripped-held r s t f k = on-ok r (t ≡ with_grip s) (IsHeld t 1) (λ e. subst (λ (z : PeerReplay). IsHeld z 1) (sym (e ∙ ap with_grip f)) grip-held) k
+gripped-held r s t f k = on_ok_weaker r (λ e. subst (λ (z : PeerReplay). IsHeld z 1) (sym (e ∙ ap with_grip f)) grip-held) k
 
 -- what leaves the handles as they were issued keeps it
 pub stays-held : (s t : PeerReplay) (h : ℕ) → StaysAlike s t → IsHeld s h → IsHeld t h

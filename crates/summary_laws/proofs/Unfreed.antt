@@ -4,13 +4,11 @@ use Rattle.std.specs.Prelude.{Contains, All}
 use Rattle.std.proofs.lemmas.List.{append-nil}
 use Rattle.std.proofs.lemmas.List.Folds.{list_any-append}
 use Rattle.std.proofs.lemmas.List.Elements.{All-contains, Contains-append_cases}
+use Rattle.std.proofs.lemmas.Cmp.{nat_eq_equiv}
 use Rattle.joint_model.specs.Components.{Rises}
 use Rattle.joint_model.proofs.Members.{Contains-nil, Contains-here, Contains-there, Contains-cons_cases}
 use Rattle.joint_model.proofs.HeapLemmas.{is_freed-Contains}
 use Rattle.summary_laws.specs.States.{stands_in, others_up_to}
-
-eq-refl : (x : ℕ) → nat_eq x x ≡ true
-eq-refl x = grind arith
 
 eq-other : (x y : ℕ) → (x ≡ y → ⊥) → nat_eq x y ≡ false
 eq-other x y n = grind arith
@@ -21,7 +19,7 @@ put-here xs y = list_any-append (nat_eq y) xs (y ∷ []) ∙ by (stands_in xs y)
   where
     by : (b : Bool) → (b || (nat_eq y y || false)) ≡ true
     by true = refl
-    by false = rw (eq-refl y) refl
+    by false = rw (nat_eq_equiv.refl y) refl
 
 put-other : (xs : List ℕ) (y x : ℕ) → (x ≡ y → ⊥) → stands_in (xs ++ y ∷ []) x ≡ stands_in xs x
 put-other xs y x n = list_any-append (nat_eq x) xs (y ∷ []) ∙ by (stands_in xs x)
@@ -68,7 +66,7 @@ put-all xs (y ∷ ys) n f =
     omega (arith, moved, first)
 
 -- numbers that rise and don't stand in a list are so
-outside : (xs : List ℕ) (y : ℕ) → (Contains xs y → ⊥) → stands_in xs y ≡ false
+pub outside : (xs : List ℕ) (y : ℕ) → (Contains xs y → ⊥) → stands_in xs y ≡ false
 outside xs y n = by (stands_in xs y) refl
   where
     by : (b : Bool) → stands_in xs y ≡ b → b ≡ false

@@ -1,5 +1,5 @@
 -- Each side's list passes its own side's test, entry by entry, so each entry may come when it comes.
-use Rattle.std.proofs.Common.{◌≡◌, Bool, true, false, ◌&&◌, not, List, [], ◌∷◌, map, refl, sym}
+use Rattle.std.proofs.Common.{◌≡◌, Bool, true, false, ◌&&◌, not, List, [], ◌∷◌, map, refl}
 use Rattle.std.specs.List.{list_all}
 use Rattle.std.specs.Prelude.{ℕ, nat_le}
 use Rattle.joint_model.specs.declared.names.Thread.{Thread}
@@ -13,7 +13,7 @@ use Rattle.joint_model.specs.Sides.{SideRules, IsOfSide, TakesManaged, TakesPeer
 use Rattle.joint_model.specs.Told.{Told, Noted}
 use Rattle.history_tests.specs.Histories.{managed_lawful, peer_lawful}
 use Rattle.history_tests.specs.Lines.{is_event}
-use Rattle.history_tests.proofs.Telling.{Tells, all, always, and2, like, refuted, upto}
+use Rattle.history_tests.proofs.Telling.{Tells, all, always, and2, like, refuted, upto, is_false}
 use Rattle.history_tests.proofs.HistoryTests.{managed_side}
 use Rattle.history_tests.proofs.LineTests.{tells_event}
 use Rattle.history_tests.proofs.ReplyTests.{replies}
@@ -39,12 +39,8 @@ of_managed m = is_event m.caller m.op && not (is_peer_event m.caller m.op)
 abbrev of_peer : Made → Bool
 of_peer m = is_event m.caller m.op && is_peer_event m.caller m.op
 
-off : (b : Bool) → Tells (not b) (b ≡ false)
-off true = record { holds = λ e. sym e; passes = λ e. sym e }
-off false = record { holds = λ e. refl; passes = λ e. refl }
-
 is_managed : (m : Made) → Tells (of_managed m) (IsOfSide false m)
-is_managed m = like (λ p. record { event = p.0; side = p.1 }) (λ r. (r.event, r.side)) (and2 (tells_event m.caller m.op) (off (is_peer_event m.caller m.op)))
+is_managed m = like (λ p. record { event = p.0; side = p.1 }) (λ r. (r.event, r.side)) (and2 (tells_event m.caller m.op) (is_false (is_peer_event m.caller m.op)))
 
 is_peer : (m : Made) → Tells (of_peer m) (IsOfSide true m)
 is_peer m = like (λ p. record { event = p.0; side = p.1 }) (λ r. (r.event, r.side)) (and2 (tells_event m.caller m.op) (record { holds = λ e. e; passes = λ e. e }))

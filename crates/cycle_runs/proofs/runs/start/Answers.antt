@@ -1,5 +1,5 @@
 -- Neither caller has made anything, and the driver is idle.
-use Rattle.std.proofs.Common.{◌≡◌, sym, ap, subst}
+use Rattle.std.proofs.Common.{sym, ap, subst}
 use Rattle.joint_history.specs.Callers.{KnowsNothing}
 use Rattle.bridge_cycle.specs.Progress.{Progress, pass_of}
 use Rattle.bridge_cycle.proofs.Refusals.{idle_first}

@@ -1,4 +1,3 @@
-use Rattle.std.proofs.Common.{[], subst, sym}
 use Rattle.joint_model.specs.declared.names.Thread.TheVariants.{M}
 use Rattle.history_runs.proofs.Starting.{one_goes_on}
 use Rattle.history_runs.proofs.memory.play.Goals as goal

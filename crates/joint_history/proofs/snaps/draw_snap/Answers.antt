@@ -4,7 +4,8 @@ use Rattle.joint_model.specs.Draws.{numbered}
 use Rattle.joint_model.specs.ManagedReplay.{ManagedReplay}
 use Rattle.joint_model.specs.Sides.{Side}
 use Rattle.managed_side.specs.Openings.{snap_made}
-use Rattle.joint_history.proofs.DriverSnaps.{either_way, if_ok_map, last_same}
+use Rattle.std.proofs.lemmas.Result.{IfOk-weaker}
+use Rattle.joint_history.proofs.DriverSnaps.{either_way, last_same}
 use Rattle.joint_history.proofs.Floors.{below_floor, room_left}
 use Rattle.joint_history.proofs.snaps.draw_snap.Goals as goal
 
@@ -18,7 +19,7 @@ snap-requires-clause-may c = λ e. record {
 }
 
 pub returns-clause-drew : goal.returns-clause-drew
-returns-clause-drew c = if_ok_map _ _ c.snap.result c.snap.ensures.snaps (λ o w. record {
+returns-clause-drew c = IfOk-weaker c.snap.result _ _ (λ o w. record {
   freed = w.freed;
   candidates = w.candidates;
   dead = w.dead;
@@ -30,7 +31,7 @@ returns-clause-drew c = if_ok_map _ _ c.snap.result c.snap.ensures.snaps (λ o w
   counted = w.counted;
   span = w.span;
   graph = w.graph;
-})
+}) c.snap.ensures.snaps
 
 pub returns-clause-threads : goal.returns-clause-threads
 returns-clause-threads c = either_way _ c.snap.result c.snap.ensures.snaps c.snap.ensures.err (λ o w. w.adds.threads) (λ e. ap (λ (s : Side ManagedReplay). s.threads) e.0)

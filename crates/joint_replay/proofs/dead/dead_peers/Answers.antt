@@ -2,7 +2,7 @@
 use Rattle.joint_model.specs.Histories.{managed_numbers, peer_numbers}
 use Rattle.joint_replay.specs.Graphs.{parts_graph}
 use Rattle.joint_replay.proofs.Rooting.{object-roots, peer-roots, dead-clean, dead-within}
-use Rattle.joint_replay.proofs.Verdicts.{IfOk-as}
+use Rattle.std.proofs.lemmas.Result.{IfOk-weaker}
 use Rattle.joint_replay.proofs.dead.dead_peers.Goals as goal
 
 pub unreached_peers-requires-clause-objects : goal.unreached_peers-requires-clause-objects
@@ -22,4 +22,4 @@ pub returns : goal.returns
 returns c =
     let g = parts_graph c.args.managed.now c.args.peers.now c.args.removed.now in
     let dead = peer_numbers c.in_ok-dead.dead.items in
-    IfOk-as _ _ (λ v f p. (let d = dead-clean g dead c.in_ok-dead.ensures.exact p in let m = rw c.deref-5.ensures.value at (f p) in (λ x. d.0 (m.0 x), λ x. m.1 (d.1 x)))) c.marks_of.result c.marks_of.ensures
+    IfOk-weaker c.marks_of.result _ _ (λ v f p. (let d = dead-clean g dead c.in_ok-dead.ensures.exact p in let m = rw c.deref-5.ensures.value at (f p) in (λ x. d.0 (m.0 x), λ x. m.1 (d.1 x)))) c.marks_of.ensures

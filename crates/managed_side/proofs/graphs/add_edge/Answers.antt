@@ -1,16 +1,12 @@
 -- The row's place names the node to which the edge leads.
-use Rattle.std.proofs.Common.{◌≡◌, ◌<◌, ◌↔◌, ◌⊎◌, ℕ, List, Option, Some, Result, Ok, Err, length, get_or, sym, subst, arith}
-use Rattle.std.specs.Result.{OnOk}
+use Rattle.std.proofs.Common.{◌≡◌, ◌<◌, ◌↔◌, ◌⊎◌, ℕ, List, Option, Some, length, get_or, sym, subst, arith}
 use Rattle.std.specs.Prelude.{IfSome}
+use Rattle.std.proofs.lemmas.Result.{on_ok_weaker}
 use Rattle.std.proofs.lemmas.Option.{slice_get-get_or}
 use Rattle.bridge_graph.specs.Parts.{NodeLeads}
 use Rattle.managed_side.specs.Graphs.{IsPlaceOf}
 use Rattle.managed_side.proofs.DeadGraphs.{place-there, placed-more}
 use Rattle.managed_side.proofs.graphs.add_edge.Goals as goal
-
-on-ok : {T E : Type 0} (r : Result T E) (P Q : Type 0) → (P → Q) → OnOk r P → OnOk r Q
-on-ok (Ok x) P Q f p = f p
-on-ok (Err e) P Q f p = tt
 
 pub returns-clause-edges : goal.returns-clause-edges
 returns-clause-edges c =
@@ -19,7 +15,7 @@ returns-clause-edges c =
     let es = c.args.builder.now.edges in
     let within : y < length places = subst (λ (f : Option ℕ). IfSome f (λ z. z < length places)) c.in-Some.is c.requires.named in
     let few : c.args.i < length es = omega (arith, c.requires.from, c.nodes.ensures.part.rows) in
-    on-ok c.edge.result _ _ (λ e a k. subst (λ (f : Option ℕ). NodeLeads c.edge.new.self.edges a k ↔ (NodeLeads es a k ⊎ ((a ≡ c.args.i) × IsPlaceOf places f k))) (sym c.in-Some.is)
+    on_ok_weaker c.edge.result (λ e a k. subst (λ (f : Option ℕ). NodeLeads c.edge.new.self.edges a k ↔ (NodeLeads es a k ⊎ ((a ≡ c.args.i) × IsPlaceOf places f k))) (sym c.in-Some.is)
     (subst (λ (ls : List (List ℕ)). NodeLeads ls a k ↔ (NodeLeads es a k ⊎ ((a ≡ c.args.i) × IsPlaceOf places (Some y) k))) (sym e) (placed-more places es c.args.i a k y (get_or places y 0) few (slice_get-get_or places y 0 within) c.if-place-eq0.false))) c.edge.ensures.edges
 
 pub edge-requires-clause-to : goal.edge-requires-clause-to

@@ -4,7 +4,7 @@ use Rattle.joint_model.specs.Histories.{managed_numbers}
 use Rattle.bridge_graph.specs.Parts.{NodeLeads}
 use Rattle.managed_side.specs.Graphs.{HasDeadField}
 use Rattle.managed_side.proofs.DeadGraphs.{edges-all}
-use Rattle.managed_side.proofs.Failing.{no_value}
+use Rattle.std.proofs.lemmas.Result.{IfOk-from_err}
 use Rattle.managed_side.proofs.Resolutions.{All-numbers}
 use Rattle.managed_side.proofs.graphs.graph_of.Goals as goal
 
@@ -18,25 +18,25 @@ returns-clause-edges c =
     (edges-all c.args.heap.now.heap numbers c.add_nodes.new.builder.edges c.add_edges.new.builder.edges c.in_ok-add_nodes.ensures.edges c.in_ok-add_edges.ensures.edges a k)
 
 pub returns-in_err-places-clause-nodes : goal.returns-in_err-places-clause-nodes
-returns-in_err-places-clause-nodes c = no_value c.from_residual.result _ c.from_residual.ensures.0
+returns-in_err-places-clause-nodes c = IfOk-from_err c.from_residual.result _ c.from_residual.ensures.0
 
 pub returns-in_err-places-clause-edges : goal.returns-in_err-places-clause-edges
-returns-in_err-places-clause-edges c = no_value c.from_residual.result _ c.from_residual.ensures.0
+returns-in_err-places-clause-edges c = IfOk-from_err c.from_residual.result _ c.from_residual.ensures.0
 
 pub returns-in_err-reserve-clause-nodes : goal.returns-in_err-reserve-clause-nodes
-returns-in_err-reserve-clause-nodes c = no_value c.from_residual-in_err-reserve.result _ c.from_residual-in_err-reserve.ensures.0
+returns-in_err-reserve-clause-nodes c = IfOk-from_err c.from_residual-in_err-reserve.result _ c.from_residual-in_err-reserve.ensures.0
 
 pub returns-in_err-reserve-clause-edges : goal.returns-in_err-reserve-clause-edges
-returns-in_err-reserve-clause-edges c = no_value c.from_residual-in_err-reserve.result _ c.from_residual-in_err-reserve.ensures.0
+returns-in_err-reserve-clause-edges c = IfOk-from_err c.from_residual-in_err-reserve.result _ c.from_residual-in_err-reserve.ensures.0
 
 pub returns-in_err-add_nodes-clause-nodes : goal.returns-in_err-add_nodes-clause-nodes
-returns-in_err-add_nodes-clause-nodes c = no_value c.from_residual-in_err-add_nodes.result _ c.from_residual-in_err-add_nodes.ensures.0
+returns-in_err-add_nodes-clause-nodes c = IfOk-from_err c.from_residual-in_err-add_nodes.result _ c.from_residual-in_err-add_nodes.ensures.0
 
 pub returns-in_err-add_nodes-clause-edges : goal.returns-in_err-add_nodes-clause-edges
-returns-in_err-add_nodes-clause-edges c = no_value c.from_residual-in_err-add_nodes.result _ c.from_residual-in_err-add_nodes.ensures.0
+returns-in_err-add_nodes-clause-edges c = IfOk-from_err c.from_residual-in_err-add_nodes.result _ c.from_residual-in_err-add_nodes.ensures.0
 
 pub returns-in_err-add_edges-clause-nodes : goal.returns-in_err-add_edges-clause-nodes
-returns-in_err-add_edges-clause-nodes c = no_value c.from_residual-in_err-add_edges.result _ c.from_residual-in_err-add_edges.ensures.0
+returns-in_err-add_edges-clause-nodes c = IfOk-from_err c.from_residual-in_err-add_edges.result _ c.from_residual-in_err-add_edges.ensures.0
 
 pub returns-in_err-add_edges-clause-edges : goal.returns-in_err-add_edges-clause-edges
-returns-in_err-add_edges-clause-edges c = no_value c.from_residual-in_err-add_edges.result _ c.from_residual-in_err-add_edges.ensures.0
+returns-in_err-add_edges-clause-edges c = IfOk-from_err c.from_residual-in_err-add_edges.result _ c.from_residual-in_err-add_edges.ensures.0

@@ -2,7 +2,7 @@
 use Rattle.std.proofs.Common.{◌∙◌, ℕ, List, ap, subst}
 use Rattle.std.specs.Prelude.{Contains}
 use Rattle.joint_model.specs.Histories.{managed_numbers}
-use Rattle.managed_side.proofs.Failing.{no_value}
+use Rattle.std.proofs.lemmas.Result.{IfOk-from_err}
 use Rattle.managed_side.proofs.Gathering.{picked-live}
 use Rattle.managed_side.proofs.Lists.{unmarked-numbers}
 use Rattle.managed_side.proofs.snapshots.find.Goals as goal
@@ -24,10 +24,10 @@ returns-clause-finds c = record {
 }
 
 pub returns-in_err-freed-clause-finds : goal.returns-in_err-freed-clause-finds
-returns-in_err-freed-clause-finds c = no_value c.from_residual.result _ c.from_residual.ensures.0
+returns-in_err-freed-clause-finds c = IfOk-from_err c.from_residual.result _ c.from_residual.ensures.0
 
 pub returns-in_err-candidates-clause-finds : goal.returns-in_err-candidates-clause-finds
-returns-in_err-candidates-clause-finds c = no_value c.from_residual-in_err-candidates.result _ c.from_residual-in_err-candidates.ensures.0
+returns-in_err-candidates-clause-finds c = IfOk-from_err c.from_residual-in_err-candidates.result _ c.from_residual-in_err-candidates.ensures.0
 
 pub returns-in_err-dead-clause-finds : goal.returns-in_err-dead-clause-finds
-returns-in_err-dead-clause-finds c = no_value c.from_residual-in_err-dead.result _ c.from_residual-in_err-dead.ensures.0
+returns-in_err-dead-clause-finds c = IfOk-from_err c.from_residual-in_err-dead.result _ c.from_residual-in_err-dead.ensures.0

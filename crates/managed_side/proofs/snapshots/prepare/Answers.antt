@@ -9,7 +9,7 @@ use Rattle.joint_model.specs.Histories.{managed_numbers}
 use Rattle.bridge_graph.specs.Parts.{NodeLeads}
 use Rattle.row_heap.specs.Rows.{HeapRows}
 use Rattle.managed_side.specs.Graphs.{HasDeadField}
-use Rattle.managed_side.proofs.Failing.{no_value}
+use Rattle.std.proofs.lemmas.Result.{IfOk-from_err}
 use Rattle.managed_side.proofs.Resolutions.{rows-few}
 use Rattle.managed_side.proofs.TakingSnapshots.{dead-live, dead-rises, freed-live, freed-rises, candidates-live, candidates-rise}
 use Rattle.managed_side.proofs.snapshots.prepare.Goals as goal
@@ -55,46 +55,46 @@ returns-clause-edges c =
     λ a k. subst (λ (h : Heap). NodeLeads c.in_ok-graph.graph.edges a k ↔ HasDeadField h (managed_numbers c.in_ok-found.found.dead.items) a k) same (rw c.deref-3.ensures.value at c.in_ok-graph.ensures.edges a k)
 
 pub returns-in_err-found-clause-prepares : goal.returns-in_err-found-clause-prepares
-returns-in_err-found-clause-prepares c = no_value c.from_residual.result _ c.from_residual.ensures.0
+returns-in_err-found-clause-prepares c = IfOk-from_err c.from_residual.result _ c.from_residual.ensures.0
 
 pub returns-in_err-found-clause-nodes : goal.returns-in_err-found-clause-nodes
-returns-in_err-found-clause-nodes c = no_value c.from_residual.result _ c.from_residual.ensures.0
+returns-in_err-found-clause-nodes c = IfOk-from_err c.from_residual.result _ c.from_residual.ensures.0
 
 pub returns-in_err-found-clause-edges : goal.returns-in_err-found-clause-edges
-returns-in_err-found-clause-edges c = no_value c.from_residual.result _ c.from_residual.ensures.0
+returns-in_err-found-clause-edges c = IfOk-from_err c.from_residual.result _ c.from_residual.ensures.0
 
 pub returns-in_err-found-clause-few : goal.returns-in_err-found-clause-few
-returns-in_err-found-clause-few c = no_value c.from_residual.result _ c.from_residual.ensures.0
+returns-in_err-found-clause-few c = IfOk-from_err c.from_residual.result _ c.from_residual.ensures.0
 
 pub returns-in_err-found-clause-room : goal.returns-in_err-found-clause-room
-returns-in_err-found-clause-room c = no_value c.from_residual.result _ c.from_residual.ensures.0
+returns-in_err-found-clause-room c = IfOk-from_err c.from_residual.result _ c.from_residual.ensures.0
 
 pub returns-in_err-graph-clause-prepares : goal.returns-in_err-graph-clause-prepares
-returns-in_err-graph-clause-prepares c = no_value c.from_residual-in_err-graph.result _ c.from_residual-in_err-graph.ensures.0
+returns-in_err-graph-clause-prepares c = IfOk-from_err c.from_residual-in_err-graph.result _ c.from_residual-in_err-graph.ensures.0
 
 pub returns-in_err-graph-clause-nodes : goal.returns-in_err-graph-clause-nodes
-returns-in_err-graph-clause-nodes c = no_value c.from_residual-in_err-graph.result _ c.from_residual-in_err-graph.ensures.0
+returns-in_err-graph-clause-nodes c = IfOk-from_err c.from_residual-in_err-graph.result _ c.from_residual-in_err-graph.ensures.0
 
 pub returns-in_err-graph-clause-edges : goal.returns-in_err-graph-clause-edges
-returns-in_err-graph-clause-edges c = no_value c.from_residual-in_err-graph.result _ c.from_residual-in_err-graph.ensures.0
+returns-in_err-graph-clause-edges c = IfOk-from_err c.from_residual-in_err-graph.result _ c.from_residual-in_err-graph.ensures.0
 
 pub returns-in_err-graph-clause-few : goal.returns-in_err-graph-clause-few
-returns-in_err-graph-clause-few c = no_value c.from_residual-in_err-graph.result _ c.from_residual-in_err-graph.ensures.0
+returns-in_err-graph-clause-few c = IfOk-from_err c.from_residual-in_err-graph.result _ c.from_residual-in_err-graph.ensures.0
 
 pub returns-in_err-graph-clause-room : goal.returns-in_err-graph-clause-room
-returns-in_err-graph-clause-room c = no_value c.from_residual-in_err-graph.result _ c.from_residual-in_err-graph.ensures.0
+returns-in_err-graph-clause-room c = IfOk-from_err c.from_residual-in_err-graph.result _ c.from_residual-in_err-graph.ensures.0
 
 pub returns-in_err-reserve-clause-prepares : goal.returns-in_err-reserve-clause-prepares
-returns-in_err-reserve-clause-prepares c = no_value c.from_residual-in_err-reserve.result _ c.from_residual-in_err-reserve.ensures.0
+returns-in_err-reserve-clause-prepares c = IfOk-from_err c.from_residual-in_err-reserve.result _ c.from_residual-in_err-reserve.ensures.0
 
 pub returns-in_err-reserve-clause-nodes : goal.returns-in_err-reserve-clause-nodes
-returns-in_err-reserve-clause-nodes c = no_value c.from_residual-in_err-reserve.result _ c.from_residual-in_err-reserve.ensures.0
+returns-in_err-reserve-clause-nodes c = IfOk-from_err c.from_residual-in_err-reserve.result _ c.from_residual-in_err-reserve.ensures.0
 
 pub returns-in_err-reserve-clause-edges : goal.returns-in_err-reserve-clause-edges
-returns-in_err-reserve-clause-edges c = no_value c.from_residual-in_err-reserve.result _ c.from_residual-in_err-reserve.ensures.0
+returns-in_err-reserve-clause-edges c = IfOk-from_err c.from_residual-in_err-reserve.result _ c.from_residual-in_err-reserve.ensures.0
 
 pub returns-in_err-reserve-clause-few : goal.returns-in_err-reserve-clause-few
-returns-in_err-reserve-clause-few c = no_value c.from_residual-in_err-reserve.result _ c.from_residual-in_err-reserve.ensures.0
+returns-in_err-reserve-clause-few c = IfOk-from_err c.from_residual-in_err-reserve.result _ c.from_residual-in_err-reserve.ensures.0
 
 pub returns-in_err-reserve-clause-room : goal.returns-in_err-reserve-clause-room
-returns-in_err-reserve-clause-room c = no_value c.from_residual-in_err-reserve.result _ c.from_residual-in_err-reserve.ensures.0
+returns-in_err-reserve-clause-room c = IfOk-from_err c.from_residual-in_err-reserve.result _ c.from_residual-in_err-reserve.ensures.0

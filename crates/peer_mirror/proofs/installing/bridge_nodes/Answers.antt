@@ -1,7 +1,7 @@
 -- A bridge node has one handle, and another node none.
 use Rattle.std.proofs.Common.{◌≡◌, None, ◌∙◌, arith}
 use Rattle.bridge_graph.specs.Parts.{HasNode}
-use Rattle.peer_mirror.proofs.Nodes.{handles-none, handles-some}
+use Rattle.bridge_graph.proofs.Handles.{handles-some, handles-none}
 use Rattle.peer_mirror.proofs.installing.bridge_nodes.Goals as goal
 use Rattle.peer_mirror.proofs.installing.bridge_nodes.Goals.{in-Some, in_default}
 

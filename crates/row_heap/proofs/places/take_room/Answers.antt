@@ -2,7 +2,7 @@
 use Rattle.std.proofs.Common.{◌<◌, ◌≤◌, vec_len, vec_capacity, ap, arith}
 use Rattle.std.proofs.lemmas.Result.{on_ok_weaker}
 use Rattle.slab.specs.Slab.{HasRoomFor}
-use Rattle.row_heap.proofs.Results.{on-ok}
+use Rattle.joint_model.proofs.Results.{at_value}
 use Rattle.row_heap.proofs.places.take_room.Goals as goal
 
 pub returns-clause-kept : goal.returns-clause-kept
@@ -18,4 +18,4 @@ pub returns-clause-key : goal.returns-clause-key
 returns-clause-key c =
     let key = ap (λ s. s.vacant_key) c.reserve-4.ensures.rest_kept in
     let fits : c.reserve-4.new.self.vacant_key ≤ 4294967295 = omega (arith, key, c.vacant_key.ensures.value, c.if-vacant_key.false) in
-    on-ok _ fits
+    at_value _ fits

@@ -1,6 +1,6 @@
 use Rattle.std.proofs.Common.{◌∙◌, ap}
 use Rattle.joint_model.specs.Phases.{next_phase}
-use Rattle.joint_history.proofs.Running.{on_err}
+use Rattle.joint_model.proofs.Results.{at_error}
 use Rattle.bridge_cycle.specs.Progress.{Progress}
 use Rattle.bridge_cycle.proofs.Making.{driver_seen, line_seen, stays_seen}
 use Rattle.bridge_cycle.proofs.Refusals.{may_refuse, one_seen, refused_now, stayed_now}
@@ -13,7 +13,7 @@ pub invariant_of-self : goal.invariant_of-self
 invariant_of-self g c = (driver_seen c.refused.ensures.thread c.self.invariant.0, (stayed_now _ c.args.index c.self.invariant.1 (line_seen c.self.view_is c.requires.index) c.refused.new.driver.view c.in_err-reply.ensures.err).held)
 
 pub returns-in_err-reply-clause-err : goal.returns-in_err-reply-clause-err
-returns-in_err-reply-clause-err g c = on_err c.from_residual.result _ (stays_seen c.self.view_is (stayed_now _ c.args.index c.self.invariant.1 (line_seen c.self.view_is c.requires.index) c.refused.new.driver.view c.in_err-reply.ensures.err)).runs
+returns-in_err-reply-clause-err g c = at_error c.from_residual.result (stays_seen c.self.view_is (stayed_now _ c.args.index c.self.invariant.1 (line_seen c.self.view_is c.requires.index) c.refused.new.driver.view c.in_err-reply.ensures.err)).runs
 
 pub invariant_of-self-2 : goal.invariant_of-self-2
 invariant_of-self-2 g c = (

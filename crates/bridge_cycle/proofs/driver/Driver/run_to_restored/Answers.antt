@@ -2,7 +2,7 @@
 use Rattle.std.proofs.Common.{◌∙◌, ap}
 use Rattle.joint_model.specs.declared.names.Phase.TheVariants as at
 use Rattle.joint_model.proofs.Deciding.{true_false}
-use Rattle.joint_history.proofs.Running.{on_err}
+use Rattle.joint_model.proofs.Results.{at_error}
 use Rattle.bridge_cycle.specs.Progress.{Progress}
 use Rattle.bridge_cycle.specs.Words.{next_word}
 use Rattle.bridge_cycle.proofs.Composed.{partway_lacks, partway_more, partway_none}
@@ -18,4 +18,4 @@ phases-preserved g c =
     (r.0, c.run.ensures.index)
 
 pub returns-in_err-run-clause-err : goal.returns-in_err-run-clause-err
-returns-in_err-run-clause-err g c = on_err c.from_residual.result _ (partway_lacks c.args.self.now c.phases.self c.run.new.self c.args.index c.next_word-word.result c.phases.invariant.0 (c.next_word-word.ensures ∙ ap (λ (d : Progress). next_word d.phase) c.self.view_is) c.in_err-run.ensures.err)
+returns-in_err-run-clause-err g c = at_error c.from_residual.result (partway_lacks c.args.self.now c.phases.self c.run.new.self c.args.index c.next_word-word.result c.phases.invariant.0 (c.next_word-word.ensures ∙ ap (λ (d : Progress). next_word d.phase) c.self.view_is) c.in_err-run.ensures.err)

@@ -1,4 +1,4 @@
-use Rattle.joint_history.proofs.Running.{on_err}
+use Rattle.joint_model.proofs.Results.{at_error}
 use Rattle.bridge_cycle.proofs.Making.{driver_seen, line_seen, stays_seen}
 use Rattle.bridge_cycle.proofs.Refusals.{may_finalise, one_seen, stayed_now, took_now}
 use Rattle.bridge_cycle.proofs.driver.Driver.take_notices.Goals as goal
@@ -10,7 +10,7 @@ pub invariant_of-self : goal.invariant_of-self
 invariant_of-self g c = (driver_seen c.finalise.ensures.thread c.self.invariant.0, (stayed_now _ c.args.index c.self.invariant.1 (line_seen c.self.view_is c.requires.index) c.finalise.new.driver.view c.in_err-reply.ensures.err).held)
 
 pub returns-in_err-reply-clause-err : goal.returns-in_err-reply-clause-err
-returns-in_err-reply-clause-err g c = on_err c.from_residual.result _ (stays_seen c.self.view_is (stayed_now _ c.args.index c.self.invariant.1 (line_seen c.self.view_is c.requires.index) c.finalise.new.driver.view c.in_err-reply.ensures.err)).runs
+returns-in_err-reply-clause-err g c = at_error c.from_residual.result (stays_seen c.self.view_is (stayed_now _ c.args.index c.self.invariant.1 (line_seen c.self.view_is c.requires.index) c.finalise.new.driver.view c.in_err-reply.ensures.err)).runs
 
 pub invariant_of-self-2 : goal.invariant_of-self-2
 invariant_of-self-2 g c = (driver_seen c.finalise.ensures.thread c.self.invariant.0, (took_now _ c.args.index c.self.invariant.1 (line_seen c.self.view_is c.requires.index) c.args.count c.in_ok-reply.field-0-0 c.finalise.new.driver.view c.in_ok-reply.reply c.in_ok-reply.ensures.ok).held)

@@ -3,7 +3,8 @@ use Rattle.bridge_graph.specs.declared.packing.Link.{Link}
 use Rattle.bridge_graph.specs.Built.{Joins}
 use Rattle.bridge_graph.proofs.Rows.{rows-link}
 use Rattle.bridge_graph.proofs.Building.{building-link}
-use Rattle.bridge_graph.proofs.Room.{edges-most, edges-none, edges-pushed, on_failure}
+use Rattle.joint_model.proofs.Results.{at_error}
+use Rattle.bridge_graph.proofs.Room.{edges-most, edges-none, edges-pushed}
 use Rattle.bridge_graph.proofs.builder.GraphBuilder.edge.Goals as goal
 
 pub invariant_of-self-2 : goal.invariant_of-self-2
@@ -32,14 +33,14 @@ returns-then-len-ge-MOST_EDGES-clause-spare_nodes c = refl
 
 pub returns-in_err-reserve-clause-room : goal.returns-in_err-reserve-clause-room
 returns-in_err-reserve-clause-room c =
-    on_failure _ c.from_residual.result (rw (← c.self.view_is) (edges-none _ _ _ _ (inl (omega (arith, c.in_err-reserve.ensures.full)))))
+    at_error c.from_residual.result (rw (← c.self.view_is) (edges-none _ _ _ _ (inl (omega (arith, c.in_err-reserve.ensures.full)))))
 
 pub returns-in_err-reserve-clause-spare_nodes : goal.returns-in_err-reserve-clause-spare_nodes
 returns-in_err-reserve-clause-spare_nodes c = rw (← c.self.view_is) refl
 
 pub returns-in_err-reserve-2-clause-room : goal.returns-in_err-reserve-2-clause-room
 returns-in_err-reserve-2-clause-room c =
-    on_failure _ c.from_residual-in_err-reserve-2.result (rw (← c.self.view_is) (edges-none _ _ _ _ (inr (inl (omega (arith, c.in_err-reserve-2.ensures.full, c.self.invariant.nexts))))))
+    at_error c.from_residual-in_err-reserve-2.result (rw (← c.self.view_is) (edges-none _ _ _ _ (inr (inl (omega (arith, c.in_err-reserve-2.ensures.full, c.self.invariant.nexts))))))
 
 pub returns-in_err-reserve-2-clause-spare_nodes : goal.returns-in_err-reserve-2-clause-spare_nodes
 returns-in_err-reserve-2-clause-spare_nodes c = rw (← c.self.view_is) refl
@@ -47,7 +48,7 @@ returns-in_err-reserve-2-clause-spare_nodes c = rw (← c.self.view_is) refl
 pub returns-in_err-reserve-3-clause-room : goal.returns-in_err-reserve-3-clause-room
 returns-in_err-reserve-3-clause-room c =
     let full = c.in_err-reserve-3.ensures.full in
-    on_failure _ c.from_residual-in_err-reserve-3.result
+    at_error c.from_residual-in_err-reserve-3.result
     (rw (← c.self.view_is) (edges-none _ _ _ _ (inr (inr (omega (arith, full, ap length c.self.invariant.empty, c.len-2.ensures, c.reserve.ensures.len))))))
 
 pub returns-in_err-reserve-3-clause-spare_nodes : goal.returns-in_err-reserve-3-clause-spare_nodes

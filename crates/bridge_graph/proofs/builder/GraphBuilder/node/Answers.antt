@@ -3,7 +3,8 @@ use Rattle.std.proofs.lemmas.List.{length_push}
 use Rattle.bridge_graph.specs.declared.graph.Node.{Node}
 use Rattle.bridge_graph.proofs.Rows.{rows-node}
 use Rattle.bridge_graph.proofs.Building.{building-node, none_new}
-use Rattle.bridge_graph.proofs.Room.{nodes-none, nodes-pushed, on_failure}
+use Rattle.joint_model.proofs.Results.{at_error}
+use Rattle.bridge_graph.proofs.Room.{nodes-none, nodes-pushed}
 use Rattle.bridge_graph.proofs.builder.GraphBuilder.node.Goals as goal
 
 pub invariant_of-self-2 : goal.invariant_of-self-2
@@ -21,14 +22,14 @@ returns-clause-edges c =
 
 pub returns-in_err-reserve-clause-room : goal.returns-in_err-reserve-clause-room
 returns-in_err-reserve-clause-room c =
-    on_failure _ c.from_residual.result (rw (← c.self.view_is) (nodes-none _ _ _ (inl (omega (arith, c.in_err-reserve.ensures.full)))))
+    at_error c.from_residual.result (rw (← c.self.view_is) (nodes-none _ _ _ (inl (omega (arith, c.in_err-reserve.ensures.full)))))
 
 pub returns-in_err-reserve-clause-spare_edges : goal.returns-in_err-reserve-clause-spare_edges
 returns-in_err-reserve-clause-spare_edges c = rw (← c.self.view_is) refl
 
 pub returns-in_err-reserve-2-clause-room : goal.returns-in_err-reserve-2-clause-room
 returns-in_err-reserve-2-clause-room c =
-    on_failure _ c.from_residual-in_err-reserve-2.result (rw (← c.self.view_is) (nodes-none _ _ _ (inr (omega (arith, c.in_err-reserve-2.ensures.full, c.self.invariant.firsts)))))
+    at_error c.from_residual-in_err-reserve-2.result (rw (← c.self.view_is) (nodes-none _ _ _ (inr (omega (arith, c.in_err-reserve-2.ensures.full, c.self.invariant.firsts)))))
 
 pub returns-in_err-reserve-2-clause-spare_edges : goal.returns-in_err-reserve-2-clause-spare_edges
 returns-in_err-reserve-2-clause-spare_edges c = rw (← c.self.view_is) refl

@@ -1,7 +1,9 @@
 use Rattle.std.proofs.Common.{None, sym, subst, ◌∙◌}
 use Rattle.joint_history.specs.Locked.{MayMake}
 use Rattle.joint_history.specs.Operations.{IsSideEvent, Runs}
-use Rattle.joint_history.proofs.Running.{broken_begins, broken_off, first_begins, first_comes, first_ends, first_is_made, no_ok, none_from, nothing_begun, on_err, second_begins, second_ends, then_second, third_begins, third_comes, third_ends, third_is_release}
+use Rattle.std.proofs.lemmas.Result.{IfOk-from_err}
+use Rattle.joint_model.proofs.Results.{at_error}
+use Rattle.joint_history.proofs.Running.{broken_begins, broken_off, first_begins, first_comes, first_ends, first_is_made, none_from, nothing_begun, second_begins, second_ends, then_second, third_begins, third_comes, third_ends, third_is_release}
 use Rattle.joint_history.proofs.Turning.{begins_still}
 use Rattle.joint_history.proofs.shared.Shared.run.Goals as goal
 
@@ -27,10 +29,10 @@ pub returns-in_err-first-clause-begins : goal.returns-in_err-first-clause-begins
 returns-in_err-first-clause-begins g c = begins_still c.args.t c.args.mine.now.view c.event.new.mine.view c.args.index c.in_err-first.ensures.err c.requires.begins
 
 pub returns-in_err-first-clause-ok : goal.returns-in_err-first-clause-ok
-returns-in_err-first-clause-ok g c = no_ok c.from_residual.result _ c.from_residual.ensures.0
+returns-in_err-first-clause-ok g c = IfOk-from_err c.from_residual.result _ c.from_residual.ensures.0
 
 pub returns-in_err-first-clause-err : goal.returns-in_err-first-clause-err
-returns-in_err-first-clause-err g c = on_err c.from_residual.result _ (nothing_begun c.args.t c.args.mine.now.view c.event.new.mine.view c.args.index c.args.act.now c.in_err-first.ensures.err)
+returns-in_err-first-clause-err g c = at_error c.from_residual.result (nothing_begun c.args.t c.args.mine.now.view c.event.new.mine.view c.args.index c.args.act.now c.in_err-first.ensures.err)
 
 pub returns-in_default-clause-order : goal.returns-in_default-clause-order
 returns-in_default-clause-order g c = c.event.ensures.order
@@ -66,10 +68,10 @@ pub returns-in_err-second-clause-begins : goal.returns-in_err-second-clause-begi
 returns-in_err-second-clause-begins g c = broken_begins c.args.t c.args.index c.args.act.now c.args.mine.now.view c.event.new.mine.view c.in_ok-first.first c.in_ok-first.reply c.first_of-start.result c.first_of-start.ensures c.in_ok-first.ensures.ok c.event-2.new.mine.view c.in-Some.next (sym c.second_of.ensures ∙ c.in-Some.is) c.in_err-second.ensures.err (λ is. let w = c.in_err-second.ensures.release is in cc)
 
 pub returns-in_err-second-clause-ok : goal.returns-in_err-second-clause-ok
-returns-in_err-second-clause-ok g c = no_ok c.from_residual-in_err-second.result _ c.from_residual-in_err-second.ensures.0
+returns-in_err-second-clause-ok g c = IfOk-from_err c.from_residual-in_err-second.result _ c.from_residual-in_err-second.ensures.0
 
 pub returns-in_err-second-clause-err : goal.returns-in_err-second-clause-err
-returns-in_err-second-clause-err g c = on_err c.from_residual-in_err-second.result _ (broken_off c.args.t c.args.index c.args.act.now c.args.mine.now.view c.event.new.mine.view c.in_ok-first.first c.in_ok-first.reply c.first_of-start.result c.first_of-start.ensures c.in_ok-first.ensures.ok c.event-2.new.mine.view c.in-Some.next (sym c.second_of.ensures ∙ c.in-Some.is) c.in_err-second.ensures.err (λ is. let w = c.in_err-second.ensures.release is in cc))
+returns-in_err-second-clause-err g c = at_error c.from_residual-in_err-second.result (broken_off c.args.t c.args.index c.args.act.now c.args.mine.now.view c.event.new.mine.view c.in_ok-first.first c.in_ok-first.reply c.first_of-start.result c.first_of-start.ensures c.in_ok-first.ensures.ok c.event-2.new.mine.view c.in-Some.next (sym c.second_of.ensures ∙ c.in-Some.is) c.in_err-second.ensures.err (λ is. let w = c.in_err-second.ensures.release is in cc))
 
 pub returns-in_default-third_of-clause-order : goal.returns-in_default-third_of-clause-order
 returns-in_default-third_of-clause-order g c = c.event-2.ensures.order
@@ -105,7 +107,7 @@ pub returns-in_err-last-clause-begins : goal.returns-in_err-last-clause-begins
 returns-in_err-last-clause-begins g c = absurd (let w = c.in_err-last.ensures.release (third_is_release c.in-Some.next c.in_ok-second.answer c.in-Some-third_of.end (sym c.third_of.ensures ∙ c.in-Some-third_of.is)) in cc)
 
 pub returns-in_err-last-clause-ok : goal.returns-in_err-last-clause-ok
-returns-in_err-last-clause-ok g c = no_ok c.from_residual-in_err-last.result _ c.from_residual-in_err-last.ensures.0
+returns-in_err-last-clause-ok g c = IfOk-from_err c.from_residual-in_err-last.result _ c.from_residual-in_err-last.ensures.0
 
 pub returns-in_err-last-clause-err : goal.returns-in_err-last-clause-err
 returns-in_err-last-clause-err g c = absurd (let w = c.in_err-last.ensures.release (third_is_release c.in-Some.next c.in_ok-second.answer c.in-Some-third_of.end (sym c.third_of.ensures ∙ c.in-Some-third_of.is)) in cc)

@@ -1,5 +1,6 @@
 -- Each event's verdict is the entry's.
-use Rattle.joint_replay.proofs.Verdicts.{IfOk-as, judged-handles, judged-objects, judged-line, judged-abandon, judged-snap, judged-resolve, judged-begin, judged-sweep, judged-ok}
+use Rattle.std.proofs.lemmas.Result.{IfOk-weaker}
+use Rattle.joint_replay.proofs.Verdicts.{judged-handles, judged-objects, judged-line, judged-abandon, judged-snap, judged-resolve, judged-begin, judged-sweep, judged-ok}
 use Rattle.joint_replay.proofs.state.JointState.judge.Goals as goal
 
 pub returns-in-Line-clause-verdict : goal.returns-in-Line-clause-verdict
@@ -29,8 +30,8 @@ returns-in-Sweep-clause-verdict c =
 pub returns-in-Make-clause-verdict : goal.returns-in-Make-clause-verdict
 returns-in-Make-clause-verdict c =
     let e = c.args.entry.now in
-    IfOk-as _ _ (λ v w. judged-handles c.args.h.now e c.args.self.now c.in-Make.is (c.can_make.ensures.0 c.if-not-can_make.false).0 v _ (w e.made.caller)) c.on_handles.result c.on_handles.ensures.ok
+    IfOk-weaker c.on_handles.result _ _ (λ v w. judged-handles c.args.h.now e c.args.self.now c.in-Make.is (c.can_make.ensures.0 c.if-not-can_make.false).0 v _ (w e.made.caller)) c.on_handles.ensures.ok
 
 pub returns-in-Adopt-clause-verdict : goal.returns-in-Adopt-clause-verdict
 returns-in-Adopt-clause-verdict c =
-    IfOk-as _ _ (λ v w. judged-objects c.args.h.now c.args.entry.now c.args.self.now c.in-Adopt.is (c.can_make.ensures.0 c.if-not-can_make.false).0 v _ w) c.on_objects.result c.on_objects.ensures.ok
+    IfOk-weaker c.on_objects.result _ _ (λ v w. judged-objects c.args.h.now c.args.entry.now c.args.self.now c.in-Adopt.is (c.can_make.ensures.0 c.if-not-can_make.false).0 v _ w) c.on_objects.ensures.ok

@@ -6,7 +6,7 @@ use Rattle.joint_model.specs.Peers.{peer_made}
 use Rattle.joint_model.specs.Run.{on_peers}
 use Rattle.joint_replay.specs.Judging.{Decides, Gives}
 use Rattle.joint_replay.proofs.Growing.{Grows-peer_made, err-peers-same, issued-peer_made, on-peers-same, stored-after, with_peers}
-use Rattle.joint_replay.proofs.Verdicts.{IfOk-as}
+use Rattle.std.proofs.lemmas.Result.{IfOk-weaker}
 use Rattle.joint_replay.proofs.state.JointState.make_peer.Goals as goal
 
 pub returns-clause-ok : goal.returns-clause-ok
@@ -15,7 +15,7 @@ returns-clause-ok c =
     let i : Joint = record { graph = record { managed = s.managed; peers = s.peers; removed = s.removed.items }; marking = s.marking; markings = s.markings } in
     let reply = c.args.reply.now in
     subst (λ (z : Joint). IfOk c.make.result (λ d. Decides (Gives (on_peers z (peer_made z.graph.peers c.args.v c.args.fields)) reply) d z (with_peers i c.make.new.self s.removed.items))) c.self.view_is
-    (IfOk-as _ _ (λ d w. on-peers-same i (peer_made i.graph.peers c.args.v c.args.fields) reply c.make.new.self d (issued-peer_made i.graph.peers c.args.v c.args.fields) w) c.make.result c.make.ensures.ok)
+    (IfOk-weaker c.make.result _ _ (λ d w. on-peers-same i (peer_made i.graph.peers c.args.v c.args.fields) reply c.make.new.self d (issued-peer_made i.graph.peers c.args.v c.args.fields) w) c.make.ensures.ok)
 
 pub returns-clause-err : goal.returns-clause-err
 returns-clause-err c =

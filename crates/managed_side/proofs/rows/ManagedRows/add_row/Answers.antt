@@ -2,7 +2,7 @@
 use Rattle.std.proofs.Common.{◌∙◌, ap, refl}
 use Rattle.row_heap.specs.Rows.{HeapRows}
 use Rattle.managed_side.proofs.Dues.{AreDues-object}
-use Rattle.managed_side.proofs.Failing.{no_value}
+use Rattle.std.proofs.lemmas.Result.{IfOk-from_err}
 use Rattle.managed_side.proofs.Peers.{ArePeers-row}
 use Rattle.managed_side.proofs.rows.ManagedRows.add_row.Goals as goal
 
@@ -10,7 +10,7 @@ pub invariant_of-self : goal.invariant_of-self
 invariant_of-self c = rw (c.in_err-x.ensures.err.1, c.in_err-x.ensures.err.0) c.self.invariant
 
 pub returns-in_err-x-clause-number : goal.returns-in_err-x-clause-number
-returns-in_err-x-clause-number c = no_value c.from_residual.result _ c.from_residual.ensures.0
+returns-in_err-x-clause-number c = IfOk-from_err c.from_residual.result _ c.from_residual.ensures.0
 
 pub invariant_of-self-2 : goal.invariant_of-self-2
 invariant_of-self-2 c =

@@ -6,7 +6,7 @@ use Rattle.instance_registry.proofs.Pairs.{without-push}
 use Rattle.row_heap.specs.Rows.{HeapRows}
 use Rattle.managed_side.specs.declared.rows.Held.{Held}
 use Rattle.managed_side.proofs.Dues.{AreDues-object}
-use Rattle.managed_side.proofs.Failing.{no_value}
+use Rattle.std.proofs.lemmas.Result.{IfOk-from_err}
 use Rattle.managed_side.proofs.Given.{alone-twin}
 use Rattle.managed_side.proofs.Peers.{ArePeers-pair}
 use Rattle.managed_side.proofs.rows.ManagedRows.add_twin.Goals as goal
@@ -18,7 +18,7 @@ pub invariant_of-self : goal.invariant_of-self
 invariant_of-self c = rw c.in_err-add.ensures.err c.self.invariant
 
 pub returns-in_err-add-clause-number : goal.returns-in_err-add-clause-number
-returns-in_err-add-clause-number c = no_value c.from_residual.result _ c.from_residual.ensures.0
+returns-in_err-add-clause-number c = IfOk-from_err c.from_residual.result _ c.from_residual.ensures.0
 
 pub invariant_of-self-in-Err : goal.invariant_of-self-in-Err
 invariant_of-self-in-Err c =

@@ -10,7 +10,7 @@ use Rattle.row_heap.specs.Rows.{HeapRows}
 use Rattle.managed_side.specs.Dues.{HasDue}
 use Rattle.managed_side.specs.Rows.{rows_of}
 use Rattle.managed_side.specs.Snapping.{TakesSnapshot}
-use Rattle.managed_side.proofs.Failing.{no_value}
+use Rattle.std.proofs.lemmas.Result.{IfOk-from_err}
 use Rattle.managed_side.proofs.PreparedSnapshots.{prepared-free, pins-left, prepared-due, takes-prepared}
 use Rattle.managed_side.proofs.rows.ManagedRows.snap.Goals as goal
 
@@ -70,7 +70,7 @@ returns-clause-snapshot c =
     (omega (arith, c.made.ensures.made, c.live.ensures)) (omega (arith, c.len-count.ensures, found.candidates.ok)) c.in_ok-found.ensures.nodes c.in_ok-found.ensures.edges)
 
 pub returns-in_err-found-clause-snapshot : goal.returns-in_err-found-clause-snapshot
-returns-in_err-found-clause-snapshot c = no_value c.from_residual.result _ c.from_residual.ensures.0
+returns-in_err-found-clause-snapshot c = IfOk-from_err c.from_residual.result _ c.from_residual.ensures.0
 
 pub returns-in_err-found-clause-few : goal.returns-in_err-found-clause-few
-returns-in_err-found-clause-few c = no_value c.from_residual.result _ c.from_residual.ensures.0
+returns-in_err-found-clause-few c = IfOk-from_err c.from_residual.result _ c.from_residual.ensures.0

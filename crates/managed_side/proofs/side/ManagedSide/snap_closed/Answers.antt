@@ -11,7 +11,7 @@ use Rattle.joint_model.proofs.SideLists.{AreTaken-push}
 use Rattle.managed_side.specs.Openings.{snap_made}
 use Rattle.managed_side.specs.Steps.{step_made}
 use Rattle.managed_side.proofs.Driving.{adds-lawful, cycles-few, objects-numbers}
-use Rattle.managed_side.proofs.Failing.{no_value}
+use Rattle.std.proofs.lemmas.Result.{IfOk-from_err}
 use Rattle.managed_side.proofs.Goes.{side-replayed, kept-rows, HasRoom-two}
 use Rattle.managed_side.proofs.SnapEntries.{snap-goes}
 use Rattle.managed_side.proofs.side.ManagedSide.snap_closed.Goals as goal
@@ -73,7 +73,7 @@ returns-clause-snaps g c =
     })
 
 pub returns-in_err-reserve-clause-snaps : goal.returns-in_err-reserve-clause-snaps
-returns-in_err-reserve-clause-snaps g c = no_value c.from_residual.result _ c.from_residual.ensures.0
+returns-in_err-reserve-clause-snaps g c = IfOk-from_err c.from_residual.result _ c.from_residual.ensures.0
 
 pub returns-in_err-snap-clause-snaps : goal.returns-in_err-snap-clause-snaps
-returns-in_err-snap-clause-snaps g c = no_value c.from_residual-in_err-snap.result _ c.from_residual-in_err-snap.ensures.0
+returns-in_err-snap-clause-snaps g c = IfOk-from_err c.from_residual-in_err-snap.result _ c.from_residual-in_err-snap.ensures.0

@@ -6,7 +6,7 @@ use Rattle.joint_model.specs.Told.{nothing}
 use Rattle.joint_model.proofs.SideLists.{AreTaken-push}
 use Rattle.managed_side.specs.Sides.{state_of}
 use Rattle.managed_side.specs.Steps.{step_made, adopted_in}
-use Rattle.managed_side.proofs.Failing.{no_value}
+use Rattle.std.proofs.lemmas.Result.{IfOk-from_err}
 use Rattle.managed_side.proofs.Goes.{side-goes, side-replayed, step-of, step-allowed, kept-rows, may-set, may-target, HasRoom-two}
 use Rattle.managed_side.proofs.side.ManagedSide.step.Goals as goal
 
@@ -49,7 +49,7 @@ returns-clause-adds g c =
     rw (← c.self.view_is) (record { draws = draws; goes = goes; threads = refl })
 
 pub returns-in_err-reserve-clause-adds : goal.returns-in_err-reserve-clause-adds
-returns-in_err-reserve-clause-adds g c = no_value c.from_residual.result _ c.from_residual.ensures.0
+returns-in_err-reserve-clause-adds g c = IfOk-from_err c.from_residual.result _ c.from_residual.ensures.0
 
 pub returns-in_err-reply-clause-adds : goal.returns-in_err-reply-clause-adds
-returns-in_err-reply-clause-adds g c = no_value c.from_residual-in_err-reply.result _ c.from_residual-in_err-reply.ensures.0
+returns-in_err-reply-clause-adds g c = IfOk-from_err c.from_residual-in_err-reply.result _ c.from_residual-in_err-reply.ensures.0

@@ -9,7 +9,7 @@ use Rattle.joint_model.specs.Sides.{managed_rules}
 use Rattle.joint_model.specs.Told.{nothing}
 use Rattle.joint_model.proofs.SideLists.{AreTaken-push}
 use Rattle.managed_side.specs.Steps.{step_made, take_op}
-use Rattle.managed_side.proofs.Failing.{no_value}
+use Rattle.std.proofs.lemmas.Result.{IfOk-from_err}
 use Rattle.managed_side.proofs.Goes.{side-goes, side-replayed, line-answers, take-of, kept-rows, HasRoom-two}
 use Rattle.managed_side.proofs.side.ManagedSide.take.Goals as goal
 
@@ -33,4 +33,4 @@ invariant_of-self-2 g c =
     )
 
 pub returns-in_err-reserve-clause-adds : goal.returns-in_err-reserve-clause-adds
-returns-in_err-reserve-clause-adds g c = no_value c.from_residual.result _ c.from_residual.ensures.0
+returns-in_err-reserve-clause-adds g c = IfOk-from_err c.from_residual.result _ c.from_residual.ensures.0

@@ -10,7 +10,8 @@ use Rattle.global_handles.specs.declared.Strength.TheVariants.{Strong}
 use Rattle.peer_side.specs.declared.rows.Issue.{Issue}
 use Rattle.peer_side.specs.Rows.{Rows, PeersAnswer, peers_in, rows_with, issued_to}
 use Rattle.peer_side.proofs.Events.{answers-gripped, sort-read}
-use Rattle.peer_side.proofs.Failing.{no_value, at_error}
+use Rattle.std.proofs.lemmas.Result.{IfOk-from_err}
+use Rattle.joint_model.proofs.Results.{at_error}
 use Rattle.peer_side.proofs.Further.{marks-same}
 use Rattle.peer_side.proofs.Lengths.{short-byte}
 use Rattle.peer_side.proofs.rows.PeerRows.grip.Goals as goal
@@ -36,13 +37,13 @@ returns-in_ok-h-in-Some-clause-answers c =
     (answers-gripped c.args.self.now c.args.x p c.in_ok-h-in-Some.h c.index-sort.result.now c.fields_len-fields.result static full number kind len)
 
 pub returns-in_err-h-in-Some-clause-answers : goal.returns-in_err-h-in-Some-clause-answers
-returns-in_err-h-in-Some-clause-answers c = no_value c.from_residual.result _ c.from_residual.ensures.0
+returns-in_err-h-in-Some-clause-answers c = IfOk-from_err c.from_residual.result _ c.from_residual.ensures.0
 
 pub returns-in_err-h-in-Some-clause-marks : goal.returns-in_err-h-in-Some-clause-marks
 returns-in_err-h-in-Some-clause-marks c = marks-same c.args.self.now.rows c.issue.new.self.rows (ap (λ (z : Rows). z.rows) c.in_err-h-in-Some.ensures.err)
 
 pub returns-in_err-h-in-Some-clause-err : goal.returns-in_err-h-in-Some-clause-err
-returns-in_err-h-in-Some-clause-err c = at_error c.from_residual.result _ c.in_err-h-in-Some.ensures.err
+returns-in_err-h-in-Some-clause-err c = at_error c.from_residual.result c.in_err-h-in-Some.ensures.err
 
 pub returns-in_ok-h-in-Some-clause-marks : goal.returns-in_ok-h-in-Some-clause-marks
 returns-in_ok-h-in-Some-clause-marks c = marks-same c.args.self.now.rows c.issue.new.self.rows (ap (λ (z : Rows). z.rows) c.in_ok-h-in-Some.ensures.issued)

@@ -2,7 +2,7 @@
 use Rattle.std.proofs.Common.{◌≡◌, ◌++◌, ◌∷◌, [], length, ap, subst, ◌∙◌, arith, length-append}
 use Rattle.peer_side.specs.declared.rows.Issue.{Issue}
 use Rattle.peer_side.specs.Rows.{Rows, rows_with, issued_to}
-use Rattle.peer_side.proofs.Failing.{no_success, no_value}
+use Rattle.std.proofs.lemmas.Result.{IfOk-from_err}
 use Rattle.peer_side.proofs.Handles.{rows-issued, AreRowsIssued-pushed}
 use Rattle.peer_side.proofs.rows.PeerRows.issue.Goals as goal
 
@@ -28,7 +28,7 @@ invariant_of-self-in-Ok c =
     }
 
 pub returns-in_err-reserve-clause-number : goal.returns-in_err-reserve-clause-number
-returns-in_err-reserve-clause-number c = no_value c.from_residual.result _ c.from_residual.ensures.0
+returns-in_err-reserve-clause-number c = IfOk-from_err c.from_residual.result _ c.from_residual.ensures.0
 
 pub returns-in_err-reserve-clause-issued : goal.returns-in_err-reserve-clause-issued
-returns-in_err-reserve-clause-issued c = no_success c.from_residual.result _ c.from_residual.ensures.0
+returns-in_err-reserve-clause-issued c = IfOk-from_err c.from_residual.result _ c.from_residual.ensures.0

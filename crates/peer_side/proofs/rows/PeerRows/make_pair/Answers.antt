@@ -3,7 +3,8 @@ use Rattle.std.proofs.Common.{refl, sym, ap}
 use Rattle.global_handles.specs.declared.Hold.TheVariants.{Held}
 use Rattle.global_handles.specs.declared.Strength.TheVariants.{Strong}
 use Rattle.global_handles.specs.Rows.{Table}
-use Rattle.peer_side.proofs.Failing.{no_value, at_error}
+use Rattle.std.proofs.lemmas.Result.{IfOk-from_err}
+use Rattle.joint_model.proofs.Results.{at_error}
 use Rattle.peer_side.proofs.Further.{IsIssued, issued-reserved, further-marked, pair-answers, pair-fits, ready-fits, tabled-more, tabled-still}
 use Rattle.peer_side.proofs.rows.PeerRows.make_pair.Goals as goal
 
@@ -36,16 +37,16 @@ returns-clause-marks c =
     further-marked c.args.self.now i.heap c.add_peer.new.heap c.add_peer.new.heap c.add_peer.new.heap.heap i.sorts.items i.names i.issued.items i.table c.in_ok-p.p.0 c.args.fields c.self.view_is p.number c.marks_len.ensures p.heap refl
 
 pub returns-in_err-reserve_handle-clause-answers : goal.returns-in_err-reserve_handle-clause-answers
-returns-in_err-reserve_handle-clause-answers c = no_value c.from_residual.result _ c.from_residual.ensures.0
+returns-in_err-reserve_handle-clause-answers c = IfOk-from_err c.from_residual.result _ c.from_residual.ensures.0
 
 pub returns-in_err-reserve_handle-clause-marks : goal.returns-in_err-reserve_handle-clause-marks
-returns-in_err-reserve_handle-clause-marks c = no_value c.from_residual.result _ c.from_residual.ensures.0
+returns-in_err-reserve_handle-clause-marks c = IfOk-from_err c.from_residual.result _ c.from_residual.ensures.0
 
 pub returns-in_err-p-clause-answers : goal.returns-in_err-p-clause-answers
-returns-in_err-p-clause-answers c = no_value c.from_residual-in_err-p.result _ c.from_residual-in_err-p.ensures.0
+returns-in_err-p-clause-answers c = IfOk-from_err c.from_residual-in_err-p.result _ c.from_residual-in_err-p.ensures.0
 
 pub returns-in_err-p-clause-marks : goal.returns-in_err-p-clause-marks
-returns-in_err-p-clause-marks c = no_value c.from_residual-in_err-p.result _ c.from_residual-in_err-p.ensures.0
+returns-in_err-p-clause-marks c = IfOk-from_err c.from_residual-in_err-p.result _ c.from_residual-in_err-p.ensures.0
 
 -- where there is no memory, room alone was taken
 pub invariant_of-self : goal.invariant_of-self
@@ -57,7 +58,7 @@ returns-in_err-reserve_handle-clause-tabled c =
     tabled-still c.args.self.now i.heap i.sorts.items i.names i.issued.items i.table c.reserve_handle.new.table c.self.view_is (ap (λ (t : Table). t.rows) c.in_err-reserve_handle.ensures.err)
 
 pub returns-in_err-reserve_handle-clause-err : goal.returns-in_err-reserve_handle-clause-err
-returns-in_err-reserve_handle-clause-err c = at_error c.from_residual.result _ (rw (c.in_err-reserve_handle.ensures.issued, c.in_err-reserve_handle.ensures.err) c.self.view_is)
+returns-in_err-reserve_handle-clause-err c = at_error c.from_residual.result (rw (c.in_err-reserve_handle.ensures.issued, c.in_err-reserve_handle.ensures.err) c.self.view_is)
 
 pub invariant_of-self-in_err-p : goal.invariant_of-self-in_err-p
 invariant_of-self-in_err-p c =
@@ -73,7 +74,7 @@ returns-in_err-p-clause-tabled c =
 pub returns-in_err-p-clause-err : goal.returns-in_err-p-clause-err
 returns-in_err-p-clause-err c =
     let room = c.in_ok-reserve_handle.ensures in
-    at_error c.from_residual-in_err-p.result _ (rw (c.in_err-p.ensures.err.0, c.in_err-p.ensures.err.1, room.issued, room.table) c.self.view_is)
+    at_error c.from_residual-in_err-p.result (rw (c.in_err-p.ensures.err.0, c.in_err-p.ensures.err.1, room.issued, room.table) c.self.view_is)
 
 pub returns-clause-tabled : goal.returns-clause-tabled
 returns-clause-tabled c =

@@ -2,7 +2,8 @@
 use Rattle.std.proofs.Common.{Some, refl, sym, ap}
 use Rattle.joint_model.specs.Heaps.{with_var}
 use Rattle.peer_side.specs.Rows.{Rows}
-use Rattle.peer_side.proofs.Failing.{no_value, at_error}
+use Rattle.std.proofs.lemmas.Result.{IfOk-from_err}
+use Rattle.joint_model.proofs.Results.{at_error}
 use Rattle.peer_side.proofs.Further.{further-marked, peer-answers, peer-fits}
 use Rattle.joint_model.specs.declared.names.Sort.TheVariants.{Framework}
 use Rattle.peer_side.proofs.rows.PeerRows.make_peer.Goals as goal
@@ -27,13 +28,13 @@ returns-clause-marks c =
     further-marked c.args.self.now i.heap c.add_peer.new.heap c.set_var.new.self (with_var c.add_peer.new.heap.heap c.args.v (Some c.in_ok-p.p.0)) i.sorts.items i.names i.issued.items i.table c.in_ok-p.p.0 c.args.fields c.self.view_is p.number c.marks_len.ensures p.heap c.set_var.ensures
 
 pub returns-in_err-p-clause-answers : goal.returns-in_err-p-clause-answers
-returns-in_err-p-clause-answers c = no_value c.from_residual.result _ c.from_residual.ensures.0
+returns-in_err-p-clause-answers c = IfOk-from_err c.from_residual.result _ c.from_residual.ensures.0
 
 pub returns-in_err-p-clause-marks : goal.returns-in_err-p-clause-marks
-returns-in_err-p-clause-marks c = no_value c.from_residual.result _ c.from_residual.ensures.0
+returns-in_err-p-clause-marks c = IfOk-from_err c.from_residual.result _ c.from_residual.ensures.0
 
 pub returns-in_err-p-clause-err : goal.returns-in_err-p-clause-err
-returns-in_err-p-clause-err c = at_error c.from_residual.result _ (rw (c.in_err-p.ensures.err.0, c.in_err-p.ensures.err.1) c.self.view_is)
+returns-in_err-p-clause-err c = at_error c.from_residual.result (rw (c.in_err-p.ensures.err.0, c.in_err-p.ensures.err.1) c.self.view_is)
 
 -- where there is no memory, all is as before
 pub invariant_of-self : goal.invariant_of-self

@@ -6,7 +6,8 @@ use Rattle.joint_model.specs.Heaps.{slot}
 use Rattle.joint_model.specs.Peers.{name_given}
 use Rattle.peer_side.specs.Rows.{Rows, PeersAnswer, peers_in, strength_as}
 use Rattle.peer_side.proofs.Events.{answers-taken, answers-no_handle, answers-named}
-use Rattle.peer_side.proofs.Failing.{no_value, at_error}
+use Rattle.std.proofs.lemmas.Result.{IfOk-from_err}
+use Rattle.joint_model.proofs.Results.{at_error}
 use Rattle.peer_side.proofs.Further.{marks-same}
 use Rattle.peer_side.proofs.rows.PeerRows.name_peer.Goals as goal
 
@@ -24,10 +25,10 @@ returns-in_ok-h-in-None-clause-answers c =
     (sym (c.self.view_is ∙ c.in_ok-h-in-None.ensures.issued)) (answers-named old c.args.g c.args.p c.args.strength o c.in_ok-h-in-None.h c.in-None.ensures (sym c.if-handles_full.ensures) c.in_ok-h-in-None.ensures.number)
 
 pub returns-in_err-h-in-None-clause-answers : goal.returns-in_err-h-in-None-clause-answers
-returns-in_err-h-in-None-clause-answers c = no_value c.from_residual.result _ c.from_residual.ensures.0
+returns-in_err-h-in-None-clause-answers c = IfOk-from_err c.from_residual.result _ c.from_residual.ensures.0
 
 pub returns-in_err-h-in-None-clause-marks : goal.returns-in_err-h-in-None-clause-marks
 returns-in_err-h-in-None-clause-marks c = marks-same c.args.self.now.rows c.issue.new.self.rows (ap (λ (z : Rows). z.rows) c.in_err-h-in-None.ensures.err)
 
 pub returns-in_err-h-in-None-clause-err : goal.returns-in_err-h-in-None-clause-err
-returns-in_err-h-in-None-clause-err c = at_error c.from_residual.result _ c.in_err-h-in-None.ensures.err
+returns-in_err-h-in-None-clause-err c = at_error c.from_residual.result c.in_err-h-in-None.ensures.err

@@ -5,7 +5,7 @@ use Rattle.joint_model.specs.Told.{nothing}
 use Rattle.peer_side.specs.Makings.{gone_since, step_makings}
 use Rattle.peer_side.specs.Sides.{begins}
 use Rattle.peer_side.proofs.Ends.{none-open}
-use Rattle.peer_side.proofs.Failing.{no_value}
+use Rattle.std.proofs.lemmas.Result.{IfOk-from_err}
 use Rattle.peer_side.proofs.Makings.{begin-passes, turn-one, turn-refused}
 use Rattle.peer_side.proofs.side.PeerSide.begin.Goals as goal
 
@@ -22,4 +22,4 @@ pub returns-in_ok-marking-in-None-clause-adds : goal.returns-in_ok-marking-in-No
 returns-in_ok-marking-in-None-clause-adds g c = turn-one _ _ _ _ _ (begins c.args.caller c.args.index c.in_ok-marking-in-None.marking) nothing c.in_ok-marking-in-None.ensures.begun
 
 pub returns-in_err-marking-in-None-clause-adds : goal.returns-in_err-marking-in-None-clause-adds
-returns-in_err-marking-in-None-clause-adds g c = no_value c.from_residual.result _ c.from_residual.ensures.0
+returns-in_err-marking-in-None-clause-adds g c = IfOk-from_err c.from_residual.result _ c.from_residual.ensures.0

@@ -5,7 +5,7 @@ use Rattle.joint_model.specs.Told.{nothing}
 use Rattle.peer_side.specs.Makings.{collect_makings, gone_since}
 use Rattle.peer_side.specs.Sides.{begins}
 use Rattle.peer_side.proofs.Ends.{none-open}
-use Rattle.peer_side.proofs.Failing.{no_value}
+use Rattle.std.proofs.lemmas.Result.{IfOk-from_err}
 use Rattle.peer_side.proofs.Makings.{begin-passes, begun-ended, draws-on, turn-collect, turn-refused}
 use Rattle.peer_side.proofs.side.PeerSide.collect.Goals as goal
 
@@ -28,4 +28,4 @@ pub returns-in_ok-marking-in-None-clause-adds : goal.returns-in_ok-marking-in-No
 returns-in_ok-marking-in-None-clause-adds g c = turn-collect _ _ _ _ _ _ _ c.args.caller c.args.index c.in_ok-marking-in-None.marking _ c.in_ok-marking-in-None.ensures.begun c.close_marking-freed.ensures.swept
 
 pub returns-in_err-marking-in-None-clause-adds : goal.returns-in_err-marking-in-None-clause-adds
-returns-in_err-marking-in-None-clause-adds g c = no_value c.from_residual.result _ c.from_residual.ensures.0
+returns-in_err-marking-in-None-clause-adds g c = IfOk-from_err c.from_residual.result _ c.from_residual.ensures.0

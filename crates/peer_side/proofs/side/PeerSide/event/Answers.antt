@@ -6,7 +6,7 @@ use Rattle.joint_model.specs.Draws.{numbered}
 use Rattle.joint_model.specs.Sides.{AreTaken, peer_rules}
 use Rattle.joint_model.proofs.SideLists.{AreTaken-push}
 use Rattle.peer_side.specs.Marks.{MarksAfter}
-use Rattle.peer_side.proofs.Failing.{no_value}
+use Rattle.std.proofs.lemmas.Result.{IfOk-from_err}
 use Rattle.peer_side.proofs.Sides.{IsSide-roomy, IsSide-step, side-goes, targets-live, marks-closed}
 use Rattle.peer_side.proofs.Steps.{releases-tabled, room-more}
 use Rattle.peer_side.specs.Mirrors.{owes}
@@ -78,7 +78,7 @@ invariant_of-self-in_err-reply g c =
     )
 
 pub returns-in_err-make_room-clause-adds : goal.returns-in_err-make_room-clause-adds
-returns-in_err-make_room-clause-adds g c = no_value c.from_residual.result _ c.from_residual.ensures.0
+returns-in_err-make_room-clause-adds g c = IfOk-from_err c.from_residual.result _ c.from_residual.ensures.0
 
 pub returns-in_err-reply-clause-adds : goal.returns-in_err-reply-clause-adds
-returns-in_err-reply-clause-adds g c = no_value c.from_residual-in_err-reply.result _ c.from_residual-in_err-reply.ensures.0
+returns-in_err-reply-clause-adds g c = IfOk-from_err c.from_residual-in_err-reply.result _ c.from_residual-in_err-reply.ensures.0

@@ -10,7 +10,7 @@ use Rattle.peer_side.specs.Sides.{begins, state_with}
 use Rattle.joint_model.specs.Told.{nothing}
 use Rattle.peer_side.specs.Mirrors.{owes}
 use Rattle.peer_side.proofs.Ends.{ends-live, begin-still, begun-goes, own-goes, IsSide-begun}
-use Rattle.peer_side.proofs.Failing.{no_success, no_value}
+use Rattle.std.proofs.lemmas.Result.{IfOk-from_err}
 use Rattle.peer_side.proofs.Whole.{strong-live}
 use Rattle.peer_side.proofs.side.PeerSide.open_marking.Goals as goal
 
@@ -47,7 +47,7 @@ returns-clause-begun g c =
     rw (sym c.self.view_is, c.in_ok-room_to_mark.ensures.mirroring) (record { draws = draws; goes = own-goes i.rows c.mark.new.self i.marking opens i.markings (i.markings + 1) i.mirroring c.args.own i.entries.entries c.enter.new.entries.entries (begins c.args.caller c.args.index number) nothing goes; threads = refl })
 
 pub returns-in_err-room_to_mark-clause-begun : goal.returns-in_err-room_to_mark-clause-begun
-returns-in_err-room_to_mark-clause-begun g c = no_value c.from_residual.result _ c.from_residual.ensures.0
+returns-in_err-room_to_mark-clause-begun g c = IfOk-from_err c.from_residual.result _ c.from_residual.ensures.0
 
 pub returns-in_err-room_to_mark-clause-reserve : goal.returns-in_err-room_to_mark-clause-reserve
-returns-in_err-room_to_mark-clause-reserve g c = no_success c.from_residual.result _ c.from_residual.ensures.0
+returns-in_err-room_to_mark-clause-reserve g c = IfOk-from_err c.from_residual.result _ c.from_residual.ensures.0

@@ -6,7 +6,7 @@ use Rattle.joint_model.specs.Draws.{numbered}
 use Rattle.joint_model.specs.Sides.{peer_rules}
 use Rattle.joint_model.proofs.SideLists.{AreTaken-push}
 use Rattle.peer_side.proofs.Ends.{IsSide-pass, pass-goes}
-use Rattle.peer_side.proofs.Failing.{no_success, no_value}
+use Rattle.std.proofs.lemmas.Result.{IfOk-from_err}
 use Rattle.peer_side.proofs.side.PeerSide.refuse.Goals as goal
 
 pub invariant_of-self-2 : goal.invariant_of-self-2
@@ -32,7 +32,7 @@ returns-clause-adds g c =
     rw (sym c.self.view_is) (record { draws = draws; goes = pass-goes i.rows i.marking i.markings i.mirroring i.entries c.enter.new.entries.entries draws.adds.number made c.self.invariant.0 draws.adds.added passes; threads = refl })
 
 pub returns-in_err-take_room-clause-reply : goal.returns-in_err-take_room-clause-reply
-returns-in_err-take_room-clause-reply g c = no_value c.from_residual.result _ c.from_residual.ensures.0
+returns-in_err-take_room-clause-reply g c = IfOk-from_err c.from_residual.result _ c.from_residual.ensures.0
 
 pub returns-in_err-take_room-clause-adds : goal.returns-in_err-take_room-clause-adds
-returns-in_err-take_room-clause-adds g c = no_success c.from_residual.result _ c.from_residual.ensures.0
+returns-in_err-take_room-clause-adds g c = IfOk-from_err c.from_residual.result _ c.from_residual.ensures.0

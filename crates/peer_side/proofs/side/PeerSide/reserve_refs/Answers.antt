@@ -3,7 +3,7 @@ use Rattle.std.proofs.Common.{Some, refl, sym, subst, arith}
 use Rattle.joint_model.specs.Sides.{AreTaken, peer_rules}
 use Rattle.peer_side.specs.Mirrors.{Mirrors}
 use Rattle.peer_side.specs.Sides.{IsSide}
-use Rattle.peer_side.proofs.Failing.{no_success}
+use Rattle.std.proofs.lemmas.Result.{IfOk-from_err}
 use Rattle.peer_side.proofs.Sides.{IsSide-roomy}
 use Rattle.peer_side.proofs.side.PeerSide.reserve_refs.Goals as goal
 
@@ -47,13 +47,13 @@ invariant_of-self-2 c =
     )
 
 pub returns-in_err-take_cycle-clause-ok : goal.returns-in_err-take_cycle-clause-ok
-returns-in_err-take_cycle-clause-ok c = no_success c.from_residual.result _ c.from_residual.ensures.0
+returns-in_err-take_cycle-clause-ok c = IfOk-from_err c.from_residual.result _ c.from_residual.ensures.0
 
 pub returns-in_err-all-clause-ok : goal.returns-in_err-all-clause-ok
-returns-in_err-all-clause-ok c = no_success c.from_residual-in_err-all.result _ c.from_residual-in_err-all.ensures.0
+returns-in_err-all-clause-ok c = IfOk-from_err c.from_residual-in_err-all.result _ c.from_residual-in_err-all.ensures.0
 
 pub returns-in_err-reserve_refs-clause-ok : goal.returns-in_err-reserve_refs-clause-ok
-returns-in_err-reserve_refs-clause-ok c = no_success c.from_residual-in_err-reserve_refs.result _ c.from_residual-in_err-reserve_refs.ensures.0
+returns-in_err-reserve_refs-clause-ok c = IfOk-from_err c.from_residual-in_err-reserve_refs.result _ c.from_residual-in_err-reserve_refs.ensures.0
 
 pub returns-in_err-reserve-clause-ok : goal.returns-in_err-reserve-clause-ok
-returns-in_err-reserve-clause-ok c = no_success c.from_residual-in_err-reserve.result _ c.from_residual-in_err-reserve.ensures.0
+returns-in_err-reserve-clause-ok c = IfOk-from_err c.from_residual-in_err-reserve.result _ c.from_residual-in_err-reserve.ensures.0

@@ -2,7 +2,7 @@
 use Rattle.std.proofs.Common.{◌∙◌, ◌≤◌, length, sym, arith}
 use Rattle.row_heap.proofs.Swept.{white-seen}
 use borrow.Author.Tests.{both_ways}
-use Rattle.row_heap.proofs.Results.{number-in, number-none, number-past}
+use Rattle.row_heap.proofs.Tested.{number-in, number-none, number-past}
 use Rattle.row_heap.proofs.Indexed.{stands-within}
 use Rattle.row_heap.proofs.Walked.{stands-seen}
 use Rattle.row_heap.proofs.heap.RowHeap.is_white.Goals as goal

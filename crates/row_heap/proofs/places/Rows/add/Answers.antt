@@ -1,7 +1,7 @@
 -- The key was vacant, so no place of the index has it.
 use Rattle.std.proofs.Common.{◌∙◌, arith}
 use Rattle.row_heap.proofs.Marked.{kept-are, kept-rows, pushed-are, pushed-rows}
-use Rattle.row_heap.proofs.Results.{on-err}
+use Rattle.joint_model.proofs.Results.{at_error}
 use Rattle.row_heap.proofs.places.Rows.add.Goals as goal
 
 pub invariant_of-self : goal.invariant_of-self
@@ -11,10 +11,10 @@ pub invariant_of-self-in_err-fields : goal.invariant_of-self-in_err-fields
 invariant_of-self-in_err-fields c = kept-are c.self.inside.slab c.take_room.new.slab _ _ _ _ _ _ c.take_room.ensures.kept.0 c.take_room.ensures.kept.1 c.take_room.ensures.kept.2 c.take_room.ensures.kept.3 c.self.invariant
 
 pub returns-in_err-take_room-clause-err : goal.returns-in_err-take_room-clause-err
-returns-in_err-take_room-clause-err c = on-err _ (kept-rows c.self.inside.slab c.take_room.new.slab _ _ _ _ _ _ c.take_room.ensures.kept.0 c.take_room.ensures.kept.1 c.take_room.ensures.kept.2 c.take_room.ensures.kept.3 ∙ c.self.view_is)
+returns-in_err-take_room-clause-err c = at_error _ (kept-rows c.self.inside.slab c.take_room.new.slab _ _ _ _ _ _ c.take_room.ensures.kept.0 c.take_room.ensures.kept.1 c.take_room.ensures.kept.2 c.take_room.ensures.kept.3 ∙ c.self.view_is)
 
 pub returns-in_err-fields-clause-err : goal.returns-in_err-fields-clause-err
-returns-in_err-fields-clause-err c = on-err _ (kept-rows c.self.inside.slab c.take_room.new.slab _ _ _ _ _ _ c.take_room.ensures.kept.0 c.take_room.ensures.kept.1 c.take_room.ensures.kept.2 c.take_room.ensures.kept.3 ∙ c.self.view_is)
+returns-in_err-fields-clause-err c = at_error _ (kept-rows c.self.inside.slab c.take_room.new.slab _ _ _ _ _ _ c.take_room.ensures.kept.0 c.take_room.ensures.kept.1 c.take_room.ensures.kept.2 c.take_room.ensures.kept.3 ∙ c.self.view_is)
 
 pub invariant_of-self-2 : goal.invariant_of-self-2
 invariant_of-self-2 c =

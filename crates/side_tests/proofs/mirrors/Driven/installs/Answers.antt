@@ -1,5 +1,5 @@
 -- The circle may be mirrored, and then it stands.
-use Rattle.std.proofs.Common.{false, refl, subst}
+use Rattle.std.proofs.Common.{refl, subst}
 use Rattle.side_tests.specs.Circles.{IsCircle}
 use Rattle.side_tests.proofs.Circles.{are-strong, circle-stands, members-are}
 use Rattle.side_tests.proofs.mirrors.Driven.installs.Goals as goal

@@ -1,14 +1,6 @@
--- What holds whatever a call answers, and what the test of a number for a row's says.
-use Rattle.std.proofs.Common.{◌≡◌, ℕ, ◌≤◌, ◌<◌, Bool, true, false, not, Result, Ok, Err, OnOk, OnErr, leb, eqb, sym, ◌∙◌, arith}
+-- What the test of a number for a row's says.
+use Rattle.std.proofs.Common.{◌≡◌, ℕ, ◌≤◌, ◌<◌, Bool, true, false, not, leb, eqb, sym, ◌∙◌, arith}
 use borrow.Author.Tests.{both_ways, eq-eqb, leb-false, leb-true, not-true}
-
-pub on-ok : {T E Q : Type 0} (r : Result T E) → Q → OnOk r Q
-on-ok (Ok x) q = q
-on-ok (Err e) q = tt
-
-pub on-err : {T E Q : Type 0} (r : Result T E) → Q → OnErr r Q
-on-err (Ok x) q = tt
-on-err (Err e) q = q
 
 pub number-in : (x n m : ℕ) (b : Bool) → (x ≡ 0 → ⊥) → b ≡ leb x m → m ≡ n → b ≡ true → (1 ≤ x) × (x ≤ n)
 number-in x n m b some is made up = (omega (arith, some), omega (arith, leb-true x m (sym is ∙ up), made))
