@@ -1,12 +1,12 @@
 -- The first place of a byte among the first 32, or 16, of a text. They are compared with it at once, and the answers are the bits of
 -- a number, of which the lowest stands first: so the number is 0 where none of them is the byte, and else the zeros at its
 -- end count those before the first that is.
-use Rattle.std.proofs.Common.{◌≡◌, ◌≢◌, ℕ, ◌+◌, ◌-◌, ◌%◌, ◌^◌, ◌<◌, ◌≤◌, Bool, cond, eqb, not, List, length, min, get_or, take, drop, map, replicate, sym, ◌∙◌, ap, arith, w8, true≢false, inl, inr}
+use Rattle.std.proofs.Common.{◌≡◌, ◌≢◌, ℕ, ◌+◌, ◌-◌, ◌%◌, ◌^◌, ◌<◌, ◌≤◌, Bool, cond, eqb, not, List, length, get_or, take, drop, map, replicate, sym, ◌∙◌, ap, arith, w8, true≢false, inl, inr}
 use lib.Lanes.{zip2, chunk, mask_l, top}
 use lib.Count.{count_trailing_zeros}
 use Rattle.std.specs.List.{prefix_len}
 use Rattle.std.proofs.lemmas.Bool.{cases_lt, eq-eqb, eqb-true, ne_eqb}
-use Rattle.std.proofs.lemmas.List.{get_or-drop, get_or-take}
+use Rattle.std.proofs.lemmas.List.{get_or-drop}
 use Rattle.std.proofs.lemmas.Simd.{length-chunk, bitmask_splat, first_set_mask_l, run_in_chunk_le, run_in_chunk_fails, run_in_chunk_stops}
 
 -- the bits that the comparison of the first n gives
@@ -40,13 +40,6 @@ run_none n bs byte small h z = run_is n bs byte n h (rw z at (counted n bs byte 
 
 pub run_some : (n : ℕ) (bs : List ℕ) (byte : ℕ) → n ≤ 64 → n ≤ length bs → bits_of n bs byte ≢ 0 → Run n bs byte (count_trailing_zeros 64 (bits_of n bs byte))
 run_some n bs byte small h z = run_is n bs byte (count_trailing_zeros 64 (bits_of n bs byte)) h (ap (λ b. cond b n (count_trailing_zeros 64 (bits_of n bs byte))) (sym (ne_eqb (bits_of n bs byte) 0 z)) ∙ counted n bs byte small h)
-
--- the first len of a text, of which r come before the byte
-pub none_before : (bs : List ℕ) (byte len r : ℕ) → ((k : ℕ) → k < r → get_or bs k 0 ≢ byte) → (k : ℕ) → k < min r len → get_or (take len bs) k 0 ≢ byte
-none_before bs byte len r before k l e = before k (omega (arith, l)) (sym (get_or-take len bs k 0 (omega (arith, l))) ∙ e)
-
-pub found_there : (bs : List ℕ) (byte len r : ℕ) → get_or bs r 0 ≡ byte → min r len < len → get_or (take len bs) (min r len) 0 ≡ byte
-found_there bs byte len r f l = let same : min r len ≡ r = omega (arith, l) in rw same (get_or-take len bs r 0 (omega (arith, l, same)) ∙ f)
 
 -- behind the first n, none of which is the byte, the search goes on
 pub further : (n r byte : ℕ) (bs : List ℕ) → ((k : ℕ) → k < n → get_or bs k 0 ≢ byte) → ((k : ℕ) → k < r → get_or (drop n bs) k 0 ≢ byte) → (k : ℕ) → k < n + r → get_or bs k 0 ≢ byte

@@ -75,10 +75,6 @@ Sends-short a b p q f g e x y w = record {
   cause = w.cause;
 }
 
--- a text that begins with what was written before, and goes on with what was written now
-pub BuffersText-into : (a b c : Option (List ℕ)) (p q r before piece whole : List ℕ) → whole ≡ before ++ piece → BuffersText a b p q before → BuffersText b c q r piece → BuffersText a c p r whole
-BuffersText-into a b c p q r before piece whole e v w = rw e (BuffersText-then a b c p q r before piece v w)
-
 -- a text that begins with what was written before, and goes on with a piece that failed
 pub Sends-into : {E : Type 0} (a b c : Option (List ℕ)) (p q r : List ℕ) (f g k : ℕ) (z : E) (before piece rest whole : List ℕ) → whole ≡ (before ++ piece) ++ rest → BuffersText a b p q before → f ≤ g → Sends {E = E} b c q r g k (Err z) piece → Sends {E = E} a c p r f k (Err z) whole
 Sends-into a b c p q r f g k z before piece rest whole e v l w = rw e (Sends-short a c p r f k z (before ++ piece) rest (Sends-after a b c p q r f g k (Err z) before piece v l w))

@@ -56,10 +56,7 @@ pub record IsShown (m : Managed) (minds : ℕ → Mind) (groups : List (Option G
   pub disjoint : (i j : ℕ) (g k : Group) (z : ℕ) → slot groups i ≡ Some g → slot groups j ≡ Some k → Names g z → Names k z → i ≡ j
   pub fresh : (t v : ℕ) (x : Seen) (i : ℕ) (g : Group) → (minds t).stored ≡ false → at (minds t).slots v ≡ Some x → slot groups i ≡ Some g → Names g x.number → ⊥
 
--- the thread's variables are within the list, and a place is that of one variable alone
-pub within : (t v : ℕ) → t ≤ 8 → v < 8 → place t v < 72
-within t v a b = omega (arith, a, b)
-
+-- a place is that of one variable alone
 pub one-place : (t u v w : ℕ) → v < 8 → w < 8 → place t v ≡ place u w → (t ≡ u) × (v ≡ w)
 one-place t u v w a b e = (omega (arith, a, b, e), omega (arith, a, b, e))
 

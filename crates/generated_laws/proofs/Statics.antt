@@ -54,12 +54,6 @@ record IsFilled (seed i size shape : ℕ) : Type 0 where
   pub early : i < size
   pub shapes : shape_of seed i ≡ shape
 
-by-shape : (k a b : ℕ) → (k ≡ 0) ⊎ (k ≡ 1) ⊎ (k ≡ 2) ⊎ (3 ≤ k)
-by-shape zero a b = inl refl
-by-shape (suc zero) a b = inr (inl refl)
-by-shape (suc (suc zero)) a b = inr (inr (inl refl))
-by-shape (suc (suc (suc n))) a b = inr (inr (inr (omega arith)))
-
 -- the statics of the managed heap
 cached-to : (seed i : ℕ) → i < 16 → (size : ℕ) → 0 < total (filled_by i) (generated seed size) → IsFilled seed i size 1
 cached-to seed i l zero p = absurd (omega (arith, p))

@@ -5,11 +5,11 @@ use Rattle.std.proofs.Common.{◌≡◌, ℕ, zero, suc, ◌+◌, ◌-◌, ◌<�
 use Rattle.std.specs.Prelude.{Contains, All, slice_get}
 use Rattle.std.specs.Option.{ForSome, IfSome}
 use Rattle.std.proofs.Math.ListN.{length-set}
-use Rattle.std.proofs.lemmas.List.Elements.{Contains-append_cases, Contains-append_left, Contains-append_right, Contains-push, Contains-push_cases, All-contains, All-cons, All-nil}
+use Rattle.std.proofs.lemmas.List.Elements.{Contains-append_cases, Contains-append_left, Contains-append_right, Contains-push, Contains-push_cases, All-contains}
 use Rattle.std.proofs.lemmas.List.{take-map}
 use Rattle.std.proofs.lemmas.Option.{slice_get_within, same_Some}
 use Rattle.joint_model.specs.Components.{Rises}
-use Rattle.joint_model.specs.Heaps.{Heap, MOST, IsLive, InSlot, numbered_at, numbered_set, fields_of, opening_heap, with_object, with_var, with_static, with_field, with_freed}
+use Rattle.joint_model.specs.Heaps.{Heap, MOST, IsLive, InSlot, numbered_at, numbered_set, fields_of, with_object, with_var, with_static, with_field, with_freed}
 use Rattle.joint_model.proofs.Members.{Contains-cons_cases, Contains-at, Contains-decided}
 use Rattle.joint_model.proofs.Numbered.{Contains-set_cases, numbered-within, numbered-made, numbered-push_cases, numbered_set-length, replicate-none}
 use Rattle.joint_model.proofs.HeapLemmas.{IsLive-before, IsLive-left, IsLive-later}
@@ -88,11 +88,6 @@ write-is k h x i o fs rows same e f =
     let there : fields_of k x ≡ fs = subst (λ (l : Heap). fields_of l x ≡ fs) (sym same) e in
     let put : record k { fields = rows } ≡ with_field k x i o = ap (λ (l : List (List (Option ℕ))). record k { fields = l }) (f ∙ ap (λ (l : List (Option ℕ)). numbered_set k.fields x (set l i o)) (sym there)) in
     put ∙ ap (λ (l : Heap). with_field l x i o) same
-
-pub IsSound-write : (k h : Heap) (ups : List Bool) (room x i : ℕ) (o : Option ℕ) (fs : List (Option ℕ)) (rows : List (List (Option ℕ))) → k ≡ h → IsSound k ups room → IsLive h x → ForSome o (IsLive h) → fields_of h x ≡ fs → rows ≡ numbered_set k.fields x (set fs i o) → IsSound (record k { fields = rows }) ups room
-IsSound-write k h ups room x i o fs rows same s l p e f =
-    subst (λ (m : Heap). IsSound m ups room) (sym (write-is k h x i o fs rows same e f))
-    (IsSound-field h ups room x i o (subst (λ (m : Heap). IsSound m ups room) same s) l p)
 
 -- a heap without objects
 pub IsSound-empty : (rows : List (List (Option ℕ))) (gone : List ℕ) (ups : List Bool) (vs ss : List (Option ℕ)) (room : ℕ) → rows ≡ [] → gone ≡ [] → ups ≡ [] → vs ≡ replicate 72 None → ss ≡ replicate 16 None
@@ -297,15 +292,6 @@ IsSound-added h ups ups' room space n rows gone s few l e f u =
     subst (λ (z : List (List (Option ℕ))). IsSound (record { fields = z; freed = gone; vars = h.vars; statics = h.statics }) ups' space) (sym e)
     (subst (λ (z : List ℕ). IsSound (record { fields = h.fields ++ replicate n None ∷ []; freed = z; vars = h.vars; statics = h.statics }) ups' space) (sym f)
     (subst (λ (z : List Bool). IsSound (with_object h n) z space) (sym u) whole))
-
--- the one object of a heap in which nothing names it may be freed
-pub CanFree-lone : (n : ℕ) → CanFree (with_object opening_heap n) (1 ∷ [])
-CanFree-lone n = record {
-  live = All-cons (IsLive (with_object opening_heap n)) 1 [] (record { made = (omega arith, omega arith); kept = λ c. absurd (omega (arith, c.1)) }) (All-nil (IsLive (with_object opening_heap n)));
-  rises = (All-nil (λ y. 1 < y), tt);
-  unnamed = λ x c i. elim i [ inl v ↦ replicate-none 72 x v | inr v ↦ replicate-none 16 x v ];
-  unheld = λ x y l n c f. n (let e : 1 ≡ x = omega (arith, l.made.0, l.made.1) in subst (Contains (1 ∷ [])) e (0, omega arith, refl));
-}
 
 -- the object that was made last is live: k are the tables after h
 pub IsLive-last : (h k : Heap) (x : ℕ) → IsTidy h → x ≡ length h.fields + 1 → length k.fields ≡ length h.fields + 1 → k.freed ≡ h.freed → IsLive k x

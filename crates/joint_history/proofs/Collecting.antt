@@ -1,10 +1,9 @@
 -- A collect under the peer lock: what the side's call draws by a seat, and what the locked seat and the caller know after it.
-use Rattle.std.proofs.Common.{◌≡◌, inl, inr, ⊎_elim, ℕ, Bool, true, ◌||◌, ◌<◌, ◌≤◌, ◌^◌, List, [], ◌∷◌, ◌++◌, length, Option, Some, None, refl, sym, ap, ◌∙◌, subst, append-nil, append_assoc, arith}
-use Rattle.std.specs.Prelude.{if◌then◌else◌, nat_eq, Result, Ok, Err, IfOk, OnErr}
+use Rattle.std.proofs.Common.{◌≡◌, inl, inr, ⊎_elim, ℕ, Bool, ◌<◌, ◌≤◌, ◌^◌, List, [], ◌∷◌, ◌++◌, length, Option, Some, None, refl, sym, ap, ◌∙◌, subst, append-nil, append_assoc, arith}
+use Rattle.std.specs.Prelude.{if◌then◌else◌, Result, Ok, Err, IfOk, OnErr}
 use Rattle.std.specs.Option.{unwrap_or}
 use mathlib.Core.List.{IsPrefix}
 use base.Growing.{prefix_refl, prefix_trans}
-use Rattle.std.proofs.lemmas.Cmp.{nat_eq_equiv}
 use Rattle.joint_model.specs.declared.names.MNum.{MNum}
 use Rattle.joint_model.specs.declared.names.Marking.{Marking as Number}
 use Rattle.joint_model.specs.declared.names.Span.{Span}
@@ -23,7 +22,7 @@ use Rattle.joint_model.specs.Heaps.{answer}
 use Rattle.joint_model.specs.HistoryLines.{caller_line}
 use Rattle.joint_model.specs.Lines.{IsPeerThread, IsThread}
 use Rattle.joint_model.specs.Linked.{peer_after}
-use Rattle.joint_model.specs.PeerReplay.{Marking, PeerReplay, SweepAllows, is_thread, peer_answer, swept, swept_of}
+use Rattle.joint_model.specs.PeerReplay.{Marking, PeerReplay, SweepAllows, peer_answer, swept, swept_of}
 use Rattle.joint_model.specs.Sides.{Drawing, Making, Side, SideRules, GoesOn, AddsLawful, AddsInTurn, peer_rules}
 use Rattle.joint_model.specs.Told.{Told, nothing, sweep_of}
 use Rattle.known_laws.specs.Pasts.{end_of}
@@ -61,14 +60,6 @@ record AnswersSwept (reply : Reply) : Type 0 where
   pub marking : Number
   pub freed : Span
   pub is : reply ≡ says.Swept marking freed
-
-same_number : (n : ℕ) → nat_eq n n ≡ true
-same_number n = nat_eq_equiv.refl n
-
-by_itself : (t : Thread) → (is_thread t C || is_thread t t) ≡ true
-by_itself (M n) = same_number n
-by_itself (P n) = same_number n
-by_itself C = refl
 
 swept_so : (s : PeerReplay) (o : Option Marking) (t : Thread) (gone : List ℕ) → SweepAllows s o t (sweep_of gone) → AnswersSwept (swept s o t gone).reply
 swept_so s None (M n) gone w = absurd w

@@ -7,7 +7,7 @@ use Rattle.std.specs.Option.{option_map}
 use Rattle.std.proofs.Math.ListN.{length-set}
 use Rattle.std.proofs.lemmas.List.Elements.{Contains-push, Contains-push_cases, Contains-append_left}
 use Rattle.std.proofs.lemmas.List.{take_all, map-set, map-append, length-map}
-use Rattle.std.proofs.lemmas.Option.{slice_get-get_or, slice_get-map, slice_get_read}
+use Rattle.std.proofs.lemmas.Option.{slice_get-map, slice_get_read}
 use Rattle.joint_model.specs.Heaps.{Heap, IsLive, fields_of, slot}
 use Rattle.joint_model.specs.Joint.{Graph, IsJoined}
 use Rattle.joint_model.proofs.Members.{last-or, take-next}
@@ -128,10 +128,6 @@ pub record PlacesBelow (live : ℕ → Type 0) (node : ℕ → ℕ) (x : ℕ) (f
   pub held : Contains (take i fields) (Some target)
   pub there : live target
   pub ends : IsPair (node x) (node target) k j
-
-slot-some : (o : Option (Option ℕ)) (p q : Option ℕ) → o ≡ Some p → elim o [ None ↦ None | Some x ↦ x ] ≡ q → o ≡ Some q
-slot-some None p q e f = cc
-slot-some (Some x) p q e f = ap Some f
 
 -- one place more, which holds a target
 pub Places-push : (live : ℕ → Type 0) (node : ℕ → ℕ) (x : ℕ) (fields : List (Option ℕ)) (i y : ℕ) (a b c : List (List ℕ)) → i < length fields → slot fields i ≡ Some y → live y → AddsEdges (PlacesBelow live node x fields i) a b → AddsEdges (IsPair (node x) (node y)) b c → AddsEdges (PlacesBelow live node x fields (i + 1)) a c

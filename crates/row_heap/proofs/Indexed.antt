@@ -1,6 +1,6 @@
 -- The rows that an index shows, where one place of it, or one row of the slab, changes. A key stands in the index once, so what happens under
 -- it is seen at one number alone; and a key that was vacant stands nowhere in the index.
-use Rattle.std.proofs.Common.{◌≡◌, ◌≢◌, ℕ, zero, suc, ◌+◌, ◌-◌, ◌≤◌, ◌<◌, ◌⊎◌, inl, inr, true, false, List, [], ◌∷◌, ◌++◌, map, length, Option, Some, None, is_some, set, get_or, refl, sym, ap, subst, ◌∙◌, arith}
+use Rattle.std.proofs.Common.{◌≡◌, ◌≢◌, ℕ, zero, suc, ◌-◌, ◌≤◌, ◌⊎◌, inl, inr, true, false, List, [], ◌∷◌, ◌++◌, map, length, Option, Some, None, is_some, set, get_or, refl, sym, ap, subst, ◌∙◌, arith}
 use Rattle.std.specs.Prelude.{slice_get, slice_index_or}
 use Rattle.std.proofs.lemmas.Bool.{cases_eq}
 use Rattle.std.proofs.lemmas.List.{length-map, map-append}
@@ -189,27 +189,3 @@ rows-self rows zero r one le e = refl
 rows-self [] (suc i) r one le e = refl
 rows-self (q ∷ rows) (suc zero) r one le e = ap (λ z. z ∷ rows) e
 rows-self (q ∷ rows) (suc (suc i)) r one le e = ap (λ z. q ∷ z) (rows-self rows (suc i) r (omega arith) (omega arith) e)
-
--- the row of number n + 1 is the element at index n
-pub row_at-index : (rows : List Seen) (n : ℕ) (d : Seen) → n < length rows → row_at rows (n + 1) ≡ get_or rows n d
-row_at-index rows n d l = (let e : n + 1 ≡ suc n = omega arith in rw e (row_at-suc rows n d l))
-  where
-    row_at-suc : (rows : List Seen) (n : ℕ) (d : Seen) → n < length rows → row_at rows (suc n) ≡ get_or rows n d
-    row_at-suc [] n d l = absurd (omega arith)
-    row_at-suc (r ∷ rows) zero d l = refl
-    row_at-suc (r ∷ rows) (suc n) d l = row_at-suc rows n d (omega arith)
-
-pub set-index : (rows : List Seen) (n : ℕ) (r : Seen) → numbered_set rows (n + 1) r ≡ set rows n r
-set-index rows n r = (let e : n + 1 ≡ suc n = omega arith in rw e refl)
-
--- a row with a mark stands
-pub marked-stands : (s : Slab Row) (places : List RowPlace) (x : ℕ) → (row_at (map (seen_at s) places) x).marked ≡ true → (row_at (map (seen_at s) places) x).stands ≡ true
-marked-stands s places zero e = (let f : ⊥ = cc in absurd f)
-marked-stands s [] (suc i) e = (let f : ⊥ = cc in absurd f)
-marked-stands s (Gone kept ∷ places) (suc zero) e = (let f : ⊥ = cc in absurd f)
-marked-stands s (At key ∷ places) (suc zero) e = by_slot (get s key) e
-  where
-    by_slot : (o : Option Row) → (let z : Seen = elim o [ None ↦ gone [] | Some r ↦ standing r ] in z).marked ≡ true → (let z : Seen = elim o [ None ↦ gone [] | Some r ↦ standing r ] in z).stands ≡ true
-    by_slot None f = (let g : ⊥ = cc in absurd g)
-    by_slot (Some r) f = refl
-marked-stands s (p ∷ places) (suc (suc i)) e = marked-stands s places (suc i) e

@@ -146,18 +146,6 @@ stand-down rows z e = absurd (unmarked-none rows z (row-marked (map unmarked_row
 pub AreRows-as : (s : Slab Row) (places : List RowPlace) (marks : List Bool) (links : List ℕ) (rows : List Seen) → IsIndex s places → length marks ≡ length places → length links ≡ length places → with_marks (map (seen_at s) places) marks links ≡ rows → DoMarkedStand rows → AreRows s places marks links
 AreRows-as s places marks links rows index em el view up = record { index = index; marks_len = em; links_len = el; up = subst DoMarkedStand (sym view) up }
 
--- a row is marked by the lists
-IsMarked-set : (marks : List Bool) (i k : ℕ) → HasMark (set marks i true) k → HasMark marks k ⊎ (k ≡ i)
-IsMarked-set [] i k e = inl e
-IsMarked-set (m ∷ marks) zero zero e = inr refl
-IsMarked-set (m ∷ marks) zero (suc k) e = inl e
-IsMarked-set (m ∷ marks) (suc i) zero e = inl e
-IsMarked-set (m ∷ marks) (suc i) (suc k) e = elim (IsMarked-set marks i k e) [ inl w ↦ inl w | inr w ↦ inr (ap suc w) ]
-
-pub fresh-row : (y : ℕ) (marks : List Bool) (k : ℕ) → 1 ≤ y → HasMark (false ∷ set marks (y - 1) true) k → HasMark (false ∷ marks) k ⊎ (k ≡ y)
-fresh-row y marks zero one e = inl e
-fresh-row y marks (suc k) one e = elim (IsMarked-set marks (y - 1) k e) [ inl w ↦ inl w | inr w ↦ inr (omega (arith, w, one)) ]
-
 pub greyed-row : (y : ℕ) (marks : List Bool) (links : List ℕ) (h : ℕ) → 1 ≤ y → y ≤ length marks → length links ≡ length marks → get_or marks (y - 1) false ≡ false
     → Greyed (λ z. z ≡ y) (false ∷ marks) (0 ∷ links) h (false ∷ set marks (y - 1) true) (0 ∷ set links (y - 1) h) y
 greyed-row y marks links h one le el down =

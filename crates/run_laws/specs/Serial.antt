@@ -1,6 +1,6 @@
 -- A run line after line: the driver's seat hears of each line's entries and tells the next line's caller, so that numbers rise from line to
 -- line and what all callers hold is the script in its order.
-use Rattle.std.specs.Prelude.{◌≡◌, ℕ, ◌+◌, ◌≤◌, ◌<◌, List, [], ◌∷◌, ◌++◌, All, Contains, Some, length, slice_get, slice_set}
+use Rattle.std.specs.Prelude.{◌≡◌, ℕ, ◌+◌, List, [], ◌∷◌, ◌++◌, All, Contains, Some, length, slice_get, slice_set}
 use mathlib.Core.List.{IsPrefix}
 use Rattle.joint_model.specs.declared.names.Thread.{Thread}
 use Rattle.joint_model.specs.declared.names.Thread.TheVariants.{C}
@@ -13,9 +13,9 @@ use Rattle.joint_model.specs.Lines.{IsThread}
 use Rattle.joint_model.specs.Linked.{IsLinked}
 use Rattle.order_table.specs.declared.views.View.{View}
 use Rattle.order_table.specs.Views.{known}
-use Rattle.joint_history.specs.Callers.{Hears, Pass, Tells, last_index, own}
+use Rattle.joint_history.specs.Callers.{Hears, Pass, Tells, own}
 use Rattle.joint_history.specs.Desks.{Waiting, thread_of}
-use Rattle.joint_history.specs.Ending.{HasAll, HasOwn, threads_of}
+use Rattle.joint_history.specs.Ending.{HasAll, HasOwn}
 use Rattle.joint_history.specs.Knowing.{line_known}
 use Rattle.joint_history.specs.Operations.{AreAbove, MakesAll}
 use Rattle.script_laws.specs.Growing.{numbers_of}
@@ -42,11 +42,6 @@ DriversAdd = (driver after : Pass) (es : List Entry) → after.thread ≡ driver
 pub record AreOthers (others : List Pass) : Type 0 where
   pub count : length others ≡ 16
   pub each : (i : ℕ) (p : Pass) → slice_get others i ≡ Some p → p.thread ≡ thread_of (i + 1)
-
--- no caller has come past the line
-pub record AreCallersUpTo (line : ℕ) (driver : Pass) (others : List Pass) : Type 0 where
-  pub driven : last_index (own driver) ≤ line
-  pub each : (i : ℕ) (p : Pass) → slice_get others i ≡ Some p → last_index (own p) ≤ line
 
 -- these lines have been run, one after another: the entries made are theirs, each caller has its own of them, the driver's seat knows them
 -- all, and their numbers rise where those of each caller do

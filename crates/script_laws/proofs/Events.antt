@@ -303,7 +303,3 @@ of-peer (M n) (inr h) = absurd h
 of-peer (P n) (inl h) = h
 of-peer (P n) (inr h) = absurd h
 of-peer C h = tt
-
-of-driver : (t : Thread) → IsDriver t → IsThread t
-of-driver C h = tt
-of-driver t h = absurd h

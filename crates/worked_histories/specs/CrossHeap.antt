@@ -59,9 +59,6 @@ collected =
 abbrev pub cross_heap_cycle : List Noted
 cross_heap_cycle = passed_on ++ (let_go ++ collected)
 
--- the state once the peers are in the statics, and once everything has let go
+-- the state once the peers are in the statics
 abbrev pub once_passed : Linkage
 once_passed = replayed opening_linkage passed_on
-
-abbrev pub once_let_go : Linkage
-once_let_go = replayed once_passed let_go

@@ -57,9 +57,6 @@ once_pinned = replayed opening_linkage pinned_once
 abbrev pub before_pinned_cycle : Linkage
 before_pinned_cycle = replayed once_pinned pinned_twice
 
-abbrev pub after_pinned_cycle : Linkage
-after_pinned_cycle = replayed before_pinned_cycle pinned_cycle
-
 -- a second read that may come there answers that the object is pinned, and nothing else
 abbrev pub ReadsPinned : Type 0
 ReadsPinned = (reply : Reply) → MayCome once_pinned (note 6 (M 1) 6 (op.Line (act.Read (cell_no 5))) reply None nothing) → reply ≡ says.Pinned (object_no 1)

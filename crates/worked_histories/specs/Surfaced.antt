@@ -6,7 +6,6 @@ use Rattle.joint_model.specs.declared.names.Kind.TheVariants as kind
 use Rattle.joint_model.specs.declared.lines.Act.TheVariants as act
 use Rattle.joint_model.specs.declared.events.Op.TheVariants as op
 use Rattle.joint_model.specs.declared.events.Reply.TheVariants as says
-use Rattle.joint_model.specs.Linked.{Linkage, opening_linkage, replayed}
 use Rattle.joint_model.specs.Told.{nothing, Noted}
 use Rattle.worked_histories.specs.Notes.{note, var, static_no, object_no, peer_no, handle_no}
 
@@ -37,7 +36,3 @@ surfaced =
 -- the whole history
 abbrev pub disposed_and_surfaced : List Noted
 disposed_and_surfaced = disposed ++ surfaced
-
--- the state once the handle is given up
-abbrev pub once_disposed : Linkage
-once_disposed = replayed opening_linkage disposed
