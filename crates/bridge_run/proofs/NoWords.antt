@@ -5,7 +5,7 @@ use Rattle.std.specs.declared.string.String.{String}
 use Rattle.std.specs.declared.vec.IntoIter.{IntoIter}
 use Rattle.joint_model.proofs.Members.{Contains-cons_cases, Contains-map_cases, Contains-nil}
 use Rattle.command_words.specs.declared.commands.Command.TheVariants as command
-use Rattle.command_words.specs.Commands.{generator_words}
+use Rattle.command_words.specs.Commands.{generator_words, mode_text}
 use Rattle.bridge_run.specs.Ends.{words_told}
 use Rattle.bridge_run.specs.Top.{IsCommand}
 
@@ -13,8 +13,7 @@ no_one : (w : List ℕ) → Contains ((w ∷ []) ∷ []) [] → ⊥
 no_one w c = ⊎_elim (λ (e : (w ∷ []) ≡ []). cc) (λ n. Contains-nil [] n) (Contains-cons_cases (w ∷ []) [] [] c)
 
 pub no_words : IsCommand [] → ⊥
-no_words (command.Serial, a) = no_one (codes "serial") a.given
-no_words (command.Threads, a) = no_one (codes "threads") a.given
+no_words (command.Run m, a) = no_one (mode_text m) a.given
 no_words (command.Generate seed size m, a) = some_word (Contains-map_cases (λ rest. codes "gen" ∷ rest) (generator_words seed size m) [] a.given)
   where
     some_word : (rest : List (List ℕ)) × Contains (generator_words seed size m) rest × ((codes "gen" ∷ rest) ≡ []) → ⊥

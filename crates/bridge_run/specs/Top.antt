@@ -22,18 +22,13 @@ use Rattle.run_summary.specs.Summary.{summary_text}
 use Rattle.run_summary.specs.Tallies.{tally_of}
 use Rattle.script_generator.specs.Generated.{generated}
 
--- the command that reads a script and runs it in a mode: one word
-abbrev pub one_word : Mode → Command
-one_word mode.Serial = command.Serial
-one_word mode.Threads = command.Threads
-
 -- the words, as bytes, are a command
 abbrev pub IsCommand : List (List ℕ) → Type 0
 IsCommand words = (c : Command) × AreWordsOf words c
 
 -- they are one that reads a script
 abbrev pub ReadsScript : List (List ℕ) → Type 0
-ReadsScript words = (m : Mode) × AreWordsOf words (one_word m)
+ReadsScript words = (m : Mode) × AreWordsOf words (command.Run m)
 
 -- the line that tells how the program is called
 abbrev pub usage_text : List ℕ
@@ -66,7 +61,7 @@ pub record RunPrinted (asked : Mode) (left rest held after : Option (List ℕ)) 
 -- a report was printed, in the mode that the words ask for
 pub record PrintedReport (words : List (List ℕ)) (left rest held after : Option (List ℕ)) : Type 0 where
   pub asked : Mode
-  pub command : AreWordsOf words (one_word asked)
+  pub command : AreWordsOf words (command.Run asked)
   pub printed : RunPrinted asked left rest held after
 
 -- a summary was printed: the words ask for a script to be made and for a mode, nothing was read, and the summary of a history of its run in that mode,
@@ -102,7 +97,7 @@ pub record RunPart (asked : Mode) (left rest held after : Option (List ℕ)) : T
 -- the writing of a report broke off, in the mode that the words ask for
 pub record ReportPart (words : List (List ℕ)) (left rest held after : Option (List ℕ)) : Type 0 where
   pub asked : Mode
-  pub command : AreWordsOf words (one_word asked)
+  pub command : AreWordsOf words (command.Run asked)
   pub run : RunPart asked left rest held after
 
 -- the writing of a summary broke off: as when it was printed, but only a beginning was appended

@@ -51,15 +51,24 @@ pub fn bridge_main<R: Threads + Wait + Sync, S: Source, K: Sink, T: Turnstile + 
 {
     words_tell_commands();
     match command_of(words) {
-        Some(Command::Serial) => print_script(rt, alloc, Mode::Serial, src, out, turn),
-        Some(Command::Threads) => print_script(rt, alloc, Mode::Threads, src, out, turn),
+        Some(Command::Run { mode }) => print_script(rt, alloc, mode, src, out, turn),
         Some(Command::Generate { seed, size, mode }) => {
             print_generated(rt, alloc, seed, size, mode, out, turn)
         }
-        None => match write_text(out, b"usage: bridge_run COMMAND\n") {
-            Ok(()) => USAGE,
-            Err(_) => WRITE_FAULT,
-        },
+        None => print_usage(out),
+    }
+}
+
+// Writes the line that tells how the program is called.
+fn print_usage<K: Sink>(out: &mut K) -> u8
+    ensures usage { result ≡ 1 → Appends (K.held out.old) (K.held out.new) usage_text }
+    ensures write { result ≡ 4 → Rose (K.faults out.old) (K.faults out.new) }
+    ensures part { result ≡ 4 → AppendsPart (K.held out.old) (K.held out.new) usage_text }
+    ensures status { (result ≡ 1) ⊎ (result ≡ 4) }
+{
+    match write_text(out, b"usage: bridge_run COMMAND\n") {
+        Ok(()) => USAGE,
+        Err(_) => WRITE_FAULT,
     }
 }
 

@@ -3,7 +3,6 @@ use Rattle.std.proofs.Common.{◌≡◌, ◌≢◌, ℕ, zero, suc, ◌≤◌, �
 use Rattle.std.specs.Prelude.{Contains, bytes_eq, codes, decimal}
 use Rattle.std.specs.Cmp.Lexicographic.{same_text, other_text}
 use Rattle.command_words.specs.declared.commands.Mode.{Mode}
-use Rattle.command_words.specs.declared.commands.Mode.TheVariants as mode
 use Rattle.command_words.specs.declared.commands.Command.{Command}
 use Rattle.command_words.specs.declared.commands.Command.TheVariants as command
 use Rattle.command_words.specs.Commands.{in_any_order, mode_text, AreWordsOf}
@@ -105,12 +104,10 @@ one text words (suc k, l, e) = let few : suc k < 1 = l in absurd (omega (arith, 
 
 -- of one word, none that is a mode's
 pub not_one : (words : List (List ℕ)) → length words ≡ 1 → ((m : Mode) → mode_text m ≢ word_at words 0) → (c : Command) → AreWordsOf words c → ⊥
-not_one words l none command.Serial a = none mode.Serial (ap (λ w. word_at w 0) (one (codes "serial") words a.given))
-not_one words l none command.Threads a = none mode.Threads (ap (λ w. word_at w 0) (one (codes "threads") words a.given))
+not_one words l none (command.Run m) a = none m (ap (λ w. word_at w 0) (one (mode_text m) words a.given))
 not_one words l none (command.Generate seed size m) a = let seven = (values (decimal seed) (decimal size) (mode_text m) words a.given).seven in absurd (omega (arith, seven, l))
 
 -- of seven words, none that are the generator's
 pub not_seven : (words : List (List ℕ)) → length words ≡ 7 → ((seed size : ℕ) (m : Mode) → seed < 2 ^ 64 → size ≤ 2800 → Values words (decimal seed) (decimal size) (mode_text m) → ⊥) → (c : Command) → AreWordsOf words c → ⊥
-not_seven words l none command.Serial a = let single = sym (ap length (one (codes "serial") words a.given)) in absurd (omega (arith, single, l))
-not_seven words l none command.Threads a = let single = sym (ap length (one (codes "threads") words a.given)) in absurd (omega (arith, single, l))
+not_seven words l none (command.Run m) a = let single = sym (ap length (one (mode_text m) words a.given)) in absurd (omega (arith, single, l))
 not_seven words l none (command.Generate seed size m) a = none seed size m a.allowed.0 a.allowed.1 (values (decimal seed) (decimal size) (mode_text m) words a.given)

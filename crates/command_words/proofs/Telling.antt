@@ -32,14 +32,9 @@ apart : {A : Type 0} (words : List (List ℕ)) (text : List ℕ) → text ∷ []
 apart words text e l = let short : 1 ≡ length words = ap length e in absurd (omega (arith, short, l))
 
 pub tell : (words : List (List ℕ)) (c d : Command) → AreWordsOf words c → AreWordsOf words d → c ≡ d
-tell words command.Serial command.Serial a b = refl
-tell words command.Serial command.Threads a b = absurd (modes_differ (first_word _ _ words (one (codes "serial") words a.given) (one (codes "threads") words b.given)))
-tell words command.Serial (command.Generate s z m) a b = apart words (codes "serial") (one (codes "serial") words a.given) (values (decimal s) (decimal z) (mode_text m) words b.given).seven
-tell words command.Threads command.Serial a b = absurd (modes_differ (first_word _ _ words (one (codes "serial") words b.given) (one (codes "threads") words a.given)))
-tell words command.Threads command.Threads a b = refl
-tell words command.Threads (command.Generate s z m) a b = apart words (codes "threads") (one (codes "threads") words a.given) (values (decimal s) (decimal z) (mode_text m) words b.given).seven
-tell words (command.Generate s z m) command.Serial a b = apart words (codes "serial") (one (codes "serial") words b.given) (values (decimal s) (decimal z) (mode_text m) words a.given).seven
-tell words (command.Generate s z m) command.Threads a b = apart words (codes "threads") (one (codes "threads") words b.given) (values (decimal s) (decimal z) (mode_text m) words a.given).seven
+tell words (command.Run m) (command.Run n) a b = ap command.Run (same_mode m n (first_word _ _ words (one (mode_text m) words a.given) (one (mode_text n) words b.given)))
+tell words (command.Run m) (command.Generate s z n) a b = apart words (mode_text m) (one (mode_text m) words a.given) (values (decimal s) (decimal z) (mode_text n) words b.given).seven
+tell words (command.Generate s z m) (command.Run n) a b = apart words (mode_text n) (one (mode_text n) words b.given) (values (decimal s) (decimal z) (mode_text m) words a.given).seven
 tell words (command.Generate s z m) (command.Generate s' z' m') a b =
     let v = values (decimal s) (decimal z) (mode_text m) words a.given in
     let w = values (decimal s') (decimal z') (mode_text m') words b.given in

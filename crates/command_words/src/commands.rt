@@ -11,7 +11,6 @@ pub enum Mode {
 /// and a size, of at most 2,800 families, and to run that.
 #[derive(Clone, Copy, PartialEq, Eq, Debug)]
 pub enum Command {
-    Serial,
-    Threads,
+    Run { mode: Mode },
     Generate { seed: u64, size: u32, mode: Mode },
 }

@@ -3,7 +3,7 @@
 // A program calls `command_of` once, with the words behind its own name, before it reads anything. What it gets is a plain value, which keeps nothing of
 // the words:
 //
-//     serial                                     Command::Serial
+//     serial                                     Command::Run { mode: Mode::Serial }
 //     gen --size 8 --mode threads --seed 7       Command::Generate { seed: 7, size: 8, mode: Mode::Threads }
 //     serial serial                              no command
 //

@@ -29,8 +29,7 @@ fn one_word(words: &[String]) -> Option<Command>
     ensures { MatchOption result ((c : TheCommand) → AreWordsOf (map string_bytes words.now) c → ⊥) (λ c. AreWordsOf (map string_bytes words.now) c) }
 {
     match mode_of(word(words, 0)) {
-        Some(Mode::Serial) => Some(Command::Serial),
-        Some(Mode::Threads) => Some(Command::Threads),
+        Some(mode) => Some(Command::Run { mode }),
         None => None,
     }
 }

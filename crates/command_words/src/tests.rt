@@ -18,8 +18,13 @@ const LONGEST: Command = Command::Generate {
 };
 
 const LINES: [(&str, Option<Command>); 13] = [
-    ("serial", Some(Command::Serial)),
-    ("threads", Some(Command::Threads)),
+    ("serial", Some(Command::Run { mode: Mode::Serial })),
+    (
+        "threads",
+        Some(Command::Run {
+            mode: Mode::Threads,
+        }),
+    ),
     ("", None),
     ("--help", None),
     ("serial x", None),
