@@ -13,6 +13,25 @@ type Repeated = (
     &'static [u8],
 );
 
+// One line of each managed and each peer thread, which make twenty entries.
+const SIXTEEN: &[u8] = b"m1 bridge a bridge 1 user 1
+m2 new a plain 0
+m3 bridge a bridge 1 user 1
+m4 new a plain 0
+m5 bridge a bridge 1 user 1
+m6 new a plain 0
+m7 bridge a bridge 1 user 1
+m8 new a plain 0
+p1 new a 1
+p2 copy b a
+p3 new a 1
+p4 copy b a
+p5 new a 1
+p6 copy b a
+p7 new a 1
+p8 copy b a
+";
+
 const LARGE_RUNS: [Repeated; 5] = [
     (
         SERIAL,
@@ -36,13 +55,7 @@ const LARGE_RUNS: [Repeated; 5] = [
         3,
         b"line 20001: cause 8 lines\n",
     ),
-    (
-        THREADS,
-        b"m1 new a plain 0\nm2 bridge a bridge 1 user 1\np1 new a 1\np2 copy b a\n",
-        5_000,
-        0,
-        b"\nend 25000\n",
-    ),
+    (THREADS, SIXTEEN, 1_250, 0, b"\nend 25000\n"),
 ];
 
 #[test]
