@@ -1,5 +1,5 @@
 -- A list of one entry, the only list of a run, joins to the history of that entry, where the entry fits what the history's lists hold.
-use Rattle.std.proofs.Common.{◌≡◌, List, [], ◌∷◌, Some, slice_get, All, Contains, map, refl}
+use Rattle.std.proofs.Common.{◌≡◌, List, [], ◌∷◌, All, Contains, map, refl}
 use Rattle.std.proofs.lemmas.List.Elements.{All-nil, All-cons}
 use Rattle.joint_model.proofs.Members.{Contains-here}
 use Rattle.joint_model.specs.declared.names.MNum.{MNum}
