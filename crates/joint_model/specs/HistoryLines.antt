@@ -1,18 +1,18 @@
--- The lines of a history. Line 0 has its managed entries and line 1 its peer entries, the lines from 2 to 9 are left to readers, and
--- those from 10 on have the entries of one caller each. So each entry stands in two lines.
+-- The lines of a history. Line 0 has its managed entries and line 1 its peer entries, the lines from 2 to 9 have those of one reader each, and
+-- those from 10 on the entries of one caller each. So each entry stands in two lines.
 use Rattle.std.specs.Prelude.{ℕ, ◌+◌, ◌==◌, ◌||◌, Bool, if◌then◌else◌, List, [], ◌∷◌}
 use Rattle.joint_model.specs.declared.names.Thread.{Thread}
 use Rattle.joint_model.specs.declared.events.Entry.{Entry}
 use Rattle.joint_model.specs.Control.{caller_place}
-use Rattle.joint_model.specs.Lines.{is_peer_event}
+use Rattle.joint_model.specs.Lines.{list_line}
 
 -- the line of a caller
 abbrev pub caller_line : Thread → ℕ
 caller_line t = caller_place t + 10
 
--- the line of the side in whose list an entry belongs, by its event
+-- the line of the list in which an entry belongs, by its event
 abbrev pub side_line : Entry → ℕ
-side_line e = if is_peer_event e.made.caller e.made.op then 1 else 0
+side_line e = list_line e.made.caller e.made.op
 
 -- the entry stands in the line, by its event or by its caller
 abbrev pub stands_in : ℕ → Entry → Bool

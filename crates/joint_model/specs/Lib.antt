@@ -21,6 +21,7 @@ pub mod HistoryLines
 pub mod Linked
 pub mod Joined
 pub mod Readers
+pub mod LinkedHistories
 pub mod Sides
 pub mod Phases
 pub mod Gathered

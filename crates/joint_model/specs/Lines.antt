@@ -1,6 +1,6 @@
 -- Which operations a script line can have, which events an operation has, and on which side of the bridge
 -- an event is made. docs/SCRIPT.md has the words. (The limits are this project's own.)
-use Rattle.std.specs.Prelude.{◌≡◌, ℕ, ◌<◌, ◌≤◌, ◌⊎◌, Bool, true, false, Option, Some, None}
+use Rattle.std.specs.Prelude.{◌≡◌, ℕ, ◌+◌, ◌<◌, ◌≤◌, ◌⊎◌, Bool, true, false, if◌then◌else◌, Option, Some, None}
 use Rattle.joint_model.specs.declared.names.Var.{Var}
 use Rattle.joint_model.specs.declared.names.Thread.{Thread}
 use Rattle.joint_model.specs.declared.names.Thread.TheVariants.{M, P, C}
@@ -213,3 +213,24 @@ is_peer_event t (op.Clear k) = true
 is_peer_event t (op.Resolve k) = false
 is_peer_event t (op.Abandon k) = false
 is_peer_event t (op.Refused w) = false
+
+-- whether the event is a read of a cell
+abbrev pub is_read : Op → Bool
+is_read (op.Line (act.Read k)) = true
+is_read (op.Line (act.Await k)) = true
+is_read _ = false
+
+-- the line of a managed thread's reader; 0 where there is none
+abbrev pub reader_line : Thread → ℕ
+reader_line (M n) = 1 + n
+reader_line t = 0
+
+-- the line of the list in which an event's entry stands: the managed side's is 0, the peer side's 1, and those from 2 to 9 are the readers'
+abbrev pub list_line : Thread → Op → ℕ
+list_line t o = if is_peer_event t o then 1 else if is_read o then reader_line t else 0
+
+-- the events with which pins are kept: a snap and a `take`
+abbrev pub is_pinned : Op → Bool
+is_pinned (op.Snap k) = true
+is_pinned (op.Line (act.Take v)) = true
+is_pinned _ = false

@@ -1,15 +1,13 @@
--- Linked histories: the one list of entries in which both sides' own lists are lawful, the citations agree, and each
--- caller's events come in their order. And the joint projection: the entries that are steps of the joint machine.
-use Rattle.std.specs.Prelude.{◌≡◌, ℕ, ◌<◌, ◌≤◌, ◌^◌, Bool, true, false, if◌then◌else◌, List, [], ◌∷◌, length, map, filter, take}
+-- Lists of entries in which each may come when it comes: both sides' own lists are lawful, the citations agree, and each
+-- caller's events come in their order. Reads are events of the managed side here, as all others are; `LinkedHistories` has the histories, whose reads
+-- take no lock.
+use Rattle.std.specs.Prelude.{◌≡◌, ℕ, ◌<◌, ◌≤◌, ◌^◌, Bool, true, false, if◌then◌else◌, List, [], ◌∷◌, length, filter}
 use Rattle.joint_model.specs.declared.lines.Act.TheVariants as act
 use Rattle.joint_model.specs.declared.events.Op.{Op}
 use Rattle.joint_model.specs.declared.events.Op.TheVariants as op
 use Rattle.joint_model.specs.declared.events.Made.{Made}
 use Rattle.joint_model.specs.Control.{Control, opening_control, CallerAllows, control_after, last_line, candidates_of, doing_at, IsDone, IsAtRest}
-use Rattle.joint_model.specs.Draws.{NumberedFrom}
-use Rattle.joint_model.specs.Histories.{Finished, managed_numbers, peer_numbers}
 use Rattle.joint_model.specs.Lines.{IsEvent, is_peer_event}
-use Rattle.joint_model.specs.Managed.{Managed}
 use Rattle.joint_model.specs.ManagedReplay.{ManagedReplay, opening_replay, managed_answer, ManagedAllows}
 use Rattle.joint_model.specs.PeerReplay.{PeerReplay, opening_peer_replay, peer_answer, PeerAllows}
 use Rattle.joint_model.specs.Told.{Told, Noted}
@@ -80,31 +78,6 @@ pub record IsWhole (s : Linkage) : Type 0 where
   pub threads : (t : ℕ) → IsDone (doing_at s.control t)
   pub driver : IsAtRest s.control.stand (length (candidates_of s.managed.managed))
 
--- the managed objects at the end of a list of entries
-abbrev pub managed_end : List Noted → Managed
-managed_end ns = (replayed opening_linkage ns).managed.managed
-
--- a history is linked by these notes, which are its entries with what is told beside them: the numbers are those from 0
--- on, each entry may come when it comes, the last state is whole, the freed lists are what was freed, and the notices that were taken are the first
--- of its list
-pub record IsLinkedBy (h : Finished) (noted : List Noted) : Type 0 where
-  pub same : map (λ n. n.entry) noted ≡ h.entries
-  pub numbers : NumberedFrom 0 h.entries
-  pub lawful : AllMayCome opening_linkage noted
-  pub whole : IsWhole (replayed opening_linkage noted)
-  pub freed_managed : managed_numbers h.freed_managed ≡ (replayed opening_linkage noted).managed.managed.heap.freed
-  pub freed_peers : peer_numbers h.freed_peers ≡ (replayed opening_linkage noted).peer.peers.heap.freed
-  pub notices : take (managed_end noted).taken (managed_numbers h.notices) ≡ take (managed_end noted).taken (managed_end noted).notices
-
--- a history is linked
-pub record IsLinked (h : Finished) : Type 0 where
-  pub noted : List Noted
-  pub linked : IsLinkedBy h noted
-
--- every notice that was ever queued is in the history's list
-abbrev pub HasQueued : Finished → List Noted → Type 0
-HasQueued h noted = managed_numbers h.notices ≡ (managed_end noted).notices
-
 -- whether the event is a step of the joint machine
 abbrev pub is_joint : Op → Bool
 is_joint (op.Line (act.Slice n)) = false
@@ -116,11 +89,10 @@ is_joint (op.Clear k) = false
 is_joint (op.Refused w) = false
 is_joint _ = true
 
--- the entries that are steps of the joint machine, but for those that are set aside; their numbers stay. Of a history whose reads
--- are events of the managed side none is set aside; `Readers` has the projection of one whose reads take no lock.
+-- the entries that are steps of the joint machine, but for those that are set aside; their numbers stay
 abbrev pub projected : (Noted → Bool) → List Noted → List Noted
 projected is_aside ns = filter (λ n. if is_aside n then false else is_joint n.entry.made.op) ns
 
--- the joint projection
-abbrev pub joint_projection : List Noted → List Noted
-joint_projection ns = projected (λ n. false) ns
+-- the same of a list in which every entry counts
+abbrev pub machine_entries : List Noted → List Noted
+machine_entries ns = projected (λ n. false) ns

@@ -1,7 +1,7 @@
 -- Reads that take no lock: a reader's `read` or `wait` is an entry of the reader's own list, made at any moment. Here is what
--- such an entry may answer, over a whole history, and how linked histories have them. (SGen's bridge header: while bridge
+-- such an entry may answer, over a whole history, and when the entries of a list come so. (SGen's bridge header: while bridge
 -- processing is in progress, the reading of a weak link to a bridge object waits.)
-use Rattle.std.specs.Prelude.{◌≡◌, ℕ, ◌<◌, ◌≤◌, ◌^◌, ◌⊎◌, Bool, true, false, not, ◌&&◌, if◌then◌else◌, List, [], ◌∷◌, map, take, Contains, Option, Some, None, slice_get, slice_set}
+use Rattle.std.specs.Prelude.{◌≡◌, ℕ, ◌<◌, ◌≤◌, ◌^◌, ◌⊎◌, Bool, true, false, not, ◌&&◌, if◌then◌else◌, List, [], ◌∷◌, Contains, Option, Some, None, slice_get, slice_set}
 use Rattle.joint_model.specs.declared.names.Thread.{Thread}
 use Rattle.joint_model.specs.declared.lines.Act.TheVariants as act
 use Rattle.joint_model.specs.declared.events.Op.{Op}
@@ -9,22 +9,13 @@ use Rattle.joint_model.specs.declared.events.Op.TheVariants as op
 use Rattle.joint_model.specs.declared.events.Reply.{Reply}
 use Rattle.joint_model.specs.declared.events.Reply.TheVariants as says
 use Rattle.joint_model.specs.Control.{CallerAllows, control_after, last_line}
-use Rattle.joint_model.specs.Draws.{NumberedFrom}
 use Rattle.joint_model.specs.Heaps.{slot}
-use Rattle.joint_model.specs.Histories.{Finished, managed_numbers, peer_numbers}
-use Rattle.joint_model.specs.Lines.{IsEvent, is_peer_event}
-use Rattle.joint_model.specs.Linked.{Linkage, opening_linkage, linkage_after, managed_after, ManagedLawful, MayCome, IsWhole, projected}
+use Rattle.joint_model.specs.Lines.{IsEvent, is_peer_event, is_read}
+use Rattle.joint_model.specs.Linked.{Linkage, linkage_after, managed_after, ManagedLawful, MayCome}
 use Rattle.joint_model.specs.Managed.{Managed, read_cell}
-use Rattle.joint_model.specs.Joint.{Joint}
 use Rattle.joint_model.specs.ManagedReplay.{ManagedReplay}
-use Rattle.joint_model.specs.Run.{thread_number, JointStep}
+use Rattle.joint_model.specs.Run.{thread_number}
 use Rattle.joint_model.specs.Told.{Told, nothing, snap_of, resolution_of, Noted}
-
--- whether the event is a read of a cell
-abbrev pub is_read : Op → Bool
-is_read (op.Line (act.Read k)) = true
-is_read (op.Line (act.Await k)) = true
-is_read _ = false
 
 -- whether the entry stands in the managed side's list
 abbrev pub is_managed_entry : Noted → Bool
@@ -158,33 +149,9 @@ abbrev pub AllMayComeReading : List Noted → List (Option ℕ) → Linkage → 
 AllMayComeReading whole cells s [] = Unit {0}
 AllMayComeReading whole cells s (n ∷ ns) = EntryMayCome (is_read n.entry.made.op) whole cells s n × AllMayComeReading whole cells (entry_after s n) ns
 
--- a history with readers is linked by these notes; the numbers are those from 0 on
-pub record IsLinkedReadingBy (h : Finished) (noted : List Noted) : Type 0 where
-  pub same : map (λ n. n.entry) noted ≡ h.entries
-  pub numbers : NumberedFrom 0 h.entries
-  pub lawful : AllMayComeReading noted (replayed_reading opening_linkage noted).managed.managed.cells opening_linkage noted
-  pub whole : IsWhole (replayed_reading opening_linkage noted)
-  pub freed_managed : managed_numbers h.freed_managed ≡ (replayed_reading opening_linkage noted).managed.managed.heap.freed
-  pub freed_peers : peer_numbers h.freed_peers ≡ (replayed_reading opening_linkage noted).peer.peers.heap.freed
-  pub notices : take (replayed_reading opening_linkage noted).managed.managed.taken (managed_numbers h.notices) ≡ take (replayed_reading opening_linkage noted).managed.managed.taken (replayed_reading opening_linkage noted).managed.managed.notices
-
--- a history with readers is linked
-pub record IsLinkedReading (h : Finished) : Type 0 where
-  pub noted : List Noted
-  pub linked : IsLinkedReadingBy h noted
-
 -- whether the entry is a read that answered `pending` or `unset`, which is no step of the joint machine
 abbrev pub is_aside : Noted → Bool
 is_aside n = is_read n.entry.made.op && is_set_aside n.entry.made.reply
-
--- the joint projection of a history with readers: as that of any history (`joint_projection` of `Linked`), with these reads set aside
-abbrev pub reading_projection : List Noted → List Noted
-reading_projection ns = projected is_aside ns
-
--- a step of the joint machine in a history with readers: a read that is set aside is none
-pub record ReadingStep (j : Joint) (n : Noted) (next : Joint) : Type 0 where
-  pub step : JointStep j n next
-  pub counts : is_aside n ≡ false
 
 -- a managed entry with the pins that are kept with it: those that the readers' entries and the takes before it leave
 pub record PinnedEntry : Type 0 where

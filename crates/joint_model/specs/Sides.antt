@@ -15,12 +15,13 @@ use Rattle.joint_model.specs.declared.events.Reply.TheVariants as says
 use Rattle.joint_model.specs.Components.{Rises}
 use Rattle.joint_model.specs.Draws.{Adds, AllBelow}
 use Rattle.joint_model.specs.Heaps.{IsLive, place, slot}
-use Rattle.joint_model.specs.Lines.{IsEvent, is_peer_event}
+use Rattle.joint_model.specs.Lines.{IsEvent, is_peer_event, is_read, is_pinned}
 use Rattle.joint_model.specs.Linked.{ManagedLawful, PeerLawful}
 use Rattle.joint_model.specs.ManagedReplay.{ManagedReplay, opening_replay, managed_answer}
 use Rattle.joint_model.specs.PeerReplay.{PeerReplay, opening_peer_replay, peer_answer}
 use Rattle.joint_model.specs.Run.{thread_number}
-use Rattle.joint_model.specs.Told.{Told, snap_of, resolution_of, Noted}
+use Rattle.joint_model.specs.Readers.{with_pins}
+use Rattle.joint_model.specs.Told.{Told, snap_of, resolution_of, bare_told, tells_pins, pins_told, no_pins, Noted}
 
 -- a side: for how many threads of its heap it was made, its entries, and the state of its replay after them
 pub record Side (S : Type 0) : Type 0 where
@@ -76,16 +77,23 @@ objects_freed (snap_of freed candidates dead) = map (λ x. record { 0 = x }) fre
 objects_freed (resolution_of answers freed) = map (λ x. record { 0 = x }) freed
 objects_freed told = []
 
--- the managed side's list
+-- an entry of the managed side's list: no read, whose pins are the readers'; the pins that were given to a snap or a `take` are told with it, and
+-- with them in the state it is lawful
+pub record IsOwnLawful (s : ManagedReplay) (m : Made) (told : Told) : Type 0 where
+  pub own : is_read m.op ≡ false
+  pub tells : tells_pins told ≡ is_pinned m.op
+  pub lawful : ManagedLawful (with_pins s (pins_told told)) m (bare_told told)
+
+-- the managed side's list: the state has no pins between its entries
 abbrev pub managed_rules : SideRules ManagedReplay
 managed_rules = record {
   opening = opening_replay;
-  lawful = λ s m told. IsOfSide false m × ManagedLawful s m told;
-  next = λ s m told. (managed_answer s m.caller m.op told).state;
+  lawful = λ s m told. IsOfSide false m × IsOwnLawful s m told;
+  next = λ s m told. with_pins (managed_answer (with_pins s (pins_told told)) m.caller m.op (bare_told told)).state no_pins;
   takes = TakesManaged;
   may_target = MaySetCell;
   target = λ s m. cell_target s m.caller m.op m.reply;
-  frees = objects_freed;
+  frees = λ told. objects_freed (bare_told told);
 }
 
 -- the peer side's list: its entries set no cell and free no managed object

@@ -1,5 +1,5 @@
 -- What is told beside an entry: the data that decides it and that its line in the report doesn't have in full.
-use Rattle.std.specs.Prelude.{◌≡◌, ℕ, List, Some, slice_get}
+use Rattle.std.specs.Prelude.{◌≡◌, ℕ, Bool, true, false, List, replicate, Option, Some, None, slice_get}
 use Rattle.joint_model.specs.declared.names.Phase.{Phase}
 use Rattle.joint_model.specs.declared.events.Entry.{Entry}
 
@@ -20,7 +20,7 @@ IsKeptAt answers i = slice_get answers i ≡ Some said_alive
 -- components and cross-references; a mirror has the references that it adds; a begin, in the form of the joint
 -- marking alone, has the peers that nothing reached; a slice has the peers that the marking reaches so far; a
 -- sweep has the peers that it frees; a resolve has the candidates' answers and the rows that it frees; a
--- refusal has the driver's phase
+-- refusal has the driver's phase. In the managed side's own list a snap and a `take` have besides the pins that were given to them.
 pub data Told : Type 0 where
   nothing : Told
   snap_of : (freed candidates dead : List ℕ) → Told
@@ -31,6 +31,26 @@ pub data Told : Type 0 where
   sweep_of : (freed : List ℕ) → Told
   resolution_of : (answers : List Answer) (freed : List ℕ) → Told
   phase_of : (phase : Phase) → Told
+  kept_pins : (pins : List (Option ℕ)) (told : Told) → Told
+
+-- what is told but for the pins
+abbrev pub bare_told : Told → Told
+bare_told (kept_pins pins told) = told
+bare_told told = told
+
+-- whether pins are told
+abbrev pub tells_pins : Told → Bool
+tells_pins (kept_pins pins told) = true
+tells_pins told = false
+
+-- all pins are empty; the pin with number 0 is nobody's
+abbrev pub no_pins : List (Option ℕ)
+no_pins = replicate 9 None
+
+-- the pins that are told
+abbrev pub pins_told : Told → List (Option ℕ)
+pins_told (kept_pins pins told) = pins
+pins_told told = no_pins
 
 -- an entry with what is told beside it
 pub record Noted : Type 0 where
