@@ -6,10 +6,10 @@ use Rattle.std.proofs.lemmas.Bool.{cases_eq}
 use Rattle.std.proofs.lemmas.Option.{same_Some, slice_get_within}
 use Rattle.joint_model.specs.Headline.{ResolvesAt, IsCompleteCycle, IsSoundRun, IsCompleteRun}
 use Rattle.joint_model.specs.Joint.{opening}
-use Rattle.joint_model.specs.Linked.{Linkage, MayCome, AllMayCome, opening_linkage, linkage_after, is_joint, joint_projection}
+use Rattle.joint_model.specs.Linked.{Linkage, MayCome, AllMayCome, opening_linkage, linkage_after, is_joint, machine_entries}
 use Rattle.joint_model.specs.Run.{Moment, IsRunFrom, IsRun}
 use Rattle.joint_model.specs.Told.{Noted}
-use Rattle.joint_laws.specs.RunLaws.{ProjectionIsRun, LinkedIsRun, RunIsOne, ProjectionIsSound, LinkedIsSound, EveryRunIsSound, ProjectionIsComplete, LinkedIsComplete, EveryRunIsComplete}
+use Rattle.joint_laws.specs.RunLaws.{ProjectionIsRun, RunIsOne, ProjectionIsSound, EveryRunIsSound, ProjectionIsComplete, EveryRunIsComplete}
 use Rattle.joint_model.proofs.Members.{Contains-nil, Contains-cons_cases}
 use Rattle.joint_model.proofs.Deciding.{none_some}
 use Rattle.joint_laws.proofs.JointRuns.{Stands, state_of, IsTraced, Enters, by_step, at_rest, enters, projected, Stands-opening, opening-state}
@@ -31,7 +31,7 @@ record IsKnown (past : List Moment) (s : Linkage) (w : Stands s) : Type 0 where
 -- the run from a linked state on, with the moments before it
 record Completes (past : List Moment) (s : Linkage) (w : Stands s) (ns : List Noted) : Type 0 where
   pub moments : List Moment
-  pub same : map (λ m. m.noted) moments ≡ joint_projection ns
+  pub same : map (λ m. m.noted) moments ≡ machine_entries ns
   pub steps : IsRunFrom (state_of s w) moments
   pub traced : (m : Moment) → Contains moments m → IsTraced m
   pub complete : (i k : ℕ) (freed : List ℕ) → length past ≤ i → ResolvesAt (past ++ moments) i k freed → IsCompleteCycle (past ++ moments) i k freed
@@ -138,11 +138,8 @@ pub projection_is_complete : ProjectionIsComplete
 projection_is_complete noted may =
     let w = complete-opening noted may in
     let steps = opening-steps noted may in
-    let r : IsRun (joint_projection noted) w.moments = record { same = w.same; steps = steps } in
-    (w.moments, r, is-sound w.moments steps w.traced (joint_projection noted) r, λ i k freed e. w.complete i k freed (omega arith) e)
-
-pub linked_is_complete : LinkedIsComplete
-linked_is_complete h noted l = projection_is_complete noted l.lawful
+    let r : IsRun (machine_entries noted) w.moments = record { same = w.same; steps = steps } in
+    (w.moments, r, is-sound w.moments steps w.traced (machine_entries noted) r, λ i k freed e. w.complete i k freed (omega arith) e)
 
 -- there is no other run
 pub run_is_one : RunIsOne
@@ -151,27 +148,22 @@ run_is_one = one-run
 pub every_run_is_complete : EveryRunIsComplete
 every_run_is_complete noted run may r =
     let w = projection_is_complete noted may in
-    subst (λ z. IsSoundRun z × IsCompleteRun z) (one-run (joint_projection noted) w.0 run w.1 r) (w.2, w.3)
+    subst (λ z. IsSoundRun z × IsCompleteRun z) (one-run (machine_entries noted) w.0 run w.1 r) (w.2, w.3)
 
 pub every_run_is_sound : EveryRunIsSound
 every_run_is_sound noted run may r = (every_run_is_complete noted run may r).0
 
 -- each moment of it is traced to an entry that may come
-pub run-traced : (noted : List Noted) (run : List Moment) → AllMayCome opening_linkage noted → IsRun (joint_projection noted) run → (m : Moment) → Contains run m → IsTraced m
+pub run-traced : (noted : List Noted) (run : List Moment) → AllMayCome opening_linkage noted → IsRun (machine_entries noted) run → (m : Moment) → Contains run m → IsTraced m
 run-traced noted run may r m c =
     let w = complete-opening noted may in
-    let own : IsRun (joint_projection noted) w.moments = record { same = w.same; steps = opening-steps noted may } in
-    w.traced m (subst (λ z. Contains z m) (one-run (joint_projection noted) run w.moments r own) c)
+    let own : IsRun (machine_entries noted) w.moments = record { same = w.same; steps = opening-steps noted may } in
+    w.traced m (subst (λ z. Contains z m) (one-run (machine_entries noted) run w.moments r own) c)
 
 -- so it is a run, and sound
 pub projection_is_sound : ProjectionIsSound
 projection_is_sound noted may = let w = projection_is_complete noted may in (w.0, w.1, w.2)
 
-pub linked_is_sound : LinkedIsSound
-linked_is_sound h noted l = projection_is_sound noted l.lawful
-
 pub projection_is_run : ProjectionIsRun
 projection_is_run noted may = let w = projection_is_complete noted may in (w.0, w.1)
 
-pub linked_is_run : LinkedIsRun
-linked_is_run h noted l = projection_is_run noted l.lawful

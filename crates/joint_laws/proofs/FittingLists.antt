@@ -18,20 +18,16 @@ use Rattle.joint_model.specs.declared.events.Reply.{Reply}
 use Rattle.joint_model.specs.declared.events.Reply.TheVariants as says
 use Rattle.joint_model.specs.Components.{Rises}
 use Rattle.joint_model.specs.Histories.{managed_numbers, peer_numbers, stretch, HasSpans, FitsLists}
-use Rattle.joint_model.specs.Lines.{IsEvent, IsNamed, IsThread, IsManagedThread, IsDriver, IsPeerThread, IsBridgeObject, IsAdoptable}
+use Rattle.joint_model.specs.Lines.{IsEvent, IsNamed, IsThread, IsManagedThread, IsDriver, IsPeerThread, IsBridgeObject, IsAdoptable, is_read}
 use Rattle.joint_model.specs.Linked.{Linkage, opening_linkage}
 use Rattle.joint_model.specs.Managed.{Managed}
-use Rattle.joint_model.specs.Readers.{is_read, EntryMayCome, replayed_reading}
+use Rattle.joint_model.specs.Readers.{EntryMayCome, replayed_reading}
 use Rattle.joint_model.specs.Told.{Told, Noted}
 use Rattle.joint_model.proofs.Members.{All-members, at-Contains, Contains-map_cases}
 use Rattle.joint_laws.specs.AfterwardsLaws.{reading_at}
-use Rattle.joint_laws.specs.States.{state_at}
-use Rattle.joint_laws.specs.ToldLaws.{IsStretch, TellsNamed, TakesNamed, LinkedIsHistory, LinkedReadingIsHistory}
-use Rattle.joint_laws.proofs.NoticesTold.{notices_are_named}
-use Rattle.joint_laws.proofs.Places.{comes-at}
+use Rattle.joint_laws.specs.ToldLaws.{IsStretch, TellsNamed, TakesNamed, LinkedIsHistory}
 use Rattle.joint_laws.proofs.ReadingsGoneAfter.{reading-comes}
-use Rattle.joint_laws.proofs.ReadingsTold.{reading_told_is_named, reading_notices_are_named}
-use Rattle.joint_laws.proofs.SpansTold.{told_is_named}
+use Rattle.joint_laws.proofs.ReadingsTold.{told_is_named, notices_are_named}
 
 -- an event that a history can have can be named
 pub managed-thread : (t : Thread) → IsManagedThread t → IsThread t
@@ -97,24 +93,15 @@ all-fit ms ps ns noted entries same fit = subst (λ z. All (FitsLists ms ps ns) 
     let at = at-Contains noted n.0 n.1 in
     subst (FitsLists ms ps ns) n.2 (fit at.0 n.0 at.1))))
 
+pub event-of : (b : Bool) (whole : List Noted) (cells : List (Option ℕ)) (s : Linkage) (n : Noted) → EntryMayCome b whole cells s n → IsEvent n.entry.made.caller n.entry.made.op
+event-of true whole cells s n w = w.0.event
+event-of false whole cells s n w = w.event
+
 pub linked_is_history : LinkedIsHistory
 linked_is_history h noted l = record {
   numbers = l.numbers;
   fits = all-fit h.freed_managed h.freed_peers h.notices noted h.entries l.same (λ i n e. record {
-    event = named-event n.entry.made.caller n.entry.made.op (comes-at noted i n l.lawful e).event;
-    spans = spans h.freed_managed h.freed_peers h.notices n.entry.made.reply n.told (told_is_named h noted l i n e) (λ s took. ((state_at noted i).managed.managed, notices_are_named h noted l i n s e took));
-  });
-}
-
-event-of : (b : Bool) (whole : List Noted) (cells : List (Option ℕ)) (s : Linkage) (n : Noted) → EntryMayCome b whole cells s n → IsEvent n.entry.made.caller n.entry.made.op
-event-of true whole cells s n w = w.0.event
-event-of false whole cells s n w = w.event
-
-pub linked_reading_is_history : LinkedReadingIsHistory
-linked_reading_is_history h noted l = record {
-  numbers = l.numbers;
-  fits = all-fit h.freed_managed h.freed_peers h.notices noted h.entries l.same (λ i n e. record {
     event = named-event n.entry.made.caller n.entry.made.op (event-of (is_read n.entry.made.op) noted (replayed_reading opening_linkage noted).managed.managed.cells (reading_at noted i) n (reading-comes noted (replayed_reading opening_linkage noted).managed.managed.cells noted opening_linkage i n l.lawful e));
-    spans = spans h.freed_managed h.freed_peers h.notices n.entry.made.reply n.told (reading_told_is_named h noted l i n e) (λ s took. ((reading_at noted i).managed.managed, reading_notices_are_named h noted l i n s e took));
+    spans = spans h.freed_managed h.freed_peers h.notices n.entry.made.reply n.told (told_is_named h noted l i n e) (λ s took. ((reading_at noted i).managed.managed, notices_are_named h noted l i n s e took));
   });
 }

@@ -3,7 +3,7 @@
 use Rattle.std.proofs.Common.{◌≡◌, ℕ, Bool, true, false, List, [], ◌∷◌, Option, Some, None, refl, ap, cond, arith}
 use Rattle.joint_model.specs.Heaps.{numbered_at}
 use Rattle.joint_model.specs.Joint.{Joint, JointMarking, opening}
-use Rattle.joint_model.specs.Linked.{Linkage, MayCome, opening_linkage, linkage_after, is_joint, joint_projection}
+use Rattle.joint_model.specs.Linked.{Linkage, MayCome, opening_linkage, linkage_after, is_joint, machine_entries}
 use Rattle.joint_model.specs.Run.{Moment, JointStep}
 use Rattle.joint_model.specs.Told.{Noted}
 use Rattle.joint_laws.specs.JointAgreement.{Agrees}
@@ -67,8 +67,8 @@ enters s w n may = by (outcome-of s w n may)
         } in
         at_rest e v t.same
 
-pub projected : (n : Noted) (ns : List Noted) (b : Bool) → is_joint n.entry.made.op ≡ b → joint_projection (n ∷ ns) ≡ cond b (n ∷ joint_projection ns) (joint_projection ns)
-projected n ns b e = ap (λ z. cond z (n ∷ joint_projection ns) (joint_projection ns)) e
+pub projected : (n : Noted) (ns : List Noted) (b : Bool) → is_joint n.entry.made.op ≡ b → machine_entries (n ∷ ns) ≡ cond b (n ∷ machine_entries ns) (machine_entries ns)
+projected n ns b e = ap (λ z. cond z (n ∷ machine_entries ns) (machine_entries ns)) e
 
 pub Stands-opening : Stands opening_linkage
 Stands-opening = record {

@@ -14,11 +14,11 @@ use Rattle.joint_model.specs.declared.events.Reply.{Reply}
 use Rattle.joint_model.specs.declared.events.Reply.TheVariants as says
 use Rattle.joint_model.specs.declared.events.Made.{Made}
 use Rattle.joint_model.specs.Heaps.{Answered, answer, slot, place, is_full, with_var}
-use Rattle.joint_model.specs.Lines.{IsEvent, is_peer_event}
+use Rattle.joint_model.specs.Lines.{IsEvent, is_peer_event, is_read}
 use Rattle.joint_model.specs.Linked.{Linkage, opening_linkage, linkage_after, SideLawful, ManagedLawful, managed_after}
 use Rattle.joint_model.specs.Managed.{Managed, OpenCycle, managed_name, managed_line, adopted, met, given_up, with_row, cell_set, weakened_to, pin_taken, without_handle, twin_met, twin_kind, twin_fields}
 use Rattle.joint_model.specs.ManagedReplay.{ManagedReplay, opening_replay, registered}
-use Rattle.joint_model.specs.Readers.{is_read, is_managed_entry, pins_after, reader_after, EntryMayCome, entry_after, replayed_reading, AllMayComeReading, with_pins, AllKeptLawful, PinnedEntry}
+use Rattle.joint_model.specs.Readers.{is_managed_entry, pins_after, reader_after, EntryMayCome, entry_after, replayed_reading, AllMayComeReading, with_pins, AllKeptLawful, PinnedEntry}
 use Rattle.joint_model.specs.Run.{thread_number}
 use Rattle.joint_model.specs.Told.{Told, snap_of, contraction_of, resolution_of, phase_of, Noted}
 use Rattle.joint_model.proofs.HeapLemmas.{adopt_by-managed}
@@ -88,10 +88,10 @@ line-pins s t _ e = refl
 
 -- an entry that is no read
 module _ (s : Linkage) (line : ℕ) (reply : Reply) (cites : Option ℕ) where
-  abbrev is : Thread → Op → Made
+  abbrev pub is : Thread → Op → Made
   is t o = record { caller = t; index = line; op = o; reply = reply; cites = cites }
 
-  abbrev Pinned : Thread → Op → Told → Bool → Type 0
+  abbrev pub Pinned : Thread → Op → Told → Bool → Type 0
   Pinned t o told b = (managed_after s.managed (is t o) told b).managed.pins ≡ pins_by s.managed.managed.pins t o reply
 
   own-line : (t : Thread) (a : Act) (told : Told) → is_read (op.Line a) ≡ false → reply ≡ (managed_line s.managed.managed (thread_number t) a).reply → Pinned t (op.Line a) told false
@@ -103,7 +103,7 @@ module _ (s : Linkage) (line : ℕ) (reply : Reply) (cites : Option ℕ) where
   peer-line t (act.Take v) told e f = absurd e.0.1
   peer-line t _ told e f = refl
 
-  entry-pins : (t : Thread) (o : Op) (told : Told) → IsEvent t o → SideLawful (is_peer_event t o) s (is t o) told → is_read o ≡ false → Pinned t o told (is_peer_event t o)
+  pub entry-pins : (t : Thread) (o : Op) (told : Told) → IsEvent t o → SideLawful (is_peer_event t o) s (is t o) told → is_read o ≡ false → Pinned t o told (is_peer_event t o)
   entry-pins (M t) (op.Line a) told e w f = own-line (M t) a told f w.replies
   entry-pins C (op.Line a) told e w f = own-line C a told f w.replies
   entry-pins (P t) (op.Line a) told e w f = peer-line t a told e f
@@ -127,7 +127,7 @@ module _ (s : Linkage) (line : ℕ) (reply : Reply) (cites : Option ℕ) where
   entry-pins t o told e w f = refl
 
 -- a read by its reply
-read-pins : (pins : List (Option ℕ)) (t : Thread) (o : Op) (r : Reply) → is_read o ≡ true → pins_after pins (thread_number t) r ≡ pins_by pins t o r
+pub read-pins : (pins : List (Option ℕ)) (t : Thread) (o : Op) (r : Reply) → is_read o ≡ true → pins_after pins (thread_number t) r ≡ pins_by pins t o r
 read-pins pins t (op.Line (act.Read k)) (says.M m) e = refl
 read-pins pins t (op.Line (act.Read k)) _ e = refl
 read-pins pins t (op.Line (act.Await k)) (says.M m) e = refl

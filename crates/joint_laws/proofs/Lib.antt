@@ -82,6 +82,8 @@ pub mod AtResolutions
 pub mod Pairwise
 pub mod ReadsAside
 pub mod KeptPins
+pub mod ExactReads
+pub mod CycleNumbers
 pub mod Places
 pub mod MarkedOnce
 pub mod FreedLists

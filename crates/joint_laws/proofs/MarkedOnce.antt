@@ -13,7 +13,7 @@ use Rattle.joint_model.specs.declared.events.Reply.{Reply}
 use Rattle.joint_model.specs.declared.events.Reply.TheVariants as says
 use Rattle.joint_model.specs.Control.{Stand, idle, snapped, contracted, weakening, marked, restoring, restored, CallerAllows, DriverAllows, MayResolveNow, MayBeginNow, control_after, stand_after}
 use Rattle.joint_model.specs.Lines.{IsEvent, is_peer_event}
-use Rattle.joint_model.specs.Linked.{Linkage, MayCome, AllMayCome, SideLawful, ManagedLawful, opening_linkage, linkage_after, is_joint, joint_projection}
+use Rattle.joint_model.specs.Linked.{Linkage, MayCome, AllMayCome, SideLawful, ManagedLawful, opening_linkage, linkage_after, is_joint, machine_entries}
 use Rattle.joint_model.specs.Managed.{Managed, OpenCycle}
 use Rattle.joint_model.specs.Peers.{Issued}
 use Rattle.joint_model.specs.Run.{Moment, IsRun}
@@ -146,7 +146,7 @@ module _ (k n : ℕ) (m : Managed) (i : List Issued) (reply : Reply) (cites : Op
 abbrev stand_of : Linkage → Stand
 stand_of s = s.control.stand
 
-abbrev cycles_of : Linkage → ℕ
+abbrev pub cycles_of : Linkage → ℕ
 cycles_of s = s.managed.managed.cycles
 
 -- an entry of another thread leaves the stand
@@ -200,7 +200,7 @@ behind-latest s k w (contracted o comps xrefs) d e = absurd e
 behind-latest s k w (weakening o count seen sw) d e = absurd e
 
 -- a snapshot takes the next number
-snap-number : (s : Linkage) (n : Noted) (c : ℕ) → MayCome s n → n.entry.made.op ≡ op.Snap record { 0 = c } → c ≡ cycles_of s + 1
+pub snap-number : (s : Linkage) (n : Noted) (c : ℕ) → MayCome s n → n.entry.made.op ≡ op.Snap record { 0 = c } → c ≡ cycles_of s + 1
 snap-number s n c may e = by n.told (subst (λ o. SideLawful (is_peer_event n.entry.made.caller o) s (record n.entry.made { op = o }) n.told) e may.lawful)
   where
     by : (told : Told) → ManagedLawful s.managed (record n.entry.made { op = op.Snap record { 0 = c } }) told → c ≡ cycles_of s + 1
@@ -421,7 +421,7 @@ own_marking_is_one noted may i e k sn rs =
     by (over l b) = absurd (not-elsewhere k (state_at noted e).control.stand (resolves-behind noted may k e rs) b)
 
 -- in the run: its places are those of the list, in order
-module _ (noted : List Noted) (run : List Moment) (r : IsRun (joint_projection noted) run) where
+module _ (noted : List Noted) (run : List Moment) (r : IsRun (machine_entries noted) run) where
   from : (i : ℕ) (m : Moment) → slice_get run i ≡ Some m → Origin (λ n. is_joint n.entry.made.op) noted i m.noted
   from i m e = origin (λ n. is_joint n.entry.made.op) noted i m.noted (subst (λ z. slice_get z i ≡ Some m.noted) r.same (slice_get-map (λ (y : Moment). y.noted) run i ∙ ap (λ o. option_map (λ (y : Moment). y.noted) o) e))
 

@@ -18,7 +18,7 @@ use Rattle.joint_model.specs.declared.events.Reply.{Reply}
 use Rattle.joint_model.specs.declared.events.Reply.TheVariants as says
 use Rattle.joint_model.specs.declared.events.Made.{Made}
 use Rattle.joint_model.specs.Heaps.{Answered, answer, slot, place, is_freed, is_full}
-use Rattle.joint_model.specs.Histories.{stretch, managed_numbers}
+use Rattle.joint_model.specs.Histories.{stretch}
 use Rattle.joint_model.specs.Lines.{IsEvent, is_peer_event}
 use Rattle.joint_model.specs.Linked.{Linkage, AllMayCome, SideLawful, opening_linkage, linkage_after, managed_after, replayed}
 use Rattle.joint_model.specs.Managed.{Managed, OpenCycle, managed_name, adopted, cell_set, target_read, cell_read, read_cell, twin_met, met, given_up, without_handle, managed_line, holds_handle}
@@ -29,7 +29,7 @@ use Rattle.joint_model.specs.Told.{Told, nothing, snap_of, contraction_of, sweep
 use Rattle.joint_model.proofs.Deciding.{option-cases, test-cases}
 use Rattle.joint_model.proofs.HeapLemmas.{adopt_by-managed}
 use Rattle.joint_laws.specs.States.{state_at}
-use Rattle.joint_laws.specs.ToldLaws.{TakesNamed, NoticesAreNamed}
+use Rattle.joint_laws.specs.ToldLaws.{TakesNamed}
 use Rattle.joint_laws.proofs.Everywhere.{everywhere, from_state}
 use Rattle.joint_laws.proofs.FreedLists.{Grows, grows-same, grows-then}
 use Rattle.joint_laws.proofs.ManagedMoves.{met_by}
@@ -261,6 +261,3 @@ notices-named noted may list alike i n s there took =
         named = sym there_at;
       };
     }
-
-pub notices_are_named : NoticesAreNamed
-notices_are_named h noted l i n s there took = notices-named noted l.lawful (managed_numbers h.notices) l.notices i n s there took

@@ -12,7 +12,8 @@ use Rattle.joint_model.specs.Linked.{Linkage, MayCome, AllMayCome, opening_linka
 use Rattle.joint_model.specs.Managed.{OpenCycle}
 use Rattle.joint_model.specs.ManagedReplay.{ManagedReplay}
 use Rattle.joint_model.specs.PeerReplay.{PeerReplay}
-use Rattle.joint_model.specs.Readers.{is_read, is_set_aside, is_aside, ReadsCell, IsReadReply, EntryMayCome, reader_after, entry_after, replayed_reading, AllMayComeReading}
+use Rattle.joint_model.specs.Lines.{is_read}
+use Rattle.joint_model.specs.Readers.{is_set_aside, is_aside, ReadsCell, IsReadReply, EntryMayCome, reader_after, entry_after, replayed_reading, AllMayComeReading}
 use Rattle.joint_model.specs.Told.{Noted}
 use Rattle.joint_model.proofs.Deciding.{none_some}
 use Rattle.joint_model.proofs.Members.{Contains-at, at-Contains, Contains-filter_to}

@@ -1,4 +1,4 @@
--- What is told, and the notices, in a history with lock-free reads: the entries that stand are those of a lawful list with the same
+-- What is told, and the notices, in a linked history: the entries that stand are those of a lawful list with the same
 -- states of both sides; a read that is set aside names no span, and nothing is told beside it.
 use Rattle.std.proofs.Common.{◌≡◌, ℕ, Bool, true, false, not, ◌&&◌, List, length, take, Some, refl, sym, ap, subst, ◌∙◌}
 use Rattle.std.specs.Prelude.{slice_get}
@@ -8,12 +8,13 @@ use Rattle.joint_model.specs.Histories.{managed_numbers, peer_numbers}
 use Rattle.joint_model.specs.Linked.{opening_linkage, replayed}
 use Rattle.joint_model.specs.ManagedReplay.{ManagedReplay}
 use Rattle.joint_model.specs.PeerReplay.{PeerReplay}
-use Rattle.joint_model.specs.Readers.{is_read, is_set_aside, is_aside, EntryMayCome, replayed_reading}
+use Rattle.joint_model.specs.Lines.{is_read}
+use Rattle.joint_model.specs.Readers.{is_set_aside, is_aside, EntryMayCome, replayed_reading}
 use Rattle.joint_model.specs.Told.{Told, Noted}
 use Rattle.joint_laws.specs.AfterwardsLaws.{reading_at}
 use Rattle.joint_laws.specs.ReadingLaws.{IsLawfulReading, without_aside, LeadToSameSides}
 use Rattle.joint_laws.specs.States.{state_at}
-use Rattle.joint_laws.specs.ToldLaws.{TellsNoneFreed, TellsNamed, TakesNamed, ReadingToldIsNamed, ReadingNoticesAreNamed}
+use Rattle.joint_laws.specs.ToldLaws.{TellsNoneFreed, TellsNamed, TakesNamed, ToldIsNamed, NoticesAreNamed}
 use Rattle.joint_laws.proofs.NoticesTold.{notices-named}
 use Rattle.joint_laws.proofs.Places.{destined}
 use Rattle.joint_laws.proofs.ReadingsGoneAfter.{reading-take, reading-comes}
@@ -61,14 +62,14 @@ module _ (noted : List Noted) (w : IsLawfulReading noted) (i : ℕ) (n : Noted) 
           let bare = (subst (λ b. EntryMayCome b w.0 w.1 (reading_at noted i) n) both.0 (reading-comes w.0 w.1 noted opening_linkage i n w.2 there)).0.bare in
           aside-named _ _ n.entry.made.reply n.told both.1 (subst TellsNoneFreed (sym bare) tt)
 
-pub reading_told_is_named : ReadingToldIsNamed
-reading_told_is_named h noted l i n there =
+pub told_is_named : ToldIsNamed
+told_is_named h noted l i n there =
     subst (λ ms. TellsNamed ms (peer_numbers h.freed_peers) n.entry.made.reply n.told) (sym l.freed_managed)
     (subst (λ ps. TellsNamed (replayed_reading opening_linkage noted).managed.managed.heap.freed ps n.entry.made.reply n.told) (sym l.freed_peers)
     (all-told noted (noted, (replayed_reading opening_linkage noted).managed.managed.cells, l.lawful) i n there))
 
-pub reading_notices_are_named : ReadingNoticesAreNamed
-reading_notices_are_named h noted l i n s there took =
+pub notices_are_named : NoticesAreNamed
+notices_are_named h noted l i n s there took =
     let w : IsLawfulReading noted = (noted, (replayed_reading opening_linkage noted).managed.managed.cells, l.lawful) in
     let stands : is_aside n ≡ false = ap (λ r. is_read n.entry.made.op && is_set_aside r) took ∙ never (is_read n.entry.made.op) in
     let place_of = place noted w i n there stands in

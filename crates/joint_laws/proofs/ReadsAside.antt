@@ -16,15 +16,16 @@ use Rattle.joint_model.specs.declared.events.Reply.TheVariants as says
 use Rattle.joint_model.specs.declared.events.Made.{Made}
 use Rattle.joint_model.specs.Control.{Doing, free, made, lent, gripped, given, met, Control, CallerAllows, ThreadAllows, DriverAllows, MayStart, IsDone, control_after, doing_after, doing_at, last_line, caller_place, stand_after}
 use Rattle.joint_model.specs.Heaps.{Answered, answer, slot, is_freed}
-use Rattle.joint_model.specs.Lines.{is_peer_event}
-use Rattle.joint_model.specs.Linked.{Linkage, opening_linkage, linkage_after, replayed, MayCome, AllMayCome, SideLawful, PeerLawful, ManagedLawful, managed_after, peer_after, is_joint, joint_projection}
+use Rattle.joint_model.specs.Lines.{is_peer_event, is_read}
+use Rattle.joint_model.specs.Linked.{Linkage, opening_linkage, linkage_after, replayed, MayCome, AllMayCome, SideLawful, PeerLawful, ManagedLawful, managed_after, peer_after, is_joint, machine_entries}
+use Rattle.joint_model.specs.LinkedHistories.{joint_projection}
 use Rattle.joint_model.specs.Managed.{Managed, OpenCycle, managed_name, target_read, cell_read, read_cell, managed_line}
 use Rattle.joint_model.specs.ManagedReplay.{ManagedReplay, ManagedAllows}
 use Rattle.joint_model.specs.PeerReplay.{PeerReplay}
-use Rattle.joint_model.specs.Readers.{is_read, is_set_aside, is_aside, IsReadReply, pins_after, reader_after, ReaderMayCome, EntryMayCome, entry_after, replayed_reading, AllMayComeReading, reading_projection}
+use Rattle.joint_model.specs.Readers.{is_set_aside, is_aside, IsReadReply, pins_after, reader_after, ReaderMayCome, EntryMayCome, entry_after, replayed_reading, AllMayComeReading}
 use Rattle.joint_model.specs.Run.{IsRun, thread_number}
 use Rattle.joint_model.specs.Told.{Told, Noted}
-use Rattle.joint_laws.specs.ReadingLaws.{without_aside, IsLawfulReading, ReadingIsLawful, ReadingLeadsToSame, ReadingProjectsSo, ReadingProjectionIsComplete, LinkedReadingIsComplete, EveryReadingRunIsComplete}
+use Rattle.joint_laws.specs.ReadingLaws.{without_aside, IsLawfulReading, ReadingIsLawful, ReadingLeadsToSame, ReadingProjectsSo, ReadingProjectionIsComplete, LinkedIsComplete, EveryReadingRunIsComplete}
 use Rattle.joint_laws.proofs.CompleteRuns.{projection_is_complete, every_run_is_complete}
 use Rattle.joint_laws.proofs.Pairwise.{Pairwise, pairwise-same, pairwise-set, pairwise-left, pairwise-or, pairwise-at}
 
@@ -149,7 +150,7 @@ aside-pins pins t (says.M m) e = absurd (let f : false ≡ true = e in cc)
 aside-pins pins t _ e = refl
 
 -- the state after a read, by its reply
-abbrev Filled : Managed → ℕ → Answered Managed → Type 0
+abbrev pub Filled : Managed → ℕ → Answered Managed → Type 0
 Filled s t a = a.state ≡ record s { pins = pins_after s.pins t a.reply }
 
 target-filled : (s : Managed) (t : ℕ) (o : Option ℕ) → Filled s t (target_read s t o)
@@ -164,7 +165,7 @@ cell-filled : (s : Managed) (t k : ℕ) (o : Option OpenCycle) → Filled s t (c
 cell-filled s t k None = target-filled s t (slot s.cells k)
 cell-filled s t k (Some c) = refl
 
-read-filled : (s : Managed) (t k : ℕ) → Filled s t (read_cell s t k)
+pub read-filled : (s : Managed) (t k : ℕ) → Filled s t (read_cell s t k)
 read-filled s t k = by (slot s.pins t)
   where
     by : (o : Option ℕ) → Filled s t (elim o [ None ↦ cell_read s t k s.cycle | Some x ↦ answer (says.Pinned record { 0 = x }) s ])
@@ -287,16 +288,16 @@ pub reading_leads_to_same : ReadingLeadsToSame
 reading_leads_to_same noted w = let k = (all noted w).alike in record { managed = k.managed; peer = k.peer }
 
 -- its joint projection is that of the history
-projection-is : (ns : List Noted) → joint_projection (without_aside ns) ≡ reading_projection ns
+projection-is : (ns : List Noted) → machine_entries (without_aside ns) ≡ joint_projection ns
 projection-is [] = refl
 projection-is (n ∷ ns) = by (is_aside n) refl (projection-is ns)
   where
     goes : (b c : Bool) → List Noted → List Noted
     goes b c rest = cond (if b then false else c) (n ∷ rest) rest
 
-    by : (b : Bool) → is_aside n ≡ b → joint_projection (without_aside ns) ≡ reading_projection ns → joint_projection (without_aside (n ∷ ns)) ≡ reading_projection (n ∷ ns)
-    by true e rest = ap joint_projection (without-cons n ns true e) ∙ rest ∙ sym (ap (λ b. goes b (is_joint n.entry.made.op) (reading_projection ns)) e)
-    by false e rest = ap joint_projection (without-cons n ns false e) ∙ ap (λ z. goes false (is_joint n.entry.made.op) z) rest ∙ sym (ap (λ b. goes b (is_joint n.entry.made.op) (reading_projection ns)) e)
+    by : (b : Bool) → is_aside n ≡ b → machine_entries (without_aside ns) ≡ joint_projection ns → machine_entries (without_aside (n ∷ ns)) ≡ joint_projection (n ∷ ns)
+    by true e rest = ap machine_entries (without-cons n ns true e) ∙ rest ∙ sym (ap (λ b. goes b (is_joint n.entry.made.op) (joint_projection ns)) e)
+    by false e rest = ap machine_entries (without-cons n ns false e) ∙ ap (λ z. goes false (is_joint n.entry.made.op) z) rest ∙ sym (ap (λ b. goes b (is_joint n.entry.made.op) (joint_projection ns)) e)
 
 pub reading_projects_so : ReadingProjectsSo
 reading_projects_so noted = projection-is noted
@@ -306,8 +307,8 @@ reading_projection_is_complete noted w =
     let r = projection_is_complete (without_aside noted) (reading_is_lawful noted w) in
     (r.0, subst (λ z. IsRun z r.0) (projection-is noted) r.1, r.2, r.3)
 
-pub linked_reading_is_complete : LinkedReadingIsComplete
-linked_reading_is_complete h noted l = reading_projection_is_complete noted (noted, _, l.lawful)
+pub linked_is_complete : LinkedIsComplete
+linked_is_complete h noted l = reading_projection_is_complete noted (noted, _, l.lawful)
 
 pub every_reading_run_is_complete : EveryReadingRunIsComplete
 every_reading_run_is_complete noted run w r = every_run_is_complete (without_aside noted) run (reading_is_lawful noted w) (subst (λ z. IsRun z run) (sym (projection-is noted)) r)

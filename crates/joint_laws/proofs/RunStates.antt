@@ -5,7 +5,7 @@ use Rattle.std.specs.Prelude.{slice_get}
 use Rattle.std.proofs.lemmas.Option.{same_Some}
 use Rattle.joint_model.specs.Joined.{graph_at}
 use Rattle.joint_model.specs.Joint.{Joint, Graph, opening}
-use Rattle.joint_model.specs.Linked.{Linkage, AllMayCome, opening_linkage, linkage_after, replayed, is_joint, joint_projection}
+use Rattle.joint_model.specs.Linked.{Linkage, AllMayCome, opening_linkage, linkage_after, replayed, is_joint, machine_entries}
 use Rattle.joint_model.specs.Run.{Moment, JointStep, IsRunFrom}
 use Rattle.joint_model.specs.Told.{Noted}
 use Rattle.joint_model.proofs.Deciding.{none_some}
@@ -26,23 +26,23 @@ stands-graph s w = ap (λ fs. record { managed = s.managed.managed; peers = s.pe
 -- the moment of an entry, from a state on
 record AtPlace (ns : List Noted) (s : Linkage) (run : List Moment) (i : ℕ) (n : Noted) : Type 0 where
   moment : Moment
-  there : slice_get run (length (joint_projection (take i ns))) ≡ Some moment
+  there : slice_get run (length (machine_entries (take i ns))) ≡ Some moment
   entry : moment.noted ≡ n
   before : moment.before.graph ≡ graph_of (replayed s (take i ns))
   after : moment.after.graph ≡ graph_of (linkage_after (replayed s (take i ns)) n)
 
-front-length : (n : Noted) (ns : List Noted) (b : Bool) → is_joint n.entry.made.op ≡ b → length (joint_projection (n ∷ ns)) ≡ length (cond b (n ∷ joint_projection ns) (joint_projection ns))
+front-length : (n : Noted) (ns : List Noted) (b : Bool) → is_joint n.entry.made.op ≡ b → length (machine_entries (n ∷ ns)) ≡ length (cond b (n ∷ machine_entries ns) (machine_entries ns))
 front-length n ns b e = ap length (projected n ns b e)
 
 -- what is known of a run from a later state on
 abbrev Goes : List Noted → Linkage → Noted → Type 0
-Goes ns t n = (v : Stands t) (k : Joint) (tail : List Moment) → k ≡ state_of t v → map (λ (m : Moment). m.noted) tail ≡ joint_projection ns → IsRunFrom k tail → (l : ℕ) → slice_get ns l ≡ Some n → AtPlace ns t tail l n
+Goes ns t n = (v : Stands t) (k : Joint) (tail : List Moment) → k ≡ state_of t v → map (λ (m : Moment). m.noted) tail ≡ machine_entries ns → IsRunFrom k tail → (l : ℕ) → slice_get ns l ≡ Some n → AtPlace ns t tail l n
 
 module _ (n0 : Noted) (ns : List Noted) (s : Linkage) (w : Stands s) (n : Noted) (j : Joint) (from : j ≡ state_of s w) (v : Stands (linkage_after s n0)) (rest : Goes ns (linkage_after s n0) n) where
   -- a step
-  module _ (t : is_joint n0.entry.made.op ≡ true) (st : JointStep (state_of s w) n0 (state_of (linkage_after s n0) v)) (m : Moment) (ms : List Moment) (q : map (λ (x : Moment). x.noted) (m ∷ ms) ≡ n0 ∷ joint_projection ns) (u : IsRunFrom j (m ∷ ms)) where
+  module _ (t : is_joint n0.entry.made.op ≡ true) (st : JointStep (state_of s w) n0 (state_of (linkage_after s n0) v)) (m : Moment) (ms : List Moment) (q : map (λ (x : Moment). x.noted) (m ∷ ms) ≡ n0 ∷ machine_entries ns) (u : IsRunFrom j (m ∷ ms)) where
     noted : m.noted ≡ n0
-    noted = heads-same m.noted n0 (map (λ (x : Moment). x.noted) ms) (joint_projection ns) q
+    noted = heads-same m.noted n0 (map (λ (x : Moment). x.noted) ms) (machine_entries ns) q
 
     before : m.before ≡ state_of s w
     before = u.0 ∙ from
@@ -61,7 +61,7 @@ module _ (n0 : Noted) (ns : List Noted) (s : Linkage) (w : Stands s) (n : Noted)
           after = ap (λ (z : Joint). z.graph) after ∙ (stands-graph (linkage_after s n0) v ∙ ap (λ z. graph_of (linkage_after s z)) same);
         }
     at-step (suc l) x =
-        let r = rest v m.after ms after (tails-same m.noted n0 (map (λ (z : Moment). z.noted) ms) (joint_projection ns) q) u.2 l x in
+        let r = rest v m.after ms after (tails-same m.noted n0 (map (λ (z : Moment). z.noted) ms) (machine_entries ns) q) u.2 l x in
         record {
           moment = r.moment;
           there = ap (λ k. slice_get (m ∷ ms) k) (front-length n0 (take l ns) true t) ∙ r.there;
@@ -71,7 +71,7 @@ module _ (n0 : Noted) (ns : List Noted) (s : Linkage) (w : Stands s) (n : Noted)
         }
 
   -- an entry that is none
-  at-none : is_joint n0.entry.made.op ≡ false → is_joint n.entry.made.op ≡ true → state_of (linkage_after s n0) v ≡ state_of s w → (ms : List Moment) → map (λ (x : Moment). x.noted) ms ≡ joint_projection ns → IsRunFrom j ms → (l : ℕ) → slice_get (n0 ∷ ns) l ≡ Some n → AtPlace (n0 ∷ ns) s ms l n
+  at-none : is_joint n0.entry.made.op ≡ false → is_joint n.entry.made.op ≡ true → state_of (linkage_after s n0) v ≡ state_of s w → (ms : List Moment) → map (λ (x : Moment). x.noted) ms ≡ machine_entries ns → IsRunFrom j ms → (l : ℕ) → slice_get (n0 ∷ ns) l ≡ Some n → AtPlace (n0 ∷ ns) s ms l n
   at-none t step stay ms q u zero x = absurd (let f : true ≡ false = sym step ∙ (sym (ap (λ (z : Noted). is_joint z.entry.made.op) (same_Some n0 n x)) ∙ t) in cc)
   at-none t step stay ms q u (suc l) x =
       let r = rest v j ms (from ∙ sym stay) q u l x in
@@ -83,12 +83,12 @@ module _ (n0 : Noted) (ns : List Noted) (s : Linkage) (w : Stands s) (n : Noted)
         after = r.after;
       }
 
-at-place : (ns : List Noted) (s : Linkage) (w : Stands s) (j : Joint) (run : List Moment) → AllMayCome s ns → j ≡ state_of s w → map (λ (m : Moment). m.noted) run ≡ joint_projection ns → IsRunFrom j run → (i : ℕ) (n : Noted) → slice_get ns i ≡ Some n → is_joint n.entry.made.op ≡ true → AtPlace ns s run i n
+at-place : (ns : List Noted) (s : Linkage) (w : Stands s) (j : Joint) (run : List Moment) → AllMayCome s ns → j ≡ state_of s w → map (λ (m : Moment). m.noted) run ≡ machine_entries ns → IsRunFrom j run → (i : ℕ) (n : Noted) → slice_get ns i ≡ Some n → is_joint n.entry.made.op ≡ true → AtPlace ns s run i n
 at-place [] s w j run may from same r i n e step = absurd (none_some n e)
 at-place (n0 ∷ ns) s w j run may from same r i n e step = by (enters s w n0 may.0) (λ v k tail q u f l x. at-place ns (linkage_after s n0) v k tail may.1 q u f l n x step) run same r
   where
-    by : Enters s w n0 → Goes ns (linkage_after s n0) n → (ms : List Moment) → map (λ (m : Moment). m.noted) ms ≡ joint_projection (n0 ∷ ns) → IsRunFrom j ms → AtPlace (n0 ∷ ns) s ms i n
-    by (by_step t v st) rest [] q u = absurd (cons-nil n0 (joint_projection ns) (sym (q ∙ projected n0 ns true t)))
+    by : Enters s w n0 → Goes ns (linkage_after s n0) n → (ms : List Moment) → map (λ (m : Moment). m.noted) ms ≡ machine_entries (n0 ∷ ns) → IsRunFrom j ms → AtPlace (n0 ∷ ns) s ms i n
+    by (by_step t v st) rest [] q u = absurd (cons-nil n0 (machine_entries ns) (sym (q ∙ projected n0 ns true t)))
     by (by_step t v st) rest (m ∷ ms) q u = at-step n0 ns s w n j from v rest t st m ms (q ∙ projected n0 ns true t) u i e
     by (at_rest t v stay) rest ms q u = at-none n0 ns s w n j from v rest t step stay ms (q ∙ projected n0 ns false t) u i e
 

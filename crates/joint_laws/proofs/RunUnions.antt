@@ -5,7 +5,7 @@ use Rattle.std.specs.Prelude.{Contains, slice_get}
 use Rattle.std.proofs.lemmas.Bool.{cases_lt}
 use Rattle.std.proofs.lemmas.Option.{same_Some}
 use Rattle.joint_model.specs.Joint.{Joint, JointMarking, opening, Graph, Row, object, peer, JointEdge, IsJointRoot, IsReached}
-use Rattle.joint_model.specs.Linked.{Linkage, AllMayCome, opening_linkage, linkage_after, is_joint, joint_projection}
+use Rattle.joint_model.specs.Linked.{Linkage, AllMayCome, opening_linkage, linkage_after, is_joint, machine_entries}
 use Rattle.joint_model.specs.PeerReplay.{Marking}
 use Rattle.joint_model.specs.Run.{Moment, IsRun}
 use Rattle.joint_model.specs.Told.{Noted}
@@ -74,7 +74,7 @@ module _ (m : Moment) (tr : IsTraced m) where
   reached-kept (peer p) r f = f
   reached-kept (object x) r f = reached-live t tr.next.flags (object x) tr.next.kept (subst (λ z. IsReached z (object x)) tr.after r) (subst (λ (z : Joint). Contains z.graph.managed.heap.freed x) tr.after f)
 
-module _ (noted : List Noted) (run : List Moment) (may : AllMayCome opening_linkage noted) (r : IsRun (joint_projection noted) run) where
+module _ (noted : List Noted) (run : List Moment) (may : AllMayCome opening_linkage noted) (r : IsRun (machine_entries noted) run) where
   traced : (i : ℕ) (m : Moment) → slice_get run i ≡ Some m → IsTraced m
   traced i m e = run-traced noted run may r m (Contains-at run i m e)
 
@@ -162,4 +162,4 @@ run_union_follows_marking noted run may r i mk b a k l h on p q w e =
     let n = b.event.entry in
     let at = steps_have_moments noted run may r i n b.event.there (ap is_joint b.event.event) in
     let walk : Reaches (JointEdge at.moment.after.graph) (peer p) (peer q) = subst (λ (g : Graph). Reaches (JointEdge g) (peer p) (peer q)) (sym at.after) (marking-walk noted may i mk b p q e) in
-    Reaches-keeps (JointEdge at.moment.after.graph) (λ z. IsReachedInRun run a k z) (λ x y f v. closed noted run may r a (length (joint_projection (take i noted))) k at.moment l h at.there on x y v f) (peer p) (peer q) walk w
+    Reaches-keeps (JointEdge at.moment.after.graph) (λ z. IsReachedInRun run a k z) (λ x y f v. closed noted run may r a (length (machine_entries (take i noted))) k at.moment l h at.there on x y v f) (peer p) (peer q) walk w

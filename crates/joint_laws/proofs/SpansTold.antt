@@ -16,7 +16,6 @@ use Rattle.joint_model.specs.declared.events.Reply.{Reply}
 use Rattle.joint_model.specs.declared.events.Reply.TheVariants as says
 use Rattle.joint_model.specs.Components.{Rises}
 use Rattle.joint_model.specs.Heaps.{answer, slot, place}
-use Rattle.joint_model.specs.Histories.{peer_numbers}
 use Rattle.joint_model.specs.Lines.{IsEvent, is_peer_event}
 use Rattle.joint_model.specs.Linked.{Linkage, AllMayCome, SideLawful, PeerLawful, opening_linkage, linkage_after, managed_after, peer_after, replayed}
 use Rattle.joint_model.specs.Managed.{adopted, met, given_up, managed_line}
@@ -27,7 +26,7 @@ use Rattle.joint_model.specs.Run.{thread_number}
 use Rattle.joint_model.specs.Told.{Told, nothing, snap_of, contraction_of, references_of, slice_of, sweep_of, resolution_of, phase_of, Noted}
 use Rattle.joint_model.proofs.HeapLemmas.{adopt_by-reply}
 use Rattle.joint_laws.specs.States.{state_at}
-use Rattle.joint_laws.specs.ToldLaws.{IsStretch, TellsNoneFreed, TellsNamed, ToldIsNamed}
+use Rattle.joint_laws.specs.ToldLaws.{IsStretch, TellsNoneFreed, TellsNamed}
 use Rattle.joint_laws.proofs.FreedLists.{Grows, managed-grown, peers-grown}
 use Rattle.joint_laws.proofs.JointSteps.{may-end, bring-reply}
 use Rattle.joint_laws.proofs.LinkedEntries.{entry}
@@ -222,8 +221,3 @@ told-named noted may i n there =
     named (replayed opening_linkage noted).managed.managed.heap.freed (replayed opening_linkage noted).peer.peers.heap.freed s n.entry.made.index n.entry.made.reply n.entry.made.cites n.entry.made.caller n.entry.made.op n.told comes.event comes.lawful
     (subst (λ (z : Linkage). Grows (linkage_after s n).managed.managed.heap.freed z.managed.managed.heap.freed) end (subst (λ (z : Linkage). Grows z.managed.managed.heap.freed (state_at noted (suc i + more)).managed.managed.heap.freed) next (managed-grown noted may (suc i) more)))
     (subst (λ (z : Linkage). Grows (linkage_after s n).peer.peers.heap.freed z.peer.peers.heap.freed) end (subst (λ (z : Linkage). Grows z.peer.peers.heap.freed (state_at noted (suc i + more)).peer.peers.heap.freed) next (peers-grown noted may (suc i) more)))
-
-pub told_is_named : ToldIsNamed
-told_is_named h noted l i n there =
-    subst (λ ms. TellsNamed ms (peer_numbers h.freed_peers) n.entry.made.reply n.told) (sym l.freed_managed)
-    (subst (λ ps. TellsNamed (replayed opening_linkage noted).managed.managed.heap.freed ps n.entry.made.reply n.told) (sym l.freed_peers) (told-named noted l.lawful i n there))

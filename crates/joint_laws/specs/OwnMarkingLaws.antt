@@ -5,7 +5,7 @@ use Rattle.joint_model.specs.declared.events.Op.{Op}
 use Rattle.joint_model.specs.declared.events.Op.TheVariants as op
 use Rattle.joint_model.specs.declared.events.Reply.TheVariants as says
 use Rattle.joint_model.specs.Headline.{SnapsAt, ResolvesAt, DriverBeginsAt}
-use Rattle.joint_model.specs.Linked.{AllMayCome, opening_linkage, joint_projection}
+use Rattle.joint_model.specs.Linked.{AllMayCome, opening_linkage, machine_entries}
 use Rattle.joint_model.specs.Run.{Moment, IsRun}
 use Rattle.joint_model.specs.Told.{Noted}
 
@@ -42,6 +42,6 @@ OwnMarkingIsOne = (noted : List Noted) → AllMayCome opening_linkage noted → 
 
 -- and in its run no two places between them have a begin of the driver
 abbrev pub RunMarksOnce : Type 0
-RunMarksOnce = (noted : List Noted) (run : List Moment) → AllMayCome opening_linkage noted → IsRun (joint_projection noted) run
+RunMarksOnce = (noted : List Noted) (run : List Moment) → AllMayCome opening_linkage noted → IsRun (machine_entries noted) run
     → (a e k : ℕ) (freed candidates resolved : List ℕ) → SnapsAt run a k freed candidates → ResolvesAt run e k resolved
     → (b c i j : ℕ) → DriverBeginsAt run b i → DriverBeginsAt run c j → a < b → b < e → a < c → c < e → b ≡ c

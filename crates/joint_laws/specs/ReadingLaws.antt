@@ -1,6 +1,6 @@
 -- Histories with lock-free reads: without the reads that are set aside each is a lawful list of entries, so its joint projection
 -- is a run of the joint machine, the only one, sound and complete. And what the managed side's own list is in such a history.
-use Rattle.std.specs.Prelude.{◌≡◌, ℕ, false, not, if◌then◌else◌, List, [], ◌∷◌, filter, Option, Some, None, slice_set}
+use Rattle.std.specs.Prelude.{◌≡◌, ℕ, All, false, not, if◌then◌else◌, List, [], ◌∷◌, filter, Option, Some, None, slice_set}
 use Rattle.joint_model.specs.declared.names.Thread.{Thread}
 use Rattle.joint_model.specs.declared.lines.Act.TheVariants as act
 use Rattle.joint_model.specs.declared.events.Op.{Op}
@@ -9,10 +9,12 @@ use Rattle.joint_model.specs.declared.events.Reply.{Reply}
 use Rattle.joint_model.specs.declared.events.Reply.TheVariants as says
 use Rattle.joint_model.specs.Headline.{IsSoundRun, IsCompleteRun}
 use Rattle.joint_model.specs.Histories.{Finished}
-use Rattle.joint_model.specs.Linked.{AllMayCome, opening_linkage, replayed, managed_after, joint_projection}
-use Rattle.joint_model.specs.Managed.{opening_managed}
+use Rattle.joint_model.specs.Lines.{is_read}
+use Rattle.joint_model.specs.Linked.{Linkage, AllMayCome, opening_linkage, replayed, managed_after, machine_entries}
+use Rattle.joint_model.specs.LinkedHistories.{IsLinkedBy, joint_projection}
+use Rattle.joint_model.specs.Managed.{opening_managed, read_cell}
 use Rattle.joint_model.specs.ManagedReplay.{ManagedReplay, opening_replay}
-use Rattle.joint_model.specs.Readers.{AllMayComeReading, replayed_reading, IsLinkedReadingBy, reading_projection, is_aside, is_managed_entry, PinnedEntry, with_pins, AllKeptLawful}
+use Rattle.joint_model.specs.Readers.{ReadsCell, entry_after, AllMayComeReading, replayed_reading, is_aside, is_managed_entry, PinnedEntry, with_pins, AllKeptLawful}
 use Rattle.joint_model.specs.Run.{Moment, IsRun, thread_number}
 use Rattle.joint_model.specs.Told.{Noted}
 
@@ -38,23 +40,23 @@ ReadingLeadsToSame = (noted : List Noted) → IsLawfulReading noted → LeadToSa
 
 -- and whose joint projection is that of the history: so each law on lawful lists and their runs is one on histories with lock-free reads
 abbrev pub ReadingProjectsSo : Type 0
-ReadingProjectsSo = (noted : List Noted) → joint_projection (without_aside noted) ≡ reading_projection noted
+ReadingProjectsSo = (noted : List Noted) → machine_entries (without_aside noted) ≡ joint_projection noted
 
 -- some moments are a run over its joint projection, sound and complete
 abbrev pub HasReadingRun : List Noted → Type 0
-HasReadingRun noted = (run : List Moment) × IsRun (reading_projection noted) run × IsSoundRun run × IsCompleteRun run
+HasReadingRun noted = (run : List Moment) × IsRun (joint_projection noted) run × IsSoundRun run × IsCompleteRun run
 
 -- the joint projection of a lawful list of entries with lock-free reads is a run, sound and complete
 abbrev pub ReadingProjectionIsComplete : Type 0
 ReadingProjectionIsComplete = (noted : List Noted) → IsLawfulReading noted → HasReadingRun noted
 
 -- and so is that of a linked history with lock-free reads
-abbrev pub LinkedReadingIsComplete : Type 0
-LinkedReadingIsComplete = (h : Finished) (noted : List Noted) → IsLinkedReadingBy h noted → HasReadingRun noted
+abbrev pub LinkedIsComplete : Type 0
+LinkedIsComplete = (h : Finished) (noted : List Noted) → IsLinkedBy h noted → HasReadingRun noted
 
 -- each run over it is sound and complete
 abbrev pub EveryReadingRunIsComplete : Type 0
-EveryReadingRunIsComplete = (noted : List Noted) (run : List Moment) → IsLawfulReading noted → IsRun (reading_projection noted) run → IsSoundRun run × IsCompleteRun run
+EveryReadingRunIsComplete = (noted : List Noted) (run : List Moment) → IsLawfulReading noted → IsRun (joint_projection noted) run → IsSoundRun run × IsCompleteRun run
 
 -- the pins after an event: a read that names an object fills its caller's pin, a `take` that names one empties it
 abbrev pub pins_by : List (Option ℕ) → Thread → Op → Reply → List (Option ℕ)
@@ -84,3 +86,21 @@ kept_replayed s (k ∷ ks) = kept_replayed (managed_after (with_pins s k.pins) k
 abbrev pub KeptPinsLeadToSame : Type 0
 KeptPinsLeadToSame = (noted : List Noted) → IsLawfulReading noted
     → with_pins (kept_replayed opening_replay (kept_from opening_managed.pins noted)) (replayed_reading opening_linkage noted).managed.managed.pins ≡ (replayed_reading opening_linkage noted).managed
+
+-- each read answers as the one machine does at its number
+abbrev pub AreExact : Linkage → List Noted → Type 0
+AreExact s [] = Unit {0}
+AreExact s (n ∷ ns) = ((k : ℕ) → ReadsCell n.entry.made.op k → n.entry.made.reply ≡ (read_cell s.managed.managed (thread_number n.entry.made.caller) k).reply) × AreExact (entry_after s n) ns
+
+-- then the list is lawful with reads that are events of the one machine as all others are, and leads to the same state: so two such
+-- histories of one script, line after line, are one
+pub record IsExactList (noted : List Noted) : Type 0 where
+  pub lawful : AllMayCome opening_linkage noted
+  pub ends : replayed_reading opening_linkage noted ≡ replayed opening_linkage noted
+
+abbrev pub ExactReadingsAreLawful : Type 0
+ExactReadingsAreLawful = (noted : List Noted) → IsLawfulReading noted → AreExact opening_linkage noted → IsExactList noted
+
+-- a list without reads is exact
+abbrev pub ReadlessIsExact : Type 0
+ReadlessIsExact = (noted : List Noted) (s : Linkage) → All (λ n. is_read n.entry.made.op ≡ false) noted → AreExact s noted

@@ -1,23 +1,19 @@
--- The joint projection of each lawful list of entries is a run of the joint machine, the only one, sound and complete.
+-- The steps of the joint machine in each lawful list of entries are a run of it, the only one, sound and complete. In such a list reads are events of
+-- the managed side; `ReadingLaws` has linked histories.
 use Rattle.std.specs.Prelude.{◌≡◌, ℕ, ◌<◌, List, Contains}
 use Rattle.joint_model.specs.Headline.{SnapsAt, SweepsAt, BeginsAt, IsUnreachedBefore, WasUnreached, IsSoundRun, IsCompleteRun}
-use Rattle.joint_model.specs.Histories.{Finished}
 use Rattle.joint_model.specs.Joint.{object, peer}
-use Rattle.joint_model.specs.Linked.{AllMayCome, opening_linkage, joint_projection, IsLinkedBy}
+use Rattle.joint_model.specs.Linked.{AllMayCome, opening_linkage, machine_entries}
 use Rattle.joint_model.specs.Run.{Moment, IsRun}
 use Rattle.joint_model.specs.Told.{Noted}
 
--- some moments are a run over the joint projection
+-- some moments are a run over the steps
 abbrev pub HasRun : List Noted → Type 0
-HasRun noted = (run : List Moment) × IsRun (joint_projection noted) run
+HasRun noted = (run : List Moment) × IsRun (machine_entries noted) run
 
--- the joint projection of a lawful list of entries is a run
+-- those of a lawful list of entries are a run
 abbrev pub ProjectionIsRun : Type 0
 ProjectionIsRun = (noted : List Noted) → AllMayCome opening_linkage noted → HasRun noted
-
--- and so is that of a linked history
-abbrev pub LinkedIsRun : Type 0
-LinkedIsRun = (h : Finished) (noted : List Noted) → IsLinkedBy h noted → HasRun noted
 
 -- a list of entries has one run at most
 abbrev pub RunIsOne : Type 0
@@ -31,32 +27,24 @@ SnapshotsAreSound = (entries : List Noted) (run : List Moment) → IsRun entries
 abbrev pub SweepsAreSound : Type 0
 SweepsAreSound = (entries : List Noted) (run : List Moment) → IsRun entries run → (i j p : ℕ) (freed : List ℕ) → SweepsAt run i j freed → Contains freed p → (begin : ℕ) × (begin < i) × BeginsAt run begin j × WasUnreached run begin i (peer p)
 
--- the joint projection of a lawful list of entries is a sound run
+-- a sound one
 abbrev pub HasSoundRun : List Noted → Type 0
-HasSoundRun noted = (run : List Moment) × IsRun (joint_projection noted) run × IsSoundRun run
+HasSoundRun noted = (run : List Moment) × IsRun (machine_entries noted) run × IsSoundRun run
 
 abbrev pub ProjectionIsSound : Type 0
 ProjectionIsSound = (noted : List Noted) → AllMayCome opening_linkage noted → HasSoundRun noted
 
--- and so is that of a linked history
-abbrev pub LinkedIsSound : Type 0
-LinkedIsSound = (h : Finished) (noted : List Noted) → IsLinkedBy h noted → HasSoundRun noted
-
--- the joint projection of a lawful list of entries is a run that is sound and complete
+-- that is sound and complete
 abbrev pub HasCompleteRun : List Noted → Type 0
-HasCompleteRun noted = (run : List Moment) × IsRun (joint_projection noted) run × IsSoundRun run × IsCompleteRun run
+HasCompleteRun noted = (run : List Moment) × IsRun (machine_entries noted) run × IsSoundRun run × IsCompleteRun run
 
 abbrev pub ProjectionIsComplete : Type 0
 ProjectionIsComplete = (noted : List Noted) → AllMayCome opening_linkage noted → HasCompleteRun noted
 
--- and so is that of a linked history
-abbrev pub LinkedIsComplete : Type 0
-LinkedIsComplete = (h : Finished) (noted : List Noted) → IsLinkedBy h noted → HasCompleteRun noted
-
--- each run over the joint projection of a lawful list of entries is sound
+-- each run over the steps of a lawful list of entries is sound
 abbrev pub EveryRunIsSound : Type 0
-EveryRunIsSound = (noted : List Noted) (run : List Moment) → AllMayCome opening_linkage noted → IsRun (joint_projection noted) run → IsSoundRun run
+EveryRunIsSound = (noted : List Noted) (run : List Moment) → AllMayCome opening_linkage noted → IsRun (machine_entries noted) run → IsSoundRun run
 
 -- and complete
 abbrev pub EveryRunIsComplete : Type 0
-EveryRunIsComplete = (noted : List Noted) (run : List Moment) → AllMayCome opening_linkage noted → IsRun (joint_projection noted) run → IsSoundRun run × IsCompleteRun run
+EveryRunIsComplete = (noted : List Noted) (run : List Moment) → AllMayCome opening_linkage noted → IsRun (machine_entries noted) run → IsSoundRun run × IsCompleteRun run

@@ -1,7 +1,7 @@
 -- The states of the run are those of both sides: what a law says of the states of a lawful list of entries it says of its run.
 use Rattle.std.specs.Prelude.{◌≡◌, ℕ, suc, ◌≤◌, true, false, List, length, take, Some, None, slice_get}
 use Rattle.joint_model.specs.Joint.{Row, peer, JointEdge, IsReached}
-use Rattle.joint_model.specs.Linked.{AllMayCome, opening_linkage, is_joint, joint_projection}
+use Rattle.joint_model.specs.Linked.{AllMayCome, opening_linkage, is_joint, machine_entries}
 use Rattle.joint_model.specs.Run.{Moment, IsRun}
 use Rattle.joint_model.specs.Told.{Noted}
 use Rattle.joint_model.specs.PeerReplay.{Marking, MarkingEdge}
@@ -11,14 +11,14 @@ use Rattle.joint_laws.specs.UnionLaws.{graph_in, BeginsMarking}
 -- states before the entry to that of those after it
 pub record HasMoment (noted : List Noted) (run : List Moment) (i : ℕ) (n : Noted) : Type 0 where
   pub moment : Moment
-  pub there : slice_get run (length (joint_projection (take i noted))) ≡ Some moment
+  pub there : slice_get run (length (machine_entries (take i noted))) ≡ Some moment
   pub entry : moment.noted ≡ n
   pub before : moment.before.graph ≡ graph_in noted i
   pub after : moment.after.graph ≡ graph_in noted (suc i)
 
 -- in each run over the joint projection of a lawful list of entries, each entry that is a step has its moment
 abbrev pub StepsHaveMoments : Type 0
-StepsHaveMoments = (noted : List Noted) (run : List Moment) → AllMayCome opening_linkage noted → IsRun (joint_projection noted) run
+StepsHaveMoments = (noted : List Noted) (run : List Moment) → AllMayCome opening_linkage noted → IsRun (machine_entries noted) run
     → (i : ℕ) (n : Noted) → slice_get noted i ≡ Some n → is_joint n.entry.made.op ≡ true → HasMoment noted run i n
 
 -- and each other entry leaves the joint graph as it is
@@ -41,11 +41,11 @@ IsOpenInRun run from to = (j : ℕ) (m : Moment) → from ≤ j → j ≤ to →
 -- in the run too the union of what is reached from one place to a later one is closed under the joint edges of each state between from
 -- which on a marking is open
 abbrev pub RunUnionIsClosed : Type 0
-RunUnionIsClosed = (noted : List Noted) (run : List Moment) → AllMayCome opening_linkage noted → IsRun (joint_projection noted) run → (a i k : ℕ) (m : Moment) → a ≤ i → i ≤ k → slice_get run i ≡ Some m → IsOpenInRun run i k
+RunUnionIsClosed = (noted : List Noted) (run : List Moment) → AllMayCome opening_linkage noted → IsRun (machine_entries noted) run → (a i k : ℕ) (m : Moment) → a ≤ i → i ≤ k → slice_get run i ≡ Some m → IsOpenInRun run i k
     → (x y : Row) → IsReachedInRun run a k x → JointEdge m.after.graph x y → IsReachedInRun run a k y
 
 -- so it is closed under the fields and the mirrored references that stood at the begin of a marking
 abbrev pub RunUnionFollowsMarking : Type 0
-RunUnionFollowsMarking = (noted : List Noted) (run : List Moment) → AllMayCome opening_linkage noted → IsRun (joint_projection noted) run → (i : ℕ) (mk : Marking) → BeginsMarking noted i mk
-    → (a k : ℕ) → a ≤ length (joint_projection (take i noted)) → length (joint_projection (take i noted)) ≤ k → IsOpenInRun run (length (joint_projection (take i noted))) k
+RunUnionFollowsMarking = (noted : List Noted) (run : List Moment) → AllMayCome opening_linkage noted → IsRun (machine_entries noted) run → (i : ℕ) (mk : Marking) → BeginsMarking noted i mk
+    → (a k : ℕ) → a ≤ length (machine_entries (take i noted)) → length (machine_entries (take i noted)) ≤ k → IsOpenInRun run (length (machine_entries (take i noted))) k
     → (p q : ℕ) → IsReachedInRun run a k (peer p) → MarkingEdge mk p q → IsReachedInRun run a k (peer q)

@@ -7,12 +7,10 @@ use Rattle.joint_model.specs.declared.events.Reply.{Reply}
 use Rattle.joint_model.specs.declared.events.Reply.TheVariants as says
 use Rattle.joint_model.specs.Components.{Rises}
 use Rattle.joint_model.specs.Histories.{Finished, IsHistory, managed_numbers, peer_numbers, stretch, IsWithin}
-use Rattle.joint_model.specs.Linked.{IsLinkedBy}
+use Rattle.joint_model.specs.LinkedHistories.{IsLinkedBy}
 use Rattle.joint_model.specs.Managed.{Managed}
-use Rattle.joint_model.specs.Readers.{IsLinkedReadingBy}
 use Rattle.joint_model.specs.Told.{Told, snap_of, sweep_of, resolution_of, Answer, Noted}
 use Rattle.joint_laws.specs.AfterwardsLaws.{reading_at}
-use Rattle.joint_laws.specs.States.{state_at}
 
 -- the numbers are the stretch of the list that the span names, which lies within it
 pub record IsStretch (list : List ℕ) (s : Span) (numbers : List ℕ) : Type 0 where
@@ -72,20 +70,8 @@ pub record TakesNamed (list : List ℕ) (before : Managed) (s : Span) : Type 0 w
 
 abbrev pub NoticesAreNamed : Type 0
 NoticesAreNamed = (h : Finished) (noted : List Noted) → IsLinkedBy h noted → (i : ℕ) (n : Noted) (s : Span) → slice_get noted i ≡ Some n → n.entry.made.reply ≡ says.Took s
-    → TakesNamed (managed_numbers h.notices) (state_at noted i).managed.managed s
-
--- the same of histories with lock-free reads
-abbrev pub ReadingToldIsNamed : Type 0
-ReadingToldIsNamed = (h : Finished) (noted : List Noted) → IsLinkedReadingBy h noted → (i : ℕ) (n : Noted) → slice_get noted i ≡ Some n
-    → TellsNamed (managed_numbers h.freed_managed) (peer_numbers h.freed_peers) n.entry.made.reply n.told
-
-abbrev pub ReadingNoticesAreNamed : Type 0
-ReadingNoticesAreNamed = (h : Finished) (noted : List Noted) → IsLinkedReadingBy h noted → (i : ℕ) (n : Noted) (s : Span) → slice_get noted i ≡ Some n → n.entry.made.reply ≡ says.Took s
     → TakesNamed (managed_numbers h.notices) (reading_at noted i).managed.managed s
 
 -- so the entries of a linked history fit its lists: it is a history as a value keeps one
 abbrev pub LinkedIsHistory : Type 0
 LinkedIsHistory = (h : Finished) (noted : List Noted) → IsLinkedBy h noted → IsHistory h
-
-abbrev pub LinkedReadingIsHistory : Type 0
-LinkedReadingIsHistory = (h : Finished) (noted : List Noted) → IsLinkedReadingBy h noted → IsHistory h

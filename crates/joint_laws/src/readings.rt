@@ -1,6 +1,6 @@
 // Laws of histories with lock-free reads.
 
-ghost use Rattle.joint_laws.specs.ReadingLaws.{EveryReadingRunIsComplete, KeptPinsAreLawful, KeptPinsLeadToSame, LinkedReadingIsComplete, ReadingIsLawful, ReadingLeadsToSame, ReadingProjectionIsComplete, ReadingProjectsSo};
+ghost use Rattle.joint_laws.specs.ReadingLaws.{EveryReadingRunIsComplete, ExactReadingsAreLawful, ReadlessIsExact, KeptPinsAreLawful, KeptPinsLeadToSame, LinkedIsComplete, ReadingIsLawful, ReadingLeadsToSame, ReadingProjectionIsComplete, ReadingProjectsSo};
 
 /// A history with lock-free reads, without those that are set aside, is a lawful list of entries, and leads to the same state of both
 /// sides, with the same joint projection. So this projection is a run of the joint machine, sound and complete: there is such a run, and
@@ -10,7 +10,7 @@ pub fn reading_projection_is_complete()
     ensures same { ReadingLeadsToSame }
     ensures projection { ReadingProjectsSo }
     ensures lawful { ReadingProjectionIsComplete }
-    ensures linked { LinkedReadingIsComplete }
+    ensures linked { LinkedIsComplete }
     ensures every { EveryReadingRunIsComplete }
 {}
 
@@ -19,4 +19,11 @@ pub fn reading_projection_is_complete()
 pub fn kept_pins_are_lawful()
     ensures lawful { KeptPinsAreLawful }
     ensures same { KeptPinsLeadToSame }
+{}
+
+/// A history with lock-free reads in which each read answers as the one machine does at its number is a lawful list in which reads are events as all
+/// others are, and leads to the same state. So it is of a history without reads.
+pub fn exact_readings_are_lawful()
+    ensures exact { ExactReadingsAreLawful }
+    ensures readless { ReadlessIsExact }
 {}

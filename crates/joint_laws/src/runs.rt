@@ -1,14 +1,13 @@
 // Laws on runs of the joint machine.
 
 ghost use Rattle.joint_laws.specs.RunStateLaws.{OthersKeepGraph, StepsHaveMoments};
-ghost use Rattle.joint_laws.specs.RunLaws.{EveryRunIsComplete, EveryRunIsSound, LinkedIsComplete, LinkedIsRun, LinkedIsSound, ProjectionIsComplete, ProjectionIsRun, ProjectionIsSound, RunIsOne, SnapshotsAreSound, SweepsAreSound};
+ghost use Rattle.joint_laws.specs.RunLaws.{EveryRunIsComplete, EveryRunIsSound, ProjectionIsComplete, ProjectionIsRun, ProjectionIsSound, RunIsOne, SnapshotsAreSound, SweepsAreSound};
 
 /// The joint projection of each lawful list of entries is a run of the joint machine, word by word, whatever entries of other
 /// threads come between those of a cycle or of an operation; so is that of each linked history. No list of entries has two
 /// runs, so it is the only one.
 pub fn joint_projection_is_a_run()
     ensures lawful { ProjectionIsRun }
-    ensures linked { LinkedIsRun }
     ensures one { RunIsOne }
 {}
 
@@ -27,7 +26,6 @@ pub fn sweeps_are_sound()
 /// resolution frees was reached just before. There is such a run, and every run over the joint projection is so.
 pub fn joint_projection_is_sound()
     ensures lawful { ProjectionIsSound }
-    ensures linked { LinkedIsSound }
     ensures every { EveryRunIsSound }
 {}
 
@@ -38,7 +36,6 @@ pub fn joint_projection_is_sound()
 /// There is such a run, and every run over the joint projection is so.
 pub fn joint_projection_is_complete()
     ensures lawful { ProjectionIsComplete }
-    ensures linked { LinkedIsComplete }
     ensures every { EveryRunIsComplete }
 {}
 

@@ -1,5 +1,5 @@
-use Rattle.joint_laws.proofs.FittingLists.{linked_is_history, linked_reading_is_history}
+use Rattle.joint_laws.proofs.FittingLists.{linked_is_history}
 use Rattle.joint_laws.proofs.told.linked_histories_fit_their_lists.Goals as goal
 
 pub returns : goal.returns
-returns c = record { list = linked_is_history; lock_free = linked_reading_is_history }
+returns c = linked_is_history
