@@ -2,14 +2,17 @@
 -- in which it stands is the same entries with the same notes. So the entry, with what the one past tells, may come after the other
 -- past too, and what may be told plainly of an entry at a state is one. So there is one whole run with notes of which both are
 -- pasts, and the join law of noted pasts holds of them.
-use Rattle.std.proofs.Common.{◌≡◌, inl, inr, ⊎_elim, ℕ, zero, suc, ◌+◌, ◌<◌, ◌≤◌, Bool, true, false, List, [], ◌∷◌, ◌++◌, length, map, Option, Some, None, refl, sym, ap, ◌∙◌, subst, arith, eqb, eq-eqb, ne_eqb}
+use Rattle.std.proofs.Common.{◌≡◌, inl, inr, ⊎_elim, ℕ, zero, suc, ◌+◌, ◌<◌, ◌≤◌, Bool, true, false, List, [], ◌∷◌, ◌++◌, length, map, Option, Some, None, refl, sym, ap, ◌∙◌, subst, arith, eqb, eq-eqb, ne_eqb, true≢false}
 use Rattle.std.specs.Prelude.{if◌then◌else◌}
 use Rattle.std.proofs.lemmas.Bool.{cases_Bool, eqb-true}
 use Rattle.std.proofs.lemmas.Option.{same_Some}
 use base.Growing.{prefix_anti}
 use Rattle.joint_model.specs.declared.events.Entry.{Entry}
-use Rattle.joint_model.specs.Told.{Noted, nothing}
-use Rattle.known_laws.specs.Known.{MayComeLater}
+use Rattle.joint_model.specs.Lines.{is_read, is_pinned}
+use Rattle.joint_model.specs.Linked.{Linkage}
+use Rattle.joint_model.specs.Told.{Noted, nothing, bare_told, pins_told}
+use Rattle.known_laws.specs.Known.{MayComeLater, TellsPlainly, Comes, given, pinned}
+use Rattle.known_laws.proofs.Bared.{same_told}
 use Rattle.known_laws.specs.Telling.{MayBeTold}
 use Rattle.known_laws.specs.Pasts.{role_of, own_of, is_in, line, of_line, PastRunsFrom, InPast, end_of, Lawful, Within, bare, AreWithin, AreAlike, PastsAgree, EntryPastsJoin, next_of}
 use Rattle.known_laws.proofs.PastLines.{in_role, in_own, in-line, one-number, shorter_begins}
@@ -93,6 +96,20 @@ runs_told : (f : Noted → Noted) (n : ℕ) (ws : List Noted) → ((w : Noted) �
 runs_told f n [] h r = tt
 runs_told f n (w ∷ ws) h r = (ap (λ (e : Entry). e.number) (h w (inl refl)) ∙ r.0, runs_told f (n + 1) ws (λ x p. h x (inr p)) r.1)
 
+-- what is told of an entry at one state is one, with the same pins
+one_told : (s : Linkage) (x y : Noted) → x.entry ≡ y.entry → pins_told x.told ≡ pins_told y.told → Comes (is_read x.entry.made.op) s x → TellsPlainly s.control.stand x.entry.made.op (bare_told x.told)
+    → Comes (is_read y.entry.made.op) s y → TellsPlainly s.control.stand y.entry.made.op (bare_told y.told) → x.told ≡ y.told
+one_told s x y entry pins a p b q = by (is_read x.entry.made.op) (is_read y.entry.made.op) (ap (λ (e : Entry). is_read e.made.op) entry) a b
+  where
+    by : (r u : Bool) → r ≡ u → Comes r s x → Comes u s y → x.told ≡ y.told
+    by true true e a b = a.bare ∙ sym b.bare
+    by true false e a b = absurd (true≢false e)
+    by false true e a b = absurd (true≢false (sym e))
+    by false false e a b =
+        let w : MayBeTold (given s y.told) y.entry (bare_told y.told) = (b.comes, q) in
+        let v : MayBeTold (given s x.told) x.entry (bare_told y.told) = subst (λ z. MayBeTold (pinned s z) x.entry (bare_told y.told)) (sym pins) (subst (λ e. MayBeTold (given s y.told) e (bare_told y.told)) (sym entry) w) in
+        same_told x.told y.told (a.tells ∙ (ap (λ (e : Entry). is_pinned e.made.op) entry ∙ sym b.tells)) pins (told_is_one (given s x.told) x.entry (bare_told x.told) (bare_told y.told) (a.comes, p) v)
+
 module _ (whole : List Noted) (runs : PastRunsFrom 0 whole) where
   rest_within : (x : Noted) (h : List Noted) → AreWithin whole (x ∷ h) → AreWithin whole h
   rest_within x h w = within_past (map bare whole) (bare x) (map bare h) w
@@ -103,8 +120,8 @@ module _ (whole : List Noted) (runs : PastRunsFrom 0 whole) where
   same_entry : (x w : Noted) (h : List Noted) → InPast h x → AreWithin whole h → InPast whole w → x.entry.number ≡ w.entry.number → x.entry ≡ w.entry
   same_entry x w h p a q e = ap (λ (z : Noted). z.entry) (one-number 0 (map bare whole) (bare x) (bare w) (runs_bare 0 whole runs) (bare_in x h p a) (in_map bare whole w q) e)
 
-  both_entry : (x y : Noted) (a b : List Noted) → InPast a x → InPast b y → AreWithin whole a → AreWithin whole b → x.entry.number ≡ y.entry.number → x.entry ≡ y.entry
-  both_entry x y a b p q wa wb e = ap (λ (z : Noted). z.entry) (one-number 0 (map bare whole) (bare x) (bare y) (runs_bare 0 whole runs) (bare_in x a p wa) (bare_in y b q wb) e)
+  both_bare : (x y : Noted) (a b : List Noted) → InPast a x → InPast b y → AreWithin whole a → AreWithin whole b → x.entry.number ≡ y.entry.number → bare x ≡ bare y
+  both_bare x y a b p q wa wb e = (one-number 0 (map bare whole) (bare x) (bare y) (runs_bare 0 whole runs) (bare_in x a p wa) (bare_in y b q wb) e)
 
   tell_entry : (a b : List Noted) → AreWithin whole a → AreWithin whole b → (w : Noted) → InPast whole w → (tell a b w).entry ≡ w.entry
   tell_entry a b wa wb w p = by (find w.entry.number a) refl
@@ -142,7 +159,9 @@ module _ (whole : List Noted) (runs : PastRunsFrom 0 whole) where
   -- the two latest entries, where they have one number
   heads : (x y : Noted) (a b : List Noted) → Lawful (x ∷ a) → Lawful (y ∷ b) → AreWithin whole (x ∷ a) → AreWithin whole (y ∷ b) → AreAlike a b → x.entry.number ≡ y.entry.number → x ≡ y
   heads x y a b la lb wa wb alike number =
-      let entry : x.entry ≡ y.entry = both_entry x y (x ∷ a) (y ∷ b) (inl refl) (inl refl) wa wb number in
+      let bares : bare x ≡ bare y = both_bare x y (x ∷ a) (y ∷ b) (inl refl) (inl refl) wa wb number in
+      let entry : x.entry ≡ y.entry = ap (λ (z : Noted). z.entry) bares in
+      let pins : pins_told x.told ≡ pins_told y.told = ap (λ (z : Noted). pins_told z.told) bares in
       let ra = rest_within x a wa in
       let rb = rest_within y b wb in
       let na = within_told a b a ra rb ra (self_a a b la.1) in
@@ -158,8 +177,7 @@ module _ (whole : List Noted) (runs : PastRunsFrom 0 whole) where
       (shorter_begins (line i b) (line i a) (of_line i (map (tell a b) whole)) (nb i) (na i) (omega (arith, m, n, ea, eb))) in
       let moved : MayComeLater (next_of b) (end_of b) x = may_move a b x (λ e. frozen_in (map (tell a b) whole) a b la.1 lb.1 na nb (subst (λ i. line i a ≡ line i b) e (lines (own_of x) (in_own x))))
       (lines (role_of x) (in_role x)) (lines (own_of x) (in_own x)) (let l = lb.0.later in omega (arith, l, number)) la.0 in
-      let same : x.told ≡ y.told = told_is_one (end_of b) x.entry x.told y.told (moved.comes, moved.plain)
-      (subst (λ (en : Entry). MayBeTold (end_of b) en y.told) (sym entry) (lb.0.comes, lb.0.plain)) in
+      let same : x.told ≡ y.told = one_told (end_of b) x y entry pins moved.comes moved.plain lb.0.comes lb.0.plain in
       λ i. record { entry = entry i; told = same i }
     where
       below_bare : (y : Noted) (b : List Noted) (x : Noted) → Lawful (y ∷ b) → x.entry.number ≡ y.entry.number → (e : Noted) → InPast (map bare b) e → e.entry.number < x.entry.number

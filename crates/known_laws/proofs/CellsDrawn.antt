@@ -1,5 +1,11 @@
 -- A cell's target is the one with which its `weak` was drawn. Only a `weak` that answers ok changes the cells: it puts its variable's
 -- object into its own cell, which is the target that it is drawn with. There are 64 cells all along, so what is put is there.
+use Rattle.known_laws.proofs.Coming.{event_of}
+use Rattle.known_laws.specs.Known.{Comes, given, managed_past}
+use Rattle.joint_model.specs.Readers.{with_pins}
+use Rattle.joint_model.specs.Lines.{is_read}
+use Rattle.joint_model.specs.Told.{bare_told, pins_told}
+use Rattle.std.proofs.Common.{true≢false}
 use Rattle.std.proofs.Common.{◌≡◌, ◌≢◌, ⊎_elim, ℕ, zero, suc, ◌<◌, Bool, true, false, List, [], ◌∷◌, length, replicate, Option, Some, None, refl, sym, ap, ◌∙◌, subst, arith, eq-eqb, ne_eqb}
 use Rattle.std.specs.Prelude.{if◌then◌else◌, slice_get, slice_set}
 use Rattle.std.proofs.lemmas.Bool.{cases_eq}
@@ -19,7 +25,7 @@ use Rattle.joint_model.specs.declared.events.Reply.{Reply}
 use Rattle.joint_model.specs.declared.events.Reply.TheVariants as says
 use Rattle.joint_model.specs.Heaps.{Answered, answer, slot, place, is_full, is_freed}
 use Rattle.joint_model.specs.Lines.{IsEvent, is_peer_event}
-use Rattle.joint_model.specs.Linked.{SideLawful, managed_after}
+use Rattle.joint_model.specs.Linked.{SideLawful}
 use Rattle.joint_model.specs.Managed.{Managed, OpenCycle, managed_name, managed_line, adopted, met, given_up, with_row, cell_set, weakened_to, target_read, cell_read, read_cell, pin_taken, without_handle, twin_met, twin_kind, twin_fields}
 use Rattle.joint_model.specs.ManagedReplay.{ManagedReplay, managed_answer, registered}
 use Rattle.joint_model.specs.Run.{thread_number}
@@ -168,6 +174,16 @@ untargeted : (o : Op) → sets_by o None ≡ None
 untargeted (op.Line (act.Weak k v)) = refl
 untargeted o = refl
 
+-- a read sets no cell, and what a `weak` sets asks for no pins
+read-sets : (o : Op) (target : Option MNum) → is_read o ≡ true → sets_by o target ≡ None
+read-sets (op.Line (act.Weak k v)) target e = absurd (true≢false (sym e))
+read-sets o target e = refl
+
+target-same : (s : ManagedReplay) (p : List (Option ℕ)) (t : Thread) (o : Op) (r : Reply) → cell_target (with_pins s p) t o r ≡ cell_target s t o r
+target-same s p t (op.Line (act.Weak k v)) says.Ok = refl
+target-same s p t (op.Line (act.Weak k v)) r = refl
+target-same s p t o r = refl
+
 -- what is so of the cells at each past's end
 record AreCelled (h : List Noted) : Type 0 where
   long : length (end_of h).managed.managed.cells ≡ 64
@@ -182,26 +198,28 @@ module _ (x : Noted) (h : List Noted) (l : Lawful (x ∷ h)) (k : AreCelled h) w
   abbrev Drawn_by : Bool → Option (ℕ × ℕ)
   Drawn_by b = sets (if b then drawn_by peer_rules (end_of h).peer x else drawn_by managed_rules (end_of h).managed x)
 
-  cells-are : (b : Bool) → SideLawful b (end_of h) x.entry.made x.told → (managed_after (end_of h).managed x.entry.made x.told b).managed.cells ≡ cells_by (end_of h).managed.managed.cells (Drawn_by b)
-  cells-are true w = ap (cells_by (end_of h).managed.managed.cells) (sym (untargeted x.entry.made.op))
-  cells-are false w = cells-after (end_of h).managed x.entry.made.caller x.entry.made.op x.told
-      ∙ ap (λ r. cells_by (end_of h).managed.managed.cells (sets_by x.entry.made.op (cell_target (end_of h).managed x.entry.made.caller x.entry.made.op r))) (sym w.replies)
+  cells-are : (b r : Bool) → is_peer_event x.entry.made.caller x.entry.made.op ≡ b → is_read x.entry.made.op ≡ r → Comes r (end_of h) x → (managed_past (end_of h).managed x.entry.made x.told b r).managed.cells ≡ cells_by (end_of h).managed.managed.cells (Drawn_by b)
+  cells-are true r e f w = ap (cells_by (end_of h).managed.managed.cells) (sym (untargeted x.entry.made.op))
+  cells-are false true e f w = ap (cells_by (end_of h).managed.managed.cells) (sym (read-sets x.entry.made.op _ f))
+  cells-are false false e f w = cells-after (given (end_of h) x.told).managed x.entry.made.caller x.entry.made.op (bare_told x.told)
+      ∙ ap (λ r. cells_by (end_of h).managed.managed.cells (sets_by x.entry.made.op (cell_target (given (end_of h) x.told).managed x.entry.made.caller x.entry.made.op r))) (sym (subst (λ c. SideLawful c (given (end_of h) x.told) x.entry.made (bare_told x.told)) e w.comes.lawful).replies)
+      ∙ ap (λ t. cells_by (end_of h).managed.managed.cells (sets_by x.entry.made.op t)) (target-same (end_of h).managed (pins_told x.told) x.entry.made.caller x.entry.made.op x.entry.made.reply)
 
   ranged : (b : Bool) (q : ℕ × ℕ) → Drawn_by b ≡ Some q → q.0 < 64
-  ranged true q e = in-range x.entry.made.caller x.entry.made.op None q l.0.comes.event e
-  ranged false q e = in-range x.entry.made.caller x.entry.made.op _ q l.0.comes.event e
+  ranged true q e = in-range x.entry.made.caller x.entry.made.op None q (event_of x h l) e
+  ranged false q e = in-range x.entry.made.caller x.entry.made.op _ q (event_of x h l) e
 
-  celled-by : (b : Bool) → SideLawful b (end_of h) x.entry.made x.told → (length (managed_after (end_of h).managed x.entry.made x.told b).managed.cells ≡ 64)
-      × ((c : ℕ) → slot (managed_after (end_of h).managed x.entry.made x.told b).managed.cells c ≡ aims_at c (target_in c h) (Drawn_by b))
-  celled-by b w =
-      let e = cells-are b w in (
+  celled-by : (b r : Bool) → is_peer_event x.entry.made.caller x.entry.made.op ≡ b → is_read x.entry.made.op ≡ r → Comes r (end_of h) x → (length (managed_past (end_of h).managed x.entry.made x.told b r).managed.cells ≡ 64)
+      × ((c : ℕ) → slot (managed_past (end_of h).managed x.entry.made x.told b r).managed.cells c ≡ aims_at c (target_in c h) (Drawn_by b))
+  celled-by b r p q w =
+      let e = cells-are b r p q w in (
         ap length e ∙ (as-many (end_of h).managed.managed.cells (Drawn_by b) ∙ k.long),
         λ c. ap (λ z. slot z c) e ∙ (one-cell (end_of h).managed.managed.cells (Drawn_by b) c (λ q f. let r = ranged b q f in let n = k.long in omega (arith, r, n)) ∙ ap (λ z. aims_at c z (Drawn_by b)) (k.same c)),
       )
 
 celled : (h : List Noted) → Lawful h → AreCelled h
 celled [] l = record { long = refl; same = none-at 64 }
-celled (x ∷ h) l = let w = celled-by x h l (celled h l.1) (is_peer_event x.entry.made.caller x.entry.made.op) l.0.comes.lawful in record { long = w.0; same = w.1 }
+celled (x ∷ h) l = let w = celled-by x h l (celled h l.1) (is_peer_event x.entry.made.caller x.entry.made.op) (is_read x.entry.made.op) refl refl l.0.comes in record { long = w.0; same = w.1 }
 
 pub targets_are_drawn : TargetsAreDrawn
 targets_are_drawn h l = (celled h l).same

@@ -1,5 +1,10 @@
 -- What a mirror and a weaken are by where the driver stands: the references are those that its contraction's mirror edges give, and the
 -- handle is that of the candidate which is next by the count of those weakened.
+use Rattle.std.proofs.Common.{false}
+use Rattle.known_laws.proofs.Coming.{event_of, turn_of, side_of}
+use Rattle.known_laws.specs.Known.{given}
+use Rattle.joint_model.specs.Lines.{is_read}
+use Rattle.joint_model.specs.Told.{bare_told}
 use Rattle.std.proofs.Common.{◌≡◌, ℕ, List, ◌∷◌, Option, Some, refl, sym, ap, ◌∙◌, subst}
 use Rattle.joint_model.specs.declared.names.Thread.{Thread}
 use Rattle.joint_model.specs.declared.names.Thread.TheVariants.{M, P, C}
@@ -50,13 +55,13 @@ module _ (x : Noted) (h : List Noted) (l : Lawful (x ∷ h)) where
   made t o = record { caller = t; index = x.entry.made.index; op = o; reply = x.entry.made.reply; cites = x.entry.made.cites }
 
   abbrev Allows : Thread → Op → Type 0
-  Allows t o = CallerAllows (end_of h).control (end_of h).managed.managed (end_of h).peer.peers.issued t x.entry.made.index o x.entry.made.reply x.entry.made.cites x.told
+  Allows t o = CallerAllows (end_of h).control (end_of h).managed.managed (end_of h).peer.peers.issued t x.entry.made.index o x.entry.made.reply x.entry.made.cites (bare_told x.told)
 
   abbrev Lawfully : Thread → Op → Type 0
-  Lawfully t o = SideLawful (is_peer_event t o) (end_of h) (made t o) x.told
+  Lawfully t o = SideLawful (is_peer_event t o) (given (end_of h) x.told) (made t o) (bare_told x.told)
 
-  mirror-of : (t : Thread) (k : Cycle) → IsEvent t (op.Mirror k) → Allows t (op.Mirror k) → Lawfully t (op.Mirror k) → AddsMirrorEdges (end_of h) x.told x.entry.made.reply k.0
-  mirror-of C k v a w = mirror-adds (end_of h) (end_of h).control.stand C k x.entry.made.reply x.entry.made.cites x.told (kept_end h l.1).driver a w.replies
+  mirror-of : (t : Thread) (k : Cycle) → IsEvent t (op.Mirror k) → Allows t (op.Mirror k) → Lawfully t (op.Mirror k) → AddsMirrorEdges (end_of h) (bare_told x.told) x.entry.made.reply k.0
+  mirror-of C k v a w = mirror-adds (end_of h) (end_of h).control.stand C k x.entry.made.reply x.entry.made.cites (bare_told x.told) (kept_end h l.1).driver a w.replies
   mirror-of (M u) k v a w = absurd v
   mirror-of (P u) k v a w = absurd v
 
@@ -65,11 +70,11 @@ module _ (x : Noted) (h : List Noted) (l : Lawful (x ∷ h)) where
   weaken-of (M u) g v a = absurd v
   weaken-of (P u) g v a = absurd v
 
-  by-event : (o : Op) → x.entry.made.op ≡ o → IsEvent x.entry.made.caller o × Allows x.entry.made.caller o × Lawfully x.entry.made.caller o
-  by-event o e = (subst (IsEvent x.entry.made.caller) e l.0.comes.event, subst (Allows x.entry.made.caller) e l.0.comes.order, subst (Lawfully x.entry.made.caller) e l.0.comes.lawful)
+  by-event : (o : Op) → is_read o ≡ false → x.entry.made.op ≡ o → IsEvent x.entry.made.caller o × Allows x.entry.made.caller o × Lawfully x.entry.made.caller o
+  by-event o r e = (subst (IsEvent x.entry.made.caller) e (event_of x h l), subst (Allows x.entry.made.caller) e (turn_of x h l), subst (Lawfully x.entry.made.caller) e (side_of x h l (ap is_read e ∙ r)).comes.lawful)
 
 pub mirrors_add_mirror_edges : MirrorsAddMirrorEdges
-mirrors_add_mirror_edges x h l k e = let w = by-event x h l (op.Mirror k) e in mirror-of x h l x.entry.made.caller k w.0 w.1 w.2
+mirrors_add_mirror_edges x h l k e = let w = by-event x h l (op.Mirror k) refl e in mirror-of x h l x.entry.made.caller k w.0 w.1 w.2
 
 pub weakens_take_next : WeakensTakeNext
-weakens_take_next x h l g e = let w = by-event x h l (op.Weaken g) e in weaken-of x h l x.entry.made.caller g w.0 w.1
+weakens_take_next x h l g e = let w = by-event x h l (op.Weaken g) refl e in weaken-of x h l x.entry.made.caller g w.0 w.1

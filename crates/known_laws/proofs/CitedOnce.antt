@@ -1,6 +1,8 @@
 -- No entry is cited twice, but a snap. The entry that an operation's later event will cite waits: it is the one by which a thread
 -- is in the midst of something, or the clear at which the driver stands. What was cited once waits no more: the citing event ends
 -- the waiting, only an entry itself begins it anew, and no two callers wait with one entry, as it has one caller.
+use Rattle.known_laws.proofs.Coming.{event_of, turn_of}
+use Rattle.joint_model.specs.Told.{bare_told}
 use Rattle.std.proofs.Common.{◌≡◌, ◌⊎◌, inl, inr, ⊎_elim, ℕ, ◌<◌, List, [], ◌∷◌, ◌++◌, Option, Some, refl, sym, ap, ◌∙◌, subst, arith}
 use Rattle.std.proofs.lemmas.Option.{same_Some}
 use Rattle.joint_model.specs.declared.names.Thread.{Thread}
@@ -184,10 +186,10 @@ stand-begins st k n _ r told w = inl w
 
 module _ (x : Noted) (h : List Noted) (l : Lawful (x ∷ h)) (n : ℕ) where
   abbrev Allows : Thread → Op → Type 0
-  Allows t o = CallerAllows (end_of h).control (end_of h).managed.managed (end_of h).peer.peers.issued t x.entry.made.index o x.entry.made.reply x.entry.made.cites x.told
+  Allows t o = CallerAllows (end_of h).control (end_of h).managed.managed (end_of h).peer.peers.issued t x.entry.made.index o x.entry.made.reply x.entry.made.cites (bare_told x.told)
 
   abbrev After : Thread → Op → Control
-  After t o = control_after (end_of h).control t x.entry.number x.entry.made.index o x.entry.made.reply x.told
+  After t o = control_after (end_of h).control t x.entry.number x.entry.made.index o x.entry.made.reply (bare_told x.told)
 
   -- who cites an entry that no other may waits with it
   citer-waits : x.entry.made.cites ≡ Some n → (t : Thread) (o : Op) → CitesOnce o → IsEvent t o → Allows t o → WaitsBy (end_of h).control t n
@@ -195,7 +197,7 @@ module _ (x : Noted) (h : List Noted) (l : Lawful (x ∷ h)) (n : ℕ) where
   citer-waits e (M u) (op.Land g y) z ev a = land-waits (doing_at (end_of h).control u) x.entry.made.index n (op.Land g y) x.entry.made.cites a e
   citer-waits e (M u) (op.Meet v sort f p g) z ev a = meet-waits (doing_at (end_of h).control u) x.entry.made.index n (op.Meet v sort f p g) x.entry.made.cites a e
   citer-waits e (M u) (op.Release g) z ev a = release-waits (doing_at (end_of h).control u) x.entry.made.index g.0 n x.entry.made.cites a e
-  citer-waits e C (op.Resolve k) z ev a = resolve-waits (end_of h).control.stand k.0 n x.entry.made.cites x.told a e
+  citer-waits e C (op.Resolve k) z ev a = resolve-waits (end_of h).control.stand k.0 n x.entry.made.cites (bare_told x.told) a e
   citer-waits e (M u) (op.Resolve k) z ev a = absurd ev
   citer-waits e (P u) (op.Resolve k) z ev a = absurd ev
   citer-waits e t (op.Adopt v kind k p g) z ev a = absurd ev.0
@@ -210,7 +212,7 @@ module _ (x : Noted) (h : List Noted) (l : Lawful (x ∷ h)) (n : ℕ) where
       (λ z. inr (doing-begins x.entry.number x.entry.made.index n o x.entry.made.reply (subst (λ d. IsNumbered d n) z.1 w)))
       (λ z. inl (subst (λ d. IsNumbered d n) z.0 w))
       (doing-set_cases (end_of h).control.doing v (doing_after x.entry.number x.entry.made.index o x.entry.made.reply) u)
-  waited C C o w = stand-begins (end_of h).control.stand x.entry.number n o x.entry.made.reply x.told w
+  waited C C o w = stand-begins (end_of h).control.stand x.entry.number n o x.entry.made.reply (bare_told x.told) w
   waited t (P u) o w = absurd w
   waited (M v) C o w = inl w
   waited (P v) C o w = inl w
@@ -247,11 +249,11 @@ uncited (x ∷ h) l y p z n e t w = ⊎_elim (λ (q : x ≡ y). here q) (λ q. t
         let once = subst (λ (k : Noted). CitesOnce k.entry.made.op) (sym q) z in
         let cites = ap (λ (k : Noted). k.entry.made.cites) q ∙ e in
         let less = earlier (x ∷ h) l x (inl refl) n cites in
-        let mine = begun h l.1 x.entry.made.caller n (citer-waits x h l n cites x.entry.made.caller x.entry.made.op once l.0.comes.event l.0.comes.order) in
+        let mine = begun h l.1 x.entry.made.caller n (citer-waits x h l n cites x.entry.made.caller x.entry.made.op once (event_of x h l) (turn_of x h l)) in
         ⊎_elim
         (λ v.
         let same : t ≡ x.entry.made.caller = one-caller h t x.entry.made.caller n l.1 (begun h l.1 t n v) mine in
-        let m = ended x h l n x.entry.made.caller x.entry.made.op once l.0.comes.event (subst (λ u. WaitsBy (end_of (x ∷ h)).control u n) same w) in
+        let m = ended x h l n x.entry.made.caller x.entry.made.op once (event_of x h l) (subst (λ u. WaitsBy (end_of (x ∷ h)).control u n) same w) in
         omega (arith, less, m))
         (λ v. omega (arith, less, v))
         (waited x h l n x.entry.made.caller t x.entry.made.op w)
@@ -278,7 +280,7 @@ latest w h l y z p q e f =
     let s = each_stands_behind h l.1 y p in
     ⊎_elim
     (λ (a : CitesOnce w.entry.made.op). ⊎_elim
-    (λ (b : CitesOnce y.entry.made.op). absurd (uncited h l.1 y p b z.entry.number f w.entry.made.caller (citer-waits w h l z.entry.number e w.entry.made.caller w.entry.made.op a l.0.comes.event l.0.comes.order)))
+    (λ (b : CitesOnce y.entry.made.op). absurd (uncited h l.1 y p b z.entry.number f w.entry.made.caller (citer-waits w h l z.entry.number e w.entry.made.caller w.entry.made.op a (event_of w h l) (turn_of w h l))))
     (λ (b : CitesSnap y.entry.made.op). snap-cited (w ∷ h) l y z (inr p) q b f)
     (citing s.back y.entry.made y.entry.number z.entry.number y.entry.made.op (pasts_cite y s.back s.lawful) f))
     (λ (a : CitesSnap w.entry.made.op). snap-cited (w ∷ h) l w z (inl refl) q a e)

@@ -1,6 +1,8 @@
 -- Each entry of a past cites what it has to. What a thread is in the midst of was begun by an entry of the past, with its number,
 -- line and data; and the driver's stand has the number of its snap, and of its clear, which stand in the past. The order of each
 -- caller's events lets an entry come only with that number.
+use Rattle.known_laws.proofs.Coming.{event_of, turn_of}
+use Rattle.joint_model.specs.Told.{bare_told}
 use Rattle.std.proofs.Common.{◌≡◌, ◌⊎◌, inl, inr, ⊎_elim, ℕ, List, [], ◌∷◌, length, Option, Some, None, refl, sym, ap, ◌∙◌, subst}
 use Rattle.joint_model.specs.declared.names.Thread.{Thread}
 use Rattle.joint_model.specs.declared.names.Thread.TheVariants.{M, P, C}
@@ -23,8 +25,7 @@ use Rattle.joint_model.specs.Peers.{Issued}
 use Rattle.joint_model.specs.Told.{Told, Noted, contraction_of, references_of, resolution_of, phase_of}
 use Rattle.joint_laws.specs.LinkedInvariants.{doing_in}
 use Rattle.joint_laws.proofs.Hands.{doing-set_cases, opening-free}
-use Rattle.known_laws.specs.Known.{MayComeLater}
-use Rattle.known_laws.specs.Pasts.{InPast, Lawful, end_of, next_of}
+use Rattle.known_laws.specs.Pasts.{InPast, Lawful, end_of}
 use Rattle.known_laws.specs.Citations.{HasCited, IsMakeOf, IsLendOf, IsGripOf, IsNotNew, IsGiveOf, IsMeetOf, IsSnapOf, IsClearOf, Cites, PastsCite}
 use Rattle.known_laws.proofs.PastsJoin.{below}
 
@@ -115,15 +116,15 @@ pub record Backed (h : List Noted) : Type 0 where
 opening-begun : (t : ℕ) → WasBegun [] (M t) (doing_at (end_of []).control t)
 opening-begun t = subst (WasBegun [] (M t)) (sym (opening-free 9 t)) tt
 
-backed-step : (x : Noted) (h : List Noted) → MayComeLater (next_of h) (end_of h) x → Backed h → Backed (x ∷ h)
-backed-step x h may b = by x.entry.made.caller refl may.comes.order
+backed-step : (x : Noted) (h : List Noted) → Lawful (x ∷ h) → Backed h → Backed (x ∷ h)
+backed-step x h l b = by x.entry.made.caller refl (turn_of x h l)
   where
     After : Thread → Type 0
-    After t = ((v : ℕ) → WasBegun (x ∷ h) (M v) (doing_at (control_after (end_of h).control t x.entry.number x.entry.made.index x.entry.made.op x.entry.made.reply x.told) v))
-        × WasOpened (x ∷ h) (control_after (end_of h).control t x.entry.number x.entry.made.index x.entry.made.op x.entry.made.reply x.told).stand
+    After t = ((v : ℕ) → WasBegun (x ∷ h) (M v) (doing_at (control_after (end_of h).control t x.entry.number x.entry.made.index x.entry.made.op x.entry.made.reply (bare_told x.told)) v))
+        × WasOpened (x ∷ h) (control_after (end_of h).control t x.entry.number x.entry.made.index x.entry.made.op x.entry.made.reply (bare_told x.told)).stand
 
     Allowed : Thread → Type 0
-    Allowed t = CallerAllows (end_of h).control (end_of h).managed.managed (end_of h).peer.peers.issued t x.entry.made.index x.entry.made.op x.entry.made.reply x.entry.made.cites x.told
+    Allowed t = CallerAllows (end_of h).control (end_of h).managed.managed (end_of h).peer.peers.issued t x.entry.made.index x.entry.made.op x.entry.made.reply x.entry.made.cites (bare_told x.told)
 
     given_back : (t : Thread) → x.entry.made.caller ≡ t → After t → Backed (x ∷ h)
     given_back t e w = (let z = subst After (sym e) w in record { hands = z.0; stand = z.1 })
@@ -131,7 +132,7 @@ backed-step x h may b = by x.entry.made.caller refl may.comes.order
     by : (t : Thread) → x.entry.made.caller ≡ t → Allowed t → Backed (x ∷ h)
     by (M u) e a = given_back (M u) e (
       λ v. ⊎_elim
-          (λ z. subst (λ w. WasBegun (x ∷ h) (M w) (doing_at (control_after (end_of h).control (M u) x.entry.number x.entry.made.index x.entry.made.op x.entry.made.reply x.told) v)) (sym z.0) (subst (WasBegun (x ∷ h) (M u)) (sym z.1) (begins x h u x.entry.made.op x.entry.made.reply e refl refl)))
+          (λ z. subst (λ w. WasBegun (x ∷ h) (M w) (doing_at (control_after (end_of h).control (M u) x.entry.number x.entry.made.index x.entry.made.op x.entry.made.reply (bare_told x.told)) v)) (sym z.0) (subst (WasBegun (x ∷ h) (M u)) (sym z.1) (begins x h u x.entry.made.op x.entry.made.reply e refl refl)))
           (λ z. subst (WasBegun (x ∷ h) (M v)) (sym z.0) (begun_later x h (M v) (doing_in (end_of h).control.doing v) (b.hands v)))
           (doing-set_cases (end_of h).control.doing u (doing_after x.entry.number x.entry.made.index x.entry.made.op x.entry.made.reply) v),
       opened_later x h (end_of h).control.stand b.stand,
@@ -139,12 +140,12 @@ backed-step x h may b = by x.entry.made.caller refl may.comes.order
     by (P u) e a = given_back (P u) e (λ v. begun_later x h (M v) (doing_at (end_of h).control v) (b.hands v), opened_later x h (end_of h).control.stand b.stand)
     by C e a = given_back C e (
       λ v. begun_later x h (M v) (doing_at (end_of h).control v) (b.hands v),
-      opens x h (end_of h).control.stand (end_of h).managed.managed (end_of h).peer.peers.issued x.entry.made.index x.entry.made.op x.entry.made.reply x.entry.made.cites x.told e refl (λ k q. (length (candidates_of (end_of h).managed.managed), subst (λ o. CallerAllows (end_of h).control (end_of h).managed.managed (end_of h).peer.peers.issued C x.entry.made.index o x.entry.made.reply x.entry.made.cites x.told) q a)) b.stand,
+      opens x h (end_of h).control.stand (end_of h).managed.managed (end_of h).peer.peers.issued x.entry.made.index x.entry.made.op x.entry.made.reply x.entry.made.cites (bare_told x.told) e refl (λ k q. (length (candidates_of (end_of h).managed.managed), subst (λ o. CallerAllows (end_of h).control (end_of h).managed.managed (end_of h).peer.peers.issued C x.entry.made.index o x.entry.made.reply x.entry.made.cites (bare_told x.told)) q a)) b.stand,
     )
 
 pub backed : (h : List Noted) → Lawful h → Backed h
 backed [] l = record { hands = opening-begun; stand = tt }
-backed (x ∷ h) l = backed-step x h l.0 (backed h l.1)
+backed (x ∷ h) l = backed-step x h l (backed h l.1)
 
 -- what a backed stand or hand lets cite
 cited_by : (x : Noted) (h : List Noted) (t : Thread) (n : ℕ) (Q R : Made → Type 0) → Lawful (x ∷ h) → x.entry.made.caller ≡ t → x.entry.made.cites ≡ Some n → ((m : Made) → Q m → R m) → Began h t n Q → HasCited h x.entry.made x.entry.number R
@@ -256,16 +257,16 @@ module _ (x : Noted) (h : List Noted) (l : Lawful (x ∷ h)) where
   resolve-cites _ k told e b a = absurd a
 
   abbrev Allows : Thread → Op → Type 0
-  Allows t o = CallerAllows (end_of h).control (end_of h).managed.managed (end_of h).peer.peers.issued t x.entry.made.index o x.entry.made.reply x.entry.made.cites x.told
+  Allows t o = CallerAllows (end_of h).control (end_of h).managed.managed (end_of h).peer.peers.issued t x.entry.made.index o x.entry.made.reply x.entry.made.cites (bare_told x.told)
 
   by : (t : Thread) (o : Op) → x.entry.made.caller ≡ t → IsEvent t o → Allows t o → Cites h x.entry.made x.entry.number o
   by (M u) (op.Adopt v kind k p g) e w a = adopt-cites (doing_at (end_of h).control u) u v kind k p g e ((backed h l.1).hands u) a
   by (M u) (op.Land g y) e w a = land-cites (doing_at (end_of h).control u) u g y e ((backed h l.1).hands u) a
   by (M u) (op.Meet v sort f p g) e w a = meet-cites (doing_at (end_of h).control u) u v p g sort f e ((backed h l.1).hands u) a
   by (M u) (op.Release g) e w a = release-cites (doing_at (end_of h).control u) u g e ((backed h l.1).hands u) a
-  by C (op.Mirror k) e w a = mirror-cites (end_of h).control.stand _ _ k.0 x.told e (backed h l.1).stand a
+  by C (op.Mirror k) e w a = mirror-cites (end_of h).control.stand _ _ k.0 (bare_told x.told) e (backed h l.1).stand a
   by C (op.Weaken g) e w a = weaken-cites (end_of h).control.stand _ g.0 e (backed h l.1).stand a
-  by C (op.Resolve k) e w a = resolve-cites (end_of h).control.stand k.0 x.told e (backed h l.1).stand a
+  by C (op.Resolve k) e w a = resolve-cites (end_of h).control.stand k.0 (bare_told x.told) e (backed h l.1).stand a
   by (P u) (op.Adopt v kind k p g) e w a = absurd w.0
   by C (op.Adopt v kind k p g) e w a = absurd w.0
   by (P u) (op.Land g y) e w a = absurd w.0
@@ -282,7 +283,7 @@ module _ (x : Noted) (h : List Noted) (l : Lawful (x ∷ h)) where
   by (P u) (op.Resolve k) e w a = absurd w
   by (M u) o e w a = start-none (doing_at (end_of h).control u) x.entry.made.cites a
   by (P u) o e w a = a
-  by C o e w a = driver-none (end_of h).control.stand (end_of h).managed.managed (end_of h).peer.peers.issued o x.entry.made.reply x.entry.made.cites x.told tt a
+  by C o e w a = driver-none (end_of h).control.stand (end_of h).managed.managed (end_of h).peer.peers.issued o x.entry.made.reply x.entry.made.cites (bare_told x.told) tt a
 
 pub pasts_cite : PastsCite
-pasts_cite x h l = by x h l x.entry.made.caller x.entry.made.op refl l.0.comes.event l.0.comes.order
+pasts_cite x h l = by x h l x.entry.made.caller x.entry.made.op refl (event_of x h l) (turn_of x h l)

@@ -2,7 +2,7 @@
 -- thread's entry changes neither, since no slot names a row of the dead part. The snapshot itself is one entry of one managed line,
 -- so it left the same in both. So what the driver's events ask of the managed objects is the same, and so is the contraction.
 use Rattle.std.proofs.Common.{◌≡◌, ⊎_elim, ℕ, zero, suc, ◌+◌, ◌≤◌, Bool, true, false, List, [], ◌∷◌, length, map, Option, Some, None, refl, sym, ap, ◌∙◌, subst, arith}
-use Rattle.std.specs.Prelude.{if◌then◌else◌, slice_get, Contains}
+use Rattle.std.specs.Prelude.{slice_get, Contains}
 use Rattle.std.proofs.lemmas.Bool.{cases_Bool}
 use Rattle.std.proofs.lemmas.Option.{same_Some}
 use base.Growing.{prefix_anti}
@@ -32,12 +32,19 @@ use Rattle.joint_laws.proofs.ManagedMoves.{GoesOn, GoesOn-stay, managed_line-goe
 use Rattle.joint_laws.proofs.ManagedSteps.{meet_by-managed, give_by-managed, twin-live}
 use Rattle.joint_laws.proofs.DriverPeerSteps.{holds-handle_of}
 use Rattle.joint_laws.proofs.SameGraphs.{contraction-same, mirror_edge-ends}
-use Rattle.known_laws.specs.Pasts.{role_of, is_in, line, of_line, end_of, Lawful, Within, HasSameDeadPart, IsSameForDriver, IsFrozenIn, KnownPastsJoin, EntryMayMove, driver_line}
+use Rattle.known_laws.specs.Pasts.{is_in, line, of_line, end_of, Lawful, Within, HasSameDeadPart, IsSameForDriver, IsFrozenIn, KnownPastsJoin, EntryMayMove, driver_line}
 use Rattle.joint_model.specs.HistoryLines.{caller_line}
 use Rattle.known_laws.proofs.PastLines.{off, in_role, in_own, line_in, line_out, snoc_same, snoc_some, shorter_begins}
-use Rattle.known_laws.proofs.Later.{kept_end}
+use Rattle.joint_model.specs.Linked.{linkage_after}
+use Rattle.joint_model.specs.Readers.{with_pins}
+use Rattle.joint_model.specs.Told.{bare_told}
+use Rattle.joint_model.specs.Lines.{is_read}
+use Rattle.joint_laws.proofs.LinkedEntries.{Of}
+use Rattle.known_laws.specs.Known.{Comes, SideMayCome, given, without_pins, managed_past, past_after}
+use Rattle.known_laws.proofs.Pinned.{kept_pinned}
+use Rattle.known_laws.proofs.Later.{kept_end, side_after, reads_leave}
 use Rattle.known_laws.proofs.Moving.{may_move}
-use Rattle.known_laws.proofs.Parts.{same_managed}
+use Rattle.known_laws.proofs.Parts.{role_by, same_managed}
 use Rattle.known_laws.proofs.PastsJoin.{below, within_past, behind_past, pasts_join}
 use Rattle.joint_laws.proofs.ManagedEntries.{handle-same}
 
@@ -99,11 +106,32 @@ pub alike_on : (s u t : Managed) → IsManagedKept s → GoesOn s u → Alike s 
 alike_on s u t k g (closed a b) = closed (g.cycle ∙ a) b
 alike_on s u t k g (open_one c a b h) = open_one c (g.cycle ∙ a) b (λ m d. (handle-same s u m ((k.dead c a).live m d) ((cut_on s u k g c a).live m d) (dead-held s u k g c a m d) ∙ (h m d).0, dead-fields s u k g c a m d ∙ (h m d).1))
 
+-- pins are no part of it
+pub alike_pinned : (s : ManagedReplay) (t : Managed) (p : List (Option ℕ)) → Alike s.managed t → Alike (with_pins s p).managed t
+alike_pinned s t p (closed a b) = closed a b
+alike_pinned s t p (open_one c a b h) = open_one c a b h
+
+pub alike_bare : (s : ManagedReplay) (t : Managed) (p : List (Option ℕ)) → Alike (with_pins s p).managed t → Alike s.managed t
+alike_bare s t p (closed a b) = closed a b
+alike_bare s t p (open_one c a b h) = open_one c a b h
+
+-- an entry of a side's list that goes on, in the state with the pins that are told
+pub alike_goes : (s : Linkage) (x : Noted) (t : Managed) → Of s → is_read x.entry.made.op ≡ false → SideMayCome s x → GoesOn (given s x.told).managed.managed (linkage_after (given s x.told) (without_pins x)).managed.managed
+    → Alike s.managed.managed t → Alike (past_after s x).managed.managed t
+alike_goes s x t k e c g w =
+    let f = side_after s x e in
+    let m = linkage_after (given s x.told) (without_pins x) in
+    let on = alike_on (given s x.told).managed.managed m.managed.managed t (kept_pinned s _ c.stand k).managed.managed g (alike_pinned s.managed t _ w) in
+    subst (λ (z : Linkage). Alike z.managed.managed t) (sym f.same) (alike_pinned m.managed t f.pins on)
+
 alike_after : (a : List Noted) (x : Noted) (t : Managed) → is_in driver_line x ≡ false → Lawful (x ∷ a) → Alike (end_of a).managed.managed t → Alike (end_of (x ∷ a)).managed.managed t
-alike_after a x t n l w =
-    let k = kept_end a l.1 in
-    alike_on (end_of a).managed.managed _ t k.managed.managed
-    (goes_by (end_of a).managed x.entry.made x.told (is_peer_event x.entry.made.caller x.entry.made.op) (end_of a) refl (λ q. off (sym n ∙ subst (λ i. is_in i x ≡ true) (ap (λ z. caller_line z) q) (in_own x))) l.0.comes.event k.managed l.0.comes.lawful) w
+alike_after a x t n l w = by (is_read x.entry.made.op) refl l.0.comes
+  where
+    by : (r : Bool) → is_read x.entry.made.op ≡ r → Comes r (end_of a) x → Alike (end_of (x ∷ a)).managed.managed t
+    by true e c = subst (λ (z : ManagedReplay). Alike z.managed t) (sym (reads_leave (end_of a).managed x e)) w
+    by false e c =
+        let g = given (end_of a) x.told in
+        alike_goes (end_of a) x t (kept_end a l.1) e c (goes_by g.managed x.entry.made (bare_told x.told) (is_peer_event x.entry.made.caller x.entry.made.op) g refl (λ q. off (sym n ∙ subst (λ i. is_in i x ≡ true) (ap (λ z. caller_line z) q) (in_own x))) c.comes.event (kept_pinned (end_of a) _ c.stand (kept_end a l.1)).managed c.comes.lawful) w
 
 module _ (whole : List Noted) where
   -- where both pasts have one latest entry, what is behind it has one line of the managed side
@@ -116,14 +144,14 @@ module _ (whole : List Noted) where
       (shorter_begins (line i b) (line i a) (of_line i whole) (within_past whole x b wb i) (within_past whole x a wa i) m)
 
   both_had : (x : Noted) (a b : List Noted) → Lawful (x ∷ a) → Lawful (x ∷ b) → Within whole (x ∷ a) → Within whole (x ∷ b) → Alike (end_of a).managed.managed (end_of b).managed.managed → Alike (end_of (x ∷ a)).managed.managed (end_of (x ∷ b)).managed.managed
-  both_had x a b la lb wa wb w = by (is_peer_event x.entry.made.caller x.entry.made.op) refl
+  both_had x a b la lb wa wb w = by (is_peer_event x.entry.made.caller x.entry.made.op) (is_read x.entry.made.op) refl refl
     where
-      by : (c : Bool) → is_peer_event x.entry.made.caller x.entry.made.op ≡ c → Alike (managed_after (end_of a).managed x.entry.made x.told c).managed (managed_after (end_of b).managed x.entry.made x.told c).managed
-      by true e = w
-      by false e =
-          let r : role_of x ≡ 0 = ap (λ z. if z then 1 else 0) e in
-          let same = same_managed a b (one_behind 0 x a b la lb wa wb (subst (λ i. is_in i x ≡ true) r (in_role x))) in
-          subst (λ (z : ManagedReplay). Alike (managed_after (end_of a).managed x.entry.made x.told false).managed (managed_after z x.entry.made x.told false).managed) same (alike_self _)
+      by : (c r : Bool) → is_peer_event x.entry.made.caller x.entry.made.op ≡ c → is_read x.entry.made.op ≡ r → Alike (managed_past (end_of a).managed x.entry.made x.told c r).managed (managed_past (end_of b).managed x.entry.made x.told c r).managed
+      by true r e f = w
+      by false true e f = w
+      by false false e f =
+          let same = same_managed a b (one_behind 0 x a b la lb wa wb (subst (λ i. is_in i x ≡ true) (role_by x false false e f) (in_role x))) in
+          subst (λ (z : ManagedReplay). Alike (managed_past (end_of a).managed x.entry.made x.told false false).managed (managed_past z x.entry.made x.told false false).managed) same (alike_self _)
 
   alike : (k : ℕ) (a b : List Noted) → length a + length b ≤ k → Lawful a → Lawful b → Within whole a → Within whole b → line driver_line a ≡ line driver_line b → Alike (end_of a).managed.managed (end_of b).managed.managed
   alike k [] [] l la lb wa wb e = closed refl refl

@@ -1,5 +1,8 @@
 -- A held handle leaves the table by a release, or by a restore that answered cleared, alone: each other entry keeps the rows of the
 -- handles that were there, and each handle that is issued comes into the table.
+use Rattle.known_laws.proofs.Coming.{peer_of as peer_lawful}
+use Rattle.joint_model.specs.Linked.{PeerLawful}
+use Rattle.joint_model.specs.Told.{bare_told}
 use Rattle.std.proofs.Common.{◌≡◌, ◌⊎◌, inl, inr, ⊎_elim, ℕ, zero, suc, ◌+◌, ◌-◌, ◌<◌, ◌≤◌, Bool, true, false, ◌||◌, List, [], ◌∷◌, ◌++◌, length, map, drop, Option, Some, None, refl, sym, ap, ◌∙◌, subst, arith}
 use Rattle.std.specs.Prelude.{if◌then◌else◌, min, nat_lt, slice_get}
 use Rattle.std.proofs.lemmas.Bool.{cases_eq, cases_lt}
@@ -15,7 +18,7 @@ use Rattle.joint_model.specs.declared.events.Reply.TheVariants as says
 use Rattle.joint_model.specs.declared.events.Made.{Made}
 use Rattle.joint_model.specs.Heaps.{Answered, answer, slot, numbered_set, is_full}
 use Rattle.joint_model.specs.Lines.{is_peer_event}
-use Rattle.joint_model.specs.Linked.{Linkage, SideLawful, peer_after}
+use Rattle.joint_model.specs.Linked.{Linkage, peer_after}
 use Rattle.joint_model.specs.Peers.{Peers, Issued, strong, weak, peer_of, peer_line, pair_made, landed, gripped as grip_static, handles_full}
 use Rattle.joint_model.specs.PeerReplay.{PeerReplay, TableRow, Marking, fresh_row, row_of, table_target, on_table, bring_by, brings, untabled, peer_thread_line, is_thread, sliced, begun, swept_of, swept, restored_by, peer_answer, brought_handle, with_restored, mirrored}
 use Rattle.joint_model.specs.Run.{thread_number}
@@ -174,8 +177,8 @@ module _ (s : PeerReplay) (k : IsPeerKept s) (m : Made) (g : ℕ) where
   answer_follows t (op.Clear c) told e r = still s (peer_answer s t (op.Clear c) m.cites told).state m g refl refl
   answer_follows t _ told e r = still s s m g refl refl
 
-after_follows : (full : Linkage) (m : Made) (told : Told) (b : Bool) (g : ℕ) → IsPeerKept full.peer → SideLawful b full m told → Follows full.peer (peer_after full.peer m told b) m g
-after_follows full m told true g k l = answer_follows full.peer k m g m.caller m.op told refl l.replies
+after_follows : (full : Linkage) (m : Made) (told : Told) (b : Bool) (g : ℕ) → IsPeerKept full.peer → (b ≡ true → PeerLawful full.peer m told) → Follows full.peer (peer_after full.peer m told b) m g
+after_follows full m told true g k l = answer_follows full.peer k m g m.caller m.op told refl (l refl).replies
 after_follows full m told false g k l = still full.peer full.peer m g refl refl
 
 -- in the table, or taken from it
@@ -187,7 +190,7 @@ left (x ∷ h) l g w = ⊎_elim
     (λ q. inr (q.0, inr q.1, q.2))
     (left h l.1 g z.0))
     (λ r. inl r)
-    (after_follows (end_of h) x.entry.made x.told (is_peer_event x.entry.made.caller x.entry.made.op) g (kept_end h l.1).peer l.0.comes.lawful w)
+    (after_follows (end_of h) x.entry.made (bare_told x.told) (is_peer_event x.entry.made.caller x.entry.made.op) g (kept_end h l.1).peer (peer_lawful x h l) w)
 
 pub handles_leave_so : HandlesLeaveSo
 handles_leave_so h l g w n = ⊎_elim (λ r. absurd (n r.0 r.1)) (λ q. q) (left h l g w)

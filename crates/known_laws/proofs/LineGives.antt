@@ -3,16 +3,17 @@
 -- entry, which does the same to both.
 use Rattle.std.proofs.Common.{◌≡◌, ◌⊎◌, inl, inr, ⊎_elim, ℕ, zero, suc, ◌+◌, ◌≤◌, Bool, true, false, List, [], ◌∷◌, length, refl, sym, ◌∙◌, subst, arith}
 use Rattle.std.proofs.lemmas.Bool.{cases_Bool}
-use Rattle.joint_model.specs.Linked.{Linkage, opening_linkage, linkage_after}
+use Rattle.joint_model.specs.Linked.{Linkage, opening_linkage}
+use Rattle.known_laws.specs.Known.{past_after}
 use Rattle.joint_model.specs.Told.{Noted}
 use Rattle.known_laws.specs.Pasts.{is_in, line, end_of}
 use Rattle.known_laws.proofs.PastLines.{line_in, line_out, snoc_same, snoc_some}
 
 pub record Follows (i : ℕ) (R : Linkage → Linkage → Type 0) : Type 0 where
   pub first : R opening_linkage opening_linkage
-  pub left : (s t : Linkage) (x : Noted) → is_in i x ≡ false → R s t → R (linkage_after s x) t
-  pub right : (s t : Linkage) (x : Noted) → is_in i x ≡ false → R s t → R s (linkage_after t x)
-  pub both : (s t : Linkage) (x : Noted) → is_in i x ≡ true → R s t → R (linkage_after s x) (linkage_after t x)
+  pub left : (s t : Linkage) (x : Noted) → is_in i x ≡ false → R s t → R (past_after s x) t
+  pub right : (s t : Linkage) (x : Noted) → is_in i x ≡ false → R s t → R s (past_after t x)
+  pub both : (s t : Linkage) (x : Noted) → is_in i x ≡ true → R s t → R (past_after s x) (past_after t x)
 
 pub line_gives : (i : ℕ) (R : Linkage → Linkage → Type 0) → Follows i R → (k : ℕ) (a b : List Noted) → length a + length b ≤ k → line i a ≡ line i b → R (end_of a) (end_of b)
 line_gives i R f k [] [] l e = f.first
@@ -32,7 +33,7 @@ line_gives i R f (suc k) (x ∷ a) (y ∷ b) l e = ⊎_elim
     (λ (m : is_in i y ≡ false). f.right (end_of (x ∷ a)) (end_of b) y m (line_gives i R f k (x ∷ a) b (omega arith) (e ∙ line_out i y b m)))
     (λ (u : is_in i y ≡ true).
     let s = snoc_same (line i a) (line i b) x y (sym (line_in i x a t) ∙ (e ∙ line_in i y b u)) in
-    subst (λ z. R (linkage_after (end_of a) x) (linkage_after (end_of b) z)) s.1 (f.both (end_of a) (end_of b) x t (line_gives i R f k a b (omega arith) s.0)))
+    subst (λ z. R (past_after (end_of a) x) (past_after (end_of b) z)) s.1 (f.both (end_of a) (end_of b) x t (line_gives i R f k a b (omega arith) s.0)))
     (swap (is_in i y)))
     (swap (is_in i x))
   where

@@ -49,7 +49,7 @@ later_on st ms num (op.Abandon k) reply told x l = tt
 later_on st ms num _ reply told x l = l
 
 -- cycles are opened only
-cycles-grow : (s t : Managed) → ManagedStep s t → s.cycles ≤ t.cycles
+pub cycles-grow : (s t : Managed) → ManagedStep s t → s.cycles ≤ t.cycles
 cycles-grow s t (going_on g) = let e = g.cycles in omega (arith, e)
 cycles-grow s t (snapping p) = let e = ap (λ (z : Managed). z.cycles) p.is in omega (arith, e)
 cycles-grow s t (resolving p) = let e = ap (λ (z : Managed). z.cycles) p.is in omega (arith, e)

@@ -1,6 +1,15 @@
 -- The restores of a past since its latest snap are the driver's answers, each of the candidate in its place. A snap begins anew, a
 -- restore of the driver takes the next candidate's handle, no other entry is one, and no other entry changes a candidate's handle.
 -- So what a resolve tells is what the restores answered, and it frees what no candidate whose restore answered alive leads to.
+use Rattle.std.proofs.Common.{Bool, true, false, true≢false}
+use Rattle.known_laws.proofs.Later.{side_after, reader_after_is}
+use Rattle.known_laws.proofs.Pinned.{kept_pinned}
+use Rattle.known_laws.proofs.Unpinned.{allows_same}
+use Rattle.known_laws.proofs.Coming.{event_of, turn_of, side_of}
+use Rattle.known_laws.specs.Known.{Comes, given, pinned, without_pins}
+use Rattle.joint_model.specs.Linked.{ManagedLawful}
+use Rattle.joint_model.specs.Lines.{is_read}
+use Rattle.joint_model.specs.Told.{bare_told}
 use Rattle.std.proofs.Common.{◌≡◌, false, ⊎_elim, ℕ, List, [], ◌∷◌, ◌++◌, length, map, Option, Some, None, refl, sym, ap, ◌∙◌, subst}
 use Rattle.std.specs.Prelude.{◌↔◌, Contains, slice_get, option_map}
 use Rattle.std.proofs.lemmas.Option.{same_Some, slice_get-map}
@@ -160,9 +169,37 @@ restored-step s n rs k may r = by n.entry.made.caller n.entry.made.op n.told may
     by C (op.Refused w) told e l a = absurd l.allowed
     by C _ told e l a = absurd a
 
+-- a line begins and ends no restores
+restores-read : (o : Op) (reply : Reply) (rs : List (ℕ × Answer)) → is_read o ≡ true → restores_after o reply rs ≡ rs
+restores-read (op.Snap k) reply rs e = absurd (true≢false (sym e))
+restores-read (op.Restore h) reply rs e = absurd (true≢false (sym e))
+restores-read o reply rs e = refl
+
+pinned_candidates : (m : Managed) (p : List (Option ℕ)) → SameCandidates m (record m { pins = p })
+pinned_candidates m p = record { candidates = refl; there = λ i h w. w; back = λ i h w. w }
+
 restored_in : (h : List Noted) → Lawful h → RestoredBy (end_of h).managed.managed (restores_in h) (end_of h).control.stand
 restored_in [] l = tt
-restored_in (x ∷ h) l = restored-step (end_of h) x (restores_in h) (kept_end h l.1) l.0.comes (restored_in h l.1)
+restored_in (x ∷ h) l = by (restored_in h l.1) (is_read x.entry.made.op) refl l.0.comes
+  where
+    s : Linkage
+    s = end_of h
+
+    Goal : Linkage → List (ℕ × Answer) → Type 0
+    Goal z rs = RestoredBy z.managed.managed rs z.control.stand
+
+    by : RestoredBy s.managed.managed (restores_in h) s.control.stand → (r : Bool) → is_read x.entry.made.op ≡ r → Comes r s x → Goal (end_of (x ∷ h)) (restores_in (x ∷ h))
+    by q true e w =
+        let a = reader_after_is s x e w in
+        let z : Goal (linkage_after s a.note) (restores_after a.note.entry.made.op a.note.entry.made.reply (restores_in h)) = restored-step s a.note (restores_in h) (kept_end h l.1) a.comes q in
+        subst (λ z. Goal z (restores_in (x ∷ h))) (sym a.same)
+        (subst (Goal (linkage_after s a.note)) (ap (λ o. restores_after o a.note.entry.made.reply (restores_in h)) a.line.1 ∙ sym (restores-read x.entry.made.op x.entry.made.reply (restores_in h) e)) z)
+    by q false e w =
+        let a = side_after s x e in
+        let g = given s x.told in
+        let m = linkage_after g (without_pins x) in
+        let z = restored-step g (without_pins x) (restores_in h) (kept_pinned s _ w.stand (kept_end h l.1)) w.comes (by-on s.managed.managed g.managed.managed (restores_in h) s.control.stand (pinned_candidates s.managed.managed _) q) in
+        subst (λ z. Goal z (restores_in (x ∷ h))) (sym a.same) (by-on m.managed.managed (pinned m a.pins).managed.managed (restores_in (x ∷ h)) m.control.stand (pinned_candidates m.managed.managed a.pins) z)
 
 -- the restore in a place, by the answer in it
 restore-at : (rs : List (ℕ × Answer)) (i : ℕ) (a : Answer) → slice_get (map (λ r. r.1) rs) i ≡ Some a → (g : ℕ) × (slice_get rs i ≡ Some (g, a))
@@ -209,15 +246,22 @@ resolve-by s rs (restored o answers clear) k cites (resolution_of alive freed) r
 resolve-by s rs (restored o answers clear) k cites told r a w = absurd a
 resolve-by s rs st k cites told r a w = absurd a
 
+-- what a resolve asks for, it asks for without pins
+resolve_allowed : (x : Noted) (h : List Noted) (l : Lawful (x ∷ h)) (k : Cycle) → x.entry.made.op ≡ op.Resolve k → ManagedAllows (end_of h).managed (op.Resolve k) (bare_told x.told)
+resolve_allowed x h l k e =
+    let w = side_of x h l (ap is_read e) in
+    let p : is_peer_event x.entry.made.caller x.entry.made.op ≡ false = ap (is_peer_event x.entry.made.caller) e in
+    let a : ManagedLawful (given (end_of h) x.told).managed x.entry.made (bare_told x.told) = subst (λ b. SideLawful b (given (end_of h) x.told) x.entry.made (bare_told x.told)) p w.comes.lawful in
+    allows_same (end_of h).managed.managed.pins (given (end_of h) x.told).managed (op.Resolve k) (bare_told x.told) refl (subst (λ o. ManagedAllows (given (end_of h) x.told).managed o (bare_told x.told)) e a.allowed)
+
 pub resolves_free_by_restores : ResolvesFreeByRestores
-resolves_free_by_restores x h l k e = by x.entry.made.caller (subst (IsEvent x.entry.made.caller) e l.0.comes.event) (subst (λ o. CallerAllows (end_of h).control (end_of h).managed.managed (end_of h).peer.peers.issued x.entry.made.caller x.entry.made.index o x.entry.made.reply x.entry.made.cites x.told) e l.0.comes.order)
-    (subst (λ o. SideLawful (is_peer_event x.entry.made.caller o) (end_of h) (record { caller = x.entry.made.caller; index = x.entry.made.index; op = o; reply = x.entry.made.reply; cites = x.entry.made.cites }) x.told) e l.0.comes.lawful)
+resolves_free_by_restores x h l k e = by x.entry.made.caller (subst (IsEvent x.entry.made.caller) e (event_of x h l)) (subst (λ o. CallerAllows (end_of h).control (end_of h).managed.managed (end_of h).peer.peers.issued x.entry.made.caller x.entry.made.index o x.entry.made.reply x.entry.made.cites (bare_told x.told)) e (turn_of x h l))
   where
-    by : (t : Thread) → IsEvent t (op.Resolve k) → CallerAllows (end_of h).control (end_of h).managed.managed (end_of h).peer.peers.issued t x.entry.made.index (op.Resolve k) x.entry.made.reply x.entry.made.cites x.told
-        → SideLawful false (end_of h) (record { caller = x.entry.made.caller; index = x.entry.made.index; op = op.Resolve k; reply = x.entry.made.reply; cites = x.entry.made.cites }) x.told → FreesByRestores (end_of h).managed.managed (restores_in h) x.told k.0
-    by C v a w = resolve-by (end_of h).managed (restores_in h) (end_of h).control.stand k x.entry.made.cites x.told (restored_in h l.1) a w.allowed
-    by (M u) v a w = absurd v
-    by (P u) v a w = absurd v
+    by : (t : Thread) → IsEvent t (op.Resolve k) → CallerAllows (end_of h).control (end_of h).managed.managed (end_of h).peer.peers.issued t x.entry.made.index (op.Resolve k) x.entry.made.reply x.entry.made.cites (bare_told x.told)
+        → FreesByRestores (end_of h).managed.managed (restores_in h) (bare_told x.told) k.0
+    by C v a = resolve-by (end_of h).managed (restores_in h) (end_of h).control.stand k x.entry.made.cites (bare_told x.told) (restored_in h l.1) a (resolve_allowed x h l k e)
+    by (M u) v a = absurd v
+    by (P u) v a = absurd v
 
 -- the resolve of a past, by where the driver stands behind it
 cleared-by : (s : Linkage) → IsPastKept s → (rs : List (ℕ × Answer)) (st : Stand) (k : Cycle) (cites : Option ℕ) (answers : List Answer) (freed : List ℕ) → s.control.stand ≡ st → RestoredBy s.managed.managed rs st → MayResolveNow st k.0 cites (resolution_of answers freed)
@@ -230,15 +274,13 @@ cleared-by s kept rs (restored o told clear) k cites answers freed e r w v i g m
 cleared-by s kept rs st k cites answers freed e r w v i g m a at c = absurd w
 
 pub resolves_free_cleared : ResolvesFreeCleared
-resolves_free_cleared x h l k e answers freed t = by x.entry.made.caller (subst (IsEvent x.entry.made.caller) e l.0.comes.event)
-    (subst (λ o. CallerAllows (end_of h).control (end_of h).managed.managed (end_of h).peer.peers.issued x.entry.made.caller x.entry.made.index o x.entry.made.reply x.entry.made.cites (resolution_of answers freed)) e (subst (λ z. CallerAllows (end_of h).control (end_of h).managed.managed (end_of h).peer.peers.issued x.entry.made.caller x.entry.made.index x.entry.made.op x.entry.made.reply x.entry.made.cites z) t l.0.comes.order))
-    (subst (λ o. SideLawful (is_peer_event x.entry.made.caller o) (end_of h) (record { caller = x.entry.made.caller; index = x.entry.made.index; op = o; reply = x.entry.made.reply; cites = x.entry.made.cites }) (resolution_of answers freed)) e (subst (λ z. SideLawful (is_peer_event x.entry.made.caller x.entry.made.op) (end_of h) x.entry.made z) t l.0.comes.lawful))
+resolves_free_cleared x h l k e answers freed t = by x.entry.made.caller (subst (IsEvent x.entry.made.caller) e (event_of x h l))
+    (subst (λ o. CallerAllows (end_of h).control (end_of h).managed.managed (end_of h).peer.peers.issued x.entry.made.caller x.entry.made.index o x.entry.made.reply x.entry.made.cites (resolution_of answers freed)) e (subst (λ z. CallerAllows (end_of h).control (end_of h).managed.managed (end_of h).peer.peers.issued x.entry.made.caller x.entry.made.index x.entry.made.op x.entry.made.reply x.entry.made.cites z) t (turn_of x h l)))
   where
     Frees : Type 0
     Frees = (i g m : ℕ) (a : Answer) → slice_get (restores_in h) i ≡ Some (g, a) → slice_get (candidates_of (end_of h).managed.managed) i ≡ Some m → Contains freed m ↔ (a ≡ said_cleared)
 
-    by : (u : Thread) → IsEvent u (op.Resolve k) → CallerAllows (end_of h).control (end_of h).managed.managed (end_of h).peer.peers.issued u x.entry.made.index (op.Resolve k) x.entry.made.reply x.entry.made.cites (resolution_of answers freed)
-        → SideLawful false (end_of h) (record { caller = x.entry.made.caller; index = x.entry.made.index; op = op.Resolve k; reply = x.entry.made.reply; cites = x.entry.made.cites }) (resolution_of answers freed) → Frees
-    by C v a w = cleared-by (end_of h) (known_past_is_kept h l.1) (restores_in h) (end_of h).control.stand k x.entry.made.cites answers freed refl (restored_in h l.1) a w.allowed
-    by (M u) v a w = absurd v
-    by (P u) v a w = absurd v
+    by : (u : Thread) → IsEvent u (op.Resolve k) → CallerAllows (end_of h).control (end_of h).managed.managed (end_of h).peer.peers.issued u x.entry.made.index (op.Resolve k) x.entry.made.reply x.entry.made.cites (resolution_of answers freed) → Frees
+    by C v a = cleared-by (end_of h) (known_past_is_kept h l.1) (restores_in h) (end_of h).control.stand k x.entry.made.cites answers freed refl (restored_in h l.1) a (subst (ManagedAllows (end_of h).managed (op.Resolve k)) t (resolve_allowed x h l k e))
+    by (M u) v a = absurd v
+    by (P u) v a = absurd v

@@ -36,10 +36,10 @@ AllPlain s [] = Unit {0}
 AllPlain s (n ∷ ns) = PlainComes s n × AllPlain (linkage_after s n) ns
 
 -- the stands are the same, but that it may be seen in the one alone that the driver has come to the weakened phase
-abbrev Near : Stand → Stand → Type 0
+abbrev pub Near : Stand → Stand → Type 0
 Near x y = (x ≡ y) ⊎ ((o : OpenSnap) × (x ≡ weakening o 0 true false) × (y ≡ weakening o 0 false false))
 
-abbrev with_stand : Linkage → Stand → Linkage
+abbrev pub with_stand : Linkage → Stand → Linkage
 with_stand s y = record s { control = record s.control { stand = y } }
 
 -- a driver's event but a refusal asks for the same at both
@@ -125,7 +125,7 @@ refuse-near s y z c n w r p (inl e) a m = subst (λ x. Refuses s y x c n w r p) 
 refuse-near s y z c n w r p (inr e) a m = subst (λ x. Refuses s x z c n w r p) (sym e.1) (subst (λ x. Refuses s (weakening e.0 0 true false) x c n w r p) (sym e.2) (refuse-seen s e.0 c n w r p (subst (λ x. IsPhaseOf x c p) e.1 a) m))
 
 -- an entry with something told plainly beside it, at a near stand
-record Plainly (s : Linkage) (z : Stand) (n : Noted) : Type 0 where
+pub record Plainly (s : Linkage) (z : Stand) (n : Noted) : Type 0 where
   pub note : Noted
   pub same : note.entry ≡ n.entry
   pub comes : PlainComes (with_stand s z) note
@@ -133,7 +133,7 @@ record Plainly (s : Linkage) (z : Stand) (n : Noted) : Type 0 where
   pub near : Near (linkage_after s n).control.stand stand
   pub after : linkage_after (with_stand s z) note ≡ with_stand (linkage_after s n) stand
 
-plainly : (s : Linkage) (z : Stand) (k : ℕ) (t : Thread) (l : ℕ) (o : Op) (r : Reply) (c : Option ℕ) (x : Told) → Near s.control.stand z → MayCome s (noting k t l o r c x) → Plainly s z (noting k t l o r c x)
+pub plainly : (s : Linkage) (z : Stand) (k : ℕ) (t : Thread) (l : ℕ) (o : Op) (r : Reply) (c : Option ℕ) (x : Told) → Near s.control.stand z → MayCome s (noting k t l o r c x) → Plainly s z (noting k t l o r c x)
 plainly s z k (M t) l (op.Refused w) r c x e a = absurd a.event
 plainly s z k (P t) l (op.Refused w) r c x e a = absurd a.event
 plainly s z k C l (op.Refused w) r c (phase_of p) e a =

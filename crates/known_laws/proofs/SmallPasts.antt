@@ -1,5 +1,5 @@
 -- The small pasts and states, computed. Where two entries have one number, that no past has two is what refutes the conclusion.
-use Rattle.std.proofs.Common.{◌≡◌, inl, inr, ⊎_elim, ℕ, Bool, zero, suc, ◌≤◌, true, false, List, [], ◌∷◌, None, refl, sym, ap, ◌∙◌, arith, true≢false, if◌then◌else◌}
+use Rattle.std.proofs.Common.{◌≡◌, inl, inr, ⊎_elim, ℕ, Bool, zero, suc, ◌≤◌, true, false, List, [], ◌∷◌, Some, None, refl, sym, ap, ◌∙◌, arith, true≢false, if◌then◌else◌}
 use Rattle.joint_model.specs.declared.names.Thread.TheVariants.{M, P}
 use Rattle.joint_model.specs.declared.names.Phase.TheVariants as at
 use Rattle.joint_model.specs.declared.events.Entry.{Entry}
@@ -16,15 +16,16 @@ use Rattle.joint_model.specs.ManagedReplay.{ManagedReplay, MayContract, opening_
 use Rattle.joint_model.specs.PeerReplay.{MayClear, MayRelease, MayRestore, MayWeaken, opening_peer_replay}
 use Rattle.joint_model.specs.Told.{Noted, phase_of}
 use Rattle.joint_model.proofs.Deciding.{none_some}
-use Rattle.joint_model.proofs.Members.{Contains-nil, Contains-here}
+use Rattle.joint_model.proofs.Members.{Contains-nil, Contains-here, Contains-there}
 use Rattle.known_laws.specs.Conditions.{IsOpenHere}
 use Rattle.known_laws.specs.Drawn.{AreDrawn, IsToldIn, drawn_by}
-use Rattle.known_laws.specs.Growing.{AreKnown, IsTurnedPast, entries, grown}
-use Rattle.known_laws.specs.Known.{TellsPlainly}
+use Rattle.known_laws.specs.Growing.{Kept, AreKnown, IsTurnedPast, all_shown, entries_kept, grown, shown}
+use Rattle.known_laws.specs.Known.{Comes, TellsPlainly}
+use Rattle.known_laws.proofs.Pinned.{none_stand}
 use Rattle.known_laws.specs.Driving.{IsPastKept}
 use Rattle.known_laws.proofs.KnownPasts.{known_past_is_kept}
 use Rattle.known_laws.specs.Pasts.{HasSameDeadPart, InPast, Joined, Lawful, PastRunsFrom, Within, end_of, line, driver_line}
-use Rattle.known_laws.specs.Worked.{a_drop, a_peer_drop, a_refusal, a_release, a_give, a_snap, lines_of, released_twice, turned_numbers, two_drops, without_candidates, wrong_lines, wrongly_drawn}
+use Rattle.known_laws.specs.Worked.{a_read, a_take, a_drop, a_peer_drop, a_refusal, a_release, a_give, a_snap, lines_of, released_twice, turned_numbers, two_drops, without_candidates, wrong_lines, wrongly_drawn}
 use Rattle.known_laws.proofs.CitedOnce.{none_is_cited_twice}
 use Rattle.known_laws.proofs.PastLines.{in-line, in_begins, one-number}
 use Rattle.known_laws.proofs.PastsJoin.{in_whole_past}
@@ -32,10 +33,10 @@ use Rattle.known_laws.proofs.SnapTold.{numbers_are_once}
 
 -- two entries with one number
 pub one : Lawful (a_drop 5 ∷ [])
-one = (record { later = omega arith; comes = record { event = (((omega arith, omega arith), omega arith), tt); line = omega arith; short = omega arith; lawful = record { allowed = tt; replies = refl }; order = refl }; plain = tt }, tt)
+one = (record { later = omega arith; comes = record { tells = refl; stand = none_stand _; comes = record { event = (((omega arith, omega arith), omega arith), tt); line = omega arith; short = omega arith; lawful = record { allowed = tt; replies = refl }; order = refl } }; plain = tt }, tt)
 
 pub other : Lawful (a_peer_drop 5 ∷ [])
-other = (record { later = omega arith; comes = record { event = (((omega arith, omega arith), omega arith), tt); line = omega arith; short = omega arith; lawful = record { allowed = tt; replies = refl }; order = refl }; plain = tt }, tt)
+other = (record { later = omega arith; comes = record { tells = refl; stand = none_stand _; comes = record { event = (((omega arith, omega arith), omega arith), tt); line = omega arith; short = omega arith; lawful = record { allowed = tt; replies = refl }; order = refl } }; plain = tt }, tt)
 
 callers-differ : (x y : Noted) → x ≡ y → x.entry.made.caller ≡ M 1 → y.entry.made.caller ≡ P 1 → ⊥
 callers-differ x y e p q = let s : M 1 ≡ P 1 = sym p ∙ (ap (λ (z : Noted). z.entry.made.caller) e ∙ q) in cc
@@ -49,33 +50,37 @@ no_join j =
     let y = in-line 1 j.past (a_peer_drop 5) (in_begins (a_peer_drop 5 ∷ []) (line 1 j.past) (a_peer_drop 5) (j.second 1) (inl refl)) in
     callers-differ (a_drop 5) (a_peer_drop 5) (numbers_are_once j.past j.lawful (a_drop 5) (a_peer_drop 5) x y refl) refl refl
 
-pub comes : MayCome (end_of (a_drop 5 ∷ [])) (a_peer_drop 5)
-comes = record { event = (((omega arith, omega arith), omega arith), tt); line = omega arith; short = omega arith; lawful = record { allowed = tt; replies = refl }; order = refl }
+pub comes : Comes false (end_of (a_drop 5 ∷ [])) (a_peer_drop 5)
+comes = record { tells = refl; stand = none_stand _; comes = record { event = (((omega arith, omega arith), omega arith), tt); line = omega arith; short = omega arith; lawful = record { allowed = tt; replies = refl }; order = refl } }
 
-in_entries : (xs : List Noted) (e : Entry) → entries xs ≡ e ∷ [] → (n : Noted) × InPast xs n × (n.entry ≡ e)
-in_entries [] e q = absurd (cc)
-in_entries (x ∷ xs) e q = (x, inl refl, cc)
+in_shown : (xs : List Noted) (k : Kept) → all_shown xs ≡ k ∷ [] → (n : Noted) × InPast xs n × (n.entry ≡ k.entry)
+in_shown [] k q = absurd (cc)
+in_shown (x ∷ xs) k q = (x, inl refl, ap first_entry q)
+  where
+    first_entry : List Kept → Entry
+    first_entry [] = k.entry
+    first_entry (y ∷ ys) = y.entry
 
-pub unknown : AreKnown (grown (lines_of (a_drop 5 ∷ [])) (a_peer_drop 5).entry) → ⊥
+pub unknown : AreKnown (grown (lines_of (a_drop 5 ∷ [])) (shown (a_peer_drop 5))) → ⊥
 unknown k =
-    let x = in_entries (line 0 k.past) (a_drop 5).entry (sym (k.same 0)) in
-    let y = in_entries (line 1 k.past) (a_peer_drop 5).entry (sym (k.same 1)) in
+    let x = in_shown (line 0 k.past) (shown (a_drop 5)) (sym (k.same 0)) in
+    let y = in_shown (line 1 k.past) (shown (a_peer_drop 5)) (sym (k.same 1)) in
     let number : x.0.entry.number ≡ y.0.entry.number = ap (λ (e : Entry). e.number) x.2 ∙ sym (ap (λ (e : Entry). e.number) y.2) in
     callers-differ x.0 y.0 (numbers_are_once k.past k.lawful x.0 y.0 (in-line 0 k.past x.0 x.1) (in-line 1 k.past y.0 y.1) number) (ap (λ (e : Entry). e.made.caller) x.2) (ap (λ (e : Entry). e.made.caller) y.2)
 
 -- a number left out
 pub lawful : Lawful two_drops
 lawful = (
-  record { later = omega arith; comes = record { event = (((omega arith, omega arith), omega arith), tt); line = omega arith; short = omega arith; lawful = record { allowed = tt; replies = refl }; order = refl }; plain = tt },
-  (record { later = omega arith; comes = record { event = (((omega arith, omega arith), omega arith), tt); line = omega arith; short = omega arith; lawful = record { allowed = tt; replies = refl }; order = refl }; plain = tt }, tt),
+  record { later = omega arith; comes = record { tells = refl; stand = none_stand _; comes = record { event = (((omega arith, omega arith), omega arith), tt); line = omega arith; short = omega arith; lawful = record { allowed = tt; replies = refl }; order = refl } }; plain = tt },
+  (record { later = omega arith; comes = record { tells = refl; stand = none_stand _; comes = record { event = (((omega arith, omega arith), omega arith), tt); line = omega arith; short = omega arith; lawful = record { allowed = tt; replies = refl }; order = refl } }; plain = tt }, tt),
 )
 
-pub unnumbered : NumberedFrom 0 turned_numbers → ⊥
+pub unnumbered : NumberedFrom 0 (entries_kept turned_numbers) → ⊥
 unnumbered n = let f : 5 ≡ 0 = n.0 in omega (arith, f)
 
-abbrev first_number : List Entry → ℕ
+abbrev first_number : List Kept → ℕ
 first_number [] = 0
-first_number (e ∷ es) = e.number
+first_number (k ∷ ks) = k.entry.number
 
 pub no_history : IsTurnedPast turned_numbers two_drops → ⊥
 no_history h = let f : 3 ≡ 5 = ap first_number h.same in omega (arith, f)
@@ -100,7 +105,7 @@ snapshot = record {
 }
 
 pub snap-lawful : Lawful (a_snap ∷ [])
-snap-lawful = (record { later = omega arith; comes = record { event = tt; line = omega arith; short = omega arith; lawful = record { allowed = snapshot; replies = refl }; order = refl }; plain = tt }, tt)
+snap-lawful = (record { later = omega arith; comes = record { tells = refl; stand = none_stand _; comes = record { event = tt; line = omega arith; short = omega arith; lawful = record { allowed = snapshot; replies = refl }; order = refl } }; plain = tt }, tt)
 
 pub other_line : line driver_line [] ≡ line driver_line (a_snap ∷ []) → ⊥
 other_line e = cc
@@ -132,11 +137,11 @@ released l = ⊎_elim
 no-target : (h : List Noted) → IsToldIn h wrongly_drawn → ⊥
 no-target h t = by (is_peer_event t.entry.entry.made.caller t.entry.entry.made.op) t.same
   where
-    target : (s : Linkage) → (a_drop 0).entry ≡ t.entry.entry → wrongly_drawn.target ≡ managed_rules.target s.managed t.entry.entry.made → ⊥
-    target s e f = let g : wrongly_drawn.target ≡ None = f ∙ ap (λ (z : Entry). managed_rules.target s.managed z.made) (sym e) in cc
+    target : (s : Linkage) → (a_drop 0).entry ≡ t.entry.entry → wrongly_drawn.drawn.target ≡ managed_rules.target s.managed t.entry.entry.made → ⊥
+    target s e f = let g : wrongly_drawn.drawn.target ≡ None = f ∙ ap (λ (z : Entry). managed_rules.target s.managed z.made) (sym e) in cc
 
-    by : (b : Bool) → wrongly_drawn ≡ (if b then drawn_by peer_rules (end_of t.back).peer t.entry else drawn_by managed_rules (end_of t.back).managed t.entry) → ⊥
-    by true e = (let g : wrongly_drawn.target ≡ None = ap (λ (z : Drawn). z.target) e in cc)
+    by : (b : Bool) → wrongly_drawn.drawn ≡ (if b then drawn_by peer_rules (end_of t.back).peer t.entry else drawn_by managed_rules (end_of t.back).managed t.entry) → ⊥
+    by true e = (let g : wrongly_drawn.drawn.target ≡ None = ap (λ (z : Drawn). z.target) e in cc)
     by false e = target (end_of t.back) (ap (λ (z : Drawn). z.entry) e) (ap (λ (z : Drawn). z.target) e)
 
 pub wrong : AreDrawn wrong_lines → ⊥
@@ -170,3 +175,11 @@ kept = known_past_is_kept [] tt
 
 pub unplain : TellsPlainly without_candidates.control.stand (a_refusal at.Weakened).entry.made.op (phase_of at.Weakened) → ⊥
 unplain w = let e : false ≡ true = w refl in true≢false (sym e)
+
+-- a pin that doesn't stand
+pub unstanding : Lawful (a_take ∷ []) → ⊥
+unstanding l = no-live 1 (l.0.comes.stand.live 1 (Contains-there (Some 1) None (Some 1 ∷ []) (Contains-here (Some 1) [])))
+
+-- a read with a reply that no history has
+pub unjudged : Lawful (a_read ∷ [])
+unjudged = (record { later = omega arith; comes = record { event = (((omega arith, omega arith), omega arith), tt); line = omega arith; short = omega arith; order = refl; bare = refl }; plain = tt }, tt)

@@ -2,6 +2,13 @@
 -- cycle with what is told of it, no entry but a resolve and an abandon changes the open cycle, and with these the driver comes to
 -- be idle. While a cycle is mirrored it is the driver's, and the mirror cites its snap. So two pasts of one run that have the mirror
 -- have the same candidates, as they are told the same of that snap.
+use Rattle.known_laws.proofs.Later.{side_after, reads_leave}
+use Rattle.known_laws.proofs.Pinned.{kept_pinned}
+use Rattle.known_laws.proofs.Moving.{driver_reads}
+use Rattle.known_laws.specs.Known.{Comes, SideMayCome, given}
+use Rattle.joint_model.specs.Lines.{is_read}
+use Rattle.joint_model.specs.Told.{bare_told}
+use Rattle.std.proofs.Common.{Bool, true, false}
 use Rattle.std.proofs.Common.{◌≡◌, inl, inr, ⊎_elim, ℕ, ◌+◌, List, [], ◌∷◌, length, map, Option, Some, refl, sym, ap, ◌∙◌, subst, arith}
 use Rattle.std.proofs.lemmas.Option.{same_Some}
 use Rattle.joint_model.specs.declared.names.Thread.{Thread}
@@ -12,7 +19,7 @@ use Rattle.joint_model.specs.declared.events.Made.{Made}
 use Rattle.joint_model.specs.declared.events.Reply.{Reply}
 use Rattle.joint_model.specs.Control.{OpenSnap, Stand, idle, snapped, contracted, weakening, marked, restoring, restored, stand_after, control_after}
 use Rattle.joint_model.specs.Lines.{IsEvent, is_peer_event}
-use Rattle.joint_model.specs.Linked.{SideLawful, managed_after}
+use Rattle.joint_model.specs.Linked.{Linkage, SideLawful, managed_after}
 use Rattle.joint_model.specs.ManagedReplay.{ManagedReplay}
 use Rattle.joint_model.specs.PeerReplay.{PeerReplay, Mirror}
 use Rattle.joint_model.specs.Run.{thread_number}
@@ -76,48 +83,76 @@ cycle_on r index reply cites _ told k x e = refl
 later : (x : Noted) (h : List Noted) (o : OpenSnap) → (end_of (x ∷ h)).managed.managed.cycle ≡ (end_of h).managed.managed.cycle → HasSnap h o → HasSnap (x ∷ h) o
 later x h o e s = record { cycle = s.cycle; open_cycle = e ∙ s.open_cycle; freed = s.freed; entry = s.entry; there = inr s.there; number = s.number; event = s.event; tells = s.tells }
 
-step : (x : Noted) (h : List Noted) → Lawful (x ∷ h) → ((o : OpenSnap) → opened_of (end_of h).control.stand ≡ Some o → HasSnap h o) → (o : OpenSnap) → opened_of (end_of (x ∷ h)).control.stand ≡ Some o → HasSnap (x ∷ h) o
-step x h l b = by x.entry.made.caller x.entry.made.op x.told refl refl refl l.0.comes.event l.0.comes.lawful
+-- where the driver stands, it stays by another's entry
+stood_else : (s : Linkage) (x : Noted) (t : Thread) (o : Op) (told : Told) → x.entry.made.caller ≡ t → (t ≡ C → ⊥) → (control_after s.control x.entry.made.caller x.entry.number x.entry.made.index x.entry.made.op x.entry.made.reply told).stand ≡ s.control.stand
+stood_else s x t o told e n = subst (λ z. (control_after s.control z x.entry.number x.entry.made.index x.entry.made.op x.entry.made.reply told).stand ≡ s.control.stand) (sym e) (by t n)
   where
+    by : (t : Thread) → (t ≡ C → ⊥) → (control_after s.control t x.entry.number x.entry.made.index x.entry.made.op x.entry.made.reply told).stand ≡ s.control.stand
+    by (M u) n = refl
+    by (P u) n = refl
+    by C n = absurd (n refl)
+
+step : (x : Noted) (h : List Noted) → Lawful (x ∷ h) → ((o : OpenSnap) → opened_of (end_of h).control.stand ≡ Some o → HasSnap h o) → (o : OpenSnap) → opened_of (end_of (x ∷ h)).control.stand ≡ Some o → HasSnap (x ∷ h) o
+step x h l b = either (is_read x.entry.made.op) refl l.0.comes
+  where
+    s0 : Linkage
+    s0 = given (end_of h) x.told
+
     made : Thread → Op → Made
     made t o = record { caller = t; index = x.entry.made.index; op = o; reply = x.entry.made.reply; cites = x.entry.made.cites }
 
     R : Thread → Op → Told → ManagedReplay
-    R t o told = managed_after (end_of h).managed (made t o) told (is_peer_event t o)
-
-    -- the end of the past, by what the entry is
-    cycle_is : (t : Thread) (o : Op) (told : Told) → x.entry.made.caller ≡ t → x.entry.made.op ≡ o → x.told ≡ told → (end_of (x ∷ h)).managed.managed.cycle ≡ (R t o told).managed.cycle
-    cycle_is t o told e f g = λ i. (R (e i) (f i) (g i)).managed.cycle
+    R t o told = managed_after s0.managed (made t o) told (is_peer_event t o)
 
     Stood : Thread → Op → Told → OpenSnap → Type 0
     Stood t o told w = opened_of (control_after (end_of h).control t x.entry.number x.entry.made.index o x.entry.made.reply told).stand ≡ Some w
 
-    stood_is : (t : Thread) (o : Op) (told : Told) (w : OpenSnap) → x.entry.made.caller ≡ t → x.entry.made.op ≡ o → x.told ≡ told → opened_of (end_of (x ∷ h)).control.stand ≡ Some w → Stood t o told w
+    stood_is : (t : Thread) (o : Op) (told : Told) (w : OpenSnap) → x.entry.made.caller ≡ t → x.entry.made.op ≡ o → bare_told x.told ≡ told → opened_of (end_of (x ∷ h)).control.stand ≡ Some w → Stood t o told w
     stood_is t o told w e f g q = subst (λ z. z ≡ Some w) (λ i. opened_of (control_after (end_of h).control (e i) x.entry.number x.entry.made.index (f i) x.entry.made.reply (g i)).stand) q
 
-    others : (t : Thread) (o : Op) (told : Told) → x.entry.made.caller ≡ t → x.entry.made.op ≡ o → x.told ≡ told → (t ≡ C → ⊥) → IsEvent t o → SideLawful (is_peer_event t o) (end_of h) (made t o) told → (w : OpenSnap) → opened_of (end_of h).control.stand ≡ Some w → HasSnap (x ∷ h) w
-    others t o told e f g n v s w q = later x h w (cycle_is t o told e f g ∙ (goes_by (end_of h).managed (made t o) told (is_peer_event t o) (end_of h) refl n v (kept_end h l.1).managed s).cycle) (b w q)
+    -- an entry of a side's list
+    module_side : is_read x.entry.made.op ≡ false → SideMayCome (end_of h) x → (w : OpenSnap) → opened_of (end_of (x ∷ h)).control.stand ≡ Some w → HasSnap (x ∷ h) w
+    module_side r c = by x.entry.made.caller x.entry.made.op (bare_told x.told) refl refl refl c.comes.event c.comes.lawful
+      where
+        k0 : IsReplayKept s0.managed
+        k0 = (kept_pinned (end_of h) _ c.stand (kept_end h l.1)).managed
 
-    by : (t : Thread) (o : Op) (told : Told) → x.entry.made.caller ≡ t → x.entry.made.op ≡ o → x.told ≡ told → IsEvent t o → SideLawful (is_peer_event t o) (end_of h) (made t o) told → (w : OpenSnap) → opened_of (end_of (x ∷ h)).control.stand ≡ Some w → HasSnap (x ∷ h) w
-    by (M u) o told e f g v s w q = others (M u) o told e f g (λ z. cc) v s w (stood_is (M u) o told w e f g q)
-    by (P u) o told e f g v s w q = others (P u) o told e f g (λ z. cc) v s w (stood_is (P u) o told w e f g q)
-    by C (op.Snap k) (snap_of freed candidates dead) e f g v s w q =
-        let same : record { cycle = k.0; snap = x.entry.number } ≡ w = same_Some _ _ (stood_is C (op.Snap k) (snap_of freed candidates dead) w e f g q) in
-        record {
-          cycle = record { number = (end_of h).managed.managed.cycles + 1; candidates = candidates; dead = dead };
-          open_cycle = cycle_is C (op.Snap k) (snap_of freed candidates dead) e f g;
-          freed = freed;
-          entry = x;
-          there = inl refl;
-          number = ap (λ (z : OpenSnap). z.snap) same;
-          event = f ∙ ap (λ (z : OpenSnap). op.Snap record { 0 = z.cycle }) same;
-          tells = g;
-        }
-    by C (op.Snap k) told e f g v s w q = absurd s.allowed
-    by C (op.Resolve k) told e f g v s w q = absurd (none_some w (stood_is C (op.Resolve k) told w e f g q))
-    by C (op.Abandon k) told e f g v s w q = absurd (none_some w (stood_is C (op.Abandon k) told w e f g q))
-    by C o told e f g v s w q = later x h w (cycle_is C o told e f g ∙ cycle_on (end_of h).managed x.entry.made.index x.entry.made.reply x.entry.made.cites o told (kept_end h l.1).managed tt v)
-        (b w (sym (opened_on (end_of h).control.stand x.entry.number o x.entry.made.reply told tt) ∙ stood_is C o told w e f g q))
+        -- the end of the past, by what the entry is
+        cycle_is : (t : Thread) (o : Op) (told : Told) → x.entry.made.caller ≡ t → x.entry.made.op ≡ o → bare_told x.told ≡ told → (end_of (x ∷ h)).managed.managed.cycle ≡ (R t o told).managed.cycle
+        cycle_is t o told e f g = ap (λ (z : Linkage). z.managed.managed.cycle) (side_after (end_of h) x r).same ∙ (λ i. (R (e i) (f i) (g i)).managed.cycle)
+
+        others : (t : Thread) (o : Op) (told : Told) → x.entry.made.caller ≡ t → x.entry.made.op ≡ o → bare_told x.told ≡ told → (t ≡ C → ⊥) → IsEvent t o → SideLawful (is_peer_event t o) s0 (made t o) told → (w : OpenSnap) → opened_of (end_of h).control.stand ≡ Some w → HasSnap (x ∷ h) w
+        others t o told e f g n v s w q = later x h w (cycle_is t o told e f g ∙ (goes_by s0.managed (made t o) told (is_peer_event t o) s0 refl n v k0 s).cycle) (b w q)
+
+        by : (t : Thread) (o : Op) (told : Told) → x.entry.made.caller ≡ t → x.entry.made.op ≡ o → bare_told x.told ≡ told → IsEvent t o → SideLawful (is_peer_event t o) s0 (made t o) told → (w : OpenSnap) → opened_of (end_of (x ∷ h)).control.stand ≡ Some w → HasSnap (x ∷ h) w
+        by (M u) o told e f g v s w q = others (M u) o told e f g (λ z. cc) v s w (stood_is (M u) o told w e f g q)
+        by (P u) o told e f g v s w q = others (P u) o told e f g (λ z. cc) v s w (stood_is (P u) o told w e f g q)
+        by C (op.Snap k) (snap_of freed candidates dead) e f g v s w q =
+            let same : record { cycle = k.0; snap = x.entry.number } ≡ w = same_Some _ _ (stood_is C (op.Snap k) (snap_of freed candidates dead) w e f g q) in
+            record {
+              cycle = record { number = (end_of h).managed.managed.cycles + 1; candidates = candidates; dead = dead };
+              open_cycle = cycle_is C (op.Snap k) (snap_of freed candidates dead) e f g;
+              freed = freed;
+              entry = x;
+              there = inl refl;
+              number = ap (λ (z : OpenSnap). z.snap) same;
+              event = f ∙ ap (λ (z : OpenSnap). op.Snap record { 0 = z.cycle }) same;
+              tells = g;
+            }
+        by C (op.Snap k) told e f g v s w q = absurd s.allowed
+        by C (op.Resolve k) told e f g v s w q = absurd (none_some w (stood_is C (op.Resolve k) told w e f g q))
+        by C (op.Abandon k) told e f g v s w q = absurd (none_some w (stood_is C (op.Abandon k) told w e f g q))
+        by C o told e f g v s w q = later x h w (cycle_is C o told e f g ∙ cycle_on s0.managed x.entry.made.index x.entry.made.reply x.entry.made.cites o told k0 tt v)
+            (b w (sym (opened_on (end_of h).control.stand x.entry.number o x.entry.made.reply told tt) ∙ stood_is C o told w e f g q))
+
+    either : (r : Bool) → is_read x.entry.made.op ≡ r → Comes r (end_of h) x → (w : OpenSnap) → opened_of (end_of (x ∷ h)).control.stand ≡ Some w → HasSnap (x ∷ h) w
+    either true e c w q = later x h w (ap (λ (z : ManagedReplay). z.managed.cycle) (reads_leave (end_of h).managed x e)) (b w (sym (ap opened_of (reader_stands x.entry.made.caller refl)) ∙ q))
+      where
+        reader_stands : (t : Thread) → x.entry.made.caller ≡ t → (end_of (x ∷ h)).control.stand ≡ (end_of h).control.stand
+        reader_stands C f = absurd (driver_reads x.entry.made.op (subst (λ z. IsEvent z x.entry.made.op) f c.event) e)
+        reader_stands (M u) f = stood_else (end_of h) x (M u) x.entry.made.op (bare_told x.told) f (λ z. cc)
+        reader_stands (P u) f = stood_else (end_of h) x (P u) x.entry.made.op (bare_told x.told) f (λ z. cc)
+    either false e c w q = module_side e c w q
 
 pub snap_tells_cycle : SnapTellsCycle
 snap_tells_cycle [] l o q = absurd (none_some o q)
@@ -162,5 +197,5 @@ mirrored_candidates_stay whole ls ms a b numbered wa wb m n e f same =
     let x = mirror_cites_a_snap a.past a.lawful m e in
     let y = mirror_cites_a_snap b.past b.lawful n f in
     let one : x.entry ≡ y.entry = pasts_agree (map untold whole) a.past b.past (runs_untold 0 whole numbered) a.lawful b.lawful (within_by whole ls a wa) (within_by whole ms b wb) x.entry y.entry x.there y.there (x.number ∙ (same ∙ sym y.number)) in
-    let c = told-candidates x.freed x.cycle.candidates x.cycle.dead y.freed y.cycle.candidates y.cycle.dead (sym x.tells ∙ (ap (λ (z : Noted). z.told) one ∙ y.tells)) in
+    let c = told-candidates x.freed x.cycle.candidates x.cycle.dead y.freed y.cycle.candidates y.cycle.dead (sym x.tells ∙ (ap (λ (z : Noted). bare_told z.told) one ∙ y.tells)) in
     candidates_of-open (end_of a.past).managed.managed x.cycle x.open_cycle ∙ (c ∙ sym (candidates_of-open (end_of b.past).managed.managed y.cycle y.open_cycle))

@@ -1,19 +1,45 @@
 -- Whose turn it is, by the equation that tells what a thread is in the midst of or where the driver stands: with it the rule computes.
+use Rattle.known_laws.proofs.Unpinned.{turn_same}
+use Rattle.known_laws.proofs.Moving.{driver_reads}
+use Rattle.known_laws.proofs.Coming.{peer_reads_none}
+use Rattle.known_laws.proofs.Bared.{plain_told, peer_unpinned}
+use Rattle.known_laws.specs.Known.{Comes, given as given_pins}
+use Rattle.joint_model.specs.Run.{thread_number}
+use Rattle.joint_model.specs.Lines.{IsEvent, is_read}
+use Rattle.joint_model.specs.declared.names.Thread.{Thread}
+use Rattle.std.proofs.Common.{true, false, true≢false, ◌∙◌}
 use Rattle.std.proofs.Common.{◌≡◌, ⊎_elim, ℕ, Option, Some, None, refl, sym, subst}
-use Rattle.joint_model.specs.declared.names.Thread.TheVariants.{M}
+use Rattle.joint_model.specs.declared.names.Thread.TheVariants.{M, P, C}
 use Rattle.joint_model.specs.declared.events.Op.{Op}
 use Rattle.joint_model.specs.declared.events.Op.TheVariants as op
 use Rattle.joint_model.specs.declared.events.Reply.{Reply}
-use Rattle.joint_model.specs.Control.{Doing, free, made, lent, gripped, given, met, Stand, doing_at, IsDone, MayStart, ThreadAllows, DriverAllows}
-use Rattle.joint_model.specs.Linked.{Linkage, SideLawful}
-use Rattle.joint_model.specs.Told.{Told}
-use Rattle.known_laws.specs.Turns.{SideEntryComes, ThreadTurn, DriverTurn, ThreadsHaveTurns, DriverHasTurns}
+use Rattle.joint_model.specs.Control.{Doing, free, made, lent, gripped, given, met, Stand, doing_at, IsDone, MayStart, ThreadAllows, DriverAllows, CallerAllows}
+use Rattle.joint_model.specs.Linked.{Linkage, SideLawful, PeerLawful}
+use Rattle.joint_model.specs.Told.{Told, Noted, nothing, bare_told, tells_pins, pins_told}
+use Rattle.known_laws.specs.Turns.{SideEntryComes, ReaderEntryComes, ThreadTurn, DriverTurn, ThreadsHaveTurns, DriverHasTurns}
 
 pub side_entry_comes : SideEntryComes
-side_entry_comes s number m told line short order side = ⊎_elim
-    (λ w. record { event = w.0.event; line = line; short = short; lawful = subst (λ b. SideLawful b s m told) (sym w.0.side) w.1; order = order })
-    (λ w. record { event = w.0.event; line = line; short = short; lawful = subst (λ b. SideLawful b s m told) (sym w.0.side) w.1; order = order })
+side_entry_comes s number m told line short order stand side = ⊎_elim
+    (λ w. subst (λ r. Comes r s n) (sym w.1.own) (record {
+      tells = w.1.tells;
+      stand = stand;
+      comes = record { event = w.0.event; line = line; short = short; lawful = subst (λ b. SideLawful b (given_pins s told) m (bare_told told)) (sym w.0.side) w.1.lawful; order = turn };
+    }))
+    (λ w.
+    let none = peer_reads_none m.caller m.op w.0.event w.0.side in
+    let free : tells_pins told ≡ false = peer_unpinned s.peer m told w.1 in
+    subst (λ r. Comes r s n) (sym none.0) (record {
+      tells = free ∙ sym none.1;
+      stand = stand;
+      comes = record { event = w.0.event; line = line; short = short; lawful = subst (λ b. SideLawful b (given_pins s told) m (bare_told told)) (sym w.0.side) (subst (PeerLawful s.peer m) (sym (plain_told told free)) w.1); order = turn };
+    }))
     side
+  where
+    n : Noted
+    n = record { entry = record { number = number; made = m }; told = told }
+
+    turn : CallerAllows s.control (given_pins s told).managed.managed s.peer.peers.issued m.caller m.index m.op m.reply m.cites (bare_told told)
+    turn = turn_same (pins_told told) s.control s.managed.managed s.peer.peers.issued m.caller m.index m.op m.reply m.cites (bare_told told) order
 
 pub starts : (d : Doing) → IsDone d → MayStart d None
 starts free w = refl
@@ -57,3 +83,15 @@ driver_has_turns s = record {
   refused = λ w p reply a. (a, refl);
   finalise = λ n reply told a. (a, refl);
 }
+
+pub reader_entry_comes : ReaderEntryComes
+reader_entry_comes s number m v e line short done cites = subst (λ r. Comes r s n) (sym e) (record { event = v; line = line; short = short; order = by m.caller m.op refl v e done; bare = refl })
+  where
+    n : Noted
+    n = record { entry = record { number = number; made = m }; told = nothing }
+
+    by : (t : Thread) (o : Op) → m.op ≡ o → IsEvent t o → is_read o ≡ true → IsDone (doing_at s.control (thread_number t)) → CallerAllows s.control s.managed.managed s.peer.peers.issued t m.index m.op m.reply m.cites nothing
+    by (M u) (op.Line a) f v e d = subst (λ z. ThreadAllows (doing_at s.control u) (M u) m.index z m.cites) (sym f) (subst (MayStart (doing_at s.control u)) (sym cites) (starts (doing_at s.control u) d))
+    by (P u) o f v e d = cites
+    by C o f v e d = absurd (driver_reads o v e)
+    by (M u) o f v e d = absurd (true≢false (sym e))

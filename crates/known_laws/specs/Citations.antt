@@ -18,7 +18,7 @@ use Rattle.joint_model.specs.Cycles.{IsDeadContraction, IsOpen}
 use Rattle.joint_model.specs.Linked.{Linkage}
 use Rattle.joint_model.specs.Managed.{Managed, OpenCycle, ManagedEdge, handle_of}
 use Rattle.joint_model.specs.PeerReplay.{Mirror}
-use Rattle.joint_model.specs.Told.{Told, Noted, references_of, resolution_of, Answer, IsKept, said_cleared}
+use Rattle.joint_model.specs.Told.{Told, Noted, bare_told, references_of, resolution_of, Answer, IsKept, said_cleared}
 use Rattle.joint_model.specs.Walks.{Reaches}
 use Rattle.known_laws.specs.Pasts.{InPast, Lawful, end_of}
 
@@ -102,7 +102,7 @@ pub record AddsMirrorEdges (s : Linkage) (told : Told) (reply : Reply) (k : ℕ)
 
 -- so does each mirror of a past
 abbrev pub MirrorsAddMirrorEdges : Type 0
-MirrorsAddMirrorEdges = (x : Noted) (h : List Noted) → Lawful (x ∷ h) → (k : Cycle) → x.entry.made.op ≡ op.Mirror k → AddsMirrorEdges (end_of h) x.told x.entry.made.reply k.0
+MirrorsAddMirrorEdges = (x : Noted) (h : List Noted) → Lawful (x ∷ h) → (k : Cycle) → x.entry.made.op ≡ op.Mirror k → AddsMirrorEdges (end_of h) (bare_told x.told) x.entry.made.reply k.0
 
 -- a weaken takes the handle of the next candidate, by how many were weakened in the mirrored cycle, whose snap it cites
 pub record TakesNext (s : Linkage) (cites : Option ℕ) (g : ℕ) : Type 0 where
@@ -155,11 +155,11 @@ pub record FreesByRestores (s : Managed) (restores : List (ℕ × Answer)) (told
 
 -- so does each resolve of a past
 abbrev pub ResolvesFreeByRestores : Type 0
-ResolvesFreeByRestores = (x : Noted) (h : List Noted) → Lawful (x ∷ h) → (k : Cycle) → x.entry.made.op ≡ op.Resolve k → FreesByRestores (end_of h).managed.managed (restores_in h) x.told k.0
+ResolvesFreeByRestores = (x : Noted) (h : List Noted) → Lawful (x ∷ h) → (k : Cycle) → x.entry.made.op ≡ op.Resolve k → FreesByRestores (end_of h).managed.managed (restores_in h) (bare_told x.told) k.0
 
 -- so a resolve frees, of its candidates, exactly those whose restore in the past answered cleared
 abbrev pub ResolvesFreeCleared : Type 0
-ResolvesFreeCleared = (x : Noted) (h : List Noted) → Lawful (x ∷ h) → (k : Cycle) → x.entry.made.op ≡ op.Resolve k → (answers : List Answer) (freed : List ℕ) → x.told ≡ resolution_of answers freed
+ResolvesFreeCleared = (x : Noted) (h : List Noted) → Lawful (x ∷ h) → (k : Cycle) → x.entry.made.op ≡ op.Resolve k → (answers : List Answer) (freed : List ℕ) → bare_told x.told ≡ resolution_of answers freed
     → (i g m : ℕ) (a : Answer) → slice_get (restores_in h) i ≡ Some (g, a) → slice_get (candidates_of (end_of h).managed.managed) i ≡ Some m → Contains freed m ↔ (a ≡ said_cleared)
 
 -- each entry of a past stands behind a past, so each of these laws is about every entry

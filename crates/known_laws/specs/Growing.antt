@@ -1,72 +1,96 @@
 -- Known lines: how they grow by an entry and are joined, and what they are at the end of a run.
-use Rattle.std.specs.Prelude.{◌≡◌, ℕ, ◌<◌, ◌⊎◌, if◌then◌else◌, List, [], ◌∷◌, ◌++◌, map, take, Some}
+use Rattle.joint_model.specs.Sides.{objects_freed}
+use Rattle.std.specs.Prelude.{◌≡◌, ℕ, ◌<◌, ◌⊎◌, if◌then◌else◌, List, [], ◌∷◌, ◌++◌, map, Option, Some}
 use mathlib.Core.List.{IsPrefix}
 use Rattle.joint_model.specs.declared.names.Thread.{Thread}
 use Rattle.joint_model.specs.declared.names.Thread.TheVariants.{M}
 use Rattle.joint_model.specs.declared.events.Entry.{Entry}
 use Rattle.joint_model.specs.Control.{candidates_of, doing_at, last_line}
-use Rattle.joint_model.specs.Histories.{Finished, managed_numbers, peer_numbers}
-use Rattle.joint_model.specs.Linked.{Linkage, MayCome, AllMayCome, IsWhole, IsLinked, IsLinkedBy, opening_linkage, replayed, linkage_after}
+use Rattle.joint_model.specs.Linked.{Linkage, opening_linkage}
 use Rattle.joint_model.specs.PeerReplay.{Mirror}
-use Rattle.joint_model.specs.Told.{Told, Noted, nothing}
-use Rattle.known_laws.specs.Known.{TellsPlainly}
+use Rattle.joint_model.specs.Told.{Told, Noted, nothing, kept_pins, pins_told, bare_told}
+use Rattle.known_laws.specs.Known.{TellsPlainly, Comes, past_after}
 use Rattle.known_laws.specs.Pasts.{InPast, is_in, line, end_of, Lawful, HasSameDeadPart, driver_line}
-use Rattle.joint_model.specs.HistoryLines.{caller_line, entries_in}
+use Rattle.joint_model.specs.HistoryLines.{caller_line, stands_in}
+use Rattle.joint_model.specs.Lines.{is_read}
 use Rattle.joint_model.specs.Draws.{NumberedFrom}
 
--- an entry of which nothing is told, and the entries of notes
-abbrev pub untold : Entry → Noted
-untold e = record { entry = e; told = nothing }
+-- an entry as a line keeps it: with the pins that were given to a snap or a `take`, and no pins with any other
+pub record Kept : Type 0 where
+  pub entry : Entry
+  pub pins : List (Option ℕ)
 
--- the entries of notes
+-- such an entry of which nothing else is told
+abbrev pub untold : Kept → Noted
+untold k = record { entry = k.entry; told = kept_pins k.pins nothing }
+
+-- notes as lines keep them
+abbrev pub shown : Noted → Kept
+shown n = record { entry = n.entry; pins = pins_told n.told }
+
+abbrev pub all_shown : List Noted → List Kept
+all_shown ns = map shown ns
+
+-- the entries of notes, and of what a line keeps
 abbrev pub entries : List Noted → List Entry
 entries ns = map (λ n. n.entry) ns
 
--- lines of entries are known: they are those of a lawful past
-pub record AreKnown (lines : ℕ → List Entry) : Type 0 where
+abbrev pub entries_kept : List Kept → List Entry
+entries_kept ks = map (λ k. k.entry) ks
+
+-- a line of a list
+abbrev pub kept_in : ℕ → List Kept → List Kept
+kept_in i [] = []
+kept_in i (k ∷ ks) = if stands_in i k.entry then k ∷ kept_in i ks else kept_in i ks
+
+-- lines are known: they are those of a lawful past
+pub record AreKnown (lines : ℕ → List Kept) : Type 0 where
   pub past : List Noted
   pub lawful : Lawful past
-  pub same : (i : ℕ) → lines i ≡ entries (line i past)
+  pub same : (i : ℕ) → lines i ≡ all_shown (line i past)
 
 -- before anything is known
 abbrev pub NothingIsKnown : Type 0
 NothingIsKnown = AreKnown (λ i. [])
 
 -- the lines with a further entry
-abbrev pub grown : (ℕ → List Entry) → Entry → ℕ → List Entry
-grown lines e i = if is_in i (untold e) then lines i ++ e ∷ [] else lines i
+abbrev pub grown : (ℕ → List Kept) → Kept → ℕ → List Kept
+grown lines k i = if is_in i (untold k) then lines i ++ k ∷ [] else lines i
 
 -- all numbers are below n
-abbrev pub AreBelow : ℕ → List Entry → Type 0
+abbrev pub AreBelow : ℕ → List Kept → Type 0
 AreBelow n [] = Unit {0}
-AreBelow n (e ∷ es) = (e.number < n) × AreBelow n es
+AreBelow n (k ∷ ks) = (k.entry.number < n) × AreBelow n ks
 
--- the past has grown by the entry; what was told plainly of it is told of it, and the sides' states are those after it in any case
-pub record HasGrown (lines : ℕ → List Entry) (past : List Noted) (n : Noted) : Type 0 where
+-- the past has grown by the entry; what was told plainly of it is told of it, with the same pins, and the sides' states are those after it in any
+-- case
+pub record HasGrown (lines : ℕ → List Kept) (past : List Noted) (n : Noted) : Type 0 where
   pub told : Told
   pub lawful : Lawful (record { entry = n.entry; told = told } ∷ past)
-  pub same : (i : ℕ) → grown lines n.entry i ≡ entries (line i (record { entry = n.entry; told = told } ∷ past))
-  pub alike : TellsPlainly (end_of past).control.stand n.entry.made.op n.told → told ≡ n.told
-  pub managed : (linkage_after (end_of past) (record { entry = n.entry; told = told })).managed ≡ (linkage_after (end_of past) n).managed
-  pub peer : (linkage_after (end_of past) (record { entry = n.entry; told = told })).peer ≡ (linkage_after (end_of past) n).peer
+  pub same : (i : ℕ) → grown lines (shown n) i ≡ all_shown (line i (record { entry = n.entry; told = told } ∷ past))
+  pub alike : TellsPlainly (end_of past).control.stand n.entry.made.op (bare_told n.told) → told ≡ n.told
+  pub pins : pins_told told ≡ pins_told n.told
+  pub freed : objects_freed (bare_told told) ≡ objects_freed (bare_told n.told)
+  pub managed : (past_after (end_of past) (record { entry = n.entry; told = told })).managed ≡ (past_after (end_of past) n).managed
+  pub peer : (past_after (end_of past) (record { entry = n.entry; told = told })).peer ≡ (past_after (end_of past) n).peer
 
--- an entry may be added that may come after the past and whose number is above all that is known
+-- an entry of any list may be added that may come after the past and whose number is above all that is known
 abbrev pub KnownLinesGrow : Type 0
-KnownLinesGrow = (lines : ℕ → List Entry) (k : AreKnown lines) (n : Noted) → ((i : ℕ) → AreBelow n.entry.number (lines i)) → MayCome (end_of k.past) n → HasGrown lines k.past n
+KnownLinesGrow = (lines : ℕ → List Kept) (k : AreKnown lines) (n : Noted) → ((i : ℕ) → AreBelow n.entry.number (lines i)) → Comes (is_read n.entry.made.op) (end_of k.past) n → HasGrown lines k.past n
 
 -- the lines are beginnings of those of the whole
-abbrev pub Begin : List Entry → (ℕ → List Entry) → Type 0
-Begin whole lines = (i : ℕ) → IsPrefix (lines i) (entries_in i whole)
+abbrev pub Begin : List Kept → (ℕ → List Kept) → Type 0
+Begin whole lines = (i : ℕ) → IsPrefix (lines i) (kept_in i whole)
 
 -- of each line the one or the other, and no shorter
-pub record AreLonger (ls ms ns : ℕ → List Entry) : Type 0 where
+pub record AreLonger (ls ms ns : ℕ → List Kept) : Type 0 where
   pub either : (i : ℕ) → (ns i ≡ ls i) ⊎ (ns i ≡ ms i)
   pub first : (i : ℕ) → IsPrefix (ls i) (ns i)
   pub second : (i : ℕ) → IsPrefix (ms i) (ns i)
 
 -- the longer lines are known; a line that is the first one's is so with what is told; each entry stays with what is told of it; and
 -- each side's state is that of the longer line
-pub record AreJoined (a b : List Noted) (ls ms ns : ℕ → List Entry) : Type 0 where
+pub record AreJoined (a b : List Noted) (ls ms ns : ℕ → List Kept) : Type 0 where
   pub joined : AreKnown ns
   pub first : (i : ℕ) → ns i ≡ ls i → line i joined.past ≡ line i a
   pub second : (i : ℕ) → ns i ≡ ms i → line i joined.past ≡ line i b
@@ -79,7 +103,7 @@ pub record AreJoined (a b : List Noted) (ls ms ns : ℕ → List Entry) : Type 0
 
 -- two seats of one run know of each line together what the one or the other knows
 abbrev pub KnownLinesJoin : Type 0
-KnownLinesJoin = (whole : List Entry) (ls ms ns : ℕ → List Entry) (a : AreKnown ls) (b : AreKnown ms) → NumberedFrom 0 whole → Begin whole ls → Begin whole ms → AreLonger ls ms ns → AreJoined a.past b.past ls ms ns
+KnownLinesJoin = (whole : List Kept) (ls ms ns : ℕ → List Kept) (a : AreKnown ls) (b : AreKnown ms) → NumberedFrom 0 (entries_kept whole) → Begin whole ls → Begin whole ms → AreLonger ls ms ns → AreJoined a.past b.past ls ms ns
 
 -- the managed line gives the managed side's state, the peer line the peer side's, and each caller's line what that caller does
 pub record GivesParts (a b : List Noted) : Type 0 where
@@ -95,12 +119,12 @@ LinesGiveParts = (a b : List Noted) → GivesParts a b
 
 -- while the driver's line stays, the open cycle's dead part is what it was, whatever the others did
 abbrev pub DeadPartStays : Type 0
-DeadPartStays = (whole : List Entry) (ls ms : ℕ → List Entry) (a : AreKnown ls) (b : AreKnown ms) → NumberedFrom 0 whole → Begin whole ls → Begin whole ms → ls driver_line ≡ ms driver_line
+DeadPartStays = (whole : List Kept) (ls ms : ℕ → List Kept) (a : AreKnown ls) (b : AreKnown ms) → NumberedFrom 0 (entries_kept whole) → Begin whole ls → Begin whole ms → ls driver_line ≡ ms driver_line
     → HasSameDeadPart (end_of a.past).managed.managed (end_of b.past).managed.managed
 
 -- what two seats know of one mirrored cycle has the same candidates
 abbrev pub MirroredCandidatesStay : Type 0
-MirroredCandidatesStay = (whole : List Entry) (ls ms : ℕ → List Entry) (a : AreKnown ls) (b : AreKnown ms) → NumberedFrom 0 whole → Begin whole ls → Begin whole ms
+MirroredCandidatesStay = (whole : List Kept) (ls ms : ℕ → List Kept) (a : AreKnown ls) (b : AreKnown ms) → NumberedFrom 0 (entries_kept whole) → Begin whole ls → Begin whole ms
     → (m n : Mirror) → (end_of a.past).peer.mirror ≡ Some m → (end_of b.past).peer.mirror ≡ Some n → m.snap ≡ n.snap → candidates_of (end_of a.past).managed.managed ≡ candidates_of (end_of b.past).managed.managed
 
 -- a list the other way round, before another
@@ -108,33 +132,24 @@ abbrev pub turned : {A : Type 0} → List A → List A → List A
 turned acc [] = acc
 turned acc (x ∷ xs) = turned (x ∷ acc) xs
 
--- the past, earliest entry first, is a lawful list with these entries, and its last state is the past's end
-pub record IsTurnedPast (whole : List Entry) (past : List Noted) : Type 0 where
-  pub same : entries (turned [] past) ≡ whole
-  pub lawful : AllMayCome opening_linkage (turned [] past)
-  pub ends : replayed opening_linkage (turned [] past) ≡ end_of past
+-- the state after the entries of a past, earliest first, and that each may come when it comes
+abbrev pub past_replayed : Linkage → List Noted → Linkage
+past_replayed s [] = s
+past_replayed s (n ∷ ns) = past_replayed (past_after s n) ns
 
--- once both sides' lines are known whole
+abbrev pub AllCome : Linkage → List Noted → Type 0
+AllCome s [] = Unit {0}
+AllCome s (n ∷ ns) = Comes (is_read n.entry.made.op) s n × AllCome (past_after s n) ns
+
+-- the past, earliest entry first, has these entries, each may come when it comes, and the last state is the past's end
+pub record IsTurnedPast (whole : List Kept) (past : List Noted) : Type 0 where
+  pub same : all_shown (turned [] past) ≡ whole
+  pub lawful : AllCome opening_linkage (turned [] past)
+  pub ends : past_replayed opening_linkage (turned [] past) ≡ end_of past
+
+-- once all lines are known whole
+abbrev pub AreWhole : List Kept → (ℕ → List Kept) → Type 0
+AreWhole whole lines = (i : ℕ) → lines i ≡ kept_in i whole
+
 abbrev pub KnownWholeIsHistory : Type 0
-KnownWholeIsHistory = (whole : List Entry) (lines : ℕ → List Entry) (k : AreKnown lines) → NumberedFrom 0 whole → lines 0 ≡ entries_in 0 whole → lines 1 ≡ entries_in 1 whole → IsTurnedPast whole k.past
-
--- then a history with these entries is linked: nothing has to follow, and the freed lists and notices are the sides'
-pub record HasEnded (h : Finished) (s : Linkage) : Type 0 where
-  pub whole : IsWhole s
-  pub freed_managed : managed_numbers h.freed_managed ≡ s.managed.managed.heap.freed
-  pub freed_peers : peer_numbers h.freed_peers ≡ s.peer.peers.heap.freed
-  pub notices : take s.managed.managed.taken (managed_numbers h.notices) ≡ take s.managed.managed.taken s.managed.managed.notices
-
--- a past that has ended so, with both lines whole, makes the history linked
-abbrev pub KnownWholeIsLinked : Type 0
-KnownWholeIsLinked = (h : Finished) (lines : ℕ → List Entry) (k : AreKnown lines) → NumberedFrom 0 h.entries → lines 0 ≡ entries_in 0 h.entries → lines 1 ≡ entries_in 1 h.entries → HasEnded h (end_of k.past) → IsLinked h
-
--- the lines of a linked history are known, and the sides' states are those at its end
-pub record IsKnownWhole (h : Finished) (noted : List Noted) : Type 0 where
-  pub known : AreKnown (λ i. entries_in i h.entries)
-  pub managed : (end_of known.past).managed ≡ (replayed opening_linkage noted).managed
-  pub peer : (end_of known.past).peer ≡ (replayed opening_linkage noted).peer
-
--- so it is of every linked history
-abbrev pub LinkedIsKnown : Type 0
-LinkedIsKnown = (h : Finished) (noted : List Noted) → IsLinkedBy h noted → IsKnownWhole h noted
+KnownWholeIsHistory = (whole : List Kept) (lines : ℕ → List Kept) (k : AreKnown lines) → NumberedFrom 0 (entries_kept whole) → AreWhole whole lines → IsTurnedPast whole k.past

@@ -9,8 +9,8 @@ use Rattle.joint_model.specs.Components.{Rises}
 use Rattle.joint_model.specs.Sides.{managed_rules, peer_rules, LeadsTo, IsReplayed}
 use Rattle.joint_model.specs.Told.{Noted}
 use Rattle.known_laws.specs.Pasts.{line, end_of, Lawful}
-use Rattle.joint_model.specs.HistoryLines.{caller_line, entries_in}
-use Rattle.known_laws.specs.Growing.{AreKnown, entries}
+use Rattle.joint_model.specs.HistoryLines.{caller_line}
+use Rattle.known_laws.specs.Growing.{Kept, entries_kept, kept_in, AreKnown, AreWhole, entries}
 use Rattle.joint_model.specs.Draws.{NumberedFrom}
 
 -- each side's list in a past is lawful, and leads to that side's state at the past's end, so that the side is the replay of its
@@ -32,5 +32,5 @@ made_by t es = filter (λ e. is_thread e.made.caller t) es
 
 -- once both sides' lines are known whole, the whole line of a thread has exactly the entries that this thread made
 abbrev pub OwnLineIsMadeByCaller : Type 0
-OwnLineIsMadeByCaller = (whole : List Entry) (lines : ℕ → List Entry) → AreKnown lines → NumberedFrom 0 whole → lines 0 ≡ entries_in 0 whole → lines 1 ≡ entries_in 1 whole
-    → (t : Thread) → IsThread t → lines (caller_line t) ≡ entries_in (caller_line t) whole → lines (caller_line t) ≡ made_by t whole
+OwnLineIsMadeByCaller = (whole : List Kept) (lines : ℕ → List Kept) → AreKnown lines → NumberedFrom 0 (entries_kept whole) → AreWhole whole lines
+    → (t : Thread) → IsThread t → lines (caller_line t) ≡ kept_in (caller_line t) whole → entries_kept (lines (caller_line t)) ≡ made_by t (entries_kept whole)

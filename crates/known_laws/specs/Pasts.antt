@@ -6,11 +6,11 @@ use Rattle.joint_model.specs.Control.{OpenSnap, contracted, candidates_of, IsCan
 use Rattle.joint_model.specs.Cycles.{IsDeadContraction}
 use Rattle.joint_model.specs.Heaps.{fields_of}
 use Rattle.joint_model.specs.HistoryLines.{caller_line, side_line, stands_in}
-use Rattle.joint_model.specs.Linked.{Linkage, opening_linkage, linkage_after}
+use Rattle.joint_model.specs.Linked.{Linkage, opening_linkage}
 use Rattle.joint_model.specs.Managed.{Managed, OpenCycle, handle_of}
 use Rattle.joint_model.specs.Peers.{Issued}
-use Rattle.joint_model.specs.Told.{Noted, nothing}
-use Rattle.known_laws.specs.Known.{MayComeLater}
+use Rattle.joint_model.specs.Told.{Noted, nothing, kept_pins, pins_told}
+use Rattle.known_laws.specs.Known.{MayComeLater, past_after}
 
 -- the driver's line
 abbrev pub driver_line : ℕ
@@ -51,7 +51,7 @@ InPast (x ∷ xs) e = (x ≡ e) ⊎ InPast xs e
 -- the state after a past
 abbrev pub end_of : List Noted → Linkage
 end_of [] = opening_linkage
-end_of (n ∷ h) = linkage_after (end_of h) n
+end_of (n ∷ h) = past_after (end_of h) n
 
 -- the least number that an entry after a past can have
 abbrev pub next_of : List Noted → ℕ
@@ -106,9 +106,9 @@ PastsJoin = (whole a b : List Noted) → PastRunsFrom 0 whole → IsFrozenIn who
 abbrev pub KnownPastsJoin : Type 0
 KnownPastsJoin = (whole a b : List Noted) → PastRunsFrom 0 whole → Lawful a → Lawful b → Within whole a → Within whole b → Joined a b
 
--- a note without what is told
+-- a note of which nothing is told but the pins
 abbrev pub bare : Noted → Noted
-bare n = record { entry = n.entry; told = nothing }
+bare n = record { entry = n.entry; told = kept_pins (pins_told n.told) nothing }
 
 -- the past's entries stand in lines that begin the lines of the whole
 abbrev pub AreWithin : List Noted → List Noted → Type 0

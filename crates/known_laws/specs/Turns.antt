@@ -1,6 +1,7 @@
 -- Whose turn it is: which event of a caller may come next, with what it cites, by what a thread has in hand or where the driver
 -- stands. An entry that a side's list allows, in its caller's turn, may come next.
-use Rattle.std.specs.Prelude.{◌≡◌, ◌⊎◌, ℕ, ◌<◌, ◌≤◌, ◌^◌, Bool, false, List, length, Option, Some, None}
+use Rattle.known_laws.specs.Known.{Comes, PinsStand}
+use Rattle.std.specs.Prelude.{◌≡◌, ◌⊎◌, ℕ, ◌<◌, ◌≤◌, ◌^◌, Bool, true, false, List, length, Option, Some, None}
 use Rattle.joint_model.specs.declared.names.Thread.TheVariants.{M}
 use Rattle.joint_model.specs.declared.names.Cycle.{Cycle}
 use Rattle.joint_model.specs.declared.names.HNum.{HNum}
@@ -20,16 +21,23 @@ use Rattle.joint_model.specs.declared.events.Reply.TheVariants as says
 use Rattle.joint_model.specs.declared.events.Made.{Made}
 use Rattle.joint_model.specs.Components.{mirror_edges}
 use Rattle.joint_model.specs.Control.{OpenSnap, made, lent, gripped, given, met, idle, snapped, contracted, weakening, marked, restoring, restored, doing_at, last_line, candidates_of, carried_edges, IsCandidateHandle, IsPhaseOf, IsAtRest, IsDone, MayStart, ThreadAllows, DriverAllows, CallerAllows}
-use Rattle.joint_model.specs.Lines.{IsLine}
-use Rattle.joint_model.specs.Linked.{Linkage, MayCome}
+use Rattle.joint_model.specs.Lines.{IsLine, IsEvent, is_read}
+use Rattle.joint_model.specs.Linked.{Linkage}
+use Rattle.joint_model.specs.Run.{thread_number}
 use Rattle.joint_model.specs.Sides.{managed_rules, peer_rules}
-use Rattle.joint_model.specs.Told.{Told, Answer, references_of, resolution_of, phase_of}
+use Rattle.joint_model.specs.Told.{Told, nothing, bare_told, pins_told, Answer, references_of, resolution_of, phase_of}
 
--- what a side promises of an entry that it makes, in its caller's turn, is all that is asked of it; its line isn't below the caller's last
+-- what a side promises of an entry that it makes, in its caller's turn, is all that is asked of it, where the pins that are told stand; its line isn't
+-- below the caller's last
 abbrev pub SideEntryComes : Type 0
 SideEntryComes = (s : Linkage) (number : ℕ) (m : Made) (told : Told) → last_line s.control m.caller ≤ m.index → m.index < 2 ^ 32
-    → CallerAllows s.control s.managed.managed s.peer.peers.issued m.caller m.index m.op m.reply m.cites told
-    → managed_rules.lawful s.managed m told ⊎ peer_rules.lawful s.peer m told → MayCome s (record { entry = record { number = number; made = m }; told = told })
+    → CallerAllows s.control s.managed.managed s.peer.peers.issued m.caller m.index m.op m.reply m.cites (bare_told told) → PinsStand s.managed.managed (pins_told told)
+    → managed_rules.lawful s.managed m told ⊎ peer_rules.lawful s.peer m told → Comes (is_read m.op) s (record { entry = record { number = number; made = m }; told = told })
+
+-- and of a reader's entry its turn is asked for alone
+abbrev pub ReaderEntryComes : Type 0
+ReaderEntryComes = (s : Linkage) (number : ℕ) (m : Made) → IsEvent m.caller m.op → is_read m.op ≡ true → last_line s.control m.caller ≤ m.index → m.index < 2 ^ 32 → IsDone (doing_at s.control (thread_number m.caller)) → m.cites ≡ None
+    → Comes (is_read m.op) s (record { entry = record { number = number; made = m }; told = nothing })
 
 -- it is the thread's turn to make the event on that line, or the driver's
 abbrev pub ThreadTurn : Linkage → ℕ → ℕ → Op → Option ℕ → Type 0

@@ -5,19 +5,18 @@ use Rattle.joint_model.specs.declared.names.Thread.TheVariants.{M, P, C}
 use Rattle.joint_model.specs.declared.names.Phase.{Phase}
 use Rattle.joint_model.specs.declared.names.PhaseWord.TheVariants as word
 use Rattle.joint_model.specs.declared.lines.Act.TheVariants as act
-use Rattle.joint_model.specs.declared.events.Entry.{Entry}
 use Rattle.joint_model.specs.declared.events.Op.{Op}
 use Rattle.joint_model.specs.declared.events.Op.TheVariants as op
 use Rattle.joint_model.specs.declared.events.Reply.{Reply}
 use Rattle.joint_model.specs.declared.events.Reply.TheVariants as says
 use Rattle.joint_model.specs.Control.{opening_control, weakening}
-use Rattle.joint_model.specs.Draws.{Drawn}
 use Rattle.joint_model.specs.Linked.{Linkage}
 use Rattle.joint_model.specs.Managed.{opening_managed}
 use Rattle.joint_model.specs.ManagedReplay.{opening_replay}
 use Rattle.joint_model.specs.PeerReplay.{opening_peer_replay}
-use Rattle.joint_model.specs.Told.{Told, Noted, nothing, snap_of, phase_of}
-use Rattle.known_laws.specs.Growing.{entries}
+use Rattle.joint_model.specs.Told.{Told, Noted, kept_pins, no_pins, nothing, snap_of, phase_of}
+use Rattle.known_laws.specs.Drawn.{KeptDrawn}
+use Rattle.known_laws.specs.Growing.{Kept, shown, all_shown}
 use Rattle.known_laws.specs.Pasts.{is_in, line}
 
 -- an entry with what is told beside it
@@ -34,7 +33,15 @@ a_peer_drop number = note number (P 1) 1 (op.Line (act.Drop record { 0 = 0 })) s
 
 -- the driver opens cycle 1 where nothing is
 abbrev pub a_snap : Noted
-a_snap = note 0 C 1 (op.Snap record { 0 = 1 }) (says.Snapped 0 record { first = 0; count = 0 }) None (snap_of [] [] [])
+a_snap = note 0 C 1 (op.Snap record { 0 = 1 }) (says.Snapped 0 record { first = 0; count = 0 }) None (kept_pins no_pins (snap_of [] [] []))
+
+-- m1 takes what its pin is said to hold, object 1, where no object was ever made
+abbrev pub a_take : Noted
+a_take = note 0 (M 1) 1 (op.Line (act.Take record { 0 = 0 })) (says.M record { 0 = 1 }) None (kept_pins (None ∷ Some 1 ∷ []) nothing)
+
+-- m1 reads a cell that was never set, and says that its object is gone
+abbrev pub a_read : Noted
+a_read = note 0 (M 1) 1 (op.Line (act.Read record { 0 = 0 })) says.Gone None nothing
 
 -- m1 gives handle 1 up
 abbrev pub a_give : Noted
@@ -49,23 +56,23 @@ abbrev pub released_twice : List Noted
 released_twice = a_release 2 ∷ a_release 1 ∷ a_give ∷ []
 
 -- the lines of a past
-abbrev pub lines_of : List Noted → ℕ → List Entry
-lines_of h i = entries (line i h)
+abbrev pub lines_of : List Noted → ℕ → List Kept
+lines_of h i = all_shown (line i h)
 
 -- a past with numbers 3 and 5
 abbrev pub two_drops : List Noted
 two_drops = a_peer_drop 5 ∷ a_drop 3 ∷ []
 
 -- its entries, the later one first
-abbrev pub turned_numbers : List Entry
-turned_numbers = (a_peer_drop 5).entry ∷ (a_drop 3).entry ∷ []
+abbrev pub turned_numbers : List Kept
+turned_numbers = shown (a_peer_drop 5) ∷ shown (a_drop 3) ∷ []
 
 -- an entry that is drawn with a target which it doesn't have
-abbrev pub wrongly_drawn : Drawn
-wrongly_drawn = record { entry = (a_drop 0).entry; target = Some record { 0 = 1 }; freed = [] }
+abbrev pub wrongly_drawn : KeptDrawn
+wrongly_drawn = record { drawn = record { entry = (a_drop 0).entry; target = Some record { 0 = 1 }; freed = [] }; pins = no_pins }
 
 -- the lines of that entry alone
-abbrev pub wrong_lines : ℕ → List Drawn
+abbrev pub wrong_lines : ℕ → List KeptDrawn
 wrong_lines i = if is_in i (a_drop 0) then wrongly_drawn ∷ [] else []
 
 -- cycle 1 is mirrored and has no candidate

@@ -1,7 +1,6 @@
 // Small pasts and states, computed, on which a premise of a law fails: there its conclusion fails too.
 
-ghost use Rattle.std.specs.Prelude.{◌≡◌, ℕ, List, [], ◌∷◌, None};
-ghost use Rattle.joint_model.specs.declared.events.Entry.{Entry};
+ghost use Rattle.std.specs.Prelude.{◌≡◌, ℕ, false, List, [], ◌∷◌, None};
 ghost use Rattle.joint_model.specs.declared.names.Phase.TheVariants as at;
 ghost use Rattle.joint_model.specs.Control.{opening_control, snapped, OpenSnap};
 ghost use Rattle.joint_model.specs.Draws.{NumberedFrom};
@@ -13,11 +12,10 @@ ghost use Rattle.joint_model.specs.Told.{Noted, phase_of};
 ghost use Rattle.known_laws.specs.Conditions.{IsOpenHere};
 ghost use Rattle.known_laws.specs.Driving.{IsPastKept};
 ghost use Rattle.known_laws.specs.Drawn.{AreDrawn};
-ghost use Rattle.known_laws.specs.Growing.{AreKnown, IsTurnedPast, grown};
-ghost use Rattle.joint_model.specs.HistoryLines.{entries_in};
-ghost use Rattle.known_laws.specs.Known.{TellsPlainly};
+ghost use Rattle.known_laws.specs.Growing.{AreKnown, IsTurnedPast, entries_kept, grown, kept_in, shown};
+ghost use Rattle.known_laws.specs.Known.{Comes, TellsPlainly};
 ghost use Rattle.known_laws.specs.Pasts.{HasSameDeadPart, Joined, Lawful, PastRunsFrom, Within, end_of, line, driver_line};
-ghost use Rattle.known_laws.specs.Worked.{a_drop, a_peer_drop, a_refusal, a_snap, lines_of, released_twice, turned_numbers, two_drops, without_candidates, wrong_lines};
+ghost use Rattle.known_laws.specs.Worked.{a_drop, a_peer_drop, a_read, a_refusal, a_snap, a_take, lines_of, released_twice, turned_numbers, two_drops, without_candidates, wrong_lines};
 
 /// Two pasts with one number for two entries are joined by none, and are pasts of no one run.
 pub fn numbers_must_differ()
@@ -29,16 +27,16 @@ pub fn numbers_must_differ()
 
 /// Known lines don't grow by an entry that may come with a number that isn't above all that is known.
 pub fn numbers_must_rise()
-    ensures comes { MayCome (end_of (a_drop 5 ∷ [])) (a_peer_drop 5) }
-    ensures unknown { AreKnown (grown (lines_of (a_drop 5 ∷ [])) (a_peer_drop 5).entry) → ⊥ }
+    ensures comes { Comes false (end_of (a_drop 5 ∷ [])) (a_peer_drop 5) }
+    ensures unknown { AreKnown (grown (lines_of (a_drop 5 ∷ [])) (shown (a_peer_drop 5))) → ⊥ }
 {}
 
 /// Known whole lines are no history of a list of entries whose numbers aren't those from 0 on.
 pub fn numbers_must_leave_none_out()
     ensures lawful { Lawful two_drops }
-    ensures managed { lines_of two_drops 0 ≡ entries_in 0 turned_numbers }
-    ensures peer { lines_of two_drops 1 ≡ entries_in 1 turned_numbers }
-    ensures unnumbered { NumberedFrom 0 turned_numbers → ⊥ }
+    ensures managed { lines_of two_drops 0 ≡ kept_in 0 turned_numbers }
+    ensures peer { lines_of two_drops 1 ≡ kept_in 1 turned_numbers }
+    ensures unnumbered { NumberedFrom 0 (entries_kept turned_numbers) → ⊥ }
     ensures no_history { IsTurnedPast turned_numbers two_drops → ⊥ }
 {}
 
@@ -80,4 +78,14 @@ pub fn calls_need_their_stand()
     ensures open_cycle { (o : OpenSnap) → IsOpenHere opening_linkage o → ⊥ }
     ensures snapped { (end_of (a_snap ∷ [])).control.stand ≡ snapped record { cycle = 1; snap = 0 } }
     ensures snap { (end_of (a_snap ∷ [])).managed.managed.cycle ≡ None → ⊥ }
+{}
+
+/// A list with a `take` whose pin holds an object that isn't there is no past: the pins that are told have to stand.
+pub fn pins_must_stand()
+    ensures { Lawful (a_take ∷ []) → ⊥ }
+{}
+
+/// A read with whatever reply is a past: replies of reads are judged over the whole history alone.
+pub fn replies_wait_for_the_whole()
+    ensures { Lawful (a_read ∷ []) }
 {}

@@ -1,3 +1,4 @@
+use Rattle.known_laws.proofs.Held.{cycles_are_drawn}
 use Rattle.known_laws.proofs.Drawing.{nothing_is_drawn, drawn_lines_grow, drawn_lines_join, drawn_is_one, freed_is_drawn}
 use Rattle.known_laws.proofs.CellsDrawn.{targets_are_drawn}
 use Rattle.known_laws.proofs.drawn_lines_are_a_past.Goals as goal
@@ -19,3 +20,6 @@ returns-clause-first c = nothing_is_drawn
 
 pub returns-clause-targets : goal.returns-clause-targets
 returns-clause-targets c = targets_are_drawn
+
+pub returns-clause-cycles : goal.returns-clause-cycles
+returns-clause-cycles c = cycles_are_drawn
