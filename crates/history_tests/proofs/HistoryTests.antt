@@ -1,17 +1,17 @@
 -- The test of the next entry tells what the definition says, part by part, and so does that of a list of entries.
-use Rattle.std.proofs.Common.{◌≡◌, ℕ, ◌+◌, ◌^◌, Bool, true, false, List, [], ◌∷◌, length, map, take, refl, ap}
+use Rattle.std.proofs.Common.{◌≡◌, ℕ, ◌+◌, ◌^◌, Bool, true, false, List, [], ◌∷◌, length, map, refl, ap}
 use Rattle.joint_model.specs.declared.events.Entry.{Entry}
 use Rattle.joint_model.specs.declared.events.Made.{Made}
 use Rattle.joint_model.specs.Control.{last_line, candidates_of}
 use Rattle.joint_model.specs.Draws.{NumberedFrom}
 use Rattle.joint_model.specs.Histories.{managed_numbers, peer_numbers}
 use Rattle.joint_model.specs.Lines.{is_peer_event}
-use Rattle.joint_model.specs.Linked.{Linkage, opening_linkage, linkage_after, replayed, managed_end, IsLinkedBy, ManagedLawful, PeerLawful, SideLawful, MayCome, AllMayCome, IsWhole}
+use Rattle.joint_model.specs.Linked.{Linkage, linkage_after, ManagedLawful, PeerLawful, SideLawful, MayCome, AllMayCome, IsWhole}
 use Rattle.joint_model.specs.ManagedReplay.{ManagedReplay, managed_answer}
 use Rattle.joint_model.specs.PeerReplay.{PeerReplay, peer_answer}
 use Rattle.joint_model.specs.Told.{Told, Noted}
-use Rattle.history_tests.specs.Histories.{managed_lawful, peer_lawful, side_lawful, may_come, all_may_come, is_numbered_from, is_whole, finished_of, is_linked, LinkedIsTested, LinkedHasQueued, MayComeIsTested, AllMayComeIsTested, NumbersAreTested, WholeIsTested, RepliesAreTested}
-use Rattle.history_tests.proofs.Telling.{Tells, tested, always, like, and2, and3, and5, same, less, upto}
+use Rattle.history_tests.specs.Histories.{managed_lawful, peer_lawful, side_lawful, may_come, all_may_come, is_numbered_from, is_whole, MayComeIsTested, AllMayComeIsTested, NumbersAreTested, WholeIsTested, RepliesAreTested}
+use Rattle.history_tests.proofs.Telling.{Tells, tested, always, like, and2, and5, same, less, upto}
 use Rattle.history_tests.proofs.ReplyTests.{replies}
 use Rattle.history_tests.proofs.LineTests.{tells_event}
 use Rattle.history_tests.proofs.SideTests.{managed, peer}
@@ -62,7 +62,7 @@ whole_tested s = tested (whole s)
 pub replies_tested : RepliesAreTested
 replies_tested a b = tested (replies a b)
 
--- a linked history
+-- numbers of freed rows and peers, and of notices
 pub mapped_m : (xs : List ℕ) → managed_numbers (map (λ m. record { 0 = m }) xs) ≡ xs
 mapped_m [] = refl
 mapped_m (x ∷ xs) = ap (λ rest. x ∷ rest) (mapped_m xs)
@@ -70,26 +70,6 @@ mapped_m (x ∷ xs) = ap (λ rest. x ∷ rest) (mapped_m xs)
 pub mapped_p : (xs : List ℕ) → peer_numbers (map (λ p. record { 0 = p }) xs) ≡ xs
 mapped_p [] = refl
 mapped_p (x ∷ xs) = ap (λ rest. x ∷ rest) (mapped_p xs)
-
-pub linked : (noted : List Noted) → Tells (is_linked noted) (IsLinkedBy (finished_of noted) noted)
-linked noted = like
-    (λ p. record {
-      same = refl;
-      numbers = p.0;
-      lawful = p.1;
-      whole = p.2;
-      freed_managed = mapped_m (replayed opening_linkage noted).managed.managed.heap.freed;
-      freed_peers = mapped_p (replayed opening_linkage noted).peer.peers.heap.freed;
-      notices = ap (take (managed_end noted).taken) (mapped_m (managed_end noted).notices);
-    })
-    (λ r. (r.numbers, r.lawful, r.whole))
-    (and3 (numbered 0 (map (λ n. n.entry) noted)) (all_come opening_linkage noted) (whole (replayed opening_linkage noted)))
-
-pub linked_tested : LinkedIsTested
-linked_tested noted = tested (linked noted)
-
-pub linked_has_queued : LinkedHasQueued
-linked_has_queued noted = mapped_m (managed_end noted).notices
 
 -- a list that passes the test is lawful
 pub lawful : (s : Linkage) (ns : List Noted) → all_may_come s ns ≡ true → AllMayCome s ns

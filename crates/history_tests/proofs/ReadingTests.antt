@@ -11,13 +11,15 @@ use Rattle.joint_model.specs.declared.events.Reply.TheVariants as says
 use Rattle.joint_model.specs.Control.{last_line}
 use Rattle.joint_model.specs.Heaps.{slot}
 use Rattle.joint_model.specs.Linked.{Linkage, opening_linkage}
+use Rattle.joint_model.specs.LinkedHistories.{linked_end, managed_end, IsLinkedBy}
 use Rattle.joint_model.specs.Managed.{Managed, read_cell}
 use Rattle.joint_model.specs.PeerReplay.{is_thread}
-use Rattle.joint_model.specs.Readers.{is_read, is_managed_entry, ReadsCell, SetsCell, FreesObject, IsManagedAt, SnapsCycleAt, EndsCycleAt, SetsCellAt, IsCallersAt, FreesObjectAt, HasKnownFrom, MayBePending, MayBeUnset, IsReadReply, ReaderMayCome, EntryMayCome, entry_after, replayed_reading, AllMayComeReading, IsLinkedReadingBy}
+use Rattle.joint_model.specs.Lines.{is_read}
+use Rattle.joint_model.specs.Readers.{is_managed_entry, ReadsCell, SetsCell, FreesObject, IsManagedAt, SnapsCycleAt, EndsCycleAt, SetsCellAt, IsCallersAt, FreesObjectAt, HasKnownFrom, MayBePending, MayBeUnset, IsReadReply, ReaderMayCome, EntryMayCome, entry_after, AllMayComeReading}
 use Rattle.joint_model.specs.Run.{thread_number}
 use Rattle.joint_model.specs.Told.{Told, nothing, snap_of, resolution_of, Noted}
 use Rattle.history_tests.specs.Lists.{implies}
-use Rattle.history_tests.specs.Readings.{places, snaps_cycle, ends_cycle, sets_cell, frees_object, is_managed_at, snaps_cycle_at, ends_cycle_at, sets_cell_at, is_callers_at, frees_object_at, is_known_from, is_later_known, may_be_pending, may_be_unset, is_read_reply, reads_rightly, is_bare, reader_may_come, entry_may_come, all_may_come_reading, finished_reading_of, is_linked_reading, PendingIsTested, UnsetIsTested, ReadingIsTested, LinkedReadingIsTested}
+use Rattle.history_tests.specs.Readings.{places, snaps_cycle, ends_cycle, sets_cell, frees_object, is_managed_at, snaps_cycle_at, ends_cycle_at, sets_cell_at, is_callers_at, frees_object_at, is_known_from, is_later_known, may_be_pending, may_be_unset, is_read_reply, reads_rightly, is_bare, reader_may_come, entry_may_come, all_may_come_reading, finished_of, is_linked, PendingIsTested, UnsetIsTested, ReadingIsTested, LinkedIsTested, LinkedHasQueued}
 use Rattle.history_tests.specs.Replies.{same_reply}
 use Rattle.history_tests.proofs.Telling.{Tells, tested, always, never, like, isn't, and2, and3, and5, same, less, upto, empty, that, implied, is_true}
 use Rattle.history_tests.proofs.Reaching.{all_in, any_in, member, counted}
@@ -162,19 +164,20 @@ pub all_reading : (ns : List Noted) (cells : List (Option ℕ)) (s : Linkage) (r
 all_reading ns cells s [] = always tt
 all_reading ns cells s (n ∷ rest) = and2 (entry_comes (is_read n.entry.made.op) ns cells s n) (all_reading ns cells (entry_after s n) rest)
 
-pub linked_reading : (noted : List Noted) → Tells (is_linked_reading noted) (IsLinkedReadingBy (finished_reading_of noted) noted)
-linked_reading noted = like
+-- a linked history
+pub linked : (noted : List Noted) → Tells (is_linked noted) (IsLinkedBy (finished_of noted) noted)
+linked noted = like
     (λ p. record {
       same = refl;
       numbers = p.0;
       lawful = p.1;
       whole = p.2;
-      freed_managed = mapped_m (replayed_reading opening_linkage noted).managed.managed.heap.freed;
-      freed_peers = mapped_p (replayed_reading opening_linkage noted).peer.peers.heap.freed;
-      notices = ap (take (replayed_reading opening_linkage noted).managed.managed.taken) (mapped_m (replayed_reading opening_linkage noted).managed.managed.notices);
+      freed_managed = mapped_m (managed_end noted).heap.freed;
+      freed_peers = mapped_p (linked_end noted).peer.peers.heap.freed;
+      notices = ap (take (managed_end noted).taken) (mapped_m (managed_end noted).notices);
     })
     (λ r. (r.numbers, r.lawful, r.whole))
-    (and3 (numbered 0 (map (λ n. n.entry) noted)) (all_reading noted (replayed_reading opening_linkage noted).managed.managed.cells opening_linkage noted) (whole (replayed_reading opening_linkage noted)))
+    (and3 (numbered 0 (map (λ n. n.entry) noted)) (all_reading noted (managed_end noted).cells opening_linkage noted) (whole (linked_end noted)))
 
 -- as the contracts state it
 pub pending_tested : PendingIsTested
@@ -186,5 +189,8 @@ unset_tested ns cells i t k = tested (unset ns cells i t k)
 pub reading_tested : ReadingIsTested
 reading_tested ns cells s rest = tested (all_reading ns cells s rest)
 
-pub linked_reading_tested : LinkedReadingIsTested
-linked_reading_tested noted = tested (linked_reading noted)
+pub linked_tested : LinkedIsTested
+linked_tested noted = tested (linked noted)
+
+pub linked_has_queued : LinkedHasQueued
+linked_has_queued noted = mapped_m (managed_end noted).notices

@@ -1,15 +1,14 @@
 -- Whether an entry may come next, and whether each entry of a list may come when it comes, by computing; and that the tests tell
 -- exactly what the definitions say.
-use Rattle.std.specs.Prelude.{◌≡◌, ℕ, ◌+◌, ◌^◌, ◌↔◌, Bool, true, false, ◌&&◌, nat_eq, nat_lt, nat_le, IsTrue, List, [], ◌∷◌, length, map}
+use Rattle.std.specs.Prelude.{◌≡◌, ℕ, ◌+◌, ◌^◌, ◌↔◌, Bool, true, false, ◌&&◌, nat_eq, nat_lt, nat_le, IsTrue, List, [], ◌∷◌, length}
 use Rattle.std.specs.List.{list_all}
 use Rattle.joint_model.specs.declared.events.Entry.{Entry}
 use Rattle.joint_model.specs.declared.events.Made.{Made}
 use Rattle.joint_model.specs.declared.events.Reply.{Reply}
 use Rattle.joint_model.specs.Control.{last_line, candidates_of}
 use Rattle.joint_model.specs.Draws.{NumberedFrom}
-use Rattle.joint_model.specs.Histories.{Finished}
 use Rattle.joint_model.specs.Lines.{is_peer_event}
-use Rattle.joint_model.specs.Linked.{Linkage, opening_linkage, linkage_after, replayed, MayCome, AllMayCome, IsWhole, IsLinkedBy, HasQueued}
+use Rattle.joint_model.specs.Linked.{Linkage, linkage_after, MayCome, AllMayCome, IsWhole}
 use Rattle.joint_model.specs.ManagedReplay.{ManagedReplay, managed_answer}
 use Rattle.joint_model.specs.PeerReplay.{PeerReplay, peer_answer}
 use Rattle.joint_model.specs.Told.{Told, Noted}
@@ -53,19 +52,6 @@ is_numbered_from n (e ∷ es) = nat_eq e.number n && is_numbered_from (n + 1) es
 abbrev pub is_whole : Linkage → Bool
 is_whole s = list_all is_done s.control.doing && is_at_rest s.control.stand (length (candidates_of s.managed.managed))
 
--- the history that notes make: their entries, and the lists of what was freed and queued
-abbrev pub finished_of : List Noted → Finished
-finished_of noted = record {
-  entries = map (λ n. n.entry) noted;
-  freed_managed = map (λ m. record { 0 = m }) (replayed opening_linkage noted).managed.managed.heap.freed;
-  freed_peers = map (λ p. record { 0 = p }) (replayed opening_linkage noted).peer.peers.heap.freed;
-  notices = map (λ m. record { 0 = m }) (replayed opening_linkage noted).managed.managed.notices;
-}
-
--- whether the history that notes make is linked by them
-abbrev pub is_linked : List Noted → Bool
-is_linked noted = is_numbered_from 0 (map (λ n. n.entry) noted) && all_may_come opening_linkage noted && is_whole (replayed opening_linkage noted)
-
 -- each test tells exactly what its definition says
 abbrev pub MayComeIsTested : Type 0
 MayComeIsTested = (s : Linkage) (n : Noted) → IsTrue (may_come s n) ↔ MayCome s n
@@ -81,10 +67,3 @@ WholeIsTested = (s : Linkage) → IsTrue (is_whole s) ↔ IsWhole s
 
 abbrev pub RepliesAreTested : Type 0
 RepliesAreTested = (a b : Reply) → IsTrue (same_reply a b) ↔ (a ≡ b)
-
-abbrev pub LinkedIsTested : Type 0
-LinkedIsTested = (noted : List Noted) → IsTrue (is_linked noted) ↔ IsLinkedBy (finished_of noted) noted
-
--- and that history's list has every notice that was queued
-abbrev pub LinkedHasQueued : Type 0
-LinkedHasQueued = (noted : List Noted) → HasQueued (finished_of noted) noted

@@ -1,4 +1,4 @@
--- Whether each entry of a history with lock-free reads may come when it comes, by computing. (SGen's bridge header: while bridge
+-- Whether each entry of a history may come when it comes, its reads among them, and whether it is linked, by computing. (SGen's bridge header: while bridge
 -- processing is in progress, the reading of a weak link to a bridge object waits.)
 use Rattle.std.specs.Prelude.{ℕ, ◌^◌, ◌↔◌, Bool, true, false, not, ◌&&◌, nat_eq, nat_lt, nat_le, IsTrue, List, [], ◌∷◌, length, map, slice_get, Option}
 use Rattle.std.specs.List.{list_any, list_all}
@@ -12,9 +12,11 @@ use Rattle.joint_model.specs.Control.{last_line}
 use Rattle.joint_model.specs.Heaps.{slot}
 use Rattle.joint_model.specs.Histories.{Finished}
 use Rattle.joint_model.specs.Linked.{Linkage, opening_linkage}
+use Rattle.joint_model.specs.LinkedHistories.{linked_end, managed_end, IsLinkedBy, HasQueued}
 use Rattle.joint_model.specs.Managed.{Managed, read_cell}
 use Rattle.joint_model.specs.PeerReplay.{is_thread}
-use Rattle.joint_model.specs.Readers.{is_read, is_managed_entry, MayBePending, MayBeUnset, entry_after, replayed_reading, AllMayComeReading, IsLinkedReadingBy}
+use Rattle.joint_model.specs.Lines.{is_read}
+use Rattle.joint_model.specs.Readers.{is_managed_entry, MayBePending, MayBeUnset, entry_after, AllMayComeReading}
 use Rattle.joint_model.specs.Run.{thread_number}
 use Rattle.joint_model.specs.Told.{Told, nothing, snap_of, resolution_of, Noted}
 use Rattle.history_tests.specs.Callers.{caller_allows}
@@ -121,20 +123,18 @@ abbrev pub all_may_come_reading : List Noted → List (Option ℕ) → Linkage �
 all_may_come_reading whole cells s [] = true
 all_may_come_reading whole cells s (n ∷ ns) = entry_may_come (is_read n.entry.made.op) whole cells s n && all_may_come_reading whole cells (entry_after s n) ns
 
--- the history with lock-free reads that notes make, and whether it is linked by them
-abbrev pub finished_reading_of : List Noted → Finished
-finished_reading_of noted = record {
+-- the history that notes make: their entries, and the lists of what was freed and queued
+abbrev pub finished_of : List Noted → Finished
+finished_of noted = record {
   entries = map (λ n. n.entry) noted;
-  freed_managed = map (λ m. record { 0 = m }) (replayed_reading opening_linkage noted).managed.managed.heap.freed;
-  freed_peers = map (λ p. record { 0 = p }) (replayed_reading opening_linkage noted).peer.peers.heap.freed;
-  notices = map (λ m. record { 0 = m }) (replayed_reading opening_linkage noted).managed.managed.notices;
+  freed_managed = map (λ m. record { 0 = m }) (managed_end noted).heap.freed;
+  freed_peers = map (λ p. record { 0 = p }) (linked_end noted).peer.peers.heap.freed;
+  notices = map (λ m. record { 0 = m }) (managed_end noted).notices;
 }
 
-abbrev pub is_linked_reading : List Noted → Bool
-is_linked_reading noted =
-    is_numbered_from 0 (map (λ n. n.entry) noted)
-    && all_may_come_reading noted (replayed_reading opening_linkage noted).managed.managed.cells opening_linkage noted
-    && is_whole (replayed_reading opening_linkage noted)
+-- whether the history that notes make is linked by them
+abbrev pub is_linked : List Noted → Bool
+is_linked noted = is_numbered_from 0 (map (λ n. n.entry) noted) && all_may_come_reading noted (managed_end noted).cells opening_linkage noted && is_whole (linked_end noted)
 
 -- each test tells exactly what its definition says
 abbrev pub PendingIsTested : Type 0
@@ -146,5 +146,9 @@ UnsetIsTested = (ns : List Noted) (cells : List (Option ℕ)) (i : ℕ) (t : Thr
 abbrev pub ReadingIsTested : Type 0
 ReadingIsTested = (whole : List Noted) (cells : List (Option ℕ)) (s : Linkage) (ns : List Noted) → IsTrue (all_may_come_reading whole cells s ns) ↔ AllMayComeReading whole cells s ns
 
-abbrev pub LinkedReadingIsTested : Type 0
-LinkedReadingIsTested = (noted : List Noted) → IsTrue (is_linked_reading noted) ↔ IsLinkedReadingBy (finished_reading_of noted) noted
+abbrev pub LinkedIsTested : Type 0
+LinkedIsTested = (noted : List Noted) → IsTrue (is_linked noted) ↔ IsLinkedBy (finished_of noted) noted
+
+-- and that history's list has every notice that was queued
+abbrev pub LinkedHasQueued : Type 0
+LinkedHasQueued = (noted : List Noted) → HasQueued (finished_of noted) noted

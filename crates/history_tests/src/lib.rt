@@ -9,9 +9,9 @@
 #![tactic(auto)]
 
 ghost use Rattle.history_tests.specs.Graphs.{ReachedIsTested, UnreachedAreTested};
-ghost use Rattle.history_tests.specs.Histories.{AllMayComeIsTested, LinkedHasQueued, LinkedIsTested, MayComeIsTested, NumbersAreTested, RepliesAreTested, WholeIsTested};
+ghost use Rattle.history_tests.specs.Histories.{AllMayComeIsTested, MayComeIsTested, NumbersAreTested, RepliesAreTested, WholeIsTested};
 ghost use Rattle.history_tests.specs.Parts.{CallerIsTested, ClosureIsTested, ContractionIsTested, EventIsTested, ManagedIsTested, PeerIsTested, ResolutionIsTested, SnapshotIsTested, SweepIsTested};
-ghost use Rattle.history_tests.specs.Readings.{LinkedReadingIsTested, PendingIsTested, ReadingIsTested, UnsetIsTested};
+ghost use Rattle.history_tests.specs.Readings.{LinkedHasQueued, LinkedIsTested, PendingIsTested, ReadingIsTested, UnsetIsTested};
 ghost use Rattle.history_tests.specs.States.{StatesAreTested};
 ghost use Rattle.history_tests.specs.Steps.{RunsAreTested, StepsAreTested};
 
@@ -69,11 +69,10 @@ pub fn events_are_tested()
     ensures caller { CallerIsTested }
 {}
 
-/// Of a history with lock-free reads it is decided by its test whether a read may answer `pending` or `unset`, whether each entry
-/// of a list may come when it comes, and whether the history that notes make is linked by them.
+/// Of a history, in which reads take no lock, it is decided by its test whether a read may answer `pending` or `unset`, and whether each entry
+/// of a list may come when it comes.
 pub fn readings_are_tested()
     ensures pending { PendingIsTested }
     ensures unset { UnsetIsTested }
     ensures every { ReadingIsTested }
-    ensures linked { LinkedReadingIsTested }
 {}

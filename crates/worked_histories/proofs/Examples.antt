@@ -1,6 +1,7 @@
 -- The worked histories, each by computing.
 use Rattle.std.proofs.Common.{refl, [], ◌∷◌}
-use Rattle.joint_model.specs.Linked.{AllMayCome, opening_linkage, replayed}
+use Rattle.joint_model.specs.Linked.{AllMayCome, opening_linkage}
+use Rattle.joint_model.specs.LinkedHistories.{linked_end}
 use Rattle.history_tests.proofs.HistoryTests.{numbered, whole}
 use Rattle.worked_histories.specs.CrossHeap.{cross_heap_cycle}
 use Rattle.worked_histories.specs.Deletion.{deletion}
@@ -22,7 +23,7 @@ use Rattle.worked_histories.specs.Pins.{pinned_object}
 use Rattle.worked_histories.specs.Runs.{TwoPhasedRun, CrossHeapRun, SurfacedRun, PinnedRun, DeletionRun}
 use Rattle.worked_histories.specs.Surfaced.{disposed_and_surfaced}
 use Rattle.worked_histories.specs.Wholes.{cross_heap_finished, two_phased_finished, HistoriesAreWhole}
-use Rattle.worked_histories.proofs.Worked.{worked}
+use Rattle.worked_histories.proofs.Worked.{lawful, worked}
 
 pub abandoned-holds : AbandonedHolds
 abandoned-holds = worked abandoned [] refl
@@ -67,31 +68,31 @@ pub two_phased-run : TwoPhasedRun
 two_phased-run = worked two_phased ([] ∷ (1 ∷ 2 ∷ []) ∷ []) refl
 
 pub two_phased-lawful : AllMayCome opening_linkage two_phased
-two_phased-lawful = two_phased-run.linked.lawful
+two_phased-lawful = lawful two_phased refl
 
 pub cross_heap_cycle-run : CrossHeapRun
 cross_heap_cycle-run = worked cross_heap_cycle ((1 ∷ 2 ∷ []) ∷ []) refl
 
 pub cross_heap_cycle-lawful : AllMayCome opening_linkage cross_heap_cycle
-cross_heap_cycle-lawful = cross_heap_cycle-run.linked.lawful
+cross_heap_cycle-lawful = lawful cross_heap_cycle refl
 
 pub disposed_and_surfaced-run : SurfacedRun
 disposed_and_surfaced-run = worked disposed_and_surfaced [] refl
 
 pub disposed_and_surfaced-lawful : AllMayCome opening_linkage disposed_and_surfaced
-disposed_and_surfaced-lawful = disposed_and_surfaced-run.linked.lawful
+disposed_and_surfaced-lawful = lawful disposed_and_surfaced refl
 
 pub pinned_object-run : PinnedRun
 pinned_object-run = worked pinned_object ([] ∷ []) refl
 
 pub pinned_object-lawful : AllMayCome opening_linkage pinned_object
-pinned_object-lawful = pinned_object-run.linked.lawful
+pinned_object-lawful = lawful pinned_object refl
 
 pub deletion-run : DeletionRun
 deletion-run = worked deletion ([] ∷ []) refl
 
 pub deletion-lawful : AllMayCome opening_linkage deletion
-deletion-lawful = deletion-run.linked.lawful
+deletion-lawful = lawful deletion refl
 
 -- finished histories
 pub histories-whole : HistoriesAreWhole
@@ -99,8 +100,8 @@ histories-whole = record {
   cross_heap = record {
     same = refl;
     numbers = (numbered 0 cross_heap_finished.entries).holds refl;
-    lawful = cross_heap_cycle-lawful;
-    whole = (whole (replayed opening_linkage cross_heap_cycle)).holds refl;
+    lawful = cross_heap_cycle-run.linked.lawful;
+    whole = (whole (linked_end cross_heap_cycle)).holds refl;
     freed_managed = refl;
     freed_peers = refl;
     notices = refl;
@@ -109,8 +110,8 @@ histories-whole = record {
   no_notices = record {
     same = refl;
     numbers = (numbered 0 two_phased_finished.entries).holds refl;
-    lawful = two_phased-lawful;
-    whole = (whole (replayed opening_linkage two_phased)).holds refl;
+    lawful = two_phased-run.linked.lawful;
+    whole = (whole (linked_end two_phased)).holds refl;
     freed_managed = refl;
     freed_peers = refl;
     notices = refl;

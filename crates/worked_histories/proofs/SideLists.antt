@@ -1,19 +1,20 @@
 -- Each side's list passes its own side's test, entry by entry, so each entry may come when it comes.
-use Rattle.std.proofs.Common.{◌≡◌, Bool, true, false, ◌&&◌, not, List, [], ◌∷◌, map, refl}
+use Rattle.std.proofs.Common.{◌≡◌, Bool, true, false, ◌&&◌, not, List, [], ◌∷◌, map, refl, sym}
 use Rattle.std.specs.List.{list_all}
 use Rattle.std.specs.Prelude.{ℕ, nat_le}
 use Rattle.joint_model.specs.declared.names.Thread.{Thread}
 use Rattle.joint_model.specs.declared.names.Thread.TheVariants.{M, P, C}
 use Rattle.joint_model.specs.declared.events.Entry.{Entry}
 use Rattle.joint_model.specs.declared.events.Made.{Made}
-use Rattle.joint_model.specs.Lines.{is_peer_event}
+use Rattle.joint_model.specs.Lines.{is_peer_event, is_read, is_pinned}
 use Rattle.joint_model.specs.ManagedReplay.{ManagedReplay, opening_replay}
 use Rattle.joint_model.specs.PeerReplay.{PeerReplay, peer_answer}
-use Rattle.joint_model.specs.Sides.{SideRules, IsOfSide, TakesManaged, TakesPeer, managed_rules, peer_rules, LeadsTo}
-use Rattle.joint_model.specs.Told.{Told, Noted}
+use Rattle.joint_model.specs.Readers.{with_pins}
+use Rattle.joint_model.specs.Sides.{SideRules, IsOfSide, IsOwnLawful, TakesManaged, TakesPeer, managed_rules, peer_rules, LeadsTo}
+use Rattle.joint_model.specs.Told.{Told, bare_told, tells_pins, pins_told, Noted}
 use Rattle.history_tests.specs.Histories.{managed_lawful, peer_lawful}
 use Rattle.history_tests.specs.Lines.{is_event}
-use Rattle.history_tests.proofs.Telling.{Tells, all, always, and2, like, refuted, upto, is_false}
+use Rattle.history_tests.proofs.Telling.{Tells, all, always, and2, and3, like, refuted, upto, is_true, is_false}
 use Rattle.history_tests.proofs.HistoryTests.{managed_side}
 use Rattle.history_tests.proofs.LineTests.{tells_event}
 use Rattle.history_tests.proofs.ReplyTests.{replies}
@@ -45,14 +46,31 @@ is_managed m = like (λ p. record { event = p.0; side = p.1 }) (λ r. (r.event, 
 is_peer : (m : Made) → Tells (of_peer m) (IsOfSide true m)
 is_peer m = like (λ p. record { event = p.0; side = p.1 }) (λ r. (r.event, r.side)) (and2 (tells_event m.caller m.op) (record { holds = λ e. e; passes = λ e. e }))
 
+-- pins are told exactly with a snap and a take
+abbrev agree : Bool → Bool → Bool
+agree true b = b
+agree false b = not b
+
+agrees : (a b : Bool) → Tells (agree a b) (a ≡ b)
+agrees true b = like (λ e. sym e) (λ e. sym e) (is_true b)
+agrees false b = like (λ e. sym e) (λ e. sym e) (is_false b)
+
+-- an entry of the managed side's own list is lawful with the pins that it is told
+abbrev own_lawful : ManagedReplay → Made → Told → Bool
+own_lawful s m told = not (is_read m.op) && agree (tells_pins told) (is_pinned m.op) && managed_lawful (with_pins s (pins_told told)) m (bare_told told)
+
+own_side : (s : ManagedReplay) (m : Made) (told : Told) → Tells (own_lawful s m told) (IsOwnLawful s m told)
+own_side s m told = like (λ p. record { own = p.0; tells = p.1; lawful = p.2 }) (λ r. (r.own, r.tells, r.lawful))
+    (and3 (is_false (is_read m.op)) (agrees (tells_pins told) (is_pinned m.op)) (managed_side (with_pins s (pins_told told)) m (bare_told told)))
+
 abbrev managed_test : ManagedReplay → Made → Told → Bool
-managed_test s m told = of_managed m && managed_lawful s m told
+managed_test s m told = of_managed m && own_lawful s m told
 
 abbrev peer_test : PeerReplay → Made → Told → Bool
 peer_test s m told = of_peer m && peer_lawful s m told
 
 managed_tells : (s : ManagedReplay) (m : Made) (told : Told) → Tells (managed_test s m told) (managed_rules.lawful s m told)
-managed_tells s m told = and2 (is_managed m) (managed_side s m told)
+managed_tells s m told = and2 (is_managed m) (own_side s m told)
 
 peer_tells : (s : PeerReplay) (m : Made) (told : Told) → Tells (peer_test s m told) (peer_rules.lawful s m told)
 peer_tells s m told = and2 (is_peer m) (like (λ p. record { allowed = p.0; replies = p.1 }) (λ r. (r.allowed, r.replies)) (and2 (peer s m.caller m.op m.cites told) (replies m.reply (peer_answer s m.caller m.op m.cites told).reply)))

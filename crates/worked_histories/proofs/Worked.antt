@@ -2,24 +2,28 @@
 -- of both sides' replays to the next one, every other entry leaves that state as it is, and the unreached peers pass their test.
 use Rattle.std.proofs.Common.{◌≡◌, ℕ, Bool, true, false, ◌&&◌, cond, List, [], ◌∷◌, map, refl, ap, subst, sym}
 use Rattle.joint_model.specs.Joint.{Joint, Graph, opening}
-use Rattle.joint_model.specs.Linked.{Linkage, opening_linkage, linkage_after, is_joint, joint_projection, AllMayCome}
+use Rattle.joint_model.specs.Linked.{Linkage, opening_linkage, AllMayCome}
+use Rattle.joint_model.specs.LinkedHistories.{joint_projection}
+use Rattle.joint_model.specs.Readers.{entry_after}
 use Rattle.joint_model.specs.PeerReplay.{PeerReplay, Marking, IsMarked, IsSweep}
 use Rattle.joint_model.specs.Run.{JointStep, Moment, IsRunFrom}
 use Rattle.joint_model.specs.Told.{Noted}
 use Rattle.history_tests.specs.Graphs.{are_unreached}
-use Rattle.history_tests.specs.Histories.{all_may_come, is_linked}
+use Rattle.history_tests.specs.Histories.{all_may_come}
 use Rattle.history_tests.specs.Lists.{has}
 use Rattle.history_tests.specs.Markings.{marking_reach, is_sweep}
+use Rattle.history_tests.specs.Readings.{is_linked}
 use Rattle.history_tests.specs.Rows.{is_live}
 use Rattle.history_tests.specs.States.{same_joint}
 use Rattle.history_tests.specs.Steps.{joint_after, may_step}
 use Rattle.history_tests.proofs.Telling.{Tells, always, never, and2, and3, is_true}
 use Rattle.history_tests.proofs.GraphTests.{unreached}
-use Rattle.history_tests.proofs.HistoryTests.{all_come, linked}
+use Rattle.history_tests.proofs.HistoryTests.{all_come}
 use Rattle.history_tests.proofs.MarkingTests.{marked, sweep}
+use Rattle.history_tests.proofs.ReadingTests.{linked}
 use Rattle.history_tests.proofs.StateTests.{joints}
 use Rattle.history_tests.proofs.StepTests.{steps_tested}
-use Rattle.worked_histories.specs.Moments.{linked_joint, linked_graph, begun_with, moment_if, moments_from, begins_from, AreUnreachedEach, IsWorked}
+use Rattle.worked_histories.specs.Moments.{linked_joint, linked_graph, begun_with, is_step, moment_if, moments_from, begins_from, AreUnreachedEach, IsWorked}
 
 -- whether each list has exactly the unreached peers of the graph with its place
 abbrev pub are_unreached_each : List Graph → List (List ℕ) → Bool
@@ -43,8 +47,8 @@ leads_on false j n next = same_joint j next
 abbrev pub is_run_from : Graph → Linkage → List Noted → Bool
 is_run_from begun s [] = true
 is_run_from begun s (n ∷ ns) =
-    leads_on (is_joint n.entry.made.op) (linked_joint s begun) n (linked_joint (linkage_after s n) (begun_with n.entry.made.reply (linked_graph s) begun))
-    && is_run_from (begun_with n.entry.made.reply (linked_graph s) begun) (linkage_after s n) ns
+    leads_on (is_step n) (linked_joint s begun) n (linked_joint (entry_after s n) (begun_with n.entry.made.reply (linked_graph s) begun))
+    && is_run_from (begun_with n.entry.made.reply (linked_graph s) begun) (entry_after s n) ns
 
 -- then the moments are a run: a step leads to the state that is the same, and what isn't a step leaves none
 goes_on : (b : Bool) (j : Joint) (n : Noted) (next : Joint) (ms : List Moment) → leads_on b j n next ≡ true → IsRunFrom next ms → IsRunFrom j (moment_if b (record { before = j; noted = n; after = next }) ms)
@@ -57,8 +61,8 @@ run_from : (begun : Graph) (s : Linkage) (ns : List Noted) → is_run_from begun
 run_from begun s [] e = tt
 run_from begun s (n ∷ ns) e =
     let later = begun_with n.entry.made.reply (linked_graph s) begun in
-    let p = (and2 (is_true (leads_on (is_joint n.entry.made.op) (linked_joint s begun) n (linked_joint (linkage_after s n) later))) (is_true (is_run_from later (linkage_after s n) ns))).holds e in
-    goes_on (is_joint n.entry.made.op) (linked_joint s begun) n (linked_joint (linkage_after s n) later) (moments_from later (linkage_after s n) ns) p.0 (run_from later (linkage_after s n) ns p.1)
+    let p = (and2 (is_true (leads_on (is_step n) (linked_joint s begun) n (linked_joint (entry_after s n) later))) (is_true (is_run_from later (entry_after s n) ns))).holds e in
+    goes_on (is_step n) (linked_joint s begun) n (linked_joint (entry_after s n) later) (moments_from later (entry_after s n) ns) p.0 (run_from later (entry_after s n) ns p.1)
 
 -- and they are those of the projection's entries
 noted_if : (b : Bool) (m : Moment) (ms : List Moment) (ns : List Noted) → map (λ k. k.noted) ms ≡ ns → map (λ k. k.noted) (moment_if b m ms) ≡ cond b (m.noted ∷ ns) ns
@@ -69,7 +73,7 @@ same_noted : (begun : Graph) (s : Linkage) (ns : List Noted) → map (λ k. k.no
 same_noted begun s [] = refl
 same_noted begun s (n ∷ ns) =
     let later = begun_with n.entry.made.reply (linked_graph s) begun in
-    noted_if (is_joint n.entry.made.op) (record { before = linked_joint s begun; noted = n; after = linked_joint (linkage_after s n) later }) (moments_from later (linkage_after s n) ns) (joint_projection ns) (same_noted later (linkage_after s n) ns)
+    noted_if (is_step n) (record { before = linked_joint s begun; noted = n; after = linked_joint (entry_after s n) later }) (moments_from later (entry_after s n) ns) (joint_projection ns) (same_noted later (entry_after s n) ns)
 
 -- the whole test
 abbrev pub is_worked : List Noted → List (List ℕ) → Bool

@@ -1,13 +1,19 @@
 -- A linked history as moments of the joint machine: each entry that is a step, with the joint states before and after it.
-use Rattle.std.specs.Prelude.{ℕ, Bool, true, false, List, [], ◌∷◌}
+use Rattle.std.specs.Prelude.{ℕ, Bool, true, false, if◌then◌else◌, List, [], ◌∷◌}
 use Rattle.joint_model.specs.declared.events.Reply.{Reply}
 use Rattle.joint_model.specs.declared.events.Reply.TheVariants as says
 use Rattle.joint_model.specs.Joined.{joint_since, graph_at}
 use Rattle.joint_model.specs.Joint.{Joint, Graph, opening, AreUnreached}
-use Rattle.joint_model.specs.Linked.{Linkage, opening_linkage, linkage_after, is_joint, joint_projection, IsLinkedBy}
+use Rattle.joint_model.specs.Linked.{Linkage, opening_linkage, is_joint}
+use Rattle.joint_model.specs.LinkedHistories.{joint_projection, IsLinkedBy}
+use Rattle.joint_model.specs.Readers.{is_aside, entry_after}
 use Rattle.joint_model.specs.Run.{Moment, IsRun}
 use Rattle.joint_model.specs.Told.{Noted}
-use Rattle.history_tests.specs.Histories.{finished_of}
+use Rattle.history_tests.specs.Readings.{finished_of}
+
+-- whether the entry is a step: a read that is set aside is none
+abbrev pub is_step : Noted → Bool
+is_step n = if is_aside n then false else is_joint n.entry.made.op
 
 -- the joint state of a linked history, with the graph that stood at the begin of the open marking
 abbrev pub linked_joint : Linkage → Graph → Joint
@@ -30,9 +36,9 @@ moment_if false m ms = ms
 -- the moments of the entries from a state on, with the graph that stood at the last begin
 abbrev pub moments_from : Graph → Linkage → List Noted → List Moment
 moments_from begun s [] = []
-moments_from begun s (n ∷ ns) = moment_if (is_joint n.entry.made.op)
-    record { before = linked_joint s begun; noted = n; after = linked_joint (linkage_after s n) (begun_with n.entry.made.reply (linked_graph s) begun) }
-    (moments_from (begun_with n.entry.made.reply (linked_graph s) begun) (linkage_after s n) ns)
+moments_from begun s (n ∷ ns) = moment_if (is_step n)
+    record { before = linked_joint s begun; noted = n; after = linked_joint (entry_after s n) (begun_with n.entry.made.reply (linked_graph s) begun) }
+    (moments_from (begun_with n.entry.made.reply (linked_graph s) begun) (entry_after s n) ns)
 
 -- the moments of a linked history
 abbrev pub moments_of : List Noted → List Moment
@@ -46,7 +52,7 @@ graph_if _ now later = later
 -- the graphs that stand at the begins of the markings
 abbrev pub begins_from : Linkage → List Noted → List Graph
 begins_from s [] = []
-begins_from s (n ∷ ns) = graph_if n.entry.made.reply (linked_graph s) (begins_from (linkage_after s n) ns)
+begins_from s (n ∷ ns) = graph_if n.entry.made.reply (linked_graph s) (begins_from (entry_after s n) ns)
 
 -- each list has exactly the peers that are unfreed and unreached in the graph with its place
 abbrev pub AreUnreachedEach : List Graph → List (List ℕ) → Type 0

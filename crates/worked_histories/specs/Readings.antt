@@ -1,27 +1,27 @@
 -- The histories with reads of weak cells, where each read is an entry of a reader of its own.
 use Rattle.std.specs.Prelude.{◌++◌, take, [], ◌∷◌, ℕ, List, Option, None}
 use Rattle.joint_model.specs.declared.names.Thread.TheVariants.{M}
-use Rattle.joint_model.specs.Linked.{opening_linkage}
-use Rattle.joint_model.specs.Readers.{IsLinkedReadingBy, replayed_reading, MayBePending, MayBeUnset}
+use Rattle.joint_model.specs.LinkedHistories.{IsLinkedBy, managed_end}
+use Rattle.joint_model.specs.Readers.{MayBePending, MayBeUnset}
 use Rattle.joint_model.specs.declared.lines.Act.TheVariants as act
 use Rattle.joint_model.specs.declared.events.Op.TheVariants as op
 use Rattle.joint_model.specs.declared.events.Reply.TheVariants as says
 use Rattle.joint_model.specs.Told.{Noted, nothing}
-use Rattle.history_tests.specs.Readings.{finished_reading_of}
+use Rattle.history_tests.specs.Readings.{finished_of}
 use Rattle.worked_histories.specs.Notes.{note, var, cell_no, cycle_no}
 use Rattle.worked_histories.specs.PendingRead.{pending_read}
 use Rattle.worked_histories.specs.Pins.{pinned_object}
 
 -- the cells at the end of a history
 abbrev pub cells_of : List Noted → List (Option ℕ)
-cells_of ns = (replayed_reading opening_linkage ns).managed.managed.cells
+cells_of ns = (managed_end ns).cells
 
 -- the notes make a linked history
 abbrev pub PendingReadings : Type 0
-PendingReadings = IsLinkedReadingBy (finished_reading_of pending_read) pending_read
+PendingReadings = IsLinkedBy (finished_of pending_read) pending_read
 
 abbrev pub PinnedReadings : Type 0
-PinnedReadings = IsLinkedReadingBy (finished_reading_of pinned_object) pinned_object
+PinnedReadings = IsLinkedBy (finished_of pinned_object) pinned_object
 
 -- the history up to the end of the cycle, and then a read that is pending still
 abbrev pub pending_after_end : List Noted

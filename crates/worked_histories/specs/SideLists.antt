@@ -5,11 +5,11 @@ use Rattle.joint_model.specs.declared.names.Thread.TheVariants.{M}
 use Rattle.joint_model.specs.declared.names.Kind.TheVariants as kind
 use Rattle.joint_model.specs.declared.events.Op.TheVariants as op
 use Rattle.joint_model.specs.declared.events.Reply.TheVariants as says
-use Rattle.joint_model.specs.Lines.{is_peer_event}
+use Rattle.joint_model.specs.Lines.{is_peer_event, is_pinned}
 use Rattle.joint_model.specs.ManagedReplay.{ManagedReplay, opening_replay}
 use Rattle.joint_model.specs.PeerReplay.{PeerReplay, opening_peer_replay}
 use Rattle.joint_model.specs.Sides.{SideRules, managed_rules, peer_rules, AreTaken, LeadsTo, IsReplayed}
-use Rattle.joint_model.specs.Told.{Noted, nothing}
+use Rattle.joint_model.specs.Told.{Noted, nothing, kept_pins, no_pins}
 use Rattle.worked_histories.specs.Notes.{note, var, object_no, peer_no, handle_no}
 use Rattle.worked_histories.specs.OneObject.{one_object}
 
@@ -18,9 +18,13 @@ abbrev pub peer_notes : List Noted → List Noted
 peer_notes [] = []
 peer_notes (n ∷ ns) = if is_peer_event n.entry.made.caller n.entry.made.op then n ∷ peer_notes ns else peer_notes ns
 
+-- a snap and a take are told with the pins that they were given: none was filled
+abbrev pub with_no_pins : Noted → Noted
+with_no_pins n = record n { told = if is_pinned n.entry.made.op then kept_pins no_pins n.told else n.told }
+
 abbrev pub managed_notes : List Noted → List Noted
 managed_notes [] = []
-managed_notes (n ∷ ns) = if is_peer_event n.entry.made.caller n.entry.made.op then managed_notes ns else n ∷ managed_notes ns
+managed_notes (n ∷ ns) = if is_peer_event n.entry.made.caller n.entry.made.op then managed_notes ns else with_no_pins n ∷ managed_notes ns
 
 -- the state after a list of entries
 abbrev pub state_after : {S : Type 0} → SideRules S → S → List Noted → S

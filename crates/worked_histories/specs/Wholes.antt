@@ -2,7 +2,7 @@
 -- freed and queued.
 use Rattle.std.specs.Prelude.{[], ◌∷◌, map}
 use Rattle.joint_model.specs.Histories.{Finished}
-use Rattle.joint_model.specs.Linked.{IsLinkedBy, HasQueued}
+use Rattle.joint_model.specs.LinkedHistories.{IsLinkedBy, HasQueued}
 use Rattle.worked_histories.specs.CrossHeap.{cross_heap_cycle}
 use Rattle.worked_histories.specs.Notes.{object_no, peer_no}
 use Rattle.worked_histories.specs.Phases.{two_phased}

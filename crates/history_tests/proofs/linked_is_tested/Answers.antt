@@ -1,4 +1,4 @@
-use Rattle.history_tests.proofs.HistoryTests.{linked_tested, linked_has_queued}
+use Rattle.history_tests.proofs.ReadingTests.{linked_tested, linked_has_queued}
 use Rattle.history_tests.proofs.linked_is_tested.Goals as goal
 
 pub returns : goal.returns

@@ -1,5 +1,5 @@
-use Rattle.history_tests.proofs.ReadingTests.{pending_tested, unset_tested, reading_tested, linked_reading_tested}
+use Rattle.history_tests.proofs.ReadingTests.{pending_tested, unset_tested, reading_tested}
 use Rattle.history_tests.proofs.readings_are_tested.Goals as goal
 
 pub returns : goal.returns
-returns c = record { pending = pending_tested; unset = unset_tested; every = reading_tested; linked = linked_reading_tested }
+returns c = record { pending = pending_tested; unset = unset_tested; every = reading_tested }

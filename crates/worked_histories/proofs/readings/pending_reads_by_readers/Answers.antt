@@ -1,7 +1,7 @@
 use Rattle.std.proofs.Common.{refl}
-use Rattle.history_tests.proofs.ReadingTests.{linked_reading}
+use Rattle.history_tests.proofs.ReadingTests.{linked}
 use Rattle.worked_histories.specs.PendingRead.{pending_read}
 use Rattle.worked_histories.proofs.readings.pending_reads_by_readers.Goals as goal
 
 pub returns : goal.returns
-returns c = (linked_reading pending_read).holds refl
+returns c = (linked pending_read).holds refl

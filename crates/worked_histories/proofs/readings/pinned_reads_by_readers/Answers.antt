@@ -1,7 +1,7 @@
 use Rattle.std.proofs.Common.{refl}
-use Rattle.history_tests.proofs.ReadingTests.{linked_reading}
+use Rattle.history_tests.proofs.ReadingTests.{linked}
 use Rattle.worked_histories.specs.Pins.{pinned_object}
 use Rattle.worked_histories.proofs.readings.pinned_reads_by_readers.Goals as goal
 
 pub returns : goal.returns
-returns c = (linked_reading pinned_object).holds refl
+returns c = (linked pinned_object).holds refl
