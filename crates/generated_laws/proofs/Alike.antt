@@ -13,6 +13,7 @@ use Rattle.joint_model.specs.declared.events.Entry.{Entry}
 use Rattle.joint_model.specs.Heaps.{slot}
 use Rattle.joint_model.specs.Histories.{Finished}
 use Rattle.joint_model.specs.Linked.{Linkage, AllMayCome, opening_linkage, replayed}
+use Rattle.joint_model.specs.LinkedHistories.{linked_end}
 use Rattle.joint_model.specs.PeerReplay.{is_thread}
 use Rattle.joint_model.specs.Told.{Noted}
 use Rattle.joint_laws.proofs.LinkedEntries.{Of, AreKept-opening}
@@ -23,14 +24,15 @@ use Rattle.script_generator.specs.Generated.{generated}
 use Rattle.script_laws.specs.Holding.{opening_standing, entries_by, AreLine}
 use Rattle.script_laws.proofs.ThreadOrder.{none-by}
 use Rattle.summary_laws.specs.States.{tally_in}
-use Rattle.summary_laws.proofs.Counting.{tallies_of_linked}
+use Rattle.summary_laws.proofs.Readings.{tallies_of_linked}
 use Rattle.generated_laws.specs.Counts.{IsGeneratedRun, filled_statics, left_by_families, generated_tally, GeneratedRunsAreAlike}
 use Rattle.generated_laws.proofs.Totals.{Each, each-append, each-join, each-filter, total, total-append}
 use Rattle.generated_laws.proofs.Own.{HasAnswer, IsCycleOf}
 use Rattle.generated_laws.proofs.Held.{script-total}
 use Rattle.generated_laws.proofs.Unrefused.{all-split}
 use Rattle.generated_laws.proofs.Counting.{simple-lines}
-use Rattle.generated_laws.proofs.Numbers.{callers, whole, answered, makes-the-same}
+use Rattle.generated_laws.proofs.Numbers.{answered, makes-the-same}
+use Rattle.generated_laws.proofs.Readless.{callers, whole, exact}
 use Rattle.generated_laws.proofs.Pictures.{empty_mind, Going}
 use Rattle.generated_laws.proofs.PeerShowing.{none_filled, PeerGoing}
 use Rattle.generated_laws.proofs.Running.{IsCycleEntry, Inv, inv-all, inv-says, SaysIt}
@@ -66,7 +68,7 @@ module _ (seed size : ℕ) (h : Finished) (small : size ≤ 2800) (w : IsGenerat
   both-answered = each-append HasAnswer w.before w.cycle (subst (Each HasAnswer) w.all (answered seed size h small w))
 
   is-whole : IsCycleOf w.cycle
-  is-whole = whole seed size h small w
+  is-whole = whole seed size h w
 
   abbrev keep : ℕ → Bool
   keep i = nat_lt 0 (total (filling i) run)
@@ -83,7 +85,7 @@ module _ (seed size : ℕ) (h : Finished) (small : size ≤ 2800) (w : IsGenerat
       (λ i e. counts-filled i run (ltb-true 0 (total (filling i) run) e))
 
   lawful : AllMayCome opening_linkage (parts.0 ++ parts.1)
-  lawful = subst (AllMayCome opening_linkage) parts.2 w.linked.lawful
+  lawful = subst (AllMayCome opening_linkage) parts.2 (exact seed size h w).lawful
 
   halves : AllMayCome opening_linkage parts.0 × AllMayCome (replayed opening_linkage parts.0) parts.1
   halves = all-split parts.0 parts.1 opening_linkage lawful
@@ -121,7 +123,7 @@ module _ (seed size : ℕ) (h : Finished) (small : size ≤ 2800) (w : IsGenerat
   run-fills i =
       let a = total-append (filling i) w.before w.cycle in
       let b = cycle-none i w.cycle is-whole in
-      let c = script-total HasBoth (filling i) (line_fills i) (λ x y. x ≡ y) refl (λ x y z u p q. omega (arith, p, q)) (own-count i) (generated seed size) w.before (simple-lines seed size) (callers seed size h small w) (each-both w.before both-answered.0 says) w.lines in
+      let c = script-total HasBoth (filling i) (line_fills i) (λ x y. x ≡ y) refl (λ x y z u p q. omega (arith, p, q)) (own-count i) (generated seed size) w.before (simple-lines seed size) (callers seed size h w) (each-both w.before both-answered.0 says) w.lines in
       omega (arith, a, b, c)
 
   filled-so : (i : ℕ) → i < 32 → (is_some (slot inv.groups i) ≡ true) ↔ (0 < total (λ (line : Thread × Act). line_fills i line.1) (generated seed size))
@@ -135,7 +137,7 @@ module _ (seed size : ℕ) (h : Finished) (small : size ≤ 2800) (w : IsGenerat
 
   left : (tally_of h.entries).left ≡ left_by_families seed size
   left =
-      let last : replayed opening_linkage w.noted ≡ replayed ended_threads parts.1 = ap (replayed opening_linkage) parts.2 ∙ replayed-both parts.0 parts.1 opening_linkage in
+      let last : linked_end w.noted ≡ replayed ended_threads parts.1 = (exact seed size h w).ends ∙ ap (replayed opening_linkage) parts.2 ∙ replayed-both parts.0 parts.1 opening_linkage in
       let count : filled_ones inv.groups ≡ filled_statics seed size = filled-statics seed size inv.groups inv.shown.spots filled-so in
       ap (λ (t : Tally). t.left) (tallies_of_linked h w.noted w.linked ∙ ap tally_in last)
       ∙ (state-left inv.minds inv.fills inv.groups (replayed ended_threads parts.1) ended.settled ended.kept ended.closed ended.rows ended.peers

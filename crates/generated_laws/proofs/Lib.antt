@@ -3,6 +3,7 @@ pub mod Own
 pub mod Held
 pub mod Unrefused
 pub mod Counting
+pub mod Readless
 pub mod Numbers
 pub mod Pictures
 pub mod Showing

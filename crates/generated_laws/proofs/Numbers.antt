@@ -8,29 +8,18 @@ use Rattle.joint_model.specs.declared.events.Op.{Op}
 use Rattle.joint_model.specs.declared.events.Reply.{Reply}
 use Rattle.joint_model.specs.declared.events.Entry.{Entry}
 use Rattle.joint_model.specs.Histories.{Finished}
-use Rattle.joint_model.specs.Lines.{IsThread}
-use Rattle.joint_model.specs.Linked.{Linkage, AllMayCome, opening_linkage, linkage_after}
-use Rattle.joint_model.specs.Told.{Noted}
-use Rattle.known_laws.specs.Growing.{entries}
 use Rattle.run_summary.specs.declared.tallies.Objects.{Objects}
 use Rattle.run_summary.specs.Tallies.{one, makes_managed, makes_peer, makes_handle, opens_cycle, tally_of, nothing_yet}
 use Rattle.script_generator.specs.Generated.{generated}
 use Rattle.script_generator.proofs.Counts.{generated_length, most_lines}
-use Rattle.known_laws.proofs.Lists.{event-thread}
 use Rattle.run_summary.specs.declared.tallies.Tally.{Tally}
 use Rattle.generated_laws.specs.Counts.{made_by_families, IsGeneratedRun}
 use Rattle.generated_laws.proofs.Totals.{Each, each-append, total, total-append}
-use Rattle.generated_laws.proofs.Own.{HasAnswer, Measures, IsCycleOf, own-total, whole_cycle}
+use Rattle.generated_laws.proofs.Readless.{callers, whole, exact}
+use Rattle.generated_laws.proofs.Own.{HasAnswer, Measures, own-total}
 use Rattle.generated_laws.proofs.Held.{script-total}
 use Rattle.generated_laws.proofs.Unrefused.{asking, own-asks, cycle-asks, answers-all, tally-totals}
 use Rattle.generated_laws.proofs.Counting.{managed_of, peers_of, handles_of, cycles_of, managed-measures, peers-measures, handles-measures, cycles-measures, managed-lines, peers-lines, handles-lines, cycles-lines, simple-lines}
-
-abbrev IsByThread : Entry → Type 0
-IsByThread e = IsThread e.made.caller
-
-by-threads : (s : Linkage) (ns : List Noted) → AllMayCome s ns → Each IsByThread (entries ns)
-by-threads s [] a = tt
-by-threads s (n ∷ ns) a = (event-thread n.entry.made.caller n.entry.made.op a.0.event, by-threads (linkage_after s n) ns a.1)
 
 abbrev Anything : Entry → Type 0
 Anything e = Unit {0}
@@ -49,31 +38,25 @@ pub record MakesTheSame (seed size : ℕ) (t : Tally) : Type 0 where
   pub made : t.made ≡ made_by_families seed size
 
 module _ (seed size : ℕ) (h : Finished) (small : size ≤ 2800) (w : IsGeneratedRun seed size h) where
-  pub callers : Each IsByThread w.before
-  callers = (each-append IsByThread w.before w.cycle (subst (Each IsByThread) (w.linked.same ∙ w.all) (by-threads opening_linkage w.noted w.linked.lawful))).0
-
-  pub whole : IsCycleOf w.cycle
-  whole = whole_cycle w.standing w.cycle w.idle w.line.events
-
   few-ask : total asking h.entries ≤ 65534
   few-ask =
-      let before = script-total Anything asking (λ a. 2) (λ a b. a ≤ b) (omega arith) (λ a b c d p q. omega (arith, p, q)) own-asks (generated seed size) w.before (simple-lines seed size) callers (each-anything w.before) w.lines in
+      let before = script-total Anything asking (λ a. 2) (λ a b. a ≤ b) (omega arith) (λ a b c d p q. omega (arith, p, q)) own-asks (generated seed size) w.before (simple-lines seed size) (callers seed size h w) (each-anything w.before) w.lines in
       let lines = twice (generated seed size) in
       let number = generated_length seed size in
       let most = most_lines seed size small in
-      let last = cycle-asks w.cycle whole in
+      let last = cycle-asks w.cycle (whole seed size h w) in
       let all = ap (total asking) w.all ∙ total-append asking w.before w.cycle in
       omega (arith, before, lines, number, most, last, all)
 
   pub answered : Each HasAnswer h.entries
-  answered = subst (Each HasAnswer) w.linked.same (answers-all w.noted w.linked.lawful (subst (λ es. total asking es ≤ 65534) (sym w.linked.same) few-ask))
+  answered = subst (Each HasAnswer) w.linked.same (answers-all w.noted (exact seed size h w).lawful (subst (λ es. total asking es ≤ 65534) (sym w.linked.same) few-ask))
 
   both-answered : Each HasAnswer w.before × Each HasAnswer w.cycle
   both-answered = each-append HasAnswer w.before w.cycle (subst (Each HasAnswer) w.all answered)
 
   sums : (f : Op → Reply → ℕ) (g : Act → ℕ) → Measures f g → total (λ (e : Entry). f e.made.op e.made.reply) h.entries ≡ total (λ (line : Thread × Act). g line.1) (generated seed size) + g (act.PhaseLine word.Cycle)
   sums f g m =
-      let before = script-total HasAnswer (λ (e : Entry). f e.made.op e.made.reply) g (λ a b. a ≡ b) refl (λ a b c d p q. omega (arith, p, q)) (own-total f g m) (generated seed size) w.before (simple-lines seed size) callers both-answered.0 w.lines in
+      let before = script-total HasAnswer (λ (e : Entry). f e.made.op e.made.reply) g (λ a b. a ≡ b) refl (λ a b c d p q. omega (arith, p, q)) (own-total f g m) (generated seed size) w.before (simple-lines seed size) (callers seed size h w) both-answered.0 w.lines in
       let last = own-total f g m w.standing (act.PhaseLine word.Cycle) w.cycle w.idle tt both-answered.1 w.line.events in
       let all = ap (total (λ (e : Entry). f e.made.op e.made.reply)) w.all ∙ total-append (λ (e : Entry). f e.made.op e.made.reply) w.before w.cycle in
       omega (arith, before, last, all)

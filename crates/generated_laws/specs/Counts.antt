@@ -6,7 +6,7 @@ use Rattle.joint_model.specs.declared.names.Thread.TheVariants.{C}
 use Rattle.joint_model.specs.declared.lines.Act.TheVariants as act
 use Rattle.joint_model.specs.declared.events.Entry.{Entry}
 use Rattle.joint_model.specs.Histories.{Finished}
-use Rattle.joint_model.specs.Linked.{IsLinkedBy}
+use Rattle.joint_model.specs.LinkedHistories.{IsLinkedBy}
 use Rattle.joint_model.specs.Told.{Noted}
 use Rattle.run_summary.specs.declared.tallies.Objects.{Objects}
 use Rattle.run_summary.specs.declared.tallies.Tally.{Tally}

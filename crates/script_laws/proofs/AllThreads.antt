@@ -1,17 +1,20 @@
 -- A caller that no script can have makes no entry of a linked history and has no line of a script. So what is held of each thread that a
 -- script can have is held of all.
-use Rattle.std.proofs.Common.{◌≡◌, ◌⊎◌, inl, inr, ⊎_elim, ℕ, ◌+◌, ◌≤◌, ◌<◌, true, false, List, [], ◌∷◌, refl, sym, ◌∙◌, ap, subst, arith}
+use Rattle.std.proofs.Common.{◌≡◌, ◌⊎◌, inl, inr, ⊎_elim, ℕ, ◌+◌, ◌≤◌, ◌<◌, true, false, List, [], ◌∷◌, Option, refl, sym, ◌∙◌, ap, subst, arith}
 use Rattle.std.specs.Prelude.{Contains, if◌then◌else◌}
 use Rattle.std.proofs.lemmas.Bool.{cases_Bool, cases_lt}
 use Rattle.joint_model.specs.declared.names.Thread.{Thread}
 use Rattle.joint_model.specs.declared.names.Thread.TheVariants.{M, P, C}
 use Rattle.joint_model.specs.declared.lines.Act.{Act}
-use Rattle.joint_model.specs.Lines.{IsLine, IsThread}
-use Rattle.joint_model.specs.Linked.{Linkage, AllMayCome, linkage_after, opening_linkage}
+use Rattle.joint_model.specs.Lines.{IsLine, IsThread, is_read}
+use Rattle.joint_model.specs.Linked.{Linkage, opening_linkage}
+use Rattle.joint_model.specs.LinkedHistories.{managed_end}
+use Rattle.joint_model.specs.Readers.{AllMayComeReading, entry_after}
 use Rattle.joint_model.specs.PeerReplay.{is_thread}
 use Rattle.joint_model.specs.Told.{Noted}
 use Rattle.joint_model.proofs.Members.{Contains-here, Contains-there}
 use Rattle.bridge_script.proofs.Fitting.{lawful_thread}
+use Rattle.joint_laws.proofs.FittingLists.{event-of}
 use Rattle.known_laws.specs.Growing.{entries}
 use Rattle.script_laws.specs.Holding.{opening_standing, HoldsLines, numbered_from, lines_of, entries_by}
 use Rattle.script_laws.specs.Growing.{EachThreadIsAll}
@@ -40,17 +43,17 @@ no-lines t k (x ∷ script) n l =
     ap (λ b. if b then (k, x) ∷ lines_of t (numbered_from (k + 1) script) else lines_of t (numbered_from (k + 1) script)) (not-it t x.0 n (lawful_thread x.0 x.1 (l x (Contains-here x script))))
     ∙ no-lines t (k + 1) script n (λ line c. l line (Contains-there line x script c))
 
-no-entries : (t : Thread) (s : Linkage) (ns : List Noted) → (IsThread t → ⊥) → AllMayCome s ns → entries_by t (entries ns) ≡ []
-no-entries t s [] n a = refl
-no-entries t s (x ∷ ns) n a =
-    ap (λ b. if b then x.entry ∷ entries_by t (entries ns) else entries_by t (entries ns)) (not-it t x.entry.made.caller n (event-thread x.entry.made.caller x.entry.made.op a.0.event))
-    ∙ no-entries t (linkage_after s x) ns n a.1
+no-entries : (whole : List Noted) (cells : List (Option ℕ)) (t : Thread) (s : Linkage) (ns : List Noted) → (IsThread t → ⊥) → AllMayComeReading whole cells s ns → entries_by t (entries ns) ≡ []
+no-entries whole cells t s [] n a = refl
+no-entries whole cells t s (x ∷ ns) n a =
+    ap (λ b. if b then x.entry ∷ entries_by t (entries ns) else entries_by t (entries ns)) (not-it t x.entry.made.caller n (event-thread x.entry.made.caller x.entry.made.op (event-of (is_read x.entry.made.op) whole cells s x a.0)))
+    ∙ no-entries whole cells t (entry_after s x) ns n a.1
 
 pub each_thread_is_all : EachThreadIsAll
 each_thread_is_all script h noted l lines held t = ⊎_elim
     (held t)
     (λ n.
     let a : lines_of t (numbered_from 1 script) ≡ [] = no-lines t 1 script n lines in
-    let b : entries_by t h.entries ≡ [] = ap (entries_by t) (sym l.same) ∙ no-entries t opening_linkage noted n l.lawful in
+    let b : entries_by t h.entries ≡ [] = ap (entries_by t) (sym l.same) ∙ no-entries noted (managed_end noted).cells t opening_linkage noted n l.lawful in
     subst (λ z. HoldsLines opening_standing z (entries_by t h.entries)) (sym a) (subst (HoldsLines opening_standing []) (sym b) (record { places = tt; events = refl })))
     (is_one t)

@@ -1,31 +1,26 @@
--- Two linked histories whose entries are told plainly by the same notes are one: the entries are those of the notes, and the freed
--- lists and notices are those of the replay, which is the same for the notes and for what was told at first.
+-- Two linked histories with the same entries and the same last states of both sides are one: the freed lists and notices are those of the
+-- states. So two that hold one script's lines in line order are one, where each read answers as the one machine does: told plainly, their notes are the same.
 use Rattle.std.proofs.Common.{◌≡◌, ℕ, List, take, sym, ◌∙◌, ap, subst}
-use Rattle.joint_model.specs.declared.names.Thread.{Thread}
-use Rattle.joint_model.specs.declared.lines.Act.{Act}
 use Rattle.joint_model.specs.Draws.{NumberedFrom}
 use Rattle.joint_model.specs.Histories.{Finished, managed_numbers}
-use Rattle.joint_model.specs.Linked.{IsLinked, opening_linkage, replayed, managed_end}
+use Rattle.joint_model.specs.Linked.{Linkage, opening_linkage, replayed}
+use Rattle.joint_model.specs.LinkedHistories.{IsLinked, linked_end, managed_end}
 use Rattle.joint_model.specs.ManagedReplay.{ManagedReplay}
 use Rattle.joint_model.specs.PeerReplay.{PeerReplay}
 use Rattle.joint_model.specs.Told.{Noted}
 use Rattle.joint_model.proofs.HistoryLists.{managed-one, peers-one, four-lists, numbers-take}
-use Rattle.script_laws.specs.Holding.{HoldsInOrder, opening_standing, numbered_from}
-use Rattle.script_laws.specs.Laws.{IsOneHistory}
+use Rattle.script_laws.specs.Holding.{opening_standing, numbered_from}
+use Rattle.script_laws.specs.Laws.{IsOneHistory, HasOneHistory}
 use Rattle.known_laws.specs.Growing.{entries}
-use Rattle.known_laws.proofs.Retelling.{Retold, plain_list}
+use Rattle.joint_laws.proofs.ExactReads.{exact_readings_are_lawful}
+use Rattle.known_laws.proofs.Retelling.{plain_list}
 use Rattle.script_laws.proofs.Lining.{lines-one}
 
--- of the same notes told plainly
-pub notes-tell : (g h : Finished) (a : IsLinked g) (b : IsLinked h) (k : Retold opening_linkage opening_linkage a.noted) (k' : Retold opening_linkage opening_linkage b.noted) → k.notes ≡ k'.notes → IsOneHistory g h a b
-notes-tell g h a b k k' e =
-    let managed : (replayed opening_linkage a.noted).managed ≡ (replayed opening_linkage b.noted).managed =
-    sym k.managed ∙ (ap (λ (l : List Noted). (replayed opening_linkage l).managed) e ∙ k'.managed) in
-    let peer : (replayed opening_linkage a.noted).peer ≡ (replayed opening_linkage b.noted).peer =
-    sym k.peer ∙ (ap (λ (l : List Noted). (replayed opening_linkage l).peer) e ∙ k'.peer) in
+-- of the same entries and last states of both sides
+pub ends-tell : (g h : Finished) (a : IsLinked g) (b : IsLinked h) → (linked_end a.noted).managed ≡ (linked_end b.noted).managed → (linked_end a.noted).peer ≡ (linked_end b.noted).peer → g.entries ≡ h.entries → IsOneHistory g h a b
+ends-tell g h a b managed peer listed =
     let count : (managed_end a.noted).taken ≡ (managed_end b.noted).taken = ap (λ (m : ManagedReplay). m.managed.taken) managed in
     let queue : (managed_end a.noted).notices ≡ (managed_end b.noted).notices = ap (λ (m : ManagedReplay). m.managed.notices) managed in
-    let listed : g.entries ≡ h.entries = sym a.linked.same ∙ (sym k.same ∙ (ap entries e ∙ (k'.same ∙ b.linked.same))) in
     let rows : g.freed_managed ≡ h.freed_managed = managed-one g.freed_managed h.freed_managed (a.linked.freed_managed ∙ (ap (λ (m : ManagedReplay). m.managed.heap.freed) managed ∙ sym b.linked.freed_managed)) in
     let peers : g.freed_peers ≡ h.freed_peers = peers-one g.freed_peers h.freed_peers (a.linked.freed_peers ∙ (ap (λ (m : PeerReplay). m.peers.heap.freed) peer ∙ sym b.linked.freed_peers)) in
     let taken = (managed_end a.noted).taken in
@@ -38,11 +33,17 @@ notes-tell g h a b k k' e =
       whole = λ p q. four-lists g h listed rows peers (managed-one g.notices h.notices (p ∙ (queue ∙ sym q)));
     }
 
-pub one-history : (script : List (Thread × Act)) (g h : Finished) (a : IsLinked g) (b : IsLinked h) → HoldsInOrder script g.entries → HoldsInOrder script h.entries → IsOneHistory g h a b
-one-history script g h a b p q =
-    let k = plain_list opening_linkage a.noted a.linked.lawful in
-    let k' = plain_list opening_linkage b.noted b.linked.lawful in
-    let e = k.same ∙ a.linked.same in
-    let e' = k'.same ∙ b.linked.same in
-    notes-tell g h a b k k'
-    (lines-one (numbered_from 1 script) opening_standing g.entries h.entries 0 opening_linkage k.notes k'.notes p q e e' (subst (NumberedFrom 0) (sym e) a.linked.numbers) (subst (NumberedFrom 0) (sym e') b.linked.numbers) k.plain k'.plain)
+-- each history is a lawful list in which reads are events as all others are
+pub one-history : HasOneHistory
+one-history script g h a b x y p q =
+    let u = exact_readings_are_lawful a.noted (a.noted, (managed_end a.noted).cells, a.linked.lawful) x in
+    let v = exact_readings_are_lawful b.noted (b.noted, (managed_end b.noted).cells, b.linked.lawful) y in
+    let k = plain_list opening_linkage a.noted u.lawful in
+    let k' = plain_list opening_linkage b.noted v.lawful in
+    let d = k.same ∙ a.linked.same in
+    let d' = k'.same ∙ b.linked.same in
+    let e : k.notes ≡ k'.notes = lines-one (numbered_from 1 script) opening_standing g.entries h.entries 0 opening_linkage k.notes k'.notes p q d d' (subst (NumberedFrom 0) (sym d) a.linked.numbers) (subst (NumberedFrom 0) (sym d') b.linked.numbers) k.plain k'.plain in
+    ends-tell g h a b
+    (ap (λ (l : Linkage). l.managed) u.ends ∙ (sym k.managed ∙ (ap (λ (l : List Noted). (replayed opening_linkage l).managed) e ∙ (k'.managed ∙ sym (ap (λ (l : Linkage). l.managed) v.ends)))))
+    (ap (λ (l : Linkage). l.peer) u.ends ∙ (sym k.peer ∙ (ap (λ (l : List Noted). (replayed opening_linkage l).peer) e ∙ (k'.peer ∙ sym (ap (λ (l : Linkage). l.peer) v.ends)))))
+    (sym d ∙ (ap entries e ∙ d'))

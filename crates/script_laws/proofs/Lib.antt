@@ -10,9 +10,12 @@ pub mod Lining
 pub mod Finishing
 pub mod Ending
 pub mod Events
+pub mod ReadTelling
+pub mod ReadWords
 pub mod OneText
 pub mod SmallHistory
 pub mod OwnCycles
+pub mod ReadCycles
 pub mod ThreadOrder
 pub mod ThreadEnding
 pub mod TwoThreads

@@ -127,7 +127,7 @@ driver-cites stand s i o r r' c c' x y a b = absurd a
 abbrev pub Allowed : Linkage → Thread → ℕ → Op → Reply → Option ℕ → Told → Type 0
 Allowed s t l o r c x = CallerAllows s.control s.managed.managed s.peer.peers.issued t l o r c x
 
-caller-cites : (s : Linkage) (t : Thread) (l : ℕ) (o : Op) (r r' : Reply) (c c' : Option ℕ) (x y : Told) → Allowed s t l o r c x → Allowed s t l o r' c' y → c ≡ c'
+pub caller-cites : (s : Linkage) (t : Thread) (l : ℕ) (o : Op) (r r' : Reply) (c c' : Option ℕ) (x y : Told) → Allowed s t l o r c x → Allowed s t l o r' c' y → c ≡ c'
 caller-cites s (M t) l o r r' c c' x y a b = thread-cites (doing_at s.control t) (M t) l o c c' a b
 caller-cites s (P t) l o r r' c c' x y a b = a ∙ sym b
 caller-cites s C l o r r' c c' x y a b = driver-cites s.control.stand s.managed.managed s.peer.peers.issued o r r' c c' x y a b

@@ -1,13 +1,15 @@
 -- In a linked history only the driver opens, resolves and abandons cycles. So where the driver's entries end each cycle, all entries do.
-use Rattle.std.proofs.Common.{◌≡◌, List, [], ◌∷◌, refl, subst}
+use Rattle.std.proofs.Common.{◌≡◌, ℕ, Option, List, [], ◌∷◌, refl, subst}
 use Rattle.joint_model.specs.declared.names.Thread.{Thread}
 use Rattle.joint_model.specs.declared.names.Thread.TheVariants.{M, P, C}
 use Rattle.joint_model.specs.declared.events.Op.{Op}
 use Rattle.joint_model.specs.declared.events.Op.TheVariants as op
 use Rattle.joint_model.specs.declared.events.Entry.{Entry}
-use Rattle.joint_model.specs.Lines.{IsEvent}
+use Rattle.joint_model.specs.Lines.{IsEvent, is_read}
 use Rattle.joint_model.specs.Histories.{Finished}
-use Rattle.joint_model.specs.Linked.{IsLinkedBy, Linkage, AllMayCome, linkage_after, opening_linkage}
+use Rattle.joint_model.specs.Linked.{Linkage, opening_linkage}
+use Rattle.joint_model.specs.LinkedHistories.{IsLinkedBy, managed_end}
+use Rattle.joint_model.specs.Readers.{AllMayComeReading, entry_after}
 use Rattle.joint_model.specs.Told.{Noted}
 use Rattle.joint_model.specs.PeerReplay.{is_thread}
 use Rattle.std.specs.Prelude.{if◌then◌else◌}
@@ -15,18 +17,19 @@ use Rattle.script_laws.specs.Holding.{entries_by}
 use Rattle.script_laws.specs.Ending.{ResolvesLater, ResolveComes, IsEnded, AllCyclesEnd, ThreadHistoryEnds}
 use Rattle.script_laws.proofs.Ending.{held-thread-end}
 use Rattle.known_laws.specs.Growing.{entries}
+use Rattle.joint_laws.proofs.FittingLists.{event-of}
 
 -- the entries are events that their callers can make
 abbrev AreAllEvents : List Entry → Type 0
 AreAllEvents [] = Unit {0}
 AreAllEvents (e ∷ es) = IsEvent e.made.caller e.made.op × AreAllEvents es
 
-all-events : (s : Linkage) (ns : List Noted) → AllMayCome s ns → AreAllEvents (entries ns)
-all-events s [] a = tt
-all-events s (n ∷ ns) a = (a.0.event, all-events (linkage_after s n) ns a.1)
+all-events : (whole : List Noted) (cells : List (Option ℕ)) (s : Linkage) (ns : List Noted) → AllMayComeReading whole cells s ns → AreAllEvents (entries ns)
+all-events whole cells s [] a = tt
+all-events whole cells s (n ∷ ns) a = (event-of (is_read n.entry.made.op) whole cells s n a.0, all-events whole cells (entry_after s n) ns a.1)
 
 -- what an event does to the open cycle
-resolves-more : (o : Op) (A B : Type 0) → (A → B) → ResolvesLater o A → ResolvesLater o B
+pub resolves-more : (o : Op) (A B : Type 0) → (A → B) → ResolvesLater o A → ResolvesLater o B
 resolves-more (op.Resolve k) A B f r = tt
 resolves-more (op.Snap k) A B f r = absurd r
 resolves-more o A B f r = f r
@@ -39,7 +42,7 @@ other-resolves (M u) (op.Resolve k) A n e r = tt
 other-resolves (P u) (op.Resolve k) A n e r = tt
 other-resolves t o A n e r = r
 
-ended-more : (o : Op) (es fs : List Entry) → (ResolveComes es → ResolveComes fs) → IsEnded o es → IsEnded o fs
+pub ended-more : (o : Op) (es fs : List Entry) → (ResolveComes es → ResolveComes fs) → IsEnded o es → IsEnded o fs
 ended-more (op.Abandon k) es fs f e = e
 ended-more (op.Snap k) es fs f e = f e
 ended-more o es fs f e = tt
@@ -72,7 +75,7 @@ ended-among (e ∷ es) a d = by e.made.caller a.0 (ended-among es a.1) d
 
 -- where the driver's entries end each cycle, a linked history does
 pub drivers_ends : (h : Finished) (noted : List Noted) → IsLinkedBy h noted → AllCyclesEnd (entries_by C h.entries) → AllCyclesEnd h.entries
-drivers_ends h noted l ends = ended-among h.entries (subst AreAllEvents l.same (all-events opening_linkage noted l.lawful)) ends
+drivers_ends h noted l ends = ended-among h.entries (subst AreAllEvents l.same (all-events noted (managed_end noted).cells opening_linkage noted l.lawful)) ends
 
 pub thread_history_ends : ThreadHistoryEnds
 thread_history_ends script h noted l p = drivers_ends h noted l (held-thread-end script h.entries p)

@@ -10,7 +10,7 @@ use Rattle.joint_model.specs.declared.events.Reply.{Reply}
 use Rattle.joint_model.specs.declared.events.Reply.TheVariants as says
 use Rattle.joint_model.specs.declared.events.Entry.{Entry}
 use Rattle.joint_model.specs.Control.{IsDone}
-use Rattle.joint_model.specs.Linked.{IsLinked}
+use Rattle.joint_model.specs.LinkedHistories.{IsLinked}
 use Rattle.joint_model.specs.Told.{Noted, nothing}
 use Rattle.joint_laws.proofs.Hands.{opening-free}
 use Rattle.script_laws.specs.Ending.{AllCyclesEnd}

@@ -7,7 +7,7 @@ use Rattle.joint_model.specs.declared.events.Entry.{Entry}
 use Rattle.joint_model.specs.Components.{Rises}
 use Rattle.joint_model.specs.Histories.{Finished}
 use Rattle.joint_model.specs.Lines.{IsLine, IsThread}
-use Rattle.joint_model.specs.Linked.{IsLinkedBy}
+use Rattle.joint_model.specs.LinkedHistories.{IsLinkedBy}
 use Rattle.joint_model.specs.Told.{Noted}
 use Rattle.script_laws.specs.Holding.{Standing, opening_standing, standing_after, AreLine, AreLeft, HoldsLines, HoldsSoFar, HoldsPerThread, numbered_from, lines_of, entries_by}
 

@@ -5,7 +5,8 @@ ghost use Rattle.script_laws.specs.Growing.{EachThreadIsAll, HeldLinesEnd, HeldL
 ghost use Rattle.script_laws.specs.Laws.{HasOneHistory, HasOneText, LineOrderGivesThreadOrder};
 
 /// A script has at most one history in line order: two linked histories that hold its lines are the same in their entries, in what
-/// was freed and in the notices that were taken, and in the notices that were only queued where each has them all.
+/// was freed and in the notices that were taken, and in the notices that were only queued where each has them all. So it is of histories in which
+/// each read answers as the one machine does at its number.
 pub fn one_history_for_a_script()
     ensures { HasOneHistory }
 {}

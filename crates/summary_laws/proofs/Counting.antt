@@ -8,8 +8,8 @@ use Rattle.joint_model.specs.PeerReplay.{PeerReplay}
 use Rattle.joint_model.specs.Told.{Told, Noted}
 use Rattle.joint_laws.proofs.LinkedEntries.{Of, AreKept-entry, AreKept-opening}
 use Rattle.run_summary.specs.declared.tallies.Tally.{Tally}
-use Rattle.run_summary.specs.Tallies.{one, freed_managed, freed_peers, tallied, tally_from, tally_of}
-use Rattle.summary_laws.specs.States.{tally_in, AddsUp, HeapsAddUp, TalliesAreOfStates, TalliesOfLinked}
+use Rattle.run_summary.specs.Tallies.{one, freed_managed, freed_peers, tallied, tally_from}
+use Rattle.summary_laws.specs.States.{tally_in, AddsUp, HeapsAddUp, TalliesAreOfStates}
 use Rattle.summary_laws.proofs.HeapCounts.{adds-up}
 use Rattle.summary_laws.proofs.ManagedCounts.{ManagedCounts, answer-counts}
 use Rattle.summary_laws.proofs.Names.{AreNamesKept, names-opening}
@@ -116,6 +116,3 @@ heaps_add_up noted may = add_up noted opening_linkage may AreKept-opening names-
 
 pub tallies_are_of_states : TalliesAreOfStates
 tallies_are_of_states noted may = counted noted opening_linkage may AreKept-opening names-opening
-
-pub tallies_of_linked : TalliesOfLinked
-tallies_of_linked h noted l = ap tally_of (sym l.same) ∙ tallies_are_of_states noted l.lawful

@@ -1,4 +1,4 @@
--- Reads that are set aside count nothing, so the tally of a history with lock-free reads is that of its last state too.
+-- Reads that are set aside count nothing, so the tally of a linked history is that of its last state too.
 use Rattle.std.proofs.Common.{◌≡◌, Bool, true, false, List, [], ◌∷◌, cond, map, refl, sym, ap, ◌∙◌, arith}
 use Rattle.std.specs.Prelude.{not}
 use Rattle.joint_model.specs.declared.lines.Act.TheVariants as act
@@ -8,13 +8,14 @@ use Rattle.joint_model.specs.declared.events.Reply.{Reply}
 use Rattle.joint_model.specs.declared.events.Reply.TheVariants as says
 use Rattle.joint_model.specs.declared.events.Entry.{Entry}
 use Rattle.joint_model.specs.Linked.{opening_linkage, replayed}
-use Rattle.joint_model.specs.Readers.{is_read, is_set_aside, is_aside, replayed_reading}
+use Rattle.joint_model.specs.Lines.{is_read}
+use Rattle.joint_model.specs.Readers.{is_set_aside, is_aside, replayed_reading}
 use Rattle.joint_model.specs.Told.{Noted}
 use Rattle.joint_laws.specs.ReadingLaws.{without_aside, IsLawfulReading}
 use Rattle.joint_laws.proofs.ReadsAside.{reading_is_lawful, reading_leads_to_same, without-cons}
 use Rattle.run_summary.specs.declared.tallies.Tally.{Tally}
 use Rattle.run_summary.specs.Tallies.{tallied, tally_from, tally_of, nothing_yet}
-use Rattle.summary_laws.specs.States.{tally_in, TalliesOfReading}
+use Rattle.summary_laws.specs.States.{tally_in, TalliesOfLinked}
 use Rattle.summary_laws.proofs.Counting.{same_tally, sides, tallies_are_of_states}
 use Rattle.joint_model.proofs.Deciding.{and-true}
 
@@ -46,8 +47,8 @@ aside-tally : (ns : List Noted) (t : Tally) → tally_from t (entries ns) ≡ ta
 aside-tally [] t = refl
 aside-tally (n ∷ ns) t = skipped n ns t (is_aside n) refl (λ u. aside-tally ns u) ∙ ap (λ z. tally_from t (entries z)) (sym (without-cons n ns (is_aside n) refl))
 
-pub tallies_of_reading : TalliesOfReading
-tallies_of_reading h noted l =
+pub tallies_of_linked : TalliesOfLinked
+tallies_of_linked h noted l =
     let w : IsLawfulReading noted = (noted, (replayed_reading opening_linkage noted).managed.managed.cells, l.lawful) in
     let k = reading_leads_to_same noted w in
     let end : tally_in (replayed_reading opening_linkage noted) ≡ tally_in (replayed opening_linkage (without_aside noted)) = ap (λ m. sides m (replayed_reading opening_linkage noted).peer) k.managed ∙ ap (λ p. sides (replayed opening_linkage (without_aside noted)).managed p) k.peer in

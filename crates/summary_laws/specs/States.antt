@@ -3,8 +3,8 @@ use Rattle.std.specs.Prelude.{◌≡◌, ℕ, zero, suc, ◌+◌, Bool, not, nat
 use Rattle.std.specs.List.{list_any}
 use Rattle.joint_model.specs.Heaps.{Heap}
 use Rattle.joint_model.specs.Histories.{Finished}
-use Rattle.joint_model.specs.Linked.{Linkage, opening_linkage, replayed, AllMayCome, IsLinkedBy}
-use Rattle.joint_model.specs.Readers.{IsLinkedReadingBy, replayed_reading}
+use Rattle.joint_model.specs.Linked.{Linkage, opening_linkage, replayed, AllMayCome}
+use Rattle.joint_model.specs.LinkedHistories.{linked_end, IsLinkedBy}
 use Rattle.joint_model.specs.Told.{Noted}
 use Rattle.run_summary.specs.declared.tallies.Objects.{Objects}
 use Rattle.run_summary.specs.declared.tallies.Tally.{Tally}
@@ -43,14 +43,10 @@ tally_in s = record { cycles = s.managed.managed.cycles; made = made_in s; left 
 abbrev pub TalliesAreOfStates : Type 0
 TalliesAreOfStates = (noted : List Noted) → AllMayCome opening_linkage noted → tally_of (map (λ n. n.entry) noted) ≡ tally_in (replayed opening_linkage noted)
 
--- so the tally of a linked history's entries is that of its last state
-abbrev pub TalliesOfLinked : Type 0
-TalliesOfLinked = (h : Finished) (noted : List Noted) → IsLinkedBy h noted → tally_of h.entries ≡ tally_in (replayed opening_linkage noted)
-
 -- after a lawful list both heaps add up
 abbrev pub HeapsAddUp : Type 0
 HeapsAddUp = (noted : List Noted) → AllMayCome opening_linkage noted → AddsUp (replayed opening_linkage noted).managed.managed.heap × AddsUp (replayed opening_linkage noted).peer.peers.heap
 
--- and so is that of a history with lock-free reads
-abbrev pub TalliesOfReading : Type 0
-TalliesOfReading = (h : Finished) (noted : List Noted) → IsLinkedReadingBy h noted → tally_of h.entries ≡ tally_in (replayed_reading opening_linkage noted)
+-- so the tally of a linked history's entries is that of its last state
+abbrev pub TalliesOfLinked : Type 0
+TalliesOfLinked = (h : Finished) (noted : List Noted) → IsLinkedBy h noted → tally_of h.entries ≡ tally_in (linked_end noted)

@@ -1,13 +1,12 @@
 // The law, the contract of a function that does nothing.
 
-ghost use Rattle.summary_laws.specs.States.{HeapsAddUp, TalliesAreOfStates, TalliesOfLinked, TalliesOfReading};
+ghost use Rattle.summary_laws.specs.States.{HeapsAddUp, TalliesAreOfStates, TalliesOfLinked};
 
 /// The tally of the entries of a lawful list is the numbers of the state after it: how many cycles were opened, what was made, and what is
 /// left, the objects that aren't freed and the handles in the table. So the tally of a linked history is that of its last
-/// state, with lock-free reads too. What is left of each heap and what was freed are what was made.
+/// state. What is left of each heap and what was freed are what was made.
 pub fn tallies_are_of_states()
     ensures list { TalliesAreOfStates }
     ensures linked { TalliesOfLinked }
-    ensures lock_free { TalliesOfReading }
     ensures heaps { HeapsAddUp }
 {}

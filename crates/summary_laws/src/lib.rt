@@ -2,7 +2,7 @@
 // them.
 //
 // A law is a function with an empty body, whose clauses are statements of `specs/`; whoever needs it calls it. So no value is made here, and
-// nothing runs. What is promised is said of every lawful list of entries, of linked histories, and of those with lock-free reads.
+// nothing runs. What is promised is said of every lawful list of entries and of linked histories.
 //
 // `specs/States.antt` has the numbers of a state: the cycles opened, the objects and handles made, the objects that aren't freed, and the
 // rows of the handle table.

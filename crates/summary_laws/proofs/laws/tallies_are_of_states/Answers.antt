@@ -1,5 +1,5 @@
-use Rattle.summary_laws.proofs.Counting.{heaps_add_up, tallies_are_of_states, tallies_of_linked}
-use Rattle.summary_laws.proofs.Readings.{tallies_of_reading}
+use Rattle.summary_laws.proofs.Counting.{heaps_add_up, tallies_are_of_states}
+use Rattle.summary_laws.proofs.Readings.{tallies_of_linked}
 use Rattle.summary_laws.proofs.laws.tallies_are_of_states.Goals as goal
 
 pub returns-clause-list : goal.returns-clause-list
@@ -7,9 +7,6 @@ returns-clause-list c = tallies_are_of_states
 
 pub returns-clause-linked : goal.returns-clause-linked
 returns-clause-linked c = tallies_of_linked
-
-pub returns-clause-lock_free : goal.returns-clause-lock_free
-returns-clause-lock_free c = tallies_of_reading
 
 pub returns-clause-heaps : goal.returns-clause-heaps
 returns-clause-heaps c = heaps_add_up
