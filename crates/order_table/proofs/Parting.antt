@@ -9,9 +9,9 @@ use Rattle.joint_model.specs.declared.names.Thread.TheVariants.{M, P, C}
 use Rattle.order_table.specs.declared.views.Role.{Role}
 use Rattle.order_table.specs.declared.views.KeptEntry.{KeptEntry}
 use Rattle.order_table.specs.declared.views.View.{View}
+use Rattle.joint_model.specs.HistoryLines.{caller_line}
 use Rattle.order_table.specs.Rows.{at, put}
 use Rattle.order_table.specs.Views.{Owns, known, role_line, giving, given, hearing, lines_of_role, lines_of_caller, lines_of_none}
-use Rattle.joint_model.specs.HistoryLines.{caller_line}
 use Rattle.order_table.specs.Tells.{Compares, GrowsByEntry, Parts, IsOfRole, IsOfCaller, IsOfNone, TakesIn}
 use Rattle.order_table.proofs.Places.{at_put_here, at_put_else, at_joined, at_common, at_without, at_longest, longer_cases, or_true}
 use Rattle.joint_model.proofs.Deciding.{and-both}

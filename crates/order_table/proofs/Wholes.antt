@@ -3,22 +3,24 @@
 -- What stands in a line is an entry of the one history that is in the line. Entries of the history have the numbers from 0 on, so each number below its
 -- length has one entry, which stands in the list of its role; and two with one number are one. A line below 10 is a role's, so an entry stands in at
 -- most one of them. An event tells its role, so each line can be read off the entries alone.
-use Rattle.std.proofs.Common.{◌≡◌, ◌⊎◌, inl, inr, ⊎_elim, ℕ, zero, suc, ◌+◌, ◌<◌, ◌≤◌, Bool, true, false, ◌||◌, List, [], ◌∷◌, length, refl, sym, ap, ◌∙◌, subst, arith}
+use Rattle.std.proofs.Common.{◌≡◌, ◌⊎◌, inl, inr, ⊎_elim, ℕ, zero, suc, ◌+◌, ◌-◌, ◌<◌, ◌≤◌, Bool, true, false, ◌||◌, List, [], ◌∷◌, length, refl, sym, ap, ◌∙◌, subst, arith, true≢false}
 use Rattle.std.specs.Prelude.{if◌then◌else◌, ◌==◌}
 use Rattle.std.proofs.lemmas.Bool.{cases_Bool, cases_eq}
 use Rattle.joint_model.specs.declared.names.Thread.{Thread}
 use Rattle.joint_model.specs.declared.names.Thread.TheVariants.{M, P, C}
 use Rattle.joint_model.specs.declared.events.Made.{Made}
+use Rattle.joint_model.specs.declared.events.Op.{Op}
+use Rattle.joint_model.specs.declared.events.Op.TheVariants as op
+use Rattle.joint_model.specs.Readers.{is_read}
 use Rattle.joint_model.specs.Control.{caller_place}
 use Rattle.joint_model.specs.Draws.{NumberedFrom}
 use Rattle.joint_model.specs.Lines.{IsThread, is_peer_event}
 use Rattle.order_table.specs.declared.views.Role.TheVariants as role
 use Rattle.order_table.specs.declared.views.KeptEntry.{KeptEntry}
-use Rattle.order_table.specs.Views.{IsInRole}
 use Rattle.joint_model.specs.HistoryLines.{caller_line}
+use Rattle.order_table.specs.Views.{IsInRole}
 use Rattle.order_table.specs.Rule.{Item, IsItem, is_in, of_line, RunsFrom}
-use Rattle.order_table.specs.Facts.{In, RuleKeepsLists, RolesDiffer, CallersDiffer, entries_of, line_entries, EntriesTellLines}
-use Rattle.joint_model.specs.HistoryLines.{entries_in}
+use Rattle.order_table.specs.Facts.{In, RuleKeepsLists, RolesDiffer, CallersDiffer, entries_of, line_entries, EntriesTellLines, reader_line, list_line, entries_in}
 use Rattle.order_table.proofs.Lines.{role_in, caller_in, in_cases, bounded}
 
 -- an entry of the history
@@ -128,19 +130,19 @@ keeps_lists s r = record {
   };
   whole = λ j v at_j i o. ((r.each_seat j v at_j).owned i o).1;
   owner = λ j k v w at_j at_k i o p. sym ((r.each_seat j v at_j).owned i o).0 ∙ ((r.each_seat k w at_k).owned i p).0;
-  counted = λ n l. let is = r.sequencer in let f = found 0 n r.whole r.numbers (omega arith) in let p = placed 0 r.whole f.item r.numbers f.there in let one = p.is.stands.one in record {
+  counted = λ n l. let is = r.words.1 in let f = found 0 n r.whole r.numbers (omega arith) in let p = placed 0 r.whole f.item r.numbers f.there in let one = p.is.stands.one in record {
     role = f.item.role;
     one = omega arith;
     entry = f.item.kept;
     stands = goes f.item.role r.whole f.item f.there (role_in f.item.role f.item refl);
     number = f.number ∙ omega arith;
   };
-  below = λ q a l st. let c = comes q r.whole a st in let high = (placed 0 r.whole c.item r.numbers c.there).high in let is = r.sequencer in let same = ap (λ (k : KeptEntry). k.entry.number) c.same in omega arith;
+  below = λ q a l st. let c = comes q r.whole a st in let high = (placed 0 r.whole c.item r.numbers c.there).high in let is = r.words.1 in let same = ap (λ (k : KeptEntry). k.entry.number) c.same in omega arith;
   once = λ q p a b lq lp sa sb e. let c = comes q r.whole a sa in let d = comes p r.whole b sb in
       let same = one_number 0 r.whole c.item d.item r.numbers c.there d.there (ap (λ (k : KeptEntry). k.entry.number) c.same ∙ (e ∙ sym (ap (λ (k : KeptEntry). k.entry.number) d.same))) in
       (of_role q c.item lq c.into ∙ (ap (λ x. x.role) same ∙ sym (of_role p d.item lp d.into)), sym c.same ∙ (ap (λ x. x.kept) same ∙ d.same));
   limit = r.limit;
-  unwrapped = let long = bounded r.whole 0 r.numbers r.limit in let is = r.sequencer in omega arith;
+  unwrapped = let long = bounded r.whole 0 r.numbers r.limit in let is = r.words.1 in omega arith;
   own = λ t a is st. let c = comes (caller_line t) r.whole a st in let p = placed 0 r.whole c.item r.numbers c.there in let one = p.is.stands.one in (
     ap (λ (k : KeptEntry). k.entry.made.caller) (sym c.same) ∙ of_own t c.item is p.is c.into,
     (c.item.role, omega arith, subst (In (of_line c.item.role r.whole)) c.same (goes c.item.role r.whole c.item c.there (role_in c.item.role c.item refl))),
@@ -150,10 +152,18 @@ keeps_lists s r = record {
 }
 
 -- an event tells the role
-role_told : (q : ℕ) (m : Made) → IsInRole q m → q ≡ (if is_peer_event m.caller m.op then 1 else 0)
+read_of_managed : (n : ℕ) (o : Op) → is_read o ≡ true → is_peer_event (M n) o ≡ false
+read_of_managed n (op.Line a) e = refl
+read_of_managed n _ e = absurd (true≢false (sym e))
+
+role_told : (q : ℕ) (m : Made) → IsInRole q m → q ≡ list_line m.caller m.op
 role_told q m s = let one = s.one in ⊎_elim
-    (λ (e : q ≡ 0). e ∙ sym (ap (λ b. if b then 1 else 0) (s.managed e)))
-    (λ n. let e : q ≡ 1 = omega (arith, n) in e ∙ sym (ap (λ b. if b then 1 else 0) (s.peer e)))
+    (λ (e : q ≡ 0). e ∙ sym (ap (λ (b : Bool × Bool). if b.0 then 1 else if b.1 then reader_line m.caller else 0) (λ i. ((s.managed e).1 i, (s.managed e).0 i))))
+    (λ n. ⊎_elim
+    (λ (e : q ≡ 1). e ∙ sym (ap (λ b. if b then 1 else if is_read m.op then reader_line m.caller else 0) (s.peer e).1))
+    (λ n'. let t = s.reader (omega (arith, n, n')) in let here : q ≡ reader_line (M (q - 1)) = omega (arith, n) in
+    here ∙ sym (ap (λ (b : Bool × Bool × Thread). if b.0 then 1 else if b.1 then reader_line b.2 else 0) (λ i. ((ap (λ u. is_peer_event u m.op) t.1 ∙ read_of_managed (q - 1) m.op t.0) i, t.0 i, t.1 i))))
+    (cases_eq q 1))
     (cases_eq q 0)
 
 numbered_from : (n : ℕ) (xs : List Item) → RunsFrom n xs → NumberedFrom n (entries_of xs)

@@ -1,6 +1,9 @@
 pub mod Rows
+pub mod Stages
 pub mod Owed
 pub mod Views
+pub mod Allowed
 pub mod Rule
 pub mod Tells
 pub mod Facts
+pub mod Replies

@@ -1,13 +1,25 @@
--- What entries say of cells and pins. Their words come with weak reads that take no lock; until then a view only has the places for what a
--- seat then owes, and this says what an entry puts there. (Cells and pins are this project's own.)
-use Rattle.std.specs.Prelude.{ℕ, zero, suc, ◌+◌, ◌==◌, ◌||◌, if◌then◌else◌, Bool, false, List, [], ◌∷◌, Option, Some, None}
+-- What entries say of cells and pins, and what they leave to be stored in the words of these. (Cells and pins are this project's own.)
+use Rattle.std.specs.Prelude.{◌≡◌, ◌⊎◌, ℕ, zero, suc, ◌+◌, ◌==◌, ◌||◌, ◌&&◌, if◌then◌else◌, Bool, true, false, List, [], ◌∷◌, Option, Some, None}
 use Rattle.joint_model.specs.declared.names.MNum.{MNum}
+use Rattle.joint_model.specs.declared.names.Thread.{Thread}
+use Rattle.joint_model.specs.declared.names.Thread.TheVariants.{M}
 use Rattle.joint_model.specs.declared.lines.Act.TheVariants as act
 use Rattle.joint_model.specs.declared.events.Op.{Op}
 use Rattle.joint_model.specs.declared.events.Op.TheVariants as op
 use Rattle.joint_model.specs.declared.events.Reply.{Reply}
 use Rattle.joint_model.specs.declared.events.Reply.TheVariants as says
 use Rattle.order_table.specs.declared.views.KeptEntry.{KeptEntry}
+use Rattle.order_table.specs.Rows.{at}
+
+-- a `weak` of a managed thread alone has a target, and a snapshot and a resolution alone free objects: what was told of any other entry isn't kept
+abbrev pub target_told : Thread → Op → Option MNum → Option MNum
+target_told (M n) (op.Line (act.Weak c v)) aim = aim
+target_told _ _ aim = None
+
+abbrev pub freed_told : Op → List MNum → List MNum
+freed_told (op.Snap k) freed = freed
+freed_told (op.Resolve k) freed = freed
+freed_told _ freed = []
 
 -- the cell that an event sets, and the object
 abbrev pub mark : Op → Option MNum → Option (ℕ × ℕ)
@@ -34,6 +46,31 @@ abbrev pub has : List MNum → ℕ → Bool
 has [] m = false
 has (x ∷ xs) m = (x.0 == m) || has xs m
 
+-- the object is freed by an entry of a list
+abbrev pub is_freed : List KeptEntry → ℕ → Bool
+is_freed [] m = false
+is_freed (k ∷ ks) m = has k.freed m || is_freed ks m
+
+-- the word that a managed list says of a cell: 0 for unset, 1 for gone, and else the object's number and 1
+abbrev pub word_by : Option ℕ → (ℕ → Bool) → ℕ
+word_by None freed = 0
+word_by (Some m) freed = if freed m then 1 else m + 1
+
+abbrev pub says_word : List KeptEntry → ℕ → ℕ
+says_word ks c = word_by (target ks c) (is_freed ks)
+
+-- the cell that an event reads, and the word by which a reply is given
+abbrev pub read_of : Op → Option ℕ
+read_of (op.Line (act.Read c)) = Some c.0
+read_of (op.Line (act.Await c)) = Some c.0
+read_of _ = None
+
+abbrev pub word_of : Reply → Option ℕ
+word_of says.Unset = Some 0
+word_of says.Gone = Some 1
+word_of (says.M m) = Some (m.0 + 1)
+word_of _ = None
+
 -- the cells whose words are owed after an entry: the one that it sets, and those whose target it frees
 abbrev pub sets_cell : Option (ℕ × ℕ) → ℕ → Bool
 sets_cell None c = false
@@ -57,11 +94,11 @@ pub data PinDeed : Type 0 where
   empties : PinDeed
   stays : PinDeed
 
-abbrev pub pin_deed : Op → Reply → PinDeed
-pin_deed (op.Line (act.Read c)) (says.M m) = fills (m.0 + 1)
-pin_deed (op.Line (act.Await c)) (says.M m) = fills (m.0 + 1)
-pin_deed (op.Line (act.Take v)) r = empties
-pin_deed _ _ = stays
+abbrev pub pin_deed : Thread → Op → Reply → PinDeed
+pin_deed (M n) (op.Line (act.Read c)) (says.M m) = fills (m.0 + 1)
+pin_deed (M n) (op.Line (act.Await c)) (says.M m) = fills (m.0 + 1)
+pin_deed (M n) (op.Line (act.Take v)) r = empties
+pin_deed _ _ _ = stays
 
 abbrev pub pin_after : ℕ → PinDeed → ℕ
 pin_after p (fills w) = w
@@ -69,7 +106,7 @@ pin_after p empties = 0
 pin_after p stays = p
 
 abbrev pub deed_of_pin : KeptEntry → PinDeed
-deed_of_pin k = pin_deed k.entry.made.op k.entry.made.reply
+deed_of_pin k = pin_deed k.entry.made.caller k.entry.made.op k.entry.made.reply
 
 -- the word of a caller's pin after all of its own entries: 0 where it is empty, and else the object's number and 1
 abbrev pub pin_from : ℕ → List KeptEntry → ℕ
@@ -102,3 +139,17 @@ word_or_zero (Some w) = w
 abbrev pub words_of : List (Option ℕ) → List ℕ
 words_of [] = []
 words_of (w ∷ ws) = word_or_zero w ∷ words_of ws
+
+-- whether the last n places have a word that was loaded
+abbrev pub is_some : Option ℕ → Bool
+is_some None = false
+is_some (Some w) = true
+
+abbrev pub all_scanned : ℕ → List (Option ℕ) → Bool
+all_scanned zero ws = true
+all_scanned (suc n) ws = is_some (at None ws (suc n)) && all_scanned n ws
+
+-- the word was loaded from the cell
+abbrev pub IsLoaded : List (ℕ × ℕ) → ℕ → ℕ → Type 0
+IsLoaded [] c w = ⊥
+IsLoaded (l ∷ ls) c w = ((l.0 ≡ c) × (l.1 ≡ w)) ⊎ IsLoaded ls c w

@@ -1,7 +1,8 @@
 -- What a seat knows. A line is the list of one role's entries or of one caller's: the lines 0 to 9 are those of the roles, and
 -- the lines from 10 on those of the callers. A seat that owns a role's line owns the role; one that owns a caller's line holds
 -- that caller's pass.
-use Rattle.std.specs.Prelude.{◌≡◌, ℕ, ◌+◌, ◌<◌, ◌≤◌, ◌==◌, if◌then◌else◌, Bool, true, false, List, [], ◌∷◌, ◌++◌, replicate, Option}
+use Rattle.std.specs.Prelude.{◌≡◌, ℕ, zero, suc, ◌+◌, ◌-◌, ◌*◌, ◌/◌, ◌^◌, ◌<◌, ◌≤◌, ◌==◌, ◌&&◌, not, nat_lt, if◌then◌else◌, Bool, true, false, List, [], ◌∷◌, ◌++◌, replicate, Option, Some, None}
+use Rattle.std.specs.Int.{bit_at}
 use Rattle.atomic_table.specs.Seated.{TableId}
 use Rattle.joint_model.specs.declared.names.MNum.{MNum}
 use Rattle.joint_model.specs.declared.names.Thread.{Thread}
@@ -10,16 +11,20 @@ use Rattle.joint_model.specs.declared.lines.Act.TheVariants as act
 use Rattle.joint_model.specs.declared.events.Op.{Op}
 use Rattle.joint_model.specs.declared.events.Op.TheVariants as op
 use Rattle.joint_model.specs.declared.events.Made.{Made}
+use Rattle.joint_model.specs.declared.events.Reply.{Reply}
+use Rattle.joint_model.specs.declared.events.Reply.TheVariants as says
 use Rattle.joint_model.specs.Control.{caller_place}
-use Rattle.joint_model.specs.HistoryLines.{caller_line}
 use Rattle.joint_model.specs.Draws.{numbered}
 use Rattle.joint_model.specs.Lines.{is_peer_event}
+use Rattle.joint_model.specs.Readers.{is_read}
 use Rattle.order_table.specs.declared.views.Role.{Role}
 use Rattle.order_table.specs.declared.views.Role.TheVariants as role
 use Rattle.order_table.specs.declared.views.KeptEntry.{KeptEntry}
 use Rattle.order_table.specs.declared.views.View.{View}
+use Rattle.joint_model.specs.HistoryLines.{caller_line}
 use Rattle.order_table.specs.Rows.{at, put, longest, joined, common, without}
-use Rattle.order_table.specs.Owed.{PinDeed, pin_deed, pin, owing, fill_after, empty_after, owes_after, by_place, words_of}
+use Rattle.order_table.specs.Stages.{stage}
+use Rattle.order_table.specs.Owed.{PinDeed, pin_deed, pin, owing, fill_after, empty_after, owes_after, by_place, words_of, target_told, freed_told}
 
 -- which order it is: the name of the table that its word lies in
 abbrev pub OrderId : Type 0
@@ -46,11 +51,21 @@ IsRole role.Managed = Unit {0}
 IsRole role.Peer = Unit {0}
 IsRole (role.Reader i) = (1 ≤ i) × (i ≤ 8)
 
--- in whose list an event stands: in the peer's if it is one of the peer side, and else in the managed one. No reader has entries yet
+-- a reader's reply; no object has the number 0
+abbrev pub IsAnswer : Reply → Type 0
+IsAnswer (says.Pending k) = Unit {0}
+IsAnswer (says.Pinned m) = Unit {0}
+IsAnswer says.Unset = Unit {0}
+IsAnswer says.Gone = Unit {0}
+IsAnswer (says.M m) = 0 < m.0
+IsAnswer _ = ⊥
+
+-- in whose list an event stands: a read in that of its thread's reader, an event of the peer side in the peer's, and all else in the managed one
 pub record IsInRole (r : ℕ) (m : Made) : Type 0 where
-  pub one : r < 2
-  pub managed : r ≡ 0 → is_peer_event m.caller m.op ≡ false
-  pub peer : r ≡ 1 → is_peer_event m.caller m.op ≡ true
+  pub one : r < 10
+  pub managed : r ≡ 0 → (is_read m.op ≡ false) × (is_peer_event m.caller m.op ≡ false)
+  pub peer : r ≡ 1 → (is_read m.op ≡ false) × (is_peer_event m.caller m.op ≡ true)
+  pub reader : 2 ≤ r → (is_read m.op ≡ true) × (m.caller ≡ M (r - 1)) × IsAnswer m.reply
 
 -- the entries of a line that a view knows
 abbrev pub known : View → ℕ → List KeptEntry
@@ -78,11 +93,11 @@ pins_kept v t _ = []
 
 -- what is kept of an entry that a seat with this view draws
 abbrev pub kept : View → Made → Option MNum → List MNum → ℕ → KeptEntry
-kept v m target freed n = record { entry = numbered n m; target = target; freed = freed; pins = pins_kept v m.caller m.op }
+kept v m target freed n = record { entry = numbered n m; target = target_told m.caller m.op target; freed = freed_told m.op freed; pins = pins_kept v m.caller m.op }
 
 -- what an entry leaves to be stored at its caller's pin
 abbrev pub pin_owed : View → Made → PinDeed
-pin_owed v m = owing (pin (known v (caller_line m.caller))) (pin_deed m.op m.reply)
+pin_owed v m = owing (pin (known v (caller_line m.caller))) (pin_deed m.caller m.op m.reply)
 
 -- the view of the first seat: it owns all lines, and they are empty
 abbrev pub first_view : View
@@ -142,3 +157,60 @@ lines_of_caller t = put false [] (caller_line t) true
 
 abbrev pub lines_of_none : List Bool
 lines_of_none = []
+
+-- the managed list that a view knows shows the cycle as open, as the next one with none open, or as ended
+abbrev pub IsOpen : View → ℕ → Type 0
+IsOpen v k = stage (known v 0) ≡ 2 * k
+
+abbrev pub IsNext : View → ℕ → Type 0
+IsNext v k = stage (known v 0) + 1 ≡ 2 * k
+
+abbrev pub IsEnded : View → ℕ → Type 0
+IsEnded v k = 2 * k + 1 ≤ stage (known v 0)
+
+-- no store is owed, as a test
+abbrev pub none_owed_in : List Bool → Bool
+none_owed_in [] = true
+none_owed_in (b ∷ bs) = not b && none_owed_in bs
+
+abbrev pub owes_none : View → Bool
+owes_none v = none_owed_in v.debts && ((v.fill == 0) && (v.empty == 0))
+
+-- a view after the step that enters, by the word found: it is inside, or owes its bit and found the gate held
+abbrev pub entered : ℕ → ℕ → View → View
+entered bit n v = if n / 512 == 0 then record v { inside = bit; loads = [] } else record v { owes = bit; found = n / 512 }
+
+-- a view after it loaded a cell: inside, and owing nothing, it keeps the word
+abbrev pub loading : ℕ → ℕ → View → View
+loading c n v = if nat_lt 0 v.inside && owes_none v then record v { loads = (c, n) ∷ v.loads } else v
+
+-- a view after it stored a cell's word
+abbrev pub storing : ℕ → View → View
+storing c v = record v { debts = put false v.debts c false }
+
+-- a view after it loaded the pin of a reader: one that holds the gate, and owes nothing, keeps the word
+abbrev pub scanning : ℕ → ℕ → View → View
+scanning r n v = if nat_lt 0 v.holds && owes_none v then record v { scanned = put None v.scanned r (Some n) } else v
+
+-- a view after it stored the word of a pin
+abbrev pub storing_pin : ℕ → View → View
+storing_pin r v = record v { fill = if v.fill == r then 0 else v.fill; empty = if v.empty == r then 0 else v.empty }
+
+-- bit r of a mask is 1 just where the role of reader r is owned
+abbrev pub is_readers : List Bool → ℕ → Bool
+is_readers owns r = (nat_lt 0 r && nat_lt r 9) && at false owns (1 + r)
+
+abbrev pub IsMask : ℕ → List Bool → Type 0
+IsMask word owns = (r : ℕ) → bit_at word r ≡ (if is_readers owns r then 1 else 0)
+
+-- the lowest reader whose role is owned, 0 where none is
+abbrev pub lowest_from : ℕ → ℕ → List Bool → ℕ
+lowest_from zero r owns = 0
+lowest_from (suc n) r owns = if at false owns (1 + r) then r else lowest_from n (suc r) owns
+
+abbrev pub lowest_reader : List Bool → ℕ
+lowest_reader owns = lowest_from 8 1 owns
+
+-- a seat is inside with the bit of its lowest reader
+abbrev pub IsInsideLowest : View → Type 0
+IsInsideLowest v = 0 < v.inside → (0 < lowest_reader v.owns) × (v.inside ≡ 2 ^ lowest_reader v.owns)

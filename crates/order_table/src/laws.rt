@@ -1,6 +1,10 @@
 // What follows from the order's rule.
 
+ghost use Rattle.std.specs.Prelude.{List};
+ghost use Rattle.order_table.specs.declared.views.KeptEntry.{KeptEntry};
+ghost use Rattle.order_table.specs.Rule.{AreLinesOfOneHistory};
 ghost use Rattle.order_table.specs.Facts.{RuleKeepsLists, RolesDiffer, CallersDiffer, EntriesTellLines};
+ghost use Rattle.order_table.specs.Replies.{RepliesAreRight, PinsAreReplayed};
 
 /// Between any two steps, whatever seats were dropped: each line has a whole list, of which each seat knows a beginning and its one owner all;
 /// the numbers in the roles' lists are those below the sequencer word, each once; and a caller's list has just that caller's entries.
@@ -17,4 +21,14 @@ pub fn lines_differ()
 /// The entries of the one history, by their events and callers alone, tell in which lines they stand.
 pub fn entries_tell_lines()
     ensures law { EntriesTellLines }
+{}
+
+/// The replies of the readers in a finished order are those that linked histories allow.
+pub fn replies_are_right()
+    ensures law { (lines : List (List KeptEntry)) (w : AreLinesOfOneHistory lines) → RepliesAreRight w.whole }
+{}
+
+/// The replay of a finished order's entries has, before each entry, the pins that the lines leave.
+pub fn pins_are_replayed()
+    ensures law { (lines : List (List KeptEntry)) (w : AreLinesOfOneHistory lines) → PinsAreReplayed w.whole }
 {}

@@ -48,7 +48,9 @@ mod tests;
 mod views;
 
 pub use finished::Linked;
-pub use laws::{entries_tell_lines, lines_differ, rule_keeps_lists};
-pub use orders::Order;
+pub use laws::{
+    entries_tell_lines, lines_differ, pins_are_replayed, replies_are_right, rule_keeps_lists,
+};
+pub use orders::{Order, Pending, Readers};
 pub use seats::{OrderName, Seat};
 pub use views::{KeptEntry, Role, View};

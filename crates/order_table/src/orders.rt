@@ -1,18 +1,29 @@
 // The order and its calls.
 
-ghost use Rattle.std.specs.Prelude.{◌≡◌, ◌<◌, ◌≤◌, ℕ, length, IfOk};
+ghost use Rattle.std.specs.Prelude.{◌≡◌, ◌⊎◌, ◌<◌, ◌≤◌, ◌+◌, ◌^◌, ◌==◌, if◌then◌else◌, ℕ, Bool, true, false, [], Some, None, length, IfOk, OnOk, IfErr, MatchResult, count_ones};
+ghost use Rattle.std.specs.Int.{trailing_zeros, w16};
+ghost use Rattle.joint_model.specs.declared.names.Thread.{Thread};
 ghost use Rattle.joint_model.specs.Lines.{IsThread};
-ghost use Rattle.order_table.specs.Rule.{IsBelow, AreLinesOfOneHistory};
-ghost use Rattle.order_table.specs.Tells.{GrowsByEntry, Parts, IsOfRole, IsOfCaller, IsOfNone, TakesIn, BeginsOneHistory};
-ghost use Rattle.order_table.specs.Views.{IsRole, IsInRole, role_line, kept, known, Owns, OwnsAll, first_view, appended, giving, given, hearing, learned, lines_of_role, lines_of_caller, lines_of_none};
+ghost use Rattle.order_table.specs.declared.views.View.{View};
+ghost use Rattle.order_table.specs.declared.views.KeptEntry.{KeptEntry};
 ghost use Rattle.joint_model.specs.HistoryLines.{caller_line};
+ghost use Rattle.order_table.specs.Rows.{at};
+ghost use Rattle.order_table.specs.Stages.{IsClosed};
+ghost use Rattle.order_table.specs.Owed.{marked, owes_after, pin, says_word};
+ghost use Rattle.order_table.specs.Views.{IsRole, IsInRole, IsMask, IsNext, IsOpen, IsEnded, lowest_reader, role_line, kept, known, Owns, OwnsAll, first_view, appended, giving, given, hearing, learned, lines_of_role, lines_of_caller, lines_of_none, loading, scanning, storing, storing_pin};
+ghost use Rattle.order_table.specs.Allowed.{IsQuiet, MayMake, NoDebt, OwesOnly, Settled};
+ghost use Rattle.order_table.specs.Rule.{IsBelow, IsHeld, CellIs, Stands, SetsCell, AreLinesOfOneHistory};
+ghost use Rattle.order_table.specs.Tells.{GrowsByEntry, Parts, IsOfRole, IsOfCaller, IsOfNone, TakesIn, BeginsOneHistory};
 
 use crate::finished::Linked;
-use crate::plays::{Append, Compare, Cut, Glue, Lines, NoLine, Saying, Sequence};
+use crate::plays::{
+    Append, Close, Closing, Compare, Cut, Enter, GiveBack, Glue, Leave, Lines, LoadCell, LoadPin,
+    NoLine, Open, Saying, Sequence, StoreCell, StorePin,
+};
 use crate::seats::Seat;
 use crate::views::{Role, View};
 use atomic_table::Table;
-use joint_model::{MNum, Made, Thread};
+use joint_model::{Cell, Cycle, MNum, Made, Thread};
 use std::alloc::{AllocError, Global};
 use std::marker::{Brand, Model};
 
@@ -30,7 +41,51 @@ impl Model for Order {
 
     ghost view = { λ o. o.table.shared.table_id };
 
-    ghost invariant = { λ o. (o.table.shared.table_id.words ≡ 1) × (o.table.shared.table_id.slots ≡ 0) };
+    ghost invariant = { λ o. (o.table.shared.table_id.words ≡ 74) × (o.table.shared.table_id.slots ≡ 0) };
+}
+
+/// The gate was found held, for this cycle.
+#[derive(Clone, Copy, PartialEq, Eq, Debug)]
+pub struct Pending {
+    pub cycle: Cycle,
+}
+
+/// So many readers' bits were found in the gate word.
+#[derive(Clone, Copy, PartialEq, Eq, Debug)]
+pub struct Readers {
+    pub count: u32,
+}
+
+// The bit of the lowest reader in a mask that has one.
+fn lowest_bit(readers: u16) -> u64
+    requires some { 0 < readers }
+    ensures { result ≡ 2 ^ trailing_zeros w16 readers }
+{
+    1u64 << readers.trailing_zeros()
+}
+
+// The readers' roles that are among a role's lines.
+fn readers_of_role(role: Role) -> u16
+    requires { IsRole role }
+    ensures { IsMask result (lines_of_role role) }
+{
+    match role {
+        Role::Managed => 0,
+        Role::Peer => 0,
+        Role::Reader(reader) => 1 << reader,
+    }
+}
+
+// The readers' roles that are among a caller's lines.
+fn readers_of_caller(t: Thread) -> u16
+    requires { IsThread t }
+    ensures { IsMask result (lines_of_caller t) }
+{
+    match t {
+        Thread::M(reader) => 1 << reader,
+        Thread::P(_) => 0,
+        Thread::C => 0,
+    }
 }
 
 impl Order {
@@ -42,8 +97,14 @@ impl Order {
         ensures all { IfOk result (λ r. OwnsAll r.1.view) }
     {
         let _ = readers;
-        let (table, inner) = Table::of_words(alloc, &[0], &())?;
-        Ok((Order { table }, Seat { inner }))
+        let (table, inner) = Table::of_words(alloc, &[0; 74], &())?;
+        Ok((
+            Order { table },
+            Seat {
+                inner,
+                readers: 510,
+            },
+        ))
     }
 
     // The entry is what `W` says, which the caller picks.
@@ -58,12 +119,17 @@ impl Order {
         requires seat { seat.old.order ≡ self.now }
         requires caller { IsThread W.made.caller }
         requires stands { IsInRole W.role W.made }
+        requires may { MayMake seat.old.view W.role W.made W.target }
         requires role { Owns seat.old.view W.role × Owns seat.old.view (caller_line W.made.caller) }
         requires room { length (known seat.old.view W.role) < 4294967295 }
         ensures seat { (seat.new.order ≡ seat.old.order) × (seat.new.view ≡ appended seat.old.view W.role (kept seat.old.view W.made W.target W.freed result)) }
         ensures grows { GrowsByEntry seat.old.view seat.new.view W.role (kept seat.old.view W.made W.target W.freed result) }
         ensures number { (i : ℕ) → IsBelow result (known seat.old.view i) }
         ensures one_history { BeginsOneHistory seat.new.view }
+        ensures settled { ((W.role ≡ 1) ⊎ IsQuiet (kept seat.old.view W.made W.target W.freed result)) → Settled seat.old.view → Settled seat.new.view }
+        ensures paid { marked (kept seat.old.view W.made W.target W.freed result) ≡ None → (kept seat.old.view W.made W.target W.freed result).freed ≡ [] → NoDebt seat.old.view → NoDebt seat.new.view }
+        ensures owes_one { (c m : ℕ) → W.role ≡ 0 → marked (kept seat.old.view W.made W.target W.freed result) ≡ Some (c, m) → OwesOnly seat.new.view c }
+        ensures owes { W.role ≡ 0 → (c : ℕ) → at false seat.new.view.debts c ≡ true → (c < 64) × (owes_after (known seat.old.view 0) (kept seat.old.view W.made W.target W.freed result) c ≡ true) }
     {
         self.table
             .shared
@@ -73,8 +139,10 @@ impl Order {
     /// Makes an entry in the list of the role, and answers its number. No other entry has that number, and it is greater than every number
     /// that the seat knew.
     ///
-    /// The entry's caller is `c`, one of `m1` to `m8` or one of `p1` to `p8`, and its event belongs in the role's list. Readers have
-    /// no entries of their own yet. `target` and `freed` are kept beside the entry, for contracts alone.
+    /// The entry's caller is `c`, one of `m1` to `m8` or one of `p1` to `p8`, and its event belongs in the role's list. `target` and `freed` are
+    /// kept beside the entry, for contracts alone. An entry of the managed list is made by a seat that owes no store: a snapshot while it holds the
+    /// gate for that cycle and has scanned all pins, and any other while it doesn't hold the gate or holds it for the open cycle. A reader's reply is one
+    /// that the seat's own steps since its last entry allow.
     pub fn append(
         &self,
         seat: &mut Seat,
@@ -86,102 +154,289 @@ impl Order {
         requires seat { seat.old.order ≡ self.now }
         requires caller { IsThread made.now.caller }
         requires stands { IsInRole (role_line role) made.now }
+        requires may { MayMake seat.old.view (role_line role) made.now target }
         requires role { Owns seat.old.view (role_line role) × Owns seat.old.view (caller_line made.now.caller) }
         requires room { length (known seat.old.view (role_line role)) < 4294967295 }
         ensures seat { (seat.new.order ≡ seat.old.order) × (seat.new.view ≡ appended seat.old.view (role_line role) (kept seat.old.view made.now target freed.now result)) }
         ensures grows { GrowsByEntry seat.old.view seat.new.view (role_line role) (kept seat.old.view made.now target freed.now result) }
         ensures number { (i : ℕ) → IsBelow result (known seat.old.view i) }
         ensures one_history { BeginsOneHistory seat.new.view }
+        ensures settled { ((role_line role ≡ 1) ⊎ IsQuiet (kept seat.old.view made.now target freed.now result)) → Settled seat.old.view → Settled seat.new.view }
+        ensures paid { marked (kept seat.old.view made.now target freed.now result) ≡ None → (kept seat.old.view made.now target freed.now result).freed ≡ [] → NoDebt seat.old.view → NoDebt seat.new.view }
+        ensures owes_one { (c m : ℕ) → role_line role ≡ 0 → marked (kept seat.old.view made.now target freed.now result) ≡ Some (c, m) → OwesOnly seat.new.view c }
+        ensures owes { role_line role ≡ 0 → (c : ℕ) → at false seat.new.view.debts c ≡ true → (c < 64) × (owes_after (known seat.old.view 0) (kept seat.old.view made.now target freed.now result) c ≡ true) }
     {
         self.append_as::<Brand>(seat, role, made, target, freed)
     }
 
     // The lines that `W` says are handed over.
-    fn cut<W: Lines>(&self, seat: &mut Seat) -> Seat
+    fn cut<W: Lines>(&self, seat: &mut Seat, readers: u16) -> Seat
+        requires readers { IsMask readers W.lines }
+        requires settled { Settled seat.old.view }
         requires seat { seat.old.order ≡ self.now }
         ensures old { (seat.new.order ≡ seat.old.order) × (seat.new.view ≡ giving W.lines seat.old.view) }
         ensures new { (result.order ≡ seat.old.order) × (result.view ≡ given W.lines seat.old.view) }
+        ensures settled { Settled seat.new.view × Settled result.view }
     {
+        let new = self.table.shared.split_seat::<Cut<W>>(&mut seat.inner);
+        let taken = seat.readers & readers;
+        seat.readers &= !readers;
         Seat {
-            inner: self.table.shared.split_seat::<Cut<W>>(&mut seat.inner),
+            inner: new,
+            readers: taken,
         }
     }
 
-    fn cut_role<W: Lines>(&self, seat: &mut Seat, _role: Role) -> Seat
+    fn cut_role<W: Lines>(&self, seat: &mut Seat, _role: Role, readers: u16) -> Seat
+        requires readers { IsMask readers W.lines }
+        requires settled { Settled seat.old.view }
         requires seat { seat.old.order ≡ self.now }
         ensures old { (seat.new.order ≡ seat.old.order) × (seat.new.view ≡ giving W.lines seat.old.view) }
         ensures new { (result.order ≡ seat.old.order) × (result.view ≡ given W.lines seat.old.view) }
+        ensures settled { Settled seat.new.view × Settled result.view }
     {
-        self.cut::<W>(seat)
+        self.cut::<W>(seat, readers)
     }
 
-    fn cut_caller<W: Lines>(&self, seat: &mut Seat, _t: Thread) -> Seat
+    fn cut_caller<W: Lines>(&self, seat: &mut Seat, _t: Thread, readers: u16) -> Seat
+        requires readers { IsMask readers W.lines }
+        requires settled { Settled seat.old.view }
         requires seat { seat.old.order ≡ self.now }
         ensures old { (seat.new.order ≡ seat.old.order) × (seat.new.view ≡ giving W.lines seat.old.view) }
         ensures new { (result.order ≡ seat.old.order) × (result.view ≡ given W.lines seat.old.view) }
+        ensures settled { Settled seat.new.view × Settled result.view }
     {
-        self.cut::<W>(seat)
+        self.cut::<W>(seat, readers)
     }
 
     /// A new seat that owns the role, which this one gives away. Both know what this one knew.
     pub fn share(&self, seat: &mut Seat, role: Role) -> Seat
         requires seat { seat.old.order ≡ self.now }
+        requires settled { Settled seat.old.view }
         requires role { IsRole role × Owns seat.old.view (role_line role) }
         ensures old { (seat.new.order ≡ seat.old.order) × (seat.new.view ≡ giving (lines_of_role role) seat.old.view) }
         ensures new { (result.order ≡ seat.old.order) × (result.view ≡ given (lines_of_role role) seat.old.view) }
         ensures parts { Parts (IsOfRole role) seat.old.view seat.new.view result.view }
+        ensures settled { Settled seat.new.view × Settled result.view }
     {
-        self.cut_role::<Brand>(seat, role)
+        self.cut_role::<Brand>(seat, role, readers_of_role(role))
     }
 
     /// A new seat that holds the caller's pass, which this one gives away; for a managed thread also with the role of that reader, if this
     /// one owned it. Both know what this one knew.
     pub fn hand(&self, seat: &mut Seat, t: Thread) -> Seat
         requires seat { seat.old.order ≡ self.now }
+        requires settled { Settled seat.old.view }
         requires pass { IsThread t × Owns seat.old.view (caller_line t) }
         ensures old { (seat.new.order ≡ seat.old.order) × (seat.new.view ≡ giving (lines_of_caller t) seat.old.view) }
         ensures new { (result.order ≡ seat.old.order) × (result.view ≡ given (lines_of_caller t) seat.old.view) }
         ensures parts { Parts (IsOfCaller t) seat.old.view seat.new.view result.view }
+        ensures settled { Settled seat.new.view × Settled result.view }
     {
-        self.cut_caller::<Brand>(seat, t)
+        self.cut_caller::<Brand>(seat, t, readers_of_caller(t))
     }
 
     /// A new seat without roles and passes, which knows what this one knows.
     pub fn note(&self, seat: &mut Seat) -> Seat
         requires seat { seat.old.order ≡ self.now }
+        requires settled { Settled seat.old.view }
         ensures old { (seat.new.order ≡ seat.old.order) × (seat.new.view ≡ giving lines_of_none seat.old.view) }
         ensures new { (result.order ≡ seat.old.order) × (result.view ≡ given lines_of_none seat.old.view) }
         ensures parts { Parts IsOfNone seat.old.view seat.new.view result.view }
+        ensures settled { Settled seat.new.view × Settled result.view }
     {
-        self.cut::<NoLine>(seat)
+        self.cut::<NoLine>(seat, 0)
     }
 
     /// Takes another seat in. Afterwards this one owns the roles and holds the passes of both, and knows of each line the longer list, which
     /// the other begins; of a line that one of the two owned it knows what that one knew; and all that it knows is of one history.
     pub fn learn(&self, seat: &mut Seat, other: Seat)
         requires seat { seat.old.order ≡ self.now }
-        requires other { other.order ≡ self.now }
+        requires settled { Settled seat.old.view }
+        requires other { (other.order ≡ self.now) × Settled other.view }
         ensures seat { (seat.new.order ≡ seat.old.order) × (seat.new.view ≡ learned (hearing seat.old.view other.view)) }
         ensures takes { TakesIn seat.old.view other.view seat.new.view }
         ensures one_history { BeginsOneHistory seat.new.view }
+        ensures settled { Settled seat.new.view }
     {
         let shared = &self.table.shared;
-        let Seat { inner } = other;
+        let Seat { inner, readers } = other;
         shared.join_seat::<Glue>(&mut seat.inner, inner);
         shared.load::<Compare>(&mut seat.inner, 0);
+        seat.readers |= readers;
+    }
+
+    /// A reader goes inside, or finds the gate held, with the cycle for which it is; a seat with several readers' roles goes in as the lowest.
+    ///
+    /// Answers `Pending` only where its own step found the gate held, and never where the seat knows that cycle as ended. To a seat that owns
+    /// the managed list it comes exactly while that list has an open cycle.
+    pub fn enter(&self, seat: &mut Seat) -> Result<(), Pending>
+        requires seat { seat.old.order ≡ self.now }
+        requires settled { Settled seat.old.view }
+        requires reader { 0 < lowest_reader seat.old.view.owns }
+        ensures seat { seat.new.order ≡ seat.old.order }
+        ensures ok { OnOk result (seat.new.view ≡ record seat.old.view { inside = 2 ^ lowest_reader seat.old.view.owns; loads = [] }) }
+        ensures err { IfErr result (λ p. (seat.new.view ≡ record seat.old.view { found = p.cycle.0 }) × ¬ IsEnded seat.old.view p.cycle.0) }
+        ensures owner { Owns seat.old.view 0 → MatchResult result (λ _. (seat.old.view.holds ≡ 0) × IsClosed (known seat.old.view 0)) (λ p. (p.cycle.0 ≡ seat.old.view.holds) × IsOpen seat.old.view p.cycle.0) }
+    {
+        let bit = lowest_bit(seat.readers);
+        let found = self.table.shared.fetch_or::<Enter>(&mut seat.inner, 1, bit);
+        if found / 512 == 0 {
+            return Ok(());
+        }
+        self.table
+            .shared
+            .fetch_and::<GiveBack>(&mut seat.inner, 1, u64::MAX - bit);
+        Err(Pending {
+            cycle: Cycle((found / 512) as u32),
+        })
+    }
+
+    /// The reader goes outside. It owes no store to its pin.
+    pub fn leave(&self, seat: &mut Seat)
+        requires seat { seat.old.order ≡ self.now }
+        requires inside { 0 < seat.old.view.inside }
+        requires filled { seat.old.view.fill ≡ 0 }
+        ensures seat { (seat.new.order ≡ seat.old.order) × (seat.new.view ≡ record seat.old.view { inside = 0 }) }
+    {
+        let bit = lowest_bit(seat.readers);
+        self.table
+            .shared
+            .fetch_and::<Leave>(&mut seat.inner, 1, u64::MAX - bit);
+    }
+
+    fn close_as<W: Closing>(&self, seat: &mut Seat, cycle: Cycle) -> u64
+        requires seat { seat.old.order ≡ self.now }
+        requires owner { Owns seat.old.view 0 × (seat.old.view.holds ≡ 0) }
+        requires next { (W.cycle ≡ cycle.0) × IsNext seat.old.view cycle.0 }
+        ensures seat { seat.new.order ≡ seat.old.order }
+        ensures view { seat.new.view ≡ (if result == 0 then record seat.old.view { holds = cycle.0; scanned = [] } else seat.old.view) }
+        ensures readers { result < 512 }
+    {
+        self.table
+            .shared
+            .compare_exchange::<Close<W>>(&mut seat.inner, 1, 0, 512 * cycle.0 as u64)
+    }
+
+    /// Closes the gate for the next cycle, if no reader's bit is in the word. Answers `Readers` exactly where this call's own step found some.
+    pub fn try_close_gate(&self, seat: &mut Seat, cycle: Cycle) -> Result<(), Readers>
+        requires seat { seat.old.order ≡ self.now }
+        requires owner { Owns seat.old.view 0 × (seat.old.view.holds ≡ 0) }
+        requires next { IsNext seat.old.view cycle.0 }
+        ensures seat { seat.new.order ≡ seat.old.order }
+        ensures ok { OnOk result (seat.new.view ≡ record seat.old.view { holds = cycle.0; scanned = [] }) }
+        ensures err { IfErr result (λ r. (seat.new.view ≡ seat.old.view) × ((word : ℕ) × (0 < word) × (word < 512) × (r.count ≡ count_ones word))) }
+    {
+        let word = self.close_as::<Brand>(seat, cycle);
+        if word == 0 {
+            Ok(())
+        } else {
+            Err(Readers {
+                count: word.count_ones(),
+            })
+        }
+    }
+
+    /// Opens the gate again. The cycle that it is held for has ended, and the words of all cells are stored.
+    pub fn open_gate(&self, seat: &mut Seat)
+        requires seat { seat.old.order ≡ self.now }
+        requires owner { Owns seat.old.view 0 × (0 < seat.old.view.holds) }
+        requires ended { IsEnded seat.old.view seat.old.view.holds }
+        requires paid { NoDebt seat.old.view }
+        ensures seat { (seat.new.order ≡ seat.old.order) × (seat.new.view ≡ record seat.old.view { holds = 0 }) }
+    {
+        self.table.shared.fetch_and::<Open>(&mut seat.inner, 1, 511);
+    }
+
+    /// Loads the word of a cell: 0 for unset, 1 for gone, and else the object's number and 1. To a seat that owns the managed list it is what that list
+    /// says, or where it is still to be stored what it was before. To any seat that owes no store it isn't 0 where the seat knows the cell as set.
+    pub fn load_cell(&self, seat: &mut Seat, cell: Cell) -> u64
+        requires seat { seat.old.order ≡ self.now }
+        requires cell { cell.0 < 64 }
+        ensures seat { (seat.new.order ≡ seat.old.order) × (seat.new.view ≡ loading cell.0 result seat.old.view) }
+        ensures owner { Owns seat.old.view 0 → CellIs (known seat.old.view 0) seat.old.view.holds (at false seat.old.view.debts cell.0) cell.0 result }
+        ensures unset { NoDebt seat.old.view → result ≡ 0 → (y : KeptEntry) → Stands (known seat.old.view 0) y → SetsCell y cell.0 → ⊥ }
+    {
+        self.table
+            .shared
+            .load::<LoadCell>(&mut seat.inner, 2 + cell.0 as usize)
+    }
+
+    /// Stores the word of a cell, which is what the seat's managed list says.
+    pub fn write_cell(&self, seat: &mut Seat, cell: Cell, word: u64)
+        requires seat { seat.old.order ≡ self.now }
+        requires cell { cell.0 < 64 }
+        requires owner { Owns seat.old.view 0 }
+        requires word { word ≡ says_word (known seat.old.view 0) cell.0 }
+        ensures seat { (seat.new.order ≡ seat.old.order) × (seat.new.view ≡ storing cell.0 seat.old.view) }
+        ensures stored { (at false seat.new.view.debts cell.0 ≡ false) × ((c : ℕ) → (c ≡ cell.0 → ⊥) → at false seat.new.view.debts c ≡ at false seat.old.view.debts c) }
+        ensures paid { OwesOnly seat.old.view cell.0 → NoDebt seat.new.view }
+    {
+        self.table
+            .shared
+            .store::<StoreCell>(&mut seat.inner, 2 + cell.0 as usize, word);
+    }
+
+    /// Loads the word of a reader's pin: 0 where it is empty, and else the object's number and 1. To a seat that holds that thread's pass and owes no
+    /// store it is what the thread's own entries leave. To a seat that owns the managed list and owes no clearing the object has been held since some
+    /// number, at which no cycle was open.
+    pub fn load_pin(&self, seat: &mut Seat, reader: u8) -> u64
+        requires seat { seat.old.order ≡ self.now }
+        requires reader { (0 < reader) × (reader < 9) }
+        ensures seat { (seat.new.order ≡ seat.old.order) × (seat.new.view ≡ scanning reader result seat.old.view) }
+        ensures own { Owns seat.old.view (reader + 10) → seat.old.view.fill ≡ 0 → seat.old.view.empty ≡ 0 → result ≡ pin (known seat.old.view (reader + 10)) }
+        ensures held { Owns seat.old.view 0 → seat.old.view.empty ≡ 0 → (m : ℕ) → result ≡ m + 1 → IsHeld (known seat.old.view 0) reader m }
+    {
+        self.table
+            .shared
+            .load::<LoadPin>(&mut seat.inner, 65 + reader as usize)
+    }
+
+    fn set_pin(&self, seat: &mut Seat, reader: u8, word: u64)
+        requires seat { seat.old.order ≡ self.now }
+        requires reader { (0 < reader) × (reader < 9) }
+        requires pass { Owns seat.old.view (reader + 10) }
+        requires word { word ≡ pin (known seat.old.view (reader + 10)) }
+        ensures { (seat.new.order ≡ seat.old.order) × (seat.new.view ≡ storing_pin reader seat.old.view) }
+    {
+        self.table
+            .shared
+            .store::<StorePin>(&mut seat.inner, 65 + reader as usize, word);
+    }
+
+    /// Stores an object into a reader's pin. The seat holds that thread's pass, and the thread's own entries leave the object in the pin.
+    pub fn store_pin(&self, seat: &mut Seat, reader: u8, m: MNum)
+        requires seat { seat.old.order ≡ self.now }
+        requires reader { (0 < reader) × (reader < 9) }
+        requires pass { Owns seat.old.view (reader + 10) }
+        requires object { pin (known seat.old.view (reader + 10)) ≡ m.0 + 1 }
+        ensures { (seat.new.order ≡ seat.old.order) × (seat.new.view ≡ storing_pin reader seat.old.view) }
+    {
+        self.set_pin(seat, reader, m.0 as u64 + 1);
+    }
+
+    /// Empties a reader's pin. The seat holds that thread's pass, and the thread's own entries leave the pin empty.
+    pub fn clear_pin(&self, seat: &mut Seat, reader: u8)
+        requires seat { seat.old.order ≡ self.now }
+        requires reader { (0 < reader) × (reader < 9) }
+        requires pass { Owns seat.old.view (reader + 10) }
+        requires empty { pin (known seat.old.view (reader + 10)) ≡ 0 }
+        ensures { (seat.new.order ≡ seat.old.order) × (seat.new.view ≡ storing_pin reader seat.old.view) }
+    {
+        self.set_pin(seat, reader, 0);
     }
 
     /// Ends the order. The seat owns every role and holds every caller's pass, so what it knows is the whole history: each role's list and
     /// each caller's, with the numbers from 0 on, each once.
     pub fn finish(self, mut seat: Seat) -> Linked
-        requires seat { seat.order ≡ self }
+        requires seat { (seat.order ≡ self) × Settled seat.view }
         requires all { OwnsAll seat.view }
         ensures lines { result.known ≡ seat.view.known }
         ensures whole { AreLinesOfOneHistory result.known }
     {
         let note = self.note(&mut seat);
         let Order { table } = self;
-        let Seat { inner } = seat;
+        let Seat { inner, .. } = seat;
         table.close_with(inner).free();
         Linked { note }
     }

@@ -6,9 +6,9 @@ ghost use Rattle.joint_model.specs.declared.names.Thread.TheVariants.{C};
 ghost use Rattle.joint_model.specs.declared.events.Made.{Made};
 ghost use Rattle.joint_model.specs.declared.events.Op.TheVariants as op;
 ghost use Rattle.joint_model.specs.declared.events.Reply.TheVariants as says;
-ghost use Rattle.order_table.specs.Rule.{Ordered};
-ghost use Rattle.order_table.specs.Tells.{Appended, Compared};
 ghost use Rattle.order_table.specs.Views.{first_view, giving, given, hearing, lines_of_none, spent_view};
+ghost use Rattle.order_table.specs.Rule.{Ordered};
+ghost use Rattle.order_table.specs.Tells.{Appended, Compared, Entered, GaveBack, Left, Closed, Opened, LoadedCell, StoredCell, LoadedPin, StoredPin};
 
 use crate::views::View;
 use atomic_table::{Join, Play, Split, TableRule};
@@ -94,4 +94,78 @@ pub(crate) struct Compare;
 
 impl Play<(), View> for Compare {
     ghost then = { Compared };
+}
+
+/// The step of a reader that goes inside, or finds the gate held.
+pub(crate) struct Enter;
+
+impl Play<(), View> for Enter {
+    ghost then = { Entered };
+}
+
+/// The step that takes the bit back which was put in while the gate was held.
+pub(crate) struct GiveBack;
+
+impl Play<(), View> for GiveBack {
+    ghost then = { GaveBack };
+}
+
+/// The step of a reader that goes outside.
+pub(crate) struct Leave;
+
+impl Play<(), View> for Leave {
+    ghost then = { Left };
+}
+
+/// For which cycle a gate is closed, for the proof alone.
+pub(crate) trait Closing {
+    ghost cycle: { ℕ };
+}
+
+impl Closing for Brand {
+    ghost cycle = { 0 };
+}
+
+/// The step that closes the gate where no reader's bit is in the word.
+pub(crate) struct Close<W> {
+    closing: PhantomData<W>,
+}
+
+impl<W: Closing> Play<(), View> for Close<W> {
+    ghost then = { Closed W.cycle };
+}
+
+/// The step that opens the gate.
+pub(crate) struct Open;
+
+impl Play<(), View> for Open {
+    ghost then = { Opened };
+}
+
+/// The load of a cell's word.
+pub(crate) struct LoadCell;
+
+impl Play<(), View> for LoadCell {
+    ghost then = { LoadedCell };
+}
+
+/// The store of a cell's word.
+pub(crate) struct StoreCell;
+
+impl Play<(), View> for StoreCell {
+    ghost then = { StoredCell };
+}
+
+/// The load of a pin's word.
+pub(crate) struct LoadPin;
+
+impl Play<(), View> for LoadPin {
+    ghost then = { LoadedPin };
+}
+
+/// The store of a pin's word, where it is filled and where it is emptied.
+pub(crate) struct StorePin;
+
+impl Play<(), View> for StorePin {
+    ghost then = { StoredPin };
 }

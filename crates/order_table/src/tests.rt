@@ -3,8 +3,8 @@
 
 ghost use Rattle.std.specs.Prelude.{◌≡◌, ◌<◌, []};
 ghost use Rattle.joint_model.specs.Lines.{IsThread};
-ghost use Rattle.order_table.specs.Views.{IsRole, IsInRole, role_line, known, Owns, OwnsAll, first_view};
 ghost use Rattle.joint_model.specs.HistoryLines.{caller_line};
+ghost use Rattle.order_table.specs.Views.{IsRole, IsInRole, role_line, known, Owns, OwnsAll, first_view};
 
 use crate::{Order, OrderName, Role, Seat};
 use joint_model::{Made, Op, Reply, Thread, Var};
@@ -62,9 +62,9 @@ struct Side<N: OrderName> {
 
 impl<N: OrderName> Model for Side<N> {
     ghost use Rattle.std.specs.Prelude.{◌≡◌, ◌<◌, length};
-    ghost use Rattle.joint_model.specs.HistoryLines.{caller_line};
     ghost use Rattle.joint_model.specs.Lines.{IsThread};
     ghost use Rattle.order_table.specs.declared.views.Role.{Role};
+    ghost use Rattle.joint_model.specs.HistoryLines.{caller_line};
     ghost use Rattle.order_table.specs.Views.{IsRole, Owns, known, role_line};
 
     ghost Value = { Role };

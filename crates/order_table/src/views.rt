@@ -23,8 +23,7 @@ pub struct KeptEntry {
 
 /// What a seat knows. No value of it is made.
 ///
-/// The first five fields are what this crate speaks of today. The others are the places of what a seat has to know about the gate, the
-/// cells and the pins; these come with weak reads that take no lock, and until then nothing is asked or promised of them.
+/// The first five fields are the lines; the others are what a seat has to know about the gate, the cells and the pins.
 pub struct View {
     /// Which lines it owns.
     pub owns: [bool; 0],
