@@ -28,7 +28,7 @@ use Rattle.order_table.specs.Owed.{marked, aims_at, target_from, target, has, is
 use Rattle.order_table.specs.Views.{IsAnswer, IsInRole}
 use Rattle.order_table.specs.Allowed.{SaysPending}
 use Rattle.order_table.specs.Rule.{Item, IsItem, is_in, of_line, RunsFrom, IsBelow, Stands, IsSnappedBefore, Unknown, ReadsWord, Fits, EachFits}
-use Rattle.order_table.specs.Replies.{IsNoteOf, AreNotes, first_of, object_of, RepliesAreRight}
+use Rattle.order_table.specs.Replies.{KeptPinsAreRight, IsNoteOf, AreNotes, first_of, object_of, RepliesAreRight}
 use Rattle.order_table.proofs.Gate.{if_true, if_false}
 use Rattle.order_table.proofs.Says.{some_is, none_not, target_kept, target_aimed}
 use Rattle.order_table.proofs.Waits.{stands_cases, stands_below}
@@ -79,7 +79,7 @@ in_first (suc n) [] i x l e = e
 in_first (suc n) (y ∷ xs) zero x l e = e
 in_first (suc n) (y ∷ xs) (suc i) x l e = in_first n xs i x (omega arith) e
 
-fits_at : (before xs : List Item) (i : ℕ) (x : Item) → EachFits before xs → get_elem? xs i ≡ some x → Fits (before ++ first_of i xs) x
+pub fits_at : (before xs : List Item) (i : ℕ) (x : Item) → EachFits before xs → get_elem? xs i ≡ some x → Fits (before ++ first_of i xs) x
 fits_at before [] i x f e = absurd (some-ne-none x (sym e))
 fits_at before (y ∷ xs) zero x f e = subst (λ (z : List Item × Item). Fits z.0 z.1) (λ i. (sym (append-nil before) i, some-injective y x e i)) f.0
 fits_at before (y ∷ xs) (suc i) x f e = subst (λ b. Fits b x) (append_assoc before (y ∷ []) (first_of i xs)) (fits_at (before ++ y ∷ []) xs i x f.1 e)
@@ -329,6 +329,9 @@ replies_are_right whole runs fits pending ns cells notes same i x at_i reader s 
     by_reply (says.Pinned m) e a = sym (pinned_reply s (thread_number t) k m.0 (pins ∙ ap object_of (let p = fit.filled reader m.0 e in let q : pin (of_line (caller_line t) before) ≡ suc m.0 = omega arith in q)))
     by_reply says.Gone e a = let w = word 1 (ap word_of e) in let gone = w.1.gone refl in
         sym (target_reply s (thread_number t) k gone.0 (empty (not_pinned 1 (ap word_of e))) (state.open_cycle w.0) (state.cells k ∙ gone.1) ∙ if_true (heap.is_freed s.heap gone.0) says.Gone (managed_name gone.0) (state.freed gone.0 ∙ gone.2))
-    by_reply (says.M m) e a = let w = word (m.0 + 1) (ap word_of e) in let object = w.1.object m.0 a refl in
+    by_reply (says.M m) e a = let w = word (m.0 + 1) (ap word_of e) in let object = w.1.object m.0 a.0 refl in
         sym (target_reply s (thread_number t) k m.0 (empty (not_pinned (m.0 + 1) (ap word_of e))) (state.open_cycle w.0) (state.cells k ∙ object.0) ∙ if_false (heap.is_freed s.heap m.0) says.Gone (managed_name m.0) (state.freed m.0 ∙ object.1))
     by_reply _ e a = absurd a
+
+pub kept_pins_are_right : (whole : List Item) → EachFits [] whole → KeptPinsAreRight whole
+kept_pins_are_right whole fits i x e = let f = fits_at [] whole i x fits e in record { snapped = f.snapped; taken = f.taken }

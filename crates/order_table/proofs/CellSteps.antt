@@ -1,5 +1,5 @@
 -- The steps on the cells' words keep the rule.
-use Rattle.std.proofs.Common.{◌≡◌, ◌≢◌, inl, ⊎_elim, ℕ, ◌+◌, ◌-◌, ◌/◌, ◌<◌, Bool, true, false, ◌&&◌, List, [], ◌∷◌, length, get_or, set, refl, sym, ap, ◌∙◌, subst, arith, length-set, get_or-set_same, get_or-set_other}
+use Rattle.std.proofs.Common.{◌≡◌, ◌≢◌, inl, ⊎_elim, ℕ, ◌+◌, ◌-◌, ◌/◌, ◌<◌, ◌≤◌, Bool, true, false, ◌&&◌, List, [], ◌∷◌, length, get_or, set, refl, sym, ap, ◌∙◌, subst, arith, length-set, get_or-set_same, get_or-set_other}
 use Rattle.std.specs.Prelude.{◌==◌, nat_lt}
 use Rattle.std.proofs.lemmas.Bool.{cases_Bool, both_ways, and_parts, ltb-true, cases_eq}
 use mathlib.Core.Option.{none, some}
@@ -17,7 +17,7 @@ use Rattle.order_table.specs.Tells.{LoadedCell, StoredCell}
 use Rattle.order_table.proofs.Places.{at_put_here, at_put_else}
 use Rattle.order_table.proofs.Gate.{if_true, if_false}
 use Rattle.order_table.proofs.Waits.{waiting_views}
-use Rattle.order_table.proofs.Cells.{loaded_word, known_unset, none_owed, settled_cell, no_debt_in, celled_same}
+use Rattle.order_table.proofs.Cells.{cell_small, loaded_word, known_unset, none_owed, settled_cell, no_debt_in, celled_same}
 use Rattle.order_table.proofs.Pins.{pinned_keep}
 use Rattle.order_table.proofs.Steps.{seats, Holds, owner_set}
 
@@ -69,7 +69,8 @@ loads_cell slots id c me small bare s r _ here _ =
     let told_owner : Owns v 0 → CellIs (known v 0) v.holds (at false v.debts (2 + c - 2)) (2 + c - 2) n = λ o. subst (λ (k : ℕ). CellIs (known v 0) v.holds (at false v.debts k) k n) (sym place)
     (subst (λ (z : List KeptEntry × ℕ × Bool). CellIs z.0 z.1 z.2 c n) (λ i. (sym (knows.owned 0 o).1 i, sym (g.owner o) i, sym (d.owner o c) i)) cell) in
     let told_unset : NoDebt v → n ≡ 0 → (y : KeptEntry) → Stands (known v 0) y → SetsCell y (2 + c - 2) → ⊥ = λ paid z y st e.
-    known_unset (of_line 0 r.whole) (known v 0) r.gate c n (r.celled.debt c) cell (r.celled.real c) (knows.begins 0) (secret paid) z y st (subst (SetsCell y) place e) in
+    known_unset (of_line 0 r.whole) (known v 0) r.gate c n (r.celled.debt c) cell (λ m e. (r.celled.real c m e).0) (knows.begins 0) (secret paid) z y st (subst (SetsCell y) place e) in
+    let told_small : n ≤ 4294967296 = cell_small (of_line 0 r.whole) r.gate c n (r.celled.debt c) cell (r.celled.real c) in
     let test : Bool = nat_lt 0 v.inside && owes_none v in
     ⊎_elim
     (λ (e : test ≡ true). let w : View = record v { loads = (c, n) ∷ v.loads } in
@@ -83,11 +84,11 @@ loads_cell slots id c me small bare s r _ here _ =
           (seats (λ j. Debts (of_line 0 r.whole) r.celled.debt) s.views id w record { owner = d.owner; heard_owner = d.heard_owner; secret = d.secret; heard_secret = d.heard_secret; mine = d.mine; heard_mine = d.heard_mine } (λ j u _ at_j. r.celled.each_debt j u at_j))
           (seats (λ j x. 0 < x.inside → EachLoad (of_line 0 r.whole) x x.loads) s.views id w
           (λ l. (
-            (λ k o. loaded_word (of_line 0 r.whole) (known v (k + 10)) (known v 0) r.gate c n (r.celled.debt c) (g.inside within).1 cell (r.celled.real c) (knows.begins 0) (secret paid) (λ y st f. d.mine k o y st c f)),
+            (λ k o. loaded_word (of_line 0 r.whole) (known v (k + 10)) (known v 0) r.gate c n (r.celled.debt c) (g.inside within).1 cell (λ m e. (r.celled.real c m e).0) (knows.begins 0) (secret paid) (λ y st f. d.mine k o y st c f)),
             same_loads (of_line 0 r.whole) v w v.loads refl refl (r.celled.each_load id v here l),
           ))
           (λ j u _ at_j. r.celled.each_load j u at_j))) small v here (λ i o. o) refl refl (r.scanned id v here),
-      (refl, sym (if_true test (record v { loads = (2 + c - 2, n) ∷ v.loads }) v e ∙ ap (λ k. record v { loads = (k, n) ∷ v.loads }) place), told_owner, told_unset),
+      (refl, sym (if_true test (record v { loads = (2 + c - 2, n) ∷ v.loads }) v e ∙ ap (λ k. record v { loads = (k, n) ∷ v.loads }) place), told_owner, told_unset, told_small),
     ))
     (λ (e : test ≡ false). (
       v,
@@ -97,7 +98,7 @@ loads_cell slots id c me small bare s r _ here _ =
           (celled_same (of_line 0 r.whole) r.gate r.gate s.words (set s.words (2 + c) n) s.views (set s.views id v) r.celled (λ k. ap (λ ws. get_or ws (2 + k) 0) (set-get_or s.words (2 + c) 0)) (λ k o h. h)
           (seats (λ j. Debts (of_line 0 r.whole) r.celled.debt) s.views id v d (λ j u _ at_j. r.celled.each_debt j u at_j))
           (seats (λ j x. 0 < x.inside → EachLoad (of_line 0 r.whole) x x.loads) s.views id v (r.celled.each_load id v here) (λ j u _ at_j. r.celled.each_load j u at_j))) small v here (λ i o. o) refl refl (r.scanned id v here),
-      (refl, sym (if_false test (record v { loads = (2 + c - 2, n) ∷ v.loads }) v e), told_owner, told_unset),
+      (refl, sym (if_false test (record v { loads = (2 + c - 2, n) ∷ v.loads }) v e), told_owner, told_unset, told_small),
     ))
     (cases_Bool test)
   where

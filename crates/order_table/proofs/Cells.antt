@@ -1,6 +1,6 @@
 -- The words of the cells, what is owed of them, and what was loaded.
 use Rattle.std.proofs.Common.{◌≡◌, ◌⊎◌, inl, inr, ⊎_elim, ℕ, zero, suc, ◌+◌, ◌<◌, ◌≤◌, Bool, true, false, not, ◌||◌, List, [], ◌∷◌, ◌++◌, length, refl, sym, ap, ◌∙◌, subst, arith, true≢false, length-append, Option, Some, None}
-use Rattle.std.specs.Prelude.{◌==◌, slice_index}
+use Rattle.std.specs.Prelude.{if◌then◌else◌, ◌==◌, slice_index}
 use Rattle.std.proofs.lemmas.Bool.{cases_Bool, cases_lt, both_ways, cases_eq, eqb-true, and_parts, or_cases, not-true}
 use Rattle.std.proofs.Common.{eq-eqb, ne_eqb}
 use Rattle.joint_model.specs.declared.names.MNum.{MNum}
@@ -11,7 +11,7 @@ use Rattle.atomic_table.proofs.Lists.{at_longer}
 use Rattle.order_table.specs.declared.views.KeptEntry.{KeptEntry}
 use Rattle.order_table.specs.declared.views.View.{View}
 use Rattle.order_table.specs.Rows.{at, put}
-use Rattle.order_table.specs.Owed.{marked, target, has, is_freed, says_word, sets_cell, frees_target, owes_after, by_place, IsLoaded}
+use Rattle.order_table.specs.Owed.{IsNumber, word_by, marked, target, has, is_freed, says_word, sets_cell, frees_target, owes_after, by_place, IsLoaded}
 use Rattle.order_table.specs.Views.{none_owed_in, storing, known, Owns, appended, spent_view, giving, given, hearing, learned}
 use Rattle.order_table.specs.Allowed.{OwesOnly, NoDebt}
 use Rattle.order_table.specs.Rule.{IsBelow, Stands, SetsCell, ReadsWord, IsFresh, IsStale, CellIs, Debts, EachLoad, Celled}
@@ -331,3 +331,17 @@ pub owes_more : (v : View) (r : ℕ) (k : KeptEntry) (c : ℕ) → r ≡ 0 → a
 owes_more v r k c first o = let row : at false (by_place 64 (owes_after (known v 0) k)) c ≡ true = ap (λ d. at false d c) (sym (if_true (r == 0) (by_place 64 (owes_after (known v 0) k)) v.debts (eq-eqb r 0 first))) ∙ o in ⊎_elim
     (λ (l : c < 64). (l, sym (at_by_place 64 (owes_after (known v 0) k) c l) ∙ row))
     (λ (l : 64 ≤ c). absurd (both_ways (at false (by_place 64 (owes_after (known v 0) k)) c) (at_row_past 64 (owes_after (known v 0) k) c l) row)) (cases_lt c 64)
+
+-- a cell's word has room for an object's number and 1
+pub cell_small : (ml : List KeptEntry) (gate c w : ℕ) (owed : Bool) → CellIs ml gate owed c w → ((m : ℕ) → target ml c ≡ Some m → IsNumber m) → w ≤ 4294967296
+cell_small ml gate c w owed cell real = ⊎_elim
+    (λ (is : w ≡ says_word ml c). let small = said (target ml c) refl in omega arith)
+    (λ t. ⊎_elim (λ f. let z = f.word in omega arith) (λ f. let z = f.word in let small = (real f.object f.aims).1 in omega arith) t.1) cell
+  where
+    either_way : (b : Bool) (m : ℕ) → m < 4294967296 → (if b then 1 else m + 1) ≤ 4294967296
+    either_way true m l = omega arith
+    either_way false m l = omega arith
+
+    said : (o : Option ℕ) → target ml c ≡ o → says_word ml c ≤ 4294967296
+    said None e = let z : says_word ml c ≡ 0 = ap (λ x. word_by x (is_freed ml)) e in omega arith
+    said (Some m) e = subst (λ z. z ≤ 4294967296) (sym (ap (λ x. word_by x (is_freed ml)) e)) (either_way (is_freed ml m) m (real m e).1)

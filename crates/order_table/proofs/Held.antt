@@ -17,7 +17,7 @@ use Rattle.joint_model.specs.Control.{caller_place}
 use Rattle.order_table.specs.declared.views.KeptEntry.{KeptEntry}
 use Rattle.order_table.specs.Rows.{at}
 use Rattle.order_table.specs.Stages.{IsClosed}
-use Rattle.order_table.specs.Owed.{has, is_freed, read_of, word_of, PinDeed, fills, empties, stays, pin_deed, deed_of_pin, pin_after, pin}
+use Rattle.order_table.specs.Owed.{has, is_freed, read_of, word_of, PinDeed, fills, empties, stays, pin_deed, deed_of_pin, pin_after, pin_from, pin}
 use Rattle.order_table.specs.Views.{IsAnswer}
 use Rattle.order_table.specs.Rule.{Item, IsItem, is_in, of_line, RunsFrom, IsBelow, Stands, Fits, EachFits, IsHeld, those_below}
 use Rattle.order_table.proofs.Gate.{if_true, if_false}
@@ -80,11 +80,35 @@ held_more before x r m pos small fit number pinned old =
 word_is : (a b : ℕ) → fills a ≡ fills b → a ≡ b
 word_is a b e = ap (λ d. elim d [ fills z ↦ z | empties ↦ 0 | stays ↦ 0 ]) e
 
-pub fills_read : (t : Thread) (o : Op) (y : Reply) (w : ℕ) → pin_deed t o y ≡ fills w → (c : ℕ) × (read_of o ≡ Some c) × (word_of y ≡ Some w) × (is_read o ≡ true) × (IsAnswer y → 1 < w)
-fills_read (M n) (op.Line (act.Read c)) (says.M m) w e = let s : m.0 + 1 ≡ w = word_is (m.0 + 1) w e in (c.0, refl, ap (λ z. Some z) s, refl, λ a. omega arith)
-fills_read (M n) (op.Line (act.Await c)) (says.M m) w e = let s : m.0 + 1 ≡ w = word_is (m.0 + 1) w e in (c.0, refl, ap (λ z. Some z) s, refl, λ a. omega arith)
+pub fills_read : (t : Thread) (o : Op) (y : Reply) (w : ℕ) → pin_deed t o y ≡ fills w → (c : ℕ) × (read_of o ≡ Some c) × (word_of y ≡ Some w) × (is_read o ≡ true) × (IsAnswer y → (1 < w) × (w ≤ 4294967296))
+fills_read (M n) (op.Line (act.Read c)) (says.M m) w e = let s : m.0 + 1 ≡ w = word_is (m.0 + 1) w e in (c.0, refl, ap (λ z. Some z) s, refl, λ a. let low = a.0 in let high = a.1 in (omega arith, omega arith))
+fills_read (M n) (op.Line (act.Await c)) (says.M m) w e = let s : m.0 + 1 ≡ w = word_is (m.0 + 1) w e in (c.0, refl, ap (λ z. Some z) s, refl, λ a. let low = a.0 in let high = a.1 in (omega arith, omega arith))
 fills_read (M n) (op.Line (act.Take v)) y w e = absurd (true≢false (ap (λ d. elim d [ fills z ↦ false | empties ↦ true | stays ↦ true ]) e))
 fills_read _ _ _ w e = absurd (true≢false (ap (λ d. elim d [ fills z ↦ false | empties ↦ true | stays ↦ true ]) e))
+
+-- a pin's word has room for an object's number and 1
+fill_small : (n : ℕ) (x : Item) (w : ℕ) → IsItem n x → deed_of_pin x.kept ≡ fills w → w ≤ 4294967296
+fill_small n x w item e =
+    let t = fills_read x.kept.entry.made.caller x.kept.entry.made.op x.kept.entry.made.reply w e in
+    let not_managed : x.role ≡ 0 → ⊥ = λ z. both_ways (is_read x.kept.entry.made.op) (item.stands.managed z).0 t.3 in
+    let not_peer : x.role ≡ 1 → ⊥ = λ z. both_ways (is_read x.kept.entry.made.op) (item.stands.peer z).0 t.3 in
+    (t.4 (item.stands.reader (omega (arith, not_managed, not_peer))).2).1
+
+pin_small_after : (p n : ℕ) (x : Item) → p ≤ 4294967296 → IsItem n x → (d : PinDeed) → deed_of_pin x.kept ≡ d → pin_after p d ≤ 4294967296
+pin_small_after p n x l item (fills w) e = fill_small n x w item e
+pin_small_after p n x l item empties e = omega arith
+pin_small_after p n x l item stays e = l
+
+pin_small_from : (i p n : ℕ) (xs : List Item) → p ≤ 4294967296 → RunsFrom n xs → pin_from p (of_line i xs) ≤ 4294967296
+pin_small_from i p n [] l r = l
+pin_small_from i p n (x ∷ xs) l r = either_way (is_in i x) (pin_small_from i (pin_after p (deed_of_pin x.kept)) (n + 1) xs (pin_small_after p n x l r.0 (deed_of_pin x.kept) refl) r.1) (pin_small_from i p (n + 1) xs l r.1)
+  where
+    either_way : (b : Bool) → pin_from (pin_after p (deed_of_pin x.kept)) (of_line i xs) ≤ 4294967296 → pin_from p (of_line i xs) ≤ 4294967296 → pin_from p (if b then x.kept ∷ of_line i xs else of_line i xs) ≤ 4294967296
+    either_way true here there = here
+    either_way false here there = there
+
+pub pin_small : (i : ℕ) (xs : List Item) → RunsFrom 0 xs → pin (of_line i xs) ≤ 4294967296
+pin_small i xs r = pin_small_from i 0 0 xs (omega arith) r
 
 -- the read that fills it
 held_filled : (before : List Item) (x : Item) (r m : ℕ) → RunsFrom 0 before → Fits before x → IsItem (length before) x → deed_of_pin x.kept ≡ fills (m + 1)
@@ -97,7 +121,7 @@ held_filled before x r m runs fit item e =
     let not_peer : x.role ≡ 1 → ⊥ = λ z. both_ways (is_read x.kept.entry.made.op) (item.stands.peer z).0 t.3 in
     let reader : 2 ≤ x.role = omega (arith, not_managed, not_peer) in
     let says_it = fit.read reader t.0 (m + 1) t.1 t.2 in
-    let some_object : 1 < m + 1 = t.4 (item.stands.reader reader).2 in
+    let some_object : 1 < m + 1 = (t.4 (item.stands.reader reader).2).0 in
     let object = says_it.1.object m (omega arith) refl in
     let below = below_line 0 0 n before runs (omega arith) in
     let out : is_in 0 x ≡ false = ⊎_elim (λ z. absurd (⊎_elim (λ c. not_managed (sym c)) (λ c. let c' : 0 ≡ caller_place x.kept.entry.made.caller + 10 = c in omega arith) (in_cases 0 x z))) (λ z. z) (cases_Bool (is_in 0 x)) in

@@ -1,5 +1,5 @@
 -- The steps on the pins' words keep the rule.
-use Rattle.std.proofs.Common.{◌≡◌, ◌≢◌, inl, ⊎_elim, ℕ, ◌+◌, ◌-◌, ◌/◌, ◌<◌, Bool, true, false, List, [], ◌∷◌, get_or, set, refl, sym, ap, ◌∙◌, subst, arith, length-set, get_or-set_same, get_or-set_other, eq-eqb, ne_eqb}
+use Rattle.std.proofs.Common.{◌≡◌, ◌≢◌, inl, ⊎_elim, ℕ, ◌+◌, ◌-◌, ◌/◌, ◌<◌, ◌≤◌, ◌⊎◌, Bool, true, false, List, [], ◌∷◌, get_or, set, refl, sym, ap, ◌∙◌, subst, arith, length-set, get_or-set_same, get_or-set_other, eq-eqb, ne_eqb}
 use Rattle.std.specs.Prelude.{if◌then◌else◌, ◌==◌, ◌&&◌, nat_lt, Option, None, Some}
 use Rattle.std.proofs.lemmas.Bool.{cases_Bool, both_ways, and_parts, ltb-true, eqb-true, cases_eq}
 use Rattle.std.specs.Int.{bit_at}
@@ -21,7 +21,7 @@ use Rattle.order_table.proofs.Cells.{celled_bounded}
 use Rattle.order_table.proofs.Pins.{not_storing, not_clearing, pinned_keep}
 use Rattle.order_table.proofs.Places.{at_put_here, at_put_else}
 use Rattle.order_table.proofs.Steps.{seats, owner_set}
-use Rattle.order_table.proofs.Held.{is_held}
+use Rattle.order_table.proofs.Held.{is_held, pin_small}
 
 abbrev St : Type 0
 St = State (Unit {0}) View
@@ -86,6 +86,12 @@ loads_pin slots id r me pos small s o _ here _ =
     (is_held o.whole r m pos small o.numbers o.waiting.fits (sym (⊎_elim (λ z. z) (λ z. absurd (⊎_elim
     (λ t. let zero_is = t.1 in omega arith)
     (λ t. not_clearing o.whole o.owner o.gate W s.words s.views o.pinned id v here empty r t.0 (sym (o.pinned.clearing r t.0).1 ∙ all.0)) z)) now) ∙ is)) in
+    let few : (k : ℕ) → 65 + r ≡ 65 + k → 0 < k → k < 9 → Owns v 0 ⊎ Owns v (k + 10) → v.empty ≡ 0 → n ≤ 4294967296 = λ k e _ _ owns empty.
+    let same : r ≡ k = omega arith in let small_is = pin_small (r + 10) o.whole o.numbers in
+    ⊎_elim (λ z. omega arith) (λ z. ⊎_elim (λ t. let zero_is = t.1 in omega arith)
+    (λ t. absurd (not_clearing o.whole o.owner o.gate W s.words s.views o.pinned id v here empty r t.0 (⊎_elim
+    (λ a. sym (o.pinned.clearing r t.0).1 ∙ ((o.each_seat id v here).owned 0 a).0)
+    (λ a. ap (λ j. o.owner (j + 10)) same ∙ ((o.each_seat id v here).owned (k + 10) a).0) owns))) z) now in
     let test : Bool = nat_lt 0 v.holds && owes_none v in
     let kept : List (Option ℕ) = put None v.scanned r (Some n) in
     ⊎_elim
@@ -104,14 +110,14 @@ loads_pin slots id r me pos small s o _ here _ =
       keeps,
       tt,
       subst (λ ws. Ordered record { words = ws; homes = s.homes; views = set s.views id (record v { scanned = kept }) }) (sym (set-get_or s.words (65 + r) 0)) (only_scans s o id v kept here scans),
-      (refl, sym (if_true test (record v { scanned = put None v.scanned (65 + r - 65) (Some n) }) v e ∙ ap (λ k. record v { scanned = put None v.scanned k (Some n) }) place), own, held),
+      (refl, sym (if_true test (record v { scanned = put None v.scanned (65 + r - 65) (Some n) }) v e ∙ ap (λ k. record v { scanned = put None v.scanned k (Some n) }) place), own, held, few),
     ))
     (λ (e : test ≡ false). (
       v,
       keeps,
       tt,
       subst (λ (z : List ℕ × List View). Ordered record { words = z.0; homes = s.homes; views = z.1 }) (λ i. (sym (set-get_or s.words (65 + r) 0) i, sym (set_again s.views id v here) i)) o,
-      (refl, sym (if_false test (record v { scanned = put None v.scanned (65 + r - 65) (Some n) }) v e), own, held),
+      (refl, sym (if_false test (record v { scanned = put None v.scanned (65 + r - 65) (Some n) }) v e), own, held, few),
     ))
     (cases_Bool test)
   where

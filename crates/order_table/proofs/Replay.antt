@@ -1,5 +1,5 @@
 -- The pins of the replayed managed state are those that the lines leave.
-use Rattle.std.proofs.Common.{◌≡◌, ◌≢◌, ◌⊎◌, inl, inr, ⊎_elim, ℕ, zero, suc, ◌+◌, ◌-◌, ◌<◌, ◌≤◌, Bool, true, false, List, [], ◌∷◌, ◌++◌, length, refl, sym, ap, ◌∙◌, subst, arith, true≢false, length-append, length-set}
+use Rattle.std.proofs.Common.{map, ◌≡◌, ◌≢◌, ◌⊎◌, inl, inr, ⊎_elim, ℕ, zero, suc, ◌+◌, ◌-◌, ◌<◌, ◌≤◌, Bool, true, false, List, [], ◌∷◌, ◌++◌, length, refl, sym, ap, ◌∙◌, subst, arith, true≢false, length-append, length-set}
 use Rattle.std.specs.Prelude.{if◌then◌else◌, slice_set, replicate, Option, Some, None}
 use Rattle.std.proofs.lemmas.Bool.{cases_Bool, both_ways}
 use mathlib.Core.List.{append-nil, append_assoc}
@@ -25,11 +25,11 @@ use Rattle.joint_model.specs.Control.{caller_place}
 use Rattle.joint_model.specs.HistoryLines.{caller_line}
 use Rattle.order_table.specs.Owed.{PinDeed, fills, empties, stays, pin_deed, pin_after, pin, deed_of_pin}
 use Rattle.order_table.specs.Rule.{Item, IsItem, is_in, of_line, RunsFrom, Fits, EachFits}
-use Rattle.order_table.specs.Replies.{AreNotes, first_of, object_of, PinsAreReplayed}
+use Rattle.order_table.specs.Facts.{entries_of}
+use Rattle.order_table.specs.Replies.{first_of, object_of, PinsAreReplayed}
 use Rattle.order_table.proofs.Gate.{if_true, if_false}
 use Rattle.order_table.proofs.Pins.{pin_more}
 use Rattle.order_table.proofs.Lines.{of_line_in, of_line_out, caller_in, in_cases}
-use Rattle.order_table.proofs.ByNumber.{fits_first}
 
 -- a place of a list of slots
 slot_here : (ps : List (Option ℕ)) (t : ℕ) (o : Option ℕ) → t < length ps → slot (slice_set ps t o) t ≡ o
@@ -303,31 +303,37 @@ entry_step before x told s i item h = ⊎_elim
         (λ z. ⊎_elim (λ w. inl (managed_stays w.0 o y (subst (λ t. is_peer_event t o ≡ false) w.1 p) e)) (λ w. inr (inr w)) z)
         (whose c)) h))
 
-pins_replayed : (before xs : List Item) (ns : List Noted) (s : Linkage) → RunsFrom (length before) xs → EachFits before xs → AreNotes xs ns → Pins s.managed.managed.pins before → Pins (replayed_reading s ns).managed.managed.pins (before ++ xs)
-pins_replayed before [] [] s runs fits notes h = subst (Pins s.managed.managed.pins) (sym (append-nil before)) h
-pins_replayed before [] (n ∷ ns) s runs fits notes h = absurd notes
-pins_replayed before (x ∷ xs) [] s runs fits notes h = absurd notes
-pins_replayed before (x ∷ xs) (n ∷ ns) s runs fits notes h = subst (Pins (replayed_reading (entry_after s n) ns).managed.managed.pins) (append_assoc before (x ∷ []) xs)
-    (pins_replayed (before ++ x ∷ []) xs ns (entry_after s n) (subst (λ l. RunsFrom l xs) (sym (length-append before (x ∷ []))) runs.1) fits.1 notes.1
-    (subst (λ (e : Entry). Pins (entry_after s record { entry = e; told = n.told }).managed.managed.pins (before ++ x ∷ [])) (sym notes.0.entry) (entry_step before x n.told s (length before) runs.0 h)))
+pins_replayed : (before xs : List Item) (ns : List Noted) (s : Linkage) → RunsFrom (length before) xs → map (λ n. n.entry) ns ≡ entries_of xs → Pins s.managed.managed.pins before → Pins (replayed_reading s ns).managed.managed.pins (before ++ xs)
+pins_replayed before [] [] s runs same h = subst (Pins s.managed.managed.pins) (sym (append-nil before)) h
+pins_replayed before [] (n ∷ ns) s runs same h = absurd (cc)
+pins_replayed before (x ∷ xs) [] s runs same h = absurd (cc)
+pins_replayed before (x ∷ xs) (n ∷ ns) s runs same h =
+    let first : n.entry ≡ x.kept.entry = cc in
+    let rest : map (λ n. n.entry) ns ≡ entries_of xs = cc in
+    subst (Pins (replayed_reading (entry_after s n) ns).managed.managed.pins) (append_assoc before (x ∷ []) xs)
+    (pins_replayed (before ++ x ∷ []) xs ns (entry_after s n) (subst (λ l. RunsFrom l xs) (sym (length-append before (x ∷ []))) runs.1) rest
+    (subst (λ (e : Entry). Pins (entry_after s record { entry = e; told = n.told }).managed.managed.pins (before ++ x ∷ [])) (sym first) (entry_step before x n.told s (length before) runs.0 h)))
 
 runs_first : (i n : ℕ) (xs : List Item) → RunsFrom n xs → RunsFrom n (first_of i xs)
 runs_first zero n xs r = tt
 runs_first (suc i) n [] r = tt
 runs_first (suc i) n (x ∷ xs) r = (r.0, runs_first i (n + 1) xs r.1)
 
-notes_first : (i : ℕ) (xs : List Item) (ns : List Noted) → AreNotes xs ns → AreNotes (first_of i xs) (first_of i ns)
-notes_first zero xs ns a = tt
-notes_first (suc i) [] [] a = tt
-notes_first (suc i) [] (n ∷ ns) a = absurd a
-notes_first (suc i) (x ∷ xs) [] a = absurd a
-notes_first (suc i) (x ∷ xs) (n ∷ ns) a = (a.0, notes_first i xs ns a.1)
+same_first : (i : ℕ) (xs : List Item) (ns : List Noted) → map (λ n. n.entry) ns ≡ entries_of xs → map (λ n. n.entry) (first_of i ns) ≡ entries_of (first_of i xs)
+same_first zero xs ns e = refl
+same_first (suc i) [] [] e = refl
+same_first (suc i) [] (n ∷ ns) e = absurd (cc)
+same_first (suc i) (x ∷ xs) [] e = absurd (cc)
+same_first (suc i) (x ∷ xs) (n ∷ ns) e =
+    let first : n.entry ≡ x.kept.entry = cc in
+    let rest : map (λ n. n.entry) ns ≡ entries_of xs = cc in
+    λ j. first j ∷ same_first i xs ns rest j
 
 none_at : (n r : ℕ) → slot {A = ℕ} (replicate n None) r ≡ None
 none_at zero r = refl
 none_at (suc n) zero = refl
 none_at (suc n) (suc r) = none_at n r
 
-pub pins_are_replayed : (whole : List Item) → RunsFrom 0 whole → EachFits [] whole → PinsAreReplayed whole
-pins_are_replayed whole runs fits ns notes i r pos small =
-    (pins_replayed [] (first_of i whole) (first_of i ns) opening_linkage (runs_first i 0 whole runs) (fits_first i [] whole fits) (notes_first i whole ns notes) (refl, λ k a b. none_at 9 k)).1 r pos small
+pub pins_are_replayed : (whole : List Item) → RunsFrom 0 whole → PinsAreReplayed whole
+pins_are_replayed whole runs ns same i r pos small =
+    (pins_replayed [] (first_of i whole) (first_of i ns) opening_linkage (runs_first i 0 whole runs) (same_first i whole ns same) (refl, λ k a b. none_at 9 k)).1 r pos small

@@ -1,16 +1,24 @@
 -- What the rule says of readers' replies, in the words of linked histories: entries by their numbers.
-use Rattle.std.specs.Prelude.{◌≡◌, ℕ, zero, suc, ◌+◌, ◌<◌, ◌≤◌, true, List, [], ◌∷◌, Option, Some, None}
+use Rattle.std.specs.Prelude.{◌≡◌, ℕ, zero, suc, ◌+◌, ◌<◌, ◌≤◌, true, List, [], ◌∷◌, map, Option, Some, None}
 use mathlib.Core.Option.{some}
 use lib.ListN.{get_elem?}
+use Rattle.joint_model.specs.declared.names.Cycle.{Cycle}
+use Rattle.joint_model.specs.declared.names.Var.{Var}
+use Rattle.joint_model.specs.declared.lines.Act.TheVariants as act
+use Rattle.joint_model.specs.declared.events.Op.TheVariants as op
 use Rattle.joint_model.specs.declared.events.Reply.TheVariants as says
+use Rattle.joint_model.specs.Control.{caller_place}
 use Rattle.joint_model.specs.Heaps.{slot, is_freed}
 use Rattle.joint_model.specs.Managed.{Managed}
 use Rattle.joint_model.specs.Told.{Noted}
 use Rattle.joint_model.specs.Readers.{SetsCell, ReadsCell, FreesObject, IsReadReply, replayed_reading}
 use Rattle.joint_model.specs.Linked.{opening_linkage}
+use Rattle.joint_model.specs.HistoryLines.{caller_line}
+use Rattle.order_table.specs.Rows.{at}
 use Rattle.order_table.specs.Stages.{IsClosed}
 use Rattle.order_table.specs.Owed.{marked, target, has, pin}
 use Rattle.order_table.specs.Rule.{Item, of_line}
+use Rattle.order_table.specs.Facts.{entries_of}
 use Rattle.order_table.specs.Owed as lists
 
 -- a note of an entry: what it says is freed was told to `append`, and a `weak` that set its cell was told with the object
@@ -49,7 +57,15 @@ RepliesAreRight whole = (ns : List Noted) (cells : List (Option ℕ)) → AreNot
     → (i : ℕ) (x : Item) → get_elem? whole i ≡ some x → 2 ≤ x.role → (s : Managed) → IsStateOf (first_of i whole) s
     → (k : ℕ) → ReadsCell x.kept.entry.made.op k → IsReadReply ns cells s i x.kept.entry.made.caller k x.kept.entry.made.reply
 
--- the managed state that replays the first entries has the pins that their lines leave
+-- the managed state that replays the first of these entries has the pins that their lines leave
 abbrev pub PinsAreReplayed : List Item → Type 0
-PinsAreReplayed whole = (ns : List Noted) → AreNotes whole ns → (i r : ℕ) → 0 < r → r < 9
+PinsAreReplayed whole = (ns : List Noted) → map (λ n. n.entry) ns ≡ entries_of whole → (i r : ℕ) → 0 < r → r < 9
     → slot (replayed_reading opening_linkage (first_of i ns)).managed.managed.pins r ≡ object_of (pin (of_line (r + 10) (first_of i whole)))
+
+-- the pins that are kept with a snapshot and with a `take` are those that the lines before it leave
+pub record KeepsPins (before : List Item) (x : Item) : Type 0 where
+  pub snapped : x.role ≡ 0 → (k : Cycle) → x.kept.entry.made.op ≡ op.Snap k → (r : ℕ) → 0 < r → r < 9 → at 0 x.kept.pins r ≡ pin (of_line (r + 10) before)
+  pub taken : (v : Var) → x.kept.entry.made.op ≡ op.Line (act.Take v) → at 0 x.kept.pins (caller_place x.kept.entry.made.caller) ≡ pin (of_line (caller_line x.kept.entry.made.caller) before)
+
+abbrev pub KeptPinsAreRight : List Item → Type 0
+KeptPinsAreRight whole = (i : ℕ) (x : Item) → get_elem? whole i ≡ some x → KeepsPins (first_of i whole) x

@@ -18,7 +18,7 @@ use Rattle.order_table.specs.declared.views.View.{View}
 use Rattle.joint_model.specs.HistoryLines.{caller_line}
 use Rattle.order_table.specs.Rows.{at}
 use Rattle.order_table.specs.Stages.{IsClosed, stage, deed, opens, ends}
-use Rattle.order_table.specs.Owed.{marked, target, has, is_freed, says_word, read_of, word_of, pin}
+use Rattle.order_table.specs.Owed.{IsNumber, marked, target, has, is_freed, says_word, read_of, word_of, pin}
 use Rattle.order_table.specs.Views.{IsInRole, IsNext, known, Owns}
 use Rattle.order_table.specs.Allowed.{SaysPending}
 use Rattle.joint_model.specs.Lines.{IsThread}
@@ -118,7 +118,7 @@ pub record ReadsWord (ml own : List KeptEntry) (c w : ℕ) : Type 0 where
 
 -- what may be said of an entry, by what stands before it
 pub record Fits (before : List Item) (x : Item) : Type 0 where
-  pub sets : x.role ≡ 0 → (c m : ℕ) → marked x.kept ≡ Some (c, m) → (0 < m) × (target (of_line 0 before) c ≡ None) × (is_freed (of_line 0 before) m ≡ false)
+  pub sets : x.role ≡ 0 → (c m : ℕ) → marked x.kept ≡ Some (c, m) → IsNumber m × (target (of_line 0 before) c ≡ None) × (is_freed (of_line 0 before) m ≡ false)
   pub others : (x.role ≡ 0 → ⊥) → (marked x.kept ≡ None) × (x.kept.freed ≡ [])
   pub pending : 2 ≤ x.role → (k : ℕ) → SaysPending x.kept.entry.made.reply k → Unknown (of_line 0 before) (of_line (caller_line x.kept.entry.made.caller) before) k
   pub read : 2 ≤ x.role → (c w : ℕ) → read_of x.kept.entry.made.op ≡ Some c → word_of x.kept.entry.made.reply ≡ Some w
@@ -191,7 +191,7 @@ pub record Celled (ml : List KeptEntry) (gate : ℕ) (words : List ℕ) (views :
   pub debt : ℕ → Bool
   pub nonempty : (c : ℕ) → debt c ≡ true → 0 < length ml
   pub cells : (c : ℕ) → c < 64 → CellIs ml gate (debt c) c (slice_index words (2 + c))
-  pub real : (c m : ℕ) → target ml c ≡ Some m → 0 < m
+  pub real : (c m : ℕ) → target ml c ≡ Some m → IsNumber m
   pub each_debt : (j : ℕ) (v : View) → get_elem? views j ≡ some v → Debts ml debt v
   pub each_load : (j : ℕ) (v : View) → get_elem? views j ≡ some v → 0 < v.inside → EachLoad ml v v.loads
 

@@ -1,5 +1,5 @@
 -- What each step tells its caller, and what the calls promise.
-use Rattle.std.specs.Prelude.{◌≡◌, ◌⊎◌, ℕ, ◌+◌, ◌-◌, ◌/◌, ◌<◌, ◌==◌, if◌then◌else◌, true, false, List, [], ◌∷◌, ◌++◌, Option}
+use Rattle.std.specs.Prelude.{◌≡◌, ◌⊎◌, ℕ, ◌+◌, ◌-◌, ◌/◌, ◌<◌, ◌≤◌, ◌==◌, if◌then◌else◌, true, false, List, [], ◌∷◌, ◌++◌, Option}
 use mathlib.Core.List.{IsPrefix}
 use Rattle.atomic_table.specs.Table.{Step, Me}
 use Rattle.joint_model.specs.declared.names.MNum.{MNum}
@@ -95,7 +95,7 @@ Opened st m n m' = (m'.1 ≡ m.1) × (m'.0 ≡ record m.0 { holds = 0 })
 -- what a loaded word tells: the owner, that it is what its managed list says, or what it was before where it is still to be stored; anybody who owes nothing, that it isn't 0 where it knows the cell as set
 abbrev pub LoadedCell : Step (Unit {0}) → Me (Unit {0}) View → ℕ → Me (Unit {0}) View → Type 0
 LoadedCell st m n m' = (m'.1 ≡ m.1) × (m'.0 ≡ loading (st.word - 2) n m.0) × (Owns m.0 0 → CellIs (known m.0 0) m.0.holds (at false m.0.debts (st.word - 2)) (st.word - 2) n)
-    × (NoDebt m.0 → n ≡ 0 → (y : KeptEntry) → Stands (known m.0 0) y → SetsCell y (st.word - 2) → ⊥)
+    × (NoDebt m.0 → n ≡ 0 → (y : KeptEntry) → Stands (known m.0 0) y → SetsCell y (st.word - 2) → ⊥) × (n ≤ 4294967296)
 
 abbrev pub StoredCell : Step (Unit {0}) → Me (Unit {0}) View → ℕ → Me (Unit {0}) View → Type 0
 StoredCell st m n m' = (m'.1 ≡ m.1) × (m'.0 ≡ storing (st.word - 2) m.0)
@@ -104,6 +104,7 @@ StoredCell st m n m' = (m'.1 ≡ m.1) × (m'.0 ≡ storing (st.word - 2) m.0)
 abbrev pub LoadedPin : Step (Unit {0}) → Me (Unit {0}) View → ℕ → Me (Unit {0}) View → Type 0
 LoadedPin st m n m' = (m'.1 ≡ m.1) × (m'.0 ≡ scanning (st.word - 65) n m.0) × ((r : ℕ) → st.word ≡ 65 + r → 0 < r → r < 9 → Owns m.0 (r + 10) → m.0.fill ≡ 0 → m.0.empty ≡ 0 → n ≡ pin (known m.0 (r + 10)))
     × ((r o : ℕ) → st.word ≡ 65 + r → 0 < r → r < 9 → Owns m.0 0 → m.0.empty ≡ 0 → n ≡ o + 1 → IsHeld (known m.0 0) r o)
+    × ((r : ℕ) → st.word ≡ 65 + r → 0 < r → r < 9 → Owns m.0 0 ⊎ Owns m.0 (r + 10) → m.0.empty ≡ 0 → n ≤ 4294967296)
 
 abbrev pub StoredPin : Step (Unit {0}) → Me (Unit {0}) View → ℕ → Me (Unit {0}) View → Type 0
 StoredPin st m n m' = (m'.1 ≡ m.1) × (m'.0 ≡ storing_pin (st.word - 65) m.0)

@@ -24,7 +24,7 @@ use Rattle.order_table.specs.declared.views.View.{View}
 use Rattle.joint_model.specs.HistoryLines.{caller_line}
 use Rattle.order_table.specs.Rows.{at, put, longest, joined, common, without}
 use Rattle.order_table.specs.Stages.{stage}
-use Rattle.order_table.specs.Owed.{PinDeed, pin_deed, pin, owing, fill_after, empty_after, owes_after, by_place, words_of, target_told, freed_told}
+use Rattle.order_table.specs.Owed.{IsNumber, PinDeed, pin_deed, pin, owing, fill_after, empty_after, owes_after, by_place, words_of, target_told, freed_told}
 
 -- which order it is: the name of the table that its word lies in
 abbrev pub OrderId : Type 0
@@ -51,13 +51,13 @@ IsRole role.Managed = Unit {0}
 IsRole role.Peer = Unit {0}
 IsRole (role.Reader i) = (1 ≤ i) × (i ≤ 8)
 
--- a reader's reply; no object has the number 0
+-- a reader's reply
 abbrev pub IsAnswer : Reply → Type 0
 IsAnswer (says.Pending k) = Unit {0}
 IsAnswer (says.Pinned m) = Unit {0}
 IsAnswer says.Unset = Unit {0}
 IsAnswer says.Gone = Unit {0}
-IsAnswer (says.M m) = 0 < m.0
+IsAnswer (says.M m) = IsNumber m.0
 IsAnswer _ = ⊥
 
 -- in whose list an event stands: a read in that of its thread's reader, an event of the peer side in the peer's, and all else in the managed one

@@ -4,7 +4,7 @@
 // number, no two have the same, and together they have the numbers from 0 on. The number comes from one word, the sequencer, by one atomic add
 // for each entry. This crate has that word, and says what a thread may conclude from the numbers that it has seen.
 //
-// A thread holds seats. A seat takes no bytes: it exists for contracts, which see its view. What a view is made of are lines. A line is the list
+// A thread holds seats. A seat exists for contracts, which see its view; of bytes it has two. What a view is made of are lines. A line is the list
 // of a role (of the managed side, of the peer side, or of one of eight readers), or the list of a caller's own entries, in whatever role's list
 // they stand. A seat knows a beginning of each line. It owns some lines: a seat that owns a role's line may make entries in that list, one that
 // owns a caller's line holds that caller's pass and may make entries for it. Each line has one owner at most, and its owner knows it whole.
@@ -29,13 +29,28 @@
 // - `finish` shows each role's whole list with what is kept beside its entries, and each caller's; together the numbers 0 to n - 1, each once.
 //
 // These hold whatever the threads do in between, also where a seat is dropped: nobody can then make entries in the lines that it owned, and the order
-// can't be finished, but what was known of them stays. Each call but `new` takes no memory and waits for nobody: an append is one atomic add, a split one
-// load, `learn` two loads. That a thread gets on is not promised.
+// can't be finished, but what was known of them stays. Each call but `new` takes no memory and waits for nobody: each is one atomic step, `learn` and a refused
+// `enter` are two. That a thread gets on, or that the gate is ever found without readers, is not promised.
 //
-// Weak reads that take no lock will add a gate, cells and pins as further words, and entries of readers. A view has the places for what a seat has to
-// know of them already; today nothing is asked or promised there.
+// Weak cells are read without a lock. Beside the sequencer the order has the gate, a word for each of 64 cells and one for the pin of each of eight
+// readers. A cell's word is 0 for unset, 1 for gone, and else its object's number and 1; a pin's is 0 or its object's number and 1.
 //
-// `specs/` read alone tells what is true: Views and Rule first, then Tells and Facts.
+//     enter                         a reader puts its bit into the gate word, and is inside; or the gate is held for a cycle, and the reader may say so
+//       load_cell                   the word of a cell: while somebody is inside no object is freed
+//       append                      the read's entry, in the reader's own list
+//       store_pin                   the object that it gave, which the next snapshot keeps
+//     leave                         the bit is taken out
+//
+//     try_close_gate                the owner of the managed list holds the gate for the next cycle, if no reader is inside
+//       load_pin                    the eight pins, as the snapshot keeps them
+//       append, write_cell          the cycle's entries, and 1 into each cell whose object was freed
+//     open_gate                     once the cycle has ended
+//
+// What readers answer is right, and `finish` says so: `pending` and `unset` by what the reader could know, every other reply by the cells and pins at
+// the entry's own number. Between its entry and its store of a word a seat owes that store, and can neither be cut nor joined. A seat that owes
+// nothing and is outside is settled.
+//
+// `specs/` read alone tells what is true: Views, Stages and Owed first, then Rule and Allowed, then Tells, Facts and Replies.
 #![tactic(auto)]
 
 mod finished;
@@ -49,7 +64,7 @@ mod views;
 
 pub use finished::Linked;
 pub use laws::{
-    entries_tell_lines, lines_differ, pins_are_replayed, replies_are_right, rule_keeps_lists,
+    entries_tell_lines, kept_pins_are_right, lines_differ, pins_are_replayed, replies_are_right, rule_keeps_lists,
 };
 pub use orders::{Order, Pending, Readers};
 pub use seats::{OrderName, Seat};

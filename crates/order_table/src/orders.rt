@@ -355,6 +355,7 @@ impl Order {
         requires cell { cell.0 < 64 }
         ensures seat { (seat.new.order ≡ seat.old.order) × (seat.new.view ≡ loading cell.0 result seat.old.view) }
         ensures owner { Owns seat.old.view 0 → CellIs (known seat.old.view 0) seat.old.view.holds (at false seat.old.view.debts cell.0) cell.0 result }
+        ensures small { result ≤ 4294967296 }
         ensures unset { NoDebt seat.old.view → result ≡ 0 → (y : KeptEntry) → Stands (known seat.old.view 0) y → SetsCell y cell.0 → ⊥ }
     {
         self.table
@@ -385,6 +386,7 @@ impl Order {
         requires reader { (0 < reader) × (reader < 9) }
         ensures seat { (seat.new.order ≡ seat.old.order) × (seat.new.view ≡ scanning reader result seat.old.view) }
         ensures own { Owns seat.old.view (reader + 10) → seat.old.view.fill ≡ 0 → seat.old.view.empty ≡ 0 → result ≡ pin (known seat.old.view (reader + 10)) }
+        ensures small { Owns seat.old.view 0 ⊎ Owns seat.old.view (reader + 10) → seat.old.view.empty ≡ 0 → result ≤ 4294967296 }
         ensures held { Owns seat.old.view 0 → seat.old.view.empty ≡ 0 → (m : ℕ) → result ≡ m + 1 → IsHeld (known seat.old.view 0) reader m }
     {
         self.table

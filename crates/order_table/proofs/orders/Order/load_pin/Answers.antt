@@ -14,3 +14,6 @@ returns-clause-own c = rw (← c.seat.view_is) (λ own fill empty. c.load.ensure
 
 pub returns-clause-held : goal.returns-clause-held
 returns-clause-held c = rw (← c.seat.view_is) (λ owns empty m is. c.load.ensures.2.3 c.args.reader m refl c.requires.reader.0 c.requires.reader.1 owns empty is)
+
+pub returns-clause-small : goal.returns-clause-small
+returns-clause-small c = rw (← c.seat.view_is) (λ owns empty. c.load.ensures.2.4 c.args.reader refl c.requires.reader.0 c.requires.reader.1 owns empty)
