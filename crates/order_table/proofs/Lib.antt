@@ -13,6 +13,6 @@ pub mod Held
 pub mod PinSteps
 pub mod Parting
 pub mod Wholes
-pub mod Masks
+pub mod Heard
 pub mod ByNumber
 pub mod Replay

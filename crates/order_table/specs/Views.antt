@@ -2,7 +2,6 @@
 -- the lines from 10 on those of the callers. A seat that owns a role's line owns the role; one that owns a caller's line holds
 -- that caller's pass.
 use Rattle.std.specs.Prelude.{◌≡◌, ℕ, zero, suc, ◌+◌, ◌-◌, ◌*◌, ◌/◌, ◌^◌, ◌<◌, ◌≤◌, ◌==◌, ◌&&◌, not, nat_lt, if◌then◌else◌, Bool, true, false, List, [], ◌∷◌, ◌++◌, replicate, Option, Some, None}
-use Rattle.std.specs.Int.{bit_at}
 use Rattle.atomic_table.specs.Seated.{TableId}
 use Rattle.joint_model.specs.declared.names.MNum.{MNum}
 use Rattle.joint_model.specs.declared.names.Thread.{Thread}
@@ -195,22 +194,3 @@ scanning r n v = if nat_lt 0 v.holds && owes_none v then record v { scanned = pu
 -- a view after it stored the word of a pin
 abbrev pub storing_pin : ℕ → View → View
 storing_pin r v = record v { fill = if v.fill == r then 0 else v.fill; empty = if v.empty == r then 0 else v.empty }
-
--- bit r of a mask is 1 just where the role of reader r is owned
-abbrev pub is_readers : List Bool → ℕ → Bool
-is_readers owns r = (nat_lt 0 r && nat_lt r 9) && at false owns (1 + r)
-
-abbrev pub IsMask : ℕ → List Bool → Type 0
-IsMask word owns = (r : ℕ) → bit_at word r ≡ (if is_readers owns r then 1 else 0)
-
--- the lowest reader whose role is owned, 0 where none is
-abbrev pub lowest_from : ℕ → ℕ → List Bool → ℕ
-lowest_from zero r owns = 0
-lowest_from (suc n) r owns = if at false owns (1 + r) then r else lowest_from n (suc r) owns
-
-abbrev pub lowest_reader : List Bool → ℕ
-lowest_reader owns = lowest_from 8 1 owns
-
--- a seat is inside with the bit of its lowest reader
-abbrev pub IsInsideLowest : View → Type 0
-IsInsideLowest v = 0 < v.inside → (0 < lowest_reader v.owns) × (v.inside ≡ 2 ^ lowest_reader v.owns)

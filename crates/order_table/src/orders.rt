@@ -1,7 +1,6 @@
 // The order and its calls.
 
 ghost use Rattle.std.specs.Prelude.{◌≡◌, ◌⊎◌, ◌<◌, ◌≤◌, ◌+◌, ◌^◌, ◌==◌, if◌then◌else◌, ℕ, Bool, true, false, [], Some, None, length, IfOk, OnOk, IfErr, MatchResult, count_ones};
-ghost use Rattle.std.specs.Int.{trailing_zeros, w16};
 ghost use Rattle.joint_model.specs.declared.names.Thread.{Thread};
 ghost use Rattle.joint_model.specs.Lines.{IsThread};
 ghost use Rattle.order_table.specs.declared.views.View.{View};
@@ -10,7 +9,7 @@ ghost use Rattle.joint_model.specs.HistoryLines.{caller_line};
 ghost use Rattle.order_table.specs.Rows.{at};
 ghost use Rattle.order_table.specs.Stages.{IsClosed};
 ghost use Rattle.order_table.specs.Owed.{marked, owes_after, pin, says_word};
-ghost use Rattle.order_table.specs.Views.{IsRole, IsInRole, IsMask, IsNext, IsOpen, IsEnded, lowest_reader, role_line, kept, known, Owns, OwnsAll, first_view, appended, giving, given, hearing, learned, lines_of_role, lines_of_caller, lines_of_none, loading, scanning, storing, storing_pin};
+ghost use Rattle.order_table.specs.Views.{IsRole, IsInRole, IsNext, IsOpen, IsEnded, role_line, kept, known, Owns, OwnsAll, first_view, appended, giving, given, hearing, learned, lines_of_role, lines_of_caller, lines_of_none, loading, scanning, storing, storing_pin};
 ghost use Rattle.order_table.specs.Allowed.{IsQuiet, MayMake, NoDebt, OwesOnly, Settled};
 ghost use Rattle.order_table.specs.Rule.{IsBelow, IsHeld, CellIs, Stands, SetsCell, AreLinesOfOneHistory};
 ghost use Rattle.order_table.specs.Tells.{GrowsByEntry, Parts, IsOfRole, IsOfCaller, IsOfNone, TakesIn, BeginsOneHistory};
@@ -56,36 +55,13 @@ pub struct Readers {
     pub count: u32,
 }
 
-// The bit of the lowest reader in a mask that has one.
-fn lowest_bit(readers: u16) -> u64
-    requires some { 0 < readers }
-    ensures { result ≡ 2 ^ trailing_zeros w16 readers }
+// The bit of a reader in the gate word.
+#[inline(always)]
+fn bit_of(reader: u8) -> u64
+    requires { reader < 9 }
+    ensures { result ≡ 2 ^ reader }
 {
-    1u64 << readers.trailing_zeros()
-}
-
-// The readers' roles that are among a role's lines.
-fn readers_of_role(role: Role) -> u16
-    requires { IsRole role }
-    ensures { IsMask result (lines_of_role role) }
-{
-    match role {
-        Role::Managed => 0,
-        Role::Peer => 0,
-        Role::Reader(reader) => 1 << reader,
-    }
-}
-
-// The readers' roles that are among a caller's lines.
-fn readers_of_caller(t: Thread) -> u16
-    requires { IsThread t }
-    ensures { IsMask result (lines_of_caller t) }
-{
-    match t {
-        Thread::M(reader) => 1 << reader,
-        Thread::P(_) => 0,
-        Thread::C => 0,
-    }
+    1u64 << reader
 }
 
 impl Order {
@@ -98,13 +74,7 @@ impl Order {
     {
         let _ = readers;
         let (table, inner) = Table::of_words(alloc, &[0; 74], &())?;
-        Ok((
-            Order { table },
-            Seat {
-                inner,
-                readers: 510,
-            },
-        ))
+        Ok((Order { table }, Seat { inner }))
     }
 
     // The entry is what `W` says, which the caller picks.
@@ -170,43 +140,36 @@ impl Order {
     }
 
     // The lines that `W` says are handed over.
-    fn cut<W: Lines>(&self, seat: &mut Seat, readers: u16) -> Seat
-        requires readers { IsMask readers W.lines }
+    fn cut<W: Lines>(&self, seat: &mut Seat) -> Seat
         requires settled { Settled seat.old.view }
         requires seat { seat.old.order ≡ self.now }
         ensures old { (seat.new.order ≡ seat.old.order) × (seat.new.view ≡ giving W.lines seat.old.view) }
         ensures new { (result.order ≡ seat.old.order) × (result.view ≡ given W.lines seat.old.view) }
         ensures settled { Settled seat.new.view × Settled result.view }
     {
-        let new = self.table.shared.split_seat::<Cut<W>>(&mut seat.inner);
-        let taken = seat.readers & readers;
-        seat.readers &= !readers;
         Seat {
-            inner: new,
-            readers: taken,
+            inner: self.table.shared.split_seat::<Cut<W>>(&mut seat.inner),
         }
     }
 
-    fn cut_role<W: Lines>(&self, seat: &mut Seat, _role: Role, readers: u16) -> Seat
-        requires readers { IsMask readers W.lines }
+    fn cut_role<W: Lines>(&self, seat: &mut Seat, _role: Role) -> Seat
         requires settled { Settled seat.old.view }
         requires seat { seat.old.order ≡ self.now }
         ensures old { (seat.new.order ≡ seat.old.order) × (seat.new.view ≡ giving W.lines seat.old.view) }
         ensures new { (result.order ≡ seat.old.order) × (result.view ≡ given W.lines seat.old.view) }
         ensures settled { Settled seat.new.view × Settled result.view }
     {
-        self.cut::<W>(seat, readers)
+        self.cut::<W>(seat)
     }
 
-    fn cut_caller<W: Lines>(&self, seat: &mut Seat, _t: Thread, readers: u16) -> Seat
-        requires readers { IsMask readers W.lines }
+    fn cut_caller<W: Lines>(&self, seat: &mut Seat, _t: Thread) -> Seat
         requires settled { Settled seat.old.view }
         requires seat { seat.old.order ≡ self.now }
         ensures old { (seat.new.order ≡ seat.old.order) × (seat.new.view ≡ giving W.lines seat.old.view) }
         ensures new { (result.order ≡ seat.old.order) × (result.view ≡ given W.lines seat.old.view) }
         ensures settled { Settled seat.new.view × Settled result.view }
     {
-        self.cut::<W>(seat, readers)
+        self.cut::<W>(seat)
     }
 
     /// A new seat that owns the role, which this one gives away. Both know what this one knew.
@@ -219,7 +182,7 @@ impl Order {
         ensures parts { Parts (IsOfRole role) seat.old.view seat.new.view result.view }
         ensures settled { Settled seat.new.view × Settled result.view }
     {
-        self.cut_role::<Brand>(seat, role, readers_of_role(role))
+        self.cut_role::<Brand>(seat, role)
     }
 
     /// A new seat that holds the caller's pass, which this one gives away; for a managed thread also with the role of that reader, if this
@@ -233,7 +196,7 @@ impl Order {
         ensures parts { Parts (IsOfCaller t) seat.old.view seat.new.view result.view }
         ensures settled { Settled seat.new.view × Settled result.view }
     {
-        self.cut_caller::<Brand>(seat, t, readers_of_caller(t))
+        self.cut_caller::<Brand>(seat, t)
     }
 
     /// A new seat without roles and passes, which knows what this one knows.
@@ -245,7 +208,7 @@ impl Order {
         ensures parts { Parts IsOfNone seat.old.view seat.new.view result.view }
         ensures settled { Settled seat.new.view × Settled result.view }
     {
-        self.cut::<NoLine>(seat, 0)
+        self.cut::<NoLine>(seat)
     }
 
     /// Takes another seat in. Afterwards this one owns the roles and holds the passes of both, and knows of each line the longer list, which
@@ -260,26 +223,25 @@ impl Order {
         ensures settled { Settled seat.new.view }
     {
         let shared = &self.table.shared;
-        let Seat { inner, readers } = other;
+        let Seat { inner } = other;
         shared.join_seat::<Glue>(&mut seat.inner, inner);
         shared.load::<Compare>(&mut seat.inner, 0);
-        seat.readers |= readers;
     }
 
-    /// A reader goes inside, or finds the gate held, with the cycle for which it is; a seat with several readers' roles goes in as the lowest.
+    /// A reader goes inside, or finds the gate held, with the cycle for which it is.
     ///
     /// Answers `Pending` only where its own step found the gate held, and never where the seat knows that cycle as ended. To a seat that owns
     /// the managed list it comes exactly while that list has an open cycle.
-    pub fn enter(&self, seat: &mut Seat) -> Result<(), Pending>
+    pub fn enter(&self, seat: &mut Seat, reader: u8) -> Result<(), Pending>
         requires seat { seat.old.order ≡ self.now }
         requires settled { Settled seat.old.view }
-        requires reader { 0 < lowest_reader seat.old.view.owns }
+        requires reader { (0 < reader) × (reader < 9) × Owns seat.old.view (1 + reader) }
         ensures seat { seat.new.order ≡ seat.old.order }
-        ensures ok { OnOk result (seat.new.view ≡ record seat.old.view { inside = 2 ^ lowest_reader seat.old.view.owns; loads = [] }) }
+        ensures ok { OnOk result (seat.new.view ≡ record seat.old.view { inside = 2 ^ reader; loads = [] }) }
         ensures err { IfErr result (λ p. (seat.new.view ≡ record seat.old.view { found = p.cycle.0 }) × ¬ IsEnded seat.old.view p.cycle.0) }
         ensures owner { Owns seat.old.view 0 → MatchResult result (λ _. (seat.old.view.holds ≡ 0) × IsClosed (known seat.old.view 0)) (λ p. (p.cycle.0 ≡ seat.old.view.holds) × IsOpen seat.old.view p.cycle.0) }
     {
-        let bit = lowest_bit(seat.readers);
+        let bit = bit_of(reader);
         let found = self.table.shared.fetch_or::<Enter>(&mut seat.inner, 1, bit);
         if found / 512 == 0 {
             return Ok(());
@@ -293,13 +255,14 @@ impl Order {
     }
 
     /// The reader goes outside. It owes no store to its pin.
-    pub fn leave(&self, seat: &mut Seat)
+    pub fn leave(&self, seat: &mut Seat, reader: u8)
         requires seat { seat.old.order ≡ self.now }
-        requires inside { 0 < seat.old.view.inside }
+        requires reader { reader < 9 }
+        requires inside { seat.old.view.inside ≡ 2 ^ reader }
         requires filled { seat.old.view.fill ≡ 0 }
         ensures seat { (seat.new.order ≡ seat.old.order) × (seat.new.view ≡ record seat.old.view { inside = 0 }) }
     {
-        let bit = lowest_bit(seat.readers);
+        let bit = bit_of(reader);
         self.table
             .shared
             .fetch_and::<Leave>(&mut seat.inner, 1, u64::MAX - bit);
@@ -438,7 +401,7 @@ impl Order {
     {
         let note = self.note(&mut seat);
         let Order { table } = self;
-        let Seat { inner, .. } = seat;
+        let Seat { inner } = seat;
         table.close_with(inner).free();
         Linked { note }
     }

@@ -27,22 +27,19 @@ impl OrderName for Brand {
     ghost peers = { 0 };
 }
 
-/// What a thread knows of an order, and what it may add. Contracts see which order it is of, and its view. All that it has when the program
-/// runs are two bytes: which readers' roles it owns.
+/// What a thread knows of an order, and what it may add. It takes no bytes, and contracts see which order it is of, and its view.
 #[derive(Drop)]
 pub struct Seat {
     pub(crate) inner: atomic_table::Seat<(), View>,
-    // Bit r where it owns the role of reader r.
-    pub(crate) readers: u16,
 }
 
 impl Model for Seat {
     ghost use Rattle.std.specs.Prelude.{◌≡◌, []};
-    ghost use Rattle.order_table.specs.Views.{Shown, IsCompared, IsMask, IsInsideLowest};
+    ghost use Rattle.order_table.specs.Views.{Shown, IsCompared};
 
     ghost Value = { Shown };
 
     ghost view = { λ s. record { order = s.inner.table_id; view = s.inner.me.0 } };
 
-    ghost invariant = { λ s. (s.inner.me.1 ≡ []) × IsCompared s.inner.me.0 × IsMask s.readers s.inner.me.0.owns × IsInsideLowest s.inner.me.0 };
+    ghost invariant = { λ s. (s.inner.me.1 ≡ []) × IsCompared s.inner.me.0 };
 }

@@ -7,7 +7,7 @@ use Rattle.order_table.proofs.Free.{sets_frees_none}
 use Rattle.order_table.proofs.Cells.{paid_more, owes_one, owes_more}
 use Rattle.order_table.proofs.Lines.{grows}
 use Rattle.order_table.proofs.Steps.{appends, settled_appended}
-use Rattle.order_table.proofs.Masks.{masked_view}
+use Rattle.order_table.proofs.Heard.{keeps_alike}
 use Rattle.order_table.proofs.orders.Order.append_as.Goals as goal
 
 pub fetch_add-requires : goal.fetch_add-requires
@@ -18,7 +18,7 @@ fetch_add-requires g c = let q = rw (← c.seat.view_is) at c.requires in (
 )
 
 pub invariant_of-seat : goal.invariant_of-seat
-invariant_of-seat g c = masked_view c.seat.inside.readers c.seat.inside.inner.me c.fetch_add.new.seat.me _ c.fetch_add.ensures.2.0 c.fetch_add.ensures.2.1 (refl, refl, refl, refl, refl) c.seat.invariant
+invariant_of-seat g c = keeps_alike c.seat.inside.inner.me c.fetch_add.new.seat.me _ c.fetch_add.ensures.2.0 c.fetch_add.ensures.2.1 (refl, refl, refl) c.seat.invariant
 
 pub returns-clause-grows : goal.returns-clause-grows
 returns-clause-grows g c = let v = c.seat.inside.inner.me.0 in let k = kept v g.W.Saying.made g.W.Saying.target g.W.Saying.freed c.fetch_add.result in

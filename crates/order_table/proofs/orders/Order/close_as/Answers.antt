@@ -6,7 +6,7 @@ use Rattle.atomic_table.specs.Table.{step, Allows}
 use Rattle.order_table.specs.Views.{IsNext}
 use Rattle.order_table.specs.Rule.{Ordered}
 use Rattle.order_table.specs.Tells.{Closed}
-use Rattle.order_table.proofs.Masks.{masked_view, alike_closing}
+use Rattle.order_table.proofs.Heard.{keeps_alike, alike_closing}
 use Rattle.order_table.proofs.Doors.{closes}
 use Rattle.order_table.proofs.orders.Order.close_as.Goals as goal
 
@@ -23,4 +23,4 @@ compare_exchange-requires g c =
     )
 
 pub invariant_of-seat : goal.invariant_of-seat
-invariant_of-seat g c = let same = alike_closing (c.compare_exchange.result == 0) g.W.Closing.cycle c.seat.inside.inner.me.0 in masked_view c.seat.inside.readers c.seat.inside.inner.me c.compare_exchange.new.seat.me (if c.compare_exchange.result == 0 then record c.seat.inside.inner.me.0 { holds = g.W.Closing.cycle; scanned = [] } else c.seat.inside.inner.me.0) c.compare_exchange.ensures.2.0 c.compare_exchange.ensures.2.1 same c.seat.invariant
+invariant_of-seat g c = let same = alike_closing (c.compare_exchange.result == 0) g.W.Closing.cycle c.seat.inside.inner.me.0 in keeps_alike c.seat.inside.inner.me c.compare_exchange.new.seat.me (if c.compare_exchange.result == 0 then record c.seat.inside.inner.me.0 { holds = g.W.Closing.cycle; scanned = [] } else c.seat.inside.inner.me.0) c.compare_exchange.ensures.2.0 c.compare_exchange.ensures.2.1 same c.seat.invariant

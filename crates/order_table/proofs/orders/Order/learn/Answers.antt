@@ -1,13 +1,11 @@
 use Rattle.std.proofs.Common.{rules, ◌≡◌, refl, ap, sym, ◌∙◌, subst, arith}
-use Rattle.std.specs.Prelude.{bit_or}
 use Rattle.atomic_table.specs.Table.{Me}
 use Rattle.order_table.specs.declared.views.View.{View}
-use Rattle.order_table.specs.Views.{hearing, learned, IsCompared, IsMask}
+use Rattle.order_table.specs.Views.{hearing}
 use Rattle.order_table.specs.Tells.{Compares}
 use Rattle.order_table.proofs.Free.{free}
 use Rattle.order_table.proofs.Steps.{takes_in, compares, settled_learned}
 use Rattle.order_table.proofs.Parting.{taken}
-use Rattle.order_table.proofs.Masks.{mask_joined}
 use Rattle.order_table.proofs.orders.Order.learn.Goals as goal
 
 pub join_seat-requires : goal.join_seat-requires
@@ -22,16 +20,6 @@ join_seat-requires c = let q = rw (← c.seat.view_is, ← c.other.view_is) at c
 pub load-requires : goal.load-requires
 load-requires c = let q = rw (← c.seat.view_is) at c.requires in
     (search rules, search rules, compares _ c.join_seat.new.seat.id c.join_seat.new.seat.me (ap (λ m. m.0.inside) c.join_seat.ensures.2 ∙ q.settled.outside))
-
-pub invariant_of-seat : goal.invariant_of-seat
-invariant_of-seat c = let q = rw (← c.seat.view_is) at c.requires in let out = q.settled.outside in let v = c.seat.inside.inner.me.0 in let w = c.other.inside.inner.me.0 in
-    let now : c.load.new.seat.me.0 ≡ learned (hearing v w) = c.load.ensures.2.1.is ∙ ap (λ m. learned m.0) c.join_seat.ensures.2 in
-    let inside : c.load.new.seat.me.0.inside ≡ v.inside = ap (λ u. u.inside) now in (
-      c.load.ensures.2.0 ∙ (ap (λ m. m.1) c.join_seat.ensures.2 ∙ c.seat.invariant.0),
-      subst IsCompared (sym now) record { heard = refl; owns = refl; holds = refl },
-      subst (λ u. IsMask (bit_or c.seat.inside.readers c.other.inside.readers) u.owns) (sym now) (mask_joined c.seat.inside.readers c.other.inside.readers v.owns w.owns c.seat.invariant.2 c.other.invariant.2),
-      λ l. absurd (omega arith),
-    )
 
 pub returns-clause-takes : goal.returns-clause-takes
 returns-clause-takes c = rw (← c.seat.view_is, ← c.other.view_is)

@@ -1,13 +1,13 @@
 use Rattle.std.proofs.Common.{rules, ◌+◌, ◌-◌, refl}
 use Rattle.order_table.proofs.PinSteps.{loads_pin}
-use Rattle.order_table.proofs.Masks.{masked_view, alike_scanning}
+use Rattle.order_table.proofs.Heard.{keeps_alike, alike_scanning}
 use Rattle.order_table.proofs.orders.Order.load_pin.Goals as goal
 
 pub load-requires : goal.load-requires
 load-requires c = (search rules, search rules, loads_pin _ c.seat.inside.inner.id c.args.reader c.seat.inside.inner.me c.requires.reader.0 c.requires.reader.1)
 
 pub invariant_of-seat : goal.invariant_of-seat
-invariant_of-seat c = let same = alike_scanning (65 + c.args.reader - 65) c.load.result c.seat.inside.inner.me.0 in masked_view c.seat.inside.readers c.seat.inside.inner.me c.load.new.seat.me _ c.load.ensures.2.0 c.load.ensures.2.1 same c.seat.invariant
+invariant_of-seat c = let same = alike_scanning (65 + c.args.reader - 65) c.load.result c.seat.inside.inner.me.0 in keeps_alike c.seat.inside.inner.me c.load.new.seat.me _ c.load.ensures.2.0 c.load.ensures.2.1 same c.seat.invariant
 
 pub returns-clause-own : goal.returns-clause-own
 returns-clause-own c = rw (← c.seat.view_is) (λ own fill empty. c.load.ensures.2.2 c.args.reader refl c.requires.reader.0 c.requires.reader.1 own fill empty)

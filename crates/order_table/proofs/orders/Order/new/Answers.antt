@@ -1,14 +1,10 @@
 use Rattle.std.proofs.Common.{rules, ◌≡◌, [], refl, ap, sym, subst, arith}
 use Rattle.order_table.specs.Views.{OwnsAll, first_view}
 use Rattle.order_table.proofs.Steps.{opens_order, owns_first}
-use Rattle.order_table.proofs.Masks.{Masked, mask_first}
 use Rattle.order_table.proofs.orders.Order.new.Goals as goal
 
 pub of_words-requires : goal.of_words-requires
 of_words-requires c = opens_order
-
-pub invariant_of-result-2 : goal.invariant_of-result-2
-invariant_of-result-2 c = let e : c.in_ok-table.inner.me ≡ (first_view, []) = search rules in subst (Masked 510) (sym e) (refl, record { heard = refl; owns = refl; holds = refl }, mask_first, λ l. absurd (omega arith))
 
 pub returns-clause-all : goal.returns-clause-all
 returns-clause-all c = let e : c.in_ok-table.inner.me ≡ (first_view, []) = search rules in subst OwnsAll (sym (ap (λ m. m.0) e)) owns_first
