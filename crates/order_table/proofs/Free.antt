@@ -107,7 +107,7 @@ empties_take (M n) (op.Line (act.Await c)) (says.M m) e = absurd (true≢false (
 empties_take (M n) (op.Line (act.Take v)) reply e = record { number = n; thread = refl; read = refl; side = refl }
 empties_take _ _ _ e = absurd (true≢false (sym (ap is_empty e)))
 
-owing_fills : (p : ℕ) (d : PinDeed) (w : ℕ) → owing p d ≡ fills w → d ≡ fills w
+pub owing_fills : (p : ℕ) (d : PinDeed) (w : ℕ) → owing p d ≡ fills w → d ≡ fills w
 owing_fills p (fills x) w e = e
 owing_fills p empties w e = absurd (either_way (p == 0) e)
   where

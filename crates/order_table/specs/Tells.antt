@@ -45,6 +45,18 @@ pub record Compares (v w : View) : Type 0 where
 abbrev pub Compared : Step (Unit {0}) → Me (Unit {0}) View → ℕ → Me (Unit {0}) View → Type 0
 Compared st m n m' = (m'.1 ≡ m.1) × Compares m.0 m'.0 × BeginsOneHistory m'.0
 
+-- all is as before but what was loaded and scanned
+pub record StaysAs (v w : View) : Type 0 where
+  pub owns : w.owns ≡ v.owns
+  pub known : w.known ≡ v.known
+  pub inside : w.inside ≡ v.inside
+  pub owes : w.owes ≡ v.owes
+  pub found : w.found ≡ v.found
+  pub holds : w.holds ≡ v.holds
+  pub debts : w.debts ≡ v.debts
+  pub fill : w.fill ≡ v.fill
+  pub empty : w.empty ≡ v.empty
+
 -- which lines a seat gives away: a role's; a caller's, and for a managed thread that of its reader; none
 abbrev pub IsOfRole : Role → ℕ → Type 0
 IsOfRole r i = i ≡ role_line r

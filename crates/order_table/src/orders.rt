@@ -8,11 +8,11 @@ ghost use Rattle.order_table.specs.declared.views.KeptEntry.{KeptEntry};
 ghost use Rattle.joint_model.specs.HistoryLines.{caller_line};
 ghost use Rattle.order_table.specs.Rows.{at};
 ghost use Rattle.order_table.specs.Stages.{IsClosed};
-ghost use Rattle.order_table.specs.Owed.{marked, owes_after, pin, says_word};
+ghost use Rattle.order_table.specs.Owed.{IsLoaded, marked, owes_after, pin, says_word};
 ghost use Rattle.order_table.specs.Views.{IsRole, IsInRole, IsNext, IsOpen, IsEnded, role_line, kept, known, Owns, OwnsAll, first_view, appended, giving, given, hearing, learned, lines_of_role, lines_of_caller, lines_of_none, loading, scanning, storing, storing_pin};
-ghost use Rattle.order_table.specs.Allowed.{IsQuiet, MayMake, NoDebt, OwesOnly, Settled};
+ghost use Rattle.order_table.specs.Allowed.{IsQuiet, MayMake, NoDebt, OwesNone, OwesOnly, Settled};
 ghost use Rattle.order_table.specs.Rule.{IsBelow, IsHeld, CellIs, Stands, SetsCell, AreLinesOfOneHistory};
-ghost use Rattle.order_table.specs.Tells.{GrowsByEntry, Parts, IsOfRole, IsOfCaller, IsOfNone, TakesIn, BeginsOneHistory};
+ghost use Rattle.order_table.specs.Tells.{GrowsByEntry, Parts, IsOfRole, IsOfCaller, IsOfNone, TakesIn, StaysAs, BeginsOneHistory};
 
 use crate::finished::Linked;
 use crate::plays::{
@@ -239,6 +239,7 @@ impl Order {
         ensures seat { seat.new.order ≡ seat.old.order }
         ensures ok { OnOk result (seat.new.view ≡ record seat.old.view { inside = 2 ^ reader; loads = [] }) }
         ensures err { IfErr result (λ p. (seat.new.view ≡ record seat.old.view { found = p.cycle.0 }) × ¬ IsEnded seat.old.view p.cycle.0) }
+        ensures cycle { IfErr result (λ p. 0 < p.cycle.0) }
         ensures owner { Owns seat.old.view 0 → MatchResult result (λ _. (seat.old.view.holds ≡ 0) × IsClosed (known seat.old.view 0)) (λ p. (p.cycle.0 ≡ seat.old.view.holds) × IsOpen seat.old.view p.cycle.0) }
     {
         let bit = bit_of(reader);
@@ -317,6 +318,9 @@ impl Order {
         requires seat { seat.old.order ≡ self.now }
         requires cell { cell.0 < 64 }
         ensures seat { (seat.new.order ≡ seat.old.order) × (seat.new.view ≡ loading cell.0 result seat.old.view) }
+        ensures stays { StaysAs seat.old.view seat.new.view }
+        ensures loaded { 0 < seat.old.view.inside → OwesNone seat.old.view → IsLoaded seat.new.view.loads cell.0 result }
+        ensures says { Owns seat.old.view 0 → NoDebt seat.old.view → result ≡ says_word (known seat.old.view 0) cell.0 }
         ensures owner { Owns seat.old.view 0 → CellIs (known seat.old.view 0) seat.old.view.holds (at false seat.old.view.debts cell.0) cell.0 result }
         ensures small { result ≤ 4294967296 }
         ensures unset { NoDebt seat.old.view → result ≡ 0 → (y : KeptEntry) → Stands (known seat.old.view 0) y → SetsCell y cell.0 → ⊥ }
@@ -348,6 +352,7 @@ impl Order {
         requires seat { seat.old.order ≡ self.now }
         requires reader { (0 < reader) × (reader < 9) }
         ensures seat { (seat.new.order ≡ seat.old.order) × (seat.new.view ≡ scanning reader result seat.old.view) }
+        ensures stays { StaysAs seat.old.view seat.new.view }
         ensures own { Owns seat.old.view (reader + 10) → seat.old.view.fill ≡ 0 → seat.old.view.empty ≡ 0 → result ≡ pin (known seat.old.view (reader + 10)) }
         ensures small { Owns seat.old.view 0 ⊎ Owns seat.old.view (reader + 10) → seat.old.view.empty ≡ 0 → result ≤ 4294967296 }
         ensures held { Owns seat.old.view 0 → seat.old.view.empty ≡ 0 → (m : ℕ) → result ≡ m + 1 → IsHeld (known seat.old.view 0) reader m }

@@ -1,6 +1,7 @@
-use Rattle.std.proofs.Common.{rules, ◌+◌, ◌-◌, refl}
+use Rattle.std.proofs.Common.{rules, ◌+◌, ◌-◌, refl, sym, subst}
+use Rattle.order_table.specs.Tells.{StaysAs}
 use Rattle.order_table.proofs.PinSteps.{loads_pin}
-use Rattle.order_table.proofs.Heard.{keeps_alike, alike_scanning}
+use Rattle.order_table.proofs.Heard.{keeps_alike, alike_scanning, stays_scanning}
 use Rattle.order_table.proofs.orders.Order.load_pin.Goals as goal
 
 pub load-requires : goal.load-requires
@@ -17,3 +18,6 @@ returns-clause-held c = rw (← c.seat.view_is) (λ owns empty m is. c.load.ensu
 
 pub returns-clause-small : goal.returns-clause-small
 returns-clause-small c = rw (← c.seat.view_is) (λ owns empty. c.load.ensures.2.4 c.args.reader refl c.requires.reader.0 c.requires.reader.1 owns empty)
+
+pub returns-clause-stays : goal.returns-clause-stays
+returns-clause-stays c = rw (← c.seat.view_is) (subst (StaysAs c.seat.inside.inner.me.0) (sym c.load.ensures.2.1) (stays_scanning (65 + c.args.reader - 65) c.load.result c.seat.inside.inner.me.0))
