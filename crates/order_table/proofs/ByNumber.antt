@@ -175,7 +175,6 @@ pub record EntryAt (whole : List Item) (j : ℕ) (n : Noted) : Type 0 where
 
 entry_at : (whole : List Item) (ns : List Noted) → Noticed whole ns → (j : ℕ) (n : Noted) → slice_get ns j ≡ Some n → EntryAt whole j n
 entry_at whole ns g j n e = let t = note_item whole ns g.notes j n e in record { item = t.0; there = t.1; note = t.2; is = item_at (runs_at 0 whole j t.0 g.runs t.1); number = (runs_at 0 whole j t.0 g.runs t.1).number ∙ omega arith; fits = fits_at [] whole j t.0 g.fits t.1 }
-
   where
     item_at : {x : Item} → IsItem (0 + j) x → IsItem j x
     item_at is = record { number = is.number ∙ omega arith; caller = is.caller; stands = is.stands }

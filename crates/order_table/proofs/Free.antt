@@ -20,7 +20,7 @@ use Rattle.order_table.specs.Rows.{at}
 use Rattle.order_table.specs.Stages.{stage, deed, opens, ends, neither}
 use Rattle.order_table.specs.Owed.{PinDeed, fills, empties, stays, pin_deed, pin, owing, has, mark, target_told, freed_told}
 use Rattle.order_table.specs.Views.{IsCompared, IsInRole, IsOpen, IsNext, known, pin_owed}
-use Rattle.order_table.specs.Allowed.{NoDebt, Settled, MayDo, MayMake}
+use Rattle.order_table.specs.Allowed.{NoDebt, HoldsOpen, Settled, MayDo, MayMake}
 use Rattle.order_table.specs.Rule.{IsHeldFor}
 
 pub record Free (v : View) : Type 0 where
@@ -29,7 +29,7 @@ pub record Free (v : View) : Type 0 where
   pub clear : v.owes ≡ 0
   pub paid : NoDebt v
   pub stored : (v.fill ≡ 0) × (v.empty ≡ 0)
-  pub gate : at false v.owns 0 ≡ true → (v.holds ≡ 0) ⊎ IsOpen v v.holds
+  pub gate : at false v.owns 0 ≡ true → HoldsOpen v
 
 pub free : (v : View) → IsCompared v → Settled v → Free v
 free v c s = record { compared = (c.heard, c.owns, c.holds); outside = s.outside; clear = s.clear; paid = s.paid; stored = s.stored; gate = s.gate }

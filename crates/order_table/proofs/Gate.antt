@@ -79,7 +79,7 @@ no_bit n e l = absurd (omega arith)
 
 -- a settled owner of the managed list doesn't hold the gate for an ended cycle
 settled_stage : (gate word : ℕ) (v : View) → Gates gate word v → Free v → Owns v 0 → 0 < gate → stage (known v 0) ≤ 2 * gate
-settled_stage gate word v g s o pos = let same = g.owner o in ⊎_elim (λ e. absurd (omega arith)) (λ (e : stage (known v 0) ≡ 2 * v.holds). omega arith) (s.gate o)
+settled_stage gate word v g s o pos = let same = g.owner o in ⊎_elim (λ e. let z = e.0 in absurd (omega arith)) (λ e. let z : stage (known v 0) ≡ 2 * v.holds = e.1 in omega arith) (s.gate o)
 
 pub if_true : {A : Type 0} (b : Bool) (x y : A) → b ≡ true → (if b then x else y) ≡ x
 if_true b x y e = ap (λ c. if c then x else y) e

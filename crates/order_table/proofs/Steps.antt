@@ -24,7 +24,7 @@ use Rattle.order_table.specs.declared.views.KeptEntry.{KeptEntry}
 use Rattle.order_table.specs.declared.views.View.{View}
 use Rattle.joint_model.specs.HistoryLines.{caller_line}
 use Rattle.order_table.specs.Rows.{at, longer}
-use Rattle.order_table.specs.Stages.{opens, deed, stage_after, stage}
+use Rattle.order_table.specs.Stages.{IsClosed, opens, deed, stage_after, stage}
 use Rattle.order_table.specs.Owed.{PinDeed, fills, empties, pin_deed, owing, pin, pin_after, marked, target, has, is_freed, by_place, owes_after, stays, fill_after, empty_after}
 use Rattle.order_table.specs.Views.{IsNext, IsCompared, IsInRole, lines_of_none, pins_kept, pin_owed, OwnsAll, IsOpen, kept, known, Owns, first_view, spent_view, grown, appended, giving, given, hearing, learned}
 use Rattle.order_table.specs.Allowed.{Settled, NoDebt, MaySet, SaysPending, MayDo, MayMake, IsQuiet}
@@ -723,7 +723,7 @@ tells_all id v s r here settled all = record {
       (λ (t : IsDue r.gate (stage (of_line 0 r.whole)) k × IsBelow x.kept.entry.number (of_line 0 r.whole)). absurd (
       let first = all 0 (omega arith) in let due = t.0.1 in let same = t.0.0 in let holds = (r.each_gate id v here).owner first in
       let known_is : stage (known v 0) ≡ stage (of_line 0 r.whole) = ap stage ((r.each_seat id v here).owned 0 first).1 in
-      ⊎_elim (λ z. omega arith) (λ (z : stage (known v 0) ≡ 2 * v.holds). omega arith) (settled.gate first)))
+      ⊎_elim (λ z. let none = z.0 in omega arith) (λ z. let opened : stage (known v 0) ≡ 2 * v.holds = z.1 in omega arith) (settled.gate first)))
       (r.waiting.pending i x at_i reader k e);
 }
 
@@ -739,7 +739,7 @@ settled_giving lines v s = record {
   paid = s.paid;
   stored = s.stored;
   gate = λ o. let parts = and_parts (at false v.owns 0) (not (at false lines 0)) (sym (at_without v.owns lines 0) ∙ o) in
-      subst (λ h. (h ≡ 0) ⊎ IsOpen v h) (sym (if_false (at false lines 0) 0 v.holds (not-true (at false lines 0) parts.1))) (s.gate parts.0);
+      subst (λ h. ((h ≡ 0) × IsClosed (known v 0)) ⊎ ((0 < h) × IsOpen v h)) (sym (if_false (at false lines 0) 0 v.holds (not-true (at false lines 0) parts.1))) (s.gate parts.0);
 }
 
 pub settled_given : (lines : List Bool) (v : View) → Settled v → Settled (given lines v)
@@ -749,7 +749,7 @@ settled_given lines v s = record {
   paid = s.paid;
   stored = s.stored;
   gate = λ o. let parts = and_parts (at false v.owns 0) (at false lines 0) (sym (at_common v.owns lines 0) ∙ o) in
-      subst (λ h. (h ≡ 0) ⊎ IsOpen v h) (sym (if_true (at false lines 0) v.holds 0 parts.1)) (s.gate parts.0);
+      subst (λ h. ((h ≡ 0) × IsClosed (known v 0)) ⊎ ((0 < h) × IsOpen v h)) (sym (if_true (at false lines 0) v.holds 0 parts.1)) (s.gate parts.0);
 }
 
 pub settled_learned : (v w u : View) → Settled v → Settled w → Compares (hearing v w) u → Settled u
@@ -759,11 +759,11 @@ settled_learned v w u s t told = subst Settled (sym told.is) record {
   paid = s.paid;
   stored = s.stored;
   gate = λ o. ⊎_elim
-      (λ (e : at false v.owns 0 ≡ true). subst (λ h. (h ≡ 0) ⊎ IsOpen (learned (hearing v w)) h) (sym (if_true (at false v.owns 0) v.holds w.holds e))
-      (subst (λ ks. (v.holds ≡ 0) ⊎ (stage ks ≡ 2 * v.holds)) (sym (told.owned 0 e) ∙ ap (λ x. known x 0) told.is) (s.gate e)))
+      (λ (e : at false v.owns 0 ≡ true). subst (λ h. ((h ≡ 0) × IsClosed (known (learned (hearing v w)) 0)) ⊎ ((0 < h) × IsOpen (learned (hearing v w)) h)) (sym (if_true (at false v.owns 0) v.holds w.holds e))
+      (subst (λ ks. ((v.holds ≡ 0) × IsClosed ks) ⊎ ((0 < v.holds) × (stage ks ≡ 2 * v.holds))) (sym (told.owned 0 e) ∙ ap (λ x. known x 0) told.is) (s.gate e)))
       (λ (e : at false v.owns 0 ≡ false). let e' = ⊎_elim (λ a. absurd (both_ways (at false v.owns 0) e a)) (λ a. a) (or_cases (at false v.owns 0) (at false w.owns 0) (sym (at_joined v.owns w.owns 0) ∙ o)) in
-      subst (λ h. (h ≡ 0) ⊎ IsOpen (learned (hearing v w)) h) (sym (if_false (at false v.owns 0) v.holds w.holds e))
-      (subst (λ ks. (w.holds ≡ 0) ⊎ (stage ks ≡ 2 * w.holds)) (sym (told.taken 0 e') ∙ ap (λ x. known x 0) told.is) (t.gate e')))
+      subst (λ h. ((h ≡ 0) × IsClosed (known (learned (hearing v w)) 0)) ⊎ ((0 < h) × IsOpen (learned (hearing v w)) h)) (sym (if_false (at false v.owns 0) v.holds w.holds e))
+      (subst (λ ks. ((w.holds ≡ 0) × IsClosed ks) ⊎ ((0 < w.holds) × (stage ks ≡ 2 * w.holds))) (sym (told.taken 0 e') ∙ ap (λ x. known x 0) told.is) (t.gate e')))
       (cases_Bool (at false v.owns 0));
 }
 
@@ -776,7 +776,7 @@ settled_appended v r made aim freed n stands quiet s = record {
       (λ (e : r ≡ 1). λ c. ap (λ d. at false d c) (if_false (r == 0) (by_place 64 (owes_after (known v 0) k)) v.debts (ne_eqb r 0 (λ z. omega arith))) ∙ s.paid c)
       (λ q. paid_more v r k q.marks q.frees s.paid) quiet;
   stored = (ap (λ d. fill_after d (caller_place made.caller) v.fill) still ∙ s.stored.0, ap (λ d. empty_after d (caller_place made.caller) v.empty) still ∙ s.stored.1);
-  gate = λ o. ⊎_elim (λ z. inl z) (λ (z : stage (known v 0) ≡ 2 * v.holds). inr (same_stage ∙ z)) (s.gate o);
+  gate = λ o. ⊎_elim (λ z. inl (z.0, (z.1.0, same_stage ∙ z.1.1))) (λ z. inr (z.0, same_stage ∙ z.1)) (s.gate o);
 }
   where
     k : KeptEntry

@@ -8,7 +8,7 @@ use Rattle.order_table.specs.declared.views.KeptEntry.{KeptEntry}
 use Rattle.order_table.specs.declared.views.View.{View}
 use Rattle.joint_model.specs.HistoryLines.{caller_line}
 use Rattle.order_table.specs.Rows.{at}
-use Rattle.order_table.specs.Stages.{Deed, opens, ends, neither, deed}
+use Rattle.order_table.specs.Stages.{IsClosed, Deed, opens, ends, neither, deed}
 use Rattle.order_table.specs.Owed.{IsNumber, fills, mark, marked, target, target_told, is_freed, read_of, word_of, IsLoaded, all_scanned, PinDeed, stays, deed_of_pin, pin}
 use Rattle.order_table.specs.Views.{known, pin_owed, IsOpen, IsNext}
 
@@ -23,13 +23,17 @@ OwesOnly v c = (k : ℕ) → (k ≡ c → ⊥) → at false v.debts k ≡ false
 abbrev pub OwesNone : View → Type 0
 OwesNone v = NoDebt v × (v.fill ≡ 0) × (v.empty ≡ 0)
 
--- the seat is outside the gate and owes nothing; if it owns the managed list, it holds the gate for the open cycle or not at all
+-- the gate is held exactly while the managed list has an open cycle, and for that one
+abbrev pub HoldsOpen : View → Type 0
+HoldsOpen v = ((v.holds ≡ 0) × IsClosed (known v 0)) ⊎ ((0 < v.holds) × IsOpen v v.holds)
+
+-- the seat is outside the gate and owes nothing; if it owns the managed list, it holds the gate just while a cycle is open
 pub record Settled (v : View) : Type 0 where
   pub outside : v.inside ≡ 0
   pub clear : v.owes ≡ 0
   pub paid : NoDebt v
   pub stored : (v.fill ≡ 0) × (v.empty ≡ 0)
-  pub gate : at false v.owns 0 ≡ true → (v.holds ≡ 0) ⊎ IsOpen v v.holds
+  pub gate : at false v.owns 0 ≡ true → HoldsOpen v
 
 -- a seat that owns the managed list may make an entry that does this; one that opens a cycle only with all eight pins scanned
 abbrev pub MayDo : View → Deed → Type 0

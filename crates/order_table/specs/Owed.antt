@@ -153,6 +153,14 @@ abbrev pub all_scanned : ℕ → List (Option ℕ) → Bool
 all_scanned zero ws = true
 all_scanned (suc n) ws = is_some (at None ws (suc n)) && all_scanned n ws
 
+-- the row of the words of all pins, as they were scanned
+abbrev pub somes : List ℕ → List (Option ℕ)
+somes [] = []
+somes (w ∷ ws) = Some w ∷ somes ws
+
+abbrev pub scanned_row : List ℕ → List (Option ℕ)
+scanned_row ws = None ∷ somes ws
+
 -- the word was loaded from the cell
 abbrev pub IsLoaded : List (ℕ × ℕ) → ℕ → ℕ → Type 0
 IsLoaded [] c w = ⊥

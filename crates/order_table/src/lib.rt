@@ -64,7 +64,8 @@ mod views;
 
 pub use finished::Linked;
 pub use laws::{
-    entries_tell_lines, kept_pins_are_right, lines_differ, pins_are_replayed, replies_are_right, rule_keeps_lists,
+    entries_tell_lines, kept_pins_are_right, lines_differ, pins_are_replayed, replies_are_right,
+    rule_keeps_lists,
 };
 pub use orders::{Order, Pending, Readers};
 pub use seats::{OrderName, Seat};

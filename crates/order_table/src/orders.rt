@@ -1,14 +1,14 @@
 // The order and its calls.
 
-ghost use Rattle.std.specs.Prelude.{◌≡◌, ◌⊎◌, ◌<◌, ◌≤◌, ◌+◌, ◌^◌, ◌==◌, if◌then◌else◌, ℕ, Bool, true, false, [], Some, None, length, IfOk, OnOk, IfErr, MatchResult, count_ones};
+ghost use Rattle.std.specs.Prelude.{◌≡◌, ◌⊎◌, ◌<◌, ◌≤◌, ◌+◌, ◌^◌, ◌==◌, if◌then◌else◌, ℕ, Bool, true, false, [], Some, None, length, slice_get, IfOk, OnOk, IfErr, MatchResult, count_ones};
 ghost use Rattle.joint_model.specs.declared.names.Thread.{Thread};
 ghost use Rattle.joint_model.specs.Lines.{IsThread};
 ghost use Rattle.order_table.specs.declared.views.View.{View};
 ghost use Rattle.order_table.specs.declared.views.KeptEntry.{KeptEntry};
 ghost use Rattle.joint_model.specs.HistoryLines.{caller_line};
-ghost use Rattle.order_table.specs.Rows.{at};
+ghost use Rattle.order_table.specs.Rows.{at, put};
 ghost use Rattle.order_table.specs.Stages.{IsClosed};
-ghost use Rattle.order_table.specs.Owed.{IsLoaded, marked, owes_after, pin, says_word};
+ghost use Rattle.order_table.specs.Owed.{IsLoaded, marked, owes_after, pin, says_word, scanned_row};
 ghost use Rattle.order_table.specs.Views.{IsRole, IsInRole, IsNext, IsOpen, IsEnded, role_line, kept, known, Owns, OwnsAll, first_view, appended, giving, given, hearing, learned, lines_of_role, lines_of_caller, lines_of_none, loading, scanning, storing, storing_pin};
 ghost use Rattle.order_table.specs.Allowed.{IsQuiet, MayMake, NoDebt, OwesNone, OwesOnly, Settled};
 ghost use Rattle.order_table.specs.Rule.{IsBelow, IsHeld, CellIs, Stands, SetsCell, AreLinesOfOneHistory};
@@ -71,6 +71,7 @@ impl Order {
         requires readers { readers ≤ 8 }
         ensures seat { IfOk result (λ r. (r.1.order ≡ r.0) × (r.1.view ≡ first_view)) }
         ensures all { IfOk result (λ r. OwnsAll r.1.view) }
+        ensures settled { IfOk result (λ r. Settled r.1.view) }
     {
         let _ = readers;
         let (table, inner) = Table::of_words(alloc, &[0; 74], &())?;
@@ -353,6 +354,7 @@ impl Order {
         requires reader { (0 < reader) × (reader < 9) }
         ensures seat { (seat.new.order ≡ seat.old.order) × (seat.new.view ≡ scanning reader result seat.old.view) }
         ensures stays { StaysAs seat.old.view seat.new.view }
+        ensures scans { 0 < seat.old.view.holds → OwesNone seat.old.view → seat.new.view.scanned ≡ put None seat.old.view.scanned reader (Some result) }
         ensures own { Owns seat.old.view (reader + 10) → seat.old.view.fill ≡ 0 → seat.old.view.empty ≡ 0 → result ≡ pin (known seat.old.view (reader + 10)) }
         ensures small { Owns seat.old.view 0 ⊎ Owns seat.old.view (reader + 10) → seat.old.view.empty ≡ 0 → result ≤ 4294967296 }
         ensures held { Owns seat.old.view 0 → seat.old.view.empty ≡ 0 → (m : ℕ) → result ≡ m + 1 → IsHeld (known seat.old.view 0) reader m }
@@ -360,6 +362,28 @@ impl Order {
         self.table
             .shared
             .load::<LoadPin>(&mut seat.inner, 65 + reader as usize)
+    }
+
+    /// Loads the words of all eight pins, by reader from 1 on, as the next snapshot keeps them. The seat has just closed the gate, and owes no store.
+    pub fn scan_pins(&self, seat: &mut Seat) -> [u64; 8]
+        requires seat { seat.old.order ≡ self.now }
+        requires owner { Owns seat.old.view 0 × (0 < seat.old.view.holds) × (seat.old.view.scanned ≡ []) }
+        requires paid { OwesNone seat.old.view }
+        ensures seat { seat.new.order ≡ seat.old.order }
+        ensures stays { StaysAs seat.old.view seat.new.view }
+        ensures scanned { seat.new.view.scanned ≡ scanned_row result }
+        ensures small { (i w : ℕ) → slice_get result i ≡ Some w → w ≤ 4294967296 }
+        ensures held { (i m : ℕ) → i < 8 → slice_get result i ≡ Some (m + 1) → IsHeld (known seat.old.view 0) (i + 1) m }
+    {
+        let one = self.load_pin(seat, 1);
+        let two = self.load_pin(seat, 2);
+        let three = self.load_pin(seat, 3);
+        let four = self.load_pin(seat, 4);
+        let five = self.load_pin(seat, 5);
+        let six = self.load_pin(seat, 6);
+        let seven = self.load_pin(seat, 7);
+        let eight = self.load_pin(seat, 8);
+        [one, two, three, four, five, six, seven, eight]
     }
 
     fn set_pin(&self, seat: &mut Seat, reader: u8, word: u64)

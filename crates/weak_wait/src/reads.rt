@@ -231,9 +231,7 @@ pub fn read(
     }
     match order.enter(seat, reader) {
         Ok(()) => read_inside(order, seat, entries, reader, index, act),
-        Err(Pending { cycle }) => {
-            read_pending(order, seat, entries, reader, index, act, cycle)
-        }
+        Err(Pending { cycle }) => { read_pending(order, seat, entries, reader, index, act, cycle) }
     }
 }
 

@@ -26,7 +26,7 @@ returns-clause-answers c =
     let w = c.leave.new.seat.view in
     let left = c.leave.ensures.seat.1 in
     let mid : (c.match-got.seat.view.known ≡ y.known) × (c.match-got.seat.view.owns ≡ y.owns) × (c.match-got.seat.view.holds ≡ y.holds) × (c.match-got.got ≡ c.got_of-got.result) = elim c.match-got.branch [
-      in-Got z ↦ (
+      | in-Got z ↦ (
         ap (λ (s : Shown). s.view.known) z.seat-is ∙ ap (λ (u : View). u.known) z.store_pin.ensures.1,
         ap (λ (s : Shown). s.view.owns) z.seat-is ∙ ap (λ (u : View). u.owns) z.store_pin.ensures.1,
         ap (λ (s : Shown). s.view.holds) z.seat-is ∙ ap (λ (u : View). u.holds) z.store_pin.ensures.1,

@@ -1,7 +1,11 @@
-use Rattle.std.proofs.Common.{rules, ◌+◌, ◌-◌, refl, sym, subst}
+use Rattle.std.proofs.Common.{rules, ◌≡◌, ℕ, ◌+◌, ◌-◌, refl, sym, ap, ◌∙◌, subst, arith}
+use Rattle.std.specs.Prelude.{None, Some}
+use Rattle.order_table.specs.declared.views.View.{View}
+use Rattle.order_table.specs.Rows.{put}
+use Rattle.order_table.specs.Views.{scanning}
 use Rattle.order_table.specs.Tells.{StaysAs}
 use Rattle.order_table.proofs.PinSteps.{loads_pin}
-use Rattle.order_table.proofs.Heard.{keeps_alike, alike_scanning, stays_scanning}
+use Rattle.order_table.proofs.Heard.{keeps_alike, alike_scanning, stays_scanning, scans_kept}
 use Rattle.order_table.proofs.orders.Order.load_pin.Goals as goal
 
 pub load-requires : goal.load-requires
@@ -21,3 +25,7 @@ returns-clause-small c = rw (← c.seat.view_is) (λ owns empty. c.load.ensures.
 
 pub returns-clause-stays : goal.returns-clause-stays
 returns-clause-stays c = rw (← c.seat.view_is) (subst (StaysAs c.seat.inside.inner.me.0) (sym c.load.ensures.2.1) (stays_scanning (65 + c.args.reader - 65) c.load.result c.seat.inside.inner.me.0))
+
+pub returns-clause-scans : goal.returns-clause-scans
+returns-clause-scans c = rw (← c.seat.view_is) (λ holding paid. let v = c.seat.inside.inner.me.0 in let place : 65 + c.args.reader - 65 ≡ c.args.reader = omega arith in
+    subst (λ (w : View). w.scanned ≡ put None v.scanned c.args.reader (Some c.load.result)) (sym (c.load.ensures.2.1 ∙ ap (λ (k : ℕ). scanning k c.load.result v) place)) (scans_kept c.args.reader c.load.result v holding paid))
