@@ -148,13 +148,12 @@ not_pending w g t k e = (by_word w g t).0 (ap kind e)
 pub inside_answers : (reader index : ℕ) (a : Act) (g : Got) (number word : ℕ) (v x y w : View) (es fs : Stock) → StaysAs v x → GrowsByEntry x y (1 + reader) (entry_of reader index a g number)
     → ((i : ℕ) → IsBelow number (known x i)) → BeginsOneHistory y → y.holds ≡ x.holds → w.known ≡ y.known → w.owns ≡ y.owns → w.holds ≡ y.holds → got_of word g → pin (known v (reader + 10)) ≡ 0
     → (word ≡ 0 → (k : KeptEntry) → Stands (known v 0) k → SetsCell k (cell_of a) → ⊥) → (Owns v 0 → IsClosed (known v 0) × (word ≡ says_word (known v 0) (cell_of a)))
-    → fs.entries ≡ es.entries ++ numbered number (read_made reader index a g) ∷ [] → fs.spare + 1 ≡ es.spare → Answers reader index a g v w es fs
+    → fs.entries ≡ es.entries ++ numbered number (read_made reader index a g) ∷ [] → fs.spare + 1 ≡ es.spare → Answers reader index a number g v w es fs
 inside_answers reader index a g number word v x y w es fs stays grows above one held known_is owns_is holds_is by empty unset owner entries spare =
     let before : (i : ℕ) → known x i ≡ known v i = λ i. ap (λ ls. at [] ls i) stays.known in
     let after : (i : ℕ) → known w i ≡ known y i = λ i. ap (λ ls. at [] ls i) known_is in
     let k : KeptEntry = entry_of reader index a g number in
     let kinds = by_word word g by in record {
-      number = number;
       reads = record {
         grows = record {
           role = after (1 + reader) ∙ (grows.role ∙ ap (λ ks. ks ++ k ∷ []) (before (1 + reader)));
@@ -179,12 +178,11 @@ inside_answers reader index a g number word v x y w es fs stays grows above one 
     }
 
 -- the same, of a view that knows, owns and holds the same
-pub answers_from : (reader index : ℕ) (a : Act) (g : Got) (v u w : View) (es fs : Stock) → u.known ≡ v.known → u.owns ≡ v.owns → u.holds ≡ v.holds → Answers reader index a g u w es fs → Answers reader index a g v w es fs
-answers_from reader index a g v u w es fs knows owns holds t =
+pub answers_from : (reader index : ℕ) (a : Act) (number : ℕ) (g : Got) (v u w : View) (es fs : Stock) → u.known ≡ v.known → u.owns ≡ v.owns → u.holds ≡ v.holds → Answers reader index a number g u w es fs → Answers reader index a number g v w es fs
+answers_from reader index a number g v u w es fs knows owns holds t =
     let same : (i : ℕ) → known u i ≡ known v i = λ i. ap (λ ls. at [] ls i) knows in
     let r = t.reads in
-    let k : KeptEntry = entry_of reader index a g t.number in record {
-      number = t.number;
+    let k : KeptEntry = entry_of reader index a g number in record {
       reads = record {
         grows = record {
           role = r.grows.role ∙ ap (λ ks. ks ++ k ∷ []) (same (1 + reader));
@@ -192,7 +190,7 @@ answers_from reader index a g v u w es fs knows owns holds t =
           others = λ i not_role not_caller. r.grows.others i not_role not_caller ∙ same i;
           owns = r.grows.owns ∙ owns;
         };
-        above = λ i. subst (IsBelow t.number) (same i) (r.above i);
+        above = λ i. subst (IsBelow number) (same i) (r.above i);
         one_history = r.one_history;
         holds = r.holds ∙ holds;
         held = λ m. ((λ e. ap pin (sym (same (reader + 10))) ∙ (r.held m).0 e), λ e. (r.held m).1 (ap pin (same (reader + 10)) ∙ e));

@@ -80,8 +80,7 @@ pub record Reads (reader index : ℕ) (a : Act) (g : Got) (number : ℕ) (v w : 
   pub exact : Owns v 0 → IsExact (known v 0) (known v (reader + 10)) (cell_of a) g
 
 -- the same with the list of the reader's entries, in which the entry is put last
-pub record Answers (reader index : ℕ) (a : Act) (g : Got) (v w : View) (old new : Stock) : Type 0 where
-  pub number : ℕ
+pub record Answers (reader index : ℕ) (a : Act) (number : ℕ) (g : Got) (v w : View) (old new : Stock) : Type 0 where
   pub reads : Reads reader index a g number v w
   pub entries : new.entries ≡ old.entries ++ numbered number (read_made reader index a g) ∷ []
   pub spare : new.spare + 1 ≡ old.spare
@@ -96,6 +95,7 @@ pub record Reading : Type 0 where
 
 -- a read made one entry, and put it last
 pub record MakesRead (index : ℕ) (a : Act) (g : Got) (old new : Reading) : Type 0 where
-  pub answers : Answers old.reader index a g old.view new.view (record { entries = old.entries; spare = old.spare }) (record { entries = new.entries; spare = new.spare })
+  pub number : ℕ
+  pub answers : Answers old.reader index a number g old.view new.view (record { entries = old.entries; spare = old.spare }) (record { entries = new.entries; spare = new.spare })
   pub reader : new.reader ≡ old.reader
   pub order : new.order ≡ old.order

@@ -114,14 +114,15 @@ impl WeakReader {
         requires spare { 1 ≤ self.old.spare }
         ensures makes { MakesRead index act.now result self.old self.new }
     {
-        read(
+        let (_, got) = read(
             order,
             &mut self.seat,
             &mut self.entries,
             self.reader,
             index,
             act,
-        )
+        );
+        got
     }
 
     /// The same, but it tries again while a cycle holds the gate, and never answers `Pending`. It makes one entry, for its answer. That it ends is
@@ -133,7 +134,7 @@ impl WeakReader {
         ensures makes { MakesRead index act.now result self.old self.new }
         ensures answered { (k : Cycle) → result ≡ got.Pending k → ⊥ }
     {
-        read_waiting(
+        let (_, got) = read_waiting(
             rt,
             order,
             &mut self.seat,
@@ -141,6 +142,7 @@ impl WeakReader {
             self.reader,
             index,
             act,
-        )
+        );
+        got
     }
 }

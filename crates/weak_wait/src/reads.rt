@@ -120,7 +120,7 @@ fn read_held(
     index: u16,
     act: &Act,
     word: u64,
-) -> Got
+) -> (u64, Got)
     requires order { seat.old.order ≡ order.now }
     requires reader { (0 < reader) × (reader < 9) }
     requires role { Owns seat.old.view (1 + reader) × Owns seat.old.view (reader + 10) }
@@ -130,14 +130,14 @@ fn read_held(
     requires entries { line_entries (known seat.old.view (1 + reader)) ≡ entries.old.entries }
     requires spare { 1 ≤ entries.old.spare }
     ensures order { seat.new.order ≡ order.now }
-    ensures answers { Answers reader index act.now result seat.old.view seat.new.view entries.old entries.new }
-    ensures answered { (k : Cycle) → result ≡ got.Pending k → ⊥ }
+    ensures answers { Answers reader index act.now result.0 result.1 seat.old.view seat.new.view entries.old entries.new }
+    ensures answered { (k : Cycle) → result.1 ≡ got.Pending k → ⊥ }
     ensures settled { Settled seat.new.view }
 {
     let m = MNum((word - 1) as u32);
     let got = Got::PinHeld { m };
-    note(order, seat, entries, reader, index, act, got);
-    got
+    let number = note(order, seat, entries, reader, index, act, got);
+    (number, got)
 }
 
 // The reader found the gate held, and its pin is empty.
@@ -149,7 +149,7 @@ fn read_pending(
     index: u16,
     act: &Act,
     cycle: Cycle,
-) -> Got
+) -> (u64, Got)
     requires order { seat.old.order ≡ order.now }
     requires reader { (0 < reader) × (reader < 9) }
     requires role { Owns seat.old.view (1 + reader) × Owns seat.old.view (reader + 10) }
@@ -161,12 +161,12 @@ fn read_pending(
     requires entries { line_entries (known seat.old.view (1 + reader)) ≡ entries.old.entries }
     requires spare { 1 ≤ entries.old.spare }
     ensures order { seat.new.order ≡ order.now }
-    ensures answers { Answers reader index act.now result seat.old.view seat.new.view entries.old entries.new }
+    ensures answers { Answers reader index act.now result.0 result.1 seat.old.view seat.new.view entries.old entries.new }
     ensures settled { Settled seat.new.view }
 {
     let got = Got::Pending { cycle };
-    note(order, seat, entries, reader, index, act, got);
-    got
+    let number = note(order, seat, entries, reader, index, act, got);
+    (number, got)
 }
 
 // The reader is inside, and its pin is empty. It goes outside again.
@@ -178,7 +178,7 @@ fn read_inside(
     reader: u8,
     index: u16,
     act: &Act,
-) -> Got
+) -> (u64, Got)
     requires order { seat.old.order ≡ order.now }
     requires reader { (0 < reader) × (reader < 9) }
     requires role { Owns seat.old.view (1 + reader) × Owns seat.old.view (reader + 10) }
@@ -189,22 +189,22 @@ fn read_inside(
     requires entries { line_entries (known seat.old.view (1 + reader)) ≡ entries.old.entries }
     requires spare { 1 ≤ entries.old.spare }
     ensures order { seat.new.order ≡ order.now }
-    ensures answers { Answers reader index act.now result seat.old.view seat.new.view entries.old entries.new }
-    ensures answered { (k : Cycle) → result ≡ got.Pending k → ⊥ }
+    ensures answers { Answers reader index act.now result.0 result.1 seat.old.view seat.new.view entries.old entries.new }
+    ensures answered { (k : Cycle) → result.1 ≡ got.Pending k → ⊥ }
     ensures settled { Settled seat.new.view }
 {
     let word = order.load_cell(seat, cell_of(act));
     let got = got_of(word);
-    note(order, seat, entries, reader, index, act, got);
+    let number = note(order, seat, entries, reader, index, act, got);
     if let Got::Got(m) = got {
         order.store_pin(seat, reader, m);
     }
     order.leave(seat, reader);
-    got
+    (number, got)
 }
 
-/// Reads a cell, by a seat that owns the reader's role and holds its thread's pass, and puts the entry last in the reader's list. It waits for nobody
-/// and takes no memory. See [`WeakReader::try_get`](crate::WeakReader::try_get).
+/// Reads a cell, by a seat that owns the reader's role and holds its thread's pass, and puts the entry last in the reader's list. Answers the entry's
+/// number too. It waits for nobody and takes no memory. See [`WeakReader::try_get`](crate::WeakReader::try_get).
 #[inline(always)]
 pub fn read(
     order: &Order,
@@ -213,7 +213,7 @@ pub fn read(
     reader: u8,
     index: u16,
     act: &Act,
-) -> Got
+) -> (u64, Got)
     requires order { seat.old.order ≡ order.now }
     requires reader { (0 < reader) × (reader < 9) }
     requires role { Owns seat.old.view (1 + reader) × Owns seat.old.view (reader + 10) }
@@ -222,7 +222,7 @@ pub fn read(
     requires entries { line_entries (known seat.old.view (1 + reader)) ≡ entries.old.entries }
     requires spare { 1 ≤ entries.old.spare }
     ensures order { seat.new.order ≡ order.now }
-    ensures answers { Answers reader index act.now result seat.old.view seat.new.view entries.old entries.new }
+    ensures answers { Answers reader index act.now result.0 result.1 seat.old.view seat.new.view entries.old entries.new }
     ensures settled { Settled seat.new.view }
 {
     let held = order.load_pin(seat, reader);
@@ -243,7 +243,7 @@ fn try_read(
     reader: u8,
     index: u16,
     act: &Act,
-) -> Option<Got>
+) -> Option<(u64, Got)>
     requires order { seat.old.order ≡ order.now }
     requires reader { (0 < reader) × (reader < 9) }
     requires role { Owns seat.old.view (1 + reader) × Owns seat.old.view (reader + 10) }
@@ -252,8 +252,8 @@ fn try_read(
     requires entries { line_entries (known seat.old.view (1 + reader)) ≡ entries.old.entries }
     requires spare { 1 ≤ entries.old.spare }
     ensures order { seat.new.order ≡ order.now }
-    ensures answers { IfSome result (λ g. Answers reader index act.now g seat.old.view seat.new.view entries.old entries.new) }
-    ensures answered { IfSome result (λ g. (k : Cycle) → g ≡ got.Pending k → ⊥) }
+    ensures answers { IfSome result (λ r. Answers reader index act.now r.0 r.1 seat.old.view seat.new.view entries.old entries.new) }
+    ensures answered { IfSome result (λ r. (k : Cycle) → r.1 ≡ got.Pending k → ⊥) }
     ensures held { IfNone result ((seat.new.view.known ≡ seat.old.view.known) × (seat.new.view.owns ≡ seat.old.view.owns) × (seat.new.view.holds ≡ seat.old.view.holds) × (entries.new ≡ entries.old)) }
     ensures settled { Settled seat.new.view }
 {
@@ -277,7 +277,7 @@ pub fn read_waiting<R: Wait>(
     reader: u8,
     index: u16,
     act: &Act,
-) -> Got
+) -> (u64, Got)
     requires order { seat.old.order ≡ order.now }
     requires reader { (0 < reader) × (reader < 9) }
     requires role { Owns seat.old.view (1 + reader) × Owns seat.old.view (reader + 10) }
@@ -286,13 +286,13 @@ pub fn read_waiting<R: Wait>(
     requires entries { line_entries (known seat.old.view (1 + reader)) ≡ entries.old.entries }
     requires spare { 1 ≤ entries.old.spare }
     ensures order { seat.new.order ≡ order.now }
-    ensures answers { Answers reader index act.now result seat.old.view seat.new.view entries.old entries.new }
-    ensures answered { (k : Cycle) → result ≡ got.Pending k → ⊥ }
+    ensures answers { Answers reader index act.now result.0 result.1 seat.old.view seat.new.view entries.old entries.new }
+    ensures answered { (k : Cycle) → result.1 ≡ got.Pending k → ⊥ }
     ensures settled { Settled seat.new.view }
 {
     for _ in rt.forever() {
-        if let Some(got) = try_read(order, seat, entries, reader, index, act) {
-            return got;
+        if let Some(made) = try_read(order, seat, entries, reader, index, act) {
+            return made;
         }
         yield_now();
     }

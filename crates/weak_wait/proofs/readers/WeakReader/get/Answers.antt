@@ -1,0 +1,5 @@
+use Rattle.std.proofs.Common.{rules, refl, sym, ◌∙◌}
+use Rattle.weak_wait.proofs.readers.WeakReader.get.Goals as goal
+
+pub returns-clause-makes : goal.returns-clause-makes
+returns-clause-makes g c = rw (← c.self.view_is) record { number = c.read_waiting-got.result.0; answers = c.read_waiting-got.ensures.answers; reader = refl; order = search rules }

@@ -1,0 +1,5 @@
+use Rattle.std.proofs.Common.{rules, refl, sym, ◌∙◌}
+use Rattle.weak_wait.proofs.readers.WeakReader.try_get.Goals as goal
+
+pub returns : goal.returns
+returns c = record { makes = rw (← c.self.view_is) record { number = c.read-got.result.0; answers = c.read-got.ensures.answers; reader = refl; order = search rules } }
