@@ -1,0 +1,9 @@
+// What a side does with its seat under its lock: how a caller's lines come and go, how a side draws by the seat, and how the words of the gate, of the
+// cells and of the pins follow the entries that a cycle, a `weak` or a `take` makes.
+//
+// Each call is for whoever has the side and its seat in hand. It makes at most one entry, and takes no memory.
+#![tactic(auto)]
+
+mod cells;
+
+pub use cells::append_paid;
