@@ -14,7 +14,9 @@ use Rattle.order_table.specs.declared.views.KeptEntry.{KeptEntry}
 use Rattle.order_table.specs.declared.views.View.{View}
 use Rattle.order_table.specs.Rows.{at}
 use Rattle.order_table.specs.Owed.{frees_target, has, is_freed, mark, marked, owes_after, says_word, sets_cell, target, target_told, word_by}
-use Rattle.order_table.specs.Rule.{CellIs}
+use Rattle.order_table.specs.Rule.{CellIs, IsFresh, IsStale}
+use Rattle.order_table.specs.Views.{known}
+use Rattle.seat_calls.specs.Paying.{Agrees}
 use Rattle.order_table.specs.Tells.{BeginsOneHistory}
 use Rattle.order_table.proofs.Gate.{if_true, if_false}
 use Rattle.order_table.proofs.Says.{freed_more, none_not, some_is, target_aimed}
@@ -35,3 +37,40 @@ same_history v w e h = subst (λ ls. BeginsOneHistory (record w { known = ls }))
 -- an entry of the managed side stands in the managed list
 pub managed_first : (r : ℕ) (b : Bool) → r < 2 → (r ≡ 1 → b ≡ true) → b ≡ false → r ≡ 0
 managed_first r b small peer e = ⊎_elim (λ z. z) (λ n. absurd (let one : r ≡ 1 = omega (arith, n) in both_ways b e (peer one))) (cases_eq r 0)
+
+-- a word that is stored over is that of a cell whose target is freed
+pub gone_word : (v : View) (live : ℕ → Type 0) (gate c w : ℕ) (owed : Bool) → Agrees v live → CellIs (known v 0) gate owed c w → (w ≡ 1) ⊎ ((m : ℕ) × (0 < m) × (w ≡ m + 1) × (live m → ⊥)) → says_word (known v 0) c ≡ 1
+gone_word v live gate c w owed agrees cell which = ⊎_elim
+    (λ (is : w ≡ says_word (known v 0) c). ⊎_elim (λ (e : w ≡ 1). sym is ∙ e)
+    (λ t. absurd (let t' : w ≡ t.0 + 1 = t.2 in t.3 (living t.0 t.1 (sym is ∙ t.2)))) which)
+    (λ t. ⊎_elim
+    (λ (f : IsFresh (known v 0) c w). absurd (let z = f.word in ⊎_elim (λ e. omega arith) (λ u. let u' : w ≡ u.0 + 1 = u.2 in omega arith) which))
+    (λ (f : IsStale (known v 0) gate c w). ap (λ o. word_by o (is_freed (known v 0))) f.aims ∙ if_true (is_freed (known v 0) f.object) 1 (f.object + 1) f.freed) t.1)
+    cell
+  where
+    ml : List KeptEntry
+    ml = known v 0
+
+    by_freed : (b : Bool) (x m : ℕ) → 0 < m → (if b then 1 else x + 1) ≡ m + 1 → (b ≡ false) × (x ≡ m)
+    by_freed true x m pos e = absurd (omega arith)
+    by_freed false x m pos e = (refl, omega arith)
+
+    by_target : (o : Option ℕ) (m : ℕ) → 0 < m → target (known v 0) c ≡ o → word_by o (is_freed (known v 0)) ≡ m + 1 → live m
+    by_target None m pos e f = absurd (omega arith)
+    by_target (Some x) m pos e f = let t = by_freed (is_freed (known v 0) x) x m pos f in subst live t.1 ((agrees c x e).1 t.0)
+
+    living : (m : ℕ) → 0 < m → says_word (known v 0) c ≡ m + 1 → live m
+    living m pos e = by_target (target (known v 0) c) m pos refl e
+
+-- a word that is left is owed by nobody
+pub left_word : (v : View) (live : ℕ → Type 0) (gate c w : ℕ) (owed : Bool) → Agrees v live → CellIs (known v 0) gate owed c w → (w ≡ 0) ⊎ ((m : ℕ) × (0 < m) × (w ≡ m + 1) × live m)
+    → (m : ℕ) → target (known v 0) c ≡ Some m → is_freed (known v 0) m ≡ true → owed ≡ true → ⊥
+left_word v live gate c w owed agrees cell which m aims freed o =
+    let one : says_word (known v 0) c ≡ 1 = ap (λ z. word_by z (is_freed (known v 0))) aims ∙ if_true (is_freed (known v 0) m) 1 (m + 1) freed in ⊎_elim
+    (λ (is : w ≡ says_word (known v 0) c). ⊎_elim (λ (e : w ≡ 0). omega arith) (λ u. let u' : w ≡ u.0 + 1 = u.2 in let pos = u.1 in omega arith) which)
+    (λ t. ⊎_elim
+    (λ (f : IsFresh (known v 0) c w). let same : f.object ≡ m = some_is 0 f.object m (sym (ap (λ l. target l c) f.whole ∙ target_aimed c f.object f.init f.last f.sets) ∙ aims) in
+    both_ways (is_freed (known v 0) m) (subst (λ x. is_freed (known v 0) x ≡ false) same f.alive) freed)
+    (λ (f : IsStale (known v 0) gate c w). let z = f.word in ⊎_elim (λ (e : w ≡ 0). omega arith)
+    (λ u. let u' : w ≡ u.0 + 1 = u.2 in let same : u.0 ≡ f.object = omega arith in both_ways (is_freed (known v 0) f.object) ((agrees c f.object f.aims).0 (subst live same u.3)) f.freed) which) t.1)
+    cell

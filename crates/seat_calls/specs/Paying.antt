@@ -1,5 +1,5 @@
 -- What is still to be stored after an entry, and what a side says of freed objects.
-use Rattle.std.specs.Prelude.{◌≡◌, ◌⊎◌, ℕ, ◌<◌, ◌≤◌, Bool, true, false, [], Option, Some}
+use Rattle.std.specs.Prelude.{◌≡◌, ◌⊎◌, ◌↔◌, ℕ, ◌<◌, ◌≤◌, true, false, [], Some}
 use Rattle.joint_model.specs.declared.events.Made.{Made}
 use Rattle.joint_model.specs.Control.{caller_place}
 use Rattle.order_table.specs.declared.views.KeptEntry.{KeptEntry}
@@ -24,10 +24,20 @@ pub record IsPaid (v w : View) (r : ℕ) (k : KeptEntry) : Type 0 where
   pub empty : w.empty ≡ empty_after (pin_owed v k.entry.made) (caller_place k.entry.made.caller) v.empty
   pub debts : r ≡ 0 → (c : ℕ) → at false w.debts c ≡ true → (c < 64) × (frees_target (target (known v 0) c) k.freed ≡ true)
 
--- a side says of every object whether it is freed as its list does, and each cell's target is one that it knows
-pub record Agrees (v : View) (gone : ℕ → Bool) : Type 0 where
-  pub freed : (m : ℕ) → is_freed (known v 0) m ≡ gone m
+-- of the cells' targets a side has as live just those that its list doesn't free
+abbrev pub Agrees : View → (ℕ → Type 0) → Type 0
+Agrees v live = (c m : ℕ) → target (known v 0) c ≡ Some m → (live m ↔ (is_freed (known v 0) m ≡ false))
 
 -- the words that are owed are those of cells whose target is freed
 abbrev pub OwesFreed : View → Type 0
 OwesFreed v = (c : ℕ) → at false v.debts c ≡ true → (c < 64) × ((m : ℕ) × (target (known v 0) c ≡ Some m) × (is_freed (known v 0) m ≡ true))
+
+-- all is as before but the words that are owed, and what was found, loaded and scanned
+pub record StillAs (v w : View) : Type 0 where
+  pub owns : w.owns ≡ v.owns
+  pub known : w.known ≡ v.known
+  pub inside : w.inside ≡ v.inside
+  pub owes : w.owes ≡ v.owes
+  pub holds : w.holds ≡ v.holds
+  pub fill : w.fill ≡ v.fill
+  pub empty : w.empty ≡ v.empty

@@ -6,4 +6,4 @@
 
 mod cells;
 
-pub use cells::append_paid;
+pub use cells::{Lives, append_paid, pay_cells};
