@@ -1,1 +1,2 @@
 pub mod Paying
+pub mod Passing

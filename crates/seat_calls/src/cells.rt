@@ -9,7 +9,7 @@ ghost use Rattle.order_table.specs.Allowed.{MayMake, NoDebt};
 ghost use Rattle.order_table.specs.Owed.{is_freed, mark, target, target_told};
 ghost use Rattle.order_table.specs.Rule.{IsBelow};
 ghost use Rattle.order_table.specs.Tells.{BeginsOneHistory, GrowsByEntry};
-ghost use Rattle.order_table.specs.Views.{IsRole, IsInRole, kept, known, Owns, role_line};
+ghost use Rattle.order_table.specs.Views.{IsInRole, kept, known, Owns, role_line};
 ghost use Rattle.seat_calls.specs.Paying.{Agrees, IsPaid, OwesFreed, StillAs};
 
 use joint_model::{Act, Cell, MNum, Made, Op, Thread};
@@ -39,7 +39,7 @@ pub fn append_paid(
 ) -> u64
     requires seat { seat.old.order ≡ order.now }
     requires caller { IsThread made.now.caller }
-    requires side { IsRole role × (role_line role < 2) }
+    requires side { role_line role < 2 }
     requires stands { IsInRole (role_line role) made.now }
     requires may { MayMake seat.old.view (role_line role) made.now target }
     requires role { Owns seat.old.view (role_line role) × Owns seat.old.view (caller_line made.now.caller) }

@@ -5,5 +5,7 @@
 #![tactic(auto)]
 
 mod cells;
+mod seats;
 
 pub use cells::{Lives, append_paid, pay_cells};
+pub use seats::{SeatDrawing, give_back, lend};

@@ -12,7 +12,7 @@ use Rattle.seat_calls.proofs.cells.append_paid.Goals as goal
 pub write_cell-requires-clause-cell : goal.write_cell-requires-clause-cell
 write_cell-requires-clause-cell c =
     let m = c.args.made.now in
-    let first = managed_first (role_line c.args.role) (is_peer_event m.caller m.op) c.requires.side.1 (λ e. (c.requires.stands.peer e).1) c.in-Some-cell_set.ensures.side in
+    let first = managed_first (role_line c.args.role) (is_peer_event m.caller m.op) c.requires.side (λ e. (c.requires.stands.peer e).1) c.in-Some-cell_set.ensures.side in
     let marks = subst (λ aim. mark m.op (target_told m.caller m.op aim) ≡ Some (c.in-Some-cell_set.k.0, c.in-Some.m.0)) (sym c.in-Some.is) (c.in-Some-cell_set.ensures.some c.in-Some.m) in
     (c.requires.may.cells first c.in-Some-cell_set.k.0 c.in-Some.m.0 marks).0
 
@@ -20,7 +20,7 @@ pub write_cell-requires-clause-word : goal.write_cell-requires-clause-word
 write_cell-requires-clause-word c =
     let m = c.args.made.now in
     let v = c.args.seat.now.view in
-    let first = managed_first (role_line c.args.role) (is_peer_event m.caller m.op) c.requires.side.1 (λ e. (c.requires.stands.peer e).1) c.in-Some-cell_set.ensures.side in
+    let first = managed_first (role_line c.args.role) (is_peer_event m.caller m.op) c.requires.side (λ e. (c.requires.stands.peer e).1) c.in-Some-cell_set.ensures.side in
     let marks = subst (λ aim. mark m.op (target_told m.caller m.op aim) ≡ Some (c.in-Some-cell_set.k.0, c.in-Some.m.0)) (sym c.in-Some.is) (c.in-Some-cell_set.ensures.some c.in-Some.m) in
     let k : KeptEntry = kept v m c.args.target c.args.freed.now c.append-number.result in
     let grown : known c.append-number.new.seat.view 0 ≡ known v 0 ++ k ∷ [] = subst (λ i. known c.append-number.new.seat.view i ≡ known v i ++ k ∷ []) first c.append-number.ensures.grows.role in
