@@ -1,10 +1,13 @@
 -- A caller's lines are handed to a locked seat and back.
-use Rattle.std.proofs.Common.{◌≡◌, inl, inr, ⊎_elim, ℕ, ◌∙◌, subst}
+use Rattle.std.proofs.Common.{◌≡◌, inl, inr, ⊎_elim, ℕ, [], ◌∷◌, sym, ◌∙◌, subst}
+use Rattle.std.proofs.lemmas.Bool.{cases_eq}
 use mathlib.Core.List.{IsPrefix}
-use base.Growing.{prefix_anti}
+use base.Growing.{prefix_anti, prefix_refl, prefix_trans}
 use Rattle.joint_model.specs.declared.names.Thread.{Thread}
+use Rattle.joint_model.specs.HistoryLines.{caller_line}
+use Rattle.order_table.specs.declared.views.KeptEntry.{KeptEntry}
 use Rattle.order_table.specs.declared.views.View.{View}
-use Rattle.order_table.specs.Tells.{Parts, IsOfCaller, TakesIn, BeginsOneHistory}
+use Rattle.order_table.specs.Tells.{GrowsByEntry, Parts, IsOfCaller, TakesIn, BeginsOneHistory}
 use Rattle.order_table.specs.Views.{known}
 use Rattle.seat_calls.specs.Passing.{Lends, Returns}
 
@@ -32,3 +35,13 @@ returns t locked mine locked' mine' pass p k more = record {
       (λ e. e ∙ (p.know i).1)
       (k.either i);
 }
+
+-- who makes an entry knows all that it knew
+pub grows_begins : (v w : View) (r : ℕ) (k : KeptEntry) → GrowsByEntry v w r k → (i : ℕ) → IsPrefix (known v i) (known w i)
+grows_begins v w r k g i = ⊎_elim
+    (λ (e : i ≡ r). subst (λ j. IsPrefix (known v j) (known w j)) (sym e) (k ∷ [], sym g.role))
+    (λ n. ⊎_elim
+    (λ (e : i ≡ caller_line k.entry.made.caller). subst (λ j. IsPrefix (known v j) (known w j)) (sym e) (k ∷ [], sym g.caller))
+    (λ n'. subst (IsPrefix (known v i)) (sym (g.others i n n')) (prefix_refl (known v i)))
+    (cases_eq i (caller_line k.entry.made.caller)))
+    (cases_eq i r)

@@ -1,2 +1,3 @@
 pub mod Paying
 pub mod Passing
+pub mod Gating

@@ -5,7 +5,11 @@
 #![tactic(auto)]
 
 mod cells;
+mod gates;
+mod reading;
 mod seats;
 
 pub use cells::{Lives, append_paid, pay_cells};
+pub use gates::{close_and_scan, own_pin, settle_ended, settle_opened, settle_taken};
+pub use reading::read_locked;
 pub use seats::{SeatDrawing, give_back, lend};
