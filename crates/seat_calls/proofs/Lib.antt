@@ -1,3 +1,4 @@
 pub mod Words
 pub mod Floors
 pub mod Handing
+pub mod After

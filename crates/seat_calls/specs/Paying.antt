@@ -22,6 +22,7 @@ pub record IsPaid (v w : View) (r : ℕ) (k : KeptEntry) : Type 0 where
   pub holds : w.holds ≡ v.holds
   pub fill : w.fill ≡ fill_after (pin_owed v k.entry.made) (caller_place k.entry.made.caller) v.fill
   pub empty : w.empty ≡ empty_after (pin_owed v k.entry.made) (caller_place k.entry.made.caller) v.empty
+  pub others : (r ≡ 0 → ⊥) → w.debts ≡ v.debts
   pub debts : r ≡ 0 → (c : ℕ) → at false w.debts c ≡ true → (c < 64) × (frees_target (target (known v 0) c) k.freed ≡ true)
 
 -- of the cells' targets a side has as live just those that its list doesn't free

@@ -25,6 +25,8 @@
 
 mod readers;
 mod reads;
+#[cfg(test)]
+mod tests;
 
 pub use readers::WeakReader;
 pub use reads::{Got, read, read_waiting};
