@@ -11,7 +11,7 @@ use Rattle.order_table.specs.declared.views.KeptEntry.{KeptEntry}
 use Rattle.order_table.specs.declared.views.View.{View}
 use Rattle.order_table.specs.Rows.{at}
 use Rattle.order_table.specs.Stages.{stage}
-use Rattle.order_table.specs.Owed.{words_of, word_or_zero, is_some, all_scanned, PinDeed, fills, empties, stays, deed_of_pin, pin_after, owing, pin_from, pin, fill_after, empty_after}
+use Rattle.order_table.specs.Owed.{pin_row, words_of, word_or_zero, is_some, all_scanned, PinDeed, fills, empties, stays, deed_of_pin, pin_after, owing, pin_from, pin, fill_after, empty_after}
 use Rattle.order_table.specs.Views.{known, Owns}
 use Rattle.order_table.specs.Rule.{Item, of_line, Scans, PinIs, Pinned, HasBit}
 use Rattle.order_table.proofs.Free.{MayPin}
@@ -155,6 +155,11 @@ pub word_at : (ws : List (Option ℕ)) (r w : ℕ) → at None ws r ≡ Some w �
 word_at [] r w e = absurd (true≢false (ap (λ o. elim o [ None ↦ true | Some x ↦ false ]) e))
 word_at (o ∷ ws) zero w e = ap word_or_zero e
 word_at (o ∷ ws) (suc r) w e = word_at ws r w e
+
+pub pin_at : (ws : List (Option ℕ)) (r w : ℕ) → 0 < r → at None ws r ≡ Some w → at 0 (pin_row ws) r ≡ w
+pin_at [] r w pos e = word_at [] r w e
+pin_at (o ∷ ws) zero w pos e = absurd (omega arith)
+pin_at (o ∷ ws) (suc r) w pos e = word_at ws r w e
 
 pub scanned_at : (n : ℕ) (ws : List (Option ℕ)) → all_scanned n ws ≡ true → (r : ℕ) → 0 < r → r ≤ n → (w : ℕ) × (at None ws r ≡ Some w)
 scanned_at zero ws e r pos small = absurd (omega arith)

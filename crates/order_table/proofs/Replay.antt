@@ -49,7 +49,7 @@ abbrev taken : List (Option ℕ) → ℕ → Option ℕ → List (Option ℕ)
 taken ps t None = ps
 taken ps t (Some x) = slice_set ps t None
 
-abbrev by_deed : List (Option ℕ) → ℕ → PinDeed → List (Option ℕ)
+abbrev pub by_deed : List (Option ℕ) → ℕ → PinDeed → List (Option ℕ)
 by_deed ps t (fills w) = slice_set ps t (object_of w)
 by_deed ps t empties = taken ps t (slot ps t)
 by_deed ps t stays = ps
@@ -78,7 +78,7 @@ weak_pins s k None = refl
 weak_pins s k (Some x) = cell_pins s k x (slot s.cells k)
 
 -- what an event with its reply does to the pin of its thread's number, whatever thread that is
-abbrev any_deed : Op → Reply → PinDeed
+abbrev pub any_deed : Op → Reply → PinDeed
 any_deed (op.Line (act.Read c)) (says.M m) = fills (m.0 + 1)
 any_deed (op.Line (act.Await c)) (says.M m) = fills (m.0 + 1)
 any_deed (op.Line (act.Take v)) r = empties
@@ -170,7 +170,7 @@ managed_stays n (op.Line a) y e f = absurd (true≢false e)
 managed_stays n _ y e f = refl
 
 -- the pins are those that the lines leave
-abbrev Pins : List (Option ℕ) → List Item → Type 0
+abbrev pub Pins : List (Option ℕ) → List Item → Type 0
 Pins ps before = (length ps ≡ 9) × ((r : ℕ) → 0 < r → r < 9 → slot ps r ≡ object_of (pin (of_line (r + 10) before)))
 
 deed_length : (ps : List (Option ℕ)) (t : ℕ) (d : PinDeed) → length (by_deed ps t d) ≡ length ps
@@ -201,7 +201,7 @@ deed_else ps t r empties n = by_slot (slot ps t)
 deed_else ps t r stays n = refl
 
 -- an entry that does to the pins what its deed says, but for an entry that does nothing
-pins_step : (before : List Item) (x : Item) (ps : List (Option ℕ)) → x.role < 10 → IsThread x.kept.entry.made.caller → (any_deed x.kept.entry.made.op x.kept.entry.made.reply ≡ stays) ⊎ ((n : ℕ) × (x.kept.entry.made.caller ≡ M n)) ⊎ (x.kept.entry.made.caller ≡ C)
+pub pins_step : (before : List Item) (x : Item) (ps : List (Option ℕ)) → x.role < 10 → IsThread x.kept.entry.made.caller → (any_deed x.kept.entry.made.op x.kept.entry.made.reply ≡ stays) ⊎ ((n : ℕ) × (x.kept.entry.made.caller ≡ M n)) ⊎ (x.kept.entry.made.caller ≡ C)
     → Pins ps before → Pins (by_deed ps (thread_number x.kept.entry.made.caller) (any_deed x.kept.entry.made.op x.kept.entry.made.reply)) (before ++ x ∷ [])
 pins_step before x ps small ok who h = (
   deed_length ps t d ∙ h.0,
@@ -239,7 +239,7 @@ pins_step before x ps small ok who h = (
     far r pos same (inr w) = absurd (let z : t ≡ 0 = ap thread_number w in omega arith)
 
 -- an entry of a peer thread
-pins_apart : (before : List Item) (x : Item) (ps : List (Option ℕ)) → x.role < 10 → IsThread x.kept.entry.made.caller → (n : ℕ) → x.kept.entry.made.caller ≡ P n → Pins ps before → Pins ps (before ++ x ∷ [])
+pub pins_apart : (before : List Item) (x : Item) (ps : List (Option ℕ)) → x.role < 10 → IsThread x.kept.entry.made.caller → (n : ℕ) → x.kept.entry.made.caller ≡ P n → Pins ps before → Pins ps (before ++ x ∷ [])
 pins_apart before x ps small ok n is h = (
   h.0,
   λ r pos low. h.1 r pos low ∙ ap object_of (sym (ap pin (of_line_out (r + 10) before x (⊎_elim

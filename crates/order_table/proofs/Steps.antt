@@ -33,7 +33,7 @@ use Rattle.order_table.specs.Tells.{Appended, Compared, Compares, GrowsByEntry}
 use Rattle.joint_model.specs.Lines.{IsThread}
 use Rattle.order_table.proofs.Gate.{no_bit, if_true, if_false, stage_more, held_more, gates_giving, gates_given, gates_spent, gates_hearing, gates_learned, gates_appended}
 use Rattle.std.proofs.Math.Nat.{one-le-pow}
-use Rattle.order_table.proofs.Pins.{no_scans, scans_more, word_at, scanned_at, pin_more, owing_after, pinned_keep, not_storing, not_clearing, pinned_entry, filling, filling_last}
+use Rattle.order_table.proofs.Pins.{no_scans, scans_more, pin_at, scanned_at, pin_more, owing_after, pinned_keep, not_storing, not_clearing, pinned_entry, filling, filling_last}
 use Rattle.order_table.proofs.Says.{at_by_place, none_not, target_cases}
 use Rattle.order_table.proofs.Cells.{paid_more, cell_after, settled_cell, none_owed, loads_more, load_there, debts_more, debts_giving, debts_given, debts_spent, debts_hearing, debts_learned, celled_same}
 use Rattle.order_table.proofs.Waits.{stands_cases, stands_more, stands_last, stands_below, waits_more, waits_same, waits_not, waiting_views, waiting_other, waiting_managed}
@@ -279,7 +279,7 @@ appends slots id me role made aim freed compared caller stands a b room may s r 
               unfilled = λ reader. absurd (omega arith);
               snapped = λ _ c f k pos low. let next : MayDo me.0 (opens c.0) = subst (MayDo me.0) (ap deed f) (may.cycles first) in
                   let w' = scanned_at 8 me.0.scanned next.2 k pos (omega arith) in
-                  ap (λ o. at 0 (pins_kept me.0 made.caller o) k) f ∙ (word_at me.0.scanned k w'.0 w'.1
+                  ap (λ o. at 0 (pins_kept me.0 made.caller o) k) f ∙ (pin_at me.0.scanned k w'.0 pos w'.1
                   ∙ r.scanned id me.0 here mine_first (subst (IsNext me.0) (sym next.1) next.0) k w'.0 pos low w'.1);
               taken = taken;
             } (of_line_in 0 r.whole x e ∙ ap (λ ks. ks ++ x.kept ∷ []) (sym all)) all r.waiting first refl

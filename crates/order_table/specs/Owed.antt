@@ -144,6 +144,11 @@ abbrev pub words_of : List (Option ℕ) → List ℕ
 words_of [] = []
 words_of (w ∷ ws) = word_or_zero w ∷ words_of ws
 
+-- the same with 0 at the place of nobody
+abbrev pub pin_row : List (Option ℕ) → List ℕ
+pin_row [] = []
+pin_row (w ∷ ws) = 0 ∷ words_of ws
+
 -- whether the last n places have a word that was loaded
 abbrev pub is_some : Option ℕ → Bool
 is_some None = false

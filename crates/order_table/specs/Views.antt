@@ -23,7 +23,7 @@ use Rattle.order_table.specs.declared.views.View.{View}
 use Rattle.joint_model.specs.HistoryLines.{caller_line}
 use Rattle.order_table.specs.Rows.{at, put, longest, joined, common, without}
 use Rattle.order_table.specs.Stages.{stage}
-use Rattle.order_table.specs.Owed.{IsNumber, PinDeed, pin_deed, pin, owing, fill_after, empty_after, owes_after, by_place, words_of, target_told, freed_told}
+use Rattle.order_table.specs.Owed.{IsNumber, PinDeed, pin_deed, pin, owing, fill_after, empty_after, owes_after, by_place, pin_row, target_told, freed_told}
 
 -- which order it is: the name of the table that its word lies in
 abbrev pub OrderId : Type 0
@@ -86,7 +86,7 @@ pub record IsCompared (v : View) : Type 0 where
 
 -- the words of pins that are kept with an entry: with a snapshot those that the seat scanned, with a `take` that of its caller's pin
 abbrev pub pins_kept : View → Thread → Op → List ℕ
-pins_kept v t (op.Snap k) = words_of v.scanned
+pins_kept v t (op.Snap k) = pin_row v.scanned
 pins_kept v t (op.Line (act.Take x)) = put 0 [] (caller_place t) (pin (known v (caller_line t)))
 pins_kept v t _ = []
 

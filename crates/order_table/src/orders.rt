@@ -8,7 +8,7 @@ ghost use Rattle.order_table.specs.declared.views.KeptEntry.{KeptEntry};
 ghost use Rattle.joint_model.specs.HistoryLines.{caller_line};
 ghost use Rattle.order_table.specs.Rows.{at, put};
 ghost use Rattle.order_table.specs.Stages.{IsClosed};
-ghost use Rattle.order_table.specs.Owed.{IsLoaded, all_scanned, marked, owes_after, pin, says_word, scanned_row, words_of};
+ghost use Rattle.order_table.specs.Owed.{IsLoaded, all_scanned, marked, owes_after, pin, says_word, pin_row, scanned_row};
 ghost use Rattle.order_table.specs.Views.{IsRole, IsInRole, IsNext, IsOpen, IsEnded, role_line, kept, known, Owns, OwnsAll, first_view, appended, giving, given, hearing, learned, lines_of_role, lines_of_caller, lines_of_none, loading, scanning, storing, storing_pin};
 ghost use Rattle.order_table.specs.Allowed.{IsQuiet, MayMake, NoDebt, OwesNone, OwesOnly, Settled};
 ghost use Rattle.order_table.specs.Rule.{IsBelow, IsHeld, CellIs, Stands, SetsCell, AreLinesOfOneHistory};
@@ -373,7 +373,7 @@ impl Order {
         ensures stays { StaysAs seat.old.view seat.new.view }
         ensures scanned { seat.new.view.scanned ≡ scanned_row result }
         ensures all { all_scanned 8 seat.new.view.scanned ≡ true }
-        ensures kept { (i w : ℕ) → slice_get result i ≡ Some w → at 0 (words_of seat.new.view.scanned) (i + 1) ≡ w }
+        ensures kept { (i w : ℕ) → slice_get result i ≡ Some w → at 0 (pin_row seat.new.view.scanned) (i + 1) ≡ w }
         ensures small { (i w : ℕ) → slice_get result i ≡ Some w → w ≤ 4294967296 }
         ensures held { (i m : ℕ) → i < 8 → slice_get result i ≡ Some (m + 1) → IsHeld (known seat.old.view 0) (i + 1) m }
     {
