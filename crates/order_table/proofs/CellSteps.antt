@@ -17,7 +17,7 @@ use Rattle.order_table.specs.Tells.{LoadedCell, StoredCell}
 use Rattle.order_table.proofs.Places.{at_put_here, at_put_else}
 use Rattle.order_table.proofs.Gate.{if_true, if_false}
 use Rattle.order_table.proofs.Waits.{waiting_views}
-use Rattle.order_table.proofs.Cells.{cell_small, loaded_word, known_unset, none_owed, settled_cell, no_debt_in, celled_same}
+use Rattle.order_table.proofs.Cells.{cell_small, loaded_word, known_unset, none_owed, no_debt_in, celled_same}
 use Rattle.order_table.proofs.Pins.{pinned_keep}
 use Rattle.order_table.proofs.Steps.{seats, Holds, owner_set}
 

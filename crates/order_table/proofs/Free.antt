@@ -1,5 +1,5 @@
 -- A seat that is settled, and has compared all that it heard; and what follows from an entry's event alone.
-use Rattle.std.proofs.Common.{◌≡◌, ◌⊎◌, ⊎_elim, ℕ, zero, suc, ◌+◌, ◌-◌, ◌*◌, ◌^◌, ◌<◌, ◌≤◌, Bool, true, false, List, [], refl, sym, ap, ◌∙◌, subst, arith, true≢false}
+use Rattle.std.proofs.Common.{◌≡◌, ⊎_elim, ℕ, zero, suc, ◌+◌, ◌-◌, ◌^◌, ◌<◌, ◌≤◌, Bool, true, false, List, [], refl, sym, ap, ◌∙◌, subst, arith, true≢false}
 use Rattle.std.specs.Prelude.{if◌then◌else◌, ◌==◌, Option, Some, None}
 use Rattle.std.proofs.lemmas.Bool.{both_ways, cases_eq}
 use Rattle.joint_model.specs.declared.names.MNum.{MNum}
@@ -17,9 +17,9 @@ use Rattle.joint_model.specs.Readers.{is_read}
 use Rattle.order_table.specs.declared.views.View.{View}
 use Rattle.joint_model.specs.HistoryLines.{caller_line}
 use Rattle.order_table.specs.Rows.{at}
-use Rattle.order_table.specs.Stages.{stage, deed, opens, ends, neither}
+use Rattle.order_table.specs.Stages.{stage, deed}
 use Rattle.order_table.specs.Owed.{PinDeed, fills, empties, stays, pin_deed, pin, owing, has, mark, target_told, freed_told}
-use Rattle.order_table.specs.Views.{IsCompared, IsInRole, IsOpen, IsNext, known, pin_owed}
+use Rattle.order_table.specs.Views.{IsCompared, IsInRole, known, pin_owed}
 use Rattle.order_table.specs.Allowed.{NoDebt, HoldsOpen, Settled, MayDo, MayMake}
 use Rattle.order_table.specs.Rule.{IsHeldFor}
 

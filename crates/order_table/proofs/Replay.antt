@@ -23,8 +23,8 @@ use Rattle.joint_model.specs.Linked.{Linkage, opening_linkage, linkage_after, ma
 use Rattle.joint_model.specs.Readers.{is_read, pins_after, reader_after, entry_after, replayed_reading}
 use Rattle.joint_model.specs.Control.{caller_place}
 use Rattle.joint_model.specs.HistoryLines.{caller_line}
-use Rattle.order_table.specs.Owed.{PinDeed, fills, empties, stays, pin_deed, pin_after, pin, deed_of_pin}
-use Rattle.order_table.specs.Rule.{Item, IsItem, is_in, of_line, RunsFrom, Fits, EachFits}
+use Rattle.order_table.specs.Owed.{PinDeed, fills, empties, stays, pin_deed, pin_after, pin}
+use Rattle.order_table.specs.Rule.{Item, IsItem, is_in, of_line, RunsFrom}
 use Rattle.order_table.specs.Facts.{entries_of}
 use Rattle.order_table.specs.Replies.{first_of, object_of, PinsAreReplayed}
 use Rattle.order_table.proofs.Gate.{if_true, if_false}

@@ -4,9 +4,9 @@
 -- both lines in which the entry stands, so nobody else's lines are whole any more, and they stay beginnings. A split and a join change owners
 -- alone. A join keeps both views side by side; the load after it compares them, and takes of each line the longer list, since both are beginnings
 -- of one line; where one of the two owned the line, it knew it whole, and so the longer list is that one's.
-use Rattle.std.proofs.Common.{◌≡◌, ◌≢◌, ◌⊎◌, inl, inr, ⊎_elim, ℕ, zero, suc, ◌+◌, ◌*◌, ◌/◌, ◌%◌, ◌^◌, ◌<◌, ◌≤◌, Bool, true, false, not, ◌&&◌, ◌||◌, List, [], ◌∷◌, ◌++◌, length, get_or, set, refl, sym, ap, ◌∙◌, subst, arith, length-append, length-set, get_or-set_same, get_or-set_other, eq-eqb, ne_eqb, true≢false}
+use Rattle.std.proofs.Common.{◌≡◌, ◌≢◌, ◌⊎◌, inl, inr, ⊎_elim, ℕ, zero, suc, ◌+◌, ◌*◌, ◌/◌, ◌%◌, ◌^◌, ◌<◌, ◌≤◌, Bool, true, false, not, ◌&&◌, List, [], ◌∷◌, ◌++◌, length, get_or, set, refl, sym, ap, ◌∙◌, subst, arith, length-append, length-set, get_or-set_same, get_or-set_other, eq-eqb, ne_eqb, true≢false}
 use Rattle.std.specs.Prelude.{if◌then◌else◌, ◌==◌, Option, Some, None, replicate}
-use Rattle.std.proofs.lemmas.Bool.{cases_Bool, cases_eq, eqb-true, and_parts, or_cases, not-true, both_ways}
+use Rattle.std.proofs.lemmas.Bool.{cases_Bool, cases_eq, and_parts, or_cases, not-true, both_ways}
 use mathlib.Core.Option.{none, some, some-injective, some-ne-none}
 use mathlib.Core.List.{IsPrefix}
 use base.Growing.{prefix_refl}
@@ -26,10 +26,10 @@ use Rattle.joint_model.specs.HistoryLines.{caller_line}
 use Rattle.order_table.specs.Rows.{at, longer}
 use Rattle.order_table.specs.Stages.{IsClosed, opens, deed, stage_after, stage}
 use Rattle.order_table.specs.Owed.{PinDeed, fills, empties, pin_deed, owing, pin, pin_after, marked, target, has, is_freed, by_place, owes_after, stays, fill_after, empty_after}
-use Rattle.order_table.specs.Views.{IsNext, IsCompared, IsInRole, lines_of_none, pins_kept, pin_owed, OwnsAll, IsOpen, kept, known, Owns, first_view, spent_view, grown, appended, giving, given, hearing, learned}
+use Rattle.order_table.specs.Views.{IsNext, IsCompared, IsInRole, lines_of_none, pins_kept, pin_owed, OwnsAll, IsOpen, kept, known, Owns, first_view, spent_view, appended, giving, given, hearing, learned}
 use Rattle.order_table.specs.Allowed.{Settled, NoDebt, MaySet, SaysPending, MayDo, MayMake, IsQuiet}
 use Rattle.order_table.specs.Rule.{HasOwner, HasBit, Scans, Pinned, ReadsWord, CellIs, Debts, EachLoad, Celled, Unknown, IsSnapped, Waits, IsPending, IsDue, Stands, Item, is_in, of_line, RunsFrom, IsBelow, Knows, Gates, IsHeldFor, Ordered, AreLinesOfOneHistory}
-use Rattle.order_table.specs.Tells.{Appended, Compared, Compares, GrowsByEntry}
+use Rattle.order_table.specs.Tells.{Appended, Compared, Compares}
 use Rattle.joint_model.specs.Lines.{IsThread}
 use Rattle.order_table.proofs.Gate.{no_bit, if_true, if_false, stage_more, held_more, gates_giving, gates_given, gates_spent, gates_hearing, gates_learned, gates_appended}
 use Rattle.std.proofs.Math.Nat.{one-le-pow}
@@ -37,10 +37,9 @@ use Rattle.order_table.proofs.Pins.{no_scans, scans_more, pin_at, scanned_at, pi
 use Rattle.order_table.proofs.Says.{at_by_place, none_not, target_cases}
 use Rattle.order_table.proofs.Cells.{paid_more, cell_after, settled_cell, none_owed, loads_more, load_there, debts_more, debts_giving, debts_given, debts_spent, debts_hearing, debts_learned, celled_same}
 use Rattle.order_table.proofs.Waits.{stands_cases, stands_more, stands_last, stands_below, waits_more, waits_same, waits_not, waiting_views, waiting_other, waiting_managed}
-use Rattle.joint_model.specs.declared.names.Thread.{Thread}
 use Rattle.order_table.proofs.Free.{Free, peer_stays, may_pin, frees_held, sets_frees_none, others_mark, others_free}
 use Rattle.order_table.proofs.Lines.{of_line_in, of_line_out, runs_more, below_line, below_begins, bounded, in_cases, role_in, caller_in, appended_in, appended_out}
-use Rattle.order_table.proofs.Places.{at_put_here, at_put_else, begins_more, longer_begins, first_begins_longer, second_begins_longer, whole_longer, longer_whole, at_longest, at_joined, at_common, at_without, or_true}
+use Rattle.order_table.proofs.Places.{at_put_here, begins_more, longer_begins, first_begins_longer, second_begins_longer, whole_longer, longer_whole, at_longest, at_joined, at_common, at_without, or_true}
 
 abbrev St : Type 0
 St = State (Unit {0}) View

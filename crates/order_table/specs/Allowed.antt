@@ -1,5 +1,5 @@
 -- Which entries a seat may make, and when it may be cut or joined.
-use Rattle.std.specs.Prelude.{◌≡◌, ◌⊎◌, ℕ, ◌+◌, ◌-◌, ◌*◌, ◌^◌, ◌<◌, ◌≤◌, Bool, true, false, List, [], Option, Some, None}
+use Rattle.std.specs.Prelude.{◌≡◌, ◌⊎◌, ℕ, ◌+◌, ◌-◌, ◌^◌, ◌<◌, ◌≤◌, true, false, [], Option, Some, None}
 use Rattle.joint_model.specs.declared.names.MNum.{MNum}
 use Rattle.joint_model.specs.declared.events.Made.{Made}
 use Rattle.joint_model.specs.declared.events.Reply.{Reply}
@@ -9,7 +9,7 @@ use Rattle.order_table.specs.declared.views.View.{View}
 use Rattle.joint_model.specs.HistoryLines.{caller_line}
 use Rattle.order_table.specs.Rows.{at}
 use Rattle.order_table.specs.Stages.{IsClosed, Deed, opens, ends, neither, deed}
-use Rattle.order_table.specs.Owed.{IsNumber, fills, mark, marked, target, target_told, is_freed, read_of, word_of, IsLoaded, all_scanned, PinDeed, stays, deed_of_pin, pin}
+use Rattle.order_table.specs.Owed.{IsNumber, fills, mark, marked, target, target_told, is_freed, read_of, word_of, IsLoaded, all_scanned, stays, deed_of_pin, pin}
 use Rattle.order_table.specs.Views.{known, pin_owed, IsOpen, IsNext}
 
 -- no cell's word is owed, or none but that of one cell

@@ -12,7 +12,7 @@ use Rattle.order_table.specs.declared.views.View.{View}
 use Rattle.joint_model.specs.HistoryLines.{caller_line}
 use Rattle.order_table.specs.Rows.{at}
 use Rattle.order_table.specs.Stages.{IsClosed}
-use Rattle.order_table.specs.Owed.{pin, says_word}
+use Rattle.order_table.specs.Owed.{pin}
 use Rattle.order_table.specs.Views.{role_line, kept, known, Owns, appended, learned, storing_pin, scanning, loading, storing, IsEnded, entered}
 use Rattle.order_table.specs.Allowed.{NoDebt}
 use Rattle.order_table.specs.Rule.{Item, RunsFrom, of_line, IsBelow, IsHeld, Stands, SetsCell, CellIs}

@@ -1,21 +1,19 @@
 -- What a seat is after an entry whose cell's word is stored: settled, or with what it has still to do.
-use Rattle.std.proofs.Common.{◌≡◌, ◌⊎◌, inl, inr, ⊎_elim, ℕ, zero, suc, ◌+◌, ◌*◌, ◌<◌, ◌≤◌, Bool, true, false, ◌||◌, List, [], ◌∷◌, ◌++◌, refl, sym, ap, ◌∙◌, subst, arith, true≢false}
+use Rattle.std.proofs.Common.{◌≡◌, ◌⊎◌, inl, inr, ⊎_elim, ℕ, ◌+◌, ◌*◌, ◌<◌, Bool, true, false, ◌||◌, [], ◌∷◌, ◌++◌, refl, sym, ap, ◌∙◌, subst, arith, true≢false}
 use Rattle.std.specs.Prelude.{if◌then◌else◌, ◌==◌, max, Option, Some, None}
-use Rattle.std.proofs.lemmas.Bool.{both_ways, cases_eq, cases_Bool}
-use Rattle.joint_model.specs.declared.names.MNum.{MNum}
+use Rattle.std.proofs.lemmas.Bool.{cases_eq, cases_Bool}
 use Rattle.joint_model.specs.Control.{caller_place}
 use Rattle.joint_model.specs.HistoryLines.{caller_line}
 use Rattle.order_table.specs.declared.views.KeptEntry.{KeptEntry}
 use Rattle.order_table.specs.declared.views.View.{View}
 use Rattle.order_table.specs.Rows.{at}
-use Rattle.order_table.specs.Stages.{Deed, opens, ends, neither, deed, stage, stage_after, IsClosed}
-use Rattle.order_table.specs.Owed.{PinDeed, stays, empties, aims_at, deed_of_pin, empty_after, fill_after, frees_target, has, is_freed, marked, owing, pin, target}
-use Rattle.order_table.specs.Views.{IsEnded, IsInRole, IsOpen, IsNext, known, Owns, pin_owed}
+use Rattle.order_table.specs.Stages.{opens, ends, neither, deed, stage, stage_after}
+use Rattle.order_table.specs.Owed.{stays, empties, aims_at, deed_of_pin, empty_after, fill_after, frees_target, has, is_freed, marked, owing, pin, target}
+use Rattle.order_table.specs.Views.{IsInRole, known, pin_owed}
 use Rattle.order_table.specs.Allowed.{HoldsOpen, MayDo, NoDebt, Settled}
 use Rattle.order_table.specs.Tells.{GrowsByEntry}
 use Rattle.order_table.proofs.Free.{peer_stays}
-use Rattle.order_table.proofs.Gate.{stage_more, if_true, if_false}
-use Rattle.order_table.proofs.Pins.{pin_more}
+use Rattle.order_table.proofs.Gate.{stage_more}
 use Rattle.order_table.proofs.Says.{freed_more, target_more}
 use Rattle.seat_calls.specs.Gating.{HasEnded, HasOpened, IsOutside, OwesClearing}
 use Rattle.seat_calls.specs.Paying.{IsPaid, IsPlain, OwesFreed}

@@ -5,12 +5,12 @@ use Rattle.order_table.specs.declared.views.View.{View}
 use Rattle.order_table.specs.Rows.{at}
 use Rattle.order_table.specs.Rule.{IsBelow}
 use Rattle.order_table.specs.Views.{known}
-use Rattle.std.proofs.Common.{length, refl, ap, ◌∙◌, ◌+◌}
+use Rattle.std.proofs.Common.{length, refl, ap}
 use Rattle.std.proofs.lemmas.List.Elements.{All-cons, All-nil}
 use Rattle.joint_model.specs.declared.events.Entry.{Entry}
 use Rattle.joint_model.specs.Draws.{AllBelow}
 use Rattle.order_table.specs.Facts.{line_entries}
-use Rattle.seat_calls.specs.Passing.{top, top_of, floor_of, left_in}
+use Rattle.seat_calls.specs.Passing.{top, top_of, floor_of}
 
 top_below : (n : ℕ) (ks : List KeptEntry) → IsBelow n ks → top ks ≤ n
 top_below n [] b = omega arith

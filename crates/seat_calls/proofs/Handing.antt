@@ -2,7 +2,7 @@
 use Rattle.std.proofs.Common.{◌≡◌, inl, inr, ⊎_elim, ℕ, [], ◌∷◌, sym, ◌∙◌, subst}
 use Rattle.std.proofs.lemmas.Bool.{cases_eq}
 use mathlib.Core.List.{IsPrefix}
-use base.Growing.{prefix_anti, prefix_refl, prefix_trans}
+use base.Growing.{prefix_anti, prefix_refl}
 use Rattle.joint_model.specs.declared.names.Thread.{Thread}
 use Rattle.joint_model.specs.HistoryLines.{caller_line}
 use Rattle.order_table.specs.declared.views.KeptEntry.{KeptEntry}

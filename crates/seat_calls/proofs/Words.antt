@@ -1,5 +1,5 @@
 -- What the words of cells are after an entry.
-use Rattle.std.proofs.Common.{◌≡◌, ◌⊎◌, inl, inr, ⊎_elim, ℕ, ◌+◌, ◌<◌, ◌≤◌, Bool, true, false, ◌||◌, List, [], ◌∷◌, ◌++◌, refl, sym, ap, ◌∙◌, subst, arith}
+use Rattle.std.proofs.Common.{◌≡◌, ◌⊎◌, ⊎_elim, ℕ, ◌+◌, ◌<◌, Bool, true, false, ◌||◌, List, [], ◌∷◌, ◌++◌, refl, sym, ap, ◌∙◌, subst, arith}
 use Rattle.std.specs.Prelude.{if◌then◌else◌, Option, Some, None}
 use Rattle.std.proofs.lemmas.Bool.{both_ways, cases_eq}
 use Rattle.joint_model.specs.declared.names.Cell.{Cell}
@@ -12,14 +12,13 @@ use Rattle.joint_model.specs.declared.events.Op.{Op}
 use Rattle.joint_model.specs.declared.events.Op.TheVariants as op
 use Rattle.order_table.specs.declared.views.KeptEntry.{KeptEntry}
 use Rattle.order_table.specs.declared.views.View.{View}
-use Rattle.order_table.specs.Rows.{at}
-use Rattle.order_table.specs.Owed.{frees_target, has, is_freed, mark, marked, owes_after, says_word, sets_cell, target, target_told, word_by}
+use Rattle.order_table.specs.Owed.{has, is_freed, mark, marked, says_word, target, target_told, word_by}
 use Rattle.order_table.specs.Rule.{CellIs, IsFresh, IsStale}
 use Rattle.order_table.specs.Views.{known}
 use Rattle.seat_calls.specs.Paying.{Agrees}
 use Rattle.order_table.specs.Tells.{BeginsOneHistory}
 use Rattle.order_table.proofs.Gate.{if_true, if_false}
-use Rattle.order_table.proofs.Says.{freed_more, none_not, some_is, target_aimed}
+use Rattle.order_table.proofs.Says.{freed_more, some_is, target_aimed}
 
 -- the mark of a managed thread's `weak`
 pub set_mark : (t : Thread) (o : Op) (aim : Option MNum) (n : ℕ) (k : Cell) (v : Var) (x : MNum) → t ≡ M n → o ≡ op.Line (act.Weak k v) → aim ≡ Some x → mark o (target_told t o aim) ≡ Some (k.0, x.0)

@@ -1,5 +1,5 @@
 -- What a reader's entry asks of the order, and what it leaves.
-use Rattle.std.proofs.Common.{◌≡◌, ℕ, zero, suc, ◌+◌, ◌-◌, ◌*◌, ◌^◌, ◌<◌, ◌≤◌, Bool, true, false, List, [], ◌∷◌, ◌++◌, refl, sym, ap, ◌∙◌, subst, arith, true≢false}
+use Rattle.std.proofs.Common.{◌≡◌, ℕ, zero, suc, ◌+◌, ◌-◌, ◌*◌, ◌^◌, ◌<◌, ◌≤◌, true, false, List, [], ◌∷◌, ◌++◌, refl, sym, ap, ◌∙◌, subst, arith, true≢false}
 use Rattle.std.specs.Prelude.{None, Some, Option}
 use Rattle.joint_model.specs.declared.names.Cycle.{Cycle}
 use Rattle.joint_model.specs.declared.names.MNum.{MNum}
@@ -20,7 +20,7 @@ use Rattle.order_table.specs.Stages.{IsClosed, stage}
 use Rattle.order_table.specs.Rule.{IsBelow, SetsCell, Stands, of_line}
 use Rattle.order_table.specs.Tells.{BeginsOneHistory, GrowsByEntry, StaysAs}
 use Rattle.order_table.proofs.Pins.{pin_more}
-use Rattle.order_table.specs.Owed.{fills, IsLoaded, pin, pin_after, pin_deed, read_of, says_word, word_of}
+use Rattle.order_table.specs.Owed.{fills, IsLoaded, pin, pin_after, pin_deed, read_of, says_word}
 use Rattle.order_table.specs.Views.{known, Owns}
 use Rattle.order_table.specs.Allowed.{MayMake, OwesNone}
 use Rattle.order_table.proofs.Free.{owing_fills}

@@ -1,5 +1,3 @@
-use Rattle.std.proofs.Common.{sym, subst}
-use Rattle.std.specs.Prelude.{None}
 use Rattle.weak_wait.proofs.Making.{may_make}
 use Rattle.weak_wait.proofs.reads.note.Goals as goal
 

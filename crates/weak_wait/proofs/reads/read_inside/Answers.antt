@@ -1,4 +1,4 @@
-use Rattle.std.proofs.Common.{rules, ◌≡◌, refl, ◌+◌, [], sym, ap, ◌∙◌, subst}
+use Rattle.std.proofs.Common.{rules, ◌≡◌, ◌+◌, [], sym, ap, ◌∙◌, subst}
 use Rattle.order_table.specs.Rows.{at}
 use Rattle.order_table.specs.Owed.{IsLoaded, pin, says_word}
 use Rattle.order_table.specs.declared.views.View.{View}

@@ -1,9 +1,8 @@
-use Rattle.std.proofs.Common.{rules, ℕ, ◌≡◌, ◌-◌, ◌^◌, ◌<◌, [], refl, sym, ap, ◌∙◌, subst, arith}
+use Rattle.std.proofs.Common.{rules, ℕ, ◌≡◌, ◌-◌, ◌^◌, ◌<◌, [], sym, ap, ◌∙◌, subst, arith}
 use Rattle.std.specs.Prelude.{bit_or, bit_and}
 use mathlib.Core.Option.{none}
 use Rattle.std.proofs.Math.Nat.{one-le-pow}
 use Rattle.atomic_table.specs.Table.{step, Allows}
-use Rattle.order_table.specs.declared.views.View.{View}
 use Rattle.order_table.specs.Rule.{Ordered}
 use Rattle.order_table.specs.Tells.{Entered, GaveBack}
 use Rattle.order_table.proofs.Free.{free}

@@ -1,4 +1,4 @@
-use Rattle.std.proofs.Common.{ap, sym, ◌∙◌, subst, arith}
+use Rattle.std.proofs.Common.{ap, sym, ◌∙◌, subst}
 use Rattle.order_table.specs.Views.{OwnsAll}
 use Rattle.order_table.specs.Rule.{AreLinesOfOneHistory}
 use Rattle.order_table.proofs.Steps.{tells_all, keeps_all}

@@ -1,7 +1,6 @@
-use Rattle.std.proofs.Common.{rules, ◌≡◌, refl, ap, sym, ◌∙◌, subst, arith}
+use Rattle.std.proofs.Common.{rules, ap, ◌∙◌, subst}
 use Rattle.atomic_table.specs.Table.{Me}
 use Rattle.order_table.specs.declared.views.View.{View}
-use Rattle.order_table.specs.Views.{hearing}
 use Rattle.order_table.specs.Tells.{Compares}
 use Rattle.order_table.proofs.Free.{free}
 use Rattle.order_table.proofs.Steps.{takes_in, compares, settled_learned}

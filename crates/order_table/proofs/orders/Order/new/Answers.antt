@@ -1,4 +1,4 @@
-use Rattle.std.proofs.Common.{rules, ◌≡◌, [], refl, ap, sym, subst, arith}
+use Rattle.std.proofs.Common.{rules, ◌≡◌, [], ap, sym, subst}
 use Rattle.order_table.specs.Views.{OwnsAll, first_view}
 use Rattle.order_table.proofs.Steps.{opens_order, owns_first}
 use Rattle.order_table.proofs.orders.Order.new.Goals as goal

@@ -1,4 +1,4 @@
-use Rattle.std.proofs.Common.{rules, refl, sym, ◌∙◌}
+use Rattle.std.proofs.Common.{rules, refl}
 use Rattle.weak_wait.proofs.readers.WeakReader.try_get.Goals as goal
 
 pub returns : goal.returns
