@@ -14,13 +14,13 @@ use Rattle.joint_model.specs.declared.events.Made.{Made}
 use Rattle.joint_model.specs.declared.events.Entry.{Entry}
 use Rattle.joint_model.specs.declared.events.Reply.{Reply}
 use Rattle.joint_model.specs.declared.events.Reply.TheVariants as says
-use Rattle.joint_model.specs.Lines.{is_peer_event}
+use Rattle.joint_model.specs.Lines.{is_peer_event, is_read}
 use Rattle.joint_model.specs.Heaps.{slot, answer}
 use Rattle.joint_model.specs.Heaps as heap
 use Rattle.joint_model.specs.Managed.{Managed, read_cell, cell_read, target_read, managed_name}
 use Rattle.joint_model.specs.Run.{thread_number}
 use Rattle.joint_model.specs.Told.{Noted}
-use Rattle.joint_model.specs.Readers.{is_read, is_managed_entry, ReadsCell, HasKnownFrom, MayBePending, MayBeUnset, IsReadReply}
+use Rattle.joint_model.specs.Readers.{is_managed_entry, ReadsCell, HasKnownFrom, MayBePending, MayBeUnset, IsReadReply}
 use Rattle.order_table.specs.declared.views.KeptEntry.{KeptEntry}
 use Rattle.joint_model.specs.HistoryLines.{caller_line}
 use Rattle.order_table.specs.Stages.{opens, ends, neither, deed, IsClosed}

@@ -11,16 +11,15 @@ use Rattle.joint_model.specs.declared.names.Thread.TheVariants.{M, P, C}
 use Rattle.joint_model.specs.declared.events.Made.{Made}
 use Rattle.joint_model.specs.declared.events.Op.{Op}
 use Rattle.joint_model.specs.declared.events.Op.TheVariants as op
-use Rattle.joint_model.specs.Readers.{is_read}
 use Rattle.joint_model.specs.Control.{caller_place}
 use Rattle.joint_model.specs.Draws.{NumberedFrom}
-use Rattle.joint_model.specs.Lines.{IsThread, is_peer_event}
+use Rattle.joint_model.specs.Lines.{IsThread, is_peer_event, is_read, reader_line, list_line}
 use Rattle.order_table.specs.declared.views.Role.TheVariants as role
 use Rattle.order_table.specs.declared.views.KeptEntry.{KeptEntry}
-use Rattle.joint_model.specs.HistoryLines.{caller_line}
+use Rattle.joint_model.specs.HistoryLines.{caller_line, entries_in}
 use Rattle.order_table.specs.Views.{IsInRole}
 use Rattle.order_table.specs.Rule.{Item, IsItem, is_in, of_line, RunsFrom}
-use Rattle.order_table.specs.Facts.{In, RuleKeepsLists, RolesDiffer, CallersDiffer, entries_of, line_entries, EntriesTellLines, reader_line, list_line, entries_in}
+use Rattle.order_table.specs.Facts.{In, RuleKeepsLists, RolesDiffer, CallersDiffer, entries_of, line_entries, EntriesTellLines}
 use Rattle.order_table.proofs.Lines.{role_in, caller_in, in_cases, bounded}
 
 -- an entry of the history

@@ -1,21 +1,18 @@
 -- What follows from the rule, in words of their own: whole lists and passes between any two steps, and that entries by themselves tell in which
 -- lines they stand.
-use Rattle.std.specs.Prelude.{◌≡◌, ◌⊎◌, ℕ, ◌+◌, ◌<◌, ◌≤◌, ◌==◌, ◌||◌, if◌then◌else◌, Bool, List, [], ◌∷◌, length, map, slice_index}
+use Rattle.std.specs.Prelude.{◌≡◌, ◌⊎◌, ℕ, ◌<◌, ◌≤◌, List, [], ◌∷◌, length, map, slice_index}
 use mathlib.Core.Option.{some}
 use mathlib.Core.List.{IsPrefix}
 use lib.ListN.{get_elem?}
 use Rattle.atomic_table.specs.Table.{State}
 use Rattle.joint_model.specs.declared.names.Thread.{Thread}
-use Rattle.joint_model.specs.declared.names.Thread.TheVariants.{M}
-use Rattle.joint_model.specs.declared.events.Op.{Op}
 use Rattle.joint_model.specs.declared.events.Entry.{Entry}
 use Rattle.joint_model.specs.Draws.{NumberedFrom}
-use Rattle.joint_model.specs.Lines.{IsThread, is_peer_event}
-use Rattle.joint_model.specs.Readers.{is_read}
+use Rattle.joint_model.specs.Lines.{IsThread}
 use Rattle.order_table.specs.declared.views.Role.{Role}
 use Rattle.order_table.specs.declared.views.KeptEntry.{KeptEntry}
 use Rattle.order_table.specs.declared.views.View.{View}
-use Rattle.joint_model.specs.HistoryLines.{caller_line}
+use Rattle.joint_model.specs.HistoryLines.{caller_line, entries_in}
 use Rattle.order_table.specs.Rows.{at}
 use Rattle.order_table.specs.Views.{IsRole, role_line, known, Owns}
 use Rattle.order_table.specs.Rule.{Item, Ordered, RunsFrom, of_line}
@@ -74,23 +71,6 @@ entries_of xs = map (λ x. x.kept.entry) xs
 
 abbrev pub line_entries : List KeptEntry → List Entry
 line_entries ks = map (λ k. k.entry) ks
-
--- the line of the list in which an entry stands, by its event: a reader's, the peer side's, or the managed side's
-abbrev pub reader_line : Thread → ℕ
-reader_line (M n) = 1 + n
-reader_line t = 0
-
-abbrev pub list_line : Thread → Op → ℕ
-list_line t o = if is_peer_event t o then 1 else if is_read o then reader_line t else 0
-
--- the entry stands in the line, by its event or by its caller
-abbrev pub stands_in : ℕ → Entry → Bool
-stands_in i e = (i == list_line e.made.caller e.made.op) || (i == caller_line e.made.caller)
-
--- the entries of a line, in their order
-abbrev pub entries_in : ℕ → List Entry → List Entry
-entries_in i [] = []
-entries_in i (e ∷ es) = if stands_in i e then e ∷ entries_in i es else entries_in i es
 
 -- the entries are numbered from 0 on, and each line has just those that stand in it by event and caller
 pub record AreTold (whole : List Item) : Type 0 where

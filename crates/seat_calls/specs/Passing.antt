@@ -4,13 +4,12 @@ use mathlib.Core.List.{IsPrefix}
 use Rattle.joint_model.specs.declared.names.Thread.{Thread}
 use Rattle.joint_model.specs.declared.events.Op.{Op}
 use Rattle.joint_model.specs.HistoryLines.{caller_line}
-use Rattle.joint_model.specs.Lines.{IsThread, is_peer_event}
+use Rattle.joint_model.specs.Lines.{IsThread, is_peer_event, is_read}
 use Rattle.order_table.specs.declared.views.KeptEntry.{KeptEntry}
 use Rattle.order_table.specs.declared.views.View.{View}
 use Rattle.order_table.specs.Rule.{IsBelow}
 use Rattle.order_table.specs.Tells.{GrowsByEntry, IsOfCaller, BeginsOneHistory}
 use Rattle.joint_model.specs.declared.names.MNum.{MNum}
-use Rattle.joint_model.specs.Readers.{is_read}
 use Rattle.order_table.specs.Stages.{deed}
 use Rattle.order_table.specs.Owed.{mark, target_told}
 use Rattle.order_table.specs.Allowed.{MayDo, MaySet, OwesNone}
