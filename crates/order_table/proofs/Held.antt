@@ -26,11 +26,11 @@ use Rattle.order_table.proofs.Pins.{pin_more}
 use Rattle.order_table.proofs.Waits.{stands_cases, stands_below}
 use Rattle.order_table.proofs.Lines.{of_line_in, of_line_out, in_cases, runs_more, below_line}
 
-those_more : (n : ℕ) (ks : List KeptEntry) (k : KeptEntry) → n ≤ k.entry.number → those_below n (ks ++ k ∷ []) ≡ those_below n ks
+pub those_more : (n : ℕ) (ks : List KeptEntry) (k : KeptEntry) → n ≤ k.entry.number → those_below n (ks ++ k ∷ []) ≡ those_below n ks
 those_more n [] k l = if_false (nat_lt k.entry.number n) (k ∷ []) [] (⊎_elim (λ e. absurd (let z = ltb-true k.entry.number n e in omega arith)) (λ e. e) (cases_Bool (nat_lt k.entry.number n)))
 those_more n (x ∷ ks) k l = ap (λ rest. if nat_lt x.entry.number n then x ∷ rest else rest) (those_more n ks k l)
 
-those_all : (n : ℕ) (ks : List KeptEntry) → IsBelow n ks → those_below n ks ≡ ks
+pub those_all : (n : ℕ) (ks : List KeptEntry) → IsBelow n ks → those_below n ks ≡ ks
 those_all n [] b = refl
 those_all n (x ∷ ks) b = ap (λ rest. if nat_lt x.entry.number n then x ∷ rest else rest) (those_all n ks b.1)
     ∙ if_true (nat_lt x.entry.number n) (x ∷ ks) ks (⊎_elim (λ e. e) (λ e. absurd (let z = ltb-false x.entry.number n e in let y = b.0 in omega arith)) (cases_Bool (nat_lt x.entry.number n)))

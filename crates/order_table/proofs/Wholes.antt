@@ -155,7 +155,7 @@ read_of_managed : (n : ℕ) (o : Op) → is_read o ≡ true → is_peer_event (M
 read_of_managed n (op.Line a) e = refl
 read_of_managed n _ e = absurd (true≢false (sym e))
 
-role_told : (q : ℕ) (m : Made) → IsInRole q m → q ≡ list_line m.caller m.op
+pub role_told : (q : ℕ) (m : Made) → IsInRole q m → q ≡ list_line m.caller m.op
 role_told q m s = let one = s.one in ⊎_elim
     (λ (e : q ≡ 0). e ∙ sym (ap (λ (b : Bool × Bool). if b.0 then 1 else if b.1 then reader_line m.caller else 0) (λ i. ((s.managed e).1 i, (s.managed e).0 i))))
     (λ n. ⊎_elim
