@@ -1,0 +1,7 @@
+pub mod KnownViews
+pub mod PinWords
+pub mod StateWords
+pub mod Ordered
+pub mod Finished
+pub mod HeldViews
+pub mod DrawnViews

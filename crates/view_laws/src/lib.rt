@@ -1,0 +1,24 @@
+// Laws of what a seat of the order knows: its view is a past, which grows and is joined as the order promises, pins' words stand, and at the end of a run it is a
+// linked history.
+//
+// A law is a function with an empty body, whose clauses are statements of `specs/`. No value is made, and nothing runs.
+#![tactic(auto)]
+
+ghost use Rattle.view_laws.specs.Knowing.{DrawnViewsGrow, DrawnViewsJoin, FirstIsKnown, PinsOfViewsStand, SameIsKnown, ViewsGrow, ViewsJoin, WholeViewIsLinked};
+
+/// The first seat knows nothing; a seat that makes an entry which may come, takes another seat in, or gives lines away knows a past again, with what was drawn too;
+/// and a seat that knows the whole of a finished order knows a linked history.
+pub fn views_are_pasts()
+    ensures first { FirstIsKnown }
+    ensures grow { ViewsGrow }
+    ensures join { ViewsJoin }
+    ensures same { SameIsKnown }
+    ensures grow_drawn { DrawnViewsGrow }
+    ensures join_drawn { DrawnViewsJoin }
+    ensures whole { WholeViewIsLinked }
+{}
+
+/// Pins that are given by words which the owner of the managed list loaded stand at its past: what they name is live, and in no open cycle's dead part.
+pub fn pins_of_views_stand()
+    ensures { PinsOfViewsStand }
+{}
