@@ -1,6 +1,7 @@
 -- What a pin's word tells the owner of the managed list says the same of its past: so pins that hold such objects stand.
 use Rattle.std.proofs.Common.{◌≡◌, inl, inr, ⊎_elim, ℕ, zero, suc, ◌+◌, ◌<◌, ◌≤◌, Bool, true, false, List, [], ◌∷◌, ◌++◌, length, map, Option, Some, None, refl, sym, ap, ◌∙◌, subst, arith, true≢false, append_assoc}
-use Rattle.std.specs.Prelude.{if◌then◌else◌, nat_lt, Contains}
+use Rattle.std.specs.Prelude.{if◌then◌else◌, nat_eq, nat_lt, Contains}
+use Rattle.std.specs.List.{list_any}
 use Rattle.std.proofs.lemmas.Bool.{cases_lt, ltb-true, ltb-false}
 use mathlib.Core.Option.{some}
 use Rattle.joint_model.specs.declared.events.Entry.{Entry}
@@ -27,7 +28,7 @@ use Rattle.known_laws.specs.Pasts.{InPast, Lawful, end_of, line, is_in, role_of}
 use Rattle.known_laws.specs.Held as past
 use Rattle.known_laws.specs.Held.{open_number}
 use Rattle.known_laws.proofs.CellsDrawn.{targets_are_drawn}
-use Rattle.known_laws.proofs.Drawing.{drawn-entry}
+use Rattle.known_laws.proofs.Drawing.{drawn-entry, freed_is_drawn}
 use Rattle.known_laws.proofs.Held.{cycles_are_drawn, held_pins_stand}
 use Rattle.known_laws.proofs.PastsJoin.{below}
 use Rattle.known_laws.proofs.PastLines.{in-line, line-in as past-line}
@@ -37,8 +38,9 @@ use Rattle.order_table.specs.Rule.{Item, IsBelow, Stands, of_line}
 use Rattle.order_table.specs.Rule as rule
 use Rattle.order_table.proofs.Held.{those_more, those_all}
 use Rattle.order_table.proofs.Lines.{role_in, in_cases}
-use Rattle.view_laws.specs.Knowing.{row, pins_of, of_kept, of_order, PinsOfViewsStand}
+use Rattle.view_laws.specs.Knowing.{row, pins_of, of_kept, of_order, PinsOfViewsStand, ViewsSayStates}
 use Rattle.order_table.specs.Views.{known as known_by}
+use Rattle.view_laws.proofs.StateWords as words
 use Rattle.view_laws.proofs.StateWords.{SaysState, says-first, says-more, line-in, line-out}
 use Rattle.order_table.specs.Replies.{object_of}
 use Rattle.order_table.specs.Rows.{at}
@@ -348,3 +350,18 @@ pins_of_views_stand v a ws words = held_pins_stand a.known.past (pins_of ws) a.k
         let word = word-of (at 0 ws (suc r)) m (sym (row-slot (λ i. object_of (at 0 ws i)) (suc r) (omega arith) (omega (arith, l))) ∙ e) in
         held_view a.known.past a.known.lawful (known_by v 0) s told (suc r) m (omega arith) (omega (arith, l)) (words (suc r) m (omega arith) (omega (arith, l)) word))
         (cases_lt 8 (suc r))
+
+-- the state at the end of a view's past is what its managed list says
+pub views_say_states : ViewsSayStates
+views_say_states v a = record {
+  cells = λ c. w.cells c ∙ sym (targets_are_drawn h a.known.lawful c);
+  freed = λ m. w.freed m ∙ sym (ap (list_any (nat_eq m)) (freed_is_drawn h a.known.lawful));
+  closed = λ e. (let z = w.closed (sym (cycles_are_drawn h a.known.lawful) ∙ ap open_number e) in ((((end_of h).managed.managed.cycles, z)), omega (arith, z)));
+  opened = λ c e. w.opened c.number (sym (cycles_are_drawn h a.known.lawful) ∙ ap open_number e);
+}
+  where
+    h : List Noted
+    h = a.known.past
+
+    w : words.SaysState (known_by v 0) h
+    w = says-line h a.known.lawful [] h (known_by v 0) refl a.known.lawful (sym (a.known.same 0) ∙ kept-drawn (known_by v 0)) (λ k c. a.told 0 (of_order k) (Contains-map of_order (known_by v 0) k c))

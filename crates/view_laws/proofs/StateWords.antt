@@ -16,15 +16,17 @@ use Rattle.joint_model.specs.Histories.{managed_numbers}
 use Rattle.joint_model.specs.HistoryLines.{caller_line}
 use Rattle.joint_model.specs.Lines.{is_read, is_peer_event, list_line}
 use Rattle.joint_model.specs.Linked.{Linkage, SideLawful, linkage_after}
-use Rattle.joint_model.specs.Managed.{OpenCycle}
+use Rattle.joint_model.specs.Managed.{Managed, OpenCycle}
 use Rattle.joint_model.specs.ManagedReplay.{ManagedReplay}
 use Rattle.joint_model.specs.Told.{Told, Noted, bare_told, resolution_of, nothing}
 use Rattle.joint_laws.proofs.ManagedEntries.{ManagedStep-entry}
+use Rattle.joint_laws.proofs.ManagedSteps.{ManagedStep, going_on, snapping, resolving, abandoning}
+use Rattle.known_laws.specs.Held.{open_number}
 use Rattle.known_laws.specs.Drawn.{KeptDrawn, drawn, sets, sets_by, aimed, target_in, freed_in, open_after, open_in}
 use Rattle.known_laws.specs.Drawn as draws
 use Rattle.known_laws.specs.Known.{Comes, SideMayCome, given, without_pins}
 use Rattle.known_laws.specs.Pasts.{Lawful, end_of}
-use Rattle.known_laws.proofs.Held.{Happens, happens, stays, closes, snaps, resolves}
+use Rattle.known_laws.proofs.Held.{cycles_are_drawn, Happens, happens, stays, closes, snaps, resolves}
 use Rattle.known_laws.proofs.Later.{side_after, reads_leave, kept_end}
 use Rattle.known_laws.proofs.MirrorNumbers.{cycles-grow}
 use Rattle.known_laws.proofs.Pinned.{kept_pinned}
@@ -98,6 +100,33 @@ cycles-more x h l = by (is_read x.entry.made.op) refl l.0.comes
     by false e c = subst (λ (z : Linkage). s.managed.managed.cycles ≤ z.managed.managed.cycles) (sym (side_after s x e).same)
         (cycles-grow (given s x.told).managed.managed (linkage_after (given s x.told) (without_pins x)).managed.managed (ManagedStep-entry (given s x.told) (without_pins x) c.comes (kept_pinned s _ c.stand (kept_end h l.1)).managed))
 
+-- an entry after which no cycle is open counts no cycle
+step-shut : (s t : Managed) → ManagedStep s t → t.cycle ≡ None → t.cycles ≡ s.cycles
+step-shut s t (going_on g) e = g.cycles
+step-shut s t (snapping p) e = absurd (let f = ap (λ (z : Managed). z.cycle) p.is in cc)
+step-shut s t (resolving p) e = ap (λ (z : Managed). z.cycles) p.is
+step-shut s t (abandoning p) e = ap (λ (z : Managed). z.cycles) p.is
+
+none-open : (c : Option OpenCycle) → open_number c ≡ None → c ≡ None
+none-open None e = refl
+none-open (Some c) e = absurd (let f : Some c.number ≡ None = e in cc)
+
+cycles-shut : (x : Noted) (h : List Noted) → Lawful (x ∷ h) → open_in (x ∷ h) ≡ None → (end_of (x ∷ h)).managed.managed.cycles ≡ (end_of h).managed.managed.cycles
+cycles-shut x h l o = by (is_read x.entry.made.op) refl l.0.comes
+  where
+    s : Linkage
+    s = end_of h
+
+    shut : (end_of (x ∷ h)).managed.managed.cycle ≡ None
+    shut = none-open (end_of (x ∷ h)).managed.managed.cycle (cycles_are_drawn (x ∷ h) l ∙ o)
+
+    by : (r : Bool) → is_read x.entry.made.op ≡ r → Comes r s x → (end_of (x ∷ h)).managed.managed.cycles ≡ s.managed.managed.cycles
+    by true e c = ap (λ (z : ManagedReplay). z.managed.cycles) (reads_leave s.managed x e)
+    by false e c =
+        let same = (side_after s x e).same in
+        ap (λ (z : Linkage). z.managed.managed.cycles) same ∙ step-shut (given s x.told).managed.managed (linkage_after (given s x.told) (without_pins x)).managed.managed
+            (ManagedStep-entry (given s x.told) (without_pins x) c.comes (kept_pinned s _ c.stand (kept_end h l.1)).managed) (sym (ap (λ (z : Linkage). z.managed.managed.cycle) same) ∙ shut)
+
 ends-number : (x : Noted) (h : List Noted) (k : Cycle) → Lawful (x ∷ h) → (x.entry.made.op ≡ op.Resolve k) ⊎ (x.entry.made.op ≡ op.Abandon k) → (c : OpenCycle) × ((end_of h).managed.managed.cycle ≡ Some c) × (c.number ≡ k.0)
 ends-number x h k l w = by x.entry.made.caller x.entry.made.op (bare_told x.told) w l.0.comes
   where
@@ -128,9 +157,10 @@ pub record SaysState (ml : List KeptEntry) (h : List Noted) : Type 0 where
   pub freed : (m : ℕ) → is_freed ml m ≡ list_any (nat_eq m) (freed_in h)
   pub bound : stage ml ≤ 2 * (end_of h).managed.managed.cycles + 1
   pub opened : (k : ℕ) → open_in h ≡ Some k → stage ml ≡ 2 * k
+  pub closed : open_in h ≡ None → stage ml ≡ 2 * (end_of h).managed.managed.cycles + 1
 
 pub says-first : SaysState [] []
-says-first = record { cells = λ c. refl; freed = λ m. refl; bound = omega arith; opened = λ k e. absurd (let f : None ≡ Some k = e in cc) }
+says-first = record { cells = λ c. refl; freed = λ m. refl; bound = omega arith; opened = λ k e. absurd (let f : None ≡ Some k = e in cc); closed = λ e. refl }
 
 -- events by what they do to the open cycle
 calm : (o : Op) → ((z : Option ℕ) → open_after o z ≡ z) → deed o ≡ neither
@@ -181,6 +211,7 @@ module _ (before : List Item) (x : Item) (h : List Noted) (n : Noted) (l : Lawfu
   record SaysStage : Type 0 where
     bound : stage more ≤ 2 * (end_of (n ∷ h)).managed.managed.cycles + 1
     opened : (k : ℕ) → open_in (n ∷ h) ≡ Some k → stage more ≡ 2 * k
+    closed : open_in (n ∷ h) ≡ None → stage more ≡ 2 * (end_of (n ∷ h)).managed.managed.cycles + 1
 
   stage-same : deed n.entry.made.op ≡ neither → stage more ≡ stage ks
   stage-same d = ⊎_elim (λ (z : x.role ≡ 0). stage-in z ∙ ap (stage_after (stage ks)) d) (λ (z : x.role ≡ 0 → ⊥). ap stage (line-out before x z)) (cases_eq x.role 0)
@@ -197,6 +228,7 @@ module _ (before : List Item) (x : Item) (h : List Noted) (n : Noted) (l : Lawfu
       record {
         bound = (let b = w.bound in let q = c.2 in omega (arith, e, b, q, latest, grow));
         opened = λ j f. absurd (let g : None ≡ Some j = sym (d (open_in h)) ∙ f in cc);
+        closed = λ f. (let b = w.bound in let q = c.2 in let shut = cycles-shut n h l f in omega (arith, e, b, q, latest, shut));
       }
 
   stage-more : SaysStage
@@ -209,6 +241,7 @@ module _ (before : List Item) (x : Item) (h : List Noted) (n : Noted) (l : Lawfu
           record {
             bound = (let b = w.bound in omega (arith, e, b, grow));
             opened = λ j f. e ∙ w.opened j (sym (d (open_in h)) ∙ f);
+            closed = λ f. (let z = w.closed (sym (d (open_in h)) ∙ f) in let shut = cycles-shut n h l f in omega (arith, e, z, shut));
           }
       by (closes d p q) = ended d
       by (resolves c freed u v y d p q) = ended d
@@ -224,7 +257,8 @@ module _ (before : List Item) (x : Item) (h : List Noted) (n : Noted) (l : Lawfu
                 let g : Some k.0 ≡ Some j = sym (ap (λ a. open_after a (open_in h)) o) ∙ f in
                 let same_k : k.0 ≡ j = same_Some k.0 j g in
                 omega (arith, e, b, next, same_k));
+            closed = λ f. absurd (let g : Some k.0 ≡ None = sym (ap (λ a. open_after a (open_in h)) o) ∙ f in cc);
           }
 
   pub says-more : SaysState more (n ∷ h)
-  says-more = record { cells = cells-more; freed = freed-more-in; bound = stage-more.bound; opened = stage-more.opened }
+  says-more = record { cells = cells-more; freed = freed-more-in; bound = stage-more.bound; opened = stage-more.opened; closed = stage-more.closed }

@@ -1,7 +1,10 @@
 -- What a seat knows is a past of the one run, with the pins that were given to snaps and takes beside these. It stays so where the seat makes an entry, takes another
 -- seat in, or gives lines away.
-use Rattle.std.specs.Prelude.{◌≡◌, ℕ, ◌+◌, ◌<◌, List, [], ◌∷◌, map, Option, None}
+use Rattle.std.specs.Prelude.{◌≡◌, ℕ, ◌+◌, ◌<◌, List, [], ◌∷◌, map, Option, Some, None}
 use Rattle.joint_model.specs.Draws.{Drawn}
+use Rattle.joint_model.specs.Heaps.{slot}
+use Rattle.joint_model.specs.Heaps as heaps
+use Rattle.joint_model.specs.Managed.{Managed, OpenCycle}
 use Rattle.joint_model.specs.Histories.{Finished}
 use Rattle.joint_model.specs.Lines.{is_read}
 use Rattle.joint_model.specs.LinkedHistories.{IsLinkedBy}
@@ -18,7 +21,9 @@ use Rattle.order_table.specs.Rows.{at}
 use Rattle.order_table.specs.Facts.{entries_of}
 use Rattle.order_table.specs.Rule.{IsBelow, IsHeld, AreLinesOfOneHistory}
 use Rattle.order_table.specs.Tells.{GrowsByEntry, TakesIn, BeginsOneHistory}
-use Rattle.order_table.specs.Views.{IsInRole, known, first_view}
+use Rattle.order_table.specs.Owed.{target, is_freed}
+use Rattle.order_table.specs.Stages.{IsClosed}
+use Rattle.order_table.specs.Views.{IsInRole, IsNext, IsOpen, known, first_view}
 
 -- the pins of the eight readers, at the places 1 to 8
 abbrev pub row : (ℕ → Option ℕ) → List (Option ℕ)
@@ -114,3 +119,14 @@ DrawnViewsGrow = (v w : View) (r : ℕ) (k : KeptEntry) (a : IsDrawnView v) (tol
 -- and by what another seat knows
 abbrev pub DrawnViewsJoin : Type 0
 DrawnViewsJoin = (v w u : View) (a : IsDrawnView v) (b : IsDrawnView w) → TakesIn v w u → BeginsOneHistory u → DrawnJoin a.known.past b.known.past (drawn_lines v) (drawn_lines w) (drawn_lines u)
+
+-- what a view's managed list says of cells, of freed objects and of cycles is what a state has
+pub record SaysState (v : View) (s : Managed) : Type 0 where
+  pub cells : (c : ℕ) → target (known v 0) c ≡ slot s.cells c
+  pub freed : (m : ℕ) → is_freed (known v 0) m ≡ heaps.is_freed s.heap m
+  pub closed : s.cycle ≡ None → IsClosed (known v 0) × IsNext v (s.cycles + 1)
+  pub opened : (c : OpenCycle) → s.cycle ≡ Some c → IsOpen v c.number
+
+-- the state at the end of its past is such a one
+abbrev pub ViewsSayStates : Type 0
+ViewsSayStates = (v : View) (a : IsDrawnView v) → SaysState v (end_of a.known.past).managed.managed

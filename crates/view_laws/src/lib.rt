@@ -4,7 +4,7 @@
 // A law is a function with an empty body, whose clauses are statements of `specs/`. No value is made, and nothing runs.
 #![tactic(auto)]
 
-ghost use Rattle.view_laws.specs.Knowing.{DrawnViewsGrow, DrawnViewsJoin, FirstIsKnown, PinsOfViewsStand, SameIsKnown, ViewsGrow, ViewsJoin, WholeViewIsLinked};
+ghost use Rattle.view_laws.specs.Knowing.{DrawnViewsGrow, DrawnViewsJoin, FirstIsKnown, PinsOfViewsStand, SameIsKnown, ViewsGrow, ViewsJoin, ViewsSayStates, WholeViewIsLinked};
 
 /// The first seat knows nothing; a seat that makes an entry which may come, takes another seat in, or gives lines away knows a past again, with what was drawn too;
 /// and a seat that knows the whole of a finished order knows a linked history.
@@ -21,4 +21,9 @@ pub fn views_are_pasts()
 /// Pins that are given by words which the owner of the managed list loaded stand at its past: what they name is live, and in no open cycle's dead part.
 pub fn pins_of_views_stand()
     ensures { PinsOfViewsStand }
+{}
+
+/// The owner of the managed list finds in its words what its state has: cells, freed objects, whether a cycle is open, and which is the next.
+pub fn views_say_states()
+    ensures { ViewsSayStates }
 {}
