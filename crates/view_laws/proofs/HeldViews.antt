@@ -2,7 +2,7 @@
 use Rattle.std.proofs.Common.{◌≡◌, inl, inr, ⊎_elim, ℕ, zero, suc, ◌+◌, ◌<◌, ◌≤◌, Bool, true, false, List, [], ◌∷◌, ◌++◌, length, map, Option, Some, None, refl, sym, ap, ◌∙◌, subst, arith, true≢false, append_assoc}
 use Rattle.std.specs.Prelude.{if◌then◌else◌, nat_eq, nat_lt, Contains}
 use Rattle.std.specs.List.{list_any}
-use Rattle.std.proofs.lemmas.Bool.{cases_lt, ltb-true, ltb-false}
+use Rattle.std.proofs.lemmas.Bool.{cases_Bool, cases_lt, ltb-true, ltb-false}
 use mathlib.Core.Option.{some}
 use Rattle.joint_model.specs.declared.events.Entry.{Entry}
 use Rattle.joint_model.specs.declared.names.MNum.{MNum}
@@ -33,18 +33,23 @@ use Rattle.known_laws.proofs.Held.{cycles_are_drawn, held_pins_stand}
 use Rattle.known_laws.proofs.PastsJoin.{below}
 use Rattle.known_laws.proofs.PastLines.{in-line, line-in as past-line}
 use Rattle.order_table.specs.declared.views.KeptEntry.{KeptEntry}
-use Rattle.order_table.specs.Owed.{marked, mark, has}
+use Rattle.order_table.specs.Owed.{marked, mark, has, is_freed}
 use Rattle.order_table.specs.Rule.{Item, IsBelow, Stands, of_line}
 use Rattle.order_table.specs.Rule as rule
 use Rattle.order_table.proofs.Held.{those_more, those_all}
 use Rattle.order_table.proofs.Lines.{role_in, in_cases}
-use Rattle.view_laws.specs.Knowing.{row, pins_of, of_kept, of_order, PinsOfViewsStand, ViewsSayStates}
+use Rattle.view_laws.specs.Knowing.{row, pins_of, of_kept, of_order, PinsOfViewsStand, ViewsSayStates, TargetsAgree}
+use Rattle.view_laws.specs.Knowing as knowing
+use Rattle.joint_model.proofs.Numbered.{slot-Contains}
+use Rattle.known_laws.proofs.Later.{kept_end}
+use Rattle.std.proofs.lemmas.Map.Views.{list_any-from_Contains, Contains-from_any}
+use Rattle.std.proofs.lemmas.Cmp.{nat_eq_equiv}
 use Rattle.order_table.specs.Views.{known as known_by}
 use Rattle.view_laws.proofs.StateWords as words
 use Rattle.view_laws.proofs.StateWords.{SaysState, says-first, says-more, line-in, line-out}
 use Rattle.order_table.specs.Replies.{object_of}
 use Rattle.order_table.specs.Rows.{at}
-use Rattle.view_laws.proofs.PinWords.{row-slot, object-more}
+use Rattle.view_laws.proofs.PinWords.{row-slot, object-more, same-number}
 use Rattle.view_laws.proofs.Finished.{place-one, frees-has, peer-none}
 
 -- a list as lines keep it, without its last entry
@@ -365,3 +370,15 @@ views_say_states v a = record {
 
     w : words.SaysState (known_by v 0) h
     w = says-line h a.known.lawful [] h (known_by v 0) refl a.known.lawful (sym (a.known.same 0) ∙ kept-drawn (known_by v 0)) (λ k c. a.told 0 (of_order k) (Contains-map of_order (known_by v 0) k c))
+
+pub targets_agree : TargetsAgree
+targets_agree v a c m aims = (
+    (λ l. ⊎_elim (λ (e : is_freed (known_by v 0) m ≡ true). absurd (l.kept (Contains-from_any (λ x y. same-number x y) m (end_of h).managed.managed.heap.freed (sym (st.freed m) ∙ e)))) (λ (e : is_freed (known_by v 0) m ≡ false). e) (cases_Bool (is_freed (known_by v 0) m))),
+    (λ e. record { made = (kept_end h a.known.lawful).managed.managed.cells m (slot-Contains (end_of h).managed.managed.cells c m (sym (st.cells c) ∙ aims));
+      kept = λ d. true≢false (sym (list_any-from_Contains nat_eq_equiv m (end_of h).managed.managed.heap.freed d) ∙ (sym (st.freed m) ∙ e)) }))
+  where
+    h : List Noted
+    h = a.known.past
+
+    st : knowing.SaysState v (end_of h).managed.managed
+    st = views_say_states v a

@@ -1,8 +1,8 @@
 -- What a seat knows is a past of the one run, with the pins that were given to snaps and takes beside these. It stays so where the seat makes an entry, takes another
 -- seat in, or gives lines away.
-use Rattle.std.specs.Prelude.{◌≡◌, ℕ, ◌+◌, ◌<◌, List, [], ◌∷◌, map, Option, Some, None}
+use Rattle.std.specs.Prelude.{◌≡◌, ◌↔◌, false, ℕ, ◌+◌, ◌<◌, List, [], ◌∷◌, map, Option, Some, None}
 use Rattle.joint_model.specs.Draws.{Drawn}
-use Rattle.joint_model.specs.Heaps.{slot}
+use Rattle.joint_model.specs.Heaps.{IsLive, slot}
 use Rattle.joint_model.specs.Heaps as heaps
 use Rattle.joint_model.specs.Managed.{Managed, OpenCycle}
 use Rattle.joint_model.specs.Histories.{Finished}
@@ -130,3 +130,7 @@ pub record SaysState (v : View) (s : Managed) : Type 0 where
 -- the state at the end of its past is such a one
 abbrev pub ViewsSayStates : Type 0
 ViewsSayStates = (v : View) (a : IsDrawnView v) → SaysState v (end_of a.known.past).managed.managed
+
+-- the targets of cells that are live are those which the managed list doesn't free
+abbrev pub TargetsAgree : Type 0
+TargetsAgree = (v : View) (a : IsDrawnView v) (c m : ℕ) → target (known v 0) c ≡ Some m → (IsLive (end_of a.known.past).managed.managed.heap m ↔ (is_freed (known v 0) m ≡ false))

@@ -4,7 +4,7 @@
 // A law is a function with an empty body, whose clauses are statements of `specs/`. No value is made, and nothing runs.
 #![tactic(auto)]
 
-ghost use Rattle.view_laws.specs.Knowing.{DrawnViewsGrow, DrawnViewsJoin, FirstIsKnown, PinsOfViewsStand, SameIsKnown, ViewsGrow, ViewsJoin, ViewsSayStates, WholeViewIsLinked};
+ghost use Rattle.view_laws.specs.Knowing.{DrawnViewsGrow, DrawnViewsJoin, FirstIsKnown, PinsOfViewsStand, SameIsKnown, TargetsAgree, ViewsGrow, ViewsJoin, ViewsSayStates, WholeViewIsLinked};
 
 /// The first seat knows nothing; a seat that makes an entry which may come, takes another seat in, or gives lines away knows a past again, with what was drawn too;
 /// and a seat that knows the whole of a finished order knows a linked history.
@@ -25,5 +25,6 @@ pub fn pins_of_views_stand()
 
 /// The owner of the managed list finds in its words what its state has: cells, freed objects, whether a cycle is open, and which is the next.
 pub fn views_say_states()
-    ensures { ViewsSayStates }
+    ensures states { ViewsSayStates }
+    ensures targets { TargetsAgree }
 {}
