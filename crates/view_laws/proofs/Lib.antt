@@ -5,3 +5,4 @@ pub mod Ordered
 pub mod Finished
 pub mod HeldViews
 pub mod DrawnViews
+pub mod ExactReads

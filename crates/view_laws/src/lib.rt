@@ -4,6 +4,7 @@
 // A law is a function with an empty body, whose clauses are statements of `specs/`. No value is made, and nothing runs.
 #![tactic(auto)]
 
+ghost use Rattle.view_laws.specs.ExactReads.{ExactReadsAreReplies};
 ghost use Rattle.view_laws.specs.Knowing.{DrawnViewsGrow, DrawnViewsJoin, FirstIsKnown, PinsOfViewsStand, SameIsKnown, TargetsAgree, ViewsGrow, ViewsJoin, ViewsSayStates, WholeViewIsLinked};
 
 /// The first seat knows nothing; a seat that makes an entry which may come, takes another seat in, or gives lines away knows a past again, with what was drawn too;
@@ -27,4 +28,9 @@ pub fn pins_of_views_stand()
 pub fn views_say_states()
     ensures states { ViewsSayStates }
     ensures targets { TargetsAgree }
+{}
+
+/// A read by the owner of the managed list answers as the one machine does.
+pub fn exact_reads_are_replies()
+    ensures { ExactReadsAreReplies }
 {}
