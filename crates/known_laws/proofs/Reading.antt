@@ -216,11 +216,15 @@ known_whole_is_linked h whole lines k same numbers all ordered e =
     let r = pasts_are_read_lists (history_of k.past) (end_of k.past).managed.managed.cells (turned [] k.past) t.lawful ordered in
     let back : pinned (end_of k.past) r.pins ≡ replayed_reading opening_linkage (history_of k.past) = ap (λ z. pinned z r.pins) (sym t.ends) ∙ sym r.ends in
     record {
-      same = entries_without (turned [] k.past) ∙ (sym (entries_shown (turned [] k.past)) ∙ (ap entries_kept t.same ∙ same));
-      numbers = numbers;
-      lawful = subst (λ (s : Linkage). AllMayComeReading (history_of k.past) s.managed.managed.cells opening_linkage (history_of k.past)) back r.lawful;
-      whole = subst IsWhole back (record { threads = e.whole.threads; driver = e.whole.driver });
-      freed_managed = subst (λ (s : Linkage). managed_numbers h.freed_managed ≡ s.managed.managed.heap.freed) back e.freed_managed;
-      freed_peers = subst (λ (s : Linkage). peer_numbers h.freed_peers ≡ s.peer.peers.heap.freed) back e.freed_peers;
-      notices = subst (λ (s : Linkage). take s.managed.managed.taken (managed_numbers h.notices) ≡ take s.managed.managed.taken s.managed.managed.notices) back e.notices;
+      linked = record {
+        same = entries_without (turned [] k.past) ∙ (sym (entries_shown (turned [] k.past)) ∙ (ap entries_kept t.same ∙ same));
+        numbers = numbers;
+        lawful = subst (λ (s : Linkage). AllMayComeReading (history_of k.past) s.managed.managed.cells opening_linkage (history_of k.past)) back r.lawful;
+        whole = subst IsWhole back (record { threads = e.whole.threads; driver = e.whole.driver });
+        freed_managed = subst (λ (s : Linkage). managed_numbers h.freed_managed ≡ s.managed.managed.heap.freed) back e.freed_managed;
+        freed_peers = subst (λ (s : Linkage). peer_numbers h.freed_peers ≡ s.peer.peers.heap.freed) back e.freed_peers;
+        notices = subst (λ (s : Linkage). take s.managed.managed.taken (managed_numbers h.notices) ≡ take s.managed.managed.taken s.managed.managed.notices) back e.notices;
+      };
+      pins = r.pins;
+      ends = sym back;
     }

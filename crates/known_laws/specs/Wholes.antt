@@ -9,7 +9,7 @@ use Rattle.joint_model.specs.Heaps.{slot}
 use Rattle.joint_model.specs.Histories.{Finished, managed_numbers, peer_numbers}
 use Rattle.joint_model.specs.Lines.{is_read}
 use Rattle.joint_model.specs.Linked.{Linkage, opening_linkage, IsWhole}
-use Rattle.joint_model.specs.LinkedHistories.{IsLinkedBy}
+use Rattle.joint_model.specs.LinkedHistories.{linked_end, IsLinkedBy}
 use Rattle.joint_model.specs.Readers.{ReadsCell, IsReadReply, replayed_reading, AllMayComeReading}
 use Rattle.joint_model.specs.Run.{thread_number}
 use Rattle.joint_model.specs.Told.{Told, Noted, pins_told, no_pins}
@@ -54,7 +54,13 @@ pub record HasEnded (h : Finished) (s : Linkage) : Type 0 where
   pub freed_peers : peer_numbers h.freed_peers ≡ s.peer.peers.heap.freed
   pub notices : take s.managed.managed.taken (managed_numbers h.notices) ≡ take s.managed.managed.taken s.managed.managed.notices
 
--- so a past that has ended so, with all lines whole, makes the history linked by its notes, as the order promises it of each entry
+-- so a past that has ended so, with all lines whole, makes the history linked by its notes, as the order promises it of each entry; and the history ends in the
+-- past's state, but for the pins
+pub record IsLinkedPast (h : Finished) (past : List Noted) : Type 0 where
+  pub linked : IsLinkedBy h (history_of past)
+  pub pins : List (Option ℕ)
+  pub ends : linked_end (history_of past) ≡ pinned (end_of past) pins
+
 abbrev pub KnownWholeIsLinked : Type 0
 KnownWholeIsLinked = (h : Finished) (whole : List Kept) (lines : ℕ → List Kept) (k : AreKnown lines) → entries_kept whole ≡ h.entries → NumberedFrom 0 h.entries → AreWhole whole lines
-    → AllOrdered (history_of k.past) (end_of k.past).managed.managed.cells opening_linkage no_pins (turned [] k.past) → HasEnded h (end_of k.past) → IsLinkedBy h (history_of k.past)
+    → AllOrdered (history_of k.past) (end_of k.past).managed.managed.cells opening_linkage no_pins (turned [] k.past) → HasEnded h (end_of k.past) → IsLinkedPast h k.past
