@@ -10,6 +10,7 @@ use Rattle.joint_model.specs.Heaps.{Answered}
 use Rattle.joint_model.specs.Histories.{Finished, managed_numbers, peer_numbers, stretch}
 use Rattle.joint_model.specs.Joint.{Joint}
 use Rattle.joint_model.specs.Lines.{IsVar}
+use Rattle.joint_model.specs.LinkedHistories.{LawfulStep}
 use Rattle.joint_model.specs.Peers.{Peers, issued_since}
 use Rattle.joint_model.specs.Run.{JointStep}
 use Rattle.joint_model.specs.Told.{Told, snap_of, sweep_of, resolution_of}
@@ -34,11 +35,17 @@ IsTold h r (sweep_of freed) = freed ≡ named_peers h r
 IsTold h r (resolution_of alive freed) = freed ≡ named_objects h r
 IsTold h r _ = Unit {0}
 
--- the entry of a history is a step of the joint machine from one state to the next
-pub record IsStepOf (h : Finished) (e : Entry) (j next : Joint) : Type 0 where
+-- the entry of a history is a step of the joint machine from one state to the next, a read as all others are
+pub record IsJointStepOf (h : Finished) (e : Entry) (j next : Joint) : Type 0 where
   pub told : Told
   pub named : IsTold h e.made.reply told
   pub step : JointStep j record { entry = e; told = told } next
+
+-- the entry of a history is a step of the joint machine: a read that is pending, or finds its cell unset, is none
+pub record IsStepOf (h : Finished) (e : Entry) (j next : Joint) : Type 0 where
+  pub told : Told
+  pub named : IsTold h e.made.reply told
+  pub step : LawfulStep j record { entry = e; told = told } next
 
 -- a verdict on steps of some kind: lawful where there is one, and the state is then that of one; unlawful where there
 -- is none, and the state stays
@@ -49,6 +56,10 @@ Decides {S} step Unlawful old new = ((next : S) → step next → ⊥) × (new �
 -- the verdict on an entry
 abbrev pub Judges : Finished → Entry → Verdict → Joint → Joint → Type 0
 Judges h e v old new = Decides (IsStepOf h e old) v old new
+
+-- and with reads as all others are
+abbrev pub JudgesStep : Finished → Entry → Verdict → Joint → Joint → Type 0
+JudgesStep h e v old new = Decides (IsJointStepOf h e old) v old new
 
 -- the reply is that of the answer, and the state is the one after it
 pub record Gives {S : Type 0} (a : Answered S) (reply : Reply) (next : S) : Type 0 where

@@ -19,6 +19,7 @@
 // Every event is judged. What a cycle does between its snapshot and its end is no step of this machine, but for the
 // marking: the contraction, the references between peers, the weakening and restoring of handles, what clears a cycle,
 // a refused phase, and a slice of a marking. An entry of such an event is unlawful, as is one that its caller can't make.
+// So is a read that is pending or finds its cell unset: readers take no lock, so such a read says what its reader could know, not what the machine has.
 //
 // Nothing is asked of a history: an `adopt` may name any handle, and a sweep may free a peer that a live one still has
 // in a field. So the heaps are plain lists, and an edge has two live ends.

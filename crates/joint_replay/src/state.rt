@@ -1,17 +1,19 @@
 // The joint state, and the verdict on an entry.
 
-ghost use Rattle.std.specs.Prelude.{◌≡◌, ◌<◌, if◌then◌else◌, IfOk, OnErr, length, Some, None, true};
+ghost use Rattle.std.specs.Prelude.{◌≡◌, ◌<◌, ◌&&◌, if◌then◌else◌, IfOk, OnErr, length, Some, None, true};
 ghost use Rattle.joint_model.specs.declared.events.Entry.{Entry};
 ghost use Rattle.joint_model.specs.declared.events.Op.TheVariants.{Line};
 ghost use Rattle.joint_model.specs.Heaps.{numbered_set};
 ghost use Rattle.joint_model.specs.Joint.{Joint, opening, joint_target};
-ghost use Rattle.joint_replay.specs.Judging.{Judges, IsEntry};
+ghost use Rattle.joint_model.specs.Lines.{is_read};
+ghost use Rattle.joint_model.specs.Readers.{is_set_aside};
+ghost use Rattle.joint_replay.specs.Judging.{Judges, JudgesStep, IsEntry};
 
 use crate::callers::can_make;
 use crate::managed::ManagedPart;
 use crate::marking::BegunMarking;
 use crate::peers::PeerPart;
-use joint_model::{Entry, History, Op};
+use joint_model::{Act, Entry, History, Op, Reply};
 use std::alloc::{AllocError, Global};
 use std::marker::Model;
 
@@ -95,6 +97,17 @@ impl JointState {
         ensures verdict { IfOk result (λ v. Judges h.now entry.now v self.old self.new) }
         ensures err { OnErr result (self.new ≡ self.old) }
     {
+        if is_none(&entry.made.op, &entry.made.reply) {
+            return Ok(Verdict::Unlawful);
+        }
+        self.judge_step(h, entry)
+    }
+
+    // The same of an entry as a step of the machine in which reads are events as all others are.
+    fn judge_step(&mut self, h: &History, entry: &Entry) -> Result<Verdict, AllocError>
+        ensures verdict { IfOk result (λ v. JudgesStep h.now entry.now v self.old self.new) }
+        ensures err { OnErr result (self.new ≡ self.old) }
+    {
         let made = entry.made;
         if !can_make(made.caller, &made.op) {
             return Ok(Verdict::Unlawful);
@@ -131,5 +144,25 @@ impl JointState {
         } else {
             Some(p)
         }
+    }
+}
+
+// Whether an event with that reply is a read that is set aside.
+fn is_none(op: &Op, reply: &Reply) -> bool
+    ensures { result ≡ (is_read op.now && is_set_aside reply.now) }
+{
+    match op {
+        Op::Line(Act::Read { .. } | Act::Await { .. }) => sets_aside(reply),
+        _ => false,
+    }
+}
+
+// Whether a read that answers so is no step.
+fn sets_aside(reply: &Reply) -> bool
+    ensures { result ≡ is_set_aside reply.now }
+{
+    match reply {
+        Reply::Pending { .. } | Reply::Unset => true,
+        _ => false,
     }
 }
