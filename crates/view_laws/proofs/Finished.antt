@@ -290,7 +290,7 @@ entries-kept (x ∷ xs) = ap (λ l. x.kept.entry ∷ l) (entries-kept xs)
 
 pub whole_view_is_linked : WholeViewIsLinked
 whole_view_is_linked h v a w same ended =
-    known_whole_is_linked h (whole_kept w.whole) lines a.known (entries-kept w.whole ∙ sym same) (subst (NumberedFrom 0) (entries-kept w.whole ∙ sym same) numbered) all ordered ended
+    (known_whole_is_linked h (whole_kept w.whole) lines a.known (entries-kept w.whole ∙ sym same) (subst (NumberedFrom 0) (entries-kept w.whole ∙ sym same) numbered) all ordered ended).linked
   where
     lines : ℕ → List Kept
     lines i = of_drawn (drawn_lines v i)
