@@ -1,6 +1,5 @@
--- The driver's entries. Each is answered as the replay answers it, so the list goes on by it; and as many cycles were opened as there are
--- entries, at most.
-use Rattle.std.proofs.Common.{◌≡◌, ℕ, ◌+◌, ◌≤◌, Bool, true, List, [], ◌∷◌, ◌++◌, length, map, Option, Some, None, refl, sym, ap, ◌∙◌, arith, append-nil}
+-- The driver's entries. Each is answered as the replay answers it, so the list goes on by it.
+use Rattle.std.proofs.Common.{◌≡◌, ℕ, Bool, true, List, [], ◌∷◌, ◌++◌, length, map, Option, Some, None, refl, sym, ap, ◌∙◌, append-nil}
 use Rattle.std.proofs.lemmas.List.{length-map}
 use Rattle.joint_model.specs.declared.names.MNum.{MNum}
 use Rattle.joint_model.specs.declared.events.Entry.{Entry}
@@ -13,41 +12,15 @@ use Rattle.joint_model.specs.Heaps.{answer}
 use Rattle.std.specs.Prelude.{IsSome}
 use Rattle.joint_model.specs.Histories.{managed_numbers}
 use Rattle.joint_model.specs.Listed.{answer_of, answers_of}
-use Rattle.joint_model.specs.Managed.{Managed, OpenCycle, resolved, abandoned}
-use Rattle.joint_model.specs.ManagedReplay.{ManagedReplay, managed_answer, opening_replay, without_twins}
-use Rattle.joint_model.specs.Sides.{LeadsTo, IsReplayed, managed_rules, GoesOn, AddsLawful, DrawsLast, Drawing, objects_freed}
-use Rattle.joint_model.specs.Told.{Told, Noted, nothing, contraction_of, resolution_of}
-use Rattle.joint_laws.specs.ManagedInvariants.{IsReplayKept}
-use Rattle.joint_laws.proofs.Adopting.{IsReplayKept-opening}
-use Rattle.joint_laws.proofs.ManagedSteps.{ManagedStep, managed_step, going_on, snapping, resolving, abandoning}
-use Rattle.joint_laws.proofs.ReplayKeeping.{IsReplayKept-step}
+use Rattle.joint_model.specs.Managed.{OpenCycle, resolved, abandoned}
+use Rattle.joint_model.specs.ManagedReplay.{ManagedReplay, without_twins}
+use Rattle.joint_model.specs.Sides.{IsReplayed, managed_rules, GoesOn, AddsLawful, DrawsLast, Drawing, objects_freed}
+use Rattle.joint_model.specs.Told.{Told, nothing, bare_told, contraction_of, resolution_of}
 use Rattle.managed_side.specs.Calls.{IsContractedBy, abandon_made, contract_made, resolve_made}
 use Rattle.managed_side.specs.Resolving.{TakesResolution}
 use Rattle.managed_side.specs.Rows.{with_adopted}
 use Rattle.managed_side.specs.Sides.{side_of, state_of}
 use Rattle.managed_side.proofs.Goes.{side-goes}
-
-step-cycles : (s t : Managed) → ManagedStep s t → t.cycles ≤ s.cycles + 1
-step-cycles s t (going_on g) = (let e = g.cycles in omega arith)
-step-cycles s t (snapping p) = (let e = ap (λ (z : Managed). z.cycles) p.is in omega arith)
-step-cycles s t (resolving p) = (let e = ap (λ (z : Managed). z.cycles) p.is in omega arith)
-step-cycles s t (abandoning p) = (let e = ap (λ (z : Managed). z.cycles) p.is in omega arith)
-
-few-leads : (s : ManagedReplay) (ns : List Noted) (t : ManagedReplay) → LeadsTo managed_rules s ns t → IsReplayKept s → t.managed.cycles ≤ s.managed.cycles + length ns
-few-leads s [] t e k = (let f = ap (λ (z : ManagedReplay). z.managed.cycles) e in omega arith)
-few-leads s (n ∷ ns) t l k =
-    let m = n.entry.made in
-    let next = (managed_answer s m.caller m.op n.told).state in
-    let one = step-cycles s.managed next.managed (managed_step s m.caller m.op n.told k l.0.1.allowed) in
-    let rest = few-leads next ns t l.1 (IsReplayKept-step s m.caller m.op n.told k l.0.1.allowed) in
-    omega (arith, one, rest)
-
--- at most as many cycles as entries
-pub cycles-few : (es : List Entry) (rows : ManagedReplay) → IsReplayed managed_rules es (state_of es rows) → rows.managed.cycles ≤ length es
-cycles-few es rows r =
-    let few = few-leads opening_replay r.noted (with_adopted rows (state_of es rows).adopted) r.leads IsReplayKept-opening in
-    let same : length r.noted ≡ length es = sym (length-map r.noted (λ (n : Noted). n.entry)) ∙ ap length r.same in
-    omega (arith, few, same)
 
 -- objects by their numbers
 pub objects-numbers : (ms : List MNum) → map (λ (x : ℕ). let m : MNum = record { 0 = x } in m) (managed_numbers ms) ≡ ms
@@ -60,7 +33,7 @@ answers-of rows after next r hs is = ap (λ z. answer r z) (ap (λ z. with_adopt
 
 -- an entry that sets no cell
 pub adds-lawful : {D : Type 0} (d : Drawing D) (before after : D) (threads : ℕ) (es es' : List Entry) (rows next : ManagedReplay) (m : Made) (told : Told) (objects : List MNum)
-    → DrawsLast d before after es es' m None objects → managed_rules.target (state_of es rows) m ≡ None → objects_freed told ≡ objects → GoesOn managed_rules (state_of es rows) m told (state_of es' next)
+    → DrawsLast d before after es es' m None objects → managed_rules.target (state_of es rows) m ≡ None → objects_freed (bare_told told) ≡ objects → GoesOn managed_rules (state_of es rows) m told (state_of es' next)
     → AddsLawful managed_rules d before after (side_of threads es rows) (side_of threads es' next) m told
 adds-lawful d before after threads es es' rows next m told objects draws target freed goes = record { draws = rw (target, freed) draws; goes = goes; threads = refl }
 
@@ -70,25 +43,25 @@ cycle-there None s = (let f : ⊥ = cc in absurd f)
 cycle-there (Some c) s = (c, refl)
 
 -- the cycle is closed
-pub abandon-goes : (es es' : List Entry) (rows next : ManagedReplay) (c : OpenCycle) (n index : ℕ) → rows.managed.cycle ≡ Some c → next ≡ record rows { managed = abandoned rows.managed } → es' ≡ es ++ numbered n (abandon_made c index) ∷ []
+pub abandon-goes : (es es' : List Entry) (rows next : ManagedReplay) (c : OpenCycle) (n index : ℕ) → IsReplayed managed_rules es (state_of es rows) → rows.managed.cycle ≡ Some c → next ≡ record rows { managed = abandoned rows.managed } → es' ≡ es ++ numbered n (abandon_made c index) ∷ []
     → GoesOn managed_rules (state_of es rows) (abandon_made c index) nothing (state_of es' next)
-abandon-goes es es' rows next c n index opened is added =
-    side-goes es es' rows next n (abandon_made c index) nothing (record { event = tt; side = refl }) (c, (opened, refl)) added
+abandon-goes es es' rows next c n index r opened is added =
+    side-goes es es' rows next n (abandon_made c index) nothing r (refl, refl, refl) (record { event = tt; side = refl }) (c, (opened, refl)) added
     (λ hs. answers-of rows (record rows { managed = abandoned rows.managed }) next says.Ok hs is)
 
 -- the cycle's contraction is made
-pub contract-goes : (es es' : List Entry) (rows next : ManagedReplay) (c : OpenCycle) (n index sccs xrefs : ℕ) (comps : List (List ℕ)) (pairs : List (ℕ × ℕ)) → IsContractedBy (state_of es rows) c sccs xrefs comps pairs
+pub contract-goes : (es es' : List Entry) (rows next : ManagedReplay) (c : OpenCycle) (n index sccs xrefs : ℕ) (comps : List (List ℕ)) (pairs : List (ℕ × ℕ)) → IsReplayed managed_rules es (state_of es rows) → IsContractedBy (state_of es rows) c sccs xrefs comps pairs
     → next ≡ record rows { contracted = true } → es' ≡ es ++ numbered n (contract_made c index sccs xrefs) ∷ []
     → GoesOn managed_rules (state_of es rows) (contract_made c index sccs xrefs) (contraction_of comps pairs) (state_of es' next)
-contract-goes es es' rows next c n index sccs xrefs comps pairs by is added =
-    side-goes es es' rows next n (contract_made c index sccs xrefs) (contraction_of comps pairs) (record { event = tt; side = refl }) by.may added
+contract-goes es es' rows next c n index sccs xrefs comps pairs r by is added =
+    side-goes es es' rows next n (contract_made c index sccs xrefs) (contraction_of comps pairs) r (refl, refl, refl) (record { event = tt; side = refl }) by.may added
     (λ hs. ap (λ z. answer z (with_adopted (record rows { contracted = true }) hs)) (rw (by.components, by.references) refl) ∙ answers-of rows (record rows { contracted = true }) next (says.Sccs sccs xrefs) hs is)
 
 -- the cycle is resolved
-pub resolve-goes : (es es' : List Entry) (rows next : ManagedReplay) (n index cites number first kept : ℕ) (alive : List Bool) (freed : List ℕ) → (t : TakesResolution rows next alive freed number first kept) → length alive ≡ length t.cycle.candidates
+pub resolve-goes : (es es' : List Entry) (rows next : ManagedReplay) (n index cites number first kept : ℕ) (alive : List Bool) (freed : List ℕ) → IsReplayed managed_rules es (state_of es rows) → (t : TakesResolution rows next alive freed number first kept) → length alive ≡ length t.cycle.candidates
     → es' ≡ es ++ numbered n (resolve_made rows.managed t.cycle index freed cites) ∷ []
     → GoesOn managed_rules (state_of es rows) (resolve_made rows.managed t.cycle index freed cites) (resolution_of (answers_of alive) freed) (state_of es' next)
-resolve-goes es es' rows next n index cites number first kept alive freed t one_each added =
-    side-goes es es' rows next n (resolve_made rows.managed t.cycle index freed cites) (resolution_of (answers_of alive) freed) (record { event = tt; side = refl })
+resolve-goes es es' rows next n index cites number first kept alive freed r t one_each added =
+    side-goes es es' rows next n (resolve_made rows.managed t.cycle index freed cites) (resolution_of (answers_of alive) freed) r (refl, refl, refl) (record { event = tt; side = refl })
     (record { cycle = t.cycle; open_cycle = (t.opened, refl); answers = length-map alive answer_of ∙ one_each; resolution = t.resolution }) added
     (λ hs. answers-of rows (record rows { managed = resolved rows.managed freed; registry = without_twins rows.registry freed }) next (resolve_reply rows.managed freed) hs t.state)

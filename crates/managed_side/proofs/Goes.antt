@@ -1,10 +1,11 @@
 -- An event that was answered as the replay answers it may come next, and the state is the one after it: its caller and its words are those of
 -- an event of the managed side, and all that it asks for is that its handle, if it adopts one, is a new one. The handles that were adopted
 -- are read off the entries, of which there is one more.
-use Rattle.std.proofs.Common.{◌≡◌, ℕ, ◌<◌, ◌≤◌, Bool, true, false, List, [], ◌∷◌, ◌++◌, Option, Some, None, refl, sym, ap, ◌∙◌, arith, append-nil}
+use Rattle.std.proofs.Common.{◌≡◌, ℕ, ◌+◌, ◌<◌, ◌≤◌, Bool, true, false, List, [], ◌∷◌, ◌++◌, length, Option, Some, None, refl, sym, ap, subst, ◌∙◌, arith, append-nil, length-append}
 use Rattle.std.proofs.lemmas.Grind.{flat_map-append}
 use Rattle.std.proofs.lemmas.List.Elements.{All-weaker}
 use Rattle.joint_model.specs.declared.names.MNum.{MNum}
+use Rattle.joint_model.specs.declared.names.Cell.{Cell}
 use Rattle.joint_model.specs.declared.names.Var.{Var}
 use Rattle.joint_model.specs.declared.names.Thread.{Thread}
 use Rattle.joint_model.specs.declared.names.Thread.TheVariants.{M, P, C}
@@ -17,17 +18,23 @@ use Rattle.joint_model.specs.declared.events.Op.TheVariants as op
 use Rattle.joint_model.specs.declared.events.Reply.{Reply}
 use Rattle.joint_model.specs.Draws.{numbered, AllBelow}
 use Rattle.joint_model.specs.Heaps.{answer}
-use Rattle.joint_model.specs.Lines.{IsManagedThread, IsVar, is_peer_event, is_peer_thread}
+use Rattle.joint_model.specs.Lines.{IsManagedThread, IsVar, is_peer_event, is_peer_thread, is_pinned, is_read}
+use Rattle.joint_model.specs.Linked.{ManagedLawful}
+use Rattle.joint_model.specs.Readers.{with_pins}
 use Rattle.joint_model.specs.ManagedReplay.{ManagedReplay, managed_answer, ManagedAllows, plainly}
 use Rattle.joint_model.specs.Managed.{managed_line}
 use Rattle.joint_model.specs.Run.{thread_number}
-use Rattle.joint_model.specs.Sides.{GoesOn, IsOfSide, IsReplayed, managed_rules, Drawing, MaySetCell}
-use Rattle.joint_model.specs.Told.{Told, nothing}
+use Rattle.joint_model.specs.Sides.{GoesOn, IsOfSide, IsReplayed, managed_rules, Drawing, MaySetCell, cell_target}
+use Rattle.joint_model.specs.Told.{Told, nothing, bare_told, tells_pins, pins_told, no_pins, kept_pins}
 use Rattle.joint_model.proofs.SideLists.{IsReplayed-push}
+use Rattle.joint_laws.specs.ManagedInvariants.{IsReplayKept}
+use Rattle.known_laws.specs.Known.{PinsStand}
+use Rattle.known_laws.proofs.Bared.{plain_pins, plain_told}
+use Rattle.known_laws.proofs.Unpinned.{answers_same}
 use Rattle.managed_side.specs.Rows.{AreKept, with_adopted}
-use Rattle.managed_side.specs.Sides.{HasRoom, owed_by, state_of}
-use Rattle.managed_side.specs.Steps.{IsStepBy, IsLineBy, IsManagedStep, IsFresh, step_made, take_op, adopted_by, adopted_in}
-use Rattle.managed_side.proofs.Kept.{kept-side}
+use Rattle.managed_side.specs.Sides.{HasRoom, IsSideKept, owed_by, state_of}
+use Rattle.managed_side.specs.Steps.{IsStepBy, IsLineBy, IsManagedStep, IsFresh, step_made, take_op, weak_op, adopted_by, adopted_in}
+use Rattle.managed_side.proofs.Kept.{few-next, kept-next, no-pins}
 
 by-peer : (n : ℕ) (a : Act) → IsLineBy (P n) a → ⊥
 by-peer n (act.Finalise k) b = b
@@ -65,23 +72,85 @@ take-of (M n) index v r t in_range = record { event = ((t, in_range), tt); side 
 take-of (P n) index v r t in_range = absurd t
 take-of C index v r t in_range = absurd t
 
--- what was answered as the replay answers may come next
-pub goes-answered : (s next : ManagedReplay) (m : Made) (told : Told) → IsOfSide false m → ManagedAllows s m.op told → managed_answer s m.caller m.op told ≡ answer m.reply next → GoesOn managed_rules s m told next
-goes-answered s next m told of allowed is = record {
-  lawful = (of, record { allowed = allowed; replies = ap (λ a. a.reply) (sym is) });
-  state = ap (λ a. a.state) (sym is);
-}
+-- an event that asks for no pins, with what is told beside it
+abbrev pub AsksNoPins : Op → Told → Type 0
+AsksNoPins o told = (is_read o ≡ false) × (is_pinned o ≡ false) × (tells_pins told ≡ false)
+
+-- no event of a step asks for pins, or sets a cell
+line-bare : (t : Thread) (a : Act) → IsLineBy t a → AsksNoPins (op.Line a) nothing
+line-bare t (act.Weak k v) b = absurd b.1
+line-bare t (act.Read k) b = absurd b.1
+line-bare t (act.Await k) b = absurd b.1
+line-bare t (act.Take v) b = absurd b.1
+line-bare t _ b = (refl, refl, refl)
+
+pub step-bare : (t : Thread) (o : Op) → IsStepBy t o → AsksNoPins o nothing
+step-bare t (op.Line a) b = line-bare t a b
+step-bare t (op.Lend v x) b = (refl, refl, refl)
+step-bare t (op.Adopt v kind n p h) b = (refl, refl, refl)
+step-bare t (op.Meet v sort n p h) b = (refl, refl, refl)
+step-bare t (op.Give v) b = (refl, refl, refl)
+step-bare t _ b = absurd b
+
+line-target : (s : ManagedReplay) (t : Thread) (a : Act) (r : Reply) → IsLineBy t a → cell_target s t (op.Line a) r ≡ None
+line-target s t (act.Weak k v) r b = absurd b.1
+line-target s t _ r b = refl
+
+pub step-target : (s : ManagedReplay) (t : Thread) (o : Op) (r : Reply) → IsStepBy t o → cell_target s t o r ≡ None
+step-target s t (op.Line a) r b = line-target s t a r b
+step-target s t (op.Lend v x) r b = refl
+step-target s t (op.Adopt v kind n p h) r b = refl
+step-target s t (op.Meet v sort n p h) r b = refl
+step-target s t (op.Give v) r b = refl
+step-target s t _ r b = absurd b
+
+-- a `weak` of a managed thread is one too
+pub weak-of : (t : Thread) (index : ℕ) (k : Cell) (v : Var) (r : Reply) → IsManagedThread t → k.0 < 64 → IsVar v → IsOfSide false (step_made t index (weak_op k v) r None)
+weak-of (M n) index k v r t cell in_range = record { event = ((t, (cell, in_range)), tt); side = refl }
+weak-of (P n) index k v r t cell in_range = absurd t
+weak-of C index k v r t cell in_range = absurd t
+
+-- what was answered as the replay answers may come next, if it asks for no pins: the state has none
+pub goes-answered : (s next : ManagedReplay) (m : Made) (told : Told) → s.managed.pins ≡ no_pins → AsksNoPins m.op told → IsOfSide false m → ManagedAllows s m.op told → managed_answer s m.caller m.op told ≡ answer m.reply next → GoesOn managed_rules s m told next
+goes-answered s next m told none bare of allowed is =
+    let here : with_pins s (pins_told told) ≡ s = ap (λ z. with_pins s z) (plain_pins told bare.2 ∙ sym none) in
+    let plain : bare_told told ≡ told = plain_told told bare.2 in
+    let lawful : ManagedLawful s m told = record { allowed = allowed; replies = ap (λ a. a.reply) (sym is) } in
+    let same : managed_answer (with_pins s (pins_told told)) m.caller m.op (bare_told told) ≡ managed_answer s m.caller m.op told = ap (λ z. managed_answer z m.caller m.op (bare_told told)) here ∙ ap (λ z. managed_answer s m.caller m.op z) plain in
+    let emptied : managed_answer s m.caller m.op told ≡ answer (managed_answer s m.caller m.op told).reply (with_pins (managed_answer s m.caller m.op told).state no_pins) =
+    ap (λ z. managed_answer (with_pins s z) m.caller m.op told) none ∙ answers_same no_pins s m.caller m.op told bare.0 bare.1 in
+    record {
+      lawful = (of, record { own = bare.0; tells = bare.2 ∙ sym bare.1; lawful = subst (λ z. ManagedLawful z m (bare_told told)) (sym here) (subst (λ z. ManagedLawful s m z) (sym plain) lawful) });
+      state = ap (λ a. a.state) (sym is) ∙ (ap (λ a. a.state) emptied ∙ ap (λ a. with_pins a.state no_pins) (sym same));
+    }
 
 pub adopted_in-push : (es : List Entry) (k : ℕ) (m : Made) → adopted_in (es ++ numbered k m ∷ []) ≡ adopted_in es ++ adopted_by m.op m.reply
 adopted_in-push es k m = flat_map-append (λ (e : Entry). adopted_by e.made.op e.made.reply) es (numbered k m ∷ []) ∙ ap (λ z. adopted_in es ++ z) (append-nil (adopted_by m.op m.reply))
 
 -- from a side to the side with one entry more
-pub side-goes : (es es' : List Entry) (rows next : ManagedReplay) (k : ℕ) (m : Made) (told : Told) → IsOfSide false m → ManagedAllows (state_of es rows) m.op told → es' ≡ es ++ numbered k m ∷ []
+pub side-goes : (es es' : List Entry) (rows next : ManagedReplay) (k : ℕ) (m : Made) (told : Told) → IsReplayed managed_rules es (state_of es rows) → AsksNoPins m.op told → IsOfSide false m → ManagedAllows (state_of es rows) m.op told → es' ≡ es ++ numbered k m ∷ []
     → ((hs : List ℕ) → managed_answer (with_adopted rows hs) m.caller m.op told ≡ answer m.reply (with_adopted next (hs ++ adopted_by m.op m.reply)))
     → GoesOn managed_rules (state_of es rows) m told (state_of es' next)
-side-goes es es' rows next k m told of allowed added answers =
-    goes-answered (state_of es rows) (state_of es' next) m told of allowed
+side-goes es es' rows next k m told r bare of allowed added answers =
+    goes-answered (state_of es rows) (state_of es' next) m told (no-pins es (state_of es rows) r) bare of allowed
     (answers (adopted_in es) ∙ ap (λ z. answer m.reply (with_adopted next z)) (sym (ap adopted_in added ∙ adopted_in-push es k m)))
+
+-- a state without pins
+bare-state : (s : ManagedReplay) → s.managed.pins ≡ no_pins → s ≡ with_pins s no_pins
+bare-state s none = ap (λ z. with_pins s z) none
+
+-- the same with pins that are given
+pub goes-pinned : (es es' : List Entry) (rows next after : ManagedReplay) (k : ℕ) (m : Made) (pins : List (Option ℕ)) (told : Told) → IsReplayed managed_rules es (state_of es rows) → es' ≡ es ++ numbered k m ∷ [] → adopted_by m.op m.reply ≡ []
+    → IsOfSide false m → is_read m.op ≡ false → is_pinned m.op ≡ true → ManagedLawful (with_pins (state_of es rows) pins) m told → next ≡ after → after.managed.pins ≡ rows.managed.pins
+    → with_pins (with_adopted after (adopted_in es)) no_pins ≡ with_pins (managed_answer (with_pins (state_of es rows) pins) m.caller m.op told).state no_pins
+    → GoesOn managed_rules (state_of es rows) m (kept_pins pins told) (state_of es' next)
+goes-pinned es es' rows next after k m pins told r added none of read pinned lawful is same answers =
+    let hs : adopted_in es' ≡ adopted_in es = ap adopted_in added ∙ (adopted_in-push es k m ∙ (ap (λ z. adopted_in es ++ z) none ∙ append-nil (adopted_in es))) in
+    let bare : with_adopted after (adopted_in es) ≡ with_pins (with_adopted after (adopted_in es)) no_pins = bare-state (with_adopted after (adopted_in es)) (same ∙ no-pins es (state_of es rows) r) in
+    record {
+      lawful = (of, record { own = read; tells = sym pinned; lawful = lawful });
+      state = ap (λ z. with_adopted next z) hs ∙ (ap (λ z. with_adopted z (adopted_in es)) is ∙ (bare ∙ answers));
+    }
 
 -- a number that isn't below the floor lies above each number of the list
 above-all : (es : List Entry) (floor k : ℕ) → AllBelow es floor → floor ≤ k → AllBelow es k
@@ -92,9 +161,23 @@ pub side-replayed : (es es' : List Entry) (rows next : ManagedReplay) (k floor :
     → GoesOn managed_rules (state_of es rows) m told (state_of es' next) → IsReplayed managed_rules es (state_of es rows) → IsReplayed managed_rules es' (state_of es' next)
 side-replayed es es' rows next k floor m told below above added goes r = IsReplayed-push managed_rules es es' (state_of es rows) (state_of es' next) k m told (above-all es floor k below above) added goes r
 
--- the rows of a side are those of a lawful list
-pub kept-rows : (es : List Entry) (rows : ManagedReplay) → IsReplayed managed_rules es (state_of es rows) → AreKept rows
-kept-rows es rows r = (adopted_in es, kept-side es (state_of es rows) r)
+-- and keeps what every side keeps, if the pins stand that are told with the entry
+pub side-kept : (es es' : List Entry) (rows next : ManagedReplay) (k : ℕ) (m : Made) (told : Told) → PinsStand rows.managed (pins_told told) → es' ≡ es ++ numbered k m ∷ []
+    → GoesOn managed_rules (state_of es rows) m told (state_of es' next) → IsSideKept es (state_of es rows) → IsSideKept es' (state_of es' next)
+side-kept es es' rows next k m told st added goes k' =
+    let s = state_of es rows in
+    let stand : PinsStand s.managed (pins_told told) = st in
+    let longer : length es' ≡ length es + 1 = ap length added ∙ length-append es (numbered k m ∷ []) in
+    let few : (managed_rules.next s m told).managed.cycles ≤ s.managed.cycles + 1 = few-next s m told stand goes.lawful k'.kept in
+    let same : (state_of es' next).managed.cycles ≡ (managed_rules.next s m told).managed.cycles = ap (λ (z : ManagedReplay). z.managed.cycles) goes.state in
+    record {
+      kept = subst IsReplayKept (sym goes.state) (kept-next s m told stand goes.lawful k'.kept);
+      few = omega (arith, longer, few, same, k'.few);
+    }
+
+-- the rows of a side keep what every side keeps
+pub kept-rows : (es : List Entry) (rows : ManagedReplay) → IsSideKept es (state_of es rows) → AreKept rows
+kept-rows es rows k = (adopted_in es, k.kept)
 
 -- two places are as many as an open cycle owes
 pub HasRoom-two : (s : ManagedReplay) (spare : ℕ) → 2 ≤ spare → HasRoom s spare

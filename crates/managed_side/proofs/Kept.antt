@@ -1,39 +1,62 @@
--- What every lawful list of managed entries keeps holds of a side, since a lawful list leads to its state: it holds at the opening, and each
--- entry that may come keeps it. So no call has to keep it by itself: no slot, no field and no pin names a freed object, the dead part of an
--- open cycle is cut off, and each pair of the registry has a row that holds a handle.
-use Rattle.std.proofs.Common.{◌≡◌, ℕ, Bool, true, false, not, IsTrue, ◌↔◌, List, [], ◌∷◌, refl, sym, subst}
-use Rattle.joint_model.specs.Heaps.{Heap, IsLive, IsMade, is_freed, slot}
-use Rattle.joint_model.proofs.Numbered.{slot-Contains}
-use Rattle.joint_model.proofs.HeapLemmas.{is_freed-live, not_freed}
-use Rattle.std.proofs.Common.{ap, ◌∙◌, inr, nat_eq, if◌then◌else◌, cond, Some}
+-- What every state of the managed side keeps holds of a side: no slot and no field names a freed object, the dead part of an open cycle is cut off,
+-- and each pair of the registry has a row that holds a handle. It holds at the opening, and each entry that may come keeps it, if the pins stand that
+-- were given with it. A lawful list alone doesn't say this, since a `take` may be told any pin: so each call keeps it.
+use Rattle.std.proofs.Common.{◌≡◌, ℕ, ◌+◌, ◌≤◌, Bool, true, false, List, [], ◌∷◌, Option, refl, ap, ◌∙◌, nat_eq, if◌then◌else◌, cond, Some, arith}
 use Rattle.joint_model.proofs.Deciding.{nat_eq-turned}
 use Rattle.joint_model.specs.declared.names.MNum.{MNum}
 use Rattle.joint_model.specs.declared.names.PNum.{PNum}
-use Rattle.joint_model.specs.ManagedReplay.{registered}
+use Rattle.joint_model.specs.declared.events.Entry.{Entry}
+use Rattle.joint_model.specs.declared.events.Made.{Made}
+use Rattle.joint_model.specs.Managed.{Managed}
+use Rattle.joint_model.specs.ManagedReplay.{ManagedReplay, managed_answer, opening_replay, registered}
+use Rattle.joint_model.specs.Readers.{with_pins}
+use Rattle.joint_model.specs.Sides.{LeadsTo, IsReplayed, managed_rules}
+use Rattle.joint_model.specs.Told.{Told, Noted, bare_told, pins_told, no_pins}
+use Rattle.joint_laws.specs.ManagedInvariants.{IsReplayKept}
+use Rattle.joint_laws.proofs.ManagedSteps.{ManagedStep, managed_step, going_on, snapping, resolving, abandoning}
+use Rattle.joint_laws.proofs.ReplayKeeping.{IsReplayKept-step}
+use Rattle.known_laws.specs.Known.{PinsStand}
+use Rattle.known_laws.proofs.Pinned.{bridge_to, holds_back, managed_to, none_stand}
 use Rattle.instance_registry.specs.Pairs.{twin_in}
 use Rattle.managed_side.specs.Rows.{pairs_of, number_or_none}
-use Rattle.joint_model.specs.declared.events.Entry.{Entry}
-use Rattle.joint_model.specs.Sides.{LeadsTo, IsReplayed, managed_rules}
-use Rattle.joint_model.specs.ManagedReplay.{ManagedReplay, opening_replay, managed_answer}
-use Rattle.joint_model.specs.Told.{Noted}
-use Rattle.joint_laws.specs.ManagedInvariants.{IsReplayKept}
-use Rattle.joint_laws.proofs.Adopting.{IsReplayKept-opening}
-use Rattle.joint_laws.proofs.ReplayKeeping.{IsReplayKept-step}
 
-kept-leads : (s : ManagedReplay) (ns : List Noted) (t : ManagedReplay) → LeadsTo managed_rules s ns t → IsReplayKept s → IsReplayKept t
-kept-leads s [] t e k = subst IsReplayKept (sym e) k
-kept-leads s (n ∷ ns) t l k = kept-leads (managed_answer s n.entry.made.caller n.entry.made.op n.told).state ns t l.1 (IsReplayKept-step s n.entry.made.caller n.entry.made.op n.told k l.0.1.allowed)
+-- what is kept holds with other pins too, if these stand
+pub kept-pinned : (r : ManagedReplay) (pins : List (Option ℕ)) → PinsStand r.managed pins → IsReplayKept r → IsReplayKept (with_pins r pins)
+kept-pinned r pins st k = record {
+  managed = managed_to r pins st k.managed;
+  adopted = λ m h w. k.adopted m h (holds_back r pins m h w);
+  alone = λ m n h v w. k.alone m n h (holds_back r pins m h v) (holds_back r pins n h w);
+  pairs = λ p m c. bridge_to r pins m (k.pairs p m c);
+  one_row = k.one_row;
+  one_peer = k.one_peer;
+}
 
-pub kept-side : (es : List Entry) (s : ManagedReplay) → IsReplayed managed_rules es s → IsReplayKept s
-kept-side es s r = kept-leads opening_replay r.noted s r.leads IsReplayKept-opening
+-- between entries the state has no pins
+no-pins-led : (s : ManagedReplay) (ns : List Noted) (t : ManagedReplay) → s.managed.pins ≡ no_pins → LeadsTo managed_rules s ns t → t.managed.pins ≡ no_pins
+no-pins-led s [] t p e = ap (λ (z : ManagedReplay). z.managed.pins) e ∙ p
+no-pins-led s (n ∷ ns) t p l = no-pins-led (managed_rules.next s n.entry.made n.told) ns t refl l.1
 
-pub gone-is : (h : Heap) (x : ℕ) (b : Bool) → IsMade h x → (IsTrue b ↔ IsLive h x) → not b ≡ is_freed h x
-gone-is h x true made live = sym (is_freed-live h x (live.0 refl))
-gone-is h x false made live = by (is_freed h x) refl
-  where
-    by : (f : Bool) → is_freed h x ≡ f → true ≡ is_freed h x
-    by true e = sym e
-    by false e = (let t = live.1 (record { made = made; kept = not_freed h x e }) in cc)
+pub no-pins : (es : List Entry) (s : ManagedReplay) → IsReplayed managed_rules es s → s.managed.pins ≡ no_pins
+no-pins es s r = no-pins-led opening_replay r.noted s refl r.leads
+
+-- an entry that may come keeps what is kept, where the pins stand that it is told
+pub kept-next : (s : ManagedReplay) (m : Made) (told : Told) → PinsStand s.managed (pins_told told) → managed_rules.lawful s m told → IsReplayKept s → IsReplayKept (managed_rules.next s m told)
+kept-next s m told st l k =
+    let p = with_pins s (pins_told told) in
+    let u = (managed_answer p m.caller m.op (bare_told told)).state in
+    kept-pinned u no_pins (none_stand u.managed) (IsReplayKept-step p m.caller m.op (bare_told told) (kept-pinned s (pins_told told) st k) l.1.lawful.allowed)
+
+step-cycles : (s t : Managed) → ManagedStep s t → t.cycles ≤ s.cycles + 1
+step-cycles s t (going_on g) = (let e = g.cycles in omega arith)
+step-cycles s t (snapping p) = (let e = ap (λ (z : Managed). z.cycles) p.is in omega arith)
+step-cycles s t (resolving p) = (let e = ap (λ (z : Managed). z.cycles) p.is in omega arith)
+step-cycles s t (abandoning p) = (let e = ap (λ (z : Managed). z.cycles) p.is in omega arith)
+
+-- and opens one cycle at most
+pub few-next : (s : ManagedReplay) (m : Made) (told : Told) → PinsStand s.managed (pins_told told) → managed_rules.lawful s m told → IsReplayKept s → (managed_rules.next s m told).managed.cycles ≤ s.managed.cycles + 1
+few-next s m told st l k =
+    let p = with_pins s (pins_told told) in
+    step-cycles p.managed (managed_answer p m.caller m.op (bare_told told)).state.managed (managed_step p m.caller m.op (bare_told told) (kept-pinned s (pins_told told) st k) l.1.lawful.allowed)
 
 -- the registry's twin is the definition's
 pub registered-is : (ps : List (PNum × MNum)) (p : PNum) → registered (pairs_of ps) p.0 ≡ number_or_none (twin_in ps p)
@@ -43,11 +66,3 @@ registered-is (q ∷ ps) p = ap (λ b. if b then Some q.1.0 else registered (pai
     by : (b : Bool) → registered (pairs_of ps) p.0 ≡ number_or_none (twin_in ps p) → (if b then Some q.1.0 else registered (pairs_of ps) p.0) ≡ number_or_none (cond b (Some q.1) (twin_in ps p))
     by true e = refl
     by false e = e
-
--- what a pin holds is live
-pub pin-live : (s : ManagedReplay) (t x : ℕ) → IsReplayKept s → slot s.managed.pins t ≡ Some x → IsLive s.managed.heap x
-pin-live s t x k e = k.managed.roots x (inr (slot-Contains s.managed.pins t x e))
-
--- the target of a cell was made
-pub cell-made : (s : ManagedReplay) (n x : ℕ) → IsReplayKept s → slot s.managed.cells n ≡ Some x → IsMade s.managed.heap x
-cell-made s n x k e = k.managed.cells x (slot-Contains s.managed.cells n x e)

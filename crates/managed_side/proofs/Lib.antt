@@ -1,4 +1,6 @@
 pub mod Kept
+pub mod GivenPins
+pub mod FieldRoom
 pub mod Goes
 pub mod Peers
 pub mod Given
@@ -13,3 +15,5 @@ pub mod DeadGraphs
 pub mod TakingSnapshots
 pub mod PreparedSnapshots
 pub mod SnapEntries
+pub mod TakeEntries
+pub mod WeakEntries

@@ -9,10 +9,11 @@ use Rattle.joint_model.specs.Heaps.{Heap, IsLive, HasField, InSlot, with_freed}
 use Rattle.joint_model.specs.Histories.{managed_numbers}
 use Rattle.joint_model.specs.Managed.{Managed, OpenCycle, IsManagedRoot, ManagedEdge, with_snapshot}
 use Rattle.joint_model.specs.ManagedReplay.{ManagedReplay}
+use Rattle.joint_model.specs.Readers.{with_pins}
+use Rattle.joint_model.specs.Told.{no_pins}
 use Rattle.joint_model.specs.Walks.{Reached}
 use Rattle.joint_model.proofs.HeapLemmas.{IsLive-left}
 use Rattle.joint_model.proofs.WalkLemmas.{Reached-start}
-use Rattle.joint_laws.specs.ManagedInvariants.{IsManagedKept}
 use Rattle.bridge_graph.specs.Parts.{Part, NodeLeads}
 use Rattle.finaliser_queue.specs.Queue.{Queue}
 use Rattle.heap_rules.specs.Tidy.{CanFree}
@@ -38,10 +39,10 @@ pub prepared-free : (s : Managed) (w : HeapRows) (freed candidates dead : List �
 prepared-free s w freed candidates dead e p = CanFree-found p.marked w s freed candidates dead (e ∙ sym p.same) (slot-marks s w freed candidates dead p) p.finds
 
 -- a pin is a root, so what it holds isn't freed
-pub pins-left : (s : Managed) (w : HeapRows) (freed candidates dead : List ℕ) → s.cycle ≡ None → IsManagedKept s → Prepares s.heap s.pins s.held w freed candidates dead → (x : ℕ) → Contains s.pins (Some x) → IsLive (with_freed s.heap freed) x
-pins-left s w freed candidates dead closed kept p x c =
+pub pins-left : (s : Managed) (w : HeapRows) (freed candidates dead : List ℕ) → s.cycle ≡ None → ((x : ℕ) → Contains s.pins (Some x) → IsLive s.heap x) → Prepares s.heap s.pins s.held w freed candidates dead → (x : ℕ) → Contains s.pins (Some x) → IsLive (with_freed s.heap freed) x
+pins-left s w freed candidates dead closed live p x c =
     let root : IsManagedRoot s x = inr c in
-    IsLive-left s.heap freed x (kept.roots x root)
+    IsLive-left s.heap freed x (live x c)
     (λ g. (((prepared-snapshot s w freed candidates dead closed p).frees x).0 g).1 (Reached-start (IsManagedRoot s) (ManagedEdge s) x root))
 
 pub prepared-due : (s : Managed) (w u : HeapRows) (freed candidates dead : List ℕ) (spare n : ℕ) → Prepares s.heap s.pins s.held w freed candidates dead → u.heap ≡ with_freed s.heap freed
@@ -50,10 +51,10 @@ pub prepared-due : (s : Managed) (w u : HeapRows) (freed candidates dead : List 
 prepared-due s w u freed candidates dead spare n p eu marks l = HasDue-found p.marked w u s freed candidates dead spare n (slot-marks s w freed candidates dead p) p.finds eu marks l
 
 -- the graph was made over the objects before, and its rows stay
-pub prepared-graph : (s : Managed) (w : HeapRows) (freed candidates : List ℕ) (ds : List MNum) (g : Part) → s.cycle ≡ None → Prepares s.heap s.pins s.held w freed candidates (managed_numbers ds) → g.nodes ≡ map (node_of s.heap s.held) ds
+pub prepared-graph : (s : Managed) (pins : List (Option ℕ)) (w : HeapRows) (freed candidates : List ℕ) (ds : List MNum) (g : Part) → s.cycle ≡ None → Prepares s.heap pins s.held w freed candidates (managed_numbers ds) → g.nodes ≡ map (node_of s.heap s.held) ds
     → ((a k : ℕ) → NodeLeads g.edges a k ↔ HasDeadField s.heap (managed_numbers ds) a k) → IsDeadGraph (with_snapshot s freed candidates (managed_numbers ds)) (managed_numbers ds) g
-prepared-graph s w freed candidates ds g closed p nodes edges =
-    let snapshot = prepared-snapshot s w freed candidates (managed_numbers ds) closed p in
+prepared-graph s pins w freed candidates ds g closed p nodes edges =
+    let snapshot = prepared-snapshot (record s { pins = pins }) w freed candidates (managed_numbers ds) closed p in
     IsDeadGraph-made (with_snapshot s freed candidates (managed_numbers ds)) s.heap ds g refl
     (λ m c. (let l = (snapshot.leaves m).0 c in IsLive-left s.heap freed m l.0 l.2)) nodes edges
 
@@ -62,16 +63,16 @@ pub takes-prepared : (h k : Heap) (infos : List Held) (ps : List (PNum × MNum))
     → cycle ≡ None → Prepares h pins (map (λ (i : Held). i.handle) infos) w freed candidates (managed_numbers ds) → k ≡ with_freed h freed → r.queued ≡ q.queued → r.taken ≡ q.taken
     → after ≡ Some record { number = n + 1; candidates = candidates; dead = managed_numbers ds } → first ≡ length h.freed → count ≡ length candidates
     → g.nodes ≡ map (node_of h (map (λ (i : Held). i.handle) infos)) ds → ((a k : ℕ) → NodeLeads g.edges a k ↔ HasDeadField h (managed_numbers ds) a k)
-    → TakesSnapshot (rows_of h infos ps cells pins q cycle n b) (rows_of k infos ps cells pins r after (n + 1) false) freed (n + 1) first count g
+    → TakesSnapshot (rows_of h infos ps cells no_pins q cycle n b) (rows_of k infos ps cells no_pins r after (n + 1) false) pins freed (n + 1) first count g
 takes-prepared h k infos ps cells pins q r cycle after n b w freed candidates ds first count g closed p ek queued taken opened before counted nodes edges =
-    let s : ManagedReplay = rows_of h infos ps cells pins q cycle n b in
-    let state = snapped-is h k infos ps cells pins q r cycle after n b freed candidates (managed_numbers ds) ek queued taken opened in
+    let s : ManagedReplay = rows_of h infos ps cells no_pins q cycle n b in
+    let state = snapped-is h k infos ps cells no_pins q r cycle after n b freed candidates (managed_numbers ds) ek queued taken opened in
     record {
       candidates = candidates;
       dead = managed_numbers ds;
-      snapshot = prepared-snapshot s.managed w freed candidates (managed_numbers ds) closed p;
+      snapshot = prepared-snapshot (with_pins s pins).managed w freed candidates (managed_numbers ds) closed p;
       state = state;
       before = before;
       counted = counted;
-      pictured = subst (λ (z : ManagedReplay). IsDeadGraph z.managed (managed_numbers ds) g) (sym state) (prepared-graph s.managed w freed candidates ds g closed p nodes edges);
+      pictured = subst (λ (z : ManagedReplay). IsDeadGraph z.managed (managed_numbers ds) g) (sym state) (prepared-graph s.managed pins w freed candidates ds g closed p nodes edges);
     }

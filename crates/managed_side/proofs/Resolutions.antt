@@ -140,7 +140,7 @@ pub resolved-is : (h k : Heap) (infos others : List Held) (ps qs : List (PNum ×
 resolved-is h k infos others ps qs cells pins q p cycle n b freed e kinds held pairs queued taken = rw (e, kinds, held, pairs, queued, taken) refl
 
 -- a rising list of numbers from `low` on and below n has few
-rises-few_from : (xs : List ℕ) (low n : ℕ) → Rises xs → All (λ y. low ≤ y) xs → All (λ y. y < n) xs → low ≤ n → low + length xs ≤ n
+pub rises-few_from : (xs : List ℕ) (low n : ℕ) → Rises xs → All (λ y. low ≤ y) xs → All (λ y. y < n) xs → low ≤ n → low + length xs ≤ n
 rises-few_from [] low n r a b l = omega arith
 rises-few_from (x ∷ xs) low n r a b l =
     let x-high : low ≤ x = All-head (λ y. low ≤ y) x xs a in

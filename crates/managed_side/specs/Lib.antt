@@ -2,8 +2,10 @@ pub mod Dues
 pub mod Graphs
 pub mod Resolving
 pub mod Snapshots
-pub mod Snapping
+pub mod Rooms
 pub mod Rows
+pub mod Pinned
+pub mod Snapping
 pub mod Steps
 pub mod Sides
 pub mod TwinEvents

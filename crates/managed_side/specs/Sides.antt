@@ -1,9 +1,10 @@
 -- What contracts see of a managed side.
-use Rattle.std.specs.Prelude.{◌≡◌, ℕ, ◌≤◌, Bool, true, false, List, Option, Some, None}
+use Rattle.std.specs.Prelude.{◌≡◌, ℕ, ◌≤◌, Bool, true, false, List, length, Option, Some, None}
 use Rattle.joint_model.specs.declared.events.Entry.{Entry}
 use Rattle.joint_model.specs.Managed.{OpenCycle}
 use Rattle.joint_model.specs.ManagedReplay.{ManagedReplay}
 use Rattle.joint_model.specs.Sides.{Side}
+use Rattle.joint_laws.specs.ManagedInvariants.{IsReplayKept}
 use Rattle.managed_side.specs.declared.side.TwinAnswer.{TwinAnswer}
 use Rattle.managed_side.specs.declared.side.TwinAnswer.TheVariants as twins
 use Rattle.managed_side.specs.Rows.{with_adopted}
@@ -25,6 +26,12 @@ owed_by false = 2
 -- while a cycle is open there is room for the entries that it owes
 abbrev pub HasRoom : ManagedReplay → ℕ → Type 0
 HasRoom s spare = (c : OpenCycle) → s.managed.cycle ≡ Some c → owed_by s.contracted ≤ spare
+
+-- what every state of the managed side keeps, which doesn't follow from a lawful list alone, since that says nothing of the pins which a `take` was
+-- given; and there are at most as many cycles as entries
+pub record IsSideKept (entries : List Entry) (s : ManagedReplay) : Type 0 where
+  pub kept : IsReplayKept s
+  pub few : s.managed.cycles ≤ length entries
 
 -- the answer on a peer's twin: pending while a cycle is open, else by the registry
 abbrev pub twin_answer : Option OpenCycle → Option ℕ → TwinAnswer

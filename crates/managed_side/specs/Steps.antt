@@ -1,5 +1,6 @@
 -- The events that a step of a managed side makes, and what its entries tell.
 use Rattle.std.specs.Prelude.{◌≡◌, ℕ, List, [], ◌∷◌, flat_map, Contains, IsSome, Option, None}
+use Rattle.joint_model.specs.declared.names.Cell.{Cell}
 use Rattle.joint_model.specs.declared.names.HNum.{HNum}
 use Rattle.joint_model.specs.declared.names.Thread.{Thread}
 use Rattle.joint_model.specs.declared.names.Var.{Var}
@@ -34,7 +35,7 @@ adopted_by o r = []
 abbrev pub adopted_in : List Entry → List ℕ
 adopted_in entries = flat_map (λ e. adopted_by e.made.op e.made.reply) entries
 
--- a managed thread's line that a step makes; `take` is a call of its own
+-- a managed thread's line that a step makes; `weak` and `take` are calls of their own, and reads are none of the side's
 abbrev pub IsStepAct : Act → Type 0
 IsStepAct (act.New v kind n) = Unit {0}
 IsStepAct (act.Copy v w) = Unit {0}
@@ -43,9 +44,6 @@ IsStepAct (act.Get v w i) = Unit {0}
 IsStepAct (act.Drop v) = Unit {0}
 IsStepAct (act.Load v x) = Unit {0}
 IsStepAct (act.Store x v) = Unit {0}
-IsStepAct (act.Weak k v) = Unit {0}
-IsStepAct (act.Read k) = Unit {0}
-IsStepAct (act.Await k) = Unit {0}
 IsStepAct (act.Handle v) = Unit {0}
 IsStepAct _ = ⊥
 
@@ -86,3 +84,7 @@ step_made t index o reply cites = record { caller = t; index = index; op = o; re
 -- the event `take V`
 abbrev pub take_op : Var → Op
 take_op v = op.Line (act.Take v)
+
+-- the event `weak K V`
+abbrev pub weak_op : Cell → Var → Op
+weak_op k v = op.Line (act.Weak k v)

@@ -1,24 +1,22 @@
 // The events of a step, each by its own call.
 
-ghost use Rattle.std.specs.Prelude.{◌≡◌, ℕ, ◌<◌, ◌⊎◌, List, ◌++◌, IfOk, IfNone, IfSome, IsSome, OnErr, None, Some};
-ghost use Rattle.std.specs.Option.{ForSome};
-ghost use Rattle.joint_model.specs.Heaps.{IsLive, answer, slot};
+ghost use Rattle.std.specs.Prelude.{◌≡◌, ℕ, List, ◌++◌, IfOk, OnErr};
+ghost use Rattle.joint_model.specs.Heaps.{answer};
 ghost use Rattle.joint_model.specs.Lines.{IsManagedAct, IsManagedThread};
 ghost use Rattle.joint_model.specs.Managed.{managed_line};
 ghost use Rattle.joint_model.specs.ManagedReplay.{managed_answer};
 ghost use Rattle.joint_model.specs.Run.{thread_number};
-ghost use Rattle.joint_model.specs.Sides.{MaySetCell, cell_target};
 ghost use Rattle.joint_model.specs.Told.{nothing};
 ghost use Rattle.managed_side.specs.Rows.{AreKept, with_adopted};
 ghost use Rattle.managed_side.specs.Steps.{IsManagedStep, IsStepAct, adopted_by};
 
-use crate::lines::{number, place, place_or_none};
+use crate::lines::{place, place_or_none};
 use crate::rows::ManagedRows;
-use joint_model::{Act, MNum, Op, Reply, Thread};
+use joint_model::{Act, Op, Reply, Thread};
 use std::alloc::AllocError;
 
 impl ManagedRows {
-    // A line of a managed thread that is one event, but for `take`.
+    // A line of a managed thread that is one event, but for `weak`, `take` and reads.
     fn line(&mut self, caller: Thread, act: &Act) -> Result<Reply, AllocError>
         requires thread { IsManagedThread caller }
         requires act { IsManagedAct act.now }
@@ -30,8 +28,6 @@ impl ManagedRows {
     {
         match act {
             Act::New { v, kind, fields } => self.make(place(caller, *v), *kind, *fields),
-            Act::Weak { k, v } => Ok(self.weak(k.0 as usize, place(caller, *v))),
-            Act::Read { k } | Act::Await { k } => Ok(self.read(number(caller), k.0 as usize)),
             Act::Handle { v } => Ok(self.handle_at(place(caller, *v))),
             Act::Copy { v, w } => Ok(self.copy(place(caller, *v), place(caller, *w))),
             Act::Set { v, i, w } => Ok(self.set(
@@ -76,33 +72,6 @@ impl ManagedRows {
             } => { self.meet(place(caller, *v), *p, *h, *sort, *fields) }
             Op::Give { v } => Ok(self.give(place(caller, *v))),
             _ => unreachable!(),
-        }
-    }
-
-    // The object to which a `weak` of cell `k` sets it.
-    fn weak_target(&self, k: usize, v: usize) -> Option<MNum>
-        requires k { k < 64 }
-        requires v { v < 72 }
-        ensures named { IfSome result (λ m. slot self.now.managed.heap.vars v ≡ Some m.0) }
-        ensures unset { IfSome result (λ m. slot self.now.managed.cells k ≡ None) }
-        ensures live { IfSome result (λ m. IsLive self.now.managed.heap m.0) }
-        ensures none { IfNone result ((slot self.now.managed.heap.vars v ≡ None) ⊎ IsSome (slot self.now.managed.cells k)) }
-    {
-        match self.heap.var(v) {
-            Some(x) if self.cell(k).is_none() => Some(MNum(x)),
-            _ => None,
-        }
-    }
-
-    /// The object to which an event sets a cell.
-    pub(crate) fn target(&self, caller: Thread, op: &Op) -> Option<MNum>
-        requires step { IsManagedStep caller op.now }
-        ensures target { (hs : List ℕ) → cell_target (with_adopted self.now hs) caller op.now (managed_answer (with_adopted self.now hs) caller op.now nothing).reply ≡ result }
-        ensures may { ForSome result (MaySetCell self.now op.now) }
-    {
-        match op {
-            Op::Line(Act::Weak { k, v }) => self.weak_target(k.0 as usize, place(caller, *v)),
-            _ => None,
         }
     }
 }

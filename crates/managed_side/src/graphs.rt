@@ -1,31 +1,32 @@
 // The dead part of a snapshot as a graph value: its rows are the nodes, and their fields that lead to one another the edges.
 
-ghost use Rattle.std.specs.Prelude.{◌≡◌, ℕ, ◌+◌, ◌<◌, ◌≤◌, ◌↔◌, ◌⊎◌, [], All, Contains, Option, Some, None, IfOk, IfSome, OnOk, List, length, map, slice_get, true, nat_eq};
+ghost use Rattle.std.specs.Prelude.{◌≡◌, ℕ, ◌+◌, ◌<◌, ◌≤◌, ◌↔◌, ◌⊎◌, [], All, Contains, Option, Some, None, IfSome, IsOk, OnOk, List, length, map, replicate, slice_get, true, nat_eq};
 ghost use Rattle.joint_model.specs.Components.{Rises};
 ghost use Rattle.joint_model.specs.Heaps.{IsLive, fields_of};
 ghost use Rattle.joint_model.specs.Histories.{managed_numbers};
 ghost use Rattle.bridge_graph.specs.Parts.{NodeLeads, opaque_at, row_at};
+ghost use Rattle.managed_side.specs.Rooms.{FieldsFit, fields_in};
 ghost use Rattle.managed_side.specs.Graphs.{ArePlaces, HasDeadField, HasPlaced, IsPlaceOf, held_at, handle_named, node_of};
 
 use crate::rows::Held;
 use bridge_graph::{DeadGraph, GraphBuilder};
 use joint_model::{HNum, MNum};
 use row_heap::RowHeap;
-use std::alloc::{AllocError, Global};
+use std::alloc::AllocError;
 
 // Where each row stands in the dead part, counted from 1; 0 at the number of each other row.
-fn places_of(alloc: Global, dead: &[MNum], made: u32) -> Result<Vec<u32>, AllocError>
+fn places_of(dead: &[MNum], made: u32, mut places: Vec<u32>) -> Vec<u32>
+    requires zeros { places.items ≡ replicate (made + 1) 0 }
     requires within { All (λ m. m.0 ≤ made) dead.now }
     requires few { length dead.now ≤ 65535 }
     requires rise { Rises (managed_numbers dead.now) }
-    ensures exact { IfOk result (λ v. ArePlaces (length dead.now) (managed_numbers dead.now) v.items) }
-    ensures len { IfOk result (λ v. length v.items ≡ made + 1) }
+    ensures exact { ArePlaces (length dead.now) (managed_numbers dead.now) result.items }
+    ensures len { length result.items ≡ made + 1 }
 {
-    let mut places = vec![in alloc; 0u32; made as usize + 1]?;
     for i in 0..dead.len() {
         places[dead[i].0 as usize] = i as u32 + 1;
     }
-    Ok(places)
+    places
 }
 
 // The handle beside a row.
@@ -54,6 +55,8 @@ fn add_nodes(
     requires edges { builder.old.edges ≡ [] }
     ensures nodes { OnOk result (builder.new.nodes ≡ map (node_of heap.now.heap (map (λ i. i.handle) infos.now)) dead.now) }
     ensures edges { OnOk result ((a : ℕ) → row_at builder.new.edges a ≡ []) }
+    ensures ready { length dead.now ≤ builder.old.spare_nodes → IsOk result }
+    ensures spare { builder.new.spare_edges ≡ builder.old.spare_edges }
 {
     for m in dead {
         builder.node(*m, handle_at(infos, *m), heap.fields_len(m.0) == 0)?;
@@ -74,6 +77,8 @@ fn add_edge(
     requires within { (y k : ℕ) → slice_get places.now y ≡ Some (k + 1) → k < length builder.old.nodes }
     ensures nodes { builder.new.nodes ≡ builder.old.nodes }
     ensures edges { OnOk result ((a k : ℕ) → NodeLeads builder.new.edges a k ↔ (NodeLeads builder.old.edges a k ⊎ ((a ≡ i) × IsPlaceOf places.now field k))) }
+    ensures ready { 1 ≤ builder.old.spare_edges → IsOk result }
+    ensures spare { OnOk result (builder.old.spare_edges ≤ builder.new.spare_edges + 1) }
 {
     let Some(y) = field else {
         return Ok(());
@@ -101,6 +106,8 @@ fn add_row(
     requires within { (y k : ℕ) → slice_get places.now y ≡ Some (k + 1) → k < length builder.old.nodes }
     ensures nodes { builder.new.nodes ≡ builder.old.nodes }
     ensures edges { OnOk result ((a k : ℕ) → NodeLeads builder.new.edges a k ↔ (NodeLeads builder.old.edges a k ⊎ ((a ≡ i) × HasPlaced places.now (fields_of heap.now.heap x.0) k))) }
+    ensures ready { length (fields_of heap.now.heap x.0) ≤ builder.old.spare_edges → IsOk result }
+    ensures spare { OnOk result (builder.old.spare_edges ≤ builder.new.spare_edges + length (fields_of heap.now.heap x.0)) }
 {
     for j in 0..heap.fields_len(x.0) {
         add_edge(places, heap.field(x.0, j), i, builder)?;
@@ -122,6 +129,7 @@ fn add_edges(
     requires places { ArePlaces (length dead.now) (managed_numbers dead.now) places.now }
     ensures nodes { builder.new.nodes ≡ builder.old.nodes }
     ensures edges { OnOk result ((a k : ℕ) → NodeLeads builder.new.edges a k ↔ (NodeLeads builder.old.edges a k ⊎ HasDeadField heap.now.heap (managed_numbers dead.now) a k)) }
+    ensures ready { fields_in heap.now.heap (managed_numbers dead.now) ≤ builder.old.spare_edges → IsOk result }
 {
     for i in 0..dead.len() {
         add_row(heap, dead[i], i as u32, places, builder)?;
@@ -129,24 +137,31 @@ fn add_edges(
     Ok(())
 }
 
-/// The graph of a dead part.
+/// The graph of a dead part, in room that was taken: `places` has a place for each row that was made, and the builder room for each row and field.
 pub(crate) fn graph_of(
-    alloc: Global,
     heap: &RowHeap<MNum>,
     infos: &[Held],
     dead: &[MNum],
-) -> Result<DeadGraph, AllocError>
+    places: Vec<u32>,
+    mut builder: GraphBuilder,
+) -> DeadGraph
+    requires zeros { places.items ≡ replicate (length heap.now.heap.fields + 1) 0 }
+    requires empty { (builder.nodes ≡ []) × (builder.edges ≡ []) }
+    requires nodes { length heap.now.heap.fields ≤ builder.spare_nodes }
+    requires edges { FieldsFit heap.now.heap 0 builder.spare_edges }
     requires live { (m : ℕ) → Contains (managed_numbers dead.now) m → IsLive heap.now.heap m }
     requires infos { length infos.now ≡ length heap.now.heap.fields }
     requires few { length dead.now ≤ 65535 }
     requires rise { Rises (managed_numbers dead.now) }
-    ensures nodes { IfOk result (λ g. g.nodes ≡ map (node_of heap.now.heap (map (λ i. i.handle) infos.now)) dead.now) }
-    ensures edges { IfOk result (λ g. (a k : ℕ) → NodeLeads g.edges a k ↔ HasDeadField heap.now.heap (managed_numbers dead.now) a k) }
+    ensures nodes { result.nodes ≡ map (node_of heap.now.heap (map (λ i. i.handle) infos.now)) dead.now }
+    ensures edges { (a k : ℕ) → NodeLeads result.edges a k ↔ HasDeadField heap.now.heap (managed_numbers dead.now) a k }
 {
-    let places = places_of(alloc, dead, heap.made())?;
-    let mut builder = GraphBuilder::new(alloc);
-    builder.reserve(dead.len() as u32, dead.len() as u32)?;
-    add_nodes(heap, infos, dead, &mut builder)?;
-    add_edges(heap, dead, &places, &mut builder)?;
-    Ok(builder.finish())
+    let places = places_of(dead, heap.made(), places);
+    let Ok(()) = add_nodes(heap, infos, dead, &mut builder) else {
+        unreachable!();
+    };
+    let Ok(()) = add_edges(heap, dead, &places, &mut builder) else {
+        unreachable!();
+    };
+    builder.finish()
 }

@@ -1,15 +1,21 @@
-// A snapshot, which opens a cycle and makes one entry of the driver.
+// A snapshot, which closes the gate, opens a cycle and makes one entry of the driver.
 
-ghost use Rattle.std.specs.Prelude.{◌≡◌, Some, None, Err, IfOk, IfErr, OnErr};
+ghost use Rattle.std.specs.Prelude.{◌≡◌, ℕ, ◌+◌, List, Option, Some, None, Err, IfOk, IfErr, OnErr};
+ghost use Rattle.joint_model.specs.declared.names.MNum.{MNum};
 ghost use Rattle.joint_model.specs.declared.names.Thread.TheVariants.{C};
 ghost use Rattle.joint_model.specs.Managed.{OpenCycle};
 ghost use Rattle.joint_model.specs.Sides.{MayDraw, managed_rules};
-ghost use Rattle.managed_side.specs.Openings.{ArePins, OpensBySnap, snap_op};
+ghost use Rattle.known_laws.specs.Known.{PinsStand};
+ghost use Rattle.managed_side.specs.declared.snapping.NotSnapped.TheVariants as not_snapped;
+ghost use Rattle.managed_side.specs.Openings.{OpensByClosing, BySnapFault, snap_op};
+ghost use Rattle.managed_side.specs.Pinned.{pins_given};
+ghost use Rattle.managed_side.specs.Snapping.{ByFault};
 
+use crate::gates::Closes;
 use crate::side::ManagedSide;
+use crate::snapping::NotSnapped;
 use bridge_graph::DeadGraph;
 use joint_model::{Cycle, Draw, MNum, Made, Op, Reply, Span, Thread, enter};
-use std::alloc::AllocError;
 
 /// The objects that the pins of threads `m1` to `m8` hold, in that order.
 #[derive(Clone, Copy, PartialEq, Eq, Debug)]
@@ -35,64 +41,56 @@ pub enum SnapFault {
     OutOfMemory,
     /// A cycle is open: this one.
     CycleOpen { cycle: Cycle },
+    /// The gate wasn't closed.
+    NotClosed,
 }
 
 impl ManagedSide {
-    /// What the pins of threads `m1` to `m8` hold, in that order.
-    pub fn pins(&self) -> Pins
-        ensures { ArePins result.at self.now.state.managed }
-    {
-        let one = self.pin(Thread::M(1));
-        let two = self.pin(Thread::M(2));
-        let three = self.pin(Thread::M(3));
-        let four = self.pin(Thread::M(4));
-        let five = self.pin(Thread::M(5));
-        let six = self.pin(Thread::M(6));
-        let seven = self.pin(Thread::M(7));
-        let eight = self.pin(Thread::M(8));
-        Pins {
-            at: [one, two, three, four, five, six, seven, eight],
-        }
-    }
-
     /// Takes a snapshot and opens the next cycle: frees the rows that neither a slot nor a row with a handle reaches. The candidates are the rows
-    /// with a handle that no slot reaches; they and what they reach are the dead part, which is answered as a graph. `pins` are the side's own
-    /// pins, which count as slots. One entry is drawn and put last. Its time goes by the objects that were made and the fields of the live ones.
+    /// with a handle that no slot reaches; they and what they reach are the dead part, which is answered as a graph. The pins that `gate` gives count as
+    /// slots and are told with the entry. One entry is drawn from it and put last. Its time goes by the objects that were made and the fields of the
+    /// live ones.
     ///
-    /// Answers `CycleOpen` exactly where a cycle is open, and `OutOfMemory` where there is no memory, or no room for the entries that the cycle
-    /// owes; the side and `draw` are then as before. From here on closing the cycle takes no memory.
-    pub fn snap<D: Draw>(
-        &mut self,
-        draw: &mut D,
-        index: u16,
-        pins: &Pins,
-    ) -> Result<Opened, SnapFault>
-        requires pins { ArePins pins.now.at self.old.state.managed }
-        requires may { self.old.state.managed.cycle ≡ None → MayDraw managed_rules (record { floor = D.floor; left = D.left; may = D.may; drew = D.drew }) draw.old self.old C (snap_op self.old.state.managed) }
-        ensures snaps { IfOk result (λ o. OpensBySnap (record { floor = D.floor; left = D.left; may = D.may; drew = D.drew }) draw.old draw.new self.old self.new index o) }
+    /// It takes all memory first, and then closes the gate: from then on nothing fails, so each closing of the gate has its entry. Answers `CycleOpen`
+    /// exactly where a cycle is open, `OutOfMemory` where there is no memory, or no room for the entries that the cycle owes, and `NotClosed` where the
+    /// gate wasn't closed; the side is then as before, and but for `NotClosed` so is `gate`. From here on closing the cycle takes no memory.
+    pub fn snap<G: Draw + Closes>(&mut self, gate: &mut G, index: u16) -> Result<Opened, SnapFault>
+        requires close { self.old.state.managed.cycle ≡ None → G.may_close gate.old (self.old.state.managed.cycles + 1) }
+        requires stand { (pins : List (Option MNum)) (g : G) → G.closed gate.old (self.old.state.managed.cycles + 1) pins g → PinsStand self.old.state.managed (pins_given pins) }
+        requires may { (pins : List (Option MNum)) (g : G) → G.closed gate.old (self.old.state.managed.cycles + 1) pins g → MayDraw managed_rules (record { floor = G.floor; left = G.left; may = G.may; drew = G.drew }) g self.old C (snap_op self.old.state.managed) }
+        ensures snaps { IfOk result (λ o. OpensByClosing G.closed (record { floor = G.floor; left = G.left; may = G.may; drew = G.drew }) gate.old gate.new self.old self.new index o) }
         ensures busy { (c : OpenCycle) → self.old.state.managed.cycle ≡ Some c → result ≡ Err (SnapFault.CycleOpen record { 0 = c.number }) }
-        ensures closed { self.old.state.managed.cycle ≡ None → IfErr result (λ e. e ≡ SnapFault.OutOfMemory) }
-        ensures err { OnErr result ((self.new ≡ self.old) × (draw.new ≡ draw.old)) }
+        ensures fault { IfErr result (λ e. BySnapFault e self.old.state.managed.cycle (gate.new ≡ gate.old) (G.refused gate.old gate.new)) }
+        ensures err { OnErr result (self.new ≡ self.old) }
     {
-        let _ = pins;
         if let Some(cycle) = self.rows.open_cycle() {
             return Err(SnapFault::CycleOpen { cycle });
         }
-        match self.snap_closed(draw, index) {
+        match self.snap_closed(gate, index) {
             Ok(opened) => Ok(opened),
-            Err(_) => Err(SnapFault::OutOfMemory),
+            Err(NotSnapped::OutOfMemory) => Err(SnapFault::OutOfMemory),
+            Err(NotSnapped::NotClosed) => Err(SnapFault::NotClosed),
         }
     }
 
-    // A snapshot while no cycle is open. Answers `AllocError`, with the side and `draw` as before, where there is no memory.
-    fn snap_closed<D: Draw>(&mut self, draw: &mut D, index: u16) -> Result<Opened, AllocError>
+    // A snapshot while no cycle is open.
+    fn snap_closed<G: Draw + Closes>(
+        &mut self,
+        gate: &mut G,
+        index: u16,
+    ) -> Result<Opened, NotSnapped>
         requires closed { self.old.state.managed.cycle ≡ None }
-        requires may { MayDraw managed_rules (record { floor = D.floor; left = D.left; may = D.may; drew = D.drew }) draw.old self.old C (snap_op self.old.state.managed) }
-        ensures snaps { IfOk result (λ o. OpensBySnap (record { floor = D.floor; left = D.left; may = D.may; drew = D.drew }) draw.old draw.new self.old self.new index o) }
-        ensures err { OnErr result ((self.new ≡ self.old) × (draw.new ≡ draw.old)) }
+        requires close { G.may_close gate.old (self.old.state.managed.cycles + 1) }
+        requires stand { (pins : List (Option MNum)) (g : G) → G.closed gate.old (self.old.state.managed.cycles + 1) pins g → PinsStand self.old.state.managed (pins_given pins) }
+        requires may { (pins : List (Option MNum)) (g : G) → G.closed gate.old (self.old.state.managed.cycles + 1) pins g → MayDraw managed_rules (record { floor = G.floor; left = G.left; may = G.may; drew = G.drew }) g self.old C (snap_op self.old.state.managed) }
+        ensures snaps { IfOk result (λ o. OpensByClosing G.closed (record { floor = G.floor; left = G.left; may = G.may; drew = G.drew }) gate.old gate.new self.old self.new index o) }
+        ensures fault { IfErr result (λ e. ByFault e (gate.new ≡ gate.old) (G.refused gate.old gate.new)) }
+        ensures err { OnErr result (self.new ≡ self.old) }
     {
-        self.entries.reserve(3)?;
-        let snap = self.rows.snap()?;
+        let Ok(()) = self.entries.reserve(3) else {
+            return Err(NotSnapped::OutOfMemory);
+        };
+        let snap = self.rows.snap(gate)?;
         let cycle = Cycle(snap.cycle);
         let span = Span {
             first: snap.first,
@@ -105,7 +103,7 @@ impl ManagedSide {
             reply: Reply::Snapped(snap.candidates, span),
             cites: None,
         };
-        let number = enter(&mut self.entries, draw, made, None, &snap.freed);
+        let number = enter(&mut self.entries, gate, made, None, &snap.freed);
         Ok(Opened {
             cycle,
             number,

@@ -1,4 +1,4 @@
-// The rows of a side: its objects with the handles that they hold, its slots, registry, cells, pins and notices.
+// The rows of a side: its objects with the handles that they hold, its slots, registry, the targets of its cells, and notices. It has no pins.
 
 ghost use Rattle.std.specs.Prelude.{◌≡◌, ℕ, ◌+◌, ◌<◌, ◌≤◌, ◌↔◌, ◌++◌, ◌∷◌, [], Some, None, IfOk, OnOk, OnErr, IsTrue, MatchOption, length, map, false};
 ghost use Rattle.std.specs.Option.{ForSome};
@@ -9,9 +9,10 @@ ghost use Rattle.joint_model.specs.ManagedReplay.{opening_replay, refusal_to};
 
 use crate::lines::reply_of;
 use crate::open::OpenParts;
+use crate::targets::Cells;
 use finaliser_queue::Notices;
 use instance_registry::Registry;
-use joint_model::{CELLS, Cycle, Kind, MNum, PINS, Phase, PhaseWord, Reply, list_with_room};
+use joint_model::{Cycle, Kind, MNum, Phase, PhaseWord, Reply, list_with_room};
 use row_heap::{MOST_OBJECTS, RowHeap};
 use std::alloc::{AllocError, Global};
 use std::marker::Model;
@@ -30,8 +31,7 @@ pub(crate) struct ManagedRows {
     pub(crate) heap: RowHeap<MNum>,
     pub(crate) infos: Vec<Held>,
     pub(crate) registry: Registry,
-    pub(crate) cells: [Option<u32>; CELLS],
-    pub(crate) pins: [Option<u32>; PINS],
+    pub(crate) cells: Cells,
     pub(crate) notices: Notices,
     pub(crate) cycle: Option<OpenParts>,
     pub(crate) cycles: u32,
@@ -41,32 +41,32 @@ pub(crate) struct ManagedRows {
 impl Model for ManagedRows {
     ghost use Rattle.std.specs.Prelude.{false, None, ◌≡◌, []};
     ghost use Rattle.joint_model.specs.ManagedReplay.{ManagedReplay};
+    ghost use Rattle.joint_model.specs.Told.{no_pins};
     ghost use Rattle.managed_side.specs.Dues.{AreDues};
     ghost use Rattle.managed_side.specs.Rows.{rows_of, ArePeers};
 
     ghost Value = { ManagedReplay };
 
-    ghost view = { λ s. rows_of s.heap.heap s.infos.items s.registry s.cells s.pins s.notices s.cycle s.cycles s.contracted };
+    ghost view = { λ s. rows_of s.heap.heap s.infos.items s.registry s.cells no_pins s.notices s.cycle s.cycles s.contracted };
 
     ghost invariant = { λ s. ArePeers s.registry s.infos.items × (s.heap.refs ≡ []) × (s.heap.follows ≡ false) × AreDues s.cycle s.heap s.notices.spare };
 }
 
 impl ManagedRows {
-    /// No rows.
-    pub(crate) fn new(alloc: Global) -> ManagedRows
-        ensures { result ≡ opening_replay }
+    /// No rows. Answers `AllocError` where there is no memory.
+    pub(crate) fn new(alloc: Global) -> Result<ManagedRows, AllocError>
+        ensures { IfOk result (λ r. r ≡ opening_replay) }
     {
-        ManagedRows {
+        Ok(ManagedRows {
             heap: RowHeap::new(alloc),
             infos: list_with_room(alloc, MOST_OBJECTS),
             registry: Registry::new(alloc),
-            cells: [None; CELLS],
-            pins: [None; PINS],
+            cells: Cells::new(alloc)?,
             notices: Notices::new(alloc),
             cycle: None,
             cycles: 0,
             contracted: false,
-        }
+        })
     }
 
     /// The open cycle; None exactly where none is open.

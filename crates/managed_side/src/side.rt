@@ -9,22 +9,26 @@ ghost use Rattle.joint_model.specs.Run.{thread_number};
 ghost use Rattle.joint_model.specs.Histories.{managed_numbers};
 ghost use Rattle.joint_model.specs.Managed.{OpenCycle};
 ghost use Rattle.joint_model.specs.ManagedReplay.{MayRefuse, opening_replay, registered};
-ghost use Rattle.joint_model.specs.Sides.{AddsLawful, AreTaken, IsReplayed, MayDraw, managed_rules, object_or_none};
-ghost use Rattle.joint_model.specs.Told.{nothing, phase_of};
+ghost use Rattle.joint_model.specs.Sides.{AddsLawful, AreTaken, IsReplayed, MayDraw, managed_rules};
+ghost use Rattle.joint_model.specs.Told.{kept_pins, nothing, phase_of};
+ghost use Rattle.joint_laws.specs.ManagedInvariants.{IsReplayKept};
+ghost use Rattle.known_laws.specs.Known.{PinsStand};
+ghost use Rattle.managed_side.specs.Pinned.{pin_given};
 ghost use Rattle.managed_side.specs.Sides.{twin_answer};
-ghost use Rattle.managed_side.specs.Steps.{CitesRightly, IsFresh, IsManagedStep, step_made, take_op};
+ghost use Rattle.managed_side.specs.Steps.{CitesRightly, IsFresh, IsManagedStep, step_made, take_op, weak_op};
 
-use crate::lines::{number, place};
+use crate::lines::place;
 use crate::rows::ManagedRows;
 use joint_model::{
-    Act, Cycle, Draw, Entries, Holding, MNum, Made, Op, PNum, Phase, PhaseWord, Reply, Thread, Var,
-    enter,
+    Act, Cell, Cycle, Draw, Entries, Holding, MNum, Made, Op, PNum, Phase, PhaseWord, Reply,
+    Thread, Var, enter,
 };
 use std::alloc::{AllocError, Global};
 use std::marker::Model;
 
-/// The managed objects with the handles that they hold, the registry, the cells, pins and notices, and the entries that the side has made, each
-/// for the driver or for one of the managed threads for which the side is. While a cycle is open there is room for the entries that it still owes.
+/// The managed objects with the handles that they hold, the registry, the targets of the cells, the notices, and the entries that the side has made,
+/// each for the driver or for one of the managed threads for which the side is. While a cycle is open there is room for the entries that it still
+/// owes. Pins are the readers': a snapshot and a `take` are given them, and between entries the state has none.
 #[derive(Drop)]
 pub struct ManagedSide {
     threads: u8,
@@ -35,13 +39,13 @@ pub struct ManagedSide {
 impl Model for ManagedSide {
     ghost use Rattle.joint_model.specs.ManagedReplay.{ManagedReplay};
     ghost use Rattle.joint_model.specs.Sides.{Side, AreTaken, IsReplayed, managed_rules};
-    ghost use Rattle.managed_side.specs.Sides.{side_of, state_of, HasRoom};
+    ghost use Rattle.managed_side.specs.Sides.{side_of, state_of, HasRoom, IsSideKept};
 
     ghost Value = { Side ManagedReplay };
 
     ghost view = { λ s. side_of s.threads s.entries.entries s.rows };
 
-    ghost invariant = { λ s. IsReplayed managed_rules s.entries.entries (state_of s.entries.entries s.rows) × HasRoom s.rows s.entries.spare × AreTaken managed_rules s.threads s.entries.entries };
+    ghost invariant = { λ s. IsReplayed managed_rules s.entries.entries (state_of s.entries.entries s.rows) × HasRoom s.rows s.entries.spare × AreTaken managed_rules s.threads s.entries.entries × IsSideKept s.entries.entries (state_of s.entries.entries s.rows) };
 }
 
 /// The lists that a side ends with: its entries, its freed objects and its notices.
@@ -74,21 +78,23 @@ impl ManagedSide {
     {
         Ok(ManagedSide {
             threads,
-            rows: ManagedRows::new(alloc),
+            rows: ManagedRows::new(alloc)?,
             entries: Entries::new(alloc, holding),
         })
     }
 
-    /// What holds of every side, for the proofs of callers: its state is the replay of its entries, and each entry is the driver's or that of a thread
-    /// for which the side is. It does nothing.
+    /// What holds of every side, for the proofs of callers: its state is the replay of its entries, what every state of the managed side keeps holds of
+    /// it, and each entry is the driver's or that of a thread for which the side is. It does nothing.
     pub fn replays(&self)
         ensures replayed { IsReplayed managed_rules self.now.entries self.now.state }
+        ensures kept { IsReplayKept self.now.state }
         ensures taken { AreTaken managed_rules self.now.threads self.now.entries }
     {
         let _ = &self.entries;
     }
 
-    /// Makes one event: of a managed thread a line that is one event, but for `take`, or `adopt`, `lend`, `meet` or `give`; or `finalise` of the driver.
+    /// Makes one event: of a managed thread a line that is one event, but for `weak`, `take` and reads, or `adopt`, `lend`, `meet` or `give`; or
+    /// `finalise` of the driver.
     /// `cites` is given exactly for `adopt` and `meet`, and the handle that one of these names was adopted by no entry. One entry is drawn and put
     /// last. Answers `AllocError` where there is no memory, or where the entries would pass their limit; the side and `draw` are then as before.
     #[inline(always)]
@@ -108,7 +114,6 @@ impl ManagedSide {
         ensures err { OnErr result ((self.new ≡ self.old) × (draw.new ≡ draw.old)) }
     {
         self.entries.reserve(3)?;
-        let target = self.rows.target(caller, op);
         let reply = self.rows.step(caller, op)?;
         let made = Made {
             caller,
@@ -117,12 +122,47 @@ impl ManagedSide {
             reply,
             cites,
         };
+        enter(&mut self.entries, draw, made, None, &[]);
+        Ok(reply)
+    }
+
+    /// `weak K V` of a managed thread: the cell's target is V's object, unless the cell was ever set. `word` is the cell's word, which is 0 exactly where
+    /// it wasn't. One entry is drawn and put last, with the object to which it sets the cell. Answers `AllocError` where there is no memory, or where
+    /// the entries would pass their limit; the side and `draw` are then as before.
+    pub fn weak<D: Draw>(
+        &mut self,
+        draw: &mut D,
+        caller: Thread,
+        index: u16,
+        k: Cell,
+        v: Var,
+        word: u64,
+    ) -> Result<Reply, AllocError>
+        requires thread { IsManagedThread caller }
+        requires cell { k.0 < 64 }
+        requires var { IsVar v }
+        requires word { (word ≡ 0) ↔ (slot self.old.state.managed.cells k.0 ≡ None) }
+        requires may { MayDraw managed_rules (record { floor = D.floor; left = D.left; may = D.may; drew = D.drew }) draw.old self.old caller (weak_op k v) }
+        ensures adds { IfOk result (λ r. AddsLawful managed_rules (record { floor = D.floor; left = D.left; may = D.may; drew = D.drew }) draw.old draw.new self.old self.new (step_made caller index (weak_op k v) r None) nothing) }
+        ensures err { OnErr result ((self.new ≡ self.old) × (draw.new ≡ draw.old)) }
+    {
+        self.entries.reserve(3)?;
+        let target = self.rows.target(k.0 as usize, place(caller, v), word);
+        let reply = self.rows.weak(k.0 as usize, place(caller, v), word);
+        let made = Made {
+            caller,
+            index,
+            op: Op::Line(Act::Weak { k, v }),
+            reply,
+            cites: None,
+        };
         enter(&mut self.entries, draw, made, target, &[]);
         Ok(reply)
     }
 
-    /// `take V` of a managed thread: V names the object of the thread's pin, which is emptied. One entry is drawn and put last. Answers `AllocError`
-    /// where there is no memory, or where the entries would pass their limit; the side and `draw` are then as before.
+    /// `take V` of a managed thread: V names the object of the thread's pin, `pin`, which is given. It is told with the entry, and who gives it empties it
+    /// then. One entry is drawn and put last. Answers `AllocError` where there is no memory, or where the entries would pass their limit; the side and
+    /// `draw` are then as before.
     pub fn take<D: Draw>(
         &mut self,
         draw: &mut D,
@@ -133,14 +173,13 @@ impl ManagedSide {
     ) -> Result<Reply, AllocError>
         requires thread { IsManagedThread caller }
         requires var { IsVar v }
-        requires pin { pin ≡ object_or_none (slot self.old.state.managed.pins (thread_number caller)) }
+        requires stands { PinsStand self.old.state.managed (pin_given (thread_number caller) pin) }
         requires may { MayDraw managed_rules (record { floor = D.floor; left = D.left; may = D.may; drew = D.drew }) draw.old self.old caller (take_op v) }
-        ensures adds { IfOk result (λ r. AddsLawful managed_rules (record { floor = D.floor; left = D.left; may = D.may; drew = D.drew }) draw.old draw.new self.old self.new (step_made caller index (take_op v) r None) nothing) }
+        ensures adds { IfOk result (λ r. AddsLawful managed_rules (record { floor = D.floor; left = D.left; may = D.may; drew = D.drew }) draw.old draw.new self.old self.new (step_made caller index (take_op v) r None) (kept_pins (pin_given (thread_number caller) pin) nothing)) }
         ensures err { OnErr result ((self.new ≡ self.old) × (draw.new ≡ draw.old)) }
     {
-        let _ = pin;
         self.entries.reserve(3)?;
-        let reply = self.rows.take(number(caller), place(caller, v));
+        let reply = self.rows.take(place(caller, v), pin);
         let made = Made {
             caller,
             index,
@@ -184,14 +223,6 @@ impl ManagedSide {
         ensures { result ≡ self.now.threads }
     {
         self.threads
-    }
-
-    /// What the pin of a managed thread holds; None exactly where it is empty.
-    pub fn pin(&self, t: Thread) -> Option<MNum>
-        requires { IsManagedThread t }
-        ensures { result ≡ object_or_none (slot self.now.state.managed.pins (thread_number t)) }
-    {
-        self.rows.pin(number(t)).map(|m| MNum(m))
     }
 
     /// The managed object that stands for a peer: `Pending` exactly where a cycle is open, else by the registry.

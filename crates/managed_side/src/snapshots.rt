@@ -4,7 +4,7 @@
 // that hold a handle, what a candidate reaches stays, and the others are freed. At the end the marks are again those of what slots and pins
 // reach, so that the live rows without a mark are exactly the dead part.
 
-ghost use Rattle.std.specs.Prelude.{◌≡◌, ℕ, ◌↔◌, ◌⊎◌, ◌≤◌, ◌<◌, ◌∷◌, [], Bool, false, Some, None, Contains, IfOk, OnErr, IsTrue, length, map, filter};
+ghost use Rattle.std.specs.Prelude.{◌≡◌, ℕ, ◌↔◌, ◌⊎◌, ◌≤◌, ◌<◌, ◌∷◌, [], Bool, false, Some, None, Contains, IsTrue, length, map, filter, replicate, vec_capacity, ◌+◌};
 ghost use Rattle.joint_model.specs.Heaps.{HasField, InSlot, IsLive};
 ghost use Rattle.joint_model.specs.Histories.{managed_numbers};
 ghost use Rattle.joint_model.specs.Walks.{Reached};
@@ -15,35 +15,37 @@ ghost use Rattle.bridge_graph.specs.Parts.{NodeLeads};
 ghost use Rattle.managed_side.specs.Graphs.{HasDeadField, node_of};
 ghost use Rattle.managed_side.specs.Resolving.{has_handle};
 ghost use Rattle.reachability.specs.Marks.{marked};
+ghost use Rattle.managed_side.specs.Pinned.{pins_given};
+ghost use Rattle.managed_side.specs.Rooms.{FieldsFit};
 ghost use Rattle.managed_side.specs.Snapshots.{PartsUnmarked, Prepares};
 
 use crate::graphs::graph_of;
+use crate::opening::Pins;
 use crate::resolving::{has_mark, holds, keep_unmarked};
+use crate::rooms::Room;
 use crate::rows::Held;
 use bridge_graph::DeadGraph;
-use finaliser_queue::Notices;
-use joint_model::{MNum, PINS};
+use joint_model::MNum;
 use row_heap::RowHeap;
 use row_marking::visit;
-use std::alloc::{AllocError, Global};
 
 // Marks what pins hold.
-fn visit_pins(heap: &mut RowHeap<MNum>, pins: &[Option<u32>; PINS], grey: &mut u32)
-    requires live { (x : ℕ) → Contains pins.now (Some x) → IsLive heap.old.heap x }
-    ensures greyed { Greyed (λ x. Contains pins.now (Some x)) heap.old.marks heap.old.links grey.old heap.new.marks heap.new.links grey.new }
+fn visit_pins(heap: &mut RowHeap<MNum>, pins: &Pins, grey: &mut u32)
+    requires live { (x : ℕ) → Contains (pins_given pins.now.at) (Some x) → IsLive heap.old.heap x }
+    ensures greyed { Greyed (λ x. Contains (pins_given pins.now.at) (Some x)) heap.old.marks heap.old.links grey.old heap.new.marks heap.new.links grey.new }
     ensures rest { heap.new ≡ record heap.old { marks = heap.new.marks; links = heap.new.links } }
 {
-    for t in 0..PINS {
-        if let Some(x) = pins[t] {
-            visit(heap, x, grey);
+    for t in 0..8usize {
+        if let Some(m) = pins.at[t] {
+            visit(heap, m.0, grey);
         }
     }
 }
 
 /// Marks what slots and pins reach, and nothing else. It takes no memory.
-pub(crate) fn mark_slots(heap: &mut RowHeap<MNum>, pins: &[Option<u32>; PINS])
-    requires live { (x : ℕ) → Contains pins.now (Some x) → IsLive heap.old.heap x }
-    ensures marks { (x : ℕ) → HasMark heap.new.marks x ↔ Reached (λ z. InSlot heap.old.heap z ⊎ Contains pins.now (Some z)) (HasField heap.old.heap) x }
+pub(crate) fn mark_slots(heap: &mut RowHeap<MNum>, pins: &Pins)
+    requires live { (x : ℕ) → Contains (pins_given pins.now.at) (Some x) → IsLive heap.old.heap x }
+    ensures marks { (x : ℕ) → HasMark heap.new.marks x ↔ Reached (λ z. InSlot heap.old.heap z ⊎ Contains (pins_given pins.now.at) (Some z)) (HasField heap.old.heap) x }
     ensures shut { IsClosed (EdgeOf heap.new) heap.new.marks }
     ensures rest { heap.new ≡ record heap.old { follows = false; marks = heap.new.marks; links = heap.new.links } }
 {
@@ -55,46 +57,45 @@ pub(crate) fn mark_slots(heap: &mut RowHeap<MNum>, pins: &[Option<u32>; PINS])
 }
 
 /// The live rows without a mark, in rising order: none of them comes before the oldest live one.
-pub(crate) fn whites(alloc: Global, heap: &RowHeap<MNum>) -> Result<Vec<MNum>, AllocError>
-    ensures { IfOk result (λ v. AreWhite heap.now (managed_numbers v.items)) }
+pub(crate) fn whites(heap: &RowHeap<MNum>, mut rows: Vec<MNum>) -> Vec<MNum>
+    requires empty { rows.items ≡ [] }
+    requires room { length heap.now.heap.fields ≤ vec_capacity rows }
+    ensures { AreWhite heap.now (managed_numbers result.items) }
 {
-    let mut rows = Vec::with_capacity(alloc, heap.live() as usize)?;
     for m in heap.oldest()..heap.made() + 1 {
         if heap.is_white(m) {
-            rows.push(MNum(m))?;
+            rows.push_reserved(MNum(m));
         }
     }
-    Ok(rows)
+    rows
 }
 
 /// The rows of a list that hold a handle.
-pub(crate) fn pick(alloc: Global, rows: &[MNum], infos: &[Held]) -> Result<Vec<u32>, AllocError>
-    ensures { IfOk result (λ v. v.items ≡ filter (has_handle (map (λ i. i.handle) infos.now)) (managed_numbers rows.now)) }
+pub(crate) fn pick(rows: &[MNum], infos: &[Held], mut picked: Vec<u32>) -> Vec<u32>
+    requires empty { picked.items ≡ [] }
+    requires room { length rows.now ≤ vec_capacity picked }
+    ensures { result.items ≡ filter (has_handle (map (λ i. i.handle) infos.now)) (managed_numbers rows.now) }
 {
-    let mut picked = Vec::with_capacity(alloc, rows.len())?;
     for m in rows {
         if holds(infos, *m) {
-            picked.push(m.0)?;
+            picked.push_reserved(m.0);
         }
     }
-    Ok(picked)
+    picked
 }
 
 /// The rows of a list that have a mark.
-pub(crate) fn marked_rows(
-    alloc: Global,
-    heap: &RowHeap<MNum>,
-    rows: &[MNum],
-) -> Result<Vec<MNum>, AllocError>
-    ensures { IfOk result (λ v. managed_numbers v.items ≡ filter (marked heap.now.marks) (managed_numbers rows.now)) }
+pub(crate) fn marked_rows(heap: &RowHeap<MNum>, rows: &[MNum], mut found: Vec<MNum>) -> Vec<MNum>
+    requires empty { found.items ≡ [] }
+    requires room { length rows.now ≤ vec_capacity found }
+    ensures { managed_numbers result.items ≡ filter (marked heap.now.marks) (managed_numbers rows.now) }
 {
-    let mut found = Vec::with_capacity(alloc, rows.len())?;
     for m in rows {
         if has_mark(heap, *m) {
-            found.push(*m)?;
+            found.push_reserved(*m);
         }
     }
-    Ok(found)
+    found
 }
 
 /// Marks the rows of a list with all that they reach.
@@ -120,24 +121,28 @@ pub(crate) struct SnapshotParts {
 
 // Parts the live rows that have no mark. What the candidates reach has a mark afterwards.
 fn find(
-    alloc: Global,
     heap: &mut RowHeap<MNum>,
     infos: &[Held],
-) -> Result<SnapshotParts, AllocError>
+    freed: Vec<MNum>,
+    candidates: Vec<u32>,
+    dead: Vec<MNum>,
+) -> SnapshotParts
+    requires empty { (freed.items ≡ []) × (candidates.items ≡ []) × (dead.items ≡ []) }
+    requires room { (length heap.old.heap.fields ≤ vec_capacity freed) × (length heap.old.heap.fields ≤ vec_capacity candidates) × (length heap.old.heap.fields ≤ vec_capacity dead) }
     requires shut { IsClosed (EdgeOf heap.old) heap.old.marks }
-    ensures finds { IfOk result (λ f. PartsUnmarked heap.old heap.new (map (λ i. i.handle) infos.now) (managed_numbers f.freed.items) f.candidates.items (managed_numbers f.dead.items)) }
+    ensures finds { PartsUnmarked heap.old heap.new (map (λ i. i.handle) infos.now) (managed_numbers result.freed.items) result.candidates.items (managed_numbers result.dead.items) }
     ensures rest { heap.new ≡ record heap.old { marks = heap.new.marks; links = heap.new.links } }
 {
-    let mut freed = whites(alloc, heap)?;
-    let candidates = pick(alloc, &freed, infos)?;
+    let mut freed = whites(heap, freed);
+    let candidates = pick(&freed, infos, candidates);
     bring_back_all(heap, &candidates);
-    let dead = marked_rows(alloc, heap, &freed)?;
+    let dead = marked_rows(heap, &freed, dead);
     keep_unmarked(heap, &mut freed);
-    Ok(SnapshotParts {
+    SnapshotParts {
         freed,
         candidates,
         dead,
-    })
+    }
 }
 
 /// What a snapshot finds, with the graph of its dead part.
@@ -147,29 +152,32 @@ pub(crate) struct Prepared {
     pub(crate) graph: DeadGraph,
 }
 
-/// All of a snapshot that takes memory.
-pub(crate) fn prepare(
-    heap: &mut RowHeap<MNum>,
-    infos: &Vec<Held>,
-    pins: &[Option<u32>; PINS],
-    notices: &mut Notices,
-) -> Result<Prepared, AllocError>
-    requires live { (x : ℕ) → Contains pins.now (Some x) → IsLive heap.old.heap x }
-    requires infos { length infos.now.items ≡ length heap.old.heap.fields }
-    ensures prepares { IfOk result (λ p. Prepares heap.old.heap pins.now (map (λ i. i.handle) infos.now.items) heap.new (managed_numbers p.found.freed.items) p.found.candidates.items (managed_numbers p.found.dead.items)) }
-    ensures nodes { IfOk result (λ p. p.graph.nodes ≡ map (node_of heap.old.heap (map (λ i. i.handle) infos.now.items)) p.found.dead.items) }
-    ensures edges { IfOk result (λ p. (a k : ℕ) → NodeLeads p.graph.edges a k ↔ HasDeadField heap.old.heap (managed_numbers p.found.dead.items) a k) }
-    ensures few { IfOk result (λ p. (length p.found.freed.items ≤ 65535) × (length p.found.candidates.items ≤ 65535)) }
+/// All that a snapshot finds, in room that was taken: it takes no memory.
+pub(crate) fn prepare(heap: &mut RowHeap<MNum>, infos: &[Held], pins: &Pins, room: Room) -> Prepared
+    requires live { (x : ℕ) → Contains (pins_given pins.now.at) (Some x) → IsLive heap.old.heap x }
+    requires infos { length infos.now ≡ length heap.old.heap.fields }
+    requires empty { (room.freed.items ≡ []) × (room.candidates.items ≡ []) × (room.dead.items ≡ []) }
+    requires room { (length heap.old.heap.fields ≤ vec_capacity room.freed) × (length heap.old.heap.fields ≤ vec_capacity room.candidates) × (length heap.old.heap.fields ≤ vec_capacity room.dead) }
+    requires zeros { room.places.items ≡ replicate (length heap.old.heap.fields + 1) 0 }
+    requires bare { (room.graph.nodes ≡ []) × (room.graph.edges ≡ []) }
+    requires rows { length heap.old.heap.fields ≤ room.graph.spare_nodes }
+    requires fields { FieldsFit heap.old.heap 0 room.graph.spare_edges }
+    ensures prepares { Prepares heap.old.heap (pins_given pins.now.at) (map (λ i. i.handle) infos.now) heap.new (managed_numbers result.found.freed.items) result.found.candidates.items (managed_numbers result.found.dead.items) }
+    ensures nodes { result.graph.nodes ≡ map (node_of heap.old.heap (map (λ i. i.handle) infos.now)) result.found.dead.items }
+    ensures edges { (a k : ℕ) → NodeLeads result.graph.edges a k ↔ HasDeadField heap.old.heap (managed_numbers result.found.dead.items) a k }
+    ensures few { (length result.found.freed.items ≤ 65535) × (length result.found.candidates.items ≤ length heap.old.heap.fields) }
     ensures rest { heap.new ≡ record heap.old { follows = false; marks = heap.new.marks; links = heap.new.links } }
-    ensures room { IfOk result (λ p. length p.found.candidates.items ≤ notices.new.spare) }
-    ensures queued { notices.new.queued ≡ notices.old.queued }
-    ensures taken { notices.new.taken ≡ notices.old.taken }
 {
-    let alloc = *infos.allocator();
     let _ = heap.made();
+    let Room {
+        freed,
+        candidates,
+        dead,
+        places,
+        graph,
+    } = room;
     mark_slots(heap, pins);
-    let found = find(alloc, heap, infos)?;
-    let graph = graph_of(alloc, heap, infos, &found.dead)?;
-    notices.reserve(found.candidates.len() as u32)?;
-    Ok(Prepared { found, graph })
+    let found = find(heap, infos, freed, candidates, dead);
+    let graph = graph_of(heap, infos, &found.dead, places, graph);
+    Prepared { found, graph }
 }

@@ -1,98 +1,70 @@
-// Weak cells and the pins of their readers, and the notices.
+// Weak cells by their words, the object of a pin that is given, and the notices.
 
-ghost use Rattle.std.specs.Prelude.{◌≡◌, ℕ, ◌+◌, ◌<◌, ◌≤◌, Some, None, length, slice_set, min, if◌then◌else◌, is_some, IfSome, IsTrue, ◌↔◌};
-ghost use Rattle.joint_model.specs.Heaps.{IsLive, IsMade, answer, is_freed, slot};
-ghost use Rattle.joint_model.specs.Managed.{OpenCycle, cell_read, notices_taken, pin_taken, read_cell, target_read, weakened_to};
-ghost use Rattle.managed_side.specs.Rows.{AreKept};
+ghost use Rattle.std.specs.Prelude.{◌≡◌, ℕ, ◌+◌, ◌<◌, ◌≤◌, Some, None, length, min, IfSome, ◌↔◌};
+ghost use Rattle.joint_model.specs.Heaps.{IsLive, answer, slot};
+ghost use Rattle.joint_model.specs.Managed.{cell_set, notices_taken, weakened_to};
+ghost use Rattle.managed_side.specs.Pinned.{pin_reply, weak_target, with_taken};
 
 use crate::rows::ManagedRows;
 use finaliser_queue::Notices;
 use joint_model::{MNum, Reply, Span};
 
 impl ManagedRows {
-    /// `weak K V`: the target of cell `k` is V's object, unless the cell was ever set.
-    pub(crate) fn weak(&mut self, k: usize, v: usize) -> Reply
+    /// `weak K V`: the target of cell `k` is V's object, unless the cell was ever set. `word` is the cell's word: 0 exactly where it wasn't.
+    pub(crate) fn weak(&mut self, k: usize, v: usize, word: u64) -> Reply
         requires k { k < 64 }
         requires v { v < 72 }
+        requires word { (word ≡ 0) ↔ (slot self.old.managed.cells k ≡ None) }
         ensures answer { weakened_to self.old.managed k v ≡ answer result self.new.managed }
         ensures rest { self.new ≡ record self.old { managed = self.new.managed } }
     {
         match self.heap.var(v) {
             None => Reply::Empty,
-            Some(x) => match self.cell(k) {
-                None => {
-                    self.cells[k] = Some(x);
-                    Reply::Ok
-                }
-                Some(_) => Reply::Taken,
-            },
+            Some(x) => self.weak_to(k, x, word),
         }
     }
 
-    /// `read K` and `wait K` of the thread with that number: its pin holds the target of cell `k`.
-    pub(crate) fn read(&mut self, t: usize, k: usize) -> Reply
-        requires t { t < 9 }
+    // The target of cell `k` is the object, unless the cell was ever set.
+    fn weak_to(&mut self, k: usize, x: u32, word: u64) -> Reply
         requires k { k < 64 }
-        requires kept { AreKept self.old }
-        ensures answer { read_cell self.old.managed t k ≡ answer result self.new.managed }
+        requires word { (word ≡ 0) ↔ (slot self.old.managed.cells k ≡ None) }
+        ensures answer { cell_set self.old.managed k x (slot self.old.managed.cells k) ≡ answer result self.new.managed }
         ensures rest { self.new ≡ record self.old { managed = self.new.managed } }
     {
-        if let Some(x) = self.pin(t) {
-            return Reply::Pinned(MNum(x));
+        if word != 0 {
+            return Reply::Taken;
         }
-        if let Some(cycle) = self.open_cycle() {
-            return Reply::Pending(cycle);
-        }
-        match self.cell(k) {
-            None => Reply::Unset,
-            Some(x) => self.pin_to(t, x),
-        }
+        self.cells.set(k, x);
+        Reply::Ok
     }
 
-    // Whether an object that was made is freed.
-    fn is_gone(&self, x: u32) -> bool
-        requires { IsMade self.now.managed.heap x }
-        ensures { result ≡ is_freed self.now.managed.heap x }
-    {
-        !self.heap.is_live(x)
-    }
-
-    /// The target of cell `k`.
-    pub(crate) fn cell(&self, k: usize) -> Option<u32>
-        requires { k < 64 }
-        ensures { slot self.now.managed.cells k ≡ result }
-    {
-        self.cells.get(k).copied()?
-    }
-
-    // The pin of a thread, which is empty, holds the object, if that isn't freed.
-    fn pin_to(&mut self, t: usize, x: u32) -> Reply
-        requires t { t < 9 }
-        requires made { IsMade self.old.managed.heap x }
-        ensures answer { target_read self.old.managed t (Some x) ≡ answer result self.new.managed }
-        ensures rest { self.new ≡ record self.old { managed = self.new.managed } }
-    {
-        if self.is_gone(x) {
-            return Reply::Gone;
-        }
-        self.pins[t] = Some(x);
-        Reply::M(MNum(x))
-    }
-
-    /// `take V` of the thread with that number: V names the object of its pin, and the pin is emptied.
-    pub(crate) fn take(&mut self, t: usize, v: usize) -> Reply
-        requires t { t < 9 }
+    /// The object to which a `weak` of cell `k` sets it.
+    pub(crate) fn target(&self, k: usize, v: usize, word: u64) -> Option<MNum>
+        requires k { k < 64 }
         requires v { v < 72 }
-        requires kept { AreKept self.old }
-        ensures answer { pin_taken self.old.managed t v ≡ answer result self.new.managed }
-        ensures rest { self.new ≡ record self.old { managed = self.new.managed } }
+        requires word { (word ≡ 0) ↔ (slot self.now.managed.cells k ≡ None) }
+        ensures target { weak_target self.now k v ≡ result }
+        ensures unset { IfSome result (λ m. slot self.now.managed.cells k ≡ None) }
+        ensures live { IfSome result (λ m. IsLive self.now.managed.heap m.0) }
     {
-        match self.pin(t) {
+        match self.heap.var(v) {
+            Some(x) if word == 0 => Some(MNum(x)),
+            _ => None,
+        }
+    }
+
+    /// `take V`: V names the object of the pin that is given.
+    pub(crate) fn take(&mut self, v: usize, pin: Option<MNum>) -> Reply
+        requires v { v < 72 }
+        requires live { IfSome pin (λ m. IsLive self.old.managed.heap m.0) }
+        ensures reply { result ≡ pin_reply pin }
+        ensures state { self.new ≡ with_taken self.old v pin }
+    {
+        match pin {
             None => Reply::Empty,
-            Some(x) => {
-                self.heap.set_var(v, Some(x));
-                self.pins[t] = None;
-                Reply::M(MNum(x))
+            Some(m) => {
+                self.heap.set_var(v, Some(m.0));
+                Reply::M(m)
             }
         }
     }
@@ -106,14 +78,6 @@ impl ManagedRows {
         let count = n.min(self.notices.waiting());
         take_notices(&mut self.notices, count);
         Reply::Took(Span { first, count })
-    }
-
-    /// What the pin of the thread with that number holds.
-    pub(crate) fn pin(&self, t: usize) -> Option<u32>
-        requires { t < 9 }
-        ensures { slot self.now.managed.pins t ≡ result }
-    {
-        self.pins.get(t).copied()?
     }
 }
 

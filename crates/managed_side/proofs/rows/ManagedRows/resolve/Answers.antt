@@ -2,6 +2,7 @@
 use Rattle.std.proofs.Common.{◌≡◌, ◌≤◌, ◌∙◌, ◌-◌, ◌++◌, length, subst, sym, ap, arith, refl}
 use Rattle.std.specs.Prelude.{filter, Contains, All}
 use Rattle.std.proofs.lemmas.List.{length-map}
+use Rattle.joint_model.specs.Told.{no_pins}
 use Rattle.joint_model.specs.Components.{Rises}
 use Rattle.joint_model.specs.Heaps.{with_freed}
 use Rattle.joint_model.specs.Histories.{managed_numbers}
@@ -20,20 +21,20 @@ use Rattle.managed_side.proofs.rows.ManagedRows.resolve.Goals as goal
 
 pub settle-freed-requires-clause-live : goal.settle-freed-requires-clause-live
 settle-freed-requires-clause-live c =
-    let kept : IsManagedKept (rows_of c.self.inside.heap.heap c.self.inside.infos.items c.self.inside.registry c.self.inside.cells c.self.inside.pins c.self.inside.notices c.self.inside.cycle c.self.inside.cycles c.self.inside.contracted).managed = subst (λ (z : ManagedReplay). IsManagedKept z.managed) (sym c.self.view_is) c.requires.kept.1.managed in
+    let kept : IsManagedKept (rows_of c.self.inside.heap.heap c.self.inside.infos.items c.self.inside.registry c.self.inside.cells no_pins c.self.inside.notices c.self.inside.cycle c.self.inside.cycles c.self.inside.contracted).managed = subst (λ (z : ManagedReplay). IsManagedKept z.managed) (sym c.self.view_is) c.requires.kept.1.managed in
     let cut = kept.dead c.in-Some.open (sym c.in-Some.ensures.value) in
     λ m k. cut.live m ((cut.candidates m).0 k).0
 
 pub settle-freed-requires-clause-shut : goal.settle-freed-requires-clause-shut
 settle-freed-requires-clause-shut c =
-    let s = rows_of c.self.inside.heap.heap c.self.inside.infos.items c.self.inside.registry c.self.inside.cells c.self.inside.pins c.self.inside.notices c.self.inside.cycle c.self.inside.cycles c.self.inside.contracted in
+    let s = rows_of c.self.inside.heap.heap c.self.inside.infos.items c.self.inside.registry c.self.inside.cells no_pins c.self.inside.notices c.self.inside.cycle c.self.inside.cycles c.self.inside.contracted in
     let kept : IsManagedKept s.managed = subst (λ (z : ManagedReplay). IsManagedKept z.managed) (sym c.self.view_is) c.requires.kept.1.managed in
     let opened = sym c.in-Some.ensures.value in
     shut-open c.self.inside.heap c.self.inside.notices.spare s.managed c.in-Some.open refl c.self.invariant.2 (c.self.invariant.3 c.in-Some.open opened) (kept.dead c.in-Some.open opened)
 
 pub free-requires-clause-can : goal.free-requires-clause-can
 free-requires-clause-can c =
-    let s = rows_of c.self.inside.heap.heap c.self.inside.infos.items c.self.inside.registry c.self.inside.cells c.self.inside.pins c.self.inside.notices c.self.inside.cycle c.self.inside.cycles c.self.inside.contracted in
+    let s = rows_of c.self.inside.heap.heap c.self.inside.infos.items c.self.inside.registry c.self.inside.cells no_pins c.self.inside.notices c.self.inside.cycle c.self.inside.cycles c.self.inside.contracted in
     let kept : IsManagedKept s.managed = subst (λ (z : ManagedReplay). IsManagedKept z.managed) (sym c.self.view_is) c.requires.kept.1.managed in
     let opened = sym c.in-Some.ensures.value in
     let due = c.self.invariant.3 c.in-Some.open opened in
@@ -42,7 +43,7 @@ free-requires-clause-can c =
 
 pub notify-requires : goal.notify-requires
 notify-requires c =
-    let s = rows_of c.self.inside.heap.heap c.self.inside.infos.items c.self.inside.registry c.self.inside.cells c.self.inside.pins c.self.inside.notices c.self.inside.cycle c.self.inside.cycles c.self.inside.contracted in
+    let s = rows_of c.self.inside.heap.heap c.self.inside.infos.items c.self.inside.registry c.self.inside.cells no_pins c.self.inside.notices c.self.inside.cycle c.self.inside.cycles c.self.inside.contracted in
     let kept : IsManagedKept s.managed = subst (λ (z : ManagedReplay). IsManagedKept z.managed) (sym c.self.view_is) c.requires.kept.1.managed in
     let opened = sym c.in-Some.ensures.value in
     let due = c.self.invariant.3 c.in-Some.open opened in
@@ -54,7 +55,7 @@ notify-requires c =
 
 pub forget_pairs-requires-clause-rows : goal.forget_pairs-requires-clause-rows
 forget_pairs-requires-clause-rows c =
-    let s = rows_of c.self.inside.heap.heap c.self.inside.infos.items c.self.inside.registry c.self.inside.cells c.self.inside.pins c.self.inside.notices c.self.inside.cycle c.self.inside.cycles c.self.inside.contracted in
+    let s = rows_of c.self.inside.heap.heap c.self.inside.infos.items c.self.inside.registry c.self.inside.cells no_pins c.self.inside.notices c.self.inside.cycle c.self.inside.cycles c.self.inside.contracted in
     let kept : IsManagedKept s.managed = subst (λ (z : ManagedReplay). IsManagedKept z.managed) (sym c.self.view_is) c.requires.kept.1.managed in
     let cut = kept.dead c.in-Some.open (sym c.in-Some.ensures.value) in
     let many : length c.self.inside.infos.items ≡ length c.self.inside.heap.heap.fields = sym (length-map c.self.inside.infos.items (λ (i : Held). i.handle)) ∙ kept.places in
@@ -65,7 +66,7 @@ forget_pairs-requires-clause-rows c =
 
 pub returns-clause-few : goal.returns-clause-few
 returns-clause-few c =
-    let s = rows_of c.self.inside.heap.heap c.self.inside.infos.items c.self.inside.registry c.self.inside.cells c.self.inside.pins c.self.inside.notices c.self.inside.cycle c.self.inside.cycles c.self.inside.contracted in
+    let s = rows_of c.self.inside.heap.heap c.self.inside.infos.items c.self.inside.registry c.self.inside.cells no_pins c.self.inside.notices c.self.inside.cycle c.self.inside.cycles c.self.inside.contracted in
     let kept : IsManagedKept s.managed = subst (λ (z : ManagedReplay). IsManagedKept z.managed) (sym c.self.view_is) c.requires.kept.1.managed in
     let opened = sym c.in-Some.ensures.value in
     let cut = kept.dead c.in-Some.open opened in
@@ -77,14 +78,14 @@ returns-clause-few c =
 pub returns-clause-resolution : goal.returns-clause-resolution
 returns-clause-resolution c =
     let open' = c.in-Some.open in
-    let s = rows_of c.self.inside.heap.heap c.self.inside.infos.items c.self.inside.registry c.self.inside.cells c.self.inside.pins c.self.inside.notices c.self.inside.cycle c.self.inside.cycles c.self.inside.contracted in
+    let s = rows_of c.self.inside.heap.heap c.self.inside.infos.items c.self.inside.registry c.self.inside.cells no_pins c.self.inside.notices c.self.inside.cycle c.self.inside.cycles c.self.inside.contracted in
     let kept : IsManagedKept s.managed = subst (λ (z : ManagedReplay). IsManagedKept z.managed) (sym c.self.view_is) c.requires.kept.1.managed in
     let opened = sym c.in-Some.ensures.value in
     let cut = kept.dead open' opened in
     let due = c.self.invariant.3 open' opened in
     let ms = c.settle-freed.result.items in
     let freed = managed_numbers ms in
-    let next = rows_of c.free.new.self.heap c.forget_pairs.new.infos.items c.forget_pairs.new.registry c.self.inside.cells c.self.inside.pins c.notify.new.notices c.take.new.self c.self.inside.cycles c.self.inside.contracted in
+    let next = rows_of c.free.new.self.heap c.forget_pairs.new.infos.items c.forget_pairs.new.registry c.self.inside.cells no_pins c.notify.new.notices c.take.new.self c.self.inside.cycles c.self.inside.contracted in
     let heap-is : c.free.new.self.heap ≡ with_freed c.self.inside.heap.heap freed = c.free.ensures.heap ∙ (ap (λ z. with_freed c.settle-freed.new.heap.heap (managed_numbers z)) c.deref.ensures.value ∙ ap (λ (v : HeapRows). with_freed v.heap freed) c.settle-freed.ensures.rest) in
     let queued : managed_numbers c.notify.new.notices.queued ≡ managed_numbers c.self.inside.notices.queued ++ filter (has_handle s.managed.held) freed = rw (c.deref-2.ensures.value, c.deref-3.ensures.value) at c.notify.ensures.queued in
     let same : filter (has_handle s.managed.held) freed ≡ filter (holds_handle s.managed) freed = filter-live s.managed freed (λ m k. cut.live m ((unmarked_of-exact c.settle-freed.new.heap.marks open'.dead m).0 (subst (λ xs. Contains xs m) c.settle-freed.ensures.freed k)).0) in
@@ -92,7 +93,7 @@ returns-clause-resolution c =
       cycle = open';
       opened = opened;
       resolution = resolution-is c.self.inside.heap c.settle-freed.new.heap c.self.inside.notices.spare s.managed open' c.args.alive.now.values freed refl c.self.invariant.2 due c.settle-freed.ensures.marks c.settle-freed.ensures.freed;
-      state = rw c.take.ensures.after (resolved-is c.self.inside.heap.heap c.free.new.self.heap c.self.inside.infos.items c.forget_pairs.new.infos.items c.self.inside.registry c.forget_pairs.new.registry c.self.inside.cells c.self.inside.pins c.self.inside.notices c.notify.new.notices c.self.inside.cycle c.self.inside.cycles c.self.inside.contracted freed heap-is c.forget_pairs.ensures.kinds c.forget_pairs.ensures.handles (rw c.deref-4.ensures.value at c.forget_pairs.ensures.pairs) (queued ∙ ap (λ z. managed_numbers c.self.inside.notices.queued ++ z) same) c.notify.ensures.taken);
+      state = rw c.take.ensures.after (resolved-is c.self.inside.heap.heap c.free.new.self.heap c.self.inside.infos.items c.forget_pairs.new.infos.items c.self.inside.registry c.forget_pairs.new.registry c.self.inside.cells no_pins c.self.inside.notices c.notify.new.notices c.self.inside.cycle c.self.inside.cycles c.self.inside.contracted freed heap-is c.forget_pairs.ensures.kinds c.forget_pairs.ensures.handles (rw c.deref-4.ensures.value at c.forget_pairs.ensures.pairs) (queued ∙ ap (λ z. managed_numbers c.self.inside.notices.queued ++ z) same) c.notify.ensures.taken);
       numbered = c.number-cycle.ensures;
       before = omega (arith, c.made.ensures.made, c.live.ensures);
       counted = c.count_alive.ensures;

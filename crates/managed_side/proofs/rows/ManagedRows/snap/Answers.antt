@@ -1,76 +1,81 @@
 -- What was prepared is freed and opens the cycle.
-use Rattle.std.proofs.Common.{◌≡◌, ◌∙◌, ◌-◌, ◌+◌, Some, false, inr, subst, sym, ap, arith, refl}
+use Rattle.std.proofs.Common.{◌≡◌, ◌∙◌, ◌-◌, ◌+◌, ◌≤◌, length, Some, false, subst, sym, ap, arith, refl}
 use Rattle.std.proofs.lemmas.Option.{same_Some}
+use Rattle.joint_model.specs.Told.{no_pins}
 use Rattle.joint_model.specs.Heaps.{IsLive, with_freed}
 use Rattle.joint_model.specs.Histories.{managed_numbers}
 use Rattle.joint_model.specs.ManagedReplay.{ManagedReplay}
-use Rattle.joint_laws.specs.ManagedInvariants.{IsManagedKept}
+use Rattle.joint_model.specs.Readers.{with_pins}
+use Rattle.known_laws.specs.Known.{PinsStand}
+use Rattle.managed_side.specs.Pinned.{pins_given}
 use Rattle.heap_rules.specs.Tidy.{CanFree}
 use Rattle.row_heap.specs.Rows.{HeapRows}
 use Rattle.managed_side.specs.Dues.{HasDue}
 use Rattle.managed_side.specs.Rows.{rows_of}
 use Rattle.managed_side.specs.Snapping.{TakesSnapshot}
-use Rattle.std.proofs.lemmas.Result.{IfOk-from_err}
 use Rattle.managed_side.proofs.PreparedSnapshots.{prepared-free, pins-left, prepared-due, takes-prepared}
 use Rattle.managed_side.proofs.rows.ManagedRows.snap.Goals as goal
 
-pub prepare-requires-clause-live : goal.prepare-requires-clause-live
-prepare-requires-clause-live c =
+pub prepare-found-requires-clause-live : goal.prepare-found-requires-clause-live
+prepare-found-requires-clause-live g c =
     let i = c.self.inside in
-    let s : ManagedReplay = rows_of i.heap.heap i.infos.items i.registry i.cells i.pins i.notices i.cycle i.cycles i.contracted in
-    let kept : IsManagedKept s.managed = subst (λ (z : ManagedReplay). IsManagedKept z.managed) (sym c.self.view_is) c.requires.kept.1.managed in
-    λ x k. kept.roots x (inr k)
+    let s : ManagedReplay = rows_of i.heap.heap i.infos.items i.registry i.cells no_pins i.notices i.cycle i.cycles i.contracted in
+    let pins = pins_given c.in-Some.pins.at in
+    let stands = rw (← c.self.view_is) at c.requires.stand in
+    let stand : PinsStand s.managed pins = stands c.in-Some.pins.at c.close.new.self c.in-Some.ensures.closed in
+    stand.live
 
 pub free-requires-clause-can : goal.free-requires-clause-can
-free-requires-clause-can c =
+free-requires-clause-can g c =
     let i = c.self.inside in
-    let s : ManagedReplay = rows_of i.heap.heap i.infos.items i.registry i.cells i.pins i.notices i.cycle i.cycles i.contracted in
-    let found = c.in_ok-found.field-0.found in
+    let s : ManagedReplay = rows_of i.heap.heap i.infos.items i.registry i.cells no_pins i.notices i.cycle i.cycles i.contracted in
+    let found = c.prepare-found.result.found in
     let freed = managed_numbers found.freed.items in
-    subst (λ z. CanFree c.prepare.new.heap.heap (managed_numbers z)) (sym c.deref.ensures.value)
-    (prepared-free s.managed c.prepare.new.heap freed found.candidates.items (managed_numbers found.dead.items) (ap (λ (v : HeapRows). v.heap) c.prepare.ensures.rest) c.in_ok-found.ensures.prepares)
+    let prepares = rw c.deref.ensures.value at c.prepare-found.ensures.prepares in
+    subst (λ z. CanFree c.prepare-found.new.heap.heap (managed_numbers z)) (sym c.deref-2.ensures.value)
+    (prepared-free (with_pins s (pins_given c.in-Some.pins.at)).managed c.prepare-found.new.heap freed found.candidates.items (managed_numbers found.dead.items) (ap (λ (v : HeapRows). v.heap) c.prepare-found.ensures.rest) prepares)
 
 pub mark_slots-requires : goal.mark_slots-requires
-mark_slots-requires c =
+mark_slots-requires g c =
     let i = c.self.inside in
-    let s : ManagedReplay = rows_of i.heap.heap i.infos.items i.registry i.cells i.pins i.notices i.cycle i.cycles i.contracted in
-    let kept : IsManagedKept s.managed = subst (λ (z : ManagedReplay). IsManagedKept z.managed) (sym c.self.view_is) c.requires.kept.1.managed in
+    let s : ManagedReplay = rows_of i.heap.heap i.infos.items i.registry i.cells no_pins i.notices i.cycle i.cycles i.contracted in
+    let pins = pins_given c.in-Some.pins.at in
+    let stands = rw (← c.self.view_is) at c.requires.stand in
+    let stand : PinsStand s.managed pins = stands c.in-Some.pins.at c.close.new.self c.in-Some.ensures.closed in
     let closed = rw (← c.self.view_is) at c.requires.closed in
-    let found = c.in_ok-found.field-0.found in
+    let found = c.prepare-found.result.found in
     let freed = managed_numbers found.freed.items in
-    let heap-is : c.free.new.self.heap ≡ with_freed i.heap.heap freed = c.free.ensures.heap ∙ (ap (λ z. with_freed c.prepare.new.heap.heap (managed_numbers z)) c.deref.ensures.value ∙ ap (λ (v : HeapRows). with_freed v.heap freed) c.prepare.ensures.rest) in
-    record { live = λ x k. subst (λ h. IsLive h x) (sym heap-is) (pins-left s.managed c.prepare.new.heap freed found.candidates.items (managed_numbers found.dead.items) closed kept c.in_ok-found.ensures.prepares x k) }
+    let prepares = rw c.deref.ensures.value at c.prepare-found.ensures.prepares in
+    let heap-is : c.free.new.self.heap ≡ with_freed i.heap.heap freed = c.free.ensures.heap ∙ (ap (λ z. with_freed c.prepare-found.new.heap.heap (managed_numbers z)) c.deref-2.ensures.value ∙ ap (λ (v : HeapRows). with_freed v.heap freed) c.prepare-found.ensures.rest) in
+    record { live = λ x k. subst (λ h. IsLive h x) (sym heap-is) (pins-left (with_pins s pins).managed c.prepare-found.new.heap freed found.candidates.items (managed_numbers found.dead.items) closed stand.live prepares x k) }
 
 pub invariant_of-self-2 : goal.invariant_of-self-2
-invariant_of-self-2 c =
+invariant_of-self-2 g c =
     let i = c.self.inside in
-    let s : ManagedReplay = rows_of i.heap.heap i.infos.items i.registry i.cells i.pins i.notices i.cycle i.cycles i.contracted in
-    let found = c.in_ok-found.field-0.found in
+    let s : ManagedReplay = rows_of i.heap.heap i.infos.items i.registry i.cells no_pins i.notices i.cycle i.cycles i.contracted in
+    let found = c.prepare-found.result.found in
     let freed = managed_numbers found.freed.items in
-    let heap-is : c.free.new.self.heap ≡ with_freed i.heap.heap freed = c.free.ensures.heap ∙ (ap (λ z. with_freed c.prepare.new.heap.heap (managed_numbers z)) c.deref.ensures.value ∙ ap (λ (v : HeapRows). with_freed v.heap freed) c.prepare.ensures.rest) in (
+    let prepares = rw c.deref.ensures.value at c.prepare-found.ensures.prepares in
+    let heap-is : c.free.new.self.heap ≡ with_freed i.heap.heap freed = c.free.ensures.heap ∙ (ap (λ z. with_freed c.prepare-found.new.heap.heap (managed_numbers z)) c.deref-2.ensures.value ∙ ap (λ (v : HeapRows). with_freed v.heap freed) c.prepare-found.ensures.rest) in
+    let room : length found.candidates.items ≤ c.reserve.new.self.spare = omega (arith, c.prepare-found.ensures.few.1, c.in-Ok-reserve.ensures.room, c.made.ensures.made) in (
       c.self.invariant.0,
-      ap (λ (v : HeapRows). v.refs) c.mark_slots.ensures.rest ∙ (ap (λ (v : HeapRows). v.refs) c.free.ensures.rest ∙ (ap (λ (v : HeapRows). v.refs) c.prepare.ensures.rest ∙ c.self.invariant.1)),
+      ap (λ (v : HeapRows). v.refs) c.mark_slots.ensures.rest ∙ (ap (λ (v : HeapRows). v.refs) c.free.ensures.rest ∙ (ap (λ (v : HeapRows). v.refs) c.prepare-found.ensures.rest ∙ c.self.invariant.1)),
       ap (λ (v : HeapRows). v.follows) c.mark_slots.ensures.rest,
-      λ o e. subst (HasDue c.mark_slots.new.heap c.prepare.new.notices.spare) (same_Some _ o e)
-          (prepared-due s.managed c.prepare.new.heap c.mark_slots.new.heap freed found.candidates.items (managed_numbers found.dead.items) c.prepare.new.notices.spare (i.cycles + 1) c.in_ok-found.ensures.prepares
-          (ap (λ (v : HeapRows). v.heap) c.mark_slots.ensures.rest ∙ heap-is) (rw heap-is at c.mark_slots.ensures.marks) c.in_ok-found.ensures.room),
+      λ o e. subst (HasDue c.mark_slots.new.heap c.reserve.new.self.spare) (same_Some _ o e)
+          (prepared-due (with_pins s (pins_given c.in-Some.pins.at)).managed c.prepare-found.new.heap c.mark_slots.new.heap freed found.candidates.items (managed_numbers found.dead.items) c.reserve.new.self.spare (i.cycles + 1) prepares
+          (ap (λ (v : HeapRows). v.heap) c.mark_slots.ensures.rest ∙ heap-is) (rw heap-is at c.mark_slots.ensures.marks) room),
     )
 
 pub returns-clause-snapshot : goal.returns-clause-snapshot
-returns-clause-snapshot c =
+returns-clause-snapshot g c =
     let i = c.self.inside in
     let closed = rw (← c.self.view_is) at c.requires.closed in
-    let found = c.in_ok-found.field-0.found in
+    let found = c.prepare-found.result.found in
     let freed = managed_numbers found.freed.items in
-    let heap-is : c.free.new.self.heap ≡ with_freed i.heap.heap freed = c.free.ensures.heap ∙ (ap (λ z. with_freed c.prepare.new.heap.heap (managed_numbers z)) c.deref.ensures.value ∙ ap (λ (v : HeapRows). with_freed v.heap freed) c.prepare.ensures.rest) in
-    let next = rows_of c.mark_slots.new.heap.heap i.infos.items i.registry i.cells i.pins c.prepare.new.notices (Some record { number = i.cycles + 1; candidates = found.candidates.items; dead = managed_numbers found.dead.items }) (i.cycles + 1) false in
-    subst (λ z. TakesSnapshot z next freed (i.cycles + 1) (c.made.result - c.live.result) c.len-count.result c.in_ok-found.field-0.graph) c.self.view_is
-    (takes-prepared i.heap.heap c.mark_slots.new.heap.heap i.infos.items i.registry i.cells i.pins i.notices c.prepare.new.notices i.cycle _ i.cycles i.contracted c.prepare.new.heap freed found.candidates.items found.dead.items (c.made.result - c.live.result) c.len-count.result c.in_ok-found.field-0.graph
-    closed c.in_ok-found.ensures.prepares (ap (λ (v : HeapRows). v.heap) c.mark_slots.ensures.rest ∙ heap-is) c.prepare.ensures.queued c.prepare.ensures.taken refl
-    (omega (arith, c.made.ensures.made, c.live.ensures)) (omega (arith, c.len-count.ensures, found.candidates.ok)) c.in_ok-found.ensures.nodes c.in_ok-found.ensures.edges)
-
-pub returns-in_err-found-clause-snapshot : goal.returns-in_err-found-clause-snapshot
-returns-in_err-found-clause-snapshot c = IfOk-from_err c.from_residual.result _ c.from_residual.ensures.0
-
-pub returns-in_err-found-clause-few : goal.returns-in_err-found-clause-few
-returns-in_err-found-clause-few c = IfOk-from_err c.from_residual.result _ c.from_residual.ensures.0
+    let prepares = rw c.deref.ensures.value at c.prepare-found.ensures.prepares in
+    let heap-is : c.free.new.self.heap ≡ with_freed i.heap.heap freed = c.free.ensures.heap ∙ (ap (λ z. with_freed c.prepare-found.new.heap.heap (managed_numbers z)) c.deref-2.ensures.value ∙ ap (λ (v : HeapRows). with_freed v.heap freed) c.prepare-found.ensures.rest) in
+    let next = rows_of c.mark_slots.new.heap.heap i.infos.items i.registry i.cells no_pins c.reserve.new.self (Some record { number = i.cycles + 1; candidates = found.candidates.items; dead = managed_numbers found.dead.items }) (i.cycles + 1) false in
+    subst (λ z. TakesSnapshot z next (pins_given c.in-Some.pins.at) freed (i.cycles + 1) (c.made-2.result - c.live.result) c.len-count.result c.prepare-found.result.graph) c.self.view_is
+    (takes-prepared i.heap.heap c.mark_slots.new.heap.heap i.infos.items i.registry i.cells (pins_given c.in-Some.pins.at) i.notices c.reserve.new.self i.cycle _ i.cycles i.contracted c.prepare-found.new.heap freed found.candidates.items found.dead.items (c.made-2.result - c.live.result) c.len-count.result c.prepare-found.result.graph
+    closed prepares (ap (λ (v : HeapRows). v.heap) c.mark_slots.ensures.rest ∙ heap-is) c.reserve.ensures.queued c.reserve.ensures.taken refl
+    (omega (arith, c.made-2.ensures.made, c.live.ensures)) (omega (arith, c.len-count.ensures, found.candidates.ok)) (rw c.deref.ensures.value at c.prepare-found.ensures.nodes) c.prepare-found.ensures.edges)

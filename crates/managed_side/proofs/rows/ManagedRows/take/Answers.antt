@@ -1,17 +1,17 @@
--- What a pin holds is live.
-use Rattle.std.proofs.Common.{◌∙◌, ap, subst}
+-- What the pin holds is live.
+use Rattle.std.proofs.Common.{◌∙◌, Option, ap, subst}
+use Rattle.std.specs.Prelude.{IfSome}
 use Rattle.std.proofs.lemmas.Option.{same_Some}
+use Rattle.joint_model.specs.declared.names.MNum.{MNum}
 use Rattle.joint_model.specs.Heaps.{IsLive}
 use Rattle.row_heap.specs.Rows.{HeapRows}
-use Rattle.managed_side.specs.Rows.{with_adopted}
 use Rattle.managed_side.proofs.Dues.{AreDues-var}
-use Rattle.managed_side.proofs.Kept.{pin-live}
 use Rattle.managed_side.proofs.rows.ManagedRows.take.Goals as goal
 
 pub set_var-requires-clause-live : goal.set_var-requires-clause-live
 set_var-requires-clause-live c =
-    let live = pin-live (with_adopted c.args.self.now c.requires.kept.0) c.args.t c.in-Some.x c.requires.kept.1 c.in-Some.ensures in
-    λ x e. subst (λ z. IsLive c.self.inside.heap.heap z) (same_Some c.in-Some.x x e) (rw (← c.self.view_is) at live)
+    let live = subst (λ (o : Option MNum). IfSome o (λ m. IsLive c.self.inside.heap.heap m.0)) c.in-Some.is (rw (← c.self.view_is) at c.requires.live) in
+    λ x e. subst (λ z. IsLive c.self.inside.heap.heap z) (same_Some c.in-Some.m.0 x e) live
 
 pub invariant_of-self : goal.invariant_of-self
 invariant_of-self c = (

@@ -13,14 +13,15 @@ use Rattle.joint_model.specs.Sides.{managed_rules}
 use Rattle.joint_model.specs.Told.{resolution_of}
 use Rattle.joint_model.proofs.Deciding.{none_some}
 use Rattle.joint_model.proofs.SideLists.{AreTaken-push}
+use Rattle.known_laws.proofs.Pinned.{none_stand}
 use Rattle.managed_side.specs.Calls.{resolve_made}
 use Rattle.managed_side.specs.Steps.{step_made}
 use Rattle.managed_side.proofs.Driving.{resolve-goes, adds-lawful, objects-numbers}
-use Rattle.managed_side.proofs.Goes.{side-replayed, kept-rows}
+use Rattle.managed_side.proofs.Goes.{side-kept, side-replayed, kept-rows}
 use Rattle.managed_side.proofs.side.ManagedSide.resolve.Goals as goal
 
 pub resolve-resolution-requires-clause-kept : goal.resolve-resolution-requires-clause-kept
-resolve-resolution-requires-clause-kept g c = kept-rows c.self.inside.entries.entries c.self.inside.rows c.self.invariant.0
+resolve-resolution-requires-clause-kept g c = kept-rows c.self.inside.entries.entries c.self.inside.rows c.self.invariant.3
 
 pub enter-requires-clause-below : goal.enter-requires-clause-below
 enter-requires-clause-below g c =
@@ -47,10 +48,11 @@ invariant_of-self g c =
     let draws = rw made-is at c.enter.ensures.draws in
     let same : k.cycle ≡ t.cycle = same_Some k.cycle t.cycle (sym k.opened ∙ t.opened) in
     let one_each : length c.args.alive.now.values ≡ length t.cycle.candidates = k.one_each ∙ ap (λ (z : OpenCycle). length z.candidates) same in
-    let goes = resolve-goes i.entries.entries c.enter.new.entries.entries i.rows c.resolve-resolution.new.self draws.adds.number c.args.index c.args.cites _ _ _ c.args.alive.now.values freed t one_each draws.adds.added in (
+    let goes = resolve-goes i.entries.entries c.enter.new.entries.entries i.rows c.resolve-resolution.new.self draws.adds.number c.args.index c.args.cites _ _ _ c.args.alive.now.values freed c.self.invariant.0 t one_each draws.adds.added in (
       side-replayed i.entries.entries c.enter.new.entries.entries i.rows c.resolve-resolution.new.self draws.adds.number (g.D.Draw.floor c.args.draw.now) (resolve_made i.rows.managed t.cycle c.args.index freed c.args.cites) (resolution_of (answers_of c.args.alive.now.values) freed) (may k.cycle k.opened).below draws.above draws.adds.added goes c.self.invariant.0,
       λ e o. absurd (none_some e (sym (ap (λ (z : ManagedReplay). z.managed.cycle) t.state) ∙ o)),
       AreTaken-push managed_rules i.threads i.entries.entries c.enter.new.entries.entries draws.adds.number (resolve_made i.rows.managed t.cycle c.args.index freed c.args.cites) tt draws.adds.added c.self.invariant.2,
+      side-kept i.entries.entries c.enter.new.entries.entries i.rows c.resolve-resolution.new.self draws.adds.number (resolve_made i.rows.managed t.cycle c.args.index freed c.args.cites) (resolution_of (answers_of c.args.alive.now.values) freed) (none_stand i.rows.managed) draws.adds.added goes c.self.invariant.3,
     )
 
 pub returns : goal.returns
@@ -71,7 +73,7 @@ returns g c =
         opened = t.opened;
         freed = freed;
         adds = adds-lawful (record { floor = g.D.Draw.floor; left = g.D.Draw.left; may = g.D.Draw.may; drew = g.D.Draw.drew }) c.args.draw.now c.enter.new.draw i.threads i.entries.entries c.enter.new.entries.entries i.rows c.resolve-resolution.new.self (resolve_made i.rows.managed t.cycle c.args.index freed c.args.cites) (resolution_of (answers_of c.args.alive.now.values) freed) c.deref.result.now draws refl (objects-numbers ms ∙ sym c.deref.ensures.value)
-            (resolve-goes i.entries.entries c.enter.new.entries.entries i.rows c.resolve-resolution.new.self draws.adds.number c.args.index c.args.cites _ _ _ c.args.alive.now.values freed t one_each draws.adds.added);
+            (resolve-goes i.entries.entries c.enter.new.entries.entries i.rows c.resolve-resolution.new.self draws.adds.number c.args.index c.args.cites _ _ _ c.args.alive.now.values freed c.self.invariant.0 t one_each draws.adds.added);
         span = rw (t.before, many) refl;
         kept = t.counted;
       });

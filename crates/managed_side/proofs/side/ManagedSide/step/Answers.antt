@@ -1,24 +1,19 @@
--- The rows answer the event as the replay answers it, so the list goes on by its entry.
-use Rattle.std.proofs.Common.{◌≡◌, ◌≤◌, ◌∙◌, refl, sym, ap, arith}
+-- The rows answer the event as the replay answers it, so the list goes on by its entry. No event of a step asks for pins or sets a cell.
+use Rattle.std.proofs.Common.{◌≤◌, [], refl, arith}
 use Rattle.joint_model.specs.declared.events.Made.{Made}
-use Rattle.joint_model.specs.Sides.{cell_target, managed_rules}
+use Rattle.joint_model.specs.Sides.{managed_rules}
 use Rattle.joint_model.specs.Told.{nothing}
 use Rattle.joint_model.proofs.SideLists.{AreTaken-push}
+use Rattle.known_laws.proofs.Pinned.{none_stand}
 use Rattle.managed_side.specs.Sides.{state_of}
-use Rattle.managed_side.specs.Steps.{step_made, adopted_in}
+use Rattle.managed_side.specs.Steps.{step_made}
 use Rattle.std.proofs.lemmas.Result.{IfOk-from_err}
-use Rattle.managed_side.proofs.Goes.{side-goes, side-replayed, step-of, step-allowed, kept-rows, may-set, may-target, HasRoom-two}
+use Rattle.managed_side.proofs.Driving.{adds-lawful}
+use Rattle.managed_side.proofs.Goes.{side-goes, side-kept, side-replayed, step-of, step-bare, step-target, step-allowed, kept-rows, HasRoom-two}
 use Rattle.managed_side.proofs.side.ManagedSide.step.Goals as goal
 
 pub step-requires-clause-kept : goal.step-requires-clause-kept
-step-requires-clause-kept g c = kept-rows c.self.inside.entries.entries c.self.inside.rows c.self.invariant.0
-
-pub enter-requires-clause-may : goal.enter-requires-clause-may
-enter-requires-clause-may g c =
-    let i = c.self.inside in
-    let may = rw (← c.self.view_is) at c.requires.may in
-    may-target (record { floor = g.D.Draw.floor; left = g.D.Draw.left; may = g.D.Draw.may; drew = g.D.Draw.drew }) c.args.draw.now (state_of i.entries.entries i.rows) c.args.caller c.args.op.now c.target-target.result may.bare may.targets
-    (λ x e. may-set i.rows (adopted_in i.entries.entries) c.args.op.now x (c.target-target.ensures.may x e))
+step-requires-clause-kept g c = kept-rows c.self.inside.entries.entries c.self.inside.rows c.self.invariant.3
 
 pub invariant_of-self-2 : goal.invariant_of-self-2
 invariant_of-self-2 g c =
@@ -27,12 +22,13 @@ invariant_of-self-2 g c =
     let may = rw (← c.self.view_is) at c.requires.may in
     let fresh = rw (← c.self.view_is) at c.requires.fresh in
     let draws = rw c.in_ok-reserve.ensures.entries at c.enter.ensures.draws in
-    let goes = side-goes i.entries.entries c.enter.new.entries.entries i.rows c.step.new.self draws.adds.number made nothing (step-of c.args.caller c.args.index c.args.op.now c.in_ok-reply.reply c.args.cites c.requires.event)
+    let goes = side-goes i.entries.entries c.enter.new.entries.entries i.rows c.step.new.self draws.adds.number made nothing c.self.invariant.0 (step-bare c.args.caller c.args.op.now c.requires.event.1) (step-of c.args.caller c.args.index c.args.op.now c.in_ok-reply.reply c.args.cites c.requires.event)
     (step-allowed (state_of i.entries.entries i.rows) c.args.caller c.args.op.now c.requires.event.1 fresh) draws.adds.added c.in_ok-reply.ensures.answer in
     let room : 2 ≤ c.enter.new.entries.spare = omega (arith, c.in_ok-reserve.ensures.room, c.enter.ensures.spare) in (
       side-replayed i.entries.entries c.enter.new.entries.entries i.rows c.step.new.self draws.adds.number (g.D.Draw.floor c.args.draw.now) made nothing may.below draws.above draws.adds.added goes c.self.invariant.0,
       HasRoom-two c.step.new.self c.enter.new.entries.spare room,
       AreTaken-push managed_rules i.threads i.entries.entries c.enter.new.entries.entries draws.adds.number made may.takes draws.adds.added c.self.invariant.2,
+      side-kept i.entries.entries c.enter.new.entries.entries i.rows c.step.new.self draws.adds.number made nothing (none_stand i.rows.managed) draws.adds.added goes c.self.invariant.3,
     )
 
 pub returns-clause-adds : goal.returns-clause-adds
@@ -41,12 +37,11 @@ returns-clause-adds g c =
     let s = (state_of i.entries.entries i.rows) in
     let made : Made = step_made c.args.caller c.args.index c.args.op.now c.in_ok-reply.reply c.args.cites in
     let fresh = rw (← c.self.view_is) at c.requires.fresh in
-    let target : cell_target s c.args.caller c.args.op.now c.in_ok-reply.reply ≡ c.target-target.result =
-    ap (λ z. cell_target s c.args.caller c.args.op.now z) (sym (ap (λ a. a.reply) (c.in_ok-reply.ensures.answer (adopted_in i.entries.entries)))) ∙ c.target-target.ensures.target (adopted_in i.entries.entries) in
-    let draws = rw (c.in_ok-reserve.ensures.entries, ← target) at c.enter.ensures.draws in
-    let goes = side-goes i.entries.entries c.enter.new.entries.entries i.rows c.step.new.self draws.adds.number made nothing (step-of c.args.caller c.args.index c.args.op.now c.in_ok-reply.reply c.args.cites c.requires.event)
+    let draws = rw c.in_ok-reserve.ensures.entries at c.enter.ensures.draws in
+    let goes = side-goes i.entries.entries c.enter.new.entries.entries i.rows c.step.new.self draws.adds.number made nothing c.self.invariant.0 (step-bare c.args.caller c.args.op.now c.requires.event.1) (step-of c.args.caller c.args.index c.args.op.now c.in_ok-reply.reply c.args.cites c.requires.event)
     (step-allowed s c.args.caller c.args.op.now c.requires.event.1 fresh) draws.adds.added c.in_ok-reply.ensures.answer in
-    rw (← c.self.view_is) (record { draws = draws; goes = goes; threads = refl })
+    rw (← c.self.view_is) (adds-lawful (record { floor = g.D.Draw.floor; left = g.D.Draw.left; may = g.D.Draw.may; drew = g.D.Draw.drew }) c.args.draw.now c.enter.new.draw i.threads i.entries.entries c.enter.new.entries.entries i.rows c.step.new.self made nothing [] draws
+    (step-target s c.args.caller c.args.op.now c.in_ok-reply.reply c.requires.event.1) refl goes)
 
 pub returns-in_err-reserve-clause-adds : goal.returns-in_err-reserve-clause-adds
 returns-in_err-reserve-clause-adds g c = IfOk-from_err c.from_residual.result _ c.from_residual.ensures.0
