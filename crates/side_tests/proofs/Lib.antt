@@ -4,4 +4,5 @@ pub mod Holding
 pub mod ManagedDrives
 pub mod Moves
 pub mod PeerSteps
+pub mod PinsHeld
 pub mod Snapshots

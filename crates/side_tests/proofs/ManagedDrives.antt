@@ -37,7 +37,7 @@ HasWaiting cycle waiting = (c : OpenCycle) → cycle ≡ Some c → length c.can
 
 -- a call that adopts no handle but the one with the number of the entries so far, and leaves so many candidates
 pub driven-on : (old new : Side ManagedReplay) (before after waiting waits : ℕ) (m : Made) (told : Told) → AddsLawful managed_rules counting before after old new m told
-    → AdoptsNext old.state (managed_answer old.state m.caller m.op told).state (length old.entries) → HasWaiting (managed_answer old.state m.caller m.op told).state.managed.cycle waits → IsDriven old before waiting → IsDriven new after waits
+    → AdoptsNext old.state (managed_rules.next old.state m told) (length old.entries) → HasWaiting (managed_rules.next old.state m told).managed.cycle waits → IsDriven old before waiting → IsDriven new after waits
 driven-on old new before after waiting waits m told a named left d =
     let longer : length new.entries ≡ length old.entries + 1 = ap length a.draws.adds.added ∙ length-append old.entries (numbered a.draws.adds.number m ∷ []) in record {
       counted = counted-once managed_rules old new before after m told a d.counted;
@@ -98,7 +98,7 @@ step-cycle s t _ k b = absurd b
 
 -- a call that leaves an open cycle as it is
 pub driven-still : (old new : Side ManagedReplay) (before after waiting : ℕ) (m : Made) (told : Told) → AddsLawful managed_rules counting before after old new m told
-    → AdoptsNext old.state (managed_answer old.state m.caller m.op told).state (length old.entries) → (managed_answer old.state m.caller m.op told).state.managed.cycle ≡ old.state.managed.cycle → IsDriven old before waiting → IsDriven new after waiting
+    → AdoptsNext old.state (managed_rules.next old.state m told) (length old.entries) → (managed_rules.next old.state m told).managed.cycle ≡ old.state.managed.cycle → IsDriven old before waiting → IsDriven new after waiting
 driven-still old new before after waiting m told a named same d = driven-on old new before after waiting waiting m told a named (λ c o. d.waits c (sym same ∙ o)) d
 
 -- a side for all eight threads takes each step

@@ -4,15 +4,14 @@ ghost use Rattle.std.specs.Prelude.{◌≡◌, IfOk, length};
 ghost use Rattle.managed_side.specs.Calls.{MayContractWith};
 
 use crate::callers::is_managed;
-use crate::managed_checks::{cites_of, is_refused, is_step, names_next, stands_in};
-use joint_model::Reply::{
-    self, CycleOpen, Empty, Gone, New, Null, Pending, Pinned, Refs, Sccs, Snapped, Twin, Unset,
-};
+use crate::gates::Given;
+use crate::managed_checks::{cites_of, is_refused, is_step, may_hold, names_next, stands_in};
+use joint_model::Reply::{self, CycleOpen, Gone, Null, Pending, Refs, Sccs, Snapped, Twin};
 use joint_model::{
-    Act, Alive, Cell, Counter, HNum, Holding, Kind, MNum, Op, PNum, Phase, PhaseWord, Sort,
-    StaticNo, Thread, Var,
+    Act, Alive, Counter, HNum, Holding, Kind, MNum, Op, PNum, Phase, PhaseWord, Sort, StaticNo,
+    Thread, Var,
 };
-use managed_side::{ManagedSide, SnapFault, TwinAnswer};
+use managed_side::{ManagedSide, Pins, SnapFault, TwinAnswer};
 use std::alloc::{AllocError, Global};
 use std::marker::Model;
 
@@ -37,9 +36,6 @@ pub(crate) enum Call {
     Load(u8, u8),
     Store(u8, u8),
     Clear(u8),
-    Weak(u8, u8),
-    Read(u8),
-    Await(u8),
     Handle(u8),
     Finalise(u32),
     Lend(u8, u8),
@@ -48,19 +44,21 @@ pub(crate) enum Call {
     Adopt(u8, u8, u32),
     // a peer of this sort with so many fields; the handle as above
     Meet(u8, u32, Sort, u8),
-    Take(u8),
+    // V and the object that the thread's pin holds; with 0 it holds none
+    Take(u8, u32),
     // makes so many objects without fields, each in V
     Fill(u8, u32),
     Snap,
+    // a snapshot where m1's pin holds this object
+    SnapWith(u32),
     // a snapshot of a side with nothing dead, and its contraction
     SnapAndContract,
     // the candidate in place i was answered alive where bit i is set; this tells how many were kept, and what was freed
     Resolve(u32),
     Abandon,
     Refuse(PhaseWord, Phase),
-    // looks: a peer's twin, a thread's pin, whether an object is live, the open cycle, and the number of nodes of the last snapshot's graph
+    // looks: a peer's twin, whether an object is live, the open cycle, and the number of nodes of the last snapshot's graph
     TwinFor(u32),
-    Pin,
     Live(u32),
     Open,
     Nodes,
@@ -134,12 +132,6 @@ impl Call {
                 x: StaticNo(x),
                 v: None,
             },
-            Call::Weak(k, v) => Act::Weak {
-                k: Cell(k),
-                v: Var(v),
-            },
-            Call::Read(k) => Act::Read { k: Cell(k) },
-            Call::Await(k) => Act::Await { k: Cell(k) },
             Call::Handle(v) => Act::Handle { v: Var(v) },
             Call::Finalise(n) => Act::Finalise { n },
             _ => return None,
@@ -153,7 +145,7 @@ impl Call {
 #[derive(Drop)]
 pub(crate) struct Driven {
     pub(crate) side: ManagedSide,
-    draw: Counter,
+    gate: Given,
     waiting: u32,
     nodes: u32,
 }
@@ -166,7 +158,7 @@ impl Model for Driven {
 
     ghost view = { λ s. s.side.state };
 
-    ghost invariant = { λ s. IsDriven s.side s.draw s.waiting };
+    ghost invariant = { λ s. IsDriven s.side s.gate.count s.waiting };
 }
 
 impl Driven {
@@ -178,7 +170,7 @@ impl Driven {
         }
         self.side.replays();
         let cites = cites_of(&op);
-        let reply = self.side.step(&mut self.draw, caller, 1, &op, cites)?;
+        let reply = self.side.step(&mut self.gate.count, caller, 1, &op, cites)?;
         Ok(Some(reply))
     }
 
@@ -191,14 +183,20 @@ impl Driven {
         }
     }
 
-    // The answer to a `take`; None where there is no such caller or variable.
-    fn takes(&mut self, caller: Thread, v: u8) -> Result<Option<Reply>, AllocError> {
-        if !is_managed(caller) || v >= 8 {
+    // The answer to a `take` of this object; None where there is no such caller or variable, or no pin may hold the object.
+    fn takes(
+        &mut self,
+        caller: Thread,
+        v: u8,
+        pin: Option<MNum>,
+    ) -> Result<Option<Reply>, AllocError> {
+        if !is_managed(caller) || v >= 8 || !may_hold(&self.side, pin) {
             return Ok(None);
         }
         self.side.replays();
-        let pin = self.side.pin(caller);
-        let reply = self.side.take(&mut self.draw, caller, 1, Var(v), pin)?;
+        let reply = self
+            .side
+            .take(&mut self.gate.count, caller, 1, Var(v), pin)?;
         Ok(Some(reply))
     }
 
@@ -212,23 +210,29 @@ impl Driven {
     }
 
     // Opens a cycle by a snapshot: what its entry says, and how many nodes the dead part's graph has. It may be contracted at once where it has none.
-    fn opens(&mut self) -> Result<(Reply, u32), SnapFault>
+    fn opens(&mut self, pin: Option<MNum>) -> Result<(Reply, u32), SnapFault>
         ensures { IfOk result (λ o. o.1 ≡ 0 → MayContractWith self.new 0 0) }
     {
-        let pins = self.side.pins();
-        let opened = self.side.snap(&mut self.draw, 2, &pins)?;
+        if !may_hold(&self.side, pin) {
+            return Err(SnapFault::NotClosed);
+        }
+        self.gate.pins = Pins {
+            at: [pin, None, None, None, None, None, None, None],
+        };
+        let opened = self.side.snap(&mut self.gate, 2)?;
         let nodes = opened.graph.nodes();
         self.waiting = opened.candidates;
         self.nodes = nodes;
         Ok((Snapped(opened.candidates, opened.freed), nodes))
     }
 
-    // A snapshot: what its entry says, or the open cycle.
-    fn snaps(&mut self) -> Result<Reply, AllocError> {
-        match self.opens() {
-            Ok((reply, _)) => Ok(reply),
-            Err(SnapFault::CycleOpen { cycle }) => Ok(CycleOpen(cycle)),
+    // A snapshot: what its entry says, or the open cycle; None where no pin may hold the object.
+    fn snaps(&mut self, pin: Option<MNum>) -> Result<Option<Reply>, AllocError> {
+        match self.opens(pin) {
+            Ok((reply, _)) => Ok(Some(reply)),
+            Err(SnapFault::CycleOpen { cycle }) => Ok(Some(CycleOpen(cycle))),
             Err(SnapFault::OutOfMemory) => Err(AllocError),
+            Err(SnapFault::NotClosed) => Ok(None),
         }
     }
 
@@ -236,12 +240,12 @@ impl Driven {
     fn contracts(&mut self)
         requires { MayContractWith self.old 0 0 }
     {
-        self.side.contracted(&mut self.draw, 3, 0, 0);
+        self.side.contracted(&mut self.gate.count, 3, 0, 0);
     }
 
     // A snapshot that finds nothing dead, and its contraction; None where something is dead, or a cycle is open already.
     fn snaps_and_contracts(&mut self) -> Option<Reply> {
-        let Ok((_, nodes)) = self.opens() else {
+        let Ok((_, nodes)) = self.opens(None) else {
             return None;
         };
         if nodes != 0 {
@@ -257,7 +261,7 @@ impl Driven {
             return Ok(None);
         };
         let answers = answers_of(alloc, alive, self.waiting)?;
-        let out = self.side.resolve(&mut self.draw, 4, 0, &answers);
+        let out = self.side.resolve(&mut self.gate.count, 4, 0, &answers);
         Ok(Some(Snapped(out.kept, out.freed)))
     }
 
@@ -266,7 +270,7 @@ impl Driven {
         let Some(_) = self.side.open_cycle() else {
             return None;
         };
-        self.side.abandon(&mut self.draw, 4);
+        self.side.abandon(&mut self.gate.count, 4);
         Some(Reply::Ok)
     }
 
@@ -275,15 +279,14 @@ impl Driven {
         if !is_refused(word, phase) || !stands_in(&self.side, phase) {
             return Ok(None);
         }
-        let reply = self.side.refused(&mut self.draw, 4, word, phase)?;
+        let reply = self.side.refused(&mut self.gate.count, 4, word, phase)?;
         Ok(Some(reply))
     }
 
     // What a look answers; None where it is none that may be made.
-    fn looks(&self, caller: Thread, call: Call) -> Option<Reply> {
+    fn looks(&self, call: Call) -> Option<Reply> {
         match call {
             Call::TwinFor(p) => Some(self.twin_for(p)),
-            Call::Pin => self.pin(caller),
             Call::Live(m) => Some(if self.side.is_live(MNum(m)) {
                 Reply::Alive
             } else {
@@ -307,17 +310,6 @@ impl Driven {
         }
     }
 
-    // What a thread's pin holds, or that it is empty; None where there is no such thread.
-    fn pin(&self, caller: Thread) -> Option<Reply> {
-        if !is_managed(caller) {
-            return None;
-        }
-        match self.side.pin(caller) {
-            None => Some(Empty),
-            Some(m) => Some(Pinned(m)),
-        }
-    }
-
     /// The answer to a call; None where it is none that may be made.
     pub(crate) fn answer(
         &mut self,
@@ -326,16 +318,15 @@ impl Driven {
         call: Call,
     ) -> Result<Option<Reply>, AllocError> {
         match call {
-            Call::Take(v) => self.takes(caller, v),
+            Call::Take(v, m) => self.takes(caller, v, pin_of(m)),
             Call::Fill(v, times) => self.fills(caller, v, times),
-            Call::Snap => Ok(Some(self.snaps()?)),
+            Call::Snap => self.snaps(None),
+            Call::SnapWith(m) => self.snaps(pin_of(m)),
             Call::SnapAndContract => Ok(self.snaps_and_contracts()),
             Call::Resolve(alive) => self.resolves(alloc, alive),
             Call::Abandon => Ok(self.abandons()),
             Call::Refuse(word, phase) => self.refuses(word, phase),
-            Call::TwinFor(_) | Call::Pin | Call::Live(_) | Call::Open | Call::Nodes => {
-                Ok(self.looks(caller, call))
-            }
+            Call::TwinFor(_) | Call::Live(_) | Call::Open | Call::Nodes => Ok(self.looks(call)),
             _ => self.steps(caller, call),
         }
     }
@@ -360,7 +351,10 @@ impl Driven {
 pub(crate) fn start(alloc: Global) -> Result<Driven, AllocError> {
     Ok(Driven {
         side: ManagedSide::new(alloc, 8, Holding::Every)?,
-        draw: Counter::new(),
+        gate: Given {
+            count: Counter::new(),
+            pins: Pins { at: [None; 8] },
+        },
         waiting: 0,
         nodes: 0,
     })
@@ -371,6 +365,11 @@ pub(crate) fn ends_with(driven: Driven, freed: &[MNum], notices: &[MNum]) -> (u3
     let lists = driven.side.into_lists();
     let same = lists.freed.as_slice() == freed && lists.notices.as_slice() == notices;
     (lists.entries.len(), same)
+}
+
+// What a pin holds: the object with that number, or none by 0.
+fn pin_of(m: u32) -> Option<MNum> {
+    if m == 0 { None } else { Some(MNum(m)) }
 }
 
 // So many answers, of which the one in place i is alive where bit i is set.

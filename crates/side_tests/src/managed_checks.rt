@@ -1,13 +1,14 @@
 // What may be asked of a managed side: the checks that stand before its calls.
 
-ghost use Rattle.std.specs.Prelude.{◌≡◌, ◌↔◌, IsTrue, None};
+ghost use Rattle.std.specs.Prelude.{◌≡◌, ◌↔◌, IfSome, IsTrue, None};
+ghost use Rattle.joint_model.specs.Heaps.{IsLive};
 ghost use Rattle.joint_model.specs.Lines.{IsManagedAct, IsOneEvent};
 ghost use Rattle.joint_model.specs.ManagedReplay.{IsRefusedIn};
 ghost use Rattle.managed_side.specs.Steps.{CitesRightly, IsManagedStep, IsStepAct};
 ghost use Rattle.side_tests.specs.Drives.{NamesNext};
 
 use crate::callers::{is_managed, is_var_or_none};
-use joint_model::{Act, Kind, Op, Phase, PhaseWord, Thread};
+use joint_model::{Act, Kind, MNum, Op, Phase, PhaseWord, Thread};
 use managed_side::ManagedSide;
 
 /// Whether this is one of the words and phases of the tables, and is refused in that phase.
@@ -18,6 +19,16 @@ pub(crate) fn is_refused(word: PhaseWord, phase: Phase) -> bool
         Phase::Idle => !matches!(word, PhaseWord::Cycle | PhaseWord::Snap),
         Phase::Snapped => !matches!(word, PhaseWord::Contract),
         _ => false,
+    }
+}
+
+/// Whether a pin may hold this object, or none: it is live, and no cycle is open.
+pub(crate) fn may_hold(side: &ManagedSide, pin: Option<MNum>) -> bool
+    ensures { IsTrue result → IfSome pin (λ m. IsLive side.now.state.managed.heap m.0 × (side.now.state.managed.cycle ≡ None)) }
+{
+    match pin {
+        None => true,
+        Some(m) => side.is_live(m) && side.open_cycle().is_none(),
     }
 }
 
@@ -47,9 +58,6 @@ fn is_step_act(act: &Act) -> bool
         Act::Drop { v } => v.0 < 8,
         Act::Load { v, x } => v.0 < 8 && x.0 < 16,
         Act::Store { x, v } => x.0 < 16 && is_var_or_none(v),
-        Act::Weak { k, v } => k.0 < 64 && v.0 < 8,
-        Act::Read { k } => k.0 < 64,
-        Act::Await { k } => k.0 < 64,
         Act::Handle { v } => v.0 < 8,
         _ => false,
     }

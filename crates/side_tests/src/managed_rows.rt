@@ -2,8 +2,8 @@
 
 use crate::managed::{C, Call, M1, M2, Row, ends_with, start};
 use joint_model::Reply::{
-    self, CycleOpen, Empty, Full, Gone, H, M, Null, Pending, Pinned, Plain, Range, Refs, Sccs,
-    Snapped, Taken, Took, Twin, Unset,
+    self, CycleOpen, Empty, Full, Gone, H, M, Null, Pending, Plain, Range, Refs, Sccs, Snapped,
+    Took, Twin,
 };
 use joint_model::{Cycle, HNum, MNum, Phase, PhaseWord, Sort, Span};
 use std::alloc::{AllocError, Global};
@@ -79,49 +79,36 @@ const LINES: [Row; 35] = [
     (C, Call::Finalise(65535), Took(Span { first: 0, count: 0 })),
 ];
 
-// A cell is set once. A read fills the reader's pin, a filled pin answers first, and a `take` empties it.
-const CELLS: [Row; 23] = [
-    (M1, Call::Read(63), Unset),
-    (M1, Call::Weak(63, 0), Empty),
-    (M1, Call::Take(7), Empty),
+// A `take` gives V the object of the pin that is given, if it holds one. No pin may hold what isn't live.
+const TAKES: [Row; 9] = [
+    (M1, Call::Take(7, 0), Empty),
     (M1, Call::New(0, 0), M(MNum(1))),
-    (M1, Call::Weak(63, 0), Reply::Ok),
-    (M1, Call::Weak(63, 1), Empty),
-    (M1, Call::Weak(63, 0), Taken),
-    (M1, Call::Await(63), M(MNum(1))),
-    (M1, Call::Read(63), Pinned(MNum(1))),
-    (M1, Call::Read(0), Pinned(MNum(1))),
-    (M1, Call::Pin, Pinned(MNum(1))),
-    (M2, Call::Pin, Empty),
-    (C, Call::Snap, Snapped(0, Span { first: 0, count: 0 })),
-    (M1, Call::Await(63), Pinned(MNum(1))),
-    (M2, Call::Read(63), Pending(Cycle(1))),
-    (M2, Call::Await(0), Pending(Cycle(1))),
-    (M1, Call::Take(7), M(MNum(1))),
-    (M1, Call::Take(7), Empty),
+    (M1, Call::Take(7, 1), M(MNum(1))),
+    (M2, Call::Take(0, 1), M(MNum(1))),
+    (M1, Call::Take(7, 0), Empty),
+    (M1, Call::Handle(7), Plain),
+    (M2, Call::Handle(0), Plain),
+    (M2, Call::Copy(1, 0), M(MNum(1))),
     (M1, Call::Copy(0, 7), M(MNum(1))),
-    (M1, Call::Read(63), Pending(Cycle(1))),
-    (C, Call::Abandon, Reply::Ok),
-    (M1, Call::Read(63), M(MNum(1))),
-    (M2, Call::Read(63), M(MNum(1))),
 ];
 
-// A snapshot frees what no slot and no pin holds. A cell holds nothing.
-const SNAPSHOTS: [Row; 29] = [
+// A snapshot frees what no slot and no pin holds.
+const SNAPSHOTS: [Row; 25] = [
     (M1, Call::New(0, 1), M(MNum(1))),
-    (M1, Call::Weak(0, 0), Reply::Ok),
     (M1, Call::New(1, 1), M(MNum(2))),
     (M1, Call::New(2, 0), M(MNum(3))),
     (M1, Call::Set(1, 0, 2), Reply::Ok),
     (M1, Call::Store(0, 1), Reply::Ok),
     (M1, Call::New(3, 0), M(MNum(4))),
-    (M1, Call::Weak(1, 3), Reply::Ok),
-    (M1, Call::Read(1), M(MNum(4))),
     (M1, Call::Drop(0), Reply::Ok),
     (M1, Call::Drop(1), Reply::Ok),
     (M1, Call::Drop(2), Reply::Ok),
     (M1, Call::Drop(3), Reply::Ok),
-    (C, Call::Snap, Snapped(0, Span { first: 0, count: 1 })),
+    (
+        C,
+        Call::SnapWith(4),
+        Snapped(0, Span { first: 0, count: 1 }),
+    ),
     (C, Call::Nodes, Refs(0)),
     (C, Call::Live(1), Gone),
     (C, Call::Live(2), Reply::Alive),
@@ -129,14 +116,13 @@ const SNAPSHOTS: [Row; 29] = [
     (C, Call::Live(4), Reply::Alive),
     (C, Call::Live(5), Gone),
     (C, Call::Abandon, Reply::Ok),
-    (M2, Call::Read(0), Gone),
     (M1, Call::Load(0, 0), M(MNum(2))),
     (M1, Call::Unset(0, 0), Reply::Ok),
-    (M1, Call::Take(1), M(MNum(4))),
+    (M1, Call::Take(1, 4), M(MNum(4))),
     (M1, Call::Drop(1), Reply::Ok),
     (C, Call::Snap, Snapped(0, Span { first: 1, count: 2 })),
     (C, Call::Abandon, Reply::Ok),
-    (M1, Call::Read(1), Gone),
+    (C, Call::Live(4), Gone),
 ];
 
 // A snapshot opens the next cycle unless one is open. Each word is refused where it doesn't come next.
@@ -333,8 +319,8 @@ fn lines_are_tested_by_their_checks_in_order(rt: HostRuntime) -> Result<(), Fail
 }
 
 #[test]
-fn cells_are_set_once_and_a_filled_pin_answers_first(rt: HostRuntime) -> Result<(), Fail> {
-    let played = play(rt.alloc(), CELLS.as_slice(), &[], &[])?;
+fn a_take_gives_the_object_of_the_pin(rt: HostRuntime) -> Result<(), Fail> {
+    let played = play(rt.alloc(), TAKES.as_slice(), &[], &[])?;
     assert_eq!(rt; (played.miss, played.lists), (None, true));
     Ok(())
 }
