@@ -11,6 +11,8 @@
 #[cfg(test)]
 mod callers;
 #[cfg(test)]
+mod cells;
+#[cfg(test)]
 mod gates;
 #[cfg(test)]
 mod loose;
