@@ -22,7 +22,7 @@ use Rattle.order_table.specs.Views.{Owns}
 use Rattle.peer_side.specs.Steps.{IsPeerStep, IsStepLine}
 use Rattle.joint_history.specs.Callers.{HoldsPass}
 use Rattle.joint_history.specs.Locked.{PeerKnows, MayMake, IsTurn, doing_of}
-use Rattle.joint_history.specs.Passing.{Lends}
+use Rattle.seat_calls.specs.Passing.{Lends}
 use Rattle.joint_history.proofs.LockedSteps.{lent_joined, own_told, doing_told}
 
 line_allowed : (s : PeerReplay) (t : Thread) (a : Act) (cites : Option ℕ) → IsStepLine a → PeerAllows s t (op.Line a) cites nothing
@@ -54,6 +54,6 @@ step_allowed t s kept line d o cites is e w = absurd is
 pub turn_is_allowed : (t : Thread) (locked mine handed mine1 : View) (side : Side PeerReplay) (index : ℕ) (o : Op) (cites : Option ℕ) → IsPeerStep t o → HoldsPass t mine → Owns locked 1 → PeerKnows locked side → MayMake t mine index o cites → Lends t locked mine handed mine1 → PeerAllows side.state t o cites nothing
 turn_is_allowed t locked mine handed mine1 side index o cites is pass owns ks may l =
     let j = lent_joined t locked mine handed mine1 l ks.known may.stands.known in
-    let state = j.peer_first (ap line_entries (l.whole 1 owns)) ∙ ks.state in
-    subst (λ s. PeerAllows s t o cites nothing) state (step_allowed t (end_of j.joined.past) (known_past_is_kept j.joined.past j.joined.lawful) index may.doing o cites is
-    (doing_told t j.joined.past may.stands.known.past (own_told t locked mine handed mine1 l ks.known may.stands.known pass) ∙ may.stands.doing) may.turn)
+    let state = j.peer_first (l.whole 1 owns) ∙ ks.state in
+    subst (λ s. PeerAllows s t o cites nothing) state (step_allowed t (end_of j.joined.known.past) (known_past_is_kept j.joined.known.past j.joined.known.lawful) index may.doing o cites is
+    (doing_told t j.joined.known.past may.stands.known.known.past (own_told t locked mine handed mine1 l ks.known may.stands.known pass) ∙ may.stands.doing) may.turn)

@@ -40,9 +40,9 @@ use Rattle.joint_history.specs.Collecting.{Collects, DrawsCollect, DrawsRefusal,
 use Rattle.joint_history.specs.Knowing.{line_known, note_of}
 use Rattle.joint_history.specs.Locked.{Drew, MakesNone, PeerKnows, PeerReserves}
 use Rattle.joint_history.specs.Operations.{MakesAll, MayBegin, Runs, entry_by}
-use Rattle.joint_history.specs.Passing.{Appends, Lends, Returns}
+use Rattle.seat_calls.specs.Passing.{Appends, Lends, Returns}
 use Rattle.joint_history.proofs.KnownCallers.{own_line}
-use Rattle.joint_history.proofs.KnownViews.{entries_snoc}
+use Rattle.joint_history.proofs.KnownViews.{entries_snoc, same_view}
 use Rattle.joint_history.proofs.LockedSteps.{entered_by, grows_more, knows_peers_still, last_told, lent_joined, makes_none, own_told, owns_on, stands_same}
 use Rattle.joint_history.proofs.Reserving.{KeepsReserve, KnowsOn, back_on, drew_on, drew_reserves, lent_on, nothing_kept, quiet_kept, reserves_on}
 use Rattle.joint_history.proofs.Running.{above_more, makes_nothing}
@@ -169,7 +169,7 @@ module _ (d : Drawing SeatDrawing) (reads : (a b : SeatDrawing) (e : Entry) (m :
 -- the locked seat knows the side, and the thread's last line isn't above this one
 record KnowsAt (t : Thread) (v : View) (side : Side PeerReplay) (index : ℕ) : Type 0 where
   pub knows : PeerKnows v side
-  pub last : last_line (end_of knows.known.past).control t ≤ index
+  pub last : last_line (end_of knows.known.known.past).control t ≤ index
 
 -- after the caller's lines were handed over
 lent_at : (t : Thread) (locked mine lent mine1 : View) (side : Side PeerReplay) (index : ℕ) → HoldsPass t mine → Owns locked 1 → PeerKnows locked side → MayBegin t mine index → Lends t locked mine lent mine1 → KnowsAt t lent side index
@@ -179,9 +179,9 @@ lent_at t locked mine lent mine1 side index pass owns ks b l =
       knows = record {
         known = j.joined;
         entries = ap line_entries (l.whole 1 owns) ∙ ks.entries;
-        state = j.peer_first (ap line_entries (l.whole 1 owns)) ∙ ks.state;
+        state = j.peer_first (l.whole 1 owns) ∙ ks.state;
       };
-      last = last_told t j.joined.past b.stands.known.past index (own_told t locked mine lent mine1 l ks.known b.stands.known pass) b.stands.last;
+      last = last_told t j.joined.known.past b.stands.known.known.past index (own_told t locked mine lent mine1 l ks.known b.stands.known pass) b.stands.last;
     }
 
 -- after an entry of the thread
@@ -195,17 +195,17 @@ drew_at n order seat seat' old new index number o reply told is short w d =
     let side = goes.lawful.0.side in
     let caller : k.entry.made.caller ≡ P n = ap (λ (z : Entry). z.made.caller) d.entry in
     let e = entered_by (P n) seat.view seat.view seat'.view 1 k told a is caller
-    (record { last = subst (λ (z : Entry). last_line (end_of a.past).control (P n) ≤ z.made.index) (sym d.entry) w.last; allows = ap (λ (z : Entry). z.made.cites) d.entry }) (subst (λ (z : Entry). z.made.index < 2 ^ 32) (sym d.entry) short) grows
+    (record { last = subst (λ (z : Entry). last_line (end_of a.known.past).control (P n) ≤ z.made.index) (sym d.entry) w.last; allows = ap (λ (z : Entry). z.made.cites) d.entry }) (subst (λ (z : Entry). z.made.index < 2 ^ 32) (sym d.entry) short) grows
     (record { one = omega arith; managed = λ z. absurd (omega arith); peer = λ z. side }) d.appends.number (inr (subst (λ s. peer_rules.lawful s k.entry.made told) (sym w.knows.state) goes.lawful)) in
     let known' = e.grown.known in
     record {
       knows = record {
         known = known';
         entries = ap line_entries grows.role ∙ (entries_snoc (known seat.view 1) k ∙ (ap (λ es. es ++ k.entry ∷ []) w.knows.entries ∙ (ap (λ z. old.entries ++ z ∷ []) d.entry ∙ sym d.added)));
-        state = e.grown.peer ∙ (ap (peer_after (end_of a.past).peer k.entry.made told) side ∙ (ap (λ (s : PeerReplay). (peer_answer s k.entry.made.caller k.entry.made.op k.entry.made.cites told).state) w.knows.state ∙ sym goes.state));
+        state = e.grown.peer ∙ (ap (peer_after (end_of a.known.past).peer k.entry.made told) side ∙ (ap (λ (s : PeerReplay). (peer_answer s k.entry.made.caller k.entry.made.op k.entry.made.cites told).state) w.knows.state ∙ sym goes.state));
       };
-      last = subst (λ m. last_line (end_of known'.past).control (P n) ≤ m) (ap (λ (z : Entry). z.made.index) d.entry)
-          (subst (λ h. last_line (end_of h).control (P n) ≤ k.entry.made.index) (sym e.grown.past_is) (let l = last_of_own a.past (note_of k.entry e.grown.told) (P n) caller is in omega arith));
+      last = subst (λ m. last_line (end_of known'.known.past).control (P n) ≤ m) (ap (λ (z : Entry). z.made.index) d.entry)
+          (subst (λ h. last_line (end_of h).control (P n) ≤ k.entry.made.index) (sym e.grown.past_is) (let l = last_of_own a.known.past (note_of k.entry e.grown.told) (P n) caller is in omega arith));
     }
 
 -- what the caller has made so far, and knows
@@ -244,7 +244,7 @@ record BackAt (t : Thread) (locked2 mine2 : View) (side : Side PeerReplay) (inde
 back_at : (n : ℕ) (lent mine1 locked2 mine2 : View) (side : Side PeerReplay) (index : ℕ) → KnowsAt (P n) lent side index → Returns (P n) lent mine1 locked2 mine2 → BackAt (P n) locked2 mine2 side index
 back_at n lent mine1 locked2 mine2 side index w b = record {
   knows = record {
-    known = record { past = w.knows.known.past; lawful = w.knows.known.lawful; same = λ i. ap line_entries (b.stays i) ∙ w.knows.known.same i };
+    known = same_view _ _ w.knows.known (λ i. b.stays i);
     entries = ap line_entries (b.stays 1) ∙ w.knows.entries;
     state = w.knows.state;
   };

@@ -12,6 +12,7 @@ use Rattle.order_table.specs.declared.views.View.{View}
 use Rattle.order_table.specs.Facts.{line_entries}
 use Rattle.order_table.specs.Tells.{IsOfCaller, Parts}
 use Rattle.order_table.specs.Views.{OwnsAll}
+use Rattle.joint_history.proofs.KnownViews.{no_view}
 use Rattle.joint_history.specs.Callers.{CallerKnows, HasReleased, KnowsNothing, Pass}
 use Rattle.joint_history.specs.Desks.{AreAll, ArePlaced, HoldsFrom, WaitsAt, thread_of}
 use Rattle.joint_model.proofs.Deciding.{some-same}
@@ -76,7 +77,7 @@ free_all (suc k) zero = refl
 free_all (suc k) (suc n) = free_all k n
 
 pub nothing_knows : (t : Thread) (v : View) → KnowsNothing v → CallerKnows t v
-nothing_knows t v k = record { known = record { past = []; lawful = tt; same = λ i. ap line_entries (k i) }; released = by t }
+nothing_knows t v k = record { known = no_view v k; released = by t }
   where
     by : (u : Thread) → HasReleased u opening_linkage
     by (M n) = subst IsDone (sym (free_all 9 n)) tt

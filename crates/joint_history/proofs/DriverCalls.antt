@@ -44,9 +44,9 @@ use Rattle.order_table.specs.Views.{OrderId, Shown, known, Owns}
 use Rattle.joint_history.specs.Callers.{HoldsPass}
 use Rattle.joint_history.specs.Driven.{DriverMakesNone, DriverRests, DriverStands, HasContraction, IsStillAt, IsUnmirrored, MakesAbandon, MakesContraction, MakesFinalise, MakesRefusal, MakesResolution, MayAbandonCycle, MayContractCycle, MayFinalise, MayRefuseWord, MayResolveCycle, driver_entry}
 use Rattle.joint_history.specs.DriverDraws.{DrawsAbandon, DrawsContraction, DrawsResolution}
-use Rattle.joint_history.specs.Knowing.{IsKnownView}
+use Rattle.view_laws.specs.Knowing.{IsDrawnView}
 use Rattle.joint_history.specs.Locked.{Drew, ManagedKnows}
-use Rattle.joint_history.specs.Passing.{Lends, Returns}
+use Rattle.seat_calls.specs.Passing.{Lends, Returns}
 use Rattle.joint_history.proofs.DeadParts.{count_same, dead_part_self}
 use Rattle.joint_history.proofs.DriverSteps.{Driven, DrivenUnder, driven, driven_none, driver_joined, driver_still}
 use Rattle.joint_history.proofs.LockedSteps.{grows_more, lent_joined, owns_on}
@@ -64,9 +64,9 @@ under_lock locked mine lent mine1 side index stand seen pass owns ks s l =
     let j = lent_joined C locked mine lent mine1 l ks.known s.known in
     let at = driver_joined locked mine lent mine1 l ks.known pass index stand seen s in
     record {
-      state = end_of j.joined.past;
-      kept = known_past_is_kept j.joined.past j.joined.lawful;
-      managed = j.managed_first (ap line_entries (l.whole 0 owns)) ∙ ks.state;
+      state = end_of j.joined.known.past;
+      kept = known_past_is_kept j.joined.known.past j.joined.known.lawful;
+      managed = j.managed_first (l.whole 0 owns) ∙ ks.state;
       stood = at.come;
       dead = at.dead;
     }
@@ -210,7 +210,7 @@ notices_leave : (mine mine2 : View) (old new : Side ManagedReplay) (index : ℕ)
     → new.state ≡ managed_rules.next old.state (driver_entry n index (op.Line (act.Finalise count)) reply None).made nothing → HasSameDeadPart old.state.managed new.state.managed
 notices_leave mine mine2 old new index stand seen n count reply d goes =
     let kept = subst (λ (r : ManagedReplay). IsReplayKept r) d.before d.makes.kept.kept.managed in
-    let after = subst (λ (r : ManagedReplay). IsReplayKept r) d.after (known_past_is_kept d.known.past d.known.lawful).kept.managed in
+    let after = subst (λ (r : ManagedReplay). IsReplayKept r) d.after (known_past_is_kept d.known.known.past d.known.known.lawful).kept.managed in
     let moved = subst (λ (m : Managed). GoesOn old.state.managed m) (sym (ap (λ (r : ManagedReplay). r.managed) goes)) (managed_line-goes_on old.state.managed (thread_number C) (act.Finalise count) kept.managed.places kept.managed.cells) in
     dead_part-alike old.state.managed new.state.managed kept.managed after.managed
     (alike_meet old.state.managed old.state.managed new.state.managed (alike_self old.state.managed) (alike_on old.state.managed new.state.managed old.state.managed kept.managed moved (alike_self old.state.managed)))
@@ -330,7 +330,7 @@ module _ (locked mine mine1 locked2 mine2 : View) (order : OrderId) (seat seat' 
   finalise_knows n count reply d w = (with_finalise n count reply d w.stand w.seen w.stands w.rests).knows
 
   -- a call that may find no memory: it made its entry, or nothing
-  pub called : {X E : Type 0} (P Q : X → Type 0) (result : Result X E) → IsKnownView mine → ((x : X) → P x → ManagedKnows locked2 new × Q x) → IfOk result P → OnErr result ((seat' ≡ seat) × (new ≡ old)) → Called mine locked2 mine2 new result Q
+  pub called : {X E : Type 0} (P Q : X → Type 0) (result : Result X E) → IsDrawnView mine → ((x : X) → P x → ManagedKnows locked2 new × Q x) → IfOk result P → OnErr result ((seat' ≡ seat) × (new ≡ old)) → Called mine locked2 mine2 new result Q
   called P Q (Ok x) known made d e = record { knows = (made x d).0; ok = (made x d).1; err = tt }
   called P Q (Err x) known made d e =
       let back : Returns C seat.view mine1 locked2 mine2 = subst (λ (s : Shown). Returns C s.view mine1 locked2 mine2) e.0 b in

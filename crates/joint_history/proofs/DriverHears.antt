@@ -12,13 +12,13 @@ use Rattle.order_table.specs.Tells.{TakesIn, BeginsOneHistory}
 use Rattle.order_table.specs.Views.{known}
 use Rattle.joint_history.specs.Callers.{CallerKnows, HoldsPass, KnowsNothing}
 use Rattle.joint_history.specs.Driven.{DriverRests, DriverStands}
-use Rattle.joint_history.specs.Knowing.{IsKnownView}
+use Rattle.view_laws.specs.Knowing.{IsDrawnView}
 use Rattle.joint_history.proofs.DeadParts.{dead_part_self}
 use Rattle.joint_history.proofs.DriverSteps.{driver_in}
 use Rattle.joint_history.proofs.KnownCallers.{own_line}
-use Rattle.joint_history.proofs.KnownViews.{views_join}
+use Rattle.joint_history.proofs.KnownViews.{views_join, same_view, no_view}
 
-pub driver_hears : (mine other new : View) → IsKnownView other → TakesIn mine other new → BeginsOneHistory new → HoldsPass C mine → (index : ℕ) (stand : Stand) (seen : Managed) → DriverStands mine index stand seen → DriverStands new index stand seen
+pub driver_hears : (mine other new : View) → IsDrawnView other → TakesIn mine other new → BeginsOneHistory new → HoldsPass C mine → (index : ℕ) (stand : Stand) (seen : Managed) → DriverStands mine index stand seen → DriverStands new index stand seen
 driver_hears mine other new b takes one pass index stand seen s =
     let j = views_join mine other new s.known b takes one in
     let whole = takes.owned (caller_line C) (pass (caller_line C) (own_line C)) in
@@ -26,7 +26,7 @@ driver_hears mine other new b takes one pass index stand seen s =
 
 -- who knows the same stands so too
 pub driver_same : (v w : View) (index : ℕ) (stand : Stand) (seen : Managed) → ((i : ℕ) → known w i ≡ known v i) → DriverStands v index stand seen → DriverStands w index stand seen
-driver_same v w index stand seen same s = record { known = record { past = s.known.past; lawful = s.known.lawful; same = λ i. ap line_entries (same i) ∙ s.known.same i }; stands = s.stands }
+driver_same v w index stand seen same s = record { known = same_view v w s.known same; stands = s.stands }
 
 -- the driver's caller is that of thread `c`: it holds that thread's pass, and has nothing to release
 driver_is : (t : Thread) → IsDriver t → t ≡ C
@@ -50,7 +50,7 @@ driver_first v k =
     record {
       seen = opening_managed;
       stands = record {
-        known = record { past = []; lawful = tt; same = λ i. ap line_entries (k i) };
+        known = no_view _ (λ i. k i);
         stands = record { last = omega (arith, none); come = refl; dead = dead_part_self opening_managed };
       };
     }

@@ -26,7 +26,7 @@ use Rattle.joint_history.specs.Callers.{CallerKnows, HoldsPass}
 use Rattle.joint_history.specs.Driven.{DriverStands, driver_entry}
 use Rattle.joint_history.specs.DriverMarks.{DrawsSweep, EndsFirst, HasBegunMarking, MakesBegin, MakesMark, MakesSweep, MayBeginMarking, MayEndMarking, MayMarkCycle, after_sweep}
 use Rattle.joint_history.specs.Locked.{Drew, PeerKnows}
-use Rattle.joint_history.specs.Passing.{Lends, Returns}
+use Rattle.seat_calls.specs.Passing.{Lends, Returns}
 use Rattle.joint_history.proofs.DeadParts.{count_same}
 use Rattle.joint_history.proofs.DriverHears.{driver_knows}
 use Rattle.joint_history.proofs.DriverPeerSteps.{DrivenUnderPeers, IsUnderPeers, driven_peers, under_peers}

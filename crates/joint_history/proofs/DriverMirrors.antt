@@ -28,12 +28,13 @@ use Rattle.order_table.specs.declared.views.View.{View}
 use Rattle.order_table.specs.Facts.{line_entries}
 use Rattle.order_table.specs.Views.{OrderId, Shown, known, Owns}
 use Rattle.xref_list.specs.Listing.{IsListing, Listing}
+use Rattle.joint_history.proofs.KnownViews.{same_view}
 use Rattle.joint_history.specs.Callers.{HoldsPass}
 use Rattle.joint_history.specs.Driven.{DriverMakes, DriverMakesNone, DriverStands, driver_entry}
 use Rattle.joint_history.specs.DriverMirrors.{DrawsMirror, IsListedBy, MakesMirror, MayMirrorCycle, numbered_comps}
-use Rattle.joint_history.specs.Knowing.{IsKnownView}
+use Rattle.view_laws.specs.Knowing.{IsDrawnView}
 use Rattle.joint_history.specs.Locked.{PeerKnows, PeerReserves, is_marking_due}
-use Rattle.joint_history.specs.Passing.{Lends, Returns}
+use Rattle.seat_calls.specs.Passing.{Lends, Returns}
 use Rattle.joint_history.proofs.DeadParts.{count_same}
 use Rattle.joint_history.proofs.DriverPeerSteps.{DrivenUnderPeers, IsUnderPeers, driven_peers, driven_peers_none}
 use Rattle.joint_history.proofs.LockedSteps.{grows_more, owns_on}
@@ -123,12 +124,12 @@ module _ (locked mine mine1 locked2 mine2 : View) (order : OrderId) (seat seat' 
   mirror_reserves n refs d w r =
       let v = (with_mirror n refs d w.opened w.comps w.pairs w.seen w.stands w.listed w.same_cycle w.same_snap).driven in
       let mine_known = v.stands.known in
-      let here : IsKnownView locked2 = record { past = mine_known.past; lawful = mine_known.lawful; same = λ i. ap line_entries (b.stays i ∙ sym (b.same i)) ∙ mine_known.same i } in
+      let here : IsDrawnView locked2 = same_view _ _ mine_known (λ i. b.stays i ∙ sym (b.same i)) in
       let entry = driver_entry n index (op.Mirror k) (says.Refs refs) (Some snap) in
       let one = (back_on C locked seat'.view mine1 locked2 mine2 (drew_on C locked mine mine1 order seat seat' old new entry (references_of (carried_to_peers old.state.peers.issued g.nodes (mirror_edges l.comps l.pairs))) lends d.drew) b).one_history in
       let left : new.reserve.left ≡ length (handles_of g.nodes) = ap (λ (x : Reserve). x.left) r in
       let enough : length (candidates_of w.seen) ≤ length (handles_of g.nodes) = few v.makes.state w.seen g l w.comps w.pairs v.makes.kept v.makes.dead w.listed part in
-      let same : length (candidates_of w.seen) ≡ length (candidates_of (end_of mine_known.past).managed.managed) = count_same w.seen (end_of mine_known.past).managed.managed v.stands.stands.dead in
+      let same : length (candidates_of w.seen) ≡ length (candidates_of (end_of mine_known.known.past).managed.managed) = count_same w.seen (end_of mine_known.known.past).managed.managed v.stands.stands.dead in
       record {
         none_waits = ap (λ (x : Reserve). x.waiting) r;
         room = room_by_one locked2 new.state new.reserve.left here one v.after (λ m is. omega (arith, left, enough, same));

@@ -22,11 +22,13 @@ use Rattle.order_table.specs.Facts.{line_entries}
 use Rattle.order_table.specs.Rule.{IsBelow}
 use Rattle.order_table.specs.Tells.{GrowsByEntry}
 use Rattle.order_table.specs.Views.{OrderId, Shown, known, Owns}
+use Rattle.joint_history.proofs.KnownViews.{same_view}
 use Rattle.joint_history.specs.Callers.{HoldsPass}
 use Rattle.joint_history.specs.Driven.{DriverMakes, DriverMakesNone, DriverStands}
-use Rattle.joint_history.specs.Knowing.{note_of, IsKnownView}
+use Rattle.joint_history.specs.Knowing.{note_of}
+use Rattle.view_laws.specs.Knowing.{IsDrawnView}
 use Rattle.joint_history.specs.Locked.{Drew, PeerKnows}
-use Rattle.joint_history.specs.Passing.{Lends, Returns}
+use Rattle.seat_calls.specs.Passing.{Lends, Returns}
 use Rattle.joint_history.proofs.DriverSteps.{driver_joined, stand_of_own}
 use Rattle.joint_history.proofs.KnownCallers.{own_line}
 use Rattle.joint_history.proofs.LockedSteps.{did_peer_by, lent_joined, knows_peers_still, MayNow}
@@ -45,9 +47,9 @@ under_peers locked mine lent mine1 side index stand seen pass owns ks s l =
     let j = lent_joined C locked mine lent mine1 l ks.known s.known in
     let at = driver_joined locked mine lent mine1 l ks.known pass index stand seen s in
     record {
-      state = end_of j.joined.past;
-      kept = known_past_is_kept j.joined.past j.joined.lawful;
-      peer = j.peer_first (ap line_entries (l.whole 1 owns)) ∙ ks.state;
+      state = end_of j.joined.known.past;
+      kept = known_past_is_kept j.joined.known.past j.joined.known.lawful;
+      peer = j.peer_first (l.whole 1 owns) ∙ ks.state;
       stood = at.come;
       dead = at.dead;
     }
@@ -59,7 +61,7 @@ pub record DrivenPeers (mine mine2 : View) (old new : Side PeerReplay) (index : 
   pub told_now : Told
   pub plain : TellsPlainly stand e.made.op told → told_now ≡ told
   pub stands : DriverStands mine2 index (stand_after stand e.number e.made.op e.made.reply told_now) seen
-  pub after : (end_of stands.known.past).peer ≡ new.state
+  pub after : (end_of stands.known.known.past).peer ≡ new.state
 
 pub record DrivenUnderPeers (mine locked2 mine2 : View) (old new : Side PeerReplay) (index : ℕ) (stand : Stand) (seen : Managed) (e : Entry) (told : Told) : Type 0 where
   pub knows : PeerKnows locked2 new
@@ -71,15 +73,15 @@ driven_peers_by : (locked mine lent mine1 lent2 locked2 mine2 : View) (old new :
 driven_peers_by locked mine lent mine1 lent2 locked2 mine2 old new k told index stand seen pass owns caller at_index short ks s allows l g below added goes b =
     let j = lent_joined C locked mine lent mine1 l ks.known s.known in
     let at = driver_joined locked mine lent mine1 l ks.known pass index stand seen s in
-    let past = j.joined.past in
-    let u : IsUnderPeers old.state stand seen = record { state = end_of past; kept = known_past_is_kept past j.joined.lawful; peer = j.peer_first (ap line_entries (l.whole 1 owns)) ∙ ks.state; stood = at.come; dead = at.dead } in
+    let past = j.joined.known.past in
+    let u : IsUnderPeers old.state stand seen = record { state = end_of past; kept = known_past_is_kept past j.joined.known.lawful; peer = j.peer_first (l.whole 1 owns) ∙ ks.state; stood = at.come; dead = at.dead } in
     let may : MayNow C (end_of past) k.entry.made told = record {
       last = subst (λ (i : ℕ). last_line (end_of past).control C ≤ i) (sym at_index) at.last;
       allows = subst (λ (z : Stand). DriverAllows z (end_of past).managed.managed (end_of past).peer.peers.issued k.entry.made.op k.entry.made.reply k.entry.made.cites told) (sym at.come) (allows u);
     } in
     let w = did_peer_by C locked mine lent mine1 lent2 locked2 mine2 old new k told s.known tt pass owns caller (subst (λ (i : ℕ). i < 2 ^ 32) (sym at_index) short) ks l may g below added goes b in
     let grown = w.entered.grown in
-    let managed : (end_of grown.known.past).managed ≡ (end_of past).managed = grown.managed ∙ ap (managed_after (end_of past).managed k.entry.made told) goes.lawful.0.side in
+    let managed : (end_of grown.known.known.past).managed ≡ (end_of past).managed = grown.managed ∙ ap (managed_after (end_of past).managed k.entry.made told) goes.lawful.0.side in
     record {
       knows = w.knows;
       driven = record {
@@ -89,7 +91,7 @@ driven_peers_by locked mine lent mine1 lent2 locked2 mine2 old new k told index 
           above = w.makes.above;
           state = end_of past;
           comes = w.entered.comes;
-          kept = known_past_is_kept past j.joined.lawful;
+          kept = known_past_is_kept past j.joined.known.lawful;
           stood = at.come;
           dead = at.dead;
         };
@@ -97,7 +99,7 @@ driven_peers_by locked mine lent mine1 lent2 locked2 mine2 old new k told index 
         told_now = grown.told;
         plain = λ p. grown.alike (subst (λ (z : Stand). TellsPlainly z k.entry.made.op told) (sym at.come) p);
         stands = record {
-          known = record { past = grown.known.past; lawful = grown.known.lawful; same = λ i. ap line_entries (b.same i) ∙ grown.known.same i };
+          known = same_view _ _ grown.known b.same;
           stands = record {
             last = subst (λ (h : List Noted). last_line (end_of h).control C ≤ index) (sym grown.past_is) (let n = last_of_own past (note_of k.entry grown.told) C caller tt in omega (arith, n, at_index));
             come = ap (λ (h : List Noted). (end_of h).control.stand) grown.past_is
@@ -124,14 +126,14 @@ pub record NotDrivenPeers (mine locked2 mine2 : View) (side : Side PeerReplay) :
   pub knows : PeerKnows locked2 side
   pub makes : DriverMakesNone mine mine2
 
-pub driven_peers_none : (locked mine lent mine1 locked2 mine2 : View) (side : Side PeerReplay) → HoldsPass C mine → Owns locked 1 → PeerKnows locked side → IsKnownView mine → Lends C locked mine lent mine1 → Returns C lent mine1 locked2 mine2 → NotDrivenPeers mine locked2 mine2 side
+pub driven_peers_none : (locked mine lent mine1 locked2 mine2 : View) (side : Side PeerReplay) → HoldsPass C mine → Owns locked 1 → PeerKnows locked side → IsDrawnView mine → Lends C locked mine lent mine1 → Returns C lent mine1 locked2 mine2 → NotDrivenPeers mine locked2 mine2 side
 driven_peers_none locked mine lent mine1 locked2 mine2 side pass owns ks m l b = record {
   knows = knows_peers_still C locked mine lent mine1 locked2 mine2 side owns ks m l b;
   makes = record {
     own = ap line_entries (b.same (caller_line C) ∙ l.own (caller_line C) (own_line C) (pass (caller_line C) (own_line C)));
     more = λ i. subst (IsPrefix (known mine i)) (sym (b.same i)) (l.heard i);
     stands = λ index stand seen s. (let j = (lent_joined C locked mine lent mine1 l ks.known s.known).joined in record {
-      known = record { past = j.past; lawful = j.lawful; same = λ i. ap line_entries (b.same i) ∙ j.same i };
+      known = same_view _ _ j b.same;
       stands = driver_joined locked mine lent mine1 l ks.known pass index stand seen s;
     });
   };

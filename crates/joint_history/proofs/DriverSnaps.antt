@@ -26,7 +26,7 @@ use Rattle.joint_history.specs.Callers.{HoldsPass}
 use Rattle.joint_history.specs.Driven.{DriverMakes, DriverRests, DriverStands, driver_entry}
 use Rattle.joint_history.specs.DriverSnaps.{DrawsSnapshot, MakesSnapshot}
 use Rattle.joint_history.specs.Locked.{Drew, ManagedKnows}
-use Rattle.joint_history.specs.Passing.{Lends, Returns}
+use Rattle.seat_calls.specs.Passing.{Lends, Returns}
 use Rattle.joint_history.proofs.DriverCalls.{Called, IsUnderLock, called, stands_anew}
 use Rattle.joint_history.proofs.DriverSteps.{DrivenUnder, driven}
 use Rattle.joint_history.proofs.LockedSteps.{grows_more, owns_on}
@@ -69,7 +69,7 @@ module _ (locked mine mine1 locked2 mine2 : View) (order : OrderId) (seat seat' 
         count = ap (λ (s : Span). s.count) d.span;
         makes = subst (λ (r : Reply). DriverMakes mine mine2 idle m (driver_entry out.number index (op.Snap out.cycle) r None) (snap_of d.freed d.candidates d.dead)) (sym reply) w.makes;
         seen = new.state.managed;
-        kept = subst (λ (r : ManagedReplay). IsManagedKept r.managed) w.after (known_past_is_kept w.known.past w.known.lawful).kept.managed.managed;
+        kept = subst (λ (r : ManagedReplay). IsManagedKept r.managed) w.after (known_past_is_kept w.known.known.past w.known.known.lawful).kept.managed.managed;
         opened = ap (λ (r : ManagedReplay). r.managed.cycle) d.drew.goes.state ∙ ap (λ (k : ℕ). cycle_of k d.candidates d.dead) (sym d.cycle);
         graph = d.graph;
         stands = stands_anew mine mine2 old new index idle (snapped record { cycle = out.cycle.0; snap = out.number }) m (driver_entry out.number index (op.Snap out.cycle) (snap_reply old.state.managed d.freed d.candidates) None) (snap_of d.freed d.candidates d.dead) w refl;

@@ -25,30 +25,31 @@ use Rattle.order_table.specs.Views.{OrderId, Shown, known, Owns}
 use Rattle.order_table.proofs.Wholes.{tell_lines}
 use Rattle.joint_history.specs.Callers.{HoldsPass}
 use Rattle.joint_history.specs.Driven.{DriverMakes, DriverMakesNone, DriverStands, IsDriverAt}
-use Rattle.joint_history.specs.Knowing.{line_known, note_of, IsKnownView}
+use Rattle.joint_history.specs.Knowing.{line_known, note_of}
+use Rattle.view_laws.specs.Knowing.{IsDrawnView}
 use Rattle.joint_history.specs.Locked.{Drew, ManagedKnows}
-use Rattle.joint_history.specs.Passing.{Lends, Returns}
+use Rattle.seat_calls.specs.Passing.{Lends, Returns}
 use Rattle.joint_history.proofs.DeadParts.{dead_part_on}
 use Rattle.joint_history.proofs.KnownCallers.{own_line}
-use Rattle.joint_history.proofs.KnownViews.{begins_before, view_begins}
+use Rattle.joint_history.proofs.KnownViews.{begins_before, view_begins, same_view}
 use Rattle.joint_history.proofs.LockedSteps.{did_managed_by, lent_joined, own_told, last_told, knows_still, MayNow}
 use Rattle.joint_history.proofs.Standing.{last_of_own}
 
 -- it stands so in whatever more is known of one history, as long as its own line is the same
-pub driver_in : (v w : View) (a : IsKnownView v) (j : IsKnownView w) → BeginsOneHistory w → ((i : ℕ) → IsPrefix (known v i) (known w i)) → line (caller_line C) j.past ≡ line (caller_line C) a.past → known w (caller_line C) ≡ known v (caller_line C) → (index : ℕ) (stand : Stand) (seen : Managed)
-    → IsDriverAt a.past index stand seen → IsDriverAt j.past index stand seen
+pub driver_in : (v w : View) (a : IsDrawnView v) (j : IsDrawnView w) → BeginsOneHistory w → ((i : ℕ) → IsPrefix (known v i) (known w i)) → line (caller_line C) j.known.past ≡ line (caller_line C) a.known.past → known w (caller_line C) ≡ known v (caller_line C) → (index : ℕ) (stand : Stand) (seen : Managed)
+    → IsDriverAt a.known.past index stand seen → IsDriverAt j.known.past index stand seen
 driver_in v w a j o more same whole index stand seen s =
     let begins = view_begins w o in
     record {
-      last = last_told C j.past a.past index same s.last;
-      come = (lines_give_parts j.past a.past).stand same ∙ s.come;
-      dead = dead_part_on seen (end_of a.past).managed.managed (end_of j.past).managed.managed s.dead
+      last = last_told C j.known.past a.known.past index same s.last;
+      come = (lines_give_parts j.known.past a.known.past).stand same ∙ s.come;
+      dead = dead_part_on seen (end_of a.known.past).managed.managed (end_of j.known.past).managed.managed s.dead
           (dead_part_is_frozen (entries_of o.whole) (line_known v) (line_known w) a j (tell_lines o.whole o.numbers).numbered (begins_before (entries_of o.whole) v w more begins) begins (sym (ap line_entries whole)));
     }
 
 -- its own line is whole in what is known together under a lock
-pub driver_joined : (locked mine lent mine1 : View) (l : Lends C locked mine lent mine1) (a : IsKnownView locked) → HoldsPass C mine → (index : ℕ) (stand : Stand) (seen : Managed) (s : DriverStands mine index stand seen)
-    → IsDriverAt (lent_joined C locked mine lent mine1 l a s.known).joined.past index stand seen
+pub driver_joined : (locked mine lent mine1 : View) (l : Lends C locked mine lent mine1) (a : IsDrawnView locked) → HoldsPass C mine → (index : ℕ) (stand : Stand) (seen : Managed) (s : DriverStands mine index stand seen)
+    → IsDriverAt (lent_joined C locked mine lent mine1 l a s.known).joined.known.past index stand seen
 driver_joined locked mine lent mine1 l a pass index stand seen s =
     driver_in mine lent s.known (lent_joined C locked mine lent mine1 l a s.known).joined l.one_history l.heard (own_told C locked mine lent mine1 l a s.known pass) (l.own (caller_line C) (own_line C) (pass (caller_line C) (own_line C))) index stand seen s.stands
 
@@ -61,12 +62,12 @@ stand_of_own h x e = ap (λ (u : Thread). (control_after (end_of h).control u x.
 pub record Driven (mine mine2 : View) (old new : Side ManagedReplay) (index : ℕ) (stand : Stand) (seen : Managed) (e : Entry) (told : Told) : Type 0 where
   pub makes : DriverMakes mine mine2 stand seen e told
   pub before : makes.state.managed ≡ old.state
-  pub known : IsKnownView mine2
-  pub last : last_line (end_of known.past).control C ≤ index
+  pub known : IsDrawnView mine2
+  pub last : last_line (end_of known.known.past).control C ≤ index
   pub told_now : Told
   pub plain : TellsPlainly stand e.made.op told → told_now ≡ told
-  pub come : (end_of known.past).control.stand ≡ stand_after stand e.number e.made.op e.made.reply told_now
-  pub after : (end_of known.past).managed ≡ new.state
+  pub come : (end_of known.known.past).control.stand ≡ stand_after stand e.number e.made.op e.made.reply told_now
+  pub after : (end_of known.known.past).managed ≡ new.state
 
 -- under the managed lock
 pub record DrivenUnder (mine locked2 mine2 : View) (old new : Side ManagedReplay) (index : ℕ) (stand : Stand) (seen : Managed) (e : Entry) (told : Told) : Type 0 where
@@ -79,9 +80,9 @@ driven_by : (locked mine lent mine1 lent2 locked2 mine2 : View) (old new : Side 
 driven_by locked mine lent mine1 lent2 locked2 mine2 old new k told index stand seen pass owns caller at_index short ks s allows l g below added goes b =
     let j = lent_joined C locked mine lent mine1 l ks.known s.known in
     let at = driver_joined locked mine lent mine1 l ks.known pass index stand seen s in
-    let past = j.joined.past in
+    let past = j.joined.known.past in
     let issued = (end_of past).peer.peers.issued in
-    let state : (end_of past).managed ≡ old.state = j.managed_first (ap line_entries (l.whole 0 owns)) ∙ ks.state in
+    let state : (end_of past).managed ≡ old.state = j.managed_first (l.whole 0 owns) ∙ ks.state in
     let may : MayNow C (end_of past) k.entry.made told = record {
       last = subst (λ (i : ℕ). last_line (end_of past).control C ≤ i) (sym at_index) at.last;
       allows = subst (λ (z : Stand). DriverAllows z (end_of past).managed.managed issued k.entry.made.op k.entry.made.reply k.entry.made.cites told) (sym at.come)
@@ -98,12 +99,12 @@ driven_by locked mine lent mine1 lent2 locked2 mine2 old new k told index stand 
           above = w.makes.above;
           state = end_of past;
           comes = w.entered.comes;
-          kept = known_past_is_kept past j.joined.lawful;
+          kept = known_past_is_kept past j.joined.known.lawful;
           stood = at.come;
           dead = at.dead;
         };
         before = state;
-        known = record { past = grown.known.past; lawful = grown.known.lawful; same = λ i. ap line_entries (b.same i) ∙ grown.known.same i };
+        known = same_view _ _ grown.known b.same;
         last = subst (λ (h : List Noted). last_line (end_of h).control C ≤ index) (sym grown.past_is) (let l = last_of_own past (note_of k.entry grown.told) C caller tt in omega (arith, l, at_index));
         told_now = grown.told;
         plain = λ p. grown.alike (subst (λ (z : Stand). TellsPlainly z k.entry.made.op told) (sym at.come) p);
@@ -128,14 +129,14 @@ pub record NotDriven (mine locked2 mine2 : View) (side : Side ManagedReplay) : T
   pub knows : ManagedKnows locked2 side
   pub makes : DriverMakesNone mine mine2
 
-pub driven_none : (locked mine lent mine1 locked2 mine2 : View) (side : Side ManagedReplay) → HoldsPass C mine → Owns locked 0 → ManagedKnows locked side → IsKnownView mine → Lends C locked mine lent mine1 → Returns C lent mine1 locked2 mine2 → NotDriven mine locked2 mine2 side
+pub driven_none : (locked mine lent mine1 locked2 mine2 : View) (side : Side ManagedReplay) → HoldsPass C mine → Owns locked 0 → ManagedKnows locked side → IsDrawnView mine → Lends C locked mine lent mine1 → Returns C lent mine1 locked2 mine2 → NotDriven mine locked2 mine2 side
 driven_none locked mine lent mine1 locked2 mine2 side pass owns ks m l b = record {
   knows = knows_still C locked mine lent mine1 locked2 mine2 side owns ks m l b;
   makes = record {
     own = ap line_entries (b.same (caller_line C) ∙ l.own (caller_line C) (own_line C) (pass (caller_line C) (own_line C)));
     more = λ i. subst (IsPrefix (known mine i)) (sym (b.same i)) (l.heard i);
     stands = λ index stand seen s. (let j = (lent_joined C locked mine lent mine1 l ks.known s.known).joined in record {
-      known = record { past = j.past; lawful = j.lawful; same = λ i. ap line_entries (b.same i) ∙ j.same i };
+      known = same_view _ _ j b.same;
       stands = driver_joined locked mine lent mine1 l ks.known pass index stand seen s;
     });
   };

@@ -23,7 +23,8 @@ use Rattle.order_table.proofs.Wholes.{tell_lines}
 use Rattle.joint_history.specs.Callers.{HoldsPass, Pass, own}
 use Rattle.joint_history.specs.Desks.{Waiting, WaitsAt, flat, present, thread_of}
 use Rattle.joint_history.specs.Ending.{AllAreIn, GathersAll, HasAll, HasOwn, StillWaits, TakesOwn, threads_of}
-use Rattle.joint_history.specs.Knowing.{IsKnownView, line_known}
+use Rattle.joint_history.specs.Knowing.{line_known}
+use Rattle.view_laws.specs.Knowing.{IsDrawnView}
 use Rattle.joint_history.specs.Locked.{ManagedKnows, PeerKnows}
 use Rattle.joint_history.proofs.Desking.{thread_is}
 use Rattle.joint_history.proofs.Gathering.{gathered_first}
@@ -133,7 +134,7 @@ all_in v w u x y l r callers d a b m p k o first then has waits =
 line_small : (t : Thread) → IsThread t → caller_line t < 27
 line_small t is = let s = place_small t is in omega arith
 
-made_is_known : (v : View) → IsKnownView v → (w : AllKnown v.known) (t : Thread) → IsThread t → made_by t (entries_of w.whole) ≡ line_known v (caller_line t)
+made_is_known : (v : View) → IsDrawnView v → (w : AllKnown v.known) (t : Thread) → IsThread t → made_by t (entries_of w.whole) ≡ line_known v (caller_line t)
 made_is_known v a w t is =
     let told = tell_lines w.whole w.numbers in
     let whole = entries_of w.whole in
@@ -141,10 +142,10 @@ made_is_known v a w t is =
     sym (own_line_is_made_by_caller whole (line_known v) a told.numbered (line 0 (omega arith)) (line 1 (omega arith)) t is (line (caller_line t) (line_small t is)))
 
 -- so each caller that was taken in has just its own entries
-pub has_own : (v : View) → IsKnownView v → (w : AllKnown v.known) (entries : List Entry) → entries ≡ entries_of w.whole → (p : Pass) → IsThread p.thread → line_known v (caller_line p.thread) ≡ own p → HasOwn entries p
+pub has_own : (v : View) → IsDrawnView v → (w : AllKnown v.known) (entries : List Entry) → entries ≡ entries_of w.whole → (p : Pass) → IsThread p.thread → line_known v (caller_line p.thread) ≡ own p → HasOwn entries p
 has_own v a w entries e p is known_so = ap (made_by p.thread) e ∙ (made_is_known v a w p.thread is ∙ known_so)
 
-pub all_have_own : (v y : View) → IsKnownView y → (w : AllKnown y.known) (entries : List Entry) → entries ≡ entries_of w.whole → (callers others : List Pass) → TakesOwn v y (callers ++ others) → All (HasOwn entries) callers
+pub all_have_own : (v y : View) → IsDrawnView y → (w : AllKnown y.known) (entries : List Entry) → entries ≡ entries_of w.whole → (callers others : List Pass) → TakesOwn v y (callers ++ others) → All (HasOwn entries) callers
 all_have_own v y a w entries e callers others k =
     All-members (HasOwn entries) callers (λ p c. let m = k.each p (Contains-append_left callers others p c) in has_own y a w entries e p m.0 m.2)
 
@@ -156,5 +157,5 @@ waiting_knows_none v y d callers k waits t is s =
     let m = k.each q.pass (Contains-append_right callers (present d.callers) q.pass q.there) in
     subst (λ u. line_known y (caller_line u) ≡ []) q.thread (m.2 ∙ q.nothing)
 
-pub made_none : (y : View) → IsKnownView y → (w : AllKnown y.known) (entries : List Entry) → entries ≡ entries_of w.whole → (t : Thread) → IsThread t → line_known y (caller_line t) ≡ [] → made_by t entries ≡ []
+pub made_none : (y : View) → IsDrawnView y → (w : AllKnown y.known) (entries : List Entry) → entries ≡ entries_of w.whole → (t : Thread) → IsThread t → line_known y (caller_line t) ≡ [] → made_by t entries ≡ []
 made_none y a w entries e t is n = ap (made_by t) e ∙ (made_is_known y a w t is ∙ n)

@@ -24,7 +24,7 @@ use Rattle.order_table.specs.Views.{Owns}
 use Rattle.managed_side.specs.Steps.{IsFresh, IsManagedStep, IsStepBy}
 use Rattle.joint_history.specs.Callers.{HoldsPass}
 use Rattle.joint_history.specs.Locked.{ManagedKnows, MayMake, IsTurn, doing_of}
-use Rattle.joint_history.specs.Passing.{Lends}
+use Rattle.seat_calls.specs.Passing.{Lends}
 use Rattle.joint_history.proofs.LockedSteps.{lent_joined, own_told, doing_told}
 
 adopt_fresh : (s : Linkage) → IsPastKept s → (t line : ℕ) (d : Doing) (v : Var) (kind : Kind) (k : ℕ) (p : PNum) (h : HNum) (cites : Option ℕ) → doing_at s.control t ≡ d → ThreadAllows d (M t) line (op.Adopt v kind k p h) cites → Contains s.managed.adopted h.0 → ⊥
@@ -63,6 +63,6 @@ step_fresh C s kept line d o cites is e w = absurd w
 pub turn_is_fresh_for : (t : Thread) (locked mine handed mine1 : View) (side : Side ManagedReplay) (index : ℕ) (o : Op) (cites : Option ℕ) → IsManagedStep t o → HoldsPass t mine → Owns locked 0 → ManagedKnows locked side → MayMake t mine index o cites → Lends t locked mine handed mine1 → IsFresh side.state o
 turn_is_fresh_for t locked mine handed mine1 side index o cites is pass owns ks may l =
     let j = lent_joined t locked mine handed mine1 l ks.known may.stands.known in
-    let state = j.managed_first (ap line_entries (l.whole 0 owns)) ∙ ks.state in
-    subst (λ s. IsFresh s o) state (step_fresh t (end_of j.joined.past) (known_past_is_kept j.joined.past j.joined.lawful) index may.doing o cites is
-    (doing_told t j.joined.past may.stands.known.past (own_told t locked mine handed mine1 l ks.known may.stands.known pass) ∙ may.stands.doing) may.turn)
+    let state = j.managed_first (l.whole 0 owns) ∙ ks.state in
+    subst (λ s. IsFresh s o) state (step_fresh t (end_of j.joined.known.past) (known_past_is_kept j.joined.known.past j.joined.known.lawful) index may.doing o cites is
+    (doing_told t j.joined.known.past may.stands.known.known.past (own_told t locked mine handed mine1 l ks.known may.stands.known pass) ∙ may.stands.doing) may.turn)

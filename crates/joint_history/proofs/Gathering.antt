@@ -60,13 +60,13 @@ gather t v w u l r ts g x k o =
       managed_role = (k.owns 0).0 (inl g.managed_role);
       peer_role = (k.owns 1).0 (inl g.peer_role);
       managed_entries = ap line_entries (k.owned 0 g.managed_role) ∙ g.managed_entries;
-      managed = j.managed_first (ap line_entries (k.owned 0 g.managed_role)) ∙ g.managed;
+      managed = j.managed_first (k.owned 0 g.managed_role) ∙ g.managed;
       peer_entries = ap line_entries (k.owned 1 g.peer_role) ∙ g.peer_entries;
-      peer = j.peer_first (ap line_entries (k.owned 1 g.peer_role)) ∙ g.peer;
+      peer = j.peer_first (k.owned 1 g.peer_role) ∙ g.peer;
       passes = λ s c. ⊎_elim (λ h i q. (k.owns i).0 (inl (g.passes s h i q))) (λ e i q. (k.owns i).0 (inr (subst (λ z. HoldsPass z w) e x.pass i q))) (Contains-push_cases ts t s c);
       rests = λ s c. ⊎_elim
-          (λ h. rests_so s j.joined.past g.known.past (j.first (caller_line s) (ap line_entries (k.owned (caller_line s) (g.passes s h (caller_line s) (own_line s))))) (g.rests s h))
-          (λ e. subst (λ z. Rests z (end_of j.joined.past)) e (rests_so t j.joined.past x.known.past (j.second (caller_line t) (ap line_entries (k.taken (caller_line t) (x.pass (caller_line t) (own_line t))))) x.rests))
+          (λ h. rests_so s j.joined.known.past g.known.known.past (j.first (caller_line s) (k.owned (caller_line s) (g.passes s h (caller_line s) (own_line s)))) (g.rests s h))
+          (λ e. subst (λ z. Rests z (end_of j.joined.known.past)) e (rests_so t j.joined.known.past x.known.known.past (j.second (caller_line t) (k.taken (caller_line t) (x.pass (caller_line t) (own_line t)))) x.rests))
           (Contains-push_cases ts t s c);
     }
 
@@ -104,16 +104,16 @@ late_free : (h : List Noted) (t : ℕ) → 9 ≤ t → doing_at (end_of h).contr
 late_free h t l = ap (λ w. elim w as (λ x. Doing) [ None ↦ free | Some d ↦ d ]) (slice_get_past (end_of h).control.doing t (let w = (widths h).doings in omega arith))
 
 -- once all threads' seats are in, nothing has to follow
-all_rest : (v : View) (l : Side ManagedReplay) (r : Side PeerReplay) (ts : List Thread) (g : HasGatheredSeats v l r ts) → ((t : Thread) → IsThread t → Contains ts t) → IsWhole (end_of g.known.past)
+all_rest : (v : View) (l : Side ManagedReplay) (r : Side PeerReplay) (ts : List Thread) (g : HasGatheredSeats v l r ts) → ((t : Thread) → IsThread t → Contains ts t) → IsWhole (end_of g.known.known.past)
 all_rest v l r ts g all = record {
   threads = λ t. ⊎_elim
-      (λ (z : t ≡ 0). subst (λ k. IsDone (doing_at (end_of g.known.past).control k)) (sym z) (subst IsDone (sym (zero_free g.known.past g.known.lawful)) tt))
+      (λ (z : t ≡ 0). subst (λ k. IsDone (doing_at (end_of g.known.known.past).control k)) (sym z) (subst IsDone (sym (zero_free g.known.known.past g.known.known.lawful)) tt))
       (λ (ne : t ≡ 0 → ⊥). ⊎_elim
       (λ (s : t < 9). g.rests (M t) (all (M t) (omega (arith, ne), omega arith)))
-      (λ b. subst IsDone (sym (late_free g.known.past t (omega (arith, b)))) tt)
+      (λ b. subst IsDone (sym (late_free g.known.known.past t (omega (arith, b)))) tt)
       (cases_lt t 9))
       (cases_eq t 0);
-  driver = subst (λ s. IsAtRest s (length (candidates_of (end_of g.known.past).managed.managed))) (sym (g.rests C (all C tt))) tt;
+  driver = subst (λ s. IsAtRest s (length (candidates_of (end_of g.known.known.past).managed.managed))) (sym (g.rests C (all C tt))) tt;
 }
 
 -- and the history of both sides' lists is linked
@@ -128,7 +128,7 @@ all_gathered v l r ts g all w freed_managed freed_peers notices fm fp ns =
     let told = tell_lines w.whole w.numbers in
     let whole = entries_of w.whole in
     let h : Finished = record { entries = whole; freed_managed = freed_managed; freed_peers = freed_peers; notices = notices } in
-    let s = end_of g.known.past in
+    let s = end_of g.known.known.past in
     let ended : HasEnded h s = record {
       whole = all_rest v l r ts g all;
       freed_managed = fm ∙ ap (λ (m : ManagedReplay). m.managed.heap.freed) (sym g.managed);
@@ -144,7 +144,7 @@ all_gathered v l r ts g all w freed_managed freed_peers notices fm fp ns =
     } in
     let left : line_known v 0 ≡ entries_in 0 whole = ap line_entries (w.each 0 (omega arith)) ∙ told.lines 0 in
     let right : line_known v 1 ≡ entries_in 1 whole = ap line_entries (w.each 1 (omega arith)) ∙ told.lines 1 in
-    let lists = known_lists_are_lawful g.known.past g.known.lawful in
+    let lists = known_lists_are_lawful g.known.known.past g.known.known.lawful in
     let rise0 = subst (λ es. Rises (map (λ (e : Entry). e.number) es)) (sym (g.known.same 0) ∙ left) (lists.rise 0) in
     let rise1 = subst (λ es. Rises (map (λ (e : Entry). e.number) es)) (sym (g.known.same 1) ∙ right) (lists.rise 1) in
     let shuffle = subst (λ a. IsShuffle (a ∷ r.entries ∷ []) whole) (sym left ∙ g.managed_entries) (subst (λ b. IsShuffle (entries_in 0 whole ∷ b ∷ []) whole) (sym right ∙ g.peer_entries) (lines_shuffle whole told.numbered rise0 rise1)) in
@@ -200,9 +200,9 @@ gathered_first v w u l r a b m p k o =
       managed_role = (k.owns 0).0 (inl m);
       peer_role = (k.owns 1).0 (inr p);
       managed_entries = ap line_entries (k.owned 0 m) ∙ a.entries;
-      managed = j.managed_first (ap line_entries (k.owned 0 m)) ∙ a.state;
+      managed = j.managed_first (k.owned 0 m) ∙ a.state;
       peer_entries = ap line_entries (k.taken 1 p) ∙ b.entries;
-      peer = j.peer_second (ap line_entries (k.taken 1 p)) ∙ b.state;
+      peer = j.peer_second (k.taken 1 p) ∙ b.state;
       passes = λ t c. absurd (Contains-nil t c);
       rests = λ t c. absurd (Contains-nil t c);
     }

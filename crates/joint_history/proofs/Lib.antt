@@ -1,6 +1,5 @@
 pub mod KnownViews
-pub mod Floors
-pub mod Handing
+pub mod SeatDraws
 pub mod KnownCallers
 pub mod Standing
 pub mod LockedSteps

@@ -1,10 +1,9 @@
 -- One entry under a side's lock: the caller's lines are handed to the locked seat, the side draws by it, and they are handed back.
-use Rattle.std.proofs.Common.{◌≡◌, ◌⊎◌, inl, inr, ⊎_elim, ℕ, ◌<◌, ◌≤◌, ◌^◌, List, [], ◌∷◌, ◌++◌, Option, refl, sym, ap, ◌∙◌, subst, arith}
-use Rattle.std.specs.Prelude.{Result, Ok, Err, IfOk, OnErr}
+use Rattle.std.proofs.Common.{◌≡◌, ◌⊎◌, inl, inr, ⊎_elim, ℕ, ◌+◌, ◌<◌, ◌≤◌, ◌^◌, false, true, List, [], ◌∷◌, ◌++◌, Option, None, refl, sym, ap, ◌∙◌, subst, arith}
+use Rattle.std.specs.Prelude.{if◌then◌else◌, Result, Ok, Err, IfOk, OnErr}
 use mathlib.Core.List.{IsPrefix}
 use base.Growing.{prefix_refl, prefix_trans}
 use Rattle.std.proofs.lemmas.Bool.{cases_eq}
-use Rattle.std.proofs.Common.{false}
 use Rattle.joint_model.specs.declared.names.Thread.{Thread}
 use Rattle.joint_model.specs.declared.names.Thread.TheVariants.{M, P, C}
 use Rattle.joint_model.specs.declared.events.Entry.{Entry}
@@ -12,41 +11,48 @@ use Rattle.joint_model.specs.declared.events.Made.{Made}
 use Rattle.joint_model.specs.declared.events.Op.{Op}
 use Rattle.joint_model.specs.declared.events.Reply.{Reply}
 use Rattle.joint_model.specs.Control.{Doing, CallerAllows, ThreadAllows, last_line}
+use Rattle.joint_model.specs.Draws.{numbered}
 use Rattle.joint_model.specs.HistoryLines.{caller_line}
-use Rattle.joint_model.specs.Lines.{IsThread}
-use Rattle.joint_model.specs.Linked.{Linkage, MayCome, managed_after, peer_after}
-use Rattle.joint_model.specs.ManagedReplay.{ManagedReplay, managed_answer, opening_replay}
+use Rattle.joint_model.specs.Lines.{IsThread, is_peer_event, is_read}
+use Rattle.joint_model.specs.Linked.{Linkage, peer_after}
+use Rattle.joint_model.specs.Managed.{Managed}
+use Rattle.joint_model.specs.ManagedReplay.{ManagedReplay, opening_replay}
 use Rattle.joint_model.specs.PeerReplay.{PeerReplay, peer_answer, opening_peer_replay}
 use Rattle.joint_model.specs.Sides.{Side, SideRules, managed_rules, peer_rules, GoesOn}
-use Rattle.joint_model.specs.Told.{Told, Noted}
-use Rattle.known_laws.specs.Growing.{AreJoined}
+use Rattle.joint_model.specs.Told.{Told, Noted, bare_told, no_pins, pins_told}
+use Rattle.known_laws.specs.Drawn.{drawn, drawn_by}
+use Rattle.known_laws.specs.Known.{Comes, PinsStand, managed_past}
 use Rattle.known_laws.specs.Pasts.{end_of, line}
+use Rattle.known_laws.proofs.Bared.{peer_unpinned, plain_pins, plain_told}
+use Rattle.known_laws.proofs.Coming.{peer_reads_none}
 use Rattle.known_laws.proofs.Growing.{lines_give_parts}
+use Rattle.known_laws.proofs.Pinned.{none_stand}
 use Rattle.known_laws.proofs.Turning.{side_entry_comes}
 use Rattle.order_table.specs.declared.views.KeptEntry.{KeptEntry}
 use Rattle.order_table.specs.declared.views.View.{View}
 use Rattle.order_table.specs.Facts.{line_entries}
+use Rattle.order_table.specs.Rows.{at}
 use Rattle.order_table.specs.Rule.{IsBelow}
 use Rattle.order_table.specs.Tells.{GrowsByEntry, IsOfCaller}
-use Rattle.order_table.specs.Rows.{at}
-use Rattle.order_table.proofs.Lines.{below_begins}
-use Rattle.joint_model.specs.Draws.{numbered}
 use Rattle.order_table.specs.Views.{OrderId, Shown, known, Owns, IsInRole}
-use Rattle.joint_history.specs.Knowing.{line_known, note_of, IsKnownView, KnowsMore}
-use Rattle.joint_history.specs.Callers.{HoldsPass, KnowsNothing}
-use Rattle.joint_history.specs.Locked.{Drew, made_by, ManagedKnows, PeerKnows, Stands, MayMake, IsTurn, Makes, MakesNone, doing_of, doing_from}
-use Rattle.joint_history.specs.Passing.{Lends, Returns}
-use Rattle.joint_history.proofs.KnownViews.{entries_snoc, lines_join, views_grow}
+use Rattle.order_table.proofs.Lines.{below_begins}
+use Rattle.seat_calls.specs.Passing.{Lends, Returns}
+use Rattle.view_laws.specs.Knowing.{DrawsMore, IsDrawnView, of_drawing, pins_of}
+use Rattle.view_laws.proofs.DrawnViews.{drawn_views_grow}
+use Rattle.joint_history.specs.Callers.{HoldsPass, KeepsReads, KnowsNothing, ReadsStay}
+use Rattle.joint_history.specs.Knowing.{line_known, note_of}
+use Rattle.joint_history.specs.Locked.{Drew, StaysSeated, made_by, ManagedKnows, PeerKnows, Stands, MayMake, IsTurn, Makes, MakesNone, doing_of, doing_from}
 use Rattle.joint_history.proofs.KnownCallers.{own_line}
+use Rattle.joint_history.proofs.KnownViews.{JoinedViews, entries_snoc, lines_join, same_view, no_view}
 use Rattle.joint_history.proofs.Standing.{last_of_own, doing_of_own}
 
 -- what is known together after the caller's lines were handed over
-pub lent_joined : (t : Thread) (locked mine lent mine1 : View) → Lends t locked mine lent mine1 → (a : IsKnownView locked) (b : IsKnownView mine) → AreJoined a.past b.past (line_known locked) (line_known mine) (line_known lent)
+pub lent_joined : (t : Thread) (locked mine lent mine1 : View) → Lends t locked mine lent mine1 → (a : IsDrawnView locked) (b : IsDrawnView mine) → JoinedViews locked mine lent a b
 lent_joined t locked mine lent mine1 l a b = lines_join locked mine lent a b l.either l.knew l.heard l.one_history
 
 -- the caller's own line is told as the caller knows it
-pub own_told : (t : Thread) (locked mine lent mine1 : View) (l : Lends t locked mine lent mine1) (a : IsKnownView locked) (b : IsKnownView mine) → HoldsPass t mine → line (caller_line t) (lent_joined t locked mine lent mine1 l a b).joined.past ≡ line (caller_line t) b.past
-own_told t locked mine lent mine1 l a b h = (lent_joined t locked mine lent mine1 l a b).second (caller_line t) (ap line_entries (l.own (caller_line t) (own_line t) (h (caller_line t) (own_line t))))
+pub own_told : (t : Thread) (locked mine lent mine1 : View) (l : Lends t locked mine lent mine1) (a : IsDrawnView locked) (b : IsDrawnView mine) → HoldsPass t mine → line (caller_line t) (lent_joined t locked mine lent mine1 l a b).joined.known.past ≡ line (caller_line t) b.known.past
+own_told t locked mine lent mine1 l a b h = (lent_joined t locked mine lent mine1 l a b).second (caller_line t) (l.own (caller_line t) (own_line t) (h (caller_line t) (own_line t)))
 
 pub doing_told : (t : Thread) (a b : List Noted) → line (caller_line t) a ≡ line (caller_line t) b → doing_of t (end_of a).control ≡ doing_of t (end_of b).control
 doing_told (M n) a b e = (lines_give_parts a b).doing n e
@@ -57,15 +63,15 @@ pub last_told : (t : Thread) (a b : List Noted) (index : ℕ) → line (caller_l
 last_told t a b index e l = subst (λ n. n ≤ index) (sym ((lines_give_parts a b).last t e)) l
 
 -- so the caller stands there as it stood
-pub stands_told : (t : Thread) (v w : View) (a : IsKnownView w) (index : ℕ) (d : Doing) (s : Stands t v index d) → line (caller_line t) a.past ≡ line (caller_line t) s.known.past → Stands t w index d
+pub stands_told : (t : Thread) (v w : View) (a : IsDrawnView w) (index : ℕ) (d : Doing) (s : Stands t v index d) → line (caller_line t) a.known.past ≡ line (caller_line t) s.known.known.past → Stands t w index d
 stands_told t v w a index d s e = record {
   known = a;
-  last = last_told t a.past s.known.past index e s.last;
-  doing = doing_told t a.past s.known.past e ∙ s.doing;
+  last = last_told t a.known.past s.known.known.past index e s.last;
+  doing = doing_told t a.known.past s.known.known.past e ∙ s.doing;
 }
 
 pub stands_same : (t : Thread) (v w : View) (index : ℕ) (d : Doing) → ((i : ℕ) → known w i ≡ known v i) → Stands t v index d → Stands t w index d
-stands_same t v w index d same s = record { known = record { past = s.known.past; lawful = s.known.lawful; same = λ i. ap line_entries (same i) ∙ s.known.same i }; last = s.last; doing = s.doing }
+stands_same t v w index d same s = record { known = same_view v w s.known same; last = s.last; doing = s.doing }
 
 turn_allows : (t : Thread) (s : Linkage) (d : Doing) (index : ℕ) (o : Op) (reply : Reply) (cites : Option ℕ) (told : Told) → doing_of t s.control ≡ d → IsTurn t d index o cites → CallerAllows s.control s.managed.managed s.peer.peers.issued t index o reply cites told
 turn_allows (M n) s d index o reply cites told e w = subst (λ z. ThreadAllows z (M n) index o cites) (sym e) w
@@ -74,40 +80,36 @@ turn_allows C s d index o reply cites told e w = absurd w
 
 -- what the locked seat knows after the entry, and how the caller stands by it
 pub record Entered (t : Thread) (mine lent2 : View) (past : List Noted) (k : KeptEntry) (told : Told) : Type 0 where
-  pub grown : KnowsMore past (note_of k.entry told) lent2
-  pub comes : MayCome (end_of past) (note_of k.entry told)
+  pub grown : DrawsMore past (note_of k.entry told) lent2
+  pub comes : Comes (is_read k.entry.made.op) (end_of past) (note_of k.entry told)
   pub stands : Stands t lent2 k.entry.made.index (doing_from t k.entry)
 
 -- what is asked of a caller's entry: its line isn't below that of the caller's last one, and it is the caller's turn
 pub record MayNow (t : Thread) (s : Linkage) (m : Made) (told : Told) : Type 0 where
   pub last : last_line s.control t ≤ m.index
-  pub allows : CallerAllows s.control s.managed.managed s.peer.peers.issued t m.index m.op m.reply m.cites told
+  pub allows : CallerAllows s.control s.managed.managed s.peer.peers.issued t m.index m.op m.reply m.cites (bare_told told)
 
 -- of a thread it holds at each past that has the thread's line as its seat knows it
-pub thread_may : (t : Thread) (past : List Noted) (mine : View) (m : Made) (told : Told) (w : MayMake t mine m.index m.op m.cites) → line (caller_line t) past ≡ line (caller_line t) w.stands.known.past → MayNow t (end_of past) m told
+pub thread_may : (t : Thread) (past : List Noted) (mine : View) (m : Made) (told : Told) (w : MayMake t mine m.index m.op m.cites) → line (caller_line t) past ≡ line (caller_line t) w.stands.known.known.past → MayNow t (end_of past) m told
 thread_may t past mine m told w same =
-    let doing = doing_told t past w.stands.known.past same ∙ w.stands.doing in
+    let doing = doing_told t past w.stands.known.known.past same ∙ w.stands.doing in
     record {
-      last = last_told t past w.stands.known.past m.index same w.stands.last;
-      allows = turn_allows t (end_of past) w.doing m.index m.op m.reply m.cites told doing w.turn;
+      last = last_told t past w.stands.known.known.past m.index same w.stands.last;
+      allows = turn_allows t (end_of past) w.doing m.index m.op m.reply m.cites (bare_told told) doing w.turn;
     }
 
-pub entered_by : (t : Thread) (mine lent lent2 : View) (r : ℕ) (k : KeptEntry) (told : Told) (j : IsKnownView lent) → IsThread t → k.entry.made.caller ≡ t → MayNow t (end_of j.past) k.entry.made told
-    → k.entry.made.index < 2 ^ 32 → GrowsByEntry lent lent2 r k → IsInRole r k.entry.made → ((i : ℕ) → IsBelow k.entry.number (known lent i))
-    → managed_rules.lawful (end_of j.past).managed k.entry.made told ⊎ peer_rules.lawful (end_of j.past).peer k.entry.made told → Entered t mine lent2 j.past k told
-entered_by t mine lent lent2 r k told j thread caller may short grows role below side =
-    let comes = side_entry_comes (end_of j.past) k.entry.number k.entry.made told
-    (subst (λ u. last_line (end_of j.past).control u ≤ k.entry.made.index) (sym caller) may.last) short
-    (subst (λ u. CallerAllows (end_of j.past).control (end_of j.past).managed.managed (end_of j.past).peer.peers.issued u k.entry.made.index k.entry.made.op k.entry.made.reply k.entry.made.cites told) (sym caller) may.allows)
-    side in
-    let g = views_grow lent lent2 r k j told grows role below comes in
+-- an entry that may come behind what the seat knows, as it is drawn there: the seat knows it then, and so the caller stands
+pub entered : (t : Thread) (mine lent lent2 : View) (r : ℕ) (k : KeptEntry) (told : Told) (j : IsDrawnView lent) → IsThread t → k.entry.made.caller ≡ t → GrowsByEntry lent lent2 r k → IsInRole r k.entry.made → ((i : ℕ) → IsBelow k.entry.number (known lent i))
+    → pins_of k.pins ≡ pins_told told → drawn (end_of j.known.past) (note_of k.entry told) ≡ of_drawing k → Comes (is_read k.entry.made.op) (end_of j.known.past) (note_of k.entry told) → Entered t mine lent2 j.known.past k told
+entered t mine lent lent2 r k told j thread caller grows role below pins draws comes =
+    let g = drawn_views_grow lent lent2 r k j told grows role below pins draws comes in
     record {
       grown = g;
       comes = comes;
       stands = record {
         known = g.known;
-        last = subst (λ h. last_line (end_of h).control t ≤ k.entry.made.index) (sym g.past_is) (let l = last_of_own j.past (note_of k.entry g.told) t caller thread in omega arith);
-        doing = subst (λ h. doing_of t (end_of h).control ≡ doing_from t k.entry) (sym g.past_is) (doing_of_own j.past (note_of k.entry g.told) t caller thread);
+        last = subst (λ h. last_line (end_of h).control t ≤ k.entry.made.index) (sym g.past_is) (let l = last_of_own j.known.past (note_of k.entry g.told) t caller thread in omega arith);
+        doing = subst (λ h. doing_of t (end_of h).control ≡ doing_from t k.entry) (sym g.past_is) (doing_of_own j.known.past (note_of k.entry g.told) t caller thread);
       };
     }
 
@@ -136,8 +138,8 @@ pub more_back : (t : Thread) (locked mine lent mine1 lent2 : View) → Lends t l
 more_back t locked mine lent mine1 lent2 l more i = prefix_trans (known mine1 i) (known lent i) (known lent2 i) (subst (λ x. IsPrefix x (known lent i)) (sym (l.same i)) (l.heard i)) (more i)
 
 -- after the entry and the handing back
-pub makes : (t : Thread) (locked mine lent mine1 lent2 locked2 mine2 : View) (r : ℕ) (k : KeptEntry) (told : Told) (j : IsKnownView lent) → HoldsPass t mine → k.entry.made.caller ≡ t → Lends t locked mine lent mine1 → GrowsByEntry lent lent2 r k → ((i : ℕ) → IsBelow k.entry.number (known lent i))
-    → Entered t mine lent2 j.past k told → Returns t lent2 mine1 locked2 mine2 → Makes t mine mine2 k.entry told
+pub makes : (t : Thread) (locked mine lent mine1 lent2 locked2 mine2 : View) (r : ℕ) (k : KeptEntry) (told : Told) (j : IsDrawnView lent) → HoldsPass t mine → k.entry.made.caller ≡ t → Lends t locked mine lent mine1 → GrowsByEntry lent lent2 r k → ((i : ℕ) → IsBelow k.entry.number (known lent i))
+    → Entered t mine lent2 j.known.past k told → Returns t lent2 mine1 locked2 mine2 → Makes t mine mine2 k.entry
 makes t locked mine lent mine1 lent2 locked2 mine2 r k told j pass caller l g below e b =
     let own : known lent2 (caller_line t) ≡ known lent (caller_line t) ++ k ∷ [] = subst (λ u. known lent2 (caller_line u) ≡ known lent (caller_line u) ++ k ∷ []) caller g.caller in
     record {
@@ -145,9 +147,40 @@ makes t locked mine lent mine1 lent2 locked2 mine2 r k told j pass caller l g be
       more = λ i. subst (IsPrefix (known mine i)) (sym (b.same i)) (prefix_trans (known mine i) (known lent i) (known lent2 i) (l.heard i) (grows_more lent lent2 r k g i));
       above = λ i. below_begins k.entry.number (known mine i) (known lent i) (l.heard i) (below i);
       stands = stands_same t lent2 mine2 k.entry.made.index (doing_from t k.entry) b.same e.stands;
-      state = end_of j.past;
+      state = end_of j.known.past;
+      told = told;
       comes = e.comes;
     }
+
+-- an entry of a side is none of the thread's reader
+pub reads_stay : (t : Thread) (locked mine lent mine1 lent2 locked2 mine2 : View) (r : ℕ) (k : KeptEntry) → IsThread t → r < 2 → HoldsPass t mine → k.entry.made.caller ≡ t → Lends t locked mine lent mine1 → GrowsByEntry lent lent2 r k → Returns t lent2 mine1 locked2 mine2 → ReadsStay t mine mine2
+reads_stay (M n) locked mine lent mine1 lent2 locked2 mine2 r k is small pass caller l g b =
+    let few = is.0 in
+    b.same (1 + n) ∙ (g.others (1 + n) (λ e. omega (arith, e)) (λ e. let f : 1 + n ≡ n + 10 = e ∙ ap caller_line caller in omega arith) ∙ l.own (1 + n) (inr refl) (pass (1 + n) (inr refl)))
+reads_stay (P n) locked mine lent mine1 lent2 locked2 mine2 r k is small pass caller l g b = tt
+reads_stay C locked mine lent mine1 lent2 locked2 mine2 r k is small pass caller l g b = tt
+
+-- nor is none at all
+pub reads_rest : (t : Thread) (locked mine lent mine1 locked2 mine2 : View) → HoldsPass t mine → Lends t locked mine lent mine1 → Returns t lent mine1 locked2 mine2 → ReadsStay t mine mine2
+reads_rest (M n) locked mine lent mine1 locked2 mine2 pass l b = b.same (1 + n) ∙ l.own (1 + n) (inr refl) (pass (1 + n) (inr refl))
+reads_rest (P n) locked mine lent mine1 locked2 mine2 pass l b = tt
+reads_rest C locked mine lent mine1 locked2 mine2 pass l b = tt
+
+-- so a thread goes on keeping its reads
+pub keeps_reads : (t : Thread) (old new : View) (es : List Entry) → ReadsStay t old new → KeepsReads t old es → KeepsReads t new es
+keeps_reads (M n) old new es s k = ap line_entries s ∙ k
+keeps_reads (P n) old new es s k = k
+keeps_reads C old new es s k = k
+
+-- a seat that made no entry gives back what it was lent
+pub returns_seated : (t : Thread) (lent lent2 : Shown) (mine1 locked2 mine2 : View) → StaysSeated lent lent2 → Returns t lent2.view mine1 locked2 mine2 → Returns t lent.view mine1 locked2 mine2
+returns_seated t lent lent2 mine1 locked2 mine2 s b = record {
+  kept = λ i n o. b.kept i n (ap (λ os. at false os i) s.owns ∙ o);
+  lines = λ i g o. b.lines i g (ap (λ os. at false os i) s.owns ∙ o);
+  more = b.more;
+  stays = λ i. b.stays i ∙ ap (λ ks. at [] ks i) s.known;
+  same = λ i. b.same i ∙ ap (λ ks. at [] ks i) s.known;
+}
 
 -- what a locked call promises of both seats: the caller made an entry, or none
 pub record Did (t : Thread) (r : ℕ) (mine locked2 mine2 : View) : Type 0 where
@@ -160,7 +193,7 @@ did t locked mine lent mine1 lent2 locked2 mine2 r is small pass owns l on b = r
   pass = λ i g. b.lines i g (on i (l.lines i g (pass i g)));
 }
 
-pub makes_none : (t : Thread) (locked mine lent mine1 locked2 mine2 : View) → IsKnownView locked → HoldsPass t mine → Lends t locked mine lent mine1 → Returns t lent mine1 locked2 mine2 → MakesNone t mine mine2
+pub makes_none : (t : Thread) (locked mine lent mine1 locked2 mine2 : View) → IsDrawnView locked → HoldsPass t mine → Lends t locked mine lent mine1 → Returns t lent mine1 locked2 mine2 → MakesNone t mine mine2
 makes_none t locked mine lent mine1 locked2 mine2 a pass l b = record {
   own = ap line_entries (b.same (caller_line t) ∙ l.own (caller_line t) (own_line t) (pass (caller_line t) (own_line t)));
   more = λ i. subst (IsPrefix (known mine i)) (sym (b.same i)) (l.heard i);
@@ -168,177 +201,190 @@ makes_none t locked mine lent mine1 locked2 mine2 a pass l b = record {
       (stands_told t mine lent (lent_joined t locked mine lent mine1 l a s.known).joined index d s (own_told t locked mine lent mine1 l a s.known pass));
 }
 
--- under the managed lock
-pub record DidManaged (t : Thread) (mine locked2 mine2 : View) (side : Side ManagedReplay) (e : Entry) (told : Told) : Type 0 where
-  pub knows : ManagedKnows locked2 side
-  pub makes : Makes t mine mine2 e told
-
--- by what is known together after the caller's lines were handed over
+-- under the managed lock, by what is known together after the caller's lines were handed over
 pub record DidManagedBy (t : Thread) (mine lent2 locked2 mine2 : View) (past : List Noted) (side : Side ManagedReplay) (k : KeptEntry) (told : Told) : Type 0 where
   pub entered : Entered t mine lent2 past k told
   pub knows : ManagedKnows locked2 side
-  pub after : (end_of entered.grown.known.past).managed ≡ side.state
-  pub makes : Makes t mine mine2 k.entry told
+  pub after : (end_of entered.grown.known.known.past).managed ≡ side.state
+  pub makes : Makes t mine mine2 k.entry
+  pub reads : ReadsStay t mine mine2
 
-pub did_managed_by : (t : Thread) (locked mine lent mine1 lent2 locked2 mine2 : View) (old new : Side ManagedReplay) (k : KeptEntry) (told : Told) (m : IsKnownView mine) → IsThread t → HoldsPass t mine → Owns locked 0 → k.entry.made.caller ≡ t → k.entry.made.index < 2 ^ 32
-    → (ks : ManagedKnows locked old) (l : Lends t locked mine lent mine1) → MayNow t (end_of (lent_joined t locked mine lent mine1 l ks.known m).joined.past) k.entry.made told → GrowsByEntry lent lent2 0 k → ((i : ℕ) → IsBelow k.entry.number (known lent i))
-    → new.entries ≡ old.entries ++ k.entry ∷ [] → GoesOn managed_rules old.state k.entry.made told new.state → Returns t lent2 mine1 locked2 mine2 → DidManagedBy t mine lent2 locked2 mine2 (lent_joined t locked mine lent mine1 l ks.known m).joined.past new k told
-did_managed_by t locked mine lent mine1 lent2 locked2 mine2 old new k told m is pass owns caller short ks l may g below added goes b =
-    let j = lent_joined t locked mine lent mine1 l ks.known m in
-    let state = j.managed_first (ap line_entries (l.whole 0 owns)) ∙ ks.state in
+-- an entry of the managed side's list, as it is drawn behind a past in which the managed side is as it was
+managed_draws : (s : Linkage) (old : ManagedReplay) (k : KeptEntry) (told : Told) → s.managed ≡ old → is_peer_event k.entry.made.caller k.entry.made.op ≡ false → k.target ≡ managed_rules.target old k.entry.made → k.freed ≡ managed_rules.frees told → drawn s (note_of k.entry told) ≡ of_drawing k
+managed_draws s old k told e side target freed =
+    ap (λ b. if b then drawn_by peer_rules s.peer (note_of k.entry told) else drawn_by managed_rules s.managed (note_of k.entry told)) side
+    ∙ (ap (λ (m : ManagedReplay). drawn_by managed_rules m (note_of k.entry told)) e ∙ (λ i. record { entry = k.entry; target = sym target i; freed = sym freed i }))
+
+peer_draws : (s : Linkage) (k : KeptEntry) (told : Told) → is_peer_event k.entry.made.caller k.entry.made.op ≡ true → k.target ≡ None → k.freed ≡ [] → drawn s (note_of k.entry told) ≡ of_drawing k
+peer_draws s k told side target freed =
+    ap (λ b. if b then drawn_by peer_rules s.peer (note_of k.entry told) else drawn_by managed_rules s.managed (note_of k.entry told)) side
+    ∙ (λ i. record { entry = k.entry; target = sym target i; freed = sym freed i })
+
+-- the caller's entry may come behind what is known together: its line and its turn are the caller's, the rest is the side's promise
+comes_now : (t : Thread) (s : Linkage) (k : KeptEntry) (told : Told) → k.entry.made.caller ≡ t → MayNow t s k.entry.made told → k.entry.made.index < 2 ^ 32 → PinsStand s.managed.managed (pins_told told)
+    → managed_rules.lawful s.managed k.entry.made told ⊎ peer_rules.lawful s.peer k.entry.made told → Comes (is_read k.entry.made.op) s (note_of k.entry told)
+comes_now t s k told caller may short stand side = side_entry_comes s k.entry.number k.entry.made told
+    (subst (λ u. last_line s.control u ≤ k.entry.made.index) (sym caller) may.last) short
+    (subst (λ u. CallerAllows s.control s.managed.managed s.peer.peers.issued u k.entry.made.index k.entry.made.op k.entry.made.reply k.entry.made.cites (bare_told told)) (sym caller) may.allows)
+    stand side
+
+pub did_managed_by : (t : Thread) (locked mine mine1 locked2 mine2 : View) (order : OrderId) (lent lent2 : Shown) (old new : Side ManagedReplay) (e : Entry) (told : Told) (m : IsDrawnView mine) → IsThread t → HoldsPass t mine → Owns locked 0 → e.made.caller ≡ t → e.made.index < 2 ^ 32
+    → (ks : ManagedKnows locked old) (l : Lends t locked mine lent.view mine1) → MayNow t (end_of (lent_joined t locked mine lent.view mine1 l ks.known m).joined.known.past) e.made told → PinsStand old.state.managed (pins_told told)
+    → (d : Drew managed_rules 0 order lent lent2 old new e told) → Returns t lent2.view mine1 locked2 mine2 → DidManagedBy t mine lent2.view locked2 mine2 (lent_joined t locked mine lent.view mine1 l ks.known m).joined.known.past new d.kept told
+did_managed_by t locked mine mine1 locked2 mine2 order lent lent2 old new e told m is pass owns caller' short' ks l may' stand d b =
+    let k = d.kept in
+    let caller = ap (λ (z : Entry). z.made.caller) d.entry ∙ caller' in
+    let j = lent_joined t locked mine lent.view mine1 l ks.known m in
+    let state = j.managed_first (l.whole 0 owns) ∙ ks.state in
+    let goes = subst (λ (z : Entry). GoesOn managed_rules old.state z.made told new.state) (sym d.entry) d.goes in
     let side = goes.lawful.0.side in
-    let e = entered_by t mine lent lent2 0 k told j.joined is caller may short g
-    (record { one = omega arith; managed = λ z. side; peer = λ z. absurd (omega arith) }) below (inl (subst (λ s. managed_rules.lawful s k.entry.made told) (sym state) goes.lawful)) in
-    let after : (end_of e.grown.known.past).managed ≡ new.state = e.grown.managed ∙ (ap (managed_after (end_of j.joined.past).managed k.entry.made told) side ∙ (ap (λ (s : ManagedReplay). (managed_answer s k.entry.made.caller k.entry.made.op told).state) state ∙ sym goes.state)) in
+    let own = goes.lawful.1.own in
+    let w = entered t mine lent.view lent2.view 0 k told j.joined is caller d.appends.grows (record { one = omega arith; managed = λ z. (own, side); peer = λ z. absurd (omega arith); reader = λ z. absurd (omega arith) }) d.appends.number d.pins
+        (managed_draws (end_of j.joined.known.past) old.state k told state side (subst (λ (z : Entry). k.target ≡ managed_rules.target old.state z.made) (sym d.entry) d.target) d.freed)
+        (comes_now t (end_of j.joined.known.past) k told caller (subst (λ (z : Entry). MayNow t (end_of j.joined.known.past) z.made told) (sym d.entry) may') (subst (λ (z : Entry). z.made.index < 2 ^ 32) (sym d.entry) short')
+            (subst (λ (s : ManagedReplay). PinsStand s.managed (pins_told told)) (sym state) stand) (inl (subst (λ s. managed_rules.lawful s k.entry.made told) (sym state) goes.lawful))) in
+    let after : (end_of w.grown.known.known.past).managed ≡ new.state =
+        w.grown.managed ∙ (ap (λ x. managed_past (end_of j.joined.known.past).managed k.entry.made told x (is_read k.entry.made.op)) side ∙ (ap (managed_past (end_of j.joined.known.past).managed k.entry.made told false) own ∙ (ap (λ (s : ManagedReplay). managed_rules.next s k.entry.made told) state ∙ sym goes.state))) in
     record {
-      entered = e;
+      entered = w;
       knows = record {
-        known = record { past = e.grown.known.past; lawful = e.grown.known.lawful; same = λ i. ap line_entries (b.stays i) ∙ e.grown.known.same i };
-        entries = ap line_entries (b.stays 0 ∙ g.role) ∙ (entries_snoc (known lent 0) k ∙ (ap (λ es. es ++ k.entry ∷ []) (ap line_entries (l.whole 0 owns) ∙ ks.entries) ∙ sym added));
+        known = same_view lent2.view locked2 w.grown.known b.stays;
+        entries = ap line_entries (b.stays 0 ∙ d.appends.grows.role) ∙ (entries_snoc (known lent.view 0) k ∙ (ap (λ es. es ++ k.entry ∷ []) (ap line_entries (l.whole 0 owns) ∙ ks.entries) ∙ (ap (λ z. old.entries ++ z ∷ []) d.entry ∙ sym d.added)));
         state = after;
       };
       after = after;
-      makes = makes t locked mine lent mine1 lent2 locked2 mine2 0 k told j.joined pass caller l g below e b;
+      makes = makes t locked mine lent.view mine1 lent2.view locked2 mine2 0 k told j.joined pass caller l d.appends.grows d.appends.number w b;
+      reads = reads_stay t locked mine lent.view mine1 lent2.view locked2 mine2 0 k is (omega arith) pass caller l d.appends.grows b;
     }
 
-pub did_managed : (t : Thread) (locked mine lent mine1 lent2 locked2 mine2 : View) (old new : Side ManagedReplay) (k : KeptEntry) (told : Told) → IsThread t → HoldsPass t mine → Owns locked 0 → k.entry.made.caller ≡ t → k.entry.made.index < 2 ^ 32
-    → ManagedKnows locked old → MayMake t mine k.entry.made.index k.entry.made.op k.entry.made.cites → Lends t locked mine lent mine1 → GrowsByEntry lent lent2 0 k → ((i : ℕ) → IsBelow k.entry.number (known lent i))
-    → new.entries ≡ old.entries ++ k.entry ∷ [] → GoesOn managed_rules old.state k.entry.made told new.state → Returns t lent2 mine1 locked2 mine2 → DidManaged t mine locked2 mine2 new k.entry told
-did_managed t locked mine lent mine1 lent2 locked2 mine2 old new k told is pass owns caller short ks may l g below added goes b =
-    let j = lent_joined t locked mine lent mine1 l ks.known may.stands.known in
-    let now = thread_may t j.joined.past mine k.entry.made told may (own_told t locked mine lent mine1 l ks.known may.stands.known pass) in
-    let w = did_managed_by t locked mine lent mine1 lent2 locked2 mine2 old new k told may.stands.known is pass owns caller short ks l now g below added goes b in
-    record { knows = w.knows; makes = w.makes }
-
-pub knows_still : (t : Thread) (locked mine lent mine1 locked2 mine2 : View) (side : Side ManagedReplay) → Owns locked 0 → ManagedKnows locked side → IsKnownView mine → Lends t locked mine lent mine1 → Returns t lent mine1 locked2 mine2 → ManagedKnows locked2 side
+pub knows_still : (t : Thread) (locked mine lent mine1 locked2 mine2 : View) (side : Side ManagedReplay) → Owns locked 0 → ManagedKnows locked side → IsDrawnView mine → Lends t locked mine lent mine1 → Returns t lent mine1 locked2 mine2 → ManagedKnows locked2 side
 knows_still t locked mine lent mine1 locked2 mine2 side owns ks m l b =
     let j = lent_joined t locked mine lent mine1 l ks.known m in
     record {
-      known = record { past = j.joined.past; lawful = j.joined.lawful; same = λ i. ap line_entries (b.stays i) ∙ j.joined.same i };
+      known = same_view lent locked2 j.joined b.stays;
       entries = ap line_entries (b.stays 0 ∙ l.whole 0 owns) ∙ ks.entries;
-      state = j.managed_first (ap line_entries (l.whole 0 owns)) ∙ ks.state;
+      state = j.managed_first (l.whole 0 owns) ∙ ks.state;
     }
 
--- under the peer lock
-pub record DidPeer (t : Thread) (mine locked2 mine2 : View) (side : Side PeerReplay) (e : Entry) (told : Told) : Type 0 where
-  pub knows : PeerKnows locked2 side
-  pub makes : Makes t mine mine2 e told
-
--- by what is known together after the caller's lines were handed over
+-- under the peer lock, by what is known together after the caller's lines were handed over
 pub record DidPeerBy (t : Thread) (mine lent2 locked2 mine2 : View) (past : List Noted) (side : Side PeerReplay) (k : KeptEntry) (told : Told) : Type 0 where
   pub entered : Entered t mine lent2 past k told
   pub knows : PeerKnows locked2 side
-  pub after : (end_of entered.grown.known.past).peer ≡ side.state
-  pub makes : Makes t mine mine2 k.entry told
+  pub after : (end_of entered.grown.known.known.past).peer ≡ side.state
+  pub makes : Makes t mine mine2 k.entry
+  pub reads : ReadsStay t mine mine2
 
-pub did_peer_by : (t : Thread) (locked mine lent mine1 lent2 locked2 mine2 : View) (old new : Side PeerReplay) (k : KeptEntry) (told : Told) (m : IsKnownView mine) → IsThread t → HoldsPass t mine → Owns locked 1 → k.entry.made.caller ≡ t → k.entry.made.index < 2 ^ 32
-    → (ks : PeerKnows locked old) (l : Lends t locked mine lent mine1) → MayNow t (end_of (lent_joined t locked mine lent mine1 l ks.known m).joined.past) k.entry.made told → GrowsByEntry lent lent2 1 k → ((i : ℕ) → IsBelow k.entry.number (known lent i))
-    → new.entries ≡ old.entries ++ k.entry ∷ [] → GoesOn peer_rules old.state k.entry.made told new.state → Returns t lent2 mine1 locked2 mine2 → DidPeerBy t mine lent2 locked2 mine2 (lent_joined t locked mine lent mine1 l ks.known m).joined.past new k told
-did_peer_by t locked mine lent mine1 lent2 locked2 mine2 old new k told m is pass owns caller short ks l may g below added goes b =
-    let j = lent_joined t locked mine lent mine1 l ks.known m in
-    let state = j.peer_first (ap line_entries (l.whole 1 owns)) ∙ ks.state in
+pub did_peer_by : (t : Thread) (locked mine mine1 locked2 mine2 : View) (order : OrderId) (lent lent2 : Shown) (old new : Side PeerReplay) (e : Entry) (told : Told) (m : IsDrawnView mine) → IsThread t → HoldsPass t mine → Owns locked 1 → e.made.caller ≡ t → e.made.index < 2 ^ 32
+    → (ks : PeerKnows locked old) (l : Lends t locked mine lent.view mine1) → MayNow t (end_of (lent_joined t locked mine lent.view mine1 l ks.known m).joined.known.past) e.made told
+    → (d : Drew peer_rules 1 order lent lent2 old new e told) → Returns t lent2.view mine1 locked2 mine2 → DidPeerBy t mine lent2.view locked2 mine2 (lent_joined t locked mine lent.view mine1 l ks.known m).joined.known.past new d.kept told
+did_peer_by t locked mine mine1 locked2 mine2 order lent lent2 old new e told m is pass owns caller' short' ks l may' d b =
+    let k = d.kept in
+    let caller = ap (λ (z : Entry). z.made.caller) d.entry ∙ caller' in
+    let j = lent_joined t locked mine lent.view mine1 l ks.known m in
+    let state = j.peer_first (l.whole 1 owns) ∙ ks.state in
+    let goes = subst (λ (z : Entry). GoesOn peer_rules old.state z.made told new.state) (sym d.entry) d.goes in
     let side = goes.lawful.0.side in
-    let e = entered_by t mine lent lent2 1 k told j.joined is caller may short g
-    (record { one = omega arith; managed = λ z. absurd (omega arith); peer = λ z. side }) below (inr (subst (λ s. peer_rules.lawful s k.entry.made told) (sym state) goes.lawful)) in
-    let after : (end_of e.grown.known.past).peer ≡ new.state = e.grown.peer ∙ (ap (peer_after (end_of j.joined.past).peer k.entry.made told) side ∙ (ap (λ (s : PeerReplay). (peer_answer s k.entry.made.caller k.entry.made.op k.entry.made.cites told).state) state ∙ sym goes.state)) in
+    let own = (peer_reads_none k.entry.made.caller k.entry.made.op goes.lawful.0.event side).0 in
+    let plain = peer_unpinned old.state k.entry.made told goes.lawful.1 in
+    let w = entered t mine lent.view lent2.view 1 k told j.joined is caller d.appends.grows (record { one = omega arith; managed = λ z. absurd (omega arith); peer = λ z. (own, side); reader = λ z. absurd (omega arith) }) d.appends.number d.pins
+        (peer_draws (end_of j.joined.known.past) k told side d.target d.freed)
+        (comes_now t (end_of j.joined.known.past) k told caller (subst (λ (z : Entry). MayNow t (end_of j.joined.known.past) z.made told) (sym d.entry) may') (subst (λ (z : Entry). z.made.index < 2 ^ 32) (sym d.entry) short')
+            (subst (PinsStand (end_of j.joined.known.past).managed.managed) (sym (plain_pins told plain)) (none_stand (end_of j.joined.known.past).managed.managed)) (inr (subst (λ s. peer_rules.lawful s k.entry.made told) (sym state) goes.lawful))) in
+    let after : (end_of w.grown.known.known.past).peer ≡ new.state =
+        w.grown.peer ∙ (ap (peer_after (end_of j.joined.known.past).peer k.entry.made (bare_told told)) side ∙ ((λ i. (peer_answer (state i) k.entry.made.caller k.entry.made.op k.entry.made.cites (plain_told told plain i)).state) ∙ sym goes.state)) in
     record {
-      entered = e;
+      entered = w;
       knows = record {
-        known = record { past = e.grown.known.past; lawful = e.grown.known.lawful; same = λ i. ap line_entries (b.stays i) ∙ e.grown.known.same i };
-        entries = ap line_entries (b.stays 1 ∙ g.role) ∙ (entries_snoc (known lent 1) k ∙ (ap (λ es. es ++ k.entry ∷ []) (ap line_entries (l.whole 1 owns) ∙ ks.entries) ∙ sym added));
+        known = same_view lent2.view locked2 w.grown.known b.stays;
+        entries = ap line_entries (b.stays 1 ∙ d.appends.grows.role) ∙ (entries_snoc (known lent.view 1) k ∙ (ap (λ es. es ++ k.entry ∷ []) (ap line_entries (l.whole 1 owns) ∙ ks.entries) ∙ (ap (λ z. old.entries ++ z ∷ []) d.entry ∙ sym d.added)));
         state = after;
       };
       after = after;
-      makes = makes t locked mine lent mine1 lent2 locked2 mine2 1 k told j.joined pass caller l g below e b;
+      makes = makes t locked mine lent.view mine1 lent2.view locked2 mine2 1 k told j.joined pass caller l d.appends.grows d.appends.number w b;
+      reads = reads_stay t locked mine lent.view mine1 lent2.view locked2 mine2 1 k is (omega arith) pass caller l d.appends.grows b;
     }
 
-pub did_peer : (t : Thread) (locked mine lent mine1 lent2 locked2 mine2 : View) (old new : Side PeerReplay) (k : KeptEntry) (told : Told) → IsThread t → HoldsPass t mine → Owns locked 1 → k.entry.made.caller ≡ t → k.entry.made.index < 2 ^ 32
-    → PeerKnows locked old → MayMake t mine k.entry.made.index k.entry.made.op k.entry.made.cites → Lends t locked mine lent mine1 → GrowsByEntry lent lent2 1 k → ((i : ℕ) → IsBelow k.entry.number (known lent i))
-    → new.entries ≡ old.entries ++ k.entry ∷ [] → GoesOn peer_rules old.state k.entry.made told new.state → Returns t lent2 mine1 locked2 mine2 → DidPeer t mine locked2 mine2 new k.entry told
-did_peer t locked mine lent mine1 lent2 locked2 mine2 old new k told is pass owns caller short ks may l g below added goes b =
-    let j = lent_joined t locked mine lent mine1 l ks.known may.stands.known in
-    let now = thread_may t j.joined.past mine k.entry.made told may (own_told t locked mine lent mine1 l ks.known may.stands.known pass) in
-    let w = did_peer_by t locked mine lent mine1 lent2 locked2 mine2 old new k told may.stands.known is pass owns caller short ks l now g below added goes b in
-    record { knows = w.knows; makes = w.makes }
-
-pub knows_peers_still : (t : Thread) (locked mine lent mine1 locked2 mine2 : View) (side : Side PeerReplay) → Owns locked 1 → PeerKnows locked side → IsKnownView mine → Lends t locked mine lent mine1 → Returns t lent mine1 locked2 mine2 → PeerKnows locked2 side
+pub knows_peers_still : (t : Thread) (locked mine lent mine1 locked2 mine2 : View) (side : Side PeerReplay) → Owns locked 1 → PeerKnows locked side → IsDrawnView mine → Lends t locked mine lent mine1 → Returns t lent mine1 locked2 mine2 → PeerKnows locked2 side
 knows_peers_still t locked mine lent mine1 locked2 mine2 side owns ks m l b =
     let j = lent_joined t locked mine lent mine1 l ks.known m in
     record {
-      known = record { past = j.joined.past; lawful = j.joined.lawful; same = λ i. ap line_entries (b.stays i) ∙ j.joined.same i };
+      known = same_view lent locked2 j.joined b.stays;
       entries = ap line_entries (b.stays 1 ∙ l.whole 1 owns) ∙ ks.entries;
-      state = j.peer_first (ap line_entries (l.whole 1 owns)) ∙ ks.state;
+      state = j.peer_first (l.whole 1 owns) ∙ ks.state;
     }
 
 -- after a side's call, whether it made an entry or none
 module _ {S E : Type 0} (rules : SideRules S) (r : ℕ) (order : OrderId) (seat seat' : Shown) (old new : Side S) (make : ℕ × Reply → Entry) (told : Told) where
-  pub drew_more : (result : Result (ℕ × Reply) E) → IfOk result (λ x. Drew rules r order seat seat' old new (make x) told) → OnErr result ((seat' ≡ seat) × (new ≡ old)) → (i : ℕ) → IsPrefix (known seat.view i) (known seat'.view i)
+  pub drew_more : (result : Result (ℕ × Reply) E) → IfOk result (λ x. Drew rules r order seat seat' old new (make x) told) → OnErr result (StaysSeated seat seat' × (new ≡ old)) → (i : ℕ) → IsPrefix (known seat.view i) (known seat'.view i)
   drew_more (Ok x) d e i = grows_more seat.view seat'.view r d.kept d.appends.grows i
-  drew_more (Err x) d e i = subst (λ (s : Shown). IsPrefix (known seat.view i) (known s.view i)) (sym e.0) (prefix_refl (known seat.view i))
+  drew_more (Err x) d e i = subst (IsPrefix (known seat.view i)) (sym (ap (λ ks. at [] ks i) e.0.known)) (prefix_refl (known seat.view i))
 
-  pub drew_owns : (result : Result (ℕ × Reply) E) → IfOk result (λ x. Drew rules r order seat seat' old new (make x) told) → OnErr result ((seat' ≡ seat) × (new ≡ old)) → (i : ℕ) → Owns seat.view i → Owns seat'.view i
+  pub drew_owns : (result : Result (ℕ × Reply) E) → IfOk result (λ x. Drew rules r order seat seat' old new (make x) told) → OnErr result (StaysSeated seat seat' × (new ≡ old)) → (i : ℕ) → Owns seat.view i → Owns seat'.view i
   drew_owns (Ok x) d e i o = owns_on seat.view seat'.view r d.kept d.appends.grows i o
-  drew_owns (Err x) d e i o = subst (λ (s : Shown). Owns s.view i) (sym e.0) o
+  drew_owns (Err x) d e i o = ap (λ os. at false os i) e.0.owns ∙ o
 
-  pub drew_order : (result : Result (ℕ × Reply) E) → IfOk result (λ x. Drew rules r order seat seat' old new (make x) told) → OnErr result ((seat' ≡ seat) × (new ≡ old)) → seat'.order ≡ seat.order
+  pub drew_order : (result : Result (ℕ × Reply) E) → IfOk result (λ x. Drew rules r order seat seat' old new (make x) told) → OnErr result (StaysSeated seat seat' × (new ≡ old)) → seat'.order ≡ seat.order
   drew_order (Ok x) d e = d.appends.same
-  drew_order (Err x) d e = ap (λ (s : Shown). s.order) e.0
+  drew_order (Err x) d e = e.0.order
+
+-- a call that is told no pins asks for none
+pub plain_stand : {E : Type 0} (result : Result (ℕ × Reply) E) (s : Managed) → IfOk result (λ x. PinsStand s no_pins)
+plain_stand (Ok x) s = none_stand s
+plain_stand (Err x) s = tt
 
 -- a call under the managed lock
-pub record CalledManaged {E : Type 0} (t : Thread) (mine locked2 mine2 : View) (side : Side ManagedReplay) (result : Result (ℕ × Reply) E) (make : ℕ × Reply → Entry) (told : Told) : Type 0 where
+pub record CalledManaged {E : Type 0} (t : Thread) (mine locked2 mine2 : View) (side : Side ManagedReplay) (result : Result (ℕ × Reply) E) (make : ℕ × Reply → Entry) : Type 0 where
   pub knows : ManagedKnows locked2 side
-  pub ok : IfOk result (λ x. Makes t mine mine2 (make x) told)
+  pub ok : IfOk result (λ x. Makes t mine mine2 (make x))
+  pub reads : ReadsStay t mine mine2
   pub err : OnErr result (MakesNone t mine mine2)
 
-pub called_managed : {E : Type 0} (t : Thread) (index : ℕ) (o : Op) (cites : Option ℕ) (told : Told) (order : OrderId) (locked mine mine1 locked2 mine2 : View) (seat seat' : Shown) (old new : Side ManagedReplay) (result : Result (ℕ × Reply) E)
-    → IsThread t → HoldsPass t mine → Owns locked 0 → index < 2 ^ 32 → ManagedKnows locked old → MayMake t mine index o cites → Lends t locked mine seat.view mine1
-    → IfOk result (λ x. Drew managed_rules 0 order seat seat' old new (numbered x.0 (made_by t index o x.1 cites)) told) → OnErr result ((seat' ≡ seat) × (new ≡ old)) → Returns t seat'.view mine1 locked2 mine2
-    → CalledManaged t mine locked2 mine2 new result (λ x. numbered x.0 (made_by t index o x.1 cites)) told
-called_managed t index o cites told order locked mine mine1 locked2 mine2 seat seat' old new (Ok x) is pass owns short ks may l d e b =
-    let k = d.kept in
-    let same = d.entry in
-    let w = subst (λ (z : Entry). DidManaged t mine locked2 mine2 new z told) same
-    (did_managed t locked mine seat.view mine1 seat'.view locked2 mine2 old new k told is pass owns (ap (λ (z : Entry). z.made.caller) same) (subst (λ (z : Entry). z.made.index < 2 ^ 32) (sym same) short) ks
-    (subst (λ (z : Entry). MayMake t mine z.made.index z.made.op z.made.cites) (sym same) may) l d.appends.grows d.appends.number
-    (subst (λ (z : Entry). new.entries ≡ old.entries ++ z ∷ []) (sym same) d.added) (subst (λ (z : Entry). GoesOn managed_rules old.state z.made told new.state) (sym same) d.goes) b) in
-    record { knows = w.knows; ok = w.makes; err = tt }
-called_managed t index o cites told order locked mine mine1 locked2 mine2 seat seat' old new (Err x) is pass owns short ks may l d e b =
-    let back : Returns t seat.view mine1 locked2 mine2 = subst (λ (s : Shown). Returns t s.view mine1 locked2 mine2) e.0 b in
+pub called_managed : {E : Type 0} (t : Thread) (index : ℕ) (o : Op) (cites : Option ℕ) (told : ℕ × Reply → Told) (order : OrderId) (locked mine mine1 locked2 mine2 : View) (seat seat' : Shown) (old new : Side ManagedReplay) (result : Result (ℕ × Reply) E)
+    → IsThread t → HoldsPass t mine → Owns locked 0 → index < 2 ^ 32 → ManagedKnows locked old → MayMake t mine index o cites → IfOk result (λ x. PinsStand old.state.managed (pins_told (told x))) → Lends t locked mine seat.view mine1
+    → IfOk result (λ x. Drew managed_rules 0 order seat seat' old new (numbered x.0 (made_by t index o x.1 cites)) (told x)) → OnErr result (StaysSeated seat seat' × (new ≡ old)) → Returns t seat'.view mine1 locked2 mine2
+    → CalledManaged t mine locked2 mine2 new result (λ x. numbered x.0 (made_by t index o x.1 cites))
+called_managed t index o cites told order locked mine mine1 locked2 mine2 seat seat' old new (Ok x) is pass owns short ks may stand l d e b =
+    let j = lent_joined t locked mine seat.view mine1 l ks.known may.stands.known in
+    let now = thread_may t j.joined.known.past mine (made_by t index o x.1 cites) (told x) may (own_told t locked mine seat.view mine1 l ks.known may.stands.known pass) in
+    let w = did_managed_by t locked mine mine1 locked2 mine2 order seat seat' old new (numbered x.0 (made_by t index o x.1 cites)) (told x) may.stands.known is pass owns refl short ks l now stand d b in
+    record { knows = w.knows; ok = subst (Makes t mine mine2) d.entry w.makes; reads = w.reads; err = tt }
+called_managed t index o cites told order locked mine mine1 locked2 mine2 seat seat' old new (Err x) is pass owns short ks may stand l d e b =
+    let back = returns_seated t seat seat' mine1 locked2 mine2 e.0 b in
     record {
       knows = subst (ManagedKnows locked2) (sym e.1) (knows_still t locked mine seat.view mine1 locked2 mine2 old owns ks may.stands.known l back);
       ok = tt;
+      reads = reads_rest t locked mine seat.view mine1 locked2 mine2 pass l back;
       err = makes_none t locked mine seat.view mine1 locked2 mine2 ks.known pass l back;
     }
 
 -- a call under the peer lock
-pub record CalledPeer {E : Type 0} (t : Thread) (mine locked2 mine2 : View) (side : Side PeerReplay) (result : Result (ℕ × Reply) E) (make : ℕ × Reply → Entry) (told : Told) : Type 0 where
+pub record CalledPeer {E : Type 0} (t : Thread) (mine locked2 mine2 : View) (side : Side PeerReplay) (result : Result (ℕ × Reply) E) (make : ℕ × Reply → Entry) : Type 0 where
   pub knows : PeerKnows locked2 side
-  pub ok : IfOk result (λ x. Makes t mine mine2 (make x) told)
+  pub ok : IfOk result (λ x. Makes t mine mine2 (make x))
+  pub reads : ReadsStay t mine mine2
   pub err : OnErr result (MakesNone t mine mine2)
 
 pub called_peer : {E : Type 0} (t : Thread) (index : ℕ) (o : Op) (cites : Option ℕ) (told : Told) (order : OrderId) (locked mine mine1 locked2 mine2 : View) (seat seat' : Shown) (old new : Side PeerReplay) (result : Result (ℕ × Reply) E)
     → IsThread t → HoldsPass t mine → Owns locked 1 → index < 2 ^ 32 → PeerKnows locked old → MayMake t mine index o cites → Lends t locked mine seat.view mine1
-    → IfOk result (λ x. Drew peer_rules 1 order seat seat' old new (numbered x.0 (made_by t index o x.1 cites)) told) → OnErr result ((seat' ≡ seat) × (new ≡ old)) → Returns t seat'.view mine1 locked2 mine2
-    → CalledPeer t mine locked2 mine2 new result (λ x. numbered x.0 (made_by t index o x.1 cites)) told
+    → IfOk result (λ x. Drew peer_rules 1 order seat seat' old new (numbered x.0 (made_by t index o x.1 cites)) told) → OnErr result (StaysSeated seat seat' × (new ≡ old)) → Returns t seat'.view mine1 locked2 mine2
+    → CalledPeer t mine locked2 mine2 new result (λ x. numbered x.0 (made_by t index o x.1 cites))
 called_peer t index o cites told order locked mine mine1 locked2 mine2 seat seat' old new (Ok x) is pass owns short ks may l d e b =
-    let k = d.kept in
-    let same = d.entry in
-    let w = subst (λ (z : Entry). DidPeer t mine locked2 mine2 new z told) same
-    (did_peer t locked mine seat.view mine1 seat'.view locked2 mine2 old new k told is pass owns (ap (λ (z : Entry). z.made.caller) same) (subst (λ (z : Entry). z.made.index < 2 ^ 32) (sym same) short) ks
-    (subst (λ (z : Entry). MayMake t mine z.made.index z.made.op z.made.cites) (sym same) may) l d.appends.grows d.appends.number
-    (subst (λ (z : Entry). new.entries ≡ old.entries ++ z ∷ []) (sym same) d.added) (subst (λ (z : Entry). GoesOn peer_rules old.state z.made told new.state) (sym same) d.goes) b) in
-    record { knows = w.knows; ok = w.makes; err = tt }
+    let j = lent_joined t locked mine seat.view mine1 l ks.known may.stands.known in
+    let now = thread_may t j.joined.known.past mine (made_by t index o x.1 cites) told may (own_told t locked mine seat.view mine1 l ks.known may.stands.known pass) in
+    let w = did_peer_by t locked mine mine1 locked2 mine2 order seat seat' old new (numbered x.0 (made_by t index o x.1 cites)) told may.stands.known is pass owns refl short ks l now d b in
+    record { knows = w.knows; ok = subst (Makes t mine mine2) d.entry w.makes; reads = w.reads; err = tt }
 called_peer t index o cites told order locked mine mine1 locked2 mine2 seat seat' old new (Err x) is pass owns short ks may l d e b =
-    let back : Returns t seat.view mine1 locked2 mine2 = subst (λ (s : Shown). Returns t s.view mine1 locked2 mine2) e.0 b in
+    let back = returns_seated t seat seat' mine1 locked2 mine2 e.0 b in
     record {
       knows = subst (PeerKnows locked2) (sym e.1) (knows_peers_still t locked mine seat.view mine1 locked2 mine2 old owns ks may.stands.known l back);
       ok = tt;
+      reads = reads_rest t locked mine seat.view mine1 locked2 mine2 pass l back;
       err = makes_none t locked mine seat.view mine1 locked2 mine2 ks.known pass l back;
     }
 
 -- a side at its opening, with a seat that knows nothing
 pub opening_managed_knows : (v : View) (s : Side ManagedReplay) → KnowsNothing v → s.entries ≡ [] → s.state ≡ opening_replay → ManagedKnows v s
-opening_managed_knows v s k e o = record { known = record { past = []; lawful = tt; same = λ i. ap line_entries (k i) }; entries = ap line_entries (k 0) ∙ sym e; state = sym o }
+opening_managed_knows v s k e o = record { known = no_view v k; entries = ap line_entries (k 0) ∙ sym e; state = sym o }
 
 pub opening_peer_knows : (v : View) (s : Side PeerReplay) → KnowsNothing v → s.entries ≡ [] → s.state ≡ opening_peer_replay → PeerKnows v s
-opening_peer_knows v s k e o = record { known = record { past = []; lawful = tt; same = λ i. ap line_entries (k i) }; entries = ap line_entries (k 1) ∙ sym e; state = sym o }
+opening_peer_knows v s k e o = record { known = no_view v k; entries = ap line_entries (k 1) ∙ sym e; state = sym o }

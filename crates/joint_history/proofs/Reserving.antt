@@ -44,9 +44,10 @@ use Rattle.order_table.specs.Views.{OrderId, Shown, known, Owns}
 use Rattle.order_table.proofs.Wholes.{tell_lines}
 use Rattle.joint_history.specs.Callers.{HoldsPass, KnowsNothing}
 use Rattle.joint_history.specs.Driven.{DriverStands, driver_entry}
-use Rattle.joint_history.specs.Knowing.{IsKnownView, line_known}
+use Rattle.joint_history.specs.Knowing.{line_known}
+use Rattle.view_laws.specs.Knowing.{IsDrawnView}
 use Rattle.joint_history.specs.Locked.{Drew, HasRoomToWeaken, PeerKnows, PeerReserves, due_after, due_from, is_marking_due, made_by}
-use Rattle.joint_history.specs.Passing.{Lends, Returns}
+use Rattle.seat_calls.specs.Passing.{Lends, Returns}
 use Rattle.joint_history.proofs.DeadParts.{candidate_handle_on}
 use Rattle.joint_history.proofs.DriverSteps.{driver_joined}
 use Rattle.joint_history.proofs.KnownViews.{begins_before, view_begins}
@@ -140,7 +141,7 @@ drew_on t locked mine mine1 order seat seat' old new e told l d = record { more 
 abbrev pub KeepsRoom : PeerReplay → PeerReplay → ℕ → ℕ → Type 0
 KeepsRoom s t left left' = (n : Mirror) → t.mirror ≡ Some n → (m : Mirror) × (s.mirror ≡ Some m) × (m.snap ≡ n.snap) × (length m.weakened + left ≤ length n.weakened + left')
 
-pub room_stays : (v w : View) (a : IsKnownView v) (b : IsKnownView w) (left left' : ℕ) → KnowsOn v w → KeepsRoom (end_of a.past).peer (end_of b.past).peer left left' → HasRoomToWeaken (end_of a.past) left → HasRoomToWeaken (end_of b.past) left'
+pub room_stays : (v w : View) (a : IsDrawnView v) (b : IsDrawnView w) (left left' : ℕ) → KnowsOn v w → KeepsRoom (end_of a.known.past).peer (end_of b.known.past).peer left left' → HasRoomToWeaken (end_of a.known.past) left → HasRoomToWeaken (end_of b.known.past) left'
 room_stays v w a b left left' on keeps room n e =
     let x = keeps n e in
     let whole = entries_of on.one_history.whole in
@@ -160,13 +161,13 @@ pub reserves_on : (v w : View) (old new : PeerModel) → PeerKnows v (seen old) 
 reserves_on v w old new ks on k r = record {
   none_waits = k.waiting ∙ r.none_waits;
   room = λ b e. room_stays v w ks.known b old.reserve.left new.reserve.left on
-      (subst (λ (s : PeerReplay). KeepsRoom s (end_of b.past).peer old.reserve.left new.reserve.left) (sym ks.state) (subst (λ (s : PeerReplay). KeepsRoom old.state s old.reserve.left new.reserve.left) (sym e) k.room))
+      (subst (λ (s : PeerReplay). KeepsRoom s (end_of b.known.past).peer old.reserve.left new.reserve.left) (sym ks.state) (subst (λ (s : PeerReplay). KeepsRoom old.state s old.reserve.left new.reserve.left) (sym e) k.room))
       (r.room ks.known ks.state);
   marking = k.marking r.marking;
 }
 
 -- by one past that is known it holds by all
-pub room_by_one : (v : View) (s : PeerReplay) (left : ℕ) (a : IsKnownView v) → BeginsOneHistory v → (end_of a.past).peer ≡ s → HasRoomToWeaken (end_of a.past) left → (k : IsKnownView v) → (end_of k.past).peer ≡ s → HasRoomToWeaken (end_of k.past) left
+pub room_by_one : (v : View) (s : PeerReplay) (left : ℕ) (a : IsDrawnView v) → BeginsOneHistory v → (end_of a.known.past).peer ≡ s → HasRoomToWeaken (end_of a.known.past) left → (k : IsDrawnView v) → (end_of k.known.past).peer ≡ s → HasRoomToWeaken (end_of k.known.past) left
 room_by_one v s left a o e room k f = room_stays v v a k left left (record { more = λ i. prefix_refl (known v i); one_history = o })
     (λ n g. (n, ap (λ (r : PeerReplay). r.mirror) (e ∙ sym f) ∙ g, refl, (let same : length n.weakened + left ≡ length n.weakened + left = refl in omega (arith, same)))) room
 
@@ -279,8 +280,8 @@ pub marking_is_due : (locked mine lent mine1 : View) (side : PeerModel) (index :
 marking_is_due locked mine lent mine1 side index o count weakened swept m pass owns ks r s l =
     let j = lent_joined C locked mine lent mine1 l ks.known s.known in
     let at = driver_joined locked mine lent mine1 l ks.known pass index (weakening o count weakened swept) m s in
-    let same : side.entries ≡ entries (line 1 j.joined.past) = sym ks.entries ∙ (sym (ap line_entries (l.whole 1 owns)) ∙ j.joined.same 1) in
-    r.marking ∙ (ap is_marking_due same ∙ due_at_end j.joined.past j.joined.lawful (subst IsToMark (sym at.come) tt))
+    let same : side.entries ≡ entries (line 1 j.joined.known.past) = sym ks.entries ∙ (sym (ap line_entries (l.whole 1 owns)) ∙ j.joined.same 1) in
+    r.marking ∙ (ap is_marking_due same ∙ due_at_end j.joined.known.past j.joined.known.lawful (subst IsToMark (sym at.come) tt))
 
 -- before the driver weakens the next candidate's handle there is room for it
 pub weakening_has_room : (locked mine lent mine1 : View) (side : PeerModel) (index : ℕ) (o : OpenSnap) (count h : ℕ) (weakened swept : Bool) (m : Managed) → HoldsPass C mine → Owns locked 1 → PeerKnows locked (seen side) → PeerReserves locked side
@@ -288,10 +289,10 @@ pub weakening_has_room : (locked mine lent mine1 : View) (side : PeerModel) (ind
 weakening_has_room locked mine lent mine1 side index o count h weakened swept m pass owns ks r s cand l =
     let j = lent_joined C locked mine lent mine1 l ks.known s.known in
     let at = driver_joined locked mine lent mine1 l ks.known pass index (weakening o count weakened swept) m s in
-    let past = j.joined.past in
-    let kept = known_past_is_kept past j.joined.lawful in
+    let past = j.joined.known.past in
+    let kept = known_past_is_kept past j.joined.known.lawful in
     let lent_r : PeerReserves lent side = reserves_on locked lent side side ks (lent_on C locked mine lent mine1 l) (nothing_kept side side refl refl) r in
-    let room : HasRoomToWeaken (end_of past) side.reserve.left = lent_r.room j.joined (j.peer_first (ap line_entries (l.whole 1 owns)) ∙ ks.state) in
+    let room : HasRoomToWeaken (end_of past) side.reserve.left = lent_r.room j.joined (j.peer_first (l.whole 1 owns) ∙ ks.state) in
     let w : IsMirrorOf (end_of past).managed (end_of past).peer o count 0 = subst (MirrorFits (end_of past).managed (end_of past).peer) at.come kept.mirror in
     let few = fewer_are_weakened (end_of past) kept o count h weakened swept at.come (candidate_handle_on m (end_of past).managed.managed at.dead kept.kept.managed.managed count h cand) w.mirror w.stands in
     let enough = room w.mirror w.stands in

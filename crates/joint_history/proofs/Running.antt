@@ -126,7 +126,7 @@ first_is_made C a is = absurd is
 
 -- after an entry of a grip the peer has few fields
 grip_is_narrow : (n : ℕ) (old new : View) (k index : ℕ) (x : StaticNo) (p : PNum) (h : HNum) (sort : Sort) (f : ℕ) (cites : Option ℕ) (told : Told) → Makes (M n) old new (numbered k (made_by (M n) index (op.Grip x) (says.Gripped p h sort f) cites)) told → f ≤ 16
-grip_is_narrow n old new k index x p h sort f cites told m = subst GripsFew m.stands.doing (past_grips_few m.stands.known.past m.stands.known.lawful n)
+grip_is_narrow n old new k index x p h sort f cites told m = subst GripsFew m.stands.doing (past_grips_few m.stands.known.known.past m.stands.known.known.lawful n)
 
 -- the second event follows the first, and is one that a side makes
 pub record Follows (t : Thread) (v : View) (index n : ℕ) (o : Op) : Type 0 where
@@ -244,7 +244,7 @@ beginner_knows t v index b = stands_knows t v index b.doing b.stands b.done
 
 pub beginner_is_below : (t : Thread) (v : View) (index : ℕ) → IsThread t → MayBegin t v index → last_index (line_known v (caller_line t)) ≤ index
 beginner_is_below t v index is b =
-    let e = last_line_is b.stands.known.past t is ∙ ap last_index (sym (b.stands.known.same (caller_line t))) in
+    let e = last_line_is b.stands.known.known.past t is ∙ ap last_index (sym (b.stands.known.same (caller_line t))) in
     let l = b.stands.last in
     omega (arith, e, l)
 

@@ -31,7 +31,8 @@ use Rattle.known_laws.proofs.Leaving.{handles_leave_so}
 use Rattle.known_laws.proofs.PastLines.{in-line, line-in}
 use Rattle.known_laws.proofs.Restoring.{resolves_free_cleared}
 use Rattle.order_table.specs.declared.views.View.{View}
-use Rattle.joint_history.specs.Knowing.{IsKnownView, line_known}
+use Rattle.joint_history.specs.Knowing.{line_known}
+use Rattle.view_laws.specs.Knowing.{IsDrawnView}
 use Rattle.joint_history.specs.Locked.{ManagedKnows, PeerKnows}
 use Rattle.joint_history.specs.SeatFacts.{CitesKnown, CitesManaged, CitesPeers, HandlesLeft, ManagedListCites, NoneLeadsToClearedIn, NoneLeadsToFreedIn, PeerListCites, ResolvesFreed, WeakIsWaitingIn}
 
@@ -55,13 +56,13 @@ from_line (y ∷ ns) e c = ⊎_elim
     (λ (v : Contains (entries ns) e). let s = from_line ns e v in record { noted = s.noted; there = inr s.there; is = s.is })
     (Contains-cons_cases y.entry (entries ns) e c)
 
-known_entry : (v : View) (i : ℕ) (a : IsKnownView v) (e : Entry) → Contains (line_known v i) e → StandsIn a.past e
+known_entry : (v : View) (i : ℕ) (a : IsDrawnView v) (e : Entry) → Contains (line_known v i) e → StandsIn a.known.past e
 known_entry v i a e c =
-    let s = from_line (line i a.past) e (subst (λ es. Contains es e) (a.same i) c) in
-    record { noted = s.noted; there = in-line i a.past s.noted s.there; is = s.is }
+    let s = from_line (line i a.known.past) e (subst (λ es. Contains es e) (a.same i) c) in
+    record { noted = s.noted; there = in-line i a.known.past s.noted s.there; is = s.is }
 
-entry_known : (v : View) (i : ℕ) (a : IsKnownView v) (x : Noted) → InPast a.past x → stands_in i x.entry ≡ true → Contains (line_known v i) x.entry
-entry_known v i a x w t = subst (λ es. Contains es x.entry) (sym (a.same i)) (to_line (line i a.past) x (line-in i a.past x w t))
+entry_known : (v : View) (i : ℕ) (a : IsDrawnView v) (x : Noted) → InPast a.known.past x → stands_in i x.entry ≡ true → Contains (line_known v i) x.entry
+entry_known v i a x w t = subst (λ es. Contains es x.entry) (sym (a.same i)) (to_line (line i a.known.past) x (line-in i a.known.past x w t))
 
 -- an event of a side stands in that side's line
 managed_line : (e : Entry) → is_peer_event e.made.caller e.made.op ≡ false → stands_in 0 e ≡ true
@@ -71,7 +72,7 @@ pub peer_line : (e : Entry) → is_peer_event e.made.caller e.made.op ≡ true �
 peer_line e p = ap (λ (b : Bool). (1 == (if b then 1 else 0)) || (1 == caller_line e.made.caller)) p
 
 -- what an entry cites stands in the other side's line
-cited_by : (v : View) (i : ℕ) (a : IsKnownView v) (e : Entry) (b : List Noted) (n : ℕ) (P : Made → Type 0) → ((x : Noted) → InPast b x → InPast a.past x) → ((m : Entry) → P m.made → stands_in i m ≡ true) → HasCited b e.made n P → CitesKnown v i e P
+cited_by : (v : View) (i : ℕ) (a : IsDrawnView v) (e : Entry) (b : List Noted) (n : ℕ) (P : Made → Type 0) → ((x : Noted) → InPast b x → InPast a.known.past x) → ((m : Entry) → P m.made → stands_in i m ≡ true) → HasCited b e.made n P → CitesKnown v i e P
 cited_by v i a e b n P all side c = record {
   cited = c.cited.entry;
   there = entry_known v i a c.cited (all c.cited c.there) (side c.cited.entry c.as_said);
@@ -101,14 +102,14 @@ grip_line index m p h sort f w = peer_line m (ap (λ (o : Op). is_peer_event m.m
 clear_line : (k : ℕ) (m : Entry) → IsClearOf k m.made → stands_in 1 m ≡ true
 clear_line k m w = peer_line m (ap (λ (o : Op). is_peer_event m.made.caller o) w)
 
-peer_cites : (v : View) (a : IsKnownView v) (e : Entry) (b : List Noted) (n : ℕ) → ((x : Noted) → InPast b x → InPast a.past x) → (o : Op) → Cites b e.made n o → CitesManaged v e o
+peer_cites : (v : View) (a : IsDrawnView v) (e : Entry) (b : List Noted) (n : ℕ) → ((x : Noted) → InPast b x → InPast a.known.past x) → (o : Op) → Cites b e.made n o → CitesManaged v e o
 peer_cites v a e b n all (op.Land h x) c = cited_by v 0 a e b n (IsLendOf e.made.index h x) all (λ m w. lend_line e.made.index m h x w) c
 peer_cites v a e b n all (op.Release h) c = cited_by v 0 a e b n (λ m. IsGiveOf e.made.index h m ⊎ IsMeetOf e.made.index h m) all (λ m w. give_line e.made.index m h w) c
 peer_cites v a e b n all (op.Mirror k) c = cited_by v 0 a e b n (IsSnapOf k.0) all (λ m w. snap_line k.0 m w) c
 peer_cites v a e b n all (op.Weaken h) c = cited_by v 0 a e b n (λ m. (k : ℕ) × IsSnapOf k m) all (λ m w. snap_line w.0 m w.1) c
 peer_cites v a e b n all o c = tt
 
-managed_cites : (v : View) (a : IsKnownView v) (e : Entry) (b : List Noted) (n : ℕ) → ((x : Noted) → InPast b x → InPast a.past x) → (o : Op) → Cites b e.made n o → CitesPeers v e o
+managed_cites : (v : View) (a : IsDrawnView v) (e : Entry) (b : List Noted) (n : ℕ) → ((x : Noted) → InPast b x → InPast a.known.past x) → (o : Op) → Cites b e.made n o → CitesPeers v e o
 managed_cites v a e b n all (op.Adopt w kind k p h) c = cited_by v 1 a e b n (IsMakeOf e.made.index p h) all (λ m z. make_line e.made.index m p h z) c
 managed_cites v a e b n all (op.Meet w sort f p h) c = cited_by v 1 a e b n (IsGripOf e.made.index p h sort f) all (λ m z. grip_line e.made.index m p h sort f z) c
 managed_cites v a e b n all (op.Resolve k) c = cited_by v 1 a e b n (IsClearOf k.0) all (λ m z. clear_line k.0 m z) c
@@ -129,19 +130,19 @@ pub peer_list_cites : (v : View) (s : Side PeerReplay) → PeerKnows v s → Pee
 peer_list_cites v s ks e c =
     let a = ks.known in
     let w = known_entry v 1 a e (subst (λ es. Contains es e) (sym ks.entries) c) in
-    let b = behind a.past a.lawful w.noted w.there in
+    let b = behind a.known.past a.known.lawful w.noted w.there in
     subst (λ (z : Entry). CitesManaged v z z.made.op) w.is (peer_cites v a w.noted.entry b.back w.noted.entry.number b.all w.noted.entry.made.op b.cites)
 
 pub managed_list_cites : (v : View) (s : Side ManagedReplay) → ManagedKnows v s → ManagedListCites v s.entries
 managed_list_cites v s ks e c =
     let a = ks.known in
     let w = known_entry v 0 a e (subst (λ es. Contains es e) (sym ks.entries) c) in
-    let b = behind a.past a.lawful w.noted w.there in
+    let b = behind a.known.past a.known.lawful w.noted w.there in
     subst (λ (z : Entry). CitesPeers v z z.made.op) w.is (managed_cites v a w.noted.entry b.back w.noted.entry.number b.all w.noted.entry.made.op b.cites)
 
 -- at the end of the past that is known
-kept_end : (v : View) (a : IsKnownView v) → IsPastKept (end_of a.past)
-kept_end v a = known_past_is_kept a.past a.lawful
+kept_end : (v : View) (a : IsDrawnView v) → IsPastKept (end_of a.known.past)
+kept_end v a = known_past_is_kept a.known.past a.known.lawful
 
 takes_peer : (e : Entry) (h : ℕ) → TakesHandle e.made h → is_peer_event e.made.caller e.made.op ≡ true
 takes_peer e h w = ⊎_elim
@@ -152,17 +153,17 @@ takes_peer e h w = ⊎_elim
 pub handles_left : (v : View) (s : Side PeerReplay) → PeerKnows v s → HandlesLeft s
 handles_left v s ks h held gone =
     let a = ks.known in
-    let w = handles_leave_so a.past a.lawful h (subst (λ (r : PeerReplay). IsHeldOne r h) (sym ks.state) held) (λ row t. gone row (subst (λ (r : PeerReplay). IsTabled r.table h row) ks.state t)) in
+    let w = handles_leave_so a.known.past a.known.lawful h (subst (λ (r : PeerReplay). IsHeldOne r h) (sym ks.state) held) (λ row t. gone row (subst (λ (r : PeerReplay). IsTabled r.table h row) ks.state t)) in
     (w.0.entry, subst (λ es. Contains es w.0.entry) ks.entries (entry_known v 1 a w.0 w.1 (peer_line w.0.entry (takes_peer w.0.entry h w.2))), w.2)
 
 pub weak_waits : (v : View) (s : Side PeerReplay) → PeerKnows v s → WeakIsWaitingIn s.state
-weak_waits v s ks = subst WeakIsWaitingIn ks.state (weak_is_waiting (end_of ks.known.past) (kept_end v ks.known))
+weak_waits v s ks = subst WeakIsWaitingIn ks.state (weak_is_waiting (end_of ks.known.known.past) (kept_end v ks.known))
 
 pub none_to_freed : (v : View) (s : Side PeerReplay) → PeerKnows v s → NoneLeadsToFreedIn s.state
-none_to_freed v s ks = subst NoneLeadsToFreedIn ks.state (none_leads_to_freed (end_of ks.known.past) (kept_end v ks.known))
+none_to_freed v s ks = subst NoneLeadsToFreedIn ks.state (none_leads_to_freed (end_of ks.known.known.past) (kept_end v ks.known))
 
 pub none_to_cleared : (v : View) → NoneLeadsToClearedIn v
-none_to_cleared v a o answers e p q r alive k x y = none_leads_to_cleared (end_of a.past) (kept_end v a) o answers e p q r alive k x y
+none_to_cleared v a o answers e p q r alive k x y = none_leads_to_cleared (end_of a.known.past) (kept_end v a) o answers e p q r alive k x y
 
 pub resolves_freed : (v : View) → ResolvesFreed v
-resolves_freed v a x w = let s = each_stands_behind a.past a.lawful x w in (s, λ k. resolves_free_cleared x s.back s.lawful k)
+resolves_freed v a x w = let s = each_stands_behind a.known.past a.known.lawful x w in (s, λ k. resolves_free_cleared x s.back s.lawful k)

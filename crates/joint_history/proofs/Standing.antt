@@ -10,7 +10,7 @@ use Rattle.joint_model.specs.declared.events.Op.{Op}
 use Rattle.joint_model.specs.declared.events.Reply.{Reply}
 use Rattle.joint_model.specs.Control.{Control, Doing, free, control_after, doing_after, last_line}
 use Rattle.joint_model.specs.Lines.{IsThread}
-use Rattle.joint_model.specs.Told.{Told, Noted}
+use Rattle.joint_model.specs.Told.{Told, Noted, bare_told}
 use Rattle.known_laws.specs.Pasts.{end_of}
 use Rattle.joint_history.specs.Locked.{doing_of, doing_from}
 
@@ -31,7 +31,7 @@ widths_after c C n line o reply told w = record { doings = w.doings; lines = len
 
 pub widths : (h : List Noted) → Widths (end_of h).control
 widths [] = record { doings = refl; lines = refl }
-widths (x ∷ h) = widths_after (end_of h).control x.entry.made.caller x.entry.number x.entry.made.index x.entry.made.op x.entry.made.reply x.told (widths h)
+widths (x ∷ h) = widths_after (end_of h).control x.entry.made.caller x.entry.number x.entry.made.index x.entry.made.op x.entry.made.reply (bare_told x.told) (widths h)
 
 -- the line of its last entry, and what it is in the midst of
 pub last_after : (c : Control) (t : Thread) (n line : ℕ) (o : Op) (reply : Reply) (told : Told) → Widths c → IsThread t → last_line (control_after c t n line o reply told) t ≡ line
@@ -49,13 +49,13 @@ doing_put c C n line o reply told e same w is = refl
 -- after an entry of its own
 pub last_of_own : (h : List Noted) (x : Noted) (t : Thread) → x.entry.made.caller ≡ t → IsThread t → last_line (end_of (x ∷ h)).control t ≡ x.entry.made.index
 last_of_own h x t e is =
-    subst (λ u. last_line (control_after (end_of h).control u x.entry.number x.entry.made.index x.entry.made.op x.entry.made.reply x.told) t ≡ x.entry.made.index) (sym e)
-    (last_after (end_of h).control t x.entry.number x.entry.made.index x.entry.made.op x.entry.made.reply x.told (widths h) is)
+    subst (λ u. last_line (control_after (end_of h).control u x.entry.number x.entry.made.index x.entry.made.op x.entry.made.reply (bare_told x.told)) t ≡ x.entry.made.index) (sym e)
+    (last_after (end_of h).control t x.entry.number x.entry.made.index x.entry.made.op x.entry.made.reply (bare_told x.told) (widths h) is)
 
 pub doing_of_own : (h : List Noted) (x : Noted) (t : Thread) → x.entry.made.caller ≡ t → IsThread t → doing_of t (end_of (x ∷ h)).control ≡ doing_from t x.entry
 doing_of_own h x t e is =
-    subst (λ u. doing_of t (control_after (end_of h).control u x.entry.number x.entry.made.index x.entry.made.op x.entry.made.reply x.told) ≡ doing_from t x.entry) (sym e)
-    (doing_put (end_of h).control t x.entry.number x.entry.made.index x.entry.made.op x.entry.made.reply x.told x.entry (same t) (widths h) is)
+    subst (λ u. doing_of t (control_after (end_of h).control u x.entry.number x.entry.made.index x.entry.made.op x.entry.made.reply (bare_told x.told)) ≡ doing_from t x.entry) (sym e)
+    (doing_put (end_of h).control t x.entry.number x.entry.made.index x.entry.made.op x.entry.made.reply (bare_told x.told) x.entry (same t) (widths h) is)
   where
     same : (u : Thread) → doing_from u x.entry ≡ doing_from u (record { number = x.entry.number; made = record { caller = u; index = x.entry.made.index; op = x.entry.made.op; reply = x.entry.made.reply; cites = None } })
     same (M v) = refl

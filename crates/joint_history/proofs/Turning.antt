@@ -36,13 +36,13 @@ done_by C s r = tt
 -- a caller may begin an operation on a line that isn't below that of its last entry
 pub caller_begins : (t : Thread) (v : View) (index : ℕ) → IsThread t → CallerKnows t v → last_index (line_known v (caller_line t)) ≤ index → MayBegin t v index
 caller_begins t v index is k l = record {
-  doing = doing_of t (end_of k.known.past).control;
+  doing = doing_of t (end_of k.known.known.past).control;
   stands = record {
     known = k.known;
-    last = (let e = last_line_is k.known.past t is ∙ ap last_index (sym (k.known.same (caller_line t))) in omega (arith, e, l));
+    last = (let e = last_line_is k.known.known.past t is ∙ ap last_index (sym (k.known.same (caller_line t))) in omega (arith, e, l));
     doing = refl;
   };
-  done = done_by t (end_of k.known.past) k.released;
+  done = done_by t (end_of k.known.known.past) k.released;
 }
 
 released_by : (t : Thread) (s : Linkage) (d : Doing) → doing_of t s.control ≡ d → IsDone d → HasReleased t s
@@ -52,7 +52,7 @@ released_by C s d e w = tt
 
 -- and it has ended one where it has nothing left to release
 pub stands_knows : (t : Thread) (v : View) (index : ℕ) (d : Doing) → Stands t v index d → IsDone d → CallerKnows t v
-stands_knows t v index d s w = record { known = s.known; released = released_by t (end_of s.known.past) d s.doing w }
+stands_knows t v index d s w = record { known = s.known; released = released_by t (end_of s.known.known.past) d s.doing w }
 
 first_turn : (t : Thread) (d : Doing) (index : ℕ) (o : Op) → IsOwnThread t → IsDone d → OpensOperation o → IsTurn t d index o None
 first_turn (M n) d index o is w f = by o f

@@ -5,6 +5,7 @@ use Rattle.std.proofs.lemmas.List.Elements.{All-contains}
 use Rattle.joint_model.proofs.Members.{Contains-here, Contains-there}
 use Rattle.order_table.specs.declared.views.View.{View}
 use Rattle.order_table.specs.Facts.{line_entries}
+use Rattle.joint_history.proofs.KnownViews.{no_view}
 use Rattle.joint_history.specs.Callers.{Pass}
 use Rattle.joint_history.specs.Desks.{WaitsAt, present}
 use Rattle.joint_history.specs.Ending.{GathersAll, HasIdleDriver, TakesOwn, threads_of}
@@ -31,7 +32,7 @@ next_is_idle all yielded left p e idle = All-contains HasIdleDriver all p idle (
 
 -- who waits knows nothing, so it is idle
 waiting_is_idle : (i : ℕ) (p : Pass) → WaitsAt i (Some p) → HasIdleDriver p
-waiting_is_idle i p w driver = (record { past = []; lawful = tt; same = λ j. ap line_entries (w.1 j) }, refl)
+waiting_is_idle i p w driver = (no_view _ (λ j. w.1 j), refl)
 
 pub next_waiting_is_idle : (all yielded left : List (Option Pass)) (p : Pass) → yielded ++ Some p ∷ left ≡ all → ((i : ℕ) (o : Option Pass) → slice_get all i ≡ Some o → WaitsAt i o) → HasIdleDriver p
 next_waiting_is_idle all yielded left p e waits = waiting_is_idle (length yielded) p (waits (length yielded) (Some p) (subst (λ xs. slice_get xs (length yielded) ≡ Some (Some p)) e (place_within yielded (Some p) left)))

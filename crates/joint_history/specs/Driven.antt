@@ -17,16 +17,18 @@ use Rattle.joint_model.specs.Control.{OpenSnap, Stand, idle, snapped, contracted
 use Rattle.joint_model.specs.Cycles.{IsDeadContraction}
 use Rattle.joint_model.specs.Draws.{numbered}
 use Rattle.joint_model.specs.HistoryLines.{caller_line}
-use Rattle.joint_model.specs.Linked.{Linkage, MayCome}
+use Rattle.joint_model.specs.Linked.{Linkage}
 use Rattle.joint_model.specs.Managed.{Managed, OpenCycle}
 use Rattle.joint_model.specs.ManagedReplay.{IsRefusedIn, refusal_to}
 use Rattle.joint_model.specs.Told.{Told, Noted, Answer, nothing, contraction_of, resolution_of, phase_of}
 use Rattle.known_laws.specs.Driving.{IsPastKept}
+use Rattle.known_laws.specs.Known.{SideMayCome}
 use Rattle.known_laws.specs.Pasts.{HasSameDeadPart, end_of}
 use Rattle.order_table.specs.declared.views.View.{View}
 use Rattle.order_table.specs.Rule.{IsBelow}
 use Rattle.order_table.specs.Views.{known}
-use Rattle.joint_history.specs.Knowing.{line_known, note_of, IsKnownView}
+use Rattle.joint_history.specs.Knowing.{line_known, note_of}
+use Rattle.view_laws.specs.Knowing.{IsDrawnView}
 use Rattle.joint_history.specs.Locked.{made_by}
 
 -- at the end of a past the driver stands so: the line of its last entry isn't above this one, it has come so far, and the open cycle and its dead
@@ -38,8 +40,8 @@ pub record IsDriverAt (past : List Noted) (index : ℕ) (stand : Stand) (seen : 
 
 -- so it is by what a seat knows
 pub record DriverStands (v : View) (index : ℕ) (stand : Stand) (seen : Managed) : Type 0 where
-  pub known : IsKnownView v
-  pub stands : IsDriverAt known.past index stand seen
+  pub known : IsDrawnView v
+  pub stands : IsDriverAt known.known.past index stand seen
 
 -- a seat that knows more has the driver where it stood
 abbrev pub StillStands : View → View → Type 0
@@ -57,7 +59,7 @@ pub record DriverMakes (old new : View) (stand : Stand) (seen : Managed) (e : En
   pub more : (i : ℕ) → IsPrefix (known old i) (known new i)
   pub above : (i : ℕ) → IsBelow e.number (known old i)
   pub state : Linkage
-  pub comes : MayCome state (note_of e told)
+  pub comes : SideMayCome state (note_of e told)
   pub kept : IsPastKept state
   pub stood : state.control.stand ≡ stand
   pub dead : HasSameDeadPart seen state.managed.managed

@@ -1,17 +1,20 @@
 -- The end of a run: all seats are taken into one.
-use Rattle.std.specs.Prelude.{◌≡◌, ◌⊎◌, ℕ, ◌+◌, List, [], ◌++◌, length, map, count_by, is_some, Contains, IsSome, slice_get}
+use Rattle.std.specs.Prelude.{◌≡◌, ◌⊎◌, ℕ, ◌+◌, List, [], ◌++◌, length, map, count_by, is_some, Contains, IsSome, Option, slice_get}
 use Rattle.joint_model.specs.declared.names.Thread.{Thread}
 use Rattle.joint_model.specs.declared.names.Thread.TheVariants.{M, P, C}
 use Rattle.joint_model.specs.declared.events.Entry.{Entry}
 use Rattle.joint_model.specs.Histories.{Finished}
 use Rattle.joint_model.specs.Control.{idle, caller_place, doing_at, IsDone}
 use Rattle.joint_model.specs.HistoryLines.{caller_line}
-use Rattle.joint_model.specs.Linked.{Linkage, IsLinkedBy, HasQueued, opening_linkage, replayed}
+use Rattle.joint_model.specs.Linked.{Linkage}
+use Rattle.joint_model.specs.LinkedHistories.{HasQueued, IsLinkedBy, linked_end}
 use Rattle.joint_model.specs.ManagedReplay.{ManagedReplay}
 use Rattle.joint_model.specs.PeerReplay.{PeerReplay}
+use Rattle.joint_model.specs.Readers.{with_pins}
 use Rattle.joint_model.specs.Sides.{Side}
 use Rattle.joint_model.specs.Told.{Noted}
 use Rattle.known_laws.specs.Lists.{made_by}
+use Rattle.known_laws.specs.Known.{pinned}
 use Rattle.known_laws.specs.Pasts.{end_of}
 use Rattle.order_table.specs.declared.views.View.{View}
 use Rattle.order_table.specs.Rule.{AreLinesOfOneHistory}
@@ -20,7 +23,8 @@ use Rattle.joint_model.specs.Lines.{IsDriver, IsThread}
 use Rattle.joint_history.specs.Callers.{HoldsPass, Pass, own}
 use Rattle.joint_history.specs.declared.ends.RunEnd.{RunEnd}
 use Rattle.joint_history.specs.Desks.{Waiting, flat, present}
-use Rattle.joint_history.specs.Knowing.{line_known, IsKnownView}
+use Rattle.joint_history.specs.Knowing.{line_known}
+use Rattle.view_laws.specs.Knowing.{IsDrawnView}
 
 -- the thread has come to rest: it has nothing to release, and the driver is idle
 abbrev pub Rests : Thread → Linkage → Type 0
@@ -30,21 +34,21 @@ Rests C s = s.control.stand ≡ idle
 
 -- a thread's seat, when the thread has come to rest
 pub record AtRest (t : Thread) (v : View) : Type 0 where
-  pub known : IsKnownView v
+  pub known : IsDrawnView v
   pub pass : HoldsPass t v
-  pub rests : Rests t (end_of known.past)
+  pub rests : Rests t (end_of known.known.past)
 
 -- a seat that has taken in the seats of both sides and of these threads, which have come to rest
 pub record HasGatheredSeats (v : View) (l : Side ManagedReplay) (r : Side PeerReplay) (ts : List Thread) : Type 0 where
-  pub known : IsKnownView v
+  pub known : IsDrawnView v
   pub managed_role : Owns v 0
   pub peer_role : Owns v 1
   pub managed_entries : line_known v 0 ≡ l.entries
-  pub managed : (end_of known.past).managed ≡ l.state
+  pub managed : (end_of known.known.past).managed ≡ l.state
   pub peer_entries : line_known v 1 ≡ r.entries
-  pub peer : (end_of known.past).peer ≡ r.state
+  pub peer : (end_of known.known.past).peer ≡ r.state
   pub passes : (t : Thread) → Contains ts t → HoldsPass t v
-  pub rests : (t : Thread) → Contains ts t → Rests t (end_of known.past)
+  pub rests : (t : Thread) → Contains ts t → Rests t (end_of known.known.past)
 
 -- a seat that has taken in the seats of both sides and of all threads
 pub record AllAreIn (v : View) (l : Side ManagedReplay) (r : Side PeerReplay) : Type 0 where
@@ -54,7 +58,7 @@ pub record AllAreIn (v : View) (l : Side ManagedReplay) (r : Side PeerReplay) : 
 
 -- the driver's caller is idle
 abbrev pub HasIdleDriver : Pass → Type 0
-HasIdleDriver p = IsDriver p.thread → (a : IsKnownView p.view) × ((end_of a.past).control.stand ≡ idle)
+HasIdleDriver p = IsDriver p.thread → (a : IsDrawnView p.view) × ((end_of a.known.past).control.stand ≡ idle)
 
 -- whatever was gathered, these threads' seats are now too
 abbrev pub GathersAll : View → View → List Thread → Type 0
@@ -87,18 +91,20 @@ pub record IsFinishedBy (h : Finished) (noted : List Noted) : Type 0 where
   pub linked : IsLinkedBy h noted
   pub queued : HasQueued h noted
 
--- so it is by some notes, after which the state is this one
+-- so it is by some notes, after which the state is this one, but for the pins
 pub record IsFinishedAt (h : Finished) (s : Linkage) : Type 0 where
   pub noted : List Noted
   pub finished : IsFinishedBy h noted
-  pub ends : replayed opening_linkage noted ≡ s
+  pub pins : List (Option ℕ)
+  pub ends : linked_end noted ≡ pinned s pins
 
--- or has these parts
+-- or has these parts, but for the pins
 pub record IsFinishedWith (h : Finished) (l : ManagedReplay) (r : PeerReplay) : Type 0 where
   pub noted : List Noted
   pub finished : IsFinishedBy h noted
-  pub managed : (replayed opening_linkage noted).managed ≡ l
-  pub peer : (replayed opening_linkage noted).peer ≡ r
+  pub pins : List (Option ℕ)
+  pub managed : (linked_end noted).managed ≡ with_pins l pins
+  pub peer : (linked_end noted).peer ≡ r
 
 -- so it is by some notes
 pub record IsFinished (h : Finished) : Type 0 where
@@ -128,4 +134,4 @@ pub record AreNumbersOf (e : RunEnd) (l : ManagedReplay) (r : PeerReplay) : Type
 pub record HasEndNumbers (e : RunEnd) : Type 0 where
   pub noted : List Noted
   pub finished : IsFinishedBy e.history noted
-  pub numbers : AreNumbersOf e (replayed opening_linkage noted).managed (replayed opening_linkage noted).peer
+  pub numbers : AreNumbersOf e (linked_end noted).managed (linked_end noted).peer

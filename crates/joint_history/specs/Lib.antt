@@ -1,5 +1,4 @@
 pub mod Knowing
-pub mod Passing
 pub mod Callers
 pub mod Locked
 pub mod Desks

@@ -1,40 +1,49 @@
 -- What a side's seat knows under its lock, and what a locked call does to the caller's seat.
 use Rattle.std.specs.Prelude.{◌≡◌, ℕ, ◌+◌, ◌≤◌, Bool, true, false, List, [], ◌∷◌, ◌++◌, length, Option, Some, None}
 use mathlib.Core.List.{IsPrefix}
+use Rattle.joint_model.specs.declared.names.MNum.{MNum}
 use Rattle.joint_model.specs.declared.names.Thread.{Thread}
 use Rattle.joint_model.specs.declared.names.Thread.TheVariants.{M, P, C}
+use Rattle.joint_model.specs.declared.names.Var.{Var}
 use Rattle.joint_model.specs.declared.events.Entry.{Entry}
 use Rattle.joint_model.specs.declared.events.Made.{Made}
 use Rattle.joint_model.specs.declared.events.Op.{Op}
 use Rattle.joint_model.specs.declared.events.Op.TheVariants as op
 use Rattle.joint_model.specs.declared.events.Reply.{Reply}
 use Rattle.joint_model.specs.Control.{Control, Doing, candidates_of, free, doing_at, doing_after, last_line, ThreadAllows}
+use Rattle.joint_model.specs.Draws.{numbered}
 use Rattle.joint_model.specs.HistoryLines.{caller_line}
-use Rattle.joint_model.specs.Linked.{Linkage, MayCome}
+use Rattle.joint_model.specs.Lines.{is_read}
+use Rattle.joint_model.specs.Linked.{Linkage}
 use Rattle.joint_model.specs.ManagedReplay.{ManagedReplay}
 use Rattle.joint_model.specs.PeerReplay.{PeerReplay, Mirror}
-use Rattle.joint_model.specs.Sides.{Side, SideRules, GoesOn}
-use Rattle.joint_model.specs.Told.{Told}
+use Rattle.joint_model.specs.Run.{thread_number}
+use Rattle.joint_model.specs.Sides.{Side, SideRules, GoesOn, managed_rules}
+use Rattle.joint_model.specs.Told.{Told, kept_pins, nothing, pins_told}
+use Rattle.known_laws.specs.Known.{Comes, PinsStand}
 use Rattle.known_laws.specs.Pasts.{end_of}
+use Rattle.managed_side.specs.Pinned.{pin_given}
+use Rattle.managed_side.specs.Steps.{take_op}
 use Rattle.peer_side.specs.Sides.{PeerModel}
 use Rattle.order_table.specs.declared.views.KeptEntry.{KeptEntry}
 use Rattle.order_table.specs.declared.views.View.{View}
 use Rattle.order_table.specs.Rule.{IsBelow}
+use Rattle.order_table.specs.Tells.{BeginsOneHistory, GrowsByEntry}
 use Rattle.order_table.specs.Views.{OrderId, Shown, known}
-use Rattle.joint_history.specs.Passing.{Appends}
-use Rattle.joint_history.specs.Knowing.{line_known, note_of, IsKnownView}
+use Rattle.joint_history.specs.Knowing.{line_known, note_of}
+use Rattle.view_laws.specs.Knowing.{IsDrawnView, pins_of}
 
 -- the managed side's seat knows a past: its managed line is the side's list, and at its end the managed side is as this one
 pub record ManagedKnows (v : View) (s : Side ManagedReplay) : Type 0 where
-  pub known : IsKnownView v
+  pub known : IsDrawnView v
   pub entries : line_known v 0 ≡ s.entries
-  pub state : (end_of known.past).managed ≡ s.state
+  pub state : (end_of known.known.past).managed ≡ s.state
 
 -- the peer side's seat knows a past: its peer line is the side's list, and at its end the peer side is as this one
 pub record PeerKnows (v : View) (s : Side PeerReplay) : Type 0 where
-  pub known : IsKnownView v
+  pub known : IsDrawnView v
   pub entries : line_known v 1 ≡ s.entries
-  pub state : (end_of known.past).peer ≡ s.state
+  pub state : (end_of known.known.past).peer ≡ s.state
 
 -- the own marking of a mirrored cycle is still to come: a mirror brings that about, and the driver's begin and its clear end it
 abbrev pub due_after : Thread → Op → Bool → Bool
@@ -59,7 +68,7 @@ HasRoomToWeaken s left = (m : Mirror) → s.peer.mirror ≡ Some m → length (c
 -- weakened; and there is room for the cycle's own marking as long as that is still to come
 pub record PeerReserves (v : View) (s : PeerModel) : Type 0 where
   pub none_waits : s.reserve.waiting ≡ []
-  pub room : (k : IsKnownView v) → (end_of k.past).peer ≡ s.state → HasRoomToWeaken (end_of k.past) s.reserve.left
+  pub room : (k : IsDrawnView v) → (end_of k.known.past).peer ≡ s.state → HasRoomToWeaken (end_of k.known.past) s.reserve.left
   pub marking : s.reserve.marking ≡ is_marking_due s.entries
 
 -- what a thread is in the midst of; only a managed thread's operations have more than one entry
@@ -69,9 +78,9 @@ doing_of t s = free
 
 -- a caller stands so: the line of its last entry isn't above this one, and it is in the midst of this
 pub record Stands (t : Thread) (v : View) (index : ℕ) (d : Doing) : Type 0 where
-  pub known : IsKnownView v
-  pub last : last_line (end_of known.past).control t ≤ index
-  pub doing : doing_of t (end_of known.past).control ≡ d
+  pub known : IsDrawnView v
+  pub last : last_line (end_of known.known.past).control t ≤ index
+  pub doing : doing_of t (end_of known.known.past).control ≡ d
 
 -- it is the thread's turn to make the event on that line, by what it is in the midst of
 abbrev pub IsTurn : Thread → Doing → ℕ → Op → Option ℕ → Type 0
@@ -91,14 +100,15 @@ doing_from (M n) e = doing_after e.number e.made.index e.made.op e.made.reply
 doing_from t e = free
 
 -- the caller made an entry: it knows all that it knew, and that entry as its last, whose number is above all that it knew; and the entry
--- may come after a past
-pub record Makes (t : Thread) (old new : View) (e : Entry) (told : Told) : Type 0 where
+-- may come after a past, with what is told beside it
+pub record Makes (t : Thread) (old new : View) (e : Entry) : Type 0 where
   pub own : line_known new (caller_line t) ≡ line_known old (caller_line t) ++ e ∷ []
   pub more : (i : ℕ) → IsPrefix (known old i) (known new i)
   pub above : (i : ℕ) → IsBelow e.number (known old i)
   pub stands : Stands t new e.made.index (doing_from t e)
   pub state : Linkage
-  pub comes : MayCome state (note_of e told)
+  pub told : Told
+  pub comes : Comes (is_read e.made.op) state (note_of e told)
 
 -- the caller made no entry: it knows all that it knew, and stands where it stood
 pub record MakesNone (t : Thread) (old new : View) : Type 0 where
@@ -110,11 +120,28 @@ pub record MakesNone (t : Thread) (old new : View) : Type 0 where
 abbrev pub made_by : Thread → ℕ → Op → Reply → Option ℕ → Made
 made_by t index o reply cites = record { caller = t; index = index; op = o; reply = reply; cites = cites }
 
--- the side drew one entry by its seat and put it last: the entry may come next in its list, and the side's state is the one after it
+-- a seat made no entry and gave nothing away: it owns and knows what it did
+pub record StaysSeated (old new : Shown) : Type 0 where
+  pub order : new.order ≡ old.order
+  pub owns : new.view.owns ≡ old.view.owns
+  pub known : new.view.known ≡ old.view.known
+
+-- a seat made an entry in a side's list: its number is above all that the seat knew, and what the seat knows now is of one history
+pub record HasAppended (order : OrderId) (old new : Shown) (r : ℕ) (k : KeptEntry) : Type 0 where
+  pub same : new.order ≡ old.order
+  pub grows : GrowsByEntry old.view new.view r k
+  pub number : (i : ℕ) → IsBelow k.entry.number (known old.view i)
+  pub one_history : BeginsOneHistory new.view
+
+-- the side drew one entry by its seat, with the object to which it sets a cell, the objects that it frees and the pins that are told, and put it last:
+-- the entry may come next in its list, and the side's state is the one after it
 pub record Drew {S : Type 0} (r : SideRules S) (line : ℕ) (order : OrderId) (seat seat' : Shown) (side side' : Side S) (e : Entry) (told : Told) : Type 0 where
   pub kept : KeptEntry
   pub entry : kept.entry ≡ e
-  pub appends : Appends order order seat seat' line kept
+  pub target : kept.target ≡ r.target side.state e.made
+  pub freed : kept.freed ≡ r.frees told
+  pub pins : pins_of kept.pins ≡ pins_told told
+  pub appends : HasAppended order seat seat' line kept
   pub added : side'.entries ≡ side.entries ++ e ∷ []
   pub goes : GoesOn r side.state e.made told side'.state
 
@@ -126,3 +153,9 @@ pub record UnderManaged : Type 0 where
 pub record UnderPeer : Type 0 where
   pub side : PeerModel
   pub view : View
+
+-- the side drew a `take` of the object of its thread's pin, which is live and in no open cycle's dead part
+pub record TakesPin (order : OrderId) (seat seat' : Shown) (side side' : Side ManagedReplay) (t : Thread) (index : ℕ) (v : Var) (r : ℕ × Reply) : Type 0 where
+  pub pin : Option MNum
+  pub stands : PinsStand side.state.managed (pin_given (thread_number t) pin)
+  pub drew : Drew managed_rules 0 order seat seat' side side' (numbered r.0 (made_by t index (take_op v) r.1 None)) (kept_pins (pin_given (thread_number t) pin) nothing)

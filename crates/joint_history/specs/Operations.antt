@@ -1,9 +1,8 @@
 -- The operations of threads: the events of each, one after another, and what a call that runs one leaves its caller with.
-use Rattle.std.specs.Prelude.{◌≡◌, ◌⊎◌, ℕ, ◌≤◌, true, false, List, [], ◌∷◌, ◌++◌, Option, Some, None}
+use Rattle.std.specs.Prelude.{◌≡◌, ◌⊎◌, ℕ, ◌<◌, ◌≤◌, true, false, List, [], ◌∷◌, ◌++◌, Option, Some, None}
 use mathlib.Core.List.{IsPrefix}
 use Rattle.joint_model.specs.declared.names.Thread.{Thread}
 use Rattle.joint_model.specs.declared.names.Thread.TheVariants.{M, P, C}
-use Rattle.joint_model.specs.declared.names.Var.{Var}
 use Rattle.joint_model.specs.declared.lines.Act.{Act}
 use Rattle.joint_model.specs.declared.lines.Act.TheVariants as act
 use Rattle.joint_model.specs.declared.events.Entry.{Entry}
@@ -15,12 +14,18 @@ use Rattle.joint_model.specs.Control.{Doing, IsDone}
 use Rattle.joint_model.specs.Draws.{numbered}
 use Rattle.joint_model.specs.HistoryLines.{caller_line}
 use Rattle.joint_model.specs.Lines.{IsLine, IsManagedThread, IsVar, is_peer_event}
+use Rattle.joint_model.specs.Run.{thread_number}
 use Rattle.order_table.specs.declared.views.View.{View}
 use Rattle.order_table.specs.Rule.{IsBelow}
 use Rattle.order_table.specs.Views.{known}
-use Rattle.managed_side.specs.Steps.{IsManagedStep}
+use Rattle.weak_wait.specs.declared.reads.Got.{Got}
+use Rattle.weak_wait.specs.Reads.{IsExact, IsRead, Reads, cell_of, reply_of}
+use Rattle.managed_side.specs.Steps.{IsManagedStep, take_op, weak_op}
 use Rattle.peer_side.specs.Steps.{IsPeerStep, IsRelease, IsStepLine}
 use Rattle.joint_history.specs.declared.callers.Receipt.{Receipt}
+use Rattle.joint_history.specs.declared.operations.ManagedCall.{ManagedCall}
+use Rattle.joint_history.specs.declared.operations.ManagedCall.TheVariants as call
+use Rattle.joint_history.specs.Callers.{Pass}
 use Rattle.joint_history.specs.Knowing.{line_known}
 use Rattle.joint_history.specs.Locked.{Stands, made_by}
 
@@ -95,16 +100,35 @@ abbrev pub answer_of : Act → Reply → Reply → Reply
 answer_of (act.Dispose v) given released = given
 answer_of a first second = second
 
--- the object's variable of a `take V`
-abbrev pub taken_by : Op → Option Var
-taken_by (op.Line (act.Take v)) = Some v
-taken_by o = None
+-- the call of the managed side by which an event of its thread is made: reads, `weak` and `take` have calls of their own
+abbrev pub call_of : Op → ManagedCall
+call_of (op.Line (act.Read k)) = call.Read (act.Read k)
+call_of (op.Line (act.Await k)) = call.Read (act.Await k)
+call_of (op.Line (act.Weak k v)) = call.Weak k v
+call_of (op.Line (act.Take v)) = call.Take v
+call_of o = call.Step
 
--- an event that a step of one of the sides makes, and by whom: `take V` is a call of its own
+-- who makes such a call, and of what
+abbrev pub IsCallBy : Thread → Op → ManagedCall → Type 0
+IsCallBy t o (call.Read a) = IsManagedThread t × IsRead a × (o ≡ op.Line a)
+IsCallBy t o (call.Weak k v) = IsManagedThread t × (k.0 < 64) × IsVar v × (o ≡ weak_op k v)
+IsCallBy t o (call.Take v) = IsManagedThread t × IsVar v × (o ≡ take_op v)
+IsCallBy t o call.Step = IsManagedStep t o
+
+-- an event that a call of one of the sides makes, and by whom
 pub record IsSideEvent (t : Thread) (o : Op) : Type 0 where
   pub peer : is_peer_event t o ≡ true → IsPeerStep t o
-  pub take : (v : Var) → taken_by o ≡ Some v → IsManagedThread t × IsVar v
-  pub managed : is_peer_event t o ≡ false → taken_by o ≡ None → IsManagedStep t o
+  pub managed : is_peer_event t o ≡ false → IsCallBy t o (call_of o)
+
+-- the answer to a read of a managed thread is what the managed list gives that the thread knows now, and the thread's own pin
+pub record AnswersExactly (n : ℕ) (old new : View) (a : Act) (reply : Reply) : Type 0 where
+  pub got : Got
+  pub answer : reply ≡ reply_of got
+  pub exact : IsExact (known new 0) (known old (caller_line (M n))) (cell_of a) got
+
+abbrev pub ReadsExactly : Thread → View → View → Act → Reply → Type 0
+ReadsExactly (M n) old new a reply = IsRead a → AnswersExactly n old new a reply
+ReadsExactly t old new a reply = Unit {0}
 
 -- the entry of a thread's event
 abbrev pub entry_by : Thread → ℕ → ℕ → Op → Reply → Option ℕ → Entry
@@ -176,3 +200,11 @@ pub record StopsWithoutMemory (t : Thread) (old new : View) (index : ℕ) (a : A
   pub entries : List Entry
   pub made : MakesAll t old new entries
   pub begun : (entries ≡ []) ⊎ IsFirstAlone t index a entries
+
+-- a managed thread read a cell without a lock: it made just the read's entry, whose answer has its cause in the words that were read, and put it last in its
+-- own list of reads
+pub record ReadsBy (old new : Pass) (index : ℕ) (a : Act) (g : Got) : Type 0 where
+  pub number : ℕ
+  pub reads : Reads (thread_number old.thread) index a g number old.view new.view
+  pub runs : Runs old.thread old.view new.view index a (record { first = number; last = number; reply = reply_of g })
+  pub entries : new.reads.entries ≡ old.reads.entries ++ entry_by old.thread index number (op.Line a) (reply_of g) None ∷ []

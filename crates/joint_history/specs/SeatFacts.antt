@@ -18,7 +18,8 @@ use Rattle.known_laws.specs.Citations.{IsClearOf, IsGiveOf, IsGripOf, IsLendOf, 
 use Rattle.known_laws.specs.Facts.{IsAnswered, TakesHandle}
 use Rattle.known_laws.specs.Pasts.{InPast, end_of}
 use Rattle.order_table.specs.declared.views.View.{View}
-use Rattle.joint_history.specs.Knowing.{IsKnownView, line_known}
+use Rattle.joint_history.specs.Knowing.{line_known}
+use Rattle.view_laws.specs.Knowing.{IsDrawnView}
 
 -- the entry cites one of that side's list which the seat knows, and which is as the citing entry's data say
 pub record CitesKnown (v : View) (i : ℕ) (e : Entry) (IsAsSaid : Made → Type 0) : Type 0 where
@@ -65,8 +66,8 @@ NoneLeadsToFreedIn s = (p q : ℕ) → IsLive s.peers.heap p → Contains (field
 
 -- no mirrored reference leads from a peer whose restore in the mirrored cycle answered alive to one whose restore answered cleared
 abbrev pub NoneLeadsToClearedIn : View → Type 0
-NoneLeadsToClearedIn v = (a : IsKnownView v) (o : OpenSnap) (answers : List Answer) → (end_of a.past).control.stand ≡ restoring o answers → (p q : ℕ) → Refers (end_of a.past).peer.refs p q
-    → (alive : Answer) → IsKept alive → IsAnswered (end_of a.past) answers alive p → IsAnswered (end_of a.past) answers said_cleared q → ⊥
+NoneLeadsToClearedIn v = (a : IsDrawnView v) (o : OpenSnap) (answers : List Answer) → (end_of a.known.past).control.stand ≡ restoring o answers → (p q : ℕ) → Refers (end_of a.known.past).peer.refs p q
+    → (alive : Answer) → IsKept alive → IsAnswered (end_of a.known.past) answers alive p → IsAnswered (end_of a.known.past) answers said_cleared q → ⊥
 
 -- the latest entry of a past, where it is a resolve, freed of its candidates exactly those whose restore answered cleared
 abbrev pub ResolveFreed : Noted → List Noted → Type 0
@@ -75,4 +76,4 @@ ResolveFreed x h = (k : Cycle) → x.entry.made.op ≡ op.Resolve k → (answers
 
 -- so did each resolve that the seat knows
 abbrev pub ResolvesFreed : View → Type 0
-ResolvesFreed v = (a : IsKnownView v) (x : Noted) → InPast a.past x → (b : StandsBehind a.past x) × ResolveFreed x b.back
+ResolvesFreed v = (a : IsDrawnView v) (x : Noted) → InPast a.known.past x → (b : StandsBehind a.known.past x) × ResolveFreed x b.back

@@ -3,17 +3,18 @@
 ghost use Rattle.std.specs.Prelude.{◌≡◌, None, IfOk, OnErr};
 ghost use Rattle.joint_model.specs.Lines.{IsPeerThread};
 ghost use Rattle.joint_model.specs.Sides.{TakesPeer};
+ghost use Rattle.order_table.specs.Allowed.{Settled};
 ghost use Rattle.peer_side.specs.Sides.{seen};
 ghost use Rattle.joint_history.specs.Callers.{HoldsPass};
 ghost use Rattle.joint_history.specs.Collecting.{Collects, DrawsCollect};
 ghost use Rattle.joint_history.specs.Knowing.{line_known};
-ghost use Rattle.joint_history.specs.Locked.{MakesNone};
+ghost use Rattle.joint_history.specs.Locked.{MakesNone, StaysSeated};
 ghost use Rattle.joint_history.specs.Operations.{MayBegin};
-ghost use Rattle.joint_history.specs.Passing.{MayAppend};
+ghost use Rattle.seat_calls.specs.Passing.{MayAppend};
 
 use crate::callers::Receipt;
 use crate::peer::LockedPeer;
-use crate::seats::{SeatDrawing, give_back, lend};
+use seat_calls::{SeatDrawing, give_back, lend};
 use joint_model::{Op, Thread};
 use order_table::{Order, OrderName, Role, Seat};
 use peer_side::PeerSide;
@@ -30,12 +31,14 @@ fn collect_by(
     requires first { drawing.old.first ≡ None }
     requires thread { IsPeerThread caller }
     requires takes { TakesPeer side.old.threads caller }
-    requires may_begin { MayAppend drawing.old.order.now drawing.old.seat.now 1 caller Op.Begin }
-    requires may_sweep { MayAppend drawing.old.order.now drawing.old.seat.now 1 caller Op.Sweep }
+    requires may_begin { MayAppend drawing.old.order.now drawing.old.seat.now 1 caller Op.Begin None }
+    requires may_sweep { MayAppend drawing.old.order.now drawing.old.seat.now 1 caller Op.Sweep None }
+    requires settled { Settled drawing.old.seat.now.view }
     requires entries { line_known drawing.old.seat.now.view 1 ≡ side.old.entries }
+    ensures settled { Settled drawing.new.seat.now.view }
     ensures same_reference { drawing.new.seat.ghost_name ≡ drawing.old.seat.ghost_name }
     ensures drew { IfOk result (λ r. DrawsCollect drawing.old.order.now drawing.old.seat.now drawing.new.seat.now (seen side.old) (seen side.new) caller index r) }
-    ensures err { OnErr result ((drawing.new.seat.now ≡ drawing.old.seat.now) × (seen side.new ≡ seen side.old)) }
+    ensures err { OnErr result (StaysSeated drawing.old.seat.now drawing.new.seat.now × (seen side.new ≡ seen side.old)) }
     ensures reserve { side.new.reserve ≡ side.old.reserve }
     ensures threads { side.new.threads ≡ side.old.threads }
 {
@@ -60,11 +63,13 @@ fn draw_collect(
 ) -> Result<Receipt, AllocError>
     requires thread { IsPeerThread caller }
     requires takes { TakesPeer side.old.threads caller }
-    requires may_begin { MayAppend order.now seat.old 1 caller Op.Begin }
-    requires may_sweep { MayAppend order.now seat.old 1 caller Op.Sweep }
+    requires may_begin { MayAppend order.now seat.old 1 caller Op.Begin None }
+    requires may_sweep { MayAppend order.now seat.old 1 caller Op.Sweep None }
+    requires settled { Settled seat.old.view }
     requires entries { line_known seat.old.view 1 ≡ side.old.entries }
+    ensures settled { Settled seat.new.view }
     ensures drew { IfOk result (λ r. DrawsCollect order.now seat.old seat.new (seen side.old) (seen side.new) caller index r) }
-    ensures err { OnErr result ((seat.new ≡ seat.old) × (seen side.new ≡ seen side.old)) }
+    ensures err { OnErr result (StaysSeated seat.old seat.new × (seen side.new ≡ seen side.old)) }
     ensures reserve { side.new.reserve ≡ side.old.reserve }
     ensures threads { side.new.threads ≡ side.old.threads }
 {
@@ -90,10 +95,12 @@ impl<N: OrderName> LockedPeer<N> {
         index: u16,
     ) -> Result<Receipt, AllocError>
         requires order { (order.now ≡ N.order) × (mine.old.order ≡ N.order) }
+        requires settled { Settled mine.old.view }
         requires pass { IsPeerThread caller × HoldsPass caller mine.old.view }
         requires takes { TakesPeer N.peers caller }
         requires begins { MayBegin caller mine.old.view index }
         ensures order { mine.new.order ≡ N.order }
+        ensures settled { Settled mine.new.view }
         ensures pass { HoldsPass caller mine.new.view }
         ensures begins { MayBegin caller mine.new.view index }
         ensures ok { IfOk result (λ r. Collects caller mine.old.view mine.new.view index r) }

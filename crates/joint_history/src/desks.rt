@@ -3,13 +3,14 @@
 ghost use Rattle.std.specs.Prelude.{◌≡◌, ◌≤◌, ◌<◌, ℕ, ◌++◌, IfOk, IfSome, List, Option, Some, option_to_list, slice_get, true};
 ghost use Rattle.joint_model.specs.Control.{caller_place};
 ghost use Rattle.joint_model.specs.Lines.{IsThread};
+ghost use Rattle.order_table.specs.Allowed.{Settled};
 ghost use Rattle.order_table.specs.Views.{Owns, OwnsAll};
 ghost use Rattle.joint_history.specs.Callers.{IsOfRun, KnowsNothing, Pass};
 ghost use Rattle.joint_history.specs.Desks.{AreAll, WaitsAt, has_thread, thread_of, waits, without_caller};
 ghost use Rattle.joint_history.specs.Ending.{HasAll};
 
 use crate::callers::{Caller, WaitingPass};
-use joint_model::Thread;
+use joint_model::{Entries, Holding, Thread};
 use order_table::{Order, OrderName, Seat};
 use std::alloc::{AllocError, Global};
 use std::marker::Model;
@@ -65,18 +66,22 @@ fn all_callers<N: OrderName>(
     alloc: Global,
     order: &Order,
     seat: &mut Seat,
+    holding: Holding,
 ) -> Result<Vec<Option<WaitingPass<N>>>, AllocError>
     requires order { (order.now ≡ N.order) × (seat.old.order ≡ N.order) }
     requires seat { OwnsAll seat.old.view × KnowsNothing seat.old.view }
+    requires settled { Settled seat.old.view }
     ensures order { seat.new.order ≡ N.order }
     ensures seat { Owns seat.new.view 0 × Owns seat.new.view 1 × KnowsNothing seat.new.view }
+    ensures settled { Settled seat.new.view }
     ensures callers { IfOk result (λ v. AreAll v.items) }
 {
     let mut callers = Vec::new(alloc);
     for place in 0..17u8 {
         let t = thread_at(place);
         let pass = order.hand(seat, t);
-        callers.push(Some(WaitingPass::new(t, pass)))?;
+        let reads = Entries::new(alloc, holding);
+        callers.push(Some(WaitingPass::new(t, pass, reads)))?;
     }
     Ok(callers)
 }
@@ -93,24 +98,27 @@ fn give_out<N: OrderName>(waiting: Option<WaitingPass<N>>) -> Option<Caller<N>>
 }
 
 impl<N: OrderName> Desk<N> {
-    /// A desk at which every caller waits, with the lines that a seat gives away which holds all of them. Answers `AllocError` where there is no
-    /// memory.
+    /// A desk at which every caller waits, with the lines that a seat gives away which holds all of them. The callers' lists of reads hold their entries as
+    /// they are told. Answers `AllocError` where there is no memory.
     pub(crate) fn new(
         alloc: Global,
         order: &Order,
         seat: &mut Seat,
         managed: u8,
         peers: u8,
+        holding: Holding,
     ) -> Result<Desk<N>, AllocError>
         requires counts { (managed ≤ 8) × (peers ≤ 8) }
         requires run { (managed ≡ N.managed) × (peers ≡ N.peers) }
         requires order { (order.now ≡ N.order) × (seat.old.order ≡ N.order) }
         requires seat { OwnsAll seat.old.view × KnowsNothing seat.old.view }
+        requires settled { Settled seat.old.view }
         ensures order { seat.new.order ≡ N.order }
         ensures seat { Owns seat.new.view 0 × Owns seat.new.view 1 × KnowsNothing seat.new.view }
+        ensures settled { Settled seat.new.view }
         ensures desk { IfOk result (λ d. (d.managed ≡ managed) × (d.peers ≡ peers) × AreAll d.callers) }
     {
-        let callers = all_callers(alloc, order, seat)?;
+        let callers = all_callers(alloc, order, seat, holding)?;
         Ok(Desk {
             managed,
             peers,

@@ -10,20 +10,23 @@ ghost use Rattle.joint_model.specs.Managed.{OpenCycle};
 ghost use Rattle.joint_model.specs.ManagedReplay.{MayRefuse};
 ghost use Rattle.joint_model.specs.Sides.{managed_rules};
 ghost use Rattle.joint_model.specs.Told.{nothing, phase_of};
-ghost use Rattle.managed_side.specs.Calls.{MayContractWith, abandon_op, contract_op, resolve_op};
+ghost use Rattle.joint_model.specs.HistoryLines.{caller_line};
+ghost use Rattle.order_table.specs.Allowed.{Settled};
+ghost use Rattle.order_table.specs.Views.{Owns};
+ghost use Rattle.managed_side.specs.Calls.{MayContractWith, contract_op};
 ghost use Rattle.managed_side.specs.Resolving.{MayClose};
 ghost use Rattle.joint_history.specs.Callers.{HoldsPass};
 ghost use Rattle.joint_history.specs.Driven.{DriverMakesNone, MakesAbandon, MakesContraction, MakesFinalise, MakesRefusal, MakesResolution, MayAbandonCycle, MayContractCycle, MayFinalise, MayRefuseWord, MayResolveCycle, driver_entry};
 ghost use Rattle.joint_history.specs.DriverDraws.{DrawsAbandon, DrawsContraction, DrawsResolution};
 ghost use Rattle.joint_history.specs.Knowing.{line_known};
-ghost use Rattle.joint_history.specs.Locked.{Drew};
-ghost use Rattle.joint_history.specs.Passing.{MayAppend};
+ghost use Rattle.joint_history.specs.Locked.{Drew, ManagedKnows, StaysSeated};
+ghost use Rattle.seat_calls.specs.Passing.{MayAppend};
 
-use crate::managed::{LockedManaged, draw_step};
-use crate::seats::{SeatDrawing, give_back, lend};
+use crate::managed::{LiveObjects, LockedManaged, draw_step};
 use joint_model::{Act, Alive, Op, Phase, PhaseWord, Reply, Thread};
 use managed_side::{ManagedSide, ResolveOut};
 use order_table::{Order, OrderName, Role, Seat};
+use seat_calls::{SeatDrawing, give_back, lend, settle_ended};
 use std::alloc::AllocError;
 
 // The side draws the contraction's entry by the seat, and its number is answered.
@@ -36,9 +39,11 @@ fn draw_contraction(
     xrefs: u32,
 ) -> u64
     requires contracted { MayContractWith side.old.state sccs xrefs }
-    requires may { (c : OpenCycle) → MayAppend order.now seat.old 0 C (contract_op c) }
+    requires may { (c : OpenCycle) → side.old.state.managed.cycle ≡ Some c → MayAppend order.now seat.old 0 C (contract_op c) None }
+    requires settled { Settled seat.old.view }
     requires entries { line_known seat.old.view 0 ≡ side.old.entries }
-    ensures { DrawsContraction order.now seat.old seat.new side.old side.new index sccs xrefs result }
+    ensures settled { Settled seat.new.view }
+    ensures drew { DrawsContraction order.now seat.old seat.new side.old side.new index sccs xrefs result }
 {
     let mut drawing = SeatDrawing {
         order,
@@ -51,12 +56,15 @@ fn draw_contraction(
     drawing.last
 }
 
-// The side draws by the seat the entry that abandons its cycle, and the entry's number is answered.
+// The side draws by the seat the entry that abandons its cycle, and the gate is opened. The entry's number is answered.
 fn draw_abandon(side: &mut ManagedSide, order: &Order, seat: &mut Seat, index: u16) -> u64
     requires open { IsSome side.old.state.managed.cycle }
-    requires may { (c : OpenCycle) → MayAppend order.now seat.old 0 C (abandon_op c) }
-    requires entries { line_known seat.old.view 0 ≡ side.old.entries }
-    ensures { DrawsAbandon order.now seat.old seat.new side.old side.new index result }
+    requires order { seat.old.order ≡ order.now }
+    requires owner { Owns seat.old.view 0 × Owns seat.old.view (caller_line C) }
+    requires settled { Settled seat.old.view }
+    requires knows { ManagedKnows seat.old.view side.old }
+    ensures settled { Settled seat.new.view }
+    ensures drew { DrawsAbandon order.now seat.old seat.new side.old side.new index result }
 {
     let mut drawing = SeatDrawing {
         order,
@@ -66,10 +74,13 @@ fn draw_abandon(side: &mut ManagedSide, order: &Order, seat: &mut Seat, index: u
         last: 0,
     };
     side.abandon(&mut drawing, index);
-    drawing.last
+    let number = drawing.last;
+    settle_ended(order, seat, &LiveObjects { side });
+    number
 }
 
-// The side draws by the seat the entry that resolves its cycle; its number is answered, and what the resolution did.
+// The side draws by the seat the entry that resolves its cycle; the cells of what it freed say so, and the gate is opened. The entry's number is answered,
+// and what the resolution did.
 fn draw_resolution(
     side: &mut ManagedSide,
     order: &Order,
@@ -79,9 +90,12 @@ fn draw_resolution(
     alive: &Alive,
 ) -> (u64, ResolveOut)
     requires close { MayClose side.old.state alive.now.values }
-    requires may { (c : OpenCycle) → MayAppend order.now seat.old 0 C (resolve_op c) }
-    requires entries { line_known seat.old.view 0 ≡ side.old.entries }
-    ensures { DrawsResolution order.now seat.old seat.new side.old side.new index cites result.0 alive.now.values result.1 }
+    requires order { seat.old.order ≡ order.now }
+    requires owner { Owns seat.old.view 0 × Owns seat.old.view (caller_line C) }
+    requires settled { Settled seat.old.view }
+    requires knows { ManagedKnows seat.old.view side.old }
+    ensures settled { Settled seat.new.view }
+    ensures drew { DrawsResolution order.now seat.old seat.new side.old side.new index cites result.0 alive.now.values result.1 }
 {
     let mut drawing = SeatDrawing {
         order,
@@ -91,7 +105,9 @@ fn draw_resolution(
         last: 0,
     };
     let out = side.resolve(&mut drawing, index, cites, alive);
-    (drawing.last, out)
+    let number = drawing.last;
+    settle_ended(order, seat, &LiveObjects { side });
+    (number, out)
 }
 
 // The side draws a refusal's entry by the seat.
@@ -104,11 +120,13 @@ fn draw_refusal(
     phase: Phase,
 ) -> Result<(u64, Reply), AllocError>
     requires refused { MayRefuse side.old.state word phase }
-    requires may { MayAppend order.now seat.old 0 C (op.Refused word) }
+    requires may { MayAppend order.now seat.old 0 C (op.Refused word) None }
+    requires settled { Settled seat.old.view }
     requires entries { line_known seat.old.view 0 ≡ side.old.entries }
+    ensures settled { Settled seat.new.view }
     ensures drew { IfOk result (λ r. Drew managed_rules 0 order.now seat.old seat.new side.old side.new (driver_entry r.0 index (op.Refused word) r.1 None) (phase_of phase)) }
     ensures threads { side.new.threads ≡ side.old.threads }
-    ensures err { OnErr result ((seat.new ≡ seat.old) × (side.new ≡ side.old)) }
+    ensures err { OnErr result (StaysSeated seat.old seat.new × (side.new ≡ side.old)) }
 {
     let mut drawing = SeatDrawing {
         order,
@@ -133,9 +151,11 @@ impl<N: OrderName> LockedManaged<N> {
         xrefs: u32,
     ) -> u64
         requires order { (order.now ≡ N.order) × (mine.old.order ≡ N.order) }
+        requires settled { Settled mine.old.view }
         requires pass { HoldsPass C mine.old.view }
         requires may { MayContractCycle mine.old.view index sccs xrefs }
         ensures order { mine.new.order ≡ N.order }
+        ensures settled { Settled mine.new.view }
         ensures pass { HoldsPass C mine.new.view }
         ensures makes { MakesContraction mine.old.view mine.new.view index sccs xrefs result }
     {
@@ -149,9 +169,11 @@ impl<N: OrderName> LockedManaged<N> {
     /// entry then. It takes no memory.
     pub(crate) fn abandon(&mut self, order: &Order, mine: &mut Seat, index: u16) -> u64
         requires order { (order.now ≡ N.order) × (mine.old.order ≡ N.order) }
+        requires settled { Settled mine.old.view }
         requires pass { HoldsPass C mine.old.view }
         requires may { MayAbandonCycle mine.old.view index }
         ensures order { mine.new.order ≡ N.order }
+        ensures settled { Settled mine.new.view }
         ensures pass { HoldsPass C mine.new.view }
         ensures makes { MakesAbandon mine.old.view mine.new.view index result }
     {
@@ -173,9 +195,11 @@ impl<N: OrderName> LockedManaged<N> {
         alive: &Alive,
     ) -> (u64, ResolveOut)
         requires order { (order.now ≡ N.order) × (mine.old.order ≡ N.order) }
+        requires settled { Settled mine.old.view }
         requires pass { HoldsPass C mine.old.view }
         requires may { MayResolveCycle mine.old.view index clear (answers_of alive.now.values) }
         ensures order { mine.new.order ≡ N.order }
+        ensures settled { Settled mine.new.view }
         ensures pass { HoldsPass C mine.new.view }
         ensures makes { MakesResolution mine.old.view mine.new.view index clear result.0 (answers_of alive.now.values) result.1.freed }
         ensures kept { result.1.kept ≡ count_by (λ b. b) alive.now.values }
@@ -197,9 +221,11 @@ impl<N: OrderName> LockedManaged<N> {
         phase: Phase,
     ) -> Result<(u64, Reply), AllocError>
         requires order { (order.now ≡ N.order) × (mine.old.order ≡ N.order) }
+        requires settled { Settled mine.old.view }
         requires pass { HoldsPass C mine.old.view }
         requires may { MayRefuseWord mine.old.view index word phase }
         ensures order { mine.new.order ≡ N.order }
+        ensures settled { Settled mine.new.view }
         ensures pass { HoldsPass C mine.new.view }
         ensures ok { IfOk result (λ r. MakesRefusal mine.old.view mine.new.view index r.0 word phase r.1) }
         ensures err { OnErr result (DriverMakesNone mine.old.view mine.new.view) }
@@ -220,10 +246,12 @@ impl<N: OrderName> LockedManaged<N> {
         count: u32,
     ) -> Result<(u64, Reply), AllocError>
         requires order { (order.now ≡ N.order) × (mine.old.order ≡ N.order) }
+        requires settled { Settled mine.old.view }
         requires pass { HoldsPass C mine.old.view }
         requires count { (1 ≤ count) × (count ≤ 65535) }
         requires may { MayFinalise mine.old.view index }
         ensures order { mine.new.order ≡ N.order }
+        ensures settled { Settled mine.new.view }
         ensures pass { HoldsPass C mine.new.view }
         ensures ok { IfOk result (λ r. MakesFinalise mine.old.view mine.new.view index r.0 count r.1) }
         ensures err { OnErr result (DriverMakesNone mine.old.view mine.new.view) }

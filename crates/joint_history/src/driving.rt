@@ -20,6 +20,7 @@ use order_table::OrderName;
 use peer_side::Swept;
 use std::alloc::AllocError;
 use std::sync::Wait;
+use std::thread::yield_now;
 
 impl<N: OrderName, K: Keeps<N>> Shared<N, K> {
     /// The driver makes the entry of its open cycle's contraction, which has so many components and cross-references. Answers the entry's number. It
@@ -122,8 +123,9 @@ impl<N: OrderName, K: Keeps<N>> Shared<N, K> {
             .finalise(&self.order, &mut driver.seat, index, count)
     }
 
-    /// The driver takes a snapshot and opens the next cycle. Answers the cycle, its entry's number, and its dead part as a graph. Answers `OutOfMemory`
-    /// where there is no memory, or no room for the entries that the cycle owes: no entry is made then. It never answers `CycleOpen`.
+    /// The driver takes a snapshot and opens the next cycle, as soon as no reader is inside the gate: where some are, the lock is given back and all is
+    /// tried again. Answers the cycle, its entry's number, and its dead part as a graph. Answers `OutOfMemory` where there is no memory, or no room for the
+    /// entries that the cycle owes: no entry is made then, and the gate is as it was. It answers nothing else.
     pub fn snap(
         &self,
         rt: &impl Wait,
@@ -137,10 +139,18 @@ impl<N: OrderName, K: Keeps<N>> Shared<N, K> {
         ensures fault { IfErr result (λ e. e ≡ SnapFault.OutOfMemory) }
         ensures err { OnErr result (DriverMakesNone driver.old.view driver.new.view) }
     {
-        self.managed
-            .hold(rt)
-            .value()
-            .snap(&self.order, &mut driver.seat, index)
+        for _ in rt.forever() {
+            let tried = self
+                .managed
+                .hold(rt)
+                .value()
+                .snap(&self.order, &mut driver.seat, index);
+            match tried {
+                Err(SnapFault::NotClosed) => yield_now(),
+                tried => return tried,
+            }
+        }
+        unreachable!()
     }
 
     /// The driver weakens the handle of the next candidate of its cycle, whose snapshot is the entry with that number. Answers the entry's number. It

@@ -29,6 +29,7 @@ fn take_in<N: OrderName>(order: &Order, seat: &mut Seat, pass: WaitingPass<N>)
     let WaitingPass {
         thread: _,
         seat: other,
+        reads: _,
         of: _,
     } = pass;
     order.learn(seat, other);

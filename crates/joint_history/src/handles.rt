@@ -8,6 +8,7 @@ ghost use Rattle.joint_model.specs.declared.events.Reply.TheVariants as says;
 ghost use Rattle.joint_model.specs.PeerReplay.{MayClear, MayRestore, MayWeaken};
 ghost use Rattle.joint_model.specs.Sides.{peer_rules};
 ghost use Rattle.joint_model.specs.Told.{nothing};
+ghost use Rattle.order_table.specs.Allowed.{Settled};
 ghost use Rattle.peer_side.specs.Cycles.{reply_of, reserve_left, reserve_over};
 ghost use Rattle.peer_side.specs.Mirrors.{AreTargetsRestored};
 ghost use Rattle.peer_side.specs.Sides.{seen};
@@ -16,10 +17,10 @@ ghost use Rattle.joint_history.specs.Driven.{driver_entry};
 ghost use Rattle.joint_history.specs.DriverHandles.{MakesClear, MakesRestore, MakesWeaken, MayClearCycle, MayRestoreHandle, MayWeakenHandle};
 ghost use Rattle.joint_history.specs.Knowing.{line_known};
 ghost use Rattle.joint_history.specs.Locked.{Drew};
-ghost use Rattle.joint_history.specs.Passing.{MayAppend};
+ghost use Rattle.seat_calls.specs.Passing.{MayAppend};
 
 use crate::peer::LockedPeer;
-use crate::seats::{SeatDrawing, give_back, lend};
+use seat_calls::{SeatDrawing, give_back, lend};
 use global_handles::Back;
 use joint_model::{Cycle, HNum, Thread};
 use order_table::{Order, OrderName, Role, Seat};
@@ -36,8 +37,10 @@ fn draw_weaken(
 ) -> u64
     requires left { 1 ≤ side.old.reserve.left }
     requires weakens { MayWeaken side.old.state h.0 (Some snap) }
-    requires may { MayAppend order.now seat.old 1 C (op.Weaken h) }
+    requires may { MayAppend order.now seat.old 1 C (op.Weaken h) None }
+    requires settled { Settled seat.old.view }
     requires entries { line_known seat.old.view 1 ≡ side.old.entries }
+    ensures settled { Settled seat.new.view }
     ensures drew { Drew peer_rules 1 order.now seat.old seat.new (seen side.old) (seen side.new) (driver_entry result index (op.Weaken h) says.Ok (Some snap)) nothing }
     ensures reserve { side.new.reserve ≡ reserve_left side.old.reserve }
     ensures threads { side.new.threads ≡ side.old.threads }
@@ -62,8 +65,10 @@ fn draw_restore(
     h: HNum,
 ) -> (u64, Back)
     requires restores { MayRestore side.old.state h.0 }
-    requires may { MayAppend order.now seat.old 1 C (op.Restore h) }
+    requires may { MayAppend order.now seat.old 1 C (op.Restore h) None }
+    requires settled { Settled seat.old.view }
     requires entries { line_known seat.old.view 1 ≡ side.old.entries }
+    ensures settled { Settled seat.new.view }
     ensures drew { Drew peer_rules 1 order.now seat.old seat.new (seen side.old) (seen side.new) (driver_entry result.0 index (op.Restore h) (reply_of result.1) None) nothing }
     ensures reserve { side.new.reserve ≡ side.old.reserve }
     ensures threads { side.new.threads ≡ side.old.threads }
@@ -83,8 +88,10 @@ fn draw_restore(
 fn draw_clear(side: &mut PeerSide, order: &Order, seat: &mut Seat, index: u16, cycle: Cycle) -> u64
     requires clears { MayClear side.old.state cycle.0 }
     requires targets { AreTargetsRestored side.old.state }
-    requires may { MayAppend order.now seat.old 1 C (op.Clear cycle) }
+    requires may { MayAppend order.now seat.old 1 C (op.Clear cycle) None }
+    requires settled { Settled seat.old.view }
     requires entries { line_known seat.old.view 1 ≡ side.old.entries }
+    ensures settled { Settled seat.new.view }
     ensures drew { Drew peer_rules 1 order.now seat.old seat.new (seen side.old) (seen side.new) (driver_entry result index (op.Clear cycle) says.Ok None) nothing }
     ensures reserve { side.new.reserve ≡ reserve_over side.old.reserve }
     ensures threads { side.new.threads ≡ side.old.threads }
@@ -112,9 +119,11 @@ impl<N: OrderName> LockedPeer<N> {
         h: HNum,
     ) -> u64
         requires order { (order.now ≡ N.order) × (mine.old.order ≡ N.order) }
+        requires settled { Settled mine.old.view }
         requires pass { HoldsPass C mine.old.view }
         requires may { MayWeakenHandle mine.old.view index snap h.0 }
         ensures order { mine.new.order ≡ N.order }
+        ensures settled { Settled mine.new.view }
         ensures pass { HoldsPass C mine.new.view }
         ensures makes { MakesWeaken mine.old.view mine.new.view index snap h result }
     {
@@ -134,9 +143,11 @@ impl<N: OrderName> LockedPeer<N> {
         h: HNum,
     ) -> (u64, Back)
         requires order { (order.now ≡ N.order) × (mine.old.order ≡ N.order) }
+        requires settled { Settled mine.old.view }
         requires pass { HoldsPass C mine.old.view }
         requires may { MayRestoreHandle mine.old.view index h.0 }
         ensures order { mine.new.order ≡ N.order }
+        ensures settled { Settled mine.new.view }
         ensures pass { HoldsPass C mine.new.view }
         ensures makes { MakesRestore mine.old.view mine.new.view index h result.1 result.0 }
     {
@@ -150,9 +161,11 @@ impl<N: OrderName> LockedPeer<N> {
     /// knows the entry then. It takes no memory.
     pub(crate) fn clear(&mut self, order: &Order, mine: &mut Seat, index: u16, cycle: Cycle) -> u64
         requires order { (order.now ≡ N.order) × (mine.old.order ≡ N.order) }
+        requires settled { Settled mine.old.view }
         requires pass { HoldsPass C mine.old.view }
         requires may { MayClearCycle mine.old.view index cycle.0 }
         ensures order { mine.new.order ≡ N.order }
+        ensures settled { Settled mine.new.view }
         ensures pass { HoldsPass C mine.new.view }
         ensures makes { MakesClear mine.old.view mine.new.view index cycle result }
     {

@@ -1,24 +1,31 @@
 // The managed side under its lock.
 
-ghost use Rattle.std.specs.Prelude.{◌≡◌, ◌≤◌, ℕ, [], IfOk, None, OnErr};
+ghost use Rattle.std.specs.Prelude.{◌≡◌, ◌<◌, ◌≤◌, ◌+◌, ℕ, [], IfOk, None, OnErr};
+ghost use Rattle.joint_model.specs.declared.events.Op.TheVariants as op;
 ghost use Rattle.joint_model.specs.Draws.{numbered};
+ghost use Rattle.joint_model.specs.HistoryLines.{caller_line};
 ghost use Rattle.joint_model.specs.Lines.{IsManagedThread, IsThread, IsVar};
 ghost use Rattle.joint_model.specs.ManagedReplay.{opening_replay};
+ghost use Rattle.joint_model.specs.Run.{thread_number};
 ghost use Rattle.joint_model.specs.Sides.{TakesManaged, managed_rules};
 ghost use Rattle.joint_model.specs.Told.{nothing};
+ghost use Rattle.order_table.specs.Allowed.{Settled};
 ghost use Rattle.order_table.specs.Views.{Owns};
-ghost use Rattle.managed_side.specs.Steps.{CitesRightly, IsFresh, IsManagedStep, take_op};
-ghost use Rattle.joint_history.specs.Callers.{HoldsPass, KnowsNothing};
+ghost use Rattle.seat_calls.specs.Passing.{MayAppend};
+ghost use Rattle.weak_wait.specs.Reads.{IsRead};
+ghost use Rattle.managed_side.specs.Steps.{CitesRightly, IsFresh, IsManagedStep, take_op, weak_op};
+ghost use Rattle.joint_history.specs.Callers.{HoldsPass, KeepsReads, KnowsNothing, ReadsStay};
 ghost use Rattle.joint_history.specs.Knowing.{line_known};
-ghost use Rattle.joint_history.specs.Locked.{made_by, Drew, ManagedKnows, MayMake, Makes, MakesNone};
-ghost use Rattle.joint_history.specs.Passing.{MayAppend};
+ghost use Rattle.joint_history.specs.Locked.{Drew, Makes, MakesNone, ManagedKnows, MayMake, StaysSeated, TakesPin, made_by};
+ghost use Rattle.joint_history.specs.Operations.{ReadsExactly};
 
-use crate::seats::{SeatDrawing, give_back, lend};
-use joint_model::{Holding, Op, Reply, Thread, Var};
+use joint_model::{Act, Cell, Entries, Holding, MNum, Op, Reply, Thread, Var};
 use managed_side::ManagedSide;
 use order_table::{Order, OrderName, Role, Seat};
+use seat_calls::{Lives, SeatDrawing, give_back, lend, own_pin, read_locked, settle_taken};
 use std::alloc::{AllocError, Global};
 use std::marker::{Model, PhantomData};
+use weak_wait::reply_of;
 
 /// The managed side with the seat that owns its role. The side is for as many threads as the run has. The seat knows a past, whose managed
 /// entries are the side's list and at whose end the managed side is as this one.
@@ -31,6 +38,7 @@ pub struct LockedManaged<N: OrderName> {
 
 impl<N: OrderName> Model for LockedManaged<N> {
     ghost use Rattle.std.specs.Prelude.{◌≡◌};
+    ghost use Rattle.order_table.specs.Allowed.{Settled};
     ghost use Rattle.order_table.specs.Views.{Owns};
     ghost use Rattle.joint_history.specs.Locked.{ManagedKnows, UnderManaged};
 
@@ -38,7 +46,23 @@ impl<N: OrderName> Model for LockedManaged<N> {
 
     ghost view = { λ l. record { side = l.side; view = l.seat.view } };
 
-    ghost invariant = { λ l. (l.seat.order ≡ N.order) × Owns l.seat.view 0 × ManagedKnows l.seat.view l.side × (l.side.threads ≡ N.managed) };
+    ghost invariant = { λ l. (l.seat.order ≡ N.order) × Owns l.seat.view 0 × ManagedKnows l.seat.view l.side × (l.side.threads ≡ N.managed) × Settled l.seat.view };
+}
+
+/// Which managed objects are live.
+#[derive(Drop)]
+pub(crate) struct LiveObjects<'a> {
+    pub(crate) side: &'a ManagedSide,
+}
+
+impl<'a> Lives for LiveObjects<'a> {
+    ghost use Rattle.joint_model.specs.Heaps.{IsLive};
+
+    ghost live = { λ l m. IsLive l.side.now.state.managed.heap m };
+
+    fn is_live(&self, m: MNum) -> bool {
+        self.side.is_live(m)
+    }
 }
 
 /// The side draws by the seat: what is said here is what that leaves in both, and nothing else.
@@ -56,11 +80,13 @@ pub(crate) fn draw_step(
     requires fresh { IsFresh side.old.state op.now }
     requires cites { CitesRightly op.now cites }
     requires takes { TakesManaged side.old.threads caller }
-    requires may { MayAppend order.now seat.old 0 caller op.now }
+    requires may { MayAppend order.now seat.old 0 caller op.now None }
+    requires settled { Settled seat.old.view }
     requires entries { line_known seat.old.view 0 ≡ side.old.entries }
+    ensures settled { Settled seat.new.view }
     ensures drew { IfOk result (λ r. Drew managed_rules 0 order.now seat.old seat.new side.old side.new (numbered r.0 (made_by caller index op.now r.1 cites)) nothing) }
     ensures threads { side.new.threads ≡ side.old.threads }
-    ensures err { OnErr result ((seat.new ≡ seat.old) × (side.new ≡ side.old)) }
+    ensures err { OnErr result (StaysSeated seat.old seat.new × (side.new ≡ side.old)) }
 {
     let mut drawing = SeatDrawing {
         order,
@@ -73,7 +99,54 @@ pub(crate) fn draw_step(
     Ok((drawing.last, reply))
 }
 
-// The same of a take of the object of the thread's pin.
+// The same of a `weak`, which sets the cell's word by the seat where it sets the cell.
+fn draw_weak(
+    side: &mut ManagedSide,
+    order: &Order,
+    seat: &mut Seat,
+    caller: Thread,
+    index: u16,
+    k: Cell,
+    v: Var,
+) -> Result<(u64, Reply), AllocError>
+    requires thread { IsManagedThread caller }
+    requires cell { k.0 < 64 }
+    requires var { IsVar v }
+    requires takes { TakesManaged side.old.threads caller }
+    requires order { seat.old.order ≡ order.now }
+    requires owner { Owns seat.old.view 0 × Owns seat.old.view (caller_line caller) }
+    requires settled { Settled seat.old.view }
+    requires knows { ManagedKnows seat.old.view side.old }
+    ensures drew { IfOk result (λ r. Drew managed_rules 0 order.now seat.old seat.new side.old side.new (numbered r.0 (made_by caller index (weak_op k v) r.1 None)) nothing) }
+    ensures settled { Settled seat.new.view }
+    ensures threads { side.new.threads ≡ side.old.threads }
+    ensures err { OnErr result (StaysSeated seat.old seat.new × (side.new ≡ side.old)) }
+{
+    let word = order.load_cell(seat, k);
+    let mut drawing = SeatDrawing {
+        order,
+        seat,
+        role: Role::Managed,
+        first: None,
+        last: 0,
+    };
+    let reply = side.weak(&mut drawing, caller, index, k, v, word)?;
+    Ok((drawing.last, reply))
+}
+
+/// The number of a managed thread, which is that of its reader.
+pub(crate) fn reader_of(t: Thread) -> u8
+    requires { IsManagedThread t }
+    ensures number { result ≡ thread_number t }
+    ensures few { (0 < result) × (result < 9) }
+{
+    match t {
+        Thread::M(n) => n,
+        _ => unreachable!(),
+    }
+}
+
+// The same of a `take` of the object of the thread's pin, which is cleared then.
 fn draw_take(
     side: &mut ManagedSide,
     order: &Order,
@@ -85,12 +158,17 @@ fn draw_take(
     requires thread { IsManagedThread caller }
     requires var { IsVar v }
     requires takes { TakesManaged side.old.threads caller }
-    requires may { MayAppend order.now seat.old 0 caller (take_op v) }
-    requires entries { line_known seat.old.view 0 ≡ side.old.entries }
-    ensures drew { IfOk result (λ r. Drew managed_rules 0 order.now seat.old seat.new side.old side.new (numbered r.0 (made_by caller index (take_op v) r.1 None)) nothing) }
+    requires order { seat.old.order ≡ order.now }
+    requires owner { Owns seat.old.view 0 × Owns seat.old.view (caller_line caller) }
+    requires settled { Settled seat.old.view }
+    requires knows { ManagedKnows seat.old.view side.old }
+    ensures drew { IfOk result (λ r. TakesPin order.now seat.old seat.new side.old side.new caller index v r) }
+    ensures settled { Settled seat.new.view }
     ensures threads { side.new.threads ≡ side.old.threads }
-    ensures err { OnErr result ((seat.new ≡ seat.old) × (side.new ≡ side.old)) }
+    ensures err { OnErr result (StaysSeated seat.old seat.new × (side.new ≡ side.old)) }
 {
+    let reader = reader_of(caller);
+    let pin = own_pin(order, seat, reader);
     let mut drawing = SeatDrawing {
         order,
         seat,
@@ -98,9 +176,10 @@ fn draw_take(
         first: None,
         last: 0,
     };
-    let pin = side.pin(caller);
     let reply = side.take(&mut drawing, caller, index, v, pin)?;
-    Ok((drawing.last, reply))
+    let number = drawing.last;
+    settle_taken(order, seat, reader);
+    Ok((number, reply))
 }
 
 impl<N: OrderName> LockedManaged<N> {
@@ -112,7 +191,7 @@ impl<N: OrderName> LockedManaged<N> {
         holding: Holding,
     ) -> Result<LockedManaged<N>, AllocError>
         requires threads { (threads ≤ 8) × (threads ≡ N.managed) }
-        requires seat { (seat.order ≡ N.order) × Owns seat.view 0 × KnowsNothing seat.view }
+        requires seat { (seat.order ≡ N.order) × Owns seat.view 0 × Settled seat.view × KnowsNothing seat.view }
         ensures side { IfOk result (λ l. (l.side.entries ≡ []) × (l.side.state ≡ opening_replay)) }
         ensures seat { IfOk result (λ l. l.view ≡ seat.view) }
     {
@@ -127,7 +206,7 @@ impl<N: OrderName> LockedManaged<N> {
     /// The side and its seat.
     pub(crate) fn into_parts(self) -> (ManagedSide, Seat)
         ensures side { result.0 ≡ self.side }
-        ensures seat { (result.1.order ≡ N.order) × (result.1.view ≡ self.view) × Owns result.1.view 0 }
+        ensures seat { (result.1.order ≡ N.order) × (result.1.view ≡ self.view) × Owns result.1.view 0 × Settled result.1.view }
         ensures knows { ManagedKnows result.1.view result.0 }
     {
         let LockedManaged { side, seat, of: _ } = self;
@@ -146,13 +225,16 @@ impl<N: OrderName> LockedManaged<N> {
         cites: Option<u64>,
     ) -> Result<(u64, Reply), AllocError>
         requires order { (order.now ≡ N.order) × (mine.old.order ≡ N.order) }
+        requires settled { Settled mine.old.view }
         requires pass { IsThread caller × HoldsPass caller mine.old.view }
         requires takes { TakesManaged N.managed caller }
         requires event { IsManagedStep caller op.now }
         requires may { MayMake caller mine.old.view index op.now cites }
         ensures order { mine.new.order ≡ N.order }
+        ensures settled { Settled mine.new.view }
         ensures pass { HoldsPass caller mine.new.view }
-        ensures ok { IfOk result (λ r. Makes caller mine.old.view mine.new.view (numbered r.0 (made_by caller index op.now r.1 cites)) nothing) }
+        ensures ok { IfOk result (λ r. Makes caller mine.old.view mine.new.view (numbered r.0 (made_by caller index op.now r.1 cites))) }
+        ensures reads { ReadsStay caller mine.old.view mine.new.view }
         ensures err { OnErr result (MakesNone caller mine.old.view mine.new.view) }
     {
         lend(order, &mut self.seat, mine, caller);
@@ -180,18 +262,83 @@ impl<N: OrderName> LockedManaged<N> {
         v: Var,
     ) -> Result<(u64, Reply), AllocError>
         requires order { (order.now ≡ N.order) × (mine.old.order ≡ N.order) }
+        requires settled { Settled mine.old.view }
         requires pass { IsManagedThread caller × HoldsPass caller mine.old.view }
         requires takes { TakesManaged N.managed caller }
         requires var { IsVar v }
         requires may { MayMake caller mine.old.view index (take_op v) None }
         ensures order { mine.new.order ≡ N.order }
+        ensures settled { Settled mine.new.view }
         ensures pass { HoldsPass caller mine.new.view }
-        ensures ok { IfOk result (λ r. Makes caller mine.old.view mine.new.view (numbered r.0 (made_by caller index (take_op v) r.1 None)) nothing) }
+        ensures ok { IfOk result (λ r. Makes caller mine.old.view mine.new.view (numbered r.0 (made_by caller index (take_op v) r.1 None))) }
+        ensures reads { ReadsStay caller mine.old.view mine.new.view }
         ensures err { OnErr result (MakesNone caller mine.old.view mine.new.view) }
     {
         lend(order, &mut self.seat, mine, caller);
         let made = draw_take(&mut self.side, order, &mut self.seat, caller, index, v);
         give_back(order, &mut self.seat, mine, caller);
         made
+    }
+
+    /// Makes `weak K V` of a managed thread, and answers its entry's number and the reply. Where it sets the cell, the cell's word is stored in the same
+    /// hold of the lock. The caller's seat knows the entry then. Answers `AllocError` where there is no memory, and no entry is made then.
+    pub(crate) fn weak(
+        &mut self,
+        order: &Order,
+        mine: &mut Seat,
+        caller: Thread,
+        index: u16,
+        k: Cell,
+        v: Var,
+    ) -> Result<(u64, Reply), AllocError>
+        requires order { (order.now ≡ N.order) × (mine.old.order ≡ N.order) }
+        requires settled { Settled mine.old.view }
+        requires pass { IsManagedThread caller × HoldsPass caller mine.old.view }
+        requires takes { TakesManaged N.managed caller }
+        requires cell { k.0 < 64 }
+        requires var { IsVar v }
+        requires may { MayMake caller mine.old.view index (weak_op k v) None }
+        ensures order { mine.new.order ≡ N.order }
+        ensures settled { Settled mine.new.view }
+        ensures pass { HoldsPass caller mine.new.view }
+        ensures ok { IfOk result (λ r. Makes caller mine.old.view mine.new.view (numbered r.0 (made_by caller index (weak_op k v) r.1 None))) }
+        ensures reads { ReadsStay caller mine.old.view mine.new.view }
+        ensures err { OnErr result (MakesNone caller mine.old.view mine.new.view) }
+    {
+        lend(order, &mut self.seat, mine, caller);
+        let made = draw_weak(&mut self.side, order, &mut self.seat, caller, index, k, v);
+        give_back(order, &mut self.seat, mine, caller);
+        made
+    }
+
+    /// Reads a cell for a managed thread by the locked seat, which knows the whole managed list: so the answer is what that list gives. The entry stands in
+    /// the thread's own list, which has room for it. Answers the entry's number and the reply. It takes no memory.
+    pub(crate) fn read(
+        &mut self,
+        order: &Order,
+        mine: &mut Seat,
+        reads: &mut Entries,
+        caller: Thread,
+        index: u16,
+        act: &Act,
+    ) -> (u64, Reply)
+        requires order { (order.now ≡ N.order) × (mine.old.order ≡ N.order) }
+        requires settled { Settled mine.old.view }
+        requires pass { IsManagedThread caller × HoldsPass caller mine.old.view }
+        requires act { IsRead act.now }
+        requires reads { KeepsReads caller mine.old.view reads.old.entries }
+        requires spare { 1 ≤ reads.old.spare }
+        requires may { MayMake caller mine.old.view index (op.Line act.now) None }
+        ensures order { mine.new.order ≡ N.order }
+        ensures settled { Settled mine.new.view }
+        ensures pass { HoldsPass caller mine.new.view }
+        ensures makes { Makes caller mine.old.view mine.new.view (numbered result.0 (made_by caller index (op.Line act.now) result.1 None)) }
+        ensures exact { ReadsExactly caller mine.old.view mine.new.view act.now result.1 }
+        ensures reads { KeepsReads caller mine.new.view reads.new.entries }
+        ensures spare { reads.new.spare + 1 ≡ reads.old.spare }
+    {
+        let reader = reader_of(caller);
+        let (number, got) = read_locked(order, &mut self.seat, mine, reads, reader, index, act);
+        (number, reply_of(got))
     }
 }

@@ -7,16 +7,17 @@ ghost use Rattle.joint_model.specs.declared.events.Op.TheVariants as op;
 ghost use Rattle.joint_model.specs.declared.events.Reply.TheVariants as says;
 ghost use Rattle.joint_model.specs.Sides.{peer_rules};
 ghost use Rattle.joint_model.specs.Told.{nothing};
+ghost use Rattle.order_table.specs.Allowed.{Settled};
 ghost use Rattle.peer_side.specs.Sides.{is_own, reserve_begun, seen};
 ghost use Rattle.joint_history.specs.Callers.{HoldsPass};
 ghost use Rattle.joint_history.specs.Driven.{driver_entry};
 ghost use Rattle.joint_history.specs.DriverMarks.{DrawsSweep, EndsFirst, HasBegunMarking, MakesBegin, MakesMark, MakesSweep, MayBeginMarking, MayEndMarking, MayMarkCycle};
 ghost use Rattle.joint_history.specs.Knowing.{line_known};
 ghost use Rattle.joint_history.specs.Locked.{Drew};
-ghost use Rattle.joint_history.specs.Passing.{MayAppend};
+ghost use Rattle.seat_calls.specs.Passing.{MayAppend};
 
 use crate::peer::LockedPeer;
-use crate::seats::{SeatDrawing, give_back, lend};
+use seat_calls::{SeatDrawing, give_back, lend};
 use joint_model::{Marking, Thread};
 use order_table::{Order, OrderName, Role, Seat};
 use peer_side::{PeerSide, Swept};
@@ -32,8 +33,10 @@ pub struct Begun {
 // The side draws the sweep of its open marking by the seat. It takes no memory.
 fn draw_sweep(side: &mut PeerSide, order: &Order, seat: &mut Seat, index: u16) -> (u64, Swept)
     requires open { IsSome side.old.state.marking }
-    requires may { MayAppend order.now seat.old 1 C op.Sweep }
+    requires may { MayAppend order.now seat.old 1 C op.Sweep None }
+    requires settled { Settled seat.old.view }
     requires entries { line_known seat.old.view 1 ≡ side.old.entries }
+    ensures settled { Settled seat.new.view }
     ensures drew { DrawsSweep order.now seat.old seat.new (seen side.old) (seen side.new) index result.0 result.1 }
     ensures reserve { side.new.reserve ≡ side.old.reserve }
     ensures threads { side.new.threads ≡ side.old.threads }
@@ -55,8 +58,10 @@ fn draw_sweep(side: &mut PeerSide, order: &Order, seat: &mut Seat, index: u16) -
 fn draw_begin(side: &mut PeerSide, order: &Order, seat: &mut Seat, index: u16) -> (u64, Marking)
     requires closed { side.old.state.marking ≡ None }
     requires reserved { side.old.reserve.marking ≡ true }
-    requires may { MayAppend order.now seat.old 1 C op.Begin }
+    requires may { MayAppend order.now seat.old 1 C op.Begin None }
+    requires settled { Settled seat.old.view }
     requires entries { line_known seat.old.view 1 ≡ side.old.entries }
+    ensures settled { Settled seat.new.view }
     ensures drew { Drew peer_rules 1 order.now seat.old seat.new (seen side.old) (seen side.new) (driver_entry result.0 index op.Begin (says.Mark result.1) None) nothing }
     ensures reserve { side.new.reserve ≡ reserve_begun (is_own C side.old.reserve.marking) side.old.reserve }
     ensures threads { side.new.threads ≡ side.old.threads }
@@ -79,10 +84,12 @@ impl<N: OrderName> LockedPeer<N> {
     /// peers that it freed stand among all that were freed. `mine` is the driver's seat, which knows the entry then. It takes no memory.
     pub(crate) fn sweep(&mut self, order: &Order, mine: &mut Seat, index: u16) -> (u64, Swept)
         requires order { (order.now ≡ N.order) × (mine.old.order ≡ N.order) }
+        requires settled { Settled mine.old.view }
         requires pass { HoldsPass C mine.old.view }
         requires open { IsSome self.old.side.state.marking ⊎ HasBegunMarking mine.old.view index }
         requires may { MayEndMarking mine.old.view index }
         ensures order { mine.new.order ≡ N.order }
+        ensures settled { Settled mine.new.view }
         ensures pass { HoldsPass C mine.new.view }
         ensures closed { self.new.side.state.marking ≡ None }
         ensures makes { MakesSweep mine.old.view mine.new.view index result.0 result.1 }
@@ -96,10 +103,12 @@ impl<N: OrderName> LockedPeer<N> {
     // Begins the cycle's own marking, where none is open. It takes no memory.
     fn begin(&mut self, order: &Order, mine: &mut Seat, index: u16) -> (u64, Marking)
         requires order { (order.now ≡ N.order) × (mine.old.order ≡ N.order) }
+        requires settled { Settled mine.old.view }
         requires pass { HoldsPass C mine.old.view }
         requires closed { self.old.side.state.marking ≡ None }
         requires may { MayBeginMarking mine.old.view index }
         ensures order { mine.new.order ≡ N.order }
+        ensures settled { Settled mine.new.view }
         ensures pass { HoldsPass C mine.new.view }
         ensures makes { MakesBegin mine.old.view mine.new.view index result.0 result.1 }
     {
@@ -112,9 +121,11 @@ impl<N: OrderName> LockedPeer<N> {
     // Ends the open marking, if there is one.
     fn end_open(&mut self, order: &Order, mine: &mut Seat, index: u16) -> Option<(u64, Swept)>
         requires order { (order.now ≡ N.order) × (mine.old.order ≡ N.order) }
+        requires settled { Settled mine.old.view }
         requires pass { HoldsPass C mine.old.view }
         requires may { MayMarkCycle mine.old.view index }
         ensures order { mine.new.order ≡ N.order }
+        ensures settled { Settled mine.new.view }
         ensures pass { HoldsPass C mine.new.view }
         ensures closed { self.new.side.state.marking ≡ None }
         ensures ends { EndsFirst mine.old.view mine.new.view index result }
@@ -129,9 +140,11 @@ impl<N: OrderName> LockedPeer<N> {
     /// seat, which knows the entries then. It takes no memory.
     pub(crate) fn mark(&mut self, order: &Order, mine: &mut Seat, index: u16) -> Begun
         requires order { (order.now ≡ N.order) × (mine.old.order ≡ N.order) }
+        requires settled { Settled mine.old.view }
         requires pass { HoldsPass C mine.old.view }
         requires may { MayMarkCycle mine.old.view index }
         ensures order { mine.new.order ≡ N.order }
+        ensures settled { Settled mine.new.view }
         ensures pass { HoldsPass C mine.new.view }
         ensures makes { MakesMark mine.old.view mine.new.view index result }
     {

@@ -6,6 +6,7 @@ ghost use Rattle.joint_model.specs.declared.events.Op.TheVariants as op;
 ghost use Rattle.joint_model.specs.declared.events.Reply.TheVariants as says;
 ghost use Rattle.joint_model.specs.Components.{mirror_edges};
 ghost use Rattle.joint_model.specs.PeerReplay.{MayMirror};
+ghost use Rattle.order_table.specs.Allowed.{Settled};
 ghost use Rattle.bridge_graph.specs.Handles.{handles_of};
 ghost use Rattle.bridge_graph.specs.Parts.{IsPart};
 ghost use Rattle.peer_side.specs.Sides.{seen};
@@ -15,10 +16,11 @@ ghost use Rattle.joint_history.specs.Callers.{HoldsPass};
 ghost use Rattle.joint_history.specs.Driven.{DriverMakesNone};
 ghost use Rattle.joint_history.specs.DriverMirrors.{DrawsMirror, MakesMirror, MayMirrorCycle};
 ghost use Rattle.joint_history.specs.Knowing.{line_known};
-ghost use Rattle.joint_history.specs.Passing.{MayAppend};
+ghost use Rattle.joint_history.specs.Locked.{StaysSeated};
+ghost use Rattle.seat_calls.specs.Passing.{MayAppend};
 
 use crate::peer::LockedPeer;
-use crate::seats::{SeatDrawing, give_back, lend};
+use seat_calls::{SeatDrawing, give_back, lend};
 use bridge_graph::DeadGraph;
 use joint_model::{Cycle, Thread};
 use order_table::{Order, OrderName, Role, Seat};
@@ -42,14 +44,16 @@ fn draw_mirror(
     requires strong_ones { AreHandlesStrong side.old.state graph.now.nodes }
     requires none_waits { side.old.reserve.waiting ≡ [] }
     requires mirrors { MayMirror side.old.state cycle.0 (Some snap) }
-    requires may { MayAppend order.now seat.old 1 C (op.Mirror cycle) }
+    requires may { MayAppend order.now seat.old 1 C (op.Mirror cycle) None }
+    requires settled { Settled seat.old.view }
     requires entries { line_known seat.old.view 1 ≡ side.old.entries }
+    ensures settled { Settled seat.new.view }
     ensures drew { IfOk result (λ r. DrawsMirror order.now seat.old seat.new (seen side.old) (seen side.new) index cycle snap graph.now comps.now r.0 r.1) }
     ensures reserve { OnOk result (side.new.reserve ≡ reserve_installed (length (handles_of graph.now.nodes))) }
     ensures part { IsPart graph.now.nodes graph.now.edges }
     ensures listing { IsListing comps.now.comps comps.now.pairs }
     ensures threads { side.new.threads ≡ side.old.threads }
-    ensures err { OnErr result ((seat.new ≡ seat.old) × (side.new ≡ side.old)) }
+    ensures err { OnErr result (StaysSeated seat.old seat.new × (side.new ≡ side.old)) }
 {
     let _ = (graph.nodes(), comps.len());
     let mut drawing = SeatDrawing {
@@ -78,9 +82,11 @@ impl<N: OrderName> LockedPeer<N> {
         comps: &Components,
     ) -> Result<(u64, u32), AllocError>
         requires order { (order.now ≡ N.order) × (mine.old.order ≡ N.order) }
+        requires settled { Settled mine.old.view }
         requires pass { HoldsPass C mine.old.view }
         requires may { MayMirrorCycle mine.old.view index cycle.0 snap graph.now comps.now }
         ensures order { mine.new.order ≡ N.order }
+        ensures settled { Settled mine.new.view }
         ensures pass { HoldsPass C mine.new.view }
         ensures ok { IfOk result (λ r. MakesMirror mine.old.view mine.new.view index cycle snap graph.now comps.now r.1 r.0) }
         ensures err { OnErr result (DriverMakesNone mine.old.view mine.new.view) }

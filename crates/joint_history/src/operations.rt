@@ -2,19 +2,21 @@
 // before it. No two locks are held together. A caller's seat is the note between them: after an event it knows the entry, and hands it to the
 // other side's seat with its pass.
 
-ghost use Rattle.std.specs.Prelude.{◌≡◌, ◌≤◌, [], IfOk, IsOk, None, OnErr, Some};
+ghost use Rattle.std.specs.Prelude.{◌≡◌, ◌≤◌, [], IfOk, IsOk, OnErr, false};
+ghost use Rattle.joint_model.specs.declared.events.Op.TheVariants as op;
+ghost use Rattle.joint_model.specs.declared.lines.Act.{Act};
 ghost use Rattle.joint_model.specs.Lines.{IsLine, IsManagedThread, IsPeerThread, is_peer_event};
-ghost use Rattle.joint_model.specs.Told.{nothing};
+ghost use Rattle.order_table.specs.Allowed.{Settled};
 ghost use Rattle.peer_side.specs.Steps.{IsRelease};
-ghost use Rattle.joint_history.specs.Callers.{HoldsPass, IsOfRun, last_index, own};
+ghost use Rattle.joint_history.specs.Callers.{HoldsPass, IsOfRun, KeepsReads, last_index, own};
 ghost use Rattle.joint_history.specs.Collecting.{Collects};
 ghost use Rattle.joint_history.specs.Locked.{MayMake, Makes, MakesNone};
-ghost use Rattle.joint_history.specs.Operations.{StopsWithoutMemory, IsMadeByEvents, IsOwnThread, IsPeerOperation, IsSideEvent, MakesAll, MayBegin, Runs, answer_of, entry_by, first_of, second_of, taken_by, third_of};
+ghost use Rattle.joint_history.specs.Operations.{StopsWithoutMemory, IsMadeByEvents, IsOwnThread, IsPeerOperation, IsCallBy, IsSideEvent, MakesAll, MayBegin, ReadsExactly, Runs, answer_of, call_of, entry_by, first_of, second_of, third_of};
 
 use crate::callers::{Caller, Receipt};
 use crate::keeping::{Keep, Keeps};
 use crate::shared::Shared;
-use joint_model::{Act, Op, Reply, Thread, Var};
+use joint_model::{Act, Cell, Entries, Op, Reply, Thread, Var};
 use order_table::{OrderName, Seat};
 use std::alloc::AllocError;
 use std::sync::Wait;
@@ -97,13 +99,27 @@ fn answer_of(act: &Act, first: Reply, second: Reply) -> Reply
     }
 }
 
-// The variable of a `take V`.
-fn taken_by(op: &Op) -> Option<Var>
-    ensures { result ≡ taken_by op.now }
+// The call of the managed side by which an event of its thread is made.
+#[derive(Clone, Copy)]
+enum ManagedCall {
+    Read { act: Act },
+    Weak { k: Cell, v: Var },
+    Take { v: Var },
+    Step,
+}
+
+#[inline(always)]
+fn call_of(op: &Op) -> ManagedCall
+    ensures { result ≡ call_of op.now }
 {
     match *op {
-        Op::Line(Act::Take { v }) => Some(v),
-        _ => None,
+        Op::Line(act) => match act {
+            Act::Read { k: _ } | Act::Await { k: _ } => ManagedCall::Read { act },
+            Act::Weak { k, v } => ManagedCall::Weak { k, v },
+            Act::Take { v } => ManagedCall::Take { v },
+            _ => ManagedCall::Step,
+        },
+        _ => ManagedCall::Step,
     }
 }
 
@@ -128,25 +144,88 @@ fn is_of_peers(t: Thread, op: &Op) -> bool
 }
 
 impl<N: OrderName, K: Keeps<N>> Shared<N, K> {
-    // Makes one event under its side's lock, and answers its entry's number and the reply.
+    // Makes one event of the managed side's list, or a read, under the managed lock, and answers its entry's number and the reply.
     #[inline(always)]
-    fn event(
+    fn managed_event(
         &self,
         rt: &impl Wait,
         mine: &mut Seat,
+        reads: &mut Entries,
         t: Thread,
         index: u16,
         op: &Op,
         cites: Option<u64>,
     ) -> Result<(u64, Reply), AllocError>
         requires order { mine.old.order ≡ N.order }
+        requires settled { Settled mine.old.view }
+        requires pass { IsOwnThread t × HoldsPass t mine.old.view }
+        requires run { IsOfRun N.managed N.peers t }
+        requires event { IsCallBy t op.now (call_of op.now) }
+        requires reads { KeepsReads t mine.old.view reads.old.entries }
+        requires may { MayMake t mine.old.view index op.now cites }
+        ensures order { mine.new.order ≡ N.order }
+        ensures settled { Settled mine.new.view }
+        ensures pass { HoldsPass t mine.new.view }
+        ensures reads { KeepsReads t mine.new.view reads.new.entries }
+        ensures ok { IfOk result (λ r. Makes t mine.old.view mine.new.view (entry_by t index r.0 op.now r.1 cites)) }
+        ensures exact { IfOk result (λ r. (a : Act) → op.now ≡ op.Line a → ReadsExactly t mine.old.view mine.new.view a r.1) }
+        ensures err { OnErr result (MakesNone t mine.old.view mine.new.view) }
+    {
+        match call_of(op) {
+            ManagedCall::Read { act } => {
+                reads.reserve(1)?;
+                let mut held = self.managed.hold(rt);
+                Ok(held
+                    .value()
+                    .read(&self.order, mine, reads, t, index, &act))
+            }
+            ManagedCall::Weak { k, v } => {
+                self.managed
+                    .hold(rt)
+                    .value()
+                    .weak(&self.order, mine, t, index, k, v)
+            }
+            ManagedCall::Take { v } => {
+                self.managed
+                    .hold(rt)
+                    .value()
+                    .take(&self.order, mine, t, index, v)
+            }
+            ManagedCall::Step => {
+                self.managed
+                    .hold(rt)
+                    .value()
+                    .step(&self.order, mine, t, index, op, cites)
+            }
+        }
+    }
+
+    // Makes one event, the managed side's or a read under the managed lock and all others under the peer lock, and answers its entry's number and the
+    // reply.
+    #[inline(always)]
+    fn event(
+        &self,
+        rt: &impl Wait,
+        mine: &mut Seat,
+        reads: &mut Entries,
+        t: Thread,
+        index: u16,
+        op: &Op,
+        cites: Option<u64>,
+    ) -> Result<(u64, Reply), AllocError>
+        requires order { mine.old.order ≡ N.order }
+        requires settled { Settled mine.old.view }
         requires pass { IsOwnThread t × HoldsPass t mine.old.view }
         requires run { IsOfRun N.managed N.peers t }
         requires event { IsSideEvent t op.now }
+        requires reads { KeepsReads t mine.old.view reads.old.entries }
         requires may { MayMake t mine.old.view index op.now cites }
         ensures order { mine.new.order ≡ N.order }
+        ensures settled { Settled mine.new.view }
         ensures pass { HoldsPass t mine.new.view }
-        ensures ok { IfOk result (λ r. Makes t mine.old.view mine.new.view (entry_by t index r.0 op.now r.1 cites) nothing) }
+        ensures reads { KeepsReads t mine.new.view reads.new.entries }
+        ensures ok { IfOk result (λ r. Makes t mine.old.view mine.new.view (entry_by t index r.0 op.now r.1 cites)) }
+        ensures exact { is_peer_event t op.now ≡ false → IfOk result (λ r. (a : Act) → op.now ≡ op.Line a → ReadsExactly t mine.old.view mine.new.view a r.1) }
         ensures release { IsRelease op.now → IsOk result }
         ensures err { OnErr result (MakesNone t mine.old.view mine.new.view) }
     {
@@ -157,17 +236,7 @@ impl<N: OrderName, K: Keeps<N>> Shared<N, K> {
                 .value()
                 .step(&self.order, mine, t, index, op, cites);
         }
-        if let Some(v) = taken_by(op) {
-            return self
-                .managed
-                .hold(rt)
-                .value()
-                .take(&self.order, mine, t, index, v);
-        }
-        self.managed
-            .hold(rt)
-            .value()
-            .step(&self.order, mine, t, index, op, cites)
+        self.managed_event(rt, mine, reads, t, index, op, cites)
     }
 
     // Runs an operation with the thread's seat, each event in a hold of its own side's lock.
@@ -176,23 +245,29 @@ impl<N: OrderName, K: Keeps<N>> Shared<N, K> {
         &self,
         rt: &impl Wait,
         mine: &mut Seat,
+        reads: &mut Entries,
         t: Thread,
         index: u16,
         act: &Act,
     ) -> Result<Receipt, AllocError>
         requires order { mine.old.order ≡ N.order }
+        requires settled { Settled mine.old.view }
         requires pass { IsOwnThread t × HoldsPass t mine.old.view }
         requires run { IsOfRun N.managed N.peers t }
         requires begins { MayBegin t mine.old.view index }
         requires act { IsMadeByEvents t act.now }
+        requires reads { KeepsReads t mine.old.view reads.old.entries }
         ensures order { mine.new.order ≡ N.order }
+        ensures settled { Settled mine.new.view }
         ensures pass { HoldsPass t mine.new.view }
         ensures begins { MayBegin t mine.new.view index }
+        ensures reads { KeepsReads t mine.new.view reads.new.entries }
         ensures ok { IfOk result (λ r. Runs t mine.old.view mine.new.view index act.now r) }
+        ensures exact { IfOk result (λ r. ReadsExactly t mine.old.view mine.new.view act.now r.reply) }
         ensures err { OnErr result (StopsWithoutMemory t mine.old.view mine.new.view index act.now) }
     {
         let start = first_of(act);
-        let (first, reply) = self.event(rt, mine, t, index, &start, None)?;
+        let (first, reply) = self.event(rt, mine, reads, t, index, &start, None)?;
         let Some(next) = second_of(act, reply) else {
             return Ok(Receipt {
                 first,
@@ -200,7 +275,7 @@ impl<N: OrderName, K: Keeps<N>> Shared<N, K> {
                 reply,
             });
         };
-        let (second, answer) = self.event(rt, mine, t, index, &next, Some(first))?;
+        let (second, answer) = self.event(rt, mine, reads, t, index, &next, Some(first))?;
         let Some(end) = third_of(&next, answer) else {
             return Ok(Receipt {
                 first,
@@ -208,7 +283,7 @@ impl<N: OrderName, K: Keeps<N>> Shared<N, K> {
                 reply: answer_of(act, reply, answer),
             });
         };
-        let (last, _) = self.event(rt, mine, t, index, &end, Some(second))?;
+        let (last, _) = self.event(rt, mine, reads, t, index, &end, Some(second))?;
         Ok(Receipt {
             first,
             last,
@@ -233,9 +308,10 @@ impl<N: OrderName, K: Keeps<N>> Shared<N, K> {
         ensures thread { caller.new.thread ≡ caller.old.thread }
         ensures index { last_index (own caller.new) ≤ index }
         ensures ok { IfOk result (λ r. Runs caller.old.thread caller.old.view caller.new.view index act.now r) }
+        ensures exact { IfOk result (λ r. ReadsExactly caller.old.thread caller.old.view caller.new.view act.now r.reply) }
         ensures err { OnErr result (StopsWithoutMemory caller.old.thread caller.old.view caller.new.view index act.now) }
     {
-        self.run(rt, &mut caller.seat, caller.thread, index, act)
+        self.run(rt, &mut caller.seat, &mut caller.reads, caller.thread, index, act)
     }
 
     /// Runs an operation of a peer thread, on a script line that isn't below that of the caller's last entry. The caller knows its entries
@@ -264,6 +340,6 @@ impl<N: OrderName, K: Keeps<N>> Shared<N, K> {
                 .value()
                 .collect(&self.order, &mut caller.seat, caller.thread, index);
         }
-        self.run(rt, &mut caller.seat, caller.thread, index, act)
+        self.run(rt, &mut caller.seat, &mut caller.reads, caller.thread, index, act)
     }
 }

@@ -6,15 +6,16 @@ ghost use Rattle.joint_model.specs.Lines.{IsThread};
 ghost use Rattle.joint_model.specs.PeerReplay.{PeerAllows};
 ghost use Rattle.joint_model.specs.Sides.{TakesPeer, peer_rules};
 ghost use Rattle.joint_model.specs.Told.{nothing};
+ghost use Rattle.order_table.specs.Allowed.{Settled};
 ghost use Rattle.order_table.specs.Views.{Owns};
 ghost use Rattle.peer_side.specs.Sides.{opening_side, seen};
 ghost use Rattle.peer_side.specs.Steps.{IsPeerStep, IsRelease};
 ghost use Rattle.joint_history.specs.Callers.{HoldsPass, KnowsNothing};
 ghost use Rattle.joint_history.specs.Knowing.{line_known};
-ghost use Rattle.joint_history.specs.Locked.{made_by, Drew, PeerKnows, MayMake, Makes, MakesNone};
-ghost use Rattle.joint_history.specs.Passing.{MayAppend};
+ghost use Rattle.joint_history.specs.Locked.{Drew, Makes, MakesNone, MayMake, PeerKnows, StaysSeated, made_by};
+ghost use Rattle.seat_calls.specs.Passing.{MayAppend};
 
-use crate::seats::{SeatDrawing, give_back, lend};
+use seat_calls::{SeatDrawing, give_back, lend};
 use joint_model::{Holding, Op, Reply, Thread};
 use order_table::{Order, OrderName, Role, Seat};
 use peer_side::PeerSide;
@@ -33,6 +34,7 @@ pub struct LockedPeer<N: OrderName> {
 
 impl<N: OrderName> Model for LockedPeer<N> {
     ghost use Rattle.std.specs.Prelude.{◌≡◌};
+    ghost use Rattle.order_table.specs.Allowed.{Settled};
     ghost use Rattle.order_table.specs.Views.{Owns};
     ghost use Rattle.joint_history.specs.Locked.{PeerKnows, PeerReserves, UnderPeer};
     ghost use Rattle.peer_side.specs.Sides.{seen};
@@ -41,7 +43,7 @@ impl<N: OrderName> Model for LockedPeer<N> {
 
     ghost view = { λ l. record { side = l.side; view = l.seat.view } };
 
-    ghost invariant = { λ l. (l.seat.order ≡ N.order) × Owns l.seat.view 1 × PeerKnows l.seat.view (seen l.side) × PeerReserves l.seat.view l.side × (l.side.threads ≡ N.peers) };
+    ghost invariant = { λ l. (l.seat.order ≡ N.order) × Owns l.seat.view 1 × PeerKnows l.seat.view (seen l.side) × PeerReserves l.seat.view l.side × (l.side.threads ≡ N.peers) × Settled l.seat.view };
 }
 
 // The side draws by the seat: what is said here is what that leaves in both, and nothing else.
@@ -57,11 +59,13 @@ fn draw_step(
     requires step { IsPeerStep caller op.now }
     requires allowed { PeerAllows side.old.state caller op.now cites nothing }
     requires takes { TakesPeer side.old.threads caller }
-    requires may { MayAppend order.now seat.old 1 caller op.now }
+    requires may { MayAppend order.now seat.old 1 caller op.now None }
+    requires settled { Settled seat.old.view }
     requires entries { line_known seat.old.view 1 ≡ side.old.entries }
+    ensures settled { Settled seat.new.view }
     ensures drew { IfOk result (λ r. Drew peer_rules 1 order.now seat.old seat.new (seen side.old) (seen side.new) (numbered r.0 (made_by caller index op.now r.1 cites)) nothing) }
     ensures release { IsRelease op.now → IsOk result }
-    ensures err { OnErr result ((seat.new ≡ seat.old) × (seen side.new ≡ seen side.old)) }
+    ensures err { OnErr result (StaysSeated seat.old seat.new × (seen side.new ≡ seen side.old)) }
     ensures reserve { side.new.reserve ≡ side.old.reserve }
     ensures threads { side.new.threads ≡ side.old.threads }
 {
@@ -85,7 +89,7 @@ impl<N: OrderName> LockedPeer<N> {
         holding: Holding,
     ) -> Result<LockedPeer<N>, AllocError>
         requires threads { (threads ≤ 8) × (threads ≡ N.peers) }
-        requires seat { (seat.order ≡ N.order) × Owns seat.view 1 × KnowsNothing seat.view }
+        requires seat { (seat.order ≡ N.order) × Owns seat.view 1 × Settled seat.view × KnowsNothing seat.view }
         ensures side { IfOk result (λ l. l.side ≡ opening_side threads) }
         ensures seat { IfOk result (λ l. l.view ≡ seat.view) }
     {
@@ -100,7 +104,7 @@ impl<N: OrderName> LockedPeer<N> {
     /// The side and its seat.
     pub(crate) fn into_parts(self) -> (PeerSide, Seat)
         ensures side { result.0 ≡ self.side }
-        ensures seat { (result.1.order ≡ N.order) × (result.1.view ≡ self.view) × Owns result.1.view 1 }
+        ensures seat { (result.1.order ≡ N.order) × (result.1.view ≡ self.view) × Owns result.1.view 1 × Settled result.1.view }
         ensures knows { PeerKnows result.1.view (seen result.0) }
     {
         let LockedPeer { side, seat, of: _ } = self;
@@ -120,11 +124,13 @@ impl<N: OrderName> LockedPeer<N> {
         cites: Option<u64>,
     ) -> Result<(u64, Reply), AllocError>
         requires order { (order.now ≡ N.order) × (mine.old.order ≡ N.order) }
+        requires settled { Settled mine.old.view }
         requires pass { IsThread caller × HoldsPass caller mine.old.view }
         requires takes { TakesPeer N.peers caller }
         requires event { IsPeerStep caller op.now }
         requires may { MayMake caller mine.old.view index op.now cites }
         ensures order { mine.new.order ≡ N.order }
+        ensures settled { Settled mine.new.view }
         ensures pass { HoldsPass caller mine.new.view }
         ensures ok { IfOk result (λ r. Makes caller mine.old.view mine.new.view (numbered r.0 (made_by caller index op.now r.1 cites)) nothing) }
         ensures release { IsRelease op.now → IsOk result }

@@ -3,9 +3,10 @@
 ghost use Rattle.std.specs.Prelude.{◌≡◌, ◌≤◌, [], ◌∷◌, All, IfOk};
 ghost use Rattle.joint_model.specs.Histories.{IsJoinable, IsShuffle};
 ghost use Rattle.joint_model.specs.Lines.{IsDriver, IsThread};
-ghost use Rattle.joint_model.specs.Linked.{IsLinked};
+ghost use Rattle.joint_model.specs.LinkedHistories.{IsLinked};
 ghost use Rattle.known_laws.specs.Lists.{made_by};
 ghost use Rattle.peer_side.specs.Sides.{seen};
+ghost use Rattle.order_table.specs.Allowed.{Settled};
 ghost use Rattle.order_table.specs.Views.{Owns, OwnsAll};
 ghost use Rattle.joint_history.specs.Callers.{Hears, KnowsNothing, Tells};
 ghost use Rattle.joint_history.specs.Desks.{AreAll};
@@ -67,7 +68,7 @@ fn join_past(left: ManagedLists, right: PeerLists) -> PastHistory
 
 impl<N: OrderName, K: Keeps<N>> Shared<N, K> {
     /// Both sides without objects and entries, each for the run's threads of its heap, and the desk at which their callers wait. The seat is
-    /// the one that came with the order. The lists of both sides hold their entries as they are told. Answers `AllocError` where there is no memory.
+    /// the one that came with the order. The lists of both sides and of the callers' reads hold their entries as they are told. Answers `AllocError` where there is no memory.
     pub fn new(
         alloc: Global,
         order: Order,
@@ -77,14 +78,14 @@ impl<N: OrderName, K: Keeps<N>> Shared<N, K> {
         holding: Holding,
     ) -> Result<(Shared<N, K>, Desk<N>), AllocError>
         requires order { order ≡ N.order }
-        requires seat { (seat.order ≡ N.order) × OwnsAll seat.view × KnowsNothing seat.view }
+        requires seat { (seat.order ≡ N.order) × OwnsAll seat.view × KnowsNothing seat.view × Settled seat.view }
         requires counts { (managed ≤ 8) × (peers ≤ 8) }
         requires run { (managed ≡ N.managed) × (peers ≡ N.peers) }
         ensures desk { IfOk result (λ r. (r.1.managed ≡ managed) × (r.1.peers ≡ peers) × AreAll r.1.callers) }
         ensures all { IfOk result (λ r. HasAll r.1 []) }
     {
         let mut seat = seat;
-        let desk = Desk::new(alloc, &order, &mut seat, managed, peers)?;
+        let desk = Desk::new(alloc, &order, &mut seat, managed, peers, holding)?;
         let shared = Shared::with_seat(alloc, order, seat, managed, peers, holding)?;
         Ok((shared, desk))
     }
@@ -99,7 +100,7 @@ impl<N: OrderName, K: Keeps<N>> Shared<N, K> {
         holding: Holding,
     ) -> Result<Shared<N, K>, AllocError>
         requires order { order ≡ N.order }
-        requires seat { (seat.order ≡ N.order) × Owns seat.view 0 × Owns seat.view 1 × KnowsNothing seat.view }
+        requires seat { (seat.order ≡ N.order) × Owns seat.view 0 × Owns seat.view 1 × KnowsNothing seat.view × Settled seat.view }
         requires counts { (managed ≤ 8) × (peers ≤ 8) }
         requires run { (managed ≡ N.managed) × (peers ≡ N.peers) }
     {

@@ -5,12 +5,12 @@ use Rattle.order_table.specs.declared.views.View.{View}
 use Rattle.order_table.specs.Rows.{at}
 use Rattle.order_table.specs.Rule.{IsBelow}
 use Rattle.order_table.specs.Views.{known}
-use Rattle.std.proofs.Common.{length, refl, ap}
+use Rattle.std.proofs.Common.{length, refl, ap, ◌∙◌, ◌+◌}
 use Rattle.std.proofs.lemmas.List.Elements.{All-cons, All-nil}
 use Rattle.joint_model.specs.declared.events.Entry.{Entry}
 use Rattle.joint_model.specs.Draws.{AllBelow}
 use Rattle.order_table.specs.Facts.{line_entries}
-use Rattle.seat_calls.specs.Passing.{top, top_of, floor_of}
+use Rattle.seat_calls.specs.Passing.{top, top_of, floor_of, left_in}
 
 top_below : (n : ℕ) (ks : List KeptEntry) → IsBelow n ks → top ks ≤ n
 top_below n [] b = omega arith
@@ -43,3 +43,9 @@ below_top n (k ∷ ks) l = All-cons (λ (e : Entry). e.number < n) k.entry (line
 length_entries : (ks : List KeptEntry) → length (line_entries ks) ≡ length ks
 length_entries [] = refl
 length_entries (k ∷ ks) = ap suc (length_entries ks)
+
+pub below_floor : (v : View) (i : ℕ) (entries : List Entry) → line_entries (known v i) ≡ entries → AllBelow entries (floor_of v)
+below_floor v i entries e = subst (λ es. AllBelow es (floor_of v)) e (below_top (floor_of v) (known v i) (tops_at v.known i))
+
+pub room_left : (v : View) (i : ℕ) (entries : List Entry) → line_entries (known v i) ≡ entries → 4294967295 ≤ left_in v i + length entries
+room_left v i entries e = let l : length (known v i) ≡ length entries = sym (length_entries (known v i)) ∙ ap length e in omega arith

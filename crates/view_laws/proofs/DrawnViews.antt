@@ -1,18 +1,19 @@
 -- What a seat knows, as it is drawn, stays a past.
-use Rattle.std.proofs.Common.{◌≡◌, inl, inr, ⊎_elim, ℕ, List, [], ◌∷◌, ◌++◌, map, refl, sym, ap, ◌∙◌, subst}
+use Rattle.std.proofs.Common.{◌≡◌, ◌⊎◌, inl, inr, ⊎_elim, ℕ, List, [], ◌∷◌, ◌++◌, map, refl, sym, ap, ◌∙◌, subst}
 use Rattle.std.specs.Prelude.{Contains, if◌then◌else◌}
 use mathlib.Core.List.{IsPrefix}
 use base.Growing.{prefix_trans}
 use Rattle.joint_model.specs.HistoryLines.{stands_in}
 use Rattle.joint_model.specs.Told.{Noted}
-use Rattle.known_laws.specs.Drawn.{of_drawn, drawn_on, kept_drawn, DrawnGrow}
-use Rattle.known_laws.specs.Growing.{kept_in, grown, shown, AreBelow}
+use Rattle.known_laws.specs.Drawn.{of_drawn, drawn_on, kept_drawn, DrawnGrow, DrawnJoin}
+use Rattle.known_laws.specs.Growing.{kept_in, grown, shown, AreBelow, Begin}
 use Rattle.known_laws.specs.Pasts.{end_of}
 use Rattle.known_laws.proofs.Drawing.{drawn_lines_grow, drawn_lines_join}
 use Rattle.order_table.specs.declared.views.KeptEntry.{KeptEntry}
 use Rattle.order_table.specs.declared.views.View.{View}
+use Rattle.order_table.specs.Tells.{BeginsOneHistory}
 use Rattle.order_table.specs.Views.{known}
-use Rattle.view_laws.specs.Knowing.{of_kept, of_order, lines_of, note_of, drawn_lines, DrawnViewsGrow, DrawnViewsJoin}
+use Rattle.view_laws.specs.Knowing.{of_kept, of_order, lines_of, note_of, drawn_lines, IsDrawnView, DrawnViewsGrow, DrawnViewsJoin}
 use Rattle.view_laws.proofs.KnownViews.{grown_by, grown_view, kept_begin, kept_below, view_begins, whole_kept, whole_numbered}
 
 kept-drawn : (ks : List KeptEntry) → of_drawn (map of_order ks) ≡ map of_kept ks
@@ -59,18 +60,24 @@ drawn_views_grow v w r k a told g s below pins draws may = record {
     lines : (i : ℕ) → drawn_lines w i ≡ drawn_on (drawn_lines v) (kept_drawn (end_of a.known.past) n) i
     lines i = grown_by v w r k g s i (drawn_lines v i ++ of_order k ∷ []) (drawn_lines v i) (λ z. map of_order (known w i) ≡ z) (λ q. ap (map of_order) q ∙ snoc-order (known v i) k) (λ q. ap (map of_order) q) ∙ sym (ap (λ z. drawn_on (drawn_lines v) z i) d)
 
-pub drawn_views_join : DrawnViewsJoin
-drawn_views_join v w u a b t o = drawn_lines_join (whole_kept o.whole) (drawn_lines v) (drawn_lines w) (drawn_lines u) a b (whole_numbered 0 o.whole o.numbers) (begins v t.knew) (begins w t.heard) record {
-  either = λ i. ⊎_elim (λ e. inl (ap (map of_order) e)) (λ e. inr (ap (map of_order) e)) (t.either i);
+-- what is known of one history begins its lines
+pub drawn_begins : (u : View) (o : BeginsOneHistory u) (x : View) → ((i : ℕ) → IsPrefix (known x i) (known u i)) → Begin (whole_kept o.whole) (λ i. of_drawn (drawn_lines x i))
+drawn_begins u o x more i = subst (λ l. IsPrefix l (kept_in i (whole_kept o.whole))) (sym (kept-drawn (known x i))) (prefix_trans (lines_of x i) (lines_of u i) (kept_in i (whole_kept o.whole)) (kept_begin (known x i) (known u i) (more i)) (view_begins u o i))
+
+-- of each line the one or the other list, which both begin
+pub drawn_join : (v w u : View) (a : IsDrawnView v) (b : IsDrawnView w) → ((i : ℕ) → (known u i ≡ known v i) ⊎ (known u i ≡ known w i)) → ((i : ℕ) → IsPrefix (known v i) (known u i)) → ((i : ℕ) → IsPrefix (known w i) (known u i)) → BeginsOneHistory u
+    → DrawnJoin a.known.past b.known.past (drawn_lines v) (drawn_lines w) (drawn_lines u)
+drawn_join v w u a b either knew heard o = drawn_lines_join (whole_kept o.whole) (drawn_lines v) (drawn_lines w) (drawn_lines u) a b (whole_numbered 0 o.whole o.numbers) (drawn_begins u o v knew) (drawn_begins u o w heard) record {
+  either = λ i. ⊎_elim (λ e. inl (ap (map of_order) e)) (λ e. inr (ap (map of_order) e)) (either i);
   longer = record {
-    either = λ i. ⊎_elim (λ e. inl (ap (λ l. of_drawn (map of_order l)) e)) (λ e. inr (ap (λ l. of_drawn (map of_order l)) e)) (t.either i);
-    first = λ i. longer (known v i) (known u i) (t.knew i);
-    second = λ i. longer (known w i) (known u i) (t.heard i);
+    either = λ i. ⊎_elim (λ e. inl (ap (λ l. of_drawn (map of_order l)) e)) (λ e. inr (ap (λ l. of_drawn (map of_order l)) e)) (either i);
+    first = λ i. longer (known v i) (known u i) (knew i);
+    second = λ i. longer (known w i) (known u i) (heard i);
   };
 }
   where
     longer : (xs ys : List KeptEntry) → IsPrefix xs ys → IsPrefix (of_drawn (map of_order xs)) (of_drawn (map of_order ys))
     longer xs ys p = subst (λ l. IsPrefix l (of_drawn (map of_order ys))) (sym (kept-drawn xs)) (subst (IsPrefix (map of_kept xs)) (sym (kept-drawn ys)) (kept_begin xs ys p))
 
-    begins : (x : View) → ((i : ℕ) → IsPrefix (known x i) (known u i)) → (i : ℕ) → IsPrefix (of_drawn (drawn_lines x i)) (kept_in i (whole_kept o.whole))
-    begins x more i = subst (λ l. IsPrefix l (kept_in i (whole_kept o.whole))) (sym (kept-drawn (known x i))) (prefix_trans (lines_of x i) (lines_of u i) (kept_in i (whole_kept o.whole)) (kept_begin (known x i) (known u i) (more i)) (view_begins u o i))
+pub drawn_views_join : DrawnViewsJoin
+drawn_views_join v w u a b t o = drawn_join v w u a b t.either t.knew t.heard o

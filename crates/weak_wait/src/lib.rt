@@ -29,4 +29,4 @@ mod reads;
 mod tests;
 
 pub use readers::WeakReader;
-pub use reads::{Got, read, read_waiting};
+pub use reads::{Got, read, read_waiting, reply_of};

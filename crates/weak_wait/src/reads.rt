@@ -33,8 +33,8 @@ pub enum Got {
     PinHeld { m: MNum },
 }
 
-// The reply of an entry that answers so.
-fn reply_of(got: Got) -> Reply
+/// The reply of an entry of a read that answers so.
+pub fn reply_of(got: Got) -> Reply
     ensures { result ≡ reply_of got }
 {
     match got {

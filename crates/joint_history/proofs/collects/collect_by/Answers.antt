@@ -6,9 +6,9 @@ use Rattle.order_table.specs.Views.{role_line}
 use Rattle.peer_side.specs.Makings.{gone_since}
 use Rattle.peer_side.specs.Sides.{seen}
 use Rattle.joint_history.specs.Collecting.{DrawsCollect}
-use Rattle.joint_history.specs.Passing.{MayAppend, left_in}
+use Rattle.seat_calls.specs.Passing.{MayAppend, left_in}
 use Rattle.joint_history.proofs.Collecting.{collect_drew, threads_in_turn}
-use Rattle.joint_history.proofs.Floors.{below_floor, room_left}
+use Rattle.seat_calls.proofs.Floors.{below_floor, room_left}
 use Rattle.joint_history.proofs.collects.collect_by.Goals as goal
 
 pub collect-requires-clause-may_begin : goal.collect-requires-clause-may_begin

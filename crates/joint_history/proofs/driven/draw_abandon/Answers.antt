@@ -1,7 +1,7 @@
 use Rattle.std.proofs.Common.{arith}
 use Rattle.std.proofs.lemmas.Grind.{common_steps}
 use Rattle.managed_side.proofs.Driving.{cycle-there}
-use Rattle.joint_history.proofs.Floors.{below_floor, room_left}
+use Rattle.seat_calls.proofs.Floors.{below_floor, room_left}
 use Rattle.joint_history.proofs.driven.draw_abandon.Goals as goal
 
 pub abandon-requires-clause-may : goal.abandon-requires-clause-may

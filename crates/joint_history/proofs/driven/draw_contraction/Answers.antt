@@ -1,5 +1,5 @@
 use Rattle.std.proofs.Common.{rules}
-use Rattle.joint_history.proofs.Floors.{below_floor, room_left}
+use Rattle.seat_calls.proofs.Floors.{below_floor, room_left}
 use Rattle.joint_history.proofs.driven.draw_contraction.Goals as goal
 
 pub contracted-requires-clause-may : goal.contracted-requires-clause-may

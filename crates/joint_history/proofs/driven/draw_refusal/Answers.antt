@@ -1,4 +1,4 @@
-use Rattle.joint_history.proofs.Floors.{below_floor, room_left}
+use Rattle.seat_calls.proofs.Floors.{below_floor, room_left}
 use Rattle.joint_history.proofs.driven.draw_refusal.Goals as goal
 
 pub refused-requires-clause-may : goal.refused-requires-clause-may

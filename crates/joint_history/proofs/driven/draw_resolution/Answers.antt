@@ -1,5 +1,5 @@
 use Rattle.std.proofs.Common.{rules}
-use Rattle.joint_history.proofs.Floors.{below_floor, room_left}
+use Rattle.seat_calls.proofs.Floors.{below_floor, room_left}
 use Rattle.joint_history.proofs.driven.draw_resolution.Goals as goal
 
 pub resolve-out-requires-clause-may : goal.resolve-out-requires-clause-may

@@ -1,4 +1,4 @@
-use Rattle.joint_history.proofs.Floors.{below_floor, room_left}
+use Rattle.seat_calls.proofs.Floors.{below_floor, room_left}
 use Rattle.joint_history.proofs.handles.draw_clear.Goals as goal
 
 pub clear_refs-requires-clause-may : goal.clear_refs-requires-clause-may

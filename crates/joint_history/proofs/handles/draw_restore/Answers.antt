@@ -1,4 +1,4 @@
-use Rattle.joint_history.proofs.Floors.{below_floor, room_left}
+use Rattle.seat_calls.proofs.Floors.{below_floor, room_left}
 use Rattle.joint_history.proofs.handles.draw_restore.Goals as goal
 
 pub restore-back-requires-clause-may : goal.restore-back-requires-clause-may

@@ -1,4 +1,10 @@
-use Rattle.joint_history.proofs.Floors.{below_floor, room_left}
+-- A step sets no cell, and is plain.
+use Rattle.std.proofs.Common.{ap, rules}
+use Rattle.joint_model.specs.Told.{nothing}
+use Rattle.managed_side.specs.Steps.{step_made}
+use Rattle.seat_calls.proofs.Floors.{below_floor, room_left}
+use Rattle.view_laws.specs.Knowing.{pins_of}
+use Rattle.joint_history.proofs.SeatDraws.{drew_managed, plain_event_settled, step_is_plain, step_sets_none}
 use Rattle.joint_history.proofs.managed.draw_step.Goals as goal
 
 pub step-requires-clause-may : goal.step-requires-clause-may
@@ -7,5 +13,18 @@ step-requires-clause-may c = record {
   below = below_floor c.args.seat.now.view 0 c.args.side.now.entries c.requires.entries;
   room = room_left c.args.seat.now.view 0 c.args.side.now.entries c.requires.entries;
   bare = c.requires.may;
-  targets = λ m x. c.requires.may;
+  targets = λ m x. absurd (step_sets_none c.args.side.now.state c.args.caller c.args.op.now m c.requires.event x);
 }
+
+pub returns-clause-settled : goal.returns-clause-settled
+returns-clause-settled c =
+    let a = c.in_ok-reply.ensures.adds in
+    let s = plain_event_settled _ _ c.args.seat.now _ c.args.side.now.state (step_made c.args.caller c.args.index c.args.op.now c.in_ok-reply.reply c.args.cites) nothing _ _ a.draws.adds.number (step_is_plain c.args.caller c.args.op.now c.in_ok-reply.reply c.requires.event) a.draws.adds.drawn.3 a.goes.lawful c.requires.settled in
+    search rules
+
+pub returns-clause-drew : goal.returns-clause-drew
+returns-clause-drew c =
+    let a = c.in_ok-reply.ensures.adds in
+    let d = drew_managed _ _ c.args.seat.now c.step.new.draw.seat.now c.args.side.now c.step.new.self (step_made c.args.caller c.args.index c.args.op.now c.in_ok-reply.reply c.args.cites) nothing a.draws.adds.number a.draws.adds.drawn.3 a.goes a.draws.adds.added
+        (ap pins_of ((step_is_plain c.args.caller c.args.op.now c.in_ok-reply.reply c.requires.event).pins c.args.seat.now)) _ a.draws.adds.drawn.2 in
+    search rules

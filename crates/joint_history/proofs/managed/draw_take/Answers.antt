@@ -1,4 +1,4 @@
-use Rattle.joint_history.proofs.Floors.{below_floor, room_left}
+use Rattle.seat_calls.proofs.Floors.{below_floor, room_left}
 use Rattle.joint_history.proofs.managed.draw_take.Goals as goal
 
 pub take-requires-clause-may : goal.take-requires-clause-may

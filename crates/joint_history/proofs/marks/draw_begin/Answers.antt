@@ -1,4 +1,4 @@
-use Rattle.joint_history.proofs.Floors.{below_floor, room_left}
+use Rattle.seat_calls.proofs.Floors.{below_floor, room_left}
 use Rattle.joint_history.proofs.marks.draw_begin.Goals as goal
 
 pub mark_begin-requires-clause-may : goal.mark_begin-requires-clause-may

@@ -1,5 +1,5 @@
 use Rattle.joint_history.proofs.DriverMarks.{driver_ends}
-use Rattle.joint_history.proofs.Floors.{below_floor, room_left}
+use Rattle.seat_calls.proofs.Floors.{below_floor, room_left}
 use Rattle.joint_history.proofs.marks.draw_sweep.Goals as goal
 
 pub sweep-requires-clause-own : goal.sweep-requires-clause-own

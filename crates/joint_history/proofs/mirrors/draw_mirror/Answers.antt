@@ -1,4 +1,4 @@
-use Rattle.joint_history.proofs.Floors.{below_floor, room_left}
+use Rattle.seat_calls.proofs.Floors.{below_floor, room_left}
 use Rattle.joint_history.proofs.mirrors.draw_mirror.Goals as goal
 
 pub install-requires-clause-may : goal.install-requires-clause-may

@@ -1,4 +1,4 @@
-use Rattle.joint_history.proofs.Floors.{below_floor, room_left}
+use Rattle.seat_calls.proofs.Floors.{below_floor, room_left}
 use Rattle.joint_history.proofs.peer.draw_step.Goals as goal
 
 pub event-requires-clause-may : goal.event-requires-clause-may

@@ -6,7 +6,7 @@ use Rattle.joint_model.specs.Sides.{Side}
 use Rattle.managed_side.specs.Openings.{snap_made}
 use Rattle.std.proofs.lemmas.Result.{IfOk-weaker}
 use Rattle.joint_history.proofs.DriverSnaps.{either_way, last_same}
-use Rattle.joint_history.proofs.Floors.{below_floor, room_left}
+use Rattle.seat_calls.proofs.Floors.{below_floor, room_left}
 use Rattle.joint_history.proofs.snaps.draw_snap.Goals as goal
 
 pub snap-requires-clause-may : goal.snap-requires-clause-may

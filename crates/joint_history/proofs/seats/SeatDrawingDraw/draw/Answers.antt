@@ -1,8 +1,0 @@
-use Rattle.joint_history.proofs.Floors.{floor_low, floor_high}
-use Rattle.joint_history.proofs.seats.SeatDrawingDraw.draw.Goals as goal
-
-pub returns-clause-low : goal.returns-clause-low
-returns-clause-low c = floor_low c.args.self.now.seat.now.view _ c.append-number.ensures.number
-
-pub returns-clause-high : goal.returns-clause-high
-returns-clause-high c = floor_high c.append-number.new.seat.view _ _ _ c.append-number.ensures.grows.role

@@ -1,5 +1,0 @@
-use Rattle.joint_history.proofs.Handing.{lends}
-use Rattle.joint_history.proofs.seats.lend.Goals as goal
-
-pub returns-clause-lent : goal.returns-clause-lent
-returns-clause-lent c = lends c.args.t _ _ _ _ c.hand-pass.result.view c.hand-pass.ensures.parts c.learn.ensures.takes c.learn.ensures.one_history
