@@ -3,14 +3,21 @@ use Rattle.std.proofs.Common.{◌≡◌, ℕ, List, [], length, Option, Some, No
 use Rattle.std.specs.Prelude.{slice_get}
 use Rattle.joint_model.specs.Control.{candidates_of, IsCandidateHandle}
 use Rattle.joint_model.specs.Managed.{Managed, OpenCycle}
+use Rattle.joint_model.specs.ManagedReplay.{ManagedReplay}
+use Rattle.joint_model.specs.Readers.{with_pins}
 use Rattle.joint_model.proofs.Deciding.{none_some}
 use Rattle.joint_model.proofs.HeapLemmas.{candidates_of-open}
 use Rattle.joint_model.proofs.Members.{Contains-at}
 use Rattle.joint_laws.specs.ManagedInvariants.{IsManagedKept}
 use Rattle.known_laws.specs.Pasts.{HasSameDeadPart}
+use Rattle.known_laws.proofs.Pinned.{contraction_to}
 
 pub dead_part_self : (s : Managed) → HasSameDeadPart s s
 dead_part_self s = record { cycle = refl; handles = λ c e m w. refl; fields = λ c e m w. refl; contraction = λ c e comps xrefs d. d }
+
+-- pins are no part of it
+pub dead_part_pinned : (r : ManagedReplay) (pins : List (Option ℕ)) → HasSameDeadPart r.managed (with_pins r pins).managed
+dead_part_pinned r pins = record { cycle = refl; handles = λ c e m w. refl; fields = λ c e m w. refl; contraction = λ c e comps xrefs d. contraction_to r pins c.dead comps xrefs d }
 
 pub dead_part_on : (s t u : Managed) → HasSameDeadPart s t → HasSameDeadPart t u → HasSameDeadPart s u
 dead_part_on s t u p q = record {

@@ -25,16 +25,18 @@ use Rattle.joint_model.specs.Managed.{Managed, OpenCycle}
 use Rattle.joint_model.specs.ManagedReplay.{ManagedReplay, MayContract, MayRefuse, open_reply, refusal_to}
 use Rattle.joint_model.specs.Run.{thread_number}
 use Rattle.joint_model.specs.Sides.{Side, managed_rules}
-use Rattle.joint_model.specs.Told.{Told, nothing, contraction_of, resolution_of, phase_of}
+use Rattle.joint_model.specs.Readers.{with_pins}
+use Rattle.joint_model.specs.Told.{Told, nothing, contraction_of, resolution_of, phase_of, bare_told, no_pins}
 use Rattle.joint_laws.specs.ManagedInvariants.{IsReplayKept}
-use Rattle.joint_laws.proofs.ManagedMoves.{GoesOn, managed_line-goes_on}
+use Rattle.joint_laws.proofs.ManagedMoves.{managed_line-goes_on}
 use Rattle.known_laws.specs.Conditions.{IsOpenHere}
 use Rattle.known_laws.specs.Driving.{IsPastKept}
-use Rattle.known_laws.specs.Known.{TellsPlainly}
+use Rattle.known_laws.specs.Known.{TellsPlainly, given}
 use Rattle.known_laws.specs.Pasts.{HasSameDeadPart, end_of}
 use Rattle.known_laws.proofs.Conditions.{snapped_may_be_contracted, unmirrored_may_be_abandoned, restored_may_be_resolved, refused_may_be_told}
-use Rattle.known_laws.proofs.FrozenPasts.{alike_meet, alike_on, alike_self, dead_part-alike}
+use Rattle.known_laws.proofs.FrozenPasts.{Alike, alike_goes, alike_meet, alike_self, dead_part-alike}
 use Rattle.known_laws.proofs.KnownPasts.{known_past_is_kept}
+use Rattle.known_laws.proofs.Pinned.{none_stand}
 use Rattle.managed_side.specs.declared.cycles.ResolveOut.{ResolveOut}
 use Rattle.managed_side.specs.Calls.{IsContractedBy, MayContractWith}
 use Rattle.managed_side.specs.Resolving.{MayClose}
@@ -45,11 +47,12 @@ use Rattle.joint_history.specs.Callers.{HoldsPass}
 use Rattle.joint_history.specs.Driven.{DriverMakesNone, DriverRests, DriverStands, HasContraction, IsStillAt, IsUnmirrored, MakesAbandon, MakesContraction, MakesFinalise, MakesRefusal, MakesResolution, MayAbandonCycle, MayContractCycle, MayFinalise, MayRefuseWord, MayResolveCycle, driver_entry}
 use Rattle.joint_history.specs.DriverDraws.{DrawsAbandon, DrawsContraction, DrawsResolution}
 use Rattle.view_laws.specs.Knowing.{IsDrawnView}
-use Rattle.joint_history.specs.Locked.{Drew, ManagedKnows}
+use Rattle.joint_history.specs.Knowing.{note_of}
+use Rattle.joint_history.specs.Locked.{Drew, ManagedKnows, StaysSeated}
 use Rattle.seat_calls.specs.Passing.{Lends, Returns}
-use Rattle.joint_history.proofs.DeadParts.{count_same, dead_part_self}
+use Rattle.joint_history.proofs.DeadParts.{count_same, dead_part_pinned, dead_part_self}
 use Rattle.joint_history.proofs.DriverSteps.{Driven, DrivenUnder, driven, driven_none, driver_joined, driver_still}
-use Rattle.joint_history.proofs.LockedSteps.{grows_more, lent_joined, owns_on}
+use Rattle.joint_history.proofs.LockedSteps.{grows_more, lent_joined, owns_on, returns_seated}
 
 -- what holds under the lock: the driver stands so in a state that has all that every known past keeps, and whose managed side is this one
 pub record IsUnderLock (side : ManagedReplay) (stand : Stand) (seen : Managed) : Type 0 where
@@ -101,19 +104,19 @@ one_cycle : (s : Managed) (k : ℕ) (c d : OpenCycle) → s.cycle ≡ Some c →
 one_cycle s k c d e w = ap (λ (x : OpenCycle). x.number) (same_Some c d (sym e ∙ w.0)) ∙ w.1
 
 -- after a call the driver has seen the managed objects as they are
-pub stands_anew : (mine mine2 : View) (old new : Side ManagedReplay) (index : ℕ) (stand next : Stand) (seen : Managed) (e : Entry) (told : Told) (d : Driven mine mine2 old new index stand seen e told) → stand_after stand e.number e.made.op e.made.reply d.told_now ≡ next → DriverStands mine2 index next new.state.managed
+pub stands_anew : (mine mine2 : View) (old new : Side ManagedReplay) (index : ℕ) (stand next : Stand) (seen : Managed) (e : Entry) (told : Told) (d : Driven mine mine2 old new index stand seen e told) → stand_after stand e.number e.made.op e.made.reply (bare_told d.told_now) ≡ next → DriverStands mine2 index next new.state.managed
 stands_anew mine mine2 old new index stand next seen e told d is = record {
   known = d.known;
   stands = record { last = d.last; come = d.come ∙ is; dead = subst (λ (r : ManagedReplay). HasSameDeadPart new.state.managed r.managed) (sym d.after) (dead_part_self new.state.managed) };
 }
 
 -- the driver is idle after a call that closes the cycle
-rests_after : (mine mine2 : View) (old new : Side ManagedReplay) (index : ℕ) (stand : Stand) (seen : Managed) (e : Entry) (told : Told) (d : Driven mine mine2 old new index stand seen e told) → stand_after stand e.number e.made.op e.made.reply d.told_now ≡ idle → DriverRests mine2 index
+rests_after : (mine mine2 : View) (old new : Side ManagedReplay) (index : ℕ) (stand : Stand) (seen : Managed) (e : Entry) (told : Told) (d : Driven mine mine2 old new index stand seen e told) → stand_after stand e.number e.made.op e.made.reply (bare_told d.told_now) ≡ idle → DriverRests mine2 index
 rests_after mine mine2 old new index stand seen e told d is = record { seen = new.state.managed; stands = stands_anew mine mine2 old new index stand idle seen e told d is }
 
--- where the managed objects stay, so does the dead part
-same_objects : (s t : ManagedReplay) → t.managed ≡ s.managed → HasSameDeadPart s.managed t.managed
-same_objects s t e = subst (λ (m : Managed). HasSameDeadPart s.managed m) (sym e) (dead_part_self s.managed)
+-- where the managed objects stay but for the pins, so does the dead part
+same_objects : (s t : ManagedReplay) → t.managed ≡ (with_pins s no_pins).managed → HasSameDeadPart s.managed t.managed
+same_objects s t e = subst (λ (m : Managed). HasSameDeadPart s.managed m) (sym e) (dead_part_pinned s no_pins)
 
 -- an unmirrored cycle is open
 abandon_open : (u : Linkage) → IsPastKept u → (stand : Stand) (o : OpenSnap) → u.control.stand ≡ stand → IsUnmirrored stand o → IsOpenHere u o
@@ -209,11 +212,15 @@ refusal_same s t phase asked e = refl
 notices_leave : (mine mine2 : View) (old new : Side ManagedReplay) (index : ℕ) (stand : Stand) (seen : Managed) (n count : ℕ) (reply : Reply) (d : Driven mine mine2 old new index stand seen (driver_entry n index (op.Line (act.Finalise count)) reply None) nothing)
     → new.state ≡ managed_rules.next old.state (driver_entry n index (op.Line (act.Finalise count)) reply None).made nothing → HasSameDeadPart old.state.managed new.state.managed
 notices_leave mine mine2 old new index stand seen n count reply d goes =
+    let s = d.makes.state in
+    let x = note_of (driver_entry n index (op.Line (act.Finalise count)) reply None) nothing in
+    let own = d.makes.kept.kept.managed.managed in
     let kept = subst (λ (r : ManagedReplay). IsReplayKept r) d.before d.makes.kept.kept.managed in
     let after = subst (λ (r : ManagedReplay). IsReplayKept r) d.after (known_past_is_kept d.known.known.past d.known.known.lawful).kept.managed in
-    let moved = subst (λ (m : Managed). GoesOn old.state.managed m) (sym (ap (λ (r : ManagedReplay). r.managed) goes)) (managed_line-goes_on old.state.managed (thread_number C) (act.Finalise count) kept.managed.places kept.managed.cells) in
+    let moved = alike_goes s x s.managed.managed d.makes.kept.kept refl d.makes.comes (managed_line-goes_on (given s nothing).managed.managed (thread_number C) (act.Finalise count) own.places own.cells) (alike_self s.managed.managed) in
+    let now : new.state ≡ managed_rules.next s.managed x.entry.made nothing = goes ∙ ap (λ (r : ManagedReplay). managed_rules.next r x.entry.made nothing) (sym d.before) in
     dead_part-alike old.state.managed new.state.managed kept.managed after.managed
-    (alike_meet old.state.managed old.state.managed new.state.managed (alike_self old.state.managed) (alike_on old.state.managed new.state.managed old.state.managed kept.managed moved (alike_self old.state.managed)))
+    (alike_meet old.state.managed old.state.managed new.state.managed (alike_self old.state.managed) (subst (λ (r : ManagedReplay). Alike r.managed old.state.managed) (sym now) (subst (λ (r : ManagedReplay). Alike (managed_rules.next s.managed x.entry.made nothing).managed r.managed) d.before moved)))
 
 -- a call under the lock that may find no memory
 pub record Called {X E : Type 0} (mine locked2 mine2 : View) (side : Side ManagedReplay) (result : Result X E) (Q : X → Type 0) : Type 0 where
@@ -234,7 +241,7 @@ module _ (locked mine mine1 locked2 mine2 : View) (order : OrderId) (seat seat' 
       let same = one_cycle old.state.managed o.cycle d.cycle may.cycle d.opened may.open_cycle in
       let drew = subst (λ (k : ℕ). Drew managed_rules 0 order seat seat' old new (driver_entry n index (op.Contract record { 0 = k }) (says.Sccs sccs xrefs) None) (contraction_of comps pairs)) same
       (d.drew comps pairs (contracted_by old.state o.cycle d.cycle seen sccs xrefs comps pairs same may h)) in
-      driven locked mine mine1 locked2 mine2 order seat seat' old new index (snapped o) seen (driver_entry n index (op.Contract record { 0 = o.cycle }) (says.Sccs sccs xrefs) None) (contraction_of comps pairs) pass owns refl refl short ks s (λ issued. (refl, refl)) l drew b
+      driven locked mine mine1 locked2 mine2 order seat seat' old new index (snapped o) seen (driver_entry n index (op.Contract record { 0 = o.cycle }) (says.Sccs sccs xrefs) None) (contraction_of comps pairs) pass owns refl refl short ks s (λ issued. (refl, refl)) (none_stand old.state.managed) l drew b
 
   pub contraction_made : (sccs xrefs n : ℕ) → DrawsContraction order seat seat' old new index sccs xrefs n → MakesContraction mine mine2 index sccs xrefs n
   contraction_made sccs xrefs n d o seen comps pairs s h =
@@ -243,7 +250,7 @@ module _ (locked mine mine1 locked2 mine2 : View) (order : OrderId) (seat seat' 
         w.makes,
         driver_still mine mine2 old new index (snapped o) (contracted o comps pairs) seen e (contraction_of comps pairs) w
             (same_objects old.state new.state (ap (λ (r : ManagedReplay). r.managed) (d.drew d.comps d.pairs d.contracted).goes.state))
-            (ap (λ (t : Told). stand_after (snapped o) n (op.Contract record { 0 = o.cycle }) (says.Sccs sccs xrefs) t) (w.plain tt)),
+            (ap (λ (t : Told). stand_after (snapped o) n (op.Contract record { 0 = o.cycle }) (says.Sccs sccs xrefs) (bare_told t)) (w.plain tt)),
       )
 
   pub contraction_knows : (sccs xrefs n : ℕ) → DrawsContraction order seat seat' old new index sccs xrefs n → MayContractCycle mine index sccs xrefs → ManagedKnows locked2 new
@@ -257,12 +264,12 @@ module _ (locked mine mine1 locked2 mine2 : View) (order : OrderId) (seat seat' 
       let open_here = subst (λ (r : ManagedReplay). (c : OpenCycle) × IsOpen r.managed o.cycle c) u.managed (abandon_open u.state u.kept stand o u.stood i) in
       let same = one_cycle old.state.managed o.cycle d.cycle open_here.0 d.opened open_here.1 in
       let drew = subst (λ (k : ℕ). Drew managed_rules 0 order seat seat' old new (driver_entry n index (op.Abandon record { 0 = k }) says.Ok None) nothing) same d.drew in
-      driven locked mine mine1 locked2 mine2 order seat seat' old new index stand seen (driver_entry n index (op.Abandon record { 0 = o.cycle }) says.Ok None) nothing pass owns refl refl short ks s (λ issued. abandon_allowed stand o i) l drew b
+      driven locked mine mine1 locked2 mine2 order seat seat' old new index stand seen (driver_entry n index (op.Abandon record { 0 = o.cycle }) says.Ok None) nothing pass owns refl refl short ks s (λ issued. abandon_allowed stand o i) (none_stand old.state.managed) l drew b
 
   pub abandoning_made : (n : ℕ) → DrawsAbandon order seat seat' old new index n → MakesAbandon mine mine2 index n
   abandoning_made n d o stand seen s i =
       let w = (with_abandon n d o stand seen s i).driven in
-      (w.makes, rests_after mine mine2 old new index stand seen (driver_entry n index (op.Abandon record { 0 = o.cycle }) says.Ok None) nothing w (abandon_idle stand o n (record { 0 = o.cycle }) says.Ok w.told_now i))
+      (w.makes, rests_after mine mine2 old new index stand seen (driver_entry n index (op.Abandon record { 0 = o.cycle }) says.Ok None) nothing w (abandon_idle stand o n (record { 0 = o.cycle }) says.Ok (bare_told w.told_now) i))
 
   pub abandon_knows : (n : ℕ) → DrawsAbandon order seat seat' old new index n → MayAbandonCycle mine index → ManagedKnows locked2 new
   abandon_knows n d w = (with_abandon n d w.opened w.stand w.seen w.stands w.unmirrored).knows
@@ -277,7 +284,7 @@ module _ (locked mine mine1 locked2 mine2 : View) (order : OrderId) (seat seat' 
       let drew = subst (λ (k : ℕ). Drew managed_rules 0 order seat seat' old new (driver_entry n index (op.Resolve record { 0 = k }) (says.Freed out.freed) (Some clear)) (resolution_of (answers_of alive) d.freed)) same
       (subst (λ (z : Span). Drew managed_rules 0 order seat seat' old new (driver_entry n index (op.Resolve record { 0 = d.cycle.number }) (says.Freed z) (Some clear)) (resolution_of (answers_of alive) d.freed)) (sym d.span) d.drew) in
       driven locked mine mine1 locked2 mine2 order seat seat' old new index (restored o (answers_of alive) clear) seen (driver_entry n index (op.Resolve record { 0 = o.cycle }) (says.Freed out.freed) (Some clear)) (resolution_of (answers_of alive) d.freed)
-      pass owns refl refl short ks s (λ issued. (refl, refl, refl)) l drew b
+      pass owns refl refl short ks s (λ issued. (refl, refl, refl)) (none_stand old.state.managed) l drew b
 
   pub resolution_made : (clear n : ℕ) (alive : List Bool) (out : ResolveOut) → DrawsResolution order seat seat' old new index clear n alive out → MakesResolution mine mine2 index clear n (answers_of alive) out.freed
   resolution_made clear n alive out d o seen s =
@@ -297,7 +304,7 @@ module _ (locked mine mine1 locked2 mine2 : View) (order : OrderId) (seat seat' 
       → IsPhaseOf stand (length (candidates_of seen)) phase → DrivenUnder mine locked2 mine2 old new index stand seen (driver_entry n index (op.Refused asked) reply None) (phase_of phase)
   with_refusal n asked phase reply d stand seen s in_phase =
       driven locked mine mine1 locked2 mine2 order seat seat' old new index stand seen (driver_entry n index (op.Refused asked) reply None) (phase_of phase) pass owns refl refl short ks s
-      (λ issued. (subst (λ (c : ℕ). IsPhaseOf stand c phase) (count_same seen old.state.managed (dead_here old.state stand seen (under stand seen s))) in_phase, refl)) l d b
+      (λ issued. (subst (λ (c : ℕ). IsPhaseOf stand c phase) (count_same seen old.state.managed (dead_here old.state stand seen (under stand seen s))) in_phase, refl)) (none_stand old.state.managed) l d b
 
   pub refusal_made : (n : ℕ) (asked : PhaseWord) (phase : Phase) (reply : Reply) → Drew managed_rules 0 order seat seat' old new (driver_entry n index (op.Refused asked) reply None) (phase_of phase) → MakesRefusal mine mine2 index n asked phase reply
   refusal_made n asked phase reply d stand seen s in_phase =
@@ -305,10 +312,10 @@ module _ (locked mine mine1 locked2 mine2 : View) (order : OrderId) (seat seat' 
       let w = (with_refusal n asked phase reply d stand seen s in_phase).driven in
       record {
         makes = w.makes;
-        answers = d.goes.lawful.1.replies ∙ refusal_same old.state.managed seen phase asked (sym (dead_here old.state stand seen (under stand seen s)).cycle);
-        next = stand_after stand n (op.Refused asked) reply w.told_now;
-        still = refusal_next stand n asked phase reply w.told_now w.plain;
-        stands = driver_still mine mine2 old new index stand (stand_after stand n (op.Refused asked) reply w.told_now) seen e (phase_of phase) w (same_objects old.state new.state (ap (λ (r : ManagedReplay). r.managed) d.goes.state)) refl;
+        answers = d.goes.lawful.1.lawful.replies ∙ refusal_same (with_pins old.state no_pins).managed seen phase asked (sym (dead_here old.state stand seen (under stand seen s)).cycle);
+        next = stand_after stand n (op.Refused asked) reply (bare_told w.told_now);
+        still = refusal_next stand n asked phase reply (bare_told w.told_now) (λ p. ap bare_told (w.plain p));
+        stands = driver_still mine mine2 old new index stand (stand_after stand n (op.Refused asked) reply (bare_told w.told_now)) seen e (phase_of phase) w (same_objects old.state new.state (ap (λ (r : ManagedReplay). r.managed) d.goes.state)) refl;
       }
 
   pub refusal_knows : (n : ℕ) (asked : PhaseWord) (phase : Phase) (reply : Reply) → Drew managed_rules 0 order seat seat' old new (driver_entry n index (op.Refused asked) reply None) (phase_of phase) → MayRefuseWord mine index asked phase → ManagedKnows locked2 new
@@ -319,7 +326,7 @@ module _ (locked mine mine1 locked2 mine2 : View) (order : OrderId) (seat seat' 
       → IsAtRest stand (length (candidates_of seen)) → DrivenUnder mine locked2 mine2 old new index stand seen (driver_entry n index (op.Line (act.Finalise count)) reply None) nothing
   with_finalise n count reply d stand seen s rests =
       driven locked mine mine1 locked2 mine2 order seat seat' old new index stand seen (driver_entry n index (op.Line (act.Finalise count)) reply None) nothing pass owns refl refl short ks s
-      (λ issued. (subst (λ (c : ℕ). IsAtRest stand c) (count_same seen old.state.managed (dead_here old.state stand seen (under stand seen s))) rests, refl)) l d b
+      (λ issued. (subst (λ (c : ℕ). IsAtRest stand c) (count_same seen old.state.managed (dead_here old.state stand seen (under stand seen s))) rests, refl)) (none_stand old.state.managed) l d b
 
   pub finalise_made : (n count : ℕ) (reply : Reply) → Drew managed_rules 0 order seat seat' old new (driver_entry n index (op.Line (act.Finalise count)) reply None) nothing → MakesFinalise mine mine2 index n count reply
   finalise_made n count reply d stand seen s rests =
@@ -330,20 +337,20 @@ module _ (locked mine mine1 locked2 mine2 : View) (order : OrderId) (seat seat' 
   finalise_knows n count reply d w = (with_finalise n count reply d w.stand w.seen w.stands w.rests).knows
 
   -- a call that may find no memory: it made its entry, or nothing
-  pub called : {X E : Type 0} (P Q : X → Type 0) (result : Result X E) → IsDrawnView mine → ((x : X) → P x → ManagedKnows locked2 new × Q x) → IfOk result P → OnErr result ((seat' ≡ seat) × (new ≡ old)) → Called mine locked2 mine2 new result Q
+  pub called : {X E : Type 0} (P Q : X → Type 0) (result : Result X E) → IsDrawnView mine → ((x : X) → P x → ManagedKnows locked2 new × Q x) → IfOk result P → OnErr result (StaysSeated seat seat' × (new ≡ old)) → Called mine locked2 mine2 new result Q
   called P Q (Ok x) known made d e = record { knows = (made x d).0; ok = (made x d).1; err = tt }
   called P Q (Err x) known made d e =
-      let back : Returns C seat.view mine1 locked2 mine2 = subst (λ (s : Shown). Returns C s.view mine1 locked2 mine2) e.0 b in
+      let back = returns_seated C seat seat' mine1 locked2 mine2 e.0 b in
       let w = driven_none locked mine seat.view mine1 locked2 mine2 old pass owns ks known l back in
       record { knows = subst (ManagedKnows locked2) (sym e.1) w.knows; ok = tt; err = w.makes }
 
   pub refusal_called : {E : Type 0} (asked : PhaseWord) (phase : Phase) (result : Result (ℕ × Reply) E) → (w : MayRefuseWord mine index asked phase) → IfOk result (λ x. Drew managed_rules 0 order seat seat' old new (driver_entry x.0 index (op.Refused asked) x.1 None) (phase_of phase))
-      → OnErr result ((seat' ≡ seat) × (new ≡ old)) → Called mine locked2 mine2 new result (λ x. MakesRefusal mine mine2 index x.0 asked phase x.1)
+      → OnErr result (StaysSeated seat seat' × (new ≡ old)) → Called mine locked2 mine2 new result (λ x. MakesRefusal mine mine2 index x.0 asked phase x.1)
   refusal_called asked phase result w d e = called (λ x. Drew managed_rules 0 order seat seat' old new (driver_entry x.0 index (op.Refused asked) x.1 None) (phase_of phase)) (λ x. MakesRefusal mine mine2 index x.0 asked phase x.1) result w.stands.known
       (λ x y. (refusal_knows x.0 asked phase x.1 y w, refusal_made x.0 asked phase x.1 y)) d e
 
   pub finalise_called : {E : Type 0} (count : ℕ) (result : Result (ℕ × Reply) E) → (w : MayFinalise mine index) → IfOk result (λ x. Drew managed_rules 0 order seat seat' old new (driver_entry x.0 index (op.Line (act.Finalise count)) x.1 None) nothing)
-      → OnErr result ((seat' ≡ seat) × (new ≡ old)) → Called mine locked2 mine2 new result (λ x. MakesFinalise mine mine2 index x.0 count x.1)
+      → OnErr result (StaysSeated seat seat' × (new ≡ old)) → Called mine locked2 mine2 new result (λ x. MakesFinalise mine mine2 index x.0 count x.1)
   finalise_called count result w d e = called (λ x. Drew managed_rules 0 order seat seat' old new (driver_entry x.0 index (op.Line (act.Finalise count)) x.1 None) nothing) (λ x. MakesFinalise mine mine2 index x.0 count x.1) result w.stands.known
       (λ x y. (finalise_knows x.0 count x.1 y w, finalise_made x.0 count x.1 y)) d e
 

@@ -1,5 +1,8 @@
-use Rattle.std.proofs.Common.{rules}
+use Rattle.std.proofs.Common.{[], None, refl, rules}
+use Rattle.joint_model.specs.Told.{contraction_of}
+use Rattle.managed_side.specs.Calls.{contract_made}
 use Rattle.seat_calls.proofs.Floors.{below_floor, room_left}
+use Rattle.joint_history.proofs.SeatDraws.{drew_managed, plain_event_settled}
 use Rattle.joint_history.proofs.driven.draw_contraction.Goals as goal
 
 pub contracted-requires-clause-may : goal.contracted-requires-clause-may
@@ -7,12 +10,19 @@ contracted-requires-clause-may c = λ k e. record {
   takes = tt;
   below = below_floor c.args.seat.now.view 0 c.args.side.now.entries c.requires.entries;
   room = room_left c.args.seat.now.view 0 c.args.side.now.entries c.requires.entries;
-  bare = c.requires.may k;
-  targets = λ m x. c.requires.may k;
+  bare = c.requires.may k e;
+  targets = λ m x. absurd x;
 }
 
-pub returns : goal.returns
-returns c =
+pub returns-clause-settled : goal.returns-clause-settled
+returns-clause-settled c =
+    let d = c.requires.contracted in
+    let a = (c.contracted.ensures.contracts d.cycle d.opened).adds d.comps d.pairs d.contracted in
+    let s = plain_event_settled _ _ c.args.seat.now _ c.args.side.now.state (contract_made d.cycle c.args.index c.args.sccs c.args.xrefs) (contraction_of d.comps d.pairs) None [] a.draws.adds.number (record { cycles = refl; pin = refl; frees = λ told. refl; pins = λ seat. refl }) a.draws.adds.drawn.3 a.goes.lawful c.requires.settled in
+    search rules
+
+pub returns-clause-drew : goal.returns-clause-drew
+returns-clause-drew c =
     let d = c.requires.contracted in
     let w = c.contracted.ensures.contracts d.cycle d.opened in record {
       cycle = d.cycle;
@@ -21,5 +31,8 @@ returns c =
       pairs = d.pairs;
       contracted = d.contracted;
       threads = (w.adds d.comps d.pairs d.contracted).threads;
-      drew = λ cs xs w2. (let a = w.adds cs xs w2 in search rules);
+      drew = λ cs xs w2. (
+          let a = w.adds cs xs w2 in
+          let m = drew_managed _ _ c.args.seat.now c.contracted.new.draw.seat.now c.args.side.now c.contracted.new.self (contract_made d.cycle c.args.index c.args.sccs c.args.xrefs) (contraction_of cs xs) a.draws.adds.number a.draws.adds.drawn.3 a.goes a.draws.adds.added refl _ a.draws.adds.drawn.2 in
+          search rules);
     }
