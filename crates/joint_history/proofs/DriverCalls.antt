@@ -22,7 +22,7 @@ use Rattle.joint_model.specs.Cycles.{IsOpen}
 use Rattle.joint_model.specs.Linked.{Linkage}
 use Rattle.joint_model.specs.Listed.{answer_of, answers_of}
 use Rattle.joint_model.specs.Managed.{Managed, OpenCycle}
-use Rattle.joint_model.specs.ManagedReplay.{ManagedReplay, MayContract, MayRefuse, open_reply, refusal_to}
+use Rattle.joint_model.specs.ManagedReplay.{ManagedReplay, MayContract, MayRefuse, managed_answer, open_reply, refusal_to}
 use Rattle.joint_model.specs.Run.{thread_number}
 use Rattle.joint_model.specs.Sides.{Side, managed_rules}
 use Rattle.joint_model.specs.Readers.{with_pins}
@@ -31,12 +31,12 @@ use Rattle.joint_laws.specs.ManagedInvariants.{IsReplayKept}
 use Rattle.joint_laws.proofs.ManagedMoves.{managed_line-goes_on}
 use Rattle.known_laws.specs.Conditions.{IsOpenHere}
 use Rattle.known_laws.specs.Driving.{IsPastKept}
-use Rattle.known_laws.specs.Known.{TellsPlainly, given}
+use Rattle.known_laws.specs.Known.{TellsPlainly}
 use Rattle.known_laws.specs.Pasts.{HasSameDeadPart, end_of}
 use Rattle.known_laws.proofs.Conditions.{snapped_may_be_contracted, unmirrored_may_be_abandoned, restored_may_be_resolved, refused_may_be_told}
-use Rattle.known_laws.proofs.FrozenPasts.{Alike, alike_goes, alike_meet, alike_self, dead_part-alike}
+use Rattle.known_laws.proofs.FrozenPasts.{Alike, alike_meet, alike_on, alike_pinned, alike_self, dead_part-alike}
 use Rattle.known_laws.proofs.KnownPasts.{known_past_is_kept}
-use Rattle.known_laws.proofs.Pinned.{none_stand}
+use Rattle.known_laws.proofs.Pinned.{managed_to, none_stand}
 use Rattle.managed_side.specs.declared.cycles.ResolveOut.{ResolveOut}
 use Rattle.managed_side.specs.Calls.{IsContractedBy, MayContractWith}
 use Rattle.managed_side.specs.Resolving.{MayClose}
@@ -47,7 +47,6 @@ use Rattle.joint_history.specs.Callers.{HoldsPass}
 use Rattle.joint_history.specs.Driven.{DriverMakesNone, DriverRests, DriverStands, HasContraction, IsStillAt, IsUnmirrored, MakesAbandon, MakesContraction, MakesFinalise, MakesRefusal, MakesResolution, MayAbandonCycle, MayContractCycle, MayFinalise, MayRefuseWord, MayResolveCycle, driver_entry}
 use Rattle.joint_history.specs.DriverDraws.{DrawsAbandon, DrawsContraction, DrawsResolution}
 use Rattle.view_laws.specs.Knowing.{IsDrawnView}
-use Rattle.joint_history.specs.Knowing.{note_of}
 use Rattle.joint_history.specs.Locked.{Drew, ManagedKnows, StaysSeated}
 use Rattle.seat_calls.specs.Passing.{Lends, Returns}
 use Rattle.joint_history.proofs.DeadParts.{count_same, dead_part_pinned, dead_part_self}
@@ -212,15 +211,14 @@ refusal_same s t phase asked e = refl
 notices_leave : (mine mine2 : View) (old new : Side ManagedReplay) (index : ℕ) (stand : Stand) (seen : Managed) (n count : ℕ) (reply : Reply) (d : Driven mine mine2 old new index stand seen (driver_entry n index (op.Line (act.Finalise count)) reply None) nothing)
     → new.state ≡ managed_rules.next old.state (driver_entry n index (op.Line (act.Finalise count)) reply None).made nothing → HasSameDeadPart old.state.managed new.state.managed
 notices_leave mine mine2 old new index stand seen n count reply d goes =
-    let s = d.makes.state in
-    let x = note_of (driver_entry n index (op.Line (act.Finalise count)) reply None) nothing in
-    let own = d.makes.kept.kept.managed.managed in
     let kept = subst (λ (r : ManagedReplay). IsReplayKept r) d.before d.makes.kept.kept.managed in
     let after = subst (λ (r : ManagedReplay). IsReplayKept r) d.after (known_past_is_kept d.known.known.past d.known.known.lawful).kept.managed in
-    let moved = alike_goes s x s.managed.managed d.makes.kept.kept refl d.makes.comes (managed_line-goes_on (given s nothing).managed.managed (thread_number C) (act.Finalise count) own.places own.cells) (alike_self s.managed.managed) in
-    let now : new.state ≡ managed_rules.next s.managed x.entry.made nothing = goes ∙ ap (λ (r : ManagedReplay). managed_rules.next r x.entry.made nothing) (sym d.before) in
+    let bare = with_pins old.state no_pins in
+    let line = managed_answer bare C (op.Line (act.Finalise count)) nothing in
+    let moved = alike_on bare.managed line.state.managed old.state.managed (managed_to old.state no_pins (none_stand old.state.managed) kept.managed) (managed_line-goes_on bare.managed (thread_number C) (act.Finalise count) kept.managed.places kept.managed.cells)
+        (alike_pinned old.state old.state.managed no_pins (alike_self old.state.managed)) in
     dead_part-alike old.state.managed new.state.managed kept.managed after.managed
-    (alike_meet old.state.managed old.state.managed new.state.managed (alike_self old.state.managed) (subst (λ (r : ManagedReplay). Alike r.managed old.state.managed) (sym now) (subst (λ (r : ManagedReplay). Alike (managed_rules.next s.managed x.entry.made nothing).managed r.managed) d.before moved)))
+    (alike_meet old.state.managed old.state.managed new.state.managed (alike_self old.state.managed) (subst (λ (r : ManagedReplay). Alike r.managed old.state.managed) (sym goes) (alike_pinned line.state old.state.managed no_pins moved)))
 
 -- a call under the lock that may find no memory
 pub record Called {X E : Type 0} (mine locked2 mine2 : View) (side : Side ManagedReplay) (result : Result X E) (Q : X → Type 0) : Type 0 where

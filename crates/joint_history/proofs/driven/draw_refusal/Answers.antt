@@ -1,4 +1,10 @@
+use Rattle.std.proofs.Common.{[], None, refl, rules}
+use Rattle.joint_model.specs.declared.names.Thread.TheVariants.{C}
+use Rattle.joint_model.specs.declared.events.Op.TheVariants as op
+use Rattle.joint_model.specs.Told.{phase_of}
+use Rattle.managed_side.specs.Steps.{step_made}
 use Rattle.seat_calls.proofs.Floors.{below_floor, room_left}
+use Rattle.joint_history.proofs.SeatDraws.{drew_managed, plain_event_settled}
 use Rattle.joint_history.proofs.driven.draw_refusal.Goals as goal
 
 pub refused-requires-clause-may : goal.refused-requires-clause-may
@@ -7,5 +13,17 @@ refused-requires-clause-may c = record {
   below = below_floor c.args.seat.now.view 0 c.args.side.now.entries c.requires.entries;
   room = room_left c.args.seat.now.view 0 c.args.side.now.entries c.requires.entries;
   bare = c.requires.may;
-  targets = λ m x. c.requires.may;
+  targets = λ m x. absurd x;
 }
+
+pub returns-clause-settled : goal.returns-clause-settled
+returns-clause-settled c =
+    let a = c.in_ok-reply.ensures.adds in
+    let s = plain_event_settled _ _ c.args.seat.now _ c.args.side.now.state (step_made C c.args.index (op.Refused c.args.word) c.in_ok-reply.reply None) (phase_of c.args.phase) None [] a.draws.adds.number (record { cycles = refl; pin = refl; frees = λ told. refl; pins = λ seat. refl }) a.draws.adds.drawn.3 a.goes.lawful c.requires.settled in
+    search rules
+
+pub returns-clause-drew : goal.returns-clause-drew
+returns-clause-drew c =
+    let a = c.in_ok-reply.ensures.adds in
+    let d = drew_managed _ _ c.args.seat.now c.refused.new.draw.seat.now c.args.side.now c.refused.new.self (step_made C c.args.index (op.Refused c.args.word) c.in_ok-reply.reply None) (phase_of c.args.phase) a.draws.adds.number a.draws.adds.drawn.3 a.goes a.draws.adds.added refl _ a.draws.adds.drawn.2 in
+    search rules

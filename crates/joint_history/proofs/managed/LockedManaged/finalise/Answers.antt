@@ -22,7 +22,7 @@ invariant_of-self g c =
     let d = did C c.self.inside.seat.view c.args.mine.now.view c.lend.new.locked.view c.lend.new.mine.view c.draw_step-made.new.seat.view c.give_back.new.locked.view c.give_back.new.mine.view 0 tt (omega arith) c.requires.pass c.self.invariant.1 c.lend.ensures.lent
     (drew_owns managed_rules 0 c.args.order.now c.lend.new.locked c.draw_step-made.new.seat c.self.inside.side c.draw_step-made.new.side make nothing c.draw_step-made.result c.draw_step-made.ensures.drew c.draw_step-made.ensures.err) c.give_back.ensures.returned in
     let w = finalise_called c.self.inside.seat.view c.args.mine.now.view c.lend.new.mine.view c.give_back.new.locked.view c.give_back.new.mine.view c.args.order.now c.lend.new.locked c.draw_step-made.new.seat c.self.inside.side c.draw_step-made.new.side c.args.index c.requires.pass c.self.invariant.1 (omega (arith, c.ranges.index.fits)) c.self.invariant.2 c.lend.ensures.lent c.give_back.ensures.returned c.args.count c.draw_step-made.result c.requires.may c.draw_step-made.ensures.drew c.draw_step-made.ensures.err in
-    (c.give_back.ensures.order.0 ∙ c.requires.order.0, d.owns, w.knows, c.draw_step-made.ensures.threads ∙ c.self.invariant.3)
+    (c.give_back.ensures.order.0 ∙ c.requires.order.0, d.owns, w.knows, c.draw_step-made.ensures.threads ∙ c.self.invariant.3, c.give_back.ensures.settled.0)
 
 pub returns-clause-ok : goal.returns-clause-ok
 returns-clause-ok g c = (finalise_called c.self.inside.seat.view c.args.mine.now.view c.lend.new.mine.view c.give_back.new.locked.view c.give_back.new.mine.view c.args.order.now c.lend.new.locked c.draw_step-made.new.seat c.self.inside.side c.draw_step-made.new.side c.args.index c.requires.pass c.self.invariant.1 (omega (arith, c.ranges.index.fits)) c.self.invariant.2 c.lend.ensures.lent c.give_back.ensures.returned c.args.count c.draw_step-made.result c.requires.may c.draw_step-made.ensures.drew c.draw_step-made.ensures.err).ok
