@@ -18,6 +18,7 @@ pub mod DriverHandles
 pub mod MirroredParts
 pub mod DriverMirrors
 pub mod DriverCallers
+pub mod CycleDraws
 pub mod DriverCalls
 pub mod DriverSnaps
 pub mod DriverHears
