@@ -3,6 +3,7 @@ use Rattle.joint_model.specs.declared.names.Thread.TheVariants.{C}
 use Rattle.joint_model.specs.Draws.{numbered}
 use Rattle.joint_model.specs.Told.{nothing}
 use Rattle.managed_side.specs.Calls.{abandon_made}
+use Rattle.joint_history.proofs.CycleDraws.{knows_lent}
 use Rattle.joint_history.proofs.DriverCalls.{abandon_knows, abandoning_made, drew_keeps, drew_prefix, may_abandon, under_lock}
 use Rattle.joint_history.proofs.LockedSteps.{did, more_back}
 use Rattle.joint_history.proofs.managed.LockedManaged.abandon.Goals as goal
@@ -27,3 +28,6 @@ invariant_of-self g c =
 
 pub returns-clause-makes : goal.returns-clause-makes
 returns-clause-makes g c = abandoning_made c.self.inside.seat.view c.args.mine.now.view c.lend.new.mine.view c.give_back.new.locked.view c.give_back.new.mine.view c.args.order.now c.lend.new.locked c.draw_abandon-number.new.seat c.self.inside.side c.draw_abandon-number.new.side c.args.index c.requires.pass c.self.invariant.1 (omega (arith, c.ranges.index.fits)) c.self.invariant.2 c.lend.ensures.lent c.give_back.ensures.returned c.draw_abandon-number.result c.draw_abandon-number.ensures.drew
+
+pub draw_abandon-number-requires-clause-knows : goal.draw_abandon-number-requires-clause-knows
+draw_abandon-number-requires-clause-knows g c = knows_lent C c.self.inside.seat.view c.args.mine.now.view c.lend.new.locked.view c.lend.new.mine.view c.self.inside.side c.self.invariant.1 c.self.invariant.2 c.requires.may.stands.known c.lend.ensures.lent

@@ -5,6 +5,7 @@ use Rattle.joint_model.specs.Draws.{numbered}
 use Rattle.joint_model.specs.Listed.{answers_of}
 use Rattle.joint_model.specs.Told.{resolution_of}
 use Rattle.managed_side.specs.Calls.{resolve_made}
+use Rattle.joint_history.proofs.CycleDraws.{knows_lent}
 use Rattle.joint_history.proofs.DriverCalls.{drew_keeps, drew_prefix, may_close, resolution_knows, resolution_made, under_lock}
 use Rattle.joint_history.proofs.LockedSteps.{did, more_back}
 use Rattle.joint_history.proofs.managed.LockedManaged.resolve.Goals as goal
@@ -32,3 +33,6 @@ returns-clause-makes g c = resolution_made c.self.inside.seat.view c.args.mine.n
 
 pub returns-clause-kept : goal.returns-clause-kept
 returns-clause-kept g c = c.draw_resolution-out.ensures.drew.kept
+
+pub draw_resolution-out-requires-clause-knows : goal.draw_resolution-out-requires-clause-knows
+draw_resolution-out-requires-clause-knows g c = knows_lent C c.self.inside.seat.view c.args.mine.now.view c.lend.new.locked.view c.lend.new.mine.view c.self.inside.side c.self.invariant.1 c.self.invariant.2 c.requires.may.stands.known c.lend.ensures.lent

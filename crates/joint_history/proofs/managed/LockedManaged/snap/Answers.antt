@@ -1,6 +1,7 @@
 use Rattle.std.proofs.Common.{arith, ◌∙◌}
 use Rattle.joint_model.specs.declared.names.Thread.TheVariants.{C}
 use Rattle.joint_model.specs.Control.{idle}
+use Rattle.joint_history.proofs.CycleDraws.{knows_lent}
 use Rattle.joint_history.proofs.DriverCalls.{under_lock}
 use Rattle.joint_history.proofs.DriverSnaps.{may_snap, snap_keeps, snap_prefix, snapshot_called}
 use Rattle.joint_history.proofs.LockedSteps.{did, more_back}
@@ -24,3 +25,6 @@ returns-clause-ok g c = (snapshot_called c.self.inside.seat.view c.args.mine.now
 
 pub returns-clause-err : goal.returns-clause-err
 returns-clause-err g c = (snapshot_called c.self.inside.seat.view c.args.mine.now.view c.lend.new.mine.view c.give_back.new.locked.view c.give_back.new.mine.view c.args.order.now c.lend.new.locked c.draw_snap-made.new.seat c.self.inside.side c.draw_snap-made.new.side c.args.index c.requires.pass c.self.invariant.1 (omega (arith, c.ranges.index.fits)) c.self.invariant.2 c.lend.ensures.lent c.give_back.ensures.returned c.draw_snap-made.result c.requires.may c.draw_snap-made.ensures.drew c.draw_snap-made.ensures.err).err
+
+pub draw_snap-made-requires-clause-knows : goal.draw_snap-made-requires-clause-knows
+draw_snap-made-requires-clause-knows g c = knows_lent C c.self.inside.seat.view c.args.mine.now.view c.lend.new.locked.view c.lend.new.mine.view c.self.inside.side c.self.invariant.1 c.self.invariant.2 c.requires.may.stands.known c.lend.ensures.lent
