@@ -20,6 +20,7 @@ pub mod DriverMirrors
 pub mod DriverCallers
 pub mod CycleDraws
 pub mod DriverCalls
+pub mod Scanning
 pub mod DriverSnaps
 pub mod DriverHears
 pub mod Taking
