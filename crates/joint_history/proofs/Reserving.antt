@@ -114,7 +114,7 @@ own_due st m i num o reply cites told due a f w = f (was_to_mark st num o reply 
 
 pub due_at_end : (h : List Noted) → Lawful h → IsToMark (end_of h).control.stand → is_marking_due (entries (line 1 h)) ≡ true
 due_at_end [] l w = absurd w
-due_at_end (x ∷ h) l w = due_line x h ∙ by x.entry.made.caller (due_at_end h l.1) (turn_of x h l).order w
+due_at_end (x ∷ h) l w = due_line x h ∙ by x.entry.made.caller (due_at_end h l.1) (turn_of x h l) w
   where
     by : (t : Thread) → (IsToMark (end_of h).control.stand → is_marking_due (entries (line 1 h)) ≡ true)
         → CallerAllows (end_of h).control (end_of h).managed.managed (end_of h).peer.peers.issued t x.entry.made.index x.entry.made.op x.entry.made.reply x.entry.made.cites (bare_told x.told)
