@@ -138,7 +138,7 @@ lent_on t locked mine lent mine1 l = record { more = l.knew; one_history = l.one
 pub back_on : (t : Thread) (locked lent2 mine1 locked2 mine2 : View) → KnowsOn locked lent2 → Returns t lent2 mine1 locked2 mine2 → KnowsOn locked locked2
 back_on t locked lent2 mine1 locked2 mine2 k b = record { more = λ i. subst (IsPrefix (known locked i)) (sym (b.stays i)) (k.more i); one_history = same_history lent2 locked2 b.stays k.one_history }
 
-seated_on : (v : View) (seat seat' : Shown) → StaysSeated seat seat' → KnowsOn v seat.view → KnowsOn v seat'.view
+pub seated_on : (v : View) (seat seat' : Shown) → StaysSeated seat seat' → KnowsOn v seat.view → KnowsOn v seat'.view
 seated_on v seat seat' s k =
     let same : (i : ℕ) → known seat'.view i ≡ known seat.view i = λ i. ap (λ ks. at [] ks i) s.known in
     record { more = λ i. subst (IsPrefix (known v i)) (sym (same i)) (k.more i); one_history = same_history seat.view seat'.view same k.one_history }
