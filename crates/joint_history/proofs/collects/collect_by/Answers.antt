@@ -41,3 +41,8 @@ returns-clause-drew c =
 
 pub returns-clause-threads : goal.returns-clause-threads
 returns-clause-threads c = threads_in_turn peer_rules _ _ _ (seen c.args.side.now) (seen c.collect.new.self) _ c.in_ok-reply.ensures.adds
+
+pub returns-clause-settled : goal.returns-clause-settled
+returns-clause-settled c =
+    let w = collect_drew _ (λ a b e m freed x. x) c.args.drawing.now.order.now c.args.drawing.now c.collect.new.draw (seen c.args.side.now) (seen c.collect.new.self) c.args.caller c.args.index c.in_ok-reply.reply (gone_since c.args.side.now.state c.collect.new.self.state) refl c.requires.role c.requires.first c.in_ok-reply.ensures.adds in
+    w.settled c.requires.settled
