@@ -5,6 +5,9 @@ pub mod Standing
 pub mod LockedSteps
 pub mod Reserving
 pub mod Fresh
+pub mod Lent
+pub mod Looking
+pub mod SetCells
 pub mod LastLines
 pub mod Desking
 pub mod Finishing
