@@ -8,6 +8,7 @@ pub mod Fresh
 pub mod Lent
 pub mod Looking
 pub mod SetCells
+pub mod TakenPins
 pub mod LastLines
 pub mod Desking
 pub mod Finishing
@@ -24,7 +25,6 @@ pub mod DriverCallers
 pub mod DriverCalls
 pub mod DriverSnaps
 pub mod DriverHears
-pub mod Taking
 pub mod Ended
 pub mod Yielding
 pub mod Allowed
