@@ -7,6 +7,8 @@ pub mod Reserving
 pub mod Fresh
 pub mod Lent
 pub mod Looking
+pub mod ReaderEntries
+pub mod LockedReads
 pub mod SetCells
 pub mod TakenPins
 pub mod LastLines
