@@ -244,7 +244,7 @@ beginner_knows t v index b = stands_knows t v index b.doing b.stands b.done
 
 pub beginner_is_below : (t : Thread) (v : View) (index : ℕ) → IsThread t → MayBegin t v index → last_index (line_known v (caller_line t)) ≤ index
 beginner_is_below t v index is b =
-    let e = last_line_is b.stands.known.known.past t is ∙ ap last_index (sym (b.stands.known.same (caller_line t))) in
+    let e = last_line_is _ b.stands.known t is in
     let l = b.stands.last in
     omega (arith, e, l)
 

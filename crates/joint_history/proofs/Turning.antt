@@ -39,7 +39,7 @@ caller_begins t v index is k l = record {
   doing = doing_of t (end_of k.known.known.past).control;
   stands = record {
     known = k.known;
-    last = (let e = last_line_is k.known.known.past t is ∙ ap last_index (sym (k.known.same (caller_line t))) in omega (arith, e, l));
+    last = (let e = last_line_is v k.known t is in omega (arith, e, l));
     doing = refl;
   };
   done = done_by t (end_of k.known.known.past) k.released;
