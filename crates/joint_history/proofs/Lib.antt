@@ -5,6 +5,12 @@ pub mod Standing
 pub mod LockedSteps
 pub mod Reserving
 pub mod Fresh
+pub mod Lent
+pub mod Looking
+pub mod ReaderEntries
+pub mod LockedReads
+pub mod SetCells
+pub mod TakenPins
 pub mod LastLines
 pub mod Desking
 pub mod Finishing
@@ -23,7 +29,6 @@ pub mod DriverCalls
 pub mod Scanning
 pub mod DriverSnaps
 pub mod DriverHears
-pub mod Taking
 pub mod Ended
 pub mod Yielding
 pub mod Allowed
