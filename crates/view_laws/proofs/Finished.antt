@@ -99,8 +99,7 @@ all-told past (x ∷ xs) h (n ∷ ns) l e s t =
     let told = t x (Contains-here x xs) in
     let there = turned-front ns h n in
     let number : told.entry.entry.number ≡ n.entry.number = ap (λ (z : Entry). z.number) (sym (drawn-entry (end_of told.back) told.entry) ∙ (sym (ap (λ d. d.entry) told.same) ∙ sym entry)) in
-    let place = place-one told.front there.0 told.back h told.entry n (subst Lawful told.all l) (sym told.all ∙ (e ∙ there.1)) number in
-    (
+    let place = place-one told.front there.0 told.back h told.entry n (subst Lawful told.all l) (sym told.all ∙ (e ∙ there.1)) number in (
       record { entry = entry; drawn_so = sym (told.same ∙ (λ i. drawn (end_of (place.1 i)) (place.0 i))); pins = sym (ap (λ (k : Kept). k.pins) one) },
       all-told past xs (n ∷ h) ns l e (kept-tail (shown n) (of_kept x.kept) (all_shown ns) (whole_kept xs) s) (λ y c. t y (Contains-there y x xs c)),
     )
@@ -257,9 +256,9 @@ far-items : (i k : ℕ) (xs : List Item) → RunsFrom k xs → 27 ≤ i → of_l
 far-items i k [] r l = refl
 far-items i k (x ∷ xs) r l = ap (λ b. if b then x.kept ∷ of_line i xs else of_line i xs) (⊎_elim
     (λ (e : rule.is_in i x ≡ true). absurd (⊎_elim
-        (λ (q : i ≡ x.role). let a = r.0.stands.one in omega (arith, a, q, l))
-        (λ (q : i ≡ caller_line x.kept.entry.made.caller). let a = caller-low x.kept.entry.made.caller r.0.caller in omega (arith, a, q, l))
-        (in_cases i x e)))
+    (λ (q : i ≡ x.role). let a = r.0.stands.one in omega (arith, a, q, l))
+    (λ (q : i ≡ caller_line x.kept.entry.made.caller). let a = caller-low x.kept.entry.made.caller r.0.caller in omega (arith, a, q, l))
+    (in_cases i x e)))
     (λ (e : rule.is_in i x ≡ false). e)
     (cases_Bool (rule.is_in i x))) ∙ far-items i (k + 1) xs r.1 l
 
@@ -274,9 +273,9 @@ far-past : (i : ℕ) (h : List Noted) → Lawful h → 27 ≤ i → line i h ≡
 far-past i [] l w = refl
 far-past i (n ∷ h) l w = ap (λ b. if b then line i h ++ n ∷ [] else line i h) (⊎_elim
     (λ (e : is_in i n ≡ true). absurd (⊎_elim
-        (λ (q : i ≡ role_of n). let a = lawful_small (n ∷ h) l n (inl refl) in omega (arith, a, q, w))
-        (λ (q : i ≡ own_of n). let a = caller-low n.entry.made.caller (event-thread n.entry.made.caller n.entry.made.op (past-event h n l)) in omega (arith, a, q, w))
-        (in_cases i (record { role = role_of n; kept = record { entry = n.entry; target = None; freed = []; pins = [] } }) e)))
+    (λ (q : i ≡ role_of n). let a = lawful_small (n ∷ h) l n (inl refl) in omega (arith, a, q, w))
+    (λ (q : i ≡ own_of n). let a = caller-low n.entry.made.caller (event-thread n.entry.made.caller n.entry.made.op (past-event h n l)) in omega (arith, a, q, w))
+    (in_cases i (record { role = role_of n; kept = record { entry = n.entry; target = None; freed = []; pins = [] } }) e)))
     (λ (e : is_in i n ≡ false). e)
     (cases_Bool (is_in i n))) ∙ far-past i h l.1 w
 
@@ -290,7 +289,7 @@ entries-kept (x ∷ xs) = ap (λ l. x.kept.entry ∷ l) (entries-kept xs)
 
 pub whole_view_is_linked : WholeViewIsLinked
 whole_view_is_linked h v a w same ended =
-    (known_whole_is_linked h (whole_kept w.whole) lines a.known (entries-kept w.whole ∙ sym same) (subst (NumberedFrom 0) (entries-kept w.whole ∙ sym same) numbered) all ordered ended).linked
+    known_whole_is_linked h (whole_kept w.whole) lines a.known (entries-kept w.whole ∙ sym same) (subst (NumberedFrom 0) (entries-kept w.whole ∙ sym same) numbered) all ordered ended
   where
     lines : ℕ → List Kept
     lines i = of_drawn (drawn_lines v i)
