@@ -28,15 +28,17 @@ use Rattle.joint_model.specs.Draws.{Drawn}
 use Rattle.known_laws.specs.Drawn.{IsToldIn, drawn, drawn_by, of_drawn}
 use Rattle.known_laws.specs.Growing.{Kept, entries_kept, AreWhole, all_shown, shown, turned}
 use Rattle.known_laws.specs.Known.{Comes, given, without_pins}
+use Rattle.known_laws.specs.Lists.{made_by}
 use Rattle.known_laws.specs.Pasts.{InPast, Lawful, end_of, line, is_in, own_of, role_of}
 use Rattle.known_laws.specs.Wholes.{history_of, AllOrdered}
 use Rattle.known_laws.proofs.Drawing.{drawn-entry}
 use Rattle.known_laws.proofs.Ending.{known_whole_is_history, lawful_small, turned_twice}
-use Rattle.known_laws.proofs.Lists.{event-thread}
+use Rattle.known_laws.proofs.Lists.{event-thread, own_line_is_made_by_caller}
 use Rattle.known_laws.proofs.PastsJoin.{below}
 use Rattle.known_laws.proofs.Reading.{known_whole_is_linked}
 use Rattle.order_table.specs.declared.views.KeptEntry.{KeptEntry}
-use Rattle.order_table.specs.Facts.{entries_of}
+use Rattle.order_table.specs.declared.views.View.{View}
+use Rattle.order_table.specs.Facts.{entries_of, line_entries}
 use Rattle.order_table.specs.Owed.{mark, has}
 use Rattle.order_table.specs.Replies.{IsNoteOf, AreNotes}
 use Rattle.order_table.specs.Rule.{Item, RunsFrom, EachFits, AreLinesOfOneHistory, of_line}
@@ -45,7 +47,7 @@ use Rattle.order_table.specs.Views.{known}
 use Rattle.order_table.proofs.ByNumber.{replies_are_right}
 use Rattle.order_table.proofs.Lines.{role_in, in_cases}
 use Rattle.order_table.proofs.Wholes.{role_told}
-use Rattle.view_laws.specs.Knowing.{of_kept, of_order, drawn_lines, WholeViewIsLinked}
+use Rattle.view_laws.specs.Knowing.{of_kept, of_order, drawn_lines, IsDrawnView, OwnLinesAreMadeByCallers, WholeViewIsLinked}
 use Rattle.view_laws.proofs.KnownViews.{whole_kept, line_kept, whole_numbered}
 use Rattle.view_laws.proofs.Ordered.{TellsItem, AllTold, lawful-front, all_ordered}
 use Rattle.view_laws.proofs.StateWords.{SaysState, says-first, says-more}
@@ -287,6 +289,23 @@ entries-kept : (xs : List Item) → entries_kept (whole_kept xs) ≡ entries_of 
 entries-kept [] = refl
 entries-kept (x ∷ xs) = ap (λ l. x.kept.entry ∷ l) (entries-kept xs)
 
+-- so all lines of a view are whole
+lines-whole : (v : View) (a : IsDrawnView v) (w : AreLinesOfOneHistory v.known) → AreWhole (whole_kept w.whole) (λ i. of_drawn (drawn_lines v i))
+lines-whole v a w i = ⊎_elim
+    (λ (l : 26 < i). a.known.same i ∙ (ap all_shown (far-past i a.known.past a.known.lawful (omega (arith, l))) ∙ (sym (ap (map of_kept) (far-items i 0 w.whole w.numbers (omega (arith, l)))) ∙ line_kept i 0 w.whole w.numbers)))
+    (λ (l : i ≤ 26). kept-drawn (known v i) ∙ (ap (map of_kept) (w.each i (omega (arith, l))) ∙ line_kept i 0 w.whole w.numbers))
+    (cases_lt 26 i)
+
+-- and the line of a thread has just its entries
+pub own_lines_are_made_by_callers : OwnLinesAreMadeByCallers
+own_lines_are_made_by_callers v a w t is =
+    let made = own_line_is_made_by_caller (whole_kept w.whole) (λ i. of_drawn (drawn_lines v i)) a.known (whole_numbered 0 w.whole w.numbers) (lines-whole v a w) t is (lines-whole v a w (caller_line t)) in
+    sym (ap entries_kept (kept-drawn (known v (caller_line t))) ∙ entries-of (known v (caller_line t))) ∙ (made ∙ ap (made_by t) (entries-kept w.whole))
+  where
+    entries-of : (ks : List KeptEntry) → entries_kept (map of_kept ks) ≡ line_entries ks
+    entries-of [] = refl
+    entries-of (k ∷ ks) = ap (λ l. k.entry ∷ l) (entries-of ks)
+
 pub whole_view_is_linked : WholeViewIsLinked
 whole_view_is_linked h v a w same ended =
     known_whole_is_linked h (whole_kept w.whole) lines a.known (entries-kept w.whole ∙ sym same) (subst (NumberedFrom 0) (entries-kept w.whole ∙ sym same) numbered) all ordered ended
@@ -304,10 +323,7 @@ whole_view_is_linked h v a w same ended =
     numbered = whole_numbered 0 w.whole w.numbers
 
     all : AreWhole (whole_kept w.whole) lines
-    all i = ⊎_elim
-        (λ (l : 26 < i). a.known.same i ∙ (ap all_shown (far-past i past a.known.lawful (omega (arith, l))) ∙ (sym (ap (map of_kept) (far-items i 0 w.whole w.numbers (omega (arith, l)))) ∙ line_kept i 0 w.whole w.numbers)))
-        (λ (l : i ≤ 26). kept-drawn (known v i) ∙ (ap (map of_kept) (w.each i (omega (arith, l))) ∙ line_kept i 0 w.whole w.numbers))
-        (cases_lt 26 i)
+    all = lines-whole v a w
 
     back : past ≡ turned [] ns
     back = sym (turned_twice [] [] past ∙ append-nil past)

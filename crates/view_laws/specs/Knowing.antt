@@ -3,17 +3,20 @@
 use Rattle.std.specs.Prelude.{◌≡◌, ◌↔◌, false, ℕ, ◌+◌, ◌<◌, List, [], ◌∷◌, length, map, slice_index_or, Option, Some, None}
 use Rattle.joint_model.specs.declared.names.MNum.{MNum}
 use Rattle.joint_model.specs.declared.names.PNum.{PNum}
+use Rattle.joint_model.specs.declared.names.Thread.{Thread}
 use Rattle.joint_model.specs.declared.events.Entry.{Entry}
 use Rattle.joint_model.specs.Draws.{Drawn}
 use Rattle.joint_model.specs.Heaps.{IsLive, slot}
 use Rattle.joint_model.specs.Heaps as heaps
 use Rattle.joint_model.specs.Managed.{Managed, OpenCycle}
+use Rattle.joint_model.specs.HistoryLines.{caller_line}
 use Rattle.joint_model.specs.Histories.{Finished, IsJoinable, IsShuffle}
-use Rattle.joint_model.specs.Lines.{is_read}
+use Rattle.joint_model.specs.Lines.{IsThread, is_read}
 use Rattle.joint_model.specs.Told.{Told, Noted, pins_told, bare_told}
 use Rattle.known_laws.specs.Growing.{Kept, AreKnown, AreJoined}
 use Rattle.known_laws.specs.Known.{TellsPlainly, Comes, PinsStand, past_after}
 use Rattle.known_laws.specs.Drawn.{KeptDrawn, AreDrawn, DrawnJoin, drawn}
+use Rattle.known_laws.specs.Lists.{made_by}
 use Rattle.known_laws.specs.Pasts.{end_of}
 use Rattle.known_laws.specs.Wholes.{HasEnded, IsLinkedPast}
 use Rattle.order_table.specs.declared.views.KeptEntry.{KeptEntry}
@@ -155,3 +158,7 @@ ViewsSayStates = (v : View) (a : IsDrawnView v) → SaysState v (end_of a.known.
 -- the targets of cells that are live are those which the managed list doesn't free
 abbrev pub TargetsAgree : Type 0
 TargetsAgree = (v : View) (a : IsDrawnView v) (c m : ℕ) → target (known v 0) c ≡ Some m → (IsLive (end_of a.known.past).managed.managed.heap m ↔ (is_freed (known v 0) m ≡ false))
+
+-- the line of a thread that a view of a whole history knows has just the entries that this thread made
+abbrev pub OwnLinesAreMadeByCallers : Type 0
+OwnLinesAreMadeByCallers = (v : View) (a : IsDrawnView v) (w : AreLinesOfOneHistory v.known) (t : Thread) → IsThread t → line_entries (known v (caller_line t)) ≡ made_by t (entries_of w.whole)
