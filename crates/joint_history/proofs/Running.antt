@@ -17,10 +17,10 @@ use Rattle.joint_model.specs.declared.events.Op.{Op}
 use Rattle.joint_model.specs.declared.events.Op.TheVariants as op
 use Rattle.joint_model.specs.declared.events.Reply.{Reply}
 use Rattle.joint_model.specs.declared.events.Reply.TheVariants as says
-use Rattle.joint_model.specs.Control.{IsDone, met, doing_after}
+use Rattle.joint_model.specs.Control.{Doing, IsDone, MayStart, free, made, lent, gripped, given, met, doing_after}
 use Rattle.joint_model.specs.Draws.{numbered}
 use Rattle.joint_model.specs.HistoryLines.{caller_line}
-use Rattle.joint_model.specs.Lines.{IsLine, IsManagedThread, IsPeerThread, IsThread, IsVar}
+use Rattle.joint_model.specs.Lines.{IsLine, IsManagedThread, IsPeerThread, IsThread, is_peer_event}
 use Rattle.joint_model.proofs.Deciding.{none_some, some-same}
 use Rattle.order_table.specs.declared.views.View.{View}
 use Rattle.order_table.specs.Rule.{IsBelow}
@@ -30,7 +30,7 @@ use Rattle.peer_side.specs.Steps.{IsRelease, IsStepLine}
 use Rattle.joint_history.specs.Callers.{CallerKnows, last_index}
 use Rattle.joint_history.specs.Knowing.{line_known}
 use Rattle.joint_history.specs.Locked.{Makes, MakesNone, MayMake, doing_from, made_by}
-use Rattle.joint_history.specs.Operations.{AreAbove, StopsWithoutMemory, OpensOperation, IsMadeByEvents, IsOwnThread, IsPeerOperation, IsSideEvent, MakesAll, MayBegin, Runs, answer_of, cited_by, entry_by, first_of, second_of, third_of}
+use Rattle.joint_history.specs.Operations.{AreAbove, StopsWithoutMemory, OpensOperation, IsMadeByEvents, IsOwnThread, IsPeerOperation, IsSideEvent, MakesAll, MayBegin, ReadsExactly, Runs, answer_of, cited_by, entry_by, first_of, second_of, third_of}
 use Rattle.joint_history.proofs.LastLines.{last_line_is}
 use Rattle.joint_history.proofs.Narrow.{GripsFew, past_grips_few}
 use Rattle.joint_history.proofs.Turning.{first_may, met_then_release, stands_knows, then_adopt, then_land, then_meet, then_release}
@@ -243,7 +243,7 @@ beginner_knows t v index b = stands_knows t v index b.doing b.stands b.done
 
 pub beginner_is_below : (t : Thread) (v : View) (index : ℕ) → IsThread t → MayBegin t v index → last_index (line_known v (caller_line t)) ≤ index
 beginner_is_below t v index is b =
-    let e = last_line_is _ b.stands.known t is in
+    let e = last_line_is v b.stands.known t is in
     let l = b.stands.last in
     omega (arith, e, l)
 
@@ -366,3 +366,31 @@ peer_makes_none C old new index a is line b = absurd is
 pub breaks_none : {A E : Type 0} (t : Thread) (old new : View) (index : ℕ) (a : Act) (result : Result A E) → IsPeerThread t → IsMadeByEvents t a → OnErr result (StopsWithoutMemory t old new index a) → OnErr result (MakesAll t old new [])
 breaks_none t old new index a (Ok x) is line b = tt
 breaks_none t old new index a (Err x) is line b = peer_makes_none t old new index a is line b
+
+-- a read is its own operation, and cites nothing
+starts_bare : (d : Doing) (cites : Option ℕ) → MayStart d cites → cites ≡ None
+starts_bare free cites w = w
+starts_bare (made n l p h sort f) cites w = w
+starts_bare (lent n l h x) cites w = w
+starts_bare (gripped n l p h sort f) cites w = w
+starts_bare (given n l h) cites w = absurd w
+starts_bare (met n l h) cites w = absurd w
+
+pub line_bare : (t : Thread) (v : View) (index : ℕ) (a : Act) (cites : Option ℕ) → IsManagedThread t → MayMake t v index (op.Line a) cites → cites ≡ None
+line_bare (M n) v index a cites is may = starts_bare may.doing cites may.turn
+line_bare (P n) v index a cites is may = absurd is
+line_bare C v index a cites is may = absurd is
+
+pub exact_first : (t : Thread) (old new : View) (a : Act) (start : Op) (reply : Reply) → start ≡ first_of a → (is_peer_event t start ≡ false → (b : Act) → start ≡ op.Line b → ReadsExactly t old new b reply) → ReadsExactly t old new a reply
+exact_first (M n) old new (act.Read k) start reply e f = λ r. f (ap (is_peer_event (M n)) e) (act.Read k) e r
+exact_first (M n) old new (act.Await k) start reply e f = λ r. f (ap (is_peer_event (M n)) e) (act.Await k) e r
+exact_first (M n) old new a start reply e f = λ r. absurd r
+exact_first (P n) old new a start reply e f = tt
+exact_first C old new a start reply e f = tt
+
+pub exact_later : (t : Thread) (old new : View) (a : Act) (answered : Reply) (second : Op) (reply : Reply) → second_of a answered ≡ Some second → ReadsExactly t old new a reply
+exact_later (M n) old new (act.Read k) answered second reply e = λ r. absurd (none_some second e)
+exact_later (M n) old new (act.Await k) answered second reply e = λ r. absurd (none_some second e)
+exact_later (M n) old new a answered second reply e = λ r. absurd r
+exact_later (P n) old new a answered second reply e = tt
+exact_later C old new a answered second reply e = tt
