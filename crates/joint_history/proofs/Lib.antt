@@ -36,6 +36,7 @@ pub mod Joined
 pub mod Narrow
 pub mod Giving
 pub mod Running
+pub mod LoneReads
 pub mod Collecting
 pub mod SeatsKnow
 pub mod Crosses
