@@ -86,7 +86,7 @@ frees_none old new k e none = record {
 }
 
 -- the numbers of objects
-abbrev numbers_of : List ℕ → List MNum
+abbrev pub numbers_of : List ℕ → List MNum
 numbers_of xs = map (λ x. record { 0 = x }) xs
 
 has_in : (xs : List ℕ) (m : ℕ) → has (numbers_of xs) m ≡ true → Contains xs m

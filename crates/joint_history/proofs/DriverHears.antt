@@ -1,16 +1,16 @@
 -- The driver stands where it stood once its seat has heard what others know, since its own line is whole in its seat.
-use Rattle.std.proofs.Common.{◌≡◌, ℕ, ◌≤◌, [], refl, sym, ap, ◌∙◌, subst, arith}
+use Rattle.std.proofs.Common.{◌≡◌, ℕ, ◌≤◌, List, refl, sym, subst, arith}
 use Rattle.joint_model.specs.declared.names.Thread.{Thread}
 use Rattle.joint_model.specs.declared.names.Thread.TheVariants.{M, P, C}
+use Rattle.joint_model.specs.declared.events.Entry.{Entry}
 use Rattle.joint_model.specs.Control.{Stand, last_line, opening_control}
 use Rattle.joint_model.specs.HistoryLines.{caller_line}
 use Rattle.joint_model.specs.Lines.{IsDriver}
 use Rattle.joint_model.specs.Managed.{Managed, opening_managed}
 use Rattle.order_table.specs.declared.views.View.{View}
-use Rattle.order_table.specs.Facts.{line_entries}
 use Rattle.order_table.specs.Tells.{TakesIn, BeginsOneHistory}
 use Rattle.order_table.specs.Views.{known}
-use Rattle.joint_history.specs.Callers.{CallerKnows, HoldsPass, KnowsNothing}
+use Rattle.joint_history.specs.Callers.{CallerKnows, HoldsPass, KeepsReads, KnowsNothing}
 use Rattle.joint_history.specs.Driven.{DriverRests, DriverStands}
 use Rattle.view_laws.specs.Knowing.{IsDrawnView}
 use Rattle.joint_history.proofs.DeadParts.{dead_part_self}
@@ -22,7 +22,7 @@ pub driver_hears : (mine other new : View) → IsDrawnView other → TakesIn min
 driver_hears mine other new b takes one pass index stand seen s =
     let j = views_join mine other new s.known b takes one in
     let whole = takes.owned (caller_line C) (pass (caller_line C) (own_line C)) in
-    record { known = j.joined; stands = driver_in mine new s.known j.joined one takes.knew (j.first (caller_line C) (ap line_entries whole)) whole index stand seen s.stands }
+    record { known = j.joined; stands = driver_in mine new s.known j.joined one takes.knew (j.first (caller_line C) whole) whole index stand seen s.stands }
 
 -- who knows the same stands so too
 pub driver_same : (v w : View) (index : ℕ) (stand : Stand) (seen : Managed) → ((i : ℕ) → known w i ≡ known v i) → DriverStands v index stand seen → DriverStands w index stand seen
@@ -43,6 +43,12 @@ driver_pass_back t v is h = subst (λ (u : Thread). HoldsPass u v) (sym (driver_
 pub driver_knows : (t : Thread) (v : View) (index : ℕ) (stand : Stand) (seen : Managed) → IsDriver t → DriverStands v index stand seen → CallerKnows t v
 driver_knows t v index stand seen is s = subst (λ (u : Thread). CallerKnows u v) (sym (driver_is t is)) (record { known = s.known; released = tt })
 
+-- and it reads no cells
+pub driver_reads : (t : Thread) (old new : View) (es : List Entry) → IsDriver t → KeepsReads t old es → KeepsReads t new es
+driver_reads (M n) old new es is k = absurd is
+driver_reads (P n) old new es is k = absurd is
+driver_reads C old new es is k = k
+
 -- who knows nothing is idle
 pub driver_first : (v : View) → KnowsNothing v → DriverRests v 0
 driver_first v k =
@@ -50,7 +56,7 @@ driver_first v k =
     record {
       seen = opening_managed;
       stands = record {
-        known = no_view _ (λ i. k i);
+        known = no_view v k;
         stands = record { last = omega (arith, none); come = refl; dead = dead_part_self opening_managed };
       };
     }

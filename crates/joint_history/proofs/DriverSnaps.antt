@@ -1,11 +1,10 @@
 -- The driver's snapshot under the managed lock: no cycle is open while the driver is idle, and after the entry the driver has seen the side's objects as
 -- they are then.
-use Rattle.std.proofs.Common.{◌≡◌, ℕ, ◌+◌, ◌<◌, ◌^◌, List, [], ◌∷◌, ◌++◌, Option, Some, None, refl, sym, ap, ◌∙◌, subst}
+use Rattle.std.proofs.Common.{◌≡◌, ℕ, ◌+◌, ◌<◌, ◌^◌, false, List, [], Option, Some, None, refl, sym, ap, ◌∙◌, subst}
 use Rattle.std.specs.Prelude.{Result, Ok, Err, IfOk, OnErr}
 use mathlib.Core.List.{IsPrefix}
 use base.Growing.{prefix_refl}
 use Rattle.joint_model.specs.declared.names.Thread.TheVariants.{C}
-use Rattle.joint_model.specs.declared.events.Entry.{Entry}
 use Rattle.joint_model.specs.declared.names.Span.{Span}
 use Rattle.joint_model.specs.declared.events.Op.TheVariants as op
 use Rattle.joint_model.specs.declared.events.Reply.{Reply}
@@ -15,17 +14,18 @@ use Rattle.joint_model.specs.Cycles.{snap_reply}
 use Rattle.joint_model.specs.Managed.{Managed, OpenCycle}
 use Rattle.joint_model.specs.ManagedReplay.{ManagedReplay}
 use Rattle.joint_model.specs.Sides.{Side, managed_rules}
-use Rattle.joint_model.specs.Told.{snap_of}
+use Rattle.joint_model.specs.Told.{kept_pins, snap_of}
 use Rattle.joint_laws.specs.ManagedInvariants.{IsManagedKept}
 use Rattle.known_laws.proofs.Conditions.{idle_is_closed}
 use Rattle.known_laws.proofs.KnownPasts.{known_past_is_kept}
 use Rattle.managed_side.specs.declared.opening.Opened.{Opened}
 use Rattle.order_table.specs.declared.views.View.{View}
+use Rattle.order_table.specs.Rows.{at}
 use Rattle.order_table.specs.Views.{OrderId, Shown, known, Owns}
 use Rattle.joint_history.specs.Callers.{HoldsPass}
 use Rattle.joint_history.specs.Driven.{DriverMakes, DriverRests, DriverStands, driver_entry}
 use Rattle.joint_history.specs.DriverSnaps.{DrawsSnapshot, MakesSnapshot}
-use Rattle.joint_history.specs.Locked.{Drew, ManagedKnows}
+use Rattle.joint_history.specs.Locked.{Drew, ManagedKnows, StaysSeated}
 use Rattle.seat_calls.specs.Passing.{Lends, Returns}
 use Rattle.joint_history.proofs.DriverCalls.{Called, IsUnderLock, called, stands_anew}
 use Rattle.joint_history.proofs.DriverSteps.{DrivenUnder, driven}
@@ -35,27 +35,17 @@ use Rattle.joint_history.proofs.LockedSteps.{grows_more, owns_on}
 pub may_snap : (side : ManagedReplay) (seen : Managed) → IsUnderLock side idle seen → side.managed.cycle ≡ None
 may_snap side seen u = subst (λ (r : ManagedReplay). r.managed.cycle ≡ None) u.managed (idle_is_closed u.state u.kept u.stood)
 
--- the last entry of a list is one
-pub last_same : (es : List Entry) (e f : Entry) → es ++ e ∷ [] ≡ es ++ f ∷ [] → e ≡ f
-last_same [] e f s = cc
-last_same (x ∷ es) e f s = let tails : es ++ e ∷ [] ≡ es ++ f ∷ [] = cc in last_same es e f tails
-
--- what holds whether there is a value or a fault
-pub either_way : {X E F Q : Type 0} (P : X → Type 0) (r : Result X E) → IfOk r P → OnErr r F → ((x : X) → P x → Q) → (F → Q) → Q
-either_way P (Ok x) p e f g = f x p
-either_way P (Err x) p e f g = g e
-
 -- an open cycle
 abbrev cycle_of : ℕ → List ℕ → List ℕ → Option OpenCycle
 cycle_of k candidates dead = Some record { number = k; candidates = candidates; dead = dead }
 
 module _ (locked mine mine1 locked2 mine2 : View) (order : OrderId) (seat seat' : Shown) (old new : Side ManagedReplay) (index : ℕ) (pass : HoldsPass C mine) (owns : Owns locked 0) (short : index < 2 ^ 32) (ks : ManagedKnows locked old) (l : Lends C locked mine seat.view mine1) (b : Returns C seat'.view mine1 locked2 mine2) where
   with_snapshot_of : (out : Opened) (d : DrawsSnapshot order seat seat' old new index out) (m : Managed) → DriverStands mine index idle m
-      → DrivenUnder mine locked2 mine2 old new index idle m (driver_entry out.number index (op.Snap out.cycle) (snap_reply old.state.managed d.freed d.candidates) None) (snap_of d.freed d.candidates d.dead)
+      → DrivenUnder mine locked2 mine2 old new index idle m (driver_entry out.number index (op.Snap out.cycle) (snap_reply old.state.managed d.freed d.candidates) None) (kept_pins d.pins (snap_of d.freed d.candidates d.dead))
   with_snapshot_of out d m s =
-      let drew = subst (λ (k : ℕ). Drew managed_rules 0 order seat seat' old new (driver_entry out.number index (op.Snap record { 0 = k }) (snap_reply old.state.managed d.freed d.candidates) None) (snap_of d.freed d.candidates d.dead)) (sym d.cycle)
-      (subst (λ (k : ℕ). Drew managed_rules 0 order seat seat' old new (driver_entry k index (op.Snap record { 0 = old.state.managed.cycles + 1 }) (snap_reply old.state.managed d.freed d.candidates) None) (snap_of d.freed d.candidates d.dead)) d.same_number d.drew) in
-      driven locked mine mine1 locked2 mine2 order seat seat' old new index idle m (driver_entry out.number index (op.Snap out.cycle) (snap_reply old.state.managed d.freed d.candidates) None) (snap_of d.freed d.candidates d.dead) pass owns refl refl short ks s (λ issued. refl) l drew b
+      let drew = subst (λ (k : ℕ). Drew managed_rules 0 order seat seat' old new (driver_entry out.number index (op.Snap record { 0 = k }) (snap_reply old.state.managed d.freed d.candidates) None) (kept_pins d.pins (snap_of d.freed d.candidates d.dead))) (sym d.cycle)
+      (subst (λ (k : ℕ). Drew managed_rules 0 order seat seat' old new (driver_entry k index (op.Snap record { 0 = old.state.managed.cycles + 1 }) (snap_reply old.state.managed d.freed d.candidates) None) (kept_pins d.pins (snap_of d.freed d.candidates d.dead))) d.same_number d.drew) in
+      driven locked mine mine1 locked2 mine2 order seat seat' old new index idle m (driver_entry out.number index (op.Snap out.cycle) (snap_reply old.state.managed d.freed d.candidates) None) (kept_pins d.pins (snap_of d.freed d.candidates d.dead)) pass owns refl refl short ks s (λ issued. refl) d.stand l drew b
 
   pub snapshot_made : (out : Opened) → DrawsSnapshot order seat seat' old new index out → MakesSnapshot mine mine2 index out
   snapshot_made out d m s =
@@ -65,30 +55,31 @@ module _ (locked mine mine1 locked2 mine2 : View) (order : OrderId) (seat seat' 
         freed = d.freed;
         candidates = d.candidates;
         dead = d.dead;
+        pins = d.pins;
         counted = d.counted;
         count = ap (λ (s : Span). s.count) d.span;
-        makes = subst (λ (r : Reply). DriverMakes mine mine2 idle m (driver_entry out.number index (op.Snap out.cycle) r None) (snap_of d.freed d.candidates d.dead)) (sym reply) w.makes;
+        makes = subst (λ (r : Reply). DriverMakes mine mine2 idle m (driver_entry out.number index (op.Snap out.cycle) r None) (kept_pins d.pins (snap_of d.freed d.candidates d.dead))) (sym reply) w.makes;
         seen = new.state.managed;
         kept = subst (λ (r : ManagedReplay). IsManagedKept r.managed) w.after (known_past_is_kept w.known.known.past w.known.known.lawful).kept.managed.managed;
         opened = ap (λ (r : ManagedReplay). r.managed.cycle) d.drew.goes.state ∙ ap (λ (k : ℕ). cycle_of k d.candidates d.dead) (sym d.cycle);
         graph = d.graph;
-        stands = stands_anew mine mine2 old new index idle (snapped record { cycle = out.cycle.0; snap = out.number }) m (driver_entry out.number index (op.Snap out.cycle) (snap_reply old.state.managed d.freed d.candidates) None) (snap_of d.freed d.candidates d.dead) w refl;
+        stands = stands_anew mine mine2 old new index idle (snapped record { cycle = out.cycle.0; snap = out.number }) m (driver_entry out.number index (op.Snap out.cycle) (snap_reply old.state.managed d.freed d.candidates) None) (kept_pins d.pins (snap_of d.freed d.candidates d.dead)) w refl;
       }
 
-  pub snapshot_called : {E : Type 0} (result : Result Opened E) (w : DriverRests mine index) → IfOk result (λ o. DrawsSnapshot order seat seat' old new index o) → OnErr result ((seat' ≡ seat) × (new ≡ old)) → Called mine locked2 mine2 new result (λ o. MakesSnapshot mine mine2 index o)
+  pub snapshot_called : {E : Type 0} (result : Result Opened E) (w : DriverRests mine index) → IfOk result (λ o. DrawsSnapshot order seat seat' old new index o) → OnErr result (StaysSeated seat seat' × (new ≡ old)) → Called mine locked2 mine2 new result (λ o. MakesSnapshot mine mine2 index o)
   snapshot_called result w d e = called locked mine mine1 locked2 mine2 order seat seat' old new index pass owns short ks l b (λ o. DrawsSnapshot order seat seat' old new index o) (λ o. MakesSnapshot mine mine2 index o) result w.stands.known
       (λ o y. ((with_snapshot_of o y w.seen w.stands).knows, snapshot_made o y)) d e
 
 -- what the seat knew and owned after it
 module _ {E : Type 0} (order : OrderId) (seat seat' : Shown) (old new : Side ManagedReplay) (index : ℕ) where
-  pub snap_prefix : (result : Result Opened E) → IfOk result (λ o. DrawsSnapshot order seat seat' old new index o) → OnErr result ((seat' ≡ seat) × (new ≡ old)) → (i : ℕ) → IsPrefix (known seat.view i) (known seat'.view i)
+  pub snap_prefix : (result : Result Opened E) → IfOk result (λ o. DrawsSnapshot order seat seat' old new index o) → OnErr result (StaysSeated seat seat' × (new ≡ old)) → (i : ℕ) → IsPrefix (known seat.view i) (known seat'.view i)
   snap_prefix (Ok o) d e i = grows_more seat.view seat'.view 0 d.drew.kept d.drew.appends.grows i
-  snap_prefix (Err x) d e i = subst (λ (s : Shown). IsPrefix (known seat.view i) (known s.view i)) (sym e.0) (prefix_refl (known seat.view i))
+  snap_prefix (Err x) d e i = subst (IsPrefix (known seat.view i)) (sym (ap (λ ks. at [] ks i) e.0.known)) (prefix_refl (known seat.view i))
 
-  pub snap_keeps : (result : Result Opened E) → IfOk result (λ o. DrawsSnapshot order seat seat' old new index o) → OnErr result ((seat' ≡ seat) × (new ≡ old)) → (i : ℕ) → Owns seat.view i → Owns seat'.view i
+  pub snap_keeps : (result : Result Opened E) → IfOk result (λ o. DrawsSnapshot order seat seat' old new index o) → OnErr result (StaysSeated seat seat' × (new ≡ old)) → (i : ℕ) → Owns seat.view i → Owns seat'.view i
   snap_keeps (Ok o) d e i w = owns_on seat.view seat'.view 0 d.drew.kept d.drew.appends.grows i w
-  snap_keeps (Err x) d e i w = subst (λ (s : Shown). Owns s.view i) (sym e.0) w
+  snap_keeps (Err x) d e i w = ap (λ os. at false os i) e.0.owns ∙ w
 
-  pub snap_order : (result : Result Opened E) → IfOk result (λ o. DrawsSnapshot order seat seat' old new index o) → OnErr result ((seat' ≡ seat) × (new ≡ old)) → seat'.order ≡ seat.order
+  pub snap_order : (result : Result Opened E) → IfOk result (λ o. DrawsSnapshot order seat seat' old new index o) → OnErr result (StaysSeated seat seat' × (new ≡ old)) → seat'.order ≡ seat.order
   snap_order (Ok o) d e = d.drew.appends.same
-  snap_order (Err x) d e = ap (λ (s : Shown). s.order) e.0
+  snap_order (Err x) d e = e.0.order

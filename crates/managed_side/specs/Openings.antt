@@ -44,8 +44,8 @@ pub record OpensByClosing {D : Type 0} (closed : D → ℕ → List (Option MNum
   pub closes : closed before (old.state.managed.cycles + 1) pins gate
   pub opens : OpensBySnap d gate after old new index (pins_given pins) out
 
--- by why no cycle was opened: where none is open, for want of memory, or since the gate wasn't closed
+-- by why no cycle was opened: where none is open, for want of memory, or since the gate wasn't closed; and else since one is
 abbrev pub BySnapFault : SnapFault → Option OpenCycle → Type 0 → Type 0 → Type 0
 BySnapFault fault.OutOfMemory cycle same refused = (cycle ≡ None) × same
 BySnapFault fault.NotClosed cycle same refused = (cycle ≡ None) × refused
-BySnapFault (fault.CycleOpen c) cycle same refused = same
+BySnapFault (fault.CycleOpen c) cycle same refused = (cycle ≡ None → ⊥) × same

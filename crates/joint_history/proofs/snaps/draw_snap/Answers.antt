@@ -1,37 +1,48 @@
-use Rattle.std.proofs.Common.{ap, sym, ◌∙◌, rules}
-use Rattle.joint_model.specs.declared.events.Entry.{Entry}
-use Rattle.joint_model.specs.Draws.{numbered}
-use Rattle.joint_model.specs.ManagedReplay.{ManagedReplay}
-use Rattle.joint_model.specs.Sides.{Side}
-use Rattle.managed_side.specs.Openings.{snap_made}
-use Rattle.std.proofs.lemmas.Result.{IfOk-weaker}
-use Rattle.joint_history.proofs.DriverSnaps.{either_way, last_same}
+use Rattle.std.proofs.Common.{ap, arith, refl, rules, sym, ◌∙◌}
+use Rattle.order_table.specs.Facts.{line_entries}
 use Rattle.seat_calls.proofs.Floors.{below_floor, room_left}
+use Rattle.joint_history.proofs.CycleDraws.{cycle_next}
+use Rattle.joint_history.proofs.Scanning.{knows_gate, pins_stand, snap_drawn, snap_may, snapshot_still}
 use Rattle.joint_history.proofs.snaps.draw_snap.Goals as goal
 
+pub snap-requires-clause-close : goal.snap-requires-clause-close
+snap-requires-clause-close c = λ e. (c.requires.order, c.requires.owner.0, c.requires.settled, (cycle_next c.args.seat.now.view c.args.side.now c.requires.knows e).1)
+
+pub snap-requires-clause-stand : goal.snap-requires-clause-stand
+snap-requires-clause-stand c = λ pins g w. pins_stand c.args.seat.now g.seat.now c.args.side.now _ pins c.requires.knows w.2
+
 pub snap-requires-clause-may : goal.snap-requires-clause-may
-snap-requires-clause-may c = λ e. record {
-  takes = tt;
-  below = below_floor c.args.seat.now.view 0 c.args.side.now.entries c.requires.entries;
-  room = room_left c.args.seat.now.view 0 c.args.side.now.entries c.requires.entries;
-  bare = c.requires.may;
-  targets = λ m x. c.requires.may;
-}
+snap-requires-clause-may c = λ pins g w.
+    let ks = knows_gate c.args.seat.now g.seat.now c.args.side.now _ pins c.requires.knows w.2 in
+    record {
+      takes = tt;
+      below = below_floor g.seat.now.view 0 c.args.side.now.entries ks.entries;
+      room = room_left g.seat.now.view 0 c.args.side.now.entries ks.entries;
+      bare = snap_may c.args.order.now g.order.now c.args.seat.now g.seat.now c.args.side.now pins c.requires.order w.1 c.requires.owner.0 c.requires.owner.1 c.requires.settled c.requires.knows c.requires.closed w.2;
+      targets = λ m x. absurd x;
+    }
+
+pub settle_opened-requires-clause-agrees : goal.settle_opened-requires-clause-agrees
+settle_opened-requires-clause-agrees c =
+    let o = c.in_ok-opened.ensures.snaps in
+    let w = snap_drawn _ _ _ c.args.order.now o.gate.order.now _ c.args.seat.now o.gate.seat.now _ c.args.side.now c.snap.new.self c.args.index o.pins c.in_ok-opened.opened c.requires.order o.closes.1 c.requires.owner.0 c.requires.knows c.requires.closed o.closes.2 o.opens o.opens.adds.draws.adds.drawn.1 in
+    search rules
+
+pub settle_opened-requires-clause-freed : goal.settle_opened-requires-clause-freed
+settle_opened-requires-clause-freed c =
+    let o = c.in_ok-opened.ensures.snaps in
+    let w = snap_drawn _ _ _ c.args.order.now o.gate.order.now _ c.args.seat.now o.gate.seat.now _ c.args.side.now c.snap.new.self c.args.index o.pins c.in_ok-opened.opened c.requires.order o.closes.1 c.requires.owner.0 c.requires.knows c.requires.closed o.closes.2 o.opens o.opens.adds.draws.adds.drawn.1 in
+    search rules
+
+pub settle_opened-requires-clause-opened : goal.settle_opened-requires-clause-opened
+settle_opened-requires-clause-opened c =
+    let o = c.in_ok-opened.ensures.snaps in
+    let w = snap_drawn _ _ _ c.args.order.now o.gate.order.now _ c.args.seat.now o.gate.seat.now _ c.args.side.now c.snap.new.self c.args.index o.pins c.in_ok-opened.opened c.requires.order o.closes.1 c.requires.owner.0 c.requires.knows c.requires.closed o.closes.2 o.opens o.opens.adds.draws.adds.drawn.1 in
+    search rules
 
 pub returns-clause-drew : goal.returns-clause-drew
-returns-clause-drew c = IfOk-weaker c.snap.result _ _ (λ o w. record {
-  freed = w.freed;
-  candidates = w.candidates;
-  dead = w.dead;
-  number = w.adds.draws.adds.number;
-  same_number = ap (λ (e : Entry). e.number)
-      (last_same c.args.side.now.entries (numbered w.adds.draws.adds.number (snap_made c.args.side.now.state.managed c.args.index w.freed w.candidates)) (numbered o.number (snap_made c.args.side.now.state.managed c.args.index w.freed w.candidates)) (sym w.adds.draws.adds.added ∙ w.number));
-  drew = (let a = w.adds in search rules);
-  cycle = w.cycle;
-  counted = w.counted;
-  span = w.span;
-  graph = w.graph;
-}) c.snap.ensures.snaps
-
-pub returns-clause-threads : goal.returns-clause-threads
-returns-clause-threads c = either_way _ c.snap.result c.snap.ensures.snaps c.snap.ensures.err (λ o w. w.adds.threads) (λ e. ap (λ (s : Side ManagedReplay). s.threads) e.0)
+returns-clause-drew c =
+    let o = c.in_ok-opened.ensures.snaps in
+    let w = snap_drawn _ _ _ c.args.order.now o.gate.order.now _ c.args.seat.now o.gate.seat.now _ c.args.side.now c.snap.new.self c.args.index o.pins c.in_ok-opened.opened c.requires.order o.closes.1 c.requires.owner.0 c.requires.knows c.requires.closed o.closes.2 o.opens o.opens.adds.draws.adds.drawn.1 in
+    let e = c.settle_opened.ensures in
+    snapshot_still c.args.order.now c.args.seat.now c.snap.new.gate.seat.now c.settle_opened.new.seat c.args.side.now c.snap.new.self c.args.index c.in_ok-opened.opened w.draws (e.order ∙ sym w.settle.same) (search rules) (search rules)

@@ -4,7 +4,7 @@ use Rattle.joint_model.specs.Lines.{IsDriver}
 use Rattle.joint_history.specs.Driven.{MakesFinalise, MayFinalise}
 use Rattle.joint_history.specs.Callers.{Pass}
 use Rattle.joint_history.proofs.DriverCallers.{knows_either}
-use Rattle.joint_history.proofs.DriverHears.{driver_pass, driver_pass_back}
+use Rattle.joint_history.proofs.DriverHears.{driver_pass, driver_pass_back, driver_reads}
 use Rattle.joint_history.proofs.shared.Shared.finalise.Goals as goal
 
 pub finalise-requires-clause-pass : goal.finalise-requires-clause-pass
@@ -21,6 +21,8 @@ invariant_of-driver g c =
       c.finalise.ensures.order,
       driver_pass_back c.driver.inside.thread c.finalise.new.mine.view driver c.finalise.ensures.pass,
       knows_either c.driver.inside.thread c.driver.inside.seat.view c.finalise.new.mine.view c.finalise.result (λ r. MakesFinalise c.driver.inside.seat.view c.finalise.new.mine.view c.args.index r.0 c.args.count r.1) driver c.finalise.ensures.ok (λ r q. (q may.stand may.seen may.stands may.rests).1.known) c.finalise.ensures.err c.args.index may.stand may.seen may.stands,
+      c.finalise.ensures.settled,
+      driver_reads c.driver.inside.thread c.driver.inside.seat.view c.finalise.new.mine.view c.driver.inside.reads.entries driver c.driver.invariant.5,
     )
 
 pub returns-clause-ok : goal.returns-clause-ok

@@ -4,7 +4,7 @@ use Rattle.joint_model.specs.Lines.{IsDriver}
 use Rattle.joint_history.specs.Driven.{MakesRefusal, MayRefuseWord}
 use Rattle.joint_history.specs.Callers.{Pass}
 use Rattle.joint_history.proofs.DriverCallers.{knows_either}
-use Rattle.joint_history.proofs.DriverHears.{driver_pass, driver_pass_back}
+use Rattle.joint_history.proofs.DriverHears.{driver_pass, driver_pass_back, driver_reads}
 use Rattle.joint_history.proofs.shared.Shared.refused.Goals as goal
 
 pub refused-requires-clause-pass : goal.refused-requires-clause-pass
@@ -21,6 +21,8 @@ invariant_of-driver g c =
       c.refused.ensures.order,
       driver_pass_back c.driver.inside.thread c.refused.new.mine.view driver c.refused.ensures.pass,
       knows_either c.driver.inside.thread c.driver.inside.seat.view c.refused.new.mine.view c.refused.result (λ r. MakesRefusal c.driver.inside.seat.view c.refused.new.mine.view c.args.index r.0 c.args.word c.args.phase r.1) driver c.refused.ensures.ok (λ r q. (q may.stand may.seen may.stands may.in_phase).stands.known) c.refused.ensures.err c.args.index may.stand may.seen may.stands,
+      c.refused.ensures.settled,
+      driver_reads c.driver.inside.thread c.driver.inside.seat.view c.refused.new.mine.view c.driver.inside.reads.entries driver c.driver.invariant.5,
     )
 
 pub returns-clause-ok : goal.returns-clause-ok

@@ -5,7 +5,7 @@ use Rattle.joint_history.specs.Driven.{DriverRests}
 use Rattle.joint_history.specs.DriverSnaps.{MakesSnapshot}
 use Rattle.joint_history.specs.Callers.{Pass}
 use Rattle.joint_history.proofs.DriverCallers.{knows_either}
-use Rattle.joint_history.proofs.DriverHears.{driver_pass, driver_pass_back}
+use Rattle.joint_history.proofs.DriverHears.{driver_pass, driver_pass_back, driver_reads}
 use Rattle.joint_history.proofs.shared.Shared.snap.Goals as goal
 
 pub snap-requires-clause-pass : goal.snap-requires-clause-pass
@@ -22,4 +22,6 @@ invariant_of-driver g c =
       c.snap.ensures.order,
       driver_pass_back c.driver.inside.thread c.snap.new.mine.view driver c.snap.ensures.pass,
       knows_either c.driver.inside.thread c.driver.inside.seat.view c.snap.new.mine.view c.snap.result (λ o. MakesSnapshot c.driver.inside.seat.view c.snap.new.mine.view c.args.index o) driver c.snap.ensures.ok (λ r q. (q may.seen may.stands).stands.known) c.snap.ensures.err c.args.index idle may.seen may.stands,
+      c.snap.ensures.settled,
+      driver_reads c.driver.inside.thread c.driver.inside.seat.view c.snap.new.mine.view c.driver.inside.reads.entries driver c.driver.invariant.5,
     )
