@@ -13,7 +13,7 @@ pub mod SetCells
 pub mod TakenPins
 pub mod LastLines
 pub mod Desking
-pub mod Finishing
+pub mod GatheredReads
 pub mod Gathering
 pub mod Turning
 pub mod DeadParts
