@@ -29,8 +29,8 @@ use Rattle.bridge_cycle.specs.Held.{Fields, HasCycle, HasRoomForAnswers, IsAt, K
 use Rattle.bridge_cycle.specs.Progress.{AreDriversOnLine, EndsWithReply, Enters, LeadTo, Progress, RunsWords, RunsPhases, cycle_after, line_of, opened_by}
 
 -- the line of the driver's last entry
-own_line_is : (v : View) (index : ℕ) (stand : Stand) (seen : Managed) (s : DriverStands v index stand seen) → control_line (end_of s.known.past).control C ≡ last_index (line_known v (caller_line C))
-own_line_is v index stand seen s = last_line_is s.known.past C tt ∙ ap last_index (sym (s.known.same (caller_line C)))
+own_line_is : (v : View) (index : ℕ) (stand : Stand) (seen : Managed) (s : DriverStands v index stand seen) → control_line (end_of s.known.known.past).control C ≡ last_index (line_known v (caller_line C))
+own_line_is v index stand seen s = last_line_is v s.known C tt
 
 pub line_below : (v : View) (index : ℕ) (stand : Stand) (seen : Managed) → DriverStands v index stand seen → last_index (line_known v (caller_line C)) ≤ index
 line_below v index stand seen s = let e = own_line_is v index stand seen s in let l = s.stands.last in omega (arith, e, l)

@@ -12,7 +12,7 @@ use Rattle.joint_model.specs.Cycles.{IsDeadContraction}
 use Rattle.joint_model.specs.Listed.{Answers as Stock}
 use Rattle.joint_model.specs.Managed.{Managed, OpenCycle}
 use Rattle.joint_model.specs.Phases.{next_phase}
-use Rattle.joint_model.specs.Told.{contraction_of, snap_of}
+use Rattle.joint_model.specs.Told.{contraction_of, kept_pins, snap_of}
 use Rattle.joint_model.proofs.HeapLemmas.{candidates_of-open}
 use Rattle.bridge_graph.specs.Parts.{IsBridgeNode, IsPart, NodeLeads}
 use Rattle.xref_list.specs.Listing.{Listing}
@@ -62,7 +62,7 @@ snap_taken f index new out h e l makes part =
       };
       line = line_below new index (snapped (opened_of out)) o.seen o.stands;
       answers = ran_one f.progress (after_snap f new out).progress index word.Snap (driver_entry out.number index (op.Snap out.cycle) (says.Snapped out.candidates out.freed) None)
-          (makes_one f.progress.view new idle rests.seen _ (snap_of o.freed o.candidates o.dead) o.makes) refl refl refl refl (record { each = (tt, tt); count = refl })
+          (makes_one f.progress.view new idle rests.seen _ (kept_pins o.pins (snap_of o.freed o.candidates o.dead)) o.makes) refl refl refl refl (record { each = (tt, tt); count = refl })
           (at.Snapped, ap (λ p. next_phase p word.Snap) e, refl);
     }
 

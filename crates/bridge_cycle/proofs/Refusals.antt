@@ -28,7 +28,7 @@ use Rattle.order_table.specs.Views.{known}
 use Rattle.joint_history.specs.Callers.{Hears, KnowsNothing, Pass, last_index}
 use Rattle.joint_history.specs.Driven.{DriverMakesNone, DriverStands, IsStillAt, MakesFinalise, MakesRefusal, MayFinalise, MayRefuseWord, driver_entry}
 use Rattle.joint_history.specs.Ending.{HasIdleDriver}
-use Rattle.joint_history.specs.Knowing.{IsKnownView}
+use Rattle.view_laws.specs.Knowing.{IsDrawnView}
 use Rattle.joint_history.proofs.DeadParts.{dead_part_self}
 use Rattle.joint_history.proofs.DriverHears.{driver_first, driver_later}
 use Rattle.joint_history.specs.DriverMirrors.{numbered_comps}
@@ -193,7 +193,7 @@ module _ (f : Fields) (index : ℕ) (h : KnowsItsStand f) (l : line_of f.progres
       let v = makes h.stand h.seen stands (rest_at f.progress.phase f h.stand h.seen h.at) in
       let e : Entry = driver_entry n index (op.Line (act.Finalise count)) reply None in
       let one : MakesOne f.progress (knowing f new).progress index (e ∷ []) = record {
-        enters = record { made = makes_one f.progress.view new h.stand h.seen e nothing v.0; places = (refl, refl, tt); cycle = refl; candidates = sym (ap (told_by f.progress.candidates) v.0.comes.lawful.replies) };
+        enters = record { made = makes_one f.progress.view new h.stand h.seen e nothing v.0; places = (refl, refl, tt); cycle = refl; candidates = sym (ap (told_by f.progress.candidates) v.0.comes.comes.lawful.replies) };
         phase = refl;
         same_candidates = refl;
       } in
@@ -215,23 +215,24 @@ module _ (f : Fields) (index : ℕ) (h : KnowsItsStand f) (l : line_of f.progres
 pub held_first : (p : Pass) (cycle : Cycle) → IsDriver p.thread → HasIdleDriver p → KnowsItsStand record { progress = record { view = p.view; phase = at.Idle; cycle = cycle; candidates = 0 }; snapshot = None; listing = None; alive = None; clear = 0 }
 held_first p cycle is idle_one =
     let a = idle_one is in
-    let seen = (end_of a.0.past).managed.managed in
+    let seen = (end_of a.0.known.past).managed.managed in
     record {
       stand = idle;
       seen = seen;
-      stands = at_own_line p.view (control_line (end_of a.0.past).control C) idle seen (record { known = a.0; stands = record { last = omega arith; come = a.1; dead = dead_part_self seen } });
+      stands = at_own_line p.view (control_line (end_of a.0.known.past).control C) idle seen (record { known = a.0; stands = record { last = omega arith; come = a.1; dead = dead_part_self seen } });
       at = refl;
     }
 
 pub idle_again : (p : Pass) (f : Fields) → p.view ≡ f.progress.view → f.progress.phase ≡ at.Idle → KnowsItsStand f → HasIdleDriver p
 idle_again p f same e h is =
     let i : h.stand ≡ idle = subst (λ (q : Phase). IsAt q f h.stand h.seen) e h.at in
-    subst (λ (v : View). (a : IsKnownView v) × ((end_of a.past).control.stand ≡ idle)) (sym same) (h.stands.known, h.stands.stands.come ∙ i)
+    subst (λ (v : View). (a : IsDrawnView v) × ((end_of a.known.past).control.stand ≡ idle)) (sym same) (h.stands.known, h.stands.stands.come ∙ i)
 
 -- what a caller heard of the driver's own
 pub heard_of : (p a b : Pass) (d : Progress) → p.view ≡ d.view → Hears p a b → Hears (pass_of d) a b
 heard_of p a b d e h = record {
   thread = h.thread;
+  reads = h.reads;
   own_stay = h.own_stay;
   either = subst (λ (v : View). (i : ℕ) → (known b.view i ≡ known a.view i) ⊎ (known b.view i ≡ known v i)) e h.either;
   knew = h.knew;

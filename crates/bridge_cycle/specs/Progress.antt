@@ -14,7 +14,7 @@ use Rattle.joint_model.specs.declared.events.Reply.{Reply}
 use Rattle.joint_model.specs.declared.events.Reply.TheVariants as says
 use Rattle.joint_model.specs.Phases.{next_phase, phases_of, ArePhases, AreRefusal, candidates_after}
 use Rattle.order_table.specs.declared.views.View.{View}
-use Rattle.joint_history.specs.Callers.{Pass, last_index, own}
+use Rattle.joint_history.specs.Callers.{Pass, last_index, no_reads, own}
 use Rattle.joint_history.specs.Operations.{MakesAll}
 
 -- what the driver knows, the phase that it has come to, the cycle that it opened last, or 0, and how many candidates that one has
@@ -26,7 +26,7 @@ pub record Progress : Type 0 where
 
 -- the driver's pass
 abbrev pub pass_of : Progress → Pass
-pass_of d = record { thread = C; view = d.view }
+pass_of d = record { thread = C; view = d.view; reads = no_reads }
 
 -- the line of the driver's last entry
 abbrev pub line_of : Progress → ℕ

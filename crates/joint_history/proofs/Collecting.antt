@@ -1,5 +1,5 @@
 -- A collect under the peer lock: what the side's call draws by a seat, and what the locked seat and the caller know after it.
-use Rattle.std.proofs.Common.{◌≡◌, inl, inr, ⊎_elim, ℕ, Bool, ◌<◌, ◌≤◌, ◌^◌, List, [], ◌∷◌, ◌++◌, length, Option, Some, None, refl, sym, ap, ◌∙◌, subst, append-nil, append_assoc, arith}
+use Rattle.std.proofs.Common.{false, ◌≡◌, inl, inr, ⊎_elim, ℕ, Bool, ◌<◌, ◌≤◌, ◌^◌, List, [], ◌∷◌, ◌++◌, length, Option, Some, None, refl, sym, ap, ◌∙◌, subst, append-nil, append_assoc, arith}
 use Rattle.std.specs.Prelude.{if◌then◌else◌, Result, Ok, Err, IfOk, OnErr}
 use Rattle.std.specs.Option.{unwrap_or}
 use mathlib.Core.List.{IsPrefix}
@@ -38,13 +38,16 @@ use Rattle.joint_history.specs.declared.seats.SeatDrawing.{SeatDrawing}
 use Rattle.joint_history.specs.Callers.{HoldsPass}
 use Rattle.joint_history.specs.Collecting.{Collects, DrawsCollect, DrawsRefusal, DrawsWhole, began_at, refused_at, swept_at}
 use Rattle.joint_history.specs.Knowing.{line_known, note_of}
-use Rattle.joint_history.specs.Locked.{Drew, MakesNone, PeerKnows, PeerReserves}
+use Rattle.joint_history.specs.Locked.{StaysSeated, Drew, MakesNone, PeerKnows, PeerReserves}
 use Rattle.joint_history.specs.Operations.{MakesAll, MayBegin, Runs, entry_by}
 use Rattle.seat_calls.specs.Passing.{Appends, Lends, Returns}
 use Rattle.joint_history.proofs.KnownCallers.{own_line}
 use Rattle.joint_history.proofs.KnownViews.{entries_snoc, same_view}
-use Rattle.joint_history.proofs.LockedSteps.{entered_by, grows_more, knows_peers_still, last_told, lent_joined, makes_none, own_told, owns_on, stands_same}
-use Rattle.joint_history.proofs.Reserving.{KeepsReserve, KnowsOn, back_on, drew_on, drew_reserves, lent_on, nothing_kept, quiet_kept, reserves_on}
+use Rattle.joint_history.proofs.SeatDraws.{drew_peer, peer_settled}
+use Rattle.order_table.specs.Allowed.{Settled}
+use Rattle.order_table.specs.Rows.{at}
+use Rattle.joint_history.proofs.LockedSteps.{list_more, peer_entered, returns_seated, grows_more, knows_peers_still, last_told, lent_joined, makes_none, own_told, owns_on, stands_same}
+use Rattle.joint_history.proofs.Reserving.{seated_on, KeepsReserve, KnowsOn, back_on, drew_on, drew_reserves, lent_on, nothing_kept, quiet_kept, reserves_on}
 use Rattle.joint_history.proofs.Running.{above_more, makes_nothing}
 use Rattle.joint_history.proofs.Standing.{last_of_own}
 use Rattle.joint_history.proofs.Turning.{begins_still}
@@ -84,17 +87,17 @@ module _ (d : Drawing SeatDrawing) (reads : (a b : SeatDrawing) (e : Entry) (m :
     pub order_is : b.order.now ≡ order
     pub last : b.last ≡ number
     pub first : b.first ≡ Some (unwrap_or a.first number)
+    pub settled : Settled a.seat.now.view → Settled b.seat.now.view
 
   drew_one : (a b : SeatDrawing) (old new : Side PeerReplay) (m : Made) (told : Told) → a.order.now ≡ order → a.role ≡ role.Peer → AddsLawful peer_rules d a b old new m told → DrewOne a b old new m told
   drew_one a b old new m told o r w =
       let n = w.draws.adds.number in
-      let x = reads a b (numbered n m) _ _ w.draws.adds.drawn in
-      let k = kept a.seat.now.view m _ _ n in
-      let y = subst (λ l. Appends a.order.now b.order.now a.seat.now b.seat.now l k) (ap role_line r) x.3 in
-      let z = subst (λ p. Appends a.order.now p a.seat.now b.seat.now 1 k) (y.same_order ∙ o) y in
+      let x = reads a b (numbered n m) None [] w.draws.adds.drawn in
+      let y = subst (λ l. Appends a.order.now b.order.now a.seat.now b.seat.now l (kept a.seat.now.view m None [] n)) (ap role_line r) x.3 in
       record {
         number = n;
-        drew = record { kept = k; entry = refl; appends = subst (λ p. Appends p order a.seat.now b.seat.now 1 k) o z; added = w.draws.adds.added; goes = w.goes };
+        drew = subst (λ p. Drew peer_rules 1 p a.seat.now b.seat.now old new (numbered n m) told) o (drew_peer a.order.now b.order.now a.seat.now b.seat.now old new m told n y w.goes w.draws.adds.added n refl);
+        settled = peer_settled a.order.now b.order.now a.seat.now b.seat.now old.state m told n y w.goes.lawful;
         name = x.0;
         role_is = x.1 ∙ r;
         order_is = y.same_order ∙ o;
@@ -107,6 +110,7 @@ module _ (d : Drawing SeatDrawing) (reads : (a b : SeatDrawing) (e : Entry) (m :
     pub begins : b.first ≡ Some first
     pub name : b.seat.ghost_name ≡ a.seat.ghost_name
     pub drew : DrawsCollect order a.seat.now b.seat.now old new t index (record { first = first; last = b.last; reply = reply })
+    pub settled : Settled a.seat.now.view → Settled b.seat.now.view
 
   refused_drew : (a b : SeatDrawing) (old new : Side PeerReplay) (t : Thread) (index : ℕ) (j : Number) (gone : List ℕ) → a.order.now ≡ order → a.role ≡ role.Peer → a.first ≡ None
       → AddsInTurn peer_rules d a b old new (collect_makings t index (says.MarkOpen j) gone) → CollectDrew a b old new t index (says.MarkOpen j)
@@ -124,6 +128,7 @@ module _ (d : Drawing SeatDrawing) (reads : (a b : SeatDrawing) (e : Entry) (m :
           last = ap (λ (x : SeatDrawing). x.last) is.0 ∙ one.last;
           answer = refl;
         });
+        settled = λ z. subst (λ (x : SeatDrawing). Settled x.seat.now.view) (sym is.0) (one.settled z);
       }
 
   whole_drew : (a b : SeatDrawing) (old new : Side PeerReplay) (t : Thread) (index : ℕ) (j : Number) (freed : Span) (gone : List ℕ) → a.order.now ≡ order → a.role ≡ role.Peer → a.first ≡ None
@@ -151,6 +156,7 @@ module _ (d : Drawing SeatDrawing) (reads : (a b : SeatDrawing) (e : Entry) (m :
               (subst (λ (x : SeatDrawing). Drew peer_rules 1 order w.0.seat.now x.seat.now w.1 v.1 (swept_at t index two.number j freed) (sweep_of gone)) (sym is.0) two.drew));
           answer = refl;
         });
+        settled = λ z. subst (λ (x : SeatDrawing). Settled x.seat.now.view) (sym is.0) (two.settled (one.settled z));
       }
 
   -- a sweep that was made answers so
@@ -190,22 +196,16 @@ drew_at : (n : ℕ) (order : OrderId) (seat seat' : Shown) (old new : Side PeerR
 drew_at n order seat seat' old new index number o reply told is short w d =
     let k = d.kept in
     let a = w.knows.known in
-    let grows = d.appends.grows in
-    let goes : GoesOn peer_rules old.state k.entry.made told new.state = subst (λ (z : Entry). GoesOn peer_rules old.state z.made told new.state) (sym d.entry) d.goes in
-    let side = goes.lawful.0.side in
-    let caller : k.entry.made.caller ≡ P n = ap (λ (z : Entry). z.made.caller) d.entry in
-    let e = entered_by (P n) seat.view seat.view seat'.view 1 k told a is caller
-    (record { last = subst (λ (z : Entry). last_line (end_of a.known.past).control (P n) ≤ z.made.index) (sym d.entry) w.last; allows = ap (λ (z : Entry). z.made.cites) d.entry }) (subst (λ (z : Entry). z.made.index < 2 ^ 32) (sym d.entry) short) grows
-    (record { one = omega arith; managed = λ z. absurd (omega arith); peer = λ z. side }) d.appends.number (inr (subst (λ s. peer_rules.lawful s k.entry.made told) (sym w.knows.state) goes.lawful)) in
-    let known' = e.grown.known in
+    let e = peer_entered (P n) seat.view order seat seat' old new (entry_by (P n) index number o reply None) told a w.knows.state is refl short (record { last = w.last; allows = refl }) d in
+    let known' = e.entered.grown.known in
     record {
       knows = record {
         known = known';
-        entries = ap line_entries grows.role ∙ (entries_snoc (known seat.view 1) k ∙ (ap (λ es. es ++ k.entry ∷ []) w.knows.entries ∙ (ap (λ z. old.entries ++ z ∷ []) d.entry ∙ sym d.added)));
-        state = e.grown.peer ∙ (ap (peer_after (end_of a.known.past).peer k.entry.made told) side ∙ (ap (λ (s : PeerReplay). (peer_answer s k.entry.made.caller k.entry.made.op k.entry.made.cites told).state) w.knows.state ∙ sym goes.state));
+        entries = list_more seat.view seat'.view 1 k (entry_by (P n) index number o reply None) old.entries new.entries d.entry d.appends.grows w.knows.entries d.added;
+        state = e.after;
       };
       last = subst (λ m. last_line (end_of known'.known.past).control (P n) ≤ m) (ap (λ (z : Entry). z.made.index) d.entry)
-          (subst (λ h. last_line (end_of h).control (P n) ≤ k.entry.made.index) (sym e.grown.past_is) (let l = last_of_own a.known.past (note_of k.entry e.grown.told) (P n) caller is in omega arith));
+          (subst (λ h. last_line (end_of h).control (P n) ≤ k.entry.made.index) (sym e.entered.grown.past_is) (let l = last_of_own a.known.past (note_of k.entry e.entered.grown.told) (P n) (ap (λ (z : Entry). z.made.caller) d.entry) is in omega arith));
     }
 
 -- what the caller has made so far, and knows
@@ -244,7 +244,7 @@ record BackAt (t : Thread) (locked2 mine2 : View) (side : Side PeerReplay) (inde
 back_at : (n : ℕ) (lent mine1 locked2 mine2 : View) (side : Side PeerReplay) (index : ℕ) → KnowsAt (P n) lent side index → Returns (P n) lent mine1 locked2 mine2 → BackAt (P n) locked2 mine2 side index
 back_at n lent mine1 locked2 mine2 side index w b = record {
   knows = record {
-    known = same_view _ _ w.knows.known (λ i. b.stays i);
+    known = same_view lent locked2 w.knows.known b.stays;
     entries = ap line_entries (b.stays 1) ∙ w.knows.entries;
     state = w.knows.state;
   };
@@ -288,7 +288,7 @@ module _ {E : Type 0} (order : OrderId) (seat seat' : Shown) (old new : Side Pee
       }
 
   collect_called_by : (n : ℕ) (locked mine mine1 locked2 mine2 : View) (result : Result Receipt E) → IsThread (P n) → HoldsPass (P n) mine → Owns locked 1 → index < 2 ^ 32 → PeerKnows locked old → MayBegin (P n) mine index → Lends (P n) locked mine seat.view mine1
-      → IfOk result (λ r. DrawsCollect order seat seat' old new (P n) index r) → OnErr result ((seat' ≡ seat) × (new ≡ old)) → Returns (P n) seat'.view mine1 locked2 mine2 → CalledCollect (P n) mine locked2 mine2 new index result
+      → IfOk result (λ r. DrawsCollect order seat seat' old new (P n) index r) → OnErr result (StaysSeated seat seat' × (new ≡ old)) → Returns (P n) seat'.view mine1 locked2 mine2 → CalledCollect (P n) mine locked2 mine2 new index result
   collect_called_by n locked mine mine1 locked2 mine2 (Ok r) is pass owns short ks may l d e b =
       let w = lent_at (P n) locked mine seat.view mine1 old index pass owns ks may l in
       ⊎_elim
@@ -296,7 +296,7 @@ module _ {E : Type 0} (order : OrderId) (seat seat' : Shown) (old new : Side Pee
       (λ (x : DrawsRefusal order seat seat' old new (P n) index r). refusal_called n locked mine mine1 locked2 mine2 r is pass short w l b x)
       d
   collect_called_by n locked mine mine1 locked2 mine2 (Err x) is pass owns short ks may l d e b =
-      let back : Returns (P n) seat.view mine1 locked2 mine2 = subst (λ (s : Shown). Returns (P n) s.view mine1 locked2 mine2) e.0 b in
+      let back = returns_seated (P n) seat seat' mine1 locked2 mine2 e.0 b in
       let none = makes_none (P n) locked mine seat.view mine1 locked2 mine2 ks.known pass l back in
       record {
         knows = subst (PeerKnows locked2) (sym e.1) (knows_peers_still (P n) locked mine seat.view mine1 locked2 mine2 old owns ks may.stands.known l back);
@@ -306,27 +306,27 @@ module _ {E : Type 0} (order : OrderId) (seat seat' : Shown) (old new : Side Pee
       }
 
   pub collect_called : (t : Thread) (locked mine mine1 locked2 mine2 : View) (result : Result Receipt E) → IsPeerThread t → HoldsPass t mine → Owns locked 1 → index < 2 ^ 32 → PeerKnows locked old → MayBegin t mine index → Lends t locked mine seat.view mine1
-      → IfOk result (λ r. DrawsCollect order seat seat' old new t index r) → OnErr result ((seat' ≡ seat) × (new ≡ old)) → Returns t seat'.view mine1 locked2 mine2 → CalledCollect t mine locked2 mine2 new index result
+      → IfOk result (λ r. DrawsCollect order seat seat' old new t index r) → OnErr result (StaysSeated seat seat' × (new ≡ old)) → Returns t seat'.view mine1 locked2 mine2 → CalledCollect t mine locked2 mine2 new index result
   collect_called (M n) locked mine mine1 locked2 mine2 result is pass owns short ks may l d e b = absurd is
   collect_called (P n) locked mine mine1 locked2 mine2 result is pass owns short ks may l d e b = collect_called_by n locked mine mine1 locked2 mine2 result is pass owns short ks may l d e b
   collect_called C locked mine mine1 locked2 mine2 result is pass owns short ks may l d e b = absurd is
 
 -- what the seat knew and owned after the draw, and that it is of the order
 module _ {E : Type 0} (order : OrderId) (seat seat' : Shown) (old new : Side PeerReplay) (t : Thread) (index : ℕ) where
-  pub collect_more : (result : Result Receipt E) → IfOk result (λ r. DrawsCollect order seat seat' old new t index r) → OnErr result ((seat' ≡ seat) × (new ≡ old)) → (i : ℕ) → IsPrefix (known seat.view i) (known seat'.view i)
+  pub collect_more : (result : Result Receipt E) → IfOk result (λ r. DrawsCollect order seat seat' old new t index r) → OnErr result (StaysSeated seat seat' × (new ≡ old)) → (i : ℕ) → IsPrefix (known seat.view i) (known seat'.view i)
   collect_more (Ok r) (inl d) e i = prefix_trans (known seat.view i) (known d.between.view i) (known seat'.view i) (grows_more seat.view d.between.view 1 d.begins.kept d.begins.appends.grows i) (grows_more d.between.view seat'.view 1 d.ends.kept d.ends.appends.grows i)
   collect_more (Ok r) (inr d) e i = grows_more seat.view seat'.view 1 d.drew.kept d.drew.appends.grows i
-  collect_more (Err x) d e i = subst (λ (s : Shown). IsPrefix (known seat.view i) (known s.view i)) (sym e.0) (prefix_refl (known seat.view i))
+  collect_more (Err x) d e i = subst (IsPrefix (known seat.view i)) (sym (ap (λ ks. at [] ks i) e.0.known)) (prefix_refl (known seat.view i))
 
-  pub collect_owns : (result : Result Receipt E) → IfOk result (λ r. DrawsCollect order seat seat' old new t index r) → OnErr result ((seat' ≡ seat) × (new ≡ old)) → (i : ℕ) → Owns seat.view i → Owns seat'.view i
+  pub collect_owns : (result : Result Receipt E) → IfOk result (λ r. DrawsCollect order seat seat' old new t index r) → OnErr result (StaysSeated seat seat' × (new ≡ old)) → (i : ℕ) → Owns seat.view i → Owns seat'.view i
   collect_owns (Ok r) (inl d) e i w = owns_on d.between.view seat'.view 1 d.ends.kept d.ends.appends.grows i (owns_on seat.view d.between.view 1 d.begins.kept d.begins.appends.grows i w)
   collect_owns (Ok r) (inr d) e i w = owns_on seat.view seat'.view 1 d.drew.kept d.drew.appends.grows i w
-  collect_owns (Err x) d e i w = subst (λ (s : Shown). Owns s.view i) (sym e.0) w
+  collect_owns (Err x) d e i w = ap (λ os. at false os i) e.0.owns ∙ w
 
-  pub collect_order : (result : Result Receipt E) → IfOk result (λ r. DrawsCollect order seat seat' old new t index r) → OnErr result ((seat' ≡ seat) × (new ≡ old)) → seat'.order ≡ seat.order
+  pub collect_order : (result : Result Receipt E) → IfOk result (λ r. DrawsCollect order seat seat' old new t index r) → OnErr result (StaysSeated seat seat' × (new ≡ old)) → seat'.order ≡ seat.order
   collect_order (Ok r) (inl d) e = d.ends.appends.same ∙ d.begins.appends.same
   collect_order (Ok r) (inr d) e = d.drew.appends.same
-  collect_order (Err x) d e = ap (λ (s : Shown). s.order) e.0
+  collect_order (Err x) d e = e.0.order
 
 -- what is reserved stays so: an entry of a thread neither mirrors a cycle nor begins its own marking
 keeps_then : (a b c : PeerModel) → KeepsReserve a b → KeepsReserve b c → KeepsReserve a c
@@ -348,16 +348,16 @@ whole_reserves n index order locked mine mine1 locked2 mine2 seat seat' old new 
     (keeps_then old mid new (quiet_kept order seat d.between old mid began nothing d.begins refl tt (λ due. refl)) (quiet_kept order d.between seat' mid new ended (sweep_of d.gone) d.ends same tt (λ due. refl))) rs
 
 reserves_by : {E : Type 0} (n : ℕ) (index : ℕ) (order : OrderId) (locked mine mine1 locked2 mine2 : View) (seat seat' : Shown) (old new : PeerModel) (result : Result Receipt E) → PeerKnows locked (seen old) → PeerReserves locked old → Lends (P n) locked mine seat.view mine1
-    → IfOk result (λ r. DrawsCollect order seat seat' (seen old) (seen new) (P n) index r) → OnErr result ((seat' ≡ seat) × (seen new ≡ seen old)) → new.reserve ≡ old.reserve → Returns (P n) seat'.view mine1 locked2 mine2 → PeerReserves locked2 new
+    → IfOk result (λ r. DrawsCollect order seat seat' (seen old) (seen new) (P n) index r) → OnErr result (StaysSeated seat seat' × (seen new ≡ seen old)) → new.reserve ≡ old.reserve → Returns (P n) seat'.view mine1 locked2 mine2 → PeerReserves locked2 new
 reserves_by n index order locked mine mine1 locked2 mine2 seat seat' old new (Ok r) ks rs l (inl d) e same b = whole_reserves n index order locked mine mine1 locked2 mine2 seat seat' old new r ks rs l d same b
 reserves_by n index order locked mine mine1 locked2 mine2 seat seat' old new (Ok r) ks rs l (inr d) e same b =
     let refused = refused_at (P n) index r.first d.marking in
     drew_reserves (P n) locked mine mine1 locked2 mine2 order seat seat' old new refused nothing ks rs l d.drew b (quiet_kept order seat seat' old new refused nothing d.drew same tt (λ due. refl))
 reserves_by n index order locked mine mine1 locked2 mine2 seat seat' old new (Err x) ks rs l d e same b =
-    reserves_on locked locked2 old new ks (back_on (P n) locked seat'.view mine1 locked2 mine2 (subst (λ (s : Shown). KnowsOn locked s.view) (sym e.0) (lent_on (P n) locked mine seat.view mine1 l)) b) (nothing_kept old new e.1 same) rs
+    reserves_on locked locked2 old new ks (back_on (P n) locked seat'.view mine1 locked2 mine2 (seated_on locked seat seat' e.0 (lent_on (P n) locked mine seat.view mine1 l)) b) (nothing_kept old new e.1 same) rs
 
 pub collect_reserves : {E : Type 0} (t : Thread) (index : ℕ) (order : OrderId) (locked mine mine1 locked2 mine2 : View) (seat seat' : Shown) (old new : PeerModel) (result : Result Receipt E) → IsPeerThread t → PeerKnows locked (seen old) → PeerReserves locked old → Lends t locked mine seat.view mine1
-    → IfOk result (λ r. DrawsCollect order seat seat' (seen old) (seen new) t index r) → OnErr result ((seat' ≡ seat) × (seen new ≡ seen old)) → new.reserve ≡ old.reserve → Returns t seat'.view mine1 locked2 mine2 → PeerReserves locked2 new
+    → IfOk result (λ r. DrawsCollect order seat seat' (seen old) (seen new) t index r) → OnErr result (StaysSeated seat seat' × (seen new ≡ seen old)) → new.reserve ≡ old.reserve → Returns t seat'.view mine1 locked2 mine2 → PeerReserves locked2 new
 collect_reserves (M n) index order locked mine mine1 locked2 mine2 seat seat' old new result is ks rs l d e same b = absurd is
 collect_reserves (P n) index order locked mine mine1 locked2 mine2 seat seat' old new result is ks rs l d e same b = reserves_by n index order locked mine mine1 locked2 mine2 seat seat' old new result ks rs l d e same b
 collect_reserves C index order locked mine mine1 locked2 mine2 seat seat' old new result is ks rs l d e same b = absurd is

@@ -1,6 +1,6 @@
 -- The driver's mirror under the peer lock: what is asked of the side holds by where the driver stands, the references that come to stand are those that the
 -- definition has, and what the cycle wants from then on is reserved.
-use Rattle.std.proofs.Common.{◌≡◌, ℕ, ◌<◌, ◌≤◌, ◌^◌, List, length, Some, refl, sym, ap, ◌∙◌, subst, arith}
+use Rattle.std.proofs.Common.{false, [], ◌≡◌, ℕ, ◌<◌, ◌≤◌, ◌^◌, List, length, Some, refl, sym, ap, ◌∙◌, subst, arith}
 use Rattle.std.specs.Prelude.{Result, Ok, Err, IfOk, OnErr, OnOk}
 use mathlib.Core.List.{IsPrefix}
 use base.Growing.{prefix_refl}
@@ -26,6 +26,9 @@ use Rattle.peer_side.specs.Sides.{PeerModel, Reserve, seen}
 use Rattle.peer_mirror.specs.Carried.{AreBridgeNodes, AreHandlesStrong, carried_to_peers, reserve_installed}
 use Rattle.order_table.specs.declared.views.View.{View}
 use Rattle.order_table.specs.Facts.{line_entries}
+use Rattle.known_laws.specs.Known.{given}
+use Rattle.known_laws.proofs.Unpinned.{turn_same}
+use Rattle.order_table.specs.Rows.{at}
 use Rattle.order_table.specs.Views.{OrderId, Shown, known, Owns}
 use Rattle.xref_list.specs.Listing.{IsListing, Listing}
 use Rattle.joint_history.proofs.KnownViews.{same_view}
@@ -33,13 +36,13 @@ use Rattle.joint_history.specs.Callers.{HoldsPass}
 use Rattle.joint_history.specs.Driven.{DriverMakes, DriverMakesNone, DriverStands, driver_entry}
 use Rattle.joint_history.specs.DriverMirrors.{DrawsMirror, IsListedBy, MakesMirror, MayMirrorCycle, numbered_comps}
 use Rattle.view_laws.specs.Knowing.{IsDrawnView}
-use Rattle.joint_history.specs.Locked.{PeerKnows, PeerReserves, is_marking_due}
+use Rattle.joint_history.specs.Locked.{StaysSeated, PeerKnows, PeerReserves, is_marking_due}
 use Rattle.seat_calls.specs.Passing.{Lends, Returns}
 use Rattle.joint_history.proofs.DeadParts.{count_same}
 use Rattle.joint_history.proofs.DriverPeerSteps.{DrivenUnderPeers, IsUnderPeers, driven_peers, driven_peers_none}
-use Rattle.joint_history.proofs.LockedSteps.{grows_more, owns_on}
+use Rattle.joint_history.proofs.LockedSteps.{returns_seated, grows_more, owns_on}
 use Rattle.joint_history.proofs.MirroredParts.{ShowsHandles, candidates-few, carried-is, edges-count, handles-strong, members-bridge, shows-on}
-use Rattle.joint_history.proofs.Reserving.{KnowsOn, back_on, drew_on, due_snoc, lent_on, nothing_kept, reserves_on, room_by_one}
+use Rattle.joint_history.proofs.Reserving.{seated_on, back_on, drew_on, due_snoc, lent_on, nothing_kept, reserves_on, room_by_one}
 
 -- what holds under the lock where the driver has contracted its cycle to what the listing has of the graph's nodes
 module _ (side : PeerReplay) (o : OpenSnap) (comps : List (List ℕ)) (pairs : List (ℕ × ℕ)) (m : Managed) (g : Part) (l : Listing) (u : IsUnderPeers side (contracted o comps pairs) m) (w : IsListedBy g l m comps pairs) where
@@ -107,7 +110,8 @@ module _ (locked mine mine1 locked2 mine2 : View) (order : OrderId) (seat seat' 
       let told = carried_to_peers old.state.peers.issued g.nodes (mirror_edges l.comps l.pairs) in
       let makes : DriverMakes mine mine2 (contracted o comps pairs) m (driver_entry n index (op.Mirror k) (says.Refs refs) (Some o.snap)) (references_of told) = subst (λ (x : ℕ). DriverMakes mine mine2 (contracted o comps pairs) m (driver_entry n index (op.Mirror k) (says.Refs refs) (Some x)) (references_of told)) (sym same_snap) v.makes in
       let now : MayMirrorNow (contracted o comps pairs) makes.state.managed.managed makes.state.peer.peers.issued k.0 (Some o.snap) (references_of told) =
-      subst (λ (x : Stand). DriverAllows x makes.state.managed.managed makes.state.peer.peers.issued (op.Mirror k) (says.Refs refs) (Some o.snap) (references_of told)) makes.stood makes.comes.order in
+      subst (λ (x : Stand). DriverAllows x makes.state.managed.managed makes.state.peer.peers.issued (op.Mirror k) (says.Refs refs) (Some o.snap) (references_of told)) makes.stood
+          (turn_same makes.state.managed.managed.pins makes.state.control (given makes.state (references_of told)).managed.managed makes.state.peer.peers.issued C index (op.Mirror k) (says.Refs refs) (Some o.snap) (references_of told) makes.comes.comes.order) in
       record {
         told = told;
         makes = makes;
@@ -124,7 +128,7 @@ module _ (locked mine mine1 locked2 mine2 : View) (order : OrderId) (seat seat' 
   mirror_reserves n refs d w r =
       let v = (with_mirror n refs d w.opened w.comps w.pairs w.seen w.stands w.listed w.same_cycle w.same_snap).driven in
       let mine_known = v.stands.known in
-      let here : IsDrawnView locked2 = same_view _ _ mine_known (λ i. b.stays i ∙ sym (b.same i)) in
+      let here : IsDrawnView locked2 = same_view mine2 locked2 mine_known (λ i. b.stays i ∙ sym (b.same i)) in
       let entry = driver_entry n index (op.Mirror k) (says.Refs refs) (Some snap) in
       let one = (back_on C locked seat'.view mine1 locked2 mine2 (drew_on C locked mine mine1 order seat seat' old new entry (references_of (carried_to_peers old.state.peers.issued g.nodes (mirror_edges l.comps l.pairs))) lends d.drew) b).one_history in
       let left : new.reserve.left ≡ length (handles_of g.nodes) = ap (λ (x : Reserve). x.left) r in
@@ -137,7 +141,7 @@ module _ (locked mine mine1 locked2 mine2 : View) (order : OrderId) (seat seat' 
       }
 
   pub mirror_called : {E : Type 0} (result : Result (ℕ × ℕ) E) → MayMirrorCycle mine index k.0 snap g l → PeerReserves locked old → IfOk result (λ x. DrawsMirror order seat seat' (seen old) (seen new) index k snap g l x.0 x.1) → OnOk result (new.reserve ≡ reserve_installed (length (handles_of g.nodes)))
-      → OnErr result ((seat' ≡ seat) × (new ≡ old)) → CalledMirror mine locked2 mine2 new index k.0 snap g l k result
+      → OnErr result (StaysSeated seat seat' × (new ≡ old)) → CalledMirror mine locked2 mine2 new index k.0 snap g l k result
   mirror_called (Ok x) w rs d r e = record {
     knows = (with_mirror x.0 x.1 d w.opened w.comps w.pairs w.seen w.stands w.listed w.same_cycle w.same_snap).knows;
     reserves = mirror_reserves x.0 x.1 d w r;
@@ -145,25 +149,25 @@ module _ (locked mine mine1 locked2 mine2 : View) (order : OrderId) (seat seat' 
     err = tt;
   }
   mirror_called (Err x) w rs d r e =
-      let back : Returns C seat.view mine1 locked2 mine2 = subst (λ (s : Shown). Returns C s.view mine1 locked2 mine2) e.0 b in
+      let back = returns_seated C seat seat' mine1 locked2 mine2 e.0 b in
       let n = driven_peers_none locked mine seat.view mine1 locked2 mine2 (seen old) pass owns ks w.stands.known lends back in
       record {
         knows = subst (λ (z : PeerModel). PeerKnows locked2 (seen z)) (sym e.1) n.knows;
-        reserves = reserves_on locked locked2 old new ks (back_on C locked seat'.view mine1 locked2 mine2 (subst (λ (s : Shown). KnowsOn locked s.view) (sym e.0) (lent_on C locked mine seat.view mine1 lends)) b) (nothing_kept old new (ap seen e.1) (ap (λ (z : PeerModel). z.reserve) e.1)) rs;
+        reserves = reserves_on locked locked2 old new ks (back_on C locked seat'.view mine1 locked2 mine2 (seated_on locked seat seat' e.0 (lent_on C locked mine seat.view mine1 lends)) b) (nothing_kept old new (ap seen e.1) (ap (λ (z : PeerModel). z.reserve) e.1)) rs;
         ok = tt;
         err = n.makes;
       }
 
 -- what the seat knew and owned after it
 module _ {E : Type 0} (order : OrderId) (seat seat' : Shown) (old new : PeerModel) (index : ℕ) (k : Cycle) (snap : ℕ) (g : Part) (l : Listing) where
-  pub mirror_prefix : (result : Result (ℕ × ℕ) E) → IfOk result (λ x. DrawsMirror order seat seat' (seen old) (seen new) index k snap g l x.0 x.1) → OnErr result ((seat' ≡ seat) × (new ≡ old)) → (i : ℕ) → IsPrefix (known seat.view i) (known seat'.view i)
+  pub mirror_prefix : (result : Result (ℕ × ℕ) E) → IfOk result (λ x. DrawsMirror order seat seat' (seen old) (seen new) index k snap g l x.0 x.1) → OnErr result (StaysSeated seat seat' × (new ≡ old)) → (i : ℕ) → IsPrefix (known seat.view i) (known seat'.view i)
   mirror_prefix (Ok x) d e i = grows_more seat.view seat'.view 1 d.drew.kept d.drew.appends.grows i
-  mirror_prefix (Err x) d e i = subst (λ (s : Shown). IsPrefix (known seat.view i) (known s.view i)) (sym e.0) (prefix_refl (known seat.view i))
+  mirror_prefix (Err x) d e i = subst (IsPrefix (known seat.view i)) (sym (ap (λ ks. at [] ks i) e.0.known)) (prefix_refl (known seat.view i))
 
-  pub mirror_keeps : (result : Result (ℕ × ℕ) E) → IfOk result (λ x. DrawsMirror order seat seat' (seen old) (seen new) index k snap g l x.0 x.1) → OnErr result ((seat' ≡ seat) × (new ≡ old)) → (i : ℕ) → Owns seat.view i → Owns seat'.view i
+  pub mirror_keeps : (result : Result (ℕ × ℕ) E) → IfOk result (λ x. DrawsMirror order seat seat' (seen old) (seen new) index k snap g l x.0 x.1) → OnErr result (StaysSeated seat seat' × (new ≡ old)) → (i : ℕ) → Owns seat.view i → Owns seat'.view i
   mirror_keeps (Ok x) d e i w = owns_on seat.view seat'.view 1 d.drew.kept d.drew.appends.grows i w
-  mirror_keeps (Err x) d e i w = subst (λ (s : Shown). Owns s.view i) (sym e.0) w
+  mirror_keeps (Err x) d e i w = ap (λ os. at false os i) e.0.owns ∙ w
 
-  pub mirror_order : (result : Result (ℕ × ℕ) E) → IfOk result (λ x. DrawsMirror order seat seat' (seen old) (seen new) index k snap g l x.0 x.1) → OnErr result ((seat' ≡ seat) × (new ≡ old)) → seat'.order ≡ seat.order
+  pub mirror_order : (result : Result (ℕ × ℕ) E) → IfOk result (λ x. DrawsMirror order seat seat' (seen old) (seen new) index k snap g l x.0 x.1) → OnErr result (StaysSeated seat seat' × (new ≡ old)) → seat'.order ≡ seat.order
   mirror_order (Ok x) d e = d.drew.appends.same
-  mirror_order (Err x) d e = ap (λ (s : Shown). s.order) e.0
+  mirror_order (Err x) d e = e.0.order

@@ -6,21 +6,21 @@ use Rattle.joint_model.specs.declared.names.Thread.TheVariants.{C}
 use Rattle.joint_model.specs.declared.events.Entry.{Entry}
 use Rattle.joint_model.specs.Control.{Stand, DriverAllows, last_line, stand_after}
 use Rattle.joint_model.specs.HistoryLines.{caller_line}
-use Rattle.joint_model.specs.Linked.{Linkage, managed_after}
+use Rattle.joint_model.specs.Lines.{is_read}
+use Rattle.joint_model.specs.Linked.{Linkage}
 use Rattle.joint_model.specs.Managed.{Managed}
 use Rattle.joint_model.specs.ManagedReplay.{ManagedReplay}
 use Rattle.joint_model.specs.PeerReplay.{PeerReplay}
 use Rattle.joint_model.specs.Sides.{Side, peer_rules, GoesOn}
-use Rattle.joint_model.specs.Told.{Told, Noted}
+use Rattle.joint_model.specs.Told.{Told, Noted, bare_told}
 use Rattle.known_laws.specs.Driving.{IsPastKept}
-use Rattle.known_laws.specs.Known.{TellsPlainly}
+use Rattle.known_laws.specs.Known.{Comes, TellsPlainly, managed_past}
+use Rattle.known_laws.proofs.Bared.{peer_unpinned, plain_told}
+use Rattle.known_laws.proofs.Coming.{peer_reads_none}
 use Rattle.known_laws.specs.Pasts.{HasSameDeadPart, end_of}
 use Rattle.known_laws.proofs.KnownPasts.{known_past_is_kept}
-use Rattle.order_table.specs.declared.views.KeptEntry.{KeptEntry}
 use Rattle.order_table.specs.declared.views.View.{View}
 use Rattle.order_table.specs.Facts.{line_entries}
-use Rattle.order_table.specs.Rule.{IsBelow}
-use Rattle.order_table.specs.Tells.{GrowsByEntry}
 use Rattle.order_table.specs.Views.{OrderId, Shown, known, Owns}
 use Rattle.joint_history.proofs.KnownViews.{same_view}
 use Rattle.joint_history.specs.Callers.{HoldsPass}
@@ -67,21 +67,25 @@ pub record DrivenUnderPeers (mine locked2 mine2 : View) (old new : Side PeerRepl
   pub knows : PeerKnows locked2 new
   pub driven : DrivenPeers mine mine2 old new index stand seen e told
 
-driven_peers_by : (locked mine lent mine1 lent2 locked2 mine2 : View) (old new : Side PeerReplay) (k : KeptEntry) (told : Told) (index : ℕ) (stand : Stand) (seen : Managed) → HoldsPass C mine → Owns locked 1 → k.entry.made.caller ≡ C → k.entry.made.index ≡ index → index < 2 ^ 32
-    → PeerKnows locked old → DriverStands mine index stand seen → ((u : IsUnderPeers old.state stand seen) → DriverAllows stand u.state.managed.managed u.state.peer.peers.issued k.entry.made.op k.entry.made.reply k.entry.made.cites told) → Lends C locked mine lent mine1 → GrowsByEntry lent lent2 1 k → ((i : ℕ) → IsBelow k.entry.number (known lent i))
-    → new.entries ≡ old.entries ++ k.entry ∷ [] → GoesOn peer_rules old.state k.entry.made told new.state → Returns C lent2 mine1 locked2 mine2 → DrivenUnderPeers mine locked2 mine2 old new index stand seen k.entry told
-driven_peers_by locked mine lent mine1 lent2 locked2 mine2 old new k told index stand seen pass owns caller at_index short ks s allows l g below added goes b =
-    let j = lent_joined C locked mine lent mine1 l ks.known s.known in
-    let at = driver_joined locked mine lent mine1 l ks.known pass index stand seen s in
+driven_peers_by : (locked mine mine1 locked2 mine2 : View) (order : OrderId) (lent lent2 : Shown) (old new : Side PeerReplay) (e : Entry) (told : Told) (index : ℕ) (stand : Stand) (seen : Managed) → HoldsPass C mine → Owns locked 1 → e.made.caller ≡ C → e.made.index ≡ index → index < 2 ^ 32
+    → PeerKnows locked old → DriverStands mine index stand seen → ((u : IsUnderPeers old.state stand seen) → DriverAllows stand u.state.managed.managed u.state.peer.peers.issued e.made.op e.made.reply e.made.cites (bare_told told)) → Lends C locked mine lent.view mine1
+    → (d : Drew peer_rules 1 order lent lent2 old new e told) → Returns C lent2.view mine1 locked2 mine2 → DrivenUnderPeers mine locked2 mine2 old new index stand seen d.kept.entry told
+driven_peers_by locked mine mine1 locked2 mine2 order lent lent2 old new e told index stand seen pass owns caller at_index short ks s allows l d b =
+    let j = lent_joined C locked mine lent.view mine1 l ks.known s.known in
+    let at = driver_joined locked mine lent.view mine1 l ks.known pass index stand seen s in
     let past = j.joined.known.past in
+    let k = d.kept in
     let u : IsUnderPeers old.state stand seen = record { state = end_of past; kept = known_past_is_kept past j.joined.known.lawful; peer = j.peer_first (l.whole 1 owns) ∙ ks.state; stood = at.come; dead = at.dead } in
-    let may : MayNow C (end_of past) k.entry.made told = record {
+    let may : MayNow C (end_of past) e.made told = record {
       last = subst (λ (i : ℕ). last_line (end_of past).control C ≤ i) (sym at_index) at.last;
-      allows = subst (λ (z : Stand). DriverAllows z (end_of past).managed.managed (end_of past).peer.peers.issued k.entry.made.op k.entry.made.reply k.entry.made.cites told) (sym at.come) (allows u);
+      allows = subst (λ (z : Stand). DriverAllows z (end_of past).managed.managed (end_of past).peer.peers.issued e.made.op e.made.reply e.made.cites (bare_told told)) (sym at.come) (allows u);
     } in
-    let w = did_peer_by C locked mine lent mine1 lent2 locked2 mine2 old new k told s.known tt pass owns caller (subst (λ (i : ℕ). i < 2 ^ 32) (sym at_index) short) ks l may g below added goes b in
+    let w = did_peer_by C locked mine mine1 locked2 mine2 order lent lent2 old new e told s.known tt pass owns caller (subst (λ (i : ℕ). i < 2 ^ 32) (sym at_index) short) ks l may d b in
     let grown = w.entered.grown in
-    let managed : (end_of grown.known.known.past).managed ≡ (end_of past).managed = grown.managed ∙ ap (managed_after (end_of past).managed k.entry.made told) goes.lawful.0.side in
+    let goes = subst (λ (z : Entry). GoesOn peer_rules old.state z.made told new.state) (sym d.entry) d.goes in
+    let plain = peer_unpinned old.state k.entry.made told goes.lawful.1 in
+    let own = (peer_reads_none k.entry.made.caller k.entry.made.op goes.lawful.0.event goes.lawful.0.side).0 in
+    let managed : (end_of grown.known.known.past).managed ≡ (end_of past).managed = grown.managed ∙ ap (λ x. managed_past (end_of past).managed k.entry.made told x (is_read k.entry.made.op)) goes.lawful.0.side in
     record {
       knows = w.knows;
       driven = record {
@@ -90,20 +94,20 @@ driven_peers_by locked mine lent mine1 lent2 locked2 mine2 old new k told index 
           more = w.makes.more;
           above = w.makes.above;
           state = end_of past;
-          comes = w.entered.comes;
+          comes = subst (λ x. Comes x (end_of past) (note_of k.entry told)) own w.entered.comes;
           kept = known_past_is_kept past j.joined.known.lawful;
           stood = at.come;
           dead = at.dead;
         };
         before = u.peer;
-        told_now = grown.told;
-        plain = λ p. grown.alike (subst (λ (z : Stand). TellsPlainly z k.entry.made.op told) (sym at.come) p);
+        told_now = bare_told grown.told;
+        plain = λ p. ap bare_told (grown.alike (subst (λ (z : Told). TellsPlainly (end_of past).control.stand k.entry.made.op z) (sym (plain_told told plain)) (subst (λ (z : Stand). TellsPlainly z k.entry.made.op told) (sym at.come) p))) ∙ plain_told told plain;
         stands = record {
-          known = same_view _ _ grown.known b.same;
+          known = same_view lent2.view mine2 grown.known b.same;
           stands = record {
-            last = subst (λ (h : List Noted). last_line (end_of h).control C ≤ index) (sym grown.past_is) (let n = last_of_own past (note_of k.entry grown.told) C caller tt in omega (arith, n, at_index));
+            last = subst (λ (h : List Noted). last_line (end_of h).control C ≤ index) (sym grown.past_is) (let n = last_of_own past (note_of k.entry grown.told) C (ap (λ (z : Entry). z.made.caller) d.entry ∙ caller) tt in let m = ap (λ (z : Entry). z.made.index) d.entry in omega (arith, n, at_index, m));
             come = ap (λ (h : List Noted). (end_of h).control.stand) grown.past_is
-                ∙ (stand_of_own past (note_of k.entry grown.told) caller ∙ ap (λ (z : Stand). stand_after z k.entry.number k.entry.made.op k.entry.made.reply grown.told) at.come);
+                ∙ (stand_of_own past (note_of k.entry grown.told) (ap (λ (z : Entry). z.made.caller) d.entry ∙ caller) ∙ ap (λ (z : Stand). stand_after z k.entry.number k.entry.made.op k.entry.made.reply (bare_told grown.told)) at.come);
             dead = subst (λ (r : ManagedReplay). HasSameDeadPart seen r.managed) (sym managed) at.dead;
           };
         };
@@ -113,13 +117,11 @@ driven_peers_by locked mine lent mine1 lent2 locked2 mine2 old new k told index 
 
 -- after a draw
 pub driven_peers : (locked mine mine1 locked2 mine2 : View) (order : OrderId) (seat seat' : Shown) (old new : Side PeerReplay) (index : ℕ) (stand : Stand) (seen : Managed) (e : Entry) (told : Told) → HoldsPass C mine → Owns locked 1 → e.made.caller ≡ C → e.made.index ≡ index → index < 2 ^ 32
-    → PeerKnows locked old → DriverStands mine index stand seen → ((u : IsUnderPeers old.state stand seen) → DriverAllows stand u.state.managed.managed u.state.peer.peers.issued e.made.op e.made.reply e.made.cites told) → Lends C locked mine seat.view mine1
+    → PeerKnows locked old → DriverStands mine index stand seen → ((u : IsUnderPeers old.state stand seen) → DriverAllows stand u.state.managed.managed u.state.peer.peers.issued e.made.op e.made.reply e.made.cites (bare_told told)) → Lends C locked mine seat.view mine1
     → Drew peer_rules 1 order seat seat' old new e told → Returns C seat'.view mine1 locked2 mine2 → DrivenUnderPeers mine locked2 mine2 old new index stand seen e told
 driven_peers locked mine mine1 locked2 mine2 order seat seat' old new index stand seen e told pass owns caller at_index short ks s allows l d b =
     subst (λ (z : Entry). DrivenUnderPeers mine locked2 mine2 old new index stand seen z told) d.entry
-    (driven_peers_by locked mine seat.view mine1 seat'.view locked2 mine2 old new d.kept told index stand seen pass owns (ap (λ (z : Entry). z.made.caller) d.entry ∙ caller) (ap (λ (z : Entry). z.made.index) d.entry ∙ at_index) short ks s
-    (λ u. subst (λ (z : Entry). DriverAllows stand u.state.managed.managed u.state.peer.peers.issued z.made.op z.made.reply z.made.cites told) (sym d.entry) (allows u)) l d.appends.grows d.appends.number
-    (subst (λ (z : Entry). new.entries ≡ old.entries ++ z ∷ []) (sym d.entry) d.added) (subst (λ (z : Entry). GoesOn peer_rules old.state z.made told new.state) (sym d.entry) d.goes) b)
+    (driven_peers_by locked mine mine1 locked2 mine2 order seat seat' old new e told index stand seen pass owns caller at_index short ks s allows l d b)
 
 -- what the side keeps, and where the driver stands, where nothing was made
 pub record NotDrivenPeers (mine locked2 mine2 : View) (side : Side PeerReplay) : Type 0 where
@@ -133,7 +135,7 @@ driven_peers_none locked mine lent mine1 locked2 mine2 side pass owns ks m l b =
     own = ap line_entries (b.same (caller_line C) ∙ l.own (caller_line C) (own_line C) (pass (caller_line C) (own_line C)));
     more = λ i. subst (IsPrefix (known mine i)) (sym (b.same i)) (l.heard i);
     stands = λ index stand seen s. (let j = (lent_joined C locked mine lent mine1 l ks.known s.known).joined in record {
-      known = same_view _ _ j b.same;
+      known = same_view lent mine2 j b.same;
       stands = driver_joined locked mine lent mine1 l ks.known pass index stand seen s;
     });
   };

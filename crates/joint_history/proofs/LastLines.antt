@@ -9,21 +9,33 @@ use Rattle.joint_model.specs.declared.events.Op.{Op}
 use Rattle.joint_model.specs.declared.events.Reply.{Reply}
 use Rattle.joint_model.specs.Control.{Control, caller_place, control_after, last_line}
 use Rattle.joint_model.specs.HistoryLines.{caller_line, side_line}
-use Rattle.joint_model.specs.Lines.{IsThread, is_peer_event}
-use Rattle.joint_model.specs.Told.{Told, Noted}
+use Rattle.joint_model.specs.Lines.{IsEvent, IsThread, is_peer_event, is_read, reader_line}
+use Rattle.joint_model.specs.Told.{Told, Noted, bare_told}
 use Rattle.known_laws.specs.Growing.{entries}
-use Rattle.known_laws.specs.Pasts.{end_of, line, is_in, own_of, role_of}
+use Rattle.known_laws.specs.Pasts.{Lawful, end_of, line, is_in, own_of, role_of}
 use Rattle.known_laws.proofs.PastLines.{in_own, in_which, line_in, line_out}
 use Rattle.known_laws.proofs.Growing.{entries_append}
-use Rattle.joint_history.specs.Callers.{last_index}
+use Rattle.known_laws.proofs.Coming.{event_of}
+use Rattle.known_laws.proofs.Lists.{event-thread}
+use Rattle.order_table.specs.declared.views.View.{View}
+use Rattle.view_laws.specs.Knowing.{IsDrawnView}
+use Rattle.joint_history.specs.Callers.{last_index, own_in}
+use Rattle.joint_history.proofs.KnownViews.{line_of_past}
 use Rattle.joint_history.proofs.Standing.{index_set, widths}
 
-side_small : (e : Entry) → side_line e < 2
-side_small e = by (is_peer_event e.made.caller e.made.op)
+-- an entry's list is that of a side or of a reader
+side_small : (e : Entry) → IsEvent e.made.caller e.made.op → side_line e < 10
+side_small e v = by (is_peer_event e.made.caller e.made.op) (is_read e.made.op)
   where
-    by : (b : Bool) → (if b then 1 else 0) < 2
-    by true = omega arith
-    by false = omega arith
+    reader : (t : Thread) → IsThread t → reader_line t < 10
+    reader (M n) is = let few = is.1 in omega arith
+    reader (P n) is = omega arith
+    reader C is = omega arith
+
+    by : (b r : Bool) → (if b then 1 else (if r then reader_line e.made.caller else 0)) < 10
+    by true r = omega arith
+    by false true = reader e.made.caller (event-thread e.made.caller e.made.op v)
+    by false false = omega arith
 
 last_snoc : (es : List Entry) (e : Entry) → last_index (es ++ e ∷ []) ≡ e.made.index
 last_snoc [] e = refl
@@ -52,10 +64,10 @@ place_small (M n) is = let b = is.1 in omega arith
 place_small (P n) is = let b = is.1 in omega arith
 place_small C is = omega arith
 
-pub last_line_is : (h : List Noted) (t : Thread) → IsThread t → last_line (end_of h).control t ≡ last_index (entries (line (caller_line t) h))
-last_line_is [] t is = index_zeros 17 (caller_place t)
-last_line_is (x ∷ h) t is =
-    let after = ap (λ ls. slice_index ls (caller_place t)) (lines_after (end_of h).control x.entry.made.caller x.entry.number x.entry.made.index x.entry.made.op x.entry.made.reply x.told) in
+last_of_past : (h : List Noted) → Lawful h → (t : Thread) → IsThread t → last_line (end_of h).control t ≡ last_index (entries (line (caller_line t) h))
+last_of_past [] l t is = index_zeros 17 (caller_place t)
+last_of_past (x ∷ h) l t is =
+    let after = ap (λ ls. slice_index ls (caller_place t)) (lines_after (end_of h).control x.entry.made.caller x.entry.number x.entry.made.index x.entry.made.op x.entry.made.reply (bare_told x.told)) in
     ⊎_elim
     (λ (e : caller_place t ≡ caller_place x.entry.made.caller).
     let there : is_in (caller_line t) x ≡ true = subst (λ p. is_in (p + 10) x ≡ true) (sym e) (in_own x) in
@@ -63,14 +75,18 @@ last_line_is (x ∷ h) t is =
     ∙ sym (ap (λ l. last_index (entries l)) (line_in (caller_line t) x h there) ∙ (ap last_index (entries_append (line (caller_line t) h) (x ∷ [])) ∙ last_snoc (entries (line (caller_line t) h)) x.entry))))
     (λ (n : caller_place t ≡ caller_place x.entry.made.caller → ⊥).
     after ∙ (index_else (end_of h).control.lines (caller_place x.entry.made.caller) (caller_place t) x.entry.made.index n
-    ∙ (last_line_is h t is ∙ sym (ap (λ l. last_index (entries l)) (line_out (caller_line t) x h (apart n))))))
+    ∙ (last_of_past h l.1 t is ∙ sym (ap (λ l. last_index (entries l)) (line_out (caller_line t) x h (apart n))))))
     (cases_eq (caller_place t) (caller_place x.entry.made.caller))
   where
     apart : (caller_place t ≡ caller_place x.entry.made.caller → ⊥) → is_in (caller_line t) x ≡ false
     apart n = ⊎_elim
         (λ (e : is_in (caller_line t) x ≡ true). absurd (⊎_elim
-        (λ (s : caller_line t ≡ role_of x). let b = side_small x.entry in omega (arith, s))
+        (λ (s : caller_line t ≡ role_of x). let b = side_small x.entry (event_of x h l) in omega (arith, s))
         (λ (s : caller_line t ≡ own_of x). n (omega (arith, s)))
         (in_which (caller_line t) x e)))
         (λ e. e)
         (cases_Bool (is_in (caller_line t) x))
+
+-- so it is by what a seat knows of the thread's own entries
+pub last_line_is : (v : View) (a : IsDrawnView v) (t : Thread) → IsThread t → last_line (end_of a.known.past).control t ≡ last_index (own_in t v)
+last_line_is v a t is = last_of_past a.known.past a.known.lawful t is ∙ ap last_index (sym (line_of_past v a (caller_line t)))

@@ -5,9 +5,15 @@ pub mod Standing
 pub mod LockedSteps
 pub mod Reserving
 pub mod Fresh
+pub mod Lent
+pub mod Looking
+pub mod ReaderEntries
+pub mod LockedReads
+pub mod SetCells
+pub mod TakenPins
 pub mod LastLines
 pub mod Desking
-pub mod Finishing
+pub mod GatheredReads
 pub mod Gathering
 pub mod Turning
 pub mod DeadParts
@@ -23,7 +29,6 @@ pub mod DriverCalls
 pub mod Scanning
 pub mod DriverSnaps
 pub mod DriverHears
-pub mod Taking
 pub mod Ended
 pub mod Yielding
 pub mod Allowed
@@ -31,6 +36,7 @@ pub mod Joined
 pub mod Narrow
 pub mod Giving
 pub mod Running
+pub mod LoneReads
 pub mod Collecting
 pub mod SeatsKnow
 pub mod Crosses

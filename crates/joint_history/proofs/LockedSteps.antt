@@ -266,6 +266,34 @@ knows_still t locked mine lent mine1 locked2 mine2 side owns ks m l b =
       state = j.managed_first (l.whole 0 owns) ∙ ks.state;
     }
 
+-- an entry that the peer side drew by a seat that knows it: the seat knows the entry then, and the side as it is then
+pub record PeerEntered (t : Thread) (mine lent2 : View) (past : List Noted) (side : Side PeerReplay) (k : KeptEntry) (told : Told) : Type 0 where
+  pub entered : Entered t mine lent2 past k told
+  pub after : (end_of entered.grown.known.known.past).peer ≡ side.state
+
+pub peer_entered : (t : Thread) (mine : View) (order : OrderId) (lent lent2 : Shown) (old new : Side PeerReplay) (e : Entry) (told : Told) (j : IsDrawnView lent.view) → (end_of j.known.past).peer ≡ old.state → IsThread t → e.made.caller ≡ t → e.made.index < 2 ^ 32 → MayNow t (end_of j.known.past) e.made told
+    → (d : Drew peer_rules 1 order lent lent2 old new e told) → PeerEntered t mine lent2.view j.known.past new d.kept told
+peer_entered t mine order lent lent2 old new e told j state is caller' short' may' d =
+    let k = d.kept in
+    let caller = ap (λ (z : Entry). z.made.caller) d.entry ∙ caller' in
+    let past = j.known.past in
+    let goes = subst (λ (z : Entry). GoesOn peer_rules old.state z.made told new.state) (sym d.entry) d.goes in
+    let side = goes.lawful.0.side in
+    let own = (peer_reads_none k.entry.made.caller k.entry.made.op goes.lawful.0.event side).0 in
+    let plain = peer_unpinned old.state k.entry.made told goes.lawful.1 in
+    let w = entered t mine lent.view lent2.view 1 k told j is caller d.appends.grows (record { one = omega arith; managed = λ z. absurd (omega arith); peer = λ z. (own, side); reader = λ z. absurd (omega arith) }) d.appends.number d.pins
+        (peer_draws (end_of past) k told side d.target d.freed)
+        (comes_now t (end_of past) k told caller (subst (λ (z : Entry). MayNow t (end_of past) z.made told) (sym d.entry) may') (subst (λ (z : Entry). z.made.index < 2 ^ 32) (sym d.entry) short')
+            (subst (PinsStand (end_of past).managed.managed) (sym (plain_pins told plain)) (none_stand (end_of past).managed.managed)) (inr (subst (λ s. peer_rules.lawful s k.entry.made told) (sym state) goes.lawful))) in
+    record {
+      entered = w;
+      after = w.grown.peer ∙ (ap (peer_after (end_of past).peer k.entry.made (bare_told told)) side ∙ ((λ i. (peer_answer (state i) k.entry.made.caller k.entry.made.op k.entry.made.cites (plain_told told plain i)).state) ∙ sym goes.state));
+    }
+
+-- the side's list with the entry
+pub list_more : (lent lent2 : View) (r : ℕ) (k : KeptEntry) (e : Entry) (old new : List Entry) → k.entry ≡ e → GrowsByEntry lent lent2 r k → line_known lent r ≡ old → new ≡ old ++ e ∷ [] → line_known lent2 r ≡ new
+list_more lent lent2 r k e old new is g same added = ap line_entries g.role ∙ (entries_snoc (known lent r) k ∙ (ap (λ es. es ++ k.entry ∷ []) same ∙ (ap (λ z. old ++ z ∷ []) is ∙ sym added)))
+
 -- under the peer lock, by what is known together after the caller's lines were handed over
 pub record DidPeerBy (t : Thread) (mine lent2 locked2 mine2 : View) (past : List Noted) (side : Side PeerReplay) (k : KeptEntry) (told : Told) : Type 0 where
   pub entered : Entered t mine lent2 past k told
@@ -277,30 +305,20 @@ pub record DidPeerBy (t : Thread) (mine lent2 locked2 mine2 : View) (past : List
 pub did_peer_by : (t : Thread) (locked mine mine1 locked2 mine2 : View) (order : OrderId) (lent lent2 : Shown) (old new : Side PeerReplay) (e : Entry) (told : Told) (m : IsDrawnView mine) → IsThread t → HoldsPass t mine → Owns locked 1 → e.made.caller ≡ t → e.made.index < 2 ^ 32
     → (ks : PeerKnows locked old) (l : Lends t locked mine lent.view mine1) → MayNow t (end_of (lent_joined t locked mine lent.view mine1 l ks.known m).joined.known.past) e.made told
     → (d : Drew peer_rules 1 order lent lent2 old new e told) → Returns t lent2.view mine1 locked2 mine2 → DidPeerBy t mine lent2.view locked2 mine2 (lent_joined t locked mine lent.view mine1 l ks.known m).joined.known.past new d.kept told
-did_peer_by t locked mine mine1 locked2 mine2 order lent lent2 old new e told m is pass owns caller' short' ks l may' d b =
+did_peer_by t locked mine mine1 locked2 mine2 order lent lent2 old new e told m is pass owns caller' short ks l may d b =
     let k = d.kept in
     let caller = ap (λ (z : Entry). z.made.caller) d.entry ∙ caller' in
     let j = lent_joined t locked mine lent.view mine1 l ks.known m in
-    let state = j.peer_first (l.whole 1 owns) ∙ ks.state in
-    let goes = subst (λ (z : Entry). GoesOn peer_rules old.state z.made told new.state) (sym d.entry) d.goes in
-    let side = goes.lawful.0.side in
-    let own = (peer_reads_none k.entry.made.caller k.entry.made.op goes.lawful.0.event side).0 in
-    let plain = peer_unpinned old.state k.entry.made told goes.lawful.1 in
-    let w = entered t mine lent.view lent2.view 1 k told j.joined is caller d.appends.grows (record { one = omega arith; managed = λ z. absurd (omega arith); peer = λ z. (own, side); reader = λ z. absurd (omega arith) }) d.appends.number d.pins
-        (peer_draws (end_of j.joined.known.past) k told side d.target d.freed)
-        (comes_now t (end_of j.joined.known.past) k told caller (subst (λ (z : Entry). MayNow t (end_of j.joined.known.past) z.made told) (sym d.entry) may') (subst (λ (z : Entry). z.made.index < 2 ^ 32) (sym d.entry) short')
-            (subst (PinsStand (end_of j.joined.known.past).managed.managed) (sym (plain_pins told plain)) (none_stand (end_of j.joined.known.past).managed.managed)) (inr (subst (λ s. peer_rules.lawful s k.entry.made told) (sym state) goes.lawful))) in
-    let after : (end_of w.grown.known.known.past).peer ≡ new.state =
-        w.grown.peer ∙ (ap (peer_after (end_of j.joined.known.past).peer k.entry.made (bare_told told)) side ∙ ((λ i. (peer_answer (state i) k.entry.made.caller k.entry.made.op k.entry.made.cites (plain_told told plain i)).state) ∙ sym goes.state)) in
+    let w = peer_entered t mine order lent lent2 old new e told j.joined (j.peer_first (l.whole 1 owns) ∙ ks.state) is caller' short may d in
     record {
-      entered = w;
+      entered = w.entered;
       knows = record {
-        known = same_view lent2.view locked2 w.grown.known b.stays;
-        entries = ap line_entries (b.stays 1 ∙ d.appends.grows.role) ∙ (entries_snoc (known lent.view 1) k ∙ (ap (λ es. es ++ k.entry ∷ []) (ap line_entries (l.whole 1 owns) ∙ ks.entries) ∙ (ap (λ z. old.entries ++ z ∷ []) d.entry ∙ sym d.added)));
-        state = after;
+        known = same_view lent2.view locked2 w.entered.grown.known b.stays;
+        entries = ap line_entries (b.stays 1) ∙ list_more lent.view lent2.view 1 k e old.entries new.entries d.entry d.appends.grows (ap line_entries (l.whole 1 owns) ∙ ks.entries) d.added;
+        state = w.after;
       };
-      after = after;
-      makes = makes t locked mine lent.view mine1 lent2.view locked2 mine2 1 k told j.joined pass caller l d.appends.grows d.appends.number w b;
+      after = w.after;
+      makes = makes t locked mine lent.view mine1 lent2.view locked2 mine2 1 k told j.joined pass caller l d.appends.grows d.appends.number w.entered b;
       reads = reads_stay t locked mine lent.view mine1 lent2.view locked2 mine2 1 k is (omega arith) pass caller l d.appends.grows b;
     }
 

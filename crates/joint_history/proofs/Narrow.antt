@@ -327,4 +327,4 @@ none_made zero = omega arith
 none_made (suc x) = omega arith
 
 pub past_grips_few : (h : List Noted) → Lawful h → (t : ℕ) → GripsFew (doing_at (end_of h).control t)
-past_grips_few h l = (past-all HasFewFields (record { heap = none_made; grips = λ t. subst GripsFew (sym (opening-free 9 t)) tt }) few_step h l).grips
+past_grips_few h l = (past-all HasFewFields (record { heap = none_made; grips = λ t. subst GripsFew (sym (opening-free 9 t)) tt }) few_step (λ s p w. record { heap = w.heap; grips = w.grips }) h l).grips

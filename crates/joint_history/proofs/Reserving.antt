@@ -23,7 +23,7 @@ use Rattle.joint_model.specs.Managed.{Managed}
 use Rattle.joint_model.specs.Peers.{Issued}
 use Rattle.joint_model.specs.PeerReplay.{PeerReplay, Mirror, MayRestore, row_of, with_restored, with_weakened}
 use Rattle.joint_model.specs.Sides.{peer_rules}
-use Rattle.joint_model.specs.Told.{Told, Noted, nothing, contraction_of}
+use Rattle.joint_model.specs.Told.{Told, Noted, bare_told, nothing, contraction_of}
 use Rattle.joint_model.proofs.Deciding.{none_some}
 use Rattle.known_laws.specs.Driving.{IsMirrorOf, MirrorFits}
 use Rattle.known_laws.specs.Growing.{entries}
@@ -37,20 +37,24 @@ use Rattle.peer_side.specs.Cycles.{reserve_left, reserve_over}
 use Rattle.peer_side.specs.Sides.{PeerModel, Reserve, is_own, opening_side, reserve_begun, seen}
 use Rattle.peer_side.specs.Steps.{IsPeerStep}
 use Rattle.order_table.specs.declared.views.View.{View}
-use Rattle.order_table.specs.Facts.{entries_of, line_entries}
+use Rattle.order_table.specs.Facts.{line_entries}
+use Rattle.order_table.specs.Rows.{at}
 use Rattle.order_table.specs.Rule.{of_line}
 use Rattle.order_table.specs.Tells.{BeginsOneHistory}
 use Rattle.order_table.specs.Views.{OrderId, Shown, known, Owns}
-use Rattle.order_table.proofs.Wholes.{tell_lines}
 use Rattle.joint_history.specs.Callers.{HoldsPass, KnowsNothing}
 use Rattle.joint_history.specs.Driven.{DriverStands, driver_entry}
 use Rattle.joint_history.specs.Knowing.{line_known}
-use Rattle.view_laws.specs.Knowing.{IsDrawnView}
-use Rattle.joint_history.specs.Locked.{Drew, HasRoomToWeaken, PeerKnows, PeerReserves, due_after, due_from, is_marking_due, made_by}
+use Rattle.view_laws.specs.Knowing.{IsDrawnView, drawn_lines}
+use Rattle.known_laws.specs.Drawn.{of_drawn}
+use Rattle.known_laws.proofs.Coming.{turn_of}
+use Rattle.joint_history.specs.Locked.{Drew, HasRoomToWeaken, PeerKnows, PeerReserves, StaysSeated, due_after, due_from, is_marking_due, made_by}
 use Rattle.seat_calls.specs.Passing.{Lends, Returns}
 use Rattle.joint_history.proofs.DeadParts.{candidate_handle_on}
 use Rattle.joint_history.proofs.DriverSteps.{driver_joined}
-use Rattle.joint_history.proofs.KnownViews.{begins_before, view_begins}
+use Rattle.joint_history.proofs.KnownViews.{line_of_past}
+use Rattle.view_laws.proofs.DrawnViews.{drawn_begins}
+use Rattle.view_laws.proofs.KnownViews.{whole_kept, whole_numbered}
 use Rattle.joint_history.proofs.LockedSteps.{grows_more, lent_joined}
 use Rattle.joint_history.proofs.SeatsKnow.{peer_line}
 
@@ -110,14 +114,14 @@ own_due st m i num o reply cites told due a f w = f (was_to_mark st num o reply 
 
 pub due_at_end : (h : List Noted) → Lawful h → IsToMark (end_of h).control.stand → is_marking_due (entries (line 1 h)) ≡ true
 due_at_end [] l w = absurd w
-due_at_end (x ∷ h) l w = due_line x h ∙ by x.entry.made.caller (due_at_end h l.1) l.0.comes.order w
+due_at_end (x ∷ h) l w = due_line x h ∙ by x.entry.made.caller (due_at_end h l.1) (turn_of x h l) w
   where
     by : (t : Thread) → (IsToMark (end_of h).control.stand → is_marking_due (entries (line 1 h)) ≡ true)
-        → CallerAllows (end_of h).control (end_of h).managed.managed (end_of h).peer.peers.issued t x.entry.made.index x.entry.made.op x.entry.made.reply x.entry.made.cites x.told
-        → IsToMark (control_after (end_of h).control t x.entry.number x.entry.made.index x.entry.made.op x.entry.made.reply x.told).stand → due_after t x.entry.made.op (is_marking_due (entries (line 1 h))) ≡ true
+        → CallerAllows (end_of h).control (end_of h).managed.managed (end_of h).peer.peers.issued t x.entry.made.index x.entry.made.op x.entry.made.reply x.entry.made.cites (bare_told x.told)
+        → IsToMark (control_after (end_of h).control t x.entry.number x.entry.made.index x.entry.made.op x.entry.made.reply (bare_told x.told)).stand → due_after t x.entry.made.op (is_marking_due (entries (line 1 h))) ≡ true
     by (M n) f a v = f v
     by (P n) f a v = f v
-    by C f a v = own_due (end_of h).control.stand (end_of h).managed.managed (end_of h).peer.peers.issued x.entry.number x.entry.made.op x.entry.made.reply x.entry.made.cites x.told (is_marking_due (entries (line 1 h))) a f v
+    by C f a v = own_due (end_of h).control.stand (end_of h).managed.managed (end_of h).peer.peers.issued x.entry.number x.entry.made.op x.entry.made.reply x.entry.made.cites (bare_told x.told) (is_marking_due (entries (line 1 h))) a f v
 
 -- more is known of one history
 pub record KnowsOn (v w : View) : Type 0 where
@@ -134,6 +138,11 @@ lent_on t locked mine lent mine1 l = record { more = l.knew; one_history = l.one
 pub back_on : (t : Thread) (locked lent2 mine1 locked2 mine2 : View) → KnowsOn locked lent2 → Returns t lent2 mine1 locked2 mine2 → KnowsOn locked locked2
 back_on t locked lent2 mine1 locked2 mine2 k b = record { more = λ i. subst (IsPrefix (known locked i)) (sym (b.stays i)) (k.more i); one_history = same_history lent2 locked2 b.stays k.one_history }
 
+pub seated_on : (v : View) (seat seat' : Shown) → StaysSeated seat seat' → KnowsOn v seat.view → KnowsOn v seat'.view
+seated_on v seat seat' s k =
+    let same : (i : ℕ) → known seat'.view i ≡ known seat.view i = λ i. ap (λ ks. at [] ks i) s.known in
+    record { more = λ i. subst (IsPrefix (known v i)) (sym (same i)) (k.more i); one_history = same_history seat.view seat'.view same k.one_history }
+
 pub drew_on : (t : Thread) (locked mine mine1 : View) (order : OrderId) (seat seat' : Shown) (old new : PeerModel) (e : Entry) (told : Told) → Lends t locked mine seat.view mine1 → Drew peer_rules 1 order seat seat' (seen old) (seen new) e told → KnowsOn locked seat'.view
 drew_on t locked mine mine1 order seat seat' old new e told l d = record { more = λ i. prefix_trans (known locked i) (known seat.view i) (known seat'.view i) (l.knew i) (grows_more seat.view seat'.view 1 d.kept d.appends.grows i); one_history = d.appends.one_history }
 
@@ -144,9 +153,9 @@ KeepsRoom s t left left' = (n : Mirror) → t.mirror ≡ Some n → (m : Mirror)
 pub room_stays : (v w : View) (a : IsDrawnView v) (b : IsDrawnView w) (left left' : ℕ) → KnowsOn v w → KeepsRoom (end_of a.known.past).peer (end_of b.known.past).peer left left' → HasRoomToWeaken (end_of a.known.past) left → HasRoomToWeaken (end_of b.known.past) left'
 room_stays v w a b left left' on keeps room n e =
     let x = keeps n e in
-    let whole = entries_of on.one_history.whole in
-    let begins = view_begins w on.one_history in
-    let same = ap length (mirrored_candidates_stay whole (line_known v) (line_known w) a b (tell_lines on.one_history.whole on.one_history.numbers).numbered (begins_before whole v w on.more begins) begins x.0 n x.1 e x.2) in
+    let whole = whole_kept on.one_history.whole in
+    let same = ap length (mirrored_candidates_stay whole (λ i. of_drawn (drawn_lines v i)) (λ i. of_drawn (drawn_lines w i)) a.known b.known (whole_numbered 0 on.one_history.whole on.one_history.numbers)
+        (drawn_begins w on.one_history v on.more) (drawn_begins w on.one_history w (λ i. prefix_refl (known w i))) x.0 n x.1 e x.2) in
     let enough = room x.0 x.1 in
     let more = x.3 in
     omega (arith, same, enough, more)
@@ -265,14 +274,14 @@ quiet_thread (P n) o due x = refl
 quiet_thread C o due x = absurd (x refl)
 
 pub step_reserves : {E : Type 0} (t : Thread) (index : ℕ) (o : Op) (cites : Option ℕ) (order : OrderId) (locked mine mine1 locked2 mine2 : View) (seat seat' : Shown) (old new : PeerModel) (result : Result (ℕ × Reply) E) → IsPeerStep t o → PeerKnows locked (seen old) → PeerReserves locked old
-    → Lends t locked mine seat.view mine1 → IfOk result (λ x. Drew peer_rules 1 order seat seat' (seen old) (seen new) (numbered x.0 (made_by t index o x.1 cites)) nothing) → OnErr result ((seat' ≡ seat) × (seen new ≡ seen old)) → new.reserve ≡ old.reserve
+    → Lends t locked mine seat.view mine1 → IfOk result (λ x. Drew peer_rules 1 order seat seat' (seen old) (seen new) (numbered x.0 (made_by t index o x.1 cites)) nothing) → OnErr result (StaysSeated seat seat' × (seen new ≡ seen old)) → new.reserve ≡ old.reserve
     → Returns t seat'.view mine1 locked2 mine2 → PeerReserves locked2 new
 step_reserves t index o cites order locked mine mine1 locked2 mine2 seat seat' old new (Ok x) is ks r l d e same b =
     let made = numbered x.0 (made_by t index o x.1 cites) in
     drew_reserves t locked mine mine1 locked2 mine2 order seat seat' old new made nothing ks r l d b
     (quiet_kept order seat seat' old new made nothing d same (unmirroring t o (not_driver t o is) d.goes.lawful.0.event) (λ due. quiet_thread t o due (not_driver t o is)))
 step_reserves t index o cites order locked mine mine1 locked2 mine2 seat seat' old new (Err x) is ks r l d e same b =
-    reserves_on locked locked2 old new ks (back_on t locked seat'.view mine1 locked2 mine2 (subst (λ (s : Shown). KnowsOn locked s.view) (sym e.0) (lent_on t locked mine seat.view mine1 l)) b) (nothing_kept old new e.1 same) r
+    reserves_on locked locked2 old new ks (back_on t locked seat'.view mine1 locked2 mine2 (seated_on locked seat seat' e.0 (lent_on t locked mine seat.view mine1 l)) b) (nothing_kept old new e.1 same) r
 
 -- before the driver's own marking begins there is room for it
 pub marking_is_due : (locked mine lent mine1 : View) (side : PeerModel) (index : ℕ) (o : OpenSnap) (count : ℕ) (weakened swept : Bool) (m : Managed) → HoldsPass C mine → Owns locked 1 → PeerKnows locked (seen side) → PeerReserves locked side → DriverStands mine index (weakening o count weakened swept) m
@@ -280,7 +289,7 @@ pub marking_is_due : (locked mine lent mine1 : View) (side : PeerModel) (index :
 marking_is_due locked mine lent mine1 side index o count weakened swept m pass owns ks r s l =
     let j = lent_joined C locked mine lent mine1 l ks.known s.known in
     let at = driver_joined locked mine lent mine1 l ks.known pass index (weakening o count weakened swept) m s in
-    let same : side.entries ≡ entries (line 1 j.joined.known.past) = sym ks.entries ∙ (sym (ap line_entries (l.whole 1 owns)) ∙ j.joined.same 1) in
+    let same : side.entries ≡ entries (line 1 j.joined.known.past) = sym ks.entries ∙ (sym (ap line_entries (l.whole 1 owns)) ∙ line_of_past lent j.joined 1) in
     r.marking ∙ (ap is_marking_due same ∙ due_at_end j.joined.known.past j.joined.known.lawful (subst IsToMark (sym at.come) tt))
 
 -- before the driver weakens the next candidate's handle there is room for it

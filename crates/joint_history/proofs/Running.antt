@@ -17,21 +17,20 @@ use Rattle.joint_model.specs.declared.events.Op.{Op}
 use Rattle.joint_model.specs.declared.events.Op.TheVariants as op
 use Rattle.joint_model.specs.declared.events.Reply.{Reply}
 use Rattle.joint_model.specs.declared.events.Reply.TheVariants as says
-use Rattle.joint_model.specs.Control.{IsDone, met, doing_after}
+use Rattle.joint_model.specs.Control.{Doing, IsDone, MayStart, free, made, lent, gripped, given, met, doing_after}
 use Rattle.joint_model.specs.Draws.{numbered}
 use Rattle.joint_model.specs.HistoryLines.{caller_line}
-use Rattle.joint_model.specs.Lines.{IsLine, IsManagedThread, IsPeerThread, IsThread, IsVar}
-use Rattle.joint_model.specs.Told.{Told, nothing}
+use Rattle.joint_model.specs.Lines.{IsLine, IsManagedThread, IsPeerThread, IsThread, is_peer_event}
 use Rattle.joint_model.proofs.Deciding.{none_some, some-same}
 use Rattle.order_table.specs.declared.views.View.{View}
 use Rattle.order_table.specs.Rule.{IsBelow}
 use Rattle.order_table.specs.Views.{known}
 use Rattle.order_table.proofs.Lines.{below_begins}
 use Rattle.peer_side.specs.Steps.{IsRelease, IsStepLine}
-use Rattle.joint_history.specs.Callers.{CallerKnows, last_index}
+use Rattle.joint_history.specs.Callers.{CallerKnows, KeepsReads, last_index}
 use Rattle.joint_history.specs.Knowing.{line_known}
 use Rattle.joint_history.specs.Locked.{Makes, MakesNone, MayMake, doing_from, made_by}
-use Rattle.joint_history.specs.Operations.{AreAbove, StopsWithoutMemory, OpensOperation, IsMadeByEvents, IsOwnThread, IsPeerOperation, IsSideEvent, MakesAll, MayBegin, Runs, answer_of, cited_by, entry_by, first_of, second_of, third_of}
+use Rattle.joint_history.specs.Operations.{AreAbove, StopsWithoutMemory, OpensOperation, IsMadeByEvents, IsOwnThread, IsPeerOperation, IsSideEvent, MakesAll, MayBegin, ReadsExactly, Runs, answer_of, cited_by, entry_by, first_of, second_of, third_of}
 use Rattle.joint_history.proofs.LastLines.{last_line_is}
 use Rattle.joint_history.proofs.Narrow.{GripsFew, past_grips_few}
 use Rattle.joint_history.proofs.Turning.{first_may, met_then_release, stands_knows, then_adopt, then_land, then_meet, then_release}
@@ -42,15 +41,15 @@ none_from None w = refl
 none_from (Some x) w = absurd (w x refl)
 
 -- what a caller makes in turn
-pub makes_first : (t : Thread) (old new : View) (e : Entry) (told : Told) → Makes t old new e told → MakesAll t old new (e ∷ [])
-makes_first t old new e told m = record { own_more = m.own; more = m.more; above = (m.above, tt) }
+pub makes_first : (t : Thread) (old new : View) (e : Entry) → Makes t old new e → MakesAll t old new (e ∷ [])
+makes_first t old new e m = record { own_more = m.own; more = m.more; above = (m.above, tt) }
 
 pub above_more : (v w : View) (es : List Entry) (e : Entry) → ((i : ℕ) → IsPrefix (known v i) (known w i)) → AreAbove v es → ((i : ℕ) → IsBelow e.number (known w i)) → AreAbove v (es ++ e ∷ [])
 above_more v w [] e more a b = (λ i. below_begins e.number (known v i) (known w i) (more i) (b i), tt)
 above_more v w (x ∷ es) e more a b = (a.0, above_more v w es e more a.1 b)
 
-pub makes_next : (t : Thread) (old mid new : View) (es : List Entry) (e : Entry) (told : Told) → MakesAll t old mid es → Makes t mid new e told → MakesAll t old new (es ++ e ∷ [])
-makes_next t old mid new es e told a m = record {
+pub makes_next : (t : Thread) (old mid new : View) (es : List Entry) (e : Entry) → MakesAll t old mid es → Makes t mid new e → MakesAll t old new (es ++ e ∷ [])
+makes_next t old mid new es e a m = record {
   own_more = m.own ∙ (ap (λ xs. xs ++ e ∷ []) a.own_more ∙ append_assoc (line_known old (caller_line t)) es (e ∷ []));
   more = λ i. prefix_trans (known old i) (known mid i) (known new i) (a.more i) (m.more i);
   above = above_more old mid es e a.more a.above m.above;
@@ -77,9 +76,6 @@ first_is_first a = tt
 pub first_comes : (t : Thread) (v : View) (index : ℕ) (a : Act) → IsOwnThread t → MayBegin t v index → MayMake t v index (first_of a) None
 first_comes t v index a is b = first_may t v index (first_of a) is b (first_is_first a)
 
-no_take : (t : Thread) (v : Var) → None ≡ Some v → IsManagedThread t × IsVar v
-no_take t v e = absurd (none_some v e)
-
 never_peer : (A : Type 0) → false ≡ true → A
 never_peer A e = absurd (cc)
 
@@ -87,11 +83,14 @@ never_managed : (A : Type 0) → true ≡ false → A
 never_managed A e = absurd (cc)
 
 managed_first : (n : ℕ) (a : Act) → IsLine (M n) a → IsSideEvent (M n) (first_of a)
-managed_first n (act.Bridge v kind k sort f) is = record { peer = λ z. (is.0, is.1.2); take = no_take (M n); managed = λ z q. never_managed _ z }
-managed_first n (act.Pass v x) is = record { peer = λ z. never_peer _ z; take = no_take (M n); managed = λ z q. ((is.0, is.1.0, is.1.1), is.0) }
-managed_first n (act.Surface v x) is = record { peer = λ z. (is.0, is.1.1); take = no_take (M n); managed = λ z q. never_managed _ z }
-managed_first n (act.Dispose v) is = record { peer = λ z. never_peer _ z; take = no_take (M n); managed = λ z q. ((is.0, is.1), is.0) }
-managed_first n (act.Take v) is = record { peer = λ z. never_peer _ z; take = λ w e. (is.0, subst IsVar (some-same v w e) is.1); managed = λ z q. absurd (none_some v (sym q)) }
+managed_first n (act.Bridge v kind k sort f) is = record { peer = λ z. (is.0, is.1.2); managed = λ z. never_managed _ z }
+managed_first n (act.Pass v x) is = record { peer = λ z. never_peer _ z; managed = λ z. ((is.0, is.1.0, is.1.1), is.0) }
+managed_first n (act.Surface v x) is = record { peer = λ z. (is.0, is.1.1); managed = λ z. never_managed _ z }
+managed_first n (act.Dispose v) is = record { peer = λ z. never_peer _ z; managed = λ z. ((is.0, is.1), is.0) }
+managed_first n (act.Take v) is = record { peer = λ z. never_peer _ z; managed = λ z. (is.0, is.1, refl) }
+managed_first n (act.Weak k v) is = record { peer = λ z. never_peer _ z; managed = λ z. (is.0, is.1.0, is.1.1, refl) }
+managed_first n (act.Read k) is = record { peer = λ z. never_peer _ z; managed = λ z. (is.0, is.1, refl) }
+managed_first n (act.Await k) is = record { peer = λ z. never_peer _ z; managed = λ z. (is.0, is.1, refl) }
 managed_first n (act.NewPeer v k) is = absurd is.1
 managed_first n (act.Global g v) is = absurd is.1
 managed_first n (act.WGlobal g v) is = absurd is.1
@@ -103,20 +102,20 @@ managed_first n (act.Slice k) is = absurd is.1
 managed_first n act.SweepMark is = absurd is.1
 managed_first n (act.PhaseLine w) is = absurd is.1
 managed_first n (act.Finalise k) is = absurd is.1
-managed_first n a is = record { peer = λ z. never_peer _ z; take = no_take (M n); managed = λ z q. ((is, tt), (is.0, tt)) }
+managed_first n a is = record { peer = λ z. never_peer _ z; managed = λ z. ((is, tt), (is.0, tt)) }
 
 peer_first : (n : ℕ) (a : Act) → IsLine (P n) a → IsStepLine a → IsSideEvent (P n) (first_of a)
-peer_first n (act.NewPeer v k) is b = record { peer = λ z. (is.0, is.1, b); take = no_take (P n); managed = λ z q. never_managed _ z }
-peer_first n (act.Copy v w) is b = record { peer = λ z. (is.0, is.1, b); take = no_take (P n); managed = λ z q. never_managed _ z }
-peer_first n (act.Set v i w) is b = record { peer = λ z. (is.0, is.1, b); take = no_take (P n); managed = λ z q. never_managed _ z }
-peer_first n (act.Get v w i) is b = record { peer = λ z. (is.0, is.1, b); take = no_take (P n); managed = λ z q. never_managed _ z }
-peer_first n (act.Drop v) is b = record { peer = λ z. (is.0, is.1, b); take = no_take (P n); managed = λ z q. never_managed _ z }
-peer_first n (act.Load v x) is b = record { peer = λ z. (is.0, is.1, b); take = no_take (P n); managed = λ z q. never_managed _ z }
-peer_first n (act.Store x v) is b = record { peer = λ z. (is.0, is.1, b); take = no_take (P n); managed = λ z q. never_managed _ z }
-peer_first n (act.Global g v) is b = record { peer = λ z. (is.0, is.1, b); take = no_take (P n); managed = λ z q. never_managed _ z }
-peer_first n (act.WGlobal g v) is b = record { peer = λ z. (is.0, is.1, b); take = no_take (P n); managed = λ z q. never_managed _ z }
-peer_first n (act.UnGlobal g) is b = record { peer = λ z. (is.0, is.1, b); take = no_take (P n); managed = λ z q. never_managed _ z }
-peer_first n (act.WRead v g) is b = record { peer = λ z. (is.0, is.1, b); take = no_take (P n); managed = λ z q. never_managed _ z }
+peer_first n (act.NewPeer v k) is b = record { peer = λ z. (is.0, is.1, b); managed = λ z. never_managed _ z }
+peer_first n (act.Copy v w) is b = record { peer = λ z. (is.0, is.1, b); managed = λ z. never_managed _ z }
+peer_first n (act.Set v i w) is b = record { peer = λ z. (is.0, is.1, b); managed = λ z. never_managed _ z }
+peer_first n (act.Get v w i) is b = record { peer = λ z. (is.0, is.1, b); managed = λ z. never_managed _ z }
+peer_first n (act.Drop v) is b = record { peer = λ z. (is.0, is.1, b); managed = λ z. never_managed _ z }
+peer_first n (act.Load v x) is b = record { peer = λ z. (is.0, is.1, b); managed = λ z. never_managed _ z }
+peer_first n (act.Store x v) is b = record { peer = λ z. (is.0, is.1, b); managed = λ z. never_managed _ z }
+peer_first n (act.Global g v) is b = record { peer = λ z. (is.0, is.1, b); managed = λ z. never_managed _ z }
+peer_first n (act.WGlobal g v) is b = record { peer = λ z. (is.0, is.1, b); managed = λ z. never_managed _ z }
+peer_first n (act.UnGlobal g) is b = record { peer = λ z. (is.0, is.1, b); managed = λ z. never_managed _ z }
+peer_first n (act.WRead v g) is b = record { peer = λ z. (is.0, is.1, b); managed = λ z. never_managed _ z }
 peer_first n a is b = absurd b
 
 pub first_is_made : (t : Thread) (a : Act) → IsMadeByEvents t a → IsSideEvent t (first_of a)
@@ -125,30 +124,30 @@ first_is_made (P n) a is = peer_first n a is.0 is.1
 first_is_made C a is = absurd is
 
 -- after an entry of a grip the peer has few fields
-grip_is_narrow : (n : ℕ) (old new : View) (k index : ℕ) (x : StaticNo) (p : PNum) (h : HNum) (sort : Sort) (f : ℕ) (cites : Option ℕ) (told : Told) → Makes (M n) old new (numbered k (made_by (M n) index (op.Grip x) (says.Gripped p h sort f) cites)) told → f ≤ 16
-grip_is_narrow n old new k index x p h sort f cites told m = subst GripsFew m.stands.doing (past_grips_few m.stands.known.known.past m.stands.known.known.lawful n)
+grip_is_narrow : (n : ℕ) (old new : View) (k index : ℕ) (x : StaticNo) (p : PNum) (h : HNum) (sort : Sort) (f : ℕ) (cites : Option ℕ) → Makes (M n) old new (numbered k (made_by (M n) index (op.Grip x) (says.Gripped p h sort f) cites)) → f ≤ 16
+grip_is_narrow n old new k index x p h sort f cites m = subst GripsFew m.stands.doing (past_grips_few m.stands.known.known.past m.stands.known.known.lawful n)
 
 -- the second event follows the first, and is one that a side makes
 pub record Follows (t : Thread) (v : View) (index n : ℕ) (o : Op) : Type 0 where
   pub may : MayMake t v index o (Some n)
   pub made : IsSideEvent t o
 
-second_follows : (n : ℕ) (old new : View) (k index : ℕ) (a : Act) (answered : Reply) (o : Op) → IsLine (M n) a → Makes (M n) old new (entry_by (M n) index k (first_of a) answered None) nothing → second_of a answered ≡ Some o → Follows (M n) new index k o
+second_follows : (n : ℕ) (old new : View) (k index : ℕ) (a : Act) (answered : Reply) (o : Op) → IsLine (M n) a → Makes (M n) old new (entry_by (M n) index k (first_of a) answered None) → second_of a answered ≡ Some o → Follows (M n) new index k o
 second_follows n old new k index (act.Bridge v kind b sort f) (says.Made p h) o is m e = subst (Follows (M n) new index k) (some-same (op.Adopt v kind b p h) o e) (record {
-  may = then_adopt n old new k index sort f p h None nothing v kind b m is;
-  made = record { peer = λ z. never_peer _ z; take = no_take (M n); managed = λ z q. ((is.0, is.1.0, (sort, is.1.1)), is.0) };
+  may = then_adopt n old new k index sort f p h None v kind b m is;
+  made = record { peer = λ z. never_peer _ z; managed = λ z. ((is.0, is.1.0, (sort, is.1.1)), is.0) };
 })
 second_follows n old new k index (act.Pass v x) (says.H h) o is m e = subst (Follows (M n) new index k) (some-same (op.Land h x) o e) (record {
-  may = then_land n old new k index v x h None nothing m;
-  made = record { peer = λ z. (is.0, is.1.1); take = no_take (M n); managed = λ z q. never_managed _ z };
+  may = then_land n old new k index v x h None m;
+  made = record { peer = λ z. (is.0, is.1.1); managed = λ z. never_managed _ z };
 })
 second_follows n old new k index (act.Surface v x) (says.Gripped p h sort f) o is m e = subst (Follows (M n) new index k) (some-same (op.Meet v sort f p h) o e) (record {
-  may = then_meet n old new k index x p h sort f None nothing v m;
-  made = record { peer = λ z. never_peer _ z; take = no_take (M n); managed = λ z q. ((is.0, is.1.0, grip_is_narrow n old new k index x p h sort f None nothing m), is.0) };
+  may = then_meet n old new k index x p h sort f None v m;
+  made = record { peer = λ z. never_peer _ z; managed = λ z. ((is.0, is.1.0, grip_is_narrow n old new k index x p h sort f None m), is.0) };
 })
 second_follows n old new k index (act.Dispose v) (says.H h) o is m e = subst (Follows (M n) new index k) (some-same (op.Release h) o e) (record {
-  may = then_release n old new k index v h None nothing m;
-  made = record { peer = λ z. is.0; take = no_take (M n); managed = λ z q. never_managed _ z };
+  may = then_release n old new k index v h None m;
+  made = record { peer = λ z. is.0; managed = λ z. never_managed _ z };
 })
 second_follows n old new k index act.Collect answered o is m e = absurd is.1
 second_follows n old new k index a answered o is m e = absurd (none_some o e)
@@ -162,7 +161,7 @@ peers_have_none n (act.Dispose v) answered o is e = is
 peers_have_none n act.Collect answered o is e = is
 peers_have_none n a answered o is e = none_some o e
 
-pub second_comes : (t : Thread) (old new : View) (k index : ℕ) (a : Act) (answered : Reply) (o : Op) → IsMadeByEvents t a → Makes t old new (entry_by t index k (first_of a) answered None) nothing → second_of a answered ≡ Some o → Follows t new index k o
+pub second_comes : (t : Thread) (old new : View) (k index : ℕ) (a : Act) (answered : Reply) (o : Op) → IsMadeByEvents t a → Makes t old new (entry_by t index k (first_of a) answered None) → second_of a answered ≡ Some o → Follows t new index k o
 second_comes (M n) old new k index a answered o is m e = second_follows n old new k index a answered o is m e
 second_comes (P n) old new k index a answered o is m e = absurd (peers_have_none n a answered o is.1 e)
 second_comes C old new k index a answered o is m e = absurd is
@@ -172,16 +171,16 @@ met_by : (v : Var) (p : PNum) (h : HNum) (sort : Sort) (f : ℕ) (reply : Reply)
 met_by v p h sort f (says.New m) third e = absurd (none_some third e)
 met_by v p h sort f reply third e = (some-same (op.Release h) third e, λ k index. refl)
 
-third_follows : (n : ℕ) (old new : View) (j k index : ℕ) (second : Op) (reply : Reply) (third : Op) → IsManagedThread (M n) → Makes (M n) old new (entry_by (M n) index k second reply (Some j)) nothing → third_of second reply ≡ Some third → Follows (M n) new index k third
+third_follows : (n : ℕ) (old new : View) (j k index : ℕ) (second : Op) (reply : Reply) (third : Op) → IsManagedThread (M n) → Makes (M n) old new (entry_by (M n) index k second reply (Some j)) → third_of second reply ≡ Some third → Follows (M n) new index k third
 third_follows n old new j k index (op.Meet v sort f p h) reply third is m e =
     let w = met_by v p h sort f reply third e in
     subst (Follows (M n) new index k) w.0 (record {
-      may = met_then_release n old new k index v p h sort f reply (Some j) nothing m (w.1 k index);
-      made = record { peer = λ z. is; take = no_take (M n); managed = λ z q. never_managed _ z };
+      may = met_then_release n old new k index v p h sort f reply (Some j) m (w.1 k index);
+      made = record { peer = λ z. is; managed = λ z. never_managed _ z };
     })
 third_follows n old new j k index second reply third is m e = absurd (none_some third e)
 
-pub third_comes : (t : Thread) (old new : View) (j k index : ℕ) (a : Act) (answered : Reply) (second : Op) (reply : Reply) (third : Op) → IsMadeByEvents t a → second_of a answered ≡ Some second → Makes t old new (entry_by t index k second reply (Some j)) nothing → third_of second reply ≡ Some third → Follows t new index k third
+pub third_comes : (t : Thread) (old new : View) (j k index : ℕ) (a : Act) (answered : Reply) (second : Op) (reply : Reply) (third : Op) → IsMadeByEvents t a → second_of a answered ≡ Some second → Makes t old new (entry_by t index k second reply (Some j)) → third_of second reply ≡ Some third → Follows t new index k third
 third_comes (M n) old new j k index a answered second reply third is f m e = third_follows n old new j k index second reply third is.0 m e
 third_comes (P n) old new j k index a answered second reply third is f m e = absurd (peers_have_none n a answered second is.1 f)
 third_comes C old new j k index a answered second reply third is f m e = absurd is
@@ -235,8 +234,8 @@ of_thread (M n) e w = w n refl
 of_thread (P n) e w = tt
 of_thread C e w = tt
 
-pub begins_after : (t : Thread) (old new : View) (e : Entry) (told : Told) → Makes t old new e told → IsDone (doing_from t e) → MayBegin t new e.made.index
-begins_after t old new e told m d = record { doing = doing_from t e; stands = m.stands; done = d }
+pub begins_after : (t : Thread) (old new : View) (e : Entry) → Makes t old new e → IsDone (doing_from t e) → MayBegin t new e.made.index
+begins_after t old new e m d = record { doing = doing_from t e; stands = m.stands; done = d }
 
 -- who may begin knows a past at whose end it has nothing to release, and its last line isn't above
 pub beginner_knows : (t : Thread) (v : View) (index : ℕ) → MayBegin t v index → CallerKnows t v
@@ -244,7 +243,7 @@ beginner_knows t v index b = stands_knows t v index b.doing b.stands b.done
 
 pub beginner_is_below : (t : Thread) (v : View) (index : ℕ) → IsThread t → MayBegin t v index → last_index (line_known v (caller_line t)) ≤ index
 beginner_is_below t v index is b =
-    let e = last_line_is b.stands.known.known.past t is ∙ ap last_index (sym (b.stands.known.same (caller_line t))) in
+    let e = last_line_is v b.stands.known t is in
     let l = b.stands.last in
     omega (arith, e, l)
 
@@ -263,20 +262,20 @@ cites_first (P n) a answered second first is e = absurd (peers_have_none n a ans
 cites_first C a answered second first is e = absurd is
 
 -- the ends of an operation, at the numbers and replies of its events
-module _ (t : Thread) (index : ℕ) (a : Act) (old one : View) (first : ℕ) (answered : Reply) (start : Op) (begins : start ≡ first_of a) (makes : Makes t old one (entry_by t index first start answered None) nothing) where
-  m : Makes t old one (entry_by t index first (first_of a) answered None) nothing
-  m = subst (λ o. Makes t old one (entry_by t index first o answered None) nothing) begins makes
+module _ (t : Thread) (index : ℕ) (a : Act) (old one : View) (first : ℕ) (answered : Reply) (start : Op) (begins : start ≡ first_of a) (makes : Makes t old one (entry_by t index first start answered None)) where
+  m : Makes t old one (entry_by t index first (first_of a) answered None)
+  m = subst (λ o. Makes t old one (entry_by t index first o answered None)) begins makes
 
   pub then_second : (second : Op) → IsMadeByEvents t a → second_of a answered ≡ Some second → Follows t one index first second
   then_second second is f = second_comes t old one first index a answered second is m f
 
   pub first_begins : second_of a answered ≡ None → MayBegin t one index
-  first_begins e = begins_after t old one _ nothing m (of_thread t _ (λ n q. ends_first n first index a answered e))
+  first_begins e = begins_after t old one _ m (of_thread t _ (λ n q. ends_first n first index a answered e))
 
   pub first_ends : second_of a answered ≡ None → Runs t old one index a (record { first = first; last = first; reply = answered })
   first_ends e = record {
     entries = entry_by t index first (first_of a) answered None ∷ [];
-    made = makes_first t old one _ nothing m;
+    made = makes_first t old one _ m;
     operation = record { answered = answered; rest = []; all = refl; ends = inl (record { no_second = e; nothing_more = refl; last = refl; answer = refl }) };
   }
 
@@ -288,16 +287,16 @@ module _ (t : Thread) (index : ℕ) (a : Act) (old one : View) (first : ℕ) (an
     pub broken_off : StopsWithoutMemory t old new index a
     broken_off = record {
       entries = entry_by t index first (first_of a) answered None ∷ [];
-      made = makes_no_more t old one new _ (makes_first t old one _ nothing m) none;
+      made = makes_no_more t old one new _ (makes_first t old one _ m) none;
       begun = inr (record { number = first; answered = answered; second = second; one = refl; follows = f; takes_memory = keeps });
     }
 
-  module _ (two : View) (second : Op) (f : second_of a answered ≡ Some second) (number : ℕ) (reply : Reply) (m2 : Makes t one two (entry_by t index number second reply (Some first)) nothing) where
+  module _ (two : View) (second : Op) (f : second_of a answered ≡ Some second) (number : ℕ) (reply : Reply) (m2 : Makes t one two (entry_by t index number second reply (Some first))) where
     pub both : MakesAll t old two (entry_by t index first (first_of a) answered None ∷ entry_by t index number second reply (Some first) ∷ [])
-    both = makes_next t old one two (entry_by t index first (first_of a) answered None ∷ []) _ nothing (makes_first t old one _ nothing m) m2
+    both = makes_next t old one two (entry_by t index first (first_of a) answered None ∷ []) _ (makes_first t old one _ m) m2
 
     pub second_begins : third_of second reply ≡ None → MayBegin t two index
-    second_begins e = begins_after t one two _ nothing m2 (of_thread t _ (λ n q. ends_second n number index a answered second reply f e))
+    second_begins e = begins_after t one two _ m2 (of_thread t _ (λ n q. ends_second n number index a answered second reply f e))
 
     pub second_ends : IsMadeByEvents t a → third_of second reply ≡ None → Runs t old two index a (record { first = first; last = number; reply = answer_of a answered reply })
     second_ends is e = record {
@@ -311,14 +310,14 @@ module _ (t : Thread) (index : ℕ) (a : Act) (old one : View) (first : ℕ) (an
       };
     }
 
-    module _ (three : View) (third : Op) (g : third_of second reply ≡ Some third) (last : ℕ) (released : Reply) (m3 : Makes t two three (entry_by t index last third released (Some number)) nothing) where
+    module _ (three : View) (third : Op) (g : third_of second reply ≡ Some third) (last : ℕ) (released : Reply) (m3 : Makes t two three (entry_by t index last third released (Some number))) where
       pub third_begins : MayBegin t three index
-      third_begins = begins_after t two three _ nothing m3 (of_thread t _ (λ n q. ends_third n last index third released (third_is_release second reply third g)))
+      third_begins = begins_after t two three _ m3 (of_thread t _ (λ n q. ends_third n last index third released (third_is_release second reply third g)))
 
       pub third_ends : Runs t old three index a (record { first = first; last = last; reply = reply })
       third_ends = record {
         entries = entry_by t index first (first_of a) answered None ∷ entry_by t index number second reply (Some first) ∷ entry_by t index last third released (Some number) ∷ [];
-        made = makes_next t old two three (entry_by t index first (first_of a) answered None ∷ entry_by t index number second reply (Some first) ∷ []) _ nothing both m3;
+        made = makes_next t old two three (entry_by t index first (first_of a) answered None ∷ entry_by t index number second reply (Some first) ∷ []) _ both m3;
         operation = record {
           answered = answered;
           rest = entry_by t index number second reply (Some first) ∷ entry_by t index last third released (Some number) ∷ [];
@@ -367,3 +366,37 @@ peer_makes_none C old new index a is line b = absurd is
 pub breaks_none : {A E : Type 0} (t : Thread) (old new : View) (index : ℕ) (a : Act) (result : Result A E) → IsPeerThread t → IsMadeByEvents t a → OnErr result (StopsWithoutMemory t old new index a) → OnErr result (MakesAll t old new [])
 breaks_none t old new index a (Ok x) is line b = tt
 breaks_none t old new index a (Err x) is line b = peer_makes_none t old new index a is line b
+
+-- a read is its own operation, and cites nothing
+starts_bare : (d : Doing) (cites : Option ℕ) → MayStart d cites → cites ≡ None
+starts_bare free cites w = w
+starts_bare (made n l p h sort f) cites w = w
+starts_bare (lent n l h x) cites w = w
+starts_bare (gripped n l p h sort f) cites w = w
+starts_bare (given n l h) cites w = absurd w
+starts_bare (met n l h) cites w = absurd w
+
+pub line_bare : (t : Thread) (v : View) (index : ℕ) (a : Act) (cites : Option ℕ) → IsManagedThread t → MayMake t v index (op.Line a) cites → cites ≡ None
+line_bare (M n) v index a cites is may = starts_bare may.doing cites may.turn
+line_bare (P n) v index a cites is may = absurd is
+line_bare C v index a cites is may = absurd is
+
+pub exact_first : (t : Thread) (old new : View) (a : Act) (start : Op) (reply : Reply) → start ≡ first_of a → (is_peer_event t start ≡ false → (b : Act) → start ≡ op.Line b → ReadsExactly t old new b reply) → ReadsExactly t old new a reply
+exact_first (M n) old new (act.Read k) start reply e f = λ r. f (ap (is_peer_event (M n)) e) (act.Read k) e r
+exact_first (M n) old new (act.Await k) start reply e f = λ r. f (ap (is_peer_event (M n)) e) (act.Await k) e r
+exact_first (M n) old new a start reply e f = λ r. absurd r
+exact_first (P n) old new a start reply e f = tt
+exact_first C old new a start reply e f = tt
+
+pub exact_later : (t : Thread) (old new : View) (a : Act) (answered : Reply) (second : Op) (reply : Reply) → second_of a answered ≡ Some second → ReadsExactly t old new a reply
+exact_later (M n) old new (act.Read k) answered second reply e = λ r. absurd (none_some second e)
+exact_later (M n) old new (act.Await k) answered second reply e = λ r. absurd (none_some second e)
+exact_later (M n) old new a answered second reply e = λ r. absurd r
+exact_later (P n) old new a answered second reply e = tt
+exact_later C old new a answered second reply e = tt
+
+-- a peer thread has no list of reads
+pub peer_keeps_none : (t : Thread) (old new : View) (es : List Entry) → IsPeerThread t → KeepsReads t old es → KeepsReads t new es
+peer_keeps_none (M n) old new es is k = absurd is
+peer_keeps_none (P n) old new es is k = k
+peer_keeps_none C old new es is k = absurd is

@@ -10,7 +10,7 @@ use Rattle.joint_model.specs.declared.events.Made.{Made}
 use Rattle.joint_model.specs.declared.events.Op.{Op}
 use Rattle.joint_model.specs.declared.events.Op.TheVariants as op
 use Rattle.joint_model.specs.HistoryLines.{caller_line, stands_in}
-use Rattle.joint_model.specs.Lines.{is_peer_event}
+use Rattle.joint_model.specs.Lines.{is_peer_event, is_read, reader_line}
 use Rattle.joint_model.specs.ManagedReplay.{ManagedReplay}
 use Rattle.joint_model.specs.PeerReplay.{PeerReplay}
 use Rattle.joint_model.specs.Sides.{Side}
@@ -34,6 +34,7 @@ use Rattle.order_table.specs.declared.views.View.{View}
 use Rattle.joint_history.specs.Knowing.{line_known}
 use Rattle.view_laws.specs.Knowing.{IsDrawnView}
 use Rattle.joint_history.specs.Locked.{ManagedKnows, PeerKnows}
+use Rattle.joint_history.proofs.KnownViews.{line_of_past}
 use Rattle.joint_history.specs.SeatFacts.{CitesKnown, CitesManaged, CitesPeers, HandlesLeft, ManagedListCites, NoneLeadsToClearedIn, NoneLeadsToFreedIn, PeerListCites, ResolvesFreed, WeakIsWaitingIn}
 
 -- an entry of a past stands in the lines that it is in, and what stands in a line is one of the past
@@ -58,18 +59,18 @@ from_line (y ∷ ns) e c = ⊎_elim
 
 known_entry : (v : View) (i : ℕ) (a : IsDrawnView v) (e : Entry) → Contains (line_known v i) e → StandsIn a.known.past e
 known_entry v i a e c =
-    let s = from_line (line i a.known.past) e (subst (λ es. Contains es e) (a.same i) c) in
+    let s = from_line (line i a.known.past) e (subst (λ es. Contains es e) (line_of_past v a i) c) in
     record { noted = s.noted; there = in-line i a.known.past s.noted s.there; is = s.is }
 
 entry_known : (v : View) (i : ℕ) (a : IsDrawnView v) (x : Noted) → InPast a.known.past x → stands_in i x.entry ≡ true → Contains (line_known v i) x.entry
-entry_known v i a x w t = subst (λ es. Contains es x.entry) (sym (a.same i)) (to_line (line i a.known.past) x (line-in i a.known.past x w t))
+entry_known v i a x w t = subst (λ es. Contains es x.entry) (sym (line_of_past v a i)) (to_line (line i a.known.past) x (line-in i a.known.past x w t))
 
 -- an event of a side stands in that side's line
-managed_line : (e : Entry) → is_peer_event e.made.caller e.made.op ≡ false → stands_in 0 e ≡ true
-managed_line e p = ap (λ (b : Bool). (0 == (if b then 1 else 0)) || (0 == caller_line e.made.caller)) p
+managed_line : (e : Entry) → is_peer_event e.made.caller e.made.op ≡ false → is_read e.made.op ≡ false → stands_in 0 e ≡ true
+managed_line e p r = (λ i. (0 == (if p i then 1 else (if r i then reader_line e.made.caller else 0))) || (0 == caller_line e.made.caller))
 
 pub peer_line : (e : Entry) → is_peer_event e.made.caller e.made.op ≡ true → stands_in 1 e ≡ true
-peer_line e p = ap (λ (b : Bool). (1 == (if b then 1 else 0)) || (1 == caller_line e.made.caller)) p
+peer_line e p = ap (λ (b : Bool). (1 == (if b then 1 else (if is_read e.made.op then reader_line e.made.caller else 0))) || (1 == caller_line e.made.caller)) p
 
 -- what an entry cites stands in the other side's line
 cited_by : (v : View) (i : ℕ) (a : IsDrawnView v) (e : Entry) (b : List Noted) (n : ℕ) (P : Made → Type 0) → ((x : Noted) → InPast b x → InPast a.known.past x) → ((m : Entry) → P m.made → stands_in i m ≡ true) → HasCited b e.made n P → CitesKnown v i e P
@@ -82,16 +83,16 @@ cited_by v i a e b n P all side c = record {
 
 -- the events that are cited, each on its side
 lend_line : (index : ℕ) (m : Entry) (h : HNum) (x : StaticNo) → IsLendOf index h x m.made → stands_in 0 m ≡ true
-lend_line index m h x w = managed_line m (ap (λ (o : Op). is_peer_event m.made.caller o) w.2)
+lend_line index m h x w = managed_line m (ap (λ (o : Op). is_peer_event m.made.caller o) w.2) (ap is_read w.2)
 
 give_line : (index : ℕ) (m : Entry) (h : HNum) → IsGiveOf index h m.made ⊎ IsMeetOf index h m.made → stands_in 0 m ≡ true
 give_line index m h w = ⊎_elim
-    (λ (g : IsGiveOf index h m.made). managed_line m (ap (λ (o : Op). is_peer_event m.made.caller o) g.2))
-    (λ (g : IsMeetOf index h m.made). managed_line m (ap (λ (o : Op). is_peer_event m.made.caller o) g.5))
+    (λ (g : IsGiveOf index h m.made). managed_line m (ap (λ (o : Op). is_peer_event m.made.caller o) g.2) (ap is_read g.2))
+    (λ (g : IsMeetOf index h m.made). managed_line m (ap (λ (o : Op). is_peer_event m.made.caller o) g.5) (ap is_read g.5))
     w
 
 snap_line : (k : ℕ) (m : Entry) → IsSnapOf k m.made → stands_in 0 m ≡ true
-snap_line k m w = managed_line m (ap (λ (o : Op). is_peer_event m.made.caller o) w)
+snap_line k m w = managed_line m (ap (λ (o : Op). is_peer_event m.made.caller o) w) (ap is_read w)
 
 make_line : (index : ℕ) (m : Entry) (p : PNum) (h : HNum) → IsMakeOf index p h m.made → stands_in 1 m ≡ true
 make_line index m p h w = peer_line m (ap (λ (o : Op). is_peer_event m.made.caller o) w.3)

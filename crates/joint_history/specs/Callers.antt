@@ -17,11 +17,19 @@ use Rattle.order_table.specs.Views.{known, Owns}
 use Rattle.joint_history.specs.Knowing.{line_known}
 use Rattle.view_laws.specs.Knowing.{IsDrawnView}
 
--- a caller: which thread it is, what it knows, and its entries of reads with the room for more
+-- a caller: which thread it is, what it knows, and of a managed thread its entries of reads with the room for more
 pub record Pass : Type 0 where
   pub thread : Thread
   pub view : View
   pub reads : Stock
+
+-- no other thread reads cells
+abbrev pub no_reads : Stock
+no_reads = record { entries = []; spare = 0 }
+
+abbrev pub reads_of : Thread → Stock → Stock
+reads_of (M n) s = s
+reads_of t s = no_reads
 
 -- the entries that the thread has made, by what its seat knows
 abbrev pub own_in : Thread → View → List Entry

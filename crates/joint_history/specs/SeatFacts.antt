@@ -11,7 +11,7 @@ use Rattle.joint_model.specs.Heaps.{IsLive, fields_of}
 use Rattle.joint_model.specs.Peers.{weak}
 use Rattle.joint_model.specs.PeerReplay.{Mirror, PeerReplay, Refers, TableRow}
 use Rattle.joint_model.specs.Sides.{Side}
-use Rattle.joint_model.specs.Told.{Answer, IsKept, Noted, resolution_of, said_cleared}
+use Rattle.joint_model.specs.Told.{Answer, IsKept, Noted, bare_told, resolution_of, said_cleared}
 use Rattle.joint_laws.specs.LinkedInvariants.{HasStrength, IsHeldOne}
 use Rattle.joint_laws.specs.PeerInvariants.{IsTabled}
 use Rattle.known_laws.specs.Citations.{IsClearOf, IsGiveOf, IsGripOf, IsLendOf, IsMakeOf, IsMeetOf, IsSnapOf, StandsBehind, restores_in}
@@ -71,7 +71,7 @@ NoneLeadsToClearedIn v = (a : IsDrawnView v) (o : OpenSnap) (answers : List Answ
 
 -- the latest entry of a past, where it is a resolve, freed of its candidates exactly those whose restore answered cleared
 abbrev pub ResolveFreed : Noted → List Noted → Type 0
-ResolveFreed x h = (k : Cycle) → x.entry.made.op ≡ op.Resolve k → (answers : List Answer) (freed : List ℕ) → x.told ≡ resolution_of answers freed
+ResolveFreed x h = (k : Cycle) → x.entry.made.op ≡ op.Resolve k → (answers : List Answer) (freed : List ℕ) → bare_told x.told ≡ resolution_of answers freed
     → (i g m : ℕ) (a : Answer) → slice_get (restores_in h) i ≡ Some (g, a) → slice_get (candidates_of (end_of h).managed.managed) i ≡ Some m → Contains freed m ↔ (a ≡ said_cleared)
 
 -- so did each resolve that the seat knows

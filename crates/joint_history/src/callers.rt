@@ -3,7 +3,7 @@
 ghost use Rattle.std.specs.Prelude.{◌≡◌};
 ghost use Rattle.joint_model.specs.Lines.{IsDriver, IsThread};
 ghost use Rattle.order_table.specs.Allowed.{Settled};
-ghost use Rattle.joint_history.specs.Callers.{CallerKnows, HoldsPass, Hears, IsOfRun, KeepsReads, Tells};
+ghost use Rattle.joint_history.specs.Callers.{CallerKnows, HoldsPass, Hears, IsOfRun, KeepsReads, Tells, reads_of};
 ghost use Rattle.joint_history.specs.Driven.{StillStands};
 
 use joint_model::{Entries, Reply, Thread};
@@ -23,11 +23,11 @@ impl<N: OrderName> Model for WaitingPass<N> {
     ghost use Rattle.std.specs.Prelude.{◌≡◌};
     ghost use Rattle.joint_model.specs.Lines.{IsThread};
     ghost use Rattle.order_table.specs.Allowed.{Settled};
-    ghost use Rattle.joint_history.specs.Callers.{Pass, CallerKnows, HoldsPass, KeepsReads};
+    ghost use Rattle.joint_history.specs.Callers.{Pass, CallerKnows, HoldsPass, KeepsReads, reads_of};
 
     ghost Value = { Pass };
 
-    ghost view = { λ p. record { thread = p.thread; view = p.seat.view; reads = p.reads } };
+    ghost view = { λ p. record { thread = p.thread; view = p.seat.view; reads = reads_of p.thread p.reads } };
 
     ghost invariant = { λ p. IsThread p.thread × (p.seat.order ≡ N.order) × HoldsPass p.thread p.seat.view × CallerKnows p.thread p.seat.view × Settled p.seat.view × KeepsReads p.thread p.seat.view p.reads.entries };
 }
@@ -45,11 +45,11 @@ pub struct Caller<N: OrderName> {
 impl<N: OrderName> Model for Caller<N> {
     ghost use Rattle.std.specs.Prelude.{◌≡◌};
     ghost use Rattle.order_table.specs.Allowed.{Settled};
-    ghost use Rattle.joint_history.specs.Callers.{Pass, CallerKnows, HoldsPass, IsOfRun, KeepsReads};
+    ghost use Rattle.joint_history.specs.Callers.{Pass, CallerKnows, HoldsPass, IsOfRun, KeepsReads, reads_of};
 
     ghost Value = { Pass };
 
-    ghost view = { λ c. record { thread = c.thread; view = c.seat.view; reads = c.reads } };
+    ghost view = { λ c. record { thread = c.thread; view = c.seat.view; reads = reads_of c.thread c.reads } };
 
     ghost invariant = { λ c. IsOfRun N.managed N.peers c.thread × (c.seat.order ≡ N.order) × HoldsPass c.thread c.seat.view × CallerKnows c.thread c.seat.view × Settled c.seat.view × KeepsReads c.thread c.seat.view c.reads.entries };
 }
@@ -71,7 +71,7 @@ impl<N: OrderName> WaitingPass<N> {
         requires settled { Settled seat.view }
         requires knows { CallerKnows thread seat.view }
         requires reads { KeepsReads thread seat.view reads.entries }
-        ensures { result ≡ record { thread = thread; view = seat.view; reads = reads } }
+        ensures { result ≡ record { thread = thread; view = seat.view; reads = reads_of thread reads } }
     {
         WaitingPass {
             thread,

@@ -122,6 +122,8 @@ fn draw_weak(
     ensures threads { side.new.threads ≡ side.old.threads }
     ensures err { OnErr result (StaysSeated seat.old seat.new × (side.new ≡ side.old)) }
 {
+    // no object's number is above 65,535
+    let _ = side.made();
     let word = order.load_cell(seat, k);
     let mut drawing = SeatDrawing {
         order,

@@ -3,7 +3,6 @@
 // other side's seat with its pass.
 
 ghost use Rattle.std.specs.Prelude.{◌≡◌, ◌≤◌, [], IfOk, IsOk, OnErr, false};
-ghost use Rattle.joint_model.specs.declared.events.Op.TheVariants as op;
 ghost use Rattle.joint_model.specs.declared.lines.Act.{Act};
 ghost use Rattle.joint_model.specs.Lines.{IsLine, IsManagedThread, IsPeerThread, is_peer_event};
 ghost use Rattle.order_table.specs.Allowed.{Settled};
@@ -168,7 +167,7 @@ impl<N: OrderName, K: Keeps<N>> Shared<N, K> {
         ensures pass { HoldsPass t mine.new.view }
         ensures reads { KeepsReads t mine.new.view reads.new.entries }
         ensures ok { IfOk result (λ r. Makes t mine.old.view mine.new.view (entry_by t index r.0 op.now r.1 cites)) }
-        ensures exact { IfOk result (λ r. (a : Act) → op.now ≡ op.Line a → ReadsExactly t mine.old.view mine.new.view a r.1) }
+        ensures exact { IfOk result (λ r. (a : Act) → op.now ≡ Op.Line a → ReadsExactly t mine.old.view mine.new.view a r.1) }
         ensures err { OnErr result (MakesNone t mine.old.view mine.new.view) }
     {
         match call_of(op) {
@@ -225,7 +224,7 @@ impl<N: OrderName, K: Keeps<N>> Shared<N, K> {
         ensures pass { HoldsPass t mine.new.view }
         ensures reads { KeepsReads t mine.new.view reads.new.entries }
         ensures ok { IfOk result (λ r. Makes t mine.old.view mine.new.view (entry_by t index r.0 op.now r.1 cites)) }
-        ensures exact { is_peer_event t op.now ≡ false → IfOk result (λ r. (a : Act) → op.now ≡ op.Line a → ReadsExactly t mine.old.view mine.new.view a r.1) }
+        ensures exact { is_peer_event t op.now ≡ false → IfOk result (λ r. (a : Act) → op.now ≡ Op.Line a → ReadsExactly t mine.old.view mine.new.view a r.1) }
         ensures release { IsRelease op.now → IsOk result }
         ensures err { OnErr result (MakesNone t mine.old.view mine.new.view) }
     {

@@ -10,7 +10,7 @@ ghost use Rattle.order_table.specs.Allowed.{Settled};
 ghost use Rattle.order_table.specs.Views.{Owns};
 ghost use Rattle.peer_side.specs.Sides.{opening_side, seen};
 ghost use Rattle.peer_side.specs.Steps.{IsPeerStep, IsRelease};
-ghost use Rattle.joint_history.specs.Callers.{HoldsPass, KnowsNothing};
+ghost use Rattle.joint_history.specs.Callers.{HoldsPass, KnowsNothing, ReadsStay};
 ghost use Rattle.joint_history.specs.Knowing.{line_known};
 ghost use Rattle.joint_history.specs.Locked.{Drew, Makes, MakesNone, MayMake, PeerKnows, StaysSeated, made_by};
 ghost use Rattle.seat_calls.specs.Passing.{MayAppend};
@@ -132,7 +132,8 @@ impl<N: OrderName> LockedPeer<N> {
         ensures order { mine.new.order ≡ N.order }
         ensures settled { Settled mine.new.view }
         ensures pass { HoldsPass caller mine.new.view }
-        ensures ok { IfOk result (λ r. Makes caller mine.old.view mine.new.view (numbered r.0 (made_by caller index op.now r.1 cites)) nothing) }
+        ensures ok { IfOk result (λ r. Makes caller mine.old.view mine.new.view (numbered r.0 (made_by caller index op.now r.1 cites))) }
+        ensures reads { ReadsStay caller mine.old.view mine.new.view }
         ensures release { IsRelease op.now → IsOk result }
         ensures err { OnErr result (MakesNone caller mine.old.view mine.new.view) }
     {

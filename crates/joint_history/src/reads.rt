@@ -76,17 +76,17 @@ impl<N: OrderName, K: Keeps<N>> Shared<N, K> {
         got
     }
 
-    /// For how many more reads of the caller there is room.
+    /// For how many more reads of a managed thread's caller there is room.
     pub fn spare(&self, caller: &Caller<N>) -> u32
-        ensures { result ≡ caller.now.reads.spare }
+        ensures { IsManagedThread caller.now.thread → result ≡ caller.now.reads.spare }
     {
         caller.reads.spare()
     }
 
-    /// Makes room for `n` more reads of the caller, which knows the same afterwards. Answers `AllocError` where there is no memory, or where its list would
+    /// Makes room for `n` more reads of a managed thread's caller, which knows the same afterwards. Answers `AllocError` where there is no memory, or where its list would
     /// pass its limit.
     pub fn reserve(&self, caller: &mut Caller<N>, n: u32) -> Result<(), AllocError>
-        ensures room { IfOk result (λ _. n ≤ caller.new.reads.spare) }
+        ensures room { IfOk result (λ _. IsManagedThread caller.old.thread → n ≤ caller.new.reads.spare) }
         ensures rest { (caller.new.thread ≡ caller.old.thread) × (caller.new.view ≡ caller.old.view) × (caller.new.reads.entries ≡ caller.old.reads.entries) }
         ensures err { OnErr result (caller.new ≡ caller.old) }
     {

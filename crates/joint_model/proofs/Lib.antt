@@ -6,6 +6,7 @@ pub mod HeapLemmas
 pub mod DrawnInTurn
 pub mod Joining
 pub mod Merging
+pub mod Shuffling
 mod Spelling
 mod Searching
 mod Walking

@@ -1,9 +1,12 @@
 // The lists of entries and the history by their first calls.
 
+ghost use Rattle.std.specs.Prelude.{◌≡◌, [], ◌∷◌, IfOk};
+
 use joint_model::{
-    Alive, Counter, Draw, Entries, Entry, HNum, History, Holding, Made, Op, Reply, Thread,
+    Act, Alive, Cell, Counter, Draw, Entries, Entry, HNum, History, Holding, Made, Op, Reply,
+    Thread, Var,
 };
-use std::alloc::AllocError;
+use std::alloc::{AllocError, Global};
 use std::test::Fail;
 
 const BEGUN: Made = Made {
@@ -116,5 +119,56 @@ fn no_lists_join_to_the_empty_history(rt: HostRuntime) -> Result<(), Fail> {
         Vec::new(alloc),
     )?;
     assert!(rt; has_nothing(&history));
+    Ok(())
+}
+
+// A list without entries, and one with one entry.
+fn empty(alloc: Global) -> Entries
+    ensures { result.entries ≡ [] }
+{
+    Entries::new(alloc, Holding::Every)
+}
+
+fn single(alloc: Global, number: u64, caller: Thread, op: Op) -> Result<Entries, AllocError>
+    ensures { IfOk result (λ s. s.entries ≡ record { number = number; made = record { caller = caller; index = 7; op = op; reply = Reply.Gone; cites = None } } ∷ []) }
+{
+    let made = Made {
+        caller,
+        index: 7,
+        op,
+        reply: Reply::Gone,
+        cites: None,
+    };
+    let mut entries = Entries::new(alloc, Holding::Every);
+    entries.reserve(1)?;
+    entries.push(Entry { number, made });
+    Ok(entries)
+}
+
+// An entry of each side, and one of two readers each.
+#[test]
+fn ten_lists_join_to_one_history(rt: HostRuntime) -> Result<(), Fail> {
+    let alloc = rt.alloc();
+    let lists = vec![in alloc;
+        single(alloc, 2, Thread::M(1), Op::Line(Act::Drop { v: Var(0) }))?,
+        single(alloc, 1, Thread::C, Op::Begin)?,
+        empty(alloc),
+        single(alloc, 3, Thread::M(2), Op::Line(Act::Read { k: Cell(0) }))?,
+        empty(alloc),
+        empty(alloc),
+        empty(alloc),
+        single(alloc, 0, Thread::M(6), Op::Line(Act::Await { k: Cell(1) }))?,
+        empty(alloc),
+        empty(alloc),
+    ]?;
+    let history = History::join(
+        alloc,
+        lists,
+        Vec::new(alloc),
+        Vec::new(alloc),
+        Vec::new(alloc),
+    )?;
+    let all = (0..4u64).all(|i| history.entry(i).is_some_and(|entry| entry.number == i));
+    assert!(rt; all && history.len() == 4 && history.entry(4).is_none());
     Ok(())
 }

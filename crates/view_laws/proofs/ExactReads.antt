@@ -1,11 +1,9 @@
 -- A read by the owner of the managed list answers as the one machine does: each of the pin, the gate and the cell's word is as the state has it.
-use Rattle.std.proofs.Common.{◌≡◌, ⊎_elim, ℕ, zero, suc, ◌+◌, ◌≤◌, Bool, true, false, List, Option, Some, None, refl, sym, ap, ◌∙◌, subst, arith}
+use Rattle.std.proofs.Common.{◌≡◌, ℕ, zero, suc, ◌+◌, Bool, true, false, List, Option, Some, None, refl, sym, ap, ◌∙◌, subst, arith}
 use Rattle.std.specs.Prelude.{if◌then◌else◌}
-use Rattle.std.proofs.lemmas.Bool.{cases_Bool}
-use Rattle.joint_model.specs.declared.events.Reply.{Reply}
 use Rattle.joint_model.specs.Heaps.{slot}
 use Rattle.joint_model.specs.Heaps as heaps
-use Rattle.joint_model.specs.Managed.{Managed, OpenCycle, read_cell}
+use Rattle.joint_model.specs.Managed.{Managed, OpenCycle}
 use Rattle.joint_model.specs.Told.{Noted}
 use Rattle.joint_model.proofs.Numbered.{slot-Contains}
 use Rattle.known_laws.specs.Held.{open_number, answers_by, gone, object}
@@ -13,12 +11,11 @@ use Rattle.known_laws.specs.Held as held
 use Rattle.known_laws.specs.Pasts.{end_of}
 use Rattle.known_laws.proofs.Held.{reads_are_exact}
 use Rattle.known_laws.proofs.Later.{kept_end}
-use Rattle.order_table.specs.declared.views.KeptEntry.{KeptEntry}
 use Rattle.order_table.specs.Owed.{pin, target, is_freed, says_word}
 use Rattle.order_table.specs.Owed as owed
 use Rattle.order_table.specs.Replies.{object_of}
 use Rattle.order_table.specs.Views.{known}
-use Rattle.weak_wait.specs.Reads.{IsExact, got_of, reply_of}
+use Rattle.weak_wait.specs.Reads.{got_of, reply_of}
 use Rattle.view_laws.specs.ExactReads.{ExactReadsAreReplies}
 use Rattle.view_laws.specs.Knowing.{SaysState}
 use Rattle.view_laws.proofs.HeldViews.{views_say_states}

@@ -28,15 +28,17 @@ use Rattle.joint_model.specs.Draws.{Drawn}
 use Rattle.known_laws.specs.Drawn.{IsToldIn, drawn, drawn_by, of_drawn}
 use Rattle.known_laws.specs.Growing.{Kept, entries_kept, AreWhole, all_shown, shown, turned}
 use Rattle.known_laws.specs.Known.{Comes, given, without_pins}
+use Rattle.known_laws.specs.Lists.{made_by}
 use Rattle.known_laws.specs.Pasts.{InPast, Lawful, end_of, line, is_in, own_of, role_of}
 use Rattle.known_laws.specs.Wholes.{history_of, AllOrdered}
 use Rattle.known_laws.proofs.Drawing.{drawn-entry}
 use Rattle.known_laws.proofs.Ending.{known_whole_is_history, lawful_small, turned_twice}
-use Rattle.known_laws.proofs.Lists.{event-thread}
+use Rattle.known_laws.proofs.Lists.{event-thread, own_line_is_made_by_caller}
 use Rattle.known_laws.proofs.PastsJoin.{below}
 use Rattle.known_laws.proofs.Reading.{known_whole_is_linked}
 use Rattle.order_table.specs.declared.views.KeptEntry.{KeptEntry}
-use Rattle.order_table.specs.Facts.{entries_of}
+use Rattle.order_table.specs.declared.views.View.{View}
+use Rattle.order_table.specs.Facts.{entries_of, line_entries}
 use Rattle.order_table.specs.Owed.{mark, has}
 use Rattle.order_table.specs.Replies.{IsNoteOf, AreNotes}
 use Rattle.order_table.specs.Rule.{Item, RunsFrom, EachFits, AreLinesOfOneHistory, of_line}
@@ -45,7 +47,7 @@ use Rattle.order_table.specs.Views.{known}
 use Rattle.order_table.proofs.ByNumber.{replies_are_right}
 use Rattle.order_table.proofs.Lines.{role_in, in_cases}
 use Rattle.order_table.proofs.Wholes.{role_told}
-use Rattle.view_laws.specs.Knowing.{of_kept, of_order, drawn_lines, WholeViewIsLinked}
+use Rattle.view_laws.specs.Knowing.{of_kept, of_order, drawn_lines, IsDrawnView, OwnLinesAreMadeByCallers, WholeViewIsLinked}
 use Rattle.view_laws.proofs.KnownViews.{whole_kept, line_kept, whole_numbered}
 use Rattle.view_laws.proofs.Ordered.{TellsItem, AllTold, lawful-front, all_ordered}
 use Rattle.view_laws.proofs.StateWords.{SaysState, says-first, says-more}
@@ -99,8 +101,7 @@ all-told past (x ∷ xs) h (n ∷ ns) l e s t =
     let told = t x (Contains-here x xs) in
     let there = turned-front ns h n in
     let number : told.entry.entry.number ≡ n.entry.number = ap (λ (z : Entry). z.number) (sym (drawn-entry (end_of told.back) told.entry) ∙ (sym (ap (λ d. d.entry) told.same) ∙ sym entry)) in
-    let place = place-one told.front there.0 told.back h told.entry n (subst Lawful told.all l) (sym told.all ∙ (e ∙ there.1)) number in
-    (
+    let place = place-one told.front there.0 told.back h told.entry n (subst Lawful told.all l) (sym told.all ∙ (e ∙ there.1)) number in (
       record { entry = entry; drawn_so = sym (told.same ∙ (λ i. drawn (end_of (place.1 i)) (place.0 i))); pins = sym (ap (λ (k : Kept). k.pins) one) },
       all-told past xs (n ∷ h) ns l e (kept-tail (shown n) (of_kept x.kept) (all_shown ns) (whole_kept xs) s) (λ y c. t y (Contains-there y x xs c)),
     )
@@ -257,9 +258,9 @@ far-items : (i k : ℕ) (xs : List Item) → RunsFrom k xs → 27 ≤ i → of_l
 far-items i k [] r l = refl
 far-items i k (x ∷ xs) r l = ap (λ b. if b then x.kept ∷ of_line i xs else of_line i xs) (⊎_elim
     (λ (e : rule.is_in i x ≡ true). absurd (⊎_elim
-        (λ (q : i ≡ x.role). let a = r.0.stands.one in omega (arith, a, q, l))
-        (λ (q : i ≡ caller_line x.kept.entry.made.caller). let a = caller-low x.kept.entry.made.caller r.0.caller in omega (arith, a, q, l))
-        (in_cases i x e)))
+    (λ (q : i ≡ x.role). let a = r.0.stands.one in omega (arith, a, q, l))
+    (λ (q : i ≡ caller_line x.kept.entry.made.caller). let a = caller-low x.kept.entry.made.caller r.0.caller in omega (arith, a, q, l))
+    (in_cases i x e)))
     (λ (e : rule.is_in i x ≡ false). e)
     (cases_Bool (rule.is_in i x))) ∙ far-items i (k + 1) xs r.1 l
 
@@ -274,9 +275,9 @@ far-past : (i : ℕ) (h : List Noted) → Lawful h → 27 ≤ i → line i h ≡
 far-past i [] l w = refl
 far-past i (n ∷ h) l w = ap (λ b. if b then line i h ++ n ∷ [] else line i h) (⊎_elim
     (λ (e : is_in i n ≡ true). absurd (⊎_elim
-        (λ (q : i ≡ role_of n). let a = lawful_small (n ∷ h) l n (inl refl) in omega (arith, a, q, w))
-        (λ (q : i ≡ own_of n). let a = caller-low n.entry.made.caller (event-thread n.entry.made.caller n.entry.made.op (past-event h n l)) in omega (arith, a, q, w))
-        (in_cases i (record { role = role_of n; kept = record { entry = n.entry; target = None; freed = []; pins = [] } }) e)))
+    (λ (q : i ≡ role_of n). let a = lawful_small (n ∷ h) l n (inl refl) in omega (arith, a, q, w))
+    (λ (q : i ≡ own_of n). let a = caller-low n.entry.made.caller (event-thread n.entry.made.caller n.entry.made.op (past-event h n l)) in omega (arith, a, q, w))
+    (in_cases i (record { role = role_of n; kept = record { entry = n.entry; target = None; freed = []; pins = [] } }) e)))
     (λ (e : is_in i n ≡ false). e)
     (cases_Bool (is_in i n))) ∙ far-past i h l.1 w
 
@@ -288,9 +289,26 @@ entries-kept : (xs : List Item) → entries_kept (whole_kept xs) ≡ entries_of 
 entries-kept [] = refl
 entries-kept (x ∷ xs) = ap (λ l. x.kept.entry ∷ l) (entries-kept xs)
 
+-- so all lines of a view are whole
+lines-whole : (v : View) (a : IsDrawnView v) (w : AreLinesOfOneHistory v.known) → AreWhole (whole_kept w.whole) (λ i. of_drawn (drawn_lines v i))
+lines-whole v a w i = ⊎_elim
+    (λ (l : 26 < i). a.known.same i ∙ (ap all_shown (far-past i a.known.past a.known.lawful (omega (arith, l))) ∙ (sym (ap (map of_kept) (far-items i 0 w.whole w.numbers (omega (arith, l)))) ∙ line_kept i 0 w.whole w.numbers)))
+    (λ (l : i ≤ 26). kept-drawn (known v i) ∙ (ap (map of_kept) (w.each i (omega (arith, l))) ∙ line_kept i 0 w.whole w.numbers))
+    (cases_lt 26 i)
+
+-- and the line of a thread has just its entries
+pub own_lines_are_made_by_callers : OwnLinesAreMadeByCallers
+own_lines_are_made_by_callers v a w t is =
+    let made = own_line_is_made_by_caller (whole_kept w.whole) (λ i. of_drawn (drawn_lines v i)) a.known (whole_numbered 0 w.whole w.numbers) (lines-whole v a w) t is (lines-whole v a w (caller_line t)) in
+    sym (ap entries_kept (kept-drawn (known v (caller_line t))) ∙ entries-of (known v (caller_line t))) ∙ (made ∙ ap (made_by t) (entries-kept w.whole))
+  where
+    entries-of : (ks : List KeptEntry) → entries_kept (map of_kept ks) ≡ line_entries ks
+    entries-of [] = refl
+    entries-of (k ∷ ks) = ap (λ l. k.entry ∷ l) (entries-of ks)
+
 pub whole_view_is_linked : WholeViewIsLinked
 whole_view_is_linked h v a w same ended =
-    (known_whole_is_linked h (whole_kept w.whole) lines a.known (entries-kept w.whole ∙ sym same) (subst (NumberedFrom 0) (entries-kept w.whole ∙ sym same) numbered) all ordered ended).linked
+    known_whole_is_linked h (whole_kept w.whole) lines a.known (entries-kept w.whole ∙ sym same) (subst (NumberedFrom 0) (entries-kept w.whole ∙ sym same) numbered) all ordered ended
   where
     lines : ℕ → List Kept
     lines i = of_drawn (drawn_lines v i)
@@ -305,10 +323,7 @@ whole_view_is_linked h v a w same ended =
     numbered = whole_numbered 0 w.whole w.numbers
 
     all : AreWhole (whole_kept w.whole) lines
-    all i = ⊎_elim
-        (λ (l : 26 < i). a.known.same i ∙ (ap all_shown (far-past i past a.known.lawful (omega (arith, l))) ∙ (sym (ap (map of_kept) (far-items i 0 w.whole w.numbers (omega (arith, l)))) ∙ line_kept i 0 w.whole w.numbers)))
-        (λ (l : i ≤ 26). kept-drawn (known v i) ∙ (ap (map of_kept) (w.each i (omega (arith, l))) ∙ line_kept i 0 w.whole w.numbers))
-        (cases_lt 26 i)
+    all = lines-whole v a w
 
     back : past ≡ turned [] ns
     back = sym (turned_twice [] [] past ∙ append-nil past)

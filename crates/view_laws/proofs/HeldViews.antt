@@ -164,7 +164,7 @@ module _ (known : List Noted) (lawful : Lawful known) where
           let place = place-one told.front front told.back h told.entry n (subst Lawful told.all lawful) (sym told.all ∙ e) number in
           let x : Item = record { role = 0; kept = r.last } in
           let m = says-more (as_items r.front) x h n l (subst (λ z. SaysState z h) (sym (items-line r.front)) w) (in-zero n b ∙ ap (λ (z : Entry). list_line z.made.caller z.made.op) entry) entry
-              (sym (told.same ∙ (λ i. drawn (end_of (place.1 i)) (place.0 i)))) (λ z. absurd (z refl)) in
+          (sym (told.same ∙ (λ i. drawn (end_of (place.1 i)) (place.0 i)))) (λ z. absurd (z refl)) in
           subst (λ z. SaysState z (n ∷ h)) (line-in (as_items r.front) x refl ∙ (ap (λ z. z ++ r.last ∷ []) (items-line r.front) ∙ sym r.all)) m
       by false b again =
           let z : role_of n ≡ 0 → ⊥ = λ q. true≢false (sym (zero-in n q) ∙ b) in
@@ -373,9 +373,12 @@ views_say_states v a = record {
 
 pub targets_agree : TargetsAgree
 targets_agree v a c m aims = (
-    (λ l. ⊎_elim (λ (e : is_freed (known_by v 0) m ≡ true). absurd (l.kept (Contains-from_any (λ x y. same-number x y) m (end_of h).managed.managed.heap.freed (sym (st.freed m) ∙ e)))) (λ (e : is_freed (known_by v 0) m ≡ false). e) (cases_Bool (is_freed (known_by v 0) m))),
-    (λ e. record { made = (kept_end h a.known.lawful).managed.managed.cells m (slot-Contains (end_of h).managed.managed.cells c m (sym (st.cells c) ∙ aims));
-      kept = λ d. true≢false (sym (list_any-from_Contains nat_eq_equiv m (end_of h).managed.managed.heap.freed d) ∙ (sym (st.freed m) ∙ e)) }))
+  (λ l. ⊎_elim (λ (e : is_freed (known_by v 0) m ≡ true). absurd (l.kept (Contains-from_any (λ x y. same-number x y) m (end_of h).managed.managed.heap.freed (sym (st.freed m) ∙ e)))) (λ (e : is_freed (known_by v 0) m ≡ false). e) (cases_Bool (is_freed (known_by v 0) m))),
+  (λ e. record {
+    made = (kept_end h a.known.lawful).managed.managed.cells m (slot-Contains (end_of h).managed.managed.cells c m (sym (st.cells c) ∙ aims));
+    kept = λ d. true≢false (sym (list_any-from_Contains nat_eq_equiv m (end_of h).managed.managed.heap.freed d) ∙ (sym (st.freed m) ∙ e));
+  }),
+)
   where
     h : List Noted
     h = a.known.past

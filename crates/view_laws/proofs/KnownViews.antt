@@ -44,9 +44,9 @@ grown_by v w r k g s i xs ys P here there =
     let role_line : known w (side_line k.entry) ≡ known v (side_line k.entry) ++ k ∷ [] = subst (λ j. known w j ≡ known v j ++ k ∷ []) e g.role in
     ⊎_elim
     (λ (t : stands_in i k.entry ≡ true). subst (λ b. P (if b then xs else ys)) (sym t) (here (⊎_elim
-        (λ (q : i ≡ side_line k.entry). subst (λ j. known w j ≡ known v j ++ k ∷ []) (sym q) role_line)
-        (λ (q : i ≡ caller_line k.entry.made.caller). subst (λ j. known w j ≡ known v j ++ k ∷ []) (sym q) g.caller)
-        (in_cases i x t))))
+    (λ (q : i ≡ side_line k.entry). subst (λ j. known w j ≡ known v j ++ k ∷ []) (sym q) role_line)
+    (λ (q : i ≡ caller_line k.entry.made.caller). subst (λ j. known w j ≡ known v j ++ k ∷ []) (sym q) g.caller)
+    (in_cases i x t))))
     (λ (f : stands_in i k.entry ≡ false). subst (λ b. P (if b then xs else ys)) (sym f) (there (g.others i (λ q. both_ways (stands_in i k.entry) f (role_in i x (q ∙ e))) (λ q. both_ways (stands_in i k.entry) f (caller_in i x q)))))
     (cases_Bool (stands_in i k.entry))
 

@@ -6,3 +6,4 @@ pub mod Finished
 pub mod HeldViews
 pub mod DrawnViews
 pub mod ExactReads
+pub mod Joined

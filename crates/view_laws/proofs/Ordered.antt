@@ -152,8 +152,7 @@ module _ (whole : List Item) (right : RepliesAreRight whole) (notes : List Noted
       let next : pins_by (said before) n.entry.made.caller n.entry.made.op n.entry.made.reply ≡ said (before ++ x ∷ []) =
       ap (λ (e : Entry). pins_by (said before) e.made.caller e.made.op e.made.reply) item.entry ∙ said-more before x stands runs.0.caller event' takes' in
       let rest = along (before ++ x ∷ []) xs (n ∷ h) ns (same ∙ sym (append_assoc before (x ∷ []) xs)) (subst (λ k. RunsFrom k xs) (one-more before x) runs.1) fits.1 l told.1
-      (says-more before x h n here w (role_told x.role x.kept.entry.made stands) item.entry item.drawn_so fits.0.others) in
-      (
+      (says-more before x h n here w (role_told x.role x.kept.entry.made stands) item.entry item.drawn_so fits.0.others) in (
         record {
           kept = kept before x h n here w item fits.0 role;
           reply = λ r k reads. reply-of (reader-role before x h n here w item fits.0 role r) (state-is before x h n here w item fits.0 role) item k reads;
@@ -171,7 +170,7 @@ module _ (whole : List Item) (right : RepliesAreRight whole) (notes : List Noted
           let there : get_elem? whole (length before) ≡ some x = ap (λ z. get_elem? z (length before)) same ∙ get-at before xs x in
           let front : first_of (length before) whole ≡ before = ap (first_of (length before)) same ∙ first-at before (x ∷ xs) in
           let answer = right notes cells are ends (length before) x there two (pinned (end_of h) (said before)).managed.managed (subst (λ z. IsStateOf z (pinned (end_of h) (said before)).managed.managed) (sym front) state) k
-              (subst (λ (e : Entry). ReadsCell e.made.op k) item.entry reads) in
+          (subst (λ (e : Entry). ReadsCell e.made.op k) item.entry reads) in
           subst (λ (e : Entry). IsReadReply notes cells (pinned (end_of h) (said before)).managed.managed e.number e.made.caller k e.made.reply) (sym item.entry)
           (subst (λ i. IsReadReply notes cells (pinned (end_of h) (said before)).managed.managed i x.kept.entry.made.caller k x.kept.entry.made.reply) (sym runs.0.number) answer)
 

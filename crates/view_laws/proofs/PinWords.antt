@@ -73,9 +73,9 @@ word-more : (before : List Item) (x : Item) → IsInRole x.role x.kept.entry.mad
 word-more before x s r pos = ⊎_elim
     (λ (e : is_in (r + 10) x ≡ true). (
     let same : nat_eq r (caller_place x.kept.entry.made.caller) ≡ true = ⊎_elim
-        (λ (q : r + 10 ≡ x.role). absurd (let l = s.one in omega (arith, l, q)))
-        (λ (q : r + 10 ≡ caller_line x.kept.entry.made.caller). is-same r (caller_place x.kept.entry.made.caller) (omega (arith, q)))
-        (in_cases (r + 10) x e) in
+    (λ (q : r + 10 ≡ x.role). absurd (let l = s.one in omega (arith, l, q)))
+    (λ (q : r + 10 ≡ caller_line x.kept.entry.made.caller). is-same r (caller_place x.kept.entry.made.caller) (omega (arith, q)))
+    (in_cases (r + 10) x e) in
     ap pin (of_line_in (r + 10) before x e) ∙ (pin_more (of_line (r + 10) before) x.kept ∙ sym (ap (λ b. if b then pin_after (word_at before r) (pin_deed x.kept.entry.made.caller x.kept.entry.made.op x.kept.entry.made.reply) else word_at before r) same))))
     (λ (e : is_in (r + 10) x ≡ false). (
     let other : nat_eq r (caller_place x.kept.entry.made.caller) ≡ false = other-number r (caller_place x.kept.entry.made.caller) (λ q. both_ways (is_in (r + 10) x) e (caller_in (r + 10) x (ap (λ z. z + 10) q))) in

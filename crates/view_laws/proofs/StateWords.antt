@@ -125,7 +125,7 @@ cycles-shut x h l o = by (is_read x.entry.made.op) refl l.0.comes
     by false e c =
         let same = (side_after s x e).same in
         ap (λ (z : Linkage). z.managed.managed.cycles) same ∙ step-shut (given s x.told).managed.managed (linkage_after (given s x.told) (without_pins x)).managed.managed
-            (ManagedStep-entry (given s x.told) (without_pins x) c.comes (kept_pinned s _ c.stand (kept_end h l.1)).managed) (sym (ap (λ (z : Linkage). z.managed.managed.cycle) same) ∙ shut)
+        (ManagedStep-entry (given s x.told) (without_pins x) c.comes (kept_pinned s _ c.stand (kept_end h l.1)).managed) (sym (ap (λ (z : Linkage). z.managed.managed.cycle) same) ∙ shut)
 
 ends-number : (x : Noted) (h : List Noted) (k : Cycle) → Lawful (x ∷ h) → (x.entry.made.op ≡ op.Resolve k) ⊎ (x.entry.made.op ≡ op.Abandon k) → (c : OpenCycle) × ((end_of h).managed.managed.cycle ≡ Some c) × (c.number ≡ k.0)
 ends-number x h k l w = by x.entry.made.caller x.entry.made.op (bare_told x.told) w l.0.comes
@@ -198,7 +198,7 @@ module _ (before : List Item) (x : Item) (h : List Noted) (n : Noted) (l : Lawfu
 
   freed-more-in : (m : ℕ) → is_freed more m ≡ list_any (nat_eq m) (freed_in (n ∷ h))
   freed-more-in m = ⊎_elim
-      (λ (z : x.role ≡ 0). ap (λ z. is_freed z m) (line-in before x z) ∙ (freed_more ks x.kept m ∙ ((λ i. w.freed m i || has-same x.kept.freed m i) ∙ sym (any-append m (freed_in h) (managed_numbers x.kept.freed) ) ∙ sym (ap (λ ys. list_any (nat_eq m) (freed_in h ++ ys)) freed-is))))
+      (λ (z : x.role ≡ 0). ap (λ z. is_freed z m) (line-in before x z) ∙ (freed_more ks x.kept m ∙ ((λ i. w.freed m i || has-same x.kept.freed m i) ∙ sym (any-append m (freed_in h) (managed_numbers x.kept.freed)) ∙ sym (ap (λ ys. list_any (nat_eq m) (freed_in h ++ ys)) freed-is))))
       (λ (z : x.role ≡ 0 → ⊥). ap (λ z. is_freed z m) (line-out before x z) ∙ (w.freed m ∙ sym (ap (λ ys. list_any (nat_eq m) (freed_in h ++ ys)) (freed-is ∙ ap managed_numbers (others z).1) ∙ (any-append m (freed_in h) [] ∙ or-none (list_any (nat_eq m) (freed_in h))))))
       (cases_eq x.role 0)
 

@@ -1,24 +1,29 @@
 -- What a seat knows is a past of the one run, with the pins that were given to snaps and takes beside these. It stays so where the seat makes an entry, takes another
 -- seat in, or gives lines away.
-use Rattle.std.specs.Prelude.{◌≡◌, ◌↔◌, false, ℕ, ◌+◌, ◌<◌, List, [], ◌∷◌, map, Option, Some, None}
+use Rattle.std.specs.Prelude.{◌≡◌, ◌↔◌, false, ℕ, ◌+◌, ◌<◌, List, [], ◌∷◌, length, map, slice_index_or, Option, Some, None}
+use Rattle.joint_model.specs.declared.names.MNum.{MNum}
+use Rattle.joint_model.specs.declared.names.PNum.{PNum}
+use Rattle.joint_model.specs.declared.names.Thread.{Thread}
+use Rattle.joint_model.specs.declared.events.Entry.{Entry}
 use Rattle.joint_model.specs.Draws.{Drawn}
 use Rattle.joint_model.specs.Heaps.{IsLive, slot}
 use Rattle.joint_model.specs.Heaps as heaps
 use Rattle.joint_model.specs.Managed.{Managed, OpenCycle}
-use Rattle.joint_model.specs.Histories.{Finished}
-use Rattle.joint_model.specs.Lines.{is_read}
-use Rattle.joint_model.specs.LinkedHistories.{IsLinkedBy}
+use Rattle.joint_model.specs.HistoryLines.{caller_line}
+use Rattle.joint_model.specs.Histories.{Finished, IsJoinable, IsShuffle}
+use Rattle.joint_model.specs.Lines.{IsThread, is_read}
 use Rattle.joint_model.specs.Told.{Told, Noted, pins_told, bare_told}
 use Rattle.known_laws.specs.Growing.{Kept, AreKnown, AreJoined}
 use Rattle.known_laws.specs.Known.{TellsPlainly, Comes, PinsStand, past_after}
 use Rattle.known_laws.specs.Drawn.{KeptDrawn, AreDrawn, DrawnJoin, drawn}
+use Rattle.known_laws.specs.Lists.{made_by}
 use Rattle.known_laws.specs.Pasts.{end_of}
-use Rattle.known_laws.specs.Wholes.{history_of, HasEnded}
+use Rattle.known_laws.specs.Wholes.{HasEnded, IsLinkedPast}
 use Rattle.order_table.specs.declared.views.KeptEntry.{KeptEntry}
 use Rattle.order_table.specs.declared.views.View.{View}
 use Rattle.order_table.specs.Replies.{object_of}
 use Rattle.order_table.specs.Rows.{at}
-use Rattle.order_table.specs.Facts.{entries_of}
+use Rattle.order_table.specs.Facts.{entries_of, line_entries}
 use Rattle.order_table.specs.Rule.{IsBelow, IsHeld, AreLinesOfOneHistory}
 use Rattle.order_table.specs.Tells.{GrowsByEntry, TakesIn, BeginsOneHistory}
 use Rattle.order_table.specs.Owed.{target, is_freed}
@@ -94,9 +99,28 @@ drawn_lines v i = map of_order (known v i)
 abbrev pub IsDrawnView : View → Type 0
 IsDrawnView v = AreDrawn (drawn_lines v)
 
--- a history is linked if its entries are those of the whole that a view knows, and the view's past has ended
+-- a history is linked if its entries are those of the whole that a view knows, and the view's past has ended; it ends in the past's state, but for the pins
 abbrev pub WholeViewIsLinked : Type 0
-WholeViewIsLinked = (h : Finished) (v : View) (a : IsDrawnView v) (w : AreLinesOfOneHistory v.known) → h.entries ≡ entries_of w.whole → HasEnded h (end_of a.known.past) → IsLinkedBy h (history_of a.known.past)
+WholeViewIsLinked = (h : Finished) (v : View) (a : IsDrawnView v) (w : AreLinesOfOneHistory v.known) → h.entries ≡ entries_of w.whole → HasEnded h (end_of a.known.past) → IsLinkedPast h a.known.past
+
+-- the lists of both sides and of the readers, each at the place of its line: what a view knows of these lines
+pub record AreListsOf (v : View) (lists : List (List Entry)) : Type 0 where
+  pub ten : length lists ≡ 10
+  pub each : (i : ℕ) → i < 10 → slice_index_or lists i [] ≡ line_entries (known v i)
+
+-- they are a shuffle of the whole that the view knows
+abbrev pub WholeListsAreShuffle : Type 0
+WholeListsAreShuffle = (v : View) (w : AreLinesOfOneHistory v.known) (lists : List (List Entry)) → AreListsOf v lists → IsShuffle lists (entries_of w.whole)
+
+-- what such lists give: they can be joined with the lists that were freed and queued, and the history that is joined of them is linked by the view's past
+pub record JoinsToLinked (v : View) (a : IsDrawnView v) (lists : List (List Entry)) (whole : List Entry) (ms : List MNum) (ps : List PNum) (ns : List MNum) : Type 0 where
+  pub joinable : IsJoinable lists ms ps ns
+  pub linked : (h : Finished) → IsShuffle lists h.entries → h.freed_managed ≡ ms → h.freed_peers ≡ ps → h.notices ≡ ns → IsLinkedPast h a.known.past × (h.entries ≡ whole)
+
+-- once the view's past has ended, as the lists that were freed and queued say
+abbrev pub WholeListsAreJoined : Type 0
+WholeListsAreJoined = (v : View) (a : IsDrawnView v) (w : AreLinesOfOneHistory v.known) (lists : List (List Entry)) (ms : List MNum) (ps : List PNum) (ns : List MNum) → AreListsOf v lists
+    → HasEnded (record { entries = entries_of w.whole; freed_managed = ms; freed_peers = ps; notices = ns }) (end_of a.known.past) → JoinsToLinked v a lists (entries_of w.whole) ms ps ns
 
 -- pins by words that were loaded stand for who owns the managed list, as the order says of each word that names an object
 abbrev pub PinsOfViewsStand : Type 0
@@ -134,3 +158,7 @@ ViewsSayStates = (v : View) (a : IsDrawnView v) → SaysState v (end_of a.known.
 -- the targets of cells that are live are those which the managed list doesn't free
 abbrev pub TargetsAgree : Type 0
 TargetsAgree = (v : View) (a : IsDrawnView v) (c m : ℕ) → target (known v 0) c ≡ Some m → (IsLive (end_of a.known.past).managed.managed.heap m ↔ (is_freed (known v 0) m ≡ false))
+
+-- the line of a thread that a view of a whole history knows has just the entries that this thread made
+abbrev pub OwnLinesAreMadeByCallers : Type 0
+OwnLinesAreMadeByCallers = (v : View) (a : IsDrawnView v) (w : AreLinesOfOneHistory v.known) (t : Thread) → IsThread t → line_entries (known v (caller_line t)) ≡ made_by t (entries_of w.whole)

@@ -5,7 +5,7 @@
 #![tactic(auto)]
 
 ghost use Rattle.view_laws.specs.ExactReads.{ExactReadsAreReplies};
-ghost use Rattle.view_laws.specs.Knowing.{DrawnViewsGrow, DrawnViewsJoin, FirstIsKnown, PinsOfViewsStand, SameIsKnown, TargetsAgree, ViewsGrow, ViewsJoin, ViewsSayStates, WholeViewIsLinked};
+ghost use Rattle.view_laws.specs.Knowing.{DrawnViewsGrow, DrawnViewsJoin, FirstIsKnown, OwnLinesAreMadeByCallers, PinsOfViewsStand, SameIsKnown, TargetsAgree, ViewsGrow, ViewsJoin, ViewsSayStates, WholeListsAreJoined, WholeListsAreShuffle, WholeViewIsLinked};
 
 /// The first seat knows nothing; a seat that makes an entry which may come, takes another seat in, or gives lines away knows a past again, with what was drawn too;
 /// and a seat that knows the whole of a finished order knows a linked history.
@@ -33,4 +33,12 @@ pub fn views_say_states()
 /// A read by the owner of the managed list answers as the one machine does.
 pub fn exact_reads_are_replies()
     ensures { ExactReadsAreReplies }
+{}
+
+/// The lists of both sides and of the readers, of a seat that knows the whole of a finished order, are a shuffle of the history, and are joined to it; and each
+/// thread's line is what that thread made.
+pub fn whole_lists_are_joined()
+    ensures shuffle { WholeListsAreShuffle }
+    ensures joined { WholeListsAreJoined }
+    ensures own { OwnLinesAreMadeByCallers }
 {}

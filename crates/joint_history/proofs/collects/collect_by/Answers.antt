@@ -1,4 +1,4 @@
-use Rattle.std.proofs.Common.{◌≤◌, ◌+◌, length, refl, sym, subst, ◌∙◌}
+use Rattle.std.proofs.Common.{None, ◌≤◌, ◌+◌, length, refl, sym, subst, ◌∙◌}
 use Rattle.std.proofs.lemmas.Option.{none-some, same_Some}
 use Rattle.joint_model.specs.declared.events.Op.TheVariants as op
 use Rattle.joint_model.specs.Sides.{peer_rules}
@@ -16,7 +16,7 @@ collect-requires-clause-may_begin c = record {
   takes = c.requires.takes;
   below = below_floor c.args.drawing.now.seat.now.view 1 c.args.side.now.entries c.requires.entries;
   room = subst (λ r. 4294967295 ≤ left_in c.args.drawing.now.seat.now.view (role_line r) + length c.args.side.now.entries) (sym c.requires.role) (room_left c.args.drawing.now.seat.now.view 1 c.args.side.now.entries c.requires.entries);
-  bare = subst (λ r. MayAppend c.args.drawing.now.order.now c.args.drawing.now.seat.now (role_line r) c.args.caller op.Begin) (sym c.requires.role) c.requires.may_begin;
+  bare = subst (λ r. MayAppend c.args.drawing.now.order.now c.args.drawing.now.seat.now (role_line r) c.args.caller op.Begin None) (sym c.requires.role) c.requires.may_begin;
   targets = λ m x. absurd x;
 }
 
@@ -25,7 +25,7 @@ collect-requires-clause-may_sweep c = record {
   takes = c.requires.takes;
   below = below_floor c.args.drawing.now.seat.now.view 1 c.args.side.now.entries c.requires.entries;
   room = subst (λ r. 4294967295 ≤ left_in c.args.drawing.now.seat.now.view (role_line r) + length c.args.side.now.entries) (sym c.requires.role) (room_left c.args.drawing.now.seat.now.view 1 c.args.side.now.entries c.requires.entries);
-  bare = subst (λ r. MayAppend c.args.drawing.now.order.now c.args.drawing.now.seat.now (role_line r) c.args.caller op.Sweep) (sym c.requires.role) c.requires.may_sweep;
+  bare = subst (λ r. MayAppend c.args.drawing.now.order.now c.args.drawing.now.seat.now (role_line r) c.args.caller op.Sweep None) (sym c.requires.role) c.requires.may_sweep;
   targets = λ m x. absurd x;
 }
 
@@ -41,3 +41,8 @@ returns-clause-drew c =
 
 pub returns-clause-threads : goal.returns-clause-threads
 returns-clause-threads c = threads_in_turn peer_rules _ _ _ (seen c.args.side.now) (seen c.collect.new.self) _ c.in_ok-reply.ensures.adds
+
+pub returns-clause-settled : goal.returns-clause-settled
+returns-clause-settled c =
+    let w = collect_drew _ (λ a b e m freed x. x) c.args.drawing.now.order.now c.args.drawing.now c.collect.new.draw (seen c.args.side.now) (seen c.collect.new.self) c.args.caller c.args.index c.in_ok-reply.reply (gone_since c.args.side.now.state c.collect.new.self.state) refl c.requires.role c.requires.first c.in_ok-reply.ensures.adds in
+    w.settled c.requires.settled

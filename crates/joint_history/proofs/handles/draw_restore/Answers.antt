@@ -7,5 +7,5 @@ restore-back-requires-clause-may c = record {
   below = below_floor c.args.seat.now.view 1 c.args.side.now.entries c.requires.entries;
   room = room_left c.args.seat.now.view 1 c.args.side.now.entries c.requires.entries;
   bare = c.requires.may;
-  targets = λ m x. c.requires.may;
+  targets = λ m x. absurd x;
 }

@@ -1,4 +1,11 @@
+-- A mirror leaves the seat settled, as each peer's entry does.
+use Rattle.std.proofs.Common.{rules}
+use Rattle.joint_model.specs.Components.{mirror_edges}
+use Rattle.joint_model.specs.Told.{references_of}
+use Rattle.peer_mirror.specs.Carried.{carried_to_peers}
+use Rattle.peer_side.specs.Cycles.{mirrors}
 use Rattle.seat_calls.proofs.Floors.{below_floor, room_left}
+use Rattle.joint_history.proofs.SeatDraws.{peer_settled}
 use Rattle.joint_history.proofs.mirrors.draw_mirror.Goals as goal
 
 pub install-requires-clause-may : goal.install-requires-clause-may
@@ -7,5 +14,11 @@ install-requires-clause-may c = record {
   below = below_floor c.args.seat.now.view 1 c.args.side.now.entries c.requires.entries;
   room = room_left c.args.seat.now.view 1 c.args.side.now.entries c.requires.entries;
   bare = c.requires.may;
-  targets = λ m x. c.requires.may;
+  targets = λ m x. absurd x;
 }
+
+pub returns-clause-settled : goal.returns-clause-settled
+returns-clause-settled c =
+    let a = c.in_ok-refs.ensures.adds in
+    let s = peer_settled _ _ c.args.seat.now _ c.args.side.now.state (mirrors c.args.index c.args.cycle c.in_ok-refs.refs c.args.snap) (references_of (carried_to_peers c.args.side.now.state.peers.issued c.args.graph.now.nodes (mirror_edges c.args.comps.now.comps c.args.comps.now.pairs))) a.draws.adds.number a.draws.adds.drawn.3 a.goes.lawful c.requires.settled in
+    search rules

@@ -1,4 +1,10 @@
+-- A peer's event sets no cell, and leaves the seat settled.
+use Rattle.std.proofs.Common.{rules}
+use Rattle.joint_model.specs.Told.{nothing}
+use Rattle.peer_side.specs.Sides.{seen}
 use Rattle.seat_calls.proofs.Floors.{below_floor, room_left}
+use Rattle.joint_history.specs.Locked.{made_by}
+use Rattle.joint_history.proofs.SeatDraws.{drew_peer, peer_settled}
 use Rattle.joint_history.proofs.peer.draw_step.Goals as goal
 
 pub event-requires-clause-may : goal.event-requires-clause-may
@@ -7,5 +13,5 @@ event-requires-clause-may c = record {
   below = below_floor c.args.seat.now.view 1 c.args.side.now.entries c.requires.entries;
   room = room_left c.args.seat.now.view 1 c.args.side.now.entries c.requires.entries;
   bare = c.requires.may;
-  targets = λ m x. c.requires.may;
+  targets = λ m x. absurd x;
 }

@@ -30,7 +30,7 @@ invariant_of-self g c =
     let k = begin_knows c.self.inside.seat.view c.args.mine.now.view c.lend.new.mine.view c.give_back.new.locked.view c.give_back.new.mine.view c.args.order.now c.lend.new.locked c.draw_begin-made.new.seat (seen c.self.inside.side) (seen c.draw_begin-made.new.side) c.args.index c.requires.pass c.self.invariant.1 (omega (arith, c.ranges.index.fits)) c.self.invariant.2 c.lend.ensures.lent c.give_back.ensures.returned c.draw_begin-made.result.0 c.draw_begin-made.result.1 c.draw_begin-made.ensures.drew c.requires.may in
     let r = drew_reserves C c.self.inside.seat.view c.args.mine.now.view c.lend.new.mine.view c.give_back.new.locked.view c.give_back.new.mine.view c.args.order.now c.lend.new.locked c.draw_begin-made.new.seat c.self.inside.side c.draw_begin-made.new.side (driver_entry c.draw_begin-made.result.0 c.args.index op.Begin (says.Mark c.draw_begin-made.result.1) None) nothing c.self.invariant.2 c.self.invariant.3 c.lend.ensures.lent c.draw_begin-made.ensures.drew c.give_back.ensures.returned
     (begin_kept c.args.order.now c.lend.new.locked c.draw_begin-made.new.seat c.self.inside.side c.draw_begin-made.new.side c.draw_begin-made.result.0 c.args.index (says.Mark c.draw_begin-made.result.1) c.draw_begin-made.ensures.drew (marking_is_due c.self.inside.seat.view c.args.mine.now.view c.lend.new.locked.view c.lend.new.mine.view c.self.inside.side c.args.index c.requires.may.opened c.requires.may.count c.requires.may.weakened c.requires.may.swept c.requires.may.seen c.requires.pass c.self.invariant.1 c.self.invariant.2 c.self.invariant.3 c.requires.may.stands c.lend.ensures.lent) c.draw_begin-made.ensures.reserve) in
-    (c.give_back.ensures.order.0 ∙ c.requires.order.0, d.owns, k, r, c.draw_begin-made.ensures.threads ∙ c.self.invariant.4)
+    (c.give_back.ensures.order.0 ∙ c.requires.order.0, d.owns, k, r, c.draw_begin-made.ensures.threads ∙ c.self.invariant.4, c.give_back.ensures.settled.0)
 
 pub returns-clause-makes : goal.returns-clause-makes
 returns-clause-makes g c = begin_made c.self.inside.seat.view c.args.mine.now.view c.lend.new.mine.view c.give_back.new.locked.view c.give_back.new.mine.view c.args.order.now c.lend.new.locked c.draw_begin-made.new.seat (seen c.self.inside.side) (seen c.draw_begin-made.new.side) c.args.index c.requires.pass c.self.invariant.1 (omega (arith, c.ranges.index.fits)) c.self.invariant.2 c.lend.ensures.lent c.give_back.ensures.returned c.draw_begin-made.result.0 c.draw_begin-made.result.1 c.draw_begin-made.ensures.drew

@@ -40,7 +40,7 @@ invariant_of-self g c =
     let k = clear_knows c.self.inside.seat.view c.args.mine.now.view c.lend.new.mine.view c.give_back.new.locked.view c.give_back.new.mine.view c.args.order.now c.lend.new.locked c.draw_clear-made.new.seat (seen c.self.inside.side) (seen c.draw_clear-made.new.side) c.args.index c.requires.pass c.self.invariant.1 (omega (arith, c.ranges.index.fits)) c.self.invariant.2 c.lend.ensures.lent c.give_back.ensures.returned c.draw_clear-made.result c.args.cycle c.draw_clear-made.ensures.drew c.requires.may in
     let r = drew_reserves C c.self.inside.seat.view c.args.mine.now.view c.lend.new.mine.view c.give_back.new.locked.view c.give_back.new.mine.view c.args.order.now c.lend.new.locked c.draw_clear-made.new.seat c.self.inside.side c.draw_clear-made.new.side (driver_entry c.draw_clear-made.result c.args.index (op.Clear c.args.cycle) says.Ok None) nothing c.self.invariant.2 c.self.invariant.3 c.lend.ensures.lent c.draw_clear-made.ensures.drew c.give_back.ensures.returned
     (clear_kept c.args.order.now c.lend.new.locked c.draw_clear-made.new.seat c.self.inside.side c.draw_clear-made.new.side c.draw_clear-made.result c.args.index c.args.cycle c.draw_clear-made.ensures.drew c.draw_clear-made.ensures.reserve) in
-    (c.give_back.ensures.order.0 ∙ c.requires.order.0, d.owns, k, r, c.draw_clear-made.ensures.threads ∙ c.self.invariant.4)
+    (c.give_back.ensures.order.0 ∙ c.requires.order.0, d.owns, k, r, c.draw_clear-made.ensures.threads ∙ c.self.invariant.4, c.give_back.ensures.settled.0)
 
 pub returns-clause-makes : goal.returns-clause-makes
 returns-clause-makes g c = clear_made c.self.inside.seat.view c.args.mine.now.view c.lend.new.mine.view c.give_back.new.locked.view c.give_back.new.mine.view c.args.order.now c.lend.new.locked c.draw_clear-made.new.seat (seen c.self.inside.side) (seen c.draw_clear-made.new.side) c.args.index c.requires.pass c.self.invariant.1 (omega (arith, c.ranges.index.fits)) c.self.invariant.2 c.lend.ensures.lent c.give_back.ensures.returned c.draw_clear-made.result c.args.cycle c.draw_clear-made.ensures.drew

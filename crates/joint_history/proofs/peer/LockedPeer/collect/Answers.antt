@@ -18,7 +18,7 @@ invariant_of-self g c =
     c.requires.pass.0 c.requires.pass.1 c.self.invariant.1 (omega (arith, c.ranges.index.fits)) c.self.invariant.2 c.requires.begins c.lend.ensures.lent c.draw_collect-made.ensures.drew c.draw_collect-made.ensures.err c.give_back.ensures.returned in
     let r = collect_reserves c.args.caller c.args.index c.args.order.now c.self.inside.seat.view c.args.mine.now.view c.lend.new.mine.view c.give_back.new.locked.view c.give_back.new.mine.view c.lend.new.locked c.draw_collect-made.new.seat c.self.inside.side c.draw_collect-made.new.side c.draw_collect-made.result
     c.requires.pass.0 c.self.invariant.2 c.self.invariant.3 c.lend.ensures.lent c.draw_collect-made.ensures.drew c.draw_collect-made.ensures.err c.draw_collect-made.ensures.reserve c.give_back.ensures.returned in
-    (c.give_back.ensures.order.0 ∙ c.requires.order.0, d.owns, w.knows, r, c.draw_collect-made.ensures.threads ∙ c.self.invariant.4)
+    (c.give_back.ensures.order.0 ∙ c.requires.order.0, d.owns, w.knows, r, c.draw_collect-made.ensures.threads ∙ c.self.invariant.4, c.give_back.ensures.settled.0)
 
 pub returns-clause-begins : goal.returns-clause-begins
 returns-clause-begins g c =

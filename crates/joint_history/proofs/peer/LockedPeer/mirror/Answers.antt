@@ -52,7 +52,7 @@ invariant_of-self g c =
     (mirror_keeps c.args.order.now c.lend.new.locked m.new.seat c.self.inside.side m.new.side c.args.index c.args.cycle c.args.snap c.args.graph.now c.args.comps.now m.result m.ensures.drew m.ensures.err) c.give_back.ensures.returned in
     let w = mirror_called c.self.inside.seat.view c.args.mine.now.view c.lend.new.mine.view c.give_back.new.locked.view c.give_back.new.mine.view c.args.order.now c.lend.new.locked m.new.seat c.self.inside.side m.new.side c.args.index c.requires.pass c.self.invariant.1 (omega (arith, c.ranges.index.fits))
     c.self.invariant.2 c.lend.ensures.lent c.give_back.ensures.returned c.args.cycle c.args.snap c.args.graph.now c.args.comps.now m.ensures.part m.ensures.listing m.result c.requires.may c.self.invariant.3 m.ensures.drew m.ensures.reserve m.ensures.err in
-    (c.give_back.ensures.order.0 ∙ c.requires.order.0, d.owns, w.knows, w.reserves, c.draw_mirror-made.ensures.threads ∙ c.self.invariant.4)
+    (c.give_back.ensures.order.0 ∙ c.requires.order.0, d.owns, w.knows, w.reserves, c.draw_mirror-made.ensures.threads ∙ c.self.invariant.4, c.give_back.ensures.settled.0)
 
 pub returns-clause-ok : goal.returns-clause-ok
 returns-clause-ok g c =

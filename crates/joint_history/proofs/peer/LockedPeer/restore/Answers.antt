@@ -34,7 +34,7 @@ invariant_of-self g c =
     let k = restore_knows c.self.inside.seat.view c.args.mine.now.view c.lend.new.mine.view c.give_back.new.locked.view c.give_back.new.mine.view c.args.order.now c.lend.new.locked c.draw_restore-made.new.seat (seen c.self.inside.side) (seen c.draw_restore-made.new.side) c.args.index c.requires.pass c.self.invariant.1 (omega (arith, c.ranges.index.fits)) c.self.invariant.2 c.lend.ensures.lent c.give_back.ensures.returned c.draw_restore-made.result.0 c.args.h c.draw_restore-made.result.1 c.draw_restore-made.ensures.drew c.requires.may in
     let r = drew_reserves C c.self.inside.seat.view c.args.mine.now.view c.lend.new.mine.view c.give_back.new.locked.view c.give_back.new.mine.view c.args.order.now c.lend.new.locked c.draw_restore-made.new.seat c.self.inside.side c.draw_restore-made.new.side (driver_entry c.draw_restore-made.result.0 c.args.index (op.Restore c.args.h) (reply_of c.draw_restore-made.result.1) None) nothing c.self.invariant.2 c.self.invariant.3 c.lend.ensures.lent c.draw_restore-made.ensures.drew c.give_back.ensures.returned
     (restore_kept c.args.order.now c.lend.new.locked c.draw_restore-made.new.seat c.self.inside.side c.draw_restore-made.new.side c.draw_restore-made.result.0 c.args.index c.args.h (reply_of c.draw_restore-made.result.1) c.draw_restore-made.ensures.drew c.draw_restore-made.ensures.reserve) in
-    (c.give_back.ensures.order.0 ∙ c.requires.order.0, d.owns, k, r, c.draw_restore-made.ensures.threads ∙ c.self.invariant.4)
+    (c.give_back.ensures.order.0 ∙ c.requires.order.0, d.owns, k, r, c.draw_restore-made.ensures.threads ∙ c.self.invariant.4, c.give_back.ensures.settled.0)
 
 pub returns-clause-makes : goal.returns-clause-makes
 returns-clause-makes g c = restore_made c.self.inside.seat.view c.args.mine.now.view c.lend.new.mine.view c.give_back.new.locked.view c.give_back.new.mine.view c.args.order.now c.lend.new.locked c.draw_restore-made.new.seat (seen c.self.inside.side) (seen c.draw_restore-made.new.side) c.args.index c.requires.pass c.self.invariant.1 (omega (arith, c.ranges.index.fits)) c.self.invariant.2 c.lend.ensures.lent c.give_back.ensures.returned c.draw_restore-made.result.0 c.args.h c.draw_restore-made.result.1 c.draw_restore-made.ensures.drew

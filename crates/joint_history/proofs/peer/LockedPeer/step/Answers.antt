@@ -26,7 +26,7 @@ invariant_of-self g c =
     c.requires.pass.0 c.requires.pass.1 c.self.invariant.1 (omega (arith, c.ranges.index.fits)) c.self.invariant.2 c.requires.may c.lend.ensures.lent c.draw_step-made.ensures.drew c.draw_step-made.ensures.err c.give_back.ensures.returned in
     let r = step_reserves c.args.caller c.args.index c.args.op.now c.args.cites c.args.order.now c.self.inside.seat.view c.args.mine.now.view c.lend.new.mine.view c.give_back.new.locked.view c.give_back.new.mine.view c.lend.new.locked c.draw_step-made.new.seat c.self.inside.side c.draw_step-made.new.side c.draw_step-made.result
     c.requires.event c.self.invariant.2 c.self.invariant.3 c.lend.ensures.lent c.draw_step-made.ensures.drew c.draw_step-made.ensures.err c.draw_step-made.ensures.reserve c.give_back.ensures.returned in
-    (c.give_back.ensures.order.0 ∙ c.requires.order.0, d.owns, w.knows, r, c.draw_step-made.ensures.threads ∙ c.self.invariant.4)
+    (c.give_back.ensures.order.0 ∙ c.requires.order.0, d.owns, w.knows, r, c.draw_step-made.ensures.threads ∙ c.self.invariant.4, c.give_back.ensures.settled.0)
 
 pub returns-clause-ok : goal.returns-clause-ok
 returns-clause-ok g c =
@@ -44,3 +44,8 @@ draw_step-made-requires-clause-allowed g c = turn_is_allowed c.args.caller c.sel
 
 pub draw_step-made-requires-clause-takes : goal.draw_step-made-requires-clause-takes
 draw_step-made-requires-clause-takes g c = subst (λ n. TakesPeer n c.args.caller) (sym c.self.invariant.4) c.requires.takes
+
+pub returns-clause-reads : goal.returns-clause-reads
+returns-clause-reads g c =
+    (called_peer c.args.caller c.args.index c.args.op.now c.args.cites nothing c.args.order.now c.self.inside.seat.view c.args.mine.now.view c.lend.new.mine.view c.give_back.new.locked.view c.give_back.new.mine.view c.lend.new.locked c.draw_step-made.new.seat (seen c.self.inside.side) (seen c.draw_step-made.new.side) c.draw_step-made.result
+    c.requires.pass.0 c.requires.pass.1 c.self.invariant.1 (omega (arith, c.ranges.index.fits)) c.self.invariant.2 c.requires.may c.lend.ensures.lent c.draw_step-made.ensures.drew c.draw_step-made.ensures.err c.give_back.ensures.returned).reads

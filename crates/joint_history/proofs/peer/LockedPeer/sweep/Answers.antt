@@ -32,7 +32,7 @@ invariant_of-self g c =
     let k = sweep_knows c.self.inside.seat.view c.args.mine.now.view c.lend.new.mine.view c.give_back.new.locked.view c.give_back.new.mine.view c.args.order.now c.lend.new.locked c.draw_sweep-out.new.seat (seen c.self.inside.side) (seen c.draw_sweep-out.new.side) c.args.index c.requires.pass c.self.invariant.1 (omega (arith, c.ranges.index.fits)) c.self.invariant.2 c.lend.ensures.lent c.give_back.ensures.returned c.draw_sweep-out.result.0 c.draw_sweep-out.result.1 c.draw_sweep-out.ensures.drew c.requires.may in
     let r = drew_reserves C c.self.inside.seat.view c.args.mine.now.view c.lend.new.mine.view c.give_back.new.locked.view c.give_back.new.mine.view c.args.order.now c.lend.new.locked c.draw_sweep-out.new.seat c.self.inside.side c.draw_sweep-out.new.side (driver_entry c.draw_sweep-out.result.0 c.args.index op.Sweep (says.Swept c.draw_sweep-out.result.1.marking c.draw_sweep-out.result.1.freed) None) (sweep_of c.draw_sweep-out.ensures.drew.freed) c.self.invariant.2 c.self.invariant.3 c.lend.ensures.lent c.draw_sweep-out.ensures.drew.drew c.give_back.ensures.returned
     (quiet_kept c.args.order.now c.lend.new.locked c.draw_sweep-out.new.seat c.self.inside.side c.draw_sweep-out.new.side (driver_entry c.draw_sweep-out.result.0 c.args.index op.Sweep (says.Swept c.draw_sweep-out.result.1.marking c.draw_sweep-out.result.1.freed) None) (sweep_of c.draw_sweep-out.ensures.drew.freed) c.draw_sweep-out.ensures.drew.drew c.draw_sweep-out.ensures.reserve tt (λ due. refl)) in
-    (c.give_back.ensures.order.0 ∙ c.requires.order.0, d.owns, k, r, c.draw_sweep-out.ensures.threads ∙ c.self.invariant.4)
+    (c.give_back.ensures.order.0 ∙ c.requires.order.0, d.owns, k, r, c.draw_sweep-out.ensures.threads ∙ c.self.invariant.4, c.give_back.ensures.settled.0)
 
 pub returns-clause-closed : goal.returns-clause-closed
 returns-clause-closed g c = sweep_closes c.self.inside.seat.view c.args.mine.now.view c.lend.new.mine.view c.give_back.new.locked.view c.give_back.new.mine.view c.args.order.now c.lend.new.locked c.draw_sweep-out.new.seat (seen c.self.inside.side) (seen c.draw_sweep-out.new.side) c.args.index c.requires.pass c.self.invariant.1 (omega (arith, c.ranges.index.fits)) c.self.invariant.2 c.lend.ensures.lent c.give_back.ensures.returned c.draw_sweep-out.result.0 c.draw_sweep-out.result.1 c.draw_sweep-out.ensures.drew

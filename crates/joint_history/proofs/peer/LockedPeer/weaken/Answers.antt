@@ -37,7 +37,7 @@ invariant_of-self g c =
     let k = weaken_knows c.self.inside.seat.view c.args.mine.now.view c.lend.new.mine.view c.give_back.new.locked.view c.give_back.new.mine.view c.args.order.now c.lend.new.locked c.draw_weaken-made.new.seat (seen c.self.inside.side) (seen c.draw_weaken-made.new.side) c.args.index c.requires.pass c.self.invariant.1 (omega (arith, c.ranges.index.fits)) c.self.invariant.2 c.lend.ensures.lent c.give_back.ensures.returned c.draw_weaken-made.result c.args.snap c.args.h c.draw_weaken-made.ensures.drew c.requires.may in
     let r = drew_reserves C c.self.inside.seat.view c.args.mine.now.view c.lend.new.mine.view c.give_back.new.locked.view c.give_back.new.mine.view c.args.order.now c.lend.new.locked c.draw_weaken-made.new.seat c.self.inside.side c.draw_weaken-made.new.side (driver_entry c.draw_weaken-made.result c.args.index (op.Weaken c.args.h) says.Ok (Some c.args.snap)) nothing c.self.invariant.2 c.self.invariant.3 c.lend.ensures.lent c.draw_weaken-made.ensures.drew c.give_back.ensures.returned
     (weaken_kept c.args.order.now c.lend.new.locked c.draw_weaken-made.new.seat c.self.inside.side c.draw_weaken-made.new.side c.draw_weaken-made.result c.args.index c.args.h c.args.snap c.draw_weaken-made.ensures.drew c.draw_weaken-made.ensures.reserve (weakening_has_room c.self.inside.seat.view c.args.mine.now.view c.lend.new.locked.view c.lend.new.mine.view c.self.inside.side c.args.index c.requires.may.opened c.requires.may.count c.args.h.0 c.requires.may.weakened false c.requires.may.seen c.requires.pass c.self.invariant.1 c.self.invariant.2 c.self.invariant.3 c.requires.may.stands c.requires.may.next c.lend.ensures.lent)) in
-    (c.give_back.ensures.order.0 ∙ c.requires.order.0, d.owns, k, r, c.draw_weaken-made.ensures.threads ∙ c.self.invariant.4)
+    (c.give_back.ensures.order.0 ∙ c.requires.order.0, d.owns, k, r, c.draw_weaken-made.ensures.threads ∙ c.self.invariant.4, c.give_back.ensures.settled.0)
 
 pub returns-clause-makes : goal.returns-clause-makes
 returns-clause-makes g c = weaken_made c.self.inside.seat.view c.args.mine.now.view c.lend.new.mine.view c.give_back.new.locked.view c.give_back.new.mine.view c.args.order.now c.lend.new.locked c.draw_weaken-made.new.seat (seen c.self.inside.side) (seen c.draw_weaken-made.new.side) c.args.index c.requires.pass c.self.invariant.1 (omega (arith, c.ranges.index.fits)) c.self.invariant.2 c.lend.ensures.lent c.give_back.ensures.returned c.draw_weaken-made.result c.args.snap c.args.h c.draw_weaken-made.ensures.drew

@@ -20,7 +20,7 @@ pub run-requires-clause-act : goal.run-requires-clause-act
 run-requires-clause-act g c = managed_operation c.caller.inside.thread c.args.act.now (subst (λ (p : Pass). IsManagedThread p.thread) (sym c.caller.view_is) c.requires.act.0) (subst (λ (p : Pass). IsLine p.thread c.args.act.now) (sym c.caller.view_is) c.requires.act.1)
 
 pub invariant_of-caller : goal.invariant_of-caller
-invariant_of-caller g c = (c.caller.invariant.0, c.run.ensures.order, c.run.ensures.pass, beginner_knows c.caller.inside.thread c.run.new.mine.view c.args.index c.run.ensures.begins)
+invariant_of-caller g c = (c.caller.invariant.0, c.run.ensures.order, c.run.ensures.pass, beginner_knows c.caller.inside.thread c.run.new.mine.view c.args.index c.run.ensures.begins, c.run.ensures.settled, c.run.ensures.reads)
 
 pub returns-clause-thread : goal.returns-clause-thread
 returns-clause-thread g c = ap (λ (p : Pass). p.thread) c.caller.view_is

@@ -3,7 +3,7 @@ use Rattle.joint_history.specs.Locked.{MayMake}
 use Rattle.joint_history.specs.Operations.{IsSideEvent, Runs}
 use Rattle.std.proofs.lemmas.Result.{IfOk-from_err}
 use Rattle.joint_model.proofs.Results.{at_error}
-use Rattle.joint_history.proofs.Running.{broken_begins, broken_off, first_begins, first_comes, first_ends, first_is_made, none_from, nothing_begun, second_begins, second_ends, then_second, third_begins, third_comes, third_ends, third_is_release}
+use Rattle.joint_history.proofs.Running.{broken_begins, broken_off, exact_first, exact_later, first_begins, first_comes, first_ends, first_is_made, none_from, nothing_begun, second_begins, second_ends, then_second, third_begins, third_comes, third_ends, third_is_release}
 use Rattle.joint_history.proofs.Turning.{begins_still}
 use Rattle.joint_history.proofs.shared.Shared.run.Goals as goal
 
@@ -123,3 +123,12 @@ returns-clause-begins g c = third_begins c.args.t c.args.index c.args.act.now c.
 
 pub returns-clause-ok : goal.returns-clause-ok
 returns-clause-ok g c = third_ends c.args.t c.args.index c.args.act.now c.args.mine.now.view c.event.new.mine.view c.in_ok-first.first c.in_ok-first.reply c.first_of-start.result c.first_of-start.ensures c.in_ok-first.ensures.ok c.event-2.new.mine.view c.in-Some.next (sym c.second_of.ensures ∙ c.in-Some.is) c.in_ok-second.second c.in_ok-second.answer c.in_ok-second.ensures.ok c.event-3.new.mine.view c.in-Some-third_of.end (sym c.third_of.ensures ∙ c.in-Some-third_of.is) c.in_ok-last.last _ c.in_ok-last.ensures.ok
+
+pub returns-in_default-clause-exact : goal.returns-in_default-clause-exact
+returns-in_default-clause-exact g c = exact_first c.args.t c.args.mine.now.view c.event.new.mine.view c.args.act.now c.first_of-start.result c.in_ok-first.reply c.first_of-start.ensures c.in_ok-first.ensures.exact
+
+pub returns-in_default-third_of-clause-exact : goal.returns-in_default-third_of-clause-exact
+returns-in_default-third_of-clause-exact g c = exact_later c.args.t c.args.mine.now.view c.event-2.new.mine.view c.args.act.now c.in_ok-first.reply c.in-Some.next c.answer_of.result (sym c.second_of.ensures ∙ c.in-Some.is)
+
+pub returns-clause-exact : goal.returns-clause-exact
+returns-clause-exact g c = exact_later c.args.t c.args.mine.now.view c.event-3.new.mine.view c.args.act.now c.in_ok-first.reply c.in-Some.next c.in_ok-second.answer (sym c.second_of.ensures ∙ c.in-Some.is)

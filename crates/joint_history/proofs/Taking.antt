@@ -1,1 +1,0 @@
--- A take is a managed thread's, and an event of the managed side.
