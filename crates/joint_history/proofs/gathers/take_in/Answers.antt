@@ -1,6 +1,6 @@
 use Rattle.std.proofs.Common.{[], ◌∷◌, sym, subst}
 use Rattle.joint_model.specs.Histories.{entry_lists}
-use Rattle.joint_history.specs.Callers.{Pass}
+use Rattle.joint_history.specs.Callers.{Pass, reads_of}
 use Rattle.joint_history.specs.Ending.{GathersAll, HasIdleDriver, TakesOwn, with_reads}
 use Rattle.joint_history.proofs.Ended.{takes_one}
 use Rattle.joint_history.proofs.Gathering.{caller_at_rest, gathers_one}
@@ -20,6 +20,6 @@ returns-clause-gathers g c =
 
 pub returns-clause-own : goal.returns-clause-own
 returns-clause-own g c =
-    let p : Pass = record { thread = c.pass.inside.thread; view = c.pass.inside.seat.view; reads = c.pass.inside.reads } in
+    let p : Pass = record { thread = c.pass.inside.thread; view = c.pass.inside.seat.view; reads = reads_of c.pass.inside.thread c.pass.inside.reads } in
     subst (λ (q : Pass). TakesOwn c.args.seat.now.view c.learn.new.seat.view (q ∷ [])) c.pass.view_is
     (takes_one p c.args.seat.now.view c.learn.new.seat.view c.pass.invariant.0 c.pass.invariant.2 c.learn.ensures.takes)
