@@ -3,6 +3,8 @@ use Rattle.std.specs.Prelude.{◌≡◌, ◌⊎◌, ℕ, List, [], ◌∷◌, �
 use Rattle.joint_model.specs.declared.names.Thread.{Thread}
 use Rattle.joint_model.specs.declared.lines.Act.{Act}
 use Rattle.joint_model.specs.Histories.{Finished}
+use Rattle.joint_model.specs.Linked.{IsLinkedBy, opening_linkage, replayed}
+use Rattle.joint_model.specs.Told.{Noted}
 use Rattle.bridge_script.specs.declared.faults.ScriptFault.{ScriptFault}
 use Rattle.bridge_script.specs.Causes.{fault_text}
 use Rattle.byte_streams.specs.Streams.{Rose}
@@ -18,8 +20,8 @@ use Rattle.generated_laws.specs.Counts.{generated_tally}
 use Rattle.run_laws.specs.Final.{IsRunInOrder, IsRunByThreads}
 use Rattle.run_laws.specs.LastCycle.{IsRunThenCycle, cycle_line}
 use Rattle.run_summary.specs.Summary.{summary_text}
-use Rattle.run_summary.specs.Tallies.{tally_of}
 use Rattle.script_generator.specs.Generated.{generated}
+use Rattle.summary_laws.specs.States.{tally_in}
 
 -- the words, as bytes, are a command
 abbrev pub IsCommand : List (List ℕ) → Type 0
@@ -43,10 +45,11 @@ abbrev pub IsGeneratedRunIn : Mode → List (Thread × Act) → Finished → Typ
 IsGeneratedRunIn mode.Serial script history = IsRunInOrder (script ++ cycle_line ∷ []) history × IsRunThenCycle script history
 IsGeneratedRunIn mode.Threads script history = IsRunThenCycle script history
 
--- the history of the run of a seed's and a size's script in a mode; its tally is a function of the seed and the size, in either mode
+-- the history of the run of a seed's and a size's script in a mode. The numbers of the state after its last entry, what was made and what is left, are a
+-- function of the seed and the size, the same in either mode
 pub record IsGeneratedRunOf (asked : Mode) (seed size : ℕ) (history : Finished) : Type 0 where
   pub run : IsGeneratedRunIn asked (generated seed size) history
-  pub alike : tally_of history.entries ≡ generated_tally seed size
+  pub last : (noted : List Noted) → IsLinkedBy history noted → tally_in (replayed opening_linkage noted) ≡ generated_tally seed size
 
 -- In what follows `Put` says what was done with the text that is due: all of it was appended to what the sink held, or a beginning. Where a source or a
 -- sink tells no bytes, as a process's own streams, what is said of bytes says nothing.
@@ -81,8 +84,8 @@ pub record ReportPut (words : List (List ℕ)) (left rest : Option (List ℕ)) (
   pub command : AreWordsOf words (command.Run asked)
   pub put : RunPut asked left rest Put
 
--- a summary is due where the words ask for a script to be made: nothing was read, and the summary is that of a history of its run in that mode, with one
--- cycle more
+-- a summary is due where the words ask for a script to be made: nothing was read, and the text has the numbers of the last state of a history of its run
+-- in that mode, with one cycle more
 pub record SummaryPut (words : List (List ℕ)) (left rest : Option (List ℕ)) (Put : List ℕ → Type 0) : Type 0 where
   pub seed : ℕ
   pub size : ℕ
@@ -91,7 +94,7 @@ pub record SummaryPut (words : List (List ℕ)) (left rest : Option (List ℕ)) 
   pub unread : rest ≡ left
   pub history : Finished
   pub run : IsGeneratedRunOf asked seed size history
-  pub text : Put (summary_text seed size asked (length (generated seed size)) (tally_of history.entries))
+  pub text : Put (summary_text seed size asked (length (generated seed size)) (generated_tally seed size))
 
 -- a report or a summary was put
 abbrev pub ResultPut : List (List ℕ) → Option (List ℕ) → Option (List ℕ) → (List ℕ → Type 0) → Type 0
