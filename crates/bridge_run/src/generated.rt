@@ -2,6 +2,7 @@
 
 ghost use Rattle.std.specs.Prelude.{◌≡◌, ◌≤◌, ◌⊎◌, IfOk, length};
 ghost use Rattle.std.specs.Io.KnownBytes.{Appends, Keeps};
+ghost use Rattle.generated_laws.specs.Counts.{generated_tally};
 ghost use Rattle.bridge_run.specs.Top.{IsGeneratedRunIn, IsGeneratedRunOf};
 ghost use Rattle.byte_streams.specs.Streams.{AppendsPart, Rose};
 ghost use Rattle.joint_history.specs.Ending.{HasEndNumbers};
@@ -24,9 +25,9 @@ use std::sync::Wait;
 use std::thread::Threads;
 use summary_laws::tallies_are_of_states;
 
-/// Makes the script of a seed and a size, runs it in that mode and one cycle more once all threads have ended, and writes the summary of that run.
+/// Makes the script of a seed and a size, runs it in that mode and one cycle more once all threads have ended, and writes the summary of that run's last state.
 /// Answers the program's exit status: 0, 4 where the sink failed, or 5 where there was no memory, and nothing is written then.
-#[tactic(auto, using(crate::proofs::Alike::runs_alike))]
+#[tactic(auto, using(crate::proofs::Alike::all_of_last, crate::proofs::Alike::part_of_last))]
 pub fn print_generated<R: Threads + Wait + Sync, K: Sink, T: Turnstile + Sync>(
     rt: &R,
     alloc: Global,
@@ -37,9 +38,9 @@ pub fn print_generated<R: Threads + Wait + Sync, K: Sink, T: Turnstile + Sync>(
     turn: &T,
 ) -> u8
     requires { size ≤ 2800 }
-    ensures done { result ≡ 0 → (h : Finished) × IsGeneratedRunOf mode seed size h × Appends (K.held out.old) (K.held out.new) (summary_text seed size mode (length (generated seed size)) (tally_of h.entries)) }
+    ensures done { result ≡ 0 → (h : Finished) × IsGeneratedRunOf mode seed size h × Appends (K.held out.old) (K.held out.new) (summary_text seed size mode (length (generated seed size)) (generated_tally seed size)) }
     ensures write { result ≡ 4 → Rose (K.faults out.old) (K.faults out.new) }
-    ensures part { result ≡ 4 → (h : Finished) × IsGeneratedRunOf mode seed size h × AppendsPart (K.held out.old) (K.held out.new) (summary_text seed size mode (length (generated seed size)) (tally_of h.entries)) }
+    ensures part { result ≡ 4 → (h : Finished) × IsGeneratedRunOf mode seed size h × AppendsPart (K.held out.old) (K.held out.new) (summary_text seed size mode (length (generated seed size)) (generated_tally seed size)) }
     ensures memory { result ≡ 5 → Keeps (K.held out.old) (K.held out.new) }
     ensures status { (result ≡ 0) ⊎ (result ≡ 4) ⊎ (result ≡ 5) }
 {

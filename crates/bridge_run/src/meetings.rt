@@ -33,20 +33,121 @@ impl Turnstile for Meeting {
     }
 }
 
+// The words, the script, and how what is written ends, of runs in which one managed and one peer thread have lines.
+const MEETINGS: [(&[&str], &[u8], &[u8]); 2] = [
+    (THREADS, b"m1 new a plain 0\np1 new a 0\n", b"end 2\n"),
+    (
+        &["gen", "--seed", "2", "--size", "2", "--mode", "threads"],
+        b"",
+        b"live managed 2 peers 1 handles 1\n",
+    ),
+];
+
 #[test]
 fn two_threads_meet(rt: HostRuntime) -> Result<(), Fail> {
     let alloc = rt.alloc();
-    let meeting = Meeting {
-        managed: AtomicU64::new(0),
-        peer: AtomicU64::new(0),
-        missed: AtomicU64::new(0),
+    for (words, text, end) in &MEETINGS {
+        let meeting = Meeting {
+            managed: AtomicU64::new(0),
+            peer: AtomicU64::new(0),
+            missed: AtomicU64::new(0),
+        };
+        let words = words_of(alloc, words)?;
+        let mut source = PlainSource::new(text.to_vec(alloc)?);
+        let mut out = ByteSink::new(alloc, 100, Vec::new(alloc));
+        let status = bridge_main(&rt, alloc, &words, &mut source, &mut out, &meeting);
+        let missed = meeting.missed.load(Ordering::SeqCst);
+        // (a run that never comes to the turnstile misses nobody)
+        let managed = meeting.managed.load(Ordering::SeqCst);
+        let peer = meeting.peer.load(Ordering::SeqCst);
+        assert!(rt; status == 0 && missed == 0 && managed == 1 && peer == 1);
+        assert!(rt; out.bytes().ends_with(end));
+    }
+    Ok(())
+}
+
+// A turnstile that notes which thread came to it for which line, and whether one came for another line or out of its order.
+#[derive(Drop)]
+struct Passes {
+    seen: AtomicU64,
+    wrong: AtomicU64,
+}
+
+impl Turnstile for Passes {
+    fn pass(&self, thread: Thread, line: u32) {
+        let (own, before) = match (thread, line) {
+            (Thread::M(1), 1) => (1, 0),
+            (Thread::P(1), 2) => (2, 0),
+            (Thread::C, 3) => (4, 0),
+            (Thread::M(1), 4) => (8, 1),
+            (Thread::C, 5) => (16, 4),
+            _ => {
+                self.wrong.store(1, Ordering::SeqCst);
+                return;
+            }
+        };
+        let seen = self.seen.fetch_or(own, Ordering::SeqCst);
+        if seen & own != 0 || seen & before != before {
+            self.wrong.store(1, Ordering::SeqCst);
+        }
+    }
+}
+
+#[test]
+fn each_line_has_its_turn(rt: HostRuntime) -> Result<(), Fail> {
+    let alloc = rt.alloc();
+    let passes = Passes {
+        seen: AtomicU64::new(0),
+        wrong: AtomicU64::new(0),
     };
     let words = words_of(alloc, THREADS)?;
-    let mut source = PlainSource::new(b"m1 new a plain 0\np1 new a 0\n".to_vec(alloc)?);
+    let mut source = PlainSource::new(
+        b"m1 drop a\np1 drop a\nc snap\nm1 drop b\nc contract\n".to_vec(alloc)?,
+    );
     let mut out = ByteSink::new(alloc, 100, Vec::new(alloc));
-    let status = bridge_main(&rt, alloc, &words, &mut source, &mut out, &meeting);
-    let missed = meeting.missed.load(Ordering::SeqCst);
-    assert!(rt; status == 0 && missed == 0 && out.bytes().ends_with(b"end 2\n"));
+    let status = bridge_main(&rt, alloc, &words, &mut source, &mut out, &passes);
+    let seen = passes.seen.load(Ordering::SeqCst);
+    let wrong = passes.wrong.load(Ordering::SeqCst);
+    assert!(rt; status == 0 && seen == 31 && wrong == 0);
+    Ok(())
+}
+
+// A turnstile at which the managed thread waits for its first line until the peer thread has come to its second one, and the peer thread for its first
+// until the managed one has come; for so many turns at most.
+#[derive(Drop)]
+struct PeerFirst {
+    managed: AtomicU64,
+    peer: AtomicU64,
+}
+
+impl Turnstile for PeerFirst {
+    fn pass(&self, thread: Thread, line: u32) {
+        let (mine, other, wanted) = match thread {
+            Thread::M(_) => (&self.managed, &self.peer, 3),
+            Thread::P(_) => (&self.peer, &self.managed, 1),
+            Thread::C => return,
+        };
+        mine.store(line as u64, Ordering::SeqCst);
+        for _ in 0..200_000_000u32 {
+            if other.load(Ordering::SeqCst) >= wanted {
+                return;
+            }
+        }
+    }
+}
+
+#[test]
+fn a_turn_comes_before_its_line(rt: HostRuntime) -> Result<(), Fail> {
+    let alloc = rt.alloc();
+    let turn = PeerFirst {
+        managed: AtomicU64::new(0),
+        peer: AtomicU64::new(0),
+    };
+    let words = words_of(alloc, THREADS)?;
+    let mut source = PlainSource::new(b"m1 new a plain 0\np1 new a 0\np1 drop a\n".to_vec(alloc)?);
+    let mut out = ByteSink::new(alloc, 100, Vec::new(alloc));
+    let status = bridge_main(&rt, alloc, &words, &mut source, &mut out, &turn);
+    assert!(rt; status == 0 && out.bytes().starts_with(b"0 p1.2 new a 0 = p1\n"));
     Ok(())
 }
 

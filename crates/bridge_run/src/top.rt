@@ -8,7 +8,7 @@ ghost use Rattle.std.specs.Io.KnownBytes.{Appends, Keeps};
 ghost use Rattle.byte_streams.specs.Streams.{Rose, AppendsPart};
 ghost use Rattle.history_report.specs.Report.{report};
 ghost use Rattle.joint_model.specs.Histories.{Finished};
-ghost use Rattle.bridge_run.specs.Top.{BrokeOff, IsCommand, IsRunIn, MayGenerate, MayRun, Printed, ReadsScript, RefusedText, Refuses, RunPart, RunPrinted, usage_text};
+ghost use Rattle.bridge_run.specs.Top.{FaultPut, IsCommand, IsRunIn, MayGenerate, MayRun, ReadsScript, RefusalPut, ResultPut, RunPut, TextPut, UsagePut, usage_text};
 
 use crate::generated::print_generated;
 use crate::statuses::{DONE, NO_MEMORY, READ_FAULT, REFUSED, USAGE, WRITE_FAULT};
@@ -36,14 +36,14 @@ pub fn bridge_main<R: Threads + Wait + Sync, S: Source, K: Sink, T: Turnstile + 
     out: &mut K,
     turn: &T,
 ) -> u8
-    ensures printed { result ≡ 0 → Printed (map string_bytes words.now.items) (S.left src.old) (S.left src.new) (K.held out.old) (K.held out.new) }
-    ensures usage { result ≡ 1 → (IsCommand (map string_bytes words.now.items) → ⊥) × Appends (K.held out.old) (K.held out.new) usage_text }
+    ensures printed { result ≡ 0 → ResultPut (map string_bytes words.now.items) (S.left src.old) (S.left src.new) (Appends (K.held out.old) (K.held out.new)) }
+    ensures usage { result ≡ 1 → UsagePut (map string_bytes words.now.items) (Appends (K.held out.old) (K.held out.new)) }
     ensures no_command { (IsCommand (map string_bytes words.now.items) → ⊥) → (result ≡ 1) ⊎ (result ≡ 4) }
     ensures untouched { (ReadsScript (map string_bytes words.now.items) → ⊥) → (S.left src.new ≡ S.left src.old) × (S.faults src.new ≡ S.faults src.old) }
     ensures read { result ≡ 2 → Rose (S.faults src.old) (S.faults src.new) × Keeps (K.held out.old) (K.held out.new) }
-    ensures refused { result ≡ 3 → Refuses (S.left src.old) (S.left src.new) (K.held out.old) (K.held out.new) }
+    ensures refused { result ≡ 3 → RefusalPut (map string_bytes words.now.items) (S.left src.old) (S.left src.new) (Appends (K.held out.old) (K.held out.new)) }
     ensures write { result ≡ 4 → Rose (K.faults out.old) (K.faults out.new) }
-    ensures part { result ≡ 4 → BrokeOff (map string_bytes words.now.items) (S.left src.old) (S.left src.new) (K.held out.old) (K.held out.new) }
+    ensures part { result ≡ 4 → TextPut (map string_bytes words.now.items) (S.left src.old) (S.left src.new) (AppendsPart (K.held out.old) (K.held out.new)) }
     ensures memory { result ≡ 5 → Keeps (K.held out.old) (K.held out.new) }
     ensures complete { MayRun (map string_bytes words.now.items) (S.left src.old) (S.faults src.old) (S.faults src.new) (K.faults out.old) (K.faults out.new) → (result ≡ 0) ⊎ (result ≡ 5) }
     ensures generated { MayGenerate (map string_bytes words.now.items) (K.faults out.old) (K.faults out.new) → (result ≡ 0) ⊎ (result ≡ 5) }
@@ -81,11 +81,11 @@ fn print_script<R: Threads + Wait + Sync, S: Source, K: Sink, T: Turnstile + Syn
     out: &mut K,
     turn: &T,
 ) -> u8
-    ensures done { result ≡ 0 → RunPrinted mode (S.left src.old) (S.left src.new) (K.held out.old) (K.held out.new) }
+    ensures done { result ≡ 0 → RunPut mode (S.left src.old) (S.left src.new) (Appends (K.held out.old) (K.held out.new)) }
     ensures read { result ≡ 2 → Rose (S.faults src.old) (S.faults src.new) × Keeps (K.held out.old) (K.held out.new) }
-    ensures refused { result ≡ 3 → Refuses (S.left src.old) (S.left src.new) (K.held out.old) (K.held out.new) }
+    ensures refused { result ≡ 3 → FaultPut (S.left src.old) (S.left src.new) (Appends (K.held out.old) (K.held out.new)) }
     ensures write { result ≡ 4 → Rose (K.faults out.old) (K.faults out.new) }
-    ensures part { result ≡ 4 → RefusedText (S.left src.old) (S.left src.new) (K.held out.old) (K.held out.new) ⊎ RunPart mode (S.left src.old) (S.left src.new) (K.held out.old) (K.held out.new) }
+    ensures part { result ≡ 4 → FaultPut (S.left src.old) (S.left src.new) (AppendsPart (K.held out.old) (K.held out.new)) ⊎ RunPut mode (S.left src.old) (S.left src.new) (AppendsPart (K.held out.old) (K.held out.new)) }
     ensures memory { result ≡ 5 → Keeps (K.held out.old) (K.held out.new) }
     ensures complete { (script : List (Thread × Act)) (input : List ℕ) → S.left src.old ≡ Some input → IsText input script → (Rose (S.faults src.old) (S.faults src.new) → ⊥) → (Rose (K.faults out.old) (K.faults out.new) → ⊥) → (result ≡ 0) ⊎ (result ≡ 5) }
     ensures status { (result ≡ 0) ⊎ ((2 ≤ result) × (result ≤ 5)) }

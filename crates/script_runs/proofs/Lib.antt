@@ -9,3 +9,4 @@ pub mod Ran
 pub mod Desked
 pub mod Last
 pub mod Runnable
+pub mod Ordered

@@ -1,10 +1,12 @@
 -- Which lines can be run, and what running them makes.
-use Rattle.std.specs.Prelude.{◌≡◌, ℕ, ◌≤◌, if◌then◌else◌, List, [], ◌∷◌, ◌++◌, All, Contains, Result, IfOk, length, Some, slice_get}
+use Rattle.std.specs.Prelude.{◌≡◌, ℕ, ◌≤◌, ◌⊎◌, if◌then◌else◌, List, [], ◌∷◌, ◌++◌, All, Contains, Result, IfOk, length, map, Some, slice_get}
 use mathlib.Core.List.{IsPrefix}
 use Rattle.joint_model.specs.declared.names.Thread.{Thread}
 use Rattle.joint_model.specs.declared.names.Thread.TheVariants.{C}
 use Rattle.joint_model.specs.declared.lines.Act.{Act}
 use Rattle.joint_model.specs.declared.events.Entry.{Entry}
+use Rattle.joint_model.specs.Components.{Rises}
+use Rattle.joint_model.specs.Control.{caller_place}
 use Rattle.joint_model.specs.Lines.{IsDriver, IsLine, IsPeerThread}
 use Rattle.joint_model.specs.PeerReplay.{is_thread}
 use Rattle.order_table.specs.declared.views.View.{View}
@@ -16,7 +18,7 @@ use Rattle.bridge_cycle.specs.Progress.{Progress, pass_of, line_of}
 use Rattle.script_laws.specs.Holding.{Standing, standing_after, AreLine, AreLeft, numbered_from}
 use Rattle.run_laws.specs.LastCycle.{HasHeardOf}
 use Rattle.run_laws.specs.Serial.{CallerAdds, AreOthers, IsRunSoFar}
-use Rattle.run_laws.specs.Threads.{HoldsItsLines}
+use Rattle.run_laws.specs.Threads.{HoldsItsLines, thread_lines}
 
 -- a line of a script that can be run: one of a peer thread is one event or a collect
 pub record IsRunnable (line : Thread × Act) : Type 0 where
@@ -68,6 +70,15 @@ pub record DriverIsFirst (callers : List Pass) : Type 0 where
   pub all : callers ≡ driver ∷ others
   pub is_driver : driver.thread ≡ C
   pub others_are : (p : Pass) → Contains others p → IsDriver p.thread → ⊥
+
+-- the thread has a line
+abbrev pub HasLine : List (Thread × Act) → Thread → Type 0
+HasLine script t = thread_lines t script ≡ [] → ⊥
+
+-- the callers stand in the order of their places, c, m1 to m8 and p1 to p8, and each but the driver's is that of a thread that has a line
+pub record AreWorkers (script : List (Thread × Act)) (callers : List Pass) : Type 0 where
+  pub rise : Rises (map (λ p. caller_place p.thread) callers)
+  pub each : All (λ p. IsDriver p.thread ⊎ HasLine script p.thread) callers
 
 -- so it is of what a thread ends with, unless it found no memory
 abbrev pub EndsSo : {E : Type 0} → List (Thread × Act) → Pass → Result Pass E → Type 0

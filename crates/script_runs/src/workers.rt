@@ -1,13 +1,13 @@
 // The callers of a run, and what each does with its thread's lines.
 
-ghost use Rattle.std.specs.Prelude.{◌≡◌, ℕ, ◌≤◌, ◌<◌, false, [], All, IfOk, OnOk};
+ghost use Rattle.std.specs.Prelude.{◌≡◌, ℕ, ◌≤◌, ◌<◌, false, true, [], All, IfOk, OnOk};
 ghost use Rattle.joint_model.specs.Lines.{IsThread};
 ghost use Rattle.joint_model.specs.declared.names.Thread.TheVariants.{C};
 ghost use Rattle.joint_history.specs.Callers.{KnowsNothing};
 ghost use Rattle.joint_history.specs.Ending.{HasAll};
 ghost use Rattle.joint_history.specs.Operations.{IsOwnThread};
 ghost use Rattle.run_laws.specs.Threads.{NoneIsLeft, thread_lines};
-ghost use Rattle.script_runs.specs.Running.{CanRun, DriverIsFirst, EndsSo};
+ghost use Rattle.script_runs.specs.Running.{AreWorkers, CanRun, DriverIsFirst, EndsSo, HasLine};
 
 use crate::lines::{drive_left, drive_line, run_line};
 use crate::places::{is_thread, thread_at};
@@ -21,7 +21,8 @@ use std::sync::Wait;
 
 // Whether the thread has a line.
 fn has_line(script: &[(Thread, Act)], t: Thread) -> bool
-    ensures { result ≡ false → thread_lines t script.now ≡ [] }
+    ensures some { result ≡ true → HasLine script.now t }
+    ensures none { result ≡ false → thread_lines t script.now ≡ [] }
 {
     for line in script {
         if is_thread(t, line.0) {
@@ -44,6 +45,7 @@ pub(crate) fn workers<N: OrderName>(
     ensures none { OnOk result (NoneIsLeft script.now desk.new) }
     ensures new { IfOk result (λ v. All (λ p. IsThread p.thread × KnowsNothing p.view) v.items) }
     ensures driver { IfOk result (λ v. DriverIsFirst v.items) }
+    ensures workers { IfOk result (λ v. AreWorkers script.now v.items) }
 {
     let mut callers = Vec::new(alloc);
     let Some(driver) = desk.caller(Thread::C) else {

@@ -15,6 +15,7 @@ use Rattle.worked_histories.specs.PeerMarking.{peer_marking, PeerMarkingHolds}
 use Rattle.worked_histories.specs.PendingRead.{pending_read, PendingReadHolds}
 use Rattle.worked_histories.specs.PlainBetween.{plain_between, PlainBetweenHolds}
 use Rattle.worked_histories.specs.PlainObject.{plain_object, PlainObjectHolds}
+use Rattle.worked_histories.specs.RareAnswers.{answers_while_open, framework_twin, begun_before_restore, RareAnswersHold}
 use Rattle.worked_histories.specs.Refusals.{refusals, RefusalsHold}
 use Rattle.worked_histories.specs.Resurrected.{resurrected, ResurrectedHolds}
 use Rattle.worked_histories.specs.TwoMarkings.{two_markings, TwoMarkingsHold}
@@ -54,6 +55,13 @@ plain_between-holds = worked plain_between ([] ∷ []) refl
 
 pub plain_object-holds : PlainObjectHolds
 plain_object-holds = worked plain_object ([] ∷ []) refl
+
+pub rare_answers-hold : RareAnswersHold
+rare_answers-hold = record {
+  while_open = worked answers_while_open ([] ∷ []) refl;
+  without_fields = worked framework_twin [] refl;
+  before_restore = worked begun_before_restore ((1 ∷ []) ∷ [] ∷ []) refl;
+}
 
 pub refusals-holds : RefusalsHold
 refusals-holds = worked refusals ([] ∷ []) refl

@@ -5,3 +5,4 @@ mod PairGraphs
 mod Places
 mod FreeingOne
 mod GapExamples
+mod Unsound

@@ -27,3 +27,6 @@ pub mod Wholes
 pub mod Broken
 pub mod Lines
 pub mod Gaps
+pub mod Refused
+pub mod RareAnswers
+pub mod Unsound

@@ -11,6 +11,7 @@ ghost use Rattle.worked_histories.specs.PeerMarking.{PeerMarkingHolds};
 ghost use Rattle.worked_histories.specs.PendingRead.{PendingReadHolds};
 ghost use Rattle.worked_histories.specs.PlainBetween.{PlainBetweenHolds};
 ghost use Rattle.worked_histories.specs.PlainObject.{PlainObjectHolds};
+ghost use Rattle.worked_histories.specs.RareAnswers.{RareAnswersHold};
 ghost use Rattle.worked_histories.specs.Refusals.{RefusalsHold};
 ghost use Rattle.worked_histories.specs.Resurrected.{ResurrectedHolds};
 ghost use Rattle.worked_histories.specs.SideLists.{OneObjectSidesHold};
@@ -89,4 +90,9 @@ pub fn one_object_is_freed_in_time()
 /// What threads are answered while a marking or a cycle of another is open.
 pub fn two_markings_is_lawful()
     ensures { TwoMarkingsHold }
+{}
+
+/// Answers that the other histories don't have.
+pub fn rare_answers_are_lawful()
+    ensures { RareAnswersHold }
 {}

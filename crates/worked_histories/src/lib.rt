@@ -12,6 +12,7 @@ mod gaps;
 mod graphs;
 mod histories;
 mod readings;
+mod refused;
 mod runs;
 
 pub use broken::{
@@ -22,7 +23,8 @@ pub use further::{
     abandoned_is_lawful, ended_marking_is_lawful, global_names_is_lawful, held_peer_is_lawful,
     moved_peer_is_lawful, one_object_has_two_lists, one_object_is_freed_in_time,
     one_object_is_lawful, peer_marking_is_lawful, pending_read_is_lawful, plain_between_is_lawful,
-    plain_object_is_lawful, refusals_is_lawful, resurrected_is_lawful, two_markings_is_lawful,
+    plain_object_is_lawful, rare_answers_are_lawful, refusals_is_lawful, resurrected_is_lawful,
+    two_markings_is_lawful,
 };
 pub use gaps::{
     begins_in_gaps, collections_in_gaps, drops_in_gaps, reads_in_gaps, stores_in_gaps,
@@ -37,6 +39,9 @@ pub use histories::{
 };
 pub use readings::{
     own_cell_is_set, pending_reads_by_readers, pending_reads_end, pinned_reads_by_readers,
+};
+pub use refused::{
+    early_freeing_is_unsound, left_garbage_is_incomplete, unlawful_entries_are_refused,
 };
 pub use runs::{
     cycle_across_both_heaps_run, disposed_and_surfaced_object_run, field_emptied_in_a_marking_run,

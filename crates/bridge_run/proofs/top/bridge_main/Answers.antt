@@ -1,3 +1,5 @@
+use Rattle.std.proofs.Common.{inr, refl, subst, map, string_bytes}
+use Rattle.command_words.specs.Commands.{AreWordsOf}
 use Rattle.command_words.specs.declared.commands.Command.TheVariants as command
 use Rattle.bridge_run.proofs.top.bridge_main.Goals as goal
 
@@ -7,3 +9,16 @@ returns-in-None-clause-generated g c = λ m. absurd (c.in-None.ensures (command.
 
 pub returns-in-None-clause-complete : goal.returns-in-None-clause-complete
 returns-in-None-clause-complete g c = λ m. absurd (c.in-None.ensures (command.Run m.command.0) m.command.1)
+
+-- a summary of which a beginning was put
+pub returns-in-Some-Generate-clause-part : goal.returns-in-Some-Generate-clause-part
+returns-in-Some-Generate-clause-part g c = λ e. let p = c.print_generated.ensures.part e in inr (inr (inr record {
+  seed = c.in-Some-Generate.seed;
+  size = c.in-Some-Generate.size;
+  asked = c.in-Some-Generate.mode;
+  command = subst (AreWordsOf (map string_bytes c.args.words.now.items)) c.in-Some-Generate.field-0-is c.in-Some-Generate.ensures;
+  unread = refl;
+  history = p.0;
+  run = p.1;
+  text = p.2;
+}))

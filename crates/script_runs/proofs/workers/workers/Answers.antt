@@ -6,8 +6,9 @@ use Rattle.joint_model.specs.Lines.{IsThread}
 use Rattle.joint_history.specs.Callers.{KnowsNothing, Pass}
 use Rattle.joint_history.specs.Desks.{Waiting, without_caller}
 use Rattle.run_laws.specs.Threads.{thread_lines}
-use Rattle.script_runs.specs.Running.{DriverIsFirst}
+use Rattle.script_runs.specs.Running.{DriverIsFirst, HasLine}
 use Rattle.script_runs.proofs.Desked.{NoneIsLeftBelow, Working, all_asked, driver_alone, driver_waits, given_out, nobody_asked, not_there, others_stay, passed_over}
+use Rattle.script_runs.proofs.Ordered.{InOrder, first_in_order, next_in_order, passed_in_order}
 use Rattle.script_runs.proofs.workers.workers.Goals as goal
 use Rattle.script_runs.proofs.workers.workers.Goals.{then-has_line+in-Some-caller+in_ok-push-2, then-has_line+in_default-caller, else-has_line}
 
@@ -16,7 +17,7 @@ unreachable-requires g c = driver_waits c.args.desk.now c.requires.all (sym c.ca
 
 -- what the loop keeps
 abbrev Kept : (script : List (Thread × Act)) → Waiting → List Pass → ℕ → Type 0
-Kept script d ps n = Working script d ps n × DriverIsFirst ps × (1 ≤ n)
+Kept script d ps n = Working script d ps n × DriverIsFirst ps × (1 ≤ n) × InOrder script ps n
 
 pub loop-place-init : goal.loop-place-init
 loop-place-init g c =
@@ -29,6 +30,7 @@ loop-place-init g c =
       given_out script d c.caller.new.self [] 0 (omega arith) w c.caller.result p c.caller.ensures.desk c.caller.ensures.all c.in-Some.is c.in-Some.ensures.thread c.in-Some.ensures.nothing,
       driver_alone p c.in-Some.ensures.thread,
       omega arith,
+      first_in_order script p c.in-Some.ensures.thread,
     )
 
 pub loop-place-preserved : goal.loop-place-preserved
@@ -49,6 +51,7 @@ loop-place-preserved g c =
                 (w.in-Some-caller.ensures.thread ∙ t) w.in-Some-caller.ensures.nothing,
             others_stay ps p n i.2 c.loop-place-test.true (w.in-Some-caller.ensures.thread ∙ t) i.1,
             next,
+            next_in_order script ps p n c.loop-place-test.true (w.in-Some-caller.ensures.thread ∙ t) (subst (HasLine script) t (c.has_line.ensures.some w.if-has_line.true)) i.3,
           ))
       | then-has_line+in_default-caller w ↦
           subst (λ (z : Waiting). Kept script z c.if-has_line.callers.items (n + 1)) (sym w.desk-is)
@@ -56,13 +59,15 @@ loop-place-preserved g c =
             not_there script d w.caller-then-has_line.new.self ps n c.loop-place-test.true i.0 w.caller-then-has_line.result (w.caller-then-has_line.ensures.desk ∙ ap (without_caller d) t) w.caller-then-has_line.ensures.all w.in_default-caller.is,
             i.1,
             next,
+            passed_in_order script ps n i.3,
           ))
       | else-has_line w ↦
           subst (λ (z : Waiting). Kept script z c.if-has_line.callers.items (n + 1)) (sym w.desk-is)
           (subst (λ qs. Kept script d qs (n + 1)) (sym (ap (λ v. v.items) w.callers-is)) (
-            passed_over script d d ps n c.loop-place-test.true i.0 (subst (λ u. thread_lines u script ≡ []) t (c.has_line.ensures w.if-has_line.false)),
+            passed_over script d d ps n c.loop-place-test.true i.0 (subst (λ u. thread_lines u script ≡ []) t (c.has_line.ensures.none w.if-has_line.false)),
             i.1,
             next,
+            passed_in_order script ps n i.3,
           ))
     ]
 
