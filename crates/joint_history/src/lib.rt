@@ -5,6 +5,7 @@
 //     Order::new, Shared::new                        both sides without objects, and the desk at which a caller waits for each thread and for the driver
 //       Desk::caller                                 a thread's caller, given out once; whoever has it makes the thread's entries
 //         Shared::managed, peer                      an operation of the caller's thread: its events, one after another
+//         Shared::read_now, read_wait                a weak read of a managed thread, without a lock; `spare` and `reserve` are its room
 //         Shared::snap, contracted, mirror, weaken,
 //         mark, sweep, restore, clear, resolve       an event of a cycle, by the driver's caller
 //         Shared::abandon, refused, finalise         what else the driver does
@@ -18,19 +19,20 @@
 // How the sides are kept is a parameter: behind two locks where threads share them (`Locks`), or in two cells where one thread has them alone and so pays
 // for no lock (`Alone`). What is promised is the same.
 //
-// Who runs meanwhile: anybody who has a caller. Each event is made in one hold of its own side, no call holds both, and between two events of an
-// operation others may come.
+// Who runs meanwhile: anybody who has a caller. Each event is made in one hold of its own side, but for the two reads, which hold none; no call holds both,
+// and between two events of an operation others may come. A snapshot closes the gate, through which readers go, and is tried again while one is inside.
 //
 // What is promised: each call makes just its entries, each of which may come where it stands and has a number above all that its caller knew; without memory
 // it makes none, or the first of two alone. The finished history is linked, has all notices that were ever queued, and has of each caller just what
 // that one made. That a waiting call goes on is not promised.
 //
-// Each seat of the order knows a beginning of each side's list and of each caller's own entries. The one fact that every type here keeps of
+// Each seat of the order knows a beginning of each side's list, of each reader's and of each caller's own entries. The one fact that every type here keeps of
 // its seat is that these lines are those of a lawful past: a list of entries, each of which may come after those behind it. So whatever a
-// lawful past keeps holds under each lock and for each caller, although no lock covers both sides, and nothing has to be proved of threads.
+// lawful past keeps holds under each lock and for each caller, although no lock covers both sides, and nothing has to be proved of threads. That this
+// stays so as seats go on is said by the laws of `view_laws`. Every seat that is kept between calls is settled: it owes no store of a word.
 //
-// `specs/` read alone tells what is true: Knowing first, then Passing, Callers, Locked, SeatFacts and Desks, then Operations, Collecting and
-// Driven with the other files of the driver, and last Ending.
+// `specs/` read alone tells what is true: Knowing first, then Callers, Locked, SeatFacts and Desks, then Operations, Collecting and
+// Driven with the other files of the driver, and last Ending; and of `view_laws` Knowing, of `seat_calls` Passing, of `weak_wait` Reads.
 #![tactic(auto)]
 
 mod callers;

@@ -4,7 +4,7 @@
 // number, no two have the same, and together they have the numbers from 0 on. The number comes from one word, the sequencer, by one atomic add
 // for each entry. This crate has that word, and says what a thread may conclude from the numbers that it has seen.
 //
-// A thread holds seats. A seat exists for contracts, which see its view; of bytes it has two. What a view is made of are lines. A line is the list
+// A thread holds seats. A seat exists for contracts, which see its view; it takes no bytes. What a view is made of are lines. A line is the list
 // of a role (of the managed side, of the peer side, or of one of eight readers), or the list of a caller's own entries, in whatever role's list
 // they stand. A seat knows a beginning of each line. It owns some lines: a seat that owns a role's line may make entries in that list, one that
 // owns a caller's line holds that caller's pass and may make entries for it. Each line has one owner at most, and its owner knows it whole.
@@ -30,7 +30,7 @@
 //
 // These hold whatever the threads do in between, also where a seat is dropped: nobody can then make entries in the lines that it owned, and the order
 // can't be finished, but what was known of them stays. Each call but `new` takes no memory and waits for nobody: each is one atomic step, `learn` and a refused
-// `enter` are two. That a thread gets on, or that the gate is ever found without readers, is not promised.
+// `enter` are two, `scan_pins` is eight. That a thread gets on, or that the gate is ever found without readers, is not promised.
 //
 // Weak cells are read without a lock. Beside the sequencer the order has the gate, a word for each of 64 cells and one for the pin of each of eight
 // readers. A cell's word is 0 for unset, 1 for gone, and else its object's number and 1; a pin's is 0 or its object's number and 1.
@@ -42,13 +42,13 @@
 //     leave                         the bit is taken out
 //
 //     try_close_gate                the owner of the managed list holds the gate for the next cycle, if no reader is inside
-//       load_pin                    the eight pins, as the snapshot keeps them
+//       scan_pins                   the eight pins, as the snapshot keeps them
 //       append, write_cell          the cycle's entries, and 1 into each cell whose object was freed
 //     open_gate                     once the cycle has ended
 //
 // What readers answer is right, and `finish` says so: `pending` and `unset` by what the reader could know, every other reply by the cells and pins at
-// the entry's own number. Between its entry and its store of a word a seat owes that store, and can neither be cut nor joined. A seat that owes
-// nothing and is outside is settled.
+// the entry's own number. Between its entry and its store of a word a seat owes that store, and can neither be cut nor joined. A seat is settled that owes
+// nothing, is outside, and, if it owns the managed list, holds the gate just while a cycle is open.
 //
 // `specs/` read alone tells what is true: Views, Stages and Owed first, then Rule and Allowed, then Tells, Facts and Replies.
 #![tactic(auto)]

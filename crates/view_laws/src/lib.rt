@@ -1,7 +1,8 @@
 // Laws of what a seat of the order knows: its view is a past, which grows and is joined as the order promises, pins' words stand, and at the end of a run it is a
 // linked history.
 //
-// A law is a function with an empty body, whose clauses are statements of `specs/`. No value is made, and nothing runs.
+// A law is a function with an empty body, whose clauses are statements of `specs/`: Knowing, and ExactReads for reads by the owner of the managed list. No
+// value is made, and nothing runs.
 #![tactic(auto)]
 
 ghost use Rattle.view_laws.specs.ExactReads.{ExactReadsAreReplies};

@@ -10,7 +10,8 @@
 //     store_pin, leave            the object is pinned, and the reader goes outside
 //
 // The life of a reader: `WeakReader::new` makes one of a seat that owns the reader's role and holds its thread's pass. `reserve` makes room for
-// entries, `try_get` and `get` make one each. `into_parts` gives the seat and the entries back, and `of_parts` puts them together again.
+// entries, `try_get` and `get` make one each. `into_parts` gives the seat and the entries back, and `of_parts` puts them together again. `read` and
+// `read_waiting` are the same for whoever has the seat and the list in hand.
 //
 // What is promised: each read makes one entry, whose number is above all that the seat knew, and pins what it answers. `PinHeld` comes exactly where
 // the thread's own entries leave an object in its pin; `Pending` only where the read's own step found the gate held, and never for a cycle that the
