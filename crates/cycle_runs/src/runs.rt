@@ -3,6 +3,7 @@
 ghost use Rattle.std.specs.Prelude.{◌≡◌, ◌≤◌, IfSome};
 ghost use Rattle.joint_model.specs.Lines.{IsLine};
 ghost use Rattle.joint_model.specs.declared.names.Thread.TheVariants.{C, M};
+ghost use Rattle.order_table.specs.Allowed.{Settled};
 ghost use Rattle.order_table.specs.Views.{OwnsAll};
 ghost use Rattle.joint_history.specs.Callers.{KnowsNothing};
 ghost use Rattle.bridge_cycle.specs.Progress.{line_of};
@@ -216,7 +217,7 @@ fn start<N: OrderName>(
 ) -> Result<Option<DrivenBridge<N>>, AllocError>
     requires order { order ≡ N.order }
     requires run { (N.managed ≡ 1) × (N.peers ≡ 1) }
-    requires seat { (seat.order ≡ N.order) × OwnsAll seat.view × KnowsNothing seat.view }
+    requires seat { (seat.order ≡ N.order) × OwnsAll seat.view × KnowsNothing seat.view × Settled seat.view }
 {
     let (shared, mut desk) = Shared::<N, Alone>::new(alloc, order, seat, 1, 1, Holding::Every)?;
     let Some(one) = desk.caller(Thread::M(1)) else {
@@ -243,7 +244,7 @@ fn miss_of<N: OrderName>(
 ) -> Result<Option<Option<usize>>, AllocError>
     requires order { order ≡ N.order }
     requires run { (N.managed ≡ 1) × (N.peers ≡ 1) }
-    requires seat { (seat.order ≡ N.order) × OwnsAll seat.view × KnowsNothing seat.view }
+    requires seat { (seat.order ≡ N.order) × OwnsAll seat.view × KnowsNothing seat.view × Settled seat.view }
 {
     let Some(mut driven) = start::<N>(alloc, order, seat)? else {
         return Ok(None);

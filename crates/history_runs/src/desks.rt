@@ -1,6 +1,7 @@
 // Which callers a desk gives.
 
 ghost use Rattle.std.specs.Prelude.{◌≡◌};
+ghost use Rattle.order_table.specs.Allowed.{Settled};
 ghost use Rattle.order_table.specs.Views.{OwnsAll};
 ghost use Rattle.joint_history.specs.Callers.{KnowsNothing};
 
@@ -37,7 +38,7 @@ fn given<N: OrderName>(
 ) -> Result<Vec<Option<Thread>>, AllocError>
     requires order { order ≡ N.order }
     requires run { (N.managed ≡ 1) × (N.peers ≡ 2) }
-    requires seat { (seat.order ≡ N.order) × OwnsAll seat.view × KnowsNothing seat.view }
+    requires seat { (seat.order ≡ N.order) × OwnsAll seat.view × KnowsNothing seat.view × Settled seat.view }
 {
     let (shared, mut desk) = Shared::<N, Locks>::new(alloc, order, seat, 1, 2, Holding::Every)?;
     let given = given_by(alloc, &mut desk, threads);

@@ -3,6 +3,7 @@
 ghost use Rattle.std.specs.Prelude.{◌≡◌, ◌≤◌, [], All, IfOk, IfSome};
 ghost use Rattle.joint_model.specs.Lines.{IsLine};
 ghost use Rattle.joint_model.specs.declared.names.Thread.TheVariants.{M, P};
+ghost use Rattle.order_table.specs.Allowed.{Settled};
 ghost use Rattle.order_table.specs.Views.{OwnsAll};
 ghost use Rattle.peer_side.specs.Steps.{IsStepLine};
 ghost use Rattle.joint_history.specs.Callers.{KnowsNothing, last_index, own};
@@ -215,7 +216,7 @@ fn run<N: OrderName>(
 ) -> Result<Option<(Vec<Reply>, Vec<Reply>)>, AllocError>
     requires order { order ≡ N.order }
     requires run { (N.managed ≡ 1) × (N.peers ≡ 1) }
-    requires seat { (seat.order ≡ N.order) × OwnsAll seat.view × KnowsNothing seat.view }
+    requires seat { (seat.order ≡ N.order) × OwnsAll seat.view × KnowsNothing seat.view × Settled seat.view }
 {
     let (shared, mut desk) = Shared::<N, Alone>::new(alloc, order, seat, 1, 1, Holding::Every)?;
     match play(rt, alloc, &shared, &mut desk) {

@@ -3,6 +3,7 @@
 
 ghost use Rattle.std.specs.Prelude.{◌≡◌, ◌≤◌, ◌<◌, ℕ, [], All, IfOk, slice_index_or, vec_len};
 ghost use Rattle.joint_model.specs.Lines.{IsManagedAct, IsPeerAct};
+ghost use Rattle.order_table.specs.Allowed.{Settled};
 ghost use Rattle.order_table.specs.Views.{OwnsAll};
 ghost use Rattle.joint_history.specs.Callers.{KnowsNothing, Pass, last_index, own};
 ghost use Rattle.joint_history.specs.Ending.{HasAll, HasIdleDriver};
@@ -219,7 +220,7 @@ fn run<N: OrderName + Send + Sync, R: Threads + Wait + Sync>(
 ) -> Result<History, AllocError>
     requires order { order ≡ N.order }
     requires run { (N.managed ≡ 2) × (N.peers ≡ 2) }
-    requires seat { (seat.order ≡ N.order) × OwnsAll seat.view × KnowsNothing seat.view }
+    requires seat { (seat.order ≡ N.order) × OwnsAll seat.view × KnowsNothing seat.view × Settled seat.view }
 {
     let (shared, mut desk) = Shared::<N, Locks>::new(alloc, order, seat, 2, 2, Holding::Every)?;
     match play(rt, alloc, &shared, &mut desk, lines) {

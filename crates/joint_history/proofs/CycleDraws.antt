@@ -1,6 +1,6 @@
 -- The entries of the driver that open or end a cycle: by what the seat knows they may be made, since its managed list says of the cycles what the side's state has;
 -- and after one the seat owes just the words of the cells whose targets the entry freed, of which the side knows as much.
-use Rattle.std.proofs.Common.{◌≡◌, ℕ, ◌+◌, Bool, true, false, ◌||◌, List, [], ◌∷◌, ◌++◌, map, inl, inr, Option, Some, None, refl, sym, ap, ◌∙◌, subst, arith, true≢false}
+use Rattle.std.proofs.Common.{◌≡◌, ℕ, ◌+◌, Bool, true, false, ◌||◌, List, [], ◌∷◌, ◌++◌, map, inl, inr, Some, None, refl, sym, ap, ◌∙◌, subst, arith, true≢false}
 use Rattle.std.specs.Prelude.{◌↔◌, Contains, nat_eq}
 use Rattle.std.proofs.lemmas.Bool.{both_ways, cases_Bool}
 use mathlib.Core.List.{IsPrefix}
@@ -22,7 +22,7 @@ use Rattle.order_table.specs.declared.views.KeptEntry.{KeptEntry}
 use Rattle.order_table.specs.declared.views.View.{View}
 use Rattle.order_table.specs.Allowed.{MayDo, OwesNone, Settled}
 use Rattle.order_table.specs.Facts.{line_entries}
-use Rattle.order_table.specs.Owed.{aims_at, deed_of_pin, empty_after, fill_after, has, is_freed, mark, marked, owing, pin, stays, target, target_told}
+use Rattle.order_table.specs.Owed.{aims_at, deed_of_pin, empty_after, fill_after, has, is_freed, mark, marked, owing, pin, stays, target}
 use Rattle.order_table.specs.Rows.{at}
 use Rattle.order_table.specs.Rule.{of_line}
 use Rattle.order_table.specs.Stages.{IsClosed, deed, ends}

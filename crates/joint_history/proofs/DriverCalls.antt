@@ -41,7 +41,6 @@ use Rattle.managed_side.specs.declared.cycles.ResolveOut.{ResolveOut}
 use Rattle.managed_side.specs.Calls.{IsContractedBy, MayContractWith}
 use Rattle.managed_side.specs.Resolving.{MayClose}
 use Rattle.order_table.specs.declared.views.View.{View}
-use Rattle.order_table.specs.Facts.{line_entries}
 use Rattle.order_table.specs.Views.{OrderId, Shown, known, Owns}
 use Rattle.joint_history.specs.Callers.{HoldsPass}
 use Rattle.joint_history.specs.Driven.{DriverMakesNone, DriverRests, DriverStands, HasContraction, IsStillAt, IsUnmirrored, MakesAbandon, MakesContraction, MakesFinalise, MakesRefusal, MakesResolution, MayAbandonCycle, MayContractCycle, MayFinalise, MayRefuseWord, MayResolveCycle, driver_entry}

@@ -1,9 +1,9 @@
 -- The driver's snapshot under the managed lock: no cycle is open while the driver is idle, and after the entry the driver has seen the side's objects as
 -- they are then.
-use Rattle.std.proofs.Common.{◌≡◌, ℕ, ◌+◌, ◌<◌, ◌^◌, false, List, [], Option, Some, None, refl, sym, ap, ◌∙◌, subst}
+use Rattle.std.proofs.Common.{◌≡◌, ℕ, ◌+◌, ◌<◌, ◌^◌, false, List, [], ◌∷◌, ◌++◌, Option, Some, None, refl, sym, ap, ◌∙◌, subst}
 use Rattle.std.specs.Prelude.{Result, Ok, Err, IfOk, OnErr}
 use mathlib.Core.List.{IsPrefix}
-use base.Growing.{prefix_refl}
+use base.Growing.{prefix_refl, prefix_trans}
 use Rattle.joint_model.specs.declared.names.Thread.TheVariants.{C}
 use Rattle.joint_model.specs.declared.names.Span.{Span}
 use Rattle.joint_model.specs.declared.events.Op.TheVariants as op
@@ -22,8 +22,9 @@ use Rattle.managed_side.specs.declared.opening.Opened.{Opened}
 use Rattle.order_table.specs.declared.views.View.{View}
 use Rattle.order_table.specs.Rows.{at}
 use Rattle.order_table.specs.Views.{OrderId, Shown, known, Owns}
+use Rattle.order_table.proofs.Lines.{below_begins}
 use Rattle.joint_history.specs.Callers.{HoldsPass}
-use Rattle.joint_history.specs.Driven.{DriverMakes, DriverRests, DriverStands, driver_entry}
+use Rattle.joint_history.specs.Driven.{DriverMakes, DriverMakesNone, DriverRests, DriverStands, driver_entry}
 use Rattle.joint_history.specs.DriverSnaps.{DrawsSnapshot, MakesSnapshot}
 use Rattle.joint_history.specs.Locked.{Drew, ManagedKnows, StaysSeated}
 use Rattle.seat_calls.specs.Passing.{Lends, Returns}
@@ -83,3 +84,41 @@ module _ {E : Type 0} (order : OrderId) (seat seat' : Shown) (old new : Side Man
   pub snap_order : (result : Result Opened E) → IfOk result (λ o. DrawsSnapshot order seat seat' old new index o) → OnErr result (StaysSeated seat seat' × (new ≡ old)) → seat'.order ≡ seat.order
   snap_order (Ok o) d e = d.drew.appends.same
   snap_order (Err x) d e = e.0.order
+
+-- where no entry was made it may be tried again
+pub none_then_none : (u v w : View) → DriverMakesNone u v → DriverMakesNone v w → DriverMakesNone u w
+none_then_none u v w a b = record {
+  own = b.own ∙ a.own;
+  more = λ i. prefix_trans (known u i) (known v i) (known w i) (a.more i) (b.more i);
+  stands = λ index stand seen s. b.stands index stand seen (a.stands index stand seen s);
+}
+
+pub none_rests : (u v : View) (index : ℕ) → DriverMakesNone u v → DriverRests u index → DriverRests v index
+none_rests u v index a r = record { seen = r.seen; stands = a.stands index idle r.seen r.stands }
+
+pub none_then_snap : (u v w : View) (index : ℕ) (out : Opened) → DriverMakesNone u v → MakesSnapshot v w index out → MakesSnapshot u w index out
+none_then_snap u v w index out a t m s =
+    let o = t m (a.stands index idle m s) in
+    record {
+      freed = o.freed;
+      candidates = o.candidates;
+      dead = o.dead;
+      counted = o.counted;
+      count = o.count;
+      pins = o.pins;
+      makes = record {
+        own = o.makes.own ∙ ap (λ es. es ++ driver_entry out.number index (op.Snap out.cycle) (says.Snapped out.candidates out.freed) None ∷ []) a.own;
+        more = λ i. prefix_trans (known u i) (known v i) (known w i) (a.more i) (o.makes.more i);
+        above = λ i. below_begins out.number (known u i) (known v i) (a.more i) (o.makes.above i);
+        state = o.makes.state;
+        comes = o.makes.comes;
+        kept = o.makes.kept;
+        stood = o.makes.stood;
+        dead = o.makes.dead;
+      };
+      seen = o.seen;
+      kept = o.kept;
+      opened = o.opened;
+      graph = o.graph;
+      stands = o.stands;
+    }

@@ -1,30 +1,29 @@
 -- The end of a run: every thread's seat is taken in, and the history has of each thread just the entries that its caller made.
-use Rattle.std.proofs.Common.{◌≡◌, inl, inr, ⊎_elim, ℕ, zero, suc, ◌<◌, List, [], ◌∷◌, ◌++◌, Option, Some, None, true, false, refl, sym, ap, ◌∙◌, subst, arith}
+use Rattle.std.proofs.Common.{◌≡◌, inl, inr, ⊎_elim, ℕ, zero, suc, List, [], ◌∷◌, ◌++◌, length, Option, Some, None, true, false, refl, sym, ap, ◌∙◌, subst, arith}
 use Rattle.std.specs.Prelude.{All, Contains, IsSome, slice_get}
 use Rattle.std.proofs.lemmas.List.Elements.{Contains-append_cases, Contains-append_left, Contains-append_right}
 use Rattle.joint_model.specs.declared.names.Thread.{Thread}
 use Rattle.joint_model.specs.declared.names.Thread.TheVariants.{M, P, C}
 use Rattle.joint_model.specs.declared.events.Entry.{Entry}
 use Rattle.joint_model.specs.Control.{caller_place}
-use Rattle.joint_model.specs.HistoryLines.{caller_line, entries_in}
+use Rattle.joint_model.specs.HistoryLines.{caller_line}
 use Rattle.joint_model.specs.Lines.{IsThread}
 use Rattle.joint_model.specs.ManagedReplay.{ManagedReplay}
 use Rattle.joint_model.specs.PeerReplay.{PeerReplay}
 use Rattle.joint_model.specs.Sides.{Side}
 use Rattle.joint_model.proofs.Members.{All-members, Contains-here, Contains-there, Contains-map, Contains-cons_cases, Contains-nil}
 use Rattle.known_laws.specs.Lists.{made_by}
-use Rattle.known_laws.proofs.Lists.{own_line_is_made_by_caller}
 use Rattle.order_table.specs.declared.views.View.{View}
 use Rattle.order_table.specs.Facts.{entries_of, line_entries}
 use Rattle.order_table.specs.Rule.{AreLinesOfOneHistory as AllKnown}
 use Rattle.order_table.specs.Tells.{TakesIn, BeginsOneHistory}
 use Rattle.order_table.specs.Views.{Owns}
-use Rattle.order_table.proofs.Wholes.{tell_lines}
 use Rattle.joint_history.specs.Callers.{HoldsPass, Pass, own}
 use Rattle.joint_history.specs.Desks.{Waiting, WaitsAt, flat, present, thread_of}
 use Rattle.joint_history.specs.Ending.{AllAreIn, GathersAll, HasAll, HasOwn, StillWaits, TakesOwn, threads_of}
 use Rattle.joint_history.specs.Knowing.{line_known}
 use Rattle.view_laws.specs.Knowing.{IsDrawnView}
+use Rattle.view_laws.proofs.Finished.{own_lines_are_made_by_callers}
 use Rattle.joint_history.specs.Locked.{ManagedKnows, PeerKnows}
 use Rattle.joint_history.proofs.Desking.{thread_is}
 use Rattle.joint_history.proofs.Gathering.{gathered_first}
@@ -33,14 +32,14 @@ use Rattle.joint_history.proofs.LastLines.{place_small}
 use Rattle.joint_model.proofs.Deciding.{none_some}
 
 -- one seat more, and none
-pub takes_one : (t : Thread) (v w u : View) → IsThread t → HoldsPass t w → TakesIn v w u → TakesOwn v u (record { thread = t; view = w } ∷ [])
-takes_one t v w u is h k =
-    let p : Pass = record { thread = t; view = w } in
+pub takes_one : (p : Pass) (v u : View) → IsThread p.thread → HoldsPass p.thread p.view → TakesIn v p.view u → TakesOwn v u (p ∷ [])
+takes_one p v u is h k =
+    let mine = own_line p.thread in
     record {
       kept = λ i o. ((k.owns i).0 (inl o), k.owned i o);
       each = λ q c. ⊎_elim
           (λ (e : p ≡ q). subst (λ (x : Pass). IsThread x.thread × Owns u (caller_line x.thread) × (line_known u (caller_line x.thread) ≡ own x)) e
-          (is, (k.owns (caller_line t)).0 (inr (h (caller_line t) (own_line t))), ap line_entries (k.taken (caller_line t) (h (caller_line t) (own_line t)))))
+          (is, (k.owns (caller_line p.thread)).0 (inr (h (caller_line p.thread) mine)), ap line_entries (k.taken (caller_line p.thread) (h (caller_line p.thread) mine))))
           (λ n. absurd (Contains-nil q n))
           (Contains-cons_cases p [] q c);
     }
@@ -115,15 +114,15 @@ waiter d t is waits s =
       nothing = ap line_entries (at.1 (caller_line w.0.thread));
     }
 
--- all threads' seats are in
-pub all_in : (v w u x y : View) (l : Side ManagedReplay) (r : Side PeerReplay) (callers : List Pass) (d : Waiting) → ManagedKnows v l → PeerKnows w r → Owns v 0 → Owns w 1 → TakesIn v w u → BeginsOneHistory u
-    → GathersAll u x (threads_of callers) → GathersAll x y (threads_of (present d.callers)) → HasAll d callers → ((i : ℕ) (o : Option Pass) → slice_get d.callers i ≡ Some o → WaitsAt i o) → AllAreIn y l r
-all_in v w u x y l r callers d a b m p k o first then has waits =
+-- all threads' seats and reads are in
+pub all_in : (v w u x y : View) (l : Side ManagedReplay) (r : Side PeerReplay) (old mid new : List (List Entry)) (callers : List Pass) (d : Waiting) → ManagedKnows v l → PeerKnows w r → Owns v 0 → Owns w 1 → TakesIn v w u → BeginsOneHistory u → length old ≡ 10
+    → GathersAll u x old mid (threads_of callers) → GathersAll x y mid new (threads_of (present d.callers)) → HasAll d callers → ((i : ℕ) (o : Option Pass) → slice_get d.callers i ≡ Some o → WaitsAt i o) → AllAreIn y l r new
+all_in v w u x y l r old mid new callers d a b m p k o ten first then has waits =
     let given = threads_of callers in
     let left = threads_of (present d.callers) in
     record {
       threads = given ++ left;
-      gathered = then l r given (first l r [] (gathered_first v w u l r a b m p k o));
+      gathered = then l r given (first l r [] (gathered_first v w u l r old a b m p k o ten));
       all = λ t is. ⊎_elim
           (λ s. let q = waiter d t is waits s in Contains-append_right given left t (subst (Contains left) q.thread (Contains-map (λ (z : Pass). z.thread) (present d.callers) q.pass q.there)))
           (λ c. Contains-append_left given left t c)
@@ -131,15 +130,8 @@ all_in v w u x y l r callers d a b m p k o first then has waits =
     }
 
 -- the whole line of a thread has just the entries that it made
-line_small : (t : Thread) → IsThread t → caller_line t < 27
-line_small t is = let s = place_small t is in omega arith
-
 made_is_known : (v : View) → IsDrawnView v → (w : AllKnown v.known) (t : Thread) → IsThread t → made_by t (entries_of w.whole) ≡ line_known v (caller_line t)
-made_is_known v a w t is =
-    let told = tell_lines w.whole w.numbers in
-    let whole = entries_of w.whole in
-    let line : (i : ℕ) → i < 27 → line_known v i ≡ entries_in i whole = λ i few. ap line_entries (w.each i few) ∙ told.lines i in
-    sym (own_line_is_made_by_caller whole (line_known v) a told.numbered (line 0 (omega arith)) (line 1 (omega arith)) t is (line (caller_line t) (line_small t is)))
+made_is_known v a w t is = sym (own_lines_are_made_by_callers v a w t is)
 
 -- so each caller that was taken in has just its own entries
 pub has_own : (v : View) → IsDrawnView v → (w : AllKnown v.known) (entries : List Entry) → entries ≡ entries_of w.whole → (p : Pass) → IsThread p.thread → line_known v (caller_line p.thread) ≡ own p → HasOwn entries p

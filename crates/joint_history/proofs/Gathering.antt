@@ -1,11 +1,12 @@
--- At the end of a run all seats are taken into one, which knows both sides' lists whole and that each thread has come to rest.
-use Rattle.std.proofs.Common.{◌≡◌, ◌⊎◌, inl, inr, ⊎_elim, ℕ, ◌-◌, ◌<◌, ◌≤◌, List, [], ◌∷◌, ◌++◌, length, take, map, Some, None, refl, sym, ap, ◌∙◌, subst, arith}
+-- At the end of a run all seats are taken into one, which knows all lists whole and that each thread has come to rest. So the lists are joined to a linked history, which
+-- ends in both sides' states, but for the pins.
+use Rattle.std.proofs.Common.{◌≡◌, ◌⊎◌, inl, inr, ⊎_elim, ℕ, ◌-◌, ◌<◌, ◌≤◌, List, [], ◌∷◌, ◌++◌, length, take, Some, None, refl, sym, ap, ◌∙◌, subst, arith}
 use Rattle.std.specs.Prelude.{Contains}
 use Rattle.std.proofs.lemmas.List.Elements.{Contains-push_cases}
-use Rattle.joint_history.specs.Ending.{AtRest, HasGatheredSeats, GathersAll, IsFinishedWith, HasIdleDriver, Rests}
+use Rattle.joint_history.specs.Ending.{all_lists, with_reads, AtRest, HasGatheredSeats, GathersAll, IsFinishedWith, HasIdleDriver, Rests}
 use Rattle.std.proofs.lemmas.List.{append-nil, append_assoc}
 use Rattle.joint_model.proofs.Members.{Contains-nil}
-use Rattle.joint_history.specs.Callers.{CallerKnows}
+use Rattle.joint_history.specs.Callers.{CallerKnows, KeepsReads}
 use Rattle.joint_history.specs.Locked.{ManagedKnows, PeerKnows}
 use Rattle.std.proofs.lemmas.Bool.{cases_eq, cases_lt}
 use Rattle.std.proofs.lemmas.Option.{slice_get_past}
@@ -18,32 +19,31 @@ use Rattle.joint_model.specs.declared.events.Op.{Op}
 use Rattle.joint_model.specs.declared.events.Op.TheVariants as op
 use Rattle.joint_model.specs.declared.events.Reply.{Reply}
 use Rattle.joint_model.specs.Control.{Control, Doing, free, doing_at, doing_after, control_after, candidates_of, IsDone, IsAtRest}
-use Rattle.joint_model.specs.Components.{Rises}
 use Rattle.joint_model.specs.Histories.{Finished, IsJoinable, IsShuffle, managed_numbers, peer_numbers}
-use Rattle.joint_model.specs.HistoryLines.{caller_line, entries_in}
+use Rattle.joint_model.specs.HistoryLines.{caller_line}
 use Rattle.joint_model.specs.Lines.{IsThread, IsEvent, IsManagedThread}
 use Rattle.joint_model.specs.Linked.{IsWhole, Linkage}
+use Rattle.joint_model.specs.Listed.{Stock}
 use Rattle.joint_model.specs.ManagedReplay.{ManagedReplay}
 use Rattle.joint_model.specs.PeerReplay.{PeerReplay}
+use Rattle.joint_model.specs.Readers.{with_pins}
 use Rattle.joint_model.specs.Sides.{Side}
-use Rattle.joint_model.specs.Told.{Told, Noted}
+use Rattle.joint_model.specs.Told.{Told, Noted, bare_told}
 use Rattle.joint_model.proofs.Joining.{slice_get-set_other}
-use Rattle.joint_laws.proofs.FittingLists.{linked_is_history}
-use Rattle.known_laws.specs.Growing.{HasEnded}
 use Rattle.known_laws.specs.Pasts.{Lawful, end_of, line}
+use Rattle.known_laws.specs.Wholes.{history_of, HasEnded, IsLinkedPast}
+use Rattle.known_laws.proofs.Coming.{event_of}
 use Rattle.known_laws.proofs.Growing.{lines_give_parts}
-use Rattle.known_laws.proofs.Lists.{known_lists_are_lawful}
 use Rattle.order_table.specs.declared.views.View.{View}
 use Rattle.order_table.specs.Facts.{entries_of, line_entries}
 use Rattle.order_table.specs.Rule.{AreLinesOfOneHistory as AllKnown}
 use Rattle.order_table.specs.Tells.{TakesIn, BeginsOneHistory}
 use Rattle.order_table.specs.Views.{Owns, OwnsAll}
-use Rattle.order_table.proofs.Wholes.{tell_lines}
-use Rattle.joint_history.specs.Knowing.{line_known}
+use Rattle.view_laws.proofs.Joined.{whole_lists_are_joined}
 use Rattle.joint_history.specs.Callers.{HoldsPass}
-use Rattle.joint_history.proofs.Finishing.{lines_shuffle, shuffle_is_one}
+use Rattle.joint_history.proofs.GatheredReads.{all_lists_known, gather_reads}
 use Rattle.joint_history.proofs.KnownCallers.{own_line}
-use Rattle.joint_history.proofs.KnownViews.{views_join, whole_view_is_finished}
+use Rattle.joint_history.proofs.KnownViews.{views_join}
 use Rattle.joint_history.proofs.Standing.{widths}
 
 rests_so : (t : Thread) (a b : List Noted) → line (caller_line t) a ≡ line (caller_line t) b → Rests t (end_of b) → Rests t (end_of a)
@@ -51,9 +51,10 @@ rests_so (M n) a b e d = subst IsDone (sym ((lines_give_parts a b).doing n e)) d
 rests_so (P n) a b e d = tt
 rests_so C a b e d = (lines_give_parts a b).stand e ∙ d
 
--- one thread's seat more
-pub gather : (t : Thread) (v w u : View) (l : Side ManagedReplay) (r : Side PeerReplay) (ts : List Thread) → HasGatheredSeats v l r ts → AtRest t w → TakesIn v w u → BeginsOneHistory u → HasGatheredSeats u l r (ts ++ t ∷ [])
-gather t v w u l r ts g x k o =
+-- one thread's seat and reads more
+pub gather : (t : Thread) (es : List Entry) (v w u : View) (l : Side ManagedReplay) (r : Side PeerReplay) (lists : List (List Entry)) (ts : List Thread) → IsThread t → HasGatheredSeats v l r lists ts → AtRest t w es → TakesIn v w u → BeginsOneHistory u
+    → HasGatheredSeats u l r (with_reads t es lists) (ts ++ t ∷ [])
+gather t es v w u l r lists ts is g x k o =
     let j = views_join v w u g.known x.known k o in
     record {
       known = j.joined;
@@ -63,6 +64,7 @@ gather t v w u l r ts g x k o =
       managed = j.managed_first (k.owned 0 g.managed_role) ∙ g.managed;
       peer_entries = ap line_entries (k.owned 1 g.peer_role) ∙ g.peer_entries;
       peer = j.peer_first (k.owned 1 g.peer_role) ∙ g.peer;
+      reads = gather_reads t es v w u lists ts is x.pass x.keeps g.passes k g.reads;
       passes = λ s c. ⊎_elim (λ h i q. (k.owns i).0 (inl (g.passes s h i q))) (λ e i q. (k.owns i).0 (inr (subst (λ z. HoldsPass z w) e x.pass i q))) (Contains-push_cases ts t s c);
       rests = λ s c. ⊎_elim
           (λ h. rests_so s j.joined.known.past g.known.known.past (j.first (caller_line s) (k.owned (caller_line s) (g.passes s h (caller_line s) (own_line s)))) (g.rests s h))
@@ -98,14 +100,14 @@ zero_after c C n line o reply told e f = f
 
 zero_free : (h : List Noted) → Lawful h → doing_at (end_of h).control 0 ≡ free
 zero_free [] w = refl
-zero_free (x ∷ h) w = zero_after (end_of h).control x.entry.made.caller x.entry.number x.entry.made.index x.entry.made.op x.entry.made.reply x.told w.0.comes.event (zero_free h w.1)
+zero_free (x ∷ h) w = zero_after (end_of h).control x.entry.made.caller x.entry.number x.entry.made.index x.entry.made.op x.entry.made.reply (bare_told x.told) (event_of x h w) (zero_free h w.1)
 
 late_free : (h : List Noted) (t : ℕ) → 9 ≤ t → doing_at (end_of h).control t ≡ free
 late_free h t l = ap (λ w. elim w as (λ x. Doing) [ None ↦ free | Some d ↦ d ]) (slice_get_past (end_of h).control.doing t (let w = (widths h).doings in omega arith))
 
 -- once all threads' seats are in, nothing has to follow
-all_rest : (v : View) (l : Side ManagedReplay) (r : Side PeerReplay) (ts : List Thread) (g : HasGatheredSeats v l r ts) → ((t : Thread) → IsThread t → Contains ts t) → IsWhole (end_of g.known.known.past)
-all_rest v l r ts g all = record {
+all_rest : (v : View) (l : Side ManagedReplay) (r : Side PeerReplay) (lists : List (List Entry)) (ts : List Thread) (g : HasGatheredSeats v l r lists ts) → ((t : Thread) → IsThread t → Contains ts t) → IsWhole (end_of g.known.known.past)
+all_rest v l r lists ts g all = record {
   threads = λ t. ⊎_elim
       (λ (z : t ≡ 0). subst (λ k. IsDone (doing_at (end_of g.known.known.past).control k)) (sym z) (subst IsDone (sym (zero_free g.known.known.past g.known.known.lawful)) tt))
       (λ (ne : t ≡ 0 → ⊥). ⊎_elim
@@ -116,47 +118,43 @@ all_rest v l r ts g all = record {
   driver = subst (λ s. IsAtRest s (length (candidates_of (end_of g.known.known.past).managed.managed))) (sym (g.rests C (all C tt))) tt;
 }
 
--- and the history of both sides' lists is linked
+-- a history that is linked by a past which ends in both sides' states is finished with these, but for the pins
+finished_with : (h : Finished) (past : List Noted) (l : ManagedReplay) (r : PeerReplay) → IsLinkedPast h past → (end_of past).managed ≡ l → (end_of past).peer ≡ r → managed_numbers h.notices ≡ (end_of past).managed.managed.notices → IsFinishedWith h l r
+finished_with h past l r is managed peer queued = record {
+  noted = history_of past;
+  finished = record { linked = is.linked; queued = queued ∙ ap (λ (x : Linkage). x.managed.managed.notices) (sym is.ends) };
+  pins = is.pins;
+  managed = ap (λ (x : Linkage). x.managed) is.ends ∙ ap (λ m. with_pins m is.pins) managed;
+  peer = ap (λ (x : Linkage). x.peer) is.ends ∙ peer;
+}
+
+-- and the history of all lists is linked
 pub record Ends (l : Side ManagedReplay) (r : Side PeerReplay) (freed_managed : List MNum) (freed_peers : List PNum) (notices : List MNum) (w : List (List Entry)) (whole : List Entry) : Type 0 where
   pub joinable : IsJoinable w freed_managed freed_peers notices
   pub finished : (h : Finished) → IsShuffle w h.entries → h.freed_managed ≡ freed_managed → h.freed_peers ≡ freed_peers → h.notices ≡ notices → IsFinishedWith h l.state r.state × (h.entries ≡ whole)
 
-pub all_gathered : (v : View) (l : Side ManagedReplay) (r : Side PeerReplay) (ts : List Thread) (g : HasGatheredSeats v l r ts) → ((t : Thread) → IsThread t → Contains ts t) → (w : AllKnown v.known) → (freed_managed : List MNum) (freed_peers : List PNum) (notices : List MNum)
+pub all_gathered : (v : View) (l : Side ManagedReplay) (r : Side PeerReplay) (lists : List (List Entry)) (ts : List Thread) (g : HasGatheredSeats v l r lists ts) → ((t : Thread) → IsThread t → Contains ts t) → (w : AllKnown v.known) → (freed_managed : List MNum) (freed_peers : List PNum) (notices : List MNum)
     → managed_numbers freed_managed ≡ l.state.managed.heap.freed → peer_numbers freed_peers ≡ r.state.peers.heap.freed → managed_numbers notices ≡ l.state.managed.notices
-    → Ends l r freed_managed freed_peers notices (l.entries ∷ r.entries ∷ []) (entries_of w.whole)
-all_gathered v l r ts g all w freed_managed freed_peers notices fm fp ns =
-    let told = tell_lines w.whole w.numbers in
-    let whole = entries_of w.whole in
-    let h : Finished = record { entries = whole; freed_managed = freed_managed; freed_peers = freed_peers; notices = notices } in
+    → Ends l r freed_managed freed_peers notices (all_lists l.entries r.entries lists) (entries_of w.whole)
+all_gathered v l r lists ts g all w freed_managed freed_peers notices fm fp ns =
     let s = end_of g.known.known.past in
-    let ended : HasEnded h s = record {
-      whole = all_rest v l r ts g all;
+    let queued : managed_numbers notices ≡ s.managed.managed.notices = ns ∙ ap (λ (m : ManagedReplay). m.managed.notices) (sym g.managed) in
+    let ended : HasEnded (record { entries = entries_of w.whole; freed_managed = freed_managed; freed_peers = freed_peers; notices = notices }) s = record {
+      whole = all_rest v l r lists ts g all;
       freed_managed = fm ∙ ap (λ (m : ManagedReplay). m.managed.heap.freed) (sym g.managed);
       freed_peers = fp ∙ ap (λ (p : PeerReplay). p.peers.heap.freed) (sym g.peer);
-      notices = ap (λ ms. take s.managed.managed.taken ms) (ns ∙ ap (λ (m : ManagedReplay). m.managed.notices) (sym g.managed));
+      notices = ap (λ ms. take s.managed.managed.taken ms) queued;
     } in
-    let is = whole_view_is_finished h v g.known w refl ended (ns ∙ ap (λ (m : ManagedReplay). m.managed.notices) (sym g.managed)) in
-    let with_states : IsFinishedWith h l.state r.state = record {
-      noted = is.noted;
-      finished = is.finished;
-      managed = ap (λ (x : Linkage). x.managed) is.ends ∙ g.managed;
-      peer = ap (λ (x : Linkage). x.peer) is.ends ∙ g.peer;
-    } in
-    let left : line_known v 0 ≡ entries_in 0 whole = ap line_entries (w.each 0 (omega arith)) ∙ told.lines 0 in
-    let right : line_known v 1 ≡ entries_in 1 whole = ap line_entries (w.each 1 (omega arith)) ∙ told.lines 1 in
-    let lists = known_lists_are_lawful g.known.known.past g.known.known.lawful in
-    let rise0 = subst (λ es. Rises (map (λ (e : Entry). e.number) es)) (sym (g.known.same 0) ∙ left) (lists.rise 0) in
-    let rise1 = subst (λ es. Rises (map (λ (e : Entry). e.number) es)) (sym (g.known.same 1) ∙ right) (lists.rise 1) in
-    let shuffle = subst (λ a. IsShuffle (a ∷ r.entries ∷ []) whole) (sym left ∙ g.managed_entries) (subst (λ b. IsShuffle (entries_in 0 whole ∷ b ∷ []) whole) (sym right ∙ g.peer_entries) (lines_shuffle whole told.numbered rise0 rise1)) in
+    let j = whole_lists_are_joined v g.known w (all_lists l.entries r.entries lists) freed_managed freed_peers notices (all_lists_known v l.entries r.entries lists ts all g.managed_entries g.peer_entries g.reads) ended in
     record {
-      joinable = record { whole = whole; shuffle = shuffle; fits = (linked_is_history h is.noted is.finished.linked).fits };
-      finished = λ k sh a b c. let same = shuffle_is_one (l.entries ∷ r.entries ∷ []) k.entries whole sh shuffle in
-          (subst (λ z. IsFinishedWith z l.state r.state) (λ i. record { entries = sym same i; freed_managed = sym a i; freed_peers = sym b i; notices = sym c i }) with_states, same);
+      joinable = j.joinable;
+      finished = λ h sh a b c. let is = j.linked h sh a b c in
+          (finished_with h g.known.known.past l.state r.state is.0 g.managed g.peer (ap managed_numbers c ∙ queued), is.1);
     }
 
 -- who has gathered all threads' seats owns every line
-pub owns_all : (v : View) (l : Side ManagedReplay) (r : Side PeerReplay) (ts : List Thread) → HasGatheredSeats v l r ts → ((t : Thread) → IsThread t → Contains ts t) → OwnsAll v
-owns_all v l r ts g all i few = ⊎_elim
+pub owns_all : (v : View) (l : Side ManagedReplay) (r : Side PeerReplay) (lists : List (List Entry)) (ts : List Thread) → HasGatheredSeats v l r lists ts → ((t : Thread) → IsThread t → Contains ts t) → OwnsAll v
+owns_all v l r lists ts g all i few = ⊎_elim
     (λ (z : i ≡ 0). subst (Owns v) (sym z) g.managed_role)
     (λ (n0 : i ≡ 0 → ⊥). ⊎_elim
     (λ (z : i ≡ 1). subst (Owns v) (sym z) g.peer_role)
@@ -177,23 +175,23 @@ owns_all v l r ts g all i few = ⊎_elim
     cases_lt' a b = ⊎_elim (λ s. inl s) (λ g'. inr (omega (arith, g'))) (cases_lt a b)
 
 -- a caller that has nothing to release, and is idle if it is the driver's, has come to rest
-pub caller_at_rest : (t : Thread) (v : View) → CallerKnows t v → HoldsPass t v → HasIdleDriver (record { thread = t; view = v }) → AtRest t v
-caller_at_rest (M n) v k h i = record { known = k.known; pass = h; rests = k.released }
-caller_at_rest (P n) v k h i = record { known = k.known; pass = h; rests = tt }
-caller_at_rest C v k h i = let w = i tt in record { known = w.0; pass = h; rests = w.1 }
+pub caller_at_rest : (t : Thread) (v : View) (reads : Stock) → CallerKnows t v → HoldsPass t v → KeepsReads t v reads.entries → HasIdleDriver (record { thread = t; view = v; reads = reads }) → AtRest t v reads.entries
+caller_at_rest (M n) v reads k h m i = record { known = k.known; pass = h; keeps = m; rests = k.released }
+caller_at_rest (P n) v reads k h m i = record { known = k.known; pass = h; keeps = m; rests = tt }
+caller_at_rest C v reads k h m i = let w = i tt in record { known = w.0; pass = h; keeps = m; rests = w.1 }
 
-pub gathers_one : (t : Thread) (v w u : View) → AtRest t w → TakesIn v w u → BeginsOneHistory u → GathersAll v u (t ∷ [])
-gathers_one t v w u x k o l r ts g = gather t v w u l r ts g x k o
+pub gathers_one : (t : Thread) (es : List Entry) (v w u : View) (lists : List (List Entry)) → IsThread t → AtRest t w es → TakesIn v w u → BeginsOneHistory u → GathersAll v u lists (with_reads t es lists) (t ∷ [])
+gathers_one t es v w u lists is x k o l r ts g = gather t es v w u l r lists ts is g x k o
 
-pub gathers_none : (v : View) → GathersAll v v []
-gathers_none v l r ts g = subst (HasGatheredSeats v l r) (sym (append-nil ts)) g
+pub gathers_none : (v : View) (lists : List (List Entry)) → GathersAll v v lists lists []
+gathers_none v lists l r ts g = subst (HasGatheredSeats v l r lists) (sym (append-nil ts)) g
 
-pub gathers_then : (v w u : View) (xs ys : List Thread) → GathersAll v w xs → GathersAll w u ys → GathersAll v u (xs ++ ys)
-gathers_then v w u xs ys a b l r ts g = subst (HasGatheredSeats u l r) (append_assoc ts xs ys) (b l r (ts ++ xs) (a l r ts g))
+pub gathers_then : (v w u : View) (old mid new : List (List Entry)) (xs ys : List Thread) → GathersAll v w old mid xs → GathersAll w u mid new ys → GathersAll v u old new (xs ++ ys)
+gathers_then v w u old mid new xs ys a b l r ts g = subst (HasGatheredSeats u l r new) (append_assoc ts xs ys) (b l r (ts ++ xs) (a l r ts g))
 
 -- both sides' seats together
-pub gathered_first : (v w u : View) (l : Side ManagedReplay) (r : Side PeerReplay) → ManagedKnows v l → PeerKnows w r → Owns v 0 → Owns w 1 → TakesIn v w u → BeginsOneHistory u → HasGatheredSeats u l r []
-gathered_first v w u l r a b m p k o =
+pub gathered_first : (v w u : View) (l : Side ManagedReplay) (r : Side PeerReplay) (lists : List (List Entry)) → ManagedKnows v l → PeerKnows w r → Owns v 0 → Owns w 1 → TakesIn v w u → BeginsOneHistory u → length lists ≡ 10 → HasGatheredSeats u l r lists []
+gathered_first v w u l r lists a b m p k o ten =
     let j = views_join v w u a.known b.known k o in
     record {
       known = j.joined;
@@ -203,6 +201,7 @@ gathered_first v w u l r a b m p k o =
       managed = j.managed_first (k.owned 0 m) ∙ a.state;
       peer_entries = ap line_entries (k.taken 1 p) ∙ b.entries;
       peer = j.peer_second (k.taken 1 p) ∙ b.state;
+      reads = record { ten = ten; reads = λ n c. absurd (Contains-nil (M n) c) };
       passes = λ t c. absurd (Contains-nil t c);
       rests = λ t c. absurd (Contains-nil t c);
     }

@@ -1,5 +1,5 @@
--- The end of a run, once all seats are in: both sides' lists can be joined, the history is linked, and each caller has just its own entries.
-use Rattle.std.proofs.Common.{◌≡◌, List, [], ◌∷◌, sym, subst}
+-- The end of a run, once all seats are in: all lists can be joined, the history is linked, and each caller has just its own entries.
+use Rattle.std.proofs.Common.{◌≡◌, ℕ, List, [], Option, sym, subst}
 use Rattle.std.specs.Prelude.{All, IfOk, Result, Ok, Err}
 use Rattle.joint_model.specs.declared.names.MNum.{MNum}
 use Rattle.joint_model.specs.declared.names.PNum.{PNum}
@@ -7,9 +7,10 @@ use Rattle.joint_model.specs.declared.names.Thread.{Thread}
 use Rattle.joint_model.specs.declared.events.Entry.{Entry}
 use Rattle.joint_model.specs.Histories.{Finished, IsJoinable, IsShuffle, managed_numbers, peer_numbers}
 use Rattle.joint_model.specs.Lines.{IsThread}
-use Rattle.joint_model.specs.Linked.{IsLinked, opening_linkage, replayed}
+use Rattle.joint_model.specs.LinkedHistories.{IsLinked, linked_end}
 use Rattle.joint_model.specs.ManagedReplay.{ManagedReplay}
 use Rattle.joint_model.specs.PeerReplay.{PeerReplay}
+use Rattle.joint_model.specs.Readers.{with_pins}
 use Rattle.joint_model.specs.Sides.{Side}
 use Rattle.known_laws.specs.Lists.{made_by}
 use Rattle.order_table.specs.declared.views.View.{View}
@@ -18,12 +19,12 @@ use Rattle.order_table.specs.Views.{OwnsAll}
 use Rattle.joint_history.specs.Callers.{Pass}
 use Rattle.joint_history.specs.Desks.{Waiting, present}
 use Rattle.joint_history.specs.declared.ends.RunEnd.{RunEnd}
-use Rattle.joint_history.specs.Ending.{AllAreIn, AllTaken, AreNumbersOf, HasEndNumbers, HasOwn, IsFinished, IsFinishedWith, StillWaits}
+use Rattle.joint_history.specs.Ending.{all_lists, AllAreIn, AllTaken, AreNumbersOf, HasEndNumbers, HasOwn, IsFinished, IsFinishedWith, StillWaits}
 use Rattle.joint_history.proofs.Ended.{all_have_own, made_none}
 use Rattle.joint_history.proofs.Gathering.{Ends, all_gathered, owns_all}
 
-pub owns_every : (y : View) (l : Side ManagedReplay) (r : Side PeerReplay) → AllAreIn y l r → OwnsAll y
-owns_every y l r g = owns_all y l r g.threads g.gathered g.all
+pub owns_every : (y : View) (l : Side ManagedReplay) (r : Side PeerReplay) (lists : List (List Entry)) → AllAreIn y l r lists → OwnsAll y
+owns_every y l r lists g = owns_all y l r lists g.threads g.gathered g.all
 
 -- what a finished run's history has
 pub record EndsRun (l : ManagedReplay) (r : PeerReplay) (callers : List Pass) (d : Waiting) (h : Finished) : Type 0 where
@@ -33,19 +34,17 @@ pub record EndsRun (l : ManagedReplay) (r : PeerReplay) (callers : List Pass) (d
   pub own : All (HasOwn h.entries) callers
   pub none : (t : Thread) → IsThread t → StillWaits d t → made_by t h.entries ≡ []
 
-module _ (l : Side ManagedReplay) (r : Side PeerReplay) (d : Waiting) (callers : List Pass) (all : AllTaken l r d callers) (left right : List Entry) (same_left : left ≡ l.entries) (same_right : right ≡ r.entries) (freed_managed : List MNum) (freed_peers : List PNum) (notices : List MNum)
+module _ (l : Side ManagedReplay) (r : Side PeerReplay) (readers : List (List Entry)) (d : Waiting) (callers : List Pass) (all : AllTaken l r readers d callers) (left right : List Entry) (same_left : left ≡ l.entries) (same_right : right ≡ r.entries) (freed_managed : List MNum) (freed_peers : List PNum) (notices : List MNum)
     (fm : managed_numbers freed_managed ≡ l.state.managed.heap.freed) (fp : peer_numbers freed_peers ≡ r.state.peers.heap.freed) (ns : managed_numbers notices ≡ l.state.managed.notices) where
-  ends : Ends l r freed_managed freed_peers notices (left ∷ right ∷ []) (entries_of all.whole.whole)
+  ends : Ends l r freed_managed freed_peers notices (all_lists left right readers) (entries_of all.whole.whole)
   ends =
       let g = all.gathered in
-      subst (λ a. Ends l r freed_managed freed_peers notices (a ∷ right ∷ []) (entries_of all.whole.whole)) (sym same_left)
-      (subst (λ b. Ends l r freed_managed freed_peers notices (l.entries ∷ b ∷ []) (entries_of all.whole.whole)) (sym same_right)
-      (all_gathered all.seat l r g.threads g.gathered g.all all.whole freed_managed freed_peers notices fm fp ns))
+      rw (same_left, same_right) (all_gathered all.seat l r readers g.threads g.gathered g.all all.whole freed_managed freed_peers notices fm fp ns)
 
-  pub lists_join : IsJoinable (left ∷ right ∷ []) freed_managed freed_peers notices
+  pub lists_join : IsJoinable (all_lists left right readers) freed_managed freed_peers notices
   lists_join = ends.joinable
 
-  pub run_ends : (h : Finished) → IsShuffle (left ∷ right ∷ []) h.entries → h.freed_managed ≡ freed_managed → h.freed_peers ≡ freed_peers → h.notices ≡ notices → EndsRun l.state r.state callers d h
+  pub run_ends : (h : Finished) → IsShuffle (all_lists left right readers) h.entries → h.freed_managed ≡ freed_managed → h.freed_peers ≡ freed_peers → h.notices ≡ notices → EndsRun l.state r.state callers d h
   run_ends h shuffle a b c =
       let e = ends.finished h shuffle a b c in
       let g = all.gathered in
@@ -57,14 +56,17 @@ module _ (l : Side ManagedReplay) (r : Side PeerReplay) (d : Waiting) (callers :
         none = λ t is s. made_none all.seat g.gathered.known all.whole h.entries e.1 t is (all.waiting t is s);
       }
 
-  pub result_ends : {E : Type 0} (result : Result Finished E) → IfOk result (λ h. IsShuffle (left ∷ right ∷ []) h.entries) → IfOk result (λ h. h.freed_managed ≡ freed_managed) → IfOk result (λ h. h.freed_peers ≡ freed_peers) → IfOk result (λ h. h.notices ≡ notices) → IfOk result (EndsRun l.state r.state callers d)
+  pub result_ends : {E : Type 0} (result : Result Finished E) → IfOk result (λ h. IsShuffle (all_lists left right readers) h.entries) → IfOk result (λ h. h.freed_managed ≡ freed_managed) → IfOk result (λ h. h.freed_peers ≡ freed_peers) → IfOk result (λ h. h.notices ≡ notices) → IfOk result (EndsRun l.state r.state callers d)
   result_ends (Ok h) shuffle a b c = run_ends h shuffle a b c
   result_ends (Err x) shuffle a b c = tt
 
--- numbers that are read off both sides as the run ends are those of the last state
+-- numbers that are read off both sides as the run ends are those of the last state, since no pin is counted
 pub numbered : (e : RunEnd) (l : ManagedReplay) (r : PeerReplay) → IsFinishedWith e.history l r → AreNumbersOf e l r → HasEndNumbers e
 numbered e l r f n = record {
   noted = f.noted;
   finished = f.finished;
-  numbers = subst (λ y. AreNumbersOf e (replayed opening_linkage f.noted).managed y) (sym f.peer) (subst (λ x. AreNumbersOf e x r) (sym f.managed) n);
+  numbers = subst (λ y. AreNumbersOf e (linked_end f.noted).managed y) (sym f.peer) (subst (λ x. AreNumbersOf e x r) (sym f.managed) (but_pins f.pins));
 }
+  where
+    but_pins : (pins : List (Option ℕ)) → AreNumbersOf e (with_pins l pins) r
+    but_pins pins = record { cycles = n.cycles; managed = n.managed; managed_left = n.managed_left; peers = n.peers; peers_left = n.peers_left; handles = n.handles; handles_left = n.handles_left }

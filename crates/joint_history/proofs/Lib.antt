@@ -13,7 +13,7 @@ pub mod SetCells
 pub mod TakenPins
 pub mod LastLines
 pub mod Desking
-pub mod Finishing
+pub mod GatheredReads
 pub mod Gathering
 pub mod Turning
 pub mod DeadParts
@@ -36,6 +36,7 @@ pub mod Joined
 pub mod Narrow
 pub mod Giving
 pub mod Running
+pub mod LoneReads
 pub mod Collecting
 pub mod SeatsKnow
 pub mod Crosses

@@ -27,7 +27,7 @@ use Rattle.order_table.specs.Rule.{IsBelow}
 use Rattle.order_table.specs.Views.{known}
 use Rattle.order_table.proofs.Lines.{below_begins}
 use Rattle.peer_side.specs.Steps.{IsRelease, IsStepLine}
-use Rattle.joint_history.specs.Callers.{CallerKnows, last_index}
+use Rattle.joint_history.specs.Callers.{CallerKnows, KeepsReads, last_index}
 use Rattle.joint_history.specs.Knowing.{line_known}
 use Rattle.joint_history.specs.Locked.{Makes, MakesNone, MayMake, doing_from, made_by}
 use Rattle.joint_history.specs.Operations.{AreAbove, StopsWithoutMemory, OpensOperation, IsMadeByEvents, IsOwnThread, IsPeerOperation, IsSideEvent, MakesAll, MayBegin, ReadsExactly, Runs, answer_of, cited_by, entry_by, first_of, second_of, third_of}
@@ -394,3 +394,9 @@ exact_later (M n) old new (act.Await k) answered second reply e = λ r. absurd (
 exact_later (M n) old new a answered second reply e = λ r. absurd r
 exact_later (P n) old new a answered second reply e = tt
 exact_later C old new a answered second reply e = tt
+
+-- a peer thread has no list of reads
+pub peer_keeps_none : (t : Thread) (old new : View) (es : List Entry) → IsPeerThread t → KeepsReads t old es → KeepsReads t new es
+peer_keeps_none (M n) old new es is k = absurd is
+peer_keeps_none (P n) old new es is k = k
+peer_keeps_none C old new es is k = absurd is

@@ -3,8 +3,8 @@ use Rattle.std.proofs.Common.{◌≡◌, ℕ, List, [], ◌∷◌, ◌++◌, len
 use Rattle.std.specs.Prelude.{All, Contains, slice_get}
 use Rattle.std.proofs.lemmas.List.Elements.{All-contains}
 use Rattle.joint_model.proofs.Members.{Contains-here, Contains-there}
+use Rattle.joint_model.specs.declared.events.Entry.{Entry}
 use Rattle.order_table.specs.declared.views.View.{View}
-use Rattle.order_table.specs.Facts.{line_entries}
 use Rattle.joint_history.proofs.KnownViews.{no_view}
 use Rattle.joint_history.specs.Callers.{Pass}
 use Rattle.joint_history.specs.Desks.{WaitsAt, present}
@@ -32,7 +32,7 @@ next_is_idle all yielded left p e idle = All-contains HasIdleDriver all p idle (
 
 -- who waits knows nothing, so it is idle
 waiting_is_idle : (i : ℕ) (p : Pass) → WaitsAt i (Some p) → HasIdleDriver p
-waiting_is_idle i p w driver = (no_view _ (λ j. w.1 j), refl)
+waiting_is_idle i p w driver = (no_view p.view (λ j. w.1 j), refl)
 
 pub next_waiting_is_idle : (all yielded left : List (Option Pass)) (p : Pass) → yielded ++ Some p ∷ left ≡ all → ((i : ℕ) (o : Option Pass) → slice_get all i ≡ Some o → WaitsAt i o) → HasIdleDriver p
 next_waiting_is_idle all yielded left p e waits = waiting_is_idle (length yielded) p (waits (length yielded) (Some p) (subst (λ xs. slice_get xs (length yielded) ≡ Some (Some p)) e (place_within yielded (Some p) left)))
@@ -52,14 +52,15 @@ none_snoc (None ∷ os) = none_snoc os
 none_snoc (Some q ∷ os) = ap (λ ps. q ∷ ps) (none_snoc os)
 
 -- with the next caller taken in
-pub gathers_more : (v w u : View) (yielded : List Pass) (p : Pass) → GathersAll v w (threads_of yielded) → GathersAll w u (p.thread ∷ []) → GathersAll v u (threads_of (yielded ++ p ∷ []))
-gathers_more v w u yielded p a b = subst (GathersAll v u) (threads_snoc yielded p) (gathers_then v w u (threads_of yielded) (p.thread ∷ []) a b)
+pub gathers_more : (v w u : View) (old mid new : List (List Entry)) (yielded : List Pass) (p : Pass) → GathersAll v w old mid (threads_of yielded) → GathersAll w u mid new (p.thread ∷ []) → GathersAll v u old new (threads_of (yielded ++ p ∷ []))
+gathers_more v w u old mid new yielded p a b = subst (GathersAll v u old new) (threads_snoc yielded p) (gathers_then v w u old mid new (threads_of yielded) (p.thread ∷ []) a b)
 
-pub gathers_waiting : (v w u : View) (yielded : List (Option Pass)) (p : Pass) → GathersAll v w (threads_of (present yielded)) → GathersAll w u (p.thread ∷ []) → GathersAll v u (threads_of (present (yielded ++ Some p ∷ [])))
-gathers_waiting v w u yielded p a b = subst (λ ps. GathersAll v u (threads_of ps)) (present_snoc yielded p) (gathers_more v w u (present yielded) p a b)
+pub gathers_waiting : (v w u : View) (old mid new : List (List Entry)) (yielded : List (Option Pass)) (p : Pass) → GathersAll v w old mid (threads_of (present yielded)) → GathersAll w u mid new (p.thread ∷ [])
+    → GathersAll v u old new (threads_of (present (yielded ++ Some p ∷ [])))
+gathers_waiting v w u old mid new yielded p a b = subst (λ ps. GathersAll v u old new (threads_of ps)) (present_snoc yielded p) (gathers_more v w u old mid new (present yielded) p a b)
 
-pub gathers_nobody : (v w : View) (yielded : List (Option Pass)) → GathersAll v w (threads_of (present yielded)) → GathersAll v w (threads_of (present (yielded ++ None ∷ [])))
-gathers_nobody v w yielded a = subst (λ ps. GathersAll v w (threads_of ps)) (none_snoc yielded) a
+pub gathers_nobody : (v w : View) (old mid : List (List Entry)) (yielded : List (Option Pass)) → GathersAll v w old mid (threads_of (present yielded)) → GathersAll v w old mid (threads_of (present (yielded ++ None ∷ [])))
+gathers_nobody v w old mid yielded a = subst (λ ps. GathersAll v w old mid (threads_of ps)) (none_snoc yielded) a
 
 -- and its own line is known as it knew it
 pub takes_waiting : (v w u : View) (yielded : List (Option Pass)) (p : Pass) → TakesOwn v w (present yielded) → TakesOwn w u (p ∷ []) → TakesOwn v u (present (yielded ++ Some p ∷ []))

@@ -1,5 +1,5 @@
 -- The end of a run: all seats are taken into one.
-use Rattle.std.specs.Prelude.{◌≡◌, ◌⊎◌, ℕ, ◌+◌, List, [], ◌++◌, length, map, count_by, is_some, Contains, IsSome, Option, slice_get}
+use Rattle.std.specs.Prelude.{◌≡◌, ◌⊎◌, ℕ, ◌+◌, List, [], ◌++◌, length, map, count_by, is_some, Contains, IsSome, Option, slice_get, slice_index_or, slice_set}
 use Rattle.joint_model.specs.declared.names.Thread.{Thread}
 use Rattle.joint_model.specs.declared.names.Thread.TheVariants.{M, P, C}
 use Rattle.joint_model.specs.declared.events.Entry.{Entry}
@@ -14,13 +14,12 @@ use Rattle.joint_model.specs.Readers.{with_pins}
 use Rattle.joint_model.specs.Sides.{Side}
 use Rattle.joint_model.specs.Told.{Noted}
 use Rattle.known_laws.specs.Lists.{made_by}
-use Rattle.known_laws.specs.Known.{pinned}
 use Rattle.known_laws.specs.Pasts.{end_of}
 use Rattle.order_table.specs.declared.views.View.{View}
 use Rattle.order_table.specs.Rule.{AreLinesOfOneHistory}
 use Rattle.order_table.specs.Views.{Owns, known}
 use Rattle.joint_model.specs.Lines.{IsDriver, IsThread}
-use Rattle.joint_history.specs.Callers.{HoldsPass, Pass, own}
+use Rattle.joint_history.specs.Callers.{HoldsPass, KeepsReads, Pass, own}
 use Rattle.joint_history.specs.declared.ends.RunEnd.{RunEnd}
 use Rattle.joint_history.specs.Desks.{Waiting, flat, present}
 use Rattle.joint_history.specs.Knowing.{line_known}
@@ -32,14 +31,26 @@ Rests (M n) s = IsDone (doing_at s.control n)
 Rests (P n) s = Unit {0}
 Rests C s = s.control.stand ≡ idle
 
--- a thread's seat, when the thread has come to rest
-pub record AtRest (t : Thread) (v : View) : Type 0 where
+-- a thread's seat, with its reads, when the thread has come to rest
+pub record AtRest (t : Thread) (v : View) (reads : List Entry) : Type 0 where
   pub known : IsDrawnView v
   pub pass : HoldsPass t v
+  pub keeps : KeepsReads t v reads
   pub rests : Rests t (end_of known.known.past)
 
+-- the lists with a thread's reads at the place of its reader's line
+abbrev pub with_reads : Thread → List Entry → List (List Entry) → List (List Entry)
+with_reads (M n) es lists = slice_set lists (1 + n) es
+with_reads (P n) es lists = lists
+with_reads C es lists = lists
+
+-- ten lists, in which the reads of these threads stand at the places of their readers' lines
+pub record HasGatheredReads (v : View) (lists : List (List Entry)) (ts : List Thread) : Type 0 where
+  pub ten : length lists ≡ 10
+  pub reads : (n : ℕ) → Contains ts (M n) → slice_index_or lists (1 + n) [] ≡ line_known v (1 + n)
+
 -- a seat that has taken in the seats of both sides and of these threads, which have come to rest
-pub record HasGatheredSeats (v : View) (l : Side ManagedReplay) (r : Side PeerReplay) (ts : List Thread) : Type 0 where
+pub record HasGatheredSeats (v : View) (l : Side ManagedReplay) (r : Side PeerReplay) (lists : List (List Entry)) (ts : List Thread) : Type 0 where
   pub known : IsDrawnView v
   pub managed_role : Owns v 0
   pub peer_role : Owns v 1
@@ -47,22 +58,23 @@ pub record HasGatheredSeats (v : View) (l : Side ManagedReplay) (r : Side PeerRe
   pub managed : (end_of known.known.past).managed ≡ l.state
   pub peer_entries : line_known v 1 ≡ r.entries
   pub peer : (end_of known.known.past).peer ≡ r.state
+  pub reads : HasGatheredReads v lists ts
   pub passes : (t : Thread) → Contains ts t → HoldsPass t v
   pub rests : (t : Thread) → Contains ts t → Rests t (end_of known.known.past)
 
 -- a seat that has taken in the seats of both sides and of all threads
-pub record AllAreIn (v : View) (l : Side ManagedReplay) (r : Side PeerReplay) : Type 0 where
+pub record AllAreIn (v : View) (l : Side ManagedReplay) (r : Side PeerReplay) (lists : List (List Entry)) : Type 0 where
   pub threads : List Thread
-  pub gathered : HasGatheredSeats v l r threads
+  pub gathered : HasGatheredSeats v l r lists threads
   pub all : (t : Thread) → IsThread t → Contains threads t
 
 -- the driver's caller is idle
 abbrev pub HasIdleDriver : Pass → Type 0
 HasIdleDriver p = IsDriver p.thread → (a : IsDrawnView p.view) × ((end_of a.known.past).control.stand ≡ idle)
 
--- whatever was gathered, these threads' seats are now too
-abbrev pub GathersAll : View → View → List Thread → Type 0
-GathersAll old new more = (l : Side ManagedReplay) (r : Side PeerReplay) (ts : List Thread) → HasGatheredSeats old l r ts → HasGatheredSeats new l r (ts ++ more)
+-- whatever was gathered, these threads' seats and reads are now too
+abbrev pub GathersAll : View → View → List (List Entry) → List (List Entry) → List Thread → Type 0
+GathersAll old new lists lists' more = (l : Side ManagedReplay) (r : Side PeerReplay) (ts : List Thread) → HasGatheredSeats old l r lists ts → HasGatheredSeats new l r lists' (ts ++ more)
 
 -- the threads of callers
 abbrev pub threads_of : List Pass → List Thread
@@ -91,14 +103,7 @@ pub record IsFinishedBy (h : Finished) (noted : List Noted) : Type 0 where
   pub linked : IsLinkedBy h noted
   pub queued : HasQueued h noted
 
--- so it is by some notes, after which the state is this one, but for the pins
-pub record IsFinishedAt (h : Finished) (s : Linkage) : Type 0 where
-  pub noted : List Noted
-  pub finished : IsFinishedBy h noted
-  pub pins : List (Option ℕ)
-  pub ends : linked_end noted ≡ pinned s pins
-
--- or has these parts, but for the pins
+-- so it is by some notes, after which both sides' states are these, but for the pins
 pub record IsFinishedWith (h : Finished) (l : ManagedReplay) (r : PeerReplay) : Type 0 where
   pub noted : List Noted
   pub finished : IsFinishedBy h noted
@@ -112,13 +117,17 @@ pub record IsFinished (h : Finished) : Type 0 where
   pub finished : IsFinishedBy h noted
 
 -- the seats of both sides, of the callers that were given out and of those that still wait were taken into one, which knows the whole history
-pub record AllTaken (l : Side ManagedReplay) (r : Side PeerReplay) (d : Waiting) (callers : List Pass) : Type 0 where
+pub record AllTaken (l : Side ManagedReplay) (r : Side PeerReplay) (lists : List (List Entry)) (d : Waiting) (callers : List Pass) : Type 0 where
   pub before : View
   pub seat : View
-  pub gathered : AllAreIn seat l r
+  pub gathered : AllAreIn seat l r lists
   pub whole : AreLinesOfOneHistory seat.known
   pub own : TakesOwn before seat (callers ++ present d.callers)
   pub waiting : (t : Thread) → IsThread t → StillWaits d t → line_known seat (caller_line t) ≡ []
+
+-- the lists of both sides before those of the readers, which stand at the places of their lines
+abbrev pub all_lists : List Entry → List Entry → List (List Entry) → List (List Entry)
+all_lists left right lists = slice_set (slice_set lists 0 left) 1 right
 
 -- the numbers are those of these states of both sides: how many cycles were opened, how many objects and handles were made, and how many of them are left
 pub record AreNumbersOf (e : RunEnd) (l : ManagedReplay) (r : PeerReplay) : Type 0 where

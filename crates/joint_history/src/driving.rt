@@ -1,7 +1,7 @@
 // The driver's calls on a shared bridge: each takes one lock, makes the driver's entries in one hold of it, and gives it back. What the driver knows goes
 // with its caller, so a call is asked for where the driver stands, and answers where it stands then.
 
-ghost use Rattle.std.specs.Prelude.{◌≡◌, ◌≤◌, IfErr, IfOk, OnErr, count_by};
+ghost use Rattle.std.specs.Prelude.{◌≡◌, ◌⊎◌, ◌≤◌, IfErr, IfOk, OnErr, count_by};
 ghost use Rattle.joint_model.specs.Lines.{IsDriver};
 ghost use Rattle.joint_model.specs.Listed.{answers_of};
 ghost use Rattle.joint_history.specs.Driven.{DriverMakesNone, DriverRests, MakesAbandon, MakesContraction, MakesFinalise, MakesRefusal, MakesResolution, MayAbandonCycle, MayContractCycle, MayFinalise, MayRefuseWord, MayResolveCycle};
@@ -123,6 +123,26 @@ impl<N: OrderName, K: Keeps<N>> Shared<N, K> {
             .finalise(&self.order, &mut driver.seat, index, count)
     }
 
+    // The driver tries once to take a snapshot. Answers `NotClosed` where readers are inside the gate: no entry is made then.
+    fn try_snap(
+        &self,
+        rt: &impl Wait,
+        driver: &mut Caller<N>,
+        index: u16,
+    ) -> Result<Opened, SnapFault>
+        requires driver { IsDriver driver.old.thread }
+        requires may { DriverRests driver.old.view index }
+        ensures thread { driver.new.thread ≡ driver.old.thread }
+        ensures ok { IfOk result (λ o. MakesSnapshot driver.old.view driver.new.view index o) }
+        ensures fault { IfErr result (λ e. (e ≡ SnapFault.OutOfMemory) ⊎ (e ≡ SnapFault.NotClosed)) }
+        ensures err { OnErr result (DriverMakesNone driver.old.view driver.new.view) }
+    {
+        self.managed
+            .hold(rt)
+            .value()
+            .snap(&self.order, &mut driver.seat, index)
+    }
+
     /// The driver takes a snapshot and opens the next cycle, as soon as no reader is inside the gate: where some are, the lock is given back and all is
     /// tried again. Answers the cycle, its entry's number, and its dead part as a graph. Answers `OutOfMemory` where there is no memory, or no room for the
     /// entries that the cycle owes: no entry is made then, and the gate is as it was. It answers nothing else.
@@ -140,12 +160,7 @@ impl<N: OrderName, K: Keeps<N>> Shared<N, K> {
         ensures err { OnErr result (DriverMakesNone driver.old.view driver.new.view) }
     {
         for _ in rt.forever() {
-            let tried = self
-                .managed
-                .hold(rt)
-                .value()
-                .snap(&self.order, &mut driver.seat, index);
-            match tried {
+            match self.try_snap(rt, driver, index) {
                 Err(SnapFault::NotClosed) => yield_now(),
                 tried => return tried,
             }

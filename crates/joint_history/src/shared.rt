@@ -1,7 +1,7 @@
 // Two sides beside one order.
 
-ghost use Rattle.std.specs.Prelude.{◌≡◌, ◌≤◌, [], ◌∷◌, All, IfOk};
-ghost use Rattle.joint_model.specs.Histories.{IsJoinable, IsShuffle};
+ghost use Rattle.std.specs.Prelude.{◌≡◌, ◌≤◌, [], length, All, IfOk};
+ghost use Rattle.joint_model.specs.Histories.{IsJoinable, IsShuffle, entry_lists};
 ghost use Rattle.joint_model.specs.Lines.{IsDriver, IsThread};
 ghost use Rattle.joint_model.specs.LinkedHistories.{IsLinked};
 ghost use Rattle.known_laws.specs.Lists.{made_by};
@@ -11,7 +11,7 @@ ghost use Rattle.order_table.specs.Views.{Owns, OwnsAll};
 ghost use Rattle.joint_history.specs.Callers.{Hears, KnowsNothing, Tells};
 ghost use Rattle.joint_history.specs.Desks.{AreAll};
 ghost use Rattle.joint_history.specs.Driven.{StillStands};
-ghost use Rattle.joint_history.specs.Ending.{AllTaken, HasAll, HasIdleDriver, HasOwn, HasEndNumbers, IsFinished, StillWaits};
+ghost use Rattle.joint_history.specs.Ending.{all_lists, AllTaken, HasAll, HasIdleDriver, HasOwn, HasEndNumbers, IsFinished, StillWaits};
 
 use crate::callers::{Caller, tell};
 use crate::desks::Desk;
@@ -20,7 +20,7 @@ use crate::gathers::gather_all;
 use crate::keeping::{Keep, Keeps};
 use crate::managed::LockedManaged;
 use crate::peer::LockedPeer;
-use joint_model::{History, Holding, PastHistory, Thread};
+use joint_model::{Entries, History, Holding, PastHistory, Thread};
 use managed_side::{ManagedLists, ManagedSide};
 use order_table::{Order, OrderName, Role, Seat};
 use peer_side::{PeerLists, PeerSide};
@@ -37,33 +37,45 @@ pub struct Shared<N: OrderName, K: Keeps<N>> {
     ghost named: { order ≡ N.order },
 }
 
-// Joins the lists of both sides into one history.
-fn join_lists(alloc: Global, left: ManagedLists, right: PeerLists) -> Result<History, AllocError>
-    requires { IsJoinable (left.entries.entries ∷ right.entries.entries ∷ []) left.freed.items right.freed.items left.notices.items }
-    ensures shuffle { IfOk result (λ h. IsShuffle (left.entries.entries ∷ right.entries.entries ∷ []) h.entries) }
+// Ten lists without entries, one for each line of a side or of a reader.
+fn no_lists(alloc: Global) -> [Entries; 10]
+    ensures { length result ≡ 10 }
+{
+    std::array::from_fn(|_| Entries::new(alloc, Holding::Every))
+}
+
+// Joins the lists of both sides and of the readers into one history.
+fn join_lists(
+    alloc: Global,
+    left: ManagedLists,
+    right: PeerLists,
+    readers: [Entries; 10],
+) -> Result<History, AllocError>
+    requires { IsJoinable (all_lists left.entries.entries right.entries.entries (entry_lists readers)) left.freed.items right.freed.items left.notices.items }
+    ensures shuffle { IfOk result (λ h. IsShuffle (all_lists left.entries.entries right.entries.entries (entry_lists readers)) h.entries) }
     ensures managed { IfOk result (λ h. h.freed_managed ≡ left.freed.items) }
     ensures peers { IfOk result (λ h. h.freed_peers ≡ right.freed.items) }
     ensures notices { IfOk result (λ h. h.notices ≡ left.notices.items) }
 {
-    let lists = vec![in alloc; left.entries, right.entries]?;
+    let mut lists = readers;
+    lists[0] = left.entries;
+    lists[1] = right.entries;
+    let lists = Vec::from_array(alloc, lists)?;
     History::join(alloc, lists, left.freed, right.freed, left.notices)
 }
 
-// Joins the lists of both sides into one history for proofs.
-fn join_past(left: ManagedLists, right: PeerLists) -> PastHistory
-    requires { IsJoinable (left.entries.entries ∷ right.entries.entries ∷ []) left.freed.items right.freed.items left.notices.items }
-    ensures shuffle { IsShuffle (left.entries.entries ∷ right.entries.entries ∷ []) result.entries }
+// The same for proofs alone.
+fn join_past(left: ManagedLists, right: PeerLists, readers: [Entries; 10]) -> PastHistory
+    requires { IsJoinable (all_lists left.entries.entries right.entries.entries (entry_lists readers)) left.freed.items right.freed.items left.notices.items }
+    ensures shuffle { IsShuffle (all_lists left.entries.entries right.entries.entries (entry_lists readers)) result.entries }
     ensures managed { result.freed_managed ≡ left.freed.items }
     ensures peers { result.freed_peers ≡ right.freed.items }
     ensures notices { result.notices ≡ left.notices.items }
 {
-    PastHistory::join(
-        left.entries,
-        right.entries,
-        left.freed,
-        right.freed,
-        left.notices,
-    )
+    let mut lists = readers;
+    lists[0] = left.entries;
+    lists[1] = right.entries;
+    PastHistory::join(lists, left.freed, right.freed, left.notices)
 }
 
 impl<N: OrderName, K: Keeps<N>> Shared<N, K> {
@@ -132,29 +144,33 @@ impl<N: OrderName, K: Keeps<N>> Shared<N, K> {
         tell(&self.order, from, to);
     }
 
-    // Takes the seats of both sides and of all callers into one.
-    fn take_all(self, desk: Desk<N>, callers: Vec<Caller<N>>) -> (ManagedSide, PeerSide)
+    // Takes the seats of both sides and of all callers into one, and puts the lists of reads at the places of their readers' lines.
+    fn take_all(
+        self,
+        desk: Desk<N>,
+        callers: Vec<Caller<N>>,
+    ) -> (ManagedSide, PeerSide, [Entries; 10])
         requires all { HasAll desk callers.items }
         requires idle { All HasIdleDriver callers.items }
-        ensures { AllTaken result.0 (seen result.1) desk callers.items }
+        ensures { AllTaken result.0 (seen result.1) (entry_lists result.2) desk callers.items }
     {
         let Shared {
+            alloc,
             order,
             managed,
             peers,
-            ..
         } = self;
+        let mut lists = no_lists(alloc);
         let (managed_side, mut seat) = managed.into_value().into_parts();
         let (peer_side, peer_seat) = peers.into_value().into_parts();
-        gather_all(&order, &mut seat, peer_seat, desk, callers);
+        gather_all(&order, &mut seat, &mut lists, peer_seat, desk, callers);
         let _ = order.finish(seat);
-        (managed_side, peer_side)
+        (managed_side, peer_side, lists)
     }
 
     /// Ends the run: one history of all entries, which is linked, has all notices that were ever queued, and in which each caller has just the
-    /// entries that it made. Each thread's
-    /// caller is still at the desk or is given back here, and the driver's is idle. Answers `AllocError` where there is no memory for the
-    /// history, or where the sides' lists let entries go.
+    /// entries that it made. Each thread's caller is still at the desk or is given back here, and the driver's is idle. Answers `AllocError`
+    /// where there is no memory for the history, or where a list of a side or of a thread's reads let entries go.
     pub fn finish(self, desk: Desk<N>, callers: Vec<Caller<N>>) -> Result<History, AllocError>
         requires all { HasAll desk callers.items }
         requires idle { All HasIdleDriver callers.items }
@@ -164,8 +180,8 @@ impl<N: OrderName, K: Keeps<N>> Shared<N, K> {
         ensures none { IfOk result (λ h. (t : Thread) → IsThread t → StillWaits desk t → made_by t h.entries ≡ []) }
     {
         let alloc = self.alloc;
-        let (left, right) = self.take_all(desk, callers);
-        join_lists(alloc, left.into_lists(), right.into_lists())
+        let (left, right, readers) = self.take_all(desk, callers);
+        join_lists(alloc, left.into_lists(), right.into_lists(), readers)
     }
 
     /// Ends a run of which no entry is read: its history is that of `finish`, for proofs alone, and what is left of it are the numbers of its last
@@ -179,7 +195,7 @@ impl<N: OrderName, K: Keeps<N>> Shared<N, K> {
         ensures none { (t : Thread) → IsThread t → StillWaits desk t → made_by t result.history.entries ≡ [] }
         ensures counted { HasEndNumbers result }
     {
-        let (left, right) = self.take_all(desk, callers);
+        let (left, right, readers) = self.take_all(desk, callers);
         let cycles = left.cycles();
         let managed = Made {
             all: left.made(),
@@ -194,7 +210,7 @@ impl<N: OrderName, K: Keeps<N>> Shared<N, K> {
             left: right.tabled(),
         };
         RunEnd {
-            history: join_past(left.into_lists(), right.into_lists()),
+            history: join_past(left.into_lists(), right.into_lists(), readers),
             cycles,
             managed,
             peers,

@@ -7,6 +7,7 @@ ghost use Rattle.joint_model.specs.Lines.{IsDriver, IsThread};
 ghost use Rattle.known_laws.specs.Lists.{made_by};
 ghost use Rattle.joint_history.specs.Callers.{KnowsNothing, last_index, own};
 ghost use Rattle.joint_history.specs.Ending.{HasAll, HasIdleDriver, HasOwn, HasEndNumbers, IsFinished, StillWaits};
+ghost use Rattle.order_table.specs.Allowed.{Settled};
 ghost use Rattle.order_table.specs.Views.{OwnsAll};
 ghost use Rattle.run_laws.specs.Final.{IsRunInOrder};
 ghost use Rattle.run_laws.specs.LastCycle.{DrivesCycles, EndsWithCycle, IsRunThenCycle, cycle_line};
@@ -104,7 +105,7 @@ fn run_named<N: OrderName + Send + Sync, R: Threads + Wait + Sync, T: Turnstile 
 ) -> Result<RunEnd, AllocError>
     requires order { order ≡ N.order }
     requires run { (N.managed ≡ 8) × (N.peers ≡ 8) }
-    requires seat { (seat.order ≡ N.order) × OwnsAll seat.view × KnowsNothing seat.view }
+    requires seat { (seat.order ≡ N.order) × OwnsAll seat.view × KnowsNothing seat.view × Settled seat.view }
     requires lines { CanRun script.now }
     requires room { length script.now < 65535 }
     ensures history { IfOk result (λ e. IsRunThenCycle script.now e.history) }

@@ -3,6 +3,7 @@
 ghost use Rattle.std.specs.Prelude.{◌≡◌, ℕ, ◌+◌, ◌≤◌, ◌<◌, [], Some, All, IfOk, OnOk, OnErr, length, slice_get};
 ghost use Rattle.joint_model.specs.Histories.{Finished};
 ghost use Rattle.joint_model.specs.Linked.{IsLinked};
+ghost use Rattle.order_table.specs.Allowed.{Settled};
 ghost use Rattle.order_table.specs.Views.{OwnsAll};
 ghost use Rattle.joint_history.specs.Callers.{KnowsNothing, Pass, last_index, own};
 ghost use Rattle.joint_history.specs.Desks.{AreAll};
@@ -161,7 +162,7 @@ fn run_lines<N: OrderName>(
 ) -> Result<(Shared<N, Alone>, Desk<N>, Vec<Caller<N>>), AllocError>
     requires order { order ≡ N.order }
     requires run { (N.managed ≡ 8) × (N.peers ≡ 8) }
-    requires seat { (seat.order ≡ N.order) × OwnsAll seat.view × KnowsNothing seat.view }
+    requires seat { (seat.order ≡ N.order) × OwnsAll seat.view × KnowsNothing seat.view × Settled seat.view }
     requires lines { CanRun script.now }
     ensures all { IfOk result (λ r. HasAll r.1 r.2.items) }
     ensures idle { IfOk result (λ r. All HasIdleDriver r.2.items) }
@@ -187,7 +188,7 @@ fn run_named<N: OrderName>(
 ) -> Result<History, AllocError>
     requires order { order ≡ N.order }
     requires run { (N.managed ≡ 8) × (N.peers ≡ 8) }
-    requires seat { (seat.order ≡ N.order) × OwnsAll seat.view × KnowsNothing seat.view }
+    requires seat { (seat.order ≡ N.order) × OwnsAll seat.view × KnowsNothing seat.view × Settled seat.view }
     requires lines { CanRun script.now }
     ensures { IfOk result (IsRunInOrder script.now) }
 {
@@ -205,7 +206,7 @@ fn end_named<N: OrderName>(
 ) -> Result<RunEnd, AllocError>
     requires order { order ≡ N.order }
     requires run { (N.managed ≡ 8) × (N.peers ≡ 8) }
-    requires seat { (seat.order ≡ N.order) × OwnsAll seat.view × KnowsNothing seat.view }
+    requires seat { (seat.order ≡ N.order) × OwnsAll seat.view × KnowsNothing seat.view × Settled seat.view }
     requires lines { CanRun script.now }
     ensures history { IfOk result (λ e. IsRunInOrder script.now e.history) }
     ensures counted { IfOk result HasEndNumbers }

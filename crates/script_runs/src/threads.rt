@@ -5,6 +5,7 @@ ghost use Rattle.joint_model.specs.declared.names.Thread.{Thread};
 ghost use Rattle.joint_model.specs.Histories.{Finished};
 ghost use Rattle.joint_model.specs.Linked.{IsLinked};
 ghost use Rattle.joint_model.specs.Lines.{IsThread};
+ghost use Rattle.order_table.specs.Allowed.{Settled};
 ghost use Rattle.order_table.specs.Views.{OwnsAll};
 ghost use Rattle.joint_history.specs.Callers.{KnowsNothing};
 ghost use Rattle.joint_history.specs.Ending.{HasAll, HasIdleDriver, HasOwn, IsFinished, StillWaits};
@@ -94,7 +95,7 @@ fn run_named<N: OrderName + Send + Sync, R: Threads + Wait + Sync, T: Turnstile 
 ) -> Result<History, AllocError>
     requires order { order ≡ N.order }
     requires run { (N.managed ≡ 8) × (N.peers ≡ 8) }
-    requires seat { (seat.order ≡ N.order) × OwnsAll seat.view × KnowsNothing seat.view }
+    requires seat { (seat.order ≡ N.order) × OwnsAll seat.view × KnowsNothing seat.view × Settled seat.view }
     requires lines { CanRun script.now }
     ensures { IfOk result (IsRunByThreads script.now) }
 {

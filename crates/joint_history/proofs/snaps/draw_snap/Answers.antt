@@ -1,5 +1,4 @@
-use Rattle.std.proofs.Common.{ap, arith, refl, rules, sym, ◌∙◌}
-use Rattle.order_table.specs.Facts.{line_entries}
+use Rattle.std.proofs.Common.{rules, sym, ◌∙◌}
 use Rattle.seat_calls.proofs.Floors.{below_floor, room_left}
 use Rattle.joint_history.proofs.CycleDraws.{cycle_next}
 use Rattle.joint_history.proofs.Scanning.{knows_gate, pins_stand, snap_drawn, snap_may, snapshot_still}

@@ -7,7 +7,7 @@ use Rattle.joint_history.specs.Collecting.{Collects}
 use Rattle.joint_history.specs.Locked.{MakesNone}
 use Rattle.joint_history.specs.Operations.{MakesAll, Runs}
 use Rattle.joint_history.proofs.Collecting.{all_run, none_made}
-use Rattle.joint_history.proofs.Running.{beginner_is_below, beginner_knows, breaks_none, peer_is_own, peer_operation}
+use Rattle.joint_history.proofs.Running.{beginner_is_below, beginner_knows, breaks_none, peer_is_own, peer_keeps_none, peer_operation}
 use Rattle.joint_history.proofs.Turning.{caller_begins}
 use Rattle.joint_history.proofs.shared.Shared.peer.Goals as goal
 
@@ -15,7 +15,8 @@ pub collect-requires-clause-begins : goal.collect-requires-clause-begins
 collect-requires-clause-begins g c = caller_begins c.caller.inside.thread c.caller.inside.seat.view c.args.index c.caller.invariant.0.0 c.caller.invariant.3 (subst (λ (p : Pass). last_index (own p) ≤ c.args.index) (sym c.caller.view_is) c.requires.index)
 
 pub invariant_of-caller : goal.invariant_of-caller
-invariant_of-caller g c = (c.caller.invariant.0, c.collect.ensures.order, c.collect.ensures.pass, beginner_knows c.caller.inside.thread c.collect.new.mine.view c.args.index c.collect.ensures.begins)
+invariant_of-caller g c = (c.caller.invariant.0, c.collect.ensures.order, c.collect.ensures.pass, beginner_knows c.caller.inside.thread c.collect.new.mine.view c.args.index c.collect.ensures.begins, c.collect.ensures.settled,
+    peer_keeps_none c.caller.inside.thread c.caller.inside.seat.view c.collect.new.mine.view c.caller.inside.reads.entries (subst (λ (p : Pass). IsPeerThread p.thread) (sym c.caller.view_is) c.requires.act.0) c.caller.invariant.5)
 
 pub returns-in-Collect-clause-index : goal.returns-in-Collect-clause-index
 returns-in-Collect-clause-index g c = beginner_is_below c.caller.inside.thread c.collect.new.mine.view c.args.index c.caller.invariant.0.0 c.collect.ensures.begins
@@ -40,7 +41,7 @@ pub run-requires-clause-act : goal.run-requires-clause-act
 run-requires-clause-act g c = peer_operation c.caller.inside.thread c.args.act.now (subst (λ (p : Pass). IsPeerThread p.thread) (sym c.caller.view_is) c.requires.act.0) (subst (λ (p : Pass). IsLine p.thread c.args.act.now) (sym c.caller.view_is) c.requires.act.1) c.requires.act.2 c.in_default.not-Collect
 
 pub invariant_of-caller-2 : goal.invariant_of-caller-2
-invariant_of-caller-2 g c = (c.caller.invariant.0, c.run.ensures.order, c.run.ensures.pass, beginner_knows c.caller.inside.thread c.run.new.mine.view c.args.index c.run.ensures.begins)
+invariant_of-caller-2 g c = (c.caller.invariant.0, c.run.ensures.order, c.run.ensures.pass, beginner_knows c.caller.inside.thread c.run.new.mine.view c.args.index c.run.ensures.begins, c.run.ensures.settled, c.run.ensures.reads)
 
 pub returns-clause-thread : goal.returns-clause-thread
 returns-clause-thread g c = ap (λ (p : Pass). p.thread) c.caller.view_is

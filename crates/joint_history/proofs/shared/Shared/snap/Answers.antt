@@ -1,27 +1,21 @@
-use Rattle.std.proofs.Common.{sym, subst}
-use Rattle.joint_model.specs.Lines.{IsDriver}
-use Rattle.joint_model.specs.Control.{idle}
-use Rattle.joint_history.specs.Driven.{DriverRests}
-use Rattle.joint_history.specs.DriverSnaps.{MakesSnapshot}
-use Rattle.joint_history.specs.Callers.{Pass}
-use Rattle.joint_history.proofs.DriverCallers.{knows_either}
-use Rattle.joint_history.proofs.DriverHears.{driver_pass, driver_pass_back, driver_reads}
+-- Each try makes the snapshot, or no entry.
+use Rattle.std.proofs.Common.{◌∙◌, rules}
+use Rattle.std.proofs.lemmas.Result.{IfOk-weaker, on_err_weaker}
+use Rattle.joint_history.proofs.DriverSnaps.{none_rests, none_then_none, none_then_snap}
 use Rattle.joint_history.proofs.shared.Shared.snap.Goals as goal
 
-pub snap-requires-clause-pass : goal.snap-requires-clause-pass
-snap-requires-clause-pass g c = driver_pass c.driver.inside.thread c.driver.inside.seat.view (subst (λ (p : Pass). IsDriver p.thread) (sym c.driver.view_is) c.requires.driver) c.driver.invariant.2
+pub try_snap-requires-clause-may : goal.try_snap-requires-clause-may
+try_snap-requires-clause-may g c = none_rests c.args.driver.now.view c.loop.driver.view c.args.index c.loop.invariant.3 c.requires.may
 
-pub snap-requires-clause-may : goal.snap-requires-clause-may
-snap-requires-clause-may g c = subst (λ (p : Pass). DriverRests p.view c.args.index) (sym c.driver.view_is) c.requires.may
+pub loop-preserved : goal.loop-preserved
+loop-preserved g c = (tt, tt, c.try_snap.ensures.thread ∙ c.loop.invariant.2, none_then_none c.args.driver.now.view c.loop.driver.view c.try_snap.new.driver.view c.loop.invariant.3 c.in-Err-NotClosed.ensures.err)
 
-pub invariant_of-driver : goal.invariant_of-driver
-invariant_of-driver g c =
-    let driver = subst (λ (p : Pass). IsDriver p.thread) (sym c.driver.view_is) c.requires.driver in
-    let may = subst (λ (p : Pass). DriverRests p.view c.args.index) (sym c.driver.view_is) c.requires.may in (
-      c.driver.invariant.0,
-      c.snap.ensures.order,
-      driver_pass_back c.driver.inside.thread c.snap.new.mine.view driver c.snap.ensures.pass,
-      knows_either c.driver.inside.thread c.driver.inside.seat.view c.snap.new.mine.view c.snap.result (λ o. MakesSnapshot c.driver.inside.seat.view c.snap.new.mine.view c.args.index o) driver c.snap.ensures.ok (λ r q. (q may.seen may.stands).stands.known) c.snap.ensures.err c.args.index idle may.seen may.stands,
-      c.snap.ensures.settled,
-      driver_reads c.driver.inside.thread c.driver.inside.seat.view c.snap.new.mine.view c.driver.inside.reads.entries driver c.driver.invariant.5,
-    )
+pub returns-in_default-clause-ok : goal.returns-in_default-clause-ok
+returns-in_default-clause-ok g c =
+    let w = IfOk-weaker c.try_snap.result _ _ (λ o m. none_then_snap c.args.driver.now.view c.loop.driver.view c.try_snap.new.driver.view c.args.index o c.loop.invariant.3 m) c.try_snap.ensures.ok in
+    search rules
+
+pub returns-in_default-clause-err : goal.returns-in_default-clause-err
+returns-in_default-clause-err g c =
+    let w = on_err_weaker c.try_snap.result (none_then_none c.args.driver.now.view c.loop.driver.view c.try_snap.new.driver.view c.loop.invariant.3) c.try_snap.ensures.err in
+    search rules
