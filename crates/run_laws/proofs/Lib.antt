@@ -1,4 +1,5 @@
 pub mod Lining
+pub mod Answering
 pub mod ByThreads
 pub mod InOrder
 pub mod InOrderEnds

@@ -5,7 +5,7 @@ use Rattle.joint_model.specs.declared.lines.Act.{Act}
 use Rattle.joint_model.specs.declared.events.Entry.{Entry}
 use Rattle.joint_model.specs.Histories.{Finished}
 use Rattle.joint_model.specs.Lines.{IsLine, IsThread}
-use Rattle.joint_model.specs.Linked.{IsLinked}
+use Rattle.joint_model.specs.LinkedHistories.{IsLinked}
 use Rattle.joint_model.specs.PeerReplay.{is_thread}
 use Rattle.known_laws.specs.Lists.{made_by}
 use Rattle.joint_history.specs.Callers.{Pass, own}

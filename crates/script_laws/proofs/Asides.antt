@@ -69,7 +69,7 @@ no-cell (op.Line (act.Await c)) k e r = true≢false e
 no-cell (op.Line a) k e r = r
 no-cell _ k e r = r
 
-read-line : (t : Thread) (o : Op) → IsEvent t o → is_read o ≡ true → (0 == list_line t o) ≡ false
+pub read-line : (t : Thread) (o : Op) → IsEvent t o → is_read o ≡ true → (0 == list_line t o) ≡ false
 read-line (M n) (op.Line (act.Read c)) v e = ne_eqb 0 (1 + n) (omega arith)
 read-line (M n) (op.Line (act.Await c)) v e = ne_eqb 0 (1 + n) (omega arith)
 read-line (P n) (op.Line (act.Read c)) v e = absurd v.0.1
