@@ -1,11 +1,9 @@
 -- A read whose answer is exact by the managed list that its caller knows is right by the entries of that list: what the caller knows is a past, whose state has the cycle open that
 -- the entries leave open, and no target in a cell that none of them set. And of what it knows of any caller's line, the managed entries stand in the managed list.
-use Rattle.std.proofs.Common.{◌≡◌, inl, inr, ⊎_elim, ℕ, ◌==◌, Bool, true, false, List, [], ◌∷◌, ◌++◌, Option, Some, None, refl, sym, ap, ◌∙◌, subst, true≢false, eq-eqb}
+use Rattle.std.proofs.Common.{◌≡◌, inl, inr, ⊎_elim, ℕ, ◌==◌, Bool, true, false, List, [], ◌∷◌, Option, Some, None, refl, sym, ap, ◌∙◌, subst, true≢false, eq-eqb}
 use Rattle.std.specs.Prelude.{Contains, if◌then◌else◌, nat_eq}
 use Rattle.std.proofs.lemmas.List.{append-nil}
 use Rattle.std.proofs.lemmas.List.Elements.{Contains-append_left}
-use mathlib.Core.List.{IsPrefix}
-use Rattle.joint_model.specs.declared.names.MNum.{MNum}
 use Rattle.joint_model.specs.declared.names.Thread.{Thread}
 use Rattle.joint_model.specs.declared.names.Thread.TheVariants.{M, P, C}
 use Rattle.joint_model.specs.declared.lines.Act.{Act}
@@ -15,9 +13,9 @@ use Rattle.joint_model.specs.declared.events.Op.TheVariants as op
 use Rattle.joint_model.specs.declared.events.Reply.{Reply}
 use Rattle.joint_model.specs.declared.events.Reply.TheVariants as says
 use Rattle.joint_model.specs.declared.events.Entry.{Entry}
-use Rattle.joint_model.specs.Heaps.{Answered, is_freed, place, slot}
-use Rattle.joint_model.specs.HistoryLines.{caller_line, side_line, stands_in}
-use Rattle.joint_model.specs.Lines.{IsEvent, IsLine, IsManagedThread, is_peer_event, is_read, list_line}
+use Rattle.joint_model.specs.Heaps.{is_freed, place, slot}
+use Rattle.joint_model.specs.HistoryLines.{caller_line, stands_in}
+use Rattle.joint_model.specs.Lines.{IsEvent, IsLine, is_peer_event, is_read, list_line}
 use Rattle.joint_model.specs.Linked.{SideLawful}
 use Rattle.joint_model.specs.Managed.{Managed}
 use Rattle.joint_model.specs.ManagedReplay.{ManagedReplay, managed_answer}
@@ -49,12 +47,11 @@ use Rattle.view_laws.specs.Knowing.{IsDrawnView}
 use Rattle.view_laws.proofs.ExactReads.{exact_reads_are_replies}
 use Rattle.joint_history.specs.declared.callers.Receipt.{Receipt}
 use Rattle.joint_history.specs.Knowing.{line_known}
-use Rattle.joint_history.specs.Operations.{EndsWithFirst, EndsWithSecond, EndsWithThird, IsOperation, IsOperationOf, MakesAll, ReadsExactly, cited_by, entry_by, first_of, second_of, third_of}
+use Rattle.joint_history.specs.Operations.{EndsWithFirst, EndsWithSecond, EndsWithThird, IsOperation, cited_by, entry_by, first_of, second_of, third_of}
 use Rattle.joint_history.proofs.KnownViews.{entries_begin, line_of_past}
 use Rattle.script_laws.specs.Asides.{open_among, HasSet, IsAsideBy}
 use Rattle.script_laws.proofs.Asides.{open-more, stands-by}
 use Rattle.run_laws.specs.Lines.{OperationsAreAnswered}
-use Rattle.run_laws.specs.Serial.{IsAnswered, ReadsAreAnswered}
 
 -- members of a past's line
 in-past : (ns : List Noted) (f : Entry) → Contains (entries ns) f → (x : Noted) × InPast ns x × (x.entry ≡ f)

@@ -185,8 +185,8 @@ module _ (v : View) (all : List Entry) (rises : Rises (numbers_of all)) (begins 
         let w = r.0 read (read-managed e.made.caller e.made.op event read) in
         subst (λ l. IsAsideBy l k e.made.reply) (is-before before ns e a read w) (w.exact k c),
     subst (λ l. AsidesAreExact l ns)
-    (in-filter (before ++ e ∷ []) ∙ (filter-append (stands_in 0) before (e ∷ []) ∙ (λ i. sym (in-filter before) i ++ sym (in-filter (e ∷ [])) i)))
-    (asides-from (before ++ e ∷ []) ns (a ∙ sym (append_assoc before (e ∷ []) ns)) r.1),
+        (in-filter (before ++ e ∷ []) ∙ (filter-append (stands_in 0) before (e ∷ []) ∙ (λ i. sym (in-filter before) i ++ sym (in-filter (e ∷ [])) i)))
+        (asides-from (before ++ e ∷ []) ns (a ∙ sym (append_assoc before (e ∷ []) ns)) r.1),
   )
 
 pub runs_hold_script : RunsHoldScript

@@ -3,5 +3,6 @@ pub mod Answering
 pub mod ByThreads
 pub mod InOrder
 pub mod InOrderEnds
+pub mod Waits
 pub mod Finals
 pub mod LastCycle

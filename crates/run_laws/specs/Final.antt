@@ -1,15 +1,11 @@
 -- What a finished run's history is: linked, with all that was queued; each cycle ends in it; it is a run of the one machine whose single
 -- graph joins both heaps, sound and complete; and what is read of a freed object is gone. Of the lines it holds, line after line or thread
 -- by thread, each once.
-use Rattle.std.specs.Prelude.{◌≡◌, ◌⊎◌, ℕ, ◌<◌, ◌^◌, true, List, [], Contains, Some, length, slice_get}
+use Rattle.std.specs.Prelude.{◌≡◌, ◌⊎◌, ℕ, ◌<◌, ◌^◌, true, List, [], Some, length, slice_get}
 use Rattle.joint_model.specs.declared.names.Thread.{Thread}
-use Rattle.joint_model.specs.declared.names.Cell.{Cell}
-use Rattle.joint_model.specs.declared.names.Cycle.{Cycle}
 use Rattle.joint_model.specs.declared.lines.Act.{Act}
-use Rattle.joint_model.specs.declared.lines.Act.TheVariants as act
 use Rattle.joint_model.specs.declared.events.Op.TheVariants as op
 use Rattle.joint_model.specs.declared.events.Reply.TheVariants as says
-use Rattle.joint_model.specs.declared.events.Entry.{Entry}
 use Rattle.joint_model.specs.Headline.{IsSoundRun, IsCompleteRun}
 use Rattle.joint_model.specs.Histories.{Finished}
 use Rattle.joint_model.specs.Linked.{opening_linkage}
@@ -26,6 +22,7 @@ use Rattle.script_laws.specs.Ending.{AllCyclesEnd, OwnCyclesEnd}
 use Rattle.script_laws.specs.Holding.{HoldsInOrder, HoldsPerThread}
 use Rattle.script_laws.specs.Laws.{IsOneHistory}
 use Rattle.run_laws.specs.Serial.{HoldsExactly}
+use Rattle.run_laws.specs.Threads.{WaitsEnd}
 
 -- from its resolve on, a read of a cell whose target was freed answers gone, unless it is set aside, the caller's pin is filled, or a later cycle is open
 abbrev pub FreedReadsAreGone : List Noted → Type 0
@@ -68,13 +65,6 @@ pub record IsRunInOrder (script : List (Thread × Act)) (h : Finished) : Type 0 
   pub lines : HoldsInOrder script h.entries
   pub exact : AreExact opening_linkage noted
   pub only : (other : Finished) (theirs : IsLinked other) → AreExact opening_linkage theirs.noted → HoldsInOrder script other.entries → IsOneHistory other h theirs record { noted = noted; linked = kept.linked }
-
--- a read that waits is answered once no cycle is in its way: it never answers `pending`
-abbrev pub IsWaitPending : Entry → Type 0
-IsWaitPending e = (k : Cell) × (c : Cycle) × (e.made.op ≡ op.Line (act.Await k)) × (e.made.reply ≡ says.Pending c)
-
-abbrev pub WaitsEnd : List Entry → Type 0
-WaitsEnd es = (e : Entry) → Contains es e → IsWaitPending e → ⊥
 
 -- the history of a script's run on many threads: of each thread it holds the lines in their order, and no wait answers `pending`
 pub record IsRunByThreads (script : List (Thread × Act)) (h : Finished) : Type 0 where

@@ -1,7 +1,12 @@
 -- A run thread by thread: what each thread's caller holds while its lines are run, and that what all hold is the script.
 use Rattle.std.specs.Prelude.{◌≡◌, ℕ, ◌+◌, false, List, [], ◌++◌, All, Contains, Some, length, slice_get, take}
 use Rattle.joint_model.specs.declared.names.Thread.{Thread}
+use Rattle.joint_model.specs.declared.names.Cell.{Cell}
+use Rattle.joint_model.specs.declared.names.Cycle.{Cycle}
 use Rattle.joint_model.specs.declared.lines.Act.{Act}
+use Rattle.joint_model.specs.declared.lines.Act.TheVariants as act
+use Rattle.joint_model.specs.declared.events.Op.TheVariants as op
+use Rattle.joint_model.specs.declared.events.Reply.TheVariants as says
 use Rattle.joint_model.specs.declared.events.Entry.{Entry}
 use Rattle.joint_model.specs.Histories.{Finished}
 use Rattle.joint_model.specs.Lines.{IsLine, IsThread}
@@ -47,3 +52,23 @@ NoneIsLeft script d = (t : Thread) → IsThread t → StillWaits d t → thread_
 abbrev pub ThreadsHoldScript : Type 0
 ThreadsHoldScript = (script : List (Thread × Act)) (h : Finished) (d : Waiting) (callers : List Pass) → IsLinked h → ((line : Thread × Act) → Contains script line → IsLine line.0 line.1)
     → HasAll d callers → All (HasOwn h.entries) callers → ((t : Thread) → IsThread t → StillWaits d t → made_by t h.entries ≡ []) → All (HoldsItsLines script) callers → NoneIsLeft script d → HoldsPerThread script h.entries
+
+-- a read that waits answered `pending`
+pub record IsWaitPending (e : Entry) : Type 0 where
+  pub cell : Cell
+  pub cycle : Cycle
+  pub waits : e.made.op ≡ op.Line (act.Await cell)
+  pub pending : e.made.reply ≡ says.Pending cycle
+
+-- none of these did: each wait is answered once no cycle is in its way
+abbrev pub WaitsEnd : List Entry → Type 0
+WaitsEnd es = (e : Entry) → Contains es e → IsWaitPending e → ⊥
+
+-- so it is with more entries of which none did
+abbrev pub MoreWaitsEnd : Type 0
+MoreWaitsEnd = (es fs : List Entry) → WaitsEnd es → WaitsEnd fs → WaitsEnd (es ++ fs)
+
+-- and of the finished history, where it is of each caller that was given out
+abbrev pub CallersWaitsEnd : Type 0
+CallersWaitsEnd = (h : Finished) (d : Waiting) (callers : List Pass) → IsLinked h → HasAll d callers → All (HasOwn h.entries) callers → ((t : Thread) → IsThread t → StillWaits d t → made_by t h.entries ≡ [])
+    → All (λ p. WaitsEnd (own p)) callers → WaitsEnd h.entries
