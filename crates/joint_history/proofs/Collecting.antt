@@ -34,7 +34,7 @@ use Rattle.order_table.specs.Views.{OrderId, Shown, known, kept, Owns, role_line
 use Rattle.peer_side.specs.Makings.{collect_makings}
 use Rattle.peer_side.specs.Sides.{PeerModel, seen}
 use Rattle.joint_history.specs.declared.callers.Receipt.{Receipt}
-use Rattle.joint_history.specs.declared.seats.SeatDrawing.{SeatDrawing}
+use Rattle.seat_calls.specs.declared.seats.SeatDrawing.{SeatDrawing}
 use Rattle.joint_history.specs.Callers.{HoldsPass}
 use Rattle.joint_history.specs.Collecting.{Collects, DrawsCollect, DrawsRefusal, DrawsWhole, began_at, refused_at, swept_at}
 use Rattle.joint_history.specs.Knowing.{line_known, note_of}

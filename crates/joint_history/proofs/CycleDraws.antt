@@ -103,8 +103,9 @@ not_has xs m n = elim (cases_Bool (has (numbers_of xs) m)) [ inl e ↦ absurd (n
 pub frees_these : (old new : ManagedReplay) (k : KeptEntry) (freed : List ℕ) → new.managed.heap ≡ with_freed old.managed.heap freed → k.freed ≡ numbers_of freed → Frees old new k
 frees_these old new k freed e is = record {
   live = λ m. (
-      (λ l. (let l2 = subst (λ h. IsLive h m) e l in (IsLive-before old.managed.heap freed m l2, ap (λ xs. has xs m) is ∙ not_has freed m (IsLive-spared old.managed.heap freed m l2)))),
-      (λ z. subst (λ h. IsLive h m) (sym e) (IsLive-left old.managed.heap freed m z.0 (λ c. both_ways (has (numbers_of freed) m) (sym (ap (λ xs. has xs m) is) ∙ z.1) (frees-has (snap_of freed [] []) m c)))));
+    (λ l. (let l2 = subst (λ h. IsLive h m) e l in (IsLive-before old.managed.heap freed m l2, ap (λ xs. has xs m) is ∙ not_has freed m (IsLive-spared old.managed.heap freed m l2)))),
+    (λ z. subst (λ h. IsLive h m) (sym e) (IsLive-left old.managed.heap freed m z.0 (λ c. both_ways (has (numbers_of freed) m) (sym (ap (λ xs. has xs m) is) ∙ z.1) (frees-has (snap_of freed [] []) m c)))),
+  );
 }
 
 -- so of the cells' targets the side has as live those which the managed list doesn't free, after the entry as before

@@ -215,7 +215,7 @@ notices_leave mine mine2 old new index stand seen n count reply d goes =
     let bare = with_pins old.state no_pins in
     let line = managed_answer bare C (op.Line (act.Finalise count)) nothing in
     let moved = alike_on bare.managed line.state.managed old.state.managed (managed_to old.state no_pins (none_stand old.state.managed) kept.managed) (managed_line-goes_on bare.managed (thread_number C) (act.Finalise count) kept.managed.places kept.managed.cells)
-        (alike_pinned old.state old.state.managed no_pins (alike_self old.state.managed)) in
+    (alike_pinned old.state old.state.managed no_pins (alike_self old.state.managed)) in
     dead_part-alike old.state.managed new.state.managed kept.managed after.managed
     (alike_meet old.state.managed old.state.managed new.state.managed (alike_self old.state.managed) (subst (λ (r : ManagedReplay). Alike r.managed old.state.managed) (sym goes) (alike_pinned line.state old.state.managed no_pins moved)))
 

@@ -1,5 +1,5 @@
 -- A handle that an `adopt` or a `meet` names was adopted by nobody, since its thread has it in hand; and these two cite, and no other step does.
-use Rattle.std.proofs.Common.{◌≡◌, ℕ, Option, ap, ◌∙◌, subst}
+use Rattle.std.proofs.Common.{◌≡◌, ℕ, Option, ◌∙◌, subst}
 use Rattle.std.specs.Prelude.{Contains}
 use Rattle.joint_model.specs.declared.names.Thread.{Thread}
 use Rattle.joint_model.specs.declared.names.Thread.TheVariants.{M, P, C}
@@ -19,7 +19,6 @@ use Rattle.known_laws.proofs.KnownPasts.{known_past_is_kept}
 use Rattle.joint_model.specs.ManagedReplay.{ManagedReplay}
 use Rattle.joint_model.specs.Sides.{Side}
 use Rattle.order_table.specs.declared.views.View.{View}
-use Rattle.order_table.specs.Facts.{line_entries}
 use Rattle.order_table.specs.Views.{Owns}
 use Rattle.managed_side.specs.Steps.{IsFresh, IsManagedStep, IsStepBy}
 use Rattle.joint_history.specs.Callers.{HoldsPass}

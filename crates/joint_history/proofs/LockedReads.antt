@@ -1,30 +1,25 @@
 -- A read under the managed lock: its caller makes the entry, whose answer is what the managed list gives, and the locked seat knows the managed side as it was.
-use Rattle.std.proofs.Common.{◌≡◌, inl, inr, ⊎_elim, ℕ, ◌+◌, ◌<◌, ◌≤◌, ◌^◌, List, [], ◌∷◌, ◌++◌, None, refl, sym, ap, ◌∙◌, subst, arith}
+use Rattle.std.proofs.Common.{◌≡◌, inl, inr, ℕ, ◌+◌, ◌<◌, ◌^◌, List, [], ◌∷◌, ◌++◌, None, refl, sym, ap, ◌∙◌, subst, arith}
 use Rattle.joint_model.specs.declared.names.Thread.{Thread}
 use Rattle.joint_model.specs.declared.names.Thread.TheVariants.{M, P, C}
 use Rattle.joint_model.specs.declared.lines.Act.{Act}
-use Rattle.joint_model.specs.declared.events.Entry.{Entry}
 use Rattle.joint_model.specs.declared.events.Op.TheVariants as op
 use Rattle.joint_model.specs.declared.events.Reply.{Reply}
 use Rattle.joint_model.specs.Draws.{numbered}
-use Rattle.joint_model.specs.HistoryLines.{caller_line}
 use Rattle.joint_model.specs.Lines.{IsManagedThread}
 use Rattle.joint_model.specs.Listed.{Stock}
 use Rattle.joint_model.specs.ManagedReplay.{ManagedReplay}
 use Rattle.joint_model.specs.Run.{thread_number}
 use Rattle.joint_model.specs.Sides.{Side}
 use Rattle.joint_model.specs.Told.{nothing}
-use Rattle.known_laws.specs.Pasts.{end_of}
 use Rattle.order_table.specs.declared.views.KeptEntry.{KeptEntry}
 use Rattle.order_table.specs.declared.views.View.{View}
 use Rattle.order_table.specs.Facts.{line_entries}
-use Rattle.order_table.specs.Tells.{IsOfCaller}
 use Rattle.order_table.specs.Views.{known, Owns}
 use Rattle.seat_calls.specs.Gating.{ReadsLocked}
 use Rattle.weak_wait.specs.declared.reads.Got.{Got}
 use Rattle.weak_wait.specs.Reads.{IsExact, IsRead, cell_of, entry_of, reply_of}
 use Rattle.joint_history.specs.Callers.{HoldsPass, KeepsReads}
-use Rattle.joint_history.specs.Knowing.{line_known}
 use Rattle.joint_history.specs.Locked.{ManagedKnows, Makes, MayMake, made_by}
 use Rattle.joint_history.specs.Operations.{ReadsExactly}
 use Rattle.joint_history.proofs.KnownViews.{entries_snoc, same_view}
@@ -36,17 +31,6 @@ pub thread_of_reader : (t : Thread) (reader : ℕ) → IsManagedThread t → rea
 thread_of_reader (M n) reader is e = ap (λ z. M z) (sym e)
 thread_of_reader (P n) reader is e = absurd is
 thread_of_reader C reader is e = absurd is
-
--- it owns both of the reader's lines, and keeps the reader's list
-pub record HasReader (reader : ℕ) (v : View) (es : List Entry) : Type 0 where
-  pub role : Owns v (1 + reader)
-  pub pass : Owns v (reader + 10)
-  pub list : line_entries (known v (1 + reader)) ≡ es
-
-pub has_reader : (t : Thread) (reader : ℕ) (v : View) (es : List Entry) → IsManagedThread t → reader ≡ thread_number t → HoldsPass t v → KeepsReads t v es → HasReader reader v es
-has_reader (M n) reader v es is e pass keeps = subst (λ r. HasReader r v es) (sym e) record { role = pass (1 + n) (inr refl); pass = pass (n + 10) (inl refl); list = keeps }
-has_reader (P n) reader v es is e pass keeps = absurd is
-has_reader C reader v es is e pass keeps = absurd is
 
 -- what the call leaves in both seats and in the thread's list
 pub record CalledRead (t : Thread) (index : ℕ) (a : Act) (number : ℕ) (reply : Reply) (mine locked2 mine2 : View) (side : Side ManagedReplay) (new : Stock) : Type 0 where

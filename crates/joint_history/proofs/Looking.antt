@@ -1,5 +1,5 @@
 -- A seat that only looked at words is settled as it was, and a side's seat knows what it knew; and an entry that it makes then, it made from where it was.
-use Rattle.std.proofs.Common.{◌≡◌, ◌⊎◌, ℕ, ◌*◌, ◌<◌, List, [], ◌∷◌, ◌++◌, refl, sym, ap, ◌∙◌, subst}
+use Rattle.std.proofs.Common.{◌≡◌, ◌⊎◌, ℕ, ◌*◌, ◌<◌, List, [], ◌∷◌, ◌++◌, sym, ap, ◌∙◌, subst}
 use Rattle.std.specs.Prelude.{false}
 use Rattle.joint_model.specs.declared.events.Entry.{Entry}
 use Rattle.joint_model.specs.ManagedReplay.{ManagedReplay}
@@ -7,7 +7,7 @@ use Rattle.joint_model.specs.Sides.{Side, SideRules}
 use Rattle.joint_model.specs.Told.{Told}
 use Rattle.order_table.specs.declared.views.KeptEntry.{KeptEntry}
 use Rattle.order_table.specs.declared.views.View.{View}
-use Rattle.order_table.specs.Allowed.{HoldsOpen, Settled}
+use Rattle.order_table.specs.Allowed.{Settled}
 use Rattle.order_table.specs.Facts.{line_entries}
 use Rattle.order_table.specs.Rows.{at}
 use Rattle.order_table.specs.Rule.{IsBelow}
@@ -36,9 +36,6 @@ knows_looked v w side s ks = record {
 
 pub seated : (a b : Shown) → b.order ≡ a.order → StaysAs a.view b.view → StaysSeated a b
 seated a b o s = record { order = o; owns = s.owns; known = s.known }
-
-pub still_seated : (a : Shown) → StaysSeated a a
-still_seated a = record { order = refl; owns = refl; known = refl }
 
 -- what a seat made between two moments at which it gave nothing away
 pub appended_between : (order : OrderId) (a b c d : Shown) (r : ℕ) (k : KeptEntry) → StaysSeated a b → HasAppended order b c r k → StaysSeated c d → HasAppended order a d r k

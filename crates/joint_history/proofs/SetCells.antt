@@ -1,7 +1,7 @@
 -- A `weak` by the managed seat: the cell's word is 0 exactly where the side's cell has no target, and to an object to which the side may set the cell the seat
 -- may set it too. Its entry is plain: it does nothing to the cycles and to no pin, and frees nothing.
-use Rattle.std.proofs.Common.{◌≡◌, inl, inr, ⊎_elim, ℕ, ◌+◌, ◌<◌, ◌≤◌, Bool, true, false, List, [], length, Option, Some, None, refl, sym, ap, ◌∙◌, subst, arith}
-use Rattle.std.specs.Prelude.{◌↔◌, if◌then◌else◌, Contains}
+use Rattle.std.proofs.Common.{◌≡◌, inl, inr, ⊎_elim, ℕ, ◌+◌, ◌<◌, ◌≤◌, Bool, true, false, length, Option, Some, None, refl, sym, ap, ◌∙◌, subst, arith}
+use Rattle.std.specs.Prelude.{◌↔◌, if◌then◌else◌}
 use Rattle.std.proofs.lemmas.Bool.{cases_Bool}
 use Rattle.std.proofs.lemmas.Option.{same_Some}
 use Rattle.std.proofs.lemmas.Map.Views.{Contains-from_any}
@@ -13,10 +13,8 @@ use Rattle.joint_model.specs.declared.names.Thread.TheVariants.{M, P, C}
 use Rattle.joint_model.specs.declared.names.Var.{Var}
 use Rattle.joint_model.specs.declared.events.Reply.{Reply}
 use Rattle.joint_model.specs.Heaps.{slot}
-use Rattle.joint_model.specs.Heaps as heaps
 use Rattle.joint_model.specs.HistoryLines.{caller_line}
 use Rattle.joint_model.specs.Lines.{IsManagedThread}
-use Rattle.joint_model.specs.Managed.{Managed}
 use Rattle.joint_model.specs.ManagedReplay.{ManagedReplay}
 use Rattle.joint_model.specs.Sides.{MaySetCell, Side}
 use Rattle.managed_side.specs.Steps.{weak_op}
@@ -57,9 +55,12 @@ may_set n v s k x (Some y) small ks few may c m e =
     let cell : k.0 ≡ c = ap (λ z. z.0) p in
     let object : y.0 ≡ m = ap (λ z. z.1) p in
     let free = may y refl in
-    let made = free.1.made in
-    (omega (arith, small, cell), (omega (arith, made.0, object), omega (arith, made.1, few, object)), says.cells c ∙ (ap (slot s.state.managed.cells) (sym cell) ∙ free.0),
-    ⊎_elim (λ (d : is_freed (known v 0) m ≡ true). absurd (free.1.kept (Contains-from_any (λ a b. same-number a b) y.0 s.state.managed.heap.freed (sym (says.freed y.0) ∙ (ap (is_freed (known v 0)) object ∙ d))))) (λ (d : is_freed (known v 0) m ≡ false). d) (cases_Bool (is_freed (known v 0) m)))
+    let made = free.1.made in (
+      omega (arith, small, cell),
+      (omega (arith, made.0, object), omega (arith, made.1, few, object)),
+      says.cells c ∙ (ap (slot s.state.managed.cells) (sym cell) ∙ free.0),
+      ⊎_elim (λ (d : is_freed (known v 0) m ≡ true). absurd (free.1.kept (Contains-from_any (λ a b. same-number a b) y.0 s.state.managed.heap.freed (sym (says.freed y.0) ∙ (ap (is_freed (known v 0)) object ∙ d))))) (λ (d : is_freed (known v 0) m ≡ false). d) (cases_Bool (is_freed (known v 0) m)),
+    )
 
 pub weak_may : (order : OrderId) (seat : Shown) (s : Side ManagedReplay) (t : Thread) (k : Cell) (x : Var) (aim : Option MNum) → IsManagedThread t → k.0 < 64 → seat.order ≡ order → Owns seat.view 0 → Owns seat.view (caller_line t) → Settled seat.view → ManagedKnows seat.view s
     → length s.state.managed.heap.fields ≤ 65535 → ((m : MNum) → aim ≡ Some m → MaySetCell s.state (weak_op k x) m) → MayAppend order seat 0 t (weak_op k x) aim

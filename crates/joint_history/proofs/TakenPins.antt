@@ -1,6 +1,6 @@
 -- A `take` by the managed seat: what its thread's pin holds stands, and it is what is told with the entry. The entry leaves the pin empty, and nothing to be done
 -- but its clearing.
-use Rattle.std.proofs.Common.{◌≡◌, inl, inr, ⊎_elim, ℕ, zero, suc, ◌+◌, ◌<◌, ◌≤◌, List, [], ◌∷◌, Option, Some, None, refl, sym, ap, ◌∙◌, subst, arith}
+use Rattle.std.proofs.Common.{◌≡◌, inl, inr, ⊎_elim, ℕ, zero, suc, ◌+◌, ◌<◌, List, [], Option, Some, None, refl, sym, ap, ◌∙◌, subst, arith}
 use Rattle.std.specs.Prelude.{MatchOption, Result, Ok, Err, IfOk, slice_set}
 use Rattle.std.proofs.lemmas.Bool.{cases_eq}
 use Rattle.joint_model.specs.declared.names.MNum.{MNum}

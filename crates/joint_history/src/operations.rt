@@ -174,9 +174,7 @@ impl<N: OrderName, K: Keeps<N>> Shared<N, K> {
             ManagedCall::Read { act } => {
                 reads.reserve(1)?;
                 let mut held = self.managed.hold(rt);
-                Ok(held
-                    .value()
-                    .read(&self.order, mine, reads, t, index, &act))
+                Ok(held.value().read(&self.order, mine, reads, t, index, &act))
             }
             ManagedCall::Weak { k, v } => {
                 self.managed
@@ -310,7 +308,14 @@ impl<N: OrderName, K: Keeps<N>> Shared<N, K> {
         ensures exact { IfOk result (λ r. ReadsExactly caller.old.thread caller.old.view caller.new.view act.now r.reply) }
         ensures err { OnErr result (StopsWithoutMemory caller.old.thread caller.old.view caller.new.view index act.now) }
     {
-        self.run(rt, &mut caller.seat, &mut caller.reads, caller.thread, index, act)
+        self.run(
+            rt,
+            &mut caller.seat,
+            &mut caller.reads,
+            caller.thread,
+            index,
+            act,
+        )
     }
 
     /// Runs an operation of a peer thread, on a script line that isn't below that of the caller's last entry. The caller knows its entries
@@ -339,6 +344,13 @@ impl<N: OrderName, K: Keeps<N>> Shared<N, K> {
                 .value()
                 .collect(&self.order, &mut caller.seat, caller.thread, index);
         }
-        self.run(rt, &mut caller.seat, &mut caller.reads, caller.thread, index, act)
+        self.run(
+            rt,
+            &mut caller.seat,
+            &mut caller.reads,
+            caller.thread,
+            index,
+            act,
+        )
     }
 }

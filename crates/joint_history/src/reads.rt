@@ -47,13 +47,7 @@ impl<N: OrderName, K: Keeps<N>> Shared<N, K> {
 
     /// Reads a weak cell as [`Shared::read_now`] does, but tries again while a cycle holds the gate, and never answers `Pending`. It takes no lock and no
     /// memory. That it ever ends is not promised.
-    pub fn read_wait(
-        &self,
-        rt: &impl Wait,
-        caller: &mut Caller<N>,
-        index: u16,
-        act: &Act,
-    ) -> Got
+    pub fn read_wait(&self, rt: &impl Wait, caller: &mut Caller<N>, index: u16, act: &Act) -> Got
         requires act { IsManagedThread caller.old.thread × IsRead act.now }
         requires index { last_index (own caller.old) ≤ index }
         requires spare { 1 ≤ caller.old.reads.spare }
@@ -83,8 +77,8 @@ impl<N: OrderName, K: Keeps<N>> Shared<N, K> {
         caller.reads.spare()
     }
 
-    /// Makes room for `n` more reads of a managed thread's caller, which knows the same afterwards. Answers `AllocError` where there is no memory, or where its list would
-    /// pass its limit.
+    /// Makes room for `n` more reads of a managed thread's caller, which knows the same afterwards. Answers `AllocError` where there is no memory, or
+    /// where its list would pass its limit.
     pub fn reserve(&self, caller: &mut Caller<N>, n: u32) -> Result<(), AllocError>
         ensures room { IfOk result (λ _. IsManagedThread caller.old.thread → n ≤ caller.new.reads.spare) }
         ensures rest { (caller.new.thread ≡ caller.old.thread) × (caller.new.view ≡ caller.old.view) × (caller.new.reads.entries ≡ caller.old.reads.entries) }

@@ -12,10 +12,6 @@ use Rattle.joint_history.proofs.KnownCallers.{own_line}
 use Rattle.joint_history.proofs.LockedSteps.{not_side}
 use Rattle.joint_history.proofs.desks.all_callers.Goals as goal
 
--- the pass of a thread, with what a seat knows
-abbrev with_pass : Thread → View → Pass
-with_pass t v = record { thread = t; view = v }
-
 pub hand-pass-requires-clause-pass : goal.hand-pass-requires-clause-pass
 hand-pass-requires-clause-pass g c =
     let place = c.loop-place.place in
@@ -34,7 +30,7 @@ loop-place-preserved g c =
     let is : IsThread t = subst IsThread (sym c.thread_at-t.ensures) (thread_is place small).0 in
     let p = c.hand-pass.ensures.parts in
     let nothing = nothing_on (IsOfCaller t) c.loop-place.seat.view c.hand-pass.new.seat.view c.hand-pass.result.view p c.loop-place.invariant.3 in
-    let made : c.new.result ≡ with_pass t c.hand-pass.result.view = c.new.ensures in
+    let made = c.new.ensures in
     let len : length c.loop-place.callers.items ≡ place = omega (arith, c.loop-place.invariant.5) in (
       c.hand-pass.ensures.old.0 ∙ c.loop-place.invariant.0,
       p.stayed 0 (not_side t 0 is (omega arith)) c.loop-place.invariant.1,
@@ -45,12 +41,13 @@ loop-place-preserved g c =
       omega (arith, c.in_ok-push.ensures.len, c.loop-place.invariant.5),
       subst (ArePlaced (place + 1)) (sym c.in_ok-push.ensures.items)
           (placed_more place c.loop-place.callers.items c.new.result len (ap (λ (q : Pass). q.thread) made ∙ c.thread_at-t.ensures) (subst (λ (q : Pass). KnowsNothing q.view) (sym made) nothing.1) c.loop-place.invariant.6),
+      c.hand-pass.ensures.settled.0,
     )
 
 pub loop-place-init : goal.loop-place-init
 loop-place-init g c =
     let all = c.requires.seat in
-    (c.requires.order.1, all.0 0 (omega arith), all.0 1 (omega arith), all.1, holds_all c.args.seat.now.view all.0, c.new-callers.ensures.len, λ i l. absurd (omega arith))
+    (c.requires.order.1, all.0 0 (omega arith), all.0 1 (omega arith), all.1, holds_all c.args.seat.now.view all.0, c.new-callers.ensures.len, λ i l. absurd (omega arith), c.requires.settled)
 
 pub returns-in_err-push-clause-seat : goal.returns-in_err-push-clause-seat
 returns-in_err-push-clause-seat g c =

@@ -1,4 +1,4 @@
-use Rattle.std.proofs.Common.{Some, ap, arith, refl, rules, sym, ◌∙◌}
+use Rattle.std.proofs.Common.{ap, refl, rules, sym, ◌∙◌}
 use Rattle.joint_model.specs.Listed.{answers_of}
 use Rattle.joint_model.specs.ManagedReplay.{ManagedReplay}
 use Rattle.joint_model.specs.Sides.{managed_rules}

@@ -3,7 +3,6 @@ use Rattle.std.proofs.Common.{◌≡◌, [], Option, None, ap, ◌∙◌, subst,
 use Rattle.std.specs.Prelude.{false}
 use Rattle.joint_model.specs.declared.names.MNum.{MNum}
 use Rattle.joint_model.specs.HistoryLines.{caller_line}
-use Rattle.joint_model.specs.Draws.{numbered}
 use Rattle.joint_model.specs.Run.{thread_number}
 use Rattle.joint_model.specs.Sides.{managed_rules}
 use Rattle.joint_model.specs.Told.{kept_pins, nothing}
@@ -13,7 +12,7 @@ use Rattle.managed_side.specs.Steps.{step_made, take_op}
 use Rattle.order_table.specs.Rows.{at}
 use Rattle.seat_calls.specs.Passing.{MayAppend}
 use Rattle.seat_calls.proofs.Floors.{below_floor, room_left}
-use Rattle.joint_history.specs.Locked.{Drew, StaysSeated, made_by}
+use Rattle.joint_history.specs.Locked.{StaysSeated}
 use Rattle.joint_history.proofs.Looking.{drew_between, knows_looked, seated, settled_looked}
 use Rattle.joint_history.proofs.SeatDraws.{drew_managed}
 use Rattle.joint_history.proofs.TakenPins.{finds_same, leaves_pin, take_may, taken_stands, taken_told}
@@ -29,7 +28,7 @@ take-requires-clause-may c =
     let stays = c.own_pin-pin.ensures.stays in
     let ks = knows_looked c.args.seat.now.view seat.view c.args.side.now stays c.requires.knows in
     let may : (aim : Option MNum) → MayAppend c.args.order.now seat 0 c.args.caller (take_op c.args.v) aim = λ aim. take_may c.args.order.now seat c.args.caller c.args.v aim c.requires.thread c.own_pin-pin.ensures.order
-        (ap (λ os. at false os 0) stays.owns ∙ c.requires.owner.0) (ap (λ os. at false os (caller_line c.args.caller)) stays.owns ∙ c.requires.owner.1) (settled_looked c.args.seat.now.view seat.view stays c.requires.settled) in
+    (ap (λ os. at false os 0) stays.owns ∙ c.requires.owner.0) (ap (λ os. at false os (caller_line c.args.caller)) stays.owns ∙ c.requires.owner.1) (settled_looked c.args.seat.now.view seat.view stays c.requires.settled) in
     record {
       takes = c.requires.takes;
       below = below_floor seat.view 0 c.args.side.now.entries ks.entries;
@@ -44,7 +43,7 @@ settle_taken-requires-clause-empty c =
     let seat = c.own_pin-pin.new.seat in
     let stays = c.own_pin-pin.ensures.stays in
     let w = leaves_pin _ _ seat _ c.args.caller c.args.index c.args.v c.in_ok-reply.reply None [] a.draws.adds.number c.reader_of-reader.result c.requires.thread c.reader_of-reader.ensures.number
-        (ap (λ os. at false os 0) stays.owns ∙ c.requires.owner.0) (settled_looked c.args.seat.now.view seat.view stays c.requires.settled) a.draws.adds.drawn.3 in
+    (ap (λ os. at false os 0) stays.owns ∙ c.requires.owner.0) (settled_looked c.args.seat.now.view seat.view stays c.requires.settled) a.draws.adds.drawn.3 in
     let z = w.empty in
     search rules
 
@@ -54,7 +53,7 @@ settle_taken-requires-clause-owes c =
     let seat = c.own_pin-pin.new.seat in
     let stays = c.own_pin-pin.ensures.stays in
     let w = leaves_pin _ _ seat _ c.args.caller c.args.index c.args.v c.in_ok-reply.reply None [] a.draws.adds.number c.reader_of-reader.result c.requires.thread c.reader_of-reader.ensures.number
-        (ap (λ os. at false os 0) stays.owns ∙ c.requires.owner.0) (settled_looked c.args.seat.now.view seat.view stays c.requires.settled) a.draws.adds.drawn.3 in
+    (ap (λ os. at false os 0) stays.owns ∙ c.requires.owner.0) (settled_looked c.args.seat.now.view seat.view stays c.requires.settled) a.draws.adds.drawn.3 in
     let z = w.owes in
     search rules
 
@@ -65,7 +64,7 @@ returns-clause-drew c =
     let stays = c.own_pin-pin.ensures.stays in
     let pin = c.own_pin-pin.result in
     let d = drew_managed _ _ seat c.take.new.draw.seat.now c.args.side.now c.take.new.self (step_made c.args.caller c.args.index (take_op c.args.v) c.in_ok-reply.reply None) (kept_pins (pin_given (thread_number c.args.caller) pin) nothing) a.draws.adds.number a.draws.adds.drawn.3 a.goes a.draws.adds.added
-        (taken_told seat c.args.caller c.args.v c.reader_of-reader.result pin c.requires.thread c.reader_of-reader.ensures.number (finds_same c.args.seat.now.view seat.view c.reader_of-reader.result pin stays.known c.own_pin-pin.ensures.pin)) _ a.draws.adds.drawn.2 in
+    (taken_told seat c.args.caller c.args.v c.reader_of-reader.result pin c.requires.thread c.reader_of-reader.ensures.number (finds_same c.args.seat.now.view seat.view c.reader_of-reader.result pin stays.known c.own_pin-pin.ensures.pin)) _ a.draws.adds.drawn.2 in
     let before = seated c.args.seat.now seat (c.own_pin-pin.ensures.order ∙ sym c.requires.order) stays in
     let same : c.settle_taken.new.seat.order ≡ c.take.new.draw.seat.now.order = c.settle_taken.ensures.order ∙ sym (d.appends.same ∙ c.own_pin-pin.ensures.order) in
     let after : StaysSeated c.take.new.draw.seat.now c.settle_taken.new.seat = (let o = c.settle_taken.ensures.same in search rules) in

@@ -25,8 +25,8 @@ weak-requires-clause-may c =
     let stays = c.load_cell-word.ensures.stays in
     let ks = knows_looked c.args.seat.now.view seat.view c.args.side.now stays c.requires.knows in
     let may : (aim : Option MNum) → ((m : MNum) → aim ≡ Some m → MaySetCell c.args.side.now.state (weak_op c.args.k c.args.v) m) → MayAppend c.args.order.now seat 0 c.args.caller (weak_op c.args.k c.args.v) aim =
-        λ aim. weak_may c.args.order.now seat c.args.side.now c.args.caller c.args.k c.args.v aim c.requires.thread c.requires.cell (c.load_cell-word.ensures.seat.0 ∙ c.requires.order)
-        (ap (λ os. at false os 0) stays.owns ∙ c.requires.owner.0) (ap (λ os. at false os (caller_line c.args.caller)) stays.owns ∙ c.requires.owner.1) (settled_looked c.args.seat.now.view seat.view stays c.requires.settled) ks (omega (arith)) in
+    λ aim. weak_may c.args.order.now seat c.args.side.now c.args.caller c.args.k c.args.v aim c.requires.thread c.requires.cell (c.load_cell-word.ensures.seat.0 ∙ c.requires.order)
+    (ap (λ os. at false os 0) stays.owns ∙ c.requires.owner.0) (ap (λ os. at false os (caller_line c.args.caller)) stays.owns ∙ c.requires.owner.1) (settled_looked c.args.seat.now.view seat.view stays c.requires.settled) ks (omega (arith)) in
     record {
       takes = c.requires.takes;
       below = below_floor seat.view 0 c.args.side.now.entries ks.entries;

@@ -15,8 +15,14 @@ pub collect-requires-clause-begins : goal.collect-requires-clause-begins
 collect-requires-clause-begins g c = caller_begins c.caller.inside.thread c.caller.inside.seat.view c.args.index c.caller.invariant.0.0 c.caller.invariant.3 (subst (λ (p : Pass). last_index (own p) ≤ c.args.index) (sym c.caller.view_is) c.requires.index)
 
 pub invariant_of-caller : goal.invariant_of-caller
-invariant_of-caller g c = (c.caller.invariant.0, c.collect.ensures.order, c.collect.ensures.pass, beginner_knows c.caller.inside.thread c.collect.new.mine.view c.args.index c.collect.ensures.begins, c.collect.ensures.settled,
-    peer_keeps_none c.caller.inside.thread c.caller.inside.seat.view c.collect.new.mine.view c.caller.inside.reads.entries (subst (λ (p : Pass). IsPeerThread p.thread) (sym c.caller.view_is) c.requires.act.0) c.caller.invariant.5)
+invariant_of-caller g c = (
+  c.caller.invariant.0,
+  c.collect.ensures.order,
+  c.collect.ensures.pass,
+  beginner_knows c.caller.inside.thread c.collect.new.mine.view c.args.index c.collect.ensures.begins,
+  c.collect.ensures.settled,
+  peer_keeps_none c.caller.inside.thread c.caller.inside.seat.view c.collect.new.mine.view c.caller.inside.reads.entries (subst (λ (p : Pass). IsPeerThread p.thread) (sym c.caller.view_is) c.requires.act.0) c.caller.invariant.5,
+)
 
 pub returns-in-Collect-clause-index : goal.returns-in-Collect-clause-index
 returns-in-Collect-clause-index g c = beginner_is_below c.caller.inside.thread c.collect.new.mine.view c.args.index c.caller.invariant.0.0 c.collect.ensures.begins
