@@ -198,11 +198,11 @@ first-read n (act.Await k) l e = (l.1, λ c q. q)
 first-read n a l e = absurd (true≢false (sym e))
 
 -- of an operation's entries a read is the only one, and answers what the call answers
-record IsLone (t : Thread) (index : ℕ) (a : Act) (es : List Entry) (r : Receipt) (e : Entry) : Type 0 where
-  alone : es ≡ e ∷ []
-  read : is_read (first_of a) ≡ true
-  first : e.made.op ≡ first_of a
-  reply : e.made.reply ≡ r.reply
+pub record IsLone (t : Thread) (index : ℕ) (a : Act) (es : List Entry) (r : Receipt) (e : Entry) : Type 0 where
+  pub alone : es ≡ e ∷ []
+  pub read : is_read (first_of a) ≡ true
+  pub first : e.made.op ≡ first_of a
+  pub reply : e.made.reply ≡ r.reply
 
 module _ (t : Thread) (index : ℕ) (a : Act) (es : List Entry) (r : Receipt) (o : IsOperation t index a es r) (e : Entry) (is : is_read e.made.op ≡ true) where
   abbrev opening : Entry
@@ -250,7 +250,7 @@ module _ (t : Thread) (index : ℕ) (a : Act) (es : List Entry) (r : Receipt) (o
       (Contains-cons_cases (entry_by t index k.number k.second k.reply (Some r.first)) (entry_by t index r.last k.third k.released (Some k.number) ∷ []) e (subst (λ l. Contains l e) k.two_more d)))
       (Contains-cons_cases opening o.rest e (subst (λ l. Contains l e) o.all c))
 
-  lone : Contains es e → Lone
+  pub lone : Contains es e → IsLone t index a es r e
   lone c = ⊎_elim (by-first c) (λ z. ⊎_elim (by-second c) (by-third c) z) o.ends
 
 pub operations_are_answered : OperationsAreAnswered

@@ -126,7 +126,7 @@ cell-read (op.Line (act.Read c)) k r = refl
 cell-read (op.Line (act.Await c)) k r = refl
 cell-read o k r = absurd r
 
-read-managed : (t : Thread) (o : Op) → IsEvent t o → is_read o ≡ true → IsManagedThread t
+pub read-managed : (t : Thread) (o : Op) → IsEvent t o → is_read o ≡ true → IsManagedThread t
 read-managed (M n) (op.Line (act.Read c)) v e = v.0.0
 read-managed (M n) (op.Line (act.Await c)) v e = v.0.0
 read-managed (P n) (op.Line (act.Read c)) v e = absurd v.0.1

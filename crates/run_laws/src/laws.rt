@@ -4,7 +4,7 @@ ghost use Rattle.run_laws.specs.Final.{HeldByThreadsIsRun, HeldInOrderIsRun};
 ghost use Rattle.run_laws.specs.LastCycle.{CycleLinesEndRuns, CyclesEndRuns};
 ghost use Rattle.run_laws.specs.Lines.{OperationsAreAnswered, OperationsAreLines, OthersKeepStanding};
 ghost use Rattle.run_laws.specs.Serial.{AllAreGiven, DriverRunsOn, DriversAdd, NothingIsRun, OthersRunOn, RunsHoldScript, ToldCallersAdd};
-ghost use Rattle.run_laws.specs.Threads.{CallersWaitsEnd, MoreWaitsEnd, OthersLinesPass, OwnLinesAdd, OwnLinesEnd, ThreadsHoldScript};
+ghost use Rattle.run_laws.specs.Threads.{CallersWaitsEnd, MoreWaitsEnd, OperationsWaitsEnd, OthersLinesPass, OwnLinesAdd, OwnLinesEnd, ThreadsHoldScript};
 
 /// The entries of a thread's operation are those of its line, and leave the driver where it stands; a read among them that is exact by what its caller knows
 /// is answered by the managed list that it knows.
@@ -23,6 +23,7 @@ pub fn threads_hold_scripts()
     ensures end { OwnLinesEnd }
     ensures hold { ThreadsHoldScript }
     ensures more { MoreWaitsEnd }
+    ensures operation { OperationsWaitsEnd }
     ensures waits { CallersWaitsEnd }
 {}
 
