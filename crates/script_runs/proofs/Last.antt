@@ -206,9 +206,9 @@ module _ (script : List (Thread × Act)) (d : Waiting) (jobs callers rest : List
         (subst (HasAll d) are (ran_all script d jobs callers ran all)))
 
     pub runs_then_cycle : (h : Finished) → CanRun script → NoneIsLeft script d → EndsWithCycle (length script + 1) p after others
-        → IsFinished h → All (HasOwn h.entries) (others ++ after ∷ []) → ((t : Thread) → IsThread t → StillWaits d t → made_by t h.entries ≡ []) → IsRunThenCycle script h
-    runs_then_cycle h can left ends finished owns none =
-        cycles_end_runs script h d others p after finished (λ line c. (All-contains IsRunnable script line can.each c).lawful) has_all_then owns none left all_hold driver_ran.holds ends
+        → IsFinished h → length h.entries < 2 ^ 64 → All (HasOwn h.entries) (others ++ after ∷ []) → ((t : Thread) → IsThread t → StillWaits d t → made_by t h.entries ≡ []) → IsRunThenCycle script h
+    runs_then_cycle h can left ends finished few owns none =
+        cycles_end_runs script h d others p after finished few (λ line c. (All-contains IsRunnable script line can.each c).lawful) has_all_then owns none left all_hold driver_ran.holds ends
 
 -- the first of a list, and the others
 pub first_and_rest : (xs rest : List Pass) (p : Pass) → 0 < length xs → p ≡ slice_index_or xs 0 p → rest ≡ take 0 xs ++ drop 1 xs → xs ≡ p ∷ rest
