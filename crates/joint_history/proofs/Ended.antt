@@ -1,30 +1,35 @@
 -- The end of a run: every thread's seat is taken in, and the history has of each thread just the entries that its caller made.
 use Rattle.std.proofs.Common.{◌≡◌, inl, inr, ⊎_elim, ℕ, zero, suc, List, [], ◌∷◌, ◌++◌, length, Option, Some, None, true, false, refl, sym, ap, ◌∙◌, subst, arith}
-use Rattle.std.specs.Prelude.{All, Contains, IsSome, slice_get}
+use Rattle.std.specs.Prelude.{◌<◌, ◌^◌, All, Contains, IsSome, slice_get}
+use mathlib.Core.List.{IsPrefix}
+use Rattle.std.proofs.lemmas.List.{length-map}
 use Rattle.std.proofs.lemmas.List.Elements.{Contains-append_cases, Contains-append_left, Contains-append_right}
 use Rattle.joint_model.specs.declared.names.Thread.{Thread}
 use Rattle.joint_model.specs.declared.names.Thread.TheVariants.{M, P, C}
 use Rattle.joint_model.specs.declared.events.Entry.{Entry}
 use Rattle.joint_model.specs.Control.{caller_place}
-use Rattle.joint_model.specs.HistoryLines.{caller_line}
+use Rattle.joint_model.specs.HistoryLines.{caller_line, entries_in}
 use Rattle.joint_model.specs.Lines.{IsThread}
 use Rattle.joint_model.specs.ManagedReplay.{ManagedReplay}
 use Rattle.joint_model.specs.PeerReplay.{PeerReplay}
 use Rattle.joint_model.specs.Sides.{Side}
 use Rattle.joint_model.proofs.Members.{All-members, Contains-here, Contains-there, Contains-map, Contains-cons_cases, Contains-nil}
 use Rattle.known_laws.specs.Lists.{made_by}
+use Rattle.order_table.specs.declared.views.KeptEntry.{KeptEntry}
 use Rattle.order_table.specs.declared.views.View.{View}
 use Rattle.order_table.specs.Facts.{entries_of, line_entries}
-use Rattle.order_table.specs.Rule.{AreLinesOfOneHistory as AllKnown}
+use Rattle.order_table.proofs.Wholes.{tell_lines}
+use Rattle.order_table.specs.Rule.{Item, AreLinesOfOneHistory as AllKnown}
 use Rattle.order_table.specs.Tells.{TakesIn, BeginsOneHistory}
-use Rattle.order_table.specs.Views.{Owns}
+use Rattle.order_table.specs.Views.{Owns, known}
 use Rattle.joint_history.specs.Callers.{HoldsPass, Pass, own}
 use Rattle.joint_history.specs.Desks.{Waiting, WaitsAt, flat, present, thread_of}
-use Rattle.joint_history.specs.Ending.{AllAreIn, GathersAll, HasAll, HasOwn, StillWaits, TakesOwn, threads_of}
+use Rattle.joint_history.specs.Ending.{AllAreIn, BeginsHistory, BeginsView, GathersAll, HasAll, HasOwn, StillWaits, TakesOwn, threads_of}
 use Rattle.joint_history.specs.Knowing.{line_known}
 use Rattle.view_laws.specs.Knowing.{IsDrawnView}
 use Rattle.view_laws.proofs.Finished.{own_lines_are_made_by_callers}
 use Rattle.joint_history.specs.Locked.{ManagedKnows, PeerKnows}
+use Rattle.joint_history.proofs.Beginnings.{prefix-itself, prefix-map, prefix-then}
 use Rattle.joint_history.proofs.Desking.{thread_is}
 use Rattle.joint_history.proofs.Gathering.{gathered_first}
 use Rattle.joint_history.proofs.KnownCallers.{own_line}
@@ -37,25 +42,27 @@ takes_one p v u is h k =
     let mine = own_line p.thread in
     record {
       kept = λ i o. ((k.owns i).0 (inl o), k.owned i o);
+      knew = k.knew;
       each = λ q c. ⊎_elim
-          (λ (e : p ≡ q). subst (λ (x : Pass). IsThread x.thread × Owns u (caller_line x.thread) × (line_known u (caller_line x.thread) ≡ own x)) e
-          (is, (k.owns (caller_line p.thread)).0 (inr (h (caller_line p.thread) mine)), ap line_entries (k.taken (caller_line p.thread) (h (caller_line p.thread) mine))))
+          (λ (e : p ≡ q). subst (λ (x : Pass). IsThread x.thread × Owns u (caller_line x.thread) × (line_known u (caller_line x.thread) ≡ own x) × BeginsView x.view u) e
+          (is, (k.owns (caller_line p.thread)).0 (inr (h (caller_line p.thread) mine)), ap line_entries (k.taken (caller_line p.thread) (h (caller_line p.thread) mine)), k.heard))
           (λ n. absurd (Contains-nil q n))
           (Contains-cons_cases p [] q c);
     }
 
 pub takes_none : (v : View) → TakesOwn v v []
-takes_none v = record { kept = λ i o. (o, refl); each = λ q c. absurd (Contains-nil q c) }
+takes_none v = record { kept = λ i o. (o, refl); knew = λ i. prefix-itself (known v i); each = λ q c. absurd (Contains-nil q c) }
 
 -- a side's seat
 pub takes_side : (v w u : View) → TakesIn v w u → TakesOwn v u []
-takes_side v w u k = record { kept = λ i o. ((k.owns i).0 (inl o), k.owned i o); each = λ q c. absurd (Contains-nil q c) }
+takes_side v w u k = record { kept = λ i o. ((k.owns i).0 (inl o), k.owned i o); knew = k.knew; each = λ q c. absurd (Contains-nil q c) }
 
 pub takes_then : (v w u : View) (ps qs : List Pass) → TakesOwn v w ps → TakesOwn w u qs → TakesOwn v u (ps ++ qs)
 takes_then v w u ps qs a b = record {
   kept = λ i o. let x = a.kept i o in let y = b.kept i x.0 in (y.0, y.1 ∙ x.1);
+  knew = λ i. prefix-then (known v i) (known w i) (known u i) (a.knew i) (b.knew i);
   each = λ p c. ⊎_elim
-      (λ h. let x = a.each p h in let y = b.kept (caller_line p.thread) x.1 in (x.0, y.0, ap line_entries y.1 ∙ x.2))
+      (λ h. let x = a.each p h in let y = b.kept (caller_line p.thread) x.1 in (x.0, y.0, ap line_entries y.1 ∙ x.2, λ i. prefix-then (known p.view i) (known w i) (known u i) (x.3 i) (b.knew i)))
       (λ h. b.each p h)
       (Contains-append_cases ps qs p c);
 }
@@ -140,6 +147,20 @@ has_own v a w entries e p is known_so = ap (made_by p.thread) e ∙ (made_is_kno
 pub all_have_own : (v y : View) → IsDrawnView y → (w : AllKnown y.known) (entries : List Entry) → entries ≡ entries_of w.whole → (callers others : List Pass) → TakesOwn v y (callers ++ others) → All (HasOwn entries) callers
 all_have_own v y a w entries e callers others k =
     All-members (HasOwn entries) callers (λ p c. let m = k.each p (Contains-append_left callers others p c) in has_own y a w entries e p m.0 m.2)
+
+-- and what it knows of the managed list begins the history's
+begins_history : (v : View) (w : AllKnown v.known) (entries : List Entry) → entries ≡ entries_of w.whole → (p : Pass) → BeginsView p.view v → BeginsHistory entries p
+begins_history v w entries e p b =
+    let whole : line_known v 0 ≡ entries_in 0 entries = ap line_entries (w.each 0 (omega arith)) ∙ ((tell_lines w.whole w.numbers).lines 0 ∙ ap (entries_in 0) (sym e)) in
+    subst (IsPrefix (line_known p.view 0)) whole (prefix-map (λ (k : KeptEntry). k.entry) (known p.view 0) (known v 0) (b 0))
+
+pub all_begin_history : (v y : View) (w : AllKnown y.known) (entries : List Entry) → entries ≡ entries_of w.whole → (callers others : List Pass) → TakesOwn v y (callers ++ others) → All (BeginsHistory entries) callers
+all_begin_history v y w entries e callers others k =
+    All-members (BeginsHistory entries) callers (λ p c. let m = k.each p (Contains-append_left callers others p c) in begins_history y w entries e p m.3)
+
+-- the history has no more entries than the ten lists have room for
+pub few_entries : (y : View) (w : AllKnown y.known) (entries : List Entry) → entries ≡ entries_of w.whole → length entries < 2 ^ 64
+few_entries y w entries e = let same : length entries ≡ length w.whole = ap length e ∙ length-map w.whole (λ (x : Item). x.kept.entry) in let few = w.few in omega arith
 
 -- and a thread whose caller nobody had made none
 pub waiting_knows_none : (v y : View) (d : Waiting) (callers : List Pass) → TakesOwn v y (callers ++ present d.callers) → ((i : ℕ) (o : Option Pass) → slice_get d.callers i ≡ Some o → WaitsAt i o)

@@ -1,6 +1,6 @@
 -- The end of a run, once all seats are in: all lists can be joined, the history is linked, and each caller has just its own entries.
 use Rattle.std.proofs.Common.{◌≡◌, ℕ, List, [], Option, sym, subst}
-use Rattle.std.specs.Prelude.{All, IfOk, Result, Ok, Err}
+use Rattle.std.specs.Prelude.{◌<◌, ◌^◌, length, All, IfOk, Result, Ok, Err}
 use Rattle.joint_model.specs.declared.names.MNum.{MNum}
 use Rattle.joint_model.specs.declared.names.PNum.{PNum}
 use Rattle.joint_model.specs.declared.names.Thread.{Thread}
@@ -19,8 +19,8 @@ use Rattle.order_table.specs.Views.{OwnsAll}
 use Rattle.joint_history.specs.Callers.{Pass}
 use Rattle.joint_history.specs.Desks.{Waiting, present}
 use Rattle.joint_history.specs.declared.ends.RunEnd.{RunEnd}
-use Rattle.joint_history.specs.Ending.{all_lists, AllAreIn, AllTaken, AreNumbersOf, HasEndNumbers, HasOwn, IsFinished, IsFinishedWith, StillWaits}
-use Rattle.joint_history.proofs.Ended.{all_have_own, made_none}
+use Rattle.joint_history.specs.Ending.{all_lists, AllAreIn, AllTaken, AreNumbersOf, BeginsHistory, HasEndNumbers, HasOwn, IsFinished, IsFinishedWith, StillWaits}
+use Rattle.joint_history.proofs.Ended.{all_begin_history, all_have_own, few_entries, made_none}
 use Rattle.joint_history.proofs.Gathering.{Ends, all_gathered, owns_all}
 
 pub owns_every : (y : View) (l : Side ManagedReplay) (r : Side PeerReplay) (lists : List (List Entry)) → AllAreIn y l r lists → OwnsAll y
@@ -33,6 +33,8 @@ pub record EndsRun (l : ManagedReplay) (r : PeerReplay) (callers : List Pass) (d
   pub finished : IsFinished h
   pub own : All (HasOwn h.entries) callers
   pub none : (t : Thread) → IsThread t → StillWaits d t → made_by t h.entries ≡ []
+  pub begins : All (BeginsHistory h.entries) callers
+  pub few : length h.entries < 2 ^ 64
 
 module _ (l : Side ManagedReplay) (r : Side PeerReplay) (readers : List (List Entry)) (d : Waiting) (callers : List Pass) (all : AllTaken l r readers d callers) (left right : List Entry) (same_left : left ≡ l.entries) (same_right : right ≡ r.entries) (freed_managed : List MNum) (freed_peers : List PNum) (notices : List MNum)
     (fm : managed_numbers freed_managed ≡ l.state.managed.heap.freed) (fp : peer_numbers freed_peers ≡ r.state.peers.heap.freed) (ns : managed_numbers notices ≡ l.state.managed.notices) where
@@ -54,6 +56,8 @@ module _ (l : Side ManagedReplay) (r : Side PeerReplay) (readers : List (List En
         finished = record { noted = e.0.noted; finished = e.0.finished };
         own = all_have_own all.before all.seat g.gathered.known all.whole h.entries e.1 callers (present d.callers) all.own;
         none = λ t is s. made_none all.seat g.gathered.known all.whole h.entries e.1 t is (all.waiting t is s);
+        begins = all_begin_history all.before all.seat all.whole h.entries e.1 callers (present d.callers) all.own;
+        few = few_entries all.seat all.whole h.entries e.1;
       }
 
   pub result_ends : {E : Type 0} (result : Result Finished E) → IfOk result (λ h. IsShuffle (all_lists left right readers) h.entries) → IfOk result (λ h. h.freed_managed ≡ freed_managed) → IfOk result (λ h. h.freed_peers ≡ freed_peers) → IfOk result (λ h. h.notices ≡ notices) → IfOk result (EndsRun l.state r.state callers d)

@@ -1,11 +1,12 @@
 -- The end of a run: all seats are taken into one.
 use Rattle.std.specs.Prelude.{◌≡◌, ◌⊎◌, ℕ, ◌+◌, List, [], ◌++◌, length, map, count_by, is_some, Contains, IsSome, Option, slice_get, slice_index_or, slice_set}
+use mathlib.Core.List.{IsPrefix}
 use Rattle.joint_model.specs.declared.names.Thread.{Thread}
 use Rattle.joint_model.specs.declared.names.Thread.TheVariants.{M, P, C}
 use Rattle.joint_model.specs.declared.events.Entry.{Entry}
 use Rattle.joint_model.specs.Histories.{Finished}
 use Rattle.joint_model.specs.Control.{idle, caller_place, doing_at, IsDone}
-use Rattle.joint_model.specs.HistoryLines.{caller_line}
+use Rattle.joint_model.specs.HistoryLines.{caller_line, entries_in}
 use Rattle.joint_model.specs.Linked.{Linkage}
 use Rattle.joint_model.specs.LinkedHistories.{HasQueued, IsLinkedBy, linked_end}
 use Rattle.joint_model.specs.ManagedReplay.{ManagedReplay}
@@ -80,11 +81,16 @@ GathersAll old new lists lists' more = (l : Side ManagedReplay) (r : Side PeerRe
 abbrev pub threads_of : List Pass → List Thread
 threads_of ps = map (λ p. p.thread) ps
 
--- a seat took in the seats of these callers: it owns what it owned and knows the same of it, and it owns each caller's line and knows of
--- it just what the caller knew
+-- what one seat knows of each line begins what another knows of it
+abbrev pub BeginsView : View → View → Type 0
+BeginsView v w = (i : ℕ) → IsPrefix (known v i) (known w i)
+
+-- a seat took in the seats of these callers: it owns what it owned and knows the same of it, it owns each caller's line and knows of
+-- it just what the caller knew, and what it knew and what each caller knew begins what it knows
 pub record TakesOwn (old new : View) (ps : List Pass) : Type 0 where
   pub kept : (i : ℕ) → Owns old i → Owns new i × (known new i ≡ known old i)
-  pub each : (p : Pass) → Contains ps p → IsThread p.thread × Owns new (caller_line p.thread) × (line_known new (caller_line p.thread) ≡ own p)
+  pub knew : BeginsView old new
+  pub each : (p : Pass) → Contains ps p → IsThread p.thread × Owns new (caller_line p.thread) × (line_known new (caller_line p.thread) ≡ own p) × BeginsView p.view new
 
 -- the thread's caller was given out to nobody
 abbrev pub StillWaits : Waiting → Thread → Type 0
@@ -97,6 +103,10 @@ HasAll d ps = (t : Thread) → IsThread t → StillWaits d t ⊎ Contains (threa
 -- of the entries of a history just these were made by the caller
 abbrev pub HasOwn : List Entry → Pass → Type 0
 HasOwn entries p = made_by p.thread entries ≡ own p
+
+-- what the caller knows of the managed list is a beginning of the history's
+abbrev pub BeginsHistory : List Entry → Pass → Type 0
+BeginsHistory es p = IsPrefix (line_known p.view 0) (entries_in 0 es)
 
 -- a history is linked by these notes, and its list of notices is all that was ever queued
 pub record IsFinishedBy (h : Finished) (noted : List Noted) : Type 0 where

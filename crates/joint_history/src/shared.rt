@@ -1,6 +1,6 @@
 // Two sides beside one order.
 
-ghost use Rattle.std.specs.Prelude.{◌≡◌, ◌≤◌, [], length, All, IfOk};
+ghost use Rattle.std.specs.Prelude.{◌≡◌, ◌<◌, ◌≤◌, ◌^◌, [], length, All, IfOk};
 ghost use Rattle.joint_model.specs.Histories.{IsJoinable, IsShuffle, entry_lists};
 ghost use Rattle.joint_model.specs.Lines.{IsDriver, IsThread};
 ghost use Rattle.joint_model.specs.LinkedHistories.{IsLinked};
@@ -11,7 +11,7 @@ ghost use Rattle.order_table.specs.Views.{Owns, OwnsAll};
 ghost use Rattle.joint_history.specs.Callers.{Hears, KnowsNothing, Tells};
 ghost use Rattle.joint_history.specs.Desks.{AreAll};
 ghost use Rattle.joint_history.specs.Driven.{StillStands};
-ghost use Rattle.joint_history.specs.Ending.{all_lists, AllTaken, HasAll, HasIdleDriver, HasOwn, HasEndNumbers, IsFinished, StillWaits};
+ghost use Rattle.joint_history.specs.Ending.{all_lists, AllTaken, BeginsHistory, HasAll, HasIdleDriver, HasOwn, HasEndNumbers, IsFinished, StillWaits};
 
 use crate::callers::{Caller, tell};
 use crate::desks::Desk;
@@ -178,6 +178,8 @@ impl<N: OrderName, K: Keeps<N>> Shared<N, K> {
         ensures finished { IfOk result (λ h. IsFinished h) }
         ensures own { IfOk result (λ h. All (HasOwn h.entries) callers.items) }
         ensures none { IfOk result (λ h. (t : Thread) → IsThread t → StillWaits desk t → made_by t h.entries ≡ []) }
+        ensures begins { IfOk result (λ h. All (BeginsHistory h.entries) callers.items) }
+        ensures few { IfOk result (λ h. length h.entries < 2 ^ 64) }
     {
         let alloc = self.alloc;
         let (left, right, readers) = self.take_all(desk, callers);
@@ -193,6 +195,8 @@ impl<N: OrderName, K: Keeps<N>> Shared<N, K> {
         ensures finished { IsFinished result.history }
         ensures own { All (HasOwn result.history.entries) callers.items }
         ensures none { (t : Thread) → IsThread t → StillWaits desk t → made_by t result.history.entries ≡ [] }
+        ensures begins { All (BeginsHistory result.history.entries) callers.items }
+        ensures few { length result.history.entries < 2 ^ 64 }
         ensures counted { HasEndNumbers result }
     {
         let (left, right, readers) = self.take_all(desk, callers);

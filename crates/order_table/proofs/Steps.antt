@@ -715,6 +715,7 @@ compares slots id me out s r _ here _ =
 pub tells_all : (id : ℕ) (v : View) (s : St) → Ordered s → get_elem? s.views id ≡ some v → Settled v → OwnsAll v → AreLinesOfOneHistory v.known
 tells_all id v s r here settled all = record {
   whole = r.whole;
+  few = bounded r.whole 0 r.numbers r.limit;
   numbers = r.numbers;
   each = λ i l. ((r.each_seat id v here).owned i (all i l)).1;
   fits = r.waiting.fits;

@@ -253,9 +253,10 @@ pub record Ordered (s : State (Unit {0}) View) : Type 0 where
   pub pinned : Pinned whole owner gate (slice_index s.words 1) s.words s.views
   pub scanned : (j : ℕ) (v : View) → get_elem? s.views j ≡ some v → Scans whole v
 
--- the lines are those of one whole history
+-- the lines are those of one whole history, which has no more entries than the ten lists have room for
 pub record AreLinesOfOneHistory (lines : List (List KeptEntry)) : Type 0 where
   pub whole : List Item
+  pub few : length whole ≤ 42949672950
   pub numbers : RunsFrom 0 whole
   pub each : (i : ℕ) → i < 27 → at [] lines i ≡ of_line i whole
   pub fits : EachFits [] whole

@@ -17,6 +17,12 @@ returns-clause-own g c = (run_ends _ _ _ c.args.desk c.args.callers.items c.take
 pub returns-clause-none : goal.returns-clause-none
 returns-clause-none g c = (run_ends _ _ _ c.args.desk c.args.callers.items c.take_all-left.ensures _ _ c.into_lists.ensures.entries c.into_lists-2.ensures.entries _ _ _ c.into_lists.ensures.freed c.into_lists-2.ensures.freed c.into_lists.ensures.notices c.join_past.result c.join_past.ensures.shuffle c.join_past.ensures.managed c.join_past.ensures.peers c.join_past.ensures.notices).none
 
+pub returns-clause-begins : goal.returns-clause-begins
+returns-clause-begins g c = (run_ends _ _ _ c.args.desk c.args.callers.items c.take_all-left.ensures _ _ c.into_lists.ensures.entries c.into_lists-2.ensures.entries _ _ _ c.into_lists.ensures.freed c.into_lists-2.ensures.freed c.into_lists.ensures.notices c.join_past.result c.join_past.ensures.shuffle c.join_past.ensures.managed c.join_past.ensures.peers c.join_past.ensures.notices).begins
+
+pub returns-clause-few : goal.returns-clause-few
+returns-clause-few g c = (run_ends _ _ _ c.args.desk c.args.callers.items c.take_all-left.ensures _ _ c.into_lists.ensures.entries c.into_lists-2.ensures.entries _ _ _ c.into_lists.ensures.freed c.into_lists-2.ensures.freed c.into_lists.ensures.notices c.join_past.result c.join_past.ensures.shuffle c.join_past.ensures.managed c.join_past.ensures.peers c.join_past.ensures.notices).few
+
 pub returns-clause-counted : goal.returns-clause-counted
 returns-clause-counted g c = numbered _ _ _ (run_ends _ _ _ c.args.desk c.args.callers.items c.take_all-left.ensures _ _ c.into_lists.ensures.entries c.into_lists-2.ensures.entries _ _ _ c.into_lists.ensures.freed c.into_lists-2.ensures.freed c.into_lists.ensures.notices c.join_past.result c.join_past.ensures.shuffle c.join_past.ensures.managed c.join_past.ensures.peers c.join_past.ensures.notices).ends record {
   cycles = c.cycles-cycles.ensures;
