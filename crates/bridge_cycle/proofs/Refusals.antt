@@ -3,7 +3,8 @@
 use Rattle.std.proofs.Common.{◌≡◌, ◌⊎◌, inl, inr, ℕ, ◌≤◌, Bool, false, [], ◌∷◌, length, Option, Some, None, refl, sym, ap, ◌∙◌, subst, arith}
 use mathlib.Core.List.{IsPrefix}
 use Rattle.joint_model.specs.declared.names.Cycle.{Cycle}
-use Rattle.joint_model.specs.declared.names.Thread.TheVariants.{C}
+use Rattle.joint_model.specs.declared.names.Thread.{Thread}
+use Rattle.joint_model.specs.declared.names.Thread.TheVariants.{M, P, C}
 use Rattle.joint_model.specs.declared.names.Phase.{Phase}
 use Rattle.joint_model.specs.declared.names.Phase.TheVariants as at
 use Rattle.joint_model.specs.declared.names.PhaseWord.{PhaseWord}
@@ -25,7 +26,7 @@ use Rattle.joint_model.proofs.Deciding.{none_some}
 use Rattle.known_laws.specs.Pasts.{end_of}
 use Rattle.order_table.specs.declared.views.View.{View}
 use Rattle.order_table.specs.Views.{known}
-use Rattle.joint_history.specs.Callers.{Hears, KnowsNothing, Pass, last_index}
+use Rattle.joint_history.specs.Callers.{Hears, KnowsNothing, Pass, last_index, reads_of}
 use Rattle.joint_history.specs.Driven.{DriverMakesNone, DriverStands, IsStillAt, MakesFinalise, MakesRefusal, MayFinalise, MayRefuseWord, driver_entry}
 use Rattle.joint_history.specs.Ending.{HasIdleDriver}
 use Rattle.view_laws.specs.Knowing.{IsDrawnView}
@@ -238,6 +239,22 @@ heard_of p a b d e h = record {
   knew = h.knew;
   heard = subst (λ (v : View). (i : ℕ) → IsPrefix (known v i) (known b.view i)) e h.heard;
 }
+
+-- the driver's pass is what contracts see of it
+pub driver_is : (p : Pass) (d : Progress) → IsDriver p.thread → p.reads ≡ reads_of p.thread p.reads → p.view ≡ d.view → p ≡ pass_of d
+driver_is p d is none e = seen p.thread refl is
+  where
+    seen : (t : Thread) → p.thread ≡ t → IsDriver t → p ≡ pass_of d
+    seen C q i = λ j. record { thread = q j; view = e j; reads = (none ∙ ap (λ (u : Thread). reads_of u p.reads) q) j }
+    seen (M n) q i = absurd i
+    seen (P n) q i = absurd i
+
+-- and what the driver heard
+pub driver_hears : (p a b : Pass) (d e : Progress) → IsDriver a.thread → a.reads ≡ reads_of a.thread a.reads → a.view ≡ d.view → b.view ≡ e.view → Hears p a b → Hears p (pass_of d) (pass_of e)
+driver_hears p a b d e is none old new h =
+    let none' : b.reads ≡ reads_of b.thread b.reads = h.reads ∙ (none ∙ sym (λ i. reads_of (h.thread i) (h.reads i))) in
+    subst (λ (x : Pass). Hears p x (pass_of e)) (driver_is a d is none old)
+        (subst (Hears p a) (driver_is b e (subst IsDriver (sym h.thread) is) none' new) h)
 
 -- a caller that knows nothing is idle, and has no entry
 pub idle_first : (p : Pass) → KnowsNothing p.view → HasIdleDriver p

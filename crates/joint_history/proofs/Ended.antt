@@ -1,8 +1,9 @@
 -- The end of a run: every thread's seat is taken in, and the history has of each thread just the entries that its caller made.
-use Rattle.std.proofs.Common.{◌≡◌, inl, inr, ⊎_elim, ℕ, zero, suc, List, [], ◌∷◌, ◌++◌, length, Option, Some, None, true, false, refl, sym, ap, ◌∙◌, subst, arith}
+use Rattle.std.proofs.Common.{◌≡◌, inl, inr, ⊎_elim, ℕ, zero, suc, List, [], ◌∷◌, ◌++◌, length, map, Option, Some, None, true, false, refl, sym, ap, ◌∙◌, subst, arith}
 use Rattle.std.specs.Prelude.{◌<◌, ◌^◌, All, Contains, IsSome, slice_get}
 use mathlib.Core.List.{IsPrefix}
-use Rattle.std.proofs.lemmas.List.{length-map}
+use base.Growing.{prefix_refl, prefix_trans}
+use Rattle.std.proofs.lemmas.List.{length-map, map-append}
 use Rattle.std.proofs.lemmas.List.Elements.{Contains-append_cases, Contains-append_left, Contains-append_right}
 use Rattle.joint_model.specs.declared.names.Thread.{Thread}
 use Rattle.joint_model.specs.declared.names.Thread.TheVariants.{M, P, C}
@@ -29,7 +30,6 @@ use Rattle.joint_history.specs.Knowing.{line_known}
 use Rattle.view_laws.specs.Knowing.{IsDrawnView}
 use Rattle.view_laws.proofs.Finished.{own_lines_are_made_by_callers}
 use Rattle.joint_history.specs.Locked.{ManagedKnows, PeerKnows}
-use Rattle.joint_history.proofs.Beginnings.{prefix-itself, prefix-map, prefix-then}
 use Rattle.joint_history.proofs.Desking.{thread_is}
 use Rattle.joint_history.proofs.Gathering.{gathered_first}
 use Rattle.joint_history.proofs.KnownCallers.{own_line}
@@ -51,7 +51,7 @@ takes_one p v u is h k =
     }
 
 pub takes_none : (v : View) → TakesOwn v v []
-takes_none v = record { kept = λ i o. (o, refl); knew = λ i. prefix-itself (known v i); each = λ q c. absurd (Contains-nil q c) }
+takes_none v = record { kept = λ i o. (o, refl); knew = λ i. prefix_refl (known v i); each = λ q c. absurd (Contains-nil q c) }
 
 -- a side's seat
 pub takes_side : (v w u : View) → TakesIn v w u → TakesOwn v u []
@@ -60,9 +60,9 @@ takes_side v w u k = record { kept = λ i o. ((k.owns i).0 (inl o), k.owned i o)
 pub takes_then : (v w u : View) (ps qs : List Pass) → TakesOwn v w ps → TakesOwn w u qs → TakesOwn v u (ps ++ qs)
 takes_then v w u ps qs a b = record {
   kept = λ i o. let x = a.kept i o in let y = b.kept i x.0 in (y.0, y.1 ∙ x.1);
-  knew = λ i. prefix-then (known v i) (known w i) (known u i) (a.knew i) (b.knew i);
+  knew = λ i. prefix_trans (known v i) (known w i) (known u i) (a.knew i) (b.knew i);
   each = λ p c. ⊎_elim
-      (λ h. let x = a.each p h in let y = b.kept (caller_line p.thread) x.1 in (x.0, y.0, ap line_entries y.1 ∙ x.2, λ i. prefix-then (known p.view i) (known w i) (known u i) (x.3 i) (b.knew i)))
+      (λ h. let x = a.each p h in let y = b.kept (caller_line p.thread) x.1 in (x.0, y.0, ap line_entries y.1 ∙ x.2, λ i. prefix_trans (known p.view i) (known w i) (known u i) (x.3 i) (b.knew i)))
       (λ h. b.each p h)
       (Contains-append_cases ps qs p c);
 }
@@ -148,11 +148,15 @@ pub all_have_own : (v y : View) → IsDrawnView y → (w : AllKnown y.known) (en
 all_have_own v y a w entries e callers others k =
     All-members (HasOwn entries) callers (λ p c. let m = k.each p (Contains-append_left callers others p c) in has_own y a w entries e p m.0 m.2)
 
+-- a beginning's images begin the whole's
+pub prefix_map : {A B : Type 0} (f : A → B) (xs ys : List A) → IsPrefix xs ys → IsPrefix (map f xs) (map f ys)
+prefix_map f xs ys p = (map f p.0, sym (map-append f xs p.0) ∙ ap (map f) p.1)
+
 -- and what it knows of the managed list begins the history's
 begins_history : (v : View) (w : AllKnown v.known) (entries : List Entry) → entries ≡ entries_of w.whole → (p : Pass) → BeginsView p.view v → BeginsHistory entries p
 begins_history v w entries e p b =
     let whole : line_known v 0 ≡ entries_in 0 entries = ap line_entries (w.each 0 (omega arith)) ∙ ((tell_lines w.whole w.numbers).lines 0 ∙ ap (entries_in 0) (sym e)) in
-    subst (IsPrefix (line_known p.view 0)) whole (prefix-map (λ (k : KeptEntry). k.entry) (known p.view 0) (known v 0) (b 0))
+    subst (IsPrefix (line_known p.view 0)) whole (prefix_map (λ (k : KeptEntry). k.entry) (known p.view 0) (known v 0) (b 0))
 
 pub all_begin_history : (v y : View) (w : AllKnown y.known) (entries : List Entry) → entries ≡ entries_of w.whole → (callers others : List Pass) → TakesOwn v y (callers ++ others) → All (BeginsHistory entries) callers
 all_begin_history v y w entries e callers others k =

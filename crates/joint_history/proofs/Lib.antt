@@ -29,7 +29,6 @@ pub mod DriverCalls
 pub mod Scanning
 pub mod DriverSnaps
 pub mod DriverHears
-pub mod Beginnings
 pub mod Ended
 pub mod Yielding
 pub mod Allowed

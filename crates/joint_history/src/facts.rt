@@ -3,7 +3,7 @@
 
 ghost use Rattle.std.specs.Prelude.{◌≡◌};
 ghost use Rattle.peer_side.specs.Sides.{seen};
-ghost use Rattle.joint_history.specs.Callers.{CallerKnows, IsOfRun};
+ghost use Rattle.joint_history.specs.Callers.{CallerKnows, IsOfRun, reads_of};
 ghost use Rattle.joint_history.specs.Locked.{ManagedKnows, PeerKnows, PeerReserves};
 ghost use Rattle.joint_history.specs.SeatFacts.{HandlesLeft, ManagedListCites, NoneLeadsToClearedIn, NoneLeadsToFreedIn, PeerListCites, ResolvesFreed, WeakIsWaitingIn};
 
@@ -48,9 +48,11 @@ impl<N: OrderName> LockedPeer<N> {
 
 impl<N: OrderName> Caller<N> {
     /// A caller's thread is one of the run's, for which both sides are. Its seat knows a lawful past, at whose end the thread has nothing to release.
+    /// Only a managed thread has reads of its own.
     pub fn facts(&self)
         ensures thread { IsOfRun N.managed N.peers self.now.thread }
         ensures knows { CallerKnows self.now.thread self.now.view }
+        ensures reads { self.now.reads ≡ reads_of self.now.thread self.now.reads }
     {
         let _ = &self.seat;
     }
