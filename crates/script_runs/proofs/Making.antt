@@ -20,7 +20,7 @@ use Rattle.weak_wait.specs.Reads.{IsRead, reply_of}
 use Rattle.script_runs.specs.declared.lines.ReadCall.TheVariants as reads
 use Rattle.script_runs.specs.Running.{AnswersLine, IsRunnable, MakesLine, WaitsLine, read_call}
 
-pub runs_line : (t : Thread) (old new : View) (index : ℕ) (a : Act) (r : Receipt) → IsOperationOf t a → Runs t old new index a r → MakesLine t old new index a
+abbrev pub runs_line : (t : Thread) (old new : View) (index : ℕ) (a : Act) (r : Receipt) → IsOperationOf t a → Runs t old new index a r → MakesLine t old new index a
 runs_line t old new index a r o k = record {
   entries = k.entries;
   made = k.made;
@@ -41,6 +41,9 @@ waits_line t old new index a r o k never = record { made_line = runs_line t old 
 pub from_same : (t u : Thread) (old mid new : View) (index : ℕ) (a : Act) → u ≡ t → mid ≡ old → WaitsLine u mid new index a → WaitsLine t old new index a
 from_same t u old mid new index a e f k = subst (λ z. WaitsLine z old new index a) e (subst (λ v. WaitsLine u v new index a) f k)
 
+pub is_not_managed : (t : Thread) (n : ℕ) → t ≡ P n → IsManagedThread t → ⊥
+is_not_managed t n e is = subst IsManagedThread e is
+
 -- a line that takes locks, or reads at once, is no wait; and an answer that isn't pending is no pending reply
 pub locked_not_await : (a : Act) (k : Cell) → read_call a ≡ reads.Locked → a ≡ act.Await k → ⊥
 locked_not_await a k e f = by (sym e ∙ ap read_call f)
@@ -48,8 +51,11 @@ locked_not_await a k e f = by (sym e ∙ ap read_call f)
     by : reads.Locked ≡ reads.Waiting → ⊥
     by q = cc
 
-pub now_not_await : (a : Act) (k : Cell) → (read_call a ≡ reads.Waiting → ⊥) → a ≡ act.Await k → ⊥
-now_not_await a k n f = n (ap read_call f)
+pub now_not_await : (a : Act) (k : Cell) → read_call a ≡ reads.Now → a ≡ act.Await k → ⊥
+now_not_await a k e f = by (sym e ∙ ap read_call f)
+  where
+    by : reads.Now ≡ reads.Waiting → ⊥
+    by q = cc
 
 pub not_pending : (g : Got) (c : Cycle) → ((k : Cycle) → g ≡ got.Pending k → ⊥) → reply_of g ≡ says.Pending c → ⊥
 not_pending (got.Pending k) c n e = n k refl
@@ -63,6 +69,18 @@ pub reads_cell : (n : ℕ) (a : Act) → IsLine (M n) a → (read_call a ≡ rea
 reads_cell n (act.Read k) l e = l.1
 reads_cell n (act.Await k) l e = l.1
 reads_cell n a l e = absurd (e refl)
+
+pub waiting_reads : (n : ℕ) (a : Act) → IsLine (M n) a → read_call a ≡ reads.Waiting → IsRead a
+waiting_reads n a l e = reads_cell n a l (λ f. by (sym e ∙ f))
+  where
+    by : reads.Waiting ≡ reads.Locked → ⊥
+    by q = cc
+
+pub now_reads : (n : ℕ) (a : Act) → IsLine (M n) a → read_call a ≡ reads.Now → IsRead a
+now_reads n a l e = reads_cell n a l (λ f. by (sym e ∙ f))
+  where
+    by : reads.Now ≡ reads.Locked → ⊥
+    by q = cc
 
 -- a line that can be run is an operation of its thread
 pub runnable_operation : (t : Thread) (a : Act) → IsOwnThread t → IsRunnable (t, a) → IsOperationOf t a

@@ -8,6 +8,7 @@ ghost use Rattle.weak_wait.specs.Reads.{IsRead};
 ghost use Rattle.joint_model.specs.declared.names.Phase.TheVariants.{Idle};
 ghost use Rattle.joint_model.specs.declared.names.Thread.TheVariants.{C};
 ghost use Rattle.bridge_cycle.specs.Progress.{line_of};
+ghost use Rattle.script_runs.specs.declared.lines.ReadCall.TheVariants.{Now};
 ghost use Rattle.script_runs.specs.Running.{AnswersLine, DrivesLeft, DrivesLine, WaitsLine, read_call};
 
 use bridge_cycle::Driver;
@@ -59,8 +60,27 @@ pub(crate) fn run_line_alone<N: OrderName>(
     Ok(())
 }
 
-// Reads a cell for a managed thread without a lock, at once or by waiting.
-fn read_beside<N: OrderName>(
+// Reads a cell for a managed thread without a lock, at once.
+fn read_at_once<N: OrderName>(
+    shared: &Shared<N, Locks>,
+    caller: &mut Caller<N>,
+    index: u16,
+    act: &Act,
+) -> Result<(), AllocError>
+    requires act { IsManagedThread caller.old.thread × IsRead act.now × IsOperationOf caller.old.thread act.now }
+    requires call { read_call act.now ≡ Now }
+    requires index { last_index (own caller.old) ≤ index }
+    ensures thread { caller.new.thread ≡ caller.old.thread }
+    ensures index { last_index (own caller.new) ≤ index }
+    ensures ok { OnOk result (WaitsLine caller.old.thread caller.old.view caller.new.view index act.now) }
+{
+    shared.reserve(caller, 1)?;
+    shared.read_now(caller, index, act);
+    Ok(())
+}
+
+// Reads a cell for a managed thread without a lock, by waiting.
+fn read_in_time<N: OrderName>(
     rt: &impl Wait,
     shared: &Shared<N, Locks>,
     caller: &mut Caller<N>,
@@ -74,11 +94,7 @@ fn read_beside<N: OrderName>(
     ensures ok { OnOk result (WaitsLine caller.old.thread caller.old.view caller.new.view index act.now) }
 {
     shared.reserve(caller, 1)?;
-    if matches!(read_call(act), ReadCall::Waiting) {
-        shared.read_wait(rt, caller, index, act);
-    } else {
-        shared.read_now(caller, index, act);
-    }
+    shared.read_wait(rt, caller, index, act);
     Ok(())
 }
 
@@ -100,9 +116,8 @@ pub(crate) fn run_line_beside<N: OrderName>(
 {
     match caller.thread() {
         Thread::M(_) => match read_call(act) {
-            ReadCall::Now | ReadCall::Waiting => {
-                return read_beside(rt, shared, caller, index, act);
-            }
+            ReadCall::Now => return read_at_once(shared, caller, index, act),
+            ReadCall::Waiting => return read_in_time(rt, shared, caller, index, act),
             ReadCall::Locked => shared.managed(rt, caller, index, act)?,
         },
         Thread::P(_) => shared.peer(rt, caller, index, act)?,
