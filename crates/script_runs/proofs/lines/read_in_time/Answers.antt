@@ -1,8 +1,6 @@
 use Rattle.std.proofs.Common.{sym, subst}
-use Rattle.joint_model.specs.Lines.{IsManagedThread}
-use Rattle.joint_history.specs.Callers.{Pass, last_index, own_in}
 use Rattle.joint_history.specs.Operations.{IsOperationOf}
-use Rattle.script_runs.proofs.Making.{from_same, not_pending, now_not_await, waits_line}
+use Rattle.script_runs.proofs.Making.{from_same, not_pending, waits_line}
 use Rattle.script_runs.proofs.lines.read_in_time.Goals as goal
 
 pub returns-clause-ok : goal.returns-clause-ok

@@ -6,7 +6,7 @@ use Rattle.script_laws.specs.Holding.{opening_standing}
 use Rattle.joint_model.specs.Lines.{IsManagedThread}
 use Rattle.run_laws.specs.Threads.{HoldsItsFirst, WaitsEnd}
 use Rattle.script_runs.specs.Running.{HasRunLines, MakesLine}
-use Rattle.script_runs.proofs.Owned.{none_waits, own_ends, own_holds, own_waits, other_holds}
+use Rattle.script_runs.proofs.Owned.{own_ends, own_holds, own_waits, other_holds}
 use Rattle.script_runs.proofs.Reading.{line_of, there}
 use Rattle.script_runs.proofs.workers.run_own.Goals as goal
 use Rattle.script_runs.proofs.workers.run_own.Goals.{then-is_thread+in_ok-run_line_beside, else-is_thread}
