@@ -7,7 +7,7 @@ use Rattle.joint_model.specs.declared.names.Thread.TheVariants.{M, P, C}
 use Rattle.joint_model.specs.declared.lines.Act.{Act}
 use Rattle.joint_model.specs.declared.lines.Act.TheVariants as act
 use Rattle.joint_model.specs.declared.events.Reply.TheVariants as says
-use Rattle.joint_model.specs.Lines.{IsLine, IsManagedThread}
+use Rattle.joint_model.specs.Lines.{IsManagedThread}
 use Rattle.order_table.specs.declared.views.View.{View}
 use Rattle.joint_history.specs.declared.callers.Receipt.{Receipt}
 use Rattle.joint_history.specs.Operations.{IsOperationOf, IsOwnThread, ReadsExactly, Runs}
@@ -16,7 +16,7 @@ use Rattle.run_laws.proofs.Lining.{operations_are_lines, others_keep_standing}
 use Rattle.run_laws.proofs.Waits.{operations_waits_end}
 use Rattle.weak_wait.specs.declared.reads.Got.{Got}
 use Rattle.weak_wait.specs.declared.reads.Got.TheVariants as got
-use Rattle.weak_wait.specs.Reads.{IsRead, reply_of}
+use Rattle.weak_wait.specs.Reads.{reply_of}
 use Rattle.script_runs.specs.declared.lines.ReadCall.TheVariants as reads
 use Rattle.script_runs.specs.Running.{AnswersLine, IsRunnable, MakesLine, WaitsLine, read_call}
 
@@ -63,24 +63,6 @@ not_pending (got.Got m) c n e = absurd (cc)
 not_pending got.Gone c n e = absurd (cc)
 not_pending got.Unset c n e = absurd (cc)
 not_pending (got.PinHeld m) c n e = absurd (cc)
-
--- a line that reads
-pub reads_cell : (n : ℕ) (a : Act) → IsLine (M n) a → (read_call a ≡ reads.Locked → ⊥) → IsRead a
-reads_cell n (act.Read k) l e = l.1
-reads_cell n (act.Await k) l e = l.1
-reads_cell n a l e = absurd (e refl)
-
-pub waiting_reads : (n : ℕ) (a : Act) → IsLine (M n) a → read_call a ≡ reads.Waiting → IsRead a
-waiting_reads n a l e = reads_cell n a l (λ f. by (sym e ∙ f))
-  where
-    by : reads.Waiting ≡ reads.Locked → ⊥
-    by q = cc
-
-pub now_reads : (n : ℕ) (a : Act) → IsLine (M n) a → read_call a ≡ reads.Now → IsRead a
-now_reads n a l e = reads_cell n a l (λ f. by (sym e ∙ f))
-  where
-    by : reads.Now ≡ reads.Locked → ⊥
-    by q = cc
 
 -- a line that can be run is an operation of its thread
 pub runnable_operation : (t : Thread) (a : Act) → IsOwnThread t → IsRunnable (t, a) → IsOperationOf t a
