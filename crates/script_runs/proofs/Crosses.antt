@@ -1,11 +1,8 @@
--- A line of a script may be seen by several threads, and a list of reads may be sent to another.
+-- A line of a script may be seen by several threads.
 use mathlib.Core.List.{[], ◌∷◌}
-use denote.Param.Send.{IsSend, IsSync, recorded_sync, sendable, struct_sync}
+use denote.Param.Send.{IsSync, recorded_sync, struct_sync}
 use denote.Struct.Declared as fields
 use denote.Struct.Tuple.{Tuple, tuple_type}
-use Rattle.std.proofs.Crossing.{crosses}
-use Rattle.joint_model.proofs.kept.Kept.TheSendSync.{the_send as kept}
-use Rattle.joint_model.specs.contracts.lists.Entries as Entries
 use Rattle.joint_model.proofs.lines.Act.TheSendSync.{the_sync as act}
 use Rattle.joint_model.proofs.names.Thread.TheSendSync.{the_sync as thread}
 use Rattle.joint_model.specs.contracts.lines.Act as Act
@@ -13,7 +10,3 @@ use Rattle.joint_model.specs.contracts.names.Thread as Thread
 
 pub line : IsSync (Tuple (Thread.the_row ∷ Act.the_row ∷ []))
 line = recorded_sync _ _ _ (tuple_type (Thread.the_row ∷ Act.the_row ∷ [])).to_one (struct_sync (fields.shape (tuple_type (Thread.the_row ∷ Act.the_row ∷ []))) (thread, (act, tt)))
-
--- a caller's list of reads may be sent with it
-pub entries : IsSend Entries.the_row
-entries = search (sendable, crosses, kept) depth 60 fits 100000

@@ -4,8 +4,8 @@ use denote.Param.Send.{sendable, shr_slice_sync, shr_sync}
 use Rattle.std.proofs.Common.{[]}
 use Rattle.std.proofs.Crossing.{crosses, sync as heap}
 use Rattle.order_table.proofs.seats.Seat.TheSendSync.{the_send as seat}
-use Rattle.joint_history.proofs.Crosses.{shared}
-use Rattle.script_runs.proofs.Crosses.{entries, line}
+use Rattle.joint_history.proofs.Crosses.{entries, shared}
+use Rattle.script_runs.proofs.Crosses.{line}
 use Rattle.script_runs.proofs.threads.run_jobs.Goals as goal
 
 -- the closure holds the runtime, the allocator, the shared bridge, the script and the turnstile, each by a reference
