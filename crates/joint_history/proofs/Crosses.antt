@@ -28,7 +28,8 @@ use Rattle.joint_history.specs.contracts.peer.LockedPeer as LockedPeer
 use Rattle.joint_history.specs.contracts.peer.LockedPeer.TheInside as UnderPeer
 use Rattle.joint_history.specs.contracts.shared.Shared as Shared
 
-entries : IsSend Entries.the_row
+-- a caller's list of reads may be sent with it
+pub entries : IsSend Entries.the_row
 entries = search (sendable, crosses, kept) depth 60 fits 100000
 
 heap_rows : IsSend Rows.the_row

@@ -1,20 +1,25 @@
 -- What a run's history has follows from what it holds and that it is linked, by the laws of scripts and of linked histories.
+use Rattle.std.specs.Prelude.{◌<◌, ◌^◌, length}
 use Rattle.joint_model.specs.Histories.{Finished}
-use Rattle.joint_laws.proofs.CompleteRuns.{linked_is_complete}
-use Rattle.joint_laws.proofs.GoneAfter.{reads_are_gone, weak_reads_are_gone, none_is_mirrored}
+use Rattle.joint_model.specs.LinkedHistories.{managed_end}
+use Rattle.joint_laws.specs.ReadingLaws.{IsLawfulReading}
+use Rattle.joint_laws.proofs.ReadsAside.{linked_is_complete}
+use Rattle.joint_laws.proofs.ReadingsGoneAfter.{lock_free_reads_are_gone, weak_reads_are_gone_reading, none_is_mirrored_reading}
 use Rattle.joint_history.specs.Ending.{IsFinished}
 use Rattle.script_laws.specs.Ending.{AllCyclesEnd}
+use Rattle.script_laws.proofs.Asides.{exact_asides_are_replies}
 use Rattle.script_laws.proofs.Ending.{held-end}
 use Rattle.script_laws.proofs.Finishing.{one-history}
 use Rattle.script_laws.proofs.OneText.{one-text}
-use Rattle.script_laws.proofs.OwnCycles.{linked-end}
+use Rattle.script_laws.proofs.ReadCycles.{linked-end}
 use Rattle.script_laws.proofs.ThreadEnding.{thread_history_ends}
 use Rattle.run_laws.specs.Final.{IsBridgeRun, HeldInOrderIsRun, HeldByThreadsIsRun}
 
 -- by what ends each cycle a finished history is a run's
-abbrev pub kept : (h : Finished) (w : IsFinished h) → AllCyclesEnd h.entries → IsBridgeRun h w.noted
-kept h w ends =
+abbrev pub kept : (h : Finished) (w : IsFinished h) → length h.entries < 2 ^ 64 → AllCyclesEnd h.entries → IsBridgeRun h w.noted
+kept h w few ends =
     let run = linked_is_complete h w.noted w.finished.linked in
+    let lawful : IsLawfulReading w.noted = (w.noted, (managed_end w.noted).cells, w.finished.linked.lawful) in
     record {
       linked = w.finished.linked;
       queued = w.finished.queued;
@@ -24,23 +29,27 @@ kept h w ends =
       run = run.1;
       sound = run.2;
       complete = run.3;
-      reads_gone = reads_are_gone w.noted w.finished.linked.lawful;
-      peers_gone = weak_reads_are_gone w.noted w.finished.linked.lawful;
-      cleared = none_is_mirrored w.noted w.finished.linked.lawful;
-      named = λ other theirs same. one-text other h theirs (record { noted = w.noted; linked = w.finished.linked }) same;
+      reads_gone = lock_free_reads_are_gone w.noted lawful;
+      peers_gone = weak_reads_are_gone_reading w.noted lawful;
+      cleared = none_is_mirrored_reading w.noted lawful;
+      named = λ other theirs same. one-text other h theirs (record { noted = w.noted; linked = w.finished.linked }) few same;
     }
 
 pub held_in_order_is_run : HeldInOrderIsRun
-held_in_order_is_run script h w lines = record {
-  noted = w.noted;
-  kept = kept h w (held-end script h.entries lines);
-  lines = lines;
-  only = λ other theirs held. one-history script other h theirs (record { noted = w.noted; linked = w.finished.linked }) held lines;
-}
+held_in_order_is_run script h w few held =
+    let exact = exact_asides_are_replies h w.noted w.finished.linked held.asides in
+    record {
+      noted = w.noted;
+      kept = kept h w few (held-end script h.entries held.lines);
+      lines = held.lines;
+      exact = exact;
+      only = λ other theirs x lines. one-history script other h theirs (record { noted = w.noted; linked = w.finished.linked }) x exact lines held.lines;
+    }
 
 pub held_by_threads_is_run : HeldByThreadsIsRun
-held_by_threads_is_run script h w lines = record {
+held_by_threads_is_run script h w few lines waits = record {
   noted = w.noted;
-  kept = kept h w (thread_history_ends script h w.noted w.finished.linked lines);
+  kept = kept h w few (thread_history_ends script h w.noted w.finished.linked lines);
   lines = lines;
+  waits = waits;
 }

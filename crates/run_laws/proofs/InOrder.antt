@@ -1,7 +1,7 @@
 -- Line after line. The driver's seat tells a caller all that it knows before the caller's line, and so the line's entries have numbers above
 -- all that was made; and it hears of them afterwards. What one line makes is its thread's own, so each caller keeps just its own entries of all that
 -- was made; and since a later line's numbers are all greater, numbers rise over all lines where they rise within each caller's.
-use Rattle.std.proofs.Common.{◌≡◌, ⊎_elim, ℕ, ◌+◌, ◌<◌, true, false, List, [], ◌∷◌, ◌++◌, map, Some, refl, sym, ◌∙◌, ap, subst, arith, append_assoc}
+use Rattle.std.proofs.Common.{◌≡◌, ⊎_elim, ℕ, ◌+◌, ◌<◌, true, false, List, [], ◌∷◌, ◌++◌, length, map, Some, refl, sym, ◌∙◌, ap, subst, arith, append_assoc}
 use Rattle.std.specs.Prelude.{Contains, slice_get, slice_set}
 use Rattle.std.proofs.lemmas.Bool.{cases_Bool}
 use Rattle.std.proofs.lemmas.List.{append-nil, map-append}
@@ -14,7 +14,7 @@ use Rattle.joint_model.specs.declared.events.Entry.{Entry}
 use Rattle.joint_model.specs.Components.{Rises}
 use Rattle.joint_model.specs.Control.{caller_place}
 use Rattle.joint_model.specs.HistoryLines.{caller_line}
-use Rattle.joint_model.specs.Lines.{IsThread}
+use Rattle.joint_model.specs.Lines.{IsManagedThread, IsThread, is_read}
 use Rattle.joint_model.specs.PeerReplay.{is_thread}
 use Rattle.joint_model.proofs.Joining.{same_or_not, slice_get-set_same, slice_get-set_other}
 use Rattle.joint_model.proofs.Members.{All-members, Contains-here, Contains-there, Contains-nil, Contains-cons_cases, Contains-map, Contains-map_cases}
@@ -33,7 +33,7 @@ use Rattle.script_laws.specs.Holding.{opening_standing, AreOnLine, entries_by}
 use Rattle.script_laws.proofs.Growing.{held_lines_grow}
 use Rattle.script_laws.proofs.ThreadOrder.{all-by, none-by}
 use Rattle.run_laws.proofs.ByThreads.{is-either}
-use Rattle.run_laws.specs.Serial.{CallerAdds, ToldCallersAdd, DriversAdd, AreOthers, NothingIsRun, OthersRunOn, DriverRunsOn}
+use Rattle.run_laws.specs.Serial.{AllReadBy, CallerAdds, ToldCallersAdd, DriversAdd, AreOthers, NothingIsRun, OthersRunOn, DriverRunsOn}
 use Rattle.joint_model.proofs.HeapLemmas.{same_thread}
 use Rattle.order_table.proofs.Lines.{below_front}
 
@@ -53,7 +53,7 @@ above-less old new [] p a = tt
 above-less old new (e ∷ es) p a = (λ i. below_front e.number (known old i) (p i).0 (subst (IsBelow e.number) (sym (p i).1) (a.0 i)), above-less old new es p a.1)
 
 pub told_callers_add : ToldCallersAdd
-told_callers_add driver told heard before after ended left es tells hears same makes tells' hears' =
+told_callers_add driver told heard before after ended left es tells hears same makes answered tells' hears' =
     let line = caller_line before.thread in
     let own_left : own left ≡ line_known ended.view (caller_line after.thread) = ap line_entries (tells'.same (caller_line left.thread)) ∙ ap (λ t. line_known ended.view (caller_line t)) (tells'.thread ∙ same) in
     record {
@@ -61,16 +61,30 @@ told_callers_add driver told heard before after ended left es tells hears same m
       above = above-less driver.view after.view es hears.heard makes.above;
       own_more = own_left ∙ (makes.own_more ∙ ap (λ l. l ++ es) hears.own_stay);
       heard = subst (λ l. IsPrefix l (line_known heard.view line)) (sym (own_left ∙ ap (λ t. line_known ended.view (caller_line t)) hears.thread)) (prefix-map (λ (k : KeptEntry). k.entry) (known ended.view line) (known heard.view line) (hears'.heard line));
+      reads = λ is e c r.
+          let w = answered (subst IsManagedThread (sym hears.thread) is) e c r in
+          record {
+            alone = w.alone;
+            list = w.list;
+            begins = prefix-then w.list (line_known ended.view 0) (line_known heard.view 0) w.begins (prefix-map (λ (k : KeptEntry). k.entry) (known ended.view 0) (known heard.view 0) (hears'.heard 0));
+            has = λ f d st. w.has f (told-in f (caller_line f.made.caller) d) st;
+            exact = w.exact;
+          };
     }
+  where
+    -- what the driver knew the caller knows
+    told-in : (f : Entry) (i : ℕ) → Contains (line_known driver.view i) f → Contains (line_known after.view i) f
+    told-in f i d = prefix-in (line_known driver.view i) (line_known after.view i) f (prefix-map (λ (k : KeptEntry). k.entry) (known driver.view i) (known after.view i) (hears.heard i)) d
 
 pub drivers_add : DriversAdd
-drivers_add driver after es same makes =
+drivers_add driver after es is same makes =
     let own_is : own after ≡ line_known after.view (caller_line driver.thread) = ap (λ t. line_known after.view (caller_line t)) same in
     record {
       more = makes.more;
       above = makes.above;
       own_more = own_is ∙ makes.own_more;
       heard = ([], append-nil (own after) ∙ own_is);
+      reads = λ m. absurd (subst IsManagedThread is m);
     }
 
 -- an entry that was made is below those that come above all that is known
@@ -83,7 +97,7 @@ above-in v [] e f i a c d = absurd (Contains-nil f d)
 above-in v (x ∷ es) e f i a c d = ⊎_elim (λ (q : x ≡ f). subst (λ z. e.number < z.number) q (below-in x.number (known v i) e (a.0 i) c)) (λ d'. above-in v es e f i a.1 c d') (Contains-cons_cases x es f d)
 
 -- lists that rise, and a list behind one with greater numbers
-rises-first : (xs ys : List Entry) → Rises (numbers_of (xs ++ ys)) → Rises (numbers_of xs)
+pub rises-first : (xs ys : List Entry) → Rises (numbers_of (xs ++ ys)) → Rises (numbers_of xs)
 rises-first [] ys r = tt
 rises-first (x ∷ xs) ys r = (All-members (λ m. x.number < m) (numbers_of xs) (λ m c. All-contains (λ y. x.number < y) (numbers_of (xs ++ ys)) m r.0 (number-left xs ys m c)), rises-first xs ys r.1)
   where
@@ -118,6 +132,30 @@ own-with number t made es a = filter-append (λ e. is_thread t e.made.caller) ma
 pub own-without : (number : ℕ) (t u : Thread) (made es : List Entry) → is_thread t u ≡ false → AreOnLine number u es → entries_by t (made ++ es) ≡ entries_by t made
 own-without number t u made es other a = filter-append (λ e. is_thread t e.made.caller) made es ∙ (ap (λ l. entries_by t made ++ l) (none-by number t u es other a) ∙ append-nil (entries_by t made))
 
+-- what was read before stays right: what is made now has numbers above all that was known
+pub reads-on : (v w : View) (before ns es : List Entry) → IsPrefix (line_known v 0) (line_known w 0) → AreAbove v es → AllReadBy v before ns → AllReadBy w (before ++ ns) es → AllReadBy w before (ns ++ es)
+reads-on v w before [] es p above q r = subst (λ l. AllReadBy w l es) (append-nil before) r
+reads-on v w before (n ∷ ns) es p above q r = (
+  λ is m.
+      let k = q.0 is m in
+      record {
+        list = k.list;
+        begins = prefix-then k.list (line_known v 0) (line_known w 0) k.begins p;
+        has = k.has;
+        later = λ f c d. ⊎_elim
+            (λ c'. k.later f c' d)
+            (λ c'. let l = above-in v es f f 0 above (prefix-in k.list (line_known v 0) f k.begins d) c' in omega (arith, l))
+            (Contains-append_cases ns es f c);
+        exact = k.exact;
+      },
+  reads-on v w (before ++ n ∷ []) ns es p above q.1 (subst (λ l. AllReadBy w l es) (sym (append_assoc before (n ∷ []) ns)) r),
+)
+
+-- entries among which there is no read of a managed thread
+no-reads : (v : View) (before es : List Entry) → ((e : Entry) → Contains es e → is_read e.made.op ≡ true → IsManagedThread e.made.caller → ⊥) → AllReadBy v before es
+no-reads v before [] n = tt
+no-reads v before (e ∷ es) n = (λ r m. absurd (n e (Contains-here e es) r m), no-reads v (before ++ e ∷ []) es (λ f c. n f (Contains-there f e es c)))
+
 -- one thread's entries more, which are known now
 module _ (driver heard : View) (t : Thread) (mine mine' made es : List Entry) (number : ℕ) (a : CallerAdds driver heard t mine mine' es) (on : AreOnLine number t es) where
   pub heard-all : ((e : Entry) → Contains made e → Contains (line_known driver (caller_line e.made.caller)) e) → (e : Entry) → Contains (made ++ es) e → Contains (line_known heard (caller_line e.made.caller)) e
@@ -135,6 +173,25 @@ module _ (driver heard : View) (t : Thread) (mine mine' made es : List Entry) (n
       (before (λ u its. rises-first (entries_by u made) (entries_by u es) (subst (λ l. Rises (numbers_of l)) (filter-append (λ e. is_thread u e.made.caller) made es) (each u its))))
       (rises-last (entries_by t made) es (subst (λ l. Rises (numbers_of l)) (own-with number t made es on) (each t is)))
       (λ e f c d. above-in driver es e f (caller_line e.made.caller) a.above (known_so e c) d)
+
+  -- a read was made alone
+  reads-now : (ns : List Entry) → es ≡ ns → ((e : Entry) → Contains made e → Contains (line_known driver (caller_line e.made.caller)) e) → AllReadBy heard made ns
+  reads-now [] e known_so = tt
+  reads-now (x ∷ []) e known_so = (
+    λ r m.
+        let w = a.reads (subst IsManagedThread (by-one number t es x on (there x [] e)) m) x (there x [] e) r in
+        record { list = w.list; begins = w.begins; has = λ f c st. w.has f (known_so f c) st; later = λ f c d. Contains-nil f c; exact = w.exact },
+    tt,
+  )
+    where
+      there : (y : Entry) (ys : List Entry) → es ≡ y ∷ ys → Contains es y
+      there y ys q = subst (λ l. Contains l y) (sym q) (Contains-here y ys)
+  reads-now (x ∷ y ∷ ns) e known_so = no-reads heard made (x ∷ y ∷ ns)
+      (λ z c r m. let c' = subst (λ l. Contains l z) (sym e) c in let w = a.reads (subst IsManagedThread (by-one number t es z on c') m) z c' r in absurd (let n = ap length (sym e ∙ w.alone) in omega (arith, n)))
+
+  pub all-reads : ((e : Entry) → Contains made e → Contains (line_known driver (caller_line e.made.caller)) e) → AllReadBy driver [] made → AllReadBy heard [] (made ++ es)
+  all-reads known_so r =
+      reads-on driver heard [] made es (prefix-map (λ (k : KeptEntry). k.entry) (known driver 0) (known heard 0) (a.more 0)) a.above r (reads-now es refl known_so)
 
   pub all-threads : IsThread t → ((e : Entry) → Contains made e → IsThread e.made.caller) → (e : Entry) → Contains (made ++ es) e → IsThread e.made.caller
   all-threads is before e c = ⊎_elim (λ d. before e d) (λ d. subst IsThread (sym (by-one number t es e on d)) is) (Contains-append_cases made es e c)
@@ -174,6 +231,7 @@ nothing_is_run driver others is none each = record {
   callers = λ e c. absurd (Contains-nil e c);
   heard = λ e c. absurd (Contains-nil e c);
   rises = λ w. tt;
+  reads = tt;
 }
 
 pub others_run_on : OthersRunOn
@@ -195,6 +253,7 @@ others_run_on lines s driver heard others i p q number act es k at same still ow
   callers = all-threads driver.view heard.view p.thread (own p) (own q) h.made es number adds line.places (is-other others i p k at) h.callers;
   heard = heard-all driver.view heard.view p.thread (own p) (own q) h.made es number adds line.places h.heard;
   rises = all-rise driver.view heard.view p.thread (own p) (own q) h.made es number adds line.places h.heard h.rises (is-other others i p k at);
+  reads = all-reads driver.view heard.view p.thread (own p) (own q) h.made es number adds line.places h.heard h.reads;
 }
   where
     some-same : {A : Type 0} (x y : A) → Some x ≡ Some y → x ≡ y
@@ -210,4 +269,5 @@ driver_runs_on lines s driver after others number act es k same adds line h = re
   callers = all-threads driver.view after.view C (own driver) (own after) h.made es number adds line.places tt h.callers;
   heard = heard-all driver.view after.view C (own driver) (own after) h.made es number adds line.places h.heard;
   rises = all-rise driver.view after.view C (own driver) (own after) h.made es number adds line.places h.heard h.rises tt;
+  reads = all-reads driver.view after.view C (own driver) (own after) h.made es number adds line.places h.heard h.reads;
 }

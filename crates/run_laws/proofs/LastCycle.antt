@@ -1,7 +1,7 @@
 -- The driver's last cycle stands behind all else: its numbers are above all that anybody else made, since the driver had heard of that; so the
 -- history, whose numbers rise, is a beginning without the cycle's entries and then these. The beginning has of each thread just what its caller had
 -- before the cycle.
-use Rattle.std.proofs.Common.{◌≡◌, ◌⊎◌, inl, inr, ⊎_elim, ℕ, ◌+◌, ◌<◌, true, false, List, [], ◌∷◌, ◌++◌, length, refl, sym, ◌∙◌, ap, subst, arith, append_assoc}
+use Rattle.std.proofs.Common.{◌≡◌, ◌⊎◌, inl, inr, ⊎_elim, ℕ, ◌+◌, ◌<◌, ◌^◌, true, false, List, [], ◌∷◌, ◌++◌, length, refl, sym, ◌∙◌, ap, subst, arith, append_assoc}
 use Rattle.std.specs.Prelude.{All, Contains, if◌then◌else◌}
 use Rattle.std.proofs.lemmas.Bool.{cases_Bool}
 use Rattle.std.proofs.lemmas.List.{append-nil, append_cancel_right}
@@ -20,7 +20,6 @@ use Rattle.joint_model.specs.Components.{Rises}
 use Rattle.joint_model.specs.Histories.{Finished}
 use Rattle.joint_model.specs.HistoryLines.{caller_line}
 use Rattle.joint_model.specs.Lines.{IsLine, IsThread}
-use Rattle.joint_model.specs.Linked.{opening_linkage}
 use Rattle.joint_model.specs.PeerReplay.{is_thread}
 use Rattle.joint_model.specs.Phases.{next_phase, phases_left, ArePhases}
 use Rattle.joint_model.proofs.Members.{Contains-here, Contains-there, Contains-nil, Contains-cons_cases, Contains-map_cases, Contains-filter_from, Contains-filter_to}
@@ -42,7 +41,7 @@ use Rattle.run_laws.specs.Threads.{HoldsItsLines, NoneIsLeft}
 use Rattle.run_laws.proofs.ByThreads.{made_is_by}
 use Rattle.run_laws.proofs.Finals.{kept}
 use Rattle.run_laws.proofs.InOrder.{above-in, prefix-in, rises-last}
-use Rattle.run_laws.proofs.InOrderEnds.{filter-rise, linked-threads, numbered-rise}
+use Rattle.run_laws.proofs.InOrderEnds.{filter-rise, history-threads, numbered-rise}
 use Rattle.joint_model.proofs.HeapLemmas.{same_thread, thread_itself}
 
 -- the entry is one of the last, or has a smaller number than each of them
@@ -103,7 +102,7 @@ cycle-ends number es w =
     subst (λ p. EndsFrom p es) w.idle
     (lines-end ((number, cycle_line) ∷ []) w.standing es (es, [], sym (append-nil es), w.line, idle_leaves_nothing (standing_after w.standing number cycle_line.1 es) (cycle-idle w.standing number es w.idle)))
 
-module _ (script : List (Thread × Act)) (h : Finished) (d : Waiting) (others : List Pass) (before after : Pass) (fin : IsFinished h) (lawful : (line : Thread × Act) → Contains script line → IsLine line.0 line.1)
+module _ (script : List (Thread × Act)) (h : Finished) (d : Waiting) (others : List Pass) (before after : Pass) (fin : IsFinished h) (few : length h.entries < 2 ^ 64) (lawful : (line : Thread × Act) → Contains script line → IsLine line.0 line.1)
     (all : HasAll d (others ++ after ∷ [])) (owns : All (HasOwn h.entries) (others ++ after ∷ [])) (none : (t : Thread) → IsThread t → StillWaits d t → made_by t h.entries ≡ []) (left : NoneIsLeft script d)
     (held : All (HoldsItsLines script) others) (drove : HoldsItsLines script before) (w : EndsWithCycle (length script + 1) before after others) where
   abbrev callers : List Pass
@@ -113,7 +112,7 @@ module _ (script : List (Thread × Act)) (h : Finished) (d : Waiting) (others : 
   rises = numbered-rise 0 h.entries fin.finished.linked.numbers
 
   threads : (e : Entry) → Contains h.entries e → IsThread e.made.caller
-  threads e c = linked-threads opening_linkage fin.noted fin.finished.linked.lawful e (subst (λ l. Contains l e) (sym fin.finished.linked.same) c)
+  threads e c = history-threads h fin.noted fin.finished.linked e c
 
   -- what a caller has made is what its thread has in the history
   of-caller : (p : Pass) → Contains callers p → entries_by p.thread h.entries ≡ own p
@@ -223,7 +222,7 @@ module _ (script : List (Thread × Act)) (h : Finished) (d : Waiting) (others : 
       (ends-both (own before) w.cycle (lines-end (lines_of before.thread (numbered_from 1 script)) opening_standing (own before) drove) (cycle-ends (length script + 1) w.cycle w.cycle_is)))
 
   cycle-ends-run : IsRunThenCycle script h
-  cycle-ends-run = record { noted = fin.noted; kept = kept h fin ends; lines = lines }
+  cycle-ends-run = record { noted = fin.noted; kept = kept h fin few ends; lines = lines }
 
 pub cycles_end_runs : CyclesEndRuns
 cycles_end_runs = cycle-ends-run

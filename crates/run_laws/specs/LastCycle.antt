@@ -1,6 +1,6 @@
 -- A run with one cycle more: the threads run their lines, and once all of them have ended the driver hears of what each has made and runs a whole
 -- cycle. So the cycle's entries stand behind all others.
-use Rattle.std.specs.Prelude.{◌≡◌, ℕ, ◌+◌, List, [], ◌∷◌, ◌++◌, All, Contains, length}
+use Rattle.std.specs.Prelude.{◌≡◌, ℕ, ◌+◌, ◌<◌, ◌^◌, List, [], ◌∷◌, ◌++◌, All, Contains, length}
 use mathlib.Core.List.{IsPrefix}
 use Rattle.joint_model.specs.declared.names.Phase.TheVariants as at
 use Rattle.joint_model.specs.declared.names.PhaseWord.TheVariants as word
@@ -67,7 +67,7 @@ pub record EndsWithCycle (number : ℕ) (before after : Pass) (others : List Pas
 -- where each caller that was given out has run its thread's lines, nobody else has any, and the driver then made a cycle more, the finished history is that
 -- of the script's run with one cycle more
 abbrev pub CyclesEndRuns : Type 0
-CyclesEndRuns = (script : List (Thread × Act)) (h : Finished) (d : Waiting) (others : List Pass) (before after : Pass) → IsFinished h → ((line : Thread × Act) → Contains script line → IsLine line.0 line.1)
+CyclesEndRuns = (script : List (Thread × Act)) (h : Finished) (d : Waiting) (others : List Pass) (before after : Pass) → IsFinished h → length h.entries < 2 ^ 64 → ((line : Thread × Act) → Contains script line → IsLine line.0 line.1)
     → HasAll d (others ++ after ∷ []) → All (HasOwn h.entries) (others ++ after ∷ []) → ((t : Thread) → IsThread t → StillWaits d t → made_by t h.entries ≡ []) → NoneIsLeft script d
     → All (HoldsItsLines script) others → HoldsItsLines script before → EndsWithCycle (length script + 1) before after others → IsRunThenCycle script h
 

@@ -1,5 +1,5 @@
+pub mod Serial
 pub mod Lines
 pub mod Threads
-pub mod Serial
 pub mod Final
 pub mod LastCycle

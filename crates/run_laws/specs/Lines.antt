@@ -4,8 +4,11 @@ use Rattle.joint_model.specs.declared.names.Thread.{Thread}
 use Rattle.joint_model.specs.declared.lines.Act.{Act}
 use Rattle.joint_model.specs.declared.events.Entry.{Entry}
 use Rattle.joint_history.specs.declared.callers.Receipt.{Receipt}
-use Rattle.joint_history.specs.Operations.{IsOperation, IsOperationOf}
+use Rattle.order_table.specs.declared.views.View.{View}
+use Rattle.view_laws.specs.Knowing.{IsDrawnView}
+use Rattle.joint_history.specs.Operations.{IsOperation, IsOperationOf, MakesAll, ReadsExactly}
 use Rattle.script_laws.specs.Holding.{Standing, standing_after, AreLine}
+use Rattle.run_laws.specs.Serial.{ReadsAreAnswered}
 
 -- the entries of a thread's operation are those of its line, wherever the driver stands
 abbrev pub OperationsAreLines : Type 0
@@ -14,3 +17,8 @@ OperationsAreLines = (s : Standing) (t : Thread) (index : ℕ) (a : Act) (es : L
 -- and leave the driver where it stands
 abbrev pub OthersKeepStanding : Type 0
 OthersKeepStanding = (s : Standing) (t : Thread) (index : ℕ) (a : Act) (es : List Entry) → IsOperationOf t a → standing_after s index a es ≡ s
+
+-- a read among them, whose answer is exact by what the caller knows then, is answered by the managed list that the caller knows
+abbrev pub OperationsAreAnswered : Type 0
+OperationsAreAnswered = (t : Thread) (index : ℕ) (a : Act) (es : List Entry) (r : Receipt) (old new : View) → IsDrawnView old → IsDrawnView new → IsOperationOf t a → IsOperation t index a es r
+    → MakesAll t old new es → ReadsExactly t old new a r.reply → ReadsAreAnswered t old new es

@@ -1,16 +1,23 @@
 -- A run thread by thread: what each thread's caller holds while its lines are run, and that what all hold is the script.
 use Rattle.std.specs.Prelude.{◌≡◌, ℕ, ◌+◌, false, List, [], ◌++◌, All, Contains, Some, length, slice_get, take}
 use Rattle.joint_model.specs.declared.names.Thread.{Thread}
+use Rattle.joint_model.specs.declared.names.Cell.{Cell}
+use Rattle.joint_model.specs.declared.names.Cycle.{Cycle}
 use Rattle.joint_model.specs.declared.lines.Act.{Act}
+use Rattle.joint_model.specs.declared.lines.Act.TheVariants as act
+use Rattle.joint_model.specs.declared.events.Op.TheVariants as op
+use Rattle.joint_model.specs.declared.events.Reply.TheVariants as says
 use Rattle.joint_model.specs.declared.events.Entry.{Entry}
 use Rattle.joint_model.specs.Histories.{Finished}
-use Rattle.joint_model.specs.Lines.{IsLine, IsThread}
-use Rattle.joint_model.specs.Linked.{IsLinked}
+use Rattle.joint_model.specs.Lines.{IsLine, IsManagedThread, IsThread}
+use Rattle.joint_model.specs.LinkedHistories.{IsLinked}
 use Rattle.joint_model.specs.PeerReplay.{is_thread}
 use Rattle.known_laws.specs.Lists.{made_by}
+use Rattle.joint_history.specs.declared.callers.Receipt.{Receipt}
 use Rattle.joint_history.specs.Callers.{Pass, own}
 use Rattle.joint_history.specs.Desks.{Waiting}
 use Rattle.joint_history.specs.Ending.{HasAll, HasOwn, StillWaits}
+use Rattle.joint_history.specs.Operations.{IsOperation}
 use Rattle.script_laws.specs.Holding.{Standing, opening_standing, standing_after, AreLine, AreLeft, HoldsLines, HoldsSoFar, HoldsPerThread, numbered_from, lines_of}
 
 -- the lines of a thread, with their numbers
@@ -47,3 +54,27 @@ NoneIsLeft script d = (t : Thread) → IsThread t → StillWaits d t → thread_
 abbrev pub ThreadsHoldScript : Type 0
 ThreadsHoldScript = (script : List (Thread × Act)) (h : Finished) (d : Waiting) (callers : List Pass) → IsLinked h → ((line : Thread × Act) → Contains script line → IsLine line.0 line.1)
     → HasAll d callers → All (HasOwn h.entries) callers → ((t : Thread) → IsThread t → StillWaits d t → made_by t h.entries ≡ []) → All (HoldsItsLines script) callers → NoneIsLeft script d → HoldsPerThread script h.entries
+
+-- a read that waits answered `pending`
+pub record IsWaitPending (e : Entry) : Type 0 where
+  pub cell : Cell
+  pub cycle : Cycle
+  pub waits : e.made.op ≡ op.Line (act.Await cell)
+  pub pending : e.made.reply ≡ says.Pending cycle
+
+-- none of these did: each wait is answered once no cycle is in its way
+abbrev pub WaitsEnd : List Entry → Type 0
+WaitsEnd es = (e : Entry) → Contains es e → IsWaitPending e → ⊥
+
+-- so it is with more entries of which none did
+abbrev pub MoreWaitsEnd : Type 0
+MoreWaitsEnd = (es fs : List Entry) → WaitsEnd es → WaitsEnd fs → WaitsEnd (es ++ fs)
+
+-- and of an operation that isn't a wait which answered so
+abbrev pub OperationsWaitsEnd : Type 0
+OperationsWaitsEnd = (t : Thread) (index : ℕ) (a : Act) (es : List Entry) (r : Receipt) → IsOperation t index a es r → ((k : Cell) (c : Cycle) → a ≡ act.Await k → r.reply ≡ says.Pending c → ⊥) → WaitsEnd es
+
+-- and of the finished history, where it is of each managed thread's caller that was given out
+abbrev pub CallersWaitsEnd : Type 0
+CallersWaitsEnd = (h : Finished) (d : Waiting) (callers : List Pass) → IsLinked h → HasAll d callers → All (HasOwn h.entries) callers → ((t : Thread) → IsThread t → StillWaits d t → made_by t h.entries ≡ [])
+    → All (λ p. IsManagedThread p.thread → WaitsEnd (own p)) callers → WaitsEnd h.entries

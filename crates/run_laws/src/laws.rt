@@ -2,28 +2,34 @@
 
 ghost use Rattle.run_laws.specs.Final.{HeldByThreadsIsRun, HeldInOrderIsRun};
 ghost use Rattle.run_laws.specs.LastCycle.{CycleLinesEndRuns, CyclesEndRuns};
-ghost use Rattle.run_laws.specs.Lines.{OperationsAreLines, OthersKeepStanding};
+ghost use Rattle.run_laws.specs.Lines.{OperationsAreAnswered, OperationsAreLines, OthersKeepStanding};
 ghost use Rattle.run_laws.specs.Serial.{AllAreGiven, DriverRunsOn, DriversAdd, NothingIsRun, OthersRunOn, RunsHoldScript, ToldCallersAdd};
-ghost use Rattle.run_laws.specs.Threads.{OthersLinesPass, OwnLinesAdd, OwnLinesEnd, ThreadsHoldScript};
+ghost use Rattle.run_laws.specs.Threads.{CallersWaitsEnd, MoreWaitsEnd, OperationsWaitsEnd, OthersLinesPass, OwnLinesAdd, OwnLinesEnd, ThreadsHoldScript};
 
-/// The entries of a thread's operation are those of its line, and leave the driver where it stands.
+/// The entries of a thread's operation are those of its line, and leave the driver where it stands; a read among them that is exact by what its caller knows
+/// is answered by the managed list that it knows.
 pub fn operations_are_lines()
     ensures lines { OperationsAreLines }
     ensures standing { OthersKeepStanding }
+    ensures answered { OperationsAreAnswered }
 {}
 
 /// Thread by thread: a caller that passes over the lines of others, and makes the entries of each of its own lines and at the end those of
 /// the phases left, holds its thread's lines. Where each caller that was given out does, and nobody else has a line, the finished history holds the
-/// script thread by thread.
+/// script thread by thread; and where no wait of any caller answered `pending`, none of the history does.
 pub fn threads_hold_scripts()
     ensures pass { OthersLinesPass }
     ensures add { OwnLinesAdd }
     ensures end { OwnLinesEnd }
     ensures hold { ThreadsHoldScript }
+    ensures more { MoreWaitsEnd }
+    ensures operation { OperationsWaitsEnd }
+    ensures waits { CallersWaitsEnd }
 {}
 
 /// Line after line: where the driver's seat tells each line's caller what it knows and hears of its entries, the run holds a line more, and
-/// once all lines have been run and the phases left are made, the finished history holds the script in line order.
+/// once all lines have been run and the phases left are made, the finished history holds the script in line order, and
+/// each of its reads that is set aside is right by the managed list before it.
 pub fn runs_hold_scripts()
     ensures told { ToldCallersAdd }
     ensures driven { DriversAdd }

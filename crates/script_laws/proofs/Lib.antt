@@ -21,3 +21,5 @@ pub mod ThreadEnding
 pub mod TwoThreads
 pub mod Growing
 pub mod AllThreads
+pub mod ManagedCells
+pub mod Asides

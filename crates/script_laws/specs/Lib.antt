@@ -3,3 +3,4 @@ pub mod Ending
 pub mod Laws
 pub mod Worked
 pub mod Growing
+pub mod Asides

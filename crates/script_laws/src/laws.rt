@@ -1,5 +1,6 @@
 // Laws on the linked histories of scripts, each the contract of a function that does nothing.
 
+ghost use Rattle.script_laws.specs.Asides.{ExactAsidesAreReplies};
 ghost use Rattle.script_laws.specs.Ending.{HeldCyclesEnd, HeldThreadCyclesEnd, LinkedCyclesEnd, ThreadHistoryEnds};
 ghost use Rattle.script_laws.specs.Growing.{EachThreadIsAll, HeldLinesEnd, HeldLinesGrow, IdleLeavesNothing, LinesOfGoOn, NumbersGoOn, RisingEntriesAreOne};
 ghost use Rattle.script_laws.specs.Laws.{HasOneHistory, HasOneText, LineOrderGivesThreadOrder};
@@ -9,6 +10,11 @@ ghost use Rattle.script_laws.specs.Laws.{HasOneHistory, HasOneText, LineOrderGiv
 /// each read answers as the one machine does at its number.
 pub fn one_history_for_a_script()
     ensures { HasOneHistory }
+{}
+
+/// Where each read that answers `pending` or `unset` answers so by the managed list before it, each read of a linked history answers as the one machine does.
+pub fn exact_asides_are_replies()
+    ensures { ExactAsidesAreReplies }
 {}
 
 /// Lines come to be held one after another: a further line's entries stand behind all others, and at the end the phases left open. What

@@ -1,6 +1,6 @@
 -- Once all threads have ended the driver hears of what each of the others has made, and its cycle stands behind all that; so what `finish` answers is the
 -- history of the script's run with one cycle more.
-use Rattle.std.proofs.Common.{◌≡◌, ⊎_elim, ℕ, zero, suc, ◌+◌, ◌<◌, ◌≤◌, List, [], ◌∷◌, ◌++◌, length, Some, Result, Ok, Err, refl, sym, ◌∙◌, ap, subst, arith, length-append}
+use Rattle.std.proofs.Common.{◌≡◌, ⊎_elim, ℕ, zero, suc, ◌+◌, ◌<◌, ◌^◌, ◌≤◌, List, [], ◌∷◌, ◌++◌, length, Some, Result, Ok, Err, refl, sym, ◌∙◌, ap, subst, arith, length-append}
 use Rattle.std.specs.Prelude.{All, Contains, IfOk, drop, slice_get, slice_index_or, slice_set, take}
 use Rattle.std.proofs.lemmas.List.{append-nil, length-set}
 use Rattle.std.proofs.lemmas.List.Elements.{All-contains, All-push, Contains-append_cases}
@@ -206,9 +206,9 @@ module _ (script : List (Thread × Act)) (d : Waiting) (jobs callers rest : List
         (subst (HasAll d) are (ran_all script d jobs callers ran all)))
 
     pub runs_then_cycle : (h : Finished) → CanRun script → NoneIsLeft script d → EndsWithCycle (length script + 1) p after others
-        → IsFinished h → All (HasOwn h.entries) (others ++ after ∷ []) → ((t : Thread) → IsThread t → StillWaits d t → made_by t h.entries ≡ []) → IsRunThenCycle script h
-    runs_then_cycle h can left ends finished owns none =
-        cycles_end_runs script h d others p after finished (λ line c. (All-contains IsRunnable script line can.each c).lawful) has_all_then owns none left all_hold driver_ran.holds ends
+        → IsFinished h → length h.entries < 2 ^ 64 → All (HasOwn h.entries) (others ++ after ∷ []) → ((t : Thread) → IsThread t → StillWaits d t → made_by t h.entries ≡ []) → IsRunThenCycle script h
+    runs_then_cycle h can left ends finished few owns none =
+        cycles_end_runs script h d others p after finished few (λ line c. (All-contains IsRunnable script line can.each c).lawful) has_all_then owns none left all_hold driver_ran.holds ends
 
 -- the first of a list, and the others
 pub first_and_rest : (xs rest : List Pass) (p : Pass) → 0 < length xs → p ≡ slice_index_or xs 0 p → rest ≡ take 0 xs ++ drop 1 xs → xs ≡ p ∷ rest

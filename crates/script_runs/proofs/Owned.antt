@@ -1,13 +1,15 @@
 -- A thread runs its own lines: each line that isn't its own passes, each of its own is held with the entries that its caller made, and at the end
 -- the driver holds the phases that were left too.
 use Rattle.std.proofs.Common.{◌≡◌, ℕ, ◌+◌, ◌≤◌, true, false, List, [], ◌++◌, length, Some, refl, sym, ◌∙◌, ap, subst}
-use Rattle.std.specs.Prelude.{slice_get}
+use Rattle.std.specs.Prelude.{Contains, slice_get}
 use Rattle.std.proofs.lemmas.List.{append-nil}
 use Rattle.joint_model.specs.declared.names.Thread.{Thread}
 use Rattle.joint_model.specs.declared.names.Thread.TheVariants.{C}
 use Rattle.joint_model.specs.declared.lines.Act.{Act}
 use Rattle.joint_model.specs.HistoryLines.{caller_line}
+use Rattle.joint_model.specs.Lines.{IsManagedThread}
 use Rattle.joint_model.specs.PeerReplay.{is_thread}
+use Rattle.joint_model.proofs.Members.{Contains-nil}
 use Rattle.order_table.specs.Facts.{line_entries}
 use Rattle.joint_history.specs.Callers.{KnowsNothing, Pass, last_index, own}
 use Rattle.joint_history.specs.Ending.{HasIdleDriver}
@@ -17,9 +19,10 @@ use Rattle.joint_history.proofs.KnownCallers.{own_idle}
 use Rattle.bridge_cycle.specs.Progress.{Progress, pass_of}
 use Rattle.script_laws.specs.Holding.{Standing, opening_standing, standing_after, AreLine}
 use Rattle.script_laws.proofs.Growing.{idle_leaves_nothing}
-use Rattle.run_laws.specs.Threads.{HoldsItsFirst, HoldsItsLines}
+use Rattle.run_laws.specs.Threads.{HoldsItsFirst, HoldsItsLines, WaitsEnd}
 use Rattle.run_laws.proofs.ByThreads.{others_lines_pass, own_lines_add, own_lines_end}
-use Rattle.script_runs.specs.Running.{DrivesLeft, DrivesLine, HasRunLines, MakesLine, StandsAs}
+use Rattle.run_laws.proofs.Waits.{more_waits_end}
+use Rattle.script_runs.specs.Running.{DrivesLeft, DrivesLine, HasRunLines, MakesLine, StandsAs, WaitsLine}
 use Rattle.joint_model.proofs.HeapLemmas.{same_thread}
 
 -- who knows nothing has made nothing, and is idle
@@ -35,15 +38,26 @@ own_holds script n p q line e is same k h =
     let are : AreLine opening_standing (n + 1) line k.entries = subst (λ t. AreLine opening_standing (n + 1) (t, line.1) k.entries) (sym its) (k.line opening_standing) in
     subst (HoldsItsFirst script (n + 1) q) (k.still opening_standing) (own_lines_add script n p q opening_standing line k.entries e its same more are h)
 
+-- and with it no wait is pending
+pub own_waits : (p q : Pass) (index : ℕ) (a : Act) → q.thread ≡ p.thread → WaitsLine p.thread p.view q.view index a → (IsManagedThread p.thread → WaitsEnd (own p)) → IsManagedThread q.thread → WaitsEnd (own q)
+own_waits p q index a same k before is =
+    let is' = subst IsManagedThread same is in
+    let more : own q ≡ own p ++ k.made_line.entries = ap (λ t. line_known q.view (caller_line t)) same ∙ k.made_line.made.own_more in
+    subst WaitsEnd (sym more) (more_waits_end (own p) k.made_line.entries (before is') (k.waits is'))
+
+pub none_waits : (p : Pass) → KnowsNothing p.view → IsManagedThread p.thread → WaitsEnd (own p)
+none_waits p k is e c w = Contains-nil e (subst (λ es. Contains es e) (own_nothing p k) c)
+
 pub other_holds : (script : List (Thread × Act)) (n : ℕ) (p : Pass) (line : Thread × Act) → slice_get script n ≡ Some line → is_thread p.thread line.0 ≡ false → HoldsItsFirst script n p opening_standing → HoldsItsFirst script (n + 1) p opening_standing
 other_holds script n p line e other h = others_lines_pass script n p opening_standing line e other h
 
-pub own_ends : (script : List (Thread × Act)) (p : Pass) → IsOwnThread p.thread → last_index (own p) ≤ length script → HoldsItsFirst script (length script) p opening_standing → HasRunLines script p.thread p
-own_ends script p o up h = record {
+pub own_ends : (script : List (Thread × Act)) (p : Pass) → IsOwnThread p.thread → last_index (own p) ≤ length script → HoldsItsFirst script (length script) p opening_standing → (IsManagedThread p.thread → WaitsEnd (own p)) → HasRunLines script p.thread p
+own_ends script p o up h waits = record {
   thread = refl;
   holds = own_lines_end script p p opening_standing [] refl (sym (append-nil (own p))) (idle_leaves_nothing opening_standing refl) h;
   up_to = up;
   idle = own_idle p o;
+  waits = waits;
 }
 
 -- the driver's lines among the first, where it stands after them, and the number of the last one
@@ -73,4 +87,5 @@ driver_ends script last d f p is idle up k h = record {
   holds = subst (HoldsItsLines script) (sym is) (own_lines_end script (pass_of d) (pass_of f) h.standing k.entries refl k.made.own_more (k.left h.standing h.stands h.line) h.holds);
   up_to = subst (λ (q : Pass). last_index (own q) ≤ length script) (sym is) up;
   idle = idle;
+  waits = λ is. absurd is;
 }

@@ -1,22 +1,23 @@
 -- What the jobs of a run ended with: each its thread's caller, who holds that thread's lines. So all callers together are those that were given out,
 -- and the finished history holds the script thread by thread.
-use Rattle.std.proofs.Common.{◌≡◌, ℕ, zero, suc, ◌<◌, List, [], ◌∷◌, length, map, Result, Ok, Err, refl, sym, ◌∙◌, ap, subst, arith}
+use Rattle.std.proofs.Common.{◌≡◌, ℕ, zero, suc, ◌<◌, ◌^◌, List, [], ◌∷◌, length, map, Result, Ok, Err, refl, sym, ◌∙◌, ap, subst, arith}
 use Rattle.std.specs.Prelude.{All, IfOk, slice_index_or}
 use Rattle.std.proofs.lemmas.List.Elements.{All-nil, All-cons, All-contains}
 use Rattle.joint_model.specs.declared.names.Thread.{Thread}
 use Rattle.joint_model.specs.declared.lines.Act.{Act}
 use Rattle.joint_model.specs.Histories.{Finished}
-use Rattle.joint_model.specs.Lines.{IsThread}
-use Rattle.joint_model.specs.Linked.{IsLinked}
+use Rattle.joint_model.specs.Lines.{IsManagedThread, IsThread}
+use Rattle.joint_model.specs.LinkedHistories.{IsLinked}
 use Rattle.known_laws.specs.Lists.{made_by}
-use Rattle.joint_history.specs.Callers.{Pass}
+use Rattle.joint_history.specs.Callers.{Pass, own}
 use Rattle.joint_history.specs.Desks.{Waiting}
 use Rattle.joint_history.specs.Ending.{HasAll, HasOwn, IsFinished, HasIdleDriver, StillWaits, threads_of}
 use Rattle.joint_history.proofs.Giving.{has_all_same}
 use Rattle.run_laws.specs.Final.{IsRunByThreads}
-use Rattle.run_laws.specs.Threads.{HoldsItsLines, NoneIsLeft}
+use Rattle.run_laws.specs.Threads.{HoldsItsLines, NoneIsLeft, WaitsEnd}
 use Rattle.run_laws.proofs.ByThreads.{threads_hold_script}
 use Rattle.run_laws.proofs.Finals.{held_by_threads_is_run}
+use Rattle.run_laws.proofs.Waits.{callers_waits_end}
 use Rattle.script_runs.specs.Running.{CanRun, EndsSo, HasRunLines, IsRunnable}
 
 -- each caller has run the lines of its job's thread
@@ -59,16 +60,22 @@ ran-holds script jobs [] r = All-nil (HoldsItsLines script)
 ran-holds script [] (p ∷ ps) r = absurd r
 ran-holds script (j ∷ js) (p ∷ ps) r = All-cons (HoldsItsLines script) p ps r.0.holds (ran-holds script js ps r.1)
 
+ran-waits : (script : List (Thread × Act)) (jobs callers : List Pass) → AllRan script jobs callers → All (λ p. IsManagedThread p.thread → WaitsEnd (own p)) callers
+ran-waits script jobs [] r = All-nil (λ (p : Pass). IsManagedThread p.thread → WaitsEnd (own p))
+ran-waits script [] (p ∷ ps) r = absurd r
+ran-waits script (j ∷ js) (p ∷ ps) r = All-cons (λ (q : Pass). IsManagedThread q.thread → WaitsEnd (own q)) p ps (λ is. r.0.waits (subst IsManagedThread r.0.thread is)) (ran-waits script js ps r.1)
+
 pub ran_all : (script : List (Thread × Act)) (d : Waiting) (jobs callers : List Pass) → AllRan script jobs callers → HasAll d jobs → HasAll d callers
 ran_all script d jobs callers r all = has_all_same d jobs callers (ran_threads script jobs callers r) all
 
-pub threads_end : (script : List (Thread × Act)) (h : Finished) (d : Waiting) (jobs callers : List Pass) → CanRun script → IsLinked h → IsFinished h → AllRan script jobs callers → HasAll d jobs → NoneIsLeft script d
+pub threads_end : (script : List (Thread × Act)) (h : Finished) (d : Waiting) (jobs callers : List Pass) → CanRun script → IsLinked h → IsFinished h → length h.entries < 2 ^ 64 → AllRan script jobs callers → HasAll d jobs → NoneIsLeft script d
     → All (HasOwn h.entries) callers → ((t : Thread) → IsThread t → StillWaits d t → made_by t h.entries ≡ []) → IsRunByThreads script h
-threads_end script h d jobs callers can linked finished r all left owns none =
-    held_by_threads_is_run script h finished
+threads_end script h d jobs callers can linked finished few r all left owns none =
+    held_by_threads_is_run script h finished few
     (threads_hold_script script h d callers linked (λ line c. (All-contains IsRunnable script line can.each c).lawful) (ran_all script d jobs callers r all) owns none (ran-holds script jobs callers r) left)
+    (callers_waits_end h d callers linked (ran_all script d jobs callers r all) owns none (ran-waits script jobs callers r))
 
 -- what is so of each such history is so of the one that `finish` answers
-pub threads_give : {E : Type 0} (r : Result Finished E) (A B C D P : Finished → Type 0) → ((h : Finished) → A h → B h → C h → D h → P h) → IfOk r A → IfOk r B → IfOk r C → IfOk r D → IfOk r P
-threads_give (Ok h) A B C D P give a b c d = give h a b c d
-threads_give (Err e) A B C D P give a b c d = tt
+pub threads_give : {X : Type 0} (r : Result Finished X) (A B C D E F : Finished → Type 0) → ((h : Finished) → A h → B h → C h → D h → E h → F h) → IfOk r A → IfOk r B → IfOk r C → IfOk r D → IfOk r E → IfOk r F
+threads_give (Ok h) A B C D E F give a b c d e = give h a b c d e
+threads_give (Err x) A B C D E F give a b c d e = tt

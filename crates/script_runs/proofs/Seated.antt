@@ -1,8 +1,8 @@
 -- The run line after line from its first line to its last, and the desk from which its callers come.
-use Rattle.std.proofs.Common.{◌≡◌, ◌⊎◌, ⊎_elim, ℕ, ◌+◌, ◌<◌, ◌≤◌, true, List, [], ◌∷◌, ◌++◌, length, Some, None, refl, sym, ◌∙◌, ap, subst, arith, inl, inr, zero, suc, Bool, false}
+use Rattle.std.proofs.Common.{◌≡◌, ◌⊎◌, ⊎_elim, ℕ, ◌+◌, ◌<◌, ◌≤◌, ◌^◌, true, List, [], ◌∷◌, ◌++◌, length, Some, None, refl, sym, ◌∙◌, ap, subst, arith, inl, inr, zero, suc, Bool, false}
 use Rattle.std.specs.Prelude.{All, IfOk, Result, Ok, Err, if◌then◌else◌, slice_get, slice_set, take}
 use Rattle.std.proofs.lemmas.List.{take_all}
-use Rattle.std.proofs.lemmas.List.Elements.{Contains-append_cases}
+use Rattle.std.proofs.lemmas.List.Elements.{All-contains, Contains-append_cases, Contains-append_right}
 use Rattle.std.proofs.lemmas.Option.{slice_get_within}
 use Rattle.joint_model.specs.declared.names.Thread.{Thread}
 use Rattle.joint_model.specs.declared.names.Thread.TheVariants.{M, P, C}
@@ -11,12 +11,12 @@ use Rattle.joint_model.specs.declared.lines.Act.{Act}
 use Rattle.joint_model.specs.Control.{caller_place}
 use Rattle.joint_model.specs.Histories.{Finished}
 use Rattle.joint_model.specs.Lines.{IsDriver, IsThread}
-use Rattle.joint_model.specs.Linked.{IsLinked}
+use Rattle.joint_model.specs.LinkedHistories.{IsLinked}
 use Rattle.joint_model.proofs.Joining.{slice_get-set_other}
-use Rattle.joint_model.proofs.Members.{All-members, at-Contains, Contains-cons_cases, Contains-nil}
+use Rattle.joint_model.proofs.Members.{All-members, at-Contains, Contains-cons_cases, Contains-here, Contains-nil}
 use Rattle.joint_history.specs.Callers.{KnowsNothing, Pass, last_index, own}
 use Rattle.joint_history.specs.Desks.{AreAll, Waiting, flat, has_thread, thread_of, waits, without_caller}
-use Rattle.joint_history.specs.Ending.{HasOwn, IsFinished, HasIdleDriver}
+use Rattle.joint_history.specs.Ending.{BeginsHistory, HasOwn, IsFinished, HasIdleDriver}
 use Rattle.joint_history.proofs.Desking.{thread_is}
 use Rattle.bridge_cycle.specs.Progress.{Progress, pass_of}
 use Rattle.script_laws.specs.Holding.{opening_standing, numbered_from}
@@ -74,19 +74,20 @@ all_idle others p oth idle = All-members HasIdleDriver (others ++ p ∷ []) (λ 
     other C i e is = omega (arith, e)
 
 -- the finished history is that of the script's run
-pub run_ends : (script : List (Thread × Act)) (h : Finished) (last : ℕ) (d f : Progress) (others : List Pass) (p : Pass) → IsLinked h → IsFinished h → HasComeThrough script last d others → DrivesLeft d f last → p ≡ pass_of f
-    → All (HasOwn h.entries) (others ++ p ∷ []) → IsRunInOrder script h
-run_ends script h last d f others p linked finished come k is owns =
+pub run_ends : (script : List (Thread × Act)) (h : Finished) (last : ℕ) (d f : Progress) (others : List Pass) (p : Pass) → IsLinked h → IsFinished h → length h.entries < 2 ^ 64 → HasComeThrough script last d others → DrivesLeft d f last → p ≡ pass_of f
+    → All (HasOwn h.entries) (others ++ p ∷ []) → All (BeginsHistory h.entries) (others ++ p ∷ []) → IsRunInOrder script h
+run_ends script h last d f others p linked finished few come k is owns begins =
     let c = come.come in
-    held_in_order_is_run script h finished
-    (runs_hold_script script h c.standing (pass_of d) (pass_of f) others k.entries linked come.others_are refl (drivers_add (pass_of d) (pass_of f) k.entries refl k.made) (k.left c.standing c.stands c.line) c.run
-    (subst (λ q. All (HasOwn h.entries) (others ++ q ∷ [])) is owns))
+    held_in_order_is_run script h finished few
+    (runs_hold_script script h c.standing (pass_of d) (pass_of f) others k.entries linked come.others_are refl (drivers_add (pass_of d) (pass_of f) k.entries refl refl k.made) (k.left c.standing c.stands c.line) c.run
+    (subst (λ q. All (HasOwn h.entries) (others ++ q ∷ [])) is owns)
+    (subst (BeginsHistory h.entries) is (All-contains (BeginsHistory h.entries) (others ++ p ∷ []) p begins (Contains-append_right others (p ∷ []) p (Contains-here p [])))))
 
 -- so it is of what `finish` answers
-pub run_gives : {E : Type 0} (r : Result Finished E) (script : List (Thread × Act)) (all : List Pass) → ((h : Finished) → IsLinked h → IsFinished h → All (HasOwn h.entries) all → IsRunInOrder script h) → IfOk r (λ h. IsLinked h) → IfOk r (λ h. IsFinished h) → IfOk r (λ h. All (HasOwn h.entries) all)
-    → IfOk r (IsRunInOrder script)
-run_gives (Ok h) script all ran linked finished owns = ran h linked finished owns
-run_gives (Err e) script all ran linked finished owns = tt
+pub run_gives : {E : Type 0} (r : Result Finished E) (script : List (Thread × Act)) (all : List Pass) → ((h : Finished) → IsLinked h → IsFinished h → length h.entries < 2 ^ 64 → All (HasOwn h.entries) all → All (BeginsHistory h.entries) all → IsRunInOrder script h)
+    → IfOk r (λ h. IsLinked h) → IfOk r (λ h. IsFinished h) → IfOk r (λ h. length h.entries < 2 ^ 64) → IfOk r (λ h. All (HasOwn h.entries) all) → IfOk r (λ h. All (BeginsHistory h.entries) all) → IfOk r (IsRunInOrder script)
+run_gives (Ok h) script all ran linked finished few owns begins = ran h linked finished few owns begins
+run_gives (Err e) script all ran linked finished few owns begins = tt
 
 -- at the desk the callers from a place on are there
 abbrev pub AreThereFrom : ℕ → Waiting → Type 0

@@ -12,6 +12,7 @@ use Rattle.joint_model.specs.Lines.{IsLine, IsThread}
 use Rattle.joint_model.proofs.Joining.{same_or_not, slice_get-set_same, slice_get-set_other}
 use Rattle.order_table.specs.Facts.{line_entries}
 use Rattle.joint_history.specs.Callers.{Hears, Pass, Tells, last_index, own}
+use Rattle.view_laws.specs.Knowing.{IsDrawnView}
 use Rattle.joint_history.specs.Desks.{thread_of}
 use Rattle.joint_history.specs.Operations.{IsOwnThread}
 use Rattle.joint_history.proofs.Ended.{thread_at_place}
@@ -19,14 +20,14 @@ use Rattle.bridge_cycle.specs.Progress.{Progress, pass_of}
 use Rattle.script_laws.specs.Holding.{Standing, standing_after, AreLine}
 use Rattle.run_laws.specs.Serial.{AreOthers}
 use Rattle.run_laws.proofs.InOrder.{told_callers_add, drivers_add, others_run_on, driver_runs_on, not-driver}
-use Rattle.script_runs.specs.Running.{AreUpTo, DrivesLine, HasCome, MakesLine, RunsOn, StandsAs, TellsLine, last_after}
+use Rattle.script_runs.specs.Running.{AnswersLine, AreUpTo, DrivesLine, HasCome, RunsOn, StandsAs, TellsLine, last_after}
 use Rattle.joint_model.proofs.Deciding.{some-same}
 
-pub tells_line : (a b d : Progress) (p q r t : Pass) (index : ℕ) (o : Act) → Tells (pass_of a) (pass_of b) → Hears (pass_of a) p q → b ≡ record a { view = b.view } → r.thread ≡ q.thread → MakesLine q.thread q.view r.view index o
+pub tells_line : (a b d : Progress) (p q r t : Pass) (index : ℕ) (o : Act) → Tells (pass_of a) (pass_of b) → Hears (pass_of a) p q → b ≡ record a { view = b.view } → r.thread ≡ q.thread → AnswersLine q.thread q.view r.view index o → IsDrawnView q.view → IsDrawnView r.view
     → Tells r t → Hears r (pass_of b) (pass_of d) → d ≡ record b { view = d.view } → TellsLine a d p t index o
-tells_line a b d p q r t index o tells hears same thread k left heard still = record {
+tells_line a b d p q r t index o tells hears same thread w before after left heard still = let k = w.made_line in record {
   entries = k.entries;
-  adds = told_callers_add (pass_of a) (pass_of b) (pass_of d) p q r t k.entries tells hears thread k.made left heard;
+  adds = told_callers_add (pass_of a) (pass_of b) (pass_of d) p q r t k.entries tells hears thread k.made (w.answered before after) left heard;
   line = λ s. subst (λ u. AreLine s index (u, o) k.entries) hears.thread (k.line s);
   still = k.still;
   own_stay = heard.own_stay ∙ ap line_entries (tells.same (caller_line C));
@@ -41,7 +42,7 @@ driver_on number a t old new others is oth k lines last h =
     subst (λ u. HasCome (lines ++ (number, (u, a)) ∷ []) (last_after last number u) new others) (sym is)
     (record {
       standing = standing_after h.standing number a k.entries;
-      run = driver_runs_on lines h.standing (pass_of old) (pass_of new) others number a k.entries oth refl (drivers_add (pass_of old) (pass_of new) k.entries refl k.made) (k.line h.standing h.stands) h.run;
+      run = driver_runs_on lines h.standing (pass_of old) (pass_of new) others number a k.entries oth refl (drivers_add (pass_of old) (pass_of new) k.entries refl refl k.made) (k.line h.standing h.stands) h.run;
       stands = k.stands h.standing h.stands;
       line = k.last h.standing;
     })

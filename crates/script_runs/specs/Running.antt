@@ -4,10 +4,11 @@ use mathlib.Core.List.{IsPrefix}
 use Rattle.joint_model.specs.declared.names.Thread.{Thread}
 use Rattle.joint_model.specs.declared.names.Thread.TheVariants.{C}
 use Rattle.joint_model.specs.declared.lines.Act.{Act}
+use Rattle.joint_model.specs.declared.lines.Act.TheVariants as act
 use Rattle.joint_model.specs.declared.events.Entry.{Entry}
 use Rattle.joint_model.specs.Components.{Rises}
 use Rattle.joint_model.specs.Control.{caller_place}
-use Rattle.joint_model.specs.Lines.{IsDriver, IsLine, IsPeerThread}
+use Rattle.joint_model.specs.Lines.{IsDriver, IsLine, IsManagedThread, IsPeerThread}
 use Rattle.joint_model.specs.PeerReplay.{is_thread}
 use Rattle.order_table.specs.declared.views.View.{View}
 use Rattle.order_table.specs.Views.{known}
@@ -17,8 +18,11 @@ use Rattle.joint_history.specs.Operations.{IsPeerOperation, MakesAll}
 use Rattle.bridge_cycle.specs.Progress.{Progress, pass_of, line_of}
 use Rattle.script_laws.specs.Holding.{Standing, standing_after, AreLine, AreLeft, numbered_from}
 use Rattle.run_laws.specs.LastCycle.{HasHeardOf}
-use Rattle.run_laws.specs.Serial.{CallerAdds, AreOthers, IsRunSoFar}
-use Rattle.run_laws.specs.Threads.{HoldsItsLines, thread_lines}
+use Rattle.run_laws.specs.Serial.{CallerAdds, AreOthers, IsRunSoFar, ReadsAreAnswered}
+use Rattle.run_laws.specs.Threads.{HoldsItsLines, WaitsEnd, thread_lines}
+use Rattle.view_laws.specs.Knowing.{IsDrawnView}
+use Rattle.script_runs.specs.declared.lines.ReadCall.{ReadCall}
+use Rattle.script_runs.specs.declared.lines.ReadCall.TheVariants as reads
 
 -- a line of a script that can be run: one of a peer thread is one event or a collect
 pub record IsRunnable (line : Thread × Act) : Type 0 where
@@ -36,6 +40,22 @@ pub record MakesLine (t : Thread) (old new : View) (index : ℕ) (a : Act) : Typ
   pub made : MakesAll t old new entries
   pub line : (s : Standing) → AreLine s index (t, a) entries
   pub still : (s : Standing) → standing_after s index a entries ≡ s
+
+-- the same by one thread that has both sides alone: a read of a managed thread is answered by the managed list that its caller knows
+pub record AnswersLine (t : Thread) (old new : View) (index : ℕ) (a : Act) : Type 0 where
+  pub made_line : MakesLine t old new index a
+  pub answered : IsDrawnView old → IsDrawnView new → ReadsAreAnswered t old new made_line.entries
+
+-- and beside other threads: a wait of a managed thread doesn't answer `pending`
+pub record WaitsLine (t : Thread) (old new : View) (index : ℕ) (a : Act) : Type 0 where
+  pub made_line : MakesLine t old new index a
+  pub waits : IsManagedThread t → WaitsEnd made_line.entries
+
+-- how a line of a managed thread reads a cell without a lock: at once, or by waiting; no other line does
+abbrev pub read_call : Act → ReadCall
+read_call (act.Read k) = reads.Now
+read_call (act.Await k) = reads.Waiting
+read_call a = reads.Locked
 
 -- the driver stands there, by its phase and its candidates
 pub record StandsAs (s : Standing) (d : Progress) : Type 0 where
@@ -56,12 +76,13 @@ pub record DrivesLeft (old new : Progress) (index : ℕ) : Type 0 where
   pub made : MakesAll C old.view new.view entries
   pub left : (s : Standing) → StandsAs s old → s.line ≡ index → AreLeft s entries
 
--- a caller holds the lines of its thread, up to the last of the script, and is idle if it is the driver's
+-- a caller holds the lines of its thread, up to the last of the script, is idle if it is the driver's, and has no wait that answered `pending`
 pub record HasRunLines (script : List (Thread × Act)) (t : Thread) (p : Pass) : Type 0 where
   pub thread : p.thread ≡ t
   pub holds : HoldsItsLines script p
   pub up_to : last_index (own p) ≤ length script
   pub idle : HasIdleDriver p
+  pub waits : IsManagedThread t → WaitsEnd (own p)
 
 -- the driver's caller stands first, and no other is the driver's
 pub record DriverIsFirst (callers : List Pass) : Type 0 where

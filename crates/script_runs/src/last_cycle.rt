@@ -1,6 +1,6 @@
 // The run of a script with one cycle more: the driver runs it once all threads have ended.
 
-ghost use Rattle.std.specs.Prelude.{◌≡◌, ◌+◌, ◌<◌, ◌≤◌, [], ◌∷◌, ◌++◌, IfOk, All, length};
+ghost use Rattle.std.specs.Prelude.{◌≡◌, ◌+◌, ◌<◌, ◌≤◌, ◌^◌, [], ◌∷◌, ◌++◌, IfOk, All, length};
 ghost use Rattle.joint_model.specs.declared.names.Thread.{Thread};
 ghost use Rattle.joint_model.specs.Histories.{Finished};
 ghost use Rattle.joint_model.specs.Lines.{IsDriver, IsThread};
@@ -82,7 +82,7 @@ fn run_by_desk<N: OrderName + Send + Sync, R: Threads + Wait + Sync, T: Turnstil
     requires room { length script.now < 65535 }
     ensures all { IfOk result (λ v. HasAll desk.new v.items) }
     ensures idle { IfOk result (λ v. All HasIdleDriver v.items) }
-    ensures ran { IfOk result (λ v. (h : Finished) → IsFinished h → All (HasOwn h.entries) v.items → ((t : Thread) → IsThread t → StillWaits desk.new t → made_by t h.entries ≡ []) → IsRunThenCycle script.now h) }
+    ensures ran { IfOk result (λ v. (h : Finished) → IsFinished h → length h.entries < 2 ^ 64 → All (HasOwn h.entries) v.items → ((t : Thread) → IsThread t → StillWaits desk.new t → made_by t h.entries ≡ []) → IsRunThenCycle script.now h) }
 {
     let jobs = workers(alloc, desk, script)?;
     let ended = run_jobs(rt, alloc, shared, script, turn, jobs)?;

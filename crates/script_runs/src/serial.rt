@@ -1,20 +1,20 @@
 // The run of a script on one thread: its lines one after another.
 
-ghost use Rattle.std.specs.Prelude.{◌≡◌, ℕ, ◌+◌, ◌≤◌, ◌<◌, [], Some, All, IfOk, OnOk, OnErr, length, slice_get};
+ghost use Rattle.std.specs.Prelude.{◌≡◌, ℕ, ◌+◌, ◌≤◌, ◌<◌, ◌^◌, [], Some, All, IfOk, OnOk, OnErr, length, slice_get};
 ghost use Rattle.joint_model.specs.Histories.{Finished};
-ghost use Rattle.joint_model.specs.Linked.{IsLinked};
+ghost use Rattle.joint_model.specs.LinkedHistories.{IsLinked};
 ghost use Rattle.order_table.specs.Allowed.{Settled};
 ghost use Rattle.order_table.specs.Views.{OwnsAll};
 ghost use Rattle.joint_history.specs.Callers.{KnowsNothing, Pass, last_index, own};
 ghost use Rattle.joint_history.specs.Desks.{AreAll};
-ghost use Rattle.joint_history.specs.Ending.{HasAll, HasIdleDriver, HasOwn, HasEndNumbers, IsFinished};
+ghost use Rattle.joint_history.specs.Ending.{BeginsHistory, HasAll, HasIdleDriver, HasOwn, HasEndNumbers, IsFinished};
 ghost use Rattle.joint_history.specs.Operations.{IsOperationOf};
 ghost use Rattle.bridge_cycle.specs.Progress.{line_of};
 ghost use Rattle.run_laws.specs.Final.{IsRunInOrder};
 ghost use Rattle.run_laws.specs.Serial.{AreOthers};
 ghost use Rattle.script_runs.specs.Running.{AreUpTo, CanRun, HasCome, HasComeThrough, IsRunnable, RunsOn, TellsLine, last_after};
 
-use crate::lines::{drive_left, drive_line, run_line};
+use crate::lines::{drive_left, drive_line, run_line_alone};
 use crate::places::{is_thread, place_among, thread_at};
 use bridge_cycle::Driver;
 use joint_history::{Alone, Caller, Desk, RunEnd, Shared};
@@ -41,7 +41,9 @@ fn run_told<N: OrderName>(
     ensures ok { OnOk result (TellsLine driver.old driver.new caller.old caller.new index act.now) }
 {
     driver.tell(shared, caller);
-    run_line(rt, shared, caller, index, act)?;
+    caller.facts();
+    run_line_alone(rt, shared, caller, index, act)?;
+    caller.facts();
     driver.hear(shared, caller);
     Ok(())
 }
@@ -138,7 +140,7 @@ fn run_by_desk<N: OrderName>(
     requires lines { CanRun script.now }
     ensures all { IfOk result (λ v. HasAll desk.new v.items) }
     ensures idle { IfOk result (λ v. All HasIdleDriver v.items) }
-    ensures ran { IfOk result (λ v. (h : Finished) → IsLinked h → IsFinished h → All (HasOwn h.entries) v.items → IsRunInOrder script.now h) }
+    ensures ran { IfOk result (λ v. (h : Finished) → IsLinked h → IsFinished h → length h.entries < 2 ^ 64 → All (HasOwn h.entries) v.items → All (BeginsHistory h.entries) v.items → IsRunInOrder script.now h) }
 {
     let Some(caller) = desk.caller(Thread::C) else {
         unreachable!()
@@ -166,7 +168,7 @@ fn run_lines<N: OrderName>(
     requires lines { CanRun script.now }
     ensures all { IfOk result (λ r. HasAll r.1 r.2.items) }
     ensures idle { IfOk result (λ r. All HasIdleDriver r.2.items) }
-    ensures ran { IfOk result (λ r. (h : Finished) → IsLinked h → IsFinished h → All (HasOwn h.entries) r.2.items → IsRunInOrder script.now h) }
+    ensures ran { IfOk result (λ r. (h : Finished) → IsLinked h → IsFinished h → length h.entries < 2 ^ 64 → All (HasOwn h.entries) r.2.items → All (BeginsHistory h.entries) r.2.items → IsRunInOrder script.now h) }
 {
     let (shared, mut desk) = Shared::<N, Alone>::new(alloc, order, seat, 8, 8, holding)?;
     match run_by_desk(rt, alloc, &shared, &mut desk, script) {
@@ -216,7 +218,7 @@ fn end_named<N: OrderName>(
 }
 
 /// Runs the lines of a script one after another, each by its thread's caller, and then the phases that the driver's lines have left; and answers
-/// the finished history, the only one that a run of these lines in their order can have. Answers `AllocError` where there is no memory.
+/// the finished history, in which each read has the one machine's reply: the only one that a run of these lines in their order can have so. Answers `AllocError` where there is no memory.
 pub fn run_serial(
     rt: &impl Wait,
     alloc: Global,

@@ -1,9 +1,9 @@
 // The run of a script by a thread of its own for each of its threads.
 
-ghost use Rattle.std.specs.Prelude.{◌≡◌, ◌<◌, ℕ, map, All, IfOk, Ok, [], slice_index_or, vec_len};
+ghost use Rattle.std.specs.Prelude.{◌≡◌, ◌<◌, ◌^◌, ℕ, map, All, IfOk, Ok, [], length, slice_index_or, vec_len};
 ghost use Rattle.joint_model.specs.declared.names.Thread.{Thread};
 ghost use Rattle.joint_model.specs.Histories.{Finished};
-ghost use Rattle.joint_model.specs.Linked.{IsLinked};
+ghost use Rattle.joint_model.specs.LinkedHistories.{IsLinked};
 ghost use Rattle.joint_model.specs.Lines.{IsThread};
 ghost use Rattle.order_table.specs.Allowed.{Settled};
 ghost use Rattle.order_table.specs.Views.{OwnsAll};
@@ -76,7 +76,7 @@ fn run_by_desk<N: OrderName + Send + Sync, R: Threads + Wait + Sync, T: Turnstil
     requires lines { CanRun script.now }
     ensures all { IfOk result (λ v. HasAll desk.new v.items) }
     ensures idle { IfOk result (λ v. All HasIdleDriver v.items) }
-    ensures ran { IfOk result (λ v. (h : Finished) → IsLinked h → IsFinished h → All (HasOwn h.entries) v.items → ((t : Thread) → IsThread t → StillWaits desk.new t → made_by t h.entries ≡ []) → IsRunByThreads script.now h) }
+    ensures ran { IfOk result (λ v. (h : Finished) → IsLinked h → IsFinished h → length h.entries < 2 ^ 64 → All (HasOwn h.entries) v.items → ((t : Thread) → IsThread t → StillWaits desk.new t → made_by t h.entries ≡ []) → IsRunByThreads script.now h) }
 {
     let jobs = workers(alloc, desk, script)?;
     let ended = run_jobs(rt, alloc, shared, script, turn, jobs)?;

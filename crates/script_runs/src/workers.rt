@@ -9,7 +9,7 @@ ghost use Rattle.joint_history.specs.Operations.{IsOwnThread};
 ghost use Rattle.run_laws.specs.Threads.{NoneIsLeft, thread_lines};
 ghost use Rattle.script_runs.specs.Running.{AreWorkers, CanRun, DriverIsFirst, EndsSo, HasLine};
 
-use crate::lines::{drive_left, drive_line, run_line};
+use crate::lines::{drive_left, drive_line, run_line_beside};
 use crate::places::{is_thread, thread_at};
 use bridge_cycle::Driver;
 use bridge_script::Turnstile;
@@ -83,7 +83,7 @@ pub(crate) fn run_own<N: OrderName, T: Turnstile>(
         number += 1;
         if is_thread(thread, *t) {
             turn.pass(thread, number as u32);
-            run_line(rt, shared, &mut caller, number, act)?;
+            run_line_beside(rt, shared, &mut caller, number, act)?;
         }
     }
     Ok(caller)

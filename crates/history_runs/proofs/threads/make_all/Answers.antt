@@ -3,7 +3,9 @@ use denote.Param.{param}
 use denote.Param.Send.{IsSync, sendable, shr_sync}
 use denote.Plain.{UInt}
 use Rattle.std.proofs.Common.{[]}
-use Rattle.joint_history.proofs.Crosses.{shared}
+use Rattle.std.proofs.Crossing.{crosses}
+use Rattle.order_table.proofs.seats.Seat.TheSendSync.{the_send as seat}
+use Rattle.joint_history.proofs.Crosses.{entries, shared}
 use Rattle.history_runs.proofs.threads.make_all.Goals as goal
 
 count : IsSync (UInt w16)
@@ -23,3 +25,9 @@ map_vec-requires-sync-F g c κs within = record {
     λ q. tt,
   );
 }
+
+pub map_vec-requires-send-J : goal.map_vec-requires-send-J
+map_vec-requires-send-J g c κs within = search (sendable, crosses, entries, seat) depth 60 fits 100000
+
+pub map_vec-requires-send-X : goal.map_vec-requires-send-X
+map_vec-requires-send-X g c κs within = search (sendable, crosses, entries, seat) depth 60 fits 100000

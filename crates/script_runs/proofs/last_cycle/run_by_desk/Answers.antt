@@ -60,11 +60,11 @@ returns-clause-idle g c =
     c.cycle_last.new.others.items c.in_ok-driver.driver c.in_ok-driver.ensures.same c.in_ok-driver.ensures.ends.same c.in_ok-driver.ensures.idle)
 
 pub returns-clause-ran : goal.returns-clause-ran
-returns-clause-ran g c = λ h finished owns none.
+returns-clause-ran g c = λ h finished few owns none.
     let n : length c.in_ok-ended.ended.items ≡ length c.in_ok-jobs.jobs.items = omega (arith, c.in_ok-ended.ensures.len) in
     let ran = all_ran c.args.script.now c.in_ok-jobs.jobs.items c.in_ok-callers.callers.items c.in_ok-ended.ended.items c.in_ok-callers.ensures n (λ i d e l. c.in_ok-ended.ensures.each i d e (omega (arith, l))) in
     let some = some_ran c.args.script.now c.in_ok-jobs.jobs.items c.in_ok-callers.callers.items ran c.in_ok-jobs.ensures.driver in
     let are = first_and_rest c.in_ok-callers.callers.items c.remove-driver.new.self.items c.remove-driver.result some c.remove-driver.ensures.value c.remove-driver.ensures.by_index.2 in
     runs_then_cycle c.args.script.now c.workers.new.desk c.in_ok-jobs.jobs.items c.in_ok-callers.callers.items c.remove-driver.new.self.items c.remove-driver.result ran c.in_ok-jobs.ensures.driver c.in_ok-jobs.ensures.all are
-    c.cycle_last.new.others.items c.in_ok-driver.driver c.in_ok-driver.ensures.same c.in_ok-driver.ensures.ends.same h c.requires.lines c.in_ok-jobs.ensures.none c.in_ok-driver.ensures.ends finished
+    c.cycle_last.new.others.items c.in_ok-driver.driver c.in_ok-driver.ensures.same c.in_ok-driver.ensures.ends.same h c.requires.lines c.in_ok-jobs.ensures.none c.in_ok-driver.ensures.ends finished few
     (subst (λ ps. All (HasOwn h.entries) ps) c.in_ok-push.ensures.items owns) none

@@ -4,7 +4,7 @@ use Rattle.joint_model.specs.declared.names.Thread.TheVariants.{C}
 use Rattle.joint_model.specs.Lines.{IsDriver}
 use Rattle.joint_history.specs.Callers.{KnowsNothing, Pass, last_index}
 use Rattle.joint_history.specs.Desks.{Waiting}
-use Rattle.joint_history.specs.Ending.{HasAll, HasIdleDriver, HasOwn}
+use Rattle.joint_history.specs.Ending.{BeginsHistory, HasAll, HasIdleDriver, HasOwn}
 use Rattle.bridge_cycle.specs.Progress.{Progress, pass_of}
 use Rattle.run_laws.proofs.InOrderEnds.{all_are_given}
 use Rattle.script_runs.proofs.Desked.{counts_stay}
@@ -56,6 +56,6 @@ pub returns-clause-idle : goal.returns-clause-idle
 returns-clause-idle g c = subst (All HasIdleDriver) (sym c.in_ok-push.ensures.items) (all_idle c.run_all.new.others.items c.retire.result c.in_ok-last.ensures.others_are c.retire.ensures.idle)
 
 pub returns-clause-ran : goal.returns-clause-ran
-returns-clause-ran g c = λ h linked finished owns.
-    run_ends c.args.script.now h c.in_ok-last.last c.run_all.new.driver c.drive_left.new.driver c.run_all.new.others.items c.retire.result linked finished c.in_ok-last.ensures c.in_ok-drive_left.ensures.ok c.retire.ensures.pass
-    (subst (λ ps. All (HasOwn h.entries) ps) c.in_ok-push.ensures.items owns)
+returns-clause-ran g c = λ h linked finished few owns begins.
+    run_ends c.args.script.now h c.in_ok-last.last c.run_all.new.driver c.drive_left.new.driver c.run_all.new.others.items c.retire.result linked finished few c.in_ok-last.ensures c.in_ok-drive_left.ensures.ok c.retire.ensures.pass
+    (subst (λ ps. All (HasOwn h.entries) ps) c.in_ok-push.ensures.items owns) (subst (λ ps. All (BeginsHistory h.entries) ps) c.in_ok-push.ensures.items begins)

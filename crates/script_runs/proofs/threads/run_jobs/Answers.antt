@@ -1,9 +1,10 @@
 use mir.Syntax.{named}
 use denote.Param.{param}
-use denote.Param.Send.{shr_slice_sync, shr_sync}
+use denote.Param.Send.{sendable, shr_slice_sync, shr_sync}
 use Rattle.std.proofs.Common.{[]}
-use Rattle.std.proofs.Crossing.{sync as heap}
-use Rattle.joint_history.proofs.Crosses.{shared}
+use Rattle.std.proofs.Crossing.{crosses, sync as heap}
+use Rattle.order_table.proofs.seats.Seat.TheSendSync.{the_send as seat}
+use Rattle.joint_history.proofs.Crosses.{entries, shared}
 use Rattle.script_runs.proofs.Crosses.{line}
 use Rattle.script_runs.proofs.threads.run_jobs.Goals as goal
 
@@ -27,3 +28,9 @@ map_vec-requires-sync-F g c κs within = record {
     λ q. tt,
   );
 }
+
+pub map_vec-requires-send-J : goal.map_vec-requires-send-J
+map_vec-requires-send-J g c κs within = search (sendable, crosses, entries, seat) depth 60 fits 100000
+
+pub map_vec-requires-send-X : goal.map_vec-requires-send-X
+map_vec-requires-send-X g c κs within = search (sendable, crosses, entries, seat) depth 60 fits 100000

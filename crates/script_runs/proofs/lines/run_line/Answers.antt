@@ -1,8 +1,0 @@
-use Rattle.script_runs.proofs.Making.{runs_line}
-use Rattle.script_runs.proofs.lines.run_line.Goals as goal
-
-pub returns-in_ok-managed-in-M-clause-ok : goal.returns-in_ok-managed-in-M-clause-ok
-returns-in_ok-managed-in-M-clause-ok g c = runs_line c.args.caller.now.thread c.args.caller.now.view c.managed.new.caller.view c.args.index c.args.act.now c.in_ok-managed-in-M.field-0 c.requires.act c.in_ok-managed-in-M.ensures.ok
-
-pub returns-in_ok-peer-in-P-clause-ok : goal.returns-in_ok-peer-in-P-clause-ok
-returns-in_ok-peer-in-P-clause-ok g c = runs_line c.args.caller.now.thread c.args.caller.now.view c.peer.new.caller.view c.args.index c.args.act.now c.in_ok-peer-in-P.field-0 c.requires.act c.in_ok-peer-in-P.ensures.ok
