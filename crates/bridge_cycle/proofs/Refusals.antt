@@ -254,7 +254,7 @@ pub driver_hears : (p a b : Pass) (d e : Progress) → IsDriver a.thread → a.r
 driver_hears p a b d e is none old new h =
     let none' : b.reads ≡ reads_of b.thread b.reads = h.reads ∙ (none ∙ sym (λ i. reads_of (h.thread i) (h.reads i))) in
     subst (λ (x : Pass). Hears p x (pass_of e)) (driver_is a d is none old)
-        (subst (Hears p a) (driver_is b e (subst IsDriver (sym h.thread) is) none' new) h)
+    (subst (Hears p a) (driver_is b e (subst IsDriver (sym h.thread) is) none' new) h)
 
 -- a caller that knows nothing is idle, and has no entry
 pub idle_first : (p : Pass) → KnowsNothing p.view → HasIdleDriver p

@@ -111,7 +111,7 @@ module _ (locked mine mine1 locked2 mine2 : View) (order : OrderId) (seat seat' 
       let makes : DriverMakes mine mine2 (contracted o comps pairs) m (driver_entry n index (op.Mirror k) (says.Refs refs) (Some o.snap)) (references_of told) = subst (λ (x : ℕ). DriverMakes mine mine2 (contracted o comps pairs) m (driver_entry n index (op.Mirror k) (says.Refs refs) (Some x)) (references_of told)) (sym same_snap) v.makes in
       let now : MayMirrorNow (contracted o comps pairs) makes.state.managed.managed makes.state.peer.peers.issued k.0 (Some o.snap) (references_of told) =
       subst (λ (x : Stand). DriverAllows x makes.state.managed.managed makes.state.peer.peers.issued (op.Mirror k) (says.Refs refs) (Some o.snap) (references_of told)) makes.stood
-          (turn_same makes.state.managed.managed.pins makes.state.control (given makes.state (references_of told)).managed.managed makes.state.peer.peers.issued C index (op.Mirror k) (says.Refs refs) (Some o.snap) (references_of told) makes.comes.comes.order) in
+      (turn_same makes.state.managed.managed.pins makes.state.control (given makes.state (references_of told)).managed.managed makes.state.peer.peers.issued C index (op.Mirror k) (says.Refs refs) (Some o.snap) (references_of told) makes.comes.comes.order) in
       record {
         told = told;
         makes = makes;

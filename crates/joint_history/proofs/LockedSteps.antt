@@ -240,11 +240,11 @@ did_managed_by t locked mine mine1 locked2 mine2 order lent lent2 old new e told
     let side = goes.lawful.0.side in
     let own = goes.lawful.1.own in
     let w = entered t mine lent.view lent2.view 0 k told j.joined is caller d.appends.grows (record { one = omega arith; managed = λ z. (own, side); peer = λ z. absurd (omega arith); reader = λ z. absurd (omega arith) }) d.appends.number d.pins
-        (managed_draws (end_of j.joined.known.past) old.state k told state side (subst (λ (z : Entry). k.target ≡ managed_rules.target old.state z.made) (sym d.entry) d.target) d.freed)
-        (comes_now t (end_of j.joined.known.past) k told caller (subst (λ (z : Entry). MayNow t (end_of j.joined.known.past) z.made told) (sym d.entry) may') (subst (λ (z : Entry). z.made.index < 2 ^ 32) (sym d.entry) short')
-            (subst (λ (s : ManagedReplay). PinsStand s.managed (pins_told told)) (sym state) stand) (inl (subst (λ s. managed_rules.lawful s k.entry.made told) (sym state) goes.lawful))) in
+    (managed_draws (end_of j.joined.known.past) old.state k told state side (subst (λ (z : Entry). k.target ≡ managed_rules.target old.state z.made) (sym d.entry) d.target) d.freed)
+    (comes_now t (end_of j.joined.known.past) k told caller (subst (λ (z : Entry). MayNow t (end_of j.joined.known.past) z.made told) (sym d.entry) may') (subst (λ (z : Entry). z.made.index < 2 ^ 32) (sym d.entry) short')
+    (subst (λ (s : ManagedReplay). PinsStand s.managed (pins_told told)) (sym state) stand) (inl (subst (λ s. managed_rules.lawful s k.entry.made told) (sym state) goes.lawful))) in
     let after : (end_of w.grown.known.known.past).managed ≡ new.state =
-        w.grown.managed ∙ (ap (λ x. managed_past (end_of j.joined.known.past).managed k.entry.made told x (is_read k.entry.made.op)) side ∙ (ap (managed_past (end_of j.joined.known.past).managed k.entry.made told false) own ∙ (ap (λ (s : ManagedReplay). managed_rules.next s k.entry.made told) state ∙ sym goes.state))) in
+    w.grown.managed ∙ (ap (λ x. managed_past (end_of j.joined.known.past).managed k.entry.made told x (is_read k.entry.made.op)) side ∙ (ap (managed_past (end_of j.joined.known.past).managed k.entry.made told false) own ∙ (ap (λ (s : ManagedReplay). managed_rules.next s k.entry.made told) state ∙ sym goes.state))) in
     record {
       entered = w;
       knows = record {
@@ -282,9 +282,9 @@ peer_entered t mine order lent lent2 old new e told j state is caller' short' ma
     let own = (peer_reads_none k.entry.made.caller k.entry.made.op goes.lawful.0.event side).0 in
     let plain = peer_unpinned old.state k.entry.made told goes.lawful.1 in
     let w = entered t mine lent.view lent2.view 1 k told j is caller d.appends.grows (record { one = omega arith; managed = λ z. absurd (omega arith); peer = λ z. (own, side); reader = λ z. absurd (omega arith) }) d.appends.number d.pins
-        (peer_draws (end_of past) k told side d.target d.freed)
-        (comes_now t (end_of past) k told caller (subst (λ (z : Entry). MayNow t (end_of past) z.made told) (sym d.entry) may') (subst (λ (z : Entry). z.made.index < 2 ^ 32) (sym d.entry) short')
-            (subst (PinsStand (end_of past).managed.managed) (sym (plain_pins told plain)) (none_stand (end_of past).managed.managed)) (inr (subst (λ s. peer_rules.lawful s k.entry.made told) (sym state) goes.lawful))) in
+    (peer_draws (end_of past) k told side d.target d.freed)
+    (comes_now t (end_of past) k told caller (subst (λ (z : Entry). MayNow t (end_of past) z.made told) (sym d.entry) may') (subst (λ (z : Entry). z.made.index < 2 ^ 32) (sym d.entry) short')
+    (subst (PinsStand (end_of past).managed.managed) (sym (plain_pins told plain)) (none_stand (end_of past).managed.managed)) (inr (subst (λ s. peer_rules.lawful s k.entry.made told) (sym state) goes.lawful))) in
     record {
       entered = w;
       after = w.grown.peer ∙ (ap (peer_after (end_of past).peer k.entry.made (bare_told told)) side ∙ ((λ i. (peer_answer (state i) k.entry.made.caller k.entry.made.op k.entry.made.cites (plain_told told plain i)).state) ∙ sym goes.state));

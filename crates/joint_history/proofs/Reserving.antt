@@ -155,7 +155,7 @@ room_stays v w a b left left' on keeps room n e =
     let x = keeps n e in
     let whole = whole_kept on.one_history.whole in
     let same = ap length (mirrored_candidates_stay whole (λ i. of_drawn (drawn_lines v i)) (λ i. of_drawn (drawn_lines w i)) a.known b.known (whole_numbered 0 on.one_history.whole on.one_history.numbers)
-        (drawn_begins w on.one_history v on.more) (drawn_begins w on.one_history w (λ i. prefix_refl (known w i))) x.0 n x.1 e x.2) in
+    (drawn_begins w on.one_history v on.more) (drawn_begins w on.one_history w (λ i. prefix_refl (known w i))) x.0 n x.1 e x.2) in
     let enough = room x.0 x.1 in
     let more = x.3 in
     omega (arith, same, enough, more)

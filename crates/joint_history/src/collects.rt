@@ -14,10 +14,10 @@ ghost use Rattle.seat_calls.specs.Passing.{MayAppend};
 
 use crate::callers::Receipt;
 use crate::peer::LockedPeer;
-use seat_calls::{SeatDrawing, give_back, lend};
 use joint_model::{Op, Thread};
 use order_table::{Order, OrderName, Role, Seat};
 use peer_side::PeerSide;
+use seat_calls::{SeatDrawing, give_back, lend};
 use std::alloc::AllocError;
 
 // The side makes a collect, by a draw that hasn't drawn yet.

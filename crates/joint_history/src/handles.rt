@@ -20,11 +20,11 @@ ghost use Rattle.joint_history.specs.Locked.{Drew};
 ghost use Rattle.seat_calls.specs.Passing.{MayAppend};
 
 use crate::peer::LockedPeer;
-use seat_calls::{SeatDrawing, give_back, lend};
 use global_handles::Back;
 use joint_model::{Cycle, HNum, Thread};
 use order_table::{Order, OrderName, Role, Seat};
 use peer_side::PeerSide;
+use seat_calls::{SeatDrawing, give_back, lend};
 
 // The side draws the weakening of a handle by the seat.
 fn draw_weaken(

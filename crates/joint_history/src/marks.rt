@@ -17,10 +17,10 @@ ghost use Rattle.joint_history.specs.Locked.{Drew};
 ghost use Rattle.seat_calls.specs.Passing.{MayAppend};
 
 use crate::peer::LockedPeer;
-use seat_calls::{SeatDrawing, give_back, lend};
 use joint_model::{Marking, Thread};
 use order_table::{Order, OrderName, Role, Seat};
 use peer_side::{PeerSide, Swept};
+use seat_calls::{SeatDrawing, give_back, lend};
 
 /// A marking that the driver began, with its entry's number; and the marking that was open before and was ended, with the number of that entry.
 #[derive(Drop)]

@@ -20,12 +20,12 @@ ghost use Rattle.joint_history.specs.Locked.{StaysSeated};
 ghost use Rattle.seat_calls.specs.Passing.{MayAppend};
 
 use crate::peer::LockedPeer;
-use seat_calls::{SeatDrawing, give_back, lend};
 use bridge_graph::DeadGraph;
 use joint_model::{Cycle, Thread};
 use order_table::{Order, OrderName, Role, Seat};
 use peer_mirror::install;
 use peer_side::PeerSide;
+use seat_calls::{SeatDrawing, give_back, lend};
 use std::alloc::AllocError;
 use xref_list::Components;
 

@@ -15,10 +15,10 @@ ghost use Rattle.joint_history.specs.Knowing.{line_known};
 ghost use Rattle.joint_history.specs.Locked.{Drew, Makes, MakesNone, MayMake, PeerKnows, StaysSeated, made_by};
 ghost use Rattle.seat_calls.specs.Passing.{MayAppend};
 
-use seat_calls::{SeatDrawing, give_back, lend};
 use joint_model::{Holding, Op, Reply, Thread};
 use order_table::{Order, OrderName, Role, Seat};
 use peer_side::PeerSide;
+use seat_calls::{SeatDrawing, give_back, lend};
 use std::alloc::{AllocError, Global};
 use std::marker::{Model, PhantomData};
 

@@ -166,4 +166,3 @@ projection_is_sound noted may = let w = projection_is_complete noted may in (w.0
 
 pub projection_is_run : ProjectionIsRun
 projection_is_run noted may = let w = projection_is_complete noted may in (w.0, w.1)
-

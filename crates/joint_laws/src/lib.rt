@@ -27,7 +27,9 @@ pub use linked::{
 };
 pub use managed::{dead_part_is_frozen, dead_part_is_mirrored, managed_side_is_kept};
 pub use markings::{own_marking_is_one, reached_rows_are_closed};
-pub use readings::{exact_readings_are_lawful, kept_pins_are_lawful, reading_projection_is_complete};
+pub use readings::{
+    exact_readings_are_lawful, kept_pins_are_lawful, reading_projection_is_complete,
+};
 pub use runs::{
     joint_projection_is_a_run, joint_projection_is_complete, joint_projection_is_sound,
     run_states_are_both_sides, snapshots_are_sound, sweeps_are_sound,

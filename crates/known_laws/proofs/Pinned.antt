@@ -110,7 +110,8 @@ module _ (r : ManagedReplay) (pins : List (Option ℕ)) where
     stands = w.stands;
     exact = λ x y. (
       (λ z. let u = (w.exact x y).0 z in (u.0, u.1, u.2, row_to s.peers.issued u.0 x u.3, row_to s.peers.issued u.1 y u.4)),
-      (λ u. (w.exact x y).1 (u.0, u.1, u.2, row_back s.peers.issued u.0 x u.3, row_back s.peers.issued u.1 y u.4)));
+      (λ u. (w.exact x y).1 (u.0, u.1, u.2, row_back s.peers.issued u.0 x u.3, row_back s.peers.issued u.1 y u.4)),
+    );
   }
 
   abbrev before_to : (s : PeerReplay) (o : OpenSnap) → IsBeforeMirror r s o → IsBeforeMirror q s o

@@ -149,7 +149,8 @@ goes whole cells s q n w o = by (is_read n.entry.made.op) refl w
               (subst (λ z. CallerAllows s.control s.managed.managed s.peer.peers.issued n.entry.made.caller n.entry.made.index n.entry.made.op n.entry.made.reply n.entry.made.cites z) (w.bare ∙ sym (ap bare_told w.bare)) w.order);
           bare = ap bare_told w.bare;
         },
-        o.reply e);
+        o.reply e,
+      );
       after = after_read e ∙ (λ i. record {
         managed = with_pins (sym (reads_leave s.managed n e) i) (pins_after q (thread_number n.entry.made.caller) n.entry.made.reply);
         peer = sym (ap (peer_after s.peer n.entry.made (bare_told n.told)) (reads_aside n.entry.made.caller n.entry.made.op w.event e)) i;

@@ -26,5 +26,5 @@ pub returns-clause-drew : goal.returns-clause-drew
 returns-clause-drew c =
     let a = c.in_ok-reply.ensures.adds in
     let d = drew_managed _ _ c.args.seat.now c.step.new.draw.seat.now c.args.side.now c.step.new.self (step_made c.args.caller c.args.index c.args.op.now c.in_ok-reply.reply c.args.cites) nothing a.draws.adds.number a.draws.adds.drawn.3 a.goes a.draws.adds.added
-        (ap pins_of ((step_is_plain c.args.caller c.args.op.now c.in_ok-reply.reply c.requires.event).pins c.args.seat.now)) _ a.draws.adds.drawn.2 in
+    (ap pins_of ((step_is_plain c.args.caller c.args.op.now c.in_ok-reply.reply c.requires.event).pins c.args.seat.now)) _ a.draws.adds.drawn.2 in
     search rules
