@@ -14,12 +14,13 @@ use Rattle.generated_laws.specs.Counts.{IsGeneratedRun, generated_tally}
 use Rattle.generated_laws.proofs.Alike.{generated_runs_are_alike}
 use Rattle.joint_history.specs.declared.ends.RunEnd.{RunEnd}
 use Rattle.joint_history.specs.Ending.{HasEndNumbers}
-use Rattle.joint_model.specs.Linked.{opening_linkage, replayed}
+use Rattle.joint_model.specs.LinkedHistories.{linked_end}
 use Rattle.run_summary.specs.declared.tallies.Tally.{Tally}
 use Rattle.run_summary.specs.Summary.{summary_text}
 use Rattle.run_summary.specs.Tallies.{tally_of}
-use Rattle.summary_laws.specs.States.{tally_in, HeapsAddUp, TalliesOfLinked}
-use Rattle.summary_laws.proofs.Counting.{same_tally, tallies_of_linked}
+use Rattle.summary_laws.specs.States.{tally_in, HeapsOfLinked, TalliesOfLinked}
+use Rattle.summary_laws.proofs.Counting.{same_tally}
+use Rattle.summary_laws.proofs.Readings.{tallies_of_linked}
 use Rattle.bridge_run.specs.Top.{IsGeneratedRunIn, IsGeneratedRunOf}
 
 then-cycle : (asked : Mode) (script : List (Thread × Act)) (h : Finished) → IsGeneratedRunIn asked script h → IsRunThenCycle script h
@@ -65,12 +66,12 @@ pub part_of_last : (old new : Option (List ℕ)) (asked : Mode) (seed size lines
 part_of_last old new = put-of-last (AppendsPart old new)
 
 -- the numbers of a run's last state are the tally of its entries
-pub same_numbers : (e : RunEnd) (t : Tally) → HasEndNumbers e → TalliesOfLinked → HeapsAddUp
+pub same_numbers : (e : RunEnd) (t : Tally) → HasEndNumbers e → TalliesOfLinked → HeapsOfLinked
     → t ≡ record { cycles = e.cycles; made = record { managed = e.managed.all; peers = e.peers.all; handles = e.handles.all }; left = record { managed = e.managed.left; peers = e.peers.left; handles = e.handles.left } } → t ≡ tally_of e.history.entries
 same_numbers e t w law heaps is =
     let n = w.numbers in
-    let up = heaps w.noted w.finished.linked.lawful in
-    let same = same_tally (record { cycles = e.cycles; made = record { managed = e.managed.all; peers = e.peers.all; handles = e.handles.all }; left = record { managed = e.managed.left; peers = e.peers.left; handles = e.handles.left } }) (tally_in (replayed opening_linkage w.noted)) (record {
+    let up = heaps e.history w.noted w.finished.linked in
+    let same = same_tally (record { cycles = e.cycles; made = record { managed = e.managed.all; peers = e.peers.all; handles = e.handles.all }; left = record { managed = e.managed.left; peers = e.peers.left; handles = e.handles.left } }) (tally_in (linked_end w.noted)) (record {
       cycles = n.cycles;
       managed = n.managed;
       peers = n.peers;

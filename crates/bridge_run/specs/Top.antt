@@ -3,7 +3,7 @@ use Rattle.std.specs.Prelude.{◌≡◌, ◌⊎◌, ℕ, List, [], ◌∷◌, �
 use Rattle.joint_model.specs.declared.names.Thread.{Thread}
 use Rattle.joint_model.specs.declared.lines.Act.{Act}
 use Rattle.joint_model.specs.Histories.{Finished}
-use Rattle.joint_model.specs.Linked.{IsLinkedBy, opening_linkage, replayed}
+use Rattle.joint_model.specs.LinkedHistories.{IsLinkedBy, linked_end}
 use Rattle.joint_model.specs.Told.{Noted}
 use Rattle.bridge_script.specs.declared.faults.ScriptFault.{ScriptFault}
 use Rattle.bridge_script.specs.Causes.{fault_text}
@@ -49,7 +49,7 @@ IsGeneratedRunIn mode.Threads script history = IsRunThenCycle script history
 -- function of the seed and the size, the same in either mode
 pub record IsGeneratedRunOf (asked : Mode) (seed size : ℕ) (history : Finished) : Type 0 where
   pub run : IsGeneratedRunIn asked (generated seed size) history
-  pub last : (noted : List Noted) → IsLinkedBy history noted → tally_in (replayed opening_linkage noted) ≡ generated_tally seed size
+  pub last : (noted : List Noted) → IsLinkedBy history noted → tally_in (linked_end noted) ≡ generated_tally seed size
 
 -- In what follows `Put` says what was done with the text that is due: all of it was appended to what the sink held, or a beginning. Where a source or a
 -- sink tells no bytes, as a process's own streams, what is said of bytes says nothing.

@@ -1,5 +1,5 @@
--- Reads that are set aside count nothing, so the tally of a linked history is that of its last state too.
-use Rattle.std.proofs.Common.{◌≡◌, Bool, true, false, List, [], ◌∷◌, cond, map, refl, sym, ap, ◌∙◌, arith}
+-- Reads that are set aside count nothing, so the tally of a linked history is that of its last state too, in which both heaps add up.
+use Rattle.std.proofs.Common.{◌≡◌, Bool, true, false, List, [], ◌∷◌, cond, map, refl, sym, ap, subst, ◌∙◌, arith}
 use Rattle.std.specs.Prelude.{not}
 use Rattle.joint_model.specs.declared.lines.Act.TheVariants as act
 use Rattle.joint_model.specs.declared.events.Op.{Op}
@@ -9,14 +9,16 @@ use Rattle.joint_model.specs.declared.events.Reply.TheVariants as says
 use Rattle.joint_model.specs.declared.events.Entry.{Entry}
 use Rattle.joint_model.specs.Linked.{opening_linkage, replayed}
 use Rattle.joint_model.specs.Lines.{is_read}
+use Rattle.joint_model.specs.ManagedReplay.{ManagedReplay}
+use Rattle.joint_model.specs.PeerReplay.{PeerReplay}
 use Rattle.joint_model.specs.Readers.{is_set_aside, is_aside, replayed_reading}
 use Rattle.joint_model.specs.Told.{Noted}
 use Rattle.joint_laws.specs.ReadingLaws.{without_aside, IsLawfulReading}
 use Rattle.joint_laws.proofs.ReadsAside.{reading_is_lawful, reading_leads_to_same, without-cons}
 use Rattle.run_summary.specs.declared.tallies.Tally.{Tally}
 use Rattle.run_summary.specs.Tallies.{tallied, tally_from, tally_of, nothing_yet}
-use Rattle.summary_laws.specs.States.{tally_in, TalliesOfLinked}
-use Rattle.summary_laws.proofs.Counting.{same_tally, sides, tallies_are_of_states}
+use Rattle.summary_laws.specs.States.{tally_in, AddsUp, HeapsOfLinked, TalliesOfLinked}
+use Rattle.summary_laws.proofs.Counting.{same_tally, sides, heaps_add_up, tallies_are_of_states}
 use Rattle.joint_model.proofs.Deciding.{and-true}
 
 -- nothing is added and nothing taken away
@@ -53,3 +55,11 @@ tallies_of_linked h noted l =
     let k = reading_leads_to_same noted w in
     let end : tally_in (replayed_reading opening_linkage noted) ≡ tally_in (replayed opening_linkage (without_aside noted)) = ap (λ m. sides m (replayed_reading opening_linkage noted).peer) k.managed ∙ ap (λ p. sides (replayed opening_linkage (without_aside noted)).managed p) k.peer in
     ap tally_of (sym l.same) ∙ (aside-tally noted nothing_yet ∙ (tallies_are_of_states (without_aside noted) (reading_is_lawful noted w) ∙ sym end))
+
+-- the entries but for the reads that are set aside lead to the same state of both sides
+pub heaps_of_linked : HeapsOfLinked
+heaps_of_linked h noted l =
+    let w : IsLawfulReading noted = (noted, (replayed_reading opening_linkage noted).managed.managed.cells, l.lawful) in
+    let k = reading_leads_to_same noted w in
+    let up = heaps_add_up (without_aside noted) (reading_is_lawful noted w) in
+    (subst (λ (m : ManagedReplay). AddsUp m.managed.heap) (sym k.managed) up.0, subst (λ (p : PeerReplay). AddsUp p.peers.heap) (sym k.peer) up.1)

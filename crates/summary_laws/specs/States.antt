@@ -50,3 +50,7 @@ HeapsAddUp = (noted : List Noted) → AllMayCome opening_linkage noted → AddsU
 -- so the tally of a linked history's entries is that of its last state
 abbrev pub TalliesOfLinked : Type 0
 TalliesOfLinked = (h : Finished) (noted : List Noted) → IsLinkedBy h noted → tally_of h.entries ≡ tally_in (linked_end noted)
+
+-- and in that state both heaps add up
+abbrev pub HeapsOfLinked : Type 0
+HeapsOfLinked = (h : Finished) (noted : List Noted) → IsLinkedBy h noted → AddsUp (linked_end noted).managed.managed.heap × AddsUp (linked_end noted).peer.peers.heap

@@ -6,9 +6,10 @@ use Rattle.joint_model.specs.declared.names.Kind.TheVariants as kind
 use Rattle.joint_model.specs.declared.lines.Act.TheVariants as act
 use Rattle.joint_model.specs.declared.events.Op.TheVariants as op
 use Rattle.joint_model.specs.declared.events.Reply.TheVariants as says
-use Rattle.joint_model.specs.Linked.{Linkage, opening_linkage, replayed, AllMayCome, MayCome, IsLinkedBy}
+use Rattle.joint_model.specs.Linked.{Linkage, opening_linkage, replayed, AllMayCome, MayCome}
+use Rattle.joint_model.specs.LinkedHistories.{IsLinkedBy}
 use Rattle.joint_model.specs.Told.{nothing, snap_of, Noted}
-use Rattle.history_tests.specs.Histories.{finished_of}
+use Rattle.history_tests.specs.Readings.{finished_of}
 use Rattle.worked_histories.specs.Notes.{note, var, object_no, peer_no, handle_no, cycle_no, span}
 
 -- an object with a handle, made on line 5

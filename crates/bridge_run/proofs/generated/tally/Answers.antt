@@ -4,4 +4,4 @@ use Rattle.bridge_run.proofs.Alike.{same_numbers}
 use Rattle.bridge_run.proofs.generated.tally.Goals as goal
 
 pub returns : goal.returns
-returns c = same_numbers c.args.end.now _ c.requires c.tallies_are_of_states.ensures.linked c.tallies_are_of_states.ensures.heaps refl
+returns c = same_numbers c.args.end.now _ c.requires c.tallies_are_of_states.ensures.linked c.tallies_are_of_states.ensures.linked_heaps refl

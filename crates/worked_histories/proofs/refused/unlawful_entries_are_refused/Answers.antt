@@ -1,6 +1,7 @@
 -- Each by computing: the test of the entry, or of the history, answers no.
 use Rattle.std.proofs.Common.{refl}
-use Rattle.history_tests.proofs.HistoryTests.{comes, linked}
+use Rattle.history_tests.proofs.HistoryTests.{comes}
+use Rattle.history_tests.proofs.ReadingTests.{linked}
 use Rattle.history_tests.proofs.Telling.{refuted}
 use Rattle.worked_histories.specs.Refused.{made_on_five, once_made, drops_on, disposed_halfway}
 use Rattle.worked_histories.proofs.Worked.{lawful}
