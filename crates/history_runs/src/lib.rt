@@ -13,6 +13,8 @@ mod desks;
 #[cfg(test)]
 mod memory;
 #[cfg(test)]
+mod readers;
+#[cfg(test)]
 mod runs;
 #[cfg(test)]
 mod threads;
