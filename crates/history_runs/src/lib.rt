@@ -15,6 +15,8 @@ mod memory;
 #[cfg(test)]
 mod readers;
 #[cfg(test)]
+mod rooms;
+#[cfg(test)]
 mod runs;
 #[cfg(test)]
 mod threads;
