@@ -11,7 +11,8 @@ ghost use Rattle.bridge_cycle.specs.Progress.{line_of};
 use bridge_cycle::{Driver, DriverFault};
 use joint_history::{Alone, Caller, Shared};
 use joint_model::Reply::{
-    self, At, CycleOpen, Freed, Gone, M, Mark, Pending, Refs, Sccs, Snapped, Swept, Took,
+    self, At, CycleOpen, Freed, Gone, M, Mark, Pending, Pinned, Refs, Sccs, Snapped, Swept, Took,
+    Unset,
 };
 use joint_model::{
     Act, Cell, Cycle, Holding, Kind, MNum, Marking, Phase, PhaseWord, Sort, Span, Thread, Var,
@@ -21,6 +22,7 @@ use std::alloc::{AllocError, Global};
 use std::marker::{Brand, Model};
 use std::sync::Wait;
 use std::test::Fail;
+use weak_wait::reply_of;
 
 // What is done, and what that answers.
 type Row = (CycleCall, Reply);
@@ -34,6 +36,10 @@ enum CycleCall {
     Drop(u8),
     Weak(u8),
     Read,
+    Take(u8),
+    // reads of a cell by m1 that take no lock, at once and by waiting
+    ReadNow(u8),
+    ReadWait(u8),
     // lines of c
     Line(PhaseWord),
     Finalise(u32),
@@ -69,6 +75,7 @@ impl CycleCall {
                 v: Var(v),
             }),
             CycleCall::Read => Some(Act::Read { k: Cell(0) }),
+            CycleCall::Take(v) if v < 8 => Some(Act::Take { v: Var(v) }),
             _ => None,
         }
     }
@@ -141,6 +148,23 @@ impl<N: OrderName> DrivenBridge<N> {
         Ok(Some(receipt.reply))
     }
 
+    // The answer to a read of m1 that takes no lock; None where it is another call.
+    fn read(&mut self, rt: &impl Wait, call: CycleCall) -> Result<Option<Reply>, AllocError> {
+        self.shared.reserve(&mut self.one, 1)?;
+        let got = match call {
+            CycleCall::ReadNow(k) if k < 64 => {
+                let act = Act::Read { k: Cell(k) };
+                self.shared.read_now(&mut self.one, 1, &act)
+            }
+            CycleCall::ReadWait(k) if k < 64 => {
+                let act = Act::Await { k: Cell(k) };
+                self.shared.read_wait(rt, &mut self.one, 1, &act)
+            }
+            _ => return Ok(None),
+        };
+        Ok(Some(reply_of(got)))
+    }
+
     // The answer to a line of c.
     fn line(
         &mut self,
@@ -185,6 +209,7 @@ impl<N: OrderName> DrivenBridge<N> {
     ) -> Result<Option<Reply>, AllocError> {
         match call {
             CycleCall::Line(_) | CycleCall::Finalise(_) => self.line(rt, alloc, call),
+            CycleCall::ReadNow(_) | CycleCall::ReadWait(_) => self.read(rt, call),
             CycleCall::Phase(word) => Ok(Some(self.phase(rt, alloc, word)?)),
             CycleCall::End => Ok(Some(self.end(rt, alloc)?)),
             CycleCall::Now => Ok(Some(At(self.driver.phase()))),
@@ -348,6 +373,59 @@ const CIRCLE: [Row; 18] = [
     (CycleCall::Finalise(9), Took(Span { first: 1, count: 1 })),
 ];
 
+// What reads without a lock answer: of a cell before it is set and of one that never is, of the object, while a cycle is open, and once it freed the
+// object. A read that waits is made where no cycle is open.
+const READS: [Row; 18] = [
+    (CycleCall::Bridge(0), M(MNum(1))),
+    (CycleCall::ReadNow(0), Unset),
+    (CycleCall::Weak(0), Reply::Ok),
+    (CycleCall::ReadWait(0), M(MNum(1))),
+    (CycleCall::Take(1), M(MNum(1))),
+    (CycleCall::ReadNow(1), Unset),
+    (CycleCall::Drop(0), Reply::Ok),
+    (CycleCall::Drop(1), Reply::Ok),
+    (
+        CycleCall::Line(PhaseWord::Snap),
+        Snapped(1, Span { first: 0, count: 0 }),
+    ),
+    (CycleCall::ReadNow(0), Pending(Cycle(1))),
+    (CycleCall::ReadNow(1), Pending(Cycle(1))),
+    (CycleCall::End, Reply::Ok),
+    (CycleCall::ReadNow(0), Gone),
+    (CycleCall::ReadWait(0), Gone),
+    (CycleCall::ReadWait(1), Unset),
+    (CycleCall::Read, Gone),
+    (CycleCall::Take(0), Reply::Empty),
+    (CycleCall::Finalise(9), Took(Span { first: 0, count: 1 })),
+];
+
+// An object that nothing but a pin holds is no candidate of the cycle whose snapshot is taken then. Once it is taken and dropped, the next cycle frees
+// it.
+const PINS: [Row; 16] = [
+    (CycleCall::Bridge(0), M(MNum(1))),
+    (CycleCall::Weak(0), Reply::Ok),
+    (CycleCall::Drop(0), Reply::Ok),
+    (CycleCall::ReadNow(0), M(MNum(1))),
+    (CycleCall::ReadNow(1), Pinned(MNum(1))),
+    (
+        CycleCall::Line(PhaseWord::Snap),
+        Snapped(0, Span { first: 0, count: 0 }),
+    ),
+    (CycleCall::ReadNow(0), Pinned(MNum(1))),
+    (CycleCall::End, Reply::Ok),
+    (CycleCall::ReadWait(0), Pinned(MNum(1))),
+    (CycleCall::Take(2), M(MNum(1))),
+    (CycleCall::Drop(2), Reply::Ok),
+    (
+        CycleCall::Line(PhaseWord::Cycle),
+        Freed(Span { first: 0, count: 1 }),
+    ),
+    (CycleCall::ReadNow(0), Gone),
+    (CycleCall::ReadWait(0), Gone),
+    (CycleCall::Take(2), Reply::Empty),
+    (CycleCall::Finalise(9), Took(Span { first: 0, count: 1 })),
+];
+
 #[test]
 fn a_phase_runs_where_it_is_due(rt: HostRuntime) -> Result<(), Fail> {
     assert_eq!(rt; play(&rt, rt.alloc(), PHASES.as_slice())?, Some(None));
@@ -363,5 +441,17 @@ fn a_linked_pair_that_is_dropped_is_freed(rt: HostRuntime) -> Result<(), Fail> {
 #[test]
 fn a_circle_is_mirrored_and_freed(rt: HostRuntime) -> Result<(), Fail> {
     assert_eq!(rt; play(&rt, rt.alloc(), CIRCLE.as_slice())?, Some(None));
+    Ok(())
+}
+
+#[test]
+fn a_read_without_a_lock_answers_by_the_gate_and_the_cell(rt: HostRuntime) -> Result<(), Fail> {
+    assert_eq!(rt; play(&rt, rt.alloc(), READS.as_slice())?, Some(None));
+    Ok(())
+}
+
+#[test]
+fn a_pinned_object_outlives_a_cycle(rt: HostRuntime) -> Result<(), Fail> {
+    assert_eq!(rt; play(&rt, rt.alloc(), PINS.as_slice())?, Some(None));
     Ok(())
 }

@@ -13,6 +13,10 @@ mod desks;
 #[cfg(test)]
 mod memory;
 #[cfg(test)]
+mod readers;
+#[cfg(test)]
+mod rooms;
+#[cfg(test)]
 mod runs;
 #[cfg(test)]
 mod threads;

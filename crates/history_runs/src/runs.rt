@@ -174,8 +174,8 @@ fn run_lines<N: OrderName>(
     Ok(replies)
 }
 
-// The replies of all entries.
-fn replies_of(alloc: Global, history: &History) -> Result<Vec<Reply>, AllocError> {
+/// The replies of all entries.
+pub(crate) fn replies_of(alloc: Global, history: &History) -> Result<Vec<Reply>, AllocError> {
     let mut replies = Vec::new(alloc);
     for i in 0..history.len() {
         if let Some(entry) = history.entry(i) {

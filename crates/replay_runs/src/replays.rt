@@ -5,18 +5,18 @@ use joint_replay::{JointState, Verdict};
 use std::alloc::{AllocError, Global};
 use std::process::Abort;
 
-// Whether the event is a step of the joint machine. What a cycle does between its snapshot and its end is none, but for the marking.
-fn is_step(op: &Op) -> bool {
-    !matches!(
-        op,
-        Op::Line(Act::Slice { .. })
-            | Op::Contract { .. }
-            | Op::Mirror { .. }
-            | Op::Weaken { .. }
-            | Op::Restore { .. }
-            | Op::Clear { .. }
-            | Op::Refused { .. }
-    )
+// Whether the entry is a step of the joint machine. What a cycle does between its snapshot and its end is none, but for the marking; nor is a read that is
+// pending or finds its cell unset.
+fn is_step(entry: &Entry) -> bool {
+    match entry.made.op {
+        Op::Line(Act::Read { .. } | Act::Await { .. }) => {
+            !matches!(entry.made.reply, Reply::Pending(_) | Reply::Unset)
+        }
+        Op::Line(Act::Slice { .. }) | Op::Refused { .. } => false,
+        Op::Contract { .. } | Op::Mirror { .. } | Op::Weaken { .. } => false,
+        Op::Restore { .. } | Op::Clear { .. } => false,
+        _ => true,
+    }
 }
 
 // The entry with a reply that its event doesn't have there: only a sweep that finds no open marking answers so.
@@ -42,7 +42,7 @@ pub(crate) fn replay(rt: &impl Abort, alloc: Global, h: &History) -> Result<(), 
         let other = state.judge(h, &otherwise(&entry))?;
         assert!(rt; other == Verdict::Unlawful, "entry {i} with another reply");
         let lawful = state.replay_step(h, i)? == Verdict::Lawful;
-        assert!(rt; lawful == is_step(&entry.made.op), "entry {i}: {lawful}");
+        assert!(rt; lawful == is_step(&entry), "entry {i}: {lawful}");
     }
     Ok(())
 }

@@ -326,9 +326,9 @@ const ONE_TWIN: [(Said, Verdict); 19] = [
     ((M1, MEET, Reply::New(MNum(2))), L),
 ];
 
-// What a pin holds is a root; a notice is taken once.
+// What a pin holds is a root; a notice is taken once. A read that is pending or finds its cell unset is no step.
 const PINNED: [(Said, Verdict); 21] = [
-    ((M1, READ, Reply::Unset), L),
+    ((M1, READ, Reply::Unset), U),
     ((M1, ADOPT_A, OBJECT_1), L),
     ((M1, WEAK, Reply::Ok), L),
     ((M1, WEAK, Reply::Taken), L),
@@ -343,7 +343,7 @@ const PINNED: [(Said, Verdict); 21] = [
     ((M1, DROP_B, Reply::Ok), L),
     ((C, FINALISE, Reply::Took(NONE)), L),
     ((C, SNAP_2, Reply::Snapped(1, NONE)), L),
-    ((M1, READ, Reply::Pending(Cycle(2))), L),
+    ((M1, READ, Reply::Pending(Cycle(2))), U),
     ((C, RESOLVE_2, Reply::Freed(ONE)), L),
     ((M1, READ, Reply::Gone), L),
     ((C, FINALISE, Reply::Took(NONE)), U),
