@@ -5,18 +5,22 @@ use joint_replay::{JointState, Verdict};
 use std::alloc::{AllocError, Global};
 use std::process::Abort;
 
-// Whether the event is a step of the joint machine. What a cycle does between its snapshot and its end is none, but for the marking.
-fn is_step(op: &Op) -> bool {
-    !matches!(
-        op,
+// Whether an event with that reply is a step of the joint machine. What a cycle does between its snapshot and its end is none, but for the marking, and a read
+// that is pending or finds its cell unset is none.
+fn is_step(op: &Op, reply: &Reply) -> bool {
+    match op {
+        Op::Line(Act::Read { .. } | Act::Await { .. }) => {
+            !matches!(reply, Reply::Pending { .. } | Reply::Unset)
+        }
         Op::Line(Act::Slice { .. })
-            | Op::Contract { .. }
-            | Op::Mirror { .. }
-            | Op::Weaken { .. }
-            | Op::Restore { .. }
-            | Op::Clear { .. }
-            | Op::Refused { .. }
-    )
+        | Op::Contract { .. }
+        | Op::Mirror { .. }
+        | Op::Weaken { .. }
+        | Op::Restore { .. }
+        | Op::Clear { .. }
+        | Op::Refused { .. } => false,
+        _ => true,
+    }
 }
 
 // The entry with a reply that its event doesn't have there: only a sweep that finds no open marking answers so.
@@ -42,7 +46,10 @@ pub(crate) fn replay(rt: &impl Abort, alloc: Global, h: &History) -> Result<(), 
         let other = state.judge(h, &otherwise(&entry))?;
         assert!(rt; other == Verdict::Unlawful, "entry {i} with another reply");
         let lawful = state.replay_step(h, i)? == Verdict::Lawful;
-        assert!(rt; lawful == is_step(&entry.made.op), "entry {i}: {lawful}");
+        assert!(rt;
+            lawful == is_step(&entry.made.op, &entry.made.reply),
+            "entry {i}: {lawful}"
+        );
     }
     Ok(())
 }
