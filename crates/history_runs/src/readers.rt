@@ -32,6 +32,9 @@ const STAY: u16 = 200;
 // How many cycles the driver runs.
 const CYCLES: u16 = 100;
 
+// How many such runs are made.
+const RUNS: u32 = 50;
+
 // What managed thread `n` does at a place of its stay at a cell. It reads the cells that all threads are at, each at once and then by waiting.
 fn act_at(n: u8, cell: u8, place: u16) -> Act
     requires { (1 ≤ n) × (n ≤ 8) × (cell < 8) }
@@ -382,13 +385,15 @@ fn ends_in(history: &History) -> u32 {
 // has two. The joint machine has an object that a pin holds among its roots: so an object that was read isn't freed before it is taken.
 #[test]
 fn eight_threads_read_at_once_while_cycles_go_on(rt: HostRuntime) -> Result<(), Fail> {
-    let (order, seat) = Order::new(rt.alloc(), 8)?;
-    let history = run::<Brand, _>(&rt, rt.alloc(), order, seat)?;
-    for n in 1..9u8 {
-        let seen = seen_of(&history, Thread::M(n));
-        assert!(rt; seen.entries == 1_608 && seen.reads == 776 && seen.wrong == 0);
+    for _ in 0..RUNS {
+        let (order, seat) = Order::new(rt.alloc(), 8)?;
+        let history = run::<Brand, _>(&rt, rt.alloc(), order, seat)?;
+        for n in 1..9u8 {
+            let seen = seen_of(&history, Thread::M(n));
+            assert!(rt; seen.entries == 1_608 && seen.reads == 776 && seen.wrong == 0);
+        }
+        assert_eq!(rt; ends_in(&history), 100);
+        assert_eq!(rt; first_unlawful(rt.alloc(), &history)?, None);
     }
-    assert_eq!(rt; ends_in(&history), 100);
-    assert_eq!(rt; first_unlawful(rt.alloc(), &history)?, None);
     Ok(())
 }
