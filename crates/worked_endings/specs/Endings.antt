@@ -1,0 +1,64 @@
+-- Lists of entries, each with one fault at its end: what was freed is read, or a cycle has no end of its own.
+use Rattle.std.specs.Prelude.{ℕ, List, [], ◌∷◌, map, None}
+use Rattle.joint_model.specs.declared.names.Thread.TheVariants.{M, P, C}
+use Rattle.joint_model.specs.declared.names.Kind.TheVariants as kind
+use Rattle.joint_model.specs.declared.lines.Act.TheVariants as act
+use Rattle.joint_model.specs.declared.events.Entry.{Entry}
+use Rattle.joint_model.specs.declared.events.Reply.{Reply}
+use Rattle.joint_model.specs.declared.events.Op.TheVariants as op
+use Rattle.joint_model.specs.declared.events.Reply.TheVariants as says
+use Rattle.joint_model.specs.Told.{nothing, snap_of, sweep_of, resolution_of, Noted}
+use Rattle.script_laws.specs.Ending.{AllCyclesEnd, OwnCyclesEnd}
+use Rattle.run_laws.specs.Final.{FreedReadsAreGone, FreedPeersAreGone}
+use Rattle.worked_histories.specs.Notes.{note, var, cell_no, name_no, object_no, peer_no, handle_no, cycle_no, marking_no, span}
+
+-- an object that a weak cell names is freed by a resolution, and a read of the cell has that reply
+abbrev pub read_after : Reply → List Noted
+read_after reply =
+    note 0 (M 1) 1 (op.Line (act.New (var 0) kind.Plain 0)) (says.M (object_no 1)) None nothing
+    ∷ note 1 (M 1) 2 (op.Line (act.Weak (cell_no 0) (var 0))) says.Ok None nothing
+    ∷ note 2 C 3 (op.Resolve (cycle_no 1)) (says.Freed (span 0 1)) None (resolution_of [] (1 ∷ []))
+    ∷ note 3 (M 1) 4 (op.Line (act.Read (cell_no 0))) reply None nothing
+    ∷ []
+
+-- a peer that a weak global name leads to is freed by a sweep, and a weak read of the name has that reply
+abbrev pub weakly_read_after : Reply → List Noted
+weakly_read_after reply =
+    note 0 (P 1) 1 (op.Line (act.NewPeer (var 0) 0)) (says.P (peer_no 1)) None nothing
+    ∷ note 1 (P 1) 2 (op.Line (act.WGlobal (name_no 0) (var 0))) (says.H (handle_no 1)) None nothing
+    ∷ note 2 (P 1) 3 op.Sweep (says.Swept (marking_no 1) (span 0 1)) None (sweep_of (1 ∷ []))
+    ∷ note 3 (P 1) 4 (op.Line (act.WRead (var 1) (name_no 0))) reply None nothing
+    ∷ []
+
+-- what was freed answers gone, and nothing else: neither itself, nor a pin that isn't filled, nor that the cell is unset by the list as it stands
+pub record AreReadsRefused : Type 0 where
+  pub object : FreedReadsAreGone (read_after (says.M (object_no 1))) → ⊥
+  pub unfilled_pin : FreedReadsAreGone (read_after (says.Pinned (object_no 1))) → ⊥
+  pub emptied : FreedReadsAreGone (read_after says.Empty) → ⊥
+  pub peer : FreedPeersAreGone (weakly_read_after (says.P (peer_no 1))) → ⊥
+  pub unset_name : FreedPeersAreGone (weakly_read_after says.Unset) → ⊥
+
+-- the driver's entries of cycles: each opened, resolved or abandoned in turn
+abbrev pub opens : ℕ → Noted
+opens k = note 0 C 1 (op.Snap (cycle_no k)) (says.Snapped 0 (span 0 0)) None (snap_of [] [] [])
+
+abbrev pub resolves : ℕ → Noted
+resolves k = note 0 C 1 (op.Resolve (cycle_no k)) (says.Freed (span 0 0)) None (resolution_of [] [])
+
+abbrev pub abandons : ℕ → Noted
+abandons k = note 0 C 1 (op.Abandon (cycle_no k)) says.Ok None nothing
+
+abbrev pub entries_in : List Noted → List Entry
+entries_in noted = map (λ n. n.entry) noted
+
+-- each cycle is resolved by its own resolve before the next one is opened; whatever else is refused
+pub record AreCyclesRefused : Type 0 where
+  pub ends : AllCyclesEnd (entries_in (opens 1 ∷ resolves 1 ∷ opens 2 ∷ resolves 2 ∷ []))
+  pub own_ends : OwnCyclesEnd (entries_in (opens 1 ∷ resolves 1 ∷ opens 2 ∷ resolves 2 ∷ []))
+  pub abandoned : AllCyclesEnd (entries_in (opens 1 ∷ abandons 1 ∷ opens 2 ∷ resolves 2 ∷ [])) → ⊥
+  pub abandoned_unopened : AllCyclesEnd (entries_in (abandons 1 ∷ [])) → ⊥
+  pub unresolved : AllCyclesEnd (entries_in (opens 1 ∷ [])) → ⊥
+  pub last_unresolved : AllCyclesEnd (entries_in (opens 1 ∷ resolves 1 ∷ opens 2 ∷ [])) → ⊥
+  pub reopened : AllCyclesEnd (entries_in (opens 1 ∷ opens 2 ∷ resolves 2 ∷ [])) → ⊥
+  pub resolved_as_another : OwnCyclesEnd (entries_in (opens 1 ∷ resolves 2 ∷ [])) → ⊥
+  pub later_resolved_as_another : OwnCyclesEnd (entries_in (opens 1 ∷ resolves 1 ∷ opens 2 ∷ resolves 1 ∷ [])) → ⊥

@@ -1,0 +1,13 @@
+// What a history may not end with, and what may not be read in it.
+
+ghost use Rattle.worked_endings.specs.Endings.{AreCyclesRefused, AreReadsRefused};
+
+/// A read answers an object that a resolution has freed, or a pin that isn't filled; a weak read answers a peer that a sweep has freed.
+pub fn reads_of_the_freed_are_refused()
+    ensures { AreReadsRefused }
+{}
+
+/// A cycle is abandoned, is never resolved, or isn't resolved before the next one is opened; or another cycle's resolve comes in place of its own.
+pub fn abandoned_and_open_cycles_are_refused()
+    ensures { AreCyclesRefused }
+{}
