@@ -1,5 +1,5 @@
 -- Phases one after another: each runs in the phase in which its word is due, and what was run so far goes on by it.
-use Rattle.std.proofs.Common.{◌≡◌, ℕ, ◌<◌, List, [], ◌∷◌, ◌++◌, length, Some, refl, sym, ap, ◌∙◌, subst, append_assoc, arith}
+use Rattle.std.proofs.Common.{◌≡◌, ℕ, ◌<◌, List, [], ◌∷◌, ◌++◌, length, Option, Some, None, refl, sym, ap, ◌∙◌, subst, append_assoc, arith}
 use base.Growing.{prefix_refl}
 use Rattle.joint_model.specs.declared.names.Phase.{Phase}
 use Rattle.joint_model.specs.declared.names.Phase.TheVariants as at
@@ -13,7 +13,7 @@ use Rattle.joint_model.specs.Phases.{next_phase, phases_left, phases_of}
 use Rattle.joint_model.proofs.Deciding.{some-same}
 use Rattle.order_table.specs.Views.{known}
 use Rattle.joint_history.specs.Knowing.{line_known}
-use Rattle.bridge_cycle.specs.Progress.{EndsWithReply, StopsForMemory, LeadTo, Progress, RunsWords, RunsPhases, last_reply}
+use Rattle.bridge_cycle.specs.Progress.{BreaksWord, EndsWithReply, StopsForMemory, LeadTo, Progress, RunsWords, RunsPhases, last_reply}
 use Rattle.bridge_cycle.specs.Words.{Closes, IsPartway, Lacks, next_word}
 use Rattle.bridge_cycle.proofs.Making.{append_nil, runs_more}
 use Rattle.bridge_cycle.proofs.Turned.{last_snoc}
@@ -111,8 +111,40 @@ partway_lacks old mid new index w p is lacks =
       left = left.0;
       all = p.all ∙ ap (λ ws. p.run ++ ws) (left.1 ∙ ap (λ v. v ∷ left.0) (sym is));
       takes = lacks.takes;
-      runs = subst (λ (ws : List PhaseWord). RunsWords old new index ws) (append_nil p.run) (runs_on old mid new index p.run [] p.runs lacks.runs);
+      before = mid;
+      runs = p.runs;
+      gives_up = lacks.gives_up;
+      idle = lacks.idle;
     }
+
+pub first_lacks : (old new : Progress) (index : ℕ) (w : PhaseWord) (left : List PhaseWord) → Lacks old new index w → StopsForMemory old new index (w ∷ left)
+first_lacks old new index w left lacks = record {
+  run = [];
+  failed = w;
+  left = left;
+  all = refl;
+  takes = lacks.takes;
+  before = old;
+  runs = runs_nothing old index;
+  gives_up = lacks.gives_up;
+  idle = lacks.idle;
+}
+
+-- a line with that word, which isn't refused
+pub line_lacks : (old new : Progress) (index : ℕ) (w : PhaseWord) (next : Option Phase) → (next ≡ None → ⊥) → Lacks old new index w → BreaksWord old new index w next
+line_lacks old new index w None some lacks = absurd (some refl)
+line_lacks old new index w (Some next) some lacks = by w lacks
+  where
+    by : (w : PhaseWord) → Lacks old new index w → StopsForMemory old new index (phases_of w)
+    by word.Cycle lacks = absurd lacks.takes
+    by word.Snap lacks = first_lacks old new index word.Snap [] lacks
+    by word.Contract lacks = first_lacks old new index word.Contract [] lacks
+    by word.Mirror lacks = first_lacks old new index word.Mirror [] lacks
+    by word.Weaken lacks = absurd lacks.takes
+    by word.Mark lacks = absurd lacks.takes
+    by word.Sweep lacks = absurd lacks.takes
+    by word.Restore lacks = absurd lacks.takes
+    by word.Resolve lacks = absurd lacks.takes
 
 -- the last phase
 snoc_of : (es : List Entry) → length es ≡ 1 → (e : Entry) × (es ≡ e ∷ [])
@@ -160,5 +192,8 @@ cycle_breaks old mid new index first idle a b =
       left = b.left;
       all = ap (λ ws. word.Snap ∷ ws) (sym (ap phases_left at_snapped) ∙ b.all);
       takes = b.takes;
-      runs = runs_on old mid new index (word.Snap ∷ []) b.run (a.entries, runs) b.runs;
+      before = b.before;
+      runs = runs_on old mid b.before index (word.Snap ∷ []) b.run (a.entries, runs) b.runs;
+      gives_up = b.gives_up;
+      idle = b.idle;
     }

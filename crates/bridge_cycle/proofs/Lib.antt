@@ -9,4 +9,5 @@ pub mod Weakened
 pub mod Restored
 pub mod Endings
 pub mod Refusals
+pub mod Abandoned
 pub mod Composed

@@ -2,6 +2,7 @@
 use Rattle.std.specs.Prelude.{◌≡◌, ℕ, List, [], ◌∷◌, ◌++◌, Option, Some, None}
 use Rattle.joint_model.specs.declared.names.Cycle.{Cycle}
 use Rattle.joint_model.specs.declared.names.Phase.{Phase}
+use Rattle.joint_model.specs.declared.names.Phase.TheVariants as at
 use Rattle.joint_model.specs.declared.names.PhaseWord.{PhaseWord}
 use Rattle.joint_model.specs.declared.names.PhaseWord.TheVariants as word
 use Rattle.joint_model.specs.declared.names.Thread.TheVariants.{C}
@@ -80,14 +81,30 @@ TakesMemory word.Contract = Unit {0}
 TakesMemory word.Mirror = Unit {0}
 TakesMemory w = ⊥
 
--- the driver ran the first of these phases, and stands before one that found no memory
+-- the driver abandoned its open cycle by one entry, and is idle
+pub record AbandonsCycle (old new : Progress) (index : ℕ) : Type 0 where
+  pub entry : Entry
+  pub enters : Enters old new index (entry ∷ [])
+  pub abandons : entry.made.op ≡ op.Abandon record { 0 = old.cycle.0 }
+  pub replies : entry.made.reply ≡ says.Ok
+  pub idle : new.phase ≡ at.Idle
+
+-- what a phase makes that found no memory: nothing where it is the snapshot; else the open cycle is abandoned
+abbrev pub GivesUp : PhaseWord → Progress → Progress → ℕ → Type 0
+GivesUp word.Snap old new index = RunsWords old new index []
+GivesUp w old new index = AbandonsCycle old new index
+
+-- the driver ran the first of these phases; the next one found no memory, and so the driver is idle
 pub record StopsForMemory (old new : Progress) (index : ℕ) (ws : List PhaseWord) : Type 0 where
   pub run : List PhaseWord
   pub failed : PhaseWord
   pub left : List PhaseWord
   pub all : ws ≡ run ++ failed ∷ left
   pub takes : TakesMemory failed
-  pub runs : RunsWords old new index run
+  pub before : Progress
+  pub runs : RunsWords old before index run
+  pub gives_up : GivesUp failed before new index
+  pub idle : new.phase ≡ at.Idle
 
 -- the driver made one entry that leaves it in its phase, with the candidates that it had
 pub record MakesOne (old new : Progress) (index : ℕ) (entries : List Entry) : Type 0 where
@@ -118,7 +135,7 @@ pub record RunsLine (old new : Progress) (index : ℕ) (a : Act) (reply : Reply)
   pub runs : RunsAct old new index a entries
   pub last : reply ≡ last_reply entries
 
--- a line found no memory: it made nothing, or its first phases
+-- a line found no memory: it made nothing, or its first phases and, where it had opened a cycle, the entry that abandons it
 abbrev pub BreaksWord : Progress → Progress → ℕ → PhaseWord → Option Phase → Type 0
 BreaksWord old new index w None = RunsWords old new index []
 BreaksWord old new index w (Some next) = StopsForMemory old new index (phases_of w)

@@ -7,7 +7,7 @@ use Rattle.joint_model.specs.declared.names.PhaseWord.TheVariants as word
 use Rattle.joint_model.specs.declared.events.Entry.{Entry}
 use Rattle.joint_model.specs.declared.events.Reply.{Reply}
 use Rattle.joint_model.specs.Phases.{phases_left}
-use Rattle.bridge_cycle.specs.Progress.{Progress, RunsWords, RunsPhases, TakesMemory}
+use Rattle.bridge_cycle.specs.Progress.{GivesUp, Progress, RunsWords, RunsPhases, TakesMemory}
 
 -- the word asks for one phase
 abbrev pub IsOnePhase : PhaseWord → Type 0
@@ -37,10 +37,11 @@ next_word at.Marked = word.Sweep
 next_word at.Swept = word.Restore
 next_word at.Restored = word.Resolve
 
--- a phase found no memory, which is one that takes some: nothing was made
+-- a phase found no memory, which is one that takes some, and the driver is idle
 pub record Lacks (old new : Progress) (index : ℕ) (w : PhaseWord) : Type 0 where
   pub takes : TakesMemory w
-  pub runs : RunsWords old new index []
+  pub gives_up : GivesUp w old new index
+  pub idle : new.phase ≡ at.Idle
 
 -- so far the driver has run the first of the phases that were left of its open cycle; the others are left now
 pub record IsPartway (old now : Progress) (index : ℕ) : Type 0 where

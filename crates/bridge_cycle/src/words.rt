@@ -199,7 +199,8 @@ impl<N: OrderName> Driver<N> {
     }
 
     /// Runs all eight phases of a cycle. Answers `CycleOpen` exactly where the phase isn't `Idle`, and `OutOfMemory` where a phase found no memory, which is
-    /// the snapshot, the contraction or the mirror; the phases before it stand then, and the driver is in the last one's phase.
+    /// the snapshot, the contraction or the mirror. The entries of the phases before it stand then; after the snapshot's the cycle is abandoned, which frees
+    /// nothing, and the phase is `Idle`.
     pub fn cycle<K: Keeps<N>>(
         &mut self,
         rt: &impl Wait,
@@ -225,7 +226,7 @@ impl<N: OrderName> Driver<N> {
 
     /// Runs a script line of thread `c`: a phase word, whose refusal is an entry too, or `finalise`. Answers the reply of the last entry that it made, or
     /// `Reply::Ok` where it made none. Answers `AllocError` where there is no memory: then no entry was made, or those of the line's phases before the one
-    /// that found no memory.
+    /// that found no memory; and where that one is the contraction or the mirror, the entry that abandons the cycle.
     pub fn line<K: Keeps<N>>(
         &mut self,
         rt: &impl Wait,
@@ -248,7 +249,7 @@ impl<N: OrderName> Driver<N> {
     }
 
     /// Runs the phases that are left of an open cycle; where none is open it makes nothing. Answers `AllocError` where the contraction or the mirror found
-    /// no memory; the phases before it stand then.
+    /// no memory; the phases before it stand then, and the cycle is abandoned. The phase is `Idle` in either case.
     pub fn end<K: Keeps<N>>(
         &mut self,
         rt: &impl Wait,
