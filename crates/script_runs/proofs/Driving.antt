@@ -1,6 +1,7 @@
 -- What the driver's calls make are the entries of its lines, and it stands where they lead. A word that is due leads to the phase after it: `cycle`
 -- runs all eight phases, which lead from idle back to it; a word that is refused, and a `finalise`, leave the driver where it stands.
 use Rattle.std.proofs.Common.{◌≡◌, ℕ, List, [], ◌∷◌, Option, Some, None, refl, sym, ◌∙◌, ap, subst}
+use Rattle.std.specs.Prelude.{Result, Ok, Err, OnErr, OnOk}
 use Rattle.joint_model.specs.declared.names.Phase.{Phase}
 use Rattle.joint_model.specs.declared.names.Phase.TheVariants as at
 use Rattle.joint_model.specs.declared.names.PhaseWord.{PhaseWord}
@@ -147,6 +148,11 @@ left_leads at.Weakened to l = from-weakened to l
 left_leads at.Marked to l = from-marked to l
 left_leads at.Swept to l = from-swept to l
 left_leads at.Restored to l = from-restored to l
+
+-- what is so in either case of a result
+pub either_way : {A E P : Type 0} (r : Result A E) → OnOk r P → OnErr r P → P
+either_way (Ok a) ok err = ok
+either_way (Err e) ok err = err
 
 -- the phases that were left
 pub drives_left : (old new : Progress) (index : ℕ) → RunsWords old new index (phases_left old.phase) → DrivesLeft old new index

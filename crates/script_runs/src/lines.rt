@@ -144,7 +144,8 @@ pub(crate) fn drive_line<N: OrderName, K: Keeps<N>>(
     Ok(())
 }
 
-/// Makes the phases that are left of an open cycle, on the driver's last line; it is idle then. Answers `AllocError` where there is no memory.
+/// Makes the phases that are left of an open cycle, on the driver's last line. Answers `AllocError` where there is no memory: the cycle is abandoned then. The
+/// driver is idle in either case, so that nobody waits for the end of a cycle that has none.
 pub(crate) fn drive_left<N: OrderName, K: Keeps<N>>(
     rt: &impl Wait,
     alloc: Global,
@@ -154,7 +155,7 @@ pub(crate) fn drive_left<N: OrderName, K: Keeps<N>>(
 ) -> Result<(), AllocError>
     requires index { line_of driver.old ≤ last }
     ensures index { line_of driver.new ≤ last }
-    ensures idle { OnOk result (driver.new.phase ≡ Idle) }
+    ensures idle { driver.new.phase ≡ Idle }
     ensures ok { OnOk result (DrivesLeft driver.old driver.new last) }
 {
     driver.end(rt, alloc, shared, last)
