@@ -10,3 +10,4 @@ pub mod Restored
 pub mod Endings
 pub mod Refusals
 pub mod Composed
+pub mod Gapped
