@@ -19,7 +19,7 @@ use Rattle.bridge_cycle.proofs.Making.{append_nil, runs_more}
 use Rattle.bridge_cycle.proofs.Turned.{last_snoc}
 
 -- where a phase's word leads
-leads_one : (p q : Phase) (w : PhaseWord) (next : Phase) → next_phase p w ≡ Some next → LeadTo p (w ∷ []) q → q ≡ next
+pub leads_one : (p q : Phase) (w : PhaseWord) (next : Phase) → next_phase p w ≡ Some next → LeadTo p (w ∷ []) q → q ≡ next
 leads_one p q w next e l = l.2 ∙ some-same l.0 next (sym l.1 ∙ e)
 
 -- what is left before a phase and after it, but for the last one

@@ -11,3 +11,4 @@ pub mod Endings
 pub mod Refusals
 pub mod Abandoned
 pub mod Composed
+pub mod Gapped

@@ -1,4 +1,5 @@
 pub mod Progress
+pub mod Gaps
 pub mod Contracting
 pub mod Handles
 pub mod Held

@@ -12,6 +12,7 @@
 //       snap, contract, mirror, weaken,
 //       mark, sweep, restore, resolve                one phase; refused where it isn't its turn
 //       cycle                                        all eight
+//       run_gap                                      all eight, and between two of them somebody else has a turn
 //       line                                         a script line of `c`: a phase word, which makes an entry also where it is refused, or `finalise`
 //       end                                          what is left of an open cycle
 //       hear, tell                                   what other callers know, and what they are told
@@ -28,10 +29,12 @@
 
 mod driver;
 mod ending;
+mod gaps;
 mod handles;
 mod laws;
 mod opening;
 mod words;
 
 pub use driver::{Driver, DriverFault};
+pub use gaps::{Gap, run_gap};
 pub use laws::a_graphs_contraction_is_its_dead_parts;

@@ -35,8 +35,8 @@ fn next_phase(phase: Phase, word: PhaseWord) -> Option<Phase>
     }
 }
 
-// The word of the next phase.
-fn next_word(phase: Phase) -> PhaseWord
+/// The word of the next phase.
+pub(crate) fn next_word(phase: Phase) -> PhaseWord
     ensures { result ≡ next_word phase }
 {
     match phase {
@@ -52,8 +52,8 @@ fn next_word(phase: Phase) -> PhaseWord
 }
 
 impl<N: OrderName> Driver<N> {
-    // Runs one phase, in the phase in which its word is due.
-    fn run<K: Keeps<N>>(
+    /// Runs one phase, in the phase in which its word is due.
+    pub(crate) fn run<K: Keeps<N>>(
         &mut self,
         rt: &impl Wait,
         alloc: Global,
