@@ -11,7 +11,6 @@ use Rattle.bridge_cycle.specs.Gaps.{IsInGap, StopsInGaps}
 use Rattle.bridge_cycle.specs.Progress.{EndsWithReply, LeadTo, Progress, RunsWords}
 use Rattle.bridge_cycle.specs.Words.{Lacks, next_word}
 use Rattle.bridge_cycle.proofs.Composed.{leads_one, runs_nothing, runs_on}
-use Rattle.bridge_cycle.proofs.Making.{append_nil}
 
 -- the phases of a cycle that are to come
 abbrev pub to_come : Phase → List PhaseWord
@@ -114,7 +113,10 @@ gaps_stop old mid new index gaps w m is lacks =
         left = left.0;
         all = m.all ∙ ap (λ ws. m.run ++ ws) (left.1 ∙ ap (λ v. v ∷ left.0) (sym is));
         takes = lacks.takes;
-        runs = subst (λ (ws : List PhaseWord). RunsWords old new index ws) (append_nil m.run) (runs_on old mid new index m.run [] m.runs lacks.runs);
+        before = mid;
+        runs = m.runs;
+        gives_up = lacks.gives_up;
+        idle = lacks.idle;
       };
       each = m.each;
     }

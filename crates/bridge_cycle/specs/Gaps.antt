@@ -13,7 +13,7 @@ gap_phases = at.Snapped ∷ at.Contracted ∷ at.Mirrored ∷ at.Weakened ∷ at
 abbrev pub IsInGap : ℕ → Phase → Type 0
 IsInGap n phase = slice_get gap_phases n ≡ Some phase
 
--- the driver ran the first of these phases, each with its gap, and stands before one that found no memory
+-- the driver ran the first of these phases, each with its gap; the next one found no memory, and so the driver is idle
 pub record StopsInGaps (old new : Progress) (index : ℕ) (ws : List PhaseWord) (gaps : ℕ) : Type 0 where
   pub stops : StopsForMemory old new index ws
   pub each : gaps ≡ length stops.run

@@ -29,7 +29,7 @@ pub trait Gap<N: OrderName, K: Keeps<N>> {
 
 /// Runs all eight phases of a cycle, as [`Driver::cycle`] does, and after each but the last has `between` do what it does in that gap. Answers
 /// `CycleOpen` exactly where the phase isn't `Idle`, and then no gap comes; and `OutOfMemory` where a phase found no memory, which is the snapshot, the
-/// contraction or the mirror: the phases before it stand then, each with its gap, and the driver is in the last one's phase.
+/// contraction or the mirror: the phases before it stand then, each with its gap; after the snapshot's the cycle is abandoned, and the phase is `Idle`.
 pub fn run_gap<N: OrderName, K: Keeps<N>, G: Gap<N, K>>(
     rt: &impl Wait,
     alloc: Global,
