@@ -11,8 +11,6 @@
 #[cfg(test)]
 mod desks;
 #[cfg(test)]
-mod gates;
-#[cfg(test)]
 mod memory;
 #[cfg(test)]
 mod readers;
@@ -22,5 +20,3 @@ mod rooms;
 mod runs;
 #[cfg(test)]
 mod threads;
-#[cfg(test)]
-mod told;
