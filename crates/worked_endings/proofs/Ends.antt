@@ -1,5 +1,5 @@
 -- Each of these lists is refused at its last entry: what the definition promises of it is none of the replies that it allows, or an end that isn't there.
-use Rattle.std.proofs.Common.{ℕ, inl, inr, List, [], ◌∷◌, None, refl, nat_eq, arith}
+use Rattle.std.proofs.Common.{◌≡◌, ℕ, inl, inr, true, List, [], ◌∷◌, None, refl, nat_eq, arith}
 use Rattle.std.specs.Prelude.{Contains}
 use Rattle.joint_model.specs.declared.events.Reply.{Reply}
 use Rattle.joint_model.specs.declared.events.Reply.TheVariants as says
@@ -7,7 +7,9 @@ use Rattle.joint_model.specs.declared.names.Thread.TheVariants.{M, P}
 use Rattle.joint_model.specs.declared.lines.Act.TheVariants as act
 use Rattle.joint_model.specs.declared.events.Op.TheVariants as op
 use Rattle.joint_model.specs.Told.{Noted, nothing}
-use Rattle.joint_laws.specs.AfterwardsLaws.{ReadsObject, ReadsPeer, ResolveFrees, SweepFrees, reading_at}
+use Rattle.joint_model.specs.Readers.{is_aside}
+use Rattle.joint_laws.specs.AfterwardsLaws.{IsGoneAfter, ReadsObject, ReadsPeer, ResolveFrees, SweepFrees, reading_at}
+use Rattle.run_laws.specs.Final.{FreedReadsAreGone}
 use Rattle.history_tests.proofs.Reaching.{member}
 use Rattle.history_tests.proofs.Telling.{same}
 use Rattle.worked_histories.specs.Notes.{note, var, cell_no, name_no, object_no, peer_no}
@@ -29,6 +31,10 @@ module _ (reply : Reply) where
   reads : ReadsObject (reading_at (read_after reply) 3).managed.managed read 1
   reads = record { cell = 0; reads = refl; target = refl }
 
+  -- a read that isn't set aside and has none of the allowed replies
+  refused : (is_aside read ≡ true → ⊥) → (IsGoneAfter (reading_at (read_after reply) 3).managed.managed (M 1) 1 reply → ⊥) → FreedReadsAreGone (read_after reply) → ⊥
+  refused aside allowed f = elim (f 2 3 1 1 read freed (omega arith) refl reads) [ inl a ↦ aside a | inr w ↦ allowed w ]
+
   abbrev weak_read : Noted
   weak_read = note 3 (P 1) 4 (op.Line (act.WRead (var 1) (name_no 0))) reply None nothing
 
@@ -40,9 +46,9 @@ module _ (reply : Reply) where
 
 pub reads_refused : AreReadsRefused
 reads_refused = record {
-  object = λ f. elim (f 2 3 1 1 (read (says.M (object_no 1))) (freed (says.M (object_no 1))) (omega arith) refl (reads (says.M (object_no 1)))) [ inl a ↦ cc | inr (inl g) ↦ cc | inr (inr (inl p)) ↦ (let e = p.replies in cc) | inr (inr (inr l)) ↦ (let e = l.replies in cc) ];
-  unfilled_pin = λ f. elim (f 2 3 1 1 (read (says.Pinned (object_no 1))) (freed (says.Pinned (object_no 1))) (omega arith) refl (reads (says.Pinned (object_no 1)))) [ inl a ↦ cc | inr (inl g) ↦ cc | inr (inr (inl p)) ↦ (let e = p.pinned in cc) | inr (inr (inr l)) ↦ (let e = l.replies in cc) ];
-  emptied = λ f. elim (f 2 3 1 1 (read says.Empty) (freed says.Empty) (omega arith) refl (reads says.Empty)) [ inl a ↦ cc | inr (inl g) ↦ cc | inr (inr (inl p)) ↦ (let e = p.replies in cc) | inr (inr (inr l)) ↦ (let e = l.replies in cc) ];
+  object = refused (says.M (object_no 1)) (λ a. cc) (λ w. elim w [ inl g ↦ cc | inr (inl p) ↦ (let e = p.replies in cc) | inr (inr l) ↦ (let e = l.replies in cc) ]);
+  unfilled_pin = refused (says.Pinned (object_no 1)) (λ a. cc) (λ w. elim w [ inl g ↦ cc | inr (inl p) ↦ (let e = p.pinned in cc) | inr (inr l) ↦ (let e = l.replies in cc) ]);
+  empty = refused says.Empty (λ a. cc) (λ w. elim w [ inl g ↦ cc | inr (inl p) ↦ (let e = p.replies in cc) | inr (inr l) ↦ (let e = l.replies in cc) ]);
   peer = λ f. let e = f 2 3 1 (weak_read (says.P (peer_no 1))) (swept (says.P (peer_no 1))) (omega arith) refl (reads_weakly (says.P (peer_no 1))) in cc;
   unset_name = λ f. let e = f 2 3 1 (weak_read says.Unset) (swept says.Unset) (omega arith) refl (reads_weakly says.Unset) in cc;
 }

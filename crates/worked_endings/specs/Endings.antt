@@ -30,11 +30,12 @@ weakly_read_after reply =
     ∷ note 3 (P 1) 4 (op.Line (act.WRead (var 1) (name_no 0))) reply None nothing
     ∷ []
 
--- what was freed answers gone, and nothing else: neither itself, nor a pin that isn't filled, nor that the cell is unset by the list as it stands
+-- a read of a freed object answers neither the object, nor a pin that isn't filled, nor that a variable is empty; a weak read of a freed peer answers neither
+-- the peer nor that its name is unset
 pub record AreReadsRefused : Type 0 where
   pub object : FreedReadsAreGone (read_after (says.M (object_no 1))) → ⊥
   pub unfilled_pin : FreedReadsAreGone (read_after (says.Pinned (object_no 1))) → ⊥
-  pub emptied : FreedReadsAreGone (read_after says.Empty) → ⊥
+  pub empty : FreedReadsAreGone (read_after says.Empty) → ⊥
   pub peer : FreedPeersAreGone (weakly_read_after (says.P (peer_no 1))) → ⊥
   pub unset_name : FreedPeersAreGone (weakly_read_after says.Unset) → ⊥
 
