@@ -14,7 +14,8 @@
 //    prints a script back, and `write_refusal` writes the line that names a fault.
 // 2. `Script::line` gives the lines, counted from 1, to whoever runs them: each is a thread and an `Act` of
 //    `joint_model`, and lawful there. A worker calls `Turnstile::pass` before each.
-// 3. `add_act`, `add_var` and their like put the words of a line behind a `Line` of `byte_streams`, for a report that has the same words.
+// 3. `take_act`, `var`, `number` and their like read such words back, from the `Words` of a line that is a `Stretch` of its text.
+// 4. `add_act`, `add_var` and their like put the words of a line behind a `Line` of `byte_streams`, for a report that has the same words.
 //
 // A `Script` is made by `parse` or of lines that are one, never changes afterwards, and is dropped by the program when it ends.
 //
@@ -47,9 +48,14 @@ mod words;
 pub use acts::{add_act, add_pass, add_with_number, add_with_var};
 pub use faults::{Cause, ScriptError, ScriptFault};
 pub use laws::{lines_fit_table, texts_tell_scripts};
+pub use lines::take_act;
 pub use names::{add_kind, add_peer_static, add_phase_word, add_sort, add_var};
 pub use printing::script_text;
 pub use reading::read_script;
 pub use refusals::write_refusal;
 pub use scripts::{MOST_LINES, Script, parse};
+pub use stretches::Stretch;
 pub use turnstiles::{FreeTurn, Turnstile};
+pub use words::{
+    Words, first_place, first_place_far, is_same, lettered, number, peer_static, thread, var,
+};

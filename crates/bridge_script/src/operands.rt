@@ -1,7 +1,8 @@
 // The operands of a line: what the words behind its operation stand for, each at its place.
 
-ghost use Rattle.std.specs.Prelude.{◌≡◌, ◌<◌, ◌≤◌, ◌++◌, [], ◌∷◌, length};
-ghost use Rattle.bridge_script.specs.Operands.{ReadsAt, ReadsPlaces, Notes, earlier};
+ghost use Rattle.std.specs.Prelude.{◌≡◌, ◌<◌, ◌≤◌, ◌++◌, ℕ, List, [], ◌∷◌, length, Some, IfSome};
+ghost use Rattle.bridge_script.specs.declared.operands.Operand.{Operand};
+ghost use Rattle.bridge_script.specs.Operands.{ReadsAt, ReadsPlaces, Notes, StandAll, texts, earlier};
 
 use crate::faults::Cause;
 use crate::grammar::Place;
@@ -188,4 +189,20 @@ pub fn read_operands(places: &[Place], words: &mut Words) -> Result<Operands, Ca
         Some(cause) => Err(cause),
         None => Ok(operands),
     }
+}
+
+/// Takes the words at these places, and answers what they stand for. None where the words that are left don't begin with such words.
+pub fn take_operands(places: &[Place], words: &mut Words) -> Option<Operands>
+    requires { length places.now ≤ 5 }
+    ensures sound { IfSome result (λ xs. StandAll places.now xs × (words.old ≡ texts xs ++ words.new)) }
+    ensures complete { (xs : List Operand) (rest : List (List ℕ)) → StandAll places.now xs → words.old ≡ texts xs ++ rest → (result ≡ Some xs) × (words.new ≡ rest) }
+{
+    let mut operands = Operands::new();
+    for place in places {
+        let Ok(operand) = operand_at(*place, words.next()?) else {
+            return None;
+        };
+        operands.push(operand);
+    }
+    Some(operands)
 }

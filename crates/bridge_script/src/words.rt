@@ -115,8 +115,8 @@ fn run_before(bytes: &[u8], byte: u8) -> usize
     }
 }
 
-// The number behind a letter, below a limit: `g15`, where the letter is `g` and the limit at least 16.
-fn lettered(word: &[u8], letter: u8, below: u64) -> Option<u64>
+/// The number behind a letter, below a limit: `g15`, where the letter is `g` and the limit at least 16.
+pub fn lettered(word: &[u8], letter: u8, below: u64) -> Option<u64>
     ensures { MatchOption result ((n : ℕ) → n < below → letter ∷ decimal n ≢ word.now) (λ n. (n < below) × (letter ∷ decimal n ≡ word.now)) }
 {
     if word.is_empty() || word[0] != letter {
@@ -263,6 +263,17 @@ impl<'a> Words<'a> {
         ensures { MatchOption result ((t : Thread) (rest : List (List ℕ)) → IsThread t → self.old ≢ thread_text t ∷ rest) (λ t. IsThread t × (self.old ≡ thread_text t ∷ self.new)) }
     {
         thread(self.next()?)
+    }
+
+    /// The words that are left, once more: what is taken of the one leaves the other as it is.
+    #[inline(always)]
+    pub fn fork(&self) -> Words<'a>
+        ensures { result ≡ self.now }
+    {
+        Words {
+            left: self.left.behind(0),
+            done: self.done,
+        }
     }
 
     /// Whether no word is left.
