@@ -8,5 +8,6 @@ pub mod Linked
 pub mod Swept
 pub mod Marked
 mod Gone
+mod FieldCounts
 pub mod Tested
 mod Cases

@@ -1,6 +1,6 @@
 -- A heap whose objects are rows that can be marked: the heap of the definition, and beside it marks, links and references. (This
 -- project's own.)
-use Rattle.std.specs.Prelude.{◌≡◌, ℕ, ◌+◌, ◌≤◌, ◌⊎◌, ◌↔◌, Bool, true, false, List, [], ◌∷◌, ◌++◌, map, length, Option, Some, Contains, slice_get}
+use Rattle.std.specs.Prelude.{◌≡◌, ℕ, ◌+◌, ◌*◌, ◌≤◌, ◌⊎◌, ◌↔◌, Bool, true, false, List, [], ◌∷◌, ◌++◌, map, length, sum, Option, Some, Contains, slice_get}
 use Rattle.joint_model.specs.Components.{Rises}
 use Rattle.joint_model.specs.PeerReplay.{Refers}
 use Rattle.joint_model.specs.Heaps.{Heap, IsLive, opening_heap}
@@ -59,6 +59,11 @@ pub record AreReferences (rows : List Seen) (refs : List Reference) (follows : B
 -- the first n objects are freed
 abbrev pub AreGone : ℕ → List ℕ → Type 0
 AreGone n freed = (x : ℕ) → 1 ≤ x → x ≤ n → Contains freed x
+
+-- the rows have so many fields together, and none has more than 255
+pub record IsFieldCount (n : ℕ) (rows : List Seen) : Type 0 where
+  pub exact : n ≡ sum (map (λ (r : Seen). length r.fields) rows)
+  pub most : n ≤ 255 * length rows
 
 -- the heap is sound, where its flags are which rows stand, and the references are linked
 pub record IsRowHeap (rows : List Seen) (freed : List ℕ) (vars statics : List (Option ℕ)) (refs : List Reference) (follows : Bool) (room freed_capacity capacity : ℕ) : Type 0 where

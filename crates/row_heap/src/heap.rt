@@ -1,6 +1,6 @@
 // The heap of one side: its objects as rows, and the operations that both sides have.
 
-ghost use Rattle.std.specs.Prelude.{◌≡◌, ℕ, ◌+◌, ◌<◌, ◌≤◌, ◌↔◌, ◌++◌, [], ◌∷◌, List, map, Contains, All, Option, Some, None, IsTrue, true, IfOk, OnOk, OnErr, IfSome, length, vec_capacity};
+ghost use Rattle.std.specs.Prelude.{◌≡◌, ℕ, ◌+◌, ◌<◌, ◌≤◌, ◌↔◌, ◌++◌, [], ◌∷◌, List, map, Contains, All, Option, Some, None, IsTrue, true, IfOk, OnOk, OnErr, IfSome, length, sum, vec_capacity};
 ghost use Rattle.std.specs.Option.{ForSome};
 ghost use Rattle.joint_model.specs.Heaps.{Heap, MOST, IsMade, IsLive, InSlot, slot, fields_of, is_full, opening_heap, next_number, with_object, with_var, with_static, with_field, with_freed};
 ghost use Rattle.heap_rules.specs.Tidy.{IsTidy, CanFree};
@@ -29,17 +29,19 @@ pub struct RowHeap<N: Number> {
     pub(crate) follows: bool,
     // How many of the first objects are freed, so that no pass looks at them again.
     pub(crate) gone: u32,
+    // How many fields all objects that were made have together.
+    pub(crate) fields: u32,
 }
 
 impl<N: Number> Model for RowHeap<N> {
     ghost use Rattle.std.specs.Prelude.{map, vec_capacity};
-    ghost use Rattle.row_heap.specs.Rows.{HeapRows, rows_of, AreGone, IsRowHeap};
+    ghost use Rattle.row_heap.specs.Rows.{HeapRows, rows_of, AreGone, IsFieldCount, IsRowHeap};
 
     ghost Value = { HeapRows };
 
     ghost view = { λ s. rows_of s.rows (map N.number s.freed.items) s.vars s.statics s.references.items s.follows s.ready };
 
-    ghost invariant = { λ s. IsRowHeap s.rows (map N.number s.freed.items) s.vars s.statics s.references.items s.follows s.ready (vec_capacity s.freed) (vec_capacity s.references) × AreGone s.gone (map N.number s.freed.items) };
+    ghost invariant = { λ s. IsRowHeap s.rows (map N.number s.freed.items) s.vars s.statics s.references.items s.follows s.ready (vec_capacity s.freed) (vec_capacity s.references) × AreGone s.gone (map N.number s.freed.items) × IsFieldCount s.fields s.rows };
 }
 
 impl<N: Number> RowHeap<N> {
@@ -58,6 +60,7 @@ impl<N: Number> RowHeap<N> {
             ready: 0,
             follows: false,
             gone: 0,
+            fields: 0,
         }
     }
 
@@ -81,6 +84,13 @@ impl<N: Number> RowHeap<N> {
         ensures { result + length self.now.heap.freed ≡ length self.now.heap.fields }
     {
         (self.rows.made() - self.freed.len()) as u32
+    }
+
+    /// How many fields all objects have together that were ever made, freed ones too.
+    pub fn fields_made(&self) -> u32
+        ensures { result ≡ sum (map length self.now.heap.fields) }
+    {
+        self.fields
     }
 
     /// Whether object `x` was made and isn't freed.
@@ -167,6 +177,7 @@ impl<N: Number> RowHeap<N> {
         let made = self.rows.made();
         self.freed.reserve(made + 1 - self.freed.len())?;
         self.rows.add(self.alloc, fields)?;
+        self.fields += fields as u32;
         Ok(made as u32 + 1)
     }
 

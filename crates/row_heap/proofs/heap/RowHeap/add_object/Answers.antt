@@ -1,8 +1,9 @@
 -- The further row stands last, and the list of freed objects has room for it too.
-use Rattle.std.proofs.Common.{rules, ◌≡◌, ◌∙◌, ◌+◌, ◌<◌, ◌≤◌, ap, map, length, refl, arith, vec_capacity, length-append}
-use Rattle.std.proofs.lemmas.List.{length-map}
+use Rattle.std.proofs.Common.{rules, ◌≡◌, ◌∙◌, ◌+◌, ◌<◌, ◌≤◌, ap, map, length, refl, arith, None, vec_capacity, length-append}
+use Rattle.std.proofs.lemmas.List.{length-map, length-replicate}
 use Rattle.joint_model.specs.Heaps.{MOST}
 use Rattle.heap_rules.proofs.Sound.{IsLive-last}
+use Rattle.row_heap.proofs.FieldCounts.{count-added}
 use Rattle.row_heap.proofs.Gone.{gone-same}
 use Rattle.row_heap.proofs.Sound.{IsRowHeap-added, seen-added}
 use Rattle.row_heap.proofs.heap.RowHeap.add_object.Goals as goal
@@ -15,7 +16,7 @@ invariant_of-self-2 g c =
     let few : length old.rows < MOST = omega (arith, seen, len) in
     let space : length old.rows + 1 ≤ vec_capacity c.reserve.new.self =
     omega (arith, c.in_ok-reserve.ensures.ok, c.reserve.ensures.len, c.made-made.ensures, c.len.ensures, old.freed.ok, len, length-map old.freed.items g.N.Number.number, c.self.invariant.0.sound.flags.count) in
-    (IsRowHeap-added _ _ _ _ _ _ _ _ _ _ _ _ c.args.fields _ c.self.invariant.0 few space c.in_ok-add.ensures.ok refl refl refl (ap (map g.N.Number.number) c.reserve.ensures.items), gone-same _ _ _ c.self.invariant.1 (ap (map g.N.Number.number) c.reserve.ensures.items))
+    (IsRowHeap-added _ _ _ _ _ _ _ _ _ _ _ _ c.args.fields _ c.self.invariant.0 few space c.in_ok-add.ensures.ok refl refl refl (ap (map g.N.Number.number) c.reserve.ensures.items), gone-same _ _ _ c.self.invariant.1 (ap (map g.N.Number.number) c.reserve.ensures.items), count-added _ _ _ _ _ c.in_ok-add.ensures.ok (length-replicate c.args.fields None) (omega (arith, c.ranges.fields)) c.self.invariant.2)
 
 pub returns-clause-live : goal.returns-clause-live
 returns-clause-live g c =
@@ -25,10 +26,10 @@ returns-clause-live g c =
     IsLive-last _ _ _ c.self.invariant.0.sound.tidy (omega (arith, c.made-made.ensures, len)) (omega (arith, more, len, length-map c.add.new.self (λ r. r.fields))) (ap (map g.N.Number.number) c.reserve.ensures.items)
 
 pub invariant_of-self : goal.invariant_of-self
-invariant_of-self g c = (search rules, gone-same _ _ _ c.self.invariant.1 (ap (map g.N.Number.number) c.reserve.ensures.items))
+invariant_of-self g c = (search rules, gone-same _ _ _ c.self.invariant.1 (ap (map g.N.Number.number) c.reserve.ensures.items), c.self.invariant.2)
 
 pub invariant_of-self-in_err-add : goal.invariant_of-self-in_err-add
-invariant_of-self-in_err-add g c = (search rules, gone-same _ _ _ c.self.invariant.1 (ap (map g.N.Number.number) c.reserve.ensures.items))
+invariant_of-self-in_err-add g c = (search rules, gone-same _ _ _ c.self.invariant.1 (ap (map g.N.Number.number) c.reserve.ensures.items), rw c.in_err-add.ensures.err c.self.invariant.2)
 
 pub overflow_add-made : goal.overflow_add-made
 overflow_add-made g c = omega (arith, c.made-made.ensures, rw (← c.self.view_is) at c.requires, length-map c.self.inside.rows (λ r. r.fields))
@@ -49,3 +50,6 @@ returns-clause-number g c = rw (← c.self.view_is) (omega (arith, c.made-made.e
 
 pub returns-clause-ok : goal.returns-clause-ok
 returns-clause-ok g c = seen-added _ _ _ _ _ _ _ _ _ c.args.self.now c.args.fields _ c.self.view_is c.in_ok-add.ensures.ok refl (ap (map g.N.Number.number) c.reserve.ensures.items)
+
+pub overflow_add-self : goal.overflow_add-self
+overflow_add-self g c = omega (arith, c.self.invariant.2.most, rw (← c.self.view_is) at c.requires, length-map c.self.inside.rows (λ r. r.fields))

@@ -3,6 +3,7 @@ use Rattle.std.proofs.Common.{◌∙◌, ap, map}
 use Rattle.std.proofs.lemmas.List.{map-append}
 use Rattle.heap_rules.proofs.Sound.{IsUp-live}
 use Rattle.row_heap.proofs.Gone.{gone-more}
+use Rattle.row_heap.proofs.FieldCounts.{count-fields}
 use Rattle.row_heap.proofs.Freed.{IsRowHeap-freed, seen-freed}
 use Rattle.row_heap.proofs.Swept.{marks-freed}
 use Rattle.row_heap.proofs.Sound.{stand-room, rest-freed}
@@ -18,6 +19,7 @@ invariant_of-self g c = (
   IsRowHeap-freed _ _ _ _ (map g.N.Number.number c.args.xs.now) _ _ _ _ _ _ _ _ c.args.self.now c.self.view_is c.self.invariant.0 c.free_rows.ensures.rows c.requires.can c.requires.ends
       (ap (map g.N.Number.number) c.free_rows.ensures.freed ∙ map-append g.N.Number.number c.self.inside.freed.items c.args.xs.now) c.free_rows.ensures.capacity,
   gone-more _ _ _ _ c.self.invariant.1 (ap (map g.N.Number.number) c.free_rows.ensures.freed ∙ map-append g.N.Number.number c.self.inside.freed.items c.args.xs.now),
+  count-fields _ _ _ c.free_rows.ensures.rows.fields c.self.invariant.2,
 )
 
 pub returns-clause-heap : goal.returns-clause-heap

@@ -1,8 +1,9 @@
 -- The reference stands last, and its row says so.
-use Rattle.std.proofs.Common.{sym, ap, arith}
+use Rattle.std.proofs.Common.{refl, sym, ap, arith}
 use Rattle.row_heap.specs.Rows.{HeapRows}
 use Rattle.row_heap.specs.Places.{Seen}
 use Rattle.row_heap.specs.declared.references.Reference.{Reference}
+use Rattle.row_heap.proofs.FieldCounts.{count-set}
 use Rattle.row_heap.proofs.Linked.{IsRowHeap-pushed, seen-pushed}
 use Rattle.row_heap.proofs.Walked.{stands-seen}
 use Rattle.row_heap.proofs.heap.RowHeap.push_reference.Goals as goal
@@ -19,6 +20,7 @@ invariant_of-self g c =
           (omega (arith, c.requires.room, ap (λ (v : HeapRows). v.room) c.self.view_is)) (ap (λ (q : Seen). q.first) (sym c.row.ensures)) c.push_reserved.ensures.items
           (omega (arith, c.len.ensures, c.push_reserved.ensures.len, c.self.inside.references.ok)) c.set_first.ensures c.push_reserved.ensures.capacity,
       c.self.invariant.1,
+      count-set _ _ _ c.args.from _ c.set_first.ensures refl c.self.invariant.2,
     )
 
 pub returns : goal.returns

@@ -10,6 +10,7 @@ invariant_of-self-2 g c =
           (omega (arith, c.in_ok-reserve.ensures.ok, c.reserve.ensures.len, refs.ok))
           (omega (arith, c.if-additional-len.false, c.len-len.ensures, refs.ok, c.self.invariant.0.references.most)),
       c.self.invariant.1,
+      c.self.invariant.2,
     )
 
 pub overflow_sub-len : goal.overflow_sub-len
@@ -20,6 +21,7 @@ invariant_of-self g c = (
   IsRowHeap-roomy _ _ _ _ _ _ _ _ c.self.inside.ready _ _ _ c.self.invariant.0 c.reserve.ensures.items
       (omega (arith, ap length c.reserve.ensures.items, c.self.invariant.0.references.space, c.reserve.ensures.capacity)) c.self.invariant.0.references.most,
   c.self.invariant.1,
+  c.self.invariant.2,
 )
 
 pub returns-clause-ok : goal.returns-clause-ok

@@ -9,4 +9,5 @@ invariant_of-self g c = (
     references = c.self.invariant.0.references;
   },
   c.self.invariant.1,
+  c.self.invariant.2,
 )

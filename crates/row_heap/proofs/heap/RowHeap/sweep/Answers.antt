@@ -6,6 +6,7 @@ use Rattle.row_heap.specs.Marks.{AreWhite}
 use Rattle.row_heap.specs.Places.{row_at}
 use Rattle.row_heap.specs.Rows.{HeapRows}
 use Rattle.row_heap.proofs.Gone.{fallen, gone-made, gone-more}
+use Rattle.row_heap.proofs.FieldCounts.{count-fields}
 use Rattle.row_heap.proofs.Freed.{IsRowHeap-freed, seen-freed}
 use Rattle.row_heap.proofs.Swept.{AreWhite-swept, seen-swept, swept-end, white-stands, white-can_free, white-none_refers}
 use Rattle.row_heap.proofs.Sound.{rows-most, stand-room}
@@ -22,7 +23,7 @@ invariant_of-self g c =
     let v = c.args.self.now in
     let s = c.sweep_rows.ensures.swept in
     let white : AreWhite v s.swept = AreWhite-swept _ _ _ _ _ _ _ _ _ _ v c.self.view_is c.self.invariant.0.sound s in
-    (IsRowHeap-freed _ _ _ _ s.swept _ _ _ _ _ _ _ _ v c.self.view_is c.self.invariant.0 s.rows (white-can_free v s.swept white c.requires.slots c.requires.shut) (white-none_refers v s.swept white c.requires.shut) s.freed c.sweep_rows.ensures.capacity, gone-more _ _ _ _ c.self.invariant.1 s.freed)
+    (IsRowHeap-freed _ _ _ _ s.swept _ _ _ _ _ _ _ _ v c.self.view_is c.self.invariant.0 s.rows (white-can_free v s.swept white c.requires.slots c.requires.shut) (white-none_refers v s.swept white c.requires.shut) s.freed c.sweep_rows.ensures.capacity, gone-more _ _ _ _ c.self.invariant.1 s.freed, count-fields _ _ _ s.rows.fields c.self.invariant.2)
 
 pub returns-clause-white : goal.returns-clause-white
 returns-clause-white g c =
