@@ -4,6 +4,7 @@ use mathlib.Core.List.{IsPrefix}
 use Rattle.joint_model.specs.declared.names.Thread.{Thread}
 use Rattle.joint_model.specs.declared.names.Thread.TheVariants.{M}
 use Rattle.joint_model.specs.declared.events.Entry.{Entry}
+use Rattle.joint_model.specs.declared.lists.Holding.TheVariants.{Every}
 use Rattle.joint_model.specs.Control.{doing_at, IsDone}
 use Rattle.joint_model.specs.HistoryLines.{caller_line}
 use Rattle.joint_model.specs.Lines.{IsThread}
@@ -25,7 +26,7 @@ pub record Pass : Type 0 where
 
 -- no other thread reads cells
 abbrev pub no_reads : Stock
-no_reads = record { entries = []; spare = 0 }
+no_reads = record { entries = []; spare = 0; holding = Every }
 
 abbrev pub reads_of : Thread → Stock → Stock
 reads_of (M n) s = s

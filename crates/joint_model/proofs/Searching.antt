@@ -1,22 +1,26 @@
--- The entry with a number among leaders and their followers, where the numbers are in order.
-use Rattle.std.proofs.Common.{◌≡◌, ◌≢◌, ℕ, zero, suc, ◌+◌, ◌-◌, ◌^◌, ◌<◌, ◌≤◌, List, [], ◌∷◌, ◌++◌, length, take, drop, sum_by, slice_index_or, slice_set, arith, subst, sym, ap, ◌∙◌}
-use Rattle.std.specs.Prelude.{All, Contains}
+-- The entry at a place of leaders and their followers, and the one with a number, where the numbers are in order. Both are found from the leader
+-- before it: what that one leads stands in the list right there.
+use Rattle.std.proofs.Common.{◌≡◌, ◌≢◌, inl, inr, Option, Some, None, slice_get, ℕ, zero, suc, ◌+◌, ◌-◌, ◌^◌, ◌<◌, ◌≤◌, List, [], ◌∷◌, ◌++◌, length, take, drop, sum_by, slice_index_or, slice_set, arith, subst, sym, ap, ◌∙◌}
+use Rattle.std.specs.Prelude.{All, Contains, MatchOption}
 use Rattle.std.specs.Ordering.{is_lt, nat_cmp, ordering_index}
 use Rattle.std.specs.declared.cmp.Ordering.TheVariants.{Less, Equal, Greater}
 use Rattle.std.specs.List.Sorted.{IsNonDecreasingBy, IsPartitionPoint, IsSortedBy}
 use Rattle.std.proofs.lemmas.Cmp.{nat_cmp_total}
-use Rattle.std.proofs.lemmas.List.{append_assoc, length-drop, length-take-le, take-append-drop, take_all, take_more, take_more_set, length-set, get_or-drop, get_or-take, get_or_default}
+use Rattle.std.proofs.lemmas.List.{append_assoc, length-append, length-drop, nil_from_length, length-take-le, take-append-drop, take_all, take_more, take_more_set, length-set, get_or-drop, get_or-take, get_or_default}
+use Rattle.std.proofs.lemmas.Bool.{cases_lt}
+use Rattle.std.proofs.lemmas.Option.{same_Some, slice_get_cases, slice_get_past}
 use Rattle.std.proofs.lemmas.List.Elements.{All-nil, All-cons, All-append, All-contains, Contains-append_left, Contains-append_right}
 use Rattle.std.proofs.lemmas.List.Sorted.{searchable_from_sorted}
 use Rattle.std.proofs.lemmas.List.Sums.{sum_by-append, sum_by-cons, sum_by_more}
 use Rattle.joint_model.specs.declared.names.HNum.{HNum}
 use Rattle.joint_model.specs.declared.events.Entry.{Entry}
 use Rattle.joint_model.specs.declared.leaders.Leader.{Leader}
-use Rattle.joint_model.specs.Leaders.{follower_of, followers_of, spelled, AreFollowed, Starts}
+use Rattle.joint_model.specs.Leaders.{follower_of, followers_of, led, spelled, AreFollowed, Starts}
 use Rattle.joint_model.specs.Merged.{Ascends}
-use Rattle.joint_model.proofs.Members.{Contains-here, Contains-there}
+use Rattle.joint_model.proofs.Deciding.{none_some}
+use Rattle.joint_model.proofs.Members.{Contains-at, Contains-here}
 use Rattle.joint_model.proofs.Merging.{compared, not-less}
-use Rattle.joint_model.proofs.Spelling.{spelled-append}
+use Rattle.joint_model.proofs.Spelling.{length-followers, spelled-append, spelled_length}
 
 -- how many followers leaders have
 abbrev followers_in : List Leader → ℕ
@@ -44,68 +48,114 @@ starts-at n [] k d s l = absurd (omega (arith, l))
 starts-at n (m ∷ ls) zero d s l = s.0 ∙ omega arith
 starts-at n (m ∷ ls) (suc k) d s l = starts-at (n + m.followers) ls k d s.1 (omega (arith, l)) ∙ omega (arith, sum_by-cons (λ (x : Leader). x.followers) m (take k ls))
 
--- what stands before a leader, its own followers, and what stands after them
-pub record Around (ls : List Leader) (hs : List HNum) (k : ℕ) (l : Leader) : Type 0 where
+-- a leader with what stands before it, and what stands after those that follow it
+record Around (ls : List Leader) (hs : List HNum) (k : ℕ) (l : Leader) : Type 0 where
   pub leader : (d : Leader) → slice_index_or ls k d ≡ l
   pub within : k < length ls
-  pub start : followers_in (take k ls) + l.followers ≤ length hs
-  pub own : length (take l.followers (drop (followers_in (take k ls)) hs)) ≡ l.followers
-  pub split : spelled ls hs ≡ spelled (take k ls) (take (followers_in (take k ls)) hs) ++ l.entry
-      ∷ (followers_of l.entry 1 (take l.followers (drop (followers_in (take k ls)) hs)) ++ spelled (drop (k + 1) ls) (drop l.followers (drop (followers_in (take k ls)) hs)))
+  pub start : l.from + l.followers ≤ length hs
+  pub own : length (take l.followers (drop l.from hs)) ≡ l.followers
+  pub place : length (spelled (take k ls) (take l.from hs)) ≡ k + l.from
+  pub split : spelled ls hs ≡ spelled (take k ls) (take l.from hs) ++ (led l hs ++ spelled (drop (k + 1) ls) (drop l.followers (drop l.from hs)))
 
-pub around : (ls : List Leader) (hs : List HNum) (k : ℕ) (d : Leader) → AreFollowed ls hs → k < length ls → Around ls hs k (slice_index_or ls k d)
-around ls hs k d f within =
+around : (ls : List Leader) (hs : List HNum) (k : ℕ) (d : Leader) → AreFollowed ls hs → Starts 0 ls → k < length ls → Around ls hs k (slice_index_or ls k d)
+around ls hs k d f starts within =
     let l = slice_index_or ls k d in
     let s = followers_in (take k ls) in
+    let from : l.from ≡ s = starts-at 0 ls k d starts within ∙ omega arith in
     let whole : followers_in (take (k + 1) ls ++ drop (k + 1) ls) ≡ length hs = rw (take-append-drop (k + 1) ls) f in
     let parts : followers_in (take (k + 1) ls ++ drop (k + 1) ls) ≡ followers_in (take (k + 1) ls) + followers_in (drop (k + 1) ls) = sum_by-append (λ (x : Leader). x.followers) (take (k + 1) ls) (drop (k + 1) ls) in
     let more : followers_in (take (k + 1) ls) ≡ s + l.followers = sum_by_more (λ (x : Leader). x.followers) ls k d within in
-    let start : s + l.followers ≤ length hs = omega (arith, whole, parts, more) in
-    let first : s ≤ length hs = omega (arith, start) in
-    let left : length (drop s hs) ≡ length hs - s = length-drop s hs in
+    let start : l.from + l.followers ≤ length hs = omega (arith, whole, parts, more, from) in
+    let first : length (take l.from hs) ≡ l.from = length-take-le l.from hs (omega (arith, start)) in
+    let left : length (drop l.from hs) ≡ length hs - l.from = length-drop l.from hs in
+    let before : AreFollowed (take k ls) (take l.from hs) = sym from ∙ sym first in
     let leaders : ls ≡ take k ls ++ l ∷ drop (k + 1) ls =
     sym (take-append-drop (k + 1) ls) ∙ (ap (λ xs. xs ++ drop (k + 1) ls) (take_more ls k d within) ∙ append_assoc (take k ls) (l ∷ []) (drop (k + 1) ls)) in
     record {
       leader = λ e. get_or_default ls k e d within;
       within = within;
       start = start;
-      own = length-take-le l.followers (drop s hs) (omega (arith, start, left));
-      split = ap (λ xs. spelled xs hs) leaders ∙ (ap (spelled (take k ls ++ l ∷ drop (k + 1) ls)) (sym (take-append-drop s hs))
-          ∙ spelled-append (take k ls) (l ∷ drop (k + 1) ls) (take s hs) (drop s hs) (sym (length-take-le s hs first)));
+      own = length-take-le l.followers (drop l.from hs) (omega (arith, start, left));
+      place = spelled_length (take k ls) (take l.from hs) before ∙ omega (arith, first, length-take-le k ls (omega (arith, within)));
+      split = ap (λ xs. spelled xs hs) leaders ∙ (ap (spelled (take k ls ++ l ∷ drop (k + 1) ls)) (sym (take-append-drop l.from hs))
+          ∙ spelled-append (take k ls) (l ∷ drop (k + 1) ls) (take l.from hs) (drop l.from hs) before);
     }
 
--- its entry stands there
-pub stands-leader : (ls : List Leader) (hs : List HNum) (k : ℕ) (l : Leader) → Around ls hs k l → Contains (spelled ls hs) l.entry
-stands-leader ls hs k l w =
-    let before = spelled (take k ls) (take (followers_in (take k ls)) hs) in
-    let after = followers_of l.entry 1 (take l.followers (drop (followers_in (take k ls)) hs)) ++ spelled (drop (k + 1) ls) (drop l.followers (drop (followers_in (take k ls)) hs)) in
-    subst (λ es. Contains es l.entry) (sym w.split) (Contains-append_right before (l.entry ∷ after) l.entry (Contains-here l.entry after))
+-- what stands at a place of two lists, one after the other
+get-first : (xs ys : List Entry) (i : ℕ) (e : Entry) → slice_get xs i ≡ Some e → slice_get (xs ++ ys) i ≡ Some e
+get-first [] ys i e q = absurd (none_some e q)
+get-first (x ∷ xs) ys zero e q = q
+get-first (x ∷ xs) ys (suc i) e q = get-first xs ys i e q
 
-contains-follower : (e : Entry) (i : ℕ) (hs : List HNum) (k : ℕ) (d : HNum) → k < length hs → Contains (followers_of e i hs) (follower_of e (i + k) (slice_index_or hs k d))
-contains-follower e i [] k d l = absurd (omega (arith, l))
-contains-follower e i (h ∷ hs) zero d l = subst (λ n. Contains (followers_of e i (h ∷ hs)) (follower_of e n h)) (omega arith) (Contains-here (follower_of e i h) (followers_of e (suc i) hs))
-contains-follower e i (h ∷ hs) (suc k) d l =
-    subst (λ n. Contains (followers_of e i (h ∷ hs)) (follower_of e n (slice_index_or hs k d))) (omega arith)
-    (Contains-there (follower_of e (suc i + k) (slice_index_or hs k d)) (follower_of e i h) (followers_of e (suc i) hs) (contains-follower e (suc i) hs k d (omega (arith, l))))
+get-second : (xs ys : List Entry) (i : ℕ) → slice_get (xs ++ ys) (length xs + i) ≡ slice_get ys i
+get-second [] ys i = ap (slice_get ys) (omega arith)
+get-second (x ∷ xs) ys i = let next : length (x ∷ xs) + i ≡ suc (length xs + i) = omega arith in ap (slice_get (x ∷ (xs ++ ys))) next ∙ get-second xs ys i
 
--- and so do its followers
-pub stands-follower : (ls : List Leader) (hs : List HNum) (k i : ℕ) (l : Leader) (d : HNum) → Around ls hs k l → l.from ≡ followers_in (take k ls) → 1 ≤ i → i ≤ l.followers
-    → Contains (spelled ls hs) (follower_of l.entry i (slice_index_or hs (l.from + i - 1) d))
-stands-follower ls hs k i l d w from low high =
-    let s = followers_in (take k ls) in
-    let e = l.entry in
-    let own = take l.followers (drop s hs) in
-    let before = spelled (take k ls) (take s hs) in
-    let rest = spelled (drop (k + 1) ls) (drop l.followers (drop s hs)) in
-    let j = i - 1 in
-    let at : slice_index_or own j d ≡ slice_index_or hs (l.from + i - 1) d =
-    get_or-take l.followers (drop s hs) j d (omega (arith, low, high)) ∙ (get_or-drop s hs j d ∙ ap (λ n. slice_index_or hs n d) (omega (arith, from, low))) in
-    let there : Contains (followers_of e 1 own) (follower_of e (1 + j) (slice_index_or own j d)) = contains-follower e 1 own j d (omega (arith, w.own, low, high)) in
-    let same : follower_of e (1 + j) (slice_index_or own j d) ≡ follower_of e i (slice_index_or hs (l.from + i - 1) d) =
-    ap (λ n. follower_of e n (slice_index_or own j d)) (omega (arith, low)) ∙ ap (follower_of e i) at in
-    let x = follower_of e i (slice_index_or hs (l.from + i - 1) d) in
-    subst (λ es. Contains es x) (sym w.split) (Contains-append_right before (e ∷ (followers_of e 1 own ++ rest)) x
-    (Contains-there x e (followers_of e 1 own ++ rest) (Contains-append_left (followers_of e 1 own) rest x (subst (Contains (followers_of e 1 own)) same there))))
+get-follower : (e : Entry) (i : ℕ) (hs : List HNum) (k : ℕ) (d : HNum) → k < length hs → slice_get (followers_of e i hs) k ≡ Some (follower_of e (i + k) (slice_index_or hs k d))
+get-follower e i [] k d l = absurd (omega (arith, l))
+get-follower e i (h ∷ hs) zero d l = ap (λ n. Some (follower_of e n h)) (omega arith)
+get-follower e i (h ∷ hs) (suc k) d l = get-follower e (suc i) hs k d (omega (arith, l)) ∙ ap (λ n. Some (follower_of e n (slice_index_or hs k d))) (omega arith)
+
+-- a leader's entry stands first of those that it leads, each follower after it at its place, and no more
+length-led : (l : Leader) (hs : List HNum) → l.from + l.followers ≤ length hs → length (led l hs) ≡ l.followers + 1
+length-led l hs start =
+    let own : length (take l.followers (drop l.from hs)) ≡ l.followers = length-take-le l.followers (drop l.from hs) (omega (arith, start, length-drop l.from hs)) in
+    omega (arith, own, length-followers l.entry 1 (take l.followers (drop l.from hs)))
+
+pub led-none : (l : Leader) (hs : List HNum) (i : ℕ) → l.from + l.followers ≤ length hs → l.followers < i → slice_get (led l hs) i ≡ None
+led-none l hs i start past = slice_get_past (led l hs) i (omega (arith, past, length-led l hs start))
+
+pub led-follower : (l : Leader) (hs : List HNum) (i : ℕ) (d : HNum) → l.from + l.followers ≤ length hs → 0 < i → i ≤ l.followers
+    → slice_get (led l hs) i ≡ Some (follower_of l.entry i (slice_index_or hs (l.from + i - 1) d))
+led-follower l hs zero d start some within = absurd (omega (arith, some))
+led-follower l hs (suc j) d start some within =
+    let own : length (take l.followers (drop l.from hs)) ≡ l.followers = length-take-le l.followers (drop l.from hs) (omega (arith, start, length-drop l.from hs)) in
+    let at : slice_index_or (take l.followers (drop l.from hs)) j d ≡ slice_index_or hs (l.from + suc j - 1) d =
+    get_or-take l.followers (drop l.from hs) j d (omega (arith, within)) ∙ (get_or-drop l.from hs j d ∙ ap (λ n. slice_index_or hs n d) (omega arith)) in
+    get-follower l.entry 1 (take l.followers (drop l.from hs)) j d (omega (arith, own, within))
+    ∙ (ap (λ n. Some (follower_of l.entry n (slice_index_or (take l.followers (drop l.from hs)) j d))) (omega arith) ∙ ap (λ h. Some (follower_of l.entry (suc j) h)) at)
+
+-- where a leader is the last one at a place or before it, what it leads has what stands there
+pub at-place : (ls : List Leader) (hs : List HNum) (k place : ℕ) (d : Leader) → AreFollowed ls hs → Starts 0 ls → k < length ls → k + (slice_index_or ls k d).from ≤ place
+    → (k + 1 < length ls → place < k + 1 + (slice_index_or ls (k + 1) d).from) → slice_get (led (slice_index_or ls k d) hs) (place - k - (slice_index_or ls k d).from) ≡ slice_get (spelled ls hs) place
+at-place ls hs k place d f starts within low next =
+    let l = slice_index_or ls k d in
+    let w = around ls hs k d f starts within in
+    let i = place - k - l.from in
+    let before = spelled (take k ls) (take l.from hs) in
+    let rest = spelled (drop (k + 1) ls) (drop l.followers (drop l.from hs)) in
+    let there : slice_get (spelled ls hs) place ≡ slice_get (led l hs ++ rest) i =
+    ap (λ es. slice_get es place) w.split ∙ (ap (slice_get (before ++ (led l hs ++ rest))) (omega (arith, low, w.place)) ∙ get-second before (led l hs ++ rest) i) in
+    elim (slice_get_cases (led l hs) i).1 [
+      | inl x ↦ x.2 ∙ sym (there ∙ get-first (led l hs) rest i x.0 x.2)
+      | inr n ↦ n.1 ∙ sym (slice_get_past (spelled ls hs) place (ends n.0))
+    ]
+  where
+    ends : length (led (slice_index_or ls k d) hs) ≤ place - k - (slice_index_or ls k d).from → length (spelled ls hs) ≤ place
+    ends past =
+        let l = slice_index_or ls k d in
+        let w = around ls hs k d f starts within in
+        let own = length-led l hs w.start in
+        elim (cases_lt (k + 1) (length ls)) [
+          | inl more ↦ absurd (omega (arith, past, own, low, next more, starts-at 0 ls k d starts within, starts-at 0 ls (k + 1) d starts more, sum_by_more (λ (x : Leader). x.followers) ls k d within))
+          | inr last ↦ let none : length (spelled (drop (k + 1) ls) (drop l.followers (drop l.from hs))) ≡ 0 = ap (λ ms. length (spelled ms (drop l.followers (drop l.from hs)))) (nil_from_length (drop (k + 1) ls) (omega (arith, last, length-drop (k + 1) ls))) in
+              let whole = ap length w.split ∙ (length-append (spelled (take k ls) (take l.from hs)) (led l hs ++ spelled (drop (k + 1) ls) (drop l.followers (drop l.from hs)))) in
+              omega (arith, whole, length-append (led l hs) (spelled (drop (k + 1) ls) (drop l.followers (drop l.from hs))), none, own, past, low, w.place)
+        ]
+
+pub no-later : (ls : List Leader) (k place : ℕ) → k < length ls → ((d : Leader) → k + (slice_index_or ls k d).from ≤ place) → k ≤ place
+no-later [] k place within before = absurd (omega (arith, within))
+no-later (l ∷ ls) k place within before = omega (arith, before l)
+
+pub leads-there : (ls : List Leader) (hs : List HNum) (k : ℕ) (d : Leader) → AreFollowed ls hs → Starts 0 ls → k < length ls → (slice_index_or ls k d).from + (slice_index_or ls k d).followers ≤ length hs
+leads-there ls hs k d f starts within = (around ls hs k d f starts within).start
+
+-- what stands among those that a leader leads stands in the list
+stands-led : (ls : List Leader) (hs : List HNum) (k : ℕ) (l : Leader) (x : Entry) → Around ls hs k l → Contains (led l hs) x → Contains (spelled ls hs) x
+stands-led ls hs k l x w c =
+    let before = spelled (take k ls) (take l.from hs) in
+    let rest = spelled (drop (k + 1) ls) (drop l.followers (drop l.from hs)) in
+    subst (λ es. Contains es x) (sym w.split) (Contains-append_right before (led l hs ++ rest) x (Contains-append_left (led l hs) rest x c))
 
 -- in order, all before an entry have no higher numbers, and what comes after some is in order
 below-next : (xs : List Entry) (y : Entry) (ys : List Entry) → Ascends (xs ++ y ∷ ys) → All (λ x. x.number ≤ y.number) xs
@@ -133,19 +183,18 @@ low e i (h ∷ hs) n l b =
     All-cons (λ (x : Entry). x.number ≢ n) (follower_of e i h) (followers_of e (suc i) hs) (λ same. omega (arith, same, l, b)) (low e (suc i) hs n (omega (arith, l)) b)
 
 -- no entry has a number past a leader's followers and before the next leader's
-pub stands-nowhere : (ls : List Leader) (hs : List HNum) (k n : ℕ) (l : Leader) → Around ls hs k l → Ascends (spelled ls hs) → n < 2 ^ 64 → l.entry.number + l.followers < n
+stands-nowhere : (ls : List Leader) (hs : List HNum) (k n : ℕ) (l : Leader) → Around ls hs k l → Ascends (spelled ls hs) → n < 2 ^ 64 → l.entry.number + l.followers < n
     → ((d : Leader) → k + 1 < length ls → n < (slice_index_or ls (k + 1) d).entry.number) → All (λ e. e.number ≢ n) (spelled ls hs)
 stands-nowhere ls hs k n l w a b past next =
-    let s = followers_in (take k ls) in
     let e = l.entry in
-    let own = take l.followers (drop s hs) in
-    let before = spelled (take k ls) (take s hs) in
-    let rest = spelled (drop (k + 1) ls) (drop l.followers (drop s hs)) in
+    let own = take l.followers (drop l.from hs) in
+    let before = spelled (take k ls) (take l.from hs) in
+    let rest = spelled (drop (k + 1) ls) (drop l.followers (drop l.from hs)) in
     let P = λ (x : Entry). x.number ≢ n in
     let whole : Ascends (before ++ e ∷ (followers_of e 1 own ++ rest)) = subst Ascends w.split a in
     let under = below-next before e (followers_of e 1 own ++ rest) whole in
     let after : Ascends rest = ascends-after (followers_of e 1 own) rest (ascends-after before (e ∷ (followers_of e 1 own ++ rest)) whole).1 in
-    let above : All P rest = high (drop (k + 1) ls) (drop l.followers (drop s hs)) n after
+    let above : All P rest = high (drop (k + 1) ls) (drop l.followers (drop l.from hs)) n after
     (λ d more. let there : n < (slice_index_or ls (k + 1 + 0) d).entry.number = subst (λ j. n < (slice_index_or ls j d).entry.number) (omega arith) (next d (omega (arith, more, length-drop (k + 1) ls))) in
     subst (λ (x : Leader). n < x.entry.number) (sym (get_or-drop (k + 1) ls 0 d)) there) in
     let between : All P (followers_of e 1 own) = low e 1 own n (omega (arith, w.own, past)) b in
@@ -183,47 +232,53 @@ higher ls n at d p b = compared (slice_index_or ls at d).entry.number n Greater 
 pub no-lower : (ls : List Leader) (n at : ℕ) (d : Leader) → Point ls n at → 0 < at → at ≤ length ls → (slice_index_or ls (at - 1) d).entry.number ≤ n
 no-lower ls n at d p z b = omega (arith, lower ls n at d p z b)
 
-pub one-on : (ls : List Leader) (n at x : ℕ) (d : Leader) → Point ls n at → 0 < at → at ≤ length ls → 1 ≤ x + (n - (slice_index_or ls (at - 1) d).entry.number)
-one-on ls n at x d p z b = omega (arith, lower ls n at d p z b)
-
--- a follower's handle is there
-pub handle-there : (ls : List Leader) (hs : List HNum) (n at : ℕ) (d : Leader) → Point ls n at → AreFollowed ls hs → Starts 0 ls → 0 < at → at ≤ length ls
-    → n - (slice_index_or ls (at - 1) d).entry.number ≤ (slice_index_or ls (at - 1) d).followers
-    → (slice_index_or ls (at - 1) d).from + (n - (slice_index_or ls (at - 1) d).entry.number) - 1 < length hs
-handle-there ls hs n at d p f s z b i =
-    let w = around ls hs (at - 1) d f (omega (arith, z, b)) in
-    omega (arith, lower ls n at d p z b, i, w.start, starts-at 0 ls (at - 1) d s (omega (arith, z, b)))
-
 -- no leader has so low a number
 pub finds-no-leader : (ls : List Leader) (hs : List HNum) (n at : ℕ) → Point ls n at → at ≡ 0 → Ascends (spelled ls hs) → All (λ e. e.number ≢ n) (spelled ls hs)
 finds-no-leader ls hs n at p z a = high ls hs n a (λ d b. subst (λ k. n < (slice_index_or ls k d).entry.number) z (higher ls n at d p (omega (arith, z, b))))
 
 -- the number lies past the followers of the leader before
-pub finds-none : (ls : List Leader) (hs : List HNum) (n at : ℕ) (d : Leader) → Point ls n at → AreFollowed ls hs → Ascends (spelled ls hs) → n < 2 ^ 64 → 0 < at → at ≤ length ls
+finds-none : (ls : List Leader) (hs : List HNum) (n at : ℕ) (d : Leader) → Point ls n at → AreFollowed ls hs → Starts 0 ls → Ascends (spelled ls hs) → n < 2 ^ 64 → 0 < at → at ≤ length ls
     → (slice_index_or ls (at - 1) d).followers < n - (slice_index_or ls (at - 1) d).entry.number → All (λ e. e.number ≢ n) (spelled ls hs)
-finds-none ls hs n at d p f a small z b past =
-    let w = around ls hs (at - 1) d f (omega (arith, z, b)) in
+finds-none ls hs n at d p f s a small z b past =
+    let w = around ls hs (at - 1) d f s (omega (arith, z, b)) in
     let next : at - 1 + 1 ≡ at = omega (arith, z) in
     stands-nowhere ls hs (at - 1) n (slice_index_or ls (at - 1) d) w a small (omega (arith, past))
     (λ e more. subst (λ k. n < (slice_index_or ls k e).entry.number) (sym next) (higher ls n at e p (omega (arith, more, next))))
 
 -- it is that of a leader
-pub finds-leader : (ls : List Leader) (hs : List HNum) (n at : ℕ) (d : Leader) → AreFollowed ls hs → at < length ls → nat_cmp (slice_index_or ls at d).entry.number n ≡ Equal
+pub finds-leader : (ls : List Leader) (hs : List HNum) (n at : ℕ) (d : Leader) → AreFollowed ls hs → Starts 0 ls → at < length ls → nat_cmp (slice_index_or ls at d).entry.number n ≡ Equal
     → Contains (spelled ls hs) (slice_index_or ls at d).entry × ((slice_index_or ls at d).entry.number ≡ n)
-finds-leader ls hs n at d f b same =
-    (stands-leader ls hs at (slice_index_or ls at d) (around ls hs at d f b), compared (slice_index_or ls at d).entry.number n Equal same)
+finds-leader ls hs n at d f s b same =
+    let l = slice_index_or ls at d in
+    let own = followers_of l.entry 1 (take l.followers (drop l.from hs)) in
+    (stands-led ls hs at l l.entry (around ls hs at d f s b) (Contains-here l.entry own), compared l.entry.number n Equal same)
 
 -- it is that of a follower
-pub finds-follower : (ls : List Leader) (hs : List HNum) (n at : ℕ) (d : Leader) (h : HNum) (x : Entry)
-    → x ≡ follower_of (slice_index_or ls (at - 1) d).entry (n - (slice_index_or ls (at - 1) d).entry.number) (slice_index_or hs ((slice_index_or ls (at - 1) d).from + (n - (slice_index_or ls (at - 1) d).entry.number) - 1) h)
+finds-follower : (ls : List Leader) (hs : List HNum) (n at : ℕ) (d : Leader) (x : Entry) → Some x ≡ slice_get (led (slice_index_or ls (at - 1) d) hs) (n - (slice_index_or ls (at - 1) d).entry.number)
     → Point ls n at → AreFollowed ls hs → Starts 0 ls → n < 2 ^ 64 → 0 < at → at ≤ length ls
     → n - (slice_index_or ls (at - 1) d).entry.number ≤ (slice_index_or ls (at - 1) d).followers → Contains (spelled ls hs) x × (x.number ≡ n)
-finds-follower ls hs n at d h x is p f s small z b i =
+finds-follower ls hs n at d x is p f s small z b i =
     let l = slice_index_or ls (at - 1) d in
-    let k = at - 1 in
-    let w = around ls hs k d f (omega (arith, z, b)) in
+    let w = around ls hs (at - 1) d f s (omega (arith, z, b)) in
     let under = lower ls n at d p z b in
-    let from = starts-at 0 ls k d s (omega (arith, z, b)) in
-    let there = stands-follower ls hs k (n - l.entry.number) l h w (from ∙ omega arith) (omega (arith, under)) i in
-    let number : x.number ≡ n = ap (λ (y : Entry). y.number) is ∙ omega (arith, under, small) in
-    (subst (Contains (spelled ls hs)) (sym is) there, number)
+    let h : HNum = record { 0 = 0 } in
+    let follower : x ≡ follower_of l.entry (n - l.entry.number) (slice_index_or hs (l.from + (n - l.entry.number) - 1) h) = same_Some _ _ (is ∙ led-follower l hs (n - l.entry.number) h w.start (omega (arith, under)) i) in
+    let number : x.number ≡ n = ap (λ (y : Entry). y.number) follower ∙ omega (arith, under, small) in
+    (stands-led ls hs (at - 1) l x w (Contains-at (led l hs) (n - l.entry.number) x (sym is)), number)
+
+-- so what stands so many places after that leader is the entry with the number, or there is none
+pub finds-after : (ls : List Leader) (hs : List HNum) (n at : ℕ) (d : Leader) (found : Option Entry) → found ≡ slice_get (led (slice_index_or ls (at - 1) d) hs) (n - (slice_index_or ls (at - 1) d).entry.number)
+    → Point ls n at → AreFollowed ls hs → Starts 0 ls → Ascends (spelled ls hs) → n < 2 ^ 64 → 0 < at → at ≤ length ls
+    → MatchOption found (All (λ e. e.number ≢ n) (spelled ls hs)) (λ e. Contains (spelled ls hs) e × (e.number ≡ n))
+finds-after ls hs n at d None is p f s a small z b =
+    let l = slice_index_or ls (at - 1) d in
+    elim (cases_lt l.followers (n - l.entry.number)) [
+      | inl past ↦ finds-none ls hs n at d p f s a small z b past
+      | inr i ↦ absurd (none_some _ (is ∙ led-follower l hs (n - l.entry.number) (record { 0 = 0 }) (leads-there ls hs (at - 1) d f s (omega (arith, z, b))) (omega (arith, lower ls n at d p z b)) i))
+    ]
+finds-after ls hs n at d (Some x) is p f s a small z b =
+    let l = slice_index_or ls (at - 1) d in
+    elim (cases_lt l.followers (n - l.entry.number)) [
+      | inl past ↦ absurd (none_some x (sym (is ∙ led-none l hs (n - l.entry.number) (leads-there ls hs (at - 1) d f s (omega (arith, z, b))) past)))
+      | inr i ↦ finds-follower ls hs n at d x is p f s small z b i
+    ]

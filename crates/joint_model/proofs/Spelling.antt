@@ -24,7 +24,7 @@ spelled-append (l ∷ ls) ms hs gs f =
     rw (take-append-le n hs gs fits, drop-append-le n hs gs fits, spelled-append ls ms (drop n hs) gs rest)
     (ap (λ es. l.entry ∷ es) (sym (append_assoc (followers_of l.entry 1 (take n hs)) (spelled ls (drop n hs)) (spelled ms gs))))
 
-length-followers : (e : Entry) (i : ℕ) (hs : List HNum) → length (followers_of e i hs) ≡ length hs
+pub length-followers : (e : Entry) (i : ℕ) (hs : List HNum) → length (followers_of e i hs) ≡ length hs
 length-followers e i [] = refl
 length-followers e i (h ∷ hs) = ap suc (length-followers e (suc i) hs)
 

@@ -28,6 +28,10 @@ abbrev pub spelled : List Leader → List HNum → List Entry
 spelled [] hs = []
 spelled (l ∷ ls) hs = l.entry ∷ (followers_of l.entry 1 (take l.followers hs) ++ spelled ls (drop l.followers hs))
 
+-- a leader's entry, and then those that follow it
+abbrev pub led : Leader → List HNum → List Entry
+led l hs = l.entry ∷ followers_of l.entry 1 (take l.followers (drop l.from hs))
+
 -- there is a handle for each follower
 abbrev pub AreFollowed : List Leader → List HNum → Type 0
 AreFollowed ls hs = sum_by (λ l. l.followers) ls ≡ length hs

@@ -1,10 +1,10 @@
 // Entries as they are kept: most of a large cycle as their handles alone.
 
-ghost use Rattle.std.specs.Prelude.{◌≡◌, ◌≢◌, All, Contains, MatchOption, ◌+◌, ◌≤◌, ◌<◌, ◌==◌, [], ◌∷◌, ◌++◌, length, vec_len, vec_capacity, IfOk, OnErr, OnOk};
+ghost use Rattle.std.specs.Prelude.{◌≡◌, ◌≢◌, All, Contains, MatchOption, ◌+◌, ◌≤◌, ◌<◌, ◌==◌, [], ◌∷◌, ◌++◌, length, slice_get, vec_len, vec_capacity, IfOk, OnErr, OnOk};
 ghost use Rattle.joint_model.specs.Merged.{Ascends};
 
 use crate::events::Entry;
-use crate::leaders::{Leader, Rest, entry_with, put_follower};
+use crate::leaders::{Leader, Rest, entry_at, entry_with, put_follower};
 use crate::names::HNum;
 use std::alloc::{AllocError, Global};
 use std::marker::Model;
@@ -28,9 +28,9 @@ pub(crate) struct Kept {
 impl Model for Kept {
     ghost use Rattle.std.specs.Prelude.{◌+◌, ◌≤◌, vec_len, vec_capacity};
     ghost use Rattle.joint_model.specs.Leaders.{spelled, AreFollowed, Starts};
-    ghost use Rattle.joint_model.specs.Listed.{Stock};
+    ghost use Rattle.joint_model.specs.Listed.{Shelf};
 
-    ghost Value = { Stock };
+    ghost Value = { Shelf };
 
     ghost view = { λ s. record { entries = spelled s.leaders.items s.followers.items; spare = s.spare } };
 
@@ -142,6 +142,17 @@ impl Kept {
         ensures { result ≡ (length self.now.entries == 0) }
     {
         self.len() == 0
+    }
+
+    /// The entry at place `i`, from 0; None exactly where `i` isn't below the length. It is searched for among the leaders.
+    pub(crate) fn at(&self, i: u32) -> Option<Entry>
+        ensures { result ≡ slice_get self.now.entries i }
+    {
+        entry_at(
+            self.leaders.as_slice(),
+            self.followers.as_slice(),
+            i as usize,
+        )
     }
 
     /// The entry with the number, where the numbers rise; None where none has it.

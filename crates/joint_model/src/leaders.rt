@@ -1,8 +1,8 @@
 // How a list keeps its entries: where one differs from the one before it by its number, one higher, and by the handle that it weakens or
 // restores, the handle alone is kept. A cycle over many candidates makes many such entries.
 
-ghost use Rattle.std.specs.Prelude.{◌≡◌, ◌≢◌, All, Contains, ◌+◌, ◌<◌, ◌≤◌, ◌^◌, ◌↔◌, List, [], ◌∷◌, ◌++◌, length, slice_get, vec_len, vec_capacity, IfSome, IsTrue, IsFalse, MatchOption};
-ghost use Rattle.joint_model.specs.Leaders.{follower_of, followers_of, spelled, AreFollowed, Starts};
+ghost use Rattle.std.specs.Prelude.{◌≡◌, ◌≢◌, All, Contains, ◌+◌, ◌<◌, ◌≤◌, ◌^◌, ◌↔◌, List, [], ◌∷◌, ◌++◌, length, slice_get, slice_index_or, vec_len, vec_capacity, IfSome, IsTrue, IsFalse, MatchOption};
+ghost use Rattle.joint_model.specs.Leaders.{follower_of, followers_of, led, spelled, AreFollowed, Starts};
 ghost use Rattle.joint_model.specs.Merged.{Ascends, IsNextInOther, first_number, merged, IsNumbered};
 
 use crate::events::{Entry, Made, Op, Reply};
@@ -62,6 +62,21 @@ impl Leader {
             op => op,
         };
         entry
+    }
+
+    // The entry `i` places after it, where those are the handles of its list; None exactly where it has fewer followers.
+    fn entry_after(&self, followers: &[HNum], i: u64) -> Option<Entry>
+        requires { self.now.from + self.now.followers ≤ length followers.now }
+        ensures { result ≡ slice_get (led self.now followers.now) i }
+    {
+        if i > self.followers as u64 {
+            return None;
+        }
+        if i == 0 {
+            return Some(self.entry);
+        }
+        let h = followers[self.from as usize + i as usize - 1];
+        Some(self.follower(i, h))
     }
 
     // The handle of an entry that is its next follower; None where it isn't.
@@ -128,14 +143,44 @@ pub(crate) fn entry_with(leaders: &[Leader], followers: &[HNum], number: u64) ->
         Err(0) => None,
         Err(at) => {
             let leader = &leaders[at - 1];
-            let i = number - leader.entry.number;
-            if i > leader.followers as u64 {
-                return None;
-            }
-            let h = followers[leader.from as usize + i as usize - 1];
-            Some(leader.follower(i, h))
+            leader.entry_after(followers, number - leader.entry.number)
         }
     }
+}
+
+// The last leader that stands at the place or before it. A leader stands after those before it and all that follow them.
+fn leader_before(leaders: &[Leader], place: usize) -> usize
+    requires some { 0 < length leaders.now }
+    requires starts { Starts 0 leaders.now }
+    ensures leader { result < length leaders.now }
+    ensures before { (d : _) → result + (slice_index_or leaders.now result d).from ≤ place }
+    ensures next { (d : _) → result + 1 < length leaders.now → place < result + 1 + (slice_index_or leaders.now (result + 1) d).from }
+{
+    let mut low = 0;
+    let mut high = leaders.len();
+    while high - low > 1 {
+        let middle = low + (high - low) / 2;
+        if middle + leaders[middle].from as usize <= place {
+            low = middle;
+        } else {
+            high = middle;
+        }
+    }
+    low
+}
+
+// The entry at the place of a list, from 0; None exactly past the end.
+pub(crate) fn entry_at(leaders: &[Leader], followers: &[HNum], place: usize) -> Option<Entry>
+    requires followed { AreFollowed leaders.now followers.now }
+    requires starts { Starts 0 leaders.now }
+    ensures { result ≡ slice_get (spelled leaders.now followers.now) place }
+{
+    if leaders.is_empty() {
+        return None;
+    }
+    let at = leader_before(leaders, place);
+    let leader = &leaders[at];
+    leader.entry_after(followers, (place - at - leader.from as usize) as u64)
 }
 
 /// An entry that a walk comes to.

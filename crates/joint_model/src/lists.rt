@@ -1,7 +1,8 @@
 // Lists with room that is known: the entries of one side or one reader, and the answers of a cycle's
 // candidates.
 
-ghost use Rattle.std.specs.Prelude.{◌≡◌, ◌+◌, ◌≤◌, ◌==◌, [], ◌∷◌, ◌++◌, length, slice_get, IfOk, IfSome, OnErr};
+ghost use Rattle.std.specs.Prelude.{◌≡◌, ◌+◌, ◌<◌, ◌≤◌, ◌==◌, [], ◌∷◌, ◌++◌, length, slice_get, IfOk, IfSome, MatchOption, OnErr};
+ghost use Rattle.joint_model.specs.declared.lists.Holding.TheVariants.{Every, Last};
 
 use crate::events::Entry;
 use crate::kept::{BLOCK, Kept, MOST};
@@ -35,13 +36,14 @@ pub struct Entries {
 
 impl Model for Entries {
     ghost use Rattle.std.specs.Prelude.{◌≡◌, ◌+◌, ◌≤◌, ◌++◌, length};
+    ghost use Rattle.joint_model.specs.declared.lists.Holding.TheVariants.{Every};
     ghost use Rattle.joint_model.specs.Listed.{Stock, passed};
 
     ghost Value = { Stock };
 
-    ghost view = { λ s. record { entries = passed s.past.items ++ s.kept.entries; spare = s.kept.spare } };
+    ghost view = { λ s. record { entries = passed s.past.items ++ s.kept.entries; spare = s.kept.spare; holding = s.holding } };
 
-    ghost invariant = { λ s. (s.gone ≡ length (passed s.past.items)) × (s.gone + length s.kept.entries + s.kept.spare ≤ 4294967295) };
+    ghost invariant = { λ s. (s.gone ≡ length (passed s.past.items)) × (s.gone + length s.kept.entries + s.kept.spare ≤ 4294967295) × (s.holding ≡ Every → s.gone ≡ 0) };
 }
 
 /// An empty list, with room for `n` items where there is memory for it; else it grows as it needs. Room that nothing is put into takes no memory,
@@ -59,6 +61,7 @@ impl Entries {
     pub fn new(alloc: Global, holding: Holding) -> Entries
         ensures entries { result.entries ≡ [] }
         ensures spare { result.spare ≤ 4294967295 }
+        ensures holding { result.holding ≡ holding }
     {
         Entries {
             kept: Kept::new(alloc),
@@ -70,8 +73,10 @@ impl Entries {
 
     // Lets all entries go that are kept. It takes no memory, since what is kept of them for proofs takes no bytes.
     fn let_go(&mut self) -> Result<(), AllocError>
+        requires { self.old.holding ≡ Last }
         ensures entries { self.new.entries ≡ self.old.entries }
         ensures spare { self.new.spare ≡ self.old.spare }
+        ensures holding { self.new.holding ≡ self.old.holding }
         ensures err { OnErr result (self.new ≡ self.old) }
     {
         self.past.push(Snapshot::of(&self.kept))?;
@@ -86,6 +91,7 @@ impl Entries {
         ensures room { IfOk result (λ _. n ≤ self.new.spare) }
         ensures kept { self.old.spare ≤ self.new.spare }
         ensures entries { self.new.entries ≡ self.old.entries }
+        ensures holding { self.new.holding ≡ self.old.holding }
         ensures limit { length self.new.entries + self.new.spare ≤ 4294967295 }
         ensures err { OnErr result (self.new ≡ self.old) }
     {
@@ -101,11 +107,12 @@ impl Entries {
 
     /// Makes room: afterwards `spare` is at least `n`, and never less than it was. It is made for many entries at once, so most calls
     /// find it there. Answers `AllocError` where there is no memory for `n` entries, or where the list would hold more than
-    /// 4,294,967,295 entries; the list is then as before.
+    /// 4,294,967,295 entries; the list is then as before. Where it holds the last entries alone, this call may let the others go.
     pub fn reserve(&mut self, n: u32) -> Result<(), AllocError>
         ensures room { IfOk result (λ _. n ≤ self.new.spare) }
         ensures kept { self.old.spare ≤ self.new.spare }
         ensures entries { self.new.entries ≡ self.old.entries }
+        ensures holding { self.new.holding ≡ self.old.holding }
         ensures limit { length self.new.entries + self.new.spare ≤ 4294967295 }
         ensures err { OnErr result (self.new ≡ self.old) }
     {
@@ -121,6 +128,7 @@ impl Entries {
         requires { 1 ≤ self.old.spare }
         ensures entries { self.new.entries ≡ self.old.entries ++ entry ∷ [] }
         ensures spare { self.new.spare + 1 ≡ self.old.spare }
+        ensures holding { self.new.holding ≡ self.old.holding }
     {
         self.kept.push(entry);
     }
@@ -132,6 +140,7 @@ impl Entries {
         requires { 1 ≤ self.old.spare }
         ensures entries { self.new.entries ≡ self.old.entries ++ entry ∷ [] }
         ensures spare { self.new.spare + 1 ≡ self.old.spare }
+        ensures holding { self.new.holding ≡ self.old.holding }
     {
         self.kept.push_handle(entry);
     }
@@ -158,9 +167,21 @@ impl Entries {
         self.len() == 0
     }
 
+    /// The entry at place `i`, from 0. Of a list that holds every entry, None exactly where `i` isn't below the length; of one that holds the last
+    /// ones, None also where it has let that entry go. It is searched for, in a time that goes by the logarithm of the number of entries.
+    pub fn at(&self, i: u32) -> Option<Entry>
+        ensures every { self.now.holding ≡ Every → result ≡ slice_get self.now.entries i }
+        ensures entry { IfSome result (λ entry. slice_get self.now.entries i ≡ Some entry) }
+    {
+        if i < self.gone {
+            return None;
+        }
+        self.kept.at(i - self.gone)
+    }
+
     /// All entries; None where some were let go.
     pub(crate) fn into_kept(self) -> Option<Kept>
-        ensures { IfSome result (λ kept. kept.entries ≡ self.entries) }
+        ensures { MatchOption result (self.holding ≡ Last) (λ kept. kept.entries ≡ self.entries) }
     {
         if self.gone > 0 { None } else { Some(self.kept) }
     }

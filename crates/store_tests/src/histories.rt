@@ -27,7 +27,7 @@ fn has_room(entries: &mut Entries, n: u32) -> Result<bool, AllocError> {
 fn new_entries_have_room_after_a_reserve(rt: HostRuntime) -> Result<(), Fail> {
     let mut entries = Entries::new(rt.alloc(), Holding::Every);
     let room = has_room(&mut entries, 1)?;
-    assert!(rt; room && entries.len() == 0 && entries.is_empty());
+    assert!(rt; room && entries.len() == 0 && entries.is_empty() && entries.at(0).is_none());
     Ok(())
 }
 
@@ -47,6 +47,7 @@ fn drawn_entries_are_kept(rt: HostRuntime) -> Result<(), Fail> {
         made: BEGUN,
     });
     assert!(rt; entries.len() == 2 && !entries.is_empty());
+    assert!(rt; entries.at(1).is_some_and(|entry| entry.number == 1) && entries.at(2).is_none());
     Ok(())
 }
 

@@ -96,6 +96,8 @@ pub record Reading : Type 0 where
 -- a read made one entry, and put it last
 pub record MakesRead (index : ℕ) (a : Act) (g : Got) (old new : Reading) : Type 0 where
   pub number : ℕ
-  pub answers : Answers old.reader index a number g old.view new.view (record { entries = old.entries; spare = old.spare }) (record { entries = new.entries; spare = new.spare })
+  pub reads : Reads old.reader index a g number old.view new.view
+  pub entries : new.entries ≡ old.entries ++ numbered number (read_made old.reader index a g) ∷ []
+  pub spare : new.spare + 1 ≡ old.spare
   pub reader : new.reader ≡ old.reader
   pub order : new.order ≡ old.order

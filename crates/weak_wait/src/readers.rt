@@ -58,7 +58,7 @@ impl WeakReader {
     /// The seat and the reader's entries. It takes no memory.
     pub fn into_parts(self) -> (Seat, Entries)
         ensures seat { (result.0.order ≡ self.order) × (result.0.view ≡ self.view) × Settled result.0.view }
-        ensures entries { result.1 ≡ record { entries = self.entries; spare = self.spare } }
+        ensures entries { (result.1.entries ≡ self.entries) × (result.1.spare ≡ self.spare) }
         ensures role { Owns result.0.view (1 + self.reader) × Owns result.0.view (self.reader + 10) }
         ensures list { line_entries (known result.0.view (1 + self.reader)) ≡ result.1.entries }
     {

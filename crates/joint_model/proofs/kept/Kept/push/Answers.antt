@@ -1,7 +1,7 @@
 use Rattle.std.proofs.Common.{◌≡◌, ◌++◌, ◌∷◌, [], ◌+◌, ◌∙◌, arith, rules, sum_by, ap}
 use Rattle.std.proofs.lemmas.List.Sums.{sum_by_push}
 use Rattle.joint_model.specs.declared.leaders.Leader.{Leader}
-use Rattle.joint_model.specs.Listed.{Stock}
+use Rattle.joint_model.specs.Listed.{Shelf}
 use Rattle.joint_model.specs.Leaders.{spelled, AreFollowed}
 use Rattle.joint_model.proofs.Spelling.{leader-last}
 use Rattle.joint_model.proofs.Searching.{starts-last}
@@ -25,4 +25,4 @@ returns-clause-entries c =
     let hs = c.self.inside.followers.items in
     rw c.push_reserved.ensures.items
     (leader-last ls c.new-leader.result hs c.self.invariant.0 (ap (λ (x : Leader). x.followers) c.new-leader.ensures)
-    ∙ (ap (λ (x : Leader). spelled ls hs ++ x.entry ∷ []) c.new-leader.ensures ∙ ap (λ (s : Stock). s.entries ++ c.args.entry ∷ []) c.self.view_is))
+    ∙ (ap (λ (x : Leader). spelled ls hs ++ x.entry ∷ []) c.new-leader.ensures ∙ ap (λ (s : Shelf). s.entries ++ c.args.entry ∷ []) c.self.view_is))
