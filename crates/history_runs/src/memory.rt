@@ -88,7 +88,7 @@ fn run<N: OrderName>(
     let (shared, mut desk) = Shared::<N, Alone>::new(alloc, order, seat, 1, 0, Holding::Every)?;
     match play(rt, alloc, &shared, &mut desk) {
         Ok(Some((refused, callers))) => {
-            let history = shared.finish(desk, callers)?;
+            let history = shared.finish(desk, callers).map_err(|_| AllocError)?;
             Ok(Some((refused, history)))
         }
         Ok(None) => {

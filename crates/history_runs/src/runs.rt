@@ -221,7 +221,7 @@ fn run<N: OrderName>(
     let (shared, mut desk) = Shared::<N, Alone>::new(alloc, order, seat, 1, 1, Holding::Every)?;
     match play(rt, alloc, &shared, &mut desk) {
         Ok(Some((callers, told))) => {
-            let history = shared.finish(desk, callers)?;
+            let history = shared.finish(desk, callers).map_err(|_| AllocError)?;
             let made = replies_of(alloc, &history)?;
             Ok(Some((told, made)))
         }

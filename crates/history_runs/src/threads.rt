@@ -224,7 +224,7 @@ fn run<N: OrderName + Send + Sync, R: Threads + Wait + Sync>(
 {
     let (shared, mut desk) = Shared::<N, Locks>::new(alloc, order, seat, 2, 2, Holding::Every)?;
     match play(rt, alloc, &shared, &mut desk, lines) {
-        Ok(callers) => shared.finish(desk, callers),
+        Ok(callers) => shared.finish(desk, callers).map_err(|_| AllocError),
         Err(fault) => {
             drop(shared);
             Err(fault)

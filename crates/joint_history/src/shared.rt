@@ -20,7 +20,7 @@ use crate::gathers::gather_all;
 use crate::keeping::{Keep, Keeps};
 use crate::managed::LockedManaged;
 use crate::peer::LockedPeer;
-use joint_model::{Entries, History, Holding, PastHistory, Thread};
+use joint_model::{Entries, History, Holding, JoinFault, PastHistory, Thread};
 use managed_side::{ManagedLists, ManagedSide};
 use order_table::{Order, OrderName, Role, Seat};
 use peer_side::{PeerLists, PeerSide};
@@ -50,7 +50,7 @@ fn join_lists(
     left: ManagedLists,
     right: PeerLists,
     readers: [Entries; 10],
-) -> Result<History, AllocError>
+) -> Result<History, JoinFault>
     requires { IsJoinable (all_lists left.entries.entries right.entries.entries (entry_lists readers)) left.freed.items right.freed.items left.notices.items }
     ensures shuffle { IfOk result (λ h. IsShuffle (all_lists left.entries.entries right.entries.entries (entry_lists readers)) h.entries) }
     ensures managed { IfOk result (λ h. h.freed_managed ≡ left.freed.items) }
@@ -169,9 +169,10 @@ impl<N: OrderName, K: Keeps<N>> Shared<N, K> {
     }
 
     /// Ends the run: one history of all entries, which is linked, has all notices that were ever queued, and in which each caller has just the
-    /// entries that it made. Each thread's caller is still at the desk or is given back here, and the driver's is idle. Answers `AllocError`
-    /// where there is no memory for the history, or where a list of a side or of a thread's reads let entries go.
-    pub fn finish(self, desk: Desk<N>, callers: Vec<Caller<N>>) -> Result<History, AllocError>
+    /// entries that it made. Each thread's caller is still at the desk or is given back here, and the driver's is idle. Answers `OutOfMemory`
+    /// where there is no memory for the history, and `EntriesLetGo` where a list of a side or of a thread's reads let entries go, which none does
+    /// where `new` was told that lists hold every one.
+    pub fn finish(self, desk: Desk<N>, callers: Vec<Caller<N>>) -> Result<History, JoinFault>
         requires all { HasAll desk callers.items }
         requires idle { All HasIdleDriver callers.items }
         ensures linked { IfOk result (λ h. IsLinked h) }

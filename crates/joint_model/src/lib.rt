@@ -26,7 +26,7 @@ mod sides;
 
 pub use draws::{Counter, Draw, counted_in_turn, drawn_in_turn};
 pub use events::{Entry, Made, Op, Reply};
-pub use finished::{History, Walk};
+pub use finished::{History, JoinFault, Walk};
 pub use leaders::Step;
 pub use lines::Act;
 pub use lists::{Alive, Entries, Holding, list_with_room};

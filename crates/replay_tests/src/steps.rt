@@ -1,14 +1,14 @@
 // Steps from the opening state, and the verdicts on them.
 
 use crate::cases::{CASES, L, Said};
-use joint_model::{Entry, History, MNum, Made, PNum};
+use joint_model::{Entry, History, JoinFault, MNum, Made, PNum};
 use joint_replay::{JointState, Verdict};
 use std::alloc::{AllocError, Global};
 use std::process::Abort;
 use std::test::Fail;
 
 // A history of no entries, in which both objects and both peers are freed.
-fn freed(alloc: Global) -> Result<History, AllocError> {
+fn freed(alloc: Global) -> Result<History, JoinFault> {
     History::join(
         alloc,
         Vec::new(alloc),

@@ -10,3 +10,4 @@ pub mod Desked
 pub mod Last
 pub mod Runnable
 pub mod Ordered
+pub mod Results

@@ -180,7 +180,7 @@ fn run_lines<N: OrderName>(
     }
 }
 
-// Runs a script by the callers of one order, for its history.
+// Runs a script by the callers of one order, for its history. Its lists hold every entry, so memory alone can be wanting for that.
 fn run_named<N: OrderName>(
     rt: &impl Wait,
     alloc: Global,
@@ -195,7 +195,7 @@ fn run_named<N: OrderName>(
     ensures { IfOk result (IsRunInOrder script.now) }
 {
     let (shared, desk, callers) = run_lines::<N>(rt, alloc, order, seat, script, Holding::Every)?;
-    shared.finish(desk, callers)
+    shared.finish(desk, callers).map_err(|_| AllocError)
 }
 
 // The same for its numbers.

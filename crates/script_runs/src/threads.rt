@@ -84,7 +84,7 @@ fn run_by_desk<N: OrderName + Send + Sync, R: Threads + Wait + Sync, T: Turnstil
     Ok(callers)
 }
 
-// Runs a script by the callers of one order.
+// Runs a script by the callers of one order. Its lists hold every entry, so memory alone can be wanting for the history.
 fn run_named<N: OrderName + Send + Sync, R: Threads + Wait + Sync, T: Turnstile + Sync>(
     rt: &R,
     alloc: Global,
@@ -101,7 +101,7 @@ fn run_named<N: OrderName + Send + Sync, R: Threads + Wait + Sync, T: Turnstile 
 {
     let (shared, mut desk) = Shared::<N, Locks>::new(alloc, order, seat, 8, 8, Holding::Every)?;
     match run_by_desk(rt, alloc, &shared, &mut desk, script, turn) {
-        Ok(callers) => shared.finish(desk, callers),
+        Ok(callers) => shared.finish(desk, callers).map_err(|_| AllocError),
         Err(fault) => {
             drop(shared);
             Err(fault)
