@@ -37,7 +37,7 @@ reading-comes whole cells [] s i n a e = absurd (none_some n e)
 reading-comes whole cells (m ∷ ns) s zero n a e = subst (λ z. EntryMayCome (is_read z.entry.made.op) whole cells s z) (same_Some m n e) a.0
 reading-comes whole cells (m ∷ ns) s (suc i) n a e = reading-comes whole cells ns (entry_after s m) i n a.1 e
 
-reading-after : (ns : List Noted) (s : Linkage) (i : ℕ) (n : Noted) → slice_get ns i ≡ Some n → replayed_reading s (take (suc i) ns) ≡ entry_after (replayed_reading s (take i ns)) n
+pub reading-after : (ns : List Noted) (s : Linkage) (i : ℕ) (n : Noted) → slice_get ns i ≡ Some n → replayed_reading s (take (suc i) ns) ≡ entry_after (replayed_reading s (take i ns)) n
 reading-after [] s i n e = absurd (none_some n e)
 reading-after (m ∷ ns) s zero n e = ap (λ z. entry_after s z) (same_Some m n e)
 reading-after (m ∷ ns) s (suc i) n e = reading-after ns (entry_after s m) i n e
@@ -124,7 +124,7 @@ weak_reads_are_gone_reading noted w i j p n r l there q =
     weak-read (reading_at noted j) n p (kept noted w j) (sweep-stands noted w j i p l r) may q
 
 -- references
-entry-by : (s : Linkage) (n : Noted) (b : Bool) → is_read n.entry.made.op ≡ b → entry_after s n ≡ (if b then reader_after s n else linkage_after s n)
+pub entry-by : (s : Linkage) (n : Noted) (b : Bool) → is_read n.entry.made.op ≡ b → entry_after s n ≡ (if b then reader_after s n else linkage_after s n)
 entry-by s n b e = ap (λ z. if z then reader_after s n else linkage_after s n) e
 
 unmirrored-reading : (s : Linkage) (n : Noted) → s.peer.refs ≡ [] → ((k : Cycle) → n.entry.made.op ≡ op.Mirror k → ⊥) → (entry_after s n).peer.refs ≡ []

@@ -34,20 +34,12 @@ use Rattle.joint_laws.specs.States.{state_at}
 use Rattle.joint_laws.proofs.Everywhere.{everywhere}
 use Rattle.joint_laws.proofs.KeptPins.{entry-pins, read-pins}
 use Rattle.joint_laws.proofs.LinkedEntries.{Of, AreKept-entry, AreKept-opening}
-use Rattle.joint_laws.proofs.ReadingsGoneAfter.{reading-comes, reading-take}
+use Rattle.joint_laws.proofs.ReadingsGoneAfter.{entry-by, reading-after, reading-comes, reading-take}
 use Rattle.joint_laws.proofs.ReadsAside.{reading_is_lawful, reading_leads_to_same}
 use Rattle.pin_laws.specs.Pinned.{GivenObjectsLive, GivesAt, IsPinnedAt, LinkedPinsHold, NoTakeBetween, NoneFreesPinned, PinnedObjectsLive}
 
 abbrev pins_of : Linkage → List (Option ℕ)
 pins_of s = s.managed.managed.pins
-
-entry-by : (s : Linkage) (n : Noted) (b : Bool) → is_read n.entry.made.op ≡ b → entry_after s n ≡ (if b then reader_after s n else linkage_after s n)
-entry-by s n b e = ap (λ z. if z then reader_after s n else linkage_after s n) e
-
-after-one : (ns : List Noted) (s : Linkage) (i : ℕ) (n : Noted) → slice_get ns i ≡ Some n → replayed_reading s (take (suc i) ns) ≡ entry_after (replayed_reading s (take i ns)) n
-after-one [] s i n e = absurd (none_some n e)
-after-one (x ∷ ns) s zero n e = ap (λ z. entry_after s z) (same_Some x n e)
-after-one (x ∷ ns) s (suc i) n e = after-one ns (entry_after s x) i n e
 
 -- one place of the pins, after another or the same one was written
 slot-other : (ps : List (Option ℕ)) (t u : ℕ) (o : Option ℕ) → (u ≡ t → ⊥) → slot (slice_set ps t o) u ≡ slot ps u
@@ -179,14 +171,14 @@ module _ (noted : List Noted) (w : IsLawfulReading noted) where
     pin-since zero none =
         let e : suc i + 0 ≡ suc i = omega arith in
         ap (λ j. slot (pins_of (reading_at noted j)) t) e
-        ∙ (ap (λ s. slot (pins_of s) t) (after-one noted opening_linkage i g.entry g.there)
+        ∙ (ap (λ s. slot (pins_of s) t) (reading-after noted opening_linkage i g.entry g.there)
         ∙ pin-filled w.0 w.1 (reading_at noted i) g.entry t g.cell m (reading-comes w.0 w.1 noted opening_linkage i g.entry w.2 g.there) (nine i) g.caller g.reads g.gives)
     pin-since (suc more) none =
         let next : suc i + suc more ≡ suc (suc i + more) = omega arith in
         let before = pin-since more (λ x l k. none x l (omega (arith, k))) in
         ap (λ j. slot (pins_of (reading_at noted j)) t) next
         ∙ ⊎_elim
-        (λ c. ap (λ s. slot (pins_of s) t) (after-one noted opening_linkage (suc i + more) c.0 c.2)
+        (λ c. ap (λ s. slot (pins_of s) t) (reading-after noted opening_linkage (suc i + more) c.0 c.2)
         ∙ pin-stays w.0 w.1 (reading_at noted (suc i + more)) c.0 t m (reading-comes w.0 w.1 noted opening_linkage (suc i + more) c.0 w.2 c.2) before
         (λ v e f. none (suc i + more) (omega arith) (omega arith) (record { entry = c.0; there = c.2; caller = e; var = v; event = f })))
         (λ c. ap (λ ns. slot (pins_of (replayed_reading opening_linkage ns)) t) (take_all (suc (suc i + more)) noted (let l = c.0 in omega (arith, l)) ∙ sym (take_all (suc i + more) noted c.0)) ∙ before)
@@ -205,7 +197,7 @@ module _ (noted : List Noted) (w : IsLawfulReading noted) where
         (pinned-at (suc j) (omega (arith, l)) still).live.kept (subst (λ (z : ManagedReplay). Contains z.managed.heap.freed m) (sym after) c)
       where
         after : (reading_at noted (suc j)).managed ≡ managed_after (reading_at noted j).managed (record n.entry.made { op = o }) told (is_peer_event n.entry.made.caller o)
-        after = ap (λ (z : Linkage). z.managed) (after-one noted opening_linkage j n there ∙ entry-by (reading_at noted j) n false (ap is_read e ∙ is_none))
+        after = ap (λ (z : Linkage). z.managed) (reading-after noted opening_linkage j n there ∙ entry-by (reading_at noted j) n false (ap is_read e ∙ is_none))
             ∙ (λ z. managed_after (reading_at noted j).managed (record n.entry.made { op = e z }) (f z) (is_peer_event n.entry.made.caller (e z)))
 
         still : NoTakeBetween noted t i (suc j)
@@ -223,7 +215,7 @@ pinned_objects_live noted w i j t m g l none = pinned-at noted w i t m g j l non
 pub given_objects_live : GivenObjectsLive
 given_objects_live noted w i t m g =
     let p = pinned-at noted w i t m g (suc i) (omega arith) (λ x l k takes. omega (arith, l, k)) in
-    let same = ap (λ (s : Linkage). s.managed.managed.heap) (after-one noted opening_linkage i g.entry g.there ∙ entry-by (reading_at noted i) g.entry true (is-read g.entry.entry.made.op g.cell g.reads)) in
+    let same = ap (λ (s : Linkage). s.managed.managed.heap) (reading-after noted opening_linkage i g.entry g.there ∙ entry-by (reading_at noted i) g.entry true (is-read g.entry.entry.made.op g.cell g.reads)) in
     subst (λ h. IsLive h m) same p.live
 
 abbrev frees_objects : Op → Bool
