@@ -1,10 +1,11 @@
--- How many fields live rows have: those with higher numbers were counted, and one row more is counted with its fields. A part of a list has at most the
--- fields of the whole.
-use Rattle.std.proofs.Common.{◌≡◌, ℕ, zero, suc, ◌+◌, ◌<◌, ◌≤◌, inl, inr, List, [], ◌∷◌, ◌++◌, length, take, sym, ap, subst, ◌∙◌, arith}
-use Rattle.std.specs.Prelude.{Contains, slice_get, Some}
+-- How many fields live rows have: rising ones are among all rows, so together they have at most the fields of all. A part of a list has at most the fields
+-- of the whole.
+use Rattle.std.proofs.Common.{◌≡◌, ℕ, zero, suc, ◌+◌, ◌<◌, ◌≤◌, inl, inr, List, [], ◌∷◌, ◌++◌, Option, None, drop, length, map, take, ap, ◌∙◌, arith}
+use Rattle.std.specs.Prelude.{All, Contains, slice_get, Some, sum}
 use Rattle.std.proofs.lemmas.Bool.{cases_lt}
 use Rattle.std.proofs.lemmas.List.{length-map}
 use Rattle.std.proofs.lemmas.List.Elements.{All-cons, All-head, All-weaker}
+use Rattle.std.proofs.lemmas.List.Sums.{sum_by-cons}
 use Rattle.joint_model.specs.declared.names.MNum.{MNum}
 use Rattle.joint_model.specs.Components.{Rises}
 use Rattle.joint_model.specs.Heaps.{Heap, IsLive, fields_of}
@@ -12,33 +13,40 @@ use Rattle.joint_model.specs.Histories.{managed_numbers}
 use Rattle.joint_model.proofs.Members.{All-members, Contains-here, Contains-there, take-next}
 use Rattle.row_heap.specs.Marks.{AreWhite}
 use Rattle.row_heap.specs.Rows.{HeapRows}
-use Rattle.managed_side.specs.Rooms.{FieldsFit, fields_in}
+use Rattle.managed_side.specs.Rooms.{fields_in}
 use Rattle.managed_side.proofs.Resolutions.{rows-few}
 
--- no row has a number above the last one
-pub fit-start : (h : Heap) (n t : ℕ) → length h.fields ≤ n → FieldsFit h n t
-fit-start h n t few [] r a l = omega (arith)
-fit-start h n t few (x ∷ xs) r a l =
+-- how many fields the rows behind the first ones have together
+abbrev pub fields_after : List (List (Option ℕ)) → ℕ → ℕ
+fields_after rows k = sum (map length (drop k rows))
+
+-- the next of them, and those behind it
+after-next : (rows : List (List (Option ℕ))) (k : ℕ) → k < length rows → fields_after rows k ≡ length {A = Option ℕ} (elim (slice_get rows k) [ None ↦ [] | Some fs ↦ fs ]) + fields_after rows (suc k)
+after-next [] k within = absurd (omega (arith, within))
+after-next (fs ∷ rows) zero within = sum_by-cons (λ n. n) (length fs) (map length rows)
+after-next (fs ∷ rows) (suc k) within = after-next rows k (omega (arith, within))
+
+-- rising live rows behind the first ones have at most these
+fields-after : (h : Heap) (d k : ℕ) (xs : List ℕ) → length h.fields ≤ k + d → Rises xs → All (λ y. k < y) xs → ((m : ℕ) → Contains xs m → IsLive h m) → fields_in h xs ≤ fields_after h.fields k
+fields-after h d k [] end r a l = omega (arith)
+fields-after h zero k (x ∷ xs) end r a l = absurd (omega (arith, (l x (Contains-here x xs)).made.1, All-head (λ y. k < y) x xs a, end))
+fields-after h (suc d) k (x ∷ xs) end r a l =
     let here = l x (Contains-here x xs) in
-    let above : n < x = All-head (λ y. n < y) x xs a in
-    absurd (omega (arith, here.made.1, above, few))
+    let high : k < x = All-head (λ y. k < y) x xs a in
+    let next = after-next h.fields k (omega (arith, here.made.1, high)) in
+    let end' : length h.fields ≤ suc k + d = omega (arith, end) in
+    elim (cases_lt (suc k) x) [
+      | inl above ↦ (let b = fields-after h d (suc k) (x ∷ xs) end' r (All-cons (λ y. suc k < y) x xs above (All-weaker (λ y. x < y) (λ y. suc k < y) (λ y h. omega (arith, h, above)) xs r.0)) l in omega (arith, b, next))
+      | inr low ↦ (
+          let same : x ≡ suc k = omega (arith, high, low) in
+          let first : length (fields_of h x) ≡ length (fields_of h (suc k)) = ap (λ y. length (fields_of h y)) same in
+          let rest = fields-after h d (suc k) xs end' r.1 (All-weaker (λ y. x < y) (λ y. suc k < y) (λ y h. omega (arith, h, same)) xs r.0) (λ m c. l m (Contains-there m x xs c)) in
+          omega (arith, first, rest, next))
+    ]
 
--- one row more
-pub fit-more : (h : Heap) (n k t len : ℕ) → n ≡ k + 1 → (IsLive h n → length (fields_of h n) ≤ len) → FieldsFit h n t → FieldsFit h k (t + len)
-fit-more h n k t len next counted fits [] r a l = omega (arith)
-fit-more h n k t len next counted fits (x ∷ xs) r a l = elim (cases_lt n x) [
-  | inl above ↦ (let b = fits (x ∷ xs) r (All-cons (λ y. n < y) x xs above (All-weaker (λ y. x < y) (λ y. n < y) (λ y h. omega (arith, h, above)) xs r.0)) l in omega (arith, b))
-  | inr low ↦ (
-      let high : k < x = All-head (λ y. k < y) x xs a in
-      let same : x ≡ n = omega (arith, high, low, next) in
-      let here : length (fields_of h x) ≤ len = subst (λ z. length (fields_of h z) ≤ len) (sym same) (counted (subst (IsLive h) same (l x (Contains-here x xs)))) in
-      let rest = fits xs r.1 (All-weaker (λ y. x < y) (λ y. n < y) (λ y h. omega (arith, h, same)) xs r.0) (λ m c. l m (Contains-there m x xs c)) in
-      omega (arith, here, rest))
-]
-
--- rows that are live have numbers
-pub fit-all : (h : Heap) (t : ℕ) (xs : List ℕ) → FieldsFit h 0 t → Rises xs → ((m : ℕ) → Contains xs m → IsLive h m) → fields_in h xs ≤ t
-fit-all h t xs fits r l = fits xs r (All-members (λ y. 0 < y) xs (λ m c. (l m c).made.0)) l
+-- rising live rows have together at most the fields of all rows
+pub fields-fit : (h : Heap) (xs : List ℕ) → Rises xs → ((m : ℕ) → Contains xs m → IsLive h m) → fields_in h xs ≤ sum (map length h.fields)
+fields-fit h xs r l = fields-after h (length h.fields) 0 xs (omega arith) r (All-members (λ y. 0 < y) xs (λ m c. (l m c).made.0)) l
 
 fields-push : (h : Heap) (xs : List ℕ) (x : ℕ) → fields_in h (xs ++ x ∷ []) ≡ fields_in h xs + length (fields_of h x)
 fields-push h [] x = omega (arith)

@@ -1,11 +1,11 @@
 // The dead part of a snapshot as a graph value: its rows are the nodes, and their fields that lead to one another the edges.
 
-ghost use Rattle.std.specs.Prelude.{◌≡◌, ℕ, ◌+◌, ◌<◌, ◌≤◌, ◌↔◌, ◌⊎◌, [], All, Contains, Option, Some, None, IfSome, IsOk, OnOk, List, length, map, replicate, slice_get, true, nat_eq};
+ghost use Rattle.std.specs.Prelude.{◌≡◌, ℕ, ◌+◌, ◌<◌, ◌≤◌, ◌↔◌, ◌⊎◌, [], All, Contains, Option, Some, None, IfSome, IsOk, OnOk, List, length, map, replicate, slice_get, sum, true, nat_eq};
 ghost use Rattle.joint_model.specs.Components.{Rises};
 ghost use Rattle.joint_model.specs.Heaps.{IsLive, fields_of};
 ghost use Rattle.joint_model.specs.Histories.{managed_numbers};
 ghost use Rattle.bridge_graph.specs.Parts.{NodeLeads, opaque_at, row_at};
-ghost use Rattle.managed_side.specs.Rooms.{FieldsFit, fields_in};
+ghost use Rattle.managed_side.specs.Rooms.{fields_in};
 ghost use Rattle.managed_side.specs.Graphs.{ArePlaces, HasDeadField, HasPlaced, IsPlaceOf, held_at, handle_named, node_of};
 
 use crate::rows::Held;
@@ -148,7 +148,7 @@ pub(crate) fn graph_of(
     requires zeros { places.items ≡ replicate (length heap.now.heap.fields + 1) 0 }
     requires empty { (builder.nodes ≡ []) × (builder.edges ≡ []) }
     requires nodes { length heap.now.heap.fields ≤ builder.spare_nodes }
-    requires edges { FieldsFit heap.now.heap 0 builder.spare_edges }
+    requires edges { sum (map length heap.now.heap.fields) ≤ builder.spare_edges }
     requires live { (m : ℕ) → Contains (managed_numbers dead.now) m → IsLive heap.now.heap m }
     requires infos { length infos.now ≡ length heap.now.heap.fields }
     requires few { length dead.now ≤ 65535 }

@@ -1,18 +1,13 @@
 // Room for a snapshot of the present rows, whatever pins it is given: it is taken before the gate is closed, so that afterwards nothing fails.
 //
-// Each list that a snapshot makes has at most as many members as rows were made. The graph of the dead part has at most an edge for each field of
-// a live row, so these are counted.
+// Each list that a snapshot makes has at most as many members as rows were made, and the graph of the dead part at most an edge for each of their fields.
 
-ghost use Rattle.std.specs.Prelude.{◌≡◌, ◌+◌, ◌≤◌, [], IfOk, length, replicate, vec_capacity};
-ghost use Rattle.managed_side.specs.Rooms.{FieldsFit};
+ghost use Rattle.std.specs.Prelude.{◌≡◌, ◌+◌, ◌≤◌, [], IfOk, length, map, replicate, sum, vec_capacity};
 
 use bridge_graph::GraphBuilder;
 use joint_model::MNum;
 use row_heap::RowHeap;
 use std::alloc::{AllocError, Global};
-
-// The most edges of a dead part.
-const MOST_EDGES: u32 = 4_294_967_295;
 
 /// Room for a snapshot.
 #[derive(Drop)]
@@ -24,25 +19,6 @@ pub(crate) struct Room {
     pub(crate) graph: GraphBuilder,
 }
 
-// How many fields the live rows have together.
-fn count_fields(heap: &RowHeap<MNum>) -> Result<u32, AllocError>
-    ensures { IfOk result (FieldsFit heap.now.heap 0) }
-{
-    let mut total = 0u32;
-    let made = heap.made();
-    for k in 0..made {
-        let m = made - k;
-        if heap.is_live(m) {
-            let n = heap.fields_len(m);
-            if n > (MOST_EDGES - total) as usize {
-                return Err(AllocError);
-            }
-            total += n as u32;
-        }
-    }
-    Ok(total)
-}
-
 impl Room {
     /// Room for a snapshot of these rows.
     pub(crate) fn of(alloc: Global, heap: &RowHeap<MNum>) -> Result<Room, AllocError>
@@ -52,12 +28,11 @@ impl Room {
         ensures places { IfOk result (λ r. r.places.items ≡ replicate (length heap.now.heap.fields + 1) 0) }
         ensures graph { IfOk result (λ r. (r.graph.nodes ≡ []) × (r.graph.edges ≡ [])) }
         ensures nodes { IfOk result (λ r. length heap.now.heap.fields ≤ r.graph.spare_nodes) }
-        ensures edges { IfOk result (λ r. FieldsFit heap.now.heap 0 r.graph.spare_edges) }
+        ensures edges { IfOk result (λ r. sum (map length heap.now.heap.fields) ≤ r.graph.spare_edges) }
     {
         let made = heap.made();
-        let edges = count_fields(heap)?;
         let mut graph = GraphBuilder::new(alloc);
-        graph.reserve(made, edges)?;
+        graph.reserve(made, heap.fields_made())?;
         Ok(Room {
             freed: Vec::with_capacity(alloc, made as usize)?,
             candidates: Vec::with_capacity(alloc, made as usize)?,

@@ -4,7 +4,7 @@
 // that hold a handle, what a candidate reaches stays, and the others are freed. At the end the marks are again those of what slots and pins
 // reach, so that the live rows without a mark are exactly the dead part.
 
-ghost use Rattle.std.specs.Prelude.{◌≡◌, ℕ, ◌↔◌, ◌⊎◌, ◌≤◌, ◌<◌, ◌∷◌, [], Bool, false, Some, None, Contains, IsTrue, length, map, filter, replicate, vec_capacity, ◌+◌};
+ghost use Rattle.std.specs.Prelude.{◌≡◌, ℕ, ◌↔◌, ◌⊎◌, ◌≤◌, ◌<◌, ◌∷◌, [], Bool, false, Some, None, Contains, IsTrue, length, map, filter, replicate, sum, vec_capacity, ◌+◌};
 ghost use Rattle.joint_model.specs.Heaps.{HasField, InSlot, IsLive};
 ghost use Rattle.joint_model.specs.Histories.{managed_numbers};
 ghost use Rattle.joint_model.specs.Walks.{Reached};
@@ -16,7 +16,6 @@ ghost use Rattle.managed_side.specs.Graphs.{HasDeadField, node_of};
 ghost use Rattle.managed_side.specs.Resolving.{has_handle};
 ghost use Rattle.reachability.specs.Marks.{marked};
 ghost use Rattle.managed_side.specs.Pinned.{pins_given};
-ghost use Rattle.managed_side.specs.Rooms.{FieldsFit};
 ghost use Rattle.managed_side.specs.Snapshots.{PartsUnmarked, Prepares};
 
 use crate::graphs::graph_of;
@@ -161,7 +160,7 @@ pub(crate) fn prepare(heap: &mut RowHeap<MNum>, infos: &[Held], pins: &Pins, roo
     requires zeros { room.places.items ≡ replicate (length heap.old.heap.fields + 1) 0 }
     requires bare { (room.graph.nodes ≡ []) × (room.graph.edges ≡ []) }
     requires rows { length heap.old.heap.fields ≤ room.graph.spare_nodes }
-    requires fields { FieldsFit heap.old.heap 0 room.graph.spare_edges }
+    requires fields { sum (map length heap.old.heap.fields) ≤ room.graph.spare_edges }
     ensures prepares { Prepares heap.old.heap (pins_given pins.now.at) (map (λ i. i.handle) infos.now) heap.new (managed_numbers result.found.freed.items) result.found.candidates.items (managed_numbers result.found.dead.items) }
     ensures nodes { result.graph.nodes ≡ map (node_of heap.old.heap (map (λ i. i.handle) infos.now)) result.found.dead.items }
     ensures edges { (a k : ℕ) → NodeLeads result.graph.edges a k ↔ HasDeadField heap.old.heap (managed_numbers result.found.dead.items) a k }

@@ -6,7 +6,7 @@ use Rattle.joint_model.specs.Histories.{managed_numbers}
 use Rattle.bridge_graph.specs.Parts.{NodeLeads}
 use Rattle.managed_side.specs.Graphs.{HasDeadField}
 use Rattle.managed_side.proofs.DeadGraphs.{edges-all}
-use Rattle.managed_side.proofs.FieldRoom.{fit-all}
+use Rattle.managed_side.proofs.FieldRoom.{fields-fit}
 use Rattle.managed_side.proofs.Resolutions.{All-numbers, rows-few}
 use Rattle.managed_side.proofs.graphs.graph_of.Goals as goal
 
@@ -20,8 +20,8 @@ unreachable-requires c =
 
 pub unreachable-requires-in_default-add_edges : goal.unreachable-requires-in_default-add_edges
 unreachable-requires-in_default-add_edges c =
-    let few = fit-all c.args.heap.now.heap c.args.builder.spare_edges (managed_numbers c.args.dead.now) c.requires.edges c.requires.rise c.requires.live in
-    true≢false (sym (c.in_default-add_edges.ensures.ready (omega (arith, few, c.add_nodes.ensures.spare))))
+    let few = fields-fit c.args.heap.now.heap (managed_numbers c.args.dead.now) c.requires.rise c.requires.live in
+    true≢false (sym (c.in_default-add_edges.ensures.ready (omega (arith, few, c.requires.edges, c.add_nodes.ensures.spare))))
 
 pub returns-clause-edges : goal.returns-clause-edges
 returns-clause-edges c =

@@ -1,6 +1,6 @@
 -- What was found is live, and there are few of it. The objects are those for which the room was taken.
-use Rattle.std.proofs.Common.{◌≡◌, ◌∙◌, ◌↔◌, List, length, ap, sym, subst, arith}
-use Rattle.std.specs.Prelude.{Contains}
+use Rattle.std.proofs.Common.{◌≡◌, ◌∙◌, ◌↔◌, ◌≤◌, List, length, map, ap, sym, subst, arith}
+use Rattle.std.specs.Prelude.{Contains, sum}
 use Rattle.std.proofs.lemmas.List.{length-map}
 use Rattle.joint_model.specs.declared.names.MNum.{MNum}
 use Rattle.joint_model.specs.Components.{Rises}
@@ -9,7 +9,6 @@ use Rattle.joint_model.specs.Histories.{managed_numbers}
 use Rattle.bridge_graph.specs.Parts.{NodeLeads}
 use Rattle.row_heap.specs.Rows.{HeapRows}
 use Rattle.managed_side.specs.Graphs.{HasDeadField}
-use Rattle.managed_side.specs.Rooms.{FieldsFit}
 use Rattle.managed_side.proofs.Resolutions.{rows-few}
 use Rattle.managed_side.proofs.TakingSnapshots.{dead-live, dead-rises, freed-live, freed-rises, candidates-live, candidates-rise}
 use Rattle.managed_side.proofs.snapshots.prepare.Goals as goal
@@ -17,7 +16,7 @@ use Rattle.managed_side.proofs.snapshots.prepare.Goals as goal
 pub graph_of-graph-requires-clause-edges : goal.graph_of-graph-requires-clause-edges
 graph_of-graph-requires-clause-edges c =
     let same : c.find-found.new.heap.heap ≡ c.args.heap.now.heap = ap (λ (v : HeapRows). v.heap) c.find-found.ensures.rest ∙ ap (λ (v : HeapRows). v.heap) c.mark_slots.ensures.rest in
-    subst (λ (h : Heap). FieldsFit h 0 c.args.room.graph.spare_edges) (sym same) c.requires.fields
+    subst (λ (h : Heap). sum (map length h.fields) ≤ c.args.room.graph.spare_edges) (sym same) c.requires.fields
 
 pub graph_of-graph-requires-clause-live : goal.graph_of-graph-requires-clause-live
 graph_of-graph-requires-clause-live c = λ m k. subst (λ (v : HeapRows). IsLive v.heap m) (sym c.find-found.ensures.rest) (dead-live c.mark_slots.new.heap c.find-found.new.heap _ _ _ _ c.find-found.ensures.finds m (subst (λ (xs : List MNum). Contains (managed_numbers xs) m) c.deref.ensures.value k))
