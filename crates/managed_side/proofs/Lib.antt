@@ -8,6 +8,7 @@ pub mod Lists
 pub mod BringingBack
 pub mod Forgetting
 pub mod Resolutions
+pub mod FreedCandidates
 pub mod Dues
 pub mod Driving
 pub mod Gathering

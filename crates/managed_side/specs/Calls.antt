@@ -12,6 +12,7 @@ use Rattle.joint_model.specs.ManagedReplay.{ManagedReplay, MayContract}
 use Rattle.joint_model.specs.Sides.{Side, Drawing, AddsLawful, managed_rules}
 use Rattle.joint_model.specs.Told.{nothing, contraction_of, resolution_of}
 use Rattle.managed_side.specs.declared.cycles.ResolveOut.{ResolveOut}
+use Rattle.managed_side.specs.Resolving.{FreesUnanswered, IsAliveClosed}
 use Rattle.managed_side.specs.Steps.{step_made}
 
 -- the driver's events
@@ -52,12 +53,13 @@ pub record MayContractWith (s : ManagedReplay) (sccs xrefs : ℕ) : Type 0 where
 pub record Contracts {D : Type 0} (d : Drawing D) (before after : D) (old new : Side ManagedReplay) (index sccs xrefs : ℕ) (c : OpenCycle) : Type 0 where
   pub adds : (comps : List (List ℕ)) (pairs : List (ℕ × ℕ)) → IsContractedBy old.state c sccs xrefs comps pairs → AddsLawful managed_rules d before after old new (contract_made c index sccs xrefs) (contraction_of comps pairs)
 
--- a resolution closes the open cycle and makes one entry
+-- a resolution closes the open cycle and makes one entry; of the rows with a handle it frees exactly the candidates that weren't answered alive, where none that was leads to one
 pub record Resolves {D : Type 0} (d : Drawing D) (before after : D) (old new : Side ManagedReplay) (index cites : ℕ) (alive : List Bool) (out : ResolveOut) : Type 0 where
   pub cycle : OpenCycle
   pub opened : old.state.managed.cycle ≡ Some cycle
   pub freed : List ℕ
   pub adds : AddsLawful managed_rules d before after old new (resolve_made old.state.managed cycle index freed cites) (resolution_of (answers_of alive) freed)
+  pub exact : IsAliveClosed old.state.managed cycle.candidates (answers_of alive) → FreesUnanswered old.state.managed cycle.candidates (answers_of alive) freed
   pub span : out.freed ≡ record { first = length old.state.managed.heap.freed; count = length freed }
   pub kept : out.kept ≡ count_by (λ b. b) alive
 

@@ -1,10 +1,12 @@
 -- What a resolution does to the rows of a side.
 use Rattle.std.specs.Prelude.{◌≡◌, ℕ, ◌<◌, ◌↔◌, Bool, true, List, Contains, length, count_by, Option, Some, None, is_some, slice_get}
+use Rattle.joint_model.specs.Told.{Answer}
 use Rattle.joint_model.specs.Cycles.{IsResolution, IsAnsweredAlive}
 use Rattle.joint_model.specs.Heaps.{numbered_at}
 use Rattle.joint_model.specs.Listed.{answers_of}
-use Rattle.joint_model.specs.Managed.{OpenCycle, resolved}
+use Rattle.joint_model.specs.Managed.{IsBridge, Managed, ManagedEdge, OpenCycle, resolved}
 use Rattle.joint_model.specs.ManagedReplay.{ManagedReplay, without_twins}
+use Rattle.joint_model.specs.Walks.{Reaches}
 
 -- the answer at one of the places below n is alive, for this candidate
 abbrev pub IsAliveBelow : ℕ → List ℕ → List Bool → ℕ → Type 0
@@ -21,6 +23,14 @@ has_peer peers m = is_some (elim (numbered_at peers m) [ None ↦ None | Some p 
 -- beside these rows stands no peer any more, and beside each other row what stood there
 abbrev pub AreCleared : List (Option ℕ) → List (Option ℕ) → List ℕ → Type 0
 AreCleared old new rows = (p m : ℕ) → (numbered_at new m ≡ Some (Some p)) ↔ ((numbered_at old m ≡ Some (Some p)) × (Contains rows m → ⊥))
+
+-- no candidate that was answered alive leads to one that wasn't: the mirrored references see to it
+abbrev pub IsAliveClosed : Managed → List ℕ → List Answer → Type 0
+IsAliveClosed s candidates alive = (x m : ℕ) → IsAnsweredAlive candidates alive x → Contains candidates m → Reaches (ManagedEdge s) x m → IsAnsweredAlive candidates alive m
+
+-- of the rows that are freed those that hold a handle are exactly the candidates that weren't answered alive
+abbrev pub FreesUnanswered : Managed → List ℕ → List Answer → List ℕ → Type 0
+FreesUnanswered s candidates alive freed = (m : ℕ) → (Contains freed m × IsBridge s m) ↔ (Contains candidates m × (IsAnsweredAlive candidates alive m → ⊥))
 
 -- a cycle is open, and there is one answer for each candidate
 pub record MayClose (s : ManagedReplay) (alive : List Bool) : Type 0 where

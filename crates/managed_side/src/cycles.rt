@@ -38,6 +38,9 @@ impl ManagedSide {
     /// Resolves the open cycle: frees the rows of the dead part that no candidate reaches that was answered alive, queues a notice for each of
     /// them that holds a handle, in rising number, takes their pairs out of the registry, and closes the cycle. `alive` has one value for each
     /// candidate, in rising number. One entry is drawn and put last; it cites `cites`. It takes no memory.
+    ///
+    /// Where no candidate that was answered alive leads to one that wasn't, the freed rows that hold a handle are exactly the candidates that weren't
+    /// answered alive.
     pub fn resolve<D: Draw>(
         &mut self,
         draw: &mut D,

@@ -16,6 +16,7 @@ use Rattle.joint_model.proofs.SideLists.{AreTaken-push}
 use Rattle.known_laws.proofs.Pinned.{none_stand}
 use Rattle.managed_side.specs.Calls.{resolve_made}
 use Rattle.managed_side.specs.Steps.{step_made}
+use Rattle.managed_side.proofs.FreedCandidates.{frees-unanswered}
 use Rattle.managed_side.proofs.Driving.{resolve-goes, adds-lawful, objects-numbers}
 use Rattle.managed_side.proofs.Goes.{side-kept, side-replayed, kept-rows}
 use Rattle.managed_side.proofs.side.ManagedSide.resolve.Goals as goal
@@ -74,6 +75,7 @@ returns g c =
         freed = freed;
         adds = adds-lawful (record { floor = g.D.Draw.floor; left = g.D.Draw.left; may = g.D.Draw.may; drew = g.D.Draw.drew }) c.args.draw.now c.enter.new.draw i.threads i.entries.entries c.enter.new.entries.entries i.rows c.resolve-resolution.new.self (resolve_made i.rows.managed t.cycle c.args.index freed c.args.cites) (resolution_of (answers_of c.args.alive.now.values) freed) c.deref.result.now draws refl (objects-numbers ms ∙ sym c.deref.ensures.value)
             (resolve-goes i.entries.entries c.enter.new.entries.entries i.rows c.resolve-resolution.new.self draws.adds.number c.args.index c.args.cites _ _ _ c.args.alive.now.values freed c.self.invariant.0 t one_each draws.adds.added);
+        exact = frees-unanswered i.rows.managed t.cycle (answers_of c.args.alive.now.values) freed (c.self.invariant.3.kept.managed.dead t.cycle t.opened) t.resolution;
         span = rw (t.before, many) refl;
         kept = t.counted;
       });
