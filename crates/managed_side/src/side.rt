@@ -14,6 +14,7 @@ ghost use Rattle.joint_model.specs.Told.{kept_pins, nothing, phase_of};
 ghost use Rattle.joint_laws.specs.ManagedInvariants.{IsReplayKept};
 ghost use Rattle.known_laws.specs.Known.{PinsStand};
 ghost use Rattle.managed_side.specs.Pinned.{pin_given};
+ghost use Rattle.managed_side.specs.Rows.{number_or_none};
 ghost use Rattle.managed_side.specs.Sides.{twin_answer};
 ghost use Rattle.managed_side.specs.Steps.{CitesRightly, IsFresh, IsManagedStep, step_made, take_op, weak_op};
 
@@ -236,6 +237,15 @@ impl ManagedSide {
             None => TwinAnswer::NoTwin,
             Some(m) => TwinAnswer::Found(m),
         }
+    }
+
+    /// The side's own pin of a thread: none, ever, since a thread's pin is its reader's and is given to the calls that need it.
+    pub fn pin(&self, _t: Thread) -> Option<MNum>
+        ensures pin { slot self.now.state.managed.pins (thread_number _t) ≡ number_or_none result }
+        ensures none { result ≡ None }
+    {
+        self.rows.unpinned();
+        None
     }
 
     /// Whether object `m` was made and isn't freed.

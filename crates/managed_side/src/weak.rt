@@ -3,6 +3,7 @@
 ghost use Rattle.std.specs.Prelude.{◌≡◌, ℕ, ◌+◌, ◌<◌, ◌≤◌, Some, None, length, min, IfSome, ◌↔◌};
 ghost use Rattle.joint_model.specs.Heaps.{IsLive, answer, slot};
 ghost use Rattle.joint_model.specs.Managed.{cell_set, notices_taken, weakened_to};
+ghost use Rattle.joint_model.specs.Told.{no_pins};
 ghost use Rattle.managed_side.specs.Pinned.{pin_reply, weak_target, with_taken};
 
 use crate::rows::ManagedRows;
@@ -51,6 +52,13 @@ impl ManagedRows {
             Some(x) if word == 0 => Some(MNum(x)),
             _ => None,
         }
+    }
+
+    /// The rows have no pins, for the proofs of callers. It does nothing.
+    pub(crate) fn unpinned(&self)
+        ensures { self.now.managed.pins ≡ no_pins }
+    {
+        let _ = &self.heap;
     }
 
     /// `take V`: V names the object of the pin that is given.
