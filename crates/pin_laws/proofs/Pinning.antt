@@ -1,7 +1,7 @@
 -- From the read that gives an object up to its thread's next `take` the thread's pin holds the object. Of all entries only a read that gives an object and a
 -- `take` change a pin, their own thread's; and a read with a filled pin gives none. What a pin holds is live, since no slot names a freed object.
 use Rattle.std.proofs.Common.{◌≡◌, ℕ, zero, suc, ◌+◌, ◌-◌, ◌<◌, inl, inr, ⊎_elim, Bool, true, false, List, [], ◌∷◌, length, take, Option, Some, None, refl, sym, ap, subst, ◌∙◌, arith}
-use Rattle.std.specs.Prelude.{Contains, if◌then◌else◌, slice_get, slice_set}
+use Rattle.std.specs.Prelude.{Contains, slice_get, slice_set}
 use Rattle.std.proofs.lemmas.Bool.{cases_lt}
 use Rattle.std.proofs.lemmas.List.{length-set, take_all}
 use Rattle.std.proofs.lemmas.List.Elements.{Contains-append_right}
@@ -17,14 +17,13 @@ use Rattle.joint_model.specs.declared.events.Reply.{Reply}
 use Rattle.joint_model.specs.declared.events.Reply.TheVariants as says
 use Rattle.joint_model.specs.Heaps.{Answered, IsLive, answer, slot}
 use Rattle.joint_model.specs.Lines.{IsEvent, is_peer_event, is_read}
-use Rattle.joint_model.specs.Linked.{Linkage, opening_linkage, linkage_after, managed_after, replayed}
+use Rattle.joint_model.specs.Linked.{Linkage, opening_linkage, managed_after, replayed}
 use Rattle.joint_model.specs.LinkedHistories.{managed_end}
 use Rattle.joint_model.specs.Managed.{Managed, cell_read, read_cell}
 use Rattle.joint_model.specs.ManagedReplay.{ManagedReplay}
-use Rattle.joint_model.specs.Readers.{ReadsCell, IsReadReply, EntryMayCome, AllMayComeReading, reader_after, entry_after, pins_after, replayed_reading}
+use Rattle.joint_model.specs.Readers.{ReadsCell, IsReadReply, EntryMayCome, AllMayComeReading, entry_after, pins_after, replayed_reading}
 use Rattle.joint_model.specs.Run.{thread_number}
 use Rattle.joint_model.specs.Told.{Told, Noted, snap_of, resolution_of}
-use Rattle.joint_model.proofs.Deciding.{none_some}
 use Rattle.joint_model.proofs.Joining.{slice_get-set_other, slice_get-set_same}
 use Rattle.joint_model.proofs.Numbered.{slot-Contains}
 use Rattle.joint_laws.specs.AfterwardsLaws.{reading_at}
