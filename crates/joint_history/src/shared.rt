@@ -60,7 +60,9 @@ fn join_lists(
     let mut lists = readers;
     lists[0] = left.entries;
     lists[1] = right.entries;
-    let lists = Vec::from_array(alloc, lists)?;
+    let Ok(lists) = Vec::from_array(alloc, lists) else {
+        return Err(JoinFault::OutOfMemory);
+    };
     History::join(alloc, lists, left.freed, right.freed, left.notices)
 }
 
