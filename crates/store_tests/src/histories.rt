@@ -3,8 +3,8 @@
 ghost use Rattle.std.specs.Prelude.{◌≡◌, [], ◌∷◌, IfOk};
 
 use joint_model::{
-    Act, Alive, Cell, Counter, Draw, Entries, Entry, HNum, History, Holding, Made, Op, Reply,
-    Thread, Var,
+    Act, Alive, Cell, Counter, Draw, Entries, Entry, HNum, History, Holding, JoinFault, Made, Op,
+    Reply, Thread, Var,
 };
 use std::alloc::{AllocError, Global};
 use std::test::Fail;
@@ -89,6 +89,17 @@ fn a_list_that_holds_the_last_entries_counts_all(rt: HostRuntime) -> Result<(), 
 }
 
 #[test]
+fn each_entry_of_both_calls_is_found_by_its_place(rt: HostRuntime) -> Result<(), Fail> {
+    let mut entries = Entries::new(rt.alloc(), Holding::Every);
+    add_in_turn(&mut entries, 700)?;
+    let all = (0..700u32).all(|i| entries
+        .at(i)
+        .is_some_and(|entry| entry == weakened(i as u64, i)));
+    assert!(rt; all && entries.at(700).is_none());
+    Ok(())
+}
+
+#[test]
 fn alive_has_a_value_for_each_push(rt: HostRuntime) -> Result<(), Fail> {
     let mut alive = Alive::new(rt.alloc(), 2)?;
     assert!(rt; alive.is_empty());
@@ -130,7 +141,14 @@ fn empty(alloc: Global) -> Entries
     Entries::new(alloc, Holding::Every)
 }
 
-fn single(alloc: Global, number: u64, caller: Thread, op: Op) -> Result<Entries, AllocError>
+// It is room for more that lets the entry go, where the list holds the last ones alone.
+fn single(
+    alloc: Global,
+    holding: Holding,
+    number: u64,
+    caller: Thread,
+    op: Op,
+) -> Result<Entries, AllocError>
     ensures { IfOk result (λ s. s.entries ≡ record { number = number; made = record { caller = caller; index = 7; op = op; reply = Reply.Gone; cites = None } } ∷ []) }
 {
     let made = Made {
@@ -140,36 +158,68 @@ fn single(alloc: Global, number: u64, caller: Thread, op: Op) -> Result<Entries,
         reply: Reply::Gone,
         cites: None,
     };
-    let mut entries = Entries::new(alloc, Holding::Every);
+    let mut entries = Entries::new(alloc, holding);
     entries.reserve(1)?;
     entries.push(Entry { number, made });
+    entries.reserve(5_000)?;
     Ok(entries)
 }
 
-// An entry of each side, and one of two readers each.
-#[test]
-fn ten_lists_join_to_one_history(rt: HostRuntime) -> Result<(), Fail> {
-    let alloc = rt.alloc();
+// Joins ten lists: an entry of each side, and one of two readers each. Answers `AllocError` where there is no memory for the lists.
+fn join_ten(alloc: Global, holding: Holding) -> Result<Result<History, JoinFault>, AllocError> {
     let lists = vec![in alloc;
-        single(alloc, 2, Thread::M(1), Op::Line(Act::Drop { v: Var(0) }))?,
-        single(alloc, 1, Thread::C, Op::Begin)?,
+        single(
+            alloc,
+            holding,
+            2,
+            Thread::M(1),
+            Op::Line(Act::Drop { v: Var(0) })
+        )?,
+        single(alloc, holding, 1, Thread::C, Op::Begin)?,
         empty(alloc),
-        single(alloc, 3, Thread::M(2), Op::Line(Act::Read { k: Cell(0) }))?,
+        single(
+            alloc,
+            holding,
+            3,
+            Thread::M(2),
+            Op::Line(Act::Read { k: Cell(0) })
+        )?,
         empty(alloc),
         empty(alloc),
         empty(alloc),
-        single(alloc, 0, Thread::M(6), Op::Line(Act::Await { k: Cell(1) }))?,
+        single(
+            alloc,
+            holding,
+            0,
+            Thread::M(6),
+            Op::Line(Act::Await { k: Cell(1) })
+        )?,
         empty(alloc),
         empty(alloc),
     ]?;
-    let history = History::join(
+    Ok(History::join(
         alloc,
         lists,
         Vec::new(alloc),
         Vec::new(alloc),
         Vec::new(alloc),
-    )?;
+    ))
+}
+
+#[test]
+fn ten_lists_join_to_one_history(rt: HostRuntime) -> Result<(), Fail> {
+    let history = join_ten(rt.alloc(), Holding::Every)??;
     let all = (0..4u64).all(|i| history.entry(i).is_some_and(|entry| entry.number == i));
     assert!(rt; all && history.len() == 4 && history.entry(4).is_none());
+    Ok(())
+}
+
+#[test]
+fn lists_that_let_their_entries_go_are_refused(rt: HostRuntime) -> Result<(), Fail> {
+    let refused = match join_ten(rt.alloc(), Holding::Last)? {
+        Ok(_) => false,
+        Err(fault) => fault == JoinFault::EntriesLetGo,
+    };
+    assert!(rt; refused);
     Ok(())
 }
