@@ -1,5 +1,5 @@
 // Tests of the crates that keep something, by their public calls, where memory is ample: lists of entries and their history, marked rows, the
-// heap of rows, the table of handles, the dead part as a graph, and the list of components.
+// heap of rows, the table of handles, the dead part as a graph, the list of components, and the words of the gate, a cell and a pin.
 //
 // They stand in a crate of their own since a crate with tests is proved twice, with them and without. Nothing but tests stands here, and no
 // other crate builds on it.
@@ -17,5 +17,7 @@ mod handles;
 mod histories;
 #[cfg(test)]
 mod markings;
+#[cfg(test)]
+mod reads;
 #[cfg(test)]
 mod row_heaps;
