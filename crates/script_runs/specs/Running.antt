@@ -3,6 +3,7 @@ use Rattle.std.specs.Prelude.{◌≡◌, ℕ, ◌≤◌, ◌⊎◌, if◌then◌
 use mathlib.Core.List.{IsPrefix}
 use Rattle.joint_model.specs.declared.names.Thread.{Thread}
 use Rattle.joint_model.specs.declared.names.Thread.TheVariants.{C}
+use Rattle.joint_model.specs.declared.names.Phase.TheVariants.{Idle}
 use Rattle.joint_model.specs.declared.lines.Act.{Act}
 use Rattle.joint_model.specs.declared.lines.Act.TheVariants as act
 use Rattle.joint_model.specs.declared.events.Entry.{Entry}
@@ -12,7 +13,7 @@ use Rattle.joint_model.specs.Lines.{IsDriver, IsLine, IsManagedThread, IsPeerThr
 use Rattle.joint_model.specs.PeerReplay.{is_thread}
 use Rattle.order_table.specs.declared.views.View.{View}
 use Rattle.order_table.specs.Views.{known}
-use Rattle.joint_history.specs.Callers.{Pass, last_index, own}
+use Rattle.joint_history.specs.Callers.{KnowsNothing, Pass, last_index, own}
 use Rattle.joint_history.specs.Ending.{HasIdleDriver}
 use Rattle.joint_history.specs.Operations.{IsPeerOperation, MakesAll}
 use Rattle.bridge_cycle.specs.Progress.{Progress, pass_of, line_of}
@@ -83,6 +84,16 @@ pub record HasRunLines (script : List (Thread × Act)) (t : Thread) (p : Pass) :
   pub up_to : last_index (own p) ≤ length script
   pub idle : HasIdleDriver p
   pub waits : IsManagedThread t → WaitsEnd (own p)
+
+-- a driver that has made nothing yet, and knows nothing
+pub record IsNewDriver (d : Progress) : Type 0 where
+  pub nothing : KnowsNothing d.view
+  pub phase : d.phase ≡ Idle
+  pub candidates : d.candidates ≡ 0
+
+-- a driver has run its lines and what they have left: so it is of its caller
+abbrev pub HasDriven : List (Thread × Act) → Progress → Type 0
+HasDriven script d = (p : Pass) → p ≡ pass_of d → HasIdleDriver p → HasRunLines script C p
 
 -- the driver's caller stands first, and no other is the driver's
 pub record DriverIsFirst (callers : List Pass) : Type 0 where

@@ -2,12 +2,13 @@
 
 ghost use Rattle.std.specs.Prelude.{◌≡◌, ℕ, ◌≤◌, ◌<◌, false, true, [], All, IfOk, OnOk};
 ghost use Rattle.joint_model.specs.Lines.{IsThread};
+ghost use Rattle.joint_model.specs.declared.names.Phase.TheVariants.{Idle};
 ghost use Rattle.joint_model.specs.declared.names.Thread.TheVariants.{C};
 ghost use Rattle.joint_history.specs.Callers.{KnowsNothing};
 ghost use Rattle.joint_history.specs.Ending.{HasAll};
 ghost use Rattle.joint_history.specs.Operations.{IsOwnThread};
 ghost use Rattle.run_laws.specs.Threads.{NoneIsLeft, thread_lines};
-ghost use Rattle.script_runs.specs.Running.{AreWorkers, CanRun, DriverIsFirst, EndsSo, HasLine};
+ghost use Rattle.script_runs.specs.Running.{AreWorkers, CanRun, DriverIsFirst, EndsSo, HasDriven, HasLine, IsNewDriver};
 
 use crate::lines::{drive_left, drive_line, run_line_beside};
 use crate::places::{is_thread, thread_at};
@@ -89,8 +90,41 @@ pub(crate) fn run_own<N: OrderName, T: Turnstile>(
     Ok(caller)
 }
 
-/// Runs the driver's lines, in their order, each after its turn, and then the phases that they have left. Answers `AllocError` where there is no
-/// memory; a cycle that is open then is ended first, or abandoned.
+// Runs the driver's lines, in their order, each after its turn, and then the phases that they have left. Answers `AllocError` where there is no
+// memory; a cycle that is open then is ended first, or abandoned. The driver is idle in either case, so that no other thread waits for the end of a
+// cycle that has none.
+fn drive_all<N: OrderName, T: Turnstile>(
+    rt: &impl Wait,
+    alloc: Global,
+    shared: &Shared<N, Locks>,
+    script: &[(Thread, Act)],
+    turn: &T,
+    driver: &mut Driver<N>,
+) -> Result<(), AllocError>
+    requires new { IsNewDriver driver.old }
+    requires lines { CanRun script.now }
+    ensures idle { driver.new.phase ≡ Idle }
+    ensures ok { OnOk result (HasDriven script.now driver.new) }
+{
+    let mut last = 0;
+    let mut number = 0;
+    for (t, act) in script {
+        number += 1;
+        if is_thread(Thread::C, *t) {
+            turn.pass(Thread::C, number as u32);
+            match drive_line(rt, alloc, shared, driver, number, act) {
+                Ok(()) => last = number,
+                Err(error) => {
+                    let _ = drive_left(rt, alloc, shared, driver, number);
+                    return Err(error);
+                }
+            }
+        }
+    }
+    drive_left(rt, alloc, shared, driver, last)
+}
+
+/// Runs the lines of the driver's caller, and what they have left. Answers `AllocError` where there is no memory, once the driver is idle.
 pub(crate) fn run_driver<N: OrderName, T: Turnstile>(
     rt: &impl Wait,
     alloc: Global,
@@ -105,22 +139,7 @@ pub(crate) fn run_driver<N: OrderName, T: Turnstile>(
     ensures { EndsSo script.now caller result }
 {
     let mut driver = Driver::new(caller);
-    let mut last = 0;
-    let mut number = 0;
-    for (t, act) in script {
-        number += 1;
-        if is_thread(Thread::C, *t) {
-            turn.pass(Thread::C, number as u32);
-            match drive_line(rt, alloc, shared, &mut driver, number, act) {
-                Ok(()) => last = number,
-                Err(error) => {
-                    let _ = drive_left(rt, alloc, shared, &mut driver, number);
-                    return Err(error);
-                }
-            }
-        }
-    }
-    drive_left(rt, alloc, shared, &mut driver, last)?;
+    drive_all(rt, alloc, shared, script, turn, &mut driver)?;
     Ok(driver.retire())
 }
 
