@@ -1,6 +1,6 @@
 use Rattle.std.proofs.Common.{◌≡◌, ℕ, ◌+◌, ◌≤◌, length, sym, ◌∙◌, ap, subst, arith}
 use Rattle.bridge_cycle.specs.Progress.{Progress, line_of}
-use Rattle.script_runs.specs.Running.{DrivesLine, HasRunLines}
+use Rattle.script_runs.specs.Running.{DrivesLine}
 use Rattle.script_runs.proofs.Owned.{DriverHolds, driver_ends, driver_holds, driver_passes}
 use Rattle.script_runs.proofs.Reading.{there}
 use Rattle.std.proofs.lemmas.Result.{on_ok_weaker}

@@ -1,4 +1,4 @@
-use Rattle.std.proofs.Common.{refl, subst, sym}
+use Rattle.std.proofs.Common.{subst, sym}
 use Rattle.script_runs.specs.Running.{HasRunLines}
 use Rattle.script_runs.proofs.workers.run_driver.Goals as goal
 use Rattle.bridge_cycle.proofs.Refusals.{idle_first}
