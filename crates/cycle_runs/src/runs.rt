@@ -92,18 +92,19 @@ impl CycleCall {
     }
 }
 
-// A shared bridge with a managed thread and the driver, both on the first line.
+/// A shared bridge with a managed and a peer thread and the driver, all on the first line.
 #[derive(Drop)]
-struct DrivenBridge<N: OrderName> {
-    shared: Shared<N, Alone>,
-    one: Caller<N>,
-    driver: Driver<N>,
+pub(crate) struct DrivenBridge<N: OrderName> {
+    pub(crate) shared: Shared<N, Alone>,
+    pub(crate) one: Caller<N>,
+    pub(crate) two: Caller<N>,
+    pub(crate) driver: Driver<N>,
 }
 
 impl<N: OrderName> Model for DrivenBridge<N> {
     ghost use Rattle.std.specs.Prelude.{◌≡◌, ◌≤◌};
     ghost use Rattle.joint_model.specs.declared.names.Phase.{Phase};
-    ghost use Rattle.joint_model.specs.declared.names.Thread.TheVariants.{M};
+    ghost use Rattle.joint_model.specs.declared.names.Thread.TheVariants.{M, P};
     ghost use Rattle.joint_history.specs.Callers.{last_index, own};
     ghost use Rattle.bridge_cycle.specs.Progress.{line_of};
 
@@ -111,7 +112,7 @@ impl<N: OrderName> Model for DrivenBridge<N> {
 
     ghost view = { λ d. d.driver.phase };
 
-    ghost invariant = { λ d. (d.one.thread ≡ M 1) × (last_index (own d.one) ≤ 1) × (line_of d.driver ≤ 1) };
+    ghost invariant = { λ d. (d.one.thread ≡ M 1) × (last_index (own d.one) ≤ 1) × (d.two.thread ≡ P 1) × (last_index (own d.two) ≤ 1) × (line_of d.driver ≤ 1) };
 }
 
 // Runs the driver's call of that name.
@@ -234,8 +235,8 @@ impl<N: OrderName> DrivenBridge<N> {
     }
 }
 
-// The callers of m1 and of the driver over a new bridge; None where the desk has none for them.
-fn start<N: OrderName>(
+/// The callers of m1, of p1 and of the driver over a new bridge; None where the desk has none for them.
+pub(crate) fn start<N: OrderName>(
     alloc: Global,
     order: Order,
     seat: Seat,
@@ -248,6 +249,9 @@ fn start<N: OrderName>(
     let Some(one) = desk.caller(Thread::M(1)) else {
         return Ok(None);
     };
+    let Some(two) = desk.caller(Thread::P(1)) else {
+        return Ok(None);
+    };
     let Some(caller) = desk.caller(Thread::C) else {
         return Ok(None);
     };
@@ -255,6 +259,7 @@ fn start<N: OrderName>(
     Ok(Some(DrivenBridge {
         shared,
         one,
+        two,
         driver,
     }))
 }

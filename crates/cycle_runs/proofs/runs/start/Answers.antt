@@ -1,4 +1,4 @@
--- Neither caller has made anything, and the driver is idle.
+-- No caller has made anything, and the driver is idle.
 use Rattle.std.proofs.Common.{sym, ap, subst}
 use Rattle.joint_history.specs.Callers.{KnowsNothing}
 use Rattle.bridge_cycle.specs.Progress.{Progress, pass_of}
@@ -7,11 +7,13 @@ use Rattle.cycle_runs.proofs.Starting.{starts_below}
 use Rattle.cycle_runs.proofs.runs.start.Goals as goal
 
 pub new-driver-requires-clause-idle : goal.new-driver-requires-clause-idle
-new-driver-requires-clause-idle g c = idle_first c.in-Some-caller.caller c.in-Some-caller.ensures.nothing
+new-driver-requires-clause-idle g c = idle_first c.in-Some-caller-2.caller c.in-Some-caller-2.ensures.nothing
 
 pub invariant_of-result : goal.invariant_of-result
 invariant_of-result g c = (
   c.in-Some.ensures.thread,
   starts_below c.in-Some.one c.in-Some.ensures.nothing,
-  starts_below (pass_of c.new-driver.result) (subst KnowsNothing (sym (ap (λ (p : Progress). p.view) c.new-driver.ensures)) c.in-Some-caller.ensures.nothing),
+  c.in-Some-caller.ensures.thread,
+  starts_below c.in-Some-caller.two c.in-Some-caller.ensures.nothing,
+  starts_below (pass_of c.new-driver.result) (subst KnowsNothing (sym (ap (λ (p : Progress). p.view) c.new-driver.ensures)) c.in-Some-caller-2.ensures.nothing),
 )
