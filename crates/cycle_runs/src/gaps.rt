@@ -178,10 +178,12 @@ fn seen_of<N: OrderName, R: Wait>(
     };
     let DrivenBridge {
         shared,
+        desk,
         mut one,
         two,
         mut driver,
     } = driven;
+    drop(desk);
     let mut between = CollectsBehind {
         rt,
         two,

@@ -9,27 +9,29 @@ ghost use Rattle.joint_history.specs.Callers.{KnowsNothing};
 ghost use Rattle.bridge_cycle.specs.Progress.{line_of};
 
 use bridge_cycle::{Driver, DriverFault};
-use joint_history::{Alone, Caller, Shared};
+use joint_history::{Alone, Caller, Desk, Shared};
 use joint_model::Reply::{
     self, At, CycleOpen, Freed, Gone, M, Mark, Pending, Pinned, Refs, Sccs, Snapped, Swept, Took,
     Unset,
 };
 use joint_model::{
-    Act, Cell, Cycle, Holding, Kind, MNum, Marking, Phase, PhaseWord, Sort, Span, Thread, Var,
+    Act, Cell, Cycle, History, Holding, Kind, MNum, Marking, Phase, PhaseWord, Sort, Span, Thread,
+    Var,
 };
 use order_table::{Order, OrderName, Seat};
 use std::alloc::{AllocError, Global};
 use std::marker::{Brand, Model};
+use std::process::Abort;
 use std::sync::Wait;
 use std::test::Fail;
 use weak_wait::reply_of;
 
-// What is done, and what that answers.
-type Row = (CycleCall, Reply);
+/// What is done, and what that answers.
+pub(crate) type Row = (CycleCall, Reply);
 
-// What m1 and the driver do, in short: variables stand by their numbers, and all that has a field has one.
+/// What m1 and the driver do, in short: variables stand by their numbers, and all that has a field has one.
 #[derive(Clone, Copy)]
-enum CycleCall {
+pub(crate) enum CycleCall {
     // lines of m1
     Bridge(u8),
     Set(u8, u8),
@@ -96,6 +98,7 @@ impl CycleCall {
 #[derive(Drop)]
 pub(crate) struct DrivenBridge<N: OrderName> {
     pub(crate) shared: Shared<N, Alone>,
+    pub(crate) desk: Desk<N>,
     pub(crate) one: Caller<N>,
     pub(crate) two: Caller<N>,
     pub(crate) driver: Driver<N>,
@@ -107,12 +110,13 @@ impl<N: OrderName> Model for DrivenBridge<N> {
     ghost use Rattle.joint_model.specs.declared.names.Thread.TheVariants.{M, P};
     ghost use Rattle.joint_history.specs.Callers.{last_index, own};
     ghost use Rattle.bridge_cycle.specs.Progress.{line_of};
+    ghost use Rattle.cycle_runs.specs.Starts.{GaveThree};
 
     ghost Value = { Phase };
 
     ghost view = { λ d. d.driver.phase };
 
-    ghost invariant = { λ d. (d.one.thread ≡ M 1) × (last_index (own d.one) ≤ 1) × (d.two.thread ≡ P 1) × (last_index (own d.two) ≤ 1) × (line_of d.driver ≤ 1) };
+    ghost invariant = { λ d. GaveThree d.desk × (d.one.thread ≡ M 1) × (last_index (own d.one) ≤ 1) × (d.two.thread ≡ P 1) × (last_index (own d.two) ≤ 1) × (line_of d.driver ≤ 1) };
 }
 
 // Runs the driver's call of that name.
@@ -201,8 +205,8 @@ impl<N: OrderName> DrivenBridge<N> {
         Ok(Reply::Ok)
     }
 
-    // The answer to a call; None where it is none that may be made.
-    fn answer(
+    /// The answer to a call; None where it is none that may be made.
+    pub(crate) fn answer(
         &mut self,
         rt: &impl Wait,
         alloc: Global,
@@ -218,8 +222,8 @@ impl<N: OrderName> DrivenBridge<N> {
         }
     }
 
-    // The place of the first row that is answered otherwise than it says; None where all are answered so.
-    fn first_miss(
+    /// The place of the first row that is answered otherwise than it says; None where all are answered so.
+    pub(crate) fn first_miss(
         &mut self,
         rt: &impl Wait,
         alloc: Global,
@@ -232,6 +236,23 @@ impl<N: OrderName> DrivenBridge<N> {
             }
         }
         Ok(None)
+    }
+
+    /// The history of all that was made. The driver has to be idle.
+    pub(crate) fn finish<R: Abort>(self, rt: &R, alloc: Global) -> Result<History, AllocError> {
+        let DrivenBridge {
+            shared,
+            desk,
+            one,
+            two,
+            driver,
+        } = self;
+        assert!(rt; driver.phase() == Phase::Idle);
+        let Ok(callers) = vec![in alloc; driver.retire(), two, one] else {
+            drop(shared);
+            return Err(AllocError);
+        };
+        shared.finish(desk, callers)
     }
 }
 
@@ -258,6 +279,7 @@ pub(crate) fn start<N: OrderName>(
     let driver = Driver::new(caller);
     Ok(Some(DrivenBridge {
         shared,
+        desk,
         one,
         two,
         driver,
