@@ -252,7 +252,7 @@ impl<N: OrderName> DrivenBridge<N> {
             drop(shared);
             return Err(AllocError);
         };
-        shared.finish(desk, callers)
+        shared.finish(desk, callers).map_err(|_| AllocError)
     }
 }
 
