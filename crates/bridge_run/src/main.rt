@@ -20,6 +20,8 @@
 
 #[cfg(test)]
 mod expecting;
+#[cfg(test)]
+mod failing_ends;
 mod generated;
 #[cfg(test)]
 mod large_runs;

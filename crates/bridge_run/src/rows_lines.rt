@@ -87,6 +87,84 @@ c mirror
 9 c.4 resolve 1 = freed - @8
 end 10
 # 0
+m1 new a plain 0
+m1 drop a
+c cycle
+=
+0 m1.1 new a plain 0 = m1
+1 m1.2 drop a = ok
+2 c.3 snap 1 = 0 freed m1
+3 c.3 contract 1 = 0 sccs 0 xrefs
+4 c.3 mirror 1 = 0 refs @2
+5 c.3 begin = 1
+6 c.3 sweep = 1 freed -
+7 c.3 clear 1 = ok
+8 c.3 resolve 1 = freed - @7
+end 9
+# 0
+p1 new a 1
+p1 global G0 a
+p1 wglobal G1 a
+p1 drop a
+p1 collect
+p1 unglobal G0
+p1 collect
+p1 wread b G1
+p1 unglobal G1
+p1 unglobal G1
+=
+0 p1.1 new a 1 = p1
+1 p1.2 global G0 a = h1
+2 p1.3 wglobal G1 a = h2
+3 p1.4 drop a = ok
+4 p1.5 begin = 1
+5 p1.5 sweep = 1 freed -
+6 p1.6 unglobal G0 = ok
+7 p1.7 begin = 2
+8 p1.7 sweep = 2 freed p1
+9 p1.8 wread b G1 = gone
+10 p1.9 unglobal G1 = ok
+11 p1.10 unglobal G1 = unset
+end 12
+# 0
+m1 bridge a bridge 1 user 0
+m1 bridge b bridge 1 user 0
+m1 set a 0 b
+m1 drop b
+c cycle
+m1 drop a
+c cycle
+=
+0 m1.1 make user 0 = p1 h1
+1 m1.1 adopt a bridge 1 p1 h1 = m1 @0
+2 m1.2 make user 0 = p2 h2
+3 m1.2 adopt b bridge 1 p2 h2 = m2 @2
+4 m1.3 set a 0 b = ok
+5 m1.4 drop b = ok
+6 c.5 snap 1 = 0 freed -
+7 c.5 contract 1 = 0 sccs 0 xrefs
+8 c.5 mirror 1 = 0 refs @6
+9 c.5 begin = 1
+10 c.5 sweep = 1 freed -
+11 c.5 clear 1 = ok
+12 c.5 resolve 1 = freed - @11
+13 m1.6 drop a = ok
+14 c.7 snap 2 = 2 freed -
+15 c.7 contract 2 = 2 sccs 1 xrefs
+16 c.7 mirror 2 = 1 refs @14
+17 c.7 weaken h1 = ok @14
+18 c.7 weaken h2 = ok @14
+19 c.7 begin = 2
+20 c.7 sweep = 2 freed p1 p2
+21 c.7 restore h1 = cleared
+22 c.7 restore h2 = cleared
+23 c.7 clear 2 = ok
+24 c.7 resolve 2 = freed m1 m2 @23
+end 25
+";
+
+/// An activity with its listener and a list of two views, of which the one stands in a static too: a row of the same kind.
+pub const ACTIVITY: &[u8] = b"# 0
 m1 bridge a bridge 3 user 2
 m1 pass a s0
 m1 bridge b bridge 1 user 0
@@ -164,79 +242,4 @@ c finalise 8
 50 m1.22 read k0 = gone
 51 c.23 finalise 8 = m1 m2 m4
 end 52
-# 0
-m1 new a plain 0
-m1 drop a
-c cycle
-=
-0 m1.1 new a plain 0 = m1
-1 m1.2 drop a = ok
-2 c.3 snap 1 = 0 freed m1
-3 c.3 contract 1 = 0 sccs 0 xrefs
-4 c.3 mirror 1 = 0 refs @2
-5 c.3 begin = 1
-6 c.3 sweep = 1 freed -
-7 c.3 clear 1 = ok
-8 c.3 resolve 1 = freed - @7
-end 9
-# 0
-p1 new a 1
-p1 global G0 a
-p1 wglobal G1 a
-p1 drop a
-p1 collect
-p1 unglobal G0
-p1 collect
-p1 wread b G1
-p1 unglobal G1
-p1 unglobal G1
-=
-0 p1.1 new a 1 = p1
-1 p1.2 global G0 a = h1
-2 p1.3 wglobal G1 a = h2
-3 p1.4 drop a = ok
-4 p1.5 begin = 1
-5 p1.5 sweep = 1 freed -
-6 p1.6 unglobal G0 = ok
-7 p1.7 begin = 2
-8 p1.7 sweep = 2 freed p1
-9 p1.8 wread b G1 = gone
-10 p1.9 unglobal G1 = ok
-11 p1.10 unglobal G1 = unset
-end 12
-# 0
-m1 bridge a bridge 1 user 0
-m1 bridge b bridge 1 user 0
-m1 set a 0 b
-m1 drop b
-c cycle
-m1 drop a
-c cycle
-=
-0 m1.1 make user 0 = p1 h1
-1 m1.1 adopt a bridge 1 p1 h1 = m1 @0
-2 m1.2 make user 0 = p2 h2
-3 m1.2 adopt b bridge 1 p2 h2 = m2 @2
-4 m1.3 set a 0 b = ok
-5 m1.4 drop b = ok
-6 c.5 snap 1 = 0 freed -
-7 c.5 contract 1 = 0 sccs 0 xrefs
-8 c.5 mirror 1 = 0 refs @6
-9 c.5 begin = 1
-10 c.5 sweep = 1 freed -
-11 c.5 clear 1 = ok
-12 c.5 resolve 1 = freed - @11
-13 m1.6 drop a = ok
-14 c.7 snap 2 = 2 freed -
-15 c.7 contract 2 = 2 sccs 1 xrefs
-16 c.7 mirror 2 = 1 refs @14
-17 c.7 weaken h1 = ok @14
-18 c.7 weaken h2 = ok @14
-19 c.7 begin = 2
-20 c.7 sweep = 2 freed p1 p2
-21 c.7 restore h1 = cleared
-22 c.7 restore h2 = cleared
-23 c.7 clear 2 = ok
-24 c.7 resolve 2 = freed m1 m2 @23
-end 25
 ";

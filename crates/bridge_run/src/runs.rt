@@ -4,10 +4,11 @@ use crate::expecting::{LINKED, LINKED_REPORT, SERIAL, THREADS, USAGE, expect, ex
 use byte_streams::ByteSink;
 use std::test::Fail;
 
-const GENERATED: &[&str] = &["gen", "--seed", "0", "--size", "4", "--mode", "serial"];
+/// The command that makes a script of four families, one of each shape, and runs its lines in order.
+pub const GENERATED: &[&str] = &["gen", "--seed", "0", "--size", "4", "--mode", "serial"];
 
-// Four families, one of each shape: of the objects those stay that the statics g1 and s2 hold.
-const GENERATED_SUMMARY: &[u8] = b"seed 0 size 4 mode serial
+/// Its summary: of the objects those stay that the statics g1 and s2 hold.
+pub const GENERATED_SUMMARY: &[u8] = b"seed 0 size 4 mode serial
 lines 27 cycles 1
 made managed 7 peers 6 handles 4
 live managed 4 peers 2 handles 2
@@ -24,7 +25,7 @@ type Run = (
     &'static [u8],
 );
 
-const RUNS: [Run; 47] = [
+const RUNS: [Run; 48] = [
     (SERIAL, LINKED, 0, 0, 0, LINKED_REPORT),
     (SERIAL, b"", 0, 0, 0, b"end 0\n"),
     // words that are no command
@@ -81,6 +82,14 @@ const RUNS: [Run; 47] = [
         0,
         3,
         b"line 1: cause 4 number\n",
+    ),
+    (
+        SERIAL,
+        b"m1 bridge a bridge 1 user 0",
+        0,
+        0,
+        0,
+        b"0 m1.1 make user 0 = p1 h1\n1 m1.1 adopt a bridge 1 p1 h1 = m1 @0\nend 2\n",
     ),
     (
         SERIAL,
