@@ -12,6 +12,8 @@
 #[cfg(test)]
 mod drawn;
 #[cfg(test)]
+mod gaps;
+#[cfg(test)]
 mod replays;
 #[cfg(test)]
 mod worked;

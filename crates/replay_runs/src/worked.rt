@@ -132,20 +132,27 @@ fn run(rt: &impl Wait, alloc: Global, script: &Script) -> Result<History, AllocE
     run_serial(rt, alloc, script.lines())
 }
 
-// Runs the script of a row, and has each entry judged.
-fn judge_row<R: Wait + Abort>(rt: &R, alloc: Global, row: &Row) -> Result<(), AllocError> {
-    let (text, entries) = row;
+/// The history of the run of a script's text.
+pub(crate) fn history_of<R: Wait + Abort>(
+    rt: &R,
+    alloc: Global,
+    text: &[u8],
+) -> Result<History, AllocError> {
     match parse(alloc, text) {
-        Ok(script) => {
-            let h = run(rt, alloc, &script)?;
-            assert!(rt; h.len() == *entries, "{} entries", h.len());
-            replay(rt, alloc, &h)
-        }
+        Ok(script) => run(rt, alloc, &script),
         Err(error) => {
             assert!(rt; error == ScriptError::OutOfMemory, "no script");
             Err(AllocError)
         }
     }
+}
+
+// Runs the script of a row, and has each entry judged.
+fn judge_row<R: Wait + Abort>(rt: &R, alloc: Global, row: &Row) -> Result<(), AllocError> {
+    let (text, entries) = row;
+    let h = history_of(rt, alloc, text)?;
+    assert!(rt; h.len() == *entries, "{} entries", h.len());
+    replay(rt, alloc, &h)
 }
 
 #[test]
