@@ -7,10 +7,8 @@ use Rattle.std.proofs.lemmas.List.Elements.{Contains-append_cases, Contains-appe
 use Rattle.std.proofs.lemmas.Map.Views.{list_any-from_Contains, Contains-from_any}
 use Rattle.joint_model.specs.declared.events.Reply.{Reply}
 use Rattle.joint_model.specs.declared.events.Reply.TheVariants as says
-use Rattle.joint_model.specs.Control.{candidates_of}
 use Rattle.joint_model.specs.Heaps.{Heap, IsLive, is_freed, numbered_at, with_freed, with_object}
-use Rattle.joint_model.specs.Joined.{is_that_handle}
-use Rattle.joint_model.specs.Managed.{Managed, OpenCycle, Holds, handle_of}
+use Rattle.joint_model.specs.Managed.{Managed, OpenCycle, Holds, handle_of, candidates_of}
 use Rattle.joint_model.specs.ManagedReplay.{ManagedReplay, adopt_by}
 use Rattle.joint_model.proofs.Deciding.{true-false, false-from}
 use Rattle.std.proofs.lemmas.Bool.Decides.{Decides-eqb}
@@ -57,11 +55,6 @@ held-to false (Some k) h f e = cc
 
 pub Holds-handle_of : (s : Managed) (x h : ℕ) → Holds s x h → handle_of s x ≡ Some h
 Holds-handle_of s x h w = held-to (is_freed s.heap x) (numbered_at s.held x) h (is_freed-live s.heap x w.live) w.held
-
--- the test of a handle
-pub is_that_handle-is : (o : Option ℕ) (h : ℕ) → is_that_handle o h ≡ true → o ≡ Some h
-is_that_handle-is None h e = cc
-is_that_handle-is (Some g) h e = ap Some (eqb-true g h e)
 
 -- the candidates of the open cycle
 pub candidates_of-open : (s : Managed) (c : OpenCycle) → s.cycle ≡ Some c → candidates_of s ≡ c.candidates

@@ -12,9 +12,9 @@ use Rattle.joint_model.specs.declared.events.Op.{Op}
 use Rattle.joint_model.specs.declared.events.Op.TheVariants as op
 use Rattle.joint_model.specs.declared.events.Reply.{Reply}
 use Rattle.joint_model.specs.declared.events.Reply.TheVariants as says
-use Rattle.joint_model.specs.Components.{mirror_edges}
+use Rattle.joint_model.specs.Components.{End, node, temporary, mirror_edges}
 use Rattle.joint_model.specs.Lines.{IsLine}
-use Rattle.joint_model.specs.Managed.{Managed, handle_of}
+use Rattle.joint_model.specs.Managed.{Managed, handle_of, candidates_of}
 use Rattle.joint_model.specs.Peers.{Issued, peer_of}
 use Rattle.joint_model.specs.Told.{Told, contraction_of, references_of, resolution_of, phase_of, said_alive, said_cleared, Answer}
 
@@ -39,7 +39,7 @@ pub record OpenSnap : Type 0 where
 pub data Stand : Type 0 where
   idle : Stand
   snapped : OpenSnap → Stand
-  contracted : OpenSnap → (comps : List (List ℕ)) (xrefs : List (ℕ × ℕ)) → Stand
+  contracted : OpenSnap → (comps : List (List ℕ)) (heavy : List ℕ) (xrefs : List (ℕ × ℕ)) → Stand
   weakening : OpenSnap → (count : ℕ) (weakened swept : Bool) → Stand
   marked : OpenSnap → Stand
   restoring : OpenSnap → (answers : List Answer) → Stand
@@ -115,10 +115,6 @@ doing_after n l (op.Meet v sort f p h) (says.New m) = free
 doing_after n l (op.Meet v sort f p h) reply = met n l h.0
 doing_after n l _ reply = free
 
--- the candidates of the open cycle; none where no cycle is open
-abbrev pub candidates_of : Managed → List ℕ
-candidates_of s = elim s.cycle [ None ↦ [] | Some c ↦ c.candidates ]
-
 -- the handle is that of the candidate with that place
 abbrev pub IsCandidateHandle : Managed → ℕ → ℕ → Type 0
 IsCandidateHandle s i h = (m : ℕ) × (slice_get (candidates_of s) i ≡ Some m) × (handle_of s m ≡ Some h)
@@ -127,9 +123,14 @@ IsCandidateHandle s i h = (m : ℕ) × (slice_get (candidates_of s) i ≡ Some m
 abbrev pub peer_of_row : Managed → List Issued → ℕ → ℕ
 peer_of_row s issued m = elim (handle_of s m) [ None ↦ 0 | Some h ↦ elim (peer_of issued h) [ None ↦ 0 | Some p ↦ p ] ]
 
--- the mirror edges between rows, carried to the peers of their handles
-abbrev pub carried_edges : Managed → List Issued → List (ℕ × ℕ) → List (ℕ × ℕ)
-carried_edges s issued edges = map (λ e. (peer_of_row s issued e.0, peer_of_row s issued e.1)) edges
+-- an end of a mirror edge between rows, carried to the peer of the row's handle; a temporary stays
+abbrev pub carried_end : Managed → List Issued → End → End
+carried_end s issued (node m) = node (peer_of_row s issued m)
+carried_end s issued (temporary i) = temporary i
+
+-- the mirror edges between rows, carried to the peers of their handles and to the temporaries
+abbrev pub carried_edges : Managed → List Issued → List (End × End) → List (End × End)
+carried_edges s issued edges = map (λ e. (carried_end s issued e.0, carried_end s issued e.1)) edges
 
 -- no phase is half done, with so many candidates
 abbrev pub IsAtRest : Stand → ℕ → Type 0
@@ -141,7 +142,7 @@ IsAtRest _ c = Unit {0}
 abbrev pub IsPhaseOf : Stand → ℕ → Phase → Type 0
 IsPhaseOf idle c p = p ≡ at.Idle
 IsPhaseOf (snapped o) c p = p ≡ at.Snapped
-IsPhaseOf (contracted o comps xrefs) c p = p ≡ at.Contracted
+IsPhaseOf (contracted o comps heavy xrefs) c p = p ≡ at.Contracted
 IsPhaseOf (weakening o count weakened swept) c p =
     (swept ≡ false) × (((p ≡ at.Mirrored) × (count ≡ 0) × (weakened ≡ false)) ⊎ ((p ≡ at.Weakened) × (count ≡ c)))
 IsPhaseOf (marked o) c p = p ≡ at.Marked
@@ -159,7 +160,7 @@ MayContractNow _ k cites = ⊥
 
 -- a mirror cites the snap of its cycle, and adds exactly the mirror edges of its dead part, carried to the peers
 abbrev pub MayMirrorNow : Stand → Managed → List Issued → ℕ → Option ℕ → Told → Type 0
-MayMirrorNow (contracted o comps xrefs) s issued k cites (references_of refs) =
+MayMirrorNow (contracted o comps heavy xrefs) s issued k cites (references_of refs) =
     (o.cycle ≡ k) × (cites ≡ Some o.snap) × (refs ≡ carried_edges s issued (mirror_edges comps xrefs))
 MayMirrorNow _ s issued k cites told = ⊥
 
@@ -195,7 +196,7 @@ MayResolveNow _ k cites told = ⊥
 
 abbrev pub MayAbandonNow : Stand → ℕ → Option ℕ → Type 0
 MayAbandonNow (snapped o) k cites = (o.cycle ≡ k) × (cites ≡ None)
-MayAbandonNow (contracted o comps xrefs) k cites = (o.cycle ≡ k) × (cites ≡ None)
+MayAbandonNow (contracted o comps heavy xrefs) k cites = (o.cycle ≡ k) × (cites ≡ None)
 MayAbandonNow _ k cites = ⊥
 
 abbrev pub MayRefuseNow : Stand → ℕ → Option ℕ → Told → Type 0
@@ -220,7 +221,7 @@ DriverAllows stand s issued _ reply cites told = ⊥
 
 -- the answer that a restore gives to the candidate
 abbrev pub answer_in : Reply → Answer
-answer_in says.Alive = said_alive
+answer_in (says.Renewed h) = said_alive h.0
 answer_in _ = said_cleared
 
 -- a refusal in the weakened phase shows that the driver has come to it
@@ -231,8 +232,8 @@ seen_weakened weakened _ = weakened
 -- where the driver stands after its event with that number
 abbrev pub stand_after : Stand → ℕ → Op → Reply → Told → Stand
 stand_after stand n (op.Snap k) reply told = snapped record { cycle = k.0; snap = n }
-stand_after (snapped o) n (op.Contract k) reply (contraction_of comps xrefs) = contracted o comps xrefs
-stand_after (contracted o comps xrefs) n (op.Mirror k) reply told = weakening o 0 false false
+stand_after (snapped o) n (op.Contract k) reply (contraction_of comps heavy xrefs) = contracted o comps heavy xrefs
+stand_after (contracted o comps heavy xrefs) n (op.Mirror k) reply told = weakening o 0 false false
 stand_after (weakening o count weakened swept) n (op.Weaken h) reply told = weakening o (count + 1) true swept
 stand_after (weakening o count weakened swept) n op.Sweep reply told = weakening o count true true
 stand_after (weakening o count weakened swept) n op.Begin reply told = marked o

@@ -31,9 +31,9 @@ snap_reply s freed candidates = says.Snapped (length candidates) record { first 
 abbrev pub DeadEdge : Managed → List ℕ → ℕ → ℕ → Type 0
 DeadEdge s dead x y = HasField s.heap x y × Contains dead x × Contains dead y
 
--- the lists are the components of the dead part and its cross-references, with walks inside it
-abbrev pub IsDeadContraction : Managed → List ℕ → List (List ℕ) → List (ℕ × ℕ) → Type 0
-IsDeadContraction s dead comps xrefs = IsContraction (λ m. Contains dead m × IsBridge s m) (DeadEdge s dead) comps xrefs
+-- the lists are the components of the dead part, its heavy classes and its cross-references, with walks inside it
+abbrev pub IsDeadContraction : Managed → List ℕ → List (List ℕ) → List ℕ → List (ℕ × ℕ) → Type 0
+IsDeadContraction s dead comps heavy xrefs = IsContraction (λ m. Contains dead m × IsBridge s m) (DeadEdge s dead) comps heavy xrefs
 
 -- a resolution frees exactly the rows of the dead part that no kept candidate reaches over managed fields; a kept
 -- candidate reaches itself

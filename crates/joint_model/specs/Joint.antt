@@ -5,6 +5,7 @@ use Rattle.joint_model.specs.Components.{Rises}
 use Rattle.joint_model.specs.Heaps.{IsLive, HasField, InSlot, numbered_at, is_freed}
 use Rattle.joint_model.specs.Managed.{Managed, opening_managed, Holds, IsManagedRoot, handle_of}
 use Rattle.joint_model.specs.Peers.{Peers, opening_peers, Issued, held, raw, strong, peer_of, is_held}
+use Rattle.joint_model.specs.Told.{Answer}
 use Rattle.joint_model.specs.Walks.{Reached}
 
 -- what the one graph is made of: the managed objects, the peers, and of each handle issued whether it was removed
@@ -20,15 +21,17 @@ pub record JointMarking : Type 0 where
   pub by : Thread
   pub begun : Graph
 
--- the graph, the open marking, and how many markings were opened
+-- the graph; for each candidate of the open cycle what its restore answered, or none; the open marking, and how many markings
+-- were opened
 pub record Joint : Type 0 where
   pub graph : Graph
+  pub answers : List (Option Answer)
   pub marking : Option JointMarking
   pub markings : ℕ
 
 -- all lists are empty, and so is each slot
 abbrev pub opening : Joint
-opening = record { graph = record { managed = opening_managed; peers = opening_peers; removed = [] }; marking = None; markings = 0 }
+opening = record { graph = record { managed = opening_managed; peers = opening_peers; removed = [] }; answers = []; marking = None; markings = 0 }
 
 -- the state with another managed part
 abbrev pub with_managed : Joint → Managed → Joint
@@ -69,7 +72,8 @@ pub record IsRawRoot (g : Graph) (p : ℕ) : Type 0 where
   pub strong_made : row.strength ≡ strong
   pub leads : row.peer ≡ p
 
--- a held handle that no managed row holds now leads to the peer: one just made, or given up and not released
+-- a held handle that no managed row holds now leads to the peer: one just made, given up and not released, or given by a restore
+-- and not yet taken by its row
 pub record IsLooseRoot (g : Graph) (p : ℕ) : Type 0 where
   pub handle : ℕ
   pub row : Issued

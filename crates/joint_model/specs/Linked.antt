@@ -6,8 +6,9 @@ use Rattle.joint_model.specs.declared.lines.Act.TheVariants as act
 use Rattle.joint_model.specs.declared.events.Op.{Op}
 use Rattle.joint_model.specs.declared.events.Op.TheVariants as op
 use Rattle.joint_model.specs.declared.events.Made.{Made}
-use Rattle.joint_model.specs.Control.{Control, opening_control, CallerAllows, control_after, last_line, candidates_of, doing_at, IsDone, IsAtRest}
+use Rattle.joint_model.specs.Control.{Control, opening_control, CallerAllows, control_after, last_line, doing_at, IsDone, IsAtRest}
 use Rattle.joint_model.specs.Lines.{IsEvent, is_peer_event}
+use Rattle.joint_model.specs.Managed.{candidates_of}
 use Rattle.joint_model.specs.ManagedReplay.{ManagedReplay, opening_replay, managed_answer, ManagedAllows}
 use Rattle.joint_model.specs.PeerReplay.{PeerReplay, opening_peer_replay, peer_answer, PeerAllows}
 use Rattle.joint_model.specs.Told.{Told, Noted}
@@ -84,7 +85,6 @@ is_joint (op.Line (act.Slice n)) = false
 is_joint (op.Contract k) = false
 is_joint (op.Mirror k) = false
 is_joint (op.Weaken h) = false
-is_joint (op.Restore h) = false
 is_joint (op.Clear k) = false
 is_joint (op.Refused w) = false
 is_joint _ = true

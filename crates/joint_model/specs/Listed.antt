@@ -1,8 +1,9 @@
 -- What contracts see of a list with room that is known.
-use Rattle.std.specs.Prelude.{ℕ, List, [], ◌∷◌, ◌++◌, Bool, true, false, map}
+use Rattle.std.specs.Prelude.{ℕ, List, [], ◌∷◌, ◌++◌, Option, Some, None, map}
 use Rattle.std.specs.declared.snapshot.Snapshot.{Snapshot}
 use Rattle.joint_model.specs.declared.events.Entry.{Entry}
 use Rattle.joint_model.specs.declared.lists.Holding.{Holding}
+use Rattle.joint_model.specs.declared.names.HNum.{HNum}
 use Rattle.joint_model.specs.Told.{Answer, said_alive, said_cleared}
 
 -- entries as they are kept, and for how many more there is room
@@ -23,14 +24,14 @@ pub record Stock : Type 0 where
 
 -- the answers of a cycle's candidates, and for how many more there is room
 pub record Answers : Type 0 where
-  pub values : List Bool
+  pub values : List (Option HNum)
   pub room : ℕ
 
--- what a truth value shows of a candidate's restore: whether it answered alive
-abbrev pub answer_of : Bool → Answer
-answer_of true = said_alive
-answer_of false = said_cleared
+-- what a value shows of a candidate's restore: that it answered alive, with this new handle, or cleared
+abbrev pub answer_of : Option HNum → Answer
+answer_of (Some h) = said_alive h.0
+answer_of None = said_cleared
 
--- the answers that truth values show
-abbrev pub answers_of : List Bool → List Answer
-answers_of alive = map answer_of alive
+-- the answers that the values show
+abbrev pub answers_of : List (Option HNum) → List Answer
+answers_of backs = map answer_of backs

@@ -13,6 +13,7 @@ use Rattle.joint_model.specs.declared.lines.Act.TheVariants as act
 use Rattle.joint_model.specs.declared.events.Reply.{Reply}
 use Rattle.joint_model.specs.declared.events.Reply.TheVariants as says
 use Rattle.joint_model.specs.Heaps.{Heap, IsLive, HasField, InSlot, Answered, answer, opening_heap, slot, numbered_at, numbered_set, place, is_freed, is_full, next_number, with_var, with_object, with_freed, copied, field_set, field_got, dropped, loaded, stored}
+use Rattle.joint_model.specs.Told.{Answer, said_alive, said_cleared}
 use Rattle.joint_model.specs.Walks.{Reached}
 
 -- an open cycle: its number, the candidates of its snapshot and its dead part, both rising
@@ -36,6 +37,10 @@ pub record Managed : Type 0 where
 -- nothing is there; a thread's pin has the thread's number, so the pin with number 0 is nobody's
 abbrev pub opening_managed : Managed
 opening_managed = record { heap = opening_heap; kinds = []; held = []; pins = replicate 9 None; cells = replicate 64 None; notices = []; taken = 0; cycle = None; cycles = 0 }
+
+-- the candidates of the open cycle; none where no cycle is open
+abbrev pub candidates_of : Managed → List ℕ
+candidates_of s = elim s.cycle [ None ↦ [] | Some c ↦ c.candidates ]
 
 -- how a reply names a managed object
 abbrev pub managed_name : ℕ → Reply
@@ -188,9 +193,17 @@ with_snapshot s freed candidates dead = record s { heap = with_freed s.heap free
 abbrev pub holds_handle : Managed → ℕ → Bool
 holds_handle s m = elim (handle_of s m) [ None ↦ false | Some h ↦ true ]
 
--- a resolution: its rows are freed, a notice is queued for each freed bridge row, and the cycle is closed
-abbrev pub resolved : Managed → List ℕ → Managed
-resolved s freed = record s { heap = with_freed s.heap freed; notices = s.notices ++ filter (holds_handle s) freed; cycle = None }
+-- what the objects hold, once each candidate that was answered alive holds the handle that its restore gave
+abbrev pub renewed : List (Option ℕ) → List ℕ → List Answer → List (Option ℕ)
+renewed held [] answers = held
+renewed held (m ∷ ms) [] = held
+renewed held (m ∷ ms) (said_alive h ∷ answers) = renewed (numbered_set held m (Some h)) ms answers
+renewed held (m ∷ ms) (said_cleared ∷ answers) = renewed held ms answers
+
+-- a resolution: its rows are freed, each kept candidate holds its new handle, a notice is queued for each freed bridge
+-- row, and the cycle is closed
+abbrev pub resolved : Managed → List Answer → List ℕ → Managed
+resolved s answers freed = record s { heap = with_freed s.heap freed; held = renewed s.held (candidates_of s) answers; notices = s.notices ++ filter (holds_handle s) freed; cycle = None }
 
 -- the cycle is closed, and nothing is freed
 abbrev pub abandoned : Managed → Managed

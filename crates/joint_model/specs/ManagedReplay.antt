@@ -1,6 +1,6 @@
 -- The managed side by itself: its entries, by rising number, replayed. Nothing of the peer heap enters but what the
 -- entries say of it. (The registry of peers' twins is that of the Xamarin.Android documentation.)
-use Rattle.std.specs.Prelude.{◌≡◌, ℕ, ◌↔◌, Bool, true, false, not, nat_eq, if◌then◌else◌, List, [], ◌∷◌, ◌++◌, length, filter, Contains, Option, Some, None}
+use Rattle.std.specs.Prelude.{◌≡◌, ℕ, ◌+◌, ◌↔◌, Bool, true, false, not, nat_eq, if◌then◌else◌, List, [], ◌∷◌, ◌++◌, length, filter, Contains, Option, Some, None}
 use Rattle.std.specs.List.{list_any}
 use Rattle.joint_model.specs.declared.names.Thread.{Thread}
 use Rattle.joint_model.specs.declared.names.Phase.{Phase}
@@ -16,10 +16,10 @@ use Rattle.joint_model.specs.Heaps.{Answered, answer, slot, place}
 use Rattle.joint_model.specs.Managed.{Managed, OpenCycle, opening_managed, managed_line, adopted, met, given_up, handle_reply, with_snapshot, resolved, abandoned}
 use Rattle.joint_model.specs.Phases.{next_phase}
 use Rattle.joint_model.specs.Run.{thread_number}
-use Rattle.joint_model.specs.Told.{Told, nothing, snap_of, contraction_of, resolution_of, phase_of, Answer}
+use Rattle.joint_model.specs.Told.{Told, nothing, snap_of, contraction_of, resolution_of, phase_of, Answer, handles_given}
 
--- beside the managed objects: the pairs of a peer and its twin, the handles that were ever adopted, and whether the
--- open cycle's contraction was made
+-- beside the managed objects: the pairs of a peer and its twin, the handles that were ever adopted or given to a row by a
+-- resolution, and whether the open cycle's contraction was made
 pub record ManagedReplay : Type 0 where
   pub managed : Managed
   pub registry : List (ℕ × ℕ)
@@ -86,25 +86,32 @@ managed_answer s t (op.Lend v x) told = answer (handle_reply s.managed (place (t
 managed_answer s t (op.Meet v sort n p h) told = let a = met s.managed (place (thread_number t) v.0) h.0 sort n (registered s.registry p.0) in meet_by s p.0 h.0 a.state a.reply
 managed_answer s t (op.Give v) told = let v' = place (thread_number t) v.0 in give_by s (slot s.managed.heap.vars v') (given_up s.managed v')
 managed_answer s t (op.Snap k) (snap_of freed candidates dead) = answer (snap_reply s.managed freed candidates) (record s { managed = with_snapshot s.managed freed candidates dead; contracted = false })
-managed_answer s t (op.Contract k) (contraction_of comps xrefs) = answer (says.Sccs (length comps) (length xrefs)) (record s { contracted = true })
-managed_answer s t (op.Resolve k) (resolution_of alive freed) = answer (resolve_reply s.managed freed) (record s { managed = resolved s.managed freed; registry = without_twins s.registry freed })
+managed_answer s t (op.Contract k) (contraction_of comps heavy xrefs) = answer (says.Sccs (length comps + length heavy) (length xrefs)) (record s { contracted = true })
+managed_answer s t (op.Resolve k) (resolution_of answers freed) = answer (resolve_reply s.managed freed) (record s { managed = resolved s.managed answers freed; registry = without_twins s.registry freed; adopted = s.adopted ++ handles_given answers })
 managed_answer s t (op.Abandon k) told = answer says.Ok (record s { managed = abandoned s.managed })
 managed_answer s t (op.Refused w) (phase_of phase) = answer (refusal_to s.managed phase w) s
 managed_answer s t _ told = answer says.Ok s
 
--- cycle k is open, its contraction isn't made, and these are the components and cross-references of its dead part
-pub record MayContract (s : ManagedReplay) (k : ℕ) (comps : List (List ℕ)) (xrefs : List (ℕ × ℕ)) : Type 0 where
+-- cycle k is open, its contraction isn't made, and these are the components, heavy classes and cross-references of its dead
+-- part
+pub record MayContract (s : ManagedReplay) (k : ℕ) (comps : List (List ℕ)) (heavy : List ℕ) (xrefs : List (ℕ × ℕ)) : Type 0 where
   pub cycle : OpenCycle
   pub open_cycle : IsOpen s.managed k cycle
   pub once : s.contracted ≡ false
-  pub exact : IsDeadContraction s.managed cycle.dead comps xrefs
+  pub exact : IsDeadContraction s.managed cycle.dead comps heavy xrefs
 
--- cycle k is open, there is one answer for each candidate, and these are the rows that no candidate that was answered
--- alive reaches
+-- the handles are all different, and no row ever took one of them
+abbrev pub AreNew : List ℕ → List ℕ → Type 0
+AreNew taken [] = Unit {0}
+AreNew taken (h ∷ hs) = (Contains taken h → ⊥) × AreNew (taken ++ h ∷ []) hs
+
+-- cycle k is open, there is one answer for each candidate, no row ever took the handles that the answers gave, and these
+-- are the rows that no candidate that was answered alive reaches
 pub record MayResolve (s : ManagedReplay) (k : ℕ) (alive : List Answer) (freed : List ℕ) : Type 0 where
   pub cycle : OpenCycle
   pub open_cycle : IsOpen s.managed k cycle
   pub answers : length alive ≡ length cycle.candidates
+  pub new : AreNew s.adopted (handles_given alive)
   pub resolution : IsResolution s.managed cycle.dead (IsAnsweredAlive cycle.candidates alive) freed
 
 -- a word is refused in a phase: the phase isn't the one before the word's own
@@ -124,7 +131,7 @@ ManagedAllows s (op.Lend v x) nothing = Unit {0}
 ManagedAllows s (op.Meet v sort n p h) nothing = Contains s.adopted h.0 → ⊥
 ManagedAllows s (op.Give v) nothing = Unit {0}
 ManagedAllows s (op.Snap k) (snap_of freed candidates dead) = IsSnapshot s.managed k.0 freed candidates dead
-ManagedAllows s (op.Contract k) (contraction_of comps xrefs) = MayContract s k.0 comps xrefs
+ManagedAllows s (op.Contract k) (contraction_of comps heavy xrefs) = MayContract s k.0 comps heavy xrefs
 ManagedAllows s (op.Resolve k) (resolution_of alive freed) = MayResolve s k.0 alive freed
 ManagedAllows s (op.Abandon k) nothing = (c : OpenCycle) × IsOpen s.managed k.0 c
 ManagedAllows s (op.Refused w) (phase_of phase) = MayRefuse s w phase

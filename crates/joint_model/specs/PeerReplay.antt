@@ -12,9 +12,9 @@ use Rattle.joint_model.specs.declared.events.Op.{Op}
 use Rattle.joint_model.specs.declared.events.Op.TheVariants as op
 use Rattle.joint_model.specs.declared.events.Reply.{Reply}
 use Rattle.joint_model.specs.declared.events.Reply.TheVariants as says
-use Rattle.joint_model.specs.Components.{Rises}
+use Rattle.joint_model.specs.Components.{Rises, End, node, temporary}
 use Rattle.joint_model.specs.Heaps.{Heap, IsLive, HasField, InSlot, Answered, answer, slot, numbered_at, numbered_set, with_freed}
-use Rattle.joint_model.specs.Peers.{Peers, opening_peers, peer_line, pair_made, gripped, landed, issued_since, peer_of, Issued, held, Strength, strong, weak, is_strong}
+use Rattle.joint_model.specs.Peers.{Peers, opening_peers, peer_line, pair_made, gripped, landed, issued_since, peer_of, next_handle, with_renewed, Issued, held, Strength, strong, weak, is_strong}
 use Rattle.joint_model.specs.Run.{thread_number}
 use Rattle.joint_model.specs.Told.{Told, nothing, references_of, slice_of, sweep_of}
 use Rattle.joint_model.specs.Walks.{Reached}
@@ -24,13 +24,14 @@ pub record TableRow : Type 0 where
   pub strength : Strength
   pub cleared : Bool
 
--- a mirrored cycle: its number, the number of the snap entry that its entries cite, and the handles weakened and
--- restored in it
+-- a mirrored cycle: its number, the number of the snap entry that its entries cite, the handles weakened and restored in
+-- it, and the new handles that the restores gave
 pub record Mirror : Type 0 where
   pub cycle : ℕ
   pub snap : ℕ
   pub weakened : List ℕ
   pub restored : List ℕ
+  pub renewed : List ℕ
 
 -- an open marking: its number and thread; the heap, the mirrored references and the peers of strong handles as they
 -- stood at its begin; the peers brought back since; and how many objects its slices have blackened
@@ -38,7 +39,7 @@ pub record Marking : Type 0 where
   pub number : ℕ
   pub by : Thread
   pub heap : Heap
-  pub refs : List (ℕ × ℕ)
+  pub refs : List (End × End)
   pub strong_peers : List ℕ
   pub brought : List ℕ
   pub blackened : ℕ
@@ -48,7 +49,7 @@ pub record Marking : Type 0 where
 pub record PeerReplay : Type 0 where
   pub peers : Peers
   pub table : List (Option TableRow)
-  pub refs : List (ℕ × ℕ)
+  pub refs : List (End × End)
   pub mirror : Option Mirror
   pub mirrors : List ℕ
   pub marking : Option Marking
@@ -88,12 +89,18 @@ cleared_rows freed (i ∷ is) (Some row ∷ rows) = Some (record row { cleared =
 abbrev pub IsMarkingRoot : Marking → ℕ → Type 0
 IsMarkingRoot mk p = InSlot mk.heap p ⊎ Contains mk.strong_peers p ⊎ Contains mk.brought p
 
--- a reference of the list leads from one peer to another
-abbrev pub Refers : List (ℕ × ℕ) → ℕ → ℕ → Type 0
-Refers refs p q = Contains refs (p, q)
+-- references of the list lead from an end over these temporaries, one after the other, to a peer
+abbrev pub LeadsOver : List (End × End) → End → List ℕ → ℕ → Type 0
+LeadsOver refs e [] q = Contains refs (e, node q)
+LeadsOver refs e (t ∷ ts) q = Contains refs (e, temporary t) × LeadsOver refs (temporary t) ts q
 
--- a mirrored reference leads from an unfreed peer to another unfreed one
-pub record HasReference (h : Heap) (refs : List (ℕ × ℕ)) (p q : ℕ) : Type 0 where
+-- the references of the list lead from one peer to another, directly or through temporaries
+pub record Refers (refs : List (End × End)) (p q : ℕ) : Type 0 where
+  pub through : List ℕ
+  pub walk : LeadsOver refs (node p) through q
+
+-- mirrored references lead from an unfreed peer to another unfreed one, directly or through temporaries
+pub record HasReference (h : Heap) (refs : List (End × End)) (p q : ℕ) : Type 0 where
   pub live : IsLive h p
   pub reference : Refers refs p q
   pub there : IsLive h q
@@ -182,22 +189,34 @@ abbrev pub with_restored : Option Mirror → ℕ → Option Mirror
 with_restored None h = None
 with_restored (Some m) h = Some (record m { restored = m.restored ++ h ∷ [] })
 
--- the peer of a handle is brought back, if a marking is open
-abbrev pub brought_handle : Option Marking → Option ℕ → Option Marking
-brought_handle mk None = mk
-brought_handle mk (Some p) = brought_to mk p
+-- the mirror with a further handle that a restore gave
+abbrev pub with_given : Option Mirror → ℕ → Option Mirror
+with_given None h = None
+with_given (Some m) h = Some (record m { renewed = m.renewed ++ h ∷ [] })
 
--- a restore by the handle's row: a cleared one is removed, another becomes strong and its peer is brought back
+-- the handle is restored, and leaves the table
+abbrev pub withdrawn : PeerReplay → ℕ → PeerReplay
+withdrawn s h = record s { table = numbered_set s.table h None; mirror = with_restored s.mirror h }
+
+-- a held strong handle on the peer comes into the table, in place of one that a restore removed, and the peer is brought back, if a
+-- marking is open
+abbrev pub given_anew : PeerReplay → ℕ → PeerReplay
+given_anew s p = record s { peers = with_renewed s.peers p; table = s.table ++ fresh_row record { peer = p; hold = held; strength = strong } ∷ []; mirror = with_given s.mirror (next_handle s.peers); marking = brought_to s.marking p }
+
+-- a restore of a handle that isn't cleared, by its peer: the peer gets a handle with the next number
+abbrev pub renewed_on : PeerReplay → ℕ → Option ℕ → Answered PeerReplay
+renewed_on s h None = answer says.Cleared (withdrawn s h)
+renewed_on s h (Some p) = answer (says.Renewed record { 0 = next_handle s.peers }) (given_anew (withdrawn s h) p)
+
+-- a restore by the handle's row: the handle is removed, and its peer gets a new one unless it was cleared
 abbrev pub restored_by : PeerReplay → ℕ → Option TableRow → Answered PeerReplay
 restored_by s h None = answer says.Cleared s
-restored_by s h (Some row) = if row.cleared
-    then answer says.Cleared (record s { table = numbered_set s.table h None; mirror = with_restored s.mirror h })
-    else answer says.Alive (record s { table = numbered_set s.table h (Some (record row { strength = strong })); mirror = with_restored s.mirror h; marking = brought_handle s.marking (peer_of s.peers.issued h) })
+restored_by s h (Some row) = if row.cleared then answer says.Cleared (withdrawn s h) else renewed_on s h (peer_of s.peers.issued h)
 
 -- the mirrored references come to stand
-abbrev pub mirrored : PeerReplay → ℕ → Option ℕ → List (ℕ × ℕ) → PeerReplay
+abbrev pub mirrored : PeerReplay → ℕ → Option ℕ → List (End × End) → PeerReplay
 mirrored s k None refs = s
-mirrored s k (Some snap) refs = record s { refs = refs; mirror = Some record { cycle = k; snap = snap; weakened = []; restored = [] }; mirrors = s.mirrors ++ k ∷ [] }
+mirrored s k (Some snap) refs = record s { refs = refs; mirror = Some record { cycle = k; snap = snap; weakened = []; restored = []; renewed = [] }; mirrors = s.mirrors ++ k ∷ [] }
 
 -- the reply to each peer event, and the state after it, given what it cites and what is told beside it
 abbrev pub peer_answer : PeerReplay → Thread → Op → Option ℕ → Told → Answered PeerReplay

@@ -1,14 +1,14 @@
 -- The peer objects, the global names and the handles as they were issued: what the joint machine and the peer
 -- side's own replay share, and how each event changes it. (Global and weak global references are those that the
 -- Xamarin.Android documentation describes.)
-use Rattle.std.specs.Prelude.{ℕ, ◌+◌, Bool, true, false, ◌||◌, if◌then◌else◌, List, [], ◌∷◌, ◌++◌, length, drop, replicate, slice_set, Option, Some, None}
+use Rattle.std.specs.Prelude.{ℕ, ◌+◌, nat_le, Bool, true, false, ◌||◌, if◌then◌else◌, List, [], ◌∷◌, ◌++◌, length, drop, replicate, slice_set, Option, Some, None}
 use Rattle.joint_model.specs.declared.names.Sort.{Sort}
 use Rattle.joint_model.specs.declared.names.Sort.TheVariants.{Framework}
 use Rattle.joint_model.specs.declared.lines.Act.{Act}
 use Rattle.joint_model.specs.declared.lines.Act.TheVariants as act
 use Rattle.joint_model.specs.declared.events.Reply.{Reply}
 use Rattle.joint_model.specs.declared.events.Reply.TheVariants as says
-use Rattle.joint_model.specs.Heaps.{Heap, Answered, answer, opening_heap, slot, numbered_at, place, is_full, next_number, with_var, with_static, with_object, fields_of, copied, field_set, field_got, dropped, loaded, stored}
+use Rattle.joint_model.specs.Heaps.{Heap, Answered, answer, MOST, opening_heap, slot, numbered_at, place, is_full, next_number, with_var, with_static, with_object, fields_of, copied, field_set, field_got, dropped, loaded, stored}
 use Rattle.joint_model.specs.Managed.{place_or_none}
 
 -- a handle is held, made for a managed object, or raw, made by a peer thread
@@ -37,16 +37,18 @@ pub record Issued : Type 0 where
   pub hold : Hold
   pub strength : Strength
 
--- handles have the numbers from 1 on, in the order in which they were issued; each global name has its handle
+-- handles have the numbers from 1 on, in the order in which they were issued, by a restore or otherwise; `made` counts those
+-- that were issued otherwise; each global name has its handle
 pub record Peers : Type 0 where
   pub heap : Heap
   pub sorts : List Sort
   pub names : List (Option ℕ)
   pub issued : List Issued
+  pub made : ℕ
 
 -- nothing is there
 abbrev pub opening_peers : Peers
-opening_peers = record { heap = opening_heap; sorts = []; names = replicate 64 None; issued = [] }
+opening_peers = record { heap = opening_heap; sorts = []; names = replicate 64 None; issued = []; made = 0 }
 
 -- how a reply names a peer
 abbrev pub peer_name : ℕ → Reply
@@ -68,13 +70,17 @@ sort_of s p = elim (numbered_at s.sorts p) [ None ↦ Framework | Some sort ↦ 
 abbrev pub next_handle : Peers → ℕ
 next_handle s = length s.issued + 1
 
--- whether all handles are given out
+-- whether all handles are made; those that restores gave don't count
 abbrev pub handles_full : Peers → Bool
-handles_full s = is_full s.issued
+handles_full s = nat_le MOST s.made
 
 -- a further handle on a peer
 abbrev pub with_handle : Peers → ℕ → Hold → Strength → Peers
-with_handle s p hold strength = record s { issued = s.issued ++ record { peer = p; hold = hold; strength = strength } ∷ [] }
+with_handle s p hold strength = record s { issued = s.issued ++ record { peer = p; hold = hold; strength = strength } ∷ []; made = s.made + 1 }
+
+-- a held strong handle on a peer, in place of one that a restore removes
+abbrev pub with_renewed : Peers → ℕ → Peers
+with_renewed s p = record s { issued = s.issued ++ record { peer = p; hold = held; strength = strong } ∷ [] }
 
 -- the handles that were issued after an earlier state
 abbrev pub issued_since : Peers → Peers → List Issued

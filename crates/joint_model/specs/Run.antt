@@ -1,5 +1,5 @@
 -- The joint machine: one step for each entry, and its runs.
-use Rattle.std.specs.Prelude.{◌≡◌, ℕ, ◌+◌, ◌⊎◌, Bool, true, false, List, [], ◌∷◌, ◌++◌, length, map, filter_map, All, Contains, Option, Some, None}
+use Rattle.std.specs.Prelude.{◌≡◌, ℕ, ◌+◌, ◌⊎◌, Bool, true, false, if◌then◌else◌, List, [], ◌∷◌, ◌++◌, length, map, replicate, nat_eq, All, Contains, Option, Some, None}
 use Rattle.joint_model.specs.declared.names.Thread.{Thread}
 use Rattle.joint_model.specs.declared.names.Thread.TheVariants.{M, P, C}
 use Rattle.joint_model.specs.declared.lines.Act.{Act}
@@ -10,12 +10,12 @@ use Rattle.joint_model.specs.declared.events.Reply.{Reply}
 use Rattle.joint_model.specs.declared.events.Reply.TheVariants as says
 use Rattle.joint_model.specs.Components.{Rises}
 use Rattle.joint_model.specs.Cycles.{IsSnapshot, snap_reply, IsResolution, resolve_reply, IsOpen}
-use Rattle.joint_model.specs.Heaps.{Answered, answer, slot, numbered_set, place, IsLive, with_freed}
+use Rattle.joint_model.specs.Heaps.{Answered, answer, slot, numbered_at, numbered_set, place, is_freed, IsLive, with_freed}
 use Rattle.joint_model.specs.Joint.{Joint, JointMarking, opening, IsReached, IsReachedIn, with_managed, peer, joint_target, twin_of}
 use Rattle.joint_model.specs.Lines.{IsEvent, IsPeerThread}
-use Rattle.joint_model.specs.Managed.{Managed, OpenCycle, managed_line, adopted, met, given_up, handle_reply, handle_of, Holds, with_snapshot, resolved, abandoned}
-use Rattle.joint_model.specs.Peers.{Peers, peer_line, pair_made, gripped, landed, issued_since, peer_of}
-use Rattle.joint_model.specs.Told.{Told, snap_of, sweep_of, resolution_of, Noted}
+use Rattle.joint_model.specs.Managed.{Managed, OpenCycle, managed_line, adopted, met, given_up, handle_reply, handle_of, candidates_of, Holds, with_snapshot, resolved, abandoned}
+use Rattle.joint_model.specs.Peers.{Peers, peer_line, pair_made, gripped, landed, issued_since, peer_of, next_handle, with_renewed}
+use Rattle.joint_model.specs.Told.{Told, Answer, said_alive, said_cleared, snap_of, sweep_of, resolution_of, Noted}
 
 -- the number of a managed or a peer thread
 abbrev pub thread_number : Thread → ℕ
@@ -80,7 +80,7 @@ joint_answer j t _ = answer says.Ok j
 pub record JointSnap (j : Joint) (k : ℕ) (freed candidates dead : List ℕ) (reply : Reply) (next : Joint) : Type 0 where
   pub snapshot : IsSnapshot j.graph.managed k freed candidates dead
   pub replies : reply ≡ snap_reply j.graph.managed freed candidates
-  pub state : next ≡ with_managed j (with_snapshot j.graph.managed freed candidates dead)
+  pub state : next ≡ record (with_managed j (with_snapshot j.graph.managed freed candidates dead)) { answers = replicate (length candidates) None }
 
 -- a further marking by the thread, which keeps the graph of now
 pub record OpensMarking (j : Joint) (t : Thread) (reply : Reply) (next : Joint) : Type 0 where
@@ -119,6 +119,44 @@ JointSweep j None t reply told next = IsPeerThread t × (reply ≡ says.NoMark) 
 JointSweep j (Some m) t reply (sweep_of freed) next = EndsMarking j m t freed reply next ⊎ RefusesSweep j m t reply next
 JointSweep j (Some m) t reply _ next = RefusesSweep j m t reply next
 
+-- whether what an object holds is that handle
+abbrev pub is_that_handle : Option ℕ → ℕ → Bool
+is_that_handle None h = false
+is_that_handle (Some g) h = nat_eq g h
+
+-- what restores answered of these candidates, once each that holds the handle has had that answer
+abbrev pub answered_for : Managed → ℕ → Answer → List ℕ → List (Option Answer) → List (Option Answer)
+answered_for s h a [] xs = xs
+answered_for s h a (m ∷ ms) [] = []
+answered_for s h a (m ∷ ms) (x ∷ xs) = (if is_that_handle (handle_of s m) h then Some a else x) ∷ answered_for s h a ms xs
+
+-- the candidate that holds the handle has had its restore, which gave that answer
+abbrev pub answered : Joint → ℕ → Answer → Joint
+answered j h a = record j { answers = answered_for j.graph.managed h a (candidates_of j.graph.managed) j.answers }
+
+-- a held strong handle on the peer, under the next number
+abbrev pub given_anew : Joint → ℕ → Joint
+given_anew j p = record j { graph = record j.graph { peers = with_renewed j.graph.peers p; removed = j.graph.removed ++ false ∷ [] } }
+
+-- a restore of a candidate's handle, on that peer: the handle is removed, and the peer gets a new one unless it is freed
+abbrev pub joint_restored : Joint → ℕ → ℕ → Answered Joint
+joint_restored j h p = if is_freed j.graph.peers.heap p
+    then answer says.Cleared (answered (without j (Some h)) h said_cleared)
+    else answer (says.Renewed record { 0 = next_handle j.graph.peers }) (answered (given_anew (without j (Some h)) p) h (said_alive (next_handle j.graph.peers)))
+
+-- a restore: its handle is that of a candidate of the open cycle, and isn't removed
+pub record JointRestore (j : Joint) (h : ℕ) (reply : Reply) (next : Joint) : Type 0 where
+  pub cycle : OpenCycle
+  pub open_cycle : j.graph.managed.cycle ≡ Some cycle
+  pub row : ℕ
+  pub candidate : Contains cycle.candidates row
+  pub holds : Holds j.graph.managed row h
+  pub kept : numbered_at j.graph.removed h ≡ Some false
+  pub peer : ℕ
+  pub leads : peer_of j.graph.peers.issued h ≡ Some peer
+  pub replies : reply ≡ (joint_restored j h peer).reply
+  pub state : next ≡ (joint_restored j h peer).state
+
 -- a candidate is kept exactly where the peer of its handle isn't freed
 pub record IsKept (j : Joint) (c : OpenCycle) (m : ℕ) : Type 0 where
   pub candidate : Contains c.candidates m
@@ -128,25 +166,23 @@ pub record IsKept (j : Joint) (c : OpenCycle) (m : ℕ) : Type 0 where
   pub leads : peer_of j.graph.peers.issued handle ≡ Some peer
   pub unfreed : Contains j.graph.peers.heap.freed peer → ⊥
 
--- the flags with the handles of a list marked as removed
-abbrev pub removed_all : List Bool → List ℕ → List Bool
-removed_all flags [] = flags
-removed_all flags (h ∷ hs) = removed_all (numbered_set flags h true) hs
-
--- a resolution: the handles of the freed rows are removed
+-- a resolution: each candidate has had its restore, and each kept one then holds the handle that its restore gave
 pub record JointResolve (j : Joint) (k : ℕ) (freed : List ℕ) (reply : Reply) (next : Joint) : Type 0 where
   pub cycle : OpenCycle
   pub open_cycle : IsOpen j.graph.managed k cycle
+  pub answers : List Answer
+  pub all_answered : j.answers ≡ map Some answers
   pub resolution : IsResolution j.graph.managed cycle.dead (IsKept j cycle) freed
   pub replies : reply ≡ resolve_reply j.graph.managed freed
-  pub state : next ≡ record j { graph = record j.graph { managed = resolved j.graph.managed freed; removed = removed_all j.graph.removed (filter_map (handle_of j.graph.managed) freed) } }
+  pub state : next ≡ record (with_managed j (resolved j.graph.managed answers freed)) { answers = [] }
 
--- an abandonment frees nothing
+-- an abandonment frees nothing; no candidate has had its restore
 pub record JointAbandon (j : Joint) (k : ℕ) (reply : Reply) (next : Joint) : Type 0 where
   pub cycle : OpenCycle
   pub open_cycle : IsOpen j.graph.managed k cycle
+  pub none_answered : All (λ a. a ≡ None) j.answers
   pub replies : reply ≡ says.Ok
-  pub state : next ≡ with_managed j (abandoned j.graph.managed)
+  pub state : next ≡ record (with_managed j (abandoned j.graph.managed)) { answers = [] }
 
 -- an event that is computed
 pub record JointComputed (j : Joint) (t : Thread) (o : Op) (reply : Reply) (next : Joint) : Type 0 where
@@ -160,6 +196,7 @@ JointEvent j t (op.Snap k) reply (snap_of freed candidates dead) next = JointSna
 JointEvent j t (op.Snap k) reply _ next = ⊥
 JointEvent j t op.Begin reply told next = JointBegin j j.marking t reply next
 JointEvent j t op.Sweep reply told next = JointSweep j j.marking t reply told next
+JointEvent j t (op.Restore h) reply told next = JointRestore j h.0 reply next
 JointEvent j t (op.Resolve k) reply (resolution_of alive freed) next = JointResolve j k.0 freed reply next
 JointEvent j t (op.Resolve k) reply _ next = ⊥
 JointEvent j t (op.Abandon k) reply told next = JointAbandon j k.0 reply next

@@ -91,11 +91,11 @@ pub enum Reply {
     NoMark,
     More,
     Done,
-    Alive,
     Cleared,
     M(MNum),
     P(PNum),
     H(HNum),
+    Renewed(HNum),
     New(MNum),
     Twin(MNum),
     Made(PNum, HNum),
@@ -119,17 +119,17 @@ pub enum Reply {
 #[derive(Clone, Copy, PartialEq, Eq, Debug)]
 pub struct Made {
     pub caller: Thread,
-    pub index: u16,
+    pub index: u32,
     pub op: Op,
     pub reply: Reply,
     pub cites: Option<u64>,
 }
 
-/// One entry of a history. It takes at most 56 bytes.
+/// One entry of a history. It takes at most 64 bytes.
 #[derive(Clone, Copy, PartialEq, Eq, Debug)]
 pub struct Entry {
     pub number: u64,
     pub made: Made,
 }
 
-const _: () = prove!(size_of::<Entry>() <= 56);
+const _: () = prove!(size_of::<Entry>() <= 64);

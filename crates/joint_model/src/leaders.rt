@@ -2,38 +2,81 @@
 // restores, the handle alone is kept. A cycle over many candidates makes many such entries.
 
 ghost use Rattle.std.specs.Prelude.{◌≡◌, ◌≢◌, All, Contains, ◌+◌, ◌<◌, ◌≤◌, ◌^◌, ◌↔◌, List, [], ◌∷◌, ◌++◌, length, slice_get, slice_index_or, vec_len, vec_capacity, IfSome, IsTrue, IsFalse, MatchOption};
-ghost use Rattle.joint_model.specs.Leaders.{follower_of, followers_of, led, spelled, AreFollowed, Starts};
+ghost use Rattle.joint_model.specs.Leaders.{follower_of, followers_of, led, reply_after, spelled, AreFollowed, Starts};
 ghost use Rattle.joint_model.specs.Merged.{Ascends, IsNextInOther, first_number, merged, IsNumbered};
 
 use crate::events::{Entry, Made, Op, Reply};
 use crate::names::{HNum, Thread};
+use crate::packed::PackedEntry;
 use std::marker::Model;
 
 /// An entry, and how many after it differ from it by their numbers and handles alone. The handles of those stand from place `from` on.
-#[derive(Clone, Copy, PartialEq, Eq, Debug)]
+#[derive(Drop)]
 pub(crate) struct Leader {
-    pub(crate) entry: Entry,
+    pub(crate) entry: PackedEntry,
     from: u32,
     pub(crate) followers: u32,
 }
 
 const _: () = prove!(size_of::<Leader>() <= 64);
 
-// A leader for where there is none: nothing follows it.
-pub(crate) static NO_LEADER: Leader = Leader {
-    entry: Entry {
-        number: 0,
-        made: Made {
-            caller: Thread::C,
-            index: 0,
-            op: Op::Begin,
-            reply: Reply::Ok,
-            cites: None,
-        },
+// An entry for where there is none: nothing follows it.
+pub(crate) const NO_ENTRY: Entry = Entry {
+    number: 0,
+    made: Made {
+        caller: Thread::C,
+        index: 0,
+        op: Op::Begin,
+        reply: Reply::Ok,
+        cites: None,
     },
-    from: 0,
-    followers: 0,
 };
+
+// Follower `i` of a leader's entry, from 1, with that handle.
+#[inline(always)]
+pub(crate) fn follower(first: &Entry, i: u64, h: HNum) -> Entry
+    requires { i ≤ 4294967295 }
+    ensures { result ≡ follower_of first.now i h }
+{
+    let mut entry = *first;
+    entry.number = entry.number.wrapping_add(i);
+    entry.made.op = match entry.made.op {
+        Op::Weaken { .. } => Op::Weaken { h },
+        Op::Restore { .. } => Op::Restore { h },
+        op => op,
+    };
+    entry.made.reply = match entry.made.reply {
+        Reply::Renewed(first) => Reply::Renewed(HNum(first.0.wrapping_add(i as u32))),
+        reply => reply,
+    };
+    entry
+}
+
+// The handle of an entry that is the next follower of a leader's entry, which has so many; None where it isn't.
+#[inline(always)]
+fn next_handle(first: &Entry, followers: u32, entry: &Entry) -> Option<HNum>
+    ensures { IfSome result (λ h. (followers < 4294967295) × (entry.now ≡ follower_of first.now (followers + 1) h)) }
+{
+    if followers == u32::MAX {
+        return None;
+    }
+    let (made, own) = (&entry.made, &first.made);
+    let h = match (&made.op, &own.op) {
+        (Op::Weaken { h }, Op::Weaken { .. }) | (Op::Restore { h }, Op::Restore { .. }) => *h,
+        _ => return None,
+    };
+    let next = followers + 1;
+    if is_reply_after(&own.reply, next, &made.reply)
+        && entry.number == first.number.wrapping_add(next as u64)
+        && made.caller == own.caller
+        && made.index == own.index
+        && made.cites == own.cites
+    {
+        Some(h)
+    } else {
+        None
+    }
+}
 
 impl Leader {
     // The entry, with no follower yet. The handles of those will stand from place `from` on.
@@ -43,25 +86,10 @@ impl Leader {
         ensures { result ≡ record { entry = entry; from = from; followers = 0 } }
     {
         Leader {
-            entry,
+            entry: PackedEntry::pack(entry),
             from: from as u32,
             followers: 0,
         }
-    }
-
-    // Its follower `i`, from 1, with that handle.
-    #[inline(always)]
-    pub(crate) fn follower(&self, i: u64, h: HNum) -> Entry
-        ensures { result ≡ follower_of self.now.entry i h }
-    {
-        let mut entry = self.entry;
-        entry.number = entry.number.wrapping_add(i);
-        entry.made.op = match entry.made.op {
-            Op::Weaken { .. } => Op::Weaken { h },
-            Op::Restore { .. } => Op::Restore { h },
-            op => op,
-        };
-        entry
     }
 
     // The entry `i` places after it, where those are the handles of its list; None exactly where it has fewer followers.
@@ -73,10 +101,10 @@ impl Leader {
             return None;
         }
         if i == 0 {
-            return Some(self.entry);
+            return Some(self.entry.unpack());
         }
         let h = followers[self.from as usize + i as usize - 1];
-        Some(self.follower(i, h))
+        Some(follower(&self.entry.unpack(), i, h))
     }
 
     // The handle of an entry that is its next follower; None where it isn't.
@@ -84,24 +112,20 @@ impl Leader {
     fn next_handle(&self, entry: &Entry) -> Option<HNum>
         ensures { IfSome result (λ h. (self.now.followers < 4294967295) × (entry.now ≡ follower_of self.now.entry (self.now.followers + 1) h)) }
     {
-        let (made, own) = (&entry.made, &self.entry.made);
-        let h = match (&made.op, &made.reply, &own.op, &own.reply) {
-            (Op::Weaken { h }, Reply::Ok, Op::Weaken { .. }, Reply::Ok)
-            | (Op::Restore { h }, Reply::Alive, Op::Restore { .. }, Reply::Alive)
-            | (Op::Restore { h }, Reply::Cleared, Op::Restore { .. }, Reply::Cleared) => *h,
-            _ => return None,
-        };
-        let next = self.followers as u64 + 1;
-        if self.followers < u32::MAX
-            && entry.number == self.entry.number.wrapping_add(next)
-            && made.caller == own.caller
-            && made.index == own.index
-            && made.cites == own.cites
-        {
-            Some(h)
-        } else {
-            None
-        }
+        next_handle(&self.entry.unpack(), self.followers, entry)
+    }
+}
+
+// Whether a reply is that of follower `i`: the same, or the handle that a restore gave is `i` higher. Other replies than those of a weakening
+// and a restore don't count.
+#[inline(always)]
+fn is_reply_after(own: &Reply, i: u32, reply: &Reply) -> bool
+    ensures { IsTrue result → reply.now ≡ reply_after own.now i }
+{
+    match (own, reply) {
+        (Reply::Renewed(first), Reply::Renewed(h)) => h.0 == first.0.wrapping_add(i),
+        (Reply::Ok, Reply::Ok) | (Reply::Cleared, Reply::Cleared) => true,
+        _ => false,
     }
 }
 
@@ -138,12 +162,12 @@ pub(crate) fn entry_with(leaders: &[Leader], followers: &[HNum], number: u64) ->
     requires ascends { Ascends (spelled leaders.now followers.now) }
     ensures { MatchOption result (All (λ e. e.number ≢ number) (spelled leaders.now followers.now)) (λ e. Contains (spelled leaders.now followers.now) e × (e.number ≡ number)) }
 {
-    match leaders.binary_search_by_key(&number, |leader| leader.entry.number) {
-        Ok(at) => Some(leaders[at].entry),
+    match leaders.binary_search_by_key(&number, |leader| leader.entry.number()) {
+        Ok(at) => Some(leaders[at].entry.unpack()),
         Err(0) => None,
         Err(at) => {
             let leader = &leaders[at - 1];
-            leader.entry_after(followers, number - leader.entry.number)
+            leader.entry_after(followers, number - leader.entry.number())
         }
     }
 }
@@ -184,12 +208,12 @@ pub(crate) fn entry_at(leaders: &[Leader], followers: &[HNum], place: usize) -> 
 }
 
 /// An entry that a walk comes to.
-#[derive(Clone, Copy, PartialEq, Eq, Debug)]
+#[derive(Drop)]
 pub enum Step<'a> {
-    /// One that its list keeps whole.
-    Kept(&'a Entry),
+    /// One that its list keeps.
+    Kept(&'a PackedEntry),
     /// One of which the list keeps the handle alone.
-    Spelled(Entry),
+    Spelled(PackedEntry),
 }
 
 /// The leaders of a list that are still to come, with their followers.
@@ -225,7 +249,7 @@ impl<'a> Rest<'a> {
     pub(crate) fn number(&self) -> Option<u64>
         ensures { result ≡ first_number self.now }
     {
-        Some(self.leaders.first()?.entry.number)
+        Some(self.leaders.first()?.entry.number())
     }
 
     // Takes the next leader, with the handles of its followers; None where none is left.

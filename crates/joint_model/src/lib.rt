@@ -21,6 +21,7 @@ mod leaders;
 mod lines;
 mod lists;
 mod names;
+mod packed;
 mod past;
 mod sides;
 
@@ -34,5 +35,6 @@ pub use names::{
     CELLS, Cell, Cycle, GName, HNum, Kind, MNum, Marking, NAMES, PINS, PNum, Phase, PhaseWord,
     STATICS, Sort, Span, StaticNo, Thread, VARS, Var,
 };
+pub use packed::PackedEntry;
 pub use past::PastHistory;
 pub use sides::{enter, enter_handle, replays_go_on};

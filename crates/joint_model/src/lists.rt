@@ -6,6 +6,7 @@ ghost use Rattle.joint_model.specs.declared.lists.Holding.TheVariants.{Every, La
 
 use crate::events::Entry;
 use crate::kept::{BLOCK, Kept, MOST};
+use crate::names::HNum;
 use std::alloc::{AllocError, Global};
 use std::marker::Model;
 use std::snapshot::Snapshot;
@@ -187,11 +188,11 @@ impl Entries {
     }
 }
 
-/// One truth value for each candidate of a cycle, in rising managed number: whether its restore answered
-/// alive.
+/// One value for each candidate of a cycle, in rising managed number: the handle that its restore gave, or None where it
+/// answered cleared.
 #[derive(Drop)]
 pub struct Alive {
-    values: Vec<bool>,
+    values: Vec<Option<HNum>>,
 }
 
 impl Model for Alive {
@@ -217,16 +218,16 @@ impl Alive {
     }
 
     /// Puts a value last. It takes no memory.
-    pub fn push(&mut self, alive: bool)
+    pub fn push(&mut self, back: Option<HNum>)
         requires { 1 ≤ self.old.room }
-        ensures values { self.new.values ≡ self.old.values ++ alive ∷ [] }
+        ensures values { self.new.values ≡ self.old.values ++ back ∷ [] }
         ensures room { self.new.room + 1 ≡ self.old.room }
     {
-        self.values.push_reserved(alive);
+        self.values.push_reserved(back);
     }
 
     /// The value at place `i`, from 0; None exactly where `i` isn't below the length.
-    pub fn at(&self, i: u32) -> Option<bool>
+    pub fn at(&self, i: u32) -> Option<Option<HNum>>
         ensures { result ≡ slice_get self.now.values i }
     {
         self.values.as_slice().get(i as usize).copied()
