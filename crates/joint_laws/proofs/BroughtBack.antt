@@ -22,6 +22,7 @@ use Rattle.joint_model.proofs.Deciding.{none_some}
 use Rattle.joint_laws.proofs.NewRows.{Contains-set_there}
 use Rattle.joint_laws.proofs.PeerEvents.{read_by}
 use Rattle.joint_laws.proofs.Sparing.{later}
+use Rattle.joint_model.specs.Components.{End}
 
 -- the marking goes on with more peers brought back, each of them in a slot
 pub record IsLater (h : Heap) (mk now : Marking) : Type 0 where
@@ -85,7 +86,7 @@ module _ (s : PeerReplay) (vars : length s.peers.heap.vars ≡ 72) (statics : le
       by true = ended-later s.marking _
       by false = same-later s.marking s.peers.heap
 
-  mirrored-later : (n : ℕ) (cites : Option ℕ) (refs : List (ℕ × ℕ)) → Later (mirrored s n cites refs)
+  mirrored-later : (n : ℕ) (cites : Option ℕ) (refs : List (End × End)) → Later (mirrored s n cites refs)
   mirrored-later n None refs = same-later s.marking s.peers.heap
   mirrored-later n (Some snap) refs = same-later s.marking s.peers.heap
 

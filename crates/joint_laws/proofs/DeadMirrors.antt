@@ -38,7 +38,7 @@ module _ (s : Managed) (c : OpenCycle) (cut : IsCutOff s c) where
   pub managed-walk : (a b : ℕ) → Reaches Dead a b → Reaches (ManagedEdge s) a b
   managed-walk a b r = Reaches-mono Dead (ManagedEdge s) (λ x y e. e.0) a b r
 
-  module _ (comps : List (List ℕ)) (xrefs : List (ℕ × ℕ)) (k : IsDeadContraction s c.dead comps xrefs) where
+  module _ (comps : List (List ℕ)) (heavy : List ℕ) (xrefs : List (ℕ × ℕ)) (k : IsDeadContraction s c.dead comps heavy xrefs) where
     abbrev bridge : ℕ → Type 0
     bridge m = Contains c.dead m × IsBridge s m
 
@@ -46,14 +46,14 @@ module _ (s : Managed) (c : OpenCycle) (cut : IsCutOff s c) where
     pub candidates-mirrored : (a b : ℕ) → Contains c.candidates a → Contains c.candidates b → Reaches (ManagedEdge s) a b → Reaches (MirrorEdge comps xrefs) a b
     candidates-mirrored a b ca cb r =
         let db : bridge b = (cut.candidates b).0 cb in
-        walk-mirror_edges bridge Dead comps xrefs k a b ((cut.candidates a).0 ca) db (dead-walk a b db.0 r)
+        walk-mirror_edges bridge Dead comps heavy xrefs k a b ((cut.candidates a).0 ca) db (dead-walk a b db.0 r)
 
     pub mirror_edge-managed : (a b : ℕ) → MirrorEdge comps xrefs a b → Reaches (ManagedEdge s) a b
-    mirror_edge-managed a b e = managed-walk a b (mirror_edge-walk bridge Dead comps xrefs k a b e)
+    mirror_edge-managed a b e = managed-walk a b (mirror_edge-walk bridge Dead comps heavy xrefs k a b e)
 
     pub mirror-managed : (a b : ℕ) → Reaches (MirrorEdge comps xrefs) a b → Reaches (ManagedEdge s) a b
     mirror-managed a b r = Reaches-keeps (MirrorEdge comps xrefs) (λ x. Reaches (ManagedEdge s) a x) (λ x y e q. Reaches-trans (ManagedEdge s) a x y q (mirror_edge-managed x y e)) a b r (Reaches-self (ManagedEdge s) a)
 
 pub dead_part_is_mirrored : DeadPartIsMirrored
-dead_part_is_mirrored s c comps xrefs kept o k a b ca cb =
-    (candidates-mirrored s c (kept.dead c o) comps xrefs k a b ca cb, mirror-managed s c (kept.dead c o) comps xrefs k a b)
+dead_part_is_mirrored s c comps heavy xrefs kept o k a b ca cb =
+    (candidates-mirrored s c (kept.dead c o) comps heavy xrefs k a b ca cb, mirror-managed s c (kept.dead c o) comps heavy xrefs k a b)

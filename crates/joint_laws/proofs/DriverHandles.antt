@@ -4,19 +4,19 @@ use Rattle.std.proofs.Common.{◌≡◌, ◌≢◌, ℕ, zero, suc, ◌+◌, ◌
 use Rattle.std.specs.Prelude.{Contains, slice_get}
 use Rattle.std.proofs.lemmas.Bool.{cases_eq}
 use Rattle.std.proofs.lemmas.Option.{same_Some, slice_get_within, get_or_from_slice_get}
-use Rattle.joint_model.specs.Control.{Doing, candidates_of}
+use Rattle.joint_model.specs.Control.{Doing}
 use Rattle.joint_model.specs.Heaps.{InSlot, IsLive, fields_of, numbered_at, numbered_set}
-use Rattle.joint_model.specs.Managed.{OpenCycle, Holds}
+use Rattle.joint_model.specs.Managed.{OpenCycle, Holds, candidates_of}
 use Rattle.joint_model.specs.ManagedReplay.{ManagedReplay}
 use Rattle.joint_model.specs.Peers.{strong, weak}
-use Rattle.joint_model.specs.PeerReplay.{PeerReplay, TableRow, Mirror, with_weakened, with_restored}
+use Rattle.joint_model.specs.PeerReplay.{PeerReplay, TableRow, Mirror, with_weakened, with_restored, with_given, Refers}
 use Rattle.joint_laws.specs.ManagedInvariants.{IsReplayKept}
 use Rattle.joint_laws.specs.PeerInvariants.{IsTabled, IsIssued}
-use Rattle.joint_laws.specs.LinkedInvariants.{HasStrength, AreOwnersKept, doing_in, HasInHand, AreCallersKept, ForCandidates, IsGone, IsMirrored, IsWeakenedBy, IsRestoredBy}
+use Rattle.joint_laws.specs.LinkedInvariants.{HasStrength, AreOwnersKept, doing_in, HasInHand, AreCallersKept, ForCandidates, IsGone, IsReplaced, IsMirrored, IsWeakenedBy, IsRestoredBy}
 use Rattle.joint_model.proofs.Numbered.{numbered-within, numbered_set-here, numbered_set-same}
 use Rattle.joint_model.proofs.Deciding.{none_some}
 use Rattle.joint_model.proofs.HeapLemmas.{candidates_of-open}
-use Rattle.joint_laws.proofs.HandlesAlike.{HandlesAlike, held-on, row_of-on, row_of-back, IsLoose-peer, IsGone-peer}
+use Rattle.joint_laws.proofs.HandlesAlike.{HandlesAlike, held-on, row_of-on, row_of-back, IsLoose-peer, IsGone-peer, IsReplaced-peer}
 use Rattle.joint_laws.proofs.DriverPeerSteps.{Only}
 use Rattle.joint_model.specs.Told.{said_alive, said_cleared, Answer}
 use Rattle.joint_model.proofs.Members.{Rises-once}
@@ -44,12 +44,13 @@ callers_same touched r s t a e slots live fields ds k n = record {
 pub mirrored_changed : (touched : ℕ → Type 0) (r : ManagedReplay) (s t : PeerReplay) (c : OpenCycle) → HandlesAlike touched s t → AreOwnersKept r s → t.refs ≡ s.refs → (t.mirror ≡ None → s.mirror ≡ None) → IsMirrored r s c → IsMirrored r t c
 mirrored_changed touched r s t c a o refs stands m = record {
   comps = m.comps;
+  heavy = m.heavy;
   xrefs = m.xrefs;
   contraction = m.contraction;
   stands = λ e. m.stands (stands e);
   exact = λ p q. (
-    λ d. (let w = (m.exact p q).0 (subst (λ z. Contains z (p, q)) refs d) in (w.0, w.1, w.2, row_of-on touched r s t a w.0 p w.3, row_of-on touched r s t a w.1 q w.4)),
-    λ w. subst (λ z. Contains z (p, q)) (sym refs) ((m.exact p q).1 (w.0, w.1, w.2, row_of-back touched r s t a o w.0 p w.3, row_of-back touched r s t a o w.1 q w.4)),
+    λ d. (let w = (m.exact p q).0 (subst (λ z. Refers z p q) refs d) in (w.0, w.1, w.2, row_of-on touched r s t a w.0 p w.3, row_of-on touched r s t a w.1 q w.4)),
+    λ w. subst (λ z. Refers z p q) (sym refs) ((m.exact p q).1 (w.0, w.1, w.2, row_of-back touched r s t a o w.0 p w.3, row_of-back touched r s t a o w.1 q w.4)),
   );
 }
 
@@ -60,6 +61,10 @@ weakened-stands (Some m) h e = absurd (none_some _ (sym e))
 pub restored-stands : (m : Option Mirror) (h : ℕ) → with_restored m h ≡ None → m ≡ None
 restored-stands None h e = refl
 restored-stands (Some m) h e = absurd (none_some _ (sym e))
+
+pub given-stands : (m : Option Mirror) (h : ℕ) → with_given m h ≡ None → m ≡ None
+given-stands None h e = refl
+given-stands (Some m) h e = absurd (none_some _ (sym e))
 
 -- the handle h of the candidate at one place is touched
 module _ (r : ManagedReplay) (s t : PeerReplay) (c : OpenCycle) (place m h : ℕ) (k : IsReplayKept r) (o : AreOwnersKept r s) (e : r.managed.cycle ≡ Some c) (at : slice_get c.candidates place ≡ Some m) (q : Holds r.managed m h) (a : HandlesAlike (Only h) s t) where
@@ -124,11 +129,11 @@ pushed-new [] b = refl
 pushed-new (y ∷ ys) b = pushed-new ys b
 
 module _ (r : ManagedReplay) (s t : PeerReplay) (c : OpenCycle) (answers : List Answer) (m h : ℕ) (k : IsReplayKept r) (o : AreOwnersKept r s) (e : r.managed.cycle ≡ Some c) (at : slice_get c.candidates (length answers) ≡ Some m) (q : Holds r.managed m h) (a : HandlesAlike (Only h) s t) where
-  pub handles_restored : (b : Answer) → ForCandidates r.managed c (IsRestoredBy s answers) → (((b ≡ said_alive) × HasStrength t h strong) ⊎ ((b ≡ said_cleared) × IsGone t h)) → ForCandidates r.managed c (IsRestoredBy t (answers ++ b ∷ []))
-  handles_restored b all now l x g f w = elim (cases_eq g h) [
+  pub handles_restored : (b : Answer) → ((i g : ℕ) → slice_get answers i ≡ Some (said_alive g) → g ≡ h → ⊥) → ForCandidates r.managed c (IsRestoredBy s answers) → (((n : ℕ) × (b ≡ said_alive n) × IsReplaced t h n) ⊎ ((b ≡ said_cleared) × IsGone t h)) → ForCandidates r.managed c (IsRestoredBy t (answers ++ b ∷ []))
+  handles_restored b avoids all now l x g f w = elim (cases_eq g h) [
     | inl same ↦ here same
     | inr ne ↦ elim (all l x g f w) [
-      | inl u ↦ inl (pushed-old answers b l said_alive u.0, a.on g strong (o.held_ones x g w) ne u.1)
+      | inl u ↦ inl (u.0, pushed-old answers b l (said_alive u.0) u.1, IsReplaced-peer (Only h) r s t a g u.0 ne (avoids l u.0 u.1) (o.held_ones x g w) u.2)
       | inr u ↦ elim u [
         | inl v ↦ inr (inl (pushed-old answers b l said_cleared v.0, IsGone-peer (Only h) r s t a g ne (o.held_ones x g w) v.1))
         | inr v ↦ inr (inr (later ne v.0, a.on g weak (o.held_ones x g w) ne v.1))
@@ -141,7 +146,7 @@ module _ (r : ManagedReplay) (s t : PeerReplay) (c : OpenCycle) (answers : List 
           let p = in_place r s t c (length answers) m h k o e at q a l x g f w same in
           let at_end : slice_get (answers ++ b ∷ []) l ≡ Some b = ap (λ z. slice_get (answers ++ b ∷ []) z) p ∙ pushed-new answers b in
           elim now [
-            | inl u ↦ inl (at_end ∙ ap Some u.0, subst (λ z. HasStrength t z strong) (sym same) u.1)
+            | inl u ↦ inl (u.0, at_end ∙ ap Some u.1, subst (λ z. IsReplaced t z u.0) (sym same) u.2)
             | inr u ↦ inr (inl (at_end ∙ ap Some u.0, subst (IsGone t) (sym same) u.1))
           ]
 

@@ -16,7 +16,8 @@ use Rattle.joint_model.proofs.Members.{Contains-at}
 use Rattle.joint_laws.proofs.ManagedMoves.{GoesOn}
 use Rattle.joint_laws.proofs.ManagedKeeping.{dead-fields, dead-held, cut_on}
 use Rattle.joint_laws.proofs.DeadMirrors.{dead-walk, managed-walk}
-use Rattle.joint_laws.proofs.SameGraphs.{contraction-same, mirror_edge-ends}
+use Rattle.joint_laws.proofs.SameGraphs.{contraction-same}
+use Rattle.joint_laws.proofs.Mirrors.{mirror_edge-ends}
 
 module _ (r u : ManagedReplay) (s : PeerReplay) (k : IsManagedKept r.managed) (g : GoesOn r.managed u.managed) (c : OpenCycle) (o : r.managed.cycle ≡ Some c) where
   cut : IsCutOff r.managed c
@@ -40,8 +41,8 @@ module _ (r u : ManagedReplay) (s : PeerReplay) (k : IsManagedKept r.managed) (g
   edge_back : (x y : ℕ) → DeadEdge u.managed c.dead x y → DeadEdge r.managed c.dead x y
   edge_back x y e = (record { live = cut.live x e.1; field = subst (λ fs. Contains fs (Some y)) (dead-fields r.managed u.managed k g c o x e.1) e.0.field; there = cut.live y e.2 }, e.1, e.2)
 
-  contraction_on : (comps : List (List ℕ)) (xrefs : List (ℕ × ℕ)) → IsDeadContraction r.managed c.dead comps xrefs → IsDeadContraction u.managed c.dead comps xrefs
-  contraction_on comps xrefs w = contraction-same (λ m. Contains c.dead m × IsBridge r.managed m) (λ m. Contains c.dead m × IsBridge u.managed m) (DeadEdge r.managed c.dead) (DeadEdge u.managed c.dead) comps xrefs bridge_same (λ x y. (edge_on x y, edge_back x y)) w
+  contraction_on : (comps : List (List ℕ)) (heavy : List ℕ) (xrefs : List (ℕ × ℕ)) → IsDeadContraction r.managed c.dead comps heavy xrefs → IsDeadContraction u.managed c.dead comps heavy xrefs
+  contraction_on comps heavy xrefs w = contraction-same (λ m. Contains c.dead m × IsBridge r.managed m) (λ m. Contains c.dead m × IsBridge u.managed m) (DeadEdge r.managed c.dead) (DeadEdge u.managed c.dead) comps heavy xrefs bridge_same (λ x y. (edge_on x y, edge_back x y)) w
 
   row_on : (m p : ℕ) → Contains c.dead m → IsRowOf r.managed s.peers.issued m p → IsRowOf u.managed s.peers.issued m p
   row_on m p d w = record { handle = w.handle; holds = holds_on m w.handle d w.holds; row = w.row; is_issued = w.is_issued; leads = w.leads }
@@ -52,16 +53,17 @@ module _ (r u : ManagedReplay) (s : PeerReplay) (k : IsManagedKept r.managed) (g
   mirrored_on : IsMirrored r s c → IsMirrored u s c
   mirrored_on m = record {
     comps = m.comps;
+    heavy = m.heavy;
     xrefs = m.xrefs;
-    contraction = contraction_on m.comps m.xrefs m.contraction;
+    contraction = contraction_on m.comps m.heavy m.xrefs m.contraction;
     stands = m.stands;
     exact = λ p q. (
       λ d. (
           let w = (m.exact p q).0 d in
-          let ends = mirror_edge-ends (λ x. Contains c.dead x × IsBridge r.managed x) (DeadEdge r.managed c.dead) m.comps m.xrefs m.contraction w.0 w.1 w.2 in
+          let ends = mirror_edge-ends (λ x. Contains c.dead x × IsBridge r.managed x) (DeadEdge r.managed c.dead) m.comps m.heavy m.xrefs m.contraction w.0 w.1 w.2 in
           (w.0, w.1, w.2, row_on w.0 p ends.0.0 w.3, row_on w.1 q ends.1.0 w.4)),
       λ w. (
-          let ends = mirror_edge-ends (λ x. Contains c.dead x × IsBridge r.managed x) (DeadEdge r.managed c.dead) m.comps m.xrefs m.contraction w.0 w.1 w.2 in
+          let ends = mirror_edge-ends (λ x. Contains c.dead x × IsBridge r.managed x) (DeadEdge r.managed c.dead) m.comps m.heavy m.xrefs m.contraction w.0 w.1 w.2 in
           (m.exact p q).1 (w.0, w.1, w.2, row_back w.0 p ends.0.0 w.3, row_back w.1 q ends.1.0 w.4)),
     );
   }
@@ -93,7 +95,7 @@ module _ (r u : ManagedReplay) (s : PeerReplay) (k : IsManagedKept r.managed) (g
   pub driver_goes_on : (d : Stand) → IsDriverKept r s d → IsDriverKept u s d
   driver_goes_on idle w = record { closed = g.cycle ∙ w.closed; none = w.none }
   driver_goes_on (snapped o) w = before_on o w
-  driver_goes_on (contracted o comps xrefs) w = record { before = before_on o w.before; contraction = contraction_on r u s k g w.before.cycle w.before.opened.cycle comps xrefs w.contraction }
+  driver_goes_on (contracted o comps heavy xrefs) w = record { before = before_on o w.before; contraction = contraction_on r u s k g w.before.cycle w.before.opened.cycle comps heavy xrefs w.contraction }
   driver_goes_on (weakening o count seen swept) w = record {
     cycle = w.cycle;
     opened = opened_on o w.cycle w.opened;

@@ -1,7 +1,7 @@
 -- The driver's events on the peer side. A mirror brings exactly the mirror edges, carried to the peers. A candidate's handle
 -- is weakened, or restored, and the others' rows stay. A sweep frees no peer of a strong handle. And when the references go,
 -- a candidate whose peer is unfreed leads only to such candidates, since the references did and freed nothing between them.
-use Rattle.std.proofs.Common.{◌≡◌, ℕ, zero, suc, ◌↔◌, inl, inr, Bool, true, false, List, [], ◌∷◌, ◌++◌, length, map, Option, Some, None, refl, sym, ap, subst, ◌∙◌, arith}
+use Rattle.std.proofs.Common.{◌≡◌, ℕ, zero, suc, ◌↔◌, inl, inr, Bool, true, false, List, [], ◌∷◌, ◌++◌, length, Option, Some, None, refl, sym, ap, subst, ◌∙◌, arith}
 use Rattle.std.specs.Prelude.{Contains, slice_get, if◌then◌else◌}
 use Rattle.std.proofs.lemmas.Map.Views.{list_any-from_Contains}
 use Rattle.std.proofs.lemmas.Cmp.{nat_eq_equiv}
@@ -14,21 +14,22 @@ use Rattle.joint_model.specs.Heaps.{IsLive, numbered_at, numbered_set, is_freed}
 use Rattle.joint_model.specs.Managed.{Managed, OpenCycle, Holds, IsBridge, handle_of}
 use Rattle.joint_model.specs.ManagedReplay.{ManagedReplay}
 use Rattle.joint_model.specs.Peers.{Issued, Strength, strong, peer_of}
-use Rattle.joint_model.specs.PeerReplay.{PeerReplay, TableRow, Mirror, Marking, cleared_rows}
+use Rattle.joint_model.specs.PeerReplay.{PeerReplay, TableRow, Mirror, Marking, cleared_rows, Refers}
 use Rattle.joint_model.specs.Walks.{Reaches}
 use Rattle.joint_model.proofs.WalkLemmas.{Reaches-keeps}
 use Rattle.joint_laws.specs.ManagedInvariants.{IsCutOff, IsReplayKept}
 use Rattle.joint_laws.specs.Mirrors.{MirrorEdge}
 use Rattle.joint_laws.specs.PeerInvariants.{IsTabled, IsIssued, IsSpared, IsPeerKept}
 use Rattle.joint_laws.specs.LinkedInvariants.{HasStrength, IsHeldOne, IsRowOf, AreOwnersKept, IsMirrored, LeadsToUnfreed, IsContracted, IsWeakening}
-use Rattle.joint_model.proofs.Members.{at-Contains, Contains-map, Contains-map_cases}
+use Rattle.joint_model.proofs.Members.{at-Contains}
 use Rattle.joint_model.proofs.Numbered.{numbered-within, numbered_set-other}
 use Rattle.joint_model.proofs.Deciding.{none_some}
 use Rattle.joint_model.proofs.HeapLemmas.{Holds-handle_of}
 use Rattle.joint_laws.proofs.HandleKeeping.{tabled-swept, swept_row}
 use Rattle.joint_laws.proofs.HandlesAlike.{HandlesAlike, nothing_touched}
 use Rattle.joint_laws.proofs.DeadMirrors.{candidates-mirrored}
-use Rattle.joint_laws.proofs.SameGraphs.{mirror_edge-ends}
+use Rattle.joint_laws.proofs.Mirrors.{mirror_edge-ends}
+use Rattle.joint_laws.proofs.Through.{carried-refers, refers-carried}
 
 held-by : (b : Bool) (x : Option (Option ℕ)) (h : ℕ) → (if b then None else elim x [ None ↦ None | Some g ↦ g ]) ≡ Some h → (b ≡ false) × (x ≡ Some (Some h))
 held-by true x h e = absurd (none_some h e)
@@ -57,11 +58,8 @@ peer_of_row-is s issued m p w =
     ∙ (ap (λ (o : Option ℕ). elim o [ None ↦ 0 | Some x ↦ x ]) (ap peer_by w.is_issued) ∙ w.leads)
 
 -- an edge between rows, carried to their peers
-abbrev carry : Managed → List Issued → ℕ × ℕ → ℕ × ℕ
-carry s issued e = (peer_of_row s issued e.0, peer_of_row s issued e.1)
-
 -- the mirror comes to stand
-module _ (r : ManagedReplay) (s : PeerReplay) (op : OpenSnap) (comps : List (List ℕ)) (xrefs : List (ℕ × ℕ)) (k : IsReplayKept r) (pk : IsPeerKept s) (o : AreOwnersKept r s) (d : IsContracted r s op comps xrefs) where
+module _ (r : ManagedReplay) (s : PeerReplay) (op : OpenSnap) (comps : List (List ℕ)) (heavy : List ℕ) (xrefs : List (ℕ × ℕ)) (k : IsReplayKept r) (pk : IsPeerKept s) (o : AreOwnersKept r s) (d : IsContracted r s op comps heavy xrefs) where
   abbrev cyc : OpenCycle
   cyc = d.before.cycle
 
@@ -69,30 +67,30 @@ module _ (r : ManagedReplay) (s : PeerReplay) (op : OpenSnap) (comps : List (Lis
   row_at m b = let i = o.held_ones m b.0 b.1 in (i.0.peer, record { handle = b.0; holds = b.1; row = i.0; is_issued = i.1; leads = refl })
 
   edge-ends : (a b : ℕ) → MirrorEdge comps xrefs a b → (Contains cyc.dead a × IsBridge r.managed a) × (Contains cyc.dead b × IsBridge r.managed b)
-  edge-ends a b e = mirror_edge-ends (λ x. Contains cyc.dead x × IsBridge r.managed x) (DeadEdge r.managed cyc.dead) comps xrefs d.contraction a b e
+  edge-ends a b e = mirror_edge-ends (λ x. Contains cyc.dead x × IsBridge r.managed x) (DeadEdge r.managed cyc.dead) comps heavy xrefs d.contraction a b e
 
   -- a carried edge is a mirror edge between the rows of its peers
-  pub carried : (p q : ℕ) → Contains (carried_edges r.managed s.peers.issued (mirror_edges comps xrefs)) (p, q)
+  pub carried : (p q : ℕ) → Refers (carried_edges r.managed s.peers.issued (mirror_edges comps xrefs)) p q
       ↔ ((a : ℕ) × (b : ℕ) × MirrorEdge comps xrefs a b × IsRowOf r.managed s.peers.issued a p × IsRowOf r.managed s.peers.issued b q)
   carried p q = (to, from)
     where
-      to : Contains (map (carry r.managed s.peers.issued) (mirror_edges comps xrefs)) (p, q)
+      to : Refers (carried_edges r.managed s.peers.issued (mirror_edges comps xrefs)) p q
           → (a : ℕ) × (b : ℕ) × MirrorEdge comps xrefs a b × IsRowOf r.managed s.peers.issued a p × IsRowOf r.managed s.peers.issued b q
       to c =
-          let m = Contains-map_cases (carry r.managed s.peers.issued) (mirror_edges comps xrefs) (p, q) c in
-          let ends = edge-ends m.0.0 m.0.1 m.1 in
-          let ra = row_at m.0.0 ends.0.1 in
-          let rb = row_at m.0.1 ends.1.1 in
-          let pa : ra.0 ≡ p = sym (peer_of_row-is r.managed s.peers.issued m.0.0 ra.0 ra.1) ∙ ap (λ (z : ℕ × ℕ). z.0) m.2 in
-          let pb : rb.0 ≡ q = sym (peer_of_row-is r.managed s.peers.issued m.0.1 rb.0 rb.1) ∙ ap (λ (z : ℕ × ℕ). z.1) m.2 in
-          (m.0.0, m.0.1, m.1, subst (λ z. IsRowOf r.managed s.peers.issued m.0.0 z) pa ra.1, subst (λ z. IsRowOf r.managed s.peers.issued m.0.1 z) pb rb.1)
+          let m = refers-carried r.managed s.peers.issued (mirror_edges comps xrefs) p q c in
+          let ends = edge-ends m.0 m.1 m.4 in
+          let ra = row_at m.0 ends.0.1 in
+          let rb = row_at m.1 ends.1.1 in
+          let pa : ra.0 ≡ p = sym (peer_of_row-is r.managed s.peers.issued m.0 ra.0 ra.1) ∙ m.2 in
+          let pb : rb.0 ≡ q = sym (peer_of_row-is r.managed s.peers.issued m.1 rb.0 rb.1) ∙ m.3 in
+          (m.0, m.1, m.4, subst (λ z. IsRowOf r.managed s.peers.issued m.0 z) pa ra.1, subst (λ z. IsRowOf r.managed s.peers.issued m.1 z) pb rb.1)
 
       from : ((a : ℕ) × (b : ℕ) × MirrorEdge comps xrefs a b × IsRowOf r.managed s.peers.issued a p × IsRowOf r.managed s.peers.issued b q)
-          → Contains (map (carry r.managed s.peers.issued) (mirror_edges comps xrefs)) (p, q)
+          → Refers (carried_edges r.managed s.peers.issued (mirror_edges comps xrefs)) p q
       from w =
-          let same : (peer_of_row r.managed s.peers.issued w.0, peer_of_row r.managed s.peers.issued w.1) ≡ (p, q) = λ i. (peer_of_row-is r.managed s.peers.issued w.0 p w.3 i, peer_of_row-is r.managed s.peers.issued w.1 q w.4 i) in
-          subst (λ z. Contains (map (carry r.managed s.peers.issued) (mirror_edges comps xrefs)) z) same
-          (Contains-map (carry r.managed s.peers.issued) (mirror_edges comps xrefs) (w.0, w.1) w.2)
+          subst (λ z. Refers (carried_edges r.managed s.peers.issued (mirror_edges comps xrefs)) z q) (peer_of_row-is r.managed s.peers.issued w.0 p w.3)
+          (subst (λ z. Refers (carried_edges r.managed s.peers.issued (mirror_edges comps xrefs)) (peer_of_row r.managed s.peers.issued w.0) z) (peer_of_row-is r.managed s.peers.issued w.1 q w.4)
+          (carried-refers r.managed s.peers.issued (mirror_edges comps xrefs) w.0 w.1 w.2))
 
   -- a bridge row of the dead part is a candidate, its handle is strong, and its peer unfreed and spared
   dead-strong : (m p : ℕ) → Contains cyc.dead m → (w : IsRowOf r.managed s.peers.issued m p) → HasStrength s w.handle strong
@@ -104,7 +102,7 @@ module _ (r : ManagedReplay) (s : PeerReplay) (op : OpenSnap) (comps : List (Lis
   pub strong-live : (p h : ℕ) (i : Issued) → IsIssued s.peers.issued h i → i.peer ≡ p → HasStrength s h strong → IsLive s.peers.heap p
   strong-live p h i e l t = subst (λ z. IsLive s.peers.heap z) l (pk.handles.uncleared h t.0 i t.1 e (pk.handles.sure h t.0 t.1 t.2))
 
-  pub carried-safe : (p q : ℕ) → Contains (carried_edges r.managed s.peers.issued (mirror_edges comps xrefs)) (p, q) → IsLive s.peers.heap p × IsLive s.peers.heap q × ((mk : Marking) → s.marking ≡ Some mk → IsSpared mk q)
+  pub carried-safe : (p q : ℕ) → Refers (carried_edges r.managed s.peers.issued (mirror_edges comps xrefs)) p q → IsLive s.peers.heap p × IsLive s.peers.heap q × ((mk : Marking) → s.marking ≡ Some mk → IsSpared mk q)
   carried-safe p q c =
       let w = (carried p q).0 c in
       let ends = edge-ends w.0 w.1 w.2 in
@@ -119,7 +117,7 @@ module _ (r : ManagedReplay) (s : PeerReplay) (op : OpenSnap) (comps : List (Lis
   driver_mirrored m ks = record {
     cycle = cyc;
     opened = d.before.opened;
-    mirror = record { comps = comps; xrefs = xrefs; contraction = d.contraction; stands = λ e. none_some m (sym e); exact = carried };
+    mirror = record { comps = comps; heavy = heavy; xrefs = xrefs; contraction = d.contraction; stands = λ e. none_some m (sym e); exact = carried };
     handles = λ l x h e q. inr (omega arith, d.before.handles l x h e q);
   }
 
@@ -184,7 +182,7 @@ mirrored-closed r s c k pk o e m a b p q ca cb walk ra rb live = last (Reaches-k
     cut = k.managed.dead c e
 
     path : Reaches (MirrorEdge m.comps m.xrefs) a b
-    path = candidates-mirrored r.managed c cut m.comps m.xrefs m.contraction a b ca cb walk
+    path = candidates-mirrored r.managed c cut m.comps m.heavy m.xrefs m.contraction a b ca cb walk
 
     one_peer : (x y z : ℕ) → IsRowOf r.managed s.peers.issued x y → IsRowOf r.managed s.peers.issued x z → y ≡ z
     one_peer x y z v w =
@@ -197,7 +195,7 @@ mirrored-closed r s c k pk o e m a b p q ca cb walk ra rb live = last (Reaches-k
 
     step : (x y : ℕ) → MirrorEdge m.comps m.xrefs x y → HasLivePeer r s x → HasLivePeer r s y
     step x y w fine z v =
-        let ends = mirror_edge-ends (λ n. Contains c.dead n × IsBridge r.managed n) (DeadEdge r.managed c.dead) m.comps m.xrefs m.contraction x y w in
+        let ends = mirror_edge-ends (λ n. Contains c.dead n × IsBridge r.managed n) (DeadEdge r.managed c.dead) m.comps m.heavy m.xrefs m.contraction x y w in
         let i = o.held_ones x ends.0.1.0 ends.0.1.1 in
         let rx : IsRowOf r.managed s.peers.issued x i.0.peer = record { handle = ends.0.1.0; holds = ends.0.1.1; row = i.0; is_issued = i.1; leads = refl } in
         pk.references.live i.0.peer z ((m.exact i.0.peer z).1 (x, y, w, rx, v)) (fine i.0.peer rx)

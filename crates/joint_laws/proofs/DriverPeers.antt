@@ -2,7 +2,7 @@
 -- alone. And what threads have in hand stays so at a quiet event: a peer just made is named by nothing that a slot could
 -- come by.
 use Rattle.std.proofs.Common.{◌≡◌, ℕ, ◌≤◌, inl, inr, Bool, true, false, List, length, Option, Some, None, refl, sym, subst, ◌∙◌}
-use Rattle.std.specs.Prelude.{Contains, if◌then◌else◌}
+use Rattle.std.specs.Prelude.{Contains, if◌then◌else◌, slice_get}
 use Rattle.std.proofs.lemmas.Bool.{cases_lt}
 use Rattle.std.proofs.lemmas.Option.{same_Some}
 use Rattle.joint_model.specs.declared.names.Thread.TheVariants.{C}
@@ -11,14 +11,14 @@ use Rattle.joint_model.specs.Heaps.{IsMade, IsLive, InSlot, numbered_at, fields_
 use Rattle.joint_model.specs.Managed.{OpenCycle, Holds}
 use Rattle.joint_model.specs.ManagedReplay.{ManagedReplay}
 use Rattle.joint_model.specs.Peers.{Issued, strong, weak, peer_of}
-use Rattle.joint_model.specs.PeerReplay.{PeerReplay, TableRow, Marking, row_of, table_target}
+use Rattle.joint_model.specs.PeerReplay.{PeerReplay, TableRow, Marking, row_of, table_target, Refers}
 use Rattle.joint_model.proofs.Deciding.{none_some}
 use Rattle.joint_laws.specs.PeerInvariants.{IsIssued, IsPeerKept}
-use Rattle.joint_laws.specs.LinkedInvariants.{HasStrength, IsHeldOne, IsRowOf, AreOwnersKept, doing_in, HasInHand, HasPeer, HasMadePair, IsVirgin, AreCallersKept, ForCandidates, IsMirrored, IsWeakenedBy, IsRestoredBy, LeadsToUnfreed, IsBeforeMirror, IsDriverKept}
+use Rattle.joint_laws.specs.LinkedInvariants.{HasStrength, IsHeldOne, IsRowOf, AreOwnersKept, doing_in, HasInHand, HasPeer, HasMadePair, IsVirgin, AreCallersKept, ForCandidates, IsMirrored, IsWeakenedBy, IsRestoredBy, LeadsToUnfreed, IsBeforeMirror, IsDriverKept, given_at}
 use Rattle.joint_laws.proofs.Fields.{IsLive-more, fields-past}
 use Rattle.joint_laws.proofs.HandlesAlike.{HandlesAlike, nothing_touched, row_of-on, row_of-back, AreOwnersKept-peer, IsLoose-peer, weakened-peer, restored-peer}
 use Rattle.joint_laws.proofs.PeerQuiet.{IsQuiet}
-use Rattle.joint_model.specs.Told.{Answer}
+use Rattle.joint_model.specs.Told.{Answer, said_alive}
 
 -- the driver's own marking stays open
 abbrev pub StillOwn : PeerReplay → PeerReplay → Type 0
@@ -36,12 +36,13 @@ module _ (touched : ℕ → Type 0) (r : ManagedReplay) (s t : PeerReplay) (a : 
     pub mirrored_on : (c : OpenCycle) → IsMirrored r s c → IsMirrored r t c
     mirrored_on c m = record {
       comps = m.comps;
+      heavy = m.heavy;
       xrefs = m.xrefs;
       contraction = m.contraction;
       stands = λ e. m.stands (sym mirror ∙ e);
       exact = λ p q. (
-        λ d. (let w = (m.exact p q).0 (subst (λ z. Contains z (p, q)) refs d) in (w.0, w.1, w.2, row_of-on touched r s t a w.0 p w.3, row_of-on touched r s t a w.1 q w.4)),
-        λ w. subst (λ z. Contains z (p, q)) (sym refs) ((m.exact p q).1 (w.0, w.1, w.2, row_of-back touched r s t a owners w.0 p w.3, row_of-back touched r s t a owners w.1 q w.4)),
+        λ d. (let w = (m.exact p q).0 (subst (λ z. Refers z p q) refs d) in (w.0, w.1, w.2, row_of-on touched r s t a w.0 p w.3, row_of-on touched r s t a w.1 q w.4)),
+        λ w. subst (λ z. Refers z p q) (sym refs) ((m.exact p q).1 (w.0, w.1, w.2, row_of-back touched r s t a owners w.0 p w.3, row_of-back touched r s t a owners w.1 q w.4)),
       );
     }
 
@@ -53,17 +54,17 @@ module _ (touched : ℕ → Type 0) (r : ManagedReplay) (s t : PeerReplay) (a : 
       handles = candidates_on b.cycle (λ l h. HasStrength s h strong) (λ l h. HasStrength t h strong) (λ l h n w q. a.on h strong w n q) b.handles;
     }
 
-    pub driver_on : (d : Stand) → ((o : OpenSnap) → d ≡ marked o → StillOwn s t) → StaysClosed r s t → IsDriverKept r s d → IsDriverKept r t d
-    driver_on idle own closed k = record { closed = k.closed; none = mirror ∙ k.none }
-    driver_on (snapped o) own closed k = before_on o k
-    driver_on (contracted o comps xrefs) own closed k = record { before = before_on o k.before; contraction = k.contraction }
-    driver_on (weakening o count w sw) own closed k = record {
+    pub driver_on : (d : Stand) → ((i g : ℕ) → slice_get (given_at d) i ≡ Some (said_alive g) → touched g → ⊥) → ((o : OpenSnap) → d ≡ marked o → StillOwn s t) → StaysClosed r s t → IsDriverKept r s d → IsDriverKept r t d
+    driver_on idle avoids own closed k = record { closed = k.closed; none = mirror ∙ k.none }
+    driver_on (snapped o) avoids own closed k = before_on o k
+    driver_on (contracted o comps heavy xrefs) avoids own closed k = record { before = before_on o k.before; contraction = k.contraction }
+    driver_on (weakening o count w sw) avoids own closed k = record {
       cycle = k.cycle;
       opened = k.opened;
       mirror = mirrored_on k.cycle k.mirror;
       handles = candidates_on k.cycle (IsWeakenedBy s count) (IsWeakenedBy t count) (λ l h n w q. weakened-peer touched r s t a count l h n w q) k.handles;
     }
-    driver_on (marked o) own closed k =
+    driver_on (marked o) avoids own closed k =
         let now = own o refl k.marking k.own k.by_driver in
         record {
           cycle = k.cycle;
@@ -74,18 +75,18 @@ module _ (touched : ℕ → Type 0) (r : ManagedReplay) (s t : PeerReplay) (a : 
           own = now.1;
           by_driver = now.2;
         }
-    driver_on (restoring o answers) own closed k = record {
+    driver_on (restoring o answers) avoids own closed k = record {
       cycle = k.cycle;
       opened = k.opened;
       mirror = mirrored_on k.cycle k.mirror;
-      handles = candidates_on k.cycle (IsRestoredBy s answers) (IsRestoredBy t answers) (λ l h n w q. restored-peer touched r s t a answers l h n w q) k.handles;
+      handles = candidates_on k.cycle (IsRestoredBy s answers) (IsRestoredBy t answers) (λ l h n w q. restored-peer touched r s t a answers l h avoids n w q) k.handles;
     }
-    driver_on (restored o answers clear) own closed k = record {
+    driver_on (restored o answers clear) avoids own closed k = record {
       cycle = k.cycle;
       opened = k.opened;
       none = mirror ∙ k.none;
       all = k.all;
-      handles = candidates_on k.cycle (IsRestoredBy s answers) (IsRestoredBy t answers) (λ l h n w q. restored-peer touched r s t a answers l h n w q) k.handles;
+      handles = candidates_on k.cycle (IsRestoredBy s answers) (IsRestoredBy t answers) (λ l h n w q. restored-peer touched r s t a answers l h avoids n w q) k.handles;
       closed = closed k.cycle answers k.all k.handles k.closed;
     }
 
@@ -145,7 +146,7 @@ module _ (via : ℕ → Type 0) (r : ManagedReplay) (s t : PeerReplay) (k : IsPe
   own_quiet mk e f = let now = q.marking mk e in (now.0, now.1, now.2 ∙ f)
 
   pub driver_quiet : (d : Stand) → IsDriverKept r s d → IsDriverKept r t d
-  driver_quiet d kept = driver_on nothing_touched r s t q.handles owners (λ m h w c. w) q.refs q.mirror d (λ o e. own_quiet) closed_quiet kept
+  driver_quiet d kept = driver_on nothing_touched r s t q.handles owners (λ m h w c. w) q.refs q.mirror d (λ i g e c. c) (λ o e. own_quiet) closed_quiet kept
 
   -- what has a field was made
   has_field-made : (x y : ℕ) → 1 ≤ x → Contains (fields_of s.peers.heap x) (Some y) → IsMade s.peers.heap x

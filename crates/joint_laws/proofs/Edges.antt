@@ -6,11 +6,10 @@ use Rattle.std.proofs.Common.{◌≡◌, ℕ, ◌≤◌, ◌⊎◌, inl, inr, Li
 use Rattle.std.specs.Prelude.{Contains, Bool}
 use Rattle.std.proofs.lemmas.Bool.{cases_lt}
 use Rattle.std.proofs.lemmas.Option.{same_Some}
-use Rattle.joint_model.specs.Heaps.{Heap, IsMade, IsLive, InSlot, fields_of, numbered_at}
+use Rattle.joint_model.specs.Heaps.{Heap, IsMade, IsLive, InSlot, fields_of}
 use Rattle.joint_model.specs.Joint.{Graph, Row, object, peer, JointEdge, IsJoined, IsJointRoot, IsReachedIn}
 use Rattle.joint_model.specs.Linked.{Linkage, MayCome, linkage_after}
-use Rattle.joint_model.specs.Managed.{Managed, Holds, IsManagedRoot}
-use Rattle.joint_model.specs.Peers.{Issued}
+use Rattle.joint_model.specs.Managed.{Managed, IsManagedRoot}
 use Rattle.joint_model.specs.Told.{Noted}
 use Rattle.joint_model.proofs.Deciding.{none_some}
 use Rattle.joint_model.proofs.HeapLemmas.{IsLive-before}
@@ -19,7 +18,6 @@ use Rattle.joint_model.proofs.Members.{Contains-nil, Contains-here, Contains-the
 use Rattle.joint_model.proofs.WalkLemmas.{Reached-start, Reached-then}
 use Rattle.joint_laws.proofs.Fields.{fields-past}
 use Rattle.joint_laws.proofs.FreedRows.{freed-peer}
-use Rattle.joint_laws.proofs.JointSince.{peer-entry}
 use Rattle.joint_laws.proofs.LinkedEntries.{Of}
 use Rattle.joint_laws.proofs.ManagedEntries.{ManagedStep-entry}
 use Rattle.joint_laws.proofs.ManagedMoves.{GoesOn}
@@ -28,6 +26,7 @@ use Rattle.joint_laws.proofs.NewRows.{new-named}
 use Rattle.joint_laws.proofs.PeerEntries.{peer_of-issued}
 use Rattle.joint_laws.proofs.PeerHeaps.{heap-entry}
 use Rattle.joint_laws.proofs.SparedWalks.{peer_of-row}
+use Rattle.joint_laws.proofs.PairMoves.{pairs-entry}
 
 -- an object that has a field was made
 field-made : (h : Heap) (x y : ℕ) → 1 ≤ x → Contains (fields_of h x) (Some y) → IsMade h x
@@ -69,33 +68,27 @@ root-decided m x = elim (slot-decided m.heap x) [
   ]
 ]
 
--- what an entry does to fields and handles of the managed objects
+-- what an entry does to fields of the managed objects
 pub record Changes (m n : Managed) : Type 0 where
   pub made : (x : ℕ) → IsMade m.heap x → IsMade n.heap x
   pub back : (x : ℕ) → IsMade m.heap x → IsLive n.heap x → IsLive m.heap x
   pub fields : (x y : ℕ) → Contains (fields_of n.heap x) (Some y) → Contains (fields_of m.heap x) (Some y) ⊎ IsManagedRoot m y
-  pub gains : (x h : ℕ) → IsMade m.heap x → numbered_at n.held x ≡ Some (Some h) → numbered_at m.held x ≡ Some (Some h)
   pub frozen : (x : ℕ) → IsMade m.heap x → (IsManagedRoot m x → ⊥) → fields_of n.heap x ≡ fields_of m.heap x
-  pub keeps : (x : ℕ) → IsMade m.heap x → (IsManagedRoot m x → ⊥) → numbered_at n.held x ≡ numbered_at m.held x
 
 goes-changes : (m n : Managed) → GoesOn m n → Changes m n
 goes-changes m n g = record {
   made = λ x w. (w.0, omega (arith, w.1, g.made));
   back = λ x w l. record { made = w; kept = λ c. l.kept (subst (λ f. Contains f x) (sym g.freed) c) };
   fields = λ x y c. elim (g.fields x y c) [ inl d ↦ inl d | inr d ↦ inr d.1 ];
-  gains = g.gains;
   frozen = g.frozen;
-  keeps = g.keeps;
 }
 
-frees-changes : (m n : Managed) → n.heap.fields ≡ m.heap.fields → n.held ≡ m.held → ((x : ℕ) → IsLive n.heap x → IsLive m.heap x) → Changes m n
-frees-changes m n e f back = record {
+frees-changes : (m n : Managed) → n.heap.fields ≡ m.heap.fields → ((x : ℕ) → IsLive n.heap x → IsLive m.heap x) → Changes m n
+frees-changes m n e back = record {
   made = λ x w. (w.0, (let q = ap (λ z. length z) e in omega (arith, w.1, q)));
   back = λ x w l. back x l;
   fields = λ x y c. inl (subst (λ z. Contains z (Some y)) (same x) c);
-  gains = λ x h w q. ap (λ z. numbered_at z x) (sym f) ∙ q;
   frozen = λ x w o. same x;
-  keeps = λ x w o. ap (λ z. numbered_at z x) f;
 }
   where
     same : (x : ℕ) → fields_of n.heap x ≡ fields_of m.heap x
@@ -103,9 +96,9 @@ frees-changes m n e f back = record {
 
 pub changes-of : (m n : Managed) → ManagedStep m n → Changes m n
 changes-of m n (going_on g) = goes-changes m n g
-changes-of m n (snapping p) = frees-changes m n (ap (λ (z : Managed). z.heap.fields) p.is) (ap (λ (z : Managed). z.held) p.is) (λ x l. IsLive-before m.heap p.freed x (subst (λ (z : Managed). IsLive z.heap x) p.is l))
-changes-of m n (resolving p) = frees-changes m n (ap (λ (z : Managed). z.heap.fields) p.is) (ap (λ (z : Managed). z.held) p.is) (λ x l. IsLive-before m.heap p.freed x (subst (λ (z : Managed). IsLive z.heap x) p.is l))
-changes-of m n (abandoning p) = frees-changes m n (ap (λ (z : Managed). z.heap.fields) p.is) (ap (λ (z : Managed). z.held) p.is) (λ x l. subst (λ (z : Managed). IsLive z.heap x) p.is l)
+changes-of m n (snapping p) = frees-changes m n (ap (λ (z : Managed). z.heap.fields) p.is) (λ x l. IsLive-before m.heap p.freed x (subst (λ (z : Managed). IsLive z.heap x) p.is l))
+changes-of m n (resolving p) = frees-changes m n (ap (λ (z : Managed). z.heap.fields) p.is) (λ x l. IsLive-before m.heap p.freed x (subst (λ (z : Managed). IsLive z.heap x) p.is l))
+changes-of m n (abandoning p) = frees-changes m n (ap (λ (z : Managed). z.heap.fields) p.is) (λ x l. subst (λ (z : Managed). IsLive z.heap x) p.is l)
 
 -- the graph of a state, with any flags
 abbrev pub graph_with : Linkage → List Bool → Graph
@@ -136,16 +129,14 @@ module _ (s : Linkage) (n : Noted) (may : MayCome s n) (k : Of s) (after : Of (l
   -- a pair of a row that was made before was joined before
   joined-old : (x p : ℕ) → IsJoined (graph_with t gs) x p → IsMade s.managed.managed.heap x → IsJoined (graph_with s fs) x p
   joined-old x p e m =
-      let holds : Holds s.managed.managed x e.handle = record { live = changes.back x m e.holds.live; held = changes.gains x e.handle m e.holds.held } in
-      let i = k.owners.held_ones x e.handle holds in
-      let row = peer_of-row t.peer.peers.issued e.handle p e.leads in
-      let same : i.0 ≡ row.0 = same_Some i.0 row.0 (sym ((peer-entry s n k).issued_on e.handle i.0 i.1) ∙ row.1) in
-      let on : i.0.peer ≡ p = ap (λ (z : Issued). z.peer) same ∙ row.2 in
+      let then = peer_of-row t.peer.peers.issued e.handle p e.leads in
+      let pair = after.owners.registered x p (record { handle = e.handle; holds = e.holds; row = then.0; is_issued = then.1; leads = then.2 }) in
+      let w = k.owners.pairs p x ((pairs-entry s n).before p x m pair) in
       record {
-        handle = e.handle;
-        holds = holds;
-        leads = peer_of-issued s.peer.peers.issued e.handle i.0 i.1 ∙ ap Some on;
-        live = (heap-entry s n).back p (subst (λ z. IsMade s.peer.peers.heap z) on (k.peer.handles.peers e.handle i.0 i.1)) e.live;
+        handle = w.handle;
+        holds = w.holds;
+        leads = peer_of-issued s.peer.peers.issued w.handle w.row w.is_issued ∙ ap Some w.leads;
+        live = (heap-entry s n).back p (subst (λ z. IsMade s.peer.peers.heap z) w.leads (k.peer.handles.peers w.handle w.row w.is_issued)) e.live;
       }
 
   -- a new row that holds a handle is in a slot
@@ -190,11 +181,13 @@ module _ (s : Linkage) (n : Noted) (may : MayCome s n) (k : Of s) (after : Of (l
     -- a pair stands while its row isn't freed and is in no slot
     joined-on : (x p : ℕ) → IsJoined (graph_with s fs) x p → (Contains t.managed.managed.heap.freed x → ⊥) → (IsManagedRoot s.managed.managed x → ⊥) → IsJoined (graph_with t gs) x p
     joined-on x p e f out =
-        let i = peer_of-row s.peer.peers.issued e.handle p e.leads in
+        let now = peer_of-row s.peer.peers.issued e.handle p e.leads in
+        let pair = k.owners.registered x p (record { handle = e.handle; holds = e.holds; row = now.0; is_issued = now.1; leads = now.2 }) in
+        let w = after.owners.pairs p x ((pairs-entry s n).after p x pair out f) in
         record {
-          handle = e.handle;
-          holds = record { live = object-live x e.holds.live f; held = changes.keeps x e.holds.live.made out ∙ e.holds.held };
-          leads = peer_of-issued t.peer.peers.issued e.handle i.0 ((peer-entry s n k).issued_on e.handle i.0 i.1) ∙ ap Some i.2;
+          handle = w.handle;
+          holds = w.holds;
+          leads = peer_of-issued t.peer.peers.issued w.handle w.row w.is_issued ∙ ap Some w.leads;
           live = peer-live p e.live;
         }
 

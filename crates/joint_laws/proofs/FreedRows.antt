@@ -55,7 +55,7 @@ module _ (r : ManagedReplay) (k : IsReplayKept r) where
       same-as (given_up r.managed u).state _ (give_by-managed r (slot r.managed.heap.vars u) (given_up r.managed u)) (given_up-goes_on r.managed u).freed
   answer-freed t (op.Snap c) told n w = absurd (n tt)
   answer-freed t (op.Resolve c) told n w = absurd (n tt)
-  answer-freed t (op.Contract c) (contraction_of comps xrefs) n w = refl
+  answer-freed t (op.Contract c) (contraction_of comps heavy xrefs) n w = refl
   answer-freed t (op.Refused x) (phase_of phase) n w = refl
   answer-freed t (op.Lend v x) told n w = refl
   answer-freed t (op.Abandon c) told n w = refl
@@ -77,7 +77,7 @@ module _ (s : Linkage) (k : Of s) (x h p : ℕ) (holds : Holds s.managed.managed
       let at = at-Contains d.cycle.candidates x candidate in
       let i = peer_of-row s.peer.peers.issued h p leads in
       elim (d.handles at.0 x h at.1 holds) [
-        | inl t ↦ absurd (out.1 (x, (at.0, subst (λ (z : OpenCycle). slice_get z.candidates at.0 ≡ Some x) (sym same) at.1, subst (λ z. slice_get z at.0 ≡ Some said_alive) (sym a.2) t.0), Reaches-self (ManagedEdge s.managed.managed) x))
+        | inl t ↦ absurd (out.1 (x, (at.0, subst (λ (z : OpenCycle). slice_get z.candidates at.0 ≡ Some x) (sym same) at.1, (t.0, subst (λ z. slice_get z at.0 ≡ Some (said_alive t.0)) (sym a.2) t.1)), Reaches-self (ManagedEdge s.managed.managed) x))
         | inr t ↦ elim t [
           | inl u ↦ subst (λ z. Contains s.peer.peers.heap.freed z) i.2 (u.1.freed i.0 i.1)
           | inr u ↦ absurd (omega (arith, u.0, slice_get_within d.cycle.candidates at.0 x at.1, d.all))
@@ -85,7 +85,7 @@ module _ (s : Linkage) (k : Of s) (x h p : ℕ) (holds : Holds s.managed.managed
       ]
   kept-answer c alive freed cites idle d a w f = absurd a
   kept-answer c alive freed cites (snapped o) d a w f = absurd a
-  kept-answer c alive freed cites (contracted o comps xrefs) d a w f = absurd a
+  kept-answer c alive freed cites (contracted o comps heavy xrefs) d a w f = absurd a
   kept-answer c alive freed cites (weakening o count seen sw) d a w f = absurd a
   kept-answer c alive freed cites (marked o) d a w f = absurd a
   kept-answer c alive freed cites (restoring o answers) d a w f = absurd a

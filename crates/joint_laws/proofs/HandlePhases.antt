@@ -1,8 +1,8 @@
 -- The strength of each held handle by the driver's stand, as the driver keeps it for the candidates of the cycle that it opened.
 use Rattle.std.proofs.Common.{◌≡◌, ℕ, Some, subst}
 use Rattle.std.specs.Prelude.{slice_get}
-use Rattle.joint_model.specs.Control.{OpenSnap, Stand, idle, snapped, contracted, weakening, marked, restoring, restored, candidates_of}
-use Rattle.joint_model.specs.Managed.{OpenCycle, Holds}
+use Rattle.joint_model.specs.Control.{OpenSnap, Stand, idle, snapped, contracted, weakening, marked, restoring, restored}
+use Rattle.joint_model.specs.Managed.{OpenCycle, Holds, candidates_of}
 use Rattle.joint_model.specs.ManagedReplay.{ManagedReplay}
 use Rattle.joint_model.specs.PeerReplay.{PeerReplay}
 use Rattle.joint_laws.specs.LinkedInvariants.{IsDriverKept, IsOpenedAs, ForCandidates}
@@ -20,7 +20,7 @@ module _ (r : ManagedReplay) (s : PeerReplay) (l m h : ℕ) (e : slice_get (cand
   by_stand : (d : Stand) → IsDriverKept r s d → IsByPhase s d l h
   by_stand idle k = no_candidates r.managed m k.closed (Contains-at (candidates_of r.managed) l m e)
   by_stand (snapped o) k = of_opened o k.cycle _ k.opened k.handles
-  by_stand (contracted o comps xrefs) k = of_opened o k.before.cycle _ k.before.opened k.before.handles
+  by_stand (contracted o comps heavy xrefs) k = of_opened o k.before.cycle _ k.before.opened k.before.handles
   by_stand (weakening o count weakened swept) k = of_opened o k.cycle _ k.opened k.handles
   by_stand (marked o) k = of_opened o k.cycle _ k.opened k.handles
   by_stand (restoring o answers) k = of_opened o k.cycle _ k.opened k.handles

@@ -1,16 +1,16 @@
 -- What an entry of the peer side does to held handles. All but the touched ones keep their rows' strength, a fresh one is
 -- strong, none is forgotten, and no freed peer comes back. So what both sides keep of owners and of what threads have in
 -- hand stays, as far as no touched handle is concerned.
-use Rattle.std.proofs.Common.{◌≡◌, ℕ, ◌≤◌, ◌⊎◌, inl, inr, List, length, refl, sym, ap, subst, ◌∙◌, arith}
-use Rattle.std.specs.Prelude.{Contains}
+use Rattle.std.proofs.Common.{◌≡◌, ℕ, ◌≤◌, ◌⊎◌, inl, inr, List, length, Some, refl, sym, ap, subst, ◌∙◌, arith}
+use Rattle.std.specs.Prelude.{Contains, slice_get}
 use Rattle.std.proofs.lemmas.Option.{same_Some}
 use Rattle.joint_model.specs.Managed.{Holds}
 use Rattle.joint_model.specs.ManagedReplay.{ManagedReplay}
 use Rattle.joint_model.specs.Peers.{Issued, Strength, strong, weak}
 use Rattle.joint_model.specs.PeerReplay.{PeerReplay}
 use Rattle.joint_laws.specs.PeerInvariants.{IsIssued}
-use Rattle.joint_laws.specs.LinkedInvariants.{HasStrength, IsHeldOne, IsRowOf, AreOwnersKept, IsLoose, IsGone, IsWeakenedBy, IsRestoredBy}
-use Rattle.joint_model.specs.Told.{Answer}
+use Rattle.joint_laws.specs.LinkedInvariants.{HasStrength, IsHeldOne, IsRowOf, AreOwnersKept, IsLoose, IsGone, IsReplaced, IsWeakenedBy, IsRestoredBy}
+use Rattle.joint_model.specs.Told.{Answer, said_alive}
 
 pub record HandlesAlike (touched : ℕ → Type 0) (s t : PeerReplay) : Type 0 where
   pub issued_on : (h : ℕ) (i : Issued) → IsIssued s.peers.issued h i → IsIssued t.peers.issued h i
@@ -25,6 +25,21 @@ nothing_touched h = ⊥
 
 strong-weak : weak ≡ strong → ⊥
 strong-weak e = cc
+
+-- one change after another
+pub HandlesAlike-then : (touched : ℕ → Type 0) (s u t : PeerReplay) → HandlesAlike touched s u → HandlesAlike nothing_touched u t → HandlesAlike touched s t
+HandlesAlike-then touched s u t a b = record {
+  issued_on = λ h i q. b.issued_on h i (a.issued_on h i q);
+  count = omega (arith, a.count, b.count);
+  on = λ h x w n q. b.on h x (w.0, a.issued_on h w.0 w.1, w.2) (λ e. e) (a.on h x w n q);
+  back = λ h x w n q. a.back h x w n (b.back h x (w.0, a.issued_on h w.0 w.1, w.2) (λ e. e) q);
+  fresh = λ h x w q. elim (b.fresh h x w q) [ inl old ↦ a.fresh h x old (b.back h x old (λ e. e) q) | inr e ↦ inr e ];
+  freed_on = λ p c. b.freed_on p (a.freed_on p c);
+}
+
+-- a new handle is on the peer of the old one
+pub replaced-peer : (s : PeerReplay) (h g : ℕ) (i : Issued) (x : IsReplaced s h g) → IsIssued s.peers.issued h i → x.new.peer ≡ i.peer
+replaced-peer s h g i x e = x.same ∙ ap (λ (z : Issued). z.peer) (same_Some x.old i (sym x.was ∙ e))
 
 module _ (touched : ℕ → Type 0) (r : ManagedReplay) (s t : PeerReplay) (a : HandlesAlike touched s t) where
   pub held-on : (h : ℕ) → IsHeldOne s h → IsHeldOne t h
@@ -67,9 +82,21 @@ module _ (touched : ℕ → Type 0) (r : ManagedReplay) (s t : PeerReplay) (a : 
   pub weakened-peer : (count l h : ℕ) → (touched h → ⊥) → IsHeldOne s h → IsWeakenedBy s count l h → IsWeakenedBy t count l h
   weakened-peer count l h n w q = elim q [ inl b ↦ inl (b.0, a.on h weak w n b.1) | inr b ↦ inr (b.0, a.on h strong w n b.1) ]
 
-  pub restored-peer : (answers : List Answer) (l h : ℕ) → (touched h → ⊥) → IsHeldOne s h → IsRestoredBy s answers l h → IsRestoredBy t answers l h
-  restored-peer answers l h n w q = elim q [
-    | inl b ↦ inl (b.0, a.on h strong w n b.1)
+  pub IsReplaced-peer : (h g : ℕ) → (touched h → ⊥) → (touched g → ⊥) → IsHeldOne s h → IsReplaced s h g → IsReplaced t h g
+  IsReplaced-peer h g n ng w x = record {
+    untabled = λ row u. (let b = a.back h row.strength w n (row, u, refl) in x.untabled b.0 b.1);
+    strong_one = a.on g strong x.held_one ng x.strong_one;
+    held_one = held-on g x.held_one;
+    old = x.old;
+    was = a.issued_on h x.old x.was;
+    new = x.new;
+    is = a.issued_on g x.new x.is;
+    same = x.same;
+  }
+
+  pub restored-peer : (answers : List Answer) (l h : ℕ) → ((i g : ℕ) → slice_get answers i ≡ Some (said_alive g) → touched g → ⊥) → (touched h → ⊥) → IsHeldOne s h → IsRestoredBy s answers l h → IsRestoredBy t answers l h
+  restored-peer answers l h given n w q = elim q [
+    | inl b ↦ inl (b.0, b.1, IsReplaced-peer h b.0 n (given l b.0 b.1) w b.2)
     | inr b ↦ elim b [
       | inl d ↦ inr (inl (d.0, IsGone-peer h n w d.1))
       | inr d ↦ inr (inr (d.0, a.on h weak w n d.1))

@@ -1,7 +1,6 @@
 -- The entries of threads on the peer side are steps of the joint machine: both compute on the same peers, and where a handle
 -- leads is the same.
-use Rattle.std.proofs.Common.{◌≡◌, ℕ, ◌≤◌, Bool, true, false, ◌||◌, List, ◌++◌, length, map, Option, Some, None, set, refl, sym, ap, subst, ◌∙◌, arith}
-use Rattle.std.proofs.lemmas.Option.{same_Some}
+use Rattle.std.proofs.Common.{◌≡◌, ℕ, ◌≤◌, ◌||◌, List, length, Option, Some, None, set, refl, sym, ap, subst, ◌∙◌, arith}
 use Rattle.joint_model.specs.declared.names.Thread.TheVariants.{M, P}
 use Rattle.joint_model.specs.declared.names.Sort.{Sort}
 use Rattle.joint_model.specs.declared.names.Var.{Var}
@@ -14,65 +13,58 @@ use Rattle.joint_model.specs.declared.events.Op.TheVariants as op
 use Rattle.joint_model.specs.declared.events.Reply.{Reply}
 use Rattle.joint_model.specs.declared.events.Reply.TheVariants as says
 use Rattle.joint_model.specs.Control.{Doing, Stand}
-use Rattle.joint_model.specs.Heaps.{Answered, slot, is_full, numbered_set}
+use Rattle.joint_model.specs.Heaps.{Answered, slot, is_full}
 use Rattle.joint_model.specs.Joint.{Joint, JointMarking, joint_target}
-use Rattle.joint_model.specs.Managed.{Holds}
 use Rattle.joint_model.specs.ManagedReplay.{ManagedReplay}
-use Rattle.joint_model.specs.Peers.{Peers, Issued, peer_line, pair_made, gripped, landed, issued_since, handles_full}
+use Rattle.joint_model.specs.Peers.{Peers, peer_line, pair_made, gripped, landed, issued_since, handles_full}
 use Rattle.joint_model.specs.PeerReplay.{PeerReplay, table_target, on_table, brings, untabled, peer_thread_line}
 use Rattle.joint_model.specs.Run.{on_peers, without}
 use Rattle.joint_model.specs.Told.{Told}
-use Rattle.joint_laws.specs.JointAgreement.{Agrees}
+use Rattle.joint_laws.specs.JointAgreement.{Agrees, issued_flags, gone_flags}
 use Rattle.joint_laws.specs.LinkedInvariants.{IsLoose}
-use Rattle.joint_model.proofs.Numbered.{slot-Contains, numbered_set-length}
-use Rattle.joint_laws.proofs.HandleKeeping.{held-raw}
+use Rattle.joint_model.proofs.Numbered.{slot-Contains}
 use Rattle.joint_laws.proofs.PeerEvents.{freed_by}
 use Rattle.joint_laws.proofs.PeerQuietEvents.{IsRawOne, quiet-line, quiet-pair, quiet-grip, quiet-land}
 use Rattle.joint_laws.proofs.JointFlags.{AreFlags-issued}
 use Rattle.joint_laws.proofs.JointTargets.{target-same}
 use Rattle.joint_laws.proofs.JointSteps.{Steps, bring-peers, bring-reply, agrees-peers, agrees-brought, joint-brought, flags-gone}
 use Rattle.joint_laws.proofs.LinkedQuiet.{AreKept}
-use Rattle.joint_model.specs.Joined.{joint_of}
+use Rattle.joint_laws.specs.JointAgreement.{Flags, joint_as}
 
-module _ (r : ManagedReplay) (s : PeerReplay) (ds : List Doing) (d : Stand) (k : AreKept r s ds d) (flags : List Bool) (jm : Option JointMarking) (ag : Agrees r.managed s flags jm) where
+module _ (r : ManagedReplay) (s : PeerReplay) (ds : List Doing) (d : Stand) (k : AreKept r s ds d) (flags : Flags) (jm : Option JointMarking) (ag : Agrees s flags jm) where
   abbrev j : Joint
-  j = joint_of r.managed s flags jm
+  j = joint_as r.managed s flags jm
 
-  abbrev more : Peers → List Bool
-  more g = flags ++ map (λ (i : Issued). false) (issued_since s.peers g)
+  abbrev more : Peers → Flags
+  more g = issued_flags flags (issued_since s.peers g)
 
   targets : joint_target j ≡ table_target s
   targets = λ i h. target-same r s ds d k flags ag.removed jm h i
 
   -- a name loses its handle
   unglobal-by : (u : ℕ) (g : GName) (o : Option ℕ) (reply : Reply) → slot s.peers.names g.0 ≡ o → ((h : ℕ) → o ≡ Some h → IsRawOne s h) → reply ≡ (freed_by s.peers g.0 o).reply
-      → (after : List Bool) × (joint_of r.managed (on_table (untabled s o) (freed_by s.peers g.0 o)).state after jm ≡ (on_peers (without j o) (freed_by s.peers g.0 o)).state) × Agrees r.managed (on_table (untabled s o) (freed_by s.peers g.0 o)).state after jm
-  unglobal-by u g None reply e w q = (more s.peers, refl, agrees-peers r s ds d k flags jm ag s.peers (omega arith))
+      → (after : Flags) × (after.answers ≡ flags.answers) × (joint_as r.managed (on_table (untabled s o) (freed_by s.peers g.0 o)).state after jm ≡ (on_peers (without j o) (freed_by s.peers g.0 o)).state) × Agrees (on_table (untabled s o) (freed_by s.peers g.0 o)).state after jm
+  unglobal-by u g None reply e w q = (more s.peers, refl, refl, agrees-peers r s ds d k flags jm ag s.peers (omega arith))
   unglobal-by u g (Some h) reply e w q =
       let names : Peers = record s.peers { names = set s.peers.names g.0 None } in
       let gone : PeerReplay = untabled s (Some h) in
-      let one = w h refl in
-      let unowned : (x : ℕ) → Holds r.managed x h → ⊥ = λ x p. (
-      let i = k.owners.held_ones x h p in
-      held-raw i.0 i.2 (ap (λ (z : Issued). z.hold) (same_Some i.0 one.0 (sym i.1 ∙ one.1)) ∙ one.2)) in
-      let removed = flags-gone r s ds d k flags jm ag h unowned in (
-        numbered_set flags h true ++ map (λ (i : Issued). false) (issued_since s.peers names),
+      let removed = flags-gone r s ds d k flags jm ag h in (
+        issued_flags (gone_flags flags h) (issued_since s.peers names),
         refl,
-        record {
-          removed = AreFlags-issued r.managed gone names (numbered_set flags h true) removed (numbered_set-length s.table h None ∙ k.peer.handles.places) (omega arith);
-          markings = ag.markings;
-        },
+        refl,
+        record { removed = AreFlags-issued gone names (gone_flags flags h) removed; markings = ag.markings },
       )
 
   named-raw : (g : ℕ) (h : ℕ) → slot s.peers.names g ≡ Some h → IsRawOne s h
   named-raw g h e = k.peer.handles.named h (slot-Contains s.peers.names g h e)
 
   -- a weak read, which looks where its name's handle leads
-  step-wread : (u : ℕ) (v : Var) (g : GName) (reply : Reply) (told : Told) → reply ≡ (peer_thread_line s u (act.WRead v g)).reply → Steps r.managed s flags jm (P u) (op.Line (act.WRead v g)) reply told r.managed (peer_thread_line s u (act.WRead v g)).state
+  step-wread : (u : ℕ) (v : Var) (g : GName) (reply : Reply) (told : Told) → reply ≡ (peer_thread_line s u (act.WRead v g)).reply → Steps r.managed s flags flags.answers jm (P u) (op.Line (act.WRead v g)) reply told r.managed (peer_thread_line s u (act.WRead v g)).state
   step-wread u v g reply told q =
       let a : Answered Peers = peer_line (table_target s) s.peers u (act.WRead v g) in
       record {
         flags_after = more a.state;
+        told_after = refl;
         marking_after = jm;
         event = record {
           computed = tt;
@@ -88,41 +80,45 @@ module _ (r : ManagedReplay) (s : PeerReplay) (ds : List Doing) (d : Stand) (k :
           subst (λ (z : Peers). length s.peers.issued ≤ length z.issued) (bring-peers (on_table s a) a.reply) (quiet-line s u (act.WRead v g) k.peer).handles.count
 
   -- the other lines
-  pub step-line : (u : ℕ) (a : Act) (reply : Reply) (told : Told) → ((n : ℕ) → a ≡ act.Slice n → ⊥) → reply ≡ (peer_thread_line s u a).reply → Steps r.managed s flags jm (P u) (op.Line a) reply told r.managed (peer_thread_line s u a).state
+  pub step-line : (u : ℕ) (a : Act) (reply : Reply) (told : Told) → ((n : ℕ) → a ≡ act.Slice n → ⊥) → reply ≡ (peer_thread_line s u a).reply → Steps r.managed s flags flags.answers jm (P u) (op.Line a) reply told r.managed (peer_thread_line s u a).state
   step-line u (act.Slice n) reply told no_slice q = absurd (no_slice n refl)
   step-line u (act.WRead v g) reply told no_slice q = step-wread u v g reply told q
   step-line u (act.UnGlobal g) reply told no_slice q =
       let w = unglobal-by u g (slot s.peers.names g.0) reply refl (named-raw g.0) q in
-      record { flags_after = w.0; marking_after = jm; event = record { computed = tt; replies = q; state = w.1 }; agrees = w.2 }
+      record { flags_after = w.0; told_after = w.1; marking_after = jm; event = record { computed = tt; replies = q; state = w.2 }; agrees = w.3 }
   step-line u a reply told no_slice q = record {
     flags_after = more (peer_line (table_target s) s.peers u a).state;
+    told_after = refl;
     marking_after = jm;
     event = record { computed = tt; replies = q; state = refl };
     agrees = agrees-peers r s ds d k flags jm ag (peer_line (table_target s) s.peers u a).state (quiet-line s u a k.peer).handles.count;
   }
 
-  pub step-make : (u : ℕ) (sort : Sort) (n : ℕ) (reply : Reply) (told : Told) → reply ≡ (pair_made s.peers sort n).reply → Steps r.managed s flags jm (M u) (op.Make sort n) reply told r.managed (on_table s (pair_made s.peers sort n)).state
+  pub step-make : (u : ℕ) (sort : Sort) (n : ℕ) (reply : Reply) (told : Told) → reply ≡ (pair_made s.peers sort n).reply → Steps r.managed s flags flags.answers jm (M u) (op.Make sort n) reply told r.managed (on_table s (pair_made s.peers sort n)).state
   step-make u sort n reply told q = record {
     flags_after = more (pair_made s.peers sort n).state;
+    told_after = refl;
     marking_after = jm;
     event = record { computed = tt; replies = q; state = refl };
     agrees = agrees-peers r s ds d k flags jm ag (pair_made s.peers sort n).state (quiet-pair (λ h. ⊥) s sort n (is_full s.peers.heap.fields || handles_full s.peers) k.peer.handles.places).handles.count;
   }
 
-  pub step-grip : (u : ℕ) (x : StaticNo) (reply : Reply) (told : Told) → reply ≡ (gripped s.peers x.0).reply → Steps r.managed s flags jm (M u) (op.Grip x) reply told r.managed (on_table s (gripped s.peers x.0)).state
+  pub step-grip : (u : ℕ) (x : StaticNo) (reply : Reply) (told : Told) → reply ≡ (gripped s.peers x.0).reply → Steps r.managed s flags flags.answers jm (M u) (op.Grip x) reply told r.managed (on_table s (gripped s.peers x.0)).state
   step-grip u x reply told q = record {
     flags_after = more (gripped s.peers x.0).state;
+    told_after = refl;
     marking_after = jm;
     event = record { computed = tt; replies = q; state = refl };
     agrees = agrees-peers r s ds d k flags jm ag (gripped s.peers x.0).state (quiet-grip (λ h. ⊥) s x.0 (slot s.peers.heap.statics x.0) k.peer.handles.places refl).handles.count;
   }
 
-  pub step-land : (u : ℕ) (h : HNum) (x : StaticNo) (reply : Reply) (told : Told) → reply ≡ (brings (on_table s (landed s.peers x.0 (table_target s h.0)))).reply → Steps r.managed s flags jm (M u) (op.Land h x) reply told r.managed (brings (on_table s (landed s.peers x.0 (table_target s h.0)))).state
+  pub step-land : (u : ℕ) (h : HNum) (x : StaticNo) (reply : Reply) (told : Told) → reply ≡ (brings (on_table s (landed s.peers x.0 (table_target s h.0)))).reply → Steps r.managed s flags flags.answers jm (M u) (op.Land h x) reply told r.managed (brings (on_table s (landed s.peers x.0 (table_target s h.0)))).state
   step-land u h x reply told q =
       let a : Answered Peers = landed s.peers x.0 (table_target s h.0) in
       let same : table_target s h.0 ≡ joint_target j h.0 = λ i. (sym targets) i h.0 in
       record {
         flags_after = more a.state;
+        told_after = refl;
         marking_after = jm;
         event = record {
           computed = tt;
@@ -133,10 +129,11 @@ module _ (r : ManagedReplay) (s : PeerReplay) (ds : List Doing) (d : Stand) (k :
             (subst (λ (z : Peers). length s.peers.issued ≤ length z.issued) (bring-peers (on_table s a) a.reply) (quiet-land (λ g. g ≡ h.0) s x.0 h.0 (table_target s h.0) refl refl).handles.count);
       }
 
-  pub step-release : (u : ℕ) (h : HNum) (reply : Reply) (told : Told) → IsLoose r s h.0 → reply ≡ says.Ok → Steps r.managed s flags jm (M u) (op.Release h) reply told r.managed (untabled s (Some h.0))
+  pub step-release : (u : ℕ) (h : HNum) (reply : Reply) (told : Told) → IsLoose r s h.0 → reply ≡ says.Ok → Steps r.managed s flags flags.answers jm (M u) (op.Release h) reply told r.managed (untabled s (Some h.0))
   step-release u h reply told loose q = record {
-    flags_after = numbered_set flags h.0 true;
+    flags_after = gone_flags flags h.0;
+    told_after = refl;
     marking_after = jm;
     event = record { computed = tt; replies = q; state = refl };
-    agrees = record { removed = flags-gone r s ds d k flags jm ag h.0 loose.unowned; markings = ag.markings };
+    agrees = record { removed = flags-gone r s ds d k flags jm ag h.0; markings = ag.markings };
   }

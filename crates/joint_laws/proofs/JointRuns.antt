@@ -1,30 +1,31 @@
 -- Each linked state of a lawful list of entries has a joint state that agrees with its sides; an entry leads to the next by a
 -- step of the joint machine, or with the same joint state.
-use Rattle.std.proofs.Common.{◌≡◌, ℕ, Bool, true, false, List, [], ◌∷◌, Option, Some, None, refl, ap, cond, arith}
-use Rattle.joint_model.specs.Heaps.{numbered_at}
+use Rattle.std.proofs.Common.{◌≡◌, Bool, true, false, List, [], ◌∷◌, length, Option, None, refl, ap, cond}
 use Rattle.joint_model.specs.Joint.{Joint, JointMarking, opening}
 use Rattle.joint_model.specs.Linked.{Linkage, MayCome, opening_linkage, linkage_after, is_joint, machine_entries}
 use Rattle.joint_model.specs.Run.{Moment, JointStep}
 use Rattle.joint_model.specs.Told.{Noted}
-use Rattle.joint_laws.specs.JointAgreement.{Agrees}
-use Rattle.joint_model.proofs.Numbered.{numbered-within}
+use Rattle.joint_laws.specs.JointAgreement.{AreTold, Agrees}
+use Rattle.joint_model.specs.Joined.{answers_at}
+use Rattle.joint_model.specs.Managed.{candidates_of}
 use Rattle.joint_laws.proofs.JointSince.{IsSince, since-opening, since-entry}
 use Rattle.joint_laws.proofs.RunsAreSound.{stays, marking-case}
 use Rattle.joint_laws.proofs.JointEntries.{Outcome, moves, rests, outcome}
 use Rattle.joint_laws.proofs.LinkedEntries.{Of, AreKept-entry, AreKept-opening}
-use Rattle.joint_model.specs.Joined.{joint_of}
+use Rattle.joint_laws.specs.JointAgreement.{Flags, joint_as}
 
 -- a linked state with the joint state that agrees with it
 pub record Stands (s : Linkage) : Type 0 where
   pub kept : Of s
-  pub flags : List Bool
+  pub flags : Flags
+  pub told : AreTold s.control.stand s.managed.managed flags
   pub marking : Option JointMarking
-  pub agrees : Agrees s.managed.managed s.peer flags marking
+  pub agrees : Agrees s.peer flags marking
   pub since : IsSince s.managed.managed s.peer marking
 
 -- its joint state
 abbrev pub state_of : (s : Linkage) → Stands s → Joint
-state_of s w = joint_of s.managed.managed s.peer w.flags w.marking
+state_of s w = joint_as s.managed.managed s.peer w.flags w.marking
 
 -- a moment of the run: an entry that may come at a linked state, from its joint state to that of the next
 pub record IsTraced (m : Moment) : Type 0 where
@@ -35,8 +36,8 @@ pub record IsTraced (m : Moment) : Type 0 where
   pub next : Stands (linkage_after state m.noted)
   pub after : m.after ≡ state_of (linkage_after state m.noted) next
 
-pub outcome-of : (s : Linkage) (w : Stands s) (n : Noted) → MayCome s n → Outcome s.managed.managed s.peer w.flags w.marking n.entry.made.caller n.entry.made.op n.entry.made.reply n.told (linkage_after s n).managed.managed (linkage_after s n).peer
-outcome-of s w n may = outcome s w.kept w.flags w.marking w.agrees n.entry.made.index n.entry.made.reply n.entry.made.cites n.entry.made.caller n.entry.made.op n.told may.event may.lawful may.order (AreKept-entry s n may w.kept).owners
+pub outcome-of : (s : Linkage) (w : Stands s) (n : Noted) → MayCome s n → Outcome s.managed.managed s.peer w.flags (answers_at (linkage_after s n).control.stand (length (candidates_of (linkage_after s n).managed.managed))) w.marking n.entry.made.caller n.entry.made.op n.entry.made.reply n.told (linkage_after s n).managed.managed (linkage_after s n).peer
+outcome-of s w n may = outcome s w.kept w.flags w.marking w.agrees w.told n.entry.number n.entry.made.index n.entry.made.reply n.entry.made.cites n.entry.made.caller n.entry.made.op n.told may.event may.lawful may.order (AreKept-entry s n may w.kept).owners
 
 -- an entry that may come leads to a linked state with its joint state, by a step of the joint machine or with the same one
 pub data Enters (s : Linkage) (w : Stands s) (n : Noted) : Type 0 where
@@ -46,21 +47,23 @@ pub data Enters (s : Linkage) (w : Stands s) (n : Noted) : Type 0 where
 pub enters : (s : Linkage) (w : Stands s) (n : Noted) → MayCome s n → Enters s w n
 enters s w n may = by (outcome-of s w n may)
   where
-    by : Outcome s.managed.managed s.peer w.flags w.marking n.entry.made.caller n.entry.made.op n.entry.made.reply n.told (linkage_after s n).managed.managed (linkage_after s n).peer → Enters s w n
+    by : Outcome s.managed.managed s.peer w.flags (answers_at (linkage_after s n).control.stand (length (candidates_of (linkage_after s n).managed.managed))) w.marking n.entry.made.caller n.entry.made.op n.entry.made.reply n.told (linkage_after s n).managed.managed (linkage_after s n).peer → Enters s w n
     by (moves e t) =
         let v : Stands (linkage_after s n) = record {
           kept = AreKept-entry s n may w.kept;
           flags = t.flags_after;
+          told = t.told_after;
           marking = t.marking_after;
           agrees = t.agrees;
           since = since-entry s n w.flags t.flags_after w.marking t.marking_after n.entry.made.op n.entry.made.reply may w.kept (AreKept-entry s n may w.kept) w.agrees.markings w.since
-              (marking-case (state_of s w) (joint_of (linkage_after s n).managed.managed (linkage_after s n).peer t.flags_after t.marking_after) n.entry.made.caller n.entry.made.op n.entry.made.reply n.told t.event);
+              (marking-case (state_of s w) (joint_as (linkage_after s n).managed.managed (linkage_after s n).peer t.flags_after t.marking_after) n.entry.made.caller n.entry.made.op n.entry.made.reply n.told t.event);
         } in
         by_step e v (record { event = may.event; step = t.event })
-    by (rests e t) =
+    by (rests e t f) =
         let v : Stands (linkage_after s n) = record {
           kept = AreKept-entry s n may w.kept;
           flags = w.flags;
+          told = f;
           marking = w.marking;
           agrees = t.agrees;
           since = since-entry s n w.flags w.flags w.marking w.marking n.entry.made.op n.entry.made.reply may w.kept (AreKept-entry s n may w.kept) w.agrees.markings w.since (stays refl);
@@ -73,22 +76,12 @@ projected n ns b e = ap (λ z. cond z (n ∷ machine_entries ns) (machine_entrie
 pub Stands-opening : Stands opening_linkage
 Stands-opening = record {
   kept = AreKept-opening;
-  flags = [];
+  flags = record { removed = []; answers = [] };
+  told = refl;
   marking = None;
-  agrees = record {
-    removed = record {
-      places = refl;
-      untabled = λ h e w. absurd (nothing h true e);
-      unowned = λ h e w. absurd (nothing h true e);
-      there = λ h e. absurd (nothing h false e);
-    };
-    markings = tt;
-  };
+  agrees = record { removed = refl; markings = tt };
   since = since-opening opening_linkage.managed.managed opening_linkage.peer;
 }
-  where
-    nothing : (h : ℕ) (b : Bool) → numbered_at [] h ≡ Some b → ⊥
-    nothing h b e = (let w = numbered-within [] h b e in omega (arith, w.0, w.1))
 
 -- where the joint machine opens
 pub opening-state : state_of opening_linkage Stands-opening ≡ opening

@@ -1,16 +1,15 @@
 -- While a marking is open, each row that holds a handle on a peer that isn't spared held it at the begin: a row that took its
 -- handle since has a strong one, so its peer is spared.
-use Rattle.std.proofs.Common.{◌≡◌, ℕ, ◌⊎◌, inl, inr, Bool, true, false, List, Option, Some, None, refl, sym, ap, subst, ◌∙◌}
+use Rattle.std.proofs.Common.{◌≡◌, ℕ, ◌⊎◌, inl, inr, Bool, true, false, Option, Some, None, refl, sym, ap, subst, ◌∙◌}
 use Rattle.std.specs.Prelude.{Contains}
 use Rattle.std.proofs.lemmas.Option.{same_Some}
 use Rattle.joint_model.specs.declared.events.Op.{Op}
 use Rattle.joint_model.specs.declared.events.Reply.{Reply}
 use Rattle.joint_model.specs.declared.events.Made.{Made}
-use Rattle.joint_model.specs.Control.{candidates_of}
 use Rattle.joint_model.specs.Joint.{JointMarking, Graph}
 use Rattle.joint_model.specs.Lines.{is_peer_event}
 use Rattle.joint_model.specs.Linked.{Linkage, MayCome, linkage_after, peer_after}
-use Rattle.joint_model.specs.Managed.{Managed, OpenCycle, Holds}
+use Rattle.joint_model.specs.Managed.{Managed, OpenCycle, Holds, candidates_of}
 use Rattle.joint_model.specs.Peers.{Issued, strong}
 use Rattle.joint_model.specs.PeerReplay.{PeerReplay, Marking}
 use Rattle.joint_model.specs.Told.{Told, Noted}
@@ -27,7 +26,7 @@ use Rattle.joint_laws.proofs.ManagedSteps.{ManagedStep, going_on, snapping, reso
 use Rattle.joint_laws.proofs.LinkedEntries.{Of}
 use Rattle.joint_laws.proofs.PeerSince.{GoesOnSparing, stays-sparing, peer-goes_on}
 use Rattle.joint_laws.proofs.RunsAreSound.{MarkingCase, stays, ends, opens}
-use Rattle.joint_model.specs.Joined.{joint_of}
+use Rattle.joint_laws.specs.JointAgreement.{Flags, joint_as}
 
 abbrev pub IsSince : Managed → PeerReplay → Option JointMarking → Type 0
 IsSince m s jm = (y : JointMarking) → jm ≡ Some y → (mk : Marking) → s.marking ≡ Some mk → (x h : ℕ) (i : Issued) → Holds m x h → IsIssued s.peers.issued h i
@@ -72,8 +71,8 @@ open-there (Some mk) jm y w e = (mk, refl)
 pub since-opening : (m : Managed) (s : PeerReplay) → IsSince m s None
 since-opening m s y e mk f x h i q p = absurd (none_some y e)
 
-pub since-entry : (s : Linkage) (n : Noted) (flags flags' : List Bool) (jm jm' : Option JointMarking) (o : Op) (reply : Reply) → MayCome s n → Of s → Of (linkage_after s n) → AreSameMarkings s.peer.marking jm → IsSince s.managed.managed s.peer jm
-    → MarkingCase (joint_of s.managed.managed s.peer flags jm) o reply (joint_of (linkage_after s n).managed.managed (linkage_after s n).peer flags' jm') → IsSince (linkage_after s n).managed.managed (linkage_after s n).peer jm'
+pub since-entry : (s : Linkage) (n : Noted) (flags flags' : Flags) (jm jm' : Option JointMarking) (o : Op) (reply : Reply) → MayCome s n → Of s → Of (linkage_after s n) → AreSameMarkings s.peer.marking jm → IsSince s.managed.managed s.peer jm
+    → MarkingCase (joint_as s.managed.managed s.peer flags jm) o reply (joint_as (linkage_after s n).managed.managed (linkage_after s n).peer flags' jm') → IsSince (linkage_after s n).managed.managed (linkage_after s n).peer jm'
 since-entry s n flags flags' jm jm' o reply may k after same since case y e mk f x h i q p = elim (held-before s n may k after x h q) [
   | inr t ↦ inr ((after.peer.marking mk f).strong_ones h t.0 i t.1 t.2 p)
   | inl old ↦ by case old
@@ -82,7 +81,7 @@ since-entry s n flags flags' jm jm' o reply may k after same since case y e mk f
     move : GoesOnSparing s.peer (linkage_after s n).peer
     move = peer-entry s n k
 
-    by : MarkingCase (joint_of s.managed.managed s.peer flags jm) o reply (joint_of (linkage_after s n).managed.managed (linkage_after s n).peer flags' jm') → Holds s.managed.managed x h → (Holds y.begun.managed x h × IsIssued y.begun.peers.issued h i) ⊎ IsSpared mk i.peer
+    by : MarkingCase (joint_as s.managed.managed s.peer flags jm) o reply (joint_as (linkage_after s n).managed.managed (linkage_after s n).peer flags' jm') → Holds s.managed.managed x h → (Holds y.begun.managed x h × IsIssued y.begun.peers.issued h i) ⊎ IsSpared mk i.peer
     by (stays a) old =
         let was : jm ≡ Some y = sym a ∙ e in
         let open_before = open-there s.peer.marking jm y same was in
@@ -95,5 +94,5 @@ since-entry s n flags flags' jm jm' o reply may k after same since case y e mk f
     by (ends a) old = absurd (none_some y (sym a ∙ e))
     by (opens z b c a g) old =
         let marks : z ≡ y = same_Some z y (sym a ∙ e) in
-        let graph : (joint_of (linkage_after s n).managed.managed (linkage_after s n).peer flags' jm').graph ≡ y.begun = g ∙ ap (λ (v : JointMarking). v.begun) marks in
+        let graph : (joint_as (linkage_after s n).managed.managed (linkage_after s n).peer flags' jm').graph ≡ y.begun = g ∙ ap (λ (v : JointMarking). v.begun) marks in
         inl (subst (λ (v : Graph). Holds v.managed x h) graph q, subst (λ (v : Graph). IsIssued v.peers.issued h i) graph p)

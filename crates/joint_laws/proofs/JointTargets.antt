@@ -1,29 +1,29 @@
 -- Where a handle leads is the same in the joint machine and in the peer side's table; and the joint twin of a peer is what
 -- the registry answers.
-use Rattle.std.proofs.Common.{◌≡◌, ◌≢◌, ℕ, ◌+◌, ◌<◌, ◌≤◌, inl, inr, Bool, true, false, ◌&&◌, List, [], ◌∷◌, length, Option, Some, None, refl, sym, ap, subst, ◌∙◌, arith, nat_eq}
-use Rattle.std.specs.Prelude.{Contains, if◌then◌else◌}
+use Rattle.std.proofs.Common.{◌≡◌, ◌≢◌, ℕ, zero, suc, ◌+◌, ◌<◌, ◌≤◌, inl, inr, Bool, true, false, ◌&&◌, List, [], ◌∷◌, length, Option, Some, None, refl, sym, ap, ◌∙◌, arith, nat_eq}
+use Rattle.std.specs.Prelude.{Contains, slice_get, if◌then◌else◌}
 use Rattle.std.proofs.lemmas.Bool.{cases_eq}
 use Rattle.std.proofs.lemmas.Bool.Decides.{Decides-eqb}
 use Rattle.std.proofs.lemmas.Option.{same_Some}
-use Rattle.joint_model.specs.Control.{Doing, Stand, idle, snapped, contracted, weakening, marked, restoring, restored, candidates_of}
+use Rattle.joint_model.specs.Control.{Doing, Stand}
+use Rattle.joint_model.specs.Joined.{removed_in}
+use Rattle.joint_laws.proofs.JointFlags.{removed-at}
 use Rattle.joint_model.specs.Heaps.{numbered_at, is_freed}
 use Rattle.joint_model.specs.Joint.{Joint, JointMarking, joint_target, is_twin, twin_from, twin_of}
-use Rattle.joint_model.specs.Managed.{Holds, handle_of}
+use Rattle.joint_model.specs.Managed.{handle_of}
 use Rattle.joint_model.specs.ManagedReplay.{ManagedReplay, registered}
 use Rattle.joint_model.specs.Peers.{Issued, Hold, held, raw, peer_of, is_held}
-use Rattle.joint_model.specs.PeerReplay.{PeerReplay, TableRow, row_of, table_target}
-use Rattle.joint_laws.specs.JointAgreement.{IsInTable, AreFlags}
+use Rattle.joint_model.specs.PeerReplay.{PeerReplay, TableRow, table_target}
+use Rattle.joint_laws.specs.JointAgreement.{AreFlags}
 use Rattle.joint_laws.specs.PeerInvariants.{IsTabled, IsIssued}
-use Rattle.joint_laws.specs.LinkedInvariants.{IsRowOf, IsDriverKept, IsGone}
-use Rattle.joint_model.proofs.Members.{Contains-decided, at-Contains}
-use Rattle.joint_model.proofs.Numbered.{slot-named, numbered-within, numbered-made}
+use Rattle.joint_laws.specs.LinkedInvariants.{IsRowOf}
+use Rattle.joint_model.proofs.Numbered.{numbered-within, numbered-made}
 use Rattle.joint_model.proofs.Deciding.{none_some}
-use Rattle.joint_model.proofs.HeapLemmas.{Contains-is_freed, is_freed-live, Holds-handle_of, candidates_of-open}
+use Rattle.joint_model.proofs.HeapLemmas.{Contains-is_freed, is_freed-live, Holds-handle_of}
 use Rattle.joint_laws.proofs.Registered.{registered-some, registered-none}
 use Rattle.joint_laws.proofs.DriverPeerSteps.{holds-handle_of}
-use Rattle.joint_laws.proofs.DriverSteps.{no_candidates}
 use Rattle.joint_laws.proofs.LinkedQuiet.{AreKept}
-use Rattle.joint_model.specs.Joined.{joint_of}
+use Rattle.joint_laws.specs.JointAgreement.{Flags, joint_as}
 
 -- the answers by their parts
 abbrev table_by : PeerReplay → ℕ → Option TableRow → Option ℕ
@@ -35,7 +35,20 @@ unfreed s o = elim o [ None ↦ None | Some p ↦ if is_freed s.peers.heap p the
 abbrev joint_by : PeerReplay → ℕ → Option Bool → Option ℕ
 joint_by s h o = elim o [ None ↦ None | Some gone ↦ if gone then None else unfreed s (peer_of s.peers.issued h) ]
 
-module _ (r : ManagedReplay) (s : PeerReplay) (ds : List Doing) (d : Stand) (k : AreKept r s ds d) (flags : List Bool) (fl : AreFlags r.managed s flags) where
+abbrev flat : Option (Option TableRow) → Option TableRow
+flat o = elim o [ None ↦ None | Some row ↦ row ]
+
+-- past the end no handle is removed
+removed-none_at : (rows : List (Option TableRow)) (i : ℕ) → slice_get rows i ≡ None → slice_get (removed_in rows) i ≡ None
+removed-none_at [] i e = refl
+removed-none_at (x ∷ rows) zero e = absurd (none_some x (sym e))
+removed-none_at (x ∷ rows) (suc i) e = removed-none_at rows i e
+
+removed-none : (rows : List (Option TableRow)) (h : ℕ) → numbered_at rows h ≡ None → numbered_at (removed_in rows) h ≡ None
+removed-none rows zero e = refl
+removed-none rows (suc i) e = removed-none_at rows i e
+
+module _ (r : ManagedReplay) (s : PeerReplay) (ds : List Doing) (d : Stand) (k : AreKept r s ds d) (flags : Flags) (fl : AreFlags s flags) where
   peer-is : (h : ℕ) (i : Issued) → IsIssued s.peers.issued h i → peer_of s.peers.issued h ≡ Some i.peer
   peer-is h i e = ap (λ (o : Option Issued). elim o [ None ↦ None | Some j ↦ Some j.peer ]) e
 
@@ -46,60 +59,21 @@ module _ (r : ManagedReplay) (s : PeerReplay) (ds : List Doing) (d : Stand) (k :
   tabled-target h row i t e false c =
       ap (unfreed s) (peer-is h i e) ∙ (ap (λ (z : Bool). if z then None else Some i.peer) (is_freed-live s.peers.heap i.peer (k.peer.handles.uncleared h row i t e c)) ∙ sym (peer-is h i e))
 
-  -- a handle that a row holds, and that isn't in the table, is a candidate's whose peer is freed
-  gone-by : (x : Stand) → IsDriverKept r s x → (m h : ℕ) → Holds r.managed m h → Contains (candidates_of r.managed) m → (IsInTable s h → ⊥) → IsGone s h
-  gone-by idle v m h q c n = absurd (no_candidates r.managed m v.closed c)
-  gone-by (snapped o) v m h q c n = let at = at-Contains v.cycle.candidates m (subst (λ z. Contains z m) (candidates_of-open r.managed v.cycle v.opened.cycle) c) in let t = v.handles at.0 m h at.1 q in absurd (n (t.0, t.1))
-  gone-by (contracted o comps xrefs) v m h q c n = let at = at-Contains v.before.cycle.candidates m (subst (λ z. Contains z m) (candidates_of-open r.managed v.before.cycle v.before.opened.cycle) c) in let t = v.before.handles at.0 m h at.1 q in absurd (n (t.0, t.1))
-  gone-by (weakening o count seen sw) v m h q c n =
-      let at = at-Contains v.cycle.candidates m (subst (λ z. Contains z m) (candidates_of-open r.managed v.cycle v.opened.cycle) c) in
-      elim (v.handles at.0 m h at.1 q) [ inl t ↦ absurd (n (t.1.0, t.1.1)) | inr t ↦ absurd (n (t.1.0, t.1.1)) ]
-  gone-by (marked o) v m h q c n = let at = at-Contains v.cycle.candidates m (subst (λ z. Contains z m) (candidates_of-open r.managed v.cycle v.opened.cycle) c) in let t = v.handles at.0 m h at.1 q in absurd (n (t.0, t.1))
-  gone-by (restoring o answers) v m h q c n =
-      let at = at-Contains v.cycle.candidates m (subst (λ z. Contains z m) (candidates_of-open r.managed v.cycle v.opened.cycle) c) in
-      elim (v.handles at.0 m h at.1 q) [ inl t ↦ absurd (n (t.1.0, t.1.1)) | inr t ↦ elim t [ inl g ↦ g.1 | inr g ↦ absurd (n (g.1.0, g.1.1)) ] ]
-  gone-by (restored o answers clear) v m h q c n =
-      let at = at-Contains v.cycle.candidates m (subst (λ z. Contains z m) (candidates_of-open r.managed v.cycle v.opened.cycle) c) in
-      elim (v.handles at.0 m h at.1 q) [ inl t ↦ absurd (n (t.1.0, t.1.1)) | inr t ↦ elim t [ inl g ↦ g.1 | inr g ↦ absurd (n (g.1.0, g.1.1)) ] ]
-
-  owned-gone : (m h : ℕ) → Holds r.managed m h → (IsInTable s h → ⊥) → IsGone s h
-  owned-gone m h q n = elim (Contains-decided (candidates_of r.managed) m) [
-    | inl c ↦ gone-by d k.driver m h q c n
-    | inr out ↦ (let t = k.owners.strong_ones m h q out in absurd (n (t.0, t.1)))
-  ]
-
-  untabled : (h : ℕ) → row_of s h ≡ None → IsInTable s h → ⊥
-  untabled h e t = none_some t.0 (sym e ∙ ap (λ (o : Option (Option TableRow)). elim o [ None ↦ None | Some row ↦ row ]) t.1)
-
-  target-by : (h : ℕ) (x : Option TableRow) (b : Option Bool) → row_of s h ≡ x → numbered_at flags h ≡ b → joint_by s h b ≡ table_by s h x
-  target-by h None None e f = refl
-  target-by h None (Some true) e f = refl
-  target-by h None (Some false) e f = elim (fl.there h f) [
-    | inl t ↦ absurd (untabled h e t)
-    | inr q ↦ (
-        let i = k.owners.held_ones q.0 h q.1 in
-        let g = owned-gone q.0 h q.1 (untabled h e) in
-        ap (unfreed s) (peer-is h i.0 i.1) ∙ ap (λ (z : Bool). if z then None else Some i.0.peer) (Contains-is_freed s.peers.heap i.0.peer (g.freed i.0 i.1)))
-  ]
-  target-by h (Some row) None e f =
-      let t = slot-named (numbered_at s.table h) row e in
-      let w = numbered-within s.table h (Some row) t in
-      let x = numbered-made flags h w.0 (omega (arith, w.1, fl.places, k.peer.handles.places)) in
-      absurd (none_some x.0 (sym f ∙ x.1))
-  target-by h (Some row) (Some true) e f = absurd (fl.untabled h f (row, slot-named (numbered_at s.table h) row e))
-  target-by h (Some row) (Some false) e f =
-      let t = slot-named (numbered_at s.table h) row e in
-      let w = numbered-within s.table h (Some row) t in
+  target-by : (h : ℕ) (x : Option (Option TableRow)) → numbered_at s.table h ≡ x → joint_by s h (numbered_at (removed_in s.table) h) ≡ table_by s h (flat x)
+  target-by h None e = ap (joint_by s h) (removed-none s.table h e)
+  target-by h (Some None) e = ap (joint_by s h) (removed-at s.table h None e)
+  target-by h (Some (Some row)) e =
+      let w = numbered-within s.table h (Some row) e in
       let i = numbered-made s.peers.issued h w.0 (omega (arith, w.1, k.peer.handles.places)) in
-      tabled-target h row i.0 t i.1 row.cleared refl
+      ap (joint_by s h) (removed-at s.table h (Some row) e) ∙ tabled-target h row i.0 e i.1 row.cleared refl
 
-  pub target-same : (jm : Option JointMarking) (h : ℕ) → joint_target (joint_of r.managed s flags jm) h ≡ table_target s h
-  target-same jm h = target-by h (row_of s h) (numbered_at flags h) refl refl
+  pub target-same : (jm : Option JointMarking) (h : ℕ) → joint_target (joint_as r.managed s flags jm) h ≡ table_target s h
+  target-same jm h = ap (λ z. joint_by s h (numbered_at z h)) fl ∙ target-by h (numbered_at s.table h) refl
 
 -- a row is a twin exactly where the registry has it
-module _ (r : ManagedReplay) (s : PeerReplay) (ds : List Doing) (d : Stand) (k : AreKept r s ds d) (flags : List Bool) (jm : Option JointMarking) (p : ℕ) where
+module _ (r : ManagedReplay) (s : PeerReplay) (ds : List Doing) (d : Stand) (k : AreKept r s ds d) (flags : Flags) (jm : Option JointMarking) (p : ℕ) where
   abbrev j : Joint
-  j = joint_of r.managed s flags jm
+  j = joint_as r.managed s flags jm
 
   abbrev issued_by : Option Issued → Bool
   issued_by o = elim o [ None ↦ false | Some i ↦ is_held i.hold && nat_eq i.peer p ]

@@ -1,6 +1,6 @@
 -- What is known of the run at the driver's stand is known at the next stand too, at each entry that may come; and at a
 -- resolution it makes the cycle complete.
-use Rattle.std.proofs.Common.{◌≡◌, ℕ, Bool, true, false, List, [], ◌∷◌, ◌++◌, length, Option, Some, None, refl, sym, ap, subst, ◌∙◌}
+use Rattle.std.proofs.Common.{◌≡◌, ℕ, Bool, true, false, List, [], ◌∷◌, ◌++◌, length, Option, Some, None, refl, ap, subst, ◌∙◌}
 use Rattle.std.specs.Prelude.{slice_get}
 use Rattle.joint_model.specs.declared.names.Thread.{Thread}
 use Rattle.joint_model.specs.declared.names.Thread.TheVariants.{M, P, C}
@@ -11,12 +11,12 @@ use Rattle.joint_model.specs.declared.lines.Act.{Act}
 use Rattle.joint_model.specs.declared.events.Op.{Op}
 use Rattle.joint_model.specs.declared.events.Op.TheVariants as op
 use Rattle.joint_model.specs.declared.events.Reply.{Reply}
-use Rattle.joint_model.specs.Control.{OpenSnap, Stand, idle, snapped, contracted, weakening, marked, restoring, restored, candidates_of, stand_after, MayContractNow, MayMirrorNow, MayWeakenNow, MayBeginNow, MaySweepNow, MayRestoreNow, MayClearNow, MayResolveNow}
+use Rattle.joint_model.specs.Control.{OpenSnap, Stand, idle, snapped, contracted, weakening, marked, restoring, restored, stand_after, MayContractNow, MayMirrorNow, MayWeakenNow, MayBeginNow, MaySweepNow, MayRestoreNow, MayClearNow, MayResolveNow}
 use Rattle.joint_model.specs.Cycles.{IsResolution, IsAnsweredAlive}
 use Rattle.joint_model.specs.Headline.{IsCompleteCycle}
 use Rattle.joint_model.specs.Lines.{IsEvent}
 use Rattle.joint_model.specs.Linked.{Linkage, MayCome, linkage_after, is_joint}
-use Rattle.joint_model.specs.Managed.{OpenCycle}
+use Rattle.joint_model.specs.Managed.{OpenCycle, candidates_of}
 use Rattle.joint_model.specs.ManagedReplay.{MayResolve}
 use Rattle.joint_model.specs.PeerReplay.{Marking, begun, swept, SweepAllows}
 use Rattle.joint_model.specs.Run.{Moment}
@@ -24,7 +24,7 @@ use Rattle.joint_model.specs.Told.{Told, Noted, snap_of, contraction_of, sweep_o
 use Rattle.joint_laws.specs.LinkedInvariants.{IsDriverKept}
 use Rattle.joint_laws.proofs.AtResolutions.{complete-cycle}
 use Rattle.joint_laws.proofs.Journeys.{way-next, way-rests}
-use Rattle.joint_laws.proofs.JourneyStands.{Journey, behind-rests}
+use Rattle.joint_laws.proofs.JourneyStands.{Journey, behind-rests, behind-next}
 use Rattle.joint_laws.proofs.JourneySteps.{IsInside, stay-next, stay-rests}
 use Rattle.joint_laws.proofs.JourneyTurns.{moment_of, snap-turn, begin-turn, sweep-turn}
 use Rattle.joint_laws.proofs.JointRuns.{Stands, state_of, IsTraced}
@@ -33,13 +33,6 @@ use Rattle.joint_laws.proofs.LinkedEntries.{entry}
 use Rattle.joint_laws.proofs.PeerHeaps.{heap-entry}
 
 -- what is none of the driver's restores, mirrors and clears
-inside-joint : (o : Op) → is_joint o ≡ true → IsInside o
-inside-joint o j = record {
-  no_restore = λ h e. (let f : true ≡ false = sym j ∙ ap is_joint e in cc);
-  no_mirror = λ k e. (let f : true ≡ false = sym j ∙ ap is_joint e in cc);
-  no_clear = λ k e. (let f : true ≡ false = sym j ∙ ap is_joint e in cc);
-}
-
 inside-managed : (u : ℕ) (o : Op) → IsEvent (M u) o → IsInside o
 inside-managed u o e = record { no_restore = λ h f. subst (λ z. IsEvent (M u) z) f e; no_mirror = λ k f. subst (λ z. IsEvent (M u) z) f e; no_clear = λ k f. subst (λ z. IsEvent (M u) z) f e }
 
@@ -80,7 +73,7 @@ module _ (s : Linkage) (w : Stands s) (past : List Moment) (number line : ℕ) (
       begin-turn s (noted C op.Begin told) w v past o may to k (ap (λ z. (begun s.peer z C).state) none) refl refl (may.lawful.replies ∙ ap (λ z. (begun s.peer z C).reply) none) (goes.vars ∙ vars) (goes.statics ∙ statics)
   begin-by vars statics told may v idle a to k = absurd a
   begin-by vars statics told may v (snapped o) a to k = absurd a
-  begin-by vars statics told may v (contracted o comps xrefs) a to k = absurd a
+  begin-by vars statics told may v (contracted o comps heavy xrefs) a to k = absurd a
   begin-by vars statics told may v (marked o) a to k = absurd a
   begin-by vars statics told may v (restoring o answers) a to k = absurd a
   begin-by vars statics told may v (restored o answers clear) a to k = absurd a
@@ -97,18 +90,32 @@ module _ (s : Linkage) (w : Stands s) (past : List Moment) (number line : ℕ) (
   sweep-by traced told may v (marked o) a to k = absurd (subst (λ z. SweepAllows s.peer z C told) k.open_mark may.lawful.allowed)
   sweep-by traced told may v idle a to k = absurd a
   sweep-by traced told may v (snapped o) a to k = absurd a
-  sweep-by traced told may v (contracted o comps xrefs) a to k = absurd a
+  sweep-by traced told may v (contracted o comps heavy xrefs) a to k = absurd a
   sweep-by traced told may v (restoring o answers) a to k = absurd a
   sweep-by traced told may v (restored o answers clear) a to k = absurd a
 
-  stays : (t : Thread) (o : Op) (told : Told) → MayCome s (noted t o told) → (v : Stands (After t o told)) → is_joint o ≡ true → Kept t o told d → Journey past s w d → Next t o told v d
-  stays t o told may v j to k = stay-next s (noted t o told) may w v (inside-joint o j) past (moment_of s (noted t o told) w v) refl d to k
+  stays : (t : Thread) (o : Op) (told : Told) → IsInside o → MayCome s (noted t o told) → (v : Stands (After t o told)) → Kept t o told d → Journey past s w d → Next t o told v d
+  stays t o told i may v to k = stay-next s (noted t o told) may w v i past (moment_of s (noted t o told) w v) refl d to k
+
+  line-inside : (a : Act) → IsInside (op.Line a)
+  line-inside a = record { no_restore = λ h e. cc; no_mirror = λ k e. cc; no_clear = λ k e. cc }
+
+  -- a restore, which is a step
+  restore-by : (h : HNum) (told : Told) → MayCome s (noted C (op.Restore h) told) → (v : Stands (After C (op.Restore h) told)) → (x : Stand) → MayRestoreNow x s.managed.managed h.0 cites → Kept C (op.Restore h) told (stand_after x number (op.Restore h) reply told) → Journey past s w x
+      → Next C (op.Restore h) told v (stand_after x number (op.Restore h) reply told)
+  restore-by h told may v (restoring o answers) a to k = behind-next s (noted C (op.Restore h) told) may w v past o (moment_of s (noted C (op.Restore h) told) w v) to.cycle to.opened.cycle k
+  restore-by h told may v idle a to k = absurd a
+  restore-by h told may v (snapped o) a to k = absurd a
+  restore-by h told may v (contracted o comps heavy xrefs) a to k = absurd a
+  restore-by h told may v (weakening o count seen sw) a to k = absurd a
+  restore-by h told may v (marked o) a to k = absurd a
+  restore-by h told may v (restored o answers clear) a to k = absurd a
 
   pub journey-moves : length s.peer.peers.heap.vars ≡ 72 → length s.peer.peers.heap.statics ≡ 16 → ((i : ℕ) (x : Moment) → slice_get past i ≡ Some x → IsTraced x) → (t : Thread) (o : Op) (told : Told) → MayCome s (noted t o told) → (v : Stands (After t o told)) → is_joint o ≡ true
       → Journey past s w d → Next t o told v (After t o told).control.stand
-  journey-moves vars statics traced (M u) o told may v j k = stays (M u) o told may v j v.kept.driver k
-  journey-moves vars statics traced (P u) o told may v j k = stays (P u) o told may v j v.kept.driver k
-  journey-moves vars statics traced C (op.Line a) told may v j k = stays C (op.Line a) told may v j v.kept.driver k
+  journey-moves vars statics traced (M u) o told may v j k = stays (M u) o told (inside-managed u o may.event) may v v.kept.driver k
+  journey-moves vars statics traced (P u) o told may v j k = stays (P u) o told (inside-peer u o may.event) may v v.kept.driver k
+  journey-moves vars statics traced C (op.Line a) told may v j k = stays C (op.Line a) told (line-inside a) may v v.kept.driver k
   journey-moves vars statics traced C (op.Make sort n) told may v j k = absurd may.event.0
   journey-moves vars statics traced C (op.Adopt x kind n p h) told may v j k = absurd may.event.0
   journey-moves vars statics traced C (op.Lend x y) told may v j k = absurd may.event.0
@@ -126,23 +133,23 @@ module _ (s : Linkage) (w : Stands s) (past : List Moment) (number line : ℕ) (
   journey-moves vars statics traced C (op.Contract c) told may v j k = (let f : false ≡ true = j in cc)
   journey-moves vars statics traced C (op.Mirror c) told may v j k = (let f : false ≡ true = j in cc)
   journey-moves vars statics traced C (op.Weaken h) told may v j k = (let f : false ≡ true = j in cc)
-  journey-moves vars statics traced C (op.Restore h) told may v j k = (let f : false ≡ true = j in cc)
+  journey-moves vars statics traced C (op.Restore h) told may v j k = restore-by h told may v d may.order v.kept.driver k
   journey-moves vars statics traced C (op.Clear c) told may v j k = (let f : false ≡ true = j in cc)
   journey-moves vars statics traced C (op.Refused x) told may v j k = (let f : false ≡ true = j in cc)
 
   -- the driver's entries that are no steps
-  contract-by : (c : Cycle) (comps : List (List ℕ)) (xrefs : List (ℕ × ℕ)) (v : Stands (After C (op.Contract c) (contraction_of comps xrefs))) → state_of (After C (op.Contract c) (contraction_of comps xrefs)) v ≡ state_of s w → (x : Stand) → MayContractNow x c.0 cites
-      → Journey past s w x → Rest C (op.Contract c) (contraction_of comps xrefs) v (stand_after x number (op.Contract c) reply (contraction_of comps xrefs))
-  contract-by c comps xrefs v same (snapped o) a k = way-rests s (After C (op.Contract c) (contraction_of comps xrefs)) w v past o same k
-  contract-by c comps xrefs v same idle a k = absurd a
-  contract-by c comps xrefs v same (contracted o cs xs) a k = absurd a
-  contract-by c comps xrefs v same (weakening o count seen sw) a k = absurd a
-  contract-by c comps xrefs v same (marked o) a k = absurd a
-  contract-by c comps xrefs v same (restoring o answers) a k = absurd a
-  contract-by c comps xrefs v same (restored o answers clear) a k = absurd a
+  contract-by : (c : Cycle) (comps : List (List ℕ)) (heavy : List ℕ) (xrefs : List (ℕ × ℕ)) (v : Stands (After C (op.Contract c) (contraction_of comps heavy xrefs))) → state_of (After C (op.Contract c) (contraction_of comps heavy xrefs)) v ≡ state_of s w → (x : Stand) → MayContractNow x c.0 cites
+      → Journey past s w x → Rest C (op.Contract c) (contraction_of comps heavy xrefs) v (stand_after x number (op.Contract c) reply (contraction_of comps heavy xrefs))
+  contract-by c comps heavy xrefs v same (snapped o) a k = way-rests s (After C (op.Contract c) (contraction_of comps heavy xrefs)) w v past o same k
+  contract-by c comps heavy xrefs v same idle a k = absurd a
+  contract-by c comps heavy xrefs v same (contracted o cs hs xs) a k = absurd a
+  contract-by c comps heavy xrefs v same (weakening o count seen sw) a k = absurd a
+  contract-by c comps heavy xrefs v same (marked o) a k = absurd a
+  contract-by c comps heavy xrefs v same (restoring o answers) a k = absurd a
+  contract-by c comps heavy xrefs v same (restored o answers clear) a k = absurd a
 
   mirror-by : (c : Cycle) (told : Told) (v : Stands (After C (op.Mirror c) told)) → state_of (After C (op.Mirror c) told) v ≡ state_of s w → (x : Stand) → MayMirrorNow x s.managed.managed s.peer.peers.issued c.0 cites told → Journey past s w x → Rest C (op.Mirror c) told v (stand_after x number (op.Mirror c) reply told)
-  mirror-by c told v same (contracted o comps xrefs) a k = way-rests s (After C (op.Mirror c) told) w v past o same k
+  mirror-by c told v same (contracted o comps heavy xrefs) a k = way-rests s (After C (op.Mirror c) told) w v past o same k
   mirror-by c told v same idle a k = absurd a
   mirror-by c told v same (snapped o) a k = absurd a
   mirror-by c told v same (weakening o count seen sw) a k = absurd a
@@ -154,27 +161,17 @@ module _ (s : Linkage) (w : Stands s) (past : List Moment) (number line : ℕ) (
   weaken-by h told v same (weakening o count seen sw) a k = way-rests s (After C (op.Weaken h) told) w v past o same k
   weaken-by h told v same idle a k = absurd a
   weaken-by h told v same (snapped o) a k = absurd a
-  weaken-by h told v same (contracted o comps xrefs) a k = absurd a
+  weaken-by h told v same (contracted o comps heavy xrefs) a k = absurd a
   weaken-by h told v same (marked o) a k = absurd a
   weaken-by h told v same (restoring o answers) a k = absurd a
   weaken-by h told v same (restored o answers clear) a k = absurd a
-
-  restore-by : (h : HNum) (told : Told) → MayCome s (noted C (op.Restore h) told) → (v : Stands (After C (op.Restore h) told)) → (x : Stand) → MayRestoreNow x s.managed.managed h.0 cites → Kept C (op.Restore h) told (stand_after x number (op.Restore h) reply told) → Journey past s w x
-      → Rest C (op.Restore h) told v (stand_after x number (op.Restore h) reply told)
-  restore-by h told may v (restoring o answers) a to k = behind-rests s (noted C (op.Restore h) told) may w v past o to.cycle to.opened.cycle k
-  restore-by h told may v idle a to k = absurd a
-  restore-by h told may v (snapped o) a to k = absurd a
-  restore-by h told may v (contracted o comps xrefs) a to k = absurd a
-  restore-by h told may v (weakening o count seen sw) a to k = absurd a
-  restore-by h told may v (marked o) a to k = absurd a
-  restore-by h told may v (restored o answers clear) a to k = absurd a
 
   clear-by : (c : Cycle) (told : Told) → MayCome s (noted C (op.Clear c) told) → (v : Stands (After C (op.Clear c) told)) → (x : Stand) → MayClearNow x (length (candidates_of s.managed.managed)) c.0 cites → Kept C (op.Clear c) told (stand_after x number (op.Clear c) reply told) → Journey past s w x
       → Rest C (op.Clear c) told v (stand_after x number (op.Clear c) reply told)
   clear-by c told may v (restoring o answers) a to k = behind-rests s (noted C (op.Clear c) told) may w v past o to.cycle to.opened.cycle k
   clear-by c told may v idle a to k = absurd a
   clear-by c told may v (snapped o) a to k = absurd a
-  clear-by c told may v (contracted o comps xrefs) a to k = absurd a
+  clear-by c told may v (contracted o comps heavy xrefs) a to k = absurd a
   clear-by c told may v (weakening o count seen sw) a to k = absurd a
   clear-by c told may v (marked o) a to k = absurd a
   clear-by c told may v (restored o answers clear) a to k = absurd a
@@ -185,15 +182,12 @@ module _ (s : Linkage) (w : Stands s) (past : List Moment) (number line : ℕ) (
   refused-inside : (y : PhaseWord) → IsInside (op.Refused y)
   refused-inside y = record { no_restore = λ h e. cc; no_mirror = λ k e. cc; no_clear = λ k e. cc }
 
-  line-inside : (a : Act) → IsInside (op.Line a)
-  line-inside a = record { no_restore = λ h e. cc; no_mirror = λ k e. cc; no_clear = λ k e. cc }
-
   refused-by : (y : PhaseWord) (told : Told) → MayCome s (noted C (op.Refused y) told) → (v : Stands (After C (op.Refused y) told)) → state_of (After C (op.Refused y) told) v ≡ state_of s w → (x : Stand) → Kept C (op.Refused y) told (stand_after x number (op.Refused y) reply told) → Journey past s w x
       → Rest C (op.Refused y) told v (stand_after x number (op.Refused y) reply told)
   refused-by y told may v same (weakening o count seen sw) to k = way-rests s (After C (op.Refused y) told) w v past o same k
   refused-by y told may v same idle to k = tt
   refused-by y told may v same (snapped o) to k = way-rests s (After C (op.Refused y) told) w v past o same k
-  refused-by y told may v same (contracted o comps xrefs) to k = way-rests s (After C (op.Refused y) told) w v past o same k
+  refused-by y told may v same (contracted o comps heavy xrefs) to k = way-rests s (After C (op.Refused y) told) w v past o same k
   refused-by y told may v same (marked o) to k = rests C (op.Refused y) told (refused-inside y) may v same (marked o) to k
   refused-by y told may v same (restoring o answers) to k = rests C (op.Refused y) told (refused-inside y) may v same (restoring o answers) to k
   refused-by y told may v same (restored o answers clear) to k = rests C (op.Refused y) told (refused-inside y) may v same (restored o answers clear) to k
@@ -202,11 +196,11 @@ module _ (s : Linkage) (w : Stands s) (past : List Moment) (number line : ℕ) (
   journey-rests (M u) o told may v j same k = rests (M u) o told (inside-managed u o may.event) may v same d v.kept.driver k
   journey-rests (P u) o told may v j same k = rests (P u) o told (inside-peer u o may.event) may v same d v.kept.driver k
   journey-rests C (op.Line a) told may v j same k = rests C (op.Line a) told (line-inside a) may v same d v.kept.driver k
-  journey-rests C (op.Contract c) (contraction_of comps xrefs) may v j same k = contract-by c comps xrefs v same d may.order k
+  journey-rests C (op.Contract c) (contraction_of comps heavy xrefs) may v j same k = contract-by c comps heavy xrefs v same d may.order k
   journey-rests C (op.Contract c) told may v j same k = absurd may.lawful.allowed
   journey-rests C (op.Mirror c) told may v j same k = mirror-by c told v same d may.order k
   journey-rests C (op.Weaken h) told may v j same k = weaken-by h told v same d may.order k
-  journey-rests C (op.Restore h) told may v j same k = restore-by h told may v d may.order v.kept.driver k
+  journey-rests C (op.Restore h) told may v j same k = (let f : true ≡ false = j in cc)
   journey-rests C (op.Clear c) told may v j same k = clear-by c told may v d may.order v.kept.driver k
   journey-rests C (op.Refused y) told may v j same k = refused-by y told may v same d v.kept.driver k
   journey-rests C (op.Make sort n) told may v j same k = (let f : true ≡ false = j in cc)
@@ -232,7 +226,7 @@ module _ (s : Linkage) (w : Stands s) (past : List Moment) (number line : ℕ) (
       subst (λ z. IsCompleteCycle (past ++ more) (length past) z freed) a.0 (complete-cycle s w past more o answers kept k freed exact)
   complete-by more n alive freed idle a p kept k = absurd a
   complete-by more n alive freed (snapped o) a p kept k = absurd a
-  complete-by more n alive freed (contracted o comps xrefs) a p kept k = absurd a
+  complete-by more n alive freed (contracted o comps heavy xrefs) a p kept k = absurd a
   complete-by more n alive freed (weakening o count seen sw) a p kept k = absurd a
   complete-by more n alive freed (marked o) a p kept k = absurd a
   complete-by more n alive freed (restoring o answers) a p kept k = absurd a

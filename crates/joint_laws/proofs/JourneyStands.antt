@@ -24,7 +24,7 @@ pub record IsUnderWay (past : List Moment) (s : Linkage) (w : Stands s) (o : Ope
 abbrev pub Journey : (past : List Moment) (s : Linkage) → Stands s → Stand → Type 0
 Journey past s w idle = Unit {0}
 Journey past s w (snapped o) = IsOnTheWay past s w o
-Journey past s w (contracted o comps xrefs) = IsOnTheWay past s w o
+Journey past s w (contracted o comps heavy xrefs) = IsOnTheWay past s w o
 Journey past s w (weakening o count weakened swept) = IsOnTheWay past s w o
 Journey past s w (marked o) = IsUnderWay past s w o
 Journey past s w (restoring o answers) = IsBehindSweep past s o

@@ -79,7 +79,7 @@ module _ (s : Linkage) (n : Noted) (may : MayCome s n) (w : Stands s) (v : Stand
   pub stay-next : IsInside n.entry.made.op → (past : List Moment) (m : Moment) → m.after ≡ state_of t v → (x : Stand) → IsDriverKept t.managed t.peer x → Journey past s w x → Journey (past ++ m ∷ []) t v x
   stay-next inside past m after idle to k = tt
   stay-next inside past m after (snapped o) to k = way-next s n may w v past o m after to.cycle to.opened.cycle k
-  stay-next inside past m after (contracted o comps xrefs) to k = way-next s n may w v past o m after to.before.cycle to.before.opened.cycle k
+  stay-next inside past m after (contracted o comps heavy xrefs) to k = way-next s n may w v past o m after to.before.cycle to.before.opened.cycle k
   stay-next inside past m after (weakening o count seen sw) to k = way-next s n may w v past o m after to.cycle to.opened.cycle k
   stay-next inside past m after (marked o) to k = under-next inside past o to k m after
   stay-next inside past m after (restoring o answers) to k = behind-next s n may w v past o m to.cycle to.opened.cycle k
@@ -88,7 +88,7 @@ module _ (s : Linkage) (n : Noted) (may : MayCome s n) (w : Stands s) (v : Stand
   pub stay-rests : IsInside n.entry.made.op → (past : List Moment) → state_of t v ≡ state_of s w → (x : Stand) → IsDriverKept t.managed t.peer x → Journey past s w x → Journey past t v x
   stay-rests inside past same idle to k = tt
   stay-rests inside past same (snapped o) to k = way-rests s t w v past o same k
-  stay-rests inside past same (contracted o comps xrefs) to k = way-rests s t w v past o same k
+  stay-rests inside past same (contracted o comps heavy xrefs) to k = way-rests s t w v past o same k
   stay-rests inside past same (weakening o count seen sw) to k = way-rests s t w v past o same k
   stay-rests inside past same (marked o) to k = under-rests inside past o to k same
   stay-rests inside past same (restoring o answers) to k = behind-rests s n may w v past o to.cycle to.opened.cycle k

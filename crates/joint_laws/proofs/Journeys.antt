@@ -14,13 +14,12 @@ use Rattle.joint_model.specs.declared.events.Reply.TheVariants as says
 use Rattle.joint_model.specs.declared.events.Made.{Made}
 use Rattle.joint_model.specs.Control.{OpenSnap}
 use Rattle.joint_model.specs.Headline.{SnapsAt}
-use Rattle.joint_model.specs.Heaps.{Answered, answer, slot, numbered_set}
+use Rattle.joint_model.specs.Heaps.{Answered, answer, slot}
 use Rattle.joint_model.specs.Joint.{Joint}
 use Rattle.joint_model.specs.Lines.{is_peer_event}
 use Rattle.joint_model.specs.Linked.{Linkage, MayCome, linkage_after, peer_after}
 use Rattle.joint_model.specs.Managed.{Managed, OpenCycle}
-use Rattle.joint_model.specs.Peers.{strong, peer_of}
-use Rattle.joint_model.specs.PeerReplay.{PeerReplay, TableRow, Marking, row_of, bring_by, untabled, peer_thread_line, is_thread, sliced, begun, swept_of, swept, restored_by, peer_answer, brought_handle, with_restored}
+use Rattle.joint_model.specs.PeerReplay.{PeerReplay, TableRow, Marking, row_of, bring_by, untabled, peer_thread_line, is_thread, sliced, begun, swept_of, swept, restored_by, peer_answer}
 use Rattle.joint_model.specs.Run.{Moment, thread_number}
 use Rattle.joint_model.specs.Told.{Told, Noted, slice_of, sweep_of}
 use Rattle.joint_model.proofs.Deciding.{none_some}
@@ -30,6 +29,7 @@ use Rattle.joint_laws.proofs.ManagedSteps.{ManagedStep, going_on, snapping, reso
 use Rattle.joint_laws.proofs.JointRuns.{Stands, state_of}
 use Rattle.joint_laws.proofs.Watching.{IsWatched, get-front, watched-next}
 use Rattle.joint_laws.proofs.MarkSteps.{IsSweptWatch}
+use Rattle.joint_laws.proofs.Restores.{restored-any}
 
 -- only a mirror and a clear change the references
 module _ (s : PeerReplay) where
@@ -57,14 +57,7 @@ module _ (s : PeerReplay) where
       by false = refl
 
   restored-refs : (h : ℕ) (x : Option TableRow) → (restored_by s h x).state.refs ≡ s.refs
-  restored-refs h None = refl
-  restored-refs h (Some row) = by row.cleared
-    where
-      by : (b : Bool) → (if b
-          then answer says.Cleared (record s { table = numbered_set s.table h None; mirror = with_restored s.mirror h })
-          else answer says.Alive (record s { table = numbered_set s.table h (Some (record row { strength = strong })); mirror = with_restored s.mirror h; marking = brought_handle s.marking (peer_of s.peers.issued h) })).state.refs ≡ s.refs
-      by true = refl
-      by false = refl
+  restored-refs h x = restored-any (λ a. a.state.refs ≡ s.refs) s h x refl refl (λ p. refl)
 
   bring-refs : (a : Answered PeerReplay) (r : Reply) → (bring_by a r).state.refs ≡ a.state.refs
   bring-refs a (says.P p) = refl

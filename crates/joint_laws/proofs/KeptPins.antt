@@ -118,7 +118,7 @@ module _ (s : Linkage) (line : ℕ) (reply : Reply) (cites : Option ℕ) where
       ap (λ (z : Managed). z.pins) (give_by-managed s.managed (slot s.managed.managed.heap.vars u) (given_up s.managed.managed u)) ∙ give-pins s.managed.managed (slot s.managed.managed.heap.vars u)
   entry-pins t (op.Snap k) (snap_of freed candidates dead) e w f = refl
   entry-pins t (op.Snap k) told e w f = refl
-  entry-pins t (op.Contract k) (contraction_of comps xrefs) e w f = refl
+  entry-pins t (op.Contract k) (contraction_of comps heavy xrefs) e w f = refl
   entry-pins t (op.Contract k) told e w f = refl
   entry-pins t (op.Resolve k) (resolution_of alive freed) e w f = refl
   entry-pins t (op.Resolve k) told e w f = refl

@@ -1,10 +1,12 @@
 pub mod FiniteReach
 pub mod Circles
+pub mod Through
 pub mod Mirrors
 pub mod Fields
 pub mod HeapMoves
 pub mod ManagedLines
 pub mod ManagedMoves
+pub mod Renewing
 pub mod ManagedKeeping
 pub mod Registered
 pub mod ManagedSteps
@@ -19,6 +21,7 @@ pub mod HeapKeeping
 pub mod HandleKeeping
 pub mod MarkingKeeping
 pub mod ReferenceKeeping
+pub mod Restores
 pub mod PeerMoves
 pub mod PeerEvents
 pub mod PeerEntries
@@ -50,6 +53,7 @@ pub mod JointManaged
 pub mod JointSteps
 pub mod JointLines
 pub mod JointRests
+pub mod JointRestores
 pub mod JointEntries
 pub mod JointRuns
 pub mod RunsAreSound
@@ -62,6 +66,7 @@ pub mod SoundRuns
 pub mod JointStates
 pub mod PeerHeaps
 pub mod FreedRows
+pub mod PairMoves
 pub mod Edges
 pub mod NewRows
 pub mod Watching
@@ -89,7 +94,6 @@ pub mod MarkedOnce
 pub mod FreedLists
 pub mod GoneAfter
 pub mod Unions
-pub mod RemovedFlags
 pub mod RunStates
 pub mod RunUnions
 pub mod PlainReplies

@@ -18,7 +18,7 @@ use Rattle.joint_model.specs.PeerReplay.{PeerReplay}
 use Rattle.joint_model.proofs.Deciding.{none_some}
 use Rattle.joint_laws.specs.ManagedInvariants.{IsReplayKept}
 use Rattle.joint_laws.specs.PeerInvariants.{IsIssued}
-use Rattle.joint_laws.specs.LinkedInvariants.{doing_in, HasInHand, HasPeer, HasMadePair, IsLoose}
+use Rattle.joint_laws.specs.LinkedInvariants.{doing_in, HasInHand, HasPeer, HasMadePair, IsLoose, AreCallersKept, hands}
 use Rattle.joint_laws.proofs.Registered.{registered-some}
 use Rattle.joint_laws.proofs.ManagedMoves.{GoesOn, GoesOn-row, emptied-goes_on, twinned-goes_on, met_by}
 use Rattle.joint_laws.proofs.Adopting.{took-by, IsReplayKept-plainly, HoldsSame-as}
@@ -27,7 +27,7 @@ use Rattle.joint_laws.proofs.DriverManaged.{driver_goes_on}
 use Rattle.joint_laws.proofs.DriverPeerSteps.{holds-handle_of}
 use Rattle.joint_laws.proofs.OwnersManaged.{OwnersAlike, owners_taken, callers_taken, owners_gave, callers_gave, gave-loose}
 use Rattle.joint_laws.proofs.Hands.{AreCallersKept-free, put_down}
-use Rattle.joint_laws.proofs.LinkedQuiet.{AreKept, kept-alike, kept-doing, kept-free}
+use Rattle.joint_laws.proofs.LinkedQuiet.{AreKept, kept-alike, kept-doing, kept-free, place_in, in_place, hands-set, threads-callers}
 
 module _ (r : ManagedReplay) (s : PeerReplay) (ds : List Doing) (d : Stand) (u number line : ℕ) (k : AreKept r s ds d) where
   -- a new row takes the handle that the thread has in hand, on a peer without a pair
@@ -35,12 +35,14 @@ module _ (r : ManagedReplay) (s : PeerReplay) (ds : List Doing) (d : Stand) (u n
       → AreKept (record r { managed = with_row r.managed v kind n (Some h); registry = with_twin r.registry p (next_number r.managed.heap) o; adopted = r.adopted ++ h ∷ [] }) s (set ds u free) d
   take-by v kind n p h (Some m) virgin w i q e none f = absurd (none m refl)
   take-by v kind n p h None virgin w i q e none f =
-      let loose = k.callers.loose u h w in
+      let at = in_place ds d (λ z. HasInHand z h) u w in
+      let loose = k.callers.loose (place_in d u) h at in
       record {
         managed = took-by r v kind n p h k.managed virgin None f;
         peer = k.peer;
         owners = owners_taken r s v kind n p h k.managed virgin loose i q e k.owners;
-        callers = callers_taken r s v kind n p h k.managed virgin loose i q e (set ds u free) (AreCallersKept-free r s ds u k.callers) (put_down r s ds u h k.callers w);
+        callers = subst (AreCallersKept (record r { managed = with_row r.managed v kind n (Some h); registry = r.registry ++ (p, next_number r.managed.heap) ∷ []; adopted = r.adopted ++ h ∷ [] }) s) (sym (hands-set ds d u free))
+            (callers_taken r s v kind n p h k.managed virgin loose i q e (set (hands d ds) (place_in d u) free) (AreCallersKept-free r s (hands d ds) (place_in d u) k.callers) (put_down r s (hands d ds) (place_in d u) h k.callers at));
         driver = driver_goes_on r (record r { managed = with_row r.managed v kind n (Some h); registry = r.registry ++ (p, next_number r.managed.heap) ∷ []; adopted = r.adopted ++ h ∷ [] }) s k.managed.managed (GoesOn-row r.managed v kind n (Some h) k.managed.managed.places) d k.driver;
       }
 
@@ -48,8 +50,9 @@ module _ (r : ManagedReplay) (s : PeerReplay) (ds : List Doing) (d : Stand) (u n
       → (let a = if b then answer says.Full r.managed else answer (managed_name (next_number r.managed.heap)) (with_row r.managed v kind n (Some h)) in AreKept (adopt_by r p h a.state a.reply).state s (set ds u free) d)
   adopt-by v kind n p h true w virgin = kept-free r s ds d u k
   adopt-by v kind n p h false w virgin =
-      let i = k.callers.peers u h p (made-has_peer (doing_in ds u) h p w) in
-      let fresh = k.callers.virgins u h p w in
+      let own = threads-callers r s ds d k in
+      let i = own.peers u h p (made-has_peer (doing_in ds u) h p w) in
+      let fresh = own.virgins u h p w in
       take-by v kind n p h (registered r.registry p) virgin (made-in_hand (doing_in ds u) h p w) i.0 i.1 i.2 (λ m e. fresh.pairs m (registered-some r.registry p m e)) refl
 
   pub kept-adopt : (v : ℕ) (kind : Kind) (n p h : ℕ) → HasMadePair (doing_in ds u) h p → (Contains r.adopted h → ⊥) → AreKept (adopt_by r p h (adopted r.managed v kind n h).state (adopted r.managed v kind n h).reply).state s (set ds u free) d
@@ -58,8 +61,8 @@ module _ (r : ManagedReplay) (s : PeerReplay) (ds : List Doing) (d : Stand) (u n
 -- the thread has met, and keeps the handle in hand
 kept-met : (r : ManagedReplay) (s : PeerReplay) (ds : List Doing) (d : Stand) (u number line h : ℕ) → AreKept r s ds d → HasInHand (doing_in ds u) h → AreKept r s (set ds u (met number line h)) d
 kept-met r s ds d u number line h k w = kept-doing r s ds d u (met number line h) k (record {
-  loose = λ g e. subst (λ z. IsLoose r s z) e (k.callers.loose u h w);
-  apart = λ g v e x. k.callers.apart v u g x (subst (λ z. HasInHand (doing_in ds u) z) e w);
+  loose = λ g e. subst (λ z. IsLoose r s z) e (k.callers.loose (place_in d u) h (in_place ds d (λ z. HasInHand z h) u w));
+  apart = λ g v e x. k.callers.apart v (place_in d u) g x (subst (λ z. HasInHand (doing_in (hands d ds) (place_in d u)) z) e (in_place ds d (λ z. HasInHand z h) u w));
   peers = λ g p e. absurd e;
   virgins = λ g p e. absurd e;
   lent_ones = λ g e. absurd e;
@@ -73,7 +76,7 @@ module _ (r : ManagedReplay) (s : PeerReplay) (ds : List Doing) (d : Stand) (u n
       → (let a = if b then answer says.Full r.managed else answer (says.New record { 0 = next_number r.managed.heap }) (with_row r.managed place (twin_kind sort) (twin_fields sort n) (Some h.0)) in Met (meet_by r p.0 h.0 a.state a.reply).state a.reply)
   room true e = kept-met r s ds d u number line h.0 k w
   room false e =
-      let i = k.callers.peers u h.0 p.0 on in
+      let i = (threads-callers r s ds d k).peers u h.0 p.0 on in
       take-by r s ds d u number line k place (twin_kind sort) (twin_fields sort n) p.0 h.0 (registered r.registry p.0) virgin w i.0 i.1 i.2 (λ m f. none_some m (sym e ∙ f)) refl
 
   twin : (o : Option ℕ) → registered r.registry p.0 ≡ o → r.managed.cycle ≡ None → (let a = twin_met r.managed place h.0 sort n o in Met (meet_by r p.0 h.0 a.state a.reply).state a.reply)
@@ -113,7 +116,7 @@ module _ (r : ManagedReplay) (s : PeerReplay) (ds : List Doing) (d : Stand) (u n
     managed = w;
     peer = k.peer;
     owners = owners_gave r s place m k.managed e k.owners;
-    callers = callers_gave r s place m k.managed e ds k.callers;
+    callers = callers_gave r s place m k.managed e (hands d ds) k.callers;
     driver = driver_goes_on r (without m) s k.managed.managed (emptied-goes_on r.managed place m e) d k.driver;
   }
 

@@ -1,24 +1,24 @@
 -- All stays kept at the driver's entries, each of which the driver's order allows in one phase alone.
 use Rattle.std.proofs.Common.{◌≡◌, ℕ, true, false, List, [], ◌∷◌, ◌++◌, Option, Some, refl, sym, subst, ◌∙◌}
-use Rattle.std.specs.Prelude.{Contains, slice_get}
+use Rattle.std.specs.Prelude.{slice_get}
 use Rattle.std.proofs.lemmas.Option.{same_Some}
 use Rattle.joint_model.specs.declared.names.Cycle.{Cycle}
 use Rattle.joint_model.specs.declared.names.HNum.{HNum}
 use Rattle.joint_model.specs.declared.names.PhaseWord.{PhaseWord}
 use Rattle.joint_model.specs.declared.events.Op.TheVariants as op
 use Rattle.joint_model.specs.declared.events.Reply.{Reply}
-use Rattle.joint_model.specs.Components.{mirror_edges}
+use Rattle.joint_model.specs.Components.{End, mirror_edges}
 use Rattle.joint_model.specs.Control.{Doing, OpenSnap, Stand, idle, snapped, contracted, weakening, marked, restoring, restored, carried_edges, stand_after, IsCandidateHandle, MaySnap, MayContractNow, MayMirrorNow, MayWeakenNow, MayResolveNow, MayAbandonNow}
 use Rattle.joint_model.specs.Cycles.{IsSnapshot, IsAnsweredAlive, IsResolution, IsDeadContraction}
 use Rattle.joint_model.specs.Heaps.{numbered_at, numbered_set}
 use Rattle.joint_model.specs.Managed.{Managed, OpenCycle, Holds, with_snapshot as snapped_state, resolved as resolved_state, abandoned as abandoned_state}
 use Rattle.joint_model.specs.ManagedReplay.{ManagedReplay, MayContract, MayResolve, without_twins}
 use Rattle.joint_model.specs.Peers.{strong, weak}
-use Rattle.joint_model.specs.PeerReplay.{PeerReplay, Mirror, mirrored, with_weakened, MayWeaken}
-use Rattle.joint_model.specs.Told.{Told, contraction_of, references_of, resolution_of, Answer}
+use Rattle.joint_model.specs.PeerReplay.{PeerReplay, Mirror, mirrored, with_weakened, MayWeaken, Refers}
+use Rattle.joint_model.specs.Told.{Told, contraction_of, references_of, resolution_of, Answer, handles_given}
 use Rattle.joint_laws.specs.ManagedInvariants.{IsReplayKept}
 use Rattle.joint_laws.specs.PeerInvariants.{IsPeerKept}
-use Rattle.joint_laws.specs.LinkedInvariants.{IsBeforeMirror}
+use Rattle.joint_laws.specs.LinkedInvariants.{IsBeforeMirror, AreCallersKept, hands}
 use Rattle.joint_model.proofs.Numbered.{slot-named}
 use Rattle.joint_model.proofs.HeapLemmas.{candidates_of-open}
 use Rattle.joint_laws.proofs.ManagedMoves.{GoesOn-stay}
@@ -46,7 +46,7 @@ kept-snap r s ds idle n number freed candidates dead cites k w p m = record {
   driver = driver_snapped r s n freed candidates dead k.managed k.owners p number k.driver;
 }
 kept-snap r s ds (snapped o) n number freed candidates dead cites k w p m = absurd w
-kept-snap r s ds (contracted o comps xrefs) n number freed candidates dead cites k w p m = absurd w
+kept-snap r s ds (contracted o comps heavy xrefs) n number freed candidates dead cites k w p m = absurd w
 kept-snap r s ds (weakening o count seen sw) n number freed candidates dead cites k w p m = absurd w
 kept-snap r s ds (marked o) n number freed candidates dead cites k w p m = absurd w
 kept-snap r s ds (restoring o answers) n number freed candidates dead cites k w p m = absurd w
@@ -55,9 +55,9 @@ kept-snap r s ds (restored o answers clear) n number freed candidates dead cites
 OwnersAlike-contracted : (r : ManagedReplay) → OwnersAlike r (record r { contracted = true })
 OwnersAlike-contracted r = record { on = λ m h q. q; back = λ m h q. q; registry = refl; adopted = refl; cycle = refl }
 
-pub kept-contract : (r : ManagedReplay) (s : PeerReplay) (ds : List Doing) (d : Stand) (n number : ℕ) (c : Cycle) (reply : Reply) (comps : List (List ℕ)) (xrefs : List (ℕ × ℕ)) (cites : Option ℕ) → AreKept r s ds d → MayContractNow d n cites → MayContract r n comps xrefs
-    → IsReplayKept (record r { contracted = true }) → AreKept (record r { contracted = true }) s ds (stand_after d number (op.Contract c) reply (contraction_of comps xrefs))
-kept-contract r s ds (snapped o) n number c reply comps xrefs cites k w p m =
+pub kept-contract : (r : ManagedReplay) (s : PeerReplay) (ds : List Doing) (d : Stand) (n number : ℕ) (c : Cycle) (reply : Reply) (comps : List (List ℕ)) (heavy : List ℕ) (xrefs : List (ℕ × ℕ)) (cites : Option ℕ) → AreKept r s ds d → MayContractNow d n cites → MayContract r n comps heavy xrefs
+    → IsReplayKept (record r { contracted = true }) → AreKept (record r { contracted = true }) s ds (stand_after d number (op.Contract c) reply (contraction_of comps heavy xrefs))
+kept-contract r s ds (snapped o) n number c reply comps heavy xrefs cites k w p m =
     let t : ManagedReplay = record r { contracted = true } in
     let now : AreKept t s ds (snapped o) = kept-alike r t s ds (snapped o) k (OwnersAlike-contracted r) (GoesOn-stay r.managed) m in
     let before : IsBeforeMirror t s o = now.driver in
@@ -67,47 +67,47 @@ kept-contract r s ds (snapped o) n number c reply comps xrefs cites k w p m =
       peer = k.peer;
       owners = now.owners;
       callers = now.callers;
-      driver = record { before = before; contraction = subst (λ (z : OpenCycle). IsDeadContraction r.managed z.dead comps xrefs) same_cycle p.exact };
+      driver = record { before = before; contraction = subst (λ (z : OpenCycle). IsDeadContraction r.managed z.dead comps heavy xrefs) same_cycle p.exact };
     }
-kept-contract r s ds idle n number c reply comps xrefs cites k w p m = absurd w
-kept-contract r s ds (contracted o cs xs) n number c reply comps xrefs cites k w p m = absurd w
-kept-contract r s ds (weakening o count seen sw) n number c reply comps xrefs cites k w p m = absurd w
-kept-contract r s ds (marked o) n number c reply comps xrefs cites k w p m = absurd w
-kept-contract r s ds (restoring o answers) n number c reply comps xrefs cites k w p m = absurd w
-kept-contract r s ds (restored o answers clear) n number c reply comps xrefs cites k w p m = absurd w
+kept-contract r s ds idle n number c reply comps heavy xrefs cites k w p m = absurd w
+kept-contract r s ds (contracted o cs hs xs) n number c reply comps heavy xrefs cites k w p m = absurd w
+kept-contract r s ds (weakening o count seen sw) n number c reply comps heavy xrefs cites k w p m = absurd w
+kept-contract r s ds (marked o) n number c reply comps heavy xrefs cites k w p m = absurd w
+kept-contract r s ds (restoring o answers) n number c reply comps heavy xrefs cites k w p m = absurd w
+kept-contract r s ds (restored o answers clear) n number c reply comps heavy xrefs cites k w p m = absurd w
 
 pub kept-resolve : (r : ManagedReplay) (s : PeerReplay) (ds : List Doing) (d : Stand) (n : ℕ) (alive : List Answer) (freed : List ℕ) (cites : Option ℕ) → AreKept r s ds d → MayResolveNow d n cites (resolution_of alive freed) → MayResolve r n alive freed
-    → IsReplayKept (record r { managed = resolved_state r.managed freed; registry = without_twins r.registry freed }) → AreKept (record r { managed = resolved_state r.managed freed; registry = without_twins r.registry freed }) s ds idle
+    → IsReplayKept (record r { managed = resolved_state r.managed alive freed; registry = without_twins r.registry freed; adopted = r.adopted ++ handles_given alive }) → AreKept (record r { managed = resolved_state r.managed alive freed; registry = without_twins r.registry freed; adopted = r.adopted ++ handles_given alive }) s ds idle
 kept-resolve r s ds (restored o answers clear) n alive freed cites k w p m =
     let same_cycle : p.cycle ≡ k.driver.cycle = one_cycle r.managed p.cycle k.driver.cycle p.open_cycle.0 k.driver.opened.cycle in
     let exact : IsResolution r.managed k.driver.cycle.dead (IsAnsweredAlive k.driver.cycle.candidates answers) freed =
     subst (λ (z : OpenCycle). IsResolution r.managed z.dead (IsAnsweredAlive z.candidates answers) freed) same_cycle (subst (λ z. IsResolution r.managed p.cycle.dead (IsAnsweredAlive p.cycle.candidates z) freed) w.2 p.resolution) in
-    record {
-      managed = m;
+    subst (λ z. AreKept (record r { managed = resolved_state r.managed z freed; registry = without_twins r.registry freed; adopted = r.adopted ++ handles_given z }) s ds idle) (sym w.2) (record {
+      managed = subst (λ z. IsReplayKept (record r { managed = resolved_state r.managed z freed; registry = without_twins r.registry freed; adopted = r.adopted ++ handles_given z })) w.2 m;
       peer = k.peer;
       owners = owners_resolved r s o answers k.managed k.peer k.owners k.driver freed exact;
       callers = callers_resolved r s o answers k.managed k.peer k.owners k.driver freed exact ds k.callers;
       driver = driver_resolved r s o answers k.managed k.peer k.owners k.driver freed exact;
-    }
+    })
 kept-resolve r s ds idle n alive freed cites k w p m = absurd w
 kept-resolve r s ds (snapped o) n alive freed cites k w p m = absurd w
-kept-resolve r s ds (contracted o comps xrefs) n alive freed cites k w p m = absurd w
+kept-resolve r s ds (contracted o comps heavy xrefs) n alive freed cites k w p m = absurd w
 kept-resolve r s ds (weakening o count seen sw) n alive freed cites k w p m = absurd w
 kept-resolve r s ds (marked o) n alive freed cites k w p m = absurd w
 kept-resolve r s ds (restoring o answers) n alive freed cites k w p m = absurd w
 
-abandon-before : (r : ManagedReplay) (s : PeerReplay) (ds : List Doing) (d : Stand) (o : OpenSnap) → AreKept r s ds d → IsBeforeMirror r s o → IsReplayKept (record r { managed = abandoned_state r.managed }) → AreKept (record r { managed = abandoned_state r.managed }) s ds idle
-abandon-before r s ds d o k b m = record {
+abandon-before : (r : ManagedReplay) (s : PeerReplay) (ds : List Doing) (d : Stand) (o : OpenSnap) → hands d ds ≡ ds → AreKept r s ds d → IsBeforeMirror r s o → IsReplayKept (record r { managed = abandoned_state r.managed }) → AreKept (record r { managed = abandoned_state r.managed }) s ds idle
+abandon-before r s ds d o none k b m = record {
   managed = m;
   peer = k.peer;
   owners = owners_abandoned r s o k.owners b;
-  callers = callers_abandoned r s o k.owners b ds k.callers;
+  callers = callers_abandoned r s o k.owners b ds (subst (AreCallersKept r s) none k.callers);
   driver = driver_abandoned r s o k.owners b;
 }
 
 pub kept-abandon : (r : ManagedReplay) (s : PeerReplay) (ds : List Doing) (d : Stand) (n : ℕ) (cites : Option ℕ) → AreKept r s ds d → MayAbandonNow d n cites → IsReplayKept (record r { managed = abandoned_state r.managed }) → AreKept (record r { managed = abandoned_state r.managed }) s ds idle
-kept-abandon r s ds (snapped o) n cites k w m = abandon-before r s ds (snapped o) o k k.driver m
-kept-abandon r s ds (contracted o comps xrefs) n cites k w m = abandon-before r s ds (contracted o comps xrefs) o k k.driver.before m
+kept-abandon r s ds (snapped o) n cites k w m = abandon-before r s ds (snapped o) o refl k k.driver m
+kept-abandon r s ds (contracted o comps heavy xrefs) n cites k w m = abandon-before r s ds (contracted o comps heavy xrefs) o refl k k.driver.before m
 kept-abandon r s ds idle n cites k w m = absurd w
 kept-abandon r s ds (weakening o count seen sw) n cites k w m = absurd w
 kept-abandon r s ds (marked o) n cites k w m = absurd w
@@ -117,7 +117,7 @@ kept-abandon r s ds (restored o answers clear) n cites k w m = absurd w
 pub kept-refused : (r : ManagedReplay) (s : PeerReplay) (ds : List Doing) (d : Stand) (number : ℕ) (x : PhaseWord) (reply : Reply) (told : Told) → AreKept r s ds d → AreKept r s ds (stand_after d number (op.Refused x) reply told)
 kept-refused r s ds idle number x reply told k = k
 kept-refused r s ds (snapped o) number x reply told k = k
-kept-refused r s ds (contracted o comps xrefs) number x reply told k = k
+kept-refused r s ds (contracted o comps heavy xrefs) number x reply told k = k
 kept-refused r s ds (weakening o count seen sw) number x reply told k = record { managed = k.managed; peer = k.peer; owners = k.owners; callers = k.callers; driver = k.driver }
 kept-refused r s ds (marked o) number x reply told k = k
 kept-refused r s ds (restoring o answers) number x reply told k = k
@@ -125,8 +125,8 @@ kept-refused r s ds (restored o answers clear) number x reply told k = k
 
 -- a mirror's references are safe
 pub safe-mirror : (r : ManagedReplay) (s : PeerReplay) (ds : List Doing) (d : Stand) (n : ℕ) (c : Cycle) (cites : Option ℕ) (told : Told) → AreKept r s ds d → MayMirrorNow d r.managed s.peers.issued n cites told → MirrorsSafely s (op.Mirror c) told
-safe-mirror r s ds (contracted o comps xrefs) n c cites (references_of refs) k w = λ p q x. carried-safe r s o comps xrefs k.managed k.peer k.owners k.driver p q (subst (λ z. Contains z (p, q)) w.2 x)
-safe-mirror r s ds (contracted o comps xrefs) n c cites _ k w = absurd w
+safe-mirror r s ds (contracted o comps heavy xrefs) n c cites (references_of refs) k w = λ p q x. carried-safe r s o comps heavy xrefs k.managed k.peer k.owners k.driver p q (subst (λ z. Refers z p q) w.2 x)
+safe-mirror r s ds (contracted o comps heavy xrefs) n c cites _ k w = absurd w
 safe-mirror r s ds idle n c cites told k w = absurd w
 safe-mirror r s ds (snapped o) n c cites told k w = absurd w
 safe-mirror r s ds (weakening o count seen sw) n c cites told k w = absurd w
@@ -134,23 +134,23 @@ safe-mirror r s ds (marked o) n c cites told k w = absurd w
 safe-mirror r s ds (restoring o answers) n c cites told k w = absurd w
 safe-mirror r s ds (restored o answers clear) n c cites told k w = absurd w
 
-pub kept-mirrored : (r : ManagedReplay) (s : PeerReplay) (ds : List Doing) (d : Stand) (n number : ℕ) (c : Cycle) (reply : Reply) (cites : Option ℕ) (refs : List (ℕ × ℕ)) → AreKept r s ds d → MayMirrorNow d r.managed s.peers.issued n cites (references_of refs)
+pub kept-mirrored : (r : ManagedReplay) (s : PeerReplay) (ds : List Doing) (d : Stand) (n number : ℕ) (c : Cycle) (reply : Reply) (cites : Option ℕ) (refs : List (End × End)) → AreKept r s ds d → MayMirrorNow d r.managed s.peers.issued n cites (references_of refs)
     → IsPeerKept (mirrored s n cites refs) → AreKept r (mirrored s n cites refs) ds (stand_after d number (op.Mirror c) reply (references_of refs))
-kept-mirrored r s ds (contracted o comps xrefs) n number c reply cites refs k w m =
+kept-mirrored r s ds (contracted o comps heavy xrefs) n number c reply cites refs k w m =
     subst (λ z. AreKept r (mirrored s n cites z) ds (weakening o 0 false false)) (sym w.2) (subst (λ z. AreKept r (mirrored s n z edges) ds (weakening o 0 false false)) (sym w.1)
     (record {
       managed = k.managed;
       peer = subst (λ z. IsPeerKept (mirrored s n z edges)) w.1 (subst (λ z. IsPeerKept (mirrored s n cites z)) w.2 m);
       owners = AreOwnersKept-peer nothing_touched r s after alike k.owners (λ x h t q. t) (λ h q t. t);
       callers = callers_same nothing_touched r s after alike refl (λ p i. i) (λ x l. l) (λ x p y. y) ds k.callers (λ u h x t. t);
-      driver = driver_mirrored r s o comps xrefs k.managed k.peer k.owners k.driver mirror (s.mirrors ++ n ∷ []);
+      driver = driver_mirrored r s o comps heavy xrefs k.managed k.peer k.owners k.driver mirror (s.mirrors ++ n ∷ []);
     }))
   where
-    edges : List (ℕ × ℕ)
+    edges : List (End × End)
     edges = carried_edges r.managed s.peers.issued (mirror_edges comps xrefs)
 
     mirror : Mirror
-    mirror = record { cycle = n; snap = o.snap; weakened = []; restored = [] }
+    mirror = record { cycle = n; snap = o.snap; weakened = []; restored = []; renewed = [] }
 
     after : PeerReplay
     after = record s { refs = edges; mirror = Some mirror; mirrors = s.mirrors ++ n ∷ [] }
@@ -191,7 +191,7 @@ kept-weaken r s ds (weakening o count seen sw) number h reply told cites k w p m
     }
 kept-weaken r s ds idle number h reply told cites k w p m = absurd w
 kept-weaken r s ds (snapped o) number h reply told cites k w p m = absurd w
-kept-weaken r s ds (contracted o comps xrefs) number h reply told cites k w p m = absurd w
+kept-weaken r s ds (contracted o comps heavy xrefs) number h reply told cites k w p m = absurd w
 kept-weaken r s ds (marked o) number h reply told cites k w p m = absurd w
 kept-weaken r s ds (restoring o answers) number h reply told cites k w p m = absurd w
 kept-weaken r s ds (restored o answers clear) number h reply told cites k w p m = absurd w

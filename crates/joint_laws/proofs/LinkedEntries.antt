@@ -18,7 +18,7 @@ use Rattle.joint_model.specs.Linked.{Linkage, MayCome, SideLawful, PeerLawful, o
 use Rattle.joint_model.specs.ManagedReplay.{ManagedReplay, registered}
 use Rattle.joint_model.specs.PeerReplay.{PeerReplay, peer_thread_line, sliced, begun}
 use Rattle.joint_model.specs.Told.{Told, Noted, nothing, snap_of, contraction_of, references_of, slice_of, sweep_of, resolution_of, phase_of}
-use Rattle.joint_laws.specs.LinkedInvariants.{doing_in, HasMadePair, AreOwnersKept}
+use Rattle.joint_laws.specs.LinkedInvariants.{doing_in, HasMadePair, AreOwnersKept, hands}
 use Rattle.joint_model.proofs.Members.{Contains-nil}
 use Rattle.joint_model.proofs.Numbered.{numbered-within}
 use Rattle.joint_laws.proofs.ManagedMoves.{met_by}
@@ -54,9 +54,9 @@ abbrev pub Allows : Linkage → Made → Told → Type 0
 Allows s m told = CallerAllows s.control s.managed.managed s.peer.peers.issued m.caller m.index m.op m.reply m.cites told
 
 -- a raw handle isn't the one of a pair just made
-raw_apart : (r : ManagedReplay) (s : PeerReplay) (ds : List Doing) (d : Stand) → AreKept r s ds d → (u h p g : ℕ) → HasMadePair (doing_in ds u) h p → IsRawOne s g → g ≡ h → ⊥
+raw_apart : (r : ManagedReplay) (s : PeerReplay) (ds : List Doing) (d : Stand) → AreKept r s ds d → (u h p g : ℕ) → HasMadePair (doing_in (hands d ds) u) h p → IsRawOne s g → g ≡ h → ⊥
 raw_apart r s ds d k u h p g m raw e =
-    let l = (k.callers.loose u h (made-in_hand (doing_in ds u) h p m)).held_one in
+    let l = (k.callers.loose u h (made-in_hand (doing_in (hands d ds) u) h p m)).held_one in
     let same : raw.0 ≡ l.0 = same_Some raw.0 l.0 (sym raw.1 ∙ (ap (λ z. numbered_at s.peers.issued z) e ∙ l.1)) in
     held-raw raw.0 (ap (λ (z : Issued). z.hold) same ∙ l.2) raw.2
 
@@ -130,7 +130,7 @@ module _ (s : Linkage) (k : Of s) (number line : ℕ) (reply : Reply) (cites : O
   step C (op.Snap n) told e w x = absurd w.allowed
   step (M u) (op.Snap n) told e w x = absurd e
   step (P u) (op.Snap n) told e w x = absurd e
-  step C (op.Contract n) (contraction_of comps xrefs) e w x = kept-contract s.managed s.peer ds d n.0 number n reply comps xrefs cites k x w.allowed (IsReplayKept-step s.managed C (op.Contract n) (contraction_of comps xrefs) k.managed w.allowed)
+  step C (op.Contract n) (contraction_of comps heavy xrefs) e w x = kept-contract s.managed s.peer ds d n.0 number n reply comps heavy xrefs cites k x w.allowed (IsReplayKept-step s.managed C (op.Contract n) (contraction_of comps heavy xrefs) k.managed w.allowed)
   step C (op.Contract n) told e w x = absurd w.allowed
   step (M u) (op.Contract n) told e w x = absurd e
   step (P u) (op.Contract n) told e w x = absurd e

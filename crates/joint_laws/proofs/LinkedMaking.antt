@@ -14,7 +14,7 @@ use Rattle.joint_model.specs.ManagedReplay.{ManagedReplay}
 use Rattle.joint_model.specs.Peers.{Peers, held, strong, with_handle, with_peer, pair_made, peer_gripped, landed, next_handle, issued_since, handles_full}
 use Rattle.joint_model.specs.PeerReplay.{PeerReplay, fresh_row, on_table, brings, untabled, table_target}
 use Rattle.joint_laws.specs.PeerInvariants.{IsTabled, IsPeerKept}
-use Rattle.joint_laws.specs.LinkedInvariants.{doing_in, HasInHand, HasMadePair, HasLent, IsLoose, IsVirgin}
+use Rattle.joint_laws.specs.LinkedInvariants.{doing_in, HasInHand, HasMadePair, HasLent, IsLoose, IsVirgin, AreCallersKept, hands, given_at}
 use Rattle.joint_model.proofs.Numbered.{slot-Contains}
 use Rattle.joint_laws.proofs.HandlesAlike.{AreOwnersKept-peer}
 use Rattle.joint_laws.proofs.DriverPeers.{driver_on}
@@ -23,8 +23,8 @@ use Rattle.joint_laws.proofs.DriverHandles.{callers_same, emptied-untabled}
 use Rattle.joint_laws.proofs.PeerEvents.{pair-event, grip-event, land-event}
 use Rattle.joint_laws.proofs.PeerMoves.{kept-gone}
 use Rattle.joint_laws.proofs.PeerQuietEvents.{quiet-pair, quiet-grip, quiet-gripped, quiet-land}
-use Rattle.joint_laws.proofs.Hands.{AreCallersKept-free, put_down}
-use Rattle.joint_laws.proofs.LinkedQuiet.{AreKept, kept-quiet, kept-doing, kept-free}
+use Rattle.joint_laws.proofs.Hands.{AreCallersKept-free, put_down, given-apart}
+use Rattle.joint_laws.proofs.LinkedQuiet.{AreKept, kept-quiet, kept-doing, kept-free, place_in, in_place, hands-set, threads-callers}
 use Rattle.joint_laws.proofs.LinkedThreads.{made-virgin, new-loose, new-apart, new-peer}
 
 -- the peer side after peers changed
@@ -40,12 +40,12 @@ module _ (r : ManagedReplay) (s : PeerReplay) (ds : List Doing) (d : Stand) (u n
       reply ≡ a.reply → AreKept r (on_table s a).state (set ds u (doing_after number line (op.Make sort n) reply)) d)
   make-by sort n true reply e =
       let t : PeerReplay = on_peers s s.peers in
-      let now = kept-quiet (λ h. ⊥) r s t ds d k (quiet-pair (λ h. ⊥) s sort n true k.peer.handles.places) (pair-event s sort n true k.peer) (no_via ds) in
+      let now = kept-quiet (λ h. ⊥) r s t ds d k (quiet-pair (λ h. ⊥) s sort n true k.peer.handles.places) (pair-event s sort n true k.peer) (no_via (hands d ds)) in
       subst (λ z. AreKept r t (set ds u (doing_after number line (op.Make sort n) z)) d) (sym e) (kept-free r t ds d u now)
   make-by sort n false reply e =
       let g : Peers = with_handle (with_peer s.peers sort n) (next_number s.peers.heap) held strong in
       let t : PeerReplay = on_peers s g in
-      let now = kept-quiet (λ h. ⊥) r s t ds d k (quiet-pair (λ h. ⊥) s sort n false k.peer.handles.places) (pair-event s sort n false k.peer) (no_via ds) in
+      let now = kept-quiet (λ h. ⊥) r s t ds d k (quiet-pair (λ h. ⊥) s sort n false k.peer.handles.places) (pair-event s sort n false k.peer) (no_via (hands d ds)) in
       let p = next_number s.peers.heap in
       let h = next_handle s.peers in
       subst (λ z. AreKept r t (set ds u (doing_after number line (op.Make sort n) z)) d) (sym e)
@@ -67,12 +67,12 @@ module _ (r : ManagedReplay) (s : PeerReplay) (ds : List Doing) (d : Stand) (u n
       reply ≡ a.reply → AreKept r (on_table s a).state (set ds u (doing_after number line (op.Grip x) reply)) d)
   grip-by x p sort f true reply q m e =
       let t : PeerReplay = on_peers s s.peers in
-      let now = kept-quiet (λ h. ⊥) r s t ds d k (quiet-gripped (λ h. ⊥) s p true says.Ok k.peer.handles.places (inr (slot-Contains s.peers.heap.statics x.0 p q))) m (no_via ds) in
+      let now = kept-quiet (λ h. ⊥) r s t ds d k (quiet-gripped (λ h. ⊥) s p true says.Ok k.peer.handles.places (inr (slot-Contains s.peers.heap.statics x.0 p q))) m (no_via (hands d ds)) in
       subst (λ z. AreKept r t (set ds u (doing_after number line (op.Grip x) z)) d) (sym e) (kept-free r t ds d u now)
   grip-by x p sort f false reply q m e =
       let g : Peers = with_handle s.peers p held strong in
       let t : PeerReplay = on_peers s g in
-      let now = kept-quiet (λ h. ⊥) r s t ds d k (quiet-gripped (λ h. ⊥) s p false says.Ok k.peer.handles.places (inr (slot-Contains s.peers.heap.statics x.0 p q))) m (no_via ds) in
+      let now = kept-quiet (λ h. ⊥) r s t ds d k (quiet-gripped (λ h. ⊥) s p false says.Ok k.peer.handles.places (inr (slot-Contains s.peers.heap.statics x.0 p q))) m (no_via (hands d ds)) in
       let h = next_handle s.peers in
       subst (λ z. AreKept r t (set ds u (doing_after number line (op.Grip x) z)) d) (sym e)
       (kept-doing r t ds d u (gripped number line p h sort f) now (record {
@@ -86,7 +86,7 @@ module _ (r : ManagedReplay) (s : PeerReplay) (ds : List Doing) (d : Stand) (u n
   grip-at : (x : StaticNo) (o : Option ℕ) (reply : Reply) → slot s.peers.heap.statics x.0 ≡ o → reply ≡ (peer_gripped s.peers o).reply → AreKept r (on_table s (peer_gripped s.peers o)).state (set ds u (doing_after number line (op.Grip x) reply)) d
   grip-at x None reply q e =
       let t : PeerReplay = on_peers s s.peers in
-      let now = kept-quiet (λ h. ⊥) r s t ds d k (quiet-grip (λ h. ⊥) s x.0 None k.peer.handles.places q) (grip-event s x.0 None k.peer q) (no_via ds) in
+      let now = kept-quiet (λ h. ⊥) r s t ds d k (quiet-grip (λ h. ⊥) s x.0 None k.peer.handles.places q) (grip-event s x.0 None k.peer q) (no_via (hands d ds)) in
       subst (λ z. AreKept r t (set ds u (doing_after number line (op.Grip x) z)) d) (sym e) (kept-free r t ds d u now)
   grip-at x (Some p) reply q e = grip-by x p _ _ (handles_full s.peers) reply q (grip-event s x.0 (Some p) k.peer q) e
 
@@ -97,7 +97,7 @@ module _ (r : ManagedReplay) (s : PeerReplay) (ds : List Doing) (d : Stand) (u n
   pub kept-land : (x h : ℕ) → HasLent (doing_in ds u) h → AreKept r (brings (on_table s (landed s.peers x (table_target s h)))).state (set ds u free) d
   kept-land x h w =
       let now = kept-quiet (Only h) r s _ ds d k (quiet-land (Only h) s x h (table_target s h) refl refl) (land-event s x h (table_target s h) k.peer refl)
-      (λ v g p y m same e. (k.callers.virgins v g p m).unadopted (subst (λ z. Contains r.adopted z) (sym same ∙ e) (k.callers.lent_ones u h w))) in
+      (λ v g p y m same e. (k.callers.virgins v g p m).unadopted (subst (λ z. Contains r.adopted z) (sym same ∙ e) ((threads-callers r s ds d k).lent_ones u h w))) in
       kept-free r _ ds d u now
 
   -- a lend tells a handle that a row holds, which was adopted
@@ -126,12 +126,14 @@ module _ (r : ManagedReplay) (s : PeerReplay) (ds : List Doing) (d : Stand) (u n
   kept-release h w =
       let t : PeerReplay = untabled s (Some h) in
       let a = HandlesAlike-only s t h None refl refl refl in
-      let loose = k.callers.loose u h w in
+      let at = in_place ds d (λ z. HasInHand z h) u w in
+      let loose = k.callers.loose (place_in d u) h at in
       let unowned : (m g : ℕ) → Only h g → Holds r.managed m g → ⊥ = λ m g same q. loose.unowned m (subst (λ z. Holds r.managed m z) same q) in
       record {
         managed = k.managed;
         peer = kept-gone s h k.peer;
         owners = AreOwnersKept-peer (Only h) r s t a k.owners unowned (λ g q same. emptied-untabled s t h q.0 refl (subst (λ z. IsTabled t.table z q.0) same q.1));
-        callers = callers_same (Only h) r s t a refl (λ p i. i) (λ x l. l) (λ x p c. c) (set ds u free) (AreCallersKept-free r s ds u k.callers) (λ v g x same. put_down r s ds u h k.callers w v (subst (λ z. HasInHand (doing_in (set ds u free) v) z) same x));
-        driver = driver_on (Only h) r s t a k.owners unowned refl refl d (λ o e mk f q. (mk, f, q)) (λ c answers all handles closed x y p q cx cy walk rx ry l. closed x y p q cx cy walk rx ry l) k.driver;
+        callers = subst (AreCallersKept r t) (sym (hands-set ds d u free)) (callers_same (Only h) r s t a refl (λ p i. i) (λ x l. l) (λ x p c. c) (set (hands d ds) (place_in d u) free) (AreCallersKept-free r s (hands d ds) (place_in d u) k.callers)
+            (λ v g x same. put_down r s (hands d ds) (place_in d u) h k.callers at v (subst (λ z. HasInHand (doing_in (set (hands d ds) (place_in d u) free) v) z) same x)));
+        driver = driver_on (Only h) r s t a k.owners unowned refl refl d (λ i g e same. given-apart r s (given_at d) ds k.callers i g u e (subst (λ z. HasInHand (doing_in ds u) z) (sym same) w)) (λ o e mk f q. (mk, f, q)) (λ c answers all handles closed x y p q cx cy walk rx ry l. closed x y p q cx cy walk rx ry l) k.driver;
       }

@@ -1,24 +1,24 @@
 -- All that both sides, the threads and the driver keep, and how it stays so at the managed entries after which rows hold the
 -- same handles, at the quiet entries of the peer side, and when a thread goes on to something else.
-use Rattle.std.proofs.Common.{◌≡◌, ℕ, List, set}
+use Rattle.std.proofs.Common.{◌≡◌, ℕ, List, set, sym, subst}
 use Rattle.joint_model.specs.Control.{Doing, free, Stand}
 use Rattle.joint_model.specs.ManagedReplay.{ManagedReplay}
 use Rattle.joint_model.specs.PeerReplay.{PeerReplay}
 use Rattle.joint_laws.specs.ManagedInvariants.{IsReplayKept}
 use Rattle.joint_laws.specs.PeerInvariants.{IsPeerKept}
-use Rattle.joint_laws.specs.LinkedInvariants.{AreOwnersKept, AreCallersKept, IsDriverKept, doing_in, HasMadePair}
+use Rattle.joint_laws.specs.LinkedInvariants.{AreOwnersKept, AreCallersKept, IsDriverKept, doing_in, HasMadePair, given_at, hands}
 use Rattle.joint_laws.proofs.ManagedMoves.{GoesOn}
 use Rattle.joint_laws.proofs.OwnersManaged.{OwnersAlike, owners_alike, callers_alike}
 use Rattle.joint_laws.proofs.DriverManaged.{driver_goes_on}
 use Rattle.joint_laws.proofs.DriverPeers.{owners_quiet, callers_quiet, driver_quiet}
 use Rattle.joint_laws.proofs.PeerQuiet.{IsQuiet}
-use Rattle.joint_laws.proofs.Hands.{MayHave, MayHave-free, AreCallersKept-set}
+use Rattle.joint_laws.proofs.Hands.{MayHave, MayHave-free, AreCallersKept-set, AreCallersKept-threads, shift, put-doing, put-set}
 
 pub record AreKept (r : ManagedReplay) (s : PeerReplay) (ds : List Doing) (d : Stand) : Type 0 where
   pub managed : IsReplayKept r
   pub peer : IsPeerKept s
   pub owners : AreOwnersKept r s
-  pub callers : AreCallersKept r s ds
+  pub callers : AreCallersKept r s (hands d ds)
   pub driver : IsDriverKept r s d
 
 -- rows hold the same handles after a managed entry that goes on
@@ -27,24 +27,46 @@ kept-alike r u s ds d k a g m = record {
   managed = m;
   peer = k.peer;
   owners = owners_alike r u s a k.owners;
-  callers = callers_alike r u s a ds k.callers;
+  callers = callers_alike r u s a (hands d ds) k.callers;
   driver = driver_goes_on r u s k.managed.managed g d k.driver;
 }
 
 -- a quiet entry of the peer side, which reads no handle of a peer just made
 pub kept-quiet : (via : ℕ → Type 0) (r : ManagedReplay) (s t : PeerReplay) (ds : List Doing) (d : Stand) → AreKept r s ds d → IsQuiet via s t → IsPeerKept t
-    → ((u h p g : ℕ) → HasMadePair (doing_in ds u) h p → via g → g ≡ h → ⊥) → AreKept r t ds d
+    → ((u h p g : ℕ) → HasMadePair (doing_in (hands d ds) u) h p → via g → g ≡ h → ⊥) → AreKept r t ds d
 kept-quiet via r s t ds d k q m other = record {
   managed = k.managed;
   peer = m;
   owners = owners_quiet via r s t k.peer k.owners q;
-  callers = callers_quiet via r s t k.peer k.owners q ds k.callers other;
+  callers = callers_quiet via r s t k.peer k.owners q (hands d ds) k.callers other;
   driver = driver_quiet via r s t k.peer k.owners q d k.driver;
 }
 
+-- a thread's place in all hands
+abbrev pub place_in : Stand → ℕ → ℕ
+place_in d t = shift (given_at d) t
+
+-- what threads alone have in hand
+pub threads-callers : (r : ManagedReplay) (s : PeerReplay) (ds : List Doing) (d : Stand) → AreKept r s ds d → AreCallersKept r s ds
+threads-callers r s ds d k = AreCallersKept-threads r s (given_at d) ds k.callers
+
+-- what a thread has in hand, in its place
+pub in_place : (ds : List Doing) (d : Stand) (Q : Doing → Type 0) (t : ℕ) → Q (doing_in ds t) → Q (doing_in (hands d ds) (place_in d t))
+in_place ds d Q t w = subst Q (sym (put-doing (given_at d) ds t)) w
+
+-- all hands, after a thread's changed
+pub hands-set : (ds : List Doing) (d : Stand) (t : ℕ) (now : Doing) → hands d (set ds t now) ≡ set (hands d ds) (place_in d t) now
+hands-set ds d t now = put-set (given_at d) ds t now
+
 -- a thread goes on to something else
-pub kept-doing : (r : ManagedReplay) (s : PeerReplay) (ds : List Doing) (d : Stand) (t : ℕ) (now : Doing) → AreKept r s ds d → MayHave r s ds t now → AreKept r s (set ds t now) d
-kept-doing r s ds d t now k m = record { managed = k.managed; peer = k.peer; owners = k.owners; callers = AreCallersKept-set r s ds t now k.callers m; driver = k.driver }
+pub kept-doing : (r : ManagedReplay) (s : PeerReplay) (ds : List Doing) (d : Stand) (t : ℕ) (now : Doing) → AreKept r s ds d → MayHave r s (hands d ds) (place_in d t) now → AreKept r s (set ds t now) d
+kept-doing r s ds d t now k m = record {
+  managed = k.managed;
+  peer = k.peer;
+  owners = k.owners;
+  callers = subst (AreCallersKept r s) (sym (hands-set ds d t now)) (AreCallersKept-set r s (hands d ds) (place_in d t) now k.callers m);
+  driver = k.driver;
+}
 
 pub kept-free : (r : ManagedReplay) (s : PeerReplay) (ds : List Doing) (d : Stand) (t : ℕ) → AreKept r s ds d → AreKept r s (set ds t free) d
-kept-free r s ds d t k = kept-doing r s ds d t free k (MayHave-free r s ds t)
+kept-free r s ds d t k = kept-doing r s ds d t free k (MayHave-free r s (hands d ds) (place_in d t))

@@ -26,7 +26,7 @@ use Rattle.joint_laws.specs.States.{state_at}
 use Rattle.joint_model.proofs.Members.{Contains-at, at-Contains}
 use Rattle.joint_laws.proofs.Registered.{registered-some}
 use Rattle.joint_laws.proofs.DriverSteps.{row_of, alive-live, cleared-freed, answered}
-use Rattle.joint_laws.proofs.LinkedQuiet.{AreKept}
+use Rattle.joint_laws.proofs.LinkedQuiet.{AreKept, threads-callers}
 use Rattle.joint_laws.proofs.LinkedThreads.{adopt-hand}
 use Rattle.joint_laws.proofs.LinkedDriver.{one_cycle}
 use Rattle.joint_laws.proofs.LinkedEntries.{AreKept-entry, AreKept-opening}
@@ -57,7 +57,7 @@ alive-to_alive r s ds o answers clear c k e a b alive cb walk =
         let bb : IsBridge r.managed b = ((cut.candidates b).0 cb').1 in
         let ra = row_of r s o answers k.managed k.peer k.owners v a ba.0 ba.1 in
         let rb = row_of r s o answers k.managed k.peer k.owners v b bb.0 bb.1 in
-        let la = alive-live r s o answers k.managed k.peer k.owners v t.0 a ra.0 t.1 t.2 ra.1 in
+        let la = alive-live r s o answers k.managed k.peer k.owners v t.0 a ra.0 t.2.0 t.1 t.2.1 ra.1 in
         let lb = v.closed a b ra.0 rb.0 ca cb' walk ra.1 rb.1 la in
         let at = at-Contains v.cycle.candidates b cb' in
         elim (answered r s o answers k.managed k.peer k.owners v at.0 b at.1) [
@@ -82,7 +82,7 @@ no-twin s t line o reply cites told v kind n p h k e ev w = by t (subst (λ z. I
     none (Some m) q out = absurd (out m (registered-some s.managed.registry p.0 m q))
 
     by : (t : Thread) → IsEvent t (op.Adopt v kind n p h) → CallerAllows s.control s.managed.managed s.peer.peers.issued t line (op.Adopt v kind n p h) reply cites told → registered s.managed.registry p.0 ≡ None
-    by (M u) ev w = none (registered s.managed.registry p.0) refl (k.callers.virgins u h.0 p.0 (adopt-hand (doing_in s.control.doing u) (M u) line v kind n p h cites w)).pairs
+    by (M u) ev w = none (registered s.managed.registry p.0) refl ((threads-callers s.managed s.peer s.control.doing s.control.stand k).virgins u h.0 p.0 (adopt-hand (doing_in s.control.doing u) (M u) line v kind n p h cites w)).pairs
     by (P u) ev w = absurd ev.0
     by C ev w = absurd ev.0
 

@@ -14,7 +14,7 @@ use Rattle.joint_model.specs.Peers.{weak}
 use Rattle.joint_model.specs.PeerReplay.{PeerReplay, Marking, is_thread, swept_of, swept, IsSweep, SweepAllows}
 use Rattle.joint_model.specs.Told.{Told, nothing, sweep_of}
 use Rattle.joint_laws.specs.PeerInvariants.{IsSpared}
-use Rattle.joint_laws.specs.LinkedInvariants.{IsDriverKept, IsInMarking, IsRestoring}
+use Rattle.joint_laws.specs.LinkedInvariants.{IsDriverKept, IsInMarking, IsRestoring, AreCallersKept, hands}
 use Rattle.joint_model.proofs.Members.{at-Contains}
 use Rattle.joint_laws.proofs.HandlesAlike.{HandlesAlike, nothing_touched, AreOwnersKept-peer}
 use Rattle.joint_laws.proofs.DriverPeers.{driver_on, StaysClosed}
@@ -23,6 +23,7 @@ use Rattle.joint_laws.proofs.DriverHandles.{callers_same, mirrored_changed}
 use Rattle.joint_laws.proofs.PeerEntries.{swept_told, swept_of-kept, refused-by}
 use Rattle.joint_laws.proofs.Sparing.{spared-stays}
 use Rattle.joint_laws.proofs.LinkedQuiet.{AreKept}
+use Rattle.joint_laws.proofs.HandlesAlike.{replaced-peer}
 
 module _ (r : ManagedReplay) (s : PeerReplay) (ds : List Doing) (d : Stand) (k : AreKept r s ds d) (mk : Marking) (freed : List ℕ) (e : s.marking ≡ Some mk) (w : IsSweep s mk freed) where
   abbrev after : PeerReplay
@@ -43,7 +44,7 @@ module _ (r : ManagedReplay) (s : PeerReplay) (ds : List Doing) (d : Stand) (k :
       let lq = closed a b p q ca cb walk ra rb (was p l) in
       let at = at-Contains c.candidates b cb in
       elim (handles at.0 b rb.handle at.1 rb.holds) [
-        | inl t ↦ still q lq (λ f. spared-stays s mk freed q w (subst (IsSpared mk) rb.leads ((k.peer.marking mk e).strong_ones rb.handle t.1.0 rb.row t.1.1 t.1.2 rb.is_issued)) f)
+        | inl t ↦ still q lq (λ f. spared-stays s mk freed q w (subst (IsSpared mk) (replaced-peer s rb.handle t.0 rb.row t.2 rb.is_issued ∙ rb.leads) ((k.peer.marking mk e).strong_ones t.0 t.2.strong_one.0 t.2.new t.2.strong_one.1 t.2.strong_one.2 t.2.is)) f)
         | inr t ↦ elim t [
           | inl g ↦ absurd (lq.kept (subst (λ z. Contains s.peers.heap.freed z) rb.leads (g.1.freed rb.row rb.is_issued)))
           | inr g ↦ absurd (omega (arith, g.0, slice_get_within c.candidates at.0 b at.1, all))
@@ -51,20 +52,20 @@ module _ (r : ManagedReplay) (s : PeerReplay) (ds : List Doing) (d : Stand) (k :
       ]
 
   driver_swept : (x : Stand) → ((o : OpenSnap) → x ≡ marked o → ⊥) → IsDriverKept r s x → IsDriverKept r after x
-  driver_swept x n h = driver_on nothing_touched r s after swept-alike k.owners (λ m g t q. t) refl refl x (λ o q. absurd (n o q)) closed_swept h
+  driver_swept x n h = driver_on nothing_touched r s after swept-alike k.owners (λ m g t q. t) refl refl x (λ i g e t. t) (λ o q. absurd (n o q)) closed_swept h
 
-  kept_swept : (x : Stand) → IsDriverKept r after x → AreKept r after ds x
-  kept_swept x h = record {
+  kept_swept : (x : Stand) → hands x ds ≡ hands d ds → IsDriverKept r after x → AreKept r after ds x
+  kept_swept x same h = record {
     managed = k.managed;
     peer = swept_of-kept s mk freed k.peer e w;
     owners = AreOwnersKept-peer nothing_touched r s after swept-alike k.owners (λ m g t q. t) (λ g q t. t);
-    callers = callers_same nothing_touched r s after swept-alike refl (λ p i. i) was (λ x p c. c) ds k.callers (λ u g x t. t);
+    callers = subst (AreCallersKept r after) (sym same) (callers_same nothing_touched r s after swept-alike refl (λ p i. i) was (λ x p c. c) (hands d ds) k.callers (λ u g x t. t));
     driver = h;
   }
 
   -- not in the driver's own marking
   pub kept-swept : ((o : OpenSnap) → d ≡ marked o → ⊥) → AreKept r after ds d
-  kept-swept n = kept_swept d (driver_swept d n k.driver)
+  kept-swept n = kept_swept d refl (driver_swept d n k.driver)
 
   -- the driver's own: all candidates' handles are weak, and none is restored
   pub restoring-swept : (o : OpenSnap) → IsInMarking r s o → IsRestoring r after o []
@@ -75,8 +76,8 @@ module _ (r : ManagedReplay) (s : PeerReplay) (ds : List Doing) (d : Stand) (k :
     handles = λ l m g f q. inr (inr (omega arith, swept-alike.on g weak (k.owners.held_ones m g q) (λ t. t) (h.handles l m g f q)));
   }
 
-  pub kept-own_swept : (o : OpenSnap) → IsInMarking r s o → AreKept r after ds (restoring o [])
-  kept-own_swept o h = kept_swept (restoring o []) (restoring-swept o h)
+  pub kept-own_swept : (o : OpenSnap) → hands d ds ≡ ds → IsInMarking r s o → AreKept r after ds (restoring o [])
+  kept-own_swept o none h = kept_swept (restoring o []) (sym none) (restoring-swept o h)
 
 -- a sweep leaves all as it is, or frees what an open marking that the thread may end doesn't spare
 pub data SweepCase (s : PeerReplay) (t : Thread) (after : PeerReplay) : Type 0 where

@@ -18,7 +18,7 @@ use Rattle.joint_model.specs.Peers.{Peers, Issued, held, strong, with_handle, wi
 use Rattle.joint_model.specs.PeerReplay.{PeerReplay, TableRow, fresh_row, on_table}
 use Rattle.joint_laws.specs.ManagedInvariants.{IsReplayKept}
 use Rattle.joint_laws.specs.PeerInvariants.{IsIssued}
-use Rattle.joint_laws.specs.LinkedInvariants.{HasStrength, doing_in, HasInHand, HasPeer, HasMadePair, HasLent, IsLoose, IsVirgin}
+use Rattle.joint_laws.specs.LinkedInvariants.{HasStrength, doing_in, HasInHand, HasPeer, HasMadePair, HasLent, IsLoose, IsVirgin, hands}
 use Rattle.joint_model.proofs.Numbered.{numbered-within, numbered-push_new, numbered-push_cases}
 use Rattle.joint_laws.proofs.ManagedMoves.{GoesOn, managed_line-goes_on}
 use Rattle.joint_laws.proofs.Adopting.{HoldsSame, managed_line-same, was-held, stays-live}
@@ -104,7 +104,7 @@ module _ (r : ManagedReplay) (s : PeerReplay) (ds : List Doing) (d : Stand) (k :
   }
 
   -- no thread has it in hand yet
-  pub new-apart : (h u : ℕ) → next_handle s.peers ≡ h → HasInHand (doing_in ds u) h → ⊥
+  pub new-apart : (h u : ℕ) → next_handle s.peers ≡ h → HasInHand (doing_in (hands d ds) u) h → ⊥
   new-apart h u q w = let l = k.callers.loose u h w in unissued h l.held_one.0 l.held_one.1 (sym q)
 
   pub new-peer : (h q : ℕ) → next_handle s.peers ≡ h → p ≡ q → (i : Issued) × IsIssued g.issued h i × (i.peer ≡ q)

@@ -18,6 +18,9 @@ use Rattle.joint_model.proofs.Deciding.{none_some}
 use Rattle.joint_model.proofs.HeapLemmas.{IsLive-before, IsLive-spared, IsLive-left}
 use Rattle.joint_laws.proofs.Fields.{fields-past, IsLive-more}
 use Rattle.joint_laws.proofs.ManagedMoves.{GoesOn, IsNameable, IsNew}
+use Rattle.joint_model.specs.Managed.{candidates_of}
+use Rattle.joint_model.specs.Told.{Answer}
+use Rattle.joint_laws.proofs.Renewing.{renewed-length}
 
 -- before the first entry nothing is named
 pub IsManagedKept-opening : IsManagedKept opening_managed
@@ -221,9 +224,9 @@ module _ (s : Managed) (c : OpenCycle) (staying : ℕ → Type 0) (freed : List 
     | inl d ↦ n ((p.frees x).1 (d, λ r. ((p.frees y).0 f).1 (r.0, r.1, Reaches-then (ManagedEdge s) r.0 x y r.2 (record { live = l; field = e; there = kept.fields x y l e }))))
   ]
 
-  pub IsManagedKept-resolved : IsManagedKept (resolved s freed)
-  IsManagedKept-resolved = record {
-    places = kept.places;
+  pub IsManagedKept-resolved : (answers : List Answer) → IsManagedKept (resolved s answers freed)
+  IsManagedKept-resolved answers = record {
+    places = renewed-length s.held (candidates_of s) answers ∙ kept.places;
     vars = kept.vars;
     freed = λ x f. made-freed s.heap freed x kept.freed (λ y q. (kept.dead c o).live y (in_dead y q)) f;
     roots = λ x r. IsLive-left s.heap freed x (kept.roots x r) (λ f. (kept.dead c o).unnamed x r (in_dead x f));

@@ -30,7 +30,7 @@ pub record Resolves (s t : Managed) : Type 0 where
   pub alive : List Answer
   pub freed : List ℕ
   pub resolution : IsResolution s cycle.dead (IsAnsweredAlive cycle.candidates alive) freed
-  pub is : t ≡ resolved s freed
+  pub is : t ≡ resolved s alive freed
 
 pub record Abandons (s t : Managed) : Type 0 where
   pub cycle : OpenCycle
@@ -81,7 +81,7 @@ managed_step s t (op.Give v) told k w =
     let u = place (thread_number t) v.0 in
     goes s.managed (given_up s.managed u).state _ (give_by-managed s (slot s.managed.heap.vars u) (given_up s.managed u)) (given_up-goes_on s.managed u)
 managed_step s t (op.Snap n) (snap_of freed candidates dead) k w = snapping (record { number = n.0; freed = freed; candidates = candidates; dead = dead; snapshot = w; is = refl })
-managed_step s t (op.Contract n) (contraction_of comps xrefs) k w = stays s
+managed_step s t (op.Contract n) (contraction_of comps heavy xrefs) k w = stays s
 managed_step s t (op.Resolve n) (resolution_of alive freed) k w = resolving (record { cycle = w.cycle; was_open = w.open_cycle.0; alive = alive; freed = freed; resolution = w.resolution; is = refl })
 managed_step s t (op.Abandon n) nothing k w = abandoning (record { cycle = w.0; was_open = w.1.0; is = refl })
 managed_step s t (op.Refused r) (phase_of phase) k w = stays s

@@ -10,7 +10,7 @@ use Rattle.joint_model.specs.Joint.{Row, object, peer, JointEdge, IsJointRoot, I
 use Rattle.joint_model.specs.Linked.{Linkage, MayCome, linkage_after}
 use Rattle.joint_model.specs.Managed.{OpenCycle, Holds}
 use Rattle.joint_model.specs.Peers.{Issued, weak}
-use Rattle.joint_model.specs.PeerReplay.{Marking, MarkingEdge, IsSweep, strong_peers}
+use Rattle.joint_model.specs.PeerReplay.{Marking, MarkingEdge, IsSweep, strong_peers, Refers}
 use Rattle.joint_model.specs.Run.{Moment}
 use Rattle.joint_model.specs.Told.{Noted}
 use Rattle.joint_model.proofs.WalkLemmas.{Reached-start, Reached-then, Reached-keeps}
@@ -93,7 +93,7 @@ module _ (s : Linkage) (n : Noted) (may : MayCome s n) (w : Stands s) (v : Stand
 
   edges_next : (p q : ℕ) → WasSeen longer a (peer p) → MarkingEdge mk p q → WasSeen longer a (peer q)
   edges_next p q u e f = u (λ seen. elim e [
-    | inr r ↦ reference-seen t v longer a c o1 next mirror p q (subst (λ z. Contains z (p, q)) (k.refs ∙ sym refs) r.reference) (existed p r.live) (existed q r.there) u f
+    | inr r ↦ reference-seen t v longer a c o1 next mirror p q (subst (λ z. Refers z p q) (k.refs ∙ sym refs) r.reference) (existed p r.live) (existed q r.there) u f
     | inl d ↦ (
         let before : IsSeen past a (peer p) → ⊥ = λ sp. was-more past m a (peer q) (k.edges p q (λ h. h sp) (inl d)) f in
         elim (seen-cases s n may w v g past a c.candidates watched m after (peer p) seen) [

@@ -3,7 +3,7 @@
 -- from a seen peer leads to a seen one: a field is a joint edge, and a mirrored reference is a walk over managed fields
 -- between the candidates. Later a peer that is seen for the first time was in no slot before, so its fields are those of the
 -- begin.
-use Rattle.std.proofs.Common.{◌≡◌, ℕ, suc, ◌<◌, inl, inr, Bool, true, false, List, [], ◌∷◌, Option, Some, None, refl, sym, ap, subst, ◌∙◌, arith}
+use Rattle.std.proofs.Common.{◌≡◌, ℕ, suc, ◌<◌, inl, inr, false, List, [], ◌∷◌, Option, Some, None, refl, sym, ap, subst, ◌∙◌}
 use Rattle.std.specs.Prelude.{Contains, slice_get, if◌then◌else◌}
 use Rattle.joint_model.specs.Headline.{DriverBeginsAt, IsMadeBefore}
 use Rattle.joint_model.specs.Heaps.{IsMade, IsLive, InSlot, fields_of, numbered_at}
@@ -18,12 +18,12 @@ use Rattle.joint_model.proofs.WalkLemmas.{Reached-start, Reached-keeps, Reaches-
 use Rattle.joint_laws.specs.LinkedInvariants.{HasStrength, IsRowOf, IsMirrored, ForCandidates}
 use Rattle.joint_laws.specs.PeerInvariants.{IsTabled, IsIssued}
 use Rattle.joint_model.proofs.Members.{Contains-nil, Contains-cons_cases, at-Contains}
-use Rattle.joint_model.proofs.Numbered.{numbered-within, numbered-made}
 use Rattle.joint_laws.proofs.PeerEntries.{peer_of-issued}
 use Rattle.joint_laws.proofs.DeadMirrors.{mirror_edge-managed}
 use Rattle.joint_laws.proofs.DriverSteps.{strength-one}
 use Rattle.joint_laws.proofs.JointRuns.{Stands, state_of}
 use Rattle.joint_laws.proofs.Watching.{IsSeen, WasSeen, IsWatched, last-seen}
+use Rattle.joint_laws.proofs.JointFlags.{removed-at}
 
 -- which strong handle a root is of
 abbrev IsListedBy : List Issued → List (Option TableRow) → ℕ → Type 0
@@ -65,19 +65,12 @@ module _ (s : Linkage) (w : Stands s) (past : List Moment) (a : ℕ) (c : OpenCy
   reference-seen m p q r lp lq u =
       let e = (m.exact p q).0 r in
       let from = watched.closed (peer p) (object e.0) u (row-joined e.0 p e.3 lp) in
-      let along = managed-seen e.0 e.1 (mirror_edge-managed s.managed.managed c (w.kept.managed.managed.dead c o) m.comps m.xrefs m.contraction e.0 e.1 e.2) from in
+      let along = managed-seen e.0 e.1 (mirror_edge-managed s.managed.managed c (w.kept.managed.managed.dead c o) m.comps m.heavy m.xrefs m.contraction e.0 e.1 e.2) from in
       watched.closed (object e.1) (peer q) along (row-joined e.1 q e.4 lq)
 
   -- a handle of the table isn't removed
-  not_removed : (h : ℕ) (row : TableRow) → IsTabled s.peer.table h row → numbered_at w.flags h ≡ Some false
-  not_removed h row t =
-      let b = numbered-within s.peer.table h (Some row) t in
-      let f = numbered-made w.flags h b.0 (omega (arith, b.1, w.agrees.removed.places, w.kept.peer.handles.places)) in
-      by f.0 f.1
-    where
-      by : (x : Bool) → numbered_at w.flags h ≡ Some x → numbered_at w.flags h ≡ Some false
-      by false e = e
-      by true e = absurd (w.agrees.removed.untabled h e (row, t))
+  not_removed : (h : ℕ) (row : TableRow) → IsTabled s.peer.table h row → numbered_at w.flags.removed h ≡ Some false
+  not_removed h row t = ap (λ z. numbered_at z h) w.agrees.removed ∙ removed-at s.peer.table h (Some row) t
 
   -- the peer of a strong handle was seen, while all candidates' handles are weak
   pub strong-seen : ForCandidates s.managed.managed c (λ l h. HasStrength s.peer h weak) → (h : ℕ) (row : TableRow) (i : Issued) → IsTabled s.peer.table h row → row.strength ≡ strong → IsIssued s.peer.peers.issued h i → Seen (peer i.peer)

@@ -30,7 +30,7 @@ use Rattle.joint_laws.proofs.Places.{comes-at, after-at, earlier-at, Origin, ori
 -- the driver stands in cycle k, before its own begin or behind it; or in none, or in another one
 abbrev IsBefore : ℕ → Stand → Type 0
 IsBefore k (snapped o) = o.cycle ≡ k
-IsBefore k (contracted o comps xrefs) = o.cycle ≡ k
+IsBefore k (contracted o comps heavy xrefs) = o.cycle ≡ k
 IsBefore k (weakening o count weakened swept) = o.cycle ≡ k
 IsBefore k _ = ⊥
 
@@ -43,7 +43,7 @@ IsBehind k _ = ⊥
 abbrev IsElsewhere : ℕ → Stand → Type 0
 IsElsewhere k idle = Unit {0}
 IsElsewhere k (snapped o) = o.cycle ≡ k → ⊥
-IsElsewhere k (contracted o comps xrefs) = o.cycle ≡ k → ⊥
+IsElsewhere k (contracted o comps heavy xrefs) = o.cycle ≡ k → ⊥
 IsElsewhere k (weakening o count weakened swept) = o.cycle ≡ k → ⊥
 IsElsewhere k (marked o) = o.cycle ≡ k → ⊥
 IsElsewhere k (restoring o answers) = o.cycle ≡ k → ⊥
@@ -63,16 +63,16 @@ module _ (k n : ℕ) (m : Managed) (i : List Issued) (reply : Reply) (cites : Op
   before-on (restoring o answers) x told nb a e = absurd e
   before-on (restored o answers clear) x told nb a e = absurd e
   before-on (snapped o) (op.Snap c) told nb a e = absurd a
-  before-on (snapped o) (op.Contract c) (contraction_of comps xrefs) nb a e = inl e
+  before-on (snapped o) (op.Contract c) (contraction_of comps heavy xrefs) nb a e = inl e
   before-on (snapped o) (op.Contract c) told nb a e = inl e
   before-on (snapped o) (op.Resolve c) told nb a e = inr tt
   before-on (snapped o) (op.Abandon c) told nb a e = inr tt
   before-on (snapped o) x told nb a e = inl e
-  before-on (contracted o comps xrefs) (op.Snap c) told nb a e = absurd a
-  before-on (contracted o comps xrefs) (op.Mirror c) told nb a e = inl e
-  before-on (contracted o comps xrefs) (op.Resolve c) told nb a e = inr tt
-  before-on (contracted o comps xrefs) (op.Abandon c) told nb a e = inr tt
-  before-on (contracted o comps xrefs) x told nb a e = inl e
+  before-on (contracted o comps heavy xrefs) (op.Snap c) told nb a e = absurd a
+  before-on (contracted o comps heavy xrefs) (op.Mirror c) told nb a e = inl e
+  before-on (contracted o comps heavy xrefs) (op.Resolve c) told nb a e = inr tt
+  before-on (contracted o comps heavy xrefs) (op.Abandon c) told nb a e = inr tt
+  before-on (contracted o comps heavy xrefs) x told nb a e = inl e
   before-on (weakening o count seen sw) (op.Snap c) told nb a e = absurd a
   before-on (weakening o count seen sw) (op.Weaken h) told nb a e = inl e
   before-on (weakening o count seen sw) op.Sweep told nb a e = inl e
@@ -86,7 +86,7 @@ module _ (k n : ℕ) (m : Managed) (i : List Issued) (reply : Reply) (cites : Op
   before-begin : (st : Stand) (told : Told) → Allows st op.Begin told → IsBefore k st → IsBehind k (next st op.Begin told)
   before-begin (weakening o count seen sw) told a e = e
   before-begin (snapped o) told a e = absurd a
-  before-begin (contracted o comps xrefs) told a e = absurd a
+  before-begin (contracted o comps heavy xrefs) told a e = absurd a
   before-begin idle told a e = absurd e
   before-begin (marked o) told a e = absurd e
   before-begin (restoring o answers) told a e = absurd e
@@ -100,7 +100,7 @@ module _ (k n : ℕ) (m : Managed) (i : List Issued) (reply : Reply) (cites : Op
   behind-on : (st : Stand) (o : Op) (told : Told) → Allows st o told → IsBehind k st → (o ≡ op.Begin → ⊥) × (IsBehind k (next st o told) ⊎ IsElsewhere k (next st o told))
   behind-on idle o told a e = absurd e
   behind-on (snapped o) x told a e = absurd e
-  behind-on (contracted o comps xrefs) x told a e = absurd e
+  behind-on (contracted o comps heavy xrefs) x told a e = absurd e
   behind-on (weakening o count seen sw) x told a e = absurd e
   behind-on (marked o) (op.Snap c) told a e = absurd a
   behind-on (marked o) op.Begin told a e = absurd a
@@ -126,11 +126,11 @@ module _ (k n : ℕ) (m : Managed) (i : List Issued) (reply : Reply) (cites : Op
   elsewhere-on st (op.Resolve c) told new a e = tt
   elsewhere-on st (op.Abandon c) told new a e = tt
   elsewhere-on idle x told new a e = tt
-  elsewhere-on (snapped o) (op.Contract c) (contraction_of comps xrefs) new a e = e
+  elsewhere-on (snapped o) (op.Contract c) (contraction_of comps heavy xrefs) new a e = e
   elsewhere-on (snapped o) (op.Contract c) told new a e = e
   elsewhere-on (snapped o) x told new a e = e
-  elsewhere-on (contracted o comps xrefs) (op.Mirror c) told new a e = e
-  elsewhere-on (contracted o comps xrefs) x told new a e = e
+  elsewhere-on (contracted o comps heavy xrefs) (op.Mirror c) told new a e = e
+  elsewhere-on (contracted o comps heavy xrefs) x told new a e = e
   elsewhere-on (weakening o count seen sw) (op.Weaken h) told new a e = e
   elsewhere-on (weakening o count seen sw) op.Sweep told new a e = e
   elsewhere-on (weakening o count seen sw) op.Begin told new a e = e
@@ -183,7 +183,7 @@ latest s w c k e f = sym (w.managed.managed.dead c e).latest ∙ f
 
 before-latest : (s : Linkage) (k : ℕ) → Of s → (st : Stand) → IsDriverKept s.managed s.peer st → IsBefore k st → cycles_of s ≡ k
 before-latest s k w (snapped o) d e = latest s w d.cycle k d.opened.cycle (d.opened.number ∙ e)
-before-latest s k w (contracted o comps xrefs) d e = latest s w d.before.cycle k d.before.opened.cycle (d.before.opened.number ∙ e)
+before-latest s k w (contracted o comps heavy xrefs) d e = latest s w d.before.cycle k d.before.opened.cycle (d.before.opened.number ∙ e)
 before-latest s k w (weakening o count seen sw) d e = latest s w d.cycle k d.opened.cycle (d.opened.number ∙ e)
 before-latest s k w idle d e = absurd e
 before-latest s k w (marked o) d e = absurd e
@@ -196,7 +196,7 @@ behind-latest s k w (restoring o answers) d e = latest s w d.cycle k d.opened.cy
 behind-latest s k w (restored o answers clear) d e = latest s w d.cycle k d.opened.cycle (d.opened.number ∙ e)
 behind-latest s k w idle d e = absurd e
 behind-latest s k w (snapped o) d e = absurd e
-behind-latest s k w (contracted o comps xrefs) d e = absurd e
+behind-latest s k w (contracted o comps heavy xrefs) d e = absurd e
 behind-latest s k w (weakening o count seen sw) d e = absurd e
 
 -- a snapshot takes the next number
@@ -354,7 +354,7 @@ resolves-behind noted may k e w =
     stands (restored o answers clear) told a = absurd a
     stands idle told a = absurd a
     stands (snapped o) told a = absurd a
-    stands (contracted o comps xrefs) told a = absurd a
+    stands (contracted o comps heavy xrefs) told a = absurd a
     stands (weakening o count seen sw) told a = absurd a
     stands (marked o) told a = absurd a
     stands (restoring o answers) told a = absurd a
@@ -371,7 +371,7 @@ not-elsewhere k (restoring o answers) e f = f e
 not-elsewhere k (restored o answers clear) e f = f e
 not-elsewhere k idle e f = e
 not-elsewhere k (snapped o) e f = e
-not-elsewhere k (contracted o comps xrefs) e f = e
+not-elsewhere k (contracted o comps heavy xrefs) e f = e
 not-elsewhere k (weakening o count seen sw) e f = e
 
 not-before : (k : ℕ) (st : Stand) → IsBehind k st → IsBefore k st → ⊥
@@ -380,7 +380,7 @@ not-before k (restoring o answers) e f = f
 not-before k (restored o answers clear) e f = f
 not-before k idle e f = e
 not-before k (snapped o) e f = e
-not-before k (contracted o comps xrefs) e f = e
+not-before k (contracted o comps heavy xrefs) e f = e
 not-before k (weakening o count seen sw) e f = e
 
 -- the resolution comes later: from it on the count of cycles is past the number

@@ -18,8 +18,9 @@ use Rattle.joint_laws.proofs.Fields.{with_object-length}
 use Rattle.joint_laws.proofs.HeapMoves.{HasMoved, IsInReach}
 use Rattle.joint_laws.proofs.HeapKeeping.{moved-live, moved-was_live, object-field, object-was_live}
 use Rattle.joint_laws.proofs.Sparing.{spared-root, spared-next, spared-later, later}
+use Rattle.joint_model.specs.Components.{End}
 
-module _ (h : Heap) (issued : List Issued) (table : List (Option TableRow)) (refs : List (ℕ × ℕ)) (mk : Marking) (k : IsMarkingKept h issued table refs mk) where
+module _ (h : Heap) (issued : List Issued) (table : List (Option TableRow)) (refs : List (End × End)) (mk : Marking) (k : IsMarkingKept h issued table refs mk) where
   -- what is in reach is spared
   pub in_reach-spared : (p : ℕ) → IsHeapKept h → IsInReach h p → IsSpared mk p
   in_reach-spared p heap r = elim r [
@@ -83,7 +84,7 @@ module _ (h : Heap) (issued : List Issued) (table : List (Option TableRow)) (ref
   IsMarkingKept-table more rows s = record { made = k.made; existed = k.existed; fields = k.fields; references = k.references; slots = k.slots; strong_ones = s }
 
   -- the references change, and what they lead to is spared
-  pub IsMarkingKept-references : (more : List (ℕ × ℕ)) → ((p q : ℕ) → Contains more (p, q) → IsSpared mk q) → IsMarkingKept h issued table more mk
+  pub IsMarkingKept-references : (more : List (End × End)) → ((p q : ℕ) → Refers more p q → IsSpared mk q) → IsMarkingKept h issued table more mk
   IsMarkingKept-references more s = record { made = k.made; existed = k.existed; fields = k.fields; references = λ p q l c. inr (s p q c); slots = k.slots; strong_ones = k.strong_ones }
 
   -- peers are brought back, or objects blackened
@@ -119,7 +120,7 @@ strong-listed issued table zero row i t s e = absurd (none_some i e)
 strong-listed issued table (suc k) row i t s e = strong-at issued table k row i t s e
 
 -- a marking that begins
-pub IsMarkingKept-begun : (h : Heap) (issued : List Issued) (table : List (Option TableRow)) (refs : List (ℕ × ℕ)) (mirror : Option Mirror) (number : ℕ) (by : Thread) → IsHeapKept h → AreReferencesKept h issued refs mirror
+pub IsMarkingKept-begun : (h : Heap) (issued : List Issued) (table : List (Option TableRow)) (refs : List (End × End)) (mirror : Option Mirror) (number : ℕ) (by : Thread) → IsHeapKept h → AreReferencesKept h issued refs mirror
     → IsMarkingKept h issued table refs (record { number = number; by = by; heap = h; refs = refs; strong_peers = strong_peers issued table; brought = []; blackened = 0 })
 IsMarkingKept-begun h issued table refs mirror number by heap r = record {
   made = omega arith;

@@ -14,7 +14,7 @@ use Rattle.joint_model.specs.declared.events.Made.{Made}
 use Rattle.joint_model.specs.Heaps.{IsMade, answer, slot, place, is_full, next_number, numbered_at, with_var}
 use Rattle.joint_model.specs.Lines.{IsEvent, is_peer_event}
 use Rattle.joint_model.specs.Linked.{Linkage, MayCome, SideLawful, linkage_after, managed_after}
-use Rattle.joint_model.specs.Managed.{Managed, OpenCycle, Holds, IsManagedRoot, managed_name, with_row, adopted, twin_met, twin_kind, twin_fields, met, given_up, without_handle, managed_line, with_snapshot, resolved, abandoned}
+use Rattle.joint_model.specs.Managed.{Managed, OpenCycle, Holds, IsManagedRoot, managed_name, with_row, adopted, twin_met, twin_kind, twin_fields, met, given_up, without_handle, managed_line, with_snapshot, resolved, abandoned, candidates_of}
 use Rattle.joint_model.specs.ManagedReplay.{ManagedReplay, registered, managed_answer, ManagedAllows}
 use Rattle.joint_model.specs.Run.{thread_number}
 use Rattle.joint_model.specs.Told.{Told, Noted, nothing, snap_of, contraction_of, resolution_of, phase_of}
@@ -25,6 +25,7 @@ use Rattle.joint_model.proofs.HeapLemmas.{adopt_by-managed}
 use Rattle.joint_laws.proofs.ManagedMoves.{met_by}
 use Rattle.joint_laws.proofs.ManagedSteps.{meet_by-managed, give_by-managed}
 use Rattle.joint_laws.proofs.Adopting.{managed_line-same}
+use Rattle.joint_laws.proofs.Renewing.{renewed-length}
 
 pub Contains-set_there : {A : Type 0} (xs : List A) (i : ℕ) (x : A) → i < length xs → Contains (set xs i x) x
 Contains-set_there xs i x l = Contains-at (set xs i x) i x (set-at_here xs i x l)
@@ -40,6 +41,9 @@ module _ (m : Managed) (k : IsManagedKept m) where
 
   named-same : (n : Managed) → n.held ≡ m.held → NewNamed m n
   named-same n e x h new q = absurd (new (held-made x h (subst (λ z. numbered_at z x ≡ Some (Some h)) e q)))
+
+  named-as-many : (n : Managed) → length n.held ≡ length m.held → NewNamed m n
+  named-as-many n e x h new q = absurd (new (let w = numbered-within n.held x (Some h) q in (w.0, omega (arith, w.1, e, k.places))))
 
   named-row : (v : ℕ) (kind : Kind) (n : ℕ) (o : Option ℕ) → v < 72 → NewNamed m (with_row m v kind n o)
   named-row v kind n o l x h new q = elim (numbered-push_cases m.held o x (Some h) q) [
@@ -91,8 +95,8 @@ named-answer r k t (op.Give v) told e w =
     let u = place (thread_number t) v.0 in
     named-as r.managed (given_up r.managed u).state _ (give_by-managed r (slot r.managed.heap.vars u) (given_up r.managed u)) (named-without r.managed k.managed (slot r.managed.heap.vars u))
 named-answer r k t (op.Snap n) (snap_of freed candidates dead) e w = named-same r.managed k.managed (with_snapshot r.managed freed candidates dead) refl
-named-answer r k t (op.Contract n) (contraction_of comps xrefs) e w = named-same r.managed k.managed r.managed refl
-named-answer r k t (op.Resolve n) (resolution_of alive freed) e w = named-same r.managed k.managed (resolved r.managed freed) refl
+named-answer r k t (op.Contract n) (contraction_of comps heavy xrefs) e w = named-same r.managed k.managed r.managed refl
+named-answer r k t (op.Resolve n) (resolution_of alive freed) e w = named-as-many r.managed k.managed (resolved r.managed alive freed) (renewed-length r.managed.held (candidates_of r.managed) alive)
 named-answer r k t (op.Abandon n) nothing e w = named-same r.managed k.managed (abandoned r.managed) refl
 named-answer r k t (op.Refused y) (phase_of phase) e w = named-same r.managed k.managed r.managed refl
 named-answer r k t _ _ e w = absurd w

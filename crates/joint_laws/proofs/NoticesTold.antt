@@ -127,7 +127,7 @@ answer-go r t (op.Give v) told =
     go-as r.managed (given_up r.managed u).state _ (give_by-managed r (slot r.managed.heap.vars u) (given_up r.managed u)) (give-keeps r.managed (slot r.managed.heap.vars u))
 answer-go r t (op.Snap k) (snap_of freed candidates dead) = go-same _ _ (record { notices = refl; taken = refl })
 answer-go r t (op.Snap k) told = go-same _ _ (same r.managed)
-answer-go r t (op.Contract k) (contraction_of comps xrefs) = go-same _ _ (same r.managed)
+answer-go r t (op.Contract k) (contraction_of comps heavy xrefs) = go-same _ _ (same r.managed)
 answer-go r t (op.Contract k) told = go-same _ _ (same r.managed)
 answer-go r t (op.Resolve k) (resolution_of alive freed) = record {
   grows = (_, refl);

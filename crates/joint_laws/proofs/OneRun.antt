@@ -1,5 +1,5 @@
 -- A list of entries has one run at most: each entry leaves the joint machine in one state.
-use Rattle.std.proofs.Common.{◌≡◌, inl, inr, ◌⊎◌, List, [], ◌∷◌, map, Option, Some, None, refl, sym, subst, ◌∙◌}
+use Rattle.std.proofs.Common.{◌≡◌, ℕ, ap, inl, inr, ◌⊎◌, List, [], ◌∷◌, map, Option, Some, None, refl, sym, subst, ◌∙◌}
 use Rattle.joint_model.specs.declared.names.Cycle.{Cycle}
 use Rattle.joint_model.specs.declared.names.Thread.{Thread}
 use Rattle.joint_model.specs.declared.names.Thread.TheVariants.{M, P, C}
@@ -8,7 +8,10 @@ use Rattle.joint_model.specs.declared.events.Op.TheVariants as op
 use Rattle.joint_model.specs.declared.events.Reply.{Reply}
 use Rattle.joint_model.specs.Joint.{Joint, JointMarking, opening}
 use Rattle.joint_model.specs.Lines.{IsPeerThread}
-use Rattle.joint_model.specs.Run.{Moment, JointStep, JointEvent, JointBegin, JointSweep, IsRunFrom, IsRun}
+use Rattle.joint_model.specs.Run.{Moment, JointStep, JointEvent, JointBegin, JointSweep, JointRestore, joint_restored, IsRunFrom, IsRun}
+use Rattle.joint_model.specs.Joint.{with_managed}
+use Rattle.joint_model.specs.Managed.{resolved}
+use Rattle.std.proofs.lemmas.Option.{same_Some}
 use Rattle.joint_model.specs.Told.{Told, snap_of, sweep_of, resolution_of, Noted}
 
 -- each event leaves one state
@@ -34,14 +37,29 @@ one-snap : (j : Joint) (t : Thread) (k : Cycle) (reply : Reply) (told : Told) (a
 one-snap j t k reply (snap_of freed candidates dead) a c x y = x.state ∙ sym y.state
 one-snap j t k reply _ a c x y = absurd x
 
+-- two lists are one where they are one with each element as an option
+Some-lists : {A : Type 0} (xs ys : List A) → map Some xs ≡ map Some ys → xs ≡ ys
+Some-lists [] [] e = refl
+Some-lists [] (y ∷ ys) e = absurd (cc)
+Some-lists (x ∷ xs) [] e = absurd (cc)
+Some-lists (x ∷ xs) (y ∷ ys) e = (let h : x ≡ y = cc in let t : map Some xs ≡ map Some ys = cc in λ k. h k ∷ Some-lists xs ys t k)
+
+one-restore : (j : Joint) (h : ℕ) (reply : Reply) (a c : Joint) → JointRestore j h reply a → JointRestore j h reply c → a ≡ c
+one-restore j h reply a c x y =
+    let same : x.peer ≡ y.peer = same_Some x.peer y.peer (sym x.leads ∙ y.leads) in
+    x.state ∙ (ap (λ z. (joint_restored j h z).state) same ∙ sym y.state)
+
 one-resolve : (j : Joint) (t : Thread) (k : Cycle) (reply : Reply) (told : Told) (a c : Joint) → JointEvent j t (op.Resolve k) reply told a → JointEvent j t (op.Resolve k) reply told c → a ≡ c
-one-resolve j t k reply (resolution_of alive freed) a c x y = x.state ∙ sym y.state
+one-resolve j t k reply (resolution_of alive freed) a c x y =
+    let same : x.answers ≡ y.answers = Some-lists x.answers y.answers (sym x.all_answered ∙ y.all_answered) in
+    x.state ∙ (ap (λ z. record (with_managed j (resolved j.graph.managed z freed)) { answers = [] }) same ∙ sym y.state)
 one-resolve j t k reply _ a c x y = absurd x
 
 one-event : (j : Joint) (t : Thread) (o : Op) (reply : Reply) (told : Told) (a c : Joint) → JointEvent j t o reply told a → JointEvent j t o reply told c → a ≡ c
 one-event j t (op.Snap k) reply told a c x y = one-snap j t k reply told a c x y
 one-event j t op.Begin reply told a c x y = one-begin j j.marking t reply a c x y
 one-event j t op.Sweep reply told a c x y = one-sweep j j.marking t reply told a c x y
+one-event j t (op.Restore h) reply told a c x y = one-restore j h.0 reply a c x y
 one-event j t (op.Resolve k) reply told a c x y = one-resolve j t k reply told a c x y
 one-event j t (op.Abandon k) reply told a c x y = x.state ∙ sym y.state
 one-event j t _ reply told a c x y = x.state ∙ sym y.state

@@ -6,9 +6,9 @@ use Rattle.std.proofs.lemmas.Bool.{cases_eq}
 use Rattle.std.proofs.lemmas.Option.{same_Some}
 use Rattle.std.proofs.lemmas.List.Elements.{Contains-append_left, Contains-push, Contains-push_cases}
 use Rattle.joint_model.specs.declared.names.Kind.{Kind}
-use Rattle.joint_model.specs.Control.{Doing, candidates_of}
+use Rattle.joint_model.specs.Control.{Doing}
 use Rattle.joint_model.specs.Heaps.{numbered_at, numbered_set, slot}
-use Rattle.joint_model.specs.Managed.{OpenCycle, Holds, IsManagedRoot}
+use Rattle.joint_model.specs.Managed.{OpenCycle, Holds, IsManagedRoot, candidates_of}
 use Rattle.joint_model.specs.ManagedReplay.{ManagedReplay, without_twins}
 use Rattle.joint_model.specs.Peers.{Issued, strong}
 use Rattle.joint_model.specs.PeerReplay.{PeerReplay}

@@ -2,7 +2,7 @@
 -- what a staying peer leads to, by an edge of the begin or to a spared peer, is spared too, and so is what a slot names and
 -- what a strong handle leads to. A mirror brings references between unfreed and safe peers alone, which the driver's order
 -- gives.
-use Rattle.std.proofs.Common.{◌≡◌, ℕ, ◌+◌, ◌-◌, inl, inr, Bool, true, false, ◌||◌, List, [], length, Option, Some, None, refl, sym, ap, subst}
+use Rattle.std.proofs.Common.{◌≡◌, ℕ, ◌+◌, ◌-◌, inl, inr, Bool, true, false, ◌||◌, List, [], length, Option, Some, None, refl, ap, subst, ◌∙◌, ◌++◌, ◌∷◌}
 use Rattle.std.specs.Prelude.{Contains, if◌then◌else◌, min, nat_lt}
 use Rattle.std.proofs.lemmas.Option.{same_Some}
 use Rattle.std.proofs.lemmas.List.Elements.{Contains-append_left, Contains-append_right, Contains-append_cases}
@@ -13,22 +13,24 @@ use Rattle.joint_model.specs.declared.events.Op.{Op}
 use Rattle.joint_model.specs.declared.events.Op.TheVariants as op
 use Rattle.joint_model.specs.declared.events.Reply.TheVariants as says
 use Rattle.joint_model.specs.Heaps.{IsLive, answer, slot, is_full, fields_of, numbered_at, numbered_set, with_freed}
-use Rattle.joint_model.specs.Peers.{Issued, held, strong, weak, peer_of, handles_full}
-use Rattle.joint_model.specs.PeerReplay.{PeerReplay, TableRow, Marking, row_of, table_target, is_thread, sliced, begun, swept_of, swept, restored_by, mirrored, peer_answer, IsSweep, SweepAllows, PeerAllows, brought_handle, with_restored, with_weakened, Refers}
+use Rattle.joint_model.specs.Peers.{Issued, held, strong, weak, peer_of, next_handle, with_renewed, handles_full}
+use Rattle.joint_model.specs.PeerReplay.{PeerReplay, TableRow, Marking, row_of, table_target, is_thread, sliced, begun, swept_of, swept, restored_by, mirrored, peer_answer, IsSweep, SweepAllows, PeerAllows, brought_to, withdrawn, given_anew, fresh_row, with_restored, with_given, with_weakened, Refers}
 use Rattle.joint_model.specs.Run.{thread_number}
 use Rattle.joint_model.specs.Told.{Told, nothing, references_of, slice_of, sweep_of}
 use Rattle.joint_laws.specs.PeerInvariants.{IsTabled, IsIssued, IsMarkingKept, IsPeerKept}
-use Rattle.joint_model.proofs.Members.{Contains-nil}
 use Rattle.joint_model.proofs.Numbered.{slot-named}
 use Rattle.joint_model.proofs.Deciding.{none_some}
 use Rattle.joint_laws.proofs.HeapKeeping.{IsHeapKept-freed}
 use Rattle.joint_laws.proofs.HandleKeeping.{AreHandlesKept-swept}
-use Rattle.joint_laws.proofs.ReferenceKeeping.{WasHeld, AreReferencesKept-none, AreReferencesKept-weakened, AreReferencesKept-restored, AreReferencesKept-mirrored}
+use Rattle.joint_laws.proofs.ReferenceKeeping.{WasHeld, AreReferencesKept-none, AreReferencesKept-weakened, AreReferencesKept-restored, AreReferencesKept-given, AreReferencesKept-mirrored}
 use Rattle.joint_laws.proofs.MarkingKeeping.{IsMarkingKept-references, IsMarkingKept-later, IsMarkingKept-begun}
 use Rattle.joint_laws.proofs.Sparing.{spared-next, spared-stays, stays-spared}
-use Rattle.joint_laws.proofs.PeerMoves.{IsSafe, kept-gone, kept-reset, kept-brought, brought-safe, kept-mirror}
+use Rattle.joint_laws.proofs.PeerMoves.{IsSafe, kept-gone, kept-reset, kept-issue, kept-brought, brought-safe, kept-mirror}
+use Rattle.joint_laws.proofs.Restores.{restored-cases}
 use Rattle.joint_laws.proofs.PeerEvents.{pair-event, grip-event, land-event, line-event}
 use Rattle.joint_model.proofs.HeapLemmas.{same_thread}
+use Rattle.joint_model.specs.Components.{End}
+use Rattle.joint_laws.proofs.Through.{Refers-none}
 
 -- the references that a mirror brings join unfreed and safe peers; the driver's order gives this
 abbrev pub MirrorsSafely : PeerReplay → Op → Told → Type 0
@@ -120,10 +122,6 @@ swept-told s (Some mk) (P n) nothing k e w = swept-by s mk [] (is_thread (P n) C
 swept-told s (Some mk) t told k e w = absurd w
 
 -- a restore, by the handle's row
-brought-handle : (s : PeerReplay) (o : Option ℕ) → IsPeerKept s → IsPeerKept (record s { marking = brought_handle s.marking o })
-brought-handle s None k = k
-brought-handle s (Some p) k = kept-brought s p k
-
 pub peer_of-issued : (issued : List Issued) (n : ℕ) (i : Issued) → IsIssued issued n i → peer_of issued n ≡ Some i.peer
 peer_of-issued issued n i e = by (numbered_at issued n) e
   where
@@ -131,23 +129,29 @@ peer_of-issued issued n i e = by (numbered_at issued n) e
     by None q = absurd (none_some i q)
     by (Some j) q = ap (λ (z : Issued). Some z.peer) (same_Some j i q)
 
-restored-row : (s : PeerReplay) (h : ℕ) (row : TableRow) (j : Issued) (b : Bool) → IsPeerKept s → row.cleared ≡ b → IsTabled s.table h row → IsIssued s.peers.issued h j → j.hold ≡ held
-    → IsPeerKept (if b
-    then answer says.Cleared (record s { table = numbered_set s.table h None; mirror = with_restored s.mirror h })
-    else answer says.Alive (record s { table = numbered_set s.table h (Some (record row { strength = strong })); mirror = with_restored s.mirror h; marking = brought_handle s.marking (peer_of s.peers.issued h) })).state
-restored-row s h row j true k e t p hold =
-    kept-mirror (record s { table = numbered_set s.table h None }) (with_restored s.mirror h) (kept-gone s h k) (AreReferencesKept-restored s.peers.heap s.peers.issued s.refs s.mirror h k.references)
-restored-row s h row j false k e t p hold =
-    let back : PeerReplay = record s { marking = brought_handle s.marking (peer_of s.peers.issued h) } in
-    let strong_row : TableRow = record row { strength = strong } in
-    let safe : IsSafe back j.peer = subst (λ o. IsSafe (record s { marking = brought_handle s.marking o }) j.peer) (sym (peer_of-issued s.peers.issued h j p)) (brought-safe s j.peer k) in
-    kept-mirror (record back { table = numbered_set s.table h (Some strong_row) }) (with_restored s.mirror h)
-    (kept-reset back h row strong_row j (brought-handle s (peer_of s.peers.issued h) k) t p hold refl (λ q. e) (λ q. safe))
-    (AreReferencesKept-restored s.peers.heap s.peers.issued s.refs s.mirror h k.references)
+-- the handle leaves the table
+withdrawn-kept : (s : PeerReplay) (h : ℕ) → IsPeerKept s → IsPeerKept (withdrawn s h)
+withdrawn-kept s h k = kept-mirror (record s { table = numbered_set s.table h None }) (with_restored s.mirror h) (kept-gone s h k) (AreReferencesKept-restored s.peers.heap s.peers.issued s.refs s.mirror h k.references)
 
-restored-kept : (s : PeerReplay) (h : ℕ) (o : Option TableRow) → IsPeerKept s → row_of s h ≡ o → WasHeld s.peers.issued h → IsPeerKept (restored_by s h o).state
-restored-kept s h None k e w = k
-restored-kept s h (Some row) k e w = restored-row s h row w.0 row.cleared k refl (slot-named (numbered_at s.table h) row e) w.1 w.2
+-- a new handle comes into it, on an unfreed peer, which is brought back
+anew-kept : (s : PeerReplay) (p : ℕ) → IsPeerKept s → IsLive s.peers.heap p → IsPeerKept (given_anew s p)
+anew-kept s p k l =
+    let new : Issued = record { peer = p; hold = held; strength = strong } in
+    let back : PeerReplay = record s { marking = brought_to s.marking p } in
+    let made : PeerReplay = record back { peers = with_renewed s.peers p; table = s.table ++ fresh_row new ∷ [] } in
+    let issued : IsPeerKept made = kept-issue back new (kept-brought s p k) l (brought-safe s p k) in
+    kept-mirror made (with_given s.mirror (next_handle s.peers)) issued (AreReferencesKept-given s.peers.heap (s.peers.issued ++ new ∷ []) s.refs s.mirror (next_handle s.peers) issued.references)
+
+pub peer_of-live : (s : PeerReplay) (h p : ℕ) (row : TableRow) → IsPeerKept s → IsTabled s.table h row → row.cleared ≡ false → peer_of s.peers.issued h ≡ Some p → IsLive s.peers.heap p
+peer_of-live s h p row k t e f = by (numbered_at s.peers.issued h) refl f
+  where
+    by : (o : Option Issued) → numbered_at s.peers.issued h ≡ o → elim o [ None ↦ None | Some j ↦ Some j.peer ] ≡ Some p → IsLive s.peers.heap p
+    by None q g = absurd (none_some p g)
+    by (Some j) q g = subst (IsLive s.peers.heap) (same_Some j.peer p g) (k.handles.uncleared h row j t q e)
+
+restored-kept : (s : PeerReplay) (h : ℕ) (o : Option TableRow) → IsPeerKept s → row_of s h ≡ o → IsPeerKept (restored_by s h o).state
+restored-kept s h o k e = restored-cases (λ a. IsPeerKept a.state) s h o (λ f. k) (λ row f g. withdrawn-kept s h k) (λ f. withdrawn-kept s h k)
+    (λ row p f g q. anew-kept (withdrawn s h) p (withdrawn-kept s h k) (peer_of-live s h p row k (slot-named (numbered_at s.table h) row (e ∙ f)) g q))
 
 -- a handle is weakened
 weakened-kept : (s : PeerReplay) (h : ℕ) → IsPeerKept s → WasHeld s.peers.issued h → row_of s h ≡ Some record { strength = strong; cleared = false }
@@ -159,7 +163,7 @@ weakened-kept s h k w e =
     (AreReferencesKept-weakened s.peers.heap s.peers.issued s.refs s.mirror h k.references w)
 
 -- references come to stand, and go
-mirrored-kept : (s : PeerReplay) (k : ℕ) (cites : Option ℕ) (refs : List (ℕ × ℕ)) → IsPeerKept s → ((p q : ℕ) → Refers refs p q → IsLive s.peers.heap p × IsLive s.peers.heap q × IsSafe s q) → IsPeerKept (mirrored s k cites refs)
+mirrored-kept : (s : PeerReplay) (k : ℕ) (cites : Option ℕ) (refs : List (End × End)) → IsPeerKept s → ((p q : ℕ) → Refers refs p q → IsLive s.peers.heap p × IsLive s.peers.heap q × IsSafe s q) → IsPeerKept (mirrored s k cites refs)
 mirrored-kept s k None refs kept w = kept
 mirrored-kept s k (Some snap) refs kept w = record {
   heap = kept.heap;
@@ -173,7 +177,7 @@ cleared-kept s k = record {
   heap = k.heap;
   handles = k.handles;
   references = AreReferencesKept-none s.peers.heap s.peers.issued;
-  marking = λ mk e. IsMarkingKept-references s.peers.heap s.peers.issued s.table s.refs mk (k.marking mk e) [] (λ p q c. absurd (Contains-nil (p, q) c));
+  marking = λ mk e. IsMarkingKept-references s.peers.heap s.peers.issued s.table s.refs mk (k.marking mk e) [] (λ p q c. absurd (Refers-none p q c));
 }
 
 pub IsPeerKept-step : (s : PeerReplay) (t : Thread) (o : Op) (cites : Option ℕ) (told : Told) → IsPeerKept s → PeerAllows s t o cites told → MirrorsSafely s o told → IsPeerKept (peer_answer s t o cites told).state
@@ -190,7 +194,7 @@ IsPeerKept-step s t (op.Weaken h) cites _ k w m = absurd w
 IsPeerKept-step s t op.Begin cites told k w m = begun-kept s s.marking t k refl
 IsPeerKept-step s t op.Sweep cites (sweep_of freed) k w m = swept-told s s.marking t (sweep_of freed) k refl w
 IsPeerKept-step s t op.Sweep cites told k w m = swept-told s s.marking t told k refl w
-IsPeerKept-step s t (op.Restore h) cites nothing k w m = restored-kept s h.0 (row_of s h.0) k refl (k.references.weakened w.mirror h.0 w.stands w.weakened)
+IsPeerKept-step s t (op.Restore h) cites nothing k w m = restored-kept s h.0 (row_of s h.0) k refl
 IsPeerKept-step s t (op.Restore h) cites _ k w m = absurd w
 IsPeerKept-step s t (op.Clear n) cites told k w m = cleared-kept s k
 IsPeerKept-step s t _ cites told k w m = k

@@ -1,6 +1,6 @@
 -- The peer side stays kept at the events of its threads' lines, and at those that make, grip and land: each is made up of
 -- small changes.
-use Rattle.std.proofs.Common.{◌≡◌, ℕ, inl, inr, Bool, true, false, [], ◌∷◌, ◌++◌, map, Option, Some, None, set, refl, subst}
+use Rattle.std.proofs.Common.{◌≡◌, ℕ, ◌+◌, inl, inr, Bool, true, false, [], ◌∷◌, ◌++◌, map, Option, Some, None, set, refl, subst}
 use Rattle.std.specs.Prelude.{if◌then◌else◌}
 use Rattle.std.proofs.lemmas.Option.{same_Some}
 use Rattle.joint_model.specs.declared.names.Sort.{Sort}
@@ -17,7 +17,7 @@ use Rattle.joint_laws.specs.PeerInvariants.{IsIssued, IsPeerKept}
 use Rattle.joint_model.proofs.Numbered.{slot-Contains, slot-named, numbered-push_new}
 use Rattle.joint_model.proofs.Deciding.{none_some}
 use Rattle.joint_laws.proofs.HeapMoves.{HasMoved, copied-moved, field_set-moved, field_got-moved, dropped-moved, loaded-moved, stored-moved}
-use Rattle.joint_laws.proofs.PeerMoves.{in_reach-safe, kept-heap, kept-peer, new-live, new-safe, kept-var, kept-static, kept-issue, kept-name, kept-gone, kept-brought, brought-safe, on_table-still, on_table-issued}
+use Rattle.joint_laws.proofs.PeerMoves.{in_reach-safe, kept-heap, kept-peer, new-live, new-safe, kept-var, kept-static, kept-issue, kept-counted, kept-name, kept-gone, kept-brought, brought-safe, on_table-still, on_table-issued}
 
 -- an operation of the heap
 heap-event : (s : PeerReplay) (g : Heap) → IsPeerKept s → HasMoved s.peers.heap g → IsPeerKept (record s { peers = record s.peers { heap = g }; table = s.table ++ map fresh_row (issued_since s.peers (record s.peers { heap = g })) })
@@ -42,14 +42,16 @@ pair-event s sort n true k = stay-event s says.Full k
 pair-event s sort n false k =
     let grown : PeerReplay = record s { peers = with_peer s.peers sort n } in
     let new : Issued = record { peer = next_number s.peers.heap; hold = held; strength = strong } in
-    on_table-issued s (with_handle (with_peer s.peers sort n) (next_number s.peers.heap) held strong) new refl (kept-issue grown new (kept-peer s sort n k) (new-live s n k) (new-safe s k))
+    on_table-issued s (with_handle (with_peer s.peers sort n) (next_number s.peers.heap) held strong) new refl
+    (kept-counted (record s { peers = record (with_handle (with_peer s.peers sort n) (next_number s.peers.heap) held strong) { made = s.peers.made }; table = s.table ++ fresh_row new ∷ [] }) (s.peers.made + 1) (kept-issue grown new (kept-peer s sort n k) (new-live s n k) (new-safe s k)))
 
 -- a held strong handle on the peer in a static
 grip-by : (s : PeerReplay) (p : ℕ) (b : Bool) (r : Reply) → IsPeerKept s → InSlot s.peers.heap p → IsPeerKept (on_table s (if b then answer says.Full s.peers else answer r (with_handle s.peers p held strong))).state
 grip-by s p true r k i = stay-event s says.Full k
 grip-by s p false r k i =
     let new : Issued = record { peer = p; hold = held; strength = strong } in
-    on_table-issued s (with_handle s.peers p held strong) new refl (kept-issue s new k (k.heap.slots p i) (in_reach-safe s p k (inl i)))
+    on_table-issued s (with_handle s.peers p held strong) new refl
+    (kept-counted (record s { peers = record (with_handle s.peers p held strong) { made = s.peers.made }; table = s.table ++ fresh_row new ∷ [] }) (s.peers.made + 1) (kept-issue s new k (k.heap.slots p i) (in_reach-safe s p k (inl i))))
 
 pub grip-event : (s : PeerReplay) (x : ℕ) (o : Option ℕ) → IsPeerKept s → slot s.peers.heap.statics x ≡ o → IsPeerKept (on_table s (peer_gripped s.peers o)).state
 grip-event s x None k e = stay-event s says.Null k
@@ -63,7 +65,7 @@ name-by s g p strength false k i =
     let new : Issued = record { peer = p; hold = raw; strength = strength } in
     let grown : PeerReplay = record s { peers = with_handle s.peers p raw strength; table = s.table ++ Some record { strength = strength; cleared = false } ∷ [] } in
     on_table-issued s (record (with_handle s.peers p raw strength) { names = set s.peers.names g (Some (next_handle s.peers)) }) new refl
-    (kept-name grown g (Some (next_handle s.peers)) (kept-issue s new k (k.heap.slots p i) (in_reach-safe s p k (inl i)))
+    (kept-name grown g (Some (next_handle s.peers)) (kept-counted (record s { peers = record (with_handle s.peers p raw strength) { made = s.peers.made }; table = s.table ++ fresh_row new ∷ [] }) (s.peers.made + 1) (kept-issue s new k (k.heap.slots p i) (in_reach-safe s p k (inl i))))
     (λ n e. (new, subst (λ z. IsIssued (s.peers.issued ++ new ∷ []) z new) (same_Some (next_handle s.peers) n e) (numbered-push_new s.peers.issued new), refl)))
 
 given-by : (s : PeerReplay) (g p : ℕ) (strength : Strength) (o : Option ℕ) → IsPeerKept s → InSlot s.peers.heap p → IsPeerKept (on_table s (name_given s.peers g p strength o)).state

@@ -1,38 +1,31 @@
 -- Only a sweep frees peers.
 use Rattle.std.proofs.Common.{◌≡◌, ℕ, ◌⊎◌, inl, inr, Bool, true, false, ◌||◌, List, [], Option, Some, None, refl}
-use Rattle.std.specs.Prelude.{if◌then◌else◌}
 use Rattle.joint_model.specs.declared.names.Thread.{Thread}
 use Rattle.joint_model.specs.declared.lines.Act.TheVariants as act
 use Rattle.joint_model.specs.declared.events.Op.{Op}
 use Rattle.joint_model.specs.declared.events.Op.TheVariants as op
-use Rattle.joint_model.specs.declared.events.Reply.TheVariants as says
 use Rattle.joint_model.specs.declared.events.Made.{Made}
-use Rattle.joint_model.specs.Heaps.{answer, slot, is_full, numbered_set}
+use Rattle.joint_model.specs.Heaps.{slot, is_full}
 use Rattle.joint_model.specs.Lines.{is_peer_event}
 use Rattle.joint_model.specs.Linked.{Linkage, linkage_after, peer_after}
-use Rattle.joint_model.specs.Peers.{strong, peer_of, handles_full}
-use Rattle.joint_model.specs.PeerReplay.{PeerReplay, TableRow, row_of, restored_by, mirrored, brought_handle, peer_answer, table_target, with_restored}
+use Rattle.joint_model.specs.Peers.{handles_full}
+use Rattle.joint_model.specs.PeerReplay.{PeerReplay, TableRow, row_of, restored_by, mirrored, peer_answer, table_target}
 use Rattle.joint_model.specs.Run.{thread_number}
 use Rattle.joint_model.specs.Told.{Told, Noted, references_of, slice_of}
 use Rattle.joint_laws.specs.PeerInvariants.{IsPeerKept}
 use Rattle.joint_laws.proofs.PeerQuietEvents.{quiet-line, quiet-pair, quiet-grip, quiet-land, quiet-begun, quiet-sliced}
+use Rattle.joint_model.specs.Components.{End}
+use Rattle.joint_laws.proofs.Restores.{restored-any}
 
 abbrev pub SameFreed : PeerReplay → PeerReplay → Type 0
 SameFreed s t = t.peers.heap.freed ≡ s.peers.heap.freed
 
-mirrored-freed : (s : PeerReplay) (n : ℕ) (cites : Option ℕ) (refs : List (ℕ × ℕ)) → SameFreed s (mirrored s n cites refs)
+mirrored-freed : (s : PeerReplay) (n : ℕ) (cites : Option ℕ) (refs : List (End × End)) → SameFreed s (mirrored s n cites refs)
 mirrored-freed s n None refs = refl
 mirrored-freed s n (Some snap) refs = refl
 
 restored-freed : (s : PeerReplay) (h : ℕ) (x : Option TableRow) → SameFreed s (restored_by s h x).state
-restored-freed s h None = refl
-restored-freed s h (Some row) = by row.cleared
-  where
-    by : (b : Bool) → SameFreed s (if b
-        then answer says.Cleared (record s { table = numbered_set s.table h None; mirror = with_restored s.mirror h })
-        else answer says.Alive (record s { table = numbered_set s.table h (Some (record row { strength = strong })); mirror = with_restored s.mirror h; marking = brought_handle s.marking (peer_of s.peers.issued h) })).state
-    by true = refl
-    by false = refl
+restored-freed s h x = restored-any (λ a. SameFreed s a.state) s h x refl refl (λ p. refl)
 
 peer-freed : (s : PeerReplay) (k : IsPeerKept s) (t : Thread) (o : Op) (cites : Option ℕ) (told : Told) → (o ≡ op.Sweep → ⊥) → SameFreed s (peer_answer s t o cites told).state
 peer-freed s k t (op.Line (act.Slice n)) cites (slice_of closure) no_sweep = (quiet-sliced (λ h. ⊥) s s.marking t n closure refl).freed

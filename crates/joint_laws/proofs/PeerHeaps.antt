@@ -15,12 +15,12 @@ use Rattle.joint_model.specs.declared.events.Op.TheVariants as op
 use Rattle.joint_model.specs.declared.events.Reply.{Reply}
 use Rattle.joint_model.specs.declared.events.Reply.TheVariants as says
 use Rattle.joint_model.specs.declared.events.Made.{Made}
-use Rattle.joint_model.specs.Heaps.{Heap, IsMade, IsLive, InSlot, Answered, answer, slot, place, fields_of, is_full, next_number, numbered_set, with_var, with_static, with_object, with_freed}
+use Rattle.joint_model.specs.Heaps.{Heap, IsMade, IsLive, InSlot, Answered, answer, slot, place, fields_of, is_full, next_number, with_var, with_static, with_object, with_freed}
 use Rattle.joint_model.specs.Lines.{is_peer_event}
 use Rattle.joint_model.specs.Linked.{Linkage, linkage_after, peer_after}
 use Rattle.joint_model.specs.Managed.{place_or_none}
-use Rattle.joint_model.specs.Peers.{Peers, Strength, strong, weak, held, raw, peer_name, with_peer, with_handle, peer_gripped, landed, name_given, peer_read, peer_line, peer_of, handle_name, next_handle, sort_of, handles_full}
-use Rattle.joint_model.specs.PeerReplay.{PeerReplay, TableRow, Marking, row_of, on_table, bring_by, peer_thread_line, is_thread, sliced, begun, swept_of, swept, restored_by, mirrored, brought_handle, peer_answer, table_target, with_restored}
+use Rattle.joint_model.specs.Peers.{Peers, Strength, strong, weak, held, raw, peer_name, with_peer, with_handle, peer_gripped, landed, name_given, peer_read, peer_line, handle_name, next_handle, sort_of, handles_full}
+use Rattle.joint_model.specs.PeerReplay.{PeerReplay, TableRow, Marking, row_of, on_table, bring_by, peer_thread_line, is_thread, sliced, begun, swept_of, swept, restored_by, mirrored, peer_answer, table_target}
 use Rattle.joint_model.specs.Run.{thread_number}
 use Rattle.joint_model.specs.Told.{Told, Noted, references_of, slice_of, sweep_of}
 use Rattle.joint_laws.proofs.Fields.{with_object-old, with_object-length}
@@ -28,6 +28,8 @@ use Rattle.joint_laws.proofs.HeapMoves.{HasMoved, copied-moved, field_set-moved,
 use Rattle.joint_laws.proofs.HeapKeeping.{object-field, object-was_live, moved-was_live}
 use Rattle.joint_laws.proofs.JointSteps.{bring-peers}
 use Rattle.joint_laws.proofs.PeerEvents.{globalised_by, freed_by, read_by}
+use Rattle.joint_model.specs.Components.{End}
+use Rattle.joint_laws.proofs.Restores.{restored-any}
 
 pub record HeapGoes (h k : Heap) : Type 0 where
   pub vars : length k.vars ≡ length h.vars
@@ -167,19 +169,12 @@ module _ (s : PeerReplay) where
       by true = goes-freed s.peers.heap freed
       by false = goes-stay s.peers.heap
 
-  mirrored-goes : (n : ℕ) (cites : Option ℕ) (refs : List (ℕ × ℕ)) → Goes s (mirrored s n cites refs)
+  mirrored-goes : (n : ℕ) (cites : Option ℕ) (refs : List (End × End)) → Goes s (mirrored s n cites refs)
   mirrored-goes n None refs = goes-stay s.peers.heap
   mirrored-goes n (Some snap) refs = goes-stay s.peers.heap
 
   restored-goes : (h : ℕ) (o : Option TableRow) → Goes s (restored_by s h o).state
-  restored-goes h None = goes-stay s.peers.heap
-  restored-goes h (Some row) = by row.cleared
-    where
-      by : (b : Bool) → Goes s (if b
-          then answer says.Cleared (record s { table = numbered_set s.table h None; mirror = with_restored s.mirror h })
-          else answer says.Alive (record s { table = numbered_set s.table h (Some (record row { strength = strong })); mirror = with_restored s.mirror h; marking = brought_handle s.marking (peer_of s.peers.issued h) })).state
-      by true = goes-stay s.peers.heap
-      by false = goes-stay s.peers.heap
+  restored-goes h o = restored-any (λ a. Goes s a.state) s h o (goes-stay s.peers.heap) (goes-stay s.peers.heap) (λ p. goes-stay s.peers.heap)
 
   pub peer-goes : (t : Thread) (o : Op) (cites : Option ℕ) (told : Told) → Goes s (peer_answer s t o cites told).state
   peer-goes t (op.Line (act.Slice n)) cites (slice_of closure) = sliced-goes s.marking t n closure

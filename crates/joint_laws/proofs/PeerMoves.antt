@@ -104,6 +104,10 @@ kept-issue s new k l safe = record {
       | inr w ↦ subst (λ (z : Issued). IsSpared mk z.peer) w.1 (safe mk e)
     ]
 
+-- how many handles were made doesn't matter
+pub kept-counted : (s : PeerReplay) (n : ℕ) → IsPeerKept s → IsPeerKept (record s { peers = record s.peers { made = n } })
+kept-counted s n k = record { heap = k.heap; handles = k.handles; references = k.references; marking = k.marking }
+
 -- a name comes to have a raw handle, or none
 pub kept-name : (s : PeerReplay) (g : ℕ) (o : Option ℕ) → IsPeerKept s → ((n : ℕ) → o ≡ Some n → (i : Issued) × IsIssued s.peers.issued n i × (i.hold ≡ raw)) → IsPeerKept (record s { peers = record s.peers { names = set s.peers.names g o } })
 kept-name s g o k r = record {

@@ -12,15 +12,18 @@ use Rattle.joint_model.specs.declared.events.Op.{Op}
 use Rattle.joint_model.specs.declared.events.Op.TheVariants as op
 use Rattle.joint_model.specs.declared.events.Reply.{Reply}
 use Rattle.joint_model.specs.declared.events.Reply.TheVariants as says
-use Rattle.joint_model.specs.Heaps.{Answered, answer, slot, is_full, numbered_set}
-use Rattle.joint_model.specs.Peers.{Issued, strong, peer_of, handles_full}
-use Rattle.joint_model.specs.PeerReplay.{PeerReplay, TableRow, Marking, row_of, bring_by, untabled, peer_thread_line, is_thread, sliced, begun, swept_of, swept, restored_by, mirrored, brought_to, brought_handle, peer_answer, table_target, with_restored}
+use Rattle.joint_model.specs.Heaps.{Answered, answer, slot, is_full}
+use Rattle.joint_model.specs.Peers.{Issued, handles_full}
+use Rattle.joint_model.specs.PeerReplay.{PeerReplay, TableRow, Marking, row_of, bring_by, untabled, peer_thread_line, is_thread, sliced, begun, swept_of, swept, restored_by, mirrored, brought_to, peer_answer, table_target}
 use Rattle.joint_model.specs.Run.{thread_number}
 use Rattle.joint_model.specs.Told.{Told, references_of, slice_of, sweep_of}
 use Rattle.joint_model.proofs.Deciding.{none_some}
 use Rattle.joint_laws.specs.PeerInvariants.{IsIssued, IsSpared, IsPeerKept}
 use Rattle.joint_laws.proofs.PeerQuietEvents.{quiet-line, quiet-pair, quiet-grip, quiet-land}
 use Rattle.joint_laws.proofs.Sparing.{spared-later, later}
+use Rattle.joint_model.specs.Components.{End}
+use Rattle.joint_laws.proofs.Restores.{restored-any}
+use Rattle.joint_model.proofs.Numbered.{numbered-push_old, numbered-within}
 
 abbrev pub StillSpares : Option Marking → Option Marking → Type 0
 StillSpares x y = (mk now : Marking) → x ≡ Some mk → y ≡ Some now → (p : ℕ) → IsSpared mk p → IsSpared now p
@@ -40,10 +43,6 @@ spares-later m brought black more mk now e f p s = subst (λ z. IsSpared z p) (s
 pub spares-brought : (x : Option Marking) (p : ℕ) → StillSpares x (brought_to x p)
 spares-brought None p = spares-begun None
 spares-brought (Some m) p = spares-later m (m.brought ++ p ∷ []) m.blackened (λ x c. Contains-append_left m.brought (p ∷ []) x c)
-
-spares-handle : (x : Option Marking) (o : Option ℕ) → StillSpares x (brought_handle x o)
-spares-handle x None = spares-same x
-spares-handle x (Some p) = spares-brought x p
 
 bring-spares : (a : Answered PeerReplay) (r : Reply) → StillSpares a.state.marking (bring_by a r).state.marking
 bring-spares a (says.P p) = spares-brought a.state.marking p.0
@@ -85,16 +84,10 @@ module _ (s : PeerReplay) (k : IsPeerKept s) where
       by false = stays-sparing s
 
   restored-on : (h : ℕ) (x : Option TableRow) → GoesOnSparing s (restored_by s h x).state
-  restored-on h None = stays-sparing s
-  restored-on h (Some row) = by row.cleared
-    where
-      by : (b : Bool) → GoesOnSparing s (if b
-          then answer says.Cleared (record s { table = numbered_set s.table h None; mirror = with_restored s.mirror h })
-          else answer says.Alive (record s { table = numbered_set s.table h (Some (record row { strength = strong })); mirror = with_restored s.mirror h; marking = brought_handle s.marking (peer_of s.peers.issued h) })).state
-      by true = record { issued_on = λ g i f. f; spares = spares-same s.marking }
-      by false = record { issued_on = λ g i f. f; spares = spares-handle s.marking (peer_of s.peers.issued h) }
+  restored-on h x = restored-any (λ a. GoesOnSparing s a.state) s h x (stays-sparing s) (record { issued_on = λ g i f. f; spares = spares-same s.marking })
+      (λ p. record { issued_on = λ g i f. numbered-push_old s.peers.issued _ g (numbered-within s.peers.issued g i f).1 ∙ f; spares = spares-brought s.marking p })
 
-  mirrored-on : (n : ℕ) (cites : Option ℕ) (refs : List (ℕ × ℕ)) → GoesOnSparing s (mirrored s n cites refs)
+  mirrored-on : (n : ℕ) (cites : Option ℕ) (refs : List (End × End)) → GoesOnSparing s (mirrored s n cites refs)
   mirrored-on n None refs = stays-sparing s
   mirrored-on n (Some snap) refs = record { issued_on = λ h i f. f; spares = spares-same s.marking }
 

@@ -18,6 +18,7 @@ use Rattle.joint_model.specs.Peers.{Peers, Strength, peer_name, pair_made, peer_
 use Rattle.joint_model.specs.PeerReplay.{PeerReplay, Marking, TableRow, is_thread, sliced, begun, restored_by}
 use Rattle.joint_model.proofs.Deciding.{option-cases, test-cases}
 use Rattle.joint_laws.proofs.ManagedMoves.{met_by}
+use Rattle.joint_laws.proofs.Restores.{restored-any}
 
 abbrev pub IsPlain : Reply → Type 0
 IsPlain (says.Snapped n s) = ⊥
@@ -165,5 +166,4 @@ module _ (s : PeerReplay) where
   begun-plain (Some mk) t = tt
 
   pub restored-plain : (h : ℕ) (x : Option TableRow) → SaysPlain (restored_by s h x)
-  restored-plain h None = tt
-  restored-plain h (Some row) = test-cases SaysPlain row.cleared _ _ tt tt
+  restored-plain h x = restored-any SaysPlain s h x tt tt (λ p. tt)

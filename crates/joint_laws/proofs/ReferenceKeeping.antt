@@ -6,11 +6,13 @@ use Rattle.std.proofs.lemmas.Option.{same_Some}
 use Rattle.std.proofs.lemmas.List.Elements.{Contains-push_cases}
 use Rattle.joint_model.specs.Heaps.{Heap, IsMade, IsLive}
 use Rattle.joint_model.specs.Peers.{Issued, held}
-use Rattle.joint_model.specs.PeerReplay.{Mirror, with_weakened, with_restored, Refers}
+use Rattle.joint_model.specs.PeerReplay.{Mirror, with_weakened, with_restored, with_given, Refers}
 use Rattle.joint_laws.specs.PeerInvariants.{IsIssued, AreReferencesKept}
 use Rattle.joint_model.proofs.Members.{Contains-nil}
 use Rattle.joint_model.proofs.Numbered.{numbered-within, numbered-push_old}
 use Rattle.joint_model.proofs.Deciding.{none_some}
+use Rattle.joint_model.specs.Components.{End}
+use Rattle.joint_laws.proofs.Through.{Refers-none}
 
 -- the handle was issued as a held one
 abbrev pub WasHeld : List Issued → ℕ → Type 0
@@ -22,13 +24,13 @@ WasHeld-push issued new n w = (w.0, numbered-push_old issued new n (numbered-wit
 -- no reference stands
 pub AreReferencesKept-none : (h : Heap) (issued : List Issued) → AreReferencesKept h issued [] None
 AreReferencesKept-none h issued = record {
-  made = λ p q c. absurd (Contains-nil (p, q) c);
-  live = λ p q c l. absurd (Contains-nil (p, q) c);
-  none = λ e p q c. Contains-nil (p, q) c;
+  made = λ p q c. absurd (Refers-none p q c);
+  live = λ p q c l. absurd (Refers-none p q c);
+  none = λ e p q c. Refers-none p q c;
   weakened = λ m n e c. absurd (none_some m e);
 }
 
-pub AreReferencesKept-heap : (h k : Heap) (issued : List Issued) (refs : List (ℕ × ℕ)) (mirror : Option Mirror) → AreReferencesKept h issued refs mirror
+pub AreReferencesKept-heap : (h k : Heap) (issued : List Issued) (refs : List (End × End)) (mirror : Option Mirror) → AreReferencesKept h issued refs mirror
     → ((x : ℕ) → IsMade h x → IsMade k x) → ((x : ℕ) → IsMade h x → IsLive k x → IsLive h x) → ((x : ℕ) → IsLive h x → IsLive k x) → AreReferencesKept k issued refs mirror
 AreReferencesKept-heap h k issued refs mirror r made back live = record {
   made = λ p q c. made p (r.made p q c);
@@ -37,11 +39,11 @@ AreReferencesKept-heap h k issued refs mirror r made back live = record {
   weakened = r.weakened;
 }
 
-pub AreReferencesKept-issue : (h : Heap) (issued : List Issued) (refs : List (ℕ × ℕ)) (mirror : Option Mirror) (new : Issued) → AreReferencesKept h issued refs mirror → AreReferencesKept h (issued ++ new ∷ []) refs mirror
+pub AreReferencesKept-issue : (h : Heap) (issued : List Issued) (refs : List (End × End)) (mirror : Option Mirror) (new : Issued) → AreReferencesKept h issued refs mirror → AreReferencesKept h (issued ++ new ∷ []) refs mirror
 AreReferencesKept-issue h issued refs mirror new r = record { made = r.made; live = r.live; none = r.none; weakened = λ m n e c. WasHeld-push issued new n (r.weakened m n e c) }
 
 -- a handle is weakened, and restored, in the mirrored cycle
-pub AreReferencesKept-weakened : (h : Heap) (issued : List Issued) (refs : List (ℕ × ℕ)) (mirror : Option Mirror) (n : ℕ) → AreReferencesKept h issued refs mirror → WasHeld issued n → AreReferencesKept h issued refs (with_weakened mirror n)
+pub AreReferencesKept-weakened : (h : Heap) (issued : List Issued) (refs : List (End × End)) (mirror : Option Mirror) (n : ℕ) → AreReferencesKept h issued refs mirror → WasHeld issued n → AreReferencesKept h issued refs (with_weakened mirror n)
 AreReferencesKept-weakened h issued refs None n r w = r
 AreReferencesKept-weakened h issued refs (Some m) n r w = record {
   made = r.made;
@@ -53,7 +55,7 @@ AreReferencesKept-weakened h issued refs (Some m) n r w = record {
   ];
 }
 
-pub AreReferencesKept-restored : (h : Heap) (issued : List Issued) (refs : List (ℕ × ℕ)) (mirror : Option Mirror) (n : ℕ) → AreReferencesKept h issued refs mirror → AreReferencesKept h issued refs (with_restored mirror n)
+pub AreReferencesKept-restored : (h : Heap) (issued : List Issued) (refs : List (End × End)) (mirror : Option Mirror) (n : ℕ) → AreReferencesKept h issued refs mirror → AreReferencesKept h issued refs (with_restored mirror n)
 AreReferencesKept-restored h issued refs None n r = r
 AreReferencesKept-restored h issued refs (Some m) n r = record {
   made = r.made;
@@ -62,9 +64,18 @@ AreReferencesKept-restored h issued refs (Some m) n r = record {
   weakened = λ k x e c. r.weakened m x refl (subst (λ (z : Mirror). Contains z.weakened x) (sym (same_Some _ k e)) c);
 }
 
+pub AreReferencesKept-given : (h : Heap) (issued : List Issued) (refs : List (End × End)) (mirror : Option Mirror) (n : ℕ) → AreReferencesKept h issued refs mirror → AreReferencesKept h issued refs (with_given mirror n)
+AreReferencesKept-given h issued refs None n r = r
+AreReferencesKept-given h issued refs (Some m) n r = record {
+  made = r.made;
+  live = r.live;
+  none = λ e p q c. absurd (none_some _ (sym e));
+  weakened = λ k x e c. r.weakened m x refl (subst (λ (z : Mirror). Contains z.weakened x) (sym (same_Some _ k e)) c);
+}
+
 -- references come to stand
-pub AreReferencesKept-mirrored : (h : Heap) (issued : List Issued) (refs : List (ℕ × ℕ)) (cycle snap : ℕ) → ((p q : ℕ) → Refers refs p q → IsLive h p × IsLive h q)
-    → AreReferencesKept h issued refs (Some record { cycle = cycle; snap = snap; weakened = []; restored = [] })
+pub AreReferencesKept-mirrored : (h : Heap) (issued : List Issued) (refs : List (End × End)) (cycle snap : ℕ) → ((p q : ℕ) → Refers refs p q → IsLive h p × IsLive h q)
+    → AreReferencesKept h issued refs (Some record { cycle = cycle; snap = snap; weakened = []; restored = []; renewed = [] })
 AreReferencesKept-mirrored h issued refs cycle snap l = record {
   made = λ p q c. (l p q c).0.made;
   live = λ p q c m. (l p q c).1;

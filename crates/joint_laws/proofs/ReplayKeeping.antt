@@ -1,6 +1,6 @@
 -- The managed side's replay stays kept at each of its lawful entries.
-use Rattle.std.proofs.Common.{◌≡◌, ◌≢◌, ℕ, inl, inr, Bool, true, false, List, [], ◌∷◌, Option, Some, None, refl, sym, subst, ◌∙◌}
-use Rattle.std.specs.Prelude.{Contains, if◌then◌else◌}
+use Rattle.std.proofs.Common.{◌≡◌, ◌≢◌, ℕ, ◌⊎◌, ◌++◌, ap, inl, inr, Bool, true, false, List, [], ◌∷◌, Option, Some, None, refl, sym, subst, ◌∙◌}
+use Rattle.std.specs.Prelude.{Contains, slice_get, if◌then◌else◌}
 use Rattle.std.proofs.lemmas.Bool.{cases_eq}
 use Rattle.joint_model.specs.declared.names.Sort.{Sort}
 use Rattle.joint_model.specs.declared.names.Thread.{Thread}
@@ -9,20 +9,24 @@ use Rattle.joint_model.specs.declared.events.Op.TheVariants as op
 use Rattle.joint_model.specs.declared.events.Reply.{Reply}
 use Rattle.joint_model.specs.declared.events.Reply.TheVariants as says
 use Rattle.joint_model.specs.Heaps.{IsLive, answer, slot, place, numbered_at, numbered_set, is_full, next_number, with_var, with_freed}
-use Rattle.joint_model.specs.Managed.{Managed, OpenCycle, Holds, IsBridge, with_row, twin_met, twin_kind, twin_fields, without_handle, with_snapshot, resolved, abandoned}
+use Rattle.joint_model.specs.Managed.{Managed, OpenCycle, Holds, IsBridge, with_row, twin_met, twin_kind, twin_fields, without_handle, with_snapshot, resolved, abandoned, candidates_of}
 use Rattle.joint_model.specs.Cycles.{IsSnapshot, IsAnsweredAlive}
 use Rattle.joint_model.specs.ManagedReplay.{ManagedReplay, MayResolve, registered, without_twins, meet_by, give_by, managed_answer, ManagedAllows}
 use Rattle.joint_model.specs.Run.{thread_number}
-use Rattle.joint_model.specs.Told.{Told, nothing, snap_of, contraction_of, resolution_of, phase_of, Answer}
+use Rattle.joint_model.specs.Told.{Told, nothing, snap_of, contraction_of, resolution_of, phase_of, Answer, handles_given}
 use Rattle.joint_laws.specs.ManagedInvariants.{IsReplayKept}
 use Rattle.joint_model.proofs.Members.{Contains-here}
-use Rattle.joint_model.proofs.Numbered.{numbered_set-same, numbered_set-other}
+use Rattle.joint_model.proofs.Numbered.{numbered_set-same, numbered_set-other, numbered-within}
 use Rattle.joint_model.proofs.Deciding.{none_some}
-use Rattle.joint_model.proofs.HeapLemmas.{IsLive-before, IsLive-left}
+use Rattle.joint_model.proofs.HeapLemmas.{IsLive-before, IsLive-left, candidates_of-open}
 use Rattle.joint_laws.proofs.Registered.{registered-some, without_twins-parts}
 use Rattle.joint_laws.proofs.ManagedMoves.{GoesOn, met_by, managed_line-goes_on, twinned-goes_on, emptied-goes_on}
 use Rattle.joint_laws.proofs.ManagedKeeping.{IsManagedKept-goes_on, IsManagedKept-snapped, IsManagedKept-resolved, IsManagedKept-abandoned, bridge_stays}
 use Rattle.joint_laws.proofs.Adopting.{HoldsSame-as, managed_line-same, IsReplayKept-plainly, IsReplayKept-took, adopt-by}
+use Rattle.std.proofs.lemmas.List.Elements.{Contains-append_left, Contains-append_right}
+use Rattle.std.proofs.lemmas.Option.{same_Some}
+use Rattle.joint_model.specs.Components.{Rises}
+use Rattle.joint_laws.proofs.Renewing.{IsGivenTo, renewed-cases, renewed-given, renewed-other, given-or, at-given, new-untaken, new-once}
 
 -- a `meet`, by the open cycle and the twin
 twin-met : (s : ManagedReplay) (v p h : ℕ) (sort : Sort) (n : ℕ) (twin : Option ℕ) → IsReplayKept s → (Contains s.adopted h → ⊥) → registered s.registry p ≡ twin → s.managed.cycle ≡ None
@@ -106,18 +110,67 @@ snapped-kept s n freed candidates dead k p = record {
     t : Managed
     t = with_snapshot s.managed freed candidates dead
 
-resolved-kept : (s : ManagedReplay) (n : ℕ) (alive : List Answer) (freed : List ℕ) → IsReplayKept s → MayResolve s n alive freed → IsReplayKept (record s { managed = resolved s.managed freed; registry = without_twins s.registry freed })
-resolved-kept s n alive freed k w = record {
-  managed = IsManagedKept-resolved s.managed w.cycle (IsAnsweredAlive w.cycle.candidates alive) freed k.managed w.open_cycle.0 w.resolution;
-  adopted = λ x h q. k.adopted x h (was-held_there s t freed k refl refl x h q);
-  alone = λ x y h q r. k.alone x y h (was-held_there s t freed k refl refl x h q) (was-held_there s t freed k refl refl y h r);
-  pairs = λ q x c. (let r = without_twins-parts s.registry freed q x c in still-bridge_there s t freed k refl refl x (k.pairs q x r.0) r.1);
-  one_row = λ p x y c d. k.one_row p x y (without_twins-parts s.registry freed p x c).0 (without_twins-parts s.registry freed p y d).0;
-  one_peer = λ p q x c d. k.one_peer p q x (without_twins-parts s.registry freed p x c).0 (without_twins-parts s.registry freed q x d).0;
-}
-  where
-    t : Managed
-    t = resolved s.managed freed
+module _ (s : ManagedReplay) (n : ℕ) (answers : List Answer) (freed : List ℕ) (k : IsReplayKept s) (w : MayResolve s n answers freed) where
+  abbrev t : Managed
+  t = resolved s.managed answers freed
+
+  abbrev cs : List ℕ
+  cs = candidates_of s.managed
+
+  cs-are : cs ≡ w.cycle.candidates
+  cs-are = candidates_of-open s.managed w.cycle w.open_cycle.0
+
+  cs-rise : Rises cs
+  cs-rise = subst Rises (sym cs-are) (k.managed.dead w.cycle w.open_cycle.0).rise
+
+  live-before : (x : ℕ) → IsLive t.heap x → IsLive s.managed.heap x
+  live-before x l = IsLive-before s.managed.heap freed x l
+
+  -- what a row holds then it held before, or its restore gave it
+  resolved-holds : (x h : ℕ) → Holds t x h → Holds s.managed x h ⊎ IsGivenTo cs answers x h
+  resolved-holds x h q = elim (renewed-cases s.managed.held cs answers x h q.held) [
+    | inl e ↦ inl (record { live = live-before x q.live; held = e })
+    | inr g ↦ inr g
+  ]
+
+  given-new : (x h : ℕ) → IsGivenTo cs answers x h → Contains (handles_given answers) h
+  given-new x h g = at-given answers g.place h g.answer
+
+  resolved-alone : (x y h : ℕ) → Holds t x h → Holds t y h → x ≡ y
+  resolved-alone x y h q r = elim (resolved-holds x h q) [
+    | inl a ↦ elim (resolved-holds y h r) [
+      | inl b ↦ k.alone x y h a b
+      | inr b ↦ absurd (new-untaken s.adopted (handles_given answers) h w.new (given-new y h b) (k.adopted x h a))
+    ]
+    | inr a ↦ elim (resolved-holds y h r) [
+      | inl b ↦ absurd (new-untaken s.adopted (handles_given answers) h w.new (given-new x h a) (k.adopted y h b))
+      | inr b ↦ (
+          let same : a.place ≡ b.place = new-once s.adopted answers a.place b.place h w.new a.answer b.answer in
+          same_Some x y (sym a.candidate ∙ (ap (λ i. slice_get cs i) same ∙ b.candidate)))
+    ]
+  ]
+
+  -- a bridge row that isn't freed holds a handle then
+  resolved-bridge : (x : ℕ) → IsBridge s.managed x → (Contains freed x → ⊥) → IsBridge t x
+  resolved-bridge x b out =
+      let live : IsLive t.heap x = IsLive-left s.managed.heap freed x b.1.live out in
+      elim (given-or cs answers x) [
+        | inl g ↦ (let in_list = numbered-within s.managed.held x (Some b.0) b.1.held in (g.0, record { live = live; held = renewed-given s.managed.held cs answers x g.0 cs-rise in_list.0 in_list.1 g.1 }))
+        | inr none ↦ (b.0, record { live = live; held = renewed-other s.managed.held cs answers x none ∙ b.1.held })
+      ]
+
+  resolved-kept : IsReplayKept (record s { managed = t; registry = without_twins s.registry freed; adopted = s.adopted ++ handles_given answers })
+  resolved-kept = record {
+    managed = IsManagedKept-resolved s.managed w.cycle (IsAnsweredAlive w.cycle.candidates answers) freed k.managed w.open_cycle.0 w.resolution answers;
+    adopted = λ x h q. elim (resolved-holds x h q) [
+      | inl a ↦ Contains-append_left s.adopted (handles_given answers) h (k.adopted x h a)
+      | inr g ↦ Contains-append_right s.adopted (handles_given answers) h (given-new x h g)
+    ];
+    alone = resolved-alone;
+    pairs = λ q x c. (let r = without_twins-parts s.registry freed q x c in resolved-bridge x (k.pairs q x r.0) r.1);
+    one_row = λ p x y c d. k.one_row p x y (without_twins-parts s.registry freed p x c).0 (without_twins-parts s.registry freed p y d).0;
+    one_peer = λ p q x c d. k.one_peer p q x (without_twins-parts s.registry freed p x c).0 (without_twins-parts s.registry freed q x d).0;
+  }
 
 abandoned-kept : (s : ManagedReplay) → IsReplayKept s → IsReplayKept (record s { managed = abandoned s.managed })
 abandoned-kept s k = record {
@@ -139,7 +192,7 @@ IsReplayKept-step s t (op.Lend v x) told k w = k
 IsReplayKept-step s t (op.Meet v sort n p h) nothing k w = meet-by s (place (thread_number t) v.0) p.0 h.0 sort n s.managed.cycle k w refl
 IsReplayKept-step s t (op.Give v) told k w = give-by s (place (thread_number t) v.0) _ (slot s.managed.heap.vars (place (thread_number t) v.0)) k refl
 IsReplayKept-step s t (op.Snap n) (snap_of freed candidates dead) k w = snapped-kept s n.0 freed candidates dead k w
-IsReplayKept-step s t (op.Contract n) (contraction_of comps xrefs) k w = contracted-kept s k
+IsReplayKept-step s t (op.Contract n) (contraction_of comps heavy xrefs) k w = contracted-kept s k
 IsReplayKept-step s t (op.Resolve n) (resolution_of alive freed) k w = resolved-kept s n.0 alive freed k w
 IsReplayKept-step s t (op.Abandon n) nothing k w = abandoned-kept s k
 IsReplayKept-step s t (op.Refused r) (phase_of phase) k w = k

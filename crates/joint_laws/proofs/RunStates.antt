@@ -14,14 +14,13 @@ use Rattle.joint_laws.specs.States.{state_at}
 use Rattle.joint_laws.proofs.JointRuns.{Stands, state_of, Enters, by_step, at_rest, enters, projected, Stands-opening, opening-state}
 use Rattle.joint_laws.proofs.OneRun.{one-step, heads-same, tails-same, cons-nil}
 use Rattle.joint_laws.proofs.Places.{comes-at, after-at}
-use Rattle.joint_laws.proofs.RemovedFlags.{flags-are}
 
 -- the joint graph of a state is the one that both sides give
 abbrev graph_of : Linkage → Graph
 graph_of s = graph_at s.managed.managed s.peer
 
 stands-graph : (s : Linkage) (w : Stands s) → (state_of s w).graph ≡ graph_of s
-stands-graph s w = ap (λ fs. record { managed = s.managed.managed; peers = s.peer.peers; removed = fs }) (flags-are s.managed.managed s.peer w.flags w.agrees.removed w.kept.peer.handles.places w.kept.managed.managed.places)
+stands-graph s w = ap (λ fs. record { managed = s.managed.managed; peers = s.peer.peers; removed = fs }) w.agrees.removed
 
 -- the moment of an entry, from a state on
 record AtPlace (ns : List Noted) (s : Linkage) (run : List Moment) (i : ℕ) (n : Noted) : Type 0 where

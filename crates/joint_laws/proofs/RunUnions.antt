@@ -43,7 +43,7 @@ module _ (m : Moment) (tr : IsTraced m) where
   t = linkage_after tr.state m.noted
 
   edge-back : (x y : Row) → JointEdge m.after.graph x y → JointEdge m.before.graph x y ⊎ IsReached m.before y ⊎ IsReached m.after y
-  edge-back x y e = elim (edge-before s m.noted tr.may tr.stands.kept tr.next.kept tr.stands.flags tr.next.flags x y (subst (λ (z : Joint). JointEdge z.graph x y) tr.after e)) [
+  edge-back x y e = elim (edge-before s m.noted tr.may tr.stands.kept tr.next.kept tr.stands.flags.removed tr.next.flags.removed x y (subst (λ (z : Joint). JointEdge z.graph x y) tr.after e)) [
     | inl f ↦ inl (subst (λ (z : Joint). JointEdge z.graph x y) (sym tr.before) f)
     | inr r ↦ elim r [
       | inl f ↦ inr (inl (subst (λ z. IsReached z y) (sym tr.before) f))
@@ -54,7 +54,7 @@ module _ (m : Moment) (tr : IsTraced m) where
   edge-on : (m.after.marking ≡ None → ⊥) → (x y : Row) → JointEdge m.before.graph x y → JointEdge m.after.graph x y ⊎ IsReached m.before y ⊎ IsGone m.after x
   edge-on on x y e =
       let still = open-still s m.noted tr.stands.kept (λ f. on (ap (λ (z : Joint). z.marking) tr.after ∙ none-same t.peer.marking tr.next.marking tr.next.agrees.markings f)) in
-      elim (edge-after s m.noted tr.may tr.stands.kept tr.next.kept tr.stands.flags tr.next.flags still x y (subst (λ (z : Joint). JointEdge z.graph x y) tr.before e)) [
+      elim (edge-after s m.noted tr.may tr.stands.kept tr.next.kept tr.stands.flags.removed tr.next.flags.removed still x y (subst (λ (z : Joint). JointEdge z.graph x y) tr.before e)) [
         | inl f ↦ inl (subst (λ (z : Joint). JointEdge z.graph x y) (sym tr.after) f)
         | inr r ↦ elim r [
           | inl f ↦ inr (inl (subst (λ z. IsReached z y) (sym tr.before) f))
@@ -72,7 +72,7 @@ module _ (m : Moment) (tr : IsTraced m) where
 
   reached-kept : (x : Row) → IsReached m.after x → IsGone m.after x → ⊥
   reached-kept (peer p) r f = f
-  reached-kept (object x) r f = reached-live t tr.next.flags (object x) tr.next.kept (subst (λ z. IsReached z (object x)) tr.after r) (subst (λ (z : Joint). Contains z.graph.managed.heap.freed x) tr.after f)
+  reached-kept (object x) r f = reached-live t tr.next.flags.removed (object x) tr.next.kept (subst (λ z. IsReached z (object x)) tr.after r) (subst (λ (z : Joint). Contains z.graph.managed.heap.freed x) tr.after f)
 
 module _ (noted : List Noted) (run : List Moment) (may : AllMayCome opening_linkage noted) (r : IsRun (machine_entries noted) run) where
   traced : (i : ℕ) (m : Moment) → slice_get run i ≡ Some m → IsTraced m

@@ -10,8 +10,8 @@ use Rattle.joint_model.specs.declared.names.Span.{Span}
 use Rattle.joint_model.specs.declared.names.Thread.TheVariants.{M, P, C}
 use Rattle.joint_model.specs.declared.names.Thread.{Thread}
 use Rattle.std.proofs.lemmas.List.Elements.{All-contains}
-use Rattle.std.proofs.Common.{◌≡◌, ℕ, zero, suc, List, [], ◌∷◌, Some, sym, subst, ◌∙◌, ◌+◌, ◌<◌, inl, inr, Option, None, refl, ap, arith}
-use Rattle.std.specs.Prelude.{slice_get}
+use Rattle.std.proofs.Common.{◌≡◌, ℕ, Bool, true, false, zero, suc, List, [], ◌∷◌, Some, sym, subst, ◌∙◌, ◌+◌, ◌<◌, inl, inr, Option, None, refl, ap, arith}
+use Rattle.std.specs.Prelude.{slice_get, if◌then◌else◌}
 use Rattle.std.proofs.lemmas.Option.{same_Some}
 use Rattle.joint_model.specs.declared.events.Op.TheVariants as op
 use Rattle.joint_model.specs.Joint.{Joint, opening, object, IsReached, JointMarking, peer, IsReachedIn}
@@ -20,6 +20,10 @@ use Rattle.joint_model.specs.Told.{snap_of, Told, sweep_of, resolution_of}
 use Rattle.joint_model.proofs.Deciding.{none_some}
 use Rattle.joint_laws.specs.RunLaws.{SnapshotsAreSound, SweepsAreSound}
 use Rattle.joint_laws.proofs.ManagedFrees.{snapshot-unreached}
+use Rattle.joint_model.specs.Peers.{next_handle}
+use Rattle.joint_model.specs.Run.{answered, given_anew}
+use Rattle.joint_model.specs.Told.{said_alive, said_cleared}
+use Rattle.joint_model.specs.Heaps.{is_freed, answer}
 
 -- the step at a place of a run
 pub step-at : (run : List Moment) (j : Joint) (i : ℕ) (m : Moment) → IsRunFrom j run → slice_get run i ≡ Some m → JointStep m.before m.noted m.after
@@ -94,11 +98,18 @@ sweep-case b a (Some y) t reply told w = stays (ap (λ (z : Joint). z.marking) w
 computed-case : (b a : Joint) (t : Thread) (o : Op) (reply : Reply) → JointComputed b t o reply a → MarkingCase b o reply a
 computed-case b a t o reply w = stays (ap (λ (z : Joint). z.marking) w.state ∙ answer-marking b t o)
 
+-- a restore leaves the marking as it is
+restored-marking : (b : Joint) (h p : ℕ) (f : Bool)
+    → (if f then answer says.Cleared (answered (without b (Some h)) h said_cleared) else answer (says.Renewed record { 0 = next_handle b.graph.peers }) (answered (given_anew (without b (Some h)) p) h (said_alive (next_handle b.graph.peers)))).state.marking ≡ b.marking
+restored-marking b h p true = refl
+restored-marking b h p false = refl
+
 pub marking-case : (b a : Joint) (t : Thread) (o : Op) (reply : Reply) (told : Told) → JointEvent b t o reply told a → MarkingCase b o reply a
 marking-case b a t (op.Snap k) reply (snap_of freed candidates dead) w = stays (ap (λ (z : Joint). z.marking) w.state)
 marking-case b a t (op.Snap k) reply told w = absurd w
 marking-case b a t op.Begin reply told w = begin-case b a b.marking t reply refl w
 marking-case b a t op.Sweep reply told w = sweep-case b a b.marking t reply told w
+marking-case b a t (op.Restore h) reply told w = stays (ap (λ (z : Joint). z.marking) w.state ∙ restored-marking b h.0 w.peer (is_freed b.graph.peers.heap w.peer))
 marking-case b a t (op.Resolve k) reply (resolution_of alive freed) w = stays (ap (λ (z : Joint). z.marking) w.state)
 marking-case b a t (op.Resolve k) reply told w = absurd w
 marking-case b a t (op.Abandon k) reply told w = stays (ap (λ (z : Joint). z.marking) w.state)

@@ -118,7 +118,7 @@ module _ (s : Linkage) (line : ℕ) (reply : Reply) (cites : Option ℕ) where
   plain-entry t (op.Release h) nothing out w = by_plain _ nothing w.replies tt tt
   plain-entry t (op.Release h) told out w = absurd w.allowed
   plain-entry t (op.Snap k) told out w = absurd (out tt)
-  plain-entry t (op.Contract k) (contraction_of comps xrefs) out w = by_plain _ (contraction_of comps xrefs) w.replies tt tt
+  plain-entry t (op.Contract k) (contraction_of comps heavy xrefs) out w = by_plain _ (contraction_of comps heavy xrefs) w.replies tt tt
   plain-entry t (op.Contract k) told out w = absurd w.allowed
   plain-entry t (op.Mirror k) (references_of refs) out w = by_plain _ (references_of refs) w.replies tt tt
   plain-entry t (op.Mirror k) told out w = absurd w.allowed

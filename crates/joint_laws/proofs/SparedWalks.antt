@@ -3,14 +3,14 @@
 -- unfreed, has a spared peer. A managed stretch that begins in a slot stays outside the dead part and ends at a strong
 -- handle. One that begins at a peer inside the dead part leads from a candidate to a candidate: either that one's handle is
 -- strong, or it is weak, and then the mirror stands and references follow the stretch.
-use Rattle.std.proofs.Common.{◌≡◌, ℕ, ◌≤◌, ◌⊎◌, inl, inr, Bool, List, [], length, Option, Some, None, refl, sym, ap, subst, ◌∙◌, arith}
+use Rattle.std.proofs.Common.{false, ◌≡◌, ℕ, ◌≤◌, ◌⊎◌, inl, inr, List, [], length, Option, Some, None, refl, sym, ap, subst, ◌∙◌, arith}
 use Rattle.std.specs.Prelude.{Contains}
 use Rattle.std.proofs.lemmas.Option.{same_Some, slice_get_within}
-use Rattle.joint_model.specs.Control.{Doing, Stand, idle, snapped, contracted, weakening, marked, restoring, restored, candidates_of}
+use Rattle.joint_model.specs.Control.{Doing, Stand, idle, snapped, contracted, weakening, marked, restoring, restored}
 use Rattle.joint_model.specs.Cycles.{DeadEdge}
 use Rattle.joint_model.specs.Heaps.{IsLive, numbered_at}
 use Rattle.joint_model.specs.Joint.{Graph, JointMarking, Row, object, peer, JointEdge, IsJoined, IsJointRoot, IsRawRoot, IsLooseRoot, IsReached}
-use Rattle.joint_model.specs.Managed.{Managed, OpenCycle, IsBridge, ManagedEdge}
+use Rattle.joint_model.specs.Managed.{Managed, OpenCycle, IsBridge, ManagedEdge, candidates_of}
 use Rattle.joint_model.specs.ManagedReplay.{ManagedReplay}
 use Rattle.joint_model.specs.Peers.{Issued, Strength, strong, weak, peer_of}
 use Rattle.joint_model.specs.PeerReplay.{PeerReplay, Marking}
@@ -23,13 +23,14 @@ use Rattle.joint_laws.specs.PeerInvariants.{IsIssued, IsSpared, IsMarkingKept}
 use Rattle.joint_laws.specs.LinkedInvariants.{HasStrength, IsRowOf, IsDriverKept, IsMirrored, IsRestoredBy}
 use Rattle.joint_model.proofs.Members.{Contains-nil, Contains-decided, at-Contains}
 use Rattle.joint_model.proofs.Deciding.{none_some}
-use Rattle.joint_laws.proofs.HandleKeeping.{held-raw}
 use Rattle.joint_laws.proofs.DeadMirrors.{candidates-mirrored}
-use Rattle.joint_laws.proofs.SameGraphs.{mirror_edge-ends}
+use Rattle.joint_laws.proofs.Mirrors.{mirror_edge-ends}
 use Rattle.joint_laws.proofs.Sparing.{spared-next}
 use Rattle.joint_laws.proofs.LinkedQuiet.{AreKept}
-use Rattle.joint_model.specs.Joined.{joint_of}
+use Rattle.joint_laws.specs.JointAgreement.{Flags, joint_as}
 use Rattle.joint_model.specs.Told.{Answer}
+use Rattle.joint_laws.proofs.HandlesAlike.{replaced-peer}
+use Rattle.joint_laws.proofs.JointFlags.{kept-at}
 
 -- what a handle was issued on, by where it leads
 pub peer_of-row : (issued : List Issued) (h p : ℕ) → peer_of issued h ≡ Some p → (i : Issued) × IsIssued issued h i × (i.peer ≡ p)
@@ -39,7 +40,7 @@ peer_of-row issued h p e = by (numbered_at issued h) refl e
     by None q f = absurd (none_some p f)
     by (Some i) q f = (i, q, same_Some i.peer p f)
 
-pub joined-row : (m : Managed) (s : PeerReplay) (flags : List Bool) (jm : Option JointMarking) (x p : ℕ) → IsJoined (joint_of m s flags jm).graph x p → IsRowOf m s.peers.issued x p
+pub joined-row : (m : Managed) (s : PeerReplay) (flags : Flags) (jm : Option JointMarking) (x p : ℕ) → IsJoined (joint_as m s flags jm).graph x p → IsRowOf m s.peers.issued x p
 joined-row m s flags jm x p e = let i = peer_of-row s.peers.issued e.handle p e.leads in record { handle = e.handle; holds = e.holds; row = i.0; is_issued = i.1; leads = i.2 }
 
 module _ (r : ManagedReplay) (s : PeerReplay) (ds : List Doing) (d : Stand) (k : AreKept r s ds d) (mk : Marking) (open_now : s.marking ≡ Some mk) where
@@ -68,12 +69,12 @@ module _ (r : ManagedReplay) (s : PeerReplay) (ds : List Doing) (d : Stand) (k :
 
     by_mirror : IsMirrored r s c → (a b p q : ℕ) → Contains c.candidates a → Contains c.candidates b → Reaches (ManagedEdge r.managed) a b → IsRowOf r.managed s.peers.issued a p → IsRowOf r.managed s.peers.issued b q → IsLive s.peers.heap p → IsSpared mk p → IsSpared mk q
     by_mirror m a b p q ca cb walk ra rb live spared =
-        (Reaches-keeps (MirrorEdge m.comps m.xrefs) Fine step a b (candidates-mirrored r.managed c cut m.comps m.xrefs m.contraction a b ca cb walk)
+        (Reaches-keeps (MirrorEdge m.comps m.xrefs) Fine step a b (candidates-mirrored r.managed c cut m.comps m.heavy m.xrefs m.contraction a b ca cb walk)
         (λ y w. subst (λ z. IsLive s.peers.heap z × IsSpared mk z) (one_peer a p y ra w) (live, spared)) q rb).1
       where
         step : (x y : ℕ) → MirrorEdge m.comps m.xrefs x y → Fine x → Fine y
         step x y e fine z v =
-            let ends = mirror_edge-ends (λ n. Contains c.dead n × IsBridge r.managed n) (DeadEdge r.managed c.dead) m.comps m.xrefs m.contraction x y e in
+            let ends = mirror_edge-ends (λ n. Contains c.dead n × IsBridge r.managed n) (DeadEdge r.managed c.dead) m.comps m.heavy m.xrefs m.contraction x y e in
             let i = k.owners.held_ones x ends.0.1.0 ends.0.1.1 in
             let rx : IsRowOf r.managed s.peers.issued x i.0.peer = record { handle = ends.0.1.0; holds = ends.0.1.1; row = i.0; is_issued = i.1; leads = refl } in
             let f = fine i.0.peer rx in
@@ -82,7 +83,7 @@ module _ (r : ManagedReplay) (s : PeerReplay) (ds : List Doing) (d : Stand) (k :
 
     restored-spared : (answers : List Answer) (l b q : ℕ) (w : IsRowOf r.managed s.peers.issued b q) → IsRestoredBy s answers l w.handle → IsLive s.peers.heap q → (length answers ≤ l → HasStrength s w.handle weak → IsSpared mk q) → IsSpared mk q
     restored-spared answers l b q w t live later = elim t [
-      | inl u ↦ row-spared b q w u.1
+      | inl u ↦ strong-spared u.0 q u.2.new u.2.strong_one u.2.is (replaced-peer s w.handle u.0 w.row u.2 w.is_issued ∙ w.leads)
       | inr u ↦ elim u [
         | inl g ↦ absurd (live.kept (subst (λ z. Contains s.peers.heap.freed z) w.leads (g.1.freed w.row w.is_issued)))
         | inr g ↦ later g.0 g.1
@@ -98,7 +99,7 @@ module _ (r : ManagedReplay) (s : PeerReplay) (ds : List Doing) (d : Stand) (k :
     candidate-spared (snapped op) v a b p q ca cb walk ra rb lp lq sp =
         let at = at-Contains v.cycle.candidates b (subst (λ (z : OpenCycle). Contains z.candidates b) (sym (same_cycle v.cycle v.opened.cycle)) cb) in
         row-spared b q rb (v.handles at.0 b rb.handle at.1 rb.holds)
-    candidate-spared (contracted op comps xrefs) v a b p q ca cb walk ra rb lp lq sp =
+    candidate-spared (contracted op comps heavy xrefs) v a b p q ca cb walk ra rb lp lq sp =
         let at = at-Contains v.before.cycle.candidates b (subst (λ (z : OpenCycle). Contains z.candidates b) (sym (same_cycle v.before.cycle v.before.opened.cycle)) cb) in
         row-spared b q rb (v.before.handles at.0 b rb.handle at.1 rb.holds)
     candidate-spared (weakening op count seen sw) v a b p q ca cb walk ra rb lp lq sp = by_mirror (subst (λ z. IsMirrored r s z) (same_cycle v.cycle v.opened.cycle) v.mirror) a b p q ca cb walk ra rb lp sp
@@ -113,9 +114,9 @@ module _ (r : ManagedReplay) (s : PeerReplay) (ds : List Doing) (d : Stand) (k :
   Known (peer p) = IsSpared mk p
   Known (object m) = (c : OpenCycle) → r.managed.cycle ≡ Some c → Contains c.dead m → (b q : ℕ) → Contains c.candidates b → Reaches (ManagedEdge r.managed) m b → IsRowOf r.managed s.peers.issued b q → IsLive s.peers.heap q → IsSpared mk q
 
-  module _ (flags : List Bool) (jm : Option JointMarking) (fl : AreFlags r.managed s flags) where
+  module _ (flags : Flags) (jm : Option JointMarking) (fl : AreFlags s flags) where
     abbrev graph : Graph
-    graph = (joint_of r.managed s flags jm).graph
+    graph = (joint_as r.managed s flags jm).graph
 
     strength-cases : (h : ℕ) (w : IsInTable s h) → HasStrength s h strong ⊎ HasStrength s h weak
     strength-cases h w = by w.0.strength refl
@@ -124,21 +125,18 @@ module _ (r : ManagedReplay) (s : PeerReplay) (ds : List Doing) (d : Stand) (k :
         by strong e = inl (w.0, w.1, e)
         by weak e = inr (w.0, w.1, e)
 
+    tabled : (h : ℕ) → numbered_at flags.removed h ≡ Some false → IsInTable s h
+    tabled h e = kept-at s.table h (ap (λ z. numbered_at z h) (sym fl) ∙ e)
+
     raw-spared : (p : ℕ) → IsRawRoot graph p → IsSpared mk p
-    raw-spared p e = elim (fl.there e.handle e.is_handle.kept) [
-      | inl t ↦ strong-spared e.handle p e.row (t.0, t.1, k.peer.handles.raws e.handle t.0 e.row t.1 e.is_handle.issued e.raw_hold ∙ e.strong_made) e.is_handle.issued e.leads
-      | inr x ↦ (
-          let i = k.owners.held_ones x.0 e.handle x.1 in
-          absurd (held-raw i.0 i.2 (ap (λ (z : Issued). z.hold) (same_Some i.0 e.row (sym i.1 ∙ e.is_handle.issued)) ∙ e.raw_hold)))
-    ]
+    raw-spared p e =
+        let t = tabled e.handle e.is_handle.kept in
+        strong-spared e.handle p e.row (t.0, t.1, k.peer.handles.raws e.handle t.0 e.row t.1 e.is_handle.issued e.raw_hold ∙ e.strong_made) e.is_handle.issued e.leads
 
     loose-spared : (p : ℕ) → IsLooseRoot graph p → IsSpared mk p
-    loose-spared p e = elim (fl.there e.handle e.is_handle.kept) [
-      | inl t ↦ elim (strength-cases e.handle t) [
-        | inl w ↦ strong-spared e.handle p e.row w e.is_handle.issued e.leads
-        | inr w ↦ (let x = k.owners.weak_ones e.handle w (e.row, e.is_handle.issued, e.held_hold) in absurd (e.loose x.0 x.1))
-      ]
-      | inr x ↦ absurd (e.loose x.0 x.1)
+    loose-spared p e = elim (strength-cases e.handle (tabled e.handle e.is_handle.kept)) [
+      | inl w ↦ strong-spared e.handle p e.row w e.is_handle.issued e.leads
+      | inr w ↦ (let x = k.owners.weak_ones e.handle w (e.row, e.is_handle.issued, e.held_hold) in absurd (e.loose x.0 x.1))
     ]
 
     first_known : (x : Row) → IsJointRoot graph x → Known x
@@ -168,5 +166,5 @@ module _ (r : ManagedReplay) (s : PeerReplay) (ds : List Doing) (d : Stand) (k :
         let v = joined-row r.managed s flags jm m p e in
         candidate-spared c o d k.driver m b p q (((k.managed.managed.dead c o).candidates m).1 (dm, (v.handle, v.holds))) cb walk v w e.live l known)
 
-    pub reached-spared : (p : ℕ) → IsReached (joint_of r.managed s flags jm) (peer p) → IsSpared mk p
+    pub reached-spared : (p : ℕ) → IsReached (joint_as r.managed s flags jm) (peer p) → IsSpared mk p
     reached-spared p w = Reached-keeps (IsJointRoot graph) (JointEdge graph) Known first_known next_known (peer p) w

@@ -204,7 +204,7 @@ module _ (s : Linkage) (k : Of s) (flags : List Bool) where
   mirror-joint : (c : OpenCycle) → s.managed.managed.cycle ≡ Some c → IsMirrored s.managed s.peer c → (p q : ℕ) → HasReference s.peer.peers.heap s.peer.refs p q → Reaches (JointEdge (graph_with s flags)) (peer p) (peer q)
   mirror-joint c o m p q e =
       let w = (m.exact p q).0 e.reference in
-      let walk = mirror_edge-managed s.managed.managed c (k.managed.managed.dead c o) m.comps m.xrefs m.contraction w.0 w.1 w.2 in
+      let walk = mirror_edge-managed s.managed.managed c (k.managed.managed.dead c o) m.comps m.heavy m.xrefs m.contraction w.0 w.1 w.2 in
       Reaches-then (JointEdge (graph_with s flags)) (peer p) (object w.1) (peer q)
       (Reaches-trans (JointEdge (graph_with s flags)) (peer p) (object w.0) (object w.1)
       (Reaches-edge (JointEdge (graph_with s flags)) (peer p) (object w.0) (row-joined w.0 p w.3 e.live)) (managed-joint w.0 w.1 walk))
@@ -213,7 +213,7 @@ module _ (s : Linkage) (k : Of s) (flags : List Bool) where
   by-stand : (st : Stand) → IsDriverKept s.managed s.peer st → (p q : ℕ) → HasReference s.peer.peers.heap s.peer.refs p q → Reaches (JointEdge (graph_with s flags)) (peer p) (peer q)
   by-stand idle d p q e = absurd (k.peer.references.none d.none p q e.reference)
   by-stand (snapped o) d p q e = absurd (k.peer.references.none d.none p q e.reference)
-  by-stand (contracted o comps xrefs) d p q e = absurd (k.peer.references.none d.before.none p q e.reference)
+  by-stand (contracted o comps heavy xrefs) d p q e = absurd (k.peer.references.none d.before.none p q e.reference)
   by-stand (weakening o count seen sw) d p q e = mirror-joint d.cycle d.opened.cycle d.mirror p q e
   by-stand (marked o) d p q e = mirror-joint d.cycle d.opened.cycle d.mirror p q e
   by-stand (restoring o answers) d p q e = mirror-joint d.cycle d.opened.cycle d.mirror p q e

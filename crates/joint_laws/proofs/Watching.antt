@@ -90,7 +90,7 @@ module _ (s : Linkage) (n : Noted) (may : MayCome s n) (w : Stands s) (v : Stand
   live-back x m l = record { made = m; kept = λ c. l.kept (subst (λ f. Contains f x) (sym g.freed) c) }
 
   pub edge-case : (x y : Row) → JointEdge k.graph x y → EdgeCase x y
-  edge-case x y e = edge-before s n may w.kept v.kept w.flags v.flags x y e
+  edge-case x y e = edge-before s n may w.kept v.kept w.flags.removed v.flags.removed x y e
 
   -- the set stays closed
   module _ (past : List Moment) (a : ℕ) (candidates : List ℕ) (watched : IsWatched past a candidates j) (m : Moment) (after : m.after ≡ k) where

@@ -1,10 +1,14 @@
 -- What ties the joint machine's state to a state of a linked history, beside joint_of of joint_model, which makes it out of
--- both sides: a handle is removed where it has left the table and no row holds it; and an open marking is the peer side's,
--- with the joint graph of its begin.
-use Rattle.std.specs.Prelude.{◌≡◌, ℕ, ◌⊎◌, Bool, true, false, List, length, Option, Some, None, ⊤}
-use Rattle.joint_model.specs.Heaps.{numbered_at}
-use Rattle.joint_model.specs.Joint.{JointMarking, IsReachedIn, peer}
-use Rattle.joint_model.specs.Managed.{Managed, Holds}
+-- both sides: a handle is removed where it has left the table; and an open marking is the peer side's, with the joint graph of its
+-- begin.
+use Rattle.std.specs.Prelude.{◌≡◌, ℕ, Bool, true, false, List, ◌++◌, length, map, Option, Some, None, ⊤}
+use Rattle.joint_model.specs.Control.{Stand}
+use Rattle.joint_model.specs.Heaps.{numbered_set}
+use Rattle.joint_model.specs.Joined.{removed_in, answers_at}
+use Rattle.joint_model.specs.Joint.{Joint, JointMarking, IsReachedIn, peer}
+use Rattle.joint_model.specs.Managed.{Managed, candidates_of}
+use Rattle.joint_model.specs.Peers.{Issued}
+use Rattle.joint_model.specs.Told.{Answer}
 use Rattle.joint_model.specs.PeerReplay.{PeerReplay, TableRow, Marking}
 use Rattle.joint_laws.specs.PeerInvariants.{IsTabled, IsSpared}
 
@@ -12,16 +16,29 @@ use Rattle.joint_laws.specs.PeerInvariants.{IsTabled, IsSpared}
 abbrev pub IsInTable : PeerReplay → ℕ → Type 0
 IsInTable s h = (row : TableRow) × IsTabled s.table h row
 
--- some row holds the handle
-abbrev pub HasHolder : Managed → ℕ → Type 0
-HasHolder m h = (x : ℕ) × Holds m x h
+-- what a joint state has beside both sides' states: which handles are removed, and what restores have answered
+pub record Flags : Type 0 where
+  pub removed : List Bool
+  pub answers : List (Option Answer)
 
--- the flags tell which handles have left the table and are held by no row
-pub record AreFlags (m : Managed) (s : PeerReplay) (flags : List Bool) : Type 0 where
-  pub places : length flags ≡ length s.peers.issued
-  pub untabled : (h : ℕ) → numbered_at flags h ≡ Some true → IsInTable s h → ⊥
-  pub unowned : (h : ℕ) → numbered_at flags h ≡ Some true → HasHolder m h → ⊥
-  pub there : (h : ℕ) → numbered_at flags h ≡ Some false → IsInTable s h ⊎ HasHolder m h
+-- the joint state of both sides with these flags and that marking
+abbrev pub joint_as : Managed → PeerReplay → Flags → Option JointMarking → Joint
+joint_as m s flags jm = record { graph = record { managed = m; peers = s.peers; removed = flags.removed }; answers = flags.answers; marking = jm; markings = s.markings }
+
+-- further handles were issued, and one was removed
+abbrev pub issued_flags : Flags → List Issued → Flags
+issued_flags flags news = record flags { removed = flags.removed ++ map (λ i. false) news }
+
+abbrev pub gone_flags : Flags → ℕ → Flags
+gone_flags flags h = record flags { removed = numbered_set flags.removed h true }
+
+-- the flags tell which handles have left the table
+abbrev pub AreFlags : PeerReplay → Flags → Type 0
+AreFlags s flags = flags.removed ≡ removed_in s.table
+
+-- they tell what the driver's restores have answered
+abbrev pub AreTold : Stand → Managed → Flags → Type 0
+AreTold d m flags = flags.answers ≡ answers_at d (length (candidates_of m))
 
 -- the joint marking is the peer side's: what was reached at its begin is spared
 pub record IsSameMarking (mk : Marking) (j : JointMarking) : Type 0 where
@@ -36,6 +53,6 @@ AreSameMarkings (Some mk) (Some j) = IsSameMarking mk j
 AreSameMarkings _ _ = ⊥
 
 -- the joint state agrees with the sides
-pub record Agrees (m : Managed) (s : PeerReplay) (flags : List Bool) (marking : Option JointMarking) : Type 0 where
-  pub removed : AreFlags m s flags
+pub record Agrees (s : PeerReplay) (flags : Flags) (marking : Option JointMarking) : Type 0 where
+  pub removed : AreFlags s flags
   pub markings : AreSameMarkings s.marking marking

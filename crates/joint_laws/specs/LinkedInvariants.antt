@@ -1,20 +1,20 @@
 -- What every state of a linked history keeps of both sides together: who holds which handle, how strong it is, what each
 -- managed thread is in the midst of, and how far the driver has come.
-use Rattle.std.specs.Prelude.{◌≡◌, ℕ, ◌<◌, ◌≤◌, ◌↔◌, ◌⊎◌, List, length, Contains, Some, None, slice_get}
+use Rattle.std.specs.Prelude.{◌≡◌, ℕ, ◌<◌, ◌≤◌, ◌↔◌, ◌⊎◌, List, [], ◌∷◌, length, Contains, Some, None, slice_get}
 use Rattle.joint_model.specs.declared.names.Thread.TheVariants.{C}
-use Rattle.joint_model.specs.Control.{Doing, free, made, lent, gripped, given, met, OpenSnap, Stand, idle, snapped, contracted, weakening, marked, restoring, restored, candidates_of}
+use Rattle.joint_model.specs.Control.{Doing, free, made, lent, gripped, given, met, OpenSnap, Stand, idle, snapped, contracted, weakening, marked, restoring, restored}
 use Rattle.joint_model.specs.Cycles.{IsDeadContraction}
 use Rattle.joint_model.specs.Heaps.{InSlot, IsLive, fields_of}
 use Rattle.joint_model.specs.Linked.{Linkage}
 use Rattle.joint_model.specs.ManagedReplay.{ManagedReplay}
-use Rattle.joint_model.specs.Managed.{Managed, OpenCycle, Holds, ManagedEdge}
+use Rattle.joint_model.specs.Managed.{Managed, OpenCycle, Holds, ManagedEdge, candidates_of}
 use Rattle.joint_model.specs.Peers.{Issued, held, Strength, strong, weak}
 use Rattle.joint_model.specs.PeerReplay.{PeerReplay, TableRow, Marking, Refers}
 use Rattle.joint_model.specs.Walks.{Reaches}
 use Rattle.joint_laws.specs.ManagedInvariants.{IsReplayKept}
 use Rattle.joint_laws.specs.Mirrors.{MirrorEdge}
 use Rattle.joint_laws.specs.PeerInvariants.{IsTabled, IsIssued, IsPeerKept}
-use Rattle.joint_model.specs.Told.{IsKeptAt, said_cleared, Answer}
+use Rattle.joint_model.specs.Told.{said_alive, said_cleared, Answer}
 
 -- the handle is in the table with that strength
 abbrev pub HasStrength : PeerReplay → ℕ → Strength → Type 0
@@ -107,11 +107,23 @@ pub record IsGone (s : PeerReplay) (h : ℕ) : Type 0 where
   pub untabled : (row : TableRow) → IsTabled s.table h row → ⊥
   pub freed : (i : Issued) → IsIssued s.peers.issued h i → Contains s.peers.heap.freed i.peer
 
+-- the handle left the table for another one, which is in the table, strong, and on its peer
+pub record IsReplaced (s : PeerReplay) (h g : ℕ) : Type 0 where
+  pub untabled : (row : TableRow) → IsTabled s.table h row → ⊥
+  pub strong_one : HasStrength s g strong
+  pub held_one : IsHeldOne s g
+  pub old : Issued
+  pub was : IsIssued s.peers.issued h old
+  pub new : Issued
+  pub is : IsIssued s.peers.issued g new
+  pub same : new.peer ≡ old.peer
+
 -- the mirrored references are exactly the mirror edges of the dead part, carried to the peers
 pub record IsMirrored (r : ManagedReplay) (s : PeerReplay) (c : OpenCycle) : Type 0 where
   pub comps : List (List ℕ)
+  pub heavy : List ℕ
   pub xrefs : List (ℕ × ℕ)
-  pub contraction : IsDeadContraction r.managed c.dead comps xrefs
+  pub contraction : IsDeadContraction r.managed c.dead comps heavy xrefs
   pub stands : s.mirror ≡ None → ⊥
   pub exact : (p q : ℕ) → Refers s.refs p q
       ↔ ((a : ℕ) × (b : ℕ) × MirrorEdge comps xrefs a b × IsRowOf r.managed s.peers.issued a p × IsRowOf r.managed s.peers.issued b q)
@@ -121,7 +133,7 @@ abbrev pub IsWeakenedBy : PeerReplay → ℕ → ℕ → ℕ → Type 0
 IsWeakenedBy s count l h = ((l < count) × HasStrength s h weak) ⊎ ((count ≤ l) × HasStrength s h strong)
 
 abbrev pub IsRestoredBy : PeerReplay → List Answer → ℕ → ℕ → Type 0
-IsRestoredBy s answers l h = (IsKeptAt answers l × HasStrength s h strong) ⊎ ((slice_get answers l ≡ Some said_cleared) × IsGone s h) ⊎ ((length answers ≤ l) × HasStrength s h weak)
+IsRestoredBy s answers l h = ((g : ℕ) × (slice_get answers l ≡ Some (said_alive g)) × IsReplaced s h g) ⊎ ((slice_get answers l ≡ Some said_cleared) × IsGone s h) ⊎ ((length answers ≤ l) × HasStrength s h weak)
 
 -- a candidate whose peer is unfreed leads only to candidates whose peers are unfreed
 abbrev pub LeadsToUnfreed : ManagedReplay → PeerReplay → OpenCycle → Type 0
@@ -139,9 +151,9 @@ pub record IsBeforeMirror (r : ManagedReplay) (s : PeerReplay) (o : OpenSnap) : 
   pub none : s.mirror ≡ None
   pub handles : ForCandidates r.managed cycle (λ l h. HasStrength s h strong)
 
-pub record IsContracted (r : ManagedReplay) (s : PeerReplay) (o : OpenSnap) (comps : List (List ℕ)) (xrefs : List (ℕ × ℕ)) : Type 0 where
+pub record IsContracted (r : ManagedReplay) (s : PeerReplay) (o : OpenSnap) (comps : List (List ℕ)) (heavy : List ℕ) (xrefs : List (ℕ × ℕ)) : Type 0 where
   pub before : IsBeforeMirror r s o
-  pub contraction : IsDeadContraction r.managed before.cycle.dead comps xrefs
+  pub contraction : IsDeadContraction r.managed before.cycle.dead comps heavy xrefs
 
 pub record IsWeakening (r : ManagedReplay) (s : PeerReplay) (o : OpenSnap) (count : ℕ) : Type 0 where
   pub cycle : OpenCycle
@@ -175,16 +187,31 @@ pub record IsRestored (r : ManagedReplay) (s : PeerReplay) (o : OpenSnap) (answe
 abbrev pub IsDriverKept : ManagedReplay → PeerReplay → Stand → Type 0
 IsDriverKept r s idle = IsIdle r s
 IsDriverKept r s (snapped o) = IsBeforeMirror r s o
-IsDriverKept r s (contracted o comps xrefs) = IsContracted r s o comps xrefs
+IsDriverKept r s (contracted o comps heavy xrefs) = IsContracted r s o comps heavy xrefs
 IsDriverKept r s (weakening o count weakened swept) = IsWeakening r s o count
 IsDriverKept r s (marked o) = IsInMarking r s o
 IsDriverKept r s (restoring o answers) = IsRestoring r s o answers
 IsDriverKept r s (restored o answers clear) = IsRestored r s o answers
+
+-- what the driver's restores have answered
+abbrev pub given_at : Stand → List Answer
+given_at (restoring o answers) = answers
+given_at (restored o answers clear) = answers
+given_at _ = []
+
+-- the handles that restores gave and no row took yet are in the driver's hand, the last first, before what threads have
+abbrev pub put_hands : List Answer → List Doing → List Doing
+put_hands [] ds = ds
+put_hands (said_alive h ∷ answers) ds = put_hands answers (given 0 0 h ∷ ds)
+put_hands (said_cleared ∷ answers) ds = put_hands answers ds
+
+abbrev pub hands : Stand → List Doing → List Doing
+hands d ds = put_hands (given_at d) ds
 
 -- all of it
 pub record IsLinkageKept (s : Linkage) : Type 0 where
   pub managed : IsReplayKept s.managed
   pub peer : IsPeerKept s.peer
   pub owners : AreOwnersKept s.managed s.peer
-  pub callers : AreCallersKept s.managed s.peer s.control.doing
+  pub callers : AreCallersKept s.managed s.peer (hands s.control.stand s.control.doing)
   pub driver : IsDriverKept s.managed s.peer s.control.stand

@@ -1,14 +1,14 @@
 -- Laws of both sides together, at every state of a lawful list of entries.
-use Rattle.std.specs.Prelude.{◌≡◌, ℕ, ◌+◌, ◌≤◌, Bool, List, Contains, Some, None, Option, slice_get}
+use Rattle.std.specs.Prelude.{◌≡◌, ℕ, ◌+◌, ◌≤◌, List, Contains, Some, None, Option, slice_get}
 use Rattle.joint_model.specs.declared.events.Op.TheVariants as op
 use Rattle.joint_model.specs.declared.names.Var.{Var}
 use Rattle.joint_model.specs.declared.names.Kind.{Kind}
 use Rattle.joint_model.specs.declared.names.PNum.{PNum}
 use Rattle.joint_model.specs.declared.names.HNum.{HNum}
-use Rattle.joint_model.specs.Control.{OpenSnap, Stand, idle, snapped, contracted, weakening, marked, restoring, restored, candidates_of}
+use Rattle.joint_model.specs.Control.{OpenSnap, Stand, idle, snapped, contracted, weakening, marked, restoring, restored}
 use Rattle.joint_model.specs.Cycles.{IsAnsweredAlive}
 use Rattle.joint_model.specs.Linked.{Linkage, AllMayCome, MayCome, opening_linkage}
-use Rattle.joint_model.specs.Managed.{OpenCycle, Holds, ManagedEdge}
+use Rattle.joint_model.specs.Managed.{OpenCycle, Holds, ManagedEdge, candidates_of}
 use Rattle.joint_model.specs.ManagedReplay.{registered}
 use Rattle.joint_model.specs.Told.{Noted, sweep_of, Answer}
 use Rattle.joint_model.specs.Walks.{Reaches}
@@ -19,7 +19,7 @@ use Rattle.joint_laws.specs.JointAgreement.{AreFlags}
 use Rattle.joint_laws.specs.LinkedInvariants.{IsLinkageKept, HasStrength, IsWeakenedBy, IsRestoredBy}
 use Rattle.joint_laws.specs.PeerInvariants.{IsSpared}
 use Rattle.joint_laws.specs.States.{state_at}
-use Rattle.joint_model.specs.Joined.{joint_of}
+use Rattle.joint_laws.specs.JointAgreement.{Flags, joint_as}
 
 -- what both sides, the threads and the driver keep holds at every state
 abbrev pub LinkageIsKept : Type 0
@@ -31,7 +31,7 @@ LinkageIsKept = (noted : List Noted) → AllMayCome opening_linkage noted → (i
 abbrev pub IsByPhase : PeerReplay → Stand → ℕ → ℕ → Type 0
 IsByPhase s idle l h = ⊥
 IsByPhase s (snapped o) l h = HasStrength s h strong
-IsByPhase s (contracted o comps xrefs) l h = HasStrength s h strong
+IsByPhase s (contracted o comps heavy xrefs) l h = HasStrength s h strong
 IsByPhase s (weakening o count weakened swept) l h = IsWeakenedBy s count l h
 IsByPhase s (marked o) l h = HasStrength s h weak
 IsByPhase s (restoring o answers) l h = IsRestoredBy s answers l h
@@ -59,9 +59,9 @@ AdoptedPeerHasNoTwin = (noted : List Noted) → AllMayCome opening_linkage noted
 
 -- at every state at which a marking is open, it spares each peer that the joint graph reaches
 abbrev pub ReachedIsSpared : Type 0
-ReachedIsSpared = (noted : List Noted) → AllMayCome opening_linkage noted → (i : ℕ) (flags : List Bool) (jm : Option JointMarking) (mk : Marking)
-    → AreFlags (state_at noted i).managed.managed (state_at noted i).peer flags → (state_at noted i).peer.marking ≡ Some mk
-    → (p : ℕ) → IsReached (joint_of (state_at noted i).managed.managed (state_at noted i).peer flags jm) (peer p) → IsSpared mk p
+ReachedIsSpared = (noted : List Noted) → AllMayCome opening_linkage noted → (i : ℕ) (flags : Flags) (jm : Option JointMarking) (mk : Marking)
+    → AreFlags (state_at noted i).peer flags → (state_at noted i).peer.marking ≡ Some mk
+    → (p : ℕ) → IsReached (joint_as (state_at noted i).managed.managed (state_at noted i).peer flags jm) (peer p) → IsSpared mk p
 
 -- a marking is open at the state at place i and at each of so many after it; no begin opens one meanwhile, so it is one
 -- marking
@@ -70,12 +70,12 @@ IsOpenUntil noted i more = (k : ℕ) → k ≤ more → (state_at noted (i + k))
 
 -- no peer that the joint graph reaches while a marking is open is freed by the sweep that ends that marking
 abbrev pub ReachedIsNotSwept : Type 0
-ReachedIsNotSwept = (noted : List Noted) → AllMayCome opening_linkage noted → (i more : ℕ) (flags : List Bool) (jm : Option JointMarking)
-    → AreFlags (state_at noted i).managed.managed (state_at noted i).peer flags → IsOpenUntil noted i more
-    → (p : ℕ) → IsReached (joint_of (state_at noted i).managed.managed (state_at noted i).peer flags jm) (peer p)
+ReachedIsNotSwept = (noted : List Noted) → AllMayCome opening_linkage noted → (i more : ℕ) (flags : Flags) (jm : Option JointMarking)
+    → AreFlags (state_at noted i).peer flags → IsOpenUntil noted i more
+    → (p : ℕ) → IsReached (joint_as (state_at noted i).managed.managed (state_at noted i).peer flags jm) (peer p)
     → (n : Noted) (freed : List ℕ) → MayCome (state_at noted (i + more)) n → n.entry.made.op ≡ op.Sweep → n.told ≡ sweep_of freed → Contains freed p → ⊥
 
 -- the joint twin of a peer is what the registry answers, at every state, whatever the flags
 abbrev pub TwinIsRegistered : Type 0
-TwinIsRegistered = (noted : List Noted) → AllMayCome opening_linkage noted → (i : ℕ) (flags : List Bool) (jm : Option JointMarking)
-    → (p : ℕ) → twin_of (joint_of (state_at noted i).managed.managed (state_at noted i).peer flags jm) p ≡ registered (state_at noted i).managed.registry p
+TwinIsRegistered = (noted : List Noted) → AllMayCome opening_linkage noted → (i : ℕ) (flags : Flags) (jm : Option JointMarking)
+    → (p : ℕ) → twin_of (joint_as (state_at noted i).managed.managed (state_at noted i).peer flags jm) p ≡ registered (state_at noted i).managed.registry p

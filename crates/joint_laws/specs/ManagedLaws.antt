@@ -35,5 +35,5 @@ DeadPartIsFrozen = (noted : List Noted) → AllMayCome opening_linkage noted →
 -- in a managed state that is kept, between the candidates of an open cycle the mirror edges of its dead part lead exactly
 -- where managed fields lead
 abbrev pub DeadPartIsMirrored : Type 0
-DeadPartIsMirrored = (s : Managed) (c : OpenCycle) (comps : List (List ℕ)) (xrefs : List (ℕ × ℕ)) → IsManagedKept s → s.cycle ≡ Some c → IsDeadContraction s c.dead comps xrefs
+DeadPartIsMirrored = (s : Managed) (c : OpenCycle) (comps : List (List ℕ)) (heavy : List ℕ) (xrefs : List (ℕ × ℕ)) → IsManagedKept s → s.cycle ≡ Some c → IsDeadContraction s c.dead comps heavy xrefs
     → (a b : ℕ) → Contains c.candidates a → Contains c.candidates b → Reaches (ManagedEdge s) a b ↔ Reaches (MirrorEdge comps xrefs) a b

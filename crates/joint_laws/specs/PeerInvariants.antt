@@ -3,6 +3,7 @@ use Rattle.std.specs.Prelude.{◌≡◌, ℕ, ◌≤◌, ◌⊎◌, List, length
 use Rattle.joint_model.specs.Heaps.{Heap, IsMade, IsLive, InSlot, fields_of, numbered_at}
 use Rattle.joint_model.specs.Peers.{Issued, held, raw, strong}
 use Rattle.joint_model.specs.PeerReplay.{PeerReplay, TableRow, Mirror, Marking, MarkingEdge, IsMarked, Refers}
+use Rattle.joint_model.specs.Components.{End}
 
 -- nothing that was freed is named: slots and fields of unfreed objects name unfreed objects
 pub record IsHeapKept (h : Heap) : Type 0 where
@@ -31,7 +32,7 @@ pub record AreHandlesKept (h : Heap) (issued : List Issued) (table : List (Optio
 
 -- the source of a mirrored reference was made, and where it is unfreed so is the target; references stand only while a cycle
 -- is mirrored; and only held handles are weakened
-pub record AreReferencesKept (h : Heap) (issued : List Issued) (refs : List (ℕ × ℕ)) (mirror : Option Mirror) : Type 0 where
+pub record AreReferencesKept (h : Heap) (issued : List Issued) (refs : List (End × End)) (mirror : Option Mirror) : Type 0 where
   pub made : (p q : ℕ) → Refers refs p q → IsMade h p
   pub live : (p q : ℕ) → Refers refs p q → IsLive h p → IsLive h q
   pub none : mirror ≡ None → (p q : ℕ) → Refers refs p q → ⊥
@@ -43,7 +44,7 @@ IsSpared mk p = IsLive mk.heap p → (IsMarked mk p → ⊥) → ⊥
 
 -- while a marking is open: the peers of its begin are unfreed; each edge of now is one of its begin, or leads to a spared
 -- peer; and peers in slots and under strong handles are spared
-pub record IsMarkingKept (h : Heap) (issued : List Issued) (table : List (Option TableRow)) (refs : List (ℕ × ℕ)) (mk : Marking) : Type 0 where
+pub record IsMarkingKept (h : Heap) (issued : List Issued) (table : List (Option TableRow)) (refs : List (End × End)) (mk : Marking) : Type 0 where
   pub made : length mk.heap.fields ≤ length h.fields
   pub existed : (p : ℕ) → IsLive mk.heap p → IsLive h p
   pub fields : (p q : ℕ) → IsLive h p → Contains (fields_of h p) (Some q) → MarkingEdge mk p q ⊎ IsSpared mk q

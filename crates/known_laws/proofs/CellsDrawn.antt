@@ -139,7 +139,7 @@ cells-after s t (op.Give v) told =
     ap (λ (z : Managed). z.cells) (give_by-managed s (slot s.managed.heap.vars u) (given_up s.managed u)) ∙ give-cells s.managed (slot s.managed.heap.vars u)
 cells-after s t (op.Snap k) (snap_of freed candidates dead) = refl
 cells-after s t (op.Snap k) told = refl
-cells-after s t (op.Contract k) (contraction_of comps xrefs) = refl
+cells-after s t (op.Contract k) (contraction_of comps heavy xrefs) = refl
 cells-after s t (op.Contract k) told = refl
 cells-after s t (op.Resolve k) (resolution_of alive freed) = refl
 cells-after s t (op.Resolve k) told = refl

@@ -27,10 +27,11 @@ use Rattle.known_laws.proofs.KnownPasts.{known_past_is_kept}
 use Rattle.known_laws.proofs.Later.{kept_end}
 
 mirror-adds : (s : Linkage) (st : Stand) (t : Thread) (k : Cycle) (reply : Reply) (cites : Option ℕ) (told : Told) → IsDriverKept s.managed s.peer st → MayMirrorNow st s.managed.managed s.peer.peers.issued k.0 cites told → reply ≡ (peer_answer s.peer t (op.Mirror k) cites told).reply → AddsMirrorEdges s told reply k.0
-mirror-adds s (contracted o comps xrefs) t k reply cites (references_of refs) d a e = record {
+mirror-adds s (contracted o comps heavy xrefs) t k reply cites (references_of refs) d a e = record {
   cycle = d.before.cycle;
   open_cycle = (d.before.opened.cycle, d.before.opened.number ∙ a.0);
   comps = comps;
+  heavy = heavy;
   xrefs = xrefs;
   contraction = d.contraction;
   refs = refs;
@@ -38,7 +39,7 @@ mirror-adds s (contracted o comps xrefs) t k reply cites (references_of refs) d 
   tells = refl;
   replies = e;
 }
-mirror-adds s (contracted o comps xrefs) t k reply cites told d a e = absurd a
+mirror-adds s (contracted o comps heavy xrefs) t k reply cites told d a e = absurd a
 mirror-adds s st t k reply cites told d a e = absurd a
 
 weaken-takes : (s : Linkage) (st : Stand) (g : ℕ) (cites : Option ℕ) → MirrorFits s.managed s.peer st → MayWeakenNow st s.managed.managed g cites → TakesNext s cites g

@@ -173,8 +173,8 @@ stand-begins : (st : Stand) (k n : ℕ) (o : Op) (r : Reply) (told : Told) → I
 stand-begins st k n (op.Snap c) r told w = absurd w
 stand-begins st k n (op.Resolve c) r told w = absurd w
 stand-begins st k n (op.Abandon c) r told w = absurd w
-stand-begins (snapped o) k n (op.Contract c) r (contraction_of comps xrefs) w = absurd w
-stand-begins (contracted o comps xrefs) k n (op.Mirror c) r told w = absurd w
+stand-begins (snapped o) k n (op.Contract c) r (contraction_of comps heavy xrefs) w = absurd w
+stand-begins (contracted o comps heavy xrefs) k n (op.Mirror c) r told w = absurd w
 stand-begins (weakening o count y z) k n (op.Weaken g) r told w = absurd w
 stand-begins (weakening o count y z) k n op.Sweep r told w = absurd w
 stand-begins (weakening o count y z) k n op.Begin r told w = absurd w

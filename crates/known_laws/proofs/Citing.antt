@@ -18,9 +18,9 @@ use Rattle.joint_model.specs.declared.events.Op.TheVariants as op
 use Rattle.joint_model.specs.declared.events.Reply.{Reply}
 use Rattle.joint_model.specs.declared.events.Reply.TheVariants as says
 use Rattle.joint_model.specs.declared.events.Made.{Made}
-use Rattle.joint_model.specs.Control.{Doing, free, made, lent, gripped, given, met, Stand, idle, snapped, contracted, weakening, marked, restoring, restored, CallerAllows, candidates_of, doing_after, stand_after, control_after, doing_at, MayStart, MayAdopt, MayLand, MayMeet, MayRelease, MaySnap, MayContractNow, MayMirrorNow, MayWeakenNow, MayBeginNow, MaySweepNow, MayRestoreNow, MayResolveNow, MayClearNow, MayAbandonNow, MayRefuseNow, DriverAllows}
+use Rattle.joint_model.specs.Control.{Doing, free, made, lent, gripped, given, met, Stand, idle, snapped, contracted, weakening, marked, restoring, restored, CallerAllows, doing_after, stand_after, control_after, doing_at, MayStart, MayAdopt, MayLand, MayMeet, MayRelease, MaySnap, MayContractNow, MayMirrorNow, MayWeakenNow, MayBeginNow, MaySweepNow, MayRestoreNow, MayResolveNow, MayClearNow, MayAbandonNow, MayRefuseNow, DriverAllows}
 use Rattle.joint_model.specs.Lines.{IsEvent}
-use Rattle.joint_model.specs.Managed.{Managed}
+use Rattle.joint_model.specs.Managed.{Managed, candidates_of}
 use Rattle.joint_model.specs.Peers.{Issued}
 use Rattle.joint_model.specs.Told.{Told, Noted, contraction_of, references_of, resolution_of, phase_of}
 use Rattle.joint_laws.specs.LinkedInvariants.{doing_in}
@@ -74,7 +74,7 @@ begins x h u _ reply c e r = tt
 abbrev pub WasOpened : List Noted → Stand → Type 0
 WasOpened h idle = Unit {0}
 WasOpened h (snapped o) = Began h C o.snap (IsSnapOf o.cycle)
-WasOpened h (contracted o comps xrefs) = Began h C o.snap (IsSnapOf o.cycle)
+WasOpened h (contracted o comps heavy xrefs) = Began h C o.snap (IsSnapOf o.cycle)
 WasOpened h (weakening o count x y) = Began h C o.snap (IsSnapOf o.cycle)
 WasOpened h (marked o) = Unit {0}
 WasOpened h (restoring o answers) = Unit {0}
@@ -83,7 +83,7 @@ WasOpened h (restored o answers clear) = Began h C clear (IsClearOf o.cycle)
 opened_later : (x : Noted) (h : List Noted) (st : Stand) → WasOpened h st → WasOpened (x ∷ h) st
 opened_later x h idle b = tt
 opened_later x h (snapped o) b = later x h C o.snap _ b
-opened_later x h (contracted o comps xrefs) b = later x h C o.snap _ b
+opened_later x h (contracted o comps heavy xrefs) b = later x h C o.snap _ b
 opened_later x h (weakening o count y z) b = later x h C o.snap _ b
 opened_later x h (marked o) b = tt
 opened_later x h (restoring o answers) b = tt
@@ -98,8 +98,8 @@ opens x h st m i line (op.Snap k) reply cites told e f a b = record { begun = x;
 opens x h st m i line (op.Clear k) reply cites told e f a b = (let w = a k refl in clears x h st w.0 k.0 reply told cites e f w.1)
 opens x h st m i line (op.Resolve k) reply cites told e f a b = tt
 opens x h st m i line (op.Abandon k) reply cites told e f a b = tt
-opens x h (snapped o) m i line (op.Contract k) reply cites (contraction_of comps xrefs) e f a b = later x h C o.snap _ b
-opens x h (contracted o comps xrefs) m i line (op.Mirror k) reply cites told e f a b = later x h C o.snap _ b
+opens x h (snapped o) m i line (op.Contract k) reply cites (contraction_of comps heavy xrefs) e f a b = later x h C o.snap _ b
+opens x h (contracted o comps heavy xrefs) m i line (op.Mirror k) reply cites told e f a b = later x h C o.snap _ b
 opens x h (weakening o count y z) m i line (op.Weaken g) reply cites told e f a b = later x h C o.snap _ b
 opens x h (weakening o count y z) m i line op.Sweep reply cites told e f a b = later x h C o.snap _ b
 opens x h (weakening o count y z) m i line op.Begin reply cites told e f a b = tt
@@ -187,7 +187,7 @@ clear-none _ n k c a = absurd a
 
 abandon-none : (st : Stand) (k : ℕ) (c : Option ℕ) → MayAbandonNow st k c → c ≡ None
 abandon-none (snapped o) k c a = a.1
-abandon-none (contracted o comps xrefs) k c a = a.1
+abandon-none (contracted o comps heavy xrefs) k c a = a.1
 abandon-none _ k c a = absurd a
 
 refuse-none : (st : Stand) (n : ℕ) (c : Option ℕ) (told : Told) → MayRefuseNow st n c told → c ≡ None
@@ -243,8 +243,8 @@ module _ (x : Noted) (h : List Noted) (l : Lawful (x ∷ h)) where
   release-cites _ u g e b a = absurd a
 
   mirror-cites : (st : Stand) (m : Managed) (i : List Issued) (k : ℕ) (told : Told) → x.entry.made.caller ≡ C → WasOpened h st → MayMirrorNow st m i k x.entry.made.cites told → HasCited h x.entry.made x.entry.number (IsSnapOf k)
-  mirror-cites (contracted o comps xrefs) m i k (references_of refs) e b a = cited_by x h C o.snap _ _ l e a.1 (λ m q. subst (λ c. IsSnapOf c m) a.0 q) b
-  mirror-cites (contracted o comps xrefs) m i k _ e b a = absurd a
+  mirror-cites (contracted o comps heavy xrefs) m i k (references_of refs) e b a = cited_by x h C o.snap _ _ l e a.1 (λ m q. subst (λ c. IsSnapOf c m) a.0 q) b
+  mirror-cites (contracted o comps heavy xrefs) m i k _ e b a = absurd a
   mirror-cites _ m i k told e b a = absurd a
 
   weaken-cites : (st : Stand) (m : Managed) (g : ℕ) → x.entry.made.caller ≡ C → WasOpened h st → MayWeakenNow st m g x.entry.made.cites → HasCited h x.entry.made x.entry.number (λ m. (k : ℕ) × IsSnapOf k m)

@@ -171,7 +171,7 @@ IsUnfreeing _ = Unit {0}
 none_freed : (s : ManagedReplay) (o : Op) (told : Told) → IsUnfreeing o → ManagedAllows s o told → objects_freed told ≡ []
 none_freed s (op.Snap k) told u w = absurd u
 none_freed s (op.Resolve k) told u w = absurd u
-none_freed s (op.Contract k) (contraction_of comps xrefs) u w = refl
+none_freed s (op.Contract k) (contraction_of comps heavy xrefs) u w = refl
 none_freed s (op.Contract k) _ u w = absurd w
 none_freed s (op.Refused v) (phase_of p) u w = refl
 none_freed s (op.Refused v) _ u w = absurd w

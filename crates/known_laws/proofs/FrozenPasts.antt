@@ -11,8 +11,8 @@ use Rattle.joint_model.specs.declared.names.Thread.TheVariants.{M, P, C}
 use Rattle.joint_model.specs.declared.events.Op.{Op}
 use Rattle.joint_model.specs.declared.events.Op.TheVariants as op
 use Rattle.joint_model.specs.declared.events.Made.{Made}
-use Rattle.joint_model.specs.Components.{mirror_edges}
-use Rattle.joint_model.specs.Control.{peer_of_row}
+use Rattle.joint_model.specs.Components.{mirror_edges, IsContraction, End, node, temporary}
+use Rattle.joint_model.specs.Control.{peer_of_row, carried_end}
 use Rattle.joint_model.specs.Heaps.{place, slot, fields_of}
 use Rattle.joint_model.specs.Cycles.{IsDeadContraction, DeadEdge}
 use Rattle.joint_model.specs.Lines.{IsEvent, is_peer_event}
@@ -31,8 +31,9 @@ use Rattle.joint_laws.proofs.ManagedKeeping.{dead-held, dead-fields, cut_on}
 use Rattle.joint_laws.proofs.ManagedMoves.{GoesOn, GoesOn-stay, managed_line-goes_on, adopted-goes_on, met-goes_on, given_up-goes_on}
 use Rattle.joint_laws.proofs.ManagedSteps.{meet_by-managed, give_by-managed, twin-live}
 use Rattle.joint_laws.proofs.DriverPeerSteps.{holds-handle_of}
-use Rattle.joint_laws.proofs.SameGraphs.{contraction-same, mirror_edge-ends}
-use Rattle.known_laws.specs.Pasts.{is_in, line, of_line, end_of, Lawful, Within, HasSameDeadPart, IsSameForDriver, IsFrozenIn, KnownPastsJoin, EntryMayMove, driver_line}
+use Rattle.joint_laws.proofs.SameGraphs.{contraction-same}
+use Rattle.joint_laws.proofs.Mirrors.{edge-ends, IsEnd}
+use Rattle.known_laws.specs.Pasts.{role_of, is_in, line, of_line, end_of, Lawful, Within, HasSameDeadPart, IsSameForDriver, IsFrozenIn, KnownPastsJoin, EntryMayMove, driver_line}
 use Rattle.joint_model.specs.HistoryLines.{caller_line}
 use Rattle.known_laws.proofs.PastLines.{off, in_role, in_own, line_in, line_out, snoc_same, snoc_some, shorter_begins}
 use Rattle.joint_model.specs.Linked.{linkage_after}
@@ -184,6 +185,11 @@ map_same f g (x ∷ xs) h = λ i. h x (Contains-here x xs) i ∷ map_same f g xs
 row_same : (s t : Managed) (issued : List Issued) (m : ℕ) → handle_of s m ≡ handle_of t m → peer_of_row s issued m ≡ peer_of_row t issued m
 row_same s t issued m e = ap (λ o. elim o [ None ↦ 0 | Some h ↦ elim (peer_of issued h) [ None ↦ 0 | Some p ↦ p ] ]) e
 
+end_same : (s t : Managed) (issued : List Issued) (bridge : ℕ → Type 0) (edge : ℕ → ℕ → Type 0) (comps : List (List ℕ)) (heavy : List ℕ) (xrefs : List (ℕ × ℕ)) (k : IsContraction bridge edge comps heavy xrefs) → ((m : ℕ) → bridge m → handle_of s m ≡ handle_of t m) → (e : End) → IsEnd bridge edge comps heavy xrefs k e
+    → carried_end s issued e ≡ carried_end t issued e
+end_same s t issued bridge edge comps heavy xrefs k h (node m) w = ap node (row_same s t issued m (h m w))
+end_same s t issued bridge edge comps heavy xrefs k h (temporary i) w = refl
+
 pub frozen_in : (whole : List Noted) → IsFrozenIn whole
 frozen_in whole a b la lb wa wb e = by (alike whole (length a + length b) a b (omega arith) la lb wa wb e)
   where
@@ -191,7 +197,7 @@ frozen_in whole a b la lb wa wb e = by (alike whole (length a + length b) a b (o
     by (closed x y) = record {
       candidates = ap (λ o. elim o [ None ↦ [] | Some c ↦ c.candidates ]) (x ∙ sym y);
       handles = λ i h w. absurd (none_get i w.0 (subst (λ (o : Option OpenCycle). slice_get (elim o [ None ↦ [] | Some c ↦ c.candidates ]) i ≡ Some w.0) x w.1));
-      edges = λ o comps xrefs issued q. let d : IsContracted (end_of b).managed (end_of b).peer o comps xrefs = subst (IsDriverKept (end_of b).managed (end_of b).peer) q (kept_end b lb).driver in
+      edges = λ o comps heavy xrefs issued q. let d : IsContracted (end_of b).managed (end_of b).peer o comps heavy xrefs = subst (IsDriverKept (end_of b).managed (end_of b).peer) q (kept_end b lb).driver in
           absurd (none_some _ (sym y ∙ d.before.opened.cycle));
     }
       where
@@ -203,12 +209,13 @@ frozen_in whole a b la lb wa wb e = by (alike whole (length a + length b) a b (o
           let at : slice_get c.candidates i ≡ Some w.0 = subst (λ z. slice_get z i ≡ Some w.0) (candidates_of-open (end_of a).managed.managed c x) w.1 in
           let dead = ((((kept_end a la).managed.managed.dead c x).candidates w.0).0 (Contains-at c.candidates i w.0 at)).0 in
           (w.0, subst (λ z. slice_get z i ≡ Some w.0) (sym (candidates_of-open (end_of b).managed.managed c y)) at, sym (h w.0 dead).0 ∙ w.2);
-      edges = λ o comps xrefs issued q.
-          let d : IsContracted (end_of b).managed (end_of b).peer o comps xrefs = subst (IsDriverKept (end_of b).managed (end_of b).peer) q (kept_end b lb).driver in
+      edges = λ o comps heavy xrefs issued q.
+          let d : IsContracted (end_of b).managed (end_of b).peer o comps heavy xrefs = subst (IsDriverKept (end_of b).managed (end_of b).peer) q (kept_end b lb).driver in
           let is : d.before.cycle ≡ c = same_Some _ _ (sym d.before.opened.cycle ∙ y) in
           map_same _ _ (mirror_edges comps xrefs) (λ g w.
-          let ends = mirror_edge-ends _ _ comps xrefs d.contraction g.0 g.1 w in
-          (λ k. (row_same (end_of a).managed.managed (end_of b).managed.managed issued g.0 (h g.0 (subst (λ (z : OpenCycle). Contains z.dead g.0) is ends.0.0)).0 k, row_same (end_of a).managed.managed (end_of b).managed.managed issued g.1 (h g.1 (subst (λ (z : OpenCycle). Contains z.dead g.1) is ends.1.0)).0 k)));
+          let ends = edge-ends _ _ comps heavy xrefs d.contraction g.0 g.1 w in
+          let same = λ (m : ℕ) (q : Contains d.before.cycle.dead m × IsBridge (end_of b).managed.managed m). (h m (subst (λ (z : OpenCycle). Contains z.dead m) is q.0)).0 in
+          (λ k. (end_same (end_of a).managed.managed (end_of b).managed.managed issued _ _ comps heavy xrefs d.contraction same g.0 ends.0 k, end_same (end_of a).managed.managed (end_of b).managed.managed issued _ _ comps heavy xrefs d.contraction same g.1 ends.1 k)));
     }
 
 -- the graph of the dead part is the same, and so is its contraction
@@ -224,17 +231,17 @@ dead_part-alike s t ks kt (closed x y) = record {
   cycle = x ∙ sym y;
   handles = λ c o m d. absurd (none_some c (sym x ∙ o));
   fields = λ c o m d. absurd (none_some c (sym x ∙ o));
-  contraction = λ c o comps xrefs w. absurd (none_some c (sym x ∙ o));
+  contraction = λ c o comps heavy xrefs w. absurd (none_some c (sym x ∙ o));
 }
 dead_part-alike s t ks kt (open_one d x y h) = record { cycle = x ∙ sym y; handles = λ c o m w. (same c o m w).0; fields = λ c o m w. (same c o m w).1; contraction = contraction }
   where
     same : (c : OpenCycle) → s.cycle ≡ Some c → (m : ℕ) → Contains c.dead m → (handle_of s m ≡ handle_of t m) × (fields_of s.heap m ≡ fields_of t.heap m)
     same c o m w = h m (subst (λ (z : OpenCycle). Contains z.dead m) (same_Some c d (sym o ∙ x)) w)
 
-    contraction : (c : OpenCycle) → s.cycle ≡ Some c → (comps : List (List ℕ)) (xrefs : List (ℕ × ℕ)) → IsDeadContraction s c.dead comps xrefs → IsDeadContraction t c.dead comps xrefs
-    contraction c o comps xrefs w =
+    contraction : (c : OpenCycle) → s.cycle ≡ Some c → (comps : List (List ℕ)) (heavy : List ℕ) (xrefs : List (ℕ × ℕ)) → IsDeadContraction s c.dead comps heavy xrefs → IsDeadContraction t c.dead comps heavy xrefs
+    contraction c o comps heavy xrefs w =
         let oc : t.cycle ≡ Some c = y ∙ ap Some (same_Some d c (sym x ∙ o)) in
-        contraction-same (λ m. Contains c.dead m × IsBridge s m) (λ m. Contains c.dead m × IsBridge t m) (DeadEdge s c.dead) (DeadEdge t c.dead) comps xrefs
+        contraction-same (λ m. Contains c.dead m × IsBridge s m) (λ m. Contains c.dead m × IsBridge t m) (DeadEdge s c.dead) (DeadEdge t c.dead) comps heavy xrefs
         (λ m. (λ q. (q.0, bridge-on s t m kt (same c o m q.0).0 q.1), λ q. (q.0, bridge-on t s m ks (sym (same c o m q.0).0) q.1)))
         (λ u v. (edge-on s t c kt oc (λ m q. (same c o m q).1) u v, edge-on t s c ks o (λ m q. sym (same c o m q).1) u v)) w
 

@@ -1,9 +1,9 @@
--- A held handle leaves the table by a release, or by a restore that answered cleared, alone: each other entry keeps the rows of the
+-- A held handle leaves the table by a release, or by a restore, alone: each other entry keeps the rows of the
 -- handles that were there, and each handle that is issued comes into the table.
+use Rattle.std.proofs.Common.{◌≡◌, ◌⊎◌, inl, inr, ⊎_elim, ℕ, zero, suc, ◌+◌, ◌-◌, ◌<◌, ◌≤◌, Bool, true, false, ◌||◌, List, [], ◌∷◌, ◌++◌, length, map, drop, Option, Some, None, refl, sym, ap, ◌∙◌, subst, arith, length-append}
 use Rattle.known_laws.proofs.Coming.{peer_of as peer_lawful}
 use Rattle.joint_model.specs.Linked.{PeerLawful}
 use Rattle.joint_model.specs.Told.{bare_told}
-use Rattle.std.proofs.Common.{◌≡◌, ◌⊎◌, inl, inr, ⊎_elim, ℕ, zero, suc, ◌+◌, ◌-◌, ◌<◌, ◌≤◌, Bool, true, false, ◌||◌, List, [], ◌∷◌, ◌++◌, length, map, drop, Option, Some, None, refl, sym, ap, ◌∙◌, subst, arith}
 use Rattle.std.specs.Prelude.{if◌then◌else◌, min, nat_lt, slice_get}
 use Rattle.std.proofs.lemmas.Bool.{cases_eq, cases_lt}
 use Rattle.std.proofs.lemmas.Option.{same_Some}
@@ -18,9 +18,9 @@ use Rattle.joint_model.specs.declared.events.Reply.TheVariants as says
 use Rattle.joint_model.specs.declared.events.Made.{Made}
 use Rattle.joint_model.specs.Heaps.{Answered, answer, slot, numbered_set, is_full}
 use Rattle.joint_model.specs.Lines.{is_peer_event}
-use Rattle.joint_model.specs.Linked.{Linkage, peer_after}
-use Rattle.joint_model.specs.Peers.{Peers, Issued, strong, weak, peer_of, peer_line, pair_made, landed, gripped as grip_static, handles_full}
-use Rattle.joint_model.specs.PeerReplay.{PeerReplay, TableRow, Marking, fresh_row, row_of, table_target, on_table, bring_by, brings, untabled, peer_thread_line, is_thread, sliced, begun, swept_of, swept, restored_by, peer_answer, brought_handle, with_restored, mirrored}
+use Rattle.joint_model.specs.Linked.{Linkage, SideLawful, peer_after}
+use Rattle.joint_model.specs.Peers.{Peers, Issued, strong, weak, peer_of, peer_line, pair_made, landed, gripped as grip_static, handles_full, held}
+use Rattle.joint_model.specs.PeerReplay.{PeerReplay, TableRow, Marking, fresh_row, row_of, table_target, on_table, bring_by, brings, untabled, peer_thread_line, is_thread, sliced, begun, swept_of, swept, restored_by, peer_answer, withdrawn, given_anew, with_restored, mirrored}
 use Rattle.joint_model.specs.Run.{thread_number}
 use Rattle.joint_model.specs.Told.{Told, Noted, references_of, slice_of, sweep_of}
 use Rattle.joint_model.proofs.Numbered.{numbered-within, numbered-made, numbered_set-length}
@@ -33,6 +33,11 @@ use Rattle.joint_laws.proofs.PeerQuietEvents.{quiet-line, quiet-pair, quiet-grip
 use Rattle.known_laws.specs.Pasts.{InPast, Lawful, end_of}
 use Rattle.known_laws.specs.Facts.{TakesHandle, HandlesLeaveSo}
 use Rattle.known_laws.proofs.Later.{kept_end}
+use Rattle.joint_model.specs.Components.{End}
+use Rattle.joint_laws.proofs.Restores.{restored-any}
+use Rattle.joint_laws.proofs.HandlesAlike.{HandlesAlike-then}
+use Rattle.joint_laws.proofs.PeerQuiet.{HandlesAlike-issued}
+use Rattle.joint_model.proofs.Numbered.{numbered-push_new}
 
 abbrev HasRow : PeerReplay → ℕ → Type 0
 HasRow s g = (row : TableRow) × IsTabled s.table g row
@@ -142,22 +147,25 @@ module _ (s : PeerReplay) (k : IsPeerKept s) (m : Made) (g : ℕ) where
   written : (t : PeerReplay) (h : ℕ) (new : TableRow) → t.table ≡ numbered_set s.table h (Some new) → g ≡ h → HasRow s g → HasRow t g ⊎ TakesHandle m g
   written t h new e same r = let w = written-strength s t h r.0 new (subst (λ z. IsTabled s.table z r.0) same r.1) e in inl (w.0, subst (λ z. IsTabled t.table z w.0) (sym same) w.1)
 
-  mirror_follows : (c : ℕ) (cites : Option ℕ) (refs : List (ℕ × ℕ)) → Follows s (mirrored s c cites refs) m g
+  mirror_follows : (c : ℕ) (cites : Option ℕ) (refs : List (End × End)) → Follows s (mirrored s c cites refs) m g
   mirror_follows c None refs = still s s m g refl refl
   mirror_follows c (Some snap) refs = still s (mirrored s c (Some snap) refs) m g refl refl
 
-  restore_follows : (h : ℕ) (x : Option TableRow) → m.op ≡ op.Restore record { 0 = h } → m.reply ≡ (restored_by s h x).reply → Follows s (restored_by s h x).state m g
-  restore_follows h None e r = still s s m g refl refl
-  restore_follows h (Some row) e r = by row.cleared r
+  restore_follows : (h : ℕ) (x : Option TableRow) → m.op ≡ op.Restore record { 0 = h } → Follows s (restored_by s h x).state m g
+  restore_follows h x e = restored-any (λ a. Follows s a.state m g) s h x (still s s m g refl refl) (only_follows (withdrawn s h) h None refl refl gone)
+      (λ p. alike (Only h) s (given_anew (withdrawn s h) p) m g
+      (HandlesAlike-then (Only h) s (withdrawn s h) (given_anew (withdrawn s h) p) (HandlesAlike-only s (withdrawn s h) h None refl refl refl)
+      (HandlesAlike-issued (withdrawn s h) (given_anew (withdrawn s h) p) (new p) (numbered_set-length s.table h None ∙ k.handles.places) refl refl refl (λ z. refl)))
+      (λ same w. inr (inr (e ∙ (λ i. op.Restore record { 0 = sym same i }))))
+      (cases_eq g h)
+      (λ l n. let at : g ≡ length (withdrawn s h).table + 1 = omega (arith, l, n, length-append s.peers.issued (new p ∷ []), numbered_set-length s.table h None, k.handles.places) in
+      (record { strength = strong; cleared = false }, subst (λ z. IsTabled ((withdrawn s h).table ++ fresh_row (new p) ∷ []) z (record { strength = strong; cleared = false })) (sym at) (numbered-push_new (withdrawn s h).table (fresh_row (new p))))))
     where
-      Back : Bool → Answered PeerReplay
-      Back b = if b
-          then answer says.Cleared (record s { table = numbered_set s.table h None; mirror = with_restored s.mirror h })
-          else answer says.Alive (record s { table = numbered_set s.table h (Some (record row { strength = strong })); mirror = with_restored s.mirror h; marking = brought_handle s.marking (peer_of s.peers.issued h) })
+      new : ℕ → Issued
+      new p = record { peer = p; hold = held; strength = strong }
 
-      by : (b : Bool) → m.reply ≡ (Back b).reply → Follows s (Back b).state m g
-      by true r = only_follows (Back true).state h None refl refl (λ same w. inr (inr (e ∙ (λ i. op.Restore record { 0 = sym same i }), r)))
-      by false r = only_follows (Back false).state h (Some (record row { strength = strong })) refl refl (written (Back false).state h (record row { strength = strong }) refl)
+      gone : g ≡ h → HasRow s g → HasRow (withdrawn s h) g ⊎ TakesHandle m g
+      gone same w = inr (inr (e ∙ (λ i. op.Restore record { 0 = sym same i })))
 
   answer_follows : (t : Thread) (o : Op) (told : Told) → m.op ≡ o → m.reply ≡ (peer_answer s t o m.cites told).reply → Follows s (peer_answer s t o m.cites told).state m g
   answer_follows t (op.Line (act.Slice n)) (slice_of closure) e r = slice_follows s.marking t n closure
@@ -173,7 +181,7 @@ module _ (s : PeerReplay) (k : IsPeerKept s) (m : Made) (g : ℕ) where
   answer_follows t op.Begin told e r = begin_follows s.marking t
   answer_follows t op.Sweep (sweep_of freed) e r = sweep_follows s.marking t freed
   answer_follows t op.Sweep _ e r = sweep_follows s.marking t []
-  answer_follows t (op.Restore h) told e r = restore_follows h.0 (row_of s h.0) e r
+  answer_follows t (op.Restore h) told e r = restore_follows h.0 (row_of s h.0) e
   answer_follows t (op.Clear c) told e r = still s (peer_answer s t (op.Clear c) m.cites told).state m g refl refl
   answer_follows t _ told e r = still s s m g refl refl
 

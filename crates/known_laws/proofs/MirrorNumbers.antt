@@ -25,6 +25,7 @@ use Rattle.joint_laws.proofs.ManagedEntries.{ManagedStep-entry}
 use Rattle.joint_laws.proofs.ManagedSteps.{ManagedStep, going_on, snapping, resolving, abandoning}
 use Rattle.known_laws.specs.Driving.{IsLater, AreMirrorsOpened}
 use Rattle.known_laws.proofs.PeerKeeps.{IsNoMirror, same_mirrors_after}
+use Rattle.joint_model.specs.Components.{End}
 
 -- the driver's events other than a snapshot, a contraction and a mirror
 abbrev IsRest : Op → Type 0
@@ -55,27 +56,27 @@ cycles-grow s t (snapping p) = let e = ap (λ (z : Managed). z.cycles) p.is in o
 cycles-grow s t (resolving p) = let e = ap (λ (z : Managed). z.cycles) p.is in omega (arith, e)
 cycles-grow s t (abandoning p) = let e = ap (λ (z : Managed). z.cycles) p.is in omega (arith, e)
 
-contract-later : (st : Stand) (ms : List ℕ) (num k : ℕ) (reply : Reply) (cites : Option ℕ) (comps : List (List ℕ)) (xrefs : List (ℕ × ℕ)) → MayContractNow st k cites → IsLater st ms → IsLater (stand_after st num (op.Contract record { 0 = k }) reply (contraction_of comps xrefs)) ms
-contract-later (snapped o) ms num k reply cites comps xrefs a l = l
-contract-later _ ms num k reply cites comps xrefs a l = absurd a
+contract-later : (st : Stand) (ms : List ℕ) (num k : ℕ) (reply : Reply) (cites : Option ℕ) (comps : List (List ℕ)) (heavy : List ℕ) (xrefs : List (ℕ × ℕ)) → MayContractNow st k cites → IsLater st ms → IsLater (stand_after st num (op.Contract record { 0 = k }) reply (contraction_of comps heavy xrefs)) ms
+contract-later (snapped o) ms num k reply cites comps heavy xrefs a l = l
+contract-later _ ms num k reply cites comps heavy xrefs a l = absurd a
 
 mirror-later : (st : Stand) (m : Managed) (i : List Issued) (ms : List ℕ) (num k : ℕ) (reply : Reply) (cites : Option ℕ) (told : Told) → MayMirrorNow st m i k cites told → IsLater (stand_after st num (op.Mirror record { 0 = k }) reply told) ms
-mirror-later (contracted o comps xrefs) m i ms num k reply cites (references_of refs) a = tt
-mirror-later (contracted o comps xrefs) m i ms num k reply cites _ a = absurd a
+mirror-later (contracted o comps heavy xrefs) m i ms num k reply cites (references_of refs) a = tt
+mirror-later (contracted o comps heavy xrefs) m i ms num k reply cites _ a = absurd a
 mirror-later _ m i ms num k reply cites told a = absurd a
 
 -- the open cycle's number is the last one opened
 mirror-opened : (r : ManagedReplay) (s : PeerReplay) (st : Stand) (k : ℕ) (cites : Option ℕ) (told : Told) → IsReplayKept r → IsDriverKept r s st → MayMirrorNow st r.managed s.peers.issued k cites told → k ≤ r.managed.cycles
-mirror-opened r s (contracted o comps xrefs) k cites (references_of refs) kept d a =
+mirror-opened r s (contracted o comps heavy xrefs) k cites (references_of refs) kept d a =
     let c = d.before.opened in
     let l = (kept.managed.dead d.before.cycle c.cycle).latest in
     let e = a.0 in
     let f = c.number in
     omega (arith, l, e, f)
-mirror-opened r s (contracted o comps xrefs) k cites _ kept d a = absurd a
+mirror-opened r s (contracted o comps heavy xrefs) k cites _ kept d a = absurd a
 mirror-opened r s _ k cites told kept d a = absurd a
 
-mirrored-list : (s : PeerReplay) (k : ℕ) (cites : Option ℕ) (refs : List (ℕ × ℕ)) (n : ℕ) → Contains (mirrored s k cites refs).mirrors n → Contains s.mirrors n ⊎ (k ≡ n)
+mirrored-list : (s : PeerReplay) (k : ℕ) (cites : Option ℕ) (refs : List (End × End)) (n : ℕ) → Contains (mirrored s k cites refs).mirrors n → Contains s.mirrors n ⊎ (k ≡ n)
 mirrored-list s k None refs n c = inl c
 mirrored-list s k (Some snap) refs n c = ⊎_elim (λ p. inl p) (λ p. ⊎_elim (λ (e : k ≡ n). inr e) (λ q. absurd (Contains-nil n q)) (Contains-cons_cases k [] n p)) (Contains-append_cases s.mirrors (k ∷ []) n c)
 
@@ -123,9 +124,9 @@ numbers-step s n k may w = by n.entry.made.caller n.entry.made.op n.told may.eve
       later = λ m x. let z = w.opened m x in let y = l.allowed.next in omega (arith, z, y);
     }
     by C (op.Snap c) told e l a g = absurd l.allowed
-    by C (op.Contract c) (contraction_of comps xrefs) e l a g = record {
-      opened = opened C (op.Contract c) (contraction_of comps xrefs) tt g;
-      later = contract-later s.control.stand s.peer.mirrors num c.0 n.entry.made.reply n.entry.made.cites comps xrefs a w.later;
+    by C (op.Contract c) (contraction_of comps heavy xrefs) e l a g = record {
+      opened = opened C (op.Contract c) (contraction_of comps heavy xrefs) tt g;
+      later = contract-later s.control.stand s.peer.mirrors num c.0 n.entry.made.reply n.entry.made.cites comps heavy xrefs a w.later;
     }
     by C (op.Contract c) told e l a g = absurd l.allowed
     by C (op.Mirror c) (references_of refs) e l a g = record {

@@ -1,7 +1,7 @@
 -- The mirror is as the driver's stand says. Another thread's entry leaves the mirror alone, and the candidates with their handles,
 -- since nobody names the dead part. A mirror begins with nothing weakened; a weaken and a restore of the driver take the handle of
 -- the next candidate; a begin comes when all are weakened; after a clear none stands.
-use Rattle.std.proofs.Common.{◌≡◌, ⊎_elim, ℕ, ◌+◌, ◌<◌, true, List, [], ◌∷◌, ◌++◌, length, Option, Some, None, refl, sym, ap, ◌∙◌, subst, arith, length-append}
+use Rattle.std.proofs.Common.{◌≡◌, ⊎_elim, ℕ, ◌+◌, ◌<◌, true, List, [], ◌∷◌, ◌++◌, length, Option, Some, None, refl, sym, ap, ◌∙◌, subst, arith, length-append, append-nil}
 use Rattle.std.specs.Prelude.{Contains, ◌↔◌, slice_get}
 use Rattle.std.proofs.lemmas.Option.{same_Some}
 use Rattle.std.proofs.lemmas.List.Elements.{Contains-append_cases, Contains-append_left, Contains-append_right}
@@ -12,10 +12,10 @@ use Rattle.joint_model.specs.declared.events.Op.TheVariants as op
 use Rattle.joint_model.specs.declared.events.Made.{Made}
 use Rattle.joint_model.specs.declared.events.Reply.{Reply}
 use Rattle.joint_model.specs.declared.events.Reply.TheVariants as says
-use Rattle.joint_model.specs.Control.{CallerAllows, OpenSnap, Stand, idle, snapped, contracted, weakening, marked, restoring, restored, stand_after, control_after, candidates_of, IsCandidateHandle, answer_in, MayContractNow, MayMirrorNow, MayWeakenNow, MayBeginNow, MaySweepNow, MayRestoreNow, MayClearNow}
+use Rattle.joint_model.specs.Control.{CallerAllows, OpenSnap, Stand, idle, snapped, contracted, weakening, marked, restoring, restored, stand_after, control_after, IsCandidateHandle, answer_in, MayContractNow, MayMirrorNow, MayWeakenNow, MayBeginNow, MaySweepNow, MayRestoreNow, MayClearNow}
 use Rattle.joint_model.specs.Lines.{IsEvent, is_peer_event}
 use Rattle.joint_model.specs.Linked.{Linkage, MayCome, SideLawful, managed_after, peer_after, linkage_after}
-use Rattle.joint_model.specs.Managed.{Managed, OpenCycle, handle_of}
+use Rattle.joint_model.specs.Managed.{Managed, OpenCycle, handle_of, candidates_of}
 use Rattle.joint_model.specs.ManagedReplay.{ManagedReplay}
 use Rattle.joint_model.specs.PeerReplay.{PeerReplay, Mirror, mirrored, row_of, with_weakened, with_restored}
 use Rattle.joint_model.specs.Run.{thread_number}
@@ -28,8 +28,14 @@ use Rattle.joint_laws.proofs.ManagedKeeping.{dead-held, cut_on}
 use Rattle.joint_laws.proofs.ManagedMoves.{GoesOn, managed_line-goes_on}
 use Rattle.known_laws.specs.Driving.{IsMirrorOf, MirrorFits}
 use Rattle.known_laws.proofs.FrozenPasts.{goes_by}
-use Rattle.known_laws.proofs.PeerKeeps.{unmirroring, same_mirror_after, restored-mirror}
+use Rattle.known_laws.proofs.PeerKeeps.{unmirroring, same_mirror_after}
 use Rattle.joint_laws.proofs.ManagedEntries.{handle-same}
+use Rattle.joint_model.specs.Components.{End}
+use Rattle.joint_model.specs.PeerReplay.{TableRow, restored_by, withdrawn, with_given}
+use Rattle.joint_model.specs.Peers.{next_handle}
+use Rattle.joint_model.specs.Told.{Answer, said_alive, said_cleared, handles_given}
+use Rattle.joint_model.proofs.Deciding.{none_some}
+use Rattle.joint_laws.proofs.Restores.{restored-cases}
 
 -- the candidates and their handles are the same
 pub record SameCandidates (m n : Managed) : Type 0 where
@@ -60,7 +66,7 @@ goes-same s u k g = record {
     handle : (m : ℕ) → Contains (candidates_of s) m → handle_of u m ≡ handle_of s m
     handle m c = by s.cycle refl m c
 
-mirror_on : (r r' : ManagedReplay) (s s' : PeerReplay) (o : OpenSnap) (a b : ℕ) → SameCandidates r.managed r'.managed → s'.mirror ≡ s.mirror → IsMirrorOf r s o a b → IsMirrorOf r' s' o a b
+mirror_on : (r r' : ManagedReplay) (s s' : PeerReplay) (o : OpenSnap) (a : ℕ) (b : List Answer) → SameCandidates r.managed r'.managed → s'.mirror ≡ s.mirror → IsMirrorOf r s o a b → IsMirrorOf r' s' o a b
 mirror_on r r' s s' o a b c e m = record {
   mirror = m.mirror;
   stands = e ∙ m.stands;
@@ -69,15 +75,16 @@ mirror_on r r' s s' o a b c e m = record {
   weak_ones = λ h. (λ x. let w = (m.weak_ones h).0 x in (w.0, w.1, c.there w.0 h w.2), λ w. (m.weak_ones h).1 (w.0, w.1, c.back w.0 h w.2));
   back = λ h. (λ x. let w = (m.back h).0 x in (w.0, w.1, c.there w.0 h w.2), λ w. (m.back h).1 (w.0, w.1, c.back w.0 h w.2));
   weak_count = m.weak_count;
+  given = m.given;
 }
 
 fits_on : (r r' : ManagedReplay) (s s' : PeerReplay) (st : Stand) → SameCandidates r.managed r'.managed → s'.mirror ≡ s.mirror → MirrorFits r s st → MirrorFits r' s' st
-fits_on r r' s s' (weakening o count x y) c e m = mirror_on r r' s s' o count 0 c e m
-fits_on r r' s s' (marked o) c e m = subst (λ z. IsMirrorOf r' s' o (length z) 0) (sym c.candidates) (mirror_on r r' s s' o _ 0 c e m)
-fits_on r r' s s' (restoring o answers) c e m = subst (λ z. IsMirrorOf r' s' o (length z) (length answers)) (sym c.candidates) (mirror_on r r' s s' o _ (length answers) c e m)
+fits_on r r' s s' (weakening o count x y) c e m = mirror_on r r' s s' o count [] c e m
+fits_on r r' s s' (marked o) c e m = subst (λ z. IsMirrorOf r' s' o (length z) []) (sym c.candidates) (mirror_on r r' s s' o _ [] c e m)
+fits_on r r' s s' (restoring o answers) c e m = subst (λ z. IsMirrorOf r' s' o (length z) answers) (sym c.candidates) (mirror_on r r' s s' o _ answers c e m)
 fits_on r r' s s' idle c e m = tt
 fits_on r r' s s' (snapped o) c e m = tt
-fits_on r r' s s' (contracted o comps xrefs) c e m = tt
+fits_on r r' s s' (contracted o comps heavy xrefs) c e m = tt
 fits_on r r' s s' (restored o answers clear) c e m = tt
 
 -- the next candidate's handle is put into a list
@@ -99,19 +106,39 @@ pushed m xs n h f c g = (
 none_yet : (m : Managed) (g : ℕ) → Contains [] g ↔ ((l : ℕ) × (l < 0) × IsCandidateHandle m l g)
 none_yet m g = (λ w. absurd (Contains-nil g w), λ w. let l = w.1 in absurd (omega (arith, l)))
 
+-- the handle that one answer gave
+abbrev pub given_by : Answer → List ℕ
+given_by (said_alive h) = h ∷ []
+given_by said_cleared = []
+
+given-more : (answers : List Answer) (b : Answer) → handles_given (answers ++ b ∷ []) ≡ handles_given answers ++ given_by b
+given-more [] (said_alive h) = refl
+given-more [] said_cleared = refl
+given-more (said_alive h ∷ answers) b = ap (λ z. h ∷ z) (given-more answers b)
+given-more (said_cleared ∷ answers) b = given-more answers b
+
+-- a mirror in which a handle was restored, with that answer
+pub record IsRestoredOf (m n : Mirror) (h : ℕ) (b : Answer) : Type 0 where
+  pub cycle : n.cycle ≡ m.cycle
+  pub snap : n.snap ≡ m.snap
+  pub weakened : n.weakened ≡ m.weakened
+  pub restored : n.restored ≡ m.restored ++ h ∷ []
+  pub renewed : n.renewed ≡ m.renewed ++ given_by b
+
 module _ (r : ManagedReplay) (s : PeerReplay) where
-  begun_mirror : (o : OpenSnap) (k : ℕ) (refs : List (ℕ × ℕ)) (cites : Option ℕ) → o.cycle ≡ k → cites ≡ Some o.snap → IsMirrorOf r (mirrored s k cites refs) o 0 0
-  begun_mirror o k refs cites e f = subst (λ c. IsMirrorOf r (mirrored s k c refs) o 0 0) (sym f) (record {
-    mirror = record { cycle = k; snap = o.snap; weakened = []; restored = [] };
+  begun_mirror : (o : OpenSnap) (k : ℕ) (refs : List (End × End)) (cites : Option ℕ) → o.cycle ≡ k → cites ≡ Some o.snap → IsMirrorOf r (mirrored s k cites refs) o 0 []
+  begun_mirror o k refs cites e f = subst (λ c. IsMirrorOf r (mirrored s k c refs) o 0 []) (sym f) (record {
+    mirror = record { cycle = k; snap = o.snap; weakened = []; restored = []; renewed = [] };
     stands = refl;
     cycle = sym e;
     snap = refl;
     weak_ones = none_yet r.managed;
     back = none_yet r.managed;
     weak_count = refl;
+    given = refl;
   })
 
-  weakened_mirror : (t : PeerReplay) (o : OpenSnap) (n b h : ℕ) → ((m : Mirror) → s.mirror ≡ Some m → t.mirror ≡ Some (record m { weakened = m.weakened ++ h ∷ [] })) → IsCandidateHandle r.managed n h → IsMirrorOf r s o n b → IsMirrorOf r t o (n + 1) b
+  weakened_mirror : (t : PeerReplay) (o : OpenSnap) (n : ℕ) (b : List Answer) (h : ℕ) → ((m : Mirror) → s.mirror ≡ Some m → t.mirror ≡ Some (record m { weakened = m.weakened ++ h ∷ [] })) → IsCandidateHandle r.managed n h → IsMirrorOf r s o n b → IsMirrorOf r t o (n + 1) b
   weakened_mirror t o n b h e c m = record {
     mirror = record m.mirror { weakened = m.mirror.weakened ++ h ∷ [] };
     stands = e m.mirror m.stands;
@@ -120,50 +147,78 @@ module _ (r : ManagedReplay) (s : PeerReplay) where
     weak_ones = pushed r.managed m.mirror.weakened n h m.weak_ones c;
     back = m.back;
     weak_count = length-append m.mirror.weakened (h ∷ []) ∙ ap (λ z. z + 1) m.weak_count;
+    given = m.given;
   }
 
-  restored_mirror : (t : PeerReplay) (o : OpenSnap) (a n h : ℕ) → ((m : Mirror) → s.mirror ≡ Some m → t.mirror ≡ Some (record m { restored = m.restored ++ h ∷ [] })) → IsCandidateHandle r.managed n h → IsMirrorOf r s o a n → IsMirrorOf r t o a (n + 1)
-  restored_mirror t o a n h e c m = record {
-    mirror = record m.mirror { restored = m.mirror.restored ++ h ∷ [] };
-    stands = e m.mirror m.stands;
-    cycle = m.cycle;
-    snap = m.snap;
-    weak_ones = m.weak_ones;
-    back = pushed r.managed m.mirror.restored n h m.back c;
-    weak_count = m.weak_count;
-  }
+  restored_mirror : (t : PeerReplay) (o : OpenSnap) (a : ℕ) (answers : List Answer) (b : Answer) (h : ℕ) → ((m : Mirror) → s.mirror ≡ Some m → (n : Mirror) × (t.mirror ≡ Some n) × IsRestoredOf m n h b) → IsCandidateHandle r.managed (length answers) h → IsMirrorOf r s o a answers → IsMirrorOf r t o a (answers ++ b ∷ [])
+  restored_mirror t o a answers b h e c m =
+      let now = e m.mirror m.stands in
+      let n : Mirror = now.0 in
+      let x = now.2 in
+      let one : length (answers ++ b ∷ []) ≡ length answers + 1 = length-append answers (b ∷ []) in
+      record {
+        mirror = n;
+        stands = now.1;
+        cycle = x.cycle ∙ m.cycle;
+        snap = x.snap ∙ m.snap;
+        weak_ones = subst (λ ws. (g : ℕ) → Contains ws g ↔ ((l : ℕ) × (l < a) × IsCandidateHandle r.managed l g)) (sym x.weakened) m.weak_ones;
+        back = subst (λ ws. (g : ℕ) → Contains ws g ↔ ((l : ℕ) × (l < length (answers ++ b ∷ [])) × IsCandidateHandle r.managed l g)) (sym x.restored)
+            (subst (λ k. (g : ℕ) → Contains (m.mirror.restored ++ h ∷ []) g ↔ ((l : ℕ) × (l < k) × IsCandidateHandle r.managed l g)) (sym one) (pushed r.managed m.mirror.restored (length answers) h m.back c));
+        weak_count = ap length x.weakened ∙ m.weak_count;
+        given = x.renewed ∙ (ap (λ z. z ++ given_by b) m.given ∙ sym (given-more answers b));
+      }
+
+-- what a restore does to the mirror
+restored-mirror : (s : PeerReplay) (h : ℕ) (x : Option TableRow) (row : TableRow) (reply : Reply) → x ≡ Some row → reply ≡ (restored_by s h x).reply → (m : Mirror) → s.mirror ≡ Some m → (n : Mirror) × ((restored_by s h x).state.mirror ≡ Some n) × IsRestoredOf m n h (answer_in reply)
+restored-mirror s h x row reply e q m f = restored-cases (λ a. reply ≡ a.reply → (n : Mirror) × (a.state.mirror ≡ Some n) × IsRestoredOf m n h (answer_in reply)) s h x
+    (λ g r. absurd (none_some row (sym g ∙ e)))
+    (λ y g c r. out r)
+    (λ g r. out r)
+    (λ y p g c l r. (
+      record m { restored = m.restored ++ h ∷ []; renewed = m.renewed ++ next_handle s.peers ∷ [] },
+      ap (λ z. with_given (with_restored z h) (next_handle s.peers)) f,
+      record { cycle = refl; snap = refl; weakened = refl; restored = refl; renewed = ap (λ z. m.renewed ++ given_by (answer_in z)) (sym r) },
+    ))
+    q
+  where
+    out : reply ≡ says.Cleared → (n : Mirror) × ((withdrawn s h).mirror ≡ Some n) × IsRestoredOf m n h (answer_in reply)
+    out r = (
+      record m { restored = m.restored ++ h ∷ [] },
+      ap (λ z. with_restored z h) f,
+      record { cycle = refl; snap = refl; weakened = refl; restored = refl; renewed = sym (append-nil m.renewed) ∙ ap (λ z. m.renewed ++ given_by (answer_in z)) (sym r) },
+    )
 
 -- the driver's entries
 module _ (r : ManagedReplay) (s t : PeerReplay) (num : ℕ) (reply : Reply) (cites : Option ℕ) (told : Told) where
-  mirror-fits : (st : Stand) (k : ℕ) (refs : List (ℕ × ℕ)) → t ≡ mirrored s k cites refs → MayMirrorNow st r.managed s.peers.issued k cites (references_of refs) → MirrorFits r t (stand_after st num (op.Mirror record { 0 = k }) reply told)
-  mirror-fits (contracted o comps xrefs) k refs e a = subst (λ z. IsMirrorOf r z o 0 0) (sym e) (begun_mirror r s o k refs cites a.0 a.1)
+  mirror-fits : (st : Stand) (k : ℕ) (refs : List (End × End)) → t ≡ mirrored s k cites refs → MayMirrorNow st r.managed s.peers.issued k cites (references_of refs) → MirrorFits r t (stand_after st num (op.Mirror record { 0 = k }) reply told)
+  mirror-fits (contracted o comps heavy xrefs) k refs e a = subst (λ z. IsMirrorOf r z o 0 []) (sym e) (begun_mirror r s o k refs cites a.0 a.1)
   mirror-fits _ k refs e a = absurd a
 
   weaken-fits : (st : Stand) (h : ℕ) → ((m : Mirror) → s.mirror ≡ Some m → t.mirror ≡ Some (record m { weakened = m.weakened ++ h ∷ [] })) → MayWeakenNow st r.managed h cites → MirrorFits r s st → MirrorFits r t (stand_after st num (op.Weaken record { 0 = h }) reply told)
-  weaken-fits (weakening o count x y) h e a m = weakened_mirror r s t o count 0 h e a.2 m
+  weaken-fits (weakening o count x y) h e a m = weakened_mirror r s t o count [] h e a.2 m
   weaken-fits _ h e a m = absurd a
 
   begin-fits : (st : Stand) (reply : Reply) → t.mirror ≡ s.mirror → MayBeginNow st (length (candidates_of r.managed)) reply cites → MirrorFits r s st → MirrorFits r t (stand_after st num op.Begin reply told)
-  begin-fits (weakening o count x y) (says.Mark j) e a m = subst (λ n. IsMirrorOf r t o n 0) a.0 (mirror_on r r s t o count 0 (same_candidates r.managed) e m)
+  begin-fits (weakening o count x y) (says.Mark j) e a m = subst (λ n. IsMirrorOf r t o n []) a.0 (mirror_on r r s t o count [] (same_candidates r.managed) e m)
   begin-fits (weakening o count x y) _ e a m = absurd a
   begin-fits _ reply e a m = absurd a
 
   sweep-fits : (st : Stand) → t.mirror ≡ s.mirror → MaySweepNow st (length (candidates_of r.managed)) cites → MirrorFits r s st → MirrorFits r t (stand_after st num op.Sweep reply told)
-  sweep-fits (weakening o count x y) e a m = mirror_on r r s t o count 0 (same_candidates r.managed) e m
-  sweep-fits (marked o) e a m = mirror_on r r s t o _ 0 (same_candidates r.managed) e m
+  sweep-fits (weakening o count x y) e a m = mirror_on r r s t o count [] (same_candidates r.managed) e m
+  sweep-fits (marked o) e a m = mirror_on r r s t o _ [] (same_candidates r.managed) e m
   sweep-fits _ e a m = absurd a
 
-  restore-fits : (st : Stand) (h : ℕ) → ((m : Mirror) → s.mirror ≡ Some m → t.mirror ≡ Some (record m { restored = m.restored ++ h ∷ [] })) → MayRestoreNow st r.managed h cites → MirrorFits r s st → MirrorFits r t (stand_after st num (op.Restore record { 0 = h }) reply told)
-  restore-fits (restoring o answers) h e a m = subst (IsMirrorOf r t o (length (candidates_of r.managed))) (sym (length-append answers (answer_in reply ∷ []))) (restored_mirror r s t o _ (length answers) h e a.1 m)
+  restore-fits : (st : Stand) (h : ℕ) → ((m : Mirror) → s.mirror ≡ Some m → (n : Mirror) × (t.mirror ≡ Some n) × IsRestoredOf m n h (answer_in reply)) → MayRestoreNow st r.managed h cites → MirrorFits r s st → MirrorFits r t (stand_after st num (op.Restore record { 0 = h }) reply told)
+  restore-fits (restoring o answers) h e a m = restored_mirror r s t o _ answers (answer_in reply) h e a.1 m
   restore-fits _ h e a m = absurd a
 
   clear-fits : (st : Stand) (k : ℕ) → MayClearNow st (length (candidates_of r.managed)) k cites → MirrorFits r t (stand_after st num (op.Clear record { 0 = k }) reply told)
   clear-fits (restoring o answers) k a = tt
   clear-fits _ k a = absurd a
 
-contract-fits : (r : ManagedReplay) (s : PeerReplay) (num : ℕ) (reply : Reply) (cites : Option ℕ) (comps : List (List ℕ)) (xrefs : List (ℕ × ℕ)) (st : Stand) (k : ℕ) → MayContractNow st k cites → MirrorFits r s (stand_after st num (op.Contract record { 0 = k }) reply (contraction_of comps xrefs))
-contract-fits r s num reply cites comps xrefs (snapped o) k a = tt
-contract-fits r s num reply cites comps xrefs _ k a = absurd a
+contract-fits : (r : ManagedReplay) (s : PeerReplay) (num : ℕ) (reply : Reply) (cites : Option ℕ) (comps : List (List ℕ)) (heavy : List ℕ) (xrefs : List (ℕ × ℕ)) (st : Stand) (k : ℕ) → MayContractNow st k cites → MirrorFits r s (stand_after st num (op.Contract record { 0 = k }) reply (contraction_of comps heavy xrefs))
+contract-fits r s num reply cites comps heavy xrefs (snapped o) k a = tt
+contract-fits r s num reply cites comps heavy xrefs _ k a = absurd a
 
 pub mirror-step : (s : Linkage) (n : Noted) → Of s → MayCome s n → MirrorFits s.managed s.peer s.control.stand → MirrorFits (linkage_after s n).managed (linkage_after s n).peer (linkage_after s n).control.stand
 mirror-step s n k may fits = by n.entry.made.caller n.entry.made.op n.told may.event may.lawful may.order
@@ -197,7 +252,7 @@ mirror-step s n k may fits = by n.entry.made.caller n.entry.made.op n.told may.e
     by C (op.Line x) told e l a = fits_on s.managed (R C (op.Line x) told) s.peer s.peer s.control.stand
         (goes-same s.managed.managed (R C (op.Line x) told).managed k.managed.managed (managed_line-goes_on s.managed.managed (thread_number C) x k.managed.managed.places k.managed.managed.cells)) refl fits
     by C (op.Snap c) told e l a = tt
-    by C (op.Contract c) (contraction_of comps xrefs) e l a = contract-fits _ s.peer num n.entry.made.reply n.entry.made.cites comps xrefs s.control.stand c.0 a
+    by C (op.Contract c) (contraction_of comps heavy xrefs) e l a = contract-fits _ s.peer num n.entry.made.reply n.entry.made.cites comps heavy xrefs s.control.stand c.0 a
     by C (op.Contract c) told e l a = absurd l.allowed
     by C (op.Mirror c) (references_of refs) e l a = mirror-fits s.managed s.peer (S C (op.Mirror c) (references_of refs)) num n.entry.made.reply n.entry.made.cites (references_of refs) s.control.stand c.0 refs refl a
     by C (op.Mirror c) told e l a = absurd l.allowed
@@ -205,7 +260,7 @@ mirror-step s n k may fits = by n.entry.made.caller n.entry.made.op n.told may.e
     by C op.Begin told e l a = begin-fits s.managed s.peer (S C op.Begin told) num n.entry.made.reply n.entry.made.cites told s.control.stand n.entry.made.reply (same_mirror_after s.peer (made C op.Begin) told true tt).mirror a fits
     by C op.Sweep told e l a = sweep-fits s.managed s.peer (S C op.Sweep told) num n.entry.made.reply n.entry.made.cites told s.control.stand (same_mirror_after s.peer (made C op.Sweep) told true tt).mirror a fits
     by C (op.Restore h) nothing e l a = restore-fits s.managed s.peer (S C (op.Restore h) nothing) num n.entry.made.reply n.entry.made.cites nothing s.control.stand h.0
-        (λ m q. restored-mirror s.peer h.0 (row_of s.peer h.0) l.allowed.row l.allowed.tabled ∙ ap (λ z. with_restored z h.0) q) a fits
+        (restored-mirror s.peer h.0 (row_of s.peer h.0) l.allowed.row n.entry.made.reply l.allowed.tabled l.replies) a fits
     by C (op.Restore h) told e l a = absurd l.allowed
     by C (op.Clear c) told e l a = clear-fits s.managed s.peer (S C (op.Clear c) told) num n.entry.made.reply n.entry.made.cites told s.control.stand c.0 a
     by C (op.Resolve c) told e l a = tt
@@ -216,14 +271,14 @@ mirror-step s n k may fits = by n.entry.made.caller n.entry.made.op n.told may.e
         refusal (phase_of p) (weakening o count x y) f = f
         refusal (phase_of p) idle f = tt
         refusal (phase_of p) (snapped o) f = tt
-        refusal (phase_of p) (contracted o comps xrefs) f = tt
+        refusal (phase_of p) (contracted o comps heavy xrefs) f = tt
         refusal (phase_of p) (marked o) f = f
         refusal (phase_of p) (restoring o answers) f = f
         refusal (phase_of p) (restored o answers clear) f = tt
         refusal _ (weakening o count x y) f = f
         refusal _ idle f = tt
         refusal _ (snapped o) f = tt
-        refusal _ (contracted o comps xrefs) f = tt
+        refusal _ (contracted o comps heavy xrefs) f = tt
         refusal _ (marked o) f = f
         refusal _ (restoring o answers) f = f
         refusal _ (restored o answers clear) f = tt

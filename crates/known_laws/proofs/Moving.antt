@@ -11,10 +11,10 @@ use Rattle.joint_model.specs.declared.events.Op.{Op}
 use Rattle.joint_model.specs.declared.events.Op.TheVariants as op
 use Rattle.joint_model.specs.declared.events.Reply.{Reply}
 use Rattle.joint_model.specs.Components.{mirror_edges}
-use Rattle.joint_model.specs.Control.{free, Stand, OpenSnap, contracted, weakening, restoring, caller_place, candidates_of, carried_edges, IsCandidateHandle, CallerAllows, DriverAllows, ThreadAllows, IsAtRest, MayMirrorNow, MayWeakenNow, MayBeginNow, MaySweepNow, MayRestoreNow, MayClearNow, MayRefuseNow}
+use Rattle.joint_model.specs.Control.{free, Stand, OpenSnap, contracted, weakening, restoring, caller_place, carried_edges, IsCandidateHandle, CallerAllows, DriverAllows, ThreadAllows, IsAtRest, MayMirrorNow, MayWeakenNow, MayBeginNow, MaySweepNow, MayRestoreNow, MayClearNow, MayRefuseNow}
 use Rattle.joint_model.specs.Lines.{IsEvent, is_peer_event, is_read, is_pinned}
 use Rattle.joint_model.specs.Linked.{SideLawful, PeerLawful, ManagedLawful}
-use Rattle.joint_model.specs.Managed.{Managed}
+use Rattle.joint_model.specs.Managed.{Managed, candidates_of}
 use Rattle.joint_model.specs.ManagedReplay.{ManagedReplay}
 use Rattle.joint_model.specs.PeerReplay.{PeerReplay}
 use Rattle.joint_model.specs.Peers.{Issued}
@@ -30,12 +30,12 @@ use Rattle.known_laws.proofs.Parts.{SameAt, role_by, same_managed, same_peer, sa
 pub record Alike (st : Stand) (m m' : Managed) : Type 0 where
   pub candidates : candidates_of m ≡ candidates_of m'
   pub handles : (i h : ℕ) → IsCandidateHandle m i h → IsCandidateHandle m' i h
-  pub edges : (o : OpenSnap) (comps : List (List ℕ)) (xrefs : List (ℕ × ℕ)) (issued : List Issued) → st ≡ contracted o comps xrefs → carried_edges m issued (mirror_edges comps xrefs) ≡ carried_edges m' issued (mirror_edges comps xrefs)
+  pub edges : (o : OpenSnap) (comps : List (List ℕ)) (heavy : List ℕ) (xrefs : List (ℕ × ℕ)) (issued : List Issued) → st ≡ contracted o comps heavy xrefs → carried_edges m issued (mirror_edges comps xrefs) ≡ carried_edges m' issued (mirror_edges comps xrefs)
 
 mirror_move : (st : Stand) (m m' : Managed) (i i' : List Issued) (k : ℕ) (cites : Option ℕ) (told : Told) → Alike st m m' → i ≡ i' → MayMirrorNow st m i k cites told → MayMirrorNow st m' i' k cites told
-mirror_move (contracted o comps xrefs) m m' i i' k cites (references_of refs) a e w =
-    (w.0, w.1, w.2 ∙ (a.edges o comps xrefs i refl ∙ ap (λ z. carried_edges m' z (mirror_edges comps xrefs)) e))
-mirror_move (contracted o comps xrefs) m m' i i' k cites _ a e w = absurd w
+mirror_move (contracted o comps heavy xrefs) m m' i i' k cites (references_of refs) a e w =
+    (w.0, w.1, w.2 ∙ (a.edges o comps heavy xrefs i refl ∙ ap (λ z. carried_edges m' z (mirror_edges comps xrefs)) e))
+mirror_move (contracted o comps heavy xrefs) m m' i i' k cites _ a e w = absurd w
 mirror_move _ m m' i i' k cites told a e w = absurd w
 
 weaken_move : (st : Stand) (m m' : Managed) (h : ℕ) (cites : Option ℕ) → Alike st m m' → MayWeakenNow st m h cites → MayWeakenNow st m' h cites
@@ -62,7 +62,7 @@ driver_move st m m' i i' (op.Refused r) reply cites told a e w = subst (λ z. Ma
 driver_move st m m' i i' _ reply cites told a e w = absurd w
 
 alike_same : (st : Stand) (m m' : Managed) → m ≡ m' → Alike st m m'
-alike_same st m m' e = record { candidates = ap candidates_of e; handles = λ i h w. subst (λ z. IsCandidateHandle z i h) e w; edges = λ o comps xrefs issued q. ap (λ z. carried_edges z issued (mirror_edges comps xrefs)) e }
+alike_same st m m' e = record { candidates = ap candidates_of e; handles = λ i h w. subst (λ z. IsCandidateHandle z i h) e w; edges = λ o comps heavy xrefs issued q. ap (λ z. carried_edges z issued (mirror_edges comps xrefs)) e }
 
 -- a peer's event tells no pins
 no_pins_told : (t : Thread) (o : Op) (told : Told) → IsEvent t o → is_peer_event t o ≡ true → tells_pins told ≡ is_pinned o → pins_told told ≡ no_pins
@@ -130,7 +130,7 @@ may_move a b x frozen role own later may = record {
         subst (λ st. DriverAllows st n (end_of b).peer.peers.issued x.entry.made.op x.entry.made.reply x.entry.made.cites (bare_told x.told)) stand
         (⊎_elim
         (λ (p : is_peer_event x.entry.made.caller x.entry.made.op ≡ true). driver_move (end_of a).control.stand m n (end_of a).peer.peers.issued (end_of b).peer.peers.issued x.entry.made.op x.entry.made.reply x.entry.made.cites (bare_told x.told)
-        record { candidates = same.candidates; handles = same.handles; edges = λ o comps xrefs issued q. same.edges o comps xrefs issued (sym stand ∙ q) }
+        record { candidates = same.candidates; handles = same.handles; edges = λ o comps heavy xrefs issued q. same.edges o comps heavy xrefs issued (sym stand ∙ q) }
         (λ q. ap (λ (z : PeerReplay). z.peers.issued) (peers p)) w)
         (λ (p : is_peer_event x.entry.made.caller x.entry.made.op ≡ false). driver_move (end_of a).control.stand m n (end_of a).peer.peers.issued (end_of b).peer.peers.issued x.entry.made.op x.entry.made.reply x.entry.made.cites (bare_told x.told)
         (alike_same (end_of a).control.stand m n (ap (λ (z : ManagedReplay). (with_pins z (pins_told x.told)).managed) (manageds r p)))

@@ -12,7 +12,7 @@ use Rattle.joint_model.specs.Peers.{Issued}
 use Rattle.joint_model.specs.Readers.{with_pins}
 use Rattle.joint_model.specs.Told.{no_pins}
 use Rattle.joint_model.proofs.Numbered.{replicate-none}
-use Rattle.joint_laws.specs.LinkedInvariants.{IsRowOf, AreOwnersKept, AreCallersKept, IsOpenedAs, ForCandidates, IsMirrored, IsBeforeMirror, IsDriverKept}
+use Rattle.joint_laws.specs.LinkedInvariants.{hands, IsRowOf, AreOwnersKept, AreCallersKept, IsOpenedAs, ForCandidates, IsMirrored, IsBeforeMirror, IsDriverKept}
 use Rattle.joint_laws.specs.ManagedInvariants.{IsCutOff, IsManagedKept, IsReplayKept}
 use Rattle.joint_laws.proofs.LinkedEntries.{Of}
 use Rattle.joint_laws.proofs.LinkedQuiet.{AreKept}
@@ -41,8 +41,8 @@ module _ (r : ManagedReplay) (pins : List (Option ℕ)) where
   row_back : (issued : List Issued) (m p : ℕ) → IsRowOf q.managed issued m p → IsRowOf r.managed issued m p
   row_back issued m p w = record { handle = w.handle; holds = holds_back m w.handle w.holds; row = w.row; is_issued = w.is_issued; leads = w.leads }
 
-  pub contraction_to : (dead : List ℕ) (comps : List (List ℕ)) (xrefs : List (ℕ × ℕ)) → IsDeadContraction r.managed dead comps xrefs → IsDeadContraction q.managed dead comps xrefs
-  contraction_to dead comps xrefs w = contraction-same (λ m. Contains dead m × IsBridge r.managed m) (λ m. Contains dead m × IsBridge q.managed m) (DeadEdge r.managed dead) (DeadEdge q.managed dead) comps xrefs
+  pub contraction_to : (dead : List ℕ) (comps : List (List ℕ)) (heavy : List ℕ) (xrefs : List (ℕ × ℕ)) → IsDeadContraction r.managed dead comps heavy xrefs → IsDeadContraction q.managed dead comps heavy xrefs
+  contraction_to dead comps heavy xrefs w = contraction-same (λ m. Contains dead m × IsBridge r.managed m) (λ m. Contains dead m × IsBridge q.managed m) (DeadEdge r.managed dead) (DeadEdge q.managed dead) comps heavy xrefs
       (λ m. ((λ z. (z.0, bridge_to m z.1)), (λ z. (z.0, bridge_back m z.1)))) (λ x y. ((λ z. z), (λ z. z))) w
 
   module _ (st : PinsStand r.managed pins) where
@@ -105,8 +105,9 @@ module _ (r : ManagedReplay) (pins : List (Option ℕ)) where
   mirrored_to : (s : PeerReplay) (c : OpenCycle) → IsMirrored r s c → IsMirrored q s c
   mirrored_to s c w = record {
     comps = w.comps;
+    heavy = w.heavy;
     xrefs = w.xrefs;
-    contraction = contraction_to c.dead w.comps w.xrefs w.contraction;
+    contraction = contraction_to c.dead w.comps w.heavy w.xrefs w.contraction;
     stands = w.stands;
     exact = λ x y. (
       (λ z. let u = (w.exact x y).0 z in (u.0, u.1, u.2, row_to s.peers.issued u.0 x u.3, row_to s.peers.issued u.1 y u.4)),
@@ -120,7 +121,7 @@ module _ (r : ManagedReplay) (pins : List (Option ℕ)) where
   driver_to : (s : PeerReplay) (d : Stand) → IsDriverKept r s d → IsDriverKept q s d
   driver_to s idle w = record { closed = w.closed; none = w.none }
   driver_to s (snapped o) w = before_to s o w
-  driver_to s (contracted o comps xrefs) w = record { before = before_to s o w.before; contraction = contraction_to w.before.cycle.dead comps xrefs w.contraction }
+  driver_to s (contracted o comps heavy xrefs) w = record { before = before_to s o w.before; contraction = contraction_to w.before.cycle.dead comps heavy xrefs w.contraction }
   driver_to s (weakening o count weakened swept) w = record { cycle = w.cycle; opened = opened_to o w.cycle w.opened; mirror = mirrored_to s w.cycle w.mirror; handles = candidates_to w.cycle _ w.handles }
   driver_to s (marked o) w = record { cycle = w.cycle; opened = opened_to o w.cycle w.opened; mirror = mirrored_to s w.cycle w.mirror; handles = candidates_to w.cycle _ w.handles; marking = w.marking; own = w.own; by_driver = w.by_driver }
   driver_to s (restoring o answers) w = record { cycle = w.cycle; opened = opened_to o w.cycle w.opened; mirror = mirrored_to s w.cycle w.mirror; handles = candidates_to w.cycle _ w.handles }
@@ -134,7 +135,7 @@ module _ (r : ManagedReplay) (pins : List (Option ℕ)) where
   }
 
   pub kept_to : (s : PeerReplay) (ds : List Doing) (d : Stand) → PinsStand r.managed pins → AreKept r s ds d → AreKept q s ds d
-  kept_to s ds d st k = record { managed = replay_to st k.managed; peer = k.peer; owners = owners_to s k.owners; callers = callers_to s ds k.callers; driver = driver_to s d k.driver }
+  kept_to s ds d st k = record { managed = replay_to st k.managed; peer = k.peer; owners = owners_to s k.owners; callers = callers_to s (hands d ds) k.callers; driver = driver_to s d k.driver }
 
 -- no pins stand, and so do those that a kept state has
 pub none_stand : (s : Managed) → PinsStand s no_pins

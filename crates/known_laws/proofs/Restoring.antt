@@ -9,7 +9,7 @@ use Rattle.known_laws.proofs.Coming.{event_of, turn_of, side_of}
 use Rattle.known_laws.specs.Known.{Comes, given, pinned, without_pins}
 use Rattle.joint_model.specs.Linked.{ManagedLawful}
 use Rattle.joint_model.specs.Lines.{is_read}
-use Rattle.joint_model.specs.Told.{bare_told}
+use Rattle.joint_model.specs.Told.{bare_told, pins_told, no_pins}
 use Rattle.std.proofs.Common.{◌≡◌, false, ⊎_elim, ℕ, List, [], ◌∷◌, ◌++◌, length, map, Option, Some, None, refl, sym, ap, ◌∙◌, subst}
 use Rattle.std.specs.Prelude.{◌↔◌, Contains, slice_get, option_map}
 use Rattle.std.proofs.lemmas.Option.{same_Some, slice_get-map}
@@ -21,21 +21,27 @@ use Rattle.joint_model.specs.declared.events.Op.{Op}
 use Rattle.joint_model.specs.declared.events.Op.TheVariants as op
 use Rattle.joint_model.specs.declared.events.Reply.{Reply}
 use Rattle.joint_model.specs.declared.events.Made.{Made}
-use Rattle.joint_model.specs.Control.{Stand, idle, snapped, contracted, weakening, marked, restoring, restored, CallerAllows, candidates_of, stand_after, control_after, answer_in, IsCandidateHandle, MayRestoreNow, MayResolveNow}
+use Rattle.joint_model.specs.Control.{Stand, idle, snapped, contracted, weakening, marked, restoring, restored, CallerAllows, stand_after, control_after, answer_in, IsCandidateHandle, MayRestoreNow, MayResolveNow}
 use Rattle.joint_model.specs.Cycles.{IsAnsweredAlive}
 use Rattle.joint_model.specs.Lines.{IsEvent, is_peer_event}
 use Rattle.joint_model.specs.Linked.{Linkage, MayCome, SideLawful, managed_after, linkage_after}
-use Rattle.joint_model.specs.Managed.{Managed, OpenCycle, handle_of}
+use Rattle.joint_model.specs.Managed.{Managed, OpenCycle, Holds, handle_of, candidates_of, resolved}
+use Rattle.joint_model.specs.Components.{Rises}
+use Rattle.joint_model.proofs.Members.{Contains-at}
+use Rattle.joint_laws.proofs.Renewing.{renewed-given}
 use Rattle.joint_model.specs.ManagedReplay.{ManagedReplay, ManagedAllows, MayResolve}
 use Rattle.joint_model.specs.Run.{thread_number}
 use Rattle.joint_model.specs.Told.{Told, Noted, contraction_of, resolution_of, phase_of, Answer, said_alive, said_cleared}
 use Rattle.joint_model.proofs.Deciding.{none_some}
-use Rattle.joint_model.proofs.HeapLemmas.{candidates_of-open}
-use Rattle.joint_model.proofs.Numbered.{push-at_cases}
+use Rattle.joint_model.proofs.HeapLemmas.{candidates_of-open, IsLive-left}
+use Rattle.joint_model.proofs.Numbered.{push-at_cases, numbered-within}
 use Rattle.joint_laws.proofs.LinkedEntries.{Of}
 use Rattle.joint_laws.proofs.ManagedMoves.{managed_line-goes_on}
+use Rattle.known_laws.specs.Known.{managed_past}
+use Rattle.joint_model.specs.Readers.{with_pins}
+use Rattle.joint_model.specs.ManagedReplay.{managed_answer}
 use Rattle.known_laws.specs.Pasts.{Lawful, end_of}
-use Rattle.known_laws.specs.Citations.{restores_after, restores_in, AreRestored, WasRestoredAlive, FreesByRestores, ResolvesFreeByRestores, ResolvesFreeCleared}
+use Rattle.known_laws.specs.Citations.{RestoredHoldTheNew, restores_after, restores_in, AreRestored, WasRestoredAlive, FreesByRestores, ResolvesFreeByRestores, ResolvesFreeCleared}
 use Rattle.known_laws.specs.Driving.{IsPastKept}
 use Rattle.known_laws.proofs.Facts.{resolve_frees_cleared}
 use Rattle.known_laws.proofs.KnownPasts.{known_past_is_kept}
@@ -47,7 +53,7 @@ use Rattle.known_laws.proofs.MirrorStands.{SameCandidates, goes-same}
 abbrev RestoredBy : Managed → List (ℕ × Answer) → Stand → Type 0
 RestoredBy m rs idle = Unit {0}
 RestoredBy m rs (snapped o) = rs ≡ []
-RestoredBy m rs (contracted o comps xrefs) = rs ≡ []
+RestoredBy m rs (contracted o comps heavy xrefs) = rs ≡ []
 RestoredBy m rs (weakening o count x y) = rs ≡ []
 RestoredBy m rs (marked o) = rs ≡ []
 RestoredBy m rs (restoring o answers) = AreRestored m rs answers
@@ -61,7 +67,7 @@ by-on m n rs (restoring o answers) c r = restored-on m n rs answers c r
 by-on m n rs (restored o answers clear) c r = restored-on m n rs answers c r
 by-on m n rs idle c r = tt
 by-on m n rs (snapped o) c r = r
-by-on m n rs (contracted o comps xrefs) c r = r
+by-on m n rs (contracted o comps heavy xrefs) c r = r
 by-on m n rs (weakening o count x y) c r = r
 by-on m n rs (marked o) c r = r
 
@@ -98,8 +104,8 @@ still-by m rs num reply st (op.Snap k) told i r = absurd i
 still-by m rs num reply st (op.Restore h) told i r = absurd i
 still-by m rs num reply st (op.Resolve k) told i r = absurd i
 still-by m rs num reply st (op.Abandon k) told i r = absurd i
-still-by m rs num reply (snapped o) (op.Contract k) (contraction_of comps xrefs) i r = r
-still-by m rs num reply (contracted o comps xrefs) (op.Mirror k) told i r = r
+still-by m rs num reply (snapped o) (op.Contract k) (contraction_of comps heavy xrefs) i r = r
+still-by m rs num reply (contracted o comps heavy xrefs) (op.Mirror k) told i r = r
 still-by m rs num reply (weakening o count x y) (op.Weaken h) told i r = r
 still-by m rs num reply (weakening o count x y) op.Sweep told i r = r
 still-by m rs num reply (weakening o count x y) op.Begin told i r = r
@@ -155,7 +161,7 @@ restored-step s n rs k may r = by n.entry.made.caller n.entry.made.op n.told may
     by C (op.Line x) told e l a = by-on s.managed.managed (R C (op.Line x) told).managed rs s.control.stand
         (goes-same s.managed.managed (R C (op.Line x) told).managed k.managed.managed (managed_line-goes_on s.managed.managed (thread_number C) x k.managed.managed.places k.managed.managed.cells)) r
     by C (op.Snap c) told e l a = refl
-    by C (op.Contract c) (contraction_of comps xrefs) e l a = still (op.Contract c) (contraction_of comps xrefs) tt
+    by C (op.Contract c) (contraction_of comps heavy xrefs) e l a = still (op.Contract c) (contraction_of comps heavy xrefs) tt
     by C (op.Contract c) told e l a = absurd l.allowed
     by C (op.Mirror c) told e l a = still (op.Mirror c) told tt
     by C (op.Weaken h) told e l a = still (op.Weaken h) told tt
@@ -215,16 +221,16 @@ restore-at rs i a e = by (slice_get rs i) refl
 module _ (m : Managed) (c : OpenCycle) (o : m.cycle ≡ Some c) (rs : List (ℕ × Answer)) (answers : List Answer) (r : AreRestored m rs answers) where
   alive-to : (x : ℕ) → IsAnsweredAlive c.candidates answers x → WasRestoredAlive m rs x
   alive-to x w =
-      let g = restore-at rs w.0 said_alive (ap (λ l. slice_get l w.0) r.same ∙ w.2) in
-      let h = r.in_turn w.0 g.0 said_alive g.1 in
+      let g = restore-at rs w.0 (said_alive w.2.0) (ap (λ l. slice_get l w.0) r.same ∙ w.2.1) in
+      let h = r.in_turn w.0 g.0 (said_alive w.2.0) g.1 in
       let at : slice_get (candidates_of m) w.0 ≡ Some x = ap (λ l. slice_get l w.0) (candidates_of-open m c o) ∙ w.1 in
-      record { place = w.0; handle = g.0; candidate = at; holds = subst (λ z. handle_of m z ≡ Some g.0) (same_Some _ _ (sym h.1 ∙ at)) h.2; answer = said_alive; answered = g.1; kept = refl }
+      record { place = w.0; handle = g.0; candidate = at; holds = subst (λ z. handle_of m z ≡ Some g.0) (same_Some _ _ (sym h.1 ∙ at)) h.2; answer = said_alive w.2.0; answered = g.1; kept = (w.2.0, refl) }
 
   alive-from : (x : ℕ) → WasRestoredAlive m rs x → IsAnsweredAlive c.candidates answers x
   alive-from x w = (
     w.place,
     ap (λ l. slice_get l w.place) (sym (candidates_of-open m c o)) ∙ w.candidate,
-    ap (λ l. slice_get l w.place) (sym r.same) ∙ (slice_get-map (λ (z : ℕ × Answer). z.1) rs w.place ∙ (ap (option_map (λ (z : ℕ × Answer). z.1)) w.answered ∙ ap (λ z. Some z) w.kept)),
+    (w.kept.0, ap (λ l. slice_get l w.place) (sym r.same) ∙ (slice_get-map (λ (z : ℕ × Answer). z.1) rs w.place ∙ (ap (option_map (λ (z : ℕ × Answer). z.1)) w.answered ∙ ap (λ z. Some z) w.kept.1))),
   )
 
 resolve-by : (s : ManagedReplay) (rs : List (ℕ × Answer)) (st : Stand) (k : Cycle) (cites : Option ℕ) (told : Told) → RestoredBy s.managed rs st → MayResolveNow st k.0 cites told → ManagedAllows s (op.Resolve k) told → FreesByRestores s.managed rs told k.0
@@ -284,3 +290,30 @@ resolves_free_cleared x h l k e answers freed t = by x.entry.made.caller (subst 
     by C v a = cleared-by (end_of h) (known_past_is_kept h l.1) (restores_in h) (end_of h).control.stand k x.entry.made.cites answers freed refl (restored_in h l.1) a (subst (ManagedAllows (end_of h).managed (op.Resolve k)) t (resolve_allowed x h l k e))
     by (M u) v a = absurd v
     by (P u) v a = absurd v
+
+-- after the resolve each candidate whose restore answered alive holds the handle that the restore gave
+resolved_holds : (h : List Noted) (x : Noted) (k : Cycle) (answers : List Answer) (freed : List ℕ) (m n : ℕ) → bare_told x.told ≡ resolution_of answers freed → (t : Thread) → IsEvent t (op.Resolve k) → Holds (resolved (end_of h).managed.managed answers freed) m n
+    → Holds (managed_past (end_of h).managed (record { caller = t; index = x.entry.made.index; op = op.Resolve k; reply = x.entry.made.reply; cites = x.entry.made.cites }) x.told (is_peer_event t (op.Resolve k)) false).managed m n
+resolved_holds h x k answers freed m n e C v w = subst (λ z. Holds (with_pins (managed_answer (with_pins (end_of h).managed (pins_told x.told)) C (op.Resolve k) z).state no_pins).managed m n) (sym e) (record { live = w.live; held = w.held })
+resolved_holds h x k answers freed m n e (M u) v w = absurd v
+resolved_holds h x k answers freed m n e (P u) v w = absurd v
+
+pub restored_hold_the_new : RestoredHoldTheNew
+restored_hold_the_new x h l k e i g m n at c =
+    let f = resolves_free_by_restores x h l k e in
+    let freed = resolves_free_cleared x h l k e f.answers f.freed f.tells i g m (said_alive n) at c in
+    let s = (end_of h).managed.managed in
+    let kept = (kept_end h l.1).managed.managed in
+    let cut = kept.dead f.cycle f.open_cycle.0 in
+    let own : candidates_of s ≡ f.cycle.candidates = candidates_of-open s f.cycle f.open_cycle.0 in
+    let b = ((cut.candidates m).0 (Contains-at f.cycle.candidates i m (subst (λ z. slice_get z i ≡ Some m) own c))).1 in
+    let within = numbered-within s.held m (Some b.0) b.1.held in
+    let answered : slice_get f.answers i ≡ Some (said_alive n) = ap (λ z. slice_get z i) (sym f.restored.same) ∙ (slice_get-map (λ (z : ℕ × Answer). z.1) (restores_in h) i ∙ ap (option_map (λ (z : ℕ × Answer). z.1)) at) in
+    subst (λ o. Holds (managed_past (end_of h).managed (record { caller = x.entry.made.caller; index = x.entry.made.index; op = o; reply = x.entry.made.reply; cites = x.entry.made.cites }) x.told (is_peer_event x.entry.made.caller o) (is_read o)).managed m n) (sym e)
+    (resolved_holds h x k f.answers f.freed m n f.tells x.entry.made.caller (subst (IsEvent x.entry.made.caller) e (event_of x h l)) (record {
+      live = IsLive-left s.heap f.freed m b.1.live (λ q. not_cleared n (freed.0 q));
+      held = renewed-given s.held (candidates_of s) f.answers m n (subst Rises (sym own) cut.rise) within.0 within.1 (record { place = i; candidate = c; answer = answered });
+    }))
+  where
+    not_cleared : (n : ℕ) → said_alive n ≡ said_cleared → ⊥
+    not_cleared n e = cc

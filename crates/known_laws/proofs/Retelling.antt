@@ -10,9 +10,9 @@ use Rattle.joint_model.specs.declared.events.Op.{Op}
 use Rattle.joint_model.specs.declared.events.Op.TheVariants as op
 use Rattle.joint_model.specs.declared.events.Reply.{Reply}
 use Rattle.joint_model.specs.declared.events.Made.{Made}
-use Rattle.joint_model.specs.Control.{Stand, OpenSnap, idle, snapped, contracted, weakening, marked, restoring, restored, candidates_of, stand_after, seen_weakened, DriverAllows, IsPhaseOf}
+use Rattle.joint_model.specs.Control.{Stand, OpenSnap, idle, snapped, contracted, weakening, marked, restoring, restored, stand_after, seen_weakened, DriverAllows, IsPhaseOf}
 use Rattle.joint_model.specs.Linked.{Linkage, MayCome, AllMayCome, linkage_after, replayed}
-use Rattle.joint_model.specs.Managed.{Managed}
+use Rattle.joint_model.specs.Managed.{Managed, candidates_of}
 use Rattle.joint_model.specs.ManagedReplay.{ManagedReplay, MayRefuse, refusal_to}
 use Rattle.joint_model.specs.Peers.{Issued}
 use Rattle.joint_model.specs.Told.{Told, Noted, phase_of}
@@ -92,7 +92,7 @@ mirrored-near (weakening o count weakened swept) c n w r p h = ⊎_elim
     h.1
 mirrored-near idle c n w r p h = absurd (cc)
 mirrored-near (snapped o) c n w r p h = absurd (cc)
-mirrored-near (contracted o comps xrefs) c n w r p h = absurd (cc)
+mirrored-near (contracted o comps heavy xrefs) c n w r p h = absurd (cc)
 mirrored-near (marked o) c n w r p h = absurd (cc)
 mirrored-near (restoring o answers) c n w r p h = absurd (let e = h.1 in cc)
 mirrored-near (restored o answers clear) c n w r p h = absurd (cc)

@@ -152,8 +152,8 @@ pub no_release : (h : ℕ) → MayRelease opening_peer_replay h → ⊥
 no_release zero w = none_some w.row w.tabled
 no_release (suc n) w = none_some w.row w.tabled
 
-pub no_contraction : (k : ℕ) (comps : List (List ℕ)) (xrefs : List (ℕ × ℕ)) → MayContract opening_replay k comps xrefs → ⊥
-no_contraction k comps xrefs w = none_some w.cycle w.open_cycle.0
+pub no_contraction : (k : ℕ) (comps : List (List ℕ)) (heavy : List ℕ) (xrefs : List (ℕ × ℕ)) → MayContract opening_replay k comps heavy xrefs → ⊥
+no_contraction k comps heavy xrefs w = none_some w.cycle w.open_cycle.0
 
 pub no_weaken : (h : ℕ) → MayWeaken opening_peer_replay h None → ⊥
 no_weaken h w = none_some w.mirror w.stands

@@ -23,7 +23,7 @@ use Rattle.joint_model.specs.Linked.{Linkage, SideLawful, managed_after}
 use Rattle.joint_model.specs.ManagedReplay.{ManagedReplay}
 use Rattle.joint_model.specs.PeerReplay.{PeerReplay, Mirror}
 use Rattle.joint_model.specs.Run.{thread_number}
-use Rattle.joint_model.specs.Told.{Told, Noted, snap_of, contraction_of, phase_of}
+use Rattle.joint_model.specs.Told.{Told, Noted, snap_of, contraction_of, phase_of, Answer}
 use Rattle.joint_model.proofs.Deciding.{none_some}
 use Rattle.joint_laws.specs.LinkedInvariants.{IsDriverKept}
 use Rattle.joint_laws.specs.ManagedInvariants.{IsReplayKept}
@@ -51,8 +51,8 @@ pub opened_on : (st : Stand) (num : ℕ) (o : Op) (reply : Reply) (told : Told) 
 opened_on st num (op.Snap k) reply told x = absurd x
 opened_on st num (op.Resolve k) reply told x = absurd x
 opened_on st num (op.Abandon k) reply told x = absurd x
-opened_on (snapped o) num (op.Contract k) reply (contraction_of comps xrefs) x = refl
-opened_on (contracted o comps xrefs) num (op.Mirror k) reply told x = refl
+opened_on (snapped o) num (op.Contract k) reply (contraction_of comps heavy xrefs) x = refl
+opened_on (contracted o comps heavy xrefs) num (op.Mirror k) reply told x = refl
 opened_on (weakening o count a b) num (op.Weaken h) reply told x = refl
 opened_on (weakening o count a b) num op.Sweep reply told x = refl
 opened_on (weakening o count a b) num op.Begin reply told x = refl
@@ -69,7 +69,7 @@ cycle_on r index reply cites (op.Line a) told k x e = (managed_line-goes_on r.ma
 cycle_on r index reply cites (op.Snap c) told k x e = absurd x
 cycle_on r index reply cites (op.Resolve c) told k x e = absurd x
 cycle_on r index reply cites (op.Abandon c) told k x e = absurd x
-cycle_on r index reply cites (op.Contract c) (contraction_of comps xrefs) k x e = refl
+cycle_on r index reply cites (op.Contract c) (contraction_of comps heavy xrefs) k x e = refl
 cycle_on r index reply cites (op.Contract c) _ k x e = refl
 cycle_on r index reply cites (op.Refused w) (phase_of p) k x e = refl
 cycle_on r index reply cites (op.Refused w) _ k x e = refl
@@ -169,7 +169,7 @@ numbers_are_once (z ∷ h) l x y p q e = ⊎_elim
     (λ b. numbers_are_once h l.1 x y a b e) q)
     p
 
-opened_by : (r : ManagedReplay) (s : PeerReplay) (o : OpenSnap) (a b : ℕ) (m : Mirror) → IsMirrorOf r s o a b → s.mirror ≡ Some m → Some o ≡ Some record { cycle = m.cycle; snap = m.snap }
+opened_by : (r : ManagedReplay) (s : PeerReplay) (o : OpenSnap) (a : ℕ) (b : List Answer) (m : Mirror) → IsMirrorOf r s o a b → s.mirror ≡ Some m → Some o ≡ Some record { cycle = m.cycle; snap = m.snap }
 opened_by r s o a b m f e =
     let same : f.mirror ≡ m = same_Some _ _ (sym f.stands ∙ e) in
     let c : o.cycle ≡ m.cycle = sym f.cycle ∙ ap (λ (z : Mirror). z.cycle) same in
@@ -180,10 +180,10 @@ opened_by r s o a b m f e =
 mirror-opened : (r : ManagedReplay) (s : PeerReplay) (st : Stand) (m : Mirror) → IsDriverKept r s st → MirrorFits r s st → s.mirror ≡ Some m → opened_of st ≡ Some record { cycle = m.cycle; snap = m.snap }
 mirror-opened r s idle m d f e = absurd (none_some m (sym d.none ∙ e))
 mirror-opened r s (snapped o) m d f e = absurd (none_some m (sym d.none ∙ e))
-mirror-opened r s (contracted o comps xrefs) m d f e = absurd (none_some m (sym d.before.none ∙ e))
-mirror-opened r s (weakening o count x y) m d f e = opened_by r s o count 0 m f e
-mirror-opened r s (marked o) m d f e = opened_by r s o _ 0 m f e
-mirror-opened r s (restoring o answers) m d f e = opened_by r s o _ (length answers) m f e
+mirror-opened r s (contracted o comps heavy xrefs) m d f e = absurd (none_some m (sym d.before.none ∙ e))
+mirror-opened r s (weakening o count x y) m d f e = opened_by r s o count [] m f e
+mirror-opened r s (marked o) m d f e = opened_by r s o _ [] m f e
+mirror-opened r s (restoring o answers) m d f e = opened_by r s o _ answers m f e
 mirror-opened r s (restored o answers clear) m d f e = absurd (none_some m (sym d.none ∙ e))
 
 pub mirror_cites_a_snap : MirrorCitesASnap

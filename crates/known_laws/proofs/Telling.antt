@@ -20,12 +20,12 @@ use Rattle.joint_model.specs.declared.names.PhaseWord.{PhaseWord}
 use Rattle.joint_model.specs.declared.names.PhaseWord.TheVariants as word
 use Rattle.joint_model.specs.declared.events.Entry.{Entry}
 use Rattle.joint_model.specs.Components.{Rises}
-use Rattle.joint_model.specs.Control.{Stand, idle, snapped, contracted, weakening, marked, restoring, restored, candidates_of, CallerAllows, IsPhaseOf, MayMirrorNow, MayResolveNow}
+use Rattle.joint_model.specs.Control.{Stand, idle, snapped, contracted, weakening, marked, restoring, restored, CallerAllows, IsPhaseOf, MayMirrorNow, MayResolveNow}
 use Rattle.joint_model.specs.Lines.{IsEvent, is_peer_event}
 use Rattle.joint_model.specs.Linked.{Linkage, MayCome, SideLawful}
 use Rattle.joint_model.specs.Cycles.{IsDeadContraction, IsAnsweredAlive}
 use Rattle.joint_model.specs.Walks.{Reaches}
-use Rattle.joint_model.specs.Managed.{Managed, OpenCycle, ManagedEdge}
+use Rattle.joint_model.specs.Managed.{Managed, OpenCycle, ManagedEdge, candidates_of}
 use Rattle.joint_model.specs.ManagedReplay.{ManagedReplay, ManagedAllows, MayResolve, MayRefuse, refusal_to}
 use Rattle.joint_model.specs.Peers.{Issued}
 use Rattle.joint_model.specs.PeerReplay.{PeerReplay, Marking, PeerAllows, SliceAllows, SweepAllows}
@@ -35,6 +35,7 @@ use Rattle.joint_model.proofs.Members.{Rises-one}
 use Rattle.known_laws.specs.Known.{TellsPlainly, IsSeen}
 use Rattle.known_laws.specs.Telling.{IsOneContraction, MayBeTold, ToldIsOne, PlainMayBeTold}
 use Rattle.known_laws.proofs.OneContraction.{is_one_contraction}
+use Rattle.joint_model.specs.Components.{End}
 
 -- two rising lists with one meaning are one
 one : (xs ys : List ℕ) (Q : ℕ → Type 0) → Rises xs → Rises ys → ((m : ℕ) → Contains xs m ↔ Q m) → ((m : ℕ) → Contains ys m ↔ Q m) → xs ≡ ys
@@ -74,11 +75,11 @@ managed_told cu m (op.Snap k) (snap_of f c d) (snap_of f' c' d') n w v r =
     λ i. snap_of (a i) (b i) (e i)
 managed_told cu m (op.Snap k) (snap_of f c d) _ n w v r = absurd v
 managed_told cu m (op.Snap k) _ u n w v r = absurd w
-managed_told cu m (op.Contract k) (contraction_of cs xs) (contraction_of ds ys) n w v r =
+managed_told cu m (op.Contract k) (contraction_of cs hs xs) (contraction_of ds is ys) n w v r =
     let c : w.cycle ≡ v.cycle = same_Some _ _ (sym w.open_cycle.0 ∙ v.open_cycle.0) in
-    let e = cu m.managed w.cycle.dead cs ds xs ys w.exact (subst (λ (z : OpenCycle). IsDeadContraction m.managed z.dead ds ys) (sym c) v.exact) in
-    λ i. contraction_of (e.0 i) (e.1 i)
-managed_told cu m (op.Contract k) (contraction_of cs xs) _ n w v r = absurd v
+    let e = cu m.managed w.cycle.dead cs ds hs is xs ys w.exact (subst (λ (z : OpenCycle). IsDeadContraction m.managed z.dead ds is ys) (sym c) v.exact) in
+    λ i. contraction_of (e.0 i) (e.1 i) (e.2 i)
+managed_told cu m (op.Contract k) (contraction_of cs hs xs) _ n w v r = absurd v
 managed_told cu m (op.Contract k) _ u n w v r = absurd w
 managed_told cu m (op.Resolve k) (resolution_of alive freed) (resolution_of alive' freed') n w v r = resolves (r k alive alive' freed freed' refl refl refl) v
   where
@@ -131,7 +132,7 @@ line_told s t x cites nothing _ w v = absurd v
 line_told s t x cites _ b w v = absurd w
 
 pub peer_told : (s : PeerReplay) (t : Thread) (o : Op) (cites : Option ℕ) (a b : Told) → PeerAllows s t o cites a → PeerAllows s t o cites b
-    → ((k : Cycle) (xs ys : List (ℕ × ℕ)) → o ≡ op.Mirror k → a ≡ references_of xs → b ≡ references_of ys → xs ≡ ys) → a ≡ b
+    → ((k : Cycle) (xs ys : List (End × End)) → o ≡ op.Mirror k → a ≡ references_of xs → b ≡ references_of ys → xs ≡ ys) → a ≡ b
 peer_told s t (op.Line x) cites a b w v r = line_told s t x cites a b w v
 peer_told s t op.Sweep cites a b w v r = sweep_told s s.marking t a b w v
 peer_told s t (op.Mirror k) cites (references_of xs) (references_of ys) w v r = ap references_of (r k xs ys refl refl refl)
@@ -141,8 +142,8 @@ peer_told s t o cites nothing nothing w v r = refl
 peer_told s t o cites nothing _ w v r = absurd v
 peer_told s t o cites _ b w v r = absurd w
 
-pub mirrors : (st : Stand) (m : Managed) (i : List Issued) (k : ℕ) (cites : Option ℕ) (xs ys : List (ℕ × ℕ)) → MayMirrorNow st m i k cites (references_of xs) → MayMirrorNow st m i k cites (references_of ys) → xs ≡ ys
-mirrors (contracted o comps xrefs) m i k cites xs ys w v = w.2 ∙ sym v.2
+pub mirrors : (st : Stand) (m : Managed) (i : List Issued) (k : ℕ) (cites : Option ℕ) (xs ys : List (End × End)) → MayMirrorNow st m i k cites (references_of xs) → MayMirrorNow st m i k cites (references_of ys) → xs ≡ ys
+mirrors (contracted o comps heavy xrefs) m i k cites xs ys w v = w.2 ∙ sym v.2
 mirrors _ m i k cites xs ys w v = absurd w
 
 pub resolves_alike : (st : Stand) (k : ℕ) (cites : Option ℕ) (x y : List Answer) (f g : List ℕ) → MayResolveNow st k cites (resolution_of x f) → MayResolveNow st k cites (resolution_of y g) → x ≡ y
@@ -155,7 +156,7 @@ telling_is_one cu s e t u n a b = by (is_peer_event e.made.caller e.made.op) a.l
     Allowed : Thread → Op → Told → Type 0
     Allowed c o z = CallerAllows s.control s.managed.managed s.peer.peers.issued c e.made.index o e.made.reply e.made.cites z
 
-    refs : (c : Thread) (k : Cycle) (xs ys : List (ℕ × ℕ)) → IsEvent c (op.Mirror k) → Allowed c (op.Mirror k) (references_of xs) → Allowed c (op.Mirror k) (references_of ys) → xs ≡ ys
+    refs : (c : Thread) (k : Cycle) (xs ys : List (End × End)) → IsEvent c (op.Mirror k) → Allowed c (op.Mirror k) (references_of xs) → Allowed c (op.Mirror k) (references_of ys) → xs ≡ ys
     refs C k xs ys v w x = mirrors s.control.stand s.managed.managed s.peer.peers.issued k.0 e.made.cites xs ys w x
     refs (M z) k xs ys v w x = absurd v
     refs (P z) k xs ys v w x = absurd v
@@ -187,7 +188,7 @@ phases (weakening o count weakened swept) c p q a b x y = ⊎_elim
     a.1
 phases idle c p q a b x y = a ∙ sym b
 phases (snapped o) c p q a b x y = a ∙ sym b
-phases (contracted o comps xrefs) c p q a b x y = a ∙ sym b
+phases (contracted o comps heavy xrefs) c p q a b x y = a ∙ sym b
 phases (marked o) c p q a b x y = a ∙ sym b
 phases (restoring o answers) c p q a b x y = a.1 ∙ sym b.1
 phases (restored o answers clear) c p q a b x y = a ∙ sym b
@@ -257,7 +258,7 @@ retold s (weakening o zero true swept) c w p a m = inl (plainly_by (weakening o 
 retold s (weakening o (suc n) seen swept) c w p a m = inl (plainly_by (weakening o (suc n) seen swept) w p (λ e x. absurd (cc)))
 retold s idle c w p a m = inl (plainly_by idle w p (λ e. tt))
 retold s (snapped o) c w p a m = inl (plainly_by (snapped o) w p (λ e. tt))
-retold s (contracted o comps xrefs) c w p a m = inl (plainly_by (contracted o comps xrefs) w p (λ e. tt))
+retold s (contracted o comps heavy xrefs) c w p a m = inl (plainly_by (contracted o comps heavy xrefs) w p (λ e. tt))
 retold s (marked o) c w p a m = inl (plainly_by (marked o) w p (λ e. tt))
 retold s (restoring o answers) c w p a m = inl (plainly_by (restoring o answers) w p (λ e. tt))
 retold s (restored o answers clear) c w p a m = inl (plainly_by (restored o answers clear) w p (λ e. tt))

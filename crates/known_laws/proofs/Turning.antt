@@ -70,7 +70,7 @@ pub driver_has_turns : DriverHasTurns
 driver_has_turns s = record {
   snap = λ k reply told e. stand-put s (op.Snap k) reply None told _ e refl;
   contract = λ o reply told e. stand-put s (op.Contract record { 0 = o.cycle }) reply None told _ e (refl, refl);
-  mirror = λ o comps xrefs reply e. stand-put s (op.Mirror record { 0 = o.cycle }) reply (Some o.snap) _ _ e (refl, refl, refl);
+  mirror = λ o comps heavy xrefs reply e. stand-put s (op.Mirror record { 0 = o.cycle }) reply (Some o.snap) _ _ e (refl, refl, refl);
   weaken = λ o count weakened h reply told e c. stand-put s (op.Weaken h) reply (Some o.snap) told _ e (refl, refl, c);
   mark_sweep = λ o weakened reply told e. stand-put s op.Sweep reply None told _ e (refl, refl, refl);
   begin = λ o weakened swept j told e. stand-put s op.Begin _ None told _ e (refl, refl);
@@ -79,7 +79,7 @@ driver_has_turns s = record {
   clear = λ o answers reply told e n. stand-put s (op.Clear record { 0 = o.cycle }) reply None told _ e (refl, n, refl);
   resolve = λ o answers clear freed reply e. stand-put s (op.Resolve record { 0 = o.cycle }) reply (Some clear) _ _ e (refl, refl, refl);
   abandon_snapped = λ o reply told e. stand-put s (op.Abandon record { 0 = o.cycle }) reply None told _ e (refl, refl);
-  abandon_contracted = λ o comps xrefs reply told e. stand-put s (op.Abandon record { 0 = o.cycle }) reply None told _ e (refl, refl);
+  abandon_contracted = λ o comps heavy xrefs reply told e. stand-put s (op.Abandon record { 0 = o.cycle }) reply None told _ e (refl, refl);
   refused = λ w p reply a. (a, refl);
   finalise = λ n reply told a. (a, refl);
 }

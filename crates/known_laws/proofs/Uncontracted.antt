@@ -66,7 +66,7 @@ other_of t _ n e = tt
 back : (st : Stand) (num : ℕ) (o : Op) (reply : Reply) (told : Told) (w : OpenSnap) → IsOther o → stand_after st num o reply told ≡ snapped w → st ≡ snapped w
 back st num (op.Snap k) reply told w x e = absurd x
 back st num (op.Contract k) reply told w x e = absurd x
-back (contracted o comps xrefs) num (op.Mirror k) reply told w x e = absurd (cc)
+back (contracted o comps heavy xrefs) num (op.Mirror k) reply told w x e = absurd (cc)
 back (weakening o count a b) num (op.Weaken h) reply told w x e = absurd (cc)
 back (weakening o count a b) num op.Sweep reply told w x e = absurd (cc)
 back (weakening o count a b) num op.Begin reply told w x e = absurd (cc)
@@ -105,9 +105,9 @@ uncontracted-step s n may u = by n.entry.made.caller n.entry.made.op n.told may.
     by (P x) o told e l a w q = same_after s.managed (made (P x) o) told (is_peer_event (P x) o) (other_of (P x) o (λ z. cc) e) ∙ u w q
     by C (op.Snap k) (snap_of freed candidates dead) e l a w q = refl
     by C (op.Snap k) told e l a w q = absurd l.allowed
-    by C (op.Contract k) (contraction_of comps xrefs) e l a w q = contract_case s.control.stand a q
+    by C (op.Contract k) (contraction_of comps heavy xrefs) e l a w q = contract_case s.control.stand a q
       where
-        contract_case : (st : Stand) → MayContractNow st k.0 n.entry.made.cites → stand_after st num (op.Contract k) n.entry.made.reply (contraction_of comps xrefs) ≡ snapped w → true ≡ false
+        contract_case : (st : Stand) → MayContractNow st k.0 n.entry.made.cites → stand_after st num (op.Contract k) n.entry.made.reply (contraction_of comps heavy xrefs) ≡ snapped w → true ≡ false
         contract_case (snapped o) a q = absurd (cc)
         contract_case _ a q = absurd a
     by C (op.Contract k) told e l a w q = absurd l.allowed

@@ -102,7 +102,7 @@ module _ (q : List (Option ℕ)) where
       let u = place (thread_number t) v.0 in
       ap (λ m. give_by (with_pins r q) (slot r.managed.heap.vars u) (answer (handle_reply r.managed u) m)) (give-same r.managed (slot r.managed.heap.vars u)) ∙ give-by-same r (slot r.managed.heap.vars u) (handle_reply r.managed u) (without_handle r.managed (slot r.managed.heap.vars u))
   answers_same r t (op.Snap k) told e f = absurd (true≢false f)
-  answers_same r t (op.Contract k) (contraction_of comps xrefs) e f = refl
+  answers_same r t (op.Contract k) (contraction_of comps heavy xrefs) e f = refl
   answers_same r t (op.Contract k) _ e f = refl
   answers_same r t (op.Resolve k) (resolution_of alive freed) e f = refl
   answers_same r t (op.Resolve k) _ e f = refl
@@ -123,9 +123,9 @@ module _ (q : List (Option ℕ)) where
   allows_same r (op.Give v) nothing f w = tt
   allows_same r (op.Give v) _ f w = absurd w
   allows_same r (op.Snap k) told f w = absurd (true≢false f)
-  allows_same r (op.Contract k) (contraction_of comps xrefs) f w = record { cycle = w.cycle; open_cycle = w.open_cycle; once = w.once; exact = contraction_to r q w.cycle.dead comps xrefs w.exact }
+  allows_same r (op.Contract k) (contraction_of comps heavy xrefs) f w = record { cycle = w.cycle; open_cycle = w.open_cycle; once = w.once; exact = contraction_to r q w.cycle.dead comps heavy xrefs w.exact }
   allows_same r (op.Contract k) _ f w = absurd w
-  allows_same r (op.Resolve k) (resolution_of alive freed) f w = record { cycle = w.cycle; open_cycle = w.open_cycle; answers = w.answers; resolution = record { rise = w.resolution.rise; frees = w.resolution.frees } }
+  allows_same r (op.Resolve k) (resolution_of alive freed) f w = record { cycle = w.cycle; open_cycle = w.open_cycle; answers = w.answers; new = w.new; resolution = record { rise = w.resolution.rise; frees = w.resolution.frees } }
   allows_same r (op.Resolve k) _ f w = absurd w
   allows_same r (op.Abandon k) nothing f w = w
   allows_same r (op.Abandon k) _ f w = absurd w
@@ -137,4 +137,4 @@ module _ (q : List (Option ℕ)) where
   pub turn_same : (c : Control) (m : Managed) (issued : List Issued) (t : Thread) (line : ℕ) (o : Op) (reply : Reply) (cites : Option ℕ) (told : Told) → CallerAllows c m issued t line o reply cites told → CallerAllows c (put m) issued t line o reply cites told
   turn_same c m issued (M t) line o reply cites told w = w
   turn_same c m issued (P t) line o reply cites told w = w
-  turn_same c m issued C line o reply cites told w = driver_move c.stand m (put m) issued issued o reply cites told (record { candidates = refl; handles = λ i h x. x; edges = λ p comps xrefs i x. refl }) (λ x. refl) w
+  turn_same c m issued C line o reply cites told w = driver_move c.stand m (put m) issued issued o reply cites told (record { candidates = refl; handles = λ i h x. x; edges = λ p comps heavy xrefs i x. refl }) (λ x. refl) w

@@ -12,13 +12,13 @@ use Rattle.joint_model.specs.declared.events.Op.TheVariants as op
 use Rattle.joint_model.specs.declared.events.Reply.{Reply}
 use Rattle.joint_model.specs.declared.events.Reply.TheVariants as says
 use Rattle.joint_model.specs.declared.events.Made.{Made}
-use Rattle.joint_model.specs.Components.{mirror_edges}
-use Rattle.joint_model.specs.Control.{candidates_of, carried_edges, answer_in, IsCandidateHandle}
+use Rattle.joint_model.specs.Components.{mirror_edges, End}
+use Rattle.joint_model.specs.Control.{carried_edges, answer_in, IsCandidateHandle}
 use Rattle.joint_model.specs.Cycles.{IsDeadContraction, IsOpen}
 use Rattle.joint_model.specs.Linked.{Linkage}
-use Rattle.joint_model.specs.Managed.{Managed, OpenCycle, ManagedEdge, handle_of}
+use Rattle.joint_model.specs.Managed.{Holds, Managed, OpenCycle, ManagedEdge, handle_of, candidates_of}
 use Rattle.joint_model.specs.PeerReplay.{Mirror}
-use Rattle.joint_model.specs.Told.{Told, Noted, bare_told, references_of, resolution_of, Answer, IsKept, said_cleared}
+use Rattle.joint_model.specs.Told.{Told, Noted, references_of, resolution_of, Answer, IsKept, said_alive, said_cleared, bare_told}
 use Rattle.joint_model.specs.Walks.{Reaches}
 use Rattle.known_laws.specs.Pasts.{InPast, Lawful, end_of}
 
@@ -93,9 +93,10 @@ pub record AddsMirrorEdges (s : Linkage) (told : Told) (reply : Reply) (k : ℕ)
   pub cycle : OpenCycle
   pub open_cycle : IsOpen s.managed.managed k cycle
   pub comps : List (List ℕ)
+  pub heavy : List ℕ
   pub xrefs : List (ℕ × ℕ)
-  pub contraction : IsDeadContraction s.managed.managed cycle.dead comps xrefs
-  pub refs : List (ℕ × ℕ)
+  pub contraction : IsDeadContraction s.managed.managed cycle.dead comps heavy xrefs
+  pub refs : List (End × End)
   pub exact : refs ≡ carried_edges s.managed.managed s.peer.peers.issued (mirror_edges comps xrefs)
   pub tells : told ≡ references_of refs
   pub replies : reply ≡ says.Refs (length refs)
@@ -161,6 +162,10 @@ ResolvesFreeByRestores = (x : Noted) (h : List Noted) → Lawful (x ∷ h) → (
 abbrev pub ResolvesFreeCleared : Type 0
 ResolvesFreeCleared = (x : Noted) (h : List Noted) → Lawful (x ∷ h) → (k : Cycle) → x.entry.made.op ≡ op.Resolve k → (answers : List Answer) (freed : List ℕ) → bare_told x.told ≡ resolution_of answers freed
     → (i g m : ℕ) (a : Answer) → slice_get (restores_in h) i ≡ Some (g, a) → slice_get (candidates_of (end_of h).managed.managed) i ≡ Some m → Contains freed m ↔ (a ≡ said_cleared)
+
+-- a restore that answered alive ends in the new handle of its row: after the resolve the candidate holds the handle that it gave
+abbrev pub RestoredHoldTheNew : Type 0
+RestoredHoldTheNew = (x : Noted) (h : List Noted) → Lawful (x ∷ h) → (k : Cycle) → x.entry.made.op ≡ op.Resolve k → (i g m n : ℕ) → slice_get (restores_in h) i ≡ Some (g, said_alive n) → slice_get (candidates_of (end_of h).managed.managed) i ≡ Some m → Holds (end_of (x ∷ h)).managed.managed m n
 
 -- each entry of a past stands behind a past, so each of these laws is about every entry
 pub record StandsBehind (h : List Noted) (x : Noted) : Type 0 where

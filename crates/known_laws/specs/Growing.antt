@@ -5,7 +5,8 @@ use mathlib.Core.List.{IsPrefix}
 use Rattle.joint_model.specs.declared.names.Thread.{Thread}
 use Rattle.joint_model.specs.declared.names.Thread.TheVariants.{M}
 use Rattle.joint_model.specs.declared.events.Entry.{Entry}
-use Rattle.joint_model.specs.Control.{candidates_of, doing_at, last_line}
+use Rattle.joint_model.specs.Control.{doing_at, last_line}
+use Rattle.joint_model.specs.Managed.{candidates_of}
 use Rattle.joint_model.specs.Linked.{Linkage, opening_linkage}
 use Rattle.joint_model.specs.PeerReplay.{Mirror}
 use Rattle.joint_model.specs.Told.{Told, Noted, nothing, kept_pins, pins_told, bare_told}

@@ -2,12 +2,12 @@
 use Rattle.std.specs.Prelude.{◌≡◌, ℕ, ◌+◌, ◌≤◌, ◌⊎◌, Bool, if◌then◌else◌, List, [], ◌∷◌, ◌++◌, map, Contains, Some}
 use mathlib.Core.List.{IsPrefix}
 use Rattle.joint_model.specs.Components.{mirror_edges}
-use Rattle.joint_model.specs.Control.{OpenSnap, contracted, candidates_of, IsCandidateHandle, carried_edges}
+use Rattle.joint_model.specs.Control.{OpenSnap, contracted, IsCandidateHandle, carried_edges}
 use Rattle.joint_model.specs.Cycles.{IsDeadContraction}
 use Rattle.joint_model.specs.Heaps.{fields_of}
 use Rattle.joint_model.specs.HistoryLines.{caller_line, side_line, stands_in}
-use Rattle.joint_model.specs.Linked.{Linkage, opening_linkage}
-use Rattle.joint_model.specs.Managed.{Managed, OpenCycle, handle_of}
+use Rattle.joint_model.specs.Linked.{Linkage, opening_linkage, linkage_after}
+use Rattle.joint_model.specs.Managed.{Managed, OpenCycle, handle_of, candidates_of}
 use Rattle.joint_model.specs.Peers.{Issued}
 use Rattle.joint_model.specs.Told.{Noted, nothing, kept_pins, pins_told}
 use Rattle.known_laws.specs.Known.{MayComeLater, past_after}
@@ -72,13 +72,13 @@ pub record HasSameDeadPart (s t : Managed) : Type 0 where
   pub cycle : s.cycle ≡ t.cycle
   pub handles : (c : OpenCycle) → s.cycle ≡ Some c → (m : ℕ) → Contains c.dead m → handle_of s m ≡ handle_of t m
   pub fields : (c : OpenCycle) → s.cycle ≡ Some c → (m : ℕ) → Contains c.dead m → fields_of s.heap m ≡ fields_of t.heap m
-  pub contraction : (c : OpenCycle) → s.cycle ≡ Some c → (comps : List (List ℕ)) (xrefs : List (ℕ × ℕ)) → IsDeadContraction s c.dead comps xrefs → IsDeadContraction t c.dead comps xrefs
+  pub contraction : (c : OpenCycle) → s.cycle ≡ Some c → (comps : List (List ℕ)) (heavy : List ℕ) (xrefs : List (ℕ × ℕ)) → IsDeadContraction s c.dead comps heavy xrefs → IsDeadContraction t c.dead comps heavy xrefs
 
 -- two states have the same for the driver: the candidates, their handles, and where the mirror edges lead
 pub record IsSameForDriver (s t : Linkage) : Type 0 where
   pub candidates : candidates_of s.managed.managed ≡ candidates_of t.managed.managed
   pub handles : (i h : ℕ) → IsCandidateHandle s.managed.managed i h → IsCandidateHandle t.managed.managed i h
-  pub edges : (o : OpenSnap) (comps : List (List ℕ)) (xrefs : List (ℕ × ℕ)) (issued : List Issued) → t.control.stand ≡ contracted o comps xrefs
+  pub edges : (o : OpenSnap) (comps : List (List ℕ)) (heavy : List ℕ) (xrefs : List (ℕ × ℕ)) (issued : List Issued) → t.control.stand ≡ contracted o comps heavy xrefs
       → carried_edges s.managed.managed issued (mirror_edges comps xrefs) ≡ carried_edges t.managed.managed issued (mirror_edges comps xrefs)
 
 -- the open cycle's dead part is frozen: two pasts in which the driver did the same have the same for the driver

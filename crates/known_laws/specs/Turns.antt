@@ -20,9 +20,10 @@ use Rattle.joint_model.specs.declared.events.Reply.{Reply}
 use Rattle.joint_model.specs.declared.events.Reply.TheVariants as says
 use Rattle.joint_model.specs.declared.events.Made.{Made}
 use Rattle.joint_model.specs.Components.{mirror_edges}
-use Rattle.joint_model.specs.Control.{OpenSnap, made, lent, gripped, given, met, idle, snapped, contracted, weakening, marked, restoring, restored, doing_at, last_line, candidates_of, carried_edges, IsCandidateHandle, IsPhaseOf, IsAtRest, IsDone, MayStart, ThreadAllows, DriverAllows, CallerAllows}
+use Rattle.joint_model.specs.Control.{OpenSnap, made, lent, gripped, given, met, idle, snapped, contracted, weakening, marked, restoring, restored, doing_at, last_line, carried_edges, IsCandidateHandle, IsPhaseOf, IsAtRest, IsDone, MayStart, ThreadAllows, DriverAllows, CallerAllows}
+use Rattle.joint_model.specs.Managed.{candidates_of}
 use Rattle.joint_model.specs.Lines.{IsLine, IsEvent, is_read}
-use Rattle.joint_model.specs.Linked.{Linkage}
+use Rattle.joint_model.specs.Linked.{Linkage, MayCome}
 use Rattle.joint_model.specs.Run.{thread_number}
 use Rattle.joint_model.specs.Sides.{managed_rules, peer_rules}
 use Rattle.joint_model.specs.Told.{Told, nothing, bare_told, pins_told, Answer, references_of, resolution_of, phase_of}
@@ -62,7 +63,7 @@ ThreadsHaveTurns = (s : Linkage) (t : ℕ) → AreThreadTurns s t
 pub record AreDriverTurns (s : Linkage) : Type 0 where
   pub snap : (k : Cycle) (reply : Reply) (told : Told) → s.control.stand ≡ idle → DriverTurn s (op.Snap k) reply None told
   pub contract : (o : OpenSnap) (reply : Reply) (told : Told) → s.control.stand ≡ snapped o → DriverTurn s (op.Contract record { 0 = o.cycle }) reply None told
-  pub mirror : (o : OpenSnap) (comps : List (List ℕ)) (xrefs : List (ℕ × ℕ)) (reply : Reply) → s.control.stand ≡ contracted o comps xrefs
+  pub mirror : (o : OpenSnap) (comps : List (List ℕ)) (heavy : List ℕ) (xrefs : List (ℕ × ℕ)) (reply : Reply) → s.control.stand ≡ contracted o comps heavy xrefs
       → DriverTurn s (op.Mirror record { 0 = o.cycle }) reply (Some o.snap) (references_of (carried_edges s.managed.managed s.peer.peers.issued (mirror_edges comps xrefs)))
   pub weaken : (o : OpenSnap) (count : ℕ) (weakened : Bool) (h : HNum) (reply : Reply) (told : Told) → s.control.stand ≡ weakening o count weakened false → IsCandidateHandle s.managed.managed count h.0 → DriverTurn s (op.Weaken h) reply (Some o.snap) told
   pub mark_sweep : (o : OpenSnap) (weakened : Bool) (reply : Reply) (told : Told) → s.control.stand ≡ weakening o (length (candidates_of s.managed.managed)) weakened false → DriverTurn s op.Sweep reply None told
@@ -72,7 +73,7 @@ pub record AreDriverTurns (s : Linkage) : Type 0 where
   pub clear : (o : OpenSnap) (answers : List Answer) (reply : Reply) (told : Told) → s.control.stand ≡ restoring o answers → length answers ≡ length (candidates_of s.managed.managed) → DriverTurn s (op.Clear record { 0 = o.cycle }) reply None told
   pub resolve : (o : OpenSnap) (answers : List Answer) (clear : ℕ) (freed : List ℕ) (reply : Reply) → s.control.stand ≡ restored o answers clear → DriverTurn s (op.Resolve record { 0 = o.cycle }) reply (Some clear) (resolution_of answers freed)
   pub abandon_snapped : (o : OpenSnap) (reply : Reply) (told : Told) → s.control.stand ≡ snapped o → DriverTurn s (op.Abandon record { 0 = o.cycle }) reply None told
-  pub abandon_contracted : (o : OpenSnap) (comps : List (List ℕ)) (xrefs : List (ℕ × ℕ)) (reply : Reply) (told : Told) → s.control.stand ≡ contracted o comps xrefs → DriverTurn s (op.Abandon record { 0 = o.cycle }) reply None told
+  pub abandon_contracted : (o : OpenSnap) (comps : List (List ℕ)) (heavy : List ℕ) (xrefs : List (ℕ × ℕ)) (reply : Reply) (told : Told) → s.control.stand ≡ contracted o comps heavy xrefs → DriverTurn s (op.Abandon record { 0 = o.cycle }) reply None told
   pub refused : (w : PhaseWord) (p : Phase) (reply : Reply) → IsPhaseOf s.control.stand (length (candidates_of s.managed.managed)) p → DriverTurn s (op.Refused w) reply None (phase_of p)
   pub finalise : (n : ℕ) (reply : Reply) (told : Told) → IsAtRest s.control.stand (length (candidates_of s.managed.managed)) → DriverTurn s (op.Line (act.Finalise n)) reply None told
 

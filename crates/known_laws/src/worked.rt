@@ -71,7 +71,7 @@ pub fn targets_must_be_told()
 pub fn calls_need_their_stand()
     ensures kept { IsPastKept opening_linkage }
     ensures release { (h : ℕ) → MayRelease opening_peer_replay h → ⊥ }
-    ensures contracted { (k : ℕ) (comps : List (List ℕ)) (xrefs : List (ℕ × ℕ)) → MayContract opening_replay k comps xrefs → ⊥ }
+    ensures contracted { (k : ℕ) (comps : List (List ℕ)) (heavy : List ℕ) (xrefs : List (ℕ × ℕ)) → MayContract opening_replay k comps heavy xrefs → ⊥ }
     ensures weaken { (h : ℕ) → MayWeaken opening_peer_replay h None → ⊥ }
     ensures restore { (h : ℕ) → MayRestore opening_peer_replay h → ⊥ }
     ensures clear { (k : ℕ) → MayClear opening_peer_replay k → ⊥ }

@@ -1,3 +1,5 @@
 pub mod MarkFacts
 pub mod MarkEvents
 pub mod MarkSweeps
+pub mod SliceEvents
+pub mod SliceCounts

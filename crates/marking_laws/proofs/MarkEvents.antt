@@ -10,12 +10,14 @@ use Rattle.joint_model.specs.declared.names.Sort.{Sort}
 use Rattle.joint_model.specs.declared.names.Thread.{Thread}
 use Rattle.joint_model.specs.Heaps.{IsLive, HasField, InSlot, fields_of, numbered_at, next_number, with_field}
 use Rattle.joint_model.specs.Peers.{with_peer}
-use Rattle.joint_model.specs.PeerReplay.{PeerReplay, Marking, IsMarked, IsMarkingRoot, MarkingEdge, HasReference, begun, mirrored}
+use Rattle.joint_model.specs.PeerReplay.{PeerReplay, Marking, IsMarked, IsMarkingRoot, MarkingEdge, HasReference, Refers, begun, mirrored}
+use Rattle.joint_model.specs.Components.{End}
 use Rattle.joint_model.specs.Walks.{Reached}
 use Rattle.joint_model.proofs.HeapLemmas.{IsLive-later}
 use Rattle.joint_model.proofs.Members.{Contains-nil, Contains-here}
 use Rattle.joint_model.proofs.WalkLemmas.{Reached-keeps, Reached-start, Reached-then, Reached-mono}
 use Rattle.joint_laws.specs.PeerInvariants.{IsSpared}
+use Rattle.joint_laws.proofs.Through.{Refers-none}
 use Rattle.joint_laws.proofs.Fields.{with_object-old, with_field-length, with_field-other}
 use Rattle.reachability.specs.Marks.{HasMark}
 use Rattle.reachability.proofs.Marking.{marked-or}
@@ -113,7 +115,7 @@ marks-same s t mk follows marks fields freed refs m =
           w.0,
           elim w.1 [
             | inl f ↦ inl record { live = live p f.live; field = subst (λ fs. Contains fs (Some q)) (sym (still p)) f.field; there = live q f.there }
-            | inr r ↦ inr (r.0, record { live = live p r.1.live; reference = subst (λ rs. Contains rs (p, q)) (sym refs) r.1.reference; there = live q r.1.there })
+            | inr r ↦ inr (r.0, record { live = live p r.1.live; reference = subst (λ rs. Refers rs p q) (sym refs) r.1.reference; there = live q r.1.there })
           ],
         )
       ];
@@ -196,14 +198,14 @@ marks-brought s mk follows marks after x side new =
     }
 
 -- the marking doesn't follow references that come to stand
-pub marks-stood : (s : PeerReplay) (mk : Marking) (follows : Bool) (marks : List Bool) (cycle snap : ℕ) (refs : List (ℕ × ℕ)) → s.refs ≡ [] → AreMarksExact s mk follows marks → AreMarksExact (mirrored s cycle (Some snap) refs) mk false marks
+pub marks-stood : (s : PeerReplay) (mk : Marking) (follows : Bool) (marks : List Bool) (cycle snap : ℕ) (refs : List (End × End)) → s.refs ≡ [] → AreMarksExact s mk follows marks → AreMarksExact (mirrored s cycle (Some snap) refs) mk false marks
 marks-stood s mk follows marks cycle snap refs none m = record {
   older = m.older;
   fresh = m.fresh;
   exact = m.exact;
   unmarked = λ p q e. elim (m.unmarked p q e) [
     | inl u ↦ inl u
-    | inr w ↦ elim w.1 [ inl f ↦ inr (w.0, inl f) | inr r ↦ absurd (Contains-nil (p, q) (subst (λ rs. Contains rs (p, q)) none r.1.reference)) ]
+    | inr w ↦ elim w.1 [ inl f ↦ inr (w.0, inl f) | inr r ↦ absurd (Refers-none p q (subst (λ rs. Refers rs p q) none r.1.reference)) ]
   ];
 }
 

@@ -2,7 +2,7 @@
 use Rattle.std.specs.Prelude.{◌≡◌, ◌≢◌, ℕ, ◌↔◌, ◌⊎◌, ◌++◌, ◌∷◌, [], Bool, true, false, List, Contains, Option, Some, None}
 use Rattle.joint_model.specs.declared.names.Sort.{Sort}
 use Rattle.joint_model.specs.declared.names.Thread.{Thread}
-use Rattle.joint_model.specs.Components.{Rises}
+use Rattle.joint_model.specs.Components.{Rises, End}
 use Rattle.joint_model.specs.Heaps.{InSlot, next_number, with_field}
 use Rattle.joint_model.specs.Peers.{with_peer}
 use Rattle.joint_model.specs.PeerReplay.{PeerReplay, Marking, IsSweep, HasReference, begun, mirrored}
@@ -41,7 +41,7 @@ BringingBackKeepsMarks = (s : PeerReplay) (mk : Marking) (follows : Bool) (marks
 
 -- the references of a cycle come to stand where none stood; the open marking doesn't follow them
 abbrev pub StandingKeepsMarks : Type 0
-StandingKeepsMarks = (s : PeerReplay) (mk : Marking) (follows : Bool) (marks : List Bool) (cycle snap : ℕ) (refs : List (ℕ × ℕ)) → s.refs ≡ []
+StandingKeepsMarks = (s : PeerReplay) (mk : Marking) (follows : Bool) (marks : List Bool) (cycle snap : ℕ) (refs : List (End × End)) → s.refs ≡ []
     → AreMarksExact s mk follows marks → AreMarksExact (mirrored s cycle (Some snap) refs) mk false marks
 
 -- the references go, each of whose unfreed targets is spared

@@ -21,10 +21,12 @@
 #![tactic(auto)]
 
 mod events;
+mod slices;
 mod sweeps;
 
 pub use events::{
     begin_makes_marks_exact, bringing_back_keeps_marks, clearing_keeps_marks, new_peers_keep_marks,
     other_events_keep_marks, standing_keeps_marks, writes_keep_marks,
 };
+pub use slices::{slices_count, slices_end, slices_go_on};
 pub use sweeps::{marks_are_shut, sweep_is_exact, sweep_is_safe};

@@ -1,7 +1,7 @@
 use Rattle.known_laws.proofs.Citing.{pasts_cite}
 use Rattle.known_laws.proofs.CitedOnce.{none_is_cited_twice, each_stands_behind}
 use Rattle.known_laws.proofs.CitedData.{mirrors_add_mirror_edges, weakens_take_next}
-use Rattle.known_laws.proofs.Restoring.{resolves_free_by_restores, resolves_free_cleared}
+use Rattle.known_laws.proofs.Restoring.{resolves_free_by_restores, resolves_free_cleared, restored_hold_the_new}
 use Rattle.known_laws.proofs.pasts_cite.Goals as goal
 
 pub returns-clause-cite : goal.returns-clause-cite
@@ -24,3 +24,6 @@ returns-clause-resolve c = resolves_free_by_restores
 
 pub returns-clause-cleared : goal.returns-clause-cleared
 returns-clause-cleared c = resolves_free_cleared
+
+pub returns-clause-renewed : goal.returns-clause-renewed
+returns-clause-renewed c = restored_hold_the_new
