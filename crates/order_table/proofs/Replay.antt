@@ -137,7 +137,7 @@ answer_pins s c (op.Give v) told y e = let v' = place (thread_number c) v.0 in
     ap (λ (m : Managed). m.pins) (give_state s (slot s.managed.heap.vars v') (given_up s.managed v')) ∙ handle_pins s.managed (slot s.managed.heap.vars v')
 answer_pins s c (op.Snap k) (snap_of freed candidates dead) y e = refl
 answer_pins s c (op.Snap k) _ y e = refl
-answer_pins s c (op.Contract k) (contraction_of comps xrefs) y e = refl
+answer_pins s c (op.Contract k) (contraction_of comps heavy xrefs) y e = refl
 answer_pins s c (op.Contract k) _ y e = refl
 answer_pins s c (op.Resolve k) (resolution_of alive freed) y e = refl
 answer_pins s c (op.Resolve k) _ y e = refl

@@ -19,7 +19,7 @@ pub fn read_locked(
     mine: &mut Seat,
     entries: &mut Entries,
     reader: u8,
-    index: u16,
+    index: u32,
     act: &Act,
 ) -> (u64, Got)
     requires order { (locked.old.order ≡ order.now) × (mine.old.order ≡ order.now) }

@@ -108,7 +108,7 @@ impl WeakReader {
     /// The answers are tested in this order: `PinHeld` exactly where the reader's pin holds that object; `Pending` where a cycle holds the gate; `Unset`,
     /// `Gone` or `Got` by the cell, where `Got` pins the object.
     #[inline(always)]
-    pub fn try_get(&mut self, order: &Order, index: u16, act: &Act) -> Got
+    pub fn try_get(&mut self, order: &Order, index: u32, act: &Act) -> Got
         requires order { self.old.order ≡ order.now }
         requires act { IsRead act.now }
         requires spare { 1 ≤ self.old.spare }
@@ -127,7 +127,7 @@ impl WeakReader {
 
     /// The same, but it tries again while a cycle holds the gate, and never answers `Pending`. It makes one entry, for its answer. That it ends is
     /// not promised.
-    pub fn get<R: Wait>(&mut self, rt: &R, order: &Order, index: u16, act: &Act) -> Got
+    pub fn get<R: Wait>(&mut self, rt: &R, order: &Order, index: u32, act: &Act) -> Got
         requires order { self.old.order ≡ order.now }
         requires act { IsRead act.now }
         requires spare { 1 ≤ self.old.spare }

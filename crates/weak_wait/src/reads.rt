@@ -65,7 +65,7 @@ fn note(
     seat: &mut Seat,
     entries: &mut Entries,
     reader: u8,
-    index: u16,
+    index: u32,
     act: &Act,
     got: Got,
 ) -> u64
@@ -117,7 +117,7 @@ fn read_held(
     seat: &mut Seat,
     entries: &mut Entries,
     reader: u8,
-    index: u16,
+    index: u32,
     act: &Act,
     word: u64,
 ) -> (u64, Got)
@@ -146,7 +146,7 @@ fn read_pending(
     seat: &mut Seat,
     entries: &mut Entries,
     reader: u8,
-    index: u16,
+    index: u32,
     act: &Act,
     cycle: Cycle,
 ) -> (u64, Got)
@@ -176,7 +176,7 @@ fn read_inside(
     seat: &mut Seat,
     entries: &mut Entries,
     reader: u8,
-    index: u16,
+    index: u32,
     act: &Act,
 ) -> (u64, Got)
     requires order { seat.old.order ≡ order.now }
@@ -211,7 +211,7 @@ pub fn read(
     seat: &mut Seat,
     entries: &mut Entries,
     reader: u8,
-    index: u16,
+    index: u32,
     act: &Act,
 ) -> (u64, Got)
     requires order { seat.old.order ≡ order.now }
@@ -241,7 +241,7 @@ fn try_read(
     seat: &mut Seat,
     entries: &mut Entries,
     reader: u8,
-    index: u16,
+    index: u32,
     act: &Act,
 ) -> Option<(u64, Got)>
     requires order { seat.old.order ≡ order.now }
@@ -275,7 +275,7 @@ pub fn read_waiting<R: Wait>(
     seat: &mut Seat,
     entries: &mut Entries,
     reader: u8,
-    index: u16,
+    index: u32,
     act: &Act,
 ) -> (u64, Got)
     requires order { seat.old.order ≡ order.now }
