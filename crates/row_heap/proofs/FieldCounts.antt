@@ -33,10 +33,10 @@ widths (r ∷ rows) = ap (λ l. length r.fields ∷ l) (widths rows)
 pub count-fields : (n : ℕ) (rows others : List Seen) → map (λ (r : Seen). r.fields) others ≡ map (λ (r : Seen). r.fields) rows → IsFieldCount n rows → IsFieldCount n others
 count-fields n rows others same c = count-kept n rows others (sym (widths others) ∙ (ap (map length) same ∙ widths rows)) c
 
-pub count-added : (n k : ℕ) (rows others : List Seen) (r : Seen) → others ≡ rows ++ r ∷ [] → length r.fields ≡ k → k ≤ 255 → IsFieldCount n rows → IsFieldCount (n + k) others
-count-added n k rows others r is len few c = subst (IsFieldCount (n + k)) (sym is) record {
-  exact = ap (λ l. n + l) (sym len) ∙ (ap (λ m. m + width r) c.exact ∙ (sym (sum_by_push (λ x. x) (map width rows) (width r)) ∙ ap sum (sym (map-append width rows (r ∷ [])))));
-  most = omega (arith, c.most, few, length-append rows (r ∷ []));
+pub count-added : (n k m : ℕ) (rows others : List Seen) (r : Seen) → m ≡ n + k → others ≡ rows ++ r ∷ [] → length r.fields ≡ k → k ≤ 255 → IsFieldCount n rows → IsFieldCount m others
+count-added n k m rows others r counted is len few c = subst (IsFieldCount m) (sym is) record {
+  exact = counted ∙ (ap (λ l. n + l) (sym len) ∙ (ap (λ a. a + width r) c.exact ∙ (sym (sum_by_push (λ x. x) (map width rows) (width r)) ∙ ap sum (sym (map-append width rows (r ∷ []))))));
+  most = omega (arith, counted, c.most, few, length-append rows (r ∷ []));
 }
 
 -- a count is that of the heap's fields

@@ -9,7 +9,7 @@ use Rattle.heap_rules.specs.Flags.{IsSound, IsUp, TakesDown, up_count}
 use Rattle.heap_rules.specs.Tidy.{CanFree}
 use Rattle.heap_rules.proofs.Numbered.{numbered_set-index}
 use Rattle.heap_rules.proofs.Sound.{IsSound-gone, TakesDown-here, TakesDown-next, TakesDown-none}
-use Rattle.row_heap.specs.declared.references.Reference.{Reference}
+use Rattle.row_heap.specs.Ends.{Linked}
 use Rattle.row_heap.specs.Places.{Seen, row_at, gone}
 use Rattle.row_heap.specs.Rows.{HeapRows, IsRowHeap, NoneRefers, RowsFreed, heap_of, rows_of, stands_in}
 use Rattle.row_heap.proofs.Sound.{AreReferences-as, flag-stands, map-kept, map-written, stands-flag, stands-live}
@@ -49,25 +49,25 @@ RowsFreed-here f xs i x n old mid r up rises l e m =
     (flag-stands mid n true (r.flags.other n h.1 ∙ h.0), h.4)
 
 -- the heap without the rows of a list, whose references lead to no row of the list
-pub IsRowHeap-freed : (old new : List Seen) (freed after xs : List ℕ) (vars statics : List (Option ℕ)) (refs : List Reference) (follows : Bool) (room c e d : ℕ) (v : HeapRows) → rows_of old freed vars statics refs follows room ≡ v → IsRowHeap old freed vars statics refs follows room c d
-    → RowsFreed xs old new → CanFree v.heap xs → NoneRefers v xs → after ≡ freed ++ xs → e ≡ c → IsRowHeap new after vars statics refs follows room e d
-IsRowHeap-freed old new freed after xs vars statics refs follows room c e d v view s r can none is space =
+pub IsRowHeap-freed : (old new : List Seen) (freed after xs : List ℕ) (vars statics : List (Option ℕ)) (refs : Linked) (follows : Bool) (c e : ℕ) (v : HeapRows) → rows_of old freed vars statics refs follows ≡ v → IsRowHeap old freed vars statics refs follows c
+    → RowsFreed xs old new → CanFree v.heap xs → NoneRefers v xs → after ≡ freed ++ xs → e ≡ c → IsRowHeap new after vars statics refs follows e
+IsRowHeap-freed old new freed after xs vars statics refs follows c e v view s r can none is space =
     let can' : CanFree (heap_of old freed vars statics) xs = subst (λ (w : HeapRows). CanFree w.heap xs) (sym view) can in
-    let none' : NoneRefers (rows_of old freed vars statics refs follows room) xs = subst (λ (w : HeapRows). NoneRefers w xs) (sym view) none in
+    let none' : NoneRefers (rows_of old freed vars statics refs follows) xs = subst (λ (w : HeapRows). NoneRefers w xs) (sym view) none in
     let live : (x : ℕ) → (row_at old x).stands ≡ true → IsLive (heap_of old freed vars statics) x = λ x t. stands-live old freed vars statics c x s.sound t in
     let stays : (x : ℕ) → (row_at new x).stands ≡ true → Contains xs x → ⊥ = λ x t k. (let z : Some true ≡ Some false = sym (stands-flag new x t) ∙ r.flags.down x k in (let f : ⊥ = cc in f)) in
     record {
       sound = subst (λ (fs : List (List (Option ℕ))). (let h : Heap = record { fields = fs; freed = after; vars = vars; statics = statics } in IsSound h (stands_in new) e)) (sym r.fields)
           (IsSound-gone (heap_of old freed vars statics) (heap_of old freed vars statics) (stands_in old) (stands_in new) c e xs after refl s.sound r.flags can' is space);
-      references = AreReferences-as old new refs follows room d (sym (length-map new (λ (q : Seen). q.fields)) ∙ (ap length r.fields ∙ length-map old (λ (q : Seen). q.fields)))
-          (λ z t. (sym (ap (λ (q : Seen). q.stands) (r.others z t)) ∙ t, ap (λ (q : Seen). q.first) (sym (r.others z t))))
+      references = AreReferences-as old new refs follows (sym (length-map new (λ (q : Seen). q.fields)) ∙ (ap length r.fields ∙ length-map old (λ (q : Seen). q.fields)))
+          (λ z t. (sym (ap (λ (q : Seen). q.stands) (r.others z t)) ∙ t, λ m. ap (λ (q : Seen). q.marked) (r.others z t) ∙ m))
           (λ f p q h t l. flag-stands new q true (r.flags.other q (none' f p q h (live p (sym (ap (λ (k : Seen). k.stands) (r.others p t)) ∙ t)) (stays p t)) ∙ stands-flag old q l))
           s.references;
     }
 
-pub seen-freed : (old new : List Seen) (freed after xs : List ℕ) (vars statics : List (Option ℕ)) (refs : List Reference) (follows : Bool) (room : ℕ) (v : HeapRows) → rows_of old freed vars statics refs follows room ≡ v → RowsFreed xs old new → after ≡ freed ++ xs
+pub seen-freed : (old new : List Seen) (freed after xs : List ℕ) (vars statics : List (Option ℕ)) (refs : Linked) (follows : Bool) (v : HeapRows) → rows_of old freed vars statics refs follows ≡ v → RowsFreed xs old new → after ≡ freed ++ xs
     → heap_of new after vars statics ≡ with_freed v.heap xs
-seen-freed old new freed after xs vars statics refs follows room v view r is =
+seen-freed old new freed after xs vars statics refs follows v view r is =
     ap (λ (fs : List (List (Option ℕ))). let h : Heap = record { fields = fs; freed = after; vars = vars; statics = statics } in h) r.fields
     ∙ (ap (λ (l : List ℕ). let h : Heap = record { fields = map (λ (q : Seen). q.fields) old; freed = l; vars = vars; statics = statics } in h) is
     ∙ ap (λ (w : HeapRows). with_freed w.heap xs) view)

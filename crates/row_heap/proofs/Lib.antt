@@ -5,6 +5,8 @@ pub mod Freed
 pub mod Walked
 pub mod Edges
 pub mod Linked
+pub mod Crossing
+pub mod Followed
 pub mod Swept
 pub mod Marked
 mod Gone

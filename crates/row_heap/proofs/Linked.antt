@@ -1,228 +1,248 @@
--- References of each row as a linked list. A further reference stands last, and the one of its row before it is the one that the row said: between
--- them stands none of the row's. The lists of other rows go on as they were, since each speaks of the places below one of its own.
-use Rattle.std.proofs.Common.{◌≡◌, ◌≢◌, ℕ, zero, suc, ◌+◌, ◌-◌, ◌≤◌, ◌⊎◌, inl, inr, Bool, true, false, List, [], ◌∷◌, ◌++◌, map, length, Option, Some, None, refl, sym, ap, subst, ◌∙◌, arith, length-append}
-use Rattle.std.specs.Prelude.{All, Contains, slice_get}
+-- References of each end as a linked list. A further reference stands last, and the one of its end before it is the one that the end said: between
+-- them stands none of the end's. The lists of other ends go on as they were, since each speaks of the places below one of its own.
+use Rattle.std.proofs.Common.{◌≡◌, ◌≢◌, ℕ, zero, suc, ◌+◌, ◌-◌, ◌≤◌, ◌⊎◌, inl, inr, Bool, false, List, [], ◌∷◌, ◌++◌, map, length, replicate, take, Option, Some, None, refl, sym, ap, subst, ◌∙◌, arith, length-append}
+use Rattle.std.specs.Prelude.{All, Contains, slice_get, slice_index_or}
+use Rattle.std.specs.Option.{option_map}
 use Rattle.std.proofs.lemmas.Bool.{cases_eq, cases_lt}
-use Rattle.std.proofs.lemmas.List.{length-map, map-append}
+use Rattle.std.proofs.lemmas.List.{get_or-replicate, get_or_past, length-map, length-replicate, map-append, take_all}
 use Rattle.std.proofs.lemmas.List.Elements.{Contains-push_cases}
-use Rattle.std.proofs.lemmas.Option.{slice_get_within}
-use Rattle.joint_model.specs.Heaps.{Heap, numbered_at, numbered_set}
-use Rattle.joint_model.proofs.Numbered.{numbered_set-here, numbered_set-other, numbered_set-length, push-at_cases, push-at_old, push-at_new}
-use Rattle.heap_rules.specs.Flags.{IsSound}
-use Rattle.row_marking.specs.Traces.{IsLastBelow}
+use Rattle.std.proofs.lemmas.Option.{slice_get-map, slice_get_within}
+use Rattle.joint_model.specs.Components as exact
+use Rattle.joint_model.proofs.Numbered.{push-at_cases, push-at_old, push-at_new}
+use Rattle.joint_model.proofs.Members.{All-members, Contains-nil, Contains-here, Contains-there, at-Contains}
+use Rattle.row_marking.specs.Traces.{Greyed}
 use Rattle.row_heap.specs.declared.references.Reference.{Reference}
-use Rattle.row_heap.specs.Places.{Seen, row_at, gone}
-use Rattle.row_heap.specs.Rows.{AreReferences, FirstsCleared, HeapRows, IsRowHeap, heap_of, pairs_in, rows_of, stands_in}
-use Rattle.row_heap.proofs.Indexed.{stands-within}
-use Rattle.row_heap.proofs.Sound.{map-kept, row_at-kept}
-use Rattle.joint_model.proofs.Members.{All-members, Contains-map, Contains-here, Contains-there, Contains-nil}
-use Rattle.row_heap.proofs.Sound.{flag-stands, stands-flag}
+use Rattle.row_heap.specs.Ends.{AreLinked, FirstsCleared, HasPlace, IsEnd, IsLastBelow, Linked, end_of, first_in, linked_of, pairs_in}
 
--- a row that was written, and another one
-pub row_at-here : (rows : List Seen) (x : ℕ) (y : Seen) → 1 ≤ x → x ≤ length rows → row_at (numbered_set rows x y) x ≡ y
-row_at-here rows x y one le = ap (λ o. elim o [ None ↦ gone [] | Some r ↦ r ]) (numbered_set-here rows x y one le)
+-- two ends are the same or not
+pub end-or : (a b : exact.End) → (a ≡ b) ⊎ (a ≢ b)
+end-or (exact.node x) (exact.node y) = elim (cases_eq x y) [ inl e ↦ inl (ap exact.node e) | inr n ↦ inr (λ e. n (let d : x ≡ y = cc in d)) ]
+end-or (exact.node x) (exact.temporary y) = inr (λ e. (let f : ⊥ = cc in f))
+end-or (exact.temporary x) (exact.node y) = inr (λ e. (let f : ⊥ = cc in f))
+end-or (exact.temporary x) (exact.temporary y) = elim (cases_eq x y) [ inl e ↦ inl (ap exact.temporary e) | inr n ↦ inr (λ e. n (let d : x ≡ y = cc in d)) ]
 
-pub row_at-other : (rows : List Seen) (x z : ℕ) (y : Seen) → z ≢ x → row_at (numbered_set rows x y) z ≡ row_at rows z
-row_at-other rows x z y n = ap (λ o. elim o [ None ↦ gone [] | Some r ↦ r ]) (numbered_set-other rows x z y n)
+-- the pair of a reference, and the two ends of a pair
+abbrev pub pair_of : Reference → exact.End × exact.End
+pair_of r = (end_of r.from, end_of r.to)
+
+pub pair-from : (a b c d : exact.End) → ◌≡◌ {A = Option (exact.End × exact.End)} (Some (a, b)) (Some (c, d)) → a ≡ c
+pair-from a b c d e = ap (λ (o : Option (exact.End × exact.End)). elim o [ None ↦ a | Some p ↦ p.0 ]) e
+
+pub pair-to : (a b c d : exact.End) → ◌≡◌ {A = Option (exact.End × exact.End)} (Some (a, b)) (Some (c, d)) → b ≡ d
+pair-to a b c d e = ap (λ (o : Option (exact.End × exact.End)). elim o [ None ↦ b | Some p ↦ p.1 ]) e
+
+pub pair-at : (list : List Reference) (i : ℕ) (r : Reference) → slice_get list i ≡ Some r → slice_get (pairs_in list) i ≡ Some (end_of r.from, end_of r.to)
+pair-at list i r at = slice_get-map pair_of list i ∙ ap (option_map pair_of) at
+
+pub pairs-len : (list : List Reference) → length (pairs_in list) ≡ length list
+pairs-len list = length-map list pair_of
+
+-- where an end's references begin, as it is seen
+pub last-at : (list : List Reference) (objects temporaries : List ℕ) (seen : List Bool) (links : List ℕ) (room capacity : ℕ) (v : Linked) (e : exact.End) (n : ℕ) → linked_of list temporaries seen links room ≡ v → AreLinked list objects temporaries seen links room capacity → n ≡ first_in objects temporaries e
+    → IsLastBelow v.refs e (length v.refs) n
+last-at list objects temporaries seen links room capacity v e n view a is =
+    subst (λ (l : Linked). IsLastBelow l.refs e (length l.refs) n) view (subst (λ k. IsLastBelow (pairs_in list) e k n) (sym (pairs-len list)) (subst (λ k. IsLastBelow (pairs_in list) e (length list) k) (sym is) (a.firsts e)))
+
+pub last-from : (list : List Reference) (temporaries : List ℕ) (seen : List Bool) (links : List ℕ) (room : ℕ) (v : Linked) (e : exact.End) (n : ℕ) → linked_of list temporaries seen links room ≡ v → IsLastBelow v.refs e (length v.refs) n → IsLastBelow (pairs_in list) e (length list) n
+last-from list temporaries seen links room v e n view l = subst (λ k. IsLastBelow (pairs_in list) e k n) (pairs-len list) (subst (λ (w : Linked). IsLastBelow w.refs e (length w.refs) n) (sym view) l)
 
 -- a further reference changes nothing below the places before it
-last-longer : (refs : List (ℕ × ℕ)) (p : ℕ × ℕ) (x n r : ℕ) → n ≤ length refs → IsLastBelow refs x n r → IsLastBelow (refs ++ p ∷ []) x n r
-last-longer refs p x n r le l = record {
+last-longer : (refs : List (exact.End × exact.End)) (p : exact.End × exact.End) (e : exact.End) (n r : ℕ) → n ≤ length refs → IsLastBelow refs e n r → IsLastBelow (refs ++ p ∷ []) e n r
+last-longer refs p e n r le l = record {
   below = l.below;
-  none = λ i y from to at. l.none i y from to (sym (push-at_old refs p i (omega (arith, to, le))) ∙ at);
-  there = λ one. (let w = l.there one in (w.0, push-at_old refs p (r - 1) (omega (arith, slice_get_within refs (r - 1) (x, w.0) w.1)) ∙ w.1));
+  none = λ i f from to at. l.none i f from to (sym (push-at_old refs p i (omega (arith, to, le))) ∙ at);
+  there = λ one. (let w = l.there one in (w.0, push-at_old refs p (r - 1) (omega (arith, slice_get_within refs (r - 1) (e, w.0) w.1)) ∙ w.1));
 }
 
--- nor for rows that it doesn't begin at
-last-other : (refs : List (ℕ × ℕ)) (a b x r : ℕ) → x ≢ a → IsLastBelow refs x (length refs) r → IsLastBelow (refs ++ (a, b) ∷ []) x (length (refs ++ (a, b) ∷ [])) r
-last-other refs a b x r other l = record {
+-- nor for ends that it doesn't begin at
+last-other : (refs : List (exact.End × exact.End)) (a b e : exact.End) (r : ℕ) → e ≢ a → IsLastBelow refs e (length refs) r → IsLastBelow (refs ++ (a, b) ∷ []) e (length (refs ++ (a, b) ∷ [])) r
+last-other refs a b e r other l = record {
   below = omega (arith, l.below, length-append refs ((a, b) ∷ []));
-  none = λ i y from to at. elim (push-at_cases refs (a, b) i (x, y) at) [
-    | inl w ↦ l.none i y from (slice_get_within refs i (x, y) w) w
+  none = λ i f from to at. elim (push-at_cases refs (a, b) i (e, f) at) [
+    | inl w ↦ l.none i f from (slice_get_within refs i (e, f) w) w
     | inr w ↦ other (sym (ap (λ p. p.0) w.1))
   ];
-  there = λ one. (let w = l.there one in (w.0, push-at_old refs (a, b) (r - 1) (slice_get_within refs (r - 1) (x, w.0) w.1) ∙ w.1));
+  there = λ one. (let w = l.there one in (w.0, push-at_old refs (a, b) (r - 1) (slice_get_within refs (r - 1) (e, w.0) w.1) ∙ w.1));
 }
 
--- it is the last of its own row
-last-own : (refs : List (ℕ × ℕ)) (a b : ℕ) → IsLastBelow (refs ++ (a, b) ∷ []) a (length (refs ++ (a, b) ∷ [])) (length refs + 1)
+-- it is the last of its own end
+last-own : (refs : List (exact.End × exact.End)) (a b : exact.End) → IsLastBelow (refs ++ (a, b) ∷ []) a (length (refs ++ (a, b) ∷ [])) (length refs + 1)
 last-own refs a b = record {
   below = omega (arith, length-append refs ((a, b) ∷ []));
   none = λ i y from to at. absurd (omega (arith, from, to, length-append refs ((a, b) ∷ [])));
   there = λ one. (b, (let e : length refs + 1 - 1 ≡ length refs = omega arith in rw e (push-at_new refs (a, b))));
 }
 
-abbrev pub with_first : Seen → ℕ → Seen
-with_first r n = record r { first = n }
+-- an end that may have references has a place for where they begin
+pub end-place : (objects temporaries temps : ℕ) (e : exact.End) → IsEnd temps e → temps ≡ temporaries → 65536 ≤ objects → HasPlace objects temporaries e
+end-place objects temporaries temps (exact.node x) w same reach = omega (arith, w, reach)
+end-place objects temporaries temps (exact.temporary t) w same reach = omega (arith, w, same)
 
-pub AreReferences-pushed_one : (rows : List Seen) (refs : List Reference) (follows : Bool) (room cap : ℕ) (r : Reference) → AreReferences rows refs follows room cap → (row_at rows r.from).stands ≡ true → (row_at rows r.to).stands ≡ true → 1 ≤ room → r.next ≡ (row_at rows r.from).first
-    → AreReferences (numbered_set rows r.from (with_first (row_at rows r.from) (length refs + 1))) (refs ++ r ∷ []) follows (room - 1) cap
-AreReferences-pushed_one rows refs follows room cap r a from to one next =
-    let y : Seen = with_first (row_at rows r.from) (length refs + 1) in
-    let f : Reference → ℕ × ℕ = λ q. (q.from, q.to) in
-    let w = stands-within rows r.from from in
-    let len : length (pairs_in refs) ≡ length refs = length-map refs f in
-    let pairs : pairs_in (refs ++ r ∷ []) ≡ pairs_in refs ++ (r.from, r.to) ∷ [] = map-append f refs (r ∷ []) in
-    let up : (z : ℕ) → (row_at (numbered_set rows r.from y) z).stands ≡ (row_at rows z).stands = row_at-kept (λ (q : Seen). q.stands) rows r.from y refl in
-    record {
-      firsts = λ x e. subst (λ (l : List (ℕ × ℕ)). IsLastBelow l x (length l) (row_at (numbered_set rows r.from y) x).first) (sym pairs) (elim (cases_eq x r.from) [
-        | inl same ↦ subst (λ z. IsLastBelow (pairs_in refs ++ (r.from, r.to) ∷ []) z (length (pairs_in refs ++ (r.from, r.to) ∷ [])) (row_at (numbered_set rows r.from y) z).first) (sym same)
-            (subst (λ n. IsLastBelow (pairs_in refs ++ (r.from, r.to) ∷ []) r.from (length (pairs_in refs ++ (r.from, r.to) ∷ [])) n) (ap (λ n. n + 1) len ∙ sym (ap (λ (q : Seen). q.first) (row_at-here rows r.from y w.0 w.1))) (last-own (pairs_in refs) r.from r.to))
-        | inr other ↦ subst (λ n. IsLastBelow (pairs_in refs ++ (r.from, r.to) ∷ []) x (length (pairs_in refs ++ (r.from, r.to) ∷ [])) n) (sym (ap (λ (q : Seen). q.first) (row_at-other rows r.from x y other)))
-            (last-other (pairs_in refs) r.from r.to x (row_at rows x).first other (a.firsts x (sym (up x) ∙ e)))
-      ]);
-      nexts = λ i q at. subst (λ (l : List (ℕ × ℕ)). IsLastBelow l q.from i q.next) (sym pairs) (elim (push-at_cases refs r i q at) [
-        | inl old ↦ last-longer (pairs_in refs) (r.from, r.to) q.from i q.next (omega (arith, slice_get_within refs i q old, len)) (a.nexts i q old)
-        | inr new ↦ last-longer (pairs_in refs) (r.from, r.to) q.from i q.next (omega (arith, new.0, len))
-            (subst (λ k. IsLastBelow (pairs_in refs) q.from k q.next) (len ∙ sym new.0) (subst (λ (k : Reference). IsLastBelow (pairs_in refs) k.from (length (pairs_in refs)) k.next) new.1
-            (subst (λ n. IsLastBelow (pairs_in refs) r.from (length (pairs_in refs)) n) (sym next) (a.firsts r.from from))))
-      ]);
-      made = λ p q c. elim (Contains-push_cases (pairs_in refs) (r.from, r.to) (p, q) (subst (λ (l : List (ℕ × ℕ)). Contains l (p, q)) pairs c)) [
-        | inl old ↦ (let m = a.made p q old in (m.0, omega (arith, m.1, numbered_set-length rows r.from y)))
-        | inr new ↦ (let e : r.from ≡ p = ap (λ z. z.0) new in (omega (arith, w.0, e), omega (arith, w.1, e, numbered_set-length rows r.from y)))
-      ];
-      ends = λ g p q c e. elim (Contains-push_cases (pairs_in refs) (r.from, r.to) (p, q) (subst (λ (l : List (ℕ × ℕ)). Contains l (p, q)) pairs c)) [
-        | inl old ↦ up q ∙ a.ends g p q old (sym (up p) ∙ e)
-        | inr new ↦ up q ∙ subst (λ z. (row_at rows z).stands ≡ true) (ap (λ z. z.1) new) to
-      ];
-      space = omega (arith, a.space, one, length-append refs (r ∷ []));
-      most = omega (arith, a.most, one, length-append refs (r ∷ []));
-    }
+pub place-longer : (objects temporaries more others : ℕ) (e : exact.End) → objects ≤ more → temporaries ≤ others → HasPlace objects temporaries e → HasPlace more others e
+place-longer objects temporaries more others (exact.node x) a b w = omega (arith, w, a)
+place-longer objects temporaries more others (exact.temporary t) a b w = omega (arith, w, b)
 
--- where a row begins its references is seen in nothing else
-pub sound-first : (rows : List Seen) (freed : List ℕ) (vars statics : List (Option ℕ)) (cap x n : ℕ) → IsSound (heap_of rows freed vars statics) (stands_in rows) cap → IsSound (heap_of (numbered_set rows x (with_first (row_at rows x) n)) freed vars statics) (stands_in (numbered_set rows x (with_first (row_at rows x) n))) cap
-sound-first rows freed vars statics cap x n s =
-    let y : Seen = with_first (row_at rows x) n in
-    subst (λ (fs : List (List (Option ℕ))). (let h : Heap = record { fields = fs; freed = freed; vars = vars; statics = statics } in IsSound h (stands_in (numbered_set rows x y)) cap)) (sym (map-kept (λ (r : Seen). r.fields) rows x y refl))
-    (subst (λ (u : List Bool). IsSound (heap_of rows freed vars statics) u cap) (sym (map-kept (λ (r : Seen). r.stands) rows x y refl)) s)
-
-pub seen-first : (rows : List Seen) (freed : List ℕ) (vars statics : List (Option ℕ)) (refs : List Reference) (follows : Bool) (room x n : ℕ) → rows_of (numbered_set rows x (with_first (row_at rows x) n)) freed vars statics refs follows room ≡ rows_of rows freed vars statics refs follows room
-seen-first rows freed vars statics refs follows room x n =
-    let y : Seen = with_first (row_at rows x) n in
-    ap (λ (fs : List (List (Option ℕ))). let h : Heap = record { fields = fs; freed = freed; vars = vars; statics = statics } in (let w : HeapRows = record { heap = h; refs = pairs_in refs; follows = follows; room = room; marks = false ∷ map (λ (r : Seen). r.marked) (numbered_set rows x y); links = 0 ∷ map (λ (r : Seen). r.link) (numbered_set rows x y) } in w)) (map-kept (λ (r : Seen). r.fields) rows x y refl)
-    ∙ (ap (λ (l : List Bool). let w : HeapRows = record { heap = heap_of rows freed vars statics; refs = pairs_in refs; follows = follows; room = room; marks = false ∷ l; links = 0 ∷ map (λ (r : Seen). r.link) (numbered_set rows x y) } in w) (map-kept (λ (r : Seen). r.marked) rows x y refl)
-    ∙ ap (λ (l : List ℕ). let w : HeapRows = record { heap = heap_of rows freed vars statics; refs = pairs_in refs; follows = follows; room = room; marks = false ∷ map (λ (r : Seen). r.marked) rows; links = 0 ∷ l } in w) (map-kept (λ (r : Seen). r.link) rows x y refl))
-
--- more room
-pub seen-roomy : (rows : List Seen) (freed : List ℕ) (vars statics : List (Option ℕ)) (refs more : List Reference) (follows : Bool) (room k : ℕ) (v : HeapRows) → rows_of rows freed vars statics refs follows room ≡ v → more ≡ refs → rows_of rows freed vars statics more follows k ≡ record v { room = k }
-seen-roomy rows freed vars statics refs more follows room k v view same = ap (λ (l : List Reference). rows_of rows freed vars statics l follows k) same ∙ ap (λ (w : HeapRows). record w { room = k }) view
-
-pub IsRowHeap-roomy : (rows : List Seen) (freed : List ℕ) (vars statics : List (Option ℕ)) (refs others : List Reference) (follows : Bool) (room more c d e : ℕ) → IsRowHeap rows freed vars statics refs follows room c d → others ≡ refs → length refs + more ≤ e → length refs + more ≤ 4294967295
-    → IsRowHeap rows freed vars statics others follows more c e
-IsRowHeap-roomy rows freed vars statics refs others follows room more c d e s is space most = subst (λ l. IsRowHeap rows freed vars statics l follows more c e) (sym is) record {
-  sound = s.sound;
-  references = record { firsts = s.references.firsts; nexts = s.references.nexts; made = s.references.made; ends = s.references.ends; space = space; most = most };
-}
+pub end-longer : (temps more : ℕ) (e : exact.End) → temps ≤ more → IsEnd temps e → IsEnd more e
+end-longer temps more (exact.node x) a w = w
+end-longer temps more (exact.temporary t) a w = omega (arith, w, a)
 
 -- a reference is pushed
-pub IsRowHeap-pushed : (rows others : List Seen) (freed : List ℕ) (vars statics : List (Option ℕ)) (refs after : List Reference) (follows : Bool) (room c d e n : ℕ) (r : Reference) → IsRowHeap rows freed vars statics refs follows room c d → (row_at rows r.from).stands ≡ true → (row_at rows r.to).stands ≡ true → 1 ≤ room
-    → r.next ≡ (row_at rows r.from).first → after ≡ refs ++ r ∷ [] → n ≡ length refs + 1 → others ≡ numbered_set rows r.from (with_first (row_at rows r.from) n) → e ≡ d → IsRowHeap others freed vars statics after follows (room - 1) c e
-IsRowHeap-pushed rows others freed vars statics refs after follows room c d e n r s from to one next is count put cap =
-    let put' : others ≡ numbered_set rows r.from (with_first (row_at rows r.from) (length refs + 1)) = put ∙ ap (λ k. numbered_set rows r.from (with_first (row_at rows r.from) k)) count in
-    subst (λ o. IsRowHeap o freed vars statics after follows (room - 1) c e) (sym put') (subst (λ l. IsRowHeap (numbered_set rows r.from (with_first (row_at rows r.from) (length refs + 1))) freed vars statics l follows (room - 1) c e) (sym is)
-    (subst (λ k. IsRowHeap (numbered_set rows r.from (with_first (row_at rows r.from) (length refs + 1))) freed vars statics (refs ++ r ∷ []) follows (room - 1) c k) (sym cap) record {
-      sound = sound-first rows freed vars statics c r.from (length refs + 1) s.sound;
-      references = AreReferences-pushed_one rows refs follows room d r s.references from to one next;
-    }))
+pub AreLinked-pushed : (list after : List Reference) (objects reaching temporaries others : List ℕ) (seen : List Bool) (links : List ℕ) (room capacity more : ℕ) (r : Reference) → AreLinked list objects temporaries seen links room capacity → 1 ≤ room
+    → HasPlace (length objects) (length temporaries) (end_of r.from) → IsEnd (length temporaries) (end_of r.to) → IsLastBelow (pairs_in list) (end_of r.from) (length list) r.next → after ≡ list ++ r ∷ [] → (length reaching ≡ length objects) × (length others ≡ length temporaries)
+    → first_in reaching others (end_of r.from) ≡ length list + 1 → ((e : exact.End) → e ≢ end_of r.from → first_in reaching others e ≡ first_in objects temporaries e) → more ≡ capacity → AreLinked after reaching others seen links (room - 1) more
+AreLinked-pushed list after objects reaching temporaries others seen links room capacity more r a one from to next is len here rest cap =
+    let p : exact.End × exact.End = (end_of r.from, end_of r.to) in
+    let count : length (pairs_in list) ≡ length list = pairs-len list in
+    let pairs : pairs_in (list ++ r ∷ []) ≡ pairs_in list ++ p ∷ [] = map-append pair_of list (r ∷ []) in
+    let longer : length (pairs_in list ++ p ∷ []) ≡ length (list ++ r ∷ []) = ap length (sym pairs) ∙ pairs-len (list ++ r ∷ []) in
+    let whole : length (list ++ r ∷ []) ≡ length list + 1 = length-append list (r ∷ []) in
+    subst (λ l. AreLinked l reaching others seen links (room - 1) more) (sym is) record {
+      firsts = λ e. subst (λ (l : List (exact.End × exact.End)). IsLastBelow l e (length (list ++ r ∷ [])) (first_in reaching others e)) (sym pairs)
+          (subst (λ n. IsLastBelow (pairs_in list ++ p ∷ []) e n (first_in reaching others e)) longer (elim (end-or e (end_of r.from)) [
+            | inl same ↦ subst (λ z. IsLastBelow (pairs_in list ++ p ∷ []) z (length (pairs_in list ++ p ∷ [])) (first_in reaching others z)) (sym same)
+                (subst (λ n. IsLastBelow (pairs_in list ++ p ∷ []) (end_of r.from) (length (pairs_in list ++ p ∷ [])) n) (ap (λ n. n + 1) count ∙ sym here) (last-own (pairs_in list) (end_of r.from) (end_of r.to)))
+            | inr other ↦ subst (λ n. IsLastBelow (pairs_in list ++ p ∷ []) e (length (pairs_in list ++ p ∷ [])) n) (sym (rest e other))
+                (last-other (pairs_in list) (end_of r.from) (end_of r.to) e (first_in objects temporaries e) other (subst (λ n. IsLastBelow (pairs_in list) e n (first_in objects temporaries e)) (sym count) (a.firsts e)))
+          ]));
+      nexts = λ i q at. subst (λ (l : List (exact.End × exact.End)). IsLastBelow l (end_of q.from) i q.next) (sym pairs) (elim (push-at_cases list r i q at) [
+        | inl old ↦ last-longer (pairs_in list) p (end_of q.from) i q.next (omega (arith, slice_get_within list i q old, count)) (a.nexts i q old)
+        | inr new ↦ last-longer (pairs_in list) p (end_of q.from) i q.next (omega (arith, new.0, count)) (subst (λ k. IsLastBelow (pairs_in list) (end_of q.from) k q.next) (sym new.0) (subst (λ (k : Reference). IsLastBelow (pairs_in list) (end_of k.from) (length list) k.next) new.1 next))
+      ]);
+      from = λ i q at. place-longer (length objects) (length temporaries) (length reaching) (length others) (end_of q.from) (omega (arith, len.0)) (omega (arith, len.1)) (elim (push-at_cases list r i q at) [
+        | inl old ↦ a.from i q old
+        | inr new ↦ subst (λ (k : Reference). HasPlace (length objects) (length temporaries) (end_of k.from)) new.1 from
+      ]);
+      to = λ i q at. end-longer (length temporaries) (length others) (end_of q.to) (omega (arith, len.1)) (elim (push-at_cases list r i q at) [
+        | inl old ↦ a.to i q old
+        | inr new ↦ subst (λ (k : Reference). IsEnd (length temporaries) (end_of k.to)) new.1 to
+      ]);
+      flags = a.flags ∙ sym len.1;
+      chains = a.chains ∙ sym len.1;
+      few = omega (arith, a.few, len.1);
+      reach = λ w. omega (arith, a.reach one, len.0);
+      space = omega (arith, a.space, one, whole, cap);
+      most = omega (arith, a.most, one, whole);
+    }
 
-pub seen-pushed : (rows others : List Seen) (freed : List ℕ) (vars statics : List (Option ℕ)) (refs after : List Reference) (follows : Bool) (room n : ℕ) (r : Reference) (v : HeapRows) → rows_of rows freed vars statics refs follows room ≡ v → after ≡ refs ++ r ∷ []
-    → others ≡ numbered_set rows r.from (with_first (row_at rows r.from) n) → rows_of others freed vars statics after follows (room - 1) ≡ record v { refs = v.refs ++ (r.from, r.to) ∷ []; room = v.room - 1 }
-seen-pushed rows others freed vars statics refs after follows room n r v view is put =
-    let f : Reference → ℕ × ℕ = λ q. (q.from, q.to) in
-    ap (λ o. rows_of o freed vars statics after follows (room - 1)) put
-    ∙ (seen-first rows freed vars statics after follows (room - 1) r.from n
-    ∙ (ap (λ l. rows_of rows freed vars statics l follows (room - 1)) is
-    ∙ (ap (λ (l : List (ℕ × ℕ)). record (rows_of rows freed vars statics refs follows room) { refs = l; room = room - 1 }) (map-append f refs (r ∷ []))
-    ∙ ap (λ (w : HeapRows). record w { refs = w.refs ++ (r.from, r.to) ∷ []; room = w.room - 1 }) view)))
+pub seen-pushed : (list after : List Reference) (temporaries others : List ℕ) (seen : List Bool) (links : List ℕ) (room : ℕ) (r : Reference) (v : Linked) → linked_of list temporaries seen links room ≡ v → after ≡ list ++ r ∷ [] → length others ≡ length temporaries
+    → linked_of after others seen links (room - 1) ≡ record v { refs = v.refs ++ (end_of r.from, end_of r.to) ∷ []; room = v.room - 1 }
+seen-pushed list after temporaries others seen links room r v view is len =
+    let pairs : pairs_in after ≡ pairs_in list ++ pair_of r ∷ [] = ap pairs_in is ∙ map-append pair_of list (r ∷ []) in
+    ap (λ (l : List (exact.End × exact.End)). let w : Linked = record { refs = l; temps = length others; room = room - 1; seen = false ∷ seen; links = 0 ∷ links } in w) pairs
+    ∙ (ap (λ n. let w : Linked = record { refs = pairs_in list ++ pair_of r ∷ []; temps = n; room = room - 1; seen = false ∷ seen; links = 0 ∷ links } in w) len
+    ∙ ap (λ (w : Linked). record w { refs = w.refs ++ pair_of r ∷ []; room = w.room - 1 }) view)
 
--- no reference was cleared
-pub FirstsCleared-none : (rows : List Seen) → FirstsCleared [] rows rows
-FirstsCleared-none rows = record { fields = refl; stands = refl; marks = refl; links = refl; cleared = λ x c. absurd (Contains-nil x c); others = λ x. inr refl }
+-- no reference
+pub AreLinked-none : (list : List Reference) (objects temporaries : List ℕ) (seen : List Bool) (links : List ℕ) (capacity : ℕ) → list ≡ [] → objects ≡ [] → temporaries ≡ [] → seen ≡ [] → links ≡ [] → AreLinked list objects temporaries seen links 0 capacity
+AreLinked-none list objects temporaries seen links capacity l o t s k = rw (l, o, t, s, k) record {
+  firsts = λ e. record { below = none e; none = λ i f from to at. absurd (omega (arith, to)); there = λ one. absurd (omega (arith, one, none e)) };
+  nexts = λ i r at. (let f : ⊥ = cc in absurd f);
+  from = λ i r at. (let f : ⊥ = cc in absurd f);
+  to = λ i r at. (let f : ⊥ = cc in absurd f);
+  flags = refl;
+  chains = refl;
+  few = omega arith;
+  reach = λ one. absurd (omega (arith, one));
+  space = omega arith;
+  most = omega arith;
+}
+  where
+    none : (e : exact.End) → first_in [] [] e ≤ 0
+    none (exact.node x) = omega arith
+    none (exact.temporary t) = omega arith
 
-first-cleared : (rows : List Seen) (x z : ℕ) → 1 ≤ x → x ≤ length rows → ((row_at (numbered_set rows x (with_first (row_at rows x) 0)) z).first ≡ 0) ⊎ ((z ≢ x) × ((row_at (numbered_set rows x (with_first (row_at rows x) 0)) z).first ≡ (row_at rows z).first))
-first-cleared rows x z one le =
-    let y : Seen = with_first (row_at rows x) 0 in
-    elim (cases_eq z x) [
-      | inl e ↦ inl (ap (λ k. (row_at (numbered_set rows x y) k).first) e ∙ ap (λ (q : Seen). q.first) (row_at-here rows x y one le))
-      | inr n ↦ inr (n, ap (λ (q : Seen). q.first) (row_at-other rows x z y n))
-    ]
+-- places that are filled up with 0 say what they said
+pub firsts-filled : (old new : List ℕ) (n m : ℕ) → length old ≤ n → new ≡ take n old ++ replicate m 0 → (x : ℕ) → ◌≡◌ {A = ℕ} (slice_index_or new x 0) (slice_index_or old x 0)
+firsts-filled old new n m le is x = rw (is, take_all) (by old x)
+  where
+    bare : (k x : ℕ) → ◌≡◌ {A = ℕ} (slice_index_or (replicate k 0) x 0) 0
+    bare k x = elim (cases_lt x k) [ inl w ↦ get_or-replicate k x 0 0 w | inr w ↦ get_or_past (replicate k 0) x 0 (omega (arith, w, length-replicate {A = ℕ} k 0)) ]
 
-pub as-long : (refs : List Reference) (old new : List Seen) → FirstsCleared refs old new → length new ≡ length old
-as-long refs old new c = (let up : Seen → Bool = λ q. q.stands in omega (arith, ap length c.stands, length-map new up, length-map old up))
+    by : (l : List ℕ) (x : ℕ) → ◌≡◌ {A = ℕ} (slice_index_or (l ++ replicate m 0) x 0) (slice_index_or l x 0)
+    by [] zero = bare m zero
+    by [] (suc x) = bare m (suc x)
+    by (y ∷ l) zero = refl
+    by (y ∷ l) (suc x) = by l x
+
+-- more room, for references and temporaries
+pub AreLinked-roomy : (list after : List Reference) (objects reaching temporaries others : List ℕ) (seen flags : List Bool) (links chains : List ℕ) (room more capacity space : ℕ) → AreLinked list objects temporaries seen links room capacity → after ≡ list
+    → ((x : ℕ) → slice_index_or reaching x 0 ≡ slice_index_or objects x 0) → length objects ≤ length reaching → ((t : ℕ) → slice_index_or others t 0 ≡ slice_index_or temporaries t 0) → length temporaries ≤ length others
+    → length flags ≡ length others → length chains ≡ length others → length others ≤ 4294967295 → (1 ≤ more → 65536 ≤ length reaching) → length list + more ≤ space → length list + more ≤ 4294967295 → AreLinked after reaching others flags chains more space
+AreLinked-roomy list after objects reaching temporaries others seen flags links chains room more capacity space a is reached longer kept more_temps fs cs few reach fits most = subst (λ l. AreLinked l reaching others flags chains more space) (sym is) record {
+  firsts = λ e. subst (λ n. IsLastBelow (pairs_in list) e (length list) n) (sym (same e)) (a.firsts e);
+  nexts = a.nexts;
+  from = λ i r at. place-longer (length objects) (length temporaries) (length reaching) (length others) (end_of r.from) longer more_temps (a.from i r at);
+  to = λ i r at. end-longer (length temporaries) (length others) (end_of r.to) more_temps (a.to i r at);
+  flags = fs;
+  chains = cs;
+  few = few;
+  reach = reach;
+  space = fits;
+  most = most;
+}
+  where
+    same : (e : exact.End) → first_in reaching others e ≡ first_in objects temporaries e
+    same (exact.node x) = reached x
+    same (exact.temporary t) = kept t
+
+-- other flags and links
+pub AreLinked-seen : (list : List Reference) (objects temporaries : List ℕ) (seen flags : List Bool) (links chains : List ℕ) (room capacity : ℕ) → AreLinked list objects temporaries seen links room capacity → length flags ≡ length seen → length chains ≡ length links
+    → AreLinked list objects temporaries flags chains room capacity
+AreLinked-seen list objects temporaries seen flags links chains room capacity a f c = record { firsts = a.firsts; nexts = a.nexts; from = a.from; to = a.to; flags = f ∙ a.flags; chains = c ∙ a.chains; few = a.few; reach = a.reach; space = a.space; most = a.most }
+
+-- no end was cleared
+pub FirstsCleared-none : (old : exact.End → ℕ) → FirstsCleared [] old old
+FirstsCleared-none old = record { cleared = λ e c. absurd (Contains-nil e c); others = λ e. inr refl }
 
 -- one more is
-pub FirstsCleared-next : (refs : List Reference) (r : Reference) (old mid new : List Seen) → FirstsCleared refs old mid → (1 ≤ r.from) × (r.from ≤ length old) → new ≡ numbered_set mid r.from (with_first (row_at mid r.from) 0) → FirstsCleared (refs ++ r ∷ []) old new
-FirstsCleared-next refs r old mid new c w is =
-    let y : Seen = with_first (row_at mid r.from) 0 in
-    let f : Reference → ℕ = λ q. q.from in
-    let up : Seen → Bool = λ q. q.stands in
-    let le : r.from ≤ length mid = omega (arith, w.1, ap length c.stands, length-map mid up, length-map old up) in
-    subst (FirstsCleared (refs ++ r ∷ []) old) (sym is) record {
-      fields = map-kept (λ (q : Seen). q.fields) mid r.from y refl ∙ c.fields;
-      stands = map-kept (λ (q : Seen). q.stands) mid r.from y refl ∙ c.stands;
-      marks = map-kept (λ (q : Seen). q.marked) mid r.from y refl ∙ c.marks;
-      links = map-kept (λ (q : Seen). q.link) mid r.from y refl ∙ c.links;
-      cleared = λ x h. elim (first-cleared mid r.from x w.0 le) [
-        | inl z ↦ z
-        | inr o ↦ elim (Contains-push_cases (map f refs) r.from x (subst (λ l. Contains l x) (map-append f refs (r ∷ [])) h)) [
-          | inl k ↦ o.1 ∙ c.cleared x k
-          | inr e ↦ absurd (o.0 (sym e))
-        ]
-      ];
-      others = λ x. elim (first-cleared mid r.from x w.0 le) [
-        | inl z ↦ inl z
-        | inr o ↦ elim (c.others x) [ inl z ↦ inl (o.1 ∙ z) | inr e ↦ inr (o.1 ∙ e) ]
-      ];
-    }
+pub FirstsCleared-next : (ends : List exact.End) (e : exact.End) (old mid new : exact.End → ℕ) → FirstsCleared ends old mid → new e ≡ 0 → ((f : exact.End) → f ≢ e → new f ≡ mid f) → FirstsCleared (ends ++ e ∷ []) old new
+FirstsCleared-next ends e old mid new c here rest = record {
+  cleared = λ f h. elim (end-or f e) [
+    | inl same ↦ ap new same ∙ here
+    | inr other ↦ elim (Contains-push_cases ends e f h) [ inl w ↦ rest f other ∙ c.cleared f w | inr w ↦ absurd (other (sym w)) ]
+  ];
+  others = λ f. elim (end-or f e) [
+    | inl same ↦ inl (ap new same ∙ here)
+    | inr other ↦ elim (c.others f) [ inl z ↦ inl (rest f other ∙ z) | inr z ↦ inr (rest f other ∙ z) ]
+  ];
+}
 
--- the row that a reference leads from
-from-Contains : (refs : List Reference) (i x y : ℕ) → slice_get (pairs_in refs) i ≡ Some (x, y) → Contains (map (λ (r : Reference). r.from) refs) x
-from-Contains [] i x y at = (let f : ⊥ = cc in absurd f)
-from-Contains (r ∷ refs) zero x y at = (let e : r.from ≡ x = ap (λ o. elim o [ None ↦ 0 | Some p ↦ p.0 ]) at in subst (Contains (r.from ∷ map (λ (q : Reference). q.from) refs)) e (Contains-here r.from (map (λ (q : Reference). q.from) refs)))
-from-Contains (r ∷ refs) (suc i) x y at = Contains-there x r.from (map (λ (q : Reference). q.from) refs) (from-Contains refs i x y at)
+-- the end that a reference leads from
+from-Contains : (list : List Reference) (i : ℕ) (e f : exact.End) → slice_get (pairs_in list) i ≡ Some (e, f) → Contains (map (λ (r : Reference). end_of r.from) list) e
+from-Contains [] i e f at = (let z : ⊥ = cc in absurd z)
+from-Contains (r ∷ list) zero e f at = subst (Contains (end_of r.from ∷ map (λ (q : Reference). end_of q.from) list)) (pair-from (end_of r.from) (end_of r.to) e f at) (Contains-here (end_of r.from) (map (λ (q : Reference). end_of q.from) list))
+from-Contains (r ∷ list) (suc i) e f at = Contains-there e (end_of r.from) (map (λ (q : Reference). end_of q.from) list) (from-Contains list i e f at)
 
--- the references are gone, and no row has one
-pub IsRowHeap-cleared : (rows others : List Seen) (freed : List ℕ) (vars statics : List (Option ℕ)) (refs after : List Reference) (follows : Bool) (room c d e : ℕ) → IsRowHeap rows freed vars statics refs follows room c d → FirstsCleared refs rows others → after ≡ [] → e ≡ d
-    → IsRowHeap others freed vars statics after follows room c e
-IsRowHeap-cleared rows others freed vars statics refs after follows room c d e s k is cap =
-    let up : Seen → Bool = λ q. q.stands in
-    subst (λ l. IsRowHeap others freed vars statics l follows room c e) (sym is) record {
-      sound = subst (λ (fs : List (List (Option ℕ))). (let h : Heap = record { fields = fs; freed = freed; vars = vars; statics = statics } in IsSound h (stands_in others) c)) (sym k.fields)
-          (subst (λ (u : List Bool). IsSound (heap_of rows freed vars statics) u c) (sym k.stands) s.sound);
-      references = record {
-        firsts = λ x t. subst (λ n. IsLastBelow [] x 0 n) (sym (none x t)) record { below = omega arith; none = λ i y from to at. absurd (omega (arith, to)); there = λ one. absurd (omega (arith, one)) };
-        nexts = λ i r at. (let f : ⊥ = cc in absurd f);
-        made = λ p q h. absurd (Contains-nil (p, q) h);
-        ends = λ f p q h. absurd (Contains-nil (p, q) h);
-        space = omega (arith, s.references.space, cap);
-        most = omega (arith, s.references.most);
-      };
-    }
+-- the references are gone, and no end has one
+pub AreLinked-cleared : (list after : List Reference) (objects reaching temporaries others : List ℕ) (seen : List Bool) (links : List ℕ) (room capacity more : ℕ) → AreLinked list objects temporaries seen links room capacity → after ≡ [] → (length reaching ≡ length objects) × (length others ≡ length temporaries)
+    → FirstsCleared (map (λ (r : Reference). end_of r.from) list) (first_in objects temporaries) (first_in reaching others) → more ≡ capacity → AreLinked after reaching others seen links room more
+AreLinked-cleared list after objects reaching temporaries others seen links room capacity more a is len c cap = subst (λ l. AreLinked l reaching others seen links room more) (sym is) record {
+  firsts = λ e. record { below = omega (arith, none e); none = λ i f from to at. absurd (omega (arith, to)); there = λ one. absurd (omega (arith, one, none e)) };
+  nexts = λ i r at. (let f : ⊥ = cc in absurd f);
+  from = λ i r at. (let f : ⊥ = cc in absurd f);
+  to = λ i r at. (let f : ⊥ = cc in absurd f);
+  flags = a.flags ∙ sym len.1;
+  chains = a.chains ∙ sym len.1;
+  few = omega (arith, a.few, len.1);
+  reach = λ w. omega (arith, a.reach w, len.0);
+  space = omega (arith, a.space, cap);
+  most = omega (arith, a.most);
+}
   where
-    none : (x : ℕ) → (row_at others x).stands ≡ true → (row_at others x).first ≡ 0
-    none x t = elim (k.others x) [
+    none : (e : exact.End) → first_in reaching others e ≡ 0
+    none e = elim (c.others e) [
       | inl z ↦ z
-      | inr same ↦ (
-          let was : (row_at rows x).stands ≡ true = flag-stands rows x true (subst (λ l. numbered_at l x ≡ Some true) k.stands (stands-flag others x t)) in
-          let l = s.references.firsts x was in
-          elim (cases_lt 0 (row_at rows x).first) [
-            | inr bare ↦ same ∙ (omega (arith, bare))
-            | inl some ↦ (
-                let w = l.there (omega (arith, some)) in
-                let i : ℕ = (row_at rows x).first - 1 in
-                k.cleared x (from-Contains refs i x w.0 w.1))
-          ])
+      | inr same ↦ elim (cases_lt 0 (first_in objects temporaries e)) [
+        | inr bare ↦ same ∙ omega (arith, bare)
+        | inl some ↦ (let w = (a.firsts e).there (omega (arith, some)) in c.cleared e (from-Contains list (first_in objects temporaries e - 1) e w.0 w.1))
+      ]
     ]
 
-pub seen-cleared : (rows others : List Seen) (freed : List ℕ) (vars statics : List (Option ℕ)) (refs after : List Reference) (follows : Bool) (room : ℕ) (v : HeapRows) → rows_of rows freed vars statics refs follows room ≡ v → FirstsCleared refs rows others → after ≡ []
-    → rows_of others freed vars statics after follows room ≡ record v { refs = [] }
-seen-cleared rows others freed vars statics refs after follows room v view k is =
-    ap (λ l. rows_of others freed vars statics l follows room) is
-    ∙ (ap (λ (fs : List (List (Option ℕ))). let h : Heap = record { fields = fs; freed = freed; vars = vars; statics = statics } in (let w : HeapRows = record { heap = h; refs = []; follows = follows; room = room; marks = false ∷ map (λ (r : Seen). r.marked) others; links = 0 ∷ map (λ (r : Seen). r.link) others } in w)) k.fields
-    ∙ (ap (λ (l : List Bool). let w : HeapRows = record { heap = heap_of rows freed vars statics; refs = []; follows = follows; room = room; marks = false ∷ l; links = 0 ∷ map (λ (r : Seen). r.link) others } in w) k.marks
-    ∙ (ap (λ (l : List ℕ). let w : HeapRows = record { heap = heap_of rows freed vars statics; refs = []; follows = follows; room = room; marks = false ∷ map (λ (r : Seen). r.marked) rows; links = 0 ∷ l } in w) k.links
-    ∙ ap (λ (w : HeapRows). record w { refs = [] }) view)))
+-- each reference leads from an end that has a place
+pub sources-placed : (list : List Reference) (objects temporaries : List ℕ) (seen : List Bool) (links : List ℕ) (room capacity : ℕ) → AreLinked list objects temporaries seen links room capacity → All (λ (r : Reference). HasPlace (length objects) (length temporaries) (end_of r.from)) list
+sources-placed list objects temporaries seen links room capacity a = All-members (λ (r : Reference). HasPlace (length objects) (length temporaries) (end_of r.from)) list (λ r c. (let w = at-Contains list r c in a.from w.0 r w.1))
 
--- each reference leads from a row that was made
-pub sources-made : (rows : List Seen) (refs : List Reference) (follows : Bool) (room cap : ℕ) → AreReferences rows refs follows room cap → All (λ (r : Reference). (1 ≤ r.from) × (r.from ≤ length rows)) refs
-sources-made rows refs follows room cap a = (let f : Reference → ℕ × ℕ = λ q. (q.from, q.to) in All-members (λ (r : Reference). (1 ≤ r.from) × (r.from ≤ length rows)) refs (λ r c. a.made r.from r.to (Contains-map f refs r c)))
+-- a step of a marking, over equal lists
+pub Greyed-same : (row : ℕ → Type 0) (a c : List Bool) (k n : List ℕ) (h : ℕ) (b d : List Bool) (l o : List ℕ) (i : ℕ) → a ≡ c → k ≡ n → b ≡ d → l ≡ o → Greyed row a k h b l i → Greyed row c n h d o i
+Greyed-same row a c k n h b d l o i e f g j y =
+    subst (λ z. Greyed row z n h d o i) e (subst (λ z. Greyed row a z h d o i) f (subst (λ z. Greyed row a k h z o i) g (subst (λ z. Greyed row a k h b z i) j y)))

@@ -9,7 +9,7 @@ use Rattle.std.proofs.lemmas.List.Elements.{Contains-append_left, Contains-push,
 use Rattle.joint_model.specs.Heaps.{numbered_set}
 use Rattle.heap_rules.proofs.Numbered.{numbered_set-index}
 use Rattle.reachability.specs.Marks.{HasMark}
-use Rattle.reachability.proofs.Marking.{Scans-seen, read-mark}
+use Rattle.reachability.proofs.Marking.{Scans-seen, read-mark, set-keeps, set-marked}
 use Rattle.row_marking.specs.Traces.{Greyed}
 use Rattle.row_marking.proofs.Greys.{Greyed-new, Greyed-then}
 use Rattle.std.specs.declared.snapshot.Snapshot.{Snapshot}
@@ -20,8 +20,9 @@ use Rattle.row_heap.specs.declared.places.RowPlace.{RowPlace}
 use Rattle.row_heap.specs.declared.places.RowPlace.TheVariants.{At, Gone}
 use Rattle.row_heap.specs.Places.{Seen, AreRows, DoMarkedStand, IsIndex, bare, gone, marks_in, links_in, row_at, seen_at, standing, unmarked_row, with_marks}
 use Rattle.row_heap.proofs.Indexed.{IsIndex-freed, IsIndex-grown, IsIndex-pushed, index-written, read-place, read-row, row-of, rows-self, rows-written, seen-stands, shown-freed, shown-grown, shown-pushed, stands-within}
-use Rattle.row_heap.proofs.Edges.{marked-row, unmarked-none}
-use Rattle.row_heap.proofs.Swept.{row-marked}
+use Rattle.row_heap.specs.Ends.{Raises}
+use Rattle.row_heap.proofs.Edges.{unmarked-none}
+use Rattle.row_heap.proofs.Walked.{marked-row, row-marked}
 
 -- what marks and links don't touch
 pub row_at-under : {A : Type 0} (f : Seen → A) → ((r : Seen) (m : Bool) (l : ℕ) → f (record r { marked = m; link = l }) ≡ f r) → (rows : List Seen) (marks : List Bool) (links : List ℕ) (x : ℕ) → f (row_at (with_marks rows marks links) x) ≡ f (row_at rows x)
@@ -158,7 +159,22 @@ pub greyed-seen : (y : ℕ) (marks : List Bool) (links : List ℕ) (h : ℕ) →
 greyed-seen y marks links h one le there waited c =
     let i : ℕ = y - 1 in
     let e : suc i ≡ y = omega arith in
-    record { waits = waited; chained = c; scans = Scans-seen y (false ∷ marks) waited (subst (HasMark (false ∷ marks)) e (read-mark marks i true (omega arith) there)) }
+    record { waits = waited; chained = c; scans = Scans-seen y (false ∷ marks) waited (subst (HasMark (false ∷ marks)) e (read-mark marks i true (omega arith) there)); anew = λ k w. inl w }
+
+pub raises-row : (y : ℕ) (marks : List Bool) → 1 ≤ y → y ≤ length marks → Raises (λ z. z ≡ y) (false ∷ marks) (false ∷ set marks (y - 1) true)
+raises-row y marks one le =
+    let i : ℕ = y - 1 in
+    let e : suc i ≡ y = omega arith in
+    record {
+      kept = λ k m. set-keeps (false ∷ marks) (suc i) k m;
+      done = λ k w. subst (HasMark (false ∷ set marks i true)) (e ∙ sym w) (set-marked (false ∷ marks) (suc i) (omega arith));
+    }
+
+pub raises-seen : (y : ℕ) (marks : List Bool) → 1 ≤ y → y ≤ length marks → get_or marks (y - 1) false ≡ true → Raises (λ z. z ≡ y) (false ∷ marks) (false ∷ marks)
+raises-seen y marks one le there =
+    let i : ℕ = y - 1 in
+    let e : suc i ≡ y = omega arith in
+    record { kept = λ k m. m; done = λ k w. subst (HasMark (false ∷ marks)) (e ∙ sym w) (read-mark marks i true (omega arith) there) }
 
 -- the rows of fields are marked by the lists, and all of them stand
 pub stand-visited : (base rows : List Seen) (marks others : List Bool) (links after : List ℕ) (fields : List (Option ℕ)) → with_marks base marks links ≡ rows → length others ≡ length base
@@ -181,6 +197,12 @@ greyed-rows row base rows marks others written links after put h i view is set_l
     (subst (λ (ls : List ℕ). Greyed row (false ∷ marks) (0 ∷ ls) h (marks_in new) (links_in new) i) (sym (ap (map (λ (r : Seen). r.link)) (sym view) ∙ links-with base marks links el))
     (subst (λ (ms : List Bool). Greyed row (false ∷ marks) (0 ∷ links) h (false ∷ ms) (links_in new) i) (sym (ap (map (λ (r : Seen). r.marked)) (sym next) ∙ marks-with base others after om))
     (subst (λ (ls : List ℕ). Greyed row (false ∷ marks) (0 ∷ links) h (false ∷ others) (0 ∷ ls) i) (sym (ap (map (λ (r : Seen). r.link)) (sym next) ∙ links-with base others after ol)) y)))
+
+pub marks-rows : (p : List Bool → List Bool → Type 0) (base rows : List Seen) (marks others written : List Bool) (links put : List ℕ) → with_marks base marks links ≡ rows → written ≡ others → length marks ≡ length base → length others ≡ length base → p (false ∷ marks) (false ∷ others)
+    → p (marks_in rows) (marks_in (with_marks base written put))
+marks-rows p base rows marks others written links put view is em om y =
+    subst (λ (ms : List Bool). p (false ∷ ms) (marks_in (with_marks base written put))) (sym (ap (map (λ (r : Seen). r.marked)) (sym view) ∙ marks-with base marks links em))
+    (subst (λ (ms : List Bool). p (false ∷ marks) (false ∷ ms)) (sym (marks-with base written put (ap length is ∙ om) ∙ is)) y)
 
 -- a further field is done
 pub fresh-push : (fields : List (Option ℕ)) (f : Option ℕ) (a b c : List Bool) → ((k : ℕ) → HasMark b k → HasMark a k ⊎ Contains fields (Some k)) → ((k : ℕ) → HasMark c k → HasMark b k ⊎ (f ≡ Some k)) → (k : ℕ) → HasMark c k → HasMark a k ⊎ Contains (fields ++ f ∷ []) (Some k)
@@ -225,15 +247,6 @@ changed-are g apart stays s places rows marks links x r key old new view a up is
     AreRows-as (with_value s key new) places marks links (numbered_set rows x (g (row_at rows x))) (index-written s places base x r key new refl up is e a.index) a.marks_len a.links_len
     (changed-rows g apart s places rows marks links x r key old new view a.index up is e got same)
     (stand-set rows x (g (row_at rows x)) (λ m. stays (row_at rows x) ∙ (sym (ap (λ (l : List Seen). (row_at l x).stands) view) ∙ (row_at-under (λ q. q.stands) (λ q n l. refl) base marks links x ∙ up))) (subst DoMarkedStand view a.up))
-
--- the row of a removed place begins nowhere
-pub gone-first : (s : Slab Row) (places : List RowPlace) (rows : List Seen) (marks : List Bool) (links : List ℕ) (x : ℕ) (r : RowPlace) (kept : Snapshot Fields) → with_marks (map (seen_at s) places) marks links ≡ rows → 1 ≤ x → x ≤ length rows → r ≡ Gone kept → r ≡ get_or places (x - 1) r
-    → rows ≡ numbered_set rows x (record (row_at rows x) { first = 0 })
-gone-first s places rows marks links x r kept view one le is e =
-    let base = map (seen_at s) places in
-    let le' : x ≤ length base = omega (arith, le, len-under s places rows marks links view, length-map places (seen_at s)) in
-    let none : (row_at rows x).first ≡ 0 = sym (ap (λ (l : List Seen). (row_at l x).first) view) ∙ (row_at-under (λ q. q.first) (λ q n l. refl) base marks links x ∙ ap (λ q. q.first) (read-row s places base x r (Gone kept) refl one le' is e)) in
-    sym (rows-self rows x (record (row_at rows x) { first = 0 }) one le (ap (λ n. record (row_at rows x) { first = n }) (sym none)))
 
 -- a row is removed
 pub freed-rows : (s t : Slab Row) (places : List RowPlace) (rows : List Seen) (marks : List Bool) (links : List ℕ) (x key : ℕ) (kept : Snapshot Fields) → with_marks (map (seen_at s) places) marks links ≡ rows → AreRows s places marks links → 1 ≤ x → slice_get places (x - 1) ≡ Some (At key) → Updates s t key None

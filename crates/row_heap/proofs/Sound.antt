@@ -2,22 +2,25 @@
 -- stand. Slots and fields are written between rows that stand, so no row comes or goes, and no reference is touched. A further row stands last,
 -- and no reference is its own.
 use Rattle.std.proofs.Common.{◌≡◌, ℕ, zero, suc, ◌+◌, ◌≤◌, ◌<◌, ◌⊎◌, inl, inr, Bool, true, false, List, [], ◌∷◌, ◌++◌, map, length, replicate, Option, Some, None, get_or, set, refl, sym, ap, subst, ◌∙◌, arith, length-append}
-use Rattle.std.specs.Prelude.{Contains, slice_get}
+use Rattle.std.specs.Prelude.{All, Contains, OnErr, OnOk, Result, Ok, Err, max}
 use Rattle.std.specs.Option.{ForSome}
 use Rattle.std.proofs.lemmas.Bool.{cases_lt}
 use Rattle.std.proofs.lemmas.List.{get_or_default, length-map, map-append, map-set}
+use Rattle.std.proofs.lemmas.List.Elements.{All-weaker, Contains-append_cases}
+use Rattle.joint_model.specs.Components.{End, node, temporary}
+use Rattle.joint_model.specs.PeerReplay.{LeadsOver, Refers}
 use Rattle.joint_model.specs.Heaps.{Heap, MOST, IsLive, fields_of, numbered_at, numbered_set, slot, with_field, with_object}
-use Rattle.joint_model.proofs.Members.{Contains-nil, Contains-at}
+use Rattle.joint_model.proofs.Members.{Contains-nil}
 use Rattle.row_heap.proofs.Indexed.{stands-within}
 use Rattle.joint_model.proofs.Numbered.{numbered-push_old, numbered-push_new, numbered-past, numbered_set-length}
 use Rattle.heap_rules.specs.Flags.{IsSound, up_count}
 use Rattle.heap_rules.specs.Tidy.{IsTidy}
 use Rattle.heap_rules.proofs.Numbered.{slot-read}
 use Rattle.heap_rules.proofs.Sound.{IsSound-empty, IsSound-added, IsSound-field, IsUp-live}
-use Rattle.row_marking.specs.Traces.{IsLastBelow}
-use Rattle.row_heap.specs.declared.references.Reference.{Reference}
+use Rattle.reachability.specs.Marks.{HasMark}
+use Rattle.row_heap.specs.Ends.{AreEnds, IsEnd, Linked, no_references}
 use Rattle.row_heap.specs.Places.{Seen, row_at, gone}
-use Rattle.row_heap.specs.Rows.{AreReferences, HeapRows, IsRowHeap, heap_of, pairs_in, rows_of, stands_in}
+use Rattle.row_heap.specs.Rows.{AreReferences, HeapRows, IsRowHeap, MayRefer, MayReferBoth, heap_of, rows_of, stands_in}
 
 -- the flag of a row is whether it stands
 pub flag-stands : (rows : List Seen) (x : ℕ) (b : Bool) → numbered_at (stands_in rows) x ≡ Some b → (row_at rows x).stands ≡ b
@@ -46,11 +49,11 @@ fields-at [] (suc i) = refl
 fields-at (r ∷ rows) (suc zero) = refl
 fields-at (r ∷ rows) (suc (suc i)) = fields-at rows (suc i)
 
-pub fields-seen : (rows : List Seen) (freed : List ℕ) (vars statics : List (Option ℕ)) (refs : List Reference) (follows : Bool) (room : ℕ) (v : HeapRows) (x : ℕ) → rows_of rows freed vars statics refs follows room ≡ v → fields_of v.heap x ≡ (row_at rows x).fields
-fields-seen rows freed vars statics refs follows room v x e = ap (λ (w : HeapRows). fields_of w.heap x) (sym e) ∙ fields-at rows x
+pub fields-seen : (rows : List Seen) (freed : List ℕ) (vars statics : List (Option ℕ)) (refs : Linked) (follows : Bool) (v : HeapRows) (x : ℕ) → rows_of rows freed vars statics refs follows ≡ v → fields_of v.heap x ≡ (row_at rows x).fields
+fields-seen rows freed vars statics refs follows v x e = ap (λ (w : HeapRows). fields_of w.heap x) (sym e) ∙ fields-at rows x
 
-pub tidy-seen : (rows : List Seen) (freed : List ℕ) (vars statics : List (Option ℕ)) (refs : List Reference) (follows : Bool) (room : ℕ) (v : HeapRows) (cap : ℕ) → rows_of rows freed vars statics refs follows room ≡ v → IsSound (heap_of rows freed vars statics) (stands_in rows) cap → IsTidy v.heap
-tidy-seen rows freed vars statics refs follows room v cap e s = subst (λ (w : HeapRows). IsTidy w.heap) e s.tidy
+pub tidy-seen : (rows : List Seen) (freed : List ℕ) (vars statics : List (Option ℕ)) (refs : Linked) (follows : Bool) (v : HeapRows) (cap : ℕ) → rows_of rows freed vars statics refs follows ≡ v → IsSound (heap_of rows freed vars statics) (stands_in rows) cap → IsTidy v.heap
+tidy-seen rows freed vars statics refs follows v cap e s = subst (λ (w : HeapRows). IsTidy w.heap) e s.tidy
 
 -- what a write to one row leaves: a part of the row that stays is as it was everywhere
 pub map-kept : {A : Type 0} (f : Seen → A) (rows : List Seen) (x : ℕ) (y : Seen) → f y ≡ f (row_at rows x) → map f (numbered_set rows x y) ≡ map f rows
@@ -73,24 +76,39 @@ pub map-written : {A : Type 0} (f : Seen → A) (rows : List Seen) (x : ℕ) (y 
 map-written f rows zero y = refl
 map-written f rows (suc i) y = map-set f rows i y
 
--- references of rows that keep where they begin, and whether they stand
-pub AreReferences-as : (rows others : List Seen) (refs : List Reference) (follows : Bool) (room cap : ℕ) → length others ≡ length rows → ((z : ℕ) → (row_at others z).stands ≡ true → ((row_at rows z).stands ≡ true) × ((row_at rows z).first ≡ (row_at others z).first))
-    → (follows ≡ true → (p q : ℕ) → Contains (pairs_in refs) (p, q) → (row_at others p).stands ≡ true → (row_at rows q).stands ≡ true → (row_at others q).stands ≡ true)
-    → AreReferences rows refs follows room cap → AreReferences others refs follows room cap
-AreReferences-as rows others refs follows room cap len back on a = record {
-  firsts = λ x e. (let w = back x e in subst (λ n. IsLastBelow (pairs_in refs) x (length (pairs_in refs)) n) w.1 (a.firsts x w.0));
-  nexts = a.nexts;
-  made = λ p q c. (let m = a.made p q c in (m.0, omega (arith, m.1, len)));
+-- what had a mark has one still, where the row that is written does
+pub row_at-raised : (rows : List Seen) (x : ℕ) (y : Seen) → ((row_at rows x).marked ≡ true → y.marked ≡ true) → (z : ℕ) → (row_at rows z).marked ≡ true → (row_at (numbered_set rows x y) z).marked ≡ true
+row_at-raised rows zero y e z m = m
+row_at-raised [] (suc i) y e z m = m
+row_at-raised (r ∷ rows) (suc zero) y e zero m = m
+row_at-raised (r ∷ rows) (suc zero) y e (suc zero) m = e m
+row_at-raised (r ∷ rows) (suc zero) y e (suc (suc k)) m = m
+row_at-raised (r ∷ rows) (suc (suc i)) y e zero m = m
+row_at-raised (r ∷ rows) (suc (suc i)) y e (suc zero) m = m
+row_at-raised (r ∷ rows) (suc (suc i)) y e (suc (suc k)) m = row_at-raised rows (suc i) y e (suc k) m
+
+-- what an object refers to, it refers to by a reference of its own
+pub refers-from : (refs : List (End × End)) (p q : ℕ) → Refers refs p q → (f : End) × Contains refs (node p, f)
+refers-from refs p q r = by r.through r.walk
+  where
+    by : (through : List ℕ) → LeadsOver refs (node p) through q → (f : End) × Contains refs (node p, f)
+    by [] w = (node q, w)
+    by (t ∷ ts) w = (temporary t, w.0)
+
+-- references over rows that stand, and have marks, where they did
+pub AreReferences-as : (rows others : List Seen) (refs : Linked) (follows : Bool) → length others ≡ length rows → ((z : ℕ) → (row_at others z).stands ≡ true → ((row_at rows z).stands ≡ true) × ((row_at rows z).marked ≡ true → (row_at others z).marked ≡ true))
+    → (follows ≡ true → (p q : ℕ) → Refers refs.refs p q → (row_at others p).stands ≡ true → (row_at rows q).stands ≡ true → (row_at others q).stands ≡ true)
+    → AreReferences rows refs follows → AreReferences others refs follows
+AreReferences-as rows others refs follows len back on a = record {
+  made = λ p f c. omega (arith, a.made p f c, len);
   ends = λ f p q c e. on f p q c e (a.ends f p q c (back p e).0);
-  space = a.space;
-  most = a.most;
+  sights = λ f t through y h w e. (let b = back y e in b.1 (a.sights f t through y h w b.0));
 }
 
--- one row is written, and stands as before, with its references
-pub AreReferences-written : (rows : List Seen) (refs : List Reference) (follows : Bool) (room cap x : ℕ) (y : Seen) → y.stands ≡ (row_at rows x).stands → y.first ≡ (row_at rows x).first
-    → AreReferences rows refs follows room cap → AreReferences (numbered_set rows x y) refs follows room cap
-AreReferences-written rows refs follows room cap x y up first a = AreReferences-as rows (numbered_set rows x y) refs follows room cap (numbered_set-length rows x y)
-    (λ z e. (sym (row_at-kept (λ r. r.stands) rows x y up z) ∙ e, sym (row_at-kept (λ r. r.first) rows x y first z)))
+-- one row is written, and stands as before, with a mark if it had one
+pub AreReferences-written : (rows : List Seen) (refs : Linked) (follows : Bool) (x : ℕ) (y : Seen) → y.stands ≡ (row_at rows x).stands → ((row_at rows x).marked ≡ true → y.marked ≡ true) → AreReferences rows refs follows → AreReferences (numbered_set rows x y) refs follows
+AreReferences-written rows refs follows x y up raised a = AreReferences-as rows (numbered_set rows x y) refs follows (numbered_set-length rows x y)
+    (λ z e. (sym (row_at-kept (λ r. r.stands) rows x y up z) ∙ e, row_at-raised rows x y raised z))
     (λ f p q c e l. row_at-kept (λ r. r.stands) rows x y up q ∙ l) a
 
 -- a field is written
@@ -102,49 +120,92 @@ heap-written rows freed vars statics x i o =
     (map-written (λ r. r.fields) rows x y ∙ ap (λ (l : List (Option ℕ)). numbered_set (map (λ (r : Seen). r.fields) rows) x (set l i o)) (sym (fields-at rows x)))
 
 -- other rows with another heap, and the marks and links as they were
-pub seen-heap : (rows others : List Seen) (freed : List ℕ) (vars statics : List (Option ℕ)) (refs : List Reference) (follows : Bool) (room : ℕ) (h : Heap) → heap_of others freed vars statics ≡ h → map (λ (r : Seen). r.marked) others ≡ map (λ (r : Seen). r.marked) rows → map (λ (r : Seen). r.link) others ≡ map (λ (r : Seen). r.link) rows
-    → rows_of others freed vars statics refs follows room ≡ record (rows_of rows freed vars statics refs follows room) { heap = h }
-seen-heap rows others freed vars statics refs follows room h e m l =
-    ap (λ (z : Heap). let v : HeapRows = record { heap = z; refs = pairs_in refs; follows = follows; room = room; marks = false ∷ map (λ (r : Seen). r.marked) others; links = 0 ∷ map (λ (r : Seen). r.link) others } in v) e
-    ∙ (ap (λ (z : List Bool). let v : HeapRows = record { heap = h; refs = pairs_in refs; follows = follows; room = room; marks = false ∷ z; links = 0 ∷ map (λ (r : Seen). r.link) others } in v) m
-    ∙ ap (λ (z : List ℕ). let v : HeapRows = record { heap = h; refs = pairs_in refs; follows = follows; room = room; marks = false ∷ map (λ (r : Seen). r.marked) rows; links = 0 ∷ z } in v) l)
+pub seen-heap : (rows others : List Seen) (freed : List ℕ) (vars statics : List (Option ℕ)) (refs : Linked) (follows : Bool) (h : Heap) → heap_of others freed vars statics ≡ h → map (λ (r : Seen). r.marked) others ≡ map (λ (r : Seen). r.marked) rows → map (λ (r : Seen). r.link) others ≡ map (λ (r : Seen). r.link) rows
+    → rows_of others freed vars statics refs follows ≡ record (rows_of rows freed vars statics refs follows) { heap = h }
+seen-heap rows others freed vars statics refs follows h e m l =
+    ap (λ (z : Heap). let v : HeapRows = record { heap = z; refs = refs.refs; follows = follows; room = refs.room; temps = refs.temps; marks = false ∷ map (λ (r : Seen). r.marked) others; links = 0 ∷ map (λ (r : Seen). r.link) others } in v) e
+    ∙ (ap (λ (z : List Bool). let v : HeapRows = record { heap = h; refs = refs.refs; follows = follows; room = refs.room; temps = refs.temps; marks = false ∷ z; links = 0 ∷ map (λ (r : Seen). r.link) others } in v) m
+    ∙ ap (λ (z : List ℕ). let v : HeapRows = record { heap = h; refs = refs.refs; follows = follows; room = refs.room; temps = refs.temps; marks = false ∷ map (λ (r : Seen). r.marked) rows; links = 0 ∷ z } in v) l)
 
-pub seen-written : (rows others : List Seen) (freed : List ℕ) (vars statics : List (Option ℕ)) (refs : List Reference) (follows : Bool) (room : ℕ) (v : HeapRows) (x i : ℕ) (o : Option ℕ) → rows_of rows freed vars statics refs follows room ≡ v
-    → others ≡ numbered_set rows x (record (row_at rows x) { fields = set (row_at rows x).fields i o }) → rows_of others freed vars statics refs follows room ≡ record v { heap = with_field v.heap x i o }
-seen-written rows others freed vars statics refs follows room v x i o view e =
+pub seen-written : (rows others : List Seen) (freed : List ℕ) (vars statics : List (Option ℕ)) (refs : Linked) (follows : Bool) (v : HeapRows) (x i : ℕ) (o : Option ℕ) → rows_of rows freed vars statics refs follows ≡ v
+    → others ≡ numbered_set rows x (record (row_at rows x) { fields = set (row_at rows x).fields i o }) → rows_of others freed vars statics refs follows ≡ record v { heap = with_field v.heap x i o }
+seen-written rows others freed vars statics refs follows v x i o view e =
     let y : Seen = record (row_at rows x) { fields = set (row_at rows x).fields i o } in
-    ap (λ (l : List Seen). rows_of l freed vars statics refs follows room) e
-    ∙ (seen-heap rows (numbered_set rows x y) freed vars statics refs follows room (with_field (heap_of rows freed vars statics) x i o) (heap-written rows freed vars statics x i o) (map-kept (λ r. r.marked) rows x y refl) (map-kept (λ r. r.link) rows x y refl)
+    ap (λ (l : List Seen). rows_of l freed vars statics refs follows) e
+    ∙ (seen-heap rows (numbered_set rows x y) freed vars statics refs follows (with_field (heap_of rows freed vars statics) x i o) (heap-written rows freed vars statics x i o) (map-kept (λ r. r.marked) rows x y refl) (map-kept (λ r. r.link) rows x y refl)
     ∙ ap (λ (w : HeapRows). record w { heap = with_field w.heap x i o }) view)
 
-pub IsRowHeap-written : (rows : List Seen) (freed : List ℕ) (vars statics : List (Option ℕ)) (refs : List Reference) (follows : Bool) (room c d x i : ℕ) (o : Option ℕ) → IsRowHeap rows freed vars statics refs follows room c d
-    → IsLive (heap_of rows freed vars statics) x → ForSome o (IsLive (heap_of rows freed vars statics)) → IsRowHeap (numbered_set rows x (record (row_at rows x) { fields = set (row_at rows x).fields i o })) freed vars statics refs follows room c d
-IsRowHeap-written rows freed vars statics refs follows room c d x i o s l p =
+pub IsRowHeap-written : (rows : List Seen) (freed : List ℕ) (vars statics : List (Option ℕ)) (refs : Linked) (follows : Bool) (c x i : ℕ) (o : Option ℕ) → IsRowHeap rows freed vars statics refs follows c
+    → IsLive (heap_of rows freed vars statics) x → ForSome o (IsLive (heap_of rows freed vars statics)) → IsRowHeap (numbered_set rows x (record (row_at rows x) { fields = set (row_at rows x).fields i o })) freed vars statics refs follows c
+IsRowHeap-written rows freed vars statics refs follows c x i o s l p =
     let y : Seen = record (row_at rows x) { fields = set (row_at rows x).fields i o } in
     record {
       sound = subst (λ (h : Heap). IsSound h (stands_in (numbered_set rows x y)) c) (sym (heap-written rows freed vars statics x i o))
           (subst (λ (u : List Bool). IsSound (with_field (heap_of rows freed vars statics) x i o) u c) (sym (map-kept (λ r. r.stands) rows x y refl))
           (IsSound-field (heap_of rows freed vars statics) (stands_in rows) c x i o s.sound l p));
-      references = AreReferences-written rows refs follows room d x y refl refl s.references;
+      references = AreReferences-written rows refs follows x y refl (λ m. m) s.references;
     }
 
 -- no object
-pub IsRowHeap-empty : (rows : List Seen) (freed : List ℕ) (vars statics : List (Option ℕ)) (refs : List Reference) (c d : ℕ) → rows ≡ [] → freed ≡ [] → vars ≡ replicate 72 None → statics ≡ replicate 16 None → refs ≡ [] → IsRowHeap rows freed vars statics refs false 0 c d
-IsRowHeap-empty rows freed vars statics refs c d r f v t e = record {
+pub IsRowHeap-empty : (rows : List Seen) (freed : List ℕ) (vars statics : List (Option ℕ)) (refs : Linked) (c : ℕ) → rows ≡ [] → freed ≡ [] → vars ≡ replicate 72 None → statics ≡ replicate 16 None → refs ≡ no_references → IsRowHeap rows freed vars statics refs false c
+IsRowHeap-empty rows freed vars statics refs c r f v t e = record {
   sound = IsSound-empty (map (λ q. q.fields) rows) freed (stands_in rows) vars statics c (ap (map (λ q. q.fields)) r) f (ap stands_in r) v t;
   references = record {
-    firsts = λ x up. absurd (nothing x (subst (λ l. (row_at l x).stands ≡ true) r up));
-    nexts = λ i q at. (let f : ⊥ = (let z : None ≡ Some q = sym (ap (λ l. slice_get l i) e) ∙ at in cc) in absurd f);
-    made = λ p q h. absurd (Contains-nil (p, q) (subst (λ l. Contains (pairs_in l) (p, q)) e h));
-    ends = λ b p q h. absurd (Contains-nil (p, q) (subst (λ l. Contains (pairs_in l) (p, q)) e h));
-    space = omega (arith, ap length e);
-    most = omega (arith, ap length e);
+    made = λ p g h. absurd (Contains-nil (node p, g) (subst (λ (l : Linked). Contains l.refs (node p, g)) e h));
+    ends = λ b. (let z : ⊥ = cc in absurd z);
+    sights = λ b. (let z : ⊥ = cc in absurd z);
   };
 }
+
+-- other references, and nothing else
+pub IsRowHeap-other : (rows : List Seen) (freed : List ℕ) (vars statics : List (Option ℕ)) (refs new : Linked) (follows after : Bool) (c : ℕ) → IsRowHeap rows freed vars statics refs follows c → AreReferences rows new after → IsRowHeap rows freed vars statics new after c
+IsRowHeap-other rows freed vars statics refs new follows after c s a = record { sound = s.sound; references = a }
+
+-- more room
+pub AreReferences-roomy : (rows : List Seen) (refs new : Linked) (follows : Bool) → new.refs ≡ refs.refs → ((k : ℕ) → HasMark new.seen k → HasMark refs.seen k) → AreReferences rows refs follows → AreReferences rows new follows
+AreReferences-roomy rows refs new follows is seen a = record {
+  made = λ p f h. a.made p f (subst (λ l. Contains l (node p, f)) is h);
+  ends = λ f p q h e. a.ends f p q (subst (λ l. Refers l p q) is h) e;
+  sights = λ f t through y h w e. a.sights f t through y (seen (suc t) h) (subst (λ l. LeadsOver l (temporary t) through y) is w) e;
+}
+
+pub seen-roomy : {T E : Type 0} (r : Result T E) (n t : ℕ) (rows : List Seen) (freed : List ℕ) (vars statics : List (Option ℕ)) (refs new : Linked) (follows : Bool) (v : HeapRows) → rows_of rows freed vars statics refs follows ≡ v → new.refs ≡ refs.refs → OnOk r (new.room ≡ n)
+    → OnOk r (new.temps ≡ max refs.temps t) → OnOk r (rows_of rows freed vars statics new follows ≡ record v { room = n; temps = max v.temps t })
+seen-roomy (Ok x) n t rows freed vars statics refs new follows v view is room temps =
+    subst (λ (w : HeapRows). rows_of rows freed vars statics new follows ≡ record w { room = n; temps = max w.temps t }) view (rw (is, room, temps) refl)
+seen-roomy (Err e) n t rows freed vars statics refs new follows v view is room temps = tt
+
+pub seen-err : {T E : Type 0} (r : Result T E) (rows : List Seen) (freed : List ℕ) (vars statics : List (Option ℕ)) (refs new : Linked) (follows : Bool) (v : HeapRows) → rows_of rows freed vars statics refs follows ≡ v → OnErr r (new ≡ refs) → OnErr r (rows_of rows freed vars statics new follows ≡ v)
+seen-err (Ok x) rows freed vars statics refs new follows v view is = tt
+seen-err (Err e) rows freed vars statics refs new follows v view is = ap (λ (l : Linked). rows_of rows freed vars statics l follows) is ∙ view
+
+-- none is left
+pub AreReferences-none : (rows : List Seen) (refs : Linked) (follows : Bool) → refs.refs ≡ [] → AreReferences rows refs follows
+AreReferences-none rows refs follows is = record {
+  made = λ p f h. absurd (Contains-nil (node p, f) (subst (λ l. Contains l (node p, f)) is h));
+  ends = λ f p q h e. (let w = refers-from refs.refs p q h in absurd (Contains-nil (node p, w.0) (subst (λ l. Contains l (node p, w.0)) is w.1)));
+  sights = λ f t through y h w e. absurd (none through (temporary t) y (subst (λ l. LeadsOver l (temporary t) through y) is w));
+}
   where
-    nothing : (x : ℕ) → (row_at [] x).stands ≡ true → ⊥
-    nothing zero g = (let f : ⊥ = cc in f)
-    nothing (suc i) g = (let f : ⊥ = cc in f)
+    none : (through : List ℕ) (e : End) (y : ℕ) → LeadsOver [] e through y → ⊥
+    none [] e y w = Contains-nil (e, node y) w
+    none (t ∷ ts) e y w = Contains-nil (e, temporary t) w.0
+
+-- further ones, which nothing follows
+pub AreReferences-added : (rows : List Seen) (refs new : Linked) (more : List (End × End)) (follows : Bool) → new.refs ≡ refs.refs ++ more → ((p : ℕ) (f : End) → Contains more (node p, f) → p ≤ length rows) → AreReferences rows refs follows → AreReferences rows new false
+AreReferences-added rows refs new more follows is made a = record {
+  made = λ p f h. elim (Contains-append_cases refs.refs more (node p, f) (subst (λ l. Contains l (node p, f)) is h)) [ inl w ↦ a.made p f w | inr w ↦ made p f w ];
+  ends = λ b. (let z : ⊥ = cc in absurd z);
+  sights = λ b. (let z : ⊥ = cc in absurd z);
+}
+
+-- the ends of further references
+pub ends-refer : (v : HeapRows) (temps : ℕ) (l : List (End × End)) → length v.heap.fields ≤ 65535 → temps ≡ v.temps → All (MayReferBoth v) l → All (AreEnds temps) l
+ends-refer v temps l most same a = All-weaker (MayReferBoth v) (AreEnds temps) (λ p w. (by p.0 w.0, by p.1 w.1)) l a
+  where
+    by : (e : End) → MayRefer v e → IsEnd temps e
+    by (node x) w = omega (arith, w.made.1, most)
+    by (temporary t) w = omega (arith, w, same)
 
 -- a further row
 pub row_at-push_old : (rows : List Seen) (n : Seen) (z : ℕ) → z ≤ length rows → row_at (rows ++ n ∷ []) z ≡ row_at rows z
@@ -165,48 +226,41 @@ stands-cases rows n z e = elim (cases_lt (length rows) z) [
   ]
 ]
 
-pub AreReferences-pushed : (rows : List Seen) (n : Seen) (refs : List Reference) (follows : Bool) (room cap : ℕ) → n.first ≡ 0 → AreReferences rows refs follows room cap → AreReferences (rows ++ n ∷ []) refs follows room cap
-AreReferences-pushed rows n refs follows room cap zero_first a =
+pub AreReferences-pushed : (rows : List Seen) (n : Seen) (refs : Linked) (follows : Bool) → n.marked ≡ true → AreReferences rows refs follows → AreReferences (rows ++ n ∷ []) refs follows
+AreReferences-pushed rows n refs follows marked a =
     let old : (z : ℕ) → z ≤ length rows → row_at (rows ++ n ∷ []) z ≡ row_at rows z = row_at-push_old rows n in
     record {
-      firsts = λ x e. elim (stands-cases rows n x e) [
-        | inl w ↦ subst (λ k. IsLastBelow (pairs_in refs) x (length (pairs_in refs)) k) (ap (λ r. r.first) (sym (old x w.0))) (a.firsts x w.1)
-        | inr w ↦ subst (λ k. IsLastBelow (pairs_in refs) x (length (pairs_in refs)) k) (sym (ap (λ r. r.first) (ap (row_at (rows ++ n ∷ [])) w ∙ row_at-push_new rows n) ∙ zero_first)) record {
-          below = omega arith;
-          none = λ i y from to at. (let m = a.made x y (Contains-at (pairs_in refs) i (x, y) at) in omega (arith, m.1, w));
-          there = λ one. absurd (omega (arith, one));
-        }
-      ];
-      nexts = a.nexts;
-      made = λ p q c. (let m = a.made p q c in (m.0, omega (arith, m.1, length-append rows (n ∷ []))));
+      made = λ p f c. omega (arith, a.made p f c, length-append rows (n ∷ []));
       ends = λ f p q c e.
-          let m = a.made p q c in
-          let up = a.ends f p q c (sym (ap (λ r. r.stands) (old p m.1)) ∙ e) in
+          let g = refers-from refs.refs p q c in
+          let up = a.ends f p q c (sym (ap (λ r. r.stands) (old p (a.made p g.0 g.1))) ∙ e) in
           ap (λ r. r.stands) (old q (stands-within rows q up).1) ∙ up;
-      space = a.space;
-      most = a.most;
+      sights = λ f t through y h w e. elim (stands-cases rows n y e) [
+        | inl s ↦ ap (λ r. r.marked) (old y s.0) ∙ a.sights f t through y h w s.1
+        | inr s ↦ ap (λ r. r.marked) (ap (row_at (rows ++ n ∷ [])) s ∙ row_at-push_new rows n) ∙ marked
+      ];
     }
 
-pub IsRowHeap-added : (rows others : List Seen) (freed after : List ℕ) (vars statics : List (Option ℕ)) (refs : List Reference) (follows : Bool) (room c e d k : ℕ) (n : Seen) → IsRowHeap rows freed vars statics refs follows room c d
-    → length rows < MOST → length rows + 1 ≤ e → others ≡ rows ++ n ∷ [] → n.fields ≡ replicate k None → n.stands ≡ true → n.first ≡ 0 → after ≡ freed → IsRowHeap others after vars statics refs follows room e d
-IsRowHeap-added rows others freed after vars statics refs follows room c e d k n s few space is fields up first same =
+pub IsRowHeap-added : (rows others : List Seen) (freed after : List ℕ) (vars statics : List (Option ℕ)) (refs : Linked) (follows : Bool) (c e k : ℕ) (n : Seen) → IsRowHeap rows freed vars statics refs follows c
+    → length rows < MOST → length rows + 1 ≤ e → others ≡ rows ++ n ∷ [] → n.fields ≡ replicate k None → n.stands ≡ true → n.marked ≡ true → after ≡ freed → IsRowHeap others after vars statics refs follows e
+IsRowHeap-added rows others freed after vars statics refs follows c e k n s few space is fields up marked same =
     let h : Heap = heap_of rows freed vars statics in
     let len : length h.fields ≡ length rows = length-map rows (λ r. r.fields) in
     record {
       sound = IsSound-added h (stands_in rows) (stands_in others) c e k (map (λ r. r.fields) others) after s.sound (omega (arith, few, len)) (omega (arith, space, len))
           (ap (map (λ r. r.fields)) is ∙ (map-append (λ r. r.fields) rows (n ∷ []) ∙ ap (λ z. map (λ r. r.fields) rows ++ z ∷ []) fields)) same
           (ap stands_in is ∙ (map-append (λ r. r.stands) rows (n ∷ []) ∙ ap (λ z. stands_in rows ++ z ∷ []) up));
-      references = subst (λ l. AreReferences l refs follows room d) (sym is) (AreReferences-pushed rows n refs follows room d first s.references);
+      references = subst (λ l. AreReferences l refs follows) (sym is) (AreReferences-pushed rows n refs follows marked s.references);
     }
 
-pub seen-added : (rows others : List Seen) (freed after : List ℕ) (vars statics : List (Option ℕ)) (refs : List Reference) (follows : Bool) (room : ℕ) (v : HeapRows) (k : ℕ) (fs : List (Option ℕ)) → rows_of rows freed vars statics refs follows room ≡ v
-    → others ≡ rows ++ record { fields = fs; first = 0; marked = true; link = 0; stands = true } ∷ [] → fs ≡ replicate k None → after ≡ freed → rows_of others after vars statics refs follows room ≡ record v { heap = with_object v.heap k; marks = v.marks ++ true ∷ []; links = v.links ++ 0 ∷ [] }
-seen-added rows others freed after vars statics refs follows room v k fs view is fields same =
-    subst (λ (w : HeapRows). rows_of others after vars statics refs follows room ≡ record w { heap = with_object w.heap k; marks = w.marks ++ true ∷ []; links = w.links ++ 0 ∷ [] }) view (rw (is, fields, same) (simp map-append))
+pub seen-added : (rows others : List Seen) (freed after : List ℕ) (vars statics : List (Option ℕ)) (refs : Linked) (follows : Bool) (v : HeapRows) (k : ℕ) (fs : List (Option ℕ)) → rows_of rows freed vars statics refs follows ≡ v
+    → others ≡ rows ++ record { fields = fs; marked = true; link = 0; stands = true } ∷ [] → fs ≡ replicate k None → after ≡ freed → rows_of others after vars statics refs follows ≡ record v { heap = with_object v.heap k; marks = v.marks ++ true ∷ []; links = v.links ++ 0 ∷ [] }
+seen-added rows others freed after vars statics refs follows v k fs view is fields same =
+    subst (λ (w : HeapRows). rows_of others after vars statics refs follows ≡ record w { heap = with_object w.heap k; marks = w.marks ++ true ∷ []; links = w.links ++ 0 ∷ [] }) view (rw (is, fields, same) (simp map-append))
 
 -- how many rows there are, and how many of them stand
-pub made-seen : (rows : List Seen) (freed : List ℕ) (vars statics : List (Option ℕ)) (refs : List Reference) (follows : Bool) (room : ℕ) (v : HeapRows) → rows_of rows freed vars statics refs follows room ≡ v → length v.heap.fields ≡ length rows
-made-seen rows freed vars statics refs follows room v view = ap (λ (w : HeapRows). length w.heap.fields) (sym view) ∙ length-map rows (λ r. r.fields)
+pub made-seen : (rows : List Seen) (freed : List ℕ) (vars statics : List (Option ℕ)) (refs : Linked) (follows : Bool) (v : HeapRows) → rows_of rows freed vars statics refs follows ≡ v → length v.heap.fields ≡ length rows
+made-seen rows freed vars statics refs follows v view = ap (λ (w : HeapRows). length w.heap.fields) (sym view) ∙ length-map rows (λ r. r.fields)
 
 pub rows-most : (rows : List Seen) (freed : List ℕ) (vars statics : List (Option ℕ)) (cap : ℕ) → IsSound (heap_of rows freed vars statics) (stands_in rows) cap → length rows ≤ MOST
 rows-most rows freed vars statics cap s = omega (arith, s.tidy.most, length-map rows (λ r. r.fields))
@@ -222,6 +276,6 @@ pub slot-here : (os : List (Option ℕ)) (i : ℕ) → i < length os → slot os
 slot-here os i within = slot-read os i (get_or os i None) within (get_or_default os i None (get_or os i None) within)
 
 -- what is seen of a heap whose rows alone changed
-pub rest-freed : (rows others : List Seen) (freed after : List ℕ) (vars statics : List (Option ℕ)) (refs : List Reference) (follows : Bool) (room : ℕ) (v : HeapRows) → rows_of rows freed vars statics refs follows room ≡ v
-    → rows_of others after vars statics refs follows room ≡ record v { heap = heap_of others after vars statics; marks = false ∷ map (λ (r : Seen). r.marked) others; links = 0 ∷ map (λ (r : Seen). r.link) others }
-rest-freed rows others freed after vars statics refs follows room v view = ap (λ (w : HeapRows). record w { heap = heap_of others after vars statics; marks = false ∷ map (λ (r : Seen). r.marked) others; links = 0 ∷ map (λ (r : Seen). r.link) others }) view
+pub rest-freed : (rows others : List Seen) (freed after : List ℕ) (vars statics : List (Option ℕ)) (refs : Linked) (follows : Bool) (v : HeapRows) → rows_of rows freed vars statics refs follows ≡ v
+    → rows_of others after vars statics refs follows ≡ record v { heap = heap_of others after vars statics; marks = false ∷ map (λ (r : Seen). r.marked) others; links = 0 ∷ map (λ (r : Seen). r.link) others }
+rest-freed rows others freed after vars statics refs follows v view = ap (λ (w : HeapRows). record w { heap = heap_of others after vars statics; marks = false ∷ map (λ (r : Seen). r.marked) others; links = 0 ∷ map (λ (r : Seen). r.link) others }) view

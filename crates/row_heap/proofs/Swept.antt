@@ -11,15 +11,14 @@ use Rattle.heap_rules.specs.Flags.{IsSound, TakesDown, up_count}
 use Rattle.heap_rules.specs.Tidy.{CanFree}
 use Rattle.heap_rules.proofs.Sound.{TakesDown-push, up_count-down}
 use Rattle.reachability.specs.Marks.{IsClosed, HasMark}
-use Rattle.row_heap.specs.declared.references.Reference.{Reference}
+use Rattle.row_heap.specs.Ends.{Linked}
 use Rattle.row_heap.specs.Marks.{AreWhite, EdgeOf}
 use Rattle.row_heap.specs.Places.{Seen, row_at, gone, is_white}
 use Rattle.row_heap.specs.Rows.{HeapRows, NoneRefers, RowsFreed, RowsSwept, heap_of, rows_of, stands_in}
-use Rattle.row_heap.proofs.Edges.{marked-row}
 use Rattle.row_heap.proofs.Freed.{RowsFreed-none, row_at-removed}
 use Rattle.row_heap.proofs.Indexed.{stands-within}
 use Rattle.row_heap.proofs.Sound.{flag-stands, map-kept, map-written, stands-flag}
-use Rattle.row_heap.proofs.Walked.{live-seen, stands-seen}
+use Rattle.row_heap.proofs.Walked.{live-seen, marked-row, row-marked, stands-seen}
 use Rattle.reachability.proofs.Marking.{marked-or}
 
 -- a white row stands and has no mark
@@ -134,32 +133,25 @@ RowsSwept-next i old mid new before mids after x s e is list =
         cases zero (suc y) = inr (omega arith)
         cases (suc i) (suc y) = elim (cases i y) [ inl w ↦ inl (omega (arith, w)) | inr w ↦ inr (omega (arith, w)) ]
 
--- a row with a mark, as a mark of the heap
-pub row-marked : (rows : List Seen) (x : ℕ) → (row_at rows x).marked ≡ true → HasMark (false ∷ map (λ (r : Seen). r.marked) rows) x
-row-marked rows zero e = (let f : ⊥ = cc in absurd f)
-row-marked [] (suc i) e = (let f : ⊥ = cc in absurd f)
-row-marked (r ∷ rows) (suc zero) e = ap (λ b. Some b) e
-row-marked (r ∷ rows) (suc (suc i)) e = row-marked rows (suc i) e
-
 -- the white rows are the live objects without a mark
-pub white-seen : (rows : List Seen) (freed : List ℕ) (vars statics : List (Option ℕ)) (refs : List Reference) (follows : Bool) (room cap : ℕ) (v : HeapRows) (x : ℕ) → rows_of rows freed vars statics refs follows room ≡ v → IsSound (heap_of rows freed vars statics) (stands_in rows) cap
+pub white-seen : (rows : List Seen) (freed : List ℕ) (vars statics : List (Option ℕ)) (refs : Linked) (follows : Bool) (cap : ℕ) (v : HeapRows) (x : ℕ) → rows_of rows freed vars statics refs follows ≡ v → IsSound (heap_of rows freed vars statics) (stands_in rows) cap
     → ((x ≤ length rows) × (is_white (row_at rows x) ≡ true)) ↔ (IsLive v.heap x × (HasMark v.marks x → ⊥))
-white-seen rows freed vars statics refs follows room cap v x view s = (
+white-seen rows freed vars statics refs follows cap v x view s = (
   (λ w. (let t = white-stands (row_at rows x) w.1 in (
-    live-seen rows freed vars statics refs follows room cap v x view s t.0,
+    live-seen rows freed vars statics refs follows cap v x view s t.0,
     λ m. (let f : true ≡ false = sym (marked-row rows x (subst (λ (k : HeapRows). HasMark k.marks x) (sym view) m)) ∙ t.1 in cc),
   ))),
-  (λ w. (let t = stands-seen rows freed vars statics refs follows room cap v x view s w.0 in (
+  (λ w. (let t = stands-seen rows freed vars statics refs follows cap v x view s w.0 in (
     (stands-within rows x t).1,
     stands-white (row_at rows x) t (λ m. w.1 (subst (λ (k : HeapRows). HasMark k.marks x) view (row-marked rows x m))),
   ))),
 )
 
-pub AreWhite-swept : (old new : List Seen) (freed after : List ℕ) (vars statics : List (Option ℕ)) (refs : List Reference) (follows : Bool) (room cap : ℕ) (v : HeapRows) → rows_of old freed vars statics refs follows room ≡ v → IsSound (heap_of old freed vars statics) (stands_in old) cap
+pub AreWhite-swept : (old new : List Seen) (freed after : List ℕ) (vars statics : List (Option ℕ)) (refs : Linked) (follows : Bool) (cap : ℕ) (v : HeapRows) → rows_of old freed vars statics refs follows ≡ v → IsSound (heap_of old freed vars statics) (stands_in old) cap
     → (s : RowsSwept (length old) old new freed after) → AreWhite v s.swept
-AreWhite-swept old new freed after vars statics refs follows room cap v view sound s = record {
+AreWhite-swept old new freed after vars statics refs follows cap v view sound s = record {
   rises = s.rises;
-  exact = λ x. (let w = white-seen old freed vars statics refs follows room cap v x view sound in (
+  exact = λ x. (let w = white-seen old freed vars statics refs follows cap v x view sound in (
     (λ c. w.0 ((s.exact x).0 c)),
     (λ k. (s.exact x).1 (w.1 k)),
   ));
@@ -188,17 +180,17 @@ white-none_refers v xs w shut follows p q reference live stays c = elim (marked-
 ]
 
 -- what is seen afterwards
-pub seen-swept : (old new : List Seen) (freed after : List ℕ) (vars statics : List (Option ℕ)) (refs : List Reference) (follows : Bool) (room : ℕ) (v : HeapRows) → rows_of old freed vars statics refs follows room ≡ v → map (λ (r : Seen). r.marked) new ≡ map (λ (r : Seen). r.marked) old
-    → rows_of new after vars statics refs follows room ≡ record v { heap = heap_of new after vars statics; links = 0 ∷ map (λ (r : Seen). r.link) new }
-seen-swept old new freed after vars statics refs follows room v view marks =
-    ap (λ (m : List Bool). record (rows_of new after vars statics refs follows room) { marks = false ∷ m }) marks
+pub seen-swept : (old new : List Seen) (freed after : List ℕ) (vars statics : List (Option ℕ)) (refs : Linked) (follows : Bool) (v : HeapRows) → rows_of old freed vars statics refs follows ≡ v → map (λ (r : Seen). r.marked) new ≡ map (λ (r : Seen). r.marked) old
+    → rows_of new after vars statics refs follows ≡ record v { heap = heap_of new after vars statics; links = 0 ∷ map (λ (r : Seen). r.link) new }
+seen-swept old new freed after vars statics refs follows v view marks =
+    ap (λ (m : List Bool). record (rows_of new after vars statics refs follows) { marks = false ∷ m }) marks
     ∙ ap (λ (w : HeapRows). record w { heap = heap_of new after vars statics; links = 0 ∷ map (λ (r : Seen). r.link) new }) view
 
 -- what marks `free` leaves
-pub marks-freed : (old new : List Seen) (freed : List ℕ) (vars statics : List (Option ℕ)) (refs : List Reference) (follows : Bool) (room : ℕ) (v : HeapRows) (xs : List ℕ) → rows_of old freed vars statics refs follows room ≡ v → RowsFreed xs old new
+pub marks-freed : (old new : List Seen) (freed : List ℕ) (vars statics : List (Option ℕ)) (refs : Linked) (follows : Bool) (v : HeapRows) (xs : List ℕ) → rows_of old freed vars statics refs follows ≡ v → RowsFreed xs old new
     → ((x : ℕ) → (row_at old x).marked ≡ true → (row_at old x).stands ≡ true) → ((x : ℕ) → (row_at new x).marked ≡ true → (row_at new x).stands ≡ true)
     → (x : ℕ) → HasMark (false ∷ map (λ (r : Seen). r.marked) new) x ↔ (HasMark v.marks x × (Contains xs x → ⊥))
-marks-freed old new freed vars statics refs follows room v xs view r up upper x = (
+marks-freed old new freed vars statics refs follows v xs view r up upper x = (
   (λ m. (
       let mark = marked-row new x m in
       let stand = upper x mark in (

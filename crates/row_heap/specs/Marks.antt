@@ -1,10 +1,9 @@
 -- What a marking of a heap of rows follows, and what it leaves as it is. (Textbook: the edges of a tracing collector.)
-use Rattle.std.specs.Prelude.{◌≡◌, ℕ, ◌⊎◌, ◌↔◌, if◌then◌else◌, true, List, [], Contains}
+use Rattle.std.specs.Prelude.{◌≡◌, ℕ, ◌⊎◌, ◌↔◌, true, List, [], Some, Contains}
 use Rattle.joint_model.specs.Components.{Rises}
 use Rattle.joint_model.specs.Heaps.{IsLive, HasField, fields_of}
 use Rattle.joint_model.specs.PeerReplay.{HasReference, Refers}
 use Rattle.reachability.specs.Marks.{HasMark}
-use Rattle.row_marking.specs.Traces.{Shape}
 use Rattle.row_heap.specs.Rows.{HeapRows}
 
 -- the edges that a marking follows: fields, and references if it follows them
@@ -15,13 +14,9 @@ EdgeOf v x y = HasField v.heap x y ⊎ ((v.follows ≡ true) × HasReference v.h
 abbrev pub unmarked_rows : HeapRows → HeapRows
 unmarked_rows v = record v { marks = []; links = [] }
 
--- the references that a marking follows
-abbrev pub followed : HeapRows → List (ℕ × ℕ)
-followed v = if v.follows then v.refs else []
-
--- the rows as a marking walks them
-abbrev pub shape_of : HeapRows → Shape
-shape_of v = record { fields = fields_of v.heap; refs = followed v }
+-- what a marking finds that a row leads to: what its fields hold, and what its references lead to, if it follows them
+abbrev pub LeadsTo : HeapRows → ℕ → ℕ → Type 0
+LeadsTo v x y = Contains (fields_of v.heap x) (Some y) ⊎ ((v.follows ≡ true) × Refers v.refs x y)
 
 -- what a live object's reference leads to is live
 abbrev pub AreEndsLive : HeapRows → Type 0

@@ -8,21 +8,20 @@ use Rattle.row_heap.specs.declared.places.Row.{Row}
 use Rattle.row_heap.specs.declared.places.RowPlace.{RowPlace}
 use Rattle.row_heap.specs.declared.places.RowPlace.TheVariants.{At, Gone}
 
--- a row as it is seen: its fields, where its references begin, its mark, its link, and whether it stands
+-- a row as it is seen: its fields, its mark, its link, and whether it stands
 pub record Seen : Type 0 where
   pub fields : List (Option ℕ)
-  pub first : ℕ
   pub marked : Bool
   pub link : ℕ
   pub stands : Bool
 
 -- a row that stands, without its mark and its link
 abbrev pub standing : Row → Seen
-standing r = record { fields = r.fields; first = r.first; marked = false; link = 0; stands = true }
+standing r = record { fields = r.fields; marked = false; link = 0; stands = true }
 
 -- a row that was removed: its fields alone are seen
 abbrev pub gone : List (Option ℕ) → Seen
-gone fields = record { fields = fields; first = 0; marked = false; link = 0; stands = false }
+gone fields = record { fields = fields; marked = false; link = 0; stands = false }
 
 -- the row of a place
 abbrev pub seen_at : Slab Row → RowPlace → Seen

@@ -80,6 +80,7 @@ impl Fields {
         requires len { length links.old ≡ length marks.old }
         ensures len { (length marks.new ≡ length marks.old) × (length links.new ≡ length links.old) }
         ensures fresh { (k : ℕ) → HasMark (false ∷ marks.new) k → HasMark (false ∷ marks.old) k ⊎ Contains self.now (Some k) }
+        ensures raised { (k : ℕ) → HasMark (false ∷ marks.old) k → HasMark (false ∷ marks.new) k }
         ensures greyed { Greyed (λ y. Contains self.now (Some y)) (false ∷ marks.old) (0 ∷ links.old) grey.old (false ∷ marks.new) (0 ∷ links.new) grey.new }
     {
         match &self.cells {

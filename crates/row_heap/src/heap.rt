@@ -7,7 +7,7 @@ ghost use Rattle.heap_rules.specs.Tidy.{IsTidy, CanFree};
 ghost use Rattle.row_heap.specs.Rows.{HeapRows, opening_rows};
 
 use crate::places::Rows;
-use crate::references::Reference;
+use crate::references::References;
 use heap_rules::Number;
 use joint_model::{STATICS, VARS, list_with_room};
 use std::alloc::{AllocError, Global};
@@ -24,8 +24,7 @@ pub struct RowHeap<N: Number> {
     pub(crate) freed: Vec<N>,
     pub(crate) vars: [Option<u32>; VARS],
     pub(crate) statics: [Option<u32>; STATICS],
-    pub(crate) references: Vec<Reference>,
-    pub(crate) ready: u32,
+    pub(crate) references: References,
     pub(crate) follows: bool,
     // How many of the first objects are freed, so that no pass looks at them again.
     pub(crate) gone: u32,
@@ -39,9 +38,9 @@ impl<N: Number> Model for RowHeap<N> {
 
     ghost Value = { HeapRows };
 
-    ghost view = { λ s. rows_of s.rows (map N.number s.freed.items) s.vars s.statics s.references.items s.follows s.ready };
+    ghost view = { λ s. rows_of s.rows (map N.number s.freed.items) s.vars s.statics s.references s.follows };
 
-    ghost invariant = { λ s. IsRowHeap s.rows (map N.number s.freed.items) s.vars s.statics s.references.items s.follows s.ready (vec_capacity s.freed) (vec_capacity s.references) × AreGone s.gone (map N.number s.freed.items) × IsFieldCount s.fields s.rows };
+    ghost invariant = { λ s. IsRowHeap s.rows (map N.number s.freed.items) s.vars s.statics s.references s.follows (vec_capacity s.freed) × AreGone s.gone (map N.number s.freed.items) × IsFieldCount s.fields s.rows };
 }
 
 impl<N: Number> RowHeap<N> {
@@ -56,8 +55,7 @@ impl<N: Number> RowHeap<N> {
             freed: list_with_room(alloc, MOST_OBJECTS),
             vars: [None; VARS],
             statics: [None; STATICS],
-            references: Vec::new(alloc),
-            ready: 0,
+            references: References::new(alloc),
             follows: false,
             gone: 0,
             fields: 0,

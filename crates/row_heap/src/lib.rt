@@ -15,11 +15,12 @@
 // A marking stands in the rows and in two lists beside them, of marks and links. `begin_marking` takes all marks down, `visit_slots` marks what
 // variables and statics name, the collector marks its further roots by `row_marking::visit`, and `finish_marking` marks what these reach; while
 // the marking is open `bring_back` marks one more object with what it reaches, and a new object has its mark from the start. A marking follows
-// fields, and references if its begin says so.
+// fields, and references if its begin says so, until further ones are added.
 // `free` then frees objects that a collector found dead, and `sweep` all those without a mark. From the begin to here nothing takes memory.
 //
-// References are a list of their own: `reserve_references` takes room, `push_reference` adds one, `clear_references` drops all. The peer side
-// keeps in it what a cycle mirrors; the managed side has none.
+// References are a list of their own: `reserve_references` takes room, `add_references` adds some, `clear_references` drops all. An end of one is an
+// object, or a temporary, over which references lead on; a temporary is no object, and is in no count. The peer side keeps in them what a cycle
+// mirrors; the managed side has none.
 //
 // Objects have the numbers 1, 2, 3 and so on for ever, and their rows are in a slab, which uses the memory of freed rows again: `places.rt` has
 // the index between them. A row has up to two fields in itself, and more in a vector of its own, as `fields.rt` says: so a read of a field is a
@@ -37,7 +38,9 @@ mod marking;
 mod operations;
 mod places;
 mod references;
+mod referring;
 mod sweeping;
 mod tracing;
 
 pub use heap::{MOST_OBJECTS, RowHeap};
+pub use references::End;

@@ -53,6 +53,7 @@ impl<N: Number> RowHeap<N> {
         self.move_on();
         self.rows.marked_stand();
         self.rows.unmark_from(self.gone as usize);
+        self.references.forget();
         self.follows = follows;
     }
 

@@ -11,6 +11,7 @@ ghost use Rattle.joint_model.specs.Heaps.{numbered_set};
 ghost use Rattle.reachability.specs.Marks.{HasMark};
 ghost use Rattle.row_marking.specs.Traces.{Greyed};
 ghost use Rattle.slab.specs.Slab.{HasRoomFor};
+ghost use Rattle.row_heap.specs.Ends.{Raises};
 ghost use Rattle.row_heap.specs.Places.{row_at, is_white, standing, gone, bare, marks_in, links_in, unmarked_row};
 
 use crate::fields::Fields;
@@ -21,11 +22,10 @@ use std::alloc::{AllocError, Global};
 use std::marker::Model;
 use std::snapshot::Snapshot;
 
-/// An object: its fields, and the last of its references as a place counted from 1.
+/// An object: its fields.
 #[derive(Drop)]
 pub(crate) struct Row {
     pub(crate) fields: Fields,
-    pub(crate) first: u32,
 }
 
 /// Where the row of a number is: under a key of the slab, or nowhere, with the fields that it had.
@@ -129,28 +129,6 @@ impl Rows {
         }
     }
 
-    /// The references of row `x` begin at another place.
-    pub(crate) fn set_first(&mut self, x: usize, first: u32)
-        requires { (row_at self.old x).stands ≡ true }
-        ensures { self.new ≡ numbered_set self.old x (record (row_at self.old x) { first = first }) }
-    {
-        match self.places[x - 1] {
-            RowPlace::At(key) => self.slab[key as usize].first = first,
-            RowPlace::Gone(_) => unreachable!(),
-        }
-    }
-
-    /// Row `x` has no references; a removed one has none.
-    pub(crate) fn clear_first(&mut self, x: usize)
-        requires { (1 ≤ x) × (x ≤ length self.old) }
-        ensures { self.new ≡ numbered_set self.old x (record (row_at self.old x) { first = 0 }) }
-    {
-        match self.places[x - 1] {
-            RowPlace::At(key) => self.slab[key as usize].first = 0,
-            RowPlace::Gone(_) => {}
-        }
-    }
-
     /// Row `x` has a mark, and another link.
     pub(crate) fn mark(&mut self, x: usize, link: u32)
         requires { (row_at self.old x).stands ≡ true }
@@ -166,6 +144,7 @@ impl Rows {
         requires stands { (row_at self.old x).stands ≡ true }
         requires held { (y : ℕ) → Contains (row_at self.old x).fields (Some y) → (row_at self.old y).stands ≡ true }
         ensures kept { map bare self.new ≡ map bare self.old }
+        ensures raised { (k : ℕ) → HasMark (marks_in self.old) k → HasMark (marks_in self.new) k }
         ensures greyed { Greyed (λ y. Contains (row_at self.old x).fields (Some y)) (marks_in self.old) (links_in self.old) grey.old (marks_in self.new) (links_in self.new) grey.new }
     {
         match self.places[x - 1] {
@@ -175,6 +154,17 @@ impl Rows {
             }
             RowPlace::Gone(_) => unreachable!(),
         }
+    }
+
+    /// Marks row `y`; if it wasn't marked, it comes first in the list of grey rows.
+    #[inline(always)]
+    pub(crate) fn visit(&mut self, y: u32, grey: &mut u32)
+        requires { (row_at self.old y).stands ≡ true }
+        ensures kept { map bare self.new ≡ map bare self.old }
+        ensures raised { Raises (λ z. z ≡ y) (marks_in self.old) (marks_in self.new) }
+        ensures greyed { Greyed (λ z. z ≡ y) (marks_in self.old) (links_in self.old) grey.old (marks_in self.new) (links_in self.new) grey.new }
+    {
+        visit_row(y, &mut self.marks, &mut self.links, grey);
     }
 
     /// The link of row `x`, which has a mark.
@@ -206,7 +196,7 @@ impl Rows {
     /// memory.
     #[inline(always)]
     pub(crate) fn add(&mut self, alloc: Global, fields: u8) -> Result<(), AllocError>
-        ensures ok { OnOk result (self.new ≡ self.old ++ record { fields = replicate fields None; first = 0; marked = true; link = 0; stands = true } ∷ []) }
+        ensures ok { OnOk result (self.new ≡ self.old ++ record { fields = replicate fields None; marked = true; link = 0; stands = true } ∷ []) }
         ensures err { OnErr result (self.new ≡ self.old) }
     {
         take_room(
@@ -216,7 +206,7 @@ impl Rows {
             &mut self.links,
         )?;
         let fields = Fields::empty(alloc, fields)?;
-        let key = self.slab.insert_reserved(Row { fields, first: 0 });
+        let key = self.slab.insert_reserved(Row { fields });
         self.places.push_reserved(RowPlace::At(key as u32));
         self.marks.push_reserved(true);
         self.links.push_reserved(0);
@@ -261,8 +251,8 @@ fn take_room(
     slab.reserve(1)
 }
 
-// Takes all marks down, of which the first ones up to a number are down.
-fn lower(marks: &mut Vec<bool>, from: usize)
+/// Takes all marks down, of which the first ones up to a number are down.
+pub(crate) fn lower(marks: &mut Vec<bool>, from: usize)
     requires { All (λ m. m ≡ false) (take from marks.old.items) }
     ensures { marks.new.items ≡ replicate (length marks.old.items) false }
 {
@@ -289,6 +279,7 @@ pub(crate) fn visit_fields(
     requires len { length links.old ≡ length marks.old }
     ensures len { (length marks.new ≡ length marks.old) × (length links.new ≡ length links.old) }
     ensures fresh { (k : ℕ) → HasMark (false ∷ marks.new) k → HasMark (false ∷ marks.old) k ⊎ Contains fields.now (Some k) }
+    ensures raised { (k : ℕ) → HasMark (false ∷ marks.old) k → HasMark (false ∷ marks.new) k }
     ensures greyed { Greyed (λ y. Contains fields.now (Some y)) (false ∷ marks.old) (0 ∷ links.old) grey.old (false ∷ marks.new) (0 ∷ links.new) grey.new }
 {
     for field in fields {
@@ -302,6 +293,7 @@ pub(crate) fn visit_field(field: Option<u32>, marks: &mut [bool], links: &mut [u
     requires len { length links.old ≡ length marks.old }
     ensures len { (length marks.new ≡ length marks.old) × (length links.new ≡ length links.old) }
     ensures fresh { (k : ℕ) → HasMark (false ∷ marks.new) k → HasMark (false ∷ marks.old) k ⊎ (field ≡ Some k) }
+    ensures raised { (k : ℕ) → HasMark (false ∷ marks.old) k → HasMark (false ∷ marks.new) k }
     ensures greyed { Greyed (λ y. field ≡ Some y) (false ∷ marks.old) (0 ∷ links.old) grey.old (false ∷ marks.new) (0 ∷ links.new) grey.new }
 {
     if let Some(y) = field {
@@ -309,12 +301,13 @@ pub(crate) fn visit_field(field: Option<u32>, marks: &mut [bool], links: &mut [u
     }
 }
 
-// Marks row `y` by the lists of marks and links; one that wasn't marked comes first in the list of grey rows.
-fn visit_row(y: u32, marks: &mut [bool], links: &mut [u32], grey: &mut u32)
+/// Marks row `y` by the lists of marks and links; one that wasn't marked comes first in the list of grey rows.
+pub(crate) fn visit_row(y: u32, marks: &mut [bool], links: &mut [u32], grey: &mut u32)
     requires row { (1 ≤ y) × (y ≤ length marks.old) }
     requires len { length links.old ≡ length marks.old }
     ensures len { (length marks.new ≡ length marks.old) × (length links.new ≡ length links.old) }
     ensures fresh { (k : ℕ) → HasMark (false ∷ marks.new) k → HasMark (false ∷ marks.old) k ⊎ (k ≡ y) }
+    ensures raised { Raises (λ z. z ≡ y) (false ∷ marks.old) (false ∷ marks.new) }
     ensures greyed { Greyed (λ z. z ≡ y) (false ∷ marks.old) (0 ∷ links.old) grey.old (false ∷ marks.new) (0 ∷ links.new) grey.new }
 {
     let place = y as usize - 1;

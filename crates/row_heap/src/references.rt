@@ -1,77 +1,254 @@
-// References from a row to a row, in one list that a marking reads in place.
+// References from an end to an end, in one list that a marking reads in place.
 //
-// The references of one row are linked, the last one first, and the row says where the last one stands. So a push is one step, and no row's
-// references are looked for. Whether a marking follows them is said at its begin.
+// An end is an object or a temporary. A temporary is no object: it has a number from 0 on, and references alone lead to it and from it. So what
+// an object refers to is what its references lead to, directly or over temporaries.
+//
+// The references of one end are linked, the last one first, and a list by the number of the object or of the temporary says where the last one
+// stands. So a push is one step, and no end's references are looked for. A marking goes through a temporary once: it keeps a flag for each that
+// it has seen, and a link in the list of those that it still has to go through.
 
-ghost use Rattle.std.specs.Prelude.{◌≡◌, ℕ, ◌+◌, ◌-◌, ◌≤◌, ◌<◌, ◌++◌, [], ◌∷◌, Option, OnOk, OnErr, All, length};
-ghost use Rattle.joint_model.specs.Heaps.{IsLive};
-ghost use Rattle.row_heap.specs.Rows.{FirstsCleared};
+ghost use Rattle.std.specs.Prelude.{◌≡◌, ◌≢◌, ℕ, ◌+◌, ◌-◌, ◌≤◌, ◌<◌, ◌++◌, [], ◌∷◌, List, Option, Some, OnOk, OnErr, All, length, map, max, slice_get, slice_index_or, vec_capacity};
+ghost use Rattle.joint_model.specs.Components as exact;
+ghost use Rattle.reachability.specs.Marks.{HasMark};
+ghost use Rattle.row_marking.specs.Traces.{Greyed};
+ghost use Rattle.row_heap.specs.Ends.{FirstsCleared, HasPlace, IsEnd, IsLastBelow, end_of, first_in, no_references};
 
-use crate::heap::RowHeap;
-use crate::places::Rows;
-use heap_rules::Number;
-use std::alloc::AllocError;
+use crate::places::{lower, visit_row};
+use std::alloc::{AllocError, Global};
+use std::marker::Model;
 
-/// A reference, and the place of the one before it of the same row, counted from 1; 0 where it is the row's first.
+// How many numbers an object may have, from 0 on.
+const PLACES: usize = 65_536;
+
+/// An end of a reference: an object, or a temporary.
+#[derive(Clone, Copy, PartialEq, Eq, Debug)]
+pub enum End {
+    Object(u32),
+    Temporary(u32),
+}
+
+/// A reference, and the place of the one before it from the same end, counted from 1; 0 where it is the end's first.
 #[derive(Clone, Copy)]
 pub(crate) struct Reference {
-    pub(crate) from: u32,
-    pub(crate) to: u32,
+    pub(crate) from: End,
+    pub(crate) to: End,
     pub(crate) next: u32,
 }
 
-impl<N: Number> RowHeap<N> {
-    /// Takes room for so many more references. Answers `AllocError`, with nothing changed, where there is no memory, or where the list would
-    /// pass 4,294,967,295.
-    pub fn reserve_references(&mut self, additional: u32) -> Result<(), AllocError>
-        ensures ok { OnOk result (self.new ≡ record self.old { room = additional }) }
+/// References, and which temporaries a marking has seen.
+#[derive(Drop)]
+pub(crate) struct References {
+    list: Vec<Reference>,
+    // Where the references from an object begin, and those from a temporary: the place of the last one, counted from 1; 0 where there is none.
+    objects: Vec<u32>,
+    temporaries: Vec<u32>,
+    seen: Vec<bool>,
+    links: Vec<u32>,
+    ready: u32,
+}
+
+impl Model for References {
+    ghost use Rattle.std.specs.Prelude.{vec_capacity};
+    ghost use Rattle.row_heap.specs.Ends.{Linked, linked_of, AreLinked};
+
+    ghost Value = { Linked };
+
+    ghost view = { λ s. linked_of s.list.items s.temporaries.items s.seen.items s.links.items s.ready };
+
+    ghost invariant = { λ s. AreLinked s.list.items s.objects.items s.temporaries.items s.seen.items s.links.items s.ready (vec_capacity s.list) };
+}
+
+impl References {
+    /// No reference, and room for none.
+    pub(crate) fn new(alloc: Global) -> References
+        ensures { result ≡ no_references }
+    {
+        References {
+            list: Vec::new(alloc),
+            objects: Vec::new(alloc),
+            temporaries: Vec::new(alloc),
+            seen: Vec::new(alloc),
+            links: Vec::new(alloc),
+            ready: 0,
+        }
+    }
+
+    /// How many references there are.
+    pub(crate) fn len(&self) -> usize
+        ensures { result ≡ length self.now.refs }
+    {
+        self.list.len()
+    }
+
+    /// Takes room for so many more references, and for so many temporaries, if there is room for fewer. Answers `AllocError`, with nothing
+    /// changed, where there is no memory, or where the list would pass 4,294,967,295.
+    pub(crate) fn reserve(&mut self, additional: u32, temps: u32) -> Result<(), AllocError>
+        ensures refs { self.new.refs ≡ self.old.refs }
+        ensures temps { OnOk result (self.new.temps ≡ max self.old.temps temps) }
+        ensures room { OnOk result (self.new.room ≡ additional) }
+        ensures seen { (k : ℕ) → HasMark self.new.seen k → HasMark self.old.seen k }
         ensures err { OnErr result (self.new ≡ self.old) }
     {
-        let len = self.references.len();
+        let len = self.list.len();
         if additional as usize > u32::MAX as usize - len {
             return Err(AllocError);
         }
-        self.references.reserve(additional as usize)?;
+        self.list.reserve(additional as usize)?;
+        reach(&mut self.objects)?;
+        make_temporaries(
+            &mut self.temporaries,
+            &mut self.seen,
+            &mut self.links,
+            temps,
+        )?;
         self.ready = additional;
         Ok(())
     }
 
-    /// How many references there are.
-    pub fn references_len(&self) -> usize
-        ensures { result ≡ length self.now.refs }
-    {
-        self.references.len()
-    }
-
-    /// Adds a reference from a live object to a live one. It takes no memory.
-    pub fn push_reference(&mut self, from: u32, to: u32)
-        requires from { IsLive self.old.heap from }
-        requires to { IsLive self.old.heap to }
+    /// Adds a reference. It takes no memory.
+    pub(crate) fn push(&mut self, from: End, to: End)
         requires room { 1 ≤ self.old.room }
-        ensures { self.new ≡ record self.old { refs = self.old.refs ++ (from, to) ∷ []; room = self.old.room - 1 } }
+        requires from { IsEnd self.old.temps (end_of from) }
+        requires to { IsEnd self.old.temps (end_of to) }
+        ensures { self.new ≡ record self.old { refs = self.old.refs ++ (end_of from, end_of to) ∷ []; room = self.old.room - 1 } }
     {
-        let next = self.rows.row(from as usize).first;
-        self.references.push_reserved(Reference { from, to, next });
-        self.rows
-            .set_first(from as usize, self.references.len() as u32);
+        let next = self.first(from);
+        self.list.push_reserved(Reference { from, to, next });
+        let first = self.list.len() as u32;
+        set_first(&mut self.objects, &mut self.temporaries, from, first);
         self.ready -= 1;
     }
 
-    /// No reference is left, and there is room for as many more as before. It takes no memory, and its time goes by the references.
-    pub fn clear_references(&mut self)
+    /// No reference is left. It takes no memory, and its time goes by the references.
+    pub(crate) fn clear(&mut self)
         ensures { self.new ≡ record self.old { refs = [] } }
     {
-        clear_firsts(self.references.as_slice(), &mut self.rows);
-        self.references.clear();
+        clear_firsts(
+            self.list.as_slice(),
+            &mut self.objects,
+            &mut self.temporaries,
+        );
+        self.list.clear();
+    }
+
+    /// Where the references from an end begin, counted from 1; 0 where it has none.
+    pub(crate) fn first(&self, e: End) -> u32
+        ensures { IsLastBelow self.now.refs (end_of e) (length self.now.refs) result }
+    {
+        match e {
+            End::Object(x) => first_at(self.objects.as_slice(), x),
+            End::Temporary(t) => first_at(self.temporaries.as_slice(), t),
+        }
+    }
+
+    /// The reference at a place, counted from 1.
+    pub(crate) fn at(&self, r: u32) -> Reference
+        requires { (1 ≤ r) × (r ≤ length self.now.refs) }
+        ensures ends { slice_get self.now.refs (r - 1) ≡ Some (end_of result.from, end_of result.to) }
+        ensures next { IsLastBelow self.now.refs (end_of result.from) (r - 1) result.next }
+        ensures to { IsEnd self.now.temps (end_of result.to) }
+    {
+        self.list[r as usize - 1]
+    }
+
+    /// A marking sees a temporary, which comes first in the list of those that it has to go through, if it hadn't seen it.
+    pub(crate) fn see(&mut self, t: u32, through: &mut u32)
+        requires { t < self.old.temps }
+        ensures rest { self.new ≡ record self.old { seen = self.new.seen; links = self.new.links } }
+        ensures greyed { Greyed (λ n. n ≡ t + 1) self.old.seen self.old.links through.old self.new.seen self.new.links through.new }
+    {
+        let seen = &mut self.seen;
+        visit_row(t + 1, seen, &mut self.links, through);
+    }
+
+    /// The link of a temporary that was seen, by its number, where 1 is that of the first.
+    pub(crate) fn link(&self, n: u32) -> u32
+        requires { HasMark self.now.seen n }
+        ensures { slice_get self.now.links n ≡ Some result }
+    {
+        self.links[n as usize - 1]
+    }
+
+    /// No temporary was seen.
+    pub(crate) fn forget(&mut self)
+        ensures rest { self.new ≡ record self.old { seen = self.new.seen } }
+        ensures none { (k : ℕ) → HasMark self.new.seen k → ⊥ }
+    {
+        lower(&mut self.seen, 0);
     }
 }
 
-// The rows that references lead from have none.
-fn clear_firsts(references: &[Reference], rows: &mut Rows)
-    requires { All (λ r. (1 ≤ r.from) × (r.from ≤ length rows.old)) references.now }
-    ensures { FirstsCleared references.now rows.old rows.new }
+// Makes a place for each number of an object. What a list has in a place stays, and it has 0 in the others.
+fn reach(objects: &mut Vec<u32>) -> Result<(), AllocError>
+    ensures firsts { (x : ℕ) → slice_index_or objects.new.items x 0 ≡ slice_index_or objects.old.items x 0 }
+    ensures longer { length objects.old.items ≤ length objects.new.items }
+    ensures reach { OnOk result (65536 ≤ length objects.new.items) }
 {
-    for reference in references {
-        rows.clear_first(reference.from as usize);
+    if objects.len() < PLACES {
+        objects.resize(PLACES, 0)?;
+    }
+    Ok(())
+}
+
+// Makes so many temporaries, if there are fewer. The further ones weren't seen, and have no references.
+fn make_temporaries(
+    temporaries: &mut Vec<u32>,
+    seen: &mut Vec<bool>,
+    links: &mut Vec<u32>,
+    temps: u32,
+) -> Result<(), AllocError>
+    requires flags { length seen.old.items ≡ length temporaries.old.items }
+    requires chains { length links.old.items ≡ length temporaries.old.items }
+    ensures count { OnOk result (length temporaries.new.items ≡ max (length temporaries.old.items) temps) }
+    ensures flags { length seen.new.items ≡ length temporaries.new.items }
+    ensures chains { length links.new.items ≡ length temporaries.new.items }
+    ensures firsts { (t : ℕ) → slice_index_or temporaries.new.items t 0 ≡ slice_index_or temporaries.old.items t 0 }
+    ensures seen { (k : ℕ) → HasMark seen.new.items k → HasMark seen.old.items k }
+    ensures err { OnErr result ((temporaries.new.items ≡ temporaries.old.items) × (seen.new.items ≡ seen.old.items) × (links.new.items ≡ links.old.items)) }
+{
+    let len = temporaries.len();
+    if temps as usize <= len {
+        return Ok(());
+    }
+    let temps = temps as usize;
+    seen.reserve(temps - len)?;
+    links.reserve(temps - len)?;
+    temporaries.resize(temps, 0)?;
+    let _ = seen.resize(temps, false);
+    let _ = links.resize(temps, 0);
+    Ok(())
+}
+
+// Where the references begin whose end has that number; 0 past the end of the list.
+fn first_at(firsts: &[u32], i: u32) -> u32
+    ensures { result ≡ slice_index_or firsts.now i 0 }
+{
+    match firsts.get(i as usize) {
+        Some(first) => *first,
+        None => 0,
+    }
+}
+
+// The references from an end begin at another place.
+fn set_first(objects: &mut Vec<u32>, temporaries: &mut Vec<u32>, e: End, first: u32)
+    requires { HasPlace (length objects.old.items) (length temporaries.old.items) (end_of e) }
+    ensures len { (length objects.new.items ≡ length objects.old.items) × (length temporaries.new.items ≡ length temporaries.old.items) }
+    ensures here { first_in objects.new.items temporaries.new.items (end_of e) ≡ first }
+    ensures others { (f : exact.End) → f ≢ end_of e → first_in objects.new.items temporaries.new.items f ≡ first_in objects.old.items temporaries.old.items f }
+{
+    match e {
+        End::Object(x) => objects[x as usize] = first,
+        End::Temporary(t) => temporaries[t as usize] = first,
+    }
+}
+
+// The ends that references lead from have none.
+fn clear_firsts(list: &[Reference], objects: &mut Vec<u32>, temporaries: &mut Vec<u32>)
+    requires { All (λ r. HasPlace (length objects.old.items) (length temporaries.old.items) (end_of r.from)) list.now }
+    ensures len { (length objects.new.items ≡ length objects.old.items) × (length temporaries.new.items ≡ length temporaries.old.items) }
+    ensures cleared { FirstsCleared (map (λ r. end_of r.from) list.now) (first_in objects.old.items temporaries.old.items) (first_in objects.new.items temporaries.new.items) }
+{
+    for reference in list {
+        set_first(objects, temporaries, reference.from, 0);
     }
 }

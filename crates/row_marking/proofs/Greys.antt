@@ -19,7 +19,7 @@ use Rattle.joint_model.proofs.Members.{Contains-nil, Contains-here, Contains-the
 use Rattle.reachability.specs.Marks.{HasMark, IsClosed, unmarked}
 use Rattle.reachability.specs.Scans.{Scans}
 use Rattle.reachability.proofs.Marking.{Scans-none, Scans-then, unmarked-set, set-marked, set-keeps, set-fresh, unmarked-le}
-use Rattle.row_marking.specs.Traces.{GreyChain, Chained, Greyed, Greying, greys, RefersFrom, RowLeads, IsLastBelow, Shape}
+use Rattle.row_marking.specs.Traces.{Blackens, BlackensTo, IsGreyList, GreyChain, Chained, Greyed, Greying, greys}
 
 -- a link outside a chain may change
 pub GreyChain-other : (l : List ℕ) (i n : ℕ) (h : ℕ) (xs : List ℕ) → (Contains xs i → ⊥) → GreyChain l h xs → GreyChain (set l i n) h xs
@@ -48,7 +48,7 @@ Scans-first y m s new l = record {
 }
 
 pub Greyed-none : (row : ℕ → Type 0) (m : List Bool) (l : List ℕ) (h : ℕ) → ((k : ℕ) → row k → ⊥) → Greyed row m l h m l h
-Greyed-none row m l h none waited c = record { waits = waited; chained = c; scans = Scans-none row m waited none }
+Greyed-none row m l h none waited c = record { waits = waited; chained = c; scans = Scans-none row m waited none; anew = λ k w. inl w }
 
 pub Greyed-new : (y : ℕ) (m : List Bool) (l : List ℕ) (h : ℕ) → slice_get m y ≡ Some false → 1 ≤ y → y < length l → Greyed (λ z. z ≡ y) m l h (set m y true) (set l y h) y
 Greyed-new y m l h new one fits waited c =
@@ -63,6 +63,7 @@ Greyed-new y m l h new one fits waited c =
         ];
       };
       scans = Scans-first y m waited new (slice_get_within m y false new);
+      anew = λ k w. elim (Contains-cons_cases y waited k w) [ inl e ↦ inr (λ (u : HasMark m k). (let q : Some false ≡ Some true = sym new ∙ subst (HasMark m) (sym e) u in cc), sym e) | inr d ↦ inl d ];
     }
 
 pub Greyed-then : (p q row : ℕ → Type 0) (a : List Bool) (k : List ℕ) (h : ℕ) (b : List Bool) (l : List ℕ) (i : ℕ) (c : List Bool) (n : List ℕ) (j : ℕ)
@@ -70,7 +71,15 @@ pub Greyed-then : (p q row : ℕ → Type 0) (a : List Bool) (k : List ℕ) (h :
 Greyed-then p q row a k h b l i c n j split left right x y waited w =
     let one = x waited w in
     let two = y one.waits one.chained in
-    record { waits = two.waits; chained = two.chained; scans = Scans-then p q row a waited b one.waits c two.waits split left right one.scans two.scans }
+    record {
+      waits = two.waits;
+      chained = two.chained;
+      scans = Scans-then p q row a waited b one.waits c two.waits split left right one.scans two.scans;
+      anew = λ z v. elim (two.anew z v) [
+        | inl u ↦ elim (one.anew z u) [ inl t ↦ inl t | inr t ↦ inr (t.0, left z t.1) ]
+        | inr u ↦ inr (λ t. u.0 (one.scans.kept z t), right z u.1)
+      ];
+    }
 
 pub Greyed-as : (p row : ℕ → Type 0) (a : List Bool) (k : List ℕ) (h : ℕ) (b : List Bool) (l : List ℕ) (i : ℕ) → ((x : ℕ) → row x → p x) → ((x : ℕ) → p x → row x) → Greyed p a k h b l i → Greyed row a k h b l i
 Greyed-as p row a k h b l i there back x = Greyed-then p (λ z. ⊥) row a k h b l i b l i (λ z r. inl (there z r)) back (λ z r. absurd r) x (Greyed-none (λ z. ⊥) b l i (λ z r. r))
@@ -157,6 +166,52 @@ Greying-head roots edge before m l x one i = Greying-head_by i.waits i.chained.c
     Greying-head_by [] c marked = absurd (omega (arith, c, one))
     Greying-head_by (z ∷ rest) c marked = subst (HasMark m) (sym c.0) (marked z (Contains-here z rest))
 
+-- the first of a list of grey rows was marked
+pub grey-head : (m : List Bool) (l : List ℕ) (x : ℕ) → 1 ≤ x → IsGreyList m l x → HasMark m x
+grey-head m l x one i = by i.0 i.1.chain i.1.marked
+  where
+    by : (waits : List ℕ) → GreyChain l x waits → ((k : ℕ) → Contains waits k → HasMark m k) → HasMark m x
+    by [] c marked = absurd (omega (arith, c, one))
+    by (z ∷ rest) c marked = subst (HasMark m) (sym c.0) (marked z (Contains-here z rest))
+
+-- the rest of a list of grey rows
+rest-chained : (m : List Bool) (l : List ℕ) (x next : ℕ) → 1 ≤ x → slice_get l x ≡ Some next → (waits : List ℕ) → GreyChain l x waits → ((k : ℕ) → Contains waits k → HasMark m k) → (z : ℕ) × (rest : List ℕ) × (waits ≡ z ∷ rest) × (x ≡ z) × Chained m l next rest
+rest-chained m l x next one at [] c marked = absurd (omega (arith, c, one))
+rest-chained m l x next one at (z ∷ rest) (ez, oz, (n, atz, tail)) marked =
+    let same : n ≡ next = (let q : Some n ≡ Some next = sym atz ∙ (ap (slice_get l) (sym ez) ∙ at) in cc) in
+    (z, rest, refl, ez, record { chain = subst (λ t. GreyChain l t rest) same tail; marked = λ k w. marked k (Contains-there k z rest w) })
+
+pub grey-goes : (row : ℕ → Type 0) (m : List Bool) (l : List ℕ) (x next : ℕ) (m' : List Bool) (l' : List ℕ) (h' : ℕ) → 1 ≤ x → slice_get l x ≡ Some next → IsGreyList m l x → Greyed row m l next m' l' h' → IsGreyList m' l' h'
+grey-goes row m l x next m' l' h' one at i y = let r = rest-chained m l x next one at i.0 i.1.chain i.1.marked in let g = y r.1 r.4 in (g.waits, g.chained)
+
+-- a row stands in a list of grey rows once
+chain-from : (l : List ℕ) (h k : ℕ) (xs : List ℕ) → GreyChain l h xs → Contains xs k → (ys : List ℕ) × GreyChain l k ys × (length ys ≤ length xs)
+chain-from l h k [] c w = absurd (Contains-nil k w)
+chain-from l h k (x ∷ xs) (e, one, (next, at, rest)) w = elim (Contains-cons_cases x xs k w) [
+  | inl s ↦ (x ∷ xs, (sym s, one, (next, at, rest)), omega arith)
+  | inr v ↦ let r = chain-from l next k xs rest v in (r.0, r.1, omega (arith, r.2))
+]
+
+chain-once : (l : List ℕ) (x next : ℕ) (rest : List ℕ) → 1 ≤ x → slice_get l x ≡ Some next → GreyChain l next rest → Contains rest x → ⊥
+chain-once l x next rest one at c w =
+    let r = chain-from l next x rest c w in
+    let same : r.0 ≡ x ∷ rest = GreyChain-one l x r.0 (x ∷ rest) r.1 (refl, one, (next, at, c)) in
+    let long : length r.0 ≡ length rest + 1 = ap length same ∙ (let e : suc (length rest) ≡ length rest + 1 = omega arith in e) in
+    omega (arith, long, r.2)
+
+-- one grey row more was scanned
+pub blackens-goes : (edge : ℕ → ℕ → Type 0) (n : ℕ) (m0 : List Bool) (g0 : List ℕ) (m : List Bool) (l : List ℕ) (x next : ℕ) (m' : List Bool) (l' : List ℕ) (h' : ℕ)
+    → 1 ≤ x → slice_get l x ≡ Some next → BlackensTo edge n m0 g0 m l x → Greyed (edge x) m l next m' l' h' → BlackensTo edge (n + 1) m0 g0 m' l' h'
+blackens-goes edge n m0 g0 m l x next m' l' h' one at i y =
+    let r = rest-chained m l x next one at i.waits i.chained.chain i.chained.marked in
+    let g = y r.1 r.4 in
+    let more : suc n ≡ n + 1 = omega arith in
+    record {
+      waits = g.waits;
+      chained = g.chained;
+      steps = subst (λ k. Blackens edge k m0 g0 m' g.waits) more (m, x, r.1, subst (Blackens edge n m0 g0 m) (r.2 ∙ ap (λ z. z ∷ r.1) (sym r.3)) i.steps, record { grey = grey-head m l x one (i.waits, i.chained); once = chain-once l x next r.1 one at r.4.chain; scans = g.scans; anew = g.anew });
+    }
+
 -- each turn makes the measure smaller
 pub Greying-smaller : (roots : List ℕ) (edge : ℕ → ℕ → Type 0) (before m : List Bool) (l : List ℕ) (x next : ℕ) (m' : List Bool) (l' : List ℕ) (h' : ℕ)
     → 1 ≤ x → slice_get l x ≡ Some next → Greying roots edge before m l x → Greyed (edge x) m l next m' l' h'
@@ -173,30 +228,6 @@ Greying-smaller roots edge before m l x next m' l' h' one at i y = Greying-small
         let old : greys l (length m) x ≡ z ∷ rest = greys-of l (length m) x (z ∷ rest) (ez, oz, (n, atz, tail)) (omega (arith, room, unmarked-le before, i.len)) in
         let new : greys l' (length m') h' ≡ g.waits = greys-of l' (length m') h' g.waits g.chained.chain (omega (arith, g.scans.same, g.scans.len, room, unmarked-le before, i.len)) in
         rw (old, new) (omega (arith, g.scans.same, g.scans.fewer))
-
--- the references of a row from one place on: those from the next place on, and the one below it
-pub RefersFrom-split : (refs : List (ℕ × ℕ)) (x r y n : ℕ) → 1 ≤ r → IsLastBelow refs x (r - 1) n → slice_get refs (r - 1) ≡ Some (x, y) → (k : ℕ) → RefersFrom refs n x k → RefersFrom refs r x k ⊎ (k ≡ y)
-RefersFrom-split refs x r y n one l at k (i, le, ati) = elim (cases_lt i r) [
-  | inr w ↦ inl (i, w, ati)
-  | inl w ↦ elim (cases_lt i (r - 1)) [
-    | inr v ↦
-        let e : i ≡ r - 1 = omega arith in
-        let q : Some (x, k) ≡ Some (x, y) = sym ati ∙ (ap (slice_get refs) e ∙ at) in
-        inr (ap (λ o. elim o [ None ↦ 0 | Some p ↦ p.1 ]) q)
-    | inl v ↦ absurd (l.none i k le v ati)
-  ]
-]
-
-pub RefersFrom-more : (refs : List (ℕ × ℕ)) (x r y n : ℕ) → IsLastBelow refs x (r - 1) n → (k : ℕ) → RefersFrom refs r x k → RefersFrom refs n x k
-RefersFrom-more refs x r y n l k (i, le, ati) = (i, omega (arith, l.below), ati)
-
-pub RefersFrom-least : (refs : List (ℕ × ℕ)) (x r y n : ℕ) → IsLastBelow refs x (r - 1) n → slice_get refs (r - 1) ≡ Some (x, y) → (k : ℕ) → k ≡ y → RefersFrom refs n x k
-RefersFrom-least refs x r y n l at k e = (r - 1, l.below, rw e at)
-
--- what a row leads to by its fields and by its references
-pub Greyed-leads : (s : Shape) (x : ℕ) (a : List Bool) (k : List ℕ) (h : ℕ) (b : List Bool) (l : List ℕ) (i : ℕ) (c : List Bool) (n : List ℕ) (j : ℕ)
-    → Greyed (λ z. Contains (s.fields x) (Some z)) a k h b l i → Greyed (RefersFrom s.refs 0 x) b l i c n j → Greyed (RowLeads s x) a k h c n j
-Greyed-leads s x a k h b l i c n j v w = Greyed-then (λ z. Contains (s.fields x) (Some z)) (RefersFrom s.refs 0 x) (RowLeads s x) a k h b l i c n j (λ z r. r) (λ z r. inl r) (λ z r. inr r) v w
 
 -- a list's nodes and one more node
 pub Greyed-push : (xs : List ℕ) (y : ℕ) (a : List Bool) (k : List ℕ) (h : ℕ) (b : List Bool) (l : List ℕ) (i : ℕ) (c : List Bool) (n : List ℕ) (j : ℕ)

@@ -4,25 +4,6 @@ use Rattle.reachability.specs.Marks.{HasMark, IsClosed, unmarked}
 use Rattle.reachability.specs.Scans.{Scans}
 use Rattle.joint_model.specs.Walks.{Reached}
 
--- what can be walked: the fields of each row, and the references from a row to a row
-pub record Shape : Type 0 where
-  pub fields : ℕ → List (Option ℕ)
-  pub refs : List (ℕ × ℕ)
-
--- a reference from place r on leads from x to y
-abbrev pub RefersFrom : List (ℕ × ℕ) → ℕ → ℕ → ℕ → Type 0
-RefersFrom refs r x y = (i : ℕ) × (r ≤ i) × (slice_get refs i ≡ Some (x, y))
-
--- row x leads to row y
-abbrev pub RowLeads : Shape → ℕ → ℕ → Type 0
-RowLeads s x y = Contains (s.fields x) (Some y) ⊎ RefersFrom s.refs 0 x y
-
--- of the references below place n, the last one of row x stands just below place r; there is none where r is 0
-pub record IsLastBelow (refs : List (ℕ × ℕ)) (x n r : ℕ) : Type 0 where
-  pub below : r ≤ n
-  pub none : (i y : ℕ) → r ≤ i → i < n → slice_get refs i ≡ Some (x, y) → ⊥
-  pub there : 1 ≤ r → (y : ℕ) × (slice_get refs (r - 1) ≡ Some (x, y))
-
 -- the list of rows that begins at `head` and goes on by the links
 abbrev pub GreyChain : List ℕ → ℕ → List ℕ → Type 0
 GreyChain links head [] = head ≡ 0
@@ -38,6 +19,7 @@ pub record GreyedFrom (row : ℕ → Type 0) (m : List Bool) (waited : List ℕ)
   pub waits : List ℕ
   pub chained : Chained m' l' h' waits
   pub scans : Scans row m waited m' waits
+  pub anew : (k : ℕ) → Contains waits k → Contains waited k ⊎ ((HasMark m k → ⊥) × row k)
 
 abbrev pub Greyed : (ℕ → Type 0) → List Bool → List ℕ → ℕ → List Bool → List ℕ → ℕ → Type 0
 Greyed row m l h m' l' h' = (waited : List ℕ) → Chained m l h waited → GreyedFrom row m waited m' l' h'
@@ -66,3 +48,24 @@ abbrev pub greys : List ℕ → ℕ → ℕ → List ℕ
 greys links zero head = []
 greys links (suc n) zero = []
 greys links (suc n) (suc h) = suc h ∷ greys links n (elim (slice_get links (suc h)) [ None ↦ 0 | Some next ↦ next ])
+
+-- grey row x was scanned: it leaves the list, in which it stood once, and of what it leads to the rows without a mark came into the list
+pub record Blackened (row : ℕ → Type 0) (m : List Bool) (x : ℕ) (rest : List ℕ) (m' : List Bool) (waits : List ℕ) : Type 0 where
+  pub grey : HasMark m x
+  pub once : Contains rest x → ⊥
+  pub scans : Scans row m rest m' waits
+  pub anew : (k : ℕ) → Contains waits k → Contains rest k ⊎ ((HasMark m k → ⊥) × row k)
+
+-- so many grey rows were scanned, one after the other
+abbrev pub Blackens : (ℕ → ℕ → Type 0) → ℕ → List Bool → List ℕ → List Bool → List ℕ → Type 0
+Blackens edge zero m g m' g' = (m' ≡ m) × (g' ≡ g)
+Blackens edge (suc n) m g m' g' = (mid : List Bool) × (x : ℕ) × (rest : List ℕ) × Blackens edge n m g mid (x ∷ rest) × Blackened (edge x) mid x rest m' g'
+
+pub record BlackensTo (edge : ℕ → ℕ → Type 0) (n : ℕ) (m : List Bool) (g : List ℕ) (m' : List Bool) (l' : List ℕ) (h' : ℕ) : Type 0 where
+  pub waits : List ℕ
+  pub chained : Chained m' l' h' waits
+  pub steps : Blackens edge n m g m' waits
+
+-- the list of grey rows is one, whatever black rows lead to
+abbrev pub IsGreyList : List Bool → List ℕ → ℕ → Type 0
+IsGreyList m l h = (greys : List ℕ) × Chained m l h greys

@@ -6,10 +6,8 @@
 //     | 3 |-->| 7 |                 | 9 |-->| 4 |--> 0       | 5 |   | 8 |
 //     +---+   +---+                 +---+   +---+            +---+   +---+
 //
-// Rows have the numbers from 1 on, and 0 is no row. What can be marked has the trait [`Traced`]: each row has a mark, a link, fields that
-// hold a row or nothing, and references, which lead from a row to a row and stand in one list for all rows. The references of one row are a
-// list too: `first_reference` says where the last one stands, and each says where the one before it stands, so that no row's references
-// are looked for in the list. What the fields of a row hold is marked by the rows themselves, in one call.
+// Rows have the numbers from 1 on, and 0 is no row. What can be marked has the trait [`Traced`]: each row has a mark and a link, and marks what it
+// leads to in one call, so that the row is looked up once. Over what it leads there, fields or more, is the rows' own matter.
 //
 // A grey row is marked and isn't scanned yet. The grey rows are a list through the links: `head` is the first, 0 ends it. `visit` marks a
 // row, and one that wasn't marked comes first in the list; to scan a row is to visit what it leads to; `finish` scans the grey rows until
@@ -26,36 +24,23 @@
 ghost use Rattle.std.specs.Prelude.{◌≡◌, ℕ, ◌+◌, ◌-◌, ◌<◌, ◌≤◌, ◌⊎◌, ◌↔◌, List, Option, Some, Contains, All, Bool, length, slice_get, slice_set, IfSome, IsTrue, true};
 ghost use Rattle.joint_model.specs.Walks.{Reached};
 ghost use Rattle.reachability.specs.Marks.{HasMark, IsClosed};
-ghost use Rattle.row_marking.specs.Traces.{Shape, RowLeads, IsLastBelow, RefersFrom, Greyed, Greying, IsGreying};
+ghost use Rattle.row_marking.specs.Traces.{BlackensTo, Chained, Greyed, Greying, IsGreyList, IsGreying};
 
-/// Rows that can be marked. Not every number need be a row: what fields and references of rows lead to is one, and so is what has a mark.
+/// Rows that can be marked. Not every number need be a row: what a row leads to is one, and so is what has a mark.
 pub trait Traced {
     // All that a marking leaves as it is.
     ghost Kept: { Type 0 };
 
     ghost kept: { Self → Kept };
 
-    ghost shape: { Kept → Shape };
+    // A row leads to another one.
+    ghost leads: { Kept → ℕ → ℕ → Type 0 };
 
     ghost is_row: { Kept → ℕ → Type 0 };
 
     ghost marks: { Self → List Bool };
 
     ghost links: { Self → List ℕ };
-
-    /// Where the references of row `x` begin, counted from 1; 0 where it has none.
-    fn first_reference(&self, x: usize) -> u32
-        requires { is_row (kept self.now) x }
-        ensures { IsLastBelow (shape (kept self.now)).refs x (length (shape (kept self.now)).refs) result };
-
-    /// The row to which a reference of row `x` leads, and the next one of that row.
-    fn reference(&self, x: usize, r: u32) -> (u32, u32)
-        requires row { is_row (kept self.now) x }
-        requires some { 1 ≤ r }
-        requires of { (y : ℕ) × (slice_get (shape (kept self.now)).refs (r - 1) ≡ Some (x, y)) }
-        ensures to { slice_get (shape (kept self.now)).refs (r - 1) ≡ Some (x, result.0) }
-        ensures within { (1 ≤ result.0) × is_row (kept self.now) result.0 }
-        ensures next { IsLastBelow (shape (kept self.now)).refs x (r - 1) result.1 };
 
     /// Whether row `x` is marked.
     fn is_marked(&self, x: usize) -> bool
@@ -68,13 +53,6 @@ pub trait Traced {
         ensures link { slice_get (links self.now) x ≡ Some result }
         ensures row { is_row (kept self.now) x };
 
-    /// Marks what the fields of row `x` hold; each row that wasn't marked comes first in the list of grey rows. It is one call for all of a
-    /// row's fields, so that the row is looked up once.
-    fn mark_fields(&mut self, x: usize, grey: &mut u32)
-        requires { is_row (kept self.old) x }
-        ensures kept { kept self.new ≡ kept self.old }
-        ensures greyed { Greyed (λ y. Contains ((shape (kept self.old)).fields x) (Some y)) (marks self.old) (links self.old) grey.old (marks self.new) (links self.new) grey.new };
-
     /// Marks row `x`, and gives it a link.
     fn mark(&mut self, x: usize, link: u32)
         requires { is_row (kept self.old) x }
@@ -82,6 +60,12 @@ pub trait Traced {
         ensures marks { marks self.new ≡ slice_set (marks self.old) x true }
         ensures links { links self.new ≡ slice_set (links self.old) x link }
         ensures len { x < length (links self.old) };
+
+    /// Marks what row `x` leads to; each row that wasn't marked comes first in the list of grey rows.
+    fn scan(&mut self, x: usize, grey: &mut u32)
+        requires { is_row (kept self.old) x }
+        ensures kept { kept self.new ≡ kept self.old }
+        ensures greyed { Greyed (leads (kept self.old) x) (marks self.old) (links self.old) grey.old (marks self.new) (links self.new) grey.new };
 }
 
 /// Marks row `y`; one that wasn't marked comes first in the list of grey rows.
@@ -97,43 +81,39 @@ pub fn visit<G: Traced>(g: &mut G, y: u32, grey: &mut u32)
     }
 }
 
-// Marks what the references of row `x` lead to.
-fn scan_references<G: Traced>(g: &mut G, x: usize, grey: &mut u32)
-    requires { G.is_row (G.kept g.old) x }
-    ensures kept { G.kept g.new ≡ G.kept g.old }
-    ensures greyed { Greyed (RefersFrom (G.shape (G.kept g.old)).refs 0 x) (G.marks g.old) (G.links g.old) grey.old (G.marks g.new) (G.links g.new) grey.new }
-{
-    let mut r = g.first_reference(x);
-    while r != 0 {
-        let (y, next) = g.reference(x, r);
-        visit(g, y, grey);
-        r = next;
-    }
-}
-
-// Marks what row `x` leads to.
-fn scan<G: Traced>(g: &mut G, x: usize, grey: &mut u32)
-    requires { G.is_row (G.kept g.old) x }
-    ensures kept { G.kept g.new ≡ G.kept g.old }
-    ensures greyed { Greyed (RowLeads (G.shape (G.kept g.old)) x) (G.marks g.old) (G.links g.old) grey.old (G.marks g.new) (G.links g.new) grey.new }
-{
-    g.mark_fields(x, grey);
-    scan_references(g, x, grey);
-}
-
 /// Carries a marking to its end: the grey rows are scanned until none is left. It takes no memory.
 pub fn finish<G: Traced>(g: &mut G, grey: u32)
-    requires { IsGreying (RowLeads (G.shape (G.kept g.old))) (G.marks g.old) (G.links g.old) grey }
+    requires { IsGreying (G.leads (G.kept g.old)) (G.marks g.old) (G.links g.old) grey }
     ensures kept { G.kept g.new ≡ G.kept g.old }
-    ensures marks { (roots : List ℕ) (before : List Bool) → Greying roots (RowLeads (G.shape (G.kept g.old))) before (G.marks g.old) (G.links g.old) grey → (k : ℕ) → HasMark (G.marks g.new) k ↔ (HasMark before k ⊎ Reached (Contains roots) (RowLeads (G.shape (G.kept g.old))) k) }
-    ensures closed { IsClosed (RowLeads (G.shape (G.kept g.new))) (G.marks g.new) }
+    ensures marks { (roots : List ℕ) (before : List Bool) → Greying roots (G.leads (G.kept g.old)) before (G.marks g.old) (G.links g.old) grey → (k : ℕ) → HasMark (G.marks g.new) k ↔ (HasMark before k ⊎ Reached (Contains roots) (G.leads (G.kept g.old)) k) }
+    ensures closed { IsClosed (G.leads (G.kept g.new)) (G.marks g.new) }
 {
     let mut head = grey;
     while head != 0 {
         let x = head as usize;
         head = g.link(x);
-        scan(g, x, &mut head);
+        g.scan(x, &mut head);
     }
+}
+
+/// Scans at most so many grey rows, and answers where the list of grey rows begins then, and how many were scanned; where these are fewer, none
+/// is grey. What black rows lead to need not be marked, so the rows may have changed since the marking began. It takes no memory.
+pub fn scan_some<G: Traced>(g: &mut G, grey: u32, most: u32) -> (u32, u32)
+    requires { IsGreyList (G.marks g.old) (G.links g.old) grey }
+    ensures kept { G.kept g.new ≡ G.kept g.old }
+    ensures steps { (greys : List ℕ) → Chained (G.marks g.old) (G.links g.old) grey greys → BlackensTo (G.leads (G.kept g.old)) result.1 (G.marks g.old) greys (G.marks g.new) (G.links g.new) result.0 }
+    ensures most { result.1 ≤ most }
+    ensures end { result.1 < most → result.0 ≡ 0 }
+{
+    let mut head = grey;
+    let mut scanned = 0;
+    while head != 0 && scanned < most {
+        let row = head as usize;
+        head = g.link(row);
+        g.scan(row, &mut head);
+        scanned += 1;
+    }
+    (head, scanned)
 }
 
 // Marks the roots of a list, each of which comes into the list of grey rows if it wasn't marked.
@@ -151,10 +131,10 @@ fn mark_roots<G: Traced>(g: &mut G, roots: &[u32], grey: &mut u32)
 /// no memory.
 pub fn mark_from<G: Traced>(g: &mut G, roots: &[u32])
     requires roots { All (λ y. (1 ≤ y) × G.is_row (G.kept g.old) y) roots.now }
-    requires shut { IsClosed (RowLeads (G.shape (G.kept g.old))) (G.marks g.old) }
+    requires shut { IsClosed (G.leads (G.kept g.old)) (G.marks g.old) }
     ensures kept { G.kept g.new ≡ G.kept g.old }
-    ensures marks { (k : ℕ) → HasMark (G.marks g.new) k ↔ (HasMark (G.marks g.old) k ⊎ Reached (Contains roots.now) (RowLeads (G.shape (G.kept g.old))) k) }
-    ensures closed { IsClosed (RowLeads (G.shape (G.kept g.new))) (G.marks g.new) }
+    ensures marks { (k : ℕ) → HasMark (G.marks g.new) k ↔ (HasMark (G.marks g.old) k ⊎ Reached (Contains roots.now) (G.leads (G.kept g.old)) k) }
+    ensures closed { IsClosed (G.leads (G.kept g.new)) (G.marks g.new) }
 {
     let mut grey = 0;
     mark_roots(g, roots, &mut grey);

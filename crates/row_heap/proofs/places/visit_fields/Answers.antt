@@ -23,6 +23,7 @@ loop-field-preserved c =
       marks_len = c.visit_field.ensures.len.0 ∙ v.marks_len;
       links_len = c.visit_field.ensures.len.1 ∙ v.links_len;
       fresh = rw more (fresh-push (take i fs) _ (false ∷ c.args.marks.now) (false ∷ c.loop-field.marks) (false ∷ c.visit_field.new.marks) v.fresh c.visit_field.ensures.fresh);
+      raised = λ k m. c.visit_field.ensures.raised k (v.raised k m);
       greyed = rw more (greyed-push (take i fs) _ _ _ _ _ _ _ _ _ _ v.greyed c.visit_field.ensures.greyed);
     }
 

@@ -1,7 +1,11 @@
--- The rows that the references so far lead from have none.
-use Rattle.std.proofs.Common.{take}
-use Rattle.row_heap.specs.Rows.{FirstsCleared}
+-- The ends that the references so far lead from have none.
+use Rattle.std.proofs.Common.{◌≡◌, length, map, take}
+use Rattle.row_heap.specs.declared.references.Reference.{Reference}
+use Rattle.row_heap.specs.Ends.{FirstsCleared, end_of, first_in}
 use Rattle.row_heap.proofs.references.clear_firsts.Given as goal
 
 abbrev pub invariant-loop-reference : goal.invariant-loop-reference
-invariant-loop-reference l = FirstsCleared (take l.reference-index l.references) l.fn.rows l.rows
+invariant-loop-reference l = record {
+  len : (length l.objects.items ≡ length l.fn.objects.items) × (length l.temporaries.items ≡ length l.fn.temporaries.items);
+  cleared : FirstsCleared (map (λ (r : Reference). end_of r.from) (take l.reference-index l.list)) (first_in l.fn.objects.items l.fn.temporaries.items) (first_in l.objects.items l.temporaries.items);
+}

@@ -45,3 +45,6 @@ returns-in-Few-clause-greyed c =
     (λ y e. subst (λ (l : List (Option ℕ)). Contains l (Some y)) view (few-held c.in-Few.field-0 c.in-Few.cells 0 y are.1 e))
     (λ y e. subst (λ (l : List (Option ℕ)). Contains l (Some y)) view (few-held c.in-Few.field-0 c.in-Few.cells 1 y are.1 e))
     c.visit_field.ensures.greyed c.visit_field-in-Few.ensures.greyed
+
+pub returns-in-Few-clause-raised : goal.returns-in-Few-clause-raised
+returns-in-Few-clause-raised c = λ k m. c.visit_field-in-Few.ensures.raised k (c.visit_field.ensures.raised k m)

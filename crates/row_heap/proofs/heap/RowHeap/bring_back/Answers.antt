@@ -4,9 +4,8 @@ use Rattle.std.specs.Prelude.{Contains}
 use Rattle.joint_model.specs.Heaps.{IsLive}
 use Rattle.joint_model.proofs.Members.{Contains-cons_cases, Contains-nil}
 use Rattle.reachability.specs.Marks.{IsClosed}
-use Rattle.row_marking.specs.Traces.{RowLeads}
 use Rattle.row_heap.specs.Rows.{HeapRows}
-use Rattle.row_heap.specs.Marks.{shape_of}
+use Rattle.row_heap.specs.Marks.{LeadsTo}
 use Rattle.row_heap.proofs.Edges.{shut-leads, shut-edges, reached-edge, reached-leads}
 use Rattle.row_heap.proofs.heap.RowHeap.bring_back.Goals as goal
 
@@ -22,4 +21,4 @@ returns-clause-marks g c = λ k.
     )
 
 pub returns-clause-shut : goal.returns-clause-shut
-returns-clause-shut g c = shut-edges c.args.self.now c.mark_from.new.g.marks (subst (λ (v : HeapRows). IsClosed (RowLeads (shape_of v)) c.mark_from.new.g.marks) c.mark_from.ensures.kept c.mark_from.ensures.closed)
+returns-clause-shut g c = shut-edges c.args.self.now c.mark_from.new.g.marks (subst (λ (v : HeapRows). IsClosed (LeadsTo v) c.mark_from.new.g.marks) c.mark_from.ensures.kept c.mark_from.ensures.closed)

@@ -2,9 +2,8 @@
 use Rattle.std.proofs.Common.{inl, inr}
 use Rattle.std.proofs.Common.{subst}
 use Rattle.reachability.specs.Marks.{IsClosed}
-use Rattle.row_marking.specs.Traces.{RowLeads}
 use Rattle.row_heap.specs.Rows.{HeapRows}
-use Rattle.row_heap.specs.Marks.{shape_of}
+use Rattle.row_heap.specs.Marks.{LeadsTo}
 use Rattle.row_heap.proofs.Edges.{greying-leads, shut-edges, reached-edge, reached-leads}
 use Rattle.row_heap.proofs.heap.RowHeap.finish_marking.Goals as goal
 
@@ -23,4 +22,4 @@ returns-clause-marks g c = λ roots before i x.
     )
 
 pub returns-clause-shut : goal.returns-clause-shut
-returns-clause-shut g c = shut-edges c.args.self.now c.finish.new.g.marks (subst (λ (v : HeapRows). IsClosed (RowLeads (shape_of v)) c.finish.new.g.marks) c.finish.ensures.kept c.finish.ensures.closed)
+returns-clause-shut g c = shut-edges c.args.self.now c.finish.new.g.marks (subst (λ (v : HeapRows). IsClosed (LeadsTo v) c.finish.new.g.marks) c.finish.ensures.kept c.finish.ensures.closed)

@@ -16,18 +16,18 @@ free_rows-requires-clause-up g c =
 
 pub invariant_of-self : goal.invariant_of-self
 invariant_of-self g c = (
-  IsRowHeap-freed _ _ _ _ (map g.N.Number.number c.args.xs.now) _ _ _ _ _ _ _ _ c.args.self.now c.self.view_is c.self.invariant.0 c.free_rows.ensures.rows c.requires.can c.requires.ends
+  IsRowHeap-freed _ _ _ _ (map g.N.Number.number c.args.xs.now) _ _ c.self.inside.references _ _ _ c.args.self.now c.self.view_is c.self.invariant.0 c.free_rows.ensures.rows c.requires.can c.requires.ends
       (ap (map g.N.Number.number) c.free_rows.ensures.freed ∙ map-append g.N.Number.number c.self.inside.freed.items c.args.xs.now) c.free_rows.ensures.capacity,
   gone-more _ _ _ _ c.self.invariant.1 (ap (map g.N.Number.number) c.free_rows.ensures.freed ∙ map-append g.N.Number.number c.self.inside.freed.items c.args.xs.now),
   count-fields _ _ _ c.free_rows.ensures.rows.fields c.self.invariant.2,
 )
 
 pub returns-clause-heap : goal.returns-clause-heap
-returns-clause-heap g c = seen-freed _ _ _ _ (map g.N.Number.number c.args.xs.now) _ _ _ _ _ c.args.self.now c.self.view_is c.free_rows.ensures.rows
+returns-clause-heap g c = seen-freed _ _ _ _ (map g.N.Number.number c.args.xs.now) _ _ c.self.inside.references _ c.args.self.now c.self.view_is c.free_rows.ensures.rows
     (ap (map g.N.Number.number) c.free_rows.ensures.freed ∙ map-append g.N.Number.number c.self.inside.freed.items c.args.xs.now)
 
 pub returns-clause-marks : goal.returns-clause-marks
-returns-clause-marks g c = marks-freed _ _ _ _ _ _ _ _ c.args.self.now (map g.N.Number.number c.args.xs.now) c.self.view_is c.free_rows.ensures.rows c.marked_stand.ensures c.marked_stand-2.ensures
+returns-clause-marks g c = marks-freed _ _ _ _ _ c.self.inside.references _ c.args.self.now (map g.N.Number.number c.args.xs.now) c.self.view_is c.free_rows.ensures.rows c.marked_stand.ensures c.marked_stand-2.ensures
 
 pub free_rows-requires-clause-rises : goal.free_rows-requires-clause-rises
 free_rows-requires-clause-rises g c = c.requires.can.rises
@@ -36,4 +36,4 @@ pub free_rows-requires-clause-room : goal.free_rows-requires-clause-room
 free_rows-requires-clause-room g c = stand-room g.N.Number.number _ _ _ _ _ c.self.invariant.0.sound
 
 pub returns-clause-rest : goal.returns-clause-rest
-returns-clause-rest g c = rest-freed _ _ _ _ _ _ _ _ _ c.args.self.now c.self.view_is
+returns-clause-rest g c = rest-freed _ _ _ _ _ _ c.self.inside.references _ c.args.self.now c.self.view_is

@@ -4,8 +4,8 @@ use borrow.Author.Tests.{both_ways}
 use Rattle.reachability.specs.Marks.{HasMark}
 use Rattle.row_heap.specs.Rows.{HeapRows}
 use Rattle.row_heap.proofs.Tested.{number-in, number-none, number-past}
-use Rattle.row_heap.proofs.Edges.{marked-row, marked-within}
-use Rattle.row_heap.proofs.Swept.{row-marked}
+use Rattle.row_heap.proofs.Edges.{marked-within}
+use Rattle.row_heap.proofs.Walked.{marked-row, row-marked}
 use Rattle.row_heap.proofs.heap.RowHeap.is_marked.Goals.{then-x-ne0, else-x-ne0}
 use Rattle.row_heap.proofs.heap.RowHeap.is_marked.Goals as goal
 

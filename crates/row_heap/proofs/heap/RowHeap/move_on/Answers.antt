@@ -22,7 +22,7 @@ pub overflow_add-gone-in-loop-gone : goal.overflow_add-gone-in-loop-gone
 overflow_add-gone-in-loop-gone g c = omega (arith, c.loop-gone-test.true, c.made.ensures.most)
 
 pub loop-gone-smaller : goal.loop-gone-smaller
-loop-gone-smaller g c = omega (arith, c.loop-gone-test.true, c.made.ensures.made, made-seen _ _ _ _ _ _ _ c.args.self.now c.self.view_is)
+loop-gone-smaller g c = omega (arith, c.loop-gone-test.true, c.made.ensures.made, made-seen _ _ _ _ c.self.inside.references _ c.args.self.now c.self.view_is)
 
 pub invariant_of-self : goal.invariant_of-self
 invariant_of-self g c = (c.self.invariant.0, c.loop-gone.invariant, c.self.invariant.2)

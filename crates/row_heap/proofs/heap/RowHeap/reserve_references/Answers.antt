@@ -1,28 +1,12 @@
--- More room changes no reference.
-use Rattle.std.proofs.Common.{ap, length, arith}
-use Rattle.row_heap.proofs.Linked.{IsRowHeap-roomy, seen-roomy}
+-- The references stay, and a temporary that is seen was seen.
+use Rattle.row_heap.proofs.Sound.{AreReferences-roomy, IsRowHeap-other, seen-err, seen-roomy}
 use Rattle.row_heap.proofs.heap.RowHeap.reserve_references.Goals as goal
 
-pub invariant_of-self-2 : goal.invariant_of-self-2
-invariant_of-self-2 g c =
-    let refs = c.self.inside.references in (
-      IsRowHeap-roomy _ _ _ _ _ _ _ _ c.args.additional _ _ _ c.self.invariant.0 c.reserve.ensures.items
-          (omega (arith, c.in_ok-reserve.ensures.ok, c.reserve.ensures.len, refs.ok))
-          (omega (arith, c.if-additional-len.false, c.len-len.ensures, refs.ok, c.self.invariant.0.references.most)),
-      c.self.invariant.1,
-      c.self.invariant.2,
-    )
-
-pub overflow_sub-len : goal.overflow_sub-len
-overflow_sub-len g c = omega (arith, c.len-len.ensures, c.self.inside.references.ok, c.self.invariant.0.references.most)
-
 pub invariant_of-self : goal.invariant_of-self
-invariant_of-self g c = (
-  IsRowHeap-roomy _ _ _ _ _ _ _ _ c.self.inside.ready _ _ _ c.self.invariant.0 c.reserve.ensures.items
-      (omega (arith, ap length c.reserve.ensures.items, c.self.invariant.0.references.space, c.reserve.ensures.capacity)) c.self.invariant.0.references.most,
-  c.self.invariant.1,
-  c.self.invariant.2,
-)
+invariant_of-self g c = (IsRowHeap-other _ _ _ _ _ _ _ _ _ c.self.invariant.0 (AreReferences-roomy _ _ _ _ c.reserve.ensures.refs c.reserve.ensures.seen c.self.invariant.0.references), c.self.invariant.1, c.self.invariant.2)
 
 pub returns-clause-ok : goal.returns-clause-ok
-returns-clause-ok g c = seen-roomy _ _ _ _ _ _ _ _ c.args.additional c.args.self.now c.self.view_is c.reserve.ensures.items
+returns-clause-ok g c = seen-roomy c.reserve.result _ _ _ _ _ _ c.self.inside.references c.reserve.new.self _ _ c.self.view_is c.reserve.ensures.refs c.reserve.ensures.room c.reserve.ensures.temps
+
+pub returns-clause-err : goal.returns-clause-err
+returns-clause-err g c = seen-err c.reserve.result _ _ _ _ c.self.inside.references c.reserve.new.self _ _ c.self.view_is c.reserve.ensures.err

@@ -7,7 +7,7 @@ use Rattle.reachability.specs.Marks.{HasMark}
 use Rattle.row_marking.specs.Traces.{Greyed}
 use Rattle.row_heap.specs.Places.{AreRows, bare, row_at, seen_at}
 use Rattle.row_heap.proofs.Indexed.{at-key, key-there, not-gone, stands-within}
-use Rattle.row_heap.proofs.Marked.{fields-under, greyed-rows, len-under, map-under, up-under, visited-are}
+use Rattle.row_heap.proofs.Marked.{fields-under, greyed-rows, len-under, map-under, marks-rows, up-under, visited-are}
 use Rattle.row_heap.proofs.places.Rows.mark_fields.Goals as goal
 
 pub index-requires : goal.index-requires
@@ -72,3 +72,13 @@ returns-clause-greyed c =
     let row = subst (λ (fs : List (Option ℕ)). Greyed (λ y. Contains fs (Some y)) (false ∷ s.marks.items) (0 ∷ s.links.items) c.args.grey.now (false ∷ c.visit.new.marks) (0 ∷ c.visit.new.links) c.visit.new.grey) (sym same) by_items in
     greyed-rows (λ y. Contains (row_at c.args.self.now c.args.x).fields (Some y)) base c.args.self.now s.marks.items c.visit.new.marks _ s.links.items c.visit.new.links _ c.args.grey.now c.visit.new.grey c.self.view_is marks links
     (c.self.invariant.marks_len ∙ sym len) (c.self.invariant.links_len ∙ sym len) (em ∙ (c.self.invariant.marks_len ∙ sym len)) (el ∙ (c.self.invariant.links_len ∙ sym len)) row
+
+pub returns-clause-raised : goal.returns-clause-raised
+returns-clause-raised c =
+    let s = c.self.inside in
+    let base = map (seen_at s.slab) s.places.items in
+    let len : length base ≡ length s.places.items = length-map s.places.items (seen_at s.slab) in
+    let em : length c.visit.new.marks ≡ length s.marks.items = c.visit.ensures.len.0 ∙ ap length c.deref_mut.ensures.value in
+    let marks = with_items_is s.marks c.visit.new.marks (em ∙ sym s.marks.ok.0) in
+    marks-rows (λ a b. (k : ℕ) → HasMark a k → HasMark b k) base c.args.self.now s.marks.items c.visit.new.marks _ s.links.items _ c.self.view_is marks (c.self.invariant.marks_len ∙ sym len) (em ∙ (c.self.invariant.marks_len ∙ sym len))
+    (subst (λ (ms : List Bool). (k : ℕ) → HasMark (false ∷ ms) k → HasMark (false ∷ c.visit.new.marks) k) c.deref_mut.ensures.value c.visit.ensures.raised)
