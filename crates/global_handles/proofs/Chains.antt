@@ -7,7 +7,7 @@
 -- The walk clears from the top down: before the slot of the number n, all slots from there up are as if cleared,
 -- since those between two slots of a chain have nothing to clear for its peer.
 use Rattle.std.proofs.Common.{◌≡◌, ◌≢◌, ℕ, ◌+◌, ◌<◌, ◌≤◌, zero, suc, cond, eqb, not, Bool, true, false, List, [], ◌∷◌, ◌++◌, length, map, set, get_or, slice_get, Option, None, Some, refl, sym, ap, ◌∙◌, subst, ◌⊎◌, inl, inr, eq-eqb, arith}
-use Rattle.std.specs.Option.{option_map}
+use Rattle.std.specs.Option.{option_map, option_and_then}
 use Rattle.std.proofs.lemmas.Bool.{cases_eq, cases_lt}
 use Rattle.std.proofs.lemmas.List.{get_or_past}
 use Rattle.std.proofs.lemmas.Option.{none-some, same_Some, slice_get_within, slice_get_read}
@@ -15,9 +15,10 @@ use Rattle.std.proofs.lemmas.Bool.Decides.{nat_tests}
 use Rattle.joint_model.specs.declared.names.PNum.{PNum}
 use Rattle.joint_model.proofs.Deciding.{neq-eqb, true-false}
 use Rattle.global_handles.specs.declared.Kept.{Kept}
+use Rattle.global_handles.specs.declared.Name.{Name}
 use Rattle.global_handles.specs.declared.Slot.{Slot}
-use Rattle.global_handles.specs.Slots.{with_row, with_next, with_previous, next_at, previous_at, numbered, rows_from, cleared_kept, cleared_slot, is_open, opens, head_in, IsLastOpen, AreLinkedSlots, LeadsBack, IsBacked, IsChained}
-use Rattle.global_handles.proofs.Slots.{kept_at}
+use Rattle.global_handles.specs.Slots.{with_row, with_next, with_previous, next_at, previous_at, numbered, row_at, row_of, rows_of, ArePlaced, cleared_kept, cleared_slot, is_open, opens, head_in, IsLastOpen, AreLinkedSlots, LeadsBack, IsBacked, IsChained}
+use Rattle.global_handles.proofs.Slots.{kept_at, rows_of-made}
 
 -- the peer of a number
 abbrev peer_of : ℕ → PNum
@@ -124,15 +125,21 @@ numbered-came f n (u ∷ ss) zero m t is at =
     (u, refl, rw e (sym (same_Some _ t at)))
 numbered-came f n (u ∷ ss) (suc j) m t is at = numbered-came f (n + 1) ss j m t (omega arith) at
 
-rows_from-numbered : (f : ℕ → Slot → Slot) (n m : ℕ) (ss : List Slot) → ((k : ℕ) (s : Slot) → (f k s).peer ≡ s.peer) → ((k : ℕ) (s : Slot) → (f k s).row ≡ s.row) → rows_from n (numbered f m ss) ≡ rows_from n ss
-rows_from-numbered f n m [] peers rows = refl
-rows_from-numbered f n m (s ∷ ss) peers rows = rw (peers m s, rows m s, rows_from-numbered f (n + 1) (m + 1) ss peers rows) refl
+-- slots whose peers and rows stay lead each name to the same row
+row_of-numbered : (f : ℕ → Slot → Slot) (n m i : ℕ) (ss : List Slot) → ((k : ℕ) (s : Slot) → (f k s).peer ≡ s.peer) → ((k : ℕ) (s : Slot) → (f k s).row ≡ s.row) → option_and_then (row_of n) (slice_get (numbered f m ss) i) ≡ option_and_then (row_of n) (slice_get ss i)
+row_of-numbered f n m i [] peers rows = refl
+row_of-numbered f n m zero (s ∷ ss) peers rows = rw (peers m s, rows m s) refl
+row_of-numbered f n m (suc i) (s ∷ ss) peers rows = row_of-numbered f n (m + 1) i ss peers rows
 
-rows_from-links : (ss : List Slot) (m n a b : ℕ) → rows_from 0 (with_previous (with_next ss m n) a b) ≡ rows_from 0 ss
-rows_from-links ss m n a b = rows_from-numbered (previous_at a b) 0 1 (with_next ss m n) (λ k s. refl) (λ k s. refl) ∙ rows_from-numbered (next_at m n) 0 1 ss (λ k s. refl) (λ k s. refl)
+rows_of-numbered : (f : ℕ → Slot → Slot) (m : ℕ) (ss : List Slot) (es : List Name) → ((k : ℕ) (s : Slot) → (f k s).peer ≡ s.peer) → ((k : ℕ) (s : Slot) → (f k s).row ≡ s.row) → rows_of (numbered f m ss) es ≡ rows_of ss es
+rows_of-numbered f m ss [] peers rows = refl
+rows_of-numbered f m ss (e ∷ es) peers rows = rw (row_of-numbered f e.number m e.place ss peers rows, rows_of-numbered f m ss es peers rows) refl
 
-pub rows_from-with_previous : (ss : List Slot) (a b : ℕ) → rows_from 0 (with_previous ss a b) ≡ rows_from 0 ss
-rows_from-with_previous ss a b = rows_from-numbered (previous_at a b) 0 1 ss (λ k s. refl) (λ k s. refl)
+rows_of-links : (ss : List Slot) (es : List Name) (m n a b : ℕ) → rows_of (with_previous (with_next ss m n) a b) es ≡ rows_of ss es
+rows_of-links ss es m n a b = rows_of-numbered (previous_at a b) 1 (with_next ss m n) es (λ k s. refl) (λ k s. refl) ∙ rows_of-numbered (next_at m n) 1 ss es (λ k s. refl) (λ k s. refl)
+
+pub rows_of-with_previous : (ss : List Slot) (es : List Name) (a b : ℕ) → rows_of (with_previous ss a b) es ≡ rows_of ss es
+rows_of-with_previous ss es a b = rows_of-numbered (previous_at a b) 1 ss es (λ k s. refl) (λ k s. refl)
 
 numbered-none : (f : ℕ → Slot → Slot) (n : ℕ) (ss : List Slot) → ((k : ℕ) (s : Slot) → n ≤ k → f k s ≡ s) → numbered f n ss ≡ ss
 numbered-none f n [] none = refl
@@ -257,8 +264,8 @@ without_slots-came ss i gone j t at =
 pub length-without_slots : (ss : List Slot) (i : ℕ) (gone : Slot) → length (without_slots ss i gone) ≡ length ss
 length-without_slots ss i gone = length-numbered _ 1 _ ∙ length-numbered _ 1 _ ∙ length-with_row ss i None
 
-pub rows_from-without_slots : (ss : List Slot) (i : ℕ) (gone : Slot) → rows_from 0 (without_slots ss i gone) ≡ rows_from 0 (with_row ss i None)
-rows_from-without_slots ss i gone = rows_from-links (with_row ss i None) gone.previous gone.next gone.next gone.previous
+pub rows_of-without_slots : (ss : List Slot) (es : List Name) (i : ℕ) (gone : Slot) → rows_of (without_slots ss i gone) es ≡ rows_of (with_row ss i None) es
+rows_of-without_slots ss es i gone = rows_of-links (with_row ss i None) es gone.previous gone.next gone.next gone.previous
 
 -- what a slot is after that, by its place
 gone-here : (q : PNum) (i : ℕ) (gone : Slot) (j : ℕ) (s : Slot) → j ≡ i → opens q (without_slot i gone j s) ≡ false
@@ -612,6 +619,11 @@ push_last (u ∷ ss) s = push_last ss s
 abbrev pub pushed_slots : List Slot → Slot → ℕ → List Slot
 pushed_slots ss s number = with_previous ss s.next number ++ s ∷ []
 
+pub rows_of-pushed : (ss : List Slot) (es : List Name) (s : Slot) (number : ℕ) (e : Name) (k : Kept) → ArePlaced (length ss) es → e.place ≡ length ss → s.row ≡ Some k → k.number ≡ e.number → rows_of (pushed_slots ss s number) (es ++ e ∷ []) ≡ rows_of ss es ++ row_at e.number s.peer k ∷ []
+rows_of-pushed ss es s number e k placed place row same =
+    let len = length-with_previous ss s.next number in
+    rows_of-made (with_previous ss s.next number) es s e k (rw len placed) (rw len place) row same ∙ ap (λ rows. rows ++ row_at e.number s.peer k ∷ []) (rows_of-with_previous ss es s.next number)
+
 pub IsChained-pushed : (ss : List Slot) (s : Slot) (number : ℕ) (head new : PNum → ℕ) → number ≡ length ss + 1 → s.previous ≡ 0 → is_open s.row ≡ true → s.next ≡ head s.peer → length (pushed_slots ss s number) ≡ number → ((q : PNum) → new q ≡ cond (eqb s.peer.0 q.0) number (head q)) → IsChained ss head → IsChained (pushed_slots ss s number) new
 IsChained-pushed ss s number head new next first has leads len moved chained = record {
   heads_lead = λ q. rw len (heads q);
@@ -771,7 +783,7 @@ cleared_slot-settled p s settled = by (eqb p.0 s.peer.0) s.row refl refl
     by true None is row = rw is (kept (rw row refl))
     by true (Some k) is row =
         let shut : not k.cleared ≡ false = rw (is, row) at settled in
-        rw is (kept (rw row (ap (λ b. Some (record { hold = k.hold; strength = k.strength; cleared = b })) (sym (not-false k.cleared shut)))))
+        rw is (kept (rw row (ap (λ b. Some (record { number = k.number; hold = k.hold; strength = k.strength; cleared = b })) (sym (not-false k.cleared shut)))))
     by false o is row = rw is refl
 
 -- down over settled slots nothing changes

@@ -1,13 +1,17 @@
 -- What a table's user needs of its rows: a look-up after each change. A call changes
 -- the row of one number or the rows of one peer, so each look-up of another number stays as it was; each fact is
 -- an induction over the rows, by whether the first row has the number.
-use Rattle.std.proofs.Common.{◌≡◌, ◌≢◌, ℕ, ◌<◌, ◌≤◌, eqb, Bool, true, false, List, [], ◌∷◌, ◌++◌, None, Some, refl, sym, ap, ◌∙◌, eq-eqb, arith}
+use Rattle.std.proofs.Common.{◌≡◌, ◌≢◌, ℕ, ◌<◌, ◌≤◌, eqb, Bool, true, false, List, [], ◌∷◌, ◌++◌, zero, suc, slice_get, None, Some, refl, sym, ap, ◌∙◌, eq-eqb, arith}
 use Rattle.std.proofs.lemmas.Option.{none-some, same_Some}
 use Rattle.std.proofs.lemmas.Bool.Decides.{nat_tests}
 use Rattle.joint_model.specs.declared.names.HNum.{HNum}
+use Rattle.joint_model.specs.declared.names.PNum.{PNum}
 use Rattle.joint_model.proofs.Deciding.{neq-eqb}
 use Rattle.global_handles.specs.declared.HandleRow.{HandleRow}
-use Rattle.global_handles.specs.Rows.{row_in, changed, without, RisesBetween}
+use Rattle.global_handles.specs.declared.Hold.TheVariants.{Held}
+use Rattle.global_handles.specs.declared.Strength.TheVariants.{Strong}
+use Rattle.global_handles.specs.Rows.{row_in, target_in, changed, fresh_row, renewed, without, RisesBetween}
+use Rattle.global_handles.proofs.Rows.{RisesBetween-without}
 
 -- what rises between two numbers keeps them in order
 pub RisesBetween-within : (low high : ℕ) (rows : List HandleRow) → RisesBetween low high rows → low ≤ high
@@ -88,3 +92,38 @@ row_in-without_other (x ∷ rs) h other apart = by (eqb h.0 x.number.0) refl (ro
         let no : other.0 ≢ x.number.0 = λ same. apart (same ∙ sym here) in
         rw (e, neq-eqb other.0 x.number.0 no) rest
     by false e rest = rw (e, rest) refl
+
+-- a renewed row is found under its new number, and no more under the old one; each other look-up stays
+pub row_in-renewed_new : (low high : ℕ) (rows : List HandleRow) (h g : HNum) (p : PNum) → RisesBetween low high rows → high < g.0 → target_in rows h ≡ Some p → row_in (renewed h g rows) g ≡ Some (fresh_row g p Held Strong)
+row_in-renewed_new low high rows h g p rises above target =
+    let new = row_in-above low high (without h rows) g above (RisesBetween-without h low high rows rises) in
+    rw target (row_in-push_new (without h rows) (fresh_row g p Held Strong) new)
+
+pub row_in-renewed_old : (rows : List HandleRow) (h g : HNum) (p : PNum) → h.0 ≢ g.0 → target_in rows h ≡ Some p → row_in (renewed h g rows) h ≡ None
+row_in-renewed_old rows h g p apart target =
+    rw target (row_in-push_other (without h rows) (fresh_row g p Held Strong) h apart ∙ row_in-without_same rows h)
+
+pub row_in-renewed_other : (rows : List HandleRow) (h g other : HNum) (p : PNum) → other.0 ≢ h.0 → other.0 ≢ g.0 → target_in rows h ≡ Some p → row_in (renewed h g rows) other ≡ row_in rows other
+row_in-renewed_other rows h g other p apart apart' target =
+    rw target (row_in-push_other (without h rows) (fresh_row g p Held Strong) other apart' ∙ row_in-without_other rows h other apart)
+
+-- what a pass over all rows reads at a place is found under its number, and each row that is found is read at some place
+RisesBetween-nth : (low high : ℕ) (rows : List HandleRow) (i : ℕ) (r : HandleRow) → RisesBetween low high rows → slice_get rows i ≡ Some r → low < r.number.0
+RisesBetween-nth low high [] i r rises at = absurd (none-some r at)
+RisesBetween-nth low high (x ∷ rs) zero r rises at = rw (← same_Some x r at) rises.0
+RisesBetween-nth low high (x ∷ rs) (suc i) r rises at = omega (arith, rises.0, RisesBetween-nth x.number.0 high rs i r rises.1 at)
+
+pub row_in-nth : (low high : ℕ) (rows : List HandleRow) (i : ℕ) (r : HandleRow) → RisesBetween low high rows → slice_get rows i ≡ Some r → row_in rows r.number ≡ Some r
+row_in-nth low high [] i r rises at = absurd (none-some r at)
+row_in-nth low high (x ∷ rs) zero r rises at = rw (same_Some x r at, eq-eqb r.number.0 r.number.0 refl) refl
+row_in-nth low high (x ∷ rs) (suc i) r rises at =
+    let apart : r.number.0 ≢ x.number.0 = omega (arith, RisesBetween-nth x.number.0 high rs i r rises.1 at) in
+    rw (neq-eqb r.number.0 x.number.0 apart) (row_in-nth x.number.0 high rs i r rises.1 at)
+
+pub row_in-place : (rows : List HandleRow) (h : HNum) (r : HandleRow) → row_in rows h ≡ Some r → (i : ℕ) × (slice_get rows i ≡ Some r)
+row_in-place [] h r is = absurd (none-some r is)
+row_in-place (x ∷ rs) h r is = by (eqb h.0 x.number.0) refl (row_in-place rs h r)
+  where
+    by : (b : Bool) → eqb h.0 x.number.0 ≡ b → (row_in rs h ≡ Some r → (i : ℕ) × (slice_get rs i ≡ Some r)) → (i : ℕ) × (slice_get (x ∷ rs) i ≡ Some r)
+    by true e rest = (0, rw e at is)
+    by false e rest = let later = rest (rw e at is) in (suc later.0, later.1)

@@ -1,7 +1,7 @@
 -- A number at or below the first of rising rows is in none of them: each row's number is above the one before.
 -- So no row has it, a change to its row changes nothing, and to leave it out leaves all rows. By this a look-up,
 -- a change and a removal each find their one row, and pass over all others.
-use Rattle.std.proofs.Common.{◌≡◌, ◌≢◌, ◌==◌, if◌then◌else◌, ℕ, ◌+◌, ◌<◌, ◌≤◌, eqb, Bool, true, false, List, [], ◌∷◌, ◌++◌, map, None, Some, refl, sym, ap, ◌∙◌, arith}
+use Rattle.std.proofs.Common.{◌≡◌, ◌≢◌, ◌==◌, if◌then◌else◌, ℕ, ◌+◌, ◌<◌, ◌≤◌, eqb, Bool, true, false, List, [], ◌∷◌, ◌++◌, length, map, None, Some, refl, sym, ap, ◌∙◌, arith}
 use Rattle.std.proofs.lemmas.Option.{none-some}
 use Rattle.std.proofs.lemmas.Bool.Decides.{nat_tests}
 use Rattle.joint_model.specs.declared.names.HNum.{HNum}
@@ -96,3 +96,16 @@ without-absent (r ∷ rs) h none = by (eqb h.0 r.number.0) refl (without-absent 
     by false is rest =
         let left : row_in rs h ≡ None = rw is at none in
         rw is (ap (λ t. r ∷ t) (rest left))
+
+-- without a row that is there one is left less
+pub length-without : (low high : ℕ) (rows : List HandleRow) (h : HNum) (r : HandleRow) → RisesBetween low high rows → row_in rows h ≡ Some r → length (without h rows) + 1 ≡ length rows
+length-without low high [] h r rises is = absurd (none-some r is)
+length-without low high (x ∷ rs) h r rises is = by (eqb h.0 x.number.0) refl (length-without x.number.0 high rs h r rises.1)
+  where
+    by : (b : Bool) → eqb h.0 x.number.0 ≡ b → (row_in rs h ≡ Some r → length (without h rs) + 1 ≡ length rs) → length (without h (x ∷ rs)) + 1 ≡ length (x ∷ rs)
+    by true e rest =
+        let here : h.0 ≡ x.number.0 = grind (arith, nat_tests) in
+        rw (e, without-below x.number.0 high rs h (omega arith) rises.1) (omega arith)
+    by false e rest =
+        let left : row_in rs h ≡ Some r = rw e at is in
+        rw e (omega (arith, rest left))

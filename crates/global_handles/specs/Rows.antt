@@ -1,21 +1,26 @@
--- What contracts see of a handle table: its rows in rising number, how many handles were made, and the room for more.
-use Rattle.std.specs.Prelude.{◌≡◌, ◌==◌, ◌<◌, ◌≤◌, ℕ, Bool, true, false, List, [], ◌∷◌, Option, None, Some, map, filter, not, if◌then◌else◌}
+-- What contracts see of a handle table: its rows in rising number, how many handles were made, the greatest number given,
+-- and the room for more.
+use Rattle.std.specs.Prelude.{◌≡◌, ◌==◌, ◌<◌, ◌≤◌, ℕ, Bool, true, false, List, [], ◌∷◌, ◌++◌, Option, None, Some, map, filter, not, if◌then◌else◌}
 use Rattle.std.specs.Option.{option_map, option_and_then}
 use Rattle.joint_model.specs.declared.names.HNum.{HNum}
 use Rattle.joint_model.specs.declared.names.PNum.{PNum}
 use Rattle.global_handles.specs.declared.Back.{Back}
 use Rattle.global_handles.specs.declared.Back.TheVariants.{Alive, Cleared}
 use Rattle.global_handles.specs.declared.Hold.{Hold}
+use Rattle.global_handles.specs.declared.Hold.TheVariants.{Held}
 use Rattle.global_handles.specs.declared.Strength.{Strength}
-use Rattle.global_handles.specs.declared.Strength.TheVariants.{Weak}
+use Rattle.global_handles.specs.declared.Strength.TheVariants.{Strong, Weak}
 use Rattle.global_handles.specs.declared.HandleRow.{HandleRow}
 use Rattle.global_handles.specs.declared.NotLive.{NotLive}
 
--- the rows in rising number, how many handles were ever made, and for how many more there is room
+-- the rows in rising number, how many handles make made, the greatest number given, for how many more made there is room,
+-- and how many names of removed rows a pass over the rows would meet
 pub record Table : Type 0 where
   pub rows : List HandleRow
   pub made : ℕ
+  pub last : ℕ
   pub room : ℕ
+  pub holes : ℕ
 
 -- the row of a number, or None where no row has it
 abbrev pub row_in : List HandleRow → HNum → Option HandleRow
@@ -36,8 +41,13 @@ cleared_in rows h = option_map (λ r. r.cleared) (row_in rows h)
 
 -- whether the peer of a restored row is there
 abbrev pub is_alive : Back → Bool
-is_alive Alive = true
+is_alive (Alive h) = true
 is_alive Cleared = false
+
+-- what a restore answers by the handle that it gave
+abbrev pub back_of : Option HNum → Back
+back_of (Some h) = Alive h
+back_of None = Cleared
 
 -- the row of a handle that was just made: it isn't cleared
 abbrev pub fresh_row : HNum → PNum → Hold → Strength → HandleRow
@@ -63,6 +73,15 @@ cleared_for p rows = map (λ r. if p.0 == r.peer.0 then cleared_row r else r) ro
 abbrev pub without : HNum → List HandleRow → List HandleRow
 without h rows = filter (λ r. not (h.0 == r.number.0)) rows
 
+-- the row that a restore gives under a number, where the old one led to a peer
+abbrev pub renewed_rows : HNum → Option PNum → List HandleRow
+renewed_rows g None = []
+renewed_rows g (Some p) = fresh_row g p Held Strong ∷ []
+
+-- the rows, with that of the number h renewed under the number g
+abbrev pub renewed : HNum → HNum → List HandleRow → List HandleRow
+renewed h g rows = without h rows ++ renewed_rows g (target_in rows h)
+
 -- the row is weak where it names the peer
 abbrev pub IsWeakFor : PNum → HandleRow → Type 0
 IsWeakFor p r = r.peer ≡ p → r.strength ≡ Weak
@@ -72,9 +91,9 @@ abbrev pub RisesBetween : ℕ → ℕ → List HandleRow → Type 0
 RisesBetween low high [] = low ≤ high
 RisesBetween low high (r ∷ rs) = (low < r.number.0) × RisesBetween r.number.0 high rs
 
--- the numbers of the rows rise, from 1 at least up to the count made at most
+-- the numbers of the rows rise, from 1 at least up to the greatest given at most
 abbrev pub IsRising : Table → Type 0
-IsRising t = RisesBetween 0 t.made t.rows
+IsRising t = RisesBetween 0 t.last t.rows
 
 -- the fault of a release whose handle isn't in the table
 abbrev pub not_live : HNum → NotLive

@@ -1,36 +1,60 @@
--- How the table keeps its rows: a slot for each handle that was ever made, at the place one below its number.
-use Rattle.std.specs.Prelude.{◌≡◌, ◌==◌, ◌+◌, ◌-◌, ◌≤◌, ◌<◌, ℕ, Bool, zero, suc, true, false, not, List, [], ◌∷◌, Option, None, Some, length, slice_get, slice_index_or, if◌then◌else◌}
-use Rattle.std.specs.Option.{option_map}
+-- How the table keeps its rows: a slot for each handle that make made, and the names, which lead from numbers to slots.
+use Rattle.std.specs.Prelude.{◌≡◌, ◌==◌, ◌+◌, ◌*◌, ◌-◌, ◌≤◌, ◌<◌, ℕ, Bool, zero, suc, true, false, not, List, [], ◌∷◌, Option, None, Some, ⊤, is_some, length, slice_get, slice_index_or, if◌then◌else◌}
+use Rattle.std.specs.Option.{option_map, option_and_then}
 use Rattle.std.specs.Vec.{vec_capacity}
 use Rattle.joint_model.specs.declared.names.HNum.{HNum}
 use Rattle.joint_model.specs.declared.names.PNum.{PNum}
 use Rattle.global_handles.specs.declared.HandleRow.{HandleRow}
 use Rattle.global_handles.specs.declared.Kept.{Kept}
+use Rattle.global_handles.specs.declared.Name.{Name}
 use Rattle.global_handles.specs.declared.Slot.{Slot}
 use Rattle.global_handles.specs.declared.HandleTable.TheInside.{Inside}
-use Rattle.global_handles.specs.Rows.{Table, RisesBetween}
+use Rattle.global_handles.specs.Rows.{Table}
 
--- the row of a number, from its peer and what is kept of it
+-- the row of a number, from its peer and what else is kept of it
 abbrev pub row_at : ℕ → PNum → Kept → HandleRow
 row_at n p k = record { number = record { 0 = n }; peer = p; hold = k.hold; strength = k.strength; cleared = k.cleared }
 
--- a slot's row, if it has one, in front of other rows
-abbrev pub put_row : ℕ → PNum → Option Kept → List HandleRow → List HandleRow
-put_row n p None rows = rows
-put_row n p (Some k) rows = row_at n p k ∷ rows
+-- the row of a number that is kept for a peer, if what is kept has that number
+abbrev pub kept_row : ℕ → PNum → Option Kept → Option HandleRow
+kept_row n p None = None
+kept_row n p (Some k) = if n == k.number then Some (row_at n p k) else None
 
--- the rows of a list of slots; the first slot's number is one above n
-abbrev pub rows_from : ℕ → List Slot → List HandleRow
-rows_from n [] = []
-rows_from n (s ∷ ss) = put_row (n + 1) s.peer s.row (rows_from (n + 1) ss)
-
--- the slot at the place of a handle, one below its number; None where no such handle was made
-abbrev pub slot_of : List Slot → HNum → Option Slot
-slot_of ss h = if h.0 == 0 then None else slice_get ss (h.0 - 1)
-
--- the row that a slot has, under a number
+-- the row of a number that a slot has
 abbrev pub row_of : ℕ → Slot → Option HandleRow
-row_of n s = option_map (row_at n s.peer) s.row
+row_of n s = kept_row n s.peer s.row
+
+-- the row that a name leads to: that of its place, if it has the name's number
+abbrev pub named_row : List Slot → Name → Option HandleRow
+named_row ss e = option_and_then (row_of e.number) (slice_get ss e.place)
+
+abbrev pub is_named : List Slot → Name → Bool
+is_named ss e = is_some (named_row ss e)
+
+-- a row, if there is one, in front of other rows
+abbrev pub put : Option HandleRow → List HandleRow → List HandleRow
+put None rows = rows
+put (Some r) rows = r ∷ rows
+
+-- the rows that names lead to
+abbrev pub rows_of : List Slot → List Name → List HandleRow
+rows_of ss [] = []
+rows_of ss (e ∷ es) = put (named_row ss e) (rows_of ss es)
+
+-- the name of a number; None where it isn't among these
+abbrev pub name_in : List Name → HNum → Option Name
+name_in [] h = None
+name_in (e ∷ es) h = if h.0 == e.number then Some e else name_in es h
+
+-- the numbers of the names rise; each is above the first number and at most the last
+abbrev pub NamesRise : ℕ → ℕ → List Name → Type 0
+NamesRise low high [] = low ≤ high
+NamesRise low high (e ∷ es) = (low < e.number) × NamesRise e.number high es
+
+-- the names lead to places below this one
+abbrev pub ArePlaced : ℕ → List Name → Type 0
+ArePlaced n [] = ⊤
+ArePlaced n (e ∷ es) = (e.place < n) × ArePlaced n es
 
 -- the slots, with another row in the slot at a place
 abbrev pub with_row : List Slot → ℕ → Option Kept → List Slot
@@ -59,7 +83,7 @@ with_previous ss m previous = numbered (previous_at m previous) 1 ss
 
 -- what is kept of a row, once it is cleared
 abbrev pub cleared_kept : Kept → Kept
-cleared_kept k = record { hold = k.hold; strength = k.strength; cleared = true }
+cleared_kept k = record { number = k.number; hold = k.hold; strength = k.strength; cleared = true }
 
 -- the slot, with its row cleared where it names the peer
 abbrev pub cleared_slot : PNum → Slot → Slot
@@ -106,16 +130,21 @@ head_in heads p = slice_index_or heads p.0 0
 
 -- what contracts see of a table with these fields
 abbrev pub table_of : Inside → Table
-table_of t = record { rows = rows_from 0 t.slots.items; made = length t.slots.items; room = t.ready }
+table_of t = record { rows = rows_of t.slots.items t.names.items; made = length t.slots.items; last = t.last; room = t.ready; holes = length t.names.items - length (rows_of t.slots.items t.names.items) }
 
--- what holds of a table's fields: at most 65,535 handles were made, the live ones are counted, none of those that are
--- gone has a row, just the slots that have something to clear are chained, those of each peer from its head on, and the
--- room that is said is there: for the slots, and for the head of any peer, whose number is at most 65,535
+-- what holds of a table's fields: at most 65,535 handles were made, the rows are counted and are no more than the slots, the
+-- names rise up to the greatest number given and lead to slots, there are at most two for each slot, just the slots that
+-- have something to clear are chained, those of each peer from its head on, and the room that is said is there: for the
+-- slots, for two names for each, and for the head of any peer, whose number is at most 65,535
 pub record IsTable (t : Inside) : Type 0 where
   pub most : length t.slots.items ≤ 65535
-  pub counted : t.live ≡ length (rows_from 0 t.slots.items)
-  pub gone : RisesBetween t.gone (length t.slots.items) (rows_from 0 t.slots.items)
+  pub counted : t.live ≡ length (rows_of t.slots.items t.names.items)
+  pub few : t.live ≤ length t.slots.items
+  pub rise : NamesRise 0 t.last t.names.items
+  pub placed : ArePlaced (length t.slots.items) t.names.items
+  pub twice : length t.names.items ≤ 2 * length t.slots.items
   pub chained : IsChained t.slots.items (head_in t.heads.items)
   pub slots_room : length t.slots.items + t.ready ≤ vec_capacity t.slots
+  pub names_room : 2 * (length t.slots.items + t.ready) ≤ vec_capacity t.names
   pub heads_most : length t.heads.items ≤ 65536
   pub heads_room : 1 ≤ t.ready → 65536 ≤ vec_capacity t.heads

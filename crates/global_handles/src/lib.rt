@@ -6,7 +6,7 @@
 //     let h = table.make(p, Hold::Held, Strength::Strong)?;
 //     table.weaken(h);
 //     table.clear_target(p);
-//     match table.restore(h) { Back::Alive => .., Back::Cleared => .. }
+//     match table.restore(h) { Back::Alive { h } => .., Back::Cleared => .. }
 //
 // A row has a number, the peer that it names, whether a managed object holds it or a raw global name does,
 // and whether it is strong or weak. A strong row keeps its peer alive; a weak one doesn't, and is cleared when
@@ -15,30 +15,40 @@
 // The life of a row: `make` puts it into the table under the next number; numbers are never used again.
 // `target` reads the peer. While a bridge cycle asks the peer heap which objects live, `weaken` makes the
 // strong rows of the cycle weak; the peer heap marks and sweeps, and calls `clear_target` for each peer that
-// it frees; `restore` then makes a row strong again, or removes it where it was cleared. `release` removes a
-// row. None of these but `make` takes memory, and it takes none where `reserve` left room for its row: so a caller
-// can take all memory first. Each reads and writes a few rows, however many there are, and `clear_target` just
-// those that it clears.
+// it frees; `restore` then removes the row, and where it wasn't cleared a held strong row on the same peer comes under
+// the next number. `release` removes a row. None of these but `make` takes memory, and it takes none where `reserve`
+// left room for its row: so a caller can take all memory first.
+//
+// So numbers grow up to the last of their type, by one for each `make` and for each row that `restore` gives, while a row more
+// comes by `make` alone. A row stands in a place, one for each `make`, which are at most 65,535; a restored row stays in its place
+// and takes the new number. The list of names leads from a number to its place. It only grows at its end, so it stays
+// sorted, and a look-up goes by halves: in one step where no number was left out, and in 17 at most. A name whose place has no
+// row of its number is a hole. The list has at most two names for each place: where it is full, `restore` first drops its
+// holes, which are then at least half of it. So what that reads is owed to the names that came since, and on average
+// a restore takes the same time however many there were before.
+//
+// Else each call reads and writes a few rows, however many there are, and `clear_target` just those that it clears. A pass over all rows
+// drops the holes by `settle` and then reads the rows in turn by `nth`.
 //
 // Where the chain of a peer's handles begins is kept in a list by the peer's number, which is at most 65,535; the list
 // reaches as far as a handle was made, and room for the whole of it is taken by the first `reserve`.
 //
 // The table is a part of the peer side, which alone changes it. What is promised: the rows after each call are those of the definition; `release`
-// refuses exactly a number that isn't in the table, and `make` all after the 65,535th.
+// refuses exactly a number that isn't in the table, and `make` all after its 65,535th row.
 #![tactic(auto)]
 
-ghost use Rattle.std.specs.Prelude.{◌≡◌, ◌==◌, ◌+◌, ◌<◌, ◌≤◌, ◌↔◌, max, [], ◌∷◌, ◌++◌, true, length, map, All, ok_or, ℕ, ◌-◌, ◌≢◌, if◌then◌else◌, Ok, Err, None, Some, OnOk, OnErr, IfOk, IsOk};
+ghost use Rattle.std.specs.Prelude.{◌≡◌, ◌==◌, ◌+◌, ◌*◌, ◌<◌, ◌≤◌, ◌↔◌, max, List, [], ◌∷◌, ◌++◌, true, length, map, filter, slice_get, All, ok_or, ℕ, ◌-◌, ◌≢◌, if◌then◌else◌, Ok, Err, None, Some, OnOk, OnErr, IfOk, IsOk};
 ghost use Rattle.std.specs.Option.{option_map};
 ghost use Rattle.std.specs.Vec.{vec_capacity, vec_len};
-ghost use Rattle.global_handles.specs.Slots.{slot_of, with_row, with_next, with_previous, rows_from, head_in, cleared_slot, AreLinkedSlots, IsLastOpen, IsChained};
-ghost use Rattle.global_handles.specs.Rows.{row_in, target_in, strength_in, cleared_in, fresh_row, with_strength, changed, cleared_for, without, not_live, is_alive, IsWeakFor, IsRising};
+ghost use Rattle.global_handles.specs.Slots.{name_in, named_row, is_named, rows_of, with_row, with_next, with_previous, head_in, cleared_slot, NamesRise, ArePlaced, AreLinkedSlots, IsLastOpen, IsChained};
+ghost use Rattle.global_handles.specs.Rows.{row_in, target_in, strength_in, cleared_in, fresh_row, renewed, with_strength, changed, cleared_for, without, not_live, is_alive, back_of, IsWeakFor, IsRising};
 
 use joint_model::{HNum, PNum, list_with_room};
 use std::alloc::{AllocError, Global};
 use std::marker::Model;
 use std::mem;
 
-/// The most handles that are ever made in one [`HandleTable`].
+/// The most handles that `make` ever makes in one [`HandleTable`].
 pub const MOST_HANDLES: usize = 65_535;
 
 // How many numbers a peer may have, from 0 on: those of the objects of a heap, which are at most 65,535.
@@ -68,10 +78,10 @@ pub struct HandleRow {
     pub cleared: bool,
 }
 
-/// What a weak row came back as: its peer lives, or the row was cleared.
+/// What a weak row came back as: its peer lives, and the handle on it is `h` from now on; or the row was cleared.
 #[derive(Clone, Copy, PartialEq, Eq, Debug)]
 pub enum Back {
-    Alive,
+    Alive { h: HNum },
     Cleared,
 }
 
@@ -81,8 +91,18 @@ impl Back {
         ensures { result ≡ is_alive self }
     {
         match self {
-            Back::Alive => true,
+            Back::Alive { .. } => true,
             Back::Cleared => false,
+        }
+    }
+
+    /// The handle that the restore gave; None where the peer isn't there.
+    pub fn given(self) -> Option<HNum>
+        ensures { back_of result ≡ self }
+    {
+        match self {
+            Back::Alive { h } => Some(h),
+            Back::Cleared => None,
         }
     }
 }
@@ -92,7 +112,7 @@ impl Back {
 pub enum HandleFault {
     /// There is no memory for one more row.
     OutOfMemory,
-    /// 65,535 handles were made, and numbers are never used again.
+    /// 65,535 handles were made by `make`, and places are never used again.
     HandlesFull,
 }
 
@@ -113,19 +133,20 @@ pub struct NotLive {
     pub h: HNum,
 }
 
-// What is kept of a row: all but its number, which is told by its place, and its peer.
+// What is kept of a row: all but its peer.
 #[derive(Clone, Copy)]
 struct Kept {
+    number: u32,
     hold: Hold,
     strength: Strength,
     cleared: bool,
 }
 
-// The place of one number: the peer that the handle was made on, and its row until that is removed.
+// A place: the peer that its handle was made on, and its row until that is removed.
 //
 // While it has a row that isn't cleared, it is on the chain of its peer, which has just these slots, the last made
-// first: `next` and `previous` are the numbers of the slots after and before it there, 0 where there is none. The
-// links of a slot that has no such row mean nothing, and none leads to it.
+// first: `next` and `previous` are one more than the places of the slots after and before it there, 0 where there is
+// none. The links of a slot that has no such row mean nothing, and none leads to it.
 #[derive(Clone, Copy)]
 struct Slot {
     peer: PNum,
@@ -137,13 +158,16 @@ struct Slot {
 impl Slot {
     ghost use Rattle.global_handles.specs.Slots.{row_of, cleared_kept, is_open};
 
-    // The slot's row, under its number.
-    fn row(self, h: HNum) -> Option<HandleRow>
-        ensures { result ≡ row_of h.0 self }
+    // The slot's row, if it has one of this number.
+    fn row(self, number: u32) -> Option<HandleRow>
+        ensures { result ≡ row_of number self }
     {
         let kept = self.row?;
+        if kept.number != number {
+            return None;
+        }
         Some(HandleRow {
-            number: h,
+            number: HNum(number),
             peer: self.peer,
             hold: kept.hold,
             strength: kept.strength,
@@ -176,15 +200,23 @@ impl Slot {
     }
 }
 
-/// The handles from one heap into the other: rows in rising number. At most 65,535 are ever made.
+// A number that was given, and its place. It leads to the row of that place while that row has the number.
+#[derive(Clone, Copy, Drop)]
+struct Name {
+    number: u32,
+    place: u32,
+}
+
+/// The handles from one heap into the other: rows in rising number. At most 65,535 are ever made by `make`.
 #[derive(Drop)]
 pub struct HandleTable {
     slots: Vec<Slot>,
+    names: Vec<Name>,
     heads: Vec<u32>,
     live: u32,
     ready: u32,
-    // How many of the first handles are released, so that no pass looks at them again.
-    gone: u32,
+    // The greatest number that was given.
+    last: u32,
 }
 
 impl Model for HandleTable {
@@ -204,14 +236,16 @@ impl HandleTable {
     pub fn new(alloc: Global) -> HandleTable
         ensures rows { result.rows ≡ [] }
         ensures made { result.made ≡ 0 }
+        ensures last { result.last ≡ 0 }
         ensures room { result.room ≡ 0 }
     {
         HandleTable {
             slots: list_with_room(alloc, MOST_HANDLES),
+            names: list_with_room(alloc, 2 * MOST_HANDLES),
             heads: list_with_room(alloc, PEERS),
             live: 0,
             ready: 0,
-            gone: 0,
+            last: 0,
         }
     }
 
@@ -222,22 +256,25 @@ impl HandleTable {
         ensures err { OnErr result (self.new ≡ self.old) }
     {
         self.slots.reserve(additional as usize)?;
+        reserve_names(&mut self.names, self.slots.len() + additional as usize)?;
         self.heads.reserve(PEERS - self.heads.len())?;
         self.ready = additional;
         Ok(())
     }
 
-    /// Makes a handle on `p`, whose number is the count made plus 1. The new row isn't cleared. The number of `p` is at
-    /// most 65,535.
+    /// Makes a handle on `p`, whose number is the greatest one given plus 1. The new row isn't cleared. The number of `p` is
+    /// at most 65,535, and the greatest number given isn't the last of its type.
     ///
     /// Answers `HandlesFull` exactly where 65,535 were made by this call, which is tested before memory is asked
     /// for, and `OutOfMemory` where there is no memory for the row. After either the table is as before. Where there
     /// is room for a further handle, it takes no memory and uses the room of one.
     pub fn make(&mut self, p: PNum, hold: Hold, strength: Strength) -> Result<HNum, HandleFault>
-        requires { p.0 ≤ 65535 }
-        ensures number { IfOk result (λ h. h.0 ≡ self.old.made + 1) }
+        requires peer { p.0 ≤ 65535 }
+        requires last { self.old.last < 4294967295 }
+        ensures number { IfOk result (λ h. h.0 ≡ self.old.last + 1) }
         ensures rows { IfOk result (λ h. self.new.rows ≡ self.old.rows ++ fresh_row h p hold strength ∷ []) }
         ensures made { OnOk result (self.new.made ≡ self.old.made + 1) }
+        ensures last { OnOk result (self.new.last ≡ self.old.last + 1) }
         ensures room { OnOk result (self.new.room ≡ self.old.room - 1) }
         ensures full { (result ≡ Err HandleFault.HandlesFull) ↔ (self.old.made ≡ 65535) }
         ensures reserved { 1 ≤ self.old.room → result ≢ Err HandleFault.OutOfMemory }
@@ -248,11 +285,14 @@ impl HandleTable {
             return Err(HandleFault::HandlesFull);
         }
         self.slots.reserve(1)?;
+        reserve_names(&mut self.names, self.slots.len() + 1)?;
         make_head(&mut self.heads, p)?;
-        let number = self.slots.len() as u32 + 1;
-        let next = set_head(&mut self.heads, p, number);
-        set_previous(&mut self.slots, next, number);
+        let place = self.slots.len() as u32;
+        let next = set_head(&mut self.heads, p, place + 1);
+        set_previous(&mut self.slots, next, place + 1);
+        let number = self.last + 1;
         let kept = Kept {
+            number,
             hold,
             strength,
             cleared: false,
@@ -263,6 +303,8 @@ impl HandleTable {
             previous: 0,
             row: Some(kept),
         });
+        self.names.push_reserved(Name { number, place });
+        self.last = number;
         self.live += 1;
         self.ready = self.ready.saturating_sub(1);
         Ok(HNum(number))
@@ -281,7 +323,8 @@ impl HandleTable {
         ensures row { result ≡ row_in self.now.rows h }
         ensures rising { IsRising self.now }
     {
-        find(self.slots.as_slice(), h)?.row(h)
+        let (_, row) = look_up(self.names.as_slice(), self.slots.as_slice(), h)?;
+        Some(row)
     }
 
     /// Makes a strong row weak. It takes no memory.
@@ -289,29 +332,47 @@ impl HandleTable {
         requires { strength_in self.old.rows h ≡ Some Strength.Strong }
         ensures rows { self.new.rows ≡ changed (with_strength Strength.Weak) h self.old.rows }
         ensures made { self.new.made ≡ self.old.made }
+        ensures last { self.new.last ≡ self.old.last }
         ensures room { self.new.room ≡ self.old.room }
         ensures rising { IsRising self.new }
     {
         self.set_strength(h, Strength::Weak);
     }
 
-    /// Makes a weak row strong again, and answers `Alive`; or removes it and answers `Cleared`, exactly where it
-    /// is cleared. It takes no memory.
+    /// Removes a weak row. Where it is cleared the answer is `Cleared`. Else a held strong row on the same peer comes under the next
+    /// number, and the answer is `Alive` with it. The greatest number given isn't the last of its type. It takes no memory.
     pub fn restore(&mut self, h: HNum) -> Back
-        requires { strength_in self.old.rows h ≡ Some Strength.Weak }
+        requires weak { strength_in self.old.rows h ≡ Some Strength.Weak }
+        requires last { self.old.last < 4294967295 }
         ensures cleared { (result ≡ Back.Cleared) ↔ (cleared_in self.old.rows h ≡ Some true) }
-        ensures removed { result ≡ Back.Cleared → self.new.rows ≡ without h self.old.rows }
-        ensures strong { result ≡ Back.Alive → self.new.rows ≡ changed (with_strength Strength.Strong) h self.old.rows }
+        ensures gone { result ≡ Back.Cleared → (self.new.rows ≡ without h self.old.rows) × (self.new.last ≡ self.old.last) }
+        ensures anew { (g : HNum) → result ≡ Back.Alive g → (self.new.rows ≡ renewed h g self.old.rows) × (g.0 ≡ self.old.last + 1) × (self.new.last ≡ self.old.last + 1) }
         ensures made { self.new.made ≡ self.old.made }
         ensures room { self.new.room ≡ self.old.room }
         ensures rising { IsRising self.new }
     {
-        if self.target(h).is_none() {
+        let Some((name, row)) = look_up(self.names.as_slice(), self.slots.as_slice(), h) else {
+            unreachable!();
+        };
+        if row.cleared {
             let _ = self.release(h);
             return Back::Cleared;
         }
-        self.set_strength(h, Strength::Strong);
-        Back::Alive
+        make_gap(&mut self.names, self.slots.as_slice());
+        let number = self.last + 1;
+        let kept = Kept {
+            number,
+            hold: Hold::Held,
+            strength: Strength::Strong,
+            cleared: false,
+        };
+        set_row(&mut self.slots, name.place, Some(kept));
+        self.names.push_reserved(Name {
+            number,
+            place: name.place,
+        });
+        self.last = number;
+        Back::Alive { h: HNum(number) }
     }
 
     // Changes the strength of a row.
@@ -319,28 +380,31 @@ impl HandleTable {
         requires { row_in self.old.rows h ≢ None }
         ensures rows { self.new.rows ≡ changed (with_strength strength) h self.old.rows }
         ensures made { self.new.made ≡ self.old.made }
+        ensures last { self.new.last ≡ self.old.last }
         ensures room { self.new.room ≡ self.old.room }
         ensures rising { IsRising self.new }
     {
-        let Some(row) = self.row(h) else {
+        let Some((name, row)) = look_up(self.names.as_slice(), self.slots.as_slice(), h) else {
             unreachable!();
         };
         let kept = Kept {
+            number: h.0,
             hold: row.hold,
             strength,
             cleared: row.cleared,
         };
-        set_row(&mut self.slots, h, Some(kept));
+        set_row(&mut self.slots, name.place, Some(kept));
     }
 
     /// Clears each row of `p`, whose object is freed. It takes no memory.
     ///
     /// It visits just the rows of `p` that aren't cleared yet, and no others: neither rows of other peers, nor
-    /// handles that were released. So in the whole life of a table each handle is visited at most once.
+    /// handles that were released. So in the whole life of a table each place is visited at most once.
     pub fn clear_target(&mut self, p: PNum)
         requires { All (IsWeakFor p) self.old.rows }
         ensures rows { self.new.rows ≡ cleared_for p self.old.rows }
         ensures made { self.new.made ≡ self.old.made }
+        ensures last { self.new.last ≡ self.old.last }
         ensures room { self.new.room ≡ self.old.room }
         ensures rising { IsRising self.new }
     {
@@ -355,14 +419,15 @@ impl HandleTable {
         ensures row { result ≡ ok_or (row_in self.old.rows h) (not_live h) }
         ensures rows { self.new.rows ≡ without h self.old.rows }
         ensures made { self.new.made ≡ self.old.made }
+        ensures last { self.new.last ≡ self.old.last }
         ensures room { self.new.room ≡ self.old.room }
         ensures err { OnErr result (self.new ≡ self.old) }
         ensures rising { IsRising self.new }
     {
-        let Some(row) = self.row(h) else {
+        let Some((name, row)) = look_up(self.names.as_slice(), self.slots.as_slice(), h) else {
             return Err(NotLive { h });
         };
-        remove_row(&mut self.slots, &mut self.heads, h);
+        remove_row(&mut self.slots, &mut self.heads, name.place);
         self.live -= 1;
         Ok(row)
     }
@@ -382,54 +447,156 @@ impl HandleTable {
         self.live == 0
     }
 
-    /// A number below which no handle is in the table. [`HandleTable::move_on`] moves it on; how near it comes to the first one there is no promise.
-    pub fn oldest(&self) -> u32
-        ensures below { (h : HNum) → h.0 < result → row_in self.now.rows h ≡ None }
-        ensures one { 1 ≤ result }
-        ensures most { result ≤ self.now.made + 1 }
+    /// Drops the holes from the list of names, so that [`HandleTable::nth`] may be called: in the life of a table each number is dropped
+    /// once. It takes no memory, and what it reads beside the holes is the rows.
+    pub fn settle(&mut self)
+        ensures { self.new ≡ record self.old { holes = 0 } }
     {
-        self.gone + 1
+        drop_holes(&mut self.names, self.slots.as_slice());
     }
 
-    /// Moves [`HandleTable::oldest`] on past the handles that were released: in the life of a table each is passed once.
-    pub fn move_on(&mut self)
-        ensures { self.new ≡ self.old }
+    /// The row at a place of the list of all rows, which is sorted by number. No hole is left in the table.
+    pub fn nth(&self, i: u32) -> HandleRow
+        requires settled { self.now.holes ≡ 0 }
+        requires within { i < length self.now.rows }
+        ensures { slice_get self.now.rows i ≡ Some result }
     {
-        let mut gone = self.gone;
-        while gone < self.made() && self.row(HNum(gone + 1)).is_none() {
-            gone += 1;
-        }
-        self.gone = gone;
+        let name = self.names[i as usize];
+        let Some(row) = named(self.slots.as_slice(), name) else {
+            unreachable!();
+        };
+        row
     }
 
-    /// How many handles were ever made: the number of the last one. At most 65,535.
+    /// How many handles `make` made. At most 65,535.
     pub fn made(&self) -> u32
         ensures made { result ≡ self.now.made }
         ensures most { result ≤ 65535 }
-        ensures rising { IsRising self.now }
     {
         self.slots.len() as u32
     }
-}
 
-// The slot of a handle, if one was made under this number.
-fn find(slots: &[Slot], h: HNum) -> Option<Slot>
-    ensures { result ≡ slot_of slots.now h }
-{
-    if h.0 == 0 {
-        return None;
+    /// The greatest number that was given, 0 if none.
+    pub fn last(&self) -> u32
+        ensures last { result ≡ self.now.last }
+        ensures rising { IsRising self.now }
+    {
+        self.last
     }
-    slots.get(h.0 as usize - 1).copied()
 }
 
-// Changes or removes the row in the slot of a handle.
-fn set_row(slots: &mut Vec<Slot>, h: HNum, row: Option<Kept>)
-    requires one { 1 ≤ h.0 }
-    requires within { h.0 ≤ length slots.old.items }
-    ensures items { slots.new.items ≡ with_row slots.old.items (h.0 - 1) row }
+// The name and the row of a number, if it is in the table.
+fn look_up(names: &[Name], slots: &[Slot], h: HNum) -> Option<(Name, HandleRow)>
+    requires { (high : ℕ) × NamesRise 0 high names.now }
+    ensures some { (e : Name) (r : HandleRow) → result ≡ Some (e, r) → (name_in names.now h ≡ Some e) × (row_in (rows_of slots.now names.now) h ≡ Some r) }
+    ensures none { result ≡ None → row_in (rows_of slots.now names.now) h ≡ None }
+{
+    let name = find(names, h)?;
+    let row = named(slots, name)?;
+    Some((name, row))
+}
+
+// The name of a number, if it is among these, which are sorted by number. It goes by halves, from the span where the number can stand.
+fn find(names: &[Name], h: HNum) -> Option<Name>
+    requires { (high : ℕ) × NamesRise 0 high names.now }
+    ensures { result ≡ name_in names.now h }
+{
+    let (mut low, mut high) = span(names, h);
+    while low < high {
+        let middle = low + (high - low) / 2;
+        let name = names[middle];
+        if name.number == h.0 {
+            return Some(name);
+        }
+        if name.number < h.0 {
+            low = middle + 1;
+        } else {
+            high = middle;
+        }
+    }
+    None
+}
+
+// The span where the name of a number can stand, from this place on and below that one: numbers rise by one at least from name to name,
+// so it stands neither further from the first name than its number, nor further from the last. Where no number is left out between the first and
+// the last, that is one place, and else one more for each that is.
+fn span(names: &[Name], h: HNum) -> (usize, usize)
+    requires { (high : ℕ) × NamesRise 0 high names.now }
+    ensures order { result.0 ≤ result.1 }
+    ensures within { result.1 ≤ length names.now }
+    ensures below { (i : ℕ) (e : Name) → i < result.0 → slice_get names.now i ≡ Some e → e.number < h.0 }
+    ensures above { (i : ℕ) (e : Name) → result.1 ≤ i → slice_get names.now i ≡ Some e → h.0 < e.number }
+{
+    let len = names.len();
+    if len == 0 {
+        return (0, 0);
+    }
+    let first = names[0].number;
+    if h.0 < first {
+        return (0, 0);
+    }
+    let last = names[len - 1].number;
+    if last < h.0 {
+        return (len, len);
+    }
+    let behind = (h.0 - first) as usize;
+    let before = (last - h.0) as usize;
+    let low = (len - 1).saturating_sub(before);
+    let high = len - (len - 1).saturating_sub(behind);
+    (low, high)
+}
+
+// The row that a name leads to.
+fn named(slots: &[Slot], name: Name) -> Option<HandleRow>
+    ensures { result ≡ named_row slots.now name }
+{
+    let slot = slots.get(name.place as usize).copied()?;
+    slot.row(name.number)
+}
+
+// Takes room for two names for each of so many places.
+fn reserve_names(names: &mut Vec<Name>, places: usize) -> Result<(), AllocError>
+    requires few { length names.old.items ≤ 2 * places }
+    requires places { places ≤ 4295032830 }
+    ensures items { names.new.items ≡ names.old.items }
+    ensures room { OnOk result (2 * places ≤ vec_capacity names.new) }
+    ensures capacity { vec_capacity names.old ≤ vec_capacity names.new }
+    ensures reserved { 2 * places ≤ vec_capacity names.old → IsOk result }
+{
+    names.reserve(2 * places - names.len())
+}
+
+// Leaves just the names that lead to a row.
+fn drop_holes(names: &mut Vec<Name>, slots: &[Slot])
+    ensures items { names.new.items ≡ filter (is_named slots.now) names.old.items }
+    ensures capacity { vec_capacity names.new ≡ vec_capacity names.old }
+{
+    names.retain(|name| named(slots, *name).is_some());
+}
+
+// Makes sure that one more name is within two for each place: where it isn't, the holes are dropped.
+fn make_gap(names: &mut Vec<Name>, slots: &[Slot])
+    requires few { length names.old.items ≤ 2 * length slots.now }
+    requires rows { length (rows_of slots.now names.old.items) < 2 * length slots.now }
+    ensures gap { length names.new.items < 2 * length slots.now }
+    ensures rows { rows_of slots.now names.new.items ≡ rows_of slots.now names.old.items }
+    ensures rise { (high : ℕ) → NamesRise 0 high names.old.items → NamesRise 0 high names.new.items }
+    ensures found { (h : HNum) (e : Name) → name_in names.old.items h ≡ Some e → is_named slots.now e ≡ true → name_in names.new.items h ≡ Some e }
+    ensures placed { (n : ℕ) → ArePlaced n names.old.items → ArePlaced n names.new.items }
+    ensures capacity { vec_capacity names.new ≡ vec_capacity names.old }
+{
+    if names.len() == 2 * slots.len() {
+        drop_holes(names, slots);
+    }
+}
+
+// Changes or removes the row of a place.
+fn set_row(slots: &mut Vec<Slot>, place: u32, row: Option<Kept>)
+    requires { place < length slots.old.items }
+    ensures items { slots.new.items ≡ with_row slots.old.items place row }
     ensures capacity { vec_capacity slots.new ≡ vec_capacity slots.old }
 {
-    slots[h.0 as usize - 1].row = row;
+    slots[place as usize].row = row;
 }
 
 // Lets the slot of a number lead on to this one; at 0 there is no slot, and nothing is done.
@@ -457,20 +624,19 @@ fn set_previous(slots: &mut Vec<Slot>, at: u32, previous: u32)
     slots[at as usize - 1].previous = previous;
 }
 
-// Removes the row in the slot of a handle, and takes the slot off its chain, if it is on one. It takes no memory.
-fn remove_row(slots: &mut Vec<Slot>, heads: &mut Vec<u32>, h: HNum)
-    requires one { 1 ≤ h.0 }
-    requires within { h.0 ≤ length slots.old.items }
+// Removes the row of a place, and takes its slot off its chain, if it is on one. It takes no memory.
+fn remove_row(slots: &mut Vec<Slot>, heads: &mut Vec<u32>, place: u32)
+    requires within { place < length slots.old.items }
     requires chained { IsChained slots.old.items (head_in heads.old.items) }
     ensures chained { IsChained slots.new.items (head_in heads.new.items) }
-    ensures rows { rows_from 0 slots.new.items ≡ rows_from 0 (with_row slots.old.items (h.0 - 1) None) }
+    ensures rows { (names : List Name) → rows_of slots.new.items names ≡ rows_of (with_row slots.old.items place None) names }
     ensures len { length slots.new.items ≡ length slots.old.items }
     ensures capacity { vec_capacity slots.new ≡ vec_capacity slots.old }
     ensures heads_len { length heads.new.items ≡ length heads.old.items }
     ensures heads_capacity { vec_capacity heads.new ≡ vec_capacity heads.old }
 {
-    let slot = slots[h.0 as usize - 1];
-    set_row(slots, h, None);
+    let slot = slots[place as usize];
+    set_row(slots, place, None);
     if !slot.is_open() {
         return;
     }
