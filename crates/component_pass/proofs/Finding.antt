@@ -1,14 +1,13 @@
--- The list of what was found grows only by nodes that are reached, and has the rows of all that it went on
--- from. So in the end it is closed under the edges that the search takes, and what is reached is in it.
-use Rattle.std.proofs.Common.{◌≡◌, ◌↔◌, ℕ, suc, zero, ◌+◌, ◌<◌, ◌≤◌, Bool, true, false, List, [], ◌∷◌, ◌++◌, length, get_or, set, refl, sym, ◌∙◌, ap, subst, arith, inl, inr}
-use Rattle.std.proofs.lemmas.List.{length_push, length-append, length-set, get_or-set_same, get_or-set_other, get_or_append_left, get_or_past, get_or_default, append-nil, append_assoc}
-use Rattle.std.proofs.lemmas.List.Elements.{All-nil, All-push, All-weaker, All-contains, All-append, Contains-append_left, Contains-push}
+-- Edges and walks inside a class; and marks: the list of what was found grows by what is marked, each once.
+use Rattle.std.proofs.Common.{◌≡◌, ℕ, suc, zero, ◌+◌, ◌<◌, Bool, true, false, List, [], ◌∷◌, ◌++◌, length, get_or, set, refl, sym, ◌∙◌, subst, arith, inl, inr}
+use Rattle.std.proofs.lemmas.List.{length_push, length-set, get_or-set_same, get_or-set_other, get_or_past, append-nil, append_assoc}
+use Rattle.std.proofs.lemmas.List.Elements.{All-nil, All-push, All-weaker, Contains-append_left, Contains-push}
 use Rattle.std.proofs.lemmas.Bool.{cases_lt, cases_eq, true≢false}
 use Rattle.std.specs.List.{All, Contains}
 use Rattle.joint_model.specs.Walks.{Walks, Reaches, Mutual}
-use Rattle.joint_model.proofs.WalkLemmas.{Reaches-keeps, Reaches-self, Reaches-then, Reaches-trans}
+use Rattle.joint_model.proofs.WalkLemmas.{Reaches-then, Reaches-trans}
 use Rattle.bridge_graph.specs.Parts.{NodeLeads}
-use Rattle.component_pass.specs.Searching.{unmarked, AreMarked, Visits, FindsReached}
+use Rattle.component_pass.specs.Searching.{unmarked, AreMarked, Visits}
 
 -- an edge begins at a node
 pub leads_from : (edges : List (List ℕ)) (x y : ℕ) → NodeLeads edges x y → x < length edges
@@ -28,7 +27,7 @@ walk_inside edge step count x within takes u to (z ∷ rows) lt r m w back =
     w.1 back
 
 -- marking one node more
-unmarked-set : (marks : List Bool) (y : ℕ) → y < length marks → get_or marks y false ≡ false → unmarked (set marks y true) + 1 ≡ unmarked marks
+pub unmarked-set : (marks : List Bool) (y : ℕ) → y < length marks → get_or marks y false ≡ false → unmarked (set marks y true) + 1 ≡ unmarked marks
 unmarked-set [] y lt f = absurd (omega arith)
 unmarked-set (m ∷ marks) zero lt f = rw f (omega arith)
 unmarked-set (m ∷ marks) (suc y) lt f = omega (arith, unmarked-set marks y (omega (arith, lt)) f)
@@ -85,70 +84,4 @@ marked_none marks h = record {
   ];
   marked = All-nil (λ y. get_or marks y false ≡ true);
   count = omega (arith, unmarked-clear marks h);
-}
-
--- a list that has the start, only what is reached, and where each edge that is taken leads, is exact
-pub exact_from_closed : (step : ℕ → ℕ → Type 0) (start : ℕ) (found : List ℕ) → Contains found start → All (Reaches step start) found
-    → ((k y : ℕ) → k < length found → step (get_or found k 0) y → Contains found y) → (y : ℕ) → Contains found y ↔ Reaches step start y
-exact_from_closed step start found s r c y = (
-  λ h. All-contains (Reaches step start) found y r h,
-  λ h. Reaches-keeps step (Contains found) (λ u v e q. c q.0 v q.1 (subst (λ (w : ℕ). step w v) (sym (get_or_default found q.0 0 u q.1 ∙ q.2)) e)) start y h s,
-)
-
--- what the search keeps: the first nodes of the list are done
-pub record Searching (step : ℕ → ℕ → Type 0) (start : ℕ) (marks : List Bool) (found : List ℕ) (at : ℕ) : Type 0 where
-  pub marking : AreMarked marks found
-  pub done : at ≤ length found
-  pub sound : All (Reaches step start) found
-  pub closed : (k y : ℕ) → k < at → step (get_or found k 0) y → Contains found y
-  pub root : Contains found start
-
-pub search-first : (step : ℕ → ℕ → Type 0) (start : ℕ) (marks : List Bool) → start < length marks → All (λ m. m ≡ false) marks → Searching step start (set marks start true) (start ∷ []) 0
-search-first step start marks lt h = record {
-  marking = marked_more marks [] start lt (h start false lt) (marked_none marks h);
-  done = omega arith;
-  sound = All-push (Reaches step start) [] start (All-nil (Reaches step start)) (Reaches-self step start);
-  closed = λ k y lt. absurd (omega (arith, lt));
-  root = Contains-push [] start;
-}
-
-pub search-passed : (step : ℕ → ℕ → Type 0) (start : ℕ) (marks : List Bool) (found : List ℕ) (at x : ℕ) → at < length found → x ≡ get_or found at 0
-    → ((y : ℕ) → step x y → ⊥) → Searching step start marks found at → Searching step start marks found (at + 1)
-search-passed step start marks found at x lt e none s = record {
-  marking = s.marking;
-  done = omega arith;
-  sound = s.sound;
-  closed = λ k y h t. elim (cases_lt k at) [
-    | inl kl ↦ s.closed k y kl t
-    | inr ge ↦ let same : k ≡ at = omega (arith, h) in absurd (none y (subst (λ (u : ℕ). step u y) (ap (λ j. get_or found j 0) same ∙ sym e) t))
-  ];
-  root = s.root;
-}
-
-pub search-more : (step : ℕ → ℕ → Type 0) (start : ℕ) (marks marks' : List Bool) (found found' row : List ℕ) (at x : ℕ) → at < length found → x ≡ get_or found at 0
-    → ((y : ℕ) → Contains row y → step x y) → ((y : ℕ) → step x y → Contains row y)
-    → AreMarked marks' found' → Visits row found found' → Searching step start marks found at → Searching step start marks' found' (at + 1)
-search-more step start marks marks' found found' row at x lt e go row_of m v s =
-    let len = ap length v.appended ∙ length-append found v.more in
-    let same : (k : ℕ) → k < length found → get_or found' k 0 ≡ get_or found k 0 = λ k h. ap (λ (xs : List ℕ). get_or xs k 0) v.appended ∙ get_or_append_left found v.more 0 k h in
-    let grown : (y : ℕ) → Contains found y → Contains found' y = λ y c. subst (λ (xs : List ℕ). Contains xs y) (sym v.appended) (Contains-append_left found v.more y c) in
-    let reached : Reaches step start x = subst (λ (u : ℕ). Reaches step start u) (sym e) (s.sound at 0 lt) in
-    record {
-      marking = m;
-      done = omega (arith, len);
-      sound = subst (λ (xs : List ℕ). All (Reaches step start) xs) (sym v.appended)
-          (All-append (Reaches step start) found v.more s.sound (All-weaker (Contains row) (Reaches step start) (λ y c. Reaches-then step start x y reached (go y c)) v.more v.from_row));
-      closed = λ k y h t. elim (cases_lt k at) [
-        | inl kl ↦ grown y (s.closed k y kl (subst (λ (u : ℕ). step u y) (same k (omega arith)) t))
-        | inr ge ↦
-            let at_k : k ≡ at = omega (arith, h) in
-            All-contains (Contains found') row y v.whole (row_of y (subst (λ (u : ℕ). step u y) (ap (λ j. get_or found' j 0) at_k ∙ same at lt ∙ sym e) t))
-      ];
-      root = grown start s.root;
-    }
-
-pub search-found : (step : ℕ → ℕ → Type 0) (start : ℕ) (marks : List Bool) (found : List ℕ) (at : ℕ) → length found ≤ at → Searching step start marks found at → FindsReached step start marks found
-search-found step start marks found at ge s = record {
-  exact = λ y. exact_from_closed step start found s.root s.sound (λ k z lt t. s.closed k z (omega (arith, s.done)) t) y;
-  marking = s.marking;
 }

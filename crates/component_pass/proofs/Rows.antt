@@ -47,7 +47,7 @@ below-grouped nodes labels (suc n) =
 pub links-grouped : (nodes : List Node) (labels : List ℕ) → AreGrouped nodes labels (length nodes) (links_of nodes labels)
 links-grouped nodes labels = below-grouped nodes labels (length nodes)
 
-first-least : (xs : List ℕ) (y : ℕ) → Rises xs → Contains xs y → first_of xs ≤ y
+pub first-least : (xs : List ℕ) (y : ℕ) → Rises xs → Contains xs y → first_of xs ≤ y
 first-least [] y r c = absurd (omega (arith, c.1))
 first-least (x ∷ xs) y r c = elim (Contains-cons_cases x xs y c) [
   | inl e ↦ omega (arith, e)

@@ -1,23 +1,19 @@
 -- Lists of sets only grow, so sets that were exact for the classes so far stay so.
-use Rattle.std.proofs.Common.{◌≡◌, ◌↔◌, ℕ, ◌+◌, ◌<◌, ◌≤◌, List, [], ◌∷◌, ◌++◌, length, map, get_or, set, refl, sym, ◌∙◌, ap, subst, arith, inl, inr}
-use Rattle.std.proofs.lemmas.List.{length_push, length-map, length-set, get_or_append_left, get_or_default, get_or-set_same, get_or-set_other}
-use Rattle.std.proofs.lemmas.List.Elements.{All-nil, All-push, All-weaker, All-map, All-contains}
-use Rattle.std.proofs.lemmas.Bool.{cases_lt, cases_eq}
+use Rattle.std.proofs.Common.{◌≡◌, ◌↔◌, ◌⊎◌, ℕ, ◌+◌, ◌<◌, ◌≤◌, Bool, true, false, List, [], ◌∷◌, ◌++◌, length, min, get_or, set, refl, sym, ◌∙◌, ap, subst, arith, inl, inr}
+use Rattle.std.proofs.lemmas.List.{length_push, length-set, get_or_append_left, get_or_default, get_or-set_same, get_or-set_other}
+use Rattle.std.proofs.lemmas.List.Elements.{All-nil, All-push, All-weaker, All-contains}
+use Rattle.std.proofs.lemmas.Bool.{cases_lt, cases_eq, true≢false}
 use Rattle.std.specs.List.{All, Contains}
-use Rattle.joint_model.specs.Components.{Rises, first_of, first_at}
+use Rattle.joint_model.specs.Components.{Rises}
+use Rattle.joint_model.proofs.Members.{All-members}
 use Rattle.bridge_graph.specs.declared.graph.Node.{Node}
-use Rattle.bridge_graph.specs.declared.packing.Link.{Link}
-use Rattle.bridge_graph.specs.Parts.{IsBridgeNode, IsPart, row_at}
+use Rattle.bridge_graph.specs.Parts.{IsPart, row_at}
 use Rattle.component_pass.specs.Classes.{AreClasses, AreInOrder}
-use Rattle.component_pass.specs.Grouping.{AreGrouped, AreListed, group}
-use Rattle.component_pass.specs.Referring.{AreDestinations}
-use Rattle.component_pass.specs.Gathering.{AreSets, set_at}
-use Rattle.component_pass.specs.Sharing.{AreShared, AreReferred, ComesOut, Leaves, IsFound}
-use Rattle.component_pass.proofs.Crossing.{Setting, first_head}
+use Rattle.component_pass.specs.Counting.{IsCount}
+use Rattle.component_pass.specs.Gathering.{AreSets, Aims, Gathers, set_at}
+use Rattle.component_pass.specs.Sharing.{index_at, IsOpen, AreShared, AreCounted, AreThin, AreReferred, ComesOut, Leaves, IsFound}
 use Rattle.component_pass.proofs.Sets.{set-one, set-kept, set-rises, one_is}
-use Rattle.component_pass.proofs.Leaving.{flags_of, flags-plain, search_leaves, bridge_stays, plain_leaves}
-use Rattle.component_pass.proofs.Grouped.{group-members, group-has, bridge-below}
-use Rattle.xref_list.proofs.Comps.{few_rising}
+use Rattle.component_pass.proofs.Leaving.{closed_stays, open_leaves, aimed_leaves, gathers_sound, gathers_whole}
 
 -- a list more
 pub found-new : (sets : List ℕ) (lists : List (List ℕ)) (count numbers : ℕ) (union : List ℕ) → AreSets sets lists count numbers → Rises union → All (λ j. j < count) union
@@ -48,32 +44,197 @@ pub record Puts (class before after : List ℕ) (number : ℕ) : Type 0 where
   pub taken : All (λ x. get_or after x 0 ≡ number) class
   pub others : (x : ℕ) → (Contains class x → ⊥) → get_or after x 0 ≡ get_or before x 0
 
-module _ (nodes : List Node) (edges : List (List ℕ)) (labels : List ℕ) (links : List Link) (indexes : List ℕ) (rows : List (List ℕ)) (count own : ℕ)
+module _ (nodes : List Node) (edges : List (List ℕ)) (labels indexes : List ℕ) (rows : List (List ℕ)) (count own : ℕ)
     (o : AreInOrder edges (length nodes) labels rows) where
-  put_at : (before after : List ℕ) (number x : ℕ) → Puts (row_at rows own) before after number → x < length nodes → get_or labels x 0 ≡ own → get_or after x 0 ≡ number
+  pub put_at : (before after : List ℕ) (number x : ℕ) → Puts (row_at rows own) before after number → x < length nodes → get_or labels x 0 ≡ own → get_or after x 0 ≡ number
   put_at before after number x p lt is = All-contains (λ z. get_or after z 0 ≡ number) (row_at rows own) x p.taken ((o.members own x).1 (lt, is))
 
-  kept_at : (before after : List ℕ) (number x : ℕ) → Puts (row_at rows own) before after number → (get_or labels x 0 ≡ own → ⊥) → get_or after x 0 ≡ get_or before x 0
+  pub kept_at : (before after : List ℕ) (number x : ℕ) → Puts (row_at rows own) before after number → (get_or labels x 0 ≡ own → ⊥) → get_or after x 0 ≡ get_or before x 0
   kept_at before after number x p ne = p.others x (λ c. ne ((o.members own x).0 c).1)
 
   -- one class more
-  pub shared-more : (numbers found number : ℕ) (sets after : List ℕ) (lists more : List (List ℕ))
-      → AreShared edges (length nodes) labels links indexes count own sets lists → AreSets sets lists count (count + length lists) → IsFound sets lists more count numbers found
+  pub counted-more : (many left more_left numbers found number : ℕ) (sets after : List ℕ) (lists more : List (List ℕ)) → more_left ≤ left
+      → AreCounted edges (length nodes) labels indexes many left count own sets lists → AreSets sets lists count (count + length lists) → IsFound sets lists more count numbers found
       → Puts (row_at rows own) sets after number
-      → ((x j : ℕ) → x < length nodes → get_or labels x 0 ≡ own → Contains (set_at count more number) j ↔ ComesOut edges labels links indexes x j)
-      → AreShared edges (length nodes) labels links indexes count (own + 1) after more
-  shared-more numbers found number sets after lists more h a f p e = record {
+      → ((x j : ℕ) → x < length nodes → get_or labels x 0 ≡ own → Contains (set_at count more number) j → ComesOut edges labels indexes x j)
+      → ((x j : ℕ) → x < length nodes → get_or labels x 0 ≡ own → (length (set_at count more number) < many) ⊎ (0 < more_left) → ComesOut edges labels indexes x j → Contains (set_at count more number) j)
+      → AreCounted edges (length nodes) labels indexes many more_left count (own + 1) after more
+  counted-more many left more_left numbers found number sets after lists more less h a f p s w =
+      let old_set : (x : ℕ) → x < length nodes → get_or labels x 0 < own → set_at count more (get_or after x 0) ≡ set_at count lists (get_or sets x 0) = λ x lt old.
+      ap (λ (k : ℕ). set_at count more k) (kept_at sets after number x p (λ is. absurd (omega (arith, is, old))))
+      ∙ set-kept count lists more (get_or sets x 0) (a.known x 0 (omega (arith, lt, h.size))) f.kept in
+      let new_set : (x : ℕ) → x < length nodes → get_or labels x 0 ≡ own → set_at count more (get_or after x 0) ≡ set_at count more number = λ x lt is.
+      ap (λ (k : ℕ). set_at count more k) (put_at sets after number x p lt is) in
+      record {
+        size = p.size ∙ h.size;
+        sound = λ x j lt below c. elim (cases_lt (get_or labels x 0) own) [
+          | inl old ↦ h.sound x j lt old (subst (λ (xs : List ℕ). Contains xs j) (old_set x lt old) c)
+          | inr ge ↦
+              let is : get_or labels x 0 ≡ own = omega (arith, ge, below) in
+              s x j lt is (subst (λ (xs : List ℕ). Contains xs j) (new_set x lt is) c)
+        ];
+        all = λ x j lt below few t. elim (cases_lt (get_or labels x 0) own) [
+          | inl old ↦
+              let e = old_set x lt old in
+              subst (λ (xs : List ℕ). Contains xs j) (sym e) (h.all x j lt old (elim few [ inl f ↦ inl (omega (arith, f, ap length e)) | inr l ↦ inr (omega (arith, l, less)) ]) t)
+          | inr ge ↦
+              let is : get_or labels x 0 ≡ own = omega (arith, ge, below) in
+              let e = new_set x lt is in
+              subst (λ (xs : List ℕ). Contains xs j) (sym e) (w x j lt is (elim few [ inl f ↦ inl (omega (arith, f, ap length e)) | inr l ↦ inr l ]) t)
+        ];
+        rest = λ x lt above. kept_at sets after number x p (λ is. absurd (omega (arith, is, above))) ∙ h.rest x lt (omega (arith, above));
+      }
+
+  -- a class with an index has the set of that alone
+  pub own-counted : (many : ℕ) (lists : List (List ℕ)) → IsPart nodes edges → AreClasses edges (length nodes) labels → get_or indexes own 0 < count → count ≤ 65535
+      → ((x j : ℕ) → x < length nodes → get_or labels x 0 ≡ own → Contains (set_at count lists (get_or indexes own 0)) j ↔ ComesOut edges labels indexes x j)
+  own-counted many lists part cl below few x j lt is =
+      let at : index_at labels indexes x ≡ get_or indexes own 0 = ap (λ (l : ℕ). get_or indexes l 0) is in
+      let b = closed_stays nodes edges labels indexes part cl x j (λ z. absurd (omega (arith, z, at, below, few))) in
+      let i = one_is (get_or indexes own 0) j in
+      rw (set-one count lists (get_or indexes own 0) below) ((λ c. b.1 (at ∙ i.0 c)), (λ t. i.1 (sym at ∙ b.0 t)))
+
+  -- a set that an edge of the class leads to has only what leaves it
+  pub full-leaves : (many left number : ℕ) (sets : List ℕ) (lists : List (List ℕ)) → IsPart nodes edges → AreClasses edges (length nodes) labels
+      → AreCounted edges (length nodes) labels indexes many left count own sets lists → row_at lists 0 ≡ [] → Aims edges sets (row_at rows own) number
+      → (j : ℕ) → Contains (set_at count lists number) j → Leaves edges (length nodes) labels indexes own j
+  full-leaves many left number sets lists part cl h none a j c =
+      aimed_leaves nodes edges labels indexes part cl rows sets lists count own number j o h.sound h.rest none a c
+
+  -- and where each of them has all, exactly their union does
+  pub union-leaves : (many left : ℕ) (sets : List ℕ) (lists : List (List ℕ)) (union : List ℕ) → IsPart nodes edges → AreClasses edges (length nodes) labels
+      → AreCounted edges (length nodes) labels indexes many left count own sets lists → row_at lists 0 ≡ []
+      → ((k : ℕ) → Aims edges sets (row_at rows own) k → (length (set_at count lists k) < many) ⊎ (0 < left))
+      → ((j : ℕ) → Contains union j ↔ Gathers edges sets lists count (row_at rows own) j)
+      → (j : ℕ) → Contains union j ↔ Leaves edges (length nodes) labels indexes own j
+  union-leaves many left sets lists union part cl h none small e j = (
+    (λ c. gathers_sound nodes edges labels indexes part cl rows sets lists count own j o h.sound h.rest none ((e j).0 c)),
+    (λ t. (e j).1 (gathers_whole nodes edges labels indexes part cl rows sets lists count own j o
+        (λ u v k m d before out. h.all v k (part.in_range u v d) before (small (get_or sets v 0) (u, m, (v, d, refl))) out) t)),
+  )
+
+  -- a class without an index hands on what leaves it
+  pub bare-out : IsPart nodes edges → AreClasses edges (length nodes) labels → get_or indexes own 0 ≡ 4294967295
+      → (x j : ℕ) → x < length nodes → get_or labels x 0 ≡ own → ComesOut edges labels indexes x j ↔ Leaves edges (length nodes) labels indexes own j
+  bare-out part cl bare x j lt is =
+      subst (λ (k : ℕ). ComesOut edges labels indexes x j ↔ Leaves edges (length nodes) labels indexes k j) is
+      (open_leaves nodes edges labels indexes part cl x j lt (ap (λ (k : ℕ). get_or indexes k 0) is ∙ bare))
+
+  -- the size of a set that has only what leaves the class, and all of it where it has fewer than so many, counts that
+  pub leaves-count : (many left number : ℕ) (lists : List (List ℕ)) → All Rises lists → number < count + length lists
+      → ((j : ℕ) → Contains (set_at count lists number) j → Leaves edges (length nodes) labels indexes own j)
+      → ((j : ℕ) → (length (set_at count lists number) < many) ⊎ (0 < left) → Leaves edges (length nodes) labels indexes own j → Contains (set_at count lists number) j)
+      → IsCount (Leaves edges (length nodes) labels indexes own) many (min (length (set_at count lists number)) many)
+  leaves-count many left number lists rising known s w = record {
+    named = set_at count lists number;
+    rise = set-rises lists count number rising known;
+    hold = All-members (Leaves edges (length nodes) labels indexes own) (set_at count lists number) s;
+    least = omega arith;
+    most = λ few. omega (arith, few);
+    whole = λ few j t. w j (inl (omega (arith, few))) t;
+  }
+
+  -- the counts of one class more
+  pub counts-more : (many n : ℕ) (counts : List ℕ) → own < length counts → IsCount (Leaves edges (length nodes) labels indexes own) many n
+      → ((l : ℕ) → l < own → IsCount (Leaves edges (length nodes) labels indexes l) many (get_or counts l 0))
+      → (l : ℕ) → l < own + 1 → IsCount (Leaves edges (length nodes) labels indexes l) many (get_or (set counts own n) l 0)
+  counts-more many n counts small k h l lt = elim (cases_eq l own) [
+    | inl is ↦ rw (is, get_or-set_same counts own n 0 small) k
+    | inr ne ↦ rw (get_or-set_other counts own l n 0 ne) (h l (omega (arith, lt, ne)))
+  ]
+
+  -- one class more that isn't thin
+  pub shared-more : (thin : List Bool) (numbers found number : ℕ) (sets after : List ℕ) (lists more : List (List ℕ))
+      → AreShared edges (length nodes) labels indexes thin count own sets lists → AreSets sets lists count (count + length lists) → IsFound sets lists more count numbers found
+      → Puts (row_at rows own) sets after number
+      → ((x j : ℕ) → x < length nodes → get_or labels x 0 ≡ own → Contains (set_at count more number) j ↔ ComesOut edges labels indexes x j)
+      → ((x : ℕ) → x < length nodes → get_or labels x 0 ≡ own → get_or thin x false ≡ true → ⊥)
+      → AreShared edges (length nodes) labels indexes thin count (own + 1) after more
+  shared-more thin numbers found number sets after lists more h a f p e thick = record {
     size = p.size ∙ h.size;
-    exact = λ x j lt below. elim (cases_lt (get_or labels x 0) own) [
+    exact = λ x j lt below t. elim (cases_lt (get_or labels x 0) own) [
       | inl old ↦
           let known : get_or sets x 0 < count + length lists = a.known x 0 (omega (arith, lt, h.size)) in
-          rw (kept_at sets after number x p (λ is. absurd (omega (arith, is, old))), set-kept count lists more (get_or sets x 0) known f.kept) (h.exact x j lt old)
+          rw (kept_at sets after number x p (λ is. absurd (omega (arith, is, old))), set-kept count lists more (get_or sets x 0) known f.kept) (h.exact x j lt old t)
       | inr ge ↦
           let is : get_or labels x 0 ≡ own = omega (arith, ge, below) in
           rw (put_at sets after number x p lt is) (e x j lt is)
     ];
-    rest = λ x lt above. kept_at sets after number x p (λ is. absurd (omega (arith, is, above))) ∙ h.rest x lt (omega (arith, above));
+    rest = λ x lt above. elim (cases_eq (get_or labels x 0) own) [
+      | inl is ↦ absurd (elim above [ inl g ↦ omega (arith, is, g) | inr t ↦ thick x lt is t ])
+      | inr ne ↦ kept_at sets after number x p ne ∙ h.rest x lt (elim above [ inl g ↦ inl (omega (arith, g)) | inr t ↦ inr t ])
+    ];
   }
+
+  -- one thin class more
+  pub shared-thin : (thin : List Bool) (sets : List ℕ) (lists : List (List ℕ)) → AreShared edges (length nodes) labels indexes thin count own sets lists
+      → ((x : ℕ) → x < length nodes → get_or labels x 0 ≡ own → get_or thin x false ≡ true) → AreShared edges (length nodes) labels indexes thin count (own + 1) sets lists
+  shared-thin thin sets lists h t = record {
+    size = h.size;
+    exact = λ x j lt below f. elim (cases_lt (get_or labels x 0) own) [
+      | inl old ↦ h.exact x j lt old f
+      | inr ge ↦ absurd (true≢false (sym (t x lt (omega (arith, ge, below))) ∙ f))
+    ];
+    rest = λ x lt above. h.rest x lt (elim above [ inl g ↦ inl (omega (arith, g)) | inr u ↦ inr u ]);
+  }
+
+  -- a class without an index that isn't thin hands on what leaves it
+  pub union-shared : (thin : List Bool) (sets : List ℕ) (lists : List (List ℕ)) (union : List ℕ) → IsPart nodes edges → AreClasses edges (length nodes) labels
+      → AreThin (length nodes) labels indexes thin → get_or indexes own 0 ≡ 4294967295 → AreShared edges (length nodes) labels indexes thin count own sets lists → row_at lists 0 ≡ []
+      → ((j : ℕ) → Contains union j ↔ Leaves edges (length nodes) labels indexes own j)
+      → ((x j : ℕ) → x < length nodes → get_or labels x 0 ≡ own → Contains union j ↔ ComesOut edges labels indexes x j)
+  union-shared thin sets lists union part cl th bare h none e x j lt is =
+      let l = subst (λ (k : ℕ). ComesOut edges labels indexes x j ↔ Leaves edges (length nodes) labels indexes k j) is
+      (open_leaves nodes edges labels indexes part cl x j lt (ap (λ (k : ℕ). get_or indexes k 0) is ∙ bare)) in
+      ((λ c. l.1 ((e j).0 c)), (λ t. (e j).1 (l.0 t)))
+
+  pub referred-none : (numbers : ℕ) (refs : List ℕ) (lists : List (List ℕ)) → length refs ≡ count → AreReferred (length nodes) edges labels indexes count 0 numbers refs lists
+  referred-none numbers refs lists size = record { size = size; known = λ x lt c h. absurd (omega (arith, h)); exact = λ x j lt c h. absurd (omega (arith, h)) }
+
+  -- one class without an index more
+  pub referred-bare : (refs : List ℕ) (lists more : List (List ℕ)) → get_or indexes own 0 ≡ 4294967295
+      → length lists ≤ length more → ((k : ℕ) → k < length lists → row_at more k ≡ row_at lists k)
+      → AreReferred (length nodes) edges labels indexes count own (count + length lists) refs lists
+      → AreReferred (length nodes) edges labels indexes count (own + 1) (count + length more) refs more
+  referred-bare refs lists more bare longer kept h =
+      let before : (x : ℕ) → (IsOpen labels indexes x → ⊥) → get_or labels x 0 < own + 1 → get_or labels x 0 < own = λ x closed lt.
+      let ne : get_or labels x 0 ≡ own → ⊥ = λ is. closed (ap (λ (l : ℕ). get_or indexes l 0) is ∙ bare) in
+      omega (arith, lt, ne) in
+      record {
+        size = h.size;
+        known = λ x xl c lt. omega (arith, h.known x xl c (before x c lt), longer);
+        exact = λ x j xl c lt.
+            let l = before x c lt in
+            rw (set-kept count lists more (get_or refs (index_at labels indexes x) 0) (h.known x xl c l) kept) (h.exact x j xl c l);
+      }
+
+  -- one class with an index more
+  pub referred-more : (refs : List ℕ) (lists more : List (List ℕ)) (found : ℕ) → get_or indexes own 0 < count
+      → ((x : ℕ) → x < length nodes → (IsOpen labels indexes x → ⊥) → index_at labels indexes x ≡ get_or indexes own 0 → get_or labels x 0 ≡ own)
+      → length lists ≤ length more → ((k : ℕ) → k < length lists → row_at more k ≡ row_at lists k) → found < count + length more
+      → ((j : ℕ) → Contains (set_at count more found) j ↔ Leaves edges (length nodes) labels indexes own j)
+      → AreReferred (length nodes) edges labels indexes count own (count + length lists) refs lists
+      → AreReferred (length nodes) edges labels indexes count (own + 1) (count + length more) (set refs (get_or indexes own 0) found) more
+  referred-more refs lists more found index apart longer kept known exact h =
+      let at : ℕ = get_or indexes own 0 in
+      let refs' = set refs at found in
+      let here : (x : ℕ) → get_or labels x 0 ≡ own → get_or refs' (index_at labels indexes x) 0 ≡ found = λ x is.
+      ap (λ (l : ℕ). get_or refs' (get_or indexes l 0) 0) is ∙ get_or-set_same refs at found 0 (omega (arith, index, h.size)) in
+      let there : (x : ℕ) → x < length nodes → (IsOpen labels indexes x → ⊥) → get_or labels x 0 < own → get_or refs' (index_at labels indexes x) 0 ≡ get_or refs (index_at labels indexes x) 0 = λ x xl c lt.
+      get_or-set_other refs at (index_at labels indexes x) found 0 (λ e. absurd (omega (arith, apart x xl c e, lt))) in
+      record {
+        size = length-set refs at found ∙ h.size;
+        known = λ x xl c lt. elim (cases_lt (get_or labels x 0) own) [
+          | inl l ↦ omega (arith, there x xl c l, h.known x xl c l, longer)
+          | inr ge ↦ omega (arith, here x (omega (arith, ge, lt)), known)
+        ];
+        exact = λ x j xl c lt. elim (cases_lt (get_or labels x 0) own) [
+          | inl l ↦ rw (there x xl c l, set-kept count lists more (get_or refs (index_at labels indexes x) 0) (h.known x xl c l) kept) (h.exact x j xl c l)
+          | inr ge ↦
+              let is : get_or labels x 0 ≡ own = omega (arith, ge, lt) in
+              rw (here x is, is) (exact j)
+        ];
+      }
 
   pub sets-more : (numbers found number : ℕ) (sets after : List ℕ) (lists more : List (List ℕ)) → length sets ≡ length nodes → IsFound sets lists more count numbers found
       → Puts (row_at rows own) sets after number → number < numbers → AreSets after more count numbers
@@ -91,59 +252,6 @@ module _ (nodes : List Node) (edges : List (List ℕ)) (labels : List ℕ) (link
     none = f.valid.none;
   }
 
-  pub referred-none : (numbers : ℕ) (refs : List ℕ) (lists : List (List ℕ)) → length refs ≡ count → AreReferred nodes edges labels links indexes count 0 numbers refs lists
-  referred-none numbers refs lists size = record { size = size; known = λ b br lt. absurd (omega (arith, lt)); exact = λ b j br lt. absurd (omega (arith, lt)) }
-
-  -- one class without a bridge node more
-  pub referred-plain : (refs : List ℕ) (lists more : List (List ℕ)) → AreGrouped nodes labels (length nodes) links → length (group links own) ≡ 0
-      → length lists ≤ length more → ((k : ℕ) → k < length lists → row_at more k ≡ row_at lists k)
-      → AreReferred nodes edges labels links indexes count own (count + length lists) refs lists
-      → AreReferred nodes edges labels links indexes count (own + 1) (count + length more) refs more
-  referred-plain refs lists more g none longer kept h =
-      let before : (b : ℕ) → IsBridgeNode nodes b → get_or labels b 0 < own + 1 → get_or labels b 0 < own = λ b br lt.
-      let has = group-has nodes labels (length nodes) links b g (bridge-below nodes b br) br in
-      let ne : get_or labels b 0 ≡ own → ⊥ = λ is. absurd (omega (arith, has.1, ap (λ (l : ℕ). length (group links l)) is, none)) in
-      omega (arith, lt, ne) in
-      record {
-        size = h.size;
-        known = λ b br lt. omega (arith, h.known b br (before b br lt), longer);
-        exact = λ b j br lt.
-            let l = before b br lt in
-            rw (set-kept count lists more (get_or refs (get_or indexes (get_or labels b 0) 0) 0) (h.known b br l) kept) (h.exact b j br l);
-      }
-
-  -- one class with a bridge node more
-  pub referred-more : (refs : List ℕ) (lists more : List (List ℕ)) (found : ℕ) → get_or indexes own 0 < count
-      → ((b : ℕ) → IsBridgeNode nodes b → get_or indexes (get_or labels b 0) 0 ≡ get_or indexes own 0 → get_or labels b 0 ≡ own)
-      → length lists ≤ length more → ((k : ℕ) → k < length lists → row_at more k ≡ row_at lists k) → found < count + length more
-      → ((j : ℕ) → Contains (set_at count more found) j ↔ Leaves edges (length nodes) labels links indexes own j)
-      → AreReferred nodes edges labels links indexes count own (count + length lists) refs lists
-      → AreReferred nodes edges labels links indexes count (own + 1) (count + length more) (set refs (get_or indexes own 0) found) more
-  referred-more refs lists more found index apart longer kept known exact h =
-      let at : ℕ = get_or indexes own 0 in
-      let refs' = set refs at found in
-      let here : (b : ℕ) → get_or labels b 0 ≡ own → get_or refs' (get_or indexes (get_or labels b 0) 0) 0 ≡ found = λ b is.
-      ap (λ (l : ℕ). get_or refs' (get_or indexes l 0) 0) is ∙ get_or-set_same refs at found 0 (omega (arith, index, h.size)) in
-      let there : (b : ℕ) → IsBridgeNode nodes b → get_or labels b 0 < own → get_or refs' (get_or indexes (get_or labels b 0) 0) 0 ≡ get_or refs (get_or indexes (get_or labels b 0) 0) 0 = λ b br lt.
-      get_or-set_other refs at (get_or indexes (get_or labels b 0) 0) found 0 (λ e. absurd (omega (arith, apart b br e, lt))) in
-      record {
-        size = length-set refs at found ∙ h.size;
-        known = λ b br lt. elim (cases_lt (get_or labels b 0) own) [
-          | inl l ↦ omega (arith, there b br l, h.known b br l, longer)
-          | inr ge ↦ omega (arith, here b (omega (arith, ge, lt)), known)
-        ];
-        exact = λ b j br lt. elim (cases_lt (get_or labels b 0) own) [
-          | inl l ↦ rw (there b br l, set-kept count lists more (get_or refs (get_or indexes (get_or labels b 0) 0) 0) (h.known b br l) kept) (h.exact b j br l)
-          | inr ge ↦
-              let is : get_or labels b 0 ≡ own = omega (arith, ge, lt) in
-              rw (here b is, is) (exact j)
-        ];
-      }
-
-pub shared-none : (edges : List (List ℕ)) (nodes : ℕ) (labels : List ℕ) (links : List Link) (indexes : List ℕ) (count : ℕ) (sets : List ℕ) (lists : List (List ℕ))
-    → length sets ≡ nodes → All (λ s. s ≡ count) sets → AreShared edges nodes labels links indexes count 0 sets lists
-shared-none edges nodes labels links indexes count sets lists size all = record { size = size; exact = λ x j lt h. absurd (omega (arith, h)); rest = λ x lt h. all x 0 (omega (arith, lt, size)) }
-
 pub sets-none : (count : ℕ) (sets : List ℕ) → All (λ s. s ≡ count) sets → AreSets sets ([] ∷ []) count (count + 1)
 sets-none count sets all = record {
   all = omega arith;
@@ -154,76 +262,15 @@ sets-none count sets all = record {
   none = refl;
 }
 
-pub setting_of : (nodes : List Node) (edges : List (List ℕ)) (labels : List ℕ) (links : List Link) (comps : List (List ℕ)) (indexes : List ℕ)
-    → IsPart nodes edges → AreClasses edges (length nodes) labels → AreGrouped nodes labels (length nodes) links → AreListed nodes labels links (length nodes) comps indexes
-    → Setting nodes edges labels (flags_of (length nodes) labels links) links comps indexes
-setting_of nodes edges labels links comps indexes part cl g l =
-    record { part = part; classes = cl; grouped = g; plain = flags-plain nodes edges labels links cl g; listed = l }
-
--- what leaves the class of a node are its destinations
-pub destinations_of : (nodes : List Node) (edges : List (List ℕ)) (labels : List ℕ) (links : List Link) (indexes : List ℕ) (x : ℕ) (outs : List ℕ)
-    → IsPart nodes edges → AreClasses edges (length nodes) labels → x < length nodes → Rises outs
-    → ((j : ℕ) → Contains outs j ↔ Leaves edges (length nodes) labels links indexes (get_or labels x 0) j)
-    → AreDestinations edges (flags_of (length nodes) labels links) labels indexes (get_or labels x 0) x outs
-destinations_of nodes edges labels links indexes x outs part cl lt r h = record {
-  rising = r;
-  exact = λ j.
-      let l = search_leaves nodes edges labels links indexes part cl x j lt in (
-        (λ c. l.1 ((h j).0 c)),
-        (λ c. (h j).1 (l.0 c)),
-      );
+pub counted-none : (edges : List (List ℕ)) (nodes : ℕ) (labels indexes : List ℕ) (many left count : ℕ) (sets : List ℕ) (lists : List (List ℕ))
+    → length sets ≡ nodes → All (λ s. s ≡ count) sets → AreCounted edges nodes labels indexes many left count 0 sets lists
+counted-none edges nodes labels indexes many left count sets lists size all = record {
+  size = size;
+  sound = λ x j lt h. absurd (omega (arith, h));
+  all = λ x j lt h. absurd (omega (arith, h));
+  rest = λ x lt h. all x 0 (omega (arith, lt, size));
 }
 
--- the set kept for a component has the destinations of its first member
-pub referred-destinations : (nodes : List Node) (edges : List (List ℕ)) (labels : List ℕ) (links : List Link) (comps : List (List ℕ)) (indexes : List ℕ) (count : ℕ) (rows : List (List ℕ)) (refs : List ℕ) (lists : List (List ℕ)) (i : ℕ)
-    → Setting nodes edges labels (flags_of (length nodes) labels links) links comps indexes → AreInOrder edges (length nodes) labels rows
-    → AreReferred nodes edges labels links indexes count (length rows) (count + length lists) refs lists → All Rises lists → i < length comps
-    → (get_or refs i 0 < count + length lists) × AreDestinations edges (flags_of (length nodes) labels links) labels indexes (get_or labels (first_at comps i) 0) (first_at comps i) (set_at count lists (get_or refs i 0))
-referred-destinations nodes edges labels links comps indexes count rows refs lists i s o r rising lt =
-    let h = first_head nodes edges labels (flags_of (length nodes) labels links) links comps indexes s i lt in
-    let x : ℕ = first_at comps i in
-    let below = o.labelled x h.0 in
-    let at : get_or refs (get_or indexes (get_or labels x 0) 0) 0 ≡ get_or refs i 0 = ap (λ (k : ℕ). get_or refs k 0) h.3 in
-    let known : get_or refs i 0 < count + length lists = omega (arith, r.known x h.1 below, at) in (
-      known,
-      destinations_of nodes edges labels links indexes x (set_at count lists (get_or refs i 0)) s.part s.classes h.0 (set-rises lists count (get_or refs i 0) rising known)
-          (λ j. subst (λ (k : ℕ). Contains (set_at count lists k) j ↔ Leaves edges (length nodes) labels links indexes (get_or labels x 0) j) at (r.exact x j h.1 below)),
-    )
-
--- a class with a bridge node has the set of its component
-pub own-set : (nodes : List Node) (edges : List (List ℕ)) (labels : List ℕ) (links : List Link) (indexes : List ℕ) (count own : ℕ) (lists : List (List ℕ))
-    → IsPart nodes edges → AreClasses edges (length nodes) labels → AreGrouped nodes labels (length nodes) links → ((b : ℕ) → IsBridgeNode nodes b → get_or indexes (get_or labels b 0) 0 < count)
-    → 0 < length (group links own)
-    → (get_or indexes own 0 < count)
-    × ((x j : ℕ) → x < length nodes → get_or labels x 0 ≡ own → Contains (set_at count lists (get_or indexes own 0)) j ↔ ComesOut edges labels links indexes x j)
-own-set nodes edges labels links indexes count own lists part cl g below some =
-    let gr = group links own in
-    let m = group-members nodes labels (length nodes) links own g 0 0 some in
-    let lt : get_or indexes own 0 < count = subst (λ (l : ℕ). get_or indexes l 0 < count) m.1 (below (get_or gr 0 0) m.2) in (
-      lt,
-      λ x j xl is.
-          let b = bridge_stays nodes edges labels links indexes part cl x j (omega (arith, some, ap (λ (l : ℕ). length (group links l)) is)) in
-          let o = one_is (get_or indexes own 0) j in
-          let at = ap (λ (l : ℕ). get_or indexes l 0) is in
-          rw (set-one count lists (get_or indexes own 0) lt) ((λ c. b.1 (at ∙ o.0 c)), (λ t. o.1 (sym at ∙ b.0 t))),
-    )
-
--- a class without one hands on what leaves it
-pub plain-set : (nodes : List Node) (edges : List (List ℕ)) (labels : List ℕ) (links : List Link) (indexes : List ℕ) (own : ℕ) (set : List ℕ)
-    → IsPart nodes edges → AreClasses edges (length nodes) labels → length (group links own) ≡ 0
-    → ((j : ℕ) → Contains set j ↔ Leaves edges (length nodes) labels links indexes own j)
-    → (x j : ℕ) → x < length nodes → get_or labels x 0 ≡ own → Contains set j ↔ ComesOut edges labels links indexes x j
-plain-set nodes edges labels links indexes own set part cl none h x j lt is =
-    let p = subst (λ (l : ℕ). ComesOut edges labels links indexes x j ↔ Leaves edges (length nodes) labels links indexes l j) is
-    (plain_leaves nodes edges labels links indexes part cl x j lt (ap (λ (l : ℕ). length (group links l)) is ∙ none)) in
-    ((λ c. p.1 ((h j).0 c)), (λ c. (h j).1 (p.0 c)))
-
--- there are no more components than nodes
-pub few-components : (nodes : List Node) (labels : List ℕ) (links : List Link) (comps : List (List ℕ)) (indexes : List ℕ) → AreListed nodes labels links (length nodes) comps indexes
-    → length comps ≤ length nodes
-few-components nodes labels links comps indexes a =
-    omega (
-      arith,
-      length-map comps first_of,
-      few_rising (map first_of comps) 0 (length nodes) a.order (λ k d lt. omega arith) (All-map (λ x. x < length nodes) first_of comps a.before),
-    )
+pub shared-none : (edges : List (List ℕ)) (nodes : ℕ) (labels indexes : List ℕ) (thin : List Bool) (count : ℕ) (sets : List ℕ) (lists : List (List ℕ))
+    → length sets ≡ nodes → All (λ s. s ≡ count) sets → AreShared edges nodes labels indexes thin count 0 sets lists
+shared-none edges nodes labels indexes thin count sets lists size all = record { size = size; exact = λ x j lt h. absurd (omega (arith, h)); rest = λ x lt h. all x 0 (omega (arith, lt, size)) }

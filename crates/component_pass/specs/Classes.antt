@@ -9,12 +9,6 @@ pub record AreClasses (edges : List (List ℕ)) (count : ℕ) (labels : List ℕ
   pub small : All (λ l. l < count) labels
   pub exact : (x y : ℕ) → x < count → y < count → (slice_index labels x ≡ slice_index labels y) ↔ Mutual (NodeLeads edges) x y
 
--- the label of x is the least node that x reaches and that reaches x
-pub record IsLeast (edges : List (List ℕ)) (x l : ℕ) : Type 0 where
-  pub together : Mutual (NodeLeads edges) x l
-  pub below : l ≤ x
-  pub least : (y : ℕ) → y < l → Mutual (NodeLeads edges) x y → ⊥
-
 -- the classes are listed, the one with label c in row c, so that edges lead only to a row itself and to those before it
 pub record AreInOrder (edges : List (List ℕ)) (count : ℕ) (labels : List ℕ) (rows : List (List ℕ)) : Type 0 where
   pub few : length rows ≤ count

@@ -1,8 +1,8 @@
 pub mod Searching
 pub mod Classes
 pub mod Grouping
-pub mod Groups
 pub mod Sharing
 pub mod Gathering
-pub mod Referring
 pub mod Tarjan
+pub mod Counting
+pub mod Reporting

@@ -1,15 +1,5 @@
--- A search from one node, through some nodes only.
-use Rattle.std.specs.Prelude.{◌≡◌, ◌⊎◌, ◌↔◌, ℕ, ◌+◌, Bool, true, false, cond, List, [], ◌∷◌, ◌++◌, length, All, Contains, slice_index, slice_index_or}
-use Rattle.joint_model.specs.Walks.{Reaches}
-use Rattle.bridge_graph.specs.Parts.{NodeLeads}
-
--- the search goes on from x: x is marked as plain, or has the label of the search's own class
-abbrev pub Opens : List Bool → List ℕ → ℕ → ℕ → Type 0
-Opens plain labels own x = (slice_index_or plain x false ≡ true) ⊎ (slice_index labels x ≡ own)
-
--- an edge that the search takes
-abbrev pub Goes : List (List ℕ) → List Bool → List ℕ → ℕ → ℕ → ℕ → Type 0
-Goes edges plain labels own x y = Opens plain labels own x × NodeLeads edges x y
+-- Nodes that are found and marked.
+use Rattle.std.specs.Prelude.{◌≡◌, ℕ, ◌+◌, Bool, true, false, cond, List, [], ◌∷◌, ◌++◌, length, All, Contains, slice_index_or}
 
 -- how many nodes are not marked
 abbrev pub unmarked : List Bool → ℕ
@@ -28,8 +18,3 @@ pub record Visits (row before after : List ℕ) : Type 0 where
   pub appended : after ≡ before ++ more
   pub from_row : All (Contains row) more
   pub whole : All (Contains after) row
-
--- exactly the nodes that are reached from the start are listed and marked
-pub record FindsReached (step : ℕ → ℕ → Type 0) (start : ℕ) (marks : List Bool) (found : List ℕ) : Type 0 where
-  pub exact : (y : ℕ) → Contains found y ↔ Reaches step start y
-  pub marking : AreMarked marks found

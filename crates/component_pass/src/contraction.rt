@@ -1,16 +1,17 @@
 // From classes to components and cross-references.
 
-ghost use Rattle.std.specs.Prelude.{◌≡◌, length, IfOk};
+ghost use Rattle.std.specs.Prelude.{◌≡◌, ℕ, ◌<◌, ◌≤◌, [], List, length, IfOk, OnOk, slice_index};
 ghost use Rattle.joint_model.specs.Components.{IsContraction};
-ghost use Rattle.bridge_graph.specs.Parts.{IsBridgeNode, NodeLeads};
+ghost use Rattle.bridge_graph.specs.Parts.{IsBridgeNode, IsPart, NodeLeads};
 ghost use Rattle.component_pass.specs.Classes.{AreClasses, AreInOrder};
+ghost use Rattle.component_pass.specs.Counting.{CountsIn, CountsOut};
+ghost use Rattle.component_pass.specs.Grouping.{AreListed, group, links_of};
+ghost use Rattle.component_pass.specs.Reporting.{AreAllListed};
 
-use crate::groups::{group_bridges, list_components, plain_nodes};
+use crate::counting::count_reached;
+use crate::heaviness::{count_heavy, mark_thin, number_heavy};
 use crate::listing::{NO_COMPONENT, list_rows};
-use crate::lists::Lists;
-use crate::plain::plain_classes;
-use crate::references::list_references;
-use crate::sharing::share_references;
+use crate::sharing::{list_sets, share_references};
 use crate::tarjan::{StrongClasses, classes};
 use bridge_graph::DeadGraph;
 use std::alloc::{AllocError, Global};
@@ -18,67 +19,106 @@ use xref_list::{Components, ComponentsBuilder};
 
 /// The components of a dead part and the cross-references between them.
 ///
-/// Two bridge nodes are in one component exactly where each reaches the other. A pair of different
-/// components is listed exactly where some walk leads from the class of the first to the class of the
-/// second whose nodes between lie in classes without a bridge node. Answers `AllocError` only where there
-/// is no memory.
-///
-/// The time is linear in the nodes, the edges and the pairs that come out, but for this: where the edges of a
-/// class lead to several different sets of components, the elements of each of these sets are read once for
-/// that class, and the union is sorted.
+/// Two bridge nodes are in one component exactly where each reaches the other. Behind these components come the heavy
+/// classes, without members, by their least nodes. A pair of different ones is listed exactly where some walk leads from
+/// the class of the first to the class of the second whose nodes between lie in classes that aren't reported. Answers
+/// `AllocError` only where there is no memory.
 pub fn contract(alloc: Global, graph: &DeadGraph) -> Result<Components, AllocError>
-    ensures { IfOk result (λ c. IsContraction (IsBridgeNode graph.now.nodes) (NodeLeads graph.now.edges) c.comps c.pairs) }
+    ensures { IfOk result (λ c. (heavy : List ℕ) × (length heavy ≡ c.heavy) × IsContraction (IsBridgeNode graph.now.nodes) (NodeLeads graph.now.edges) c.comps heavy c.pairs) }
 {
-    let StrongClasses { mut labels, rows } = classes(alloc, graph)?;
-    from_rows(alloc, graph, &mut labels, &rows)
+    let found = classes(alloc, graph)?;
+    from_rows(alloc, graph, found)
 }
 
-/// The same by a search from every node, as the definition has it: slow, and there for comparison.
-pub fn plain_contract(alloc: Global, graph: &DeadGraph) -> Result<Components, AllocError>
-    ensures { IfOk result (λ c. IsContraction (IsBridgeNode graph.now.nodes) (NodeLeads graph.now.edges) c.comps c.pairs) }
-{
-    let labels = plain_classes(alloc, graph)?;
-    from_classes(alloc, graph, &labels)
-}
-
-// The components and cross-references, by a label for each node's class.
-fn from_classes(alloc: Global, graph: &DeadGraph, labels: &[u32]) -> Result<Components, AllocError>
-    requires { AreClasses graph.now.edges (length graph.now.nodes) labels.now }
-    ensures { IfOk result (λ c. IsContraction (IsBridgeNode graph.now.nodes) (NodeLeads graph.now.edges) c.comps c.pairs) }
-{
-    let groups = group_bridges(alloc, graph, labels)?;
-    let plain = plain_nodes(alloc, graph, labels, &groups)?;
-    let mut indexes = vec![in alloc; 0u32; graph.nodes() as usize]?;
-    let mut builder = ComponentsBuilder::new(alloc);
-    list_components(graph, labels, &groups, &mut indexes, &mut builder)?;
-    list_references(
-        alloc,
-        graph,
-        labels,
-        &groups,
-        &plain,
-        &indexes,
-        &mut builder,
-    )?;
-    builder.finish()
-}
-
-// The components and cross-references, by a label for each node's class and the classes in order. The
-// labels are spent.
+// The components and cross-references, from the classes in order.
 fn from_rows(
     alloc: Global,
     graph: &DeadGraph,
-    labels: &mut [u32],
-    rows: &Lists,
+    found: StrongClasses,
 ) -> Result<Components, AllocError>
-    requires classes { AreClasses graph.now.edges (length graph.now.nodes) labels.old }
-    requires order { AreInOrder graph.now.edges (length graph.now.nodes) labels.old rows.now }
-    ensures { IfOk result (λ c. IsContraction (IsBridgeNode graph.now.nodes) (NodeLeads graph.now.edges) c.comps c.pairs) }
+    requires classes { AreClasses graph.now.edges (length graph.now.nodes) found.labels.items }
+    requires order { AreInOrder graph.now.edges (length graph.now.nodes) found.labels.items found.rows }
+    ensures { IfOk result (λ c. (heavy : List ℕ) × (length heavy ≡ c.heavy) × IsContraction (IsBridgeNode graph.now.nodes) (NodeLeads graph.now.edges) c.comps heavy c.pairs) }
 {
-    let mut indexes = vec![in alloc; NO_COMPONENT; rows.len()]?;
+    let mut indexes = vec![in alloc; NO_COMPONENT; found.rows.len()]?;
     let mut builder = ComponentsBuilder::new(alloc);
     builder.reserve(graph.nodes(), graph.nodes())?;
-    list_rows(alloc, graph, labels, rows, &mut indexes, &mut builder)?;
-    share_references(alloc, graph, labels, rows, &indexes, &mut builder)?;
+    list_rows(
+        alloc,
+        graph,
+        &found.labels,
+        &found.rows,
+        &mut indexes,
+        &mut builder,
+    )?;
+    list_others(alloc, graph, found, &mut indexes, &mut builder)?;
     builder.finish()
+}
+
+// Lists the heavy classes, if there are some, and all cross-references, once the components are listed. Mostly none is
+// heavy, and what was found for the counts is all.
+fn list_others(
+    alloc: Global,
+    graph: &DeadGraph,
+    found: StrongClasses,
+    indexes: &mut [u32],
+    builder: &mut ComponentsBuilder,
+) -> Result<(), AllocError>
+    requires classes { AreClasses graph.now.edges (length graph.now.nodes) found.labels.items }
+    requires order { AreInOrder graph.now.edges (length graph.now.nodes) found.labels.items found.rows }
+    requires part { IsPart graph.now.nodes graph.now.edges }
+    requires indexes { length indexes.old ≡ length found.rows }
+    requires heavy { builder.old.heavy ≡ 0 }
+    requires empty { builder.old.pairs ≡ [] }
+    requires listed { AreListed graph.now.nodes found.labels.items (links_of graph.now.nodes found.labels.items) (length graph.now.nodes) builder.old.comps indexes.old }
+    requires plain { (l : ℕ) → l < length found.rows → length (group (links_of graph.now.nodes found.labels.items) l) ≡ 0 → slice_index indexes.old l ≡ 4294967295 }
+    ensures listed { OnOk result (AreAllListed graph.now.nodes graph.now.edges found.labels.items (length found.rows) builder.new.comps builder.new.heavy builder.new.pairs) }
+{
+    let count = builder.len();
+    let reached = count_reached(alloc, graph, &found, indexes, count)?;
+    let ins = count_heavy(
+        alloc,
+        graph,
+        &found,
+        indexes,
+        &reached.counts,
+        count,
+        reached.left == 0,
+    )?;
+    match ins {
+        Some(ins) => list_heavy(alloc, graph, found, &reached.counts, &ins, indexes, builder),
+        None => list_sets(count, &reached.refs, &reached.lists, builder),
+    }
+}
+
+// Lists the heavy classes by the counts on either side, and all cross-references.
+fn list_heavy(
+    alloc: Global,
+    graph: &DeadGraph,
+    found: StrongClasses,
+    outs: &[u8],
+    ins: &[u32],
+    indexes: &mut [u32],
+    builder: &mut ComponentsBuilder,
+) -> Result<(), AllocError>
+    requires classes { AreClasses graph.now.edges (length graph.now.nodes) found.labels.items }
+    requires order { AreInOrder graph.now.edges (length graph.now.nodes) found.labels.items found.rows }
+    requires part { IsPart graph.now.nodes graph.now.edges }
+    requires indexes { length indexes.old ≡ length found.rows }
+    requires heavy { builder.old.heavy ≡ 0 }
+    requires empty { builder.old.pairs ≡ [] }
+    requires listed { AreListed graph.now.nodes found.labels.items (links_of graph.now.nodes found.labels.items) (length graph.now.nodes) builder.old.comps indexes.old }
+    requires plain { (l : ℕ) → l < length found.rows → length (group (links_of graph.now.nodes found.labels.items) l) ≡ 0 → slice_index indexes.old l ≡ 4294967295 }
+    requires few { length builder.old.comps ≤ 65535 }
+    requires outs { length outs.now ≡ length found.rows }
+    requires ins { length ins.now ≡ length found.rows }
+    requires led_to { CountsOut graph.now.edges (length graph.now.nodes) found.labels.items indexes.old (length found.rows) outs.now }
+    requires lead_in { CountsIn graph.now.edges (length graph.now.nodes) found.labels.items indexes.old outs.now ins.now }
+    ensures listed { OnOk result (AreAllListed graph.now.nodes graph.now.edges found.labels.items (length found.rows) builder.new.comps builder.new.heavy builder.new.pairs) }
+{
+    number_heavy(&found.labels, outs, ins, indexes, builder)?;
+    let mut thin = vec![in alloc; false; graph.nodes() as usize]?;
+    mark_thin(&found.labels, outs, ins, indexes, &mut thin);
+    let StrongClasses { mut labels, rows } = found;
+    share_references(alloc, graph, &mut labels, &rows, indexes, &thin, builder)
 }

@@ -20,10 +20,11 @@
 // the lowest that its frame knows; and nodes whose class is complete lead only to such nodes. So the classes
 // come in an order in which edges lead only to a class itself and to those before it.
 //
-// Then the bridge nodes of each class are listed together, which gives the components, and each class gets
-// the set of the components that one comes to from it, in the order of the classes. A class with a bridge
-// node has its own component alone. A class without one has the union of the sets that its edges lead to,
-// and shares one of them where that is the union. With bridge nodes A, B, C and D, and plain nodes p to s,
+// Then the bridge nodes of each class are listed together, which gives the components. What is listed has an index.
+//
+// Each class gets the set of the indexes that one comes to from it, in the order of the classes. A class with an index has
+// that alone. A class without one has the union of the sets that its edges lead to, and shares one of them where that is
+// the union. With bridge nodes A, B, C and D, and plain nodes p to s,
 //
 //         A --> p --> q --> r --> C
 //                     ^     |
@@ -32,9 +33,16 @@
 // s has the set of D, r the new set of C and D, and q and p that same one. The cross-references of a
 // component are the union for its own class: here C and D for both A and B. `sharing` says what it costs.
 //
-// `plain_contract` computes the same as the definition says it, and is there for comparison.
+// The size of its set is how many components a class leads to. For each class without a bridge node that leads to three or more
+// it is counted how many lead into it, up to twenty: where both counts are at least three and their product is at least 60
+// the class is heavy. Mostly there is none, and then the sets give the cross-references. Where some are heavy, these are
+// listed as components without members, by their least nodes, and the sets are made again with their indexes; so they are
+// where the unions of large sets would take too long, since the first sets were cut then.
 //
-// Both only read the graph, and each makes the lists that it works with and lets them go: where there is no
+// In the second round a class without an index that fewer than three components lead into, though it leads to three or more,
+// is thin: it gets no set, and what leads into it goes through it to the sets behind it.
+//
+// The pass only reads the graph, and makes the lists that it works with and lets them go: where there is no
 // memory nothing of the caller's has changed, and what stands in those lists nobody reads.
 //
 // What is promised: for every graph the answer is the definition's one list of components and cross-references, or want of memory. The pass holds no
@@ -42,14 +50,14 @@
 #![tactic(auto)]
 
 mod contraction;
+mod counting;
 mod gathering;
-mod groups;
+mod heaviness;
+mod leading;
 mod listing;
 mod lists;
-mod plain;
-mod references;
 mod search;
 mod sharing;
 mod tarjan;
 
-pub use contraction::{contract, plain_contract};
+pub use contraction::contract;

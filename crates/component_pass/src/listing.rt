@@ -31,8 +31,10 @@ pub(crate) fn list_rows(
     requires indexes { length indexes.old ≡ length rows.now }
     requires unset { All (λ i. i ≡ 4294967295) indexes.old }
     requires empty { builder.old.comps ≡ [] }
+    requires heavy { builder.old.heavy ≡ 0 }
     ensures listed { OnOk result (AreListed graph.now.nodes labels.now (links_of graph.now.nodes labels.now) (length graph.now.nodes) builder.new.comps indexes.new) }
     ensures plain { OnOk result ((l : ℕ) → l < length rows.now → length (group (links_of graph.now.nodes labels.now) l) ≡ 0 → slice_index indexes.new l ≡ 4294967295) }
+    ensures heavy { builder.new.heavy ≡ 0 }
     ensures pairs { builder.new.pairs ≡ builder.old.pairs }
 {
     let mut members = Vec::new(alloc);
@@ -68,8 +70,10 @@ fn list_all(
     requires marks { length marks.old ≡ length graph.now.nodes }
     requires clear { All (λ m. m ≡ false) marks.old }
     requires empty { builder.old.comps ≡ [] }
+    requires heavy { builder.old.heavy ≡ 0 }
     ensures listed { OnOk result (AreListed graph.now.nodes labels.now (links_of graph.now.nodes labels.now) (length graph.now.nodes) builder.new.comps indexes.new) }
     ensures plain { OnOk result ((l : ℕ) → l < length rows.now → length (group (links_of graph.now.nodes labels.now) l) ≡ 0 → slice_index indexes.new l ≡ 4294967295) }
+    ensures heavy { builder.new.heavy ≡ 0 }
     ensures pairs { builder.new.pairs ≡ builder.old.pairs }
 {
     for x in 0..graph.nodes() {
@@ -136,10 +140,12 @@ fn list_members(
     requires rows { All (All (λ j. j < count)) rows.now }
     requires marks { length marks.old ≡ count }
     requires clear { All (λ m. m ≡ false) marks.old }
+    requires heavy { builder.old.heavy ≡ 0 }
     requires apart { All (λ m. AreDisjoint m members.now) builder.old.comps }
     requires after { All (λ m. All (λ y. first_of m < y) members.now) builder.old.comps }
     ensures index { IfOk result (λ i. i ≡ length builder.old.comps) }
     ensures comps { OnOk result (AddsOne builder.old.comps builder.new.comps members.now) }
+    ensures heavy { builder.new.heavy ≡ 0 }
     ensures pairs { builder.new.pairs ≡ builder.old.pairs }
     ensures clear { OnOk result (All (λ m. m ≡ false) marks.new) }
 {

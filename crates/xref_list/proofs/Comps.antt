@@ -1,6 +1,7 @@
 -- One component more: the flat lists stay cut into components, and the components stay in their order and
 -- apart. There are never more than 65,535, because first members rise and are below that.
 use Rattle.std.proofs.Common.{◌≡◌, ◌≢◌, ◌⊎◌, ℕ, suc, ◌+◌, ◌-◌, ◌<◌, ◌≤◌, Bool, List, [], ◌∷◌, ◌++◌, length, map, get_or, Some, Result, Ok, Err, IfOk, OnOk, OnErr, refl, sym, subst, drop, append_assoc, drop-cons, add-one, ◌∙◌, ap, arith, inl, inr}
+use Rattle.std.proofs.lemmas.Bool.{lt-ltb, le-ltb}
 use Rattle.std.proofs.lemmas.List.{append-nil, drop_all, get_or_append_left, get_or-append_right, get_or-map, length_push, length-append, length-map, map_push, flat_map_more}
 use Rattle.std.proofs.lemmas.List.FromFn.{length-map-range_with_len}
 use Rattle.std.proofs.lemmas.List.Elements.{All-head, All-tail, All-push, All-map, All-weaker}
@@ -8,7 +9,8 @@ use Rattle.std.proofs.lemmas.List.Quantifiers.{all_pairs_push}
 use Rattle.std.proofs.lemmas.Option.{slice_get-get_or}
 use Rattle.std.specs.List.{All}
 use Rattle.std.specs.Prelude.{flat_map, slice_get}
-use Rattle.joint_model.specs.Components.{Rises, first_at, first_of, circle, circle_from, mirror_edges, PairsRise}
+use Rattle.joint_model.specs.Components.{Rises, first_at, first_of, circle, circle_from, between_nodes, end_at, mirror_edges, PairsRise}
+use Rattle.joint_model.specs.Components as exact
 use Rattle.joint_model.proofs.Members.{Rises-push}
 use Rattle.bridge_graph.specs.Packing.{packed_row, packed_rows}
 use Rattle.bridge_graph.proofs.Packs.{packed_rows-more, cut-more}
@@ -16,6 +18,9 @@ use Rattle.std.specs.declared.alloc.AllocError.{AllocError}
 use Rattle.xref_list.specs.declared.pairs.Added.{Added}
 use Rattle.xref_list.specs.declared.pairs.Added.TheVariants.{New, Old}
 use Rattle.xref_list.specs.Adding.{AddsPair}
+use Rattle.xref_list.specs.declared.components.End.{End}
+use Rattle.xref_list.specs.declared.components.End.TheVariants.{Node, Temp}
+use Rattle.xref_list.specs.Ends.{end_of, ends_of}
 use Rattle.xref_list.specs.Listing.{AreDisjoint, AreComponents, IsBetween, IsListing}
 use Rattle.xref_list.specs.Kept.{AreFlat, IsListingBegun}
 
@@ -69,21 +74,22 @@ flat_more members starts circles objs a few most = record {
   edges = omega (arith, a.edges, length-append members objs, length-append circles (circle objs), length-circle objs);
 }
 
-between_more : (n : ℕ) (pairs : List (ℕ × ℕ)) → All (IsBetween n) pairs → All (IsBetween (n + 1)) pairs
-between_more n pairs h = All-weaker (IsBetween n) (IsBetween (n + 1)) (λ p b. record { source = omega (arith, b.source); destination = omega (arith, b.destination); apart = b.apart }) pairs h
+pub between_wider : (n m : ℕ) (pairs : List (ℕ × ℕ)) → n ≤ m → All (IsBetween n) pairs → All (IsBetween m) pairs
+between_wider n m pairs le h = All-weaker (IsBetween n) (IsBetween m) (λ p b. record { source = omega (arith, b.source); destination = omega (arith, b.destination); apart = b.apart }) pairs h
 
-pub building_more : (members starts : List ℕ) (circles pairs : List (ℕ × ℕ)) (sorted : Bool) (objs : List ℕ) → IsListingBegun members starts circles pairs sorted
+pub building_more : (members starts : List ℕ) (circles pairs : List (ℕ × ℕ)) (heavy : ℕ) (sorted : Bool) (objs : List ℕ) → heavy ≡ 0 → IsListingBegun members starts circles heavy pairs sorted
     → length members + length objs ≤ 65535 → 0 < length objs → Rises objs → All (λ x. x < 65535) objs
     → All (λ m. AreDisjoint m objs) (packed_rows starts members (length starts)) → All (λ m. first_of m < first_of objs) (packed_rows starts members (length starts))
-    → IsListingBegun (members ++ objs) (starts ++ length members ∷ []) (circles ++ circle objs) pairs sorted
-building_more members starts circles pairs sorted objs b most s r l d f =
+    → IsListingBegun (members ++ objs) (starts ++ length members ∷ []) (circles ++ circle objs) heavy pairs sorted
+building_more members starts circles pairs heavy sorted objs none b most s r l d f =
     let comps = packed_rows starts members (length starts) in
     let more = components_more comps objs b.components s r l d f in
     let few = few_components (comps ++ objs ∷ []) more in
     record {
       flat = flat_more members starts circles objs b.flat (omega (arith, few, length_push comps objs, length-packed starts members (length starts))) most;
       components = rw (length_push starts (length members), packed_rows-more starts members objs (length starts) refl b.flat.cut) more;
-      ends = rw (length_push starts (length members)) (between_more (length starts) pairs b.ends);
+      ends = between_wider (length starts + heavy) (length (starts ++ length members ∷ []) + heavy) pairs (omega (arith, length_push starts (length members))) b.ends;
+      room = omega (arith, few, length_push comps objs, length-packed starts members (length starts), length_push starts (length members));
       rising = b.rising;
       count = b.count;
     }
@@ -91,11 +97,13 @@ building_more members starts circles pairs sorted objs b most s r l d f =
 pub between_push : (n : ℕ) (pairs : List (ℕ × ℕ)) (p : ℕ × ℕ) → All (IsBetween n) pairs → p.0 < n → p.1 < n → p.0 ≢ p.1 → All (IsBetween n) (pairs ++ p ∷ [])
 between_push n pairs p h a b c = All-push (IsBetween n) pairs p h (record { source = a; destination = b; apart = c })
 
-pub listing_of : (comps : List (List ℕ)) (pairs : List (ℕ × ℕ)) → AreComponents comps → PairsRise pairs → All (IsBetween (length comps)) pairs → IsListing comps pairs
-listing_of comps pairs a r e = record {
+pub listing_of : (comps : List (List ℕ)) (heavy : ℕ) (pairs : List (ℕ × ℕ)) → AreComponents comps → PairsRise pairs → All (IsBetween (length comps + heavy)) pairs
+    → length comps + heavy ≤ 65535 → IsListing comps heavy pairs
+listing_of comps heavy pairs a r e f = record {
   canonical = record { members = a.members; some = a.some; order = a.order; rising = r };
   components = a;
   ends = e;
+  few = f;
 }
 
 -- what adding one pair left: the pairs as they were, or with the new one
@@ -114,25 +122,40 @@ many_added (Err x) before after more a e = inl e
 pub ends_group : (n src : ℕ) (dsts : List ℕ) → src < n → All (λ d. d < n) dsts → All (λ d. src ≢ d) dsts → All (IsBetween n) (map (λ d. (src, d)) dsts)
 ends_group n src dsts s h a = All-map (IsBetween n) (λ d. (src, d)) dsts (λ k d lt. record { source = s; destination = h k d lt; apart = a k d lt })
 
--- a mirror edge: of a circle, or between the first members of a pair's components
-pub mirror-circle : (comps : List (List ℕ)) (pairs circles : List (ℕ × ℕ)) (i : ℕ) (e : ℕ × ℕ) → circles ≡ flat_map circle comps → i < length circles → e ≡ get_or circles i e → slice_get (mirror_edges comps pairs) i ≡ Some e
-mirror-circle comps pairs circles i e is within at =
-    let firsts : List (ℕ × ℕ) = map (λ (p : ℕ × ℕ). let q : ℕ × ℕ = (first_at comps p.0, first_at comps p.1) in q) pairs in
-    ap (λ l. slice_get (l ++ firsts) i) (sym is) ∙ (slice_get-get_or (circles ++ firsts) i e (omega (arith, within, length-append circles firsts)) ∙ ap (λ z. Some z) (get_or_append_left circles firsts e i within ∙ sym at))
+-- the answered edges: those of the circles, and behind them those of the pairs
+abbrev answered : List (List ℕ) → List (ℕ × ℕ) → List (End × End)
+answered comps pairs = map (ends_of (length comps)) (mirror_edges comps pairs)
 
-pub mirror-pair : (comps : List (List ℕ)) (pairs circles : List (ℕ × ℕ)) (i : ℕ) (p : ℕ × ℕ) → circles ≡ flat_map circle comps → length circles ≤ i → i - length circles < length pairs → p ≡ get_or pairs (i - length circles) p
-    → slice_get (mirror_edges comps pairs) i ≡ Some (first_at comps p.0, first_at comps p.1)
-mirror-pair comps pairs circles i p is past within at =
-    let edge : ℕ × ℕ → ℕ × ℕ = λ p. (first_at comps p.0, first_at comps p.1) in
-    let firsts : List (ℕ × ℕ) = map edge pairs in
-    ap (λ l. slice_get (l ++ firsts) i) (sym is)
-    ∙ (slice_get-get_or (circles ++ firsts) i (edge p) (omega (arith, past, within, length-append circles firsts, length-map pairs edge))
-    ∙ ap (λ z. Some z) (get_or-append_right circles firsts (length circles) i (edge p) refl past ∙ (get_or-map edge pairs (i - length circles) p (edge p) within ∙ ap edge (sym at))))
+abbrev edge_of : List (List ℕ) → ℕ × ℕ → exact.End × exact.End
+edge_of comps p = (end_at comps p.0, end_at comps p.1)
 
 pub mirror-count : (comps : List (List ℕ)) (pairs circles : List (ℕ × ℕ)) → circles ≡ flat_map circle comps → length (mirror_edges comps pairs) ≡ length circles + length pairs
 mirror-count comps pairs circles is =
-    let edge : ℕ × ℕ → ℕ × ℕ = λ p. (first_at comps p.0, first_at comps p.1) in
-    omega (arith, ap length is, length-append (flat_map circle comps) (map edge pairs), length-map pairs edge)
+    omega (arith, ap length is, length-append (map between_nodes (flat_map circle comps)) (map (edge_of comps) pairs), length-map (flat_map circle comps) between_nodes, length-map pairs (edge_of comps))
+
+edge-at : (comps : List (List ℕ)) (pairs circles : List (ℕ × ℕ)) (i : ℕ) (e : exact.End × exact.End) → circles ≡ flat_map circle comps → i < length circles + length pairs
+    → e ≡ get_or (map between_nodes circles ++ map (edge_of comps) pairs) i e → slice_get (answered comps pairs) i ≡ Some (ends_of (length comps) e)
+edge-at comps pairs circles i e is within at =
+    let all = mirror_edges comps pairs in
+    let count = mirror-count comps pairs circles is in
+    let here : e ≡ get_or all i e = at ∙ ap (λ l. get_or (map between_nodes l ++ map (edge_of comps) pairs) i e) is in
+    slice_get-get_or (answered comps pairs) i (ends_of (length comps) e) (omega (arith, within, count, length-map all (ends_of (length comps))))
+    ∙ ap (λ z. Some z) (get_or-map (ends_of (length comps)) all i e (ends_of (length comps) e) (omega (arith, within, count)) ∙ ap (ends_of (length comps)) (sym here))
+
+-- a mirror edge: of a circle, or between the ends of a pair's components
+pub mirror-circle : (comps : List (List ℕ)) (pairs circles : List (ℕ × ℕ)) (i : ℕ) (e : ℕ × ℕ) → circles ≡ flat_map circle comps → i < length circles → e ≡ get_or circles i e
+    → slice_get (answered comps pairs) i ≡ Some (Node e.0, Node e.1)
+mirror-circle comps pairs circles i e is within at =
+    edge-at comps pairs circles i (between_nodes e) is (omega (arith, within))
+    (sym (get_or_append_left (map between_nodes circles) (map (edge_of comps) pairs) (between_nodes e) i (omega (arith, within, length-map circles between_nodes))
+    ∙ (get_or-map between_nodes circles i e (between_nodes e) within ∙ ap between_nodes (sym at))))
+
+pub mirror-pair : (comps : List (List ℕ)) (pairs circles : List (ℕ × ℕ)) (i : ℕ) (p : ℕ × ℕ) → circles ≡ flat_map circle comps → length circles ≤ i → i - length circles < length pairs → p ≡ get_or pairs (i - length circles) p
+    → slice_get (answered comps pairs) i ≡ Some (end_of (length comps) (end_at comps p.0), end_of (length comps) (end_at comps p.1))
+mirror-pair comps pairs circles i p is past within at =
+    edge-at comps pairs circles i (edge_of comps p) is (omega (arith, past, within))
+    (sym (get_or-append_right (map between_nodes circles) (map (edge_of comps) pairs) (length circles) i (edge_of comps p) (length-map circles between_nodes) past
+    ∙ (get_or-map (edge_of comps) pairs (i - length circles) p (edge_of comps p) within ∙ ap (edge_of comps) (sym at))))
 
 pub between-at : (n : ℕ) (pairs : List (ℕ × ℕ)) (k : ℕ) (p : ℕ × ℕ) → All (IsBetween n) pairs → k < length pairs → p ≡ get_or pairs k p → IsBetween n p
 between-at n pairs k p h within e = subst (IsBetween n) (sym e) (h k p within)
@@ -161,3 +184,10 @@ pub circle-alone : (members : List ℕ) (edges : List (ℕ × ℕ)) → length m
 circle-alone [] edges few = sym (append-nil edges)
 circle-alone (x ∷ []) edges few = sym (append-nil edges)
 circle-alone (x ∷ y ∷ xs) edges few = absurd (omega (arith, few))
+
+-- the end of a component with members, and of one without
+pub end-node : (comps : List (List ℕ)) (c : ℕ) → c < length comps → Node (first_at comps c) ≡ end_of (length comps) (end_at comps c)
+end-node comps c lt = rw (lt-ltb c (length comps) lt) refl
+
+pub end-temp : (comps : List (List ℕ)) (c : ℕ) → length comps ≤ c → Temp c ≡ end_of (length comps) (end_at comps c)
+end-temp comps c le = rw (le-ltb c (length comps) le) (ap Temp (omega (arith, le)))

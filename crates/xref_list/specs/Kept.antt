@@ -1,5 +1,5 @@
 -- What the flat lists of components keep, while they are being built and afterwards.
-use Rattle.std.specs.Prelude.{◌≡◌, ℕ, ◌≤◌, Bool, true, List, length, All, flat_map}
+use Rattle.std.specs.Prelude.{◌≡◌, ℕ, ◌+◌, ◌≤◌, Bool, true, List, length, All, flat_map}
 use Rattle.joint_model.specs.Components.{circle, PairsRise}
 use Rattle.bridge_graph.specs.Packing.{packed_rows, IsCut}
 use Rattle.xref_list.specs.Listing.{AreComponents, IsBetween, IsListing}
@@ -13,15 +13,16 @@ pub record AreFlat (members starts : List ℕ) (circles : List (ℕ × ℕ)) : T
   pub edges : length circles ≤ length members
 
 -- flat lists of components with pairs between them, which rise where that is known
-pub record IsListingBegun (members starts : List ℕ) (circles pairs : List (ℕ × ℕ)) (sorted : Bool) : Type 0 where
+pub record IsListingBegun (members starts : List ℕ) (circles : List (ℕ × ℕ)) (heavy : ℕ) (pairs : List (ℕ × ℕ)) (sorted : Bool) : Type 0 where
   pub flat : AreFlat members starts circles
   pub components : AreComponents (packed_rows starts members (length starts))
-  pub ends : All (IsBetween (length starts)) pairs
+  pub ends : All (IsBetween (length starts + heavy)) pairs
+  pub room : length starts + heavy ≤ 65535
   pub rising : sorted ≡ true → PairsRise pairs
   pub count : length pairs ≤ 4294901760
 
 -- flat lists of a whole listing
-pub record IsWholeListing (members starts : List ℕ) (circles pairs : List (ℕ × ℕ)) : Type 0 where
+pub record IsWholeListing (members starts : List ℕ) (circles : List (ℕ × ℕ)) (heavy : ℕ) (pairs : List (ℕ × ℕ)) : Type 0 where
   pub flat : AreFlat members starts circles
-  pub listing : IsListing (packed_rows starts members (length starts)) pairs
+  pub listing : IsListing (packed_rows starts members (length starts)) heavy pairs
   pub count : length pairs ≤ 4294901760

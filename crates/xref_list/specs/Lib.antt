@@ -2,3 +2,4 @@ pub mod Listing
 pub mod Adding
 pub mod Known
 pub mod Kept
+pub mod Ends

@@ -1,10 +1,11 @@
 -- Components of bridge nodes and their cross-references, as lists.
-use Rattle.std.specs.Prelude.{◌≢◌, ℕ, ◌<◌, List, length, map, All, AllPairs, Contains}
+use Rattle.std.specs.Prelude.{◌≢◌, ℕ, ◌+◌, ◌<◌, ◌≤◌, List, length, map, All, AllPairs, Contains}
 use Rattle.joint_model.specs.Components.{IsCanonical, Rises, first_of}
 
--- the members of each component, and the pairs of component indexes
+-- the members of each component, how many components without members come behind them, and the pairs of component indexes
 pub record Listing : Type 0 where
   pub comps : List (List ℕ)
+  pub heavy : ℕ
   pub pairs : List (ℕ × ℕ)
 
 -- no number stands in both lists
@@ -27,8 +28,9 @@ pub record AreComponents (comps : List (List ℕ)) : Type 0 where
   pub apart : AllPairs AreDisjoint comps
 
 -- what every list of components and cross-references keeps: both in canonical order, no node in two
--- components, and each pair between two different components
-pub record IsListing (comps : List (List ℕ)) (pairs : List (ℕ × ℕ)) : Type 0 where
+-- components, each pair between two different components, and at most 65,535 components
+pub record IsListing (comps : List (List ℕ)) (heavy : ℕ) (pairs : List (ℕ × ℕ)) : Type 0 where
   pub canonical : IsCanonical comps pairs
   pub components : AreComponents comps
-  pub ends : All (IsBetween (length comps)) pairs
+  pub ends : All (IsBetween (length comps + heavy)) pairs
+  pub few : length comps + heavy ≤ 65535

@@ -10,7 +10,8 @@
 //
 // The analysis makes a `ComponentsBuilder`, lists the components in the order of their first members with
 // `component`, and their cross-references with `add`, or with `add_all` where those of one source come
-// together. `finish` orders the pairs and gives `Components`, which is only read: by its lists (`objs`,
+// together. Components without members, which stand for classes of nodes without peers, are listed behind them with
+// `bridgeless`. `finish` orders the pairs and gives `Components`, which is only read: by its lists (`objs`,
 // `xref`), and as the references that the peer heap has to mirror (`refs`, `mirror_edge`).
 //
 // Members lie in one flat list, with the place where each component begins. The circles of the components
@@ -25,5 +26,5 @@ mod circles;
 mod components;
 mod pairs;
 
-pub use components::{Components, ComponentsBuilder};
+pub use components::{Components, ComponentsBuilder, End};
 pub use pairs::Added;

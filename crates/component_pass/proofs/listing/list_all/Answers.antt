@@ -14,6 +14,7 @@ pub loop-x-init : goal.loop-x-init
 loop-x-init c = record {
   listed = rw c.requires.empty (listed-none _ _ (links_of c.args.graph.now.nodes c.args.labels.now) c.args.indexes.now);
   unset = λ l lt h. c.requires.unset l 0 lt;
+  heavy = c.requires.heavy;
   pairs = refl;
   size = refl;
   clear = c.requires.clear;
@@ -68,13 +69,14 @@ loop-x-preserved c =
           rw (w.indexes-is, w.builder-is, w.marks-is, w.in_ok-indexes.ensures.index) record {
             listed = m.0;
             unset = m.1;
+            heavy = w.list_members.ensures.heavy;
             pairs = w.list_members.ensures.pairs ∙ i.pairs;
             size = length-set c.loop-x.indexes own (length c.loop-x.builder.comps) ∙ i.size;
             clear = w.in_ok-indexes.ensures.clear;
           }
       | else-begins w ↦
           let s = unset-skip nodes c.args.graph.now.edges labels rows c.nodes-x-end.ensures.part.few c.requires.order c.loop-x.x c.loop-x.builder.comps c.loop-x.indexes w.if-begins.ensures (omega (arith, lt, i.size, c.requires.indexes)) i.unset i.listed in
-          rw (w.indexes-is, w.builder-is, w.marks-is) record { listed = s.0; unset = s.1; pairs = i.pairs; size = i.size; clear = i.clear }
+          rw (w.indexes-is, w.builder-is, w.marks-is) record { listed = s.0; unset = s.1; heavy = i.heavy; pairs = i.pairs; size = i.size; clear = i.clear }
     ]
 
 pub returns-clause-plain : goal.returns-clause-plain
@@ -109,3 +111,12 @@ returns-clause-listed c =
 
 pub returns-clause-pairs : goal.returns-clause-pairs
 returns-clause-pairs c = c.loop-x.invariant.pairs
+
+pub returns-in_err-collect_bridges-clause-heavy : goal.returns-in_err-collect_bridges-clause-heavy
+returns-in_err-collect_bridges-clause-heavy c = c.loop-x.invariant.heavy
+
+pub list_members-requires-clause-heavy : goal.list_members-requires-clause-heavy
+list_members-requires-clause-heavy c = c.loop-x.invariant.heavy
+
+pub returns-clause-heavy : goal.returns-clause-heavy
+returns-clause-heavy c = c.loop-x.invariant.heavy

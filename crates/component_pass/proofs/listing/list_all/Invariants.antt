@@ -8,6 +8,7 @@ abbrev pub invariant-loop-x : goal.invariant-loop-x
 invariant-loop-x l = record {
   listed : AreListed l.graph.nodes l.labels (links_of l.graph.nodes l.labels) l.x l.builder.comps l.indexes;
   unset : AreUnset (links_of l.graph.nodes l.labels) l.x l.indexes;
+  heavy : l.builder.heavy ≡ 0;
   pairs : l.builder.pairs ≡ l.initial.builder.pairs;
   size : length l.indexes ≡ length l.initial.indexes;
   clear : All (λ m. m ≡ false) l.marks;

@@ -12,5 +12,5 @@ head_is (x ∷ xs) = refl
 pub returns : goal.returns
 returns c =
     let comps = c.args.self.now.comps in
-    let at = get_or_from_slice_get comps c.args.c c.objs.result.now [] c.objs.ensures.members in
-    head_is c.objs.result.now ∙ ap first_of (sym at) ∙ sym (get_or-map first_of comps c.args.c [] 0 c.requires)
+    let at = get_or_from_slice_get comps c.args.c c.members_of.result.now [] c.members_of.ensures.members in
+    head_is c.members_of.result.now ∙ ap first_of (sym at) ∙ sym (get_or-map first_of comps c.args.c [] 0 c.requires)

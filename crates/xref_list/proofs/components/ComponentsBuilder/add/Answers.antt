@@ -1,4 +1,4 @@
-use Rattle.std.proofs.Common.{ℕ, length, inl, inr, arith}
+use Rattle.std.proofs.Common.{◌+◌, ℕ, length, inl, inr, arith}
 use Rattle.std.proofs.lemmas.Bool.{false≢true}
 use Rattle.std.proofs.lemmas.List.{length_push}
 use Rattle.xref_list.proofs.Comps.{one_added, between_push, length-packed}
@@ -14,13 +14,15 @@ invariant_of-self c =
         flat = i.flat;
         components = i.components;
         ends = i.ends;
+        room = i.room;
         rising = λ h. absurd (false≢true h);
         count = i.count;
       }
       | inr e ↦ rw e record {
         flat = i.flat;
         components = i.components;
-        ends = between_push (length c.self.inside.starts.items) c.self.inside.pairs p i.ends r.source r.destination r.apart;
+        room = i.room;
+        ends = between_push (length c.self.inside.starts.items + c.self.inside.heavy) c.self.inside.pairs p i.ends r.source r.destination r.apart;
         rising = λ h. absurd (false≢true h);
         count = omega (arith, length_push c.self.inside.pairs p);
       }

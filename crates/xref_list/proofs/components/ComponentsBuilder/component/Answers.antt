@@ -13,8 +13,8 @@ invariant_of-self-2 c =
     let start : c.len-start.result ≡ length c.self.inside.members.items = omega arith in
     let most : length c.self.inside.members.items + length c.args.objs.now ≤ 65535 = omega arith in
     rw (c.append.ensures, c.take_room.ensures.kept.2, c.push_reserved.ensures.items, c.take_room.ensures.kept.0, start, c.push_circle.ensures, c.take_room.ensures.kept.1)
-    (building_more c.self.inside.members.items c.self.inside.starts.items c.self.inside.circles.items c.self.inside.pairs c.self.inside.sorted c.args.objs.now
-    i most r.some r.rises r.below r.apart r.after)
+    (building_more c.self.inside.members.items c.self.inside.starts.items c.self.inside.circles.items c.self.inside.pairs c.self.inside.heavy c.self.inside.sorted c.args.objs.now
+    r.none i most r.some r.rises r.below r.apart r.after)
 
 pub returns-clause-index : goal.returns-clause-index
 returns-clause-index c = rw (← c.self.view_is) (omega (arith, length-packed c.self.inside.starts.items c.self.inside.members.items (length c.self.inside.starts.items)))
