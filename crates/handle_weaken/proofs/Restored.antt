@@ -1,6 +1,6 @@
 -- Restoring handles one after another: what may still be restored stays so.
 use Rattle.std.proofs.Common.{◌≡◌, ◌≢◌, ℕ, ◌+◌, ◌≤◌, inl, inr, Bool, true, false, List, [], ◌∷◌, ◌++◌, length, Option, Some, None, refl, sym, ap, subst, ◌∙◌, arith, append_assoc, length-append, if◌then◌else◌, take, drop, get_or}
-use Rattle.std.specs.Prelude.{All, AllPairs}
+use Rattle.std.specs.Prelude.{All, AllPairs, Contains}
 use Rattle.std.specs.Option.{option_to_list}
 use Rattle.std.proofs.lemmas.Option.{get_or_from_slice_get, slice_get_within}
 use Rattle.std.proofs.lemmas.List.Folds.{length-flat_map-take}
@@ -10,81 +10,114 @@ use Rattle.joint_model.specs.declared.names.Thread.TheVariants.{C}
 use Rattle.joint_model.specs.declared.events.Op.TheVariants as op
 use Rattle.joint_model.specs.declared.events.Reply.TheVariants as says
 use Rattle.joint_model.specs.Heaps.{Answered, answer, numbered_at, numbered_set}
-use Rattle.joint_model.specs.Peers.{peer_of, strong}
-use Rattle.joint_model.specs.PeerReplay.{PeerReplay, TableRow, MayRestore, brought_handle, restored_by, row_of, with_restored}
+use Rattle.joint_model.specs.Peers.{Peers, held, next_handle, peer_of, strong}
+use Rattle.joint_model.specs.PeerReplay.{Mirror, PeerReplay, TableRow, MayRestore, fresh_row, given_anew, renewed_on, restored_by, row_of, with_given, with_restored, withdrawn}
 use Rattle.joint_model.specs.Sides.{Drawing, AddsInTurn, AddsLawful, MayDraw, peer_rules}
 use Rattle.joint_model.specs.Told.{nothing}
 use Rattle.joint_model.proofs.Members.{All-members, Contains-there}
-use Rattle.joint_model.proofs.Numbered.{numbered_set-other}
+use Rattle.joint_model.proofs.Numbered.{numbered-push_old, numbered-within, numbered_set-length, numbered_set-other}
 use Rattle.global_handles.specs.declared.Back.{Back}
-use Rattle.global_handles.specs.declared.Back.TheVariants.{Alive, Cleared}
-use Rattle.global_handles.specs.Rows.{is_alive}
+use Rattle.global_handles.specs.Rows.{back_of}
 use Rattle.peer_side.specs.Cycles.{restores}
 use Rattle.peer_side.specs.Sides.{PeerModel, seen}
 use Rattle.peer_side.proofs.Makings.{draws-on}
-use Rattle.handle_weaken.specs.Entries.{RestoresInTurn, back_of, restorings}
+use Rattle.peer_side.proofs.Steps.{row-tabled}
+use Rattle.handle_weaken.specs.Entries.{RestoresInTurn, restorings}
 use Rattle.handle_weaken.proofs.Turns.{apart-first, apart-rest, done-none, done-some, left-none, left-some, turn-more}
 use Rattle.bridge_graph.specs.declared.graph.Node.{Node}
 use Rattle.bridge_graph.specs.Handles.{handles_of}
 use Rattle.bridge_graph.specs.Parts.{HasNode}
 
 -- these handles are restored since a start, and these others may be
-pub record IsRestoring {D : Type 0} (d : Drawing D) (start now : D) (old new : PeerModel) (index : ℕ) (done rest : List HNum) (values later : List Bool) : Type 0 where
+pub record IsRestoring {D : Type 0} (d : Drawing D) (start now : D) (old new : PeerModel) (index : ℕ) (done rest : List HNum) (values later : List (Option HNum)) : Type 0 where
   pub turns : RestoresInTurn d start now (seen old) (seen new) index done values later
   pub reserve : new.reserve ≡ old.reserve
-  pub peers : new.state.peers ≡ old.state.peers
+  pub peers : new.state.peers ≡ record old.state.peers { issued = new.state.peers.issued }
   pub apart : AllPairs (λ h k. h.0 ≢ k.0) rest
   pub restores : All (λ h. MayRestore new.state h.0) rest
   pub may : All (λ h. MayDraw peer_rules d now (seen new) C (op.Restore h)) rest
 
--- what a restore answered is told by whether the peer is there
-pub back_of-alive : (back : Back) (b : Bool) → b ≡ is_alive back → back_of b ≡ back
-back_of-alive Alive b e = ap back_of e
-back_of-alive Cleared b e = ap back_of e
-
--- what a restore changes: its handle's place in the table, and the mirrored cycle; and where that marks, the open marking
+-- what a restore leaves: the handle is restored in the mirrored cycle, and each other handle of the table has its row
 record IsRestoredAt (s t : PeerReplay) (h : ℕ) : Type 0 where
-  row : Option TableRow
-  table : t.table ≡ numbered_set s.table h row
-  mirror : t.mirror ≡ with_restored s.mirror h
-  peers : t.peers ≡ s.peers
+  mirror : (m : Mirror) → s.mirror ≡ Some m → (n : Mirror) × (t.mirror ≡ Some n) × (n.weakened ≡ m.weakened) × (n.restored ≡ m.restored ++ h ∷ [])
+  tabled : (k : ℕ) (row : TableRow) → k ≢ h → row_of s k ≡ Some row → row_of t k ≡ Some row
+
+-- the row in a place of the table
+abbrev row-in : Option (Option TableRow) → Option TableRow
+row-in o = elim o [ None ↦ None | Some row ↦ row ]
 
 restored-at : (s : PeerReplay) (h : ℕ) (row : TableRow) → row_of s h ≡ Some row → IsRestoredAt s (restored_by s h (row_of s h)).state h
 restored-at s h row tabled = subst (λ o. IsRestoredAt s (restored_by s h o).state h) (sym tabled) (by row.cleared)
   where
-    gone : PeerReplay
-    gone = record s { table = numbered_set s.table h None; mirror = with_restored s.mirror h }
+    gone : IsRestoredAt s (withdrawn s h) h
+    gone = record {
+      mirror = λ m e. (record m { restored = m.restored ++ h ∷ [] }, ap (λ o. with_restored o h) e, refl, refl);
+      tabled = λ k other n e. ap row-in (numbered_set-other s.table h k None n) ∙ e;
+    }
 
-    again : PeerReplay
-    again = record s { table = numbered_set s.table h (Some (record row { strength = strong })); mirror = with_restored s.mirror h; marking = brought_handle s.marking (peer_of s.peers.issued h) }
+    given : (p : ℕ) → IsRestoredAt s (given_anew (withdrawn s h) p) h
+    given p =
+        let new : Option TableRow = fresh_row record { peer = p; hold = held; strength = strong } in
+        record {
+          mirror = λ m e. (record m { restored = m.restored ++ h ∷ []; renewed = m.renewed ++ next_handle s.peers ∷ [] }, ap (λ o. with_given (with_restored o h) (next_handle s.peers)) e, refl, refl);
+          tabled = λ k other n e.
+              let here = row-tabled (numbered_at s.table k) other e in
+              let within = numbered-within s.table k (Some other) here in
+              ap row-in (numbered-push_old (numbered_set s.table h None) new k (omega (arith, within.1, numbered_set-length s.table h None)) ∙ (numbered_set-other s.table h k None n ∙ here));
+        }
 
-    by : (b : Bool) → IsRestoredAt s (let a : Answered PeerReplay = if b then answer says.Cleared gone else answer says.Alive again in a.state) h
-    by true = record { row = None; table = refl; mirror = refl; peers = refl }
-    by false = record { row = Some (record row { strength = strong }); table = refl; mirror = refl; peers = refl }
+    anew : (o : Option ℕ) → IsRestoredAt s (renewed_on s h o).state h
+    anew None = gone
+    anew (Some p) = given p
+
+    by : (b : Bool) → IsRestoredAt s (if b then answer says.Cleared (withdrawn s h) else renewed_on s h (peer_of s.peers.issued h)).state h
+    by true = gone
+    by false = anew (peer_of s.peers.issued h)
+
+-- a restore of a handle of the table, by whether it is cleared
+abbrev restored-if : PeerReplay → ℕ → Bool → Answered PeerReplay
+restored-if s h b = if b then answer says.Cleared (withdrawn s h) else renewed_on s h (peer_of s.peers.issued h)
+
+-- of the peers nothing but the handles that were issued is another after it
+pub restored-peers : (s t : PeerReplay) (h : ℕ) → t ≡ (restored_by s h (row_of s h)).state → t.peers ≡ record s.peers { issued = t.peers.issued }
+restored-peers s t h is = subst (λ (z : PeerReplay). z.peers ≡ record s.peers { issued = z.peers.issued }) (sym is) (by (row_of s h))
+  where
+    anew : (o : Option ℕ) → (renewed_on s h o).state.peers ≡ record s.peers { issued = (renewed_on s h o).state.peers.issued }
+    anew None = refl
+    anew (Some p) = refl
+
+    cleared : (b : Bool) → (restored-if s h b).state.peers ≡ record s.peers { issued = (restored-if s h b).state.peers.issued }
+    cleared true = refl
+    cleared false = anew (peer_of s.peers.issued h)
+
+    by : (o : Option TableRow) → (restored_by s h o).state.peers ≡ record s.peers { issued = (restored_by s h o).state.peers.issued }
+    by None = refl
+    by (Some row) = cleared row.cleared
 
 -- a handle that may be restored may be so after another one was
 restores-on : (s t : PeerReplay) (h k : ℕ) → t ≡ (restored_by s h (row_of s h)).state → MayRestore s h → k ≢ h → MayRestore s k → MayRestore t k
 restores-on s t h k is first apart may =
     let at : IsRestoredAt s t h = subst (λ z. IsRestoredAt s z h) (sym is) (restored-at s h first.row first.tabled) in
+    let now = at.mirror may.mirror may.stands in
     record {
-      mirror = record may.mirror { restored = may.mirror.restored ++ h ∷ [] };
-      stands = at.mirror ∙ ap (λ m. with_restored m h) may.stands;
-      weakened = may.weakened;
-      waiting = λ there. elim (Contains-push_cases may.mirror.restored h k there) [ inl old ↦ may.waiting old | inr new ↦ apart (sym new) ];
+      mirror = now.0;
+      stands = now.1;
+      weakened = subst (λ hs. Contains hs k) (sym now.2) may.weakened;
+      waiting = λ there. elim (Contains-push_cases may.mirror.restored h k (subst (λ hs. Contains hs k) now.3 there)) [ inl old ↦ may.waiting old | inr new ↦ apart (sym new) ];
       row = may.row;
-      tabled = ap (λ (o : Option (Option TableRow)). elim o [ None ↦ None | Some row ↦ row ]) (ap (λ l. numbered_at l k) at.table ∙ numbered_set-other s.table h k at.row apart) ∙ may.tabled;
+      tabled = at.tabled k may.row apart may.tabled;
     }
 
 -- the entries that restore one more handle
-restorings-more : (index : ℕ) (hs : List HNum) (h : HNum) (bs : List Bool) (b : Bool) → length bs ≡ length hs → restorings index (hs ++ h ∷ []) (bs ++ b ∷ []) ≡ restorings index hs bs ++ record { made = restores index h (back_of b); told = nothing } ∷ []
+restorings-more : (index : ℕ) (hs : List HNum) (h : HNum) (bs : List (Option HNum)) (b : Option HNum) → length bs ≡ length hs → restorings index (hs ++ h ∷ []) (bs ++ b ∷ []) ≡ restorings index hs bs ++ record { made = restores index h (back_of b); told = nothing } ∷ []
 restorings-more index [] h [] b e = refl
 restorings-more index [] h (c ∷ bs) b e = absurd (omega (arith, e))
 restorings-more index (k ∷ hs) h [] b e = absurd (omega (arith, e))
 restorings-more index (k ∷ hs) h (c ∷ bs) b e = ap (λ ms. record { made = restores index k (back_of c); told = nothing } ∷ ms) (restorings-more index hs h bs b (omega (arith, e)))
 
 -- one more handle is restored
-pub IsRestoring-next : {D : Type 0} (d : Drawing D) (start now next : D) (old new later : PeerModel) (index : ℕ) (h : HNum) (b : Bool) (done rest : List HNum) (values mid after : List Bool) → IsRestoring d start now old new index done (h ∷ rest) values mid
-    → AddsLawful peer_rules d now next (seen new) (seen later) (restores index h (back_of b)) nothing → later.reserve ≡ new.reserve → later.state.peers ≡ new.state.peers → after ≡ mid ++ b ∷ [] → IsRestoring d start next old later index (done ++ h ∷ []) rest values after
+pub IsRestoring-next : {D : Type 0} (d : Drawing D) (start now next : D) (old new later : PeerModel) (index : ℕ) (h : HNum) (b : Option HNum) (done rest : List HNum) (values mid after : List (Option HNum)) → IsRestoring d start now old new index done (h ∷ rest) values mid
+    → AddsLawful peer_rules d now next (seen new) (seen later) (restores index h (back_of b)) nothing → later.reserve ≡ new.reserve → later.state.peers ≡ record new.state.peers { issued = later.state.peers.issued } → after ≡ mid ++ b ∷ [] → IsRestoring d start next old later index (done ++ h ∷ []) rest values after
 IsRestoring-next d start now next old new later index h b done rest values mid after r adds reserve peers pushed =
     let t = r.turns in
     let first : MayRestore new.state h.0 = All-head (λ (k : HNum). MayRestore new.state k.0) h rest r.restores in
@@ -97,7 +130,7 @@ IsRestoring-next d start now next old new later index h b done rest values mid a
             (turn-more peer_rules d start now next (seen old) (seen new) (seen later) (restorings index done t.answers) (record { made = restores index h (back_of b); told = nothing }) t.adds adds);
       };
       reserve = reserve ∙ r.reserve;
-      peers = peers ∙ r.peers;
+      peers = peers ∙ ap (λ (z : Peers). record z { issued = later.state.peers.issued }) r.peers;
       apart = apart-rest h rest r.apart;
       restores = All-members (λ k. MayRestore later.state k.0) rest (λ k there. restores-on new.state later.state h.0 k.0 adds.goes.state first (apart-first h rest k r.apart there)
           (All-contains (λ k. MayRestore new.state k.0) (h ∷ rest) k r.restores (Contains-there k h rest there)));
@@ -106,7 +139,7 @@ IsRestoring-next d start now next old new later index h b done rest values mid a
     }
 
 -- the nodes of a part, one after another
-module _ {D : Type 0} (d : Drawing D) (start now : D) (old new : PeerModel) (index : ℕ) (nodes : List Node) (i : ℕ) (values mid : List Bool) (r : IsRestoring d start now old new index (handles_of (take i nodes)) (handles_of (drop i nodes)) values mid) where
+module _ {D : Type 0} (d : Drawing D) (start now : D) (old new : PeerModel) (index : ℕ) (nodes : List Node) (i : ℕ) (values mid : List (Option HNum)) (r : IsRestoring d start now old new index (handles_of (take i nodes)) (handles_of (drop i nodes)) values mid) where
   module _ (h : HNum) (at : HasNode nodes i (λ n. n.handle ≡ Some h)) where
     -- the handle of the next bridge node may be restored
     first : IsRestoring d start now old new index (handles_of (take i nodes)) (h ∷ handles_of (drop (i + 1) nodes)) values mid
@@ -119,7 +152,7 @@ module _ {D : Type 0} (d : Drawing D) (start now : D) (old new : PeerModel) (ind
     next-may = All-head (λ (k : HNum). MayDraw peer_rules d now (seen new) C (op.Restore k)) h (handles_of (drop (i + 1) nodes)) first.may
 
     -- and is restored
-    pub IsRestoring-node : (next : D) (later : PeerModel) (back : Back) (b : Bool) (after : List Bool) → AddsLawful peer_rules d now next (seen new) (seen later) (restores index h back) nothing → back_of b ≡ back → later.reserve ≡ new.reserve → later.state.peers ≡ new.state.peers → after ≡ mid ++ b ∷ []
+    pub IsRestoring-node : (next : D) (later : PeerModel) (back : Back) (b : Option HNum) (after : List (Option HNum)) → AddsLawful peer_rules d now next (seen new) (seen later) (restores index h back) nothing → back_of b ≡ back → later.reserve ≡ new.reserve → later.state.peers ≡ record new.state.peers { issued = later.state.peers.issued } → after ≡ mid ++ b ∷ []
         → IsRestoring d start next old later index (handles_of (take (i + 1) nodes)) (handles_of (drop (i + 1) nodes)) values after
     IsRestoring-node next later back b after adds is reserve peers pushed = subst (λ hs. IsRestoring d start next old later index hs (handles_of (drop (i + 1) nodes)) values after) (sym (done-some nodes i h at))
         (IsRestoring-next d start now next old new later index h b (handles_of (take i nodes)) (handles_of (drop (i + 1) nodes)) values mid after first (subst (λ k. AddsLawful peer_rules d now next (seen new) (seen later) (restores index h k) nothing) (sym is) adds) reserve peers pushed)

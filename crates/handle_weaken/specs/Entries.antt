@@ -1,11 +1,10 @@
 -- The entries of weakening and restoring handles one after another. (This project's own.)
-use Rattle.std.specs.Prelude.{◌≡◌, ℕ, ◌-◌, ◌++◌, Bool, true, false, List, [], ◌∷◌, length, map}
+use Rattle.std.specs.Prelude.{◌≡◌, ℕ, ◌-◌, ◌++◌, Option, List, [], ◌∷◌, length, map}
 use Rattle.joint_model.specs.declared.names.HNum.{HNum}
 use Rattle.joint_model.specs.PeerReplay.{PeerReplay}
 use Rattle.joint_model.specs.Sides.{Side, Drawing, Making, peer_rules, AddsInTurn}
 use Rattle.joint_model.specs.Told.{nothing}
-use Rattle.global_handles.specs.declared.Back.{Back}
-use Rattle.global_handles.specs.declared.Back.TheVariants.{Alive, Cleared}
+use Rattle.global_handles.specs.Rows.{back_of}
 use Rattle.peer_side.specs.Cycles.{restores, weakens}
 use Rattle.peer_side.specs.Sides.{Reserve}
 
@@ -17,20 +16,15 @@ weakenings index snap hs = map (λ h. record { made = weakens index h snap; told
 abbrev pub reserve_weakened : Reserve → ℕ → Reserve
 reserve_weakened r n = record r { left = r.left - n }
 
--- what a restore answered, by whether the peer is there
-abbrev pub back_of : Bool → Back
-back_of true = Alive
-back_of false = Cleared
-
 -- the entries that restore these handles, with these answers
-abbrev pub restorings : ℕ → List HNum → List Bool → List Making
+abbrev pub restorings : ℕ → List HNum → List (Option HNum) → List Making
 restorings index [] answers = []
 restorings index (h ∷ hs) [] = []
 restorings index (h ∷ hs) (b ∷ bs) = record { made = restores index h (back_of b); told = nothing } ∷ restorings index hs bs
 
 -- these handles were restored one after another; the answers, one for each of them, were put last
-pub record RestoresInTurn {D : Type 0} (d : Drawing D) (before after : D) (old new : Side PeerReplay) (index : ℕ) (hs : List HNum) (values later : List Bool) : Type 0 where
-  pub answers : List Bool
+pub record RestoresInTurn {D : Type 0} (d : Drawing D) (before after : D) (old new : Side PeerReplay) (index : ℕ) (hs : List HNum) (values later : List (Option HNum)) : Type 0 where
+  pub answers : List (Option HNum)
   pub each : length answers ≡ length hs
   pub put : later ≡ values ++ answers
   pub adds : AddsInTurn peer_rules d before after old new (restorings index hs answers)

@@ -15,7 +15,7 @@ use peer_side::PeerSide;
 
 /// Makes a held strong handle weak, in the mirrored cycle, which cites that snap: so the cycle's references stand, all of them. One entry is drawn
 /// and put last. It takes no memory, and changes no peer.
-pub fn weaken_one<D: Draw>(side: &mut PeerSide, draw: &mut D, index: u16, cites: u64, h: HNum)
+pub fn weaken_one<D: Draw>(side: &mut PeerSide, draw: &mut D, index: u32, cites: u64, h: HNum)
     requires left { 1 ≤ side.old.reserve.left }
     requires weakens { MayWeaken side.old.state h.0 (Some cites) }
     requires may { MayDraw peer_rules (record { floor = D.floor; left = D.left; may = D.may; drew = D.drew }) draw.old (seen side.old) Thread.C (Op.Weaken h) }
@@ -31,7 +31,7 @@ pub fn weaken_one<D: Draw>(side: &mut PeerSide, draw: &mut D, index: u16, cites:
 pub fn weaken_all<D: Draw>(
     side: &mut PeerSide,
     draw: &mut D,
-    index: u16,
+    index: u32,
     cites: u64,
     graph: &DeadGraph,
 )

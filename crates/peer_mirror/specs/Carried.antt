@@ -1,6 +1,7 @@
 -- The mirror edges between nodes of a dead part, carried to the peers of their handles. (The Xamarin.Android documentation: a bridge collection adds
 -- references between the peers of a component and along cross-references.)
-use Rattle.std.specs.Prelude.{◌≡◌, ℕ, ◌-◌, List, [], length, map, All, true, Some, None}
+use Rattle.std.specs.Prelude.{◌≡◌, ℕ, ◌-◌, ◌<◌, List, [], length, map, All, true, Some, None}
+use Rattle.joint_model.specs.Components as exact
 use Rattle.joint_model.specs.Components.{IsMember}
 use Rattle.joint_model.specs.Peers.{Issued, peer_of}
 use Rattle.joint_model.specs.PeerReplay.{PeerReplay, row_of}
@@ -14,9 +15,19 @@ use Rattle.peer_side.specs.Sides.{PeerModel, Reserve}
 abbrev pub peer_of_node : List Issued → List Node → ℕ → ℕ
 peer_of_node issued nodes i = elim (handle_at nodes i) [ None ↦ 0 | Some h ↦ elim (peer_of issued h.0) [ None ↦ 0 | Some p ↦ p ] ]
 
--- edges between nodes, carried to the peers of their handles
-abbrev pub carried_to_peers : List Issued → List Node → List (ℕ × ℕ) → List (ℕ × ℕ)
-carried_to_peers issued nodes edges = map (λ e. (peer_of_node issued nodes e.0, peer_of_node issued nodes e.1)) edges
+-- an end of an edge, carried to the peer of the node's handle; a temporary stays
+abbrev pub carried_end : List Issued → List Node → exact.End → exact.End
+carried_end issued nodes (exact.node i) = exact.node (peer_of_node issued nodes i)
+carried_end issued nodes (exact.temporary t) = exact.temporary t
+
+-- edges, carried to the peers of their nodes' handles and to the temporaries
+abbrev pub carried_to_peers : List Issued → List Node → List (exact.End × exact.End) → List (exact.End × exact.End)
+carried_to_peers issued nodes edges = map (λ e. (carried_end issued nodes e.0, carried_end issued nodes e.1)) edges
+
+-- the end of a mirror edge is a bridge node, or one of so many temporaries
+abbrev pub IsEdgeEnd : List Node → ℕ → exact.End → Type 0
+IsEdgeEnd nodes temps (exact.node i) = IsBridgeNode nodes i
+IsEdgeEnd nodes temps (exact.temporary t) = t < temps
 
 -- each member of a component is a bridge node
 abbrev pub AreBridgeNodes : List Node → List (List ℕ) → Type 0
@@ -27,9 +38,9 @@ abbrev pub AreHandlesStrong : PeerReplay → List Node → Type 0
 AreHandlesStrong s nodes = All (λ h. row_of s h.0 ≡ Some strong_row) (handles_of nodes)
 
 -- these references wait, in the room that was taken for them
-abbrev pub with_pushed : PeerModel → List (ℕ × ℕ) → PeerModel
+abbrev pub with_pushed : PeerModel → List (exact.End × exact.End) → PeerModel
 with_pushed m refs = record m { reserve = record m.reserve { waiting = refs; refs = m.reserve.refs - length refs } }
 
 -- what is reserved once a cycle over so many handles is mirrored: its own, and nothing more
 abbrev pub reserve_installed : ℕ → Reserve
-reserve_installed handles = record { waiting = []; refs = 0; next = None; left = handles; marking = true }
+reserve_installed handles = record { waiting = []; refs = 0; temps = 0; next = None; left = handles; marking = true }

@@ -17,7 +17,7 @@ use peer_side::PeerSide;
 /// answered. Each unfreed peer that a reference leads to has to be restored strong. It takes no memory, and changes no peer.
 ///
 /// No reference led from a peer that is restored strong to a freed one: so none led to one whose restore answered `Cleared`.
-pub fn clear<D: Draw>(side: &mut PeerSide, draw: &mut D, index: u16, cycle: Cycle) -> u64
+pub fn clear<D: Draw>(side: &mut PeerSide, draw: &mut D, index: u32, cycle: Cycle) -> u64
     requires clears { MayClear side.old.state cycle.0 }
     requires targets { AreTargetsRestored side.old.state }
     requires may { MayDraw peer_rules (record { floor = D.floor; left = D.left; may = D.may; drew = D.drew }) draw.old (seen side.old) Thread.C (Op.Clear cycle) }

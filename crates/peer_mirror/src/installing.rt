@@ -1,35 +1,38 @@
 // The references come to stand.
 
-ghost use Rattle.std.specs.Prelude.{◌≡◌, ℕ, ◌-◌, ◌≤◌, [], length, All, Contains, IfOk, OnErr, OnOk, Some, None};
-ghost use Rattle.joint_model.specs.Components.{IsMember, mirror_edges};
+ghost use Rattle.std.specs.Prelude.{◌≡◌, ℕ, ◌≤◌, [], length, IfOk, OnErr, OnOk, Some, None};
+ghost use Rattle.joint_model.specs.Components as exact;
+ghost use Rattle.joint_model.specs.Components.{mirror_edges};
 ghost use Rattle.joint_model.specs.Heaps.{IsLive};
-ghost use Rattle.joint_model.specs.PeerReplay.{MayMirror, row_of};
+ghost use Rattle.joint_model.specs.PeerReplay.{MayMirror};
 ghost use Rattle.joint_model.specs.Sides.{peer_rules, AddsLawful, MayDraw};
 ghost use Rattle.joint_model.specs.Told.{references_of};
 ghost use Rattle.bridge_graph.specs.Handles.{handles_of};
 ghost use Rattle.bridge_graph.specs.Parts.{IsBridgeNode};
-ghost use Rattle.peer_side.specs.Cycles.{mirrors, reserve_pushed};
-ghost use Rattle.peer_side.specs.Mirroring.{strong_row};
+ghost use Rattle.xref_list.specs.Ends.{end_of};
+ghost use Rattle.peer_side.specs.Cycles.{mirrors};
+ghost use Rattle.peer_side.specs.Mirroring.{end_of as ref_end};
+ghost use Rattle.peer_side.specs.Mirrors.{MayStand};
 ghost use Rattle.peer_side.specs.Sides.{seen};
-ghost use Rattle.peer_mirror.specs.Carried.{carried_to_peers, peer_of_node, reserve_installed, with_pushed, AreBridgeNodes, AreHandlesStrong};
+ghost use Rattle.peer_mirror.specs.Carried.{IsEdgeEnd, carried_end, carried_to_peers, peer_of_node, reserve_installed, with_pushed, AreBridgeNodes, AreHandlesStrong};
 
 use bridge_graph::DeadGraph;
 use joint_model::{Cycle, Draw, Op, PNum, Thread};
-use peer_side::PeerSide;
+use peer_side::{PeerSide, RefEnd};
 use std::alloc::AllocError;
-use xref_list::Components;
+use xref_list::{Components, End};
 
-/// Mirrors a cycle's dead part: references come to stand between the peers of its handles, one for each mirror edge of its components, in their order,
-/// and no other. One entry is drawn and put last, and their number is answered. Each member of a component has to be a bridge node of the part, and each
-/// handle of the part strong.
+/// Mirrors a cycle's dead part: references come to stand between the peers of its handles and temporaries, one for each mirror edge of its
+/// components, in their order, and no other. A component without members has a temporary, which references lead over. One entry is drawn and put
+/// last, and their number is answered. Each member of a component has to be a bridge node of the part, and each handle of the part strong.
 ///
-/// All room is taken first, by one `reserve_refs` for these references, and for as many handles as the part has bridge nodes; so the cycle's weakenings,
-/// marking, restores and clear take none. Answers `AllocError`, with the side and the draw as before, where there is no memory. It takes time linear in
-/// nodes and references.
+/// All room is taken first, by one `reserve_refs` for these references and temporaries, and for as many handles as the part has bridge nodes; so
+/// the cycle's weakenings, marking, restores and clear take none. Answers `AllocError`, with the side and the draw as before, where there is no
+/// memory. It takes time linear in nodes and references.
 pub fn install<D: Draw>(
     side: &mut PeerSide,
     draw: &mut D,
-    index: u16,
+    index: u32,
     cycle: Cycle,
     cites: u64,
     graph: &DeadGraph,
@@ -50,7 +53,7 @@ pub fn install<D: Draw>(
     side.replays();
     let _ = comps.len();
     let handles = bridge_nodes(graph);
-    side.reserve_refs(comps.refs(), handles)?;
+    side.reserve_refs(comps.refs(), comps.heavy(), handles)?;
     push_edges(side, graph, comps);
     Ok(side.stand(draw, index, cycle, cites))
 }
@@ -75,26 +78,30 @@ fn push_edges(side: &mut PeerSide, graph: &DeadGraph, comps: &Components)
     requires closed { side.old.state.mirror ≡ None }
     requires none_waits { side.old.reserve.waiting ≡ [] }
     requires room { length (mirror_edges comps.now.comps comps.now.pairs) ≤ side.old.reserve.refs }
+    requires temps { comps.now.heavy ≤ side.old.reserve.temps }
     ensures { side.new ≡ with_pushed side.old (carried_to_peers side.old.state.peers.issued graph.now.nodes (mirror_edges comps.now.comps comps.now.pairs)) }
 {
-    let _ = comps.len();
+    let members = comps.len() - comps.heavy();
     for i in 0..comps.refs() {
-        push_edge(side, graph, comps.mirror_edge(i));
+        let edge = comps.mirror_edge(i);
+        let from = ref_end(side, graph, edge.0, members);
+        let to = ref_end(side, graph, edge.1, members);
+        side.push_ref(from, to);
     }
 }
 
-// A reference waits from the peer of one node's handle to that of another's.
-fn push_edge(side: &mut PeerSide, graph: &DeadGraph, edge: (u32, u32))
-    requires from { IsBridgeNode graph.now.nodes edge.0 }
-    requires to { IsBridgeNode graph.now.nodes edge.1 }
-    requires strong_ones { AreHandlesStrong side.old.state graph.now.nodes }
-    requires closed { side.old.state.mirror ≡ None }
-    requires room { 1 ≤ side.old.reserve.refs }
-    ensures { side.new ≡ record side.old { reserve = reserve_pushed side.old.reserve (peer_of_node side.old.state.peers.issued graph.now.nodes edge.0) (peer_of_node side.old.state.peers.issued graph.now.nodes edge.1) } }
+// The end of a reference that a mirror edge's end stands for: the peer of the node's handle, or the temporary, which is numbered behind the components
+// with members there and from 0 on here.
+fn ref_end(side: &PeerSide, graph: &DeadGraph, end: End, members: u32) -> RefEnd
+    requires end { (e : exact.End) × (end ≡ end_of members e) × IsEdgeEnd graph.now.nodes side.now.reserve.temps e }
+    requires strong_ones { AreHandlesStrong side.now.state graph.now.nodes }
+    ensures carried { (e : exact.End) → end ≡ end_of members e → ref_end result ≡ carried_end side.now.state.peers.issued graph.now.nodes e }
+    ensures stands { MayStand side.now.state.peers.heap side.now.reserve.temps (ref_end result) }
 {
-    let from = peer_at(side, graph, edge.0);
-    let to = peer_at(side, graph, edge.1);
-    side.push_ref(from, to);
+    match end {
+        End::Node(i) => RefEnd::Peer(peer_at(side, graph, i)),
+        End::Temp(c) => RefEnd::Temp(c - members),
+    }
 }
 
 // The peer of a bridge node's handle.

@@ -8,7 +8,8 @@
 //
 // The bridge contracts the dead part of the managed heap to components and cross-references, and mirrors them in the peer heap, so that the peer heap's
 // collector sees what the managed heap's edges say: the peers of a component lie on a circle of references, and each cross-reference is one between the
-// peers of the first members. `install` adds exactly these references, all at once, as one entry of the driver. Once the handles were weakened, the
+// peers of the first members. A component without members has no peer: a temporary stands for it, which the references of its pairs lead to and from.
+// `install` adds exactly these references, all at once, as one entry of the driver. Once the handles were weakened, the
 // peers were marked and swept, and the handles were restored, `clear` removes them all, as another one.
 //
 // A reference waits until all of them stand together: no marking follows one before. All memory is taken first, for the whole cycle.

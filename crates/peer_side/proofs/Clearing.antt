@@ -17,7 +17,7 @@ use Rattle.joint_model.specs.PeerReplay.{TableRow, cleared_rows}
 use Rattle.joint_model.proofs.Numbered.{numbered-made}
 use Rattle.global_handles.specs.declared.HandleRow.{HandleRow}
 use Rattle.global_handles.specs.Rows.{IsWeakFor, cleared_for, cleared_row, row_in}
-use Rattle.peer_side.specs.declared.rows.Issue.{Issue}
+use Rattle.peer_side.specs.declared.issues.Issue.{Issue}
 use Rattle.peer_side.specs.Marking.{cleared_on}
 use Rattle.peer_side.specs.Rows.{AreRowsIssued, issued_as, row_as, table_to}
 use Rattle.peer_side.proofs.Roots.{seen_in, table_to-count}

@@ -1,5 +1,5 @@
 -- The calls for a mirrored cycle: what their entries tell comes last, the replay's answer is what the parts show, and the side stays one.
-use Rattle.std.proofs.Common.{◌≡◌, ℕ, ◌+◌, ◌*◌, ◌≤◌, true, List, [], ◌∷◌, ◌++◌, length, Option, Some, None, refl, sym, ap, subst, ◌∙◌, arith}
+use Rattle.std.proofs.Common.{◌≡◌, ℕ, ◌+◌, ◌*◌, ◌≤◌, ◌<◌, ◌-◌, ◌⊎◌, inl, inr, get_or, true, false, List, [], ◌∷◌, ◌++◌, length, Option, Some, None, refl, sym, ap, subst, ◌∙◌, arith}
 use Rattle.std.specs.Prelude.{All, Contains}
 use Rattle.std.proofs.lemmas.List.{append-nil, drop_all, length_push}
 use Rattle.std.specs.Prelude.{flat_map}
@@ -10,14 +10,15 @@ use Rattle.joint_model.specs.declared.events.Op.{Op}
 use Rattle.joint_model.specs.declared.events.Op.TheVariants as op
 use Rattle.joint_model.specs.declared.events.Reply.TheVariants as says
 use Rattle.joint_model.specs.Draws.{AllBelow, numbered}
+use Rattle.joint_model.specs.Components.{End, node, temporary}
 use Rattle.joint_model.specs.Heaps.{Answered, answer}
 use Rattle.joint_model.specs.Listed.{Stock}
 use Rattle.joint_model.specs.Peers.{Issued}
-use Rattle.joint_model.specs.PeerReplay.{PeerReplay, Marking, Mirror, Refers, brought_to, mirrored, peer_answer}
+use Rattle.joint_model.specs.PeerReplay.{LeadsOver, PeerReplay, Marking, Mirror, Refers, brought_to, mirrored, peer_answer}
 use Rattle.joint_model.specs.Sides.{GoesOn, peer_rules}
 use Rattle.joint_model.specs.Told.{references_of}
 use Rattle.joint_model.proofs.Deciding.{none_some}
-use Rattle.joint_model.proofs.Members.{Contains-here, Contains-nil}
+use Rattle.joint_model.proofs.Members.{Contains-cons_cases, Contains-nil}
 use Rattle.joint_laws.proofs.PeerEntries.{MirrorsSafely}
 use Rattle.marking_laws.specs.Marks.{AreMarksExact}
 use Rattle.peer_side.specs.declared.mirroring.OpenMirror.{OpenMirror}
@@ -25,13 +26,17 @@ use Rattle.peer_side.specs.declared.side.OpenMarking.{OpenMarking}
 use Rattle.peer_side.specs.Cycles.{mirrors}
 use Rattle.peer_side.specs.Marks.{IsExact}
 use Rattle.peer_side.specs.Mirroring.{with_stood}
-use Rattle.peer_side.specs.MirrorLaws.{fresh_mirror, state_of}
-use Rattle.peer_side.specs.Mirrors.{Mirrors, AreEndsStrong, IsDue, mirror_as, mirror_in, mirrors_in, mirrored_at, weakened_at, restored_at, owed_by, owed_next, told_since}
+use Rattle.peer_side.specs.MirrorLaws.{HasFurther, fresh_mirror, state_of}
+use Rattle.peer_side.specs.Mirrors.{Mirrors, AreEndsStrong, HasEnd, MayStand, IsDue, given_at, given_since, mirror_as, mirror_in, mirrors_in, mirrored_at, weakened_at, restored_at, owed_by, owed_next, told_since}
 use Rattle.peer_side.specs.Rows.{Rows}
 use Rattle.peer_side.specs.Sides.{IsSide, IsFrom, IsKnown, brought_at, brought_since, marking_as, marking_in, owed, state_with}
 use Rattle.peer_side.proofs.Dues.{IsDue-none, mirror-next, told-push}
+use Rattle.marking_laws.proofs.MarkEvents.{marks-stood}
+use Rattle.row_heap.proofs.Sound.{refers-from}
+use Rattle.row_heap.specs.Rows.{MayRefer, MayReferBoth}
+use Rattle.std.proofs.lemmas.List.Elements.{Contains-append_cases, Contains-get_or}
 use Rattle.peer_side.proofs.Ends.{IsSide-told}
-use Rattle.peer_side.proofs.Mirrored.{stood-answer, stood-exact, stood-refs}
+use Rattle.peer_side.proofs.Mirrored.{stood-answer, stood-refs}
 use Rattle.peer_side.proofs.Quiet.{known-push, not-grown}
 use Rattle.peer_side.proofs.Sides.{from-more, marking-push}
 use Rattle.peer_side.proofs.Steps.{goes-told}
@@ -46,53 +51,103 @@ module _ (es after : List Entry) (e : Entry) (added : after ≡ es ++ e ∷ []) 
   pub cycles-next : mirrors_in after ≡ mirrors_in es ++ mirrored_at e.made.op
   cycles-next = ap (λ l. mirrors_in l) added ∙ told-push mirrored_at 0 es e (omega arith)
 
-  pub cycle-next : (m : OpenMirror) → m.from ≤ length es → mirror_as after m ≡ record (mirror_as es m) { weakened = told_since weakened_at m.from es ++ weakened_at e.made.op; restored = told_since restored_at m.from es ++ restored_at e.made.op }
+  pub cycle-next : (m : OpenMirror) → m.from ≤ length es → mirror_as after m ≡ record (mirror_as es m) { weakened = told_since weakened_at m.from es ++ weakened_at e.made.op; restored = told_since restored_at m.from es ++ restored_at e.made.op; renewed = given_since m.from es ++ given_at e.made.op e.made.reply }
   cycle-next m le = ap (λ l. mirror_as l m) added ∙ mirror-next es e m le
 
   marking-told : (issued : List Issued) (o : OpenMarking) → All (IsKnown issued) es → o.from ≤ length es → marking_as issued after o ≡ record (marking_as issued es o) { brought = brought_since issued o.from es ++ brought_at issued e.made.op e.made.reply }
   marking-told issued o known from = ap (λ l. marking_as issued l o) added ∙ marking-push issued issued es e o (not-grown issued issued refl) known from
 
-  -- an entry that brings nothing back leaves the marking, and one that brings a peer back has it last
+  -- an entry that brings nothing back leaves the marking
   pub marking-same : (issued : List Issued) (o : Option OpenMarking) → All (IsKnown issued) es → IsFrom o (length es) → brought_at issued e.made.op e.made.reply ≡ [] → marking_in issued after o ≡ marking_in issued es o
   marking-same issued None known from none = refl
   marking-same issued (Some o) known from none =
       let with-back : List ℕ → Marking = λ l. record (marking_as issued es o) { brought = l } in
       ap (λ z. Some z) (marking-told issued o known from ∙ (ap (λ l. with-back (brought_since issued o.from es ++ l)) none ∙ ap with-back (append-nil (brought_since issued o.from es))))
 
-  pub marking-more : (issued : List Issued) (o : Option OpenMarking) (p : ℕ) → All (IsKnown issued) es → IsFrom o (length es) → brought_at issued e.made.op e.made.reply ≡ p ∷ [] → marking_in issued after o ≡ brought_to (marking_in issued es o) p
-  marking-more issued None p known from one = refl
-  marking-more issued (Some o) p known from one =
+  -- and one that brings a peer back has it last, whatever further handle was issued
+  pub marking-grown : (issued new : List Issued) (o : Option OpenMarking) (p : ℕ) → HasFurther issued new → All (IsKnown issued) es → IsFrom o (length es) → brought_at new e.made.op e.made.reply ≡ p ∷ [] → marking_in new after o ≡ brought_to (marking_in issued es o) p
+  marking-grown issued new None p grown known from one = refl
+  marking-grown issued new (Some o) p grown known from one =
       let with-back : List ℕ → Marking = λ l. record (marking_as issued es o) { brought = l } in
-      ap (λ z. Some z) (marking-told issued o known from ∙ ap (λ l. with-back (brought_since issued o.from es ++ l)) one)
-
--- there is no reference where none stands
-no-reference : (refs : List (ℕ × ℕ)) → ((p q : ℕ) → Refers refs p q → ⊥) → refs ≡ []
-no-reference [] none = refl
-no-reference (r ∷ refs) none = absurd (none r.0 r.1 (Contains-here r refs))
+      ap (λ z. Some z) (ap (λ l. marking_as new l o) added ∙ (marking-push issued new es e o grown known from ∙ ap (λ l. with-back (brought_since issued o.from es ++ l)) one))
 
 -- a cycle is kept, unless none is
 no-mirror : (es : List Entry) (o : Option OpenMirror) → mirror_in es o ≡ None → o ≡ None
 no-mirror es None e = refl
 no-mirror es (Some m) e = absurd (none_some (mirror_as es m) (sym e))
 
+-- both peers between which references lead are ends of some
+refers-end : (refs : List (End × End)) (p q : ℕ) → Refers refs p q → HasEnd refs p
+refers-end refs p q r = (let w = refers-from refs p q r in (w.0, inl w.1))
+
+end-referred : (refs : List (End × End)) (p q : ℕ) → Refers refs p q → HasEnd refs q
+end-referred refs p q r = by r.through (node p) r.walk
+  where
+    by : (through : List ℕ) (e : End) → LeadsOver refs e through q → HasEnd refs q
+    by [] e w = (e, inr w)
+    by (t ∷ ts) e w = by ts (temporary t) w.1
+
+-- the references that wait may stand
+pub waiting-refer : (rows : Rows) (o : Option OpenMarking) (n : ℕ) (m : Mirrors) (stock : Stock) → IsSide rows o n m stock → AreEndsStrong (state_with stock.entries rows o n m) m.waiting → All (MayReferBoth rows.rows) m.waiting
+waiting-refer rows o n m stock side ends = λ k d l. (let e = get_or m.waiting k d in let there = Contains-get_or m.waiting k d l in (one e.0 (e.1, inl there), one e.1 (e.0, inr there)))
+  where
+    one : (e : End) → (f : End) × (Contains m.waiting (e, f) ⊎ Contains m.waiting (f, e)) → MayRefer rows.rows e
+    one (node p) w = strong-live (state_with stock.entries rows o n m) side.kept p (ends p w)
+    one (temporary t) w = side.temps_within t w.0 w.1
+
+-- a further reference waits
+pub IsSide-pushed : (rows : Rows) (o : Option OpenMarking) (n : ℕ) (m mm : Mirrors) (stock : Stock) (from to : End) → IsSide rows o n m stock → 1 ≤ m.room → MayStand rows.rows.heap m.temps from → MayStand rows.rows.heap m.temps to
+    → mm ≡ record m { waiting = m.waiting ++ (from, to) ∷ []; room = m.room - 1 } → IsSide rows o n mm stock
+IsSide-pushed rows o n m mm stock from to side some a b is = rw is (record {
+  replayed = side.replayed;
+  kept = side.kept;
+  room = side.room;
+  limit = side.limit;
+  few = side.few;
+  issued = side.issued;
+  from = side.from;
+  exact = side.exact;
+  mirrored = side.mirrored;
+  known = side.known;
+  bare = side.bare;
+  refs_room = omega (arith, side.refs_room, some, length_push m.waiting (from, to));
+  temps_room = side.temps_room;
+  temps_within = λ t e c. elim c [ inl w ↦ last t (temporary t, e) (inl refl) (λ k. side.temps_within t e (inl k)) w | inr w ↦ last t (e, temporary t) (inr refl) (λ k. side.temps_within t e (inr k)) w ];
+  few_refs = side.few_refs;
+})
+  where
+    below : (t : ℕ) (e : End) → MayStand rows.rows.heap m.temps e → e ≡ temporary t → t < rows.rows.temps
+    below t e k q = (let w : t < m.temps = subst (MayStand rows.rows.heap m.temps) q k in omega (arith, w, side.temps_room))
+
+    last : (t : ℕ) (r : End × End) → (r.0 ≡ temporary t) ⊎ (r.1 ≡ temporary t) → (Contains m.waiting r → t < rows.rows.temps) → Contains (m.waiting ++ (from, to) ∷ []) r → t < rows.rows.temps
+    last t r at old w = elim (Contains-append_cases m.waiting ((from, to) ∷ []) r w) [
+      | inl k ↦ old k
+      | inr k ↦ elim (Contains-cons_cases (from, to) [] r k) [
+        | inl q ↦ elim at [ inl z ↦ below t from a (ap (λ (p : End × End). p.0) q ∙ z) | inr z ↦ below t to b (ap (λ (p : End × End). p.1) q ∙ z) ]
+        | inr z ↦ absurd (Contains-nil r z)
+      ]
+    ]
+
 -- the cycle that comes to be mirrored, and what is kept then
 abbrev pub stood_mirror : Cycle → ℕ → ℕ → ℕ → OpenMirror
 stood_mirror k snap from handles = record { cycle = k; snap = snap; from = from; left = handles; due = 0; marking = true }
 
 abbrev pub stood_mirrors : Mirrors → Cycle → ℕ → ℕ → ℕ → Mirrors
-stood_mirrors m k snap from handles = record m { mirror = Some (stood_mirror k snap from handles); waiting = []; next = None }
+stood_mirrors m k snap from handles = record m { mirror = Some (stood_mirror k snap from handles); waiting = []; temps = 0; next = None }
 
 -- the references come to stand
 module _ (old w : Rows) (o : Option OpenMarking) (n : ℕ) (m : Mirrors) (stock : Stock) (after : List Entry) (k index : ℕ) (cycle : Cycle) (snap handles : ℕ) (side : IsSide old o n m stock)
     (added : after ≡ stock.entries ++ numbered k (mirrors index cycle (length m.waiting) snap) ∷ []) (put : w ≡ with_stood old m.waiting) (closed : mirror_in stock.entries m.mirror ≡ None) where
   no-refs : old.rows.refs ≡ []
-  no-refs = no-reference old.rows.refs (side.kept.references.none closed)
+  no-refs = side.bare (no-mirror stock.entries m.mirror closed)
 
   fresh : mirror_as after (stood_mirror cycle snap (length after) handles) ≡ fresh_mirror cycle.0 snap
   fresh =
       let empty : (at : Op → List ℕ) → told_since at (length after) after ≡ [] = λ at. ap (flat_map (λ (e : Entry). at e.made.op)) (drop_all (length after) after (omega arith)) in
-      ap (λ l. (let z : Mirror = record { cycle = cycle.0; snap = snap; weakened = l; restored = told_since restored_at (length after) after } in z)) (empty weakened_at)
-      ∙ ap (λ l. (let z : Mirror = record { cycle = cycle.0; snap = snap; weakened = []; restored = l } in z)) (empty restored_at)
+      let gave : given_since (length after) after ≡ [] = ap (flat_map (λ (e : Entry). given_at e.made.op e.made.reply)) (drop_all (length after) after (omega arith)) in
+      ap (λ l. (let z : Mirror = record { cycle = cycle.0; snap = snap; weakened = l; restored = told_since restored_at (length after) after; renewed = given_since (length after) after } in z)) (empty weakened_at)
+      ∙ (ap (λ l. (let z : Mirror = record { cycle = cycle.0; snap = snap; weakened = []; restored = l; renewed = given_since (length after) after } in z)) (empty restored_at)
+      ∙ ap (λ l. (let z : Mirror = record { cycle = cycle.0; snap = snap; weakened = []; restored = []; renewed = l } in z)) gave)
 
   issued-same : w.issued ≡ old.issued
   issued-same = ap (λ (z : Rows). z.issued) put
@@ -121,13 +176,17 @@ module _ (old w : Rows) (o : Option OpenMarking) (n : ℕ) (m : Mirrors) (stock 
       let s = state_with stock.entries old o n m in
       let t = state_with after w o n (stood_mirrors m cycle snap (length after) handles) in
       let was = side.exact mk (sym marking-stays ∙ q) in
-      let there : AreMarksExact (mirrored s cycle.0 (Some snap) m.waiting) mk old.rows.follows old.rows.marks = stood-exact s mk old.rows.follows old.rows.marks cycle.0 snap m.waiting no-refs was in
-      let moved : AreMarksExact t mk old.rows.follows old.rows.marks = subst (λ z. AreMarksExact z mk old.rows.follows old.rows.marks) (ap (λ (a : Answered PeerReplay). a.state) told) there in
+      let there : AreMarksExact (mirrored s cycle.0 (Some snap) m.waiting) mk false old.rows.marks = marks-stood s mk old.rows.follows old.rows.marks cycle.0 snap m.waiting no-refs was in
+      let moved : AreMarksExact t mk false old.rows.marks = subst (λ z. AreMarksExact z mk false old.rows.marks) (ap (λ (a : Answered PeerReplay). a.state) told) there in
       subst (λ (v : Rows). AreMarksExact t mk v.rows.follows v.rows.marks) (sym put) moved
 
   -- what is under a strong handle is live, and spared
   stood-safe : AreEndsStrong (state_with stock.entries old o n m) m.waiting → MirrorsSafely (state_with stock.entries old o n m) (op.Mirror cycle) (references_of m.waiting)
-  stood-safe ends = λ p q r. (let s = state_with stock.entries old o n m in let both = ends p q r in (strong-live s side.kept p both.0, strong-live s side.kept q both.1, strong-safe s side.kept q both.1))
+  stood-safe ends = λ p q r. (
+      let s = state_with stock.entries old o n m in
+      let from = ends p (refers-end m.waiting p q r) in
+      let to = ends q (end-referred m.waiting p q r) in
+      (strong-live s side.kept p from, strong-live s side.kept q to, strong-safe s side.kept q to))
 
 -- the side after it
 pub IsSide-stood : (old w : Rows) (o : Option OpenMarking) (n : ℕ) (m : Mirrors) (stock later : Stock) (k floor index : ℕ) (cycle : Cycle) (snap handles : ℕ) → IsSide old o n m stock → later.entries ≡ stock.entries ++ numbered k (mirrors index cycle (length m.waiting) snap) ∷ [] → AllBelow stock.entries floor → floor ≤ k
@@ -150,6 +209,10 @@ IsSide-stood old w o n m stock later k floor index cycle snap handles side added
     (stood-marks old w o n m stock later.entries k index cycle snap handles side added put closed)
     (record { from = omega arith; due = subst (λ z. IsDue z 0) (sym (fresh old w o n m stock later.entries k index cycle snap handles side added put closed)) (IsDue-none cycle.0 snap) })
     (subst (λ is. All (IsKnown is) later.entries) (sym (ap (λ (z : Rows). z.issued) put)) (known-push old.issued stock.entries later.entries e added (λ h c. absurd (Contains-nil h c)) side.known))
+    (omega (arith, ap (λ (z : Rows). length z.issued) put))
+    (λ z. absurd (none_some (stood_mirror cycle snap (length later.entries) handles) (sym z)))
     (omega (arith, side.refs_room, ap (λ (z : Rows). z.rows.room) put))
+    (omega arith)
+    (λ t e' c. elim c [ inl w ↦ absurd (Contains-nil (temporary t, e') w) | inr w ↦ absurd (Contains-nil (e', temporary t) w) ])
     (omega (arith, few, ap length (stood-refs old w m.waiting (no-refs old w o n m stock later.entries k index cycle snap handles side added put closed) put)))
     side

@@ -10,7 +10,7 @@ use Rattle.joint_model.specs.declared.events.Op.{Op}
 use Rattle.joint_model.specs.PeerReplay.{Mirror}
 use Rattle.joint_model.proofs.Members.{Contains-cons_cases, Contains-here, Contains-nil, Contains-there}
 use Rattle.peer_side.specs.declared.mirroring.OpenMirror.{OpenMirror}
-use Rattle.peer_side.specs.Mirrors.{IsDue, told_since, mirror_as, weakened_at, restored_at}
+use Rattle.peer_side.specs.Mirrors.{IsDue, given_at, given_since, told_since, mirror_as, weakened_at, restored_at}
 
 -- what an entry tells comes last
 pub told-push : (at : Op → List ℕ) (n : ℕ) (es : List Entry) (e : Entry) → n ≤ length es → told_since at n (es ++ e ∷ []) ≡ told_since at n es ++ at e.made.op
@@ -18,15 +18,23 @@ told-push at n es e le =
     let f : Entry → List ℕ = λ z. at z.made.op in
     ap (flat_map f) (drop-append-le n es (e ∷ []) le) ∙ (flat_map-append f (drop n es) (e ∷ []) ∙ ap (λ l. told_since at n es ++ l) (append-nil (f e)))
 
+pub given-push : (n : ℕ) (es : List Entry) (e : Entry) → n ≤ length es → given_since n (es ++ e ∷ []) ≡ given_since n es ++ given_at e.made.op e.made.reply
+given-push n es e le =
+    let f : Entry → List ℕ = λ z. given_at z.made.op z.made.reply in
+    ap (flat_map f) (drop-append-le n es (e ∷ []) le) ∙ (flat_map-append f (drop n es) (e ∷ []) ∙ ap (λ l. given_since n es ++ l) (append-nil (f e)))
+
 -- an entry that tells nothing leaves all as it was
 pub told-still : (at : Op → List ℕ) (n : ℕ) (es : List Entry) (e : Entry) → n ≤ length es → at e.made.op ≡ [] → told_since at n (es ++ e ∷ []) ≡ told_since at n es
 told-still at n es e le none = told-push at n es e le ∙ (ap (λ l. told_since at n es ++ l) none ∙ append-nil (told_since at n es))
 
 -- the mirrored cycle after an entry
-pub mirror-next : (es : List Entry) (e : Entry) (m : OpenMirror) → m.from ≤ length es → mirror_as (es ++ e ∷ []) m ≡ record (mirror_as es m) { weakened = told_since weakened_at m.from es ++ weakened_at e.made.op; restored = told_since restored_at m.from es ++ restored_at e.made.op }
+pub mirror-next : (es : List Entry) (e : Entry) (m : OpenMirror) → m.from ≤ length es
+    → mirror_as (es ++ e ∷ []) m ≡ record (mirror_as es m) { weakened = told_since weakened_at m.from es ++ weakened_at e.made.op; restored = told_since restored_at m.from es ++ restored_at e.made.op; renewed = given_since m.from es ++ given_at e.made.op e.made.reply }
 mirror-next es e m le =
-    ap (λ (l : List ℕ). (let z : Mirror = record { cycle = m.cycle.0; snap = m.snap; weakened = l; restored = told_since restored_at m.from (es ++ e ∷ []) } in z)) (told-push weakened_at m.from es e le)
-    ∙ ap (λ (l : List ℕ). (let z : Mirror = record { cycle = m.cycle.0; snap = m.snap; weakened = told_since weakened_at m.from es ++ weakened_at e.made.op; restored = l } in z)) (told-push restored_at m.from es e le)
+    let all = es ++ e ∷ [] in
+    ap (λ (l : List ℕ). (let z : Mirror = record { cycle = m.cycle.0; snap = m.snap; weakened = l; restored = told_since restored_at m.from all; renewed = given_since m.from all } in z)) (told-push weakened_at m.from es e le)
+    ∙ (ap (λ (l : List ℕ). (let z : Mirror = record { cycle = m.cycle.0; snap = m.snap; weakened = told_since weakened_at m.from es ++ weakened_at e.made.op; restored = l; renewed = given_since m.from all } in z)) (told-push restored_at m.from es e le)
+    ∙ ap (λ (l : List ℕ). (let z : Mirror = record { cycle = m.cycle.0; snap = m.snap; weakened = told_since weakened_at m.from es ++ weakened_at e.made.op; restored = told_since restored_at m.from es ++ restored_at e.made.op; renewed = l } in z)) (given-push m.from es e le))
 
 -- one place fewer, where one number less has to be there
 record IsFewer (xs : List ℕ) (h : ℕ) : Type 0 where
@@ -76,5 +84,5 @@ IsDue-restored m due h d c n =
     }
 
 -- a cycle that comes to be mirrored owes no restore
-pub IsDue-none : (k snap : ℕ) → IsDue (record { cycle = k; snap = snap; weakened = []; restored = [] }) 0
+pub IsDue-none : (k snap : ℕ) → IsDue (record { cycle = k; snap = snap; weakened = []; restored = []; renewed = [] }) 0
 IsDue-none k snap = record { weak_ones = []; count = refl; there = λ x c n. absurd (Contains-nil x c) }

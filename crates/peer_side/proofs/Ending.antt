@@ -27,7 +27,7 @@ use Rattle.peer_side.specs.Cycles.{clears}
 use Rattle.peer_side.specs.Marks.{IsExact}
 use Rattle.peer_side.specs.Mirroring.{strong_row}
 use Rattle.peer_side.specs.MirrorLaws.{state_of}
-use Rattle.peer_side.specs.Mirrors.{Mirrors, AreTargetsRestored, HasRestoredHandle, mirror_as, mirror_in, mirrors_in, owed_by, owed_next}
+use Rattle.peer_side.specs.Mirrors.{Mirrors, AreTargetsRestored, AreWithin, HasRestoredHandle, mirror_as, mirror_in, mirrors_in, owed_by, owed_next}
 use Rattle.peer_side.specs.Rows.{Rows}
 use Rattle.peer_side.specs.Sides.{IsSide, IsKnown, marking_in, owed, state_with}
 use Rattle.peer_side.proofs.Cycles.{cycles-next, marking-same, state-eq}
@@ -115,6 +115,10 @@ IsSide-cleared old w o n m x stock later k floor index cycle side added below ab
     (clear-marks old w o n m x stock later.entries k index cycle side added put here targets)
     tt
     (subst (λ is. All (IsKnown is) later.entries) (sym (ap (λ (z : Rows). z.issued) put)) (known-push old.issued stock.entries later.entries e added (λ g c. absurd (Contains-nil g c)) side.known))
+    (omega (arith, ap (λ (z : Rows). length z.issued) put))
+    (λ z. ap (λ (v : Rows). v.rows.refs) put)
     (omega (arith, side.refs_room, ap (λ (z : Rows). z.rows.room) put))
+    (omega (arith, side.temps_room, ap (λ (z : Rows). z.rows.temps) put))
+    (subst (λ j. AreWithin j m.waiting) (sym (ap (λ (z : Rows). z.rows.temps) put)) side.temps_within)
     (omega (arith, ap (λ (z : Rows). length z.rows.refs) put))
     side

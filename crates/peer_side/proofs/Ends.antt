@@ -34,7 +34,7 @@ use Rattle.peer_side.specs.declared.side.OpenMarking.{OpenMarking}
 use Rattle.peer_side.specs.Marking.{AreMarksKept, IsRoot, IsWholeMarking, with_marking}
 use Rattle.peer_side.specs.Marks.{IsExact}
 use Rattle.peer_side.specs.Rows.{Rows}
-use Rattle.peer_side.specs.Mirrors.{Mirrors, AreMirrored, marked_one, mirror_in, mirrors_begun, mirrors_in, owes}
+use Rattle.peer_side.specs.Mirrors.{Mirrors, AreMirrored, AreWithin, marked_one, mirror_in, mirrors_begun, mirrors_in, owes}
 use Rattle.joint_model.specs.Peers.{Issued}
 use Rattle.joint_model.proofs.HeapLemmas.{thread_itself}
 use Rattle.peer_side.specs.Sides.{IsSide, IsFrom, IsKnown, begins, ends, brought_by, brought_since, marking_as, marking_in, mirror_state, state_with, owed, MarkingIsEnded, IsFaultAt, IsMarkingOf, MayEnd}
@@ -93,31 +93,35 @@ module _ (old w : Rows) (opens : OpenMarking) (n : ℕ) (m : Mirrors) (es after 
 -- a side after one entry
 pub IsSide-told : (old new : Rows) (o p : Option OpenMarking) (n k : ℕ) (m mm : Mirrors) (stock later : Stock) (number floor : ℕ) (made : Made) (told : Told) → later.entries ≡ stock.entries ++ numbered number made ∷ [] → AllBelow stock.entries floor → floor ≤ number
     → GoesOn peer_rules (state_with stock.entries old o n m) made told (state_with later.entries new p k mm) → MirrorsSafely (state_with stock.entries old o n m) made.op told → new.tabled + owed p + owes mm ≤ later.spare → length later.entries + later.spare ≤ 4294967295 → k ≤ n + 1 → IsFrom p (length later.entries)
-    → ((mk : Marking) → marking_in new.issued later.entries p ≡ Some mk → IsExact (state_with later.entries new p k mm) mk new.rows) → AreMirrored later.entries mm.mirror → All (IsKnown new.issued) later.entries → length mm.waiting + mm.room ≤ new.rows.room → length new.rows.refs ≤ 4294967295
+    → ((mk : Marking) → marking_in new.issued later.entries p ≡ Some mk → IsExact (state_with later.entries new p k mm) mk new.rows) → AreMirrored later.entries mm.mirror → All (IsKnown new.issued) later.entries → length new.issued ≤ length old.issued + 1 → (mm.mirror ≡ None → new.rows.refs ≡ []) → length mm.waiting + mm.room ≤ new.rows.room → mm.temps ≤ new.rows.temps → AreWithin new.rows.temps mm.waiting → length new.rows.refs ≤ 4294967295
     → IsSide old o n m stock → IsSide new p k mm later
-IsSide-told old new o p n k m mm stock later number floor made told added below above goes safe room limit count from exact mirrored known refs few side = record {
+IsSide-told old new o p n k m mm stock later number floor made told added below above goes safe room limit count from exact mirrored known issued bare refs temps within few side = record {
   replayed = replayed-told stock.entries later.entries (state_with stock.entries old o n m) (state_with later.entries new p k mm) number floor made told below above added goes side.replayed;
   kept = kept-told (state_with stock.entries old o n m) (state_with later.entries new p k mm) made told goes safe side.kept;
   room = room;
   limit = limit;
   few = omega (arith, count, side.few, ap length added, length_push stock.entries (numbered number made));
+  issued = omega (arith, issued, side.issued, ap length added, length_push stock.entries (numbered number made));
   from = from;
   exact = exact;
   mirrored = mirrored;
   known = known;
+  bare = bare;
   refs_room = refs;
+  temps_room = temps;
+  temps_within = within;
   few_refs = few;
 }
 
 -- and where that entry begins or ends a marking, or is refused: what is mirrored stays
 pub IsSide-next : (old new : Rows) (o p : Option OpenMarking) (n k : ℕ) (m : Mirrors) (stock later : Stock) (number floor : ℕ) (made : Made) (told : Told) → later.entries ≡ stock.entries ++ numbered number made ∷ [] → AllBelow stock.entries floor → floor ≤ number
     → GoesOn peer_rules (state_with stock.entries old o n m) made told (state_with later.entries new p k m) → MirrorsSafely (state_with stock.entries old o n m) made.op told → new.tabled + owed p + owes m ≤ later.spare → length later.entries + later.spare ≤ 4294967295 → k ≤ n + 1 → IsFrom p (length later.entries)
-    → ((mk : Marking) → marking_in new.issued later.entries p ≡ Some mk → IsExact (state_with later.entries new p k m) mk new.rows) → IsQuiet made.op → new.issued ≡ old.issued → new.rows.room ≡ old.rows.room → new.rows.refs ≡ old.rows.refs → IsSide old o n m stock → IsSide new p k m later
-IsSide-next old new o p n k m stock later number floor made told added below above goes safe room limit count from exact quiet issued roomy refs side =
+    → ((mk : Marking) → marking_in new.issued later.entries p ≡ Some mk → IsExact (state_with later.entries new p k m) mk new.rows) → IsQuiet made.op → new.issued ≡ old.issued → new.rows.room ≡ old.rows.room → new.rows.temps ≡ old.rows.temps → new.rows.refs ≡ old.rows.refs → IsSide old o n m stock → IsSide new p k m later
+IsSide-next old new o p n k m stock later number floor made told added below above goes safe room limit count from exact quiet issued roomy temps refs side =
     IsSide-told old new o p n k m m stock later number floor made told added below above goes safe room limit count from exact
     (mirrored-still stock.entries later.entries (numbered number made) m.mirror added side.mirrored quiet)
     (known-next old.issued new.issued stock.entries later.entries (numbered number made) added (not-grown old.issued new.issued issued) quiet side.known)
-    (omega (arith, side.refs_room, roomy)) (omega (arith, side.few_refs, ap length refs)) side
+    (omega (arith, ap length issued)) (λ e. refs ∙ side.bare e) (omega (arith, side.refs_room, roomy)) (omega (arith, side.temps_room, temps)) (subst (λ n. AreWithin n m.waiting) (sym temps) side.temps_within) (omega (arith, side.few_refs, ap length refs)) side
 
 -- a thread is itself
 may-end : (t u : Thread) → ((t ≡ C) ⊎ (t ≡ u)) → (is_thread t C || is_thread t u) ≡ true
@@ -199,6 +203,22 @@ begun-room : (own : Bool) (m : Mirrors) → length (mirrors_begun own m).waiting
 begun-room true m = refl
 begun-room false m = refl
 
+begun-temps : (own : Bool) (m : Mirrors) → (mirrors_begun own m).temps ≡ m.temps
+begun-temps true m = refl
+begun-temps false m = refl
+
+begun-none : (own : Bool) (m : Mirrors) → (mirrors_begun own m).mirror ≡ None → m.mirror ≡ None
+begun-none true m e = by m.mirror e
+  where
+    by : (o : Option OpenMirror) → option_map marked_one o ≡ None → o ≡ None
+    by None e = refl
+    by (Some x) e = absurd (none_some (marked_one x) (sym e))
+begun-none false m e = e
+
+begun-waiting : (own : Bool) (m : Mirrors) → (mirrors_begun own m).waiting ≡ m.waiting
+begun-waiting true m = refl
+begun-waiting false m = refl
+
 -- the side after a begin
 pub IsSide-begun : (old w : Rows) (o : Option OpenMarking) (opens : OpenMarking) (n : ℕ) (m : Mirrors) (own : Bool) (stock later : Stock) (k floor : ℕ) (t : Thread) (i : ℕ) (j : Number) → IsSide old o n m stock → w ≡ with_begun old w.rows
     → ((p : ℕ) → HasMark w.rows.marks p ↔ Reached (IsRoot old.rows.heap (strong_peers old.issued old.table)) (EdgeOf w.rows) p) → marking_in old.issued stock.entries o ≡ None → opens.number.0 ≡ n + 1 → opens.by ≡ t → opens.from ≡ length later.entries → opens.begin.value ≡ old → j.0 ≡ n + 1
@@ -216,7 +236,12 @@ IsSide-begun old w o opens n m own stock later k floor t i j side rest marks clo
     (λ mk q. subst (λ (z : PeerReplay). IsExact z mk w.rows) same (begun-exact old w opens n m stock.entries later.entries t rest number thread from begin still marks mk q))
     (begun-there later.entries own m (mirrored-still stock.entries later.entries (numbered k (begins t i j)) m.mirror added side.mirrored quiet))
     (known-next old.issued w.issued stock.entries later.entries (numbered k (begins t i j)) added (not-grown old.issued w.issued (ap (λ (z : Rows). z.issued) rest)) quiet side.known)
-    (omega (arith, side.refs_room, begun-room own m, ap (λ (z : Rows). z.rows.room) rest)) (omega (arith, side.few_refs, ap (λ (z : Rows). length z.rows.refs) rest)) side
+    (omega (arith, ap (λ (z : Rows). length z.issued) rest))
+    (λ e. ap (λ (z : Rows). z.rows.refs) rest ∙ side.bare (begun-none own m e))
+    (omega (arith, side.refs_room, begun-room own m, ap (λ (z : Rows). z.rows.room) rest))
+    (omega (arith, side.temps_room, begun-temps own m, ap (λ (z : Rows). z.rows.temps) rest))
+    (subst (λ l. AreWithin w.rows.temps l) (sym (begun-waiting own m)) (subst (λ n. AreWithin n m.waiting) (sym (ap (λ (z : Rows). z.rows.temps) rest)) side.temps_within))
+    (omega (arith, side.few_refs, ap (λ (z : Rows). length z.rows.refs) rest)) side
 
 -- the entry of a sweep may come next
 pub side-swept : (old w : Rows) (o : Option OpenMarking) (n : ℕ) (m : Mirrors) (stock : Stock) (after : List Entry) (k : ℕ) (t : Thread) (i : ℕ) (j : Number) (span : Span) → IsSide old o n m stock → w ≡ with_swept old w.rows → AreWhite old.rows (drop (length old.rows.heap.freed) w.rows.heap.freed)
@@ -241,7 +266,7 @@ IsSide-swept old w (Some opens) n m stock later k floor t i j span side rest whi
     roomy
     (omega (arith, spare, side.limit, ap length added, length_push stock.entries (numbered k (ends t i j span))))
     (omega arith) tt (λ mk e. absurd (none_some mk e))
-    (mark-quiet op.Sweep tt) (ap (λ (z : Rows). z.issued) rest) (ap (λ (z : Rows). z.rows.room) rest) (ap (λ (z : Rows). z.rows.refs) rest) side
+    (mark-quiet op.Sweep tt) (ap (λ (z : Rows). z.issued) rest) (ap (λ (z : Rows). z.rows.room) rest) (ap (λ (z : Rows). z.rows.temps) rest) (ap (λ (z : Rows). z.rows.refs) rest) side
 
 -- what the side tells of its marking
 pub none-open : (o : Option Marking) → IsMarkingOf None o → o ≡ None
@@ -295,4 +320,4 @@ pub IsSide-pass : (rows : Rows) (o : Option OpenMarking) (n : ℕ) (m : Mirrors)
 IsSide-pass rows o n m stock later k floor made side added passes below above room limit =
     IsSide-next rows rows o o n n m stock later k floor made nothing added below above (pass-goes rows o n m stock later.entries k made side added passes) (safe-nothing (state_with stock.entries rows o n m) made.op) room limit (omega arith)
     (from-more o (length stock.entries) (length later.entries) (omega (arith, ap length added, length_push stock.entries (numbered k made))) side.from)
-    (pass-exact rows o n m stock later.entries k made side added passes) (mark-quiet made.op passes.event) refl refl refl side
+    (pass-exact rows o n m stock later.entries k made side added passes) (mark-quiet made.op passes.event) refl refl refl refl side

@@ -16,7 +16,7 @@ use Rattle.joint_model.specs.declared.names.Sort.TheVariants.{Framework}
 use Rattle.joint_model.specs.declared.events.Reply.TheVariants as says
 use Rattle.joint_model.specs.declared.events.Reply.{Reply}
 use Rattle.joint_model.specs.Heaps.{Heap, Answered, answer, is_full, slot, place, fields_of, next_number, numbered_set, with_var, with_static, with_object}
-use Rattle.joint_model.specs.Peers.{Peers, on_peer_heap, peer_name, sort_of, pair_made, gripped, landed, globalised, name_given, name_freed, name_read, peer_read}
+use Rattle.joint_model.specs.Peers.{Peers, handles_full, on_peer_heap, peer_name, sort_of, pair_made, gripped, landed, globalised, name_given, name_freed, name_read, peer_read}
 use Rattle.joint_model.specs.PeerReplay.{PeerReplay, opening_peer_replay, on_table, untabled, bring_by, brings, table_target, peer_answer}
 use Rattle.joint_model.specs.Run.{thread_number}
 use Rattle.joint_model.specs.Told.{nothing}
@@ -27,7 +27,7 @@ use Rattle.row_heap.specs.Rows.{HeapRows}
 use Rattle.global_handles.specs.declared.Hold.TheVariants.{Held, Raw}
 use Rattle.global_handles.specs.declared.Strength.{Strength}
 use Rattle.global_handles.specs.declared.Strength.TheVariants.{Strong}
-use Rattle.peer_side.specs.declared.rows.Issue.{Issue}
+use Rattle.peer_side.specs.declared.issues.Issue.{Issue}
 use Rattle.peer_side.specs.Rows.{Rows, PeersAnswer, peers_in, with_rows, issued_to, issued_as, strength_as, marking_by, marking_after, GoesBy}
 
 -- an event that issues no handle
@@ -50,10 +50,10 @@ globalised-some old g v p st var = ap (λ o. elim o [ None ↦ answer says.Empty
 pub answers-taken : (old : Rows) (g p : ℕ) (st : Strength) (o : Option ℕ) (h : ℕ) → o ≡ Some h → PeersAnswer old (name_given (peers_in old) g p (strength_as st) o) says.Taken old
 answers-taken old g p st o h name = answers-still old old (name_given (peers_in old) g p (strength_as st) o) says.Taken (rw name refl) refl refl
 
-pub answers-no_handle : (old : Rows) (g p : ℕ) (st : Strength) (o : Option ℕ) → o ≡ None → is_full old.issued ≡ true → PeersAnswer old (name_given (peers_in old) g p (strength_as st) o) says.Full old
+pub answers-no_handle : (old : Rows) (g p : ℕ) (st : Strength) (o : Option ℕ) → o ≡ None → handles_full (peers_in old) ≡ true → PeersAnswer old (name_given (peers_in old) g p (strength_as st) o) says.Full old
 answers-no_handle old g p st o name full = answers-still old old (name_given (peers_in old) g p (strength_as st) o) says.Full (rw (name, full) refl) refl refl
 
-pub answers-named : (old : Rows) (g : ℕ) (p : PNum) (st : Strength) (o : Option ℕ) (h : HNum) → o ≡ None → is_full old.issued ≡ false → h.0 ≡ length old.issued + 1
+pub answers-named : (old : Rows) (g : ℕ) (p : PNum) (st : Strength) (o : Option ℕ) (h : HNum) → o ≡ None → handles_full (peers_in old) ≡ false → h.0 ≡ length old.issued + 1
     → PeersAnswer old (name_given (peers_in old) g p.0 (strength_as st) o) (says.H h) (record (issued_to old record { peer = p; hold = Raw; strength = st }) { names = slice_set old.names g (Some h.0) })
 answers-named old g p st o h name full number =
     let i : Issue = record { peer = p; hold = Raw; strength = st } in
@@ -70,7 +70,7 @@ goes-unnamed old g h n some s =
     let new : Rows = record old { names = slice_set old.names g None; table = numbered_set old.table h None; tabled = n } in
     rw (some, name_freed) (ap (λ t. answer says.Ok (record s { peers = peers_in new; table = t })) (table-still (with_rows s (record old { table = numbered_set old.table h None })) (peers_in new) refl))
 
-pub answers-pair : (old : Rows) (rows : HeapRows) (sorts : List Sort) (sort : Sort) (n : ℕ) (p : PNum) (h : HNum) → (is_full old.rows.heap.fields || is_full old.issued) ≡ false → p.0 ≡ next_number old.rows.heap → h.0 ≡ length old.issued + 1
+pub answers-pair : (old : Rows) (rows : HeapRows) (sorts : List Sort) (sort : Sort) (n : ℕ) (p : PNum) (h : HNum) → (is_full old.rows.heap.fields || handles_full (peers_in old)) ≡ false → p.0 ≡ next_number old.rows.heap → h.0 ≡ length old.issued + 1
     → rows.heap ≡ with_object old.rows.heap n → sorts ≡ old.sorts ++ sort ∷ []
     → PeersAnswer old (pair_made (peers_in old) sort n) (says.Made p h) (record (issued_to old record { peer = p; hold = Held; strength = Strong }) { rows = rows; sorts = sorts })
 answers-pair old rows sorts sort n p h room number next grown more =
@@ -80,7 +80,7 @@ answers-pair old rows sorts sort n p h room number next grown more =
     let handle : h ≡ record { 0 = length old.issued + 1 } = ap (λ (m : ℕ). (let q : HNum = record { 0 = m } in q)) next in
     record { peers = rw (room, grown, more, peer, handle) refl; table = sym (table-issued (with_rows opening_peer_replay old) (peers_in new) (issued_as i) refl) }
 
-pub answers-gripped : (old : Rows) (x : ℕ) (p : PNum) (h : HNum) (sort : Sort) (n : ℕ) → slot old.rows.heap.statics x ≡ Some p.0 → is_full old.issued ≡ false → h.0 ≡ length old.issued + 1 → sort ≡ sort_of (peers_in old) p.0 → n ≡ length (fields_of old.rows.heap p.0)
+pub answers-gripped : (old : Rows) (x : ℕ) (p : PNum) (h : HNum) (sort : Sort) (n : ℕ) → slot old.rows.heap.statics x ≡ Some p.0 → handles_full (peers_in old) ≡ false → h.0 ≡ length old.issued + 1 → sort ≡ sort_of (peers_in old) p.0 → n ≡ length (fields_of old.rows.heap p.0)
     → PeersAnswer old (gripped (peers_in old) x) (says.Gripped p h sort n) (issued_to old record { peer = p; hold = Held; strength = Strong })
 answers-gripped old x p h sort n some full number kind len =
     let i : Issue = record { peer = p; hold = Held; strength = Strong } in

@@ -7,7 +7,7 @@ use Rattle.joint_model.specs.PeerReplay.{TableRow}
 use Rattle.joint_model.specs.declared.names.Sort.{Sort}
 use Rattle.global_handles.specs.Rows.{Table, IsRising, row_in}
 use Rattle.row_heap.specs.Rows.{HeapRows}
-use Rattle.peer_side.specs.declared.rows.Issue.{Issue}
+use Rattle.peer_side.specs.declared.issues.Issue.{Issue}
 use Rattle.peer_side.specs.Marking.{cleared_on}
 use Rattle.peer_side.specs.Rows.{AreShort, ArePeerRows, Rows, issued_as, rows_with, table_to}
 use Rattle.peer_side.proofs.Clearing.{issued-cleared}
@@ -22,11 +22,11 @@ ArePeerRows-marked v w sorts issued table same a = record {
 }
 
 -- and where handles on some peers were cleared
-pub ArePeerRows-cleared : (v w : HeapRows) (sorts : List Sort) (issued : List Issue) (old new : Table) (xs : List ℕ) → w.heap.fields ≡ v.heap.fields → new.rows ≡ map (cleared_on xs) old.rows → new.made ≡ old.made → IsRising new
+pub ArePeerRows-cleared : (v w : HeapRows) (sorts : List Sort) (issued : List Issue) (old new : Table) (xs : List ℕ) → w.heap.fields ≡ v.heap.fields → new.rows ≡ map (cleared_on xs) old.rows → new.last ≡ old.last → IsRising new
     → ArePeerRows v sorts issued old → ArePeerRows w sorts issued new
-ArePeerRows-cleared v w sorts issued old new xs same rows made rising a = record {
+ArePeerRows-cleared v w sorts issued old new xs same rows last rising a = record {
   rising = rising;
-  places = made ∙ a.places;
+  places = last ∙ a.places;
   rows_issued = λ h r at. issued-cleared xs old.rows issued a.rows_issued h r (ap (λ l. row_in l h) (sym rows) ∙ at);
   sorted = a.sorted ∙ ap length (sym same);
   short = subst (λ fs. AreShort (record v.heap { fields = fs })) (sym same) a.short;
@@ -40,9 +40,10 @@ freed-end before after old new b a =
     ap peer_numbers whole ∙ (sym (drop-map (λ (p : PNum). p.0) (length before) after) ∙ (ap (drop (length before)) a ∙ ap (λ n. drop n new) count))
 
 -- the parts as they are seen
-pub rows-as : (v w u : HeapRows) (sorts : List Sort) (names : List (Option ℕ)) (issued : List Issue) (old new : Table) (table : List (Option TableRow)) → w ≡ u → table_to new.rows new.made ≡ table → length new.rows ≡ length old.rows
+pub rows-as : (v w u : HeapRows) (sorts : List Sort) (names : List (Option ℕ)) (issued : List Issue) (old new : Table) (table : List (Option TableRow)) → w ≡ u → new.made ≡ old.made → table_to new.rows new.last ≡ table → length new.rows ≡ length old.rows
     → rows_with w sorts names issued new ≡ record (rows_with v sorts names issued old) { rows = u; table = table }
-rows-as v w u sorts names issued old new table e t n =
-    ap (λ (z : HeapRows). let q : Rows = record { rows = z; sorts = sorts; names = names; issued = map issued_as issued; table = table_to new.rows new.made; tabled = length new.rows } in q) e
-    ∙ (ap (λ (z : List (Option TableRow)). let q : Rows = record { rows = u; sorts = sorts; names = names; issued = map issued_as issued; table = z; tabled = length new.rows } in q) t
-    ∙ ap (λ (z : ℕ). let q : Rows = record { rows = u; sorts = sorts; names = names; issued = map issued_as issued; table = table; tabled = z } in q) n)
+rows-as v w u sorts names issued old new table e made t n =
+    ap (λ (z : HeapRows). let q : Rows = record { rows = z; sorts = sorts; names = names; issued = map issued_as issued; made = new.made; table = table_to new.rows new.last; tabled = length new.rows } in q) e
+    ∙ (ap (λ (z : ℕ). let q : Rows = record { rows = u; sorts = sorts; names = names; issued = map issued_as issued; made = z; table = table_to new.rows new.last; tabled = length new.rows } in q) made
+    ∙ (ap (λ (z : List (Option TableRow)). let q : Rows = record { rows = u; sorts = sorts; names = names; issued = map issued_as issued; made = old.made; table = z; tabled = length new.rows } in q) t
+    ∙ ap (λ (z : ℕ). let q : Rows = record { rows = u; sorts = sorts; names = names; issued = map issued_as issued; made = old.made; table = table; tabled = z } in q) n))

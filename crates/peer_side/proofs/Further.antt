@@ -7,12 +7,12 @@ use Rattle.joint_model.specs.declared.names.Sort.{Sort}
 use Rattle.joint_model.specs.declared.names.Sort.TheVariants.{Framework}
 use Rattle.joint_model.specs.declared.events.Reply.TheVariants as says
 use Rattle.joint_model.specs.Heaps.{Heap, is_full, next_number, with_object, with_var}
-use Rattle.joint_model.specs.Peers.{pair_made, peer_made}
+use Rattle.joint_model.specs.Peers.{handles_full, pair_made, peer_made}
 use Rattle.global_handles.specs.declared.Hold.TheVariants.{Held}
 use Rattle.global_handles.specs.declared.Strength.TheVariants.{Strong}
 use Rattle.global_handles.specs.Rows.{Table, IsRising, fresh_row}
 use Rattle.row_heap.specs.Rows.{HeapRows}
-use Rattle.peer_side.specs.declared.rows.Issue.{Issue}
+use Rattle.peer_side.specs.declared.issues.Issue.{Issue}
 use Rattle.peer_side.specs.Marks.{AreMarksSame, IsMarkedToo}
 use Rattle.peer_side.specs.Rows.{Rows, PeersAnswer, ArePeerRows, peers_in, rows_with, issued_as}
 use Rattle.peer_side.proofs.Events.{answers-pair, answers-still}
@@ -26,18 +26,20 @@ with_new v n = record v { heap = with_object v.heap n; marks = v.marks ++ true �
 
 -- a handle came last, among those issued and in the table
 pub record IsIssued (issued after : List Issue) (old new : Table) (i : Issue) (h : HNum) : Type 0 where
-  pub number : h.0 ≡ old.made + 1
+  pub number : h.0 ≡ old.last + 1
   pub rows : new.rows ≡ old.rows ++ fresh_row h i.peer i.hold i.strength ∷ []
   pub made : new.made ≡ old.made + 1
+  pub last : new.last ≡ old.last + 1
   pub rising : IsRising new
   pub more : after ≡ issued ++ i ∷ []
 
 -- the same where room was taken first
 pub issued-reserved : (issued mid after : List Issue) (old ready new : Table) (i : Issue) (h : HNum) → mid ≡ issued → ready ≡ record old { room = 1 } → IsIssued mid after ready new i h → IsIssued issued after old new i h
 issued-reserved issued mid after old ready new i h e r w = record {
-  number = w.number ∙ ap (λ (t : Table). t.made + 1) r;
+  number = w.number ∙ ap (λ (t : Table). t.last + 1) r;
   rows = w.rows ∙ ap (λ (t : Table). t.rows ++ fresh_row h i.peer i.hold i.strength ∷ []) r;
   made = w.made ∙ ap (λ (t : Table). t.made + 1) r;
+  last = w.last ∙ ap (λ (t : Table). t.last + 1) r;
   rising = w.rising;
   more = w.more ∙ ap (λ z. z ++ i ∷ []) e;
 }
@@ -55,7 +57,7 @@ pair-fits old new sorts after sort issued further table table' i h n short made 
     let grown = peer-fits old new new new.heap sorts after sort issued table n short made refl refl more kept in
     record {
       rising = w.rising;
-      places = omega (arith, w.made, kept.places, ap length w.more, length-append issued (i ∷ []));
+      places = omega (arith, w.last, kept.places, ap length w.more, length-append issued (i ∷ []));
       rows_issued = AreRowsIssued-pushed issued further table table' i h w.more w.number w.rows kept.places kept.rising kept.rows_issued;
       sorted = grown.sorted;
       short = grown.short;
@@ -66,7 +68,7 @@ pub further-marked : (v : Rows) (old mid new : HeapRows) (h : Heap) (sorts : Lis
     → mid ≡ with_new old n → new ≡ record mid { heap = h } → IsMarkedToo v.rows new x
 further-marked v old mid new h sorts names issued table x n view number len made named =
     subst (λ (z : Rows). IsMarkedToo z.rows new x) view
-    (marked-too old new x number len (ap (λ (z : HeapRows). z.refs) named ∙ ap (λ (z : HeapRows). z.refs) made) (ap (λ (z : HeapRows). z.follows) named ∙ ap (λ (z : HeapRows). z.follows) made) (ap (λ (z : HeapRows). z.room) named ∙ ap (λ (z : HeapRows). z.room) made)
+    (marked-too old new x number len (ap (λ (z : HeapRows). z.refs) named ∙ ap (λ (z : HeapRows). z.refs) made) (ap (λ (z : HeapRows). z.follows) named ∙ ap (λ (z : HeapRows). z.follows) made) (ap (λ (z : HeapRows). z.room) named ∙ ap (λ (z : HeapRows). z.room) made) (ap (λ (z : HeapRows). z.temps) named ∙ ap (λ (z : HeapRows). z.temps) made)
     (ap (λ (z : HeapRows). z.marks) named ∙ ap (λ (z : HeapRows). z.marks) made))
 
 -- the replay makes the peer, which the variable names
@@ -81,13 +83,13 @@ peer-answers v old mid new sorts after names issued table p at n view room numbe
 
 -- the replay makes the pair
 pub pair-answers : (v : Rows) (old new : HeapRows) (sorts after : List Sort) (sort : Sort) (names : List (Option ℕ)) (issued further : List Issue) (table table' : Table) (p : PNum) (h : HNum) (n : ℕ) → rows_with old sorts names issued table ≡ v
-    → (is_full v.rows.heap.fields || is_full v.issued) ≡ false → p.0 ≡ next_number old.heap → new ≡ with_new old n → after ≡ sorts ++ sort ∷ [] → IsIssued issued further table table' record { peer = p; hold = Held; strength = Strong } h → ArePeerRows old sorts issued table
+    → (is_full v.rows.heap.fields || handles_full (peers_in v)) ≡ false → p.0 ≡ next_number old.heap → new ≡ with_new old n → after ≡ sorts ++ sort ∷ [] → IsIssued issued further table table' record { peer = p; hold = Held; strength = Strong } h → ArePeerRows old sorts issued table
     → PeersAnswer v (pair_made (peers_in v) sort n) (says.Made p h) (rows_with new after names further table')
 pair-answers v old new sorts after sort names issued further table table' p h n view left number made more w kept =
     let old-rows : Rows = rows_with old sorts names issued table in
-    let seen = rows-issued new after names issued further table table' record { peer = p; hold = Held; strength = Strong } h w.more w.number w.rows w.made kept.rising in
+    let seen = rows-issued new after names issued further table table' record { peer = p; hold = Held; strength = Strong } h w.more w.number w.rows w.made w.last kept.rising in
     let next : h.0 ≡ length old-rows.issued + 1 = omega (arith, w.number, kept.places, length-map issued issued_as) in
-    subst (λ (z : Rows). (is_full z.rows.heap.fields || is_full z.issued) ≡ false → PeersAnswer z (pair_made (peers_in z) sort n) (says.Made p h) (rows_with new after names further table')) view
+    subst (λ (z : Rows). (is_full z.rows.heap.fields || handles_full (peers_in z)) ≡ false → PeersAnswer z (pair_made (peers_in z) sort n) (says.Made p h) (rows_with new after names further table')) view
     (λ room. subst (λ (z : Rows). PeersAnswer old-rows (pair_made (peers_in old-rows) sort n) (says.Made p h) z) (sym seen)
     (answers-pair old-rows new after sort n p h room number next (ap (λ (z : HeapRows). z.heap) made) more))
     left

@@ -1,6 +1,6 @@
 -- A step leaves a mirrored cycle as it is: its entry mirrors no cycle, and weakens and restores no handle; and handles that were issued stay as they
 -- were issued.
-use Rattle.std.proofs.Common.{◌≡◌, ℕ, Bool, ◌||◌, [], ◌∷◌, List, Option, Some, None, refl, sym, ap}
+use Rattle.std.proofs.Common.{◌≡◌, ℕ, Bool, ◌||◌, [], ◌∷◌, List, Option, Some, None, refl, sym, ap, arith}
 use Rattle.std.proofs.lemmas.List.{append-nil}
 use Rattle.joint_model.specs.declared.names.Sort.TheVariants.{Framework}
 use Rattle.joint_model.specs.declared.names.Thread.{Thread}
@@ -20,11 +20,11 @@ use Rattle.std.specs.Prelude.{length, slice_set}
 use Rattle.row_heap.specs.Rows.{HeapRows}
 use Rattle.peer_side.specs.Marks.{MarksNew, MarksBrought, MarksAfter}
 use Rattle.peer_side.specs.MirrorLaws.{HasFurther}
-use Rattle.peer_side.specs.Mirrors.{mirrored_at, weakened_at, restored_at}
+use Rattle.peer_side.specs.Mirrors.{given_at, mirrored_at, weakened_at, restored_at}
 use Rattle.peer_side.specs.Steps.{IsPeerStep}
 
 stays : (is : List Issued) → HasFurther is is
-stays is = ([], sym (append-nil is))
+stays is = ([], sym (append-nil is), omega arith)
 
 -- an event of the peers alone
 abbrev Grows : Peers → Answered Peers → Type 0
@@ -34,7 +34,7 @@ given : (s : Peers) (g p : ℕ) (st : Strength) (o : Option ℕ) → Grows s (na
 given s g p st (Some h) = stays s.issued
 given s g p st None =
     test-cases (Grows s) (handles_full s) (answer says.Full s) (answer (handle_name (next_handle s)) (record (with_handle s p raw st) { names = slice_set s.names g (Some (next_handle s)) }))
-    (stays s.issued) (record { peer = p; hold = raw; strength = st } ∷ [], refl)
+    (stays s.issued) (record { peer = p; hold = raw; strength = st } ∷ [], refl, omega arith)
 
 named : (s : Peers) (g v : ℕ) (st : Strength) → Grows s (globalised s g v st)
 named s g v st = option-cases (Grows s) (answer says.Empty s) (λ p. name_given s g p st (slot s.names g)) (slot s.heap.vars v) (stays s.issued) (λ p. given s g p st (slot s.names g))
@@ -47,7 +47,7 @@ held-one : (s : Peers) (o : Option ℕ) → Grows s (peer_gripped s o)
 held-one s None = stays s.issued
 held-one s (Some p) =
     test-cases (Grows s) (handles_full s) (answer says.Full s) (answer (says.Gripped record { 0 = p } record { 0 = next_handle s } (sort_of s p) (length (fields_of s.heap p))) (with_handle s p held strong))
-    (stays s.issued) (record { peer = p; hold = held; strength = strong } ∷ [], refl)
+    (stays s.issued) (record { peer = p; hold = held; strength = strong } ∷ [], refl, omega arith)
 
 put : (s : Peers) (x : ℕ) (o : Option ℕ) → Grows s (landed s x o)
 put s x None = stays s.issued
@@ -76,7 +76,7 @@ issued-grows s t (op.Line (act.WRead v g)) cites step =
 issued-grows s t (op.Line a) cites step = line-grows (table_target s) s.peers (thread_number t) a
 issued-grows s t (op.Make sort n) cites step =
     test-cases (Grows s.peers) (is_full s.peers.heap.fields || handles_full s.peers) (answer says.Full s.peers) (answer (says.Made record { 0 = next_number s.peers.heap } record { 0 = next_handle s.peers }) (with_handle (with_peer s.peers sort n) (next_number s.peers.heap) held strong))
-    (stays s.peers.issued) (record { peer = next_number s.peers.heap; hold = held; strength = strong } ∷ [], refl)
+    (stays s.peers.issued) (record { peer = next_number s.peers.heap; hold = held; strength = strong } ∷ [], refl, omega arith)
 issued-grows s t (op.Land h x) cites step = (let a = on_table s (landed s.peers x.0 (table_target s h.0)) in brought-by s.peers.issued a a.reply (put s.peers x.0 (table_target s h.0)))
 issued-grows s t (op.Grip x) cites step = held-one s.peers (slot s.peers.heap.statics x.0)
 issued-grows s t (op.Release h) cites step = stays s.peers.issued
@@ -109,19 +109,23 @@ pub step-restores : (t : Thread) (o : Op) → IsPeerStep t o → restored_at o �
 step-restores t (op.Restore h) step = absurd step
 step-restores t _ step = refl
 
+pub step-gives : (t : Thread) (o : Op) → IsPeerStep t o → (r : Reply) → given_at o r ≡ []
+step-gives t (op.Restore h) step r = absurd step
+step-gives t _ step r = refl
+
 -- the room for references stays
-room-new : (old : HeapRows) (r : Reply) (new : HeapRows) → MarksNew old r new → new.room ≡ old.room
-room-new old (says.P p) new m = m.room
-room-new old (says.Made p h) new m = m.room
-room-new old _ new m = ap (λ (v : HeapRows). v.room) m
+room-new : (old : HeapRows) (r : Reply) (new : HeapRows) → MarksNew old r new → (new.room ≡ old.room) × (new.temps ≡ old.temps)
+room-new old (says.P p) new m = (m.room, m.temps)
+room-new old (says.Made p h) new m = (m.room, m.temps)
+room-new old _ new m = (ap (λ (v : HeapRows). v.room) m, ap (λ (v : HeapRows). v.temps) m)
 
-room-brought : (b : Bool) (old : HeapRows) (r : Reply) (new : HeapRows) → MarksBrought b old r new → new.room ≡ old.room
-room-brought b old (says.P p) new m = m.room
-room-brought b old _ new m = ap (λ (v : HeapRows). v.room) m
+room-brought : (b : Bool) (old : HeapRows) (r : Reply) (new : HeapRows) → MarksBrought b old r new → (new.room ≡ old.room) × (new.temps ≡ old.temps)
+room-brought b old (says.P p) new m = (m.room, m.temps)
+room-brought b old _ new m = (ap (λ (v : HeapRows). v.room) m, ap (λ (v : HeapRows). v.temps) m)
 
-pub room-after : (b : Bool) (old : HeapRows) (o : Op) (r : Reply) (new : HeapRows) → MarksAfter b old o r new → new.room ≡ old.room
+pub room-after : (b : Bool) (old : HeapRows) (o : Op) (r : Reply) (new : HeapRows) → MarksAfter b old o r new → (new.room ≡ old.room) × (new.temps ≡ old.temps)
 room-after b old (op.Line (act.NewPeer v n)) r new m = room-new old r new m
 room-after b old (op.Make sort n) r new m = room-new old r new m
 room-after b old (op.Line (act.WRead v g)) r new m = room-brought b old r new m
 room-after b old (op.Land h x) r new m = room-brought b old r new m
-room-after b old _ r new m = ap (λ (v : HeapRows). v.room) m
+room-after b old _ r new m = (ap (λ (v : HeapRows). v.room) m, ap (λ (v : HeapRows). v.temps) m)

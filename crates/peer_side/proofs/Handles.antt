@@ -15,14 +15,16 @@ use Rattle.std.proofs.lemmas.Bool.Decides.{nat_tests}
 use Rattle.joint_model.proofs.Deciding.{none_some}
 use Rattle.joint_model.proofs.Numbered.{numbered-push_cases, numbered-push_old, numbered-push_new, numbered-past, numbered-within}
 use Rattle.joint_model.specs.Heaps.{numbered_at, numbered_set}
-use Rattle.joint_model.specs.Peers.{peer_of}
+use Rattle.joint_model.specs.Peers.{held, peer_of, strong}
 use Rattle.joint_model.specs.PeerReplay.{TableRow, opening_peer_replay, table_target}
 use Rattle.global_handles.specs.declared.HandleRow.{HandleRow}
-use Rattle.global_handles.specs.Rows.{Table, row_in, target_in, without, fresh_row, RisesBetween, IsRising}
+use Rattle.global_handles.specs.declared.Hold.TheVariants.{Held}
+use Rattle.global_handles.specs.declared.Strength.TheVariants.{Strong}
+use Rattle.global_handles.specs.Rows.{Table, row_in, target_in, without, fresh_row, renewed, renewed_rows, RisesBetween, IsRising}
 use Rattle.global_handles.proofs.Lookups.{row_in-push_other, row_in-push_new, row_in-above, row_in-without_same, row_in-without_other}
-use Rattle.global_handles.proofs.Rows.{row_in-below, without-below}
+use Rattle.global_handles.proofs.Rows.{RisesBetween-without, row_in-below, without-below}
 use Rattle.row_heap.specs.Rows.{HeapRows}
-use Rattle.peer_side.specs.declared.rows.Issue.{Issue}
+use Rattle.peer_side.specs.declared.issues.Issue.{Issue}
 use Rattle.peer_side.specs.Rows.{table_to, row_as, rows_with, with_rows, issued_as, issued_to, number_of, AreRowsIssued}
 use Rattle.peer_side.proofs.Roots.{table_to-count}
 
@@ -96,6 +98,17 @@ row_in-shown rows (suc i) (suc n) row at = elim (numbered-push_cases (table_to r
       (found.0, ap (λ k. row_in rows record { 0 = k }) same ∙ found.1)
 ]
 
+-- and it is shown as that row
+pub shown-is : (rows : List HandleRow) (h n : ℕ) (row : TableRow) (r : HandleRow) → numbered_at (table_to rows n) h ≡ Some (Some row) → row_in rows record { 0 = h } ≡ Some r → row_as r ≡ row
+shown-is rows zero n row r at found = absurd (none_some (Some row) at)
+shown-is rows (suc i) zero row r at found = absurd (none_some (Some row) at)
+shown-is rows (suc i) (suc n) row r at found = elim (numbered-push_cases (table_to rows n) (seen_in rows (suc n)) (suc i) (Some row) at) [
+  | inl w ↦ shown-is rows (suc i) n row r w found
+  | inr w ↦
+      let same : suc i ≡ suc n = omega (arith, w.0, table_to-count rows n) in
+      same_Some (row_as r) row (ap (option_map row_as) (sym (ap (λ k. row_in rows record { 0 = k }) (sym same) ∙ found)) ∙ w.1)
+]
+
 -- one row goes with a number that has one
 pub length-without : (low high : ℕ) (rows : List HandleRow) (h : HNum) (r : HandleRow) → RisesBetween low high rows → row_in rows h ≡ Some r → length (without h rows) + 1 ≡ length rows
 length-without low high [] h r rises at = absurd (none_some r at)
@@ -120,22 +133,39 @@ length-without_le (x ∷ rs) h = by (eqb h.0 x.number.0) refl (length-without_le
     by false e rest = rw e (omega arith)
 
 -- a handle is issued
-pub rows-issued : (rows : HeapRows) (sorts : List Sort) (names : List (Option ℕ)) (issued after : List Issue) (old new : Table) (i : Issue) (h : HNum) → after ≡ issued ++ i ∷ [] → h.0 ≡ old.made + 1 → new.rows ≡ old.rows ++ fresh_row h i.peer i.hold i.strength ∷ [] → new.made ≡ old.made + 1 → IsRising old
+pub rows-issued : (rows : HeapRows) (sorts : List Sort) (names : List (Option ℕ)) (issued after : List Issue) (old new : Table) (i : Issue) (h : HNum) → after ≡ issued ++ i ∷ [] → h.0 ≡ old.last + 1 → new.rows ≡ old.rows ++ fresh_row h i.peer i.hold i.strength ∷ [] → new.made ≡ old.made + 1 → new.last ≡ old.last + 1 → IsRising old
     → rows_with rows sorts names after new ≡ issued_to (rows_with rows sorts names issued old) i
-rows-issued rows sorts names issued after old new i h e number put made rises =
+rows-issued rows sorts names issued after old new i h e number put made last rises =
     let r = fresh_row h i.peer i.hold i.strength in
-    let next : new.made ≡ suc old.made = omega (arith, made) in
-    let table : table_to new.rows new.made ≡ table_to old.rows old.made ++ Some (row_as r) ∷ [] = ap (λ z. table_to z new.made) put ∙ (ap (λ n. table_to (old.rows ++ r ∷ []) n) next ∙ table_to-push old.rows r old.made (omega (arith, number)) rises) in
+    let next : new.last ≡ suc old.last = omega (arith, last) in
+    let table : table_to new.rows new.last ≡ table_to old.rows old.last ++ Some (row_as r) ∷ [] = ap (λ z. table_to z new.last) put ∙ (ap (λ n. table_to (old.rows ++ r ∷ []) n) next ∙ table_to-push old.rows r old.last (omega (arith, number)) rises) in
     let count : length new.rows ≡ length old.rows + 1 = ap length put ∙ length-append old.rows (r ∷ []) in
     let list : map issued_as after ≡ map issued_as issued ++ issued_as i ∷ [] = ap (map issued_as) e ∙ map-append issued_as issued (i ∷ []) in
-    rw (table, count, list) refl
+    rw (table, count, list, made) refl
 
 -- a handle is removed
-pub rows-removed : (rows : HeapRows) (sorts : List Sort) (names : List (Option ℕ)) (issued : List Issue) (old new : Table) (h : HNum) → new.rows ≡ without h old.rows → new.made ≡ old.made
-    → rows_with rows sorts names issued new ≡ record (rows_with rows sorts names issued old) { table = numbered_set (table_to old.rows old.made) h.0 None; tabled = length new.rows }
-rows-removed rows sorts names issued old new h left made =
-    let table : table_to new.rows new.made ≡ numbered_set (table_to old.rows old.made) h.0 None = ap (λ z. table_to z new.made) left ∙ (ap (λ n. table_to (without h old.rows) n) made ∙ table_to-without old.rows h.0 old.made) in
-    ap (λ (t : List (Option TableRow)). record (rows_with rows sorts names issued old) { table = t; tabled = length new.rows }) table
+pub rows-removed : (rows : HeapRows) (sorts : List Sort) (names : List (Option ℕ)) (issued : List Issue) (old new : Table) (h : HNum) → new.rows ≡ without h old.rows → new.made ≡ old.made → new.last ≡ old.last
+    → rows_with rows sorts names issued new ≡ record (rows_with rows sorts names issued old) { table = numbered_set (table_to old.rows old.last) h.0 None; tabled = length new.rows }
+rows-removed rows sorts names issued old new h left made last =
+    let table : table_to new.rows new.last ≡ numbered_set (table_to old.rows old.last) h.0 None = ap (λ z. table_to z new.last) left ∙ (ap (λ n. table_to (without h old.rows) n) last ∙ table_to-without old.rows h.0 old.last) in
+    ap (λ (k : ℕ). record (rows_with rows sorts names issued old) { made = k; table = table_to new.rows new.last; tabled = length new.rows }) made
+    ∙ ap (λ (t : List (Option TableRow)). record (rows_with rows sorts names issued old) { table = t; tabled = length new.rows }) table
+
+-- a handle is removed, and one on its peer comes in its place
+pub rows-renewed : (rows : HeapRows) (sorts : List Sort) (names : List (Option ℕ)) (issued after : List Issue) (old new : Table) (h g : HNum) (p : PNum) → after ≡ issued ++ record { peer = p; hold = Held; strength = Strong } ∷ [] → target_in old.rows h ≡ Some p → g.0 ≡ old.last + 1 → new.rows ≡ renewed h g old.rows
+    → new.made ≡ old.made → new.last ≡ old.last + 1 → IsRising old → length new.rows ≡ length old.rows
+    → rows_with rows sorts names after new ≡ record (rows_with rows sorts names issued old) { issued = map issued_as issued ++ record { peer = p.0; hold = held; strength = strong } ∷ []; table = numbered_set (table_to old.rows old.last) h.0 None ++ Some record { strength = strong; cleared = false } ∷ [] }
+rows-renewed rows sorts names issued after old new h g p e there number put made last rises count =
+    let i : Issue = record { peer = p; hold = Held; strength = Strong } in
+    let r : HandleRow = fresh_row g p Held Strong in
+    let left = without h old.rows in
+    let next : new.last ≡ suc old.last = omega (arith, last) in
+    let all : new.rows ≡ left ++ r ∷ [] = put ∙ ap (λ o. left ++ renewed_rows g o) there in
+    let still : RisesBetween 0 old.last left = RisesBetween-without h 0 old.last old.rows rises in
+    let table : table_to new.rows new.last ≡ numbered_set (table_to old.rows old.last) h.0 None ++ Some (row_as r) ∷ [] =
+    ap (λ z. table_to z new.last) all ∙ (ap (λ n. table_to (left ++ r ∷ []) n) next ∙ (table_to-push left r old.last (omega (arith, number)) still ∙ ap (λ t. t ++ Some (row_as r) ∷ []) (table_to-without old.rows h.0 old.last))) in
+    let list : map issued_as after ≡ map issued_as issued ++ issued_as i ∷ [] = ap (map issued_as) e ∙ map-append issued_as issued (i ∷ []) in
+    rw (table, count, list, made) refl
 
 -- what a number of the table shows is what its row shows
 table_to-at : (rows : List HandleRow) (h n : ℕ) → 1 ≤ h → h ≤ n → numbered_at (table_to rows n) h ≡ Some (seen_in rows h)
@@ -158,7 +188,7 @@ row-shown rows (suc k) n rises = elim (cases_lt n (suc k)) [
 ]
 
 -- the peer of a handle that was issued
-numbered_at-map : (issued : List Issue) (n : ℕ) (i : Issue) → numbered_at issued n ≡ Some i → numbered_at (map issued_as issued) n ≡ Some (issued_as i)
+pub numbered_at-map : (issued : List Issue) (n : ℕ) (i : Issue) → numbered_at issued n ≡ Some i → numbered_at (map issued_as issued) n ≡ Some (issued_as i)
 numbered_at-map issued zero i at = absurd (none_some i at)
 numbered_at-map issued (suc k) i at = slice_get-map issued_as issued k ∙ ap (λ o. option_map issued_as o) at
 
@@ -168,7 +198,7 @@ peer_of-issued issued n i at = ap (λ o. elim o [ None ↦ None | Some j ↦ Som
 -- a handle leads where its row does
 pub target-shown : (rows : HeapRows) (sorts : List Sort) (names : List (Option ℕ)) (issued : List Issue) (table : Table) (h : HNum) → IsRising table → AreRowsIssued table.rows issued
     → table_target (with_rows opening_peer_replay (rows_with rows sorts names issued table)) h.0 ≡ number_of (target_in table.rows h)
-target-shown rows sorts names issued table h rises all = ap (λ z. elim z [ None ↦ None | Some row ↦ if row.cleared then None else peer_of (map issued_as issued) h.0 ]) (row-shown table.rows h.0 table.made rises) ∙ by (row_in table.rows h) refl
+target-shown rows sorts names issued table h rises all = ap (λ z. elim z [ None ↦ None | Some row ↦ if row.cleared then None else peer_of (map issued_as issued) h.0 ]) (row-shown table.rows h.0 table.last rises) ∙ by (row_in table.rows h) refl
   where
     shut : (b : Bool) (p : PNum) → peer_of (map issued_as issued) h.0 ≡ Some p.0 → (if b then None else peer_of (map issued_as issued) h.0) ≡ number_of (if b then None else Some p)
     shut true p e = refl
@@ -181,11 +211,11 @@ target-shown rows sorts names issued table h rises all = ap (λ z. elim z [ None
         shut r.cleared r.peer (peer_of-issued issued h.0 found.0 found.1 ∙ ap (λ (q : PNum). Some q.0) found.2)
 
 -- the rows of the table stay those of issued handles, where one is issued or removed
-pub AreRowsIssued-pushed : (issued after : List Issue) (old new : Table) (i : Issue) (h : HNum) → after ≡ issued ++ i ∷ [] → h.0 ≡ old.made + 1 → new.rows ≡ old.rows ++ fresh_row h i.peer i.hold i.strength ∷ [] → old.made ≡ length issued → IsRising old
+pub AreRowsIssued-pushed : (issued after : List Issue) (old new : Table) (i : Issue) (h : HNum) → after ≡ issued ++ i ∷ [] → h.0 ≡ old.last + 1 → new.rows ≡ old.rows ++ fresh_row h i.peer i.hold i.strength ∷ [] → old.last ≡ length issued → IsRising old
     → AreRowsIssued old.rows issued → AreRowsIssued new.rows after
 AreRowsIssued-pushed issued after old new i h e number put places rises all = λ k r at. elim (cases_eq k.0 h.0) [
   | inl same ↦
-      let none : row_in old.rows h ≡ None = row_in-above 0 old.made old.rows h (omega (arith, number)) rises in
+      let none : row_in old.rows h ≡ None = row_in-above 0 old.last old.rows h (omega (arith, number)) rises in
       let k-is : k ≡ h = ap (λ (m : ℕ). (let q : HNum = record { 0 = m } in q)) same in
       let here : row_in (old.rows ++ fresh ∷ []) h ≡ Some fresh = row_in-push_new old.rows fresh none in
       let row : fresh ≡ r = same_Some fresh r (sym here ∙ (ap (λ z. row_in (old.rows ++ fresh ∷ []) z) (sym k-is) ∙ (ap (λ z. row_in z k) (sym put) ∙ at))) in
@@ -210,3 +240,9 @@ AreRowsIssued-removed issued old new h left all = λ k r at.
           absurd (none_some r (sym (row_in-without_same old.rows h) ∙ (ap (λ z. row_in (without h old.rows) z) (sym k-is) ∙ there)))
       | inr other ↦ all k r (sym (row_in-without_other old.rows h k other) ∙ there)
     ]
+
+pub AreRowsIssued-renewed : (issued after : List Issue) (old new : Table) (i : Issue) (h g : HNum) → after ≡ issued ++ i ∷ [] → g.0 ≡ old.last + 1 → new.rows ≡ without h old.rows ++ fresh_row g i.peer i.hold i.strength ∷ [] → old.last ≡ length issued → IsRising old
+    → AreRowsIssued old.rows issued → AreRowsIssued new.rows after
+AreRowsIssued-renewed issued after old new i h g e number put places rises all =
+    let left : Table = record old { rows = without h old.rows } in
+    AreRowsIssued-pushed issued after left new i g e number put places (RisesBetween-without h 0 old.last old.rows rises) (AreRowsIssued-removed issued old left h refl all)

@@ -17,7 +17,7 @@ use Rattle.heap_rules.specs.declared.done.Done.{Done}
 use Rattle.heap_rules.specs.Done.{Did}
 use Rattle.row_heap.specs.Rows.{HeapRows}
 use Rattle.global_handles.specs.Rows.{Table}
-use Rattle.peer_side.specs.declared.rows.Issue.{Issue}
+use Rattle.peer_side.specs.declared.issues.Issue.{Issue}
 use Rattle.peer_side.specs.Rows.{IsShort, AreShort, ArePeerRows}
 use Rattle.peer_side.proofs.Fitting.{ArePeerRows-marked}
 

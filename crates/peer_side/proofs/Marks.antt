@@ -123,13 +123,14 @@ untabled-heap s None a e mk old new same w = handled s mk old new a e same w
 untabled-heap s (Some h) a e mk old new same w = still s (on_table (untabled s (Some h)) a).state mk old new (ap (λ (h : Heap). h.fields) e) (ap (λ (h : Heap). h.freed) e) refl same w
 
 -- a further peer has its mark, last
-pub marked-too : (old new : HeapRows) (x : ℕ) → x ≡ next_number old.heap → length old.marks ≡ length old.heap.fields + 1 → new.refs ≡ old.refs → new.follows ≡ old.follows → new.room ≡ old.room → new.marks ≡ old.marks ++ true ∷ [] → IsMarkedToo old new x
-marked-too old new x number len refs follows room more =
+pub marked-too : (old new : HeapRows) (x : ℕ) → x ≡ next_number old.heap → length old.marks ≡ length old.heap.fields + 1 → new.refs ≡ old.refs → new.follows ≡ old.follows → new.room ≡ old.room → new.temps ≡ old.temps → new.marks ≡ old.marks ++ true ∷ [] → IsMarkedToo old new x
+marked-too old new x number len refs follows room temps more =
     let at : x ≡ length old.marks = omega (arith, number, len) in
     record {
       refs = refs;
       follows = follows;
       room = room;
+      temps = temps;
       marked = ap (λ ms. slice_get ms x) more ∙ (ap (λ k. slice_get (old.marks ++ true ∷ []) k) at ∙ push-at_new old.marks true);
       others = λ k other. (
         (λ c. elim (push-at_cases old.marks true k true (sym (ap (λ ms. slice_get ms k) more) ∙ c)) [ inl a ↦ a | inr b ↦ absurd (other (b.0 ∙ sym at)) ]),
@@ -144,6 +145,7 @@ brought-back is_open old mid new h x slotted marked marks = record {
   refs = ap (λ (v : HeapRows). v.refs) slotted ∙ ap (λ (v : HeapRows). v.refs) marked;
   follows = ap (λ (v : HeapRows). v.follows) slotted ∙ ap (λ (v : HeapRows). v.follows) marked;
   room = ap (λ (v : HeapRows). v.room) slotted ∙ ap (λ (v : HeapRows). v.room) marked;
+  temps = ap (λ (v : HeapRows). v.temps) slotted ∙ ap (λ (v : HeapRows). v.temps) marked;
   marks = λ o k. subst (λ ms. HasMark ms k ↔ (HasMark old.marks k ⊎ Reached (Contains (x ∷ [])) (EdgeOf old) k)) (sym (ap (λ (v : HeapRows). v.marks) slotted)) (marks o k);
 }
 

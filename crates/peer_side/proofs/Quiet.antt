@@ -19,31 +19,35 @@ use Rattle.joint_model.proofs.Members.{Contains-here, Contains-nil}
 use Rattle.peer_side.specs.declared.mirroring.OpenMirror.{OpenMirror}
 use Rattle.peer_side.specs.Makings.{IsMarkEvent}
 use Rattle.peer_side.specs.MirrorLaws.{HasFurther}
-use Rattle.peer_side.specs.Mirrors.{Mirrors, AreMirrored, IsDue, told_since, mirror_as, mirror_in, mirrors_in, mirrored_at, weakened_at, restored_at}
+use Rattle.peer_side.specs.Mirrors.{Mirrors, AreMirrored, IsDue, given_at, given_since, told_since, mirror_as, mirror_in, mirrors_in, mirrored_at, weakened_at, restored_at}
 use Rattle.peer_side.specs.Sides.{IsKnown, brought_at, brought_by, brought_since, mirror_state, peers_at, revived_in}
 use Rattle.peer_side.specs.Steps.{IsPeerStep}
-use Rattle.peer_side.proofs.Dues.{told-still}
-use Rattle.peer_side.proofs.Grown.{step-mirrors, step-restores, step-weakens}
+use Rattle.peer_side.proofs.Dues.{given-push, told-still}
+use Rattle.peer_side.proofs.Grown.{step-gives, step-mirrors, step-restores, step-weakens}
 
 -- the event mirrors no cycle, and weakens and restores no handle
 pub record IsQuiet (o : Op) : Type 0 where
   pub mirrors : mirrored_at o ≡ []
   pub weakens : weakened_at o ≡ []
   pub restores : restored_at o ≡ []
+  pub gives : (r : Reply) → given_at o r ≡ []
 
 pub step-quiet : (t : Thread) (o : Op) → IsPeerStep t o → IsQuiet o
-step-quiet t o w = record { mirrors = step-mirrors t o w; weakens = step-weakens t o w; restores = step-restores t o w }
+step-quiet t o w = record { mirrors = step-mirrors t o w; weakens = step-weakens t o w; restores = step-restores t o w; gives = step-gives t o w }
 
 pub mark-quiet : (o : Op) → IsMarkEvent o → IsQuiet o
-mark-quiet op.Begin w = record { mirrors = refl; weakens = refl; restores = refl }
-mark-quiet op.Sweep w = record { mirrors = refl; weakens = refl; restores = refl }
+mark-quiet op.Begin w = record { mirrors = refl; weakens = refl; restores = refl; gives = λ r. refl }
+mark-quiet op.Sweep w = record { mirrors = refl; weakens = refl; restores = refl; gives = λ r. refl }
 mark-quiet _ w = absurd w
 
 -- the mirrored cycle is as it was
 mirror-still : (es : List Entry) (e : Entry) (m : OpenMirror) → m.from ≤ length es → IsQuiet e.made.op → mirror_as (es ++ e ∷ []) m ≡ mirror_as es m
 mirror-still es e m le q =
-    ap (λ (l : List ℕ). (let z : Mirror = record { cycle = m.cycle.0; snap = m.snap; weakened = l; restored = told_since restored_at m.from (es ++ e ∷ []) } in z)) (told-still weakened_at m.from es e le q.weakens)
-    ∙ ap (λ (l : List ℕ). (let z : Mirror = record { cycle = m.cycle.0; snap = m.snap; weakened = told_since weakened_at m.from es; restored = l } in z)) (told-still restored_at m.from es e le q.restores)
+    let all = es ++ e ∷ [] in
+    ap (λ (l : List ℕ). (let z : Mirror = record { cycle = m.cycle.0; snap = m.snap; weakened = l; restored = told_since restored_at m.from all; renewed = given_since m.from all } in z)) (told-still weakened_at m.from es e le q.weakens)
+    ∙ (ap (λ (l : List ℕ). (let z : Mirror = record { cycle = m.cycle.0; snap = m.snap; weakened = told_since weakened_at m.from es; restored = l; renewed = given_since m.from all } in z)) (told-still restored_at m.from es e le q.restores)
+    ∙ ap (λ (l : List ℕ). (let z : Mirror = record { cycle = m.cycle.0; snap = m.snap; weakened = told_since weakened_at m.from es; restored = told_since restored_at m.from es; renewed = l } in z))
+    (given-push m.from es e le ∙ (ap (λ l. given_since m.from es ++ l) (q.gives e.made.reply) ∙ append-nil (given_since m.from es))))
 
 in-still : (es : List Entry) (e : Entry) (o : Option OpenMirror) → AreMirrored es o → IsQuiet e.made.op → mirror_in (es ++ e ∷ []) o ≡ mirror_in es o
 in-still es e None w q = refl
@@ -84,7 +88,7 @@ known-next old new es after e added grown q known =
 
 -- so what was brought back stays
 revived-more : (issued more : List Issued) (h : ℕ) (r : Reply) → ((i : Issued) × (numbered_at issued h ≡ Some i)) → revived_in (issued ++ more) h r ≡ revived_in issued h r
-revived-more issued more h says.Alive w = ap (λ o. peers_at (elim o [ None ↦ None | Some i ↦ Some i.peer ])) (numbered-more issued more h w.0 w.1 ∙ sym w.1)
+revived-more issued more h (says.Renewed g) w = ap (λ o. peers_at (elim o [ None ↦ None | Some i ↦ Some i.peer ])) (numbered-more issued more h w.0 w.1 ∙ sym w.1)
 revived-more issued more h _ w = refl
 
 one-more : (issued more : List Issued) (o : Op) (r : Reply) → ((h : ℕ) → Contains (restored_at o) h → (i : Issued) × (numbered_at issued h ≡ Some i)) → brought_at (issued ++ more) o r ≡ brought_at issued o r
@@ -104,4 +108,4 @@ brought-more old new n es grown known = ap (λ is. brought_since is n es) grown.
 
 -- nothing was issued
 pub not-grown : (old new : List Issued) → new ≡ old → HasFurther old new
-not-grown old new same = ([], same ∙ sym (append-nil old))
+not-grown old new same = ([], same ∙ sym (append-nil old), omega arith)

@@ -1,6 +1,6 @@
 -- The calls of a mirrored cycle over its handles, and its end: a handle is weak, is strong again or is gone, and the references go. The replay's
 -- answer is what the parts show, and the side stays one.
-use Rattle.std.proofs.Common.{◌≡◌, ℕ, ◌+◌, ◌-◌, ◌*◌, ◌≤◌, inl, inr, Bool, true, List, [], ◌∷◌, ◌++◌, length, Option, Some, None, if◌then◌else◌, refl, sym, ap, subst, ◌∙◌, arith}
+use Rattle.std.proofs.Common.{◌≡◌, ℕ, ◌+◌, ◌-◌, ◌*◌, ◌≤◌, ◌<◌, ◌↔◌, inl, inr, Bool, true, List, [], ◌∷◌, ◌++◌, length, Option, Some, None, if◌then◌else◌, refl, sym, ap, subst, ◌∙◌, arith, length-append}
 use Rattle.std.specs.Prelude.{All, Contains}
 use Rattle.std.specs.Option.{is_some}
 use Rattle.std.proofs.lemmas.List.{append-nil, length_push}
@@ -13,10 +13,11 @@ use Rattle.joint_model.specs.declared.events.Reply.TheVariants as says
 use Rattle.joint_model.specs.Draws.{AllBelow, numbered}
 use Rattle.joint_model.specs.Heaps.{answer, numbered_at}
 use Rattle.joint_model.specs.Listed.{Stock}
-use Rattle.joint_model.specs.PeerReplay.{PeerReplay, Marking, MayRestore, MayWeaken, Mirror, brought_to, peer_answer}
+use Rattle.joint_model.specs.Peers.{Issued, held, peer_of, strong}
+use Rattle.joint_model.specs.PeerReplay.{PeerReplay, Marking, MayRestore, MayWeaken, Mirror, TableRow, brought_to, peer_answer}
 use Rattle.joint_model.specs.Sides.{GoesOn, peer_rules}
 use Rattle.joint_model.specs.Told.{nothing}
-use Rattle.joint_model.proofs.Deciding.{none_some}
+use Rattle.joint_model.proofs.Deciding.{none_some, true_false}
 use Rattle.joint_model.proofs.Members.{Contains-cons_cases, Contains-nil}
 use Rattle.joint_laws.specs.PeerInvariants.{IsPeerKept}
 use Rattle.global_handles.specs.declared.Back.{Back}
@@ -28,16 +29,16 @@ use Rattle.peer_side.specs.declared.mirroring.OpenMirror.{OpenMirror}
 use Rattle.peer_side.specs.declared.side.OpenMarking.{OpenMarking}
 use Rattle.peer_side.specs.Cycles.{reply_of, restores, weakens}
 use Rattle.peer_side.specs.Marks.{IsExact}
-use Rattle.peer_side.specs.Mirroring.{IsRemoved, RestoresHandle, IsStrongAgain, weak_row, with_row}
-use Rattle.peer_side.specs.MirrorLaws.{restored_more, state_of, weakened_more}
-use Rattle.peer_side.specs.Mirrors.{Mirrors, AreMirrored, IsDue, mirror_as, mirror_in, mirrors_in, owed_by, owed_next, told_since, restored_at, restored_one, weakened_at, weakened_one}
+use Rattle.peer_side.specs.Mirroring.{IsRemoved, IsRenewed, RestoresHandle, row_at, weak_row, with_row}
+use Rattle.peer_side.specs.MirrorLaws.{HasFurther, renewed_more, restored_more, state_of, weakened_more}
+use Rattle.peer_side.specs.Mirrors.{Mirrors, AreMirrored, AreWithin, IsDue, given_at, given_since, mirror_as, mirror_in, mirrors_in, owed_by, owed_next, told_since, restored_at, restored_one, weakened_at, weakened_one}
 use Rattle.peer_side.specs.Rows.{Rows}
 use Rattle.peer_side.specs.Sides.{IsSide, IsKnown, marking_as, marking_in, owed, peers_at, state_with}
-use Rattle.peer_side.proofs.Cycles.{cycle-next, cycles-next, marking-more, marking-same, state-eq}
+use Rattle.peer_side.proofs.Cycles.{cycle-next, cycles-next, marking-grown, marking-same, state-eq}
 use Rattle.peer_side.proofs.Dues.{IsDue-restored, IsDue-weakened, due-some}
 use Rattle.peer_side.proofs.Ends.{IsSide-told}
-use Rattle.peer_side.proofs.Mirrored.{again-answer, again-exact, removed-answer, weakened-answer}
-use Rattle.peer_side.proofs.Quiet.{known-push}
+use Rattle.peer_side.proofs.Mirrored.{removed-answer, renewed-answer, renewed-exact, weakened-answer}
+use Rattle.peer_side.proofs.Quiet.{known-grown, known-push, not-grown, numbered-more}
 use Rattle.peer_side.proofs.Sides.{from-more, opened}
 use Rattle.peer_side.proofs.Steps.{goes-told, safe-nothing}
 
@@ -54,7 +55,8 @@ module _ (old w : Rows) (o : Option OpenMarking) (n : ℕ) (m : Mirrors) (x : Op
   pub weaker : mirror_as after (weakened_one x) ≡ weakened_more (mirror_as stock.entries x) h.0
   weaker =
       cycle-next stock.entries after (numbered k (weakens index h snap)) added (weakened_one x) mirrored.from
-      ∙ ap (λ l. record (weakened_more (mirror_as stock.entries x) h.0) { restored = l }) (append-nil (told_since restored_at x.from stock.entries))
+      ∙ (ap (λ l. record (weakened_more (mirror_as stock.entries x) h.0) { restored = l; renewed = given_since x.from stock.entries ++ [] }) (append-nil (told_since restored_at x.from stock.entries))
+      ∙ ap (λ l. record (weakened_more (mirror_as stock.entries x) h.0) { renewed = l }) (append-nil (given_since x.from stock.entries)))
 
   marking-stays : marking_in w.issued after o ≡ marking_in old.issued stock.entries o
   marking-stays = ap (λ is. marking_in is after o) (ap (λ (z : Rows). z.issued) put) ∙ marking-same stock.entries after (numbered k (weakens index h snap)) added old.issued o side.known side.from refl
@@ -98,7 +100,11 @@ IsSide-weakened old w o n m x stock later k floor index h snap side added below 
     (weaken-marks old w o n m x stock later.entries k index h snap side added put here)
     (record { from = omega (arith, was.from, ap length added, grows); due = subst (λ z. IsDue z (x.due + 1)) (sym (weaker old w o n m x stock later.entries k index h snap side added put here)) (IsDue-weakened (mirror_as stock.entries x) x.due h.0 was.due) })
     (subst (λ is. All (IsKnown is) later.entries) (sym (ap (λ (z : Rows). z.issued) put)) (known-push old.issued stock.entries later.entries e added (λ g c. absurd (Contains-nil g c)) side.known))
+    (omega (arith, ap (λ (z : Rows). length z.issued) put))
+    (λ z. absurd (none_some (weakened_one x) (sym z)))
     (omega (arith, side.refs_room, ap (λ (z : Rows). z.rows.room) put))
+    (omega (arith, side.temps_room, ap (λ (z : Rows). z.rows.temps) put))
+    (subst (λ j. AreWithin j m.waiting) (sym (ap (λ (z : Rows). z.rows.temps) put)) side.temps_within)
     (omega (arith, side.few_refs, ap (λ (z : Rows). length z.rows.refs) put))
     side
 
@@ -112,28 +118,43 @@ restored-known s h k index back kept may = λ g c.
     let w = kept.references.weakened may.mirror h.0 may.stands may.weakened in
     elim (Contains-cons_cases h.0 [] g c) [ inl e ↦ (w.0, subst (λ z. numbered_at s.peers.issued z ≡ Some w.0) e w.1) | inr r ↦ absurd (Contains-nil g r) ]
 
+-- the mirrored cycle after a restore
+abbrev pub restored_after : Mirror → ℕ → Back → Mirror
+restored_after m h Cleared = restored_more m h
+restored_after m h (Alive g) = renewed_more m h g.0
+
+after-as : (m : Mirror) (h : HNum) (b : Back) → record m { restored = m.restored ++ h.0 ∷ []; renewed = m.renewed ++ given_at (op.Restore h) (reply_of b) } ≡ restored_after m h.0 b
+after-as m h Cleared = ap (λ l. record m { restored = m.restored ++ h.0 ∷ []; renewed = l }) (append-nil m.renewed)
+after-as m h (Alive g) = refl
+
+due-after : (m : Mirror) (due h : ℕ) (b : Back) → IsDue (restored_more m h) due → IsDue (restored_after m h b) due
+due-after m due h Cleared d = d
+due-after m due h (Alive g) d = record { weak_ones = d.weak_ones; count = d.count; there = d.there }
+
 -- a restore
 module _ (old w : Rows) (o : Option OpenMarking) (n : ℕ) (m : Mirrors) (x : OpenMirror) (stock : Stock) (after : List Entry) (k index : ℕ) (h : HNum) (back : Back) (side : IsSide old o n m stock)
     (added : after ≡ stock.entries ++ numbered k (restores index h back) ∷ []) (here : m.mirror ≡ Some x) where
   was-mirrored : AreMirrored stock.entries (Some x)
   was-mirrored = subst (AreMirrored stock.entries) here side.mirrored
 
-  pub fewer-owed : mirror_as after (restored_one x) ≡ restored_more (mirror_as stock.entries x) h.0
+  pub fewer-owed : mirror_as after (restored_one x) ≡ restored_after (mirror_as stock.entries x) h.0 back
   fewer-owed =
+      let z = mirror_as stock.entries x in
       cycle-next stock.entries after (numbered k (restores index h back)) added (restored_one x) was-mirrored.from
-      ∙ ap (λ l. record (restored_more (mirror_as stock.entries x) h.0) { weakened = l }) (append-nil (told_since weakened_at x.from stock.entries))
+      ∙ (ap (λ l. record z { weakened = l; restored = z.restored ++ h.0 ∷ []; renewed = z.renewed ++ given_at (op.Restore h) (reply_of back) }) (append-nil (told_since weakened_at x.from stock.entries))
+      ∙ after-as z h back)
 
   no-cycle : mirrors_in after ≡ mirrors_in stock.entries
   no-cycle = cycles-next stock.entries after (numbered k (restores index h back)) added ∙ append-nil (mirrors_in stock.entries)
 
   told-by : (mk : Option Marking) → marking_in w.issued after o ≡ mk
-      → peer_answer (state_of old (Some (mirror_as stock.entries x)) (mirrors_in stock.entries) (marking_in old.issued stock.entries o) n) C (op.Restore h) None nothing ≡ answer (reply_of back) (state_of w (Some (restored_more (mirror_as stock.entries x) h.0)) (mirrors_in stock.entries) mk n)
+      → peer_answer (state_of old (Some (mirror_as stock.entries x)) (mirrors_in stock.entries) (marking_in old.issued stock.entries o) n) C (op.Restore h) None nothing ≡ answer (reply_of back) (state_of w (Some (restored_after (mirror_as stock.entries x) h.0 back)) (mirrors_in stock.entries) mk n)
       → peer_answer (state_with stock.entries old o n m) C (op.Restore h) None nothing ≡ answer (reply_of back) (state_with after w o n (on_mirror m (restored_one x)))
   told-by mk marking answers =
       let es = stock.entries in
       ap (λ y. peer_answer (state_of old (mirror_in es y) (mirrors_in es) (marking_in old.issued es o) n) C (op.Restore h) None nothing) here
       ∙ (answers
-      ∙ ap (λ z. answer (reply_of back) z) (sym (state-eq w (Some (mirror_as after (restored_one x))) (Some (restored_more (mirror_as es x) h.0)) (mirrors_in after) (mirrors_in es) (marking_in w.issued after o) mk n
+      ∙ ap (λ z. answer (reply_of back) z) (sym (state-eq w (Some (mirror_as after (restored_one x))) (Some (restored_after (mirror_as es x) h.0 back)) (mirrors_in after) (mirrors_in es) (marking_in w.issued after o) mk n
       (ap (λ z. Some z) fewer-owed) no-cycle marking)))
 
 -- a cleared handle leaves the marking; another's peer is brought back
@@ -141,10 +162,22 @@ removed-marking : (old w : Rows) (o : Option OpenMarking) (n : ℕ) (m : Mirrors
 removed-marking old w o n m stock after k index h side added r =
     ap (λ is. marking_in is after o) (ap (λ (z : Rows). z.issued) r.rest) ∙ marking-same stock.entries after (numbered k (restores index h Cleared)) added old.issued o side.known side.from refl
 
-again-marking : (old w : Rows) (o : Option OpenMarking) (n : ℕ) (m : Mirrors) (stock : Stock) (after : List Entry) (k index : ℕ) (h : HNum) (b : Bool) → IsSide old o n m stock → after ≡ stock.entries ++ numbered k (restores index h Alive) ∷ [] → (r : IsStrongAgain b old h.0 w)
+renewed-grown : (b : Bool) (old : Rows) (h : ℕ) (g : HNum) (w : Rows) → IsRenewed b old h g w → HasFurther old.issued w.issued
+renewed-grown b old h g w r = (record { peer = r.peer; hold = held; strength = strong } ∷ [], ap (λ (z : Rows). z.issued) r.rest, omega arith)
+
+renewed-marking : (old w : Rows) (o : Option OpenMarking) (n : ℕ) (m : Mirrors) (stock : Stock) (after : List Entry) (k index : ℕ) (h g : HNum) (b : Bool) → IsSide old o n m stock → after ≡ stock.entries ++ numbered k (restores index h (Alive g)) ∷ [] → (r : IsRenewed b old h.0 g w)
     → marking_in w.issued after o ≡ brought_to (marking_in old.issued stock.entries o) r.peer
-again-marking old w o n m stock after k index h b side added r =
-    ap (λ is. marking_in is after o) (ap (λ (z : Rows). z.issued) r.rest) ∙ marking-more stock.entries after (numbered k (restores index h Alive)) added old.issued o r.peer side.known side.from (ap peers_at r.issued)
+renewed-marking old w o n m stock after k index h g b side added r =
+    let grown = renewed-grown b old h.0 g w r in
+    let there : peer_of w.issued h.0 ≡ Some r.peer = ap (λ is. peer_of is h.0) grown.1 ∙ peer-still old.issued grown.0 h.0 r.peer r.issued in
+    marking-grown stock.entries after (numbered k (restores index h (Alive g))) added old.issued w.issued o r.peer grown side.known side.from (ap peers_at there)
+  where
+    peer-still : (is more : List Issued) (n p : ℕ) → peer_of is n ≡ Some p → peer_of (is ++ more) n ≡ Some p
+    peer-still is more n p e = by (numbered_at is n) refl e
+      where
+        by : (o : Option Issued) → numbered_at is n ≡ o → elim o [ None ↦ None | Some i ↦ Some i.peer ] ≡ Some p → peer_of (is ++ more) n ≡ Some p
+        by None at q = absurd (none_some p q)
+        by (Some i) at q = ap (λ z. elim z [ None ↦ None | Some j ↦ Some j.peer ]) (numbered-more is more n i at) ∙ q
 
 -- the entry may come next
 restore-told : (old w : Rows) (o : Option OpenMarking) (n : ℕ) (m : Mirrors) (x : OpenMirror) (stock : Stock) (after : List Entry) (k index : ℕ) (h : HNum) (back : Back) (b : Bool) → IsSide old o n m stock → after ≡ stock.entries ++ numbered k (restores index h back) ∷ [] → m.mirror ≡ Some x → RestoresHandle b old h.0 back w
@@ -153,10 +186,10 @@ restore-told old w o n m x stock after k index h Cleared b side added here r =
     let es = stock.entries in
     told-by old w o n m x stock after k index h Cleared side added here (marking_in old.issued es o) (removed-marking old w o n m stock after k index h side added r)
     (removed-answer old w (mirror_as es x) (mirrors_in es) (marking_in old.issued es o) n h None r)
-restore-told old w o n m x stock after k index h Alive b side added here r =
+restore-told old w o n m x stock after k index h (Alive g) b side added here r =
     let es = stock.entries in
-    told-by old w o n m x stock after k index h Alive side added here (brought_to (marking_in old.issued es o) r.peer) (again-marking old w o n m stock after k index h b side added r)
-    (again-answer b old w (mirror_as es x) (mirrors_in es) (marking_in old.issued es o) n h None r)
+    told-by old w o n m x stock after k index h (Alive g) side added here (brought_to (marking_in old.issued es o) r.peer) (renewed-marking old w o n m stock after k index h g b side added r)
+    (renewed-answer b old w (mirror_as es x) (mirrors_in es) (marking_in old.issued es o) n h g None r)
 
 pub restore-goes : (old w : Rows) (o : Option OpenMarking) (n : ℕ) (m : Mirrors) (x : OpenMirror) (stock : Stock) (after : List Entry) (k index : ℕ) (h : HNum) (back : Back) (b : Bool) → IsSide old o n m stock → after ≡ stock.entries ++ numbered k (restores index h back) ∷ [] → m.mirror ≡ Some x → RestoresHandle b old h.0 back w
     → MayRestore (state_with stock.entries old o n m) h.0 → GoesOn peer_rules (state_with stock.entries old o n m) (restores index h back) nothing (state_with after w o n (on_mirror m (restored_one x)))
@@ -172,28 +205,29 @@ restore-marks old w o n m x stock after k index h Cleared side added here r mk q
     let was = side.exact mk (sym (removed-marking old w o n m stock after k index h side added r) ∙ q) in
     subst (λ (z : HeapRows). AreMarksExact t mk z.follows z.marks) (sym (ap (λ (z : Rows). z.rows) r.rest))
     (marks-same s t mk old.rows.follows old.rows.marks (ap (λ (z : Rows). z.rows.heap.fields) r.rest) (ap (λ (z : Rows). z.rows.heap.freed) r.rest) (ap (λ (z : Rows). z.rows.refs) r.rest) was)
-restore-marks old w None n m x stock after k index h Alive side added here r mk q = absurd (none_some mk q)
-restore-marks old w (Some o) n m x stock after k index h Alive side added here r mk q =
+restore-marks old w None n m x stock after k index h (Alive g) side added here r mk q = absurd (none_some mk q)
+restore-marks old w (Some o) n m x stock after k index h (Alive g) side added here r mk q =
     let es = stock.entries in
     let before = marking_as old.issued es o in
     let more : Marking = record before { brought = before.brought ++ r.peer ∷ [] } in
     let t = state_with after w (Some o) n (on_mirror m (restored_one x)) in
-    let marking = again-marking old w (Some o) n m stock after k index h true side added r in
+    let marking = renewed-marking old w (Some o) n m stock after k index h g true side added r in
     let later = mirror_in after (Some (restored_one x)) in
-    let same : state_of w later (mirrors_in es) (Some more) n ≡ t = sym (state-eq w later later (mirrors_in after) (mirrors_in es) (marking_in w.issued after (Some o)) (Some more) n refl (no-cycle old w (Some o) n m x stock after k index h Alive side added here) marking) in
-    let exact = again-exact old w (mirror_in es m.mirror) later (mirrors_in es) before n h.0 r (opened old o n m stock side) in
+    let same : state_of w later (mirrors_in es) (Some more) n ≡ t = sym (state-eq w later later (mirrors_in after) (mirrors_in es) (marking_in w.issued after (Some o)) (Some more) n refl (no-cycle old w (Some o) n m x stock after k index h (Alive g) side added here) marking) in
+    let exact = renewed-exact old w (mirror_in es m.mirror) later (mirrors_in es) before n h.0 g r (opened old o n m stock side) in
     subst (λ z. AreMarksExact t z w.rows.follows w.rows.marks) (same_Some more mk (sym marking ∙ q)) (subst (λ z. AreMarksExact z more w.rows.follows w.rows.marks) same exact)
 
 -- what a restore leaves of the rows
 record IsRestoredRest (old w : Rows) : Type 0 where
   tabled : w.tabled ≤ old.tabled
-  issued : w.issued ≡ old.issued
+  issued : HasFurther old.issued w.issued
   room : w.rows.room ≡ old.rows.room
+  temps : w.rows.temps ≡ old.rows.temps
   refs : w.rows.refs ≡ old.rows.refs
 
 restored-rest : (b : Bool) (old : Rows) (h : ℕ) (back : Back) (w : Rows) → RestoresHandle b old h back w → IsRestoredRest old w
-restored-rest b old h Cleared w r = record { tabled = omega (arith, r.fewer); issued = ap (λ (z : Rows). z.issued) r.rest; room = ap (λ (z : Rows). z.rows.room) r.rest; refs = ap (λ (z : Rows). z.rows.refs) r.rest }
-restored-rest b old h Alive w r = record { tabled = omega (arith, ap (λ (z : Rows). z.tabled) r.rest); issued = ap (λ (z : Rows). z.issued) r.rest; room = ap (λ (z : Rows). z.rows.room) r.rest; refs = ap (λ (z : Rows). z.rows.refs) r.rest }
+restored-rest b old h Cleared w r = record { tabled = omega (arith, r.fewer); issued = not-grown old.issued w.issued (ap (λ (z : Rows). z.issued) r.rest); room = ap (λ (z : Rows). z.rows.room) r.rest; temps = ap (λ (z : Rows). z.rows.temps) r.rest; refs = ap (λ (z : Rows). z.rows.refs) r.rest }
+restored-rest b old h (Alive g) w r = record { tabled = omega (arith, ap (λ (z : Rows). z.tabled) r.rest); issued = renewed-grown b old h g w r; room = ap (λ (z : Rows). z.rows.room) r.rest; temps = ap (λ (z : Rows). z.rows.temps) r.rest; refs = ap (λ (z : Rows). z.rows.refs) r.rest }
 
 -- one restore is owed at least
 pub restore-owed : (rows : Rows) (o : Option OpenMarking) (n : ℕ) (m : Mirrors) (x : OpenMirror) (stock : Stock) (h : HNum) → IsSide rows o n m stock → m.mirror ≡ Some x → MayRestore (state_with stock.entries rows o n m) h.0 → 1 ≤ x.due
@@ -201,6 +235,28 @@ restore-owed rows o n m x stock h side here may =
     let same = same-mirror stock.entries m.mirror x may.mirror here may.stands in
     let was : AreMirrored stock.entries (Some x) = subst (AreMirrored stock.entries) here side.mirrored in
     due-some (mirror_as stock.entries x) x.due h.0 was.due (subst (λ (z : Mirror). Contains z.weakened h.0) (sym same) may.weakened) (λ c. may.waiting (subst (λ (z : Mirror). Contains z.restored h.0) same c))
+
+-- so a number is left for the handle that it may give
+pub restore-last : (rows : Rows) (o : Option OpenMarking) (n : ℕ) (m : Mirrors) (x : OpenMirror) (stock : Stock) (h : HNum) → IsSide rows o n m stock → m.mirror ≡ Some x → MayRestore (state_with stock.entries rows o n m) h.0 → length rows.issued < 4294967295
+restore-last rows o n m x stock h side here may =
+    let some = restore-owed rows o n m x stock h side here may in
+    let had : owed_by m.mirror ≡ 2 * x.left + x.due + 1 + (if x.marking then 2 else 0) = ap owed_by here in
+    omega (arith, side.room, side.limit, side.issued, had, some)
+
+-- what its answer tells
+pub restored-cleared : (b : Bool) (old : Rows) (h : ℕ) (back : Back) (w : Rows) (row : TableRow) → RestoresHandle b old h back w → row_at old h ≡ Some row → (back ≡ Cleared) ↔ (row.cleared ≡ true)
+restored-cleared b old h Cleared w row r at = (
+  (λ e. ap (λ (t : TableRow). t.cleared) (same_Some row r.row (sym at ∙ r.tabled)) ∙ r.cleared),
+  (λ e. refl),
+)
+restored-cleared b old h (Alive g) w row r at = (
+  (λ e. absurd (let f : Alive g ≡ Cleared = e in cc)),
+  (λ e. absurd (true_false (sym e ∙ (ap (λ (t : TableRow). t.cleared) (same_Some row r.row (sym at ∙ r.tabled)) ∙ r.kept)))),
+)
+
+pub restored-number : (b : Bool) (old : Rows) (h : ℕ) (back : Back) (w : Rows) → RestoresHandle b old h back w → (g : HNum) → back ≡ Alive g → g.0 ≡ length old.issued + 1
+restored-number b old h Cleared w r g e = absurd (let f : Cleared ≡ Alive g = e in cc)
+restored-number b old h (Alive k) w r g e = (let same : g ≡ k = cc in ap (λ (z : HNum). z.0) same ∙ r.number)
 
 -- the side after it
 pub IsSide-restored : (old w : Rows) (o : Option OpenMarking) (n : ℕ) (m : Mirrors) (x : OpenMirror) (stock later : Stock) (k floor index : ℕ) (h : HNum) (back : Back) → IsSide old o n m stock → later.entries ≡ stock.entries ++ numbered k (restores index h back) ∷ [] → AllBelow stock.entries floor → floor ≤ k
@@ -223,8 +279,12 @@ IsSide-restored old w o n m x stock later k floor index h back side added below 
     (omega (arith, side.limit, spare, ap length added, grows)) (omega arith)
     (from-more o (length stock.entries) (length later.entries) (omega (arith, ap length added, grows)) side.from)
     (restore-marks old w o n m x stock later.entries k index h back side added here r)
-    (record { from = omega (arith, was.from, ap length added, grows); due = subst (λ z. IsDue z (x.due - 1)) (sym (fewer-owed old w o n m x stock later.entries k index h back side added here)) due })
-    (subst (λ is. All (IsKnown is) later.entries) (sym rest.issued) (known-push old.issued stock.entries later.entries e added (restored-known (state_with stock.entries old o n m) h k index back side.kept may) side.known))
+    (record { from = omega (arith, was.from, ap length added, grows); due = subst (λ z. IsDue z (x.due - 1)) (sym (fewer-owed old w o n m x stock later.entries k index h back side added here)) (due-after (mirror_as stock.entries x) (x.due - 1) h.0 back due) })
+    (known-grown old.issued w.issued later.entries rest.issued (known-push old.issued stock.entries later.entries e added (restored-known (state_with stock.entries old o n m) h k index back side.kept may) side.known))
+    (omega (arith, ap length rest.issued.1, length-append old.issued rest.issued.0, rest.issued.2))
+    (λ z. absurd (none_some (restored_one x) (sym z)))
     (omega (arith, side.refs_room, rest.room))
+    (omega (arith, side.temps_room, rest.temps))
+    (subst (λ j. AreWithin j m.waiting) (sym rest.temps) side.temps_within)
     (omega (arith, side.few_refs, ap length rest.refs))
     side

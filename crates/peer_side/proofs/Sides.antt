@@ -1,8 +1,8 @@
 -- A side stays one over each event of a step: the list goes on by its entry, the state is the one after it and stays kept, and the marks of
 -- an open marking stay exact.
-use Rattle.std.proofs.Common.{◌≡◌, ℕ, ◌+◌, ◌≤◌, Bool, true, List, [], ◌∷◌, ◌++◌, length, drop, Option, Some, None, refl, sym, ap, subst, ◌∙◌, arith}
+use Rattle.std.proofs.Common.{◌≡◌, ℕ, ◌+◌, ◌≤◌, ◌⊎◌, inl, inr, Bool, true, List, [], ◌∷◌, ◌++◌, length, drop, Option, Some, None, refl, sym, ap, subst, ◌∙◌, arith, length-append}
 use Rattle.std.specs.Option.{is_some}
-use Rattle.std.specs.Prelude.{flat_map, All}
+use Rattle.std.specs.Prelude.{flat_map, All, Contains}
 use Rattle.std.proofs.lemmas.List.{append-nil, drop-append-le, length_push}
 use Rattle.std.proofs.lemmas.List.Concat.{flat_map-append}
 use Rattle.std.proofs.lemmas.List.Elements.{All-nil}
@@ -15,6 +15,7 @@ use Rattle.joint_model.specs.declared.events.Op.TheVariants as op
 use Rattle.joint_model.specs.declared.events.Reply.{Reply}
 use Rattle.joint_model.specs.declared.events.Reply.TheVariants as says
 use Rattle.joint_model.specs.Draws.{AllBelow, numbered}
+use Rattle.joint_model.specs.Components.{temporary}
 use Rattle.joint_model.specs.Heaps.{Answered, answer}
 use Rattle.joint_model.specs.Peers.{Issued}
 use Rattle.joint_model.specs.Listed.{Stock}
@@ -22,6 +23,7 @@ use Rattle.joint_model.specs.PeerReplay.{PeerReplay, Marking, PeerAllows, peer_a
 use Rattle.joint_model.specs.Sides.{GoesOn, peer_rules}
 use Rattle.joint_model.specs.Told.{nothing}
 use Rattle.joint_model.proofs.Deciding.{none_some, true_false}
+use Rattle.joint_model.proofs.Members.{Contains-nil}
 use Rattle.joint_laws.proofs.OneRun.{cons-nil}
 use Rattle.joint_laws.proofs.PeerEvents.{target-live}
 use Rattle.joint_laws.proofs.PeerMoves.{IsPeerKept-opening}
@@ -33,7 +35,7 @@ use Rattle.row_heap.specs.Rows.{HeapRows}
 use Rattle.peer_side.specs.declared.side.OpenMarking.{OpenMarking}
 use Rattle.peer_side.specs.Marks.{MarksNew, MarksBrought, MarksAfter, IsExact, mark_by, mark_after}
 use Rattle.peer_side.specs.MirrorLaws.{HasFurther}
-use Rattle.peer_side.specs.Mirrors.{Mirrors, no_mirrors, owes}
+use Rattle.peer_side.specs.Mirrors.{AreWithin, Mirrors, no_mirrors, owes}
 use Rattle.peer_side.specs.Rows.{Rows, AreTargetsLive, GoesBy, no_rows, with_rows, marking_by, marking_after}
 use Rattle.peer_side.specs.Sides.{IsSide, IsFrom, IsKnown, named_in, brought_at, brought_since, marking_as, marking_in, mirror_state, state_with, owed}
 use Rattle.peer_side.specs.Steps.{IsPeerStep}
@@ -54,7 +56,11 @@ IsSide-opening rows m stock none still empty few = rw (none, still) (record {
   exact = λ mk e. absurd (none_some mk e);
   mirrored = tt;
   known = rw empty (All-nil (IsKnown []));
+  issued = omega arith;
+  bare = λ e. refl;
   refs_room = omega arith;
+  temps_room = omega arith;
+  temps_within = λ t e c. elim c [ inl w ↦ absurd (Contains-nil (temporary t, e) w) | inr w ↦ absurd (Contains-nil (e, temporary t) w) ];
   few_refs = omega arith;
 })
 
@@ -183,38 +189,47 @@ from-more (Some m) a b le from = omega (arith, le, from)
 pub IsSide-step : (old new : Rows) (o : Option OpenMarking) (n : ℕ) (m : Mirrors) (stock later : Stock) (k floor : ℕ) (made : Made) → later.entries ≡ stock.entries ++ numbered k made ∷ [] → AllBelow stock.entries floor → floor ≤ k → IsPeerStep made.caller made.op
     → PeerAllows (state_with stock.entries old o n m) made.caller made.op made.cites nothing → GoesBy old made.caller made.op made.reply new → MarksAfter (is_some o) old.rows made.op made.reply new.rows → new.tabled + owed o + owes m ≤ later.spare → length later.entries + later.spare ≤ 4294967295
     → IsSide old o n m stock → IsSide new o n m later
-IsSide-step old new o n m stock later k floor made added below above step allowed goes marks room limit side =
+IsSide-step old new o n m stock later k floor made added below above step allowed goes marks spare limit side =
     let e : Entry = numbered k made in
     let on = side-goes old new o n m stock later.entries k made side added step goes marks allowed in
     let still = step-quiet made.caller made.op step in
     let more = grown old new o n m stock later.entries e side added step goes marks in
+    let room = room-after (is_some o) old.rows made.op made.reply new.rows marks in
     record {
       replayed = replayed-told stock.entries later.entries (state_with stock.entries old o n m) (state_with later.entries new o n m) k floor made nothing below above added on side.replayed;
       kept = kept-step (state_with stock.entries old o n m) (state_with later.entries new o n m) made on side.kept;
-      room = room;
+      room = spare;
       limit = limit;
       few = omega (arith, side.few, ap length added, length_push stock.entries e);
       from = from-more o (length stock.entries) (length later.entries) (omega (arith, ap length added, length_push stock.entries e)) side.from;
       exact = exact-step old new o n m stock later.entries e side added step goes marks;
       mirrored = mirrored-still stock.entries later.entries e m.mirror added side.mirrored still;
       known = known-next old.issued new.issued stock.entries later.entries e added more still side.known;
-      refs_room = omega (arith, side.refs_room, room-after (is_some o) old.rows made.op made.reply new.rows marks);
+      issued = omega (arith, side.issued, ap length more.1, length-append old.issued more.0, more.2, ap length added, length_push stock.entries e);
+      bare = λ e. refs-after (is_some o) old.rows made.op made.reply new.rows marks ∙ side.bare e;
+      refs_room = omega (arith, side.refs_room, room.0);
+      temps_room = omega (arith, side.temps_room, room.1);
+      temps_within = subst (λ n. AreWithin n m.waiting) (sym room.1) side.temps_within;
       few_refs = omega (arith, side.few_refs, ap length (refs-after (is_some o) old.rows made.op made.reply new.rows marks));
     }
 
--- room for references, and for entries, doesn't stand in the state
-pub IsSide-roomy : (rows w : Rows) (o : Option OpenMarking) (n : ℕ) (m mm : Mirrors) (stock later : Stock) (all : ℕ) → w ≡ record rows { rows = record rows.rows { room = all } } → mm.mirror ≡ m.mirror → later.entries ≡ stock.entries
-    → rows.tabled + owed o + owes mm ≤ later.spare → length later.entries + later.spare ≤ 4294967295 → length mm.waiting + mm.room ≤ all → IsSide rows o n m stock → IsSide w o n mm later
-IsSide-roomy rows w o n m mm stock later all roomy same entries room limit refs side = rw (roomy, entries) (record {
+-- room for references and temporaries, and for entries, doesn't stand in the state
+pub IsSide-roomy : (rows w : Rows) (o : Option OpenMarking) (n : ℕ) (m mm : Mirrors) (stock later : Stock) (all temps : ℕ) → w ≡ record rows { rows = record rows.rows { room = all; temps = temps } } → mm.mirror ≡ m.mirror → later.entries ≡ stock.entries
+    → rows.tabled + owed o + owes mm ≤ later.spare → length later.entries + later.spare ≤ 4294967295 → length mm.waiting + mm.room ≤ all → rows.rows.temps ≤ temps → mm.temps ≤ temps → mm.waiting ≡ m.waiting → IsSide rows o n m stock → IsSide w o n mm later
+IsSide-roomy rows w o n m mm stock later all temps roomy same entries room limit refs more fits waits side = rw (roomy, entries) (record {
   replayed = rw same side.replayed;
   kept = rw same side.kept;
   room = room;
   limit = rw entries at limit;
   few = side.few;
+  issued = side.issued;
   from = side.from;
   exact = rw same side.exact;
   mirrored = rw same side.mirrored;
   known = side.known;
+  bare = λ e. side.bare (sym same ∙ e);
   refs_room = refs;
+  temps_room = fits;
+  temps_within = λ t e c. (let w = side.temps_within t e (subst (λ l. Contains l (temporary t, e) ⊎ Contains l (e, temporary t)) waits c) in omega (arith, w, more));
   few_refs = side.few_refs;
 })

@@ -24,7 +24,7 @@ use Rattle.joint_model.proofs.SideLists.{IsReplayed-push}
 use Rattle.joint_laws.specs.PeerInvariants.{IsPeerKept}
 use Rattle.joint_laws.proofs.PeerEntries.{MirrorsSafely, IsPeerKept-step}
 use Rattle.peer_side.specs.Rows.{marking_by, marking_after}
-use Rattle.peer_side.specs.Steps.{IsPeerStep, IsStepLine, ReleasesTabled, room_for}
+use Rattle.peer_side.specs.Steps.{IsRelease, IsPeerStep, IsStepLine, ReleasesTabled, room_for}
 
 -- the numbers of a list stay below a larger number
 pub AllBelow-more : (es : List Entry) (a b : ℕ) → a ≤ b → AllBelow es a → AllBelow es b
@@ -203,3 +203,7 @@ no-marking _ r = refl
 pub room-more : (o : Op) (n k : ℕ) → room_for o (n + k) ≡ room_for o n + k
 room-more (op.Release h) n k = refl
 room-more _ n k = omega arith
+
+pub room-two : (o : Op) (n : ℕ) → (IsRelease o → ⊥) → room_for o n ≡ n + 2
+room-two (op.Release h) n kept = absurd (kept tt)
+room-two _ n kept = refl

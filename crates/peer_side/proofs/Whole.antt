@@ -21,14 +21,15 @@ use Rattle.global_handles.specs.declared.Strength.{Strength}
 use Rattle.global_handles.specs.declared.Strength.TheVariants.{Strong, Weak}
 use Rattle.global_handles.specs.Rows.{IsWeakFor, RisesBetween, row_in}
 use Rattle.reachability.specs.Marks.{HasMark}
-use Rattle.peer_side.specs.declared.rows.Issue.{Issue}
-use Rattle.peer_side.specs.Marking.{IsWholeMarking, with_marking}
+use Rattle.peer_side.specs.declared.issues.Issue.{Issue}
+use Rattle.peer_side.specs.Marking.{IsWholeMarking, strong_in, with_marking}
 use Rattle.marking_laws.specs.Marks.{IsMarkedSide}
 use Rattle.marking_laws.proofs.MarkFacts.{spared-marked}
 use Rattle.marking_laws.proofs.MarkSweeps.{marks-shut}
 use Rattle.peer_side.specs.Rows.{AreRowsIssued, Rows, issued_as, row_as, strength_as, table_to}
-use Rattle.peer_side.proofs.Roots.{numbered-table}
-use Rattle.global_handles.proofs.Lookups.{RisesBetween-within}
+use Rattle.peer_side.proofs.Roots.{numbered-table, strong-in, strong-of}
+use Rattle.global_handles.proofs.Lookups.{RisesBetween-within, row_in-place}
+use Rattle.peer_side.proofs.Handles.{numbered_at-map, row_in-shown, shown-is}
 
 rises-at : (low high : ℕ) (rows : List HandleRow) (k : ℕ) (r : HandleRow) → RisesBetween low high rows → slice_get rows k ≡ Some r → (low < r.number.0) × (r.number.0 ≤ high)
 rises-at low high [] k r rises at = absurd (none-some r at)
@@ -68,21 +69,6 @@ strong-row rows issued n k r rises len own at s =
     mapped (y ∷ l) (suc zero) i q = ap (λ o. option_map issued_as o) q
     mapped (y ∷ l) (suc (suc h)) i q = mapped l (suc h) i q
 
--- so where each of those has a mark, the handles on peers without one are weak
-pub weak-rows : (marks : List Bool) (rows : List HandleRow) (issued : List Issue) (n : ℕ) (freed : List PNum) → RisesBetween 0 n rows → n ≡ length issued → AreRowsIssued rows issued
-    → ((p : ℕ) → Contains (strong_peers (map issued_as issued) (table_to rows n)) p → HasMark marks p) → ((p : ℕ) → Contains (peer_numbers freed) p → HasMark marks p → ⊥) → All (λ p. All (IsWeakFor p) rows) freed
-weak-rows marks rows issued n freed rises len own up white k p l j r m = λ same. by (get_or rows j r).strength refl same
-  where
-    at : slice_get rows j ≡ Some (get_or rows j r)
-    at = slice_get-get_or rows j r m
-
-    in' : Contains (peer_numbers freed) (get_or freed k p).0
-    in' = Contains-map (λ (q : PNum). q.0) freed (get_or freed k p) (Contains-get_or freed k p l)
-
-    by : (x : Strength) → (get_or rows j r).strength ≡ x → (get_or rows j r).peer ≡ get_or freed k p → (get_or rows j r).strength ≡ Weak
-    by Weak e same = e
-    by Strong e same = absurd (white (get_or freed k p).0 in' (up (get_or freed k p).0 (subst (Contains (strong_peers (map issued_as issued) (table_to rows n))) (ap (λ (q : PNum). q.0) same) (strong-row rows issued n j (get_or rows j r) rises len own at e))))
-
 -- what strong handles name stands under one of them
 record IsStrongAt (issued : List Issued) (table : List (Option TableRow)) (p : ℕ) : Type 0 where
   place : ℕ
@@ -105,6 +91,43 @@ strong-at (i ∷ is) (Some row ∷ rows) p c = by row.strength refl c (strong-at
       | inr q ↦ (let w = rest q in record { place = suc w.place; row = w.row; issue = w.issue; tabled = w.tabled; sure = w.sure; made = w.made; peer = w.peer })
     ]
     by weak e d rest = (let w = rest d in record { place = suc w.place; row = w.row; issue = w.issue; tabled = w.tabled; sure = w.sure; made = w.made; peer = w.peer })
+
+-- and the other way round
+pub strong-named : (rows : List HandleRow) (issued : List Issue) (n p : ℕ) → AreRowsIssued rows issued → Contains (strong_peers (map issued_as issued) (table_to rows n)) p → Contains (strong_in rows) p
+strong-named rows issued n p own c =
+    let w = strong-at (map issued_as issued) (table_to rows n) p c in
+    let found = row_in-shown rows (suc w.place) n w.row w.tabled in
+    let k = row_in-place rows record { 0 = suc w.place } found.0 found.1 in
+    let i = own record { 0 = suc w.place } found.0 found.1 in
+    let seen : row_as found.0 ≡ w.row = shown-is rows (suc w.place) n w.row found.0 w.tabled found.1 in
+    let sure : found.0.strength ≡ Strong = is-strong found.0.strength (ap (λ (t : TableRow). t.strength) seen ∙ w.sure) in
+    let issue : issued_as i.0 ≡ w.issue = same_Some (issued_as i.0) w.issue (sym (numbered_at-map issued (suc w.place) i.0 i.1) ∙ w.made) in
+    let peer : found.0.peer.0 ≡ p = ap (λ (q : PNum). q.0) (sym i.2) ∙ (ap (λ (q : Issued). q.peer) issue ∙ w.peer) in
+    subst (Contains (strong_in rows)) peer (strong-in rows k.0 found.0 k.1 sure)
+  where
+    is-strong : (x : Strength) → strength_as x ≡ strong → x ≡ Strong
+    is-strong Strong e = refl
+    is-strong Weak e = (let f : ⊥ = cc in absurd f)
+
+pub strong-listed_too : (rows : List HandleRow) (issued : List Issue) (n p : ℕ) → RisesBetween 0 n rows → n ≡ length issued → AreRowsIssued rows issued → Contains (strong_in rows) p → Contains (strong_peers (map issued_as issued) (table_to rows n)) p
+strong-listed_too rows issued n p rises len own c =
+    let w = strong-of rows p c in
+    subst (Contains (strong_peers (map issued_as issued) (table_to rows n))) w.4 (strong-row rows issued n w.0 w.1 rises len own w.2 w.3)
+
+-- so where each of those has a mark, the handles on peers without one are weak
+pub weak-rows : (marks : List Bool) (rows : List HandleRow) (issued : List Issue) (n : ℕ) (freed : List PNum) → RisesBetween 0 n rows → n ≡ length issued → AreRowsIssued rows issued
+    → ((p : ℕ) → Contains (strong_peers (map issued_as issued) (table_to rows n)) p → HasMark marks p) → ((p : ℕ) → Contains (peer_numbers freed) p → HasMark marks p → ⊥) → All (λ p. All (IsWeakFor p) rows) freed
+weak-rows marks rows issued n freed rises len own up white k p l j r m = λ same. by (get_or rows j r).strength refl same
+  where
+    at : slice_get rows j ≡ Some (get_or rows j r)
+    at = slice_get-get_or rows j r m
+
+    in' : Contains (peer_numbers freed) (get_or freed k p).0
+    in' = Contains-map (λ (q : PNum). q.0) freed (get_or freed k p) (Contains-get_or freed k p l)
+
+    by : (x : Strength) → (get_or rows j r).strength ≡ x → (get_or rows j r).peer ≡ get_or freed k p → (get_or rows j r).strength ≡ Weak
+    by Weak e same = e
+    by Strong e same = absurd (white (get_or freed k p).0 in' (up (get_or freed k p).0 (subst (Contains (strong_peers (map issued_as issued) (table_to rows n))) (ap (λ (q : PNum). q.0) same) (strong-row rows issued n j (get_or rows j r) rises len own at e))))
 
 -- it is live
 pub strong-live : (s : PeerReplay) → IsPeerKept s → (p : ℕ) → Contains (strong_peers s.peers.issued s.table) p → IsLive s.peers.heap p

@@ -7,13 +7,14 @@ use Rattle.joint_model.specs.declared.events.Made.{Made}
 use Rattle.joint_model.specs.declared.events.Op.TheVariants as op
 use Rattle.joint_model.specs.declared.events.Reply.{Reply}
 use Rattle.joint_model.specs.declared.events.Reply.TheVariants as says
+use Rattle.joint_model.specs.Components.{End}
 use Rattle.global_handles.specs.declared.Back.{Back}
 use Rattle.global_handles.specs.declared.Back.TheVariants.{Alive, Cleared}
 use Rattle.peer_side.specs.Sides.{Reserve}
 
 -- what a restore answers
 abbrev pub reply_of : Back → Reply
-reply_of Alive = says.Alive
+reply_of (Alive h) = says.Renewed h
 reply_of Cleared = says.Cleared
 
 -- the entries of a cycle, without their numbers
@@ -29,17 +30,17 @@ restores index h back = record { caller = C; index = index; op = op.Restore h; r
 abbrev pub clears : ℕ → Cycle → Made
 clears index k = record { caller = C; index = index; op = op.Clear k; reply = says.Ok; cites = None }
 
--- room is taken for so many more references, and for a cycle over so many handles
-abbrev pub reserve_more : Reserve → ℕ → ℕ → Reserve
-reserve_more r refs handles = record r { refs = refs; next = Some handles }
+-- room is taken for so many more references and so many temporaries, and for a cycle over so many handles
+abbrev pub reserve_more : Reserve → ℕ → ℕ → ℕ → Reserve
+reserve_more r refs temps handles = record r { refs = refs; temps = temps; next = Some handles }
 
 -- a further reference waits
-abbrev pub reserve_pushed : Reserve → ℕ → ℕ → Reserve
-reserve_pushed r p q = record r { waiting = r.waiting ++ (p, q) ∷ []; refs = r.refs - 1 }
+abbrev pub reserve_pushed : Reserve → End → End → Reserve
+reserve_pushed r from to = record r { waiting = r.waiting ++ (from, to) ∷ []; refs = r.refs - 1 }
 
 -- a cycle came to be mirrored: no reference waits, and what was reserved for it is its own
 abbrev pub reserve_stood : Reserve → Reserve
-reserve_stood r = record r { waiting = []; next = None; left = unwrap_or r.next 0; marking = true }
+reserve_stood r = record r { waiting = []; temps = 0; next = None; left = unwrap_or r.next 0; marking = true }
 
 -- one handle less may still be weakened
 abbrev pub reserve_left : Reserve → Reserve

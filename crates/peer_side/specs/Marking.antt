@@ -1,26 +1,27 @@
 -- What a marking and a sweep do to the handles: strong ones are roots, and those on a freed peer are cleared. (The Xamarin.Android
 -- documentation: a strong global reference keeps its peer alive, and a weak one is cleared when its peer is collected.)
-use Rattle.std.specs.Prelude.{◌≡◌, ℕ, ◌⊎◌, Bool, List, Contains, Option, Some, None, map, if◌then◌else◌, nat_eq}
+use Rattle.std.specs.Prelude.{ℕ, ◌⊎◌, ◌≡◌, Bool, List, [], ◌∷◌, ◌++◌, Contains, Option, Some, if◌then◌else◌, nat_eq}
 use Rattle.std.specs.List.{list_any}
 use Rattle.joint_model.specs.Heaps.{Heap, InSlot}
-use Rattle.joint_model.specs.Peers.{is_strong}
-use Rattle.joint_model.specs.PeerReplay.{PeerReplay, TableRow, Marking, strong_peers}
+use Rattle.joint_model.specs.PeerReplay.{PeerReplay, Marking, strong_peers}
 use Rattle.reachability.specs.Marks.{IsClosed, HasMark}
 use Rattle.marking_laws.specs.Marks.{AreMarksExact}
 use Rattle.global_handles.specs.declared.HandleRow.{HandleRow}
-use Rattle.global_handles.specs.Rows.{Table, cleared_row}
+use Rattle.global_handles.specs.declared.Strength.{Strength}
+use Rattle.global_handles.specs.declared.Strength.TheVariants.{Strong, Weak}
+use Rattle.global_handles.specs.Rows.{cleared_row}
 use Rattle.row_heap.specs.Marks.{EdgeOf}
-use Rattle.peer_side.specs.declared.rows.Issue.{Issue}
-use Rattle.peer_side.specs.Rows.{Rows, issued_as, peers_in, table_to}
+use Rattle.peer_side.specs.Rows.{Rows, peers_in}
 
--- the peers of the strong handles of a table
-abbrev pub strong_in : List Issue → Table → List ℕ
-strong_in issued table = strong_peers (map issued_as issued) (table_to table.rows table.made)
+-- the peer, where its handle is strong
+abbrev pub strong_on : Strength → ℕ → List ℕ
+strong_on Strong p = p ∷ []
+strong_on Weak p = []
 
--- the handle's peer, where its row is strong
-abbrev pub strong_peer : Option TableRow → ℕ → Option ℕ
-strong_peer None p = None
-strong_peer (Some row) p = if is_strong row.strength then Some p else None
+-- the peers of the strong rows
+abbrev pub strong_in : List HandleRow → List ℕ
+strong_in [] = []
+strong_in (r ∷ rows) = strong_on r.strength r.peer.0 ++ strong_in rows
 
 -- the roots of a marking that begins now: what slots name, and what strong handles name
 abbrev pub IsRoot : Heap → List ℕ → ℕ → Type 0

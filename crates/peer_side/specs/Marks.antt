@@ -25,6 +25,7 @@ pub record IsMarkedToo (old new : HeapRows) (x : ℕ) : Type 0 where
   pub refs : new.refs ≡ old.refs
   pub follows : new.follows ≡ old.follows
   pub room : new.room ≡ old.room
+  pub temps : new.temps ≡ old.temps
   pub marked : HasMark new.marks x
   pub others : (k : ℕ) → k ≢ x → (HasMark new.marks k ↔ HasMark old.marks k)
 
@@ -33,6 +34,7 @@ pub record IsBroughtBack (is_open : Bool) (old new : HeapRows) (x : ℕ) : Type 
   pub refs : new.refs ≡ old.refs
   pub follows : new.follows ≡ old.follows
   pub room : new.room ≡ old.room
+  pub temps : new.temps ≡ old.temps
   pub marks : is_open ≡ true → (k : ℕ) → (HasMark new.marks k ↔ (HasMark old.marks k ⊎ Reached (Contains (x ∷ [])) (EdgeOf old) k))
 
 -- a new object has a mark

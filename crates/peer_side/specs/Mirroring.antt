@@ -1,15 +1,19 @@
--- What a mirrored cycle does to the peer rows: references come to stand and go, and handles are made weak and strong again. (The
--- Xamarin.Android documentation: a bridge collection adds references between peers, makes the global references weak, collects, and makes
--- those that are left strong again.)
+-- What a mirrored cycle does to the peer rows: references come to stand and go, handles are made weak, and those on peers that are left are
+-- replaced by strong ones. (The Xamarin.Android documentation: a bridge collection adds references between peers, makes the global references
+-- weak, collects, and makes global references to those that are left.)
 use Rattle.std.specs.Prelude.{◌≡◌, ℕ, ◌+◌, ◌-◌, ◌⊎◌, ◌↔◌, ◌++◌, ◌∷◌, [], Bool, true, false, List, Contains, Option, Some, None, length}
+use Rattle.joint_model.specs.declared.names.HNum.{HNum}
+use Rattle.joint_model.specs.Components.{End, node, temporary}
 use Rattle.joint_model.specs.Heaps.{numbered_set}
-use Rattle.joint_model.specs.Peers.{peer_of, strong, weak}
+use Rattle.joint_model.specs.Peers.{held, peer_of, strong, weak}
 use Rattle.joint_model.specs.PeerReplay.{TableRow, opening_peer_replay, row_of}
 use Rattle.joint_model.specs.Walks.{Reached}
 use Rattle.global_handles.specs.declared.Back.{Back}
 use Rattle.global_handles.specs.declared.Back.TheVariants.{Alive, Cleared}
 use Rattle.reachability.specs.Marks.{HasMark}
 use Rattle.row_heap.specs.Marks.{EdgeOf}
+use Rattle.peer_side.specs.declared.mirroring.RefEnd.{RefEnd}
+use Rattle.peer_side.specs.declared.mirroring.RefEnd.TheVariants.{Peer, Temp}
 use Rattle.peer_side.specs.Rows.{Rows, with_rows}
 
 -- the row of a handle
@@ -27,9 +31,14 @@ weak_row = record { strength = weak; cleared = false }
 abbrev pub with_row : Rows → ℕ → TableRow → Rows
 with_row v h row = record v { table = numbered_set v.table h (Some row) }
 
--- these references stand after those that stood, in room that was taken
-abbrev pub with_stood : Rows → List (ℕ × ℕ) → Rows
-with_stood v refs = record v { rows = record v.rows { refs = v.rows.refs ++ refs; room = v.rows.room - length refs } }
+-- an end of a reference, as the definition has it
+abbrev pub end_of : RefEnd → End
+end_of (Peer p) = node p.0
+end_of (Temp t) = temporary t
+
+-- these references stand after those that stood, in room that was taken, and no marking that is open follows references
+abbrev pub with_stood : Rows → List (End × End) → Rows
+with_stood v refs = record v { rows = record v.rows { refs = v.rows.refs ++ refs; follows = false; room = v.rows.room - length refs } }
 
 -- a restored handle was cleared, and left the table
 pub record IsRemoved (old : Rows) (h : ℕ) (new : Rows) : Type 0 where
@@ -39,17 +48,28 @@ pub record IsRemoved (old : Rows) (h : ℕ) (new : Rows) : Type 0 where
   pub rest : new ≡ record old { table = numbered_set old.table h None; tabled = new.tabled }
   pub fewer : new.tabled + 1 ≡ old.tabled
 
--- a restored handle is strong, and its peer is brought back, if a marking is open
-pub record IsStrongAgain (is_open : Bool) (old : Rows) (h : ℕ) (new : Rows) : Type 0 where
+-- a restored handle left the table, and a held strong one on its peer came in its place, under the next number; the peer is brought back, if a
+-- marking is open
+pub record IsRenewed (is_open : Bool) (old : Rows) (h : ℕ) (given : HNum) (new : Rows) : Type 0 where
   pub row : TableRow
   pub tabled : row_at old h ≡ Some row
   pub kept : row.cleared ≡ false
   pub peer : ℕ
   pub issued : peer_of old.issued h ≡ Some peer
-  pub rest : new ≡ record old { rows = record old.rows { marks = new.rows.marks; links = new.rows.links }; table = numbered_set old.table h (Some strong_row) }
+  pub number : given.0 ≡ length old.issued + 1
+  pub rest : new ≡ record old {
+    rows = record old.rows { marks = new.rows.marks; links = new.rows.links };
+    issued = old.issued ++ record { peer = peer; hold = held; strength = strong } ∷ [];
+    table = numbered_set old.table h None ++ Some strong_row ∷ [];
+  }
   pub marks : is_open ≡ true → (k : ℕ) → (HasMark new.rows.marks k ↔ (HasMark old.rows.marks k ⊎ Reached (Contains (peer ∷ [])) (EdgeOf old.rows) k))
+
+-- what a restore does to the rows before the peer is brought back
+abbrev pub RestoresRow : Rows → ℕ → Back → Rows → Type 0
+RestoresRow old h Cleared new = IsRemoved old h new
+RestoresRow old h (Alive given) new = IsRenewed false old h given new × (new.rows ≡ old.rows)
 
 -- what a restore does to the rows
 abbrev pub RestoresHandle : Bool → Rows → ℕ → Back → Rows → Type 0
 RestoresHandle is_open old h Cleared new = IsRemoved old h new
-RestoresHandle is_open old h Alive new = IsStrongAgain is_open old h new
+RestoresHandle is_open old h (Alive given) new = IsRenewed is_open old h given new

@@ -22,24 +22,25 @@ use Rattle.global_handles.specs.declared.Hold.TheVariants.{Held, Raw}
 use Rattle.global_handles.specs.declared.Strength.{Strength}
 use Rattle.global_handles.specs.declared.Strength.TheVariants.{Strong, Weak}
 use Rattle.row_heap.specs.Rows.{HeapRows, opening_rows}
-use Rattle.peer_side.specs.declared.rows.Issue.{Issue}
+use Rattle.peer_side.specs.declared.issues.Issue.{Issue}
 
--- `tabled` is how many handles the table has
+-- `made` counts the handles that were issued otherwise than by a restore, and `tabled` those that the table has
 pub record Rows : Type 0 where
   pub rows : HeapRows
   pub sorts : List Sort
   pub names : List (Option ℕ)
   pub issued : List Issued
+  pub made : ℕ
   pub table : List (Option TableRow)
   pub tabled : ℕ
 
 -- no peer, no name and no handle
 abbrev pub no_rows : Rows
-no_rows = record { rows = opening_rows; sorts = []; names = replicate 64 None; issued = []; table = []; tabled = 0 }
+no_rows = record { rows = opening_rows; sorts = []; names = replicate 64 None; issued = []; made = 0; table = []; tabled = 0 }
 
 -- the peers, as the definition has them
 abbrev pub peers_in : Rows → Peers
-peers_in v = record { heap = v.rows.heap; sorts = v.sorts; names = v.names; issued = v.issued }
+peers_in v = record { heap = v.rows.heap; sorts = v.sorts; names = v.names; issued = v.issued; made = v.made }
 
 -- no peer has more than 255 fields
 abbrev pub IsShort : List (Option ℕ) → Type 0
@@ -82,7 +83,8 @@ rows_with rows sorts names issued table = record {
   sorts = sorts;
   names = names;
   issued = map issued_as issued;
-  table = table_to table.rows table.made;
+  made = table.made;
+  table = table_to table.rows table.last;
   tabled = length table.rows;
 }
 
@@ -98,7 +100,7 @@ AreRowsIssued rows issued = (h : HNum) (r : HandleRow) → row_in rows h ≡ Som
 -- no peer has more fields than a reply can say
 pub record ArePeerRows (rows : HeapRows) (sorts : List Sort) (issued : List Issue) (table : Table) : Type 0 where
   pub rising : IsRising table
-  pub places : table.made ≡ length issued
+  pub places : table.last ≡ length issued
   pub rows_issued : AreRowsIssued table.rows issued
   pub sorted : length sorts ≡ length rows.heap.fields
   pub short : AreShort rows.heap
@@ -109,7 +111,7 @@ AreTargetsLive v = (h p : ℕ) → table_target (with_rows opening_peer_replay v
 
 -- the rows with a further handle
 abbrev pub issued_to : Rows → Issue → Rows
-issued_to v i = record v { issued = v.issued ++ issued_as i ∷ []; table = v.table ++ fresh_row (issued_as i) ∷ []; tabled = v.tabled + 1 }
+issued_to v i = record v { issued = v.issued ++ issued_as i ∷ []; made = v.made + 1; table = v.table ++ fresh_row (issued_as i) ∷ []; tabled = v.tabled + 1 }
 
 -- an event of the peers has this reply and leads to these rows, and the handles that it issues come into the table
 pub record PeersAnswer (old : Rows) (a : Answered Peers) (r : Reply) (new : Rows) : Type 0 where

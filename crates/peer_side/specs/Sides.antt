@@ -12,6 +12,7 @@ use Rattle.joint_model.specs.declared.events.Op.{Op}
 use Rattle.joint_model.specs.declared.events.Op.TheVariants as op
 use Rattle.joint_model.specs.declared.events.Reply.{Reply}
 use Rattle.joint_model.specs.declared.events.Reply.TheVariants as says
+use Rattle.joint_model.specs.Components.{End}
 use Rattle.joint_model.specs.Heaps.{numbered_at}
 use Rattle.joint_model.specs.Listed.{Stock}
 use Rattle.joint_model.specs.Peers.{Issued, peer_of}
@@ -23,14 +24,16 @@ use Rattle.peer_side.specs.declared.side.BeginFault.{BeginFault}
 use Rattle.peer_side.specs.declared.side.BeginFault.TheVariants.{OutOfMemory, MarkOpen}
 use Rattle.peer_side.specs.declared.side.OpenMarking.{OpenMarking}
 use Rattle.peer_side.specs.Marks.{IsExact}
-use Rattle.peer_side.specs.Mirrors.{Mirrors, AreMirrored, mirror_in, mirrors_in, owes, restored_at}
+use Rattle.peer_side.specs.Mirrors.{Mirrors, AreMirrored, AreWithin, mirror_in, mirrors_in, owes, restored_at}
 use Rattle.peer_side.specs.Rows.{Rows, with_rows}
 
--- what is reserved for mirrored cycles: the references that wait, and for how many more there is room; for how many handles room is taken for
--- the cycle that is mirrored next; and how many handles the mirrored one may still weaken, and whether its own marking is still to come
+-- what is reserved for mirrored cycles: the references that wait, and for how many more and for how many temporaries there is room; for how many
+-- handles room is taken for the cycle that is mirrored next; and how many handles the mirrored one may still weaken, and whether its own marking is
+-- still to come
 pub record Reserve : Type 0 where
-  pub waiting : List (ℕ × ℕ)
+  pub waiting : List (End × End)
   pub refs : ℕ
+  pub temps : ℕ
   pub next : Option ℕ
   pub left : ℕ
   pub marking : Bool
@@ -45,7 +48,7 @@ is_to_mark None = false
 is_to_mark (Some m) = m.marking
 
 abbrev pub reserve_of : Mirrors → Reserve
-reserve_of m = record { waiting = m.waiting; refs = m.room; next = m.next; left = left_of m.mirror; marking = is_to_mark m.mirror }
+reserve_of m = record { waiting = m.waiting; refs = m.room; temps = m.temps; next = m.next; left = left_of m.mirror; marking = is_to_mark m.mirror }
 
 -- a begin is that of the mirrored cycle's own marking: the driver makes it, and it is still to come
 abbrev pub is_own : Thread → Bool → Bool
@@ -59,7 +62,7 @@ reserve_begun false r = r
 
 -- nothing is reserved
 abbrev pub no_reserve : Reserve
-no_reserve = record { waiting = []; refs = 0; next = None; left = 0; marking = false }
+no_reserve = record { waiting = []; refs = 0; temps = 0; next = None; left = 0; marking = false }
 
 -- what is seen of the peer side: for how many peer threads it is, its entries, the state of their replay, and beside these what is reserved
 pub record PeerModel : Type 0 where
@@ -86,9 +89,9 @@ abbrev pub peers_at : Option ℕ → List ℕ
 peers_at None = []
 peers_at (Some p) = p ∷ []
 
--- the peer of a handle, where a restore answered alive
+-- the peer of a handle, where a restore gave another one on it
 abbrev pub revived_in : List Issued → ℕ → Reply → List ℕ
-revived_in issued h says.Alive = peers_at (peer_of issued h)
+revived_in issued h (says.Renewed g) = peers_at (peer_of issued h)
 revived_in issued h r = []
 
 -- the peer that an event of a name or a handle gave, or that a restore found alive: it is brought back if a marking is open
@@ -176,17 +179,22 @@ IsMarkingOf (Some m) (Some mk) = (m.0.0 ≡ mk.number) × (m.1 ≡ mk.by)
 IsMarkingOf _ _ = ⊥
 
 -- the side is the replay of its entries, in a state as lawful lists lead to; there is room for the release of each handle of the table,
--- for the sweep of an open marking, and for what mirrored cycles owe; each marking has an entry; the marks of an open marking are exact; the
--- entries have what is told of a mirrored cycle, and name handles that were issued; and there is room for the references that wait
+-- for the sweep of an open marking, and for what mirrored cycles owe; each marking has an entry, and each handle; the marks of an open marking are
+-- exact; the entries have what is told of a mirrored cycle, and name handles that were issued; references stand only where a cycle is mirrored; and there
+-- is room for those that wait, and for their temporaries
 pub record IsSide (rows : Rows) (o : Option OpenMarking) (markings : ℕ) (m : Mirrors) (stock : Stock) : Type 0 where
   pub replayed : IsReplayed peer_rules stock.entries (state_with stock.entries rows o markings m)
   pub kept : IsPeerKept (state_with stock.entries rows o markings m)
   pub room : rows.tabled + owed o + owes m ≤ stock.spare
   pub limit : length stock.entries + stock.spare ≤ 4294967295
   pub few : markings ≤ length stock.entries
+  pub issued : length rows.issued ≤ length stock.entries
   pub from : IsFrom o (length stock.entries)
   pub exact : (mk : Marking) → marking_in rows.issued stock.entries o ≡ Some mk → IsExact (state_with stock.entries rows o markings m) mk rows.rows
   pub mirrored : AreMirrored stock.entries m.mirror
   pub known : All (IsKnown rows.issued) stock.entries
+  pub bare : m.mirror ≡ None → rows.rows.refs ≡ []
   pub refs_room : length m.waiting + m.room ≤ rows.rows.room
+  pub temps_room : m.temps ≤ rows.rows.temps
+  pub temps_within : AreWithin rows.rows.temps m.waiting
   pub few_refs : length rows.rows.refs ≤ 4294967295

@@ -1,56 +1,63 @@
-// The calls for a mirrored cycle, each with its entry: references that wait come to stand, handles are made weak and are restored, and the references
+// The calls for a mirrored cycle, each with its entry: references that wait come to stand, handles are made weak, and are restored, and the references
 // go. The bridge's driver alone makes them.
 //
 // All memory is taken by `reserve_refs`, before; so no call here that makes an entry takes any.
 
 ghost use Rattle.std.specs.Prelude.{◌≡◌, ℕ, ◌+◌, ◌-◌, ◌*◌, ◌^◌, ◌≤◌, ◌++◌, ◌↔◌, [], ◌∷◌, None, Some, IsSome, Contains, length, true, OnErr, OnOk};
 ghost use Rattle.joint_model.specs.Draws.{AllBelow, numbered};
+ghost use Rattle.joint_model.specs.declared.names.HNum.{HNum};
 ghost use Rattle.joint_model.specs.Heaps.{IsLive};
+ghost use Rattle.joint_model.specs.Peers.{next_handle};
 ghost use Rattle.joint_model.specs.PeerReplay.{MayClear, MayRestore, MayWeaken, Mirror, Refers, TableRow, row_of};
 ghost use Rattle.joint_model.specs.Sides.{peer_rules, AddsLawful, DrawsLast, MayDraw};
 ghost use Rattle.joint_model.specs.Told.{nothing, references_of};
 ghost use Rattle.peer_side.specs.Cycles.{clears, mirrors, reply_of, reserve_left, reserve_more, reserve_over, reserve_pushed, reserve_stood, restores, weakens};
-ghost use Rattle.peer_side.specs.Mirrors.{AreEndsStrong, AreTargetsRestored, HasRestoredHandle};
+ghost use Rattle.peer_side.specs.Mirroring.{end_of};
+ghost use Rattle.peer_side.specs.Mirrors.{AreEndsStrong, AreTargetsRestored, HasRestoredHandle, MayStand};
 ghost use Rattle.peer_side.specs.Sides.{seen};
 
+use crate::mirroring::RefEnd;
 use crate::side::{PeerSide, kept, take_room};
 use global_handles::Back;
-use joint_model::{Cycle, Draw, Entries, HNum, Made, Op, PNum, Reply, Thread, enter_handle};
+use joint_model::{Cycle, Draw, Entries, HNum, Made, Op, Reply, Thread, enter_handle};
 use std::alloc::AllocError;
 
 impl PeerSide {
-    /// Takes room for so many more references that wait, and for all entries of a cycle over so many handles: its mirror, a weaken and a restore
-    /// for each handle, the begin and the sweep of its own marking, and its clear. It stands beside the room that a mirrored cycle has still. Each
-    /// call counts anew: what an earlier one took for references that do not wait yet, and for the next cycle, counts no more.
+    /// Takes room for so many more references that wait, whose temporaries have numbers below `temps`, and for all entries of a cycle over so many
+    /// handles: its mirror, a weaken and a restore for each handle, the begin and the sweep of its own marking, and its clear. It stands beside the
+    /// room that a mirrored cycle has still. Each call counts anew: what an earlier one took for references that do not wait yet, for temporaries
+    /// and for the next cycle, counts no more.
     ///
     /// Answers `AllocError`, with the side as before, where there is no memory, for more than 1,073,741,824 handles, or where a list would pass
     /// 4,294,967,295.
-    pub fn reserve_refs(&mut self, refs: u32, handles: u32) -> Result<(), AllocError>
-        ensures ok { OnOk result (self.new ≡ record self.old { reserve = reserve_more self.old.reserve refs handles }) }
+    pub fn reserve_refs(&mut self, refs: u32, temps: u32, handles: u32) -> Result<(), AllocError>
+        ensures ok { OnOk result (self.new ≡ record self.old { reserve = reserve_more self.old.reserve refs temps handles }) }
         ensures err { OnErr result (self.new ≡ self.old) }
     {
         let kept = kept(&self.rows, &self.marking, &self.mirroring);
         take_cycle(&mut self.entries, kept, handles)?;
         let all = self.mirroring.room_with(refs)?;
-        self.rows.reserve_refs(all)?;
-        self.mirroring.reserve(refs, handles)?;
+        self.rows.reserve_refs(all, temps)?;
+        self.mirroring.reserve(refs, temps, handles)?;
         Ok(())
     }
 
-    /// Adds a reference between live peers, which waits until `stand`: no marking follows it, and it is in no state. It takes no memory.
-    pub fn push_ref(&mut self, from: PNum, to: PNum)
+    /// Adds a reference from a live peer or a temporary to another one, which waits until `stand`: no marking follows it, and it is in no state. A
+    /// temporary is no peer: references alone lead to it and from it, and it goes with them. It takes no memory.
+    pub fn push_ref(&mut self, from: RefEnd, to: RefEnd)
         requires room { 1 ≤ self.old.reserve.refs }
         requires closed { self.old.state.mirror ≡ None }
-        requires from { IsLive self.old.state.peers.heap from.0 }
-        requires to { IsLive self.old.state.peers.heap to.0 }
-        ensures { self.new ≡ record self.old { reserve = reserve_pushed self.old.reserve from.0 to.0 } }
+        requires from { MayStand self.old.state.peers.heap self.old.reserve.temps (end_of from) }
+        requires to { MayStand self.old.state.peers.heap self.old.reserve.temps (end_of to) }
+        ensures { self.new ≡ record self.old { reserve = reserve_pushed self.old.reserve (end_of from) (end_of to) } }
     {
-        self.mirroring.push(from.0, to.0);
+        self.mirroring.push(from, to);
     }
 
     /// The references that wait come to stand all together, and the cycle is mirrored: one entry is drawn and put last, and their number is
-    /// answered. Each of their ends has to be under a strong handle, so that no open marking frees it. It takes no memory.
-    pub fn stand<D: Draw>(&mut self, draw: &mut D, index: u16, cycle: Cycle, cites: u64) -> u32
+    /// answered. Each peer that is an end of one has to be under a strong handle, so that no open marking frees it. A marking that is open doesn't
+    /// follow them. It takes no memory.
+    pub fn stand<D: Draw>(&mut self, draw: &mut D, index: u32, cycle: Cycle, cites: u64) -> u32
         requires reserved { IsSome self.old.reserve.next }
         requires closed { self.old.state.mirror ≡ None }
         requires once { Contains self.old.state.mirrors cycle.0 → ⊥ }
@@ -81,7 +88,7 @@ impl PeerSide {
     }
 
     /// Makes a held strong handle weak, in the mirrored cycle: one entry is drawn and put last. It takes no memory.
-    pub fn weaken<D: Draw>(&mut self, draw: &mut D, index: u16, cites: u64, h: HNum)
+    pub fn weaken<D: Draw>(&mut self, draw: &mut D, index: u32, cites: u64, h: HNum)
         requires left { 1 ≤ self.old.reserve.left }
         requires weakens { MayWeaken self.old.state h.0 (Some cites) }
         requires may { MayDraw peer_rules (record { floor = D.floor; left = D.left; may = D.may; drew = D.drew }) draw.old (seen self.old) Thread.C (Op.Weaken h) }
@@ -103,14 +110,15 @@ impl PeerSide {
         );
     }
 
-    /// Restores a handle that was weakened in the mirrored cycle. Exactly where it is cleared it leaves the table, which is `Cleared`; else it is
-    /// strong again, and its peer is brought back: while a marking is open it is marked, with all that it reaches. One entry is drawn and put
-    /// last. It takes no memory.
-    pub fn restore<D: Draw>(&mut self, draw: &mut D, index: u16, h: HNum) -> Back
+    /// Restores a handle that was weakened in the mirrored cycle: it leaves the table. Exactly where it is cleared that is all, which is `Cleared`; else
+    /// a held strong handle on its peer comes in its place, under the next number, which is `Alive` with the new handle, and the peer is brought
+    /// back: while a marking is open it is marked, with all that it reaches. One entry is drawn and put last. It takes no memory.
+    pub fn restore<D: Draw>(&mut self, draw: &mut D, index: u32, h: HNum) -> Back
         requires restores { MayRestore self.old.state h.0 }
         requires may { MayDraw peer_rules (record { floor = D.floor; left = D.left; may = D.may; drew = D.drew }) draw.old (seen self.old) Thread.C (Op.Restore h) }
         ensures adds { AddsLawful peer_rules (record { floor = D.floor; left = D.left; may = D.may; drew = D.drew }) draw.old draw.new (seen self.old) (seen self.new) (restores index h result) nothing }
         ensures cleared { (row : TableRow) → row_of self.old.state h.0 ≡ Some row → ((result ≡ Back.Cleared) ↔ (row.cleared ≡ true)) }
+        ensures number { (g : HNum) → result ≡ Back.Alive g → g.0 ≡ next_handle self.old.state.peers }
         ensures reserve { self.new.reserve ≡ self.old.reserve }
     {
         let is_open = self.marking.is_some();
@@ -130,12 +138,12 @@ impl PeerSide {
         back
     }
 
-    /// Ends the mirrored cycle: no reference stands from then on. One entry is drawn and put last, and its number is answered. Each unfreed peer
-    /// that a reference leads to has to be restored strong, so that an open marking that follows the references misses nothing. It takes no
-    /// memory.
+    /// Ends the mirrored cycle: no reference stands from then on, and no temporary. One entry is drawn and put last, and its number is answered. Each
+    /// unfreed peer that a reference leads to, directly or over temporaries, has to be restored strong, so that an open marking that follows the
+    /// references misses nothing. It takes no memory.
     ///
     /// No reference led from a peer that is restored strong to a freed one: so none led to one whose restore answered `Cleared`.
-    pub fn clear_refs<D: Draw>(&mut self, draw: &mut D, index: u16, cycle: Cycle) -> u64
+    pub fn clear_refs<D: Draw>(&mut self, draw: &mut D, index: u32, cycle: Cycle) -> u64
         requires clears { MayClear self.old.state cycle.0 }
         requires targets { AreTargetsRestored self.old.state }
         requires may { MayDraw peer_rules (record { floor = D.floor; left = D.left; may = D.may; drew = D.drew }) draw.old (seen self.old) Thread.C (Op.Clear cycle) }
@@ -170,7 +178,7 @@ fn reply_of(back: Back) -> Reply
     ensures { result ≡ reply_of back }
 {
     match back {
-        Back::Alive => Reply::Alive,
+        Back::Alive { h } => Reply::Renewed(h),
         Back::Cleared => Reply::Cleared,
     }
 }
@@ -195,7 +203,7 @@ fn take_cycle(entries: &mut Entries, kept: u64, handles: u32) -> Result<(), Allo
 fn note<D: Draw>(
     entries: &mut Entries,
     draw: &mut D,
-    index: u16,
+    index: u32,
     op: Op,
     reply: Reply,
     cites: Option<u64>,

@@ -5,8 +5,8 @@
 //
 //     let mut side = PeerSide::new(alloc, 2)?;
 //     let reply = side.step(&mut draw, Thread::P(1), 1, &op, None)?;
-//     side.reserve_refs(1, 1)?;
-//     side.push_ref(from, to);
+//     side.reserve_refs(1, 0, 1)?;
+//     side.push_ref(RefEnd::Peer(from), RefEnd::Peer(to));
 //     side.stand(&mut draw, 2, cycle, snap);
 //     side.weaken(&mut draw, 2, snap, h);
 //     side.mark_begin(&mut draw, Thread::C, 2)?;
@@ -35,6 +35,7 @@
 #![tactic(auto)]
 
 mod cycle;
+mod issues;
 mod laws;
 mod marking;
 mod mirror;
@@ -48,4 +49,5 @@ pub use laws::steps_keep_marks;
 pub use mirror_laws::{
     mirrored_rows_go_on, mirrors_keep_marks, restores_are_owed, steps_leave_mirrors,
 };
+pub use mirroring::RefEnd;
 pub use side::{BeginFault, NoMark, PeerLists, PeerSide, Swept};

@@ -2,28 +2,32 @@
 //
 // Each call is one event of the definition, without its entry. Room for references is taken before; nothing else here takes memory.
 
-ghost use Rattle.std.specs.Prelude.{◌≡◌, ℕ, ◌+◌, ◌-◌, ◌≤◌, ◌++◌, Some, OnErr, OnOk, IsTrue, length, false, []};
-ghost use Rattle.joint_model.specs.Heaps.{IsLive};
+ghost use Rattle.std.specs.Prelude.{◌≡◌, ℕ, ◌≤◌, ◌<◌, Some, All, OnErr, OnOk, IsTrue, length, map, max, []};
 ghost use Rattle.joint_model.specs.Peers.{peer_of};
-ghost use Rattle.joint_model.specs.PeerReplay.{Refers, TableRow};
+ghost use Rattle.joint_model.specs.PeerReplay.{TableRow};
+ghost use Rattle.global_handles.specs.Rows.{IsRising, row_in, with_strength, without};
 ghost use Rattle.reachability.specs.Marks.{IsClosed};
 ghost use Rattle.row_heap.specs.Marks.{EdgeOf};
-ghost use Rattle.peer_side.specs.Mirroring.{RestoresHandle, row_at, strong_row, weak_row, with_row, with_stood};
+ghost use Rattle.row_heap.specs.Ends.{ends_of};
+ghost use Rattle.row_heap.specs.Rows.{MayReferBoth};
+ghost use Rattle.peer_side.specs.Mirroring.{RestoresHandle, RestoresRow, row_at, strong_row, weak_row, with_row, with_stood};
 ghost use Rattle.peer_side.specs.Rows.{AreTargetsLive, with_rows};
 
+use crate::issues::Issue;
 use crate::rows::PeerRows;
-use global_handles::{Back, Strength};
-use joint_model::{HNum, PNum};
-use row_heap::RowHeap;
+use global_handles::{Back, HandleRow, HandleTable, Hold, Strength};
+use joint_model::HNum;
+use row_heap::End;
 use std::alloc::AllocError;
 
 impl PeerRows {
-    /// Takes room for so many more references. Answers `AllocError`, with nothing changed, where there is no memory.
-    pub(crate) fn reserve_refs(&mut self, refs: u32) -> Result<(), AllocError>
-        ensures ok { OnOk result (self.new ≡ record self.old { rows = record self.old.rows { room = refs } }) }
+    /// Takes room for so many more references, and for so many temporaries, if there is room for fewer. Answers `AllocError`, with nothing
+    /// changed, where there is no memory.
+    pub(crate) fn reserve_refs(&mut self, refs: u32, temps: u32) -> Result<(), AllocError>
+        ensures ok { OnOk result (self.new ≡ record self.old { rows = record self.old.rows { room = refs; temps = max self.old.rows.temps temps } }) }
         ensures err { OnErr result (self.new ≡ self.old) }
     {
-        self.heap.reserve_references(refs)
+        self.heap.reserve_references(refs, temps)
     }
 
     /// How many references stand.
@@ -33,13 +37,14 @@ impl PeerRows {
         self.heap.references_len()
     }
 
-    /// References between live peers come to stand, after those that stood. It takes no memory.
-    pub(crate) fn stand(&mut self, refs: &[(u32, u32)])
-        requires ends { (p q : ℕ) → Refers refs.now p q → IsLive self.old.rows.heap p × IsLive self.old.rows.heap q }
+    /// References between live peers and temporaries come to stand, after those that stood; a marking that is open follows none from then on. It
+    /// takes no memory.
+    pub(crate) fn stand(&mut self, refs: &[(End, End)])
+        requires ends { All (MayReferBoth self.old.rows) (map ends_of refs.now) }
         requires room { length refs.now ≤ self.old.rows.room }
-        ensures { self.new ≡ with_stood self.old refs.now }
+        ensures { self.new ≡ with_stood self.old (map ends_of refs.now) }
     {
-        push_all(&mut self.heap, refs);
+        self.heap.add_references(refs);
     }
 
     /// No reference stands from then on. It takes no memory.
@@ -57,24 +62,21 @@ impl PeerRows {
         self.table.weaken(h);
     }
 
-    /// Removes a handle of the table that is cleared, and answers `Cleared`; or makes it strong, and answers `Alive`. While a marking is
-    /// open, its peer is then marked, with all that it reaches. It takes no memory.
+    /// Removes a handle of the table, and answers `Cleared` where it is cleared; else a held strong handle on its peer comes in its place, which is
+    /// `Alive`. While a marking is open, the peer is then marked, with all that it reaches. It takes no memory.
     pub(crate) fn restore(&mut self, h: HNum, is_open: bool) -> Back
         requires tabled { (row : TableRow) × (row_at self.old h.0 ≡ Some row) }
         requires live { AreTargetsLive self.old }
+        requires last { length self.old.issued < 4294967295 }
         requires shut { IsTrue is_open → IsClosed (EdgeOf self.old.rows) self.old.rows.marks }
         ensures { RestoresHandle is_open self.old h.0 result self.new }
     {
         self.issued_rows();
         match self.target(h) {
-            None => {
-                self.remove(h);
-                Back::Cleared
-            }
+            None => self.renew(h),
             Some(p) => {
                 self.bring_back(p, is_open);
-                self.strengthen(h);
-                Back::Alive
+                self.renew(h)
             }
         }
     }
@@ -86,28 +88,42 @@ impl PeerRows {
         let _ = &self.table;
     }
 
-    // Makes a handle strong that leads to a peer, unless it is strong already.
-    fn strengthen(&mut self, h: HNum)
-        requires { (row : TableRow) × (row_at self.old h.0 ≡ Some row) × (row.cleared ≡ false) }
-        ensures { self.new ≡ with_row self.old h.0 strong_row }
+    // Removes a handle of the table, and answers `Cleared` where it is cleared; else a held strong handle on its peer comes in its place.
+    fn renew(&mut self, h: HNum) -> Back
+        requires tabled { (row : TableRow) × (row_at self.old h.0 ≡ Some row) }
+        requires last { length self.old.issued < 4294967295 }
+        ensures { RestoresRow self.old h.0 result self.new }
     {
         let Some(row) = self.table.row(h) else {
             unreachable!();
         };
-        if let Strength::Strong = row.strength {
-            return;
+        loosen(&mut self.table, row);
+        match self.table.restore(h) {
+            Back::Cleared => Back::Cleared,
+            Back::Alive { h: given } => {
+                self.issued.push(Issue {
+                    peer: row.peer,
+                    hold: Hold::Held,
+                    strength: Strength::Strong,
+                });
+                Back::Alive { h: given }
+            }
         }
-        let _ = self.table.restore(h);
     }
 }
 
-// Adds references between live peers.
-fn push_all(heap: &mut RowHeap<PNum>, refs: &[(u32, u32)])
-    requires ends { (p q : ℕ) → Refers refs.now p q → IsLive heap.old.heap p × IsLive heap.old.heap q }
-    requires room { length refs.now ≤ heap.old.room }
-    ensures { heap.new ≡ record heap.old { refs = heap.old.refs ++ refs.now; room = heap.old.room - length refs.now } }
+// Makes a row of the table weak, if it isn't: the table restores weak ones alone.
+fn loosen(table: &mut HandleTable, row: HandleRow)
+    requires row { row_in table.old.rows row.number ≡ Some row }
+    requires rising { IsRising table.old }
+    ensures row { row_in table.new.rows row.number ≡ Some (with_strength Strength.Weak row) }
+    ensures others { without row.number table.new.rows ≡ without row.number table.old.rows }
+    ensures len { length table.new.rows ≡ length table.old.rows }
+    ensures made { table.new.made ≡ table.old.made }
+    ensures last { table.new.last ≡ table.old.last }
+    ensures rising { IsRising table.new }
 {
-    for reference in refs {
-        heap.push_reference(reference.0, reference.1);
+    if let Strength::Strong = row.strength {
+        table.weaken(row.number);
     }
 }

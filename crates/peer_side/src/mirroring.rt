@@ -2,10 +2,13 @@
 //
 // References that wait stand here, and in no row: so no marking follows them, and one that is open stays exact. They come to stand all together.
 
-ghost use Rattle.std.specs.Prelude.{◌≡◌, ◌+◌, ◌-◌, ◌^◌, ◌≤◌, ◌++◌, [], ◌∷◌, Some, true, IfOk, OnOk, OnErr, length};
+ghost use Rattle.std.specs.Prelude.{◌≡◌, ◌+◌, ◌-◌, ◌^◌, ◌≤◌, ◌++◌, [], ◌∷◌, Some, true, IfOk, OnOk, OnErr, length, map};
+ghost use Rattle.row_heap.specs.Ends.{end_of as row_end, ends_of};
+ghost use Rattle.peer_side.specs.Mirroring.{end_of};
 ghost use Rattle.peer_side.specs.Mirrors.{AreFew, no_mirrors, owed_by, owed_next, owes};
 
-use joint_model::Cycle;
+use joint_model::{Cycle, PNum};
+use row_heap::End;
 use std::alloc::{AllocError, Global};
 use std::marker::Model;
 
@@ -21,24 +24,33 @@ pub(crate) struct OpenMirror {
     pub(crate) marking: bool,
 }
 
-/// The mirrored cycle; the references that wait, from a peer to a peer, and for how many more of them there is room; and for how many handles
+/// An end of a mirrored reference: a peer, or a temporary, by its number from 0 on.
+#[derive(Clone, Copy, PartialEq, Eq, Debug)]
+pub enum RefEnd {
+    Peer(PNum),
+    Temp(u32),
+}
+
+/// The mirrored cycle; the references that wait, and for how many more of them and for how many temporaries there is room; and for how many handles
 /// room is taken for the cycle that is mirrored next.
 #[derive(Drop)]
 pub(crate) struct Mirroring {
     mirror: Option<OpenMirror>,
-    waiting: Vec<(u32, u32)>,
+    waiting: Vec<(End, End)>,
     ready: u32,
+    temps: u32,
     next: Option<u32>,
 }
 
 impl Model for Mirroring {
-    ghost use Rattle.std.specs.Prelude.{length};
+    ghost use Rattle.std.specs.Prelude.{length, map};
+    ghost use Rattle.row_heap.specs.Ends.{ends_of};
     ghost use Rattle.std.specs.Vec.{vec_capacity};
     ghost use Rattle.peer_side.specs.Mirrors.{Mirrors, IsMirroring};
 
     ghost Value = { Mirrors };
 
-    ghost view = { λ s. record { mirror = s.mirror; waiting = s.waiting.items; room = s.ready; next = s.next } };
+    ghost view = { λ s. record { mirror = s.mirror; waiting = map ends_of s.waiting.items; room = s.ready; temps = s.temps; next = s.next } };
 
     ghost invariant = { λ s. IsMirroring s.mirror (length s.waiting.items) s.ready (vec_capacity s.waiting) };
 }
@@ -52,6 +64,7 @@ impl Mirroring {
             mirror: None,
             waiting: Vec::new(alloc),
             ready: 0,
+            temps: 0,
             next: None,
         }
     }
@@ -80,8 +93,8 @@ impl Mirroring {
     }
 
     /// The references that wait.
-    pub(crate) fn waiting(&self) -> &[(u32, u32)]
-        ensures waiting { result.now ≡ self.now.waiting }
+    pub(crate) fn waiting(&self) -> &[(End, End)]
+        ensures waiting { map ends_of result.now ≡ self.now.waiting }
         ensures most { length result.now + self.now.room ≤ 4294967295 }
     {
         self.waiting.as_slice()
@@ -99,10 +112,10 @@ impl Mirroring {
         Ok(waiting as u32 + refs.max(self.ready))
     }
 
-    /// Takes room for so many more references that wait, and counts the handles of the cycle that is mirrored next. Answers `AllocError`, with
-    /// nothing changed, where there is no memory, or where 4,294,967,295 references would be passed.
-    pub(crate) fn reserve(&mut self, refs: u32, handles: u32) -> Result<(), AllocError>
-        ensures ok { OnOk result (self.new ≡ record self.old { room = refs; next = Some handles }) }
+    /// Takes room for so many more references that wait, and counts their temporaries and the handles of the cycle that is mirrored next. Answers
+    /// `AllocError`, with nothing changed, where there is no memory, or where 4,294,967,295 references would be passed.
+    pub(crate) fn reserve(&mut self, refs: u32, temps: u32, handles: u32) -> Result<(), AllocError>
+        ensures ok { OnOk result (self.new ≡ record self.old { room = refs; temps = temps; next = Some handles }) }
         ensures err { OnErr result (self.new ≡ self.old) }
     {
         if refs as usize > u32::MAX as usize - self.waiting.len() {
@@ -110,22 +123,23 @@ impl Mirroring {
         }
         self.waiting.reserve(refs as usize)?;
         self.ready = refs;
+        self.temps = temps;
         self.next = Some(handles);
         Ok(())
     }
 
     /// Adds a reference that waits. It takes no memory.
-    pub(crate) fn push(&mut self, from: u32, to: u32)
+    pub(crate) fn push(&mut self, from: RefEnd, to: RefEnd)
         requires { 1 ≤ self.old.room }
-        ensures { self.new ≡ record self.old { waiting = self.old.waiting ++ (from, to) ∷ []; room = self.old.room - 1 } }
+        ensures { self.new ≡ record self.old { waiting = self.old.waiting ++ (end_of from, end_of to) ∷ []; room = self.old.room - 1 } }
     {
-        self.waiting.push_reserved((from, to));
+        self.waiting.push_reserved((from.end(), to.end()));
         self.ready -= 1;
     }
 
     /// A cycle is mirrored, over so many handles, and no reference waits any more.
     pub(crate) fn stand(&mut self, cycle: Cycle, snap: u64, from: u32, handles: u32)
-        ensures { self.new ≡ record self.old { mirror = Some (record { cycle = cycle; snap = snap; from = from; left = handles; due = 0; marking = true }); waiting = []; next = None } }
+        ensures { self.new ≡ record self.old { mirror = Some (record { cycle = cycle; snap = snap; from = from; left = handles; due = 0; marking = true }); waiting = []; temps = 0; next = None } }
     {
         self.mirror = Some(OpenMirror {
             cycle,
@@ -136,6 +150,7 @@ impl Mirroring {
             marking: true,
         });
         self.waiting.clear();
+        self.temps = 0;
         self.next = None;
     }
 
@@ -145,6 +160,18 @@ impl Mirroring {
         ensures { self.new ≡ record self.old { mirror = mirror } }
     {
         self.mirror = mirror;
+    }
+}
+
+impl RefEnd {
+    // The end, as the heap has it.
+    fn end(self) -> End
+        ensures { row_end result ≡ end_of self }
+    {
+        match self {
+            RefEnd::Peer(p) => End::Object(p.0),
+            RefEnd::Temp(t) => End::Temporary(t),
+        }
     }
 }
 

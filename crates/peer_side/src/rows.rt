@@ -1,12 +1,12 @@
 // The peers with their sorts, slots and names, and the handles on them. Each call here is one event of the definition, without its entry.
 
-ghost use Rattle.std.specs.Prelude.{◌≡◌, ℕ, ◌+◌, ◌<◌, ◌≤◌, Some, None, IfOk, IsOk, OnErr, OnOk, length, count_by, is_some, vec_len, vec_capacity, ◌⊎◌, ◌↔◌, ◌||◌, ◌++◌, [], ◌∷◌, Contains, IsTrue, true, false};
+ghost use Rattle.std.specs.Prelude.{◌≡◌, ℕ, ◌+◌, ◌<◌, ◌≤◌, Some, None, IfOk, IsOk, OnErr, OnOk, length, count_by, is_some, ◌⊎◌, ◌↔◌, ◌||◌, ◌++◌, [], ◌∷◌, Contains, IsTrue, true, false};
 ghost use Rattle.std.specs.Option.{ForSome, option_map};
 ghost use Rattle.joint_model.specs.Heaps.{IsLive, answer, is_full, next_number, slot, with_object, numbered_at, numbered_set, copied, field_set, field_got, dropped, loaded, stored, place};
 ghost use Rattle.joint_model.specs.Histories.{peer_numbers};
 ghost use Rattle.joint_model.specs.Lines.{IsPeerThread, IsVar, IsVarOrNone};
 ghost use Rattle.joint_model.specs.Managed.{place_or_none};
-ghost use Rattle.joint_model.specs.Peers.{peer_name, on_peer_heap, peer_made, pair_made, gripped, landed, globalised, name_given, name_freed, name_read, peer_read};
+ghost use Rattle.joint_model.specs.Peers.{peer_name, on_peer_heap, peer_made, handles_full, pair_made, gripped, landed, globalised, name_given, name_freed, name_read, peer_read};
 ghost use Rattle.joint_model.specs.PeerReplay.{PeerReplay, TableRow, opening_peer_replay, on_table, untabled, row_of, table_target};
 ghost use Rattle.joint_model.specs.Run.{thread_number};
 ghost use Rattle.joint_model.specs.Walks.{Reached};
@@ -18,6 +18,7 @@ ghost use Rattle.heap_rules.specs.Done.{say};
 ghost use Rattle.peer_side.specs.Rows.{PeersAnswer, AreTargetsLive, GoesBy, issued_to, number_of, row_as, strength_as, no_rows, peers_in, with_rows};
 ghost use Rattle.peer_side.specs.Steps.{IsPeerStep, IsRelease, ReleasesTabled, room_for};
 
+use crate::issues::{Issue, Issues};
 use global_handles::{HandleTable, Hold, MOST_HANDLES, Strength};
 use heap_rules::Done;
 use joint_model::{Act, HNum, NAMES, Op, PNum, Reply, Sort, Thread, Var, list_with_room};
@@ -25,21 +26,13 @@ use row_heap::{MOST_OBJECTS, RowHeap};
 use std::alloc::{AllocError, Global};
 use std::marker::Model;
 
-/// A handle as it was issued.
-#[derive(Clone, Copy)]
-pub(crate) struct Issue {
-    pub(crate) peer: PNum,
-    pub(crate) hold: Hold,
-    pub(crate) strength: Strength,
-}
-
 /// The peers with their sorts, the slots and names that lead to them, and the handles: as they were issued, and as the table has them now.
 #[derive(Drop)]
 pub(crate) struct PeerRows {
     pub(crate) heap: RowHeap<PNum>,
     pub(crate) sorts: Vec<Sort>,
     pub(crate) names: [Option<u32>; NAMES],
-    pub(crate) issued: Vec<Issue>,
+    pub(crate) issued: Issues,
     pub(crate) table: HandleTable,
 }
 
@@ -48,23 +41,23 @@ impl Model for PeerRows {
 
     ghost Value = { Rows };
 
-    ghost view = { λ s. rows_with s.heap s.sorts.items s.names s.issued.items s.table };
+    ghost view = { λ s. rows_with s.heap s.sorts.items s.names s.issued s.table };
 
-    ghost invariant = { λ s. ArePeerRows s.heap s.sorts.items s.issued.items s.table };
+    ghost invariant = { λ s. ArePeerRows s.heap s.sorts.items s.issued s.table };
 }
 
 impl PeerRows {
-    /// No peer, no name and no handle.
-    pub(crate) fn new(alloc: Global) -> PeerRows
-        ensures { result ≡ no_rows }
+    /// No peer, no name and no handle. Answers `AllocError` where there is no memory.
+    pub(crate) fn new(alloc: Global) -> Result<PeerRows, AllocError>
+        ensures { IfOk result (λ rows. rows ≡ no_rows) }
     {
-        PeerRows {
+        Ok(PeerRows {
             heap: RowHeap::new(alloc),
             sorts: list_with_room(alloc, MOST_OBJECTS),
             names: [None; NAMES],
-            issued: list_with_room(alloc, MOST_HANDLES),
+            issued: Issues::new(alloc)?,
             table: HandleTable::new(alloc),
-        }
+        })
     }
 
     /// How many handles the table has.
@@ -76,9 +69,16 @@ impl PeerRows {
         self.table.len()
     }
 
-    /// How many handles were made.
+    /// How many handles were issued, those that restores gave too: the number of the last one.
     pub(crate) fn issued(&self) -> u32
         ensures { result ≡ length self.now.issued }
+    {
+        self.table.last()
+    }
+
+    /// How many handles were issued otherwise than by a restore.
+    pub(crate) fn handles_made(&self) -> u32
+        ensures { result ≡ self.now.made }
     {
         self.table.made()
     }
@@ -190,34 +190,34 @@ impl PeerRows {
         reply_of(done)
     }
 
-    // Whether no further handle can be issued.
+    // Whether no further handle can be made; those that restores gave don't count.
     fn handles_full(&self) -> bool
-        ensures { result ≡ is_full self.now.issued }
+        ensures { result ≡ handles_full (peers_in self.now) }
     {
-        self.issued.len() >= MOST_HANDLES
+        self.table.made() as usize >= MOST_HANDLES
     }
 
     // Whether no further peer can be made, or no further handle issued.
     #[inline(always)]
     fn pairs_full(&self) -> bool
-        ensures full { result ≡ (is_full self.now.rows.heap.fields || is_full self.now.issued) }
-        ensures left { result ≡ false → (length self.now.rows.heap.fields < 65535) × (length self.now.issued < 65535) }
+        ensures full { result ≡ (is_full self.now.rows.heap.fields || handles_full (peers_in self.now)) }
+        ensures left { result ≡ false → (length self.now.rows.heap.fields < 65535) × (self.now.made < 65535) }
     {
         self.heap.is_full() || self.handles_full()
     }
 
     // Issues a handle on a live peer. Answers `AllocError` where there is no memory; all is then as before.
     fn issue(&mut self, p: PNum, hold: Hold, strength: Strength) -> Result<HNum, AllocError>
-        requires { IsLive self.old.rows.heap p.0 }
+        requires live { IsLive self.old.rows.heap p.0 }
+        requires last { length self.old.issued < 4294967295 }
         ensures number { IfOk result (λ h. h.0 ≡ length self.old.issued + 1) }
         ensures issued { OnOk result (self.new ≡ issued_to self.old (record { peer = p; hold = hold; strength = strength })) }
         ensures err { OnErr result (self.new ≡ self.old) }
     {
         self.heap.tidy();
-        self.issued.reserve(1)?;
         match self.table.make(p, hold, strength) {
             Ok(h) => {
-                self.issued.push_reserved(Issue {
+                self.issued.push(Issue {
                     peer: p,
                     hold,
                     strength,
@@ -257,6 +257,7 @@ impl PeerRows {
     fn give_name(&mut self, g: usize, v: usize, strength: Strength) -> Result<Reply, AllocError>
         requires g { g < 64 }
         requires v { v < 72 }
+        requires last { length self.old.issued < 4294967295 }
         ensures answers { IfOk result (λ r. PeersAnswer self.old (globalised (peers_in self.old) g v (strength_as strength)) r self.new) }
         ensures marks { AreMarksSame self.old.rows self.new.rows }
         ensures tabled { self.new.tabled ≤ self.old.tabled + 1 }
@@ -272,6 +273,7 @@ impl PeerRows {
     fn name_peer(&mut self, g: usize, p: PNum, strength: Strength) -> Result<Reply, AllocError>
         requires g { g < 64 }
         requires live { IsLive self.old.rows.heap p.0 }
+        requires last { length self.old.issued < 4294967295 }
         ensures answers { IfOk result (λ r. PeersAnswer self.old (name_given (peers_in self.old) g p.0 (strength_as strength) (slot self.old.names g)) r self.new) }
         ensures marks { AreMarksSame self.old.rows self.new.rows }
         ensures tabled { self.new.tabled ≤ self.old.tabled + 1 }
@@ -292,6 +294,7 @@ impl PeerRows {
 
     // `make SORT F` of a managed thread: a peer, and a held strong handle on it. The room for the handle is taken first.
     fn make_pair(&mut self, sort: Sort, fields: u8) -> Result<Reply, AllocError>
+        requires { length self.old.issued < 4294967295 }
         ensures answers { IfOk result (λ r. PeersAnswer self.old (pair_made (peers_in self.old) sort fields) r self.new) }
         ensures marks { IfOk result (λ r. MarksNew self.old.rows r self.new.rows) }
         ensures tabled { self.new.tabled ≤ self.old.tabled + 1 }
@@ -301,7 +304,7 @@ impl PeerRows {
         if self.pairs_full() {
             return Ok(Reply::Full);
         }
-        reserve_handle(&mut self.issued, &mut self.table)?;
+        self.table.reserve(1)?;
         let p = add_peer(&mut self.heap, &mut self.sorts, sort, fields)?;
         let new = Issue {
             peer: p,
@@ -314,7 +317,8 @@ impl PeerRows {
 
     // `grip x` of a managed thread: a held strong handle on the static's peer.
     fn grip(&mut self, x: usize) -> Result<Reply, AllocError>
-        requires { x < 16 }
+        requires x { x < 16 }
+        requires last { length self.old.issued < 4294967295 }
         ensures answers { IfOk result (λ r. PeersAnswer self.old (gripped (peers_in self.old) x) r self.new) }
         ensures marks { AreMarksSame self.old.rows self.new.rows }
         ensures tabled { self.new.tabled ≤ self.old.tabled + 1 }
@@ -446,6 +450,7 @@ impl PeerRows {
         requires step { IsPeerStep caller op.now }
         requires tabled { ReleasesTabled self.old.table op.now }
         requires live { AreTargetsLive self.old }
+        requires last { (IsRelease op.now → ⊥) → length self.old.issued < 4294967295 }
         requires shut { IsTrue is_open → IsClosed (EdgeOf self.old.rows) self.old.rows.marks }
         ensures goes { IfOk result (λ r. GoesBy self.old caller op.now r self.new) }
         ensures marks { IfOk result (λ r. MarksAfter is_open self.old.rows op.now r self.new.rows) }
@@ -470,6 +475,7 @@ impl PeerRows {
     fn line(&mut self, caller: Thread, act: &Act, is_open: bool) -> Result<Reply, AllocError>
         requires step { IsPeerStep caller (Op.Line act.now) }
         requires live { AreTargetsLive self.old }
+        requires last { length self.old.issued < 4294967295 }
         requires shut { IsTrue is_open → IsClosed (EdgeOf self.old.rows) self.old.rows.marks }
         ensures goes { IfOk result (λ r. GoesBy self.old caller (Op.Line act.now) r self.new) }
         ensures marks { IfOk result (λ r. MarksAfter is_open self.old.rows (Op.Line act.now) r self.new.rows) }
@@ -522,32 +528,22 @@ fn add_peer(
     Ok(PNum(p))
 }
 
-// Takes the memory for one more handle.
-#[inline(always)]
-fn reserve_handle(issued: &mut Vec<Issue>, table: &mut HandleTable) -> Result<(), AllocError>
-    ensures issued { issued.new.items ≡ issued.old.items }
-    ensures room { OnOk result (vec_len issued.new < vec_capacity issued.new) }
-    ensures table { OnOk result (table.new ≡ record table.old { room = 1 }) }
-    ensures err { OnErr result (table.new ≡ table.old) }
-{
-    issued.reserve(1)?;
-    table.reserve(1)
-}
-
 // Issues a handle for which there is memory: it comes last, among those issued and in the table.
 #[inline(always)]
-fn issue_reserved(issued: &mut Vec<Issue>, table: &mut HandleTable, new: Issue) -> HNum
+fn issue_reserved(issued: &mut Issues, table: &mut HandleTable, new: Issue) -> HNum
     requires peer { new.peer.0 ≤ 65535 }
     requires left { table.old.made < 65535 }
-    requires memory { vec_len issued.old < vec_capacity issued.old }
+    requires last { table.old.last < 4294967295 }
+    requires memory { length issued.old < 4294967295 }
     requires room { 1 ≤ table.old.room }
-    ensures number { result.0 ≡ table.old.made + 1 }
+    ensures number { result.0 ≡ table.old.last + 1 }
     ensures rows { table.new.rows ≡ table.old.rows ++ fresh_row result new.peer new.hold new.strength ∷ [] }
     ensures made { table.new.made ≡ table.old.made + 1 }
+    ensures last { table.new.last ≡ table.old.last + 1 }
     ensures rising { IsRising table.new }
-    ensures issued { issued.new.items ≡ issued.old.items ++ new ∷ [] }
+    ensures issued { issued.new ≡ issued.old ++ new ∷ [] }
 {
-    issued.push_reserved(new);
+    issued.push(new);
     match table.make(new.peer, new.hold, new.strength) {
         Ok(h) => h,
         Err(_) => unreachable!(),

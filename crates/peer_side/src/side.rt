@@ -86,14 +86,14 @@ impl Model for PeerSide {
 
 impl PeerSide {
     /// A side on which nothing was made, for the first `threads` of the peer threads, at most 8: of peer threads it takes the events of these alone.
-    /// There are places for the variables of all eight, and no memory is taken. Its list holds its entries as it is told.
+    /// There are places for the variables of all eight. Its list holds its entries as it is told. Answers `AllocError` where there is no memory.
     pub fn new(alloc: Global, threads: u8, holding: Holding) -> Result<PeerSide, AllocError>
         requires { threads ≤ 8 }
         ensures { IfOk result (λ s. s ≡ opening_side threads) }
     {
         Ok(PeerSide {
             threads,
-            rows: PeerRows::new(alloc),
+            rows: PeerRows::new(alloc)?,
             marking: None,
             markings: 0,
             mirroring: Mirroring::new(alloc),
@@ -128,7 +128,7 @@ impl PeerSide {
         &mut self,
         draw: &mut D,
         caller: Thread,
-        index: u16,
+        index: u32,
         op: &Op,
         cites: Option<u64>,
     ) -> Result<Reply, AllocError>
@@ -153,7 +153,7 @@ impl PeerSide {
         &mut self,
         draw: &mut D,
         caller: Thread,
-        index: u16,
+        index: u32,
         act: &Act,
         cites: Option<u64>,
     ) -> Result<Reply, AllocError>
@@ -179,7 +179,7 @@ impl PeerSide {
         &mut self,
         draw: &mut D,
         caller: Thread,
-        index: u16,
+        index: u32,
         op: &Op,
         cites: Option<u64>,
     ) -> Result<Reply, AllocError>
@@ -211,7 +211,7 @@ impl PeerSide {
         &mut self,
         draw: &mut D,
         caller: Thread,
-        index: u16,
+        index: u32,
     ) -> Result<Reply, AllocError>
         requires caller { IsPeerThread caller ⊎ IsDriver caller }
         requires may { MayDraw peer_rules (record { floor = D.floor; left = D.left; may = D.may; drew = D.drew }) draw.old (seen self.old) caller Op.Begin }
@@ -235,7 +235,7 @@ impl PeerSide {
         &mut self,
         draw: &mut D,
         caller: Thread,
-        index: u16,
+        index: u32,
     ) -> Result<Reply, AllocError>
         requires caller { IsPeerThread caller ⊎ IsDriver caller }
         requires open { IsDriver caller → IsSome self.old.state.marking }
@@ -265,7 +265,7 @@ impl PeerSide {
         &mut self,
         draw: &mut D,
         caller: Thread,
-        index: u16,
+        index: u32,
     ) -> Result<Reply, AllocError>
         requires caller { IsPeerThread caller }
         requires may_begin { MayDraw peer_rules (record { floor = D.floor; left = D.left; may = D.may; drew = D.drew }) draw.old (seen self.old) caller Op.Begin }
@@ -291,7 +291,7 @@ impl PeerSide {
         &mut self,
         draw: &mut D,
         caller: Thread,
-        index: u16,
+        index: u32,
         op: Op,
         reply: Reply,
     ) -> Result<Reply, AllocError>
@@ -324,7 +324,7 @@ impl PeerSide {
         &mut self,
         draw: &mut D,
         caller: Thread,
-        index: u16,
+        index: u32,
     ) -> Result<Marking, BeginFault>
         requires caller { IsPeerThread caller ⊎ IsDriver caller }
         requires may { MayDraw peer_rules (record { floor = D.floor; left = D.left; may = D.may; drew = D.drew }) draw.old (seen self.old) caller Op.Begin }
@@ -360,7 +360,7 @@ impl PeerSide {
         &mut self,
         draw: &mut D,
         caller: Thread,
-        index: u16,
+        index: u32,
         own: bool,
     ) -> Result<Marking, AllocError>
         requires caller { IsPeerThread caller ⊎ IsDriver caller }
@@ -405,7 +405,7 @@ impl PeerSide {
         &mut self,
         draw: &mut D,
         caller: Thread,
-        index: u16,
+        index: u32,
     ) -> Result<Swept, NoMark>
         requires caller { IsPeerThread caller ⊎ IsDriver caller }
         requires own { MayEnd self.old.state.marking caller }
@@ -431,7 +431,7 @@ impl PeerSide {
         &mut self,
         draw: &mut D,
         caller: Thread,
-        index: u16,
+        index: u32,
         marking: Marking,
     ) -> Span
         requires caller { IsPeerThread caller ⊎ IsDriver caller }
@@ -477,11 +477,18 @@ impl PeerSide {
         self.rows.live()
     }
 
-    /// How many handles were made: the number of the last one.
+    /// How many handles were issued, those that restores gave too: the number of the last one.
     pub fn issued(&self) -> u32
         ensures { result ≡ length self.now.state.peers.issued }
     {
         self.rows.issued()
+    }
+
+    /// How many handles were made: those that restores gave don't count.
+    pub fn handles_made(&self) -> u32
+        ensures { result ≡ self.now.state.peers.made }
+    {
+        self.rows.handles_made()
     }
 
     /// How many handles are in the table.

@@ -8,7 +8,7 @@ ghost use Rattle.global_handles.specs.Rows.{IsRising, IsWeakFor};
 ghost use Rattle.row_heap.specs.Marks.{AreWhite};
 ghost use Rattle.peer_side.specs.Marking.{IsWholeMarking, cleared_on};
 ghost use Rattle.peer_side.specs.Rows.{AreRowsIssued, issued_as, table_to};
-ghost use Rattle.peer_side.specs.declared.rows.Issue.{Issue};
+ghost use Rattle.peer_side.specs.declared.issues.Issue.{Issue};
 
 use crate::rows::PeerRows;
 use global_handles::HandleTable;
@@ -33,11 +33,12 @@ fn clear_freed(table: &mut HandleTable, freed: &[PNum])
     requires { All (λ p. All (IsWeakFor p) table.old.rows) freed.now }
     ensures rows { table.new.rows ≡ map (cleared_on (peer_numbers freed.now)) table.old.rows }
     ensures made { table.new.made ≡ table.old.made }
+    ensures last { table.new.last ≡ table.old.last }
     ensures rising { IsRising table.new }
-    ensures cleared { (issued : List Issue) → table.old.made ≡ length issued → AreRowsIssued table.old.rows issued → table_to table.new.rows table.new.made ≡ cleared_rows (peer_numbers freed.now) (map issued_as issued) (table_to table.old.rows table.old.made) }
+    ensures cleared { (issued : List Issue) → table.old.last ≡ length issued → AreRowsIssued table.old.rows issued → table_to table.new.rows table.new.last ≡ cleared_rows (peer_numbers freed.now) (map issued_as issued) (table_to table.old.rows table.old.last) }
 {
     for p in freed {
         table.clear_target(*p);
     }
-    let _made = table.made();
+    let _last = table.last();
 }

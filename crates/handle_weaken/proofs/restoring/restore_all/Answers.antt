@@ -2,7 +2,7 @@
 use Rattle.std.proofs.Common.{◌≡◌, None, ◌∙◌, arith}
 use Rattle.bridge_graph.specs.Parts.{HasNode}
 use Rattle.bridge_graph.proofs.Handles.{handles-some, handles-none}
-use Rattle.handle_weaken.proofs.Restored.{IsRestoring-node, IsRestoring-passed, answers-room, back_of-alive, next-may, next-restores}
+use Rattle.handle_weaken.proofs.Restored.{IsRestoring-node, IsRestoring-passed, answers-room, next-may, next-restores}
 use Rattle.handle_weaken.proofs.restoring.restore_all.Goals as goal
 use Rattle.handle_weaken.proofs.restoring.restore_all.Goals.{in-Some, in_default}
 
@@ -18,7 +18,7 @@ push-requires g c = omega (arith, answers-room c.args.graph.now.nodes c.loop-i.i
 pub loop-i-preserved : goal.loop-i-preserved
 loop-i-preserved g c = elim c.match-handle.branch [
   | in-Some w ↦ rw (w.side-is, w.draw-is, w.alive-is) record {
-    going = IsRestoring-node _ _ _ _ _ c.args.index c.args.graph.now.nodes c.loop-i.i _ _ c.loop-i.invariant.going w.in-Some.h w.in-Some.ensures _ _ w.restore_one-back.result w.is_alive.result _ w.restore_one-back.ensures.adds (back_of-alive w.restore_one-back.result w.is_alive.result w.is_alive.ensures) w.restore_one-back.ensures.reserve
+    going = IsRestoring-node _ _ _ _ _ c.args.index c.args.graph.now.nodes c.loop-i.i _ _ c.loop-i.invariant.going w.in-Some.h w.in-Some.ensures _ _ w.restore_one-back.result w.given.result _ w.restore_one-back.ensures.adds w.given.ensures w.restore_one-back.ensures.reserve
         w.restore_one-back.ensures.peers w.push.ensures.values;
     room = omega (arith, w.push.ensures.room, c.loop-i.invariant.room, handles-some c.args.graph.now.nodes c.loop-i.i w.in-Some.h w.in-Some.ensures);
   }

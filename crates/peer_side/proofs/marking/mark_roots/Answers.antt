@@ -17,7 +17,7 @@ visit_strong-requires-clause-live c = λ p n.
 
 pub finish_marking-requires : goal.finish_marking-requires
 finish_marking-requires c =
-    let strong = strong_in c.args.issued.now c.args.table.now in
+    let strong = strong_in c.args.table.now.rows in
     record {
       roots = root_list c.begin_marking.new.self.heap strong;
       before = c.begin_marking.new.self.marks;
@@ -26,7 +26,7 @@ finish_marking-requires c =
 
 pub returns-clause-marks : goal.returns-clause-marks
 returns-clause-marks c = λ p.
-    let strong = strong_in c.args.issued.now c.args.table.now in
+    let strong = strong_in c.args.table.now.rows in
     let h = c.begin_marking.new.self.heap in
     let m = c.finish_marking.ensures.marks (root_list h strong) c.begin_marking.new.self.marks
     (begins-greying h strong (EdgeOf c.visit_strong.new.heap) _ _ _ _ _ _ _ _ c.begin_marking.ensures.marks c.visit_slots.ensures.greyed c.visit_strong.ensures.greyed) p in

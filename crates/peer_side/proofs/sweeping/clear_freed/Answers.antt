@@ -12,7 +12,7 @@ use Rattle.peer_side.proofs.Clearing.{cleared-next, cleared-none, table-cleared,
 use Rattle.peer_side.proofs.sweeping.clear_freed.Goals as goal
 
 pub loop-p-init : goal.loop-p-init
-loop-p-init c = record { rows = sym (cleared-none c.args.table.now.rows); made = refl }
+loop-p-init c = record { rows = sym (cleared-none c.args.table.now.rows); made = refl; last = refl }
 
 pub clear_target-requires : goal.clear_target-requires
 clear_target-requires c =
@@ -31,6 +31,7 @@ loop-p-preserved c =
       rows = c.clear_target.ensures.rows ∙ (ap (cleared_for p) c.loop-p.invariant.rows ∙ (cleared-next (peer_numbers (take i freed)) p c.args.table.now.rows
           ∙ ap (λ l. map (cleared_on l) c.args.table.now.rows) (sym (ap peer_numbers more ∙ map-append (λ (q : PNum). q.0) (take i freed) (p ∷ [])))));
       made = c.clear_target.ensures.made ∙ c.loop-p.invariant.made;
+      last = c.clear_target.ensures.last ∙ c.loop-p.invariant.last;
     }
 
 pub returns-clause-rows : goal.returns-clause-rows
@@ -39,13 +40,13 @@ returns-clause-rows c =
     rw take_all at c.loop-p.invariant.rows
 
 pub returns-clause-cleared : goal.returns-clause-cleared
-returns-clause-cleared c = λ issued made own.
+returns-clause-cleared c = λ issued last own.
     let freed = c.args.freed.now in
     let all : length freed ≤ c.loop-p.p-index = omega (arith, c.loop-p-test.false) in
     let whole : take c.loop-p.p-index freed ≡ freed = take_all c.loop-p.p-index freed all in
     let rows = c.loop-p.invariant.rows ∙ ap (λ l. map (cleared_on (peer_numbers l)) c.args.table.now.rows) whole in
-    let some : take c.args.table.now.made issued ≡ issued = take_all c.args.table.now.made issued (omega (arith, made)) in
-    ap (λ l. table_to l c.loop-p.table.made) rows
-    ∙ (ap (table_to (map (cleared_on (peer_numbers freed)) c.args.table.now.rows)) c.loop-p.invariant.made
-    ∙ (table-cleared (peer_numbers freed) c.args.table.now.rows issued c.args.table.now.made (omega (arith, made)) own
-    ∙ ap (λ l. cleared_rows (peer_numbers freed) (map issued_as l) (table_to c.args.table.now.rows c.args.table.now.made)) some))
+    let some : take c.args.table.now.last issued ≡ issued = take_all c.args.table.now.last issued (omega (arith, last)) in
+    ap (λ l. table_to l c.loop-p.table.last) rows
+    ∙ (ap (table_to (map (cleared_on (peer_numbers freed)) c.args.table.now.rows)) c.loop-p.invariant.last
+    ∙ (table-cleared (peer_numbers freed) c.args.table.now.rows issued c.args.table.now.last (omega (arith, last)) own
+    ∙ ap (λ l. cleared_rows (peer_numbers freed) (map issued_as l) (table_to c.args.table.now.rows c.args.table.now.last)) some))

@@ -8,4 +8,5 @@ abbrev pub invariant-loop-p : goal.invariant-loop-p
 invariant-loop-p l = record {
   rows : l.table.rows ≡ map (cleared_on (peer_numbers (take l.p-index l.freed))) l.fn.table.rows;
   made : l.table.made ≡ l.fn.table.made;
+  last : l.table.last ≡ l.fn.table.last;
 }

@@ -10,11 +10,11 @@ use Rattle.peer_side.proofs.rows.PeerRows.drop_var.Goals as goal
 pub returns-clause-answers : goal.returns-clause-answers
 returns-clause-answers c =
     let i = c.self.inside in
-    let old : Rows = rows_with i.heap i.sorts.items i.names i.issued.items i.table in
-    subst (λ (z : Rows). PeersAnswer z (on_peer_heap (peers_in z) (dropped z.rows.heap c.args.v)) c.reply_of.result (rows_with c.drop-done.new.self i.sorts.items i.names i.issued.items i.table)) c.self.view_is
+    let old : Rows = rows_with i.heap i.sorts.items i.names i.issued i.table in
+    subst (λ (z : Rows). PeersAnswer z (on_peer_heap (peers_in z) (dropped z.rows.heap c.args.v)) c.reply_of.result (rows_with c.drop-done.new.self i.sorts.items i.names i.issued i.table)) c.self.view_is
     (answers-heap old c.drop-done.new.self (λ name. dropped i.heap.heap c.args.v) c.drop-done.result c.reply_of.result c.drop-done.ensures.done c.reply_of.ensures)
 
 pub invariant_of-self : goal.invariant_of-self
 invariant_of-self c =
     let i = c.self.inside in
-    drop-keeps i.heap c.drop-done.new.self i.sorts.items i.issued.items i.table c.drop-done.result c.args.v c.drop-done.ensures.done c.self.invariant
+    drop-keeps i.heap c.drop-done.new.self i.sorts.items i.issued i.table c.drop-done.result c.args.v c.drop-done.ensures.done c.self.invariant

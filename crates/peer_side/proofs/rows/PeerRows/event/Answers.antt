@@ -1,5 +1,6 @@
 -- What a handle gave is brought back.
 use Rattle.std.proofs.Common.{sym, subst}
+use Rattle.peer_side.specs.Steps.{IsRelease}
 use Rattle.std.specs.Prelude.{IfOk}
 use Rattle.joint_model.specs.declared.events.Op.{Op}
 use Rattle.peer_side.specs.Marks.{MarksAfter}
@@ -14,3 +15,12 @@ returns-in-Land-clause-marks c = subst (λ (o : Op). MarksAfter c.args.is_open c
 
 pub returns-in-Make-clause-marks : goal.returns-in-Make-clause-marks
 returns-in-Make-clause-marks c = subst (λ (o : Op). IfOk c.make_pair.result (λ r. MarksAfter c.args.is_open c.args.self.now.rows o r c.make_pair.new.self.rows)) (sym c.in-Make.is) c.make_pair.ensures.marks
+
+pub line-requires-clause-last : goal.line-requires-clause-last
+line-requires-clause-last c = c.requires.last (λ r. subst IsRelease c.in-Line.is r)
+
+pub make_pair-requires : goal.make_pair-requires
+make_pair-requires c = c.requires.last (λ r. subst IsRelease c.in-Make.is r)
+
+pub grip-requires-clause-last : goal.grip-requires-clause-last
+grip-requires-clause-last c = c.requires.last (λ r. subst IsRelease c.in-Grip.is r)

@@ -3,11 +3,11 @@ use Rattle.std.proofs.Common.{◌≡◌, ◌-◌, false, length, Some, refl, sym
 use Rattle.std.proofs.lemmas.Option.{slice_get_read}
 use Rattle.joint_model.specs.declared.names.PNum.{PNum}
 use Rattle.joint_model.specs.declared.events.Reply.TheVariants as says
-use Rattle.joint_model.specs.Heaps.{slot, fields_of, is_full}
-use Rattle.joint_model.specs.Peers.{gripped, sort_of}
+use Rattle.joint_model.specs.Heaps.{slot, fields_of}
+use Rattle.joint_model.specs.Peers.{gripped, handles_full, sort_of}
 use Rattle.global_handles.specs.declared.Hold.TheVariants.{Held}
 use Rattle.global_handles.specs.declared.Strength.TheVariants.{Strong}
-use Rattle.peer_side.specs.declared.rows.Issue.{Issue}
+use Rattle.peer_side.specs.declared.issues.Issue.{Issue}
 use Rattle.peer_side.specs.Rows.{Rows, PeersAnswer, peers_in, rows_with, issued_to}
 use Rattle.peer_side.proofs.Events.{answers-gripped, sort-read}
 use Rattle.std.proofs.lemmas.Result.{IfOk-from_err}
@@ -26,11 +26,11 @@ returns-in_ok-h-in-Some-clause-answers c =
     let p : PNum = record { 0 = c.in-Some.p } in
     let live = c.in-Some.ensures.live in
     let there = slice_get_read i.sorts.items (length i.sorts.items) (p.0 - 1) c.index-sort.result.now refl (omega (arith, live.made.0, live.made.1, c.self.invariant.sorted)) c.index-sort.ensures in
-    let full : is_full c.args.self.now.issued ≡ false = sym c.if-handles_full.ensures in
+    let full : handles_full (peers_in c.args.self.now) ≡ false = sym c.if-handles_full.ensures in
     let new : Issue = record { peer = p; hold = Held; strength = Strong } in
     let issued : c.issue.new.self ≡ issued_to c.args.self.now new = c.in_ok-h-in-Some.ensures.issued in
     let static = subst (λ (z : Rows). slot z.rows.heap.statics c.args.x ≡ Some p.0) v c.in-Some.ensures.value in
-    let kind = subst (λ (z : Rows). c.index-sort.result.now ≡ sort_of (peers_in z) p.0) v (sort-read (rows_with i.heap i.sorts.items i.names i.issued.items i.table) p.0 c.index-sort.result.now live.made.0 there) in
+    let kind = subst (λ (z : Rows). c.index-sort.result.now ≡ sort_of (peers_in z) p.0) v (sort-read (rows_with i.heap i.sorts.items i.names i.issued i.table) p.0 c.index-sort.result.now live.made.0 there) in
     let len = subst (λ (z : Rows). c.fields_len-fields.result ≡ length (fields_of z.rows.heap p.0)) v c.fields_len-fields.ensures in
     let number = c.in_ok-h-in-Some.ensures.number in
     subst (λ (z : Rows). PeersAnswer c.args.self.now (gripped (peers_in c.args.self.now) c.args.x) (says.Gripped p c.in_ok-h-in-Some.h c.index-sort.result.now c.fields_len-fields.result) z) (sym issued)

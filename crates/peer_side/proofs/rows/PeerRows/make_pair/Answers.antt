@@ -9,38 +9,37 @@ use Rattle.peer_side.proofs.Further.{IsIssued, issued-reserved, further-marked, 
 use Rattle.peer_side.proofs.rows.PeerRows.make_pair.Goals as goal
 
 -- the handle came last
-issued : (c : goal.After-issue_reserved-h) → IsIssued c.self.inside.issued.items c.issue_reserved-h.new.issued.items c.self.inside.table c.issue_reserved-h.new.table record { peer = c.in_ok-p.p; hold = Held; strength = Strong } c.issue_reserved-h.result
+issued : (c : goal.After-issue_reserved-h) → IsIssued c.self.inside.issued c.issue_reserved-h.new.issued c.self.inside.table c.issue_reserved-h.new.table record { peer = c.in_ok-p.p; hold = Held; strength = Strong } c.issue_reserved-h.result
 issued c =
     let i = c.self.inside in
     let w = c.issue_reserved-h.ensures in
-    let room = c.in_ok-reserve_handle.ensures in
-    issued-reserved i.issued.items c.reserve_handle.new.issued.items c.issue_reserved-h.new.issued.items i.table c.reserve_handle.new.table c.issue_reserved-h.new.table _ c.issue_reserved-h.result room.issued room.table
-    (record { number = w.number; rows = w.rows; made = w.made; rising = w.rising; more = w.issued })
+    issued-reserved i.issued i.issued c.issue_reserved-h.new.issued i.table c.reserve.new.self c.issue_reserved-h.new.table _ c.issue_reserved-h.result refl c.in_ok-reserve.ensures.ok
+    (record { number = w.number; rows = w.rows; made = w.made; last = w.last; rising = w.rising; more = w.issued })
 
 pub invariant_of-self-2 : goal.invariant_of-self-2
 invariant_of-self-2 c =
     let i = c.self.inside in
     let p = c.in_ok-p.ensures in
-    pair-fits i.heap c.add_peer.new.heap i.sorts.items c.add_peer.new.sorts.items c.args.sort i.issued.items c.issue_reserved-h.new.issued.items i.table c.issue_reserved-h.new.table _ c.issue_reserved-h.result c.args.fields c.ranges.fields.fits p.heap p.sorts (issued c) c.self.invariant
+    pair-fits i.heap c.add_peer.new.heap i.sorts.items c.add_peer.new.sorts.items c.args.sort i.issued c.issue_reserved-h.new.issued i.table c.issue_reserved-h.new.table _ c.issue_reserved-h.result c.args.fields c.ranges.fields.fits p.heap p.sorts (issued c) c.self.invariant
 
 pub returns-clause-answers : goal.returns-clause-answers
 returns-clause-answers c =
     let i = c.self.inside in
     let p = c.in_ok-p.ensures in
-    pair-answers c.args.self.now i.heap c.add_peer.new.heap i.sorts.items c.add_peer.new.sorts.items c.args.sort i.names i.issued.items c.issue_reserved-h.new.issued.items i.table c.issue_reserved-h.new.table c.in_ok-p.p c.issue_reserved-h.result c.args.fields
+    pair-answers c.args.self.now i.heap c.add_peer.new.heap i.sorts.items c.add_peer.new.sorts.items c.args.sort i.names i.issued c.issue_reserved-h.new.issued i.table c.issue_reserved-h.new.table c.in_ok-p.p c.issue_reserved-h.result c.args.fields
     c.self.view_is (sym c.if-pairs_full.ensures.full) p.number p.heap p.sorts (issued c) c.self.invariant
 
 pub returns-clause-marks : goal.returns-clause-marks
 returns-clause-marks c =
     let i = c.self.inside in
     let p = c.in_ok-p.ensures in
-    further-marked c.args.self.now i.heap c.add_peer.new.heap c.add_peer.new.heap c.add_peer.new.heap.heap i.sorts.items i.names i.issued.items i.table c.in_ok-p.p.0 c.args.fields c.self.view_is p.number c.marks_len.ensures p.heap refl
+    further-marked c.args.self.now i.heap c.add_peer.new.heap c.add_peer.new.heap c.add_peer.new.heap.heap i.sorts.items i.names i.issued i.table c.in_ok-p.p.0 c.args.fields c.self.view_is p.number c.marks_len.ensures p.heap refl
 
-pub returns-in_err-reserve_handle-clause-answers : goal.returns-in_err-reserve_handle-clause-answers
-returns-in_err-reserve_handle-clause-answers c = IfOk-from_err c.from_residual.result _ c.from_residual.ensures.0
+pub returns-in_err-reserve-clause-answers : goal.returns-in_err-reserve-clause-answers
+returns-in_err-reserve-clause-answers c = IfOk-from_err c.from_residual.result _ c.from_residual.ensures.0
 
-pub returns-in_err-reserve_handle-clause-marks : goal.returns-in_err-reserve_handle-clause-marks
-returns-in_err-reserve_handle-clause-marks c = IfOk-from_err c.from_residual.result _ c.from_residual.ensures.0
+pub returns-in_err-reserve-clause-marks : goal.returns-in_err-reserve-clause-marks
+returns-in_err-reserve-clause-marks c = IfOk-from_err c.from_residual.result _ c.from_residual.ensures.0
 
 pub returns-in_err-p-clause-answers : goal.returns-in_err-p-clause-answers
 returns-in_err-p-clause-answers c = IfOk-from_err c.from_residual-in_err-p.result _ c.from_residual-in_err-p.ensures.0
@@ -50,33 +49,31 @@ returns-in_err-p-clause-marks c = IfOk-from_err c.from_residual-in_err-p.result 
 
 -- where there is no memory, room alone was taken
 pub invariant_of-self : goal.invariant_of-self
-invariant_of-self c = rw (c.in_err-reserve_handle.ensures.issued, c.in_err-reserve_handle.ensures.err) c.self.invariant
+invariant_of-self c = rw c.in_err-reserve.ensures.err c.self.invariant
 
-pub returns-in_err-reserve_handle-clause-tabled : goal.returns-in_err-reserve_handle-clause-tabled
-returns-in_err-reserve_handle-clause-tabled c =
+pub returns-in_err-reserve-clause-tabled : goal.returns-in_err-reserve-clause-tabled
+returns-in_err-reserve-clause-tabled c =
     let i = c.self.inside in
-    tabled-still c.args.self.now i.heap i.sorts.items i.names i.issued.items i.table c.reserve_handle.new.table c.self.view_is (ap (λ (t : Table). t.rows) c.in_err-reserve_handle.ensures.err)
+    tabled-still c.args.self.now i.heap i.sorts.items i.names i.issued i.table c.reserve.new.self c.self.view_is (ap (λ (t : Table). t.rows) c.in_err-reserve.ensures.err)
 
-pub returns-in_err-reserve_handle-clause-err : goal.returns-in_err-reserve_handle-clause-err
-returns-in_err-reserve_handle-clause-err c = at_error c.from_residual.result (rw (c.in_err-reserve_handle.ensures.issued, c.in_err-reserve_handle.ensures.err) c.self.view_is)
+pub returns-in_err-reserve-clause-err : goal.returns-in_err-reserve-clause-err
+returns-in_err-reserve-clause-err c = at_error c.from_residual.result (rw c.in_err-reserve.ensures.err c.self.view_is)
 
 pub invariant_of-self-in_err-p : goal.invariant_of-self-in_err-p
 invariant_of-self-in_err-p c =
     let i = c.self.inside in
-    let room = c.in_ok-reserve_handle.ensures in
-    rw (c.in_err-p.ensures.err.0, c.in_err-p.ensures.err.1, room.issued, room.table) (ready-fits i.heap i.sorts.items i.issued.items i.table c.self.invariant)
+    rw (c.in_err-p.ensures.err.0, c.in_err-p.ensures.err.1, c.in_ok-reserve.ensures.ok) (ready-fits i.heap i.sorts.items i.issued i.table c.self.invariant)
 
 pub returns-in_err-p-clause-tabled : goal.returns-in_err-p-clause-tabled
 returns-in_err-p-clause-tabled c =
     let i = c.self.inside in
-    tabled-still c.args.self.now i.heap i.sorts.items i.names i.issued.items i.table c.reserve_handle.new.table c.self.view_is (ap (λ (t : Table). t.rows) c.in_ok-reserve_handle.ensures.table)
+    tabled-still c.args.self.now i.heap i.sorts.items i.names i.issued i.table c.reserve.new.self c.self.view_is (ap (λ (t : Table). t.rows) c.in_ok-reserve.ensures.ok)
 
 pub returns-in_err-p-clause-err : goal.returns-in_err-p-clause-err
 returns-in_err-p-clause-err c =
-    let room = c.in_ok-reserve_handle.ensures in
-    at_error c.from_residual-in_err-p.result (rw (c.in_err-p.ensures.err.0, c.in_err-p.ensures.err.1, room.issued, room.table) c.self.view_is)
+    at_error c.from_residual-in_err-p.result (rw (c.in_err-p.ensures.err.0, c.in_err-p.ensures.err.1, c.in_ok-reserve.ensures.ok) c.self.view_is)
 
 pub returns-clause-tabled : goal.returns-clause-tabled
 returns-clause-tabled c =
     let i = c.self.inside in
-    tabled-more c.args.self.now i.heap i.sorts.items i.names i.issued.items c.issue_reserved-h.new.issued.items i.table c.issue_reserved-h.new.table _ c.issue_reserved-h.result c.self.view_is (issued c)
+    tabled-more c.args.self.now i.heap i.sorts.items i.names i.issued c.issue_reserved-h.new.issued i.table c.issue_reserved-h.new.table _ c.issue_reserved-h.result c.self.view_is (issued c)

@@ -4,4 +4,4 @@ use Rattle.peer_side.proofs.Tabled.{rows-tabled}
 use Rattle.peer_side.proofs.rows.PeerRows.tabled.Goals as goal
 
 pub returns-clause-counted : goal.returns-clause-counted
-returns-clause-counted c = rw (← c.self.view_is) (c.len.ensures.len ∙ sym (rows-tabled c.self.inside.table.made c.self.inside.table.rows c.self.invariant.rising))
+returns-clause-counted c = rw (← c.self.view_is) (c.len.ensures.len ∙ sym (rows-tabled c.self.inside.table.last c.self.inside.table.rows c.self.invariant.rising))

@@ -9,4 +9,4 @@ pub returns : goal.returns
 returns c =
     let i = c.self.inside in
     subst (λ (z : Rows). table_target (with_rows opening_peer_replay z) c.args.h.0 ≡ number_of c.target.result) c.self.view_is
-    (target-shown i.heap i.sorts.items i.names i.issued.items i.table c.args.h c.self.invariant.rising c.self.invariant.rows_issued ∙ ap number_of (sym c.target.ensures))
+    (target-shown i.heap i.sorts.items i.names i.issued i.table c.args.h c.self.invariant.rising c.self.invariant.rows_issued ∙ ap number_of (sym c.target.ensures))

@@ -8,7 +8,7 @@ use Rattle.joint_model.proofs.SideLists.{AreTaken-push}
 use Rattle.peer_side.specs.Marks.{MarksAfter}
 use Rattle.std.proofs.lemmas.Result.{IfOk-from_err}
 use Rattle.peer_side.proofs.Sides.{IsSide-roomy, IsSide-step, side-goes, targets-live, marks-closed}
-use Rattle.peer_side.proofs.Steps.{releases-tabled, room-more}
+use Rattle.peer_side.proofs.Steps.{releases-tabled, room-more, room-two}
 use Rattle.peer_side.specs.Mirrors.{owes}
 use Rattle.peer_side.specs.Sides.{state_with, owed}
 use Rattle.peer_side.specs.Steps.{room_for}
@@ -24,6 +24,9 @@ pub event-requires-clause-live : goal.event-requires-clause-live
 event-requires-clause-live g c =
     let i = c.self.inside in
     targets-live i.rows i.marking i.markings i.mirroring i.entries c.self.invariant.0
+
+pub event-requires-clause-last : goal.event-requires-clause-last
+event-requires-clause-last g c = λ no. omega (arith, c.in_ok-make_room.ensures.room, room-two c.args.op.now c.kept-kept.result no, c.in_ok-make_room.ensures.limit, ap length c.in_ok-make_room.ensures.entries, c.self.invariant.0.issued)
 
 pub event-requires-clause-shut : goal.event-requires-clause-shut
 event-requires-clause-shut g c = λ up.
@@ -72,8 +75,8 @@ pub invariant_of-self-in_err-reply : goal.invariant_of-self-in_err-reply
 invariant_of-self-in_err-reply g c =
     let i = c.self.inside in
     let room = c.in_ok-make_room.ensures in (
-      IsSide-roomy i.rows c.event.new.self i.marking i.markings i.mirroring i.mirroring i.entries c.make_room.new.entries i.rows.rows.room c.in_err-reply.ensures.err refl room.entries
-          (omega (arith, c.self.invariant.0.room, room.kept)) room.limit c.self.invariant.0.refs_room c.self.invariant.0,
+      IsSide-roomy i.rows c.event.new.self i.marking i.markings i.mirroring i.mirroring i.entries c.make_room.new.entries i.rows.rows.room i.rows.rows.temps c.in_err-reply.ensures.err refl room.entries
+          (omega (arith, c.self.invariant.0.room, room.kept)) room.limit c.self.invariant.0.refs_room (omega arith) c.self.invariant.0.temps_room refl c.self.invariant.0,
       subst (AreTaken peer_rules i.threads) (sym room.entries) c.self.invariant.1,
     )
 

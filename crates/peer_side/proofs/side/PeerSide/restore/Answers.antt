@@ -1,13 +1,18 @@
 -- The handle is gone or strong again, and one restore less is owed.
-use Rattle.std.proofs.Common.{◌≡◌, Some, refl, sym, ap, subst, ◌∙◌}
+use Rattle.std.proofs.Common.{◌≡◌, ◌↔◌, true, Some, refl, sym, ap, subst, ◌∙◌}
 use Rattle.std.specs.Option.{is_some}
+use Rattle.joint_model.specs.declared.names.HNum.{HNum}
+use Rattle.joint_model.specs.Peers.{next_handle}
+use Rattle.joint_model.specs.PeerReplay.{TableRow, row_of}
 use Rattle.joint_model.specs.Sides.{GoesOn, peer_rules}
 use Rattle.joint_model.specs.Told.{nothing}
 use Rattle.joint_model.proofs.SideLists.{AreTaken-push}
 use Rattle.peer_side.specs.Cycles.{restores}
 use Rattle.peer_side.specs.Mirroring.{RestoresHandle}
-use Rattle.peer_side.specs.Sides.{IsSide, state_with}
-use Rattle.peer_side.proofs.Restoring.{IsSide-restored, on_mirror, restore-goes, restore-owed}
+use Rattle.global_handles.specs.declared.Back.TheVariants.{Alive, Cleared}
+use Rattle.peer_side.specs.Sides.{IsSide, PeerModel, state_with}
+use Rattle.peer_side.proofs.Restoring.{IsSide-restored, on_mirror, restore-goes, restore-last, restore-owed, restored-cleared, restored-number}
+use Rattle.peer_side.proofs.Ending.{some-mirror}
 use Rattle.peer_side.proofs.Sides.{marks-closed, targets-live}
 use Rattle.peer_side.proofs.side.PeerSide.restore.Goals as goal
 
@@ -25,6 +30,25 @@ pub restore-back-requires-clause-shut : goal.restore-back-requires-clause-shut
 restore-back-requires-clause-shut g c = λ up.
     let i = c.self.inside in
     marks-closed i.rows i.marking i.markings i.mirroring i.entries c.self.invariant.0 (sym c.is_some-is_open.ensures ∙ up)
+
+pub restore-back-requires-clause-last : goal.restore-back-requires-clause-last
+restore-back-requires-clause-last g c =
+    let i = c.self.inside in
+    let may = rw (sym c.self.view_is) at c.requires.restores in
+    let x = some-mirror i.entries.entries i.mirroring.mirror may.mirror may.stands in
+    restore-last i.rows i.marking i.markings i.mirroring x.0 i.entries c.args.h c.self.invariant.0 x.1 may
+
+pub returns-clause-cleared : goal.returns-clause-cleared
+returns-clause-cleared g c =
+    let i = c.self.inside in
+    subst (λ (z : PeerModel). (row : TableRow) → row_of z.state c.args.h.0 ≡ Some row → (c.restore-back.result ≡ Cleared) ↔ (row.cleared ≡ true)) c.self.view_is
+    (λ row at. restored-cleared c.is_some-is_open.result i.rows c.args.h.0 c.restore-back.result c.restore-back.new.self row c.restore-back.ensures at)
+
+pub returns-clause-number : goal.returns-clause-number
+returns-clause-number g c =
+    let i = c.self.inside in
+    subst (λ (z : PeerModel). (h : HNum) → c.restore-back.result ≡ Alive h → h.0 ≡ next_handle z.state.peers) c.self.view_is
+    (restored-number c.is_some-is_open.result i.rows c.args.h.0 c.restore-back.result c.restore-back.new.self c.restore-back.ensures)
 
 pub restored-requires : goal.restored-requires
 restored-requires g c =

@@ -1,6 +1,11 @@
 -- The references come to stand, and the replay's mirror is what the parts show.
-use Rattle.std.proofs.Common.{ℕ, length, refl, sym, ap, subst, ◌∙◌, arith}
-use Rattle.joint_model.specs.PeerReplay.{Refers}
+use Rattle.std.proofs.Common.{◌≡◌, ℕ, List, length, map, refl, sym, ap, subst, ◌∙◌, arith}
+use Rattle.std.specs.Prelude.{All}
+use Rattle.std.proofs.lemmas.List.{length-map}
+use Rattle.joint_model.specs.Components as exact
+use Rattle.row_heap.specs.declared.references.End.{End}
+use Rattle.row_heap.specs.Ends.{ends_of}
+use Rattle.row_heap.specs.Rows.{MayReferBoth}
 use Rattle.joint_model.specs.Sides.{GoesOn, peer_rules}
 use Rattle.joint_model.specs.Told.{references_of}
 use Rattle.joint_model.proofs.SideLists.{AreTaken-push}
@@ -8,17 +13,23 @@ use Rattle.peer_side.specs.Cycles.{mirrors}
 use Rattle.peer_side.specs.Mirroring.{with_stood}
 use Rattle.peer_side.specs.Mirrors.{Mirrors}
 use Rattle.peer_side.specs.Sides.{IsSide, state_with}
-use Rattle.peer_side.proofs.Cycles.{IsSide-stood, stood-goes, stood_mirrors}
-use Rattle.peer_side.proofs.Whole.{strong-live}
+use Rattle.peer_side.proofs.Cycles.{IsSide-stood, stood-goes, stood_mirrors, waiting-refer}
 use Rattle.peer_side.proofs.side.PeerSide.stand.Goals as goal
 
+counted : (refs : List (End × End)) (waiting : List (exact.End × exact.End)) → map ends_of refs ≡ waiting → length refs ≡ length waiting
+counted refs waiting e = sym (length-map refs ends_of) ∙ ap length e
+
+pub returns-clause-number : goal.returns-clause-number
+returns-clause-number g c = rw (sym c.self.view_is) (counted c.waiting-waiting.result.now c.self.inside.mirroring.waiting c.waiting-waiting.ensures.waiting)
+
 pub stand-requires-clause-ends : goal.stand-requires-clause-ends
-stand-requires-clause-ends g c = λ p q r.
+stand-requires-clause-ends g c =
     let i = c.self.inside in
-    let s = state_with i.entries.entries i.rows i.marking i.markings i.mirroring in
     let ends = rw (sym c.self.view_is) at c.requires.strong_ends in
-    let both = ends p q (subst (λ l. Refers l p q) c.waiting-waiting.ensures.waiting r) in
-    (strong-live s c.self.invariant.0.kept p both.0, strong-live s c.self.invariant.0.kept q both.1)
+    subst (All (MayReferBoth i.rows.rows)) (sym c.waiting-waiting.ensures.waiting) (waiting-refer i.rows i.marking i.markings i.mirroring i.entries c.self.invariant.0 ends)
+
+pub stand-requires-clause-room : goal.stand-requires-clause-room
+stand-requires-clause-room g c = omega (arith, c.self.invariant.0.refs_room, ap length c.waiting-waiting.ensures.waiting, length-map c.waiting-waiting.result.now ends_of)
 
 pub invariant_of-self : goal.invariant_of-self
 invariant_of-self g c =
@@ -28,13 +39,14 @@ invariant_of-self g c =
     let once = rw (sym c.self.view_is) at c.requires.once in
     let ends = rw (sym c.self.view_is) at c.requires.strong_ends in
     let below = (rw (sym c.self.view_is) at c.requires.may).below in
-    let draws = rw waits at c.note.ensures.draws in
+    let count = counted c.waiting-waiting.result.now i.mirroring.waiting waits in
+    let draws = rw count at c.note.ensures.draws in
     let put = c.stand.ensures ∙ ap (with_stood i.rows) waits in
     let stood : ℕ → Mirrors = λ from. stood_mirrors i.mirroring c.args.cycle c.args.cites from c.in-Some.handles in
     let taken = AreTaken-push peer_rules i.threads i.entries.entries c.note.new.entries.entries draws.adds.number (mirrors c.args.index c.args.cycle (length i.mirroring.waiting) c.args.cites) tt draws.adds.added c.self.invariant.1 in (
       subst (λ z. IsSide c.stand.new.self i.marking i.markings z c.note.new.entries) (sym (c.stand-2.ensures ∙ ap stood c.len-from.ensures))
           (IsSide-stood i.rows c.stand.new.self i.marking i.markings i.mirroring i.entries c.note.new.entries draws.adds.number _ c.args.index c.args.cycle c.args.cites c.in-Some.handles c.self.invariant.0 draws.adds.added below draws.above put closed (sym c.in-Some.ensures) once ends
-          (omega (arith, c.waiting-waiting.ensures.most, ap length waits)) c.note.ensures.spare),
+          (omega (arith, c.waiting-waiting.ensures.most, count)) c.note.ensures.spare),
       taken,
     )
 
@@ -45,10 +57,11 @@ returns-clause-adds g c =
     let waits = c.waiting-waiting.ensures.waiting in
     let closed = rw (sym c.self.view_is) at c.requires.closed in
     let once = rw (sym c.self.view_is) at c.requires.once in
-    let draws = rw waits at c.note.ensures.draws in
+    let count = counted c.waiting-waiting.result.now i.mirroring.waiting waits in
+    let draws = rw count at c.note.ensures.draws in
     let put = c.stand.ensures ∙ ap (with_stood i.rows) waits in
     let stood : ℕ → Mirrors = λ from. stood_mirrors i.mirroring c.args.cycle c.args.cites from c.in-Some.handles in
     let goes = stood-goes i.rows w i.marking i.markings i.mirroring i.entries c.note.new.entries.entries draws.adds.number c.args.index c.args.cycle c.args.cites c.in-Some.handles c.self.invariant.0 draws.adds.added put closed once in
     let moved = subst (λ z. GoesOn peer_rules (state_with i.entries.entries i.rows i.marking i.markings i.mirroring) (mirrors c.args.index c.args.cycle (length i.mirroring.waiting) c.args.cites) (references_of i.mirroring.waiting) (state_with c.note.new.entries.entries w i.marking i.markings z))
     (sym (c.stand-2.ensures ∙ ap stood c.len-from.ensures)) goes in
-    rw (sym c.self.view_is, waits) (record { draws = draws; goes = moved; threads = refl })
+    rw (sym c.self.view_is, count) (record { draws = draws; goes = moved; threads = refl })
